@@ -1,0 +1,169 @@
+-- Lemmas about a window.
+use Rattle.std.proofs.Common.{◌≡◌, ℕ, ◌+◌, ◌-◌, ◌<◌, ◌≤◌, true, false, List, [], ◌∷◌, ◌++◌, length, take, drop, arith, rules, refl, ap, get_or, ◌∙◌, inl, inr, Bool, length-append, length-drop}
+use Rattle.std.proofs.Math.Seq.{take-length}
+use Rattle.std.proofs.lemmas.Grind.{common_steps, elements}
+use Rattle.std.proofs.lemmas.Bool.{cases_lt}
+use Rattle.std.specs.Prelude.{Option}
+use Rattle.yaml_chars.specs.Source.{Pulled, Pulls, CameFrom}
+use Rattle.yaml_chars.specs.Reading.{Reading, Possible, Reads, Sees, Fills, HasNoNul, IsText, Begins}
+
+-- a text that begins with xs and c begins with xs
+pub begins-back : (xs : List ℕ) (c : ℕ) (w : List ℕ) → take (length (xs ++ c ∷ [])) w ≡ xs ++ c ∷ [] → take (length xs) w ≡ xs
+begins-back [] c w h = search rules
+begins-back (x ∷ xs) c [] h = cc
+begins-back (x ∷ xs) c (y ∷ w) h =
+    let tails : take (length (xs ++ c ∷ [])) w ≡ xs ++ c ∷ [] = cc in
+    let back = begins-back xs c w tails in
+    cc
+
+-- what may be the whole text after a character came might have been it before
+pub Possible-back : {T : Type 0} (old new : Reading T) (c : ℕ) (w : List ℕ)
+    → old.done ≡ false → new.taken ≡ old.taken ++ c ∷ [] → Possible new w → Possible old w
+Possible-back old new c w going more p = record {
+  begins = begins-back old.taken c w (rw more at p.begins);
+  ends = λ h. cc;
+}
+
+-- nothing came, and now that is known
+pub Possible-at_end : {T : Type 0} (old new : Reading T) (w : List ℕ)
+    → new.taken ≡ old.taken → new.done ≡ true → Possible new w → Possible old w
+Possible-at_end old new w same ended p = record {
+  begins = rw same at p.begins;
+  ends = λ h. p.ends ended ∙ same;
+}
+
+-- the window reaches the end of what was taken
+not_before : (done : Bool) (n m : ℕ) → (done ≡ true → n ≤ m) → (done ≡ false → m ≡ n) → n ≤ m
+not_before true n m ended going = ended refl
+not_before false n m ended going = omega (arith, going refl)
+
+-- one more place of the window
+pub Fills-more : {T : Type 0} (source : Pulled T) (ring : List ℕ) (at line col c : ℕ) (next : Pulled T)
+    → Fills source ring at line col → Pulls source c next → Fills next (ring ++ c ∷ []) at line col
+Fills-more source ring at line col c next fills pulls =
+    let lens : length (ring ++ c ∷ []) ≡ length ring + 1 = simp length-append in
+    let passed : (source.done ≡ true → length source.taken ≤ at + length ring) × (source.done ≡ false → at + length ring ≡ length source.taken) = (fills.ended, fills.going) in
+    elim (cases_lt 0 c) [
+      | inl some ↦
+          let more = pulls.char (λ e. absurd (omega arith)) in
+          let here = fills.going more.0 in
+          let len : length next.taken ≡ length source.taken + 1 = rw more.1 (simp length-append) in
+          record {
+            window = λ k in_range. rw more.1 (elim (cases_lt k (length ring)) [
+              | inl before ↦ grind (arith, elements, common_steps, fills.window k before)
+              | inr last ↦ grind (arith, elements, common_steps)
+            ]);
+            going = λ h. omega arith;
+            ended = λ h. cc;
+            within = omega (arith, fills.within);
+            no_nul = λ k in_range. rw more.1 (elim (cases_lt k (length source.taken)) [
+              | inl before ↦ grind (arith, elements, common_steps, fills.no_nul k before)
+              | inr last ↦ grind (arith, elements, common_steps)
+            ]);
+            room = omega (arith, fills.room);
+            lines = fills.lines;
+            cols = fills.cols;
+          }
+      | inr none ↦
+          let same = pulls.ends (omega arith) in
+          let past : length source.taken ≤ at + length ring = not_before (source.done) _ _ fills.ended fills.going in
+          record {
+            window = λ k in_range. rw same.0 (elim (cases_lt k (length ring)) [
+              | inl before ↦ grind (arith, elements, common_steps, fills.window k before)
+              | inr last ↦ grind (arith, elements, common_steps)
+            ]);
+            going = λ h. cc;
+            ended = λ h. rw same.0 (omega arith);
+            within = rw same.0 fills.within;
+            no_nul = rw same.0 fills.no_nul;
+            room = rw same.0 (omega (arith, fills.room, same.2));
+            lines = fills.lines;
+            cols = fills.cols;
+          }
+    ]
+
+module _ {T : Type 0} (source : Pulled T) (c : ℕ) (next : Pulled T) (pulls : Pulls source c next) where
+  -- what may be the whole text after a pull might have been it before
+  pub Possible-pulls : (old new : Reading T) (w : List ℕ)
+      → old.taken ≡ source.taken → old.done ≡ source.done → new.taken ≡ next.taken → new.done ≡ next.done → Possible new w → Possible old w
+  Possible-pulls old new w o_taken o_done n_taken n_done p = elim (cases_lt 0 c) [
+    | inl some ↦ let more = pulls.char (λ e. absurd (omega arith)) in Possible-back old new c w (cc) (cc) p
+    | inr none ↦ let same = pulls.ends (omega arith) in Possible-at_end old new w (cc) (cc) p
+  ]
+
+  pub left-pulls : (at : ℕ) → at + ((length next.taken - at) + next.left) ≤ at + ((length source.taken - at) + source.left)
+  left-pulls at = elim (cases_lt 0 c) [
+    | inl some ↦
+        let more = pulls.char (λ e. absurd (omega arith)) in
+        let len : length next.taken ≡ length source.taken + 1 = rw more.1 (simp length-append) in omega (arith, more.3)
+    | inr none ↦ let same = pulls.ends (omega arith) in rw same.0 (omega (arith, same.2))
+  ]
+
+-- what was taken may be the whole text
+pub Possible-taken : {T : Type 0} (s : Reading T) → Possible s s.taken
+Possible-taken s = record { begins = take-length s.taken; ends = λ h. refl }
+
+-- where the text that is left is shorter, fewer characters are left
+pub left-less : {T : Type 0} {P : List ℕ → List ℕ → Type 0} (old new : Reading T)
+    → Reads old new P → ((a b : List ℕ) → P a b → length b < length a) → new.left < old.left
+left-less old new reads shorter =
+    let w = new.taken in
+    let less = shorter _ _ (reads.reads w (Possible-taken new)) in
+    let before = length-drop old.at w in
+    let after = length-drop new.at w in
+    omega (arith, reads.left)
+
+-- one after the other
+pub Reads-then : {T : Type 0} {P Q R : List ℕ → List ℕ → Type 0} (old mid new : Reading T)
+    → Reads old mid P → Reads mid new Q → ((a b c : List ℕ) → P a b → Q b c → R a c) → Reads old new R
+Reads-then old mid new first second both = record {
+  start = second.start ∙ first.start;
+  at = omega (arith, first.at, second.at);
+  left = omega (arith, first.left, second.left);
+  back = λ w p. first.back w (second.back w p);
+  reads = λ w p. both _ _ _ (first.reads w (second.back w p)) (second.reads w p);
+}
+
+-- a whole run, from a window on which nothing was read yet
+pub IsText-from_Reads : {T : Type 0} {P : List ℕ → List ℕ → Type 0} (steps : T → Option ℕ → T → Type 0) (it : T) (old new : Reading T)
+    → old.start ≡ it → old.at ≡ 0 → Reads old new P → CameFrom steps new.start new.taken new.done → HasNoNul new.taken → new.done ≡ true
+    → IsText steps it new.taken × P new.taken (drop new.at new.taken)
+IsText-from_Reads {P = P} steps it old new start at reads came no_nul done =
+    let all = reads.reads new.taken (Possible-taken new) in
+    (record { ends = rw (← start, ← reads.start) (came.ended done); no_nul = no_nul }, rw at at all)
+
+pub Begins-from_Reads : {T : Type 0} {P : List ℕ → List ℕ → Type 0} {Q : List ℕ → Type 0} (steps : T → Option ℕ → T → Type 0) (it : T) (old new : Reading T)
+    → old.start ≡ it → old.at ≡ 0 → Reads old new P → CameFrom steps new.start new.taken new.done → HasNoNul new.taken
+    → ((a b : List ℕ) → P a b → Q a) → Begins steps it Q
+Begins-from_Reads steps it old new start at reads came no_nul holds = record {
+  taken = new.taken;
+  done = new.done;
+  came = rw (← start, ← reads.start) came;
+  no_nul = no_nul;
+  holds = λ w begins ends. holds w _ (rw at at (reads.reads w record { begins = begins; ends = ends }));
+}
+
+-- with what is seen after it
+pub Reads-see : {T : Type 0} {P R : List ℕ → List ℕ → Type 0} {Q : List ℕ → Type 0} (old new : Reading T)
+    → Reads old new P → Sees new Q → ((a b : List ℕ) → P a b → Q b → R a b) → Reads old new R
+Reads-see old new run sight both = record {
+  start = run.start;
+  at = run.at;
+  left = run.left;
+  back = run.back;
+  reads = λ w p. both _ _ (run.reads w p) (sight.sees w p);
+}
+
+pub Sees-both : {T : Type 0} {P Q : List ℕ → Type 0} (s : Reading T) → Sees s P → Sees s Q → Sees s (λ a. P a × Q a)
+Sees-both s p q = record { sees = λ w h. (p.sees w h, q.sees w h) }
+
+-- with what was seen before it
+pub Reads-saw : {T : Type 0} {P R : List ℕ → List ℕ → Type 0} {Q : List ℕ → Type 0} (old new : Reading T)
+    → Sees old Q → Reads old new P → ((a b : List ℕ) → Q a → P a b → R a b) → Reads old new R
+Reads-saw old new sight run both = record {
+  start = run.start;
+  at = run.at;
+  left = run.left;
+  back = run.back;
+  reads = λ w p. both _ _ (sight.sees w (run.back w p)) (run.reads w p);
+}

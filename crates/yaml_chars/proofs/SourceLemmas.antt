@@ -1,0 +1,17 @@
+-- Lemmas about a source of characters.
+use Rattle.std.proofs.Common.{rules, sym, ◌≡◌, true, false, [], ◌∷◌, ◌++◌, List, ℕ, Bool, Option, Some, None}
+use Rattle.std.proofs.iter.Next.{Yields-more}
+use Rattle.std.specs.Iterator.{Yields, Count, IsFinite}
+use Rattle.yaml_chars.specs.Source.{Stands, CameFrom}
+
+-- one more character came
+pub Stands-more : {T : Type 0} (can : T → Type 0) (steps : T → Option ℕ → T → Type 0) (left : T → Count) (start : T) (taken : List ℕ) (done : Bool) (iter : T) (c : ℕ) (next : T)
+    → Stands can steps left start taken done iter → done ≡ false → steps iter (Some c) next → can next × IsFinite (left next)
+    → Stands can steps left start (taken ++ c ∷ []) done next
+Stands-more can steps left start taken done iter c next stands going step ready =
+    let more = Yields-more steps start taken iter c next (stands.here going) step in
+    record {
+      here = λ _. more;
+      ready = λ _. ready;
+      came = record { going = λ _. (next, more); ended = λ h. cc };
+    }

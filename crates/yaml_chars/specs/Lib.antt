@@ -1,0 +1,6 @@
+pub mod Class
+pub mod Place
+pub mod Queue
+pub mod Reading
+pub mod Source
+pub mod Text

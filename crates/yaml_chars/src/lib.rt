@@ -1,0 +1,15 @@
+//! Characters: their classes, texts that grow by them, places in a text, and a window over any
+//! iterator of characters.
+#![tactic(auto)]
+
+pub mod class;
+pub mod history;
+pub mod marker;
+mod ring;
+pub mod source;
+pub mod text;
+pub mod window;
+
+pub use marker::Marker;
+pub use text::Text;
+pub use window::Window;

@@ -1,0 +1,55 @@
+ghost use Rattle.std.specs.Prelude.{◌≡◌, ◌^◌, ◌<◌};
+
+use std::marker::Model;
+
+/// A place in a text.
+#[derive(Clone, Copy, Debug, PartialEq, Eq)]
+pub struct Marker {
+    index: usize,
+    line: usize,
+    col: usize,
+}
+
+impl Model for Marker {
+    ghost use Rattle.std.specs.Prelude.{◌^◌, ◌<◌};
+    ghost use Rattle.yaml_chars.specs.Place.{Place};
+
+    ghost Value = { Place };
+
+    ghost view = { λ m. record { index = m.index; line = m.line; col = m.col } };
+
+    ghost invariant = { λ m. m.col < 2 ^ 63 };
+
+    ghost inverse = { λ p. record { index = p.index; line = p.line; col = p.col } };
+}
+
+impl Marker {
+    pub(crate) fn new(index: usize, line: usize, col: usize) -> Marker
+        requires { col < 2 ^ 63 }
+        ensures { result ≡ record { index = index; line = line; col = col } }
+    {
+        Marker { index, line, col }
+    }
+
+    /// How many characters (not bytes) stand before this place.
+    pub fn index(&self) -> usize
+        ensures { result ≡ self.now.index }
+    {
+        self.index
+    }
+
+    /// The line, counted from 1.
+    pub fn line(&self) -> usize
+        ensures { result ≡ self.now.line }
+    {
+        self.line
+    }
+
+    /// The column, counted in characters from 0.
+    pub fn col(&self) -> usize
+        ensures value { result ≡ self.now.col }
+        ensures small { result < 2 ^ 63 }
+    {
+        self.col
+    }
+}

@@ -1,0 +1,73 @@
+//! Texts that clauses see as lists of characters.
+ghost use Rattle.std.specs.Prelude.{◌≡◌, ◌++◌, [], ◌∷◌, OnOk, OnErr, chars, IsTrue, ◌↔◌};
+ghost use Rattle.yaml_chars.specs.Text.{string_chars, is_nil};
+
+use std::alloc::{AllocError, Global};
+use std::marker::Model;
+
+/// A text that grows by characters.
+#[derive(Debug, Drop)]
+pub struct Text {
+    inner: String,
+}
+
+impl Model for Text {
+    ghost use Rattle.std.specs.Prelude.{List, ℕ, chars, string_bytes};
+
+    ghost Value = { List ℕ };
+
+    ghost view = { λ s. chars (string_bytes s.inner) };
+}
+
+impl Text {
+    #[tactic(auto, using(crate::proofs::TextLemmas::chars_nil_of))]
+    pub fn new(alloc: Global) -> Self
+        ensures { result ≡ [] }
+    {
+        Text {
+            inner: String::new(alloc),
+        }
+    }
+
+    /// An `Err` changes nothing.
+    #[tactic(auto, using(crate::proofs::TextLemmas::chars_push, crate::proofs::TextLemmas::chars_same))]
+    pub fn push(&mut self, c: char) -> Result<(), AllocError>
+        ensures ok { OnOk result (self.new ≡ self.old ++ c ∷ []) }
+        ensures err { OnErr result (self.new ≡ self.old) }
+    {
+        self.inner.push(c)?;
+        Ok(())
+    }
+
+    /// Appends `more`. An `Err` changes nothing.
+    #[tactic(auto, using(crate::proofs::TextLemmas::chars_append_of, crate::proofs::TextLemmas::chars_same))]
+    pub fn append(&mut self, more: &Text) -> Result<(), AllocError>
+        ensures ok { OnOk result (self.new ≡ self.old ++ more.now) }
+        ensures err { OnErr result (self.new ≡ self.old) }
+    {
+        self.inner.push_str(more.inner.as_str())?;
+        Ok(())
+    }
+
+    #[tactic(auto, using(crate::proofs::TextLemmas::chars_nil_of))]
+    pub fn clear(&mut self)
+        ensures { self.new ≡ [] }
+    {
+        self.inner.clear();
+    }
+
+    #[tactic(auto, using(crate::proofs::TextLemmas::is_nil_chars))]
+    pub fn is_empty(&self) -> bool
+        ensures { result ≡ is_nil self.now }
+    {
+        self.inner.is_empty()
+    }
+
+    #[tactic(auto, unfolding(crate::specs::Text::string_chars))]
+    pub fn into_string(self) -> String
+        ensures { string_chars result ≡ self }
+    {
+        let Text { inner } = self;
+        inner
+    }
+}

@@ -1,0 +1,157 @@
+ghost use Rattle.std.specs.Prelude.{◌≡◌, ◌≢◌, ℕ, ◌+◌, ◌-◌, ◌^◌, ◌<◌, ◌≤◌, [], ◌∷◌, ◌++◌, true, false, length, drop, slice_index};
+ghost use Rattle.std.specs.Iterator.{IsFinite, size};
+ghost use Rattle.yaml_chars.specs.Source.{CameFrom};
+ghost use Rattle.yaml_chars.specs.Reading.{place_of};
+ghost use Rattle.yaml_chars.specs.Reading.{Reads, Sees, HasChar, SamePlace, after_char, after_break, HasNoNul};
+
+use crate::marker::Marker;
+use crate::ring::Ring;
+use crate::source::Source;
+use std::marker::Model;
+
+/// The next characters of a text that comes from an iterator, at most 16 at a time. NULs stand behind its end.
+#[derive(Drop)]
+pub struct Window<T: Iterator<Item = char>> {
+    source: Source<T>,
+    ring: Ring,
+    index: usize,
+    line: usize,
+    col: usize,
+}
+
+impl<T: Iterator<Item = char>> Model for Window<T> {
+    ghost use Rattle.std.specs.Prelude.{◌+◌, ◌-◌};
+    ghost use Rattle.std.specs.Prelude.{length as list_len};
+    ghost use Rattle.yaml_chars.specs.Reading.{Reading, Fills};
+
+    ghost Value = { Reading T };
+
+    ghost view = { λ s. record {
+        start = s.source.start; taken = s.source.taken; done = s.source.done; at = s.index; ahead = list_len s.ring;
+        left = (list_len s.source.taken - s.index) + s.source.left; line = s.line; col = s.col
+    } };
+
+    ghost invariant = { λ s. Fills s.source s.ring s.index s.line s.col };
+}
+
+impl<T: Iterator<Item = char>> Window<T> {
+    pub fn new(iter: T) -> Self
+        requires can { T.can_next iter }
+        requires finite { IsFinite (T.remaining iter) }
+        requires few { size (T.remaining iter) < 2 ^ 63 }
+        ensures { result ≡ record { start = iter; taken = []; done = false; at = 0; ahead = 0; left = size (T.remaining iter); line = 1; col = 0 } }
+    {
+        Window {
+            source: Source::new(iter),
+            ring: Ring::new(),
+            index: 0,
+            line: 1,
+            col: 0,
+        }
+    }
+
+    /// Sees to it that the next `n` characters are in the window.
+    pub fn lookahead(&mut self, n: usize)
+        requires { n ≤ 16 }
+        ensures reads { Reads self.old self.new (λ a b. b ≡ a) }
+        ensures place { SamePlace self.old self.new }
+        ensures ahead { n ≤ self.new.ahead }
+    {
+        while self.len() < n {
+            self.fill_one();
+        }
+    }
+
+    fn fill_one(&mut self)
+        requires { self.old.ahead < 16 }
+        ensures reads { Reads self.old self.new (λ a b. b ≡ a) }
+        ensures place { SamePlace self.old self.new }
+        ensures ahead { self.new.ahead ≡ self.old.ahead + 1 }
+    {
+        let c = self.source.next();
+        self.ring.push(c);
+    }
+
+    /// How many characters are in the window.
+    pub fn len(&self) -> usize
+        ensures value { result ≡ self.now.ahead }
+        ensures within { result ≤ 16 }
+    {
+        self.ring.len()
+    }
+
+    /// The character `i` places on, or NUL behind the end.
+    pub fn peek(&self, i: usize) -> char
+        requires { i < self.now.ahead }
+        ensures sees { Sees self.now (λ a. result ≡ slice_index a i) }
+        ensures has { result ≢ 0 → self.now.at + i < length self.now.taken }
+        ensures ends { result ≡ 0 → Sees self.now (λ a. drop i a ≡ []) }
+        ensures done { result ≡ 0 → self.now.done ≡ true }
+    {
+        self.ring.get(i)
+    }
+
+    pub fn ch(&self) -> char
+        requires { 0 < self.now.ahead }
+        ensures sees { Sees self.now (λ a. result ≡ slice_index a 0) }
+        ensures has { result ≢ 0 → HasChar self.now }
+        ensures ends { result ≡ 0 → Sees self.now (λ a. a ≡ []) }
+        ensures done { result ≡ 0 → self.now.done ≡ true }
+    {
+        self.peek(0)
+    }
+
+    /// The next character, which is then in the window.
+    pub fn look_ch(&mut self) -> char
+        ensures reads { Reads self.old self.new (λ a b. (b ≡ a) × (result ≡ slice_index b 0) × (result ≡ 0 → b ≡ [])) }
+        ensures place { SamePlace self.old self.new }
+        ensures ahead { 0 < self.new.ahead }
+        ensures has { result ≢ 0 → HasChar self.new }
+        ensures done { result ≡ 0 → self.new.done ≡ true }
+    {
+        self.lookahead(1);
+        self.ch()
+    }
+
+    /// Steps over a character that is no line break.
+    pub fn skip(&mut self)
+        requires ahead { 0 < self.old.ahead }
+        requires has { HasChar self.old }
+        ensures state { self.new ≡ after_char self.old }
+        ensures less { self.new.left < self.old.left }
+        ensures reads { Reads self.old self.new (λ a b. a ≡ slice_index a 0 ∷ b) }
+    {
+        self.ring.drop_first();
+        self.index += 1;
+        self.col += 1;
+    }
+
+    /// Steps over a line break.
+    pub fn skip_break(&mut self)
+        requires ahead { 0 < self.old.ahead }
+        requires has { HasChar self.old }
+        ensures state { self.new ≡ after_break self.old }
+        ensures less { self.new.left < self.old.left }
+        ensures reads { Reads self.old self.new (λ a b. a ≡ slice_index a 0 ∷ b) }
+    {
+        self.ring.drop_first();
+        self.index += 1;
+        self.line += 1;
+        self.col = 0;
+    }
+
+    /// Where the window stands.
+    pub fn mark(&self) -> Marker
+        ensures { result ≡ place_of self.now }
+    {
+        Marker::new(self.index, self.line, self.col)
+    }
+
+    /// What was taken is what the iterator gave, and no NUL is in it.
+    pub fn note(&self)
+        ensures came { CameFrom T.next_gives self.now.start self.now.taken self.now.done }
+        ensures no_nul { HasNoNul self.now.taken }
+    {
+        self.source.note();
+    }
+}
