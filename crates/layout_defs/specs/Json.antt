@@ -1,0 +1,110 @@
+-- JSON texts, as trees that keep what was written, and the YAML tree that each stands for. RFC 8259, sections 2 to 7.
+-- Left out are what YAML reads otherwise or refuses: a tab that is no part of a line's indentation, an escape of half a
+-- pair of UTF-16, an object that has a key twice, and a 256th level of arrays and objects.
+use Rattle.std.specs.Prelude.{◌≡◌, ℕ, suc, ◌≤◌, max, List, [], ◌∷◌, ◌++◌, Bool, true, false, codes}
+use Rattle.tree_defs.specs.Tree.{Tree, Items, Pairs}
+use Rattle.layout_defs.specs.JsonNumber.{Number, spell_number, is_number, number_tree}
+use Rattle.layout_defs.specs.JsonString.{Piece, spell_string, are_pieces, unescaped}
+use Rattle.layout_defs.specs.JsonGap.{Blank, spell_gap, TabsBeginLines}
+
+mutual
+  pub data Json : Type 0 where
+    false_word : Json
+    null_word : Json
+    true_word : Json
+    number : Number → Json
+    string : List Piece → Json
+    empty_array : (inside : List Blank) → Json
+    array : (before : List Blank) → Elements → Json
+    empty_object : (inside : List Blank) → Json
+    object : (before : List Blank) → Members → Json
+
+  -- a value and white space; then nothing, or a comma, white space and more
+  pub data Elements : Type 0 where
+    last_element : Json → (after : List Blank) → Elements
+    element : Json → (after before : List Blank) → Elements → Elements
+
+  -- a key, white space, a colon, white space, a value and white space; then nothing, or a comma, white space and more
+  pub data Members : Type 0 where
+    last_member : (key : List Piece) → (behind_key behind_colon : List Blank) → Json → (after : List Blank) → Members
+    member : (key : List Piece) → (behind_key behind_colon : List Blank) → Json → (after before : List Blank) → Members → Members
+
+-- a text: one value, and white space around it
+pub record JsonText : Type 0 where
+  pub before : List Blank
+  pub value : Json
+  pub after : List Blank
+
+-- ---- the text, before the rest r
+
+abbrev mutual
+  pub spell : Json → List ℕ → List ℕ
+  spell false_word r = codes "false" ++ r
+  spell null_word r = codes "null" ++ r
+  spell true_word r = codes "true" ++ r
+  spell (number n) r = spell_number n r
+  spell (string ps) r = spell_string ps r
+  spell (empty_array g) r = 91 ∷ spell_gap g (93 ∷ r)
+  spell (array g es) r = 91 ∷ spell_gap g (spell_elements es (93 ∷ r))
+  spell (empty_object g) r = 123 ∷ spell_gap g (125 ∷ r)
+  spell (object g ms) r = 123 ∷ spell_gap g (spell_members ms (125 ∷ r))
+
+  pub spell_elements : Elements → List ℕ → List ℕ
+  spell_elements (last_element v a) r = spell v (spell_gap a r)
+  spell_elements (element v a b es) r = spell v (spell_gap a (44 ∷ spell_gap b (spell_elements es r)))
+
+  pub spell_members : Members → List ℕ → List ℕ
+  spell_members (last_member k g h v a) r = spell_string k (spell_gap g (58 ∷ spell_gap h (spell v (spell_gap a r))))
+  spell_members (member k g h v a b ms) r = spell_string k (spell_gap g (58 ∷ spell_gap h (spell v (spell_gap a (44 ∷ spell_gap b (spell_members ms r))))))
+
+abbrev pub spell_text : JsonText → List ℕ
+spell_text t = spell_gap t.before (spell t.value (spell_gap t.after []))
+
+-- ---- the tree
+
+abbrev mutual
+  pub tree_of : Json → Tree
+  tree_of false_word = Tree.boolean false
+  tree_of null_word = Tree.null
+  tree_of true_word = Tree.boolean true
+  tree_of (number n) = number_tree n
+  tree_of (string ps) = Tree.string (unescaped ps)
+  tree_of (empty_array g) = Tree.array Items.no_items
+  tree_of (array g es) = Tree.array (items_of es)
+  tree_of (empty_object g) = Tree.hash Pairs.no_pairs
+  tree_of (object g ms) = Tree.hash (pairs_of ms)
+
+  pub items_of : Elements → Items
+  items_of (last_element v a) = Items.item (tree_of v) Items.no_items
+  items_of (element v a b es) = Items.item (tree_of v) (items_of es)
+
+  pub pairs_of : Members → Pairs
+  pairs_of (last_member k g h v a) = Pairs.pair (Tree.string (unescaped k)) (tree_of v) Pairs.no_pairs
+  pairs_of (member k g h v a b ms) = Pairs.pair (Tree.string (unescaped k)) (tree_of v) (pairs_of ms)
+
+-- ---- which are JSON
+
+-- the levels of arrays and objects
+abbrev mutual
+  pub levels : Json → ℕ
+  levels false_word = 0
+  levels null_word = 0
+  levels true_word = 0
+  levels (number n) = 0
+  levels (string ps) = 0
+  levels (empty_array g) = 1
+  levels (array g es) = suc (element_levels es)
+  levels (empty_object g) = 1
+  levels (object g ms) = suc (member_levels ms)
+
+  pub element_levels : Elements → ℕ
+  element_levels (last_element v a) = levels v
+  element_levels (element v a b es) = max (levels v) (element_levels es)
+
+  pub member_levels : Members → ℕ
+  member_levels (last_member k g h v a) = levels v
+  member_levels (member k g h v a b ms) = max (levels v) (member_levels ms)
+
+-- white space behind another character
+abbrev pub IsGap : List Blank → Type 0
+IsGap = TabsBeginLines false

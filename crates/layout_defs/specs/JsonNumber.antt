@@ -1,0 +1,105 @@
+-- JSON numbers, as they are written: a minus or none, the whole part, a fraction or none, an exponent or none.
+-- RFC 8259, section 6.
+use Rattle.std.specs.Prelude.{ℕ, ◌+◌, ◌*◌, ◌^◌, List, [], ◌∷◌, ◌++◌, Bool, true, false, not, ◌&&◌, ◌==◌, nat_lt, nat_le, pos, neg_ℤ, if◌then◌else◌}
+use Rattle.std.specs.Char.{is_digit, digit_value}
+use Rattle.std.specs.List.{list_all}
+use Rattle.tree_defs.specs.Tree.{Tree}
+
+-- a point and digits, or nothing
+pub data Fraction : Type 0 where
+  no_fraction : Fraction
+  fraction : (digits : List ℕ) → Fraction
+
+-- what stands before the exponent's digits
+pub data Sign : Type 0 where
+  no_sign : Sign
+  plus : Sign
+  minus : Sign
+
+-- `e` or `E`, a sign or none, and digits; or nothing
+pub data Exponent : Type 0 where
+  no_exponent : Exponent
+  exponent : (is_capital : Bool) → Sign → (digits : List ℕ) → Exponent
+
+pub data Number : Type 0 where
+  number : (is_negative : Bool) → (whole : List ℕ) → Fraction → Exponent → Number
+
+-- ---- the text, before the rest r
+
+abbrev pub spell_minus : Bool → List ℕ → List ℕ
+spell_minus true r = 45 ∷ r
+spell_minus false r = r
+
+abbrev pub spell_fraction : Fraction → List ℕ → List ℕ
+spell_fraction no_fraction r = r
+spell_fraction (fraction digits) r = 46 ∷ (digits ++ r)
+
+abbrev pub spell_sign : Sign → List ℕ → List ℕ
+spell_sign no_sign r = r
+spell_sign plus r = 43 ∷ r
+spell_sign minus r = 45 ∷ r
+
+abbrev pub letter_e : Bool → ℕ
+letter_e true = 69
+letter_e false = 101
+
+abbrev pub spell_exponent : Exponent → List ℕ → List ℕ
+spell_exponent no_exponent r = r
+spell_exponent (exponent is_capital s digits) r = letter_e is_capital ∷ spell_sign s (digits ++ r)
+
+abbrev pub spell_number : Number → List ℕ → List ℕ
+spell_number (number is_negative whole f e) r = spell_minus is_negative (whole ++ spell_fraction f (spell_exponent e r))
+
+-- ---- which are numbers
+
+-- one of `0` to `9`
+abbrev pub is_decimal_digit : ℕ → Bool
+is_decimal_digit c = is_digit c 10
+
+-- at least one digit
+abbrev pub are_digits : List ℕ → Bool
+are_digits [] = false
+are_digits (c ∷ w) = is_decimal_digit c && list_all is_decimal_digit w
+
+-- `0` alone, or digits that do not begin with `0`
+abbrev pub is_whole : List ℕ → Bool
+is_whole [] = false
+is_whole (c ∷ []) = is_decimal_digit c
+is_whole (c ∷ d ∷ w) = not (c == 48) && are_digits (c ∷ d ∷ w)
+
+abbrev pub is_fraction : Fraction → Bool
+is_fraction no_fraction = true
+is_fraction (fraction digits) = are_digits digits
+
+abbrev pub is_exponent : Exponent → Bool
+is_exponent no_exponent = true
+is_exponent (exponent is_capital s digits) = are_digits digits
+
+abbrev pub is_number : Number → Bool
+is_number (number is_negative whole f e) = is_whole whole && is_fraction f && is_exponent e
+
+-- ---- the value
+
+-- the number that digits behind n write
+abbrev pub decimal_value : ℕ → List ℕ → ℕ
+decimal_value n [] = n
+decimal_value n (c ∷ w) = decimal_value (n * 10 + digit_value c) w
+
+-- whether the number is one of -2^63 to 2^63 - 1
+abbrev pub fits_64_bits : (is_negative : Bool) → ℕ → Bool
+fits_64_bits true n = nat_le n (2 ^ 63)
+fits_64_bits false n = nat_lt n (2 ^ 63)
+
+abbrev pub whole_number : (is_negative : Bool) → ℕ → Tree
+whole_number true n = Tree.integer (neg_ℤ (pos n))
+whole_number false n = Tree.integer (pos n)
+
+-- without fraction and exponent an integer where it fits, else a real of its text
+abbrev pub number_tree : Number → Tree
+number_tree (number is_negative whole no_fraction no_exponent) =
+    if fits_64_bits is_negative (decimal_value 0 whole)
+    then whole_number is_negative (decimal_value 0 whole)
+    else Tree.real (spell_number (number is_negative whole no_fraction no_exponent) [])
+number_tree (number is_negative whole no_fraction (exponent is_capital s digits)) =
+    Tree.real (spell_number (number is_negative whole no_fraction (exponent is_capital s digits)) [])
+number_tree (number is_negative whole (fraction d) e) = Tree.real (spell_number (number is_negative whole (fraction d) e) [])

@@ -1,0 +1,4 @@
+pub mod JsonNumber
+pub mod JsonString
+pub mod JsonGap
+pub mod Json

@@ -1,0 +1,34 @@
+-- How a scalar is spelt on one line, and an empty array or hash.
+-- YAML 1.2, section 10.3 (the core schema's canonical forms) and chapter 7 (flow styles).
+use Rattle.std.specs.Prelude.{ℕ, Bool, true, false, if◌then◌else◌, List, [], codes}
+use Rattle.std.specs.Fmt.{signed_decimal as decimal_digits}
+use Rattle.tree_defs.specs.Tree.{Tree, real, integer, string, boolean, array, hash, alias, null, bad_value}
+use Rattle.tree_defs.specs.Escapes.{double_quoted}
+use Rattle.tree_defs.specs.Quoting.{is_quoted}
+
+-- a string: as it stands, or in double quotes
+abbrev pub string_spelling : List ℕ → List ℕ
+string_spelling s = if is_quoted s then double_quoted s else s
+
+abbrev pub boolean_spelling : Bool → List ℕ
+boolean_spelling true = codes "true"
+boolean_spelling false = codes "false"
+
+-- the spelling of a scalar; arrays and hashes have one only where they are empty. An integer is its decimal digits, behind `-` where
+-- it is negative. An alias is nothing at all, and what couldn't be read is spelt as null is.
+abbrev pub spelling : Tree → List ℕ
+spelling (real s) = s
+spelling (integer z) = decimal_digits z
+spelling (string s) = string_spelling s
+spelling (boolean b) = boolean_spelling b
+spelling (array ts) = codes "[]"
+spelling (hash ps) = codes "{}"
+spelling (alias n) = []
+spelling null = codes "~"
+spelling bad_value = codes "~"
+
+-- trees that are spelt on one line: all but arrays and hashes
+abbrev pub is_scalar : Tree → Bool
+is_scalar (array ts) = false
+is_scalar (hash ps) = false
+is_scalar _ = true

@@ -1,0 +1,4 @@
+pub mod Fault
+pub mod FaultLaws
+pub mod Info
+pub mod Shown

@@ -1,0 +1,154 @@
+ghost use Rattle.std.specs.Prelude.{◌≡◌, true, false, codes, string_bytes, IfOk};
+
+use std::alloc::{AllocError, Global};
+use std::error::Error;
+use std::fmt;
+use std::marker::Model;
+use yaml_chars::Marker;
+
+const OUT_OF_MEMORY: &str = "out of memory";
+
+// A fault's text: most are fixed, so that making and copying them takes no memory.
+#[derive(Debug, Drop)]
+enum Info {
+    Fixed(&'static str),
+    Owned(String),
+    Memory,
+}
+
+/// Why a stream could not be read, and where: a fault of scanner, parser or loader, or want of memory.
+#[derive(Debug, Drop)]
+pub struct ScanError {
+    mark: Marker,
+    info: Info,
+}
+
+/// What a scan that gives nothing answers.
+pub type ScanResult = Result<(), ScanError>;
+
+impl Model for ScanError {
+    ghost use Rattle.yaml_tokens.specs.Fault.{Fault};
+
+    ghost Value = { Fault };
+
+    ghost use Rattle.yaml_tokens.specs.Info.{text_of, is_memory};
+
+    ghost view = { λ e. record { place = e.mark; text = text_of e.info; memory = is_memory e.info } };
+}
+
+impl ScanError {
+    /// A fault with a copy of this text.
+    pub fn new(alloc: Global, loc: Marker, info: &str) -> Result<ScanError, AllocError>
+        ensures { IfOk result (λ e. e ≡ record { place = loc; text = info.now; memory = false }) }
+    {
+        Ok(ScanError::new_string(loc, String::from_str(alloc, info)?))
+    }
+
+    /// A fault with this text.
+    pub fn new_string(loc: Marker, info: String) -> ScanError
+        ensures { result ≡ record { place = loc; text = string_bytes info; memory = false } }
+    {
+        ScanError {
+            mark: loc,
+            info: Info::Owned(info),
+        }
+    }
+
+    /// A fault with a fixed text. It takes no memory.
+    pub fn fixed(loc: Marker, info: &'static str) -> ScanError
+        ensures { result ≡ record { place = loc; text = info.now; memory = false } }
+    {
+        ScanError {
+            mark: loc,
+            info: Info::Fixed(info),
+        }
+    }
+
+    /// Want of memory at a place. It takes no memory.
+    pub fn memory(loc: Marker) -> ScanError
+        ensures { result ≡ record { place = loc; text = codes "out of memory"; memory = true } }
+    {
+        ScanError {
+            mark: loc,
+            info: Info::Memory,
+        }
+    }
+
+    /// Where the fault is.
+    pub fn marker(&self) -> &Marker
+        ensures { result.now ≡ self.now.place }
+    {
+        &self.mark
+    }
+
+    /// The fault's text, without its place.
+    pub fn info(&self) -> &str
+        ensures { result.now ≡ self.now.text }
+    {
+        match &self.info {
+            Info::Fixed(text) => text,
+            Info::Owned(text) => text.as_str(),
+            Info::Memory => OUT_OF_MEMORY,
+        }
+    }
+
+    /// Whether memory was refused.
+    pub fn is_out_of_memory(&self) -> bool
+        ensures { result ≡ self.now.memory }
+    {
+        matches!(self.info, Info::Memory)
+    }
+
+    /// An equal fault, or want of memory, which only a fault with a text of its own can meet.
+    pub fn clone(&self, alloc: Global) -> Result<ScanError, AllocError>
+        ensures { IfOk result (λ e. e ≡ self.now) }
+    {
+        let info = match &self.info {
+            Info::Fixed(text) => Info::Fixed(text),
+            Info::Owned(text) => Info::Owned(String::from_str(alloc, text.as_str())?),
+            Info::Memory => Info::Memory,
+        };
+        Ok(ScanError {
+            mark: self.mark,
+            info,
+        })
+    }
+}
+
+impl fmt::Display for ScanError {
+    ghost use Rattle.std.specs.Prelude.{Some};
+    ghost use Rattle.yaml_tokens.specs.Fault.{printed};
+
+    ghost output = { λ e. Some (printed e) };
+
+    fn fmt<W: fmt::Write>(&self, f: &mut fmt::Formatter<W>) -> fmt::Result {
+        let info = self.info();
+        let index = self.mark.index();
+        let line = self.mark.line();
+        let column = self.mark.col() + 1;
+        write!(f, "{info} at byte {index} line {line} column {column}")
+    }
+}
+
+impl Error for ScanError {}
+
+impl PartialEq for ScanError {
+    ghost use Rattle.yaml_tokens.specs.FaultLaws.{fault_eq, fault_eq_equiv};
+    ghost use Rattle.std.specs.Cmp.{partial_equiv_from_equiv};
+
+    ghost eq = { fault_eq };
+
+    ghost laws = { partial_equiv_from_equiv fault_eq_equiv };
+
+    fn eq(&self, other: &ScanError) -> bool {
+        self.mark == other.mark
+            && self.is_out_of_memory() == other.is_out_of_memory()
+            && self.info() == other.info()
+    }
+}
+
+impl Eq for ScanError {
+    ghost use Rattle.yaml_tokens.specs.FaultLaws.{fault_eq_equiv};
+
+    ghost laws = { fault_eq_equiv };
+}

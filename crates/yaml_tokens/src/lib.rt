@@ -1,0 +1,8 @@
+//! Tokens, and the faults of scanner, parser and loader.
+#![tactic(auto)]
+
+pub mod fault;
+pub mod token;
+
+pub use fault::{ScanError, ScanResult};
+pub use token::{Chomping, TEncoding, TScalarStyle, Token, TokenType};

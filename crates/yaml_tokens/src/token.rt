@@ -1,0 +1,135 @@
+ghost use Rattle.std.specs.Prelude.{◌≡◌, IfOk};
+ghost use Rattle.yaml_chars.specs.Text.{string_chars};
+ghost use Rattle.yaml_tokens.specs.Shown.{shown, tok_of};
+
+use std::alloc::{AllocError, Global};
+use yaml_chars::Marker;
+
+/// The encoding of a stream: its characters come decoded.
+#[derive(Clone, Copy, Debug, PartialEq, Eq)]
+pub enum TEncoding {
+    Utf8,
+}
+
+/// How a scalar is written (YAML 1.2, sections 7.3 and 8.1).
+#[derive(Clone, Copy, Debug, PartialEq, Eq)]
+pub enum TScalarStyle {
+    Plain,
+    SingleQuoted,
+    DoubleQuoted,
+    Literal,
+    Folded,
+}
+
+/// What a block scalar keeps of the breaks at its end (YAML 1.2, section 8.1.1.2).
+#[derive(PartialEq, Eq, Drop)]
+pub enum Chomping {
+    /// None.
+    Strip,
+    /// The last content line's own break.
+    Clip,
+    /// All.
+    Keep,
+}
+
+/// A token, and the place where it begins.
+#[derive(Debug, PartialEq, Eq, Drop)]
+pub struct Token(pub Marker, pub TokenType);
+
+/// What a token is.
+#[derive(Debug, PartialEq, Eq, Drop)]
+pub enum TokenType {
+    /// The start of the stream, always first.
+    StreamStart(TEncoding),
+    /// The end of the stream, always last.
+    StreamEnd,
+    /// `%YAML`: the major and the minor version.
+    VersionDirective(u32, u32),
+    /// `%TAG`: a handle and its prefix. A directive of another name has two empty texts.
+    TagDirective(String, String),
+    /// `---`
+    DocumentStart,
+    /// `...`
+    DocumentEnd,
+    BlockSequenceStart,
+    BlockMappingStart,
+    /// The end of the innermost block collection.
+    BlockEnd,
+    /// `[`
+    FlowSequenceStart,
+    /// `]`
+    FlowSequenceEnd,
+    /// `{`, or the start of a pair in a flow sequence.
+    FlowMappingStart,
+    /// `}`, or the end of a pair in a flow sequence.
+    FlowMappingEnd,
+    /// `-`
+    BlockEntry,
+    /// `,`
+    FlowEntry,
+    /// `?`, or the start of a key without it.
+    Key,
+    /// `:`
+    Value,
+    /// `*name`
+    Alias(String),
+    /// `&name`
+    Anchor(String),
+    /// A tag as it is written: its handle and its suffix.
+    Tag(String, String),
+    /// A scalar: its style and its text.
+    Scalar(TScalarStyle, String),
+}
+
+impl Token {
+    /// An equal token, or want of memory.
+    pub fn clone(&self, alloc: Global) -> Result<Token, AllocError>
+        ensures { IfOk result (λ t. shown t ≡ shown self.now) }
+    {
+        Ok(Token(self.0, self.1.clone(alloc)?))
+    }
+}
+
+#[tactic(auto, using(yaml_chars::proofs::TextLemmas::string_chars_same))]
+fn copied(alloc: Global, text: &String) -> Result<String, AllocError>
+    ensures { IfOk result (λ t. string_chars t ≡ string_chars text.now) }
+{
+    String::from_str(alloc, text.as_str())
+}
+
+impl TokenType {
+    /// An equal token type, or want of memory.
+    pub fn clone(&self, alloc: Global) -> Result<TokenType, AllocError>
+        ensures { IfOk result (λ t. tok_of t ≡ tok_of self.now) }
+    {
+        match self {
+            TokenType::StreamStart(encoding) => Ok(TokenType::StreamStart(*encoding)),
+            TokenType::StreamEnd => Ok(TokenType::StreamEnd),
+            TokenType::VersionDirective(major, minor) => {
+                Ok(TokenType::VersionDirective(*major, *minor))
+            }
+            TokenType::TagDirective(handle, prefix) => {
+                Ok(TokenType::TagDirective(copied(alloc, handle)?, copied(alloc, prefix)?))
+            }
+            TokenType::DocumentStart => Ok(TokenType::DocumentStart),
+            TokenType::DocumentEnd => Ok(TokenType::DocumentEnd),
+            TokenType::BlockSequenceStart => Ok(TokenType::BlockSequenceStart),
+            TokenType::BlockMappingStart => Ok(TokenType::BlockMappingStart),
+            TokenType::BlockEnd => Ok(TokenType::BlockEnd),
+            TokenType::FlowSequenceStart => Ok(TokenType::FlowSequenceStart),
+            TokenType::FlowSequenceEnd => Ok(TokenType::FlowSequenceEnd),
+            TokenType::FlowMappingStart => Ok(TokenType::FlowMappingStart),
+            TokenType::FlowMappingEnd => Ok(TokenType::FlowMappingEnd),
+            TokenType::BlockEntry => Ok(TokenType::BlockEntry),
+            TokenType::FlowEntry => Ok(TokenType::FlowEntry),
+            TokenType::Key => Ok(TokenType::Key),
+            TokenType::Value => Ok(TokenType::Value),
+            TokenType::Alias(name) => Ok(TokenType::Alias(copied(alloc, name)?)),
+            TokenType::Anchor(name) => Ok(TokenType::Anchor(copied(alloc, name)?)),
+            TokenType::Tag(handle, suffix) => {
+                Ok(TokenType::Tag(copied(alloc, handle)?, copied(alloc, suffix)?))
+            }
+            TokenType::Scalar(style, text) => Ok(TokenType::Scalar(*style, copied(alloc, text)?)),
+        }
+    }
+}
