@@ -1,7 +1,8 @@
 -- JSON texts, as trees that keep what was written, and the YAML tree that each stands for. RFC 8259, sections 2 to 7.
 -- Left out are what YAML reads otherwise or refuses: a tab that is no part of a line's indentation, an escape of half a
 -- pair of UTF-16, an object that has a key twice, and a 256th level of arrays and objects.
-use Rattle.std.specs.Prelude.{◌≡◌, ℕ, suc, ◌≤◌, max, List, [], ◌∷◌, ◌++◌, Bool, true, false, codes}
+use Rattle.std.specs.Prelude.{◌≡◌, ℕ, suc, ◌≤◌, max, List, [], ◌∷◌, ◌++◌, Bool, true, false, not, ◌&&◌, bytes_eq, codes}
+use Rattle.std.specs.List.{list_any}
 use Rattle.tree_defs.specs.Tree.{Tree, Items, Pairs}
 use Rattle.layout_defs.specs.JsonNumber.{Number, spell_number, is_number, number_tree}
 use Rattle.layout_defs.specs.JsonString.{Piece, spell_string, are_pieces, unescaped}
@@ -105,6 +106,47 @@ abbrev mutual
   member_levels (last_member k g h v a) = levels v
   member_levels (member k g h v a b ms) = max (levels v) (member_levels ms)
 
+-- the keys of an object, unescaped
+abbrev pub keys_of : Members → List (List ℕ)
+keys_of (last_member k g h v a) = unescaped k ∷ []
+keys_of (member k g h v a b ms) = unescaped k ∷ keys_of ms
+
+-- no text stands in the list twice
+abbrev pub are_distinct : List (List ℕ) → Bool
+are_distinct [] = true
+are_distinct (k ∷ ks) = not (list_any (bytes_eq k) ks) && are_distinct ks
+
 -- white space behind another character
 abbrev pub IsGap : List Blank → Type 0
-IsGap = TabsBeginLines false
+IsGap g = TabsBeginLines false g
+
+abbrev mutual
+  pub IsJson : Json → Type 0
+  IsJson false_word = Unit {0}
+  IsJson null_word = Unit {0}
+  IsJson true_word = Unit {0}
+  IsJson (number n) = is_number n ≡ true
+  IsJson (string ps) = are_pieces ps ≡ true
+  IsJson (empty_array g) = IsGap g
+  IsJson (array g es) = IsGap g × AreElements es
+  IsJson (empty_object g) = IsGap g
+  IsJson (object g ms) = IsGap g × AreMembers ms × (are_distinct (keys_of ms) ≡ true)
+
+  pub AreElements : Elements → Type 0
+  AreElements (last_element v a) = IsJson v × IsGap a
+  AreElements (element v a b es) = IsJson v × IsGap a × IsGap b × AreElements es
+
+  pub AreMembers : Members → Type 0
+  AreMembers (last_member k g h v a) = (are_pieces k ≡ true) × IsGap g × IsGap h × IsJson v × IsGap a
+  AreMembers (member k g h v a b ms) = (are_pieces k ≡ true) × IsGap g × IsGap h × IsJson v × IsGap a × IsGap b × AreMembers ms
+
+-- what makes a written text one of the class
+pub record IsWellFormed (t : JsonText) : Type 0 where
+  pub before : TabsBeginLines true t.before
+  pub value : IsJson t.value
+  pub after : IsGap t.after
+  pub depth : levels t.value ≤ 255
+
+-- the text is JSON, and stands for the tree
+abbrev pub IsJsonText : Tree → List ℕ → Type 0
+IsJsonText tree text = (w : JsonText) × IsWellFormed w × (spell_text w ≡ text) × (tree_of w.value ≡ tree)

@@ -1,9 +1,11 @@
 -- JSON numbers, as they are written: a minus or none, the whole part, a fraction or none, an exponent or none.
 -- RFC 8259, section 6.
-use Rattle.std.specs.Prelude.{ℕ, ◌+◌, ◌*◌, ◌^◌, List, [], ◌∷◌, ◌++◌, Bool, true, false, not, ◌&&◌, ◌==◌, nat_lt, nat_le, pos, neg_ℤ, if◌then◌else◌}
-use Rattle.std.specs.Char.{is_digit, digit_value}
+use Rattle.std.specs.Prelude.{ℕ, ℤ, List, [], ◌∷◌, ◌++◌, Bool, true, false, not, ◌&&◌, ◌==◌, pos, neg_ℤ, if◌then◌else◌}
+use Rattle.std.specs.Char.{is_ascii_digit}
 use Rattle.std.specs.List.{list_all}
+use Rattle.std.specs.Str.Parse.{digits_value}
 use Rattle.tree_defs.specs.Tree.{Tree}
+use Rattle.tree_defs.specs.Typing.{fits_i64}
 
 -- a point and digits, or nothing
 pub data Fraction : Type 0 where
@@ -52,19 +54,15 @@ spell_number (number is_negative whole f e) r = spell_minus is_negative (whole +
 
 -- ---- which are numbers
 
--- one of `0` to `9`
-abbrev pub is_decimal_digit : ℕ → Bool
-is_decimal_digit c = is_digit c 10
-
 -- at least one digit
 abbrev pub are_digits : List ℕ → Bool
 are_digits [] = false
-are_digits (c ∷ w) = is_decimal_digit c && list_all is_decimal_digit w
+are_digits (c ∷ w) = is_ascii_digit c && list_all is_ascii_digit w
 
 -- `0` alone, or digits that do not begin with `0`
 abbrev pub is_whole : List ℕ → Bool
 is_whole [] = false
-is_whole (c ∷ []) = is_decimal_digit c
+is_whole (c ∷ []) = is_ascii_digit c
 is_whole (c ∷ d ∷ w) = not (c == 48) && are_digits (c ∷ d ∷ w)
 
 abbrev pub is_fraction : Fraction → Bool
@@ -80,26 +78,17 @@ is_number (number is_negative whole f e) = is_whole whole && is_fraction f && is
 
 -- ---- the value
 
--- the number that digits behind n write
-abbrev pub decimal_value : ℕ → List ℕ → ℕ
-decimal_value n [] = n
-decimal_value n (c ∷ w) = decimal_value (n * 10 + digit_value c) w
+-- the number, where there is no fraction and no exponent
+abbrev pub integer_value : (is_negative : Bool) → (whole : List ℕ) → ℤ
+integer_value true whole = neg_ℤ (pos (digits_value 10 whole))
+integer_value false whole = pos (digits_value 10 whole)
 
--- whether the number is one of -2^63 to 2^63 - 1
-abbrev pub fits_64_bits : (is_negative : Bool) → ℕ → Bool
-fits_64_bits true n = nat_le n (2 ^ 63)
-fits_64_bits false n = nat_lt n (2 ^ 63)
-
-abbrev pub whole_number : (is_negative : Bool) → ℕ → Tree
-whole_number true n = Tree.integer (neg_ℤ (pos n))
-whole_number false n = Tree.integer (pos n)
-
--- without fraction and exponent an integer where it fits, else a real of its text
+-- an integer, where there is no fraction and no exponent and it fits 64 bits; else a real of the text
 abbrev pub number_tree : Number → Tree
 number_tree (number is_negative whole no_fraction no_exponent) =
-    if fits_64_bits is_negative (decimal_value 0 whole)
-    then whole_number is_negative (decimal_value 0 whole)
+    if fits_i64 (integer_value is_negative whole)
+    then Tree.integer (integer_value is_negative whole)
     else Tree.real (spell_number (number is_negative whole no_fraction no_exponent) [])
 number_tree (number is_negative whole no_fraction (exponent is_capital s digits)) =
     Tree.real (spell_number (number is_negative whole no_fraction (exponent is_capital s digits)) [])
-number_tree (number is_negative whole (fraction d) e) = Tree.real (spell_number (number is_negative whole (fraction d) e) [])
+number_tree (number is_negative whole (fraction digits) e) = Tree.real (spell_number (number is_negative whole (fraction digits) e) [])

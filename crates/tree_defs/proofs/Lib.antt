@@ -1,1 +1,5 @@
+mod EscapesExamples
+pub mod OrderLaws
+mod QuotingExamples
+mod SpellingExamples
 mod TypingExamples

@@ -27,7 +27,7 @@ sign_behind_the_hexadecimal_mark : typing (codes "0x+f") ≡ integer (pos 15)
 unfolding typing is_decimal
 sign_behind_the_hexadecimal_mark = refl
 
-two_pluses : typing (codes "++5") ≡ integer (pos 6)
+two_pluses : typing (codes "++5") ≡ integer (pos 5)
 unfolding typing is_decimal
 two_pluses = refl
 

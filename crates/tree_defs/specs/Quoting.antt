@@ -1,9 +1,8 @@
 -- When a string is written in double quotes: where it would be read as something else, or not as one plain scalar.
 -- YAML 1.2, section 7.3.3 (plain style) and section 5.3 (indicators); the words of YAML 1.1's booleans and of number formats
 -- are quoted too, so that other readers of the text take them for strings.
-use Rattle.std.specs.Prelude.{ℕ, Bool, true, false, not, ◌&&◌, ◌||◌, ◌==◌, nat_le, nat_eq, List, [], ◌∷◌, codes, bytes_eq}
+use Rattle.std.specs.Prelude.{ℕ, Bool, false, not, ◌&&◌, ◌||◌, ◌==◌, nat_le, nat_eq, List, [], ◌∷◌, codes}
 use Rattle.std.specs.List.{list_any, starts_with, ends_with}
-use Rattle.std.specs.Char.{to_ascii_lowercase}
 use Rattle.std.specs.Str.{str_to_ascii_lowercase}
 use Rattle.tree_defs.specs.Grammar.{is_empty, one, optional, in_order, is_among}
 use Rattle.tree_defs.specs.Typing.{typing, is_string, is_sign}

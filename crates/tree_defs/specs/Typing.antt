@@ -1,9 +1,9 @@
 -- What a plain text stands for: the first row of the table that fits decides, and a text that no row fits is a string.
 -- YAML 1.2, section 10.3.2 (the core schema's tag resolution), with the forms `0x-1`, `0o-1`, `++1` and the limits of 64 bits besides.
-use Rattle.std.specs.Prelude.{ℕ, suc, ◌^◌, ℤ, pos, negsuc, neg_ℤ, Bool, true, false, ◌||◌, ◌==◌, nat_lt, if◌then◌else◌, List, [], ◌∷◌, Option, Some, None, option_map, option_and_then, unwrap_or, codes}
+use Rattle.std.specs.Prelude.{ℕ, ◌^◌, ℤ, pos, negsuc, neg_ℤ, Bool, true, false, ◌||◌, ◌==◌, nat_lt, if◌then◌else◌, List, [], ◌∷◌, Option, Some, None, option_map, option_and_then, unwrap_or, codes}
 use Rattle.std.specs.Char.{digit_value, is_ascii_digit}
 use Rattle.std.specs.Str.Parse.{digits_value}
-use Rattle.tree_defs.specs.Tree.{Tree, real, integer, string, boolean, array, hash, alias, null, bad_value}
+use Rattle.tree_defs.specs.Tree.{Tree, real, integer, string, boolean, null}
 use Rattle.tree_defs.specs.Grammar.{one, any_number, at_least_one, optional, in_order, one_of, is_among}
 
 -- ---- integers

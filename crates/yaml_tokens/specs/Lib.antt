@@ -1,4 +1,5 @@
 pub mod Fault
 pub mod FaultLaws
 pub mod Info
+pub mod Problem
 pub mod Shown

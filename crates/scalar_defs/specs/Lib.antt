@@ -1,0 +1,4 @@
+pub mod BlockScalar
+pub mod Breaks
+pub mod Classes
+pub mod FlowScalar

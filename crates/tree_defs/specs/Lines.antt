@@ -1,0 +1,18 @@
+-- The lines of a text, as Rust's `str::lines` gives them where the text has no CR: parts between line feeds, of which an empty last
+-- one is no line.
+use Rattle.std.specs.Prelude.{ℕ, ◌==◌, if◌then◌else◌, List, [], ◌∷◌}
+use Rattle.std.specs.List.{join_with_byte}
+
+-- a character before the first line
+abbrev pub onto_first_line : ℕ → List (List ℕ) → List (List ℕ)
+onto_first_line c [] = (c ∷ []) ∷ []
+onto_first_line c (l ∷ ls) = (c ∷ l) ∷ ls
+
+-- the lines of a text
+abbrev pub lines_of : List ℕ → List (List ℕ)
+lines_of [] = []
+lines_of (c ∷ cs) = if c == 10 then [] ∷ lines_of cs else onto_first_line c (lines_of cs)
+
+-- lines joined by line feeds, with none at the end
+abbrev pub joined : List (List ℕ) → List ℕ
+joined ls = join_with_byte 10 ls

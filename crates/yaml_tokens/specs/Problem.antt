@@ -1,0 +1,81 @@
+-- The texts of the problems, and what a fault shows.
+use Rattle.std.specs.Prelude.{ℕ, List, Bool, true, false, codes}
+use Rattle.yaml_chars.specs.Place.{Place}
+use Rattle.yaml_tokens.specs.declared.problem.Problem.{Problem}
+use Rattle.yaml_tokens.specs.declared.problem.Problem.TheVariants as problem
+use Rattle.yaml_tokens.specs.declared.problem.Fault as code
+use Rattle.yaml_tokens.specs.declared.problem.Fault.TheVariants.{OutOfMemory, At}
+use Rattle.yaml_tokens.specs.Fault.{Fault}
+
+unfoldable pub text_of_problem : Problem → List ℕ
+text_of_problem problem.UnexpectedPercent = codes "unexpected character: `%'"
+text_of_problem problem.UnexpectedAt = codes "unexpected character: `@'"
+text_of_problem problem.UnexpectedBacktick = codes "unexpected character: ``'"
+text_of_problem problem.ContentAfterDocumentEnd = codes "invalid content after document end marker"
+text_of_problem problem.InvalidIndentation = codes "invalid indentation"
+text_of_problem problem.KeyWithoutColon = codes "simple key expect ':'"
+text_of_problem problem.KeyExpected = codes "simple key expected"
+text_of_problem problem.TabInBlockIndentation = codes "tabs disallowed within this context (block indentation)"
+text_of_problem problem.TabAfterKey = codes "tabs disallowed in this context"
+text_of_problem problem.WhitespaceExpected = codes "expected whitespace"
+text_of_problem problem.CommentNotSeparated = codes "comments must be separated from other tokens by whitespace"
+text_of_problem problem.FlowTooDeep = codes "recursion limit exceeded"
+text_of_problem problem.BlockEntryInFlow = codes "\"-\" is only valid inside a block"
+text_of_problem problem.BlockEntryNotAllowed = codes "block sequence entries are not allowed in this context"
+text_of_problem problem.AnchorIndentation = codes "invalid indentation for anchor"
+text_of_problem problem.TabAfterDash = codes "'-' must be followed by a valid YAML whitespace"
+text_of_problem problem.TabAfterColon = codes "':' must be followed by a valid YAML whitespace"
+text_of_problem problem.KeyNotAllowed = codes "mapping keys are not allowed in this context"
+text_of_problem problem.ValueNotAllowed = codes "mapping values are not allowed in this context"
+text_of_problem problem.ColonMisplaced = codes "illegal placement of ':' indicator"
+text_of_problem problem.FlowIndentation = codes "invalid indentation in flow construct"
+text_of_problem problem.PlainDashInFlow = codes "plain scalar cannot start with '-' followed by ,[]{}"
+text_of_problem problem.QuotedIndentation = codes "invalid indentation in quoted scalar"
+text_of_problem problem.TabAsIndentation = codes "tab cannot be used as indentation"
+text_of_problem problem.ContentAfterQuoted = codes "invalid trailing content after double-quoted scalar"
+text_of_problem problem.BlockScalarTab = codes "a block scalar content cannot start with a tab"
+text_of_problem problem.BlockScalarIndentation = codes "wrongly indented line in block scalar"
+text_of_problem problem.GlobalTagCharacter = codes "invalid global tag character"
+text_of_problem problem.DirectiveEnd = codes "while scanning a directive, did not find expected comment or line break"
+text_of_problem problem.DirectiveName = codes "while scanning a directive, could not find expected directive name"
+text_of_problem problem.DirectiveNameEnd = codes "while scanning a directive, found unexpected non-alphabetical character"
+text_of_problem problem.VersionDot = codes "while scanning a YAML directive, did not find expected digit or '.' character"
+text_of_problem problem.VersionTooLong = codes "while scanning a YAML directive, found extremely long version number"
+text_of_problem problem.VersionNumber = codes "while scanning a YAML directive, did not find expected version number"
+text_of_problem problem.TagDirectiveEnd = codes "while scanning TAG, did not find expected whitespace or line break"
+text_of_problem problem.TagEnd = codes "while scanning a tag, did not find expected whitespace or line break"
+text_of_problem problem.TagStart = codes "while scanning a tag, did not find expected '!'"
+text_of_problem problem.TagDirectiveHandle = codes "while parsing a tag directive, did not find expected '!'"
+text_of_problem problem.VerbatimTagEnd = codes "while scanning a verbatim tag, did not find the expected '>'"
+text_of_problem problem.TagUri = codes "while parsing a tag, did not find expected tag URI"
+text_of_problem problem.TagOctet = codes "while parsing a tag, did not find URI escaped octet"
+text_of_problem problem.TagLeadingOctet = codes "while parsing a tag, found an incorrect leading UTF-8 octet"
+text_of_problem problem.TagTrailingOctet = codes "while parsing a tag, found an incorrect trailing UTF-8 octet"
+text_of_problem problem.TagCodepoint = codes "while parsing a tag, found an invalid UTF-8 codepoint"
+text_of_problem problem.AnchorName = codes "while scanning an anchor or alias, did not find expected alphabetic or numeric character"
+text_of_problem problem.BlockScalarZero = codes "while scanning a block scalar, found an indentation indicator equal to 0"
+text_of_problem problem.BlockScalarHeader = codes "while scanning a block scalar, did not find expected comment or line break"
+text_of_problem problem.QuotedDocumentMarker = codes "while scanning a quoted scalar, found unexpected document indicator"
+text_of_problem problem.QuotedEnd = codes "while scanning a quoted scalar, found unexpected end of stream"
+text_of_problem problem.UnknownEscape = codes "while parsing a quoted scalar, found unknown escape character"
+text_of_problem problem.HexadecimalDigit = codes "while parsing a quoted scalar, did not find expected hexadecimal number"
+text_of_problem problem.EscapedCode = codes "while parsing a quoted scalar, found invalid Unicode character escape code"
+text_of_problem problem.PlainTab = codes "while scanning a plain scalar, found a tab"
+text_of_problem problem.DocumentStartEvent = codes "did not find expected <document-start>"
+text_of_problem problem.DocumentStartToken = codes "did not find expected <document start>"
+text_of_problem problem.SecondVersion = codes "duplicate version directive"
+text_of_problem problem.RepeatedHandle = codes "the TAG directive must only be given at most once per handle in the same document"
+text_of_problem problem.DirectiveWithoutDocumentEnd = codes "missing explicit document end marker before directive"
+text_of_problem problem.UnknownAnchor = codes "while parsing node, found unknown anchor"
+text_of_problem problem.NodeContent = codes "while parsing a node, did not find expected node content"
+text_of_problem problem.BlockMappingKey = codes "while parsing a block mapping, did not find expected key"
+text_of_problem problem.FlowMappingEntry = codes "while parsing a flow mapping, did not find expected ',' or '}'"
+text_of_problem problem.FlowSequenceEntry = codes "while parsing a flow sequence, expected ',' or ']'"
+text_of_problem problem.BlockSequenceEntry = codes "while parsing a block collection, did not find expected '-' indicator"
+text_of_problem problem.UndeclaredHandle = codes "the handle wasn't declared"
+text_of_problem problem.EventOutOfNesting = codes "event out of nesting"
+
+-- what callers see of a fault that came while the text was read up to a place
+abbrev pub fault_of : code.Fault → Place → Fault
+fault_of OutOfMemory here = record { place = here; text = codes "out of memory"; memory = true }
+fault_of (At p place) here = record { place = place; text = text_of_problem p; memory = false }
