@@ -60,7 +60,7 @@ pub record Fills {T : Type 0} (source : Pulled T) (ring : List ℕ) (at line col
   pub within : at ≤ length source.taken
   pub no_nul : HasNoNul source.taken
   pub room : length source.taken + source.left < 2 ^ 63
-  pub lines : line ≤ at + 1
+  pub lines : line + col ≤ at + 1
   pub cols : col ≤ at
 
 -- the state after one character
@@ -70,6 +70,10 @@ after_char s = record s { at = s.at + 1; ahead = s.ahead - 1; left = s.left - 1;
 -- the state after a line break
 abbrev pub after_break : {T : Type 0} → Reading T → Reading T
 after_break s = record s { at = s.at + 1; ahead = s.ahead - 1; left = s.left - 1; line = s.line + 1; col = 0 }
+
+-- the state at the beginning of the next line, where the text has ended within a line
+abbrev pub after_line : {T : Type 0} → Reading T → Reading T
+after_line s = (if s.col == 0 then s else record s { line = s.line + 1; col = 0 })
 
 -- cs is the whole text: the iterator gave it, and then its end or a NUL
 pub record IsText {T : Type 0} (steps : T → Option ℕ → T → Type 0) (it : T) (cs : List ℕ) : Type 0 where

@@ -1,4 +1,5 @@
-ghost use Rattle.std.specs.Prelude.{◌≡◌, ◌^◌, ◌<◌};
+ghost use Rattle.std.specs.Prelude.{◌≡◌, ◌^◌, ◌<◌, ◌≤◌};
+ghost use Rattle.yaml_chars.specs.Place.{IsSmall};
 
 use std::marker::Model;
 
@@ -11,21 +12,20 @@ pub struct Marker {
 }
 
 impl Model for Marker {
-    ghost use Rattle.std.specs.Prelude.{◌^◌, ◌<◌};
-    ghost use Rattle.yaml_chars.specs.Place.{Place};
+    ghost use Rattle.yaml_chars.specs.Place.{Place, IsSmall};
 
     ghost Value = { Place };
 
     ghost view = { λ m. record { index = m.index; line = m.line; col = m.col } };
 
-    ghost invariant = { λ m. m.col < 2 ^ 63 };
+    ghost invariant = { λ m. IsSmall m.index m.line m.col };
 
     ghost inverse = { λ p. record { index = p.index; line = p.line; col = p.col } };
 }
 
 impl Marker {
     pub(crate) fn new(index: usize, line: usize, col: usize) -> Marker
-        requires { col < 2 ^ 63 }
+        requires { IsSmall index line col }
         ensures { result ≡ record { index = index; line = line; col = col } }
     {
         Marker { index, line, col }
@@ -33,14 +33,16 @@ impl Marker {
 
     /// How many characters (not bytes) stand before this place.
     pub fn index(&self) -> usize
-        ensures { result ≡ self.now.index }
+        ensures value { result ≡ self.now.index }
+        ensures small { result < 2 ^ 63 }
     {
         self.index
     }
 
     /// The line, counted from 1.
     pub fn line(&self) -> usize
-        ensures { result ≡ self.now.line }
+        ensures value { result ≡ self.now.line }
+        ensures small { result ≤ 2 ^ 63 }
     {
         self.line
     }

@@ -2,7 +2,7 @@ ghost use Rattle.std.specs.Prelude.{◌≡◌, ◌≢◌, ℕ, ◌+◌, ◌-◌,
 ghost use Rattle.std.specs.Iterator.{IsFinite, size};
 ghost use Rattle.yaml_chars.specs.Source.{CameFrom};
 ghost use Rattle.yaml_chars.specs.Reading.{place_of};
-ghost use Rattle.yaml_chars.specs.Reading.{Reads, Sees, HasChar, SamePlace, after_char, after_break, HasNoNul};
+ghost use Rattle.yaml_chars.specs.Reading.{Reads, Sees, HasChar, SamePlace, after_char, after_break, after_line, HasNoNul};
 
 use crate::marker::Marker;
 use crate::ring::Ring;
@@ -138,6 +138,17 @@ impl<T: Iterator<Item = char>> Window<T> {
         self.index += 1;
         self.line += 1;
         self.col = 0;
+    }
+
+    /// Goes on at the beginning of the next line, as if a break ended this one. No character is taken.
+    pub fn end_line(&mut self)
+        ensures state { self.new ≡ after_line self.old }
+        ensures reads { Reads self.old self.new (λ a b. b ≡ a) }
+    {
+        if self.col != 0 {
+            self.line += 1;
+            self.col = 0;
+        }
     }
 
     /// Where the window stands.
