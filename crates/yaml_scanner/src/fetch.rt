@@ -1,0 +1,326 @@
+//! The next token, by its first characters.
+ghost use Rattle.std.specs.Prelude.{◌≡◌, ◌≢◌, ◌≤◌, ◌<◌, OnOk, true, false};
+ghost use Rattle.yaml_chars.specs.Reading.{HasChar};
+ghost use Rattle.yaml_scanner.specs.Work.{Moves, Fetches, HasChars, work};
+
+use crate::scanner::Scanner;
+use yaml_chars::class::{is_blank_or_breakz, is_breakz, is_flow};
+use yaml_scalars::{Context, SkipTabs, read_anchor_name, read_block_scalar, read_directive};
+use yaml_scalars::{read_plain, read_quoted, read_tag};
+use yaml_tokens::{Fault, Problem, TEncoding, TScalarStyle, TokenType};
+
+// No line is longer than a text.
+const WIDEST_LINE: usize = 1 << 63;
+
+impl<T: Iterator<Item = char>> Scanner<T> {
+    /// Fetches a token, or several.
+    pub(crate) fn fetch(&mut self) -> Result<(), Fault>
+        requires { self.old.tokens.ended ≡ false }
+        ensures less { OnOk result (work self.new < work self.old) }
+        ensures run { Fetches self.old self.new }
+    {
+        if !self.started {
+            return self.fetch_stream_start();
+        }
+        self.skip_to_next_token()?;
+        if !self.in_flow() {
+            let mark = self.window.mark();
+            self.keys.drop_stale(mark)?;
+        }
+        let limit = self.window.mark().col() + 1;
+        self.unroll_indent(limit)?;
+        self.window.lookahead(4);
+        if self.window.ch() == '\0' {
+            return self.fetch_stream_end();
+        }
+        self.fetch_content()
+    }
+
+    fn fetch_stream_start(&mut self) -> Result<(), Fault>
+        requires { self.old.started ≡ false }
+        ensures less { OnOk result (work self.new < work self.old) }
+        ensures run { Fetches self.old self.new }
+    {
+        let mark = self.window.mark();
+        self.keys.open_level()?;
+        self.key_allowed = true;
+        self.push_token(mark, TokenType::StreamStart(TEncoding::Utf8))?;
+        self.started = true;
+        Ok(())
+    }
+
+    fn fetch_stream_end(&mut self) -> Result<(), Fault>
+        requires { self.old.tokens.ended ≡ false }
+        ensures less { OnOk result (work self.new < work self.old) }
+        ensures run { Fetches self.old self.new }
+    {
+        self.window.end_line();
+        if self.keys.has_required() {
+            return Err(Fault::At(Problem::KeyExpected, self.window.mark()));
+        }
+        self.keys.clear();
+        self.unroll_indent(0)?;
+        self.key_allowed = false;
+        let mark = self.window.mark();
+        self.tokens.push_end(mark)?;
+        Ok(())
+    }
+
+    /// What begins at a line's first column, or else a token of a document.
+    fn fetch_content(&mut self) -> Result<(), Fault>
+        requires ahead { 4 ≤ self.old.window.ahead }
+        requires has { HasChar self.old.window }
+        ensures run { Fetches self.old self.new }
+        ensures moves { OnOk result (Moves self.old self.new 7 8) }
+    {
+        if self.window.mark().col() == 0 {
+            if self.window.ch() == '%' {
+                return self.fetch_directive();
+            }
+            if self.at_marker('-') {
+                return self.fetch_document_marker(TokenType::DocumentStart);
+            }
+            if self.at_marker('.') {
+                return self.fetch_document_end();
+            }
+        }
+        if self.window.mark().col() + 1 < self.indent {
+            return Err(Fault::At(Problem::InvalidIndentation, self.window.mark()));
+        }
+        self.fetch_token()
+    }
+
+    /// Whether three of a character and then a blank, a break or the end come.
+    fn at_marker(&self, c: char) -> bool
+        requires ahead { 4 ≤ self.now.window.ahead }
+        requires some { c ≢ 0 }
+        ensures has { result ≡ true → HasChars 3 self.now.window }
+    {
+        self.window.peek(0) == c
+            && self.window.peek(1) == c
+            && self.window.peek(2) == c
+            && is_blank_or_breakz(self.window.peek(3))
+    }
+
+    fn fetch_token(&mut self) -> Result<(), Fault>
+        requires ahead { 4 ≤ self.old.window.ahead }
+        requires has { HasChar self.old.window }
+        ensures run { Fetches self.old self.new }
+        ensures moves { OnOk result (Moves self.old self.new 7 8) }
+    {
+        let next = self.window.peek(1);
+        match self.window.ch() {
+            '[' => self.fetch_flow_collection_start(TokenType::FlowSequenceStart),
+            '{' => self.fetch_flow_collection_start(TokenType::FlowMappingStart),
+            ']' => self.fetch_flow_collection_end(TokenType::FlowSequenceEnd),
+            '}' => self.fetch_flow_collection_end(TokenType::FlowMappingEnd),
+            ',' => self.fetch_flow_entry(),
+            '-' if is_blank_or_breakz(next) => self.fetch_block_entry(),
+            '?' if is_blank_or_breakz(next) => self.fetch_key(),
+            ':' if self.is_value(next) => self.fetch_value(),
+            '*' => self.fetch_anchor(true),
+            '&' => self.fetch_anchor(false),
+            '!' => self.fetch_tag(),
+            _ => self.fetch_scalar(),
+        }
+    }
+
+    /// Whether a `:` before this character is the indicator of a value.
+    fn is_value(&self, next: char) -> bool {
+        is_blank_or_breakz(next)
+            || self.in_flow()
+                && (is_flow(next) || self.window.mark().index() == self.adjacent_value_at)
+    }
+
+    fn fetch_scalar(&mut self) -> Result<(), Fault>
+        requires ahead { 4 ≤ self.old.window.ahead }
+        requires has { HasChar self.old.window }
+        ensures run { Fetches self.old self.new }
+        ensures moves { OnOk result (Moves self.old self.new 7 8) }
+    {
+        let mark = self.window.mark();
+        match self.window.ch() {
+            '|' if !self.in_flow() => self.fetch_block_scalar(true),
+            '>' if !self.in_flow() => self.fetch_block_scalar(false),
+            '\'' => self.fetch_flow_scalar(true),
+            '"' => self.fetch_flow_scalar(false),
+            '%' => Err(Fault::At(Problem::UnexpectedPercent, mark)),
+            '@' => Err(Fault::At(Problem::UnexpectedAt, mark)),
+            '`' => Err(Fault::At(Problem::UnexpectedBacktick, mark)),
+            _ => self.fetch_plain_scalar(),
+        }
+    }
+
+    fn fetch_directive(&mut self) -> Result<(), Fault>
+        requires ahead { 0 < self.old.window.ahead }
+        requires has { HasChar self.old.window }
+        ensures run { Fetches self.old self.new }
+        ensures moves { OnOk result (Moves self.old self.new 1 8) }
+    {
+        self.unroll_indent(0)?;
+        self.remove_simple_key()?;
+        self.key_allowed = false;
+        let mark = self.window.mark();
+        let directive = read_directive(self.alloc, &mut self.window)?;
+        self.leading = true;
+        self.push_token(mark, directive)
+    }
+
+    /// `---` or `...`
+    fn fetch_document_marker(&mut self, kind: TokenType) -> Result<(), Fault>
+        requires ahead { 3 ≤ self.old.window.ahead }
+        requires has { HasChars 3 self.old.window }
+        ensures run { Fetches self.old self.new }
+        ensures moves { OnOk result (Moves self.old self.new 1 8) }
+    {
+        self.unroll_indent(0)?;
+        self.remove_simple_key()?;
+        self.key_allowed = false;
+        let mark = self.window.mark();
+        self.window.skip();
+        self.window.skip();
+        self.window.skip();
+        self.leading = false;
+        self.push_token(mark, kind)
+    }
+
+    /// `...`, behind which the line has no content.
+    fn fetch_document_end(&mut self) -> Result<(), Fault>
+        requires ahead { 3 ≤ self.old.window.ahead }
+        requires has { HasChars 3 self.old.window }
+        ensures run { Fetches self.old self.new }
+        ensures moves { OnOk result (Moves self.old self.new 1 8) }
+    {
+        self.fetch_document_marker(TokenType::DocumentEnd)?;
+        let _ = self.skip_spaces(SkipTabs::Yes)?;
+        if !is_breakz(self.window.ch()) {
+            return Err(Fault::At(
+                Problem::ContentAfterDocumentEnd,
+                self.window.mark(),
+            ));
+        }
+        Ok(())
+    }
+
+    /// `*name` or `&name`
+    fn fetch_anchor(&mut self, alias: bool) -> Result<(), Fault>
+        requires ahead { 0 < self.old.window.ahead }
+        requires has { HasChar self.old.window }
+        ensures run { Fetches self.old self.new }
+        ensures moves { OnOk result (Moves self.old self.new 1 8) }
+    {
+        self.save_simple_key();
+        self.key_allowed = false;
+        let mark = self.window.mark();
+        let name = read_anchor_name(self.alloc, &mut self.window)?;
+        self.leading = false;
+        let kind = if alias {
+            TokenType::Alias(name)
+        } else {
+            TokenType::Anchor(name)
+        };
+        self.push_token(mark, kind)
+    }
+
+    fn fetch_tag(&mut self) -> Result<(), Fault>
+        requires ahead { 0 < self.old.window.ahead }
+        requires has { HasChar self.old.window }
+        ensures run { Fetches self.old self.new }
+        ensures moves { OnOk result (Moves self.old self.new 1 8) }
+    {
+        self.save_simple_key();
+        self.key_allowed = false;
+        let mark = self.window.mark();
+        let in_flow = self.in_flow();
+        let (handle, suffix) = read_tag(self.alloc, &mut self.window, in_flow)?;
+        self.leading = false;
+        self.push_token(mark, TokenType::Tag(handle, suffix))
+    }
+
+    fn context(&self) -> Context {
+        Context {
+            flow: self.in_flow(),
+            indent: self.indent,
+        }
+    }
+
+    fn fetch_block_scalar(&mut self, literal: bool) -> Result<(), Fault>
+        requires ahead { 0 < self.old.window.ahead }
+        requires has { HasChar self.old.window }
+        ensures run { Fetches self.old self.new }
+        ensures moves { OnOk result (Moves self.old self.new 1 8) }
+    {
+        self.save_simple_key();
+        self.key_allowed = true;
+        self.unroll_non_block_indents();
+        let indent = self.indent.min(WIDEST_LINE);
+        let (mark, text) = read_block_scalar(self.alloc, &mut self.window, literal, indent)?;
+        self.leading = true;
+        let style = if literal {
+            TScalarStyle::Literal
+        } else {
+            TScalarStyle::Folded
+        };
+        self.push_token(mark, TokenType::Scalar(style, text))
+    }
+
+    fn fetch_flow_scalar(&mut self, single: bool) -> Result<(), Fault>
+        requires ahead { 0 < self.old.window.ahead }
+        requires has { HasChar self.old.window }
+        ensures run { Fetches self.old self.new }
+        ensures moves { OnOk result (Moves self.old self.new 1 8) }
+    {
+        self.save_simple_key();
+        self.key_allowed = false;
+        let mark = self.window.mark();
+        let context = self.context();
+        let text = read_quoted(self.alloc, &mut self.window, single, context)?;
+        self.leading = false;
+        self.check_behind_quoted(mark.line())?;
+        // To be as JSON is, a key's `:` may stand right behind it, also on a later line.
+        self.skip_to_next_token()?;
+        self.adjacent_value_at = self.window.mark().index();
+        let style = if single {
+            TScalarStyle::SingleQuoted
+        } else {
+            TScalarStyle::DoubleQuoted
+        };
+        self.push_token(mark, TokenType::Scalar(style, text))
+    }
+
+    /// What may stand behind a quoted scalar that began on a line.
+    fn check_behind_quoted(&mut self, line: usize) -> Result<(), Fault>
+        ensures moves { Moves self.old self.new 0 0 }
+    {
+        let _ = self.skip_spaces(SkipTabs::Yes)?;
+        let c = self.window.ch();
+        let fits = if self.in_flow() {
+            matches!(c, ',' | '}' | ']' | ':') || is_breakz(c)
+        } else {
+            is_breakz(c) || c == ':' && line == self.window.mark().line()
+        };
+        if !fits {
+            return Err(Fault::At(Problem::ContentAfterQuoted, self.window.mark()));
+        }
+        Ok(())
+    }
+
+    fn fetch_plain_scalar(&mut self) -> Result<(), Fault>
+        requires ahead { 0 < self.old.window.ahead }
+        requires has { HasChar self.old.window }
+        ensures run { Fetches self.old self.new }
+        ensures moves { OnOk result (Moves self.old self.new 1 8) }
+    {
+        self.save_simple_key();
+        self.key_allowed = false;
+        self.unroll_non_block_indents();
+        let mark = self.window.mark();
+        let context = self.context();
+        let plain = read_plain(self.alloc, &mut self.window, context)?;
+        self.leading = plain.leading;
+        if plain.leading {
+            self.key_allowed = true;
+        }
+        self.push_token(mark, TokenType::Scalar(TScalarStyle::Plain, plain.text))
+    }
+}
