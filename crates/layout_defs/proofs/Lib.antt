@@ -1,1 +1,6 @@
+mod Differ
 mod JsonRows
+mod LayoutRows
+mod Soundness
+mod WideRows
+mod Widening

@@ -1,14 +1,16 @@
 -- JSON texts, as trees that keep what was written, and the YAML tree that each stands for. RFC 8259, sections 2 to 7.
--- Left out are what YAML reads otherwise or refuses: a tab that is no part of a line's indentation, an escape of half a
--- pair of UTF-16, an object that has a key twice, and a 256th level of arrays and objects.
-use Rattle.std.specs.Prelude.{◌≡◌, ℕ, suc, ◌≤◌, max, List, [], ◌∷◌, ◌++◌, Bool, true, false, not, ◌&&◌, bytes_eq, codes}
-use Rattle.std.specs.List.{list_any}
-use Rattle.tree_defs.specs.Tree.{Tree, Items, Pairs}
+-- Of the texts of that grammar these are left out: those with a tab that isn't among the blanks that begin a line, with an escape
+-- of half a pair of UTF-16, with an object that has a key twice, or with a 256th level of arrays and objects.
+use Rattle.std.specs.Prelude.{◌≡◌, ℕ, suc, ◌≤◌, max, List, [], ◌∷◌, ◌++◌, true, false, codes}
+use Rattle.tree_defs.specs.Tree.{Tree, Items, Pairs, pairs_of}
+use Rattle.tree_defs.specs.Pairs.{AreDistinct}
+use Rattle.layout_defs.specs.Marks.{colon, comma, left_brace, left_bracket, right_brace, right_bracket}
 use Rattle.layout_defs.specs.JsonNumber.{Number, spell_number, is_number, number_tree}
 use Rattle.layout_defs.specs.JsonString.{Piece, spell_string, are_pieces, unescaped}
 use Rattle.layout_defs.specs.JsonGap.{Blank, spell_gap, TabsBeginLines}
 
 mutual
+  -- a value: one of three words, a number, a string, an array or an object
   pub data Json : Type 0 where
     false_word : Json
     null_word : Json
@@ -39,31 +41,36 @@ pub record JsonText : Type 0 where
 -- ---- the text, before the rest r
 
 abbrev mutual
+  -- a value
   pub spell : Json → List ℕ → List ℕ
   spell false_word r = codes "false" ++ r
   spell null_word r = codes "null" ++ r
   spell true_word r = codes "true" ++ r
   spell (number n) r = spell_number n r
   spell (string ps) r = spell_string ps r
-  spell (empty_array g) r = 91 ∷ spell_gap g (93 ∷ r)
-  spell (array g es) r = 91 ∷ spell_gap g (spell_elements es (93 ∷ r))
-  spell (empty_object g) r = 123 ∷ spell_gap g (125 ∷ r)
-  spell (object g ms) r = 123 ∷ spell_gap g (spell_members ms (125 ∷ r))
+  spell (empty_array g) r = left_bracket ∷ spell_gap g (right_bracket ∷ r)
+  spell (array g es) r = left_bracket ∷ spell_gap g (spell_elements es (right_bracket ∷ r))
+  spell (empty_object g) r = left_brace ∷ spell_gap g (right_brace ∷ r)
+  spell (object g ms) r = left_brace ∷ spell_gap g (spell_members ms (right_brace ∷ r))
 
+  -- the values of an array, commas between them
   pub spell_elements : Elements → List ℕ → List ℕ
   spell_elements (last_element v a) r = spell v (spell_gap a r)
-  spell_elements (element v a b es) r = spell v (spell_gap a (44 ∷ spell_gap b (spell_elements es r)))
+  spell_elements (element v a b es) r = spell v (spell_gap a (comma ∷ spell_gap b (spell_elements es r)))
 
+  -- the members of an object, commas between them
   pub spell_members : Members → List ℕ → List ℕ
-  spell_members (last_member k g h v a) r = spell_string k (spell_gap g (58 ∷ spell_gap h (spell v (spell_gap a r))))
-  spell_members (member k g h v a b ms) r = spell_string k (spell_gap g (58 ∷ spell_gap h (spell v (spell_gap a (44 ∷ spell_gap b (spell_members ms r))))))
+  spell_members (last_member k g h v a) r = spell_string k (spell_gap g (colon ∷ spell_gap h (spell v (spell_gap a r))))
+  spell_members (member k g h v a b ms) r = spell_string k (spell_gap g (colon ∷ spell_gap h (spell v (spell_gap a (comma ∷ spell_gap b (spell_members ms r))))))
 
+-- the whole text
 abbrev pub spell_text : JsonText → List ℕ
 spell_text t = spell_gap t.before (spell t.value (spell_gap t.after []))
 
 -- ---- the tree
 
 abbrev mutual
+  -- the tree of a value
   pub tree_of : Json → Tree
   tree_of false_word = Tree.boolean false
   tree_of null_word = Tree.null
@@ -71,22 +78,25 @@ abbrev mutual
   tree_of (number n) = number_tree n
   tree_of (string ps) = Tree.string (unescaped ps)
   tree_of (empty_array g) = Tree.array Items.no_items
-  tree_of (array g es) = Tree.array (items_of es)
+  tree_of (array g es) = Tree.array (items es)
   tree_of (empty_object g) = Tree.hash Pairs.no_pairs
-  tree_of (object g ms) = Tree.hash (pairs_of ms)
+  tree_of (object g ms) = Tree.hash (pairs_of (pair_list ms))
 
-  pub items_of : Elements → Items
-  items_of (last_element v a) = Items.item (tree_of v) Items.no_items
-  items_of (element v a b es) = Items.item (tree_of v) (items_of es)
+  -- the items of an array
+  pub items : Elements → Items
+  items (last_element v a) = Items.item (tree_of v) Items.no_items
+  items (element v a b es) = Items.item (tree_of v) (items es)
 
-  pub pairs_of : Members → Pairs
-  pairs_of (last_member k g h v a) = Pairs.pair (Tree.string (unescaped k)) (tree_of v) Pairs.no_pairs
-  pairs_of (member k g h v a b ms) = Pairs.pair (Tree.string (unescaped k)) (tree_of v) (pairs_of ms)
+  -- an object's pairs, in the text's order
+  pub pair_list : Members → List (Tree × Tree)
+  pair_list (last_member k g h v a) = (Tree.string (unescaped k), tree_of v) ∷ []
+  pair_list (member k g h v a b ms) = (Tree.string (unescaped k), tree_of v) ∷ pair_list ms
 
 -- ---- which are JSON
 
 -- the levels of arrays and objects
 abbrev mutual
+  -- of a value: none for a word, a number and a string
   pub levels : Json → ℕ
   levels false_word = 0
   levels null_word = 0
@@ -98,29 +108,22 @@ abbrev mutual
   levels (empty_object g) = 1
   levels (object g ms) = suc (member_levels ms)
 
+  -- of the deepest of an array's values
   pub element_levels : Elements → ℕ
   element_levels (last_element v a) = levels v
   element_levels (element v a b es) = max (levels v) (element_levels es)
 
+  -- of the deepest of an object's values
   pub member_levels : Members → ℕ
   member_levels (last_member k g h v a) = levels v
   member_levels (member k g h v a b ms) = max (levels v) (member_levels ms)
-
--- the keys of an object, unescaped
-abbrev pub keys_of : Members → List (List ℕ)
-keys_of (last_member k g h v a) = unescaped k ∷ []
-keys_of (member k g h v a b ms) = unescaped k ∷ keys_of ms
-
--- no text stands in the list twice
-abbrev pub are_distinct : List (List ℕ) → Bool
-are_distinct [] = true
-are_distinct (k ∷ ks) = not (list_any (bytes_eq k) ks) && are_distinct ks
 
 -- white space behind another character
 abbrev pub IsGap : List Blank → Type 0
 IsGap g = TabsBeginLines false g
 
 abbrev mutual
+  -- a value
   pub IsJson : Json → Type 0
   IsJson false_word = Unit {0}
   IsJson null_word = Unit {0}
@@ -130,12 +133,15 @@ abbrev mutual
   IsJson (empty_array g) = IsGap g
   IsJson (array g es) = IsGap g × AreElements es
   IsJson (empty_object g) = IsGap g
-  IsJson (object g ms) = IsGap g × AreMembers ms × (are_distinct (keys_of ms) ≡ true)
+  -- no key of an object stands in it twice, when it is unescaped
+  IsJson (object g ms) = IsGap g × AreMembers ms × AreDistinct (pair_list ms)
 
+  -- the values of an array
   pub AreElements : Elements → Type 0
   AreElements (last_element v a) = IsJson v × IsGap a
   AreElements (element v a b es) = IsJson v × IsGap a × IsGap b × AreElements es
 
+  -- the members of an object
   pub AreMembers : Members → Type 0
   AreMembers (last_member k g h v a) = (are_pieces k ≡ true) × IsGap g × IsGap h × IsJson v × IsGap a
   AreMembers (member k g h v a b ms) = (are_pieces k ≡ true) × IsGap g × IsGap h × IsJson v × IsGap a × IsGap b × AreMembers ms

@@ -1,13 +1,15 @@
--- White space of a JSON text, and where a tab may stand in it. RFC 8259, section 2; YAML 1.2, section 6.1, which
--- allows no tab in the indentation of blocks: here a tab stands only among the blanks that begin a line.
+-- White space of a JSON text, and where a tab may stand in it: only among the blanks that begin a line, as tabs do that indent.
+-- RFC 8259, section 2; YAML 1.2, sections 6.1 (indentation) and 6.3 (separation in a flow collection's lines).
 use Rattle.std.specs.Prelude.{◌≡◌, ℕ, List, [], ◌∷◌, Bool, true}
 
+-- the four characters of white space
 pub data Blank : Type 0 where
   space : Blank
   tab : Blank
   line_feed : Blank
   carriage_return : Blank
 
+-- the character of each
 abbrev pub blank_character : Blank → ℕ
 blank_character space = 32
 blank_character tab = 9

@@ -6,6 +6,7 @@ use Rattle.std.specs.List.{list_all}
 use Rattle.std.specs.Str.Parse.{digits_value}
 use Rattle.tree_defs.specs.Tree.{Tree}
 use Rattle.tree_defs.specs.Typing.{fits_i64}
+use Rattle.layout_defs.specs.Marks.{dash, digit_zero, plus_sign, point}
 
 -- a point and digits, or nothing
 pub data Fraction : Type 0 where
@@ -23,32 +24,39 @@ pub data Exponent : Type 0 where
   no_exponent : Exponent
   exponent : (is_capital : Bool) → Sign → (digits : List ℕ) → Exponent
 
+-- a number, as it is written
 pub data Number : Type 0 where
   number : (is_negative : Bool) → (whole : List ℕ) → Fraction → Exponent → Number
 
 -- ---- the text, before the rest r
 
+-- `-`, where it is negative
 abbrev pub spell_minus : Bool → List ℕ → List ℕ
-spell_minus true r = 45 ∷ r
+spell_minus true r = dash ∷ r
 spell_minus false r = r
 
+-- a point and the digits
 abbrev pub spell_fraction : Fraction → List ℕ → List ℕ
 spell_fraction no_fraction r = r
-spell_fraction (fraction digits) r = 46 ∷ (digits ++ r)
+spell_fraction (fraction digits) r = point ∷ (digits ++ r)
 
+-- `+`, `-` or nothing
 abbrev pub spell_sign : Sign → List ℕ → List ℕ
 spell_sign no_sign r = r
-spell_sign plus r = 43 ∷ r
-spell_sign minus r = 45 ∷ r
+spell_sign plus r = plus_sign ∷ r
+spell_sign minus r = dash ∷ r
 
+-- `E` or `e`
 abbrev pub letter_e : Bool → ℕ
 letter_e true = 69
 letter_e false = 101
 
+-- the letter, the sign and the digits
 abbrev pub spell_exponent : Exponent → List ℕ → List ℕ
 spell_exponent no_exponent r = r
 spell_exponent (exponent is_capital s digits) r = letter_e is_capital ∷ spell_sign s (digits ++ r)
 
+-- a number
 abbrev pub spell_number : Number → List ℕ → List ℕ
 spell_number (number is_negative whole f e) r = spell_minus is_negative (whole ++ spell_fraction f (spell_exponent e r))
 
@@ -63,16 +71,19 @@ are_digits (c ∷ w) = is_ascii_digit c && list_all is_ascii_digit w
 abbrev pub is_whole : List ℕ → Bool
 is_whole [] = false
 is_whole (c ∷ []) = is_ascii_digit c
-is_whole (c ∷ d ∷ w) = not (c == 48) && are_digits (c ∷ d ∷ w)
+is_whole (c ∷ d ∷ w) = not (c == digit_zero) && are_digits (c ∷ d ∷ w)
 
+-- at least one digit behind the point
 abbrev pub is_fraction : Fraction → Bool
 is_fraction no_fraction = true
 is_fraction (fraction digits) = are_digits digits
 
+-- at least one digit behind the letter and the sign
 abbrev pub is_exponent : Exponent → Bool
 is_exponent no_exponent = true
 is_exponent (exponent is_capital s digits) = are_digits digits
 
+-- each part is as the grammar has it
 abbrev pub is_number : Number → Bool
 is_number (number is_negative whole f e) = is_whole whole && is_fraction f && is_exponent e
 

@@ -2,6 +2,7 @@
 use Rattle.std.specs.Prelude.{ℕ, ◌+◌, ◌*◌, List, [], ◌∷◌, Bool, true, not, ◌&&◌, ◌||◌}
 use Rattle.std.specs.Char.{is_digit, digit_value}
 use Rattle.std.specs.Int.{is_in_range}
+use Rattle.layout_defs.specs.Marks.{backslash, double_quote, letter_u}
 
 -- the characters that have a short escape
 pub data Short : Type 0 where
@@ -16,25 +17,25 @@ pub data Short : Type 0 where
 
 -- the letter behind `\`
 abbrev pub letter_of : Short → ℕ
-letter_of quotation_mark = 34
-letter_of reverse_solidus = 92
-letter_of solidus = 47
-letter_of backspace = 98
-letter_of form_feed = 102
-letter_of new_line = 110
-letter_of return = 114
-letter_of tabulator = 116
+letter_of quotation_mark = 34  -- `"`
+letter_of reverse_solidus = 92  -- `\`
+letter_of solidus = 47  -- `/`
+letter_of backspace = 98  -- `b`
+letter_of form_feed = 102  -- `f`
+letter_of new_line = 110  -- `n`
+letter_of return = 114  -- `r`
+letter_of tabulator = 116  -- `t`
 
 -- the character that a short escape stands for
 abbrev pub character_of : Short → ℕ
-character_of quotation_mark = 34
-character_of reverse_solidus = 92
-character_of solidus = 47
-character_of backspace = 8
-character_of form_feed = 12
-character_of new_line = 10
-character_of return = 13
-character_of tabulator = 9
+character_of quotation_mark = 34  -- `"`
+character_of reverse_solidus = 92  -- `\`
+character_of solidus = 47  -- `/`
+character_of backspace = 8  -- U+0008
+character_of form_feed = 12  -- U+000C
+character_of new_line = 10  -- LF
+character_of return = 13  -- CR
+character_of tabulator = 9  -- TAB
 
 -- a character as it stands, a short escape, or `\u` and four hexadecimal digits
 pub data Piece : Type 0 where
@@ -44,17 +45,20 @@ pub data Piece : Type 0 where
 
 -- ---- the text, before the rest r
 
+-- a character; `\` and a letter; `\u` and four digits
 abbrev pub spell_piece : Piece → List ℕ → List ℕ
 spell_piece (itself c) r = c ∷ r
-spell_piece (short s) r = 92 ∷ letter_of s ∷ r
-spell_piece (unicode a b c d) r = 92 ∷ 117 ∷ a ∷ b ∷ c ∷ d ∷ r
+spell_piece (short s) r = backslash ∷ letter_of s ∷ r
+spell_piece (unicode a b c d) r = backslash ∷ letter_u ∷ a ∷ b ∷ c ∷ d ∷ r
 
+-- one piece behind the other
 abbrev pub spell_pieces : List Piece → List ℕ → List ℕ
 spell_pieces [] r = r
 spell_pieces (p ∷ ps) r = spell_piece p (spell_pieces ps r)
 
+-- the pieces between quotation marks
 abbrev pub spell_string : List Piece → List ℕ → List ℕ
-spell_string ps r = 34 ∷ spell_pieces ps (34 ∷ r)
+spell_string ps r = double_quote ∷ spell_pieces ps (double_quote ∷ r)
 
 -- ---- the value
 
@@ -94,6 +98,7 @@ is_piece (short s) = true
 is_piece (unicode a b c d) =
     is_hex_digit a && is_hex_digit b && is_hex_digit c && is_hex_digit d && not (is_surrogate (four_digits a b c d))
 
+-- each piece is one
 abbrev pub are_pieces : List Piece → Bool
 are_pieces [] = true
 are_pieces (p ∷ ps) = is_piece p && are_pieces ps

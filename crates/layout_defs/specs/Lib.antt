@@ -1,4 +1,13 @@
+pub mod Anchored
+pub mod BlockLines
+pub mod DumpIsLaidOut
+pub mod Gap
+pub mod Json
+pub mod JsonGap
 pub mod JsonNumber
 pub mod JsonString
-pub mod JsonGap
-pub mod Json
+pub mod Laws
+pub mod Layout
+pub mod Marks
+pub mod Sound
+pub mod WideLayout

@@ -1,0 +1,5 @@
+use Rattle.layout_defs.proofs.Widening.{widened}
+use Rattle.layout_defs.proofs.laws.layouts_are_wide_layouts.Goals as goal
+
+pub returns : goal.returns
+returns c = widened

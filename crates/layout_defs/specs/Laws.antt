@@ -1,0 +1,23 @@
+-- Laws of the relations between trees and texts: each is carried by the function of `src/laws.rt` that its comment names.
+use Rattle.std.specs.Prelude.{ℕ, List, [], ◌∷◌}
+use Rattle.tree_defs.specs.Tree.{Tree}
+use Rattle.layout_defs.specs.Json.{IsJsonText}
+use Rattle.layout_defs.specs.Layout.{IsLaidOut}
+use Rattle.layout_defs.specs.WideLayout.{AreLaidOut}
+use Rattle.layout_defs.specs.Sound.{IsSound, AreAllSound}
+
+-- `json_trees_are_sound`
+abbrev pub JsonTreesAreSound : Type 0
+JsonTreesAreSound = (t : Tree) (text : List ℕ) → IsJsonText t text → IsSound t
+
+-- `laid_out_trees_are_sound`
+abbrev pub LaidOutTreesAreSound : Type 0
+LaidOutTreesAreSound = (t : Tree) (text : List ℕ) → IsLaidOut t text → IsSound t
+
+-- `widely_laid_out_trees_are_sound`
+abbrev pub WidelyLaidOutTreesAreSound : Type 0
+WidelyLaidOutTreesAreSound = (ts : List Tree) (text : List ℕ) → AreLaidOut ts text → AreAllSound ts
+
+-- `layouts_are_wide_layouts`
+abbrev pub LayoutsAreWideLayouts : Type 0
+LayoutsAreWideLayouts = (t : Tree) (text : List ℕ) → IsLaidOut t text → AreLaidOut (t ∷ []) text
