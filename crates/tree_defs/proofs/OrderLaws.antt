@@ -1,4 +1,4 @@
--- The order of trees is total, and ties are the same tree.
+-- The order of trees is total, and two trees that tie are one tree.
 use Rattle.std.specs.Prelude.{◌≡◌, ℕ, suc, ℤ, pos, Bool, true, false, List, [], ◌∷◌, refl}
 use Rattle.std.specs.declared.cmp.Ordering.{Ordering}
 use Rattle.std.specs.declared.cmp.Ordering.TheVariants.{Less, Equal, Greater}

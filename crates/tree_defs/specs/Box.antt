@@ -1,7 +1,7 @@
 -- The lines in which a tree is written.
 -- YAML 1.2, chapter 8 (block styles), section 8.1.2 (literal style).
 use Rattle.std.specs.Prelude.{ℕ, Bool, true, false, not, ◌&&◌, if◌then◌else◌, List, [], ◌∷◌, ◌++◌, map, codes}
-use Rattle.tree_defs.specs.Tree.{Tree, real, integer, string, boolean, array, hash, alias, null, bad_value, Items, no_items, item, Pairs, no_pairs, pair}
+use Rattle.tree_defs.specs.Tree.{Tree, string, array, hash, Items, no_items, item, Pairs, no_pairs, pair}
 use Rattle.tree_defs.specs.Spelling.{spelling, string_spelling, is_scalar}
 use Rattle.tree_defs.specs.Literal.{is_literal, is_root_literal, literal_header}
 use Rattle.tree_defs.specs.Lines.{lines_of}

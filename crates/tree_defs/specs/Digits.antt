@@ -1,5 +1,5 @@
 -- The number of binary digits of a number.
-use Rattle.std.specs.Prelude.{◌≡◌, ℕ, zero, suc, ◌<◌, ◌≤◌, ◌/◌, ◌^◌}
+use Rattle.std.specs.Prelude.{ℕ, zero, suc, ◌<◌, ◌≤◌, ◌/◌, ◌^◌}
 
 -- n / 2 has one binary digit less than n, if n isn't 0; the first number bounds the recursion, as n itself always does
 abbrev pub digits_up_to : ℕ → ℕ → ℕ

@@ -1,6 +1,6 @@
 -- The text that `dump` writes for a tree: the line `---` and the tree's box.
 -- YAML 1.2, section 9.1 (documents).
-use Rattle.std.specs.Prelude.{ℕ, Bool, true, List, [], ◌∷◌, codes}
+use Rattle.std.specs.Prelude.{ℕ, Bool, true, List, ◌∷◌, codes}
 use Rattle.tree_defs.specs.Tree.{Tree}
 use Rattle.tree_defs.specs.Box.{box}
 use Rattle.tree_defs.specs.Lines.{joined}

@@ -1,10 +1,11 @@
--- What a tree feeds a hasher.
+-- What a tree feeds a hasher: the number of its variant, and then what it holds. An item or pair has 1 before it, their end is 0.
 use Rattle.std.specs.Prelude.{◌++◌}
 use Rattle.std.specs.Hash as fed
 use Rattle.std.specs.Hash.{HashWrites}
 use Rattle.tree_defs.specs.Tree.{Tree, real, integer, string, boolean, array, hash, alias, null, bad_value, Items, no_items, item, Pairs, no_pairs, pair}
 
 abbrev mutual
+  -- of a tree
   pub tree_feed : Tree → HashWrites
   tree_feed (real s) = fed.u8 0 ++ fed.str s
   tree_feed (integer z) = fed.u8 1 ++ fed.i64 z
@@ -16,10 +17,12 @@ abbrev mutual
   tree_feed null = fed.u8 7
   tree_feed bad_value = fed.u8 8
 
+  -- of the items of an array
   pub items_feed : Items → HashWrites
   items_feed no_items = fed.u8 0
   items_feed (item t ts) = fed.u8 1 ++ tree_feed t ++ items_feed ts
 
+  -- of the pairs of a hash
   pub pairs_feed : Pairs → HashWrites
   pairs_feed no_pairs = fed.u8 0
   pairs_feed (pair k v ps) = fed.u8 1 ++ tree_feed k ++ tree_feed v ++ pairs_feed ps

@@ -1,8 +1,9 @@
 -- Grammars on whole texts. A language is a test that says of a text whether it belongs.
 -- These are the marks of a grammar's notation: a class, `*`, `+`, `?`, one after the other, and a choice.
-use Rattle.std.specs.Prelude.{ℕ, Bool, true, false, not, ◌&&◌, ◌||◌, List, [], ◌∷◌, bytes_eq}
+use Rattle.std.specs.Prelude.{◌≡◌, ◌++◌, IsTrue, ℕ, Bool, true, false, not, ◌&&◌, ◌||◌, List, [], ◌∷◌, bytes_eq}
 use Rattle.std.specs.List.{list_any, list_all}
 
+-- nothing at all
 abbrev pub is_empty : List ℕ → Bool
 is_empty [] = true
 is_empty (c ∷ cs) = false
@@ -41,3 +42,11 @@ one_of ls text = list_any (λ l. l text) ls
 -- one of these words
 abbrev pub is_among : List (List ℕ) → List ℕ → Bool
 is_among words text = list_any (λ w. bytes_eq w text) words
+
+-- a text in two parts, the one of the first language, the other of the second
+pub record IsCut (first second : List ℕ → Bool) (text : List ℕ) : Type 0 where
+  pub before : List ℕ
+  pub after : List ℕ
+  pub whole : before ++ after ≡ text
+  pub is_first : IsTrue (first before)
+  pub is_second : IsTrue (second after)

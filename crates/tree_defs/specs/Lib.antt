@@ -5,6 +5,7 @@ pub mod Escapes
 pub mod Feed
 pub mod Grammar
 pub mod Lines
+pub mod Laws
 pub mod Lists
 pub mod Literal
 pub mod Order

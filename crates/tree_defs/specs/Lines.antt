@@ -1,7 +1,7 @@
 -- The lines of a text, as Rust's `str::lines` gives them where the text has no CR: parts between line feeds, of which an empty last
 -- one is no line.
-use Rattle.std.specs.Prelude.{ℕ, ◌==◌, if◌then◌else◌, List, [], ◌∷◌}
-use Rattle.std.specs.List.{join_with_byte}
+use Rattle.std.specs.Prelude.{ℕ, Bool, not, ◌==◌, if◌then◌else◌, List, [], ◌∷◌, ◌++◌}
+use Rattle.std.specs.List.{list_all, join_with_byte, flat_map}
 
 -- a character before the first line
 abbrev pub onto_first_line : ℕ → List (List ℕ) → List (List ℕ)
@@ -13,6 +13,14 @@ abbrev pub lines_of : List ℕ → List (List ℕ)
 lines_of [] = []
 lines_of (c ∷ cs) = if c == 10 then [] ∷ lines_of cs else onto_first_line c (lines_of cs)
 
+-- no line feed is in it
+abbrev pub is_unbroken : List ℕ → Bool
+is_unbroken l = list_all (λ c. not (c == 10)) l
+
 -- lines joined by line feeds, with none at the end
 abbrev pub joined : List (List ℕ) → List ℕ
 joined ls = join_with_byte 10 ls
+
+-- lines, each followed by a line feed
+abbrev pub ended : List (List ℕ) → List ℕ
+ended ls = flat_map (λ l. l ++ 10 ∷ []) ls

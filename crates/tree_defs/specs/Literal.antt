@@ -1,10 +1,11 @@
 -- Which texts may be written as literal blocks.
 -- YAML 1.2, section 8.1.2 (literal style) and section 5.1 (printable characters).
-use Rattle.std.specs.Prelude.{ℕ, Bool, true, false, not, ◌&&◌, ◌||◌, ◌==◌, nat_le, nat_eq, if◌then◌else◌, List, [], ◌∷◌, codes}
+use Rattle.std.specs.Prelude.{ℕ, Bool, true, false, not, ◌&&◌, ◌||◌, ◌==◌, nat_le, nat_eq, if◌then◌else◌, List, [], ◌∷◌, take, drop, codes}
 use Rattle.std.specs.List.{list_any, list_all, starts_with, ends_with}
-use Rattle.tree_defs.specs.Grammar.{is_empty}
+use Rattle.tree_defs.specs.Grammar.{is_among}
 use Rattle.tree_defs.specs.Lines.{lines_of}
 
+-- a code from the one to the other
 abbrev pub is_within : ℕ → ℕ → ℕ → Bool
 is_within low high c = nat_le low c && nat_le c high
 
@@ -15,6 +16,7 @@ is_literal_character c =
     || (is_within 57344 65533 c && not (c == 65279))
     || is_within 65536 1114111 c
 
+-- LF
 abbrev pub is_line_feed : ℕ → Bool
 is_line_feed c = c == 10
 
@@ -34,11 +36,14 @@ is_literal text =
     && not (ends_with nat_eq text (codes "\n\n"))
     && not (first_full_line_is_indented (lines_of text))
 
--- `---` or `...`, and behind it a blank or nothing
+-- a blank, or nothing at all
+abbrev pub begins_blank : List ℕ → Bool
+begins_blank [] = true
+begins_blank (c ∷ cs) = (c == 32) || (c == 9)
+
+-- a line that begins with `---` or `...` and goes on with a blank or ends there
 abbrev pub begins_as_marker : List ℕ → Bool
-begins_as_marker (a ∷ b ∷ c ∷ []) = ((a == 45) && (b == 45) && (c == 45)) || ((a == 46) && (b == 46) && (c == 46))
-begins_as_marker (a ∷ b ∷ c ∷ d ∷ rest) = begins_as_marker (a ∷ b ∷ c ∷ []) && ((d == 32) || (d == 9))
-begins_as_marker _ = false
+begins_as_marker line = is_among (codes "---" ∷ codes "..." ∷ []) (take 3 line) && begins_blank (drop 3 line)
 
 -- the first character is a TAB
 abbrev pub starts_with_tab : List ℕ → Bool

@@ -1,7 +1,7 @@
 -- One tree laid over another.
 use Rattle.std.specs.Prelude.{not, List, [], ◌∷◌, ◌++◌, filter}
 use Rattle.std.specs.Option.{option_map_or}
-use Rattle.tree_defs.specs.Tree.{Tree, real, integer, string, boolean, array, hash, alias, null, bad_value, Items, Pairs, no_pairs, pair, pairs_of, pair_list_of}
+use Rattle.tree_defs.specs.Tree.{Tree, hash, Pairs, no_pairs, pair, pairs_of, pair_list_of}
 use Rattle.tree_defs.specs.Pairs.{lookup, has_key}
 
 -- the pairs whose keys the others don't have

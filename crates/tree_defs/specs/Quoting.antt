@@ -11,6 +11,7 @@ use Rattle.tree_defs.specs.Typing.{typing, is_string, is_sign}
 abbrev pub is_in : List ℕ → ℕ → Bool
 is_in characters c = list_any (λ d. d == c) characters
 
+-- the text begins so
 abbrev pub begins_with : List ℕ → List ℕ → Bool
 begins_with beginning text = starts_with nat_eq text beginning
 
@@ -18,12 +19,13 @@ begins_with beginning text = starts_with nat_eq text beginning
 abbrev pub has_outer_space : List ℕ → Bool
 has_outer_space text = begins_with (codes " ") text || ends_with nat_eq text (codes " ")
 
--- the first character is an indicator, or begins a number's or a word's look
+-- the first character is an indicator, or one that has a meaning there for some readers: `<`, `=` and `.`
 abbrev pub has_indicator_first : List ℕ → Bool
 has_indicator_first [] = false
 has_indicator_first (c ∷ cs) = is_in (codes "&*?|-<>=!%@.") c
 
--- an indicator that may not stand in a plain scalar, or a control character
+-- an indicator that may end a plain scalar or make it something else, a quote or backslash, or a control character but U+0007,
+-- U+0008, U+000B, U+000C, U+001B and U+007F
 unfoldable pub is_unfit_for_plain : ℕ → Bool
 is_unfit_for_plain c =
     is_in (codes ":{}[],#`\"'\\") c

@@ -10,6 +10,7 @@ use Rattle.tree_defs.specs.Quoting.{is_quoted}
 abbrev pub string_spelling : List ℕ → List ℕ
 string_spelling s = if is_quoted s then double_quoted s else s
 
+-- a boolean by its word
 abbrev pub boolean_spelling : Bool → List ℕ
 boolean_spelling true = codes "true"
 boolean_spelling false = codes "false"

@@ -5,6 +5,7 @@ use base.Stored.{Gv, gnil, gnum, gcons, num}
 use denote.Struct.Codes.{itself}
 use Rattle.tree_defs.specs.Tree.{Tree, real, integer, string, boolean, array, hash, alias, null, bad_value, Items, no_items, item, Pairs, no_pairs, pair}
 
+-- an integer as a code, and back
 abbrev to_integer : ℤ → Gv
 to_integer (pos n) = gcons gnil (gnum n)
 to_integer (negsuc n) = gcons (gnum 0) (gnum n)
@@ -20,6 +21,7 @@ from_integer-to_integer : (z : ℤ) → from_integer (to_integer z) ≡ z
 from_integer-to_integer (pos n) = refl
 from_integer-to_integer (negsuc n) = refl
 
+-- a boolean as a code, and back
 abbrev to_bool : Bool → Gv
 to_bool true = gnum 0
 to_bool false = gnil
@@ -33,6 +35,7 @@ from_bool-to_bool : (b : Bool) → from_bool (to_bool b) ≡ b
 from_bool-to_bool true = refl
 from_bool-to_bool false = refl
 
+-- a text as a code, and back
 abbrev to_text : List ℕ → Gv
 to_text [] = gnil
 to_text (n ∷ ns) = gcons (gnum n) (to_text ns)
@@ -47,6 +50,7 @@ from_text-to_text [] = refl
 from_text-to_text (n ∷ ns) = λ i. n ∷ from_text-to_text ns i
 
 abbrev mutual
+  -- a tree as a code: the number of its variant, and what it holds
   pub to_gv : Tree → Gv
   to_gv (real s) = gcons (gnum 0) (to_text s)
   to_gv (integer z) = gcons (gnum 1) (to_integer z)
@@ -84,11 +88,13 @@ by_tag (suc (suc (suc (suc (suc (suc zero)))))) g ts = alias (num g)
 by_tag (suc (suc (suc (suc (suc (suc (suc zero))))))) g ts = null
 by_tag (suc (suc (suc (suc (suc (suc (suc (suc n)))))))) g ts = bad_value
 
+-- back: a code as a tree, and as the items that it may hold
 abbrev pub from_gv : Gv → Tree × Items
 from_gv gnil = (null, no_items)
 from_gv (gnum n) = (null, no_items)
 from_gv (gcons a b) = (by_tag (num a) b (from_gv b).1, item (from_gv a).0 (from_gv b).1)
 
+-- each tree comes back
 mutual
   pub from_gv-to_gv : (t : Tree) → (from_gv (to_gv t)).0 ≡ t
   from_gv-to_gv (real s) = λ i. real (from_text-to_text s i)
@@ -109,11 +115,14 @@ mutual
   paired-pairs_to no_pairs = refl
   paired-pairs_to (pair k v ps) = λ i. pair (from_gv-to_gv k i) (from_gv-to_gv v i) (paired-pairs_to ps i)
 
+-- of trees
 abbrev pub tree_code : Coded Tree
 tree_code = code_by Gv itself to_gv (λ g. (from_gv g).0) from_gv-to_gv
 
+-- of lists of pairs
 abbrev pub pairs_code : Coded (List (Tree × Tree))
 pairs_code = coded_list (coded× tree_code tree_code)
 
+-- of lists of trees
 abbrev pub items_code : Coded (List Tree)
 items_code = coded_list tree_code

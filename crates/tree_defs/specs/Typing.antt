@@ -17,9 +17,11 @@ fits_i64 (negsuc n) = nat_lt n (2 ^ 63)
 abbrev pub is_digit : ℕ → ℕ → Bool
 is_digit base c = nat_lt (digit_value c) base
 
+-- `+`
 abbrev pub is_plus : ℕ → Bool
 is_plus c = c == 43
 
+-- `-`
 abbrev pub is_minus : ℕ → Bool
 is_minus c = c == 45
 
@@ -51,9 +53,11 @@ behind (p ∷ ps) (c ∷ cs) = if p == c then behind ps cs else None
 
 -- ---- reals
 
+-- `+` or `-`
 abbrev pub is_sign : ℕ → Bool
 is_sign c = is_plus c || is_minus c
 
+-- `.`
 abbrev pub is_point : ℕ → Bool
 is_point c = c == 46
 
@@ -68,7 +72,7 @@ is_exponent = in_order (one is_exponent_mark ∷ optional (one is_sign) ∷ at_l
 -- `D+`, `D+ "." D*` or `D* "." D+`
 abbrev pub is_mantissa : List ℕ → Bool
 is_mantissa = one_of
-    ( at_least_one is_ascii_digit
+    (at_least_one is_ascii_digit
     ∷ in_order (at_least_one is_ascii_digit ∷ one is_point ∷ any_number is_ascii_digit ∷ [])
     ∷ in_order (any_number is_ascii_digit ∷ one is_point ∷ at_least_one is_ascii_digit ∷ [])
     ∷ [])
@@ -79,12 +83,15 @@ is_decimal = in_order (optional (one is_sign) ∷ is_mantissa ∷ optional is_ex
 
 -- ---- words
 
+-- the words of null, the empty text among them
 abbrev pub null_words : List (List ℕ)
 null_words = codes "" ∷ codes "~" ∷ codes "null" ∷ []
 
+-- the words of true
 abbrev pub true_words : List (List ℕ)
 true_words = codes "true" ∷ codes "True" ∷ codes "TRUE" ∷ []
 
+-- the words of false
 abbrev pub false_words : List (List ℕ)
 false_words = codes "false" ∷ codes "False" ∷ codes "FALSE" ∷ []
 
@@ -102,15 +109,22 @@ special_words =
 abbrev pub where_true : Bool → Tree → Option Tree
 where_true b t = if b then Some t else None
 
+-- the table, row by row: what a text stands for, where the row fits it
 abbrev pub rows : List (List ℕ → Option Tree)
 rows =
+    -- `0x` and a signed number in base 16
     (λ text. option_map integer (option_and_then (signed_number 16) (behind (codes "0x") text)))
+    -- `0o` and a signed number in base 8
     ∷ (λ text. option_map integer (option_and_then (signed_number 8) (behind (codes "0o") text)))
+    -- `+` and a signed number in base 10
     ∷ (λ text. option_map integer (option_and_then signed_decimal (behind (codes "+") text)))
+    -- words
     ∷ (λ text. where_true (is_among null_words text) null)
     ∷ (λ text. where_true (is_among true_words text) (boolean true))
     ∷ (λ text. where_true (is_among false_words text) (boolean false))
+    -- a signed number in base 10
     ∷ (λ text. option_map integer (signed_decimal text))
+    -- the special words, and the decimal grammar
     ∷ (λ text. where_true (is_among special_words text) (real text))
     ∷ (λ text. where_true (is_decimal text) (real text))
     ∷ []
@@ -124,10 +138,12 @@ by_rows (row ∷ rest) text = unwrap_or (row text) (by_rows rest text)
 unfoldable pub typing : List ℕ → Tree
 typing text = by_rows rows text
 
+-- whether a tree is a string
 abbrev pub is_string : Tree → Bool
 is_string (string s) = true
 is_string _ = false
 
+-- whether a tree is a real
 abbrev pub is_real : Tree → Bool
 is_real (real s) = true
 is_real _ = false

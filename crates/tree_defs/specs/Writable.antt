@@ -1,8 +1,8 @@
 -- The trees that `dump` writes to a text that is read back as the same tree.
-use Rattle.std.specs.Prelude.{ℕ, suc, max, ◌^◌, ◌<◌, ◌≤◌, length, IsTrue, Bool, true, false}
-use Rattle.tree_defs.specs.Tree.{Tree, real, integer, string, boolean, array, hash, alias, null, bad_value, Items, no_items, item, Pairs, no_pairs, pair}
+use Rattle.std.specs.Prelude.{ℕ, suc, max, ◌^◌, ◌<◌, ◌≤◌, length, IsTrue}
+use Rattle.tree_defs.specs.Tree.{Tree, real, array, hash, alias, bad_value, Items, no_items, item, Pairs, no_pairs, pair}
 use Rattle.tree_defs.specs.Typing.{is_real_text}
-use Rattle.tree_defs.specs.Spelling.{spelling, is_scalar}
+use Rattle.tree_defs.specs.Spelling.{spelling}
 
 abbrev mutual
   -- the levels of a tree: a scalar and an empty array or hash have one, any other array or hash one more than its deepest part

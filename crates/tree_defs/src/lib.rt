@@ -1,2 +1,4 @@
-//! Definitions.
+//! Definitions over YAML trees and texts, and their laws.
 #![tactic(auto)]
+
+pub mod laws;

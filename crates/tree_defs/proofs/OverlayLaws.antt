@@ -1,0 +1,145 @@
+-- Laid over one another, trees with distinct keys have distinct keys.
+use Rattle.std.proofs.Common.{◌≡◌, List, [], ◌∷◌, ◌++◌, Option, Some, None, Bool, true, false, cond, not, refl, sym, ap, ◌∙◌, subst}
+use Rattle.std.specs.Prelude.{is_some}
+use Rattle.std.specs.Option.{option_map_or}
+use Rattle.std.proofs.lemmas.Bool.{true≢false}
+use Rattle.tree_defs.specs.Tree.{Tree, hash, Pairs, no_pairs, pair, pairs_of, pair_list_of}
+use Rattle.tree_defs.specs.Order.{tree_eq}
+use Rattle.tree_defs.specs.Pairs.{lookup, has_key, Lacks, AreDistinct}
+use Rattle.tree_defs.specs.Valid.{IsDistinct, AllPairsDistinct}
+use Rattle.tree_defs.specs.Overlay.{overlay, pairs_under, new_pairs}
+use Rattle.tree_defs.proofs.PairsLaws.{tree_eq-itself}
+use Rattle.tree_defs.proofs.TypingLaws.{OfSome}
+
+-- each key and each value has distinct keys
+abbrev EachDistinct : List (Tree × Tree) → Type 0
+EachDistinct [] = Unit {0}
+EachDistinct (p ∷ ps) = (IsDistinct p.0 × IsDistinct p.1) × EachDistinct ps
+
+-- each of these keys is one of those
+abbrev KeysWithin : List (Tree × Tree) → List (Tree × Tree) → Type 0
+KeysWithin those [] = Unit {0}
+KeysWithin those (p ∷ ps) = (has_key p.0 those ≡ true) × KeysWithin those ps
+
+list_of_pairs : (ps : List (Tree × Tree)) → pair_list_of (pairs_of ps) ≡ ps
+list_of_pairs [] = refl
+list_of_pairs (p ∷ ps) = ap (λ qs. p ∷ qs) (list_of_pairs ps)
+
+EachDistinct-list : (ps : Pairs) → AllPairsDistinct ps → EachDistinct (pair_list_of ps)
+EachDistinct-list no_pairs h = tt
+EachDistinct-list (pair k v ps) h = ((h.0, h.1), EachDistinct-list ps h.2)
+
+EachDistinct-pairs : (ps : List (Tree × Tree)) → EachDistinct ps → AllPairsDistinct (pairs_of ps)
+EachDistinct-pairs [] h = tt
+EachDistinct-pairs (p ∷ ps) h = (h.0.0, h.0.1, EachDistinct-pairs ps h.1)
+
+EachDistinct-append : (ps qs : List (Tree × Tree)) → EachDistinct ps → EachDistinct qs → EachDistinct (ps ++ qs)
+EachDistinct-append [] qs h g = g
+EachDistinct-append (p ∷ ps) qs h g = (h.0, EachDistinct-append ps qs h.1 g)
+
+EachDistinct-lookup : (k : Tree) (ps : List (Tree × Tree)) → EachDistinct ps → OfSome IsDistinct (lookup k ps)
+EachDistinct-lookup k [] h = tt
+EachDistinct-lookup k (p ∷ ps) h = by (tree_eq k p.0) (EachDistinct-lookup k ps h.1)
+  where
+    by : (b : Bool) → OfSome IsDistinct (lookup k ps) → OfSome IsDistinct (cond b (Some p.1) (lookup k ps))
+    by true r = h.0.1
+    by false r = r
+
+-- ---- the new pairs
+
+EachDistinct-new : (those ps : List (Tree × Tree)) → EachDistinct ps → EachDistinct (new_pairs those ps)
+EachDistinct-new those [] h = tt
+EachDistinct-new those (p ∷ ps) h = by (has_key p.0 those) (EachDistinct-new those ps h.1)
+  where
+    by : (b : Bool) → EachDistinct (new_pairs those ps) → EachDistinct (cond (not b) (p ∷ new_pairs those ps) (new_pairs those ps))
+    by true r = r
+    by false r = (h.0, r)
+
+Lacks-new : (l : Tree) (those ps : List (Tree × Tree)) → Lacks l ps → Lacks l (new_pairs those ps)
+Lacks-new l those [] h = tt
+Lacks-new l those (p ∷ ps) h = by (has_key p.0 those) (Lacks-new l those ps h.1)
+  where
+    by : (b : Bool) → Lacks l (new_pairs those ps) → Lacks l (cond (not b) (p ∷ new_pairs those ps) (new_pairs those ps))
+    by true r = r
+    by false r = (h.0, r)
+
+AreDistinct-new : (those ps : List (Tree × Tree)) → AreDistinct ps → AreDistinct (new_pairs those ps)
+AreDistinct-new those [] h = tt
+AreDistinct-new those (p ∷ ps) h = by (has_key p.0 those) (Lacks-new p.0 those ps h.0) (AreDistinct-new those ps h.1)
+  where
+    by : (b : Bool) → Lacks p.0 (new_pairs those ps) → AreDistinct (new_pairs those ps) → AreDistinct (cond (not b) (p ∷ new_pairs those ps) (new_pairs those ps))
+    by true l r = r
+    by false l r = (l, r)
+
+-- they lack each of those keys
+new_lacks : (l : Tree) (those ps : List (Tree × Tree)) → has_key l those ≡ true → Lacks l (new_pairs those ps)
+new_lacks l those [] h = tt
+new_lacks l those (p ∷ ps) h = by (has_key p.0 those) refl (new_lacks l those ps h)
+  where
+    by : (b : Bool) → has_key p.0 those ≡ b → Lacks l (new_pairs those ps) → Lacks l (cond (not b) (p ∷ new_pairs those ps) (new_pairs those ps))
+    by true e r = r
+    by false e r = (λ is. true≢false (sym h ∙ ap (λ k. has_key k those) is ∙ e), r)
+
+-- ---- the left's pairs
+
+Lacks-under : (l : Tree) (us : List (Tree × Tree)) (ps : Pairs) → Lacks l (pair_list_of ps) → Lacks l (pairs_under us ps)
+Lacks-under l us no_pairs h = tt
+Lacks-under l us (pair k v ps) h = (h.0, Lacks-under l us ps h.1)
+
+AreDistinct-under : (us : List (Tree × Tree)) (ps : Pairs) → AreDistinct (pair_list_of ps) → AreDistinct (pairs_under us ps)
+AreDistinct-under us no_pairs h = tt
+AreDistinct-under us (pair k v ps) h = (Lacks-under k us ps h.0, AreDistinct-under us ps h.1)
+
+KeysWithin-under : (those us : List (Tree × Tree)) (ps : Pairs) → KeysWithin those (pair_list_of ps) → KeysWithin those (pairs_under us ps)
+KeysWithin-under those us no_pairs h = tt
+KeysWithin-under those us (pair k v ps) h = (h.0, KeysWithin-under those us ps h.1)
+
+KeysWithin-more : (q : Tree × Tree) (those ps : List (Tree × Tree)) → KeysWithin those ps → KeysWithin (q ∷ those) ps
+KeysWithin-more q those [] h = tt
+KeysWithin-more q those (p ∷ ps) h = (by (tree_eq p.0 q.0), KeysWithin-more q those ps h.1)
+  where
+    by : (b : Bool) → is_some (cond b (Some q.1) (lookup p.0 those)) ≡ true
+    by true = refl
+    by false = h.0
+
+KeysWithin-itself : (ps : List (Tree × Tree)) → KeysWithin ps ps
+KeysWithin-itself [] = tt
+KeysWithin-itself (p ∷ ps) = (ap (λ b. is_some (cond b (Some p.1) (lookup p.0 ps))) (tree_eq-itself p.0), KeysWithin-more p ps ps (KeysWithin-itself ps))
+
+Lacks-both : (l : Tree) (ps qs : List (Tree × Tree)) → Lacks l ps → Lacks l qs → Lacks l (ps ++ qs)
+Lacks-both l [] qs h g = g
+Lacks-both l (p ∷ ps) qs h g = (h.0, Lacks-both l ps qs h.1 g)
+
+-- the left's pairs and then the new ones
+AreDistinct-both : (those ps us : List (Tree × Tree)) → AreDistinct ps → KeysWithin those ps → AreDistinct us → AreDistinct (ps ++ new_pairs those us)
+AreDistinct-both those [] us h k g = AreDistinct-new those us g
+AreDistinct-both those (p ∷ ps) us h k g = (Lacks-both p.0 ps (new_pairs those us) h.0 (new_lacks p.0 those us k.0), AreDistinct-both those ps us h.1 k.1 g)
+
+value_distinct : (v : Tree) (laid : Tree → Tree) (o : Option Tree) → IsDistinct v → ((w : Tree) → IsDistinct w → IsDistinct (laid w)) → OfSome IsDistinct o → IsDistinct (option_map_or laid o v)
+value_distinct v laid None h f g = h
+value_distinct v laid (Some w) h f g = f w g
+
+-- ---- whole trees
+
+whole_distinct : (ps qs : Pairs) → IsDistinct (hash ps) → IsDistinct (hash qs) → EachDistinct (pairs_under (pair_list_of qs) ps) → IsDistinct (overlay (hash ps) (hash qs))
+whole_distinct ps qs h g each =
+    let ts = pair_list_of ps in
+    let us = pair_list_of qs in
+    let under = pairs_under us ps in
+    let keys : AreDistinct (under ++ new_pairs ts us) =
+    AreDistinct-both ts under us (AreDistinct-under us ps h.0) (KeysWithin-under ts us ps (KeysWithin-itself ts)) g.0 in (
+      subst AreDistinct (sym (list_of_pairs (under ++ new_pairs ts us))) keys,
+      EachDistinct-pairs (under ++ new_pairs ts us) (EachDistinct-append under (new_pairs ts us) each (EachDistinct-new ts us (EachDistinct-list qs g.1))),
+    )
+
+mutual
+  pub overlay_distinct : (t u : Tree) → IsDistinct t → IsDistinct u → IsDistinct (overlay t u)
+  overlay_distinct (hash ps) (hash qs) h g = whole_distinct ps qs h g (under_distinct (pair_list_of qs) ps (EachDistinct-list qs g.1) h.1)
+  overlay_distinct t u h g = g
+
+  under_distinct : (us : List (Tree × Tree)) (ps : Pairs) → EachDistinct us → AllPairsDistinct ps → EachDistinct (pairs_under us ps)
+  under_distinct us no_pairs e h = tt
+  under_distinct us (pair k v ps) e h = (
+    (h.0, value_distinct v (overlay v) (lookup k us) h.1 (λ w g. overlay_distinct v w h.1 g) (EachDistinct-lookup k us e)),
+    under_distinct us ps e h.2,
+  )

@@ -1,0 +1,5 @@
+use Rattle.tree_defs.proofs.LinesLaws.{lines_of-ended}
+use Rattle.tree_defs.proofs.laws.lines_make_the_text.Goals as goal
+
+pub returns : goal.returns
+returns c = lines_of-ended
