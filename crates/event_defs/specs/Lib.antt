@@ -1,3 +1,14 @@
+pub mod Anchors
 pub mod Event
 pub mod Grammar
+pub mod Laws
+pub mod Names
+pub mod Nested
+pub mod NoAlias
+pub mod PulledList
+pub mod Push
 pub mod Raw
+pub mod Reading
+pub mod Scalar
+pub mod Stream
+pub mod Unfinished

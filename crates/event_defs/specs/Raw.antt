@@ -1,6 +1,6 @@
 -- The events that the token grammar gives, before names are resolved: anchors by name, tags as written, each
 -- document with its directives.
-use Rattle.std.specs.Prelude.{ℕ, Bool, true, false, List, Option}
+use Rattle.std.specs.Prelude.{ℕ, List, Option}
 use Rattle.token_defs.specs.Token.{Style}
 use Rattle.event_defs.specs.Event.{Tag}
 
