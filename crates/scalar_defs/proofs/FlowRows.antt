@@ -1,5 +1,5 @@
 -- Flow scalars and their values, by computing.
-use Rattle.std.proofs.Common.{◌≡◌, ℕ, List, [], ◌∷◌, ◌++◌, Some, None, refl}
+use Rattle.std.proofs.Common.{◌≡◌, [], ◌∷◌, Some, None, refl}
 use Rattle.std.specs.Prelude.{codes}
 use Rattle.scalar_defs.specs.Classes.{is_blank, is_break, is_nul, are_marks}
 use Rattle.scalar_defs.specs.FlowScalar.{plain_element, single_quoted_element, double_quoted_element, is_character_code, numeric_escape, escape, begins_with_marker, plain_value, single_quoted_value, double_quoted_value}
@@ -159,3 +159,7 @@ marker_first : single_quoted_value (codes "---\na") ≡ Some (codes "--- a")
 unfolding is_blank is_break is_nul are_marks plain_element single_quoted_element begins_with_marker single_quoted_value
 marker_first = refl
 
+-- escaped line feeds are no breaks, so no document marker stands here
+marker_between_escapes : double_quoted_value (codes "a\\n---\\nb") ≡ Some (codes "a\n---\nb")
+unfolding is_blank is_break is_nul are_marks plain_element double_quoted_element is_character_code numeric_escape escape begins_with_marker double_quoted_value
+marker_between_escapes = refl

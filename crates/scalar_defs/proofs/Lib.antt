@@ -1,1 +1,3 @@
+mod BlockRows
 mod FlowRows
+mod TagRows

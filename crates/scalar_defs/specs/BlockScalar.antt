@@ -3,8 +3,10 @@
 --
 -- Lines are given without their breaks. At the end of input this library has a rule of its own: a last line without a break that reaches the content column counts as one with a break.
 use Rattle.std.specs.Prelude.{ℕ, zero, suc, ◌+◌, ◌-◌, List, [], ◌∷◌, ◌++◌, Bool, true, false, ◌&&◌, ◌||◌, ◌==◌, not, max, nat_le, if◌then◌else◌, replicate, drop, length, Option, Some, None}
-use Rattle.scalar_defs.specs.Classes.{line_feed, space, tab, is_blank, is_break, is_between, is_document_marker}
+use Rattle.scalar_defs.specs.Classes.{line_feed, space, tab, is_blank, is_break, is_nul, is_between, is_document_marker}
+use Rattle.scalar_defs.specs.Breaks.{is_rest_of_line}
 
+-- how a block scalar is written: `|` or `>`
 pub data BlockStyle : Type 0 where
   literal : BlockStyle
   folded : BlockStyle
@@ -31,19 +33,11 @@ sign_of c = (if c == 45 then Some strip else (if c == 43 then Some keep else Non
 unfoldable pub digit_of : ℕ → Option ℕ
 digit_of c = (if is_between 49 57 c then Some (c - 48) else None)
 
--- whether blanks alone stand here, or blanks and a comment
-abbrev pub is_blanks_and_comment : List ℕ → Bool
-is_blanks_and_comment [] = true
-is_blanks_and_comment (c ∷ r) = (c == 35) || (is_blank c && is_blanks_and_comment r)
-
--- whether the text behind the indicators is empty, or a blank and then blanks and maybe a comment
-abbrev pub is_header_end : List ℕ → Bool
-is_header_end [] = true
-is_header_end (c ∷ r) = is_blank c && is_blanks_and_comment r
-
+-- a header, if nothing but blanks and a comment stands behind its indicators
 abbrev pub ended : Header → List ℕ → Option Header
-ended h r = (if is_header_end r then Some h else None)
+ended h r = (if is_rest_of_line r then Some h else None)
 
+-- behind a sign: what a character is that is a digit, or none
 abbrev pub digit_or_end : BlockStyle → Chomping → Option ℕ → ℕ → List ℕ → Option Header
 digit_or_end s ch (Some d) c r = ended (record { style = s; chomping = ch; digit = Some d }) r
 digit_or_end s ch None c r = ended (record { style = s; chomping = ch; digit = None }) (c ∷ r)
@@ -53,6 +47,7 @@ abbrev pub behind_sign : BlockStyle → Chomping → List ℕ → Option Header
 behind_sign s ch [] = Some (record { style = s; chomping = ch; digit = None })
 behind_sign s ch (c ∷ r) = digit_or_end s ch (digit_of c) c r
 
+-- behind a digit: what a character is that is a sign, or none
 abbrev pub sign_or_end : BlockStyle → ℕ → Option Chomping → ℕ → List ℕ → Option Header
 sign_or_end s d (Some ch) c r = ended (record { style = s; chomping = ch; digit = Some d }) r
 sign_or_end s d None c r = ended (record { style = s; chomping = clip; digit = Some d }) (c ∷ r)
@@ -62,11 +57,13 @@ abbrev pub behind_digit : BlockStyle → ℕ → List ℕ → Option Header
 behind_digit s d [] = Some (record { style = s; chomping = clip; digit = Some d })
 behind_digit s d (c ∷ r) = sign_or_end s d (sign_of c) c r
 
+-- the first character behind the style, by what it is: a sign, a digit, or neither
 abbrev pub first_indicator : BlockStyle → Option Chomping → Option ℕ → ℕ → List ℕ → Option Header
 first_indicator s (Some ch) _ c r = behind_sign s ch r
 first_indicator s None (Some d) c r = behind_digit s d r
 first_indicator s None None c r = ended (record { style = s; chomping = clip; digit = None }) (c ∷ r)
 
+-- behind the style: the indicators
 abbrev pub behind_style : BlockStyle → List ℕ → Option Header
 behind_style s [] = Some (record { style = s; chomping = clip; digit = None })
 behind_style s (c ∷ r) = first_indicator s (sign_of c) (digit_of c) c r
@@ -115,6 +112,7 @@ abbrev pub digit_base : (collection : Option ℕ) → ℕ
 digit_base None = 0
 digit_base (Some n) = n
 
+-- the content column with a digit, and without one
 abbrev pub column_by : (digit : Option ℕ) → (collection : Option ℕ) → List (List ℕ) → ℕ
 column_by (Some d) collection lines = digit_base collection + d
 column_by None collection lines = max (deepest_start lines) (least_column collection)
@@ -143,9 +141,11 @@ is_empty_line column l = is_spaces l && nat_le (length l) column
 unfoldable pub is_content_line : (column : ℕ) → List ℕ → Bool
 is_content_line column l = nat_le column (leading_spaces l) && nat_le (suc column) (length l) && not ((column == 0) && is_document_marker l)
 
+-- what a line is, if it is one of the scalar's
 unfoldable pub row_of : (column : ℕ) → List ℕ → Option Row
 row_of column l = (if is_empty_line column l then Some empty_row else (if is_content_line column l then Some (content_row (drop column l)) else None))
 
+-- a line before others, if all are the scalar's
 abbrev pub put_row : Option Row → Option (List Row) → Option (List Row)
 put_row (Some r) (Some rs) = Some (r ∷ rs)
 put_row _ _ = None
@@ -223,9 +223,11 @@ nothing_before_end keep n = breaks (max n 1)
 
 -- ---- the value
 
+-- the value of lines with content: their text, and what chomping leaves behind it
 abbrev pub with_content : Header → (added : ℕ) → List Row → List ℕ
 with_content h added rows = text_of h.style rows ++ tail h.chomping added (empty_behind 0 rows)
 
+-- the value of lines before further text
 abbrev pub value_before_text : Header → List Row → List ℕ
 value_before_text h rows = (if has_content rows then with_content h 0 rows else nothing_before_text h.chomping (length rows))
 
@@ -235,10 +237,12 @@ value_before_end h column rows last (content_row l) = with_content h 0 (rows ++ 
 value_before_end h column rows last empty_row =
     (if has_content rows then with_content h (if nat_le (max column 1) (length last) then 1 else 0) rows else nothing_before_end h.chomping (length rows))
 
+-- the value of lines at the end of input, if each is one of the scalar's
 abbrev pub value_at_end : Header → (column : ℕ) → (last : List ℕ) → Option (List Row) → Option Row → Option (List ℕ)
 value_at_end h column last (Some rows) (Some r) = Some (value_before_end h column rows last r)
 value_at_end h column last _ _ = None
 
+-- the value of lines before further text, if each is one of the scalar's
 abbrev pub value_at_text : Header → Option (List Row) → Option (List ℕ)
 value_at_text h (Some rows) = Some (value_before_text h rows)
 value_at_text h None = None
@@ -261,8 +265,13 @@ block_value h collection (body lines ending) =
 
 -- ---- where a block scalar ends
 
--- Whether a text that stands behind a block scalar's last break is none of its lines: its first character that is no space stands before the content column and is no break and not the end; in column 0 it may be a document marker.
-abbrev pub is_further_from : (column : ℕ) → List ℕ → Bool
-is_further_from column [] = false
-is_further_from zero (c ∷ r) = is_document_marker (c ∷ r)
-is_further_from (suc n) (c ∷ r) = (if c == space then is_further_from n r else not (is_break c) && not (c == 0))
+-- whether a text's first character that is no space stands before a column, and is neither a break nor the end
+abbrev pub is_outside : (column : ℕ) → List ℕ → Bool
+is_outside zero r = false
+is_outside (suc n) [] = false
+is_outside (suc n) (c ∷ r) = (if c == space then is_outside n r else not (is_break c) && not (is_nul c))
+
+-- Whether a text that stands directly behind a block scalar's last break is further text: it stands before the content column, or is a document marker where that is column 0.
+abbrev pub is_further_text : (column : ℕ) → List ℕ → Bool
+is_further_text zero r = is_document_marker r
+is_further_text (suc n) r = is_outside (suc n) r

@@ -5,7 +5,8 @@
 -- Its lines lose the blanks around their breaks, and are then folded: a break is a space, or a line feed for each empty line behind it.
 use Rattle.std.specs.Prelude.{ℕ, zero, suc, ◌+◌, ◌*◌, List, [], ◌∷◌, ◌++◌, Bool, true, false, ◌&&◌, ◌||◌, ◌==◌, not, nat_le, if◌then◌else◌, replicate, take, length, Option, Some, None}
 use Rattle.std.specs.Char.{digit_value, is_digit}
-use Rattle.scalar_defs.specs.Classes.{line_feed, carriage_return, space, backslash, double_quote, single_quote, is_blank, is_break, is_nul, is_between, are_marks}
+use Rattle.scalar_defs.specs.Classes.{line_feed, space, backslash, double_quote, single_quote, is_blank, is_break, is_nul, is_between, are_marks}
+use Rattle.scalar_defs.specs.Breaks.{is_before_line_feed}
 
 -- ---- what a body is made of
 
@@ -21,13 +22,13 @@ pub record Spelled : Type 0 where
   pub element : Element
   pub further : ℕ
 
+-- an element of one character
 abbrev pub alone : Element → Option Spelled
 alone e = Some (record { element = e; further = 0 })
 
 -- how many characters behind its first one a break has: one, the line feed of CR LF
 abbrev pub break_further : ℕ → List ℕ → ℕ
-break_further c [] = 0
-break_further c (d ∷ r) = (if (c == carriage_return) && (d == line_feed) then 1 else 0)
+break_further c r = (if is_before_line_feed c r then 1 else 0)
 
 -- a character that means itself
 unfoldable pub plain_element : ℕ → List ℕ → Option Spelled
@@ -54,32 +55,32 @@ single_quoted_element c r =
 -- the escapes of one character: the character behind the backslash, and the code it stands for
 abbrev pub escapes : List (ℕ × ℕ)
 escapes =
-    (48, 0x00) ∷       -- 0
-    (97, 0x07) ∷       -- a, the bell
-    (98, 0x08) ∷       -- b, backspace
-    (116, 0x09) ∷      -- t, horizontal tab
-    (9, 0x09) ∷        -- a TAB itself
-    (110, 0x0A) ∷      -- n, line feed
-    (118, 0x0B) ∷      -- v, vertical tab
-    (102, 0x0C) ∷      -- f, form feed
-    (114, 0x0D) ∷      -- r, carriage return
-    (101, 0x1B) ∷      -- e, escape
-    (32, 0x20) ∷       -- a space itself
-    (34, 0x22) ∷       -- the double quote
-    (47, 0x2F) ∷       -- the slash
-    (92, 0x5C) ∷       -- the backslash
-    (78, 0x85) ∷       -- N, next line
-    (95, 0xA0) ∷       -- _, non-breaking space
-    (76, 0x2028) ∷     -- L, line separator
-    (80, 0x2029) ∷     -- P, paragraph separator
+    (48, 0x00) ∷  -- 0
+    (97, 0x07) ∷  -- a, the bell
+    (98, 0x08) ∷  -- b, backspace
+    (116, 0x09) ∷  -- t, horizontal tab
+    (9, 0x09) ∷  -- a TAB itself
+    (110, 0x0A) ∷  -- n, line feed
+    (118, 0x0B) ∷  -- v, vertical tab
+    (102, 0x0C) ∷  -- f, form feed
+    (114, 0x0D) ∷  -- r, carriage return
+    (101, 0x1B) ∷  -- e, escape
+    (32, 0x20) ∷  -- a space itself
+    (34, 0x22) ∷  -- the double quote
+    (47, 0x2F) ∷  -- the slash
+    (92, 0x5C) ∷  -- the backslash
+    (78, 0x85) ∷  -- N, next line
+    (95, 0xA0) ∷  -- _, non-breaking space
+    (76, 0x2028) ∷  -- L, line separator
+    (80, 0x2029) ∷  -- P, paragraph separator
     []
 
 -- the escapes by number: the letter behind the backslash, and how many hexadecimal digits follow it
 abbrev pub numeric_escapes : List (ℕ × ℕ)
 numeric_escapes =
-    (120, 2) ∷         -- x
-    (117, 4) ∷         -- u
-    (85, 8) ∷          -- U
+    (120, 2) ∷  -- x
+    (117, 4) ∷  -- u
+    (85, 8) ∷  -- U
     []
 
 -- what stands beside a number in such a table
@@ -96,6 +97,7 @@ hexadecimal n (c ∷ cs) = (if is_digit c 16 then hexadecimal (n * 16 + digit_va
 unfoldable pub is_character_code : ℕ → Bool
 is_character_code n = nat_le n 0x10FFFF && not (is_between 0xD800 0xDFFF n)
 
+-- the character of a code that so many digits write
 abbrev pub numbered : (digits : ℕ) → Option ℕ → Option Spelled
 numbered digits None = None
 numbered digits (Some n) = (if is_character_code n then Some (record { element = content n; further = suc digits }) else None)
@@ -104,6 +106,7 @@ numbered digits (Some n) = (if is_character_code n then Some (record { element =
 unfoldable pub numeric_escape : (digits : ℕ) → List ℕ → Option Spelled
 numeric_escape digits r = (if length (take digits r) == digits then numbered digits (hexadecimal 0 (take digits r)) else None)
 
+-- an escape of one character, or one by number
 abbrev pub escape_by : Option ℕ → Option ℕ → List ℕ → Option Spelled
 escape_by (Some code) _ r = Some (record { element = content code; further = 1 })
 escape_by None (Some digits) r = numeric_escape digits r
@@ -125,6 +128,7 @@ double_quoted_element c r =
 
 -- ---- a body's elements
 
+-- an element before others
 abbrev pub put_before : Element → Option (List Element) → Option (List Element)
 put_before e None = None
 put_before e (Some es) = Some (e ∷ es)
@@ -152,6 +156,7 @@ abbrev pub begun_with : Element → Lines → Lines
 begun_with e (last_line l) = last_line (e ∷ l)
 begun_with e (line l escaped ls) = line (e ∷ l) escaped ls
 
+-- the lines of elements
 abbrev pub lines_of : List Element → Lines
 lines_of [] = last_line []
 lines_of (line_break ∷ es) = line [] false (lines_of es)
@@ -230,10 +235,12 @@ has_document_marker (c ∷ r) = (is_break c && begins_with_marker r) || has_docu
 
 -- ---- the value
 
+-- the text of a body's elements
 abbrev pub folded_elements : Option (List Element) → Option (List ℕ)
 folded_elements None = None
 folded_elements (Some es) = Some (folded (trimmed (lines_of es)))
 
+-- the value of a body, by how its elements are read
 abbrev pub value_by : (ℕ → List ℕ → Option Spelled) → List ℕ → Option (List ℕ)
 value_by at body = (if has_document_marker body then None else folded_elements (elements at 0 body))
 

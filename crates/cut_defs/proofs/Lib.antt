@@ -1,0 +1,8 @@
+pub mod Append
+mod DroppedLine
+pub mod Inserted
+pub mod InsertedPair
+mod Limits
+mod Rows
+pub mod Shown
+mod WrongPair

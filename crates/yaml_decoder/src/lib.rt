@@ -1,0 +1,2 @@
+//! Definitions.
+#![tactic(auto)]
