@@ -1,0 +1,4 @@
+pub mod JsonTokens
+pub mod LayoutTokens
+pub mod QuotedText
+pub mod WideTokens
