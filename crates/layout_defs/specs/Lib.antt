@@ -1,5 +1,6 @@
 pub mod Anchored
 pub mod BlockLines
+pub mod DumpIsInjective
 pub mod DumpIsLaidOut
 pub mod Gap
 pub mod Json

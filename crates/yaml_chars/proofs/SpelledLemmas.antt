@@ -53,10 +53,10 @@ module _ {S : Type 0} (steps : S → Option ℕ → S → Type 0) where
   Begins-spelled {P = P} all it always b =
       let ended : b.done ≡ true → up_to_nul all ≡ b.taken = λ d. let e = b.came.ended d in spelled-whole b.taken all it _ _ always e.2 e.3 b.no_nul in
       b.holds (up_to_nul all) (begins b.done b.came ended) ended
-      where
-        begins : (done : Bool) → CameFrom steps it b.taken done → (done ≡ true → up_to_nul all ≡ b.taken) → take (length b.taken) (up_to_nul all) ≡ b.taken
-        begins true came ended = rw (ended refl) (take-length b.taken)
-        begins false came ended = let y = came.going refl in spelled-begins b.taken all it y.0 always y.1 b.no_nul
+    where
+      begins : (done : Bool) → CameFrom steps it b.taken done → (done ≡ true → up_to_nul all ≡ b.taken) → take (length b.taken) (up_to_nul all) ≡ b.taken
+      begins true came ended = rw (ended refl) (take-length b.taken)
+      begins false came ended = let y = came.going refl in spelled-begins b.taken all it y.0 always y.1 b.no_nul
 
 -- the characters of a text
 pub Chars-spelled : (it : Chars) (bs : List ℕ) → IsUtf8 bs → chars_rest it ≡ bs → AlwaysYields chars_steps (λ c. c) it (chars bs)

@@ -27,8 +27,14 @@ impl<T: Iterator<Item = char>> Model for Window<T> {
     ghost Value = { Reading T };
 
     ghost view = { λ s. record {
-        start = s.source.start; taken = s.source.taken; done = s.source.done; at = s.index; ahead = list_len s.ring;
-        left = (list_len s.source.taken - s.index) + s.source.left; line = s.line; col = s.col
+      start = s.source.start;
+      taken = s.source.taken;
+      done = s.source.done;
+      at = s.index;
+      ahead = list_len s.ring;
+      left = (list_len s.source.taken - s.index) + s.source.left;
+      line = s.line;
+      col = s.col;
     } };
 
     ghost invariant = { λ s. Fills s.source s.ring s.index s.line s.col };

@@ -69,7 +69,7 @@ push_keeps w v t e h = rw (e, map-append shown w (t ∷ []), has_end_append (map
 pub insert_keeps : (w v : List Token) (i : ℕ) (t : Token) → v ≡ insert w i t → has_end (map shown w) ≡ true → has_end (map shown v) ≡ true
 insert_keeps w v i t e h =
     let parts : has_end (map shown (take i w)) || has_end (map shown (drop i w)) ≡ true =
-        sym (ap (λ xs. has_end (map shown xs)) (sym (take-append-drop i w)) ∙ ap has_end (map-append shown (take i w) (drop i w)) ∙ has_end_append (map shown (take i w)) (map shown (drop i w))) ∙ h in
+    sym (ap (λ xs. has_end (map shown xs)) (sym (take-append-drop i w)) ∙ ap has_end (map-append shown (take i w) (drop i w)) ∙ has_end_append (map shown (take i w)) (map shown (drop i w))) ∙ h in
     rw (e, map-append shown (take i w) (t ∷ drop i w), has_end_append (map shown (take i w)) (map shown (t ∷ drop i w))) (between (has_end (map shown (take i w))) (is_end (shown t).tok) (has_end (map shown (drop i w))) parts)
   where
     between : (a b c : Bool) → a || c ≡ true → a || (b || c) ≡ true

@@ -47,7 +47,10 @@ impl<T: Iterator<Item = char>> Scanner<T> {
         if !self.key_allowed {
             return Err(Fault::At(Problem::BlockEntryNotAllowed, mark));
         }
-        if let Some(Token(place, TokenType::Anchor(_) | TokenType::Tag(_, _))) = self.tokens.back() {
+        if let Some(Token(place, TokenType::Anchor(_) | TokenType::Tag(_, _))) = self
+            .tokens
+            .back()
+        {
             if mark.col() == 0 && place.col() == 0 && self.indent > 0 {
                 return Err(Fault::At(Problem::AnchorIndentation, *place));
             }
@@ -125,7 +128,8 @@ impl<T: Iterator<Item = char>> Scanner<T> {
         ensures run { Fetches self.old self.new }
         ensures moves { OnOk result (Moves self.old self.new 5 0) }
     {
-        self.tokens.insert(key.place, Token(key.mark, TokenType::Key))?;
+        self.tokens
+            .insert(key.place, Token(key.mark, TokenType::Key))?;
         if opens_pair {
             if key.mark.line() < mark.line() {
                 return Err(Fault::At(Problem::ColonMisplaced, mark));

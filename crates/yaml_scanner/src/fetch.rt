@@ -5,8 +5,10 @@ ghost use Rattle.yaml_scanner.specs.Work.{Moves, Fetches, HasChars, work};
 
 use crate::scanner::Scanner;
 use yaml_chars::class::{is_blank_or_breakz, is_breakz, is_flow};
-use yaml_scalars::{Context, SkipTabs, read_anchor_name, read_block_scalar, read_directive};
-use yaml_scalars::{read_plain, read_quoted, read_tag};
+use yaml_scalars::{
+    Context, SkipTabs, read_anchor_name, read_block_scalar, read_directive, read_plain,
+    read_quoted, read_tag,
+};
 use yaml_tokens::{Fault, Problem, TEncoding, TScalarStyle, TokenType};
 
 // No line is longer than a text.
@@ -194,10 +196,7 @@ impl<T: Iterator<Item = char>> Scanner<T> {
         self.fetch_document_marker(TokenType::DocumentEnd)?;
         let _ = self.skip_spaces(SkipTabs::Yes)?;
         if !is_breakz(self.window.ch()) {
-            return Err(Fault::At(
-                Problem::ContentAfterDocumentEnd,
-                self.window.mark(),
-            ));
+            return Err(Fault::At(Problem::ContentAfterDocumentEnd, self.window.mark()));
         }
         Ok(())
     }

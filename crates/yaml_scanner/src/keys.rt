@@ -72,7 +72,9 @@ impl SimpleKeys {
 
     /// Whether some key must still come to its `:`.
     pub fn has_required(&self) -> bool {
-        self.levels.iter().any(|level| matches!(level, Some(key) if key.required))
+        self.levels
+            .iter()
+            .any(|level| matches!(level, Some(key) if key.required))
     }
 
     /// No key is open any more.
@@ -84,7 +86,9 @@ impl SimpleKeys {
 
     /// Whether a key may still come before the next token.
     pub fn may_precede(&self) -> bool {
-        self.levels.iter().any(|level| matches!(level, Some(key) if key.place == 0))
+        self.levels
+            .iter()
+            .any(|level| matches!(level, Some(key) if key.place == 0))
     }
 
     /// The next token was handed out.

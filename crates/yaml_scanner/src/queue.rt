@@ -6,8 +6,8 @@ ghost use Rattle.yaml_scanner.specs.Tokens.{handed, waiting, is_end, end_at};
 use std::alloc::{AllocError, Global};
 use std::collections::VecDeque;
 use std::marker::Model;
-use yaml_chars::history::History;
 use yaml_chars::Marker;
+use yaml_chars::history::History;
 use yaml_tokens::{Token, TokenType};
 
 /// The tokens that wait to be handed out. Clauses see all so far, those handed out among them.
@@ -90,7 +90,9 @@ impl Queue {
         ensures handed { handed self.new ≡ handed self.old }
         ensures more { waiting self.new ≤ waiting self.old + 1 }
     {
-        self.waiting.push_back(stream_end(mark)).map_err(|_| AllocError)?;
+        self.waiting
+            .push_back(stream_end(mark))
+            .map_err(|_| AllocError)?;
         self.ended = true;
         Ok(())
     }

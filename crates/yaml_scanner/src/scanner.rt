@@ -1,4 +1,4 @@
-ghost use Rattle.std.specs.Prelude.{◌≡◌, ◌^◌, ◌<◌};
+ghost use Rattle.std.specs.Prelude.{◌≡◌, ◌^◌, ◌<◌, [], None, false};
 ghost use Rattle.std.specs.Iterator.{IsFinite, size};
 
 use crate::indents::Indent;
@@ -51,11 +51,17 @@ pub struct Scanner<T: Iterator<Item = char>> {
 }
 
 impl<T: Iterator<Item = char>> Scanner<T> {
+    ghost use Rattle.yaml_scanner.specs.Scanned.{scanned};
+
     /// A scanner of the characters of an iterator, up to its end or to a NUL.
     pub fn new(alloc: Global, iter: T) -> Scanner<T>
         requires can { T.can_next iter }
         requires finite { IsFinite (T.remaining iter) }
         requires few { size (T.remaining iter) < 2 ^ 63 }
+        ensures given { (scanned result).given ≡ [] }
+        ensures fault { (scanned result).fault ≡ None }
+        ensures started { (scanned result).started ≡ false }
+        ensures ended { (scanned result).ended ≡ false }
     {
         Scanner {
             alloc,

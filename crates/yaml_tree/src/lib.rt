@@ -1,2 +1,23 @@
-//! To be written.
+//! YAML trees: nodes, arrays and hashes, their order, and what a plain text stands for.
 #![tactic(auto)]
+
+pub mod array;
+mod compare;
+mod content;
+mod copy;
+mod debug;
+mod discard;
+pub mod entries;
+mod feed;
+pub mod hash;
+pub mod items;
+mod lookup;
+mod place;
+mod typing;
+pub mod yaml;
+
+pub use array::Array;
+pub use hash::Hash;
+pub use items::YamlIter;
+pub use typing::is_real;
+pub use yaml::Yaml;

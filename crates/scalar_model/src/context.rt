@@ -1,0 +1,21 @@
+/// What surrounds a flow scalar: whether it stands inside a flow collection, and the innermost
+/// block collection's column counted from 1, 0 where none is open.
+#[derive(Clone, Copy)]
+pub struct Context {
+    pub flow: bool,
+    pub indent: usize,
+}
+
+/// Whether TABs are stepped over as spaces are.
+#[derive(Clone, Copy, PartialEq, Eq)]
+pub enum SkipTabs {
+    Yes,
+    No,
+}
+
+/// What was stepped over before a token: whether TABs, and whether spaces.
+#[derive(Clone, Copy, PartialEq, Eq)]
+pub struct Whitespace {
+    pub found_tabs: bool,
+    pub has_valid_yaml_ws: bool,
+}

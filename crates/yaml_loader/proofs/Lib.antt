@@ -1,0 +1,7 @@
+pub mod AliasLemmas
+pub mod GoOnAlike
+pub mod LastPair
+pub mod OpenedLemmas
+pub mod Reals
+pub mod Tags
+pub mod Words

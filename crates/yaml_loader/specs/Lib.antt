@@ -1,0 +1,4 @@
+pub mod Alike
+pub mod Loading
+pub mod Reached
+pub mod View

@@ -1,0 +1,15 @@
+//! YAML 1.2 for Rattle: text to trees, text to events with their places, and tokens.
+//!
+//! - `YamlLoader::load_from_str(alloc, text)` gives the trees of all documents.
+//! - `parser::Parser` gives events, pulled by `next_token` or pushed into a receiver by `load`.
+//! - `scanner::Scanner` gives tokens.
+#![tactic(auto)]
+
+pub mod parser;
+pub mod scanner;
+pub mod yaml;
+
+pub use yaml_loader::YamlLoader;
+pub use yaml_parser::Event;
+pub use yaml_tokens::ScanError;
+pub use yaml_tree::Yaml;

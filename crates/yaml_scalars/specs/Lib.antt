@@ -1,0 +1,4 @@
+pub mod Shown
+pub mod ShownQuoted
+pub mod ShownBlock
+pub mod ShownTag

@@ -1,0 +1,22 @@
+-- What the code of flow scalars holds, as the model's states.
+use Rattle.std.specs.Prelude.{ℕ, List}
+use Rattle.yaml_chars.specs.Reading.{Reading, place_of}
+use Rattle.yaml_chars.specs.Text.{string_chars}
+use Rattle.yaml_scalars.specs.declared.folding.Folding.{Folding}
+use Rattle.yaml_scalars.specs.declared.plain.Plain as code
+use Rattle.scalar_model.specs.Machine.{Read}
+use Rattle.scalar_model.specs.Folding.{Folded}
+use Rattle.scalar_model.specs.Plain.{Mode, State, Plain}
+
+abbrev pub folded : Folding → Folded
+folded p = record { text = p.text; gap = p.gap; leading = p.leading; escaped = p.escaped }
+
+abbrev pub at : {T : Type 0} → Mode → Reading T → Folding → State
+at mode w p = record { mode = mode; place = place_of w; folded = folded p }
+
+abbrev pub plain_shown : code.Plain → Plain
+plain_shown s = record { text = string_chars s.text; leading = s.leading }
+
+-- what is left behind a function
+abbrev pub read : {T A : Type 0} → List ℕ → Reading T → A → Read A
+read b w x = record { rest = b; place = place_of w; value = x }

@@ -1,0 +1,42 @@
+-- What the code of quoted scalars holds, as the model's states.
+use Rattle.std.specs.Prelude.{ℕ}
+use Rattle.yaml_chars.specs.Reading.{Reading, place_of}
+use Rattle.yaml_scalars.specs.declared.folding.Folding.{Folding}
+use Rattle.yaml_scalars.specs.declared.quoted.Part.{Part}
+use Rattle.yaml_scalars.specs.declared.quoted.Part.TheVariants as part
+use Rattle.yaml_scalars.specs.declared.escape.Escape as code
+use Rattle.yaml_scalars.specs.declared.escape.Escape.TheVariants.{Char, Code, Unknown}
+use Rattle.yaml_scalars.specs.declared.escape.Digits.{Digits}
+use Rattle.yaml_scalars.specs.declared.escape.Digits.TheVariants.{Two, Four, Eight}
+use Rattle.yaml_scalars.specs.Shown.{folded}
+use Rattle.scalar_model.specs.Quoted.{Mode, State, Escape, first, inside, gap, breaking, behind, doubled, named, closed}
+
+abbrev pub mode_of : Part → Mode
+mode_of part.First = first
+mode_of part.Inside = inside
+mode_of part.Gap = gap
+mode_of part.Breaking = breaking
+mode_of part.Behind = behind
+mode_of part.Doubled = doubled
+mode_of part.Named = named
+mode_of part.Closed = closed
+
+abbrev pub at : {T : Type 0} → Mode → Reading T → Folding → State
+at mode w p = record { mode = mode; place = place_of w; folded = folded p }
+
+-- how many digits a code has behind the first
+abbrev pub more_of : Digits → ℕ
+more_of Two = 1
+more_of Four = 3
+more_of Eight = 7
+
+abbrev pub escape_shown : code.Escape → Escape
+escape_shown (Char c) = Escape.char c
+escape_shown (Code digits) = Escape.code (more_of digits)
+escape_shown Unknown = Escape.unknown
+
+-- how many digits a code has
+abbrev pub count_of : Digits → ℕ
+count_of Two = 2
+count_of Four = 4
+count_of Eight = 8

@@ -1,0 +1,388 @@
+//! Quoted scalars (YAML 1.2, sections 7.3.1 and 7.3.2).
+ghost use Rattle.std.specs.Prelude.{◌≡◌, ◌≢◌, ◌≤◌, ◌<◌, ◌==◌, ◌||◌, true, false, Ok, Err, OnOk, OnErr, IfOk, IfErr, slice_index};
+ghost use Rattle.yaml_chars.specs.Class.{is_blank, is_break};
+ghost use Rattle.yaml_chars.specs.Reading.{Reads, Sees, HasChar, SamePlace, place_of};
+ghost use Rattle.yaml_chars.specs.Text.{string_chars};
+ghost use Rattle.scalar_model.specs.Quoted.{quote_of, refused, quoted, quoted_from, first, inside, gap, breaking, behind, doubled, named, closed};
+ghost use Rattle.yaml_scalars.specs.Shown.{read};
+ghost use Rattle.yaml_scalars.specs.ShownQuoted.{at, mode_of};
+
+use crate::escape::read_named;
+use crate::folding::Folding;
+use crate::plain::at_marker;
+use scalar_model::Context;
+use std::alloc::{AllocError, Global};
+use yaml_chars::class::{is_blank, is_break};
+use yaml_chars::{Marker, Window};
+use yaml_tokens::{Fault, Problem};
+
+/// What stands next in a quoted scalar: its first character, the next one of a line, what comes in
+/// or behind a gap of blanks and breaks, an escaped break, what comes behind that, a second quote,
+/// what a backslash names, or what comes behind the closing quote.
+#[derive(Clone, Copy, PartialEq, Eq)]
+pub(crate) enum Part {
+    First,
+    Inside,
+    Gap,
+    Breaking,
+    Behind,
+    Doubled,
+    Named,
+    Closed,
+}
+
+fn quote_of(single: bool) -> char
+    ensures value { result ≡ quote_of single }
+    ensures some { result ≢ 0 }
+{
+    if single { '\'' } else { '"' }
+}
+
+/// Refuses a document marker and a line that stands too far left.
+#[tactic(auto, unfolding(scalar_model::specs::Quoted::refused))]
+fn check_line<T: Iterator<Item = char>>(
+    window: &Window<T>,
+    context: Context,
+    start: Marker,
+) -> Result<(), Fault>
+    requires { 4 ≤ window.now.ahead }
+    ensures { Sees window.now (λ a. result ≡ refused context start a (place_of window.now)) }
+{
+    if at_marker(window) {
+        return Err(Fault::At(Problem::QuotedDocumentMarker, start));
+    }
+    if window.mark().col() + 1 < context.indent {
+        return Err(Fault::At(Problem::QuotedIndentation, start));
+    }
+    Ok(())
+}
+
+/// Reads a blank or a break.
+fn read_gap<T: Iterator<Item = char>>(
+    window: &mut Window<T>,
+    single: bool,
+    context: Context,
+    start: Marker,
+    c: char,
+    scalar: &mut Folding,
+) -> Result<(), Fault>
+    requires blank { (is_break c || is_blank c) ≡ true }
+    requires here { Sees window.old (λ a. c ≡ slice_index a 0) }
+    requires has { HasChar window.old }
+    requires ahead { 2 ≤ window.old.ahead }
+    ensures ok { OnOk result (Reads window.old window.new (λ a b.
+        quoted_from single context start a (at gap window.old scalar.old) ≡ quoted_from single context start b (at gap window.new scalar.new))) }
+    ensures err { IfErr result (λ e. Reads window.old window.new (λ a b. e ≢ Fault.OutOfMemory →
+        quoted_from single context start a (at gap window.old scalar.old) ≡ Err e)) }
+    ensures less { OnOk result (window.new.left < window.old.left) }
+{
+    let _ = single;
+    let _ = start;
+    if is_break(c) {
+        if c == '\r' && window.peek(1) == '\n' {
+            window.skip();
+        } else {
+            window.skip_break();
+            scalar.add_break()?;
+        }
+    } else if scalar.leading && c == '\t' && window.mark().col() + 1 < context.indent {
+        return Err(Fault::At(Problem::TabAsIndentation, window.mark()));
+    } else {
+        window.skip();
+        scalar.add_blank(c)?;
+    }
+    Ok(())
+}
+
+/// Reads a character that is no blank and no break.
+fn read_inside<T: Iterator<Item = char>>(
+    window: &mut Window<T>,
+    single: bool,
+    context: Context,
+    start: Marker,
+    c: char,
+    scalar: &mut Folding,
+) -> Result<Part, Fault>
+    requires other { (is_break c || is_blank c) ≡ false }
+    requires here { Sees window.old (λ a. c ≡ slice_index a 0) }
+    requires has { HasChar window.old }
+    requires ahead { 2 ≤ window.old.ahead }
+    ensures ok { IfOk result (λ next. Reads window.old window.new (λ a b.
+        quoted_from single context start a (at inside window.old scalar.old) ≡ quoted_from single context start b (at (mode_of next) window.new scalar.new))) }
+    ensures err { IfErr result (λ e. Reads window.old window.new (λ a b. e ≢ Fault.OutOfMemory →
+        quoted_from single context start a (at inside window.old scalar.old) ≡ Err e)) }
+    ensures less { OnOk result (window.new.left < window.old.left) }
+{
+    let _ = context;
+    let _ = start;
+    if c == '\\' && !single {
+        let breaks = is_break(window.peek(1));
+        window.skip();
+        return Ok(if breaks { Part::Breaking } else { Part::Named });
+    }
+    if c == quote_of(single) {
+        let doubled = single && window.peek(1) == '\'';
+        window.skip();
+        return Ok(if doubled { Part::Doubled } else { Part::Closed });
+    }
+    scalar.push(c)?;
+    window.skip();
+    Ok(Part::Inside)
+}
+
+/// Reads a character of a line.
+#[tactic(auto, using(scalar_model::proofs::QuotedLemmas::inside_gap))]
+fn read_in_line<T: Iterator<Item = char>>(
+    window: &mut Window<T>,
+    single: bool,
+    context: Context,
+    start: Marker,
+    c: char,
+    scalar: &mut Folding,
+) -> Result<Part, Fault>
+    requires here { Sees window.old (λ a. c ≡ slice_index a 0) }
+    requires has { HasChar window.old }
+    requires ahead { 2 ≤ window.old.ahead }
+    ensures ok { IfOk result (λ next. Reads window.old window.new (λ a b.
+        quoted_from single context start a (at inside window.old scalar.old) ≡ quoted_from single context start b (at (mode_of next) window.new scalar.new))) }
+    ensures err { IfErr result (λ e. Reads window.old window.new (λ a b. e ≢ Fault.OutOfMemory →
+        quoted_from single context start a (at inside window.old scalar.old) ≡ Err e)) }
+    ensures less { OnOk result (window.new.left < window.old.left) }
+{
+    if is_break(c) || is_blank(c) {
+        return match read_gap(window, single, context, start, c, scalar) {
+            Ok(()) => Ok(Part::Gap),
+            Err(fault) => Err(fault),
+        };
+    }
+    read_inside(window, single, context, start, c, scalar)
+}
+
+/// Reads the first character of a line, or one behind a gap.
+#[tactic(auto, using(scalar_model::proofs::QuotedLemmas::line_inside, scalar_model::proofs::QuotedLemmas::line_fails))]
+fn read_line<T: Iterator<Item = char>>(
+    window: &mut Window<T>,
+    single: bool,
+    context: Context,
+    start: Marker,
+    c: char,
+    scalar: &mut Folding,
+) -> Result<Part, Fault>
+    requires some { c ≢ 0 }
+    requires here { Sees window.old (λ a. c ≡ slice_index a 0) }
+    requires has { HasChar window.old }
+    requires ahead { 4 ≤ window.old.ahead }
+    ensures ok { IfOk result (λ next. Reads window.old window.new (λ a b.
+        quoted_from single context start a (at first window.old scalar.old) ≡ quoted_from single context start b (at (mode_of next) window.new scalar.new))) }
+    ensures err { IfErr result (λ e. Reads window.old window.new (λ a b. e ≢ Fault.OutOfMemory →
+        quoted_from single context start a (at first window.old scalar.old) ≡ Err e)) }
+    ensures less { OnOk result (window.new.left < window.old.left) }
+{
+    if let Err(fault) = check_line(window, context, start) {
+        return Err(fault);
+    }
+    scalar.join()?;
+    read_in_line(window, single, context, start, c, scalar)
+}
+
+/// Reads a character in a gap, or the one behind it.
+#[tactic(auto, using(scalar_model::proofs::QuotedLemmas::gap_line))]
+fn read_in_gap<T: Iterator<Item = char>>(
+    window: &mut Window<T>,
+    single: bool,
+    context: Context,
+    start: Marker,
+    c: char,
+    scalar: &mut Folding,
+) -> Result<Part, Fault>
+    requires some { c ≢ 0 }
+    requires here { Sees window.old (λ a. c ≡ slice_index a 0) }
+    requires has { HasChar window.old }
+    requires ahead { 4 ≤ window.old.ahead }
+    ensures ok { IfOk result (λ next. Reads window.old window.new (λ a b.
+        quoted_from single context start a (at gap window.old scalar.old) ≡ quoted_from single context start b (at (mode_of next) window.new scalar.new))) }
+    ensures err { IfErr result (λ e. Reads window.old window.new (λ a b. e ≢ Fault.OutOfMemory →
+        quoted_from single context start a (at gap window.old scalar.old) ≡ Err e)) }
+    ensures less { OnOk result (window.new.left < window.old.left) }
+{
+    if is_break(c) || is_blank(c) {
+        return match read_gap(window, single, context, start, c, scalar) {
+            Ok(()) => Ok(Part::Gap),
+            Err(fault) => Err(fault),
+        };
+    }
+    read_line(window, single, context, start, c, scalar)
+}
+
+/// Reads a character behind an escaped break.
+#[tactic(auto, using(scalar_model::proofs::QuotedLemmas::behind_quote, scalar_model::proofs::QuotedLemmas::behind_gap))]
+fn read_behind<T: Iterator<Item = char>>(
+    window: &mut Window<T>,
+    single: bool,
+    context: Context,
+    start: Marker,
+    c: char,
+    scalar: &mut Folding,
+) -> Result<Part, Fault>
+    requires some { c ≢ 0 }
+    requires here { Sees window.old (λ a. c ≡ slice_index a 0) }
+    requires has { HasChar window.old }
+    requires ahead { 4 ≤ window.old.ahead }
+    ensures ok { IfOk result (λ next. Reads window.old window.new (λ a b.
+        quoted_from single context start a (at behind window.old scalar.old) ≡ quoted_from single context start b (at (mode_of next) window.new scalar.new))) }
+    ensures err { IfErr result (λ e. Reads window.old window.new (λ a b. e ≢ Fault.OutOfMemory →
+        quoted_from single context start a (at behind window.old scalar.old) ≡ Err e)) }
+    ensures less { OnOk result (window.new.left < window.old.left) }
+{
+    if c == quote_of(single) {
+        return read_in_line(window, single, context, start, c, scalar);
+    }
+    read_in_gap(window, single, context, start, c, scalar)
+}
+
+/// Reads an escaped break.
+fn read_escaped_break<T: Iterator<Item = char>>(
+    window: &mut Window<T>,
+    single: bool,
+    context: Context,
+    start: Marker,
+    c: char,
+    scalar: &mut Folding,
+) -> Result<Part, Fault>
+    requires here { Sees window.old (λ a. c ≡ slice_index a 0) }
+    requires has { HasChar window.old }
+    requires ahead { 2 ≤ window.old.ahead }
+    ensures ok { IfOk result (λ next. Reads window.old window.new (λ a b.
+        quoted_from single context start a (at breaking window.old scalar.old) ≡ quoted_from single context start b (at (mode_of next) window.new scalar.new))) }
+    ensures err { IfErr result (λ e. Reads window.old window.new (λ a b. e ≢ Fault.OutOfMemory →
+        quoted_from single context start a (at breaking window.old scalar.old) ≡ Err e)) }
+    ensures less { OnOk result (window.new.left < window.old.left) }
+{
+    let _ = single;
+    let _ = context;
+    let _ = start;
+    if c == '\r' && window.peek(1) == '\n' {
+        window.skip();
+        return Ok(Part::Breaking);
+    }
+    window.skip_break();
+    scalar.escape_break();
+    Ok(Part::Behind)
+}
+
+/// Reads the second one of two quotes.
+fn read_doubled<T: Iterator<Item = char>>(
+    window: &mut Window<T>,
+    single: bool,
+    context: Context,
+    start: Marker,
+    c: char,
+    scalar: &mut Folding,
+) -> Result<Part, Fault>
+    requires here { Sees window.old (λ a. c ≡ slice_index a 0) }
+    requires has { HasChar window.old }
+    requires ahead { 2 ≤ window.old.ahead }
+    ensures ok { IfOk result (λ next. Reads window.old window.new (λ a b.
+        quoted_from single context start a (at doubled window.old scalar.old) ≡ quoted_from single context start b (at (mode_of next) window.new scalar.new))) }
+    ensures err { IfErr result (λ e. Reads window.old window.new (λ a b. e ≢ Fault.OutOfMemory →
+        quoted_from single context start a (at doubled window.old scalar.old) ≡ Err e)) }
+    ensures less { OnOk result (window.new.left < window.old.left) }
+{
+    let _ = single;
+    let _ = context;
+    let _ = start;
+    scalar.push(c)?;
+    window.skip();
+    Ok(Part::Inside)
+}
+
+/// Reads what stands here.
+fn read_part<T: Iterator<Item = char>>(
+    window: &mut Window<T>,
+    single: bool,
+    context: Context,
+    start: Marker,
+    part: Part,
+    scalar: &mut Folding,
+) -> Result<Part, Fault>
+    requires { part ≢ Part.Closed }
+    ensures ok { IfOk result (λ next. Reads window.old window.new (λ a b.
+        quoted_from single context start a (at (mode_of part) window.old scalar.old) ≡ quoted_from single context start b (at (mode_of next) window.new scalar.new))) }
+    ensures err { IfErr result (λ e. Reads window.old window.new (λ a b. e ≢ Fault.OutOfMemory →
+        quoted_from single context start a (at (mode_of part) window.old scalar.old) ≡ Err e)) }
+    ensures less { OnOk result (window.new.left < window.old.left) }
+{
+    window.lookahead(4);
+    let c = window.ch();
+    if c == '\0' {
+        let problem = match part {
+            Part::Named => Problem::UnknownEscape,
+            _ => Problem::QuotedEnd,
+        };
+        return Err(Fault::At(problem, start));
+    }
+    match part {
+        Part::First => read_line(window, single, context, start, c, scalar),
+        Part::Inside => read_in_line(window, single, context, start, c, scalar),
+        Part::Gap => read_in_gap(window, single, context, start, c, scalar),
+        Part::Breaking => read_escaped_break(window, single, context, start, c, scalar),
+        Part::Behind => read_behind(window, single, context, start, c, scalar),
+        Part::Doubled => read_doubled(window, single, context, start, c, scalar),
+        Part::Named => read_named(window, single, context, start, c, scalar),
+        Part::Closed => unreachable!(),
+    }
+}
+
+/// Reads the characters up to a blank, a break, the end, a quote or a backslash.
+fn read_run<T: Iterator<Item = char>>(
+    window: &mut Window<T>,
+    single: bool,
+    context: Context,
+    start: Marker,
+    scalar: &mut Folding,
+) -> Result<(), AllocError>
+    ensures ok { OnOk result (Reads window.old window.new (λ a b.
+        quoted_from single context start a (at inside window.old scalar.old) ≡ quoted_from single context start b (at inside window.new scalar.new))) }
+    ensures err { OnErr result (Reads window.old window.new (λ _ _. Unit {0})) }
+{
+    let _ = context;
+    let _ = start;
+    'run: loop {
+        let c = window.look_ch();
+        if c == '\0' || is_break(c) || is_blank(c) || c == quote_of(single) || c == '\\' {
+            return Ok(());
+        }
+        scalar.push(c)?;
+        window.skip();
+    }
+}
+
+/// Reads a quoted scalar, from the opening quote to behind the closing one.
+#[tactic(auto, using(scalar_model::proofs::QuotedLemmas::quoted_starts, scalar_model::proofs::QuotedLemmas::closed_end), unfolding(scalar_model::specs::Quoted::quoted))]
+pub fn read_quoted<T: Iterator<Item = char>>(
+    alloc: Global,
+    window: &mut Window<T>,
+    single: bool,
+    context: Context,
+) -> Result<String, Fault>
+    requires has { HasChar window.old }
+    requires ahead { 0 < window.old.ahead }
+    ensures ok { IfOk result (λ s. Reads window.old window.new (λ a b. quoted single context a (place_of window.old) ≡ Ok (read b window.new (string_chars s)))) }
+    ensures err { IfErr result (λ e. Reads window.old window.new (λ a b. e ≢ Fault.OutOfMemory → quoted single context a (place_of window.old) ≡ Err e)) }
+    ensures less { OnOk result (window.new.left < window.old.left) }
+{
+    let start = window.mark();
+    window.skip();
+    let mut scalar = Folding::new(alloc);
+    let mut part = Part::First;
+    'parts: loop {
+        match read_part(window, single, context, start, part, &mut scalar) {
+            Ok(Part::Closed) => return Ok(scalar.text.into_string()),
+            Ok(next) => part = next,
+            Err(fault) => return Err(fault),
+        }
+        if part == Part::Inside {
+            read_run(window, single, context, start, &mut scalar)?;
+        }
+    }
+}

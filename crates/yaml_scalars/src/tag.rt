@@ -1,0 +1,235 @@
+//! Tags (YAML 1.2, sections 6.8.2 and 6.9.1).
+ghost use Rattle.std.specs.Prelude.{◌≡◌, ◌≢◌, ◌≤◌, ◌<◌, ◌+◌, [], length, drop, slice_index, true, false, Ok, Err, OnOk, OnErr, IfOk, IfErr};
+ghost use Rattle.yaml_chars.specs.Class.{is_alpha};
+ghost use Rattle.yaml_chars.specs.Reading.{Reads, Sees, HasChar, place_of};
+ghost use Rattle.yaml_chars.specs.Text.{string_chars};
+ghost use Rattle.scalar_model.specs.Machine.{past, take_while};
+ghost use Rattle.scalar_model.specs.Tag.{verbatim_end, verbatim, named, local_tag, shorthand, tag_here, ends_tag, tag, handle_end, handle, prefix};
+ghost use Rattle.yaml_scalars.specs.Shown.{read};
+ghost use Rattle.yaml_scalars.specs.ShownTag.{tag_shown};
+
+use crate::uri::{read_suffix, read_uri};
+use std::alloc::{AllocError, Global};
+use yaml_chars::class::{is_alpha, is_blank_or_breakz, is_flow, is_tag};
+use yaml_chars::{Marker, Text, Window};
+use yaml_tokens::{Fault, Problem};
+
+/// Reads ASCII letters, digits, `_` and `-`.
+#[tactic(auto, using(scalar_model::proofs::SpaceLemmas::take_end))]
+fn read_word<T: Iterator<Item = char>>(
+    window: &mut Window<T>,
+    text: &mut Text,
+) -> Result<(), AllocError>
+    ensures ok { OnOk result (Reads window.old window.new (λ a b. take_while is_alpha a (place_of window.old) text.old ≡ read b window.new text.new)) }
+    ensures err { OnErr result (Reads window.old window.new (λ _ _. Unit {0})) }
+    ensures ahead { OnOk result (0 < window.new.ahead) }
+{
+    'word: loop {
+        let c = window.look_ch();
+        if !is_alpha(c) {
+            return Ok(());
+        }
+        text.push(c)?;
+        window.skip();
+    }
+}
+
+/// Reads a tag behind its `!<`.
+#[tactic(auto, using(scalar_model::proofs::TagLemmas::verbatim_closes, scalar_model::proofs::TagLemmas::verbatim_fails), unfolding(scalar_model::specs::Tag::verbatim))]
+fn read_verbatim<T: Iterator<Item = char>>(
+    alloc: Global,
+    window: &mut Window<T>,
+    start: Marker,
+) -> Result<(String, String), Fault>
+    ensures ok { IfOk result (λ s. Reads window.old window.new (λ a b. verbatim start a (place_of window.old) ≡ Ok (read b window.new (tag_shown (string_chars s.0) (string_chars s.1))))) }
+    ensures err { IfErr result (λ e. Reads window.old window.new (λ a b. e ≢ Fault.OutOfMemory → verbatim start a (place_of window.old) ≡ Err e)) }
+{
+    let handle = Text::new(alloc);
+    let mut uri = Text::new(alloc);
+    if let Err(fault) = read_uri(window, start, &mut uri) {
+        return Err(fault);
+    }
+    if window.look_ch() != '>' {
+        return Err(Fault::At(Problem::VerbatimTagEnd, start));
+    }
+    window.skip();
+    Ok((handle.into_string(), uri.into_string()))
+}
+
+/// Reads the suffix behind a handle `!name!`.
+#[tactic(auto, unfolding(scalar_model::specs::Tag::named))]
+fn read_named<T: Iterator<Item = char>>(
+    alloc: Global,
+    window: &mut Window<T>,
+    start: Marker,
+    name: Text,
+) -> Result<(String, String), Fault>
+    ensures ok { IfOk result (λ s. Reads window.old window.new (λ a b. named start name a (place_of window.old) ≡ Ok (read b window.new (tag_shown (string_chars s.0) (string_chars s.1))))) }
+    ensures err { IfErr result (λ e. Reads window.old window.new (λ a b. e ≢ Fault.OutOfMemory → named start name a (place_of window.old) ≡ Err e)) }
+{
+    let mut handle = Text::new(alloc);
+    handle.push('!')?;
+    handle.append(&name)?;
+    handle.push('!')?;
+    let mut suffix = Text::new(alloc);
+    if let Err(fault) = read_suffix(window, start, &mut suffix) {
+        return Err(fault);
+    }
+    if suffix.is_empty() {
+        return Err(Fault::At(Problem::TagUri, start));
+    }
+    Ok((handle.into_string(), suffix.into_string()))
+}
+
+/// Reads a suffix without a handle, which begins with a name.
+fn read_local<T: Iterator<Item = char>>(
+    alloc: Global,
+    window: &mut Window<T>,
+    start: Marker,
+    mut name: Text,
+) -> Result<(String, String), Fault>
+    ensures ok { IfOk result (λ s. Reads window.old window.new (λ a b. local_tag start name a (place_of window.old) ≡ Ok (read b window.new (tag_shown (string_chars s.0) (string_chars s.1))))) }
+    ensures err { IfErr result (λ e. Reads window.old window.new (λ a b. e ≢ Fault.OutOfMemory → local_tag start name a (place_of window.old) ≡ Err e)) }
+{
+    if let Err(fault) = read_suffix(window, start, &mut name) {
+        return Err(fault);
+    }
+    let mut exclamation = Text::new(alloc);
+    exclamation.push('!')?;
+    if name.is_empty() {
+        return Ok((name.into_string(), exclamation.into_string()));
+    }
+    Ok((exclamation.into_string(), name.into_string()))
+}
+
+/// Reads a tag `!`, `!suffix`, `!!suffix` or `!name!suffix` behind its first `!`.
+#[tactic(auto, unfolding(scalar_model::specs::Tag::shorthand))]
+fn read_shorthand<T: Iterator<Item = char>>(
+    alloc: Global,
+    window: &mut Window<T>,
+    start: Marker,
+) -> Result<(String, String), Fault>
+    ensures ok { IfOk result (λ s. Reads window.old window.new (λ a b. shorthand start a (place_of window.old) ≡ Ok (read b window.new (tag_shown (string_chars s.0) (string_chars s.1))))) }
+    ensures err { IfErr result (λ e. Reads window.old window.new (λ a b. e ≢ Fault.OutOfMemory → shorthand start a (place_of window.old) ≡ Err e)) }
+{
+    let mut name = Text::new(alloc);
+    read_word(window, &mut name)?;
+    if window.look_ch() == '!' {
+        window.skip();
+        return read_named(alloc, window, start, name);
+    }
+    read_local(alloc, window, start, name)
+}
+
+/// Reads a tag behind its first `!`.
+#[tactic(auto)]
+fn read_here<T: Iterator<Item = char>>(
+    alloc: Global,
+    window: &mut Window<T>,
+    start: Marker,
+) -> Result<(String, String), Fault>
+    ensures ok { IfOk result (λ s. Reads window.old window.new (λ a b. tag_here start a (place_of window.old) ≡ Ok (read b window.new (tag_shown (string_chars s.0) (string_chars s.1))))) }
+    ensures err { IfErr result (λ e. Reads window.old window.new (λ a b. e ≢ Fault.OutOfMemory → tag_here start a (place_of window.old) ≡ Err e)) }
+{
+    if window.look_ch() == '<' {
+        window.skip();
+        return read_verbatim(alloc, window, start);
+    }
+    read_shorthand(alloc, window, start)
+}
+
+#[tactic(auto, unfolding(scalar_model::specs::Tag::ends_tag))]
+fn ends_tag(flow: bool, c: char) -> bool
+    ensures { result ≡ ends_tag flow c }
+{
+    is_blank_or_breakz(c) || flow && is_flow(c)
+}
+
+/// Reads a tag from its `!` on: its handle and its suffix.
+#[tactic(auto, unfolding(scalar_model::specs::Tag::tag))]
+pub fn read_tag<T: Iterator<Item = char>>(
+    alloc: Global,
+    window: &mut Window<T>,
+    in_flow: bool,
+) -> Result<(String, String), Fault>
+    requires has { HasChar window.old }
+    requires ahead { 0 < window.old.ahead }
+    ensures ok { IfOk result (λ s. Reads window.old window.new (λ a b. tag in_flow a (place_of window.old) ≡ Ok (read b window.new (tag_shown (string_chars s.0) (string_chars s.1))))) }
+    ensures err { IfErr result (λ e. Reads window.old window.new (λ a b. e ≢ Fault.OutOfMemory → tag in_flow a (place_of window.old) ≡ Err e)) }
+    ensures less { OnOk result (window.new.left < window.old.left) }
+{
+    let start = window.mark();
+    window.skip();
+    let tag = match read_here(alloc, window, start) {
+        Ok(tag) => tag,
+        Err(fault) => return Err(fault),
+    };
+    if !ends_tag(in_flow, window.look_ch()) {
+        return Err(Fault::At(Problem::TagEnd, start));
+    }
+    Ok(tag)
+}
+
+/// Reads the end of a tag directive's handle behind its name.
+#[tactic(auto)]
+fn end_handle<T: Iterator<Item = char>>(
+    window: &mut Window<T>,
+    start: Marker,
+    bare: bool,
+    mut handle: Text,
+) -> Result<Text, Fault>
+    ensures ok { IfOk result (λ h. Reads window.old window.new (λ a b. handle_end start bare handle a (place_of window.old) ≡ Ok (read b window.new h))) }
+    ensures err { IfErr result (λ e. Reads window.old window.new (λ a b. e ≢ Fault.OutOfMemory → handle_end start bare handle a (place_of window.old) ≡ Err e)) }
+{
+    if window.look_ch() == '!' {
+        window.skip();
+        handle.push('!')?;
+        return Ok(handle);
+    }
+    if !bare {
+        return Err(Fault::At(Problem::TagDirectiveHandle, start));
+    }
+    Ok(handle)
+}
+
+/// Reads the handle of a tag directive: `!`, `!!` or `!name!`.
+#[tactic(auto, unfolding(scalar_model::specs::Tag::handle))]
+pub(crate) fn read_handle<T: Iterator<Item = char>>(
+    alloc: Global,
+    window: &mut Window<T>,
+    start: Marker,
+) -> Result<Text, Fault>
+    ensures ok { IfOk result (λ h. Reads window.old window.new (λ a b. handle start a (place_of window.old) ≡ Ok (read b window.new h))) }
+    ensures err { IfErr result (λ e. Reads window.old window.new (λ a b. e ≢ Fault.OutOfMemory → handle start a (place_of window.old) ≡ Err e)) }
+{
+    if window.look_ch() != '!' {
+        return Err(Fault::At(Problem::TagStart, start));
+    }
+    window.skip();
+    let mut handle = Text::new(alloc);
+    handle.push('!')?;
+    let bare = !is_alpha(window.look_ch());
+    read_word(window, &mut handle)?;
+    end_handle(window, start, bare, handle)
+}
+
+/// Reads the prefix of a tag directive: a `!` or a character of a tag, and characters of a URI.
+#[tactic(auto, unfolding(scalar_model::specs::Tag::prefix))]
+pub(crate) fn read_prefix<T: Iterator<Item = char>>(
+    alloc: Global,
+    window: &mut Window<T>,
+    start: Marker,
+) -> Result<Text, Fault>
+    ensures ok { IfOk result (λ h. Reads window.old window.new (λ a b. prefix start a (place_of window.old) ≡ Ok (read b window.new h))) }
+    ensures err { IfErr result (λ e. Reads window.old window.new (λ a b. e ≢ Fault.OutOfMemory → prefix start a (place_of window.old) ≡ Err e)) }
+{
+    let c = window.look_ch();
+    let mut prefix = Text::new(alloc);
+    if c != '!' && !is_tag(c) {
+        return Err(Fault::At(Problem::GlobalTagCharacter, start));
+    }
+    match read_uri(window, start, &mut prefix) {
+        Ok(()) => Ok(prefix),
+        Err(fault) => Err(fault),
+    }
+}

@@ -1,0 +1,7 @@
+//! Rows that go through all layers: texts, and the trees or faults that they give.
+#![tactic(auto)]
+
+#[cfg(test)]
+mod loads;
+#[cfg(test)]
+mod misuse;

@@ -1,0 +1,107 @@
+-- A comparison of two lists, place by place.
+use Rattle.std.proofs.Common.{◌≡◌, ℕ, zero, suc, ◌+◌, ◌<◌, ◌≤◌, ◌⊎◌, List, [], ◌∷◌, length, get_or, drop, map, Ordering, Less, Equal, Greater, nat_cmp, refl, sym, ap, ◌∙◌, inl, inr, arith, add-one, drop-cons}
+use Rattle.std.proofs.lemmas.Bool.Decides.{nat_tests}
+use Rattle.std.specs.Ordering.{ordering_then, on}
+use Rattle.std.specs.Cmp.Lexicographic.{slice_cmp}
+use Rattle.tree_defs.specs.Tree.{Tree, items_of, pairs_of}
+use Rattle.tree_defs.specs.Order.{tree_cmp, items_cmp, pairs_cmp}
+use Rattle.yaml_tree.specs.View.{view, items_view, pair_view, pairs_view}
+use Rattle.yaml_tree.specs.declared.yaml.Yaml.{Yaml}
+use Rattle.tree_defs.specs.Lists.{pair_cmp, list_cmp, pair_list_cmp}
+
+nat_cmp-less : (m n : ℕ) → m < n → nat_cmp m n ≡ Less
+nat_cmp-less m n h = grind (arith, nat_tests)
+
+nat_cmp-greater : (m n : ℕ) → n < m → nat_cmp m n ≡ Greater
+nat_cmp-greater m n h = grind (arith, nat_tests)
+
+nat_cmp-equal : (m n : ℕ) → m ≡ n → nat_cmp m n ≡ Equal
+nat_cmp-equal m n h = grind (arith, nat_tests)
+
+module _ {A : Type 0} (R : A → A → Ordering) where
+  pub cmp_next : (xs ys : List A) (i : ℕ) (x y : A) → i < length xs → i < length ys → x ≡ get_or xs i x → y ≡ get_or ys i y
+      → slice_cmp R (drop i xs) (drop i ys) ≡ ordering_then (R x y) (slice_cmp R (drop (i + 1) xs) (drop (i + 1) ys))
+  cmp_next xs ys i x y p q e f = rw (drop-cons xs i x p, drop-cons ys i y q, add-one, ← e, ← f)
+
+  past_first : (ys : List A) (n : ℕ) → n ≤ length ys → length ys ≤ n → slice_cmp R [] (drop n ys) ≡ Equal
+  past_first [] zero p q = refl
+  past_first [] (suc n) p q = absurd (omega arith)
+  past_first (y ∷ ys) zero p q = absurd (omega arith)
+  past_first (y ∷ ys) (suc n) p q = past_first ys n (omega arith) (omega arith)
+
+  pub cmp_end : (xs ys : List A) (i : ℕ) → i ≤ length xs → i ≤ length ys → (length xs ≤ i) ⊎ (length ys ≤ i) → slice_cmp R (drop i xs) (drop i ys) ≡ nat_cmp (length xs) (length ys)
+  cmp_end [] [] zero p q e = refl
+  cmp_end [] (y ∷ ys) zero p q e = sym (nat_cmp-less 0 (suc (length ys)) (omega arith))
+  cmp_end (x ∷ xs) [] zero p q e = sym (nat_cmp-greater (suc (length xs)) 0 (omega arith))
+  cmp_end (x ∷ xs) (y ∷ ys) zero p q (inl e) = absurd (omega arith)
+  cmp_end (x ∷ xs) (y ∷ ys) zero p q (inr e) = absurd (omega arith)
+  cmp_end [] ys (suc i) p q e = absurd (omega arith)
+  cmp_end (x ∷ xs) [] (suc i) p q e = absurd (omega arith)
+  cmp_end (x ∷ xs) (y ∷ ys) (suc i) p q (inl e) = cmp_end xs ys i (omega arith) (omega arith) (inl (omega arith)) ∙ shift (length xs) (length ys)
+    where
+      shift : (m n : ℕ) → nat_cmp m n ≡ nat_cmp (suc m) (suc n)
+      shift m n = grind (arith, nat_tests)
+  cmp_end (x ∷ xs) (y ∷ ys) (suc i) p q (inr e) = cmp_end xs ys i (omega arith) (omega arith) (inr (omega arith)) ∙ shift (length xs) (length ys)
+    where
+      shift : (m n : ℕ) → nat_cmp m n ≡ nat_cmp (suc m) (suc n)
+      shift m n = grind (arith, nat_tests)
+
+then_assoc : (o p q : Ordering) → ordering_then o (ordering_then p q) ≡ ordering_then (ordering_then o p) q
+then_assoc Less p q = refl
+then_assoc Equal p q = refl
+then_assoc Greater p q = refl
+
+pub items_cmp-items_of : (xs ys : List Tree) → items_cmp (items_of xs) (items_of ys) ≡ list_cmp xs ys
+items_cmp-items_of [] [] = refl
+items_cmp-items_of [] (y ∷ ys) = refl
+items_cmp-items_of (x ∷ xs) [] = refl
+items_cmp-items_of (x ∷ xs) (y ∷ ys) = ap (ordering_then (tree_cmp x y)) (items_cmp-items_of xs ys)
+
+pub pairs_cmp-pairs_of : (xs ys : List (Tree × Tree)) → pairs_cmp (pairs_of xs) (pairs_of ys) ≡ pair_list_cmp xs ys
+pairs_cmp-pairs_of [] [] = refl
+pairs_cmp-pairs_of [] (y ∷ ys) = refl
+pairs_cmp-pairs_of (x ∷ xs) [] = refl
+pairs_cmp-pairs_of (x ∷ xs) (y ∷ ys) =
+    then_assoc (tree_cmp x.0 y.0) (tree_cmp x.1 y.1) (pairs_cmp (pairs_of xs) (pairs_of ys)) ∙ ap (ordering_then (pair_cmp x y)) (pairs_cmp-pairs_of xs ys)
+
+-- through a function
+pub slice_cmp-map : {A B : Type 0} (R : B → B → Ordering) (f : A → B) (xs ys : List A) → slice_cmp R (map f xs) (map f ys) ≡ slice_cmp (on f R) xs ys
+slice_cmp-map R f [] [] = refl
+slice_cmp-map R f [] (y ∷ ys) = refl
+slice_cmp-map R f (x ∷ xs) [] = refl
+slice_cmp-map R f (x ∷ xs) (y ∷ ys) = ap (ordering_then (R (f x) (f y))) (slice_cmp-map R f xs ys)
+
+-- an answer that is not `Equal` ends the comparison
+pub stops : (o r p q : Ordering) → (o ≡ Equal → ⊥) → o ≡ r → q ≡ ordering_then r p → o ≡ q
+stops Less r p q n e f = sym (f ∙ ap (λ x. ordering_then x p) (sym e))
+stops Equal r p q n e f = absurd (n refl)
+stops Greater r p q n e f = sym (f ∙ ap (λ x. ordering_then x p) (sym e))
+
+pub stops_at_first : (o r s p q : Ordering) → (o ≡ Equal → ⊥) → o ≡ r → q ≡ ordering_then (ordering_then r s) p → o ≡ q
+stops_at_first o r s p q n e f = stops o r (ordering_then s p) q n e (f ∙ sym (then_assoc r s p))
+
+pub stops_at_second : (a o r s p q : Ordering) → a ≡ Equal → a ≡ r → (o ≡ Equal → ⊥) → o ≡ s → q ≡ ordering_then (ordering_then r s) p → o ≡ q
+stops_at_second a o r s p q d e n f g = stops o s p q n f (g ∙ ap (λ x. ordering_then (ordering_then x s) p) (sym e ∙ d))
+
+-- the values of two lists, seen through f
+pub cmp_seen : {A B : Type 0} (R : B → B → Ordering) (f : A → B) (xs ys cs ds : List A) (us vs : List B) → xs ≡ cs → ys ≡ ds → map f cs ≡ us → map f ds ≡ vs
+    → slice_cmp (on f R) xs ys ≡ slice_cmp R us vs
+cmp_seen R f xs ys cs ds us vs p q d e = rw (p, q, ← d, ← e) (sym (slice_cmp-map R f cs ds))
+
+-- the items of two arrays, and the pairs of two hashes
+pub items_seen : (xs ys cs ds : List Yaml) (us vs : List Tree) → xs ≡ cs → ys ≡ ds → items_view cs ≡ us → items_view ds ≡ vs
+    → slice_cmp (on view tree_cmp) xs ys ≡ items_cmp (items_of us) (items_of vs)
+items_seen xs ys cs ds us vs p q d e = cmp_seen tree_cmp view xs ys cs ds us vs p q d e ∙ sym (items_cmp-items_of us vs)
+
+pub pairs_seen : (xs ys cs ds : List (Yaml × Yaml)) (us vs : List (Tree × Tree)) → xs ≡ cs → ys ≡ ds → pairs_view cs ≡ us → pairs_view ds ≡ vs
+    → slice_cmp (on pair_view pair_cmp) xs ys ≡ pairs_cmp (pairs_of us) (pairs_of vs)
+pairs_seen xs ys cs ds us vs p q d e = cmp_seen pair_cmp pair_view xs ys cs ds us vs p q d e ∙ sym (pairs_cmp-pairs_of us vs)
+
+pub at_drop : {A : Type 0} (xs : List A) (i : ℕ) (x : A) → i < length xs → x ≡ get_or xs i x → drop i xs ≡ x ∷ drop (i + 1) xs
+at_drop xs i x h e = rw (drop-cons xs i x h, add-one, ← e)
+
+pub at_end : {A : Type 0} (xs : List A) (i : ℕ) → length xs ≤ i → drop i xs ≡ []
+at_end [] zero h = refl
+at_end [] (suc i) h = refl
+at_end (x ∷ xs) zero h = absurd (omega arith)
+at_end (x ∷ xs) (suc i) h = at_end xs i (omega arith)

@@ -1,0 +1,49 @@
+-- Nodes in a row, as the trees that clauses see.
+use Rattle.std.proofs.Common.{◌≡◌, IsSome, ℕ, zero, suc, ◌<◌, ◌^◌, Bool, true, false, arith, List, [], ◌∷◌, ◌++◌, length, Option, None, option_map, refl, sym, ap, subst, ◌∙◌}
+use Rattle.std.specs.Prelude.{slice_get, pos, nat_lt, if◌then◌else◌}
+use Rattle.std.proofs.lemmas.Bool.Decides.{nat_tests}
+use Rattle.tree_defs.specs.Tree.{Tree, integer, hash, items_of, pairs_of, list_of, pair_list_of}
+use Rattle.tree_defs.specs.Pairs.{lookup}
+use Rattle.yaml_tree.specs.Node.{value_at_index}
+use Rattle.yaml_tree.specs.View.{view, items_view}
+use Rattle.yaml_tree.specs.declared.yaml.Yaml.{Yaml}
+
+pub length_items_view : (ys : List Yaml) → length (items_view ys) ≡ length ys
+length_items_view [] = refl
+length_items_view (y ∷ ys) = ap suc (length_items_view ys)
+
+pub items_view_push : (ys zs : List Yaml) (y : Yaml) → zs ≡ ys ++ y ∷ [] → items_view zs ≡ items_view ys ++ view y ∷ []
+items_view_push ys zs y e = ap items_view e ∙ appended ys
+  where
+    appended : (ys : List Yaml) → items_view (ys ++ y ∷ []) ≡ items_view ys ++ view y ∷ []
+    appended [] = refl
+    appended (x ∷ xs) = ap (λ us. view x ∷ us) (appended xs)
+
+pub get_items_view : (ys : List Yaml) (i : ℕ) → slice_get (items_view ys) i ≡ option_map view (slice_get ys i)
+get_items_view [] i = refl
+get_items_view (y ∷ ys) zero = refl
+get_items_view (y ∷ ys) (suc i) = get_items_view ys i
+
+pub list_of_items : (ts : List Tree) → list_of (items_of ts) ≡ ts
+list_of_items [] = refl
+list_of_items (t ∷ ts) = ap (λ us. t ∷ us) (list_of_items ts)
+
+pub pair_list_of_pairs : (ps : List (Tree × Tree)) → pair_list_of (pairs_of ps) ≡ ps
+pair_list_of_pairs [] = refl
+pair_list_of_pairs (p ∷ ps) = ap (λ us. p ∷ us) (pair_list_of_pairs ps)
+
+-- the value at an index of a hash
+pub at_number : (i : ℕ) (ps : List (Tree × Tree)) → i < 2 ^ 63 → value_at_index i (hash (pairs_of ps)) ≡ lookup (integer (pos i)) ps
+at_number i ps h = rw pair_list_of_pairs (chosen (nat_lt i (2 ^ 63)) (lookup (integer (pos i)) ps) (grind (arith, nat_tests)))
+  where
+    chosen : (b : Bool) (o : Option Tree) → b ≡ true → (if b then o else None) ≡ o
+    chosen true o e = refl
+    chosen false o e = cc
+
+pub within_items : (ys : List Yaml) (ts : List Tree) (i : ℕ) → items_view ys ≡ ts → IsSome (slice_get ts i) → i < length ys
+within_items ys ts i e h = counted ys i (subst (λ us. IsSome (slice_get us i)) (sym e) h)
+  where
+    counted : (ys : List Yaml) (i : ℕ) → IsSome (slice_get (items_view ys) i) → i < length ys
+    counted [] i h = cc
+    counted (y ∷ ys) zero h = omega arith
+    counted (y ∷ ys) (suc i) h = omega (arith, counted ys i h)

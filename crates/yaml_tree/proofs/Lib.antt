@@ -1,0 +1,10 @@
+pub mod Comparing
+pub mod Deeper
+pub mod Discarding
+pub mod ItemsLemmas
+pub mod Placed
+pub mod TextLemmas
+pub mod TextOrder
+pub mod TypingLemmas
+pub mod WeightLemmas
+pub mod WideTexts

@@ -1,0 +1,9 @@
+pub mod Depth
+pub mod Falls
+pub mod Feed
+pub mod Items
+pub mod Node
+pub mod Rows
+pub mod Values
+pub mod View
+pub mod Weight

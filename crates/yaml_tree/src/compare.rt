@@ -1,0 +1,270 @@
+//! The order of trees, and when two are equal.
+ghost use Rattle.std.specs.Prelude.{◌≡◌};
+ghost use Rattle.tree_defs.specs.Order.{rank, tree_cmp, items_cmp, pairs_cmp};
+ghost use Rattle.tree_defs.specs.Tree.{items_of, pairs_of};
+ghost use Rattle.yaml_tree.specs.View.{view};
+
+use crate::array::Array;
+use crate::hash::Hash;
+use crate::yaml::Yaml;
+use std::cmp::Ordering;
+
+fn rank(y: &Yaml) -> u8
+    ensures { result ≡ rank (view y.now) }
+{
+    match y {
+        Yaml::Real(_) => 0,
+        Yaml::Integer(_) => 1,
+        Yaml::String(_) => 2,
+        Yaml::Boolean(_) => 3,
+        Yaml::Array(_) => 4,
+        Yaml::Hash(_) => 5,
+        Yaml::Alias(_) => 6,
+        Yaml::Null => 7,
+        Yaml::BadValue => 8,
+    }
+}
+
+#[cycle(compare)]
+#[tactic(auto, using(crate::proofs::TextOrder::string_cmp))]
+fn compare(a: &Yaml, b: &Yaml) -> Ordering
+    ensures { result ≡ tree_cmp (view a.now) (view b.now) }
+{
+    match (a, b) {
+        (Yaml::Real(x), Yaml::Real(y)) => x.cmp(y),
+        (Yaml::Integer(x), Yaml::Integer(y)) => x.cmp(y),
+        (Yaml::String(x), Yaml::String(y)) => x.cmp(y),
+        (Yaml::Boolean(x), Yaml::Boolean(y)) => x.cmp(y),
+        (Yaml::Array(x), Yaml::Array(y)) => compare_items(x, y),
+        (Yaml::Hash(x), Yaml::Hash(y)) => compare_pairs(x, y),
+        (Yaml::Alias(x), Yaml::Alias(y)) => x.cmp(y),
+        _ => rank(a).cmp(&rank(b)),
+    }
+}
+
+#[cycle(compare)]
+fn compare_items(a: &Array, b: &Array) -> Ordering
+    ensures { result ≡ items_cmp (items_of a.now) (items_of b.now) }
+{
+    let (a, b) = (a.items.as_slice(), b.items.as_slice());
+    let mut i = 0;
+    while i < a.len() && i < b.len() {
+        match compare(&a[i], &b[i]) {
+            Ordering::Equal => i += 1,
+            found => return found,
+        }
+    }
+    a.len().cmp(&b.len())
+}
+
+#[cycle(compare)]
+fn compare_pairs(a: &Hash, b: &Hash) -> Ordering
+    ensures { result ≡ pairs_cmp (pairs_of a.now) (pairs_of b.now) }
+{
+    let (a, b) = (a.pairs.as_slice(), b.pairs.as_slice());
+    let mut i = 0;
+    while i < a.len() && i < b.len() {
+        let ((k, v), (l, w)) = (&a[i], &b[i]);
+        match compare(k, l) {
+            Ordering::Equal => {}
+            found => return found,
+        }
+        match compare(v, w) {
+            Ordering::Equal => i += 1,
+            found => return found,
+        }
+    }
+    a.len().cmp(&b.len())
+}
+
+impl PartialEq for Yaml {
+    ghost use Rattle.std.specs.Ordering.{on};
+    ghost use Rattle.std.specs.Cmp.{partial_equiv_from_equiv};
+    ghost use Rattle.std.proofs.lemmas.Cmp.{on_equiv};
+    ghost use Rattle.tree_defs.specs.Order.{tree_eq};
+    ghost use Rattle.tree_defs.proofs.OrderLaws.{tree_eq_equiv};
+    ghost use Rattle.yaml_tree.specs.View.{view};
+
+    ghost eq = { on view tree_eq };
+
+    ghost laws = { partial_equiv_from_equiv (on_equiv view tree_eq_equiv) };
+
+    fn eq(&self, other: &Yaml) -> bool {
+        compare(self, other).is_eq()
+    }
+}
+
+impl Eq for Yaml {
+    ghost use Rattle.std.proofs.lemmas.Cmp.{on_equiv};
+    ghost use Rattle.tree_defs.proofs.OrderLaws.{tree_eq_equiv};
+    ghost use Rattle.yaml_tree.specs.View.{view};
+
+    ghost laws = { on_equiv view tree_eq_equiv };
+}
+
+impl PartialOrd for Yaml {
+    ghost use Rattle.std.specs.Prelude.{refl};
+    ghost use Rattle.std.specs.Ordering.{on, as_partial_cmp};
+    ghost use Rattle.std.specs.Cmp.{partial_order_from_agreeing_total};
+    ghost use Rattle.std.proofs.lemmas.Cmp.{on_total};
+    ghost use Rattle.tree_defs.specs.Order.{tree_cmp};
+    ghost use Rattle.tree_defs.proofs.OrderLaws.{tree_cmp_total};
+    ghost use Rattle.yaml_tree.specs.View.{view};
+
+    ghost partial_cmp = { as_partial_cmp (on view tree_cmp) };
+
+    ghost laws = { partial_order_from_agreeing_total (on view tree_cmp) (on_total view tree_cmp_total) (λ _ _. refl) (λ _ _. refl) };
+
+    fn partial_cmp(&self, other: &Yaml) -> Option<Ordering> {
+        Some(compare(self, other))
+    }
+}
+
+impl Ord for Yaml {
+    ghost use Rattle.std.specs.Prelude.{refl};
+    ghost use Rattle.std.specs.Ordering.{on};
+    ghost use Rattle.std.proofs.lemmas.Cmp.{on_total};
+    ghost use Rattle.tree_defs.specs.Order.{tree_cmp};
+    ghost use Rattle.tree_defs.proofs.OrderLaws.{tree_cmp_total};
+    ghost use Rattle.yaml_tree.specs.View.{view};
+
+    ghost cmp = { on view tree_cmp };
+
+    ghost total = { on_total view tree_cmp_total };
+
+    ghost matches_partial_cmp = { λ _ _. refl };
+
+    ghost matches_eq = { λ _ _. refl };
+
+    fn cmp(&self, other: &Yaml) -> Ordering {
+        compare(self, other)
+    }
+}
+
+impl PartialEq for Array {
+    ghost use Rattle.std.specs.Ordering.{on};
+    ghost use Rattle.std.specs.Cmp.{partial_equiv_from_equiv};
+    ghost use Rattle.std.proofs.lemmas.Cmp.{on_equiv};
+    ghost use Rattle.tree_defs.specs.Order.{tree_eq};
+    ghost use Rattle.tree_defs.proofs.OrderLaws.{tree_eq_equiv};
+    ghost use Rattle.yaml_tree.specs.View.{array_tree};
+
+    ghost eq = { on array_tree tree_eq };
+
+    ghost laws = { partial_equiv_from_equiv (on_equiv array_tree tree_eq_equiv) };
+
+    fn eq(&self, other: &Array) -> bool {
+        compare_items(self, other).is_eq()
+    }
+}
+
+impl Eq for Array {
+    ghost use Rattle.std.proofs.lemmas.Cmp.{on_equiv};
+    ghost use Rattle.tree_defs.proofs.OrderLaws.{tree_eq_equiv};
+    ghost use Rattle.yaml_tree.specs.View.{array_tree};
+
+    ghost laws = { on_equiv array_tree tree_eq_equiv };
+}
+
+impl PartialOrd for Array {
+    ghost use Rattle.std.specs.Prelude.{refl};
+    ghost use Rattle.std.specs.Ordering.{on, as_partial_cmp};
+    ghost use Rattle.std.specs.Cmp.{partial_order_from_agreeing_total};
+    ghost use Rattle.std.proofs.lemmas.Cmp.{on_total};
+    ghost use Rattle.tree_defs.specs.Order.{tree_cmp};
+    ghost use Rattle.tree_defs.proofs.OrderLaws.{tree_cmp_total};
+    ghost use Rattle.yaml_tree.specs.View.{array_tree};
+
+    ghost partial_cmp = { as_partial_cmp (on array_tree tree_cmp) };
+
+    ghost laws = { partial_order_from_agreeing_total (on array_tree tree_cmp) (on_total array_tree tree_cmp_total) (λ _ _. refl) (λ _ _. refl) };
+
+    fn partial_cmp(&self, other: &Array) -> Option<Ordering> {
+        Some(compare_items(self, other))
+    }
+}
+
+impl Ord for Array {
+    ghost use Rattle.std.specs.Prelude.{refl};
+    ghost use Rattle.std.specs.Ordering.{on};
+    ghost use Rattle.std.proofs.lemmas.Cmp.{on_total};
+    ghost use Rattle.tree_defs.specs.Order.{tree_cmp};
+    ghost use Rattle.tree_defs.proofs.OrderLaws.{tree_cmp_total};
+    ghost use Rattle.yaml_tree.specs.View.{array_tree};
+
+    ghost cmp = { on array_tree tree_cmp };
+
+    ghost total = { on_total array_tree tree_cmp_total };
+
+    ghost matches_partial_cmp = { λ _ _. refl };
+
+    ghost matches_eq = { λ _ _. refl };
+
+    fn cmp(&self, other: &Array) -> Ordering {
+        compare_items(self, other)
+    }
+}
+
+impl PartialEq for Hash {
+    ghost use Rattle.std.specs.Ordering.{on};
+    ghost use Rattle.std.specs.Cmp.{partial_equiv_from_equiv};
+    ghost use Rattle.std.proofs.lemmas.Cmp.{on_equiv};
+    ghost use Rattle.tree_defs.specs.Order.{tree_eq};
+    ghost use Rattle.tree_defs.proofs.OrderLaws.{tree_eq_equiv};
+    ghost use Rattle.yaml_tree.specs.View.{hash_tree};
+
+    ghost eq = { on hash_tree tree_eq };
+
+    ghost laws = { partial_equiv_from_equiv (on_equiv hash_tree tree_eq_equiv) };
+
+    fn eq(&self, other: &Hash) -> bool {
+        compare_pairs(self, other).is_eq()
+    }
+}
+
+impl Eq for Hash {
+    ghost use Rattle.std.proofs.lemmas.Cmp.{on_equiv};
+    ghost use Rattle.tree_defs.proofs.OrderLaws.{tree_eq_equiv};
+    ghost use Rattle.yaml_tree.specs.View.{hash_tree};
+
+    ghost laws = { on_equiv hash_tree tree_eq_equiv };
+}
+
+impl PartialOrd for Hash {
+    ghost use Rattle.std.specs.Prelude.{refl};
+    ghost use Rattle.std.specs.Ordering.{on, as_partial_cmp};
+    ghost use Rattle.std.specs.Cmp.{partial_order_from_agreeing_total};
+    ghost use Rattle.std.proofs.lemmas.Cmp.{on_total};
+    ghost use Rattle.tree_defs.specs.Order.{tree_cmp};
+    ghost use Rattle.tree_defs.proofs.OrderLaws.{tree_cmp_total};
+    ghost use Rattle.yaml_tree.specs.View.{hash_tree};
+
+    ghost partial_cmp = { as_partial_cmp (on hash_tree tree_cmp) };
+
+    ghost laws = { partial_order_from_agreeing_total (on hash_tree tree_cmp) (on_total hash_tree tree_cmp_total) (λ _ _. refl) (λ _ _. refl) };
+
+    fn partial_cmp(&self, other: &Hash) -> Option<Ordering> {
+        Some(compare_pairs(self, other))
+    }
+}
+
+impl Ord for Hash {
+    ghost use Rattle.std.specs.Prelude.{refl};
+    ghost use Rattle.std.specs.Ordering.{on};
+    ghost use Rattle.std.proofs.lemmas.Cmp.{on_total};
+    ghost use Rattle.tree_defs.specs.Order.{tree_cmp};
+    ghost use Rattle.tree_defs.proofs.OrderLaws.{tree_cmp_total};
+    ghost use Rattle.yaml_tree.specs.View.{hash_tree};
+
+    ghost cmp = { on hash_tree tree_cmp };
+
+    ghost total = { on_total hash_tree tree_cmp_total };
+
+    ghost matches_partial_cmp = { λ _ _. refl };
+
+    ghost matches_eq = { λ _ _. refl };
+
+    fn cmp(&self, other: &Hash) -> Ordering {
+        compare_pairs(self, other)
+    }
+}

@@ -1,0 +1,117 @@
+//! Hashes by their pairs: iterators.
+ghost use Rattle.std.specs.Prelude.{◌≡◌};
+ghost use Rattle.tree_defs.specs.Pairs.{AreDistinct};
+
+use crate::hash::Hash;
+use crate::yaml::Yaml;
+use std::marker::Model;
+use std::vec;
+
+/// The pairs of a hash, in their order.
+#[derive(Drop)]
+pub struct Iter<'a> {
+    rest: &'a [(Yaml, Yaml)],
+}
+
+impl<'a> Model for Iter<'a> {
+    ghost use Rattle.std.specs.Prelude.{List};
+    ghost use Rattle.tree_defs.specs.Tree.{Tree};
+    ghost use Rattle.tree_defs.specs.TreeCode.{pairs_code};
+    ghost use Rattle.yaml_tree.specs.View.{pairs_view};
+
+    ghost Value = { List (Tree × Tree) };
+
+    ghost coded = { pairs_code };
+
+    ghost view = { λ i. pairs_view i.rest.now };
+}
+
+impl<'a> Iterator for Iter<'a> {
+    ghost use Rattle.std.specs.Iterator.{YieldsFirstBy, item_count};
+    ghost use Rattle.yaml_tree.specs.View.{view};
+
+    type Item = (&'a Yaml, &'a Yaml);
+
+    ghost next_gives = { YieldsFirstBy (λ p. (view p.0.now, view p.1.now)) (λ i. i) };
+
+    ghost remaining = { item_count (λ i. i) };
+
+    fn next(&mut self) -> Option<(&'a Yaml, &'a Yaml)> {
+        let ((key, value), rest) = self.rest.split_first()?;
+        self.rest = rest;
+        Some((key, value))
+    }
+}
+
+impl Hash {
+    /// The pairs, in their order.
+    pub fn iter(&self) -> Iter<'_>
+        ensures pairs { result ≡ self.now }
+        ensures distinct { AreDistinct self.now }
+    {
+        Iter {
+            rest: self.pairs.as_slice(),
+        }
+    }
+}
+
+impl<'a> IntoIterator for &'a Hash {
+    type Item = (&'a Yaml, &'a Yaml);
+
+    type IntoIter = Iter<'a>;
+
+    ghost into_iter_gives = { λ h r. r ≡ h.now };
+
+    fn into_iter(self) -> Iter<'a> {
+        self.iter()
+    }
+}
+
+/// The pairs of a hash, by value, in their order.
+#[derive(Drop)]
+pub struct IntoIter {
+    pairs: vec::IntoIter<(Yaml, Yaml)>,
+}
+
+impl Model for IntoIter {
+    ghost use Rattle.std.specs.Prelude.{List};
+    ghost use Rattle.std.specs.Vec.Iter.{into_iter_items};
+    ghost use Rattle.tree_defs.specs.Tree.{Tree};
+    ghost use Rattle.tree_defs.specs.TreeCode.{pairs_code};
+    ghost use Rattle.yaml_tree.specs.View.{pairs_view};
+
+    ghost Value = { List (Tree × Tree) };
+
+    ghost coded = { pairs_code };
+
+    ghost view = { λ i. pairs_view (into_iter_items i.pairs) };
+}
+
+impl Iterator for IntoIter {
+    ghost use Rattle.std.specs.Iterator.{YieldsFirstBy, item_count};
+    ghost use Rattle.yaml_tree.specs.View.{pair_view};
+
+    type Item = (Yaml, Yaml);
+
+    ghost next_gives = { YieldsFirstBy pair_view (λ i. i) };
+
+    ghost remaining = { item_count (λ i. i) };
+
+    fn next(&mut self) -> Option<(Yaml, Yaml)> {
+        self.pairs.next()
+    }
+}
+
+impl IntoIterator for Hash {
+    type Item = (Yaml, Yaml);
+
+    type IntoIter = IntoIter;
+
+    ghost into_iter_gives = { λ h r. r ≡ h };
+
+    fn into_iter(self) -> IntoIter {
+        IntoIter {
+            pairs: self.into_pairs().into_iter(),
+        }
+    }
+}

@@ -1,0 +1,85 @@
+//! The value at a key or a place of a node.
+ghost use Rattle.std.specs.Prelude.{◌≡◌, ◌↔◌, Some, IsTrue, IsSome, option_map, chars};
+ghost use Rattle.tree_defs.specs.Order.{tree_eq};
+ghost use Rattle.tree_defs.specs.Pairs.{lookup, place_of, with_value};
+ghost use Rattle.tree_defs.specs.Tree.{string};
+ghost use Rattle.yaml_tree.specs.Node.{value_at_text, value_at_index};
+ghost use Rattle.yaml_tree.specs.View.{view};
+
+use crate::hash::Hash;
+use crate::yaml::Yaml;
+
+impl Yaml {
+    fn is_text(&self, text: &str) -> bool
+        ensures { result ≡ tree_eq (string (chars text.now)) (view self.now) }
+    {
+        match self {
+            Yaml::String(own) => text == own.as_str(),
+            _ => false,
+        }
+    }
+
+    #[tactic(auto, using(crate::proofs::ItemsLemmas::pair_list_of_pairs))]
+    /// In a `Hash` the value of the key `String` of that text; else `None`. It takes no memory.
+    pub fn get_key(&self, key: &str) -> Option<&Yaml>
+        ensures { option_map (λ y. view y.now) result ≡ value_at_text (chars key.now) (view self.now) }
+    {
+        match self {
+            Yaml::Hash(pairs) => pairs.get_text(key),
+            _ => None,
+        }
+    }
+
+    #[tactic(auto, using(crate::proofs::ItemsLemmas::list_of_items, crate::proofs::ItemsLemmas::pair_list_of_pairs))]
+    /// In an `Array` the item at that place, counted from 0; in a `Hash` the value of the key `Integer`
+    /// of that number, which is no greater than `i64::MAX`; else `None`. It takes no memory.
+    pub fn get_index(&self, index: usize) -> Option<&Yaml>
+        ensures { option_map (λ y. view y.now) result ≡ value_at_index index (view self.now) }
+    {
+        match self {
+            Yaml::Array(items) => items.get(index),
+            Yaml::Hash(pairs) => {
+                let Ok(number) = i64::try_from(index) else {
+                    return None;
+                };
+                pairs.get(&Yaml::Integer(number))
+            }
+            _ => None,
+        }
+    }
+
+    /// Whether `get_key` gives a value.
+    pub fn has_key(&self, key: &str) -> bool
+        ensures { IsTrue result ↔ IsSome (value_at_text (chars key.now) (view self.now)) }
+    {
+        self.get_key(key).is_some()
+    }
+
+    /// Whether `get_index` gives a value.
+    pub fn has_index(&self, index: usize) -> bool
+        ensures { IsTrue result ↔ IsSome (value_at_index index (view self.now)) }
+    {
+        self.get_index(index).is_some()
+    }
+}
+
+impl Hash {
+    pub(crate) fn place_of_text(&self, key: &str) -> Option<usize>
+        ensures { result ≡ place_of (string (chars key.now)) self.now }
+    {
+        for (i, pair) in self.pairs.iter().enumerate() {
+            if pair.0.is_text(key) {
+                return Some(i);
+            }
+        }
+        None
+    }
+
+    fn get_text(&self, key: &str) -> Option<&Yaml>
+        ensures { option_map (λ v. view v.now) result ≡ lookup (string (chars key.now)) self.now }
+    {
+        let pairs = &self.pairs;
+        let i = self.place_of_text(key)?;
+        Some(&pairs[i].1)
+    }
+}

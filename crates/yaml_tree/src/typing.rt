@@ -1,0 +1,172 @@
+//! What a plain text stands for.
+ghost use Rattle.std.specs.Prelude.{◌≡◌, ◌≤◌, ◌||◌, IfOk, option_map, option_and_then, map, chars};
+ghost use Rattle.tree_defs.specs.Grammar.{is_among, at_least_one};
+ghost use Rattle.tree_defs.specs.Typing.{behind, signed_number, typing, is_sign, is_decimal, special_words};
+ghost use Rattle.tree_defs.proofs.GrammarLaws.{behind_all, behind_one};
+ghost use Rattle.tree_defs.proofs.DecimalReading.{begins_in, reads_exponent, reads_on, reads_decimal};
+ghost use Rattle.std.specs.Char.{is_ascii_digit};
+ghost use Rattle.yaml_tree.specs.Values.{value_row};
+ghost use Rattle.yaml_tree.specs.View.{view};
+
+use crate::yaml::Yaml;
+use std::alloc::{AllocError, Global};
+
+const SPECIAL: [&str; 12] = [
+    ".inf", ".Inf", ".INF", "+.inf", "+.Inf", "+.INF", "-.inf", "-.Inf", "-.INF", ".nan", ".NaN",
+    ".NAN",
+];
+
+impl Yaml {
+    /// What the text stands for as a plain scalar, by the core schema: an integer of 64 bits, in base 10, or
+    /// in base 16 or 8 behind `0x` or `0o`; `Null`, a `Boolean`, or a `Real`, which keeps the text as it
+    /// stands; else the `String` of the text. Only a kept text takes memory, and an `Err` comes only where
+    /// that was refused.
+    pub fn from_str(alloc: Global, text: &str) -> Result<Yaml, AllocError>
+        ensures { IfOk result (λ y. view y ≡ typing (chars text.now)) }
+    {
+        if !text.is_ascii() {
+            return Ok(Yaml::String(String::from_str(alloc, text)?));
+        }
+        if let Some(value) = value_of(text) {
+            return Ok(value);
+        }
+        let own = String::from_str(alloc, text)?;
+        if is_real(text) {
+            Ok(Yaml::Real(own))
+        } else {
+            Ok(Yaml::String(own))
+        }
+    }
+}
+
+// An integer, a null or a boolean.
+fn value_of(text: &str) -> Option<Yaml>
+    ensures { option_map view result ≡ value_row text.now }
+{
+    if let Some(number) = number_behind("0x", text, 16) {
+        return Some(Yaml::Integer(number));
+    }
+    if let Some(number) = number_behind("0o", text, 8) {
+        return Some(Yaml::Integer(number));
+    }
+    if let Some(number) = number_behind("+", text, 10) {
+        return Some(Yaml::Integer(number));
+    }
+    if is_among(&["", "~", "null"], text) {
+        return Some(Yaml::Null);
+    }
+    if is_among(&["true", "True", "TRUE"], text) {
+        return Some(Yaml::Boolean(true));
+    }
+    if is_among(&["false", "False", "FALSE"], text) {
+        return Some(Yaml::Boolean(false));
+    }
+    Some(Yaml::Integer(number_in(text, 10)?))
+}
+
+/// Whether a text is a real: one of the words for infinity and not a number, or decimal.
+#[tactic(auto, using(crate::proofs::TypingLemmas::decimal_read))]
+pub fn is_real(text: &str) -> bool
+    ensures { result ≡ (is_among special_words text.now || is_decimal text.now) }
+{
+    is_among(&SPECIAL, text) || is_decimal(text.as_bytes())
+}
+
+fn is_among(words: &[&str], text: &str) -> bool
+    ensures { result ≡ is_among (map (λ w. w.now) words.now) text.now }
+{
+    for word in words {
+        if *word == text {
+            return true;
+        }
+    }
+    false
+}
+
+fn number_behind(prefix: &str, text: &str, base: u32) -> Option<i64>
+    requires at_least { 2 ≤ base }
+    requires at_most { base ≤ 36 }
+    ensures { result ≡ option_and_then (signed_number base) (behind prefix.now text.now) }
+{
+    number_in(text.strip_prefix(prefix)?, base)
+}
+
+fn number_in(text: &str, base: u32) -> Option<i64>
+    requires at_least { 2 ≤ base }
+    requires at_most { base ≤ 36 }
+    ensures { result ≡ signed_number base text.now }
+{
+    i64::from_str_radix(text, base).ok()
+}
+
+fn is_decimal(text: &[u8]) -> bool
+    ensures { result ≡ reads_decimal text.now }
+{
+    let text = behind_sign(text);
+    let has_digits = begins_with_digit(text);
+    is_rest_of_decimal(has_digits, behind_digits(text))
+}
+
+// What follows the first digits, where there were any or none.
+fn is_rest_of_decimal(has_digits: bool, text: &[u8]) -> bool
+    ensures { result ≡ reads_on has_digits text.now }
+{
+    match text {
+        [] => has_digits,
+        [b'.', rest @ ..] => (has_digits || begins_with_digit(rest))
+            && is_exponent(behind_digits(rest)),
+        _ => has_digits && is_exponent(text),
+    }
+}
+
+// An exponent, or nothing.
+fn is_exponent(text: &[u8]) -> bool
+    ensures { result ≡ reads_exponent text.now }
+{
+    match text {
+        [] => true,
+        [b'e' | b'E', rest @ ..] => are_digits(behind_sign(rest)),
+        _ => false,
+    }
+}
+
+#[tactic(auto, using(crate::proofs::TypingLemmas::digits_only))]
+fn are_digits(text: &[u8]) -> bool
+    ensures { result ≡ at_least_one is_ascii_digit text.now }
+{
+    match behind_digits(text) {
+        [] => begins_with_digit(text),
+        _ => false,
+    }
+}
+
+fn begins_with_digit(text: &[u8]) -> bool
+    ensures { result ≡ begins_in is_ascii_digit text.now }
+{
+    match text {
+        [first, ..] => first.is_ascii_digit(),
+        [] => false,
+    }
+}
+
+fn behind_sign(text: &[u8]) -> &[u8]
+    ensures { result.now ≡ behind_one is_sign text.now }
+{
+    match text {
+        [b'+' | b'-', rest @ ..] => rest,
+        _ => text,
+    }
+}
+
+fn behind_digits(text: &[u8]) -> &[u8]
+    ensures { result.now ≡ behind_all is_ascii_digit text.now }
+{
+    let mut rest = text;
+    while let [first, after @ ..] = rest {
+        if !first.is_ascii_digit() {
+            return rest;
+        }
+        rest = after;
+    }
+    rest
+}

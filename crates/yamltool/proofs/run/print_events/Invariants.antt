@@ -1,0 +1,4 @@
+use Rattle.yamltool.proofs.run.print_events.Given as goal
+
+abbrev pub decreases-events : goal.decreases-events
+decreases-events g l = l.parser.left
