@@ -1,18 +1,20 @@
 //! The stream and its documents (YAML 1.2, chapter 9).
-ghost use Rattle.std.specs.Prelude.{◌≡◌, ◌+◌, ◌<◌, ◌≤◌, OnOk, IfOk, IsSome};
+ghost use Rattle.std.specs.Prelude.{◌≡◌, ◌≢◌, List, IfErr, ◌+◌, ◌<◌, ◌≤◌, OnOk, IfOk, IsSome};
+ghost use Rattle.grammar_turns.specs.Goal as at;
+ghost use Rattle.yaml_parser.specs.At.{Reads};
+ghost use Rattle.grammar_turns.specs.declared.kind.Kind.TheVariants as kind;
 ghost use Rattle.yaml_parser.specs.Work.{work};
 ghost use Rattle.yaml_parser.specs.Kinds.{IsOfKind};
 
 use crate::event::Event;
-use crate::kind::Kind;
-use crate::node::Place;
-use crate::reader::{Answer, Reader, refused};
-use crate::stack::State;
+use crate::reader::{Answer, Reader};
 use crate::tokens::{Next, Stop};
+use grammar_turns::{Kind, Place, State};
 use yaml_tokens::{Fault, Problem};
 
 impl<T: Iterator<Item = char>> Reader<T> {
     pub(crate) fn stream_start(&mut self) -> Answer
+        ensures answers { Reads at.start self.old self.new result }
         ensures work { OnOk result (work self.new < work self.old + 1) }
     {
         let next = self.peek()?;
@@ -22,13 +24,13 @@ impl<T: Iterator<Item = char>> Reader<T> {
                 self.push(State::ImplicitDocumentStart)?;
                 Ok((Event::StreamStart, next.mark))
             }
-            _ => refused(Problem::DocumentStartToken, next.mark),
+            _ => Err(Stop::Own(Fault::At(Problem::DocumentStartToken, next.mark))),
         }
     }
 
     /// The first token that is no `...`.
     fn skip_document_ends(&mut self) -> Result<Next, Stop>
-        ensures peeked { IfOk result (λ n. IsOfKind n.kind self.new.tokens.peeked) }
+        ensures peeked { IfOk result (λ n. IsOfKind n.kind self.new.tokens.peeked × (n.kind ≢ kind.DocumentEnd)) }
         ensures work { OnOk result (work self.new ≤ work self.old) }
     {
         let mut next = self.peek()?;
@@ -72,7 +74,7 @@ impl<T: Iterator<Item = char>> Reader<T> {
                 self.push(State::DocumentContent)?;
                 Ok((Event::DocumentStart, next.mark))
             }
-            _ => refused(Problem::DocumentStartToken, next.mark),
+            _ => Err(Stop::Own(Fault::At(Problem::DocumentStartToken, next.mark))),
         }
     }
 
@@ -88,7 +90,7 @@ impl<T: Iterator<Item = char>> Reader<T> {
                 self.push(State::DocumentContent)?;
                 Ok((Event::DocumentStart, next.mark))
             }
-            _ => refused(Problem::DocumentStartToken, next.mark),
+            _ => Err(Stop::Own(Fault::At(Problem::DocumentStartToken, next.mark))),
         }
     }
 
@@ -119,6 +121,7 @@ impl<T: Iterator<Item = char>> Reader<T> {
 
     /// Behind `---`.
     pub(crate) fn document_content(&mut self) -> Answer
+        ensures answers { Reads at.content self.old self.new result }
         ensures work { OnOk result (work self.new < work self.old + 3) }
     {
         let next = self.peek()?;
@@ -128,13 +131,14 @@ impl<T: Iterator<Item = char>> Reader<T> {
             | Kind::TagDirective
             | Kind::DocumentStart
             | Kind::DocumentEnd
-            | Kind::StreamEnd => self.nothing_written(next.mark),
+            | Kind::StreamEnd => Ok(self.nothing_written(next.mark)),
             _ => self.node(Place::Block),
         }
     }
 
     /// Behind a document's node.
     pub(crate) fn document_end(&mut self) -> Answer
+        ensures answers { Reads at.after self.old self.new result }
         ensures work { OnOk result (work self.new < work self.old + 2) }
     {
         let next = self.peek()?;
@@ -145,7 +149,7 @@ impl<T: Iterator<Item = char>> Reader<T> {
                 Ok((Event::DocumentEnd, next.mark))
             }
             Kind::VersionDirective | Kind::TagDirective => {
-                refused(Problem::DirectiveWithoutDocumentEnd, next.mark)
+                Err(Stop::Own(Fault::At(Problem::DirectiveWithoutDocumentEnd, next.mark)))
             }
             _ => {
                 self.push(State::DocumentStart)?;

@@ -5,3 +5,5 @@
 mod loads;
 #[cfg(test)]
 mod misuse;
+#[cfg(test)]
+mod trees;

@@ -1,0 +1,23 @@
+use Rattle.std.proofs.Common.{◌≡◌, refl, ap, true, false, Some}
+use Rattle.grammar_turns.specs.declared.kind.Kind.{Kind}
+use Rattle.grammar_turns.specs.declared.kind.Kind.TheVariants as kind
+use Rattle.grammar_turns.specs.declared.place.Place.TheVariants as place
+use Rattle.grammar_turns.specs.Kinds.{kind_of, begins_node, ends_part, ends_document, is_directive, ends_item, ends_item_key, ends_flow_pair, ends_flow_key}
+use Rattle.grammar_turns.specs.Goal as at
+use Rattle.grammar_turns.proofs.First as first
+use Rattle.grammar_turns.proofs.Block as turn
+use Rattle.yaml_parser.proofs.Arms.{gives, goes, leaves, stays, went, plain, stay, stay_push, push_behind, answers_written, answers_err, either, one_of, one_of_four, one_of_five, as_kind, not_as}
+use Rattle.yaml_parser.proofs.Ends.{refuses}
+use Rattle.yaml_parser.proofs.reader.Reader.block_sequence_entry.Goals as goal
+
+pub returns-in_err-next-clause-answers : goal.returns-in_err-next-clause-answers
+returns-in_err-next-clause-answers g c = λ names given h. answers_err c.peek.new.self given c.from_residual.result _ c.from_residual.ensures.1 (c.in_err-next.ensures.err at.entries refl names given h)
+
+pub returns-in-BlockEnd-clause-answers : goal.returns-in-BlockEnd-clause-answers
+returns-in-BlockEnd-clause-answers g c = λ names given h. gives _ c.in_ok-next.ensures.peeked c.in-BlockEnd.is refl c.skip.ensures.took (turn.entries_end _) (plain refl refl refl) refl refl (c.in_ok-next.ensures.at at.entries refl names given h)
+
+pub returns-in-BlockEntry-clause-answers : goal.returns-in-BlockEntry-clause-answers
+returns-in-BlockEntry-clause-answers g c = λ names given h. c.block_sequence_item.ensures.answers names given (goes c.in_ok-next.ensures.peeked c.in-BlockEntry.is refl c.skip-in-BlockEntry.ensures.took (turn.entries_dash _) refl tt refl refl (c.in_ok-next.ensures.at at.entries refl names given h))
+
+pub returns-in_default-clause-answers : goal.returns-in_default-clause-answers
+returns-in_default-clause-answers g c = λ names given h. refuses c.in_ok-next.ensures.peeked (λ t e. turn.entries_refuses _ t (not_as c.in_default.not-BlockEnd e) (not_as c.in_default.not-BlockEntry e)) (c.in_ok-next.ensures.at at.entries refl names given h)

@@ -1,0 +1,13 @@
+use Rattle.std.proofs.Common.{◌≤◌}
+use Rattle.yaml_parser.specs.Work.{work}
+use Rattle.yaml_parser.specs.Kinds.{IsOfKind}
+use Rattle.yaml_parser.proofs.reader.Reader.skip_document_ends.Given as goal
+
+abbrev pub invariant-ends : goal.invariant-ends
+invariant-ends g l = record {
+  peeked : IsOfKind l.next.kind l.self.tokens.peeked;
+  work : work l.self ≤ work l.fn.self;
+}
+
+abbrev pub decreases-ends : goal.decreases-ends
+decreases-ends g l = work l.self

@@ -1,0 +1,24 @@
+-- The tokens of a parser: those taken, one that was looked at, and those to come.
+use Rattle.std.specs.Prelude.{◌≡◌, ℕ, ◌+◌, ◌≤◌, List, [], ◌∷◌, ◌++◌, length, Option, Some, None, IfSome}
+use Rattle.yaml_tokens.specs.declared.token.Token.{Token}
+use Rattle.yaml_tokens.specs.Shown.{shown, all_shown}
+use Rattle.yaml_scanner.specs.Scanned.{Scanned, scanned}
+use Rattle.yaml_parser.specs.declared.tokens.Tokens.{Tokens}
+
+-- one where it was looked at
+abbrev pub peeked_count : Option Token → ℕ
+peeked_count None = 0
+peeked_count (Some t) = 1
+
+-- a bound on the tokens that may still be taken
+abbrev pub left : {T : Type 0} → Tokens T → ℕ
+left p = (scanned p.scanner).left + peeked_count p.peeked
+
+-- The token that was looked at is taken.
+pub record Skips {T : Type 0} (old : Tokens T) (t : Token) (new : Tokens T) : Type 0 where
+  pub peeked : new.peeked ≡ None
+  pub taken : new.taken.items ≡ old.taken.items ++ t ∷ []
+  pub scanner : new.scanner ≡ old.scanner
+
+abbrev pub SkipsOne : {T : Type 0} → Tokens T → Tokens T → Type 0
+SkipsOne old new = IfSome old.peeked (λ t. Skips old t new)

@@ -1,0 +1,13 @@
+pub mod Ahead
+pub mod At
+pub mod Handed
+pub mod Kinds
+pub mod Named
+pub mod Parsed
+pub mod Properties
+pub mod Resolves
+pub mod Seen
+pub mod Shown
+pub mod Stacked
+pub mod View
+pub mod Work

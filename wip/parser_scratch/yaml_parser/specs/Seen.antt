@@ -1,0 +1,14 @@
+-- A fault as callers see it.
+use Rattle.std.specs.Prelude.{Option, Some, None, unwrap_or}
+use Rattle.yaml_chars.specs.Place.{Place}
+use Rattle.yaml_tokens.specs.Fault.{Fault}
+use Rattle.yaml_tokens.specs.Problem.{fault_of}
+use Rattle.yaml_tokens.specs.declared.problem.Fault.TheVariants as fault
+use Rattle.yaml_parser.specs.declared.tokens.Stop.{Stop}
+use Rattle.yaml_parser.specs.declared.tokens.Stop.TheVariants as stop
+
+-- the fault that callers see
+abbrev pub fault_seen : Stop → Place → Option Fault → Fault
+fault_seen (stop.Own f) mark kept = fault_of f mark
+fault_seen stop.Scan mark kept = unwrap_or kept (fault_of fault.OutOfMemory mark)
+fault_seen stop.Ended mark kept = fault_of fault.OutOfMemory mark

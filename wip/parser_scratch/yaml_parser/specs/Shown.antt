@@ -1,0 +1,36 @@
+-- The events of the code, as clauses see them.
+use Rattle.std.specs.Prelude.{List, Option, option_map, map}
+use Rattle.yaml_chars.specs.Place.{Place}
+use Rattle.yaml_chars.specs.Text.{string_chars}
+use Rattle.yaml_tokens.specs.Shown.{style_of}
+use Rattle.event_defs.specs.Event as defs
+use Rattle.event_defs.specs.Event.{Ev}
+use Rattle.yaml_parser.specs.declared.event.Event.{Event}
+use Rattle.yaml_parser.specs.declared.event.Event.TheVariants as event
+use Rattle.yaml_parser.specs.declared.event.Tag.{Tag}
+
+abbrev pub tag_of : Tag → defs.Tag
+tag_of t = record { handle = string_chars t.handle; suffix = string_chars t.suffix }
+
+abbrev pub perhaps_tag_of : Option Tag → Option defs.Tag
+perhaps_tag_of = option_map tag_of
+
+abbrev pub ev_of : Event → Ev
+ev_of event.Nothing = Ev.nothing
+ev_of event.StreamStart = Ev.stream_start
+ev_of event.StreamEnd = Ev.stream_end
+ev_of event.DocumentStart = Ev.document_start
+ev_of event.DocumentEnd = Ev.document_end
+ev_of (event.Alias n) = Ev.alias n
+ev_of (event.Scalar x s a t) = Ev.scalar (string_chars x) (style_of s) a (perhaps_tag_of t)
+ev_of (event.SequenceStart a t) = Ev.sequence_start a (perhaps_tag_of t)
+ev_of event.SequenceEnd = Ev.sequence_end
+ev_of (event.MappingStart a t) = Ev.mapping_start a (perhaps_tag_of t)
+ev_of event.MappingEnd = Ev.mapping_end
+
+-- an event and its place
+abbrev pub placed : Event × Place → Ev × Place
+placed e = (ev_of e.0, e.1)
+
+abbrev pub all_placed : List (Event × Place) → List (Ev × Place)
+all_placed = map placed

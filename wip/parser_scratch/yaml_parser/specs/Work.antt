@@ -1,0 +1,33 @@
+-- A bound on the events that may still come: it falls with each event.
+use Rattle.std.specs.Prelude.{ℕ, ◌+◌, ◌*◌, List, [], ◌∷◌, Option, Some, None}
+use Rattle.grammar_turns.specs.declared.state.State.{State}
+use Rattle.grammar_turns.specs.declared.state.State.TheVariants as state
+use Rattle.yaml_parser.specs.declared.reader.Reader.{Reader}
+use Rattle.yaml_parser.specs.Ahead.{left}
+
+-- what a state may bring beyond what the tokens to come bring
+abbrev pub weight : State → ℕ
+weight state.DocumentEnd = 2
+weight state.DocumentContent = 3
+weight state.ImplicitDocumentStart = 4
+weight state.IndentlessSequenceItem = 2
+weight state.BlockMappingValue = 2
+weight state.FlowSequenceEntryMappingEnd = 2
+weight state.FlowSequenceEntryMappingValue = 3
+weight state.FlowSequenceEntryMappingKey = 4
+weight state.FlowMappingValue = 2
+weight (state.FlowMappingPart m) = 2
+weight state.FlowMappingEmptyValue = 2
+weight _ = 1
+
+abbrev pub weights : List State → ℕ
+weights [] = 0
+weights (s ∷ ss) = weight s + weights ss
+
+abbrev pub work : {T : Type 0} → Reader T → ℕ
+work p = 4 * left p.tokens + weights p.stack
+
+-- by how much a content lowers the bound, behind these properties
+abbrev pub owed : {P : Type 0} → Option P → ℕ
+owed None = 2
+owed (Some p) = 0

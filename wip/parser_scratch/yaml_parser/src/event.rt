@@ -1,0 +1,107 @@
+ghost use Rattle.std.specs.Prelude.{◌≡◌, [], IfOk};
+ghost use Rattle.token_defs.specs.Token.{Style};
+ghost use Rattle.event_defs.specs.Event.{Ev};
+ghost use Rattle.yaml_chars.specs.Text.{string_chars};
+ghost use Rattle.yaml_parser.specs.Shown.{ev_of, tag_of, perhaps_tag_of};
+
+use std::alloc::{AllocError, Global};
+use yaml_tokens::{ScanError, TScalarStyle};
+
+/// What a parser hands out (YAML 1.2, section 3.1).
+///
+/// An anchor is its number, counted from 1 over the stream, or 0 where there is none.
+#[derive(Debug, PartialEq, Eq, Drop)]
+pub enum Event {
+    /// Never handed out.
+    Nothing,
+    StreamStart,
+    StreamEnd,
+    DocumentStart,
+    DocumentEnd,
+    /// The number of the anchor that is meant.
+    Alias(usize),
+    /// Text, style, anchor and tag.
+    Scalar(String, TScalarStyle, usize, Option<Tag>),
+    /// Anchor and tag.
+    SequenceStart(usize, Option<Tag>),
+    SequenceEnd,
+    /// Anchor and tag.
+    MappingStart(usize, Option<Tag>),
+    MappingEnd,
+}
+
+/// A tag: the prefix that its handle stands for, and its suffix.
+#[derive(Debug, PartialEq, Eq, Drop)]
+pub struct Tag {
+    pub handle: String,
+    pub suffix: String,
+}
+
+/// The next event and its place, or why there is none.
+pub type ParseResult = Result<(Event, yaml_chars::Marker), ScanError>;
+
+#[tactic(auto, using(yaml_chars::proofs::TextLemmas::string_chars_same))]
+pub(crate) fn copied(alloc: Global, text: &String) -> Result<String, AllocError>
+    ensures { IfOk result (λ t. string_chars t ≡ string_chars text.now) }
+{
+    String::from_str(alloc, text.as_str())
+}
+
+impl Tag {
+    /// An equal tag, or want of memory.
+    pub fn clone(&self, alloc: Global) -> Result<Tag, AllocError>
+        ensures { IfOk result (λ t. tag_of t ≡ tag_of self.now) }
+    {
+        Ok(Tag {
+            handle: copied(alloc, &self.handle)?,
+            suffix: copied(alloc, &self.suffix)?,
+        })
+    }
+}
+
+fn perhaps_clone(alloc: Global, tag: &Option<Tag>) -> Result<Option<Tag>, AllocError>
+    ensures { IfOk result (λ t. perhaps_tag_of t ≡ perhaps_tag_of tag.now) }
+{
+    match tag {
+        Some(tag) => Ok(Some(tag.clone(alloc)?)),
+        None => Ok(None),
+    }
+}
+
+impl Event {
+    /// An equal event, or want of memory.
+    pub fn clone(&self, alloc: Global) -> Result<Event, AllocError>
+        ensures { IfOk result (λ e. ev_of e ≡ ev_of self.now) }
+    {
+        match self {
+            Event::Nothing => Ok(Event::Nothing),
+            Event::StreamStart => Ok(Event::StreamStart),
+            Event::StreamEnd => Ok(Event::StreamEnd),
+            Event::DocumentStart => Ok(Event::DocumentStart),
+            Event::DocumentEnd => Ok(Event::DocumentEnd),
+            Event::Alias(number) => Ok(Event::Alias(*number)),
+            Event::Scalar(text, style, anchor, tag) => Ok(Event::Scalar(
+                copied(alloc, text)?,
+                *style,
+                *anchor,
+                perhaps_clone(alloc, tag)?,
+            )),
+            Event::SequenceStart(anchor, tag) => {
+                Ok(Event::SequenceStart(*anchor, perhaps_clone(alloc, tag)?))
+            }
+            Event::SequenceEnd => Ok(Event::SequenceEnd),
+            Event::MappingStart(anchor, tag) => {
+                Ok(Event::MappingStart(*anchor, perhaps_clone(alloc, tag)?))
+            }
+            Event::MappingEnd => Ok(Event::MappingEnd),
+        }
+    }
+
+    /// A scalar of which only properties are written.
+    #[tactic(auto, using(yaml_chars::proofs::TextLemmas::string_chars_nil))]
+    pub(crate) fn empty_with(alloc: Global, anchor: usize, tag: Option<Tag>) -> Event
+        ensures { ev_of result ≡ Ev.scalar [] Style.plain anchor (perhaps_tag_of tag) }
+    {
+        Event::Scalar(String::new(alloc), TScalarStyle::Plain, anchor, tag)
+    }
+}

@@ -1,0 +1,263 @@
+//! Flow collections (YAML 1.2, section 7.4).
+ghost use Rattle.std.specs.Prelude.{◌≡◌, List, ◌+◌, ◌<◌, ◌≤◌, OnOk};
+ghost use Rattle.grammar_turns.specs.Goal as at;
+ghost use Rattle.yaml_parser.specs.At.{Reads};
+ghost use Rattle.yaml_parser.specs.Work.{work};
+
+use crate::event::Event;
+use crate::reader::{Answer, Reader};
+use crate::tokens::Stop;
+use grammar_turns::{Kind, Place, State};
+use yaml_chars::Marker;
+use yaml_tokens::{Fault, Problem};
+
+impl<T: Iterator<Item = char>> Reader<T> {
+    pub(crate) fn flow_sequence_first_entry(&mut self) -> Answer
+        ensures answers { Reads at.items self.old self.new result }
+        ensures work { OnOk result (work self.new < work self.old + 1) }
+    {
+        let next = self.peek()?;
+        match next.kind {
+            Kind::FlowSequenceEnd => {
+                self.skip();
+                Ok((Event::SequenceEnd, next.mark))
+            }
+            _ => self.flow_sequence_item(),
+        }
+    }
+
+    /// Behind an item.
+    pub(crate) fn flow_sequence_entry(&mut self) -> Answer
+        ensures answers { Reads at.more_items self.old self.new result }
+        ensures work { OnOk result (work self.new < work self.old + 1) }
+    {
+        let next = self.peek()?;
+        match next.kind {
+            Kind::FlowSequenceEnd => {
+                self.skip();
+                Ok((Event::SequenceEnd, next.mark))
+            }
+            Kind::FlowEntry => {
+                self.skip();
+                self.flow_sequence_next()
+            }
+            _ => Err(Stop::Own(Fault::At(Problem::FlowSequenceEntry, next.mark))),
+        }
+    }
+
+    /// Behind a comma.
+    fn flow_sequence_next(&mut self) -> Answer
+        ensures answers { Reads at.comma_items self.old self.new result }
+        ensures work { OnOk result (work self.new < work self.old + 2) }
+    {
+        let next = self.peek()?;
+        match next.kind {
+            Kind::FlowSequenceEnd => {
+                self.skip();
+                Ok((Event::SequenceEnd, next.mark))
+            }
+            _ => self.flow_sequence_item(),
+        }
+    }
+
+    /// An item: a node, or a pair that begins with `?`.
+    fn flow_sequence_item(&mut self) -> Answer
+        ensures answers { Reads at.item self.old self.new result }
+        ensures work { OnOk result (work self.new < work self.old + 1) }
+    {
+        let next = self.peek()?;
+        match next.kind {
+            Kind::Key => {
+                self.skip();
+                self.push(State::FlowSequenceEntryMappingKey)?;
+                Ok((Event::MappingStart(0, None), next.mark))
+            }
+            _ => {
+                self.push(State::FlowSequenceEntry)?;
+                self.node(Place::Flow)
+            }
+        }
+    }
+
+    /// The key of a pair that is an item.
+    pub(crate) fn flow_pair_key(&mut self) -> Answer
+        ensures answers { Reads at.pair_key self.old self.new result }
+        ensures work { OnOk result (work self.new < work self.old + 4) }
+    {
+        let next = self.peek()?;
+        self.push(State::FlowSequenceEntryMappingValue)?;
+        match next.kind {
+            Kind::Value | Kind::FlowEntry | Kind::FlowSequenceEnd => {
+                Ok(self.nothing_written(next.mark))
+            }
+            _ => self.node(Place::Flow),
+        }
+    }
+
+    /// Behind the key of a pair that is an item.
+    pub(crate) fn flow_pair_value(&mut self) -> Answer
+        ensures answers { Reads at.pair_value self.old self.new result }
+        ensures work { OnOk result (work self.new < work self.old + 3) }
+    {
+        let next = self.peek()?;
+        match next.kind {
+            Kind::Value => {
+                self.skip();
+                self.flow_pair_valued()
+            }
+            _ => {
+                self.push(State::FlowSequenceEntryMappingEnd)?;
+                Ok(self.nothing_written(next.mark))
+            }
+        }
+    }
+
+    /// Behind its `:`.
+    fn flow_pair_valued(&mut self) -> Answer
+        ensures answers { Reads at.pair_valued self.old self.new result }
+        ensures work { OnOk result (work self.new < work self.old + 3) }
+    {
+        let next = self.peek()?;
+        self.push(State::FlowSequenceEntryMappingEnd)?;
+        match next.kind {
+            Kind::FlowEntry | Kind::FlowSequenceEnd => Ok(self.nothing_written(next.mark)),
+            _ => self.node(Place::Flow),
+        }
+    }
+
+    /// The end of a pair that is an item.
+    pub(crate) fn flow_pair_end(&mut self) -> Answer
+        ensures answers { Reads at.pair_end self.old self.new result }
+        ensures work { OnOk result (work self.new < work self.old + 2) }
+    {
+        self.push(State::FlowSequenceEntry)?;
+        Ok((Event::MappingEnd, self.tokens.scanner.mark()))
+    }
+
+    pub(crate) fn flow_mapping_first_key(&mut self) -> Answer
+        ensures answers { Reads at.flow_pairs self.old self.new result }
+        ensures work { OnOk result (work self.new < work self.old + 1) }
+    {
+        let next = self.peek()?;
+        match next.kind {
+            Kind::FlowMappingEnd => {
+                self.skip();
+                Ok((Event::MappingEnd, next.mark))
+            }
+            _ => self.flow_mapping_pair(),
+        }
+    }
+
+    /// Behind a pair.
+    pub(crate) fn flow_mapping_key(&mut self) -> Answer
+        ensures answers { Reads at.more_flow_pairs self.old self.new result }
+        ensures work { OnOk result (work self.new < work self.old + 1) }
+    {
+        let next = self.peek()?;
+        match next.kind {
+            Kind::FlowMappingEnd => {
+                self.skip();
+                Ok((Event::MappingEnd, next.mark))
+            }
+            Kind::FlowEntry => {
+                self.skip();
+                self.flow_mapping_next(next.mark)
+            }
+            _ => Err(Stop::Own(Fault::At(Problem::FlowMappingEntry, next.mark))),
+        }
+    }
+
+    /// Behind a comma, which stands here.
+    fn flow_mapping_next(&mut self, comma: Marker) -> Answer
+        ensures answers { Reads at.comma_flow_pairs self.old self.new result }
+        ensures work { OnOk result (work self.new < work self.old + 2) }
+    {
+        let next = self.peek()?;
+        match next.kind {
+            Kind::FlowMappingEnd => {
+                self.skip();
+                Ok((Event::MappingEnd, comma))
+            }
+            _ => self.flow_mapping_pair(),
+        }
+    }
+
+    /// A pair: with a key, with a value alone, or a node that is a key without value.
+    fn flow_mapping_pair(&mut self) -> Answer
+        ensures answers { Reads at.flow_pair self.old self.new result }
+        ensures work { OnOk result (work self.new < work self.old + 1) }
+    {
+        let next = self.peek()?;
+        match next.kind {
+            Kind::Key => {
+                self.skip();
+                self.flow_mapping_keyed()
+            }
+            Kind::Value => {
+                self.skip();
+                self.push(State::FlowMappingPart(next.mark))?;
+                Ok(self.nothing_written(next.mark))
+            }
+            _ => {
+                self.push(State::FlowMappingEmptyValue)?;
+                self.node(Place::Flow)
+            }
+        }
+    }
+
+    /// A key behind its `?`, or behind what stands for it.
+    fn flow_mapping_keyed(&mut self) -> Answer
+        ensures answers { Reads at.flow_key self.old self.new result }
+        ensures work { OnOk result (work self.new < work self.old + 4) }
+    {
+        let next = self.peek()?;
+        self.push(State::FlowMappingValue)?;
+        match next.kind {
+            Kind::Value | Kind::FlowEntry | Kind::FlowMappingEnd => Ok(self.nothing_written(
+                next.mark,
+            )),
+            _ => self.node(Place::Flow),
+        }
+    }
+
+    /// Behind a key.
+    pub(crate) fn flow_mapping_value(&mut self) -> Answer
+        ensures answers { Reads at.flow_after_key self.old self.new result }
+        ensures work { OnOk result (work self.new < work self.old + 2) }
+    {
+        let next = self.peek()?;
+        match next.kind {
+            Kind::Value => {
+                self.skip();
+                self.flow_mapping_valued(next.mark)
+            }
+            _ => {
+                self.push(State::FlowMappingKey)?;
+                Ok(self.nothing_written(next.mark))
+            }
+        }
+    }
+
+    /// Behind a `:`, which stands here.
+    pub(crate) fn flow_mapping_valued(&mut self, colon: Marker) -> Answer
+        ensures answers { Reads at.flow_valued self.old self.new result }
+        ensures work { OnOk result (work self.new < work self.old + 2) }
+    {
+        let next = self.peek()?;
+        self.push(State::FlowMappingKey)?;
+        match next.kind {
+            Kind::FlowEntry | Kind::FlowMappingEnd => Ok(self.nothing_written(colon)),
+            _ => self.node(Place::Flow),
+        }
+    }
+
+    /// Behind a node that is a key without value.
+    pub(crate) fn flow_mapping_empty_value(&mut self) -> Answer
+        ensures answers { Reads at.flow_empty self.old self.new result }
+        ensures work { OnOk result (work self.new < work self.old + 2) }
+    {
+        let next = self.peek()?;
+        self.push(State::FlowMappingKey)?;
+        Ok(self.nothing_written(next.mark))
+    }
+}

@@ -1,0 +1,76 @@
+ghost use Rattle.std.specs.Prelude.{◌≡◌, ◌⊎◌, ◌^◌, ◌<◌, ◌≤◌, [], ◌∷◌, true, false, Some, None, Ok, Err, IfOk, IfErr, IfSome, OnOk};
+ghost use Rattle.std.specs.Iterator.{IsFinite, size};
+ghost use Rattle.yaml_scanner.specs.Scanned.{scanned};
+ghost use Rattle.grammar_turns.specs.declared.state.State.TheVariants.{StreamStart};
+ghost use Rattle.yaml_parser.specs.Shown.{placed, ev_of};
+ghost use Rattle.yaml_parser.specs.View.{fault_kept, Pulls};
+
+use crate::event::{Event, ParseResult};
+use crate::names::Names;
+use crate::reader::Reader;
+use crate::stack::Stack;
+use crate::tokens::{Kept, Stop, Tokens};
+use std::alloc::Global;
+use yaml_scanner::Scanner;
+use yaml_tokens::ScanError;
+
+/// Reads events one by one, and keeps a fault.
+#[derive(Drop)]
+pub struct Pull<T: Iterator<Item = char>> {
+    pub reader: Reader<T>,
+    pub kept: Option<Kept>,
+}
+
+impl<T: Iterator<Item = char>> Pull<T> {
+    pub fn new(alloc: Global, src: T) -> Pull<T>
+        requires can { T.can_next src }
+        requires finite { IsFinite (T.remaining src) }
+        requires few { size (T.remaining src) < 2 ^ 63 }
+        ensures given { (scanned result.reader.tokens.scanner).given ≡ [] }
+        ensures kept { result.kept ≡ None }
+        ensures keep_tags { result.reader.names.keep_tags ≡ false }
+        ensures stack { result.reader.stack ≡ StreamStart ∷ [] }
+    {
+        Pull {
+            reader: Reader {
+                alloc,
+                tokens: Tokens::new(Scanner::new(alloc, src)),
+                stack: Stack::new(alloc),
+                names: Names::new(alloc),
+            },
+            kept: None,
+        }
+    }
+
+    /// The next event. Behind the stream's end comes that end again.
+    pub fn next(&mut self) -> ParseResult
+        ensures ok { IfOk result (λ e. Pulls self.old (ev_of e.0) self.new) }
+        ensures err { IfErr result (λ f. fault_kept self.new ≡ Some f) }
+        ensures again { IfSome (fault_kept self.old) (λ f. result ≡ Err f) }
+    {
+        if let Some(kept) = &self.kept {
+            return Err(self.reader.error(kept));
+        }
+        let Some(state) = self.reader.stack.pop() else {
+            return Ok((Event::StreamEnd, self.reader.tokens.scanner.mark()));
+        };
+        match self.reader.next(state) {
+            Ok(next) => Ok(next),
+            Err(stop) => Err(self.keep(stop)),
+        }
+    }
+
+    /// Keeps a fault, and gives it as callers see it.
+    fn keep(&mut self, stop: Stop) -> ScanError
+        ensures kept { fault_kept self.new ≡ Some result }
+        ensures reader { self.new.reader ≡ self.old.reader }
+    {
+        let kept = Kept {
+            stop,
+            mark: self.reader.tokens.scanner.mark(),
+        };
+        let error = self.reader.error(&kept);
+        self.kept = Some(kept);
+        error
+    }
+}

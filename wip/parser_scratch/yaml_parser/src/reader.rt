@@ -1,0 +1,117 @@
+ghost use Rattle.std.specs.Prelude.{◌≡◌, List, [], ◌∷◌, false, Some, None, Err, IsOkAnd, IfErr, ◌+◌, ◌<◌, ◌≤◌, OnOk, IfOk, IsSome, IsErr};
+ghost use Rattle.token_defs.specs.Token.{Style};
+ghost use Rattle.yaml_tokens.specs.declared.token.Token.{Token};
+ghost use Rattle.yaml_tokens.specs.declared.problem.Fault.TheVariants.{OutOfMemory};
+ghost use Rattle.event_defs.specs.Event.{Ev};
+ghost use Rattle.grammar_turns.specs.Goal.{Goal};
+ghost use Rattle.yaml_parser.specs.declared.tokens.Stop.TheVariants.{Own};
+ghost use Rattle.yaml_parser.specs.Shown.{placed};
+ghost use Rattle.yaml_parser.specs.At.{Carries, Fails, Took, Stayed, is_over};
+ghost use Rattle.yaml_parser.specs.Work.{work, weight};
+ghost use Rattle.yaml_parser.specs.Kinds.{IsOfKind};
+ghost use Rattle.yaml_scanner.specs.Scanned.{scanned};
+ghost use Rattle.yaml_parser.specs.Seen.{fault_seen};
+
+use crate::event::Event;
+use crate::names::Names;
+use crate::stack::Stack;
+use crate::tokens::{Kept, Next, Stop, Tokens};
+use grammar_turns::{Place, State};
+use std::alloc::Global;
+use yaml_chars::Marker;
+use yaml_tokens::ScanError;
+
+/// An event and its place, or why there is none.
+pub type Answer = Result<(Event, Marker), Stop>;
+
+/// The productions of the token grammar, one function each.
+#[derive(Drop)]
+pub struct Reader<T: Iterator<Item = char>> {
+    pub alloc: Global,
+    pub tokens: Tokens<T>,
+    pub stack: Stack,
+    pub names: Names,
+}
+
+impl<T: Iterator<Item = char>> Reader<T> {
+    /// The next token, which stays.
+    pub(crate) fn peek(&mut self) -> Result<Next, Stop>
+        ensures peeked { IfOk result (λ n. IsOfKind n.kind self.new.tokens.peeked) }
+        ensures work { OnOk result (work self.new ≤ work self.old) }
+        ensures at { OnOk result ((g : Goal) → is_over g ≡ false → Carries g self.old self.new) }
+        ensures err { IfErr result (λ s. (g : Goal) → is_over g ≡ false → Fails g self.old self.new s) }
+    {
+        self.tokens.peek()
+    }
+
+    /// Takes the token that was looked at.
+    pub(crate) fn skip(&mut self)
+        requires { IsSome self.old.tokens.peeked }
+        ensures work { work self.new + 4 ≡ work self.old }
+        ensures took { (t : Token) → self.old.tokens.peeked ≡ Some t → Took self.old t self.new self.old.stack }
+    {
+        self.tokens.skip();
+    }
+
+    pub(crate) fn push(&mut self, state: State) -> Result<(), Stop>
+        ensures work { OnOk result (work self.new ≡ work self.old + weight state) }
+        ensures stayed { OnOk result (Stayed self.old self.new (state ∷ self.old.stack)) }
+        ensures err { IfErr result (λ s. s ≡ Own OutOfMemory) }
+    {
+        self.stack.push(state)?;
+        Ok(())
+    }
+
+    /// A scalar that is not written.
+    pub(crate) fn nothing_written(&self, mark: Marker) -> (Event, Marker)
+        ensures { placed result ≡ (Ev.scalar [] Style.plain 0 None, mark) }
+    {
+        (Event::empty_with(self.alloc, 0, None), mark)
+    }
+
+    /// A fault as callers see it.
+    pub fn error(&self, kept: &Kept) -> ScanError
+        ensures { result ≡ fault_seen kept.now.stop kept.now.mark (scanned self.now.tokens.scanner).fault }
+    {
+        let mark = kept.mark;
+        match &kept.stop {
+            Stop::Own(fault) => (*fault).error(mark),
+            Stop::Scan => match self.tokens.scanner.get_error() {
+                Some(error) => error,
+                None => ScanError::memory(mark),
+            },
+            Stop::Ended => ScanError::memory(mark),
+        }
+    }
+
+    /// The next event, where this state was on top.
+    pub fn next(&mut self, state: State) -> Answer
+        ensures work { OnOk result (work self.new < work self.old + weight state) }
+    {
+        match state {
+            State::StreamStart => self.stream_start(),
+            State::ImplicitDocumentStart => self.document(),
+            State::DocumentStart => self.explicit_document(),
+            State::DocumentContent => self.document_content(),
+            State::DocumentEnd => self.document_end(),
+            State::BlockNode => self.node(Place::Block),
+            State::BlockSequenceEntry => self.block_sequence_entry(),
+            State::IndentlessSequenceEntry => self.indentless_sequence_entry(),
+            State::IndentlessSequenceItem => self.indentless_sequence_item(),
+            State::BlockMappingKey => self.block_mapping_key(),
+            State::BlockMappingNextKey => self.block_mapping_next_key(),
+            State::BlockMappingValue => self.block_mapping_value(),
+            State::BlockMappingPart => self.block_mapping_part(),
+            State::FlowSequenceFirstEntry => self.flow_sequence_first_entry(),
+            State::FlowSequenceEntry => self.flow_sequence_entry(),
+            State::FlowSequenceEntryMappingKey => self.flow_pair_key(),
+            State::FlowSequenceEntryMappingValue => self.flow_pair_value(),
+            State::FlowSequenceEntryMappingEnd => self.flow_pair_end(),
+            State::FlowMappingFirstKey => self.flow_mapping_first_key(),
+            State::FlowMappingKey => self.flow_mapping_key(),
+            State::FlowMappingValue => self.flow_mapping_value(),
+            State::FlowMappingPart(mark) => self.flow_mapping_valued(mark),
+            State::FlowMappingEmptyValue => self.flow_mapping_empty_value(),
+        }
+    }
+}

@@ -1,0 +1,59 @@
+ghost use Rattle.std.specs.Prelude.{◌≡◌, List, [], ◌∷◌, OnOk, OnErr, IfSome, IfNone};
+ghost use Rattle.grammar_turns.specs.declared.state.State.{State};
+ghost use Rattle.grammar_turns.specs.declared.state.State.TheVariants.{StreamStart};
+
+use grammar_turns::State;
+use std::alloc::{AllocError, Global};
+use std::marker::Model;
+
+/// What is awaited, the next on top.
+#[derive(Drop)]
+pub struct Stack {
+    // Whether all of the stream is awaited, below the other states: so the first takes no memory.
+    fresh: bool,
+    states: Vec<State>,
+}
+
+impl Model for Stack {
+    ghost use Rattle.std.specs.Prelude.{List};
+    ghost use Rattle.grammar_turns.specs.declared.state.State.{State};
+    ghost use Rattle.yaml_parser.specs.Stacked.{stacked};
+
+    ghost Value = { List State };
+
+    ghost view = { λ s. stacked s.fresh s.states.items };
+}
+
+impl Stack {
+    /// The stack before a stream's start. It takes no memory.
+    pub fn new(alloc: Global) -> Self
+        ensures { result ≡ StreamStart ∷ [] }
+    {
+        Stack {
+            fresh: true,
+            states: Vec::new(alloc),
+        }
+    }
+
+    /// An `Err` changes nothing.
+    pub fn push(&mut self, state: State) -> Result<(), AllocError>
+        ensures ok { OnOk result (self.new ≡ state ∷ self.old) }
+        ensures err { OnErr result (self.new ≡ self.old) }
+    {
+        self.states.push(state).map_err(|_| AllocError)
+    }
+
+    pub fn pop(&mut self) -> Option<State>
+        ensures some { IfSome result (λ s. self.old ≡ s ∷ self.new) }
+        ensures none { IfNone result ((self.old ≡ []) × (self.new ≡ [])) }
+    {
+        if let Some(state) = self.states.pop() {
+            return Some(state);
+        }
+        if self.fresh {
+            self.fresh = false;
+            return Some(State::StreamStart);
+        }
+        None
+    }
+}

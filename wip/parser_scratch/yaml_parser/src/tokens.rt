@@ -1,0 +1,190 @@
+ghost use Rattle.std.specs.Prelude.{◌≡◌, ◌⊎◌, ◌+◌, ◌≤◌, List, [], ◌∷◌, ◌++◌, Some, None, IsSome, IfSome, IfOk, IfErr, OnOk};
+ghost use Rattle.yaml_scanner.specs.Scanned.{scanned};
+ghost use Rattle.token_defs.specs.Token.{Tok};
+ghost use Rattle.yaml_chars.specs.Text.{string_chars};
+ghost use Rattle.yaml_tokens.specs.Shown.{tok_of, style_of};
+ghost use Rattle.yaml_parser.specs.Kinds.{IsOfKind, IsName};
+ghost use Rattle.yaml_parser.specs.Ahead.{left, Skips, SkipsOne};
+ghost use Rattle.yaml_parser.specs.Handed.{IsHanded, IsAwake};
+ghost use Rattle.yaml_parser.specs.declared.tokens.Stop.TheVariants.{Scan};
+ghost use Rattle.grammar_turns.specs.declared.kind.Kind.TheVariants as kind;
+
+use crate::kind::kind_of_token;
+use grammar_turns::Kind;
+use std::alloc::AllocError;
+use yaml_chars::Marker;
+use yaml_chars::history::History;
+use yaml_scanner::Scanner;
+use yaml_tokens::{Fault, TScalarStyle, Token, TokenType};
+
+/// Why no event comes.
+#[derive(Clone, Copy, Debug, PartialEq, Eq)]
+pub enum Stop {
+    /// What the parser found.
+    Own(Fault),
+    /// The scanner's fault, which the scanner keeps.
+    Scan,
+    /// The scanner has no more tokens: this never comes.
+    Ended,
+}
+
+impl From<Fault> for Stop {
+    ghost use Rattle.std.specs.Prelude.{◌≡◌};
+    ghost use Rattle.yaml_parser.specs.declared.tokens.Stop.TheVariants.{Own};
+
+    ghost from_gives = { λ f stop. stop ≡ Own f };
+
+    fn from(fault: Fault) -> Stop {
+        Stop::Own(fault)
+    }
+}
+
+impl From<AllocError> for Stop {
+    ghost use Rattle.std.specs.Prelude.{◌≡◌};
+    ghost use Rattle.yaml_tokens.specs.declared.problem.Fault.TheVariants.{OutOfMemory};
+    ghost use Rattle.yaml_parser.specs.declared.tokens.Stop.TheVariants.{Own};
+
+    ghost from_gives = { λ _ stop. stop ≡ Own OutOfMemory };
+
+    fn from(_: AllocError) -> Stop {
+        Stop::Own(Fault::OutOfMemory)
+    }
+}
+
+/// Why no event comes, and where the scanner stood.
+#[derive(Clone, Copy)]
+pub struct Kept {
+    pub stop: Stop,
+    pub mark: Marker,
+}
+
+/// The next token, as far as it was looked at.
+#[derive(Clone, Copy)]
+pub struct Next {
+    pub mark: Marker,
+    pub kind: Kind,
+}
+
+/// A scanner's tokens, of which the next may have been looked at.
+#[derive(Drop)]
+pub struct Tokens<T: Iterator<Item = char>> {
+    pub scanner: Scanner<T>,
+    pub peeked: Option<Token>,
+    pub taken: History<Token>,
+}
+
+impl<T: Iterator<Item = char>> Tokens<T> {
+    pub fn new(scanner: Scanner<T>) -> Self
+        ensures scanner { scanned result.scanner ≡ scanned scanner }
+        ensures peeked { result.peeked ≡ None }
+        ensures taken { result.taken.items ≡ [] }
+    {
+        Tokens {
+            scanner,
+            peeked: None,
+            taken: History::new(),
+        }
+    }
+
+    /// The next token, which stays.
+    pub fn peek(&mut self) -> Result<Next, Stop>
+        ensures looks { IfOk result (λ n. IsOfKind n.kind self.new.peeked) }
+        ensures left { OnOk result (left self.new ≤ left self.old) }
+        ensures taken { self.new.taken ≡ self.old.taken }
+        ensures same { IfSome self.old.peeked (λ t. self.new.peeked ≡ Some t) }
+        ensures handed { IsHanded self.old → IsHanded self.new }
+        ensures awake { OnOk result (IsAwake self.old → IsAwake self.new) }
+        ensures err { IsAwake self.old → IfErr result (λ s. (s ≡ Scan) × IsSome (scanned self.new.scanner).fault) }
+    {
+        if let Some(token) = &self.peeked {
+            return Ok(Next {
+                mark: token.0,
+                kind: kind_of_token(&token.1),
+            });
+        }
+        match self.scanner.next_token() {
+            Ok(Some(token)) => {
+                let next = Next {
+                    mark: token.0,
+                    kind: kind_of_token(&token.1),
+                };
+                self.peeked = Some(token);
+                Ok(next)
+            }
+            Ok(None) => Err(Stop::Ended),
+            Err(_) => Err(Stop::Scan),
+        }
+    }
+
+    /// Takes the token that was looked at.
+    fn take(&mut self) -> Option<Token>
+        ensures token { result ≡ self.old.peeked }
+        ensures skips { SkipsOne self.old self.new }
+        ensures left { IfSome result (λ _. left self.new + 1 ≡ left self.old) }
+    {
+        let token = self.peeked.take()?;
+        self.taken.push(&token);
+        Some(token)
+    }
+
+    /// Takes the token that was looked at.
+    pub fn skip(&mut self)
+        requires { IsSome self.old.peeked }
+        ensures skips { SkipsOne self.old self.new }
+        ensures left { left self.new + 1 ≡ left self.old }
+    {
+        let _ = self.take();
+    }
+
+    /// Takes an anchor or an alias that was looked at, and gives its name.
+    pub fn take_name(&mut self) -> String
+        requires { IsName self.old.peeked }
+        ensures skips { SkipsOne self.old self.new }
+        ensures name { IfSome self.old.peeked (λ t. (tok_of t.1 ≡ Tok.alias (string_chars result)) ⊎ (tok_of t.1 ≡ Tok.anchor (string_chars result))) }
+        ensures left { left self.new + 1 ≡ left self.old }
+    {
+        match self.take() {
+            Some(Token(_, TokenType::Alias(name) | TokenType::Anchor(name))) => name,
+            _ => unreachable!(),
+        }
+    }
+
+    /// Takes a tag that was looked at, and gives its handle and suffix.
+    pub fn take_tag(&mut self) -> (String, String)
+        requires { IsOfKind kind.Tag self.old.peeked }
+        ensures texts { IfSome self.old.peeked (λ t. tok_of t.1 ≡ Tok.tag (string_chars result.0) (string_chars result.1)) }
+        ensures skips { SkipsOne self.old self.new }
+        ensures left { left self.new + 1 ≡ left self.old }
+    {
+        match self.take() {
+            Some(Token(_, TokenType::Tag(handle, suffix))) => (handle, suffix),
+            _ => unreachable!(),
+        }
+    }
+
+    /// Takes a `%TAG` directive that was looked at, and gives its handle and prefix.
+    pub fn take_tag_directive(&mut self) -> (String, String)
+        requires { IsOfKind kind.TagDirective self.old.peeked }
+        ensures texts { IfSome self.old.peeked (λ t. tok_of t.1 ≡ Tok.tag_directive (string_chars result.0) (string_chars result.1)) }
+        ensures skips { SkipsOne self.old self.new }
+        ensures left { left self.new + 1 ≡ left self.old }
+    {
+        match self.take() {
+            Some(Token(_, TokenType::TagDirective(handle, prefix))) => (handle, prefix),
+            _ => unreachable!(),
+        }
+    }
+
+    /// Takes a scalar that was looked at, and gives its style and text.
+    pub fn take_scalar(&mut self) -> (TScalarStyle, String)
+        requires { IsOfKind kind.Scalar self.old.peeked }
+        ensures texts { IfSome self.old.peeked (λ t. tok_of t.1 ≡ Tok.scalar (style_of result.0) (string_chars result.1)) }
+        ensures skips { SkipsOne self.old self.new }
+        ensures left { left self.new + 1 ≡ left self.old }
+    {
+        match self.take() {
+            Some(Token(_, TokenType::Scalar(style, text))) => (style, text),
+            _ => unreachable!(),
+        }
+    }
+}

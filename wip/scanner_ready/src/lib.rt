@@ -1,0 +1,16 @@
+//! Characters to tokens: the scanner of YAML 1.2 streams.
+#![tactic(auto)]
+
+mod block;
+mod fetch;
+mod flow;
+mod indents;
+mod keys;
+mod levels;
+mod public;
+mod queue;
+mod scanner;
+mod space;
+mod stack;
+
+pub use scanner::Scanner;

@@ -1,0 +1,33 @@
+ghost use Rattle.yaml_parser.specs.Shown.{ev_of};
+
+use crate::event::Event;
+use yaml_chars::Marker;
+use yaml_tokens::ScanError;
+
+/// What takes the events that a parser pushes.
+pub trait EventReceiver {
+    /// Takes an event. An `Err` stops the parser's call.
+    fn on_event(&mut self, ev: Event) -> Result<(), ScanError>;
+}
+
+/// What takes the events that a parser pushes, with their places.
+pub trait MarkedEventReceiver {
+    ghost use Rattle.std.specs.Prelude.{Result};
+    ghost use Rattle.yaml_chars.specs.Place.{Place};
+    ghost use Rattle.event_defs.specs.Event.{Ev};
+    ghost use Rattle.yaml_tokens.specs.Fault.{Fault};
+
+    // What one call does: the receiver before it, the event and its place, the answer, and the receiver after it.
+    ghost takes: { Self → Ev → Place → Result (Unit {0}) Fault → Self → Type 0 } = { λ _ _ _ _ _. Unit {0} };
+
+    /// Takes an event and its place. An `Err` stops the parser's call.
+    fn on_event(&mut self, ev: Event, mark: Marker) -> Result<(), ScanError>
+        ensures { takes self.old (ev_of ev) mark result self.new };
+}
+
+impl<R: EventReceiver> MarkedEventReceiver for R {
+    fn on_event(&mut self, ev: Event, mark: Marker) -> Result<(), ScanError> {
+        let _ = mark;
+        EventReceiver::on_event(self, ev)
+    }
+}

@@ -1,0 +1,113 @@
+-- The finished anchors of a map, as clauses see them: what an alias means.
+use Rattle.std.proofs.Common.{◌≡◌, ℕ, zero, suc, ◌<◌, List, [], ◌∷◌, Bool, true, false, cond, refl, sym, ap, ◌∙◌, subst, nat_eq, arith}
+use Rattle.std.specs.Prelude.{Option, Some, None, option_map, unwrap_or, if◌then◌else◌}
+use Rattle.std.specs.Ordering.{nat_cmp}
+use Rattle.std.specs.BTreeMap.{is_at}
+use Rattle.std.specs.Map.{lookup}
+use Rattle.std.proofs.lemmas.Bool.Decides.{nat_tests}
+use Rattle.tree_defs.specs.Tree.{Tree, bad_value}
+use Rattle.event_defs.specs.Anchors.{Anchors, aliased, finished}
+use Rattle.event_defs.specs.Unfinished.{Opened, opened_sequence, opened_mapping, Unfinished, Step, reads, repeats, out_of_nesting, with_root, with_tree, with_node}
+use Rattle.tree_defs.specs.Pairs.{has_key, insert}
+use Rattle.yaml_tree.specs.View.{view}
+use Rattle.yaml_tree.specs.declared.yaml.Yaml.{Yaml}
+use Rattle.yaml_loader.specs.Alike.{AreAlike, ReadsTo}
+use Rattle.yaml_loader.specs.View.{anchors_of, with_anchors, IsRefusedBy}
+use Rattle.yaml_loader.specs.declared.reading.Refusal.{Refusal}
+use Rattle.yaml_loader.specs.declared.reading.Refusal.TheVariants as refusal
+
+at_number : (n k : ℕ) → is_at (nat_cmp n) k ≡ nat_eq n k
+at_number n k = grind (arith, nat_tests)
+
+same_number : (n k : ℕ) → nat_eq n k ≡ nat_eq k n
+same_number n k = grind (arith, nat_tests)
+
+-- the tree under a number, where there is one
+abbrev tree_or_bad : Option Yaml → Tree
+tree_or_bad o = unwrap_or (option_map view o) bad_value
+
+pub aliased_is : (es : List (ℕ × Yaml)) (n : ℕ) → aliased n (anchors_of es) ≡ unwrap_or (option_map view (lookup (is_at (nat_cmp n)) es)) bad_value
+aliased_is [] n = refl
+aliased_is (e ∷ es) n = by (is_at (nat_cmp n) e.0) (nat_eq n e.0) (at_number n e.0) (aliased_is es n)
+  where
+    by : (a b : Bool) → a ≡ b → aliased n (anchors_of es) ≡ tree_or_bad (lookup (is_at (nat_cmp n)) es)
+        → (if b then view e.1 else aliased n (anchors_of es)) ≡ tree_or_bad (cond a (Some e.1) (lookup (is_at (nat_cmp n)) es))
+    by true b h ih = ap (λ x. if x then view e.1 else aliased n (anchors_of es)) (sym h)
+    by false b h ih = ap (λ x. if x then view e.1 else aliased n (anchors_of es)) (sym h) ∙ ih
+
+finished_at : (a : ℕ) (t : Tree) (anchors : Anchors) → 0 < a → finished a t anchors ≡ (a, t) ∷ anchors
+finished_at zero t anchors h = absurd (omega arith)
+finished_at (suc a) t anchors h = refl
+
+-- a map into which a finished node is put
+pub finished_in : (es fs : List (ℕ × Yaml)) (a : ℕ) (copy : Yaml) (t : Tree) → 0 < a → view copy ≡ t
+    → ((q : ℕ) → lookup (is_at (nat_cmp q)) fs ≡ cond (is_at (nat_cmp a) q) (Some copy) (lookup (is_at (nat_cmp q)) es))
+    → (n : ℕ) → aliased n (finished a t (anchors_of es)) ≡ aliased n (anchors_of fs)
+finished_in es fs a copy t some same puts n =
+    ap (aliased n) (finished_at a t (anchors_of es) some) ∙ by (nat_eq n a) (is_at (nat_cmp a) n) (same_number n a ∙ sym (at_number a n)) (puts n) ∙ sym (aliased_is fs n)
+  where
+    by : (b d : Bool) → b ≡ d → lookup (is_at (nat_cmp n)) fs ≡ cond d (Some copy) (lookup (is_at (nat_cmp n)) es)
+        → (if b then t else aliased n (anchors_of es)) ≡ tree_or_bad (lookup (is_at (nat_cmp n)) fs)
+    by b true h e = ap (λ x. if x then t else aliased n (anchors_of es)) h ∙ sym same ∙ sym (ap tree_or_bad e)
+    by b false h e = ap (λ x. if x then t else aliased n (anchors_of es)) h ∙ aliased_is es n ∙ sym (ap tree_or_bad e)
+
+-- ---- the anchors in a step
+
+with_root_anchors : (t : Tree) (u : Unfinished) (anchors : Anchors) (root : Option Tree) → with_root t (record u { anchors = anchors }) root ≡ with_anchors anchors (with_root t u root)
+with_root_anchors t u anchors None = refl
+with_root_anchors t u anchors (Some r) = refl
+
+-- a step that inserts a tree leaves the anchors, and doesn't look at them
+pub with_tree_anchors : (t : Tree) (u : Unfinished) (anchors : Anchors) (os : List Opened) → with_tree t (record u { anchors = anchors }) os ≡ with_anchors anchors (with_tree t u os)
+with_tree_anchors t u anchors [] = with_root_anchors t u anchors u.root
+with_tree_anchors t u anchors (opened_sequence a ts ∷ outer) = refl
+with_tree_anchors t u anchors (opened_mapping a ps None ∷ outer) = refl
+with_tree_anchors t u anchors (opened_mapping a ps (Some k) ∷ outer) = by (has_key k ps)
+  where
+    by : (b : Bool) → (if b then repeats k else reads (record u { opened = opened_mapping a (insert k t ps) None ∷ outer; anchors = anchors }))
+        ≡ with_anchors anchors (if b then repeats k else reads (record u { opened = opened_mapping a (insert k t ps) None ∷ outer }))
+    by true = refl
+    by false = refl
+
+reads_alike : (s : Step) (a b : Anchors) (v : Unfinished) → ((n : ℕ) → aliased n a ≡ aliased n b) → with_anchors b s ≡ reads v → ReadsTo (with_anchors a s) v
+reads_alike (reads u) a b v same e =
+    let f : record u { anchors = b } ≡ v = cc in
+    subst (λ w. AreAlike (record u { anchors = a }) w) f (record { documents = refl; opened = refl; root = refl; aliases = same })
+reads_alike (repeats k) a b v same e = cc
+reads_alike out_of_nesting a b v same e = cc
+
+refused_alike : (r : Refusal) (s : Step) (a b : Anchors) (opened : List Opened) → IsRefusedBy r (with_anchors b s) opened → IsRefusedBy r (with_anchors a s) opened
+refused_alike refusal.OutOfMemory s a b opened h = tt
+refused_alike refusal.OutOfNesting (reads u) a b opened h = cc
+refused_alike refusal.OutOfNesting (repeats k) a b opened h = h
+refused_alike refusal.OutOfNesting out_of_nesting a b opened h = h
+refused_alike (refusal.RepeatedKey text) (reads u) a b opened h = cc
+refused_alike (refusal.RepeatedKey text) (repeats k) a b opened h = h
+refused_alike (refusal.RepeatedKey text) out_of_nesting a b opened h = h
+
+-- a tree is inserted over anchors in which each alias means the same
+pub reads_over : (t : Tree) (u : Unfinished) (os : List Opened) (a b : Anchors) (v : Unfinished) → ((n : ℕ) → aliased n a ≡ aliased n b)
+    → with_tree t (record u { anchors = b }) os ≡ reads v → ReadsTo (with_tree t (record u { anchors = a }) os) v
+reads_over t u os a b v same e =
+    subst (λ s. ReadsTo s v) (sym (with_tree_anchors t u a os)) (reads_alike (with_tree t u os) a b v same (sym (with_tree_anchors t u b os) ∙ e))
+
+pub refused_over : (r : Refusal) (t : Tree) (u : Unfinished) (os : List Opened) (a b : Anchors) (opened : List Opened)
+    → IsRefusedBy r (with_tree t (record u { anchors = b }) os) opened → IsRefusedBy r (with_tree t (record u { anchors = a }) os) opened
+refused_over r t u os a b opened h =
+    subst (λ s. IsRefusedBy r s opened) (sym (with_tree_anchors t u a os))
+    (refused_alike r (with_tree t u os) a b opened (subst (λ s. IsRefusedBy r s opened) (with_tree_anchors t u b os) h))
+
+-- ---- what a step says of the open collections doesn't hang on those that stood there
+
+with_root_opened : (t : Tree) (u : Unfinished) (x : List Opened) (root : Option Tree) → with_root t (record u { opened = x }) root ≡ with_root t u root
+with_root_opened t u x None = refl
+with_root_opened t u x (Some r) = refl
+
+pub with_tree_opened : (t : Tree) (u : Unfinished) (x os : List Opened) → with_tree t (record u { opened = x }) os ≡ with_tree t u os
+with_tree_opened t u x [] = with_root_opened t u x u.root
+with_tree_opened t u x (opened_sequence a ts ∷ outer) = refl
+with_tree_opened t u x (opened_mapping a ps None ∷ outer) = refl
+with_tree_opened t u x (opened_mapping a ps (Some k) ∷ outer) = refl
+
+pub with_node_opened : (a : ℕ) (t : Tree) (u : Unfinished) (x os : List Opened) → with_node a t (record u { opened = x }) os ≡ with_node a t u os
+with_node_opened a t u x os = with_tree_opened t (record u { anchors = finished a t u.anchors }) x os

@@ -1,0 +1,77 @@
+-- What the tag `float` reads, by the bytes of the text.
+use Rattle.std.proofs.Common.{◌≡◌, ℕ, List, [], ◌∷◌, Bool, true, false, ◌||◌, ◌⊎◌, inl, inr, refl, sym, ap, ◌∙◌, arith}
+use Rattle.std.specs.Prelude.{chars, IsUtf8, bytes_eq, nat_lt}
+use Rattle.std.specs.List.{list_all}
+use Rattle.std.proofs.lemmas.Bool.{and_parts, or_cases, or_left, or_right, false≢true}
+use Rattle.std.proofs.lemmas.Bool.Decides.{nat_tests}
+use Rattle.std.proofs.lemmas.Slice.Eq.{bytes_eq-Decides}
+use Rattle.tree_defs.specs.Grammar.{is_among}
+use Rattle.tree_defs.specs.Typing.{typing, is_decimal, is_real_text, special_words}
+use Rattle.tree_defs.proofs.RealTexts.{is_real_character, decimal-characters}
+use Rattle.tree_defs.proofs.GrammarLaws.{list_all-more}
+use Rattle.tree_defs.proofs.TypingLaws.{real_text-cases}
+use Rattle.yaml_loader.proofs.Words.{IsWord, AreWords, ascii_word, ascii_words, among_chars, chars_of_word, bytes_of_word}
+
+low : (c : ℕ) → is_real_character c ≡ true → nat_lt c 128 ≡ true
+low c h = grind (arith, nat_tests)
+
+word_of : (t : List ℕ) → list_all is_real_character t ≡ true → IsWord t
+word_of t h = ascii_word t (list_all-more is_real_character (λ c. nat_lt c 128) low t h)
+
+decimal_word : (t : List ℕ) → is_decimal t ≡ true → IsWord t
+decimal_word t h = word_of t (decimal-characters t h)
+
+or_from : (a b : Bool) → (a ≡ true) ⊎ (b ≡ true) → (a || b) ≡ true
+or_from a b (inl h) = or_left a b h
+or_from a b (inr h) = or_right a b h
+
+same_test : (a b : Bool) → (a ≡ true → b ≡ true) → (b ≡ true → a ≡ true) → a ≡ b
+same_test true b f g = sym (f refl)
+same_test false true f g = g refl
+same_test false false f g = refl
+
+decimal-chars : (bs : List ℕ) → IsUtf8 bs → is_decimal (chars bs) ≡ is_decimal bs
+decimal-chars bs utf8 =
+    same_test (is_decimal (chars bs)) (is_decimal bs)
+    (λ h. ap is_decimal (bytes_of_word (chars bs) bs (decimal_word (chars bs) h) utf8 refl) ∙ h)
+    (λ h. ap is_decimal (chars_of_word bs bs (decimal_word bs h) refl) ∙ h)
+
+among_all : (test : List ℕ → Bool) (ws : List (List ℕ)) (t : List ℕ) → list_all test ws ≡ true → is_among ws t ≡ true → test t ≡ true
+among_all test [] t h e = absurd (false≢true e)
+among_all test (w ∷ ws) t h e = by (λ f. among_all test ws t (and_parts (test w) (list_all test ws) h).1 f) (or_cases (bytes_eq w t) (is_among ws t) e)
+  where
+    by : (is_among ws t ≡ true → test t ≡ true) → (bytes_eq w t ≡ true) ⊎ (is_among ws t ≡ true) → test t ≡ true
+    by rest (inl f) = ap test (sym ((bytes_eq-Decides w t).0 f)) ∙ (and_parts (test w) (list_all test ws) h).0
+    by rest (inr f) = rest f
+
+specials_are_real : list_all is_real_text special_words ≡ true
+unfolding typing
+specials_are_real = refl
+
+special_real : (t : List ℕ) → is_among special_words t ≡ true → is_real_text t ≡ true
+special_real t h = among_all is_real_text special_words t specials_are_real h
+
+real_or_decimal : (t : List ℕ) → (is_real_text t || is_decimal t) ≡ (is_among special_words t || is_decimal t)
+real_or_decimal t = same_test (is_real_text t || is_decimal t) (is_among special_words t || is_decimal t) there back
+  where
+    by : (is_real_text t ≡ true) ⊎ (is_decimal t ≡ true) → (is_among special_words t || is_decimal t) ≡ true
+    by (inl h) = or_from (is_among special_words t) (is_decimal t) (real_text-cases t h)
+    by (inr h) = or_right (is_among special_words t) (is_decimal t) h
+
+    there : (is_real_text t || is_decimal t) ≡ true → (is_among special_words t || is_decimal t) ≡ true
+    there h = by (or_cases (is_real_text t) (is_decimal t) h)
+
+    back_by : (is_among special_words t ≡ true) ⊎ (is_decimal t ≡ true) → (is_real_text t || is_decimal t) ≡ true
+    back_by (inl h) = or_left (is_real_text t) (is_decimal t) (special_real t h)
+    back_by (inr h) = or_right (is_real_text t) (is_decimal t) h
+
+    back : (is_among special_words t || is_decimal t) ≡ true → (is_real_text t || is_decimal t) ≡ true
+    back h = back_by (or_cases (is_among special_words t) (is_decimal t) h)
+
+specials : AreWords special_words
+specials = ascii_words special_words refl
+
+-- by the bytes of the text
+pub real_by_bytes : (bs : List ℕ) → IsUtf8 bs → (is_among special_words bs || is_decimal bs) ≡ (is_real_text (chars bs) || is_decimal (chars bs))
+real_by_bytes bs utf8 =
+    sym (real_or_decimal (chars bs) ∙ (λ i. among_chars special_words bs specials utf8 i || decimal-chars bs utf8 i))

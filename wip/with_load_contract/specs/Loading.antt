@@ -1,0 +1,66 @@
+-- Where a loader stands, as clauses see it, and what it makes of one event more.
+-- YAML 1.2, section 3.1 (construction); the faults and what is kept of them are this project's.
+use Rattle.std.specs.Prelude.{◌≡◌, ◌⊎◌, true, Option, Some, None, IfSome, Result, Err, OnOk, OnErr, IfErr, IsOk, codes}
+use Rattle.yaml_chars.specs.Place.{Place}
+use Rattle.event_defs.specs.Event.{Ev}
+use Rattle.event_defs.specs.Unfinished.{Unfinished, Loader, at_work, noted, refused, with_event_at, documents_of, refused_at}
+use Rattle.yaml_tokens.specs.Fault.{Fault, fault_at}
+use Rattle.yaml_loader.specs.declared.loader.Course.{Course}
+use Rattle.yaml_loader.specs.declared.loader.Course.TheVariants as course
+use Rattle.yaml_loader.specs.declared.loader.YamlLoader.{YamlLoader}
+use Rattle.yaml_loader.specs.Alike.{StandAlike}
+use Rattle.yaml_loader.specs.View.{unfinished_of, repeated_key}
+
+-- by how it goes on, over what was read
+abbrev pub loader_by : Course → Unfinished → Loader
+loader_by course.Reading u = at_work u
+loader_by (course.RepeatedKey place text) u = noted u.documents (repeated_key u.opened) place
+loader_by (course.OutOfNesting place) u = refused u.documents place
+loader_by (course.OutOfMemory place) u = refused u.documents place
+
+-- the loader
+abbrev pub loader_of : YamlLoader → Loader
+loader_of l = loader_by l.course (unfinished_of l.reading)
+
+-- want of memory at a place
+abbrev pub want_of_memory : Place → Fault
+want_of_memory place = record { place = place; text = codes "out of memory"; memory = true }
+
+-- an event out of nesting at a place
+abbrev pub event_out_of_nesting : Place → Fault
+event_out_of_nesting place = fault_at place (codes "event out of nesting")
+
+abbrev pub kept_by : Course → Option Fault
+kept_by course.Reading = None
+kept_by (course.RepeatedKey place text) = None
+kept_by (course.OutOfNesting place) = Some (event_out_of_nesting place)
+kept_by (course.OutOfMemory place) = Some (want_of_memory place)
+
+-- the fault that is kept, where one is: every later event is answered the same
+abbrev pub kept_fault : YamlLoader → Option Fault
+kept_fault l = kept_by l.course
+
+-- A fault that comes anew with an event at this place, behind which the loader would be this one: want of memory, or
+-- that of an event out of nesting, where this one refuses it.
+abbrev pub IsNewFault : Fault → Place → Loader → Type 0
+IsNewFault f place l = (f ≡ want_of_memory place) ⊎ ((f ≡ event_out_of_nesting place) × (refused_at l ≡ Some place))
+
+-- a loader that has noted a key that came twice
+abbrev pub HasNotedKey : Loader → Type 0
+HasNotedKey (noted documents key place) = Unit {0}
+HasNotedKey _ = ⊥
+
+-- What a loader makes of an event at its place.
+pub record Takes (old : YamlLoader) (e : Ev) (place : Place) (result : Result (Unit {0}) Fault) (new : YamlLoader) : Type 0 where
+  -- Where the answer is good, the loader is the one behind the event, and keeps no fault.
+  pub reads : OnOk result (StandAlike (with_event_at (loader_of old) e place) (loader_of new))
+  pub goes_on : OnOk result (kept_fault new ≡ None)
+  -- A fault is kept, and the documents stay.
+  pub keeps : IfErr result (λ f. kept_fault new ≡ Some f)
+  pub documents : OnErr result (documents_of (loader_of new) ≡ documents_of (loader_of old))
+  -- One that was kept is answered again.
+  pub again : IfSome (kept_fault old) (λ f. result ≡ Err f)
+  -- Any other fault has its reason.
+  pub reason : IfErr result (λ f. kept_fault old ≡ None → IsNewFault f place (with_event_at (loader_of old) e place))
+  -- Once a key that came twice was noted, every event is answered well.
+  pub ignores : HasNotedKey (loader_of old) → IsOk result

@@ -1,0 +1,100 @@
+//! The loader, to which events are handed one by one.
+ghost use Rattle.std.specs.Prelude.{◌≡◌, None};
+ghost use Rattle.event_defs.specs.Unfinished.{new_loader, documents_of};
+ghost use Rattle.yaml_tree.specs.View.{items_view};
+ghost use Rattle.yaml_parser.specs.Shown.{ev_of};
+ghost use Rattle.yaml_loader.specs.Loading.{loader_of, kept_fault, event_out_of_nesting, Takes};
+
+use crate::reading::{Reading, Refusal};
+use std::alloc::Global;
+use yaml_chars::Marker;
+use yaml_parser::{Event, MarkedEventReceiver};
+use yaml_tokens::{Problem, ScanError};
+use yaml_tree::Yaml;
+
+// How a loader goes on.
+#[derive(Drop)]
+pub(crate) enum Course {
+    Reading,
+    // A key came twice, its second value at this place; what a fault says of it. Every later event is ignored.
+    RepeatedKey(Marker, String),
+    // The event at this place stood out of nesting: every later one is refused likewise.
+    OutOfNesting(Marker),
+    // Memory was refused at this place: so is every later event.
+    OutOfMemory(Marker),
+}
+
+/// Reads events as trees: one tree for each document.
+///
+/// A fault is kept: every later event is answered the same. The documents stay. A key that comes twice in its mapping
+/// is noted, and answered by the loads alone; from then on events are ignored.
+#[derive(Drop)]
+pub struct YamlLoader {
+    pub(crate) reading: Reading,
+    pub(crate) course: Course,
+}
+
+impl YamlLoader {
+    /// The empty loader. It takes no memory.
+    pub fn default(alloc: Global) -> YamlLoader
+        ensures empty { loader_of result ≡ new_loader }
+        ensures no_fault { kept_fault result ≡ None }
+    {
+        YamlLoader {
+            reading: Reading::new(alloc),
+            course: Course::Reading,
+        }
+    }
+
+    /// The documents that are finished.
+    pub fn documents(&self) -> &[Yaml]
+        ensures { items_view result.now ≡ documents_of (loader_of self.now) }
+    {
+        self.reading.documents.as_slice()
+    }
+
+    // One event more, where the loader goes on.
+    fn take(&mut self, ev: Event, mark: Marker) -> Result<(), ScanError>
+        requires { self.old.course ≡ Course.Reading }
+        ensures { Takes self.old (ev_of ev) mark result self.new }
+    {
+        match self.reading.take(ev) {
+            Ok(()) => Ok(()),
+            Err(Refusal::RepeatedKey(text)) => {
+                self.course = Course::RepeatedKey(mark, text);
+                Ok(())
+            }
+            Err(Refusal::OutOfNesting) => {
+                self.course = Course::OutOfNesting(mark);
+                Err(out_of_nesting(mark))
+            }
+            Err(Refusal::OutOfMemory) => {
+                self.course = Course::OutOfMemory(mark);
+                Err(ScanError::memory(mark))
+            }
+        }
+    }
+}
+
+#[tactic(auto, unfolding(yaml_tokens::specs::Problem::text_of_problem))]
+pub(crate) fn out_of_nesting(mark: Marker) -> ScanError
+    ensures { result ≡ event_out_of_nesting mark }
+{
+    ScanError::fixed(mark, Problem::EventOutOfNesting.text())
+}
+
+impl MarkedEventReceiver for YamlLoader {
+    ghost takes = { Takes };
+
+    /// Takes one event more. An `Err` is kept: an event out of nesting, at its place, or want of memory.
+    fn on_event(&mut self, ev: Event, mark: Marker) -> Result<(), ScanError>
+        ensures { Takes self.old (ev_of ev) mark result self.new }
+    {
+        match &self.course {
+            Course::Reading => self.take(ev, mark),
+            Course::RepeatedKey(_, _) => Ok(()),
+            Course::OutOfNesting(place) => Err(out_of_nesting(*place)),
+            Course::OutOfMemory(place) => Err(ScanError::memory(*place)),
+        }
+    }
+}
