@@ -1,5 +1,4 @@
 pub mod Alike
-pub mod Laws
 pub mod Loading
 pub mod Reached
 pub mod View

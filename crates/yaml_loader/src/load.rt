@@ -2,7 +2,7 @@
 ghost use Rattle.std.specs.Prelude.{◌^◌, ◌<◌};
 ghost use Rattle.std.specs.Iterator.{IsFinite, size};
 
-use crate::loader::{Course, YamlLoader, out_of_nesting};
+use crate::loader::{Course, YamlLoader};
 use std::alloc::Global;
 use yaml_parser::Parser;
 use yaml_tokens::ScanError;
@@ -39,9 +39,7 @@ impl YamlLoader {
         let YamlLoader { reading, course } = loader;
         match course {
             Course::RepeatedKey(mark, text) => Err(ScanError::new_string(mark, text)),
-            Course::OutOfNesting(mark) => Err(out_of_nesting(mark)),
-            Course::OutOfMemory(mark) => Err(ScanError::memory(mark)),
-            Course::Reading => Ok(reading.documents),
+            _ => Ok(reading.documents),
         }
     }
 }

@@ -1,11 +1,6 @@
 pub mod Ahead
-pub mod At
-pub mod Handed
 pub mod Kinds
-pub mod Named
 pub mod Parsed
-pub mod Properties
-pub mod Resolves
 pub mod Seen
 pub mod Shown
 pub mod Stacked

@@ -1,20 +1,18 @@
 //! The stream and its documents (YAML 1.2, chapter 9).
-ghost use Rattle.std.specs.Prelude.{◌≡◌, ◌≢◌, List, IfErr, ◌+◌, ◌<◌, ◌≤◌, OnOk, IfOk, IsSome};
-ghost use Rattle.grammar_turns.specs.Goal as at;
-ghost use Rattle.yaml_parser.specs.At.{Reads};
-ghost use Rattle.grammar_turns.specs.declared.kind.Kind.TheVariants as kind;
+ghost use Rattle.std.specs.Prelude.{◌≡◌, ◌+◌, ◌<◌, ◌≤◌, OnOk, IfOk, IsSome};
 ghost use Rattle.yaml_parser.specs.Work.{work};
 ghost use Rattle.yaml_parser.specs.Kinds.{IsOfKind};
 
 use crate::event::Event;
-use crate::reader::{Answer, Reader};
+use crate::kind::Kind;
+use crate::node::Place;
+use crate::reader::{Answer, Reader, refused};
+use crate::stack::State;
 use crate::tokens::{Next, Stop};
-use grammar_turns::{Kind, Place, State};
 use yaml_tokens::{Fault, Problem};
 
 impl<T: Iterator<Item = char>> Reader<T> {
     pub(crate) fn stream_start(&mut self) -> Answer
-        ensures answers { Reads at.start self.old self.new result }
         ensures work { OnOk result (work self.new < work self.old + 1) }
     {
         let next = self.peek()?;
@@ -24,13 +22,13 @@ impl<T: Iterator<Item = char>> Reader<T> {
                 self.push(State::ImplicitDocumentStart)?;
                 Ok((Event::StreamStart, next.mark))
             }
-            _ => Err(Stop::Own(Fault::At(Problem::DocumentStartToken, next.mark))),
+            _ => refused(Problem::DocumentStartToken, next.mark),
         }
     }
 
     /// The first token that is no `...`.
     fn skip_document_ends(&mut self) -> Result<Next, Stop>
-        ensures peeked { IfOk result (λ n. IsOfKind n.kind self.new.tokens.peeked × (n.kind ≢ kind.DocumentEnd)) }
+        ensures peeked { IfOk result (λ n. IsOfKind n.kind self.new.tokens.peeked) }
         ensures work { OnOk result (work self.new ≤ work self.old) }
     {
         let mut next = self.peek()?;
@@ -74,7 +72,7 @@ impl<T: Iterator<Item = char>> Reader<T> {
                 self.push(State::DocumentContent)?;
                 Ok((Event::DocumentStart, next.mark))
             }
-            _ => Err(Stop::Own(Fault::At(Problem::DocumentStartToken, next.mark))),
+            _ => refused(Problem::DocumentStartToken, next.mark),
         }
     }
 
@@ -90,7 +88,7 @@ impl<T: Iterator<Item = char>> Reader<T> {
                 self.push(State::DocumentContent)?;
                 Ok((Event::DocumentStart, next.mark))
             }
-            _ => Err(Stop::Own(Fault::At(Problem::DocumentStartToken, next.mark))),
+            _ => refused(Problem::DocumentStartToken, next.mark),
         }
     }
 
@@ -121,7 +119,6 @@ impl<T: Iterator<Item = char>> Reader<T> {
 
     /// Behind `---`.
     pub(crate) fn document_content(&mut self) -> Answer
-        ensures answers { Reads at.content self.old self.new result }
         ensures work { OnOk result (work self.new < work self.old + 3) }
     {
         let next = self.peek()?;
@@ -131,14 +128,13 @@ impl<T: Iterator<Item = char>> Reader<T> {
             | Kind::TagDirective
             | Kind::DocumentStart
             | Kind::DocumentEnd
-            | Kind::StreamEnd => Ok(self.nothing_written(next.mark)),
+            | Kind::StreamEnd => self.nothing_written(next.mark),
             _ => self.node(Place::Block),
         }
     }
 
     /// Behind a document's node.
     pub(crate) fn document_end(&mut self) -> Answer
-        ensures answers { Reads at.after self.old self.new result }
         ensures work { OnOk result (work self.new < work self.old + 2) }
     {
         let next = self.peek()?;
@@ -149,7 +145,7 @@ impl<T: Iterator<Item = char>> Reader<T> {
                 Ok((Event::DocumentEnd, next.mark))
             }
             Kind::VersionDirective | Kind::TagDirective => {
-                Err(Stop::Own(Fault::At(Problem::DirectiveWithoutDocumentEnd, next.mark)))
+                refused(Problem::DirectiveWithoutDocumentEnd, next.mark)
             }
             _ => {
                 self.push(State::DocumentStart)?;

@@ -1,7 +1,7 @@
 ghost use Rattle.std.specs.Prelude.{◌≡◌, ◌⊎◌, ◌^◌, ◌<◌, ◌≤◌, [], ◌∷◌, true, false, Some, None, Ok, Err, IfOk, IfErr, IfSome, OnOk};
 ghost use Rattle.std.specs.Iterator.{IsFinite, size};
 ghost use Rattle.yaml_scanner.specs.Scanned.{scanned};
-ghost use Rattle.grammar_turns.specs.declared.state.State.TheVariants.{StreamStart};
+ghost use Rattle.yaml_parser.specs.declared.stack.State.TheVariants.{StreamStart};
 ghost use Rattle.yaml_parser.specs.Shown.{placed, ev_of};
 ghost use Rattle.yaml_parser.specs.View.{fault_kept, Pulls};
 

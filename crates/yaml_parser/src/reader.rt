@@ -1,12 +1,4 @@
-ghost use Rattle.std.specs.Prelude.{◌≡◌, List, [], ◌∷◌, false, Some, None, Err, IsOkAnd, IfErr, ◌+◌, ◌<◌, ◌≤◌, OnOk, IfOk, IsSome, IsErr};
-ghost use Rattle.token_defs.specs.Token.{Style};
-ghost use Rattle.yaml_tokens.specs.declared.token.Token.{Token};
-ghost use Rattle.yaml_tokens.specs.declared.problem.Fault.TheVariants.{OutOfMemory};
-ghost use Rattle.event_defs.specs.Event.{Ev};
-ghost use Rattle.grammar_turns.specs.Goal.{Goal};
-ghost use Rattle.yaml_parser.specs.declared.tokens.Stop.TheVariants.{Own};
-ghost use Rattle.yaml_parser.specs.Shown.{placed};
-ghost use Rattle.yaml_parser.specs.At.{Carries, Fails, Took, Stayed, is_over};
+ghost use Rattle.std.specs.Prelude.{◌≡◌, ◌+◌, ◌<◌, ◌≤◌, OnOk, IfOk, IsSome, IsErr};
 ghost use Rattle.yaml_parser.specs.Work.{work, weight};
 ghost use Rattle.yaml_parser.specs.Kinds.{IsOfKind};
 ghost use Rattle.yaml_scanner.specs.Scanned.{scanned};
@@ -14,12 +6,12 @@ ghost use Rattle.yaml_parser.specs.Seen.{fault_seen};
 
 use crate::event::Event;
 use crate::names::Names;
-use crate::stack::Stack;
+use crate::node::Place;
+use crate::stack::{Stack, State};
 use crate::tokens::{Kept, Next, Stop, Tokens};
-use grammar_turns::{Place, State};
 use std::alloc::Global;
 use yaml_chars::Marker;
-use yaml_tokens::ScanError;
+use yaml_tokens::{Fault, Problem, ScanError};
 
 /// An event and its place, or why there is none.
 pub type Answer = Result<(Event, Marker), Stop>;
@@ -33,13 +25,18 @@ pub struct Reader<T: Iterator<Item = char>> {
     pub names: Names,
 }
 
+/// A fault at the token that was looked at.
+pub(crate) fn refused(problem: Problem, mark: Marker) -> Answer
+    ensures { IsErr result }
+{
+    Err(Stop::Own(Fault::At(problem, mark)))
+}
+
 impl<T: Iterator<Item = char>> Reader<T> {
     /// The next token, which stays.
     pub(crate) fn peek(&mut self) -> Result<Next, Stop>
         ensures peeked { IfOk result (λ n. IsOfKind n.kind self.new.tokens.peeked) }
         ensures work { OnOk result (work self.new ≤ work self.old) }
-        ensures at { OnOk result ((g : Goal) → is_over g ≡ false → Carries g self.old self.new) }
-        ensures err { IfErr result (λ s. (g : Goal) → is_over g ≡ false → Fails g self.old self.new s) }
     {
         self.tokens.peek()
     }
@@ -47,26 +44,22 @@ impl<T: Iterator<Item = char>> Reader<T> {
     /// Takes the token that was looked at.
     pub(crate) fn skip(&mut self)
         requires { IsSome self.old.tokens.peeked }
-        ensures work { work self.new + 4 ≡ work self.old }
-        ensures took { (t : Token) → self.old.tokens.peeked ≡ Some t → Took self.old t self.new self.old.stack }
+        ensures { work self.new + 4 ≡ work self.old }
     {
         self.tokens.skip();
     }
 
     pub(crate) fn push(&mut self, state: State) -> Result<(), Stop>
         ensures work { OnOk result (work self.new ≡ work self.old + weight state) }
-        ensures stayed { OnOk result (Stayed self.old self.new (state ∷ self.old.stack)) }
-        ensures err { IfErr result (λ s. s ≡ Own OutOfMemory) }
+        ensures tokens { self.new.tokens ≡ self.old.tokens }
     {
         self.stack.push(state)?;
         Ok(())
     }
 
     /// A scalar that is not written.
-    pub(crate) fn nothing_written(&self, mark: Marker) -> (Event, Marker)
-        ensures { placed result ≡ (Ev.scalar [] Style.plain 0 None, mark) }
-    {
-        (Event::empty_with(self.alloc, 0, None), mark)
+    pub(crate) fn nothing_written(&self, mark: Marker) -> Answer {
+        Ok((Event::empty(self.alloc), mark))
     }
 
     /// A fault as callers see it.

@@ -5,5 +5,3 @@
 mod loads;
 #[cfg(test)]
 mod misuse;
-#[cfg(test)]
-mod trees;

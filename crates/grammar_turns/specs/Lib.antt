@@ -1,5 +1,0 @@
-pub mod Kinds
-pub mod Goal
-pub mod Rest
-pub mod Stands
-pub mod Turn

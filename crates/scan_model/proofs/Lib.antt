@@ -1,6 +1,0 @@
-mod RowsBlock
-mod RowsFlow
-mod RowsLines
-mod RowsProperties
-mod RowsRefused
-mod RowsScalars

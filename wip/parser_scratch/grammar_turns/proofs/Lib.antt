@@ -1,6 +1,0 @@
-pub mod First
-pub mod Carry
-pub mod Document
-pub mod Nodes
-pub mod Block
-pub mod Flow

@@ -1,8 +1,0 @@
-pub mod AliasLemmas
-pub mod GoOnAlike
-pub mod LastPair
-pub mod LoadLemmas
-pub mod OpenedLemmas
-pub mod Reals
-pub mod Tags
-pub mod Words
