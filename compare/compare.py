@@ -1,12 +1,17 @@
 #!/usr/bin/env python3
 """Compares this library with another program that prints the same lines.
 
-usage: compare.py OURS THEIRS COMMAND [--seed N] [--count N] [--show N]
+usage: compare.py OURS THEIRS COMMAND [--exhaustive LENGTH] [--seed N] [--count N] [--show N]
 
-OURS and THEIRS are programs that read paths from standard input and print, for each file, a line
-`== PATH`, what COMMAND (tokens, events, dump) gives, and a line `ERR ..` where a fault comes.
+`OURS COMMAND` and `THEIRS batch COMMAND` read paths from standard input and print, for each file, a line
+`== PATH`, its tokens or events (COMMAND), and a line `ERR ..` where a fault comes. Each difference is put
+under the rule of rules.py that explains it; those that none explains are shown, and make the exit status 1.
 """
-import argparse, os, random, subprocess, sys, tempfile
+import argparse, collections, itertools, os, random, subprocess, sys, tempfile
+
+import rules
+
+BATCH = 5000
 
 PIECES = ["a", "b", "1", "true", "~", "-", "- ", "? ", "?", ": ", ":", ",", "[", "]", "{", "}", "#", " #c", "&a", "*a", "&b ", "*b ",
           "!", "!!str ", "!t ", "!<x> ", "|", ">", "|-", "|+", ">-", "|2", "'", '"', "''", "\\n", "\\", "\\x41", "\\u00e9", "%", "%YAML 1.2\n", "%TAG !t! x:\n",
@@ -52,6 +57,21 @@ def longer(r):
         out.append("---" + node(r, r.randint(1, 4), -1))
     return "\n".join(out) + r.choice(["", "\n", "\n...\n"])
 
+SHORT = "a-?:,[]{}#&*!|>'\"% \t\n"
+
+def exhaustive(length):
+    """All texts of up to so many characters of SHORT."""
+    for n in range(1, length + 1):
+        for letters in itertools.product(SHORT, repeat=n): yield "".join(letters)
+
+def generated(seed, count):
+    r = random.Random(seed)
+    for i in range(count): yield ROWS[i] if i < len(ROWS) else make(r, i)
+
+def batches(texts):
+    texts = iter(texts)
+    while batch := list(itertools.islice(texts, BATCH)): yield batch
+
 def make(r, i): return [short, mutated, longer, short, mutated][i % 5](r)
 
 def answers(cmd, paths, env=None):
@@ -63,31 +83,55 @@ def answers(cmd, paths, env=None):
         elif cur is not None: got[cur].append(line)
     return got
 
+def first_lines(ours, theirs):
+    for i in range(max(len(ours), len(theirs))):
+        x = ours[i] if i < len(ours) else "(end)"; y = theirs[i] if i < len(theirs) else "(end)"
+        if x != y: return "   ours:   %s\n   theirs: %s" % (x, y)
+    return ""
+
+def compared(a, texts, directory):
+    """The differences of a batch: of each its text, its name or None, and the first lines that differ."""
+    paths = []
+    for i, text in enumerate(texts):
+        path = os.path.join(directory, "%07d" % i)
+        with open(path, "wb") as f: f.write(text.encode("utf-8", "ignore"))
+        paths.append(path)
+    ours, theirs = answers([a.ours, "tokens"], paths), answers([a.theirs, "batch", "tokens"], paths)
+    found = []
+    for q, text in zip(paths, texts):
+        if ours.get(q) != theirs.get(q):
+            found.append((q, text, rules.explain_tokens(text, ours.get(q, []), theirs.get(q, [])), first_lines(ours.get(q, []), theirs.get(q, []))))
+    if a.command == "events":
+        explained = {q: name for q, _, name, _ in found}
+        tokens, found = ours, []
+        ours, theirs = answers([a.ours, "events"], paths), answers([a.theirs, "batch", "events"], paths)
+        for q, text in zip(paths, texts):
+            if ours.get(q) != theirs.get(q):
+                name = explained[q] if q in explained else rules.explain_events(text, ours.get(q, []), theirs.get(q, []), tokens.get(q, []))
+                found.append((q, text, name, first_lines(ours.get(q, []), theirs.get(q, []))))
+    return found
+
 def main():
     p = argparse.ArgumentParser()
-    p.add_argument("ours"); p.add_argument("theirs"); p.add_argument("command")
-    p.add_argument("--seed", type=int, default=1); p.add_argument("--count", type=int, default=5000); p.add_argument("--show", type=int, default=10)
+    p.add_argument("ours"); p.add_argument("theirs"); p.add_argument("command", choices=["tokens", "events"])
+    p.add_argument("--seed", type=int, default=1); p.add_argument("--count", type=int, default=5000); p.add_argument("--exhaustive", type=int, default=0)
+    p.add_argument("--show", type=int, default=10)
     a = p.parse_args()
-    r = random.Random(a.seed)
-    with tempfile.TemporaryDirectory() as d:
-        paths, texts = [], {}
-        for i in range(a.count):
-            path = os.path.join(d, "%07d" % i)
-            text = ROWS[i] if i < len(ROWS) else make(r, i)
-            data = text.encode("utf-8", "ignore")
-            open(path, "wb").write(data)
-            paths.append(path); texts[path] = text
-        ours = answers([a.ours, a.command], paths)
-        theirs = answers([a.theirs, "batch", a.command], paths)
-        differ = [q for q in paths if ours.get(q) != theirs.get(q)]
-        print("%d texts, %d differ" % (len(paths), len(differ)))
-        for q in differ[: a.show]:
-            print(repr(texts[q]))
-            o, t = ours.get(q) or ["(none)"], theirs.get(q) or ["(none)"]
-            for i in range(max(len(o), len(t))):
-                x = o[i] if i < len(o) else "(end)"; y = t[i] if i < len(t) else "(end)"
-                if x != y:
-                    print("   ours:   " + x); print("   theirs: " + y); break
-    return 1 if differ else 0
+    for program in (a.ours, a.theirs):
+        if not os.access(program, os.X_OK):
+            print("compare.py: %s is not a program: build it first" % program, file=sys.stderr)
+            return 2
+    names, unexplained, done = collections.Counter(), [], 0
+    for texts in batches(itertools.chain(exhaustive(a.exhaustive), generated(a.seed, a.count))):
+        with tempfile.TemporaryDirectory() as d:
+            for _, text, name, lines in compared(a, texts, d):
+                if name: names[name] += 1
+                else: unexplained.append((text, lines))
+        done += len(texts)
+    print("%d texts, %s: %d differ" % (done, a.command, sum(names.values()) + len(unexplained)))
+    for name, count in names.most_common(): print("%8d  %s" % (count, name))
+    print("%8d  not explained" % len(unexplained))
+    for text, lines in unexplained[: a.show]: print(repr(text)); print(lines)
+    return 1 if unexplained else 0
 
 if __name__ == "__main__": sys.exit(main())

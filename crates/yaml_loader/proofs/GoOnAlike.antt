@@ -1,16 +1,15 @@
 -- Loaders that stand alike stand alike behind each event.
-use Rattle.std.proofs.Common.{◌≡◌, ℕ, zero, suc, List, [], ◌∷◌, ◌++◌, Bool, true, false, refl, sym, ap, ◌∙◌, subst, nat_eq}
-use Rattle.std.specs.Prelude.{Option, Some, None, Ok, unwrap_or, if◌then◌else◌}
+use Rattle.std.proofs.Common.{◌≡◌, ℕ, zero, suc, List, [], ◌∷◌, Bool, true, false, refl, sym, ap, ◌∙◌, subst, nat_eq}
+use Rattle.std.specs.Prelude.{Option, Some, None, if◌then◌else◌}
 use Rattle.yaml_chars.specs.Place.{Place}
-use Rattle.tree_defs.specs.Tree.{Tree, array, hash, bad_value, items_of, pairs_of}
-use Rattle.tree_defs.specs.Pairs.{has_key, insert}
+use Rattle.tree_defs.specs.Tree.{Tree, array, hash, items_of, pairs_of}
 use Rattle.event_defs.specs.Event.{Ev}
 use Rattle.event_defs.specs.Scalar.{scalar_tree}
 use Rattle.event_defs.specs.Anchors.{Anchors, aliased, finished}
-use Rattle.event_defs.specs.Unfinished.{Opened, opened_sequence, opened_mapping, Unfinished, Step, reads, repeats, out_of_nesting, with_tree, with_node, with_start, with_sequence_end, with_mapping_end, with_document_end, with_event, Loader, at_work, noted, refused, loader_behind, with_event_at, with_events}
+use Rattle.event_defs.specs.Unfinished.{Opened, opened_sequence, opened_mapping, Unfinished, Step, reads, repeats, out_of_nesting, with_tree, with_node, with_start, with_sequence_end, with_mapping_end, with_document_end, with_event, Loader, at_work, noted, refused, loader_behind, with_event_at, with_events, new_loader, documents_of, refused_at}
 use Rattle.yaml_loader.specs.declared.loader.YamlLoader.{YamlLoader}
 use Rattle.yaml_loader.specs.Alike.{AreAlike, StandAlike}
-use Rattle.yaml_loader.specs.Loading.{loader_of, Takes}
+use Rattle.yaml_loader.specs.Loading.{loader_of}
 use Rattle.yaml_loader.specs.Reached.{Reaches, here, behind}
 use Rattle.yaml_loader.specs.View.{with_anchors}
 use Rattle.yaml_loader.proofs.AliasLemmas.{with_tree_anchors}
@@ -119,3 +118,15 @@ reached x h (here l) = h
 reached x h (behind {l} {m} {n} {e} {p} {es} takes rest) =
     reached (with_event_at x e p)
     (alike_trans (with_event_at x e p) (with_event_at (loader_of l) e p) (loader_of m) (event_at_alike x (loader_of l) e p h) takes.reads) rest
+
+pub show_the_same : (l m : Loader) → StandAlike l m → (documents_of l ≡ documents_of m) × (refused_at l ≡ refused_at m)
+show_the_same (at_work u) (at_work v) h = (h.documents, refl)
+show_the_same (at_work u) (noted documents key at) h = absurd h
+show_the_same (at_work u) (refused documents at) h = absurd h
+show_the_same (noted documents key at) m h = (ap documents_of h, ap refused_at h)
+show_the_same (refused documents at) m h = (ap documents_of h, ap refused_at h)
+
+pub read_as_defined : (empty loader : YamlLoader) (events : List (Ev × Place)) → loader_of empty ≡ new_loader → Reaches empty events loader
+    → StandAlike (with_events new_loader events) (loader_of loader)
+read_as_defined empty loader events e h =
+    reached new_loader (subst (λ x. StandAlike new_loader x) (sym e) (record { documents = refl; opened = refl; root = refl; aliases = λ n. refl })) h

@@ -1,13 +1,13 @@
 -- The open collections as a list, the innermost first.
-use Rattle.std.proofs.Common.{◌≡◌, ℕ, suc, pred, ◌<◌, ◌-◌, List, [], ◌∷◌, ◌++◌, refl, length, sym, ap, ◌∙◌, arith}
+use Rattle.std.proofs.Common.{◌≡◌, ℕ, pred, ◌<◌, ◌-◌, List, [], ◌∷◌, ◌++◌, refl, length, sym, ap, ◌∙◌, arith}
 use Rattle.std.proofs.Math.Numerals.{sub-one}
 use Rattle.std.specs.Prelude.{slice_index_or, slice_set}
 use Rattle.std.specs.Prelude.{Option, Some, None, option_map, is_some, false}
 use Rattle.std.proofs.lemmas.Bool.{true≢false}
 use Rattle.yaml_tree.specs.View.{view}
 use Rattle.yaml_tree.specs.declared.yaml.Yaml.{Yaml}
-use Rattle.tree_defs.specs.Tree.{Tree, array, items_of, hash, pairs_of}
-use Rattle.event_defs.specs.Unfinished.{Opened, opened_sequence, opened_mapping, Unfinished, Step, reads, repeats, out_of_nesting, with_tree, with_node, with_start, with_sequence_end, with_mapping_end, with_document_end}
+use Rattle.tree_defs.specs.Tree.{Tree}
+use Rattle.event_defs.specs.Unfinished.{Opened, Unfinished, reads, repeats, out_of_nesting, with_tree, with_start, with_document_end}
 use Rattle.yaml_loader.specs.declared.reading.Open.{Open}
 use Rattle.yaml_loader.specs.declared.reading.Refusal.{Refusal}
 use Rattle.yaml_loader.specs.declared.reading.Refusal.TheVariants as refusal

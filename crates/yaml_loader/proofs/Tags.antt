@@ -1,7 +1,7 @@
 -- Plain scalars with a tag: what the bytes of text, handle and suffix say.
 use Rattle.std.proofs.Common.{◌≡◌, ℕ, List, [], ◌∷◌, true, false, refl, sym, ap, ◌∙◌}
 use Rattle.std.specs.Prelude.{chars, bytes_eq, codes, IsUtf8, if◌then◌else◌}
-use Rattle.tree_defs.specs.Tree.{Tree, boolean, null, string, bad_value}
+use Rattle.tree_defs.specs.Tree.{boolean, null, string, bad_value}
 use Rattle.tree_defs.specs.Grammar.{is_among}
 use Rattle.tree_defs.specs.Typing.{true_words, false_words}
 use Rattle.event_defs.specs.Event.{Tag}

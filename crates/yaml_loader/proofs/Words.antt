@@ -1,6 +1,6 @@
 -- Texts as bytes and as characters, against words that are both.
-use Rattle.std.proofs.Common.{◌≡◌, ℕ, List, [], ◌∷◌, Bool, true, false, refl, sym, ap, ◌∙◌, not, ◌<◌, ◌++◌, arith}
-use Rattle.std.specs.Prelude.{chars, bytes_eq, IsUtf8, encode_utf8_all, ◌||◌, nat_lt}
+use Rattle.std.proofs.Common.{◌≡◌, ℕ, List, [], ◌∷◌, Bool, true, false, refl, sym, ap, ◌∙◌, ◌<◌, ◌++◌, arith}
+use Rattle.std.specs.Prelude.{chars, bytes_eq, IsUtf8, ◌||◌, nat_lt}
 use Rattle.std.specs.Bool.{Decides}
 use Rattle.std.proofs.lemmas.Bool.{and_parts, and_from}
 use Rattle.std.proofs.lemmas.Bool.Decides.{same_from_decides, nat_tests}

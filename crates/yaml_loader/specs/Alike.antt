@@ -1,4 +1,5 @@
--- When two readings are the same but for what no alias can tell apart: a number that was finished twice means its last tree.
+-- When two readings are the same but for what no alias can tell apart: of the trees that were finished under one number,
+-- an alias means the last alone. YAML 1.2, section 3.2.2.2 (anchors and aliases).
 use Rattle.std.specs.Prelude.{◌≡◌, ℕ}
 use Rattle.event_defs.specs.Anchors.{aliased}
 use Rattle.event_defs.specs.Unfinished.{Unfinished, Step, reads, Loader, at_work, noted, refused}

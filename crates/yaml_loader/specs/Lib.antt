@@ -1,4 +1,5 @@
 pub mod Alike
+pub mod Laws
 pub mod Loading
 pub mod Reached
 pub mod View

@@ -1,5 +1,6 @@
 -- Where a loader stands, as clauses see it, and what it makes of one event more.
-use Rattle.std.specs.Prelude.{◌≡◌, ◌⊎◌, true, Option, Some, None, IfSome, Result, Err, OnOk, OnErr, IfErr, codes}
+-- YAML 1.2, section 3.1 (construction); the faults and what is kept of them are this project's.
+use Rattle.std.specs.Prelude.{◌≡◌, ◌⊎◌, true, Option, Some, None, IfSome, Result, Err, OnOk, OnErr, IfErr, IsOk, codes}
 use Rattle.yaml_chars.specs.Place.{Place}
 use Rattle.event_defs.specs.Event.{Ev}
 use Rattle.event_defs.specs.Unfinished.{Unfinished, Loader, at_work, noted, refused, with_event_at, documents_of, refused_at}
@@ -44,6 +45,11 @@ kept_fault l = kept_by l.course
 abbrev pub IsNewFault : Fault → Place → Loader → Type 0
 IsNewFault f place l = (f ≡ want_of_memory place) ⊎ ((f ≡ event_out_of_nesting place) × (refused_at l ≡ Some place))
 
+-- a loader that has noted a key that came twice
+abbrev pub HasNotedKey : Loader → Type 0
+HasNotedKey (noted documents key place) = Unit {0}
+HasNotedKey _ = ⊥
+
 -- What a loader makes of an event at its place.
 pub record Takes (old : YamlLoader) (e : Ev) (place : Place) (result : Result (Unit {0}) Fault) (new : YamlLoader) : Type 0 where
   -- Where the answer is good, the loader is the one behind the event, and keeps no fault.
@@ -56,3 +62,5 @@ pub record Takes (old : YamlLoader) (e : Ev) (place : Place) (result : Result (U
   pub again : IfSome (kept_fault old) (λ f. result ≡ Err f)
   -- Any other fault has its reason.
   pub reason : IfErr result (λ f. kept_fault old ≡ None → IsNewFault f place (with_event_at (loader_of old) e place))
+  -- Once a key that came twice was noted, every event is answered well.
+  pub ignores : HasNotedKey (loader_of old) → IsOk result

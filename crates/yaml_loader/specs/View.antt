@@ -1,14 +1,13 @@
--- What a loader has read, as clauses see it.
-use Rattle.std.specs.Prelude.{◌≡◌, ℕ, List, [], ◌∷◌, Option, Some, None, option_map, map}
-use Rattle.std.specs.BTreeMap.{BTreeMap}
+-- What was read, as clauses see it: the unfinished reading of the code as that of the definitions.
+-- YAML 1.2, section 3.1 (construction from the serialization's events).
+use Rattle.std.specs.Prelude.{◌≡◌, ℕ, List, [], ◌∷◌, Option, Some, None, option_map, map, Result, OnOk, OnErr, IfErr}
 use Rattle.tree_defs.specs.Tree.{Tree, bad_value}
 use Rattle.tree_defs.specs.Pairs.{last_of}
 use Rattle.event_defs.specs.Anchors.{Anchors}
-use Rattle.event_defs.specs.Unfinished.{Opened, opened_sequence, opened_mapping, Unfinished, Step, repeats, out_of_nesting, reads, with_tree, Loader, at_work, noted, refused}
-use Rattle.yaml_tokens.specs.Fault.{Fault}
-use Rattle.yaml_tokens.specs.Problem.{fault_of}
+use Rattle.event_defs.specs.Unfinished.{Opened, opened_sequence, opened_mapping, Unfinished, Step, repeats, out_of_nesting, reads, with_tree}
 use Rattle.yaml_tree.specs.View.{view, items_view}
 use Rattle.yaml_tree.specs.declared.yaml.Yaml.{Yaml}
+use Rattle.yaml_loader.specs.Alike.{ReadsTo}
 use Rattle.yaml_loader.specs.declared.reading.Open.{Open}
 use Rattle.yaml_loader.specs.declared.reading.Open.TheVariants as collection
 use Rattle.yaml_loader.specs.declared.reading.Reading.{Reading}
@@ -67,3 +66,17 @@ abbrev pub IsNoInsert : Refusal → Opened → Tree → Opened → Type 0
 IsNoInsert refusal.OutOfMemory old t new = Unit {0}
 IsNoInsert refusal.OutOfNesting old t new = ⊥
 IsNoInsert (refusal.RepeatedKey text) old t new = Repeats old t new
+
+-- ---- what a function on a reading answers and leaves, where this is the step of the definitions
+
+-- Where the answer is good, the step reads, to a reading like the new one.
+abbrev pub Reads : Step → Result (Unit {0}) Refusal → Reading → Type 0
+Reads s result new = OnOk result (ReadsTo s (unfinished_of new))
+
+-- A refusal is the step's, but for want of memory.
+abbrev pub Refuses : Step → Result (Unit {0}) Refusal → Reading → Type 0
+Refuses s result new = IfErr result (λ r. IsRefusedBy r s (unfinished_of new).opened)
+
+-- Behind a refusal the documents are as they were.
+abbrev pub KeepsDocuments : Reading → Result (Unit {0}) Refusal → Reading → Type 0
+KeepsDocuments old result new = OnErr result ((unfinished_of new).documents ≡ (unfinished_of old).documents)

@@ -1,6 +1,7 @@
 //! The loader: the events of a YAML stream, read as trees.
 #![tactic(auto)]
 
+pub mod laws;
 mod load;
 pub mod loader;
 mod node;

@@ -2,7 +2,7 @@
 ghost use Rattle.std.specs.Prelude.{◌^◌, ◌<◌};
 ghost use Rattle.std.specs.Iterator.{IsFinite, size};
 
-use crate::loader::{Course, YamlLoader};
+use crate::loader::{Course, YamlLoader, out_of_nesting};
 use std::alloc::Global;
 use yaml_parser::Parser;
 use yaml_tokens::ScanError;
@@ -39,7 +39,9 @@ impl YamlLoader {
         let YamlLoader { reading, course } = loader;
         match course {
             Course::RepeatedKey(mark, text) => Err(ScanError::new_string(mark, text)),
-            _ => Ok(reading.documents),
+            Course::OutOfNesting(mark) => Err(out_of_nesting(mark)),
+            Course::OutOfMemory(mark) => Err(ScanError::memory(mark)),
+            Course::Reading => Ok(reading.documents),
         }
     }
 }

@@ -77,7 +77,7 @@ impl YamlLoader {
 }
 
 #[tactic(auto, unfolding(yaml_tokens::specs::Problem::text_of_problem))]
-fn out_of_nesting(mark: Marker) -> ScanError
+pub(crate) fn out_of_nesting(mark: Marker) -> ScanError
     ensures { result ≡ event_out_of_nesting mark }
 {
     ScanError::fixed(mark, Problem::EventOutOfNesting.text())

@@ -1,12 +1,12 @@
 //! The events of a reading, and where a complete node goes.
-ghost use Rattle.std.specs.Prelude.{◌≡◌, ℕ, IsSome, IfOk, IfErr, OnOk, OnErr};
+ghost use Rattle.std.specs.Prelude.{◌≡◌, ℕ, IsSome, IfOk, IfErr, OnOk};
 ghost use Rattle.tree_defs.specs.Pairs.{last_of};
 ghost use Rattle.event_defs.specs.Anchors.{aliased, finished};
-ghost use Rattle.event_defs.specs.Unfinished.{reads, with_tree, with_node, with_start, with_sequence_end, with_mapping_end, with_document_end, with_event};
+ghost use Rattle.event_defs.specs.Event.{Ev};
+ghost use Rattle.event_defs.specs.Unfinished.{reads, with_tree, with_node, with_start, with_event};
 ghost use Rattle.yaml_tree.specs.View.{view};
 ghost use Rattle.yaml_parser.specs.Shown.{ev_of};
-ghost use Rattle.yaml_loader.specs.Alike.{ReadsTo};
-ghost use Rattle.yaml_loader.specs.View.{opened_of, unfinished_of, Inserts, IsNoInsert, IsRefusedBy};
+ghost use Rattle.yaml_loader.specs.View.{opened_of, unfinished_of, Inserts, IsNoInsert, Reads, Refuses, KeepsDocuments};
 
 use crate::reading::{Open, Reading, Refusal};
 use crate::scalar::scalar_tree;
@@ -18,9 +18,9 @@ impl Reading {
     /// Takes one event more. Behind a refusal only the documents count, and behind that of a repeated key the
     /// mapping that has it.
     pub(crate) fn take(&mut self, event: Event) -> Result<(), Refusal>
-        ensures ok { OnOk result (ReadsTo (with_event (unfinished_of self.old) (ev_of event)) (unfinished_of self.new)) }
-        ensures err { IfErr result (λ r. IsRefusedBy r (with_event (unfinished_of self.old) (ev_of event)) (unfinished_of self.new).opened) }
-        ensures documents { OnErr result ((unfinished_of self.new).documents ≡ (unfinished_of self.old).documents) }
+        ensures ok { Reads (with_event (unfinished_of self.old) (ev_of event)) result self.new }
+        ensures err { Refuses (with_event (unfinished_of self.old) (ev_of event)) result self.new }
+        ensures documents { KeepsDocuments self.old result self.new }
     {
         match event {
             Event::Nothing | Event::StreamStart | Event::StreamEnd | Event::DocumentStart => Ok(()),
@@ -47,9 +47,9 @@ impl Reading {
     }
 
     fn end_document(&mut self) -> Result<(), Refusal>
-        ensures ok { OnOk result (ReadsTo (with_document_end (unfinished_of self.old) (unfinished_of self.old).opened) (unfinished_of self.new)) }
-        ensures err { IfErr result (λ r. IsRefusedBy r (with_document_end (unfinished_of self.old) (unfinished_of self.old).opened) (unfinished_of self.new).opened) }
-        ensures documents { OnErr result ((unfinished_of self.new).documents ≡ (unfinished_of self.old).documents) }
+        ensures ok { Reads (with_event (unfinished_of self.old) Ev.document_end) result self.new }
+        ensures err { Refuses (with_event (unfinished_of self.old) Ev.document_end) result self.new }
+        ensures documents { KeepsDocuments self.old result self.new }
     {
         if !self.opened.is_empty() {
             return Err(Refusal::OutOfNesting);
@@ -60,9 +60,9 @@ impl Reading {
     }
 
     fn open(&mut self, collection: Open) -> Result<(), Refusal>
-        ensures ok { OnOk result (ReadsTo (with_start (opened_of collection) (unfinished_of self.old) (unfinished_of self.old).opened (unfinished_of self.old).root) (unfinished_of self.new)) }
-        ensures err { IfErr result (λ r. IsRefusedBy r (with_start (opened_of collection) (unfinished_of self.old) (unfinished_of self.old).opened (unfinished_of self.old).root) (unfinished_of self.new).opened) }
-        ensures documents { OnErr result ((unfinished_of self.new).documents ≡ (unfinished_of self.old).documents) }
+        ensures ok { let u = unfinished_of self.old in Reads (with_start (opened_of collection) u u.opened u.root) result self.new }
+        ensures err { let u = unfinished_of self.old in Refuses (with_start (opened_of collection) u u.opened u.root) result self.new }
+        ensures documents { KeepsDocuments self.old result self.new }
     {
         if self.opened.is_empty() && self.root.is_some() {
             return Err(Refusal::OutOfNesting);
@@ -72,9 +72,9 @@ impl Reading {
     }
 
     fn end_sequence(&mut self) -> Result<(), Refusal>
-        ensures ok { OnOk result (ReadsTo (with_sequence_end (unfinished_of self.old) (unfinished_of self.old).opened) (unfinished_of self.new)) }
-        ensures err { IfErr result (λ r. IsRefusedBy r (with_sequence_end (unfinished_of self.old) (unfinished_of self.old).opened) (unfinished_of self.new).opened) }
-        ensures documents { OnErr result ((unfinished_of self.new).documents ≡ (unfinished_of self.old).documents) }
+        ensures ok { Reads (with_event (unfinished_of self.old) Ev.sequence_end) result self.new }
+        ensures err { Refuses (with_event (unfinished_of self.old) Ev.sequence_end) result self.new }
+        ensures documents { KeepsDocuments self.old result self.new }
     {
         match self.opened.pop() {
             Some(Open::Sequence(anchor, items)) => {
@@ -86,9 +86,9 @@ impl Reading {
     }
 
     fn end_mapping(&mut self) -> Result<(), Refusal>
-        ensures ok { OnOk result (ReadsTo (with_mapping_end (unfinished_of self.old) (unfinished_of self.old).opened) (unfinished_of self.new)) }
-        ensures err { IfErr result (λ r. IsRefusedBy r (with_mapping_end (unfinished_of self.old) (unfinished_of self.old).opened) (unfinished_of self.new).opened) }
-        ensures documents { OnErr result ((unfinished_of self.new).documents ≡ (unfinished_of self.old).documents) }
+        ensures ok { Reads (with_event (unfinished_of self.old) Ev.mapping_end) result self.new }
+        ensures err { Refuses (with_event (unfinished_of self.old) Ev.mapping_end) result self.new }
+        ensures documents { KeepsDocuments self.old result self.new }
     {
         match self.opened.pop() {
             Some(Open::Mapping(anchor, pairs, None)) => {
@@ -113,9 +113,9 @@ impl Reading {
 
     /// A complete node with its anchor, where the number isn't 0.
     fn insert_anchored(&mut self, anchor: usize, node: Yaml) -> Result<(), Refusal>
-        ensures ok { OnOk result (ReadsTo (with_node anchor (view node) (unfinished_of self.old) (unfinished_of self.old).opened) (unfinished_of self.new)) }
-        ensures err { IfErr result (λ r. IsRefusedBy r (with_node anchor (view node) (unfinished_of self.old) (unfinished_of self.old).opened) (unfinished_of self.new).opened) }
-        ensures documents { OnErr result ((unfinished_of self.new).documents ≡ (unfinished_of self.old).documents) }
+        ensures ok { let u = unfinished_of self.old in Reads (with_node anchor (view node) u u.opened) result self.new }
+        ensures err { let u = unfinished_of self.old in Refuses (with_node anchor (view node) u u.opened) result self.new }
+        ensures documents { KeepsDocuments self.old result self.new }
     {
         self.finish(anchor, &node)?;
         self.insert(node)
@@ -123,7 +123,8 @@ impl Reading {
 
     /// The node with this anchor is complete: from now on an alias means a copy of it.
     fn finish(&mut self, anchor: usize, node: &Yaml) -> Result<(), AllocError>
-        ensures aliases { OnOk result ((n : ℕ) → aliased n (finished anchor (view node.now) (unfinished_of self.old).anchors) ≡ aliased n (unfinished_of self.new).anchors) }
+        ensures aliases { let before = (unfinished_of self.old).anchors in let after = (unfinished_of self.new).anchors in
+            OnOk result ((n : ℕ) → aliased n (finished anchor (view node.now) before) ≡ aliased n after) }
         ensures others { self.new ≡ record self.old { anchors = self.new.anchors } }
     {
         if anchor > 0 {
@@ -135,9 +136,9 @@ impl Reading {
 
     /// A complete node: the root, the next item, the next key, or the value of the key that waits.
     fn insert(&mut self, node: Yaml) -> Result<(), Refusal>
-        ensures ok { OnOk result (with_tree (view node) (unfinished_of self.old) (unfinished_of self.old).opened ≡ reads (unfinished_of self.new)) }
-        ensures err { IfErr result (λ r. IsRefusedBy r (with_tree (view node) (unfinished_of self.old) (unfinished_of self.old).opened) (unfinished_of self.new).opened) }
-        ensures documents { OnErr result ((unfinished_of self.new).documents ≡ (unfinished_of self.old).documents) }
+        ensures ok { let u = unfinished_of self.old in OnOk result (with_tree (view node) u u.opened ≡ reads (unfinished_of self.new)) }
+        ensures err { let u = unfinished_of self.old in Refuses (with_tree (view node) u u.opened) result self.new }
+        ensures documents { KeepsDocuments self.old result self.new }
     {
         match self.opened.last_mut() {
             Some(collection) => collection.insert(self.alloc, node),

@@ -1,1 +1,9 @@
+pub mod DoesLemmas
+pub mod FlowLemmas
+pub mod HeldLemmas
+pub mod KeyLemmas
+pub mod LevelLemmas
+pub mod NodeLemmas
 pub mod QueueLemmas
+pub mod SpaceLemmas
+pub mod StackLemmas

@@ -1,5 +1,5 @@
 -- Lemmas about the queue of tokens.
-use Rattle.std.proofs.Common.{◌≡◌, ℕ, ◌+◌, ◌-◌, ◌≤◌, min, Bool, true, false, ◌||◌, inl, inr, List, [], ◌∷◌, ◌++◌, map, length, take, drop, refl, ap, sym, ◌∙◌, append_assoc, append-nil, arith, length-append, suc}
+use Rattle.std.proofs.Common.{◌≡◌, ℕ, ◌+◌, ◌-◌, ◌≤◌, min, Bool, true, false, ◌||◌, inl, inr, List, [], ◌∷◌, ◌++◌, map, length, take, drop, refl, ap, sym, ◌∙◌, append_assoc, append-nil, arith, length-append, length-drop, ◌<◌, suc}
 use Rattle.std.proofs.lemmas.List.{map-append, take-map, drop-map, take_min, take_all, drop_all, take-append-drop}
 use Rattle.std.proofs.lemmas.List.Edits.{insert-append_right}
 use Rattle.std.proofs.lemmas.Grind.{common_steps}
@@ -10,6 +10,8 @@ use Rattle.yaml_tokens.specs.Shown.{shown, tok_of}
 use Rattle.yaml_scanner.specs.Tokens.{is_end, has_end, end_at}
 use Rattle.yaml_chars.specs.Place.{Place}
 use Rattle.token_defs.specs.Token as seen
+use Rattle.std.proofs.Common.{Option, Some, None}
+use Rattle.scan_model.specs.Block.{property_place, last_property}
 
 length_shown : (w : List Token) → length (map shown w) ≡ length w
 length_shown [] = refl
@@ -82,3 +84,39 @@ pub end_waits : (w v : List Token) (t : Token) (p : Place) → shown t ≡ end_a
 end_waits w v t p end e =
     let last : is_end (tok_of t.1) ≡ true = ap (λ (s : seen.Token). is_end s.tok) end in
     rw (e, map-append shown w (t ∷ []), has_end_append (map shown w) (map shown (t ∷ [])), last) (or_true (has_end (map shown w)))
+
+last_behind : (xs : List seen.Token) (y : seen.Token) (ys : List seen.Token) → last_property (xs ++ y ∷ ys) ≡ last_property (y ∷ ys)
+last_behind [] y ys = refl
+last_behind (x ∷ []) y ys = refl
+last_behind (x ∷ z ∷ xs) y ys = last_behind (z ∷ xs) y ys
+
+-- a token behind all is the last
+pub push_last : (g w v : List Token) (t : Token) → v ≡ w ++ t ∷ [] → property_place (shown t).tok (shown t).place ≡ last_property (map shown g ++ map shown v)
+push_last g w v t e = sym (ap last_property (push_shown g w v t e) ∙ last_behind (map shown g ++ map shown w) (shown t) [])
+
+behind_last : (xs zs : List seen.Token) (x y : seen.Token) (ys : List seen.Token) → zs ≡ y ∷ ys → last_property (xs ++ x ∷ zs) ≡ last_property (xs ++ zs)
+behind_last xs zs x y ys e = rw e (last_behind xs x (y ∷ ys) ∙ sym (last_behind xs y ys))
+
+insert_by : (xs zs : List seen.Token) (x : seen.Token) → 0 < length zs → last_property (xs ++ x ∷ zs) ≡ last_property (xs ++ zs)
+insert_by xs [] x h = absurd (omega arith)
+insert_by xs (y ∷ ys) x h = behind_last xs (y ∷ ys) x y ys refl
+
+-- a token before others leaves the last one
+pub insert_last : (g w v : List Token) (i : ℕ) (t : Token) → v ≡ insert w i t → i < length w → last_property (map shown g ++ map shown v) ≡ last_property (map shown g ++ map shown w)
+insert_last g w v i t e h =
+    let n : 0 < length (drop i (map shown w)) = simp (length-drop, length_shown) (omega arith) in
+    let split : take i (map shown w) ++ drop i (map shown w) ≡ map shown w = take-append-drop i (map shown w) in
+    rw (e, map_insert w i t) (ap last_property (sym (append_assoc (map shown g) (take i (map shown w)) (shown t ∷ drop i (map shown w))))
+    ∙ insert_by (map shown g ++ take i (map shown w)) (drop i (map shown w)) (shown t) n
+    ∙ ap last_property (append_assoc (map shown g) (take i (map shown w)) (drop i (map shown w)) ∙ ap (λ xs. map shown g ++ xs) split))
+
+-- handing out leaves the last one
+pub give_last : (g h w v : List Token) (t : Token) → w ≡ t ∷ v → h ≡ g ++ t ∷ [] → last_property (map shown g ++ map shown w) ≡ last_property (map shown h ++ map shown v)
+give_last g h w v t e f = ap last_property (sym (give_shown g h w v t e f))
+
+pub end_last : (g w v : List Token) (t : Token) (p : Place) → shown t ≡ end_at p → v ≡ w ++ t ∷ [] → ◌≡◌ {A = Option Place} None (last_property (map shown g ++ map shown v))
+end_last g w v t p end e = ap (λ (s : seen.Token). property_place s.tok s.place) (sym end) ∙ push_last g w v t e
+
+-- a place behind all is the end
+pub insert_end : (w v : List Token) (i : ℕ) (t : Token) → i ≡ length w → v ≡ insert w i t → v ≡ w ++ t ∷ []
+insert_end w v i t e f = f ∙ rw (take_all i w (omega arith), drop_all i w (omega arith)) refl

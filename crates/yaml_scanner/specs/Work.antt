@@ -10,7 +10,7 @@ abbrev pub unset : Bool → ℕ
 unset b = (if b then 0 else 2)
 
 abbrev pub work : {T : Type 0} → Scanner T → ℕ
-work s = waiting s.tokens + length s.indents.items + 8 * s.window.left + unset s.started + unset s.tokens.ended
+work s = waiting s.tokens + length s.levels.indents + 8 * s.window.left + unset s.started + unset s.tokens.ended
 
 -- What was handed out stays, and so do start and end; the bound grows by at most so much, and falls by at least so much.
 pub record Moves {T : Type 0} (old new : Scanner T) (up down : ℕ) : Type 0 where

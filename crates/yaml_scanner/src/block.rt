@@ -4,7 +4,9 @@ ghost use Rattle.yaml_chars.specs.Reading.{HasChar};
 ghost use Rattle.yaml_scanner.specs.Work.{Moves, Fetches};
 
 use crate::keys::SimpleKey;
-use crate::scanner::{FlowLevel, Scanner};
+use crate::levels::Collection;
+use crate::scanner::Scanner;
+use scan_model::FlowLevel;
 use yaml_chars::Marker;
 use yaml_chars::class::{is_alpha, is_blank_or_breakz, is_break, is_flow};
 use yaml_scalars::SkipTabs;
@@ -21,7 +23,7 @@ impl<T: Iterator<Item = char>> Scanner<T> {
         let mark = self.window.mark();
         self.check_block_entry(mark)?;
         self.skip_indicator();
-        self.roll_indent(mark.col(), None, TokenType::BlockSequenceStart, mark)?;
+        self.roll_indent(mark.col(), None, Collection::Sequence, mark)?;
         let found = self.skip_spaces(SkipTabs::Yes)?;
         self.window.lookahead(2);
         let is_entry = self.window.peek(0) == '-' && is_blank_or_breakz(self.window.peek(1));
@@ -47,12 +49,9 @@ impl<T: Iterator<Item = char>> Scanner<T> {
         if !self.key_allowed {
             return Err(Fault::At(Problem::BlockEntryNotAllowed, mark));
         }
-        if let Some(Token(place, TokenType::Anchor(_) | TokenType::Tag(_, _))) = self
-            .tokens
-            .back()
-        {
-            if mark.col() == 0 && place.col() == 0 && self.indent > 0 {
-                return Err(Fault::At(Problem::AnchorIndentation, *place));
+        if let Some(place) = self.tokens.property() {
+            if mark.col() == 0 && place.col() == 0 && self.levels.indent() > 0 {
+                return Err(Fault::At(Problem::AnchorIndentation, place));
             }
         }
         Ok(())
@@ -70,7 +69,7 @@ impl<T: Iterator<Item = char>> Scanner<T> {
             if !self.key_allowed {
                 return Err(Fault::At(Problem::KeyNotAllowed, mark));
             }
-            self.roll_indent(mark.col(), None, TokenType::BlockMappingStart, mark)?;
+            self.roll_indent(mark.col(), None, Collection::Mapping, mark)?;
         } else if let Some(FlowLevel::Entry) = self.flow_entry() {
             self.set_flow_entry(FlowLevel::Keyed);
         }
@@ -139,7 +138,7 @@ impl<T: Iterator<Item = char>> Scanner<T> {
                 .insert(key.place, Token(here, TokenType::FlowMappingStart))?;
         }
         let col = key.mark.col();
-        self.roll_indent(col, Some(key.place), TokenType::BlockMappingStart, mark)?;
+        self.roll_indent(col, Some(key.place), Collection::Mapping, mark)?;
         self.roll_one_col_indent()?;
         self.keys.set_top(None);
         self.key_allowed = false;
@@ -159,7 +158,7 @@ impl<T: Iterator<Item = char>> Scanner<T> {
             if !self.key_allowed {
                 return Err(Fault::At(Problem::ValueNotAllowed, mark));
             }
-            self.roll_indent(mark.col(), None, TokenType::BlockMappingStart, mark)?;
+            self.roll_indent(mark.col(), None, Collection::Mapping, mark)?;
         }
         self.roll_one_col_indent()?;
         self.key_allowed = !self.in_flow();

@@ -1,6 +1,13 @@
 //! The next token, by its first characters.
-ghost use Rattle.std.specs.Prelude.{◌≡◌, ◌≢◌, ◌≤◌, ◌<◌, OnOk, true, false};
-ghost use Rattle.yaml_chars.specs.Reading.{HasChar};
+ghost use Rattle.std.specs.Prelude.{◌≡◌, ◌≢◌, ◌≤◌, ◌<◌, OnOk, IfErr, Ok, Err, true, false};
+ghost use Rattle.yaml_chars.specs.Reading.{HasChar, Reads};
+ghost use Rattle.scan_model.specs.State.{behind};
+ghost use Rattle.scalar_model.specs.Machine.{past};
+ghost use Rattle.yaml_chars.specs.Text.{string_chars};
+ghost use Rattle.yaml_tokens.specs.Shown.{tok_of, style_of};
+ghost use Rattle.scan_model.specs.Document.{begin_stream, fetch_stream_end, fetch_document_marker, begin_line, anchor_token, block_style, context, fetch_directive, fetch_anchor, fetch_tag, fetch_block_scalar, fetch_plain_scalar};
+ghost use Rattle.yaml_scanner.specs.Shape.{held, Does, Fails};
+ghost use Rattle.yaml_scanner.specs.Collections.{marker_of};
 ghost use Rattle.yaml_scanner.specs.Work.{Moves, Fetches, HasChars, work};
 
 use crate::scanner::Scanner;
@@ -11,8 +18,35 @@ use yaml_scalars::{
 };
 use yaml_tokens::{Fault, Problem, TEncoding, TScalarStyle, TokenType};
 
-// No line is longer than a text.
-const WIDEST_LINE: usize = 1 << 63;
+fn anchor_token(alias: bool, name: String) -> TokenType
+    ensures { tok_of result ≡ anchor_token alias (string_chars name) }
+{
+    if alias {
+        TokenType::Alias(name)
+    } else {
+        TokenType::Anchor(name)
+    }
+}
+
+fn marker_of(end: bool) -> TokenType
+    ensures { tok_of result ≡ marker_of end }
+{
+    if end {
+        TokenType::DocumentEnd
+    } else {
+        TokenType::DocumentStart
+    }
+}
+
+fn block_style(literal: bool) -> TScalarStyle
+    ensures { style_of result ≡ block_style literal }
+{
+    if literal {
+        TScalarStyle::Literal
+    } else {
+        TScalarStyle::Folded
+    }
+}
 
 impl<T: Iterator<Item = char>> Scanner<T> {
     /// Fetches a token, or several.
@@ -25,10 +59,7 @@ impl<T: Iterator<Item = char>> Scanner<T> {
             return self.fetch_stream_start();
         }
         self.skip_to_next_token()?;
-        if !self.in_flow() {
-            let mark = self.window.mark();
-            self.keys.drop_stale(mark)?;
-        }
+        self.drop_stale()?;
         let limit = self.window.mark().col() + 1;
         self.unroll_indent(limit)?;
         self.window.lookahead(4);
@@ -40,6 +71,8 @@ impl<T: Iterator<Item = char>> Scanner<T> {
 
     fn fetch_stream_start(&mut self) -> Result<(), Fault>
         requires { self.old.started ≡ false }
+        ensures held { OnOk result (held self.new ≡ begin_stream (held self.old)) }
+        ensures window { self.new.window ≡ self.old.window }
         ensures less { OnOk result (work self.new < work self.old) }
         ensures run { Fetches self.old self.new }
     {
@@ -53,6 +86,8 @@ impl<T: Iterator<Item = char>> Scanner<T> {
 
     fn fetch_stream_end(&mut self) -> Result<(), Fault>
         requires { self.old.tokens.ended ≡ false }
+        ensures does { OnOk result (Does fetch_stream_end self.old self.new) }
+        ensures fails { IfErr result (λ e. Fails fetch_stream_end self.old self.new e) }
         ensures less { OnOk result (work self.new < work self.old) }
         ensures run { Fetches self.old self.new }
     {
@@ -80,13 +115,13 @@ impl<T: Iterator<Item = char>> Scanner<T> {
                 return self.fetch_directive();
             }
             if self.at_marker('-') {
-                return self.fetch_document_marker(TokenType::DocumentStart);
+                return self.fetch_document_marker(false);
             }
             if self.at_marker('.') {
                 return self.fetch_document_end();
             }
         }
-        if self.window.mark().col() + 1 < self.indent {
+        if self.window.mark().col() + 1 < self.levels.indent() {
             return Err(Fault::At(Problem::InvalidIndentation, self.window.mark()));
         }
         self.fetch_token()
@@ -112,10 +147,10 @@ impl<T: Iterator<Item = char>> Scanner<T> {
     {
         let next = self.window.peek(1);
         match self.window.ch() {
-            '[' => self.fetch_flow_collection_start(TokenType::FlowSequenceStart),
-            '{' => self.fetch_flow_collection_start(TokenType::FlowMappingStart),
-            ']' => self.fetch_flow_collection_end(TokenType::FlowSequenceEnd),
-            '}' => self.fetch_flow_collection_end(TokenType::FlowMappingEnd),
+            '[' => self.fetch_flow_collection_start(false),
+            '{' => self.fetch_flow_collection_start(true),
+            ']' => self.fetch_flow_collection_end(false),
+            '}' => self.fetch_flow_collection_end(true),
             ',' => self.fetch_flow_entry(),
             '-' if is_blank_or_breakz(next) => self.fetch_block_entry(),
             '?' if is_blank_or_breakz(next) => self.fetch_key(),
@@ -153,37 +188,63 @@ impl<T: Iterator<Item = char>> Scanner<T> {
         }
     }
 
+    /// A directive or a document marker ends all collections.
+    fn begin_line(&mut self) -> Result<(), Fault>
+        ensures held { OnOk result (begin_line (held self.old) ≡ Ok (held self.new)) }
+        ensures fault { IfErr result (λ e. e ≢ Fault.OutOfMemory → begin_line (held self.old) ≡ Err e) }
+        ensures moves { Moves self.old self.new 0 0 }
+        ensures window { self.new.window ≡ self.old.window }
+    {
+        self.unroll_indent(0)?;
+        self.remove_simple_key()?;
+        self.key_allowed = false;
+        Ok(())
+    }
+
     fn fetch_directive(&mut self) -> Result<(), Fault>
         requires ahead { 0 < self.old.window.ahead }
         requires has { HasChar self.old.window }
+        ensures does { OnOk result (Does fetch_directive self.old self.new) }
+        ensures fails { IfErr result (λ e. Fails fetch_directive self.old self.new e) }
         ensures run { Fetches self.old self.new }
         ensures moves { OnOk result (Moves self.old self.new 1 8) }
     {
-        self.unroll_indent(0)?;
-        self.remove_simple_key()?;
-        self.key_allowed = false;
         let mark = self.window.mark();
+        self.begin_line()?;
         let directive = read_directive(self.alloc, &mut self.window)?;
         self.leading = true;
-        self.push_token(mark, directive)
+        self.push_token(mark, directive)?;
+        Ok(())
     }
 
-    /// `---` or `...`
-    fn fetch_document_marker(&mut self, kind: TokenType) -> Result<(), Fault>
+    /// Steps over three characters.
+    fn skip_marker(&mut self)
         requires ahead { 3 ≤ self.old.window.ahead }
         requires has { HasChars 3 self.old.window }
-        ensures run { Fetches self.old self.new }
-        ensures moves { OnOk result (Moves self.old self.new 1 8) }
+        ensures held { held self.new ≡ record (held self.old) { place = past (past (past (held self.old).place)); leading = false } }
+        ensures reads { Reads self.old.window self.new.window (λ a b. behind (behind (behind a)) ≡ b) }
+        ensures moves { Moves self.old self.new 0 8 }
     {
-        self.unroll_indent(0)?;
-        self.remove_simple_key()?;
-        self.key_allowed = false;
-        let mark = self.window.mark();
         self.window.skip();
         self.window.skip();
         self.window.skip();
         self.leading = false;
-        self.push_token(mark, kind)
+    }
+
+    /// `---` or `...`
+    fn fetch_document_marker(&mut self, end: bool) -> Result<(), Fault>
+        requires ahead { 3 ≤ self.old.window.ahead }
+        requires has { HasChars 3 self.old.window }
+        ensures does { OnOk result (Does (fetch_document_marker (marker_of end)) self.old self.new) }
+        ensures fails { IfErr result (λ e. Fails (fetch_document_marker (marker_of end)) self.old self.new e) }
+        ensures run { Fetches self.old self.new }
+        ensures moves { OnOk result (Moves self.old self.new 1 8) }
+    {
+        let mark = self.window.mark();
+        self.begin_line()?;
+        self.skip_marker();
+        self.push_token(mark, marker_of(end))?;
+        Ok(())
     }
 
     /// `...`, behind which the line has no content.
@@ -193,7 +254,7 @@ impl<T: Iterator<Item = char>> Scanner<T> {
         ensures run { Fetches self.old self.new }
         ensures moves { OnOk result (Moves self.old self.new 1 8) }
     {
-        self.fetch_document_marker(TokenType::DocumentEnd)?;
+        self.fetch_document_marker(true)?;
         let _ = self.skip_spaces(SkipTabs::Yes)?;
         if !is_breakz(self.window.ch()) {
             return Err(Fault::At(Problem::ContentAfterDocumentEnd, self.window.mark()));
@@ -205,62 +266,63 @@ impl<T: Iterator<Item = char>> Scanner<T> {
     fn fetch_anchor(&mut self, alias: bool) -> Result<(), Fault>
         requires ahead { 0 < self.old.window.ahead }
         requires has { HasChar self.old.window }
+        ensures does { OnOk result (Does (fetch_anchor alias) self.old self.new) }
+        ensures fails { IfErr result (λ e. Fails (fetch_anchor alias) self.old self.new e) }
         ensures run { Fetches self.old self.new }
         ensures moves { OnOk result (Moves self.old self.new 1 8) }
     {
+        let mark = self.window.mark();
         self.save_simple_key();
         self.key_allowed = false;
-        let mark = self.window.mark();
         let name = read_anchor_name(self.alloc, &mut self.window)?;
         self.leading = false;
-        let kind = if alias {
-            TokenType::Alias(name)
-        } else {
-            TokenType::Anchor(name)
-        };
-        self.push_token(mark, kind)
+        self.push_token(mark, anchor_token(alias, name))?;
+        Ok(())
     }
 
     fn fetch_tag(&mut self) -> Result<(), Fault>
         requires ahead { 0 < self.old.window.ahead }
         requires has { HasChar self.old.window }
+        ensures does { OnOk result (Does fetch_tag self.old self.new) }
+        ensures fails { IfErr result (λ e. Fails fetch_tag self.old self.new e) }
         ensures run { Fetches self.old self.new }
         ensures moves { OnOk result (Moves self.old self.new 1 8) }
     {
-        self.save_simple_key();
-        self.key_allowed = false;
         let mark = self.window.mark();
         let in_flow = self.in_flow();
+        self.save_simple_key();
+        self.key_allowed = false;
         let (handle, suffix) = read_tag(self.alloc, &mut self.window, in_flow)?;
         self.leading = false;
-        self.push_token(mark, TokenType::Tag(handle, suffix))
+        self.push_token(mark, TokenType::Tag(handle, suffix))?;
+        Ok(())
     }
 
-    fn context(&self) -> Context {
+    fn context(&self) -> Context
+        ensures { result ≡ context (held self.now) }
+    {
         Context {
             flow: self.in_flow(),
-            indent: self.indent,
+            indent: self.levels.indent(),
         }
     }
 
     fn fetch_block_scalar(&mut self, literal: bool) -> Result<(), Fault>
         requires ahead { 0 < self.old.window.ahead }
         requires has { HasChar self.old.window }
+        ensures does { OnOk result (Does (fetch_block_scalar literal) self.old self.new) }
+        ensures fails { IfErr result (λ e. Fails (fetch_block_scalar literal) self.old self.new e) }
         ensures run { Fetches self.old self.new }
         ensures moves { OnOk result (Moves self.old self.new 1 8) }
     {
         self.save_simple_key();
         self.key_allowed = true;
         self.unroll_non_block_indents();
-        let indent = self.indent.min(WIDEST_LINE);
+        let indent = self.levels.indent();
         let (mark, text) = read_block_scalar(self.alloc, &mut self.window, literal, indent)?;
         self.leading = true;
-        let style = if literal {
-            TScalarStyle::Literal
-        } else {
-            TScalarStyle::Folded
-        };
-        self.push_token(mark, TokenType::Scalar(style, text))
+        self.push_token(mark, TokenType::Scalar(block_style(literal), text))?;
+        Ok(())
     }
 
     fn fetch_flow_scalar(&mut self, single: bool) -> Result<(), Fault>
@@ -307,19 +369,20 @@ impl<T: Iterator<Item = char>> Scanner<T> {
     fn fetch_plain_scalar(&mut self) -> Result<(), Fault>
         requires ahead { 0 < self.old.window.ahead }
         requires has { HasChar self.old.window }
+        ensures does { OnOk result (Does fetch_plain_scalar self.old self.new) }
+        ensures fails { IfErr result (λ e. Fails fetch_plain_scalar self.old self.new e) }
         ensures run { Fetches self.old self.new }
         ensures moves { OnOk result (Moves self.old self.new 1 8) }
     {
+        let mark = self.window.mark();
         self.save_simple_key();
         self.key_allowed = false;
         self.unroll_non_block_indents();
-        let mark = self.window.mark();
         let context = self.context();
         let plain = read_plain(self.alloc, &mut self.window, context)?;
         self.leading = plain.leading;
-        if plain.leading {
-            self.key_allowed = true;
-        }
-        self.push_token(mark, TokenType::Scalar(TScalarStyle::Plain, plain.text))
+        self.key_allowed = plain.leading;
+        self.push_token(mark, TokenType::Scalar(TScalarStyle::Plain, plain.text))?;
+        Ok(())
     }
 }

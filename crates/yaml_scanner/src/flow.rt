@@ -1,10 +1,16 @@
 //! Flow collections (YAML 1.2, section 7.4).
-ghost use Rattle.std.specs.Prelude.{◌≡◌, ◌<◌, OnOk};
-ghost use Rattle.yaml_chars.specs.Reading.{HasChar};
+ghost use Rattle.std.specs.Prelude.{◌≡◌, ◌<◌, ◌∷◌, [], OnOk, IfErr, Ok, Err, true, false, ◌≢◌, slice_index};
+ghost use Rattle.yaml_chars.specs.Reading.{HasChar, Reads, place_of, after_char};
+ghost use Rattle.token_defs.specs.Token.{Tok};
+ghost use Rattle.yaml_tokens.specs.Shown.{tok_of};
+ghost use Rattle.scan_model.specs.State.{push, with_top, top};
+ghost use Rattle.scan_model.specs.Flow.{increase_flow_level, begin_flow, pass_indicator, end_flow_pair, decrease_flow_level, adjacent_in_flow, end_flow, end_entry, fetch_flow_collection_start, fetch_flow_collection_end, fetch_flow_entry};
+ghost use Rattle.yaml_scanner.specs.Collections.{level_of, flow_start, flow_end};
+ghost use Rattle.yaml_scanner.specs.Shape.{held, Does, Fails};
 ghost use Rattle.yaml_scanner.specs.Work.{Moves, Fetches};
 
-use crate::scanner::{FlowLevel, Scanner};
-use std::alloc::AllocError;
+use crate::scanner::Scanner;
+use scan_model::FlowLevel;
 use yaml_chars::Marker;
 use yaml_scalars::SkipTabs;
 use yaml_tokens::{Fault, Problem, Token, TokenType};
@@ -12,18 +18,69 @@ use yaml_tokens::{Fault, Problem, Token, TokenType};
 // How deep flow collections may stand one in another.
 const DEEPEST_FLOW: usize = 255;
 
+fn level_of(mapping: bool) -> FlowLevel
+    ensures { result ≡ level_of mapping }
+{
+    if mapping {
+        FlowLevel::Mapping
+    } else {
+        FlowLevel::Entry
+    }
+}
+
+fn flow_start(mapping: bool) -> TokenType
+    ensures { tok_of result ≡ flow_start mapping }
+{
+    if mapping {
+        TokenType::FlowMappingStart
+    } else {
+        TokenType::FlowSequenceStart
+    }
+}
+
+fn flow_end(mapping: bool) -> TokenType
+    ensures { tok_of result ≡ flow_end mapping }
+{
+    if mapping {
+        TokenType::FlowMappingEnd
+    } else {
+        TokenType::FlowSequenceEnd
+    }
+}
+
 impl<T: Iterator<Item = char>> Scanner<T> {
     /// Steps over an indicator.
     pub(crate) fn skip_indicator(&mut self)
         requires ahead { 0 < self.old.window.ahead }
         requires has { HasChar self.old.window }
+        ensures state { self.new ≡ record self.old { window = after_char self.old.window; leading = false } }
+        ensures reads { Reads self.old.window self.new.window (λ a b. a ≡ slice_index a 0 ∷ b) }
         ensures moves { Moves self.old self.new 0 8 }
     {
         self.window.skip();
         self.leading = false;
     }
 
+    /// Steps over an indicator, spaces and a comment.
+    pub(crate) fn pass_indicator(&mut self) -> Result<(), Fault>
+        requires ahead { 0 < self.old.window.ahead }
+        requires has { HasChar self.old.window }
+        ensures does { OnOk result (Does pass_indicator self.old self.new) }
+        ensures fails { IfErr result (λ e. Fails pass_indicator self.old self.new e) }
+        ensures run { Fetches self.old self.new }
+        ensures moves { OnOk result (Moves self.old self.new 0 8) }
+    {
+        self.skip_indicator();
+        match self.skip_spaces(SkipTabs::Yes) {
+            Ok(_) => Ok(()),
+            Err(fault) => Err(fault),
+        }
+    }
+
+    /// A token more.
     pub(crate) fn push_token(&mut self, mark: Marker, kind: TokenType) -> Result<(), Fault>
+        ensures held { OnOk result (held self.new ≡ push mark (tok_of kind) (held self.old)) }
+        ensures err { IfErr result (λ e. e ≡ Fault.OutOfMemory) }
         ensures moves { Moves self.old self.new 1 0 }
         ensures window { self.new.window ≡ self.old.window }
     {
@@ -32,110 +89,167 @@ impl<T: Iterator<Item = char>> Scanner<T> {
     }
 
     /// `[` or `{`
-    pub(crate) fn fetch_flow_collection_start(&mut self, kind: TokenType) -> Result<(), Fault>
+    pub(crate) fn fetch_flow_collection_start(&mut self, mapping: bool) -> Result<(), Fault>
         requires ahead { 0 < self.old.window.ahead }
         requires has { HasChar self.old.window }
+        ensures does { OnOk result (Does (fetch_flow_collection_start (level_of mapping) (flow_start mapping)) self.old self.new) }
+        ensures fails { IfErr result (λ e. Fails (fetch_flow_collection_start (level_of mapping) (flow_start mapping)) self.old self.new e) }
         ensures run { Fetches self.old self.new }
         ensures moves { OnOk result (Moves self.old self.new 2 8) }
     {
-        self.save_simple_key();
-        self.roll_one_col_indent()?;
-        self.increase_flow_level(&kind)?;
-        self.key_allowed = true;
         let mark = self.window.mark();
-        self.skip_indicator();
-        let _ = self.skip_spaces(SkipTabs::Yes)?;
-        self.push_token(mark, kind)
+        self.begin_flow(mapping)?;
+        self.pass_indicator()?;
+        self.push_token(mark, flow_start(mapping))?;
+        Ok(())
     }
 
-    fn increase_flow_level(&mut self, kind: &TokenType) -> Result<(), Fault>
+    /// What the start of a flow collection leaves, which may be a key.
+    fn begin_flow(&mut self, mapping: bool) -> Result<(), Fault>
+        ensures held { OnOk result (begin_flow (level_of mapping) (held self.old) ≡ Ok (held self.new)) }
+        ensures fault { IfErr result (λ e. e ≢ Fault.OutOfMemory → begin_flow (level_of mapping) (held self.old) ≡ Err e) }
+        ensures moves { Moves self.old self.new 1 0 }
+        ensures window { self.new.window ≡ self.old.window }
+    {
+        self.save_simple_key();
+        self.roll_one_col_indent()?;
+        self.increase_flow_level(mapping)?;
+        self.key_allowed = true;
+        Ok(())
+    }
+
+    fn increase_flow_level(&mut self, mapping: bool) -> Result<(), Fault>
+        ensures held { OnOk result (increase_flow_level (level_of mapping) (held self.old) ≡ Ok (held self.new)) }
+        ensures fault { IfErr result (λ e. e ≢ Fault.OutOfMemory → increase_flow_level (level_of mapping) (held self.old) ≡ Err e) }
         ensures moves { Moves self.old self.new 0 0 }
         ensures window { self.new.window ≡ self.old.window }
     {
         if self.flow.len() >= DEEPEST_FLOW {
             return Err(Fault::At(Problem::FlowTooDeep, self.window.mark()));
         }
-        let level = match kind {
-            TokenType::FlowMappingStart => FlowLevel::Mapping,
-            _ => FlowLevel::Entry,
-        };
         self.keys.open_level()?;
-        self.flow.push(level).map_err(AllocError::from)?;
+        self.flow.push(level_of(mapping))?;
         Ok(())
     }
 
     /// `]` or `}`
-    pub(crate) fn fetch_flow_collection_end(&mut self, kind: TokenType) -> Result<(), Fault>
+    pub(crate) fn fetch_flow_collection_end(&mut self, mapping: bool) -> Result<(), Fault>
         requires ahead { 0 < self.old.window.ahead }
         requires has { HasChar self.old.window }
+        ensures does { OnOk result (Does (fetch_flow_collection_end (flow_end mapping)) self.old self.new) }
+        ensures fails { IfErr result (λ e. Fails (fetch_flow_collection_end (flow_end mapping)) self.old self.new e) }
         ensures run { Fetches self.old self.new }
         ensures moves { OnOk result (Moves self.old self.new 2 8) }
     {
+        let mark = self.window.mark();
+        self.end_flow()?;
+        self.pass_indicator()?;
+        self.adjacent_in_flow();
+        self.push_token(mark, flow_end(mapping))?;
+        Ok(())
+    }
+
+    /// The innermost flow collection ends.
+    fn end_flow(&mut self) -> Result<(), Fault>
+        ensures held { OnOk result (end_flow (held self.old) ≡ Ok (held self.new)) }
+        ensures fault { IfErr result (λ e. e ≢ Fault.OutOfMemory → end_flow (held self.old) ≡ Err e) }
+        ensures moves { Moves self.old self.new 1 0 }
+        ensures window { self.new.window ≡ self.old.window }
+    {
         self.remove_simple_key()?;
         self.end_flow_pair()?;
-        if self.flow.pop().is_some() {
-            self.keys.close_level();
-        }
+        self.decrease_flow_level();
         self.key_allowed = false;
-        let mark = self.window.mark();
-        self.skip_indicator();
-        let _ = self.skip_spaces(SkipTabs::Yes)?;
-        // A `:` may stand right behind a flow collection that is a key.
+        Ok(())
+    }
+
+    fn decrease_flow_level(&mut self)
+        ensures held { held self.new ≡ decrease_flow_level (held self.old) }
+        ensures moves { Moves self.old self.new 0 0 }
+        ensures window { self.new.window ≡ self.old.window }
+    {
+        let Some(_) = self.flow.pop() else {
+            return;
+        };
+        self.keys.close_level();
+    }
+
+    /// A `:` may stand right behind a flow collection that is a key.
+    fn adjacent_in_flow(&mut self)
+        ensures held { held self.new ≡ adjacent_in_flow (held self.old) }
+        ensures moves { Moves self.old self.new 0 0 }
+        ensures window { self.new.window ≡ self.old.window }
+    {
         if self.in_flow() {
             self.adjacent_value_at = self.window.mark().index();
         }
-        self.push_token(mark, kind)
     }
 
     /// `,`
     pub(crate) fn fetch_flow_entry(&mut self) -> Result<(), Fault>
         requires ahead { 0 < self.old.window.ahead }
         requires has { HasChar self.old.window }
+        ensures does { OnOk result (Does fetch_flow_entry self.old self.new) }
+        ensures fails { IfErr result (λ e. Fails fetch_flow_entry self.old self.new e) }
         ensures run { Fetches self.old self.new }
         ensures moves { OnOk result (Moves self.old self.new 2 8) }
+    {
+        let mark = self.window.mark();
+        self.end_entry()?;
+        self.pass_indicator()?;
+        self.push_token(mark, TokenType::FlowEntry)?;
+        Ok(())
+    }
+
+    /// An entry of the innermost flow collection ends, and another may come.
+    fn end_entry(&mut self) -> Result<(), Fault>
+        ensures held { OnOk result (end_entry (held self.old) ≡ Ok (held self.new)) }
+        ensures fault { IfErr result (λ e. e ≢ Fault.OutOfMemory → end_entry (held self.old) ≡ Err e) }
+        ensures moves { Moves self.old self.new 1 0 }
+        ensures window { self.new.window ≡ self.old.window }
     {
         self.remove_simple_key()?;
         self.key_allowed = true;
         self.end_flow_pair()?;
-        let mark = self.window.mark();
-        self.skip_indicator();
-        let _ = self.skip_spaces(SkipTabs::Yes)?;
-        self.push_token(mark, TokenType::FlowEntry)
+        Ok(())
     }
 
     /// An entry of the innermost flow collection ends, and with it a pair without braces.
     fn end_flow_pair(&mut self) -> Result<(), Fault>
+        ensures held { OnOk result (held self.new ≡ end_flow_pair (held self.old)) }
+        ensures err { IfErr result (λ e. e ≡ Fault.OutOfMemory) }
         ensures moves { Moves self.old self.new 1 0 }
         ensures window { self.new.window ≡ self.old.window }
     {
-        let mark = self.window.mark();
         match self.flow_entry() {
             Some(FlowLevel::Pair) => {
+                let mark = self.window.mark();
                 self.set_flow_entry(FlowLevel::Entry);
-                self.push_token(mark, TokenType::FlowMappingEnd)
+                self.push_token(mark, TokenType::FlowMappingEnd)?;
+                Ok(())
             }
             Some(FlowLevel::Keyed) => {
                 self.set_flow_entry(FlowLevel::Entry);
                 Ok(())
             }
-            _ => Ok(()),
+            Some(FlowLevel::Mapping) => Ok(()),
+            Some(FlowLevel::Entry) => Ok(()),
+            None => Ok(()),
         }
     }
 
     /// How the entry stands that is read at the innermost flow level.
-    pub(crate) fn flow_entry(&self) -> Option<FlowLevel> {
-        match self.flow.last() {
-            Some(level) => Some(*level),
-            None => None,
-        }
+    pub(crate) fn flow_entry(&self) -> Option<FlowLevel>
+        ensures { result ≡ top self.now.flow }
+    {
+        self.flow.top()
     }
 
     pub(crate) fn set_flow_entry(&mut self, entry: FlowLevel)
+        ensures held { held self.new ≡ record (held self.old) { flow = with_top entry self.old.flow } }
         ensures moves { Moves self.old self.new 0 0 }
         ensures window { self.new.window ≡ self.old.window }
     {
-        if let Some(level) = self.flow.last_mut() {
-            *level = entry;
-        }
+        self.flow.set_top(entry);
     }
 }

@@ -1,45 +1,53 @@
-ghost use Rattle.std.specs.Prelude.{◌≡◌, ◌<◌, ◌≤◌, ◌^◌, OnOk};
+ghost use Rattle.std.specs.Prelude.{◌≡◌, ◌≢◌, ◌<◌, ◌≤◌, ◌^◌, ℕ, OnOk, IfErr, Ok, Err, List, true, false, nat_lt, ◌+◌};
+ghost use Rattle.scan_model.specs.State.{Held};
+ghost use Rattle.scan_model.specs.Keys.{must_be_key, save_simple_key, remove_simple_key};
+ghost use Rattle.scan_model.specs.Keys.{stale};
+ghost use Rattle.scan_model.specs.Indents.{roll_indent, drop_open_level, roll_one_col_indent, unroll_indent, unroll_non_block_indents};
+ghost use Rattle.scan_model.specs.State.{in_flow};
+ghost use Rattle.yaml_tokens.specs.Shown.{tok_of};
+ghost use Rattle.scan_model.specs.Indents.{in_block, deepen, placed};
+ghost use Rattle.scan_model.specs.State.{token};
+ghost use Rattle.scan_model.specs.Keys.{top_needs_block_end};
+ghost use Rattle.yaml_scanner.specs.Collections.{start_of};
+ghost use Rattle.yaml_scanner.specs.Levels.{ends_open};
+ghost use Rattle.yaml_scanner.specs.Shape.{held};
+ghost use Rattle.yaml_scanner.specs.SimpleKeys.{number_of};
 ghost use Rattle.yaml_scanner.specs.Work.{Moves};
 
 use crate::keys::SimpleKey;
+use crate::levels::{Collection, start_of};
 use crate::scanner::Scanner;
-use std::alloc::AllocError;
 use yaml_chars::Marker;
 use yaml_tokens::{Fault, Problem, Token, TokenType};
 
-/// A level of indentation: the one before it, and whether its end is a token. Columns count
-/// from 1 here, and 0 is outside all collections.
-#[derive(Clone, Copy)]
-pub struct Indent {
-    pub indent: usize,
-    pub needs_block_end: bool,
-}
-
 impl<T: Iterator<Item = char>> Scanner<T> {
-    pub(crate) fn in_flow(&self) -> bool {
+    pub(crate) fn in_flow(&self) -> bool
+        ensures { result ≡ in_flow (held self.now) }
+    {
         !self.flow.is_empty()
     }
 
-    fn top_needs_block_end(&self) -> bool {
-        match self.indents.last() {
-            Some(level) => level.needs_block_end,
-            None => false,
-        }
+    /// Whether a token here must be a key.
+    #[tactic(auto, unfolding(scan_model::specs::Keys::must_be_key))]
+    fn must_be_key(&self) -> bool
+        ensures { result ≡ must_be_key (held self.now) }
+    {
+        !self.in_flow()
+            && self.levels.indent() == self.window.mark().col() + 1
+            && self.levels.needs_block_end()
     }
 
     /// The next token may be a key, where one is allowed.
     pub(crate) fn save_simple_key(&mut self)
+        ensures held { held self.new ≡ save_simple_key (held self.old) }
         ensures moves { Moves self.old self.new 0 0 }
         ensures window { self.new.window ≡ self.old.window }
     {
         if self.key_allowed {
-            let mark = self.window.mark();
             let key = SimpleKey {
-                required: !self.in_flow()
-                    && self.indent == mark.col() + 1
-                    && self.top_needs_block_end(),
+                required: self.must_be_key(),
                 place: self.tokens.len(),
-                mark,
+                mark: self.window.mark(),
             };
             self.keys.set_top(Some(key));
         }
@@ -47,16 +55,34 @@ impl<T: Iterator<Item = char>> Scanner<T> {
 
     /// What might have been a key at the innermost level is none.
     pub(crate) fn remove_simple_key(&mut self) -> Result<(), Fault>
+        ensures held { OnOk result (remove_simple_key (held self.old) ≡ Ok (held self.new)) }
+        ensures fault { IfErr result (λ e. remove_simple_key (held self.old) ≡ Err e) }
         ensures moves { Moves self.old self.new 0 0 }
         ensures window { self.new.window ≡ self.old.window }
     {
-        if let Some(key) = self.keys.top() {
-            if key.required {
-                return Err(Fault::At(Problem::KeyExpected, self.window.mark()));
-            }
+        if self.keys.top_is_required() {
+            return Err(Fault::At(Problem::KeyExpected, self.window.mark()));
         }
         self.keys.set_top(None);
         Ok(())
+    }
+
+    /// Outside flow, what might have been a key is none behind its line or 1024 characters.
+    pub(crate) fn drop_stale(&mut self) -> Result<(), Fault>
+        ensures held { OnOk result (stale (held self.old) ≡ Ok (held self.new)) }
+        ensures fault { IfErr result (λ e. stale (held self.old) ≡ Err e) }
+        ensures tokens { self.new.tokens ≡ self.old.tokens }
+        ensures moves { Moves self.old self.new 0 0 }
+        ensures window { self.new.window ≡ self.old.window }
+    {
+        if self.in_flow() {
+            return Ok(());
+        }
+        let mark = self.window.mark();
+        match self.keys.drop_stale(mark) {
+            Ok(()) => Ok(()),
+            Err(fault) => Err(fault),
+        }
     }
 
     /// A collection begins at a column, unless one stands there or the place is inside flow. Its
@@ -65,76 +91,126 @@ impl<T: Iterator<Item = char>> Scanner<T> {
         &mut self,
         col: usize,
         place: Option<usize>,
-        kind: TokenType,
+        kind: Collection,
         mark: Marker,
-    ) -> Result<(), AllocError>
+    ) -> Result<(), Fault>
         requires { col < 2 ^ 63 }
+        ensures held { OnOk result (held self.new ≡ roll_indent col (number_of self.old.tokens.given place) (start_of kind) mark (held self.old)) }
+        ensures err { IfErr result (λ e. e ≡ Fault.OutOfMemory) }
         ensures moves { Moves self.old self.new 2 0 }
         ensures window { self.new.window ≡ self.old.window }
     {
         if self.in_flow() {
             return Ok(());
         }
-        if self.indent <= col + 1 {
-            self.drop_open_level();
+        self.drop_open_level(col);
+        self.deepen(col, place, kind, mark)?;
+        Ok(())
+    }
+
+    /// A level for a collection at a column, unless one stands there.
+    fn deepen(
+        &mut self,
+        col: usize,
+        place: Option<usize>,
+        kind: Collection,
+        mark: Marker,
+    ) -> Result<(), Fault>
+        requires { col < 2 ^ 63 }
+        ensures held { OnOk result (held self.new ≡ deepen col (number_of self.old.tokens.given place) (token mark (start_of kind)) (held self.old)) }
+        ensures err { IfErr result (λ e. e ≡ Fault.OutOfMemory) }
+        ensures moves { Moves self.old self.new 2 0 }
+        ensures window { self.new.window ≡ self.old.window }
+    {
+        if !self.is_left_of(col) {
+            return Ok(());
         }
-        if self.indent < col + 1 {
-            let level = Indent {
-                indent: self.indent,
-                needs_block_end: true,
-            };
-            self.indents.push(level)?;
-            self.indent = col + 1;
-            let place = place.unwrap_or(self.tokens.len());
-            self.tokens.insert(place, Token(mark, kind))?;
+        self.levels.push_block(col)?;
+        self.place_start(place, kind, mark)?;
+        Ok(())
+    }
+
+    /// Whether the innermost level stands left of a column.
+    fn is_left_of(&self, col: usize) -> bool
+        requires { col < 2 ^ 63 }
+        ensures { result ≡ nat_lt (held self.now).indent (col + 1) }
+    {
+        self.levels.indent() < col + 1
+    }
+
+    /// The start of a collection goes in before that many tokens that wait, or behind all.
+    fn place_start(
+        &mut self,
+        place: Option<usize>,
+        kind: Collection,
+        mark: Marker,
+    ) -> Result<(), Fault>
+        ensures err { IfErr result (λ e. e ≡ Fault.OutOfMemory) }
+        ensures held { OnOk result (held self.new ≡ record (held self.old) { tokens = placed (number_of self.old.tokens.given place) (token mark (start_of kind)) (held self.old).tokens }) }
+        ensures moves { Moves self.old self.new 1 0 }
+        ensures window { self.new.window ≡ self.old.window }
+    {
+        let token = Token(mark, start_of(kind));
+        match place {
+            Some(place) => self.tokens.insert(place, token)?,
+            None => self.tokens.push(token)?,
         }
         Ok(())
     }
 
-    /// A level that opens no collection goes.
-    fn drop_open_level(&mut self)
+    /// A level that opens no collection goes before one at its column or behind that.
+    fn drop_open_level(&mut self, col: usize)
+        requires { col < 2 ^ 63 }
+        ensures held { held self.new ≡ drop_open_level col (held self.old) }
+        ensures tokens { self.new.tokens ≡ self.old.tokens }
         ensures moves { Moves self.old self.new 0 0 }
         ensures window { self.new.window ≡ self.old.window }
     {
-        if let Some(level) = self.indents.last() {
-            let level = *level;
-            if !level.needs_block_end {
-                self.indent = level.indent;
-                let _ = self.indents.pop();
+        if self.levels.is_open() {
+            if self.levels.indent() <= col + 1 {
+                let _ = self.levels.pop();
             }
         }
     }
 
+    /// Whether the innermost level is a block collection, and the place is outside flow.
+    #[tactic(auto, unfolding(scan_model::specs::Indents::in_block))]
+    fn in_block(&self) -> bool
+        ensures value { result ≡ in_block (held self.now) }
+        ensures block { result ≡ true → top_needs_block_end self.now.levels.indents ≡ true }
+    {
+        !self.in_flow() && self.levels.needs_block_end()
+    }
+
     /// A level that opens no collection, one column deeper, inside a block collection.
-    pub(crate) fn roll_one_col_indent(&mut self) -> Result<(), AllocError>
+    pub(crate) fn roll_one_col_indent(&mut self) -> Result<(), Fault>
+        ensures err { IfErr result (λ e. e ≡ Fault.OutOfMemory) }
+        ensures held { OnOk result (held self.new ≡ roll_one_col_indent (held self.old)) }
         ensures moves { Moves self.old self.new 1 0 }
         ensures window { self.new.window ≡ self.old.window }
     {
-        if !self.in_flow() && self.top_needs_block_end() {
-            let level = Indent {
-                indent: self.indent,
-                needs_block_end: false,
-            };
-            self.indents.push(level)?;
-            self.indent = self.indent.saturating_add(1);
+        if !self.in_block() {
+            return Ok(());
         }
+        self.levels.push_open()?;
         Ok(())
     }
 
     /// Outside flow, the levels deeper than the limit end.
-    pub(crate) fn unroll_indent(&mut self, limit: usize) -> Result<(), AllocError>
+    pub(crate) fn unroll_indent(&mut self, limit: usize) -> Result<(), Fault>
+        ensures err { IfErr result (λ e. e ≡ Fault.OutOfMemory) }
+        ensures held { OnOk result (held self.new ≡ unroll_indent limit (held self.old)) }
         ensures moves { Moves self.old self.new 0 0 }
         ensures window { self.new.window ≡ self.old.window }
     {
         if self.in_flow() {
             return Ok(());
         }
-        'levels: while self.indent > limit {
-            let Some(level) = self.indents.pop() else {
+        'levels: while self.levels.indent() > limit {
+            let Some(needs_block_end) = self.levels.pop() else {
                 return Ok(());
             };
-            self.indent = level.indent;
-            if level.needs_block_end {
+            if needs_block_end {
                 let mark = self.window.mark();
                 self.tokens.push(Token(mark, TokenType::BlockEnd))?;
             }
@@ -144,16 +220,13 @@ impl<T: Iterator<Item = char>> Scanner<T> {
 
     /// The innermost levels that open no collection go.
     pub(crate) fn unroll_non_block_indents(&mut self)
+        ensures held { held self.new ≡ unroll_non_block_indents (held self.old) }
+        ensures block { ends_open self.new.levels.indents ≡ false }
         ensures moves { Moves self.old self.new 0 0 }
         ensures window { self.new.window ≡ self.old.window }
     {
-        'levels: while let Some(level) = self.indents.last() {
-            let level = *level;
-            if level.needs_block_end {
-                return;
-            }
-            self.indent = level.indent;
-            let _ = self.indents.pop();
+        'levels: while self.levels.is_open() {
+            let _ = self.levels.pop();
         }
     }
 }

@@ -1,6 +1,11 @@
-ghost use Rattle.std.specs.Prelude.{◌≡◌};
+ghost use Rattle.std.specs.Prelude.{◌≡◌, ℕ, ◌+◌, ◌-◌, ◌∷◌, [], OnOk, OnErr, IfErr, Ok, Err, None, true, false, map};
+ghost use Rattle.std.specs.List.{list_any};
+ghost use Rattle.scan_model.specs.State.{Key, with_top, pop};
+ghost use Rattle.scan_model.specs.Keys.{is_far, is_overdue, drop_stale, is_required, has_required, cleared, top_key};
+ghost use Rattle.yaml_scanner.specs.SimpleKeys.{key_of, seen, is_front, lowered, still_simple, no_simple, top_simple};
 
 use std::alloc::{AllocError, Global};
+use std::marker::Model;
 use yaml_chars::Marker;
 use yaml_tokens::{Fault, Problem};
 
@@ -15,88 +20,216 @@ pub struct SimpleKey {
     pub mark: Marker,
 }
 
-/// What may be a key, one for each flow level, and one outside flow.
+/// What may be a key, one for each flow level, and one outside flow. Clauses see the innermost
+/// first.
 #[derive(Drop)]
 pub struct SimpleKeys {
     levels: Vec<Option<SimpleKey>>,
 }
 
+impl Model for SimpleKeys {
+    ghost use Rattle.std.specs.Prelude.{List, Option, reverse};
+    ghost use Rattle.yaml_scanner.specs.declared.keys.SimpleKey.{SimpleKey};
+
+    ghost Value = { List (Option SimpleKey) };
+
+    ghost view = { λ s. reverse s.levels.items };
+}
+
+#[tactic(auto, unfolding(scan_model::specs::Keys::is_far))]
+fn is_far(from: Marker, to: Marker) -> bool
+    ensures { result ≡ is_far from to }
+{
+    from.line() < to.line() || from.index() + LONGEST_KEY < to.index()
+}
+
+fn is_overdue(key: Option<SimpleKey>, mark: Marker) -> bool
+    ensures { result ≡ is_overdue mark (key_of 0 key) }
+{
+    match key {
+        Some(key) => is_far(key.mark, mark) && key.required,
+        None => false,
+    }
+}
+
+fn still(key: Option<SimpleKey>, mark: Marker) -> Option<SimpleKey>
+    ensures { result ≡ still_simple mark key }
+{
+    match key {
+        Some(simple) if !is_far(simple.mark, mark) => Some(simple),
+        _ => None,
+    }
+}
+
+fn is_required(key: Option<SimpleKey>) -> bool
+    ensures { result ≡ is_required (key_of 0 key) }
+{
+    match key {
+        Some(key) => key.required,
+        None => false,
+    }
+}
+
+fn is_front(key: Option<SimpleKey>) -> bool
+    ensures { result ≡ is_front key }
+{
+    match key {
+        Some(key) => key.place == 0,
+        None => false,
+    }
+}
+
+fn lowered(key: Option<SimpleKey>) -> Option<SimpleKey>
+    ensures { result ≡ lowered key }
+{
+    match key {
+        Some(key) => {
+            let place = key.place.saturating_sub(1);
+            Some(SimpleKey {
+                required: key.required,
+                place,
+                mark: key.mark,
+            })
+        }
+        None => None,
+    }
+}
+
+fn any_overdue(keys: &[Option<SimpleKey>], mark: Marker) -> bool
+    ensures { result ≡ list_any (λ k. is_overdue mark (key_of 0 k)) keys.now }
+{
+    keys.iter().any(|key| is_overdue(*key, mark))
+}
+
+fn any_required(keys: &[Option<SimpleKey>]) -> bool
+    ensures { result ≡ list_any (λ k. is_required (key_of 0 k)) keys.now }
+{
+    keys.iter().any(|key| is_required(*key))
+}
+
+fn any_front(keys: &[Option<SimpleKey>]) -> bool
+    ensures { result ≡ list_any is_front keys.now }
+{
+    keys.iter().any(|key| is_front(*key))
+}
+
+fn drop_far(keys: &mut [Option<SimpleKey>], mark: Marker)
+    ensures { keys.new ≡ map (still_simple mark) keys.old }
+{
+    'keys: for key in keys.iter_mut() {
+        *key = still(*key, mark);
+    }
+}
+
+fn lower_all(keys: &mut [Option<SimpleKey>])
+    ensures { keys.new ≡ map lowered keys.old }
+{
+    'keys: for key in keys.iter_mut() {
+        *key = lowered(*key);
+    }
+}
+
+fn close_all(keys: &mut [Option<SimpleKey>])
+    ensures { keys.new ≡ map no_simple keys.old }
+{
+    'keys: for key in keys.iter_mut() {
+        *key = None;
+    }
+}
+
 impl SimpleKeys {
-    pub fn new(alloc: Global) -> Self {
+    pub fn new(alloc: Global) -> Self
+        ensures { result ≡ [] }
+    {
         SimpleKeys {
             levels: Vec::new(alloc),
         }
     }
 
-    /// Opens a level without a key.
-    pub fn open_level(&mut self) -> Result<(), AllocError> {
+    /// Opens a level without a key. An `Err` changes nothing.
+    #[tactic(auto, using(crate::proofs::StackLemmas::pushed))]
+    pub fn open_level(&mut self) -> Result<(), AllocError>
+        ensures ok { OnOk result (self.new ≡ None ∷ self.old) }
+        ensures err { OnErr result (self.new ≡ self.old) }
+    {
         self.levels.push(None).map_err(|_| AllocError)
     }
 
     /// Closes the innermost level.
-    pub fn close_level(&mut self) {
+    #[tactic(auto, using(crate::proofs::KeyLemmas::popped, crate::proofs::KeyLemmas::none_popped))]
+    pub fn close_level(&mut self)
+        ensures { self.new ≡ pop self.old }
+    {
         let _ = self.levels.pop();
     }
 
     /// What may be a key at the innermost level.
-    pub fn top(&self) -> Option<SimpleKey> {
+    pub fn top(&self) -> Option<SimpleKey>
+        ensures { result ≡ top_simple self.now }
+    {
         match self.levels.last() {
             Some(key) => *key,
             None => None,
         }
     }
 
+    /// Whether what may be a key at the innermost level must be one.
+    #[tactic(auto, using(crate::proofs::KeyLemmas::required_top))]
+    pub fn top_is_required(&self) -> bool
+        ensures { (g : ℕ) → result ≡ is_required (top_key (seen g self.now)) }
+    {
+        is_required(self.top())
+    }
+
     /// Sets what may be a key at the innermost level.
-    pub fn set_top(&mut self, key: Option<SimpleKey>) {
-        if let Some(top) = self.levels.last_mut() {
-            *top = key;
+    #[tactic(auto, using(crate::proofs::StackLemmas::top_set, crate::proofs::StackLemmas::none_set))]
+    pub fn set_top(&mut self, key: Option<SimpleKey>)
+        ensures { self.new ≡ with_top key self.old }
+    {
+        let len = self.levels.len();
+        if len > 0 {
+            self.levels[len - 1] = key;
         }
     }
 
-    /// Outside flow: keys that began on an earlier line, or too far back, are none.
-    pub fn drop_stale(&mut self, mark: Marker) -> Result<(), Fault> {
-        for level in self.levels.iter_mut() {
-            if let Some(key) = level {
-                let is_stale = key.mark.line() < mark.line()
-                    || key.mark.index() + LONGEST_KEY < mark.index();
-                if is_stale && key.required {
-                    return Err(Fault::At(Problem::KeyWithoutColon, mark));
-                }
-                if is_stale {
-                    *level = None;
-                }
-            }
+    /// Keys that began on an earlier line, or too far back, are none. An `Err` changes nothing.
+    pub fn drop_stale(&mut self, mark: Marker) -> Result<(), Fault>
+        ensures ok { OnOk result ((g : ℕ) → drop_stale mark (seen g self.old) ≡ Ok (seen g self.new)) }
+        ensures err { IfErr result (λ e. (g : ℕ) → drop_stale mark (seen g self.old) ≡ Err e) }
+    {
+        if any_overdue(&self.levels, mark) {
+            return Err(Fault::At(Problem::KeyWithoutColon, mark));
         }
+        drop_far(&mut self.levels, mark);
         Ok(())
     }
 
     /// Whether some key must still come to its `:`.
-    pub fn has_required(&self) -> bool {
-        self.levels
-            .iter()
-            .any(|level| matches!(level, Some(key) if key.required))
+    pub fn has_required(&self) -> bool
+        ensures { (g : ℕ) → result ≡ has_required (seen g self.now) }
+    {
+        any_required(&self.levels)
     }
 
     /// No key is open any more.
-    pub fn clear(&mut self) {
-        for level in self.levels.iter_mut() {
-            *level = None;
-        }
+    pub fn clear(&mut self)
+        ensures { (g : ℕ) → seen g self.new ≡ cleared (seen g self.old) }
+    {
+        close_all(&mut self.levels);
     }
 
     /// Whether a key may still come before the next token.
-    pub fn may_precede(&self) -> bool {
-        self.levels
-            .iter()
-            .any(|level| matches!(level, Some(key) if key.place == 0))
+    #[tactic(auto, using(crate::proofs::KeyLemmas::any_reversed))]
+    pub fn may_precede(&self) -> bool
+        ensures { result ≡ list_any is_front self.now }
+    {
+        any_front(&self.levels)
     }
 
     /// The next token was handed out.
-    pub fn lower(&mut self) {
-        for level in self.levels.iter_mut() {
-            if let Some(key) = level {
-                key.place = key.place.saturating_sub(1);
-            }
-        }
+    pub fn lower(&mut self)
+        ensures { self.new ≡ map lowered self.old }
+    {
+        lower_all(&mut self.levels);
     }
 }

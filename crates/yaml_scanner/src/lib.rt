@@ -6,9 +6,11 @@ mod fetch;
 mod flow;
 mod indents;
 mod keys;
+mod levels;
 mod public;
 mod queue;
 mod scanner;
 mod space;
+mod stack;
 
 pub use scanner::Scanner;

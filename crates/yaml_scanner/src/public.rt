@@ -3,6 +3,8 @@ ghost use Rattle.std.specs.Prelude.{◌≡◌, ◌≤◌, ◌<◌, OnOk, OnErr, 
 ghost use Rattle.yaml_scanner.specs.Scanned.{scanned, kept_fault, HandsOut, HandsNothing, Refuses};
 ghost use Rattle.yaml_scanner.specs.Work.{Fetches, Moves, work};
 ghost use Rattle.yaml_scanner.specs.Tokens.{waiting};
+ghost use Rattle.std.specs.Iterator.{at_most};
+ghost use Rattle.yaml_scanner.specs.Next.{GivesNext};
 ghost use Rattle.yaml_tokens.specs.Shown.{shown};
 
 use crate::scanner::{Kept, Scanner};
@@ -122,10 +124,7 @@ impl<T: Iterator<Item = char>> Scanner<T> {
         if self.tokens.len() == 0 {
             return Ok(true);
         }
-        if !self.in_flow() {
-            let mark = self.window.mark();
-            self.keys.drop_stale(mark)?;
-        }
+        self.drop_stale()?;
         Ok(self.keys.may_precede())
     }
 
@@ -149,5 +148,21 @@ impl<T: Iterator<Item = char>> Scanner<T> {
         };
         self.keys.lower();
         Ok(Some(token))
+    }
+}
+
+impl<T: Iterator<Item = char>> Iterator for Scanner<T> {
+    type Item = Token;
+
+    ghost remaining = { λ s. at_most (scanned s).left };
+
+    ghost next_gives = { λ a r b. GivesNext (scanned a) r (scanned b) };
+
+    /// The next token. `None` comes after a fault, and after the end of the stream.
+    fn next(&mut self) -> Option<Token> {
+        match self.next_token() {
+            Ok(token) => token,
+            Err(_) => None,
+        }
     }
 }

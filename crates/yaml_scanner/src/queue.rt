@@ -1,6 +1,7 @@
 ghost use Rattle.std.specs.Prelude.{◌≡◌, ◌≤◌, ◌+◌, ◌∷◌, [], ◌++◌, OnOk, OnErr, IfSome, IsNone, true, false, ◌||◌, length};
 ghost use Rattle.std.specs.List.{insert};
 ghost use Rattle.yaml_tokens.specs.Shown.{shown};
+ghost use Rattle.scan_model.specs.Block.{last_property, property_place};
 ghost use Rattle.yaml_scanner.specs.Tokens.{handed, waiting, is_end, end_at};
 
 use std::alloc::{AllocError, Global};
@@ -15,6 +16,8 @@ use yaml_tokens::{Token, TokenType};
 pub struct Queue {
     given: History<Token>,
     waiting: VecDeque<Token>,
+    // The place of the last token so far, where that is an anchor or a tag.
+    property: Option<Marker>,
     ended: bool,
     over: bool,
 }
@@ -24,13 +27,14 @@ impl Model for Queue {
     ghost use Rattle.std.specs.Prelude.{length as list_len};
     ghost use Rattle.yaml_scanner.specs.Tokens.{Tokens, has_end};
     ghost use Rattle.yaml_tokens.specs.Shown.{shown};
+    ghost use Rattle.scan_model.specs.Block.{last_property};
 
     ghost Value = { Tokens };
 
     ghost view = { λ q. record { all = map shown q.given.items ++ map shown q.waiting.items; given = list_len q.given.items; ended = q.ended; over = q.over } };
 
     // While the stream's end was not handed out, it waits.
-    ghost invariant = { λ q. q.ended ≡ true → q.over ≡ false → has_end (map shown q.waiting.items) ≡ true };
+    ghost invariant = { λ q. (q.ended ≡ true → q.over ≡ false → has_end (map shown q.waiting.items) ≡ true) × (q.property ≡ last_property (map shown q.given.items ++ map shown q.waiting.items)) };
 }
 
 impl Queue {
@@ -40,6 +44,7 @@ impl Queue {
         Queue {
             given: History::new(),
             waiting: VecDeque::new(alloc),
+            property: None,
             ended: false,
             over: false,
         }
@@ -54,9 +59,11 @@ impl Queue {
         self.waiting.len()
     }
 
-    /// The last token that waits.
-    pub fn back(&self) -> Option<&Token> {
-        self.waiting.back()
+    /// The place of the last token so far, where that is an anchor or a tag.
+    pub fn property(&self) -> Option<Marker>
+        ensures { result ≡ last_property self.now.all }
+    {
+        self.property
     }
 
     /// An `Err` changes nothing.
@@ -67,7 +74,10 @@ impl Queue {
         ensures handed { handed self.new ≡ handed self.old }
         ensures more { waiting self.new ≤ waiting self.old + 1 }
     {
-        self.waiting.push_back(token).map_err(|_| AllocError)
+        let property = property_of(&token);
+        self.waiting.push_back(token).map_err(|_| AllocError)?;
+        self.property = property;
+        Ok(())
     }
 
     /// Inserts a token before that many that wait. An `Err` changes nothing.
@@ -78,8 +88,14 @@ impl Queue {
         ensures handed { handed self.new ≡ handed self.old }
         ensures more { waiting self.new ≤ waiting self.old + 1 }
     {
-        let place = place.min(self.waiting.len());
-        self.waiting.insert(place, token).map_err(|_| AllocError)
+        let last = self.waiting.len();
+        let place = place.min(last);
+        let property = property_of(&token);
+        self.waiting.insert(place, token).map_err(|_| AllocError)?;
+        if place == last {
+            self.property = property;
+        }
+        Ok(())
     }
 
     /// Ends the stream. An `Err` changes nothing.
@@ -93,6 +109,7 @@ impl Queue {
         self.waiting
             .push_back(stream_end(mark))
             .map_err(|_| AllocError)?;
+        self.property = None;
         self.ended = true;
         Ok(())
     }
@@ -125,6 +142,15 @@ impl Queue {
             self.over = true;
         }
         Some(token)
+    }
+}
+
+fn property_of(token: &Token) -> Option<Marker>
+    ensures { result ≡ property_place (shown token.now).tok (shown token.now).place }
+{
+    match token.1 {
+        TokenType::Anchor(_) | TokenType::Tag(_, _) => Some(token.0),
+        _ => None,
     }
 }
 

@@ -1,25 +1,16 @@
-ghost use Rattle.std.specs.Prelude.{◌≡◌, ◌^◌, ◌<◌, [], None, false};
+ghost use Rattle.std.specs.Prelude.{◌≡◌, ◌^◌, ◌<◌};
 ghost use Rattle.std.specs.Iterator.{IsFinite, size};
+ghost use Rattle.scan_model.specs.Run.{nothing_held};
+ghost use Rattle.yaml_scanner.specs.Shape.{held};
 
-use crate::indents::Indent;
 use crate::keys::SimpleKeys;
+use crate::levels::Levels;
 use crate::queue::Queue;
+use crate::stack::Stack;
+use scan_model::FlowLevel;
 use std::alloc::Global;
 use yaml_chars::{Marker, Window};
 use yaml_tokens::Fault;
-
-/// How an entry of a flow collection stands to a pair without braces.
-#[derive(Clone, Copy, PartialEq, Eq)]
-pub enum FlowLevel {
-    /// A flow mapping: its pairs need none.
-    Mapping,
-    /// An entry of a flow sequence that may turn out to be a pair.
-    Entry,
-    /// An entry of a flow sequence that began with `?`.
-    Keyed,
-    /// An entry of a flow sequence that is a pair.
-    Pair,
-}
 
 /// A fault that is kept, and the place where the scanner stood.
 #[derive(Clone, Copy)]
@@ -37,9 +28,8 @@ pub struct Scanner<T: Iterator<Item = char>> {
     pub(crate) window: Window<T>,
     pub(crate) tokens: Queue,
     pub(crate) keys: SimpleKeys,
-    pub(crate) indents: Vec<Indent>,
-    pub(crate) indent: usize,
-    pub(crate) flow: Vec<FlowLevel>,
+    pub(crate) levels: Levels,
+    pub(crate) flow: Stack<FlowLevel>,
     // Whether a key without `?` may begin here.
     pub(crate) key_allowed: bool,
     // Whether only blanks stand before this place on its line.
@@ -51,26 +41,20 @@ pub struct Scanner<T: Iterator<Item = char>> {
 }
 
 impl<T: Iterator<Item = char>> Scanner<T> {
-    ghost use Rattle.yaml_scanner.specs.Scanned.{scanned};
-
     /// A scanner of the characters of an iterator, up to its end or to a NUL.
     pub fn new(alloc: Global, iter: T) -> Scanner<T>
         requires can { T.can_next iter }
         requires finite { IsFinite (T.remaining iter) }
         requires few { size (T.remaining iter) < 2 ^ 63 }
-        ensures given { (scanned result).given ≡ [] }
-        ensures fault { (scanned result).fault ≡ None }
-        ensures started { (scanned result).started ≡ false }
-        ensures ended { (scanned result).ended ≡ false }
+        ensures { held result ≡ nothing_held }
     {
         Scanner {
             alloc,
             window: Window::new(iter),
             tokens: Queue::new(alloc),
             keys: SimpleKeys::new(alloc),
-            indents: Vec::new(alloc),
-            indent: 0,
-            flow: Vec::new(alloc),
+            levels: Levels::new(alloc),
+            flow: Stack::new(alloc),
             key_allowed: true,
             leading: true,
             adjacent_value_at: 0,

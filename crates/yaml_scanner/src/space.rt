@@ -1,6 +1,12 @@
 //! What stands between two tokens: blanks, line breaks and comments (YAML 1.2, chapter 6).
-ghost use Rattle.std.specs.Prelude.{◌≡◌, ◌<◌, ◌≤◌, OnOk};
-ghost use Rattle.yaml_chars.specs.Reading.{HasChar};
+ghost use Rattle.std.specs.Prelude.{◌≡◌, ◌≢◌, ◌<◌, ◌≤◌, ℕ, OnOk, IfOk, IfErr, Ok, Err, true, false, Bool, slice_index, ◌==◌, ◌&&◌, ◌||◌, not};
+ghost use Rattle.yaml_chars.specs.Class.{is_break, is_blank};
+ghost use Rattle.yaml_chars.specs.Reading.{HasChar, Reads, place_of};
+ghost use Rattle.scalar_model.specs.Space.{space};
+ghost use Rattle.scan_model.specs.State.{in_flow};
+ghost use Rattle.scan_model.specs.Space.{skip, between, tab_line, white, is_before_indent, skip_to_next_token, skip_yaml_whitespace};
+ghost use Rattle.yaml_scalars.specs.Shown.{read};
+ghost use Rattle.yaml_scanner.specs.Shape.{held, Does, Fails};
 ghost use Rattle.yaml_scanner.specs.Work.{Moves};
 
 use crate::scanner::Scanner;
@@ -10,35 +16,47 @@ use yaml_tokens::{Fault, Problem};
 
 impl<T: Iterator<Item = char>> Scanner<T> {
     /// Steps over a line break. Outside flow a key may begin behind it.
-    fn pass_break(&mut self)
+    pub(crate) fn pass_break(&mut self)
         requires { HasChar self.old.window }
+        ensures gap { Reads self.old.window self.new.window (λ a b. is_break (slice_index a 0) ≡ true → skip between a (held self.old) ≡ skip between b (held self.new)) }
+        ensures white { Reads self.old.window self.new.window (λ a b. is_break (slice_index a 0) ≡ true → (f : Bool) → white false f a (held self.old) ≡ white false true b (held self.new)) }
         ensures moves { Moves self.old self.new 0 8 }
         ensures less { self.new.window.left < self.old.window.left }
     {
+        let key_allowed = self.allows_key();
         skip_linebreak(&mut self.window);
         self.leading = true;
-        if !self.in_flow() {
-            self.key_allowed = true;
-        }
+        self.key_allowed = key_allowed;
+    }
+
+    /// Whether a key may begin on the next line.
+    fn allows_key(&self) -> bool
+        ensures { result ≡ (not (in_flow (held self.now)) || self.now.key_allowed) }
+    {
+        !self.in_flow() || self.key_allowed
     }
 
     /// Steps to the next token.
+    #[tactic(auto, using(crate::proofs::SpaceLemmas::gap_blank, crate::proofs::SpaceLemmas::gap_end), unfolding(scan_model::specs::Space::skip_to_next_token))]
     pub(crate) fn skip_to_next_token(&mut self) -> Result<(), Fault>
+        ensures does { OnOk result (Does skip_to_next_token self.old self.new) }
+        ensures fails { IfErr result (λ e. Fails skip_to_next_token self.old self.new e) }
         ensures moves { Moves self.old self.new 0 0 }
         ensures ahead { OnOk result (0 < self.new.window.ahead) }
     {
         'space: loop {
             let c = self.window.look_ch();
-            if c == '\t' && self.is_before_indent() {
-                self.skip_tab_line()?;
+            if is_break(c) {
+                self.pass_break();
+            } else if self.at_tab_line(c) {
+                match self.skip_tab_line() {
+                    Ok(()) => {}
+                    Err(fault) => return Err(fault),
+                }
             } else if is_blank(c) {
                 self.window.skip();
-            } else if is_break(c) {
-                self.pass_break();
             } else if c == '#' {
-                self.window.skip();
-                skip_comment(&mut self.window);
-                self.leading = false;
+                self.pass_comment();
             } else {
                 return Ok(());
             }
@@ -46,51 +64,121 @@ impl<T: Iterator<Item = char>> Scanner<T> {
     }
 
     /// Whether this place belongs to the indentation of a block collection.
-    fn is_before_indent(&self) -> bool {
-        !self.indents.is_empty() && self.leading && self.window.mark().col() + 1 < self.indent
+    #[tactic(auto, unfolding(scan_model::specs::Space::is_before_indent))]
+    fn is_before_indent(&self) -> bool
+        ensures { result ≡ is_before_indent (held self.now) }
+    {
+        !self.levels.is_empty()
+            && self.leading
+            && self.window.mark().col() + 1 < self.levels.indent()
     }
 
-    /// Steps over a TAB in the indentation, and over the rest of its line, which has no content.
-    fn skip_tab_line(&mut self) -> Result<(), Fault>
+    /// Whether a character is a TAB in the indentation of a block collection.
+    fn at_tab_line(&self, c: char) -> bool
+        ensures value { result ≡ ((c == 9) && is_before_indent (held self.now)) }
+        ensures tab { result ≡ true → c ≡ 9 }
+        ensures before { result ≡ true → is_before_indent (held self.now) ≡ true }
+    {
+        c == '\t' && self.is_before_indent()
+    }
+
+    /// Steps over a comment.
+    fn pass_comment(&mut self)
         requires ahead { 0 < self.old.window.ahead }
         requires has { HasChar self.old.window }
+        ensures gap { Reads self.old.window self.new.window (λ a b. slice_index a 0 ≡ 35 → skip between a (held self.old) ≡ skip between b (held self.new)) }
         ensures moves { Moves self.old self.new 0 8 }
         ensures less { self.new.window.left < self.old.window.left }
     {
         self.window.skip();
-        let _ = self.skip_spaces(SkipTabs::Yes)?;
-        if !is_breakz(self.window.ch()) {
-            return Err(Fault::At(Problem::TabInBlockIndentation, self.window.mark()));
+        skip_comment(&mut self.window);
+        self.leading = false;
+    }
+
+    /// Steps over a TAB in the indentation, and over the rest of its line, which has no content.
+    #[tactic(auto, using(crate::proofs::SpaceLemmas::gap_tab, crate::proofs::SpaceLemmas::tab_blank, crate::proofs::SpaceLemmas::tab_end, crate::proofs::SpaceLemmas::tab_content))]
+    fn skip_tab_line(&mut self) -> Result<(), Fault>
+        requires ahead { 0 < self.old.window.ahead }
+        requires has { HasChar self.old.window }
+        ensures gap { OnOk result (Reads self.old.window self.new.window (λ a b. slice_index a 0 ≡ 9 → is_before_indent (held self.old) ≡ true → skip between a (held self.old) ≡ skip between b (held self.new))) }
+        ensures fault { IfErr result (λ e. Reads self.old.window self.new.window (λ a b. slice_index a 0 ≡ 9 → is_before_indent (held self.old) ≡ true → skip between a (held self.old) ≡ Err e)) }
+        ensures moves { Moves self.old self.new 0 8 }
+        ensures less { self.new.window.left < self.old.window.left }
+    {
+        self.window.skip();
+        'tabs: loop {
+            let c = self.window.look_ch();
+            if is_blank(c) {
+                self.window.skip();
+            } else if c == '#' {
+                self.end_tab_line();
+                return Ok(());
+            } else if is_breakz(c) {
+                return Ok(());
+            } else {
+                return Err(Fault::At(Problem::TabInBlockIndentation, self.window.mark()));
+            }
         }
-        Ok(())
+    }
+
+    /// Steps over a comment behind a TAB in the indentation.
+    fn end_tab_line(&mut self)
+        requires ahead { 0 < self.old.window.ahead }
+        requires has { HasChar self.old.window }
+        ensures gap { Reads self.old.window self.new.window (λ a b. slice_index a 0 ≡ 35 → skip tab_line a (held self.old) ≡ skip between b (held self.new)) }
+        ensures moves { Moves self.old self.new 0 8 }
+        ensures less { self.new.window.left < self.old.window.left }
+    {
+        self.window.skip();
+        skip_comment(&mut self.window);
     }
 
     /// Steps over spaces, TABs where these are to be skipped, and a comment.
     pub(crate) fn skip_spaces(&mut self, tabs: SkipTabs) -> Result<Whitespace, Fault>
+        ensures held { held self.new ≡ record (held self.old) { place = place_of self.new.window } }
+        ensures reads { IfOk result (λ w. Reads self.old.window self.new.window (λ a b. space tabs a (place_of self.old.window) ≡ Ok (read b self.new.window w))) }
+        ensures fault { IfErr result (λ e. Reads self.old.window self.new.window (λ a b. space tabs a (place_of self.old.window) ≡ Err e)) }
         ensures moves { Moves self.old self.new 0 0 }
         ensures ahead { OnOk result (0 < self.new.window.ahead) }
         ensures less { self.new.window.left ≤ self.old.window.left }
     {
-        skip_ws_to_eol(&mut self.window, tabs)
+        match skip_ws_to_eol(&mut self.window, tabs) {
+            Ok(found) => Ok(found),
+            Err(fault) => Err(fault),
+        }
+    }
+
+    /// Steps over a comment, of which one behind a `?` is no space.
+    fn pass_white_comment(&mut self)
+        requires ahead { 0 < self.old.window.ahead }
+        requires has { HasChar self.old.window }
+        ensures white { Reads self.old.window self.new.window (λ a b. slice_index a 0 ≡ 35 → (f : Bool) → white false f a (held self.old) ≡ white false f b (held self.new)) }
+        ensures moves { Moves self.old self.new 0 8 }
+        ensures less { self.new.window.left < self.old.window.left }
+    {
+        self.window.skip();
+        skip_comment(&mut self.window);
     }
 
     /// What must stand behind a `?`: spaces, breaks and comments.
+    #[tactic(auto, using(crate::proofs::SpaceLemmas::white_space, crate::proofs::SpaceLemmas::white_stop, crate::proofs::SpaceLemmas::white_missing), unfolding(scan_model::specs::Space::skip_yaml_whitespace))]
     pub(crate) fn skip_yaml_whitespace(&mut self) -> Result<(), Fault>
+        ensures does { OnOk result (Does skip_yaml_whitespace self.old self.new) }
+        ensures fails { IfErr result (λ e. Fails skip_yaml_whitespace self.old self.new e) }
         ensures moves { Moves self.old self.new 0 0 }
         ensures ahead { OnOk result (0 < self.new.window.ahead) }
     {
         let mut found = false;
         'space: loop {
             let c = self.window.look_ch();
-            if c == ' ' {
-                self.window.skip();
-                found = true;
-            } else if is_break(c) {
+            if is_break(c) {
                 self.pass_break();
                 found = true;
-            } else if c == '#' {
+            } else if c == ' ' {
                 self.window.skip();
-                skip_comment(&mut self.window);
+                found = true;
+            } else if c == '#' {
+                self.pass_white_comment();
             } else if found {
                 return Ok(());
             } else {

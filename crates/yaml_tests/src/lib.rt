@@ -5,3 +5,7 @@
 mod loads;
 #[cfg(test)]
 mod misuse;
+#[cfg(test)]
+mod pushes;
+#[cfg(test)]
+mod trees;

@@ -1,32 +1,90 @@
+use std::alloc::Global;
 use std::test::Fail;
 use yaml_rust2::YamlLoader;
-use yaml_rust2::parser::{Event, MarkedEventReceiver, Parser};
-use yaml_rust2::scanner::Scanner;
+use yaml_rust2::parser::{Event, MarkedEventReceiver};
+use yaml_rust2::scanner::{Marker, Scanner, TScalarStyle};
+
+const NESTING: &str = "event out of nesting";
+
+fn plain(alloc: Global, text: &str) -> Result<Event, Fail> {
+    Ok(Event::Scalar(
+        String::from_str(alloc, text)?,
+        TScalarStyle::Plain,
+        0,
+        None,
+    ))
+}
+
+// An event by a short name: `[` and `]`, `{` and `}`, `.` for a document's end, `*7` for an alias, else a scalar.
+fn event(alloc: Global, name: &str) -> Result<Event, Fail> {
+    Ok(match name {
+        "[" => Event::SequenceStart(0, None),
+        "]" => Event::SequenceEnd,
+        "{" => Event::MappingStart(0, None),
+        "}" => Event::MappingEnd,
+        "." => Event::DocumentEnd,
+        "*7" => Event::Alias(7),
+        _ => plain(alloc, name)?,
+    })
+}
+
+// What an empty loader answers to each event, and then its documents.
+fn answers(alloc: Global, mark: Marker, names: &[&str]) -> Result<String, Fail> {
+    let mut loader = YamlLoader::default(alloc);
+    let mut out = String::new(alloc);
+    for name in names {
+        match loader.on_event(event(alloc, name)?, mark) {
+            Ok(()) => out.push_str("ok ")?,
+            Err(fault) => {
+                out.push_str(fault.info())?;
+                out.push_str(" ")?;
+            }
+        }
+    }
+    let documents = loader.documents();
+    out.push_str(format!(in alloc; "{documents:?}")?.as_str())?;
+    Ok(out)
+}
 
 #[test]
 fn events_out_of_nesting_are_refused(rt: HostRuntime) -> Result<(), Fail> {
-    let mark = Scanner::new(rt.alloc(), "".chars()).mark();
+    let alloc = rt.alloc();
+    let mark = Scanner::new(alloc, "".chars()).mark();
+    for (names, want) in [
+        (&["]", "."][..], "event out of nesting event out of nesting []"),
+        (&["[", "}"][..], "ok event out of nesting []"),
+        (&["{", "k", "}"][..], "ok ok event out of nesting []"),
+        (&["a", "b"][..], "ok event out of nesting []"),
+        (&["[", "."][..], "ok event out of nesting []"),
+        (&[".", "]"][..], "ok event out of nesting [BadValue]"),
+        (
+            &["{", "{", "}", "v", "}", "."][..],
+            "ok ok ok ok ok ok [Hash({Hash({}): String(\"v\")})]",
+        ),
+        (
+            &["{", "*7", "1", "}", "."][..],
+            "ok ok ok ok ok [Hash({BadValue: Integer(1)})]",
+        ),
+        (&["{", "a", "1", "a", "2", "]"][..], "ok ok ok ok ok ok []"),
+    ] {
+        assert_eq!(rt; answers(alloc, mark, names)?.as_str(), want);
+    }
+    Ok(())
+}
+
+#[test]
+fn a_fault_names_its_place(rt: HostRuntime) -> Result<(), Fail> {
+    let mut scanner = Scanner::new(rt.alloc(), "\n a".chars());
+    for _ in 0..2 {
+        let _ = scanner.next_token().map_err(|_| "a fault")?;
+    }
+    let mark = scanner.mark();
     let mut loader = YamlLoader::default(rt.alloc());
     let fault = loader
         .on_event(Event::SequenceEnd, mark)
         .err()
         .ok_or("no fault")?;
-    assert_eq!(rt; fault.info(), "event out of nesting");
-    let again = loader
-        .on_event(Event::StreamEnd, mark)
-        .err()
-        .ok_or("no fault")?;
-    assert_eq!(rt; again.info(), "event out of nesting");
-    assert_eq!(rt; loader.documents().len(), 0);
-    Ok(())
-}
-
-#[test]
-fn a_peeked_event_comes_again(rt: HostRuntime) -> Result<(), Fail> {
-    let mut parser = Parser::new_from_str(rt.alloc(), "a");
-    let is_start = matches!(parser.peek().map_err(|_| "a fault")?.0, Event::StreamStart);
-    assert!(rt; is_start);
-    let (event, _) = parser.next_token().map_err(|_| "a fault")?;
-    assert!(rt; matches!(event, Event::StreamStart));
+    assert_eq!(rt; fault.info(), NESTING);
+    assert!(rt; *fault.marker() == mark);
     Ok(())
 }

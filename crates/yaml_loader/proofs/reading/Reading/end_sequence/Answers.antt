@@ -1,9 +1,7 @@
-use Rattle.std.proofs.Common.{◌≡◌, ◌∷◌, [], List, refl, sym, ap, ◌∙◌, subst}
-use Rattle.std.specs.Prelude.{Some, None, option_map}
+use Rattle.std.proofs.Common.{◌≡◌, ◌∷◌, [], sym, ap, ◌∙◌, subst}
 use Rattle.std.proofs.lemmas.Result.{on_ok_weaker, IfErr-weaker}
-use Rattle.tree_defs.specs.Tree.{array, items_of, hash, pairs_of}
-use Rattle.event_defs.specs.Unfinished.{Opened, opened_sequence, opened_mapping, with_node, with_sequence_end, with_mapping_end}
-use Rattle.yaml_tree.specs.View.{view}
+use Rattle.tree_defs.specs.Tree.{array, items_of}
+use Rattle.event_defs.specs.Unfinished.{opened_sequence, with_node, with_sequence_end}
 use Rattle.yaml_loader.specs.Alike.{ReadsTo}
 use Rattle.yaml_loader.specs.View.{opened_of, all_opened, unfinished_of, IsRefusedBy}
 use Rattle.yaml_loader.proofs.AliasLemmas.{with_node_opened}

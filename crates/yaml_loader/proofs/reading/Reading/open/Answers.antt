@@ -1,9 +1,7 @@
-use Rattle.std.proofs.Common.{◌≡◌, ◌<◌, [], ◌∷◌, ◌++◌, List, refl, sym, ap, ◌∙◌, subst, arith, length, true, false}
-use Rattle.std.specs.Prelude.{Some, None, option_map, is_ok, if◌then◌else◌}
+use Rattle.std.proofs.Common.{◌≡◌, ◌<◌, [], ◌∷◌, ◌++◌, refl, sym, ap, ◌∙◌, subst, arith, length, true}
+use Rattle.std.specs.Prelude.{None, option_map, is_ok, if◌then◌else◌}
 use Rattle.std.proofs.lemmas.Bool.Decides.{nat_tests}
-use Rattle.event_defs.specs.Unfinished.{Unfinished, Opened}
 use Rattle.yaml_tree.specs.View.{view}
-use Rattle.yaml_loader.specs.declared.reading.Open.{Open}
 use Rattle.yaml_loader.specs.Alike.{ReadsTo}
 use Rattle.yaml_loader.specs.View.{opened_of, all_opened, unfinished_of}
 use Rattle.yaml_loader.proofs.OpenedLemmas.{all_opened_push, start_reads, some_opened, no_root}

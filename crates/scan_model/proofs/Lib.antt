@@ -1,0 +1,6 @@
+mod RowsBlock
+mod RowsFlow
+mod RowsLines
+mod RowsProperties
+mod RowsRefused
+mod RowsScalars

@@ -1,0 +1,10 @@
+pub mod Class
+pub mod State
+pub mod Keys
+pub mod Indents
+pub mod Space
+pub mod Flow
+pub mod Block
+pub mod Document
+pub mod Fetch
+pub mod Run

@@ -1,0 +1,20 @@
+/// How an entry of a flow collection stands to a pair without braces.
+#[derive(Clone, Copy, PartialEq, Eq)]
+pub enum FlowLevel {
+    /// A flow mapping: its pairs need none.
+    Mapping,
+    /// An entry of a flow sequence that may turn out to be a pair.
+    Entry,
+    /// An entry of a flow sequence that began with `?`.
+    Keyed,
+    /// An entry of a flow sequence that is a pair.
+    Pair,
+}
+
+/// A level of indentation: the one before it, and whether its end is a token. Columns count
+/// from 1 here, and 0 is outside all collections.
+#[derive(Clone, Copy)]
+pub struct Indent {
+    pub indent: usize,
+    pub needs_block_end: bool,
+}

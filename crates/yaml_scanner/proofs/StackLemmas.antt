@@ -1,0 +1,55 @@
+-- Lemmas about stacks.
+use Rattle.std.proofs.Common.{◌≡◌, ℕ, ◌+◌, ◌-◌, ◌<◌, List, [], ◌∷◌, ◌++◌, reverse, refl, ap, sym, ◌∙◌, Option, Some, None, length, get_or, arith, slice_get, set, Bool, true, false, ◌==◌}
+use Rattle.std.proofs.lemmas.List.{reverse-append, reverse-reverse, length-reverse}
+use Rattle.std.proofs.lemmas.Grind.{common_steps, elements}
+use Rattle.std.proofs.lemmas.Bool.{ne_eqb}
+use Rattle.scan_model.specs.State.{top, with_top}
+use Rattle.yaml_chars.specs.Text.{is_nil}
+
+pub pushed : {A : Type 0} (xs ys : List A) (x : A) → ys ≡ xs ++ x ∷ [] → reverse ys ≡ x ∷ reverse xs
+pushed xs ys x e = ap reverse e ∙ reverse-append xs (x ∷ [])
+
+pub popped : {A : Type 0} (xs ys : List A) (x : A) → xs ≡ ys ++ x ∷ [] → reverse xs ≡ x ∷ reverse ys
+popped xs ys x e = ap reverse e ∙ reverse-append ys (x ∷ [])
+
+pub none_popped : {A : Type 0} (xs : List A) → length xs ≡ 0 → reverse xs ≡ []
+none_popped [] e = refl
+none_popped (x ∷ xs) e = absurd (omega arith)
+
+last_of : {A : Type 0} (zs : List A) (x : A) → slice_get (zs ++ x ∷ []) (length (zs ++ x ∷ []) - 1) ≡ Some x
+last_of [] x = refl
+last_of (z ∷ zs) x = grind (arith, elements, common_steps, last_of zs x)
+
+topped_by : {A : Type 0} (xs ys : List A) → reverse xs ≡ ys → xs ≡ reverse ys → slice_get xs (length xs - 1) ≡ top ys
+topped_by xs [] e f = rw f refl
+topped_by xs (y ∷ ys) e f = rw (f, reverse-append (y ∷ []) ys) (last_of (reverse ys) y)
+
+pub topped : {A : Type 0} (xs : List A) → slice_get xs (length xs - 1) ≡ top (reverse xs)
+topped xs = topped_by xs (reverse xs) refl (sym (reverse-reverse xs))
+
+set_last : {A : Type 0} (zs : List A) (x y : A) → set (zs ++ x ∷ []) (length zs) y ≡ zs ++ y ∷ []
+set_last [] x y = refl
+set_last (z ∷ zs) x y = ap (λ l. z ∷ l) (set_last zs x y)
+
+set_by : {A : Type 0} (xs ys : List A) (y : A) → xs ≡ reverse ys → reverse (set xs (length xs - 1) y) ≡ with_top y ys
+set_by xs [] y f = rw f refl
+set_by xs (x ∷ ys) y f =
+    let n : length xs - 1 ≡ length (reverse ys) = rw (f, reverse-append (x ∷ []) ys) (grind (arith, elements, common_steps)) in
+    rw (n, f, reverse-append (x ∷ []) ys, set_last (reverse ys) x y, reverse-append (reverse ys) (y ∷ []), reverse-reverse ys) refl
+
+pub top_set : {A : Type 0} (xs zs : List A) (y : A) → zs ≡ set xs (length xs - 1) y → reverse zs ≡ with_top y (reverse xs)
+top_set xs zs y e = ap reverse e ∙ set_by xs (reverse xs) y (sym (reverse-reverse xs))
+
+pub none_set : {A : Type 0} (xs : List A) (y : A) → length xs ≡ 0 → reverse xs ≡ with_top y (reverse xs)
+none_set [] y e = refl
+none_set (x ∷ xs) y e = absurd (omega arith)
+
+pub reversed_len : {A : Type 0} (xs : List A) → length xs ≡ length (reverse xs)
+reversed_len xs = sym (length-reverse xs)
+
+nil_by : {A : Type 0} (xs ys : List A) → reverse xs ≡ ys → length xs ≡ length ys → (length xs == 0) ≡ is_nil ys
+nil_by xs [] e n = rw n refl
+nil_by xs (y ∷ ys) e n = ne_eqb (length xs) 0 (λ z. absurd (omega arith))
+
+pub reversed_nil : {A : Type 0} (xs : List A) → (length xs == 0) ≡ is_nil (reverse xs)
+reversed_nil xs = nil_by xs (reverse xs) refl (reversed_len xs)

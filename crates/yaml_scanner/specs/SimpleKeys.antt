@@ -1,0 +1,41 @@
+-- What may be a key, as the model sees it. In the code a place counts from the first token that waits.
+use Rattle.std.specs.Prelude.{ℕ, ◌+◌, ◌-◌, List, [], ◌∷◌, Bool, true, false, ◌==◌, Option, Some, None, map, if◌then◌else◌}
+use Rattle.yaml_chars.specs.Place.{Place}
+use Rattle.scan_model.specs.State.{Key}
+use Rattle.scan_model.specs.Keys.{is_far}
+use Rattle.yaml_scanner.specs.declared.keys.SimpleKey.{SimpleKey}
+
+-- a key behind so many tokens that were handed out
+abbrev pub key_of : ℕ → Option SimpleKey → Option Key
+key_of given None = None
+key_of given (Some k) = Some (record { required = k.required; number = given + k.place; place = k.mark })
+
+abbrev pub seen : ℕ → List (Option SimpleKey) → List (Option Key)
+seen given ks = map (key_of given) ks
+
+-- whether a key stands before the next token
+abbrev pub is_front : Option SimpleKey → Bool
+is_front None = false
+is_front (Some k) = k.place == 0
+
+-- a key behind one token more that was handed out
+abbrev pub lowered : Option SimpleKey → Option SimpleKey
+lowered None = None
+lowered (Some k) = Some (record k { place = k.place - 1 })
+
+abbrev pub top_simple : List (Option SimpleKey) → Option SimpleKey
+top_simple [] = None
+top_simple (k ∷ ks) = k
+
+-- what may still be a key at a place
+abbrev pub still_simple : Place → Option SimpleKey → Option SimpleKey
+still_simple p None = None
+still_simple p (Some k) = (if is_far k.mark p then None else Some k)
+
+abbrev pub no_simple : Option SimpleKey → Option SimpleKey
+no_simple k = None
+
+-- a place from the first token that waits as one from the first of all
+abbrev pub number_of : ℕ → Option ℕ → Option ℕ
+number_of given None = None
+number_of given (Some n) = Some (given + n)

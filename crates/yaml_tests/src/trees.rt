@@ -1,0 +1,154 @@
+use std::alloc::Global;
+use std::test::Fail;
+use yaml_rust2::yaml::{Array, Hash, Yaml, YamlLoader};
+
+fn typed(alloc: Global, text: &str) -> Result<String, Fail> {
+    let node = Yaml::from_str(alloc, text)?;
+    Ok(format!(in alloc; "{node:?}")?)
+}
+
+fn loaded(alloc: Global, text: &str) -> Result<Yaml, Fail> {
+    let mut documents = YamlLoader::load_from_str(alloc, text).map_err(|_| "a fault")?;
+    Ok(documents.pop().ok_or("no document")?)
+}
+
+fn word(alloc: Global, text: &str) -> Result<Yaml, Fail> {
+    Ok(Yaml::String(String::from_str(alloc, text)?))
+}
+
+#[test]
+fn texts_are_typed(rt: HostRuntime) -> Result<(), Fail> {
+    for (text, want) in [
+        ("0x2A", "Integer(42)"),
+        ("0o52", "Integer(42)"),
+        ("42", "Integer(42)"),
+        ("0o-7", "Integer(-7)"),
+        ("++5", "Integer(5)"),
+        ("+-5", "Integer(-5)"),
+        ("-9223372036854775808", "Integer(-9223372036854775808)"),
+        ("0x-8000000000000000", "Integer(-9223372036854775808)"),
+        ("9223372036854775808", "Real(\"9223372036854775808\")"),
+        ("1.e5", "Real(\"1.e5\")"),
+        ("+.5", "Real(\"+.5\")"),
+        ("5.", "Real(\"5.\")"),
+        ("-.inf", "Real(\"-.inf\")"),
+        (".NaN", "Real(\".NaN\")"),
+        ("", "Null"),
+        ("~", "Null"),
+        ("True", "Boolean(true)"),
+        ("FALSE", "Boolean(false)"),
+        ("0x8000000000000000", "String(\"0x8000000000000000\")"),
+        ("0o8", "String(\"0o8\")"),
+        ("+0x10", "String(\"+0x10\")"),
+        ("--5", "String(\"--5\")"),
+        ("1e", "String(\"1e\")"),
+        ("+.nan", "String(\"+.nan\")"),
+        (".", "String(\".\")"),
+        ("1_000", "String(\"1_000\")"),
+        ("\u{e9}", "String(\"\u{e9}\")"),
+    ] {
+        assert_eq!(rt; typed(rt.alloc(), text)?.as_str(), want);
+    }
+    for bare in ["nan", "NAN", "NaN", "inf", "infinity", "Infinity"] {
+        for sign in ["", "+", "-"] {
+            let text = format!(in rt.alloc(); "{sign}{bare}")?;
+            let want = format!(in rt.alloc(); "String(\"{text}\")")?;
+            assert_eq!(rt; typed(rt.alloc(), text.as_str())?.as_str(), want.as_str());
+        }
+    }
+    Ok(())
+}
+
+#[test]
+fn pairs_keep_the_order_of_insertion(rt: HostRuntime) -> Result<(), Fail> {
+    let alloc = rt.alloc();
+    let mut pairs = Hash::new(alloc);
+    assert!(rt; pairs.is_empty());
+    let first = pairs
+        .insert(word(alloc, "a")?, Yaml::Integer(1))
+        .map_err(|_| "no memory")?;
+    assert!(rt; first.is_none());
+    let second = pairs
+        .insert(word(alloc, "b")?, Yaml::Integer(2))
+        .map_err(|_| "no memory")?;
+    assert!(rt; second.is_none());
+    let old = pairs
+        .insert(word(alloc, "a")?, Yaml::Integer(3))
+        .map_err(|_| "no memory")?;
+    assert_eq!(rt; format!(in alloc; "{old:?}")?.as_str(), "Some(Integer(1))");
+    assert_eq!(rt; pairs.len(), 2);
+    assert_eq!(rt;
+        format!(in alloc; "{pairs:?}")?.as_str(),
+        "{String(\"b\"): Integer(2), String(\"a\"): Integer(3)}"
+    );
+    let copy = pairs.clone(alloc)?;
+    assert!(rt; copy == pairs);
+    let removed = pairs.remove(&word(alloc, "b")?);
+    assert_eq!(rt;
+        format!(in alloc; "{removed:?}")?.as_str(),
+        "Some(Integer(2))"
+    );
+    assert!(rt; pairs.get(&word(alloc, "b")?).is_none());
+    assert!(rt; pairs.back().is_some());
+    assert!(rt; copy != pairs);
+    Ok(())
+}
+
+#[test]
+fn nodes_are_looked_up(rt: HostRuntime) -> Result<(), Fail> {
+    let alloc = rt.alloc();
+    let node = loaded(alloc, "{0: {important: true}}")?;
+    let inner = node.get_index(0).ok_or("no value")?;
+    assert_eq!(rt;
+        inner.get_key("important").ok_or("no value")?.as_bool(),
+        Some(true)
+    );
+    assert!(rt; node.get_index(1).is_none());
+    assert!(rt; node.get_index(9223372036854775808).is_none());
+    assert!(rt; node.has_index(0));
+    assert!(rt; !node.has_key("important"));
+    assert!(rt; node.is_hash());
+    let items = loaded(alloc, "[1, 2]")?;
+    assert!(rt; items.is_array());
+    assert_eq!(rt; items.get_index(1).ok_or("no item")?.as_i64(), Some(2));
+    let mut count = 0u8;
+    for _ in items {
+        count = count.saturating_add(1);
+    }
+    assert_eq!(rt; count, 2);
+    assert!(rt; loaded(alloc, "{a: b}")?.into_iter().next().is_none());
+    Ok(())
+}
+
+#[test]
+fn nodes_give_their_contents(rt: HostRuntime) -> Result<(), Fail> {
+    let alloc = rt.alloc();
+    assert_eq!(rt; word(alloc, "a")?.as_str(), Some("a"));
+    assert_eq!(rt; Yaml::Integer(3).into_i64(), Some(3));
+    assert_eq!(rt; Yaml::Boolean(false).into_bool(), Some(false));
+    assert!(rt; Yaml::Null.is_null());
+    assert!(rt; Yaml::BadValue.is_badvalue());
+    assert_eq!(rt; Yaml::BadValue.or(Yaml::Integer(3)).as_i64(), Some(3));
+    assert_eq!(rt; Yaml::Integer(3).or(Yaml::BadValue).as_i64(), Some(3));
+    let mut items = Array::new(alloc);
+    items.push(Yaml::Null)?;
+    assert_eq!(rt; items.len(), 1);
+    let node = Yaml::Array(items);
+    let copy = node.clone(alloc)?;
+    assert!(rt; copy == node);
+    assert!(rt; Yaml::Integer(1) < Yaml::Null);
+    assert_eq!(rt; node.into_vec().ok_or("no array")?.len(), 1);
+    Ok(())
+}
+
+#[test]
+fn deep_trees_are_dropped(rt: HostRuntime) -> Result<(), Fail> {
+    let alloc = rt.alloc();
+    let mut text = String::new(alloc);
+    for _ in 0..100000u32 {
+        text.push_str("- ")?;
+    }
+    let documents = YamlLoader::load_from_str(alloc, text.as_str()).map_err(|_| "a fault")?;
+    assert_eq!(rt; documents.len(), 1);
+    Ok(())
+}
