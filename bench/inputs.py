@@ -87,7 +87,8 @@ def anchors(r, size):
 
 
 def settings(r, size):
-    return block(r, 2000)
+    """A file of 2 KB; a tenth of it for the growth."""
+    return block(r, 2000 if size > 1000000 else 200)
 
 
 KINDS = {"block": block, "json": json, "literal": literal, "quoted": quoted, "flow": flow, "anchors": anchors, "settings": settings}

@@ -5,3 +5,4 @@ pub mod BlockLemmas
 pub mod UriLemmas
 pub mod TagLemmas
 pub mod DirectiveLemmas
+pub mod RunLemmas

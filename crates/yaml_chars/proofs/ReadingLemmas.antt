@@ -1,9 +1,11 @@
 -- Lemmas about a window.
-use Rattle.std.proofs.Common.{◌≡◌, ℕ, ◌+◌, ◌-◌, ◌<◌, ◌≤◌, true, false, List, [], ◌∷◌, ◌++◌, length, take, drop, arith, rules, refl, ap, get_or, ◌∙◌, inl, inr, Bool, length-append, length-drop}
+use Rattle.std.proofs.Common.{◌≡◌, ◌≢◌, ℕ, ◌+◌, ◌-◌, ◌<◌, ◌≤◌, true, false, List, [], ◌∷◌, ◌++◌, length, take, drop, slice_index, arith, rules, refl, ◌∙◌, inl, inr, Bool, length-append, length-drop}
 use Rattle.std.proofs.Math.Seq.{take-length}
+use Rattle.std.proofs.lemmas.List.{drop_all}
 use Rattle.std.proofs.lemmas.Grind.{common_steps, elements}
 use Rattle.std.proofs.lemmas.Bool.{cases_lt}
 use Rattle.std.specs.Prelude.{Option}
+use native.Mathlib.Numerals.{unary_clauses}
 use Rattle.yaml_chars.specs.Source.{Pulled, Pulls, CameFrom}
 use Rattle.yaml_chars.specs.Reading.{Reading, Possible, Reads, Sees, Fills, HasNoNul, IsText, Begins}
 
@@ -15,6 +17,16 @@ begins-back (x ∷ xs) c (y ∷ w) h =
     let tails : take (length (xs ++ c ∷ [])) w ≡ xs ++ c ∷ [] = cc in
     let back = begins-back xs c w tails in
     cc
+
+-- a text that begins with xs and c has c behind xs
+pub begins-front : (xs : List ℕ) (c : ℕ) (w : List ℕ) → take (length (xs ++ c ∷ [])) w ≡ xs ++ c ∷ [] → drop (length xs) w ≡ c ∷ drop (length xs + 1) w
+begins-front [] c [] h = cc
+begins-front [] c (y ∷ w) h = cc
+begins-front (x ∷ xs) c [] h = cc
+begins-front (x ∷ xs) c (y ∷ w) h =
+    let tails : take (length (xs ++ c ∷ [])) w ≡ xs ++ c ∷ [] = cc in
+    let behind = begins-front xs c w tails in
+    simp unary_clauses (simp unary_clauses at behind)
 
 -- what may be the whole text after a character came might have been it before
 pub Possible-back : {T : Type 0} (old new : Reading T) (c : ℕ) (w : List ℕ)
@@ -98,6 +110,36 @@ module _ {T : Type 0} (source : Pulled T) (c : ℕ) (next : Pulled T) (pulls : P
         let len : length next.taken ≡ length source.taken + 1 = rw more.1 (simp length-append) in omega (arith, more.3)
     | inr none ↦ let same = pulls.ends (omega arith) in rw same.0 (omega (arith, same.2))
   ]
+
+module _ {T : Type 0} (source : Pulled T) (ring : List ℕ) (at line col c : ℕ) (next : Pulled T) (fills : Fills source ring at line col) (none : length ring ≡ 0) (pulls : Pulls source c next) where
+  -- a character that came where nothing was in the window stands next
+  pub front-pulls : (new : Reading T) (w : List ℕ) → new.taken ≡ next.taken → c ≢ 0 → Possible new w → drop at w ≡ c ∷ drop (at + 1) w
+  front-pulls new w taken some p =
+      let more = pulls.char some in
+      let here : at ≡ length source.taken = omega (arith, none, fills.going more.0) in
+      rw here (begins-front source.taken c w (rw (← more.1, ← taken) p.begins))
+
+  -- where the end came, nothing stands next
+  pub end-pulls : (new : Reading T) (w : List ℕ) → new.taken ≡ next.taken → new.done ≡ next.done → c ≡ 0 → Possible new w → drop at w ≡ []
+  end-pulls new w taken done ends p =
+      let same = pulls.ends ends in
+      let past : length source.taken ≤ at + length ring = not_before (source.done) _ _ fills.ended fills.going in
+      let all : w ≡ source.taken = p.ends (done ∙ same.1) ∙ taken ∙ same.0 in
+      rw all (drop_all at source.taken (omega (arith, none, past)))
+
+  -- what stands next is what came
+  pub next-pulls : (new : Reading T) (w : List ℕ) → new.taken ≡ next.taken → new.done ≡ next.done → Possible new w → slice_index (drop at w) 0 ≡ c
+  next-pulls new w taken done p = elim (cases_lt 0 c) [
+    | inl some ↦ rw (front-pulls new w taken (λ e. absurd (omega arith)) p) refl
+    | inr none ↦ rw (end-pulls new w taken done (omega arith) p) (omega arith)
+  ]
+
+  -- one character fewer is left
+  pub left-taken : c ≢ 0 → (at + 1) + ((length next.taken - (at + 1)) + next.left) ≤ at + ((length source.taken - at) + source.left)
+  left-taken some =
+      let more = pulls.char some in
+      let len : length next.taken ≡ length source.taken + 1 = rw more.1 (simp length-append) in
+      omega (arith, more.3, none, fills.going more.0)
 
 -- what was taken may be the whole text
 pub Possible-taken : {T : Type 0} (s : Reading T) → Possible s s.taken

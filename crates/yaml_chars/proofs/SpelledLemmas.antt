@@ -1,5 +1,5 @@
 -- An iterator that always gives the same characters.
-use Rattle.std.proofs.Common.{◌≡◌, ◌≢◌, ℕ, ◌+◌, ◌<◌, List, [], ◌∷◌, length, take, true, false, Bool, Option, Some, None, suc, ap, sym, subst, ◌∙◌, rules, arith, refl}
+use Rattle.std.proofs.Common.{◌≡◌, ◌≢◌, ℕ, List, [], ◌∷◌, length, take, true, false, Bool, Option, Some, None, suc, ap, sym, subst, ◌∙◌, rules, arith, refl}
 use Rattle.std.proofs.Math.Seq.{take-length}
 use Rattle.std.proofs.lemmas.Str.{Chars-gives, encodes-chars}
 use Rattle.std.specs.Prelude.{Result, Ok, Err, IfOk, IfErr}

@@ -1,5 +1,5 @@
 -- What clauses see of a window, and how they speak of the text behind it.
-use Rattle.std.specs.Prelude.{◌≡◌, ◌≢◌, ℕ, ◌+◌, ◌-◌, ◌*◌, ◌^◌, ◌<◌, ◌≤◌, Bool, true, false, List, [], ◌∷◌, ◌++◌, length, take, drop, slice_index}
+use Rattle.std.specs.Prelude.{◌≡◌, ◌≢◌, ℕ, ◌+◌, ◌-◌, ◌^◌, ◌<◌, ◌≤◌, Bool, true, false, List, [], ◌∷◌, length, take, drop, slice_index}
 use Rattle.std.specs.Prelude.{Option, ◌==◌, if◌then◌else◌}
 use Rattle.std.specs.Iterator.{YieldsThen}
 use Rattle.yaml_chars.specs.Place.{Place}
@@ -47,6 +47,13 @@ pub record SamePlace {T : Type 0} (old new : Reading T) : Type 0 where
   pub line : new.line ≡ old.line
   pub col : new.col ≡ old.col
   pub ahead : old.ahead ≤ new.ahead
+
+-- one character on in a line
+pub record OneOn {T : Type 0} (old new : Reading T) : Type 0 where
+  pub at : new.at ≡ old.at + 1
+  pub line : new.line ≡ old.line
+  pub col : new.col ≡ old.col + 1
+  pub less : new.left < old.left
 
 -- no character is a NUL
 abbrev pub HasNoNul : List ℕ → Type 0

@@ -6,10 +6,12 @@ pub mod class;
 pub mod history;
 pub mod marker;
 mod ring;
+mod run;
 pub mod source;
 pub mod text;
 pub mod window;
 
 pub use marker::Marker;
+pub use run::Run;
 pub use text::Text;
 pub use window::Window;

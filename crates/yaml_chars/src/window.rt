@@ -1,11 +1,13 @@
-ghost use Rattle.std.specs.Prelude.{◌≡◌, ◌≢◌, ℕ, ◌+◌, ◌-◌, ◌^◌, ◌<◌, ◌≤◌, [], ◌∷◌, ◌++◌, true, false, length, drop, slice_index};
+ghost use Rattle.std.specs.Prelude.{◌≡◌, ◌≢◌, ℕ, ◌+◌, ◌-◌, ◌^◌, ◌<◌, ◌≤◌, [], ◌∷◌, ◌++◌, true, false, length, drop, slice_index, IfSome, IfNone, OnSome};
 ghost use Rattle.std.specs.Iterator.{IsFinite, size};
+ghost use Rattle.yaml_chars.specs.Run.{stops};
 ghost use Rattle.yaml_chars.specs.Source.{CameFrom};
 ghost use Rattle.yaml_chars.specs.Reading.{place_of};
-ghost use Rattle.yaml_chars.specs.Reading.{Reads, Sees, HasChar, SamePlace, after_char, after_break, after_line, HasNoNul};
+ghost use Rattle.yaml_chars.specs.Reading.{Reads, Sees, HasChar, SamePlace, OneOn, after_char, after_break, after_line, HasNoNul};
 
 use crate::marker::Marker;
 use crate::ring::Ring;
+use crate::run::Run;
 use crate::source::Source;
 use std::marker::Model;
 
@@ -130,6 +132,41 @@ impl<T: Iterator<Item = char>> Window<T> {
         self.ring.drop_first();
         self.index += 1;
         self.col += 1;
+    }
+
+    /// Takes the next character, where the run goes on with it; every other stays.
+    pub fn take(&mut self, run: Run) -> Option<char>
+        ensures taken { IfSome result (λ c. (stops run c ≡ false) × Reads self.old self.new (λ a b. a ≡ c ∷ b)) }
+        ensures on { OnSome result (OneOn self.old self.new) }
+        ensures stays { IfNone result (Reads self.old self.new (λ a b. (b ≡ a) × (stops run (slice_index b 0) ≡ true))) }
+        ensures place { IfNone result (SamePlace self.old self.new) }
+    {
+        if self.len() == 0 {
+            return self.take_from_source(run);
+        }
+        let c = self.ch();
+        if run.stops(c) {
+            return None;
+        }
+        self.skip();
+        Some(c)
+    }
+
+    // The same, where nothing is in the window: the character need not go through it.
+    fn take_from_source(&mut self, run: Run) -> Option<char>
+        requires { self.old.ahead ≡ 0 }
+        ensures taken { IfSome result (λ c. (stops run c ≡ false) × Reads self.old self.new (λ a b. a ≡ c ∷ b)) }
+        ensures on { OnSome result (OneOn self.old self.new) }
+        ensures stays { IfNone result (Reads self.old self.new (λ a b. (b ≡ a) × (stops run (slice_index b 0) ≡ true))) }
+        ensures place { IfNone result (SamePlace self.old self.new) }
+    {
+        let c = self.source.next();
+        if run.stops(c) {
+            self.ring.push(c);
+            return None;
+        }
+        (self.index, self.col) = (self.index + 1, self.col + 1);
+        Some(c)
     }
 
     /// Steps over a line break.

@@ -10,7 +10,7 @@ use crate::header::{Header, read_header};
 use crate::plain::at_marker;
 use std::alloc::{AllocError, Global};
 use yaml_chars::class::{is_blank, is_break};
-use yaml_chars::{Marker, Text, Window};
+use yaml_chars::{Marker, Run, Text, Window};
 use yaml_tokens::{Chomping, Fault, Problem};
 
 /// The lines of a block scalar so far: the text up to the last content line, the breaks behind
@@ -127,6 +127,26 @@ fn read_indent<T: Iterator<Item = char>>(
     }
 }
 
+/// Reads the characters up to a break or the end.
+#[tactic(auto, using(scalar_model::proofs::RunLemmas::block_run))]
+fn read_run<T: Iterator<Item = char>>(
+    window: &mut Window<T>,
+    literal: bool,
+    column: usize,
+    block: &mut Lines,
+) -> Result<(), AllocError>
+    ensures ok { OnOk result (Reads window.old window.new (λ a b.
+        lines_from literal column a (at line window.old block.old) ≡ lines_from literal column b (at line window.new block.new))) }
+    ensures err { OnErr result (Reads window.old window.new (λ _ _. Unit {0})) }
+{
+    let _ = literal;
+    let _ = column;
+    'run: while let Some(c) = window.take(Run::Line) {
+        block.text.push(c)?;
+    }
+    Ok(())
+}
+
 /// Reads a content line and its break.
 fn read_line<T: Iterator<Item = char>>(
     window: &mut Window<T>,
@@ -141,6 +161,7 @@ fn read_line<T: Iterator<Item = char>>(
     let _ = literal;
     let _ = column;
     'line: loop {
+        read_run(window, literal, column, block)?;
         window.lookahead(2);
         let c = window.ch();
         if is_break(c) {

@@ -9,7 +9,7 @@ use crate::folding::Folding;
 use scalar_model::Context;
 use std::alloc::{AllocError, Global};
 use yaml_chars::class::{is_blank, is_blank_or_breakz, is_break, is_breakz, is_flow};
-use yaml_chars::{Marker, Window};
+use yaml_chars::{Marker, Run, Window};
 use yaml_tokens::{Fault, Problem};
 
 /// A plain scalar's text, and whether it ended behind a break, where a key may follow.
@@ -29,6 +29,25 @@ fn can_be_plain(flow: bool, c: char, next: char) -> bool
     }
 }
 
+/// Reads the characters up to a blank, a break, the end, a colon or what ends a plain scalar in flow.
+#[tactic(auto, using(scalar_model::proofs::RunLemmas::plain_run))]
+fn read_word<T: Iterator<Item = char>>(
+    window: &mut Window<T>,
+    context: Context,
+    start: Marker,
+    scalar: &mut Folding,
+) -> Result<(), AllocError>
+    ensures ok { OnOk result (Reads window.old window.new (λ a b.
+        plain_from context start a (at inside window.old scalar.old) ≡ plain_from context start b (at inside window.new scalar.new))) }
+    ensures err { OnErr result (Reads window.old window.new (λ _ _. Unit {0})) }
+{
+    let _ = start;
+    'run: while let Some(c) = window.take(Run::Plain(context.flow)) {
+        scalar.push(c)?;
+    }
+    Ok(())
+}
+
 /// Reads the characters up to a blank, a break, the end, or what ends a plain scalar.
 #[tactic(auto, using(scalar_model::proofs::PlainLemmas::run_end))]
 fn read_run<T: Iterator<Item = char>>(
@@ -43,6 +62,7 @@ fn read_run<T: Iterator<Item = char>>(
 {
     let _ = start;
     'run: loop {
+        read_word(window, context, start, scalar)?;
         window.lookahead(2);
         let c = window.ch();
         if is_blank_or_breakz(c) || !can_be_plain(context.flow, c, window.peek(1)) {

@@ -13,7 +13,7 @@ use crate::plain::at_marker;
 use scalar_model::Context;
 use std::alloc::{AllocError, Global};
 use yaml_chars::class::{is_blank, is_break};
-use yaml_chars::{Marker, Window};
+use yaml_chars::{Marker, Run, Window};
 use yaml_tokens::{Fault, Problem};
 
 /// What stands next in a quoted scalar: its first character, the next one of a line, what comes in
@@ -334,6 +334,7 @@ fn read_part<T: Iterator<Item = char>>(
 }
 
 /// Reads the characters up to a blank, a break, the end, a quote or a backslash.
+#[tactic(auto, using(scalar_model::proofs::RunLemmas::quoted_run))]
 fn read_run<T: Iterator<Item = char>>(
     window: &mut Window<T>,
     single: bool,
@@ -347,14 +348,10 @@ fn read_run<T: Iterator<Item = char>>(
 {
     let _ = context;
     let _ = start;
-    'run: loop {
-        let c = window.look_ch();
-        if c == '\0' || is_break(c) || is_blank(c) || c == quote_of(single) || c == '\\' {
-            return Ok(());
-        }
+    'run: while let Some(c) = window.take(Run::Quoted(quote_of(single))) {
         scalar.push(c)?;
-        window.skip();
     }
+    Ok(())
 }
 
 /// Reads a quoted scalar, from the opening quote to behind the closing one.

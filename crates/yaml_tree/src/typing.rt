@@ -1,7 +1,7 @@
 //! What a plain text stands for.
 ghost use Rattle.std.specs.Prelude.{◌≡◌, ◌≤◌, ◌||◌, IfOk, option_map, option_and_then, map, chars};
 ghost use Rattle.tree_defs.specs.Grammar.{is_among, at_least_one};
-ghost use Rattle.tree_defs.specs.Typing.{behind, signed_number, typing, is_sign, is_decimal, special_words};
+ghost use Rattle.tree_defs.specs.Typing.{behind, signed_number, typing, is_sign, is_decimal, special_words, null_words, true_words, false_words};
 ghost use Rattle.tree_defs.proofs.GrammarLaws.{behind_all, behind_one};
 ghost use Rattle.tree_defs.proofs.DecimalReading.{begins_in, reads_exponent, reads_on, reads_decimal};
 ghost use Rattle.std.specs.Char.{is_ascii_digit};
@@ -52,16 +52,34 @@ fn value_of(text: &str) -> Option<Yaml>
     if let Some(number) = number_behind("+", text, 10) {
         return Some(Yaml::Integer(number));
     }
-    if is_among(&["", "~", "null"], text) {
+    if is_null(text) {
         return Some(Yaml::Null);
     }
-    if is_among(&["true", "True", "TRUE"], text) {
+    if is_true(text) {
         return Some(Yaml::Boolean(true));
     }
-    if is_among(&["false", "False", "FALSE"], text) {
+    if is_false(text) {
         return Some(Yaml::Boolean(false));
     }
     Some(Yaml::Integer(number_in(text, 10)?))
+}
+
+fn is_null(text: &str) -> bool
+    ensures { result ≡ is_among null_words text.now }
+{
+    matches!(text, "" | "~" | "null")
+}
+
+fn is_true(text: &str) -> bool
+    ensures { result ≡ is_among true_words text.now }
+{
+    matches!(text, "true" | "True" | "TRUE")
+}
+
+fn is_false(text: &str) -> bool
+    ensures { result ≡ is_among false_words text.now }
+{
+    matches!(text, "false" | "False" | "FALSE")
 }
 
 /// Whether a text is a real: one of the words for infinity and not a number, or decimal.

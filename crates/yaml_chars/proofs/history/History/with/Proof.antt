@@ -1,6 +1,5 @@
 -- `with` makes a value of no bytes, whose ghost field is what `before` shows, and one item more.
 use mathlib.Core.Path.{refl, sym, subst}
-use Prim.Native.Nat.{ℕ}
 use mathlib.Core.List.{List, [], ◌∷◌, ◌++◌}
 use seplogic.Ra.Ura.{Ura}
 use mir.Syntax.{Fn, a_type}

@@ -1,6 +1,4 @@
-use Rattle.std.proofs.Common.{rules, subst, sym, ◌≡◌, true, false, [], ◌∷◌, ◌++◌, List, ℕ}
-use Rattle.std.proofs.iter.Next.{Yields-more}
-use Rattle.std.specs.Iterator.{Yields}
+use Rattle.std.proofs.Common.{rules}
 use Rattle.yaml_chars.proofs.SourceLemmas.{Stands-more}
 use Rattle.yaml_chars.proofs.source.Source.next.Goals as goal
 

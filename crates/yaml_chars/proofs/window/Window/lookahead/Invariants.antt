@@ -1,4 +1,4 @@
-use Rattle.std.proofs.Common.{◌≡◌, ℕ, ◌+◌, ◌-◌}
+use Rattle.std.proofs.Common.{◌≡◌, ◌-◌}
 use Rattle.yaml_chars.specs.Reading.{Reads, SamePlace}
 use Rattle.yaml_chars.proofs.window.Window.lookahead.Given as goal
 

@@ -1,0 +1,86 @@
+#!/usr/bin/env python3
+"""Loads the same texts with this library and with the original, and prints a table.
+
+usage: bench.py ORIGINAL [--bytes N] [--only KIND]
+
+`ORIGINAL time FILE N` loads FILE N times. Both programs make the trees and take them apart again; what is measured is the
+processor time of each process by its loads, the least of several runs that take turns, and its peak memory. Build the static
+library first: `cd crates/yamlbench && rt lib`.
+"""
+import argparse, os, subprocess, sys, tempfile
+
+import inputs
+
+HERE = os.path.dirname(os.path.abspath(__file__))
+LIBRARY = os.path.join(HERE, "..", "crates", "yamlbench", "out", "libyamlbench.a")
+
+
+def built(directory):
+    """The program over our library."""
+    kit = os.path.dirname(subprocess.run(["rt", "doc"], capture_output=True, text=True, check=True).stdout.split()[0])
+    program = os.path.join(directory, "load")
+    subprocess.run(["gcc", "-O2", "-o", program, os.path.join(HERE, "load.c"), LIBRARY, os.path.join(kit, "c", "liblibc_c.a")], check=True)
+    return program
+
+
+def measured(command):
+    """Processor seconds and peak memory in MB of a process."""
+    quiet = [(os.POSIX_SPAWN_OPEN, 1, os.devnull, os.O_WRONLY, 0)]
+    pid = os.posix_spawn(command[0], command, os.environ, file_actions=quiet)
+    _, status, used = os.wait4(pid, 0)
+    if status:
+        sys.exit("bench.py: %s failed" % " ".join(command))
+    return used.ru_utime + used.ru_stime, used.ru_maxrss / 1024
+
+
+def both(ours, theirs, path, rounds, turns):
+    """The least seconds a load and the peak memory, of each."""
+    best = [(1e9, 0), (1e9, 0)]
+    for _ in range(turns):
+        for i, command in enumerate(([ours, path, str(rounds)], [theirs, "time", path, str(rounds)])):
+            seconds, memory = measured(command)
+            best[i] = min(best[i], (seconds / rounds, memory))
+    return best
+
+
+def rounds_for(size):
+    return max(3, 4000000 // size)
+
+
+def row(kind, size, ours, theirs, directory, turns):
+    found = []
+    for part in (size // 10, size):
+        text = inputs.make(kind, part).encode()
+        path = os.path.join(directory, "%s_%d" % (kind, part))
+        with open(path, "wb") as f:
+            f.write(text)
+        found.append((len(text), both(ours, theirs, path, rounds_for(len(text)), turns)))
+    (small_bytes, small), (whole_bytes, whole) = found
+    per_byte = whole[0][0] / whole_bytes / (small[0][0] / small_bytes)
+    return "| %s | %.2f | %.4f | %.4f | %.0f | **%.2f** | %.0f | %.0f | %.1f |" % (
+        kind, whole_bytes / 1e6, whole[0][0], whole[1][0], whole_bytes / 1e6 / whole[0][0], whole[0][0] / whole[1][0],
+        whole[0][1], whole[1][1], 10 * per_byte)
+
+
+def main():
+    p = argparse.ArgumentParser()
+    p.add_argument("original")
+    p.add_argument("--bytes", type=int, default=4000000)
+    p.add_argument("--turns", type=int, default=5)
+    p.add_argument("--only", choices=list(inputs.KINDS))
+    a = p.parse_args()
+    if not os.access(a.original, os.X_OK):
+        sys.exit("bench.py: %s is not a program: the original's program is wanted" % a.original)
+    if not os.path.exists(LIBRARY):
+        sys.exit("bench.py: no static library: cd crates/yamlbench && rt lib")
+    print("| Input | MB | Ours, s | Original, s | Ours, MB/s | Ratio | Ours, peak MB | Original, peak MB | Growth from a tenth |")
+    print("|---|---|---|---|---|---|---|---|---|")
+    with tempfile.TemporaryDirectory() as directory:
+        ours = built(directory)
+        for kind in inputs.KINDS:
+            if a.only in (None, kind):
+                print(row(kind, a.bytes, ours, a.original, directory, a.turns), flush=True)
+
+
+if __name__ == "__main__":
+    main()

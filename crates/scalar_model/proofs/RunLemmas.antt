@@ -1,0 +1,60 @@
+-- A run of ordinary characters of one line belongs to a scalar's text as it stands.
+use Rattle.std.proofs.Common.{◌≡◌, ℕ, List, ◌∷◌, Bool, true, false, ◌||◌, ◌&&◌, not, ◌==◌, refl, slice_index}
+use Rattle.yaml_chars.specs.Place.{Place}
+use Rattle.yaml_chars.specs.Class.{is_break, is_blank, is_breakz, is_flow}
+use Rattle.yaml_chars.specs.Run.{stops}
+use Rattle.yaml_chars.specs.declared.run.Run.TheVariants as kind
+use Rattle.scalar_model.specs.declared.context.Context.{Context}
+use Rattle.scalar_model.specs.Machine.{past}
+use Rattle.scalar_model.specs.Folding as folding
+use Rattle.scalar_model.specs.Plain as plain
+use Rattle.scalar_model.specs.Quoted as quoted
+use Rattle.scalar_model.specs.Block as block
+
+first_of : (b c : Bool) → (b || c) ≡ false → b ≡ false
+first_of true c h = h
+first_of false c h = refl
+
+second_of : (b c : Bool) → (b || c) ≡ false → c ≡ false
+second_of true c h = cc
+second_of false c h = h
+
+no_break : (c : ℕ) → is_breakz c ≡ false → is_break c ≡ false
+no_break c h = first_of (is_break c) _ h
+
+no_gap : (c : ℕ) → (is_blank c || is_breakz c) ≡ false → (is_break c || is_blank c) ≡ false
+no_gap c h = let b = first_of (is_blank c) _ h in let d = no_break c (second_of (is_blank c) _ h) in rw (d, b) refl
+
+-- of a line of a block scalar
+pub block_run : (literal : Bool) (column c : ℕ) (a : List ℕ) (p : Place) (t : block.Lines) → stops kind.Line c ≡ false
+    → block.lines_from literal column (c ∷ a) (record { mode = block.line; place = p; lines = t })
+    ≡ block.lines_from literal column a (record { mode = block.line; place = past p; lines = block.with_char c t })
+unfolding stops
+block_run literal column c a p t h = let b = no_break c h in rw b refl
+
+-- of a quoted scalar
+pub quoted_run : (single : Bool) (ctx : Context) (start : Place) (c : ℕ) (a : List ℕ) (p : Place) (t : folding.Folded) → stops (kind.Quoted (quoted.quote_of single)) c ≡ false
+    → quoted.quoted_from single ctx start (c ∷ a) (record { mode = quoted.inside; place = p; folded = t })
+    ≡ quoted.quoted_from single ctx start a (record { mode = quoted.inside; place = past p; folded = folding.with_char c t })
+unfolding stops
+quoted_run single ctx start c a p t h =
+    let front = first_of _ (c == 92) h in
+    let gap = no_gap c (first_of _ (c == quoted.quote_of single) front) in
+    let quote = second_of _ (c == quoted.quote_of single) front in
+    let slash = second_of _ (c == 92) h in
+    rw (gap, quote, slash) (elim single [ true ↦ refl | false ↦ refl ])
+
+plain_char : (flow : Bool) (c d : ℕ) → (c == 58) ≡ false → (flow && is_flow c) ≡ false → plain.can_be_plain flow c d ≡ true
+unfolding plain.can_be_plain
+plain_char flow c d colon indicator = rw (colon, indicator) refl
+
+-- of a plain scalar
+pub plain_run : (ctx : Context) (start : Place) (c : ℕ) (a : List ℕ) (p : Place) (t : folding.Folded) → stops (kind.Plain ctx.flow) c ≡ false
+    → plain.plain_from ctx start (c ∷ a) (record { mode = plain.inside; place = p; folded = t })
+    ≡ plain.plain_from ctx start a (record { mode = plain.inside; place = past p; folded = folding.with_char c t })
+unfolding stops
+plain_run ctx start c a p t h =
+    let front = first_of _ (ctx.flow && is_flow c) h in
+    let gap = no_gap c (first_of _ (c == 58) front) in
+    let goes = plain_char ctx.flow c (slice_index a 0) (second_of _ (c == 58) front) (second_of _ (ctx.flow && is_flow c) h) in
+    rw (gap, goes) refl
