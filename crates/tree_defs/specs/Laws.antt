@@ -6,7 +6,6 @@ use Rattle.std.specs.Cmp.{IsTotalOrder, IsEquivalence}
 use Rattle.tree_defs.specs.Tree.{Tree, real, integer, string, boolean, null}
 use Rattle.tree_defs.specs.Order.{tree_cmp, tree_eq}
 use Rattle.tree_defs.specs.Pairs.{lookup, insert, place_of, value_at, AreDistinct}
-use Rattle.tree_defs.specs.Feed.{tree_feed}
 use Rattle.tree_defs.specs.Lines.{is_unbroken, lines_of, ended}
 use Rattle.tree_defs.specs.Grammar.{is_empty, followed_by, IsCut}
 use Rattle.tree_defs.specs.Typing.{typing, rows, fits_i64, is_real_text}
@@ -31,10 +30,6 @@ EqualityIsExact = (t u : Tree) → IsTrue (tree_eq t u) ↔ (t ≡ u)
 -- `equality_is_an_equivalence`
 abbrev pub EqualityIsAnEquivalence : Type 0
 EqualityIsAnEquivalence = IsEquivalence tree_eq
-
--- `equal_trees_hash_alike`
-abbrev pub EqualTreesHashAlike : Type 0
-EqualTreesHashAlike = (t u : Tree) → IsTrue (tree_eq t u) → tree_feed t ≡ tree_feed u
 
 -- ---- pairs
 

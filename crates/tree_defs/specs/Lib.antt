@@ -2,7 +2,6 @@ pub mod Box
 pub mod Digits
 pub mod DumpText
 pub mod Escapes
-pub mod Feed
 pub mod Grammar
 pub mod Lines
 pub mod Laws

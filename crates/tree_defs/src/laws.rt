@@ -1,6 +1,6 @@
 //! Laws of the definitions, each carried by an empty function.
 
-ghost use Rattle.tree_defs.specs.Laws.{OrderIsTotal, EqualityIsExact, EqualityIsAnEquivalence, EqualTreesHashAlike};
+ghost use Rattle.tree_defs.specs.Laws.{OrderIsTotal, EqualityIsExact, EqualityIsAnEquivalence};
 ghost use Rattle.tree_defs.specs.Laws.{InsertKeepsKeysDistinct, InsertedValueIsFound, InsertKeepsOtherValues, InsertKeepsTheOrder, PlaceFindsTheValue};
 ghost use Rattle.tree_defs.specs.Laws.{LinesMakeTheText, LinesAreUnbroken, LinesAreThoseOfStd, BoxLinesAreUnbroken};
 ghost use Rattle.tree_defs.specs.Laws.{FollowedByIsACut, TypingGivesAPlainScalar, StringsFitNoRow, SpellingStandsForItsScalar};
@@ -19,11 +19,6 @@ pub fn equality_is_exact()
 /// Equality is reflexive, symmetric and transitive.
 pub fn equality_is_an_equivalence()
     ensures { EqualityIsAnEquivalence }
-{}
-
-/// Equal trees give a hasher the same.
-pub fn equal_trees_hash_alike()
-    ensures { EqualTreesHashAlike }
 {}
 
 /// Where the keys are distinct, they are after an insert.

@@ -5,6 +5,7 @@
 //! - `scanner::Scanner` gives tokens.
 #![tactic(auto)]
 
+pub mod laws;
 pub mod parser;
 pub mod scanner;
 pub mod yaml;

@@ -2,10 +2,18 @@
 #![tactic(auto)]
 
 #[cfg(test)]
+mod json;
+#[cfg(test)]
+mod limits;
+#[cfg(test)]
 mod loads;
 #[cfg(test)]
 mod misuse;
 #[cfg(test)]
 mod pushes;
+#[cfg(test)]
+mod rows;
+#[cfg(test)]
+mod tokens;
 #[cfg(test)]
 mod trees;

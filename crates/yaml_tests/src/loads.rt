@@ -3,7 +3,7 @@ use std::test::Fail;
 use yaml_rust2::YamlLoader;
 
 // What a text loads as: the trees, or the fault.
-fn loaded(alloc: Global, text: &str) -> Result<String, Fail> {
+pub(crate) fn loaded(alloc: Global, text: &str) -> Result<String, Fail> {
     match YamlLoader::load_from_str(alloc, text) {
         Ok(documents) => Ok(format!(in alloc; "{documents:?}")?),
         Err(fault) => Ok(format!(in alloc; "{fault}")?),

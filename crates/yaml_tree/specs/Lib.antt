@@ -2,6 +2,7 @@ pub mod Depth
 pub mod Falls
 pub mod Feed
 pub mod Items
+pub mod Laws
 pub mod Node
 pub mod Rows
 pub mod Values

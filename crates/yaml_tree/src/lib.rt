@@ -11,6 +11,7 @@ pub mod entries;
 mod feed;
 pub mod hash;
 pub mod items;
+pub mod laws;
 mod lookup;
 mod place;
 mod typing;

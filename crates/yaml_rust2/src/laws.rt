@@ -1,0 +1,6 @@
+//! Laws: empty functions whose clause is a statement about the definitions, of all trees, texts, tokens or events.
+pub use event_defs::laws::*;
+pub use layout_defs::laws::*;
+pub use tree_defs::laws::*;
+pub use yaml_loader::laws::*;
+pub use yaml_tree::laws::*;
