@@ -1,5 +1,10 @@
+pub mod BlockLemmas
+pub mod DispatchLemmas
 pub mod DoesLemmas
+pub mod FetchLemmas
 pub mod FlowLemmas
+pub mod FollowLemmas
+pub mod GivenLemmas
 pub mod HeldLemmas
 pub mod KeyLemmas
 pub mod LevelLemmas

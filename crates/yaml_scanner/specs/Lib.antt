@@ -1,8 +1,11 @@
+pub mod Blocks
 pub mod Collections
+pub mod Follows
 pub mod Levels
 pub mod Next
 pub mod Scanned
 pub mod Shape
 pub mod SimpleKeys
+pub mod Steps
 pub mod Tokens
 pub mod Work

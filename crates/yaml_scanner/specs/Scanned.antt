@@ -1,17 +1,20 @@
 -- What clauses see of a scanner.
-use Rattle.std.specs.Prelude.{◌≡◌, ℕ, ◌<◌, ◌≤◌, List, [], ◌∷◌, ◌++◌, Bool, true, false, Option, Some, None, option_map}
+use Rattle.std.specs.Prelude.{◌≡◌, ℕ, ◌<◌, ◌≤◌, List, [], ◌∷◌, ◌++◌, length, take, Bool, true, false, Option, Some, None, IfSome, option_map}
 use Rattle.yaml_chars.specs.Place.{Place}
 use Rattle.yaml_chars.specs.Reading.{place_of}
 use Rattle.token_defs.specs.Token.{Token}
 use Rattle.yaml_tokens.specs.Fault.{Fault}
 use Rattle.yaml_tokens.specs.Problem.{fault_of}
-use Rattle.yaml_scanner.specs.declared.scanner.Scanner.{Scanner}
-use Rattle.yaml_scanner.specs.declared.scanner.Kept.{Kept}
+use Rattle.yaml_tokens.specs.declared.problem.Fault as code
+use Rattle.scan_model.specs.Run.{HasTokens, IsRefused}
+use Rattle.yaml_scanner.specs.declared.fetcher.Fetcher.{Fetcher}
+use Rattle.yaml_scanner.specs.declared.fetcher.Kept.{Kept}
+use Rattle.yaml_scanner.specs.Follows.{Begins, IsReached}
 use Rattle.yaml_scanner.specs.Tokens.{handed, is_end}
 use Rattle.yaml_scanner.specs.Work.{work}
 
 -- the tokens handed out, the fault that is kept, whether start and end of the stream were met, the place,
--- and a bound on the tokens that may still come
+-- a bound on the tokens that may still come, and the characters taken and whether they are all
 pub record Scanned : Type 0 where
   pub given : List Token
   pub fault : Option Fault
@@ -19,12 +22,64 @@ pub record Scanned : Type 0 where
   pub ended : Bool
   pub place : Place
   pub left : ℕ
+  pub taken : List ℕ
+  pub done : Bool
 
 abbrev pub kept_fault : Kept → Fault
 kept_fault k = fault_of k.fault k.mark
 
-abbrev pub scanned : {T : Type 0} → Scanner T → Scanned
-scanned s = record { given = handed s.tokens; fault = option_map kept_fault s.kept; started = s.started; ended = s.tokens.over; place = place_of s.window; left = work s }
+abbrev pub inside : {T : Type 0} → Fetcher T → Scanned
+inside s = record {
+  given = handed s.tokens;
+  fault = option_map kept_fault s.kept;
+  started = s.started;
+  ended = s.tokens.over;
+  place = place_of s.window;
+  left = work s;
+  taken = s.window.taken;
+  done = s.window.done;
+}
+
+-- What clauses see of a scanner: the iterator as it was given, and what was read and handed out so far.
+pub record Scan (T : Type 0) : Type 0 where
+  pub start : T
+  pub so_far : Scanned
+
+abbrev pub scanned : {T : Type 0} → Scan T → Scanned
+scanned s = s.so_far
+
+abbrev pub scan_of : {T : Type 0} → Fetcher T → Scan T
+scan_of s = record { start = s.window.start; so_far = inside s }
+
+-- a may be the whole text
+pub record MayBe (s : Scanned) (a : List ℕ) : Type 0 where
+  pub begins : take (length s.taken) a ≡ s.taken
+  pub ends : s.done ≡ true → a ≡ s.taken
+
+-- a fault is the refusal of a text
+pub record IsRefusal (a : List ℕ) (f : Fault) : Type 0 where
+  pub fault : code.Fault
+  pub place : Place
+  pub refused : IsRefused a fault
+  pub shown : f ≡ fault_of fault place
+
+-- What was handed out, and the fault, where a is the text.
+pub record ScansIn (a : List ℕ) (s : Scanned) : Type 0 where
+  -- the tokens are those that the model has first
+  pub reached : IsReached a s.given
+  -- where the text has tokens, they are a beginning of these
+  pub begins : (ts : List Token) → HasTokens a ts → Begins s.given ts
+  -- once the stream's end was handed out, they are all tokens of the text
+  pub whole : s.ended ≡ true → HasTokens a s.given
+  -- a text with tokens has no fault but want of memory
+  pub sound : (ts : List Token) → HasTokens a ts → IfSome s.fault (λ f. f.memory ≡ true)
+  -- a fault that is no want of memory is the text's refusal, of which there is one
+  pub refused : IfSome s.fault (λ f. f.memory ≡ false → IsRefusal a f)
+  pub same : (e : code.Fault) → IsRefused a e → IfSome s.fault (λ f. f.memory ≡ false → (p : Place) × (f ≡ fault_of e p))
+
+-- What was handed out, and the fault, whatever the text is.
+pub record Scans (s : Scanned) : Type 0 where
+  pub scans : (a : List ℕ) → MayBe s a → ScansIn a s
 
 -- a token more is handed out
 pub record HandsOut (old : Scanned) (t : Token) (new : Scanned) : Type 0 where

@@ -6,9 +6,12 @@ use Rattle.scan_model.specs.Keys.{is_far}
 use Rattle.yaml_scanner.specs.declared.keys.SimpleKey.{SimpleKey}
 
 -- a key behind so many tokens that were handed out
+abbrev pub keyed_by : ℕ → SimpleKey → Key
+keyed_by given k = record { required = k.required; number = given + k.place; place = k.mark }
+
 abbrev pub key_of : ℕ → Option SimpleKey → Option Key
 key_of given None = None
-key_of given (Some k) = Some (record { required = k.required; number = given + k.place; place = k.mark })
+key_of given (Some k) = Some (keyed_by given k)
 
 abbrev pub seen : ℕ → List (Option SimpleKey) → List (Option Key)
 seen given ks = map (key_of given) ks

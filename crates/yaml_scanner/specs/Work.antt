@@ -4,16 +4,16 @@ use Rattle.std.specs.Prelude.{◌≡◌, ℕ, ◌+◌, ◌-◌, ◌*◌, ◌≤�
 use Rattle.yaml_chars.specs.Reading.{Reading}
 use Rattle.token_defs.specs.Token.{Token}
 use Rattle.yaml_scanner.specs.Tokens.{Tokens, waiting, handed}
-use Rattle.yaml_scanner.specs.declared.scanner.Scanner.{Scanner}
+use Rattle.yaml_scanner.specs.declared.fetcher.Fetcher.{Fetcher}
 
 abbrev pub unset : Bool → ℕ
 unset b = (if b then 0 else 2)
 
-abbrev pub work : {T : Type 0} → Scanner T → ℕ
+abbrev pub work : {T : Type 0} → Fetcher T → ℕ
 work s = waiting s.tokens + length s.levels.indents + 8 * s.window.left + unset s.started + unset s.tokens.ended
 
 -- What was handed out stays, and so do start and end; the bound grows by at most so much, and falls by at least so much.
-pub record Moves {T : Type 0} (old new : Scanner T) (up down : ℕ) : Type 0 where
+pub record Moves {T : Type 0} (old new : Fetcher T) (up down : ℕ) : Type 0 where
   pub bound : work new + down ≤ work old + up
   pub given : handed new.tokens ≡ handed old.tokens
   pub start : new.started ≡ old.started
@@ -22,7 +22,7 @@ pub record Moves {T : Type 0} (old new : Scanner T) (up down : ℕ) : Type 0 whe
   pub fault : new.kept ≡ old.kept
 
 -- A fetch hands nothing out and keeps no fault.
-pub record Fetches {T : Type 0} (old new : Scanner T) : Type 0 where
+pub record Fetches {T : Type 0} (old new : Fetcher T) : Type 0 where
   pub given : handed new.tokens ≡ handed old.tokens
   pub over : new.tokens.over ≡ old.tokens.over
   pub fault : new.kept ≡ old.kept

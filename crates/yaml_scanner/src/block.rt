@@ -1,59 +1,170 @@
 //! Block collections (YAML 1.2, section 8.2), keys and values.
-ghost use Rattle.std.specs.Prelude.{◌≡◌, ◌<◌, OnOk};
-ghost use Rattle.yaml_chars.specs.Reading.{HasChar};
+ghost use Rattle.std.specs.Prelude.{◌≡◌, ◌≢◌, ◌<◌, ◌≤◌, ◌+◌, ◌==◌, ◌&&◌, ◌||◌, not, OnOk, IfErr, Ok, Err, nat_lt, slice_index};
+ghost use Rattle.yaml_chars.specs.Class.{is_alpha, is_blank_or_breakz, is_break, is_flow};
+ghost use Rattle.yaml_chars.specs.Reading.{HasChar, Sees};
+ghost use Rattle.yaml_tokens.specs.Shown.{tok_of};
+ghost use Rattle.scan_model.specs.State.{put};
+ghost use Rattle.scan_model.specs.Keys.{top_key};
+ghost use Rattle.scan_model.specs.Space.{skip_spaces};
+ghost use Rattle.scan_model.specs.Block.{at_margin, last_property, check_block_entry, check_dash, fetch_block_entry, keyed, begin_key, check_key_space, fetch_key, check_behind_tab, check_value_space, opens_pair, paired, begin_pair, insert_key, begin_keyless_pair, begin_keyless_mapping, begin_keyless_value, value_of, fetch_value};
+ghost use Rattle.yaml_scanner.specs.Blocks.{pass_dash, entry_level, begin_entry, pass_key, pass_tab};
+ghost use Rattle.yaml_scanner.specs.Shape.{held, Does, Fails};
+ghost use Rattle.yaml_scanner.specs.SimpleKeys.{keyed_by};
 ghost use Rattle.yaml_scanner.specs.Work.{Moves, Fetches};
 
 use crate::keys::SimpleKey;
 use crate::levels::Collection;
-use crate::scanner::Scanner;
+use crate::fetcher::Fetcher;
 use scan_model::FlowLevel;
 use yaml_chars::Marker;
 use yaml_chars::class::{is_alpha, is_blank_or_breakz, is_break, is_flow};
-use yaml_scalars::SkipTabs;
+use yaml_scalars::{SkipTabs, Whitespace};
 use yaml_tokens::{Fault, Problem, Token, TokenType};
 
-impl<T: Iterator<Item = char>> Scanner<T> {
+/// Whether a character behind a `-` is a break or a flow indicator.
+fn begins_apart(c: char) -> bool
+    ensures { result ≡ (is_break c || is_flow c) }
+{
+    is_break(c) || is_flow(c)
+}
+
+/// Whether a character is a `-`, or one of a word.
+fn begins_word(c: char) -> bool
+    ensures { result ≡ ((c == 45) || is_alpha c) }
+{
+    c == '-' || is_alpha(c)
+}
+
+impl<T: Iterator<Item = char>> Fetcher<T> {
     /// `-`
     pub(crate) fn fetch_block_entry(&mut self) -> Result<(), Fault>
         requires ahead { 0 < self.old.window.ahead }
         requires has { HasChar self.old.window }
+        ensures does { OnOk result (Does fetch_block_entry self.old self.new) }
+        ensures fails { IfErr result (λ e. Fails fetch_block_entry self.old self.new e) }
         ensures run { Fetches self.old self.new }
         ensures moves { OnOk result (Moves self.old self.new 4 8) }
     {
         let mark = self.window.mark();
-        self.check_block_entry(mark)?;
+        self.check_block_entry()?;
         self.skip_indicator();
         self.roll_indent(mark.col(), None, Collection::Sequence, mark)?;
-        let found = self.skip_spaces(SkipTabs::Yes)?;
-        self.window.lookahead(2);
-        let is_entry = self.window.peek(0) == '-' && is_blank_or_breakz(self.window.peek(1));
-        if found.found_tabs && is_entry {
-            return Err(Fault::At(Problem::TabAfterDash, self.window.mark()));
-        }
-        let _ = self.skip_spaces(SkipTabs::No)?;
-        let c = self.window.look_ch();
-        if is_break(c) || is_flow(c) {
-            self.roll_one_col_indent()?;
-        }
-        self.remove_simple_key()?;
-        self.key_allowed = true;
-        let here = self.window.mark();
-        self.push_token(here, TokenType::BlockEntry)
+        self.pass_dash()?;
+        self.begin_entry()?;
+        Ok(())
     }
 
     /// Whether an entry of a block sequence may stand here.
-    fn check_block_entry(&self, mark: Marker) -> Result<(), Fault> {
+    #[tactic(auto, unfolding(scan_model::specs::Block::check_block_entry))]
+    fn check_block_entry(&self) -> Result<(), Fault>
+        ensures ok { OnOk result (check_block_entry (held self.now) ≡ Ok (held self.now)) }
+        ensures fault { IfErr result (λ e. check_block_entry (held self.now) ≡ Err e) }
+    {
         if self.in_flow() {
-            return Err(Fault::At(Problem::BlockEntryInFlow, mark));
+            return Err(Fault::At(Problem::BlockEntryInFlow, self.window.mark()));
         }
         if !self.key_allowed {
-            return Err(Fault::At(Problem::BlockEntryNotAllowed, mark));
+            return Err(Fault::At(Problem::BlockEntryNotAllowed, self.window.mark()));
         }
-        if let Some(place) = self.tokens.property() {
-            if mark.col() == 0 && place.col() == 0 && self.levels.indent() > 0 {
-                return Err(Fault::At(Problem::AnchorIndentation, place));
-            }
+        self.check_margin()?;
+        Ok(())
+    }
+
+    /// An anchor or a tag at the first column must not belong to an entry there.
+    fn check_margin(&self) -> Result<(), Fault>
+        ensures ok { OnOk result (at_margin (last_property (held self.now).tokens) (held self.now).place (held self.now) ≡ Ok (held self.now)) }
+        ensures fault { IfErr result (λ e. at_margin (last_property (held self.now).tokens) (held self.now).place (held self.now) ≡ Err e) }
+    {
+        let Some(place) = self.tokens.property() else {
+            return Ok(());
+        };
+        if self.is_at_margin(place) {
+            return Err(Fault::At(Problem::AnchorIndentation, place));
         }
+        Ok(())
+    }
+
+    /// Whether an entry here and an anchor or a tag both stand at the first column, inside a collection.
+    fn is_at_margin(&self, place: Marker) -> bool
+        ensures { result ≡ (((held self.now).place.col == 0) && (place.col == 0) && nat_lt 0 (held self.now).indent) }
+    {
+        self.window.mark().col() == 0 && place.col() == 0 && self.levels.indent() > 0
+    }
+
+    /// Steps over spaces and TABs behind a `-`.
+    fn pass_dash(&mut self) -> Result<(), Fault>
+        ensures does { OnOk result (Does pass_dash self.old self.new) }
+        ensures fails { IfErr result (λ e. Fails pass_dash self.old self.new e) }
+        ensures run { Fetches self.old self.new }
+        ensures moves { OnOk result (Moves self.old self.new 0 0) }
+    {
+        let found = self.skip_spaces(SkipTabs::Yes)?;
+        self.check_dash(found)?;
+        Ok(())
+    }
+
+    /// A TAB must not stand between two dashes that are indicators.
+    fn check_dash(&mut self, found: Whitespace) -> Result<(), Fault>
+        ensures does { OnOk result (Does (check_dash found) self.old self.new) }
+        ensures fails { IfErr result (λ e. Fails (check_dash found) self.old self.new e) }
+        ensures moves { Moves self.old self.new 0 0 }
+    {
+        self.window.lookahead(2);
+        if self.is_tab_before_dash(found) {
+            return Err(Fault::At(Problem::TabAfterDash, self.window.mark()));
+        }
+        Ok(())
+    }
+
+    /// Whether a TAB was found, and a `-` that is an indicator comes.
+    fn is_tab_before_dash(&self, found: Whitespace) -> bool
+        requires { 2 ≤ self.now.window.ahead }
+        ensures { Sees self.now.window (λ a. result ≡ (found.found_tabs && (slice_index a 0 == 45) && is_blank_or_breakz (slice_index a 1))) }
+    {
+        found.found_tabs && self.window.peek(0) == '-' && is_blank_or_breakz(self.window.peek(1))
+    }
+
+    /// Steps to the content of an entry.
+    fn begin_entry(&mut self) -> Result<(), Fault>
+        ensures does { OnOk result (Does begin_entry self.old self.new) }
+        ensures fails { IfErr result (λ e. Fails begin_entry self.old self.new e) }
+        ensures run { Fetches self.old self.new }
+        ensures moves { OnOk result (Moves self.old self.new 2 0) }
+    {
+        self.pass_entry_spaces()?;
+        self.roll_entry()?;
+        self.remove_simple_key()?;
+        self.key_allowed = true;
+        let here = self.window.mark();
+        self.push_token(here, TokenType::BlockEntry)?;
+        Ok(())
+    }
+
+    /// Steps over spaces and a comment.
+    fn pass_entry_spaces(&mut self) -> Result<(), Fault>
+        ensures does { OnOk result (Does (skip_spaces SkipTabs.No) self.old self.new) }
+        ensures fails { IfErr result (λ e. Fails (skip_spaces SkipTabs.No) self.old self.new e) }
+        ensures moves { Moves self.old self.new 0 0 }
+    {
+        match self.skip_spaces(SkipTabs::No) {
+            Ok(_) => Ok(()),
+            Err(fault) => Err(fault),
+        }
+    }
+
+    /// A level that opens no collection, for an entry on a later line, or one that begins with a flow
+    /// indicator.
+    fn roll_entry(&mut self) -> Result<(), Fault>
+        ensures does { OnOk result (Does entry_level self.old self.new) }
+        ensures fails { IfErr result (λ e. Fails entry_level self.old self.new e) }
+        ensures run { Fetches self.old self.new }
+        ensures moves { OnOk result (Moves self.old self.new 1 0) }
+    {
+        let c = self.window.look_ch();
+        if !begins_apart(c) {
+            return Ok(());
+        }
+        self.roll_one_col_indent()?;
         Ok(())
     }
 
@@ -61,82 +172,182 @@ impl<T: Iterator<Item = char>> Scanner<T> {
     pub(crate) fn fetch_key(&mut self) -> Result<(), Fault>
         requires ahead { 0 < self.old.window.ahead }
         requires has { HasChar self.old.window }
+        ensures does { OnOk result (Does fetch_key self.old self.new) }
+        ensures fails { IfErr result (λ e. Fails fetch_key self.old self.new e) }
         ensures run { Fetches self.old self.new }
         ensures moves { OnOk result (Moves self.old self.new 3 8) }
     {
         let mark = self.window.mark();
-        if !self.in_flow() {
-            if !self.key_allowed {
-                return Err(Fault::At(Problem::KeyNotAllowed, mark));
-            }
-            self.roll_indent(mark.col(), None, Collection::Mapping, mark)?;
-        } else if let Some(FlowLevel::Entry) = self.flow_entry() {
-            self.set_flow_entry(FlowLevel::Keyed);
-        }
+        self.begin_key()?;
         self.remove_simple_key()?;
         self.key_allowed = !self.in_flow();
+        self.pass_key()?;
+        self.check_key_space()?;
+        self.push_token(mark, TokenType::Key)?;
+        Ok(())
+    }
+
+    /// A key with `?` begins, and its mapping where it is the first.
+    #[tactic(auto, unfolding(scan_model::specs::Block::begin_key))]
+    fn begin_key(&mut self) -> Result<(), Fault>
+        ensures held { OnOk result (begin_key (held self.old) ≡ Ok (held self.new)) }
+        ensures fault { IfErr result (λ e. e ≢ Fault.OutOfMemory → begin_key (held self.old) ≡ Err e) }
+        ensures moves { Moves self.old self.new 2 0 }
+        ensures window { self.new.window ≡ self.old.window }
+    {
+        if self.in_flow() {
+            self.key_entry();
+            return Ok(());
+        }
+        let mark = self.window.mark();
+        if !self.key_allowed {
+            return Err(Fault::At(Problem::KeyNotAllowed, mark));
+        }
+        self.roll_indent(mark.col(), None, Collection::Mapping, mark)?;
+        Ok(())
+    }
+
+    /// An entry of a flow sequence has a key with `?`.
+    fn key_entry(&mut self)
+        ensures held { held self.new ≡ record (held self.old) { flow = keyed (held self.old).flow } }
+        ensures moves { Moves self.old self.new 0 0 }
+        ensures window { self.new.window ≡ self.old.window }
+    {
+        if let Some(FlowLevel::Entry) = self.flow_entry() {
+            self.set_flow_entry(FlowLevel::Keyed);
+        }
+    }
+
+    /// Steps over a `?` and what must stand behind it.
+    fn pass_key(&mut self) -> Result<(), Fault>
+        requires ahead { 0 < self.old.window.ahead }
+        requires has { HasChar self.old.window }
+        ensures does { OnOk result (Does pass_key self.old self.new) }
+        ensures fails { IfErr result (λ e. Fails pass_key self.old self.new e) }
+        ensures run { Fetches self.old self.new }
+        ensures moves { OnOk result (Moves self.old self.new 0 8) }
+        ensures ahead { OnOk result (0 < self.new.window.ahead) }
+    {
         self.skip_indicator();
         self.skip_yaml_whitespace()?;
+        Ok(())
+    }
+
+    /// A TAB must not stand behind the space of a `?`.
+    fn check_key_space(&self) -> Result<(), Fault>
+        requires { 0 < self.now.window.ahead }
+        ensures ok { OnOk result (Does check_key_space self.now self.now) }
+        ensures fault { IfErr result (λ e. Fails check_key_space self.now self.now e) }
+    {
         if self.window.ch() == '\t' {
             return Err(Fault::At(Problem::TabAfterKey, self.window.mark()));
         }
-        self.push_token(mark, TokenType::Key)
+        Ok(())
     }
 
     /// `:`
     pub(crate) fn fetch_value(&mut self) -> Result<(), Fault>
         requires ahead { 0 < self.old.window.ahead }
         requires has { HasChar self.old.window }
+        ensures does { OnOk result (Does fetch_value self.old self.new) }
+        ensures fails { IfErr result (λ e. Fails fetch_value self.old self.new e) }
         ensures run { Fetches self.old self.new }
         ensures moves { OnOk result (Moves self.old self.new 7 8) }
     {
         let mark = self.window.mark();
-        let opens_pair = match self.flow_entry() {
-            Some(FlowLevel::Entry) => true,
-            _ => false,
-        };
-        if opens_pair {
-            self.set_flow_entry(FlowLevel::Pair);
-        }
+        let opens_pair = self.open_pair();
         self.skip_indicator();
         self.check_value_space()?;
-        match self.keys.top() {
-            Some(key) => self.insert_key(key, mark, opens_pair)?,
-            None => self.begin_keyless_value(mark, opens_pair)?,
+        self.begin_value(mark, opens_pair)?;
+        self.push_token(mark, TokenType::Value)?;
+        Ok(())
+    }
+
+    /// An entry of a flow sequence has a `:`. The answer is whether it is the first.
+    fn open_pair(&mut self) -> bool
+        ensures value { result ≡ opens_pair (held self.old).flow }
+        ensures held { held self.new ≡ record (held self.old) { flow = paired (held self.old).flow } }
+        ensures moves { Moves self.old self.new 0 0 }
+        ensures window { self.new.window ≡ self.old.window }
+    {
+        match self.flow_entry() {
+            Some(FlowLevel::Entry) => {
+                self.set_flow_entry(FlowLevel::Pair);
+                true
+            }
+            _ => false,
         }
-        self.push_token(mark, TokenType::Value)
     }
 
     /// What must not follow a `:` and a TAB.
     fn check_value_space(&mut self) -> Result<(), Fault>
+        ensures does { OnOk result (Does check_value_space self.old self.new) }
+        ensures fails { IfErr result (λ e. Fails check_value_space self.old self.new e) }
         ensures run { Fetches self.old self.new }
         ensures moves { OnOk result (Moves self.old self.new 0 0) }
     {
-        if self.window.look_ch() == '\t' {
-            let found = self.skip_spaces(SkipTabs::Yes)?;
-            let c = self.window.ch();
-            if !found.has_valid_yaml_ws && (c == '-' || is_alpha(c)) {
-                return Err(Fault::At(Problem::TabAfterColon, self.window.mark()));
-            }
+        if self.window.look_ch() != '\t' {
+            return Ok(());
+        }
+        self.pass_tab()?;
+        Ok(())
+    }
+
+    /// Steps over spaces and TABs behind a `:`.
+    fn pass_tab(&mut self) -> Result<(), Fault>
+        ensures does { OnOk result (Does pass_tab self.old self.new) }
+        ensures fails { IfErr result (λ e. Fails pass_tab self.old self.new e) }
+        ensures run { Fetches self.old self.new }
+        ensures moves { OnOk result (Moves self.old self.new 0 0) }
+    {
+        let found = self.skip_spaces(SkipTabs::Yes)?;
+        self.check_behind_tab(found)?;
+        Ok(())
+    }
+
+    /// Only TABs must not stand between a `:` and a word or a `-`.
+    fn check_behind_tab(&self, found: Whitespace) -> Result<(), Fault>
+        requires { 0 < self.now.window.ahead }
+        ensures ok { OnOk result (Does (check_behind_tab found) self.now self.now) }
+        ensures fault { IfErr result (λ e. Fails (check_behind_tab found) self.now self.now e) }
+    {
+        if self.is_word_behind_tab(found) {
+            return Err(Fault::At(Problem::TabAfterColon, self.window.mark()));
+        }
+        Ok(())
+    }
+
+    /// Whether no space was found, and a word or a `-` comes.
+    fn is_word_behind_tab(&self, found: Whitespace) -> bool
+        requires { 0 < self.now.window.ahead }
+        ensures { Sees self.now.window (λ a. result ≡ (not found.has_valid_yaml_ws && ((slice_index a 0 == 45) || is_alpha (slice_index a 0)))) }
+    {
+        !found.has_valid_yaml_ws && begins_word(self.window.ch())
+    }
+
+    /// The key of a `:`, if it has one, gets its token, and its mapping a start where it is the first.
+    fn begin_value(&mut self, mark: Marker, opens_pair: bool) -> Result<(), Fault>
+        ensures held { OnOk result (value_of (top_key (held self.old).keys) mark opens_pair (held self.old) ≡ Ok (held self.new)) }
+        ensures fault { IfErr result (λ e. e ≢ Fault.OutOfMemory → value_of (top_key (held self.old).keys) mark opens_pair (held self.old) ≡ Err e) }
+        ensures moves { Moves self.old self.new 5 0 }
+        ensures window { self.new.window ≡ self.old.window }
+    {
+        match self.keys.top() {
+            Some(key) => self.insert_key(key, mark, opens_pair)?,
+            None => self.begin_keyless_value(mark, opens_pair)?,
         }
         Ok(())
     }
 
     /// The key that began without `?` gets its token, and its mapping a start where it is the first.
     fn insert_key(&mut self, key: SimpleKey, mark: Marker, opens_pair: bool) -> Result<(), Fault>
-        ensures run { Fetches self.old self.new }
-        ensures moves { OnOk result (Moves self.old self.new 5 0) }
+        ensures held { OnOk result (insert_key (keyed_by self.old.tokens.given key) mark opens_pair (held self.old) ≡ Ok (held self.new)) }
+        ensures fault { IfErr result (λ e. e ≢ Fault.OutOfMemory → insert_key (keyed_by self.old.tokens.given key) mark opens_pair (held self.old) ≡ Err e) }
+        ensures moves { Moves self.old self.new 5 0 }
+        ensures window { self.new.window ≡ self.old.window }
     {
-        self.tokens
-            .insert(key.place, Token(key.mark, TokenType::Key))?;
-        if opens_pair {
-            if key.mark.line() < mark.line() {
-                return Err(Fault::At(Problem::ColonMisplaced, mark));
-            }
-            let here = self.window.mark();
-            self.tokens
-                .insert(key.place, Token(here, TokenType::FlowMappingStart))?;
-        }
+        self.put_token(key.place, key.mark, TokenType::Key)?;
+        self.begin_pair(key, mark, opens_pair)?;
         let col = key.mark.col();
         self.roll_indent(col, Some(key.place), Collection::Mapping, mark)?;
         self.roll_one_col_indent()?;
@@ -145,23 +356,82 @@ impl<T: Iterator<Item = char>> Scanner<T> {
         Ok(())
     }
 
+    /// A token more, before that many that wait.
+    fn put_token(&mut self, place: usize, mark: Marker, kind: TokenType) -> Result<(), Fault>
+        ensures held { OnOk result (held self.new ≡ put (self.old.tokens.given + place) mark (tok_of kind) (held self.old)) }
+        ensures given { OnOk result (self.new.tokens.given ≡ self.old.tokens.given) }
+        ensures err { IfErr result (λ e. e ≡ Fault.OutOfMemory) }
+        ensures moves { Moves self.old self.new 1 0 }
+        ensures window { self.new.window ≡ self.old.window }
+    {
+        self.tokens.insert(place, Token(mark, kind))?;
+        Ok(())
+    }
+
+    /// A pair of a flow sequence begins before its key, which stands on the line of its `:`.
+    #[tactic(auto, unfolding(scan_model::specs::Block::begin_pair))]
+    fn begin_pair(&mut self, key: SimpleKey, mark: Marker, opens_pair: bool) -> Result<(), Fault>
+        ensures held { OnOk result (begin_pair (keyed_by self.old.tokens.given key) mark opens_pair (held self.old) ≡ Ok (held self.new)) }
+        ensures fault { IfErr result (λ e. e ≢ Fault.OutOfMemory → begin_pair (keyed_by self.old.tokens.given key) mark opens_pair (held self.old) ≡ Err e) }
+        ensures given { OnOk result (self.new.tokens.given ≡ self.old.tokens.given) }
+        ensures moves { Moves self.old self.new 1 0 }
+        ensures window { self.new.window ≡ self.old.window }
+    {
+        if !opens_pair {
+            return Ok(());
+        }
+        if key.mark.line() < mark.line() {
+            return Err(Fault::At(Problem::ColonMisplaced, mark));
+        }
+        let here = self.window.mark();
+        self.put_token(key.place, here, TokenType::FlowMappingStart)?;
+        Ok(())
+    }
+
     /// A `:` behind a key that began with `?`, or without a key.
     fn begin_keyless_value(&mut self, mark: Marker, opens_pair: bool) -> Result<(), Fault>
-        ensures run { Fetches self.old self.new }
-        ensures moves { OnOk result (Moves self.old self.new 4 0) }
+        ensures held { OnOk result (begin_keyless_value mark opens_pair (held self.old) ≡ Ok (held self.new)) }
+        ensures fault { IfErr result (λ e. e ≢ Fault.OutOfMemory → begin_keyless_value mark opens_pair (held self.old) ≡ Err e) }
+        ensures moves { Moves self.old self.new 4 0 }
+        ensures window { self.new.window ≡ self.old.window }
     {
-        if opens_pair {
-            let here = self.window.mark();
-            self.push_token(here, TokenType::FlowMappingStart)?;
-        }
-        if !self.in_flow() {
-            if !self.key_allowed {
-                return Err(Fault::At(Problem::ValueNotAllowed, mark));
-            }
-            self.roll_indent(mark.col(), None, Collection::Mapping, mark)?;
-        }
+        self.begin_keyless_pair(opens_pair)?;
+        self.begin_keyless_mapping(mark)?;
         self.roll_one_col_indent()?;
         self.key_allowed = !self.in_flow();
+        Ok(())
+    }
+
+    /// A pair of a flow sequence begins, with a `:` and no key.
+    fn begin_keyless_pair(&mut self, opens_pair: bool) -> Result<(), Fault>
+        ensures held { OnOk result (held self.new ≡ begin_keyless_pair opens_pair (held self.old)) }
+        ensures err { IfErr result (λ e. e ≡ Fault.OutOfMemory) }
+        ensures moves { Moves self.old self.new 1 0 }
+        ensures window { self.new.window ≡ self.old.window }
+    {
+        if !opens_pair {
+            return Ok(());
+        }
+        let here = self.window.mark();
+        self.push_token(here, TokenType::FlowMappingStart)?;
+        Ok(())
+    }
+
+    /// A `:` outside flow, where a key may begin, begins a mapping, unless one stands there.
+    #[tactic(auto, unfolding(scan_model::specs::Block::begin_keyless_mapping))]
+    fn begin_keyless_mapping(&mut self, mark: Marker) -> Result<(), Fault>
+        ensures held { OnOk result (begin_keyless_mapping mark (held self.old) ≡ Ok (held self.new)) }
+        ensures fault { IfErr result (λ e. e ≢ Fault.OutOfMemory → begin_keyless_mapping mark (held self.old) ≡ Err e) }
+        ensures moves { Moves self.old self.new 2 0 }
+        ensures window { self.new.window ≡ self.old.window }
+    {
+        if self.in_flow() {
+            return Ok(());
+        }
+        if !self.key_allowed {
+            return Err(Fault::At(Problem::ValueNotAllowed, mark));
+        }
+        self.roll_indent(mark.col(), None, Collection::Mapping, mark)?;
         Ok(())
     }
 }

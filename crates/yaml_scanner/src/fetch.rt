@@ -1,16 +1,20 @@
 //! The next token, by its first characters.
-ghost use Rattle.std.specs.Prelude.{◌≡◌, ◌≢◌, ◌≤◌, ◌<◌, OnOk, IfErr, Ok, Err, true, false};
-ghost use Rattle.yaml_chars.specs.Reading.{HasChar, Reads};
+ghost use Rattle.std.specs.Prelude.{◌≡◌, ◌≢◌, ◌≤◌, ◌<◌, ◌==◌, ◌&&◌, ℕ, List, OnOk, IfErr, Ok, Err, true, false, slice_index};
+ghost use Rattle.yaml_chars.specs.Reading.{HasChar, Reads, Sees};
 ghost use Rattle.scan_model.specs.State.{behind};
 ghost use Rattle.scalar_model.specs.Machine.{past};
 ghost use Rattle.yaml_chars.specs.Text.{string_chars};
 ghost use Rattle.yaml_tokens.specs.Shown.{tok_of, style_of};
-ghost use Rattle.scan_model.specs.Document.{begin_stream, fetch_stream_end, fetch_document_marker, begin_line, anchor_token, block_style, context, fetch_directive, fetch_anchor, fetch_tag, fetch_block_scalar, fetch_plain_scalar};
-ghost use Rattle.yaml_scanner.specs.Shape.{held, Does, Fails};
+ghost use Rattle.scan_model.specs.Space.{skip_spaces};
+ghost use Rattle.scan_model.specs.Document.{begin_stream, fetch_stream_end, fetch_document_marker, fetch_document_end, begin_line, anchor_token, block_style, quoted_style, context, may_follow_quoted, check_behind_quoted, fetch_directive, fetch_anchor, fetch_tag, fetch_block_scalar, fetch_flow_scalar, fetch_plain_scalar};
+ghost use Rattle.scan_model.specs.Fetch.{comes_marker, is_value, token_by, fetch_token, fetch_indented, fetch_first_column, fetch_content, fetch_here, fetch_next, fetch};
+ghost use Rattle.yaml_scanner.specs.Shape.{held, state, Does, Fails};
+ghost use Rattle.yaml_scanner.specs.Steps.{end_quoted, fetch_bar, scalar_by};
 ghost use Rattle.yaml_scanner.specs.Collections.{marker_of};
 ghost use Rattle.yaml_scanner.specs.Work.{Moves, Fetches, HasChars, work};
 
-use crate::scanner::Scanner;
+use crate::fetcher::Fetcher;
+use scan_model::{Class, class_of};
 use yaml_chars::class::{is_blank_or_breakz, is_breakz, is_flow};
 use yaml_scalars::{
     Context, SkipTabs, read_anchor_name, read_block_scalar, read_directive, read_plain,
@@ -48,20 +52,75 @@ fn block_style(literal: bool) -> TScalarStyle
     }
 }
 
-impl<T: Iterator<Item = char>> Scanner<T> {
+fn quoted_style(single: bool) -> TScalarStyle
+    ensures { style_of result ≡ quoted_style single }
+{
+    if single {
+        TScalarStyle::SingleQuoted
+    } else {
+        TScalarStyle::DoubleQuoted
+    }
+}
+
+/// What may stand behind a quoted scalar.
+#[tactic(auto, unfolding(scan_model::specs::Document::may_follow_quoted))]
+fn may_follow_quoted(in_flow: bool, same_line: bool, c: char) -> bool
+    ensures { result ≡ may_follow_quoted in_flow same_line c }
+{
+    if in_flow {
+        is_breakz(c) || matches!(c, ',' | '}' | ']' | ':')
+    } else {
+        is_breakz(c) || c == ':' && same_line
+    }
+}
+
+fn is_thrice(c: char, first: char, second: char, third: char) -> bool
+    ensures value { result ≡ ((first == c) && (second == c) && (third == c)) }
+    ensures third { result ≡ true → third ≡ c }
+{
+    first == c && second == c && third == c
+}
+
+impl<T: Iterator<Item = char>> Fetcher<T> {
     /// Fetches a token, or several.
     pub(crate) fn fetch(&mut self) -> Result<(), Fault>
         requires { self.old.tokens.ended ≡ false }
+        ensures does { OnOk result (Does fetch self.old self.new) }
+        ensures fails { IfErr result (λ e. Fails fetch self.old self.new e) }
         ensures less { OnOk result (work self.new < work self.old) }
         ensures run { Fetches self.old self.new }
     {
         if !self.started {
             return self.fetch_stream_start();
         }
+        self.fetch_next()
+    }
+
+    /// The next token, behind what stands before it and the ends of block collections.
+    fn fetch_next(&mut self) -> Result<(), Fault>
+        requires { self.old.tokens.ended ≡ false }
+        ensures does { OnOk result (Does fetch_next self.old self.new) }
+        ensures fails { IfErr result (λ e. Fails fetch_next self.old self.new e) }
+        ensures less { OnOk result (work self.new < work self.old) }
+        ensures run { Fetches self.old self.new }
+    {
         self.skip_to_next_token()?;
         self.drop_stale()?;
         let limit = self.window.mark().col() + 1;
         self.unroll_indent(limit)?;
+        self.fetch_here()?;
+        self.drop_stale()?;
+        Ok(())
+    }
+
+    /// A token of a text that goes on, or the stream's end.
+    fn fetch_here(&mut self) -> Result<(), Fault>
+        requires { self.old.tokens.ended ≡ false }
+        ensures does { OnOk result (Does fetch_here self.old self.new) }
+        ensures fails { IfErr result (λ e. Fails fetch_here self.old self.new e) }
+        ensures less { OnOk result (work self.new < work self.old) }
+        ensures run { Fetches self.old self.new }
+    {
         self.window.lookahead(4);
         if self.window.ch() == '\0' {
             return self.fetch_stream_end();
@@ -72,6 +131,7 @@ impl<T: Iterator<Item = char>> Scanner<T> {
     fn fetch_stream_start(&mut self) -> Result<(), Fault>
         requires { self.old.started ≡ false }
         ensures held { OnOk result (held self.new ≡ begin_stream (held self.old)) }
+        ensures err { IfErr result (λ e. e ≡ Fault.OutOfMemory) }
         ensures window { self.new.window ≡ self.old.window }
         ensures less { OnOk result (work self.new < work self.old) }
         ensures run { Fetches self.old self.new }
@@ -107,85 +167,180 @@ impl<T: Iterator<Item = char>> Scanner<T> {
     fn fetch_content(&mut self) -> Result<(), Fault>
         requires ahead { 4 ≤ self.old.window.ahead }
         requires has { HasChar self.old.window }
+        ensures does { OnOk result (Does fetch_content self.old self.new) }
+        ensures fails { IfErr result (λ e. Fails fetch_content self.old self.new e) }
         ensures run { Fetches self.old self.new }
         ensures moves { OnOk result (Moves self.old self.new 7 8) }
     {
         if self.window.mark().col() == 0 {
-            if self.window.ch() == '%' {
-                return self.fetch_directive();
-            }
-            if self.at_marker('-') {
-                return self.fetch_document_marker(false);
-            }
-            if self.at_marker('.') {
-                return self.fetch_document_end();
-            }
+            return self.fetch_first_column();
         }
-        if self.window.mark().col() + 1 < self.levels.indent() {
-            return Err(Fault::At(Problem::InvalidIndentation, self.window.mark()));
+        self.fetch_indented()
+    }
+
+    fn fetch_first_column(&mut self) -> Result<(), Fault>
+        requires ahead { 4 ≤ self.old.window.ahead }
+        requires has { HasChar self.old.window }
+        ensures does { OnOk result (Does fetch_first_column self.old self.new) }
+        ensures fails { IfErr result (λ e. Fails fetch_first_column self.old self.new e) }
+        ensures run { Fetches self.old self.new }
+        ensures moves { OnOk result (Moves self.old self.new 7 8) }
+    {
+        if self.window.ch() == '%' {
+            return self.fetch_directive();
         }
-        self.fetch_token()
+        if self.at_marker('-') {
+            return self.fetch_document_marker(false);
+        }
+        if self.at_marker('.') {
+            return self.fetch_document_end();
+        }
+        self.fetch_indented()
     }
 
     /// Whether three of a character and then a blank, a break or the end come.
     fn at_marker(&self, c: char) -> bool
         requires ahead { 4 ≤ self.now.window.ahead }
         requires some { c ≢ 0 }
+        ensures sees { Sees self.now.window (λ a. result ≡ comes_marker c a) }
         ensures has { result ≡ true → HasChars 3 self.now.window }
     {
-        self.window.peek(0) == c
-            && self.window.peek(1) == c
-            && self.window.peek(2) == c
-            && is_blank_or_breakz(self.window.peek(3))
+        let first = self.window.peek(0);
+        let second = self.window.peek(1);
+        let third = self.window.peek(2);
+        is_thrice(c, first, second, third) && is_blank_or_breakz(self.window.peek(3))
+    }
+
+    /// What does not begin at a line's first column must not stand left of the innermost block
+    /// collection.
+    fn fetch_indented(&mut self) -> Result<(), Fault>
+        requires ahead { 4 ≤ self.old.window.ahead }
+        requires has { HasChar self.old.window }
+        ensures does { OnOk result (Does fetch_indented self.old self.new) }
+        ensures fails { IfErr result (λ e. Fails fetch_indented self.old self.new e) }
+        ensures run { Fetches self.old self.new }
+        ensures moves { OnOk result (Moves self.old self.new 7 8) }
+    {
+        let mark = self.window.mark();
+        if mark.col() + 1 < self.levels.indent() {
+            return Err(Fault::At(Problem::InvalidIndentation, mark));
+        }
+        self.fetch_token()
     }
 
     fn fetch_token(&mut self) -> Result<(), Fault>
         requires ahead { 4 ≤ self.old.window.ahead }
         requires has { HasChar self.old.window }
+        ensures does { OnOk result (Does fetch_token self.old self.new) }
+        ensures fails { IfErr result (λ e. Fails fetch_token self.old self.new e) }
         ensures run { Fetches self.old self.new }
         ensures moves { OnOk result (Moves self.old self.new 7 8) }
     {
-        let next = self.window.peek(1);
-        match self.window.ch() {
-            '[' => self.fetch_flow_collection_start(false),
-            '{' => self.fetch_flow_collection_start(true),
-            ']' => self.fetch_flow_collection_end(false),
-            '}' => self.fetch_flow_collection_end(true),
-            ',' => self.fetch_flow_entry(),
-            '-' if is_blank_or_breakz(next) => self.fetch_block_entry(),
-            '?' if is_blank_or_breakz(next) => self.fetch_key(),
-            ':' if self.is_value(next) => self.fetch_value(),
-            '*' => self.fetch_anchor(true),
-            '&' => self.fetch_anchor(false),
-            '!' => self.fetch_tag(),
-            _ => self.fetch_scalar(),
+        match class_of(self.window.ch()) {
+            Class::OpenBracket => self.fetch_flow_collection_start(false),
+            Class::OpenBrace => self.fetch_flow_collection_start(true),
+            Class::CloseBracket => self.fetch_flow_collection_end(false),
+            Class::CloseBrace => self.fetch_flow_collection_end(true),
+            Class::Comma => self.fetch_flow_entry(),
+            Class::Dash => self.fetch_dash(),
+            Class::Question => self.fetch_question(),
+            Class::Colon => self.fetch_colon(),
+            Class::Asterisk => self.fetch_anchor(true),
+            Class::Ampersand => self.fetch_anchor(false),
+            Class::Exclamation => self.fetch_tag(),
+            class => self.fetch_scalar(class),
         }
     }
 
+    /// `-`, or a plain scalar that begins with it.
+    fn fetch_dash(&mut self) -> Result<(), Fault>
+        requires ahead { 4 ≤ self.old.window.ahead }
+        requires has { HasChar self.old.window }
+        ensures does { OnOk result (Does (token_by Class.Dash) self.old self.new) }
+        ensures fails { IfErr result (λ e. Fails (token_by Class.Dash) self.old self.new e) }
+        ensures run { Fetches self.old self.new }
+        ensures moves { OnOk result (Moves self.old self.new 7 8) }
+    {
+        if is_blank_or_breakz(self.window.peek(1)) {
+            return self.fetch_block_entry();
+        }
+        self.fetch_plain_scalar()
+    }
+
+    /// `?`, or a plain scalar that begins with it.
+    fn fetch_question(&mut self) -> Result<(), Fault>
+        requires ahead { 4 ≤ self.old.window.ahead }
+        requires has { HasChar self.old.window }
+        ensures does { OnOk result (Does (token_by Class.Question) self.old self.new) }
+        ensures fails { IfErr result (λ e. Fails (token_by Class.Question) self.old self.new e) }
+        ensures run { Fetches self.old self.new }
+        ensures moves { OnOk result (Moves self.old self.new 7 8) }
+    {
+        if is_blank_or_breakz(self.window.peek(1)) {
+            return self.fetch_key();
+        }
+        self.fetch_plain_scalar()
+    }
+
+    /// `:`, or a plain scalar that begins with it.
+    fn fetch_colon(&mut self) -> Result<(), Fault>
+        requires ahead { 4 ≤ self.old.window.ahead }
+        requires has { HasChar self.old.window }
+        ensures does { OnOk result (Does (token_by Class.Colon) self.old self.new) }
+        ensures fails { IfErr result (λ e. Fails (token_by Class.Colon) self.old self.new e) }
+        ensures run { Fetches self.old self.new }
+        ensures moves { OnOk result (Moves self.old self.new 7 8) }
+    {
+        if self.is_value(self.window.peek(1)) {
+            return self.fetch_value();
+        }
+        self.fetch_plain_scalar()
+    }
+
     /// Whether a `:` before this character is the indicator of a value.
-    fn is_value(&self, next: char) -> bool {
+    #[tactic(auto, unfolding(scan_model::specs::Fetch::is_value))]
+    fn is_value(&self, next: char) -> bool
+        ensures { (a : List ℕ) → next ≡ slice_index a 1 → result ≡ is_value (state a self.now) }
+    {
         is_blank_or_breakz(next)
             || self.in_flow()
                 && (is_flow(next) || self.window.mark().index() == self.adjacent_value_at)
     }
 
-    fn fetch_scalar(&mut self) -> Result<(), Fault>
+    /// A scalar, by the class of its first character, or one that begins no token.
+    fn fetch_scalar(&mut self, class: Class) -> Result<(), Fault>
         requires ahead { 4 ≤ self.old.window.ahead }
         requires has { HasChar self.old.window }
+        ensures does { OnOk result (Does (scalar_by class) self.old self.new) }
+        ensures fails { IfErr result (λ e. Fails (scalar_by class) self.old self.new e) }
         ensures run { Fetches self.old self.new }
         ensures moves { OnOk result (Moves self.old self.new 7 8) }
     {
-        let mark = self.window.mark();
-        match self.window.ch() {
-            '|' if !self.in_flow() => self.fetch_block_scalar(true),
-            '>' if !self.in_flow() => self.fetch_block_scalar(false),
-            '\'' => self.fetch_flow_scalar(true),
-            '"' => self.fetch_flow_scalar(false),
-            '%' => Err(Fault::At(Problem::UnexpectedPercent, mark)),
-            '@' => Err(Fault::At(Problem::UnexpectedAt, mark)),
-            '`' => Err(Fault::At(Problem::UnexpectedBacktick, mark)),
+        match class {
+            Class::Bar => self.fetch_bar(true),
+            Class::Greater => self.fetch_bar(false),
+            Class::SingleQuote => self.fetch_flow_scalar(true),
+            Class::DoubleQuote => self.fetch_flow_scalar(false),
+            Class::Percent => Err(Fault::At(Problem::UnexpectedPercent, self.window.mark())),
+            Class::AtSign => Err(Fault::At(Problem::UnexpectedAt, self.window.mark())),
+            Class::Backtick => Err(Fault::At(Problem::UnexpectedBacktick, self.window.mark())),
             _ => self.fetch_plain_scalar(),
         }
+    }
+
+    /// `|` or `>`, which in flow begins a plain scalar.
+    fn fetch_bar(&mut self, literal: bool) -> Result<(), Fault>
+        requires ahead { 4 ≤ self.old.window.ahead }
+        requires has { HasChar self.old.window }
+        ensures does { OnOk result (Does (fetch_bar literal) self.old self.new) }
+        ensures fails { IfErr result (λ e. Fails (fetch_bar literal) self.old self.new e) }
+        ensures run { Fetches self.old self.new }
+        ensures moves { OnOk result (Moves self.old self.new 7 8) }
+    {
+        if self.in_flow() {
+            return self.fetch_plain_scalar();
+        }
+        self.fetch_block_scalar(literal)
     }
 
     /// A directive or a document marker ends all collections.
@@ -251,15 +406,30 @@ impl<T: Iterator<Item = char>> Scanner<T> {
     fn fetch_document_end(&mut self) -> Result<(), Fault>
         requires ahead { 3 ≤ self.old.window.ahead }
         requires has { HasChars 3 self.old.window }
+        ensures does { OnOk result (Does fetch_document_end self.old self.new) }
+        ensures fails { IfErr result (λ e. Fails fetch_document_end self.old self.new e) }
         ensures run { Fetches self.old self.new }
         ensures moves { OnOk result (Moves self.old self.new 1 8) }
     {
         self.fetch_document_marker(true)?;
-        let _ = self.skip_spaces(SkipTabs::Yes)?;
+        self.pass_spaces()?;
         if !is_breakz(self.window.ch()) {
             return Err(Fault::At(Problem::ContentAfterDocumentEnd, self.window.mark()));
         }
         Ok(())
+    }
+
+    /// Steps over spaces, TABs and a comment.
+    fn pass_spaces(&mut self) -> Result<(), Fault>
+        ensures does { OnOk result (Does (skip_spaces SkipTabs.Yes) self.old self.new) }
+        ensures fails { IfErr result (λ e. Fails (skip_spaces SkipTabs.Yes) self.old self.new e) }
+        ensures moves { Moves self.old self.new 0 0 }
+        ensures ahead { OnOk result (0 < self.new.window.ahead) }
+    {
+        match self.skip_spaces(SkipTabs::Yes) {
+            Ok(_) => Ok(()),
+            Err(fault) => Err(fault),
+        }
     }
 
     /// `*name` or `&name`
@@ -325,43 +495,50 @@ impl<T: Iterator<Item = char>> Scanner<T> {
         Ok(())
     }
 
+    /// `'` or `"`
     fn fetch_flow_scalar(&mut self, single: bool) -> Result<(), Fault>
         requires ahead { 0 < self.old.window.ahead }
         requires has { HasChar self.old.window }
+        ensures does { OnOk result (Does (fetch_flow_scalar single) self.old self.new) }
+        ensures fails { IfErr result (λ e. Fails (fetch_flow_scalar single) self.old self.new e) }
         ensures run { Fetches self.old self.new }
         ensures moves { OnOk result (Moves self.old self.new 1 8) }
     {
+        let mark = self.window.mark();
         self.save_simple_key();
         self.key_allowed = false;
-        let mark = self.window.mark();
         let context = self.context();
         let text = read_quoted(self.alloc, &mut self.window, single, context)?;
         self.leading = false;
-        self.check_behind_quoted(mark.line())?;
-        // To be as JSON is, a key's `:` may stand right behind it, also on a later line.
+        self.end_quoted(mark.line())?;
+        self.push_token(mark, TokenType::Scalar(quoted_style(single), text))?;
+        Ok(())
+    }
+
+    /// Behind a quoted scalar that began on a line. To be as JSON is, a key's `:` may stand right
+    /// behind it, also on a later line.
+    fn end_quoted(&mut self, line: usize) -> Result<(), Fault>
+        ensures does { OnOk result (Does (end_quoted line) self.old self.new) }
+        ensures fails { IfErr result (λ e. Fails (end_quoted line) self.old self.new e) }
+        ensures moves { Moves self.old self.new 0 0 }
+    {
+        self.check_behind_quoted(line)?;
         self.skip_to_next_token()?;
         self.adjacent_value_at = self.window.mark().index();
-        let style = if single {
-            TScalarStyle::SingleQuoted
-        } else {
-            TScalarStyle::DoubleQuoted
-        };
-        self.push_token(mark, TokenType::Scalar(style, text))
+        Ok(())
     }
 
     /// What may stand behind a quoted scalar that began on a line.
     fn check_behind_quoted(&mut self, line: usize) -> Result<(), Fault>
+        ensures does { OnOk result (Does (check_behind_quoted line) self.old self.new) }
+        ensures fails { IfErr result (λ e. Fails (check_behind_quoted line) self.old self.new e) }
         ensures moves { Moves self.old self.new 0 0 }
     {
-        let _ = self.skip_spaces(SkipTabs::Yes)?;
-        let c = self.window.ch();
-        let fits = if self.in_flow() {
-            matches!(c, ',' | '}' | ']' | ':') || is_breakz(c)
-        } else {
-            is_breakz(c) || c == ':' && line == self.window.mark().line()
-        };
-        if !fits {
-            return Err(Fault::At(Problem::ContentAfterQuoted, self.window.mark()));
+        self.pass_spaces()?;
+        let mark = self.window.mark();
+        let same_line = line == mark.line();
+        if !may_follow_quoted(self.in_flow(), same_line, self.window.ch()) {
+            return Err(Fault::At(Problem::ContentAfterQuoted, mark));
         }
         Ok(())
     }

@@ -9,7 +9,7 @@ ghost use Rattle.yaml_scanner.specs.Collections.{level_of, flow_start, flow_end}
 ghost use Rattle.yaml_scanner.specs.Shape.{held, Does, Fails};
 ghost use Rattle.yaml_scanner.specs.Work.{Moves, Fetches};
 
-use crate::scanner::Scanner;
+use crate::fetcher::Fetcher;
 use scan_model::FlowLevel;
 use yaml_chars::Marker;
 use yaml_scalars::SkipTabs;
@@ -48,7 +48,7 @@ fn flow_end(mapping: bool) -> TokenType
     }
 }
 
-impl<T: Iterator<Item = char>> Scanner<T> {
+impl<T: Iterator<Item = char>> Fetcher<T> {
     /// Steps over an indicator.
     pub(crate) fn skip_indicator(&mut self)
         requires ahead { 0 < self.old.window.ahead }

@@ -16,11 +16,11 @@ ghost use Rattle.yaml_scanner.specs.Work.{Moves};
 
 use crate::keys::SimpleKey;
 use crate::levels::{Collection, start_of};
-use crate::scanner::Scanner;
+use crate::fetcher::Fetcher;
 use yaml_chars::Marker;
 use yaml_tokens::{Fault, Problem, Token, TokenType};
 
-impl<T: Iterator<Item = char>> Scanner<T> {
+impl<T: Iterator<Item = char>> Fetcher<T> {
     pub(crate) fn in_flow(&self) -> bool
         ensures { result ≡ in_flow (held self.now) }
     {

@@ -3,7 +3,9 @@
 
 mod block;
 mod fetch;
+mod fetcher;
 mod flow;
+mod hand;
 mod indents;
 mod keys;
 mod levels;

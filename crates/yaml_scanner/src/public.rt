@@ -1,30 +1,42 @@
 //! The scanner's public calls.
-ghost use Rattle.std.specs.Prelude.{◌≡◌, ◌≤◌, ◌<◌, OnOk, OnErr, IfOk, IfErr, IfSome, IsNone, Ok, Err, Some, None, true, false};
-ghost use Rattle.yaml_scanner.specs.Scanned.{scanned, kept_fault, HandsOut, HandsNothing, Refuses};
-ghost use Rattle.yaml_scanner.specs.Work.{Fetches, Moves, work};
-ghost use Rattle.yaml_scanner.specs.Tokens.{waiting};
-ghost use Rattle.std.specs.Iterator.{at_most};
-ghost use Rattle.yaml_scanner.specs.Next.{GivesNext};
+ghost use Rattle.std.specs.Prelude.{◌≡◌, ◌≤◌, ◌<◌, ◌^◌, [], OnOk, IfOk, IfErr, IfSome, IsNone, Ok, Err, Some, None, true, false};
+ghost use Rattle.std.specs.Iterator.{at_most, IsFinite, size};
+ghost use Rattle.yaml_chars.specs.Source.{CameFrom};
+ghost use Rattle.yaml_chars.specs.Reading.{HasNoNul};
 ghost use Rattle.yaml_tokens.specs.Shown.{shown};
+ghost use Rattle.yaml_scanner.specs.Scanned.{scanned, HandsOut, HandsNothing, Refuses, Scans};
+ghost use Rattle.yaml_scanner.specs.Next.{GivesNext};
+ghost use Rattle.yaml_scanner.specs.Tokens.{waiting};
 
-use crate::scanner::{Kept, Scanner};
+use crate::fetcher::Fetcher;
+use crate::scanner::Scanner;
+use std::alloc::Global;
 use yaml_chars::Marker;
-use yaml_tokens::{Fault, ScanError, ScanResult, Token};
-
-impl Kept {
-    fn error(&self) -> ScanError
-        ensures { result ≡ kept_fault self.now }
-    {
-        self.fault.error(self.mark)
-    }
-}
+use yaml_tokens::{ScanError, ScanResult, Token};
 
 impl<T: Iterator<Item = char>> Scanner<T> {
+    /// A scanner of the characters of an iterator, up to its end or to a NUL.
+    pub fn new(alloc: Global, iter: T) -> Scanner<T>
+        requires can { T.can_next iter }
+        requires finite { IsFinite (T.remaining iter) }
+        requires few { size (T.remaining iter) < 2 ^ 63 }
+        ensures given { (scanned result).given ≡ [] }
+        ensures fault { (scanned result).fault ≡ None }
+        ensures started { (scanned result).started ≡ false }
+        ensures ended { (scanned result).ended ≡ false }
+        ensures scans { Scans (scanned result) }
+        ensures start { result.start ≡ iter }
+    {
+        Scanner {
+            fetcher: Fetcher::new(alloc, iter),
+        }
+    }
+
     /// The fault that is kept. It takes no memory.
     pub fn get_error(&self) -> Option<ScanError>
         ensures { result ≡ (scanned self.now).fault }
     {
-        match self.kept {
+        match self.fetcher.kept {
             Some(kept) => Some(kept.error()),
             None => None,
         }
@@ -34,32 +46,24 @@ impl<T: Iterator<Item = char>> Scanner<T> {
     pub fn stream_started(&self) -> bool
         ensures { result ≡ (scanned self.now).started }
     {
-        self.started
+        self.fetcher.started
     }
 
     /// Whether the token of the stream's end was handed out.
     pub fn stream_ended(&self) -> bool
         ensures { result ≡ (scanned self.now).ended }
     {
-        self.tokens.is_over()
+        self.fetcher.tokens.is_over()
     }
 
-    /// Where the scanner stands.
+    /// Where the scanner stands. What was taken until then is what the iterator gave, up to a NUL.
     pub fn mark(&self) -> Marker
-        ensures { result ≡ (scanned self.now).place }
+        ensures place { result ≡ (scanned self.now).place }
+        ensures came { CameFrom T.next_gives self.now.start (scanned self.now).taken (scanned self.now).done }
+        ensures no_nul { HasNoNul (scanned self.now).taken }
     {
-        self.window.mark()
-    }
-
-    fn keep(&mut self, fault: Fault) -> ScanError
-        ensures kept { (scanned self.new).fault ≡ Some result }
-        ensures same { scanned self.new ≡ record (scanned self.old) { fault = Some result } }
-    {
-        let mark = self.window.mark();
-        let kept = Kept { fault, mark };
-        let error = kept.error();
-        self.kept = Some(kept);
-        error
+        self.fetcher.window.note();
+        self.fetcher.window.mark()
     }
 
     /// Fetches the next token into the queue, or several. Once the stream's end was fetched,
@@ -70,16 +74,18 @@ impl<T: Iterator<Item = char>> Scanner<T> {
         ensures ok { OnOk result (((scanned self.old).fault ≡ None) × ((scanned self.new).fault ≡ None)) }
         ensures err { IfErr result (λ e. (scanned self.new).fault ≡ Some e) }
         ensures again { IfSome (scanned self.old).fault (λ f. result ≡ Err f) }
+        ensures scans { Scans (scanned self.new) }
+        ensures start { self.new.start ≡ self.old.start }
     {
         if let Some(error) = self.get_error() {
             return Err(error);
         }
-        if self.tokens.has_ended() {
+        if self.fetcher.tokens.has_ended() {
             return Ok(());
         }
-        match self.fetch() {
+        match self.fetcher.fetch_one() {
             Ok(()) => Ok(()),
-            Err(fault) => Err(self.keep(fault)),
+            Err(fault) => Err(self.fetcher.keep(fault)),
         }
     }
 
@@ -89,43 +95,19 @@ impl<T: Iterator<Item = char>> Scanner<T> {
         ensures given { (scanned self.new).given ≡ (scanned self.old).given }
         ensures ended { (scanned self.new).ended ≡ (scanned self.old).ended }
         ensures left { OnOk result ((scanned self.new).left ≤ (scanned self.old).left) }
-        ensures ready { OnOk result (self.new.tokens.ended ≡ false → 0 < waiting self.new.tokens) }
-        ensures again { IfSome (scanned self.old).fault (λ f. result ≡ Err f) }
         ensures ok { OnOk result (((scanned self.old).fault ≡ None) × ((scanned self.new).fault ≡ None)) }
         ensures err { IfErr result (λ e. (scanned self.new).fault ≡ Some e) }
+        ensures again { IfSome (scanned self.old).fault (λ f. result ≡ Err f) }
+        ensures scans { Scans (scanned self.new) }
+        ensures start { self.new.start ≡ self.old.start }
     {
         if let Some(error) = self.get_error() {
             return Err(error);
         }
-        match self.fill() {
+        match self.fetcher.fill() {
             Ok(()) => Ok(()),
-            Err(fault) => Err(self.keep(fault)),
+            Err(fault) => Err(self.fetcher.keep(fault)),
         }
-    }
-
-    fn fill(&mut self) -> Result<(), Fault>
-        ensures run { Fetches self.old self.new }
-        ensures left { OnOk result (work self.new ≤ work self.old) }
-        ensures some { OnOk result (self.new.tokens.ended ≡ false → 0 < waiting self.new.tokens) }
-    {
-        'tokens: while !self.tokens.has_ended() && self.needs_more()? {
-            self.fetch()?;
-        }
-        Ok(())
-    }
-
-    /// Whether the next token may still get a key before it.
-    fn needs_more(&mut self) -> Result<bool, Fault>
-        ensures moves { Moves self.old self.new 0 0 }
-        ensures window { self.new.window ≡ self.old.window }
-        ensures tokens { self.new.tokens ≡ self.old.tokens }
-        ensures some { result ≡ Ok false → 0 < waiting self.new.tokens }
-    {
-        if self.tokens.len() == 0 {
-            return Ok(true);
-        }
-        self.drop_stale()?;
-        Ok(self.keys.may_precede())
     }
 
     /// The next token, or `None` once the stream's end was handed out. A fault is kept and answered
@@ -135,19 +117,19 @@ impl<T: Iterator<Item = char>> Scanner<T> {
         ensures none { IfOk result (λ o. IsNone o → HandsNothing (scanned self.old) (scanned self.new)) }
         ensures err { IfErr result (λ e. Refuses (scanned self.old) e (scanned self.new)) }
         ensures again { IfSome (scanned self.old).fault (λ f. result ≡ Err f) }
+        ensures scans { Scans (scanned self.new) }
+        ensures start { self.new.start ≡ self.old.start }
     {
         if let Some(error) = self.get_error() {
             return Err(error);
         }
-        if self.tokens.is_over() {
+        if self.fetcher.tokens.is_over() {
             return Ok(None);
         }
-        self.fetch_more_tokens()?;
-        let Some(token) = self.tokens.pop() else {
-            unreachable!()
-        };
-        self.keys.lower();
-        Ok(Some(token))
+        match self.fetcher.fill() {
+            Ok(()) => Ok(self.fetcher.hand()),
+            Err(fault) => Err(self.fetcher.keep(fault)),
+        }
     }
 }
 

@@ -9,12 +9,12 @@ ghost use Rattle.yaml_scalars.specs.Shown.{read};
 ghost use Rattle.yaml_scanner.specs.Shape.{held, Does, Fails};
 ghost use Rattle.yaml_scanner.specs.Work.{Moves};
 
-use crate::scanner::Scanner;
+use crate::fetcher::Fetcher;
 use yaml_chars::class::{is_blank, is_break, is_breakz};
 use yaml_scalars::{SkipTabs, Whitespace, skip_comment, skip_linebreak, skip_ws_to_eol};
 use yaml_tokens::{Fault, Problem};
 
-impl<T: Iterator<Item = char>> Scanner<T> {
+impl<T: Iterator<Item = char>> Fetcher<T> {
     /// Steps over a line break. Outside flow a key may begin behind it.
     pub(crate) fn pass_break(&mut self)
         requires { HasChar self.old.window }

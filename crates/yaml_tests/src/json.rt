@@ -176,8 +176,9 @@ fn made_texts_load_as_their_values(rt: HostRuntime) -> Result<(), Fail> {
         maker.gap()?;
         let want = maker.value(5)?;
         maker.gap()?;
-        let documents =
-            YamlLoader::load_from_str(alloc, maker.text.as_str()).map_err(|_| "a fault")?;
+        let documents = YamlLoader::load_from_str(alloc, maker.text.as_str()).map_err(
+            |_| "a fault",
+        )?;
         let is_one = match documents.as_slice() {
             [document] => *document == want,
             _ => false,

@@ -63,7 +63,11 @@ fn with_letters(alloc: Global, begin: &str, letters: usize, end: &str) -> Result
 #[test]
 fn keys_have_1024_characters(rt: HostRuntime) -> Result<(), Fail> {
     let alloc = rt.alloc();
-    for (begin, letters, end) in [("", 1024, ": 1"), ("\"", 1022, "\": 1"), ("{", 5000, ": 1}")] {
+    for (begin, letters, end) in [
+        ("", 1024, ": 1"),
+        ("\"", 1022, "\": 1"),
+        ("{", 5000, ": 1}"),
+    ] {
         let text = with_letters(alloc, begin, letters, end)?;
         assert!(rt; is_loaded(alloc, text.as_str()));
     }

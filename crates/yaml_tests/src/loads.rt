@@ -30,6 +30,15 @@ fn flow_collections_load(rt: HostRuntime) -> Result<(), Fail> {
             "{\n\t\"a\": [\n\t\t1\n\t]\n}",
             "[Hash({String(\"a\"): Array([Integer(1)])})]",
         ),
+    ] {
+        assert_eq!(rt; loaded(rt.alloc(), text)?.as_str(), want);
+    }
+    Ok(())
+}
+
+#[test]
+fn flow_pairs_load(rt: HostRuntime) -> Result<(), Fail> {
+    for (text, want) in [
         (
             "[a: [b, c]]",
             "[Array([Hash({String(\"a\"): Array([String(\"b\"), String(\"c\")])})])]",
@@ -79,6 +88,15 @@ fn block_collections_load(rt: HostRuntime) -> Result<(), Fail> {
         ("? a", "[Hash({String(\"a\"): Null})]"),
         (": b", "[Hash({Null: String(\"b\")})]"),
         ("a: b\0c: d", "[Hash({String(\"a\"): String(\"b\")})]"),
+    ] {
+        assert_eq!(rt; loaded(rt.alloc(), text)?.as_str(), want);
+    }
+    Ok(())
+}
+
+#[test]
+fn aliases_load_as_copies(rt: HostRuntime) -> Result<(), Fail> {
+    for (text, want) in [
         (
             "a1: &DEFAULT\n    b1: 4\n    b2: d\na2: *DEFAULT\n",
             "[Hash({String(\"a1\"): Hash({String(\"b1\"): Integer(4), String(\"b2\"): String(\"d\")}), String(\"a2\"): Hash({String(\"b1\"): Integer(4), String(\"b2\"): String(\"d\")})})]",
@@ -131,6 +149,15 @@ fn scalars_load(rt: HostRuntime) -> Result<(), Fail> {
         ),
         ("- |1\n  x\n", "[Array([String(\" x\\n\")])]"),
         ("|+\na\n\n", "[String(\"a\\n\\n\")]"),
+    ] {
+        assert_eq!(rt; loaded(rt.alloc(), text)?.as_str(), want);
+    }
+    Ok(())
+}
+
+#[test]
+fn properties_load(rt: HostRuntime) -> Result<(), Fail> {
+    for (text, want) in [
         (
             "[!!int 100, !!null ~, !!bool true, !!int string, !!float 12, !!str 0]",
             "[Array([Integer(100), Null, Boolean(true), BadValue, Real(\"12\"), String(\"0\")])]",

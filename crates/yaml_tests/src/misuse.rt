@@ -7,12 +7,7 @@ use yaml_rust2::scanner::{Marker, Scanner, TScalarStyle};
 const NESTING: &str = "event out of nesting";
 
 fn plain(alloc: Global, text: &str) -> Result<Event, Fail> {
-    Ok(Event::Scalar(
-        String::from_str(alloc, text)?,
-        TScalarStyle::Plain,
-        0,
-        None,
-    ))
+    Ok(Event::Scalar(String::from_str(alloc, text)?, TScalarStyle::Plain, 0, None))
 }
 
 // An event by a short name: `[` and `]`, `{` and `}`, `.` for a document's end, `*7` for an alias, else a scalar.
@@ -51,7 +46,10 @@ fn events_out_of_nesting_are_refused(rt: HostRuntime) -> Result<(), Fail> {
     let alloc = rt.alloc();
     let mark = Scanner::new(alloc, "".chars()).mark();
     for (names, want) in [
-        (&["]", "."][..], "event out of nesting event out of nesting []"),
+        (
+            &["]", "."][..],
+            "event out of nesting event out of nesting []",
+        ),
         (&["[", "}"][..], "ok event out of nesting []"),
         (&["{", "k", "}"][..], "ok ok event out of nesting []"),
         (&["a", "b"][..], "ok event out of nesting []"),

@@ -94,10 +94,7 @@ fn all_documents_are_pushed(rt: HostRuntime) -> Result<(), Fail> {
 #[test]
 fn a_peeked_event_is_pushed_first(rt: HostRuntime) -> Result<(), Fail> {
     let mut parser = Parser::new_from_str(rt.alloc(), "a");
-    let is_start = matches!(
-        parser.peek().map_err(|_| "a fault")?.0,
-        Event::StreamStart
-    );
+    let is_start = matches!(parser.peek().map_err(|_| "a fault")?.0, Event::StreamStart);
     assert!(rt; is_start);
     let mut pushed = Pushed::new(rt.alloc(), None);
     parser.load(&mut pushed, false).map_err(|_| "a fault")?;
@@ -155,7 +152,12 @@ fn pulled(alloc: Global, text: &str, peeks: bool) -> Result<String, Fail> {
         }
         match parser.next_token() {
             Ok((event, mark)) => {
-                let shown = format!(in alloc; "{event:?} {} {} {}\n", mark.index(), mark.line(), mark.col())?;
+                let shown = format!(in alloc;
+                    "{event:?} {} {} {}\n",
+                    mark.index(),
+                    mark.line(),
+                    mark.col()
+                )?;
                 out.push_str(shown.as_str())?;
                 if event == Event::StreamEnd {
                     break;

@@ -43,7 +43,10 @@ fn blocks(rt: HostRuntime) -> Result<(), Fail> {
             "s:\n  - server:\n    about: x",
             "[Hash({String(\"s\"): Array([Hash({String(\"server\"): Null, String(\"about\"): String(\"x\")})])})]",
         ),
-        ("a:\n  b: c\n\t# x\n", "[Hash({String(\"a\"): Hash({String(\"b\"): String(\"c\")})})]"),
+        (
+            "a:\n  b: c\n\t# x\n",
+            "[Hash({String(\"a\"): Hash({String(\"b\"): String(\"c\")})})]",
+        ),
         (">-\na\n\n", "[String(\"a\")]"),
         ("- a\nb", "simple key expected at byte 5 line 3 column 1"),
         (
@@ -65,7 +68,7 @@ fn blocks(rt: HostRuntime) -> Result<(), Fail> {
 }
 
 #[test]
-fn properties_and_directives(rt: HostRuntime) -> Result<(), Fail> {
+fn properties(rt: HostRuntime) -> Result<(), Fail> {
     for (text, want) in [
         (
             "[!!int 0x2A, !!float 12, !!str 0]",
@@ -86,6 +89,15 @@ fn properties_and_directives(rt: HostRuntime) -> Result<(), Fail> {
             "%YAML 1.2\n%YAML 1.2\n---",
             "duplicate version directive at byte 10 line 2 column 1",
         ),
+    ] {
+        assert_eq!(rt; loaded(rt.alloc(), text)?.as_str(), want);
+    }
+    Ok(())
+}
+
+#[test]
+fn names_are_refused(rt: HostRuntime) -> Result<(), Fail> {
+    for (text, want) in [
         (
             "*a",
             "while parsing node, found unknown anchor at byte 0 line 1 column 1",

@@ -46,7 +46,12 @@ fn last_scalar(alloc: Global, text: &str) -> Result<String, Fail> {
         let (event, mark) = parser.next_token().map_err(|_| "a fault")?;
         match event {
             Event::Scalar(_, _, _, _) | Event::Alias(_) => {
-                shown = format!(in alloc; "{event:?} {} {} {}", mark.index(), mark.line(), mark.col())?;
+                shown = format!(in alloc;
+                    "{event:?} {} {} {}",
+                    mark.index(),
+                    mark.line(),
+                    mark.col()
+                )?;
             }
             Event::StreamEnd => return Ok(shown),
             _ => {}
@@ -57,12 +62,10 @@ fn last_scalar(alloc: Global, text: &str) -> Result<String, Fail> {
 
 #[test]
 fn places_count_characters(rt: HostRuntime) -> Result<(), Fail> {
-    let long = "a: |\n  \u{e9}\u{e9}\u{e9}\u{e9}\u{e9}\u{e9}\u{e9}\u{e9}\u{e9}\u{e9}\u{e9}\u{e9}\u{e9}\u{e9}\u{e9}\u{e9}\u{e9}\u{e9}\u{e9}\u{e9}\nb: 1";
+    let long =
+        "a: |\n  \u{e9}\u{e9}\u{e9}\u{e9}\u{e9}\u{e9}\u{e9}\u{e9}\u{e9}\u{e9}\u{e9}\u{e9}\u{e9}\u{e9}\u{e9}\u{e9}\u{e9}\u{e9}\u{e9}\u{e9}\nb: 1";
     for (text, want) in [
-        (
-            "[\"\u{e9}\", 1]",
-            "Scalar(\"1\", Plain, 0, None) 6 1 6",
-        ),
+        ("[\"\u{e9}\", 1]", "Scalar(\"1\", Plain, 0, None) 6 1 6"),
         (long, "Scalar(\"1\", Plain, 0, None) 31 3 3"),
         ("- &a 1\n- &a 2\n- *a", "Alias(2) 16 3 2"),
         ("---", "Scalar(\"\", Plain, 0, None) 3 2 0"),
@@ -83,10 +86,10 @@ fn places_count_characters(rt: HostRuntime) -> Result<(), Fail> {
 #[test]
 fn declared_handles_may_be_kept(rt: HostRuntime) -> Result<(), Fail> {
     let alloc = rt.alloc();
-    let text = "%TAG !prefix! tag:example.com,2011:\n--- !prefix!A\na: b\n--- !prefix!B\nc: d\n--- !prefix!C\ne: f";
+    let text =
+        "%TAG !prefix! tag:example.com,2011:\n--- !prefix!A\na: b\n--- !prefix!B\nc: d\n--- !prefix!C\ne: f";
     let mut parser = Parser::new_from_str(alloc, text).keep_tags(true);
-    let documents =
-        YamlLoader::load_from_parser(alloc, &mut parser).map_err(|_| "a fault")?;
+    let documents = YamlLoader::load_from_parser(alloc, &mut parser).map_err(|_| "a fault")?;
     assert_eq!(rt; documents.len(), 3);
     Ok(())
 }

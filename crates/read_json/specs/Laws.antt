@@ -1,0 +1,65 @@
+-- Laws of streams that are read, and of JSON texts: each is carried by the function of `src/laws.rt` that its comment names.
+use Rattle.std.specs.Prelude.{◌≡◌, Bool, true, List, [], ◌∷◌, ◌++◌, Ok}
+use Rattle.yaml_chars.specs.Place.{Place}
+use Rattle.token_defs.specs.Token.{Tok}
+use Rattle.tree_defs.specs.Tree.{Tree}
+use Rattle.tree_defs.specs.Typing.{typing}
+use Rattle.layout_defs.specs.JsonNumber.{Number, spell_number, is_number, number_tree}
+use Rattle.layout_defs.specs.Json.{JsonText, IsWellFormed, tree_of}
+use Rattle.laid_tokens.specs.JsonTokens.{json_text_tokens}
+use Rattle.event_defs.specs.Event.{Ev}
+use Rattle.event_defs.specs.Stream.{IsStream, Foretells, NoneBegins, events_of}
+use Rattle.event_defs.specs.Nested.{nested_stream}
+use Rattle.event_defs.specs.Reading.{reading}
+use Rattle.event_defs.specs.Unfinished.{new_loader, with_events}
+use Rattle.event_defs.specs.Laws.{HasRead}
+use Rattle.read_json.specs.ReadAs.{ReadAs, IsAtWork}
+use Rattle.read_json.specs.JsonNest.{json_documents}
+
+-- ---- any tokens that are read
+
+-- `read_streams_are_loaded`
+abbrev pub ReadStreamsAreLoaded : Type 0
+ReadStreamsAreLoaded =
+    (keep_tags : Bool) (tokens : List Tok) (trees : List Tree) (events : List (Ev × Place)) → ReadAs keep_tags tokens trees → IsStream keep_tags tokens (events_of events)
+    → HasRead (Ok trees) (with_events new_loader events)
+
+-- `read_streams_are_not_refused`; `more` are the events behind the beginning
+abbrev pub ReadStreamsAreNotRefused : Type 0
+ReadStreamsAreNotRefused =
+    (keep_tags : Bool) (tokens : List Tok) (trees : List Tree) (events : List (Ev × Place)) (more : List Ev) → ReadAs keep_tags tokens trees
+    → IsStream keep_tags tokens (events_of events ++ more) → IsAtWork (with_events new_loader events)
+
+-- `foretold_events_are_not_refused`; `after` are the tokens behind the beginning
+abbrev pub ForetoldEventsAreNotRefused : Type 0
+ForetoldEventsAreNotRefused =
+    (keep_tags : Bool) (before after : List Tok) (trees : List Tree) (events : List (Ev × Place)) → ReadAs keep_tags (before ++ after) trees
+    → Foretells keep_tags before (events_of events) → IsAtWork (with_events new_loader events)
+
+-- `read_streams_are_not_cut`
+abbrev pub ReadStreamsAreNotCut : Type 0
+ReadStreamsAreNotCut = (keep_tags : Bool) (before after : List Tok) (trees : List Tree) → ReadAs keep_tags (before ++ after) trees → NoneBegins keep_tags before → ⊥
+
+-- ---- JSON texts
+
+-- `json_tokens_are_a_stream`
+abbrev pub JsonTokensAreAStream : Type 0
+JsonTokensAreAStream = (keep_tags : Bool) (w : JsonText) → IsStream keep_tags (json_text_tokens w) (nested_stream (json_documents w))
+
+-- `json_numbers_stand_for_their_trees`
+abbrev pub JsonNumbersStandForTheirTrees : Type 0
+JsonNumbersStandForTheirTrees = (n : Number) → is_number n ≡ true → typing (spell_number n []) ≡ number_tree n
+
+-- `json_documents_read_as_their_trees`
+abbrev pub JsonDocumentsReadAsTheirTrees : Type 0
+JsonDocumentsReadAsTheirTrees = (w : JsonText) → IsWellFormed w → reading (json_documents w) ≡ Ok (tree_of w.value ∷ [])
+
+-- `json_tokens_read_as_their_tree`
+abbrev pub JsonTokensReadAsTheirTree : Type 0
+JsonTokensReadAsTheirTree = (keep_tags : Bool) (w : JsonText) → IsWellFormed w → ReadAs keep_tags (json_text_tokens w) (tree_of w.value ∷ [])
+
+-- `json_events_are_loaded`
+abbrev pub JsonEventsAreLoaded : Type 0
+JsonEventsAreLoaded =
+    (keep_tags : Bool) (w : JsonText) (events : List (Ev × Place)) → IsWellFormed w → IsStream keep_tags (json_text_tokens w) (events_of events)
+    → HasRead (Ok (tree_of w.value ∷ [])) (with_events new_loader events)

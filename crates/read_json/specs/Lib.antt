@@ -1,0 +1,3 @@
+pub mod JsonNest
+pub mod Laws
+pub mod ReadAs

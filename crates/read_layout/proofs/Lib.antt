@@ -1,0 +1,4 @@
+pub mod Derived
+pub mod Loaded
+pub mod Reading
+mod Rows

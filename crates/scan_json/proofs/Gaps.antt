@@ -1,0 +1,160 @@
+-- White space between tokens is passed over.
+use Rattle.std.proofs.Common.{◌≡◌, ℕ, List, [], ◌∷◌, Bool, true, false, ◌||◌, not, ◌==◌, if◌then◌else◌, Option, Result, Ok, refl, slice_index, ◌∙◌}
+use Rattle.yaml_chars.specs.Place.{Place}
+use Rattle.yaml_chars.specs.Class.{is_break, is_blank}
+use Rattle.yaml_chars.specs.Text.{is_nil}
+use Rattle.yaml_tokens.specs.declared.problem.Fault.{Fault}
+use Rattle.layout_defs.specs.JsonGap.{Blank, space, tab, line_feed, carriage_return, spell_gap}
+use Rattle.scalar_model.specs.declared.context.SkipTabs.TheVariants.{Yes}
+use Rattle.scalar_model.specs.declared.context.Whitespace.{Whitespace}
+use Rattle.scalar_model.specs.Machine.{past, past_break}
+use Rattle.scalar_model.specs.Space as scalar_space
+use Rattle.scan_model.specs.declared.level.FlowLevel.{FlowLevel}
+use Rattle.scan_model.specs.State.{Key, State}
+use Rattle.scan_model.specs.Space.{between, skip, is_before_indent, skip_spaces, skip_to_next_token}
+use Rattle.scan_json.proofs.Shapes.{Parts, stands, is_content, is_solid}
+
+-- none of eight
+record None (a b c d e f g h : Bool) : Type 0 where
+  first : a ≡ false
+  second : b ≡ false
+  third : c ≡ false
+  fourth : d ≡ false
+  fifth : e ≡ false
+  sixth : f ≡ false
+  seventh : g ≡ false
+  eighth : h ≡ false
+
+none : (a b c d e f g h : Bool) → not (a || b || c || d || e || f || g || h) ≡ true → None a b c d e f g h
+none true b c d e f g h is = cc
+none false true c d e f g h is = cc
+none false false true d e f g h is = cc
+none false false false true e f g h is = cc
+none false false false false true f g h is = cc
+none false false false false false true g h is = cc
+none false false false false false false true h is = cc
+none false false false false false false false true is = cc
+none false false false false false false false false is = record { first = refl; second = refl; third = refl; fourth = refl; fifth = refl; sixth = refl; seventh = refl; eighth = refl }
+
+-- what a content character is not
+pub record Content (c : ℕ) : Type 0 where
+  pub nul : (c == 0) ≡ false
+  pub tab : (c == 9) ≡ false
+  pub line_feed : (c == 10) ≡ false
+  pub carriage_return : (c == 13) ≡ false
+  pub space : (c == 32) ≡ false
+  pub hash : (c == 35) ≡ false
+  pub percent : (c == 37) ≡ false
+  pub point : (c == 46) ≡ false
+  pub break : is_break c ≡ false
+  pub blank : is_blank c ≡ false
+
+pub content : (c : ℕ) → is_content c ≡ true → Content c
+unfolding is_break is_blank
+content c h =
+    let z = none (c == 0) (c == 9) (c == 10) (c == 13) (c == 32) (c == 35) (c == 37) (c == 46) h in
+    record {
+      nul = z.first;
+      tab = z.second;
+      line_feed = z.third;
+      carriage_return = z.fourth;
+      space = z.fifth;
+      hash = z.sixth;
+      percent = z.seventh;
+      point = z.eighth;
+      break = rw (z.third, z.fourth) refl;
+      blank = rw (z.fifth, z.second) refl;
+    }
+
+-- The state is at r, with another place; outside flow a key may have become possible.
+pub record Skipped (t : Result State Fault) (r : List ℕ) (fs : List FlowLevel) (ks : List (Option Key)) (p : Parts) : Type 0 where
+  pub place : Place
+  pub allowed : Bool
+  pub leading : Bool
+  pub same : is_nil fs ≡ false → allowed ≡ p.allowed
+  pub is : t ≡ Ok (stands r fs ks (record p { place = place; allowed = allowed; leading = leading }))
+
+module _ (fs : List FlowLevel) (ks : List (Option Key)) where
+  pub skip_solid : (r : List ℕ) (p : Parts) → is_solid r ≡ true → skip between r (stands r fs ks p).held ≡ Ok (stands r fs ks p)
+  unfolding skip
+  skip_solid [] p h = refl
+  skip_solid (c ∷ a) p h = let z = content c h in rw (z.break, z.tab, z.blank, z.hash) refl
+
+  abbrev lined : Parts → Parts
+  lined p = record p { place = past_break p.place; leading = true; allowed = not (not (is_nil fs)) || p.allowed }
+
+  lined_allowed : (b c : Bool) → b ≡ false → (not (not b) || c) ≡ c
+  lined_allowed true c h = cc
+  lined_allowed false c h = refl
+
+  behind_char : (t : Result State Fault) (r : List ℕ) (p : Parts) → Skipped t r fs ks (record p { place = past p.place }) → Skipped t r fs ks p
+  behind_char t r p z = record { place = z.place; allowed = z.allowed; leading = z.leading; same = z.same; is = z.is }
+
+  behind_break : (t : Result State Fault) (r : List ℕ) (p : Parts) → Skipped t r fs ks (lined p) → Skipped t r fs ks p
+  behind_break t r p z = record { place = z.place; allowed = z.allowed; leading = z.leading; same = λ h. z.same h ∙ lined_allowed (is_nil fs) p.allowed h; is = z.is }
+
+  behind_return : (b : Bool) (a r : List ℕ) (p : Parts) → Skipped (skip between a (stands a fs ks (record p { place = past p.place })).held) r fs ks (record p { place = past p.place })
+      → Skipped (skip between a (stands a fs ks (lined p)).held) r fs ks (lined p)
+      → Skipped (skip between a (if b then (stands a fs ks (record p { place = past p.place })).held else (stands a fs ks (lined p)).held)) r fs ks p
+  behind_return true a r p y z = behind_char _ r p y
+  behind_return false a r p y z = behind_break _ r p z
+
+  pub skip_gap : (g : List Blank) (r : List ℕ) (p : Parts) → is_solid r ≡ true → Skipped (skip between (spell_gap g r) (stands r fs ks p).held) r fs ks p
+  unfolding skip is_break is_blank is_before_indent
+  skip_gap [] r p h = record { place = p.place; allowed = p.allowed; leading = p.leading; same = λ _. refl; is = skip_solid r p h }
+  skip_gap (space ∷ g) r p h = behind_char _ r p (skip_gap g r (record p { place = past p.place }) h)
+  skip_gap (tab ∷ g) r p h = behind_char _ r p (skip_gap g r (record p { place = past p.place }) h)
+  skip_gap (line_feed ∷ g) r p h = behind_break _ r p (skip_gap g r (lined p) h)
+  skip_gap (carriage_return ∷ g) r p h =
+      behind_return (slice_index (spell_gap g r) 0 == 10) (spell_gap g r) r p (skip_gap g r (record p { place = past p.place }) h) (skip_gap g r (lined p) h)
+
+  -- as far as the next token
+  pub next_token : (g : List Blank) (r : List ℕ) (p : Parts) → is_solid r ≡ true → Skipped (skip_to_next_token (stands (spell_gap g r) fs ks p)) r fs ks p
+  unfolding skip_to_next_token
+  next_token g r p h = skip_gap g r p h
+
+-- ---- up to the end of a line
+
+-- nothing, or a break in front
+abbrev pub starts_break : List Blank → Bool
+starts_break [] = true
+starts_break (space ∷ g) = false
+starts_break (tab ∷ g) = false
+starts_break (line_feed ∷ g) = true
+starts_break (carriage_return ∷ g) = true
+
+-- Blanks are passed over, up to a break or to r.
+record Passed (a r : List ℕ) (p : Place) (w : Whitespace) : Type 0 where
+  place : Place
+  gap : List Blank
+  found : Whitespace
+  edge : starts_break gap ≡ true
+  is : scalar_space.space_from Yes a (record { place = p; found = w }) ≡ Ok (record { rest = spell_gap gap r; place = place; value = found })
+
+solid_passed : (r : List ℕ) (p : Place) (w : Whitespace) → is_solid r ≡ true → Passed r r p w
+solid_passed [] p w h = record { place = p; gap = []; found = w; edge = refl; is = refl }
+solid_passed (c ∷ a) p w h = let z = content c h in record { place = p; gap = []; found = w; edge = refl; is = rw (z.space, z.tab, z.hash) refl }
+
+on : (a b r : List ℕ) (p q : Place) (w x : Whitespace) → scalar_space.space_from Yes a (record { place = p; found = w }) ≡ scalar_space.space_from Yes b (record { place = q; found = x })
+    → Passed b r q x → Passed a r p w
+on a b r p q w x e z = record { place = z.place; gap = z.gap; found = z.found; edge = z.edge; is = e ∙ z.is }
+
+passed : (g : List Blank) (r : List ℕ) (p : Place) (w : Whitespace) → is_solid r ≡ true → Passed (spell_gap g r) r p w
+passed [] r p w h = solid_passed r p w h
+passed (space ∷ g) r p w h = on _ _ r p (past p) w (record w { has_valid_yaml_ws = true }) refl (passed g r (past p) (record w { has_valid_yaml_ws = true }) h)
+passed (tab ∷ g) r p w h = on _ _ r p (past p) w (record w { found_tabs = true }) refl (passed g r (past p) (record w { found_tabs = true }) h)
+passed (line_feed ∷ g) r p w h = record { place = p; gap = line_feed ∷ g; found = w; edge = refl; is = refl }
+passed (carriage_return ∷ g) r p w h = record { place = p; gap = carriage_return ∷ g; found = w; edge = refl; is = refl }
+
+-- The state is behind a part of the white space, at a break or at r.
+pub record Trimmed (t : Result State Fault) (r : List ℕ) (fs : List FlowLevel) (ks : List (Option Key)) (p : Parts) : Type 0 where
+  pub place : Place
+  pub gap : List Blank
+  pub edge : starts_break gap ≡ true
+  pub is : t ≡ Ok (stands (spell_gap gap r) fs ks (record p { place = place }))
+
+pub trim : (fs : List FlowLevel) (ks : List (Option Key)) (g : List Blank) (r : List ℕ) (p : Parts) → is_solid r ≡ true → Trimmed (skip_spaces Yes (stands (spell_gap g r) fs ks p)) r fs ks p
+unfolding skip_spaces scalar_space.space
+trim fs ks g r p h =
+    let z = passed g r p.place (record { found_tabs = false; has_valid_yaml_ws = false }) h in
+    record { place = z.place; gap = z.gap; edge = z.edge; is = rw z.is refl }

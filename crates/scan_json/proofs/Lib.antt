@@ -1,0 +1,11 @@
+mod Shapes
+mod Gaps
+mod Words
+mod Strings
+mod Fetches
+mod Steps
+mod Scalars
+mod Numbers
+mod Values
+pub mod Whole
+mod Rows

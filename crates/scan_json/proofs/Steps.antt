@@ -1,0 +1,229 @@
+-- What a fetch does at each token of JSON.
+use Rattle.std.proofs.Common.{◌≡◌, ℕ, ◌+◌, ◌<◌, List, [], ◌∷◌, ◌++◌, Bool, true, false, ◌&&◌, not, ◌==◌, Option, Some, None, Result, Ok, refl, ◌∙◌, length, arith, nat_le}
+use Rattle.std.proofs.lemmas.Bool.Decides.{nat_tests}
+use Rattle.yaml_chars.specs.Place.{Place}
+use Rattle.yaml_chars.specs.Text.{is_nil}
+use Rattle.token_defs.specs.Token.{Tok, Token}
+use Rattle.yaml_tokens.specs.declared.problem.Fault.{Fault}
+use Rattle.layout_defs.specs.JsonGap.{Blank, spell_gap}
+use Rattle.scalar_model.specs.Machine.{past}
+use Rattle.scan_model.specs.declared.level.FlowLevel.{FlowLevel}
+use Rattle.scan_model.specs.declared.level.FlowLevel.TheVariants.{Mapping, Entry}
+use Rattle.scan_model.specs.State.{Key, State, ◌>>=◌, token, try_held}
+use Rattle.scan_model.specs.Class.{class_of}
+use Rattle.scan_model.specs.Keys.{stale, is_required, save_simple_key, remove_simple_key, must_be_key}
+use Rattle.scan_model.specs.Indents.{in_block, roll_one_col_indent}
+use Rattle.scan_model.specs.Flow.{increase_flow_level, begin_flow, pass_indicator, fetch_flow_collection_start, end_flow_pair, decrease_flow_level, adjacent_in_flow, end_flow, fetch_flow_collection_end, end_entry, fetch_flow_entry}
+use Rattle.scan_model.specs.Fetch.{comes_marker, fetch}
+use Rattle.scan_json.proofs.Shapes.{Parts, stands, IsBottom, is_solid}
+use Rattle.scan_json.proofs.Gaps.{trim}
+use Rattle.scan_json.proofs.Words.{and_false}
+use Rattle.scan_json.proofs.Fetches.{fetched, stepped}
+
+-- ---- the key that a token may be
+
+pub record Saved (r : List ℕ) (fs : List FlowLevel) (ks : List (Option Key)) (p : Parts) : Type 0 where
+  pub key : Option Key
+  pub loose : is_required key ≡ false
+  pub new : p.allowed ≡ true → key ≡ Some (record { required = false; number = length p.tokens; place = p.place })
+  pub is : save_simple_key ((stands r fs ks p).held) ≡ (stands r fs ks (record p { key = key })).held
+
+saved_by : (r : List ℕ) (fs : List FlowLevel) (ks : List (Option Key)) (p : Parts) (b : Bool) → p.allowed ≡ b → is_required p.key ≡ false → Saved r fs ks p
+unfolding save_simple_key must_be_key
+saved_by r fs ks p true e loose = record {
+  key = Some (record { required = false; number = length p.tokens; place = p.place });
+  loose = refl;
+  new = λ h. refl;
+  is = rw (e, and_false (not (not (is_nil fs)) && (0 == p.place.col + 1))) refl;
+}
+saved_by r fs ks p false e loose = record { key = p.key; loose = loose; new = λ h. cc; is = rw e refl }
+
+pub saved : (r : List ℕ) (fs : List FlowLevel) (ks : List (Option Key)) (p : Parts) → is_required p.key ≡ false → Saved r fs ks p
+saved r fs ks p loose = saved_by r fs ks p p.allowed refl loose
+
+-- ---- `[` and `{`
+
+no_level : (r : List ℕ) (fs : List FlowLevel) (ks : List (Option Key)) (p : Parts) → roll_one_col_indent ((stands r fs ks p).held) ≡ (stands r fs ks p).held
+unfolding roll_one_col_indent in_block
+no_level r fs ks p = rw (and_false (not (not (is_nil fs)))) refl
+
+-- behind an opening bracket a key may begin
+abbrev pub inside : Place → List Token → ℕ → Parts
+inside place tokens adjacent = record { place = place; tokens = tokens; key = None; allowed = true; leading = false; adjacent = adjacent }
+
+-- The result is behind an opening bracket.
+record OpenedAt (t : Result State Fault) (kind : FlowLevel) (tok : Tok) (r : List ℕ) (fs : List FlowLevel) (ks : List (Option Key)) (p : Parts) : Type 0 where
+  place : Place
+  outer : Option Key
+  loose : is_required outer ≡ false
+  gap : List Blank
+  is : t ≡ Ok (stands (spell_gap gap r) (kind ∷ fs) (outer ∷ ks) (inside place (p.tokens ++ token p.place tok ∷ []) p.adjacent))
+
+open_at : (kind : FlowLevel) (tok : Tok) (c : ℕ) (a : List Blank) (r : List ℕ) (fs : List FlowLevel) (ks : List (Option Key)) (p : Parts) → is_required p.key ≡ false → is_solid r ≡ true → length fs < 255
+    → OpenedAt (fetch_flow_collection_start kind tok (stands (c ∷ spell_gap a r) fs ks p)) kind tok r fs ks p
+unfolding fetch_flow_collection_start begin_flow increase_flow_level pass_indicator
+open_at kind tok c a r fs ks p loose solid deep =
+    let k = saved (c ∷ spell_gap a r) fs ks p loose in
+    let q = record p { key = k.key } in
+    let few : nat_le 255 (length fs) ≡ false = grind (arith, nat_tests) in
+    let w = trim (kind ∷ fs) (k.key ∷ ks) a r (inside (past p.place) p.tokens p.adjacent) solid in
+    record { place = w.place; outer = k.key; loose = k.loose; gap = w.gap; is = rw (k.is, no_level (c ∷ spell_gap a r) fs ks q, few, w.is) refl }
+
+-- A fetch took an opening bracket.
+pub record Opened (kind : FlowLevel) (tok : Tok) (from : State) (r : List ℕ) (fs : List FlowLevel) (ks : List (Option Key)) (ts : List Token) : Type 0 where
+  pub place : Place
+  pub at : Place
+  pub adjacent : ℕ
+  pub outer : Option Key
+  pub loose : is_required outer ≡ false
+  pub gap : List Blank
+  pub is : fetch from ≡ Ok (stands (spell_gap gap r) (kind ∷ fs) (outer ∷ ks) (inside place (ts ++ token at tok ∷ []) adjacent))
+
+-- where the first character decides for an opening bracket
+open_by : (kind : FlowLevel) (tok : Tok) (from : State) (c : ℕ) (a : List Blank) (r : List ℕ) (fs : List FlowLevel) (ks : List (Option Key)) (q : Parts) → is_required q.key ≡ false → is_solid r ≡ true → length fs < 255
+    → fetch from ≡ (fetch_flow_collection_start kind tok (stands (c ∷ spell_gap a r) fs ks q) >>= try_held stale) → Opened kind tok from r fs ks q.tokens
+open_by kind tok from c a r fs ks q loose solid deep e =
+    let z = open_at kind tok c a r fs ks q loose solid deep in
+    let u = stepped from _ (spell_gap z.gap r) (kind ∷ fs) (z.outer ∷ ks) _ tt refl e z.is in
+    let none : u.key ≡ None = u.same refl in
+    record { place = z.place; at = q.place; adjacent = q.adjacent; outer = z.outer; loose = z.loose; gap = z.gap; is = u.is ∙ rw none refl }
+
+-- the level of an object or an array, and its brackets
+abbrev pub level_of : (mapping : Bool) → FlowLevel
+level_of true = Mapping
+level_of false = Entry
+
+abbrev pub opening : (mapping : Bool) → Tok
+opening true = Tok.flow_mapping_start
+opening false = Tok.flow_sequence_start
+
+abbrev pub opening_bracket : (mapping : Bool) → ℕ
+opening_bracket true = 123
+opening_bracket false = 91
+
+abbrev pub closing : (mapping : Bool) → Tok
+closing true = Tok.flow_mapping_end
+closing false = Tok.flow_sequence_end
+
+abbrev pub closing_bracket : (mapping : Bool) → ℕ
+closing_bracket true = 125
+closing_bracket false = 93
+
+pub open_run : (mapping : Bool) (g a : List Blank) (r : List ℕ) (fs : List FlowLevel) (ks : List (Option Key)) (p : Parts) → IsBottom fs ks → is_required p.key ≡ false → is_solid r ≡ true → length fs < 255
+    → Opened (level_of mapping) (opening mapping) (stands (spell_gap g (opening_bracket mapping ∷ spell_gap a r)) fs ks p) r fs ks p.tokens
+unfolding class_of comes_marker
+open_run true g a r fs ks p bottom loose solid deep =
+    let z = fetched g 123 (spell_gap a r) fs ks p bottom loose refl refl in
+    open_by Mapping Tok.flow_mapping_start _ 123 a r fs ks _ z.loose solid deep z.is
+open_run false g a r fs ks p bottom loose solid deep =
+    let z = fetched g 91 (spell_gap a r) fs ks p bottom loose refl refl in
+    open_by Entry Tok.flow_sequence_start _ 91 a r fs ks _ z.loose solid deep z.is
+
+-- ---- `]`, `}` and `,`
+
+removed : (r : List ℕ) (fs : List FlowLevel) (ks : List (Option Key)) (p : Parts) → is_required p.key ≡ false → remove_simple_key ((stands r fs ks p).held) ≡ Ok ((stands r fs ks (record p { key = None })).held)
+unfolding remove_simple_key
+removed r fs ks p loose = rw loose refl
+
+-- no pair without braces ends here
+no_pair : (mapping : Bool) (r : List ℕ) (fs : List FlowLevel) (ks : List (Option Key)) (p : Parts) → end_flow_pair ((stands r (level_of mapping ∷ fs) ks p).held) ≡ (stands r (level_of mapping ∷ fs) ks p).held
+unfolding end_flow_pair
+no_pair true r fs ks p = refl
+no_pair false r fs ks p = refl
+
+-- where a `:` may stand right behind a flow collection
+abbrev pub adjacent_of : List FlowLevel → Parts → ℕ
+adjacent_of [] p = p.adjacent
+adjacent_of (f ∷ fs) p = p.place.index
+
+adjacent_is : (r : List ℕ) (fs : List FlowLevel) (ks : List (Option Key)) (p : Parts) → adjacent_in_flow ((stands r fs ks p).held) ≡ (stands r fs ks (record p { adjacent = adjacent_of fs p })).held
+unfolding adjacent_in_flow
+adjacent_is r [] ks p = refl
+adjacent_is r (f ∷ fs) ks p = refl
+
+-- behind a closing bracket
+abbrev pub outside : Place → List Token → Option Key → ℕ → Parts
+outside place tokens key adjacent = record { place = place; tokens = tokens; key = key; allowed = false; leading = false; adjacent = adjacent }
+
+record ClosedAt (t : Result State Fault) (tok : Tok) (r : List ℕ) (fs : List FlowLevel) (outer : Option Key) (ks : List (Option Key)) (p : Parts) : Type 0 where
+  place : Place
+  adjacent : ℕ
+  gap : List Blank
+  is : t ≡ Ok (stands (spell_gap gap r) fs ks (outside place (p.tokens ++ token p.place tok ∷ []) outer adjacent))
+
+close_at : (mapping : Bool) (tok : Tok) (c : ℕ) (b : List Blank) (r : List ℕ) (fs : List FlowLevel) (outer : Option Key) (ks : List (Option Key)) (p : Parts) → is_required p.key ≡ false → is_solid r ≡ true
+    → ClosedAt (fetch_flow_collection_end tok (stands (c ∷ spell_gap b r) (level_of mapping ∷ fs) (outer ∷ ks) p)) tok r fs outer ks p
+unfolding fetch_flow_collection_end end_flow decrease_flow_level pass_indicator
+close_at mapping tok c b r fs outer ks p loose solid =
+    let q = record p { key = None } in
+    let u = outside (past p.place) p.tokens outer p.adjacent in
+    let w = trim fs ks b r u solid in
+    let v = record u { place = w.place } in
+    record {
+      place = w.place;
+      adjacent = adjacent_of fs v;
+      gap = w.gap;
+      is = rw (removed (c ∷ spell_gap b r) (level_of mapping ∷ fs) (outer ∷ ks) p loose, no_pair mapping (c ∷ spell_gap b r) fs (outer ∷ ks) q, w.is, adjacent_is (spell_gap w.gap r) fs ks v) refl;
+    }
+
+-- A fetch took a closing bracket.
+pub record Closed (tok : Tok) (from : State) (r : List ℕ) (fs : List FlowLevel) (ks : List (Option Key)) (ts : List Token) : Type 0 where
+  pub place : Place
+  pub at : Place
+  pub adjacent : ℕ
+  pub key : Option Key
+  pub loose : is_required key ≡ false
+  pub gap : List Blank
+  pub is : fetch from ≡ Ok (stands (spell_gap gap r) fs ks (outside place (ts ++ token at tok ∷ []) key adjacent))
+
+close_by : (mapping : Bool) (tok : Tok) (from : State) (c : ℕ) (b : List Blank) (r : List ℕ) (fs : List FlowLevel) (outer : Option Key) (ks : List (Option Key)) (q : Parts) → is_required q.key ≡ false → is_required outer ≡ false → is_solid r ≡ true → IsBottom fs ks
+    → fetch from ≡ (fetch_flow_collection_end tok (stands (c ∷ spell_gap b r) (level_of mapping ∷ fs) (outer ∷ ks) q) >>= try_held stale) → Closed tok from r fs ks q.tokens
+close_by mapping tok from c b r fs outer ks q loose loose_outer solid bottom e =
+    let z = close_at mapping tok c b r fs outer ks q loose solid in
+    let u = stepped from _ (spell_gap z.gap r) fs ks _ bottom loose_outer e z.is in
+    record { place = z.place; at = q.place; adjacent = z.adjacent; key = u.key; loose = u.loose; gap = z.gap; is = u.is }
+
+pub close_run : (mapping : Bool) (g b : List Blank) (r : List ℕ) (fs : List FlowLevel) (outer : Option Key) (ks : List (Option Key)) (p : Parts) → is_required p.key ≡ false → is_required outer ≡ false → is_solid r ≡ true → IsBottom fs ks
+    → Closed (closing mapping) (stands (spell_gap g (closing_bracket mapping ∷ spell_gap b r)) (level_of mapping ∷ fs) (outer ∷ ks) p) r fs ks p.tokens
+unfolding class_of comes_marker
+close_run true g b r fs outer ks p loose loose_outer solid bottom =
+    let z = fetched g 125 (spell_gap b r) (Mapping ∷ fs) (outer ∷ ks) p tt loose refl refl in
+    close_by true Tok.flow_mapping_end _ 125 b r fs outer ks _ z.loose loose_outer solid bottom z.is
+close_run false g b r fs outer ks p loose loose_outer solid bottom =
+    let z = fetched g 93 (spell_gap b r) (Entry ∷ fs) (outer ∷ ks) p tt loose refl refl in
+    close_by false Tok.flow_sequence_end _ 93 b r fs outer ks _ z.loose loose_outer solid bottom z.is
+
+record EnteredAt (t : Result State Fault) (r : List ℕ) (fs : List FlowLevel) (ks : List (Option Key)) (p : Parts) : Type 0 where
+  place : Place
+  gap : List Blank
+  is : t ≡ Ok (stands (spell_gap gap r) fs ks (inside place (p.tokens ++ token p.place Tok.flow_entry ∷ []) p.adjacent))
+
+entry_at : (mapping : Bool) (a : List Blank) (r : List ℕ) (fs : List FlowLevel) (ks : List (Option Key)) (p : Parts) → is_required p.key ≡ false → is_solid r ≡ true
+    → EnteredAt (fetch_flow_entry (stands (44 ∷ spell_gap a r) (level_of mapping ∷ fs) ks p)) r (level_of mapping ∷ fs) ks p
+unfolding fetch_flow_entry end_entry pass_indicator
+entry_at mapping a r fs ks p loose solid =
+    let q = record p { key = None; allowed = true } in
+    let w = trim (level_of mapping ∷ fs) ks a r (inside (past p.place) p.tokens p.adjacent) solid in
+    record {
+      place = w.place;
+      gap = w.gap;
+      is = rw (removed (44 ∷ spell_gap a r) (level_of mapping ∷ fs) ks p loose, no_pair mapping (44 ∷ spell_gap a r) fs ks q, w.is) refl;
+    }
+
+-- A fetch took a comma.
+pub record Entered (from : State) (r : List ℕ) (fs : List FlowLevel) (ks : List (Option Key)) (ts : List Token) : Type 0 where
+  pub place : Place
+  pub at : Place
+  pub adjacent : ℕ
+  pub gap : List Blank
+  pub is : fetch from ≡ Ok (stands (spell_gap gap r) fs ks (inside place (ts ++ token at Tok.flow_entry ∷ []) adjacent))
+
+pub entry_run : (mapping : Bool) (g a : List Blank) (r : List ℕ) (fs : List FlowLevel) (ks : List (Option Key)) (p : Parts) → is_required p.key ≡ false → is_solid r ≡ true
+    → Entered (stands (spell_gap g (44 ∷ spell_gap a r)) (level_of mapping ∷ fs) ks p) r (level_of mapping ∷ fs) ks p.tokens
+unfolding class_of comes_marker
+entry_run mapping g a r fs ks p loose solid =
+    let y = fetched g 44 (spell_gap a r) (level_of mapping ∷ fs) ks p tt loose refl refl in
+    let z = entry_at mapping a r fs ks (record p { place = y.place; allowed = y.allowed; leading = y.leading; key = y.key }) y.loose solid in
+    let u = stepped _ _ (spell_gap z.gap r) (level_of mapping ∷ fs) ks _ tt refl y.is z.is in
+    let none : u.key ≡ None = u.same refl in
+    record { place = z.place; at = y.place; adjacent = p.adjacent; gap = z.gap; is = u.is ∙ rw none refl }

@@ -1,0 +1,93 @@
+-- The tokens of a whole JSON text.
+use Rattle.std.proofs.Common.{ap, ◌≡◌, ℕ, ◌+◌, ◌≤◌, List, [], ◌∷◌, ◌++◌, true, false, None, Ok, refl, sym, ◌∙◌, arith, append-nil}
+use Rattle.yaml_chars.specs.Place.{Place}
+use Rattle.token_defs.specs.Token.{Tok, Token}
+use Rattle.layout_defs.specs.JsonGap.{Blank, spell_gap}
+use Rattle.layout_defs.specs.Json.{levels, spell, spell_text}
+use Rattle.laid_tokens.specs.JsonTokens.{json_tokens}
+use Rattle.scan_model.specs.State.{State, token}
+use Rattle.scan_model.specs.Keys.{stale, drop_stale, is_required}
+use Rattle.scan_model.specs.Indents.{unroll_indent, unrolled}
+use Rattle.scan_model.specs.Document.{next_line, fetch_stream_start, fetch_stream_end}
+use Rattle.scan_model.specs.Fetch.{fetch, fetch_next, fetch_here}
+use Rattle.scan_model.specs.Run.{here, there, start}
+use Rattle.scan_json.specs.JsonScan.{toks, HasToks}
+use Rattle.scan_json.specs.Laws.{JsonTextsHaveTheirTokens, JsonTextsHaveNoOtherTokens, JsonTextsAreNotRefused}
+use Rattle.scan_model.proofs.Runs.{reaches_then, one_list, not_both}
+use Rattle.scan_json.proofs.Shapes.{Parts, stands, at_end, After}
+use Rattle.scan_json.proofs.Gaps.{next_token}
+use Rattle.scan_json.proofs.Fetches.{staled}
+use Rattle.scan_json.proofs.Values.{push_tells, value_runs}
+
+-- behind the stream's start
+abbrev origin : Place
+origin = record { index = 0; line = 1; col = 0 }
+
+abbrev begun : Parts
+begun = record { place = origin; tokens = token origin Tok.stream_start ∷ []; key = None; allowed = true; leading = true; adjacent = 0 }
+
+begins : (a : List ℕ) → fetch (start a) ≡ Ok (stands a [] [] begun)
+unfolding fetch fetch_stream_start
+begins a = refl
+
+-- behind the stream's end
+abbrev finished : Parts → State
+finished p = record {
+  rest = [];
+  held = record {
+    place = next_line p.place;
+    tokens = p.tokens ++ token (next_line p.place) Tok.stream_end ∷ [];
+    keys = None ∷ [];
+    indents = [];
+    indent = 0;
+    flow = [];
+    key_allowed = false;
+    leading = p.leading;
+    adjacent_value_at = p.adjacent;
+    started = true;
+    ended = true;
+  };
+}
+
+end_here : (p : Parts) (n : ℕ) → is_required p.key ≡ false → fetch_here (record (stands [] [] [] p) { held = unroll_indent n ((stands [] [] [] p).held) }) ≡ Ok (finished p)
+unfolding fetch_here fetch_stream_end unroll_indent unrolled
+end_here p n loose = rw loose refl
+
+-- A fetch found the end.
+record Finished (from : State) (ts : List Token) : Type 0 where
+  parts : Parts
+  tokens : parts.tokens ≡ ts
+  is : fetch from ≡ Ok (finished parts)
+
+finishes : (g : List Blank) (p : Parts) → is_required p.key ≡ false → Finished (stands (spell_gap g []) [] [] p) p.tokens
+unfolding fetch fetch_next stale drop_stale
+finishes g p loose =
+    let y = next_token [] [] g [] p refl in
+    let q = record p { place = y.place; allowed = y.allowed; leading = y.leading } in
+    let z = staled [] [] [] q refl loose in
+    let r = record q { key = z.key } in
+    record { parts = r; tokens = refl; is = rw (y.is, z.is, end_here r (r.place.col + 1) z.loose) refl }
+
+-- a text whose tokens up to its end were given
+all_tokens : (a : List ℕ) (want : List Tok → List Tok) → After (start a) [] [] [] want → HasToks a (want (Tok.stream_end ∷ []))
+all_tokens a want u =
+    let z = finishes u.gap u.parts u.loose in
+    let told = push_tells z.parts.tokens (next_line z.parts.place) Tok.stream_end want (rw (← z.tokens) at u.told) in (
+      (finished z.parts).held.tokens,
+      record { end = finished z.parts; run = reaches_then u.run (there refl z.is here); ended = refl; tokens = refl },
+      sym (append-nil (toks (finished z.parts).held.tokens)) ∙ told [],
+    )
+
+pub json_text_has_its_tokens : JsonTextsHaveTheirTokens
+json_text_has_its_tokens w is =
+    let text = spell_text w in
+    let u : After (start text) [] [] (spell w.value (spell_gap w.after [])) (λ o. Tok.stream_start ∷ o) =
+    record { parts = begun; gap = w.before; loose = refl; told = λ o. refl; run = there refl (begins text) here } in
+    let deep : 0 + levels w.value ≤ 255 = omega (arith, is.depth) in
+    all_tokens text (λ o. Tok.stream_start ∷ json_tokens w.value o) (value_runs w.value is.value (start text) w.after [] [] [] (λ o. Tok.stream_start ∷ o) refl at_end deep u)
+
+pub json_text_has_no_other_tokens : JsonTextsHaveNoOtherTokens
+json_text_has_no_other_tokens w is ts z = let y = json_text_has_its_tokens w is in ap toks (one_list (spell_text w) y.0 ts y.1 z) ∙ y.2
+
+pub json_text_is_not_refused : JsonTextsAreNotRefused
+json_text_is_not_refused w is f refusal = let y = json_text_has_its_tokens w is in not_both (spell_text w) y.0 f y.1 refusal

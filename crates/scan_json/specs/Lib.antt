@@ -1,0 +1,2 @@
+pub mod JsonScan
+pub mod Laws

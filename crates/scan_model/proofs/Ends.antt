@@ -1,0 +1,631 @@
+-- The stream's end is the last token of all.
+use Rattle.std.proofs.Common.{◌≡◌, ℕ, zero, suc, slice_index, ◌+◌, ◌-◌, ◌≤◌, List, [], ◌∷◌, ◌++◌, Bool, true, false, not, ◌||◌, ◌==◌, nat_lt, if◌then◌else◌, Option, Some, None, Result, Ok, Err, length, map, take, drop, refl, ap, sym, ◌∙◌, subst, arith, append_assoc, length-append}
+use Rattle.std.specs.List.{insert}
+use Rattle.std.proofs.lemmas.List.{take-append-drop, length-take-le, take_at}
+use Rattle.std.proofs.lemmas.List.Edits.{insert-append_right}
+use Rattle.yaml_chars.specs.Place.{Place}
+use Rattle.token_defs.specs.Token.{Tok, Token}
+use Rattle.yaml_tokens.specs.declared.problem.Fault.{Fault}
+use Rattle.yaml_tokens.specs.declared.problem.Fault.TheVariants.{At}
+use Rattle.yaml_tokens.specs.declared.problem.Problem.TheVariants as problem
+use Rattle.scalar_model.specs.Machine.{Read, is_cr_lf}
+use Rattle.scalar_model.specs.Space.{space, blanks}
+use Rattle.scan_model.specs.declared.level.Indent.{Indent}
+use Rattle.scan_model.specs.declared.level.FlowLevel.{FlowLevel}
+use Rattle.scan_model.specs.declared.level.FlowLevel.TheVariants.{Mapping, Entry, Keyed, Pair}
+use Rattle.scan_model.specs.State.{Key, Held, State, ◌>>=◌, peek, in_flow, token, push, put, pop, with_top, moved, on_held, with_held, go_on, lexed, skip_indicator}
+use Rattle.scan_model.specs.Keys.{is_far, still, drop_stale, with_keys, stale, cleared, top_key, save_simple_key, remove_simple_key}
+use Rattle.yaml_chars.specs.Class.{is_break, is_flow, is_blank_or_breakz}
+use Rattle.yaml_chars.specs.Text.{is_nil}
+use Rattle.scalar_model.specs.declared.context.SkipTabs.{SkipTabs}
+use Rattle.scalar_model.specs.declared.context.SkipTabs.TheVariants.{Yes, No}
+use Rattle.scalar_model.specs.declared.context.Whitespace.{Whitespace}
+use Rattle.scan_model.specs.Space.{Gap, between, comment, tab_line, at_break, in_line, gap_by, skip, skip_to_next_token, skip_spaces, white_end, white_by, white, skip_yaml_whitespace}
+use Rattle.scan_model.specs.Flow.{increase_flow_level, allow_key, deepened_flow, begin_flow, pass_indicator, end_pair, end_flow_pair, decrease_flow_level, adjacent_in_flow, ended_flow, end_flow, next_entry, end_entry, fetch_flow_collection_start, fetch_flow_collection_end, fetch_flow_entry}
+use Rattle.scalar_model.specs.Anchor.{anchor_name}
+use Rattle.scalar_model.specs.Block.{block}
+use Rattle.scalar_model.specs.Directive.{Kind, version, unknown, name, number, with_minor, behind_major, version_value, with_prefix, prefix_behind, tag_value, value, line_end, with_end, behind_value, behind_name, directive}
+use Rattle.scalar_model.specs.Directive as kind
+use Rattle.scalar_model.specs.Machine.{after, past}
+use Rattle.scalar_model.specs.Plain.{plain}
+use Rattle.scalar_model.specs.Quoted.{quoted}
+use Rattle.scalar_model.specs.Tag.{tag, handle, prefix}
+use Rattle.scan_model.specs.declared.class.Class.{Class}
+use Rattle.scan_model.specs.declared.class.Class.TheVariants as class
+use Rattle.scan_model.specs.Class.{class_of}
+use Rattle.scan_model.specs.Block.{last_property, at_margin, check_block_entry, check_dash, roll_entry, fetch_block_entry, begin_key, check_key_space, fetch_key, check_behind_tab, check_value_space, opens_pair, paired, begin_pair, insert_key, begin_keyless_pair, begin_keyless_mapping, begin_keyless_value, value_of, fetch_value}
+use Rattle.scan_model.specs.Document.{begin_stream, fetch_stream_start, next_line, end_stream, fetch_stream_end, closed_key, begin_line, fetch_directive, fetch_document_marker, check_document_end, fetch_document_end, anchor_token, node_start, fetch_anchor, fetch_tag, fetch_block_scalar, context, check_behind_quoted, unled, fetch_flow_scalar, fetch_plain_scalar}
+use Rattle.scan_model.specs.Fetch.{token_by, fetch_token, fetch_indented, fetch_first_column, fetch_content, fetch_here, fetch_next, fetch}
+use Rattle.scan_model.specs.Run.{Reaches, here, there, start}
+use Rattle.scan_model.proofs.Given.{Holds, went, refused, held_of}
+use Rattle.scan_model.specs.Indents.{placed, drop_open, drop_open_level, deepen, roll_indent, in_block, roll_one_col_indent, Levels, end_level, unrolled, unroll_indent, without_open, unroll_non_block_indents}
+
+-- a token that is not the stream's end
+abbrev pub IsPlain : Tok → Type 0
+IsPlain Tok.stream_end = ⊥
+IsPlain _ = Unit {0}
+
+abbrev pub ArePlain : List Token → Type 0
+ArePlain [] = Unit {0}
+ArePlain (t ∷ ts) = IsPlain t.tok × ArePlain ts
+
+-- no token is the stream's end, and that was not met
+pub record Stood (ts : List Token) (over : Bool) : Type 0 where
+  pub plain : ArePlain ts
+  pub going : over ≡ false
+
+pub record Stands (h : Held) : Type 0 where
+  pub stood : Stood h.tokens h.ended
+
+abbrev pub StandsAt : State → Type 0
+StandsAt t = Stands t.held
+
+-- the stream's end is the last token, and was met
+pub record IsOver (h : Held) : Type 0 where
+  pub before : List Token
+  pub last : Token
+  pub tokens : h.tokens ≡ before ++ last ∷ []
+  pub plain : ArePlain before
+  pub ended : h.ended ≡ true
+
+pub data Fares (h : Held) : Type 0 where
+  goes : Stands h → Fares h
+  over : IsOver h → Fares h
+
+abbrev pub FaresAt : State → Type 0
+FaresAt t = Fares t.held
+
+-- ---- rules
+
+chained : {A B : Type 0} {P : A → Type 0} {Q : B → Type 0} {r : Result A Fault} {k : A → Result B Fault} → Holds P r → ((x : A) → P x → Holds Q (k x)) → Holds Q (r >>= k)
+chained (went p) f = f _ p
+chained refused f = refused
+
+tried : (t : State) (r : Result Held Fault) → Holds Stands r → Holds StandsAt (with_held t r)
+tried t r (went p) = went p
+tried t r refused = refused
+
+tried_over : (t : State) (r : Result Held Fault) → Holds IsOver r → Holds (λ u. IsOver u.held) (with_held t r)
+tried_over t r (went p) = went p
+tried_over t r refused = refused
+
+tried_fares : (t : State) (r : Result Held Fault) → Holds Fares r → Holds FaresAt (with_held t r)
+tried_fares t r (went p) = went p
+tried_fares t r refused = refused
+
+it_goes : {r : Result State Fault} → Holds StandsAt r → Holds FaresAt r
+it_goes (went p) = went (goes p)
+it_goes refused = refused
+
+it_is_over : {r : Result State Fault} → Holds (λ u. IsOver u.held) r → Holds FaresAt r
+it_is_over (went p) = went (over p)
+it_is_over refused = refused
+
+-- of what was read something is known
+read_as : {A : Type 0} {Q : A → Type 0} (h : Held) (r : Result (Read A) Fault) (go : A → State → Result State Fault) → Stands h → Holds (λ x. Q x.value) r → ((x : A) (u : State) → Q x → Stands u.held → Holds StandsAt (go x u)) → Holds StandsAt (lexed r h go)
+read_as h (Ok r) go s (went q) f = f r.value (go_on r h) q (record { stood = s.stood })
+read_as h (Err e) go s refused f = refused
+
+went_on : {A B : Type 0} {P : Read B → Type 0} (r : Result (Read A) Fault) (k : Read A → Result (Read B) Fault) → ((x : Read A) → Holds P (k x)) → Holds P (after r k)
+went_on (Ok x) k f = f x
+went_on (Err e) k f = refused
+
+read : {A : Type 0} (h : Held) (r : Result (Read A) Fault) (go : A → State → Result State Fault) → Stands h → ((x : A) (u : State) → Stands u.held → Holds StandsAt (go x u)) → Holds StandsAt (lexed r h go)
+read h (Ok r) go s f = f r.value (go_on r h) (record { stood = s.stood })
+read h (Err e) go s f = refused
+
+checked : {A : Type 0} {P : A → Type 0} {r : Result A Fault} (b : Bool) (f : Fault) → Holds P r → Holds P (if b then Err f else r)
+checked true f h = refused
+checked false f h = h
+
+either : {A : Type 0} {P : A → Type 0} {r q : Result A Fault} (b : Bool) → Holds P r → Holds P q → Holds P (if b then r else q)
+either true h g = h
+either false h g = g
+
+choice : {h u : Held} (b : Bool) → Stands h → Stands u → Stands (if b then h else u)
+choice true s t = s
+choice false s t = t
+
+-- ---- tokens
+
+plain_more : (ts : List Token) (t : Token) → IsPlain t.tok → ArePlain ts → ArePlain (ts ++ t ∷ [])
+plain_more [] t p h = (p, tt)
+plain_more (u ∷ ts) t p h = (h.0, plain_more ts t p h.1)
+
+plain_inside : (ts : List Token) (n : ℕ) (t : Token) → IsPlain t.tok → ArePlain ts → ArePlain (insert ts n t)
+plain_inside ts zero t p h = (p, h)
+plain_inside [] (suc n) t p h = (p, tt)
+plain_inside (u ∷ ts) (suc n) t p h = (h.0, plain_inside ts n t p h.1)
+
+pushed : (ts : List Token) (o : Bool) (t : Token) → IsPlain t.tok → Stood ts o → Stood (ts ++ t ∷ []) o
+pushed ts o t p s = record { plain = plain_more ts t p s.plain; going = s.going }
+
+inserted : (ts : List Token) (o : Bool) (n : ℕ) (t : Token) → IsPlain t.tok → Stood ts o → Stood (insert ts n t) o
+inserted ts o n t p s = record { plain = plain_inside ts n t p s.plain; going = s.going }
+
+-- ---- keys
+
+kept_keys : (h : Held) (r : Result (List (Option Key)) Fault) → Stands h → Holds Stands (with_keys h r)
+kept_keys h (Ok ks) s = went (record { stood = s.stood })
+kept_keys h (Err f) s = refused
+
+stale_dropped : (h : Held) → Stands h → Holds Stands (stale h)
+unfolding stale
+stale_dropped h s = either (in_flow h) (went s) (kept_keys h (drop_stale h.place h.keys) s)
+
+saved : (h : Held) → Stands h → Stands (save_simple_key h)
+unfolding save_simple_key
+saved h s = choice h.key_allowed (record { stood = s.stood }) s
+
+removed : (h : Held) → Stands h → Holds Stands (remove_simple_key h)
+unfolding remove_simple_key
+removed h s = checked _ _ (went (record { stood = s.stood }))
+
+-- ---- levels of indentation
+
+drop_open_stands : (h : Held) (ds : List Indent) → Stands h → Stands (drop_open h ds)
+drop_open_stands h [] s = s
+drop_open_stands h (d ∷ ds) s = choice d.needs_block_end s (record { stood = s.stood })
+
+drop_level : (col : ℕ) (h : Held) → Stands h → Stands (drop_open_level col h)
+unfolding drop_open_level
+drop_level col h s = choice _ (drop_open_stands h h.indents s) s
+
+placed_stands : (ts : List Token) (o : Bool) (n : Option ℕ) (t : Token) → IsPlain t.tok → Stood ts o → Stood (placed n t ts) o
+placed_stands ts o None t p s = pushed ts o t p s
+placed_stands ts o (Some n) t p s = inserted ts o n t p s
+
+deepened : (col : ℕ) (n : Option ℕ) (t : Token) (h : Held) → IsPlain t.tok → Stands h → Stands (deepen col n t h)
+unfolding deepen
+deepened col n t h p s = choice (nat_lt h.indent (col + 1)) (record { stood = placed_stands h.tokens h.ended n t p s.stood }) s
+
+rolled : (col : ℕ) (n : Option ℕ) (t : Tok) (p : Place) (h : Held) → IsPlain t → Stands h → Stands (roll_indent col n t p h)
+unfolding roll_indent
+rolled col n t p h q s = choice (in_flow h) s (deepened col n (token p t) (drop_open_level col h) q (drop_level col h s))
+
+rolled_one : (h : Held) → Stands h → Stands (roll_one_col_indent h)
+unfolding roll_one_col_indent
+rolled_one h s = choice (in_block h) (record { stood = s.stood }) s
+
+ended : (ends : Bool) (p : Place) (ts : List Token) (o : Bool) → Stood ts o → Stood (end_level ends p ts) o
+ended true p ts o s = pushed ts o _ tt s
+ended false p ts o s = s
+
+pub record StoodLevels (o : Bool) (l : Levels) : Type 0 where
+  pub stood : Stood l.tokens o
+
+levels_choice : {o : Bool} {l m : Levels} (b : Bool) → StoodLevels o l → StoodLevels o m → StoodLevels o (if b then l else m)
+levels_choice true s t = s
+levels_choice false s t = t
+
+unrolled_stands : (o : Bool) (limit : ℕ) (p : Place) (i : ℕ) (ds : List Indent) (ts : List Token) → Stood ts o → StoodLevels o (unrolled limit p i ds ts)
+unfolding unrolled
+unrolled_stands o limit p i [] ts s = record { stood = s }
+unrolled_stands o limit p i (d ∷ ds) ts s = levels_choice (nat_lt limit i) (unrolled_stands o limit p d.indent ds _ (ended d.needs_block_end p ts o s)) (record { stood = s })
+
+unrolled_all : (limit : ℕ) (h : Held) → Stands h → Stands (unroll_indent limit h)
+unfolding unroll_indent
+unrolled_all limit h s = choice (in_flow h) s (record { stood = (unrolled_stands h.ended limit h.place h.indent h.indents h.tokens s.stood).stood })
+
+without_stands : (o : Bool) (i : ℕ) (ds : List Indent) (ts : List Token) → Stood ts o → StoodLevels o (without_open i ds ts)
+unfolding without_open
+without_stands o i [] ts s = record { stood = s }
+without_stands o i (d ∷ ds) ts s = levels_choice d.needs_block_end (record { stood = s }) (without_stands o d.indent ds ts s)
+
+unrolled_open : (h : Held) → Stands h → Stands (unroll_non_block_indents h)
+unfolding unroll_non_block_indents
+unrolled_open h s = record { stood = (without_stands h.ended h.indent h.indents h.tokens s.stood).stood }
+
+-- ---- what stands between tokens
+
+-- P holds of what a walk goes on with
+Goes : {N : Type 0} → (N → Held → Result State Fault) → Type 0
+Goes {N = N} go = (n : N) (u : Held) → Stands u → Holds StandsAt (go n u)
+
+line_passed : (c : ℕ) (a : List ℕ) (h : Held) → Stands h → Stands (at_break c a h)
+line_passed c a h s = choice (is_cr_lf c a) (record { stood = s.stood }) (record { stood = s.stood })
+
+in_line_holds : (m : Gap) (c : ℕ) (a : List ℕ) (h : Held) (go : Gap → Held → Result State Fault) → Goes go → Stands h → Holds StandsAt (in_line m c a h go)
+unfolding Goes
+in_line_holds between c a h go f s =
+    either _ (f tab_line _ (record { stood = s.stood })) (either _ (f between _ (record { stood = s.stood })) (either _ (f comment _ (record { stood = s.stood })) (went s)))
+in_line_holds comment c a h go f s = f comment _ (record { stood = s.stood })
+in_line_holds tab_line c a h go f s = either _ (f tab_line _ (record { stood = s.stood })) (either _ (f comment _ (record { stood = s.stood })) refused)
+
+gap_holds : (m : Gap) (c : ℕ) (a : List ℕ) (h : Held) (go : Gap → Held → Result State Fault) → Goes go → Stands h → Holds StandsAt (gap_by m c a h go)
+unfolding Goes
+gap_holds m c a h go f s = either _ (f between _ (line_passed c a h s)) (in_line_holds m c a h go f s)
+
+skipped : (m : Gap) (a : List ℕ) (h : Held) → Stands h → Holds StandsAt (skip m a h)
+unfolding skip Goes
+skipped m [] h s = went s
+skipped m (c ∷ a) h s = gap_holds m c a h (λ n u. skip n a u) (λ n u k. skipped n a u k) s
+
+to_token : (t : State) → Stands t.held → Holds StandsAt (skip_to_next_token t)
+unfolding skip_to_next_token
+to_token t s = skipped between t.rest t.held s
+
+spaces_skipped : (tabs : SkipTabs) (t : State) → Stands t.held → Holds StandsAt (skip_spaces tabs t)
+unfolding skip_spaces
+spaces_skipped tabs t s = read t.held (space tabs t.rest t.held.place) _ s (λ x u k. went k)
+
+white_ended : (found : Bool) (a : List ℕ) (h : Held) → Stands h → Holds StandsAt (white_end found a h)
+white_ended true a h s = went s
+white_ended false a h s = refused
+
+white_goes : (i f : Bool) (c : ℕ) (a : List ℕ) (h : Held) (go : Bool → Bool → Held → Result State Fault) → ((i f : Bool) (u : Held) → Stands u → Holds StandsAt (go i f u)) → Stands h → Holds StandsAt (white_by i f c a h go)
+white_goes i f c a h go k s =
+    either (is_break c) (k false true (at_break c a h) (line_passed c a h s)) (either i (k true f (moved h) (record { stood = s.stood }))
+    (either (c == 32) (k false true (moved h) (record { stood = s.stood })) (either (c == 35) (k true f (moved h) (record { stood = s.stood })) (white_ended f (c ∷ a) h s))))
+
+white_skipped : (i f : Bool) (a : List ℕ) (h : Held) → Stands h → Holds StandsAt (white i f a h)
+unfolding white
+white_skipped i f [] h s = white_ended f [] h s
+white_skipped i f (c ∷ a) h s = white_goes i f c a h (λ i f u. white i f a u) (λ i f u k. white_skipped i f a u k) s
+
+white_passed : (t : State) → Stands t.held → Holds StandsAt (skip_yaml_whitespace t)
+unfolding skip_yaml_whitespace
+white_passed t s = white_skipped false false t.rest t.held s
+
+-- ---- flow collections
+
+flow_deeper : (kind : FlowLevel) (h : Held) → Stands h → Holds Stands (increase_flow_level kind h)
+unfolding increase_flow_level
+flow_deeper kind h s = checked _ _ (went (record { stood = s.stood }))
+
+deeper_allowed : (r : Result Held Fault) → Holds Stands r → Holds Stands (deepened_flow r)
+deeper_allowed r (went s) = went (record { stood = s.stood })
+deeper_allowed r refused = refused
+
+flow_begun : (kind : FlowLevel) (h : Held) → Stands h → Holds Stands (begin_flow kind h)
+unfolding begin_flow
+flow_begun kind h s = deeper_allowed _ (flow_deeper kind _ (rolled_one _ (saved h s)))
+
+passed : (t : State) → Stands t.held → Holds StandsAt (pass_indicator t)
+unfolding pass_indicator
+passed t s = spaces_skipped Yes (skip_indicator t) (record { stood = s.stood })
+
+-- a token more
+more : (p : Place) (t : Tok) (h : Held) → IsPlain t → Stands h → Stands (push p t h)
+more p t h q s = record { stood = pushed _ _ _ q s.stood }
+
+flow_started : (kind : FlowLevel) (tok : Tok) (t : State) → IsPlain tok → Stands t.held → Holds StandsAt (fetch_flow_collection_start kind tok t)
+unfolding fetch_flow_collection_start
+flow_started kind tok t q s = chained (tried t _ (flow_begun kind t.held s)) (λ u k. chained (passed u k) (λ v l. went (more _ _ _ q l)))
+
+pair_ended : (fs : List FlowLevel) (h : Held) → Stands h → Stands (end_pair fs h)
+pair_ended [] h s = s
+pair_ended (Pair ∷ fs) h s = record { stood = pushed _ _ _ tt s.stood }
+pair_ended (Keyed ∷ fs) h s = record { stood = s.stood }
+pair_ended (Mapping ∷ fs) h s = s
+pair_ended (Entry ∷ fs) h s = s
+
+entry_over : (h : Held) → Stands h → Stands (end_flow_pair h)
+unfolding end_flow_pair
+entry_over h s = pair_ended h.flow h s
+
+flow_higher : (h : Held) → Stands h → Stands (decrease_flow_level h)
+unfolding decrease_flow_level
+flow_higher h s = choice (is_nil h.flow) s (record { stood = s.stood })
+
+adjacent : (h : Held) → Stands h → Stands (adjacent_in_flow h)
+unfolding adjacent_in_flow
+adjacent h s = choice (in_flow h) (record { stood = s.stood }) s
+
+flow_closed : (r : Result Held Fault) → Holds Stands r → Holds Stands (ended_flow r)
+flow_closed r (went s) = went (let k = flow_higher _ (entry_over _ s) in record { stood = k.stood })
+flow_closed r refused = refused
+
+flow_over : (h : Held) → Stands h → Holds Stands (end_flow h)
+unfolding end_flow
+flow_over h s = flow_closed _ (removed h s)
+
+flow_ended : (tok : Tok) (t : State) → IsPlain tok → Stands t.held → Holds StandsAt (fetch_flow_collection_end tok t)
+unfolding fetch_flow_collection_end
+flow_ended tok t q s = chained (tried t _ (flow_over t.held s)) (λ u k. chained (passed u k) (λ v l. went (more _ _ _ q (adjacent v.held l))))
+
+next_begun : (r : Result Held Fault) → Holds Stands r → Holds Stands (next_entry r)
+next_begun r (went s) = went (entry_over _ (record { stood = s.stood }))
+next_begun r refused = refused
+
+entry_ended : (h : Held) → Stands h → Holds Stands (end_entry h)
+unfolding end_entry
+entry_ended h s = next_begun _ (removed h s)
+
+entry_passed : (t : State) → Stands t.held → Holds StandsAt (fetch_flow_entry t)
+unfolding fetch_flow_entry
+entry_passed t s = chained (tried t _ (entry_ended t.held s)) (λ u k. chained (passed u k) (λ v l. went (more _ _ _ tt l)))
+
+-- ---- block collections
+
+margin_checked : (q : Option Place) (p : Place) (h : Held) → Stands h → Holds Stands (at_margin q p h)
+margin_checked None p h s = went s
+margin_checked (Some q) p h s = checked _ _ (went s)
+
+entry_checked : (h : Held) → Stands h → Holds Stands (check_block_entry h)
+unfolding check_block_entry
+entry_checked h s = checked (in_flow h) (At problem.BlockEntryInFlow h.place) (checked (not h.key_allowed) (At problem.BlockEntryNotAllowed h.place) (margin_checked (last_property h.tokens) h.place h s))
+
+dash_checked : (w : Whitespace) (t : State) → Stands t.held → Holds StandsAt (check_dash w t)
+unfolding check_dash
+dash_checked w t s = checked _ _ (went s)
+
+state_choice : (b : Bool) (t u : State) → Stands t.held → Stands u.held → StandsAt (if b then t else u)
+state_choice true t u s k = s
+state_choice false t u s k = k
+
+entry_rolled : (t : State) → Stands t.held → StandsAt (roll_entry t)
+unfolding roll_entry
+entry_rolled t s = state_choice (is_break (peek t.rest) || is_flow (peek t.rest)) (on_held roll_one_col_indent t) t (rolled_one t.held s) s
+
+block_entry : (t : State) → Stands t.held → Holds StandsAt (fetch_block_entry t)
+unfolding fetch_block_entry
+block_entry t s = chained (tried t _ (entry_checked t.held s)) (λ u k.
+    let p = t.held.place in
+    let v = on_held (roll_indent p.col None Tok.block_sequence_start p) (skip_indicator u) in
+    chained (read v.held (space Yes v.rest v.held.place) check_dash (rolled p.col None _ p (skip_indicator u).held tt (record { stood = k.stood })) (λ w x l. dash_checked w x l)) (λ w l.
+    chained (spaces_skipped No w l) (λ x m.
+    chained (tried (roll_entry x) _ (removed (roll_entry x).held (entry_rolled x m))) (λ y n. went (record { stood = pushed _ _ _ tt n.stood })))))
+
+key_begun : (h : Held) → Stands h → Holds Stands (begin_key h)
+unfolding begin_key
+key_begun h s = either _ (went (record { stood = s.stood })) (checked _ _ (went (rolled h.place.col None _ h.place h tt s)))
+
+key_spaced : (t : State) → Stands t.held → Holds StandsAt (check_key_space t)
+unfolding check_key_space
+key_spaced t s = checked _ _ (went s)
+
+key_fetched : (t : State) → Stands t.held → Holds StandsAt (fetch_key t)
+unfolding fetch_key
+key_fetched t s = chained (tried t _ (key_begun t.held s)) (λ u k. chained (tried u _ (removed u.held k)) (λ v l.
+    chained (white_passed (skip_indicator (on_held (λ h. allow_key (not (in_flow h)) h) v)) (record { stood = l.stood })) (λ w m.
+    chained (key_spaced w m) (λ x n. went (more _ _ _ tt n)))))
+
+-- ---- values
+
+behind_tab_checked : (w : Whitespace) (t : State) → Stands t.held → Holds StandsAt (check_behind_tab w t)
+unfolding check_behind_tab
+behind_tab_checked w t s = checked _ _ (went s)
+
+value_spaced : (t : State) → Stands t.held → Holds StandsAt (check_value_space t)
+unfolding check_value_space
+value_spaced t s = either (peek t.rest == 9) (read t.held (space Yes t.rest t.held.place) check_behind_tab s (λ w u k. behind_tab_checked w u k)) (went s)
+
+put_in : (n : ℕ) (p : Place) (t : Tok) (h : Held) → IsPlain t → Stands h → Stands (put n p t h)
+put_in n p t h q s = record { stood = inserted _ _ n _ q s.stood }
+
+pair_begun : (k : Key) (p : Place) (pair : Bool) (h : Held) → Stands h → Holds Stands (begin_pair k p pair h)
+unfolding begin_pair
+pair_begun k p pair h s = either pair (checked _ _ (went (put_in k.number h.place _ h tt s))) (went s)
+
+key_inserted : (k : Key) (p : Place) (pair : Bool) (h : Held) → Stands h → Holds Stands (insert_key k p pair h)
+unfolding insert_key
+key_inserted k p pair h s = chained (pair_begun k p pair _ (put_in k.number k.place Tok.key h tt s)) (λ u m.
+    let v = rolled_one _ (rolled k.place.col (Some k.number) Tok.block_mapping_start p u tt m) in
+    went (record { stood = v.stood }))
+
+keyless_paired : (pair : Bool) (h : Held) → Stands h → Stands (begin_keyless_pair pair h)
+keyless_paired pair h s = choice pair (more h.place Tok.flow_mapping_start h tt s) s
+
+keyless_mapped : (p : Place) (h : Held) → Stands h → Holds Stands (begin_keyless_mapping p h)
+unfolding begin_keyless_mapping
+keyless_mapped p h s = either _ (went s) (checked _ _ (went (rolled p.col None _ p h tt s)))
+
+keyless_begun : (p : Place) (pair : Bool) (h : Held) → Stands h → Holds Stands (begin_keyless_value p pair h)
+unfolding begin_keyless_value
+keyless_begun p pair h s = chained (keyless_mapped p _ (keyless_paired pair h s)) (λ u k. went (let l = rolled_one u k in record { stood = l.stood }))
+
+value_begun : (k : Option Key) (p : Place) (pair : Bool) (h : Held) → Stands h → Holds Stands (value_of k p pair h)
+value_begun None p pair h s = keyless_begun p pair h s
+value_begun (Some k) p pair h s = key_inserted k p pair h s
+
+value_fetched : (t : State) → Stands t.held → Holds StandsAt (fetch_value t)
+unfolding fetch_value
+value_fetched t s = chained (value_spaced (skip_indicator (on_held (λ h. record h { flow = paired h.flow }) t)) (record { stood = s.stood })) (λ u k.
+    chained (tried u _ (value_begun (top_key u.held.keys) t.held.place (opens_pair t.held.flow) u.held k)) (λ v l. went (more _ _ _ tt l)))
+
+-- ---- streams and documents
+
+stream_begun : (h : Held) → Stands h → Stands (begin_stream h)
+stream_begun h s = record { stood = (pushed _ _ _ tt s.stood) }
+
+stream_over : (h : Held) → Stands h → Holds IsOver (end_stream h)
+stream_over h s = checked _ _ (went (
+    let k = unrolled_all 0 (record h { keys = cleared h.keys }) (record { stood = s.stood }) in
+    record { before = _; last = _; tokens = refl; plain = k.stood.plain; ended = refl }))
+
+stream_ended : (t : State) → Stands t.held → Holds (λ u. IsOver u.held) (fetch_stream_end t)
+unfolding fetch_stream_end
+stream_ended t s = tried_over t _ (stream_over (record t.held { place = next_line t.held.place }) (record { stood = s.stood }))
+
+key_closed : (r : Result Held Fault) → Holds Stands r → Holds Stands (closed_key r)
+key_closed r (went s) = went (record { stood = s.stood })
+key_closed r refused = refused
+
+line_begun : (h : Held) → Stands h → Holds Stands (begin_line h)
+unfolding begin_line
+line_begun h s = key_closed _ (removed _ (unrolled_all 0 h s))
+
+version_plain : (start : Place) (a : List ℕ) (p : Place) → Holds (λ r. IsPlain r.value) (version_value start a p)
+unfolding version_value
+version_plain start a p = let b = blanks a p in went_on (number start b.rest b.place) (λ n. behind_major start n) (λ r. either (slice_index r.rest 0 == 46) (went_on (number start (drop 1 r.rest) (past r.place)) (λ n. Ok (with_minor r.value n)) (λ n. went tt)) refused)
+
+tag_plain : (start : Place) (a : List ℕ) (p : Place) → Holds (λ r. IsPlain r.value) (tag_value start a p)
+unfolding tag_value
+tag_plain start a p = let b = blanks a p in went_on (handle start b.rest b.place) (λ (h : Read (List ℕ)). prefix_behind start h.value (blanks h.rest h.place)) (λ h.
+    let c = blanks h.rest h.place in
+    went_on (prefix start c.rest c.place) (λ q. with_prefix start h.value q) (λ q. either (is_blank_or_breakz (slice_index q.rest 0)) (went tt) refused))
+
+value_plain : (start : Place) (k : Kind) (a : List ℕ) (p : Place) → Holds (λ r. IsPlain r.value) (value start k a p)
+value_plain start version a p = version_plain start a p
+value_plain start kind.tag a p = tag_plain start a p
+value_plain start unknown a p = went tt
+
+-- the rest of the line changes no token
+ended_plain : (start : Place) (r : Result (Read Tok) Fault) → Holds (λ r. IsPlain r.value) r → Holds (λ r. IsPlain r.value) (after r (λ v. behind_value start v))
+ended_plain start (Ok v) (went q) = went_on (line_end start v.rest v.place) (λ r. Ok (with_end v r)) (λ r. went q)
+ended_plain start (Err e) refused = refused
+
+directive_plain : (a : List ℕ) (p : Place) → Holds (λ r. IsPlain r.value) (directive a p)
+unfolding directive
+directive_plain [] p = refused
+directive_plain (c ∷ a) p = went_on (name a (past p)) (λ n. behind_name p n) (λ n. ended_plain p (value p n.value n.rest n.place) (value_plain p n.value n.rest n.place))
+
+directive_fetched : (t : State) → Stands t.held → Holds StandsAt (fetch_directive t)
+unfolding fetch_directive
+directive_fetched t s = chained (tried t _ (line_begun t.held s)) (λ u k.
+    read_as u.held (directive u.rest u.held.place) (λ tok v. Ok (on_held (λ s. push t.held.place tok (record s { leading = true })) v)) k (directive_plain u.rest u.held.place) (λ tok v q l. went (record { stood = pushed _ _ _ q l.stood })))
+
+marker_fetched : (tok : Tok) (t : State) → IsPlain tok → Stands t.held → Holds StandsAt (fetch_document_marker tok t)
+unfolding fetch_document_marker
+marker_fetched tok t q s = chained (tried t _ (line_begun t.held s)) (λ u k. went (record { stood = pushed _ _ _ q k.stood }))
+
+end_checked : (t : State) → Stands t.held → Holds StandsAt (check_document_end t)
+unfolding check_document_end
+end_checked t s = either _ (went s) refused
+
+document_ended : (t : State) → Stands t.held → Holds StandsAt (fetch_document_end t)
+unfolding fetch_document_end
+document_ended t s = chained (marker_fetched Tok.document_end t tt s) (λ u k. chained (spaces_skipped Yes u k) (λ v l. end_checked v l))
+
+-- ---- nodes
+
+node_begun : (h : Held) → Stands h → Stands (node_start h)
+node_begun h s = let k = saved h s in record { stood = k.stood }
+
+anchor_plain : (alias : Bool) (name : List ℕ) → IsPlain (anchor_token alias name)
+anchor_plain true name = tt
+anchor_plain false name = tt
+
+anchor_fetched : (alias : Bool) (t : State) → Stands t.held → Holds StandsAt (fetch_anchor alias t)
+unfolding fetch_anchor
+anchor_fetched alias t s = read (node_start t.held) (anchor_name t.rest t.held.place) _ (node_begun t.held s) (λ name u k. went (record { stood = pushed _ _ _ (anchor_plain alias name) k.stood }))
+
+tag_fetched : (t : State) → Stands t.held → Holds StandsAt (fetch_tag t)
+unfolding fetch_tag
+tag_fetched t s = read (node_start t.held) (tag (in_flow t.held) t.rest t.held.place) _ (node_begun t.held s) (λ g u k. went (record { stood = pushed _ _ _ tt k.stood }))
+
+block_fetched : (literal : Bool) (t : State) → Stands t.held → Holds StandsAt (fetch_block_scalar literal t)
+unfolding fetch_block_scalar
+block_fetched literal t s =
+    let h = unroll_non_block_indents (allow_key true (save_simple_key t.held)) in
+    let l = saved t.held s in
+    read h (block literal h.indent t.rest t.held.place) _ (unrolled_open _ (record { stood = l.stood })) (λ b u k. went (record { stood = pushed _ _ _ tt k.stood }))
+
+quoted_checked : (line : ℕ) (t : State) → Stands t.held → Holds StandsAt (check_behind_quoted line t)
+unfolding check_behind_quoted
+quoted_checked line t s = chained (spaces_skipped Yes t s) (λ u k. either _ (went k) refused)
+
+flow_scalar_fetched : (single : Bool) (t : State) → Stands t.held → Holds StandsAt (fetch_flow_scalar single t)
+unfolding fetch_flow_scalar
+flow_scalar_fetched single t s =
+    let h = node_start t.held in
+    read h (quoted single (context h) t.rest t.held.place) _ (node_begun t.held s) (λ text u k.
+    chained (quoted_checked t.held.place.line (on_held unled u) (record { stood = k.stood })) (λ v l.
+    chained (to_token v l) (λ w m. went (record { stood = pushed _ _ _ tt m.stood }))))
+
+plain_fetched : (t : State) → Stands t.held → Holds StandsAt (fetch_plain_scalar t)
+unfolding fetch_plain_scalar
+plain_fetched t s =
+    let h = unroll_non_block_indents (node_start t.held) in
+    read h (plain (context h) t.rest t.held.place) _ (unrolled_open _ (node_begun t.held s)) (λ r u k. went (record { stood = pushed _ _ _ tt k.stood }))
+
+-- ---- the next token
+
+by_class : (c : Class) (t : State) → Stands t.held → Holds StandsAt (token_by c t)
+by_class class.OpenBracket t s = flow_started Entry _ t tt s
+by_class class.OpenBrace t s = flow_started Mapping _ t tt s
+by_class class.CloseBracket t s = flow_ended _ t tt s
+by_class class.CloseBrace t s = flow_ended _ t tt s
+by_class class.Comma t s = entry_passed t s
+by_class class.Dash t s = either _ (block_entry t s) (plain_fetched t s)
+by_class class.Question t s = either _ (key_fetched t s) (plain_fetched t s)
+by_class class.Colon t s = either _ (value_fetched t s) (plain_fetched t s)
+by_class class.Asterisk t s = anchor_fetched true t s
+by_class class.Ampersand t s = anchor_fetched false t s
+by_class class.Exclamation t s = tag_fetched t s
+by_class class.Bar t s = either _ (plain_fetched t s) (block_fetched true t s)
+by_class class.Greater t s = either _ (plain_fetched t s) (block_fetched false t s)
+by_class class.SingleQuote t s = flow_scalar_fetched true t s
+by_class class.DoubleQuote t s = flow_scalar_fetched false t s
+by_class class.Percent t s = refused
+by_class class.AtSign t s = refused
+by_class class.Backtick t s = refused
+by_class _ t s = plain_fetched t s
+
+token_fetched : (t : State) → Stands t.held → Holds StandsAt (fetch_token t)
+unfolding fetch_token
+token_fetched t s = by_class (class_of (peek t.rest)) t s
+
+indented_fetched : (t : State) → Stands t.held → Holds StandsAt (fetch_indented t)
+unfolding fetch_indented
+indented_fetched t s = checked _ _ (token_fetched t s)
+
+first_fetched : (t : State) → Stands t.held → Holds StandsAt (fetch_first_column t)
+unfolding fetch_first_column
+first_fetched t s = either _ (directive_fetched t s) (either _ (marker_fetched Tok.document_start t tt s) (either _ (document_ended t s) (indented_fetched t s)))
+
+content_fetched : (t : State) → Stands t.held → Holds StandsAt (fetch_content t)
+unfolding fetch_content
+content_fetched t s = either _ (first_fetched t s) (indented_fetched t s)
+
+here_fetched : (t : State) → Stands t.held → Holds FaresAt (fetch_here t)
+unfolding fetch_here
+here_fetched t s = either _ (it_is_over (stream_ended t s)) (it_goes (content_fetched t s))
+
+fares_keys : (h : Held) (r : Result (List (Option Key)) Fault) → Fares h → Holds Fares (with_keys h r)
+fares_keys h (Ok ks) (goes s) = went (goes (record { stood = s.stood }))
+fares_keys h (Ok ks) (over s) = went (over (record { before = s.before; last = s.last; tokens = s.tokens; plain = s.plain; ended = s.ended }))
+fares_keys h (Err f) s = refused
+
+fares_stale : (h : Held) → Fares h → Holds Fares (stale h)
+unfolding stale
+fares_stale h s = either (in_flow h) (went s) (fares_keys h (drop_stale h.place h.keys) s)
+
+next_fetched : (t : State) → Stands t.held → Holds FaresAt (fetch_next t)
+unfolding fetch_next
+next_fetched t s = chained (to_token t s) (λ u k. chained (tried u _ (stale_dropped u.held k)) (λ v l.
+    chained (here_fetched (on_held (λ h. unroll_indent (h.place.col + 1) h) v) (unrolled_all (v.held.place.col + 1) v.held l)) (λ w m.
+    tried_fares w _ (fares_stale w.held m))))
+
+fetched : (t : State) → Stands t.held → Holds FaresAt (fetch t)
+unfolding fetch fetch_stream_start
+fetched t s = either t.held.started (next_fetched t s) (went (goes (stream_begun t.held s)))
+
+-- ---- runs
+
+going_stands : (h : Held) → h.ended ≡ false → Fares h → Stands h
+going_stands h e (goes s) = s
+going_stands h e (over s) = let f = s.ended in absurd cc
+
+-- a run keeps the stream's end out of all tokens, or as the last of them
+pub fares : (t u : State) → Reaches t u → Fares t.held → Fares u.held
+fares t u here s = s
+fares t u (there {u = v} going e run) s = fares v u run (held_of v (fetched t (going_stands t.held going s)) e)
+
+begun : (a : List ℕ) → Fares (start a).held
+begun a = goes (record { stood = record { plain = tt; going = refl } })
+
+plain_at : (given more : List Token) (t : Token) → ArePlain (given ++ t ∷ more) → IsPlain t.tok
+plain_at [] more t h = h.0
+plain_at (x ∷ given) more t h = plain_at given more t h.1
+
+-- only the last of these may be the stream's end
+last_at : (given more before : List Token) (t last : Token) → given ++ t ∷ more ≡ before ++ last ∷ [] → ArePlain before → t.tok ≡ Tok.stream_end → more ≡ []
+last_at [] [] before t last e p q = refl
+last_at [] (m ∷ more) [] t last e p q = absurd cc
+last_at [] (m ∷ more) (b ∷ before) t last e p q = let f : t ≡ b = cc in absurd (rw (← f, q) at p.0)
+last_at (x ∷ given) more [] t last e p q = absurd (last_nil given more t (cc))
+  where
+    last_nil : (given more : List Token) (t : Token) → given ++ t ∷ more ≡ [] → ⊥
+    last_nil [] more t e = absurd cc
+    last_nil (x ∷ given) more t e = absurd cc
+last_at (x ∷ given) more (b ∷ before) t last e p q = last_at given more before t last (cc) p.1 q
+
+-- Of a text's tokens, the stream's end is the last of all.
+pub end_is_last : (a : List ℕ) (u : State) (given more : List Token) (t : Token) → Reaches (start a) u → u.held.tokens ≡ given ++ t ∷ more → t.tok ≡ Tok.stream_end → (u.held.ended ≡ true) × (more ≡ [])
+end_is_last a u given more t run e q = by (fares (start a) u run (begun a))
+  where
+    by : Fares u.held → (u.held.ended ≡ true) × (more ≡ [])
+    by (goes s) = absurd (rw q at (plain_at given more t (rw e at s.stood.plain)))
+    by (over s) = (s.ended, last_at given more s.before t s.last (sym e ∙ s.tokens) s.plain q)

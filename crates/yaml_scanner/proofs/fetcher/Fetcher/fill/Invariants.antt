@@ -1,0 +1,16 @@
+use Rattle.std.proofs.Common.{◌≡◌, ◌≤◌, None}
+use Rattle.yaml_scanner.specs.Follows.{Follows}
+use Rattle.yaml_scanner.specs.Work.{Fetches, work}
+use Rattle.yaml_scanner.proofs.fetcher.Fetcher.fill.Given as goal
+
+abbrev pub invariant-tokens : goal.invariant-tokens
+invariant-tokens g l = record {
+  run : Fetches l.fn.self l.self;
+  start : l.self.window.start ≡ l.fn.self.window.start;
+  left : work l.self ≤ work l.fn.self;
+  kept : l.self.kept ≡ None;
+  follows : Follows l.self;
+}
+
+abbrev pub decreases-tokens : goal.decreases-tokens
+decreases-tokens g l = work l.self

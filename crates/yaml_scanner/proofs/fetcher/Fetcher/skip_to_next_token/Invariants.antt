@@ -1,0 +1,15 @@
+use Rattle.std.proofs.Common.{◌≡◌, ℕ}
+use Rattle.yaml_chars.specs.Reading.{Reads}
+use Rattle.scan_model.specs.Space.{skip, between}
+use Rattle.yaml_scanner.specs.Shape.{held}
+use Rattle.yaml_scanner.specs.Work.{Moves}
+use Rattle.yaml_scanner.proofs.fetcher.Fetcher.skip_to_next_token.Given as goal
+
+abbrev pub invariant-space : goal.invariant-space
+invariant-space g l = record {
+  gap : Reads l.fn.self.window l.self.window (λ a b. skip between a (held l.fn.self) ≡ skip between b (held l.self));
+  moves : Moves l.fn.self l.self 0 0;
+}
+
+abbrev pub decreases-space : goal.decreases-space
+decreases-space g l = l.self.window.left

@@ -1,0 +1,15 @@
+use Rattle.std.proofs.Common.{◌≡◌, ℕ, false}
+use Rattle.yaml_chars.specs.Reading.{Reads}
+use Rattle.scan_model.specs.Space.{white}
+use Rattle.yaml_scanner.specs.Shape.{held}
+use Rattle.yaml_scanner.specs.Work.{Moves}
+use Rattle.yaml_scanner.proofs.fetcher.Fetcher.skip_yaml_whitespace.Given as goal
+
+abbrev pub invariant-space : goal.invariant-space
+invariant-space g l = record {
+  white : Reads l.fn.self.window l.self.window (λ a b. white false false a (held l.fn.self) ≡ white false l.found b (held l.self));
+  moves : Moves l.fn.self l.self 0 0;
+}
+
+abbrev pub decreases-space : goal.decreases-space
+decreases-space g l = l.self.window.left

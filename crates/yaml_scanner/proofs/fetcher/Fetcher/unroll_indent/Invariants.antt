@@ -1,0 +1,19 @@
+use Rattle.std.proofs.Common.{◌≡◌, ℕ, length, false}
+use Rattle.yaml_chars.specs.Reading.{place_of}
+use Rattle.scan_model.specs.State.{in_flow}
+use Rattle.scan_model.specs.Indents.{unrolled, with_levels}
+use Rattle.yaml_scanner.specs.Shape.{held}
+use Rattle.yaml_scanner.specs.Work.{Moves}
+use Rattle.yaml_scanner.proofs.fetcher.Fetcher.unroll_indent.Given as goal
+
+abbrev pub invariant-levels : goal.invariant-levels
+invariant-levels g l = record {
+  state : held l.self ≡ with_levels (held l.fn.self) (record { indent = l.self.levels.indent; indents = l.self.levels.indents; tokens = l.self.tokens.all });
+  levels : unrolled l.fn.limit (place_of l.fn.self.window) l.fn.self.levels.indent l.fn.self.levels.indents l.fn.self.tokens.all ≡ unrolled l.fn.limit (place_of l.fn.self.window) l.self.levels.indent l.self.levels.indents l.self.tokens.all;
+  flow : in_flow (held l.fn.self) ≡ false;
+  moves : Moves l.fn.self l.self 0 0;
+  window : l.self.window ≡ l.fn.self.window;
+}
+
+abbrev pub decreases-levels : goal.decreases-levels
+decreases-levels g l = length l.self.levels.indents

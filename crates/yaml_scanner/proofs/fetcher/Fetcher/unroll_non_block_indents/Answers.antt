@@ -1,0 +1,18 @@
+use Rattle.std.proofs.Common.{◌≡◌, refl, ap, ◌∙◌, sym, rules}
+use Rattle.yaml_scanner.specs.Shape.{held}
+use Rattle.scan_model.specs.Indents.{Levels, with_levels}
+use Rattle.yaml_scanner.proofs.HeldLemmas.{open_popped, without_block, without_more, without_done}
+use Rattle.yaml_scanner.proofs.fetcher.Fetcher.unroll_non_block_indents.Goals as goal
+
+pub returns-clause-held : goal.returns-clause-held
+returns-clause-held g c = without_done (held c.args.self.now) _ _ (c.levels.invariant.levels ∙ without_block _ _ _ (sym c.is_open.ensures ∙ c.levels-test.false)) c.levels.invariant.state
+
+pub levels-preserved : goal.levels-preserved
+levels-preserved g c =
+    let u : Levels = record { indent = c.pop.new.self.indent; indents = c.pop.new.self.indents; tokens = c.levels.self.tokens.all } in
+    record {
+      state = ap (λ h. with_levels h u) c.levels.invariant.state;
+      levels = c.levels.invariant.levels ∙ without_more _ _ _ _ _ (open_popped _ _ _ (sym c.is_open.ensures ∙ c.levels-test.true) c.pop.ensures);
+      moves = search rules;
+      window = c.levels.invariant.window;
+    }

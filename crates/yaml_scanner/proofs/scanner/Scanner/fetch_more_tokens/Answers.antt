@@ -1,0 +1,9 @@
+use Rattle.yaml_scanner.proofs.FollowLemmas.{scans_from}
+use Rattle.yaml_scanner.proofs.scanner.Scanner.fetch_more_tokens.Goals as goal
+
+-- the fault that was kept before
+pub returns-in-Some-clause-scans : goal.returns-in-Some-clause-scans
+returns-in-Some-clause-scans g c = rw (← c.self.view_is) (scans_from c.self.inside.fetcher c.self.invariant)
+
+pub returns-in-Err-clause-scans : goal.returns-in-Err-clause-scans
+returns-in-Err-clause-scans g c = scans_from c.keep.new.self c.keep.ensures.follows

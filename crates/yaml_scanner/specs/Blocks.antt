@@ -1,0 +1,36 @@
+-- Parts of the model's functions on block collections, as the code has them.
+use Rattle.std.specs.Prelude.{true, Result, Ok}
+use Rattle.token_defs.specs.Token.{Tok}
+use Rattle.yaml_tokens.specs.declared.problem.Fault.{Fault}
+use Rattle.scalar_model.specs.declared.context.SkipTabs.TheVariants.{Yes, No}
+use Rattle.scalar_model.specs.Space.{space}
+use Rattle.scan_model.specs.State.{Held, State, ◌>>=◌, push, on_held, try_held, lexed, skip_indicator}
+use Rattle.scan_model.specs.Keys.{remove_simple_key}
+use Rattle.scan_model.specs.Space.{skip_spaces, skip_yaml_whitespace}
+use Rattle.scan_model.specs.Flow.{allow_key}
+use Rattle.scan_model.specs.Block.{check_dash, roll_entry, check_behind_tab}
+
+-- behind a `-` that was passed
+abbrev pub pass_dash : State → Result State Fault
+pass_dash t = lexed (space Yes t.rest t.held.place) t.held check_dash
+
+abbrev pub entry_level : State → Result State Fault
+entry_level t = Ok (roll_entry t)
+
+abbrev pub entered : Held → Held
+entered s = push s.place Tok.block_entry (allow_key true s)
+
+-- at the content of an entry
+abbrev pub begin_entry : State → Result State Fault
+begin_entry t =
+    skip_spaces No t >>= λ u.
+    try_held remove_simple_key (roll_entry u) >>= λ v.
+    Ok (on_held entered v)
+
+-- behind a `?` and the space behind it
+abbrev pub pass_key : State → Result State Fault
+pass_key t = skip_yaml_whitespace (skip_indicator t)
+
+-- behind the spaces and TABs of a `:`
+abbrev pub pass_tab : State → Result State Fault
+pass_tab t = lexed (space Yes t.rest t.held.place) t.held check_behind_tab

@@ -1,0 +1,35 @@
+-- What was fetched and handed out, against the model's runs over each text that is still possible.
+use Rattle.std.specs.Prelude.{◌≡◌, ◌≢◌, ℕ, List, ◌++◌, drop, Bool, true, false, Option, Some, None, IfSome}
+use Rattle.yaml_chars.specs.Reading.{Possible}
+use Rattle.token_defs.specs.Token.{Token}
+use Rattle.yaml_tokens.specs.declared.problem.Fault.TheVariants.{OutOfMemory}
+use Rattle.scan_model.specs.State.{State}
+use Rattle.scan_model.specs.Run.{Reaches, HasTokens, IsRefused, start}
+use Rattle.yaml_scanner.specs.declared.fetcher.Fetcher.{Fetcher}
+use Rattle.yaml_scanner.specs.Tokens.{handed}
+use Rattle.yaml_scanner.specs.Shape.{state}
+
+-- a list begins with another
+pub record Begins (xs ys : List Token) : Type 0 where
+  pub more : List Token
+  pub whole : ys ≡ xs ++ more
+
+-- these tokens are a beginning of those that the model has at some state of a text
+pub record IsReached (a : List ℕ) (given : List Token) : Type 0 where
+  pub last : State
+  pub run : Reaches (start a) last
+  pub begins : Begins given last.held.tokens
+
+pub record FollowsIn {T : Type 0} (a : List ℕ) (s : Fetcher T) : Type 0 where
+  -- where no fault is kept: the model reaches what is held, and has all tokens once the stream's end is among them
+  pub run : s.kept ≡ None → s.tokens.ended ≡ false → Reaches (start a) (state (drop s.window.at a) s)
+  pub all : s.kept ≡ None → s.tokens.ended ≡ true → HasTokens a s.tokens.all
+  -- what was handed out
+  pub reached : IsReached a (handed s.tokens)
+  pub begins : (ts : List Token) → HasTokens a ts → Begins (handed s.tokens) ts
+  pub whole : s.tokens.over ≡ true → HasTokens a (handed s.tokens)
+  pub refused : IfSome s.kept (λ k. k.fault ≢ OutOfMemory → IsRefused a k.fault)
+
+-- whatever the text is
+abbrev pub Follows : {T : Type 0} → Fetcher T → Type 0
+Follows s = (a : List ℕ) → Possible s.window a → FollowsIn a s

@@ -1,0 +1,71 @@
+ghost use Rattle.std.specs.Prelude.{◌≡◌, ◌^◌, ◌<◌, [], None, false};
+ghost use Rattle.std.specs.Iterator.{IsFinite, size};
+
+use crate::keys::SimpleKeys;
+use crate::levels::Levels;
+use crate::queue::Queue;
+use crate::stack::Stack;
+use scan_model::FlowLevel;
+use std::alloc::Global;
+use yaml_chars::{Marker, Window};
+use yaml_tokens::Fault;
+
+/// A fault that is kept, and the place where the scanner stood.
+#[derive(Clone, Copy)]
+pub struct Kept {
+    pub fault: Fault,
+    pub mark: Marker,
+}
+
+/// Fetches tokens. Its fields are what the functions of all token kinds share.
+#[derive(Drop)]
+pub struct Fetcher<T: Iterator<Item = char>> {
+    pub(crate) alloc: Global,
+    pub(crate) window: Window<T>,
+    pub(crate) tokens: Queue,
+    pub(crate) keys: SimpleKeys,
+    pub(crate) levels: Levels,
+    pub(crate) flow: Stack<FlowLevel>,
+    // Whether a key without `?` may begin here.
+    pub(crate) key_allowed: bool,
+    // Whether only blanks stand before this place on its line.
+    pub(crate) leading: bool,
+    // Where a `:` may stand right behind a quoted scalar or a flow collection.
+    pub(crate) adjacent_value_at: usize,
+    pub(crate) started: bool,
+    pub(crate) kept: Option<Kept>,
+}
+
+impl<T: Iterator<Item = char>> Fetcher<T> {
+    ghost use Rattle.scan_model.specs.Run.{nothing_held};
+    ghost use Rattle.yaml_scanner.specs.Shape.{held};
+    ghost use Rattle.yaml_scanner.specs.Tokens.{handed};
+    ghost use Rattle.yaml_scanner.specs.Follows.{Follows};
+
+    /// A fetcher of the characters of an iterator, up to its end or to a NUL.
+    pub fn new(alloc: Global, iter: T) -> Fetcher<T>
+        requires can { T.can_next iter }
+        requires finite { IsFinite (T.remaining iter) }
+        requires few { size (T.remaining iter) < 2 ^ 63 }
+        ensures held { held result ≡ nothing_held }
+        ensures kept { result.kept ≡ None }
+        ensures tokens { handed result.tokens ≡ [] }
+        ensures over { result.tokens.over ≡ false }
+        ensures follows { Follows result }
+        ensures start { result.window.start ≡ iter }
+    {
+        Fetcher {
+            alloc,
+            window: Window::new(iter),
+            tokens: Queue::new(alloc),
+            keys: SimpleKeys::new(alloc),
+            levels: Levels::new(alloc),
+            flow: Stack::new(alloc),
+            key_allowed: true,
+            leading: true,
+            adjacent_value_at: 0,
+            started: false,
+            kept: None,
+        }
+    }
+}

@@ -1,0 +1,96 @@
+//! Fetching as far as the next token needs, and handing it out.
+ghost use Rattle.std.specs.Prelude.{◌≡◌, ◌≤◌, ◌<◌, ◌+◌, ◌||◌, OnOk, IfErr, IfSome, IsSome, Some, None, true, false, ◌++◌, ◌∷◌, []};
+ghost use Rattle.std.specs.List.{list_any};
+ghost use Rattle.yaml_chars.specs.Place.{Place};
+ghost use Rattle.yaml_tokens.specs.Shown.{shown};
+ghost use Rattle.yaml_scanner.specs.Follows.{Follows};
+ghost use Rattle.yaml_scanner.specs.SimpleKeys.{is_front};
+ghost use Rattle.yaml_scanner.specs.Scanned.{inside, kept_fault, HandsOut};
+ghost use Rattle.yaml_scanner.specs.Tokens.{waiting, handed, is_end};
+ghost use Rattle.yaml_scanner.specs.Work.{Fetches, work};
+
+use crate::fetcher::{Fetcher, Kept};
+use yaml_tokens::{Fault, ScanError, Token};
+
+impl Kept {
+    pub fn error(&self) -> ScanError
+        ensures { result ≡ kept_fault self.now }
+    {
+        self.fault.error(self.mark)
+    }
+}
+
+impl<T: Iterator<Item = char>> Fetcher<T> {
+    /// Keeps a fault.
+    pub(crate) fn keep(&mut self, fault: Fault) -> ScanError
+        requires follows { (mark : Place) → Follows (record self.old { kept = Some (record { fault = fault; mark = mark }) }) }
+        ensures kept { (inside self.new).fault ≡ Some result }
+        ensures same { inside self.new ≡ record (inside self.old) { fault = Some result } }
+        ensures follows { Follows self.new }
+        ensures window { self.new.window ≡ self.old.window }
+    {
+        let mark = self.window.mark();
+        let kept = Kept { fault, mark };
+        let error = kept.error();
+        self.kept = Some(kept);
+        error
+    }
+
+    /// Fetches the next token, or several.
+    pub(crate) fn fetch_one(&mut self) -> Result<(), Fault>
+        requires kept { self.old.kept ≡ None }
+        requires going { self.old.tokens.ended ≡ false }
+        requires follows { Follows self.old }
+        ensures run { Fetches self.old self.new }
+        ensures start { self.new.window.start ≡ self.old.window.start }
+        ensures less { OnOk result (work self.new < work self.old) }
+        ensures ok { OnOk result (Follows self.new) }
+        ensures err { IfErr result (λ e. (mark : Place) → Follows (record self.new { kept = Some (record { fault = e; mark = mark }) })) }
+    {
+        self.fetch()?;
+        Ok(())
+    }
+
+    /// Fetches tokens until the next one can be handed out: until no key may come before it.
+    pub(crate) fn fill(&mut self) -> Result<(), Fault>
+        requires kept { self.old.kept ≡ None }
+        requires follows { Follows self.old }
+        ensures run { Fetches self.old self.new }
+        ensures start { self.new.window.start ≡ self.old.window.start }
+        ensures left { OnOk result (work self.new ≤ work self.old) }
+        ensures some { OnOk result (self.new.tokens.ended ≡ false → 0 < waiting self.new.tokens) }
+        ensures front { OnOk result (self.new.tokens.ended ≡ false → list_any is_front self.new.keys ≡ false) }
+        ensures ok { OnOk result (Follows self.new) }
+        ensures err { IfErr result (λ e. (mark : Place) → Follows (record self.new { kept = Some (record { fault = e; mark = mark }) })) }
+    {
+        'tokens: while !self.tokens.has_ended() && self.needs_more() {
+            self.fetch_one()?;
+        }
+        Ok(())
+    }
+
+    /// Whether the next token may still get a key before it.
+    fn needs_more(&self) -> bool
+        ensures some { result ≡ false → 0 < waiting self.now.tokens }
+        ensures front { result ≡ false → list_any is_front self.now.keys ≡ false }
+    {
+        self.tokens.len() == 0 || self.keys.may_precede()
+    }
+
+    /// Hands out the next token.
+    pub(crate) fn hand(&mut self) -> Option<Token>
+        requires kept { self.old.kept ≡ None }
+        requires going { self.old.tokens.over ≡ false }
+        requires some { self.old.tokens.ended ≡ false → 0 < waiting self.old.tokens }
+        requires front { self.old.tokens.ended ≡ false → list_any is_front self.old.keys ≡ false }
+        requires follows { Follows self.old }
+        ensures some { IsSome result }
+        ensures token { IfSome result (λ t. HandsOut (inside self.old) (shown t) (inside self.new)) }
+        ensures follows { Follows self.new }
+        ensures window { self.new.window ≡ self.old.window }
+    {
+        let token = self.tokens.pop()?;
+        self.keys.lower();
+        Some(token)
+    }
+}
