@@ -10,7 +10,6 @@ use Rattle.token_defs.specs.Token.{version_directive, tag_directive, document_st
 use Rattle.cut_defs.specs.Cut.{Written, IsCut, IsCutOfBeginning, tokens_of, start_token}
 use Rattle.cut_defs.proofs.Shown.{place, written, first, tokens_between}
 
-
 -- a directive of another name
 abbrev ignored_directive_row : List Written
 ignored_directive_row =

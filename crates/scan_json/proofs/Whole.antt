@@ -13,7 +13,7 @@ use Rattle.scan_model.specs.Fetch.{fetch, fetch_next, fetch_here}
 use Rattle.scan_model.specs.Run.{here, there, start}
 use Rattle.scan_json.specs.JsonScan.{toks, HasToks}
 use Rattle.scan_json.specs.Laws.{JsonTextsHaveTheirTokens, JsonTextsHaveNoOtherTokens, JsonTextsAreNotRefused}
-use Rattle.scan_model.proofs.Runs.{reaches_then, one_list, not_both}
+use Rattle.scan_model.proofs.Runs.{reaches_then, one_list, not_refused}
 use Rattle.scan_json.proofs.Shapes.{Parts, stands, at_end, After}
 use Rattle.scan_json.proofs.Gaps.{next_token}
 use Rattle.scan_json.proofs.Fetches.{staled}
@@ -87,7 +87,7 @@ json_text_has_its_tokens w is =
     all_tokens text (λ o. Tok.stream_start ∷ json_tokens w.value o) (value_runs w.value is.value (start text) w.after [] [] [] (λ o. Tok.stream_start ∷ o) refl at_end deep u)
 
 pub json_text_has_no_other_tokens : JsonTextsHaveNoOtherTokens
-json_text_has_no_other_tokens w is ts z = let y = json_text_has_its_tokens w is in ap toks (one_list (spell_text w) y.0 ts y.1 z) ∙ y.2
+json_text_has_no_other_tokens w is ts z = let y = json_text_has_its_tokens w is in ap toks (one_list (spell_text w) ts y.0 z y.1) ∙ y.2
 
 pub json_text_is_not_refused : JsonTextsAreNotRefused
-json_text_is_not_refused w is f refusal = let y = json_text_has_its_tokens w is in not_both (spell_text w) y.0 f y.1 refusal
+json_text_is_not_refused w is f refusal = let y = json_text_has_its_tokens w is in not_refused (spell_text w) y.0 f y.1 refusal

@@ -1,8 +1,6 @@
 -- The stream's end is the last token of all.
-use Rattle.std.proofs.Common.{◌≡◌, ℕ, zero, suc, slice_index, ◌+◌, ◌-◌, ◌≤◌, List, [], ◌∷◌, ◌++◌, Bool, true, false, not, ◌||◌, ◌==◌, nat_lt, if◌then◌else◌, Option, Some, None, Result, Ok, Err, length, map, take, drop, refl, ap, sym, ◌∙◌, subst, arith, append_assoc, length-append}
+use Rattle.std.proofs.Common.{◌≡◌, ℕ, zero, suc, slice_index, ◌+◌, List, [], ◌∷◌, ◌++◌, Bool, true, false, not, ◌||◌, ◌==◌, nat_lt, if◌then◌else◌, Option, Some, None, Result, Ok, Err, drop, refl, sym, ◌∙◌}
 use Rattle.std.specs.List.{insert}
-use Rattle.std.proofs.lemmas.List.{take-append-drop, length-take-le, take_at}
-use Rattle.std.proofs.lemmas.List.Edits.{insert-append_right}
 use Rattle.yaml_chars.specs.Place.{Place}
 use Rattle.token_defs.specs.Token.{Tok, Token}
 use Rattle.yaml_tokens.specs.declared.problem.Fault.{Fault}
@@ -13,8 +11,8 @@ use Rattle.scalar_model.specs.Space.{space, blanks}
 use Rattle.scan_model.specs.declared.level.Indent.{Indent}
 use Rattle.scan_model.specs.declared.level.FlowLevel.{FlowLevel}
 use Rattle.scan_model.specs.declared.level.FlowLevel.TheVariants.{Mapping, Entry, Keyed, Pair}
-use Rattle.scan_model.specs.State.{Key, Held, State, ◌>>=◌, peek, in_flow, token, push, put, pop, with_top, moved, on_held, with_held, go_on, lexed, skip_indicator}
-use Rattle.scan_model.specs.Keys.{is_far, still, drop_stale, with_keys, stale, cleared, top_key, save_simple_key, remove_simple_key}
+use Rattle.scan_model.specs.State.{Key, Held, State, ◌>>=◌, peek, in_flow, token, push, put, moved, on_held, with_held, go_on, lexed, skip_indicator}
+use Rattle.scan_model.specs.Keys.{drop_stale, with_keys, stale, cleared, top_key, save_simple_key, remove_simple_key}
 use Rattle.yaml_chars.specs.Class.{is_break, is_flow, is_blank_or_breakz}
 use Rattle.yaml_chars.specs.Text.{is_nil}
 use Rattle.scalar_model.specs.declared.context.SkipTabs.{SkipTabs}

@@ -1,61 +1,56 @@
--- Runs from one state: of two, one goes on where the other stops.
-use Rattle.std.proofs.Common.{◌≡◌, ℕ, List, Bool, true, false, refl, ap, sym, ◌∙◌, Result, Ok, Err}
+-- Runs of the model put together: each state has one next state.
+use Rattle.std.proofs.Common.{◌≡◌, ℕ, List, true, false, Ok, Err, refl, ap, sym, ◌∙◌, ◌⊎◌, inl, inr}
 use Rattle.token_defs.specs.Token.{Token}
 use Rattle.yaml_tokens.specs.declared.problem.Fault.{Fault}
 use Rattle.scan_model.specs.State.{State}
 use Rattle.scan_model.specs.Fetch.{fetch}
 use Rattle.scan_model.specs.Run.{Reaches, here, there, HasTokens, IsRefused, start}
 
--- one fetch more
-pub one_more : (t u v : State) → Reaches t u → u.held.ended ≡ false → fetch u ≡ Ok v → Reaches t v
-one_more t u v here e f = there e f here
-one_more t u v (there d g r) e f = there d g (one_more _ u v r e f)
-
 pub reaches_then : {t u v : State} → Reaches t u → Reaches u v → Reaches t v
 reaches_then here q = q
 reaches_then (there e f p) q = there e f (reaches_then p q)
 
--- no fetch follows
-abbrev pub Stops : State → Type 0
-Stops t = (u : State) → t.held.ended ≡ false → fetch t ≡ Ok u → ⊥
+-- one fetch more
+pub one_more : {t u v : State} → Reaches t u → u.held.ended ≡ false → fetch u ≡ Ok v → Reaches t v
+one_more p e f = reaches_then p (there e f here)
 
-pub ended_stops : (t : State) → t.held.ended ≡ true → Stops t
-ended_stops t e u d f = absurd cc
+one_step : (t u v : State) → fetch t ≡ Ok u → fetch t ≡ Ok v → u ≡ v
+one_step t u v p q = cc
 
-pub refused_stops : (t : State) (x : Fault) → fetch t ≡ Err x → Stops t
-refused_stops t x e u d f = absurd cc
+-- Of two runs from one state one goes on from where the other stands.
+pub one_run : {t u v : State} → Reaches t u → Reaches t v → Reaches u v ⊎ Reaches v u
+one_run here q = inl q
+one_run (there e f p) here = inr (there e f p)
+one_run (there {t = t} {u = u} e f p) (there {u = w} g h q) = one_run p (rw (one_step t w u h f) at q)
 
-pub stays : (t u : State) → Stops t → Reaches t u → u ≡ t
-stays t u stop here = refl
-stays t u stop (there d g r) = absurd (stop _ d g)
+-- No run goes on behind the stream's end, or behind a refusal.
+stays : {t u : State} → Reaches t u → t.held.ended ≡ true → t ≡ u
+stays here e = refl
+stays (there f g p) e = cc
 
-same_step : (t u v : State) → fetch t ≡ Ok u → fetch t ≡ Ok v → u ≡ v
-same_step t u v e f = cc
+stops : {t u : State} {f : Fault} → Reaches t u → fetch t ≡ Err f → t ≡ u
+stops here e = refl
+stops (there d g p) e = absurd cc
 
--- what is reached goes on to where another run stops
-pub onward : (t u v : State) → Reaches t u → Reaches t v → Stops v → Reaches u v
-onward t u v here r stop = r
-onward t u v (there d g r) here stop = absurd (stop _ d g)
-onward t u v (there {u = m} d g r) (there {u = n} e f s) stop = onward m u v r (rw (same_step t m n g f) s) stop
+-- A run from the start of a text that has tokens goes on to their end.
+pub run_to_end : (a : List ℕ) (ts : List Token) (u : State) → (z : HasTokens a ts) → Reaches (start a) u → Reaches u z.end
+run_to_end a ts u z p = elim (one_run p z.run) [ inl q ↦ q | inr q ↦ rw (stays q z.ended) here ]
 
--- two runs from one state that stop do so in one state
-pub one_stop : (t u v : State) → Reaches t u → Reaches t v → Stops u → Stops v → v ≡ u
-one_stop t u v r s stop halt = stays u v stop (onward t u v r s halt)
+-- A text has one list of tokens,
+pub one_list : (a : List ℕ) (ts us : List Token) → HasTokens a ts → HasTokens a us → ts ≡ us
+one_list a ts us y z = sym y.tokens ∙ ap (λ t. t.held.tokens) (stays (run_to_end a us y.end z y.run) y.ended) ∙ z.tokens
 
-pub one_list : (a : List ℕ) (ts us : List Token) → HasTokens a ts → HasTokens a us → us ≡ ts
-one_list a ts us p q = sym q.tokens ∙ ap (λ t. t.held.tokens) (one_stop (start a) p.end q.end p.run q.run (ended_stops p.end p.ended) (ended_stops q.end q.ended)) ∙ p.tokens
+-- or one refusal,
+pub one_fault : (a : List ℕ) (e f : Fault) → IsRefused a e → IsRefused a f → e ≡ f
+one_fault a e f y z = elim (one_run y.run z.run) [ inl q ↦ same y.last z.last (stops q y.refused) y.refused z.refused | inr q ↦ same y.last z.last (sym (stops q z.refused)) y.refused z.refused ]
+  where
+    same : (t u : State) → t ≡ u → fetch t ≡ Err e → fetch u ≡ Err f → e ≡ f
+    same t u i p q = cc
 
-pub one_fault : (a : List ℕ) (x y : Fault) → IsRefused a x → IsRefused a y → y ≡ x
-one_fault a x y p q =
-    let e = one_stop (start a) p.last q.last p.run q.run (refused_stops p.last x p.refused) (refused_stops q.last y q.refused) in
-    let f = p.refused in
-    let g = q.refused in
-    cc
+not_refused_from : {t u : State} {f : Fault} → Reaches t u → t.held.ended ≡ false → fetch t ≡ Err f → u.held.ended ≡ true → ⊥
+not_refused_from here e g h = cc
+not_refused_from (there f i p) e g h = cc
 
--- no text has both
-pub not_both : (a : List ℕ) (ts : List Token) (x : Fault) → HasTokens a ts → IsRefused a x → ⊥
-not_both a ts x p q =
-    let e = one_stop (start a) p.end q.last p.run q.run (ended_stops p.end p.ended) (refused_stops q.last x q.refused) in
-    let f = p.ended in
-    let g = q.going in
-    absurd cc
+-- and not both.
+pub not_refused : (a : List ℕ) (ts : List Token) (f : Fault) → HasTokens a ts → IsRefused a f → ⊥
+not_refused a ts f z refusal = not_refused_from (run_to_end a ts refusal.last z refusal.run) refusal.going refusal.refused z.ended

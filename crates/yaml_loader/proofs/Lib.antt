@@ -1,6 +1,7 @@
 pub mod AliasLemmas
 pub mod GoOnAlike
 pub mod LastPair
+pub mod LoadLemmas
 pub mod OpenedLemmas
 pub mod Reals
 pub mod Tags

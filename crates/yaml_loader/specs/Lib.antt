@@ -1,5 +1,6 @@
 pub mod Alike
 pub mod Laws
 pub mod Loading
+pub mod Loads
 pub mod Reached
 pub mod View

@@ -1,8 +1,12 @@
 //! Texts, read as trees.
-ghost use Rattle.std.specs.Prelude.{◌^◌, ◌<◌};
+ghost use Rattle.std.specs.Prelude.{◌≡◌, ◌^◌, ◌<◌, None, IfOk, OnOk, IfErr, All};
 ghost use Rattle.std.specs.Iterator.{IsFinite, size};
+ghost use Rattle.event_defs.specs.NoAlias.{HasNoAlias};
+ghost use Rattle.yaml_tree.specs.View.{items_view};
+ghost use Rattle.yaml_loader.specs.Loads.{AreLoaded, IsLoadFault, AreLoadedAnew, IsFaultAnew};
 
 use crate::loader::{Course, YamlLoader, out_of_nesting};
+use event_defs::laws::loaded_trees_have_no_alias;
 use std::alloc::Global;
 use yaml_parser::Parser;
 use yaml_tokens::ScanError;
@@ -10,7 +14,11 @@ use yaml_tree::Yaml;
 
 impl YamlLoader {
     /// All documents of a text, or one fault: one in a later document keeps the earlier ones back.
-    pub fn load_from_str(alloc: Global, source: &str) -> Result<Vec<Yaml>, ScanError> {
+    pub fn load_from_str(alloc: Global, source: &str) -> Result<Vec<Yaml>, ScanError>
+        ensures documents { IfOk result (λ documents. AreLoadedAnew (items_view documents.items)) }
+        ensures no_alias { IfOk result (λ documents. All HasNoAlias (items_view documents.items)) }
+        ensures fault { IfErr result IsFaultAnew }
+    {
         let mut parser = Parser::new_from_str(alloc, source);
         YamlLoader::load_from_parser(alloc, &mut parser)
     }
@@ -23,6 +31,9 @@ impl YamlLoader {
         requires can { I.can_next source }
         requires finite { IsFinite (I.remaining source) }
         requires few { size (I.remaining source) < 2 ^ 63 }
+        ensures documents { IfOk result (λ documents. AreLoadedAnew (items_view documents.items)) }
+        ensures no_alias { IfOk result (λ documents. All HasNoAlias (items_view documents.items)) }
+        ensures fault { IfErr result IsFaultAnew }
     {
         let mut parser = Parser::new(alloc, source);
         YamlLoader::load_from_parser(alloc, &mut parser)
@@ -33,9 +44,15 @@ impl YamlLoader {
     pub fn load_from_parser<I: Iterator<Item = char>>(
         alloc: Global,
         parser: &mut Parser<I>,
-    ) -> Result<Vec<Yaml>, ScanError> {
+    ) -> Result<Vec<Yaml>, ScanError>
+        ensures documents { IfOk result (λ documents. AreLoaded parser.old (items_view documents.items) parser.new) }
+        ensures no_alias { IfOk result (λ documents. All HasNoAlias (items_view documents.items)) }
+        ensures no_fault { OnOk result (parser.new.fault ≡ None) }
+        ensures fault { IfErr result (λ f. IsLoadFault parser.old f parser.new) }
+    {
         let mut loader = YamlLoader::default(alloc);
         parser.load(&mut loader, true)?;
+        loaded_trees_have_no_alias();
         let YamlLoader { reading, course } = loader;
         match course {
             Course::RepeatedKey(mark, text) => Err(ScanError::new_string(mark, text)),

@@ -84,6 +84,8 @@ pub(crate) fn out_of_nesting(mark: Marker) -> ScanError
 }
 
 impl MarkedEventReceiver for YamlLoader {
+    ghost takes = { Takes };
+
     /// Takes one event more. An `Err` is kept: an event out of nesting, at its place, or want of memory.
     fn on_event(&mut self, ev: Event, mark: Marker) -> Result<(), ScanError>
         ensures { Takes self.old (ev_of ev) mark result self.new }

@@ -1,8 +1,7 @@
 -- The tokens of a parser: those taken, one that was looked at, and those to come.
-use Rattle.std.specs.Prelude.{◌≡◌, ℕ, ◌+◌, ◌≤◌, List, [], ◌∷◌, ◌++◌, length, Option, Some, None, IfSome}
+use Rattle.std.specs.Prelude.{◌≡◌, ℕ, ◌+◌, [], ◌∷◌, ◌++◌, Option, Some, None, IfSome}
 use Rattle.yaml_tokens.specs.declared.token.Token.{Token}
-use Rattle.yaml_tokens.specs.Shown.{shown, all_shown}
-use Rattle.yaml_scanner.specs.Scanned.{Scanned, scanned}
+use Rattle.yaml_scanner.specs.Scanned.{scanned}
 use Rattle.yaml_parser.specs.declared.tokens.Tokens.{Tokens}
 
 -- one where it was looked at

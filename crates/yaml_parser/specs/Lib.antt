@@ -1,6 +1,17 @@
 pub mod Ahead
+pub mod At
+pub mod Declares
+pub mod Directing
+pub mod Follows
+pub mod Handed
+pub mod Held
 pub mod Kinds
+pub mod Loads
+pub mod Named
 pub mod Parsed
+pub mod Properties
+pub mod Pulls
+pub mod Resolves
 pub mod Seen
 pub mod Shown
 pub mod Stacked

@@ -1,5 +1,5 @@
 -- What clauses see of a parser.
-use Rattle.std.specs.Prelude.{◌≡◌, ◌||◌, if◌then◌else◌, ℕ, List, [], ◌∷◌, ◌++◌, Bool, true, false, Option, Some, None}
+use Rattle.std.specs.Prelude.{◌||◌, ◌&&◌, not, is_some, ℕ, List, [], ◌∷◌, ◌++◌, Bool, true, false, Option, Some, None}
 use Rattle.yaml_chars.specs.Place.{Place}
 use Rattle.yaml_tokens.specs.Fault.{Fault}
 use Rattle.yaml_scanner.specs.Scanned.{Scanned}
@@ -19,6 +19,8 @@ pub record Parsed : Type 0 where
   -- whether the stream's end was given
   pub ended : Bool
   pub keep_tags : Bool
+  -- whether `keep_tags` was so from the stream's start on
+  pub steady : Bool
   -- a bound on the events to come before the stream's end: it falls with each
   pub left : ℕ
 
@@ -27,9 +29,28 @@ abbrev pub is_stream_end : Ev → Bool
 is_stream_end Ev.stream_end = true
 is_stream_end _ = false
 
--- An event is given; behind the stream's end nothing more is noted.
-pub record Gives (old : Parsed) (e : Ev × Place) (new : Parsed) : Type 0 where
-  pub given : new.given ≡ old.given ++ (if old.ended then [] else e ∷ [])
-  pub ended : new.ended ≡ old.ended || is_stream_end e.0
-  pub started : new.started ≡ true
-  pub ahead : new.ahead ≡ None
+abbrev pub is_document_start : Ev → Bool
+is_document_start Ev.document_start = true
+is_document_start _ = false
+
+abbrev pub is_document_end : Ev → Bool
+is_document_end Ev.document_end = true
+is_document_end _ = false
+
+-- whether the stream's end is among these
+abbrev pub has_end : List (Ev × Place) → Bool
+has_end [] = false
+has_end (e ∷ es) = is_stream_end e.0 || has_end es
+
+-- The events that were read: those given, and the one that waits. Behind the stream's end nothing more is noted.
+abbrev pub read_so : (given : List (Ev × Place)) → (ended : Bool) → (ahead : Option (Ev × Place)) → List (Ev × Place)
+read_so given true ahead = given
+read_so given false None = given
+read_so given false (Some e) = given ++ e ∷ []
+
+abbrev pub read : Parsed → List (Ev × Place)
+read p = read_so p.given p.ended p.ahead
+
+-- Nothing was asked for.
+abbrev pub is_fresh : Parsed → Bool
+is_fresh p = not p.started && (not (is_some p.ahead) && not (is_some p.fault))

@@ -1,5 +1,5 @@
 -- A fault as callers see it.
-use Rattle.std.specs.Prelude.{Option, Some, None, unwrap_or}
+use Rattle.std.specs.Prelude.{Option, unwrap_or}
 use Rattle.yaml_chars.specs.Place.{Place}
 use Rattle.yaml_tokens.specs.Fault.{Fault}
 use Rattle.yaml_tokens.specs.Problem.{fault_of}

@@ -1,9 +1,11 @@
 -- How a parser's fields are seen.
-use Rattle.std.specs.Prelude.{◌≡◌, ◌⊎◌, ◌<◌, ℕ, ◌+◌, List, [], ◌∷◌, Bool, true, false, if◌then◌else◌, Option, Some, None, option_map, unwrap_or, codes}
+use Rattle.std.specs.Prelude.{ℕ, ◌+◌, Option, Some, None, option_map}
+use Rattle.yaml_chars.specs.Place.{Place}
 use Rattle.yaml_tokens.specs.Fault.{Fault}
-use Rattle.yaml_scanner.specs.Scanned.{Scanned, scanned}
-use Rattle.event_defs.specs.Event.{Ev}
-use Rattle.yaml_parser.specs.declared.tokens.Kept.{Kept}
+use Rattle.yaml_tokens.specs.Problem.{fault_of}
+use Rattle.yaml_tokens.specs.declared.problem.Fault.TheVariants as fault
+use Rattle.yaml_tokens.specs.declared.problem.Problem.TheVariants.{DocumentStartEvent}
+use Rattle.yaml_scanner.specs.Scanned.{scanned}
 use Rattle.yaml_parser.specs.declared.pull.Pull.{Pull}
 use Rattle.yaml_parser.specs.declared.reader.Reader.{Reader}
 use Rattle.yaml_parser.specs.Seen.{fault_seen}
@@ -19,6 +21,11 @@ one_if_some (Some x) = 1
 abbrev pub events_left : {T A : Type 0} → Reader T → Option A → ℕ
 events_left r current = work r + one_if_some current
 
--- An event is read, or the end again.
-abbrev pub Pulls : {T : Type 0} → Pull T → Ev → Pull T → Type 0
-Pulls old e new = (old.kept ≡ None) × (new.kept ≡ None) × ((work new.reader < work old.reader) ⊎ ((old.reader.stack ≡ []) × (new ≡ old) × (e ≡ Ev.stream_end)))
+-- the fault where no document starts
+abbrev pub no_document : Place → Fault
+no_document p = fault_of (fault.At DocumentStartEvent p) p
+
+-- the fault that is kept: that of `load` where no document started, or that of the pulls
+abbrev pub fault_of_all : {T : Type 0} → Option Place → Pull T → Option Fault
+fault_of_all (Some p) pull = Some (no_document p)
+fault_of_all None pull = fault_kept pull

@@ -1,17 +1,20 @@
 //! Block collections (YAML 1.2, section 8.2).
-ghost use Rattle.std.specs.Prelude.{◌≡◌, ◌+◌, ◌<◌, ◌≤◌, OnOk};
+ghost use Rattle.std.specs.Prelude.{◌≡◌, List, ◌+◌, ◌<◌, ◌≤◌, OnOk};
+ghost use Rattle.grammar_turns.specs.Goal as at;
+ghost use Rattle.yaml_parser.specs.At.{Reads};
 ghost use Rattle.yaml_parser.specs.Work.{work};
 
 use crate::event::Event;
-use crate::kind::Kind;
-use crate::node::Place;
-use crate::reader::{Answer, Reader, refused};
-use crate::stack::State;
-use yaml_tokens::Problem;
+use crate::reader::{Answer, Reader};
+use crate::tokens::Stop;
+use grammar_turns::{Kind, Place, State};
+use yaml_tokens::{Fault, Problem};
 
 impl<T: Iterator<Item = char>> Reader<T> {
     pub(crate) fn block_sequence_entry(&mut self) -> Answer
+        ensures answers { Reads at.entries self.old self.new result }
         ensures work { OnOk result (work self.new < work self.old + 1) }
+        ensures keeping { self.new.names.keeping ≡ self.old.names.keeping }
     {
         let next = self.peek()?;
         match next.kind {
@@ -23,24 +26,28 @@ impl<T: Iterator<Item = char>> Reader<T> {
                 self.skip();
                 self.block_sequence_item()
             }
-            _ => refused(Problem::BlockSequenceEntry, next.mark),
+            _ => Err(Stop::Own(Fault::At(Problem::BlockSequenceEntry, next.mark))),
         }
     }
 
     /// Behind a `-`.
     fn block_sequence_item(&mut self) -> Answer
+        ensures answers { Reads at.entry self.old self.new result }
         ensures work { OnOk result (work self.new < work self.old + 3) }
+        ensures keeping { self.new.names.keeping ≡ self.old.names.keeping }
     {
         let next = self.peek()?;
         self.push(State::BlockSequenceEntry)?;
         match next.kind {
-            Kind::BlockEntry | Kind::BlockEnd => self.nothing_written(next.mark),
+            Kind::BlockEntry | Kind::BlockEnd => Ok(self.nothing_written(next.mark)),
             _ => self.node(Place::Block),
         }
     }
 
     pub(crate) fn indentless_sequence_entry(&mut self) -> Answer
+        ensures answers { Reads at.dashes self.old self.new result }
         ensures work { OnOk result (work self.new < work self.old + 1) }
+        ensures keeping { self.new.names.keeping ≡ self.old.names.keeping }
     {
         let next = self.peek()?;
         match next.kind {
@@ -54,20 +61,24 @@ impl<T: Iterator<Item = char>> Reader<T> {
 
     /// Behind a `-`.
     pub(crate) fn indentless_sequence_item(&mut self) -> Answer
+        ensures answers { Reads at.dashed self.old self.new result }
         ensures work { OnOk result (work self.new < work self.old + 2) }
+        ensures keeping { self.new.names.keeping ≡ self.old.names.keeping }
     {
         let next = self.peek()?;
         self.push(State::IndentlessSequenceEntry)?;
         match next.kind {
             Kind::BlockEntry | Kind::Key | Kind::Value | Kind::BlockEnd => {
-                self.nothing_written(next.mark)
+                Ok(self.nothing_written(next.mark))
             }
             _ => self.node(Place::Block),
         }
     }
 
     pub(crate) fn block_mapping_key(&mut self) -> Answer
+        ensures answers { Reads at.pairs self.old self.new result }
         ensures work { OnOk result (work self.new < work self.old + 1) }
+        ensures keeping { self.new.names.keeping ≡ self.old.names.keeping }
     {
         let next = self.peek()?;
         match next.kind {
@@ -75,7 +86,7 @@ impl<T: Iterator<Item = char>> Reader<T> {
                 self.skip();
                 self.push(State::BlockMappingKey)?;
                 self.push(State::BlockMappingPart)?;
-                self.nothing_written(next.mark)
+                Ok(self.nothing_written(next.mark))
             }
             _ => self.block_mapping_next_key(),
         }
@@ -83,7 +94,9 @@ impl<T: Iterator<Item = char>> Reader<T> {
 
     /// Where a `:` would be a value of the key before.
     pub(crate) fn block_mapping_next_key(&mut self) -> Answer
+        ensures answers { Reads at.key_pairs self.old self.new result }
         ensures work { OnOk result (work self.new < work self.old + 1) }
+        ensures keeping { self.new.names.keeping ≡ self.old.names.keeping }
     {
         let next = self.peek()?;
         match next.kind {
@@ -96,13 +109,15 @@ impl<T: Iterator<Item = char>> Reader<T> {
                 self.push(State::BlockMappingValue)?;
                 self.block_mapping_part()
             }
-            _ => refused(Problem::BlockMappingKey, next.mark),
+            _ => Err(Stop::Own(Fault::At(Problem::BlockMappingKey, next.mark))),
         }
     }
 
     /// Behind a key.
     pub(crate) fn block_mapping_value(&mut self) -> Answer
+        ensures answers { Reads at.after_key self.old self.new result }
         ensures work { OnOk result (work self.new < work self.old + 2) }
+        ensures keeping { self.new.names.keeping ≡ self.old.names.keeping }
     {
         let next = self.peek()?;
         match next.kind {
@@ -113,18 +128,20 @@ impl<T: Iterator<Item = char>> Reader<T> {
             }
             _ => {
                 self.push(State::BlockMappingNextKey)?;
-                self.nothing_written(next.mark)
+                Ok(self.nothing_written(next.mark))
             }
         }
     }
 
     /// A key or a value, which may be missing.
     pub(crate) fn block_mapping_part(&mut self) -> Answer
+        ensures answers { Reads at.part self.old self.new result }
         ensures work { OnOk result (work self.new < work self.old + 1) }
+        ensures keeping { self.new.names.keeping ≡ self.old.names.keeping }
     {
         let next = self.peek()?;
         match next.kind {
-            Kind::Key | Kind::Value | Kind::BlockEnd => self.nothing_written(next.mark),
+            Kind::Key | Kind::Value | Kind::BlockEnd => Ok(self.nothing_written(next.mark)),
             _ => self.node(Place::Part),
         }
     }

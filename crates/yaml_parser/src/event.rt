@@ -1,4 +1,6 @@
-ghost use Rattle.std.specs.Prelude.{◌≡◌, IfOk};
+ghost use Rattle.std.specs.Prelude.{◌≡◌, [], IfOk};
+ghost use Rattle.token_defs.specs.Token.{Style};
+ghost use Rattle.event_defs.specs.Event.{Ev};
 ghost use Rattle.yaml_chars.specs.Text.{string_chars};
 ghost use Rattle.yaml_parser.specs.Shown.{ev_of, tag_of, perhaps_tag_of};
 
@@ -95,13 +97,11 @@ impl Event {
         }
     }
 
-    /// A scalar that is not written.
-    pub(crate) fn empty(alloc: Global) -> Event {
-        Event::empty_with(alloc, 0, None)
-    }
-
     /// A scalar of which only properties are written.
-    pub(crate) fn empty_with(alloc: Global, anchor: usize, tag: Option<Tag>) -> Event {
+    #[tactic(auto, using(yaml_chars::proofs::TextLemmas::string_chars_nil))]
+    pub(crate) fn empty_with(alloc: Global, anchor: usize, tag: Option<Tag>) -> Event
+        ensures { ev_of result ≡ Ev.scalar [] Style.plain anchor (perhaps_tag_of tag) }
+    {
         Event::Scalar(String::new(alloc), TScalarStyle::Plain, anchor, tag)
     }
 }

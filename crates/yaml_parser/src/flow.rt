@@ -1,18 +1,21 @@
 //! Flow collections (YAML 1.2, section 7.4).
-ghost use Rattle.std.specs.Prelude.{◌≡◌, ◌+◌, ◌<◌, ◌≤◌, OnOk};
+ghost use Rattle.std.specs.Prelude.{◌≡◌, List, ◌+◌, ◌<◌, ◌≤◌, OnOk};
+ghost use Rattle.grammar_turns.specs.Goal as at;
+ghost use Rattle.yaml_parser.specs.At.{Reads};
 ghost use Rattle.yaml_parser.specs.Work.{work};
 
 use crate::event::Event;
-use crate::kind::Kind;
-use crate::node::Place;
-use crate::reader::{Answer, Reader, refused};
-use crate::stack::State;
+use crate::reader::{Answer, Reader};
+use crate::tokens::Stop;
+use grammar_turns::{Kind, Place, State};
 use yaml_chars::Marker;
-use yaml_tokens::Problem;
+use yaml_tokens::{Fault, Problem};
 
 impl<T: Iterator<Item = char>> Reader<T> {
     pub(crate) fn flow_sequence_first_entry(&mut self) -> Answer
+        ensures answers { Reads at.items self.old self.new result }
         ensures work { OnOk result (work self.new < work self.old + 1) }
+        ensures keeping { self.new.names.keeping ≡ self.old.names.keeping }
     {
         let next = self.peek()?;
         match next.kind {
@@ -26,7 +29,9 @@ impl<T: Iterator<Item = char>> Reader<T> {
 
     /// Behind an item.
     pub(crate) fn flow_sequence_entry(&mut self) -> Answer
+        ensures answers { Reads at.more_items self.old self.new result }
         ensures work { OnOk result (work self.new < work self.old + 1) }
+        ensures keeping { self.new.names.keeping ≡ self.old.names.keeping }
     {
         let next = self.peek()?;
         match next.kind {
@@ -38,13 +43,15 @@ impl<T: Iterator<Item = char>> Reader<T> {
                 self.skip();
                 self.flow_sequence_next()
             }
-            _ => refused(Problem::FlowSequenceEntry, next.mark),
+            _ => Err(Stop::Own(Fault::At(Problem::FlowSequenceEntry, next.mark))),
         }
     }
 
     /// Behind a comma.
     fn flow_sequence_next(&mut self) -> Answer
+        ensures answers { Reads at.comma_items self.old self.new result }
         ensures work { OnOk result (work self.new < work self.old + 2) }
+        ensures keeping { self.new.names.keeping ≡ self.old.names.keeping }
     {
         let next = self.peek()?;
         match next.kind {
@@ -58,7 +65,9 @@ impl<T: Iterator<Item = char>> Reader<T> {
 
     /// An item: a node, or a pair that begins with `?`.
     fn flow_sequence_item(&mut self) -> Answer
+        ensures answers { Reads at.item self.old self.new result }
         ensures work { OnOk result (work self.new < work self.old + 1) }
+        ensures keeping { self.new.names.keeping ≡ self.old.names.keeping }
     {
         let next = self.peek()?;
         match next.kind {
@@ -76,13 +85,15 @@ impl<T: Iterator<Item = char>> Reader<T> {
 
     /// The key of a pair that is an item.
     pub(crate) fn flow_pair_key(&mut self) -> Answer
+        ensures answers { Reads at.pair_key self.old self.new result }
         ensures work { OnOk result (work self.new < work self.old + 4) }
+        ensures keeping { self.new.names.keeping ≡ self.old.names.keeping }
     {
         let next = self.peek()?;
         self.push(State::FlowSequenceEntryMappingValue)?;
         match next.kind {
             Kind::Value | Kind::FlowEntry | Kind::FlowSequenceEnd => {
-                self.nothing_written(next.mark)
+                Ok(self.nothing_written(next.mark))
             }
             _ => self.node(Place::Flow),
         }
@@ -90,7 +101,9 @@ impl<T: Iterator<Item = char>> Reader<T> {
 
     /// Behind the key of a pair that is an item.
     pub(crate) fn flow_pair_value(&mut self) -> Answer
+        ensures answers { Reads at.pair_value self.old self.new result }
         ensures work { OnOk result (work self.new < work self.old + 3) }
+        ensures keeping { self.new.names.keeping ≡ self.old.names.keeping }
     {
         let next = self.peek()?;
         match next.kind {
@@ -100,33 +113,39 @@ impl<T: Iterator<Item = char>> Reader<T> {
             }
             _ => {
                 self.push(State::FlowSequenceEntryMappingEnd)?;
-                self.nothing_written(next.mark)
+                Ok(self.nothing_written(next.mark))
             }
         }
     }
 
     /// Behind its `:`.
     fn flow_pair_valued(&mut self) -> Answer
+        ensures answers { Reads at.pair_valued self.old self.new result }
         ensures work { OnOk result (work self.new < work self.old + 3) }
+        ensures keeping { self.new.names.keeping ≡ self.old.names.keeping }
     {
         let next = self.peek()?;
         self.push(State::FlowSequenceEntryMappingEnd)?;
         match next.kind {
-            Kind::FlowEntry | Kind::FlowSequenceEnd => self.nothing_written(next.mark),
+            Kind::FlowEntry | Kind::FlowSequenceEnd => Ok(self.nothing_written(next.mark)),
             _ => self.node(Place::Flow),
         }
     }
 
     /// The end of a pair that is an item.
     pub(crate) fn flow_pair_end(&mut self) -> Answer
+        ensures answers { Reads at.pair_end self.old self.new result }
         ensures work { OnOk result (work self.new < work self.old + 2) }
+        ensures keeping { self.new.names.keeping ≡ self.old.names.keeping }
     {
         self.push(State::FlowSequenceEntry)?;
         Ok((Event::MappingEnd, self.tokens.scanner.mark()))
     }
 
     pub(crate) fn flow_mapping_first_key(&mut self) -> Answer
+        ensures answers { Reads at.flow_pairs self.old self.new result }
         ensures work { OnOk result (work self.new < work self.old + 1) }
+        ensures keeping { self.new.names.keeping ≡ self.old.names.keeping }
     {
         let next = self.peek()?;
         match next.kind {
@@ -140,7 +159,9 @@ impl<T: Iterator<Item = char>> Reader<T> {
 
     /// Behind a pair.
     pub(crate) fn flow_mapping_key(&mut self) -> Answer
+        ensures answers { Reads at.more_flow_pairs self.old self.new result }
         ensures work { OnOk result (work self.new < work self.old + 1) }
+        ensures keeping { self.new.names.keeping ≡ self.old.names.keeping }
     {
         let next = self.peek()?;
         match next.kind {
@@ -152,13 +173,15 @@ impl<T: Iterator<Item = char>> Reader<T> {
                 self.skip();
                 self.flow_mapping_next(next.mark)
             }
-            _ => refused(Problem::FlowMappingEntry, next.mark),
+            _ => Err(Stop::Own(Fault::At(Problem::FlowMappingEntry, next.mark))),
         }
     }
 
     /// Behind a comma, which stands here.
     fn flow_mapping_next(&mut self, comma: Marker) -> Answer
+        ensures answers { Reads at.comma_flow_pairs self.old self.new result }
         ensures work { OnOk result (work self.new < work self.old + 2) }
+        ensures keeping { self.new.names.keeping ≡ self.old.names.keeping }
     {
         let next = self.peek()?;
         match next.kind {
@@ -172,7 +195,9 @@ impl<T: Iterator<Item = char>> Reader<T> {
 
     /// A pair: with a key, with a value alone, or a node that is a key without value.
     fn flow_mapping_pair(&mut self) -> Answer
+        ensures answers { Reads at.flow_pair self.old self.new result }
         ensures work { OnOk result (work self.new < work self.old + 1) }
+        ensures keeping { self.new.names.keeping ≡ self.old.names.keeping }
     {
         let next = self.peek()?;
         match next.kind {
@@ -183,7 +208,7 @@ impl<T: Iterator<Item = char>> Reader<T> {
             Kind::Value => {
                 self.skip();
                 self.push(State::FlowMappingPart(next.mark))?;
-                self.nothing_written(next.mark)
+                Ok(self.nothing_written(next.mark))
             }
             _ => {
                 self.push(State::FlowMappingEmptyValue)?;
@@ -194,19 +219,25 @@ impl<T: Iterator<Item = char>> Reader<T> {
 
     /// A key behind its `?`, or behind what stands for it.
     fn flow_mapping_keyed(&mut self) -> Answer
+        ensures answers { Reads at.flow_key self.old self.new result }
         ensures work { OnOk result (work self.new < work self.old + 4) }
+        ensures keeping { self.new.names.keeping ≡ self.old.names.keeping }
     {
         let next = self.peek()?;
         self.push(State::FlowMappingValue)?;
         match next.kind {
-            Kind::Value | Kind::FlowEntry | Kind::FlowMappingEnd => self.nothing_written(next.mark),
+            Kind::Value | Kind::FlowEntry | Kind::FlowMappingEnd => Ok(self.nothing_written(
+                next.mark,
+            )),
             _ => self.node(Place::Flow),
         }
     }
 
     /// Behind a key.
     pub(crate) fn flow_mapping_value(&mut self) -> Answer
+        ensures answers { Reads at.flow_after_key self.old self.new result }
         ensures work { OnOk result (work self.new < work self.old + 2) }
+        ensures keeping { self.new.names.keeping ≡ self.old.names.keeping }
     {
         let next = self.peek()?;
         match next.kind {
@@ -216,29 +247,33 @@ impl<T: Iterator<Item = char>> Reader<T> {
             }
             _ => {
                 self.push(State::FlowMappingKey)?;
-                self.nothing_written(next.mark)
+                Ok(self.nothing_written(next.mark))
             }
         }
     }
 
     /// Behind a `:`, which stands here.
     pub(crate) fn flow_mapping_valued(&mut self, colon: Marker) -> Answer
+        ensures answers { Reads at.flow_valued self.old self.new result }
         ensures work { OnOk result (work self.new < work self.old + 2) }
+        ensures keeping { self.new.names.keeping ≡ self.old.names.keeping }
     {
         let next = self.peek()?;
         self.push(State::FlowMappingKey)?;
         match next.kind {
-            Kind::FlowEntry | Kind::FlowMappingEnd => self.nothing_written(colon),
+            Kind::FlowEntry | Kind::FlowMappingEnd => Ok(self.nothing_written(colon)),
             _ => self.node(Place::Flow),
         }
     }
 
     /// Behind a node that is a key without value.
     pub(crate) fn flow_mapping_empty_value(&mut self) -> Answer
+        ensures answers { Reads at.flow_empty self.old self.new result }
         ensures work { OnOk result (work self.new < work self.old + 2) }
+        ensures keeping { self.new.names.keeping ≡ self.old.names.keeping }
     {
         let next = self.peek()?;
         self.push(State::FlowMappingKey)?;
-        self.nothing_written(next.mark)
+        Ok(self.nothing_written(next.mark))
     }
 }

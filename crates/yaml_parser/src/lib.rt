@@ -6,6 +6,7 @@ mod document;
 pub mod event;
 mod flow;
 pub mod kind;
+mod load;
 pub mod names;
 pub mod node;
 pub mod parser;

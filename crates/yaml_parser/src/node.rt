@@ -1,27 +1,26 @@
 //! Nodes: their properties, and what may stand behind them (YAML 1.2, section 6.9).
-ghost use Rattle.std.specs.Prelude.{◌≡◌, ◌+◌, ◌<◌, ◌≤◌, OnOk, IfOk, IsSome};
+ghost use Rattle.std.specs.Prelude.{◌≡◌, false, Some, None, ◌+◌, ◌<◌, ◌≤◌, OnOk, IfOk, IfErr, IsSome, IfSome};
+ghost use Rattle.grammar_turns.specs.Goal as at;
+ghost use Rattle.event_defs.specs.Event.{Ev};
+ghost use Rattle.event_defs.specs.Names.{Names};
+ghost use Rattle.grammar_turns.specs.declared.place.Place.TheVariants as place;
+ghost use Rattle.grammar_turns.specs.Kinds.{begins_content};
+ghost use Rattle.yaml_tokens.specs.declared.problem.Fault.TheVariants.{OutOfMemory};
+ghost use Rattle.yaml_parser.specs.declared.tokens.Stop.TheVariants.{Own};
+ghost use Rattle.yaml_parser.specs.Shown.{placed, perhaps_tag_of};
+ghost use Rattle.yaml_parser.specs.Named.{IsNamed};
+ghost use Rattle.yaml_parser.specs.Properties.{ReadsBehind, Registers};
+ghost use Rattle.yaml_parser.specs.At.{Reads};
 ghost use Rattle.yaml_parser.specs.Work.{work, owed};
 ghost use Rattle.yaml_parser.specs.Kinds.{IsOfKind, IsName};
-ghost use Rattle.yaml_parser.specs.declared.kind.Kind.TheVariants as kind;
+ghost use Rattle.grammar_turns.specs.declared.kind.Kind.TheVariants as kind;
 
 use crate::event::{Event, Tag};
-use crate::kind::Kind;
-use crate::reader::{Answer, Reader, refused};
-use crate::stack::State;
+use crate::reader::{Answer, Reader};
 use crate::tokens::Stop;
+use grammar_turns::{Kind, Place, State};
 use yaml_chars::Marker;
-use yaml_tokens::Problem;
-
-/// Where a node stands, and so which contents it may have.
-#[derive(Clone, Copy, Debug, PartialEq, Eq)]
-pub enum Place {
-    /// In a flow collection.
-    Flow,
-    /// Outside: block collections too.
-    Block,
-    /// A key or a value of a block mapping: sequences without indentation too.
-    Part,
-}
+use yaml_tokens::{Fault, Problem};
 
 /// What stands before a node's content.
 #[derive(Drop)]
@@ -33,7 +32,9 @@ pub struct Properties {
 impl<T: Iterator<Item = char>> Reader<T> {
     /// A node that stands here.
     pub(crate) fn node(&mut self, place: Place) -> Answer
+        ensures answers { Reads (at.node place) self.old self.new result }
         ensures work { OnOk result (work self.new + 2 ≤ work self.old) }
+        ensures keeping { self.new.names.keeping ≡ self.old.names.keeping }
     {
         let next = self.peek()?;
         match next.kind {
@@ -45,8 +46,11 @@ impl<T: Iterator<Item = char>> Reader<T> {
     }
 
     fn alias(&mut self, mark: Marker) -> Answer
-        requires { IsOfKind kind.Alias self.old.tokens.peeked }
+        requires looks { IsOfKind kind.Alias self.old.tokens.peeked }
+        requires mark { IfSome self.old.tokens.peeked (λ t. t.0 ≡ mark) }
+        ensures answers { (place : Place) → Reads (at.node place) self.old self.new result }
         ensures work { OnOk result (work self.new + 2 ≤ work self.old) }
+        ensures keeping { self.new.names.keeping ≡ self.old.names.keeping }
     {
         let name = self.tokens.take_name();
         let number = self.names.number_of(mark, &name)?;
@@ -56,47 +60,70 @@ impl<T: Iterator<Item = char>> Reader<T> {
     /// A node that begins with an anchor.
     fn anchored(&mut self, place: Place, mark: Marker) -> Answer
         requires { IsOfKind kind.Anchor self.old.tokens.peeked }
+        ensures answers { Reads (at.node place) self.old self.new result }
         ensures work { OnOk result (work self.new + 2 ≤ work self.old) }
+        ensures keeping { self.new.names.keeping ≡ self.old.names.keeping }
     {
-        let anchor = Some(self.tokens.take_name());
+        let name = self.tokens.take_name();
         let next = self.peek()?;
         match next.kind {
             Kind::Tag => {
-                let tag = Some(self.tag(mark)?);
-                self.content(place, Some(Properties { anchor, tag }))
+                let (handle, suffix) = self.tokens.take_tag();
+                let tag = self.names.resolve(mark, handle, suffix)?;
+                self.content(
+                    place,
+                    Some(Properties {
+                        anchor: Some(name),
+                        tag: Some(tag),
+                    }),
+                )
             }
-            _ => self.content(place, Some(Properties { anchor, tag: None })),
+            _ => self.content(
+                place,
+                Some(Properties {
+                    anchor: Some(name),
+                    tag: None,
+                }),
+            ),
         }
     }
 
     /// A node that begins with a tag.
     fn tagged(&mut self, place: Place, mark: Marker) -> Answer
         requires { IsOfKind kind.Tag self.old.tokens.peeked }
+        ensures answers { Reads (at.node place) self.old self.new result }
         ensures work { OnOk result (work self.new + 2 ≤ work self.old) }
+        ensures keeping { self.new.names.keeping ≡ self.old.names.keeping }
     {
-        let tag = Some(self.tag(mark)?);
+        let (handle, suffix) = self.tokens.take_tag();
+        let tag = self.names.resolve(mark, handle, suffix)?;
         let next = self.peek()?;
         match next.kind {
             Kind::Anchor => {
-                let anchor = Some(self.tokens.take_name());
-                self.content(place, Some(Properties { anchor, tag }))
+                let name = self.tokens.take_name();
+                self.content(
+                    place,
+                    Some(Properties {
+                        anchor: Some(name),
+                        tag: Some(tag),
+                    }),
+                )
             }
-            _ => self.content(place, Some(Properties { anchor: None, tag })),
+            _ => self.content(
+                place,
+                Some(Properties {
+                    anchor: None,
+                    tag: Some(tag),
+                }),
+            ),
         }
-    }
-
-    /// Takes a tag. `mark` is the place of the node's first property.
-    fn tag(&mut self, mark: Marker) -> Result<Tag, Stop>
-        requires { IsOfKind kind.Tag self.old.tokens.peeked }
-        ensures work { OnOk result (work self.new + 4 ≤ work self.old) }
-    {
-        let (handle, suffix) = self.tokens.take_tag();
-        self.names.resolve(mark, handle, suffix)
     }
 
     /// What stands behind a node's properties.
     fn content(&mut self, place: Place, properties: Option<Properties>) -> Answer
+        ensures answers { ReadsBehind place properties self.old self.new result }
         ensures work { OnOk result (work self.new + owed properties ≤ work self.old) }
+        ensures keeping { self.new.names.keeping ≡ self.old.names.keeping }
     {
         match place {
             Place::Flow => self.flow_content(properties),
@@ -106,7 +133,9 @@ impl<T: Iterator<Item = char>> Reader<T> {
     }
 
     fn part_content(&mut self, properties: Option<Properties>) -> Answer
+        ensures answers { ReadsBehind place.Part properties self.old self.new result }
         ensures work { OnOk result (work self.new + owed properties ≤ work self.old) }
+        ensures keeping { self.new.names.keeping ≡ self.old.names.keeping }
     {
         let next = self.peek()?;
         match next.kind {
@@ -120,7 +149,9 @@ impl<T: Iterator<Item = char>> Reader<T> {
     }
 
     fn block_content(&mut self, properties: Option<Properties>) -> Answer
+        ensures answers { ReadsBehind place.Block properties self.old self.new result }
         ensures work { OnOk result (work self.new + owed properties ≤ work self.old) }
+        ensures keeping { self.new.names.keeping ≡ self.old.names.keeping }
     {
         let next = self.peek()?;
         match next.kind {
@@ -139,7 +170,9 @@ impl<T: Iterator<Item = char>> Reader<T> {
     }
 
     fn flow_content(&mut self, properties: Option<Properties>) -> Answer
+        ensures answers { ReadsBehind place.Flow properties self.old self.new result }
         ensures work { OnOk result (work self.new + owed properties ≤ work self.old) }
+        ensures keeping { self.new.names.keeping ≡ self.old.names.keeping }
     {
         let next = self.peek()?;
         match next.kind {
@@ -158,26 +191,33 @@ impl<T: Iterator<Item = char>> Reader<T> {
                 self.push(State::FlowMappingFirstKey)?;
                 self.mapping(properties, next.mark)
             }
-            _ => self.no_content(properties, next.mark),
+            _ => self.no_content(properties, next.kind, next.mark),
         }
     }
 
     /// Properties alone are a node.
-    fn no_content(&mut self, properties: Option<Properties>, mark: Marker) -> Answer
+    fn no_content(&mut self, properties: Option<Properties>, kind: Kind, mark: Marker) -> Answer
+        requires looks { IsOfKind kind self.old.tokens.peeked }
+        requires none { begins_content place.Flow kind ≡ false }
+        ensures answers { ReadsBehind place.Flow properties self.old self.new result }
         ensures work { OnOk result (work self.new + owed properties ≤ work self.old) }
+        ensures keeping { self.new.names.keeping ≡ self.old.names.keeping }
     {
         match properties {
             Some(properties) => {
                 let (anchor, tag) = self.registered(Some(properties))?;
                 Ok((Event::empty_with(self.alloc, anchor, tag), mark))
             }
-            None => refused(Problem::NodeContent, mark),
+            None => Err(Stop::Own(Fault::At(Problem::NodeContent, mark))),
         }
     }
 
     /// The start of a sequence with these properties.
     fn sequence(&mut self, properties: Option<Properties>, mark: Marker) -> Answer
         ensures work { OnOk result (work self.new ≡ work self.old) }
+        ensures keeping { self.new.names.keeping ≡ self.old.names.keeping }
+        ensures registers { (names : Names) → IsNamed self.old.names names → IfOk result (λ e. Registers self.old properties names (λ a t. placed e ≡ (Ev.sequence_start a t, mark)) self.new) }
+        ensures err { IfErr result (λ s. s ≡ Own OutOfMemory) }
     {
         let (anchor, tag) = self.registered(properties)?;
         Ok((Event::SequenceStart(anchor, tag), mark))
@@ -186,6 +226,9 @@ impl<T: Iterator<Item = char>> Reader<T> {
     /// The start of a mapping with these properties.
     fn mapping(&mut self, properties: Option<Properties>, mark: Marker) -> Answer
         ensures work { OnOk result (work self.new ≡ work self.old) }
+        ensures keeping { self.new.names.keeping ≡ self.old.names.keeping }
+        ensures registers { (names : Names) → IsNamed self.old.names names → IfOk result (λ e. Registers self.old properties names (λ a t. placed e ≡ (Ev.mapping_start a t, mark)) self.new) }
+        ensures err { IfErr result (λ s. s ≡ Own OutOfMemory) }
     {
         let (anchor, tag) = self.registered(properties)?;
         Ok((Event::MappingStart(anchor, tag), mark))
@@ -194,6 +237,9 @@ impl<T: Iterator<Item = char>> Reader<T> {
     /// Numbers the anchor of these properties.
     fn registered(&mut self, properties: Option<Properties>) -> Result<(usize, Option<Tag>), Stop>
         ensures work { OnOk result (work self.new ≡ work self.old) }
+        ensures keeping { self.new.names.keeping ≡ self.old.names.keeping }
+        ensures registers { (names : Names) → IsNamed self.old.names names → IfOk result (λ r. Registers self.old properties names (λ a t. (r.0 ≡ a) × (perhaps_tag_of r.1 ≡ t)) self.new) }
+        ensures err { IfErr result (λ s. s ≡ Own OutOfMemory) }
     {
         let Some(properties) = properties else {
             return Ok((0, None));

@@ -1,18 +1,41 @@
-ghost use Rattle.std.specs.Prelude.{◌≡◌, ◌^◌, ◌<◌, ◌≤◌, [], true, false, Some, None, Ok, Err, ◌≢◌, IfOk, IfErr, IfSome, IsOkAnd, IsSome, OnOk};
+ghost use Rattle.std.specs.Prelude.{◌≡◌, ◌^◌, ◌<◌, ◌&&◌, ◌||◌, ◌++◌, if◌then◌else◌, [], ◌∷◌, true, false, Some, None, IfSome, IsSome, IfOk, IfErr, option_map};
 ghost use Rattle.std.specs.Iterator.{IsFinite, size};
-ghost use Rattle.yaml_parser.specs.Parsed.{Gives};
-ghost use Rattle.event_defs.specs.Event.{Ev};
-ghost use Rattle.yaml_parser.specs.Shown.{ev_of, placed};
+ghost use Rattle.yaml_parser.specs.Parsed.{is_fresh, is_stream_end};
+ghost use Rattle.yaml_parser.specs.Pulls.{GivesEvent, Pulls, Looks, ShowsNext, MeetsFault, answer_of};
+ghost use Rattle.yaml_parser.specs.Shown.{placed, ev_of};
+ghost use Rattle.yaml_parser.specs.View.{no_document};
 
 use crate::event::{Event, ParseResult};
+use crate::names::Keeping;
 use crate::pull::Pull;
-use crate::receiver::MarkedEventReceiver;
 use std::alloc::Global;
 use std::marker::Model;
 use std::str::Chars;
 use yaml_chars::Marker;
 use yaml_chars::history::History;
-use yaml_tokens::{Problem, ScanError};
+use yaml_tokens::{Fault, Problem, ScanError};
+
+/// Notes an event, but behind the stream's end none.
+fn note(given: &mut History<(Event, Marker)>, next: &(Event, Marker), ended: bool)
+    ensures { given.new.items ≡ given.old.items ++ (if ended then [] else next.now ∷ []) }
+{
+    if !ended {
+        given.push(next);
+    }
+}
+
+/// Whether the stream's end was given, this event counted.
+fn ends(ended: bool, event: &Event) -> bool
+    ensures { result ≡ ended || is_stream_end (ev_of event.now) }
+{
+    if ended {
+        return true;
+    }
+    match event {
+        Event::StreamEnd => true,
+        _ => false,
+    }
+}
 
 /// Reads a stream of characters as YAML's events (YAML 1.2, chapters 6 to 9).
 ///
@@ -24,6 +47,8 @@ pub struct Parser<T: Iterator<Item = char>> {
     given: History<(Event, Marker)>,
     started: bool,
     ended: bool,
+    // Where `load` met another event than a document's start: a fault that is kept.
+    misplaced: Option<Marker>,
 }
 
 impl<T: Iterator<Item = char>> Model for Parser<T> {
@@ -31,11 +56,14 @@ impl<T: Iterator<Item = char>> Model for Parser<T> {
     ghost use Rattle.yaml_scanner.specs.Scanned.{scanned};
     ghost use Rattle.yaml_parser.specs.Parsed.{Parsed};
     ghost use Rattle.yaml_parser.specs.Shown.{placed, all_placed};
-    ghost use Rattle.yaml_parser.specs.View.{fault_kept, events_left};
+    ghost use Rattle.yaml_parser.specs.View.{fault_of_all, events_left};
+    ghost use Rattle.yaml_parser.specs.Held.{Holds};
 
     ghost Value = { Parsed };
 
-    ghost view = { λ p. record { scanner = scanned p.pull.reader.tokens.scanner; given = all_placed p.given.items; ahead = option_map placed p.current; fault = fault_kept p.pull; started = p.started; ended = p.ended; keep_tags = p.pull.reader.names.keep_tags; left = events_left p.pull.reader p.current } };
+    ghost view = { λ p. record { scanner = scanned p.pull.reader.tokens.scanner; given = all_placed p.given.items; ahead = option_map placed p.current; fault = fault_of_all p.misplaced p.pull; started = p.started; ended = p.ended; keep_tags = p.pull.reader.names.keeping.tags; steady = p.pull.reader.names.keeping.steady; left = events_left p.pull.reader p.current } };
+
+    ghost invariant = { λ p. Holds p.pull (all_placed p.given.items) (option_map placed p.current) p.started p.ended p.misplaced };
 }
 
 impl<'a> Parser<Chars<'a>> {
@@ -47,6 +75,7 @@ impl<'a> Parser<Chars<'a>> {
         ensures started { result.started ≡ false }
         ensures ended { result.ended ≡ false }
         ensures keep_tags { result.keep_tags ≡ false }
+        ensures steady { result.steady ≡ true }
     {
         Parser::new(alloc, value.chars())
     }
@@ -64,6 +93,7 @@ impl<T: Iterator<Item = char>> Parser<T> {
         ensures started { result.started ≡ false }
         ensures ended { result.ended ≡ false }
         ensures keep_tags { result.keep_tags ≡ false }
+        ensures steady { result.steady ≡ true }
     {
         Parser {
             pull: Pull::new(alloc, src),
@@ -71,101 +101,111 @@ impl<T: Iterator<Item = char>> Parser<T> {
             given: History::new(),
             started: false,
             ended: false,
+            misplaced: None,
         }
     }
 
     /// Whether a declared tag handle counts in later documents too.
     pub fn keep_tags(mut self, value: bool) -> Self
-        ensures { result ≡ record self { keep_tags = value } }
+        ensures { result ≡ record self { keep_tags = value; steady = self.steady && is_fresh self } }
     {
-        self.pull.reader.names.keep_tags = value;
+        let steady = self.stays_steady();
+        self.pull.reader.names.keeping = Keeping {
+            tags: value,
+            steady,
+        };
         self
     }
 
-    /// The next event and its place, which stays: the next call of `next_token` gives it.
-    pub fn peek(&mut self) -> Result<&(Event, Marker), ScanError> {
+    /// Whether a setting that is made now counts from the stream's start on.
+    fn stays_steady(&self) -> bool
+        ensures { result ≡ self.now.steady && is_fresh self.now }
+    {
+        self.pull.reader.names.keeping.steady && self.is_fresh()
+    }
+
+    /// Whether nothing was asked for.
+    fn is_fresh(&self) -> bool
+        ensures { result ≡ is_fresh self.now }
+    {
+        !self.started
+            && self.current.is_none()
+            && self.misplaced.is_none()
+            && self.pull.kept.is_none()
+    }
+
+    /// The next event and its place, which stays: the next call of `next_token` gives it. This is a
+    /// `look` and what is then `waiting`.
+    pub fn peek(&mut self) -> Result<&(Event, Marker), ScanError>
+        ensures event { IfOk result (λ e. ShowsNext self.old (placed e.now)) }
+        ensures fault { IfErr result (λ f. MeetsFault self.old f) }
+    {
         self.look()?;
-        match &self.current {
+        match self.waiting() {
             Some(next) => Ok(next),
             None => unreachable!(),
         }
     }
 
-    /// Looks at the next event.
-    fn look(&mut self) -> Result<(), ScanError>
-        ensures ahead { OnOk result (IsSome self.new.ahead) }
+    /// Looks at the next event: it waits, `waiting` shows it, and the next call of `next_token` gives it.
+    pub fn look(&mut self) -> Result<(), ScanError>
+        ensures { Looks self.old result self.new }
     {
-        if self.current.is_none() {
-            let next = self.pull.next()?;
-            self.current = Some(next);
+        if self.current.is_some() {
+            return Ok(());
         }
+        if let Some(mark) = self.misplaced {
+            return Err(Fault::At(Problem::DocumentStartEvent, mark).error(mark));
+        }
+        let next = self.pull.next()?;
+        self.current = Some(next);
         Ok(())
+    }
+
+    /// The event that waits, and its place.
+    pub fn waiting(&self) -> Option<&(Event, Marker)>
+        ensures { option_map (λ e. placed e.now) result ≡ self.now.ahead }
+    {
+        self.current.as_ref()
     }
 
     /// The next event and its place. Behind the stream's end comes that end again.
     pub fn next_token(&mut self) -> ParseResult
-        ensures given { IfOk result (λ e. Gives self.old (placed e) self.new) }
-        ensures left { IfOk result (λ e. ev_of e.0 ≢ Ev.stream_end → self.new.left < self.old.left) }
-        ensures waited { IfSome self.old.ahead (λ e. IsOkAnd result (λ r. placed r ≡ e)) }
-        ensures kept { IfErr result (λ f. (self.new.fault ≡ Some f) × (self.new.given ≡ self.old.given)) }
-        ensures again { self.old.ahead ≡ None → IfSome self.old.fault (λ f. result ≡ Err f) }
+        ensures { Pulls self.old (answer_of result) self.new }
     {
-        match self.current.take() {
-            Some(next) => Ok(self.give(next)),
-            None => {
-                let next = self.pull.next()?;
-                Ok(self.give(next))
-            }
-        }
+        self.look()?;
+        Ok(self.give())
     }
 
-    /// Gives an event.
-    fn give(&mut self, next: (Event, Marker)) -> (Event, Marker)
-        requires { self.old.ahead ≡ None }
-        ensures same { result ≡ next }
-        ensures given { Gives self.old (placed next) self.new }
-        ensures fault { self.new.fault ≡ self.old.fault }
-        ensures left { self.new.left ≡ self.old.left }
+    /// Gives the event that waits.
+    fn give(&mut self) -> (Event, Marker)
+        requires { IsSome self.old.ahead }
+        ensures { IfSome self.old.ahead (λ e. placed result ≡ e) × GivesEvent self.old (placed result) self.new }
     {
-        if !self.ended {
-            self.given.push(&next);
-        }
+        let Some(next) = self.current.take() else {
+            unreachable!()
+        };
+        note(&mut self.given, &next, self.ended);
         self.started = true;
-        self.ended = self.ended || matches!(next.0, Event::StreamEnd);
+        self.ended = ends(self.ended, &next.0);
         next
     }
 
-    /// Pushes events into a receiver, from where the parser stands: the stream's start if it was
-    /// not given yet, and then a document's events, or with `multi` those of all documents and the
-    /// stream's end. A fault is answered, and so is what the receiver answers, which is not kept.
-    pub fn load<R: MarkedEventReceiver>(
-        &mut self,
-        recv: &mut R,
-        multi: bool,
-    ) -> Result<(), ScanError> {
-        if !self.started {
-            let (event, mark) = self.next_token()?;
-            recv.on_event(event, mark)?;
-        }
-        let mut inside = false;
-        'events: loop {
-            let (event, mark) = self.next_token()?;
-            match event {
-                Event::StreamEnd => return recv.on_event(Event::StreamEnd, mark),
-                Event::DocumentEnd if inside => {
-                    recv.on_event(Event::DocumentEnd, mark)?;
-                    if !multi {
-                        return Ok(());
-                    }
-                    inside = false;
-                }
-                event if inside => recv.on_event(event, mark)?,
-                Event::DocumentStart => {
-                    recv.on_event(Event::DocumentStart, mark)?;
-                    inside = true;
-                }
-                _ => return Err(ScanError::fixed(mark, Problem::DocumentStartEvent.text())),
-            }
-        }
+    /// Whether an event was given.
+    pub(crate) fn has_started(&self) -> bool
+        ensures { result ≡ self.now.started }
+    {
+        self.started
+    }
+
+    /// Keeps the fault of an event that stands where a document must start, and which was given.
+    pub(crate) fn misplace(&mut self, mark: Marker) -> ScanError
+        requires none { self.old.ahead ≡ None }
+        requires going { self.old.ended ≡ false }
+        ensures fault { result ≡ no_document mark }
+        ensures kept { self.new ≡ record self.old { fault = Some (no_document mark) } }
+    {
+        self.misplaced = Some(mark);
+        Fault::At(Problem::DocumentStartEvent, mark).error(mark)
     }
 }

@@ -1,9 +1,12 @@
-ghost use Rattle.std.specs.Prelude.{◌≡◌, ◌⊎◌, ◌^◌, ◌<◌, ◌≤◌, [], ◌∷◌, true, false, Some, None, Ok, Err, IfOk, IfErr, IfSome, OnOk};
+ghost use Rattle.std.specs.Prelude.{◌≡◌, ◌⊎◌, ◌^◌, ◌<◌, ◌≤◌, List, [], ◌∷◌, true, false, Some, None, Ok, Err, IfOk, IfErr, IfSome, OnOk};
 ghost use Rattle.std.specs.Iterator.{IsFinite, size};
 ghost use Rattle.yaml_scanner.specs.Scanned.{scanned};
-ghost use Rattle.yaml_parser.specs.declared.stack.State.TheVariants.{StreamStart};
+ghost use Rattle.grammar_turns.specs.declared.state.State.TheVariants.{StreamStart};
 ghost use Rattle.yaml_parser.specs.Shown.{placed, ev_of};
-ghost use Rattle.yaml_parser.specs.View.{fault_kept, Pulls};
+ghost use Rattle.yaml_chars.specs.Place.{Place};
+ghost use Rattle.event_defs.specs.Event.{Ev};
+ghost use Rattle.yaml_parser.specs.Held.{IsHeld, Continues};
+ghost use Rattle.yaml_parser.specs.View.{fault_kept};
 
 use crate::event::{Event, ParseResult};
 use crate::names::Names;
@@ -28,7 +31,9 @@ impl<T: Iterator<Item = char>> Pull<T> {
         requires few { size (T.remaining src) < 2 ^ 63 }
         ensures given { (scanned result.reader.tokens.scanner).given ≡ [] }
         ensures kept { result.kept ≡ None }
-        ensures keep_tags { result.reader.names.keep_tags ≡ false }
+        ensures held { IsHeld result.reader [] None }
+        ensures steady { result.reader.names.keeping.steady ≡ true }
+        ensures keep_tags { result.reader.names.keeping.tags ≡ false }
         ensures stack { result.reader.stack ≡ StreamStart ∷ [] }
     {
         Pull {
@@ -44,9 +49,10 @@ impl<T: Iterator<Item = char>> Pull<T> {
 
     /// The next event. Behind the stream's end comes that end again.
     pub fn next(&mut self) -> ParseResult
-        ensures ok { IfOk result (λ e. Pulls self.old (ev_of e.0) self.new) }
+        ensures continues { (read : List (Ev × Place)) → IsHeld self.old.reader read self.old.kept → Continues self.old read result self.new }
+        ensures keeping { self.new.reader.names.keeping ≡ self.old.reader.names.keeping }
         ensures err { IfErr result (λ f. fault_kept self.new ≡ Some f) }
-        ensures again { IfSome (fault_kept self.old) (λ f. result ≡ Err f) }
+        ensures again { IfSome (fault_kept self.old) (λ f. (result ≡ Err f) × (self.new ≡ self.old)) }
     {
         if let Some(kept) = &self.kept {
             return Err(self.reader.error(kept));
@@ -63,6 +69,7 @@ impl<T: Iterator<Item = char>> Pull<T> {
     /// Keeps a fault, and gives it as callers see it.
     fn keep(&mut self, stop: Stop) -> ScanError
         ensures kept { fault_kept self.new ≡ Some result }
+        ensures stop { IfSome self.new.kept (λ k. k.stop ≡ stop) }
         ensures reader { self.new.reader ≡ self.old.reader }
     {
         let kept = Kept {

@@ -1,4 +1,13 @@
-ghost use Rattle.std.specs.Prelude.{◌≡◌, ◌+◌, ◌<◌, ◌≤◌, OnOk, IfOk, IsSome, IsErr};
+ghost use Rattle.std.specs.Prelude.{◌≡◌, List, [], ◌∷◌, false, Some, None, Err, IsOkAnd, IfErr, ◌+◌, ◌<◌, ◌≤◌, OnOk, IfOk, IsSome, IfSome, IsErr};
+ghost use Rattle.token_defs.specs.Token.{Style};
+ghost use Rattle.yaml_tokens.specs.declared.token.Token.{Token};
+ghost use Rattle.yaml_tokens.specs.declared.problem.Fault.TheVariants.{OutOfMemory};
+ghost use Rattle.event_defs.specs.Event.{Ev};
+ghost use Rattle.grammar_turns.specs.Goal.{Goal};
+ghost use Rattle.yaml_parser.specs.declared.tokens.Stop.TheVariants.{Own};
+ghost use Rattle.yaml_parser.specs.Shown.{placed};
+ghost use Rattle.grammar_turns.specs.Rest.{goal_of};
+ghost use Rattle.yaml_parser.specs.At.{Reads, Carries, Fails, Took, Stayed, is_over};
 ghost use Rattle.yaml_parser.specs.Work.{work, weight};
 ghost use Rattle.yaml_parser.specs.Kinds.{IsOfKind};
 ghost use Rattle.yaml_scanner.specs.Scanned.{scanned};
@@ -6,12 +15,12 @@ ghost use Rattle.yaml_parser.specs.Seen.{fault_seen};
 
 use crate::event::Event;
 use crate::names::Names;
-use crate::node::Place;
-use crate::stack::{Stack, State};
+use crate::stack::Stack;
 use crate::tokens::{Kept, Next, Stop, Tokens};
+use grammar_turns::{Place, State};
 use std::alloc::Global;
 use yaml_chars::Marker;
-use yaml_tokens::{Fault, Problem, ScanError};
+use yaml_tokens::ScanError;
 
 /// An event and its place, or why there is none.
 pub type Answer = Result<(Event, Marker), Stop>;
@@ -25,18 +34,15 @@ pub struct Reader<T: Iterator<Item = char>> {
     pub names: Names,
 }
 
-/// A fault at the token that was looked at.
-pub(crate) fn refused(problem: Problem, mark: Marker) -> Answer
-    ensures { IsErr result }
-{
-    Err(Stop::Own(Fault::At(problem, mark)))
-}
-
 impl<T: Iterator<Item = char>> Reader<T> {
     /// The next token, which stays.
     pub(crate) fn peek(&mut self) -> Result<Next, Stop>
         ensures peeked { IfOk result (λ n. IsOfKind n.kind self.new.tokens.peeked) }
+        ensures mark { IfOk result (λ n. IfSome self.new.tokens.peeked (λ t. t.0 ≡ n.mark)) }
+        ensures names { self.new.names ≡ self.old.names }
         ensures work { OnOk result (work self.new ≤ work self.old) }
+        ensures at { OnOk result ((g : Goal) → is_over g ≡ false → Carries g self.old self.new) }
+        ensures err { IfErr result (λ s. (g : Goal) → is_over g ≡ false → Fails g self.old self.new s) }
     {
         self.tokens.peek()
     }
@@ -44,22 +50,28 @@ impl<T: Iterator<Item = char>> Reader<T> {
     /// Takes the token that was looked at.
     pub(crate) fn skip(&mut self)
         requires { IsSome self.old.tokens.peeked }
-        ensures { work self.new + 4 ≡ work self.old }
+        ensures work { work self.new + 4 ≡ work self.old }
+        ensures names { self.new.names ≡ self.old.names }
+        ensures took { (t : Token) → self.old.tokens.peeked ≡ Some t → Took self.old t self.new self.old.stack }
     {
         self.tokens.skip();
     }
 
     pub(crate) fn push(&mut self, state: State) -> Result<(), Stop>
         ensures work { OnOk result (work self.new ≡ work self.old + weight state) }
-        ensures tokens { self.new.tokens ≡ self.old.tokens }
+        ensures names { self.new.names ≡ self.old.names }
+        ensures stayed { OnOk result (Stayed self.old self.new (state ∷ self.old.stack)) }
+        ensures err { IfErr result (λ s. s ≡ Own OutOfMemory) }
     {
         self.stack.push(state)?;
         Ok(())
     }
 
     /// A scalar that is not written.
-    pub(crate) fn nothing_written(&self, mark: Marker) -> Answer {
-        Ok((Event::empty(self.alloc), mark))
+    pub(crate) fn nothing_written(&self, mark: Marker) -> (Event, Marker)
+        ensures { placed result ≡ (Ev.scalar [] Style.plain 0 None, mark) }
+    {
+        (Event::empty_with(self.alloc, 0, None), mark)
     }
 
     /// A fault as callers see it.
@@ -79,6 +91,8 @@ impl<T: Iterator<Item = char>> Reader<T> {
 
     /// The next event, where this state was on top.
     pub fn next(&mut self, state: State) -> Answer
+        ensures answers { Reads (goal_of state) self.old self.new result }
+        ensures keeping { self.new.names.keeping ≡ self.old.names.keeping }
         ensures work { OnOk result (work self.new < work self.old + weight state) }
     {
         match state {

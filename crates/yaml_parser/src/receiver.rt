@@ -1,3 +1,5 @@
+ghost use Rattle.yaml_parser.specs.Shown.{ev_of};
+
 use crate::event::Event;
 use yaml_chars::Marker;
 use yaml_tokens::ScanError;
@@ -10,8 +12,17 @@ pub trait EventReceiver {
 
 /// What takes the events that a parser pushes, with their places.
 pub trait MarkedEventReceiver {
+    ghost use Rattle.std.specs.Prelude.{Result};
+    ghost use Rattle.yaml_chars.specs.Place.{Place};
+    ghost use Rattle.event_defs.specs.Event.{Ev};
+    ghost use Rattle.yaml_tokens.specs.Fault.{Fault};
+
+    // What one call does: the receiver before it, the event and its place, the answer, and the receiver behind it.
+    ghost takes: { Self → Ev → Place → Result (Unit {0}) Fault → Self → Type 0 } = { λ _ _ _ _ _. Unit {0} };
+
     /// Takes an event and its place. An `Err` stops the parser's call.
-    fn on_event(&mut self, ev: Event, mark: Marker) -> Result<(), ScanError>;
+    fn on_event(&mut self, ev: Event, mark: Marker) -> Result<(), ScanError>
+        ensures { takes self.old (ev_of ev) mark result self.new };
 }
 
 impl<R: EventReceiver> MarkedEventReceiver for R {

@@ -1,50 +1,10 @@
 ghost use Rattle.std.specs.Prelude.{◌≡◌, List, [], ◌∷◌, OnOk, OnErr, IfSome, IfNone};
-ghost use Rattle.yaml_parser.specs.declared.stack.State.{State};
-ghost use Rattle.yaml_parser.specs.declared.stack.State.TheVariants.{StreamStart};
+ghost use Rattle.grammar_turns.specs.declared.state.State.{State};
+ghost use Rattle.grammar_turns.specs.declared.state.State.TheVariants.{StreamStart};
 
+use grammar_turns::State;
 use std::alloc::{AllocError, Global};
 use std::marker::Model;
-use yaml_chars::Marker;
-
-/// What the parser awaits below what it reads now.
-#[derive(Clone, Copy, Debug, PartialEq, Eq)]
-pub enum State {
-    StreamStart,
-    /// Behind the stream's start or `...`: a document may do without `---`.
-    ImplicitDocumentStart,
-    /// Behind a document without `...`.
-    DocumentStart,
-    /// Behind `---`.
-    DocumentContent,
-    /// Behind a document's node.
-    DocumentEnd,
-    /// The node of a document without `---`.
-    BlockNode,
-    BlockSequenceEntry,
-    IndentlessSequenceEntry,
-    /// Behind a `-` of a sequence without indentation.
-    IndentlessSequenceItem,
-    BlockMappingKey,
-    /// Behind a key without value.
-    BlockMappingNextKey,
-    /// Behind a key.
-    BlockMappingValue,
-    /// Behind the `:` of a pair without key.
-    BlockMappingPart,
-    FlowSequenceFirstEntry,
-    FlowSequenceEntry,
-    FlowSequenceEntryMappingKey,
-    FlowSequenceEntryMappingValue,
-    FlowSequenceEntryMappingEnd,
-    FlowMappingFirstKey,
-    FlowMappingKey,
-    /// Behind a key.
-    FlowMappingValue,
-    /// Behind the `:` of a pair without key, which stands here.
-    FlowMappingPart(Marker),
-    /// Behind a node that is a key without value.
-    FlowMappingEmptyValue,
-}
 
 /// What is awaited, the next on top.
 #[derive(Drop)]
@@ -56,7 +16,7 @@ pub struct Stack {
 
 impl Model for Stack {
     ghost use Rattle.std.specs.Prelude.{List};
-    ghost use Rattle.yaml_parser.specs.declared.stack.State.{State};
+    ghost use Rattle.grammar_turns.specs.declared.state.State.{State};
     ghost use Rattle.yaml_parser.specs.Stacked.{stacked};
 
     ghost Value = { List State };

@@ -1,10 +1,16 @@
-ghost use Rattle.std.specs.Prelude.{◌≡◌, ◌+◌, ◌≤◌, List, [], ◌∷◌, ◌++◌, Some, None, IsSome, IfSome, IfOk, IfErr, OnOk};
+ghost use Rattle.std.specs.Prelude.{◌≡◌, ◌⊎◌, ◌+◌, ◌≤◌, List, [], ◌∷◌, ◌++◌, Some, None, IsSome, IfSome, IfOk, IfErr, OnOk};
 ghost use Rattle.yaml_scanner.specs.Scanned.{scanned};
+ghost use Rattle.token_defs.specs.Token.{Tok};
+ghost use Rattle.yaml_chars.specs.Text.{string_chars};
+ghost use Rattle.yaml_tokens.specs.Shown.{tok_of, style_of};
 ghost use Rattle.yaml_parser.specs.Kinds.{IsOfKind, IsName};
 ghost use Rattle.yaml_parser.specs.Ahead.{left, Skips, SkipsOne};
-ghost use Rattle.yaml_parser.specs.declared.kind.Kind.TheVariants as kind;
+ghost use Rattle.yaml_parser.specs.Handed.{IsHanded, IsAwake};
+ghost use Rattle.yaml_parser.specs.declared.tokens.Stop.TheVariants.{Scan};
+ghost use Rattle.grammar_turns.specs.declared.kind.Kind.TheVariants as kind;
 
-use crate::kind::Kind;
+use crate::kind::kind_of_token;
+use grammar_turns::Kind;
 use std::alloc::AllocError;
 use yaml_chars::Marker;
 use yaml_chars::history::History;
@@ -83,19 +89,25 @@ impl<T: Iterator<Item = char>> Tokens<T> {
     /// The next token, which stays.
     pub fn peek(&mut self) -> Result<Next, Stop>
         ensures looks { IfOk result (λ n. IsOfKind n.kind self.new.peeked) }
+        ensures mark { IfOk result (λ n. IfSome self.new.peeked (λ t. t.0 ≡ n.mark)) }
         ensures left { OnOk result (left self.new ≤ left self.old) }
+        ensures taken { self.new.taken ≡ self.old.taken }
+        ensures same { IfSome self.old.peeked (λ t. self.new.peeked ≡ Some t) }
+        ensures handed { IsHanded self.old → IsHanded self.new }
+        ensures awake { OnOk result (IsAwake self.old → IsAwake self.new) }
+        ensures err { IsAwake self.old → IfErr result (λ s. (s ≡ Scan) × IsSome (scanned self.new.scanner).fault) }
     {
         if let Some(token) = &self.peeked {
             return Ok(Next {
                 mark: token.0,
-                kind: Kind::of(&token.1),
+                kind: kind_of_token(&token.1),
             });
         }
         match self.scanner.next_token() {
             Ok(Some(token)) => {
                 let next = Next {
                     mark: token.0,
-                    kind: Kind::of(&token.1),
+                    kind: kind_of_token(&token.1),
                 };
                 self.peeked = Some(token);
                 Ok(next)
@@ -129,6 +141,7 @@ impl<T: Iterator<Item = char>> Tokens<T> {
     pub fn take_name(&mut self) -> String
         requires { IsName self.old.peeked }
         ensures skips { SkipsOne self.old self.new }
+        ensures name { IfSome self.old.peeked (λ t. (tok_of t.1 ≡ Tok.alias (string_chars result)) ⊎ (tok_of t.1 ≡ Tok.anchor (string_chars result))) }
         ensures left { left self.new + 1 ≡ left self.old }
     {
         match self.take() {
@@ -140,6 +153,7 @@ impl<T: Iterator<Item = char>> Tokens<T> {
     /// Takes a tag that was looked at, and gives its handle and suffix.
     pub fn take_tag(&mut self) -> (String, String)
         requires { IsOfKind kind.Tag self.old.peeked }
+        ensures texts { IfSome self.old.peeked (λ t. tok_of t.1 ≡ Tok.tag (string_chars result.0) (string_chars result.1)) }
         ensures skips { SkipsOne self.old self.new }
         ensures left { left self.new + 1 ≡ left self.old }
     {
@@ -152,6 +166,7 @@ impl<T: Iterator<Item = char>> Tokens<T> {
     /// Takes a `%TAG` directive that was looked at, and gives its handle and prefix.
     pub fn take_tag_directive(&mut self) -> (String, String)
         requires { IsOfKind kind.TagDirective self.old.peeked }
+        ensures texts { IfSome self.old.peeked (λ t. tok_of t.1 ≡ Tok.tag_directive (string_chars result.0) (string_chars result.1)) }
         ensures skips { SkipsOne self.old self.new }
         ensures left { left self.new + 1 ≡ left self.old }
     {
@@ -164,6 +179,7 @@ impl<T: Iterator<Item = char>> Tokens<T> {
     /// Takes a scalar that was looked at, and gives its style and text.
     pub fn take_scalar(&mut self) -> (TScalarStyle, String)
         requires { IsOfKind kind.Scalar self.old.peeked }
+        ensures texts { IfSome self.old.peeked (λ t. tok_of t.1 ≡ Tok.scalar (style_of result.0) (string_chars result.1)) }
         ensures skips { SkipsOne self.old self.new }
         ensures left { left self.new + 1 ≡ left self.old }
     {

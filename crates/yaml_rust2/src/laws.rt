@@ -1,10 +1,37 @@
 //! Laws: empty functions whose clause is a statement about the definitions, of all trees, texts, tokens or events.
-pub use event_defs::laws::*;
-pub use layout_defs::laws::*;
-pub use read_json::laws::*;
-pub use read_layout::laws::*;
-pub use read_wide::laws::*;
-pub use scan_json::laws::*;
-pub use tree_defs::laws::*;
-pub use yaml_loader::laws::*;
-pub use yaml_tree::laws::*;
+pub use event_defs::laws::{
+    loaded_integers_have_64_bits, loaded_trees_have_distinct_keys, loaded_trees_have_no_alias,
+    multi_load_pushes_all_events, nested_events_are_read_one_by_one, nesting_test_is_exact,
+    stream_events_are_nested, streams_have_one_reading, tokens_are_derived_in_one_way,
+};
+pub use layout_defs::laws::{
+    json_trees_are_sound, laid_out_trees_are_sound, layouts_are_wide_layouts,
+    widely_laid_out_trees_are_sound,
+};
+pub use read_json::laws::{
+    foretold_events_are_not_refused, json_documents_read_as_their_trees, json_events_are_loaded,
+    json_numbers_stand_for_their_trees, json_tokens_are_a_stream, json_tokens_read_as_their_tree,
+    read_streams_are_loaded, read_streams_are_not_cut, read_streams_are_not_refused,
+};
+pub use read_layout::laws::{
+    layout_documents_read_as_their_trees, layout_events_are_loaded, layout_tokens_are_a_stream,
+    layout_tokens_read_as_their_tree,
+};
+pub use read_wide::laws::{
+    quoted_tokens_read_as_their_string, wide_events_are_loaded, wide_tokens_read_as_their_trees,
+};
+pub use scan_json::laws::{
+    json_texts_are_not_refused, json_texts_have_no_other_tokens, json_texts_have_their_tokens,
+    texts_have_one_list_of_tokens, texts_with_tokens_are_not_refused,
+};
+pub use tree_defs::laws::{
+    box_lines_are_unbroken, digits_are_least, equality_is_an_equivalence, equality_is_exact,
+    followed_by_is_a_cut, insert_keeps_keys_distinct, insert_keeps_other_values,
+    insert_keeps_the_order, inserted_value_is_found, lines_are_those_of_std, lines_are_unbroken,
+    lines_make_the_text, order_is_total, overlay_keeps_keys_distinct, place_finds_the_value,
+    spelling_stands_for_its_scalar, strings_fit_no_row, typing_gives_a_plain_scalar,
+};
+pub use yaml_loader::laws::{
+    alike_loaders_go_on_alike, alike_loaders_show_the_same, events_are_read_as_defined,
+};
+pub use yaml_tree::laws::equal_trees_hash_alike;

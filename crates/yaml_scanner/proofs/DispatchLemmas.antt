@@ -1,5 +1,5 @@
 -- Lemmas about the choice of the next token by its first characters.
-use Rattle.std.proofs.Common.{◌≡◌, ◌≢◌, ℕ, ◌+◌, ◌<◌, ◌≤◌, List, [], ◌∷◌, Bool, true, false, nat_lt, ◌==◌, refl, ap, sym, ◌∙◌, arith, if◌then◌else◌, Result, Ok, Err, slice_index}
+use Rattle.std.proofs.Common.{◌≡◌, ◌≢◌, ℕ, ◌+◌, ◌<◌, ◌≤◌, List, Bool, true, false, nat_lt, ◌==◌, refl, ap, sym, ◌∙◌, arith, Result, Ok, Err, slice_index}
 use Rattle.std.proofs.lemmas.Bool.Decides.{nat_tests}
 use Rattle.std.specs.Prelude.{OnOk, IfErr}
 use Rattle.yaml_chars.specs.Place.{Place}
@@ -12,7 +12,7 @@ use Rattle.yaml_tokens.specs.declared.problem.Problem.TheVariants as problem
 use Rattle.scan_model.specs.declared.class.Class.{Class}
 use Rattle.scan_model.specs.declared.class.Class.TheVariants as class
 use Rattle.scan_model.specs.Class.{class_of}
-use Rattle.scan_model.specs.State.{Held, State, ◌>>=◌, peek, in_flow, on_held, try_held}
+use Rattle.scan_model.specs.State.{Held, State, peek, in_flow}
 use Rattle.scan_model.specs.Document.{fetch_stream_start, begin_stream, fetch_stream_end, fetch_directive, fetch_document_marker, fetch_document_end, fetch_block_scalar, fetch_plain_scalar}
 use Rattle.scan_model.specs.Fetch.{comes_marker, token_by, fetch_token, fetch_indented, fetch_first_column, fetch_content, fetch_here, fetch_next, fetch}
 use Rattle.scan_model.specs.Keys.{stale}

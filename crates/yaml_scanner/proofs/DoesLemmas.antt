@@ -1,15 +1,13 @@
 -- How the steps of the code compose.
-use Rattle.std.proofs.Common.{◌≡◌, ◌≢◌, ℕ, ◌+◌, ◌≤◌, List, [], ◌∷◌, Bool, true, false, refl, ap, sym, ◌∙◌, arith, Result, Ok, Err, slice_index, subst}
+use Rattle.std.proofs.Common.{◌≡◌, ◌≢◌, ℕ, List, refl, sym, arith, Result, Ok, Err}
 use Rattle.std.specs.Prelude.{IfErr, IsErrAnd}
-use Rattle.yaml_chars.specs.Place.{Place}
-use Rattle.yaml_chars.specs.Reading.{Reading, Reads, Sees, SamePlace, Possible, place_of, after_char}
-use Rattle.yaml_chars.proofs.ReadingLemmas.{Reads-then, Reads-see, Reads-saw}
+use Rattle.yaml_chars.specs.Reading.{Reading, Reads, SamePlace, place_of}
+use Rattle.yaml_chars.proofs.ReadingLemmas.{Reads-then}
 use Rattle.yaml_tokens.specs.declared.problem.Fault.{Fault}
 use Rattle.yaml_tokens.specs.declared.problem.Fault.TheVariants.{OutOfMemory}
-use Rattle.scalar_model.specs.Machine.{Read}
-use Rattle.scan_model.specs.State.{Held, State, moved, behind, skip_indicator}
+use Rattle.scan_model.specs.State.{Held, State}
 use Rattle.yaml_scanner.specs.declared.fetcher.Fetcher.{Fetcher}
-use Rattle.yaml_scanner.specs.Shape.{held, state, Does, Fails}
+use Rattle.yaml_scanner.specs.Shape.{state, Does, Fails}
 
 pub Reads-map : {T : Type 0} {P R : List ℕ → List ℕ → Type 0} (old new : Reading T) → Reads old new P → ((a b : List ℕ) → P a b → R a b) → Reads old new R
 Reads-map old new run f = record { start = run.start; at = run.at; left = run.left; back = run.back; reads = λ w p. f _ _ (run.reads w p) }

@@ -1,35 +1,27 @@
 -- Lemmas about the choice of the next token.
-use Rattle.std.proofs.Common.{◌≡◌, ◌≢◌, ℕ, ◌+◌, List, [], ◌∷◌, Bool, true, false, not, nat_lt, ◌==◌, ◌&&◌, refl, ap, sym, ◌∙◌, if◌then◌else◌, Result, Ok, Err, slice_index}
+use Rattle.std.proofs.Common.{◌≡◌, ℕ, List, [], ◌∷◌, Bool, true, false, ◌==◌, ◌&&◌, refl, ap, sym, ◌∙◌, Result, Ok, Err, slice_index}
 use Rattle.std.specs.Prelude.{OnOk, IfErr}
 use Rattle.yaml_chars.specs.Place.{Place}
-use Rattle.yaml_chars.specs.Reading.{Reading, Reads, Sees, SamePlace, place_of}
+use Rattle.yaml_chars.specs.Reading.{Reading, Reads, Sees, SamePlace}
 use Rattle.yaml_chars.proofs.ReadingLemmas.{Reads-then, Reads-see, Reads-saw}
 use Rattle.yaml_tokens.specs.declared.problem.Fault.{Fault}
-use Rattle.yaml_tokens.specs.declared.problem.Fault.TheVariants.{At, OutOfMemory}
+use Rattle.yaml_tokens.specs.declared.problem.Fault.TheVariants.{At}
 use Rattle.yaml_tokens.specs.declared.problem.Problem.TheVariants as problem
 use Rattle.scalar_model.specs.declared.context.SkipTabs.{SkipTabs}
 use Rattle.scalar_model.specs.declared.context.SkipTabs.TheVariants.{Yes}
 use Rattle.scalar_model.specs.declared.context.Whitespace.{Whitespace}
-use Rattle.scalar_model.specs.Machine.{Read}
 use Rattle.scalar_model.specs.Space.{space}
 use Rattle.scan_model.specs.State.{Held, State, peek, in_flow}
 use Rattle.scan_model.specs.Space.{skip_spaces}
-use Rattle.scan_model.specs.Document.{begin_stream, fetch_stream_end, fetch_directive, fetch_document_marker, check_document_end, fetch_document_end, context, quoted_style, adjacent_here, may_follow_quoted, check_behind_quoted, fetch_flow_scalar, fetch_block_scalar, fetch_plain_scalar}
+use Rattle.scan_model.specs.Document.{fetch_document_marker, check_document_end, fetch_document_end, context, quoted_style, adjacent_here, may_follow_quoted, check_behind_quoted, fetch_flow_scalar}
 use Rattle.yaml_chars.specs.Class.{is_breakz}
 use Rattle.token_defs.specs.Token.{Tok, Style}
 use Rattle.scalar_model.specs.declared.context.Context.{Context}
 use Rattle.scalar_model.specs.Quoted.{quoted}
 use Rattle.scan_model.specs.State.{◌>>=◌, on_held, push}
-use Rattle.scan_model.specs.Keys.{save_simple_key, stale}
-use Rattle.scan_model.specs.Indents.{unroll_indent}
+use Rattle.scan_model.specs.Keys.{save_simple_key}
 use Rattle.scan_model.specs.Space.{skip_to_next_token}
-use Rattle.scan_model.specs.declared.class.Class.{Class}
-use Rattle.scan_model.specs.declared.class.Class.TheVariants as class
-use Rattle.scan_model.specs.Class.{class_of}
-use Rattle.scan_model.specs.Fetch.{token_by, fetch_token, fetch_indented, fetch_first_column, fetch_content, fetch_here, fetch_next, fetch}
-use Rattle.yaml_scanner.specs.Steps.{end_quoted, fetch_bar, scalar_by}
-use Rattle.std.proofs.Common.{◌<◌, ◌≤◌, arith}
-use Rattle.std.proofs.lemmas.Bool.Decides.{nat_tests}
+use Rattle.yaml_scanner.specs.Steps.{end_quoted}
 use Rattle.yaml_scanner.proofs.DoesLemmas.{Reads-along, Reads-map, Reads-none, same_place}
 use Rattle.yaml_chars.specs.Class.{is_blank_or_breakz}
 use Rattle.scan_model.specs.Fetch.{comes_marker}
@@ -116,16 +108,8 @@ pub on_ok_map : {X E : Type 0} (r : Result X E) (P Q : Type 0) → OnOk r P → 
 on_ok_map (Ok v) P Q p f = f p
 on_ok_map (Err e) P Q p f = tt
 
-pub if_err_map : {X E : Type 0} (r : Result X E) (P Q : E → Type 0) → IfErr r P → ((e : E) → P e → Q e) → IfErr r Q
-if_err_map (Ok v) P Q p f = tt
-if_err_map (Err e) P Q p f = f e p
-
 pub does_held : {T : Type 0} {h : State → Result State Fault} (x y : Fetcher T) → y.window ≡ x.window → ((a : List ℕ) → h (state a x) ≡ Ok (state a y)) → Does h x y
 does_held x y e f = record { runs = Reads-along _ _ _ _ refl e (Reads-map _ _ (Reads-none x.window) (λ a b p. rw p (f a))) }
-
--- want of memory is no refusal of the model
-pub fails_memory : {T : Type 0} {h : State → Result State Fault} (x y : Fetcher T) (e : Fault) → y.window ≡ x.window → e ≡ OutOfMemory → Fails h x y e
-fails_memory x y e w m = record { runs = Reads-along _ _ _ _ refl w (Reads-map _ _ (Reads-none x.window) (λ a b p n. absurd (n m))) }
 
 -- what is held stays where more of the text was looked at
 pub held_same : {T : Type 0} (x y : Fetcher T) (w : Reading T) → SamePlace x.window w → y ≡ record x { window = w } → held y ≡ held x

@@ -1,20 +1,18 @@
 -- Lemmas about flow collections.
-use Rattle.std.proofs.Common.{◌≡◌, ◌≢◌, ℕ, ◌+◌, ◌<◌, ◌≤◌, List, [], ◌∷◌, Bool, true, false, not, nat_le, refl, ap, sym, ◌∙◌, arith, if◌then◌else◌, Option, Some, None, Result, Ok, Err, length, slice_index}
-use Rattle.std.specs.Prelude.{MatchOption}
+use Rattle.std.proofs.Common.{◌≡◌, ℕ, ◌<◌, ◌≤◌, List, [], ◌∷◌, Bool, true, false, nat_le, refl, sym, ◌∙◌, arith, Option, Some, None, Ok, Err, length, slice_index}
 use Rattle.std.proofs.lemmas.Bool.Decides.{nat_tests}
 use Rattle.yaml_chars.specs.Place.{Place}
-use Rattle.yaml_chars.specs.Text.{is_nil}
 use Rattle.token_defs.specs.Token.{Tok}
 use Rattle.yaml_tokens.specs.declared.problem.Fault.{Fault}
-use Rattle.yaml_tokens.specs.declared.problem.Fault.TheVariants.{At, OutOfMemory}
+use Rattle.yaml_tokens.specs.declared.problem.Fault.TheVariants.{At}
 use Rattle.yaml_tokens.specs.declared.problem.Problem.TheVariants as problem
 use Rattle.scalar_model.specs.declared.context.SkipTabs.TheVariants.{Yes}
 use Rattle.scalar_model.specs.declared.context.Whitespace.{Whitespace}
-use Rattle.scalar_model.specs.Machine.{Read, past}
+use Rattle.scalar_model.specs.Machine.{past}
 use Rattle.scalar_model.specs.Space.{space}
 use Rattle.scan_model.specs.declared.level.FlowLevel.{FlowLevel}
 use Rattle.scan_model.specs.declared.level.FlowLevel.TheVariants.{Mapping, Entry, Keyed, Pair}
-use Rattle.scan_model.specs.State.{Key, Held, State, in_flow, push, pop, top, with_top, behind, skip_indicator, on_held}
+use Rattle.scan_model.specs.State.{Key, Held, in_flow, push, pop, top, with_top}
 use Rattle.scan_model.specs.Keys.{save_simple_key, remove_simple_key}
 use Rattle.scan_model.specs.Indents.{roll_one_col_indent}
 use Rattle.scan_model.specs.Space.{skip_spaces}

@@ -1,18 +1,17 @@
 -- What was fetched and handed out is a run of the model.
-use Rattle.std.proofs.Common.{◌≡◌, ◌≢◌, ℕ, ◌+◌, ◌<◌, ◌≤◌, List, [], ◌∷◌, ◌++◌, Bool, true, false, ◌||◌, refl, ap, sym, ◌∙◌, arith, Option, Some, None, Ok, Err, length, map, take, drop, option_map, subst}
+use Rattle.std.proofs.Common.{◌≡◌, ◌≢◌, ℕ, ◌+◌, ◌≤◌, List, [], ◌∷◌, ◌++◌, Bool, true, false, ◌||◌, refl, ap, sym, ◌∙◌, arith, Option, Some, None, length, map, take, drop, option_map, subst}
 use Rattle.std.specs.Prelude.{IfSome}
 use Rattle.std.specs.List.{list_any}
 use Rattle.std.proofs.lemmas.List.{take-append-drop, length-take}
-use Rattle.yaml_chars.specs.Reading.{Reading, Reads, Possible}
+use Rattle.yaml_chars.proofs.ReadingLemmas.{Possible-taken}
 use Rattle.token_defs.specs.Token.{Tok, Token}
 use Rattle.yaml_chars.specs.Place.{Place}
 use Rattle.yaml_tokens.specs.Problem.{fault_of}
 use Rattle.yaml_tokens.specs.declared.problem.Fault.{Fault}
 use Rattle.yaml_tokens.specs.declared.problem.Fault.TheVariants.{At, OutOfMemory}
-use Rattle.scan_model.specs.State.{State, Held}
 use Rattle.scan_model.specs.Fetch.{fetch}
 use Rattle.scan_model.specs.Run.{Reaches, here, HasTokens, IsRefused, start, nothing_held}
-use Rattle.scan_model.proofs.Runs.{one_more, onward, ended_stops, one_list, one_fault, not_both}
+use Rattle.scan_model.proofs.Runs.{one_more, run_to_end, one_list, one_fault, not_refused}
 use Rattle.scan_model.proofs.Given.{Stands, KeysFrom, reached}
 use Rattle.scan_model.proofs.Ends.{end_is_last}
 use Rattle.yaml_scanner.specs.declared.fetcher.Fetcher.{Fetcher}
@@ -23,14 +22,15 @@ use Rattle.yaml_scanner.specs.Shape.{held, state, Does, Fails}
 use Rattle.yaml_scanner.specs.Tokens.{Tokens, handed, is_end}
 use Rattle.yaml_scanner.specs.Work.{Fetches}
 use Rattle.yaml_scanner.specs.Follows.{Begins, IsReached, FollowsIn, Follows}
-use Rattle.yaml_scanner.specs.Scanned.{inside, kept_fault, MayBe, IsRefusal, ScansIn, Scans}
-use Rattle.yaml_scanner.proofs.GivenLemmas.{seen_from, lowered_seen}
+use Rattle.yaml_scanner.specs.Scanned.{inside, kept_fault, IsRefusal, Scans}
+use Rattle.yaml_scanner.proofs.GivenLemmas.{lowered_seen}
 
 -- before a text
 pub starts : {T : Type 0} (x : Fetcher T) → held x ≡ nothing_held → x.window.at ≡ 0 → x.kept ≡ None → handed x.tokens ≡ [] → x.tokens.over ≡ false → Follows x
 starts x e n k h o = λ a p. record {
   run = λ _ _. subst (λ t. Reaches (start a) t) (sym (ap (λ m. state (drop m a) x) n ∙ ap (λ h. record { rest = a; held = h }) e)) here;
   all = λ _ f. let g : x.tokens.ended ≡ false = ap (λ h. h.ended) e in absurd cc;
+  done = λ _ f. let g : x.tokens.ended ≡ false = ap (λ h. h.ended) e in absurd cc;
   reached = record { last = start a; run = here; begins = record { more = []; whole = rw h refl } };
   begins = λ ts _. record { more = ts; whole = rw h refl };
   whole = λ f. absurd cc;
@@ -38,13 +38,14 @@ starts x e n k h o = λ a p. record {
 }
 
 -- a fetch more
-pub fetched_on : {T : Type 0} (x y : Fetcher T) → x.kept ≡ None → x.tokens.ended ≡ false → Follows x → Does fetch x y → Fetches x y → Follows y
-fetched_on x y k g f d m = λ a p.
+pub fetched_on : {T : Type 0} (x y : Fetcher T) → x.kept ≡ None → x.tokens.ended ≡ false → Follows x → Does fetch x y → Fetches x y → (y.tokens.ended ≡ true → y.window.done ≡ true) → Follows y
+fetched_on x y k g f d m n = λ a p.
     let old = f a (d.runs.back a p) in
-    let run : Reaches (start a) (state (drop y.window.at a) y) = one_more (start a) (state (drop x.window.at a) x) (state (drop y.window.at a) y) (old.run k g) g (d.runs.reads a p) in
+    let run : Reaches (start a) (state (drop y.window.at a) y) = one_more (old.run k g) g (d.runs.reads a p) in
     record {
       run = λ _ _. run;
       all = λ _ e. record { end = state (drop y.window.at a) y; run = run; ended = e; tokens = refl };
+      done = λ _ e. n e;
       reached = rw m.given old.reached;
       begins = λ ts h. rw m.given (old.begins ts h);
       whole = λ o. rw m.given (old.whole (sym m.over ∙ o));
@@ -58,6 +59,7 @@ stopped x y e k i n g f d m = λ a p.
     record {
       run = λ c _. absurd cc;
       all = λ c _. absurd cc;
+      done = λ c _. absurd cc;
       reached = rw m.given old.reached;
       begins = λ ts h. rw m.given (old.begins ts h);
       whole = λ o. rw m.given (old.whole (sym m.over ∙ o));
@@ -127,46 +129,49 @@ module _ {T : Type 0} (x : Fetcher T) (a : List ℕ) (t : Token) (old : FollowsI
   run_after e front = rw (lowered_seen x.tokens.given x.keys front) (old.run kept e)
 
   stands_after : Stands (take count x.tokens.all) (held after)
-  stands_after = record { stood = record {
-    more = drop count x.tokens.all;
-    tokens = sym (take-append-drop count x.tokens.all);
-    keys = keys_lower (length (take count x.tokens.all)) count (map lowered x.keys) (length_at_most count x.tokens.all);
-  } }
+  stands_after = record {
+    stood = record {
+      more = drop count x.tokens.all;
+      tokens = sym (take-append-drop count x.tokens.all);
+      keys = keys_lower (length (take count x.tokens.all)) count (map lowered x.keys) (length_at_most count x.tokens.all);
+    };
+  }
 
   begins_after : (b : Bool) → x.tokens.ended ≡ b → (x.tokens.ended ≡ false → list_any is_front x.keys ≡ false) → (ts : List Token) → HasTokens a ts → Begins (take count x.tokens.all) ts
   begins_after true e front ts h = record {
     more = drop count x.tokens.all;
-    whole = one_list a x.tokens.all ts (old.all kept e) h ∙ sym (take-append-drop count x.tokens.all);
+    whole = one_list a ts x.tokens.all h (old.all kept e) ∙ sym (take-append-drop count x.tokens.all);
   }
   begins_after false e front ts h =
-    let run = onward (start a) (state (drop x.window.at a) after) h.end (run_after e (front e)) h.run (ended_stops h.end h.ended) in
-    let s = reached (take count x.tokens.all) (state (drop x.window.at a) after) h.end run stands_after in
-    record { more = s.stood.more; whole = sym h.tokens ∙ s.stood.tokens }
+      let run = run_to_end a ts (state (drop x.window.at a) after) h (run_after e (front e)) in
+      let s = reached (take count x.tokens.all) (state (drop x.window.at a) after) h.end run stands_after in
+      record { more = s.stood.more; whole = sym h.tokens ∙ s.stood.tokens }
 
   split : take count x.tokens.all ≡ handed x.tokens ++ t ∷ [] → x.tokens.all ≡ handed x.tokens ++ t ∷ drop count x.tokens.all
   split e = split_at count x.tokens.all (handed x.tokens) t e
 
   whole_after : (b : Bool) → x.tokens.ended ≡ b → take count x.tokens.all ≡ handed x.tokens ++ t ∷ [] → is_end t.tok ≡ true → HasTokens a (take count x.tokens.all)
   whole_after true e g i =
-    let z = old.all kept e in
-    let l = end_is_last a z.end (handed x.tokens) (drop count x.tokens.all) t z.run (z.tokens ∙ split g) (is_the_end t.tok i) in
-    rw (none_waits count x.tokens.all l.1) z
+      let z = old.all kept e in
+      let l = end_is_last a z.end (handed x.tokens) (drop count x.tokens.all) t z.run (z.tokens ∙ split g) (is_the_end t.tok i) in
+      rw (none_waits count x.tokens.all l.1) z
   whole_after false e g i =
-    let l = end_is_last a (state (drop x.window.at a) x) (handed x.tokens) (drop count x.tokens.all) t (old.run kept e) (split g) (is_the_end t.tok i) in
-    let f = l.0 in
-    absurd cc
+      let l = end_is_last a (state (drop x.window.at a) x) (handed x.tokens) (drop count x.tokens.all) t (old.run kept e) (split g) (is_the_end t.tok i) in
+      let f = l.0 in
+      absurd cc
 
   reached_after : (b : Bool) → x.tokens.ended ≡ b → (x.tokens.ended ≡ false → list_any is_front x.keys ≡ false) → IsReached a (take count x.tokens.all)
   reached_after true e front =
-    let z = old.all kept e in
-    record { last = z.end; run = z.run; begins = record { more = drop count x.tokens.all; whole = z.tokens ∙ sym (take-append-drop count x.tokens.all) } }
+      let z = old.all kept e in
+      record { last = z.end; run = z.run; begins = record { more = drop count x.tokens.all; whole = z.tokens ∙ sym (take-append-drop count x.tokens.all) } }
   reached_after false e front =
-    record { last = state (drop x.window.at a) after; run = run_after e (front e); begins = record { more = drop count x.tokens.all; whole = sym (take-append-drop count x.tokens.all) } }
+      record { last = state (drop x.window.at a) after; run = run_after e (front e); begins = record { more = drop count x.tokens.all; whole = sym (take-append-drop count x.tokens.all) } }
 
   follows_after : (x.tokens.ended ≡ false → list_any is_front x.keys ≡ false) → take count x.tokens.all ≡ handed x.tokens ++ t ∷ [] → FollowsIn a after
   follows_after front g = record {
     run = λ _ e. run_after e (front e);
     all = λ k e. old.all k e;
+    done = old.done;
     reached = reached_after x.tokens.ended refl front;
     begins = begins_after x.tokens.ended refl front;
     whole = λ o. whole_after x.tokens.ended refl g (or_true x.tokens.over (is_end t.tok) over o);
@@ -186,7 +191,7 @@ memory_sound (Some k) a r ts h = by k.fault k.mark r
   where
     by : (e : Fault) (m : Place) → (e ≢ OutOfMemory → IsRefused a e) → (fault_of e m).memory ≡ true
     by OutOfMemory m r = refl
-    by (At q p) m r = absurd (not_both a ts (At q p) h (r (λ e. absurd cc)))
+    by (At q p) m r = absurd (not_refused a ts (At q p) h (r (λ e. absurd cc)))
 
 is_refusal : (f : Option Kept) (a : List ℕ) → IfSome f (λ k. k.fault ≢ OutOfMemory → IsRefused a k.fault) → IfSome (option_map kept_fault f) (λ x. x.memory ≡ false → IsRefusal a x)
 is_refusal None a r = tt
@@ -202,17 +207,23 @@ one_refusal (Some k) a r e i = by k.fault k.mark r
   where
     by : (d : Fault) (m : Place) → (d ≢ OutOfMemory → IsRefused a d) → (fault_of d m).memory ≡ false → (p : Place) × (fault_of d m ≡ fault_of e p)
     by OutOfMemory m r n = absurd cc
-    by (At q p) m r n = (m, ap (λ d. fault_of d m) (one_fault a e (At q p) i (r (λ e. absurd cc))))
+    by (At q p) m r n = (m, ap (λ d. fault_of d m) (one_fault a (At q p) e (r (λ e. absurd cc)) i))
+
+none_kept : (f : Option Kept) → option_map kept_fault f ≡ None → f ≡ None
+none_kept None e = refl
+none_kept (Some k) e = absurd cc
 
 pub scans_from : {T : Type 0} (x : Fetcher T) → Follows x → Scans (inside x)
-scans_from x f = record { scans = λ a m.
-    let s = f a (record { begins = m.begins; ends = m.ends }) in
-    record {
-      reached = s.reached;
-      begins = s.begins;
-      whole = s.whole;
-      sound = memory_sound x.kept a s.refused;
-      refused = is_refusal x.kept a s.refused;
-      same = one_refusal x.kept a s.refused;
-    }
+scans_from x f = record {
+  done = λ k e. (f x.window.taken (Possible-taken x.window)).done (none_kept x.kept k) e;
+  scans = λ a m.
+      let s = f a (record { begins = m.begins; ends = m.ends }) in
+      record {
+        reached = s.reached;
+        begins = s.begins;
+        whole = s.whole;
+        sound = memory_sound x.kept a s.refused;
+        refused = is_refusal x.kept a s.refused;
+        same = one_refusal x.kept a s.refused;
+      };
 }

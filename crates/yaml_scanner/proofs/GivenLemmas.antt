@@ -1,24 +1,9 @@
--- What was handed out is final.
-use Rattle.std.proofs.Common.{◌≡◌, ℕ, ◌+◌, ◌-◌, ◌≤◌, List, [], ◌∷◌, Bool, true, false, ◌||◌, ◌==◌, refl, ap, arith, Option, Some, None, length, map, take}
+-- What is open, where a token is handed out.
+use Rattle.std.proofs.Common.{◌≡◌, ℕ, ◌+◌, ◌-◌, List, [], ◌∷◌, Bool, true, false, ◌||◌, ◌==◌, refl, ap, arith, Option, Some, None, map}
 use Rattle.std.proofs.lemmas.Bool.Decides.{nat_tests}
 use Rattle.std.specs.List.{list_any}
-use Rattle.scan_model.specs.Run.{Reaches}
-use Rattle.scan_model.specs.State.{State}
-use Rattle.scan_model.proofs.Given.{KeyFrom, KeysFrom, first_stay}
 use Rattle.yaml_scanner.specs.declared.keys.SimpleKey.{SimpleKey}
-use Rattle.yaml_scanner.specs.declared.fetcher.Fetcher.{Fetcher}
-use Rattle.yaml_scanner.specs.Shape.{state}
 use Rattle.yaml_scanner.specs.SimpleKeys.{key_of, seen, is_front, lowered}
-use Rattle.yaml_scanner.specs.Tokens.{handed}
-
-key_from : (g : ℕ) (k : Option SimpleKey) → KeyFrom g (key_of g k)
-key_from g None = tt
-key_from g (Some k) = omega arith
-
--- every open key stands behind what was handed out
-pub seen_from : (g : ℕ) (ks : List (Option SimpleKey)) → KeysFrom g (seen g ks)
-seen_from g [] = tt
-seen_from g (k ∷ ks) = (key_from g k, seen_from g ks)
 
 one_on : (g n : ℕ) → (n == 0) ≡ false → g + 1 + (n - 1) ≡ g + n
 one_on g n e = grind (arith, nat_tests)
@@ -35,7 +20,3 @@ or_false false c h = (refl, h)
 pub lowered_seen : (g : ℕ) (ks : List (Option SimpleKey)) → list_any is_front ks ≡ false → seen (g + 1) (map lowered ks) ≡ seen g ks
 lowered_seen g [] e = refl
 lowered_seen g (k ∷ ks) e = let both = or_false (is_front k) (list_any is_front ks) e in rw (lowered_key g k both.0, lowered_seen g ks both.1) refl
-
--- what was handed out stays the beginning of all tokens
-pub handed_stay : {T : Type 0} (s : Fetcher T) (a : List ℕ) (u : State) → s.tokens.given ≤ length s.tokens.all → Reaches (state a s) u → take s.tokens.given u.held.tokens ≡ handed s.tokens
-handed_stay s a u l run = let first = first_stay s.tokens.given (state a s) u l (seen_from s.tokens.given s.keys) run in first.tokens

@@ -1,16 +1,15 @@
 -- Lemmas about what may be a key.
-use Rattle.std.proofs.Common.{◌≡◌, ℕ, ◌+◌, ◌-◌, ◌<◌, List, [], ◌∷◌, ◌++◌, reverse, map, refl, ap, sym, ◌∙◌, Option, Some, None, length, get_or, take, drop, set, arith, slice_get, Bool, true, false, ◌||◌, ◌==◌}
+use Rattle.std.proofs.Common.{◌≡◌, ℕ, List, [], ◌∷◌, ◌++◌, reverse, map, refl, ap, sym, ◌∙◌, Option, Some, None, length, arith, Bool, true, false, ◌||◌}
 use Rattle.std.specs.List.{list_any}
-use Rattle.std.proofs.lemmas.List.{reverse-append, reverse-reverse, length-reverse, map-append}
-use Rattle.std.proofs.lemmas.Grind.{common_steps, elements}
-use Rattle.std.proofs.Common.{Result, Ok, Err, if◌then◌else◌}
+use Rattle.std.proofs.lemmas.List.{reverse-append, map-append}
+use Rattle.std.proofs.Common.{Ok, Err, if◌then◌else◌}
 use Rattle.yaml_chars.specs.Place.{Place}
 use Rattle.yaml_tokens.specs.declared.problem.Fault.TheVariants.{At}
 use Rattle.yaml_tokens.specs.declared.problem.Problem.TheVariants as problem
-use Rattle.scan_model.specs.State.{Key, pop, top, with_top}
+use Rattle.scan_model.specs.State.{pop, with_top}
 use Rattle.scan_model.specs.Keys.{is_far, is_overdue, still, drop_stale, is_required, has_required, cleared, top_key}
 use Rattle.yaml_scanner.specs.declared.keys.SimpleKey.{SimpleKey}
-use Rattle.yaml_scanner.specs.SimpleKeys.{key_of, seen, is_front, lowered, still_simple, no_simple, top_simple}
+use Rattle.yaml_scanner.specs.SimpleKeys.{key_of, seen, still_simple, no_simple, top_simple}
 use Rattle.yaml_scanner.proofs.StackLemmas as stack
 
 pub popped : {A : Type 0} (xs ys : List A) (x : A) → xs ≡ ys ++ x ∷ [] → reverse ys ≡ pop (reverse xs)

@@ -1,8 +1,7 @@
 -- Lemmas about the queue of tokens.
-use Rattle.std.proofs.Common.{◌≡◌, ℕ, ◌+◌, ◌-◌, ◌≤◌, min, Bool, true, false, ◌||◌, inl, inr, List, [], ◌∷◌, ◌++◌, map, length, take, drop, refl, ap, sym, ◌∙◌, append_assoc, append-nil, arith, length-append, length-drop, ◌<◌, suc}
+use Rattle.std.proofs.Common.{◌≡◌, ℕ, ◌+◌, ◌-◌, min, Bool, true, false, ◌||◌, inl, inr, List, [], ◌∷◌, ◌++◌, map, length, take, drop, refl, ap, sym, ◌∙◌, append_assoc, arith, length-append, length-drop, ◌<◌, suc}
 use Rattle.std.proofs.lemmas.List.{map-append, take-map, drop-map, take_min, take_all, drop_all, take-append-drop}
 use Rattle.std.proofs.lemmas.List.Edits.{insert-append_right}
-use Rattle.std.proofs.lemmas.Grind.{common_steps}
 use Rattle.std.specs.List.{insert}
 use Rattle.std.proofs.lemmas.Bool.{cases_lt}
 use Rattle.yaml_tokens.specs.declared.token.Token.{Token}
@@ -10,7 +9,7 @@ use Rattle.yaml_tokens.specs.Shown.{shown, tok_of}
 use Rattle.yaml_scanner.specs.Tokens.{is_end, has_end, end_at}
 use Rattle.yaml_chars.specs.Place.{Place}
 use Rattle.token_defs.specs.Token as seen
-use Rattle.std.proofs.Common.{Option, Some, None}
+use Rattle.std.proofs.Common.{Option, None}
 use Rattle.scan_model.specs.Block.{property_place, last_property}
 
 length_shown : (w : List Token) → length (map shown w) ≡ length w

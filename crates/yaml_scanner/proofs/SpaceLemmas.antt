@@ -1,15 +1,14 @@
 -- Lemmas about what stands between two tokens.
-use Rattle.std.proofs.Common.{◌≡◌, ◌≢◌, ℕ, ◌+◌, ◌<◌, List, [], ◌∷◌, Bool, true, false, not, ◌&&◌, ◌||◌, ◌==◌, refl, ap, sym, ◌∙◌, arith, if◌then◌else◌, Result, Ok, Err, slice_index, inl, inr, ◌⊎◌, rules}
-use Rattle.std.proofs.lemmas.Bool.{eqb-true, cases_Bool}
+use Rattle.std.proofs.Common.{◌≡◌, ℕ, List, [], ◌∷◌, Bool, true, false, not, ◌&&◌, ◌||◌, ◌==◌, refl, ap, ◌∙◌, if◌then◌else◌, Ok, Err, slice_index}
+use Rattle.std.proofs.lemmas.Bool.{eqb-true}
 use Rattle.yaml_chars.specs.Place.{Place}
 use Rattle.yaml_chars.specs.Class.{is_break, is_blank}
-use Rattle.yaml_tokens.specs.declared.problem.Fault.{Fault}
 use Rattle.yaml_tokens.specs.declared.problem.Fault.TheVariants.{At}
 use Rattle.yaml_tokens.specs.declared.problem.Problem.TheVariants as problem
-use Rattle.scalar_model.specs.Machine.{Read, past, past_break, is_cr_lf}
+use Rattle.scalar_model.specs.Machine.{Read, past, past_break}
 use Rattle.scalar_model.specs.Space as lex
-use Rattle.scan_model.specs.State.{Held, State, in_flow, moved}
-use Rattle.scan_model.specs.Space.{Gap, between, comment, tab_line, past_line, at_break, is_before_indent, in_line, skip, white, white_by, white_end}
+use Rattle.scan_model.specs.State.{Held, in_flow, moved}
+use Rattle.scan_model.specs.Space.{between, comment, tab_line, is_before_indent, skip, white}
 
 -- behind a line break
 abbrev broken : Held → Place → Held

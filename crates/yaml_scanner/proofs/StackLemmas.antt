@@ -1,5 +1,5 @@
 -- Lemmas about stacks.
-use Rattle.std.proofs.Common.{◌≡◌, ℕ, ◌+◌, ◌-◌, ◌<◌, List, [], ◌∷◌, ◌++◌, reverse, refl, ap, sym, ◌∙◌, Option, Some, None, length, get_or, arith, slice_get, set, Bool, true, false, ◌==◌}
+use Rattle.std.proofs.Common.{◌≡◌, ◌-◌, List, [], ◌∷◌, ◌++◌, reverse, refl, ap, sym, ◌∙◌, Some, length, arith, slice_get, set, ◌==◌}
 use Rattle.std.proofs.lemmas.List.{reverse-append, reverse-reverse, length-reverse}
 use Rattle.std.proofs.lemmas.Grind.{common_steps, elements}
 use Rattle.std.proofs.lemmas.Bool.{ne_eqb}

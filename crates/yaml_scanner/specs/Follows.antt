@@ -1,5 +1,5 @@
 -- What was fetched and handed out, against the model's runs over each text that is still possible.
-use Rattle.std.specs.Prelude.{◌≡◌, ◌≢◌, ℕ, List, ◌++◌, drop, Bool, true, false, Option, Some, None, IfSome}
+use Rattle.std.specs.Prelude.{◌≡◌, ◌≢◌, ℕ, List, ◌++◌, drop, true, false, None, IfSome}
 use Rattle.yaml_chars.specs.Reading.{Possible}
 use Rattle.token_defs.specs.Token.{Token}
 use Rattle.yaml_tokens.specs.declared.problem.Fault.TheVariants.{OutOfMemory}
@@ -24,6 +24,8 @@ pub record FollowsIn {T : Type 0} (a : List ℕ) (s : Fetcher T) : Type 0 where
   -- where no fault is kept: the model reaches what is held, and has all tokens once the stream's end is among them
   pub run : s.kept ≡ None → s.tokens.ended ≡ false → Reaches (start a) (state (drop s.window.at a) s)
   pub all : s.kept ≡ None → s.tokens.ended ≡ true → HasTokens a s.tokens.all
+  -- the stream's end comes where no character is left to take
+  pub done : s.kept ≡ None → s.tokens.ended ≡ true → s.window.done ≡ true
   -- what was handed out
   pub reached : IsReached a (handed s.tokens)
   pub begins : (ts : List Token) → HasTokens a ts → Begins (handed s.tokens) ts

@@ -1,5 +1,5 @@
 -- Levels of indentation, as clauses see them.
-use Rattle.std.specs.Prelude.{ℕ, ◌+◌, ◌≤◌, ◌^◌, List, [], ◌∷◌, Bool, true, false, not, if◌then◌else◌}
+use Rattle.std.specs.Prelude.{ℕ, ◌+◌, ◌≤◌, ◌^◌, List, [], ◌∷◌, Bool, false, not, if◌then◌else◌}
 use Rattle.scan_model.specs.declared.level.Indent.{Indent}
 
 -- the innermost column, and the levels, the innermost first

@@ -1,5 +1,5 @@
 -- What clauses see of a scanner.
-use Rattle.std.specs.Prelude.{◌≡◌, ℕ, ◌<◌, ◌≤◌, List, [], ◌∷◌, ◌++◌, length, take, Bool, true, false, Option, Some, None, IfSome, option_map}
+use Rattle.std.specs.Prelude.{◌≡◌, ℕ, ◌<◌, List, [], ◌∷◌, ◌++◌, length, take, Bool, true, false, Option, Some, None, IfSome, option_map}
 use Rattle.yaml_chars.specs.Place.{Place}
 use Rattle.yaml_chars.specs.Reading.{place_of}
 use Rattle.token_defs.specs.Token.{Token}
@@ -10,18 +10,24 @@ use Rattle.scan_model.specs.Run.{HasTokens, IsRefused}
 use Rattle.yaml_scanner.specs.declared.fetcher.Fetcher.{Fetcher}
 use Rattle.yaml_scanner.specs.declared.fetcher.Kept.{Kept}
 use Rattle.yaml_scanner.specs.Follows.{Begins, IsReached}
-use Rattle.yaml_scanner.specs.Tokens.{handed, is_end}
+use Rattle.yaml_scanner.specs.Tokens.{handed, waiting, is_end}
 use Rattle.yaml_scanner.specs.Work.{work}
 
--- the tokens handed out, the fault that is kept, whether start and end of the stream were met, the place,
--- a bound on the tokens that may still come, and the characters taken and whether they are all
 pub record Scanned : Type 0 where
+  -- the tokens handed out, and how many were fetched and wait
   pub given : List Token
+  pub waiting : ℕ
+  -- the fault that is kept
   pub fault : Option Fault
+  -- whether the stream's start was fetched, and its end
   pub started : Bool
+  pub stopped : Bool
+  -- whether the stream's end was handed out
   pub ended : Bool
   pub place : Place
+  -- a bound on the tokens that may still be handed out
   pub left : ℕ
+  -- the characters taken from the iterator, and whether they are all
   pub taken : List ℕ
   pub done : Bool
 
@@ -31,8 +37,10 @@ kept_fault k = fault_of k.fault k.mark
 abbrev pub inside : {T : Type 0} → Fetcher T → Scanned
 inside s = record {
   given = handed s.tokens;
+  waiting = waiting s.tokens;
   fault = option_map kept_fault s.kept;
   started = s.started;
+  stopped = s.tokens.ended;
   ended = s.tokens.over;
   place = place_of s.window;
   left = work s;
@@ -80,6 +88,8 @@ pub record ScansIn (a : List ℕ) (s : Scanned) : Type 0 where
 -- What was handed out, and the fault, whatever the text is.
 pub record Scans (s : Scanned) : Type 0 where
   pub scans : (a : List ℕ) → MayBe s a → ScansIn a s
+  -- once the stream's end was fetched, the characters taken are the whole text
+  pub done : s.fault ≡ None → s.stopped ≡ true → s.done ≡ true
 
 -- a token more is handed out
 pub record HandsOut (old : Scanned) (t : Token) (new : Scanned) : Type 0 where

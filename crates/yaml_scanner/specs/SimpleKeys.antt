@@ -1,5 +1,5 @@
 -- What may be a key, as the model sees it. In the code a place counts from the first token that waits.
-use Rattle.std.specs.Prelude.{ℕ, ◌+◌, ◌-◌, List, [], ◌∷◌, Bool, true, false, ◌==◌, Option, Some, None, map, if◌then◌else◌}
+use Rattle.std.specs.Prelude.{ℕ, ◌+◌, ◌-◌, List, [], ◌∷◌, Bool, false, ◌==◌, Option, Some, None, map, if◌then◌else◌}
 use Rattle.yaml_chars.specs.Place.{Place}
 use Rattle.scan_model.specs.State.{Key}
 use Rattle.scan_model.specs.Keys.{is_far}

@@ -1,9 +1,8 @@
 -- A bound on the tokens that may still be handed out: those that wait, an end for each level of indentation, and
 -- what the characters to come may bring.
-use Rattle.std.specs.Prelude.{◌≡◌, ℕ, ◌+◌, ◌-◌, ◌*◌, ◌≤◌, ◌<◌, Bool, List, length, take, if◌then◌else◌}
+use Rattle.std.specs.Prelude.{◌≡◌, ℕ, ◌+◌, ◌*◌, ◌≤◌, Bool, length, if◌then◌else◌}
 use Rattle.yaml_chars.specs.Reading.{Reading}
-use Rattle.token_defs.specs.Token.{Token}
-use Rattle.yaml_scanner.specs.Tokens.{Tokens, waiting, handed}
+use Rattle.yaml_scanner.specs.Tokens.{waiting, handed}
 use Rattle.yaml_scanner.specs.declared.fetcher.Fetcher.{Fetcher}
 
 abbrev pub unset : Bool → ℕ

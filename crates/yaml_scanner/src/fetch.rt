@@ -87,6 +87,7 @@ impl<T: Iterator<Item = char>> Fetcher<T> {
         requires { self.old.tokens.ended ≡ false }
         ensures does { OnOk result (Does fetch self.old self.new) }
         ensures fails { IfErr result (λ e. Fails fetch self.old self.new e) }
+        ensures done { OnOk result (self.new.tokens.ended ≡ true → self.new.window.done ≡ true) }
         ensures less { OnOk result (work self.new < work self.old) }
         ensures run { Fetches self.old self.new }
     {
@@ -101,6 +102,7 @@ impl<T: Iterator<Item = char>> Fetcher<T> {
         requires { self.old.tokens.ended ≡ false }
         ensures does { OnOk result (Does fetch_next self.old self.new) }
         ensures fails { IfErr result (λ e. Fails fetch_next self.old self.new e) }
+        ensures done { OnOk result (self.new.tokens.ended ≡ true → self.new.window.done ≡ true) }
         ensures less { OnOk result (work self.new < work self.old) }
         ensures run { Fetches self.old self.new }
     {
@@ -118,6 +120,7 @@ impl<T: Iterator<Item = char>> Fetcher<T> {
         requires { self.old.tokens.ended ≡ false }
         ensures does { OnOk result (Does fetch_here self.old self.new) }
         ensures fails { IfErr result (λ e. Fails fetch_here self.old self.new e) }
+        ensures done { OnOk result (self.new.tokens.ended ≡ true → self.new.window.done ≡ true) }
         ensures less { OnOk result (work self.new < work self.old) }
         ensures run { Fetches self.old self.new }
     {
@@ -148,6 +151,7 @@ impl<T: Iterator<Item = char>> Fetcher<T> {
         requires { self.old.tokens.ended ≡ false }
         ensures does { OnOk result (Does fetch_stream_end self.old self.new) }
         ensures fails { IfErr result (λ e. Fails fetch_stream_end self.old self.new e) }
+        ensures done { OnOk result (self.new.window.done ≡ self.old.window.done) }
         ensures less { OnOk result (work self.new < work self.old) }
         ensures run { Fetches self.old self.new }
     {
@@ -524,7 +528,8 @@ impl<T: Iterator<Item = char>> Fetcher<T> {
     {
         self.check_behind_quoted(line)?;
         self.skip_to_next_token()?;
-        self.adjacent_value_at = self.window.mark().index();
+        let here = self.window.mark().index();
+        self.adjacent_value_at = here;
         Ok(())
     }
 

@@ -14,9 +14,9 @@ ghost use Rattle.yaml_scanner.specs.Shape.{held};
 ghost use Rattle.yaml_scanner.specs.SimpleKeys.{number_of};
 ghost use Rattle.yaml_scanner.specs.Work.{Moves};
 
+use crate::fetcher::Fetcher;
 use crate::keys::SimpleKey;
 use crate::levels::{Collection, start_of};
-use crate::fetcher::Fetcher;
 use yaml_chars::Marker;
 use yaml_tokens::{Fault, Problem, Token, TokenType};
 

@@ -6,7 +6,6 @@ ghost use Rattle.yaml_chars.specs.Reading.{HasNoNul};
 ghost use Rattle.yaml_tokens.specs.Shown.{shown};
 ghost use Rattle.yaml_scanner.specs.Scanned.{scanned, HandsOut, HandsNothing, Refuses, Scans};
 ghost use Rattle.yaml_scanner.specs.Next.{GivesNext};
-ghost use Rattle.yaml_scanner.specs.Tokens.{waiting};
 
 use crate::fetcher::Fetcher;
 use crate::scanner::Scanner;
@@ -61,6 +60,7 @@ impl<T: Iterator<Item = char>> Scanner<T> {
         ensures place { result ≡ (scanned self.now).place }
         ensures came { CameFrom T.next_gives self.now.start (scanned self.now).taken (scanned self.now).done }
         ensures no_nul { HasNoNul (scanned self.now).taken }
+        ensures scans { Scans (scanned self.now) }
     {
         self.fetcher.window.note();
         self.fetcher.window.mark()
@@ -72,6 +72,7 @@ impl<T: Iterator<Item = char>> Scanner<T> {
         ensures given { (scanned self.new).given ≡ (scanned self.old).given }
         ensures ended { (scanned self.new).ended ≡ (scanned self.old).ended }
         ensures ok { OnOk result (((scanned self.old).fault ≡ None) × ((scanned self.new).fault ≡ None)) }
+        ensures less { OnOk result ((scanned self.old).stopped ≡ false → (scanned self.new).left < (scanned self.old).left) }
         ensures err { IfErr result (λ e. (scanned self.new).fault ≡ Some e) }
         ensures again { IfSome (scanned self.old).fault (λ f. result ≡ Err f) }
         ensures scans { Scans (scanned self.new) }
@@ -95,6 +96,7 @@ impl<T: Iterator<Item = char>> Scanner<T> {
         ensures given { (scanned self.new).given ≡ (scanned self.old).given }
         ensures ended { (scanned self.new).ended ≡ (scanned self.old).ended }
         ensures left { OnOk result ((scanned self.new).left ≤ (scanned self.old).left) }
+        ensures ready { OnOk result ((scanned self.new).stopped ≡ false → 0 < (scanned self.new).waiting) }
         ensures ok { OnOk result (((scanned self.old).fault ≡ None) × ((scanned self.new).fault ≡ None)) }
         ensures err { IfErr result (λ e. (scanned self.new).fault ≡ Some e) }
         ensures again { IfSome (scanned self.old).fault (λ f. result ≡ Err f) }

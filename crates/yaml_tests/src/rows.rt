@@ -1,6 +1,7 @@
 //! What single texts load as, construct by construct.
 use crate::loads::loaded;
 use std::test::Fail;
+use yaml_rust2::YamlLoader;
 
 #[test]
 fn quotes_and_markers(rt: HostRuntime) -> Result<(), Fail> {
@@ -143,5 +144,19 @@ fn texts_end_at_a_nul(rt: HostRuntime) -> Result<(), Fail> {
     ] {
         assert_eq!(rt; loaded(rt.alloc(), text)?.as_str(), want);
     }
+    Ok(())
+}
+
+#[test]
+fn an_iterator_is_left_alone_behind_its_end(rt: HostRuntime) -> Result<(), Fail> {
+    let letters = "a-b"
+        .chars()
+        .map_while(|c: char| if c == '-' { None } else { Some(c) });
+    let documents = YamlLoader::load_from_iter(rt.alloc(), letters).map_err(|_| "a fault")?;
+    let is_a = match documents.as_slice() {
+        [document] => document.as_str() == Some("a"),
+        _ => false,
+    };
+    assert!(rt; is_a);
     Ok(())
 }

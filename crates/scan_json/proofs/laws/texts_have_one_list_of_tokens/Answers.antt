@@ -2,4 +2,4 @@ use Rattle.scan_model.proofs.Runs.{one_list}
 use Rattle.scan_json.proofs.laws.texts_have_one_list_of_tokens.Goals as goal
 
 pub returns : goal.returns
-returns c = λ a ts us y z. one_list a us ts z y
+returns c = one_list

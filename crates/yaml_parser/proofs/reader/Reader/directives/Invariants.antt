@@ -1,9 +1,17 @@
-use Rattle.std.proofs.Common.{◌≤◌}
+use Rattle.std.proofs.Common.{◌≡◌, ◌≤◌, List, false}
+use Rattle.yaml_chars.specs.Place.{Place}
+use Rattle.event_defs.specs.Event.{Ev}
+use Rattle.event_defs.specs.Names.{Names}
+use Rattle.yaml_parser.specs.Directing.{Directing}
 use Rattle.yaml_parser.specs.Work.{work}
 use Rattle.yaml_parser.proofs.reader.Reader.directives.Given as goal
 
 abbrev pub invariant-directives : goal.invariant-directives
-invariant-directives g l = work l.self ≤ work l.fn.self
+invariant-directives g l = record {
+  work : work l.self ≤ work l.fn.self;
+  keeping : l.self.names.keeping ≡ l.fn.self.names.keeping;
+  at : (names : Names) (given : List (Ev × Place)) → Directing l.fn.self names given false → Directing l.self names given l.versioned;
+}
 
 abbrev pub decreases-directives : goal.decreases-directives
 decreases-directives g l = work l.self

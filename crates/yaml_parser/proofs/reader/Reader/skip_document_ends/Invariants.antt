@@ -1,12 +1,16 @@
-use Rattle.std.proofs.Common.{◌≤◌}
+use Rattle.std.proofs.Common.{◌≡◌, ◌≤◌}
+use Rattle.grammar_turns.specs.Goal as at
 use Rattle.yaml_parser.specs.Work.{work}
 use Rattle.yaml_parser.specs.Kinds.{IsOfKind}
+use Rattle.yaml_parser.specs.At.{Carries}
 use Rattle.yaml_parser.proofs.reader.Reader.skip_document_ends.Given as goal
 
 abbrev pub invariant-ends : goal.invariant-ends
 invariant-ends g l = record {
   peeked : IsOfKind l.next.kind l.self.tokens.peeked;
   work : work l.self ≤ work l.fn.self;
+  keeping : l.self.names.keeping ≡ l.fn.self.names.keeping;
+  at : Carries at.documents l.fn.self l.self;
 }
 
 abbrev pub decreases-ends : goal.decreases-ends

@@ -1,5 +1,3 @@
-use Rattle.std.proofs.Common.{true, false}
-use Rattle.yaml_chars.proofs.ReadingLemmas.{Sees-both}
 use Rattle.yaml_scanner.proofs.FetchLemmas.{sees_marker, sees_none}
 use Rattle.yaml_scanner.proofs.fetcher.Fetcher.at_marker.Goals as goal
 

@@ -1,4 +1,4 @@
-use Rattle.std.proofs.Common.{◌∙◌, ap, sym}
+use Rattle.std.proofs.Common.{◌∙◌}
 use Rattle.yaml_scanner.specs.Shape.{held}
 use Rattle.scan_model.specs.State.{token}
 use Rattle.yaml_scanner.specs.SimpleKeys.{number_of}

@@ -1,4 +1,4 @@
-use Rattle.std.proofs.Common.{◌≡◌, ◌∙◌, sym, refl, ap, Some}
+use Rattle.std.proofs.Common.{◌∙◌, sym, refl, ap, Some}
 use Rattle.yaml_scanner.specs.Shape.{held}
 use Rattle.yaml_scanner.proofs.FlowLemmas.{pair_ended, keyed_ended, mapping_ended, entry_kept, none_ended}
 use Rattle.yaml_scanner.proofs.fetcher.Fetcher.end_flow_pair.Goals as goal

@@ -15,6 +15,6 @@ returns-in_err-skip_to_next_token-clause-fails g c = exits _ c.from_residual-in_
 
 pub returns-clause-does : goal.returns-clause-does
 returns-clause-does g c =
-    does_then c.args.self.now c.args.self.now c.check_behind_quoted.new.self c.check_behind_quoted.new.self c.skip_to_next_token.new.self (record c.skip_to_next_token.new.self { adjacent_value_at = c.index-self.result }) refl refl refl
+    does_then c.args.self.now c.args.self.now c.check_behind_quoted.new.self c.check_behind_quoted.new.self c.skip_to_next_token.new.self (record c.skip_to_next_token.new.self { adjacent_value_at = c.index-here.result }) refl refl refl
     c.in_ok-check_behind_quoted.ensures.does c.in_ok-skip_to_next_token.ensures.does
-    (λ a b d p q. quoted_ended c.args.line a b d (held c.args.self.now) (held c.check_behind_quoted.new.self) (held c.skip_to_next_token.new.self) _ c.index-self.result p q (c.index-self.ensures.value ∙ ap (λ p. p.index) c.mark.ensures) refl)
+    (λ a b d p q. quoted_ended c.args.line a b d (held c.args.self.now) (held c.check_behind_quoted.new.self) (held c.skip_to_next_token.new.self) _ c.index-here.result p q (c.index-here.ensures.value ∙ ap (λ p. p.index) c.mark.ensures) refl)

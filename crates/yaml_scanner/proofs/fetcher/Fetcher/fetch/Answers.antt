@@ -1,4 +1,3 @@
-use Rattle.std.proofs.Common.{refl}
 use Rattle.scan_model.specs.Fetch.{fetch, fetch_next}
 use Rattle.yaml_scanner.specs.Shape.{held}
 use Rattle.yaml_scanner.proofs.FetchLemmas.{does_as, fails_as, does_held, on_ok_map}

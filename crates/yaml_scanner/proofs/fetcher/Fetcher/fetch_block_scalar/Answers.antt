@@ -1,6 +1,5 @@
 use Rattle.std.proofs.Common.{◌∙◌, ap, refl, sym}
 use Rattle.yaml_chars.specs.Reading.{place_of}
-use Rattle.token_defs.specs.Token.{Tok}
 use Rattle.yaml_scanner.specs.Shape.{held}
 use Rattle.yaml_scanner.proofs.DoesLemmas.{exits, Reads-along, Reads-map}
 use Rattle.yaml_scanner.proofs.NodeLemmas.{block_read, block_failed}

@@ -1,7 +1,5 @@
 use Rattle.std.proofs.Common.{refl}
 use Rattle.yaml_chars.proofs.ReadingLemmas.{Reads-then}
-use Rattle.scan_model.specs.Document.{fetch_document_marker}
-use Rattle.scan_model.specs.Space.{skip_spaces}
 use Rattle.yaml_scanner.specs.Shape.{held}
 use Rattle.yaml_scanner.proofs.DoesLemmas.{exits, fails_in, fails_then}
 use Rattle.yaml_scanner.proofs.FetchLemmas.{Reads-both, document_ended, content_behind, not_marked_end, no_space_behind}

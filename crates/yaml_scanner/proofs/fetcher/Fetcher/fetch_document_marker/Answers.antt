@@ -1,4 +1,4 @@
-use Rattle.std.proofs.Common.{◌∙◌, ap, refl, sym}
+use Rattle.std.proofs.Common.{◌∙◌, ap, sym}
 use Rattle.scan_model.specs.State.{push}
 use Rattle.yaml_scanner.specs.Shape.{held}
 use Rattle.yaml_scanner.specs.Collections.{marker_of}

@@ -1,7 +1,6 @@
 use Rattle.std.proofs.Common.{◌∙◌, ap, refl}
 use Rattle.scan_model.specs.State.{push}
 use Rattle.yaml_scanner.specs.Shape.{held}
-use Rattle.yaml_scanner.specs.Collections.{level_of, flow_start}
 use Rattle.yaml_scanner.proofs.DoesLemmas.{exits, does_in, fails_in, fails_held}
 use Rattle.yaml_scanner.proofs.FlowLemmas.{started, start_refused, start_failed}
 use Rattle.yaml_scanner.proofs.fetcher.Fetcher.fetch_flow_collection_start.Goals as goal

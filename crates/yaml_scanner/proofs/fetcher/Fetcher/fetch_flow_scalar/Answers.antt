@@ -1,9 +1,6 @@
-use Rattle.std.proofs.Common.{◌∙◌, ap, refl, sym}
-use Rattle.token_defs.specs.Token.{Tok}
+use Rattle.std.proofs.Common.{ap, refl, sym}
 use Rattle.yaml_chars.specs.Reading.{place_of}
-use Rattle.yaml_chars.specs.Text.{string_chars}
 use Rattle.yaml_chars.proofs.ReadingLemmas.{Reads-then}
-use Rattle.scan_model.specs.State.{push}
 use Rattle.yaml_scanner.specs.Shape.{held}
 use Rattle.yaml_scanner.proofs.DoesLemmas.{exits, Reads-along, Reads-map}
 use Rattle.yaml_scanner.proofs.FetchLemmas.{flow_read, flow_not_read, flow_not_ended}

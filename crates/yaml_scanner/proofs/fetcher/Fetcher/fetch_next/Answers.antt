@@ -1,5 +1,4 @@
-use Rattle.std.proofs.Common.{refl, ap, sym, ◌+◌, ◌∙◌}
-use Rattle.yaml_chars.specs.Reading.{place_of}
+use Rattle.std.proofs.Common.{refl, ap, ◌+◌, ◌∙◌}
 use Rattle.yaml_scanner.specs.Shape.{held}
 use Rattle.yaml_scanner.proofs.DoesLemmas.{exits, fails_in, fails_then, does_then}
 use Rattle.yaml_scanner.proofs.DispatchLemmas.{fails_from, fails_behind, fetched, space_refused, key_refused, here_refused, last_refused}

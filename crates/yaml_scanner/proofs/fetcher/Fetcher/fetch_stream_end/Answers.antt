@@ -1,4 +1,4 @@
-use Rattle.std.proofs.Common.{◌∙◌, ap, refl, sym}
+use Rattle.std.proofs.Common.{◌∙◌, refl}
 use Rattle.yaml_chars.specs.Reading.{place_of}
 use Rattle.yaml_scanner.specs.SimpleKeys.{seen}
 use Rattle.yaml_scanner.specs.Shape.{held}

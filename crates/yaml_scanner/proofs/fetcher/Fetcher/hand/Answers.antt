@@ -1,4 +1,3 @@
-use Rattle.yaml_scanner.specs.Scanned.{inside}
 use Rattle.yaml_scanner.proofs.FollowLemmas.{handed_on}
 use Rattle.yaml_scanner.proofs.fetcher.Fetcher.hand.Goals as goal
 

@@ -1,4 +1,4 @@
-use Rattle.std.proofs.Common.{◌≡◌, ◌∙◌, ap, sym, true, false}
+use Rattle.std.proofs.Common.{◌∙◌, ap, sym, true, false}
 use Rattle.yaml_chars.specs.Reading.{place_of}
 use Rattle.scan_model.specs.Space.{skip, between, white}
 use Rattle.yaml_scanner.specs.Shape.{held}

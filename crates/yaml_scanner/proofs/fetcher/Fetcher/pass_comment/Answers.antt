@@ -1,7 +1,6 @@
-use Rattle.std.proofs.Common.{◌≡◌, ◌∙◌, ap, sym, ◌∷◌, slice_index, false}
+use Rattle.std.proofs.Common.{◌∙◌, ap, ◌∷◌, false}
 use Rattle.yaml_chars.specs.Reading.{place_of}
 use Rattle.yaml_chars.proofs.ReadingLemmas.{Reads-then}
-use Rattle.scan_model.specs.State.{moved}
 use Rattle.yaml_scanner.specs.Shape.{held}
 use Rattle.yaml_scanner.proofs.SpaceLemmas.{gap_hash, gap_comment}
 use Rattle.yaml_scanner.proofs.fetcher.Fetcher.pass_comment.Goals as goal

@@ -1,6 +1,6 @@
 use Rattle.std.proofs.Common.{◌∙◌, ◌+◌, ap, refl}
 use Rattle.yaml_scanner.specs.Shape.{held}
-use Rattle.yaml_scanner.specs.SimpleKeys.{seen, key_of}
+use Rattle.yaml_scanner.specs.SimpleKeys.{seen}
 use Rattle.yaml_scanner.proofs.KeyLemmas.{with_top_seen}
 use Rattle.yaml_scanner.proofs.HeldLemmas.{saved, not_saved}
 use Rattle.yaml_scanner.proofs.fetcher.Fetcher.save_simple_key.Goals as goal

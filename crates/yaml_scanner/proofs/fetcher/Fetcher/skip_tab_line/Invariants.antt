@@ -1,4 +1,4 @@
-use Rattle.std.proofs.Common.{◌≡◌, ℕ, ◌<◌, slice_index, true}
+use Rattle.std.proofs.Common.{◌≡◌, ◌<◌, slice_index, true}
 use Rattle.yaml_chars.specs.Reading.{Reads}
 use Rattle.scan_model.specs.Space.{skip, between, tab_line, is_before_indent}
 use Rattle.yaml_scanner.specs.Shape.{held}

@@ -1,4 +1,4 @@
-use Rattle.std.proofs.Common.{◌≡◌, ℕ}
+use Rattle.std.proofs.Common.{◌≡◌}
 use Rattle.yaml_chars.specs.Reading.{Reads}
 use Rattle.scan_model.specs.Space.{skip, between}
 use Rattle.yaml_scanner.specs.Shape.{held}

@@ -1,4 +1,4 @@
-use Rattle.std.proofs.Common.{◌≡◌, ℕ, false}
+use Rattle.std.proofs.Common.{◌≡◌, false}
 use Rattle.yaml_chars.specs.Reading.{Reads}
 use Rattle.scan_model.specs.Space.{white}
 use Rattle.yaml_scanner.specs.Shape.{held}

@@ -1,4 +1,4 @@
-use Rattle.std.proofs.Common.{◌≡◌, ℕ, length, false}
+use Rattle.std.proofs.Common.{◌≡◌, length, false}
 use Rattle.yaml_chars.specs.Reading.{place_of}
 use Rattle.scan_model.specs.State.{in_flow}
 use Rattle.scan_model.specs.Indents.{unrolled, with_levels}

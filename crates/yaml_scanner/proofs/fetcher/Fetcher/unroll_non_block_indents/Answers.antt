@@ -1,4 +1,4 @@
-use Rattle.std.proofs.Common.{◌≡◌, refl, ap, ◌∙◌, sym, rules}
+use Rattle.std.proofs.Common.{ap, ◌∙◌, sym, rules}
 use Rattle.yaml_scanner.specs.Shape.{held}
 use Rattle.scan_model.specs.Indents.{Levels, with_levels}
 use Rattle.yaml_scanner.proofs.HeldLemmas.{open_popped, without_block, without_more, without_done}

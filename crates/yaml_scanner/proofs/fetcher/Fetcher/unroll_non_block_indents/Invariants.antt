@@ -1,4 +1,4 @@
-use Rattle.std.proofs.Common.{◌≡◌, ℕ, length}
+use Rattle.std.proofs.Common.{◌≡◌, length}
 use Rattle.scan_model.specs.Indents.{without_open, with_levels}
 use Rattle.yaml_scanner.specs.Shape.{held}
 use Rattle.yaml_scanner.specs.Work.{Moves}

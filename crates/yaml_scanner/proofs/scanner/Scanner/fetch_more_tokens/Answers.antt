@@ -7,3 +7,6 @@ returns-in-Some-clause-scans g c = rw (← c.self.view_is) (scans_from c.self.in
 
 pub returns-in-Err-clause-scans : goal.returns-in-Err-clause-scans
 returns-in-Err-clause-scans g c = scans_from c.keep.new.self c.keep.ensures.follows
+
+pub returns-in-Ok-clause-scans : goal.returns-in-Ok-clause-scans
+returns-in-Ok-clause-scans g c = scans_from c.fill.new.self c.in-Ok.ensures.ok

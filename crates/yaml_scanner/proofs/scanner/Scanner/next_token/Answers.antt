@@ -7,3 +7,9 @@ returns-in-Some-clause-scans g c = rw (← c.self.view_is) (scans_from c.self.in
 
 pub returns-in-Err-clause-scans : goal.returns-in-Err-clause-scans
 returns-in-Err-clause-scans g c = scans_from c.keep.new.self c.keep.ensures.follows
+
+pub returns-then-is_over-clause-scans : goal.returns-then-is_over-clause-scans
+returns-then-is_over-clause-scans g c = rw (← c.self.view_is) (scans_from c.self.inside.fetcher c.self.invariant)
+
+pub returns-in-Ok-clause-scans : goal.returns-in-Ok-clause-scans
+returns-in-Ok-clause-scans g c = scans_from c.hand.new.self c.hand.ensures.follows

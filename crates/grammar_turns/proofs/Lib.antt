@@ -1,0 +1,6 @@
+pub mod First
+pub mod Carry
+pub mod Document
+pub mod Nodes
+pub mod Block
+pub mod Flow

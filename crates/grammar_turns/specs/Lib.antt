@@ -1,0 +1,5 @@
+pub mod Kinds
+pub mod Goal
+pub mod Rest
+pub mod Stands
+pub mod Turn

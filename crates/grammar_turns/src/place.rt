@@ -1,0 +1,10 @@
+/// Where a node stands, and so which contents it may have.
+#[derive(Clone, Copy, Debug, PartialEq, Eq)]
+pub enum Place {
+    /// In a flow collection.
+    Flow,
+    /// Outside: block collections too.
+    Block,
+    /// A key or a value of a block mapping: sequences without indentation too.
+    Part,
+}

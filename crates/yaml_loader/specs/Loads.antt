@@ -1,0 +1,61 @@
+-- What the loads answer. YAML 1.2, section 3.1 (construction).
+use Rattle.std.specs.Prelude.{◌≡◌, List, [], ◌∷◌, ◌++◌, true, false, Some, None, Result, Ok, Err}
+use Rattle.yaml_chars.specs.Place.{Place}
+use Rattle.tree_defs.specs.Tree.{Tree}
+use Rattle.event_defs.specs.Event.{Ev}
+use Rattle.event_defs.specs.Unfinished.{Loader, at_work, noted, new_loader, with_event_at, with_events}
+use Rattle.yaml_tokens.specs.Fault.{Fault}
+use Rattle.yaml_parser.specs.Loads.{Loads}
+use Rattle.yaml_parser.specs.Parsed.{Parsed}
+use Rattle.yaml_loader.specs.Loading.{IsNewFault}
+
+-- A loader that is at work has these documents.
+abbrev pub HasDocuments : Loader → List Tree → Type 0
+HasDocuments (at_work u) documents = u.documents ≡ documents
+HasDocuments _ documents = ⊥
+
+-- A loader has noted a key that came twice, its second value at this place.
+abbrev pub HasNoted : Loader → Place → Type 0
+HasNoted (noted documents key at) place = at ≡ place
+HasNoted _ place = ⊥
+
+-- A receiver that only notes the events that are pushed.
+abbrev pub Notes : List (Ev × Place) → Ev → Place → Result (Unit {0}) Fault → List (Ev × Place) → Type 0
+Notes events e p result now = now ≡ events ++ (e, p) ∷ []
+
+-- `load` of all documents, from where a parser stood: it pushed these events, of those that it pulled, and answered so.
+abbrev pub Pushes : Parsed → List (Ev × Place) → Result (Unit {0}) Fault → Parsed → Type 0
+Pushes old events result new = Loads Notes true old [] result new events
+
+-- These are the documents of a load: those that the events which were pushed are read as, one by one.
+abbrev pub AreLoaded : Parsed → List Tree → Parsed → Type 0
+AreLoaded old documents new = (events : List (Ev × Place)) × Pushes old events (Ok tt) new × HasDocuments (with_events new_loader events) documents
+
+-- Why a load answers this fault.
+pub data IsLoadFault (old : Parsed) (f : Fault) (new : Parsed) : Type 0 where
+  -- It is the parser's, which is kept.
+  parser_fault : (events : List (Ev × Place)) → Pushes old events (Err f) new → new.fault ≡ Some f → IsLoadFault old f new
+  -- The last event that was pushed is refused: it stands out of nesting, or memory was refused.
+  refused : (events : List (Ev × Place)) (e : Ev) (p : Place) → Pushes old (events ++ (e, p) ∷ []) (Err f) new → new.fault ≡ None
+      → IsNewFault f p (with_event_at (with_events new_loader events) e p) → IsLoadFault old f new
+  -- All events were pushed, and among them a key came twice, its second value at the fault's place.
+  repeated_key : (events : List (Ev × Place)) → Pushes old events (Ok tt) new → new.fault ≡ None
+      → HasNoted (with_events new_loader events) f.place → f.memory ≡ false → IsLoadFault old f new
+
+-- ---- the loads of a text, over a parser of their own
+
+-- Nothing was asked of it, and nothing was set.
+pub record IsNew (p : Parsed) : Type 0 where
+  pub given : p.given ≡ []
+  pub ahead : p.ahead ≡ None
+  pub fault : p.fault ≡ None
+  pub started : p.started ≡ false
+  pub ended : p.ended ≡ false
+  pub keep_tags : p.keep_tags ≡ false
+  pub steady : p.steady ≡ true
+
+abbrev pub AreLoadedAnew : List Tree → Type 0
+AreLoadedAnew documents = (old : Parsed) × (new : Parsed) × IsNew old × AreLoaded old documents new
+
+abbrev pub IsFaultAnew : Fault → Type 0
+IsFaultAnew f = (old : Parsed) × (new : Parsed) × IsNew old × IsLoadFault old f new

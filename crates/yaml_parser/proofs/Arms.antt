@@ -1,0 +1,164 @@
+-- The arms of the productions.
+use Rattle.std.proofs.Common.{◌≡◌, ◌≢◌, List, [], ◌∷◌, ◌++◌, Some, None, option_map, Bool, true, false, ◌||◌, Result, Ok, Err, refl, sym, ap, ◌∙◌, subst, ◌⊎◌, inl, inr}
+use Rattle.std.specs.Result.{IsErrAnd, IfErr}
+use Rattle.std.proofs.lemmas.Bool.{or_parts, or_from, both_ways}
+use Rattle.yaml_chars.specs.Place.{Place}
+use Rattle.token_defs.specs.Token.{Tok}
+use Rattle.yaml_tokens.specs.declared.token.Token.{Token}
+use Rattle.yaml_tokens.specs.Shown.{tok_of}
+use Rattle.yaml_scanner.specs.Tokens.{is_end}
+use Rattle.event_defs.specs.Event.{Ev}
+use Rattle.event_defs.specs.Raw.{Raw}
+use Rattle.event_defs.specs.Names.{Names, behind, resolved_event}
+use Rattle.event_defs.specs.Stream.{has_place, gives_place}
+use Rattle.grammar_turns.specs.declared.kind.Kind.{Kind}
+use Rattle.grammar_turns.specs.declared.state.State.{State}
+use Rattle.grammar_turns.specs.Kinds.{kind_of, tok_of_kind, has_no_text}
+use Rattle.grammar_turns.specs.Goal as at
+use Rattle.grammar_turns.specs.Goal.{Goal}
+use Rattle.grammar_turns.specs.Turn.{Takes, Leaves}
+use Rattle.grammar_turns.proofs.First.{tok_is}
+use Rattle.yaml_parser.specs.declared.event.Event.{Event}
+use Rattle.yaml_parser.specs.declared.tokens.Stop.{Stop}
+use Rattle.yaml_parser.specs.declared.reader.Reader.{Reader}
+use Rattle.yaml_parser.specs.Ahead.{Skips}
+use Rattle.yaml_parser.specs.Handed.{peeked_tok}
+use Rattle.yaml_parser.specs.Kinds.{IsOfKind}
+use Rattle.yaml_parser.specs.Named.{IsNamed}
+use Rattle.yaml_parser.specs.Shown.{placed}
+use Rattle.yaml_parser.specs.At.{At, Answers, Took, Stayed, Faulted, goal_behind, is_over, names_at, IsPending}
+use Rattle.yaml_parser.proofs.Places.{IsPlaced}
+use Rattle.yaml_parser.proofs.Steps.{looked, took, took_on, left, left_on, Named}
+
+-- the token at hand is taken, and this is what there is behind it
+abbrev pub Skipped : {T : Type 0} → Reader T → Reader T → List State → Type 0
+Skipped p r ss = (t : Token) → p.tokens.peeked ≡ Some t → Took p t r ss
+
+pub push_behind : {T : Type 0} {p q r : Reader T} {s : State} {ss : List State} → Skipped p q ss → Stayed q r (s ∷ q.stack) → Skipped p r (s ∷ ss)
+push_behind {T} {p} {q} {r} {s} {ss} k y = λ t h. let x = k t h in record {
+  tokens = subst (λ u. Skips p.tokens t u) (sym y.tokens) x.tokens;
+  stack = y.stack ∙ ap (λ zs. s ∷ zs) x.stack;
+  names = y.names ∙ x.names;
+}
+
+pub stay_push : {T : Type 0} {p q r : Reader T} {s : State} {ss : List State} → Stayed p q ss → Stayed q r (s ∷ q.stack) → Stayed p r (s ∷ ss)
+stay_push {T} {p} {q} {r} {s} {ss} x y = record { tokens = y.tokens ∙ x.tokens; stack = y.stack ∙ ap (λ zs. s ∷ zs) x.stack; names = y.names ∙ x.names }
+
+pub stay : {T : Type 0} {p : Reader T} → Stayed p p p.stack
+stay {T} {p} = record { tokens = refl; stack = refl; names = refl }
+
+-- ---- an event that names nothing
+
+pub record Plain {T : Type 0} (g : Goal) (p : Reader T) (names : Names) (e : Raw) (v : Ev) : Type 0 where
+  pub resolves : resolved_event names e ≡ Some v
+  pub behind_it : behind p.names.keeping.tags names e ≡ names
+  pub seen : names_at p.names.keeping.tags g names ≡ names
+  pub no_place : has_place e ≡ false
+
+plain_named : {T : Type 0} {g : Goal} {p r : Reader T} {names : Names} {e : Raw} {v : Ev} {given : List (Ev × Place)} → Plain g p names e v → r.names ≡ p.names → At g p names given → Named p r at.done names e v names
+plain_named {T} {g} {p} {r} {names} {e} {v} {given} y same a = record {
+  resolves = y.resolves;
+  behind_it = y.behind_it;
+  keep = ap (λ n. n.keeping) same;
+  code = subst (λ n. IsNamed n names) (sym same) (subst (IsNamed p.names) y.seen a.code);
+  pending = tt;
+}
+
+pub no_places : {e : Raw} {t : Token} (m : Place) → has_place e ≡ false → gives_place (tok_of t.1) ≡ false → IsPlaced e t m
+no_places {e} {t} m h k = record { alike = h ∙ sym k; here = λ y. absurd (both_ways (gives_place (tok_of t.1)) k y) }
+
+-- The token is taken, and an event is given.
+pub gives : {T : Type 0} (m : Place) {g : Goal} {p r : Reader T} {k k' : Kind} {ss : List State} {e : Raw} {v : Ev} {names : Names} {given : List (Ev × Place)}
+    → IsOfKind k' p.tokens.peeked → k' ≡ k → has_no_text k ≡ true → Skipped p r ss → Takes g p.stack (tok_of_kind k) (Some e) at.done ss
+    → Plain g p names e v → is_over g ≡ false → (is_end (tok_of_kind k) || gives_place (tok_of_kind k)) ≡ false → At g p names given → (names' : Names) × At at.done r names' (given ++ (v, m) ∷ [])
+gives {T} m {g} {p} {r} {k} {k'} {ss} {e} {v} {names} {given} o h plain s turn y over end a =
+    let l = looked k' p.tokens.peeked o in
+    let t = l.0 in
+    let x = s t l.1 in
+    let same : tok_of t.1 ≡ tok_of_kind k = tok_is (l.2 ∙ h) plain in (
+      names,
+      took m l.1 x.tokens x.stack (subst (λ u. Takes g p.stack u (Some e) at.done ss) (sym same) turn) (plain_named y x.names a) (λ w. (over, ap is_end same ∙ (or_parts (is_end (tok_of_kind k)) (gives_place (tok_of_kind k)) end).0))
+          (no_places {e = e} {t = t} m y.no_place (ap gives_place same ∙ (or_parts (is_end (tok_of_kind k)) (gives_place (tok_of_kind k)) end).1)) a,
+    )
+
+-- The token is taken, and it goes on.
+pub goes : {T : Type 0} {g g' : Goal} {p r : Reader T} {k k' : Kind} {ss : List State} {names : Names} {given : List (Ev × Place)}
+    → IsOfKind k' p.tokens.peeked → k' ≡ k → has_no_text k ≡ true → Skipped p r ss → Takes g p.stack (tok_of_kind k) None g' ss
+    → names_at p.names.keeping.tags g' names ≡ names_at p.names.keeping.tags g names → IsPending names g' → is_over g ≡ false → (is_end (tok_of_kind k) || gives_place (tok_of_kind k)) ≡ false → At g p names given → At g' r names given
+goes {T} {g} {g'} {p} {r} {k} {k'} {ss} {names} {given} o h plain s turn seen pending over end a =
+    let l = looked k' p.tokens.peeked o in
+    let t = l.0 in
+    let x = s t l.1 in
+    let same : tok_of t.1 ≡ tok_of_kind k = tok_is (l.2 ∙ h) plain in
+    took_on l.1 x.tokens x.stack (subst (λ u. Takes g p.stack u None g' ss) (sym same) turn) (ap (λ n. n.keeping) x.names)
+    (subst (λ n. IsNamed n (names_at n.keeping.tags g' names)) (sym x.names) (subst (IsNamed p.names) (sym seen) a.code)) pending (λ w. (over, ap is_end same ∙ (or_parts (is_end (tok_of_kind k)) (gives_place (tok_of_kind k)) end).0))
+    (ap gives_place same ∙ (or_parts (is_end (tok_of_kind k)) (gives_place (tok_of_kind k)) end).1) a
+
+-- The token stays, and an event is given.
+pub leaves : {T : Type 0} (m : Place) {g : Goal} {p r : Reader T} {k : Kind} {ss : List State} {e : Raw} {v : Ev} {names : Names} {given : List (Ev × Place)}
+    → IsOfKind k p.tokens.peeked → Stayed p r ss → ((t : Tok) → kind_of t ≡ k → Leaves g p.stack (Some t) (Some e) at.done ss)
+    → Plain g p names e v → is_over g ≡ false → At g p names given → (names' : Names) × At at.done r names' (given ++ (v, m) ∷ [])
+leaves {T} m {g} {p} {r} {k} {ss} {e} {v} {names} {given} o s turn y over a =
+    let l = looked k p.tokens.peeked o in
+    (names, left m (ap (option_map (λ (x : Token). tok_of x.1)) l.1) s.tokens s.stack (turn (tok_of l.0.1) l.2) (plain_named y s.names a) (or_from (is_over g) false over refl) y.no_place a)
+
+-- The token stays, and it goes on.
+pub stays : {T : Type 0} {g g' : Goal} {p r : Reader T} {k : Kind} {ss : List State} {names : Names} {given : List (Ev × Place)}
+    → IsOfKind k p.tokens.peeked → Stayed p r ss → ((t : Tok) → kind_of t ≡ k → Leaves g p.stack (Some t) None g' ss)
+    → names_at p.names.keeping.tags g' names ≡ names_at p.names.keeping.tags g names → IsPending names g' → (is_over g || is_over g') ≡ false → At g p names given → At g' r names given
+stays {T} {g} {g'} {p} {r} {k} {ss} {names} {given} o s turn seen pending over a =
+    let l = looked k p.tokens.peeked o in
+    left_on (ap (option_map (λ (x : Token). tok_of x.1)) l.1) s.tokens s.stack (turn (tok_of l.0.1) l.2) s.names seen pending over a
+
+-- No token is looked at, and an event is given.
+pub went : {T : Type 0} (m : Place) {g : Goal} {p r : Reader T} {ss : List State} {e : Raw} {v : Ev} {names : Names} {given : List (Ev × Place)}
+    → Stayed p r ss → Leaves g p.stack (peeked_tok p.tokens) (Some e) at.done ss → Plain g p names e v → is_over g ≡ false → At g p names given → (names' : Names) × At at.done r names' (given ++ (v, m) ∷ [])
+went {T} m {g} {p} {r} {ss} {e} {v} {names} {given} s turn y over a =
+    (names, left m refl s.tokens s.stack turn (plain_named y s.names a) (or_from (is_over g) false over refl) y.no_place a)
+
+-- ---- what is answered
+
+pub if_err_as : {A : Type 0} (P : Stop → Type 0) (r : Result A Stop) {x : Stop} → IsErrAnd r (λ e. e ≡ x) → P x → IfErr r P
+if_err_as P (Ok e) h f = tt
+if_err_as P (Err s) h f = subst P (sym h) f
+
+pub answers_err : {T : Type 0} (p : Reader T) (given : List (Ev × Place)) (r : Result (Event × Place) Stop) (x : Stop) → IsErrAnd r (λ e. e ≡ x) → Faulted p given x → Answers p given r
+answers_err {T} p given (Ok e) x h f = absurd h
+answers_err {T} p given (Err s) x h f = subst (Faulted p given) (sym h) f
+
+pub answers_written : {T : Type 0} (p : Reader T) (given : List (Ev × Place)) (r : Event × Place) {x : Ev × Place} → placed r ≡ x
+    → ((names : Names) × At (goal_behind x.0) p names (given ++ x ∷ [])) → Answers p given (Ok r)
+answers_written {T} p given r {x} h a = subst (λ y. (names : Names) × At (goal_behind y.0) p names (given ++ y ∷ [])) (sym h) a
+
+pub answers_stop : {T : Type 0} (p : Reader T) (given : List (Ev × Place)) (r : Result (Event × Place) Stop) {s : Stop} → r ≡ Err s → Faulted p given s → Answers p given r
+answers_stop p given r {s} h f = subst (Answers p given) (sym h) f
+
+pub faulted_as : {T : Type 0} (p : Reader T) (given : List (Ev × Place)) {s u : Stop} → s ≡ u → Faulted p given u → Faulted p given s
+faulted_as {T} p given h f = subst (Faulted p given) (sym h) f
+
+-- ---- one of several kinds
+
+pub either : (P : Kind → Type 0) {k a b : Kind} → P a → P b → (k ≡ a) ⊎ (k ≡ b) → P k
+either P x y (inl h) = subst P (sym h) x
+either P x y (inr h) = subst P (sym h) y
+
+pub one_of : (P : Kind → Type 0) {k a b c : Kind} → P a → P b → P c → (k ≡ a) ⊎ ((k ≡ b) ⊎ (k ≡ c)) → P k
+one_of P x y z (inl h) = subst P (sym h) x
+one_of P x y z (inr h) = either P y z h
+
+pub one_of_four : (P : Kind → Type 0) {k a b c d : Kind} → P a → P b → P c → P d → (k ≡ a) ⊎ ((k ≡ b) ⊎ ((k ≡ c) ⊎ (k ≡ d))) → P k
+one_of_four P x y z w (inl h) = subst P (sym h) x
+one_of_four P x y z w (inr h) = one_of P y z w h
+
+pub one_of_five : (P : Kind → Type 0) {k a b c d e : Kind} → P a → P b → P c → P d → P e → (k ≡ a) ⊎ ((k ≡ b) ⊎ ((k ≡ c) ⊎ ((k ≡ d) ⊎ (k ≡ e)))) → P k
+one_of_five P x y z w v (inl h) = subst P (sym h) x
+one_of_five P x y z w v (inr h) = one_of_four P y z w v h
+
+pub as_kind : (test : Kind → Bool) {b : Bool} {k k' : Kind} → test k ≡ b → k' ≡ k → test k' ≡ b
+as_kind test e h = ap test h ∙ e
+
+pub not_as : {k k' x : Kind} → k ≢ x → k' ≡ k → k' ≢ x
+not_as a h e = a (sym h ∙ e)
+
+pub plain : {T : Type 0} {g : Goal} {p : Reader T} {names : Names} {e : Raw} {v : Ev} → resolved_event names e ≡ Some v → behind p.names.keeping.tags names e ≡ names → names_at p.names.keeping.tags g names ≡ names → has_place e ≡ false → Plain g p names e v
+plain a b c d = record { resolves = a; behind_it = b; seen = c; no_place = d }

@@ -1,0 +1,188 @@
+-- Directives, one after the other.
+use Rattle.std.proofs.Common.{◌≡◌, ℕ, ◌+◌, List, [], ◌∷◌, ◌++◌, Option, Some, None, option_map, is_some, Bool, true, false, not, ◌&&◌, cond, refl, sym, ap, ◌∙◌, subst, if◌then◌else◌, append_assoc, append-nil, arith}
+use Rattle.std.specs.Prelude.{String, string_bytes, bytes_eq}
+use Rattle.std.specs.BTreeMap.{get_by_text}
+use Rattle.std.specs.BTreeSet as sorted
+use Rattle.std.specs.BTreeSet.{BTreeSet, contains_text}
+use Rattle.std.specs.String.{string_cmp}
+use Rattle.std.specs.declared.alloc.Global.{Global}
+use Rattle.std.proofs.lemmas.Map.Text.{btree_set_updates_text}
+use Rattle.std.proofs.lemmas.Bool.{both_ways, false_from_ne_true, and_left, and_right, not_from_true}
+use Rattle.std.proofs.lemmas.Slice.Eq.{bytes_eq-Decides}
+use Rattle.yaml_chars.specs.Text.{string_chars}
+use Rattle.event_defs.specs.Raw.{Directive, version, tag}
+use Rattle.event_defs.specs.Names as defs
+use Rattle.event_defs.specs.Names.{under_name, declared, versions, is_each_once, are_allowed, at_document}
+use Rattle.yaml_parser.specs.declared.names.Names.{Names}
+use Rattle.yaml_parser.specs.Named.{IsNamed, IsOwn}
+use Rattle.yaml_parser.specs.Declares.{HasRead}
+use Rattle.yaml_parser.proofs.NameLemmas.{same_text}
+
+pub note_text : (m n : BTreeSet (String Global)) (key : String Global) → sorted.Updates string_cmp m n key true → (x : String Global)
+    → contains_text n (string_bytes x) ≡ (if bytes_eq (string_chars x) (string_chars key) then true else contains_text m (string_bytes x))
+note_text m n key u x = btree_set_updates_text (string_bytes key) m n true u (string_bytes x) ∙ ap (λ b. cond b true (contains_text m (string_bytes x))) (same_text key x)
+
+-- ---- what is kept under a name
+
+-- neither is there, where both are asked for
+under_both : (b : Bool) (v : List ℕ) (o : Option (List ℕ)) → (if b then Some v else o) ≡ None → (b ≡ false) × (o ≡ None)
+under_both true v o h = cc
+under_both false v o h = (refl, h)
+
+other_name : (x y z : List ℕ) → bytes_eq x z ≡ true → bytes_eq y z ≡ false → bytes_eq x y ≡ false
+other_name x y z h k = false_from_ne_true (bytes_eq x y) (λ e. both_ways (bytes_eq y z) k ((bytes_eq-Decides y z).1 (sym ((bytes_eq-Decides x y).0 e) ∙ (bytes_eq-Decides x z).0 h)))
+
+same_either_way : (x y : List ℕ) → bytes_eq x y ≡ false → bytes_eq y x ≡ false
+same_either_way x y h = false_from_ne_true (bytes_eq y x) (λ e. both_ways (bytes_eq x y) h ((bytes_eq-Decides x y).1 (sym ((bytes_eq-Decides y x).0 e))))
+
+swap_tests : (a b : Bool) (u v : List ℕ) (o : Option (List ℕ)) → (a ≡ true → b ≡ false) → (if a then Some u else (if b then Some v else o)) ≡ (if b then Some v else (if a then Some u else o))
+swap_tests true true u v o h = let f : true ≡ false = h refl in cc
+swap_tests true false u v o h = refl
+swap_tests false b u v o h = refl
+
+-- A name that was not there counts wherever it is put in.
+insert_under : (x h p : List ℕ) (xs more : List (List ℕ × List ℕ)) → under_name h xs ≡ None → under_name x (xs ++ (h, p) ∷ more) ≡ (if bytes_eq x h then Some p else under_name x (xs ++ more))
+insert_under x h p [] more e = refl
+insert_under x h p (q ∷ xs) more e =
+    let b = under_both (bytes_eq h q.0) q.1 (under_name h xs) e in
+    ap (λ o. if bytes_eq x q.0 then Some q.1 else o) (insert_under x h p xs more b.1)
+    ∙ swap_tests (bytes_eq x q.0) (bytes_eq x h) q.1 p (under_name x (xs ++ more)) (λ y. other_name x h q.0 y b.0)
+
+some_if : (b : Bool) (v : List ℕ) (o : Option (List ℕ)) → is_some o ≡ true → is_some (if b then Some v else o) ≡ true
+some_if true v o h = refl
+some_if false v o h = h
+
+is_there : (h p : List ℕ) (xs more : List (List ℕ × List ℕ)) → is_some (under_name h (xs ++ (h, p) ∷ more)) ≡ true
+is_there h p [] more = ap (λ b. is_some (if b then Some p else under_name h more)) ((bytes_eq-Decides h h).1 refl)
+is_there h p (q ∷ xs) more = some_if (bytes_eq h q.0) q.1 (under_name h (xs ++ (h, p) ∷ more)) (is_there h p xs more)
+
+-- ---- each once
+
+once_more : (h p : List ℕ) (xs : List (List ℕ × List ℕ)) → under_name h xs ≡ None → is_each_once (xs ++ (h, p) ∷ []) ≡ is_each_once xs
+once_more h p [] e = refl
+once_more h p (q ∷ xs) e =
+    let b = under_both (bytes_eq h q.0) q.1 (under_name h xs) e in
+    let same : under_name q.0 (xs ++ (h, p) ∷ []) ≡ under_name q.0 xs =
+    insert_under q.0 h p xs [] b.1 ∙ ap (λ c. if c then Some p else under_name q.0 (xs ++ [])) (same_either_way h q.0 b.0) ∙ ap (under_name q.0) (append-nil xs) in
+    ap (λ o. not (is_some o) && is_each_once (xs ++ (h, p) ∷ [])) same ∙ ap (λ c. not (is_some (under_name q.0 xs)) && c) (once_more h p xs b.1)
+
+once_first : (o : Option (List ℕ)) (b : Bool) → is_some o ≡ true → (not (is_some o) && b) ≡ false
+once_first o b h = and_left (not (is_some o)) b (not_from_true (is_some o) h)
+
+twice_at : (h p : List ℕ) (q : List ℕ × List ℕ) (xs more : List (List ℕ × List ℕ)) (b : Bool) → bytes_eq h q.0 ≡ b → is_some (if b then Some q.1 else under_name h xs) ≡ true
+    → (is_some (under_name h xs) ≡ true → is_each_once (xs ++ (h, p) ∷ more) ≡ false) → (not (is_some (under_name q.0 (xs ++ (h, p) ∷ more))) && is_each_once (xs ++ (h, p) ∷ more)) ≡ false
+twice_at h p q xs more true e k f =
+    let same : h ≡ q.0 = (bytes_eq-Decides h q.0).0 e in
+    once_first (under_name q.0 (xs ++ (h, p) ∷ more)) (is_each_once (xs ++ (h, p) ∷ more)) (subst (λ z. is_some (under_name z (xs ++ (h, p) ∷ more)) ≡ true) same (is_there h p xs more))
+twice_at h p q xs more false e k f = and_right (not (is_some (under_name q.0 (xs ++ (h, p) ∷ more)))) (is_each_once (xs ++ (h, p) ∷ more)) (f k)
+
+once_twice : (h p : List ℕ) (xs more : List (List ℕ × List ℕ)) → is_some (under_name h xs) ≡ true → is_each_once (xs ++ (h, p) ∷ more) ≡ false
+once_twice h p [] more e = cc
+once_twice h p (q ∷ xs) more e = twice_at h p q xs more (bytes_eq h q.0) refl e (once_twice h p xs more)
+
+-- ---- what directives declare
+
+declared_append : (ds es : List Directive) → declared (ds ++ es) ≡ declared ds ++ declared es
+declared_append [] es = refl
+declared_append (version m n ∷ ds) es = declared_append ds es
+declared_append (tag [] [] ∷ ds) es = declared_append ds es
+declared_append (tag [] (c ∷ p) ∷ ds) es = ap (λ xs. ([], c ∷ p) ∷ xs) (declared_append ds es)
+declared_append (tag (c ∷ h) p ∷ ds) es = ap (λ xs. (c ∷ h, p) ∷ xs) (declared_append ds es)
+
+declared_one : (h p : List ℕ) (es : List Directive) → (h ≡ [] → p ≡ [] → ⊥) → declared (tag h p ∷ es) ≡ (h, p) ∷ declared es
+declared_one [] [] es a = absurd (a refl refl)
+declared_one [] (c ∷ p) es a = refl
+declared_one (c ∷ h) p es a = refl
+
+declared_snoc : (ds : List Directive) (h p : List ℕ) → (h ≡ [] → p ≡ [] → ⊥) → declared (ds ++ tag h p ∷ []) ≡ declared ds ++ (h, p) ∷ []
+declared_snoc ds h p a = declared_append ds (tag h p ∷ []) ∙ ap (λ xs. declared ds ++ xs) (declared_one h p [] a)
+
+ignored_snoc : (ds : List Directive) → declared (ds ++ tag [] [] ∷ []) ≡ declared ds
+ignored_snoc ds = declared_append ds (tag [] [] ∷ []) ∙ append-nil (declared ds)
+
+pub version_ignored : (ds : List Directive) (m n : ℕ) → declared (ds ++ version m n ∷ []) ≡ declared ds
+version_ignored ds m n = declared_append ds (version m n ∷ []) ∙ append-nil (declared ds)
+
+-- A handle that was declared is not declared again.
+pub repeated_handle : (ds : List Directive) (h p : List ℕ) (more : List Directive) → (h ≡ [] → p ≡ [] → ⊥) → is_some (under_name h (declared ds)) ≡ true → is_each_once (declared ((ds ++ tag h p ∷ []) ++ more)) ≡ false
+repeated_handle ds h p more a e =
+    ap is_each_once (ap declared (append_assoc ds (tag h p ∷ []) more) ∙ declared_append ds (tag h p ∷ more) ∙ ap (λ xs. declared ds ++ xs) (declared_one h p more a))
+    ∙ once_twice h p (declared ds) (declared more) e
+
+-- ---- the code's names behind one more
+
+none_of : {A : Type 0} (o : Option A) → is_some o ≡ false → o ≡ None
+none_of None h = refl
+none_of (Some x) h = cc
+
+map_if : (b : Bool) (v : String Global) (o : Option (String Global)) → option_map string_chars (if b then Some v else o) ≡ (if b then Some (string_chars v) else option_map string_chars o)
+map_if true v o = refl
+map_if false v o = refl
+
+some_by : (b : Bool) (v : List ℕ) (o : Option (List ℕ)) → is_some (if b then Some v else o) ≡ (if b then true else is_some o)
+some_by true v o = refl
+some_by false v o = refl
+
+pub has_declared : {code new : Names} {keep : Bool} {names : defs.Names} {read : List Directive} (handle prefix : String Global)
+    → HasRead code keep names read → new.count ≡ code.count → new.anchors ≡ code.anchors
+    → ((x : String Global) → get_by_text new.handles (string_bytes x) ≡ (if bytes_eq (string_chars x) (string_chars handle) then Some prefix else get_by_text code.handles (string_bytes x)))
+    → ((x : String Global) → contains_text new.own (string_bytes x) ≡ (if bytes_eq (string_chars x) (string_chars handle) then true else contains_text code.own (string_bytes x)))
+    → contains_text code.own (string_bytes handle) ≡ false → (string_chars handle ≡ [] → string_chars prefix ≡ [] → ⊥)
+    → HasRead new keep names (read ++ tag (string_chars handle) (string_chars prefix) ∷ []) × (is_each_once (declared (read ++ tag (string_chars handle) (string_chars prefix) ∷ [])) ≡ is_each_once (declared read))
+has_declared {code} {new} {keep} {names} {read} handle prefix h count anchors handles own first named =
+    let hs = string_chars handle in
+    let ps = string_chars prefix in
+    let free : under_name hs (declared read) ≡ None = none_of (under_name hs (declared read)) (sym (h.own.own handle) ∙ first) in
+    let all = declared_snoc read hs ps named in
+    let older = (if keep then names.handles else []) in (
+      record {
+        named = record {
+          count = count ∙ h.named.count;
+          anchors = λ x. ap (λ m. get_by_text m (string_bytes x)) anchors ∙ h.named.anchors x;
+          handles = λ x. ap (option_map string_chars) (handles x) ∙ map_if (bytes_eq (string_chars x) hs) prefix (get_by_text code.handles (string_bytes x))
+              ∙ ap (λ o. if bytes_eq (string_chars x) hs then Some ps else o) (h.named.handles x)
+              ∙ sym (insert_under (string_chars x) hs ps (declared read) older free)
+              ∙ sym (ap (under_name (string_chars x)) (append_assoc (declared read) ((hs, ps) ∷ []) older))
+              ∙ sym (ap (λ xs. under_name (string_chars x) (xs ++ older)) all);
+        };
+        own = record {
+          own = λ x. own x ∙ ap (λ b. if bytes_eq (string_chars x) hs then true else b) (h.own.own x)
+              ∙ sym (some_by (bytes_eq (string_chars x) hs) ps (under_name (string_chars x) (declared read)))
+              ∙ sym (ap (λ xs. is_some (if bytes_eq (string_chars x) hs then Some ps else under_name (string_chars x) xs)) (append-nil (declared read)))
+              ∙ sym (ap is_some (insert_under (string_chars x) hs ps (declared read) [] free))
+              ∙ sym (ap (λ xs. is_some (under_name (string_chars x) xs)) all);
+        };
+      },
+      ap is_each_once all ∙ once_more hs ps (declared read) free,
+    )
+
+-- Names depend on directives by what these declare.
+pub named_alike : {code : Names} (keep : Bool) (names : defs.Names) (read more : List Directive) → declared more ≡ declared read → IsNamed code (at_document keep names read) → IsNamed code (at_document keep names more)
+named_alike {code} keep names read more same x = record {
+  count = x.count;
+  anchors = x.anchors;
+  handles = λ y. x.handles y ∙ sym (ap (λ xs. under_name (string_chars y) (xs ++ (if keep then names.handles else []))) same);
+}
+
+pub own_alike : {code : Names} (read more : List Directive) → declared more ≡ declared read → IsOwn code read → IsOwn code more
+own_alike {code} read more same x = record { own = λ y. x.own y ∙ sym (ap (λ xs. is_some (under_name (string_chars y) xs)) same) }
+
+-- A directive of another name changes nothing.
+pub has_ignored : {code : Names} {keep : Bool} {names : defs.Names} {read : List Directive} (h p : List ℕ) → h ≡ [] → p ≡ [] → HasRead code keep names read
+    → HasRead code keep names (read ++ tag h p ∷ []) × (is_each_once (declared (read ++ tag h p ∷ [])) ≡ is_each_once (declared read))
+has_ignored {code} {keep} {names} {read} h p a b x =
+    let none : declared (read ++ tag h p ∷ []) ≡ declared read = ap (λ z. declared (read ++ tag z p ∷ [])) a ∙ ap (λ z. declared (read ++ tag [] z ∷ [])) b ∙ ignored_snoc read in
+    (record { named = named_alike keep names read (read ++ tag h p ∷ []) none x.named; own = own_alike read (read ++ tag h p ∷ []) none x.own }, ap is_each_once none)
+
+-- ---- versions
+
+pub versions_append : (ds es : List Directive) → versions (ds ++ es) ≡ versions ds + versions es
+versions_append [] es = omega arith
+versions_append (version m n ∷ ds) es = omega (arith, versions_append ds es)
+versions_append (tag h p ∷ ds) es = versions_append ds es
+
+pub version_snoc : (ds : List Directive) (m n : ℕ) → versions (ds ++ version m n ∷ []) ≡ versions ds + 1
+version_snoc ds m n = versions_append ds (version m n ∷ [])
+
+pub tag_snoc : (ds : List Directive) (h p : List ℕ) → versions (ds ++ tag h p ∷ []) ≡ versions ds
+tag_snoc ds h p = omega (arith, versions_append ds (tag h p ∷ []))

@@ -1,0 +1,228 @@
+-- The arms of the productions of documents.
+use Rattle.std.proofs.Common.{◌≡◌, ◌≢◌, ℕ, ◌+◌, ◌<◌, List, [], ◌∷◌, ◌++◌, Some, None, option_map, Bool, true, false, nat_le, Result, Ok, Err, refl, sym, ap, ◌∙◌, subst, if◌then◌else◌, arith}
+use Rattle.std.proofs.lemmas.Bool.{and_parts, and_from, and_left, and_right, lt-leb}
+use Rattle.std.specs.Result.{IsErrAnd}
+use Rattle.yaml_chars.specs.Place.{Place}
+use Rattle.token_defs.specs.Token.{Tok}
+use Rattle.yaml_tokens.specs.declared.token.Token.{Token}
+use Rattle.yaml_tokens.specs.declared.problem.Fault.TheVariants.{OutOfMemory}
+use Rattle.yaml_tokens.specs.declared.problem.Fault.TheVariants as fault
+use Rattle.yaml_tokens.specs.Shown.{tok_of}
+use Rattle.yaml_scanner.specs.Tokens.{is_end}
+use Rattle.event_defs.specs.Event.{Ev}
+use Rattle.event_defs.specs.Raw as raw
+use Rattle.event_defs.specs.Raw.{Raw, Directive}
+use Rattle.event_defs.specs.Grammar.{directive_token, perhaps_events, after_events}
+use Rattle.event_defs.specs.Names as defs
+use Rattle.event_defs.specs.Names.{declared, versions, is_each_once, are_allowed, at_document, under_name}
+use Rattle.event_defs.specs.Stream.{gives_place}
+use Rattle.grammar_turns.specs.declared.kind.Kind.{Kind}
+use Rattle.grammar_turns.specs.declared.kind.Kind.TheVariants as kind
+use Rattle.grammar_turns.specs.declared.place.Place.TheVariants as place
+use Rattle.grammar_turns.specs.declared.state.State.TheVariants as state
+use Rattle.grammar_turns.specs.Kinds.{kind_of, begins_node, is_directive}
+use Rattle.grammar_turns.specs.Goal as at
+use Rattle.grammar_turns.specs.Rest.{rest_events}
+use Rattle.grammar_turns.specs.Turn.{Takes, Leaves}
+use Rattle.grammar_turns.proofs.First.{tok_is}
+use Rattle.grammar_turns.proofs.Document as turn
+use Rattle.yaml_parser.specs.declared.tokens.Stop.{Stop}
+use Rattle.yaml_parser.specs.declared.tokens.Stop.TheVariants as stop
+use Rattle.yaml_parser.specs.declared.names.Names.{Names}
+use Rattle.yaml_parser.specs.declared.reader.Reader.{Reader}
+use Rattle.yaml_parser.specs.Ahead.{Skips}
+use Rattle.yaml_parser.specs.Kinds.{IsOfKind}
+use Rattle.yaml_parser.specs.Named.{IsNamed, IsOwn}
+use Rattle.yaml_parser.specs.Declares.{HasRead, Declares}
+use Rattle.yaml_parser.specs.Directing.{Directing, DirectsTo}
+use Rattle.yaml_parser.specs.At.{At, Stayed, IsStuck, Faulted, Carries, is_over}
+use Rattle.yaml_parser.proofs.Steps.{looked, took, took_on, left, left_as}
+use Rattle.yaml_parser.proofs.Arms.{Skipped, no_places}
+use Rattle.yaml_parser.proofs.NodeArms.{unnamed, unnameable_first}
+use Rattle.yaml_parser.proofs.DirectiveLemmas.{named_alike, own_alike, version_ignored, version_snoc, tag_snoc, versions_append}
+
+-- ---- a document's start
+
+-- what the start of a document does to the names
+abbrev pub Starts : Names → Names → Type 0
+Starts old new = (names : defs.Names) → IsNamed old names → IsNamed new (at_document old.keeping.tags names [])
+
+-- A document that does without `---` begins at a token that stays.
+pub bare_begins : {T : Type 0} (m : Place) {p q r : Reader T} {k : Kind} {names : defs.Names} {given : List (Ev × Place)}
+    → IsOfKind k p.tokens.peeked → ((t : Tok) → kind_of t ≡ k → Leaves at.documents p.stack (Some t) (Some (Raw.document_start [])) at.done (state.BlockNode ∷ state.DocumentEnd ∷ p.stack))
+    → q.tokens ≡ p.tokens → q.names.keeping ≡ p.names.keeping → Starts p.names q.names → Stayed q r (state.BlockNode ∷ state.DocumentEnd ∷ p.stack)
+    → At at.documents p names given → (names' : defs.Names) × At at.done r names' (given ++ (Ev.document_start, m) ∷ [])
+bare_begins {T} m {p} {q} {r} {k} {names} {given} here turn tokens keep starts stayed a =
+    let l = looked k p.tokens.peeked here in (
+      at_document p.names.keeping.tags names [],
+      left m (ap (option_map (λ (x : Token). tok_of x.1)) l.1) (stayed.tokens ∙ tokens) stayed.stack (turn (tok_of l.0.1) l.2)
+          (record { resolves = refl; behind_it = refl; keep = ap (λ n. n.keeping) stayed.names ∙ keep; code = subst (λ n. IsNamed n (at_document p.names.keeping.tags names [])) (sym stayed.names) (starts names a.code); pending = tt })
+          refl refl a,
+    )
+
+-- A document begins with `---`.
+pub explicit_begins : {T : Type 0} (m : Place) {p q r : Reader T} {k : Kind} {names : defs.Names} {given : List (Ev × Place)}
+    → IsOfKind k p.tokens.peeked → k ≡ kind.DocumentStart → q.tokens ≡ p.tokens → q.stack ≡ p.stack → q.names.keeping ≡ p.names.keeping → Starts p.names q.names → Skipped q r (state.DocumentContent ∷ q.stack)
+    → At at.explicit p names given → (names' : defs.Names) × At at.done r names' (given ++ (Ev.document_start, m) ∷ [])
+explicit_begins {T} m {p} {q} {r} {k} {names} {given} here h tokens stack keep starts skip a =
+    let l = looked k p.tokens.peeked here in
+    let t = l.0 in
+    let x = skip t (ap (λ y. y.peeked) tokens ∙ l.1) in
+    let same : tok_of t.1 ≡ Tok.document_start = tok_is (l.2 ∙ h) refl in (
+      at_document p.names.keeping.tags names [],
+      took m l.1 (subst (λ y. Skips y t r.tokens) tokens x.tokens) (x.stack ∙ ap (λ ss. state.DocumentContent ∷ ss) stack)
+          (subst (λ u. Takes at.explicit p.stack u (Some (Raw.document_start [])) at.done (state.DocumentContent ∷ p.stack)) (sym same) (turn.explicit_start p.stack))
+          (record { resolves = refl; behind_it = refl; keep = ap (λ n. n.keeping) x.names ∙ keep; code = subst (λ n. IsNamed n (at_document p.names.keeping.tags names [])) (sym x.names) (starts names a.code); pending = tt })
+          (λ b. (refl, ap is_end same)) (no_places m refl (ap gives_place same)) a,
+    )
+
+-- The stream ends.
+pub stream_ends : {T : Type 0} (m : Place) {p r : Reader T} {k : Kind} {names : defs.Names} {given : List (Ev × Place)}
+    → IsOfKind k p.tokens.peeked → k ≡ kind.StreamEnd → Skipped p r p.stack → At at.explicit p names given → (names' : defs.Names) × At at.ended r names' (given ++ (Ev.stream_end, m) ∷ [])
+stream_ends {T} m {p} {r} {k} {names} {given} here h skip a =
+    let l = looked k p.tokens.peeked here in
+    let t = l.0 in
+    let x = skip t l.1 in
+    let same : tok_of t.1 ≡ Tok.stream_end = tok_is (l.2 ∙ h) refl in (
+      names,
+      took m l.1 x.tokens x.stack (subst (λ u. Takes at.explicit p.stack u (Some Raw.stream_end) at.ended p.stack) (sym same) (turn.explicit_end p.stack))
+          (record { resolves = refl; behind_it = refl; keep = ap (λ n. n.keeping) x.names; code = subst (λ n. IsNamed n names) (sym x.names) a.code; pending = tt })
+          (λ b. let no : true ≡ false = b in cc) (no_places m refl (ap gives_place same)) a,
+    )
+
+-- The start of a document stands behind its directives.
+pub directed_begins : {T : Type 0} (m : Place) {p r : Reader T} {k : Kind} {read : List Directive} {names : defs.Names} {given : List (Ev × Place)}
+    → IsOfKind k p.tokens.peeked → k ≡ kind.DocumentStart → Skipped p r (state.DocumentContent ∷ p.stack)
+    → At (at.directed read) p names given → (names' : defs.Names) × At at.done r names' (given ++ (Ev.document_start, m) ∷ [])
+directed_begins {T} m {p} {r} {k} {read} {names} {given} here h skip a =
+    let l = looked k p.tokens.peeked here in
+    let t = l.0 in
+    let x = skip t l.1 in
+    let same : tok_of t.1 ≡ Tok.document_start = tok_is (l.2 ∙ h) refl in (
+      at_document p.names.keeping.tags names read,
+      took m l.1 x.tokens x.stack (subst (λ u. Takes (at.directed read) p.stack u (Some (Raw.document_start read)) at.done (state.DocumentContent ∷ p.stack)) (sym same) (turn.directed_start p.stack read))
+          (record {
+            resolves = ap (λ b. if b then Some Ev.document_start else None) a.pending;
+            behind_it = refl;
+            keep = ap (λ n. n.keeping) x.names;
+            code = subst (λ n. IsNamed n (at_document p.names.keeping.tags names read)) (sym x.names) a.code;
+            pending = tt;
+          })
+          (λ b. (refl, ap is_end same)) (no_places m refl (ap gives_place same)) a,
+    )
+
+-- ---- directives
+
+no_node : (k : Kind) → is_directive k ≡ true → begins_node place.Block k ≡ false
+no_node kind.VersionDirective h = refl
+no_node kind.TagDirective h = refl
+no_node _ h = cc
+
+pub not_directive : (k : Kind) → k ≢ kind.VersionDirective → k ≢ kind.TagDirective → is_directive k ≡ false
+not_directive kind.VersionDirective a b = absurd (a refl)
+not_directive kind.TagDirective a b = absurd (b refl)
+not_directive _ a b = refl
+
+pub directives_begin : {T : Type 0} {p q : Reader T} (k : Kind) {names : defs.Names} {given : List (Ev × Place)}
+    → IsOfKind k p.tokens.peeked → is_directive k ≡ true → q.tokens ≡ p.tokens → q.stack ≡ p.stack → q.names.keeping ≡ p.names.keeping → Starts p.names q.names → IsOwn q.names []
+    → At at.documents p names given → Directing q names given false
+directives_begin {T} {p} {q} k {names} {given} here h tokens stack keep starts own a =
+    let l = looked k p.tokens.peeked here in
+    let e : is_directive (kind_of (tok_of l.0.1)) ≡ true = ap is_directive l.2 ∙ h in
+    record {
+      read = [];
+      here = left_as (ap (option_map (λ (x : Token). tok_of x.1)) l.1) tokens stack (turn.documents_directives p.stack (tok_of l.0.1) e (no_node _ e)) keep
+          (subst (λ b. IsNamed q.names (at_document b.tags names [])) (sym keep) (starts names a.code)) refl refl a;
+      own = own;
+      version = refl;
+    }
+
+version_text : (t : Tok) → kind_of t ≡ kind.VersionDirective → (m : ℕ) × (n : ℕ) × (t ≡ Tok.version_directive m n)
+version_text (Tok.version_directive m n) h = (m, n, refl)
+version_text _ h = cc
+
+allowed_version : (read : List Directive) (m n : ℕ) → are_allowed read ≡ true → versions read ≡ 0 → are_allowed (read ++ raw.version m n ∷ []) ≡ true
+allowed_version read m n h e =
+    let one : versions (read ++ raw.version m n ∷ []) ≡ 1 = version_snoc read m n ∙ ap (λ x. x + 1) e in
+    and_from (nat_le (versions (read ++ raw.version m n ∷ [])) 1) (is_each_once (declared (read ++ raw.version m n ∷ []))) (ap (λ x. nat_le x 1) one)
+    (ap is_each_once (version_ignored read m n) ∙ (and_parts (nat_le (versions read) 1) (is_each_once (declared read)) h).1)
+
+second_version : (read : List Directive) (m n : ℕ) (more : List Directive) → versions read ≡ 1 → are_allowed ((read ++ raw.version m n ∷ []) ++ more) ≡ false
+second_version read m n more e =
+    let two : 1 < versions ((read ++ raw.version m n ∷ []) ++ more) = omega (arith, versions_append (read ++ raw.version m n ∷ []) more, version_snoc read m n) in
+    and_left (nat_le (versions ((read ++ raw.version m n ∷ []) ++ more)) 1) (is_each_once (declared ((read ++ raw.version m n ∷ []) ++ more))) (lt-leb _ 1 two)
+
+allowed_tag : (read : List Directive) (h p : List ℕ) → are_allowed read ≡ true → is_each_once (declared (read ++ raw.tag h p ∷ [])) ≡ is_each_once (declared read) → are_allowed (read ++ raw.tag h p ∷ []) ≡ true
+allowed_tag read h p a e =
+    let parts = and_parts (nat_le (versions read) 1) (is_each_once (declared read)) a in
+    and_from (nat_le (versions (read ++ raw.tag h p ∷ [])) 1) (is_each_once (declared (read ++ raw.tag h p ∷ []))) (ap (λ x. nat_le x 1) (tag_snoc read h p) ∙ parts.0) (e ∙ parts.1)
+
+-- A version is taken, the first one.
+pub version_taken : {T : Type 0} {p r : Reader T} {names : defs.Names} {given : List (Ev × Place)}
+    → IsOfKind kind.VersionDirective p.tokens.peeked → Skipped p r p.stack → Directing p names given false → Directing r names given true
+version_taken {T} {p} {r} {names} {given} here skip d =
+    let l = looked kind.VersionDirective p.tokens.peeked here in
+    let v = version_text (tok_of l.0.1) l.2 in
+    let x = skip l.0 l.1 in
+    let read = d.read ++ raw.version v.0 v.1 ∷ [] in
+    let same = version_ignored d.read v.0 v.1 in
+    record {
+      read = read;
+      here = took_on l.1 x.tokens x.stack (subst (λ u. Takes (at.directed d.read) p.stack u None (at.directed read) p.stack) (sym v.2) (turn.directed_more p.stack d.read (raw.version v.0 v.1)))
+          (ap (λ n. n.keeping) x.names) (subst (λ n. IsNamed n (at_document n.keeping.tags names read)) (sym x.names) (named_alike p.names.keeping.tags names d.read read same d.here.code))
+          (allowed_version d.read v.0 v.1 d.here.pending d.version) (λ b. (refl, ap is_end v.2)) (ap gives_place v.2) d.here;
+      own = subst (λ n. IsOwn n read) (sym x.names) (own_alike d.read read same d.own);
+      version = version_snoc d.read v.0 v.1 ∙ ap (λ n. n + 1) d.version;
+    }
+
+-- Directives that are not allowed are refused with the last one.
+refused_directive : {T : Type 0} {p r : Reader T} {t : Token} (read : List Directive) (d : Directive) {names : defs.Names} {given : List (Ev × Place)}
+    → p.tokens.peeked ≡ Some t → Skips p.tokens t r.tokens → r.names.keeping ≡ p.names.keeping → tok_of t.1 ≡ directive_token d → ((more : List Directive) → are_allowed ((read ++ d ∷ []) ++ more) ≡ false)
+    → At (at.directed read) p names given → IsStuck r given
+refused_directive {T} {p} {r} {t} read d {names} {given} here skips keep tok bad a =
+    unnamed here skips keep (subst (λ u. Takes (at.directed read) p.stack u None (at.directed (read ++ d ∷ [])) p.stack) (sym tok) (turn.directed_more p.stack read d))
+    (λ x y. unnameable_first p.names.keeping.tags names (Raw.document_start ((read ++ d ∷ []) ++ x.0)) (perhaps_events x.1 (after_events x.2 (rest_events p.stack y))) (ap (λ b. if b then Some Ev.document_start else None) (bad x.0))) a
+
+-- A second version is refused.
+pub version_refused : {T : Type 0} {p r : Reader T} {names : defs.Names} {given : List (Ev × Place)}
+    → IsOfKind kind.VersionDirective p.tokens.peeked → Skipped p r p.stack → Directing p names given true → IsStuck r given
+version_refused {T} {p} {r} {names} {given} here skip d =
+    let l = looked kind.VersionDirective p.tokens.peeked here in
+    let v = version_text (tok_of l.0.1) l.2 in
+    let x = skip l.0 l.1 in
+    refused_directive d.read (raw.version v.0 v.1) l.1 x.tokens (ap (λ n. n.keeping) x.names) v.2 (λ more. second_version d.read v.0 v.1 more d.version) d.here
+
+-- What declares a handle is taken.
+pub tag_directive_taken : {T : Type 0} {p : Reader T} (r : Reader T) {t : Token} {h x : List ℕ} {versioned : Bool} {names : defs.Names} {given : List (Ev × Place)} (res : Result (Unit {0}) Stop)
+    → p.tokens.peeked ≡ Some t → Skips p.tokens t r.tokens → r.stack ≡ p.stack → r.names.keeping ≡ p.names.keeping → tok_of t.1 ≡ Tok.tag_directive h x
+    → ((keep : Bool) (names : defs.Names) (read : List Directive) → HasRead p.names keep names read → Declares r.names keep names read h x res)
+    → Directing p names given versioned → DirectsTo r names given versioned res
+tag_directive_taken {T} {p} r {t} {h} {x} {versioned} {names} {given} (Ok u) here skips stack keep tok declares d =
+    let k = declares p.names.keeping.tags names d.read (record { named = d.here.code; own = d.own }) in
+    let read = d.read ++ raw.tag h x ∷ [] in
+    record {
+      read = read;
+      here = took_on here skips stack (subst (λ u. Takes (at.directed d.read) p.stack u None (at.directed read) p.stack) (sym tok) (turn.directed_more p.stack d.read (raw.tag h x)))
+          keep (subst (λ b. IsNamed r.names (at_document b.tags names read)) (sym keep) k.0.named) (allowed_tag d.read h x d.here.pending k.1) (λ b. (refl, ap is_end tok)) (ap gives_place tok) d.here;
+      own = k.0.own;
+      version = tag_snoc d.read h x ∙ d.version;
+    }
+tag_directive_taken {T} {p} r {t} {h} {x} {versioned} {names} {given} (Err (stop.Own OutOfMemory)) here skips stack keep tok declares d = tt
+tag_directive_taken {T} {p} r {t} {h} {x} {versioned} {names} {given} (Err (stop.Own (fault.At q m))) here skips stack keep tok declares d =
+    let k = declares p.names.keeping.tags names d.read (record { named = d.here.code; own = d.own }) in
+    refused_directive d.read (raw.tag h x) here skips keep tok (λ more. and_right (nat_le (versions ((d.read ++ raw.tag h x ∷ []) ++ more)) 1) (is_each_once (declared ((d.read ++ raw.tag h x ∷ []) ++ more))) (k more)) d.here
+tag_directive_taken {T} {p} r {t} {h} {x} {versioned} {names} {given} (Err stop.Scan) here skips stack keep tok declares d = absurd (declares p.names.keeping.tags names d.read (record { named = d.here.code; own = d.own }))
+tag_directive_taken {T} {p} r {t} {h} {x} {versioned} {names} {given} (Err stop.Ended) here skips stack keep tok declares d = absurd (declares p.names.keeping.tags names d.read (record { named = d.here.code; own = d.own }))
+
+pub directs_err : {T : Type 0} (r : Reader T) (names : defs.Names) (given : List (Ev × Place)) (versioned : Bool) (res : Result (Unit {0}) Stop) (x : Stop) → IsErrAnd res (λ e. e ≡ x) → DirectsTo r names given versioned (Err x) → DirectsTo r names given versioned res
+directs_err {T} r names given versioned (Ok u) x h f = absurd h
+directs_err {T} r names given versioned (Err s) x h f = subst (Faulted r given) (sym h) f
+
+-- a look at the next token
+pub directing_on : {T : Type 0} {p r : Reader T} {versioned : Bool} {names : defs.Names} {given : List (Ev × Place)} → ((g : at.Goal) → is_over g ≡ false → Carries g p r) → r.names ≡ p.names → Directing p names given versioned → Directing r names given versioned
+directing_on {T} {p} {r} {versioned} {names} {given} carries same d = record {
+  read = d.read;
+  here = carries (at.directed d.read) refl names given d.here;
+  own = subst (λ n. IsOwn n d.read) (sym same) d.own;
+  version = d.version;
+}

@@ -1,0 +1,338 @@
+-- The shortest way to the end from each place: so no fault is late.
+use Rattle.std.proofs.Common.{◌≡◌, List, [], ◌∷◌, ◌++◌, Option, Some, None, option_map, Bool, true, refl, sym, ap, ◌∙◌, subst, append-nil, append_assoc, if◌then◌else◌, map}
+use Rattle.std.proofs.lemmas.List.{map-append}
+use Rattle.std.specs.Option.{IsSome}
+use Rattle.yaml_chars.specs.Place.{Place}
+use Rattle.token_defs.specs.Token.{Style}
+use Rattle.event_defs.specs.Event.{Ev}
+use Rattle.event_defs.specs.Raw.{Raw}
+use Rattle.event_defs.specs.Grammar.{scalar, flow_content, no_flow, end_items, no_items, single, no_flow_value, no_flow_pairs, end_flow_pairs, flow_keyless, block_content, flow, no_node, end_entries, plain, end_dashes, keyed, end_pairs, no_value, others, end_stream, unmarked, anchor_of, tag_of}
+use Rattle.event_defs.specs.Names.{Names, number, named, both, behind, behind_all, resolved_event, resolved, perhaps_resolved, are_allowed, no_names}
+use Rattle.event_defs.specs.Stream.{BeginsPlaced, events_of, places_of, taken_places, given_places}
+use Rattle.grammar_turns.specs.declared.place.Place.TheVariants as place
+use Rattle.grammar_turns.specs.declared.state.State.{State}
+use Rattle.grammar_turns.specs.declared.state.State.TheVariants as state
+use Rattle.grammar_turns.specs.Goal as at
+use Rattle.grammar_turns.specs.Goal.{Goal, Awaits, goal_events, goal_tokens, part_content, part_node, last, last_pair}
+use Rattle.grammar_turns.specs.Rest.{Rest, rest_events, rest_tokens, goal_of, still_tokens, still_events}
+use Rattle.yaml_parser.specs.declared.reader.Reader.{Reader}
+use Rattle.token_defs.specs.Token as defs
+use Rattle.token_defs.specs.Token.{Tok}
+use Rattle.yaml_tokens.specs.declared.token.Token.{Token}
+use Rattle.yaml_tokens.specs.Shown.{shown, all_shown, tok_of}
+use Rattle.yaml_scanner.specs.Scanned.{scanned}
+use Rattle.event_defs.specs.Grammar.{stream_tokens}
+use Rattle.event_defs.specs.Stream.{toks}
+use Rattle.grammar_turns.specs.declared.kind.Kind.{Kind}
+use Rattle.grammar_turns.specs.Kinds.{kind_of}
+use Rattle.grammar_turns.specs.Stands.{Begins as Begins1}
+use Rattle.grammar_turns.specs.Turn.{Refuses}
+use Rattle.yaml_parser.specs.Kinds.{IsOfKind}
+use Rattle.yaml_parser.proofs.Steps.{map_snoc, looked}
+use Rattle.yaml_parser.proofs.Places.{taken_places_append, given_places_append, places_length}
+use Rattle.yaml_parser.specs.Handed.{taken_toks, peeked_tok, shown_list}
+use Rattle.yaml_parser.specs.At.{At, IsPending, IsStuck}
+
+abbrev pub shortest : (g : Goal) → Awaits g
+shortest at.done = tt
+shortest at.ended = tt
+shortest at.start = others end_stream
+shortest at.documents = others end_stream
+shortest at.explicit = end_stream
+shortest (at.directed ds) = ([], no_node, unmarked end_stream)
+shortest at.content = (no_node, unmarked end_stream)
+shortest at.after = unmarked end_stream
+shortest (at.node place.Flow) = flow_content None (scalar Style.plain [])
+shortest (at.node place.Block) = block_content None (flow (scalar Style.plain []))
+shortest (at.node place.Part) = part_node (block_content None (flow (scalar Style.plain [])))
+shortest (at.behind_anchor p a) = (None, None)
+shortest (at.behind_tag p t) = (None, None)
+shortest (at.behind p (Some o)) = (None, tt)
+shortest (at.behind place.Flow None) = (Some (scalar Style.plain []), tt)
+shortest (at.behind place.Block None) = (Some (flow (scalar Style.plain [])), tt)
+shortest (at.behind place.Part None) = (Some (part_content (flow (scalar Style.plain []))), tt)
+shortest at.entries = end_entries
+shortest at.entry = (no_node, end_entries)
+shortest at.dashes = end_dashes
+shortest at.dashed = (no_node, end_dashes)
+shortest at.part = plain no_node
+shortest at.pairs = keyed end_pairs
+shortest at.key_pairs = end_pairs
+shortest at.after_key = no_value end_pairs
+shortest at.items = no_items
+shortest at.more_items = end_items
+shortest at.comma_items = last
+shortest at.item = (single (flow_content None (scalar Style.plain [])), end_items)
+shortest at.pair_key = (no_flow, no_flow_value, end_items)
+shortest at.pair_value = (no_flow_value, end_items)
+shortest at.pair_valued = (no_flow, end_items)
+shortest at.pair_end = end_items
+shortest at.flow_pairs = no_flow_pairs
+shortest at.more_flow_pairs = end_flow_pairs
+shortest at.comma_flow_pairs = last_pair
+shortest at.flow_pair = (flow_keyless no_flow, end_flow_pairs)
+shortest at.flow_key = (no_flow, no_flow_value, end_flow_pairs)
+shortest at.flow_after_key = (no_flow_value, end_flow_pairs)
+shortest at.flow_valued = (no_flow, end_flow_pairs)
+shortest at.flow_empty = end_flow_pairs
+
+abbrev pub ending : (ss : List State) → Rest ss
+ending [] = tt
+ending (s ∷ ss) = (shortest (goal_of s), ending ss)
+
+-- ---- it can be named
+
+abbrev pub Nameable : Bool → Names → List Raw → Type 0
+Nameable keep s es = (vs : List Ev) × (named keep s es ≡ Some vs)
+
+abbrev pub AnyNameable : Bool → List Raw → Type 0
+AnyNameable keep es = (s : Names) → Nameable keep s es
+
+name_one : (keep : Bool) (s : Names) (e : Raw) (es : List Raw) {v : Ev} → resolved_event s e ≡ Some v → AnyNameable keep es → Nameable keep s (e ∷ es)
+name_one keep s e es {v} h f = let n = f (behind keep s e) in (v ∷ n.0, ap (λ o. both o (named keep (behind keep s e) es)) h ∙ ap (λ o. both (Some v) o) n.1)
+
+nothing : (keep : Bool) (s : Names) (es : List Raw) → AnyNameable keep es → Nameable keep s (Raw.empty_scalar None None ∷ es)
+nothing keep s es f = name_one keep s (Raw.empty_scalar None None) es refl f
+
+sequence_end : (keep : Bool) (s : Names) (es : List Raw) → AnyNameable keep es → Nameable keep s (Raw.sequence_end ∷ es)
+sequence_end keep s es f = name_one keep s Raw.sequence_end es refl f
+
+mapping_end : (keep : Bool) (s : Names) (es : List Raw) → AnyNameable keep es → Nameable keep s (Raw.mapping_end ∷ es)
+mapping_end keep s es f = name_one keep s Raw.mapping_end es refl f
+
+word : (keep : Bool) (s : Names) (es : List Raw) → AnyNameable keep es → Nameable keep s (Raw.scalar [] Style.plain None None ∷ es)
+word keep s es f = name_one keep s (Raw.scalar [] Style.plain None None) es refl f
+
+finish : (keep : Bool) (s : Names) (es : List Raw) → AnyNameable keep es → Nameable keep s (Raw.stream_end ∷ es)
+finish keep s es f = name_one keep s Raw.stream_end es refl f
+
+document_end : (keep : Bool) (s : Names) (es : List Raw) → AnyNameable keep es → Nameable keep s (Raw.document_end ∷ es)
+document_end keep s es f = name_one keep s Raw.document_end es refl f
+
+-- a document without a node, and the stream's end
+last_document : (keep : Bool) (es : List Raw) → AnyNameable keep es → AnyNameable keep (Raw.empty_scalar None None ∷ Raw.document_end ∷ Raw.stream_end ∷ es)
+last_document keep es f s = nothing keep s (Raw.document_end ∷ Raw.stream_end ∷ es) (λ s1. document_end keep s1 (Raw.stream_end ∷ es) (λ s2. finish keep s2 es f))
+
+is_some_value : {A : Type 0} (o : Option A) → IsSome o → (x : A) × (o ≡ Some x)
+is_some_value None h = cc
+is_some_value (Some x) h = (x, refl)
+
+pub completes : (g : Goal) (keep : Bool) (s : Names) (r : List Raw) → IsPending s g → AnyNameable keep r → Nameable keep s (goal_events g (shortest g) r)
+completes at.done keep s r p f = f s
+completes at.ended keep s r p f = f s
+completes at.start keep s r p f = name_one keep s Raw.stream_start (Raw.stream_end ∷ r) refl (λ s1. finish keep s1 r f)
+completes at.documents keep s r p f = finish keep s r f
+completes at.explicit keep s r p f = finish keep s r f
+completes (at.directed ds) keep s r p f =
+    let h : are_allowed (ds ++ []) ≡ true = ap are_allowed (append-nil ds) ∙ p in
+    name_one keep s (Raw.document_start (ds ++ [])) (Raw.empty_scalar None None ∷ Raw.document_end ∷ Raw.stream_end ∷ r) (ap (λ b. if b then Some Ev.document_start else None) h) (last_document keep r f)
+completes at.content keep s r p f = last_document keep r f s
+completes at.after keep s r p f = document_end keep s (Raw.stream_end ∷ r) (λ s1. finish keep s1 r f)
+completes (at.node place.Flow) keep s r p f = word keep s r f
+completes (at.node place.Block) keep s r p f = word keep s r f
+completes (at.node place.Part) keep s r p f = word keep s r f
+completes (at.behind_anchor q a) keep s r p f = name_one keep s (Raw.empty_scalar (Some a) None) r refl f
+completes (at.behind_tag q t) keep s r p f =
+    let u = is_some_value (resolved s.handles t) p in
+    name_one keep s (Raw.empty_scalar None (Some t)) r (ap (λ o. option_map (λ x. Ev.scalar [] Style.plain 0 x) (option_map Some o)) u.1) f
+completes (at.behind q (Some o)) keep s r p f =
+    let u = is_some_value (perhaps_resolved s.handles (tag_of o)) p in
+    name_one keep s (Raw.empty_scalar (anchor_of o) (tag_of o)) r (ap (λ x. option_map (λ y. Ev.scalar [] Style.plain (number s (anchor_of o)) y) x) u.1) f
+completes (at.behind place.Flow None) keep s r p f = word keep s r f
+completes (at.behind place.Block None) keep s r p f = word keep s r f
+completes (at.behind place.Part None) keep s r p f = word keep s r f
+completes at.entries keep s r p f = sequence_end keep s r f
+completes at.entry keep s r p f = nothing keep s (Raw.sequence_end ∷ r) (λ s1. sequence_end keep s1 r f)
+completes at.dashes keep s r p f = sequence_end keep s r f
+completes at.dashed keep s r p f = nothing keep s (Raw.sequence_end ∷ r) (λ s1. sequence_end keep s1 r f)
+completes at.part keep s r p f = nothing keep s r f
+completes at.pairs keep s r p f = mapping_end keep s r f
+completes at.key_pairs keep s r p f = mapping_end keep s r f
+completes at.after_key keep s r p f = nothing keep s (Raw.mapping_end ∷ r) (λ s1. mapping_end keep s1 r f)
+completes at.items keep s r p f = sequence_end keep s r f
+completes at.more_items keep s r p f = sequence_end keep s r f
+completes at.comma_items keep s r p f = sequence_end keep s r f
+completes at.item keep s r p f = word keep s (Raw.sequence_end ∷ r) (λ s1. sequence_end keep s1 r f)
+completes at.pair_key keep s r p f = nothing keep s (Raw.empty_scalar None None ∷ Raw.mapping_end ∷ Raw.sequence_end ∷ r) (λ s1. nothing keep s1 (Raw.mapping_end ∷ Raw.sequence_end ∷ r) (λ s2. mapping_end keep s2 (Raw.sequence_end ∷ r) (λ s3. sequence_end keep s3 r f)))
+completes at.pair_value keep s r p f = nothing keep s (Raw.mapping_end ∷ Raw.sequence_end ∷ r) (λ s1. mapping_end keep s1 (Raw.sequence_end ∷ r) (λ s2. sequence_end keep s2 r f))
+completes at.pair_valued keep s r p f = nothing keep s (Raw.mapping_end ∷ Raw.sequence_end ∷ r) (λ s1. mapping_end keep s1 (Raw.sequence_end ∷ r) (λ s2. sequence_end keep s2 r f))
+completes at.pair_end keep s r p f = mapping_end keep s (Raw.sequence_end ∷ r) (λ s1. sequence_end keep s1 r f)
+completes at.flow_pairs keep s r p f = mapping_end keep s r f
+completes at.more_flow_pairs keep s r p f = mapping_end keep s r f
+completes at.comma_flow_pairs keep s r p f = mapping_end keep s r f
+completes at.flow_pair keep s r p f = nothing keep s (Raw.empty_scalar None None ∷ Raw.mapping_end ∷ r) (λ s1. nothing keep s1 (Raw.mapping_end ∷ r) (λ s2. mapping_end keep s2 r f))
+completes at.flow_key keep s r p f = nothing keep s (Raw.empty_scalar None None ∷ Raw.mapping_end ∷ r) (λ s1. nothing keep s1 (Raw.mapping_end ∷ r) (λ s2. mapping_end keep s2 r f))
+completes at.flow_after_key keep s r p f = nothing keep s (Raw.mapping_end ∷ r) (λ s1. mapping_end keep s1 r f)
+completes at.flow_valued keep s r p f = nothing keep s (Raw.mapping_end ∷ r) (λ s1. mapping_end keep s1 r f)
+completes at.flow_empty keep s r p f = nothing keep s (Raw.mapping_end ∷ r) (λ s1. mapping_end keep s1 r f)
+
+pub state_pending : (s : State) (names : Names) → IsPending names (goal_of s)
+state_pending state.StreamStart n = tt
+state_pending state.ImplicitDocumentStart n = tt
+state_pending state.DocumentStart n = tt
+state_pending state.DocumentContent n = tt
+state_pending state.DocumentEnd n = tt
+state_pending state.BlockNode n = tt
+state_pending state.BlockSequenceEntry n = tt
+state_pending state.IndentlessSequenceEntry n = tt
+state_pending state.IndentlessSequenceItem n = tt
+state_pending state.BlockMappingKey n = tt
+state_pending state.BlockMappingNextKey n = tt
+state_pending state.BlockMappingValue n = tt
+state_pending state.BlockMappingPart n = tt
+state_pending state.FlowSequenceFirstEntry n = tt
+state_pending state.FlowSequenceEntry n = tt
+state_pending state.FlowSequenceEntryMappingKey n = tt
+state_pending state.FlowSequenceEntryMappingValue n = tt
+state_pending state.FlowSequenceEntryMappingEnd n = tt
+state_pending state.FlowMappingFirstKey n = tt
+state_pending state.FlowMappingKey n = tt
+state_pending state.FlowMappingValue n = tt
+state_pending (state.FlowMappingPart m) n = tt
+state_pending state.FlowMappingEmptyValue n = tt
+
+rest_nameable : (keep : Bool) (ss : List State) → AnyNameable keep (rest_events ss (ending ss))
+rest_nameable keep [] s = ([], refl)
+rest_nameable keep (x ∷ ss) s = completes (goal_of x) keep s _ (state_pending x s) (rest_nameable keep ss)
+
+both_parts : (o : Option Ev) (p : Option (List Ev)) (vs : List Ev) → both o p ≡ Some vs → (v : Ev) × (ws : List Ev) × (o ≡ Some v) × (p ≡ Some ws) × (vs ≡ v ∷ ws)
+both_parts None p vs h = cc
+both_parts (Some v) None vs h = cc
+both_parts (Some v) (Some ws) vs h = (v, ws, refl, refl, cc)
+
+named_append : (keep : Bool) (s : Names) (es fs : List Raw) (vs ws : List Ev) → named keep s es ≡ Some vs → named keep (behind_all keep s es) fs ≡ Some ws → named keep s (es ++ fs) ≡ Some (vs ++ ws)
+named_append keep s [] fs vs ws h k = let x : vs ≡ [] = cc in k ∙ ap (λ xs. Some (xs ++ ws)) (sym x)
+named_append keep s (e ∷ es) fs vs ws h k =
+    let b = both_parts (resolved_event s e) (named keep (behind keep s e) es) vs h in
+    let i = named_append keep (behind keep s e) es fs b.1 ws b.3 k in
+    ap (λ o. both o (named keep (behind keep s e) (es ++ fs))) b.2 ∙ ap (λ o. both (Some b.0) o) i ∙ ap (λ xs. Some (xs ++ ws)) (sym b.4)
+
+-- ---- and placed
+
+-- where no place is known
+abbrev pub token_nowhere : Tok → defs.Token
+token_nowhere t = record { place = record { index = 0; line = 1; col = 0 }; tok = t }
+
+abbrev pub event_nowhere : Ev → Ev × Place
+event_nowhere v = (v, record { index = 0; line = 1; col = 0 })
+
+abbrev pub place_nowhere : Raw → Place
+place_nowhere e = record { index = 0; line = 1; col = 0 }
+
+-- as many events with a place as tokens
+abbrev pub AreEven : List Raw → List Tok → Type 0
+AreEven es ts = taken_places es (map place_nowhere es) ≡ given_places (map token_nowhere ts)
+
+one_each : (es : List Raw) (ts : List Tok) → AreEven es ts → place_nowhere Raw.stream_start ∷ taken_places es (map place_nowhere es) ≡ place_nowhere Raw.stream_start ∷ given_places (map token_nowhere ts)
+one_each es ts h = ap (λ ps. place_nowhere Raw.stream_start ∷ ps) h
+
+even : (g : Goal) (es : List Raw) (ts : List Tok) → AreEven es ts → AreEven (goal_events g (shortest g) es) (goal_tokens g (shortest g) ts)
+even at.done es ts h = h
+even at.ended es ts h = h
+even at.start es ts h = h
+even at.documents es ts h = h
+even at.explicit es ts h = h
+even (at.directed ds) es ts h = h
+even at.content es ts h = h
+even at.after es ts h = h
+even (at.behind_anchor q a) es ts h = h
+even (at.behind_tag q t) es ts h = h
+even (at.behind q (Some o)) es ts h = h
+even at.entries es ts h = h
+even at.entry es ts h = h
+even at.dashes es ts h = h
+even at.dashed es ts h = h
+even at.part es ts h = h
+even at.pairs es ts h = h
+even at.key_pairs es ts h = h
+even at.after_key es ts h = h
+even at.items es ts h = h
+even at.more_items es ts h = h
+even at.comma_items es ts h = h
+even at.pair_key es ts h = h
+even at.pair_value es ts h = h
+even at.pair_valued es ts h = h
+even at.pair_end es ts h = h
+even at.flow_pairs es ts h = h
+even at.more_flow_pairs es ts h = h
+even at.comma_flow_pairs es ts h = h
+even at.flow_pair es ts h = h
+even at.flow_key es ts h = h
+even at.flow_after_key es ts h = h
+even at.flow_valued es ts h = h
+even at.flow_empty es ts h = h
+even (at.node place.Flow) es ts h = one_each es ts h
+even (at.node place.Block) es ts h = one_each es ts h
+even (at.node place.Part) es ts h = one_each es ts h
+even (at.behind place.Flow None) es ts h = one_each es ts h
+even (at.behind place.Block None) es ts h = one_each es ts h
+even (at.behind place.Part None) es ts h = one_each es ts h
+even at.item es ts h = one_each es ts h
+
+rest_even : (ss : List State) → AreEven (rest_events ss (ending ss)) (rest_tokens ss (ending ss))
+rest_even [] = refl
+rest_even (s ∷ ss) = even (goal_of s) (rest_events ss (ending ss)) (rest_tokens ss (ending ss)) (rest_even ss)
+
+named_length : (keep : Bool) (s : Names) (es : List Raw) (vs : List Ev) → named keep s es ≡ Some vs → places_of (map event_nowhere vs) ≡ map place_nowhere es
+named_length keep s [] vs h = let x : vs ≡ [] = cc in ap (λ ws. places_of (map event_nowhere ws)) x
+named_length keep s (e ∷ es) vs h =
+    let b = both_parts (resolved_event s e) (named keep (behind keep s e) es) vs h in
+    ap (λ ws. places_of (map event_nowhere ws)) b.4 ∙ ap (λ ps. place_nowhere e ∷ ps) (named_length keep (behind keep s e) es b.1 b.3)
+
+events_nowhere : (vs : List Ev) → events_of (map event_nowhere vs) ≡ vs
+events_nowhere [] = refl
+events_nowhere (v ∷ vs) = ap (λ ws. v ∷ ws) (events_nowhere vs)
+
+toks_nowhere : (ts : List Tok) → toks (map token_nowhere ts) ≡ ts
+toks_nowhere [] = refl
+toks_nowhere (t ∷ ts) = ap (λ us. t ∷ us) (toks_nowhere ts)
+
+-- A stream begins with what was taken, and with the events that were given.
+pub at_begins : {T : Type 0} (g : Goal) (p : Reader T) (names : Names) (given : List (Ev × Place)) → At g p names given → p.names.keeping.steady ≡ true → BeginsPlaced p.names.keeping.tags (all_shown p.tokens.taken.items) given
+at_begins {T} g p names given a steady =
+    let keep = p.names.keeping.tags in
+    let es = still_events g p.stack (shortest g) (ending p.stack) in
+    let ts = still_tokens g p.stack (shortest g) (ending p.stack) in
+    let d = a.stands.sound (shortest g) (ending p.stack) in
+    let n = completes g keep names (rest_events p.stack (ending p.stack)) a.pending (rest_nameable keep p.stack) in
+    let all = named_append keep no_names a.raw es (events_of given) n.0 (a.events steady) (ap (λ s. named keep s es) (a.names_are steady) ∙ n.1) in
+    record {
+      more_tokens = map token_nowhere ts;
+      more_events = map event_nowhere n.0;
+      stream = record {
+        documents = d.0;
+        has_tokens = d.1 ∙ ap (λ us. taken_toks p.tokens ++ us) (sym (toks_nowhere ts)) ∙ sym (map-append (λ (t : defs.Token). t.tok) (all_shown p.tokens.taken.items) (map token_nowhere ts));
+        has_events = ap (named keep no_names) d.2 ∙ all
+            ∙ ap (λ vs. Some (events_of given ++ vs)) (sym (events_nowhere n.0)) ∙ ap Some (sym (map-append (λ (e : Ev × Place). e.0) given (map event_nowhere n.0)));
+        has_places = ap (λ xs. taken_places xs (places_of (given ++ map event_nowhere n.0))) d.2
+            ∙ ap (taken_places (a.raw ++ es)) (map-append (λ (e : Ev × Place). e.1) given (map event_nowhere n.0))
+            ∙ taken_places_append a.raw es (places_of given) (places_of (map event_nowhere n.0)) (a.count ∙ sym (places_length given))
+            ∙ ap (λ ps. ps ++ taken_places es (places_of (map event_nowhere n.0))) a.places
+            ∙ ap (λ ps. given_places (all_shown p.tokens.taken.items) ++ ps) (ap (taken_places es) (named_length keep names es n.0 n.1) ∙ even g (rest_events p.stack (ending p.stack)) (rest_tokens p.stack (ending p.stack)) (rest_even p.stack))
+            ∙ sym (given_places_append (all_shown p.tokens.taken.items) (map token_nowhere ts));
+      };
+    }
+
+-- ---- a refused token
+
+pub refused : {T : Type 0} {g : Goal} {p : Reader T} {t : Token} {names : Names} {given : List (Ev × Place)}
+    → p.tokens.peeked ≡ Some t → Refuses g p.stack (tok_of t.1) → At g p names given → IsStuck p given
+refused {T} {g} {p} {t} {names} {given} here turn a =
+    let handed : (scanned p.tokens.scanner).given ≡ all_shown p.tokens.taken.items ++ shown t ∷ [] = a.handed ∙ ap (λ o. all_shown p.tokens.taken.items ++ shown_list o) here in
+    record {
+      before = all_shown p.tokens.taken.items;
+      last = shown t;
+      handed = handed;
+      begins = at_begins g p names given a;
+      none = λ steady ts es s.
+          let h : stream_tokens s.documents ≡ taken_toks p.tokens ++ (tok_of t.1 ∷ ts) =
+          s.has_tokens ∙ ap (λ xs. toks xs ++ ts) handed ∙ ap (λ xs. xs ++ ts) (map_snoc (λ (x : defs.Token). x.tok) (all_shown p.tokens.taken.items) (shown t)) ∙ append_assoc (taken_toks p.tokens) (tok_of t.1 ∷ []) ts in
+          let b : Begins1 (peeked_tok p.tokens) (tok_of t.1 ∷ ts) = subst (λ o. Begins1 (option_map (λ (x : Token). tok_of x.1) o) (tok_of t.1 ∷ ts)) (sym here) refl in
+          let o = a.stands.exact s.documents (tok_of t.1 ∷ ts) h b in
+          turn a.stands.nested a.stands.fits o.0 o.1 (subst (Begins1 (Some (tok_of t.1))) (sym o.2) refl);
+    }
+
+-- the same from the kind of what was looked at
+pub refuses : {T : Type 0} {g : Goal} {p : Reader T} {k : Kind} {names : Names} {given : List (Ev × Place)}
+    → IsOfKind k p.tokens.peeked → ((t : Tok) → kind_of t ≡ k → Refuses g p.stack t) → At g p names given → IsStuck p given
+refuses {T} {g} {p} {k} {names} {given} o turn a = let l = looked k p.tokens.peeked o in refused l.1 (turn (tok_of l.0.1) l.2) a

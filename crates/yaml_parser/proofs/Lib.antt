@@ -1,0 +1,11 @@
+pub mod Arms
+pub mod DirectiveLemmas
+pub mod DocumentArms
+pub mod Ends
+pub mod Holding
+pub mod LoadSteps
+pub mod NameLemmas
+pub mod NodeArms
+pub mod Parsing
+pub mod Places
+pub mod Steps

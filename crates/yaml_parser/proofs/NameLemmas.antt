@@ -1,0 +1,104 @@
+-- Names as bytes and as characters.
+use Rattle.std.proofs.Common.{◌≡◌, ◌≢◌, ℕ, List, [], ◌∷◌, Option, Some, None, option_map, true, false, cond, refl, sym, ap, ◌∙◌, if◌then◌else◌, length, ◌==◌, Result, Ok, Err, rules}
+use Rattle.std.specs.Prelude.{String, string_bytes, bytes_eq, codes}
+use Rattle.std.specs.Str.{chars}
+use lib.Utf8.{encodes, encode}
+use Rattle.std.specs.BTreeMap as tree
+use Rattle.std.specs.BTreeMap.{BTreeMap, get_by_text}
+use Rattle.std.specs.String.{string_cmp, string_len}
+use Rattle.std.specs.declared.alloc.Global.{Global}
+use Rattle.std.proofs.lemmas.Map.Text.{btree_map_updates_text}
+use Rattle.std.proofs.lemmas.Bool.Decides.{same_from_decides, Decides-like}
+use Rattle.std.proofs.lemmas.Slice.Eq.{bytes_eq-Decides}
+use Rattle.std.proofs.lemmas.Str.{encodes-chars, IsUtf8-string_bytes}
+use Rattle.yaml_chars.specs.Text.{string_chars, is_nil}
+use Rattle.yaml_chars.proofs.TextLemmas.{is_nil_chars}
+use Rattle.yaml_tokens.specs.declared.problem.Fault.TheVariants.{OutOfMemory}
+use Rattle.yaml_tokens.specs.declared.problem.Fault.TheVariants as fault
+use Rattle.event_defs.specs.Names.{Names, under_name, prefix_or_undeclared, undeclared, resolved}
+use Rattle.yaml_parser.specs.declared.event.Tag.{Tag}
+use Rattle.yaml_parser.specs.declared.tokens.Stop.{Stop}
+use Rattle.yaml_parser.specs.declared.tokens.Stop.TheVariants as stop
+use Rattle.yaml_parser.specs.Shown.{tag_of}
+use Rattle.yaml_parser.specs.Resolves.{Resolves, IsUndeclared}
+
+nil_of : (xs : List ℕ) → is_nil xs ≡ true → xs ≡ []
+nil_of [] h = refl
+nil_of (x ∷ xs) h = cc
+
+chars_then_bytes : (a b : String Global) → string_chars a ≡ string_chars b → string_bytes a ≡ string_bytes b
+unfolding string_chars
+chars_then_bytes a b h = sym (encodes-chars (string_bytes a) (IsUtf8-string_bytes a)) ∙ ap encodes h ∙ encodes-chars (string_bytes b) (IsUtf8-string_bytes b)
+
+bytes_then_chars : (a b : String Global) → string_bytes a ≡ string_bytes b → string_chars a ≡ string_chars b
+unfolding string_chars
+bytes_then_chars a b h = ap chars h
+
+pub same_text : (a b : String Global) → bytes_eq (string_bytes a) (string_bytes b) ≡ bytes_eq (string_chars b) (string_chars a)
+same_text a b = same_from_decides _ _ (bytes_eq-Decides (string_bytes a) (string_bytes b))
+    (Decides-like _ (λ h. chars_then_bytes a b (sym h)) (λ h. bytes_then_chars b a (sym h)) (bytes_eq-Decides (string_chars b) (string_chars a)))
+
+pub put_text : {V : Type 0} (m n : BTreeMap (String Global) V) (key : String Global) (v : V) → tree.Updates string_cmp m n key (Some v) → (x : String Global)
+    → get_by_text n (string_bytes x) ≡ (if bytes_eq (string_chars x) (string_chars key) then Some v else get_by_text m (string_bytes x))
+put_text m n key v u x = btree_map_updates_text (string_bytes key) m n (Some v) u (string_bytes x) ∙ ap (λ b. cond b (Some v) (get_by_text m (string_bytes x))) (same_text key x)
+
+-- ---- handles
+
+pub empty_chars : (s : String Global) → (length (string_bytes s) == 0) ≡ true → string_chars s ≡ []
+unfolding string_chars
+empty_chars s h = nil_of (chars (string_bytes s)) (is_nil_chars s ∙ h)
+
+pub nonempty_chars : (s : String Global) → (length (string_bytes s) == 0) ≡ false → string_chars s ≢ []
+unfolding string_chars
+nonempty_chars s h e = let f : true ≡ false = sym (ap is_nil e) ∙ is_nil_chars s ∙ h in cc
+
+pub resolved_empty : (handles : List (List ℕ × List ℕ)) (h x : List ℕ) → h ≡ [] → resolved handles (record { handle = h; suffix = x }) ≡ Some (record { handle = h; suffix = x })
+resolved_empty handles [] x e = refl
+resolved_empty handles (c ∷ cs) x e = cc
+
+pub resolved_nonempty : (handles : List (List ℕ × List ℕ)) (h x : List ℕ) (o : Option (List ℕ)) → h ≢ [] → under_name h handles ≡ o → resolved handles (record { handle = h; suffix = x }) ≡ option_map (λ p. record { handle = p; suffix = x }) (prefix_or_undeclared o h)
+resolved_nonempty handles [] x o a e = absurd (a refl)
+resolved_nonempty handles (c ∷ cs) x o a e = ap (λ u. option_map (λ p. record { handle = p; suffix = x }) (prefix_or_undeclared u (c ∷ cs))) e
+
+-- an ASCII text by its bytes
+pub same_codes : (s : String Global) (t : List ℕ) → chars t ≡ t → encodes t ≡ t → bytes_eq (string_bytes s) t ≡ bytes_eq (string_chars s) t
+unfolding string_chars
+same_codes s t c e = same_from_decides _ _ (bytes_eq-Decides (string_bytes s) t)
+    (Decides-like _ (λ h. sym (encodes-chars (string_bytes s) (IsUtf8-string_bytes s)) ∙ ap encodes h ∙ e) (λ h. ap chars h ∙ c) (bytes_eq-Decides (chars (string_bytes s)) t))
+
+pub secondary_is : (s : String Global) → bytes_eq (string_bytes s) (codes "!!") ≡ bytes_eq (string_chars s) (codes "!!")
+unfolding chars encode
+secondary_is s = same_codes s (codes "!!") refl refl
+
+pub primary_is : (s : String Global) → bytes_eq (string_bytes s) (codes "!") ≡ bytes_eq (string_chars s) (codes "!")
+unfolding chars encode
+primary_is s = same_codes s (codes "!") refl refl
+
+pub core_chars : chars (codes "tag:yaml.org,2002:") ≡ codes "tag:yaml.org,2002:"
+unfolding chars
+core_chars = refl
+
+pub undeclared_secondary : (h : List ℕ) → bytes_eq h (codes "!!") ≡ true → undeclared h ≡ Some (codes "tag:yaml.org,2002:")
+undeclared_secondary h e = ap (λ b. if b then Some (codes "tag:yaml.org,2002:") else (if bytes_eq h (codes "!") then Some (codes "!") else None)) e
+
+pub undeclared_primary : (h : List ℕ) → bytes_eq h (codes "!!") ≡ false → bytes_eq h (codes "!") ≡ true → undeclared h ≡ Some h
+undeclared_primary h a b = ap (λ x. if x then Some (codes "tag:yaml.org,2002:") else (if bytes_eq h (codes "!") then Some (codes "!") else None)) a
+    ∙ ap (λ x. if x then Some (codes "!") else None) b ∙ ap Some (sym ((bytes_eq-Decides h (codes "!")).0 b))
+
+pub undeclared_other : (h : List ℕ) → bytes_eq h (codes "!!") ≡ false → bytes_eq h (codes "!") ≡ false → undeclared h ≡ None
+undeclared_other h a b = ap (λ x. if x then Some (codes "tag:yaml.org,2002:") else (if bytes_eq h (codes "!") then Some (codes "!") else None)) a
+    ∙ ap (λ x. if x then Some (codes "!") else None) b
+
+pub core_is : (s : String Global) → string_bytes s ≡ codes "tag:yaml.org,2002:" → string_chars s ≡ codes "tag:yaml.org,2002:"
+unfolding string_chars
+core_is s h = ap chars h ∙ core_chars
+
+pub undeclared_resolves : (names : Names) (h x : List ℕ) (r : Result Tag Stop) → h ≢ [] → under_name h names.handles ≡ None → IsUndeclared h x r → Resolves names (record { handle = h; suffix = x }) r
+undeclared_resolves names h x (Ok t) a e u = resolved_nonempty names.handles h x None a e ∙ ap (option_map (λ p. record { handle = p; suffix = x })) u.0 ∙ ap (λ y. Some (record { handle = (tag_of t).handle; suffix = y })) (sym u.1)
+undeclared_resolves names h x (Err (stop.Own OutOfMemory)) a e u = tt
+undeclared_resolves names h x (Err (stop.Own (fault.At q m))) a e u = resolved_nonempty names.handles h x None a e ∙ ap (option_map (λ p. record { handle = p; suffix = x })) u
+undeclared_resolves names h x (Err stop.Scan) a e u = u
+undeclared_resolves names h x (Err stop.Ended) a e u = u
+
+pub string_length : (s : String Global) → (length (string_bytes s) == 0) ≡ (string_len s == 0)
+string_length s = search rules

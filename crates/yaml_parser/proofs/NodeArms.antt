@@ -1,0 +1,284 @@
+-- The arms of the productions of nodes.
+use Rattle.std.proofs.Common.{◌≡◌, ℕ, List, [], ◌∷◌, ◌++◌, Option, Some, None, option_map, is_some, Bool, true, false, Result, Ok, Err, refl, sym, ap, ◌∙◌, subst, append_assoc, ◌⊎◌, inl, inr}
+use Rattle.std.specs.Result.{IfOk, IfErr}
+use Rattle.std.specs.Option.{IsSome, IfSome}
+use Rattle.yaml_chars.specs.Place.{Place}
+use Rattle.token_defs.specs.Token as defs
+use Rattle.token_defs.specs.Token.{Tok, Style}
+use Rattle.yaml_tokens.specs.declared.token.Token.{Token}
+use Rattle.yaml_tokens.specs.declared.problem.Fault.TheVariants.{OutOfMemory}
+use Rattle.yaml_tokens.specs.declared.problem.Fault.TheVariants as fault
+use Rattle.yaml_tokens.specs.Shown.{shown, all_shown, tok_of}
+use Rattle.yaml_scanner.specs.Scanned.{scanned}
+use Rattle.yaml_scanner.specs.Tokens.{is_end}
+use Rattle.event_defs.specs.Event as event
+use Rattle.event_defs.specs.Event.{Ev}
+use Rattle.event_defs.specs.Raw.{Raw}
+use Rattle.event_defs.specs.Grammar as written
+use Rattle.event_defs.specs.Grammar.{perhaps_anchor_of, perhaps_tag_of, stream_tokens, stream_events}
+use Rattle.event_defs.specs.Names.{Names, number, with_anchor, behind, behind_all, both, named, no_names, resolved_event, perhaps_resolved, resolved, under_name}
+use Rattle.event_defs.specs.Stream.{toks, has_place, gives_place, BeginsPlaced as Opens}
+use Rattle.grammar_turns.specs.declared.kind.Kind.{Kind}
+use Rattle.grammar_turns.specs.declared.place.Place as places
+use Rattle.grammar_turns.specs.declared.place.Place.TheVariants as place
+use Rattle.grammar_turns.specs.declared.state.State.{State}
+use Rattle.grammar_turns.specs.Kinds.{kind_of, tok_of_kind, has_no_text}
+use Rattle.grammar_turns.specs.Goal as at
+use Rattle.grammar_turns.specs.Goal.{Goal, Awaits, ContentAt, part_content, part_dashes, perhaps_content_events, tag_and}
+use Rattle.grammar_turns.proofs.Nodes as turn
+use Rattle.grammar_turns.specs.declared.kind.Kind.TheVariants as kind
+use Rattle.yaml_parser.specs.Resolves.{Resolves}
+use Rattle.event_defs.specs.Grammar.{items_events, flow_pairs_events, entries_events, pairs_events, perhaps_events, dashes_events, scalar, flow_sequence, flow_mapping, flow, block_sequence, block_mapping}
+use Rattle.grammar_turns.specs.Rest.{Rest, rest_events, still_events}
+use Rattle.grammar_turns.specs.Stands.{Begins as Starts}
+use Rattle.grammar_turns.specs.Turn.{Takes, Leaves, event_then}
+use Rattle.grammar_turns.proofs.First.{tok_is}
+use Rattle.yaml_parser.specs.declared.event.Event.{Event}
+use Rattle.yaml_parser.specs.declared.node.Properties.{Properties}
+use Rattle.yaml_parser.specs.declared.tokens.Stop.{Stop}
+use Rattle.yaml_parser.specs.declared.tokens.Stop.TheVariants as stop
+use Rattle.yaml_parser.specs.declared.reader.Reader.{Reader}
+use Rattle.yaml_parser.specs.declared.tokens.Tokens.{Tokens}
+use Rattle.yaml_parser.specs.Ahead.{Skips, SkipsOne}
+use Rattle.yaml_parser.specs.Handed.{taken_toks, peeked_tok, shown_list}
+use Rattle.yaml_parser.specs.Kinds.{IsOfKind}
+use Rattle.yaml_parser.specs.Named.{IsNamed}
+use Rattle.yaml_parser.specs.Properties.{Has, Registers, name_of, kept_tag}
+use Rattle.yaml_parser.specs.Shown.{placed}
+use Rattle.yaml_parser.specs.At.{At, Answers, Faulted, IsStuck, goal_behind, IsPending}
+use Rattle.yaml_parser.proofs.Steps.{looked, took, took_on, left, Named, map_snoc, if_some_at}
+use Rattle.yaml_parser.proofs.Arms.{Skipped}
+use Rattle.yaml_parser.proofs.Ends.{at_begins}
+
+-- ---- an event with properties
+
+pub two_values : (f : ℕ → Option event.Tag → Ev × Place) {n a : ℕ} {t u : Option event.Tag} → n ≡ a → t ≡ u → f n t ≡ f a u
+two_values f {n} {a} {t} {u} h k = ap (λ x. f x t) h ∙ ap (f a) k
+
+-- how an event is made of an anchor and a tag, before and behind the resolution of names
+pub record Makes (mk : Option (List ℕ) → Option event.Tag → Raw) (f : ℕ → Option event.Tag → Ev) : Type 0 where
+  pub resolves : (s : Names) (a : Option (List ℕ)) (t : Option event.Tag) → resolved_event s (mk a t) ≡ option_map (λ u. f (number s a) u) (perhaps_resolved s.handles t)
+  pub behind_it : (keep : Bool) (s : Names) (a : Option (List ℕ)) (t : Option event.Tag) → behind keep s (mk a t) ≡ with_anchor s a
+
+made_resolves : {mk : Option (List ℕ) → Option event.Tag → Raw} {f : ℕ → Option event.Tag → Ev} {s : Names} {o : Option written.Properties} {p : Option Properties} → Makes mk f → Has s o p
+    → resolved_event s (mk (perhaps_anchor_of o) (perhaps_tag_of o)) ≡ Some (f (number s (name_of p)) (kept_tag p))
+made_resolves {mk} {f} {s} {o} {p} k h = k.resolves s _ _ ∙ ap (option_map (λ u. f (number s (perhaps_anchor_of o)) u)) h.tag ∙ ap (λ a. Some (f (number s a) (kept_tag p))) h.anchor
+
+-- the names behind it
+made_named : {T : Type 0} {p r : Reader T} {mk : Option (List ℕ) → Option event.Tag → Raw} {f : ℕ → Option event.Tag → Ev} {s : Names} {o : Option written.Properties} {x : Option Properties}
+    → Makes mk f → Has s o x → r.names.keeping ≡ p.names.keeping → IsNamed r.names (with_anchor s (name_of x))
+    → Named p r at.done s (mk (perhaps_anchor_of o) (perhaps_tag_of o)) (f (number s (name_of x)) (kept_tag x)) (with_anchor s (name_of x))
+made_named {T} {p} {r} {mk} {f} {s} {o} {x} k h keep code = record {
+  resolves = made_resolves k h;
+  behind_it = k.behind_it _ s _ _ ∙ ap (with_anchor s) h.anchor;
+  keep = keep;
+  code = code;
+  pending = tt;
+}
+
+-- The start of a collection is taken, and its properties are registered.
+pub starts : {T : Type 0} (m : Place) {p q : Reader T} (r : Reader T) {k k' : Kind} {w : places.Place} {o : Option written.Properties} {x : Option Properties} {ss : List State} (mk : Option (List ℕ) → Option event.Tag → Raw) (f : ℕ → Option event.Tag → Ev) {s : Names} {given : List (Ev × Place)} (res : Result (Event × Place) Stop)
+    → Makes mk f → IsOfKind k' p.tokens.peeked → k' ≡ k → has_no_text k ≡ true → is_end (tok_of_kind k) ≡ false
+    → ((a : Option (List ℕ)) (t : Option event.Tag) → has_place (mk a t) ≡ gives_place (tok_of_kind k)) → IfSome p.tokens.peeked (λ t. t.0 ≡ m) → Skipped p q ss
+    → Takes (at.behind w o) p.stack (tok_of_kind k) (Some (mk (perhaps_anchor_of o) (perhaps_tag_of o))) at.done ss
+    → ((names : Names) → IsNamed q.names names → IfOk res (λ e. Registers q x names (λ a t. placed e ≡ (f a t, m)) r)) → IfErr res (λ u. u ≡ stop.Own OutOfMemory)
+    → ((a : ℕ) (t : Option event.Tag) → goal_behind (f a t) ≡ at.done)
+    → Has s o x → At (at.behind w o) p s given → Answers r given res
+starts {T} m {p} {q} r {k} {k'} {w} {o} {x} {ss} mk f {s} {given} (Err u) makes here h plain end alike mark skip turn registers err no_end has a = subst (Faulted r given) (sym err) tt
+starts {T} m {p} {q} r {k} {k'} {w} {o} {x} {ss} mk f {s} {given} (Ok e) makes here h plain end alike mark skip turn registers err no_end has a =
+    let l = looked k' p.tokens.peeked here in
+    let t = l.0 in
+    let y = skip t l.1 in
+    let g = registers s (subst (λ n. IsNamed n s) (sym y.names) a.code) in
+    let same : tok_of t.1 ≡ tok_of_kind k = tok_is (l.2 ∙ h) plain in
+    let v : Ev × Place = (f (number s (name_of x)) (kept_tag x), m) in
+    let one : At at.done r (with_anchor s (name_of x)) (given ++ v ∷ []) =
+    took m l.1 (subst (λ u. Skips p.tokens t u) (sym g.tokens) y.tokens) (g.stack ∙ y.stack) (subst (λ u. Takes (at.behind w o) p.stack u (Some (mk (perhaps_anchor_of o) (perhaps_tag_of o))) at.done ss) (sym same) turn)
+    (made_named makes has (g.keep ∙ ap (λ n. n.keeping) y.names) g.code) (λ b. (refl, ap is_end same ∙ end))
+    (record { alike = alike _ _ ∙ sym (ap gives_place same); here = λ b. sym (if_some_at (λ (z : Token). z.0 ≡ m) mark l.1) }) a in
+    let two : (names : Names) × At (goal_behind v.0) r names (given ++ v ∷ []) = (with_anchor s (name_of x), subst (λ g. At g r (with_anchor s (name_of x)) (given ++ v ∷ [])) (sym (no_end _ _)) one) in
+    subst (λ z. (names : Names) × At (goal_behind z.0) r names (given ++ z ∷ [])) (sym g.value) two
+
+-- A scalar is taken, and its properties are registered.
+pub scalar_taken : {T : Type 0} (m : Place) {p q r : Reader T} {y : Style} {v : List ℕ} {n : ℕ} {u : Option event.Tag} {w : places.Place} {o : Option written.Properties} {x : Option Properties} {ss : List State} {s : Names} {given : List (Ev × Place)}
+    → {t : Token} → p.tokens.peeked ≡ Some t → t.0 ≡ m → Skips p.tokens t q.tokens → q.stack ≡ ss → q.names ≡ p.names → tok_of t.1 ≡ Tok.scalar y v
+    → Takes (at.behind w o) p.stack (Tok.scalar y v) (Some (Raw.scalar v y (perhaps_anchor_of o) (perhaps_tag_of o))) at.done ss
+    → ((names : Names) → IsNamed q.names names → Registers q x names (λ a b. (n ≡ a) × (u ≡ b)) r)
+    → Has s o x → At (at.behind w o) p s given → (names : Names) × At at.done r names (given ++ (Ev.scalar v y n u, m) ∷ [])
+scalar_taken {T} m {p} {q} {r} {y} {v} {n} {u} {w} {o} {x} {ss} {s} {given} {t} here mark skips stack names_same tok turn registers has a =
+    let g = registers s (subst (λ z. IsNamed z s) (sym names_same) a.code) in
+    let e : Ev.scalar v y (number s (name_of x)) (kept_tag x) ≡ Ev.scalar v y n u = ap (λ z. Ev.scalar v y z (kept_tag x)) (sym g.value.0) ∙ ap (λ z. Ev.scalar v y n z) (sym g.value.1) in
+    let makes : Makes (λ a b. Raw.scalar v y a b) (λ a b. Ev.scalar v y a b) = record { resolves = λ s a b. refl; behind_it = λ k s a b. refl } in (
+      with_anchor s (name_of x),
+      subst (λ z. At at.done r (with_anchor s (name_of x)) (given ++ (z, m) ∷ [])) e
+          (took m here (subst (λ z. Skips p.tokens t z) (sym g.tokens) skips) (g.stack ∙ stack) (subst (λ z. Takes (at.behind w o) p.stack z (Some (Raw.scalar v y (perhaps_anchor_of o) (perhaps_tag_of o))) at.done ss) (sym tok) turn)
+          (made_named makes has (g.keep ∙ ap (λ z. z.keeping) names_same) g.code) (λ b. (refl, ap is_end tok))
+          (record { alike = sym (ap gives_place tok); here = λ b. sym mark }) a),
+    )
+
+-- Properties alone are registered, and the token stays.
+pub properties_left : {T : Type 0} (m : Place) {p r : Reader T} {k : Kind} {n : ℕ} {u : Option event.Tag} (o : Option written.Properties) {x : Properties} {s : Names} {given : List (Ev × Place)}
+    → IsOfKind k p.tokens.peeked → ((o' : written.Properties) (t : Tok) → kind_of t ≡ k → Leaves (at.behind place.Flow (Some o')) p.stack (Some t) (Some (Raw.empty_scalar (written.anchor_of o') (written.tag_of o'))) at.done p.stack)
+    → ((names : Names) → IsNamed p.names names → Registers p (Some x) names (λ a b. (n ≡ a) × (u ≡ b)) r)
+    → Has s o (Some x) → At (at.behind place.Flow o) p s given → (names : Names) × At at.done r names (given ++ (Ev.scalar [] Style.plain n u, m) ∷ [])
+properties_left {T} m {p} {r} {k} {n} {u} None {x} {s} {given} here turn registers has a = let b : false ≡ true = has.both in cc
+properties_left {T} m {p} {r} {k} {n} {u} (Some o) {x} {s} {given} here turn registers has a =
+    let l = looked k p.tokens.peeked here in
+    let g = registers s a.code in
+    let e : Ev.scalar [] Style.plain (number s (name_of (Some x))) (kept_tag (Some x)) ≡ Ev.scalar [] Style.plain n u = ap (λ z. Ev.scalar [] Style.plain z (kept_tag (Some x))) (sym g.value.0) ∙ ap (λ z. Ev.scalar [] Style.plain n z) (sym g.value.1) in
+    let makes : Makes (λ a b. Raw.empty_scalar a b) (λ a b. Ev.scalar [] Style.plain a b) = record { resolves = λ s a b. refl; behind_it = λ k s a b. refl } in (
+      with_anchor s (name_of (Some x)),
+      subst (λ z. At at.done r (with_anchor s (name_of (Some x))) (given ++ (z, m) ∷ [])) e
+          (left m (ap (option_map (λ (z : Token). tok_of z.1)) l.1) g.tokens g.stack (turn o (tok_of l.0.1) l.2) (made_named makes has g.keep g.code) refl refl a),
+    )
+
+-- ---- a name that stands for nothing
+
+abbrev pub Unnameable : Bool → Names → List Raw → Type 0
+Unnameable keep s es = named keep s es ≡ None
+
+pub unnameable_first : (keep : Bool) (s : Names) (e : Raw) (es : List Raw) → resolved_event s e ≡ None → Unnameable keep s (e ∷ es)
+unnameable_first keep s e es h = ap (λ o. both o (named keep (behind keep s e) es)) h
+
+both_none : (o : Option Ev) → both o None ≡ None
+both_none None = refl
+both_none (Some v) = refl
+
+named_stops : (keep : Bool) (s : Names) (es fs : List Raw) → named keep (behind_all keep s es) fs ≡ None → named keep s (es ++ fs) ≡ None
+named_stops keep s [] fs h = h
+named_stops keep s (e ∷ es) fs h = ap (both (resolved_event s e)) (named_stops keep (behind keep s e) es fs h) ∙ both_none (resolved_event s e)
+
+-- The token was taken, and nothing that goes on behind it can be named.
+pub unnamed : {T : Type 0} {g g' : Goal} {p r : Reader T} {t : Token} {ss : List State} {e : Option Raw} {names : Names} {given : List (Ev × Place)}
+    → p.tokens.peeked ≡ Some t → Skips p.tokens t r.tokens → r.names.keeping ≡ p.names.keeping → Takes g p.stack (tok_of t.1) e g' ss
+    → ((x : Awaits g') (y : Rest ss) → Unnameable p.names.keeping.tags names (event_then e (still_events g' ss x y)))
+    → At g p names given → IsStuck r given
+unnamed {T} {g} {g'} {p} {r} {t} {ss} {e} {names} {given} here skips keep turn bad a =
+    let kept = p.names.keeping.tags in
+    let handed : (scanned r.tokens.scanner).given ≡ all_shown p.tokens.taken.items ++ shown t ∷ [] =
+    ap (λ x. (scanned x).given) skips.scanner ∙ a.handed ∙ ap (λ o. all_shown p.tokens.taken.items ++ shown_list o) here in
+    record {
+      before = all_shown p.tokens.taken.items;
+      last = shown t;
+      handed = handed;
+      begins = λ steady. subst (λ k. Opens k.tags (all_shown p.tokens.taken.items) given) (sym keep) (at_begins g p names given a (ap (λ k. k.steady) (sym keep) ∙ steady));
+      none = λ steady ts es s.
+          let before : p.names.keeping.steady ≡ true = ap (λ k. k.steady) (sym keep) ∙ steady in
+          let h : stream_tokens s.documents ≡ taken_toks p.tokens ++ (tok_of t.1 ∷ ts) =
+          s.has_tokens ∙ ap (λ xs. toks xs ++ ts) handed ∙ ap (λ xs. xs ++ ts) (map_snoc (λ (x : defs.Token). x.tok) (all_shown p.tokens.taken.items) (shown t)) ∙ append_assoc (taken_toks p.tokens) (tok_of t.1 ∷ []) ts in
+          let b : Starts (peeked_tok p.tokens) (tok_of t.1 ∷ ts) = subst (λ o. Starts (option_map (λ (x : Token). tok_of x.1) o) (tok_of t.1 ∷ ts)) (sym here) refl in
+          let o = a.stands.exact s.documents (tok_of t.1 ∷ ts) h b in
+          let n = turn.goes a.stands.nested a.stands.fits o.0 o.1 ts o.2 in
+          let no : named kept no_names (stream_events s.documents) ≡ None =
+          ap (named kept no_names) (o.3 ∙ ap (λ xs. a.raw ++ xs) n.3)
+          ∙ named_stops kept no_names a.raw _ (ap (λ z. named kept z (event_then e (still_events g' ss n.0 n.1))) (a.names_are before) ∙ bad n.0 n.1) in
+          let yes : named kept no_names (stream_events s.documents) ≡ Some es = ap (λ k. named k.tags no_names (stream_events s.documents)) (sym keep) ∙ s.has_events in
+          let clash : None ≡ Some es = sym no ∙ yes in
+          cc;
+    }
+
+-- ---- small steps
+
+-- what is pending does not depend on the place
+pub pending_same : (w u : places.Place) (names : Names) (o : Option written.Properties) → IsPending names (at.behind w o) → IsPending names (at.behind u o)
+pending_same w u names None h = tt
+pending_same w u names (Some o) h = h
+
+pub taken_with : {T : Type 0} {p q : Tokens T} {t : Token} → SkipsOne p q → p.peeked ≡ Some t → Skips p t q
+taken_with {T} {p} {q} {t} h e = if_some_at (λ u. Skips p u q) h e
+
+pub nothing_there : {A : Type 0} {names : Names} (o : Option written.Properties) → Has names o None → (o ≡ None → A) → A
+nothing_there None has f = f refl
+nothing_there (Some o) has f = let b : true ≡ false = has.both in cc
+
+-- ---- properties, one by one
+
+is_some_of : {A : Type 0} {o : Option A} {x : A} → o ≡ Some x → IsSome o
+is_some_of {A} {o} {x} h = ap is_some h
+
+pub anchor_text : {t : Tok} {x : List ℕ} → kind_of t ≡ kind.Anchor → (t ≡ Tok.alias x) ⊎ (t ≡ Tok.anchor x) → t ≡ Tok.anchor x
+anchor_text {t} {x} h (inl e) = let f : kind.Alias ≡ kind.Anchor = sym (ap kind_of e) ∙ h in cc
+anchor_text {t} {x} h (inr e) = e
+
+pub alias_text : {t : Tok} {x : List ℕ} → kind_of t ≡ kind.Alias → (t ≡ Tok.alias x) ⊎ (t ≡ Tok.anchor x) → t ≡ Tok.alias x
+alias_text {t} {x} h (inl e) = e
+alias_text {t} {x} h (inr e) = let f : kind.Anchor ≡ kind.Alias = sym (ap kind_of e) ∙ h in cc
+
+pub alias_taken : {T : Type 0} (m : Place) {p r : Reader T} {t : Token} {w : places.Place} {x : List ℕ} {n : ℕ} {names : Names} {given : List (Ev × Place)}
+    → p.tokens.peeked ≡ Some t → t.0 ≡ m → Skips p.tokens t r.tokens → r.stack ≡ p.stack → r.names ≡ p.names → tok_of t.1 ≡ Tok.alias x → under_name x names.anchors ≡ Some n
+    → At (at.node w) p names given → (names' : Names) × At at.done r names' (given ++ (Ev.alias n, m) ∷ [])
+alias_taken {T} m {p} {r} {t} {w} {x} {n} {names} {given} here mark skips stack same tok found a = (
+  names,
+  took m here skips stack (subst (λ u. Takes (at.node w) p.stack u (Some (Raw.alias x)) at.done p.stack) (sym tok) (turn.node_alias w p.stack x))
+      (record { resolves = ap (option_map Ev.alias) found; behind_it = refl; keep = ap (λ z. z.keeping) same; code = subst (λ z. IsNamed z names) (sym same) a.code; pending = tt })
+      (λ b. (refl, ap is_end tok)) (record { alike = sym (ap gives_place tok); here = λ b. sym mark }) a,
+)
+
+pub alias_unknown : {T : Type 0} {p r : Reader T} {t : Token} {w : places.Place} {x : List ℕ} {names : Names} {given : List (Ev × Place)}
+    → p.tokens.peeked ≡ Some t → Skips p.tokens t r.tokens → r.names ≡ p.names → tok_of t.1 ≡ Tok.alias x → under_name x names.anchors ≡ None → At (at.node w) p names given → IsStuck r given
+alias_unknown {T} {p} {r} {t} {w} {x} {names} {given} here skips same tok missing a =
+    unnamed here skips (ap (λ z. z.keeping) same) (subst (λ u. Takes (at.node w) p.stack u (Some (Raw.alias x)) at.done p.stack) (sym tok) (turn.node_alias w p.stack x))
+    (λ y z. unnameable_first p.names.keeping.tags names (Raw.alias x) (still_events at.done p.stack y z) (ap (option_map Ev.alias) missing)) a
+
+pub anchor_taken : {T : Type 0} {p r : Reader T} {t : Token} {w : places.Place} {x : List ℕ} {names : Names} {given : List (Ev × Place)}
+    → p.tokens.peeked ≡ Some t → Skips p.tokens t r.tokens → r.stack ≡ p.stack → r.names ≡ p.names → tok_of t.1 ≡ Tok.anchor x → At (at.node w) p names given → At (at.behind_anchor w x) r names given
+anchor_taken {T} {p} {r} {t} {w} {x} {names} {given} here skips stack same tok a =
+    took_on here skips stack (subst (λ u. Takes (at.node w) p.stack u None (at.behind_anchor w x) p.stack) (sym tok) (turn.node_anchor w p.stack x))
+    (ap (λ z. z.keeping) same) (subst (λ z. IsNamed z names) (sym same) a.code) tt (λ b. (refl, ap is_end tok)) (ap gives_place tok) a
+
+pub tag_taken : {T : Type 0} {p r : Reader T} {t : Token} {w : places.Place} {x : event.Tag} {u : event.Tag} {names : Names} {given : List (Ev × Place)}
+    → p.tokens.peeked ≡ Some t → Skips p.tokens t r.tokens → r.stack ≡ p.stack → r.names ≡ p.names → tok_of t.1 ≡ written.tag_token x → resolved names.handles x ≡ Some u → At (at.node w) p names given → At (at.behind_tag w x) r names given
+tag_taken {T} {p} {r} {t} {w} {x} {u} {names} {given} here skips stack same tok known a =
+    took_on here skips stack (subst (λ z. Takes (at.node w) p.stack z None (at.behind_tag w x) p.stack) (sym tok) (turn.node_tag w p.stack x))
+    (ap (λ z. z.keeping) same) (subst (λ z. IsNamed z names) (sym same) a.code) (is_some_of known) (λ b. (refl, ap is_end tok)) (ap gives_place tok) a
+
+pub tag_behind_anchor : {T : Type 0} {p r : Reader T} {t : Token} {w : places.Place} {y : List ℕ} {x : event.Tag} {u : event.Tag} {names : Names} {given : List (Ev × Place)}
+    → p.tokens.peeked ≡ Some t → Skips p.tokens t r.tokens → r.stack ≡ p.stack → r.names ≡ p.names → tok_of t.1 ≡ written.tag_token x → resolved names.handles x ≡ Some u → At (at.behind_anchor w y) p names given → At (at.behind w (Some (written.anchored_tagged y x))) r names given
+tag_behind_anchor {T} {p} {r} {t} {w} {y} {x} {u} {names} {given} here skips stack same tok known a =
+    took_on here skips stack (subst (λ z. Takes (at.behind_anchor w y) p.stack z None (at.behind w (Some (written.anchored_tagged y x))) p.stack) (sym tok) (turn.anchor_tag w p.stack y x))
+    (ap (λ z. z.keeping) same) (subst (λ z. IsNamed z names) (sym same) a.code) (is_some_of (ap (option_map Some) known)) (λ b. (refl, ap is_end tok)) (ap gives_place tok) a
+
+pub anchor_behind_tag : {T : Type 0} {p r : Reader T} {t : Token} {w : places.Place} {y : List ℕ} {x : event.Tag} {u : event.Tag} {names : Names} {given : List (Ev × Place)}
+    → p.tokens.peeked ≡ Some t → Skips p.tokens t r.tokens → r.stack ≡ p.stack → r.names ≡ p.names → tok_of t.1 ≡ Tok.anchor y → resolved names.handles x ≡ Some u → At (at.behind_tag w x) p names given → At (at.behind w (Some (written.tagged_anchored x y))) r names given
+anchor_behind_tag {T} {p} {r} {t} {w} {y} {x} {u} {names} {given} here skips stack same tok known a =
+    took_on here skips stack (subst (λ z. Takes (at.behind_tag w x) p.stack z None (at.behind w (Some (written.tagged_anchored x y))) p.stack) (sym tok) (turn.tag_anchor w p.stack x y))
+    (ap (λ z. z.keeping) same) (subst (λ z. IsNamed z names) (sym same) a.code) (is_some_of (ap (option_map Some) known)) (λ b. (refl, ap is_end tok)) (ap gives_place tok) a
+
+content_unnameable : (keep : Bool) (s : Names) (w : places.Place) (o : Option written.Properties) (c : Option (ContentAt w)) (r : List Raw) → perhaps_resolved s.handles (perhaps_tag_of o) ≡ None → Unnameable keep s (perhaps_content_events w o c r)
+content_unnameable keep s w o None r h = unnameable_first keep s (Raw.empty_scalar (perhaps_anchor_of o) (perhaps_tag_of o)) r (ap (option_map (λ u. Ev.scalar [] Style.plain (number s (perhaps_anchor_of o)) u)) h)
+content_unnameable keep s place.Flow o (Some (scalar y v)) r h = unnameable_first keep s (Raw.scalar v y (perhaps_anchor_of o) (perhaps_tag_of o)) r (ap (option_map (λ u. Ev.scalar v y (number s (perhaps_anchor_of o)) u)) h)
+content_unnameable keep s place.Flow o (Some (flow_sequence i)) r h = unnameable_first keep s (Raw.flow_sequence_start (perhaps_anchor_of o) (perhaps_tag_of o)) (items_events i r) (ap (option_map (λ u. Ev.sequence_start (number s (perhaps_anchor_of o)) u)) h)
+content_unnameable keep s place.Flow o (Some (flow_mapping i)) r h = unnameable_first keep s (Raw.flow_mapping_start (perhaps_anchor_of o) (perhaps_tag_of o)) (flow_pairs_events i r) (ap (option_map (λ u. Ev.mapping_start (number s (perhaps_anchor_of o)) u)) h)
+content_unnameable keep s place.Block o (Some (flow (scalar y v))) r h = unnameable_first keep s (Raw.scalar v y (perhaps_anchor_of o) (perhaps_tag_of o)) r (ap (option_map (λ u. Ev.scalar v y (number s (perhaps_anchor_of o)) u)) h)
+content_unnameable keep s place.Block o (Some (flow (flow_sequence i))) r h = unnameable_first keep s (Raw.flow_sequence_start (perhaps_anchor_of o) (perhaps_tag_of o)) (items_events i r) (ap (option_map (λ u. Ev.sequence_start (number s (perhaps_anchor_of o)) u)) h)
+content_unnameable keep s place.Block o (Some (flow (flow_mapping i))) r h = unnameable_first keep s (Raw.flow_mapping_start (perhaps_anchor_of o) (perhaps_tag_of o)) (flow_pairs_events i r) (ap (option_map (λ u. Ev.mapping_start (number s (perhaps_anchor_of o)) u)) h)
+content_unnameable keep s place.Block o (Some (block_sequence i)) r h = unnameable_first keep s (Raw.sequence_start (perhaps_anchor_of o) (perhaps_tag_of o)) (entries_events i r) (ap (option_map (λ u. Ev.sequence_start (number s (perhaps_anchor_of o)) u)) h)
+content_unnameable keep s place.Block o (Some (block_mapping i)) r h = unnameable_first keep s (Raw.mapping_start (perhaps_anchor_of o) (perhaps_tag_of o)) (pairs_events i r) (ap (option_map (λ u. Ev.mapping_start (number s (perhaps_anchor_of o)) u)) h)
+content_unnameable keep s place.Part o (Some (part_content (flow (scalar y v)))) r h = unnameable_first keep s (Raw.scalar v y (perhaps_anchor_of o) (perhaps_tag_of o)) r (ap (option_map (λ u. Ev.scalar v y (number s (perhaps_anchor_of o)) u)) h)
+content_unnameable keep s place.Part o (Some (part_content (flow (flow_sequence i)))) r h = unnameable_first keep s (Raw.flow_sequence_start (perhaps_anchor_of o) (perhaps_tag_of o)) (items_events i r) (ap (option_map (λ u. Ev.sequence_start (number s (perhaps_anchor_of o)) u)) h)
+content_unnameable keep s place.Part o (Some (part_content (flow (flow_mapping i)))) r h = unnameable_first keep s (Raw.flow_mapping_start (perhaps_anchor_of o) (perhaps_tag_of o)) (flow_pairs_events i r) (ap (option_map (λ u. Ev.mapping_start (number s (perhaps_anchor_of o)) u)) h)
+content_unnameable keep s place.Part o (Some (part_content (block_sequence i))) r h = unnameable_first keep s (Raw.sequence_start (perhaps_anchor_of o) (perhaps_tag_of o)) (entries_events i r) (ap (option_map (λ u. Ev.sequence_start (number s (perhaps_anchor_of o)) u)) h)
+content_unnameable keep s place.Part o (Some (part_content (block_mapping i))) r h = unnameable_first keep s (Raw.mapping_start (perhaps_anchor_of o) (perhaps_tag_of o)) (pairs_events i r) (ap (option_map (λ u. Ev.mapping_start (number s (perhaps_anchor_of o)) u)) h)
+content_unnameable keep s place.Part o (Some (part_dashes q d)) r h = unnameable_first keep s (Raw.sequence_start (perhaps_anchor_of o) (perhaps_tag_of o)) (perhaps_events q (dashes_events d r)) (ap (option_map (λ u. Ev.sequence_start (number s (perhaps_anchor_of o)) u)) h)
+
+tag_and_tag : (x : event.Tag) (y : Option (List ℕ)) → perhaps_tag_of (Some (tag_and x y)) ≡ Some x
+tag_and_tag x None = refl
+tag_and_tag x (Some y) = refl
+
+pub tag_unknown : {T : Type 0} {p r : Reader T} {t : Token} {w : places.Place} {x : event.Tag} {names : Names} {given : List (Ev × Place)}
+    → p.tokens.peeked ≡ Some t → Skips p.tokens t r.tokens → r.names ≡ p.names → tok_of t.1 ≡ written.tag_token x → resolved names.handles x ≡ None → At (at.node w) p names given → IsStuck r given
+tag_unknown {T} {p} {r} {t} {w} {x} {names} {given} here skips same tok missing a =
+    unnamed here skips (ap (λ z. z.keeping) same) (subst (λ z. Takes (at.node w) p.stack z None (at.behind_tag w x) p.stack) (sym tok) (turn.node_tag w p.stack x))
+    (λ y z. content_unnameable p.names.keeping.tags names w (Some (tag_and x y.0)) y.1 (rest_events p.stack z) (ap (perhaps_resolved names.handles) (tag_and_tag x y.0) ∙ ap (option_map Some) missing)) a
+
+pub tag_unknown_behind : {T : Type 0} {p r : Reader T} {t : Token} {w : places.Place} {v : List ℕ} {x : event.Tag} {names : Names} {given : List (Ev × Place)}
+    → p.tokens.peeked ≡ Some t → Skips p.tokens t r.tokens → r.names ≡ p.names → tok_of t.1 ≡ written.tag_token x → resolved names.handles x ≡ None → At (at.behind_anchor w v) p names given → IsStuck r given
+tag_unknown_behind {T} {p} {r} {t} {w} {v} {x} {names} {given} here skips same tok missing a =
+    unnamed here skips (ap (λ z. z.keeping) same) (subst (λ z. Takes (at.behind_anchor w v) p.stack z None (at.behind w (Some (written.anchored_tagged v x))) p.stack) (sym tok) (turn.anchor_tag w p.stack v x))
+    (λ y z. content_unnameable p.names.keeping.tags names w (Some (written.anchored_tagged v x)) y.0 (rest_events p.stack z) (ap (option_map Some) missing)) a
+
+pub resolve_fails : {T : Type 0} (r : Reader T) (given : List (Ev × Place)) (names : Names) (t : event.Tag) (s : Stop) → Resolves names t (Err s) → (resolved names.handles t ≡ None → IsStuck r given) → Faulted r given s
+resolve_fails r given names t (stop.Own OutOfMemory) h f = tt
+resolve_fails r given names t (stop.Own (fault.At q m)) h f = f h
+resolve_fails r given names t stop.Scan h f = absurd h
+resolve_fails r given names t stop.Ended h f = absurd h

@@ -1,0 +1,244 @@
+-- The turns over the code's state.
+use Rattle.std.proofs.Common.{◌≡◌, List, [], ◌∷◌, ◌++◌, Option, Some, None, option_map, Bool, true, false, ◌||◌, Result, Ok, Err, refl, sym, ap, ◌∙◌, subst, append-nil, map}
+use Rattle.std.proofs.lemmas.Bool.{or_parts, both_ways}
+use Rattle.yaml_chars.specs.Place.{Place}
+use Rattle.token_defs.specs.Token as defs
+use Rattle.token_defs.specs.Token.{Tok, Style}
+use Rattle.yaml_tokens.specs.declared.token.Token.{Token}
+use Rattle.yaml_tokens.specs.Shown.{shown, all_shown, tok_of}
+use Rattle.yaml_scanner.specs.Scanned.{scanned}
+use Rattle.yaml_scanner.specs.Tokens.{is_end}
+use Rattle.event_defs.specs.Event.{Ev}
+use Rattle.event_defs.specs.Raw.{Raw}
+use Rattle.event_defs.specs.Names.{Names, no_names, named, both, behind, behind_all, resolved_event}
+use Rattle.event_defs.specs.Stream.{events_of, toks, given_places, has_place, gives_place}
+use Rattle.grammar_turns.specs.declared.kind.Kind.{Kind}
+use Rattle.grammar_turns.specs.declared.state.State.{State}
+use Rattle.grammar_turns.specs.Kinds.{kind_of}
+use Rattle.grammar_turns.specs.Goal.{Goal}
+use Rattle.grammar_turns.specs.Stands.{Stands}
+use Rattle.grammar_turns.specs.Turn.{Takes, Leaves}
+use Rattle.grammar_turns.proofs.Carry.{stands_take, stands_leave}
+use Rattle.yaml_parser.specs.declared.tokens.Tokens.{Tokens}
+use Rattle.yaml_parser.specs.declared.reader.Reader.{Reader}
+use Rattle.yaml_parser.specs.Ahead.{Skips}
+use Rattle.yaml_parser.specs.Handed.{taken_toks, peeked_tok, IsHanded, IsAwake, shown_list, ends}
+use Rattle.yaml_parser.specs.Kinds.{IsOfKind}
+use Rattle.yaml_parser.specs.Named.{IsNamed}
+use Rattle.std.specs.Result.{OnOk, IfErr}
+use Rattle.std.specs.Option.{IsSome, IfSome}
+use Rattle.yaml_parser.specs.declared.tokens.Next.{Next}
+use Rattle.yaml_parser.specs.declared.tokens.Stop.{Stop}
+use Rattle.yaml_parser.specs.declared.tokens.Stop.TheVariants as stop
+use Rattle.yaml_parser.proofs.Places.{IsPlaced, count_more, places_took, places_took_on, places_left}
+use Rattle.yaml_parser.specs.At.{At, is_over, names_at, IsPending, Faulted, Fails}
+
+-- ---- lists
+
+pub map_snoc : {A B : Type 0} (f : A → B) (xs : List A) (x : A) → map f (xs ++ x ∷ []) ≡ map f xs ++ f x ∷ []
+map_snoc f [] x = refl
+map_snoc f (y ∷ xs) x = ap (λ zs. f y ∷ zs) (map_snoc f xs x)
+
+taken_snoc : (ts : List Token) (t : Token) → toks (all_shown (ts ++ t ∷ [])) ≡ toks (all_shown ts) ++ tok_of t.1 ∷ []
+taken_snoc ts t = ap toks (map_snoc shown ts t) ∙ map_snoc (λ (x : defs.Token). x.tok) (all_shown ts) (shown t)
+
+pub behind_snoc : (keep : Bool) (s : Names) (es : List Raw) (e : Raw) → behind_all keep s (es ++ e ∷ []) ≡ behind keep (behind_all keep s es) e
+behind_snoc keep s [] e = refl
+behind_snoc keep s (x ∷ es) e = behind_snoc keep (behind keep s x) es e
+
+both_some : (o : Option Ev) (p : Option (List Ev)) (vs : List Ev) → both o p ≡ Some vs → (v : Ev) × (ws : List Ev) × (o ≡ Some v) × (p ≡ Some ws) × (vs ≡ v ∷ ws)
+both_some None p vs h = cc
+both_some (Some v) None vs h = cc
+both_some (Some v) (Some ws) vs h = (v, ws, refl, refl, cc)
+
+pub named_snoc : (keep : Bool) (s : Names) (es : List Raw) (e : Raw) (vs : List Ev) (v : Ev) → named keep s es ≡ Some vs → resolved_event (behind_all keep s es) e ≡ Some v → named keep s (es ++ e ∷ []) ≡ Some (vs ++ v ∷ [])
+named_snoc keep s [] e vs v h r =
+    let x : vs ≡ [] = cc in
+    ap (λ o. both o (Some [])) r ∙ ap (λ ws. Some (ws ++ v ∷ [])) (sym x)
+named_snoc keep s (x ∷ es) e vs v h r =
+    let b = both_some (resolved_event s x) (named keep (behind keep s x) es) vs h in
+    let i = named_snoc keep (behind keep s x) es e b.1 v b.3 r in
+    ap (λ o. both o (named keep (behind keep s x) (es ++ e ∷ []))) b.2 ∙ ap (λ p. both (Some b.0) p) i ∙ ap (λ ws. Some (ws ++ v ∷ [])) (sym b.4)
+
+-- ---- tokens
+
+pub looked : (k : Kind) (o : Option Token) → IsOfKind k o → (t : Token) × (o ≡ Some t) × (kind_of (tok_of t.1) ≡ k)
+looked k None h = absurd h
+looked k (Some t) h = (t, refl, h)
+
+stands_look : (g : Goal) (ss : List State) (taken : List Tok) (o : Option Tok) (given : List Raw) → Stands g ss taken None given → Stands g ss taken o given
+stands_look g ss taken o given s = record { nested = s.nested; fits = s.fits; sound = s.sound; exact = λ d ts h u. s.exact d ts h tt }
+
+skipped_handed : {T : Type 0} {p r : Tokens T} {t : Token} → p.peeked ≡ Some t → Skips p t r → IsHanded p → IsHanded r
+skipped_handed {T} {p} {r} {t} here s h =
+    ap (λ x. (scanned x).given) s.scanner ∙ h ∙ ap (λ o. all_shown p.taken.items ++ shown_list o) here
+    ∙ sym (map_snoc shown p.taken.items t) ∙ ap all_shown (sym s.taken)
+    ∙ sym (append-nil (all_shown r.taken.items)) ∙ ap (λ o. all_shown r.taken.items ++ shown_list o) (sym s.peeked)
+
+skipped_awake : {T : Type 0} {p r : Tokens T} {t : Token} → p.peeked ≡ Some t → Skips p t r → is_end (tok_of t.1) ≡ false → IsAwake p → IsAwake r
+skipped_awake {T} {p} {r} {t} here s e a =
+    ap (λ x. (scanned x).ended) s.scanner ∙ a ∙ ap ends here ∙ e ∙ ap ends (sym s.peeked)
+
+skipped_stands : {T : Type 0} {p r : Tokens T} {t : Token} {g g' : Goal} {ss ss' : List State} {raw raw' : List Raw}
+    → p.peeked ≡ Some t → Skips p t r → (Stands g ss (taken_toks p) (Some (tok_of t.1)) raw → Stands g' ss' (taken_toks p ++ tok_of t.1 ∷ []) None raw')
+    → Stands g ss (taken_toks p) (peeked_tok p) raw → Stands g' ss' (taken_toks r) (peeked_tok r) raw'
+skipped_stands {T} {p} {r} {t} {g} {g'} {ss} {ss'} {raw} {raw'} here s f h =
+    let one = f (subst (λ o. Stands g ss (taken_toks p) (option_map (λ (x : Token). tok_of x.1) o) raw) here h) in
+    let two = subst (λ ts. Stands g' ss' ts None raw') (sym (ap (λ xs. toks (all_shown xs)) s.taken ∙ taken_snoc p.taken.items t)) one in
+    subst (λ o. Stands g' ss' (taken_toks r) (option_map (λ (x : Token). tok_of x.1) o) raw') (sym s.peeked) two
+
+-- ---- one turn
+
+-- An event is given, and these names are behind it.
+pub record Named {T : Type 0} (p r : Reader T) (g' : Goal) (names : Names) (e : Raw) (v : Ev) (names' : Names) : Type 0 where
+  pub resolves : resolved_event names e ≡ Some v
+  pub behind_it : behind p.names.keeping.tags names e ≡ names'
+  pub keep : r.names.keeping ≡ p.names.keeping
+  pub code : IsNamed r.names (names_at r.names.keeping.tags g' names')
+  pub pending : IsPending names' g'
+
+events_more : {T : Type 0} (m : Place) {p r : Reader T} {g g' : Goal} {names names' : Names} {e : Raw} {v : Ev} {given : List (Ev × Place)}
+    → Named p r g' names e v names' → (a : At g p names given) → r.names.keeping.steady ≡ true
+    → (named r.names.keeping.tags no_names (a.raw ++ e ∷ []) ≡ Some (events_of (given ++ (v, m) ∷ []))) × (behind_all r.names.keeping.tags no_names (a.raw ++ e ∷ []) ≡ names')
+events_more {T} m {p} {r} {g} {g'} {names} {names'} {e} {v} {given} n a steady =
+    let keep = p.names.keeping.tags in
+    let before : p.names.keeping.steady ≡ true = ap (λ k. k.steady) (sym n.keep) ∙ steady in
+    let one : named keep no_names (a.raw ++ e ∷ []) ≡ Some (events_of given ++ v ∷ []) = named_snoc keep no_names a.raw e (events_of given) v (a.events before) (ap (λ s. resolved_event s e) (a.names_are before) ∙ n.resolves) in
+    let two : behind_all keep no_names (a.raw ++ e ∷ []) ≡ names' = behind_snoc keep no_names a.raw e ∙ ap (λ s. behind keep s e) (a.names_are before) ∙ n.behind_it in (
+      ap (λ k. named k.tags no_names (a.raw ++ e ∷ [])) n.keep ∙ one ∙ ap Some (sym (map_snoc (λ (x : Ev × Place). x.0) given (v, m))),
+      ap (λ k. behind_all k.tags no_names (a.raw ++ e ∷ [])) n.keep ∙ two,
+    )
+
+-- The token is taken, and an event is given.
+pub took : {T : Type 0} (m : Place) {g g' : Goal} {p r : Reader T} {t : Token} {ss' : List State} {e : Raw} {v : Ev} {names names' : Names} {given : List (Ev × Place)}
+    → p.tokens.peeked ≡ Some t → Skips p.tokens t r.tokens → r.stack ≡ ss' → Takes g p.stack (tok_of t.1) (Some e) g' ss'
+    → Named p r g' names e v names' → (is_over g' ≡ false → (is_over g ≡ false) × (is_end (tok_of t.1) ≡ false)) → IsPlaced e t m
+    → At g p names given → At g' r names' (given ++ (v, m) ∷ [])
+took {T} m {g} {g'} {p} {r} {t} {ss'} {e} {v} {names} {names'} {given} here s to turn n wakes spot a =
+    record {
+      raw = a.raw ++ e ∷ [];
+      stands = subst (λ ss. Stands g' ss (taken_toks r.tokens) (peeked_tok r.tokens) (a.raw ++ e ∷ [])) (sym to)
+          (skipped_stands here s (stands_take g p.stack (tok_of t.1) (Some e) g' ss' (taken_toks p.tokens) a.raw turn) a.stands);
+      handed = skipped_handed here s a.handed;
+      awake = λ o. skipped_awake here s (wakes o).1 (a.awake (wakes o).0);
+      over = λ o. s.peeked;
+      count = count_more m a.raw e v given a.count;
+      places = places_took m a.raw e v given p.tokens.taken.items t r.tokens.taken.items s.taken a.count spot a.places;
+      events = λ b. (events_more m n a b).0;
+      names_are = λ b. (events_more m n a b).1;
+      code = n.code;
+      pending = n.pending;
+    }
+
+-- The token is taken, and no event is given.
+pub took_on : {T : Type 0} {g g' : Goal} {p r : Reader T} {t : Token} {ss' : List State} {names : Names} {given : List (Ev × Place)}
+    → p.tokens.peeked ≡ Some t → Skips p.tokens t r.tokens → r.stack ≡ ss' → Takes g p.stack (tok_of t.1) None g' ss'
+    → r.names.keeping ≡ p.names.keeping → IsNamed r.names (names_at r.names.keeping.tags g' names) → IsPending names g' → (is_over g' ≡ false → (is_over g ≡ false) × (is_end (tok_of t.1) ≡ false)) → gives_place (tok_of t.1) ≡ false
+    → At g p names given → At g' r names given
+took_on {T} {g} {g'} {p} {r} {t} {ss'} {names} {given} here s to turn keep code pending wakes spot a =
+    record {
+      raw = a.raw;
+      stands = subst (λ ss. Stands g' ss (taken_toks r.tokens) (peeked_tok r.tokens) a.raw) (sym to)
+          (skipped_stands here s (stands_take g p.stack (tok_of t.1) None g' ss' (taken_toks p.tokens) a.raw turn) a.stands);
+      handed = skipped_handed here s a.handed;
+      awake = λ o. skipped_awake here s (wakes o).1 (a.awake (wakes o).0);
+      over = λ o. s.peeked;
+      count = a.count;
+      places = places_took_on a.raw given p.tokens.taken.items t r.tokens.taken.items s.taken spot a.places;
+      events = λ b. ap (λ k. named k.tags no_names a.raw) keep ∙ a.events (ap (λ k. k.steady) (sym keep) ∙ b);
+      names_are = λ b. ap (λ k. behind_all k.tags no_names a.raw) keep ∙ a.names_are (ap (λ k. k.steady) (sym keep) ∙ b);
+      code = code;
+      pending = pending;
+    }
+
+-- The token stays, and an event is given.
+pub left : {T : Type 0} (m : Place) {g g' : Goal} {p r : Reader T} {o : Option Tok} {ss' : List State} {e : Raw} {v : Ev} {names names' : Names} {given : List (Ev × Place)}
+    → peeked_tok p.tokens ≡ o → r.tokens ≡ p.tokens → r.stack ≡ ss' → Leaves g p.stack o (Some e) g' ss'
+    → Named p r g' names e v names' → (is_over g || is_over g') ≡ false → has_place e ≡ false
+    → At g p names given → At g' r names' (given ++ (v, m) ∷ [])
+left {T} m {g} {g'} {p} {r} {o} {ss'} {e} {v} {names} {names'} {given} here same to turn n wakes spot a =
+    let one = stands_leave g p.stack o (Some e) g' ss' (taken_toks p.tokens) a.raw turn (subst (λ x. Stands g p.stack (taken_toks p.tokens) x a.raw) here a.stands) in
+    let two : Stands g' ss' (taken_toks p.tokens) (peeked_tok p.tokens) (a.raw ++ e ∷ []) = subst (λ x. Stands g' ss' (taken_toks p.tokens) x (a.raw ++ e ∷ [])) (sym here) one in
+    let three : Stands g' r.stack (taken_toks p.tokens) (peeked_tok p.tokens) (a.raw ++ e ∷ []) = subst (λ ss. Stands g' ss (taken_toks p.tokens) (peeked_tok p.tokens) (a.raw ++ e ∷ [])) (sym to) two in
+    record {
+      raw = a.raw ++ e ∷ [];
+      stands = subst (λ x. Stands g' r.stack (taken_toks x) (peeked_tok x) (a.raw ++ e ∷ [])) (sym same) three;
+      handed = subst IsHanded (sym same) a.handed;
+      awake = λ w. subst IsAwake (sym same) (a.awake (or_parts (is_over g) (is_over g') wakes).0);
+      over = λ w. absurd (both_ways (is_over g') (or_parts (is_over g) (is_over g') wakes).1 w);
+      count = count_more m a.raw e v given a.count;
+      places = places_left m a.raw e v given (all_shown p.tokens.taken.items) (all_shown r.tokens.taken.items) (ap (λ x. all_shown x.taken.items) same) a.count spot a.places;
+      events = λ b. (events_more m n a b).0;
+      names_are = λ b. (events_more m n a b).1;
+      code = n.code;
+      pending = n.pending;
+    }
+
+-- The token stays, and no event is given; the code's names may change.
+pub left_as : {T : Type 0} {g g' : Goal} {p r : Reader T} {o : Option Tok} {ss' : List State} {names : Names} {given : List (Ev × Place)}
+    → peeked_tok p.tokens ≡ o → r.tokens ≡ p.tokens → r.stack ≡ ss' → Leaves g p.stack o None g' ss'
+    → r.names.keeping ≡ p.names.keeping → IsNamed r.names (names_at r.names.keeping.tags g' names) → IsPending names g' → (is_over g || is_over g') ≡ false
+    → At g p names given → At g' r names given
+left_as {T} {g} {g'} {p} {r} {o} {ss'} {names} {given} here same to turn keep code pending wakes a =
+    let one = stands_leave g p.stack o None g' ss' (taken_toks p.tokens) a.raw turn (subst (λ x. Stands g p.stack (taken_toks p.tokens) x a.raw) here a.stands) in
+    let two : Stands g' ss' (taken_toks p.tokens) (peeked_tok p.tokens) a.raw = subst (λ x. Stands g' ss' (taken_toks p.tokens) x a.raw) (sym here) one in
+    let three : Stands g' r.stack (taken_toks p.tokens) (peeked_tok p.tokens) a.raw = subst (λ ss. Stands g' ss (taken_toks p.tokens) (peeked_tok p.tokens) a.raw) (sym to) two in
+    record {
+      raw = a.raw;
+      stands = subst (λ x. Stands g' r.stack (taken_toks x) (peeked_tok x) a.raw) (sym same) three;
+      handed = subst IsHanded (sym same) a.handed;
+      awake = λ w. subst IsAwake (sym same) (a.awake (or_parts (is_over g) (is_over g') wakes).0);
+      over = λ w. absurd (both_ways (is_over g') (or_parts (is_over g) (is_over g') wakes).1 w);
+      count = a.count;
+      places = a.places ∙ sym (ap (λ x. given_places (all_shown x.taken.items)) same);
+      events = λ b. ap (λ k. named k.tags no_names a.raw) keep ∙ a.events (ap (λ k. k.steady) (sym keep) ∙ b);
+      names_are = λ b. ap (λ k. behind_all k.tags no_names a.raw) keep ∙ a.names_are (ap (λ k. k.steady) (sym keep) ∙ b);
+      code = code;
+      pending = pending;
+    }
+
+-- The token stays, no event is given, and the code's names stay.
+pub left_on : {T : Type 0} {g g' : Goal} {p r : Reader T} {o : Option Tok} {ss' : List State} {names : Names} {given : List (Ev × Place)}
+    → peeked_tok p.tokens ≡ o → r.tokens ≡ p.tokens → r.stack ≡ ss' → Leaves g p.stack o None g' ss'
+    → r.names ≡ p.names → names_at p.names.keeping.tags g' names ≡ names_at p.names.keeping.tags g names → IsPending names g' → (is_over g || is_over g') ≡ false
+    → At g p names given → At g' r names given
+left_on {T} {g} {g'} {p} {r} {o} {ss'} {names} {given} here same to turn names_same seen pending wakes a =
+    left_as here same to turn (ap (λ n. n.keeping) names_same)
+    (subst (λ n. IsNamed n (names_at n.keeping.tags g' names)) (sym names_same) (subst (IsNamed p.names) (sym seen) a.code)) pending wakes a
+
+-- ---- a look
+
+look_peeked : (g : Goal) (ss : List State) (taken : List Tok) (o q : Option Token) (raw : List Raw) → ((t : Token) → o ≡ Some t → q ≡ Some t)
+    → Stands g ss taken (option_map (λ (x : Token). tok_of x.1) o) raw → Stands g ss taken (option_map (λ (x : Token). tok_of x.1) q) raw
+look_peeked g ss taken None q raw f s = stands_look g ss taken _ raw s
+look_peeked g ss taken (Some t) q raw f s = subst (λ x. Stands g ss taken (option_map (λ (y : Token). tok_of y.1) x) raw) (sym (f t refl)) s
+
+pub looks_on : {T : Type 0} {p r : Reader T} → r.tokens.taken ≡ p.tokens.taken → ((t : Token) → p.tokens.peeked ≡ Some t → r.tokens.peeked ≡ Some t) → (IsHanded p.tokens → IsHanded r.tokens) → (IsAwake p.tokens → IsAwake r.tokens)
+    → r.stack ≡ p.stack → r.names ≡ p.names → {g : Goal} {names : Names} {given : List (Ev × Place)} → is_over g ≡ false → At g p names given → At g r names given
+looks_on {T} {p} {r} taken same handed awake stack names_same {g} {names} {given} going a =
+    let one : Stands g p.stack (taken_toks r.tokens) (peeked_tok p.tokens) a.raw = subst (λ ts. Stands g p.stack (toks (all_shown ts)) (peeked_tok p.tokens) a.raw) (ap (λ x. x.items) (sym taken)) a.stands in
+    record {
+      raw = a.raw;
+      stands = subst (λ ss. Stands g ss (taken_toks r.tokens) (peeked_tok r.tokens) a.raw) (sym stack) (look_peeked g p.stack (taken_toks r.tokens) p.tokens.peeked r.tokens.peeked a.raw same one);
+      handed = handed a.handed;
+      awake = λ o. awake (a.awake o);
+      over = λ o. absurd (both_ways (is_over g) going o);
+      count = a.count;
+      places = a.places ∙ sym (ap (λ x. given_places (all_shown x.items)) taken);
+      events = λ b. ap (λ n. named n.keeping.tags no_names a.raw) names_same ∙ a.events (ap (λ n. n.keeping.steady) (sym names_same) ∙ b);
+      names_are = λ b. ap (λ n. behind_all n.keeping.tags no_names a.raw) names_same ∙ a.names_are (ap (λ n. n.keeping.steady) (sym names_same) ∙ b);
+      code = subst (λ n. IsNamed n (names_at n.keeping.tags g names)) (sym names_same) a.code;
+      pending = a.pending;
+    }
+
+pub on_ok_map : {A E P Q : Type 0} (r : Result A E) → (P → Q) → OnOk r P → OnOk r Q
+on_ok_map (Ok x) f h = f h
+on_ok_map (Err e) f h = h
+
+pub look_fails : {T : Type 0} (p r : Reader T) (x : Result Next Stop) → (IsAwake p.tokens → IfErr x (λ s. (s ≡ stop.Scan) × IsSome (scanned r.tokens.scanner).fault))
+    → IfErr x (λ s. (g : Goal) → is_over g ≡ false → Fails g p r s)
+look_fails {T} p r (Ok n) h = tt
+look_fails {T} p r (Err s) h = λ g o names given a. let k = h (a.awake o) in subst (Faulted r given) (sym k.0) k.1
+
+pub if_some_at : {A : Type 0} (P : A → Type 0) {o : Option A} → IfSome o P → {x : A} → o ≡ Some x → P x
+if_some_at {A} P {o} h {x} e = subst (λ y. IfSome y P) e h

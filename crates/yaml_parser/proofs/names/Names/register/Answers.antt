@@ -1,0 +1,20 @@
+use Rattle.std.proofs.Common.{◌≡◌, ◌+◌, Some, option_map, sym, ap, subst, ◌∙◌, if◌then◌else◌, arith}
+use Rattle.std.proofs.lemmas.Grind.{common_steps}
+use Rattle.std.specs.Prelude.{bytes_eq, string_bytes}
+use Rattle.std.specs.BTreeMap.{get_by_text}
+use Rattle.yaml_chars.specs.Text.{string_chars}
+use Rattle.event_defs.specs.Names.{with_anchor}
+use Rattle.yaml_parser.specs.Named.{IsNamed}
+use Rattle.yaml_parser.proofs.names.Names.register.Goals as goal
+
+pub returns-clause-named : goal.returns-clause-named
+returns-clause-named c = λ names n.
+    let one : c.in-Some-checked_add.number ≡ c.args.self.now.count + 1 = grind (arith, common_steps) in
+    let num : c.in-Some-checked_add.number ≡ names.count + 1 = one ∙ ap (λ m. m + 1) n.count in
+    subst (λ o. IsNamed (record c.args.self.now { count = c.in-Some-checked_add.number; anchors = c.put.new.map }) (with_anchor names (option_map string_chars o))) (sym c.in-Some.is) (record {
+      count = num;
+      anchors = λ x. c.in_ok-put.ensures x
+          ∙ ap (λ m. if bytes_eq (string_chars x) (string_chars c.in-Some.name) then Some m else get_by_text c.args.self.now.anchors (string_bytes x)) num
+          ∙ ap (λ o. if bytes_eq (string_chars x) (string_chars c.in-Some.name) then Some (names.count + 1) else o) (n.anchors x);
+      handles = n.handles;
+    })

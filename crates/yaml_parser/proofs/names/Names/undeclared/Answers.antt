@@ -1,0 +1,21 @@
+use Rattle.std.proofs.Common.{refl, sym, ap, ◌∙◌, Some}
+use Rattle.std.specs.Prelude.{bytes_eq, codes}
+use Rattle.yaml_chars.specs.Text.{string_chars}
+use Rattle.yaml_parser.proofs.NameLemmas.{undeclared_secondary, undeclared_primary, undeclared_other, secondary_is, primary_is, core_is}
+use Rattle.yaml_parser.proofs.names.Names.undeclared.Goals as goal
+
+pub returns-then-eq : goal.returns-then-eq
+returns-then-eq c =
+    (undeclared_secondary (string_chars c.args.handle) (sym (secondary_is c.args.handle) ∙ sym (ap (λ u. bytes_eq u (codes "!!")) c.as_str.ensures.value) ∙ sym c.eq.ensures ∙ c.if-eq.true) ∙ ap Some (sym (core_is c.in_ok-handle.handle c.in_ok-handle.ensures.ok)), refl)
+
+pub returns-then-eq-2 : goal.returns-then-eq-2
+returns-then-eq-2 c = (
+  undeclared_primary (string_chars c.args.handle) (sym (secondary_is c.args.handle) ∙ sym (ap (λ u. bytes_eq u (codes "!!")) c.as_str.ensures.value) ∙ sym c.eq.ensures ∙ c.if-eq.false)
+      (sym (primary_is c.args.handle) ∙ sym (ap (λ u. bytes_eq u (codes "!")) c.as_str-2.ensures.value) ∙ sym c.eq-2.ensures ∙ c.if-eq-2.true),
+  refl,
+)
+
+pub returns : goal.returns
+returns c =
+    undeclared_other (string_chars c.args.handle) (sym (secondary_is c.args.handle) ∙ sym (ap (λ u. bytes_eq u (codes "!!")) c.as_str.ensures.value) ∙ sym c.eq.ensures ∙ c.if-eq.false)
+    (sym (primary_is c.args.handle) ∙ sym (ap (λ u. bytes_eq u (codes "!")) c.as_str-2.ensures.value) ∙ sym c.eq-2.ensures ∙ c.if-eq-2.false)

@@ -1,0 +1,18 @@
+use Rattle.std.proofs.Common.{refl}
+use Rattle.grammar_turns.specs.Goal as at
+use Rattle.grammar_turns.proofs.Flow as turn
+use Rattle.yaml_parser.proofs.Arms.{gives, goes, plain, answers_err, not_as}
+use Rattle.yaml_parser.proofs.Ends.{refuses}
+use Rattle.yaml_parser.proofs.reader.Reader.flow_mapping_key.Goals as goal
+
+pub returns-in_err-next-clause-answers : goal.returns-in_err-next-clause-answers
+returns-in_err-next-clause-answers g c = λ names given h. answers_err c.peek.new.self given c.from_residual.result _ c.from_residual.ensures.1 (c.in_err-next.ensures.err at.more_flow_pairs refl names given h)
+
+pub returns-in-FlowMappingEnd-clause-answers : goal.returns-in-FlowMappingEnd-clause-answers
+returns-in-FlowMappingEnd-clause-answers g c = λ names given h. gives _ c.in_ok-next.ensures.peeked c.in-FlowMappingEnd.is refl c.skip.ensures.took (turn.more_flow_end _) (plain refl refl refl refl) refl refl (c.in_ok-next.ensures.at at.more_flow_pairs refl names given h)
+
+pub returns-in-FlowEntry-clause-answers : goal.returns-in-FlowEntry-clause-answers
+returns-in-FlowEntry-clause-answers g c = λ names given h. c.flow_mapping_next.ensures.answers names given (goes c.in_ok-next.ensures.peeked c.in-FlowEntry.is refl c.skip-in-FlowEntry.ensures.took (turn.more_flow_comma _) refl tt refl refl (c.in_ok-next.ensures.at at.more_flow_pairs refl names given h))
+
+pub returns-in_default-clause-answers : goal.returns-in_default-clause-answers
+returns-in_default-clause-answers g c = λ names given h. refuses c.in_ok-next.ensures.peeked (λ t e. turn.more_flow_refuses _ t (not_as c.in_default.not-FlowMappingEnd e) (not_as c.in_default.not-FlowEntry e)) (c.in_ok-next.ensures.at at.more_flow_pairs refl names given h)

@@ -1,0 +1,17 @@
+use Rattle.std.proofs.Common.{◌≡◌, refl, false}
+use Rattle.grammar_turns.specs.declared.place.Place.TheVariants as place
+use Rattle.grammar_turns.specs.Kinds.{begins_node, ends_flow_pair}
+use Rattle.grammar_turns.specs.Goal as at
+use Rattle.grammar_turns.proofs.First as first
+use Rattle.grammar_turns.proofs.Flow as turn
+use Rattle.yaml_parser.proofs.Arms.{leaves, stays, plain, stay, stay_push, answers_written, answers_err, either, as_kind}
+use Rattle.yaml_parser.proofs.reader.Reader.flow_mapping_valued.Goals as goal
+
+pub returns-in_err-next-clause-answers : goal.returns-in_err-next-clause-answers
+returns-in_err-next-clause-answers g c = λ names given h. answers_err c.peek.new.self given c.from_residual.result _ c.from_residual.ensures.1 (c.in_err-next.ensures.err at.flow_valued refl names given h)
+
+pub returns-in-FlowEntry-clause-answers : goal.returns-in-FlowEntry-clause-answers
+returns-in-FlowEntry-clause-answers g c = λ names given h. answers_written c.push.new.self given c.nothing_written.result c.nothing_written.ensures (leaves _ c.in_ok-next.ensures.peeked (stay_push stay c.in_ok-push.ensures.stayed) (λ t e. turn.flow_valued_empty _ t (as_kind (begins_node place.Flow) (either (λ k. begins_node place.Flow k ≡ false) refl refl c.in-FlowEntry.is) e)) (plain refl refl refl refl) refl (c.in_ok-next.ensures.at at.flow_valued refl names given h))
+
+pub returns-in_default-clause-answers : goal.returns-in_default-clause-answers
+returns-in_default-clause-answers g c = λ names given h. c.node.ensures.answers names given (stays c.in_ok-next.ensures.peeked (stay_push stay c.in_ok-push.ensures.stayed) (λ t e. turn.flow_valued_node _ t (as_kind ends_flow_pair (first.not_flow_pair _ c.in_default.not-FlowEntry c.in_default.not-FlowMappingEnd) e)) refl tt refl (c.in_ok-next.ensures.at at.flow_valued refl names given h))

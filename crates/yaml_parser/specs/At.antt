@@ -1,0 +1,108 @@
+-- Where the productions stand.
+use Rattle.std.specs.Prelude.{◌≡◌, length, List, [], ◌∷◌, ◌++◌, Bool, true, false, Some, None, IsSome, Result, Ok, Err}
+use Rattle.yaml_chars.specs.Place.{Place}
+use Rattle.token_defs.specs.Token as defs
+use Rattle.token_defs.specs.Token.{Tok}
+use Rattle.yaml_tokens.specs.declared.token.Token.{Token}
+use Rattle.yaml_tokens.specs.declared.problem.Fault.TheVariants.{OutOfMemory}
+use Rattle.yaml_tokens.specs.declared.problem.Fault.TheVariants as fault
+use Rattle.yaml_tokens.specs.Shown.{all_shown}
+use Rattle.yaml_scanner.specs.Scanned.{scanned}
+use Rattle.event_defs.specs.Event.{Ev}
+use Rattle.event_defs.specs.Raw.{Raw}
+use Rattle.event_defs.specs.Grammar.{tag_of}
+use Rattle.event_defs.specs.Names.{Names, no_names, named, behind_all, at_document, are_allowed, resolved, perhaps_resolved}
+use Rattle.event_defs.specs.Stream.{BeginsPlaced, NoneBegins, events_of, places_of, taken_places, given_places, toks}
+use Rattle.grammar_turns.specs.Goal as at
+use Rattle.grammar_turns.specs.Goal.{Goal}
+use Rattle.grammar_turns.specs.Stands.{Stands}
+use Rattle.grammar_turns.specs.declared.state.State.{State}
+use Rattle.yaml_parser.specs.declared.event.Event.{Event}
+use Rattle.yaml_parser.specs.declared.tokens.Stop.{Stop}
+use Rattle.yaml_parser.specs.declared.tokens.Stop.TheVariants as stop
+use Rattle.yaml_parser.specs.declared.reader.Reader.{Reader}
+use Rattle.yaml_parser.specs.Ahead.{Skips}
+use Rattle.yaml_parser.specs.Handed.{taken_toks, peeked_tok, IsHanded, IsAwake}
+use Rattle.yaml_parser.specs.Named.{IsNamed}
+use Rattle.yaml_parser.specs.Shown.{placed, ev_of}
+
+abbrev pub is_over : Goal → Bool
+is_over at.ended = true
+is_over _ = false
+
+-- ---- names
+
+-- the names that are kept where this is read: directives count as soon as they are read
+abbrev pub names_at : Bool → Goal → Names → Names
+names_at keep (at.directed ds) names = at_document keep names ds
+names_at keep g names = names
+
+-- What was read and is not yet given can be resolved.
+abbrev pub IsPending : Names → Goal → Type 0
+IsPending names (at.directed ds) = are_allowed ds ≡ true
+IsPending names (at.behind_tag p t) = IsSome (resolved names.handles t)
+IsPending names (at.behind p (Some o)) = IsSome (perhaps_resolved names.handles (tag_of o))
+IsPending names g = Unit {0}
+
+-- ---- productions
+
+-- It reads this production; these events were given, and these are the names behind them.
+pub record At {T : Type 0} (g : Goal) (p : Reader T) (names : Names) (given : List (Ev × Place)) : Type 0 where
+  pub raw : List Raw
+  pub stands : Stands g p.stack (taken_toks p.tokens) (peeked_tok p.tokens) raw
+  pub handed : IsHanded p.tokens
+  pub awake : is_over g ≡ false → IsAwake p.tokens
+  pub over : is_over g ≡ true → p.tokens.peeked ≡ None
+  pub count : length raw ≡ length given
+  pub places : taken_places raw (places_of given) ≡ given_places (all_shown p.tokens.taken.items)
+  pub events : p.names.keeping.steady ≡ true → named p.names.keeping.tags no_names raw ≡ Some (events_of given)
+  pub names_are : p.names.keeping.steady ≡ true → behind_all p.names.keeping.tags no_names raw ≡ names
+  pub code : IsNamed p.names (names_at p.names.keeping.tags g names)
+  pub pending : IsPending names g
+
+-- The last token was refused.
+pub record IsStuck {T : Type 0} (p : Reader T) (given : List (Ev × Place)) : Type 0 where
+  pub before : List defs.Token
+  pub last : defs.Token
+  pub handed : (scanned p.tokens.scanner).given ≡ before ++ last ∷ []
+  pub begins : p.names.keeping.steady ≡ true → BeginsPlaced p.names.keeping.tags before given
+  pub none : p.names.keeping.steady ≡ true → NoneBegins p.names.keeping.tags (toks (scanned p.tokens.scanner).given)
+
+abbrev pub Faulted : {T : Type 0} → Reader T → List (Ev × Place) → Stop → Type 0
+Faulted p given (stop.Own OutOfMemory) = Unit {0}
+Faulted p given (stop.Own (fault.At problem mark)) = IsStuck p given
+Faulted p given stop.Scan = IsSome (scanned p.tokens.scanner).fault
+Faulted p given stop.Ended = ⊥
+
+abbrev pub goal_behind : Ev → Goal
+goal_behind Ev.stream_end = at.ended
+goal_behind _ = at.done
+
+-- An event more, or a fault.
+abbrev pub Answers : {T : Type 0} → Reader T → List (Ev × Place) → Result (Event × Place) Stop → Type 0
+Answers p given (Ok e) = (names : Names) × At (goal_behind (ev_of e.0)) p names (given ++ placed e ∷ [])
+Answers p given (Err s) = Faulted p given s
+
+-- what a production comes to
+abbrev pub Reads : {T : Type 0} → Goal → Reader T → Reader T → Result (Event × Place) Stop → Type 0
+Reads g old new result = (names : Names) (given : List (Ev × Place)) → At g old names given → Answers new given result
+
+abbrev pub Carries : {T : Type 0} → Goal → Reader T → Reader T → Type 0
+Carries g old new = (names : Names) (given : List (Ev × Place)) → At g old names given → At g new names given
+
+abbrev pub Fails : {T : Type 0} → Goal → Reader T → Reader T → Stop → Type 0
+Fails g old new s = (names : Names) (given : List (Ev × Place)) → At g old names given → Faulted new given s
+
+-- ---- steps
+
+-- The token that was looked at was taken.
+pub record Took {T : Type 0} (old : Reader T) (t : Token) (new : Reader T) (states : List State) : Type 0 where
+  pub tokens : Skips old.tokens t new.tokens
+  pub stack : new.stack ≡ states
+  pub names : new.names ≡ old.names
+
+-- No token was taken.
+pub record Stayed {T : Type 0} (old new : Reader T) (states : List State) : Type 0 where
+  pub tokens : new.tokens ≡ old.tokens
+  pub stack : new.stack ≡ states
+  pub names : new.names ≡ old.names

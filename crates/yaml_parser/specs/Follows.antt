@@ -1,0 +1,37 @@
+-- What the tokens that were taken say of the events, and of a fault.
+use Rattle.std.specs.Prelude.{◌≡◌, ◌⊎◌, List, [], ◌∷◌, ◌++◌, true, Option, Some, None}
+use Rattle.token_defs.specs.Token.{Tok, Token}
+use Rattle.yaml_tokens.specs.Fault.{Fault}
+use Rattle.event_defs.specs.Event.{Ev}
+use Rattle.event_defs.specs.Stream.{IsStream, IsPlacedStream, BeginsPlaced, Foretells, NoneBegins, toks, events_of}
+use Rattle.yaml_parser.specs.Parsed.{Parsed, read}
+
+abbrev pub listed : Option Token → List Token
+listed None = []
+listed (Some t) = t ∷ []
+
+-- The tokens taken are some before and at most one more. A stream begins with those before and with the events read, and
+-- each stream that begins with the tokens taken begins with the events read.
+pub record Follows (p : Parsed) : Type 0 where
+  pub before : List Token
+  pub last : Option Token
+  pub tokens : p.scanner.given ≡ before ++ listed last
+  pub begins : BeginsPlaced p.keep_tags before (read p)
+  pub only : Foretells p.keep_tags (toks p.scanner.given) (events_of (read p))
+
+-- The tokens taken are some before and the last. A stream begins with those before and with the events read, and none with all.
+pub record Refused (p : Parsed) : Type 0 where
+  pub before : List Token
+  pub last : Token
+  pub tokens : p.scanner.given ≡ before ++ last ∷ []
+  pub begins : BeginsPlaced p.keep_tags before (read p)
+  pub none : NoneBegins p.keep_tags (toks p.scanner.given)
+
+-- The tokens taken are a stream, whose events were read, and none goes on behind it.
+pub record IsWhole (p : Parsed) : Type 0 where
+  pub stream : IsPlacedStream p.keep_tags p.scanner.given (read p)
+  pub only : (ts : List Tok) (es : List Ev) → IsStream p.keep_tags (toks p.scanner.given ++ ts) es → (ts ≡ []) × (es ≡ events_of (read p))
+
+-- Why a fault comes: it is the scanner's, or memory was refused, or the last token is refused.
+abbrev pub Explains : Fault → Parsed → Type 0
+Explains f p = (p.scanner.fault ≡ Some f) ⊎ ((f.memory ≡ true) ⊎ (p.steady ≡ true → Refused p))

@@ -1,0 +1,32 @@
+-- The tokens of a parser, and those that its scanner handed out.
+use Rattle.std.specs.Prelude.{◌≡◌, List, [], ◌∷◌, ◌++◌, Bool, false, Option, Some, None, option_map}
+use Rattle.token_defs.specs.Token as defs
+use Rattle.token_defs.specs.Token.{Tok}
+use Rattle.yaml_tokens.specs.declared.token.Token.{Token}
+use Rattle.yaml_tokens.specs.Shown.{shown, all_shown, tok_of}
+use Rattle.yaml_scanner.specs.Scanned.{scanned}
+use Rattle.yaml_scanner.specs.Tokens.{is_end}
+use Rattle.event_defs.specs.Stream.{toks}
+use Rattle.yaml_parser.specs.declared.tokens.Tokens.{Tokens}
+
+abbrev pub shown_list : Option Token → List defs.Token
+shown_list None = []
+shown_list (Some t) = shown t ∷ []
+
+abbrev pub taken_toks : {T : Type 0} → Tokens T → List Tok
+taken_toks p = toks (all_shown p.taken.items)
+
+abbrev pub peeked_tok : {T : Type 0} → Tokens T → Option Tok
+peeked_tok p = option_map (λ (t : Token). tok_of t.1) p.peeked
+
+-- The scanner handed out what was taken, and what was looked at.
+abbrev pub IsHanded : {T : Type 0} → Tokens T → Type 0
+IsHanded p = (scanned p.scanner).given ≡ all_shown p.taken.items ++ shown_list p.peeked
+
+abbrev pub ends : Option Token → Bool
+ends None = false
+ends (Some t) = is_end (tok_of t.1)
+
+-- The stream's end was handed out only if it was looked at and waits.
+abbrev pub IsAwake : {T : Type 0} → Tokens T → Type 0
+IsAwake p = (scanned p.scanner).ended ≡ ends p.peeked

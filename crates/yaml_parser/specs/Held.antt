@@ -1,0 +1,41 @@
+-- What is known between two calls.
+use Rattle.std.specs.Prelude.{◌≡◌, ◌⊎◌, ◌<◌, List, [], ◌∷◌, ◌++◌, Bool, true, false, Option, Some, None, IsSome, IfSome, Result, Ok, Err}
+use Rattle.yaml_chars.specs.Place.{Place}
+use Rattle.yaml_tokens.specs.Fault.{Fault}
+use Rattle.event_defs.specs.Event.{Ev}
+use Rattle.event_defs.specs.Names.{Names}
+use Rattle.grammar_turns.specs.Goal as at
+use Rattle.grammar_turns.specs.Goal.{Goal}
+use Rattle.yaml_parser.specs.declared.event.Event.{Event}
+use Rattle.yaml_parser.specs.declared.tokens.Kept.{Kept}
+use Rattle.yaml_parser.specs.declared.pull.Pull.{Pull}
+use Rattle.yaml_parser.specs.declared.reader.Reader.{Reader}
+use Rattle.yaml_parser.specs.Parsed.{has_end, read_so}
+use Rattle.yaml_parser.specs.Shown.{placed, ev_of}
+use Rattle.yaml_parser.specs.Work.{work}
+use Rattle.yaml_parser.specs.At.{At, Faulted}
+
+abbrev pub goal_after : Bool → Goal
+goal_after true = at.ended
+goal_after false = at.done
+
+-- These events were read, and the reader stands behind them; or a fault was met there.
+abbrev pub IsHeld : {T : Type 0} → Reader T → List (Ev × Place) → Option Kept → Type 0
+IsHeld p read None = (names : Names) × At (goal_after (has_end read)) p names read
+IsHeld p read (Some k) = (has_end read ≡ false) × Faulted p read k.stop
+
+-- An event more is read; the stream's end comes again, and nothing changes; or a fault is met.
+abbrev pub Continues : {T : Type 0} → Pull T → List (Ev × Place) → Result (Event × Place) Fault → Pull T → Type 0
+Continues old read (Ok e) new =
+    (old.kept ≡ None) × (new.kept ≡ None)
+    × (((has_end read ≡ true) × (new ≡ old) × (ev_of e.0 ≡ Ev.stream_end))
+    ⊎ ((has_end read ≡ false) × (work new.reader < work old.reader) × IsHeld new.reader (read ++ placed e ∷ []) None))
+Continues old read (Err f) new = IsHeld new.reader read new.kept
+
+-- What is known of a parser.
+pub record Holds {T : Type 0} (pull : Pull T) (given : List (Ev × Place)) (ahead : Option (Ev × Place)) (started ended : Bool) (misplaced : Option Place) : Type 0 where
+  pub held : IsHeld pull.reader (read_so given ended ahead) pull.kept
+  pub first : started ≡ false → given ≡ []
+  pub end : ended ≡ has_end given
+  pub clear : IsSome ahead → (pull.kept ≡ None) × (misplaced ≡ None)
+  pub over : ended ≡ true → (pull.kept ≡ None) × (misplaced ≡ None) × IfSome ahead (λ e. e.0 ≡ Ev.stream_end)

@@ -1,0 +1,46 @@
+-- The properties of a node in the code, and those that were written.
+use Rattle.std.specs.Prelude.{◌≡◌, ℕ, List, Option, Some, None, option_map, is_some, Result}
+use Rattle.yaml_chars.specs.Place as chars
+use Rattle.yaml_chars.specs.Text.{string_chars}
+use Rattle.event_defs.specs.Event as defs
+use Rattle.event_defs.specs.Event.{Ev}
+use Rattle.event_defs.specs.Grammar as written
+use Rattle.event_defs.specs.Grammar.{anchor_of, tag_of}
+use Rattle.event_defs.specs.Names.{Names, number, with_anchor, perhaps_resolved}
+use Rattle.grammar_turns.specs.declared.place.Place.{Place}
+use Rattle.grammar_turns.specs.Goal as at
+use Rattle.yaml_parser.specs.declared.event.Event.{Event}
+use Rattle.yaml_parser.specs.declared.node.Properties.{Properties}
+use Rattle.yaml_parser.specs.declared.tokens.Stop.{Stop}
+use Rattle.yaml_parser.specs.declared.reader.Reader.{Reader}
+use Rattle.yaml_parser.specs.Named.{IsNamed}
+use Rattle.yaml_parser.specs.Shown as shown
+use Rattle.yaml_parser.specs.At.{At, Answers}
+
+-- the anchor's name
+abbrev pub name_of : Option Properties → Option (List ℕ)
+name_of None = None
+name_of (Some p) = option_map string_chars p.anchor
+
+abbrev pub kept_tag : Option Properties → Option defs.Tag
+kept_tag None = None
+kept_tag (Some p) = shown.perhaps_tag_of p.tag
+
+-- These properties were written, and their tag is resolved.
+pub record Has (names : Names) (o : Option written.Properties) (p : Option Properties) : Type 0 where
+  pub both : is_some o ≡ is_some p
+  pub anchor : written.perhaps_anchor_of o ≡ name_of p
+  pub tag : perhaps_resolved names.handles (written.perhaps_tag_of o) ≡ Some (kept_tag p)
+
+-- what a content comes to, behind these properties
+abbrev pub ReadsBehind : {T : Type 0} → Place → Option Properties → Reader T → Reader T → Result (Event × chars.Place) Stop → Type 0
+ReadsBehind p properties old new result =
+    (o : Option written.Properties) (names : Names) (given : List (Ev × chars.Place)) → Has names o properties → At (at.behind p o) old names given → Answers new given result
+
+-- The anchor of these properties is numbered, and nothing else changes.
+pub record Registers {T : Type 0} (old : Reader T) (properties : Option Properties) (names : Names) (gives : ℕ → Option defs.Tag → Type 0) (new : Reader T) : Type 0 where
+  pub value : gives (number names (name_of properties)) (kept_tag properties)
+  pub tokens : new.tokens ≡ old.tokens
+  pub stack : new.stack ≡ old.stack
+  pub keep : new.names.keeping ≡ old.names.keeping
+  pub code : IsNamed new.names (with_anchor names (name_of properties))

@@ -1,0 +1,81 @@
+-- What the calls of a parser answer, and what they change.
+use Rattle.std.specs.Prelude.{◌≡◌, ◌≢◌, ◌||◌, ◌<◌, ◌≤◌, if◌then◌else◌, [], ◌∷◌, ◌++◌, true, false, Some, None, IsSome, IfSome, Result, Ok, Err}
+use Rattle.yaml_chars.specs.Place.{Place}
+use Rattle.yaml_tokens.specs.Fault.{Fault}
+use Rattle.event_defs.specs.Event.{Ev}
+use Rattle.event_defs.specs.PulledList.{Answer}
+use Rattle.event_defs.specs.PulledList as answer
+use Rattle.yaml_parser.specs.declared.event.Event.{Event}
+use Rattle.yaml_parser.specs.Shown.{ev_of}
+use Rattle.yaml_parser.specs.Parsed.{Parsed, is_stream_end, has_end, read}
+use Rattle.yaml_parser.specs.Follows.{Follows, IsWhole, Explains}
+
+-- The settings stay.
+pub record KeepsSettings (old new : Parsed) : Type 0 where
+  pub keep_tags : new.keep_tags ≡ old.keep_tags
+  pub steady : new.steady ≡ old.steady
+
+-- No fault is kept, and the events that were read are those of the token grammar.
+pub record IsSound (p : Parsed) : Type 0 where
+  pub fault : p.fault ≡ None
+  pub follows : p.steady ≡ true → Follows p
+  pub whole : p.steady ≡ true → has_end (read p) ≡ true → IsWhole p
+
+-- An event is given, the one that waited if one did. Behind the stream's end that end comes again, and is not noted.
+pub record GivesEvent (old : Parsed) (e : Ev × Place) (new : Parsed) : Type 0 where
+  pub given : new.given ≡ old.given ++ (if old.ended then [] else e ∷ [])
+  pub ended : new.ended ≡ old.ended || is_stream_end e.0
+  pub started : new.started ≡ true
+  pub ahead : new.ahead ≡ None
+  pub waited : IfSome old.ahead (λ x. e ≡ x)
+  pub over : old.ended ≡ true → e.0 ≡ Ev.stream_end
+  pub left : e.0 ≢ Ev.stream_end → new.left < old.left
+  pub settings : KeepsSettings old new
+  pub clear : old.fault ≡ None
+  pub sound : IsSound new
+
+-- A fault is answered and kept, the one that was kept if one was.
+pub record GivesFault (old : Parsed) (f : Fault) (new : Parsed) : Type 0 where
+  pub fault : new.fault ≡ Some f
+  pub given : new.given ≡ old.given
+  pub started : new.started ≡ old.started
+  pub ended : (old.ended ≡ false) × (new.ended ≡ false)
+  pub ahead : (old.ahead ≡ None) × (new.ahead ≡ None)
+  pub settings : KeepsSettings old new
+  pub again : IfSome old.fault (λ g. (f ≡ g) × (new ≡ old))
+  pub why : old.fault ≡ None → Explains f new
+
+-- one call of `next_token`
+abbrev pub Pulls : Parsed → Answer Fault → Parsed → Type 0
+Pulls old (answer.event e p) new = GivesEvent old (e, p) new
+Pulls old (answer.fault f) new = GivesFault old f new
+
+abbrev pub answer_of : Result (Event × Place) Fault → Answer Fault
+answer_of (Ok e) = answer.event (ev_of e.0) e.1
+answer_of (Err f) = answer.fault f
+
+-- The next event waits; where one waited, nothing changes.
+pub record Waits (old new : Parsed) : Type 0 where
+  pub some : IsSome new.ahead
+  pub waited : IsSome old.ahead → new ≡ old
+  pub given : new.given ≡ old.given
+  pub started : new.started ≡ old.started
+  pub ended : new.ended ≡ old.ended
+  pub over : old.ended ≡ true → IfSome new.ahead (λ e. e.0 ≡ Ev.stream_end)
+  pub left : IfSome new.ahead (λ e. e.0 ≢ Ev.stream_end → new.left ≤ old.left)
+  pub settings : KeepsSettings old new
+  pub clear : old.fault ≡ None
+  pub sound : IsSound new
+
+-- one look at the next event
+abbrev pub Looks : Parsed → Result (Unit {0}) Fault → Parsed → Type 0
+Looks old (Ok u) new = Waits old new
+Looks old (Err f) new = GivesFault old f new
+
+-- This event waits behind a look.
+abbrev pub ShowsNext : Parsed → Ev × Place → Type 0
+ShowsNext old e = (new : Parsed) × Waits old new × (new.ahead ≡ Some e)
+
+-- A look meets this fault.
+abbrev pub MeetsFault : Parsed → Fault → Type 0
+MeetsFault old f = (new : Parsed) × GivesFault old f new

@@ -1,0 +1,94 @@
+//! Pushing: a parser's events, into a receiver.
+ghost use Rattle.std.specs.Prelude.{◌≡◌, ◌≤◌, Bool, true, IfOk, Some};
+ghost use Rattle.yaml_parser.specs.Parsed.{Parsed, is_stream_end, is_document_start, is_document_end};
+ghost use Rattle.yaml_parser.specs.Shown.{ev_of};
+ghost use Rattle.yaml_parser.specs.View.{no_document};
+ghost use Rattle.yaml_parser.specs.Loads.{Loads, StartsSo, ReadsOn};
+
+use crate::event::Event;
+use crate::parser::Parser;
+use crate::receiver::MarkedEventReceiver;
+use yaml_tokens::ScanError;
+
+fn is_stream_end(event: &Event) -> bool
+    ensures { result ≡ is_stream_end (ev_of event.now) }
+{
+    matches!(event, Event::StreamEnd)
+}
+
+fn is_document_start(event: &Event) -> bool
+    ensures { result ≡ is_document_start (ev_of event.now) }
+{
+    matches!(event, Event::DocumentStart)
+}
+
+fn is_document_end(event: &Event) -> bool
+    ensures { result ≡ is_document_end (ev_of event.now) }
+{
+    matches!(event, Event::DocumentEnd)
+}
+
+impl<T: Iterator<Item = char>> Parser<T> {
+    /// Pushes events into a receiver, from where the parser stands: the stream's start if it was
+    /// not given yet, and then a document's events, or with `multi` those of all documents and the
+    /// stream's end. A fault is answered, and so is what the receiver answers, which is not kept.
+    pub fn load<R: MarkedEventReceiver>(
+        &mut self,
+        recv: &mut R,
+        multi: bool,
+    ) -> Result<(), ScanError>
+        ensures { Loads R.takes multi self.old recv.old result self.new recv.new }
+    {
+        self.load_start(recv)?;
+        'documents: loop {
+            let (event, mark) = self.next_token()?;
+            if is_stream_end(&event) {
+                recv.on_event(event, mark)?;
+                return Ok(());
+            }
+            if !is_document_start(&event) {
+                return Err(self.misplace(mark));
+            }
+            recv.on_event(event, mark)?;
+            let whole = self.load_document(recv)?;
+            if !whole {
+                return Ok(());
+            }
+            if !multi {
+                return Ok(());
+            }
+        }
+    }
+
+    /// Pushes the stream's start, if it was not given yet.
+    fn load_start<R: MarkedEventReceiver>(&mut self, recv: &mut R) -> Result<(), ScanError>
+        ensures { (multi : Bool) → StartsSo R.takes multi self.old recv.old result self.new recv.new }
+    {
+        if self.has_started() {
+            return Ok(());
+        }
+        let (event, mark) = self.next_token()?;
+        recv.on_event(event, mark)?;
+        Ok(())
+    }
+
+    /// Pushes the events of a document whose start was pushed, and says whether its end came. Only
+    /// the stream's end stops it before, which stands in no document.
+    fn load_document<R: MarkedEventReceiver>(&mut self, recv: &mut R) -> Result<bool, ScanError>
+        ensures reads { (multi : Bool) (parser : Parsed) (receiver : R) → ReadsOn R.takes multi parser receiver self.old recv.old result self.new recv.new }
+        ensures left { IfOk result (λ b. b ≡ true → self.new.left ≤ self.old.left) }
+    {
+        'events: loop {
+            let (event, mark) = self.next_token()?;
+            let last = is_document_end(&event);
+            let over = is_stream_end(&event);
+            recv.on_event(event, mark)?;
+            if over {
+                return Ok(false);
+            }
+            if last {
+                return Ok(true);
+            }
+        }
+    }
+}
