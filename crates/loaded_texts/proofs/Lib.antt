@@ -1,0 +1,5 @@
+pub mod Texts
+pub mod Runs
+pub mod Loads
+pub mod Spelled
+pub mod JsonNul

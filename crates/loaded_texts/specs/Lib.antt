@@ -1,0 +1,4 @@
+pub mod Laws
+pub mod LoadsAs
+pub mod Spelled
+pub mod TextReadAs

@@ -1,0 +1,7 @@
+-- A text without NUL.
+use Rattle.std.specs.Prelude.{◌≡◌, ℕ, List}
+use Rattle.yaml_chars.specs.Reading.{up_to_nul}
+
+-- It goes on to its end.
+abbrev pub IsWithoutNul : List ℕ → Type 0
+IsWithoutNul a = up_to_nul a ≡ a

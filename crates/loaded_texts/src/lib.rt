@@ -1,0 +1,4 @@
+//! What a load answers of a text whose tokens are read as trees: the scanner's, the parser's and the loader's promises in one.
+#![tactic(auto)]
+
+pub mod laws;

@@ -1,0 +1,19 @@
+mod Shapes
+mod Whites
+mod Levels
+mod Joins
+mod Plains
+mod PlainTexts
+mod Quotes
+mod Documents
+mod Marks
+mod Leaves
+mod Empties
+mod Keys
+mod BlockLines
+mod LiteralTexts
+mod Literals
+mod Values
+pub mod Whole
+mod Rows
+mod RowsRefused
