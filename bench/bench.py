@@ -57,7 +57,7 @@ def row(kind, size, ours, theirs, directory, turns):
         found.append((len(text), both(ours, theirs, path, rounds_for(len(text)), turns)))
     (small_bytes, small), (whole_bytes, whole) = found
     per_byte = whole[0][0] / whole_bytes / (small[0][0] / small_bytes)
-    return "| %s | %.2f | %.4f | %.4f | %.0f | **%.2f** | %.0f | %.0f | %.1f |" % (
+    return "| %s | %.3f | %.5f | %.5f | %.0f | **%.2f** | %.0f | %.0f | %.1f |" % (
         kind, whole_bytes / 1e6, whole[0][0], whole[1][0], whole_bytes / 1e6 / whole[0][0], whole[0][0] / whole[1][0],
         whole[0][1], whole[1][1], 10 * per_byte)
 
