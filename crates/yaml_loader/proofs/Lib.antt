@@ -6,3 +6,4 @@ pub mod OpenedLemmas
 pub mod Reals
 pub mod Tags
 pub mod Words
+mod TextLemmas

@@ -3,4 +3,5 @@ pub mod Laws
 pub mod Loading
 pub mod Loads
 pub mod Reached
+pub mod TextLoads
 pub mod View

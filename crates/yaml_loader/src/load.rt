@@ -1,9 +1,13 @@
 //! Texts, read as trees.
-ghost use Rattle.std.specs.Prelude.{◌≡◌, ◌^◌, ◌<◌, None, IfOk, OnOk, IfErr, All};
+ghost use Rattle.std.specs.Prelude.{◌≡◌, ◌^◌, ◌<◌, [], ◌∷◌, true, false, None, IfOk, OnOk, IfErr, All, List, chars};
 ghost use Rattle.std.specs.Iterator.{IsFinite, size};
 ghost use Rattle.event_defs.specs.NoAlias.{HasNoAlias};
 ghost use Rattle.yaml_tree.specs.View.{items_view};
+ghost use Rattle.yaml_chars.specs.Reading.{HasNoNul, up_to_nul};
+ghost use Rattle.yaml_chars.specs.Source.{CameFrom};
+ghost use Rattle.yaml_parser.specs.Parsed.{parsed};
 ghost use Rattle.yaml_loader.specs.Loads.{AreLoaded, IsLoadFault, AreLoadedAnew, IsFaultAnew};
+ghost use Rattle.yaml_loader.specs.TextLoads.{OfTexts, OfText, OfGiven, OfJson, OfGivenJson};
 
 use crate::loader::{Course, YamlLoader, out_of_nesting};
 use event_defs::laws::loaded_trees_have_no_alias;
@@ -18,6 +22,10 @@ impl YamlLoader {
         ensures documents { IfOk result (λ documents. AreLoadedAnew (items_view documents.items)) }
         ensures no_alias { IfOk result (λ documents. All HasNoAlias (items_view documents.items)) }
         ensures fault { IfErr result IsFaultAnew }
+        ensures texts { IfOk result (λ documents. OfText (up_to_nul (chars source.now)) (λ trees. items_view documents.items ≡ trees)) }
+        ensures text_faults { IfErr result (λ f. OfText (up_to_nul (chars source.now)) (λ trees. f.memory ≡ true)) }
+        ensures json { IfOk result (λ documents. OfJson (chars source.now) (λ tree. items_view documents.items ≡ tree ∷ [])) }
+        ensures json_faults { IfErr result (λ f. OfJson (chars source.now) (λ tree. f.memory ≡ true)) }
     {
         let mut parser = Parser::new_from_str(alloc, source);
         YamlLoader::load_from_parser(alloc, &mut parser)
@@ -34,6 +42,10 @@ impl YamlLoader {
         ensures documents { IfOk result (λ documents. AreLoadedAnew (items_view documents.items)) }
         ensures no_alias { IfOk result (λ documents. All HasNoAlias (items_view documents.items)) }
         ensures fault { IfErr result IsFaultAnew }
+        ensures texts { IfOk result (λ documents. OfGiven I.next_gives source (λ trees. items_view documents.items ≡ trees)) }
+        ensures text_faults { IfErr result (λ f. OfGiven I.next_gives source (λ trees. f.memory ≡ true)) }
+        ensures json { IfOk result (λ documents. OfGivenJson I.next_gives source (λ tree. items_view documents.items ≡ tree ∷ [])) }
+        ensures json_faults { IfErr result (λ f. OfGivenJson I.next_gives source (λ tree. f.memory ≡ true)) }
     {
         let mut parser = Parser::new(alloc, source);
         YamlLoader::load_from_parser(alloc, &mut parser)
@@ -45,13 +57,20 @@ impl YamlLoader {
         alloc: Global,
         parser: &mut Parser<I>,
     ) -> Result<Vec<Yaml>, ScanError>
-        ensures documents { IfOk result (λ documents. AreLoaded parser.old (items_view documents.items) parser.new) }
+        ensures documents { IfOk result (λ documents. AreLoaded (parsed parser.old) (items_view documents.items) (parsed parser.new)) }
         ensures no_alias { IfOk result (λ documents. All HasNoAlias (items_view documents.items)) }
-        ensures no_fault { OnOk result (parser.new.fault ≡ None) }
-        ensures fault { IfErr result (λ f. IsLoadFault parser.old f parser.new) }
+        ensures no_fault { OnOk result ((parsed parser.new).fault ≡ None) }
+        ensures fault { IfErr result (λ f. IsLoadFault (parsed parser.old) f (parsed parser.new)) }
+        ensures texts { IfOk result (λ documents. OfTexts (parsed parser.old) (parsed parser.new) (λ trees. items_view documents.items ≡ trees)) }
+        ensures text_faults { IfErr result (λ f. OfTexts (parsed parser.old) (parsed parser.new) (λ trees. f.memory ≡ true)) }
+        ensures start { parser.new.start ≡ parser.old.start }
+        ensures came { CameFrom I.next_gives parser.new.start (parsed parser.new).scanner.taken (parsed parser.new).scanner.done }
+        ensures no_nul { HasNoNul (parsed parser.new).scanner.taken }
     {
         let mut loader = YamlLoader::default(alloc);
-        parser.load(&mut loader, true)?;
+        let outcome = parser.load(&mut loader, true);
+        parser.note();
+        outcome?;
         loaded_trees_have_no_alias();
         let YamlLoader { reading, course } = loader;
         match course {

@@ -24,6 +24,14 @@ pub record Parsed : Type 0 where
   -- a bound on the events to come before the stream's end: it falls with each
   pub left : ℕ
 
+-- What clauses see of a parser: the iterator as it was given, and what was read and given so far.
+pub record Parse (T : Type 0) : Type 0 where
+  pub start : T
+  pub so_far : Parsed
+
+abbrev pub parsed : {T : Type 0} → Parse T → Parsed
+parsed p = p.so_far
+
 -- whether it is the stream's end
 abbrev pub is_stream_end : Ev → Bool
 is_stream_end Ev.stream_end = true

@@ -15,6 +15,7 @@ impl<T: Iterator<Item = char>> Reader<T> {
         ensures answers { Reads at.entries self.old self.new result }
         ensures work { OnOk result (work self.new < work self.old + 1) }
         ensures keeping { self.new.names.keeping ≡ self.old.names.keeping }
+        ensures start { self.new.tokens.scanner.start ≡ self.old.tokens.scanner.start }
     {
         let next = self.peek()?;
         match next.kind {
@@ -35,6 +36,7 @@ impl<T: Iterator<Item = char>> Reader<T> {
         ensures answers { Reads at.entry self.old self.new result }
         ensures work { OnOk result (work self.new < work self.old + 3) }
         ensures keeping { self.new.names.keeping ≡ self.old.names.keeping }
+        ensures start { self.new.tokens.scanner.start ≡ self.old.tokens.scanner.start }
     {
         let next = self.peek()?;
         self.push(State::BlockSequenceEntry)?;
@@ -48,6 +50,7 @@ impl<T: Iterator<Item = char>> Reader<T> {
         ensures answers { Reads at.dashes self.old self.new result }
         ensures work { OnOk result (work self.new < work self.old + 1) }
         ensures keeping { self.new.names.keeping ≡ self.old.names.keeping }
+        ensures start { self.new.tokens.scanner.start ≡ self.old.tokens.scanner.start }
     {
         let next = self.peek()?;
         match next.kind {
@@ -64,6 +67,7 @@ impl<T: Iterator<Item = char>> Reader<T> {
         ensures answers { Reads at.dashed self.old self.new result }
         ensures work { OnOk result (work self.new < work self.old + 2) }
         ensures keeping { self.new.names.keeping ≡ self.old.names.keeping }
+        ensures start { self.new.tokens.scanner.start ≡ self.old.tokens.scanner.start }
     {
         let next = self.peek()?;
         self.push(State::IndentlessSequenceEntry)?;
@@ -79,6 +83,7 @@ impl<T: Iterator<Item = char>> Reader<T> {
         ensures answers { Reads at.pairs self.old self.new result }
         ensures work { OnOk result (work self.new < work self.old + 1) }
         ensures keeping { self.new.names.keeping ≡ self.old.names.keeping }
+        ensures start { self.new.tokens.scanner.start ≡ self.old.tokens.scanner.start }
     {
         let next = self.peek()?;
         match next.kind {
@@ -97,6 +102,7 @@ impl<T: Iterator<Item = char>> Reader<T> {
         ensures answers { Reads at.key_pairs self.old self.new result }
         ensures work { OnOk result (work self.new < work self.old + 1) }
         ensures keeping { self.new.names.keeping ≡ self.old.names.keeping }
+        ensures start { self.new.tokens.scanner.start ≡ self.old.tokens.scanner.start }
     {
         let next = self.peek()?;
         match next.kind {
@@ -118,6 +124,7 @@ impl<T: Iterator<Item = char>> Reader<T> {
         ensures answers { Reads at.after_key self.old self.new result }
         ensures work { OnOk result (work self.new < work self.old + 2) }
         ensures keeping { self.new.names.keeping ≡ self.old.names.keeping }
+        ensures start { self.new.tokens.scanner.start ≡ self.old.tokens.scanner.start }
     {
         let next = self.peek()?;
         match next.kind {
@@ -138,6 +145,7 @@ impl<T: Iterator<Item = char>> Reader<T> {
         ensures answers { Reads at.part self.old self.new result }
         ensures work { OnOk result (work self.new < work self.old + 1) }
         ensures keeping { self.new.names.keeping ≡ self.old.names.keeping }
+        ensures start { self.new.tokens.scanner.start ≡ self.old.tokens.scanner.start }
     {
         let next = self.peek()?;
         match next.kind {

@@ -20,6 +20,7 @@ impl<T: Iterator<Item = char>> Reader<T> {
         ensures answers { Reads at.start self.old self.new result }
         ensures work { OnOk result (work self.new < work self.old + 1) }
         ensures keeping { self.new.names.keeping ≡ self.old.names.keeping }
+        ensures start { self.new.tokens.scanner.start ≡ self.old.tokens.scanner.start }
     {
         let next = self.peek()?;
         match next.kind {
@@ -37,6 +38,7 @@ impl<T: Iterator<Item = char>> Reader<T> {
         ensures peeked { IfOk result (λ n. IsOfKind n.kind self.new.tokens.peeked × (n.kind ≢ kind.DocumentEnd)) }
         ensures work { OnOk result (work self.new ≤ work self.old) }
         ensures keeping { self.new.names.keeping ≡ self.old.names.keeping }
+        ensures start { self.new.tokens.scanner.start ≡ self.old.tokens.scanner.start }
         ensures at { OnOk result (Carries at.documents self.old self.new) }
         ensures err { IfErr result (λ s. Fails at.documents self.old self.new s) }
     {
@@ -53,6 +55,7 @@ impl<T: Iterator<Item = char>> Reader<T> {
         ensures answers { Reads at.documents self.old self.new result }
         ensures work { OnOk result (work self.new < work self.old + 4) }
         ensures keeping { self.new.names.keeping ≡ self.old.names.keeping }
+        ensures start { self.new.tokens.scanner.start ≡ self.old.tokens.scanner.start }
     {
         let next = self.skip_document_ends()?;
         match next.kind {
@@ -72,6 +75,7 @@ impl<T: Iterator<Item = char>> Reader<T> {
         ensures answers { Reads at.explicit self.old self.new result }
         ensures work { OnOk result (work self.new < work self.old + 1) }
         ensures keeping { self.new.names.keeping ≡ self.old.names.keeping }
+        ensures start { self.new.tokens.scanner.start ≡ self.old.tokens.scanner.start }
     {
         let next = self.peek()?;
         match next.kind {
@@ -96,6 +100,7 @@ impl<T: Iterator<Item = char>> Reader<T> {
         ensures answers { Reads at.documents self.old self.new result }
         ensures work { OnOk result (work self.new < work self.old + 1) }
         ensures keeping { self.new.names.keeping ≡ self.old.names.keeping }
+        ensures start { self.new.tokens.scanner.start ≡ self.old.tokens.scanner.start }
     {
         self.names.start_document();
         let next = self.directives()?;
@@ -114,6 +119,7 @@ impl<T: Iterator<Item = char>> Reader<T> {
         ensures peeked { IfOk result (λ n. IsOfKind n.kind self.new.tokens.peeked × (n.kind ≢ kind.VersionDirective) × (n.kind ≢ kind.TagDirective)) }
         ensures work { OnOk result (work self.new ≤ work self.old) }
         ensures keeping { self.new.names.keeping ≡ self.old.names.keeping }
+        ensures start { self.new.tokens.scanner.start ≡ self.old.tokens.scanner.start }
         ensures at { OnOk result (AreRead self.old self.new) }
         ensures err { IfErr result (λ s. DirectivesFail self.old self.new s) }
     {
@@ -137,6 +143,7 @@ impl<T: Iterator<Item = char>> Reader<T> {
         ensures directs { Directs versioned true self.old self.new result }
         ensures work { OnOk result (work self.new < work self.old) }
         ensures keeping { self.new.names.keeping ≡ self.old.names.keeping }
+        ensures start { self.new.tokens.scanner.start ≡ self.old.tokens.scanner.start }
     {
         self.skip();
         if versioned {
@@ -151,6 +158,7 @@ impl<T: Iterator<Item = char>> Reader<T> {
         ensures directs { (versioned : Bool) → Directs versioned versioned self.old self.new result }
         ensures work { OnOk result (work self.new < work self.old) }
         ensures keeping { self.new.names.keeping ≡ self.old.names.keeping }
+        ensures start { self.new.tokens.scanner.start ≡ self.old.tokens.scanner.start }
     {
         let (handle, prefix) = self.tokens.take_tag_directive();
         self.names.declare(mark, handle, prefix)?;
@@ -162,6 +170,7 @@ impl<T: Iterator<Item = char>> Reader<T> {
         ensures answers { Reads at.content self.old self.new result }
         ensures work { OnOk result (work self.new < work self.old + 3) }
         ensures keeping { self.new.names.keeping ≡ self.old.names.keeping }
+        ensures start { self.new.tokens.scanner.start ≡ self.old.tokens.scanner.start }
     {
         let next = self.peek()?;
         self.push(State::DocumentEnd)?;
@@ -180,6 +189,7 @@ impl<T: Iterator<Item = char>> Reader<T> {
         ensures answers { Reads at.after self.old self.new result }
         ensures work { OnOk result (work self.new < work self.old + 2) }
         ensures keeping { self.new.names.keeping ≡ self.old.names.keeping }
+        ensures start { self.new.tokens.scanner.start ≡ self.old.tokens.scanner.start }
     {
         let next = self.peek()?;
         match next.kind {

@@ -16,6 +16,7 @@ impl<T: Iterator<Item = char>> Reader<T> {
         ensures answers { Reads at.items self.old self.new result }
         ensures work { OnOk result (work self.new < work self.old + 1) }
         ensures keeping { self.new.names.keeping ≡ self.old.names.keeping }
+        ensures start { self.new.tokens.scanner.start ≡ self.old.tokens.scanner.start }
     {
         let next = self.peek()?;
         match next.kind {
@@ -32,6 +33,7 @@ impl<T: Iterator<Item = char>> Reader<T> {
         ensures answers { Reads at.more_items self.old self.new result }
         ensures work { OnOk result (work self.new < work self.old + 1) }
         ensures keeping { self.new.names.keeping ≡ self.old.names.keeping }
+        ensures start { self.new.tokens.scanner.start ≡ self.old.tokens.scanner.start }
     {
         let next = self.peek()?;
         match next.kind {
@@ -52,6 +54,7 @@ impl<T: Iterator<Item = char>> Reader<T> {
         ensures answers { Reads at.comma_items self.old self.new result }
         ensures work { OnOk result (work self.new < work self.old + 2) }
         ensures keeping { self.new.names.keeping ≡ self.old.names.keeping }
+        ensures start { self.new.tokens.scanner.start ≡ self.old.tokens.scanner.start }
     {
         let next = self.peek()?;
         match next.kind {
@@ -68,6 +71,7 @@ impl<T: Iterator<Item = char>> Reader<T> {
         ensures answers { Reads at.item self.old self.new result }
         ensures work { OnOk result (work self.new < work self.old + 1) }
         ensures keeping { self.new.names.keeping ≡ self.old.names.keeping }
+        ensures start { self.new.tokens.scanner.start ≡ self.old.tokens.scanner.start }
     {
         let next = self.peek()?;
         match next.kind {
@@ -88,6 +92,7 @@ impl<T: Iterator<Item = char>> Reader<T> {
         ensures answers { Reads at.pair_key self.old self.new result }
         ensures work { OnOk result (work self.new < work self.old + 4) }
         ensures keeping { self.new.names.keeping ≡ self.old.names.keeping }
+        ensures start { self.new.tokens.scanner.start ≡ self.old.tokens.scanner.start }
     {
         let next = self.peek()?;
         self.push(State::FlowSequenceEntryMappingValue)?;
@@ -104,6 +109,7 @@ impl<T: Iterator<Item = char>> Reader<T> {
         ensures answers { Reads at.pair_value self.old self.new result }
         ensures work { OnOk result (work self.new < work self.old + 3) }
         ensures keeping { self.new.names.keeping ≡ self.old.names.keeping }
+        ensures start { self.new.tokens.scanner.start ≡ self.old.tokens.scanner.start }
     {
         let next = self.peek()?;
         match next.kind {
@@ -123,6 +129,7 @@ impl<T: Iterator<Item = char>> Reader<T> {
         ensures answers { Reads at.pair_valued self.old self.new result }
         ensures work { OnOk result (work self.new < work self.old + 3) }
         ensures keeping { self.new.names.keeping ≡ self.old.names.keeping }
+        ensures start { self.new.tokens.scanner.start ≡ self.old.tokens.scanner.start }
     {
         let next = self.peek()?;
         self.push(State::FlowSequenceEntryMappingEnd)?;
@@ -137,6 +144,7 @@ impl<T: Iterator<Item = char>> Reader<T> {
         ensures answers { Reads at.pair_end self.old self.new result }
         ensures work { OnOk result (work self.new < work self.old + 2) }
         ensures keeping { self.new.names.keeping ≡ self.old.names.keeping }
+        ensures start { self.new.tokens.scanner.start ≡ self.old.tokens.scanner.start }
     {
         self.push(State::FlowSequenceEntry)?;
         Ok((Event::MappingEnd, self.tokens.scanner.mark()))
@@ -146,6 +154,7 @@ impl<T: Iterator<Item = char>> Reader<T> {
         ensures answers { Reads at.flow_pairs self.old self.new result }
         ensures work { OnOk result (work self.new < work self.old + 1) }
         ensures keeping { self.new.names.keeping ≡ self.old.names.keeping }
+        ensures start { self.new.tokens.scanner.start ≡ self.old.tokens.scanner.start }
     {
         let next = self.peek()?;
         match next.kind {
@@ -162,6 +171,7 @@ impl<T: Iterator<Item = char>> Reader<T> {
         ensures answers { Reads at.more_flow_pairs self.old self.new result }
         ensures work { OnOk result (work self.new < work self.old + 1) }
         ensures keeping { self.new.names.keeping ≡ self.old.names.keeping }
+        ensures start { self.new.tokens.scanner.start ≡ self.old.tokens.scanner.start }
     {
         let next = self.peek()?;
         match next.kind {
@@ -182,6 +192,7 @@ impl<T: Iterator<Item = char>> Reader<T> {
         ensures answers { Reads at.comma_flow_pairs self.old self.new result }
         ensures work { OnOk result (work self.new < work self.old + 2) }
         ensures keeping { self.new.names.keeping ≡ self.old.names.keeping }
+        ensures start { self.new.tokens.scanner.start ≡ self.old.tokens.scanner.start }
     {
         let next = self.peek()?;
         match next.kind {
@@ -198,6 +209,7 @@ impl<T: Iterator<Item = char>> Reader<T> {
         ensures answers { Reads at.flow_pair self.old self.new result }
         ensures work { OnOk result (work self.new < work self.old + 1) }
         ensures keeping { self.new.names.keeping ≡ self.old.names.keeping }
+        ensures start { self.new.tokens.scanner.start ≡ self.old.tokens.scanner.start }
     {
         let next = self.peek()?;
         match next.kind {
@@ -222,6 +234,7 @@ impl<T: Iterator<Item = char>> Reader<T> {
         ensures answers { Reads at.flow_key self.old self.new result }
         ensures work { OnOk result (work self.new < work self.old + 4) }
         ensures keeping { self.new.names.keeping ≡ self.old.names.keeping }
+        ensures start { self.new.tokens.scanner.start ≡ self.old.tokens.scanner.start }
     {
         let next = self.peek()?;
         self.push(State::FlowMappingValue)?;
@@ -238,6 +251,7 @@ impl<T: Iterator<Item = char>> Reader<T> {
         ensures answers { Reads at.flow_after_key self.old self.new result }
         ensures work { OnOk result (work self.new < work self.old + 2) }
         ensures keeping { self.new.names.keeping ≡ self.old.names.keeping }
+        ensures start { self.new.tokens.scanner.start ≡ self.old.tokens.scanner.start }
     {
         let next = self.peek()?;
         match next.kind {
@@ -257,6 +271,7 @@ impl<T: Iterator<Item = char>> Reader<T> {
         ensures answers { Reads at.flow_valued self.old self.new result }
         ensures work { OnOk result (work self.new < work self.old + 2) }
         ensures keeping { self.new.names.keeping ≡ self.old.names.keeping }
+        ensures start { self.new.tokens.scanner.start ≡ self.old.tokens.scanner.start }
     {
         let next = self.peek()?;
         self.push(State::FlowMappingKey)?;
@@ -271,6 +286,7 @@ impl<T: Iterator<Item = char>> Reader<T> {
         ensures answers { Reads at.flow_empty self.old self.new result }
         ensures work { OnOk result (work self.new < work self.old + 2) }
         ensures keeping { self.new.names.keeping ≡ self.old.names.keeping }
+        ensures start { self.new.tokens.scanner.start ≡ self.old.tokens.scanner.start }
     {
         let next = self.peek()?;
         self.push(State::FlowMappingKey)?;

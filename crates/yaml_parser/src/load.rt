@@ -1,6 +1,6 @@
 //! Pushing: a parser's events, into a receiver.
 ghost use Rattle.std.specs.Prelude.{◌≡◌, ◌≤◌, Bool, true, IfOk, Some};
-ghost use Rattle.yaml_parser.specs.Parsed.{Parsed, is_stream_end, is_document_start, is_document_end};
+ghost use Rattle.yaml_parser.specs.Parsed.{Parsed, parsed, is_stream_end, is_document_start, is_document_end};
 ghost use Rattle.yaml_parser.specs.Shown.{ev_of};
 ghost use Rattle.yaml_parser.specs.View.{no_document};
 ghost use Rattle.yaml_parser.specs.Loads.{Loads, StartsSo, ReadsOn};
@@ -37,7 +37,8 @@ impl<T: Iterator<Item = char>> Parser<T> {
         recv: &mut R,
         multi: bool,
     ) -> Result<(), ScanError>
-        ensures { Loads R.takes multi self.old recv.old result self.new recv.new }
+        ensures loads { Loads R.takes multi (parsed self.old) recv.old result (parsed self.new) recv.new }
+        ensures start { self.new.start ≡ self.old.start }
     {
         self.load_start(recv)?;
         'documents: loop {
@@ -62,7 +63,8 @@ impl<T: Iterator<Item = char>> Parser<T> {
 
     /// Pushes the stream's start, if it was not given yet.
     fn load_start<R: MarkedEventReceiver>(&mut self, recv: &mut R) -> Result<(), ScanError>
-        ensures { (multi : Bool) → StartsSo R.takes multi self.old recv.old result self.new recv.new }
+        ensures starts { (multi : Bool) → StartsSo R.takes multi (parsed self.old) recv.old result (parsed self.new) recv.new }
+        ensures start { self.new.start ≡ self.old.start }
     {
         if self.has_started() {
             return Ok(());
@@ -75,8 +77,9 @@ impl<T: Iterator<Item = char>> Parser<T> {
     /// Pushes the events of a document whose start was pushed, and says whether its end came. Only
     /// the stream's end stops it before, which stands in no document.
     fn load_document<R: MarkedEventReceiver>(&mut self, recv: &mut R) -> Result<bool, ScanError>
-        ensures reads { (multi : Bool) (parser : Parsed) (receiver : R) → ReadsOn R.takes multi parser receiver self.old recv.old result self.new recv.new }
-        ensures left { IfOk result (λ b. b ≡ true → self.new.left ≤ self.old.left) }
+        ensures reads { (multi : Bool) (parser : Parsed) (receiver : R) → ReadsOn R.takes multi parser receiver (parsed self.old) recv.old result (parsed self.new) recv.new }
+        ensures start { self.new.start ≡ self.old.start }
+        ensures left { IfOk result (λ b. b ≡ true → (parsed self.new).left ≤ (parsed self.old).left) }
     {
         'events: loop {
             let (event, mark) = self.next_token()?;

@@ -35,6 +35,7 @@ impl<T: Iterator<Item = char>> Reader<T> {
         ensures answers { Reads (at.node place) self.old self.new result }
         ensures work { OnOk result (work self.new + 2 ≤ work self.old) }
         ensures keeping { self.new.names.keeping ≡ self.old.names.keeping }
+        ensures start { self.new.tokens.scanner.start ≡ self.old.tokens.scanner.start }
     {
         let next = self.peek()?;
         match next.kind {
@@ -51,6 +52,7 @@ impl<T: Iterator<Item = char>> Reader<T> {
         ensures answers { (place : Place) → Reads (at.node place) self.old self.new result }
         ensures work { OnOk result (work self.new + 2 ≤ work self.old) }
         ensures keeping { self.new.names.keeping ≡ self.old.names.keeping }
+        ensures start { self.new.tokens.scanner.start ≡ self.old.tokens.scanner.start }
     {
         let name = self.tokens.take_name();
         let number = self.names.number_of(mark, &name)?;
@@ -63,6 +65,7 @@ impl<T: Iterator<Item = char>> Reader<T> {
         ensures answers { Reads (at.node place) self.old self.new result }
         ensures work { OnOk result (work self.new + 2 ≤ work self.old) }
         ensures keeping { self.new.names.keeping ≡ self.old.names.keeping }
+        ensures start { self.new.tokens.scanner.start ≡ self.old.tokens.scanner.start }
     {
         let name = self.tokens.take_name();
         let next = self.peek()?;
@@ -94,6 +97,7 @@ impl<T: Iterator<Item = char>> Reader<T> {
         ensures answers { Reads (at.node place) self.old self.new result }
         ensures work { OnOk result (work self.new + 2 ≤ work self.old) }
         ensures keeping { self.new.names.keeping ≡ self.old.names.keeping }
+        ensures start { self.new.tokens.scanner.start ≡ self.old.tokens.scanner.start }
     {
         let (handle, suffix) = self.tokens.take_tag();
         let tag = self.names.resolve(mark, handle, suffix)?;
@@ -124,6 +128,7 @@ impl<T: Iterator<Item = char>> Reader<T> {
         ensures answers { ReadsBehind place properties self.old self.new result }
         ensures work { OnOk result (work self.new + owed properties ≤ work self.old) }
         ensures keeping { self.new.names.keeping ≡ self.old.names.keeping }
+        ensures start { self.new.tokens.scanner.start ≡ self.old.tokens.scanner.start }
     {
         match place {
             Place::Flow => self.flow_content(properties),
@@ -136,6 +141,7 @@ impl<T: Iterator<Item = char>> Reader<T> {
         ensures answers { ReadsBehind place.Part properties self.old self.new result }
         ensures work { OnOk result (work self.new + owed properties ≤ work self.old) }
         ensures keeping { self.new.names.keeping ≡ self.old.names.keeping }
+        ensures start { self.new.tokens.scanner.start ≡ self.old.tokens.scanner.start }
     {
         let next = self.peek()?;
         match next.kind {
@@ -152,6 +158,7 @@ impl<T: Iterator<Item = char>> Reader<T> {
         ensures answers { ReadsBehind place.Block properties self.old self.new result }
         ensures work { OnOk result (work self.new + owed properties ≤ work self.old) }
         ensures keeping { self.new.names.keeping ≡ self.old.names.keeping }
+        ensures start { self.new.tokens.scanner.start ≡ self.old.tokens.scanner.start }
     {
         let next = self.peek()?;
         match next.kind {
@@ -173,6 +180,7 @@ impl<T: Iterator<Item = char>> Reader<T> {
         ensures answers { ReadsBehind place.Flow properties self.old self.new result }
         ensures work { OnOk result (work self.new + owed properties ≤ work self.old) }
         ensures keeping { self.new.names.keeping ≡ self.old.names.keeping }
+        ensures start { self.new.tokens.scanner.start ≡ self.old.tokens.scanner.start }
     {
         let next = self.peek()?;
         match next.kind {
@@ -202,6 +210,7 @@ impl<T: Iterator<Item = char>> Reader<T> {
         ensures answers { ReadsBehind place.Flow properties self.old self.new result }
         ensures work { OnOk result (work self.new + owed properties ≤ work self.old) }
         ensures keeping { self.new.names.keeping ≡ self.old.names.keeping }
+        ensures start { self.new.tokens.scanner.start ≡ self.old.tokens.scanner.start }
     {
         match properties {
             Some(properties) => {
@@ -216,6 +225,7 @@ impl<T: Iterator<Item = char>> Reader<T> {
     fn sequence(&mut self, properties: Option<Properties>, mark: Marker) -> Answer
         ensures work { OnOk result (work self.new ≡ work self.old) }
         ensures keeping { self.new.names.keeping ≡ self.old.names.keeping }
+        ensures start { self.new.tokens.scanner.start ≡ self.old.tokens.scanner.start }
         ensures registers { (names : Names) → IsNamed self.old.names names → IfOk result (λ e. Registers self.old properties names (λ a t. placed e ≡ (Ev.sequence_start a t, mark)) self.new) }
         ensures err { IfErr result (λ s. s ≡ Own OutOfMemory) }
     {
@@ -227,6 +237,7 @@ impl<T: Iterator<Item = char>> Reader<T> {
     fn mapping(&mut self, properties: Option<Properties>, mark: Marker) -> Answer
         ensures work { OnOk result (work self.new ≡ work self.old) }
         ensures keeping { self.new.names.keeping ≡ self.old.names.keeping }
+        ensures start { self.new.tokens.scanner.start ≡ self.old.tokens.scanner.start }
         ensures registers { (names : Names) → IsNamed self.old.names names → IfOk result (λ e. Registers self.old properties names (λ a t. placed e ≡ (Ev.mapping_start a t, mark)) self.new) }
         ensures err { IfErr result (λ s. s ≡ Own OutOfMemory) }
     {
@@ -238,6 +249,7 @@ impl<T: Iterator<Item = char>> Reader<T> {
     fn registered(&mut self, properties: Option<Properties>) -> Result<(usize, Option<Tag>), Stop>
         ensures work { OnOk result (work self.new ≡ work self.old) }
         ensures keeping { self.new.names.keeping ≡ self.old.names.keeping }
+        ensures start { self.new.tokens.scanner.start ≡ self.old.tokens.scanner.start }
         ensures registers { (names : Names) → IsNamed self.old.names names → IfOk result (λ r. Registers self.old properties names (λ a t. (r.0 ≡ a) × (perhaps_tag_of r.1 ≡ t)) self.new) }
         ensures err { IfErr result (λ s. s ≡ Own OutOfMemory) }
     {

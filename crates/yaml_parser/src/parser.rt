@@ -1,6 +1,10 @@
 ghost use Rattle.std.specs.Prelude.{◌≡◌, ◌^◌, ◌<◌, ◌&&◌, ◌||◌, ◌++◌, if◌then◌else◌, [], ◌∷◌, true, false, Some, None, IfSome, IsSome, IfOk, IfErr, option_map};
 ghost use Rattle.std.specs.Iterator.{IsFinite, size};
-ghost use Rattle.yaml_parser.specs.Parsed.{is_fresh, is_stream_end};
+ghost use Rattle.std.specs.Str.Iter.{chars_rest};
+ghost use Rattle.yaml_chars.specs.Reading.{HasNoNul};
+ghost use Rattle.yaml_chars.specs.Source.{CameFrom};
+ghost use Rattle.yaml_scanner.specs.Scanned.{Scans};
+ghost use Rattle.yaml_parser.specs.Parsed.{parsed, is_fresh, is_stream_end};
 ghost use Rattle.yaml_parser.specs.Pulls.{GivesEvent, Pulls, Looks, ShowsNext, MeetsFault, answer_of};
 ghost use Rattle.yaml_parser.specs.Shown.{placed, ev_of};
 ghost use Rattle.yaml_parser.specs.View.{no_document};
@@ -54,14 +58,14 @@ pub struct Parser<T: Iterator<Item = char>> {
 impl<T: Iterator<Item = char>> Model for Parser<T> {
     ghost use Rattle.std.specs.Prelude.{option_map};
     ghost use Rattle.yaml_scanner.specs.Scanned.{scanned};
-    ghost use Rattle.yaml_parser.specs.Parsed.{Parsed};
+    ghost use Rattle.yaml_parser.specs.Parsed.{Parse};
     ghost use Rattle.yaml_parser.specs.Shown.{placed, all_placed};
     ghost use Rattle.yaml_parser.specs.View.{fault_of_all, events_left};
     ghost use Rattle.yaml_parser.specs.Held.{Holds};
 
-    ghost Value = { Parsed };
+    ghost Value = { Parse T };
 
-    ghost view = { λ p. record { scanner = scanned p.pull.reader.tokens.scanner; given = all_placed p.given.items; ahead = option_map placed p.current; fault = fault_of_all p.misplaced p.pull; started = p.started; ended = p.ended; keep_tags = p.pull.reader.names.keeping.tags; steady = p.pull.reader.names.keeping.steady; left = events_left p.pull.reader p.current } };
+    ghost view = { λ p. record { start = p.pull.reader.tokens.scanner.start; so_far = record { scanner = scanned p.pull.reader.tokens.scanner; given = all_placed p.given.items; ahead = option_map placed p.current; fault = fault_of_all p.misplaced p.pull; started = p.started; ended = p.ended; keep_tags = p.pull.reader.names.keeping.tags; steady = p.pull.reader.names.keeping.steady; left = events_left p.pull.reader p.current } } };
 
     ghost invariant = { λ p. Holds p.pull (all_placed p.given.items) (option_map placed p.current) p.started p.ended p.misplaced };
 }
@@ -69,13 +73,14 @@ impl<T: Iterator<Item = char>> Model for Parser<T> {
 impl<'a> Parser<Chars<'a>> {
     /// A parser of a text, up to its end or to a NUL. It takes no memory.
     pub fn new_from_str(alloc: Global, value: &'a str) -> Self
-        ensures given { result.given ≡ [] }
-        ensures ahead { result.ahead ≡ None }
-        ensures fault { result.fault ≡ None }
-        ensures started { result.started ≡ false }
-        ensures ended { result.ended ≡ false }
-        ensures keep_tags { result.keep_tags ≡ false }
-        ensures steady { result.steady ≡ true }
+        ensures given { (parsed result).given ≡ [] }
+        ensures ahead { (parsed result).ahead ≡ None }
+        ensures fault { (parsed result).fault ≡ None }
+        ensures started { (parsed result).started ≡ false }
+        ensures ended { (parsed result).ended ≡ false }
+        ensures keep_tags { (parsed result).keep_tags ≡ false }
+        ensures steady { (parsed result).steady ≡ true }
+        ensures source { chars_rest result.start ≡ value.now }
     {
         Parser::new(alloc, value.chars())
     }
@@ -87,13 +92,14 @@ impl<T: Iterator<Item = char>> Parser<T> {
         requires can { T.can_next src }
         requires finite { IsFinite (T.remaining src) }
         requires few { size (T.remaining src) < 2 ^ 63 }
-        ensures given { result.given ≡ [] }
-        ensures ahead { result.ahead ≡ None }
-        ensures fault { result.fault ≡ None }
-        ensures started { result.started ≡ false }
-        ensures ended { result.ended ≡ false }
-        ensures keep_tags { result.keep_tags ≡ false }
-        ensures steady { result.steady ≡ true }
+        ensures given { (parsed result).given ≡ [] }
+        ensures ahead { (parsed result).ahead ≡ None }
+        ensures fault { (parsed result).fault ≡ None }
+        ensures started { (parsed result).started ≡ false }
+        ensures ended { (parsed result).ended ≡ false }
+        ensures keep_tags { (parsed result).keep_tags ≡ false }
+        ensures steady { (parsed result).steady ≡ true }
+        ensures start { result.start ≡ src }
     {
         Parser {
             pull: Pull::new(alloc, src),
@@ -107,7 +113,7 @@ impl<T: Iterator<Item = char>> Parser<T> {
 
     /// Whether a declared tag handle counts in later documents too.
     pub fn keep_tags(mut self, value: bool) -> Self
-        ensures { result ≡ record self { keep_tags = value; steady = self.steady && is_fresh self } }
+        ensures { result ≡ record self { so_far = record (parsed self) { keep_tags = value; steady = (parsed self).steady && is_fresh (parsed self) } } }
     {
         let steady = self.stays_steady();
         self.pull.reader.names.keeping = Keeping {
@@ -119,14 +125,14 @@ impl<T: Iterator<Item = char>> Parser<T> {
 
     /// Whether a setting that is made now counts from the stream's start on.
     fn stays_steady(&self) -> bool
-        ensures { result ≡ self.now.steady && is_fresh self.now }
+        ensures { result ≡ (parsed self.now).steady && is_fresh (parsed self.now) }
     {
         self.pull.reader.names.keeping.steady && self.is_fresh()
     }
 
     /// Whether nothing was asked for.
     fn is_fresh(&self) -> bool
-        ensures { result ≡ is_fresh self.now }
+        ensures { result ≡ is_fresh (parsed self.now) }
     {
         !self.started
             && self.current.is_none()
@@ -137,8 +143,8 @@ impl<T: Iterator<Item = char>> Parser<T> {
     /// The next event and its place, which stays: the next call of `next_token` gives it. This is a
     /// `look` and what is then `waiting`.
     pub fn peek(&mut self) -> Result<&(Event, Marker), ScanError>
-        ensures event { IfOk result (λ e. ShowsNext self.old (placed e.now)) }
-        ensures fault { IfErr result (λ f. MeetsFault self.old f) }
+        ensures event { IfOk result (λ e. ShowsNext (parsed self.old) (placed e.now)) }
+        ensures fault { IfErr result (λ f. MeetsFault (parsed self.old) f) }
     {
         self.look()?;
         match self.waiting() {
@@ -149,7 +155,8 @@ impl<T: Iterator<Item = char>> Parser<T> {
 
     /// Looks at the next event: it waits, `waiting` shows it, and the next call of `next_token` gives it.
     pub fn look(&mut self) -> Result<(), ScanError>
-        ensures { Looks self.old result self.new }
+        ensures looks { Looks (parsed self.old) result (parsed self.new) }
+        ensures start { self.new.start ≡ self.old.start }
     {
         if self.current.is_some() {
             return Ok(());
@@ -164,14 +171,15 @@ impl<T: Iterator<Item = char>> Parser<T> {
 
     /// The event that waits, and its place.
     pub fn waiting(&self) -> Option<&(Event, Marker)>
-        ensures { option_map (λ e. placed e.now) result ≡ self.now.ahead }
+        ensures { option_map (λ e. placed e.now) result ≡ (parsed self.now).ahead }
     {
         self.current.as_ref()
     }
 
     /// The next event and its place. Behind the stream's end comes that end again.
     pub fn next_token(&mut self) -> ParseResult
-        ensures { Pulls self.old (answer_of result) self.new }
+        ensures pulls { Pulls (parsed self.old) (answer_of result) (parsed self.new) }
+        ensures start { self.new.start ≡ self.old.start }
     {
         self.look()?;
         Ok(self.give())
@@ -179,8 +187,9 @@ impl<T: Iterator<Item = char>> Parser<T> {
 
     /// Gives the event that waits.
     fn give(&mut self) -> (Event, Marker)
-        requires { IsSome self.old.ahead }
-        ensures { IfSome self.old.ahead (λ e. placed result ≡ e) × GivesEvent self.old (placed result) self.new }
+        requires { IsSome (parsed self.old).ahead }
+        ensures gives { IfSome (parsed self.old).ahead (λ e. placed result ≡ e) × GivesEvent (parsed self.old) (placed result) (parsed self.new) }
+        ensures start { self.new.start ≡ self.old.start }
     {
         let Some(next) = self.current.take() else {
             unreachable!()
@@ -191,19 +200,28 @@ impl<T: Iterator<Item = char>> Parser<T> {
         next
     }
 
+    /// What was read is what the iterator gave, and the scanner's promises hold of it. It does nothing else.
+    pub fn note(&self)
+        ensures came { CameFrom T.next_gives self.now.start (parsed self.now).scanner.taken (parsed self.now).scanner.done }
+        ensures no_nul { HasNoNul (parsed self.now).scanner.taken }
+        ensures scans { Scans (parsed self.now).scanner }
+    {
+        let _ = self.pull.reader.tokens.scanner.mark();
+    }
+
     /// Whether an event was given.
     pub(crate) fn has_started(&self) -> bool
-        ensures { result ≡ self.now.started }
+        ensures { result ≡ (parsed self.now).started }
     {
         self.started
     }
 
     /// Keeps the fault of an event that stands where a document must start, and which was given.
     pub(crate) fn misplace(&mut self, mark: Marker) -> ScanError
-        requires none { self.old.ahead ≡ None }
-        requires going { self.old.ended ≡ false }
+        requires none { (parsed self.old).ahead ≡ None }
+        requires going { (parsed self.old).ended ≡ false }
         ensures fault { result ≡ no_document mark }
-        ensures kept { self.new ≡ record self.old { fault = Some (no_document mark) } }
+        ensures kept { self.new ≡ record self.old { so_far = record (parsed self.old) { fault = Some (no_document mark) } } }
     {
         self.misplaced = Some(mark);
         Fault::At(Problem::DocumentStartEvent, mark).error(mark)

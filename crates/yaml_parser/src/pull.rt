@@ -35,6 +35,7 @@ impl<T: Iterator<Item = char>> Pull<T> {
         ensures steady { result.reader.names.keeping.steady ≡ true }
         ensures keep_tags { result.reader.names.keeping.tags ≡ false }
         ensures stack { result.reader.stack ≡ StreamStart ∷ [] }
+        ensures start { result.reader.tokens.scanner.start ≡ src }
     {
         Pull {
             reader: Reader {
@@ -51,6 +52,7 @@ impl<T: Iterator<Item = char>> Pull<T> {
     pub fn next(&mut self) -> ParseResult
         ensures continues { (read : List (Ev × Place)) → IsHeld self.old.reader read self.old.kept → Continues self.old read result self.new }
         ensures keeping { self.new.reader.names.keeping ≡ self.old.reader.names.keeping }
+        ensures start { self.new.reader.tokens.scanner.start ≡ self.old.reader.tokens.scanner.start }
         ensures err { IfErr result (λ f. fault_kept self.new ≡ Some f) }
         ensures again { IfSome (fault_kept self.old) (λ f. (result ≡ Err f) × (self.new ≡ self.old)) }
     {

@@ -40,6 +40,7 @@ impl<T: Iterator<Item = char>> Reader<T> {
         ensures peeked { IfOk result (λ n. IsOfKind n.kind self.new.tokens.peeked) }
         ensures mark { IfOk result (λ n. IfSome self.new.tokens.peeked (λ t. t.0 ≡ n.mark)) }
         ensures names { self.new.names ≡ self.old.names }
+        ensures start { self.new.tokens.scanner.start ≡ self.old.tokens.scanner.start }
         ensures work { OnOk result (work self.new ≤ work self.old) }
         ensures at { OnOk result ((g : Goal) → is_over g ≡ false → Carries g self.old self.new) }
         ensures err { IfErr result (λ s. (g : Goal) → is_over g ≡ false → Fails g self.old self.new s) }
@@ -52,6 +53,7 @@ impl<T: Iterator<Item = char>> Reader<T> {
         requires { IsSome self.old.tokens.peeked }
         ensures work { work self.new + 4 ≡ work self.old }
         ensures names { self.new.names ≡ self.old.names }
+        ensures start { self.new.tokens.scanner.start ≡ self.old.tokens.scanner.start }
         ensures took { (t : Token) → self.old.tokens.peeked ≡ Some t → Took self.old t self.new self.old.stack }
     {
         self.tokens.skip();
@@ -60,6 +62,7 @@ impl<T: Iterator<Item = char>> Reader<T> {
     pub(crate) fn push(&mut self, state: State) -> Result<(), Stop>
         ensures work { OnOk result (work self.new ≡ work self.old + weight state) }
         ensures names { self.new.names ≡ self.old.names }
+        ensures start { self.new.tokens.scanner.start ≡ self.old.tokens.scanner.start }
         ensures stayed { OnOk result (Stayed self.old self.new (state ∷ self.old.stack)) }
         ensures err { IfErr result (λ s. s ≡ Own OutOfMemory) }
     {
@@ -93,6 +96,7 @@ impl<T: Iterator<Item = char>> Reader<T> {
     pub fn next(&mut self, state: State) -> Answer
         ensures answers { Reads (goal_of state) self.old self.new result }
         ensures keeping { self.new.names.keeping ≡ self.old.names.keeping }
+        ensures start { self.new.tokens.scanner.start ≡ self.old.tokens.scanner.start }
         ensures work { OnOk result (work self.new < work self.old + weight state) }
     {
         match state {

@@ -75,7 +75,7 @@ pub struct Tokens<T: Iterator<Item = char>> {
 
 impl<T: Iterator<Item = char>> Tokens<T> {
     pub fn new(scanner: Scanner<T>) -> Self
-        ensures scanner { scanned result.scanner ≡ scanned scanner }
+        ensures scanner { result.scanner ≡ scanner }
         ensures peeked { result.peeked ≡ None }
         ensures taken { result.taken.items ≡ [] }
     {
@@ -92,6 +92,7 @@ impl<T: Iterator<Item = char>> Tokens<T> {
         ensures mark { IfOk result (λ n. IfSome self.new.peeked (λ t. t.0 ≡ n.mark)) }
         ensures left { OnOk result (left self.new ≤ left self.old) }
         ensures taken { self.new.taken ≡ self.old.taken }
+        ensures start { self.new.scanner.start ≡ self.old.scanner.start }
         ensures same { IfSome self.old.peeked (λ t. self.new.peeked ≡ Some t) }
         ensures handed { IsHanded self.old → IsHanded self.new }
         ensures awake { OnOk result (IsAwake self.old → IsAwake self.new) }
@@ -121,6 +122,7 @@ impl<T: Iterator<Item = char>> Tokens<T> {
     fn take(&mut self) -> Option<Token>
         ensures token { result ≡ self.old.peeked }
         ensures skips { SkipsOne self.old self.new }
+        ensures start { self.new.scanner.start ≡ self.old.scanner.start }
         ensures left { IfSome result (λ _. left self.new + 1 ≡ left self.old) }
     {
         let token = self.peeked.take()?;
@@ -132,6 +134,7 @@ impl<T: Iterator<Item = char>> Tokens<T> {
     pub fn skip(&mut self)
         requires { IsSome self.old.peeked }
         ensures skips { SkipsOne self.old self.new }
+        ensures start { self.new.scanner.start ≡ self.old.scanner.start }
         ensures left { left self.new + 1 ≡ left self.old }
     {
         let _ = self.take();
@@ -141,6 +144,7 @@ impl<T: Iterator<Item = char>> Tokens<T> {
     pub fn take_name(&mut self) -> String
         requires { IsName self.old.peeked }
         ensures skips { SkipsOne self.old self.new }
+        ensures start { self.new.scanner.start ≡ self.old.scanner.start }
         ensures name { IfSome self.old.peeked (λ t. (tok_of t.1 ≡ Tok.alias (string_chars result)) ⊎ (tok_of t.1 ≡ Tok.anchor (string_chars result))) }
         ensures left { left self.new + 1 ≡ left self.old }
     {
@@ -155,6 +159,7 @@ impl<T: Iterator<Item = char>> Tokens<T> {
         requires { IsOfKind kind.Tag self.old.peeked }
         ensures texts { IfSome self.old.peeked (λ t. tok_of t.1 ≡ Tok.tag (string_chars result.0) (string_chars result.1)) }
         ensures skips { SkipsOne self.old self.new }
+        ensures start { self.new.scanner.start ≡ self.old.scanner.start }
         ensures left { left self.new + 1 ≡ left self.old }
     {
         match self.take() {
@@ -168,6 +173,7 @@ impl<T: Iterator<Item = char>> Tokens<T> {
         requires { IsOfKind kind.TagDirective self.old.peeked }
         ensures texts { IfSome self.old.peeked (λ t. tok_of t.1 ≡ Tok.tag_directive (string_chars result.0) (string_chars result.1)) }
         ensures skips { SkipsOne self.old self.new }
+        ensures start { self.new.scanner.start ≡ self.old.scanner.start }
         ensures left { left self.new + 1 ≡ left self.old }
     {
         match self.take() {
@@ -181,6 +187,7 @@ impl<T: Iterator<Item = char>> Tokens<T> {
         requires { IsOfKind kind.Scalar self.old.peeked }
         ensures texts { IfSome self.old.peeked (λ t. tok_of t.1 ≡ Tok.scalar (style_of result.0) (string_chars result.1)) }
         ensures skips { SkipsOne self.old self.new }
+        ensures start { self.new.scanner.start ≡ self.old.scanner.start }
         ensures left { left self.new + 1 ≡ left self.old }
     {
         match self.take() {

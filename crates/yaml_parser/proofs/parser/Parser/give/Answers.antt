@@ -3,6 +3,7 @@ use Rattle.std.specs.Option.{IfSome}
 use Rattle.yaml_parser.specs.Shown.{placed, all_placed}
 use Rattle.yaml_parser.specs.Held.{Holds}
 use Rattle.yaml_parser.specs.Pulls.{GivesEvent}
+use Rattle.yaml_parser.specs.Parsed.{parsed}
 use Rattle.yaml_parser.proofs.Parsing.{seen, given_holds, event_given, all_noted}
 use Rattle.yaml_parser.proofs.parser.Parser.give.Goals as goal
 
@@ -15,16 +16,16 @@ invariant_of-self g c =
     subst (λ o. Holds i.pull (all_placed c.note.new.given.items) (option_map placed o) true c.ends-self-inside.result i.misplaced) (sym c.take.ensures.after)
     (given_holds i.pull (all_placed i.given.items) (all_placed c.note.new.given.items) (placed c.in-Some.next) i.started i.ended c.ends-self-inside.result i.misplaced h more c.ends-self-inside.ensures)
 
-pub returns : goal.returns
-returns g c =
+pub returns-clause-gives : goal.returns-clause-gives
+returns-clause-gives g c =
     let i = c.self.inside in
     let here : i.current ≡ Some c.in-Some.next = sym c.take.ensures.value ∙ c.in-Some.is in
     let h = subst (λ o. Holds i.pull (all_placed i.given.items) (option_map placed o) i.started i.ended i.misplaced) here c.self.invariant in
     let more = all_noted i.given.items c.note.new.given.items c.in-Some.next i.ended c.note.ensures in
     let e = event_given i.pull (all_placed i.given.items) (all_placed c.note.new.given.items) c.in-Some.next i.started i.ended c.ends-self-inside.result i.misplaced h more c.ends-self-inside.ensures in
     let v = seen i.pull (all_placed c.note.new.given.items) c.take.new.self true c.ends-self-inside.result i.misplaced in (
-      subst (λ u. IfSome u.ahead (λ x. placed c.in-Some.next ≡ x)) c.self.view_is (subst (λ o. IfSome (option_map placed o) (λ x. placed c.in-Some.next ≡ x)) (sym here) refl),
-      subst (λ u. GivesEvent u (placed c.in-Some.next) v) c.self.view_is
+      subst (λ u. IfSome (parsed u).ahead (λ x. placed c.in-Some.next ≡ x)) c.self.view_is (subst (λ o. IfSome (option_map placed o) (λ x. placed c.in-Some.next ≡ x)) (sym here) refl),
+      subst (λ u. GivesEvent (parsed u) (placed c.in-Some.next) v) c.self.view_is
           (subst (λ o. GivesEvent (seen i.pull (all_placed i.given.items) o i.started i.ended i.misplaced) (placed c.in-Some.next) v) (sym here)
           (subst (λ o. GivesEvent (seen i.pull (all_placed i.given.items) (Some c.in-Some.next) i.started i.ended i.misplaced) (placed c.in-Some.next) (seen i.pull (all_placed c.note.new.given.items) o true c.ends-self-inside.result i.misplaced)) (sym c.take.ensures.after) e)),
     )

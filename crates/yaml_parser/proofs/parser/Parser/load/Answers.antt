@@ -4,7 +4,7 @@ use Rattle.event_defs.specs.Push as run
 use Rattle.event_defs.specs.Push.{load_from, ends}
 use Rattle.yaml_parser.specs.View.{no_document}
 use Rattle.yaml_parser.specs.Shown.{ev_of}
-use Rattle.yaml_parser.specs.Parsed.{is_stream_end, is_document_start}
+use Rattle.yaml_parser.specs.Parsed.{is_stream_end, is_document_start, parsed}
 use Rattle.yaml_parser.specs.Loads.{IsBehind, Loads}
 use Rattle.yaml_parser.proofs.LoadSteps.{goes_on, faults, misplaces, refuses, ends_well, one_document, next_document, loads_err, misplaced_run, end_run, start_run}
 use Rattle.yaml_parser.proofs.parser.Parser.load.Goals as goal
@@ -13,63 +13,63 @@ pub documents-preserved : goal.documents-preserved
 documents-preserved g c =
     let e : Ev = ev_of c.in_ok-event.event in
     let start : is_document_start e ≡ true = sym c.is_document_start.ensures ∙ c.if-not-is_document_start.false in
-    let st = goes_on g.R.MarkedEventReceiver.takes c.args.multi c.args.self.now c.args.recv.now e c.in_ok-event.mark c.documents.invariant (λ rest. start_run e c.in_ok-event.mark c.args.multi rest start) c.in_ok-event.ensures c.in_ok-on_event-2.ensures in
-    let w = subst (λ b. IsBehind g.R.MarkedEventReceiver.takes c.args.multi c.args.self.now c.args.recv.now (Ok b) c.load_document.new.self c.load_document.new.recv) c.if-not-whole.false (c.in_ok-whole.ensures.reads c.args.multi c.args.self.now c.args.recv.now st) in
-    next_document g.R.MarkedEventReceiver.takes c.args.multi c.args.self.now c.args.recv.now w.0 c.if-not-multi.false
+    let st = goes_on g.R.MarkedEventReceiver.takes c.args.multi (parsed c.args.self.now) c.args.recv.now e c.in_ok-event.mark c.documents.invariant.0 (λ rest. start_run e c.in_ok-event.mark c.args.multi rest start) c.in_ok-event.ensures.pulls c.in_ok-on_event-2.ensures in
+    let w = subst (λ b. IsBehind g.R.MarkedEventReceiver.takes c.args.multi (parsed c.args.self.now) c.args.recv.now (Ok b) (parsed c.load_document.new.self) c.load_document.new.recv) c.if-not-whole.false (c.in_ok-whole.ensures.reads c.args.multi (parsed c.args.self.now) c.args.recv.now st) in
+    (next_document g.R.MarkedEventReceiver.takes c.args.multi (parsed c.args.self.now) c.args.recv.now w.0 c.if-not-multi.false, cc)
 
-pub returns-in_err-event : goal.returns-in_err-event
-returns-in_err-event g c =
-    loads_err g.R.MarkedEventReceiver.takes c.args.multi c.args.self.now c.args.recv.now c.from_residual-in_err-event.result c.in_err-event.field-0.0 c.from_residual-in_err-event.ensures.1
-    (faults g.R.MarkedEventReceiver.takes c.args.multi c.args.self.now c.args.recv.now c.in_err-event.field-0.0 c.documents.invariant refl c.in_err-event.ensures)
+pub returns-in_err-event-clause-loads : goal.returns-in_err-event-clause-loads
+returns-in_err-event-clause-loads g c =
+    loads_err g.R.MarkedEventReceiver.takes c.args.multi (parsed c.args.self.now) c.args.recv.now c.from_residual-in_err-event.result c.in_err-event.field-0.0 c.from_residual-in_err-event.ensures.1
+    (faults g.R.MarkedEventReceiver.takes c.args.multi (parsed c.args.self.now) c.args.recv.now c.in_err-event.field-0.0 c.documents.invariant.0 refl c.in_err-event.ensures.pulls)
 
-pub returns-in_err-on_event : goal.returns-in_err-on_event
-returns-in_err-on_event g c =
+pub returns-in_err-on_event-clause-loads : goal.returns-in_err-on_event-clause-loads
+returns-in_err-on_event-clause-loads g c =
     let e : Ev = ev_of c.in_ok-event.event in
     let end : is_stream_end e ≡ true = sym c.is_stream_end.ensures ∙ c.if-is_stream_end.true in
-    loads_err g.R.MarkedEventReceiver.takes c.args.multi c.args.self.now c.args.recv.now c.from_residual-in_err-on_event.result c.in_err-on_event.field-0.0 c.from_residual-in_err-on_event.ensures.1
-    (refuses g.R.MarkedEventReceiver.takes c.args.multi c.args.self.now c.args.recv.now e c.in_ok-event.mark c.in_err-on_event.field-0.0 (ends run.well 0) c.documents.invariant (end_run e c.in_ok-event.mark c.args.multi [] end) refl refl c.in_ok-event.ensures c.in_err-on_event.ensures)
+    loads_err g.R.MarkedEventReceiver.takes c.args.multi (parsed c.args.self.now) c.args.recv.now c.from_residual-in_err-on_event.result c.in_err-on_event.field-0.0 c.from_residual-in_err-on_event.ensures.1
+    (refuses g.R.MarkedEventReceiver.takes c.args.multi (parsed c.args.self.now) c.args.recv.now e c.in_ok-event.mark c.in_err-on_event.field-0.0 (ends run.well 0) c.documents.invariant.0 (end_run e c.in_ok-event.mark c.args.multi [] end) refl refl c.in_ok-event.ensures.pulls c.in_err-on_event.ensures)
 
-pub returns-then-is_stream_end : goal.returns-then-is_stream_end
-returns-then-is_stream_end g c =
+pub returns-then-is_stream_end-clause-loads : goal.returns-then-is_stream_end-clause-loads
+returns-then-is_stream_end-clause-loads g c =
     let e : Ev = ev_of c.in_ok-event.event in
     let end : is_stream_end e ≡ true = sym c.is_stream_end.ensures ∙ c.if-is_stream_end.true in
-    ends_well g.R.MarkedEventReceiver.takes c.args.multi c.args.self.now c.args.recv.now e c.in_ok-event.mark c.documents.invariant (end_run e c.in_ok-event.mark c.args.multi [] end) c.in_ok-event.ensures c.in_ok-on_event.ensures
+    ends_well g.R.MarkedEventReceiver.takes c.args.multi (parsed c.args.self.now) c.args.recv.now e c.in_ok-event.mark c.documents.invariant.0 (end_run e c.in_ok-event.mark c.args.multi [] end) c.in_ok-event.ensures.pulls c.in_ok-on_event.ensures
 
-pub returns-then-not-is_document_start : goal.returns-then-not-is_document_start
-returns-then-not-is_document_start g c =
+pub returns-then-not-is_document_start-clause-loads : goal.returns-then-not-is_document_start-clause-loads
+returns-then-not-is_document_start-clause-loads g c =
     let e : Ev = ev_of c.in_ok-event.event in
     let end : is_stream_end e ≡ false = sym c.is_stream_end.ensures ∙ c.if-is_stream_end.false in
     let start : is_document_start e ≡ false = sym c.is_document_start.ensures ∙ c.if-not-is_document_start.true in
-    subst (λ f. Loads g.R.MarkedEventReceiver.takes c.args.multi c.args.self.now c.args.recv.now (Err f) c.misplace.new.self c.documents.recv) (sym c.misplace.ensures.fault)
-    (subst (λ v. Loads g.R.MarkedEventReceiver.takes c.args.multi c.args.self.now c.args.recv.now (Err (no_document c.in_ok-event.mark)) v c.documents.recv) (sym c.misplace.ensures.kept)
-    (misplaces g.R.MarkedEventReceiver.takes c.args.multi c.args.self.now c.args.recv.now e c.in_ok-event.mark c.documents.invariant (misplaced_run e c.in_ok-event.mark c.args.multi [] end start) c.in_ok-event.ensures))
+    subst (λ f. Loads g.R.MarkedEventReceiver.takes c.args.multi (parsed c.args.self.now) c.args.recv.now (Err f) (parsed c.misplace.new.self) c.documents.recv) (sym c.misplace.ensures.fault)
+    (subst (λ v. Loads g.R.MarkedEventReceiver.takes c.args.multi (parsed c.args.self.now) c.args.recv.now (Err (no_document c.in_ok-event.mark)) (parsed v) c.documents.recv) (sym c.misplace.ensures.kept)
+    (misplaces g.R.MarkedEventReceiver.takes c.args.multi (parsed c.args.self.now) c.args.recv.now e c.in_ok-event.mark c.documents.invariant.0 (misplaced_run e c.in_ok-event.mark c.args.multi [] end start) c.in_ok-event.ensures.pulls))
 
-pub returns-in_err-on_event-2 : goal.returns-in_err-on_event-2
-returns-in_err-on_event-2 g c =
+pub returns-in_err-on_event-2-clause-loads : goal.returns-in_err-on_event-2-clause-loads
+returns-in_err-on_event-2-clause-loads g c =
     let e : Ev = ev_of c.in_ok-event.event in
     let start : is_document_start e ≡ true = sym c.is_document_start.ensures ∙ c.if-not-is_document_start.false in
-    loads_err g.R.MarkedEventReceiver.takes c.args.multi c.args.self.now c.args.recv.now c.from_residual-in_err-on_event-2.result c.in_err-on_event-2.field-0.0 c.from_residual-in_err-on_event-2.ensures.1
-    (refuses g.R.MarkedEventReceiver.takes c.args.multi c.args.self.now c.args.recv.now e c.in_ok-event.mark c.in_err-on_event-2.field-0.0 (ends run.unfinished 0) c.documents.invariant (start_run e c.in_ok-event.mark c.args.multi [] start) refl refl c.in_ok-event.ensures c.in_err-on_event-2.ensures)
+    loads_err g.R.MarkedEventReceiver.takes c.args.multi (parsed c.args.self.now) c.args.recv.now c.from_residual-in_err-on_event-2.result c.in_err-on_event-2.field-0.0 c.from_residual-in_err-on_event-2.ensures.1
+    (refuses g.R.MarkedEventReceiver.takes c.args.multi (parsed c.args.self.now) c.args.recv.now e c.in_ok-event.mark c.in_err-on_event-2.field-0.0 (ends run.unfinished 0) c.documents.invariant.0 (start_run e c.in_ok-event.mark c.args.multi [] start) refl refl c.in_ok-event.ensures.pulls c.in_err-on_event-2.ensures)
 
-pub returns-in_err-whole : goal.returns-in_err-whole
-returns-in_err-whole g c =
+pub returns-in_err-whole-clause-loads : goal.returns-in_err-whole-clause-loads
+returns-in_err-whole-clause-loads g c =
     let e : Ev = ev_of c.in_ok-event.event in
     let start : is_document_start e ≡ true = sym c.is_document_start.ensures ∙ c.if-not-is_document_start.false in
-    let st = goes_on g.R.MarkedEventReceiver.takes c.args.multi c.args.self.now c.args.recv.now e c.in_ok-event.mark c.documents.invariant (λ rest. start_run e c.in_ok-event.mark c.args.multi rest start) c.in_ok-event.ensures c.in_ok-on_event-2.ensures in
-    loads_err g.R.MarkedEventReceiver.takes c.args.multi c.args.self.now c.args.recv.now c.from_residual-in_err-whole.result c.in_err-whole.field-0.0 c.from_residual-in_err-whole.ensures.1
-    (c.in_err-whole.ensures.reads c.args.multi c.args.self.now c.args.recv.now st)
+    let st = goes_on g.R.MarkedEventReceiver.takes c.args.multi (parsed c.args.self.now) c.args.recv.now e c.in_ok-event.mark c.documents.invariant.0 (λ rest. start_run e c.in_ok-event.mark c.args.multi rest start) c.in_ok-event.ensures.pulls c.in_ok-on_event-2.ensures in
+    loads_err g.R.MarkedEventReceiver.takes c.args.multi (parsed c.args.self.now) c.args.recv.now c.from_residual-in_err-whole.result c.in_err-whole.field-0.0 c.from_residual-in_err-whole.ensures.1
+    (c.in_err-whole.ensures.reads c.args.multi (parsed c.args.self.now) c.args.recv.now st)
 
-pub returns-then-not-whole : goal.returns-then-not-whole
-returns-then-not-whole g c =
+pub returns-then-not-whole-clause-loads : goal.returns-then-not-whole-clause-loads
+returns-then-not-whole-clause-loads g c =
     let e : Ev = ev_of c.in_ok-event.event in
     let start : is_document_start e ≡ true = sym c.is_document_start.ensures ∙ c.if-not-is_document_start.false in
-    let st = goes_on g.R.MarkedEventReceiver.takes c.args.multi c.args.self.now c.args.recv.now e c.in_ok-event.mark c.documents.invariant (λ rest. start_run e c.in_ok-event.mark c.args.multi rest start) c.in_ok-event.ensures c.in_ok-on_event-2.ensures in
-    subst (λ b. IsBehind g.R.MarkedEventReceiver.takes c.args.multi c.args.self.now c.args.recv.now (Ok b) c.load_document.new.self c.load_document.new.recv) c.if-not-whole.true (c.in_ok-whole.ensures.reads c.args.multi c.args.self.now c.args.recv.now st)
+    let st = goes_on g.R.MarkedEventReceiver.takes c.args.multi (parsed c.args.self.now) c.args.recv.now e c.in_ok-event.mark c.documents.invariant.0 (λ rest. start_run e c.in_ok-event.mark c.args.multi rest start) c.in_ok-event.ensures.pulls c.in_ok-on_event-2.ensures in
+    subst (λ b. IsBehind g.R.MarkedEventReceiver.takes c.args.multi (parsed c.args.self.now) c.args.recv.now (Ok b) (parsed c.load_document.new.self) c.load_document.new.recv) c.if-not-whole.true (c.in_ok-whole.ensures.reads c.args.multi (parsed c.args.self.now) c.args.recv.now st)
 
-pub returns-then-not-multi : goal.returns-then-not-multi
-returns-then-not-multi g c =
+pub returns-then-not-multi-clause-loads : goal.returns-then-not-multi-clause-loads
+returns-then-not-multi-clause-loads g c =
     let e : Ev = ev_of c.in_ok-event.event in
     let start : is_document_start e ≡ true = sym c.is_document_start.ensures ∙ c.if-not-is_document_start.false in
-    let st = goes_on g.R.MarkedEventReceiver.takes c.args.multi c.args.self.now c.args.recv.now e c.in_ok-event.mark c.documents.invariant (λ rest. start_run e c.in_ok-event.mark c.args.multi rest start) c.in_ok-event.ensures c.in_ok-on_event-2.ensures in
-    let w = subst (λ b. IsBehind g.R.MarkedEventReceiver.takes c.args.multi c.args.self.now c.args.recv.now (Ok b) c.load_document.new.self c.load_document.new.recv) c.if-not-whole.false (c.in_ok-whole.ensures.reads c.args.multi c.args.self.now c.args.recv.now st) in
-    one_document g.R.MarkedEventReceiver.takes c.args.multi c.args.self.now c.args.recv.now w.0 w.1 c.if-not-multi.true
+    let st = goes_on g.R.MarkedEventReceiver.takes c.args.multi (parsed c.args.self.now) c.args.recv.now e c.in_ok-event.mark c.documents.invariant.0 (λ rest. start_run e c.in_ok-event.mark c.args.multi rest start) c.in_ok-event.ensures.pulls c.in_ok-on_event-2.ensures in
+    let w = subst (λ b. IsBehind g.R.MarkedEventReceiver.takes c.args.multi (parsed c.args.self.now) c.args.recv.now (Ok b) (parsed c.load_document.new.self) c.load_document.new.recv) c.if-not-whole.false (c.in_ok-whole.ensures.reads c.args.multi (parsed c.args.self.now) c.args.recv.now st) in
+    one_document g.R.MarkedEventReceiver.takes c.args.multi (parsed c.args.self.now) c.args.recv.now w.0 w.1 c.if-not-multi.true

@@ -1,14 +1,15 @@
-use Rattle.std.proofs.Common.{◌≤◌, Bool}
+use Rattle.std.proofs.Common.{◌≡◌, ◌≤◌, Bool}
 use Rattle.event_defs.specs.Push.{inside}
-use Rattle.yaml_parser.specs.Parsed.{Parsed}
+use Rattle.yaml_parser.specs.Parsed.{Parsed, parsed}
 use Rattle.yaml_parser.specs.Loads.{Stands}
 use Rattle.yaml_parser.proofs.parser.Parser.load_document.Given as goal
 
 abbrev pub invariant-events : goal.invariant-events
 invariant-events g l = record {
-  reads : (multi : Bool) (parser : Parsed) (receiver : g.row.R.Denot) → Stands g.R.MarkedEventReceiver.takes multi parser receiver inside l.fn.self l.fn.recv → Stands g.R.MarkedEventReceiver.takes multi parser receiver inside l.self l.recv;
-  left : l.self.left ≤ l.fn.self.left;
+  reads : (multi : Bool) (parser : Parsed) (receiver : g.row.R.Denot) → Stands g.R.MarkedEventReceiver.takes multi parser receiver inside (parsed l.fn.self) l.fn.recv → Stands g.R.MarkedEventReceiver.takes multi parser receiver inside (parsed l.self) l.recv;
+  start : l.self.start ≡ l.fn.self.start;
+  left : (parsed l.self).left ≤ (parsed l.fn.self).left;
 }
 
 abbrev pub decreases-events : goal.decreases-events
-decreases-events g l = l.self.left
+decreases-events g l = (parsed l.self).left

@@ -2,25 +2,26 @@ use Rattle.std.proofs.Common.{refl, sym, ◌∙◌, true, false}
 use Rattle.event_defs.specs.Push as run
 use Rattle.event_defs.specs.Push.{load_from, ends}
 use Rattle.yaml_parser.specs.Shown.{ev_of}
+use Rattle.yaml_parser.specs.Parsed.{parsed}
 use Rattle.yaml_parser.proofs.LoadSteps.{begins, goes_on, faults, refuses, starts_err}
 use Rattle.yaml_parser.proofs.parser.Parser.load_start.Goals as goal
 
-pub returns-then-has_started : goal.returns-then-has_started
-returns-then-has_started g c = λ multi. begins g.R.MarkedEventReceiver.takes multi c.args.self.now c.args.recv.now run.between true (sym c.has_started.ensures ∙ c.if-has_started.true) refl
+pub returns-then-has_started-clause-starts : goal.returns-then-has_started-clause-starts
+returns-then-has_started-clause-starts g c = λ multi. begins g.R.MarkedEventReceiver.takes multi (parsed c.args.self.now) c.args.recv.now run.between true (sym c.has_started.ensures ∙ c.if-has_started.true) refl
 
-pub returns-in_err-event : goal.returns-in_err-event
-returns-in_err-event g c = λ multi.
-    let st = begins g.R.MarkedEventReceiver.takes multi c.args.self.now c.args.recv.now run.before_stream false (sym c.has_started.ensures ∙ c.if-has_started.false) refl in
-    starts_err g.R.MarkedEventReceiver.takes multi c.args.self.now c.args.recv.now c.from_residual.result c.in_err-event.field-0.0 c.from_residual.ensures.1
-    (faults g.R.MarkedEventReceiver.takes multi c.args.self.now c.args.recv.now c.in_err-event.field-0.0 st refl c.in_err-event.ensures)
+pub returns-in_err-event-clause-starts : goal.returns-in_err-event-clause-starts
+returns-in_err-event-clause-starts g c = λ multi.
+    let st = begins g.R.MarkedEventReceiver.takes multi (parsed c.args.self.now) c.args.recv.now run.before_stream false (sym c.has_started.ensures ∙ c.if-has_started.false) refl in
+    starts_err g.R.MarkedEventReceiver.takes multi (parsed c.args.self.now) c.args.recv.now c.from_residual.result c.in_err-event.field-0.0 c.from_residual.ensures.1
+    (faults g.R.MarkedEventReceiver.takes multi (parsed c.args.self.now) c.args.recv.now c.in_err-event.field-0.0 st refl c.in_err-event.ensures.pulls)
 
-pub returns-in_err-on_event : goal.returns-in_err-on_event
-returns-in_err-on_event g c = λ multi.
-    let st = begins g.R.MarkedEventReceiver.takes multi c.args.self.now c.args.recv.now run.before_stream false (sym c.has_started.ensures ∙ c.if-has_started.false) refl in
-    starts_err g.R.MarkedEventReceiver.takes multi c.args.self.now c.args.recv.now c.from_residual-in_err-on_event.result c.in_err-on_event.field-0.0 c.from_residual-in_err-on_event.ensures.1
-    (refuses g.R.MarkedEventReceiver.takes multi c.args.self.now c.args.recv.now (ev_of c.in_ok-event.event) c.in_ok-event.mark c.in_err-on_event.field-0.0 (ends run.unfinished 0) st refl refl refl c.in_ok-event.ensures c.in_err-on_event.ensures)
+pub returns-in_err-on_event-clause-starts : goal.returns-in_err-on_event-clause-starts
+returns-in_err-on_event-clause-starts g c = λ multi.
+    let st = begins g.R.MarkedEventReceiver.takes multi (parsed c.args.self.now) c.args.recv.now run.before_stream false (sym c.has_started.ensures ∙ c.if-has_started.false) refl in
+    starts_err g.R.MarkedEventReceiver.takes multi (parsed c.args.self.now) c.args.recv.now c.from_residual-in_err-on_event.result c.in_err-on_event.field-0.0 c.from_residual-in_err-on_event.ensures.1
+    (refuses g.R.MarkedEventReceiver.takes multi (parsed c.args.self.now) c.args.recv.now (ev_of c.in_ok-event.event) c.in_ok-event.mark c.in_err-on_event.field-0.0 (ends run.unfinished 0) st refl refl refl c.in_ok-event.ensures.pulls c.in_err-on_event.ensures)
 
-pub returns : goal.returns
-returns g c = λ multi.
-    let st = begins g.R.MarkedEventReceiver.takes multi c.args.self.now c.args.recv.now run.before_stream false (sym c.has_started.ensures ∙ c.if-has_started.false) refl in
-    goes_on g.R.MarkedEventReceiver.takes multi c.args.self.now c.args.recv.now (ev_of c.in_ok-event.event) c.in_ok-event.mark st (λ rest. refl) c.in_ok-event.ensures c.in_ok-on_event.ensures
+pub returns-clause-starts : goal.returns-clause-starts
+returns-clause-starts g c = λ multi.
+    let st = begins g.R.MarkedEventReceiver.takes multi (parsed c.args.self.now) c.args.recv.now run.before_stream false (sym c.has_started.ensures ∙ c.if-has_started.false) refl in
+    goes_on g.R.MarkedEventReceiver.takes multi (parsed c.args.self.now) c.args.recv.now (ev_of c.in_ok-event.event) c.in_ok-event.mark st (λ rest. refl) c.in_ok-event.ensures.pulls c.in_ok-on_event.ensures

@@ -1,33 +1,33 @@
 use Rattle.std.proofs.Common.{sym, subst, ◌∙◌, option_map, Some}
 use Rattle.yaml_parser.specs.Shown.{placed, all_placed}
-use Rattle.yaml_parser.specs.Parsed.{read_so}
+use Rattle.yaml_parser.specs.Parsed.{read_so, parsed}
 use Rattle.yaml_parser.specs.Pulls.{Waits, GivesFault}
 use Rattle.yaml_parser.proofs.Parsing.{seen, waits_still, fault_misplaced, fault_holds, fault_given, next_holds, next_waits, looks_err}
 use Rattle.yaml_parser.proofs.parser.Parser.look.Goals as goal
 
-pub returns-then-is_some : goal.returns-then-is_some
-returns-then-is_some g c = subst (λ v. Waits v v) c.self.view_is (waits_still c.self.inside.pull (all_placed c.self.inside.given.items) c.self.inside.current c.self.inside.started c.self.inside.ended c.self.inside.misplaced c.self.invariant (sym c.is_some.ensures ∙ c.if-is_some.true))
+pub returns-then-is_some-clause-looks : goal.returns-then-is_some-clause-looks
+returns-then-is_some-clause-looks g c = subst (λ v. Waits (parsed v) (parsed v)) c.self.view_is (waits_still c.self.inside.pull (all_placed c.self.inside.given.items) c.self.inside.current c.self.inside.started c.self.inside.ended c.self.inside.misplaced c.self.invariant (sym c.is_some.ensures ∙ c.if-is_some.true))
 
-pub returns-in-Some : goal.returns-in-Some
-returns-in-Some g c =
-    subst (λ v. GivesFault v c.error.result v) c.self.view_is
+pub returns-in-Some-clause-looks : goal.returns-in-Some-clause-looks
+returns-in-Some-clause-looks g c =
+    subst (λ v. GivesFault (parsed v) c.error.result (parsed v)) c.self.view_is
     (subst (λ f. GivesFault (seen c.self.inside.pull (all_placed c.self.inside.given.items) c.self.inside.current c.self.inside.started c.self.inside.ended c.self.inside.misplaced) f (seen c.self.inside.pull (all_placed c.self.inside.given.items) c.self.inside.current c.self.inside.started c.self.inside.ended c.self.inside.misplaced)) (sym c.error.ensures)
     (fault_misplaced c.self.inside.pull (all_placed c.self.inside.given.items) c.self.inside.current c.self.inside.started c.self.inside.ended c.self.inside.misplaced c.in-Some.mark c.self.invariant (sym c.is_some.ensures ∙ c.if-is_some.false) c.in-Some.is))
 
-pub returns-in_err-next : goal.returns-in_err-next
-returns-in_err-next g c =
+pub returns-in_err-next-clause-looks : goal.returns-in_err-next-clause-looks
+returns-in_err-next-clause-looks g c =
     let none = sym c.is_some.ensures ∙ c.if-is_some.false in
     let x = c.in_err-next.ensures.continues (read_so (all_placed c.self.inside.given.items) c.self.inside.ended (option_map placed c.self.inside.current)) c.self.invariant.held in
     let v = seen c.next.new.self (all_placed c.self.inside.given.items) c.self.inside.current c.self.inside.started c.self.inside.ended c.self.inside.misplaced in
-    looks_err c.args.self.now v c.from_residual.result _ c.from_residual.ensures.1
-    (subst (λ u. GivesFault u c.in_err-next.field-0.0 v) c.self.view_is
+    looks_err (parsed c.args.self.now) v c.from_residual.result _ c.from_residual.ensures.1
+    (subst (λ u. GivesFault (parsed u) c.in_err-next.field-0.0 v) c.self.view_is
     (fault_given c.self.inside.pull c.next.new.self (all_placed c.self.inside.given.items) c.self.inside.current c.self.inside.started c.self.inside.ended c.self.inside.misplaced c.in_err-next.field-0.0 c.self.invariant none c.in_default.is x c.in_err-next.ensures.err c.in_err-next.ensures.again c.in_err-next.ensures.keeping))
 
-pub returns : goal.returns
-returns g c =
+pub returns-clause-looks : goal.returns-clause-looks
+returns-clause-looks g c =
     let none = sym c.is_some.ensures ∙ c.if-is_some.false in
     let x = c.in_ok-next.ensures.continues (read_so (all_placed c.self.inside.given.items) c.self.inside.ended (option_map placed c.self.inside.current)) c.self.invariant.held in
-    subst (λ u. Waits u (seen c.next.new.self (all_placed c.self.inside.given.items) (Some c.in_ok-next.next) c.self.inside.started c.self.inside.ended c.self.inside.misplaced)) c.self.view_is
+    subst (λ u. Waits (parsed u) (seen c.next.new.self (all_placed c.self.inside.given.items) (Some c.in_ok-next.next) c.self.inside.started c.self.inside.ended c.self.inside.misplaced)) c.self.view_is
     (next_waits c.self.inside.pull c.next.new.self (all_placed c.self.inside.given.items) c.self.inside.current c.self.inside.started c.self.inside.ended c.self.inside.misplaced c.in_ok-next.next c.self.invariant none c.in_default.is x c.in_ok-next.ensures.keeping)
 
 pub invariant_of-self : goal.invariant_of-self

@@ -1,5 +1,6 @@
 use Rattle.std.proofs.Common.{◌∙◌, ap, option_map}
 use Rattle.yaml_parser.specs.Shown.{placed, all_placed}
+use Rattle.yaml_parser.specs.Parsed.{parsed}
 use Rattle.yaml_parser.proofs.Parsing.{misplaced_holds}
 use Rattle.yaml_parser.proofs.parser.Parser.misplace.Goals as goal
 
@@ -7,4 +8,4 @@ pub invariant_of-self : goal.invariant_of-self
 invariant_of-self g c =
     let i = c.self.inside in
     misplaced_holds i.pull (all_placed i.given.items) (option_map placed i.current) i.started i.ended i.misplaced c.args.mark c.self.invariant
-    (ap (λ v. v.ahead) c.self.view_is ∙ c.requires.none) (ap (λ v. v.ended) c.self.view_is ∙ c.requires.going)
+    (ap (λ v. (parsed v).ahead) c.self.view_is ∙ c.requires.none) (ap (λ v. (parsed v).ended) c.self.view_is ∙ c.requires.going)

@@ -17,6 +17,7 @@ pub directives-preserved-in-VersionDirective : goal.directives-preserved-in-Vers
 directives-preserved-in-VersionDirective g c = record {
   work = omega (arith, c.in_ok-version-in-VersionDirective.ensures.work, c.in_ok-next.ensures.work, c.directives.invariant.work);
   keeping = cc;
+  start = cc;
   at = λ names given h. c.in_ok-version-in-VersionDirective.ensures.directs names given (directing_on c.in_ok-next.ensures.at c.in_ok-next.ensures.names (c.directives.invariant.at names given h));
 }
 
@@ -24,6 +25,7 @@ pub directives-preserved : goal.directives-preserved
 directives-preserved g c = record {
   work = omega (arith, c.in_ok-tag_directive-in-TagDirective.ensures.work, c.in_ok-next.ensures.work, c.directives.invariant.work);
   keeping = cc;
+  start = cc;
   at = λ names given h. c.in_ok-tag_directive-in-TagDirective.ensures.directs c.directives.versioned names given (directing_on c.in_ok-next.ensures.at c.in_ok-next.ensures.names (c.directives.invariant.at names given h));
 }
 
@@ -36,6 +38,7 @@ returns-in_default g c = record {
   peeked = (c.in_ok-next.ensures.peeked, c.in_default.not-VersionDirective, c.in_default.not-TagDirective);
   work = omega (arith, c.in_ok-next.ensures.work, c.directives.invariant.work);
   keeping = cc;
+  start = cc;
   at = λ names given h. let d = c.directives.invariant.at names given h in (d.read, c.in_ok-next.ensures.at (at.directed d.read) refl names given d.here);
   err = tt;
 }

@@ -10,6 +10,7 @@ abbrev pub invariant-directives : goal.invariant-directives
 invariant-directives g l = record {
   work : work l.self ≤ work l.fn.self;
   keeping : l.self.names.keeping ≡ l.fn.self.names.keeping;
+  start : l.self.tokens.scanner.start ≡ l.fn.self.tokens.scanner.start;
   at : (names : Names) (given : List (Ev × Place)) → Directing l.fn.self names given false → Directing l.self names given l.versioned;
 }
 

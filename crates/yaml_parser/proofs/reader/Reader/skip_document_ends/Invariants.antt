@@ -10,6 +10,7 @@ invariant-ends g l = record {
   peeked : IsOfKind l.next.kind l.self.tokens.peeked;
   work : work l.self ≤ work l.fn.self;
   keeping : l.self.names.keeping ≡ l.fn.self.names.keeping;
+  start : l.self.tokens.scanner.start ≡ l.fn.self.tokens.scanner.start;
   at : Carries at.documents l.fn.self l.self;
 }
 
