@@ -24,6 +24,9 @@ pub use scan_json::laws::{
     json_texts_are_not_refused, json_texts_have_no_other_tokens, json_texts_have_their_tokens,
     texts_have_one_list_of_tokens, texts_with_tokens_are_not_refused,
 };
+pub use scan_layout::laws::{
+    layout_texts_are_not_refused, layout_texts_have_no_other_tokens, layout_texts_have_their_tokens,
+};
 pub use tree_defs::laws::{
     box_lines_are_unbroken, digits_are_least, equality_is_an_equivalence, equality_is_exact,
     followed_by_is_a_cut, insert_keeps_keys_distinct, insert_keeps_other_values,
