@@ -1,7 +1,7 @@
 #!/usr/bin/env python3
 """Compares this library with another program that prints the same lines.
 
-usage: compare.py OURS THEIRS COMMAND [--exhaustive LENGTH] [--seed N] [--count N] [--show N]
+usage: compare.py OURS THEIRS COMMAND [--exhaustive LENGTH] [--seed N] [--count N] [--json N] [--show N]
 
 `OURS COMMAND` and `THEIRS batch COMMAND` read paths from standard input and print, for each file, a line
 `== PATH`, its tokens or events (COMMAND), and a line `ERR ..` where a fault comes. Each difference is put
@@ -57,6 +57,22 @@ def longer(r):
         out.append("---" + node(r, r.randint(1, 4), -1))
     return "\n".join(out) + r.choice(["", "\n", "\n...\n"])
 
+GAPS = ["", "", "", "", " ", "  ", "\n", "\r\n", "\n\t", "\n  "]
+JSON_PIECES = ["a", "Z", " ", "#", ": ", "- ", ",", "]", "'", "%", "\u00e9", "\x85", "\u2028", "\ufeff", "\U0001f600", '\\"', "\\\\", "\\/", "\\b", "\\n", "\\t", "\\u00e9", "\\u0041", "\\uFFFD"]
+
+def json_string(r, mark=""): return '"' + "".join(r.choice(JSON_PIECES) for _ in range(r.randint(0, 5))) + mark + '"'
+
+def json_value(r, depth):
+    k = r.random()
+    if depth == 0 or k < 0.4:
+        return r.choice(["true", "false", "null", "0", "-0", "17", "-3.25", "1e400", "2E+3", "9223372036854775808", json_string(r), json_string(r)])
+    gap = lambda: r.choice(GAPS)
+    n = r.randint(0, 4)
+    if k < 0.7: return "[" + gap() + ("," + gap()).join(json_value(r, depth - 1) + gap() for _ in range(n)) + "]"
+    return "{" + gap() + ("," + gap()).join(json_string(r, str(i)) + gap() + ":" + gap() + json_value(r, depth - 1) + gap() for i in range(n)) + "}"
+
+def json_text(r): return r.choice(GAPS) + json_value(r, 4) + r.choice(GAPS)
+
 SHORT = "a-?:,[]{}#&*!|>'\"% \t\n"
 
 def exhaustive(length):
@@ -67,6 +83,10 @@ def exhaustive(length):
 def generated(seed, count):
     r = random.Random(seed)
     for i in range(count): yield ROWS[i] if i < len(ROWS) else make(r, i)
+
+def json_texts(seed, count):
+    r = random.Random(seed)
+    for _ in range(count): yield json_text(r)
 
 def batches(texts):
     texts = iter(texts)
@@ -115,6 +135,7 @@ def main():
     p = argparse.ArgumentParser()
     p.add_argument("ours"); p.add_argument("theirs"); p.add_argument("command", choices=["tokens", "events"])
     p.add_argument("--seed", type=int, default=1); p.add_argument("--count", type=int, default=5000); p.add_argument("--exhaustive", type=int, default=0)
+    p.add_argument("--json", type=int, default=0)
     p.add_argument("--show", type=int, default=10)
     a = p.parse_args()
     for program in (a.ours, a.theirs):
@@ -122,7 +143,7 @@ def main():
             print("compare.py: %s is not a program: build it first" % program, file=sys.stderr)
             return 2
     names, unexplained, done = collections.Counter(), [], 0
-    for texts in batches(itertools.chain(exhaustive(a.exhaustive), generated(a.seed, a.count))):
+    for texts in batches(itertools.chain(exhaustive(a.exhaustive), generated(a.seed, a.count), json_texts(a.seed, a.json))):
         with tempfile.TemporaryDirectory() as d:
             for _, text, name, lines in compared(a, texts, d):
                 if name: names[name] += 1
