@@ -17,11 +17,7 @@ use yaml_tokens::ScanError;
 use yaml_tree::Yaml;
 
 impl YamlLoader {
-    /// All documents of a text, up to its end or to a NUL, or one fault: one in a later document keeps the earlier ones
-    /// back, and is answered before a key that came twice (YAML 1.2, section 3.1).
-    ///
-    /// A JSON text (RFC 8259) loads as its one value, or memory is refused: so does each with TABs only among the blanks
-    /// that begin a line, no escape of half a pair of UTF-16, no key twice in an object, and at most 255 levels.
+    /// All documents of a text, or one fault: one in a later document keeps the earlier ones back.
     pub fn load_from_str(alloc: Global, source: &str) -> Result<Vec<Yaml>, ScanError>
         ensures documents { IfOk result (λ documents. AreLoadedAnew (items_view documents.items)) }
         ensures no_alias { IfOk result (λ documents. All HasNoAlias (items_view documents.items)) }
@@ -35,7 +31,7 @@ impl YamlLoader {
         YamlLoader::load_from_parser(alloc, &mut parser)
     }
 
-    /// All documents of the characters of an iterator, up to its first `None` or to a NUL, or one fault, as `load_from_str`.
+    /// All documents of the characters of an iterator, up to its end or to a NUL, or one fault.
     pub fn load_from_iter<I: Iterator<Item = char> + Drop>(
         alloc: Global,
         source: I,

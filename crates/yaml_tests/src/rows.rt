@@ -51,10 +51,6 @@ fn blocks(rt: HostRuntime) -> Result<(), Fail> {
         (">-\na\n\n", "[String(\"a\")]"),
         ("- a\nb", "simple key expected at byte 5 line 3 column 1"),
         (
-            "k: a\n\t# c\n  b",
-            "while parsing a block mapping, did not find expected key at byte 12 line 3 column 3",
-        ),
-        (
             "a:\t- b",
             "':' must be followed by a valid YAML whitespace at byte 3 line 1 column 4",
         ),
