@@ -8,12 +8,4 @@ mod limits;
 #[cfg(test)]
 mod loads;
 #[cfg(test)]
-mod misuse;
-#[cfg(test)]
-mod pushes;
-#[cfg(test)]
 mod rows;
-#[cfg(test)]
-mod tokens;
-#[cfg(test)]
-mod trees;

@@ -48,6 +48,10 @@ fn blocks(rt: HostRuntime) -> Result<(), Fail> {
             "a:\n  b: c\n\t# x\n",
             "[Hash({String(\"a\"): Hash({String(\"b\"): String(\"c\")})})]",
         ),
+        (
+            "k: a\n\t# c\n  b",
+            "while parsing a block mapping, did not find expected key at byte 12 line 3 column 3",
+        ),
         (">-\na\n\n", "[String(\"a\")]"),
         ("- a\nb", "simple key expected at byte 5 line 3 column 1"),
         (
