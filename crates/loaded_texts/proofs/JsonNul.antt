@@ -1,8 +1,7 @@
 -- No JSON text has a NUL.
-use Rattle.std.proofs.Common.{◌≡◌, ◌≢◌, ℕ, List, [], ◌∷◌, ◌++◌, true, false, not, ◌&&◌, refl, ap, arith}
+use Rattle.std.proofs.Common.{◌≡◌, ◌≢◌, ℕ, List, [], ◌∷◌, ◌++◌, true, false, not, ◌&&◌, refl, ap}
 use Rattle.std.specs.Prelude.{codes}
 use Rattle.std.specs.Char.{is_ascii_digit}
-use Rattle.std.specs.List.{list_all}
 use Rattle.std.proofs.lemmas.Bool.{and_parts}
 use Rattle.layout_defs.specs.JsonGap.{Blank, space, tab, line_feed, carriage_return, spell_gap}
 use Rattle.layout_defs.specs.JsonNumber.{Number, number, Fraction, no_fraction, fraction, Sign, no_sign, plus, minus, Exponent, no_exponent, exponent, spell_number, spell_fraction, spell_sign, spell_exponent, are_digits, is_whole, is_fraction, is_exponent, is_number}
@@ -11,9 +10,7 @@ use Rattle.layout_defs.specs.JsonString as escape
 use Rattle.layout_defs.specs.Json.{Json, Elements, Members, IsJson, AreElements, AreMembers, spell, spell_elements, spell_members}
 use Rattle.loaded_texts.specs.Spelled.{IsWithoutNul}
 use Rattle.loaded_texts.specs.Laws.{JsonTextsAreWithoutNul}
-
-character : (c : ℕ) (r : List ℕ) → c ≢ 0 → IsWithoutNul r → IsWithoutNul (c ∷ r)
-character c r n h = grind (arith, h)
+use Rattle.loaded_texts.proofs.Nul.{character, not_nul, characters}
 
 gap : (g : List Blank) (r : List ℕ) → IsWithoutNul r → IsWithoutNul (spell_gap g r)
 gap [] r h = h
@@ -36,10 +33,10 @@ letter escape.tabulator r h = ap (λ l. 116 ∷ l) h
 
 unescaped_is_some : (c : ℕ) → is_unescaped c ≡ true → c ≢ 0
 unfolding is_unescaped
-unescaped_is_some c h e = let x = rw e at h in cc
+unescaped_is_some = not_nul is_unescaped refl
 
 hex_digit_is_some : (c : ℕ) → is_hex_digit c ≡ true → c ≢ 0
-hex_digit_is_some c h e = let x = rw e at h in cc
+hex_digit_is_some = not_nul is_hex_digit refl
 
 digits_of : (a b c d : ℕ) (r : List ℕ) → is_piece (unicode a b c d) ≡ true → IsWithoutNul r → IsWithoutNul (a ∷ b ∷ c ∷ d ∷ r)
 digits_of a b c d r h n =
@@ -64,20 +61,13 @@ string ps r h n = ap (λ l. 34 ∷ l) (pieces ps (34 ∷ r) h (ap (λ l. 34 ∷ 
 
 -- ---- numbers
 
-digit_is_some : (c : ℕ) → is_ascii_digit c ≡ true → c ≢ 0
-digit_is_some c h e = let x = rw e at h in cc
-
-all_digits : (w r : List ℕ) → list_all is_ascii_digit w ≡ true → IsWithoutNul r → IsWithoutNul (w ++ r)
-all_digits [] r h n = n
-all_digits (c ∷ w) r h n = let q = and_parts (is_ascii_digit c) (list_all is_ascii_digit w) h in character c (w ++ r) (digit_is_some c q.0) (all_digits w r q.1 n)
-
 digits : (w r : List ℕ) → are_digits w ≡ true → IsWithoutNul r → IsWithoutNul (w ++ r)
 digits [] r h n = n
-digits (c ∷ w) r h n = all_digits (c ∷ w) r h n
+digits (c ∷ w) r h n = characters is_ascii_digit refl (c ∷ w) r h n
 
 whole : (w r : List ℕ) → is_whole w ≡ true → IsWithoutNul r → IsWithoutNul (w ++ r)
 whole [] r h n = n
-whole (c ∷ []) r h n = character c r (digit_is_some c h) n
+whole (c ∷ []) r h n = character c r (not_nul is_ascii_digit refl c h) n
 whole (c ∷ d ∷ w) r h n = let q = and_parts _ (are_digits (c ∷ d ∷ w)) h in digits (c ∷ d ∷ w) r q.1 n
 
 behind_point : (f : Fraction) (r : List ℕ) → is_fraction f ≡ true → IsWithoutNul r → IsWithoutNul (spell_fraction f r)

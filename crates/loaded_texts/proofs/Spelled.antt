@@ -10,7 +10,10 @@ use Rattle.read_json.specs.JsonNest.{json_documents}
 use Rattle.read_json.proofs.Derived.{tokens_are_a_stream}
 use Rattle.read_json.proofs.Reading.{documents_read_as_their_trees}
 use Rattle.laid_tokens.specs.JsonTokens.{json_text_tokens}
-use Rattle.loaded_texts.specs.Laws.{JsonTextsAreReadAsTheirTree, CharactersAreTheText, StringsAreTheText}
+use Rattle.laid_tokens.specs.LayoutTokens.{layout_tokens}
+use Rattle.scan_layout.proofs.Whole.{layout_text_has_its_tokens}
+use Rattle.read_layout.proofs.Loaded.{tokens_read_as_their_tree}
+use Rattle.loaded_texts.specs.Laws.{JsonTextsAreReadAsTheirTree, LayoutTextsAreReadAsTheirTree, CharactersAreTheText, StringsAreTheText}
 
 pub characters_are_the_text : {S : Type 0} (steps : S → Option ℕ → S → Type 0) → CharactersAreTheText steps
 characters_are_the_text steps start all s always came no_nul =
@@ -24,6 +27,9 @@ json_texts_are_read keep_tags w is =
       has = json_text_has_its_tokens w is;
       read = record { documents = json_documents w; stream = tokens_are_a_stream keep_tags w; trees_are = documents_read_as_their_trees w is };
     }
+
+pub layout_texts_are_read : LayoutTextsAreReadAsTheirTree
+layout_texts_are_read keep_tags w is = record { tokens = layout_tokens w; has = layout_text_has_its_tokens w is; read = tokens_read_as_their_tree keep_tags w is }
 
 pub strings_are_the_text : StringsAreTheText
 strings_are_the_text start bytes s utf8 rest came no_nul free scans =

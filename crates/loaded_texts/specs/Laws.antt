@@ -9,6 +9,8 @@ use Rattle.yaml_chars.specs.Source.{CameFrom}
 use Rattle.yaml_chars.specs.Reading.{HasNoNul, up_to_nul}
 use Rattle.tree_defs.specs.Tree.{Tree}
 use Rattle.layout_defs.specs.Json.{JsonText, IsWellFormed, spell_text, tree_of}
+use Rattle.layout_defs.specs.Layout as layout
+use Rattle.layout_defs.specs.Layout.{Layout, IsLayout}
 use Rattle.yaml_tokens.specs.Fault.{Fault}
 use Rattle.event_defs.specs.Event.{Ev}
 use Rattle.event_defs.specs.Unfinished.{new_loader, with_events}
@@ -69,6 +71,16 @@ JsonTextsAreLoaded {R} takes =
 -- `json_texts_are_without_nul`
 abbrev pub JsonTextsAreWithoutNul : Type 0
 JsonTextsAreWithoutNul = (w : JsonText) → IsWellFormed w → IsWithoutNul (spell_text w)
+
+-- ---- layouts
+
+-- `layout_texts_are_read_as_their_tree`
+abbrev pub LayoutTextsAreReadAsTheirTree : Type 0
+LayoutTextsAreReadAsTheirTree = (keep_tags : Bool) (w : Layout) → IsLayout w → IsReadAs keep_tags (layout.spell w []) (layout.tree_of w ∷ [])
+
+-- `layout_texts_are_without_nul`
+abbrev pub LayoutTextsAreWithoutNul : Type 0
+LayoutTextsAreWithoutNul = (w : Layout) → IsLayout w → IsWithoutNul (layout.spell w [])
 
 -- ---- the text behind an iterator
 

@@ -2,6 +2,7 @@
 
 ghost use Rattle.loaded_texts.specs.Laws.{ReadTextsAreNotRefused, ReadTextsHaveNoFaultButMemory, EventsOfReadTextsAreRead, ReadTextsHaveTheirTrees};
 ghost use Rattle.loaded_texts.specs.Laws.{JsonTextsAreReadAsTheirTree, JsonTextsAreWithoutNul, ReadTextsAreLoaded, JsonTextsAreLoaded};
+ghost use Rattle.loaded_texts.specs.Laws.{LayoutTextsAreReadAsTheirTree, LayoutTextsAreWithoutNul};
 ghost use Rattle.loaded_texts.specs.Laws.{CharactersAreTheText, StringsAreTheText};
 
 use yaml_parser::MarkedEventReceiver;
@@ -34,6 +35,16 @@ pub fn json_texts_are_read_as_their_tree()
 /// No JSON text has a NUL.
 pub fn json_texts_are_without_nul()
     ensures { JsonTextsAreWithoutNul }
+{}
+
+/// Each text laid out in lines is read as its tree.
+pub fn layout_texts_are_read_as_their_tree()
+    ensures { LayoutTextsAreReadAsTheirTree }
+{}
+
+/// No text laid out in lines has a NUL.
+pub fn layout_texts_are_without_nul()
+    ensures { LayoutTextsAreWithoutNul }
 {}
 
 /// A load of a text that is read as trees, by a parser at its start, has these trees for documents, or memory was
