@@ -25,7 +25,7 @@ use Rattle.yaml_loader.specs.Loads as ends
 use Rattle.yaml_loader.specs.Loads.{HasDocuments, HasNoted, Notes, Pushes, AreLoaded, IsLoadFault, IsNew, AreLoadedAnew, IsFaultAnew}
 use Rattle.yaml_loader.proofs.GoOnAlike.{event_at_alike, alike_trans, show_the_same}
 
-with_last : (l : Loader) (es : List (Ev × Place)) (e : Ev) (p : Place) → with_events l (es ++ (e, p) ∷ []) ≡ with_event_at (with_events l es) e p
+pub with_last : (l : Loader) (es : List (Ev × Place)) (e : Ev) (p : Place) → with_events l (es ++ (e, p) ∷ []) ≡ with_event_at (with_events l es) e p
 with_last l [] e p = refl
 with_last l (x ∷ es) e p = with_last (with_event_at l x.0 x.1) es e p
 
@@ -48,7 +48,7 @@ pushes : {old behind new : Parsed} {answers : List (Answer Fault)} {events : Lis
 pushes {old} {behind} {new} {answers} pulled taken ends = record { answers = answers; behind = behind; pulled = pulled; taken = taken; ends = ends }
 
 module _ (l : YamlLoader) (empty : loader_of l ≡ new_loader) (clear : kept_fault l ≡ None) where
-  stands : {n : YamlLoader} {es : List (Ev × Place)} → Receives Takes l es n → StandsBehind es n
+  pub stands : {n : YamlLoader} {es : List (Ev × Place)} → Receives Takes l es n → StandsBehind es n
   stands no_event = record { alike = subst (λ x. StandAlike new_loader x) (sym empty) (record { documents = refl; opened = refl; root = refl; aliases = λ n. refl }); clear = clear }
   stands (one_event {r} {s} {t} {es} e p h takes) =
       let before = stands h in
@@ -59,7 +59,7 @@ module _ (l : YamlLoader) (empty : loader_of l ≡ new_loader) (clear : kept_fau
         clear = takes.goes_on;
       }
 
-  new_fault : {s t : YamlLoader} {es : List (Ev × Place)} {f : Fault} (e : Ev) (p : Place) → Receives Takes l es s → Takes s e p (Err f) t → IsNewFault f p (with_event_at (with_events new_loader es) e p)
+  pub new_fault : {s t : YamlLoader} {es : List (Ev × Place)} {f : Fault} (e : Ev) (p : Place) → Receives Takes l es s → Takes s e p (Err f) t → IsNewFault f p (with_event_at (with_events new_loader es) e p)
   new_fault {s} {t} {es} {f} e p h takes =
       let before = stands h in
       let x = with_event_at (with_events new_loader es) e p in

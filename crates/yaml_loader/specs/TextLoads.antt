@@ -1,12 +1,21 @@
 -- What a load promises of every text that its parser may have.
-use Rattle.std.specs.Prelude.{◌≡◌, List, ℕ, false, Option}
+use Rattle.std.specs.Prelude.{◌≡◌, List, [], ◌∷◌, ℕ, true, false, Option, Result, Ok, Err, Vec}
 use Rattle.std.specs.Iterator.{AlwaysYields}
-use Rattle.yaml_chars.specs.Reading.{up_to_nul}
+use Rattle.std.specs.declared.alloc.Global.{Global}
 use Rattle.tree_defs.specs.Tree.{Tree}
-use Rattle.layout_defs.specs.Json.{JsonText, IsWellFormed, spell_text, tree_of}
+use Rattle.layout_defs.specs.Json.{IsJsonText}
+use Rattle.layout_defs.specs.Layout.{IsLaidOut}
+use Rattle.yaml_tokens.specs.Fault.{Fault}
+use Rattle.yaml_tree.specs.View.{items_view}
+use Rattle.yaml_tree.specs.declared.yaml.Yaml.{Yaml}
 use Rattle.yaml_scanner.specs.Scanned.{MayBe}
 use Rattle.yaml_parser.specs.Parsed.{Parsed}
 use Rattle.loaded_texts.specs.TextReadAs.{IsReadAs, IsAtStart}
+
+-- A load answers just these documents, or memory was wanted.
+abbrev pub LoadsOnly : Result (Vec Yaml Global) Fault → List Tree → Type 0
+LoadsOnly (Ok documents) trees = items_view documents.items ≡ trees
+LoadsOnly (Err f) trees = f.memory ≡ true
 
 -- Where the parser was at its start: P of the trees that its text is read as, whichever text it may have.
 abbrev pub OfTexts : Parsed → Parsed → (List Tree → Type 0) → Type 0
@@ -16,14 +25,14 @@ OfTexts old new P = IsAtStart old → (text : List ℕ) (trees : List Tree) → 
 abbrev pub OfText : List ℕ → (List Tree → Type 0) → Type 0
 OfText text P = (trees : List Tree) → IsReadAs false text trees → P trees
 
--- P of the trees that the characters are read as, up to a NUL, which an iterator gives.
-abbrev pub OfGiven : {S : Type 0} → (S → Option ℕ → S → Type 0) → S → (List Tree → Type 0) → Type 0
-OfGiven steps source P = (all : List ℕ) → AlwaysYields steps (λ c. c) source all → OfText (up_to_nul all) P
+-- P of the one value of a JSON text.
+abbrev pub OfJson : List ℕ → (List Tree → Type 0) → Type 0
+OfJson text P = (tree : Tree) → IsJsonText tree text → P (tree ∷ [])
 
--- P of the value of a JSON text.
-abbrev pub OfJson : List ℕ → (Tree → Type 0) → Type 0
-OfJson text P = (w : JsonText) → IsWellFormed w → spell_text w ≡ text → P (tree_of w.value)
+-- P of the one tree that is laid out as the text.
+abbrev pub OfLayout : List ℕ → (List Tree → Type 0) → Type 0
+OfLayout text P = (tree : Tree) → IsLaidOut tree text → P (tree ∷ [])
 
--- P of the value of the JSON text that an iterator gives.
-abbrev pub OfGivenJson : {S : Type 0} → (S → Option ℕ → S → Type 0) → S → (Tree → Type 0) → Type 0
-OfGivenJson steps source P = (all : List ℕ) → AlwaysYields steps (λ c. c) source all → OfJson all P
+-- Q of the characters that an iterator always gives.
+abbrev pub OfGiven : {S : Type 0} → (S → Option ℕ → S → Type 0) → S → (List ℕ → Type 0) → Type 0
+OfGiven steps source Q = (text : List ℕ) → AlwaysYields steps (λ c. c) source text → Q text

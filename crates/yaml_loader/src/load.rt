@@ -1,5 +1,5 @@
 //! Texts, read as trees.
-ghost use Rattle.std.specs.Prelude.{◌≡◌, ◌^◌, ◌<◌, [], ◌∷◌, true, false, None, IfOk, OnOk, IfErr, All, List, chars};
+ghost use Rattle.std.specs.Prelude.{◌≡◌, ◌^◌, ◌<◌, None, IfOk, OnOk, IfErr, All, chars};
 ghost use Rattle.std.specs.Iterator.{IsFinite, size};
 ghost use Rattle.event_defs.specs.NoAlias.{HasNoAlias};
 ghost use Rattle.yaml_tree.specs.View.{items_view};
@@ -7,7 +7,7 @@ ghost use Rattle.yaml_chars.specs.Reading.{HasNoNul, up_to_nul};
 ghost use Rattle.yaml_chars.specs.Source.{CameFrom};
 ghost use Rattle.yaml_parser.specs.Parsed.{parsed};
 ghost use Rattle.yaml_loader.specs.Loads.{AreLoaded, IsLoadFault, AreLoadedAnew, IsFaultAnew};
-ghost use Rattle.yaml_loader.specs.TextLoads.{OfTexts, OfText, OfGiven, OfJson, OfGivenJson};
+ghost use Rattle.yaml_loader.specs.TextLoads.{LoadsOnly, OfTexts, OfText, OfGiven, OfJson, OfLayout};
 
 use crate::loader::{Course, YamlLoader, out_of_nesting};
 use event_defs::laws::loaded_trees_have_no_alias;
@@ -17,21 +17,28 @@ use yaml_tokens::ScanError;
 use yaml_tree::Yaml;
 
 impl YamlLoader {
-    /// All documents of a text, or one fault: one in a later document keeps the earlier ones back.
+    /// All documents of a text, up to its end or to a NUL, or one fault: one in a later document keeps the earlier ones
+    /// back, and is answered before a key that came twice (YAML 1.2, section 3.1).
+    ///
+    /// These texts load as their one tree, or memory is refused:
+    ///
+    /// - a JSON text (RFC 8259) with TABs only among the blanks that begin a line, no escape of half a pair of UTF-16, no
+    ///   key twice in an object, and at most 255 levels;
+    /// - `---` and, below it, a tree laid out in lines: block arrays and hashes at any columns, scalars on one line or as
+    ///   literal blocks, and between the entries empty lines and comment lines, with no key twice in a hash.
     pub fn load_from_str(alloc: Global, source: &str) -> Result<Vec<Yaml>, ScanError>
         ensures documents { IfOk result (λ documents. AreLoadedAnew (items_view documents.items)) }
         ensures no_alias { IfOk result (λ documents. All HasNoAlias (items_view documents.items)) }
         ensures fault { IfErr result IsFaultAnew }
-        ensures texts { IfOk result (λ documents. OfText (up_to_nul (chars source.now)) (λ trees. items_view documents.items ≡ trees)) }
-        ensures text_faults { IfErr result (λ f. OfText (up_to_nul (chars source.now)) (λ trees. f.memory ≡ true)) }
-        ensures json { IfOk result (λ documents. OfJson (chars source.now) (λ tree. items_view documents.items ≡ tree ∷ [])) }
-        ensures json_faults { IfErr result (λ f. OfJson (chars source.now) (λ tree. f.memory ≡ true)) }
+        ensures texts { OfText (up_to_nul (chars source.now)) (LoadsOnly result) }
+        ensures json { OfJson (chars source.now) (LoadsOnly result) }
+        ensures laid_out { OfLayout (chars source.now) (LoadsOnly result) }
     {
         let mut parser = Parser::new_from_str(alloc, source);
         YamlLoader::load_from_parser(alloc, &mut parser)
     }
 
-    /// All documents of the characters of an iterator, up to its end or to a NUL, or one fault.
+    /// All documents of the characters of an iterator, up to its first `None` or to a NUL, or one fault, as `load_from_str`.
     pub fn load_from_iter<I: Iterator<Item = char> + Drop>(
         alloc: Global,
         source: I,
@@ -42,10 +49,9 @@ impl YamlLoader {
         ensures documents { IfOk result (λ documents. AreLoadedAnew (items_view documents.items)) }
         ensures no_alias { IfOk result (λ documents. All HasNoAlias (items_view documents.items)) }
         ensures fault { IfErr result IsFaultAnew }
-        ensures texts { IfOk result (λ documents. OfGiven I.next_gives source (λ trees. items_view documents.items ≡ trees)) }
-        ensures text_faults { IfErr result (λ f. OfGiven I.next_gives source (λ trees. f.memory ≡ true)) }
-        ensures json { IfOk result (λ documents. OfGivenJson I.next_gives source (λ tree. items_view documents.items ≡ tree ∷ [])) }
-        ensures json_faults { IfErr result (λ f. OfGivenJson I.next_gives source (λ tree. f.memory ≡ true)) }
+        ensures texts { OfGiven I.next_gives source (λ text. OfText (up_to_nul text) (LoadsOnly result)) }
+        ensures json { OfGiven I.next_gives source (λ text. OfJson text (LoadsOnly result)) }
+        ensures laid_out { OfGiven I.next_gives source (λ text. OfLayout text (LoadsOnly result)) }
     {
         let mut parser = Parser::new(alloc, source);
         YamlLoader::load_from_parser(alloc, &mut parser)
@@ -61,8 +67,7 @@ impl YamlLoader {
         ensures no_alias { IfOk result (λ documents. All HasNoAlias (items_view documents.items)) }
         ensures no_fault { OnOk result ((parsed parser.new).fault ≡ None) }
         ensures fault { IfErr result (λ f. IsLoadFault (parsed parser.old) f (parsed parser.new)) }
-        ensures texts { IfOk result (λ documents. OfTexts (parsed parser.old) (parsed parser.new) (λ trees. items_view documents.items ≡ trees)) }
-        ensures text_faults { IfErr result (λ f. OfTexts (parsed parser.old) (parsed parser.new) (λ trees. f.memory ≡ true)) }
+        ensures texts { OfTexts (parsed parser.old) (parsed parser.new) (LoadsOnly result) }
         ensures start { parser.new.start ≡ parser.old.start }
         ensures came { CameFrom I.next_gives parser.new.start (parsed parser.new).scanner.taken (parsed parser.new).scanner.done }
         ensures no_nul { HasNoNul (parsed parser.new).scanner.taken }

@@ -1,8 +1,9 @@
-use Rattle.std.proofs.Common.{◌≡◌, ◌∙◌, true}
-use Rattle.yaml_tree.specs.View.{items_view}
+use Rattle.std.proofs.Common.{◌∙◌}
+use Rattle.yaml_chars.specs.Reading.{up_to_nul}
 use Rattle.yaml_parser.specs.Parsed.{parsed}
+use Rattle.yaml_loader.specs.TextLoads.{LoadsOnly}
 use Rattle.yaml_loader.proofs.LoadLemmas.{fault_anew}
-use Rattle.yaml_loader.proofs.TextLemmas.{ok_of_given, err_of_given, ok_of_given_json, err_of_given_json}
+use Rattle.yaml_loader.proofs.TextLemmas.{given_may_be, of_text, of_json, of_layout}
 use Rattle.yaml_loader.proofs.loader.YamlLoader.load_from_iter.Goals as goal
 
 pub returns-clause-fault : goal.returns-clause-fault
@@ -15,18 +16,14 @@ pub returns-clause-texts : goal.returns-clause-texts
 returns-clause-texts g c =
     let e = c.new-parser.ensures in
     let p = c.load_from_parser.ensures in
-    ok_of_given g.I.Iterator.next_gives c.args.source c.load_from_parser.new.parser.start c.load_from_parser.result (parsed c.new-parser.result) (parsed c.load_from_parser.new.parser)
-    (λ d trees. items_view d.items ≡ trees) (p.start ∙ e.start) p.came p.no_nul (record { given = e.given; fault = e.fault; started = e.started; ended = e.ended; steady = e.steady }) e.keep_tags p.texts
-
-pub returns-clause-text_faults : goal.returns-clause-text_faults
-returns-clause-text_faults g c =
-    let e = c.new-parser.ensures in
-    let p = c.load_from_parser.ensures in
-    err_of_given g.I.Iterator.next_gives c.args.source c.load_from_parser.new.parser.start c.load_from_parser.result (parsed c.new-parser.result) (parsed c.load_from_parser.new.parser)
-    (λ f trees. f.memory ≡ true) (p.start ∙ e.start) p.came p.no_nul (record { given = e.given; fault = e.fault; started = e.started; ended = e.ended; steady = e.steady }) e.keep_tags p.text_faults
+    let old = parsed c.new-parser.result in
+    let new = parsed c.load_from_parser.new.parser in
+    let may = given_may_be g.I.Iterator.next_gives c.args.source c.load_from_parser.new.parser.start new.scanner (p.start ∙ e.start) p.came p.no_nul in
+    λ text always. of_text (up_to_nul text) old new (LoadsOnly c.load_from_parser.result)
+    (record { given = e.given; fault = e.fault; started = e.started; ended = e.ended; steady = e.steady }) e.keep_tags (may text always) p.texts
 
 pub returns-clause-json : goal.returns-clause-json
-returns-clause-json g c = ok_of_given_json g.I.Iterator.next_gives c.args.source c.load_from_parser.result (λ d trees. items_view d.items ≡ trees) (returns-clause-texts g c)
+returns-clause-json g c = λ text always. of_json text (LoadsOnly c.load_from_parser.result) (returns-clause-texts g c text always)
 
-pub returns-clause-json_faults : goal.returns-clause-json_faults
-returns-clause-json_faults g c = err_of_given_json g.I.Iterator.next_gives c.args.source c.load_from_parser.result (λ f. f.memory ≡ true) (returns-clause-text_faults g c)
+pub returns-clause-laid_out : goal.returns-clause-laid_out
+returns-clause-laid_out g c = λ text always. of_layout text (LoadsOnly c.load_from_parser.result) (returns-clause-texts g c text always)

@@ -51,26 +51,26 @@ returns-in-OutOfMemory-clause-fault g c =
     let h = went_well l c.default-loader.ensures.empty c.default-loader.ensures.no_fault (subst (λ r. Loads Takes true (parsed c.args.parser.now) l r (parsed c.load-outcome.new.self) n) (c.in_ok-outcome.was {u = tt}) c.load-outcome.ensures.loads) in
     absurd (not_out_of_memory n c.in-OutOfMemory.mark h c.in-OutOfMemory.is)
 
-pub returns-in_err-outcome-clause-text_faults : goal.returns-in_err-outcome-clause-text_faults
-returns-in_err-outcome-clause-text_faults g c =
+pub returns-in_err-outcome-clause-texts : goal.returns-in_err-outcome-clause-texts
+returns-in_err-outcome-clause-texts g c =
     let p = err_from_is_err_and c.from_residual.result c.from_residual.ensures.1 in
     let n = c.load-outcome.new.recv in
     rw (p.1, p.2) (every_text_ends_as (parsed c.args.parser.now) (parsed c.load-outcome.new.self) c.default-loader.result n (Err c.in_err-outcome.field-0.0) c.default-loader.ensures.empty c.default-loader.ensures.no_fault c.note.ensures.scans (subst (λ r. Loads Takes true (parsed c.args.parser.now) c.default-loader.result r (parsed c.load-outcome.new.self) n) (c.in_err-outcome.was {u = tt}) c.load-outcome.ensures.loads))
 
-pub returns-in-RepeatedKey-clause-text_faults : goal.returns-in-RepeatedKey-clause-text_faults
-returns-in-RepeatedKey-clause-text_faults g c =
+pub returns-in-RepeatedKey-clause-texts : goal.returns-in-RepeatedKey-clause-texts
+returns-in-RepeatedKey-clause-texts g c =
     let n = c.load-outcome.new.recv in
     let t = every_text_ends_as (parsed c.args.parser.now) (parsed c.load-outcome.new.self) c.default-loader.result n (Ok tt) c.default-loader.ensures.empty c.default-loader.ensures.no_fault c.note.ensures.scans (subst (λ r. Loads Takes true (parsed c.args.parser.now) c.default-loader.result r (parsed c.load-outcome.new.self) n) (c.in_ok-outcome.was {u = tt}) c.load-outcome.ensures.loads) in
     λ start words trees may reads. let no = sym (t start words trees may reads).0 ∙ c.in-RepeatedKey.is in cc
 
-pub returns-in-OutOfNesting-clause-text_faults : goal.returns-in-OutOfNesting-clause-text_faults
-returns-in-OutOfNesting-clause-text_faults g c =
+pub returns-in-OutOfNesting-clause-texts : goal.returns-in-OutOfNesting-clause-texts
+returns-in-OutOfNesting-clause-texts g c =
     let n = c.load-outcome.new.recv in
     let t = every_text_ends_as (parsed c.args.parser.now) (parsed c.load-outcome.new.self) c.default-loader.result n (Ok tt) c.default-loader.ensures.empty c.default-loader.ensures.no_fault c.note.ensures.scans (subst (λ r. Loads Takes true (parsed c.args.parser.now) c.default-loader.result r (parsed c.load-outcome.new.self) n) (c.in_ok-outcome.was {u = tt}) c.load-outcome.ensures.loads) in
     λ start words trees may reads. let no = sym (t start words trees may reads).0 ∙ c.in-OutOfNesting.is in cc
 
-pub returns-in-OutOfMemory-clause-text_faults : goal.returns-in-OutOfMemory-clause-text_faults
-returns-in-OutOfMemory-clause-text_faults g c =
+pub returns-in-OutOfMemory-clause-texts : goal.returns-in-OutOfMemory-clause-texts
+returns-in-OutOfMemory-clause-texts g c =
     let n = c.load-outcome.new.recv in
     let t = every_text_ends_as (parsed c.args.parser.now) (parsed c.load-outcome.new.self) c.default-loader.result n (Ok tt) c.default-loader.ensures.empty c.default-loader.ensures.no_fault c.note.ensures.scans (subst (λ r. Loads Takes true (parsed c.args.parser.now) c.default-loader.result r (parsed c.load-outcome.new.self) n) (c.in_ok-outcome.was {u = tt}) c.load-outcome.ensures.loads) in
     λ start words trees may reads. let no = sym (t start words trees may reads).0 ∙ c.in-OutOfMemory.is in cc

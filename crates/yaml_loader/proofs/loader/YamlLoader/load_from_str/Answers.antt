@@ -1,11 +1,11 @@
-use Rattle.std.proofs.Common.{◌≡◌, ◌∙◌, ap, true}
+use Rattle.std.proofs.Common.{◌∙◌, ap}
 use Rattle.std.specs.Str.{chars}
 use Rattle.std.specs.Str.Iter.{chars_rest}
 use Rattle.yaml_chars.specs.Reading.{up_to_nul}
-use Rattle.yaml_tree.specs.View.{items_view}
 use Rattle.yaml_parser.specs.Parsed.{parsed}
+use Rattle.yaml_loader.specs.TextLoads.{LoadsOnly}
 use Rattle.yaml_loader.proofs.LoadLemmas.{fault_anew}
-use Rattle.yaml_loader.proofs.TextLemmas.{string_may_be, ok_of_text, err_of_text, ok_of_json, err_of_json}
+use Rattle.yaml_loader.proofs.TextLemmas.{string_may_be, of_text, of_json, of_layout}
 use Rattle.yaml_loader.proofs.loader.YamlLoader.load_from_str.Goals as goal
 
 pub returns-clause-fault : goal.returns-clause-fault
@@ -19,19 +19,11 @@ returns-clause-texts c =
     let e = c.new_from_str-parser.ensures in
     let p = c.load_from_parser.ensures in
     let may = string_may_be c.load_from_parser.new.parser.start c.args.source.now (parsed c.load_from_parser.new.parser).scanner c.utf8.source (ap chars_rest p.start ∙ e.source) p.came p.no_nul in
-    ok_of_text c.load_from_parser.result (parsed c.new_from_str-parser.result) (parsed c.load_from_parser.new.parser) (up_to_nul (chars c.args.source.now)) (λ d trees. items_view d.items ≡ trees)
+    of_text (up_to_nul (chars c.args.source.now)) (parsed c.new_from_str-parser.result) (parsed c.load_from_parser.new.parser) (LoadsOnly c.load_from_parser.result)
     (record { given = e.given; fault = e.fault; started = e.started; ended = e.ended; steady = e.steady }) e.keep_tags may p.texts
 
-pub returns-clause-text_faults : goal.returns-clause-text_faults
-returns-clause-text_faults c =
-    let e = c.new_from_str-parser.ensures in
-    let p = c.load_from_parser.ensures in
-    let may = string_may_be c.load_from_parser.new.parser.start c.args.source.now (parsed c.load_from_parser.new.parser).scanner c.utf8.source (ap chars_rest p.start ∙ e.source) p.came p.no_nul in
-    err_of_text c.load_from_parser.result (parsed c.new_from_str-parser.result) (parsed c.load_from_parser.new.parser) (up_to_nul (chars c.args.source.now)) (λ f trees. f.memory ≡ true)
-    (record { given = e.given; fault = e.fault; started = e.started; ended = e.ended; steady = e.steady }) e.keep_tags may p.text_faults
-
 pub returns-clause-json : goal.returns-clause-json
-returns-clause-json c = ok_of_json c.load_from_parser.result (chars c.args.source.now) (λ d trees. items_view d.items ≡ trees) (returns-clause-texts c)
+returns-clause-json c = of_json (chars c.args.source.now) (LoadsOnly c.load_from_parser.result) (returns-clause-texts c)
 
-pub returns-clause-json_faults : goal.returns-clause-json_faults
-returns-clause-json_faults c = err_of_json c.load_from_parser.result (chars c.args.source.now) (λ f. f.memory ≡ true) (returns-clause-text_faults c)
+pub returns-clause-laid_out : goal.returns-clause-laid_out
+returns-clause-laid_out c = of_layout (chars c.args.source.now) (LoadsOnly c.load_from_parser.result) (returns-clause-texts c)
