@@ -8,6 +8,13 @@ pub use layout_defs::laws::{
     json_trees_are_sound, laid_out_trees_are_sound, layouts_are_wide_layouts,
     widely_laid_out_trees_are_sound,
 };
+pub use loaded_texts::laws::{
+    characters_are_the_text, events_of_read_texts_are_read, json_texts_are_loaded,
+    json_texts_are_read_as_their_tree, json_texts_are_without_nul,
+    layout_texts_are_read_as_their_tree, layout_texts_are_without_nul, read_texts_are_loaded,
+    read_texts_are_not_refused, read_texts_have_no_fault_but_memory, read_texts_have_their_trees,
+    strings_are_the_text,
+};
 pub use read_json::laws::{
     foretold_events_are_not_refused, json_documents_read_as_their_trees, json_events_are_loaded,
     json_numbers_stand_for_their_trees, json_tokens_are_a_stream, json_tokens_read_as_their_tree,
