@@ -6,24 +6,24 @@ use Rattle.std.specs.Str.Iter.{chars_steps, chars_rest}
 use Rattle.std.specs.declared.str.Chars.{Chars}
 use Rattle.yaml_chars.specs.Source.{CameFrom}
 use Rattle.yaml_chars.specs.Reading.{HasNoNul, up_to_nul}
+use Rattle.yaml_chars.specs.Place.{Place}
+use Rattle.yaml_chars.proofs.SpelledLemmas.{Chars-spelled}
+use Rattle.tree_defs.specs.Tree.{Tree}
 use Rattle.layout_defs.specs.Json.{spell_text, tree_of}
 use Rattle.layout_defs.specs.Layout as layout
-use Rattle.yaml_chars.specs.Place.{Place}
-use Rattle.tree_defs.specs.Tree.{Tree}
 use Rattle.event_defs.specs.Event.{Ev}
 use Rattle.event_defs.specs.Unfinished.{Loader, at_work, noted, Unfinished, new_loader, with_event_at, with_events, refused_at}
 use Rattle.event_defs.specs.Unfinished as unfinished
 use Rattle.event_defs.specs.Laws.{HasRead}
 use Rattle.yaml_tokens.specs.Fault.{Fault}
-use Rattle.yaml_scanner.specs.Scanned.{Scanned, MayBe, ScansIn, Scans}
+use Rattle.yaml_scanner.specs.Scanned.{Scanned, MayBe, Scans}
 use Rattle.yaml_parser.specs.Parsed.{Parsed}
 use Rattle.yaml_parser.specs.Loads.{Loads}
 use Rattle.read_json.specs.ReadAs.{IsAtWork}
 use Rattle.loaded_texts.specs.TextReadAs.{IsReadAs, IsAtStart}
 use Rattle.loaded_texts.specs.LoadsAs.{LoadsAs, well, wants_memory, refused}
-use Rattle.loaded_texts.proofs.Loads.{texts_are_loaded}
-use Rattle.yaml_chars.proofs.SpelledLemmas.{Chars-spelled}
 use Rattle.loaded_texts.specs.Spelled.{IsWithoutNul}
+use Rattle.loaded_texts.proofs.Loads.{texts_are_loaded}
 use Rattle.loaded_texts.proofs.Spelled.{characters_are_the_text, json_texts_are_read, layout_texts_are_read}
 use Rattle.loaded_texts.proofs.JsonNul.{json_texts_have_no_nul}
 use Rattle.loaded_texts.proofs.LayoutNul.{layout_texts_have_no_nul}
@@ -74,16 +74,11 @@ ends_as {l} {n} trees new clear (well es took read) = has_read trees (with_event
 ends_as trees new clear (wants_memory es took memory) = memory
 ends_as {l} trees new clear (refused {f = f} es e p took takes working) = refuses_for_memory es e p f (new_fault l new clear e p took takes) working
 
--- A load by an empty loader, of a parser at its start, in a text that is read as trees.
-pub texts_end_as : (old new : Parsed) (l n : YamlLoader) (result : Result (Unit {0}) Fault) (text : List ℕ) (trees : List Tree) → loader_of l ≡ new_loader → kept_fault l ≡ None
-    → IsAtStart old → IsReadAs old.keep_tags text trees → ScansIn text new.scanner → Loads Takes true old l result new n → EndsAs trees result n
-texts_end_as old new l n result text trees empty clear start reads scans loads =
-    ends_as trees empty clear (texts_are_loaded Takes old new l n result text trees start reads scans loads)
-
--- The same of every text that the parser may have.
-pub every_text_ends_as : (old new : Parsed) (l n : YamlLoader) (result : Result (Unit {0}) Fault) → loader_of l ≡ new_loader → kept_fault l ≡ None → Scans new.scanner
+-- A load by an empty loader, of a parser at its start.
+pub every_text_ends_as : {old new : Parsed} {l n : YamlLoader} {result : Result (Unit {0}) Fault} → loader_of l ≡ new_loader → kept_fault l ≡ None → Scans new.scanner
     → Loads Takes true old l result new n → OfTexts old new (λ trees. EndsAs trees result n)
-every_text_ends_as old new l n result empty clear scans loads start text trees may reads = texts_end_as old new l n result text trees empty clear start reads (scans.scans text may) loads
+every_text_ends_as {old} {new} {l} {n} {result} empty clear scans loads start text trees may reads =
+    ends_as trees empty clear (texts_are_loaded Takes old new l n result text trees start reads (scans.scans text may) loads)
 
 -- ---- the text behind an iterator
 
@@ -97,16 +92,14 @@ pub given_may_be : {S : Type 0} (steps : S → Option ℕ → S → Type 0) (sou
     → OfGiven steps source (λ text. MayBe s (up_to_nul text))
 given_may_be steps source start s same came no_nul = λ all always. characters_are_the_text steps source all s always (subst (λ i. CameFrom steps i s.taken s.done) same came) no_nul
 
--- ---- of which trees are known
+-- ---- texts whose one tree is known
 
--- A text without NUL is read up to a NUL as it is.
-up_to_nul_reads : (spelt text : List ℕ) (trees : List Tree) → IsWithoutNul spelt → spelt ≡ text → IsReadAs false spelt trees → IsReadAs false (up_to_nul text) trees
-up_to_nul_reads spelt text trees free e reads = subst (λ a. IsReadAs false a trees) (sym free ∙ ap up_to_nul e) reads
+-- P of the tree that a text without NUL is read as
+of_one : (spelt text : List ℕ) (t tree : Tree) (P : List Tree → Type 0) → IsWithoutNul spelt → IsReadAs false spelt (t ∷ []) → spelt ≡ text → t ≡ tree → OfText (up_to_nul text) P → P (tree ∷ [])
+of_one spelt text t tree P free reads e same h = subst (λ u. P (u ∷ [])) same (h (t ∷ []) (subst (λ a. IsReadAs false a (t ∷ [])) (sym free ∙ ap up_to_nul e) reads))
 
 pub of_json : (text : List ℕ) (P : List Tree → Type 0) → OfText (up_to_nul text) P → OfJson text P
-of_json text P h tree (w, is, e, same) =
-    subst (λ t. P (t ∷ [])) same (h (tree_of w.value ∷ []) (up_to_nul_reads (spell_text w) text (tree_of w.value ∷ []) (json_texts_have_no_nul w is) e (json_texts_are_read false w is)))
+of_json text P h tree (w, is, e, same) = of_one (spell_text w) text (tree_of w.value) tree P (json_texts_have_no_nul w is) (json_texts_are_read false w is) e same h
 
 pub of_layout : (text : List ℕ) (P : List Tree → Type 0) → OfText (up_to_nul text) P → OfLayout text P
-of_layout text P h tree (w, is, e, same) =
-    subst (λ t. P (t ∷ [])) same (h (layout.tree_of w ∷ []) (up_to_nul_reads (layout.spell w []) text (layout.tree_of w ∷ []) (layout_texts_have_no_nul w is) e (layout_texts_are_read false w is)))
+of_layout text P h tree (w, is, e, same) = of_one (layout.spell w []) text (layout.tree_of w) tree P (layout_texts_have_no_nul w is) (layout_texts_are_read false w is) e same h
