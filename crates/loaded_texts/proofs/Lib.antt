@@ -1,5 +1,8 @@
-pub mod Texts
-pub mod Runs
-pub mod Loads
-pub mod Spelled
+pub mod Answers
 pub mod JsonNul
+pub mod Loads
+pub mod Pulled
+pub mod Runs
+pub mod Spelled
+pub mod StreamEnds
+pub mod Texts

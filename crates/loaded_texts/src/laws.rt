@@ -2,7 +2,7 @@
 
 ghost use Rattle.loaded_texts.specs.Laws.{ReadTextsAreNotRefused, ReadTextsHaveNoFaultButMemory, EventsOfReadTextsAreRead, ReadTextsHaveTheirTrees};
 ghost use Rattle.loaded_texts.specs.Laws.{JsonTextsAreReadAsTheirTree, JsonTextsAreWithoutNul, ReadTextsAreLoaded, JsonTextsAreLoaded};
-ghost use Rattle.loaded_texts.specs.Laws.{CharactersAreTheText, StringsAreTheText};
+ghost use Rattle.loaded_texts.specs.Laws.{TextsAreAnswered, CharactersAreTheText, StringsAreTheText};
 
 use yaml_parser::MarkedEventReceiver;
 
@@ -34,6 +34,12 @@ pub fn json_texts_are_read_as_their_tree()
 /// No JSON text has a NUL.
 pub fn json_texts_are_without_nul()
     ensures { JsonTextsAreWithoutNul }
+{}
+
+/// A load by a parser at its start pushes all events of its text; or it has a fault of which the text, or want of memory,
+/// is the reason; or the receiver refused an event that is the text's next.
+pub fn texts_are_answered<R: MarkedEventReceiver>()
+    ensures { TextsAreAnswered R.takes }
 {}
 
 /// A load of a text that is read as trees, by a parser at its start, has these trees for documents, or memory was
