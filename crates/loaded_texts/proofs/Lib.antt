@@ -1,7 +1,10 @@
-pub mod Texts
-pub mod Runs
-pub mod Loads
-pub mod Spelled
-pub mod Nul
+pub mod Answers
 pub mod JsonNul
 pub mod LayoutNul
+pub mod Loads
+mod Nul
+pub mod Pulled
+pub mod Runs
+pub mod Spelled
+pub mod StreamEnds
+pub mod Texts

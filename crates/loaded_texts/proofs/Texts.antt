@@ -14,6 +14,7 @@ use Rattle.yaml_parser.specs.Parsed.{read}
 use Rattle.read_json.specs.ReadAs.{ReadAs, IsAtWork}
 use Rattle.read_json.proofs.Loads.{streams_are_loaded, foretold_are_not_refused, streams_are_not_cut}
 use Rattle.loaded_texts.specs.TextReadAs.{IsReadAs}
+use Rattle.loaded_texts.specs.TextEvents.{AreFirst}
 use Rattle.loaded_texts.specs.Laws.{ReadTextsAreNotRefused, ReadTextsHaveNoFaultButMemory, EventsOfReadTextsAreRead, ReadTextsHaveTheirTrees}
 
 -- The tokens handed out, with some more, are read as the trees.
@@ -21,15 +22,18 @@ pub record GoesOn (keep_tags : Bool) (given : List Token) (trees : List Tree) : 
   pub more : List Tok
   pub reads : ReadAs keep_tags (toks given ++ more) trees
 
-pub goes_on : (keep_tags : Bool) (text : List ℕ) (trees : List Tree) (s : Scanned) → IsReadAs keep_tags text trees → ScansIn text s → GoesOn keep_tags s.given trees
-goes_on keep_tags text trees s x scans =
-    let b = scans.begins x.has.0 x.has.1 in
-    let same : x.tokens ≡ toks s.given ++ toks b.more = sym x.has.2 ∙ ap toks b.whole ∙ map-append (λ (t : Token). t.tok) s.given b.more in
+pub goes_on : (keep_tags : Bool) (text : List ℕ) (trees : List Tree) (given : List Token) → IsReadAs keep_tags text trees → AreFirst text given → GoesOn keep_tags given trees
+goes_on keep_tags text trees given x first =
+    let b = first.begins x.has.0 x.has.1 in
+    let same : x.tokens ≡ toks given ++ toks b.more = sym x.has.2 ∙ ap toks b.whole ∙ map-append (λ (t : Token). t.tok) given b.more in
     record { more = toks b.more; reads = subst (λ ts. ReadAs keep_tags ts trees) same x.read }
+
+pub first_tokens : (text : List ℕ) (s : Scanned) → ScansIn text s → AreFirst text s.given
+first_tokens text s scans = record { reached = scans.reached; begins = scans.begins }
 
 pub texts_are_not_refused : ReadTextsAreNotRefused
 texts_are_not_refused p text trees x scans r =
-    let y = goes_on p.keep_tags text trees p.scanner x scans in
+    let y = goes_on p.keep_tags text trees p.scanner.given x (first_tokens text p.scanner scans) in
     streams_are_not_cut p.keep_tags (toks p.scanner.given) y.more trees y.reads r.none
 
 scanner_wants_memory : (o : Option Fault) (f : Fault) → o ≡ Some f → IfSome o (λ g. g.memory ≡ true) → f.memory ≡ true
@@ -54,13 +58,13 @@ foretold_are_at_work keep_tags tokens more trees es reads foretold = foretold_ar
 
 pub events_are_read : EventsOfReadTextsAreRead
 events_are_read p text trees es more x scans follows e =
-    let y = goes_on p.keep_tags text trees p.scanner x scans in
+    let y = goes_on p.keep_tags text trees p.scanner.given x (first_tokens text p.scanner scans) in
     foretold_are_not_refused p.keep_tags (toks p.scanner.given) y.more trees es y.reads
     (foretells_beginning p.keep_tags (toks p.scanner.given) (read p) es more e follows.only)
 
 pub texts_have_their_trees : ReadTextsHaveTheirTrees
 texts_have_their_trees p text trees x scans whole =
-    let y = goes_on p.keep_tags text trees p.scanner x scans in
+    let y = goes_on p.keep_tags text trees p.scanner.given x (first_tokens text p.scanner scans) in
     let all = toks p.scanner.given ++ y.more in
     let stream : IsStream p.keep_tags all (events_of (read p)) = subst (IsStream p.keep_tags all) (whole.only y.more _ y.reads.stream).1 y.reads.stream in
     streams_are_loaded p.keep_tags all trees (read p) y.reads stream

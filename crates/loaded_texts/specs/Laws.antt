@@ -21,6 +21,7 @@ use Rattle.yaml_parser.specs.Follows.{Follows, Refused, IsWhole, Explains}
 use Rattle.yaml_parser.specs.Loads.{Loads}
 use Rattle.read_json.specs.ReadAs.{IsAtWork}
 use Rattle.loaded_texts.specs.TextReadAs.{IsReadAs, IsAtStart}
+use Rattle.loaded_texts.specs.TextEvents.{AnswersText}
 use Rattle.loaded_texts.specs.LoadsAs.{LoadsAs}
 use Rattle.loaded_texts.specs.Spelled.{IsWithoutNul}
 
@@ -49,6 +50,12 @@ ReadTextsHaveTheirTrees =
     → HasRead (Ok trees) (with_events new_loader (read p))
 
 -- ---- a load
+
+-- `texts_are_answered`, for each kind of receiver
+abbrev pub TextsAreAnswered : {R : Type 0} → (R → Ev → Place → Result (Unit {0}) Fault → R → Type 0) → Type 0
+TextsAreAnswered {R} takes =
+    (old new : Parsed) (r s : R) (result : Result (Unit {0}) Fault) (text : List ℕ) → IsAtStart old → ScansIn text new.scanner → Loads takes true old r result new s
+    → AnswersText takes old.keep_tags text r result s
 
 -- `read_texts_are_loaded`, for each kind of receiver
 abbrev pub ReadTextsAreLoaded : {R : Type 0} → (R → Ev → Place → Result (Unit {0}) Fault → R → Type 0) → Type 0

@@ -1,4 +1,5 @@
 pub mod Laws
 pub mod LoadsAs
 pub mod Spelled
+pub mod TextEvents
 pub mod TextReadAs

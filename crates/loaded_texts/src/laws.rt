@@ -3,7 +3,7 @@
 ghost use Rattle.loaded_texts.specs.Laws.{ReadTextsAreNotRefused, ReadTextsHaveNoFaultButMemory, EventsOfReadTextsAreRead, ReadTextsHaveTheirTrees};
 ghost use Rattle.loaded_texts.specs.Laws.{JsonTextsAreReadAsTheirTree, JsonTextsAreWithoutNul, ReadTextsAreLoaded, JsonTextsAreLoaded};
 ghost use Rattle.loaded_texts.specs.Laws.{LayoutTextsAreReadAsTheirTree, LayoutTextsAreWithoutNul};
-ghost use Rattle.loaded_texts.specs.Laws.{CharactersAreTheText, StringsAreTheText};
+ghost use Rattle.loaded_texts.specs.Laws.{TextsAreAnswered, CharactersAreTheText, StringsAreTheText};
 
 use yaml_parser::MarkedEventReceiver;
 
@@ -45,6 +45,10 @@ pub fn layout_texts_are_read_as_their_tree()
 /// No text laid out in lines has a NUL.
 pub fn layout_texts_are_without_nul()
     ensures { LayoutTextsAreWithoutNul }
+/// A load by a parser at its start pushes all events of its text; or it has a fault of which the text, or want of memory,
+/// is the reason; or the receiver refused an event that is the text's next.
+pub fn texts_are_answered<R: MarkedEventReceiver>()
+    ensures { TextsAreAnswered R.takes }
 {}
 
 /// A load of a text that is read as trees, by a parser at its start, has these trees for documents, or memory was

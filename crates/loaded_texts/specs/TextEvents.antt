@@ -1,0 +1,53 @@
+-- Any text against what a parser that is at its start pushes of it.
+use Rattle.std.specs.Prelude.{◌≡◌, ℕ, Bool, true, List, [], ◌∷◌, ◌++◌, Option, Result, Ok, Err}
+use Rattle.yaml_chars.specs.Place.{Place}
+use Rattle.token_defs.specs.Token.{Tok, Token}
+use Rattle.yaml_tokens.specs.Fault.{Fault}
+use Rattle.event_defs.specs.Event.{Ev}
+use Rattle.event_defs.specs.Nested.{NestedDocument, nested_stream}
+use Rattle.event_defs.specs.Stream.{IsStream, Begins, Foretells, NoneBegins, toks, events_of}
+use Rattle.scan_json.specs.JsonScan.{HasToks}
+use Rattle.scan_model.specs.Run.{HasTokens}
+use Rattle.yaml_scanner.specs.Follows as scan
+use Rattle.yaml_scanner.specs.Follows.{IsReached}
+use Rattle.yaml_scanner.specs.Scanned.{IsRefusal}
+use Rattle.yaml_parser.specs.Follows.{listed}
+use Rattle.yaml_parser.specs.Loads.{Receives}
+
+-- The text has tokens, these are a stream's, and these are its events. They are nested.
+pub record HasEvents (keep_tags : Bool) (text : List ℕ) (events : List (Ev × Place)) : Type 0 where
+  pub tokens : List Tok
+  pub has : HasToks text tokens
+  pub documents : List NestedDocument
+  pub stream : IsStream keep_tags tokens (nested_stream documents)
+  pub events_are : events_of events ≡ nested_stream documents
+
+-- These are the text's first tokens: those that it has first at some point of a run, and in the end.
+pub record AreFirst (text : List ℕ) (given : List Token) : Type 0 where
+  pub reached : IsReached text given
+  pub begins : (ts : List Token) → HasTokens text ts → scan.Begins given ts
+
+-- The text's events begin with these, as far as its first tokens tell: a stream begins with these tokens but for the last, and with
+-- these events, and each stream that begins with these tokens begins with these events.
+pub record BeginsEvents (keep_tags : Bool) (text : List ℕ) (events : List (Ev × Place)) : Type 0 where
+  pub before : List Token
+  pub last : Option Token
+  pub first : AreFirst text (before ++ listed last)
+  pub begins : Begins keep_tags (toks before) (events_of events)
+  pub only : Foretells keep_tags (toks (before ++ listed last)) (events_of events)
+
+-- Why a parser has this fault: memory was refused; or the scanner refuses the text so; or a stream begins with the text's
+-- first tokens, and none with these and the next.
+pub data IsFaultOf (keep_tags : Bool) (text : List ℕ) (f : Fault) : Type 0 where
+  wants_memory : f.memory ≡ true → IsFaultOf keep_tags text f
+  no_token : IsRefusal text f → IsFaultOf keep_tags text f
+  no_stream : (before : List Token) (last : Token) (events : List Ev) → AreFirst text (before ++ last ∷ []) → Begins keep_tags (toks before) events → NoneBegins keep_tags (toks (before ++ last ∷ []))
+      → IsFaultOf keep_tags text f
+
+-- How a load of the text ends: the receiver took all its events; or the parser has a fault; or the receiver refused an event
+-- that is the next of the text.
+pub data AnswersText {R : Type 0} (takes : R → Ev → Place → Result (Unit {0}) Fault → R → Type 0) (keep_tags : Bool) (text : List ℕ) (r : R) : Result (Unit {0}) Fault → R → Type 0 where
+  whole : {s : R} (es : List (Ev × Place)) → HasEvents keep_tags text es → Receives takes r es s → AnswersText takes keep_tags text r (Ok tt) s
+  faulted : {s : R} {f : Fault} (es : List (Ev × Place)) → IsFaultOf keep_tags text f → Receives takes r es s → AnswersText takes keep_tags text r (Err f) s
+  refused : {s t : R} {f : Fault} (es : List (Ev × Place)) (e : Ev) (p : Place) → BeginsEvents keep_tags text (es ++ (e, p) ∷ []) → Receives takes r es s → takes s e p (Err f) t
+      → AnswersText takes keep_tags text r (Err f) t
