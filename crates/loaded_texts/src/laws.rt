@@ -45,6 +45,8 @@ pub fn layout_texts_are_read_as_their_tree()
 /// No text laid out in lines has a NUL.
 pub fn layout_texts_are_without_nul()
     ensures { LayoutTextsAreWithoutNul }
+{}
+
 /// A load by a parser at its start pushes all events of its text; or it has a fault of which the text, or want of memory,
 /// is the reason; or the receiver refused an event that is the text's next.
 pub fn texts_are_answered<R: MarkedEventReceiver>()

@@ -6,4 +6,5 @@ pub mod OpenedLemmas
 pub mod Reals
 pub mod Tags
 pub mod Words
+mod AnyText
 mod TextLemmas

@@ -1,6 +1,6 @@
 -- What a load answers, from what its parser did with the loader.
 use Rattle.std.proofs.Common.{◌≡◌, List, [], ◌∷◌, ◌++◌, length, true, refl, sym, ap, ◌∙◌, subst, inl, inr}
-use Rattle.std.specs.Prelude.{None, Result, Ok, Err, IfErr, All, String, false}
+use Rattle.std.specs.Prelude.{None, Result, Ok, Err, All, String, false}
 use Rattle.std.specs.declared.alloc.Global.{Global}
 use Rattle.yaml_chars.specs.Place.{Place}
 use Rattle.tree_defs.specs.Tree.{Tree}
@@ -22,7 +22,7 @@ use Rattle.yaml_loader.specs.Alike.{StandAlike}
 use Rattle.yaml_loader.specs.View.{unfinished_of, repeated_key}
 use Rattle.yaml_loader.specs.Loading.{loader_of, loader_by, kept_fault, kept_by, IsNewFault, Takes}
 use Rattle.yaml_loader.specs.Loads as ends
-use Rattle.yaml_loader.specs.Loads.{HasDocuments, HasNoted, Notes, Pushes, AreLoaded, IsLoadFault, IsNew, AreLoadedAnew, IsFaultAnew}
+use Rattle.yaml_loader.specs.Loads.{HasDocuments, HasNoted, Notes, Pushes, AreLoaded, IsLoadFault}
 use Rattle.yaml_loader.proofs.GoOnAlike.{event_at_alike, alike_trans, show_the_same}
 
 pub with_last : (l : Loader) (es : List (Ev × Place)) (e : Ev) (p : Place) → with_events l (es ++ (e, p) ∷ []) ≡ with_event_at (with_events l es) e p
@@ -130,9 +130,3 @@ no_alias documents law (es, all, read) = by (with_events new_loader es) (law es)
     by (at_work u) h e = subst (λ ts. All HasNoAlias ts) e h
     by (noted d k p) h e = absurd e
     by (unfinished.refused d p) h e = absurd e
-
--- ---- over a parser of its own
-
-pub fault_anew : {A : Type 0} (r : Result A Fault) (old new : Parsed) → IsNew old → IfErr r (λ f. IsLoadFault old f new) → IfErr r IsFaultAnew
-fault_anew (Ok x) old new fresh h = tt
-fault_anew (Err f) old new fresh h = (old, new, fresh, h)

@@ -1,6 +1,7 @@
 -- What a load answers of a text that is read as trees.
-use Rattle.std.proofs.Common.{◌≡◌, ℕ, List, [], ◌∷◌, ◌++◌, true, false, refl, sym, ap, ◌∙◌, subst, inl, inr}
-use Rattle.std.specs.Prelude.{Option, Some, None, Result, Ok, Err}
+use Rattle.std.proofs.Common.{◌≡◌, ℕ, Bool, List, [], ◌∷◌, true, false, refl, sym, ap, ◌∙◌, subst}
+use Rattle.std.specs.Prelude.{Option, Result, Ok, Err, Vec, map}
+use Rattle.std.specs.declared.alloc.Global.{Global}
 use Rattle.std.specs.Str.{chars, IsUtf8}
 use Rattle.std.specs.Str.Iter.{chars_steps, chars_rest}
 use Rattle.std.specs.declared.str.Chars.{Chars}
@@ -8,85 +9,73 @@ use Rattle.yaml_chars.specs.Source.{CameFrom}
 use Rattle.yaml_chars.specs.Reading.{HasNoNul, up_to_nul}
 use Rattle.yaml_chars.specs.Place.{Place}
 use Rattle.yaml_chars.proofs.SpelledLemmas.{Chars-spelled}
+use Rattle.token_defs.specs.Token.{Tok}
 use Rattle.tree_defs.specs.Tree.{Tree}
 use Rattle.layout_defs.specs.Json.{spell_text, tree_of}
 use Rattle.layout_defs.specs.Layout as layout
 use Rattle.event_defs.specs.Event.{Ev}
-use Rattle.event_defs.specs.Unfinished.{Loader, at_work, noted, Unfinished, new_loader, with_event_at, with_events, refused_at}
+use Rattle.event_defs.specs.Stream.{IsStream, toks, events_of}
+use Rattle.event_defs.specs.Nested.{NestedDocument, nested_stream}
+use Rattle.event_defs.specs.Reading.{reading}
+use Rattle.event_defs.specs.Unfinished.{Loader, at_work, noted, new_loader, with_events}
 use Rattle.event_defs.specs.Unfinished as unfinished
 use Rattle.event_defs.specs.Laws.{HasRead}
+use Rattle.event_defs.proofs.OneByOne.{one_by_one}
+use Rattle.event_defs.proofs.OneReading as grammar
 use Rattle.yaml_tokens.specs.Fault.{Fault}
-use Rattle.yaml_scanner.specs.Scanned.{Scanned, MayBe, Scans}
+use Rattle.scan_model.proofs.Runs.{one_list}
+use Rattle.scan_json.specs.JsonScan.{HasToks}
+use Rattle.yaml_tree.specs.declared.yaml.Yaml.{Yaml}
+use Rattle.yaml_scanner.specs.Scanned.{Scanned, MayBe}
 use Rattle.yaml_parser.specs.Parsed.{Parsed}
-use Rattle.yaml_parser.specs.Loads.{Loads}
-use Rattle.read_json.specs.ReadAs.{IsAtWork}
 use Rattle.loaded_texts.specs.TextReadAs.{IsReadAs, IsAtStart}
-use Rattle.loaded_texts.specs.LoadsAs.{LoadsAs, well, wants_memory, refused}
 use Rattle.loaded_texts.specs.Spelled.{IsWithoutNul}
-use Rattle.loaded_texts.proofs.Loads.{texts_are_loaded}
+use Rattle.loaded_texts.proofs.Loads.{memory_is_wanted}
 use Rattle.loaded_texts.proofs.Spelled.{characters_are_the_text, json_texts_are_read, layout_texts_are_read}
 use Rattle.loaded_texts.proofs.JsonNul.{json_texts_have_no_nul}
 use Rattle.loaded_texts.proofs.LayoutNul.{layout_texts_have_no_nul}
-use Rattle.yaml_loader.specs.declared.loader.Course.{Course}
-use Rattle.yaml_loader.specs.declared.loader.Course.TheVariants as course
-use Rattle.yaml_loader.specs.declared.loader.YamlLoader.{YamlLoader}
-use Rattle.yaml_loader.specs.Alike.{StandAlike}
-use Rattle.yaml_loader.specs.View.{unfinished_of}
-use Rattle.yaml_loader.specs.TextLoads.{OfTexts, OfText, OfGiven, OfJson, OfLayout}
-use Rattle.yaml_loader.specs.Loading.{loader_of, loader_by, kept_fault, IsNewFault, Takes}
-use Rattle.yaml_loader.proofs.LoadLemmas.{with_last, stands, new_fault}
+use Rattle.yaml_loader.specs.TextLoads.{LoadsText, LoadsOnly, OfTexts, OfText, OfGiven, OfJson, OfLayout}
+use Rattle.yaml_loader.specs.Unread.{of_parser}
+use Rattle.yaml_loader.specs.Unread as unread
+use Rattle.yaml_loader.proofs.AnyText.{somewhere, with_somewhere}
 
--- ---- how a load ends
+-- ---- a text is read in one way
 
--- The loader goes on and has just these documents; or memory was wanted.
-abbrev pub EndsAs : List Tree → Result (Unit {0}) Fault → YamlLoader → Type 0
-EndsAs trees (Ok u) n = (n.course ≡ course.Reading) × ((unfinished_of n.reading).documents ≡ trees)
-EndsAs trees (Err f) n = f.memory ≡ true
+read_again : (r q : Result (List Tree) Tree) (x : Loader) → HasRead r x → HasRead q x → {trees : List Tree} → q ≡ Ok trees → r ≡ Ok trees
+read_again (Ok ts) (Ok us) (at_work u) h k e = ap Ok (sym h.0 ∙ k.0) ∙ e
+read_again (Ok ts) (Ok us) (noted documents key p) h k e = absurd h
+read_again (Ok ts) (Ok us) (unfinished.refused documents p) h k e = absurd h
+read_again (Err key) (Ok us) (at_work u) h k e = absurd h
+read_again (Err key) (Ok us) (noted documents k' p) h k e = absurd k
+read_again (Err key) (Ok us) (unfinished.refused documents p) h k e = absurd k
+read_again r (Err key) x h k e = cc
 
-has_read : (trees : List Tree) (x : Loader) (n : YamlLoader) → HasRead (Ok trees) x → StandAlike x (loader_of n) → EndsAs trees (Ok tt) n
-has_read trees (at_work u) n h alike = by n.course refl
-  where
-    by : (d : Course) → n.course ≡ d → EndsAs trees (Ok tt) n
-    by course.Reading e =
-        let a : StandAlike (at_work u) (at_work (unfinished_of n.reading)) = subst (λ d. StandAlike (at_work u) (loader_by d (unfinished_of n.reading))) e alike in
-        (e, sym a.documents ∙ h.0)
-    by (course.RepeatedKey p text) e = absurd (subst (λ d. StandAlike (at_work u) (loader_by d (unfinished_of n.reading))) e alike)
-    by (course.OutOfNesting p) e = absurd (subst (λ d. StandAlike (at_work u) (loader_by d (unfinished_of n.reading))) e alike)
-    by (course.OutOfMemory p) e = absurd (subst (λ d. StandAlike (at_work u) (loader_by d (unfinished_of n.reading))) e alike)
-has_read trees (noted documents key p) n h alike = absurd h
-has_read trees (unfinished.refused documents p) n h alike = absurd h
+-- Documents whose events the text has are read as the trees that it is read as.
+one_reading : {keep_tags : Bool} {text : List ℕ} {trees : List Tree} (tokens : List Tok) (documents : List NestedDocument) → HasToks text tokens → IsStream keep_tags tokens (nested_stream documents)
+    → IsReadAs keep_tags text trees → reading documents ≡ Ok trees
+one_reading {keep_tags} {text} tokens documents has stream x =
+    let same : tokens ≡ x.tokens = sym has.2 ∙ ap toks (one_list text has.0 x.has.0 has.1 x.has.1) ∙ x.has.2 in
+    let events = grammar.one_list keep_tags tokens (nested_stream documents) (nested_stream x.read.documents) stream (subst (λ ts. IsStream keep_tags ts (nested_stream x.read.documents)) (sym same) x.read.stream) in
+    let es = map somewhere (nested_stream documents) in
+    let are = with_somewhere [] (nested_stream documents) in
+    read_again (reading documents) (reading x.read.documents) (with_events new_loader es) (one_by_one documents es are) (one_by_one x.read.documents es (are ∙ events)) x.read.trees_are
 
-not_refused : (x : Loader) (p : Place) → IsAtWork x → refused_at x ≡ Some p → ⊥
-not_refused (at_work u) p h e = cc
-not_refused (noted documents key q) p h e = cc
-not_refused (unfinished.refused documents q) p h e = h
-
--- A loader refuses an event for memory alone, where the definitions' loader is at work behind it.
-refuses_for_memory : (es : List (Ev × Place)) (e : Ev) (p : Place) (f : Fault) → IsNewFault f p (with_event_at (with_events new_loader es) e p) → IsAtWork (with_events new_loader (es ++ (e, p) ∷ []))
-    → f.memory ≡ true
-refuses_for_memory es e p f why working =
-    let x = with_event_at (with_events new_loader es) e p in
-    let here : IsAtWork x = subst (λ y. IsAtWork y) (with_last new_loader es e p) working in
-    elim why [ inl memory ↦ ap (λ g. g.memory) memory | inr nesting ↦ absurd (not_refused x p here nesting.1) ]
-
-ends_as : {l n : YamlLoader} {result : Result (Unit {0}) Fault} (trees : List Tree) → loader_of l ≡ new_loader → kept_fault l ≡ None → LoadsAs Takes trees l result n → EndsAs trees result n
-ends_as {l} {n} trees new clear (well es took read) = has_read trees (with_events new_loader es) n read (stands l new clear took).alike
-ends_as trees new clear (wants_memory es took memory) = memory
-ends_as {l} trees new clear (refused {f = f} es e p took takes working) = refuses_for_memory es e p f (new_fault l new clear e p took takes) working
-
--- A load by an empty loader, of a parser at its start.
-pub every_text_ends_as : {old new : Parsed} {l n : YamlLoader} {result : Result (Unit {0}) Fault} → loader_of l ≡ new_loader → kept_fault l ≡ None → Scans new.scanner
-    → Loads Takes true old l result new n → OfTexts old new (λ trees. EndsAs trees result n)
-every_text_ends_as {old} {new} {l} {n} {result} empty clear scans loads start text trees may reads =
-    ends_as trees empty clear (texts_are_loaded Takes old new l n result text trees start reads (scans.scans text may) loads)
+-- So a load of a text that is read as trees answers just these.
+loads_only : {text : List ℕ} {trees : List Tree} (result : Result (Vec Yaml Global) Fault) → LoadsText false text result → IsReadAs false text trees → LoadsOnly result trees
+loads_only (Ok documents) h x = let same = one_reading h.tokens h.read.documents h.has h.read.stream x in let both = sym h.read.trees_are ∙ same in cc
+loads_only {text} {trees} (Err f) (of_parser why) x = memory_is_wanted false text trees f x why
+loads_only (Err f) (unread.repeated_key es h key twice at owned) x = let same = one_reading h.tokens h.documents h.has h.stream x in cc
 
 -- ---- the text behind an iterator
 
 pub string_may_be : (start : Chars) (bytes : List ℕ) (s : Scanned) → IsUtf8 bytes → chars_rest start ≡ bytes → CameFrom chars_steps start s.taken s.done → HasNoNul s.taken → MayBe s (up_to_nul (chars bytes))
 string_may_be start bytes s utf8 rest came no_nul = characters_are_the_text chars_steps start (chars bytes) s (Chars-spelled start bytes utf8 rest) came no_nul
 
-pub of_text : (text : List ℕ) (old new : Parsed) (P : List Tree → Type 0) → IsAtStart old → old.keep_tags ≡ false → MayBe new.scanner text → OfTexts old new P → OfText text P
-of_text text old new P start keep may h = λ trees reads. h start text trees may (subst (λ b. IsReadAs b text trees) (sym keep) reads)
+pub of_texts : (old new : Parsed) (text : List ℕ) (P : Bool → List ℕ → Type 0) → IsAtStart old → old.keep_tags ≡ false → MayBe new.scanner text → OfTexts old new (P old.keep_tags) → P false text
+of_texts old new text P start keep may h = subst (λ b. P b text) keep (h start text may)
+
+pub of_text : (text : List ℕ) (result : Result (Vec Yaml Global) Fault) → LoadsText false text result → OfText text (LoadsOnly result)
+of_text text result h = λ trees x. loads_only result h x
 
 pub given_may_be : {S : Type 0} (steps : S → Option ℕ → S → Type 0) (source start : S) (s : Scanned) → start ≡ source → CameFrom steps start s.taken s.done → HasNoNul s.taken
     → OfGiven steps source (λ text. MayBe s (up_to_nul text))

@@ -4,4 +4,5 @@ pub mod Loading
 pub mod Loads
 pub mod Reached
 pub mod TextLoads
+pub mod Unread
 pub mod View

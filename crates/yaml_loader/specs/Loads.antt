@@ -41,21 +41,3 @@ pub data IsLoadFault (old : Parsed) (f : Fault) (new : Parsed) : Type 0 where
   -- All events were pushed, and among them a key came twice, its second value at the fault's place.
   repeated_key : (events : List (Ev × Place)) → Pushes old events (Ok tt) new → new.fault ≡ None
       → HasNoted (with_events new_loader events) f.place → f.memory ≡ false → IsLoadFault old f new
-
--- ---- the loads of a text, over a parser of their own
-
--- Nothing was asked of it, and nothing was set.
-pub record IsNew (p : Parsed) : Type 0 where
-  pub given : p.given ≡ []
-  pub ahead : p.ahead ≡ None
-  pub fault : p.fault ≡ None
-  pub started : p.started ≡ false
-  pub ended : p.ended ≡ false
-  pub keep_tags : p.keep_tags ≡ false
-  pub steady : p.steady ≡ true
-
-abbrev pub AreLoadedAnew : List Tree → Type 0
-AreLoadedAnew documents = (old : Parsed) × (new : Parsed) × IsNew old × AreLoaded old documents new
-
-abbrev pub IsFaultAnew : Fault → Type 0
-IsFaultAnew f = (old : Parsed) × (new : Parsed) × IsNew old × IsLoadFault old f new

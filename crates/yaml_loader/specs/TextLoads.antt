@@ -1,5 +1,5 @@
 -- What a load promises of every text that its parser may have.
-use Rattle.std.specs.Prelude.{◌≡◌, List, [], ◌∷◌, ℕ, true, false, Option, Result, Ok, Err, Vec}
+use Rattle.std.specs.Prelude.{◌≡◌, List, [], ◌∷◌, ℕ, Bool, true, false, Option, Result, Ok, Err, Vec}
 use Rattle.std.specs.Iterator.{AlwaysYields}
 use Rattle.std.specs.declared.alloc.Global.{Global}
 use Rattle.tree_defs.specs.Tree.{Tree}
@@ -11,15 +11,21 @@ use Rattle.yaml_tree.specs.declared.yaml.Yaml.{Yaml}
 use Rattle.yaml_scanner.specs.Scanned.{MayBe}
 use Rattle.yaml_parser.specs.Parsed.{Parsed}
 use Rattle.loaded_texts.specs.TextReadAs.{IsReadAs, IsAtStart}
+use Rattle.yaml_loader.specs.Unread.{IsUnread}
 
 -- A load answers just these documents, or memory was wanted.
 abbrev pub LoadsOnly : Result (Vec Yaml Global) Fault → List Tree → Type 0
 LoadsOnly (Ok documents) trees = items_view documents.items ≡ trees
 LoadsOnly (Err f) trees = f.memory ≡ true
 
--- Where the parser was at its start: P of the trees that its text is read as, whichever text it may have.
-abbrev pub OfTexts : Parsed → Parsed → (List Tree → Type 0) → Type 0
-OfTexts old new P = IsAtStart old → (text : List ℕ) (trees : List Tree) → MayBe new.scanner text → IsReadAs old.keep_tags text trees → P trees
+-- A load of the text answers the documents that it is read as, or a fault that has its reason in it.
+abbrev pub LoadsText : Bool → List ℕ → Result (Vec Yaml Global) Fault → Type 0
+LoadsText keep_tags text (Ok documents) = IsReadAs keep_tags text (items_view documents.items)
+LoadsText keep_tags text (Err f) = IsUnread keep_tags text f
+
+-- Where the parser was at its start: P of whichever text it may have.
+abbrev pub OfTexts : Parsed → Parsed → (List ℕ → Type 0) → Type 0
+OfTexts old new P = IsAtStart old → (text : List ℕ) → MayBe new.scanner text → P text
 
 -- P of the trees that a text is read as.
 abbrev pub OfText : List ℕ → (List Tree → Type 0) → Type 0

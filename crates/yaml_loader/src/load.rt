@@ -1,13 +1,13 @@
 //! Texts, read as trees.
-ghost use Rattle.std.specs.Prelude.{◌≡◌, ◌^◌, ◌<◌, None, IfOk, OnOk, IfErr, All, chars};
+ghost use Rattle.std.specs.Prelude.{◌≡◌, ◌^◌, ◌<◌, false, None, IfOk, OnOk, IfErr, All, chars};
 ghost use Rattle.std.specs.Iterator.{IsFinite, size};
 ghost use Rattle.event_defs.specs.NoAlias.{HasNoAlias};
 ghost use Rattle.yaml_tree.specs.View.{items_view};
 ghost use Rattle.yaml_chars.specs.Reading.{HasNoNul, up_to_nul};
 ghost use Rattle.yaml_chars.specs.Source.{CameFrom};
 ghost use Rattle.yaml_parser.specs.Parsed.{parsed};
-ghost use Rattle.yaml_loader.specs.Loads.{AreLoaded, IsLoadFault, AreLoadedAnew, IsFaultAnew};
-ghost use Rattle.yaml_loader.specs.TextLoads.{LoadsOnly, OfTexts, OfText, OfGiven, OfJson, OfLayout};
+ghost use Rattle.yaml_loader.specs.Loads.{AreLoaded, IsLoadFault};
+ghost use Rattle.yaml_loader.specs.TextLoads.{LoadsText, LoadsOnly, OfTexts, OfText, OfGiven, OfJson, OfLayout};
 
 use crate::loader::{Course, YamlLoader, out_of_nesting};
 use event_defs::laws::loaded_trees_have_no_alias;
@@ -27,9 +27,8 @@ impl YamlLoader {
     /// - `---` and, below it, a tree laid out in lines: block arrays and hashes at any columns, scalars on one line or as
     ///   literal blocks, and between the entries empty lines and comment lines, with no key twice in a hash.
     pub fn load_from_str(alloc: Global, source: &str) -> Result<Vec<Yaml>, ScanError>
-        ensures documents { IfOk result (λ documents. AreLoadedAnew (items_view documents.items)) }
+        ensures reads { LoadsText false (up_to_nul (chars source.now)) result }
         ensures no_alias { IfOk result (λ documents. All HasNoAlias (items_view documents.items)) }
-        ensures fault { IfErr result IsFaultAnew }
         ensures texts { OfText (up_to_nul (chars source.now)) (LoadsOnly result) }
         ensures json { OfJson (chars source.now) (LoadsOnly result) }
         ensures laid_out { OfLayout (chars source.now) (LoadsOnly result) }
@@ -46,9 +45,8 @@ impl YamlLoader {
         requires can { I.can_next source }
         requires finite { IsFinite (I.remaining source) }
         requires few { size (I.remaining source) < 2 ^ 63 }
-        ensures documents { IfOk result (λ documents. AreLoadedAnew (items_view documents.items)) }
+        ensures reads { OfGiven I.next_gives source (λ text. LoadsText false (up_to_nul text) result) }
         ensures no_alias { IfOk result (λ documents. All HasNoAlias (items_view documents.items)) }
-        ensures fault { IfErr result IsFaultAnew }
         ensures texts { OfGiven I.next_gives source (λ text. OfText (up_to_nul text) (LoadsOnly result)) }
         ensures json { OfGiven I.next_gives source (λ text. OfJson text (LoadsOnly result)) }
         ensures laid_out { OfGiven I.next_gives source (λ text. OfLayout text (LoadsOnly result)) }
@@ -67,7 +65,7 @@ impl YamlLoader {
         ensures no_alias { IfOk result (λ documents. All HasNoAlias (items_view documents.items)) }
         ensures no_fault { OnOk result ((parsed parser.new).fault ≡ None) }
         ensures fault { IfErr result (λ f. IsLoadFault (parsed parser.old) f (parsed parser.new)) }
-        ensures texts { OfTexts (parsed parser.old) (parsed parser.new) (LoadsOnly result) }
+        ensures reads { OfTexts (parsed parser.old) (parsed parser.new) (λ text. LoadsText (parsed parser.old).keep_tags text result) }
         ensures start { parser.new.start ≡ parser.old.start }
         ensures came { CameFrom I.next_gives parser.new.start (parsed parser.new).scanner.taken (parsed parser.new).scanner.done }
         ensures no_nul { HasNoNul (parsed parser.new).scanner.taken }

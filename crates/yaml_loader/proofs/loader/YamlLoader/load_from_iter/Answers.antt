@@ -1,26 +1,22 @@
 use Rattle.std.proofs.Common.{◌∙◌}
 use Rattle.yaml_chars.specs.Reading.{up_to_nul}
 use Rattle.yaml_parser.specs.Parsed.{parsed}
-use Rattle.yaml_loader.specs.TextLoads.{LoadsOnly}
-use Rattle.yaml_loader.proofs.LoadLemmas.{fault_anew}
-use Rattle.yaml_loader.proofs.TextLemmas.{given_may_be, of_text, of_json, of_layout}
+use Rattle.yaml_loader.specs.TextLoads.{LoadsText, LoadsOnly}
+use Rattle.yaml_loader.proofs.TextLemmas.{given_may_be, of_texts, of_text, of_json, of_layout}
 use Rattle.yaml_loader.proofs.loader.YamlLoader.load_from_iter.Goals as goal
 
-pub returns-clause-fault : goal.returns-clause-fault
-returns-clause-fault g c =
-    let e = c.new-parser.ensures in
-    fault_anew c.load_from_parser.result (parsed c.new-parser.result) (parsed c.load_from_parser.new.parser)
-    (record { given = e.given; ahead = e.ahead; fault = e.fault; started = e.started; ended = e.ended; keep_tags = e.keep_tags; steady = e.steady }) c.load_from_parser.ensures.fault
-
-pub returns-clause-texts : goal.returns-clause-texts
-returns-clause-texts g c =
+pub returns-clause-reads : goal.returns-clause-reads
+returns-clause-reads g c =
     let e = c.new-parser.ensures in
     let p = c.load_from_parser.ensures in
     let old = parsed c.new-parser.result in
     let new = parsed c.load_from_parser.new.parser in
     let may = given_may_be g.I.Iterator.next_gives c.args.source c.load_from_parser.new.parser.start new.scanner (p.start ∙ e.start) p.came p.no_nul in
-    λ text always. of_text (up_to_nul text) old new (LoadsOnly c.load_from_parser.result)
-    (record { given = e.given; fault = e.fault; started = e.started; ended = e.ended; steady = e.steady }) e.keep_tags (may text always) p.texts
+    λ text always. of_texts old new (up_to_nul text) (λ keep a. LoadsText keep a c.load_from_parser.result)
+    (record { given = e.given; fault = e.fault; started = e.started; ended = e.ended; steady = e.steady }) e.keep_tags (may text always) p.reads
+
+pub returns-clause-texts : goal.returns-clause-texts
+returns-clause-texts g c = λ text always. of_text (up_to_nul text) c.load_from_parser.result (returns-clause-reads g c text always)
 
 pub returns-clause-json : goal.returns-clause-json
 returns-clause-json g c = λ text always. of_json text (LoadsOnly c.load_from_parser.result) (returns-clause-texts g c text always)

@@ -3,24 +3,20 @@ use Rattle.std.specs.Str.{chars}
 use Rattle.std.specs.Str.Iter.{chars_rest}
 use Rattle.yaml_chars.specs.Reading.{up_to_nul}
 use Rattle.yaml_parser.specs.Parsed.{parsed}
-use Rattle.yaml_loader.specs.TextLoads.{LoadsOnly}
-use Rattle.yaml_loader.proofs.LoadLemmas.{fault_anew}
-use Rattle.yaml_loader.proofs.TextLemmas.{string_may_be, of_text, of_json, of_layout}
+use Rattle.yaml_loader.specs.TextLoads.{LoadsText, LoadsOnly}
+use Rattle.yaml_loader.proofs.TextLemmas.{string_may_be, of_texts, of_text, of_json, of_layout}
 use Rattle.yaml_loader.proofs.loader.YamlLoader.load_from_str.Goals as goal
 
-pub returns-clause-fault : goal.returns-clause-fault
-returns-clause-fault c =
-    let e = c.new_from_str-parser.ensures in
-    fault_anew c.load_from_parser.result (parsed c.new_from_str-parser.result) (parsed c.load_from_parser.new.parser)
-    (record { given = e.given; ahead = e.ahead; fault = e.fault; started = e.started; ended = e.ended; keep_tags = e.keep_tags; steady = e.steady }) c.load_from_parser.ensures.fault
-
-pub returns-clause-texts : goal.returns-clause-texts
-returns-clause-texts c =
+pub returns-clause-reads : goal.returns-clause-reads
+returns-clause-reads c =
     let e = c.new_from_str-parser.ensures in
     let p = c.load_from_parser.ensures in
     let may = string_may_be c.load_from_parser.new.parser.start c.args.source.now (parsed c.load_from_parser.new.parser).scanner c.utf8.source (ap chars_rest p.start ∙ e.source) p.came p.no_nul in
-    of_text (up_to_nul (chars c.args.source.now)) (parsed c.new_from_str-parser.result) (parsed c.load_from_parser.new.parser) (LoadsOnly c.load_from_parser.result)
-    (record { given = e.given; fault = e.fault; started = e.started; ended = e.ended; steady = e.steady }) e.keep_tags may p.texts
+    of_texts (parsed c.new_from_str-parser.result) (parsed c.load_from_parser.new.parser) (up_to_nul (chars c.args.source.now)) (λ keep text. LoadsText keep text c.load_from_parser.result)
+    (record { given = e.given; fault = e.fault; started = e.started; ended = e.ended; steady = e.steady }) e.keep_tags may p.reads
+
+pub returns-clause-texts : goal.returns-clause-texts
+returns-clause-texts c = of_text (up_to_nul (chars c.args.source.now)) c.load_from_parser.result (returns-clause-reads c)
 
 pub returns-clause-json : goal.returns-clause-json
 returns-clause-json c = of_json (chars c.args.source.now) (LoadsOnly c.load_from_parser.result) (returns-clause-texts c)

@@ -1,0 +1,137 @@
+-- What a load answers of any text.
+use Rattle.std.proofs.Common.{◌≡◌, ℕ, Bool, List, [], ◌∷◌, ◌++◌, true, false, refl, sym, ap, ◌∙◌, subst, inl, inr}
+use Rattle.std.specs.Prelude.{Option, Some, None, Result, Ok, Err, String, map}
+use Rattle.std.specs.declared.alloc.Global.{Global}
+use Rattle.yaml_chars.specs.Place.{Place}
+use Rattle.token_defs.specs.Token.{Tok}
+use Rattle.tree_defs.specs.Tree.{Tree}
+use Rattle.event_defs.specs.Event.{Ev}
+use Rattle.event_defs.specs.Stream.{IsStream, Begins, events_of, toks}
+use Rattle.event_defs.specs.Nested.{NestedDocument, nested_stream}
+use Rattle.event_defs.specs.Reading.{reading}
+use Rattle.event_defs.specs.Unfinished.{Loader, at_work, noted, new_loader, with_event_at, with_events, refused_at}
+use Rattle.event_defs.specs.Unfinished as unfinished
+use Rattle.event_defs.specs.Laws.{HasRead}
+use Rattle.event_defs.proofs.OneByOne.{one_by_one}
+use Rattle.event_defs.proofs.StreamNests.{stream_nests}
+use Rattle.yaml_tokens.specs.Fault.{Fault}
+use Rattle.yaml_scanner.specs.Scanned.{ScansIn, MayBe, Scans}
+use Rattle.yaml_parser.specs.Parsed.{Parsed}
+use Rattle.yaml_parser.specs.Loads.{Receives, Loads}
+use Rattle.loaded_texts.specs.TextReadAs.{IsReadAs, IsAtStart}
+use Rattle.loaded_texts.specs.TextEvents.{HasEvents, BeginsEvents, IsFaultOf, wants_memory, AnswersText, whole, faulted, refused}
+use Rattle.loaded_texts.proofs.Answers.{texts_are_answered}
+use Rattle.yaml_loader.specs.declared.loader.Course.{Course}
+use Rattle.yaml_loader.specs.declared.loader.Course.TheVariants as course
+use Rattle.yaml_loader.specs.declared.loader.YamlLoader.{YamlLoader}
+use Rattle.yaml_loader.specs.Alike.{StandAlike}
+use Rattle.yaml_loader.specs.View.{unfinished_of, repeated_key}
+use Rattle.yaml_loader.specs.Loading.{loader_of, loader_by, kept_fault, IsNewFault, Takes}
+use Rattle.yaml_loader.specs.Loads.{HasNoted}
+use Rattle.yaml_loader.specs.Unread.{IsUnread, of_parser}
+use Rattle.yaml_loader.specs.Unread as unread
+use Rattle.yaml_loader.specs.TextLoads.{OfTexts}
+use Rattle.yaml_loader.proofs.LoadLemmas.{with_last, StandsBehind, stands, new_fault, key_noted}
+
+-- ---- events with which a stream's begin are not refused
+
+-- an event at a place that does not count
+abbrev pub somewhere : Ev → Ev × Place
+somewhere e = (e, record { index = 0; line = 1; col = 0 })
+
+pub with_somewhere : (es : List (Ev × Place)) (fs : List Ev) → events_of (es ++ map somewhere fs) ≡ events_of es ++ fs
+with_somewhere [] [] = refl
+with_somewhere [] (f ∷ fs) = ap (λ vs. f ∷ vs) (with_somewhere [] fs)
+with_somewhere (e ∷ es) fs = ap (λ vs. e.0 ∷ vs) (with_somewhere es fs)
+
+events_append : (x : Loader) (es fs : List (Ev × Place)) → with_events x (es ++ fs) ≡ with_events (with_events x es) fs
+events_append x [] fs = refl
+events_append x (e ∷ es) fs = events_append (with_event_at x e.0 e.1) es fs
+
+refused_stays : (documents : List Tree) (p : Place) (es : List (Ev × Place)) → with_events (unfinished.refused documents p) es ≡ unfinished.refused documents p
+refused_stays documents p [] = refl
+refused_stays documents p (e ∷ es) = refused_stays documents p es
+
+nothing_read_refused : (r : Result (List Tree) Tree) (documents : List Tree) (p : Place) → HasRead r (unfinished.refused documents p) → ⊥
+nothing_read_refused (Ok trees) documents p h = h
+nothing_read_refused (Err key) documents p h = h
+
+not_refused : (keep_tags : Bool) (tokens : List Tok) (es : List (Ev × Place)) (p : Place) → Begins keep_tags tokens (events_of es) → refused_at (with_events new_loader es) ≡ Some p → ⊥
+not_refused keep_tags tokens es p b = by (with_events new_loader es) refl
+  where
+    all : List (Ev × Place)
+    all = es ++ map somewhere b.more_events
+
+    by : (x : Loader) → with_events new_loader es ≡ x → refused_at x ≡ Some p → ⊥
+    by (at_work u) e h = cc
+    by (noted documents key q) e h = cc
+    by (unfinished.refused documents q) e h =
+        let nested = stream_nests keep_tags (tokens ++ b.more_tokens) (events_of es ++ b.more_events) b.stream in
+        let read = one_by_one nested.0 all (with_somewhere es b.more_events ∙ sym nested.1) in
+        let stays : with_events new_loader all ≡ unfinished.refused documents q =
+            events_append new_loader es (map somewhere b.more_events) ∙ ap (λ x. with_events x (map somewhere b.more_events)) e ∙ refused_stays documents q (map somewhere b.more_events) in
+        nothing_read_refused (reading nested.0) documents q (subst (HasRead (reading nested.0)) stays read)
+
+-- ---- how the loader is left
+
+-- It stands behind all events of the text; or the fault is the parser's.
+abbrev pub LeftBy : Bool → List ℕ → Result (Unit {0}) Fault → YamlLoader → Type 0
+LeftBy keep_tags text (Ok u) n = (es : List (Ev × Place)) × HasEvents keep_tags text es × StandsBehind es n
+LeftBy keep_tags text (Err f) n = IsFaultOf keep_tags text f
+
+refuses_for_memory : {keep_tags : Bool} {text : List ℕ} (es : List (Ev × Place)) (e : Ev) (p : Place) (f : Fault) → IsNewFault f p (with_event_at (with_events new_loader es) e p) → BeginsEvents keep_tags text (es ++ (e, p) ∷ [])
+    → f.memory ≡ true
+refuses_for_memory {keep_tags} es e p f why b = elim why [
+    | inl memory ↦ ap (λ g. g.memory) memory
+    | inr nesting ↦ absurd (not_refused keep_tags (toks b.before) (es ++ (e, p) ∷ []) p b.begins (ap refused_at (with_last new_loader es e p) ∙ nesting.1))
+    ]
+
+left_by : {l n : YamlLoader} {keep_tags : Bool} {text : List ℕ} {result : Result (Unit {0}) Fault} → loader_of l ≡ new_loader → kept_fault l ≡ None → AnswersText Takes keep_tags text l result n → LeftBy keep_tags text result n
+left_by {l} new clear (whole es h took) = (es, h, stands l new clear took)
+left_by new clear (faulted es why took) = why
+left_by {l} new clear (refused {f = f} es e p begins took takes) = wants_memory (refuses_for_memory es e p f (new_fault l new clear e p took takes) begins)
+
+-- A load by an empty loader, of a parser that was at its start.
+pub any_text_leaves : {old new : Parsed} {l n : YamlLoader} {result : Result (Unit {0}) Fault} → loader_of l ≡ new_loader → kept_fault l ≡ None → Scans new.scanner → Loads Takes true old l result new n
+    → OfTexts old new (λ text. LeftBy old.keep_tags text result n)
+any_text_leaves {old} {new} {l} {n} {result} empty clear scans loads start text may = left_by empty clear (texts_are_answered Takes old new l n result text start (scans.scans text may) loads)
+
+-- ---- by the course that is left
+
+with_course : (n : YamlLoader) (d : Course) (x : Loader) → n.course ≡ d → StandAlike x (loader_of n) → StandAlike x (loader_by d (unfinished_of n.reading))
+with_course n d x e alike = subst (λ d. StandAlike x (loader_by d (unfinished_of n.reading))) e alike
+
+was_read : (r : Result (List Tree) Tree) (x : Loader) (n : YamlLoader) → HasRead r x → StandAlike x (at_work (unfinished_of n.reading)) → r ≡ Ok (unfinished_of n.reading).documents
+was_read (Ok trees) (at_work u) n h alike = ap Ok (sym h.0 ∙ alike.documents)
+was_read (Err key) (at_work u) n h alike = absurd h
+was_read r (noted documents key p) n h alike = cc
+was_read r (unfinished.refused documents p) n h alike = cc
+
+pub documents_are_read : {keep_tags : Bool} {text : List ℕ} (n : YamlLoader) → LeftBy keep_tags text (Ok tt) n → n.course ≡ course.Reading → IsReadAs keep_tags text (unfinished_of n.reading).documents
+documents_are_read n (es, h, r) e =
+    let x = with_events new_loader es in
+    record {
+      tokens = h.tokens;
+      has = h.has;
+      read = record {
+        documents = h.documents;
+        stream = h.stream;
+        trees_are = was_read (reading h.documents) x n (one_by_one h.documents es h.events_are) (with_course n course.Reading x e r.alike);
+      };
+    }
+
+-- a reading that notes a key
+noted_key : (r : Result (List Tree) Tree) (x : Loader) (documents : List Tree) (k : Tree) (p : Place) → HasRead r x → StandAlike x (noted documents k p) → (key : Tree) × (r ≡ Err key)
+noted_key (Ok trees) (at_work u) documents k p h alike = absurd alike
+noted_key (Ok trees) (noted d key q) documents k p h alike = absurd h
+noted_key (Ok trees) (unfinished.refused d q) documents k p h alike = absurd h
+noted_key (Err key) x documents k p h alike = (key, refl)
+
+pub key_came_twice : {keep_tags : Bool} {text : List ℕ} (n : YamlLoader) (p : Place) (message : String Global) (f : Fault) → LeftBy keep_tags text (Ok tt) n → n.course ≡ course.RepeatedKey p message → f.place ≡ p → f.memory ≡ false
+    → IsUnread keep_tags text f
+key_came_twice n p message f (es, h, r) e at owned =
+    let u = unfinished_of n.reading in
+    let x = with_events new_loader es in
+    let alike : StandAlike x (noted u.documents (repeated_key u.opened) p) = with_course n (course.RepeatedKey p message) x e r.alike in
+    let key = noted_key (reading h.documents) x u.documents (repeated_key u.opened) p (one_by_one h.documents es h.events_are) alike in
+    unread.repeated_key es h key.0 key.1 (subst (HasNoted x) (sym at) (key_noted u.documents (repeated_key u.opened) p x alike)) owned

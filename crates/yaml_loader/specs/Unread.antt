@@ -1,0 +1,16 @@
+-- Why a load answers a fault, of a text.
+use Rattle.std.specs.Prelude.{◌≡◌, ℕ, Bool, false, List, Err}
+use Rattle.yaml_chars.specs.Place.{Place}
+use Rattle.tree_defs.specs.Tree.{Tree}
+use Rattle.yaml_tokens.specs.Fault.{Fault}
+use Rattle.event_defs.specs.Event.{Ev}
+use Rattle.event_defs.specs.Reading.{reading}
+use Rattle.event_defs.specs.Unfinished.{new_loader, with_events}
+use Rattle.yaml_loader.specs.Loads.{HasNoted}
+use Rattle.loaded_texts.specs.TextEvents.{HasEvents, IsFaultOf}
+
+pub data IsUnread (keep_tags : Bool) (text : List ℕ) (f : Fault) : Type 0 where
+  -- Memory was refused, or the scanner refuses the text so, or no stream begins with its first tokens.
+  of_parser : IsFaultOf keep_tags text f → IsUnread keep_tags text f
+  -- The text has events, and a key comes twice in them, first at the fault's place: that of its second value.
+  repeated_key : (es : List (Ev × Place)) (h : HasEvents keep_tags text es) (key : Tree) → reading h.documents ≡ Err key → HasNoted (with_events new_loader es) f.place → f.memory ≡ false → IsUnread keep_tags text f
