@@ -205,7 +205,6 @@ streams answers p trees y n s = by p.ended refl
 record Behind (answers : List (Answer Fault)) (p : Parsed) (trees : List Tree) : Type 0 where
   streams : p.fault ≡ None → Streams answers p trees
   at_work : p.fault ≡ None → (es more : List (Ev × Place)) → p.given ≡ es ++ more → IsAtWork (with_events new_loader es)
-  ended : p.fault ≡ None → p.ended ≡ has_end p.given
   memory : (f : Fault) → p.fault ≡ Some f → f.memory ≡ true
   clear : (es : List (Ev × Place)) → answers ≡ given Fault es → p.fault ≡ None
 
@@ -245,32 +244,6 @@ pushed_at_work answers p trees b clear = by (b.streams clear).covered
         let all = ended_behind Fault s.all answers rest s.pushed e in
         subst (λ es. IsAtWork (with_events new_loader es)) (sym (all.0 ∙ same)) (b.at_work clear p.given [] (sym (append-nil p.given)))
 
-or_true : (b : Bool) → b || true ≡ true
-or_true true = refl
-or_true false = refl
-
-end_among : (es left : List (Ev × Place)) (q : Place) → has_end ((es ++ (Ev.stream_end, q) ∷ []) ++ left) ≡ true
-end_among es left q =
-    has_end_append (es ++ (Ev.stream_end, q) ∷ []) left ∙ ap (λ b. b || has_end left) (has_end_append es ((Ev.stream_end, q) ∷ []) ∙ or_true (has_end es))
-
-not_out_of_nesting : (answers : List (Answer Fault)) (p : Parsed) (trees : List Tree) (es : List (Ev × Place)) (q : Place) → Behind answers p trees → p.fault ≡ None
-    → (so answers).ending ≡ run.unfinished → (so answers).pushed ≡ es ++ (Ev.stream_end, q) ∷ [] → ⊥
-not_out_of_nesting answers p trees es q b clear e pushed = by (b.streams clear).covered
-  where
-    s : Streams answers p trees
-    s = b.streams clear
-
-    by : Covered answers p s.all → ⊥
-    by (within are going more same) =
-        let some = pushes Fault before_stream p.given in
-        let these : (so (given Fault p.given)).pushed ≡ es ++ (Ev.stream_end, q) ∷ [] = ap (λ bs. (so bs).pushed) (sym are) ∙ pushed in
-        let yes : has_end p.given ≡ true = ap has_end (some.whole ∙ ap (λ xs. xs ++ some.left) these) ∙ end_among es some.left q in
-        let no : false ≡ true = sym going ∙ b.ended clear ∙ yes in
-        cc
-    by (behind same rest all_are) =
-        let all = ended_behind Fault s.all answers rest s.pushed all_are in
-        let no : run.well ≡ run.unfinished = sym all.1 ∙ e in cc
-
 ends_so : {R : Type 0} {takes : R → Ev → Place → Result (Unit {0}) Fault → R → Type 0} {r s : R} {result : Result (Unit {0}) Fault} {new : Parsed} (answers : List (Answer Fault)) (p : Parsed) (trees : List Tree)
     → Behind answers p trees → (so answers).taken ≡ length answers → EndsSo takes r (so answers) p result new s → LoadsAs takes trees r result s
 ends_so answers p trees b taken (loads.well e clear received) = well (so answers).pushed received (ends_well answers p trees b clear e)
@@ -278,7 +251,6 @@ ends_so answers p trees b taken (loads.faulted {f = f} e kept received) = wants_
 ends_so answers p trees b taken (loads.misplaced q e received) = absurd (not_misplaced answers p trees q b e taken)
 ends_so answers p trees b taken (loads.refused {es = es} e q pushed clear received takes) =
     refused es e q received takes (subst (λ xs. IsAtWork (with_events new_loader xs)) pushed (pushed_at_work answers p trees b clear))
-ends_so answers p trees b taken (loads.out_of_nesting es q e pushed clear received) = absurd (not_out_of_nesting answers p trees es q b clear e pushed)
 
 scanner_stays : {R : Type 0} {takes : R → Ev → Place → Result (Unit {0}) Fault → R → Type 0} {r s : R} {l : run.Loaded Fault} {p new : Parsed} {result : Result (Unit {0}) Fault}
     → EndsSo takes r l p result new s → new.scanner ≡ p.scanner
@@ -286,7 +258,6 @@ scanner_stays (loads.well e clear received) = refl
 scanner_stays (loads.faulted e kept received) = refl
 scanner_stays (loads.misplaced q e received) = refl
 scanner_stays (loads.refused e q pushed clear received takes) = refl
-scanner_stays (loads.out_of_nesting es q e pushed clear received) = refl
 
 -- ---- together
 
@@ -312,7 +283,6 @@ known {old} {p} {answers} text trees start x scans calls =
       at_work = λ clear es more e.
           foretold_are_at_work p.keep_tags (toks p.scanner.given) y.more trees es y.reads
           (foretells_beginning p.keep_tags (toks p.scanner.given) p.given es more e (sound start calls clear steady).foretold);
-      ended = λ clear. (noted start calls clear).ended;
       memory = λ f kept. only_memory_is_wanted p f text trees reads scans steady (explained f start.fault calls kept);
       clear = λ es e. events_are_clear es start.fault calls e;
     }
