@@ -1,6 +1,5 @@
 -- What the calls of a parser answer, and what they change.
 use Rattle.std.specs.Prelude.{◌≡◌, ◌≢◌, ◌||◌, ◌<◌, ◌≤◌, if◌then◌else◌, [], ◌∷◌, ◌++◌, true, false, Some, None, IsSome, IfSome, Result, Ok, Err}
-use Rattle.std.specs.Borrow.{Bor}
 use Rattle.yaml_chars.specs.Place.{Place}
 use Rattle.yaml_tokens.specs.Fault.{Fault}
 use Rattle.event_defs.specs.Event.{Ev}
@@ -8,7 +7,7 @@ use Rattle.event_defs.specs.PulledList.{Answer}
 use Rattle.event_defs.specs.PulledList as answer
 use Rattle.event_defs.specs.Stream.{events_of}
 use Rattle.yaml_parser.specs.declared.event.Event.{Event}
-use Rattle.yaml_parser.specs.Shown.{ev_of, placed}
+use Rattle.yaml_parser.specs.Shown.{ev_of}
 use Rattle.yaml_parser.specs.Parsed.{Parsed, is_stream_end, has_end, read}
 use Rattle.yaml_parser.specs.Follows.{Follows, IsWhole, Explains}
 use Rattle.yaml_parser.specs.Nests.{BeginsNested}
@@ -76,7 +75,10 @@ abbrev pub Looks : Parsed → Result (Unit {0}) Fault → Parsed → Type 0
 Looks old (Ok u) new = Waits old new
 Looks old (Err f) new = GivesFault old f new
 
--- one look that shows the event
-abbrev pub Peeks : Parsed → Result (Bor (Event × Place)) Fault → Parsed → Type 0
-Peeks old (Ok e) new = Waits old new × (new.ahead ≡ Some (placed e.now))
-Peeks old (Err f) new = GivesFault old f new
+-- This event waits behind a look.
+abbrev pub ShowsNext : Parsed → Ev × Place → Type 0
+ShowsNext old e = (new : Parsed) × Waits old new × (new.ahead ≡ Some e)
+
+-- A look meets this fault.
+abbrev pub MeetsFault : Parsed → Fault → Type 0
+MeetsFault old f = (new : Parsed) × GivesFault old f new

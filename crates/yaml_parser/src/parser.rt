@@ -1,13 +1,11 @@
-ghost use Rattle.std.specs.Prelude.{◌≡◌, ◌^◌, ◌<◌, ◌&&◌, ◌||◌, ◌++◌, if◌then◌else◌, [], ◌∷◌, true, false, Some, None, IfSome, IsSome, option_map};
-ghost use Rattle.std.specs.Borrow.{sem};
-ghost use Rattle.std.specs.Io.BufRead.{Rests};
+ghost use Rattle.std.specs.Prelude.{◌≡◌, ◌^◌, ◌<◌, ◌&&◌, ◌||◌, ◌++◌, if◌then◌else◌, [], ◌∷◌, true, false, Some, None, IfSome, IsSome, IfOk, IfErr, option_map};
 ghost use Rattle.std.specs.Iterator.{IsFinite, size};
 ghost use Rattle.std.specs.Str.Iter.{chars_rest};
 ghost use Rattle.yaml_chars.specs.Reading.{HasNoNul};
 ghost use Rattle.yaml_chars.specs.Source.{CameFrom};
 ghost use Rattle.yaml_scanner.specs.Scanned.{Scans};
 ghost use Rattle.yaml_parser.specs.Parsed.{parsed, is_fresh, is_stream_end};
-ghost use Rattle.yaml_parser.specs.Pulls.{GivesEvent, Pulls, Looks, Peeks, answer_of};
+ghost use Rattle.yaml_parser.specs.Pulls.{GivesEvent, Pulls, Looks, ShowsNext, MeetsFault, answer_of};
 ghost use Rattle.yaml_parser.specs.Shown.{placed, ev_of};
 ghost use Rattle.yaml_parser.specs.View.{no_document};
 
@@ -89,8 +87,6 @@ impl<'a> Parser<Chars<'a>> {
 }
 
 impl<T: Iterator<Item = char>> Parser<T> {
-    ghost use Rattle.yaml_parser.specs.contracts.parser.Parser.{the_row};
-
     /// A parser of the characters of an iterator, up to its end or to a NUL. It takes no memory.
     pub fn new(alloc: Global, src: T) -> Parser<T>
         requires can { T.can_next src }
@@ -147,7 +143,8 @@ impl<T: Iterator<Item = char>> Parser<T> {
     /// The next event and its place, which stays: the next call of `next_token` gives it. This is a
     /// `look` and what is then `waiting`.
     pub fn peek(&mut self) -> Result<&(Event, Marker), ScanError>
-        ensures* peeks { sem 𝓛 (Rests (the_row T.row T.Iterator) self.entry (λ after. Peeks (parsed self.old) result (parsed after) × (after.start ≡ self.old.start))) }
+        ensures event { IfOk result (λ e. ShowsNext (parsed self.old) (placed e.now)) }
+        ensures fault { IfErr result (λ f. MeetsFault (parsed self.old) f) }
     {
         self.look()?;
         match self.waiting() {
