@@ -1,4 +1,4 @@
-use Rattle.std.proofs.Common.{◌≡◌, refl, sym, subst, ◌∙◌, [], true, false, Ok, Err}
+use Rattle.std.proofs.Common.{◌≡◌, refl, sym, subst, ◌∙◌, [], true, false, Err}
 use Rattle.event_defs.specs.Event.{Ev}
 use Rattle.event_defs.specs.Push as run
 use Rattle.event_defs.specs.Push.{load_from, ends}
