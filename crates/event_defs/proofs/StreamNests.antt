@@ -219,8 +219,9 @@ mutual
       let y = explicit_nests x r h.0 h.2 in
       record { it = y.it; more = y.more; whole = h.1 ∙ ap (λ vs. Ev.document_end ∷ vs) y.whole; rest = y.rest }
 
+-- events of this shape are nested, whatever their numbers and tags
+pub shaped_nests : (d : Documents) (events : List Ev) → Shaped (stream_events d) events → IsNested events
+shaped_nests d es h = let y = documents_nest d [] h.0 h.2 in (y.it, sym (h.1 ∙ ap (λ vs. Ev.stream_start ∷ vs) (y.whole ∙ ap (stream_ends y.it) y.rest)))
+
 pub stream_nests : (keep_tags : Bool) (tokens : List Tok) (events : List Ev) → IsStream keep_tags tokens events → IsNested events
-stream_nests k tokens es s =
-    let h = named_shaped k no_names (stream_events s.documents) es s.has_events in
-    let y = documents_nest s.documents [] h.0 h.2 in
-    (y.it, sym (h.1 ∙ ap (λ vs. Ev.stream_start ∷ vs) (y.whole ∙ ap (stream_ends y.it) y.rest)))
+stream_nests k tokens es s = shaped_nests s.documents es (named_shaped k no_names (stream_events s.documents) es s.has_events)

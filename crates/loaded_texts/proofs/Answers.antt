@@ -228,18 +228,12 @@ begins_text text answers p es e b clear pushed = by (b.followed clear)
               (foretells_beginning p.keep_tags (toks p.scanner.given) (read p) (es ++ e ∷ []) first.left are follows.only);
         }
 
-or_true : (b : Bool) → b || true ≡ true
-or_true true = refl
-or_true false = refl
-
 ends_so : {R : Type 0} {takes : R → Ev → Place → Result (Unit {0}) Fault → R → Type 0} {r s : R} {text : List ℕ} {result : Result (Unit {0}) Fault} {new : Parsed} (answers : List (Answer Fault)) (p : Parsed)
     → Behind text answers p → (so answers).taken ≡ length answers → EndsSo takes r (so answers) p result new s → AnswersText takes p.keep_tags text r result s
 ends_so answers p b taken (loads.well e clear received) = ends_whole answers p b clear (end_was_pushed before_stream answers e) received
 ends_so {text = text} answers p b taken (loads.faulted {f = f} e kept received) = faulted (so answers).pushed (fault_of text answers p f b (b.explained f kept)) received
 ends_so {text = text} answers p b taken (loads.misplaced q e received) = absurd (not_misplaced text answers p q b e taken)
 ends_so {text = text} answers p b taken (loads.refused {es = es} e q pushed clear received takes) = refused es e q (begins_text text answers p es (e, q) b clear pushed) received takes
-ends_so answers p b taken (loads.out_of_nesting es q e pushed clear received) =
-    ends_whole answers p b clear (ap has_end pushed ∙ has_end_append es ((Ev.stream_end, q) ∷ []) ∙ or_true (has_end es)) received
 
 scanner_stays : {R : Type 0} {takes : R → Ev → Place → Result (Unit {0}) Fault → R → Type 0} {r s : R} {l : run.Loaded Fault} {p new : Parsed} {result : Result (Unit {0}) Fault}
     → EndsSo takes r l p result new s → new.scanner ≡ p.scanner
@@ -247,7 +241,6 @@ scanner_stays (loads.well e clear received) = refl
 scanner_stays (loads.faulted e kept received) = refl
 scanner_stays (loads.misplaced q e received) = refl
 scanner_stays (loads.refused e q pushed clear received takes) = refl
-scanner_stays (loads.out_of_nesting es q e pushed clear received) = refl
 
 known : {old p : Parsed} {answers : List (Answer Fault)} (text : List ℕ) → IsAtStart old → ScansIn text p.scanner → PullsAll old answers p → Behind text answers p
 known {old} {p} {answers} text start scans calls =

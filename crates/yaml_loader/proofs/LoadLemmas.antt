@@ -71,8 +71,6 @@ module _ (l : YamlLoader) (empty : loader_of l ≡ new_loader) (clear : kept_fau
       → EndsSo Takes l (load old.started true answers) behind (Ok tt) new n → Went old new n
   ended_well {old} answers pulled taken (loads.well ending clear received) =
       ((load old.started true answers).pushed, pushes pulled taken (loads.well ending clear (notes received)), clear, stands received)
-  ended_well {old} answers pulled taken (loads.out_of_nesting es p ending pushed clear received) =
-      ((load old.started true answers).pushed, pushes pulled taken (loads.out_of_nesting es p ending pushed clear (notes received)), clear, stands received)
 
   ended_ill : {old behind new : Parsed} {n : YamlLoader} {f : Fault} (answers : List (Answer Fault)) → PullsAll old answers behind → (load old.started true answers).taken ≡ length answers
       → EndsSo Takes l (load old.started true answers) behind (Err f) new n → IsLoadFault old f new

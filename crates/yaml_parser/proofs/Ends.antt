@@ -191,7 +191,7 @@ state_pending state.FlowMappingValue n = tt
 state_pending (state.FlowMappingPart m) n = tt
 state_pending state.FlowMappingEmptyValue n = tt
 
-rest_nameable : (keep : Bool) (ss : List State) → AnyNameable keep (rest_events ss (ending ss))
+pub rest_nameable : (keep : Bool) (ss : List State) → AnyNameable keep (rest_events ss (ending ss))
 rest_nameable keep [] s = ([], refl)
 rest_nameable keep (x ∷ ss) s = completes (goal_of x) keep s _ (state_pending x s) (rest_nameable keep ss)
 

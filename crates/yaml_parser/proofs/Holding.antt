@@ -1,5 +1,5 @@
 -- What holds between two calls, and what it says of the events.
-use Rattle.std.proofs.Common.{◌≡◌, inl, inr, ℕ, ◌+◌, ◌<◌, List, [], ◌∷◌, ◌++◌, Option, Some, None, option_map, Bool, true, false, ◌||◌, Ok, Err, refl, sym, ap, ◌∙◌, subst, append_assoc, append-nil, take, zero, suc, unwrap_or, arith}
+use Rattle.std.proofs.Common.{◌≡◌, inl, inr, ◌+◌, ◌<◌, List, [], ◌∷◌, ◌++◌, Option, Some, None, option_map, Bool, true, false, ◌||◌, Ok, Err, refl, sym, ap, ◌∙◌, subst, append_assoc, append-nil, unwrap_or, arith}
 use Rattle.std.specs.Option.{IsSome, IfSome}
 use Rattle.std.proofs.lemmas.Bool.{both_ways}
 use Rattle.std.proofs.lemmas.List.{map-append}
@@ -41,7 +41,9 @@ use Rattle.yaml_parser.specs.Pulls.{IsSound}
 use Rattle.yaml_parser.specs.View.{fault_kept}
 use Rattle.yaml_parser.specs.At.{At, Answers, Reads, Faulted, IsStuck, is_over, names_at, goal_behind}
 use Rattle.yaml_parser.specs.Held.{IsHeld, goal_after}
+use Rattle.yaml_parser.specs.Nests.{BeginsNested}
 use Rattle.yaml_parser.proofs.Ends.{state_pending, at_begins}
+use Rattle.yaml_parser.proofs.Nesting.{at_begins_nested}
 
 -- ---- the stack
 
@@ -111,6 +113,7 @@ popped {T} p s ss {names} {given} h a = record {
   awake = λ o. a.awake refl;
   over = λ o. absurd (both_ways (is_over (goal_of s)) (state_going s) o);
   count = a.count;
+  resolved = a.resolved;
   places = a.places;
   events = a.events;
   names_are = a.names_are;
@@ -216,6 +219,7 @@ begun {T} p stack peeked taken given ended code = (
     awake = λ o. ended ∙ sym (ap ends peeked);
     over = λ o. peeked;
     count = refl;
+    resolved = tt;
     places = sym (ap (λ ts. given_places (all_shown ts)) taken);
     events = λ b. refl;
     names_are = λ b. refl;
@@ -304,6 +308,7 @@ held_whole_at {T} false p names es h a steady v s = cc
 pub held_sound : {T : Type 0} (p : Reader T) (es : List (Ev × Place)) → IsHeld p es None → (v : Parsed) → v.fault ≡ None → Shows p es v → IsSound v
 held_sound {T} p es x v none s = record {
   fault = none;
+  nested = subst (λ xs. BeginsNested (events_of xs)) (sym s.events) (at_begins_nested (goal_after (has_end es)) p x.0 es x.1);
   follows = λ steady. at_follows p x.0 es x.1 (sym s.steady ∙ steady) v s;
   whole = λ steady end. held_whole_at (has_end es) p x.0 es (ap has_end (sym s.events) ∙ end) x.1 (sym s.steady ∙ steady) v s;
 }

@@ -5,7 +5,9 @@ pub mod Ends
 pub mod Holding
 pub mod LoadSteps
 pub mod NameLemmas
+pub mod Nesting
 pub mod NodeArms
 pub mod Parsing
 pub mod Places
+pub mod Resolved
 pub mod Steps

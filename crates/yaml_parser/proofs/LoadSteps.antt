@@ -1,5 +1,5 @@
 -- The steps of `load`.
-use Rattle.std.proofs.Common.{◌≡◌, ◌≢◌, ◌+◌, List, [], ◌∷◌, ◌++◌, length, Bool, true, false, if◌then◌else◌, Some, None, Result, Ok, Err, refl, sym, ap, ◌∙◌, subst, append_assoc, append-nil, arith}
+use Rattle.std.proofs.Common.{◌≡◌, ◌≢◌, ◌+◌, ◌||◌, ◌&&◌, not, List, [], ◌∷◌, ◌++◌, length, Bool, true, false, if◌then◌else◌, Option, Some, None, Result, Ok, Err, refl, sym, ap, ◌∙◌, subst, append_assoc, append-nil, arith}
 use Rattle.std.specs.Result.{IsErrAnd}
 use Rattle.std.proofs.lemmas.Bool.{or_from}
 use Rattle.std.proofs.lemmas.List.{length-append}
@@ -8,12 +8,15 @@ use Rattle.yaml_tokens.specs.Fault.{Fault}
 use Rattle.event_defs.specs.Event.{Ev}
 use Rattle.event_defs.specs.PulledList.{Answer, event, fault, given}
 use Rattle.event_defs.specs.Push as run
+use Rattle.event_defs.specs.Stream.{events_of}
 use Rattle.event_defs.specs.Push.{Loaded, load, load_from, push, ends}
-use Rattle.yaml_parser.specs.Parsed.{Parsed, is_stream_end, is_document_start, is_document_end}
+use Rattle.yaml_parser.specs.Nests.{BeginsNested, opened, is_open, IsInside}
+use Rattle.yaml_parser.specs.Parsed.{Parsed, is_stream_end, is_document_start, is_document_end, read, read_so}
 use Rattle.yaml_parser.specs.Pulls.{Pulls, GivesEvent}
 use Rattle.yaml_parser.specs.View.{no_document}
 use Rattle.yaml_parser.specs.Loads as loads
 use Rattle.yaml_parser.specs.Loads.{PullsAll, no_call, one_call, Receives, no_event, one_event, EndsSo, Loads, pushing, Going, Stands, StartsSo, behind_document, IsBehind}
+use Rattle.yaml_parser.proofs.Nesting.{no_end_inside, open_more}
 
 -- ---- the run
 
@@ -122,19 +125,6 @@ end_is Ev.mapping_end h = cc
 pub end_is_not : (e : Ev) → is_stream_end e ≡ false → e ≢ Ev.stream_end
 end_is_not e h k = let no : true ≡ false = sym (ap is_stream_end k) ∙ h in cc
 
-pub end_is_none : (e : Ev) → is_stream_end e ≡ true → is_document_end e ≡ false
-end_is_none Ev.nothing h = cc
-end_is_none Ev.stream_start h = cc
-end_is_none Ev.stream_end h = refl
-end_is_none Ev.document_start h = cc
-end_is_none Ev.document_end h = cc
-end_is_none (Ev.alias n) h = cc
-end_is_none (Ev.scalar x y a t) h = cc
-end_is_none (Ev.sequence_start a t) h = cc
-end_is_none Ev.sequence_end h = cc
-end_is_none (Ev.mapping_start a t) h = cc
-end_is_none Ev.mapping_end h = cc
-
 -- a run inside a document that stops behind an event
 pub inside_stops : (e : Ev) (p : Place) (multi : Bool) → (l : Loaded Fault) × (load_from run.inside multi (event e p ∷ []) ≡ push e p l) × (l.pushed ≡ []) × (l.taken ≡ 0)
 inside_stops Ev.nothing p multi = (ends run.unfinished 0, refl, refl, refl)
@@ -150,13 +140,52 @@ inside_stops Ev.sequence_end p multi = (ends run.unfinished 0, refl, refl, refl)
 inside_stops (Ev.mapping_start a t) p multi = (ends run.unfinished 0, refl, refl, refl)
 inside_stops Ev.mapping_end p multi = (ends run.unfinished 0, refl, refl, refl)
 
--- Behind an event that is no end, the end was not given.
-pub not_ended : {old new : Parsed} {e : Ev × Place} → GivesEvent old e new → is_stream_end e.0 ≡ false → new.ended ≡ false
-not_ended {old} {new} {e} g h = g.ended ∙ or_from old.ended (is_stream_end e.0) (not_over old.ended g.over) h
+going_before : {old new : Parsed} {e : Ev × Place} → GivesEvent old e new → is_stream_end e.0 ≡ false → old.ended ≡ false
+going_before {old} {new} {e} g h = not_over old.ended g.over
   where
     not_over : (b : Bool) → (b ≡ true → e.0 ≡ Ev.stream_end) → b ≡ false
     not_over true f = absurd (end_is_not e.0 h (f refl))
     not_over false f = refl
+
+-- Behind an event that is no end, the end was not given.
+pub not_ended : {old new : Parsed} {e : Ev × Place} → GivesEvent old e new → is_stream_end e.0 ≡ false → new.ended ≡ false
+not_ended {old} {new} {e} g h = g.ended ∙ or_from old.ended (is_stream_end e.0) (going_before g h) h
+
+-- ---- inside a document
+
+given_more : {old new : Parsed} {e : Ev × Place} → GivesEvent old e new → old.ended ≡ false → new.given ≡ old.given ++ e ∷ []
+given_more {old} {new} {e} g h = g.given ∙ ap (λ b. old.given ++ (if b then [] else e ∷ [])) h
+
+read_given : (es : List (Ev × Place)) (ended : Bool) (ahead : Option (Ev × Place)) → ahead ≡ None → read_so es ended ahead ≡ es
+read_given es true ahead h = refl
+read_given es false None h = refl
+read_given es false (Some e) h = cc
+
+-- The stream's end does not come there.
+pub no_end : {now new : Parsed} {e : Ev} {p : Place} → IsInside now → GivesEvent now (e, p) new → is_stream_end e ≡ false
+no_end {now} {new} {e} {p} i g = by (is_stream_end e) refl
+  where
+    by : (b : Bool) → is_stream_end e ≡ b → b ≡ false
+    by false h = refl
+    by true h =
+        let all : read new ≡ now.given ++ (Ev.stream_end, p) ∷ [] = read_given new.given new.ended new.ahead g.ahead ∙ given_more g i.0 ∙ ap (λ v. now.given ++ (v, p) ∷ []) (end_is e h) in
+        absurd (no_end_inside now.given p i.1 (subst (λ es. BeginsNested (events_of es)) all g.sound.nested))
+
+pub starts_inside : {now new : Parsed} {e : Ev} {p : Place} → GivesEvent now (e, p) new → is_stream_end e ≡ false → is_document_start e ≡ true → IsInside new
+starts_inside {now} {new} {e} {p} g end start = (
+  not_ended g end,
+  ap (λ es. is_open false (events_of es)) (given_more g (going_before g end)) ∙ open_more false now.given e p ∙ ap (λ b. b || (is_open false (events_of now.given) && not (is_document_end e))) start,
+)
+
+pub stays_inside : {now new : Parsed} {e : Ev} {p : Place} → IsInside now → GivesEvent now (e, p) new → is_document_end e ≡ false → IsInside new
+stays_inside {now} {new} {e} {p} i g last = (
+  not_ended g (no_end i g),
+  ap (λ es. is_open false (events_of es)) (given_more g i.0) ∙ open_more false now.given e p ∙ ap (opened e) i.1 ∙ ap (λ b. is_document_start e || not b) last ∙ or_true (is_document_start e),
+)
+  where
+    or_true : (b : Bool) → b || true ≡ true
+    or_true true = refl
+    or_true false = refl
 
 -- ---- the steps
 
@@ -241,21 +270,6 @@ module _ {R : Type 0} (takes : R → Ev → Place → Result (Unit {0}) Fault �
         ends = loads.well (ap (λ x. x.ending) w ∙ ending_all g.events l) pulls.sound.fault (subst (λ xs. Receives takes r xs s') (sym (ap (λ x. x.pushed) w ∙ pushed_all g.events l)) (one_event e p g.received took));
       }
 
-  -- The stream's end is taken inside a document.
-  pub cut_short : {now now' : Parsed} {s s' : R} (e : Ev) (p : Place) → Stands takes multi old r run.inside now s → is_stream_end e ≡ true
-      → Pulls now (event e p) now' → takes s e p (Ok tt) s' → Loads takes multi old r (Ok tt) now' s'
-  cut_short {now} {now'} {s} {s'} e p g end pulls took =
-      let l = push {Fault = Fault} e p (ends run.unfinished 0) in
-      let w = whole_run (event e p) l g (inside_run e p multi [] (end_is_none e end)) in
-      let pushed = ap (λ x. x.pushed) w ∙ pushed_all g.events l in
-      record {
-        answers = given Fault g.events ++ event e p ∷ [];
-        behind = now';
-        pulled = one_call (event e p) g.pulled pulls;
-        taken = whole_taken g.events (event e p) l _ w refl;
-        ends = loads.out_of_nesting g.events p (ap (λ x. x.ending) w ∙ ending_all g.events l) (pushed ∙ ap (λ v. g.events ++ (v, p) ∷ []) (end_is e end)) pulls.sound.fault (subst (λ xs. Receives takes r xs s') (sym pushed) (one_event e p g.received took));
-      }
-
   -- A document was read, and no more is asked for.
   pub one_document : {now : Parsed} {s : R} → Going takes multi old r (behind_document multi) now s → now.fault ≡ None → multi ≡ false → Loads takes multi old r (Ok tt) now s
   one_document {now} {s} g clear h =
@@ -281,9 +295,8 @@ module _ {R : Type 0} (takes : R → Ev → Place → Result (Unit {0}) Fault �
   loads_err (Ok u) f {now} {s} h y = absurd h
   loads_err (Err e) f {now} {s} h y = subst (λ z. Loads takes multi old r (Err z) now s) (sym h) y
 
-  pub behind_err : (x : Result Bool Fault) (f : Fault) {now : Parsed} {s : R} → IsErrAnd x (λ e. e ≡ f) → Loads takes multi old r (Err f) now s → IsBehind takes multi old r x now s
-  behind_err (Ok true) f {now} {s} h y = absurd h
-  behind_err (Ok false) f {now} {s} h y = absurd h
+  pub behind_err : (x : Result (Unit {0}) Fault) (f : Fault) {now : Parsed} {s : R} → IsErrAnd x (λ e. e ≡ f) → Loads takes multi old r (Err f) now s → IsBehind takes multi old r x now s
+  behind_err (Ok u) f {now} {s} h y = absurd h
   behind_err (Err e) f {now} {s} h y = subst (λ z. Loads takes multi old r (Err z) now s) (sym h) y
 
   pub starts_err : (x : Result (Unit {0}) Fault) (f : Fault) {now : Parsed} {s : R} → IsErrAnd x (λ e. e ≡ f) → Loads takes multi old r (Err f) now s → StartsSo takes multi old r x now s

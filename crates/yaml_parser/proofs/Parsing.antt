@@ -330,6 +330,7 @@ at_keeping {T} b p k names es f a =
       awake = a.awake;
       over = a.over;
       count = a.count;
+      resolved = a.resolved;
       places = a.places;
       events = λ s. ap (named k.tags no_names) (nothing s) ∙ ap (λ xs. Some (events_of xs)) (sym (f s).1);
       names_are = λ s. ap (behind_all k.tags no_names) (nothing s) ∙ sym (ap (behind_all p.names.keeping.tags no_names) (nothing s)) ∙ a.names_are (f s).0;

@@ -31,6 +31,7 @@ use Rattle.yaml_parser.specs.declared.tokens.Next.{Next}
 use Rattle.yaml_parser.specs.declared.tokens.Stop.{Stop}
 use Rattle.yaml_parser.specs.declared.tokens.Stop.TheVariants as stop
 use Rattle.yaml_parser.proofs.Places.{IsPlaced, count_more, places_took, places_took_on, places_left}
+use Rattle.yaml_parser.proofs.Resolved.{resolved_more}
 use Rattle.yaml_parser.specs.At.{At, is_over, names_at, IsPending, Faulted, Fails}
 
 -- ---- lists
@@ -123,6 +124,7 @@ took {T} m {g} {g'} {p} {r} {t} {ss'} {e} {v} {names} {names'} {given} here s to
       awake = λ o. skipped_awake here s (wakes o).1 (a.awake (wakes o).0);
       over = λ o. s.peeked;
       count = count_more m a.raw e v given a.count;
+      resolved = resolved_more m a.raw given a.resolved names e v n.resolves;
       places = places_took m a.raw e v given p.tokens.taken.items t r.tokens.taken.items s.taken a.count spot a.places;
       events = λ b. (events_more m n a b).0;
       names_are = λ b. (events_more m n a b).1;
@@ -144,6 +146,7 @@ took_on {T} {g} {g'} {p} {r} {t} {ss'} {names} {given} here s to turn keep code 
       awake = λ o. skipped_awake here s (wakes o).1 (a.awake (wakes o).0);
       over = λ o. s.peeked;
       count = a.count;
+      resolved = a.resolved;
       places = places_took_on a.raw given p.tokens.taken.items t r.tokens.taken.items s.taken spot a.places;
       events = λ b. ap (λ k. named k.tags no_names a.raw) keep ∙ a.events (ap (λ k. k.steady) (sym keep) ∙ b);
       names_are = λ b. ap (λ k. behind_all k.tags no_names a.raw) keep ∙ a.names_are (ap (λ k. k.steady) (sym keep) ∙ b);
@@ -167,6 +170,7 @@ left {T} m {g} {g'} {p} {r} {o} {ss'} {e} {v} {names} {names'} {given} here same
       awake = λ w. subst IsAwake (sym same) (a.awake (or_parts (is_over g) (is_over g') wakes).0);
       over = λ w. absurd (both_ways (is_over g') (or_parts (is_over g) (is_over g') wakes).1 w);
       count = count_more m a.raw e v given a.count;
+      resolved = resolved_more m a.raw given a.resolved names e v n.resolves;
       places = places_left m a.raw e v given (all_shown p.tokens.taken.items) (all_shown r.tokens.taken.items) (ap (λ x. all_shown x.taken.items) same) a.count spot a.places;
       events = λ b. (events_more m n a b).0;
       names_are = λ b. (events_more m n a b).1;
@@ -190,6 +194,7 @@ left_as {T} {g} {g'} {p} {r} {o} {ss'} {names} {given} here same to turn keep co
       awake = λ w. subst IsAwake (sym same) (a.awake (or_parts (is_over g) (is_over g') wakes).0);
       over = λ w. absurd (both_ways (is_over g') (or_parts (is_over g) (is_over g') wakes).1 w);
       count = a.count;
+      resolved = a.resolved;
       places = a.places ∙ sym (ap (λ x. given_places (all_shown x.taken.items)) same);
       events = λ b. ap (λ k. named k.tags no_names a.raw) keep ∙ a.events (ap (λ k. k.steady) (sym keep) ∙ b);
       names_are = λ b. ap (λ k. behind_all k.tags no_names a.raw) keep ∙ a.names_are (ap (λ k. k.steady) (sym keep) ∙ b);
@@ -224,6 +229,7 @@ looks_on {T} {p} {r} taken same handed awake stack names_same {g} {names} {given
       awake = λ o. awake (a.awake o);
       over = λ o. absurd (both_ways (is_over g) going o);
       count = a.count;
+      resolved = a.resolved;
       places = a.places ∙ sym (ap (λ x. given_places (all_shown x.items)) taken);
       events = λ b. ap (λ n. named n.keeping.tags no_names a.raw) names_same ∙ a.events (ap (λ n. n.keeping.steady) (sym names_same) ∙ b);
       names_are = λ b. ap (λ n. behind_all n.keeping.tags no_names a.raw) names_same ∙ a.names_are (ap (λ n. n.keeping.steady) (sym names_same) ∙ b);

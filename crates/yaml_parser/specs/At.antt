@@ -24,6 +24,7 @@ use Rattle.yaml_parser.specs.declared.reader.Reader.{Reader}
 use Rattle.yaml_parser.specs.Ahead.{Skips}
 use Rattle.yaml_parser.specs.Handed.{taken_toks, peeked_tok, IsHanded, IsAwake}
 use Rattle.yaml_parser.specs.Named.{IsNamed}
+use Rattle.yaml_parser.specs.Nests.{AreResolved}
 use Rattle.yaml_parser.specs.Shown.{placed, ev_of}
 
 abbrev pub is_over : Goal → Bool
@@ -54,6 +55,7 @@ pub record At {T : Type 0} (g : Goal) (p : Reader T) (names : Names) (given : Li
   pub awake : is_over g ≡ false → IsAwake p.tokens
   pub over : is_over g ≡ true → p.tokens.peeked ≡ None
   pub count : length raw ≡ length given
+  pub resolved : AreResolved raw (events_of given)
   pub places : taken_places raw (places_of given) ≡ given_places (all_shown p.tokens.taken.items)
   pub events : p.names.keeping.steady ≡ true → named p.names.keeping.tags no_names raw ≡ Some (events_of given)
   pub names_are : p.names.keeping.steady ≡ true → behind_all p.names.keeping.tags no_names raw ≡ names

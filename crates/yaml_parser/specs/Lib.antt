@@ -8,6 +8,7 @@ pub mod Held
 pub mod Kinds
 pub mod Loads
 pub mod Named
+pub mod Nests
 pub mod Parsed
 pub mod Properties
 pub mod Pulls

@@ -1,5 +1,5 @@
 -- What `load` does with a parser and a receiver. `takes` is what one call of the receiver does.
-use Rattle.std.specs.Prelude.{◌≡◌, List, [], ◌∷◌, ◌++◌, length, Bool, true, false, if◌then◌else◌, Some, None, Result, Ok, Err}
+use Rattle.std.specs.Prelude.{◌≡◌, List, [], ◌∷◌, ◌++◌, length, Bool, if◌then◌else◌, Some, None, Result, Ok, Err}
 use Rattle.yaml_chars.specs.Place.{Place}
 use Rattle.yaml_tokens.specs.Fault.{Fault}
 use Rattle.event_defs.specs.Event.{Ev}
@@ -28,8 +28,6 @@ pub data EndsSo {R : Type 0} (takes : R → Ev → Place → Result (Unit {0}) F
   misplaced : {s : R} (p : Place) → l.ending ≡ run.no_document p → Receives takes r l.pushed s → EndsSo takes r l behind (Err (no_document p)) (record behind { fault = Some (no_document p) }) s
   -- the receiver refused the last event, and its fault is not kept
   refused : {s t : R} {es : List (Ev × Place)} (e : Ev) (p : Place) {f : Fault} → l.pushed ≡ es ++ (e, p) ∷ [] → behind.fault ≡ None → Receives takes r es s → takes s e p (Err f) t → EndsSo takes r l behind (Err f) behind t
-  -- the stream's end was pushed inside a document, where none is in nested events
-  out_of_nesting : {s : R} (es : List (Ev × Place)) (p : Place) → l.ending ≡ run.unfinished → l.pushed ≡ es ++ (Ev.stream_end, p) ∷ [] → behind.fault ≡ None → Receives takes r l.pushed s → EndsSo takes r l behind (Ok tt) behind s
 
 -- One call of `load`: the answers that it pulled, all of which its run takes, and how it ends.
 pub record Loads {R : Type 0} (takes : R → Ev → Place → Result (Unit {0}) Fault → R → Type 0) (multi : Bool) (old : Parsed) (r : R) (result : Result (Unit {0}) Fault) (new : Parsed) (s : R) : Type 0 where
@@ -65,11 +63,10 @@ StartsSo takes multi old r (Err f) now s = Loads takes multi old r (Err f) now s
 abbrev pub behind_document : Bool → List (Answer Fault) → Loaded Fault
 behind_document multi rest = if multi then load_from run.between multi rest else ends run.well 0
 
--- behind the document's end, or at the end of the call
-abbrev pub IsBehind : {R : Type 0} → (R → Ev → Place → Result (Unit {0}) Fault → R → Type 0) → Bool → Parsed → R → Result Bool Fault → Parsed → R → Type 0
-IsBehind takes multi old r (Ok true) now s = Going takes multi old r (behind_document multi) now s × (now.fault ≡ None)
-IsBehind takes multi old r (Ok false) now s = Loads takes multi old r (Ok tt) now s
+-- behind the document's end
+abbrev pub IsBehind : {R : Type 0} → (R → Ev → Place → Result (Unit {0}) Fault → R → Type 0) → Bool → Parsed → R → Result (Unit {0}) Fault → Parsed → R → Type 0
+IsBehind takes multi old r (Ok u) now s = Going takes multi old r (behind_document multi) now s × (now.fault ≡ None)
 IsBehind takes multi old r (Err f) now s = Loads takes multi old r (Err f) now s
 
-abbrev pub ReadsOn : {R : Type 0} → (R → Ev → Place → Result (Unit {0}) Fault → R → Type 0) → Bool → Parsed → R → Parsed → R → Result Bool Fault → Parsed → R → Type 0
+abbrev pub ReadsOn : {R : Type 0} → (R → Ev → Place → Result (Unit {0}) Fault → R → Type 0) → Bool → Parsed → R → Parsed → R → Result (Unit {0}) Fault → Parsed → R → Type 0
 ReadsOn takes multi old r now s result now' s' = Stands takes multi old r run.inside now s → IsBehind takes multi old r result now' s'

@@ -5,19 +5,22 @@ use Rattle.yaml_tokens.specs.Fault.{Fault}
 use Rattle.event_defs.specs.Event.{Ev}
 use Rattle.event_defs.specs.PulledList.{Answer}
 use Rattle.event_defs.specs.PulledList as answer
+use Rattle.event_defs.specs.Stream.{events_of}
 use Rattle.yaml_parser.specs.declared.event.Event.{Event}
 use Rattle.yaml_parser.specs.Shown.{ev_of}
 use Rattle.yaml_parser.specs.Parsed.{Parsed, is_stream_end, has_end, read}
 use Rattle.yaml_parser.specs.Follows.{Follows, IsWhole, Explains}
+use Rattle.yaml_parser.specs.Nests.{BeginsNested}
 
 -- The settings stay.
 pub record KeepsSettings (old new : Parsed) : Type 0 where
   pub keep_tags : new.keep_tags ≡ old.keep_tags
   pub steady : new.steady ≡ old.steady
 
--- No fault is kept, and the events that were read are those of the token grammar.
+-- No fault is kept, and the events that were read are nested, and are those of the token grammar.
 pub record IsSound (p : Parsed) : Type 0 where
   pub fault : p.fault ≡ None
+  pub nested : BeginsNested (events_of (read p))
   pub follows : p.steady ≡ true → Follows p
   pub whole : p.steady ≡ true → has_end (read p) ≡ true → IsWhole p
 

@@ -1,5 +1,6 @@
 //! Pushing: a parser's events, into a receiver.
-ghost use Rattle.std.specs.Prelude.{◌≡◌, ◌≤◌, Bool, true, IfOk, Some};
+ghost use Rattle.std.specs.Prelude.{◌≡◌, ◌≤◌, Bool, OnOk, Some};
+ghost use Rattle.yaml_parser.specs.Nests.{IsInside};
 ghost use Rattle.yaml_parser.specs.Parsed.{Parsed, parsed, is_stream_end, is_document_start, is_document_end};
 ghost use Rattle.yaml_parser.specs.Shown.{ev_of};
 ghost use Rattle.yaml_parser.specs.View.{no_document};
@@ -51,10 +52,7 @@ impl<T: Iterator<Item = char>> Parser<T> {
                 return Err(self.misplace(mark));
             }
             recv.on_event(event, mark)?;
-            let whole = self.load_document(recv)?;
-            if !whole {
-                return Ok(());
-            }
+            self.load_document(recv)?;
             if !multi {
                 return Ok(());
             }
@@ -74,23 +72,20 @@ impl<T: Iterator<Item = char>> Parser<T> {
         Ok(())
     }
 
-    /// Pushes the events of a document whose start was pushed, and says whether its end came. Only
-    /// the stream's end stops it before, which stands in no document.
-    fn load_document<R: MarkedEventReceiver>(&mut self, recv: &mut R) -> Result<bool, ScanError>
+    /// Pushes the events of a document whose start was given, up to its end. The stream's end comes
+    /// in no document.
+    fn load_document<R: MarkedEventReceiver>(&mut self, recv: &mut R) -> Result<(), ScanError>
+        requires { IsInside (parsed self.old) }
         ensures reads { (multi : Bool) (parser : Parsed) (receiver : R) → ReadsOn R.takes multi parser receiver (parsed self.old) recv.old result (parsed self.new) recv.new }
         ensures start { self.new.start ≡ self.old.start }
-        ensures left { IfOk result (λ b. b ≡ true → (parsed self.new).left ≤ (parsed self.old).left) }
+        ensures left { OnOk result ((parsed self.new).left ≤ (parsed self.old).left) }
     {
         'events: loop {
             let (event, mark) = self.next_token()?;
             let last = is_document_end(&event);
-            let over = is_stream_end(&event);
             recv.on_event(event, mark)?;
-            if over {
-                return Ok(false);
-            }
             if last {
-                return Ok(true);
+                return Ok(());
             }
         }
     }

@@ -1,3 +1,6 @@
+ghost use Rattle.std.specs.Prelude.{Result};
+ghost use Rattle.event_defs.specs.Event.{Ev};
+ghost use Rattle.yaml_tokens.specs.Fault.{Fault};
 ghost use Rattle.yaml_parser.specs.Shown.{ev_of};
 
 use crate::event::Event;
@@ -6,16 +9,17 @@ use yaml_tokens::ScanError;
 
 /// What takes the events that a parser pushes.
 pub trait EventReceiver {
+    // What one call does: the receiver before it, the event, the answer, and the receiver behind it.
+    ghost takes: { Self → Ev → Result (Unit {0}) Fault → Self → Type 0 } = { λ _ _ _ _. Unit {0} };
+
     /// Takes an event. An `Err` stops the parser's call.
-    fn on_event(&mut self, ev: Event) -> Result<(), ScanError>;
+    fn on_event(&mut self, ev: Event) -> Result<(), ScanError>
+        ensures { takes self.old (ev_of ev) result self.new };
 }
 
 /// What takes the events that a parser pushes, with their places.
 pub trait MarkedEventReceiver {
-    ghost use Rattle.std.specs.Prelude.{Result};
     ghost use Rattle.yaml_chars.specs.Place.{Place};
-    ghost use Rattle.event_defs.specs.Event.{Ev};
-    ghost use Rattle.yaml_tokens.specs.Fault.{Fault};
 
     // What one call does: the receiver before it, the event and its place, the answer, and the receiver behind it.
     ghost takes: { Self → Ev → Place → Result (Unit {0}) Fault → Self → Type 0 } = { λ _ _ _ _ _. Unit {0} };
@@ -26,6 +30,8 @@ pub trait MarkedEventReceiver {
 }
 
 impl<R: EventReceiver> MarkedEventReceiver for R {
+    ghost takes = { λ before e _ result after. R.takes before e result after };
+
     fn on_event(&mut self, ev: Event, mark: Marker) -> Result<(), ScanError> {
         let _ = mark;
         EventReceiver::on_event(self, ev)

@@ -1,12 +1,12 @@
-use Rattle.std.proofs.Common.{◌≡◌, refl, sym, subst, ◌∙◌, [], true, false, Ok, Err}
+use Rattle.std.proofs.Common.{◌≡◌, refl, sym, subst, ◌∙◌, [], true, false, Err}
 use Rattle.event_defs.specs.Event.{Ev}
 use Rattle.event_defs.specs.Push as run
 use Rattle.event_defs.specs.Push.{load_from, ends}
 use Rattle.yaml_parser.specs.View.{no_document}
 use Rattle.yaml_parser.specs.Shown.{ev_of}
 use Rattle.yaml_parser.specs.Parsed.{is_stream_end, is_document_start, parsed}
-use Rattle.yaml_parser.specs.Loads.{IsBehind, Loads}
-use Rattle.yaml_parser.proofs.LoadSteps.{goes_on, faults, misplaces, refuses, ends_well, one_document, next_document, loads_err, misplaced_run, end_run, start_run}
+use Rattle.yaml_parser.specs.Loads.{Loads}
+use Rattle.yaml_parser.proofs.LoadSteps.{goes_on, faults, misplaces, refuses, ends_well, one_document, next_document, loads_err, misplaced_run, end_run, start_run, starts_inside}
 use Rattle.yaml_parser.proofs.parser.Parser.load.Goals as goal
 
 pub documents-preserved : goal.documents-preserved
@@ -14,7 +14,7 @@ documents-preserved g c =
     let e : Ev = ev_of c.in_ok-event.event in
     let start : is_document_start e ≡ true = sym c.is_document_start.ensures ∙ c.if-not-is_document_start.false in
     let st = goes_on g.R.MarkedEventReceiver.takes c.args.multi (parsed c.args.self.now) c.args.recv.now e c.in_ok-event.mark c.documents.invariant.0 (λ rest. start_run e c.in_ok-event.mark c.args.multi rest start) c.in_ok-event.ensures.pulls c.in_ok-on_event-2.ensures in
-    let w = subst (λ b. IsBehind g.R.MarkedEventReceiver.takes c.args.multi (parsed c.args.self.now) c.args.recv.now (Ok b) (parsed c.load_document.new.self) c.load_document.new.recv) c.if-not-whole.false (c.in_ok-whole.ensures.reads c.args.multi (parsed c.args.self.now) c.args.recv.now st) in
+    let w = c.in_ok-load_document.ensures.reads c.args.multi (parsed c.args.self.now) c.args.recv.now st in
     (next_document g.R.MarkedEventReceiver.takes c.args.multi (parsed c.args.self.now) c.args.recv.now w.0 c.if-not-multi.false, cc)
 
 pub returns-in_err-event-clause-loads : goal.returns-in_err-event-clause-loads
@@ -51,25 +51,25 @@ returns-in_err-on_event-2-clause-loads g c =
     loads_err g.R.MarkedEventReceiver.takes c.args.multi (parsed c.args.self.now) c.args.recv.now c.from_residual-in_err-on_event-2.result c.in_err-on_event-2.field-0.0 c.from_residual-in_err-on_event-2.ensures.1
     (refuses g.R.MarkedEventReceiver.takes c.args.multi (parsed c.args.self.now) c.args.recv.now e c.in_ok-event.mark c.in_err-on_event-2.field-0.0 (ends run.unfinished 0) c.documents.invariant.0 (start_run e c.in_ok-event.mark c.args.multi [] start) refl refl c.in_ok-event.ensures.pulls c.in_err-on_event-2.ensures)
 
-pub returns-in_err-whole-clause-loads : goal.returns-in_err-whole-clause-loads
-returns-in_err-whole-clause-loads g c =
+pub returns-in_err-load_document-clause-loads : goal.returns-in_err-load_document-clause-loads
+returns-in_err-load_document-clause-loads g c =
     let e : Ev = ev_of c.in_ok-event.event in
     let start : is_document_start e ≡ true = sym c.is_document_start.ensures ∙ c.if-not-is_document_start.false in
     let st = goes_on g.R.MarkedEventReceiver.takes c.args.multi (parsed c.args.self.now) c.args.recv.now e c.in_ok-event.mark c.documents.invariant.0 (λ rest. start_run e c.in_ok-event.mark c.args.multi rest start) c.in_ok-event.ensures.pulls c.in_ok-on_event-2.ensures in
-    loads_err g.R.MarkedEventReceiver.takes c.args.multi (parsed c.args.self.now) c.args.recv.now c.from_residual-in_err-whole.result c.in_err-whole.field-0.0 c.from_residual-in_err-whole.ensures.1
-    (c.in_err-whole.ensures.reads c.args.multi (parsed c.args.self.now) c.args.recv.now st)
-
-pub returns-then-not-whole-clause-loads : goal.returns-then-not-whole-clause-loads
-returns-then-not-whole-clause-loads g c =
-    let e : Ev = ev_of c.in_ok-event.event in
-    let start : is_document_start e ≡ true = sym c.is_document_start.ensures ∙ c.if-not-is_document_start.false in
-    let st = goes_on g.R.MarkedEventReceiver.takes c.args.multi (parsed c.args.self.now) c.args.recv.now e c.in_ok-event.mark c.documents.invariant.0 (λ rest. start_run e c.in_ok-event.mark c.args.multi rest start) c.in_ok-event.ensures.pulls c.in_ok-on_event-2.ensures in
-    subst (λ b. IsBehind g.R.MarkedEventReceiver.takes c.args.multi (parsed c.args.self.now) c.args.recv.now (Ok b) (parsed c.load_document.new.self) c.load_document.new.recv) c.if-not-whole.true (c.in_ok-whole.ensures.reads c.args.multi (parsed c.args.self.now) c.args.recv.now st)
+    loads_err g.R.MarkedEventReceiver.takes c.args.multi (parsed c.args.self.now) c.args.recv.now c.from_residual-in_err-load_document.result c.in_err-load_document.field-0.0 c.from_residual-in_err-load_document.ensures.1
+    (c.in_err-load_document.ensures.reads c.args.multi (parsed c.args.self.now) c.args.recv.now st)
 
 pub returns-then-not-multi-clause-loads : goal.returns-then-not-multi-clause-loads
 returns-then-not-multi-clause-loads g c =
     let e : Ev = ev_of c.in_ok-event.event in
     let start : is_document_start e ≡ true = sym c.is_document_start.ensures ∙ c.if-not-is_document_start.false in
     let st = goes_on g.R.MarkedEventReceiver.takes c.args.multi (parsed c.args.self.now) c.args.recv.now e c.in_ok-event.mark c.documents.invariant.0 (λ rest. start_run e c.in_ok-event.mark c.args.multi rest start) c.in_ok-event.ensures.pulls c.in_ok-on_event-2.ensures in
-    let w = subst (λ b. IsBehind g.R.MarkedEventReceiver.takes c.args.multi (parsed c.args.self.now) c.args.recv.now (Ok b) (parsed c.load_document.new.self) c.load_document.new.recv) c.if-not-whole.false (c.in_ok-whole.ensures.reads c.args.multi (parsed c.args.self.now) c.args.recv.now st) in
+    let w = c.in_ok-load_document.ensures.reads c.args.multi (parsed c.args.self.now) c.args.recv.now st in
     one_document g.R.MarkedEventReceiver.takes c.args.multi (parsed c.args.self.now) c.args.recv.now w.0 w.1 c.if-not-multi.true
+
+pub load_document-requires : goal.load_document-requires
+load_document-requires g c =
+    let e : Ev = ev_of c.in_ok-event.event in
+    let end : is_stream_end e ≡ false = sym c.is_stream_end.ensures ∙ c.if-is_stream_end.false in
+    let start : is_document_start e ≡ true = sym c.is_document_start.ensures ∙ c.if-not-is_document_start.false in
+    starts_inside c.in_ok-event.ensures.pulls end start

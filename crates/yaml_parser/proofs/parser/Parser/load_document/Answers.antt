@@ -1,44 +1,38 @@
 use Rattle.std.proofs.Common.{◌≡◌, refl, sym, ◌∙◌, true, false, arith}
 use Rattle.event_defs.specs.Event.{Ev}
 use Rattle.yaml_parser.specs.Shown.{ev_of}
-use Rattle.yaml_parser.specs.Parsed.{is_document_end, parsed}
-use Rattle.yaml_parser.proofs.LoadSteps.{goes_on, faults, refuses, cut_short, behind_err, inside_run, last_run, inside_stops, end_is_not}
+use Rattle.yaml_parser.specs.Parsed.{is_document_end}
+use Rattle.yaml_parser.proofs.LoadSteps.{goes_on, faults, refuses, behind_err, inside_run, last_run, inside_stops, end_is_not, no_end, stays_inside}
 use Rattle.yaml_parser.proofs.parser.Parser.load_document.Goals as goal
+
+pub events-smaller : goal.events-smaller
+events-smaller g c = c.in_ok-event.ensures.pulls.left (end_is_not (ev_of c.in_ok-event.event) (no_end c.events.invariant.stays c.in_ok-event.ensures.pulls))
 
 pub events-preserved : goal.events-preserved
 events-preserved g c =
     let e : Ev = ev_of c.in_ok-event.event in
     let last : is_document_end e ≡ false = sym c.is_document_end-last.ensures ∙ c.if-last.false in
-    let less = c.in_ok-event.ensures.pulls.left (end_is_not e (sym c.is_stream_end-over.ensures ∙ c.if-over.false)) in
+    let less = c.in_ok-event.ensures.pulls.left (end_is_not e (no_end c.events.invariant.stays c.in_ok-event.ensures.pulls)) in
     record {
       reads = λ multi parser receiver h.
           goes_on g.R.MarkedEventReceiver.takes multi parser receiver e c.in_ok-event.mark (c.events.invariant.reads multi parser receiver h) (λ rest. inside_run e c.in_ok-event.mark multi rest last) c.in_ok-event.ensures.pulls c.in_ok-on_event.ensures;
       start = cc;
       left = omega (arith, less, c.events.invariant.left);
-    }
-
-pub returns-then-over : goal.returns-then-over
-returns-then-over g c =
-    let e : Ev = ev_of c.in_ok-event.event in
-    record {
-      reads = λ multi parser receiver h.
-          cut_short g.R.MarkedEventReceiver.takes multi parser receiver e c.in_ok-event.mark (c.events.invariant.reads multi parser receiver h) (sym c.is_stream_end-over.ensures ∙ c.if-over.true) c.in_ok-event.ensures.pulls c.in_ok-on_event.ensures;
-      start = cc;
-      left = λ b. let no : false ≡ true = b in cc;
+      stays = stays_inside c.events.invariant.stays c.in_ok-event.ensures.pulls last;
     }
 
 pub returns-then-last : goal.returns-then-last
 returns-then-last g c =
     let e : Ev = ev_of c.in_ok-event.event in
     let last : is_document_end e ≡ true = sym c.is_document_end-last.ensures ∙ c.if-last.true in
-    let less = c.in_ok-event.ensures.pulls.left (end_is_not e (sym c.is_stream_end-over.ensures ∙ c.if-over.false)) in
+    let less = c.in_ok-event.ensures.pulls.left (end_is_not e (no_end c.events.invariant.stays c.in_ok-event.ensures.pulls)) in
     record {
       reads = λ multi parser receiver h. (
         goes_on g.R.MarkedEventReceiver.takes multi parser receiver e c.in_ok-event.mark (c.events.invariant.reads multi parser receiver h) (λ rest. last_run e c.in_ok-event.mark multi rest last) c.in_ok-event.ensures.pulls c.in_ok-on_event.ensures,
         c.in_ok-event.ensures.pulls.sound.fault,
       );
       start = cc;
-      left = λ b. omega (arith, less, c.events.invariant.left);
+      left = omega (arith, less, c.events.invariant.left);
     }
 
 pub returns-in_err-event-clause-reads : goal.returns-in_err-event-clause-reads

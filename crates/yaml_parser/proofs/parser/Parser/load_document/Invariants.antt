@@ -1,5 +1,6 @@
 use Rattle.std.proofs.Common.{◌≡◌, ◌≤◌, Bool}
 use Rattle.event_defs.specs.Push.{inside}
+use Rattle.yaml_parser.specs.Nests.{IsInside}
 use Rattle.yaml_parser.specs.Parsed.{Parsed, parsed}
 use Rattle.yaml_parser.specs.Loads.{Stands}
 use Rattle.yaml_parser.proofs.parser.Parser.load_document.Given as goal
@@ -9,6 +10,7 @@ invariant-events g l = record {
   reads : (multi : Bool) (parser : Parsed) (receiver : g.row.R.Denot) → Stands g.R.MarkedEventReceiver.takes multi parser receiver inside (parsed l.fn.self) l.fn.recv → Stands g.R.MarkedEventReceiver.takes multi parser receiver inside (parsed l.self) l.recv;
   start : l.self.start ≡ l.fn.self.start;
   left : (parsed l.self).left ≤ (parsed l.fn.self).left;
+  stays : IsInside (parsed l.self);
 }
 
 abbrev pub decreases-events : goal.decreases-events

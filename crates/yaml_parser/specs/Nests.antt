@@ -1,0 +1,31 @@
+-- Events that are nested, as far as they were read.
+use Rattle.std.specs.Prelude.{◌≡◌, ◌||◌, ◌&&◌, not, List, [], ◌∷◌, ◌++◌, Bool, true, false, Some}
+use Rattle.event_defs.specs.Event.{Ev}
+use Rattle.event_defs.specs.Raw.{Raw}
+use Rattle.event_defs.specs.Names.{Names, resolved_event}
+use Rattle.event_defs.specs.Nested.{IsNested}
+use Rattle.event_defs.specs.Stream.{events_of}
+use Rattle.yaml_parser.specs.Parsed.{Parsed, is_document_start, is_document_end}
+
+-- These events are a beginning of nested events.
+abbrev pub BeginsNested : List Ev → Type 0
+BeginsNested es = (more : List Ev) × IsNested (es ++ more)
+
+-- Each event is the raw one in its place, resolved by some names.
+abbrev pub AreResolved : List Raw → List Ev → Type 0
+AreResolved [] [] = Unit {0}
+AreResolved (r ∷ rs) (e ∷ es) = ((names : Names) × (resolved_event names r ≡ Some e)) × AreResolved rs es
+AreResolved _ _ = ⊥
+
+-- whether a document is open behind an event, where one was open before it or was not
+abbrev pub opened : Ev → Bool → Bool
+opened e b = is_document_start e || (b && not (is_document_end e))
+
+-- whether a document is open behind these events
+abbrev pub is_open : Bool → List Ev → Bool
+is_open b [] = b
+is_open b (e ∷ es) = is_open (opened e b) es
+
+-- A document's start was given, and not its end.
+abbrev pub IsInside : Parsed → Type 0
+IsInside p = (p.ended ≡ false) × (is_open false (events_of p.given) ≡ true)
