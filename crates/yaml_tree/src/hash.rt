@@ -76,7 +76,17 @@ impl Hash {
         self.pairs.is_empty()
     }
 
+    #[tactic(auto, unfolding(yaml_chars::specs::Text::string_chars))]
     fn place(&self, key: &Yaml) -> Option<usize>
+        ensures { result ≡ place_of (view key.now) self.now }
+    {
+        match key {
+            Yaml::String(text) => self.place_of_text(text.as_str()),
+            _ => self.place_of_node(key),
+        }
+    }
+
+    fn place_of_node(&self, key: &Yaml) -> Option<usize>
         ensures { result ≡ place_of (view key.now) self.now }
     {
         for (i, pair) in self.pairs.iter().enumerate() {
