@@ -4,7 +4,7 @@ ghost use Rattle.tree_defs.specs.Tree.{string};
 ghost use Rattle.tree_defs.specs.Pairs.{insert, last_of, lookup, without, place_of, value_at, with_value_at, with_value, AreDistinct};
 ghost use Rattle.yaml_tree.specs.View.{view, pairs_view};
 
-use crate::discard::discard;
+use crate::discard::discard_hash;
 use crate::yaml::Yaml;
 use std::alloc::Global;
 use std::marker::Model;
@@ -44,7 +44,7 @@ impl Model for Hash {
 impl Drop for Hash {
     fn drop(self) {
         let Hash { pairs } = self;
-        discard(Yaml::Hash(Hash { pairs }));
+        discard_hash(Hash { pairs });
     }
 }
 
