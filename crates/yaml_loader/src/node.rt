@@ -30,7 +30,7 @@ impl Reading {
                 self.insert(node)
             }
             Event::Scalar(text, style, anchor, tag) => {
-                let node = scalar_tree(self.alloc, text, style, tag)?;
+                let node = scalar_tree(text, style, tag);
                 self.insert_anchored(anchor, node)
             }
             Event::SequenceStart(anchor, _) => {
