@@ -81,9 +81,9 @@ refused_alike refusal.OutOfMemory s a b opened h = tt
 refused_alike refusal.OutOfNesting (reads u) a b opened h = cc
 refused_alike refusal.OutOfNesting (repeats k) a b opened h = h
 refused_alike refusal.OutOfNesting out_of_nesting a b opened h = h
-refused_alike (refusal.RepeatedKey text) (reads u) a b opened h = cc
-refused_alike (refusal.RepeatedKey text) (repeats k) a b opened h = h
-refused_alike (refusal.RepeatedKey text) out_of_nesting a b opened h = h
+refused_alike refusal.RepeatedKey (reads u) a b opened h = cc
+refused_alike refusal.RepeatedKey (repeats k) a b opened h = h
+refused_alike refusal.RepeatedKey out_of_nesting a b opened h = h
 
 -- a tree is inserted over anchors in which each alias means the same
 pub reads_over : (t : Tree) (u : Unfinished) (os : List Opened) (a b : Anchors) (v : Unfinished) → ((n : ℕ) → aliased n a ≡ aliased n b)

@@ -47,7 +47,7 @@ pub no_insert_at : (r : Refusal) (t : Tree) (u : Unfinished) (os : List Open) (n
     → IsNoInsert r (opened_of old) t (opened_of new) → IsRefusedBy r (with_tree t u (all_opened os [])) (all_opened (slice_set os (n - 1) new) [])
 no_insert_at refusal.OutOfMemory t u os n old new len some at h = tt
 no_insert_at refusal.OutOfNesting t u os n old new len some at h = absurd h
-no_insert_at (refusal.RepeatedKey text) t u os n old new len some at h =
+no_insert_at refusal.RepeatedKey t u os n old new len some at h =
     let i = innermost os [] (omega arith) in
     let was : all_opened os [] ≡ opened_of old ∷ i.around = i.before old ∙ ap (λ m. opened_of (slice_index_or os m old) ∷ i.around) (sym (last_place n os len)) ∙ ap (λ o. opened_of o ∷ i.around) (sym at) in
     let is : all_opened (slice_set os (n - 1) new) [] ≡ opened_of new ∷ i.around = ap (λ m. all_opened (slice_set os m new) []) (last_place n os len) ∙ i.after new in

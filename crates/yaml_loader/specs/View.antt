@@ -59,13 +59,13 @@ with_anchors anchors s = s
 abbrev pub IsRefusedBy : Refusal → Step → List Opened → Type 0
 IsRefusedBy refusal.OutOfMemory s opened = Unit {0}
 IsRefusedBy refusal.OutOfNesting s opened = s ≡ out_of_nesting
-IsRefusedBy (refusal.RepeatedKey text) s opened = s ≡ repeats (repeated_key opened)
+IsRefusedBy refusal.RepeatedKey s opened = s ≡ repeats (repeated_key opened)
 
 -- the same of a complete tree that goes into an open collection, which never stands out of nesting
 abbrev pub IsNoInsert : Refusal → Opened → Tree → Opened → Type 0
 IsNoInsert refusal.OutOfMemory old t new = Unit {0}
 IsNoInsert refusal.OutOfNesting old t new = ⊥
-IsNoInsert (refusal.RepeatedKey text) old t new = Repeats old t new
+IsNoInsert refusal.RepeatedKey old t new = Repeats old t new
 
 -- ---- what a function on a reading answers and leaves, where this is the step of the definitions
 

@@ -3,7 +3,7 @@ ghost use Rattle.std.specs.Prelude.{◌≡◌, None};
 ghost use Rattle.event_defs.specs.Unfinished.{new_loader, documents_of};
 ghost use Rattle.yaml_tree.specs.View.{items_view};
 ghost use Rattle.yaml_parser.specs.Shown.{ev_of};
-ghost use Rattle.yaml_loader.specs.Loading.{loader_of, kept_fault, event_out_of_nesting, Takes};
+ghost use Rattle.yaml_loader.specs.Loading.{loader_of, kept_fault, want_of_memory, event_out_of_nesting, Takes};
 
 use crate::reading::{Reading, Refusal};
 use std::alloc::Global;
@@ -60,22 +60,38 @@ impl YamlLoader {
     {
         match self.reading.take(ev) {
             Ok(()) => Ok(()),
-            Err(Refusal::RepeatedKey(text)) => {
-                self.course = Course::RepeatedKey(mark, text);
-                Ok(())
-            }
+            Err(Refusal::RepeatedKey) => match self.reading.repeated_key_text() {
+                Ok(text) => {
+                    self.course = Course::RepeatedKey(mark, text);
+                    Ok(())
+                }
+                Err(_) => {
+                    self.course = Course::OutOfMemory(mark);
+                    Err(out_of_memory(mark))
+                }
+            },
             Err(Refusal::OutOfNesting) => {
                 self.course = Course::OutOfNesting(mark);
                 Err(out_of_nesting(mark))
             }
             Err(Refusal::OutOfMemory) => {
                 self.course = Course::OutOfMemory(mark);
-                Err(ScanError::memory(mark))
+                Err(out_of_memory(mark))
             }
         }
     }
 }
 
+#[cold]
+#[inline(never)]
+fn out_of_memory(mark: Marker) -> ScanError
+    ensures { result ≡ want_of_memory mark }
+{
+    ScanError::memory(mark)
+}
+
+#[cold]
+#[inline(never)]
 #[tactic(auto, unfolding(yaml_tokens::specs::Problem::text_of_problem))]
 pub(crate) fn out_of_nesting(mark: Marker) -> ScanError
     ensures { result ≡ event_out_of_nesting mark }
@@ -94,7 +110,7 @@ impl MarkedEventReceiver for YamlLoader {
             Course::Reading => self.take(ev, mark),
             Course::RepeatedKey(_, _) => Ok(()),
             Course::OutOfNesting(place) => Err(out_of_nesting(*place)),
-            Course::OutOfMemory(place) => Err(ScanError::memory(*place)),
+            Course::OutOfMemory(place) => Err(out_of_memory(*place)),
         }
     }
 }

@@ -1,17 +1,19 @@
 //! The events of a reading, and where a complete node goes.
-ghost use Rattle.std.specs.Prelude.{◌≡◌, ℕ, IsSome, IfOk, IfErr, OnOk};
-ghost use Rattle.tree_defs.specs.Pairs.{last_of};
+ghost use Rattle.std.specs.Prelude.{◌≡◌, ◌<◌, ℕ, [], None, IfOk, IfErr, OnOk};
+ghost use Rattle.yaml_chars.specs.Text.{string_chars};
+ghost use Rattle.yaml_tokens.specs.Shown.{style_of};
 ghost use Rattle.event_defs.specs.Anchors.{aliased, finished};
 ghost use Rattle.event_defs.specs.Event.{Ev};
-ghost use Rattle.event_defs.specs.Unfinished.{reads, with_tree, with_node, with_start, with_event};
+ghost use Rattle.event_defs.specs.Unfinished.{opened_sequence, opened_mapping, reads, with_tree, with_node, with_start, with_event};
 ghost use Rattle.yaml_tree.specs.View.{view};
-ghost use Rattle.yaml_parser.specs.Shown.{ev_of};
+ghost use Rattle.yaml_parser.specs.Shown.{ev_of, perhaps_tag_of};
 ghost use Rattle.yaml_loader.specs.View.{opened_of, unfinished_of, Inserts, IsNoInsert, Reads, Refuses, KeepsDocuments};
 
 use crate::reading::{Open, Reading, Refusal};
 use crate::scalar::scalar_tree;
-use std::alloc::{AllocError, Global};
-use yaml_parser::Event;
+use std::alloc::AllocError;
+use yaml_parser::{Event, Tag};
+use yaml_tokens::TScalarStyle;
 use yaml_tree::{Array, Hash, Yaml};
 
 impl Reading {
@@ -25,27 +27,59 @@ impl Reading {
         match event {
             Event::Nothing | Event::StreamStart | Event::StreamEnd | Event::DocumentStart => Ok(()),
             Event::DocumentEnd => self.end_document(),
-            Event::Alias(number) => {
-                let node = self.aliased(number)?;
-                self.insert(node)
-            }
-            Event::Scalar(text, style, anchor, tag) => {
-                let node = scalar_tree(self.alloc, text, style, tag)?;
-                self.insert_anchored(anchor, node)
-            }
-            Event::SequenceStart(anchor, _) => {
-                let items = Array::new(self.alloc);
-                self.open(Open::Sequence(anchor, items))
-            }
+            Event::Alias(number) => self.take_alias(number),
+            Event::Scalar(text, style, anchor, tag) => self.take_scalar(text, style, anchor, tag),
+            Event::SequenceStart(anchor, _) => self.start_sequence(anchor),
             Event::SequenceEnd => self.end_sequence(),
-            Event::MappingStart(anchor, _) => {
-                let pairs = Hash::new(self.alloc);
-                self.open(Open::Mapping(anchor, pairs, None))
-            }
+            Event::MappingStart(anchor, _) => self.start_mapping(anchor),
             Event::MappingEnd => self.end_mapping(),
         }
     }
 
+    #[inline(never)]
+    fn take_alias(&mut self, number: usize) -> Result<(), Refusal>
+        ensures ok { Reads (with_event (unfinished_of self.old) (Ev.alias number)) result self.new }
+        ensures err { Refuses (with_event (unfinished_of self.old) (Ev.alias number)) result self.new }
+        ensures documents { KeepsDocuments self.old result self.new }
+    {
+        let node = self.aliased(number)?;
+        self.insert(node)
+    }
+
+    #[inline(never)]
+    fn take_scalar(
+        &mut self,
+        text: String,
+        style: TScalarStyle,
+        anchor: usize,
+        tag: Option<Tag>,
+    ) -> Result<(), Refusal>
+        ensures ok { let e = Ev.scalar (string_chars text) (style_of style) anchor (perhaps_tag_of tag) in Reads (with_event (unfinished_of self.old) e) result self.new }
+        ensures err { let e = Ev.scalar (string_chars text) (style_of style) anchor (perhaps_tag_of tag) in Refuses (with_event (unfinished_of self.old) e) result self.new }
+        ensures documents { KeepsDocuments self.old result self.new }
+    {
+        self.insert_anchored(anchor, scalar_tree(text, style, tag))
+    }
+
+    #[inline(never)]
+    fn start_sequence(&mut self, anchor: usize) -> Result<(), Refusal>
+        ensures ok { let u = unfinished_of self.old in Reads (with_start (opened_sequence anchor []) u u.opened u.root) result self.new }
+        ensures err { let u = unfinished_of self.old in Refuses (with_start (opened_sequence anchor []) u u.opened u.root) result self.new }
+        ensures documents { KeepsDocuments self.old result self.new }
+    {
+        self.open(Open::Sequence(anchor, Array::new(self.alloc)))
+    }
+
+    #[inline(never)]
+    fn start_mapping(&mut self, anchor: usize) -> Result<(), Refusal>
+        ensures ok { let u = unfinished_of self.old in Reads (with_start (opened_mapping anchor [] None) u u.opened u.root) result self.new }
+        ensures err { let u = unfinished_of self.old in Refuses (with_start (opened_mapping anchor [] None) u u.opened u.root) result self.new }
+        ensures documents { KeepsDocuments self.old result self.new }
+    {
+        self.open(Open::Mapping(anchor, Hash::new(self.alloc), None))
+    }
+
+    #[inline(never)]
     fn end_document(&mut self) -> Result<(), Refusal>
         ensures ok { Reads (with_event (unfinished_of self.old) Ev.document_end) result self.new }
         ensures err { Refuses (with_event (unfinished_of self.old) Ev.document_end) result self.new }
@@ -71,6 +105,7 @@ impl Reading {
         Ok(())
     }
 
+    #[inline(never)]
     fn end_sequence(&mut self) -> Result<(), Refusal>
         ensures ok { Reads (with_event (unfinished_of self.old) Ev.sequence_end) result self.new }
         ensures err { Refuses (with_event (unfinished_of self.old) Ev.sequence_end) result self.new }
@@ -85,6 +120,7 @@ impl Reading {
         }
     }
 
+    #[inline(never)]
     fn end_mapping(&mut self) -> Result<(), Refusal>
         ensures ok { Reads (with_event (unfinished_of self.old) Ev.mapping_end) result self.new }
         ensures err { Refuses (with_event (unfinished_of self.old) Ev.mapping_end) result self.new }
@@ -128,10 +164,33 @@ impl Reading {
         ensures others { self.new ≡ record self.old { anchors = self.new.anchors } }
     {
         if anchor > 0 {
-            let copy = node.clone(self.alloc)?;
-            self.anchors.insert(anchor, copy)?;
+            self.keep(anchor, node)?;
         }
         Ok(())
+    }
+
+    #[inline(never)]
+    fn keep(&mut self, anchor: usize, node: &Yaml) -> Result<(), AllocError>
+        requires { 0 < anchor }
+        ensures aliases { let before = (unfinished_of self.old).anchors in let after = (unfinished_of self.new).anchors in
+            OnOk result ((n : ℕ) → aliased n (finished anchor (view node.now) before) ≡ aliased n after) }
+        ensures others { self.new ≡ record self.old { anchors = self.new.anchors } }
+    {
+        let copy = node.clone(self.alloc)?;
+        self.anchors.insert(anchor, copy)?;
+        Ok(())
+    }
+
+    /// What a fault says of a key that came twice: the last one of the innermost mapping.
+    #[cold]
+    #[inline(never)]
+    pub(crate) fn repeated_key_text(&self) -> Result<String, AllocError> {
+        if let Some(Open::Mapping(_, pairs, _)) = self.opened.last()
+            && let Some((key, _)) = pairs.back()
+        {
+            return format!(in self.alloc; "{key:?}: duplicated key in mapping");
+        }
+        format!(in self.alloc; "duplicated key in mapping")
     }
 
     /// A complete node: the root, the next item, the next key, or the value of the key that waits.
@@ -141,7 +200,7 @@ impl Reading {
         ensures documents { KeepsDocuments self.old result self.new }
     {
         match self.opened.last_mut() {
-            Some(collection) => collection.insert(self.alloc, node),
+            Some(collection) => collection.insert(node),
             None => {
                 if self.root.is_some() {
                     return Err(Refusal::OutOfNesting);
@@ -155,7 +214,7 @@ impl Reading {
 
 impl Open {
     #[tactic(auto, using(crate::proofs::LastPair::last_of_push))]
-    fn insert(&mut self, alloc: Global, node: Yaml) -> Result<(), Refusal>
+    fn insert(&mut self, node: Yaml) -> Result<(), Refusal>
         ensures ok { OnOk result (Inserts (opened_of self.old) (view node) (opened_of self.new)) }
         ensures err { IfErr result (λ r. IsNoInsert r (opened_of self.old) (view node) (opened_of self.new)) }
     {
@@ -171,20 +230,10 @@ impl Open {
                 }
                 Some(key) => match pairs.insert(key, node) {
                     Ok(None) => Ok(()),
-                    Ok(Some(_)) => Err(Refusal::RepeatedKey(repeated_key_text(alloc, pairs)?)),
+                    Ok(Some(_)) => Err(Refusal::RepeatedKey),
                     Err(_) => Err(Refusal::OutOfMemory),
                 },
             },
         }
-    }
-}
-
-// What a fault says of the last key.
-fn repeated_key_text(alloc: Global, pairs: &Hash) -> Result<String, AllocError>
-    requires { IsSome (last_of pairs.now) }
-{
-    match pairs.back() {
-        Some((key, _)) => format!(in alloc; "{key:?}: duplicated key in mapping"),
-        None => unreachable!(),
     }
 }

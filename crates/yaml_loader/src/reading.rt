@@ -30,12 +30,12 @@ pub struct Reading {
 }
 
 /// Why an event isn't read.
-#[derive(Debug, Drop)]
+#[derive(Clone, Copy, Debug)]
 pub enum Refusal {
     OutOfMemory,
     OutOfNesting,
-    /// A mapping has the key already: what a fault says of it. The mapping stays open, and the key is its last.
-    RepeatedKey(String),
+    /// A mapping has the key already. The mapping stays open, and the key is its last.
+    RepeatedKey,
 }
 
 impl From<AllocError> for Refusal {

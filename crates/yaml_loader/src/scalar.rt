@@ -1,12 +1,11 @@
 //! The tree of a scalar.
-ghost use Rattle.std.specs.Prelude.{◌≡◌, IfOk, chars};
+ghost use Rattle.std.specs.Prelude.{◌≡◌, chars};
 ghost use Rattle.yaml_chars.specs.Text.{string_chars};
 ghost use Rattle.yaml_tokens.specs.Shown.{style_of};
 ghost use Rattle.event_defs.specs.Scalar.{scalar_tree, tagged_tree, as_boolean, as_integer, as_real, as_null};
 ghost use Rattle.yaml_tree.specs.View.{view};
 ghost use Rattle.yaml_parser.specs.Shown.{tag_of, perhaps_tag_of};
 
-use std::alloc::{AllocError, Global};
 use yaml_parser::Tag;
 use yaml_tokens::TScalarStyle;
 use yaml_tree::{Yaml, is_real};
@@ -15,21 +14,15 @@ use yaml_tree::{Yaml, is_real};
 const CORE_PREFIX: &str = "tag:yaml.org,2002:";
 
 /// What a scalar stands for. One that isn't plain is a string; a plain one is read by its tag, where it has one.
-#[tactic(auto, unfolding(yaml_chars::specs::Text::string_chars))]
-pub(crate) fn scalar_tree(
-    alloc: Global,
-    text: String,
-    style: TScalarStyle,
-    tag: Option<Tag>,
-) -> Result<Yaml, AllocError>
-    ensures { IfOk result (λ y. view y ≡ scalar_tree (string_chars text) (style_of style) (perhaps_tag_of tag)) }
+pub(crate) fn scalar_tree(text: String, style: TScalarStyle, tag: Option<Tag>) -> Yaml
+    ensures { view result ≡ scalar_tree (string_chars text) (style_of style) (perhaps_tag_of tag) }
 {
     if style != TScalarStyle::Plain {
-        return Ok(Yaml::String(text));
+        return Yaml::String(text);
     }
     match tag {
-        None => Yaml::from_str(alloc, text.as_str()),
-        Some(tag) => Ok(tagged_tree(&tag, text)),
+        None => Yaml::from_string(text),
+        Some(tag) => tagged_tree(&tag, text),
     }
 }
 

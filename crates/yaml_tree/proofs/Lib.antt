@@ -1,6 +1,7 @@
 pub mod Comparing
 pub mod Deeper
 pub mod Discarding
+pub mod FirstByte
 pub mod ItemsLemmas
 pub mod Placed
 pub mod TextLemmas

@@ -14,11 +14,11 @@ use Rattle.tree_defs.proofs.RealTexts.{is_real_character, decimal-characters}
 use Rattle.tree_defs.proofs.TypingLaws.{strings_exactly}
 
 -- all characters are ASCII
-abbrev low : List ℕ → Bool
+abbrev pub low : List ℕ → Bool
 low t = list_all (λ c. nat_lt c 128) t
 
 -- one is not
-abbrev Wide : List ℕ → Type 0
+abbrev pub Wide : List ℕ → Type 0
 Wide t = low t ≡ true → ⊥
 
 wide_tail : (c : ℕ) (cs : List ℕ) → c < 128 → Wide (c ∷ cs) → Wide cs
@@ -124,7 +124,7 @@ low_at (c ∷ cs) h zero = let parts = and_parts (nat_lt c 128) (low cs) h in gr
 low_at (c ∷ cs) h (suc i) = let parts = and_parts (nat_lt c 128) (low cs) h in low_at cs parts.1 i
 
 -- characters that are all ASCII are spelt by themselves
-low_bytes : (bs : List ℕ) → IsUtf8 bs → low (chars bs) ≡ true → IsAscii bs
+pub low_bytes : (bs : List ℕ) → IsUtf8 bs → low (chars bs) ≡ true → IsAscii bs
 low_bytes bs u h = subst IsAscii (sym (encodes-IsAscii (chars bs) (low_at (chars bs) h)) ∙ encodes-chars bs u) (low_at (chars bs) h)
 
 -- a text with a byte that isn't ASCII stands for its string

@@ -3,6 +3,7 @@ pub mod Falls
 pub mod Feed
 pub mod Items
 pub mod Laws
+pub mod Meanings
 pub mod Node
 pub mod Rows
 pub mod Values

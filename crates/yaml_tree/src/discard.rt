@@ -1,4 +1,4 @@
-//! How trees are dropped: by a loop that takes no memory and one stack frame, however deep they are.
+//! How trees are dropped: they take no memory, and so many stack frames at most, however deep they are.
 ghost use Rattle.std.specs.Prelude.{◌≡◌, ◌<◌, ◌≤◌, ◌++◌, ◌∷◌, [], true, false, IfSome, IfNone, ◌+◌, vec_len, vec_capacity};
 ghost use Rattle.yaml_tree.specs.View.{view, pair_view, pairs_view, array_tree, hash_tree};
 ghost use Rattle.tree_defs.specs.Pairs.{AreDistinct};
@@ -223,10 +223,60 @@ fn next_of(y: Yaml) -> Option<Yaml>
     }
 }
 
-// Drops a node.
-pub(crate) fn discard(y: Yaml) {
+// Drops a node by a loop.
+fn discard_by_loop(y: Yaml) {
     let mut rest = y;
     while let Some(next) = next_of(rest) {
         rest = next;
+    }
+}
+
+// How many levels of a tree go by calls one in another, which is quicker than the loop.
+const LEVELS: u8 = 24;
+
+/// Drops an array.
+pub(crate) fn discard_array(array: Array) {
+    discard_items(array, LEVELS);
+}
+
+/// Drops a hash.
+pub(crate) fn discard_hash(hash: Hash) {
+    discard_pairs(hash, LEVELS);
+}
+
+#[cycle(levels)]
+fn discard_items(array: Array, levels: u8) {
+    if levels == 0 {
+        discard_by_loop(Yaml::Array(array));
+        return;
+    }
+    let mut items = array.into_vec();
+    while let Some(item) = items.pop() {
+        discard_node(item, levels - 1);
+    }
+    items.destroy_empty();
+}
+
+#[cycle(levels)]
+fn discard_pairs(hash: Hash, levels: u8) {
+    if levels == 0 {
+        discard_by_loop(Yaml::Hash(hash));
+        return;
+    }
+    let mut pairs = hash.into_pairs();
+    while let Some((key, value)) = pairs.pop() {
+        discard_node(value, levels - 1);
+        discard_node(key, levels - 1);
+    }
+    pairs.destroy_empty();
+}
+
+#[cycle(levels)]
+fn discard_node(y: Yaml, levels: u8) {
+    match y {
+        Yaml::Array(array) => discard_items(array, levels),
+        Yaml::Hash(hash) => discard_pairs(hash, levels),
+        Yaml::Real(text) | Yaml::String(text) => drop(text),
+        Yaml::Integer(_) | Yaml::Boolean(_) | Yaml::Alias(_) | Yaml::Null | Yaml::BadValue => {}
     }
 }

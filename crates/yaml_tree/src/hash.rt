@@ -4,7 +4,7 @@ ghost use Rattle.tree_defs.specs.Tree.{string};
 ghost use Rattle.tree_defs.specs.Pairs.{insert, last_of, lookup, without, place_of, value_at, with_value_at, with_value, AreDistinct};
 ghost use Rattle.yaml_tree.specs.View.{view, pairs_view};
 
-use crate::discard::discard;
+use crate::discard::discard_hash;
 use crate::yaml::Yaml;
 use std::alloc::Global;
 use std::marker::Model;
@@ -44,7 +44,7 @@ impl Model for Hash {
 impl Drop for Hash {
     fn drop(self) {
         let Hash { pairs } = self;
-        discard(Yaml::Hash(Hash { pairs }));
+        discard_hash(Hash { pairs });
     }
 }
 
@@ -76,7 +76,17 @@ impl Hash {
         self.pairs.is_empty()
     }
 
+    #[tactic(auto, unfolding(yaml_chars::specs::Text::string_chars))]
     fn place(&self, key: &Yaml) -> Option<usize>
+        ensures { result ≡ place_of (view key.now) self.now }
+    {
+        match key {
+            Yaml::String(text) => self.place_of_text(text.as_str()),
+            _ => self.place_of_node(key),
+        }
+    }
+
+    fn place_of_node(&self, key: &Yaml) -> Option<usize>
         ensures { result ≡ place_of (view key.now) self.now }
     {
         for (i, pair) in self.pairs.iter().enumerate() {

@@ -5,7 +5,9 @@ ghost use Rattle.tree_defs.specs.Typing.{behind, signed_number, typing, is_sign,
 ghost use Rattle.tree_defs.proofs.GrammarLaws.{behind_all, behind_one};
 ghost use Rattle.tree_defs.proofs.DecimalReading.{begins_in, reads_exponent, reads_on, reads_decimal};
 ghost use Rattle.std.specs.Char.{is_ascii_digit};
-ghost use Rattle.yaml_tree.specs.Values.{value_row};
+ghost use Rattle.yaml_chars.specs.Text.{string_chars};
+ghost use Rattle.yaml_tree.specs.Values.{value_row, begins_value};
+ghost use Rattle.yaml_tree.specs.Meanings.{meant};
 ghost use Rattle.yaml_tree.specs.View.{view};
 
 use crate::yaml::Yaml;
@@ -16,6 +18,18 @@ const SPECIAL: [&str; 12] = [
     ".NAN",
 ];
 
+/// What a plain text stands for, but for the text itself.
+#[derive(Clone, Copy)]
+enum Meaning {
+    Integer(i64),
+    Boolean(bool),
+    Null,
+    // The number that the text writes.
+    Real,
+    // The text.
+    String,
+}
+
 impl Yaml {
     /// What the text stands for as a plain scalar, by the core schema: an integer of 64 bits, in base 10, or
     /// in base 16 or 8 behind `0x` or `0o`; `Null`, a `Boolean`, or a `Real`, which keeps the text as it
@@ -24,44 +38,77 @@ impl Yaml {
     pub fn from_str(alloc: Global, text: &str) -> Result<Yaml, AllocError>
         ensures { IfOk result (λ y. view y ≡ typing (chars text.now)) }
     {
-        if !text.is_ascii() {
-            return Ok(Yaml::String(String::from_str(alloc, text)?));
+        match stands_for(text) {
+            Meaning::Integer(number) => Ok(Yaml::Integer(number)),
+            Meaning::Boolean(truth) => Ok(Yaml::Boolean(truth)),
+            Meaning::Null => Ok(Yaml::Null),
+            Meaning::Real => Ok(Yaml::Real(String::from_str(alloc, text)?)),
+            Meaning::String => Ok(Yaml::String(String::from_str(alloc, text)?)),
         }
-        if let Some(value) = value_of(text) {
-            return Ok(value);
-        }
-        let own = String::from_str(alloc, text)?;
-        if is_real(text) {
-            Ok(Yaml::Real(own))
-        } else {
-            Ok(Yaml::String(own))
+    }
+
+    /// As `from_str`, of a text that is given away. It takes no memory.
+    #[tactic(auto, unfolding(yaml_chars::specs::Text::string_chars))]
+    pub fn from_string(text: String) -> Yaml
+        ensures { view result ≡ typing (string_chars text) }
+    {
+        match stands_for(text.as_str()) {
+            Meaning::Integer(number) => Yaml::Integer(number),
+            Meaning::Boolean(truth) => Yaml::Boolean(truth),
+            Meaning::Null => Yaml::Null,
+            Meaning::Real => Yaml::Real(text),
+            Meaning::String => Yaml::String(text),
         }
     }
 }
 
+// The first byte tells most texts that stand for themselves.
+fn stands_for(text: &str) -> Meaning
+    ensures { meant result (chars text.now) ≡ typing (chars text.now) }
+{
+    let [first, ..] = text.as_bytes() else {
+        return Meaning::Null;
+    };
+    if !begins_value(*first) || !text.is_ascii() {
+        return Meaning::String;
+    }
+    match value_of(text) {
+        Some(value) => value,
+        None if is_real(text) => Meaning::Real,
+        None => Meaning::String,
+    }
+}
+
+// Whether a text that begins so may stand for anything but itself.
+fn begins_value(first: u8) -> bool
+    ensures { result ≡ begins_value first }
+{
+    matches!(first, b'0'..=b'9' | b'+' | b'-' | b'.' | b'~' | b'n' | b't' | b'T' | b'f' | b'F')
+}
+
 // An integer, a null or a boolean.
-fn value_of(text: &str) -> Option<Yaml>
-    ensures { option_map view result ≡ value_row text.now }
+fn value_of(text: &str) -> Option<Meaning>
+    ensures { option_map (λ m. meant m text.now) result ≡ value_row text.now }
 {
     if let Some(number) = number_behind("0x", text, 16) {
-        return Some(Yaml::Integer(number));
+        return Some(Meaning::Integer(number));
     }
     if let Some(number) = number_behind("0o", text, 8) {
-        return Some(Yaml::Integer(number));
+        return Some(Meaning::Integer(number));
     }
     if let Some(number) = number_behind("+", text, 10) {
-        return Some(Yaml::Integer(number));
+        return Some(Meaning::Integer(number));
     }
     if is_null(text) {
-        return Some(Yaml::Null);
+        return Some(Meaning::Null);
     }
     if is_true(text) {
-        return Some(Yaml::Boolean(true));
+        return Some(Meaning::Boolean(true));
     }
     if is_false(text) {
-        return Some(Yaml::Boolean(false));
+        return Some(Meaning::Boolean(false));
     }
-    Some(Yaml::Integer(number_in(text, 10)?))
+    Some(Meaning::Integer(number_in(text, 10)?))
 }
 
 fn is_null(text: &str) -> bool

@@ -1,16 +1,10 @@
+use Rattle.std.proofs.Common.{ap, ◌∙◌}
+use Rattle.tree_defs.specs.Tree.{real, string}
 use Rattle.yaml_tree.proofs.TextLemmas.{kept_chars}
-use Rattle.yaml_tree.proofs.TypingLemmas.{plain_value, plain_real, plain_string}
-use Rattle.yaml_tree.proofs.WideTexts.{wide_string}
 use Rattle.yaml_tree.proofs.yaml.Yaml.from_str.Goals as goal
 
-pub returns-then-not-is_ascii : goal.returns-then-not-is_ascii
-returns-then-not-is_ascii c = wide_string c.args.text.now _ c.utf8.text (c.if-not-is_ascii.ensures {u = tt}).cases (kept_chars _ _ (c.in_ok-from_str.ensures {u = tt}).ok)
+pub returns-in_ok-from_str-in-Real : goal.returns-in_ok-from_str-in-Real
+returns-in_ok-from_str-in-Real c = ap real (kept_chars _ _ c.in_ok-from_str-in-Real.ensures.ok) ∙ c.in-Real.ensures
 
-pub returns-in-Some : goal.returns-in-Some
-returns-in-Some c = plain_value c.args.text.now _ (c.if-not-is_ascii.ensures {u = tt}).cases (c.in-Some.ensures {u = tt})
-
-pub returns-then-is_real : goal.returns-then-is_real
-returns-then-is_real c = plain_real c.args.text.now _ (c.if-not-is_ascii.ensures {u = tt}).cases (c.in_default.ensures {u = tt}) (kept_chars _ _ (c.in_ok-own.ensures {u = tt}).ok) (c.if-is_real.ensures {u = tt})
-
-pub returns-else-is_real : goal.returns-else-is_real
-returns-else-is_real c = plain_string c.args.text.now _ (c.if-not-is_ascii.ensures {u = tt}).cases (c.in_default.ensures {u = tt}) (kept_chars _ _ (c.in_ok-own.ensures {u = tt}).ok) (c.if-is_real.ensures {u = tt})
+pub returns-in_ok-from_str-in-String : goal.returns-in_ok-from_str-in-String
+returns-in_ok-from_str-in-String c = ap string (kept_chars _ _ c.in_ok-from_str-in-String.ensures.ok) ∙ c.in-String.ensures

@@ -1,6 +1,6 @@
 use Rattle.yaml_tree.specs.Weight.{weight}
 use Rattle.yaml_tree.specs.View.{view}
-use Rattle.yaml_tree.proofs.discard.discard.Given as goal
+use Rattle.yaml_tree.proofs.discard.discard_by_loop.Given as goal
 
 abbrev pub decreases-loop-next : goal.decreases-loop-next
 decreases-loop-next l = weight (view l.rest)
