@@ -1,5 +1,5 @@
 -- What holds between two calls, and what it says of the events.
-use Rattle.std.proofs.Common.{◌≡◌, inl, inr, ℕ, ◌+◌, ◌<◌, List, [], ◌∷◌, ◌++◌, Option, Some, None, option_map, Bool, true, false, ◌||◌, Ok, Err, refl, sym, ap, ◌∙◌, subst, append_assoc, append-nil, take, zero, suc, unwrap_or, arith}
+use Rattle.std.proofs.Common.{◌≡◌, inl, inr, ◌+◌, ◌<◌, List, [], ◌∷◌, ◌++◌, Option, Some, None, option_map, Bool, true, false, ◌||◌, Ok, Err, refl, sym, ap, ◌∙◌, subst, append_assoc, append-nil, unwrap_or, arith}
 use Rattle.std.specs.Option.{IsSome, IfSome}
 use Rattle.std.proofs.lemmas.Bool.{both_ways}
 use Rattle.std.proofs.lemmas.List.{map-append}

@@ -1,7 +1,7 @@
 use Rattle.std.proofs.Common.{◌≡◌, refl, sym, ◌∙◌, true, false, arith}
 use Rattle.event_defs.specs.Event.{Ev}
 use Rattle.yaml_parser.specs.Shown.{ev_of}
-use Rattle.yaml_parser.specs.Parsed.{is_document_end, parsed}
+use Rattle.yaml_parser.specs.Parsed.{is_document_end}
 use Rattle.yaml_parser.proofs.LoadSteps.{goes_on, faults, refuses, cut_short, behind_err, inside_run, last_run, inside_stops, end_is_not}
 use Rattle.yaml_parser.proofs.parser.Parser.load_document.Goals as goal
 
