@@ -30,6 +30,7 @@ impl<T: Iterator<Item = char>> Reader<T> {
     }
 
     /// Behind a `-`.
+    #[inline(always)]
     fn block_sequence_item(&mut self) -> Answer
         ensures answers { Reads at.entry self.old self.new result }
         ensures work { OnOk result (work self.new < work self.old + 3) }
@@ -61,6 +62,7 @@ impl<T: Iterator<Item = char>> Reader<T> {
     }
 
     /// Behind a `-`.
+    #[inline(always)]
     pub(crate) fn indentless_sequence_item(&mut self) -> Answer
         ensures answers { Reads at.dashed self.old self.new result }
         ensures work { OnOk result (work self.new < work self.old + 2) }
@@ -107,6 +109,7 @@ impl<T: Iterator<Item = char>> Reader<T> {
     }
 
     /// A pair that begins with a key, or the mapping's end. `next` was looked at.
+    #[inline(always)]
     fn block_mapping_pair(&mut self, next: Kind) -> Answer
         requires { IsOfKind next self.old.tokens.peeked }
         ensures answers { Reads at.key_pairs self.old self.new result }
@@ -147,6 +150,7 @@ impl<T: Iterator<Item = char>> Reader<T> {
     }
 
     /// A key or a value, which may be missing.
+    #[inline(always)]
     pub(crate) fn block_mapping_part(&mut self) -> Answer
         ensures answers { Reads at.part self.old self.new result }
         ensures work { OnOk result (work self.new < work self.old + 1) }

@@ -45,6 +45,7 @@ impl<T: Iterator<Item = char>> Reader<T> {
     }
 
     /// Behind a comma.
+    #[inline(always)]
     fn flow_sequence_next(&mut self) -> Answer
         ensures answers { Reads at.comma_items self.old self.new result }
         ensures work { OnOk result (work self.new < work self.old + 2) }
@@ -59,6 +60,7 @@ impl<T: Iterator<Item = char>> Reader<T> {
     }
 
     /// An item: a node, or a pair that begins with `?`. `next` was looked at.
+    #[inline(always)]
     fn flow_sequence_item(&mut self, next: Kind) -> Answer
         requires { IsOfKind next self.old.tokens.peeked }
         ensures answers { Reads at.item self.old self.new result }
@@ -117,6 +119,7 @@ impl<T: Iterator<Item = char>> Reader<T> {
     }
 
     /// Behind its `:`.
+    #[inline(always)]
     fn flow_pair_valued(&mut self) -> Answer
         ensures answers { Reads at.pair_valued self.old self.new result }
         ensures work { OnOk result (work self.new < work self.old + 3) }
@@ -174,6 +177,7 @@ impl<T: Iterator<Item = char>> Reader<T> {
     }
 
     /// Behind a comma, which stands here.
+    #[inline(always)]
     fn flow_mapping_next(&mut self, comma: Marker) -> Answer
         ensures answers { Reads at.comma_flow_pairs self.old self.new result }
         ensures work { OnOk result (work self.new < work self.old + 2) }
@@ -191,6 +195,7 @@ impl<T: Iterator<Item = char>> Reader<T> {
     }
 
     /// A pair: with a key, with a value alone, or a node that is a key without value. `next` was looked at.
+    #[inline(always)]
     fn flow_mapping_pair(&mut self, next: Kind) -> Answer
         requires { IsOfKind next self.old.tokens.peeked }
         ensures answers { Reads at.flow_pair self.old self.new result }
@@ -216,6 +221,7 @@ impl<T: Iterator<Item = char>> Reader<T> {
     }
 
     /// A key behind its `?`, or behind what stands for it.
+    #[inline(always)]
     fn flow_mapping_keyed(&mut self) -> Answer
         ensures answers { Reads at.flow_key self.old self.new result }
         ensures work { OnOk result (work self.new < work self.old + 4) }
@@ -253,6 +259,7 @@ impl<T: Iterator<Item = char>> Reader<T> {
     }
 
     /// Behind a `:`, which stands here.
+    #[inline(always)]
     pub(crate) fn flow_mapping_valued(&mut self, colon: Marker) -> Answer
         ensures answers { Reads at.flow_valued self.old self.new result }
         ensures work { OnOk result (work self.new < work self.old + 2) }

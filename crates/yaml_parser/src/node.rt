@@ -42,6 +42,7 @@ impl<T: Iterator<Item = char>> Reader<T> {
     }
 
     /// A node that stands here. `next`, its first token, was looked at.
+    #[inline(never)]
     pub(crate) fn node(&mut self, place: Place, next: Kind) -> Answer
         requires { IsOfKind next self.old.tokens.peeked }
         ensures answers { Reads (at.node place) self.old self.new result }
@@ -139,6 +140,7 @@ impl<T: Iterator<Item = char>> Reader<T> {
     }
 
     /// What stands behind these properties.
+    #[inline(never)]
     fn content_behind(&mut self, place: Place, properties: Properties) -> Answer
         ensures answers { ReadsBehind place (Some properties) self.old self.new result }
         ensures work { OnOk result (work self.new ≤ work self.old) }
@@ -150,6 +152,7 @@ impl<T: Iterator<Item = char>> Reader<T> {
     }
 
     /// What stands behind a node's properties. `next` was looked at.
+    #[inline(always)]
     fn content(&mut self, place: Place, properties: Option<Properties>, next: Kind) -> Answer
         requires { IsOfKind next self.old.tokens.peeked }
         ensures answers { ReadsBehind place properties self.old self.new result }
@@ -164,6 +167,7 @@ impl<T: Iterator<Item = char>> Reader<T> {
         }
     }
 
+    #[inline(always)]
     fn part_content(&mut self, properties: Option<Properties>, next: Kind) -> Answer
         requires { IsOfKind next self.old.tokens.peeked }
         ensures answers { ReadsBehind place.Part properties self.old self.new result }
@@ -181,6 +185,7 @@ impl<T: Iterator<Item = char>> Reader<T> {
         }
     }
 
+    #[inline(always)]
     fn block_content(&mut self, properties: Option<Properties>, next: Kind) -> Answer
         requires { IsOfKind next self.old.tokens.peeked }
         ensures answers { ReadsBehind place.Block properties self.old self.new result }
@@ -203,6 +208,7 @@ impl<T: Iterator<Item = char>> Reader<T> {
         }
     }
 
+    #[inline(always)]
     fn flow_content(&mut self, properties: Option<Properties>, next: Kind) -> Answer
         requires { IsOfKind next self.old.tokens.peeked }
         ensures answers { ReadsBehind place.Flow properties self.old self.new result }
@@ -232,6 +238,7 @@ impl<T: Iterator<Item = char>> Reader<T> {
     }
 
     /// Properties alone are a node. `next` was looked at.
+    #[inline(never)]
     fn no_content(&mut self, properties: Option<Properties>, next: Kind) -> Answer
         requires looks { IsOfKind next self.old.tokens.peeked }
         requires none { begins_content place.Flow next ≡ false }
@@ -251,6 +258,7 @@ impl<T: Iterator<Item = char>> Reader<T> {
     }
 
     /// The start of a sequence with these properties.
+    #[inline(always)]
     fn sequence(&mut self, properties: Option<Properties>, mark: Marker) -> Answer
         ensures work { OnOk result (work self.new ≡ work self.old) }
         ensures keeping { self.new.names.keeping ≡ self.old.names.keeping }
@@ -263,6 +271,7 @@ impl<T: Iterator<Item = char>> Reader<T> {
     }
 
     /// The start of a mapping with these properties.
+    #[inline(always)]
     fn mapping(&mut self, properties: Option<Properties>, mark: Marker) -> Answer
         ensures work { OnOk result (work self.new ≡ work self.old) }
         ensures keeping { self.new.names.keeping ≡ self.old.names.keeping }
@@ -275,6 +284,7 @@ impl<T: Iterator<Item = char>> Reader<T> {
     }
 
     /// Numbers the anchor of these properties.
+    #[inline(always)]
     fn registered(&mut self, properties: Option<Properties>) -> Result<(usize, Option<Tag>), Stop>
         ensures work { OnOk result (work self.new ≡ work self.old) }
         ensures keeping { self.new.names.keeping ≡ self.old.names.keeping }

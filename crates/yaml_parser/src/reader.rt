@@ -50,6 +50,7 @@ impl<T: Iterator<Item = char>> Reader<T> {
     }
 
     /// Where the token stands that was looked at.
+    #[inline(always)]
     pub(crate) fn mark(&self) -> Marker
         requires { IsSome self.now.tokens.peeked }
         ensures { IfSome self.now.tokens.peeked (λ t. t.0 ≡ result) }
@@ -58,6 +59,7 @@ impl<T: Iterator<Item = char>> Reader<T> {
     }
 
     /// Takes the token that was looked at, and gives its place.
+    #[inline(always)]
     pub(crate) fn skip(&mut self) -> Marker
         requires { IsSome self.old.tokens.peeked }
         ensures mark { IfSome self.old.tokens.peeked (λ t. t.0 ≡ result) }
@@ -69,6 +71,7 @@ impl<T: Iterator<Item = char>> Reader<T> {
         self.tokens.skip()
     }
 
+    #[inline(always)]
     pub(crate) fn push(&mut self, state: State) -> Result<(), Stop>
         ensures work { OnOk result (work self.new ≡ work self.old + weight state) }
         ensures names { self.new.names ≡ self.old.names }
@@ -82,6 +85,7 @@ impl<T: Iterator<Item = char>> Reader<T> {
     }
 
     /// A scalar that is not written.
+    #[inline(always)]
     pub(crate) fn nothing_written(&self, mark: Marker) -> (Event, Marker)
         ensures { placed result ≡ (Ev.scalar [] Style.plain 0 None, mark) }
     {
@@ -104,6 +108,7 @@ impl<T: Iterator<Item = char>> Reader<T> {
     }
 
     /// The next event, where this state was on top.
+    #[inline(always)]
     pub fn next(&mut self, state: State) -> Answer
         ensures answers { Reads (goal_of state) self.old self.new result }
         ensures keeping { self.new.names.keeping ≡ self.old.names.keeping }

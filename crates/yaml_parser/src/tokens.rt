@@ -103,6 +103,7 @@ impl<T: Iterator<Item = char>> Tokens<T> {
     }
 
     /// What the next token is, which stays.
+    #[inline(never)]
     pub fn peek(&mut self) -> Result<Kind, Missing>
         ensures looks { IfOk result (λ k. IsOfKind k self.new.peeked) }
         ensures left { OnOk result (left self.new ≤ left self.old) }
@@ -128,6 +129,7 @@ impl<T: Iterator<Item = char>> Tokens<T> {
     }
 
     /// Where the token stands that was looked at.
+    #[inline(always)]
     pub fn mark(&self) -> Marker
         requires { IsSome self.now.peeked }
         ensures { IfSome self.now.peeked (λ t. t.0 ≡ result) }
@@ -139,6 +141,7 @@ impl<T: Iterator<Item = char>> Tokens<T> {
     }
 
     /// Takes the token that was looked at.
+    #[inline(always)]
     fn take(&mut self) -> Option<Token>
         ensures token { result ≡ self.old.peeked }
         ensures skips { SkipsOne self.old self.new }
@@ -151,6 +154,7 @@ impl<T: Iterator<Item = char>> Tokens<T> {
     }
 
     /// Takes the token that was looked at, and gives its place.
+    #[inline(always)]
     pub fn skip(&mut self) -> Marker
         requires { IsSome self.old.peeked }
         ensures mark { IfSome self.old.peeked (λ t. t.0 ≡ result) }
@@ -210,6 +214,7 @@ impl<T: Iterator<Item = char>> Tokens<T> {
     }
 
     /// Takes a scalar that was looked at, and gives its style and text.
+    #[inline(always)]
     pub fn take_scalar(&mut self) -> (TScalarStyle, String)
         requires { IsOfKind kind.Scalar self.old.peeked }
         ensures texts { IfSome self.old.peeked (λ t. tok_of t.1 ≡ Tok.scalar (style_of result.0) (string_chars result.1)) }
