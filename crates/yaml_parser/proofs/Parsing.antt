@@ -300,6 +300,37 @@ event_given {T} pull given new e started ended ended' misplaced h more end =
       sound = sound pull new None true ended' misplaced c.0 c.1 n.held;
     }
 
+pub none_waits : (current : Option (Event × Place)) → is_some (option_map placed current) ≡ false → is_some current ≡ false
+none_waits None h = h
+none_waits (Some e) h = h
+
+-- An event is read, and given at once.
+pub given_at_once : {T : Type 0} (pull new : Pull T) (given more : List (Ev × Place)) (current : Option (Event × Place)) (started ended ended' : Bool) (misplaced : Option Place) (e : Event × Place)
+    → Holds pull given (option_map placed current) started ended misplaced → is_some current ≡ false → misplaced ≡ None
+    → Continues pull (read_so given ended (option_map placed current)) (Ok e) new → new.reader.names.keeping ≡ pull.reader.names.keeping
+    → more ≡ given ++ (if ended then [] else placed e ∷ []) → ended' ≡ ended || is_stream_end (ev_of e.0)
+    → Holds new more (option_map placed current) true ended' misplaced × GivesEvent (seen pull given current started ended misplaced) (placed e) (seen new more current true ended' misplaced)
+given_at_once {T} pull new given more current started ended ended' misplaced e h none clear x keeping noted end =
+    let no = none_if current none in
+    let less = (next_held pull new given current started ended e h.end h.held none x).less in
+    let read = next_waits pull new given current started ended misplaced e h none clear x keeping in
+    let held = next_holds pull new given current started ended misplaced e h none clear x in
+    let gives = event_given new given more e started ended ended' misplaced held noted end in (
+      subst (λ o. Holds new more (option_map placed o) true ended' misplaced) (sym no) (given_holds new given more (placed e) started ended ended' misplaced held noted end),
+      record {
+        given = noted;
+        ended = end;
+        started = refl;
+        ahead = ap (option_map placed) no;
+        waited = subst (λ o. IfSome (option_map placed o) (λ y. placed e ≡ y)) (sym no) tt;
+        over = read.over;
+        left = λ k. let w = less k in omega arith;
+        settings = record { keep_tags = ap (λ k. k.tags) keeping; steady = ap (λ k. k.steady) keeping };
+        clear = read.clear;
+        sound = subst (λ o. IsSound (seen new more o true ended' misplaced)) (sym no) gives.sound;
+      },
+    )
+
 pub all_noted : (xs ys : List (Event × Place)) (x : Event × Place) (b : Bool) → ys ≡ xs ++ (if b then [] else x ∷ []) → all_placed ys ≡ all_placed xs ++ (if b then [] else placed x ∷ [])
 all_noted xs ys x true h = ap all_placed h ∙ map-append placed xs []
 all_noted xs ys x false h = ap all_placed h ∙ map-append placed xs (x ∷ [])

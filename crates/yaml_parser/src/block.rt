@@ -3,6 +3,7 @@ ghost use Rattle.std.specs.Prelude.{◌≡◌, List, ◌+◌, ◌<◌, ◌≤◌
 ghost use Rattle.grammar_turns.specs.Goal as at;
 ghost use Rattle.yaml_parser.specs.At.{Reads};
 ghost use Rattle.yaml_parser.specs.Work.{work};
+ghost use Rattle.yaml_parser.specs.Kinds.{IsOfKind};
 
 use crate::event::Event;
 use crate::reader::{Answer, Reader};
@@ -18,20 +19,18 @@ impl<T: Iterator<Item = char>> Reader<T> {
         ensures start { self.new.tokens.scanner.start ≡ self.old.tokens.scanner.start }
     {
         let next = self.peek()?;
-        match next.kind {
-            Kind::BlockEnd => {
-                self.skip();
-                Ok((Event::SequenceEnd, next.mark))
-            }
+        match next {
+            Kind::BlockEnd => Ok((Event::SequenceEnd, self.skip())),
             Kind::BlockEntry => {
                 self.skip();
                 self.block_sequence_item()
             }
-            _ => Err(Stop::Own(Fault::At(Problem::BlockSequenceEntry, next.mark))),
+            _ => Err(Stop::Own(Fault::At(Problem::BlockSequenceEntry, self.mark()))),
         }
     }
 
     /// Behind a `-`.
+    #[inline(always)]
     fn block_sequence_item(&mut self) -> Answer
         ensures answers { Reads at.entry self.old self.new result }
         ensures work { OnOk result (work self.new < work self.old + 3) }
@@ -40,9 +39,9 @@ impl<T: Iterator<Item = char>> Reader<T> {
     {
         let next = self.peek()?;
         self.push(State::BlockSequenceEntry)?;
-        match next.kind {
-            Kind::BlockEntry | Kind::BlockEnd => Ok(self.nothing_written(next.mark)),
-            _ => self.node(Place::Block),
+        match next {
+            Kind::BlockEntry | Kind::BlockEnd => Ok(self.nothing_written(self.mark())),
+            _ => self.node(Place::Block, next),
         }
     }
 
@@ -53,16 +52,17 @@ impl<T: Iterator<Item = char>> Reader<T> {
         ensures start { self.new.tokens.scanner.start ≡ self.old.tokens.scanner.start }
     {
         let next = self.peek()?;
-        match next.kind {
+        match next {
             Kind::BlockEntry => {
                 self.skip();
                 self.indentless_sequence_item()
             }
-            _ => Ok((Event::SequenceEnd, next.mark)),
+            _ => Ok((Event::SequenceEnd, self.mark())),
         }
     }
 
     /// Behind a `-`.
+    #[inline(always)]
     pub(crate) fn indentless_sequence_item(&mut self) -> Answer
         ensures answers { Reads at.dashed self.old self.new result }
         ensures work { OnOk result (work self.new < work self.old + 2) }
@@ -71,11 +71,11 @@ impl<T: Iterator<Item = char>> Reader<T> {
     {
         let next = self.peek()?;
         self.push(State::IndentlessSequenceEntry)?;
-        match next.kind {
+        match next {
             Kind::BlockEntry | Kind::Key | Kind::Value | Kind::BlockEnd => {
-                Ok(self.nothing_written(next.mark))
+                Ok(self.nothing_written(self.mark()))
             }
-            _ => self.node(Place::Block),
+            _ => self.node(Place::Block, next),
         }
     }
 
@@ -86,14 +86,14 @@ impl<T: Iterator<Item = char>> Reader<T> {
         ensures start { self.new.tokens.scanner.start ≡ self.old.tokens.scanner.start }
     {
         let next = self.peek()?;
-        match next.kind {
+        match next {
             Kind::Value => {
-                self.skip();
+                let mark = self.skip();
                 self.push(State::BlockMappingKey)?;
                 self.push(State::BlockMappingPart)?;
-                Ok(self.nothing_written(next.mark))
+                Ok(self.nothing_written(mark))
             }
-            _ => self.block_mapping_next_key(),
+            _ => self.block_mapping_pair(next),
         }
     }
 
@@ -105,17 +105,26 @@ impl<T: Iterator<Item = char>> Reader<T> {
         ensures start { self.new.tokens.scanner.start ≡ self.old.tokens.scanner.start }
     {
         let next = self.peek()?;
-        match next.kind {
-            Kind::BlockEnd => {
-                self.skip();
-                Ok((Event::MappingEnd, next.mark))
-            }
+        self.block_mapping_pair(next)
+    }
+
+    /// A pair that begins with a key, or the mapping's end. `next` was looked at.
+    #[inline(always)]
+    fn block_mapping_pair(&mut self, next: Kind) -> Answer
+        requires { IsOfKind next self.old.tokens.peeked }
+        ensures answers { Reads at.key_pairs self.old self.new result }
+        ensures work { OnOk result (work self.new < work self.old + 1) }
+        ensures keeping { self.new.names.keeping ≡ self.old.names.keeping }
+        ensures start { self.new.tokens.scanner.start ≡ self.old.tokens.scanner.start }
+    {
+        match next {
+            Kind::BlockEnd => Ok((Event::MappingEnd, self.skip())),
             Kind::Key => {
                 self.skip();
                 self.push(State::BlockMappingValue)?;
                 self.block_mapping_part()
             }
-            _ => Err(Stop::Own(Fault::At(Problem::BlockMappingKey, next.mark))),
+            _ => Err(Stop::Own(Fault::At(Problem::BlockMappingKey, self.mark()))),
         }
     }
 
@@ -127,7 +136,7 @@ impl<T: Iterator<Item = char>> Reader<T> {
         ensures start { self.new.tokens.scanner.start ≡ self.old.tokens.scanner.start }
     {
         let next = self.peek()?;
-        match next.kind {
+        match next {
             Kind::Value => {
                 self.skip();
                 self.push(State::BlockMappingKey)?;
@@ -135,12 +144,13 @@ impl<T: Iterator<Item = char>> Reader<T> {
             }
             _ => {
                 self.push(State::BlockMappingNextKey)?;
-                Ok(self.nothing_written(next.mark))
+                Ok(self.nothing_written(self.mark()))
             }
         }
     }
 
     /// A key or a value, which may be missing.
+    #[inline(always)]
     pub(crate) fn block_mapping_part(&mut self) -> Answer
         ensures answers { Reads at.part self.old self.new result }
         ensures work { OnOk result (work self.new < work self.old + 1) }
@@ -148,9 +158,9 @@ impl<T: Iterator<Item = char>> Reader<T> {
         ensures start { self.new.tokens.scanner.start ≡ self.old.tokens.scanner.start }
     {
         let next = self.peek()?;
-        match next.kind {
-            Kind::Key | Kind::Value | Kind::BlockEnd => Ok(self.nothing_written(next.mark)),
-            _ => self.node(Place::Part),
+        match next {
+            Kind::Key | Kind::Value | Kind::BlockEnd => Ok(self.nothing_written(self.mark())),
+            _ => self.node(Place::Part, next),
         }
     }
 }

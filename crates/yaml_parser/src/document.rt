@@ -10,9 +10,8 @@ ghost use Rattle.yaml_parser.specs.Kinds.{IsOfKind};
 
 use crate::event::Event;
 use crate::reader::{Answer, Reader};
-use crate::tokens::{Next, Stop};
+use crate::tokens::Stop;
 use grammar_turns::{Kind, Place, State};
-use yaml_chars::Marker;
 use yaml_tokens::{Fault, Problem};
 
 impl<T: Iterator<Item = char>> Reader<T> {
@@ -23,19 +22,19 @@ impl<T: Iterator<Item = char>> Reader<T> {
         ensures start { self.new.tokens.scanner.start ≡ self.old.tokens.scanner.start }
     {
         let next = self.peek()?;
-        match next.kind {
+        match next {
             Kind::StreamStart => {
-                self.skip();
+                let mark = self.skip();
                 self.push(State::ImplicitDocumentStart)?;
-                Ok((Event::StreamStart, next.mark))
+                Ok((Event::StreamStart, mark))
             }
-            _ => Err(Stop::Own(Fault::At(Problem::DocumentStartToken, next.mark))),
+            _ => Err(Stop::Own(Fault::At(Problem::DocumentStartToken, self.mark()))),
         }
     }
 
     /// The first token that is no `...`.
-    fn skip_document_ends(&mut self) -> Result<Next, Stop>
-        ensures peeked { IfOk result (λ n. IsOfKind n.kind self.new.tokens.peeked × (n.kind ≢ kind.DocumentEnd)) }
+    fn skip_document_ends(&mut self) -> Result<Kind, Stop>
+        ensures peeked { IfOk result (λ n. IsOfKind n self.new.tokens.peeked × (n ≢ kind.DocumentEnd)) }
         ensures work { OnOk result (work self.new ≤ work self.old) }
         ensures keeping { self.new.names.keeping ≡ self.old.names.keeping }
         ensures start { self.new.tokens.scanner.start ≡ self.old.tokens.scanner.start }
@@ -43,7 +42,7 @@ impl<T: Iterator<Item = char>> Reader<T> {
         ensures err { IfErr result (λ s. Fails at.documents self.old self.new s) }
     {
         let mut next = self.peek()?;
-        'ends: while let Kind::DocumentEnd = next.kind {
+        'ends: while let Kind::DocumentEnd = next {
             self.skip();
             next = self.peek()?;
         }
@@ -58,19 +57,19 @@ impl<T: Iterator<Item = char>> Reader<T> {
         ensures start { self.new.tokens.scanner.start ≡ self.old.tokens.scanner.start }
     {
         let next = self.skip_document_ends()?;
-        match next.kind {
-            Kind::StreamEnd | Kind::DocumentStart => self.explicit_document(),
-            Kind::VersionDirective | Kind::TagDirective => self.directed_document(next.kind),
+        match next {
+            Kind::StreamEnd | Kind::DocumentStart => self.end_or_document(next),
+            Kind::VersionDirective | Kind::TagDirective => self.directed_document(next),
             _ => {
                 self.names.start_document();
                 self.push(State::DocumentEnd)?;
                 self.push(State::BlockNode)?;
-                Ok((Event::DocumentStart, next.mark))
+                Ok((Event::DocumentStart, self.mark()))
             }
         }
     }
 
-    /// The stream's end, or a document that begins with `---`.
+    /// Behind a document without `...`.
     pub(crate) fn explicit_document(&mut self) -> Answer
         ensures answers { Reads at.explicit self.old self.new result }
         ensures work { OnOk result (work self.new < work self.old + 1) }
@@ -78,18 +77,26 @@ impl<T: Iterator<Item = char>> Reader<T> {
         ensures start { self.new.tokens.scanner.start ≡ self.old.tokens.scanner.start }
     {
         let next = self.peek()?;
-        match next.kind {
-            Kind::StreamEnd => {
-                self.skip();
-                Ok((Event::StreamEnd, next.mark))
-            }
+        self.end_or_document(next)
+    }
+
+    /// The stream's end, or a document that begins with `---`. `next` was looked at.
+    fn end_or_document(&mut self, next: Kind) -> Answer
+        requires { IsOfKind next self.old.tokens.peeked }
+        ensures answers { Reads at.explicit self.old self.new result }
+        ensures work { OnOk result (work self.new < work self.old + 1) }
+        ensures keeping { self.new.names.keeping ≡ self.old.names.keeping }
+        ensures start { self.new.tokens.scanner.start ≡ self.old.tokens.scanner.start }
+    {
+        match next {
+            Kind::StreamEnd => Ok((Event::StreamEnd, self.skip())),
             Kind::DocumentStart => {
                 self.names.start_document();
-                self.skip();
+                let mark = self.skip();
                 self.push(State::DocumentContent)?;
-                Ok((Event::DocumentStart, next.mark))
+                Ok((Event::DocumentStart, mark))
             }
-            _ => Err(Stop::Own(Fault::At(Problem::DocumentStartToken, next.mark))),
+            _ => Err(Stop::Own(Fault::At(Problem::DocumentStartToken, self.mark()))),
         }
     }
 
@@ -104,19 +111,19 @@ impl<T: Iterator<Item = char>> Reader<T> {
     {
         self.names.start_document();
         let next = self.directives()?;
-        match next.kind {
+        match next {
             Kind::DocumentStart => {
-                self.skip();
+                let mark = self.skip();
                 self.push(State::DocumentContent)?;
-                Ok((Event::DocumentStart, next.mark))
+                Ok((Event::DocumentStart, mark))
             }
-            _ => Err(Stop::Own(Fault::At(Problem::DocumentStartToken, next.mark))),
+            _ => Err(Stop::Own(Fault::At(Problem::DocumentStartToken, self.mark()))),
         }
     }
 
     /// Reads directives, and gives the first token that is none.
-    fn directives(&mut self) -> Result<Next, Stop>
-        ensures peeked { IfOk result (λ n. IsOfKind n.kind self.new.tokens.peeked × (n.kind ≢ kind.VersionDirective) × (n.kind ≢ kind.TagDirective)) }
+    fn directives(&mut self) -> Result<Kind, Stop>
+        ensures peeked { IfOk result (λ n. IsOfKind n self.new.tokens.peeked × (n ≢ kind.VersionDirective) × (n ≢ kind.TagDirective)) }
         ensures work { OnOk result (work self.new ≤ work self.old) }
         ensures keeping { self.new.names.keeping ≡ self.old.names.keeping }
         ensures start { self.new.tokens.scanner.start ≡ self.old.tokens.scanner.start }
@@ -126,26 +133,26 @@ impl<T: Iterator<Item = char>> Reader<T> {
         let mut versioned = false;
         'directives: loop {
             let next = self.peek()?;
-            match next.kind {
+            match next {
                 Kind::VersionDirective => {
-                    self.version(versioned, next.mark)?;
+                    self.version(versioned)?;
                     versioned = true;
                 }
-                Kind::TagDirective => self.tag_directive(next.mark)?,
+                Kind::TagDirective => self.tag_directive()?,
                 _ => return Ok(next),
             }
         }
     }
 
     /// Takes a version. A document may have one.
-    fn version(&mut self, versioned: bool, mark: Marker) -> Result<(), Stop>
+    fn version(&mut self, versioned: bool) -> Result<(), Stop>
         requires { IsOfKind kind.VersionDirective self.old.tokens.peeked }
         ensures directs { Directs versioned true self.old self.new result }
         ensures work { OnOk result (work self.new < work self.old) }
         ensures keeping { self.new.names.keeping ≡ self.old.names.keeping }
         ensures start { self.new.tokens.scanner.start ≡ self.old.tokens.scanner.start }
     {
-        self.skip();
+        let mark = self.skip();
         if versioned {
             return Err(Stop::Own(Fault::At(Problem::SecondVersion, mark)));
         }
@@ -153,13 +160,14 @@ impl<T: Iterator<Item = char>> Reader<T> {
     }
 
     /// Takes a `%TAG` directive, or one of another name.
-    fn tag_directive(&mut self, mark: Marker) -> Result<(), Stop>
+    fn tag_directive(&mut self) -> Result<(), Stop>
         requires { IsOfKind kind.TagDirective self.old.tokens.peeked }
         ensures directs { (versioned : Bool) → Directs versioned versioned self.old self.new result }
         ensures work { OnOk result (work self.new < work self.old) }
         ensures keeping { self.new.names.keeping ≡ self.old.names.keeping }
         ensures start { self.new.tokens.scanner.start ≡ self.old.tokens.scanner.start }
     {
+        let mark = self.mark();
         let (handle, prefix) = self.tokens.take_tag_directive();
         self.names.declare(mark, handle, prefix)?;
         Ok(())
@@ -174,13 +182,13 @@ impl<T: Iterator<Item = char>> Reader<T> {
     {
         let next = self.peek()?;
         self.push(State::DocumentEnd)?;
-        match next.kind {
+        match next {
             Kind::VersionDirective
             | Kind::TagDirective
             | Kind::DocumentStart
             | Kind::DocumentEnd
-            | Kind::StreamEnd => Ok(self.nothing_written(next.mark)),
-            _ => self.node(Place::Block),
+            | Kind::StreamEnd => Ok(self.nothing_written(self.mark())),
+            _ => self.node(Place::Block, next),
         }
     }
 
@@ -192,18 +200,18 @@ impl<T: Iterator<Item = char>> Reader<T> {
         ensures start { self.new.tokens.scanner.start ≡ self.old.tokens.scanner.start }
     {
         let next = self.peek()?;
-        match next.kind {
+        match next {
             Kind::DocumentEnd => {
-                self.skip();
+                let mark = self.skip();
                 self.push(State::ImplicitDocumentStart)?;
-                Ok((Event::DocumentEnd, next.mark))
+                Ok((Event::DocumentEnd, mark))
             }
             Kind::VersionDirective | Kind::TagDirective => {
-                Err(Stop::Own(Fault::At(Problem::DirectiveWithoutDocumentEnd, next.mark)))
+                Err(Stop::Own(Fault::At(Problem::DirectiveWithoutDocumentEnd, self.mark())))
             }
             _ => {
                 self.push(State::DocumentStart)?;
-                Ok((Event::DocumentEnd, next.mark))
+                Ok((Event::DocumentEnd, self.mark()))
             }
         }
     }

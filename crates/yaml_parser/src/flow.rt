@@ -3,6 +3,7 @@ ghost use Rattle.std.specs.Prelude.{◌≡◌, List, ◌+◌, ◌<◌, ◌≤◌
 ghost use Rattle.grammar_turns.specs.Goal as at;
 ghost use Rattle.yaml_parser.specs.At.{Reads};
 ghost use Rattle.yaml_parser.specs.Work.{work};
+ghost use Rattle.yaml_parser.specs.Kinds.{IsOfKind};
 
 use crate::event::Event;
 use crate::reader::{Answer, Reader};
@@ -19,12 +20,9 @@ impl<T: Iterator<Item = char>> Reader<T> {
         ensures start { self.new.tokens.scanner.start ≡ self.old.tokens.scanner.start }
     {
         let next = self.peek()?;
-        match next.kind {
-            Kind::FlowSequenceEnd => {
-                self.skip();
-                Ok((Event::SequenceEnd, next.mark))
-            }
-            _ => self.flow_sequence_item(),
+        match next {
+            Kind::FlowSequenceEnd => Ok((Event::SequenceEnd, self.skip())),
+            _ => self.flow_sequence_item(next),
         }
     }
 
@@ -36,20 +34,18 @@ impl<T: Iterator<Item = char>> Reader<T> {
         ensures start { self.new.tokens.scanner.start ≡ self.old.tokens.scanner.start }
     {
         let next = self.peek()?;
-        match next.kind {
-            Kind::FlowSequenceEnd => {
-                self.skip();
-                Ok((Event::SequenceEnd, next.mark))
-            }
+        match next {
+            Kind::FlowSequenceEnd => Ok((Event::SequenceEnd, self.skip())),
             Kind::FlowEntry => {
                 self.skip();
                 self.flow_sequence_next()
             }
-            _ => Err(Stop::Own(Fault::At(Problem::FlowSequenceEntry, next.mark))),
+            _ => Err(Stop::Own(Fault::At(Problem::FlowSequenceEntry, self.mark()))),
         }
     }
 
     /// Behind a comma.
+    #[inline(always)]
     fn flow_sequence_next(&mut self) -> Answer
         ensures answers { Reads at.comma_items self.old self.new result }
         ensures work { OnOk result (work self.new < work self.old + 2) }
@@ -57,32 +53,30 @@ impl<T: Iterator<Item = char>> Reader<T> {
         ensures start { self.new.tokens.scanner.start ≡ self.old.tokens.scanner.start }
     {
         let next = self.peek()?;
-        match next.kind {
-            Kind::FlowSequenceEnd => {
-                self.skip();
-                Ok((Event::SequenceEnd, next.mark))
-            }
-            _ => self.flow_sequence_item(),
+        match next {
+            Kind::FlowSequenceEnd => Ok((Event::SequenceEnd, self.skip())),
+            _ => self.flow_sequence_item(next),
         }
     }
 
-    /// An item: a node, or a pair that begins with `?`.
-    fn flow_sequence_item(&mut self) -> Answer
+    /// An item: a node, or a pair that begins with `?`. `next` was looked at.
+    #[inline(always)]
+    fn flow_sequence_item(&mut self, next: Kind) -> Answer
+        requires { IsOfKind next self.old.tokens.peeked }
         ensures answers { Reads at.item self.old self.new result }
         ensures work { OnOk result (work self.new < work self.old + 1) }
         ensures keeping { self.new.names.keeping ≡ self.old.names.keeping }
         ensures start { self.new.tokens.scanner.start ≡ self.old.tokens.scanner.start }
     {
-        let next = self.peek()?;
-        match next.kind {
+        match next {
             Kind::Key => {
-                self.skip();
+                let mark = self.skip();
                 self.push(State::FlowSequenceEntryMappingKey)?;
-                Ok((Event::MappingStart(0, None), next.mark))
+                Ok((Event::MappingStart(0, None), mark))
             }
             _ => {
                 self.push(State::FlowSequenceEntry)?;
-                self.node(Place::Flow)
+                self.node(Place::Flow, next)
             }
         }
     }
@@ -96,11 +90,11 @@ impl<T: Iterator<Item = char>> Reader<T> {
     {
         let next = self.peek()?;
         self.push(State::FlowSequenceEntryMappingValue)?;
-        match next.kind {
+        match next {
             Kind::Value | Kind::FlowEntry | Kind::FlowSequenceEnd => {
-                Ok(self.nothing_written(next.mark))
+                Ok(self.nothing_written(self.mark()))
             }
-            _ => self.node(Place::Flow),
+            _ => self.node(Place::Flow, next),
         }
     }
 
@@ -112,19 +106,20 @@ impl<T: Iterator<Item = char>> Reader<T> {
         ensures start { self.new.tokens.scanner.start ≡ self.old.tokens.scanner.start }
     {
         let next = self.peek()?;
-        match next.kind {
+        match next {
             Kind::Value => {
                 self.skip();
                 self.flow_pair_valued()
             }
             _ => {
                 self.push(State::FlowSequenceEntryMappingEnd)?;
-                Ok(self.nothing_written(next.mark))
+                Ok(self.nothing_written(self.mark()))
             }
         }
     }
 
     /// Behind its `:`.
+    #[inline(always)]
     fn flow_pair_valued(&mut self) -> Answer
         ensures answers { Reads at.pair_valued self.old self.new result }
         ensures work { OnOk result (work self.new < work self.old + 3) }
@@ -133,9 +128,9 @@ impl<T: Iterator<Item = char>> Reader<T> {
     {
         let next = self.peek()?;
         self.push(State::FlowSequenceEntryMappingEnd)?;
-        match next.kind {
-            Kind::FlowEntry | Kind::FlowSequenceEnd => Ok(self.nothing_written(next.mark)),
-            _ => self.node(Place::Flow),
+        match next {
+            Kind::FlowEntry | Kind::FlowSequenceEnd => Ok(self.nothing_written(self.mark())),
+            _ => self.node(Place::Flow, next),
         }
     }
 
@@ -157,12 +152,9 @@ impl<T: Iterator<Item = char>> Reader<T> {
         ensures start { self.new.tokens.scanner.start ≡ self.old.tokens.scanner.start }
     {
         let next = self.peek()?;
-        match next.kind {
-            Kind::FlowMappingEnd => {
-                self.skip();
-                Ok((Event::MappingEnd, next.mark))
-            }
-            _ => self.flow_mapping_pair(),
+        match next {
+            Kind::FlowMappingEnd => Ok((Event::MappingEnd, self.skip())),
+            _ => self.flow_mapping_pair(next),
         }
     }
 
@@ -174,20 +166,18 @@ impl<T: Iterator<Item = char>> Reader<T> {
         ensures start { self.new.tokens.scanner.start ≡ self.old.tokens.scanner.start }
     {
         let next = self.peek()?;
-        match next.kind {
-            Kind::FlowMappingEnd => {
-                self.skip();
-                Ok((Event::MappingEnd, next.mark))
-            }
+        match next {
+            Kind::FlowMappingEnd => Ok((Event::MappingEnd, self.skip())),
             Kind::FlowEntry => {
-                self.skip();
-                self.flow_mapping_next(next.mark)
+                let comma = self.skip();
+                self.flow_mapping_next(comma)
             }
-            _ => Err(Stop::Own(Fault::At(Problem::FlowMappingEntry, next.mark))),
+            _ => Err(Stop::Own(Fault::At(Problem::FlowMappingEntry, self.mark()))),
         }
     }
 
     /// Behind a comma, which stands here.
+    #[inline(always)]
     fn flow_mapping_next(&mut self, comma: Marker) -> Answer
         ensures answers { Reads at.comma_flow_pairs self.old self.new result }
         ensures work { OnOk result (work self.new < work self.old + 2) }
@@ -195,41 +185,43 @@ impl<T: Iterator<Item = char>> Reader<T> {
         ensures start { self.new.tokens.scanner.start ≡ self.old.tokens.scanner.start }
     {
         let next = self.peek()?;
-        match next.kind {
+        match next {
             Kind::FlowMappingEnd => {
                 self.skip();
                 Ok((Event::MappingEnd, comma))
             }
-            _ => self.flow_mapping_pair(),
+            _ => self.flow_mapping_pair(next),
         }
     }
 
-    /// A pair: with a key, with a value alone, or a node that is a key without value.
-    fn flow_mapping_pair(&mut self) -> Answer
+    /// A pair: with a key, with a value alone, or a node that is a key without value. `next` was looked at.
+    #[inline(always)]
+    fn flow_mapping_pair(&mut self, next: Kind) -> Answer
+        requires { IsOfKind next self.old.tokens.peeked }
         ensures answers { Reads at.flow_pair self.old self.new result }
         ensures work { OnOk result (work self.new < work self.old + 1) }
         ensures keeping { self.new.names.keeping ≡ self.old.names.keeping }
         ensures start { self.new.tokens.scanner.start ≡ self.old.tokens.scanner.start }
     {
-        let next = self.peek()?;
-        match next.kind {
+        match next {
             Kind::Key => {
                 self.skip();
                 self.flow_mapping_keyed()
             }
             Kind::Value => {
-                self.skip();
-                self.push(State::FlowMappingPart(next.mark))?;
-                Ok(self.nothing_written(next.mark))
+                let colon = self.skip();
+                self.push(State::FlowMappingPart(colon))?;
+                Ok(self.nothing_written(colon))
             }
             _ => {
                 self.push(State::FlowMappingEmptyValue)?;
-                self.node(Place::Flow)
+                self.node(Place::Flow, next)
             }
         }
     }
 
     /// A key behind its `?`, or behind what stands for it.
+    #[inline(always)]
     fn flow_mapping_keyed(&mut self) -> Answer
         ensures answers { Reads at.flow_key self.old self.new result }
         ensures work { OnOk result (work self.new < work self.old + 4) }
@@ -238,11 +230,11 @@ impl<T: Iterator<Item = char>> Reader<T> {
     {
         let next = self.peek()?;
         self.push(State::FlowMappingValue)?;
-        match next.kind {
+        match next {
             Kind::Value | Kind::FlowEntry | Kind::FlowMappingEnd => Ok(self.nothing_written(
-                next.mark,
+                self.mark(),
             )),
-            _ => self.node(Place::Flow),
+            _ => self.node(Place::Flow, next),
         }
     }
 
@@ -254,19 +246,20 @@ impl<T: Iterator<Item = char>> Reader<T> {
         ensures start { self.new.tokens.scanner.start ≡ self.old.tokens.scanner.start }
     {
         let next = self.peek()?;
-        match next.kind {
+        match next {
             Kind::Value => {
-                self.skip();
-                self.flow_mapping_valued(next.mark)
+                let colon = self.skip();
+                self.flow_mapping_valued(colon)
             }
             _ => {
                 self.push(State::FlowMappingKey)?;
-                Ok(self.nothing_written(next.mark))
+                Ok(self.nothing_written(self.mark()))
             }
         }
     }
 
     /// Behind a `:`, which stands here.
+    #[inline(always)]
     pub(crate) fn flow_mapping_valued(&mut self, colon: Marker) -> Answer
         ensures answers { Reads at.flow_valued self.old self.new result }
         ensures work { OnOk result (work self.new < work self.old + 2) }
@@ -275,9 +268,9 @@ impl<T: Iterator<Item = char>> Reader<T> {
     {
         let next = self.peek()?;
         self.push(State::FlowMappingKey)?;
-        match next.kind {
+        match next {
             Kind::FlowEntry | Kind::FlowMappingEnd => Ok(self.nothing_written(colon)),
-            _ => self.node(Place::Flow),
+            _ => self.node(Place::Flow, next),
         }
     }
 
@@ -288,8 +281,8 @@ impl<T: Iterator<Item = char>> Reader<T> {
         ensures keeping { self.new.names.keeping ≡ self.old.names.keeping }
         ensures start { self.new.tokens.scanner.start ≡ self.old.tokens.scanner.start }
     {
-        let next = self.peek()?;
+        self.peek()?;
         self.push(State::FlowMappingKey)?;
-        Ok(self.nothing_written(next.mark))
+        Ok(self.nothing_written(self.mark()))
     }
 }

@@ -30,55 +30,68 @@ pub struct Properties {
 }
 
 impl<T: Iterator<Item = char>> Reader<T> {
-    /// A node that stands here.
-    pub(crate) fn node(&mut self, place: Place) -> Answer
-        ensures answers { Reads (at.node place) self.old self.new result }
+    /// The node of a document without `---`.
+    pub(crate) fn block_node(&mut self) -> Answer
+        ensures answers { Reads (at.node place.Block) self.old self.new result }
         ensures work { OnOk result (work self.new + 2 ≤ work self.old) }
         ensures keeping { self.new.names.keeping ≡ self.old.names.keeping }
         ensures start { self.new.tokens.scanner.start ≡ self.old.tokens.scanner.start }
     {
         let next = self.peek()?;
-        match next.kind {
-            Kind::Alias => self.alias(next.mark),
-            Kind::Anchor => self.anchored(place, next.mark),
-            Kind::Tag => self.tagged(place, next.mark),
-            _ => self.content(place, None),
+        self.node(Place::Block, next)
+    }
+
+    /// A node that stands here. `next`, its first token, was looked at.
+    #[inline(never)]
+    pub(crate) fn node(&mut self, place: Place, next: Kind) -> Answer
+        requires { IsOfKind next self.old.tokens.peeked }
+        ensures answers { Reads (at.node place) self.old self.new result }
+        ensures work { OnOk result (work self.new + 2 ≤ work self.old) }
+        ensures keeping { self.new.names.keeping ≡ self.old.names.keeping }
+        ensures start { self.new.tokens.scanner.start ≡ self.old.tokens.scanner.start }
+    {
+        match next {
+            Kind::Alias => self.alias(),
+            Kind::Anchor => self.anchored(place),
+            Kind::Tag => self.tagged(place),
+            _ => self.content(place, None, next),
         }
     }
 
-    fn alias(&mut self, mark: Marker) -> Answer
-        requires looks { IsOfKind kind.Alias self.old.tokens.peeked }
-        requires mark { IfSome self.old.tokens.peeked (λ t. t.0 ≡ mark) }
+    fn alias(&mut self) -> Answer
+        requires { IsOfKind kind.Alias self.old.tokens.peeked }
         ensures answers { (place : Place) → Reads (at.node place) self.old self.new result }
         ensures work { OnOk result (work self.new + 2 ≤ work self.old) }
         ensures keeping { self.new.names.keeping ≡ self.old.names.keeping }
         ensures start { self.new.tokens.scanner.start ≡ self.old.tokens.scanner.start }
     {
+        let mark = self.mark();
         let name = self.tokens.take_name();
         let number = self.names.number_of(mark, &name)?;
         Ok((Event::Alias(number), mark))
     }
 
     /// A node that begins with an anchor.
-    fn anchored(&mut self, place: Place, mark: Marker) -> Answer
+    fn anchored(&mut self, place: Place) -> Answer
         requires { IsOfKind kind.Anchor self.old.tokens.peeked }
         ensures answers { Reads (at.node place) self.old self.new result }
         ensures work { OnOk result (work self.new + 2 ≤ work self.old) }
         ensures keeping { self.new.names.keeping ≡ self.old.names.keeping }
         ensures start { self.new.tokens.scanner.start ≡ self.old.tokens.scanner.start }
     {
+        let mark = self.mark();
         let name = self.tokens.take_name();
         let next = self.peek()?;
-        match next.kind {
+        match next {
             Kind::Tag => {
                 let (handle, suffix) = self.tokens.take_tag();
                 let tag = self.names.resolve(mark, handle, suffix)?;
-                self.content(
+                self.content_behind(
                     place,
-                    Some(Properties {
+                    Properties {
                         anchor: Some(name),
                         tag: Some(tag),
-                    }),
+                    },
                 )
             }
             _ => self.content(
@@ -87,30 +100,32 @@ impl<T: Iterator<Item = char>> Reader<T> {
                     anchor: Some(name),
                     tag: None,
                 }),
+                next,
             ),
         }
     }
 
     /// A node that begins with a tag.
-    fn tagged(&mut self, place: Place, mark: Marker) -> Answer
+    fn tagged(&mut self, place: Place) -> Answer
         requires { IsOfKind kind.Tag self.old.tokens.peeked }
         ensures answers { Reads (at.node place) self.old self.new result }
         ensures work { OnOk result (work self.new + 2 ≤ work self.old) }
         ensures keeping { self.new.names.keeping ≡ self.old.names.keeping }
         ensures start { self.new.tokens.scanner.start ≡ self.old.tokens.scanner.start }
     {
+        let mark = self.mark();
         let (handle, suffix) = self.tokens.take_tag();
         let tag = self.names.resolve(mark, handle, suffix)?;
         let next = self.peek()?;
-        match next.kind {
+        match next {
             Kind::Anchor => {
                 let name = self.tokens.take_name();
-                self.content(
+                self.content_behind(
                     place,
-                    Some(Properties {
+                    Properties {
                         anchor: Some(name),
                         tag: Some(tag),
-                    }),
+                    },
                 )
             }
             _ => self.content(
@@ -119,99 +134,120 @@ impl<T: Iterator<Item = char>> Reader<T> {
                     anchor: None,
                     tag: Some(tag),
                 }),
+                next,
             ),
         }
     }
 
-    /// What stands behind a node's properties.
-    fn content(&mut self, place: Place, properties: Option<Properties>) -> Answer
+    /// What stands behind these properties.
+    #[inline(never)]
+    fn content_behind(&mut self, place: Place, properties: Properties) -> Answer
+        ensures answers { ReadsBehind place (Some properties) self.old self.new result }
+        ensures work { OnOk result (work self.new ≤ work self.old) }
+        ensures keeping { self.new.names.keeping ≡ self.old.names.keeping }
+        ensures start { self.new.tokens.scanner.start ≡ self.old.tokens.scanner.start }
+    {
+        let next = self.peek()?;
+        self.content(place, Some(properties), next)
+    }
+
+    /// What stands behind a node's properties. `next` was looked at.
+    #[inline(always)]
+    fn content(&mut self, place: Place, properties: Option<Properties>, next: Kind) -> Answer
+        requires { IsOfKind next self.old.tokens.peeked }
         ensures answers { ReadsBehind place properties self.old self.new result }
         ensures work { OnOk result (work self.new + owed properties ≤ work self.old) }
         ensures keeping { self.new.names.keeping ≡ self.old.names.keeping }
         ensures start { self.new.tokens.scanner.start ≡ self.old.tokens.scanner.start }
     {
         match place {
-            Place::Flow => self.flow_content(properties),
-            Place::Block => self.block_content(properties),
-            Place::Part => self.part_content(properties),
+            Place::Flow => self.flow_content(properties, next),
+            Place::Block => self.block_content(properties, next),
+            Place::Part => self.part_content(properties, next),
         }
     }
 
-    fn part_content(&mut self, properties: Option<Properties>) -> Answer
+    #[inline(always)]
+    fn part_content(&mut self, properties: Option<Properties>, next: Kind) -> Answer
+        requires { IsOfKind next self.old.tokens.peeked }
         ensures answers { ReadsBehind place.Part properties self.old self.new result }
         ensures work { OnOk result (work self.new + owed properties ≤ work self.old) }
         ensures keeping { self.new.names.keeping ≡ self.old.names.keeping }
         ensures start { self.new.tokens.scanner.start ≡ self.old.tokens.scanner.start }
     {
-        let next = self.peek()?;
-        match next.kind {
+        match next {
             Kind::BlockEntry => {
-                self.skip();
+                let mark = self.skip();
                 self.push(State::IndentlessSequenceItem)?;
-                self.sequence(properties, next.mark)
+                self.sequence(properties, mark)
             }
-            _ => self.block_content(properties),
+            _ => self.block_content(properties, next),
         }
     }
 
-    fn block_content(&mut self, properties: Option<Properties>) -> Answer
+    #[inline(always)]
+    fn block_content(&mut self, properties: Option<Properties>, next: Kind) -> Answer
+        requires { IsOfKind next self.old.tokens.peeked }
         ensures answers { ReadsBehind place.Block properties self.old self.new result }
         ensures work { OnOk result (work self.new + owed properties ≤ work self.old) }
         ensures keeping { self.new.names.keeping ≡ self.old.names.keeping }
         ensures start { self.new.tokens.scanner.start ≡ self.old.tokens.scanner.start }
     {
-        let next = self.peek()?;
-        match next.kind {
+        match next {
             Kind::BlockSequenceStart => {
-                self.skip();
+                let mark = self.skip();
                 self.push(State::BlockSequenceEntry)?;
-                self.sequence(properties, next.mark)
+                self.sequence(properties, mark)
             }
             Kind::BlockMappingStart => {
-                self.skip();
+                let mark = self.skip();
                 self.push(State::BlockMappingKey)?;
-                self.mapping(properties, next.mark)
+                self.mapping(properties, mark)
             }
-            _ => self.flow_content(properties),
+            _ => self.flow_content(properties, next),
         }
     }
 
-    fn flow_content(&mut self, properties: Option<Properties>) -> Answer
+    #[inline(always)]
+    fn flow_content(&mut self, properties: Option<Properties>, next: Kind) -> Answer
+        requires { IsOfKind next self.old.tokens.peeked }
         ensures answers { ReadsBehind place.Flow properties self.old self.new result }
         ensures work { OnOk result (work self.new + owed properties ≤ work self.old) }
         ensures keeping { self.new.names.keeping ≡ self.old.names.keeping }
         ensures start { self.new.tokens.scanner.start ≡ self.old.tokens.scanner.start }
     {
-        let next = self.peek()?;
-        match next.kind {
+        match next {
             Kind::Scalar => {
+                let mark = self.mark();
                 let (style, text) = self.tokens.take_scalar();
                 let (anchor, tag) = self.registered(properties)?;
-                Ok((Event::Scalar(text, style, anchor, tag), next.mark))
+                Ok((Event::Scalar(text, style, anchor, tag), mark))
             }
             Kind::FlowSequenceStart => {
-                self.skip();
+                let mark = self.skip();
                 self.push(State::FlowSequenceFirstEntry)?;
-                self.sequence(properties, next.mark)
+                self.sequence(properties, mark)
             }
             Kind::FlowMappingStart => {
-                self.skip();
+                let mark = self.skip();
                 self.push(State::FlowMappingFirstKey)?;
-                self.mapping(properties, next.mark)
+                self.mapping(properties, mark)
             }
-            _ => self.no_content(properties, next.kind, next.mark),
+            _ => self.no_content(properties, next),
         }
     }
 
-    /// Properties alone are a node.
-    fn no_content(&mut self, properties: Option<Properties>, kind: Kind, mark: Marker) -> Answer
-        requires looks { IsOfKind kind self.old.tokens.peeked }
-        requires none { begins_content place.Flow kind ≡ false }
+    /// Properties alone are a node. `next` was looked at.
+    #[inline(never)]
+    fn no_content(&mut self, properties: Option<Properties>, next: Kind) -> Answer
+        requires looks { IsOfKind next self.old.tokens.peeked }
+        requires none { begins_content place.Flow next ≡ false }
         ensures answers { ReadsBehind place.Flow properties self.old self.new result }
         ensures work { OnOk result (work self.new + owed properties ≤ work self.old) }
         ensures keeping { self.new.names.keeping ≡ self.old.names.keeping }
         ensures start { self.new.tokens.scanner.start ≡ self.old.tokens.scanner.start }
     {
+        let mark = self.mark();
         match properties {
             Some(properties) => {
                 let (anchor, tag) = self.registered(Some(properties))?;
@@ -222,6 +258,7 @@ impl<T: Iterator<Item = char>> Reader<T> {
     }
 
     /// The start of a sequence with these properties.
+    #[inline(always)]
     fn sequence(&mut self, properties: Option<Properties>, mark: Marker) -> Answer
         ensures work { OnOk result (work self.new ≡ work self.old) }
         ensures keeping { self.new.names.keeping ≡ self.old.names.keeping }
@@ -234,6 +271,7 @@ impl<T: Iterator<Item = char>> Reader<T> {
     }
 
     /// The start of a mapping with these properties.
+    #[inline(always)]
     fn mapping(&mut self, properties: Option<Properties>, mark: Marker) -> Answer
         ensures work { OnOk result (work self.new ≡ work self.old) }
         ensures keeping { self.new.names.keeping ≡ self.old.names.keeping }
@@ -246,6 +284,7 @@ impl<T: Iterator<Item = char>> Reader<T> {
     }
 
     /// Numbers the anchor of these properties.
+    #[inline(always)]
     fn registered(&mut self, properties: Option<Properties>) -> Result<(usize, Option<Tag>), Stop>
         ensures work { OnOk result (work self.new ≡ work self.old) }
         ensures keeping { self.new.names.keeping ≡ self.old.names.keeping }

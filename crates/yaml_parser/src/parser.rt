@@ -1,4 +1,4 @@
-ghost use Rattle.std.specs.Prelude.{◌≡◌, ◌^◌, ◌<◌, ◌&&◌, ◌||◌, ◌++◌, if◌then◌else◌, [], ◌∷◌, true, false, Some, None, IfSome, IsSome, IfOk, IfErr, option_map};
+ghost use Rattle.std.specs.Prelude.{◌≡◌, ◌^◌, ◌<◌, ◌&&◌, ◌||◌, ◌++◌, if◌then◌else◌, [], ◌∷◌, true, false, Some, None, IfSome, IsSome, IfOk, IfErr, option_map, is_some};
 ghost use Rattle.std.specs.Iterator.{IsFinite, size};
 ghost use Rattle.std.specs.Str.Iter.{chars_rest};
 ghost use Rattle.yaml_chars.specs.Reading.{HasNoNul};
@@ -181,11 +181,40 @@ impl<T: Iterator<Item = char>> Parser<T> {
         ensures pulls { Pulls (parsed self.old) (answer_of result) (parsed self.new) }
         ensures start { self.new.start ≡ self.old.start }
     {
-        self.look()?;
-        Ok(self.give())
+        if self.waits() {
+            return Ok(self.give());
+        }
+        self.pull_next()
+    }
+
+    /// Gives the next event, where none waits.
+    #[inline(always)]
+    fn pull_next(&mut self) -> ParseResult
+        requires { is_some (parsed self.old).ahead ≡ false }
+        ensures pulls { Pulls (parsed self.old) (answer_of result) (parsed self.new) }
+        ensures start { self.new.start ≡ self.old.start }
+    {
+        if let Some(mark) = self.misplaced {
+            return Err(Fault::At(Problem::DocumentStartEvent, mark).error(mark));
+        }
+        let next = self.pull.next();
+        if let Ok(event) = &next {
+            note(&mut self.given, event, self.ended);
+            self.started = true;
+            self.ended = ends(self.ended, &event.0);
+        }
+        next
+    }
+
+    /// Whether an event waits.
+    fn waits(&self) -> bool
+        ensures { result ≡ is_some (parsed self.now).ahead }
+    {
+        self.current.is_some()
     }
 
     /// Gives the event that waits.
+    #[inline(never)]
     fn give(&mut self) -> (Event, Marker)
         requires { IsSome (parsed self.old).ahead }
         ensures gives { IfSome (parsed self.old).ahead (λ e. placed result ≡ e) × GivesEvent (parsed self.old) (placed result) (parsed self.new) }

@@ -49,6 +49,7 @@ impl<T: Iterator<Item = char>> Pull<T> {
     }
 
     /// The next event. Behind the stream's end comes that end again.
+    #[inline(never)]
     pub fn next(&mut self) -> ParseResult
         ensures continues { (read : List (Ev × Place)) → IsHeld self.old.reader read self.old.kept → Continues self.old read result self.new }
         ensures keeping { self.new.reader.names.keeping ≡ self.old.reader.names.keeping }
@@ -69,6 +70,7 @@ impl<T: Iterator<Item = char>> Pull<T> {
     }
 
     /// Keeps a fault, and gives it as callers see it.
+    #[inline(never)]
     fn keep(&mut self, stop: Stop) -> ScanError
         ensures kept { fault_kept self.new ≡ Some result }
         ensures stop { IfSome self.new.kept (λ k. k.stop ≡ stop) }

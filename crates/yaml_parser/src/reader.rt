@@ -16,8 +16,8 @@ ghost use Rattle.yaml_parser.specs.Seen.{fault_seen};
 use crate::event::Event;
 use crate::names::Names;
 use crate::stack::Stack;
-use crate::tokens::{Kept, Next, Stop, Tokens};
-use grammar_turns::{Place, State};
+use crate::tokens::{Kept, Stop, Tokens};
+use grammar_turns::{Kind, State};
 use std::alloc::Global;
 use yaml_chars::Marker;
 use yaml_tokens::ScanError;
@@ -35,34 +35,48 @@ pub struct Reader<T: Iterator<Item = char>> {
 }
 
 impl<T: Iterator<Item = char>> Reader<T> {
-    /// The next token, which stays.
-    pub(crate) fn peek(&mut self) -> Result<Next, Stop>
-        ensures peeked { IfOk result (λ n. IsOfKind n.kind self.new.tokens.peeked) }
-        ensures mark { IfOk result (λ n. IfSome self.new.tokens.peeked (λ t. t.0 ≡ n.mark)) }
+    /// What the next token is, which stays.
+    #[inline(always)]
+    pub(crate) fn peek(&mut self) -> Result<Kind, Stop>
+        ensures peeked { IfOk result (λ k. IsOfKind k self.new.tokens.peeked) }
         ensures names { self.new.names ≡ self.old.names }
         ensures start { self.new.tokens.scanner.start ≡ self.old.tokens.scanner.start }
         ensures work { OnOk result (work self.new ≤ work self.old) }
         ensures at { OnOk result ((g : Goal) → is_over g ≡ false → Carries g self.old self.new) }
         ensures err { IfErr result (λ s. (g : Goal) → is_over g ≡ false → Fails g self.old self.new s) }
     {
-        self.tokens.peek()
+        let kind = self.tokens.peek()?;
+        Ok(kind)
     }
 
-    /// Takes the token that was looked at.
-    pub(crate) fn skip(&mut self)
+    /// Where the token stands that was looked at.
+    #[inline(always)]
+    pub(crate) fn mark(&self) -> Marker
+        requires { IsSome self.now.tokens.peeked }
+        ensures { IfSome self.now.tokens.peeked (λ t. t.0 ≡ result) }
+    {
+        self.tokens.mark()
+    }
+
+    /// Takes the token that was looked at, and gives its place.
+    #[inline(always)]
+    pub(crate) fn skip(&mut self) -> Marker
         requires { IsSome self.old.tokens.peeked }
+        ensures mark { IfSome self.old.tokens.peeked (λ t. t.0 ≡ result) }
         ensures work { work self.new + 4 ≡ work self.old }
         ensures names { self.new.names ≡ self.old.names }
         ensures start { self.new.tokens.scanner.start ≡ self.old.tokens.scanner.start }
         ensures took { (t : Token) → self.old.tokens.peeked ≡ Some t → Took self.old t self.new self.old.stack }
     {
-        self.tokens.skip();
+        self.tokens.skip()
     }
 
+    #[inline(always)]
     pub(crate) fn push(&mut self, state: State) -> Result<(), Stop>
         ensures work { OnOk result (work self.new ≡ work self.old + weight state) }
         ensures names { self.new.names ≡ self.old.names }
         ensures start { self.new.tokens.scanner.start ≡ self.old.tokens.scanner.start }
+        ensures tokens { self.new.tokens ≡ self.old.tokens }
         ensures stayed { OnOk result (Stayed self.old self.new (state ∷ self.old.stack)) }
         ensures err { IfErr result (λ s. s ≡ Own OutOfMemory) }
     {
@@ -71,6 +85,7 @@ impl<T: Iterator<Item = char>> Reader<T> {
     }
 
     /// A scalar that is not written.
+    #[inline(always)]
     pub(crate) fn nothing_written(&self, mark: Marker) -> (Event, Marker)
         ensures { placed result ≡ (Ev.scalar [] Style.plain 0 None, mark) }
     {
@@ -93,6 +108,7 @@ impl<T: Iterator<Item = char>> Reader<T> {
     }
 
     /// The next event, where this state was on top.
+    #[inline(always)]
     pub fn next(&mut self, state: State) -> Answer
         ensures answers { Reads (goal_of state) self.old self.new result }
         ensures keeping { self.new.names.keeping ≡ self.old.names.keeping }
@@ -105,7 +121,7 @@ impl<T: Iterator<Item = char>> Reader<T> {
             State::DocumentStart => self.explicit_document(),
             State::DocumentContent => self.document_content(),
             State::DocumentEnd => self.document_end(),
-            State::BlockNode => self.node(Place::Block),
+            State::BlockNode => self.block_node(),
             State::BlockSequenceEntry => self.block_sequence_entry(),
             State::IndentlessSequenceEntry => self.indentless_sequence_entry(),
             State::IndentlessSequenceItem => self.indentless_sequence_item(),

@@ -6,7 +6,7 @@ ghost use Rattle.yaml_tokens.specs.Shown.{tok_of, style_of};
 ghost use Rattle.yaml_parser.specs.Kinds.{IsOfKind, IsName};
 ghost use Rattle.yaml_parser.specs.Ahead.{left, Skips, SkipsOne};
 ghost use Rattle.yaml_parser.specs.Handed.{IsHanded, IsAwake};
-ghost use Rattle.yaml_parser.specs.declared.tokens.Stop.TheVariants.{Scan};
+ghost use Rattle.yaml_parser.specs.declared.tokens.Missing.TheVariants.{Scan};
 ghost use Rattle.grammar_turns.specs.declared.kind.Kind.TheVariants as kind;
 
 use crate::kind::kind_of_token;
@@ -51,18 +51,34 @@ impl From<AllocError> for Stop {
     }
 }
 
+/// Why no token comes.
+#[derive(Clone, Copy, Debug, PartialEq, Eq)]
+pub enum Missing {
+    /// The scanner's fault, which the scanner keeps.
+    Scan,
+    /// The scanner has no more tokens: this never comes.
+    Ended,
+}
+
+impl From<Missing> for Stop {
+    ghost use Rattle.std.specs.Prelude.{◌≡◌};
+    ghost use Rattle.yaml_parser.specs.Kinds.{stop_of};
+
+    ghost from_gives = { λ m stop. stop ≡ stop_of m };
+
+    fn from(missing: Missing) -> Stop {
+        match missing {
+            Missing::Scan => Stop::Scan,
+            Missing::Ended => Stop::Ended,
+        }
+    }
+}
+
 /// Why no event comes, and where the scanner stood.
 #[derive(Clone, Copy)]
 pub struct Kept {
     pub stop: Stop,
     pub mark: Marker,
-}
-
-/// The next token, as far as it was looked at.
-#[derive(Clone, Copy)]
-pub struct Next {
-    pub mark: Marker,
-    pub kind: Kind,
 }
 
 /// A scanner's tokens, of which the next may have been looked at.
@@ -86,39 +102,46 @@ impl<T: Iterator<Item = char>> Tokens<T> {
         }
     }
 
-    /// The next token, which stays.
-    pub fn peek(&mut self) -> Result<Next, Stop>
-        ensures looks { IfOk result (λ n. IsOfKind n.kind self.new.peeked) }
-        ensures mark { IfOk result (λ n. IfSome self.new.peeked (λ t. t.0 ≡ n.mark)) }
+    /// What the next token is, which stays.
+    #[inline(never)]
+    pub fn peek(&mut self) -> Result<Kind, Missing>
+        ensures looks { IfOk result (λ k. IsOfKind k self.new.peeked) }
         ensures left { OnOk result (left self.new ≤ left self.old) }
         ensures taken { self.new.taken ≡ self.old.taken }
         ensures start { self.new.scanner.start ≡ self.old.scanner.start }
         ensures same { IfSome self.old.peeked (λ t. self.new.peeked ≡ Some t) }
         ensures handed { IsHanded self.old → IsHanded self.new }
         ensures awake { OnOk result (IsAwake self.old → IsAwake self.new) }
-        ensures err { IsAwake self.old → IfErr result (λ s. (s ≡ Scan) × IsSome (scanned self.new.scanner).fault) }
+        ensures err { IsAwake self.old → IfErr result (λ m. (m ≡ Scan) × IsSome (scanned self.new.scanner).fault) }
     {
         if let Some(token) = &self.peeked {
-            return Ok(Next {
-                mark: token.0,
-                kind: kind_of_token(&token.1),
-            });
+            return Ok(kind_of_token(&token.1));
         }
         match self.scanner.next_token() {
             Ok(Some(token)) => {
-                let next = Next {
-                    mark: token.0,
-                    kind: kind_of_token(&token.1),
-                };
+                let kind = kind_of_token(&token.1);
                 self.peeked = Some(token);
-                Ok(next)
+                Ok(kind)
             }
-            Ok(None) => Err(Stop::Ended),
-            Err(_) => Err(Stop::Scan),
+            Ok(None) => Err(Missing::Ended),
+            Err(_) => Err(Missing::Scan),
+        }
+    }
+
+    /// Where the token stands that was looked at.
+    #[inline(always)]
+    pub fn mark(&self) -> Marker
+        requires { IsSome self.now.peeked }
+        ensures { IfSome self.now.peeked (λ t. t.0 ≡ result) }
+    {
+        match &self.peeked {
+            Some(token) => token.0,
+            None => unreachable!(),
         }
     }
 
     /// Takes the token that was looked at.
+    #[inline(always)]
     fn take(&mut self) -> Option<Token>
         ensures token { result ≡ self.old.peeked }
         ensures skips { SkipsOne self.old self.new }
@@ -130,14 +153,22 @@ impl<T: Iterator<Item = char>> Tokens<T> {
         Some(token)
     }
 
-    /// Takes the token that was looked at.
-    pub fn skip(&mut self)
+    /// Takes the token that was looked at, and gives its place.
+    #[inline(always)]
+    pub fn skip(&mut self) -> Marker
         requires { IsSome self.old.peeked }
+        ensures mark { IfSome self.old.peeked (λ t. t.0 ≡ result) }
         ensures skips { SkipsOne self.old self.new }
         ensures start { self.new.scanner.start ≡ self.old.scanner.start }
         ensures left { left self.new + 1 ≡ left self.old }
     {
-        let _ = self.take();
+        let Some(token) = &self.peeked else {
+            unreachable!()
+        };
+        let mark = token.0;
+        self.taken.push(token);
+        self.peeked = None;
+        mark
     }
 
     /// Takes an anchor or an alias that was looked at, and gives its name.
@@ -183,6 +214,7 @@ impl<T: Iterator<Item = char>> Tokens<T> {
     }
 
     /// Takes a scalar that was looked at, and gives its style and text.
+    #[inline(always)]
     pub fn take_scalar(&mut self) -> (TScalarStyle, String)
         requires { IsOfKind kind.Scalar self.old.peeked }
         ensures texts { IfSome self.old.peeked (λ t. tok_of t.1 ≡ Tok.scalar (style_of result.0) (string_chars result.1)) }

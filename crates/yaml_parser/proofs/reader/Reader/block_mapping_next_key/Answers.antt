@@ -1,18 +1,10 @@
 use Rattle.std.proofs.Common.{refl}
 use Rattle.grammar_turns.specs.Goal as at
-use Rattle.grammar_turns.proofs.Block as turn
-use Rattle.yaml_parser.proofs.Arms.{gives, goes, plain, push_behind, answers_err, not_as}
-use Rattle.yaml_parser.proofs.Ends.{refuses}
+use Rattle.yaml_parser.proofs.Arms.{answers_err}
 use Rattle.yaml_parser.proofs.reader.Reader.block_mapping_next_key.Goals as goal
 
 pub returns-in_err-next-clause-answers : goal.returns-in_err-next-clause-answers
 returns-in_err-next-clause-answers g c = λ names given h. answers_err c.peek.new.self given c.from_residual.result _ c.from_residual.ensures.1 (c.in_err-next.ensures.err at.key_pairs refl names given h)
 
-pub returns-in-BlockEnd-clause-answers : goal.returns-in-BlockEnd-clause-answers
-returns-in-BlockEnd-clause-answers g c = λ names given h. gives _ c.in_ok-next.ensures.peeked c.in-BlockEnd.is refl c.skip.ensures.took (turn.key_pairs_end _) (plain refl refl refl refl) refl refl (c.in_ok-next.ensures.at at.key_pairs refl names given h)
-
-pub returns-in_ok-push-in-Key-clause-answers : goal.returns-in_ok-push-in-Key-clause-answers
-returns-in_ok-push-in-Key-clause-answers g c = λ names given h. c.block_mapping_part.ensures.answers names given (goes c.in_ok-next.ensures.peeked c.in-Key.is refl (push_behind c.skip-in-Key.ensures.took c.in_ok-push-in-Key.ensures.stayed) (turn.key_pairs_key _) refl tt refl refl (c.in_ok-next.ensures.at at.key_pairs refl names given h))
-
-pub returns-in_default-clause-answers : goal.returns-in_default-clause-answers
-returns-in_default-clause-answers g c = λ names given h. refuses c.in_ok-next.ensures.peeked (λ t e. turn.key_pairs_refuses _ t (not_as c.in_default.not-BlockEnd e) (not_as c.in_default.not-Key e)) (c.in_ok-next.ensures.at at.key_pairs refl names given h)
+pub returns-clause-answers : goal.returns-clause-answers
+returns-clause-answers g c = λ names given h. c.block_mapping_pair.ensures.answers names given (c.in_ok-next.ensures.at at.key_pairs refl names given h)

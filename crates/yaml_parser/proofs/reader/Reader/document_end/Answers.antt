@@ -10,7 +10,7 @@ pub returns-in_err-next-clause-answers : goal.returns-in_err-next-clause-answers
 returns-in_err-next-clause-answers g c = λ names given h. answers_err c.peek.new.self given c.from_residual.result _ c.from_residual.ensures.1 (c.in_err-next.ensures.err at.after refl names given h)
 
 pub returns-in_ok-push-in-DocumentEnd-clause-answers : goal.returns-in_ok-push-in-DocumentEnd-clause-answers
-returns-in_ok-push-in-DocumentEnd-clause-answers g c = λ names given h. gives _ c.in_ok-next.ensures.peeked c.in-DocumentEnd.is refl (push_behind c.skip.ensures.took c.in_ok-push-in-DocumentEnd.ensures.stayed) (turn.after_marked _) (plain refl refl refl refl) refl refl (c.in_ok-next.ensures.at at.after refl names given h)
+returns-in_ok-push-in-DocumentEnd-clause-answers g c = λ names given h. gives _ c.in_ok-next.ensures.peeked c.in-DocumentEnd.is refl (push_behind c.skip-mark.ensures.took c.in_ok-push-in-DocumentEnd.ensures.stayed) (turn.after_marked _) (plain refl refl refl refl) refl refl (c.in_ok-next.ensures.at at.after refl names given h)
 
 pub returns-in-VersionDirective-clause-answers : goal.returns-in-VersionDirective-clause-answers
 returns-in-VersionDirective-clause-answers g c = λ names given h. refuses c.in_ok-next.ensures.peeked (λ t e. turn.after_refuses _ t (as_kind ends_document (either (λ k. ends_document k ≡ false) refl refl c.in-VersionDirective.is) e)) (c.in_ok-next.ensures.at at.after refl names given h)

@@ -19,7 +19,7 @@ pub returns-in-DocumentEnd-clause-answers : goal.returns-in-DocumentEnd-clause-a
 returns-in-DocumentEnd-clause-answers g c = subst (λ s. Reads (goal_of s) c.args.self.now c.document_end.new.self c.document_end.result) (sym c.in-DocumentEnd.is) c.document_end.ensures.answers
 
 pub returns-in-BlockNode-clause-answers : goal.returns-in-BlockNode-clause-answers
-returns-in-BlockNode-clause-answers g c = subst (λ s. Reads (goal_of s) c.args.self.now c.node.new.self c.node.result) (sym c.in-BlockNode.is) c.node.ensures.answers
+returns-in-BlockNode-clause-answers g c = subst (λ s. Reads (goal_of s) c.args.self.now c.block_node.new.self c.block_node.result) (sym c.in-BlockNode.is) c.block_node.ensures.answers
 
 pub returns-in-BlockSequenceEntry-clause-answers : goal.returns-in-BlockSequenceEntry-clause-answers
 returns-in-BlockSequenceEntry-clause-answers g c = subst (λ s. Reads (goal_of s) c.args.self.now c.block_sequence_entry.new.self c.block_sequence_entry.result) (sym c.in-BlockSequenceEntry.is) c.block_sequence_entry.ensures.answers

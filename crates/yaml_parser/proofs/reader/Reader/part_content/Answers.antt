@@ -2,17 +2,13 @@ use Rattle.std.proofs.Common.{refl}
 use Rattle.event_defs.specs.Event.{Ev}
 use Rattle.event_defs.specs.Raw.{Raw}
 use Rattle.grammar_turns.specs.declared.place.Place.TheVariants as place
-use Rattle.grammar_turns.specs.Goal as at
 use Rattle.grammar_turns.proofs.Nodes as turn
-use Rattle.yaml_parser.proofs.Arms.{stays, stay, push_behind, answers_err, not_as}
+use Rattle.yaml_parser.proofs.Arms.{stays, stay, push_behind, not_as}
 use Rattle.yaml_parser.proofs.NodeArms.{starts, pending_same}
 use Rattle.yaml_parser.proofs.reader.Reader.part_content.Goals as goal
 
-pub returns-in_err-next-clause-answers : goal.returns-in_err-next-clause-answers
-returns-in_err-next-clause-answers g c = λ o names given has h. answers_err c.peek.new.self given c.from_residual.result _ c.from_residual.ensures.1 (c.in_err-next.ensures.err (at.behind place.Part o) refl names given h)
-
 pub returns-in_ok-push-in-BlockEntry-clause-answers : goal.returns-in_ok-push-in-BlockEntry-clause-answers
-returns-in_ok-push-in-BlockEntry-clause-answers g c = λ o names given has h. starts _ c.sequence.new.self (λ a t. Raw.sequence_start a t) (λ a t. Ev.sequence_start a t) c.sequence.result (record { resolves = λ s a t. refl; behind_it = λ k s a t. refl }) c.in_ok-next.ensures.peeked c.in-BlockEntry.is refl refl (λ a t. refl) c.in_ok-next.ensures.mark (push_behind c.skip.ensures.took c.in_ok-push-in-BlockEntry.ensures.stayed) (turn.behind_dash _ o) c.sequence.ensures.registers c.sequence.ensures.err (λ a t. refl) has (c.in_ok-next.ensures.at (at.behind place.Part o) refl names given h)
+returns-in_ok-push-in-BlockEntry-clause-answers g c = λ o names given has h. starts _ c.sequence.new.self (λ a t. Raw.sequence_start a t) (λ a t. Ev.sequence_start a t) c.sequence.result (record { resolves = λ s a t. refl; behind_it = λ k s a t. refl }) c.requires c.in-BlockEntry.is refl refl (λ a t. refl) c.skip-mark.ensures.mark (push_behind c.skip-mark.ensures.took c.in_ok-push-in-BlockEntry.ensures.stayed) (turn.behind_dash _ o) c.sequence.ensures.registers c.sequence.ensures.err (λ a t. refl) has h
 
 pub returns-in_default-clause-answers : goal.returns-in_default-clause-answers
-returns-in_default-clause-answers g c = λ o names given has h. c.block_content.ensures.answers o names given has (stays c.in_ok-next.ensures.peeked stay (λ t e. turn.part_block _ o t (not_as c.in_default.not-BlockEntry e)) refl (pending_same place.Part place.Block names o h.pending) refl (c.in_ok-next.ensures.at (at.behind place.Part o) refl names given h))
+returns-in_default-clause-answers g c = λ o names given has h. c.block_content.ensures.answers o names given has (stays c.requires stay (λ t e. turn.part_block _ o t (not_as c.in_default.not-BlockEntry e)) refl (pending_same place.Part place.Block names o h.pending) refl h)

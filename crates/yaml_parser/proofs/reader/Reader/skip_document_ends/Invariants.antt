@@ -7,7 +7,7 @@ use Rattle.yaml_parser.proofs.reader.Reader.skip_document_ends.Given as goal
 
 abbrev pub invariant-ends : goal.invariant-ends
 invariant-ends g l = record {
-  peeked : IsOfKind l.next.kind l.self.tokens.peeked;
+  peeked : IsOfKind l.next l.self.tokens.peeked;
   work : work l.self ≤ work l.fn.self;
   keeping : l.self.names.keeping ≡ l.fn.self.names.keeping;
   start : l.self.tokens.scanner.start ≡ l.fn.self.tokens.scanner.start;

@@ -9,7 +9,7 @@ pub returns-in_err-next-clause-answers : goal.returns-in_err-next-clause-answers
 returns-in_err-next-clause-answers g c = λ names given h. answers_err c.peek.new.self given c.from_residual.result _ c.from_residual.ensures.1 (c.in_err-next.ensures.err at.start refl names given h)
 
 pub returns-in_ok-push-in-StreamStart-clause-answers : goal.returns-in_ok-push-in-StreamStart-clause-answers
-returns-in_ok-push-in-StreamStart-clause-answers g c = λ names given h. gives _ c.in_ok-next.ensures.peeked c.in-StreamStart.is refl (push_behind c.skip.ensures.took c.in_ok-push-in-StreamStart.ensures.stayed) (turn.start_takes _) (plain refl refl refl refl) refl refl (c.in_ok-next.ensures.at at.start refl names given h)
+returns-in_ok-push-in-StreamStart-clause-answers g c = λ names given h. gives _ c.in_ok-next.ensures.peeked c.in-StreamStart.is refl (push_behind c.skip-mark.ensures.took c.in_ok-push-in-StreamStart.ensures.stayed) (turn.start_takes _) (plain refl refl refl refl) refl refl (c.in_ok-next.ensures.at at.start refl names given h)
 
 pub returns-in_default-clause-answers : goal.returns-in_default-clause-answers
 returns-in_default-clause-answers g c = λ names given h. refuses c.in_ok-next.ensures.peeked (λ t e. turn.start_refuses _ t (not_as c.in_default.not-StreamStart e)) (c.in_ok-next.ensures.at at.start refl names given h)
