@@ -1,8 +1,9 @@
 -- A run of ordinary characters of one line belongs to a scalar's text as it stands.
-use Rattle.std.proofs.Common.{◌≡◌, ℕ, List, ◌∷◌, Bool, true, false, ◌||◌, ◌&&◌, not, ◌==◌, refl, slice_index}
+use Rattle.std.proofs.Common.{◌≡◌, ℕ, List, [], ◌∷◌, ◌++◌, ◌∙◌, ap, Bool, true, false, ◌||◌, ◌&&◌, not, ◌==◌, refl, slice_index}
 use Rattle.yaml_chars.specs.Place.{Place}
 use Rattle.yaml_chars.specs.Class.{is_break, is_blank, is_breakz, is_flow}
-use Rattle.yaml_chars.specs.Run.{stops}
+use Rattle.yaml_chars.specs.Run.{Ran, stops, ran}
+use Rattle.yaml_chars.specs.declared.run.Run.{Run}
 use Rattle.yaml_chars.specs.declared.run.Run.TheVariants as kind
 use Rattle.scalar_model.specs.declared.context.Context.{Context}
 use Rattle.scalar_model.specs.Machine.{past}
@@ -58,3 +59,37 @@ plain_run ctx start c a p t h =
     let gap = no_gap c (first_of _ (c == 58) front) in
     let goes = plain_char ctx.flow c (slice_index a 0) (second_of _ (c == 58) front) (second_of _ (ctx.flow && is_flow c) h) in
     rw (gap, goes) refl
+
+-- what takes a run's characters one by one takes the whole run
+pub through_run : {A : Type 0} (run : Run) (f : List ℕ → Place → List ℕ → A)
+    → ((c : ℕ) (a : List ℕ) (p : Place) (t : List ℕ) → stops run c ≡ false → f (c ∷ a) p t ≡ f a (past p) (t ++ c ∷ []))
+    → (a b : List ℕ) (p q : Place) (t u : List ℕ) → ran run a p t ≡ record { rest = b; place = q; text = u } → f a p t ≡ f b q u
+through_run run f step [] b p q t u h = ap (λ (r : Ran). f r.rest r.place r.text) h
+through_run run f step (c ∷ a) b p q t u h = turn (stops run c) refl (through_run run f step a b (past p) q (t ++ c ∷ []) u)
+  where
+    turn : (ends : Bool) → stops run c ≡ ends → (ran run a (past p) (t ++ c ∷ []) ≡ record { rest = b; place = q; text = u } → f a (past p) (t ++ c ∷ []) ≡ f b q u) → f (c ∷ a) p t ≡ f b q u
+    turn true e more = let here : record { rest = c ∷ a; place = p; text = t } ≡ record { rest = b; place = q; text = u } = rw e at h in ap (λ (r : Ran). f r.rest r.place r.text) here
+    turn false e more = step c a p t e ∙ more (rw e at h)
+
+pub block_ran : (literal : Bool) (column : ℕ) (a b : List ℕ) (p q : Place) (l : block.Lines) (u : List ℕ) → ran kind.Line a p l.text ≡ record { rest = b; place = q; text = u }
+    → block.lines_from literal column a (record { mode = block.line; place = p; lines = l })
+    ≡ block.lines_from literal column b (record { mode = block.line; place = q; lines = record l { text = u } })
+block_ran literal column a b p q l u h =
+    through_run kind.Line (λ d r t. block.lines_from literal column d (record { mode = block.line; place = r; lines = record l { text = t } }))
+        (λ c d r t e. block_run literal column c d r (record l { text = t }) e) a b p q l.text u h
+
+pub quoted_ran : (single : Bool) (ctx : Context) (start : Place) (a b : List ℕ) (p q : Place) (l : folding.Folded) (u : List ℕ)
+    → ran (kind.Quoted (quoted.quote_of single)) a p l.text ≡ record { rest = b; place = q; text = u }
+    → quoted.quoted_from single ctx start a (record { mode = quoted.inside; place = p; folded = l })
+    ≡ quoted.quoted_from single ctx start b (record { mode = quoted.inside; place = q; folded = record l { text = u } })
+quoted_ran single ctx start a b p q l u h =
+    through_run (kind.Quoted (quoted.quote_of single)) (λ d r t. quoted.quoted_from single ctx start d (record { mode = quoted.inside; place = r; folded = record l { text = t } }))
+        (λ c d r t e. quoted_run single ctx start c d r (record l { text = t }) e) a b p q l.text u h
+
+pub plain_ran : (ctx : Context) (start : Place) (a b : List ℕ) (p q : Place) (l : folding.Folded) (u : List ℕ)
+    → ran (kind.Plain ctx.flow) a p l.text ≡ record { rest = b; place = q; text = u }
+    → plain.plain_from ctx start a (record { mode = plain.inside; place = p; folded = l })
+    ≡ plain.plain_from ctx start b (record { mode = plain.inside; place = q; folded = record l { text = u } })
+plain_ran ctx start a b p q l u h =
+    through_run (kind.Plain ctx.flow) (λ d r t. plain.plain_from ctx start d (record { mode = plain.inside; place = r; folded = record l { text = t } }))
+        (λ c d r t e. plain_run ctx start c d r (record l { text = t }) e) a b p q l.text u h

@@ -17,6 +17,7 @@ pub enum Run {
 
 impl Run {
     /// Whether the run ends before this character.
+    #[inline(always)]
     #[tactic(auto, unfolding(crate::specs::Run::stops), using(crate::proofs::ClassLemmas::runs_some))]
     pub fn stops(self, c: char) -> bool
         ensures value { result ≡ stops self c }

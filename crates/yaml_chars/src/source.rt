@@ -1,10 +1,40 @@
-ghost use Rattle.std.specs.Prelude.{◌≡◌, ◌≢◌, ◌<◌, ◌≤◌, [], ◌∷◌, ◌++◌, true, false};
+ghost use Rattle.std.specs.Prelude.{◌≡◌, ◌≢◌, ◌<◌, ◌≤◌, ◌^◌, [], ◌∷◌, ◌++◌, true, false};
 ghost use Rattle.std.specs.Iterator.{IsFinite, size};
+ghost use Rattle.yaml_chars.specs.Run.{GoesOver};
 ghost use Rattle.yaml_chars.specs.Source.{Pulls, Came};
 
 use crate::history::History;
+use crate::run::Run;
+use crate::text::Text;
 use std::marker::Model;
 use std::snapshot::Snapshot;
+
+/// A run, and the text that its characters go into.
+pub(crate) struct Filling {
+    pub run: Run,
+    pub text: Text,
+}
+
+/// How many characters of a run went into a text, the one behind them, and whether memory was
+/// refused for that.
+#[derive(Drop)]
+pub(crate) struct Ran {
+    pub text: Text,
+    pub count: usize,
+    pub behind: char,
+    pub refused: bool,
+}
+
+fn ended(text: Text, count: usize, behind: char, refused: bool) -> Ran
+    ensures { result ≡ record { text = text; count = count; behind = behind; refused = refused } }
+{
+    Ran {
+        text,
+        count,
+        behind,
+        refused,
+    }
+}
 
 /// The characters of an iterator up to its end or to a NUL. After that the iterator is left alone.
 #[derive(Drop)]
@@ -41,6 +71,7 @@ impl<T: Iterator<Item = char>> Source<T> {
     }
 
     /// The next character, or NUL at the end and from then on.
+    #[inline(always)]
     pub fn next(&mut self) -> char
         ensures { Pulls self.old result self.new }
     {
@@ -55,6 +86,28 @@ impl<T: Iterator<Item = char>> Source<T> {
             _ => {
                 self.done = true;
                 '\0'
+            }
+        }
+    }
+
+    /// Takes the characters of a run into a text. Both are moved in and out, so that the loop keeps
+    /// them in registers.
+    #[inline(always)]
+    pub(crate) fn run_on(self, filling: Filling) -> (Source<T>, Ran)
+        requires { self.left < 2 ^ 63 }
+        ensures { GoesOver filling.run self result.0 result.1.count result.1.behind result.1.refused filling.text result.1.text }
+    {
+        let Filling { run, mut text } = filling;
+        let mut source = self;
+        let mut count = 0;
+        'run: loop {
+            let behind = source.next();
+            if run.stops(behind) {
+                return (source, ended(text, count, behind, false));
+            }
+            match text.push(behind) {
+                Ok(()) => count += 1,
+                Err(_) => return (source, ended(text, count, behind, true)),
             }
         }
     }

@@ -4,6 +4,7 @@ ghost use Rattle.yaml_chars.specs.Text.{string_chars, is_nil};
 
 use std::alloc::{AllocError, Global};
 use std::marker::Model;
+use std::mem;
 
 /// A text that grows by characters.
 #[derive(Debug, Drop)]
@@ -54,6 +55,15 @@ impl Text {
         ensures { self.new ≡ [] }
     {
         self.inner.clear();
+    }
+
+    /// The text, of which nothing is left here.
+    pub(crate) fn take(&mut self) -> Text
+        ensures value { result ≡ self.old }
+        ensures left { self.new ≡ [] }
+    {
+        let alloc = *self.inner.allocator();
+        mem::replace(self, Text::new(alloc))
     }
 
     #[tactic(auto, using(crate::proofs::TextLemmas::is_nil_chars))]

@@ -1,6 +1,6 @@
-ghost use Rattle.std.specs.Prelude.{◌≡◌, ◌≢◌, ℕ, ◌+◌, ◌-◌, ◌^◌, ◌<◌, ◌≤◌, [], ◌∷◌, ◌++◌, true, false, length, drop, slice_index, IfSome, IfNone, OnSome};
+ghost use Rattle.std.specs.Prelude.{◌≡◌, ◌≢◌, ℕ, ◌+◌, ◌-◌, ◌^◌, ◌<◌, ◌≤◌, [], ◌∷◌, ◌++◌, true, false, length, drop, slice_index, IfSome, IfNone, OnSome, OnOk, OnErr};
 ghost use Rattle.std.specs.Iterator.{IsFinite, size};
-ghost use Rattle.yaml_chars.specs.Run.{stops};
+ghost use Rattle.yaml_chars.specs.Run.{stops, ran};
 ghost use Rattle.yaml_chars.specs.Source.{CameFrom};
 ghost use Rattle.yaml_chars.specs.Reading.{place_of};
 ghost use Rattle.yaml_chars.specs.Reading.{Reads, Sees, HasChar, SamePlace, OneOn, after_char, after_break, after_line, HasNoNul};
@@ -8,7 +8,10 @@ ghost use Rattle.yaml_chars.specs.Reading.{Reads, Sees, HasChar, SamePlace, OneO
 use crate::marker::Marker;
 use crate::ring::Ring;
 use crate::run::Run;
-use crate::source::Source;
+use crate::source::{Filling, Ran, Source};
+use crate::text::Text;
+use core::mem;
+use std::alloc::AllocError;
 use std::marker::Model;
 
 /// The next characters of a text that comes from an iterator, at most 16 at a time. NULs stand behind its end.
@@ -135,6 +138,7 @@ impl<T: Iterator<Item = char>> Window<T> {
     }
 
     /// Takes the next character, where the run goes on with it; every other stays.
+    #[inline(always)]
     pub fn take(&mut self, run: Run) -> Option<char>
         ensures taken { IfSome result (λ c. (stops run c ≡ false) × Reads self.old self.new (λ a b. a ≡ c ∷ b)) }
         ensures on { OnSome result (OneOn self.old self.new) }
@@ -153,6 +157,7 @@ impl<T: Iterator<Item = char>> Window<T> {
     }
 
     // The same, where nothing is in the window: the character need not go through it.
+    #[inline(always)]
     fn take_from_source(&mut self, run: Run) -> Option<char>
         requires { self.old.ahead ≡ 0 }
         ensures taken { IfSome result (λ c. (stops run c ≡ false) × Reads self.old self.new (λ a b. a ≡ c ∷ b)) }
@@ -167,6 +172,49 @@ impl<T: Iterator<Item = char>> Window<T> {
         }
         (self.index, self.col) = (self.index + 1, self.col + 1);
         Some(c)
+    }
+
+    /// Takes the characters of a run into a text. The one that ends it stays.
+    #[inline(always)]
+    pub fn take_run(&mut self, run: Run, text: &mut Text) -> Result<(), AllocError>
+        ensures ok { OnOk result (Reads self.old self.new (λ a b. ran run a (place_of self.old) text.old ≡ record { rest = b; place = place_of self.new; text = text.new })) }
+        ensures err { OnErr result (Reads self.old self.new (λ _ _. Unit {0})) }
+    {
+        'held: while self.len() > 0 {
+            let Some(c) = self.take(run) else {
+                return Ok(());
+            };
+            text.push(c)?;
+        }
+        self.run_from_source(run, text)
+    }
+
+    // The same, where nothing is in the window.
+    #[inline(always)]
+    fn run_from_source(&mut self, run: Run, text: &mut Text) -> Result<(), AllocError>
+        requires { self.old.ahead ≡ 0 }
+        ensures ok { OnOk result (Reads self.old self.new (λ a b. ran run a (place_of self.old) text.old ≡ record { rest = b; place = place_of self.new; text = text.new })) }
+        ensures err { OnErr result (Reads self.old self.new (λ _ _. Unit {0})) }
+    {
+        let filling = Filling {
+            run,
+            text: text.take(),
+        };
+        let ran = mem::replace_with(&mut self.source, filling, Source::run_on);
+        let Ran {
+            text: after,
+            count,
+            behind,
+            refused,
+        } = ran;
+        *text = after;
+        self.index += count;
+        self.col += count;
+        self.ring.push(behind);
+        if refused {
+            return Err(AllocError);
+        }
+        Ok(())
     }
 
     /// Steps over a line break.

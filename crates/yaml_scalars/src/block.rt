@@ -128,7 +128,6 @@ fn read_indent<T: Iterator<Item = char>>(
 }
 
 /// Reads the characters up to a break or the end.
-#[tactic(auto, using(scalar_model::proofs::RunLemmas::block_run))]
 fn read_run<T: Iterator<Item = char>>(
     window: &mut Window<T>,
     literal: bool,
@@ -141,9 +140,7 @@ fn read_run<T: Iterator<Item = char>>(
 {
     let _ = literal;
     let _ = column;
-    'run: while let Some(c) = window.take(Run::Line) {
-        block.text.push(c)?;
-    }
+    window.take_run(Run::Line, &mut block.text)?;
     Ok(())
 }
 

@@ -29,6 +29,7 @@ impl Folding {
         }
     }
 
+    #[inline(always)]
     pub(crate) fn push(&mut self, c: char) -> Result<(), AllocError>
         ensures { OnOk result (folded self.new ≡ with_char c (folded self.old)) }
     {
@@ -66,6 +67,7 @@ impl Folding {
     }
 
     /// The gap becomes text. A lone break is a space.
+    #[inline(always)]
     pub(crate) fn join(&mut self) -> Result<(), AllocError>
         ensures { OnOk result (folded self.new ≡ joined (folded self.old)) }
     {

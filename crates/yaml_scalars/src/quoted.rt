@@ -58,6 +58,7 @@ fn check_line<T: Iterator<Item = char>>(
 }
 
 /// Reads a blank or a break.
+#[inline(always)]
 fn read_gap<T: Iterator<Item = char>>(
     window: &mut Window<T>,
     single: bool,
@@ -95,6 +96,7 @@ fn read_gap<T: Iterator<Item = char>>(
 }
 
 /// Reads a character that is no blank and no break.
+#[inline(always)]
 fn read_inside<T: Iterator<Item = char>>(
     window: &mut Window<T>,
     single: bool,
@@ -131,6 +133,7 @@ fn read_inside<T: Iterator<Item = char>>(
 }
 
 /// Reads a character of a line.
+#[inline(always)]
 #[tactic(auto, using(scalar_model::proofs::QuotedLemmas::inside_gap))]
 fn read_in_line<T: Iterator<Item = char>>(
     window: &mut Window<T>,
@@ -159,6 +162,7 @@ fn read_in_line<T: Iterator<Item = char>>(
 }
 
 /// Reads the first character of a line, or one behind a gap.
+#[inline(always)]
 #[tactic(auto, using(scalar_model::proofs::QuotedLemmas::line_inside, scalar_model::proofs::QuotedLemmas::line_fails))]
 fn read_line<T: Iterator<Item = char>>(
     window: &mut Window<T>,
@@ -334,7 +338,6 @@ fn read_part<T: Iterator<Item = char>>(
 }
 
 /// Reads the characters up to a blank, a break, the end, a quote or a backslash.
-#[tactic(auto, using(scalar_model::proofs::RunLemmas::quoted_run))]
 fn read_run<T: Iterator<Item = char>>(
     window: &mut Window<T>,
     single: bool,
@@ -348,9 +351,7 @@ fn read_run<T: Iterator<Item = char>>(
 {
     let _ = context;
     let _ = start;
-    'run: while let Some(c) = window.take(Run::Quoted(quote_of(single))) {
-        scalar.push(c)?;
-    }
+    window.take_run(Run::Quoted(quote_of(single)), &mut scalar.text)?;
     Ok(())
 }
 
