@@ -53,17 +53,6 @@ impl YamlLoader {
         self.reading.documents.as_slice()
     }
 
-    // One event more, where the loader goes on.
-    fn take(&mut self, ev: Event, mark: Marker) -> Result<(), ScanError>
-        requires { self.old.course ≡ Course.Reading }
-        ensures { Takes self.old (ev_of ev) mark result self.new }
-    {
-        match self.reading.take(ev) {
-            Ok(()) => Ok(()),
-            Err(refusal) => self.stop(refusal, mark),
-        }
-    }
-
     // The event at this place isn't read.
     #[cold]
     #[inline(never)]
@@ -124,7 +113,10 @@ impl MarkedEventReceiver for YamlLoader {
         ensures { Takes self.old (ev_of ev) mark result self.new }
     {
         match &self.course {
-            Course::Reading => self.take(ev, mark),
+            Course::Reading => match self.reading.take(ev) {
+                Ok(()) => Ok(()),
+                Err(refusal) => self.stop(refusal, mark),
+            },
             Course::RepeatedKey(_, _) => Ok(()),
             Course::OutOfNesting(place) => refuse_nesting(*place),
             Course::OutOfMemory(place) => refuse_memory(*place),
