@@ -3,13 +3,14 @@
 use Rattle.std.specs.Prelude.{◌≡◌, ◌⊎◌, true, Option, Some, None, IfSome, Result, Err, OnOk, OnErr, IfErr, IsOk, codes}
 use Rattle.yaml_chars.specs.Place.{Place}
 use Rattle.event_defs.specs.Event.{Ev}
-use Rattle.event_defs.specs.Unfinished.{Unfinished, Loader, at_work, noted, refused, with_event_at, documents_of, refused_at}
+use Rattle.event_defs.specs.Unfinished.{Unfinished, with_event, Loader, at_work, noted, refused, with_event_at, documents_of, refused_at}
 use Rattle.yaml_tokens.specs.Fault.{Fault, fault_at}
 use Rattle.yaml_loader.specs.declared.loader.Course.{Course}
 use Rattle.yaml_loader.specs.declared.loader.Course.TheVariants as course
 use Rattle.yaml_loader.specs.declared.loader.YamlLoader.{YamlLoader}
+use Rattle.yaml_loader.specs.declared.reading.Refusal.{Refusal}
 use Rattle.yaml_loader.specs.Alike.{StandAlike}
-use Rattle.yaml_loader.specs.View.{unfinished_of, repeated_key}
+use Rattle.yaml_loader.specs.View.{unfinished_of, repeated_key, IsRefusedBy}
 
 -- by how it goes on, over what was read
 abbrev pub loader_by : Course → Unfinished → Loader
@@ -64,3 +65,9 @@ pub record Takes (old : YamlLoader) (e : Ev) (place : Place) (result : Result (U
   pub reason : IfErr result (λ f. kept_fault old ≡ None → IsNewFault f place (with_event_at (loader_of old) e place))
   -- Once a key that came twice was noted, every event is answered well.
   pub ignores : HasNotedKey (loader_of old) → IsOk result
+
+-- What a loader that is at work makes of an event which its reading refused, whatever the event was: so it takes the event.
+abbrev pub Stops : YamlLoader → Refusal → Place → Result (Unit {0}) Fault → YamlLoader → Type 0
+Stops stopped refusal place result new =
+    (old : YamlLoader) (e : Ev) → old.course ≡ course.Reading → IsRefusedBy refusal (with_event (unfinished_of old.reading) e) (unfinished_of stopped.reading).opened
+    → (unfinished_of stopped.reading).documents ≡ (unfinished_of old.reading).documents → Takes old e place result new

@@ -1,9 +1,9 @@
 //! The loader, to which events are handed one by one.
-ghost use Rattle.std.specs.Prelude.{◌≡◌, None};
+ghost use Rattle.std.specs.Prelude.{◌≡◌, None, Err};
 ghost use Rattle.event_defs.specs.Unfinished.{new_loader, documents_of};
 ghost use Rattle.yaml_tree.specs.View.{items_view};
 ghost use Rattle.yaml_parser.specs.Shown.{ev_of};
-ghost use Rattle.yaml_loader.specs.Loading.{loader_of, kept_fault, want_of_memory, event_out_of_nesting, Takes};
+ghost use Rattle.yaml_loader.specs.Loading.{loader_of, kept_fault, want_of_memory, event_out_of_nesting, Takes, Stops};
 
 use crate::reading::{Reading, Refusal};
 use std::alloc::Global;
@@ -53,30 +53,30 @@ impl YamlLoader {
         self.reading.documents.as_slice()
     }
 
-    // One event more, where the loader goes on.
-    fn take(&mut self, ev: Event, mark: Marker) -> Result<(), ScanError>
-        requires { self.old.course ≡ Course.Reading }
-        ensures { Takes self.old (ev_of ev) mark result self.new }
+    // The event at this place isn't read.
+    #[cold]
+    #[inline(never)]
+    fn stop(&mut self, refusal: Refusal, mark: Marker) -> Result<(), ScanError>
+        ensures { Stops self.old refusal mark result self.new }
     {
-        match self.reading.take(ev) {
-            Ok(()) => Ok(()),
-            Err(Refusal::RepeatedKey) => match self.reading.repeated_key_text() {
+        match refusal {
+            Refusal::RepeatedKey => match self.reading.repeated_key_text() {
                 Ok(text) => {
                     self.course = Course::RepeatedKey(mark, text);
                     Ok(())
                 }
                 Err(_) => {
                     self.course = Course::OutOfMemory(mark);
-                    Err(out_of_memory(mark))
+                    Err(ScanError::memory(mark))
                 }
             },
-            Err(Refusal::OutOfNesting) => {
+            Refusal::OutOfNesting => {
                 self.course = Course::OutOfNesting(mark);
                 Err(out_of_nesting(mark))
             }
-            Err(Refusal::OutOfMemory) => {
+            Refusal::OutOfMemory => {
                 self.course = Course::OutOfMemory(mark);
-                Err(out_of_memory(mark))
+                Err(ScanError::memory(mark))
             }
         }
     }
@@ -84,14 +84,20 @@ impl YamlLoader {
 
 #[cold]
 #[inline(never)]
-fn out_of_memory(mark: Marker) -> ScanError
-    ensures { result ≡ want_of_memory mark }
+fn refuse_memory(mark: Marker) -> Result<(), ScanError>
+    ensures { result ≡ Err (want_of_memory mark) }
 {
-    ScanError::memory(mark)
+    Err(ScanError::memory(mark))
 }
 
 #[cold]
 #[inline(never)]
+fn refuse_nesting(mark: Marker) -> Result<(), ScanError>
+    ensures { result ≡ Err (event_out_of_nesting mark) }
+{
+    Err(out_of_nesting(mark))
+}
+
 #[tactic(auto, unfolding(yaml_tokens::specs::Problem::text_of_problem))]
 pub(crate) fn out_of_nesting(mark: Marker) -> ScanError
     ensures { result ≡ event_out_of_nesting mark }
@@ -107,10 +113,13 @@ impl MarkedEventReceiver for YamlLoader {
         ensures { Takes self.old (ev_of ev) mark result self.new }
     {
         match &self.course {
-            Course::Reading => self.take(ev, mark),
+            Course::Reading => match self.reading.take(ev) {
+                Ok(()) => Ok(()),
+                Err(refusal) => self.stop(refusal, mark),
+            },
             Course::RepeatedKey(_, _) => Ok(()),
-            Course::OutOfNesting(place) => Err(out_of_nesting(*place)),
-            Course::OutOfMemory(place) => Err(out_of_memory(*place)),
+            Course::OutOfNesting(place) => refuse_nesting(*place),
+            Course::OutOfMemory(place) => refuse_memory(*place),
         }
     }
 }

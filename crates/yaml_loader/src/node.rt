@@ -93,6 +93,7 @@ impl Reading {
         Ok(())
     }
 
+    #[inline(always)]
     fn open(&mut self, collection: Open) -> Result<(), Refusal>
         ensures ok { let u = unfinished_of self.old in Reads (with_start (opened_of collection) u u.opened u.root) result self.new }
         ensures err { let u = unfinished_of self.old in Refuses (with_start (opened_of collection) u u.opened u.root) result self.new }
@@ -148,6 +149,7 @@ impl Reading {
     }
 
     /// A complete node with its anchor, where the number isn't 0.
+    #[inline(always)]
     fn insert_anchored(&mut self, anchor: usize, node: Yaml) -> Result<(), Refusal>
         ensures ok { let u = unfinished_of self.old in Reads (with_node anchor (view node) u u.opened) result self.new }
         ensures err { let u = unfinished_of self.old in Refuses (with_node anchor (view node) u u.opened) result self.new }
@@ -158,6 +160,7 @@ impl Reading {
     }
 
     /// The node with this anchor is complete: from now on an alias means a copy of it.
+    #[inline(always)]
     fn finish(&mut self, anchor: usize, node: &Yaml) -> Result<(), AllocError>
         ensures aliases { let before = (unfinished_of self.old).anchors in let after = (unfinished_of self.new).anchors in
             OnOk result ((n : ℕ) → aliased n (finished anchor (view node.now) before) ≡ aliased n after) }
@@ -194,6 +197,7 @@ impl Reading {
     }
 
     /// A complete node: the root, the next item, the next key, or the value of the key that waits.
+    #[inline(never)]
     fn insert(&mut self, node: Yaml) -> Result<(), Refusal>
         ensures ok { let u = unfinished_of self.old in OnOk result (with_tree (view node) u u.opened ≡ reads (unfinished_of self.new)) }
         ensures err { let u = unfinished_of self.old in Refuses (with_tree (view node) u u.opened) result self.new }

@@ -1,6 +1,6 @@
 -- What the first byte of a text tells of what it stands for.
-use Rattle.std.proofs.Common.{◌≡◌, ℕ, ◌<◌, List, [], ◌∷◌, length, get_or, Bool, true, false, ◌&&◌, ◌||◌, Option, Some, None, refl, sym, ap, subst, ◌∙◌, arith}
-use Rattle.std.specs.Prelude.{ℤ, pos, neg_ℤ, ◌==◌, if◌then◌else◌, option_map, option_and_then, is_none, bytes_eq, codes}
+use Rattle.std.proofs.Common.{◌≡◌, ℕ, ◌<◌, List, [], ◌∷◌, length, get_or, Bool, true, false, ◌&&◌, ◌||◌, Some, None, refl, sym, ap, subst, ◌∙◌, arith}
+use Rattle.std.specs.Prelude.{pos, neg_ℤ, ◌==◌, if◌then◌else◌, option_map, option_and_then, is_none, bytes_eq, codes}
 use Rattle.std.specs.Char.{is_ascii_digit}
 use Rattle.std.specs.List.{list_all}
 use Rattle.std.specs.Str.Parse.{digits_value}
@@ -11,7 +11,7 @@ use Rattle.std.proofs.lemmas.Slice.Eq.{bytes_eq-Decides}
 use Rattle.std.proofs.lemmas.Str.{chars-nil, chars-IsAscii}
 use Rattle.tree_defs.specs.Grammar.{is_among}
 use Rattle.tree_defs.specs.Tree.{Tree, string, integer, real, boolean, null}
-use Rattle.tree_defs.specs.Typing.{typing, rows, where_true, is_digit, is_sign, is_point, is_plus, is_minus, number, with_sign, signed_number, fits_i64, behind, is_decimal, null_words, true_words, false_words, special_words}
+use Rattle.tree_defs.specs.Typing.{typing, rows, where_true, is_digit, is_sign, is_point, is_plus, is_minus, number, signed_number, fits_i64, behind, is_decimal, null_words, true_words, false_words, special_words}
 use Rattle.tree_defs.proofs.DecimalReading.{begins_in, reads_exponent, reads_on, reads_unsigned, is_decimal-read}
 use Rattle.tree_defs.proofs.GrammarLaws.{behind_all}
 use Rattle.tree_defs.proofs.TypingLaws.{strings_exactly}

@@ -83,7 +83,10 @@ fn stands_for(text: &str) -> Meaning
 fn begins_value(first: u8) -> bool
     ensures { result ≡ begins_value first }
 {
-    matches!(first, b'0'..=b'9' | b'+' | b'-' | b'.' | b'~' | b'n' | b't' | b'T' | b'f' | b'F')
+    matches!(
+        first,
+        b'0'..=b'9' | b'+' | b'-' | b'.' | b'~' | b'n' | b't' | b'T' | b'f' | b'F'
+    )
 }
 
 // An integer, a null or a boolean.

@@ -14,8 +14,8 @@ returns-in_default c = null_by_none _ (omega (arith, ap length c.as_bytes.ensure
 pub returns-then-not-begins_value : goal.returns-then-not-begins_value
 returns-then-not-begins_value c =
     elim c.then-not-begins_value.branch [
-      then-not-begins_value-via-then-not-begins_value w ↦ string_by_first _ c.utf8.text (omega (arith, ap length c.as_bytes.ensures.value)) (subst (λ bs. begins_value (get_or bs 0 0) ≡ false) c.as_bytes.ensures.value (sym (w.if-not-begins_value.ensures {u = tt})))
-    | then-not-begins_value-via-else-not-begins_value+then-not-is_ascii w ↦ wide_string _ _ c.utf8.text (w.if-not-is_ascii.ensures {u = tt}).cases refl
+      | then-not-begins_value-via-then-not-begins_value w ↦ string_by_first _ c.utf8.text (omega (arith, ap length c.as_bytes.ensures.value)) (subst (λ bs. begins_value (get_or bs 0 0) ≡ false) c.as_bytes.ensures.value (sym (w.if-not-begins_value.ensures {u = tt})))
+      | then-not-begins_value-via-else-not-begins_value+then-not-is_ascii w ↦ wide_string _ _ c.utf8.text (w.if-not-is_ascii.ensures {u = tt}).cases refl
     ]
 
 pub returns-in-Some : goal.returns-in-Some
