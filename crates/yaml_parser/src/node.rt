@@ -51,6 +51,7 @@ impl<T: Iterator<Item = char>> Reader<T> {
         ensures start { self.new.tokens.scanner.start ≡ self.old.tokens.scanner.start }
     {
         match next {
+            Kind::Scalar => self.scalar(None),
             Kind::Alias => self.alias(),
             Kind::Anchor => self.anchored(place),
             Kind::Tag => self.tagged(place),
@@ -217,12 +218,7 @@ impl<T: Iterator<Item = char>> Reader<T> {
         ensures start { self.new.tokens.scanner.start ≡ self.old.tokens.scanner.start }
     {
         match next {
-            Kind::Scalar => {
-                let mark = self.mark();
-                let (style, text) = self.tokens.take_scalar();
-                let (anchor, tag) = self.registered(properties)?;
-                Ok((Event::Scalar(text, style, anchor, tag), mark))
-            }
+            Kind::Scalar => self.scalar(properties),
             Kind::FlowSequenceStart => {
                 let mark = self.skip();
                 self.push(State::FlowSequenceFirstEntry)?;
@@ -235,6 +231,20 @@ impl<T: Iterator<Item = char>> Reader<T> {
             }
             _ => self.no_content(properties, next),
         }
+    }
+
+    #[inline(always)]
+    fn scalar(&mut self, properties: Option<Properties>) -> Answer
+        requires { IsOfKind kind.Scalar self.old.tokens.peeked }
+        ensures answers { ReadsBehind place.Flow properties self.old self.new result }
+        ensures work { OnOk result (work self.new + owed properties ≤ work self.old) }
+        ensures keeping { self.new.names.keeping ≡ self.old.names.keeping }
+        ensures start { self.new.tokens.scanner.start ≡ self.old.tokens.scanner.start }
+    {
+        let mark = self.mark();
+        let (style, text) = self.tokens.take_scalar();
+        let (anchor, tag) = self.registered(properties)?;
+        Ok((Event::Scalar(text, style, anchor, tag), mark))
     }
 
     /// Properties alone are a node. `next` was looked at.

@@ -1,7 +1,11 @@
 use Rattle.std.proofs.Common.{refl, None}
 use Rattle.grammar_turns.proofs.Nodes as turn
 use Rattle.yaml_parser.proofs.Arms.{stays, stay, not_as}
+use Rattle.yaml_parser.proofs.NodeArms.{bare_scalar}
 use Rattle.yaml_parser.proofs.reader.Reader.node.Goals as goal
+
+pub returns-in-Scalar-clause-answers : goal.returns-in-Scalar-clause-answers
+returns-in-Scalar-clause-answers g c = λ names given h. c.scalar.ensures.answers None names given (record { both = refl; anchor = refl; tag = refl }) (bare_scalar c.args.place c.requires c.in-Scalar.is h)
 
 pub returns-in-Alias-clause-answers : goal.returns-in-Alias-clause-answers
 returns-in-Alias-clause-answers g c = λ names given h. c.alias.ensures.answers c.args.place names given h
