@@ -184,35 +184,42 @@ pub pending_same : (w u : places.Place) (names : Names) (o : Option written.Prop
 pending_same w u names None h = tt
 pending_same w u names (Some o) h = h
 
--- what neither has properties nor begins a block collection
-record IsNoCollection (k : Kind) : Type 0 where
-  alias : k ≢ kind.Alias
-  anchor : k ≢ kind.Anchor
-  tag : k ≢ kind.Tag
-  entry : k ≢ kind.BlockEntry
-  sequence : k ≢ kind.BlockSequenceStart
-  mapping : k ≢ kind.BlockMappingStart
+-- no token of properties, and no alias
+pub record HasNoProperties (k : Kind) : Type 0 where
+  pub alias : k ≢ kind.Alias
+  pub anchor : k ≢ kind.Anchor
+  pub tag : k ≢ kind.Tag
 
-scalar_is_plain : IsNoCollection kind.Scalar
-scalar_is_plain = record { alias = λ e. cc; anchor = λ e. cc; tag = λ e. cc; entry = λ e. cc; sequence = λ e. cc; mapping = λ e. cc }
+pub block_entry_alone : HasNoProperties kind.BlockEntry
+block_entry_alone = record { alias = λ e. cc; anchor = λ e. cc; tag = λ e. cc }
 
--- What begins no block collection is flow content, wherever it stands.
-block_in_flow : {T : Type 0} {p : Reader T} {k : Kind} (o : Option written.Properties) {names : Names} {given : List (Ev × Place)} → IsOfKind k p.tokens.peeked → IsNoCollection k
+pub block_sequence_alone : HasNoProperties kind.BlockSequenceStart
+block_sequence_alone = record { alias = λ e. cc; anchor = λ e. cc; tag = λ e. cc }
+
+pub block_mapping_alone : HasNoProperties kind.BlockMappingStart
+block_mapping_alone = record { alias = λ e. cc; anchor = λ e. cc; tag = λ e. cc }
+
+-- a node without properties
+pub bare : {T : Type 0} {p : Reader T} {k : Kind} (w : places.Place) {names : Names} {given : List (Ev × Place)} → IsOfKind k p.tokens.peeked → HasNoProperties k
+    → At (at.node w) p names given → At (at.behind w None) p names given
+bare w here plain a = stays here stay (λ t h. turn.node_content _ _ t (not_as plain.alias h) (not_as plain.anchor h) (not_as plain.tag h)) refl tt refl a
+
+-- what begins no block collection
+pub record BeginsNoBlock (k : Kind) : Type 0 where
+  pub entry : k ≢ kind.BlockEntry
+  pub sequence : k ≢ kind.BlockSequenceStart
+  pub mapping : k ≢ kind.BlockMappingStart
+
+block_in_flow : {T : Type 0} {p : Reader T} {k : Kind} (o : Option written.Properties) {names : Names} {given : List (Ev × Place)} → IsOfKind k p.tokens.peeked → BeginsNoBlock k
     → At (at.behind place.Block o) p names given → At (at.behind place.Flow o) p names given
 block_in_flow o {names} here none a = stays here stay (λ t e. turn.block_flow _ o t (not_as none.sequence e) (not_as none.mapping e)) refl (pending_same place.Block place.Flow names o a.pending) refl a
 
-in_flow : {T : Type 0} {p : Reader T} {k : Kind} (w : places.Place) (o : Option written.Properties) {names : Names} {given : List (Ev × Place)} → IsOfKind k p.tokens.peeked → IsNoCollection k
+-- What begins no block collection is flow content, wherever it stands.
+pub in_flow : {T : Type 0} {p : Reader T} {k : Kind} (w : places.Place) (o : Option written.Properties) {names : Names} {given : List (Ev × Place)} → IsOfKind k p.tokens.peeked → BeginsNoBlock k
     → At (at.behind w o) p names given → At (at.behind place.Flow o) p names given
 in_flow place.Flow o here none a = a
 in_flow place.Block o here none a = block_in_flow o here none a
 in_flow place.Part o {names} here none a = block_in_flow o here none (stays here stay (λ t e. turn.part_block _ o t (not_as none.entry e)) refl (pending_same place.Part place.Block names o a.pending) refl a)
-
--- a scalar without properties
-pub bare_scalar : {T : Type 0} {p : Reader T} {k : Kind} (w : places.Place) {names : Names} {given : List (Ev × Place)} → IsOfKind k p.tokens.peeked → k ≡ kind.Scalar
-    → At (at.node w) p names given → At (at.behind place.Flow None) p names given
-bare_scalar {T} {p} {k} w here e a =
-    let none : IsNoCollection k = subst IsNoCollection (sym e) scalar_is_plain in
-    in_flow w None here none (stays here stay (λ t h. turn.node_content _ _ t (not_as none.alias h) (not_as none.anchor h) (not_as none.tag h)) refl tt refl a)
 
 pub taken_with : {T : Type 0} {p q : Tokens T} {t : Token} → SkipsOne p q → p.peeked ≡ Some t → Skips p t q
 taken_with {T} {p} {q} {t} h e = if_some_at (λ u. Skips p u q) h e

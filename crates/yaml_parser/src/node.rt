@@ -51,11 +51,13 @@ impl<T: Iterator<Item = char>> Reader<T> {
         ensures start { self.new.tokens.scanner.start ≡ self.old.tokens.scanner.start }
     {
         match next {
-            Kind::Scalar => self.scalar(None),
             Kind::Alias => self.alias(),
             Kind::Anchor => self.anchored(place),
             Kind::Tag => self.tagged(place),
-            _ => self.content(place, None, next),
+            Kind::BlockEntry | Kind::BlockSequenceStart | Kind::BlockMappingStart => {
+                self.content(place, None, next)
+            }
+            _ => self.flow_content(None, next),
         }
     }
 
@@ -153,7 +155,7 @@ impl<T: Iterator<Item = char>> Reader<T> {
     }
 
     /// What stands behind a node's properties. `next` was looked at.
-    #[inline(always)]
+    #[inline(never)]
     fn content(&mut self, place: Place, properties: Option<Properties>, next: Kind) -> Answer
         requires { IsOfKind next self.old.tokens.peeked }
         ensures answers { ReadsBehind place properties self.old self.new result }
@@ -218,7 +220,12 @@ impl<T: Iterator<Item = char>> Reader<T> {
         ensures start { self.new.tokens.scanner.start ≡ self.old.tokens.scanner.start }
     {
         match next {
-            Kind::Scalar => self.scalar(properties),
+            Kind::Scalar => {
+                let mark = self.mark();
+                let (style, text) = self.tokens.take_scalar();
+                let (anchor, tag) = self.registered(properties)?;
+                Ok((Event::Scalar(text, style, anchor, tag), mark))
+            }
             Kind::FlowSequenceStart => {
                 let mark = self.skip();
                 self.push(State::FlowSequenceFirstEntry)?;
@@ -231,20 +238,6 @@ impl<T: Iterator<Item = char>> Reader<T> {
             }
             _ => self.no_content(properties, next),
         }
-    }
-
-    #[inline(always)]
-    fn scalar(&mut self, properties: Option<Properties>) -> Answer
-        requires { IsOfKind kind.Scalar self.old.tokens.peeked }
-        ensures answers { ReadsBehind place.Flow properties self.old self.new result }
-        ensures work { OnOk result (work self.new + owed properties ≤ work self.old) }
-        ensures keeping { self.new.names.keeping ≡ self.old.names.keeping }
-        ensures start { self.new.tokens.scanner.start ≡ self.old.tokens.scanner.start }
-    {
-        let mark = self.mark();
-        let (style, text) = self.tokens.take_scalar();
-        let (anchor, tag) = self.registered(properties)?;
-        Ok((Event::Scalar(text, style, anchor, tag), mark))
     }
 
     /// Properties alone are a node. `next` was looked at.

@@ -9,8 +9,8 @@ use Rattle.yaml_parser.proofs.Steps.{if_some_at}
 use Rattle.yaml_tokens.specs.Shown.{tok_of}
 use Rattle.yaml_parser.proofs.reader.Reader.flow_content.Goals as goal
 
-pub returns-in-Scalar-clause-answers : goal.returns-in-Scalar-clause-answers
-returns-in-Scalar-clause-answers g c = λ o names given has h. c.scalar.ensures.answers o names given has h
+pub returns-in_ok-anchor-in-Scalar-clause-answers : goal.returns-in_ok-anchor-in-Scalar-clause-answers
+returns-in_ok-anchor-in-Scalar-clause-answers g c = λ o names given has h. let l = looked _ _ c.requires in scalar_taken _ l.1 (if_some_at (λ t. t.0 ≡ c.mark-mark.result) c.mark-mark.ensures l.1) (taken_with c.take_scalar-style.ensures.skips l.1) refl refl (if_some_at (λ t. tok_of t.1 ≡ _) c.take_scalar-style.ensures.texts l.1) (turn.behind_scalar _ o _ _) c.in_ok-anchor-in-Scalar.ensures.registers has h
 
 pub returns-in_ok-push-in-FlowSequenceStart-clause-answers : goal.returns-in_ok-push-in-FlowSequenceStart-clause-answers
 returns-in_ok-push-in-FlowSequenceStart-clause-answers g c = λ o names given has h. starts _ c.sequence.new.self (λ a t. Raw.flow_sequence_start a t) (λ a t. Ev.sequence_start a t) c.sequence.result (record { resolves = λ s a t. refl; behind_it = λ k s a t. refl }) c.requires c.in-FlowSequenceStart.is refl refl (λ a t. refl) c.skip-mark.ensures.mark (push_behind c.skip-mark.ensures.took c.in_ok-push-in-FlowSequenceStart.ensures.stayed) (turn.behind_brackets _ o) c.sequence.ensures.registers c.sequence.ensures.err (λ a t. refl) has h
