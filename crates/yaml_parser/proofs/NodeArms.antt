@@ -1,5 +1,5 @@
 -- The arms of the productions of nodes.
-use Rattle.std.proofs.Common.{◌≡◌, ℕ, List, [], ◌∷◌, ◌++◌, Option, Some, None, option_map, is_some, Bool, true, false, Result, Ok, Err, refl, sym, ap, ◌∙◌, subst, append_assoc, ◌⊎◌, inl, inr}
+use Rattle.std.proofs.Common.{◌≡◌, ◌≢◌, ℕ, List, [], ◌∷◌, ◌++◌, Option, Some, None, option_map, is_some, Bool, true, false, Result, Ok, Err, refl, sym, ap, ◌∙◌, subst, append_assoc, ◌⊎◌, inl, inr}
 use Rattle.std.specs.Result.{IfOk, IfErr}
 use Rattle.std.specs.Option.{IsSome, IfSome}
 use Rattle.yaml_chars.specs.Place.{Place}
@@ -47,7 +47,7 @@ use Rattle.yaml_parser.specs.Properties.{Has, Registers, name_of, kept_tag}
 use Rattle.yaml_parser.specs.Shown.{placed}
 use Rattle.yaml_parser.specs.At.{At, Answers, Faulted, IsStuck, goal_behind, IsPending}
 use Rattle.yaml_parser.proofs.Steps.{looked, took, took_on, left, Named, map_snoc, if_some_at}
-use Rattle.yaml_parser.proofs.Arms.{Skipped}
+use Rattle.yaml_parser.proofs.Arms.{Skipped, stays, stay, not_as}
 use Rattle.yaml_parser.proofs.Ends.{at_begins}
 
 -- ---- an event with properties
@@ -183,6 +183,43 @@ unnamed {T} {g} {g'} {p} {r} {t} {ss} {e} {names} {given} here skips keep turn b
 pub pending_same : (w u : places.Place) (names : Names) (o : Option written.Properties) → IsPending names (at.behind w o) → IsPending names (at.behind u o)
 pending_same w u names None h = tt
 pending_same w u names (Some o) h = h
+
+-- no token of properties, and no alias
+pub record HasNoProperties (k : Kind) : Type 0 where
+  pub alias : k ≢ kind.Alias
+  pub anchor : k ≢ kind.Anchor
+  pub tag : k ≢ kind.Tag
+
+pub block_entry_alone : HasNoProperties kind.BlockEntry
+block_entry_alone = record { alias = λ e. cc; anchor = λ e. cc; tag = λ e. cc }
+
+pub block_sequence_alone : HasNoProperties kind.BlockSequenceStart
+block_sequence_alone = record { alias = λ e. cc; anchor = λ e. cc; tag = λ e. cc }
+
+pub block_mapping_alone : HasNoProperties kind.BlockMappingStart
+block_mapping_alone = record { alias = λ e. cc; anchor = λ e. cc; tag = λ e. cc }
+
+-- a node without properties
+pub bare : {T : Type 0} {p : Reader T} {k : Kind} (w : places.Place) {names : Names} {given : List (Ev × Place)} → IsOfKind k p.tokens.peeked → HasNoProperties k
+    → At (at.node w) p names given → At (at.behind w None) p names given
+bare w here plain a = stays here stay (λ t h. turn.node_content _ _ t (not_as plain.alias h) (not_as plain.anchor h) (not_as plain.tag h)) refl tt refl a
+
+-- what begins no block collection
+pub record BeginsNoBlock (k : Kind) : Type 0 where
+  pub entry : k ≢ kind.BlockEntry
+  pub sequence : k ≢ kind.BlockSequenceStart
+  pub mapping : k ≢ kind.BlockMappingStart
+
+block_in_flow : {T : Type 0} {p : Reader T} {k : Kind} (o : Option written.Properties) {names : Names} {given : List (Ev × Place)} → IsOfKind k p.tokens.peeked → BeginsNoBlock k
+    → At (at.behind place.Block o) p names given → At (at.behind place.Flow o) p names given
+block_in_flow o {names} here none a = stays here stay (λ t e. turn.block_flow _ o t (not_as none.sequence e) (not_as none.mapping e)) refl (pending_same place.Block place.Flow names o a.pending) refl a
+
+-- What begins no block collection is flow content, wherever it stands.
+pub in_flow : {T : Type 0} {p : Reader T} {k : Kind} (w : places.Place) (o : Option written.Properties) {names : Names} {given : List (Ev × Place)} → IsOfKind k p.tokens.peeked → BeginsNoBlock k
+    → At (at.behind w o) p names given → At (at.behind place.Flow o) p names given
+in_flow place.Flow o here none a = a
+in_flow place.Block o here none a = block_in_flow o here none a
+in_flow place.Part o {names} here none a = block_in_flow o here none (stays here stay (λ t e. turn.part_block _ o t (not_as none.entry e)) refl (pending_same place.Part place.Block names o a.pending) refl a)
 
 pub taken_with : {T : Type 0} {p q : Tokens T} {t : Token} → SkipsOne p q → p.peeked ≡ Some t → Skips p t q
 taken_with {T} {p} {q} {t} h e = if_some_at (λ u. Skips p u q) h e

@@ -12,6 +12,7 @@ use grammar_turns::{Kind, Place, State};
 use yaml_tokens::{Fault, Problem};
 
 impl<T: Iterator<Item = char>> Reader<T> {
+    #[inline(always)]
     pub(crate) fn block_sequence_entry(&mut self) -> Answer
         ensures answers { Reads at.entries self.old self.new result }
         ensures work { OnOk result (work self.new < work self.old + 1) }
@@ -79,6 +80,7 @@ impl<T: Iterator<Item = char>> Reader<T> {
         }
     }
 
+    #[inline(always)]
     pub(crate) fn block_mapping_key(&mut self) -> Answer
         ensures answers { Reads at.pairs self.old self.new result }
         ensures work { OnOk result (work self.new < work self.old + 1) }
@@ -129,6 +131,7 @@ impl<T: Iterator<Item = char>> Reader<T> {
     }
 
     /// Behind a key.
+    #[inline(always)]
     pub(crate) fn block_mapping_value(&mut self) -> Answer
         ensures answers { Reads at.after_key self.old self.new result }
         ensures work { OnOk result (work self.new < work self.old + 2) }

@@ -13,6 +13,7 @@ use yaml_chars::Marker;
 use yaml_tokens::{Fault, Problem};
 
 impl<T: Iterator<Item = char>> Reader<T> {
+    #[inline(always)]
     pub(crate) fn flow_sequence_first_entry(&mut self) -> Answer
         ensures answers { Reads at.items self.old self.new result }
         ensures work { OnOk result (work self.new < work self.old + 1) }
@@ -27,6 +28,7 @@ impl<T: Iterator<Item = char>> Reader<T> {
     }
 
     /// Behind an item.
+    #[inline(always)]
     pub(crate) fn flow_sequence_entry(&mut self) -> Answer
         ensures answers { Reads at.more_items self.old self.new result }
         ensures work { OnOk result (work self.new < work self.old + 1) }
@@ -145,6 +147,7 @@ impl<T: Iterator<Item = char>> Reader<T> {
         Ok((Event::MappingEnd, self.tokens.scanner.mark()))
     }
 
+    #[inline(always)]
     pub(crate) fn flow_mapping_first_key(&mut self) -> Answer
         ensures answers { Reads at.flow_pairs self.old self.new result }
         ensures work { OnOk result (work self.new < work self.old + 1) }
@@ -159,6 +162,7 @@ impl<T: Iterator<Item = char>> Reader<T> {
     }
 
     /// Behind a pair.
+    #[inline(always)]
     pub(crate) fn flow_mapping_key(&mut self) -> Answer
         ensures answers { Reads at.more_flow_pairs self.old self.new result }
         ensures work { OnOk result (work self.new < work self.old + 1) }
@@ -239,6 +243,7 @@ impl<T: Iterator<Item = char>> Reader<T> {
     }
 
     /// Behind a key.
+    #[inline(always)]
     pub(crate) fn flow_mapping_value(&mut self) -> Answer
         ensures answers { Reads at.flow_after_key self.old self.new result }
         ensures work { OnOk result (work self.new < work self.old + 2) }

@@ -54,7 +54,10 @@ impl<T: Iterator<Item = char>> Reader<T> {
             Kind::Alias => self.alias(),
             Kind::Anchor => self.anchored(place),
             Kind::Tag => self.tagged(place),
-            _ => self.content(place, None, next),
+            Kind::BlockEntry | Kind::BlockSequenceStart | Kind::BlockMappingStart => {
+                self.content(place, None, next)
+            }
+            _ => self.flow_content(None, next),
         }
     }
 
@@ -152,7 +155,7 @@ impl<T: Iterator<Item = char>> Reader<T> {
     }
 
     /// What stands behind a node's properties. `next` was looked at.
-    #[inline(always)]
+    #[inline(never)]
     fn content(&mut self, place: Place, properties: Option<Properties>, next: Kind) -> Answer
         requires { IsOfKind next self.old.tokens.peeked }
         ensures answers { ReadsBehind place properties self.old self.new result }

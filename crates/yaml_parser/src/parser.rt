@@ -177,6 +177,7 @@ impl<T: Iterator<Item = char>> Parser<T> {
     }
 
     /// The next event and its place. Behind the stream's end comes that end again.
+    #[inline(always)]
     pub fn next_token(&mut self) -> ParseResult
         ensures pulls { Pulls (parsed self.old) (answer_of result) (parsed self.new) }
         ensures start { self.new.start ≡ self.old.start }

@@ -49,7 +49,7 @@ impl<T: Iterator<Item = char>> Pull<T> {
     }
 
     /// The next event. Behind the stream's end comes that end again.
-    #[inline(never)]
+    #[inline(always)]
     pub fn next(&mut self) -> ParseResult
         ensures continues { (read : List (Ev × Place)) → IsHeld self.old.reader read self.old.kept → Continues self.old read result self.new }
         ensures keeping { self.new.reader.names.keeping ≡ self.old.reader.names.keeping }

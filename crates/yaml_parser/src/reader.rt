@@ -108,7 +108,7 @@ impl<T: Iterator<Item = char>> Reader<T> {
     }
 
     /// The next event, where this state was on top.
-    #[inline(always)]
+    #[inline(never)]
     pub fn next(&mut self, state: State) -> Answer
         ensures answers { Reads (goal_of state) self.old self.new result }
         ensures keeping { self.new.names.keeping ≡ self.old.names.keeping }

@@ -117,14 +117,13 @@ impl<T: Iterator<Item = char>> Tokens<T> {
         if let Some(token) = &self.peeked {
             return Ok(kind_of_token(&token.1));
         }
-        match self.scanner.next_token() {
-            Ok(Some(token)) => {
-                let kind = kind_of_token(&token.1);
-                self.peeked = Some(token);
-                Ok(kind)
-            }
-            Ok(None) => Err(Missing::Ended),
-            Err(_) => Err(Missing::Scan),
+        let Ok(next) = self.scanner.next_token() else {
+            return Err(Missing::Scan);
+        };
+        self.peeked = next;
+        match &self.peeked {
+            Some(token) => Ok(kind_of_token(&token.1)),
+            None => Err(Missing::Ended),
         }
     }
 
@@ -154,7 +153,7 @@ impl<T: Iterator<Item = char>> Tokens<T> {
     }
 
     /// Takes the token that was looked at, and gives its place.
-    #[inline(always)]
+    #[inline(never)]
     pub fn skip(&mut self) -> Marker
         requires { IsSome self.old.peeked }
         ensures mark { IfSome self.old.peeked (λ t. t.0 ≡ result) }

@@ -1,6 +1,6 @@
 use Rattle.std.proofs.Common.{refl, None}
-use Rattle.grammar_turns.proofs.Nodes as turn
-use Rattle.yaml_parser.proofs.Arms.{stays, stay, not_as}
+use Rattle.yaml_parser.proofs.Arms.{one_of}
+use Rattle.yaml_parser.proofs.NodeArms.{HasNoProperties, BeginsNoBlock, block_entry_alone, block_sequence_alone, block_mapping_alone, bare, in_flow}
 use Rattle.yaml_parser.proofs.reader.Reader.node.Goals as goal
 
 pub returns-in-Alias-clause-answers : goal.returns-in-Alias-clause-answers
@@ -12,5 +12,13 @@ returns-in-Anchor-clause-answers g c = λ names given h. c.anchored.ensures.answ
 pub returns-in-Tag-clause-answers : goal.returns-in-Tag-clause-answers
 returns-in-Tag-clause-answers g c = λ names given h. c.tagged.ensures.answers names given h
 
+pub returns-in-BlockEntry-clause-answers : goal.returns-in-BlockEntry-clause-answers
+returns-in-BlockEntry-clause-answers g c = λ names given h.
+    let plain = one_of HasNoProperties block_entry_alone block_sequence_alone block_mapping_alone c.in-BlockEntry.is in
+    c.content.ensures.answers None names given (record { both = refl; anchor = refl; tag = refl }) (bare c.args.place c.requires plain h)
+
 pub returns-in_default-clause-answers : goal.returns-in_default-clause-answers
-returns-in_default-clause-answers g c = λ names given h. c.content.ensures.answers None names given (record { both = refl; anchor = refl; tag = refl }) (stays c.requires stay (λ t e. turn.node_content _ _ t (not_as c.in_default.not-Alias e) (not_as c.in_default.not-Anchor e) (not_as c.in_default.not-Tag e)) refl tt refl h)
+returns-in_default-clause-answers g c = λ names given h.
+    let plain : HasNoProperties c.args.next = record { alias = c.in_default.not-Alias; anchor = c.in_default.not-Anchor; tag = c.in_default.not-Tag } in
+    let none : BeginsNoBlock c.args.next = record { entry = c.in_default.not-BlockEntry; sequence = c.in_default.not-BlockSequenceStart; mapping = c.in_default.not-BlockMappingStart } in
+    c.flow_content.ensures.answers None names given (record { both = refl; anchor = refl; tag = refl }) (in_flow c.args.place None c.requires none (bare c.args.place c.requires plain h))
