@@ -77,19 +77,3 @@ pub block_ran : (literal : Bool) (column : ℕ) (a b : List ℕ) (p q : Place) (
 block_ran literal column a b p q l u h =
     through_run kind.Line (λ d r t. block.lines_from literal column d (record { mode = block.line; place = r; lines = record l { text = t } }))
         (λ c d r t e. block_run literal column c d r (record l { text = t }) e) a b p q l.text u h
-
-pub quoted_ran : (single : Bool) (ctx : Context) (start : Place) (a b : List ℕ) (p q : Place) (l : folding.Folded) (u : List ℕ)
-    → ran (kind.Quoted (quoted.quote_of single)) a p l.text ≡ record { rest = b; place = q; text = u }
-    → quoted.quoted_from single ctx start a (record { mode = quoted.inside; place = p; folded = l })
-    ≡ quoted.quoted_from single ctx start b (record { mode = quoted.inside; place = q; folded = record l { text = u } })
-quoted_ran single ctx start a b p q l u h =
-    through_run (kind.Quoted (quoted.quote_of single)) (λ d r t. quoted.quoted_from single ctx start d (record { mode = quoted.inside; place = r; folded = record l { text = t } }))
-        (λ c d r t e. quoted_run single ctx start c d r (record l { text = t }) e) a b p q l.text u h
-
-pub plain_ran : (ctx : Context) (start : Place) (a b : List ℕ) (p q : Place) (l : folding.Folded) (u : List ℕ)
-    → ran (kind.Plain ctx.flow) a p l.text ≡ record { rest = b; place = q; text = u }
-    → plain.plain_from ctx start a (record { mode = plain.inside; place = p; folded = l })
-    ≡ plain.plain_from ctx start b (record { mode = plain.inside; place = q; folded = record l { text = u } })
-plain_ran ctx start a b p q l u h =
-    through_run (kind.Plain ctx.flow) (λ d r t. plain.plain_from ctx start d (record { mode = plain.inside; place = r; folded = record l { text = t } }))
-        (λ c d r t e. plain_run ctx start c d r (record l { text = t }) e) a b p q l.text u h

@@ -174,7 +174,8 @@ impl<T: Iterator<Item = char>> Window<T> {
         Some(c)
     }
 
-    /// Takes the characters of a run into a text. The one that ends it stays.
+    /// Takes the characters of a run into a text. The one that ends it stays. Worth its while where
+    /// runs are long, as a line is; words are taken faster one character at a time.
     #[inline(always)]
     pub fn take_run(&mut self, run: Run, text: &mut Text) -> Result<(), AllocError>
         ensures ok { OnOk result (Reads self.old self.new (λ a b. ran run a (place_of self.old) text.old ≡ record { rest = b; place = place_of self.new; text = text.new })) }

@@ -30,6 +30,7 @@ fn can_be_plain(flow: bool, c: char, next: char) -> bool
 }
 
 /// Reads the characters up to a blank, a break, the end, a colon or what ends a plain scalar in flow.
+#[tactic(auto, using(scalar_model::proofs::RunLemmas::plain_run))]
 fn read_word<T: Iterator<Item = char>>(
     window: &mut Window<T>,
     context: Context,
@@ -41,7 +42,9 @@ fn read_word<T: Iterator<Item = char>>(
     ensures err { OnErr result (Reads window.old window.new (λ _ _. Unit {0})) }
 {
     let _ = start;
-    window.take_run(Run::Plain(context.flow), &mut scalar.text)?;
+    'run: while let Some(c) = window.take(Run::Plain(context.flow)) {
+        scalar.push(c)?;
+    }
     Ok(())
 }
 

@@ -338,6 +338,7 @@ fn read_part<T: Iterator<Item = char>>(
 }
 
 /// Reads the characters up to a blank, a break, the end, a quote or a backslash.
+#[tactic(auto, using(scalar_model::proofs::RunLemmas::quoted_run))]
 fn read_run<T: Iterator<Item = char>>(
     window: &mut Window<T>,
     single: bool,
@@ -351,7 +352,9 @@ fn read_run<T: Iterator<Item = char>>(
 {
     let _ = context;
     let _ = start;
-    window.take_run(Run::Quoted(quote_of(single)), &mut scalar.text)?;
+    'run: while let Some(c) = window.take(Run::Quoted(quote_of(single))) {
+        scalar.push(c)?;
+    }
     Ok(())
 }
 

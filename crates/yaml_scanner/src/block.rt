@@ -357,6 +357,7 @@ impl<T: Iterator<Item = char>> Fetcher<T> {
     }
 
     /// A token more, before that many that wait.
+    #[inline(always)]
     fn put_token(&mut self, place: usize, mark: Marker, kind: TokenType) -> Result<(), Fault>
         ensures held { OnOk result (held self.new ≡ put (self.old.tokens.given + place) mark (tok_of kind) (held self.old)) }
         ensures given { OnOk result (self.new.tokens.given ≡ self.old.tokens.given) }

@@ -78,6 +78,7 @@ impl<T: Iterator<Item = char>> Fetcher<T> {
     }
 
     /// A token more.
+    #[inline(always)]
     pub(crate) fn push_token(&mut self, mark: Marker, kind: TokenType) -> Result<(), Fault>
         ensures held { OnOk result (held self.new ≡ push mark (tok_of kind) (held self.old)) }
         ensures err { IfErr result (λ e. e ≡ Fault.OutOfMemory) }

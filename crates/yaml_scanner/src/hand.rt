@@ -78,6 +78,7 @@ impl<T: Iterator<Item = char>> Fetcher<T> {
     }
 
     /// Hands out the next token.
+    #[inline(always)]
     pub(crate) fn hand(&mut self) -> Option<Token>
         requires kept { self.old.kept ≡ None }
         requires going { self.old.tokens.over ≡ false }

@@ -52,15 +52,6 @@ fn is_overdue(key: Option<SimpleKey>, mark: Marker) -> bool
     }
 }
 
-fn still(key: Option<SimpleKey>, mark: Marker) -> Option<SimpleKey>
-    ensures { result ≡ still_simple mark key }
-{
-    match key {
-        Some(simple) if !is_far(simple.mark, mark) => Some(simple),
-        _ => None,
-    }
-}
-
 fn is_required(key: Option<SimpleKey>) -> bool
     ensures { result ≡ is_required (key_of 0 key) }
 {
@@ -76,22 +67,6 @@ fn is_front(key: Option<SimpleKey>) -> bool
     match key {
         Some(key) => key.place == 0,
         None => false,
-    }
-}
-
-fn lowered(key: Option<SimpleKey>) -> Option<SimpleKey>
-    ensures { result ≡ lowered key }
-{
-    match key {
-        Some(key) => {
-            let place = key.place.saturating_sub(1);
-            Some(SimpleKey {
-                required: key.required,
-                place,
-                mark: key.mark,
-            })
-        }
-        None => None,
     }
 }
 
@@ -113,11 +88,33 @@ fn any_front(keys: &[Option<SimpleKey>]) -> bool
     keys.iter().any(|key| is_front(*key))
 }
 
+/// What began on an earlier line, or too far back, is no key.
+fn drop_one(key: &mut Option<SimpleKey>, mark: Marker)
+    ensures { key.new ≡ still_simple mark key.old }
+{
+    let far = match key {
+        Some(simple) => is_far(simple.mark, mark),
+        None => false,
+    };
+    if far {
+        *key = None;
+    }
+}
+
+/// A token was handed out before a key.
+fn lower_one(key: &mut Option<SimpleKey>)
+    ensures { key.new ≡ lowered key.old }
+{
+    if let Some(simple) = key {
+        simple.place = simple.place.saturating_sub(1);
+    }
+}
+
 fn drop_far(keys: &mut [Option<SimpleKey>], mark: Marker)
     ensures { keys.new ≡ map (still_simple mark) keys.old }
 {
     'keys: for key in keys.iter_mut() {
-        *key = still(*key, mark);
+        drop_one(key, mark);
     }
 }
 
@@ -125,7 +122,7 @@ fn lower_all(keys: &mut [Option<SimpleKey>])
     ensures { keys.new ≡ map lowered keys.old }
 {
     'keys: for key in keys.iter_mut() {
-        *key = lowered(*key);
+        lower_one(key);
     }
 }
 

@@ -67,6 +67,7 @@ impl Queue {
     }
 
     /// An `Err` changes nothing.
+    #[inline(always)]
     #[tactic(auto, using(crate::proofs::QueueLemmas::push_shown, crate::proofs::QueueLemmas::push_keeps))]
     pub fn push(&mut self, token: Token) -> Result<(), AllocError>
         ensures ok { OnOk result (self.new ≡ record self.old { all = self.old.all ++ shown token ∷ [] }) }
@@ -81,6 +82,7 @@ impl Queue {
     }
 
     /// Inserts a token before that many that wait. An `Err` changes nothing.
+    #[inline(always)]
     #[tactic(auto, using(crate::proofs::QueueLemmas::insert_min_shown, crate::proofs::QueueLemmas::insert_keeps))]
     pub fn insert(&mut self, place: usize, token: Token) -> Result<(), AllocError>
         ensures ok { OnOk result (self.new ≡ record self.old { all = insert self.old.all (self.old.given + place) (shown token) }) }
@@ -129,6 +131,7 @@ impl Queue {
     }
 
     /// Hands out the next token.
+    #[inline(always)]
     #[tactic(auto, using(crate::proofs::QueueLemmas::give_shown, crate::proofs::QueueLemmas::give_len))]
     pub fn pop(&mut self) -> Option<Token>
         ensures none { IsNone result → (self.new ≡ self.old) × (waiting self.old ≡ 0) × (self.old.ended ≡ true → self.old.over ≡ true) }
@@ -145,6 +148,7 @@ impl Queue {
     }
 }
 
+#[inline(always)]
 fn property_of(token: &Token) -> Option<Marker>
     ensures { result ≡ property_place (shown token.now).tok (shown token.now).place }
 {

@@ -1,6 +1,9 @@
-use Rattle.yaml_chars.proofs.RunLemmas.{Reads-map}
-use Rattle.scalar_model.proofs.RunLemmas.{plain_ran}
+use Rattle.std.proofs.Common.{◌≡◌, ◌∙◌}
+use Rattle.yaml_chars.proofs.ReadingLemmas.{Reads-then}
+use Rattle.scalar_model.proofs.RunLemmas.{plain_run}
 use Rattle.yaml_scalars.proofs.plain.read_word.Goals as goal
 
-pub returns-clause-ok : goal.returns-clause-ok
-returns-clause-ok g c = Reads-map _ _ c.in_ok-take_run.ensures.ok (λ a b e. plain_ran _ _ a b _ _ _ _ e)
+pub run-preserved : goal.run-preserved
+run-preserved g c =
+    let on = c.in-Some.ensures.on in
+    Reads-then _ _ _ c.run.invariant c.in-Some.ensures.taken.1 (λ a b d e f. e ∙ (rw (f, on.at, on.line, on.col, c.in_ok-push.ensures) (plain_run _ _ _ d _ _ c.in-Some.ensures.taken.0)))
