@@ -1,4 +1,4 @@
-//! How trees are dropped: they take no memory, and so many stack frames at most, however deep they are.
+//! How trees are dropped: without memory, and in a bounded number of stack frames, however deep they are.
 ghost use Rattle.std.specs.Prelude.{◌≡◌, ◌<◌, ◌≤◌, ◌++◌, ◌∷◌, [], true, false, IfSome, IfNone, ◌+◌, vec_len, vec_capacity};
 ghost use Rattle.yaml_tree.specs.View.{view, pair_view, pairs_view, array_tree, hash_tree};
 ghost use Rattle.tree_defs.specs.Pairs.{AreDistinct};
