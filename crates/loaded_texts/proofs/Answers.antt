@@ -84,7 +84,7 @@ begins_too : (keep_tags : Bool) (tokens : List Token) (es fs : List (Ev × Place
 begins_too keep_tags tokens es fs b =
     let stream = placed_stream keep_tags (tokens ++ b.more_tokens) ((es ++ fs) ++ b.more_events) b.stream in
     let parts : events_of ((es ++ fs) ++ b.more_events) ≡ events_of es ++ events_of (fs ++ b.more_events) =
-        ap events_of (append_assoc es fs b.more_events) ∙ events_append es (fs ++ b.more_events) in
+    ap events_of (append_assoc es fs b.more_events) ∙ events_append es (fs ++ b.more_events) in
     record {
       more_tokens = toks b.more_tokens;
       more_events = events_of (fs ++ b.more_events);
@@ -160,9 +160,9 @@ ends_whole {takes = takes} {r = r} {s = s} {text = text} answers p b clear h rec
 
 fault_of : (text : List ℕ) (answers : List (Answer Fault)) (p : Parsed) (f : Fault) → Behind text answers p → Explains f p → IsFaultOf p.keep_tags text f
 fault_of text answers p f b why = elim why [
-    | inl kept ↦ by_scanner f.memory refl kept
-    | inr other ↦ elim other [ inl memory ↦ wants_memory memory | inr cut ↦ by_grammar (cut b.steady) ]
-    ]
+  | inl kept ↦ by_scanner f.memory refl kept
+  | inr other ↦ elim other [ inl memory ↦ wants_memory memory | inr cut ↦ by_grammar (cut b.steady) ]
+]
   where
     refusal : (o : Option Fault) → o ≡ Some f → IfSome o (λ g. g.memory ≡ false → IsRefusal text g) → f.memory ≡ false → IsRefusal text f
     refusal None e h m = cc
@@ -203,7 +203,7 @@ not_misplaced text answers p q b e taken = by (b.followed clear)
             let stream = placed_stream p.keep_tags (follows.before ++ follows.begins.more_tokens) all follows.begins.stream in
             let pushed = all_are_pushed p.keep_tags (toks (follows.before ++ follows.begins.more_tokens)) all stream in
             let are : given Fault all ≡ answers ++ given Fault more =
-                given_append Fault (read p) more ∙ ap (λ es. given Fault es ++ given Fault more) same ∙ ap (λ bs. bs ++ given Fault more) (sym (given_alone answers p (b.noted clear) going)) in
+            given_append Fault (read p) more ∙ ap (λ es. given Fault es ++ given Fault more) same ∙ ap (λ bs. bs ++ given Fault more) (sym (given_alone answers p (b.noted clear) going)) in
             well_is_not (ended_within Fault all answers (given Fault more) pushed are (subst (λ x. IsOver x) (sym e) tt)).1
 
 begins_text : (text : List ℕ) (answers : List (Answer Fault)) (p : Parsed) (es : List (Ev × Place)) (e : Ev × Place) → Behind text answers p → p.fault ≡ None → (so answers).pushed ≡ es ++ e ∷ []

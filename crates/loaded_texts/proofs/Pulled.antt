@@ -111,4 +111,3 @@ pub events_are_clear : {p q : Parsed} {answers : List (Answer Fault)} (es : List
 events_are_clear es clear no_call h = clear
 events_are_clear es clear (one_call (event e p) calls gives) h = gives.sound.fault
 events_are_clear es clear (one_call {answers = answers} (fault f) calls gives) h = absurd (last_is_event answers f es h)
-

@@ -161,7 +161,7 @@ all_tokens text given d reached e =
     let among = end_among given (stream_tokens d) (stream d) (sym e) in
     let more = reached.begins.more in
     let at : reached.last.held.tokens ≡ among.before ++ among.end ∷ (among.more ++ more) =
-        reached.begins.whole ∙ ap (λ xs. xs ++ more) among.whole ∙ append_assoc among.before (among.end ∷ among.more) more in
+    reached.begins.whole ∙ ap (λ xs. xs ++ more) among.whole ∙ append_assoc among.before (among.end ∷ among.more) more in
     let last = end_is_last text reached.last among.before (among.more ++ more) among.end reached.run at among.is_end in
     record {
       end = reached.last;

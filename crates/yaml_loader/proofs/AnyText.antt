@@ -69,7 +69,7 @@ not_refused keep_tags tokens es p b = by (with_events new_loader es) refl
         let nested = stream_nests keep_tags (tokens ++ b.more_tokens) (events_of es ++ b.more_events) b.stream in
         let read = one_by_one nested.0 all (with_somewhere es b.more_events ∙ sym nested.1) in
         let stays : with_events new_loader all ≡ unfinished.refused documents q =
-            events_append new_loader es (map somewhere b.more_events) ∙ ap (λ x. with_events x (map somewhere b.more_events)) e ∙ refused_stays documents q (map somewhere b.more_events) in
+        events_append new_loader es (map somewhere b.more_events) ∙ ap (λ x. with_events x (map somewhere b.more_events)) e ∙ refused_stays documents q (map somewhere b.more_events) in
         nothing_read_refused (reading nested.0) documents q (subst (HasRead (reading nested.0)) stays read)
 
 -- ---- how the loader is left
@@ -82,9 +82,9 @@ LeftBy keep_tags text (Err f) n = IsFaultOf keep_tags text f
 refuses_for_memory : {keep_tags : Bool} {text : List ℕ} (es : List (Ev × Place)) (e : Ev) (p : Place) (f : Fault) → IsNewFault f p (with_event_at (with_events new_loader es) e p) → BeginsEvents keep_tags text (es ++ (e, p) ∷ [])
     → f.memory ≡ true
 refuses_for_memory {keep_tags} es e p f why b = elim why [
-    | inl memory ↦ ap (λ g. g.memory) memory
-    | inr nesting ↦ absurd (not_refused keep_tags (toks b.before) (es ++ (e, p) ∷ []) p b.begins (ap refused_at (with_last new_loader es e p) ∙ nesting.1))
-    ]
+  | inl memory ↦ ap (λ g. g.memory) memory
+  | inr nesting ↦ absurd (not_refused keep_tags (toks b.before) (es ++ (e, p) ∷ []) p b.begins (ap refused_at (with_last new_loader es e p) ∙ nesting.1))
+]
 
 left_by : {l n : YamlLoader} {keep_tags : Bool} {text : List ℕ} {result : Result (Unit {0}) Fault} → loader_of l ≡ new_loader → kept_fault l ≡ None → AnswersText Takes keep_tags text l result n → LeftBy keep_tags text result n
 left_by {l} new clear (whole es h took) = (es, h, stands l new clear took)
