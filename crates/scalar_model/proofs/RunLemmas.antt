@@ -76,4 +76,4 @@ pub block_ran : (literal : Bool) (column : ℕ) (a b : List ℕ) (p q : Place) (
     ≡ block.lines_from literal column b (record { mode = block.line; place = q; lines = record l { text = u } })
 block_ran literal column a b p q l u h =
     through_run kind.Line (λ d r t. block.lines_from literal column d (record { mode = block.line; place = r; lines = record l { text = t } }))
-        (λ c d r t e. block_run literal column c d r (record l { text = t }) e) a b p q l.text u h
+    (λ c d r t e. block_run literal column c d r (record l { text = t }) e) a b p q l.text u h

@@ -93,7 +93,9 @@ impl Queue {
         let last = self.waiting.len();
         let place = place.min(last);
         let property = property_of(&token);
-        self.waiting.insert(place, token).map_err(|_| AllocError)?;
+        if self.waiting.insert(place, token).is_err() {
+            return Err(AllocError);
+        }
         if place == last {
             self.property = property;
         }
