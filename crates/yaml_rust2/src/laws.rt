@@ -13,7 +13,7 @@ pub use loaded_texts::laws::{
     json_texts_are_read_as_their_tree, json_texts_are_without_nul,
     layout_texts_are_read_as_their_tree, layout_texts_are_without_nul, read_texts_are_loaded,
     read_texts_are_not_refused, read_texts_have_no_fault_but_memory, read_texts_have_their_trees,
-    strings_are_the_text,
+    strings_are_the_text, texts_are_answered,
 };
 pub use read_json::laws::{
     foretold_events_are_not_refused, json_documents_read_as_their_trees, json_events_are_loaded,
