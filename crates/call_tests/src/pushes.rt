@@ -1,4 +1,5 @@
 use std::alloc::{AllocError, Global};
+use std::str::Chars;
 use std::test::Fail;
 use yaml_rust2::ScanError;
 use yaml_rust2::parser::{Event, EventReceiver, MarkedEventReceiver, Parser};
@@ -59,6 +60,49 @@ impl EventReceiver for Counted {
     }
 }
 
+// The calls below have no contract: a test knows nothing of what they did but what it compares.
+
+// What one call of `load` pushes, as words.
+fn pushed_words(
+    alloc: Global,
+    parser: &mut Parser<Chars<'_>>,
+    multi: bool,
+) -> Result<String, Fail> {
+    let mut pushed = Pushed::new(alloc, None);
+    parser.load(&mut pushed, multi).map_err(|_| "a fault")?;
+    Ok(pushed.words)
+}
+
+// The fault of a call of `load`, as words.
+fn pushed_fault(
+    alloc: Global,
+    parser: &mut Parser<Chars<'_>>,
+    refused: Option<usize>,
+) -> Result<String, Fail> {
+    let mut pushed = Pushed::new(alloc, refused);
+    let fault = parser.load(&mut pushed, true).err().ok_or("no fault")?;
+    fault_words(alloc, &fault)
+}
+
+// A fault's text and index.
+fn fault_words(alloc: Global, fault: &ScanError) -> Result<String, Fail> {
+    Ok(format!(in alloc; "{} {}", fault.info(), fault.marker().index())?)
+}
+
+// The next event, or the fault's text and index.
+fn pulled_words(alloc: Global, parser: &mut Parser<Chars<'_>>) -> Result<String, Fail> {
+    match parser.next_token() {
+        Ok((event, _)) => Ok(format!(in alloc; "{event:?}")?),
+        Err(fault) => fault_words(alloc, &fault),
+    }
+}
+
+// The event that a look shows.
+fn peeked_words(alloc: Global, parser: &mut Parser<Chars<'_>>) -> Result<String, Fail> {
+    let (event, _) = parser.peek().map_err(|_| "a fault")?;
+    Ok(format!(in alloc; "{event:?}")?)
+}
+
 #[test]
 fn documents_are_pushed_one_by_one(rt: HostRuntime) -> Result<(), Fail> {
     let mut parser = Parser::new_from_str(rt.alloc(), "--- 1\n--- 2");
@@ -68,9 +112,7 @@ fn documents_are_pushed_one_by_one(rt: HostRuntime) -> Result<(), Fail> {
         "StreamEnd ",
         "StreamEnd ",
     ] {
-        let mut pushed = Pushed::new(rt.alloc(), None);
-        parser.load(&mut pushed, false).map_err(|_| "a fault")?;
-        assert_eq!(rt; pushed.words.as_str(), want);
+        assert_eq!(rt; pushed_words(rt.alloc(), &mut parser, false)?.as_str(), want);
     }
     Ok(())
 }
@@ -78,12 +120,15 @@ fn documents_are_pushed_one_by_one(rt: HostRuntime) -> Result<(), Fail> {
 #[test]
 fn all_documents_are_pushed(rt: HostRuntime) -> Result<(), Fail> {
     let mut parser = Parser::new_from_str(rt.alloc(), "--- 1\n--- [a]");
-    let mut pushed = Pushed::new(rt.alloc(), None);
-    parser.load(&mut pushed, true).map_err(|_| "a fault")?;
     assert_eq!(rt;
-        pushed.words.as_str(),
+        pushed_words(rt.alloc(), &mut parser, true)?.as_str(),
         "StreamStart DocumentStart 1 DocumentEnd DocumentStart SequenceStart(0, None) a SequenceEnd DocumentEnd StreamEnd "
     );
+    Ok(())
+}
+
+#[test]
+fn a_receiver_may_look_at_events_alone(rt: HostRuntime) -> Result<(), Fail> {
     let mut parser = Parser::new_from_str(rt.alloc(), "--- 1\n--- [a]");
     let mut counted = Counted { count: 0 };
     parser.load(&mut counted, true).map_err(|_| "a fault")?;
@@ -94,51 +139,46 @@ fn all_documents_are_pushed(rt: HostRuntime) -> Result<(), Fail> {
 #[test]
 fn a_peeked_event_is_pushed_first(rt: HostRuntime) -> Result<(), Fail> {
     let mut parser = Parser::new_from_str(rt.alloc(), "a");
-    let is_start = matches!(parser.peek().map_err(|_| "a fault")?.0, Event::StreamStart);
-    assert!(rt; is_start);
-    let mut pushed = Pushed::new(rt.alloc(), None);
-    parser.load(&mut pushed, false).map_err(|_| "a fault")?;
+    assert_eq!(rt; peeked_words(rt.alloc(), &mut parser)?.as_str(), "StreamStart");
     assert_eq!(rt;
-        pushed.words.as_str(),
+        pushed_words(rt.alloc(), &mut parser, false)?.as_str(),
         "StreamStart DocumentStart a DocumentEnd "
     );
+    Ok(())
+}
+
+#[test]
+fn a_peeked_event_is_pulled_next(rt: HostRuntime) -> Result<(), Fail> {
     let mut parser = Parser::new_from_str(rt.alloc(), "a");
-    let _ = parser.peek().map_err(|_| "a fault")?;
-    let (event, _) = parser.next_token().map_err(|_| "a fault")?;
-    assert!(rt; matches!(event, Event::StreamStart));
+    assert_eq!(rt; peeked_words(rt.alloc(), &mut parser)?.as_str(), "StreamStart");
+    assert_eq!(rt; pulled_words(rt.alloc(), &mut parser)?.as_str(), "StreamStart");
     Ok(())
 }
 
 #[test]
 fn pushing_inside_a_document_is_refused_for_good(rt: HostRuntime) -> Result<(), Fail> {
-    let mut parser = Parser::new_from_str(rt.alloc(), "[1, 2]");
-    for _ in 0..2 {
-        let _ = parser.next_token().map_err(|_| "a fault")?;
+    let alloc = rt.alloc();
+    let refusal = "did not find expected <document-start> 0";
+    let mut parser = Parser::new_from_str(alloc, "[1, 2]");
+    for want in ["StreamStart", "DocumentStart"] {
+        assert_eq!(rt; pulled_words(alloc, &mut parser)?.as_str(), want);
     }
-    let mut pushed = Pushed::new(rt.alloc(), None);
     for _ in 0..2 {
-        let fault = parser.load(&mut pushed, true).err().ok_or("no fault")?;
-        assert_eq!(rt; fault.info(), "did not find expected <document-start>");
-        assert_eq!(rt; fault.marker().index(), 0);
+        assert_eq!(rt; pushed_fault(alloc, &mut parser, Some(1))?.as_str(), refusal);
     }
-    let kept = parser.next_token().err().ok_or("no fault")?;
-    assert_eq!(rt; kept.info(), "did not find expected <document-start>");
-    assert_eq!(rt; pushed.words.as_str(), "");
+    assert_eq!(rt; pulled_words(alloc, &mut parser)?.as_str(), refusal);
     Ok(())
 }
 
 #[test]
 fn what_a_receiver_answers_is_not_kept(rt: HostRuntime) -> Result<(), Fail> {
-    let mut parser = Parser::new_from_str(rt.alloc(), "[1, 2]");
-    let mut pushed = Pushed::new(rt.alloc(), Some(3));
-    let fault = parser.load(&mut pushed, true).err().ok_or("no fault")?;
-    assert_eq!(rt; fault.info(), "stop");
-    let (event, _) = parser.next_token().map_err(|_| "a fault")?;
-    let is_one = match event {
-        Event::Scalar(text, _, _, _) => text.as_str() == "1",
-        _ => false,
-    };
-    assert!(rt; is_one);
+    let alloc = rt.alloc();
+    let mut parser = Parser::new_from_str(alloc, "[1, 2]");
+    assert_eq!(rt; pushed_fault(alloc, &mut parser, Some(3))?.as_str(), "stop 0");
+    assert_eq!(rt;
+        pulled_words(alloc, &mut parser)?.as_str(),
+        "Scalar(\"1\", Plain, 0, None)"
+    );
     Ok(())
 }
 
@@ -147,29 +187,33 @@ fn pulled(alloc: Global, text: &str, peeks: bool) -> Result<String, Fail> {
     let mut parser = Parser::new_from_str(alloc, text);
     let mut out = String::new(alloc);
     for _ in 0..100 {
-        if peeks {
-            let _ = parser.peek();
-        }
-        match parser.next_token() {
-            Ok((event, mark)) => {
-                let shown = format!(in alloc;
-                    "{event:?} {} {} {}\n",
-                    mark.index(),
-                    mark.line(),
-                    mark.col()
-                )?;
-                out.push_str(shown.as_str())?;
-                if event == Event::StreamEnd {
-                    break;
-                }
-            }
-            Err(fault) => {
-                out.push_str(format!(in alloc; "{fault}")?.as_str())?;
-                break;
-            }
+        let next = one_pull(alloc, &mut parser, peeks)?;
+        out.push_str(next.as_str())?;
+        if next.as_str().starts_with("StreamEnd") {
+            break;
         }
     }
     Ok(out)
+}
+
+// The next event with its place, behind a look where `peeks`; or the fault.
+fn one_pull(
+    alloc: Global,
+    parser: &mut Parser<Chars<'_>>,
+    peeks: bool,
+) -> Result<String, Fail> {
+    if peeks {
+        let _ = parser.peek();
+    }
+    match parser.next_token() {
+        Ok((event, mark)) => Ok(format!(in alloc;
+            "{event:?} {} {} {}\n",
+            mark.index(),
+            mark.line(),
+            mark.col()
+        )?),
+        Err(fault) => Ok(format!(in alloc; "{fault}\n")?),
+    }
 }
 
 #[test]

@@ -1,5 +1,6 @@
 //! Tokens, events and their places.
 use std::alloc::Global;
+use std::str::Chars;
 use std::test::Fail;
 use yaml_rust2::YamlLoader;
 use yaml_rust2::parser::{Event, Parser};
@@ -38,26 +39,38 @@ fn tokens_come_in_order(rt: HostRuntime) -> Result<(), Fail> {
     Ok(())
 }
 
+// The next event: whether it is the stream's end, and its words with its place if it is a scalar or an alias.
+fn scalar_words(
+    alloc: Global,
+    parser: &mut Parser<Chars<'_>>,
+) -> Result<(bool, Option<String>), Fail> {
+    let (event, mark) = parser.next_token().map_err(|_| "a fault")?;
+    let words = match event {
+        Event::Scalar(_, _, _, _) | Event::Alias(_) => Some(format!(in alloc;
+            "{event:?} {} {} {}",
+            mark.index(),
+            mark.line(),
+            mark.col()
+        )?),
+        _ => None,
+    };
+    Ok((event == Event::StreamEnd, words))
+}
+
 // The event of the last scalar, with its place.
 fn last_scalar(alloc: Global, text: &str) -> Result<String, Fail> {
     let mut parser = Parser::new_from_str(alloc, text);
-    let mut shown = String::new(alloc);
+    let mut last = String::new(alloc);
     for _ in 0..100 {
-        let (event, mark) = parser.next_token().map_err(|_| "a fault")?;
-        match event {
-            Event::Scalar(_, _, _, _) | Event::Alias(_) => {
-                shown = format!(in alloc;
-                    "{event:?} {} {} {}",
-                    mark.index(),
-                    mark.line(),
-                    mark.col()
-                )?;
-            }
-            Event::StreamEnd => return Ok(shown),
-            _ => {}
+        let (ends, words) = scalar_words(alloc, &mut parser)?;
+        if let Some(words) = words {
+            last = words;
+        }
+        if ends {
+            break;
         }
     }
-    Ok(shown)
+    Ok(last)
 }
 
 #[test]
