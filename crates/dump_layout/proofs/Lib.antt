@@ -1,0 +1,5 @@
+mod DumpLayout
+mod Texts
+mod Trees
+mod Validity
+pub mod Whole
