@@ -1,13 +1,12 @@
 -- What a load answers of any text, by a parser that is at its start.
 use Rattle.std.proofs.Common.{◌≡◌, ℕ, true, false, Bool, List, [], ◌∷◌, ◌++◌, length, Some, None, Ok, refl, sym, ap, ◌∙◌, subst, append_assoc, append-nil, inl, inr}
-use Rattle.std.specs.Prelude.{map, Option, IfSome, Result, Err, ◌||◌}
+use Rattle.std.specs.Prelude.{Option, IfSome, Result, ◌||◌}
 use Rattle.std.proofs.lemmas.List.{map-append}
 use Rattle.yaml_chars.specs.Place.{Place}
 use Rattle.token_defs.specs.Token.{Tok, Token}
 use Rattle.yaml_tokens.specs.Fault.{Fault}
 use Rattle.event_defs.specs.Event.{Ev}
 use Rattle.event_defs.specs.Stream.{IsStream, IsPlacedStream, Begins, BeginsPlaced, Foretells, NoneBegins, toks, events_of}
-use Rattle.event_defs.specs.Nested.{NestedDocument, IsNested, nested_stream}
 use Rattle.event_defs.specs.PulledList.{Answer, event, fault, given}
 use Rattle.event_defs.specs.Push as run
 use Rattle.event_defs.specs.Push.{Standing, load, load_from, before_stream, between, inside}
@@ -15,7 +14,7 @@ use Rattle.event_defs.proofs.AllPushed.{all_pushed}
 use Rattle.event_defs.proofs.StreamNests.{stream_nests}
 use Rattle.yaml_scanner.specs.Scanned.{ScansIn, IsRefusal}
 use Rattle.yaml_parser.specs.Parsed.{Parsed, is_stream_end, has_end, read}
-use Rattle.yaml_parser.specs.Follows.{Follows, Refused, IsWhole, Explains, listed}
+use Rattle.yaml_parser.specs.Follows.{Follows, Refused, IsWhole, Explains}
 use Rattle.yaml_parser.specs.Loads as loads
 use Rattle.yaml_parser.specs.Loads.{PullsAll, no_call, one_call, Receives, EndsSo, Loads}
 use Rattle.loaded_texts.specs.TextReadAs.{IsAtStart}

@@ -1,8 +1,10 @@
 pub mod Answers
+pub mod Dumps
 pub mod JsonNul
 pub mod LayoutNul
 pub mod Loads
 mod Nul
+pub mod OneReading
 pub mod Pulled
 pub mod Runs
 pub mod Spelled

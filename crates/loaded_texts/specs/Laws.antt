@@ -8,9 +8,11 @@ use Rattle.yaml_chars.specs.Place.{Place}
 use Rattle.yaml_chars.specs.Source.{CameFrom}
 use Rattle.yaml_chars.specs.Reading.{HasNoNul, up_to_nul}
 use Rattle.tree_defs.specs.Tree.{Tree}
+use Rattle.tree_defs.specs.DumpText.{dump_text}
 use Rattle.layout_defs.specs.Json.{JsonText, IsWellFormed, spell_text, tree_of}
 use Rattle.layout_defs.specs.Layout as layout
 use Rattle.layout_defs.specs.Layout.{Layout, IsLayout}
+use Rattle.layout_defs.specs.DumpIsInjective.{CanBeWritten}
 use Rattle.yaml_tokens.specs.Fault.{Fault}
 use Rattle.event_defs.specs.Event.{Ev}
 use Rattle.event_defs.specs.Unfinished.{new_loader, with_events}
@@ -24,6 +26,12 @@ use Rattle.loaded_texts.specs.TextReadAs.{IsReadAs, IsAtStart}
 use Rattle.loaded_texts.specs.TextEvents.{AnswersText}
 use Rattle.loaded_texts.specs.LoadsAs.{LoadsAs}
 use Rattle.loaded_texts.specs.Spelled.{IsWithoutNul}
+
+-- ---- texts that are read as trees
+
+-- `texts_are_read_in_one_way`
+abbrev pub TextsAreReadInOneWay : Type 0
+TextsAreReadInOneWay = (keep_tags : Bool) (text : List ℕ) (trees others : List Tree) → IsReadAs keep_tags text trees → IsReadAs keep_tags text others → trees ≡ others
 
 -- ---- a parser somewhere in a text
 
@@ -88,6 +96,12 @@ LayoutTextsAreReadAsTheirTree = (keep_tags : Bool) (w : Layout) → IsLayout w �
 -- `layout_texts_are_without_nul`
 abbrev pub LayoutTextsAreWithoutNul : Type 0
 LayoutTextsAreWithoutNul = (w : Layout) → IsLayout w → IsWithoutNul (layout.spell w [])
+
+-- ---- dumps
+
+-- `dumps_are_read_as_their_tree`, in each setting
+abbrev pub DumpsAreReadAsTheirTree : Type 0
+DumpsAreReadAsTheirTree = (keep_tags compact multiline : Bool) (t : Tree) → CanBeWritten t → IsReadAs keep_tags (dump_text compact multiline t) (t ∷ [])
 
 -- ---- the text behind an iterator
 

@@ -3,9 +3,16 @@
 ghost use Rattle.loaded_texts.specs.Laws.{ReadTextsAreNotRefused, ReadTextsHaveNoFaultButMemory, EventsOfReadTextsAreRead, ReadTextsHaveTheirTrees};
 ghost use Rattle.loaded_texts.specs.Laws.{JsonTextsAreReadAsTheirTree, JsonTextsAreWithoutNul, ReadTextsAreLoaded, JsonTextsAreLoaded};
 ghost use Rattle.loaded_texts.specs.Laws.{LayoutTextsAreReadAsTheirTree, LayoutTextsAreWithoutNul};
+ghost use Rattle.loaded_texts.specs.Laws.{TextsAreReadInOneWay, DumpsAreReadAsTheirTree};
+ghost use Rattle.layout_defs.specs.DumpIsInjective.{DumpIsInjective};
 ghost use Rattle.loaded_texts.specs.Laws.{TextsAreAnswered, CharactersAreTheText, StringsAreTheText};
 
 use yaml_parser::MarkedEventReceiver;
+
+/// The trees that a text is read as are the only ones.
+pub fn texts_are_read_in_one_way()
+    ensures { TextsAreReadInOneWay }
+{}
 
 /// No parser refuses a token of a text that is read as trees.
 pub fn read_texts_are_not_refused()
@@ -45,6 +52,16 @@ pub fn layout_texts_are_read_as_their_tree()
 /// No text laid out in lines has a NUL.
 pub fn layout_texts_are_without_nul()
     ensures { LayoutTextsAreWithoutNul }
+{}
+
+/// In each setting, the text that is written for a tree that can be written is read as that one tree.
+pub fn dumps_are_read_as_their_tree()
+    ensures { DumpsAreReadAsTheirTree }
+{}
+
+/// So in each setting, no two trees that can be written have one text.
+pub fn dumps_are_injective()
+    ensures { DumpIsInjective }
 {}
 
 /// A load by a parser at its start pushes all events of its text; or it has a fault of which the text, or want of memory,

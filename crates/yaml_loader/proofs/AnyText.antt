@@ -24,6 +24,7 @@ use Rattle.loaded_texts.proofs.Answers.{texts_are_answered}
 use Rattle.yaml_loader.specs.declared.loader.Course.{Course}
 use Rattle.yaml_loader.specs.declared.loader.Course.TheVariants as course
 use Rattle.yaml_loader.specs.declared.loader.YamlLoader.{YamlLoader}
+use Rattle.loaded_texts.proofs.OneReading.{somewhere, with_somewhere}
 use Rattle.yaml_loader.specs.Alike.{StandAlike}
 use Rattle.yaml_loader.specs.View.{unfinished_of, repeated_key}
 use Rattle.yaml_loader.specs.Loading.{loader_of, loader_by, kept_fault, IsNewFault, Takes}
@@ -34,15 +35,6 @@ use Rattle.yaml_loader.specs.TextLoads.{OfTexts}
 use Rattle.yaml_loader.proofs.LoadLemmas.{with_last, StandsBehind, stands, new_fault, key_noted}
 
 -- ---- events with which a stream's begin are not refused
-
--- an event at a place that does not count
-abbrev pub somewhere : Ev → Ev × Place
-somewhere e = (e, record { index = 0; line = 1; col = 0 })
-
-pub with_somewhere : (es : List (Ev × Place)) (fs : List Ev) → events_of (es ++ map somewhere fs) ≡ events_of es ++ fs
-with_somewhere [] [] = refl
-with_somewhere [] (f ∷ fs) = ap (λ vs. f ∷ vs) (with_somewhere [] fs)
-with_somewhere (e ∷ es) fs = ap (λ vs. e.0 ∷ vs) (with_somewhere es fs)
 
 events_append : (x : Loader) (es fs : List (Ev × Place)) → with_events x (es ++ fs) ≡ with_events (with_events x es) fs
 events_append x [] fs = refl

@@ -31,34 +31,13 @@ use Rattle.yaml_parser.specs.Parsed.{Parsed}
 use Rattle.loaded_texts.specs.TextReadAs.{IsReadAs, IsAtStart}
 use Rattle.loaded_texts.specs.Spelled.{IsWithoutNul}
 use Rattle.loaded_texts.proofs.Loads.{memory_is_wanted}
+use Rattle.loaded_texts.proofs.OneReading.{one_reading}
 use Rattle.loaded_texts.proofs.Spelled.{characters_are_the_text, json_texts_are_read, layout_texts_are_read}
 use Rattle.loaded_texts.proofs.JsonNul.{json_texts_have_no_nul}
 use Rattle.loaded_texts.proofs.LayoutNul.{layout_texts_have_no_nul}
 use Rattle.yaml_loader.specs.TextLoads.{LoadsText, LoadsOnly, OfTexts, OfText, OfGiven, OfJson, OfLayout}
 use Rattle.yaml_loader.specs.Unread.{of_parser}
 use Rattle.yaml_loader.specs.Unread as unread
-use Rattle.yaml_loader.proofs.AnyText.{somewhere, with_somewhere}
-
--- ---- a text is read in one way
-
-read_again : (r q : Result (List Tree) Tree) (x : Loader) → HasRead r x → HasRead q x → {trees : List Tree} → q ≡ Ok trees → r ≡ Ok trees
-read_again (Ok ts) (Ok us) (at_work u) h k e = ap Ok (sym h.0 ∙ k.0) ∙ e
-read_again (Ok ts) (Ok us) (noted documents key p) h k e = absurd h
-read_again (Ok ts) (Ok us) (unfinished.refused documents p) h k e = absurd h
-read_again (Err key) (Ok us) (at_work u) h k e = absurd h
-read_again (Err key) (Ok us) (noted documents k' p) h k e = absurd k
-read_again (Err key) (Ok us) (unfinished.refused documents p) h k e = absurd k
-read_again r (Err key) x h k e = cc
-
--- Documents whose events the text has are read as the trees that it is read as.
-one_reading : {keep_tags : Bool} {text : List ℕ} {trees : List Tree} (tokens : List Tok) (documents : List NestedDocument) → HasToks text tokens → IsStream keep_tags tokens (nested_stream documents)
-    → IsReadAs keep_tags text trees → reading documents ≡ Ok trees
-one_reading {keep_tags} {text} tokens documents has stream x =
-    let same : tokens ≡ x.tokens = sym has.2 ∙ ap toks (one_list text has.0 x.has.0 has.1 x.has.1) ∙ x.has.2 in
-    let events = grammar.one_list keep_tags tokens (nested_stream documents) (nested_stream x.read.documents) stream (subst (λ ts. IsStream keep_tags ts (nested_stream x.read.documents)) (sym same) x.read.stream) in
-    let es = map somewhere (nested_stream documents) in
-    let are = with_somewhere [] (nested_stream documents) in
-    read_again (reading documents) (reading x.read.documents) (with_events new_loader es) (one_by_one documents es are) (one_by_one x.read.documents es (are ∙ events)) x.read.trees_are
 
 -- So a load of a text that is read as trees answers just these.
 loads_only : {text : List ℕ} {trees : List Tree} (result : Result (Vec Yaml Global) Fault) → LoadsText false text result → IsReadAs false text trees → LoadsOnly result trees

@@ -1,4 +1,5 @@
 //! Laws: empty functions whose clause is a statement about the definitions, of all trees, texts, tokens or events.
+pub use dump_layout::laws::dumps_are_laid_out;
 pub use event_defs::laws::{
     loaded_integers_have_64_bits, loaded_trees_have_distinct_keys, loaded_trees_have_no_alias,
     multi_load_pushes_all_events, nested_events_are_read_one_by_one, nesting_test_is_exact,
@@ -9,11 +10,12 @@ pub use layout_defs::laws::{
     widely_laid_out_trees_are_sound,
 };
 pub use loaded_texts::laws::{
-    characters_are_the_text, events_of_read_texts_are_read, json_texts_are_loaded,
-    json_texts_are_read_as_their_tree, json_texts_are_without_nul,
-    layout_texts_are_read_as_their_tree, layout_texts_are_without_nul, read_texts_are_loaded,
-    read_texts_are_not_refused, read_texts_have_no_fault_but_memory, read_texts_have_their_trees,
-    strings_are_the_text, texts_are_answered,
+    characters_are_the_text, dumps_are_injective, dumps_are_read_as_their_tree,
+    events_of_read_texts_are_read, json_texts_are_loaded, json_texts_are_read_as_their_tree,
+    json_texts_are_without_nul, layout_texts_are_read_as_their_tree,
+    layout_texts_are_without_nul, read_texts_are_loaded, read_texts_are_not_refused,
+    read_texts_have_no_fault_but_memory, read_texts_have_their_trees, strings_are_the_text,
+    texts_are_answered, texts_are_read_in_one_way,
 };
 pub use read_json::laws::{
     foretold_events_are_not_refused, json_documents_read_as_their_trees, json_events_are_loaded,

@@ -1,0 +1,26 @@
+-- The texts that are written for trees are read as these trees.
+use Rattle.std.proofs.Common.{◌≡◌, [], ◌∷◌, true, sym, subst}
+use Rattle.tree_defs.specs.Tree.{Tree}
+use Rattle.tree_defs.specs.DumpText.{dump_text}
+use Rattle.layout_defs.specs.Layout as layout
+use Rattle.layout_defs.specs.DumpIsInjective.{DumpIsInjective}
+use Rattle.dump_layout.proofs.Whole.{dump_is_laid_out}
+use Rattle.loaded_texts.specs.TextReadAs.{IsReadAs}
+use Rattle.loaded_texts.specs.Laws.{DumpsAreReadAsTheirTree}
+use Rattle.loaded_texts.proofs.Spelled.{layout_texts_are_read}
+use Rattle.loaded_texts.proofs.OneReading.{texts_are_read_in_one_way}
+
+pub dumps_are_read : DumpsAreReadAsTheirTree
+dumps_are_read keep_tags compact multiline t is =
+    let laid = dump_is_laid_out compact multiline t is.0 is.1 is.2 in
+    let text = subst (λ s. IsReadAs keep_tags s (layout.tree_of laid.0 ∷ [])) laid.2 (layout_texts_are_read keep_tags laid.0 laid.1) in
+    subst (λ u. IsReadAs keep_tags (dump_text compact multiline t) (u ∷ [])) laid.3 text
+
+one_tree : {t u : Tree} → t ∷ [] ≡ u ∷ [] → t ≡ u
+one_tree e = cc
+
+pub dump_is_injective : DumpIsInjective
+dump_is_injective compact multiline t u is_t is_u same =
+    let read_t = dumps_are_read true compact multiline t is_t in
+    let read_u = subst (λ s. IsReadAs true s (u ∷ [])) (sym same) (dumps_are_read true compact multiline u is_u) in
+    one_tree (texts_are_read_in_one_way true (dump_text compact multiline t) (t ∷ []) (u ∷ []) read_t read_u)
