@@ -60,70 +60,99 @@ impl EventReceiver for Counted {
     }
 }
 
-// The calls below have no contract: a test knows nothing of what they did but what it compares.
-
-// What one call of `load` pushes, as words.
-fn pushed_words(
-    alloc: Global,
-    parser: &mut Parser<Chars<'_>>,
-    multi: bool,
-) -> Result<String, Fail> {
-    let mut pushed = Pushed::new(alloc, None);
-    parser.load(&mut pushed, multi).map_err(|_| "a fault")?;
-    Ok(pushed.words)
+// A call of a parser.
+#[derive(Clone, Copy)]
+enum Call {
+    Peek,
+    Pull,
+    // `load` of one document.
+    Load,
+    // `load` of all documents.
+    LoadAll,
+    // The same for a receiver that refuses the event of this rank.
+    Refuse(usize),
 }
 
-// The fault of a call of `load`, as words.
-fn pushed_fault(
+// The functions below have no contract, so that a row of calls makes no long proof.
+
+// What one call of `load` pushes, as words; or its fault.
+fn pushed(
     alloc: Global,
     parser: &mut Parser<Chars<'_>>,
     refused: Option<usize>,
+    multi: bool,
 ) -> Result<String, Fail> {
     let mut pushed = Pushed::new(alloc, refused);
-    let fault = parser.load(&mut pushed, true).err().ok_or("no fault")?;
-    fault_words(alloc, &fault)
+    match parser.load(&mut pushed, multi) {
+        Ok(()) => Ok(pushed.words),
+        Err(fault) => fault_words(alloc, &fault),
+    }
 }
 
 // A fault's text and index.
 fn fault_words(alloc: Global, fault: &ScanError) -> Result<String, Fail> {
-    Ok(format!(in alloc; "{} {}", fault.info(), fault.marker().index())?)
+    Ok(format!(in alloc; "{} {} ", fault.info(), fault.marker().index())?)
 }
 
-// The next event, or the fault's text and index.
-fn pulled_words(alloc: Global, parser: &mut Parser<Chars<'_>>) -> Result<String, Fail> {
-    match parser.next_token() {
-        Ok((event, _)) => Ok(format!(in alloc; "{event:?}")?),
+// An event, or the fault.
+fn event_words(alloc: Global, event: Result<&Event, ScanError>) -> Result<String, Fail> {
+    match event {
+        Ok(event) => Ok(format!(in alloc; "{event:?} ")?),
         Err(fault) => fault_words(alloc, &fault),
     }
 }
 
 // The event that a look shows.
-fn peeked_words(alloc: Global, parser: &mut Parser<Chars<'_>>) -> Result<String, Fail> {
-    let (event, _) = parser.peek().map_err(|_| "a fault")?;
-    Ok(format!(in alloc; "{event:?}")?)
+fn peeked(alloc: Global, parser: &mut Parser<Chars<'_>>) -> Result<String, Fail> {
+    event_words(alloc, parser.peek().map(|shown| &shown.0))
 }
 
-#[test]
-fn documents_are_pushed_one_by_one(rt: HostRuntime) -> Result<(), Fail> {
-    let mut parser = Parser::new_from_str(rt.alloc(), "--- 1\n--- 2");
-    for want in [
-        "StreamStart DocumentStart 1 DocumentEnd ",
-        "DocumentStart 2 DocumentEnd ",
-        "StreamEnd ",
-        "StreamEnd ",
-    ] {
-        assert_eq!(rt; pushed_words(rt.alloc(), &mut parser, false)?.as_str(), want);
+// The next event.
+fn pulled(alloc: Global, parser: &mut Parser<Chars<'_>>) -> Result<String, Fail> {
+    match parser.next_token() {
+        Ok((event, _)) => event_words(alloc, Ok(&event)),
+        Err(fault) => fault_words(alloc, &fault),
     }
-    Ok(())
+}
+
+// What a call shows.
+fn answer(alloc: Global, parser: &mut Parser<Chars<'_>>, call: Call) -> Result<String, Fail> {
+    match call {
+        Call::Peek => peeked(alloc, parser),
+        Call::Pull => pulled(alloc, parser),
+        Call::Load => pushed(alloc, parser, None, false),
+        Call::LoadAll => pushed(alloc, parser, None, true),
+        Call::Refuse(rank) => pushed(alloc, parser, Some(rank), true),
+    }
+}
+
+// What these calls show, one behind the other.
+fn answers(alloc: Global, text: &str, calls: &[Call]) -> Result<String, Fail> {
+    let mut parser = Parser::new_from_str(alloc, text);
+    let mut out = String::new(alloc);
+    for call in calls {
+        out.push_str(answer(alloc, &mut parser, *call)?.as_str())?;
+        out.push_str("/ ")?;
+    }
+    Ok(out)
 }
 
 #[test]
-fn all_documents_are_pushed(rt: HostRuntime) -> Result<(), Fail> {
-    let mut parser = Parser::new_from_str(rt.alloc(), "--- 1\n--- [a]");
-    assert_eq!(rt;
-        pushed_words(rt.alloc(), &mut parser, true)?.as_str(),
-        "StreamStart DocumentStart 1 DocumentEnd DocumentStart SequenceStart(0, None) a SequenceEnd DocumentEnd StreamEnd "
-    );
+fn documents_are_pushed(rt: HostRuntime) -> Result<(), Fail> {
+    for (text, calls, want) in [
+        (
+            "--- 1\n--- 2",
+            &[Call::Load, Call::Load, Call::Load, Call::Load][..],
+            "StreamStart DocumentStart 1 DocumentEnd / DocumentStart 2 DocumentEnd / StreamEnd / StreamEnd / ",
+        ),
+        (
+            "--- 1\n--- [a]",
+            &[Call::LoadAll][..],
+            "StreamStart DocumentStart 1 DocumentEnd DocumentStart SequenceStart(0, None) a SequenceEnd DocumentEnd StreamEnd / ",
+        ),
+    ] {
+        assert_eq!(rt; answers(rt.alloc(), text, calls)?.as_str(), want);
+    }
     Ok(())
 }
 
@@ -137,53 +166,50 @@ fn a_receiver_may_look_at_events_alone(rt: HostRuntime) -> Result<(), Fail> {
 }
 
 #[test]
-fn a_peeked_event_is_pushed_first(rt: HostRuntime) -> Result<(), Fail> {
-    let mut parser = Parser::new_from_str(rt.alloc(), "a");
-    assert_eq!(rt; peeked_words(rt.alloc(), &mut parser)?.as_str(), "StreamStart");
-    assert_eq!(rt;
-        pushed_words(rt.alloc(), &mut parser, false)?.as_str(),
-        "StreamStart DocumentStart a DocumentEnd "
-    );
-    Ok(())
-}
-
-#[test]
-fn a_peeked_event_is_pulled_next(rt: HostRuntime) -> Result<(), Fail> {
-    let mut parser = Parser::new_from_str(rt.alloc(), "a");
-    assert_eq!(rt; peeked_words(rt.alloc(), &mut parser)?.as_str(), "StreamStart");
-    assert_eq!(rt; pulled_words(rt.alloc(), &mut parser)?.as_str(), "StreamStart");
+fn a_peeked_event_comes_first(rt: HostRuntime) -> Result<(), Fail> {
+    for (calls, want) in [
+        (
+            &[Call::Peek, Call::Load][..],
+            "StreamStart / StreamStart DocumentStart a DocumentEnd / ",
+        ),
+        (
+            &[Call::Peek, Call::Peek, Call::Pull, Call::Pull][..],
+            "StreamStart / StreamStart / StreamStart / DocumentStart / ",
+        ),
+    ] {
+        assert_eq!(rt; answers(rt.alloc(), "a", calls)?.as_str(), want);
+    }
     Ok(())
 }
 
 #[test]
 fn pushing_inside_a_document_is_refused_for_good(rt: HostRuntime) -> Result<(), Fail> {
-    let alloc = rt.alloc();
-    let refusal = "did not find expected <document-start> 0";
-    let mut parser = Parser::new_from_str(alloc, "[1, 2]");
-    for want in ["StreamStart", "DocumentStart"] {
-        assert_eq!(rt; pulled_words(alloc, &mut parser)?.as_str(), want);
-    }
-    for _ in 0..2 {
-        assert_eq!(rt; pushed_fault(alloc, &mut parser, Some(1))?.as_str(), refusal);
-    }
-    assert_eq!(rt; pulled_words(alloc, &mut parser)?.as_str(), refusal);
+    let calls = &[
+        Call::Pull,
+        Call::Pull,
+        Call::Refuse(1),
+        Call::Refuse(1),
+        Call::Pull,
+        Call::Peek,
+    ][..];
+    assert_eq!(rt;
+        answers(rt.alloc(), "[1, 2]", calls)?.as_str(),
+        "StreamStart / DocumentStart / did not find expected <document-start> 0 / did not find expected <document-start> 0 / did not find expected <document-start> 0 / did not find expected <document-start> 0 / "
+    );
     Ok(())
 }
 
 #[test]
 fn what_a_receiver_answers_is_not_kept(rt: HostRuntime) -> Result<(), Fail> {
-    let alloc = rt.alloc();
-    let mut parser = Parser::new_from_str(alloc, "[1, 2]");
-    assert_eq!(rt; pushed_fault(alloc, &mut parser, Some(3))?.as_str(), "stop 0");
     assert_eq!(rt;
-        pulled_words(alloc, &mut parser)?.as_str(),
-        "Scalar(\"1\", Plain, 0, None)"
+        answers(rt.alloc(), "[1, 2]", &[Call::Refuse(3), Call::Pull][..])?.as_str(),
+        "stop 0 / Scalar(\"1\", Plain, 0, None) / "
     );
     Ok(())
 }
 
 // What a parser gives by pulls, each after a look where `peeks`.
-fn pulled(alloc: Global, text: &str, peeks: bool) -> Result<String, Fail> {
+fn all_pulled(alloc: Global, text: &str, peeks: bool) -> Result<String, Fail> {
     let mut parser = Parser::new_from_str(alloc, text);
     let mut out = String::new(alloc);
     for _ in 0..100 {
@@ -197,11 +223,7 @@ fn pulled(alloc: Global, text: &str, peeks: bool) -> Result<String, Fail> {
 }
 
 // The next event with its place, behind a look where `peeks`; or the fault.
-fn one_pull(
-    alloc: Global,
-    parser: &mut Parser<Chars<'_>>,
-    peeks: bool,
-) -> Result<String, Fail> {
+fn one_pull(alloc: Global, parser: &mut Parser<Chars<'_>>, peeks: bool) -> Result<String, Fail> {
     if peeks {
         let _ = parser.peek();
     }
@@ -233,8 +255,8 @@ fn events_are_the_same_behind_a_peek(rt: HostRuntime) -> Result<(), Fail> {
         "a1: &DEFAULT\n    b1: 4\n    b2: d\na2: *DEFAULT\n",
         "\n# syntax error\nscalar\nkey: [1, 2]]\nkey1:a2\n",
     ] {
-        let alone = pulled(rt.alloc(), text, false)?;
-        let behind_a_peek = pulled(rt.alloc(), text, true)?;
+        let alone = all_pulled(rt.alloc(), text, false)?;
+        let behind_a_peek = all_pulled(rt.alloc(), text, true)?;
         assert_eq!(rt; alone.as_str(), behind_a_peek.as_str());
     }
     Ok(())

@@ -141,14 +141,18 @@ fn nodes_give_their_contents(rt: HostRuntime) -> Result<(), Fail> {
     Ok(())
 }
 
-#[test]
-fn deep_trees_are_dropped(rt: HostRuntime) -> Result<(), Fail> {
-    let alloc = rt.alloc();
+// So many dashes, each a level.
+fn dashes(alloc: Global, count: u32) -> Result<String, Fail> {
     let mut text = String::new(alloc);
-    for _ in 0..100000u32 {
+    for _ in 0..count {
         text.push_str("- ")?;
     }
-    let documents = YamlLoader::load_from_str(alloc, text.as_str()).map_err(|_| "a fault")?;
-    assert_eq!(rt; documents.len(), 1);
+    Ok(text)
+}
+
+#[test]
+fn deep_trees_are_dropped(rt: HostRuntime) -> Result<(), Fail> {
+    let text = dashes(rt.alloc(), 100000)?;
+    assert!(rt; loaded(rt.alloc(), text.as_str())?.is_array());
     Ok(())
 }
