@@ -56,12 +56,13 @@ pub(crate) fn utf_8_sequence(input: &[u8]) -> Sequence
     let mut start = start;
     let mut bytes = 1;
     'trails: while start.behind > 0 {
-        match input.get(usize::from(bytes)) {
-            Some(&byte) if start.low <= byte && byte <= start.high => {
-                start.bits = start.bits * 64 + u32::from(byte - 0x80);
-            }
-            _ => return Sequence::malformed(bytes, 0),
+        let Some(&byte) = input.get(usize::from(bytes)) else {
+            return Sequence::malformed(bytes, 0);
+        };
+        if byte < start.low || start.high < byte {
+            return Sequence::malformed(bytes, 0);
         }
+        start.bits = start.bits * 64 + u32::from(byte - 0x80);
         start.low = 0x80;
         start.high = 0xBF;
         start.behind -= 1;
