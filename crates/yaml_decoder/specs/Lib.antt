@@ -1,3 +1,5 @@
 pub mod Decoding
 pub mod Front
 pub mod Trails
+pub mod Encodings
+pub mod Steps

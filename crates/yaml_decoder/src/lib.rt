@@ -2,6 +2,9 @@
 //! of these.
 #![tactic(auto)]
 
+mod encoding;
+mod malformation;
 mod sequence;
+pub mod trap;
 mod utf_16;
 mod utf_8;
