@@ -1,2 +1,3 @@
 mod Rows
 pub mod Utf8Lemmas
+pub mod MessageLemmas

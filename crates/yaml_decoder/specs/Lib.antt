@@ -3,3 +3,5 @@ pub mod Front
 pub mod Trails
 pub mod Encodings
 pub mod Steps
+pub mod Messages
+pub mod Outcomes

@@ -4,7 +4,9 @@
 
 mod encoding;
 mod malformation;
+mod message;
 mod sequence;
+pub mod stop;
 pub mod trap;
 mod utf_16;
 mod utf_8;

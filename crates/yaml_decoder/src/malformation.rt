@@ -1,21 +1,74 @@
 //! What becomes of a malformation.
-ghost use Rattle.std.specs.Prelude.{◌≡◌};
+ghost use Rattle.std.specs.Prelude.{◌≡◌, ◌≤◌, length};
 ghost use Rattle.yaml_chars.specs.Text.{string_chars};
-ghost use Rattle.yaml_decoder.specs.Steps.{IsStep, answer_of};
+ghost use Rattle.yaml_decoder.specs.Decoding.{message, stopped};
+ghost use Rattle.yaml_decoder.specs.Outcomes.{StopIs, LeftIs};
+ghost use Rattle.yaml_decoder.specs.Steps.{IsStep, answer_of, steps_by, Stepped};
 
+use crate::message::message;
 use crate::sequence::Sequence;
+use crate::stop::Stop;
 use crate::trap::{YAMLDecodingTrap, YAMLDecodingTrapFn};
+use std::alloc::Global;
 use std::ops::ControlFlow;
+
+/// A malformation: its place, counted in bytes from the input's first, and the sequence that it is.
+#[derive(Clone, Copy)]
+pub(crate) struct Malformation {
+    pub place: usize,
+    pub bytes: u8,
+    pub ahead: u8,
+}
+
+/// A stop with the malformation's own message.
+fn stop(alloc: Global, malformation: Malformation, input: &[u8]) -> Stop
+    requires { malformation.bytes ≤ length input.now }
+    ensures { StopIs result (λ o. o ≡ stopped (message malformation.place malformation.bytes input.now)) }
+{
+    let malformed = &input[..usize::from(malformation.bytes)];
+    match message(alloc, malformation.place, malformed) {
+        Ok(message) => Stop::Message(message),
+        Err(_) => Stop::OutOfMemory,
+    }
+}
 
 /// Calls a stored function.
 fn call(
     stored: &YAMLDecodingTrapFn,
-    bytes: u8,
-    ahead: u8,
+    malformation: Malformation,
     input: &[u8],
     text: &mut String,
 ) -> ControlFlow<String>
-    ensures { IsStep (post stored.now.function) bytes ahead input.now (string_chars text.old) (answer_of result text.new) }
+    ensures { IsStep (post stored.now.function) malformation.bytes malformation.ahead input.now (string_chars text.old) (answer_of result text.new) }
 {
-    (stored.function)(bytes, ahead, input, text)
+    (stored.function)(malformation.bytes, malformation.ahead, input, text)
+}
+
+/// What a trap makes of a malformation, with which `input` begins: the text goes on, or decoding
+/// stops.
+pub(crate) fn trapped(
+    trap: YAMLDecodingTrap,
+    malformation: Malformation,
+    input: &[u8],
+    text: &mut String,
+) -> Result<(), Stop>
+    requires { malformation.bytes ≤ length input.now }
+    ensures { LeftIs result text.new (Stepped (steps_by (λ f. IsStep (post f.function)) trap) malformation.place malformation.bytes malformation.ahead input.now (string_chars text.old)) }
+{
+    let alloc = *text.allocator();
+    match trap {
+        YAMLDecodingTrap::Ignore => Ok(()),
+        YAMLDecodingTrap::Replace => {
+            text.push('\u{FFFD}')?;
+            Ok(())
+        }
+        YAMLDecodingTrap::Strict => Err(stop(alloc, malformation, input)),
+        YAMLDecodingTrap::Call(stored) => match call(&stored, malformation, input, text) {
+            ControlFlow::Continue(()) => Ok(()),
+            ControlFlow::Break(message) if message.is_empty() => {
+                Err(stop(alloc, malformation, input))
+            }
+            ControlFlow::Break(message) => Err(Stop::Message(message)),
+        },
+    }
 }
