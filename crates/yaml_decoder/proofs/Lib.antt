@@ -1,3 +1,5 @@
 mod Rows
 pub mod Utf8Lemmas
 pub mod MessageLemmas
+pub mod GrowingLemmas
+pub mod MalformationLemmas

@@ -1,20 +1,10 @@
 -- Lemmas about messages.
 use Rattle.std.proofs.Common.{◌≡◌, ℕ, ◌<◌, ◌^◌, List, [], ◌∷◌, ◌++◌, ap, sym, refl, ◌∙◌, append_assoc, append-nil, add-one, length, get_or, drop, suc, ◌+◌}
 use Rattle.std.proofs.Math.Seq.{drop-cons}
-use Rattle.std.specs.Prelude.{String, string_bytes, codes, decimal}
+use Rattle.std.specs.Prelude.{codes, decimal}
 use Rattle.std.specs.Str.{chars}
-use Rattle.std.proofs.lemmas.Str.{chars-append, chars-IsAscii, IsUtf8-string_bytes}
-use Rattle.std.proofs.lemmas.Fmt.{IsAscii-decimal}
-use Rattle.yaml_chars.specs.Text.{string_chars}
 use Rattle.yaml_decoder.specs.Decoding.{listed}
 use Rattle.yaml_decoder.specs.Messages.{after}
-
-pub text_pushed : {A : Type 0} (s t : String A) (more : List ℕ) → string_bytes t ≡ string_bytes s ++ more → string_chars t ≡ string_chars s ++ chars more
-unfolding string_chars
-text_pushed s t more e = ap chars e ∙ chars-append (string_bytes s) more (IsUtf8-string_bytes s)
-
-pub number_pushed : {A : Type 0} (s t : String A) (n : ℕ) → n < 2 ^ 64 → string_bytes t ≡ string_bytes s ++ decimal n → string_chars t ≡ string_chars s ++ decimal n
-number_pushed s t n fits e = text_pushed s t (decimal n) e ∙ ap (λ cs. string_chars s ++ cs) (chars-IsAscii (decimal n) (IsAscii-decimal n fits))
 
 listed_by_first : (n : ℕ) (ns : List ℕ) → listed (n ∷ ns) ≡ decimal n ++ after ns
 listed_by_first n [] = sym (append-nil (decimal n))

@@ -3,6 +3,7 @@
 #![tactic(auto)]
 
 mod encoding;
+mod growing;
 mod malformation;
 mod message;
 mod sequence;

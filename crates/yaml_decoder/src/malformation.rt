@@ -1,10 +1,11 @@
 //! What becomes of a malformation.
 ghost use Rattle.std.specs.Prelude.{◌≡◌, ◌≤◌, length};
 ghost use Rattle.yaml_chars.specs.Text.{string_chars};
-ghost use Rattle.yaml_decoder.specs.Decoding.{message, stopped};
+ghost use Rattle.yaml_decoder.specs.Decoding.{message, message_or, stopped};
 ghost use Rattle.yaml_decoder.specs.Outcomes.{StopIs, LeftIs};
 ghost use Rattle.yaml_decoder.specs.Steps.{IsStep, answer_of, steps_by, Stepped};
 
+use crate::growing::push;
 use crate::message::message;
 use crate::sequence::Sequence;
 use crate::stop::Stop;
@@ -32,16 +33,33 @@ fn stop(alloc: Global, malformation: Malformation, input: &[u8]) -> Stop
     }
 }
 
-/// Calls a stored function.
+/// A stop with a function's message; for the empty one stands the malformation's own.
+#[tactic(auto, using(crate::proofs::MalformationLemmas::message_or_own, crate::proofs::MalformationLemmas::message_or_said))]
+fn broken(message: String, malformation: Malformation, input: &[u8]) -> Stop
+    requires { malformation.bytes ≤ length input.now }
+    ensures { StopIs result (λ o. o ≡ stopped (message_or (string_chars message) malformation.place malformation.bytes input.now)) }
+{
+    if message.is_empty() {
+        let alloc = *message.allocator();
+        return stop(alloc, malformation, input);
+    }
+    Stop::Message(message)
+}
+
+/// Calls a stored function: the text goes on, or decoding stops.
 fn call(
     stored: &YAMLDecodingTrapFn,
     malformation: Malformation,
     input: &[u8],
     text: &mut String,
-) -> ControlFlow<String>
-    ensures { IsStep (post stored.now.function) malformation.bytes malformation.ahead input.now (string_chars text.old) (answer_of result text.new) }
+) -> Result<(), Stop>
+    requires { malformation.bytes ≤ length input.now }
+    ensures { LeftIs result text.new (Stepped (IsStep (post stored.now.function)) malformation.place malformation.bytes malformation.ahead input.now (string_chars text.old)) }
 {
-    (stored.function)(malformation.bytes, malformation.ahead, input, text)
+    match (stored.function)(malformation.bytes, malformation.ahead, input, text) {
+        ControlFlow::Continue(()) => Ok(()),
+        ControlFlow::Break(message) => Err(broken(message, malformation, input)),
+    }
 }
 
 /// What a trap makes of a malformation, with which `input` begins: the text goes on, or decoding
@@ -59,16 +77,10 @@ pub(crate) fn trapped(
     match trap {
         YAMLDecodingTrap::Ignore => Ok(()),
         YAMLDecodingTrap::Replace => {
-            text.push('\u{FFFD}')?;
+            push(text, '\u{FFFD}')?;
             Ok(())
         }
         YAMLDecodingTrap::Strict => Err(stop(alloc, malformation, input)),
-        YAMLDecodingTrap::Call(stored) => match call(&stored, malformation, input, text) {
-            ControlFlow::Continue(()) => Ok(()),
-            ControlFlow::Break(message) if message.is_empty() => {
-                Err(stop(alloc, malformation, input))
-            }
-            ControlFlow::Break(message) => Err(Stop::Message(message)),
-        },
+        YAMLDecodingTrap::Call(stored) => call(&stored, malformation, input, text),
     }
 }

@@ -1,27 +1,11 @@
 //! The message of a malformation.
-ghost use Rattle.std.specs.Prelude.{◌≡◌, ◌<◌, ◌++◌, OnOk, IfOk, codes, decimal, length, chars};
+ghost use Rattle.std.specs.Prelude.{◌≡◌, ◌++◌, OnOk, IfOk, codes, decimal};
 ghost use Rattle.yaml_chars.specs.Text.{string_chars};
 ghost use Rattle.yaml_decoder.specs.Decoding.{listed};
 ghost use Rattle.yaml_decoder.specs.Messages.{after};
 
+use crate::growing::{push_number, push_text};
 use std::alloc::{AllocError, Global};
-use std::fmt::Write;
-
-/// Appends the decimal number of a place or a byte.
-#[tactic(auto, using(crate::proofs::MessageLemmas::number_pushed))]
-fn push_number(text: &mut String, number: usize) -> Result<(), AllocError>
-    ensures { OnOk result (string_chars text.new ≡ string_chars text.old ++ decimal number) }
-{
-    write!(text, "{number}")
-}
-
-/// Appends a text.
-#[tactic(auto, using(crate::proofs::MessageLemmas::text_pushed))]
-fn push_text(text: &mut String, more: &str) -> Result<(), AllocError>
-    ensures { OnOk result (string_chars text.new ≡ string_chars text.old ++ chars more.now) }
-{
-    text.push_str(more)
-}
 
 /// Appends numbers, with a comma and a space before each.
 fn push_others(text: &mut String, bytes: &[u8]) -> Result<(), AllocError>
