@@ -3,3 +3,4 @@ pub mod Utf8Lemmas
 pub mod MessageLemmas
 pub mod GrowingLemmas
 pub mod MalformationLemmas
+pub mod PartsLemmas

@@ -8,6 +8,7 @@ mod malformation;
 mod message;
 mod sequence;
 pub mod stop;
+mod text;
 pub mod trap;
 mod utf_16;
 mod utf_8;
