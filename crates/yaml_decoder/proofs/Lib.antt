@@ -4,3 +4,4 @@ pub mod MessageLemmas
 pub mod GrowingLemmas
 pub mod MalformationLemmas
 pub mod PartsLemmas
+pub mod ReadLemmas

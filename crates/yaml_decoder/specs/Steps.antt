@@ -15,6 +15,11 @@ abbrev pub answer_of : ControlFlow (String Global) (Unit {0}) → String Global 
 answer_of (Continue u) s = go_on (string_chars s)
 answer_of (Break m) s = break (string_chars m)
 
+-- What a function's contract says of a call, from the form in which proofs see it: arguments, and result with what is left behind the `&mut`.
+abbrev pub curried : (ℕ × (ℕ × (Bor (List ℕ) × (MutBor (String Global) × Unit {0}))) → ControlFlow (String Global) (Unit {0}) × (MutBor (String Global) × Unit {0}) → Type 0)
+    → (bytes ahead : ℕ) → Bor (List ℕ) → MutBor (String Global) → ControlFlow (String Global) (Unit {0}) → MutBor (String Global) → Type 0
+curried post n a shown shown_text result left = post (n, (a, (shown, (shown_text, tt)))) (result, (left, tt))
+
 -- Where `post` is what a function's contract says of a call: a call at these numbers, this input and this text so far, and what it answers.
 pub record IsStep (post : (bytes ahead : ℕ) → Bor (List ℕ) → MutBor (String Global) → ControlFlow (String Global) (Unit {0}) → MutBor (String Global) → Type 0) (bytes ahead : ℕ) (input text_so_far : List ℕ) (answer : Answer) : Type 0 where
   pub shown : Bor (List ℕ)
