@@ -5,3 +5,4 @@ pub mod GrowingLemmas
 pub mod MalformationLemmas
 pub mod PartsLemmas
 pub mod ReadLemmas
+pub mod TrapLemmas

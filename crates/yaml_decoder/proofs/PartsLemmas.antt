@@ -20,7 +20,7 @@ trails_take n bits (range ∷ ranges) [] some = (some, omega arith)
 trails_take n bits (range ∷ ranges) (b ∷ r) some = by_between (is_between (range.low) (range.high) b) (trails_take (suc n) (bits * 64 + (b - 0x80)) ranges r (omega arith))
   where
     by_between : (t : Bool) → (1 ≤ (sequence_from (suc n) (bits * 64 + (b - 0x80)) ranges r).bytes) × ((sequence_from (suc n) (bits * 64 + (b - 0x80)) ranges r).bytes ≤ suc n + length r)
-      → (1 ≤ (cond t (sequence_from (suc n) (bits * 64 + (b - 0x80)) ranges r) (malformed n 0)).bytes) × ((cond t (sequence_from (suc n) (bits * 64 + (b - 0x80)) ranges r) (malformed n 0)).bytes ≤ n + suc (length r))
+        → (1 ≤ (cond t (sequence_from (suc n) (bits * 64 + (b - 0x80)) ranges r) (malformed n 0)).bytes) × ((cond t (sequence_from (suc n) (bits * 64 + (b - 0x80)) ranges r) (malformed n 0)).bytes ≤ n + suc (length r))
     by_between true h = (h.0, omega arith)
     by_between false h = (some, omega arith)
 
@@ -62,7 +62,7 @@ parts_from-first : (e : Encoding) (place b : ℕ) (r : List ℕ) → parts_from 
 parts_from-first e place b r = first ((reading e b r).bytes) (reading_takes e b r)
   where
     first : (n : ℕ) → (1 ≤ n) × (n ≤ suc (length r)) → part_of place (b ∷ r) (reading e b r) ∷ parts_from (reading e) (pred n) (suc place) r
-      ≡ part_of place (b ∷ r) (reading e b r) ∷ parts_from (reading e) 0 (place + n) (drop n (b ∷ r))
+        ≡ part_of place (b ∷ r) (reading e b r) ∷ parts_from (reading e) 0 (place + n) (drop n (b ∷ r))
     first zero h = absurd (omega arith)
     first (suc n) h =
         let p : suc place + n ≡ place + suc n = omega arith in

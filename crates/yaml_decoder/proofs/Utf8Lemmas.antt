@@ -33,10 +33,14 @@ two_above bits low high few more top =
 
 -- a first byte and three trails
 three_trails : (bits low high : ℕ) → bits ≤ 4 → 0x10 ≤ bits * 64 + (low - 0x80) → bits * 64 + (high - 0x80) ≤ 0x10F → Leads bits (record { low = low; high = high } ∷ any_trail ∷ any_trail ∷ [])
-three_trails bits low high few more top =
-    (omega arith, λ b h. let w = within _ _ b h in
-        (omega arith, λ c k. let v = within _ _ c k in
-            (omega arith, λ d j. let u = within _ _ d j in above (((bits * 64 + (b - 0x80)) * 64 + (c - 0x80)) * 64 + (d - 0x80)) (omega arith) (omega arith))))
+three_trails bits low high few more top = (
+  omega arith,
+  λ b h. let w = within _ _ b h in (
+    omega arith,
+    λ c k. let v = within _ _ c k in
+        (omega arith, λ d j. let u = within _ _ d j in above (((bits * 64 + (b - 0x80)) * 64 + (c - 0x80)) * 64 + (d - 0x80)) (omega arith) (omega arith)),
+  ),
+)
 
 -- what a first byte begins leads to characters, if it begins anything
 abbrev LeadsOn : Option Start → Type 0
@@ -71,7 +75,7 @@ Trails-start (b ∷ r) bits low high behind some e few above = record {
   goes = rw e refl;
   leads = start_of-leads b _ e;
   few = omega arith;
-  above = above
+  above = above;
 }
 
 -- a byte in its range

@@ -5,3 +5,4 @@ pub mod Encodings
 pub mod Steps
 pub mod Messages
 pub mod Outcomes
+pub mod Read

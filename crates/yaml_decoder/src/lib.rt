@@ -2,13 +2,14 @@
 //! of these.
 #![tactic(auto)]
 
+pub mod decoder;
 mod encoding;
 mod growing;
 mod malformation;
 mod message;
 mod sequence;
 pub mod stop;
-mod text;
+pub mod text;
 pub mod trap;
 mod utf_16;
 mod utf_8;

@@ -32,11 +32,7 @@ fn push_list(text: &mut String, bytes: &[u8]) -> Result<(), AllocError>
 }
 
 /// The message of a malformation: its place, counted in bytes from the input's first, and its bytes.
-pub(crate) fn message(
-    alloc: Global,
-    place: usize,
-    malformed: &[u8],
-) -> Result<String, AllocError>
+pub(crate) fn message(alloc: Global, place: usize, malformed: &[u8]) -> Result<String, AllocError>
     ensures { IfOk result (λ m. string_chars m ≡ codes "Invalid character sequence at " ++ decimal place ++ codes ": [" ++ listed malformed.now ++ codes "]") }
 {
     let mut text = String::new(alloc);

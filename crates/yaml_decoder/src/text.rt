@@ -1,7 +1,7 @@
 //! The text of an input.
-ghost use Rattle.std.specs.Prelude.{◌<◌, length};
+ghost use Rattle.std.specs.Prelude.{◌≡◌, ◌<◌, length};
 ghost use Rattle.yaml_chars.specs.Text.{string_chars};
-ghost use Rattle.yaml_decoder.specs.Decoding.{IsDecodedByCalls};
+ghost use Rattle.yaml_decoder.specs.Decoding.{text, parts, ignored, replaced, strict, IsDecodedByCalls};
 ghost use Rattle.yaml_decoder.specs.Encodings.{encoding_of};
 ghost use Rattle.yaml_decoder.specs.Outcomes.{OutcomeIs, Passes};
 ghost use Rattle.yaml_decoder.specs.Steps.{IsStep, steps_by};
@@ -53,4 +53,23 @@ fn decoded(alloc: Global, input: &[u8], trap: YAMLDecodingTrap) -> Result<String
         place = read_part(chosen.encoding, trap, input, place, &mut text)?;
     }
     Ok(text)
+}
+
+/// The text of an input. Its encoding is that of its byte order mark, which is no part of the text;
+/// without a mark, UTF-16 in the order that one NUL among the first two bytes tells; else UTF-8
+/// (YAML 1.2, section 5.2). Its malformations are those of the WHATWG Encoding standard, sections
+/// 8.1.1 and 14.4, and the trap says what becomes of each.
+///
+/// # Errors
+///
+/// [`Stop::Message`] where the trap stops at a malformation: `Strict` at the first, `Call` where its
+/// function breaks; the others never. [`Stop::OutOfMemory`] where memory was refused, which no
+/// clause rules out.
+pub fn text_of(alloc: Global, input: &[u8], trap: YAMLDecodingTrap) -> Result<String, Stop>
+    ensures ignore { trap ≡ YAMLDecodingTrap.Ignore → OutcomeIs result (λ o. o ≡ text (ignored (parts input.now))) }
+    ensures replace { trap ≡ YAMLDecodingTrap.Replace → OutcomeIs result (λ o. o ≡ text (replaced (parts input.now))) }
+    ensures strict { trap ≡ YAMLDecodingTrap.Strict → OutcomeIs result (λ o. o ≡ strict (parts input.now)) }
+    ensures call { (f : _) → trap ≡ YAMLDecodingTrap.Call f → OutcomeIs result (IsDecodedByCalls (IsStep (post f.function)) input.now) }
+{
+    decoded(alloc, input, trap)
 }

@@ -12,7 +12,7 @@ returns-in_default-get c = c.malformed-in_default-get.ensures ∙ Trails-end _ _
 
 pub returns-then-byte-start : goal.returns-then-byte-start
 returns-then-byte-start c = c.malformed-then-byte-start.ensures ∙ Trails-leave _ _ _ _ _ _ c.trails.invariant (search rules) (search rules)
-  (elim c.then-byte-start.branch [ then-byte-start-via-then-byte-start w ↦ inl (search rules) | then-byte-start-via-else-byte-start+then-start-byte w ↦ inr (search rules) ])
+    (elim c.then-byte-start.branch [ then-byte-start-via-then-byte-start w ↦ inl (search rules) | then-byte-start-via-else-byte-start+then-start-byte w ↦ inr (search rules) ])
 
 pub trails-preserved : goal.trails-preserved
 trails-preserved c = Trails-next _ _ _ _ _ _ _ c.trails.invariant (search rules) (search rules) (search rules) (search rules) (search rules)
