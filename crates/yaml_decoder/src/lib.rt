@@ -13,3 +13,6 @@ pub mod text;
 pub mod trap;
 mod utf_16;
 mod utf_8;
+
+#[cfg(test)]
+mod tests;
