@@ -1,3 +1,4 @@
+pub mod Ascii
 pub mod Decoding
 pub mod Front
 pub mod Trails

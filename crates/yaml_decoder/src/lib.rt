@@ -2,6 +2,7 @@
 //! of these.
 #![tactic(auto)]
 
+mod ascii;
 pub mod decoder;
 mod encoding;
 mod growing;

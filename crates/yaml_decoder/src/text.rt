@@ -6,6 +6,7 @@ ghost use Rattle.yaml_decoder.specs.Encodings.{encoding_of};
 ghost use Rattle.yaml_decoder.specs.Outcomes.{OutcomeIs, Passes};
 ghost use Rattle.yaml_decoder.specs.Steps.{IsStep, steps_by};
 
+use crate::ascii::read_run;
 use crate::encoding::{Encoding, chosen_encoding};
 use crate::growing::push;
 use crate::malformation::{Malformation, trapped};
@@ -42,15 +43,36 @@ fn read_part(
     Ok(behind)
 }
 
+/// Reads some of an input at a place, and answers the place behind it: in UTF-8 a run of ASCII bytes
+/// where there is one, else a part.
+fn read_some(
+    encoding: Encoding,
+    trap: YAMLDecodingTrap,
+    input: &[u8],
+    place: usize,
+    text: &mut String,
+) -> Result<usize, Stop>
+    requires { place < length input.now }
+    ensures { Passes (steps_by (λ f. IsStep (post f.function)) trap) (encoding_of encoding) input.now place (string_chars text.old) (string_chars text.new) result }
+{
+    match encoding {
+        Encoding::Utf8 if input[place] < 128 => {
+            let count = read_run(&input[place..], text)?;
+            Ok(place + count)
+        }
+        _ => read_part(encoding, trap, input, place, text),
+    }
+}
+
 /// The text of an input: by calls of the trap at each malformation.
 fn decoded(alloc: Global, input: &[u8], trap: YAMLDecodingTrap) -> Result<String, Stop>
     ensures { OutcomeIs result (IsDecodedByCalls (steps_by (λ f. IsStep (post f.function)) trap) input.now) }
 {
     let chosen = chosen_encoding(input);
-    let mut text = String::new(alloc);
+    let mut text = String::with_capacity(alloc, input.len())?;
     let mut place = chosen.mark;
     'parts: while place < input.len() {
-        place = read_part(chosen.encoding, trap, input, place, &mut text)?;
+        place = read_some(chosen.encoding, trap, input, place, &mut text)?;
     }
     Ok(text)
 }
