@@ -1,5 +1,5 @@
 -- What a call that reads and decodes answers.
-use Rattle.std.specs.Prelude.{Result, Ok, Err, String, ⊤}
+use Rattle.std.specs.Prelude.{◌≡◌, ℕ, List, Option, IfSome, Result, Ok, Err, String, ⊤}
 use Rattle.std.specs.declared.alloc.Global.{Global}
 use Rattle.yaml_chars.specs.Text.{string_chars}
 use Rattle.yaml_decoder.specs.Decoding.{Outcome, text, stopped}
@@ -17,3 +17,7 @@ abbrev pub WhereDecoded : Result (String Global) DecodeError → Type 0 → Type
 WhereDecoded (Ok s) P = P
 WhereDecoded (Err (Decode m)) P = P
 WhereDecoded (Err (IO e)) P = ⊤
+
+-- what holds of some bytes, which are those that a source still had, where it tells them
+abbrev pub HasBytes : Option (List ℕ) → (List ℕ → Type 0) → Type 0
+HasBytes told P = (bytes : List ℕ) × IfSome told (λ xs. bytes ≡ xs) × P bytes

@@ -1,8 +1,8 @@
 //! The text of what a reader gives.
-ghost use Rattle.std.specs.Prelude.{◌≡◌, IfSome, IfErr};
+ghost use Rattle.std.specs.Prelude.{◌≡◌};
 ghost use Rattle.std.specs.Io.KnownBytes.{IsAtEnd};
 ghost use Rattle.yaml_decoder.specs.Decoding.{text, parts, ignored, replaced, strict, IsDecodedByCalls};
-ghost use Rattle.yaml_decoder.specs.Read.{DecodedIs, WhereDecoded};
+ghost use Rattle.yaml_decoder.specs.Read.{DecodedIs, HasBytes, WhereDecoded};
 ghost use Rattle.yaml_decoder.specs.Steps.{IsStep};
 
 use crate::stop::Stop;
@@ -71,10 +71,10 @@ impl<T: Read> YamlDecoder<T> {
     /// stands where reading stopped. [`DecodeError::Decode`] has the message of a stop, as
     /// [`Stop::Message`]; the source stands at its end.
     pub fn text(&mut self) -> Result<String, DecodeError>
-        ensures ignore { self.old.trap ≡ YAMLDecodingTrap.Ignore → IfSome (T.remaining self.old.source) (λ bytes. DecodedIs result (λ o. o ≡ text (ignored (parts bytes)))) }
-        ensures replace { self.old.trap ≡ YAMLDecodingTrap.Replace → IfSome (T.remaining self.old.source) (λ bytes. DecodedIs result (λ o. o ≡ text (replaced (parts bytes)))) }
-        ensures strict { self.old.trap ≡ YAMLDecodingTrap.Strict → IfSome (T.remaining self.old.source) (λ bytes. DecodedIs result (λ o. o ≡ strict (parts bytes))) }
-        ensures call { (f : _) → self.old.trap ≡ YAMLDecodingTrap.Call f → IfSome (T.remaining self.old.source) (λ bytes. DecodedIs result (IsDecodedByCalls (IsStep (post f.function)) bytes)) }
+        ensures ignore { self.old.trap ≡ YAMLDecodingTrap.Ignore → DecodedIs result (λ o. HasBytes (T.remaining self.old.source) (λ bytes. o ≡ text (ignored (parts bytes)))) }
+        ensures replace { self.old.trap ≡ YAMLDecodingTrap.Replace → DecodedIs result (λ o. HasBytes (T.remaining self.old.source) (λ bytes. o ≡ text (replaced (parts bytes)))) }
+        ensures strict { self.old.trap ≡ YAMLDecodingTrap.Strict → DecodedIs result (λ o. HasBytes (T.remaining self.old.source) (λ bytes. o ≡ strict (parts bytes))) }
+        ensures call { (f : _) → self.old.trap ≡ YAMLDecodingTrap.Call f → DecodedIs result (λ o. HasBytes (T.remaining self.old.source) (λ bytes. IsDecodedByCalls (IsStep (post f.function)) bytes o)) }
         ensures end { WhereDecoded result (IsAtEnd (T.remaining self.new.source)) }
         ensures same { self.new.trap ≡ self.old.trap }
     {
