@@ -1,12 +1,11 @@
 -- Lemmas about runs of ASCII bytes.
-use Rattle.std.proofs.Common.{◌≡◌, ℕ, zero, suc, ◌+◌, ◌-◌, ◌≤◌, ◌<◌, true, List, [], ◌∷◌, ◌++◌, Some, length, take, drop, get_or, slice_index, refl, ap, sym, ◌∙◌, arith, add-zero, append-nil, append_assoc, length-drop, inl, inr}
+use Rattle.std.proofs.Common.{◌≡◌, ℕ, zero, suc, ◌+◌, ◌-◌, ◌≤◌, ◌<◌, List, [], ◌∷◌, ◌++◌, Some, length, take, drop, get_or, refl, ap, sym, ◌∙◌, arith, add-zero, append-nil, append_assoc, length-drop}
 use Rattle.std.specs.Str.{IsUtf8, chars}
 use Rattle.std.proofs.Math.Seq.{drop-cons}
-use Rattle.std.proofs.lemmas.List.{get_or-take, drop_all}
 use Rattle.std.proofs.lemmas.Str.{IsUtf8-from_ascii, chars-IsAscii}
 use Rattle.std.proofs.lemmas.Bool.Decides.{nat_tests}
 use Rattle.yaml_decoder.specs.Ascii.{IsAsciiRun}
-use Rattle.yaml_decoder.specs.Decoding.{Encoding, utf_8, means, start_of, is_between, utf_8_sequence, reading, Steps}
+use Rattle.yaml_decoder.specs.Decoding.{Encoding, utf_8, means, start_of, utf_8_sequence, Steps}
 use Rattle.yaml_decoder.specs.Front.{front}
 use Rattle.yaml_decoder.specs.Outcomes.{IsRead}
 use Rattle.yaml_decoder.proofs.ReadLemmas.{passes_character}

@@ -1,13 +1,13 @@
 -- Lemmas about what becomes of a malformation.
-use Rattle.std.proofs.Common.{◌≡◌, ℕ, List, [], ◌∷◌, true, false, refl, sym, subst, ap, length, ◌==◌, ◌∙◌}
+use Rattle.std.proofs.Common.{◌≡◌, ℕ, List, [], ◌∷◌, false, refl, sym, ap, length, ◌==◌, ◌∙◌}
 use Rattle.std.specs.Prelude.{String, string_bytes}
 use Rattle.std.specs.declared.alloc.Global.{Global}
 use Rattle.std.specs.declared.ops.ControlFlow.{ControlFlow}
-use Rattle.std.specs.declared.ops.ControlFlow.TheVariants.{Continue, Break}
+use Rattle.std.specs.declared.ops.ControlFlow.TheVariants.{Break}
 use denote.Ref.{Bor, MutBor}
 use Rattle.yaml_chars.specs.Text.{string_chars, is_nil}
 use Rattle.yaml_chars.proofs.TextLemmas.{string_chars_nil, is_nil_chars}
-use Rattle.yaml_decoder.specs.Decoding.{stopped, go_on, break, message, message_or}
+use Rattle.yaml_decoder.specs.Decoding.{stopped, break, message, message_or}
 use Rattle.yaml_decoder.specs.Steps.{IsStep, Stepped, answer_of}
 use Rattle.yaml_decoder.specs.Outcomes.{StopIs}
 use Rattle.yaml_decoder.specs.declared.stop.Stop.{Stop}

@@ -1,10 +1,7 @@
 -- Lemmas about the parts of an input.
-use Rattle.std.proofs.Common.{◌≡◌, ℕ, zero, suc, ◌+◌, ◌-◌, ◌*◌, ◌≤◌, ◌<◌, pred, Bool, true, false, cond, List, [], ◌∷◌, ◌++◌, Option, Some, None, length, drop, refl, ap, sym, ◌∙◌, arith, inl, inr, add-suc, add-zero, append_assoc, append-nil}
-use Rattle.std.proofs.lemmas.List.{drop_all}
-use Rattle.yaml_decoder.specs.Decoding.{Encoding, utf_8, utf_16_little, utf_16_big, Sequence, Range, Start, start_of, malformed, is_between, sequence_from, sequence_by, utf_8_sequence, is_lead, is_trail, led, pair_by, unit_sequence, utf_16_sequence, little, big, reading, Part, character, malformation, part_by, part_of, parts_from, parts, parts_by, chosen, Chosen, Outcome, text, stopped, Steps, Answer, go_on, break, IsCalled, message_or}
+use Rattle.std.proofs.Common.{◌≡◌, ℕ, zero, suc, ◌+◌, ◌-◌, ◌*◌, ◌≤◌, ◌<◌, pred, Bool, true, false, cond, List, [], ◌∷◌, Option, Some, None, length, drop, refl, ap, ◌∙◌, arith, add-zero}
+use Rattle.yaml_decoder.specs.Decoding.{Encoding, utf_8, utf_16_little, utf_16_big, Sequence, Range, Start, start_of, malformed, is_between, sequence_from, sequence_by, is_lead, is_trail, led, pair_by, utf_16_sequence, little, big, reading, part_of, parts_from}
 use Rattle.yaml_decoder.specs.Front.{front}
-use Rattle.yaml_decoder.specs.Steps.{Stepped}
-use Rattle.yaml_decoder.specs.Outcomes.{IsRead}
 
 -- a sequence takes some bytes, and no more than there are
 abbrev Takes : Sequence → List ℕ → Type 0

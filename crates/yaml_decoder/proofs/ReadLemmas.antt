@@ -1,8 +1,8 @@
 -- Lemmas about an input that is read up to a place.
-use Rattle.std.proofs.Common.{◌≡◌, ℕ, zero, suc, ◌+◌, ◌-◌, ◌≤◌, ◌<◌, List, [], ◌∷◌, ◌++◌, Some, None, length, take, drop, refl, ap, sym, subst, ◌∙◌, arith, inl, inr, length-drop}
+use Rattle.std.proofs.Common.{◌≡◌, ℕ, ◌+◌, ◌-◌, ◌≤◌, ◌<◌, List, [], ◌∷◌, ◌++◌, Some, None, length, take, drop, refl, ap, ◌∙◌, arith, inl, inr, length-drop}
 use Rattle.std.proofs.Math.Seq.{take-length}
 use Rattle.std.proofs.lemmas.List.{drop_all, drop-drop}
-use Rattle.yaml_decoder.specs.Decoding.{Encoding, Sequence, reading, Part, character, malformation, part_by, part_of, parts_from, parts, parts_by, chosen, Outcome, text, stopped, Steps, go_on, break, IsCalled, IsDecodedByCalls, message_or}
+use Rattle.yaml_decoder.specs.Decoding.{Encoding, Sequence, reading, part_by, parts_from, chosen, text, stopped, Steps, go_on, IsDecodedByCalls}
 use Rattle.yaml_decoder.specs.Front.{front}
 use Rattle.yaml_decoder.specs.Steps.{Stepped}
 use Rattle.yaml_decoder.specs.Outcomes.{IsRead, StopIs}

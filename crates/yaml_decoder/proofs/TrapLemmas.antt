@@ -1,10 +1,10 @@
 -- What comes of an input by the steps of each trap.
-use Rattle.std.proofs.Common.{◌≡◌, ℕ, List, [], ◌∷◌, ◌++◌, refl, ap, sym, subst, ◌∙◌, inl, inr, append_assoc, append-nil}
+use Rattle.std.proofs.Common.{◌≡◌, ℕ, List, [], ◌∷◌, ◌++◌, refl, ap, sym, ◌∙◌, inl, inr, append_assoc, append-nil}
 use Rattle.std.specs.Prelude.{Result, Ok, Err, String}
 use Rattle.std.specs.declared.alloc.Global.{Global}
-use Rattle.yaml_decoder.specs.Decoding.{Part, character, malformation, parts, Outcome, text, stopped, message, ignored, replaced, strict, put_before, Steps, Answer, go_on, break, IsCalled, IsDecodedByCalls, message_or}
+use Rattle.yaml_decoder.specs.Decoding.{Part, character, malformation, parts, Outcome, text, stopped, ignored, replaced, strict, put_before, Steps, Answer, go_on, break, IsCalled, IsDecodedByCalls, message_or}
 use Rattle.yaml_decoder.specs.Steps.{steps_by}
-use Rattle.yaml_decoder.specs.Outcomes.{StopIs, OutcomeIs}
+use Rattle.yaml_decoder.specs.Outcomes.{OutcomeIs}
 use Rattle.yaml_decoder.specs.declared.stop.Stop.{Stop}
 use Rattle.yaml_decoder.specs.declared.stop.Stop.TheVariants.{Message, OutOfMemory}
 use Rattle.yaml_decoder.specs.declared.trap.YAMLDecodingTrapFn.{YAMLDecodingTrapFn}

@@ -1,10 +1,9 @@
 -- Lemmas about sequences of UTF-8.
-use Rattle.std.proofs.Common.{◌≡◌, ℕ, zero, suc, ◌+◌, ◌-◌, ◌*◌, ◌≤◌, ◌<◌, nat_le, ◌&&◌, ◌⊎◌, inl, inr, Bool, cond, true, false, List, [], ◌∷◌, Option, Some, None, length, drop, get_or, refl, ap, sym, subst, ◌∙◌, arith, rules, add-one}
+use Rattle.std.proofs.Common.{◌≡◌, ℕ, zero, suc, ◌+◌, ◌-◌, ◌*◌, ◌≤◌, ◌<◌, ◌⊎◌, Bool, cond, true, false, List, [], ◌∷◌, Option, Some, None, length, drop, get_or, refl, sym, subst, ◌∙◌, arith}
 use Rattle.std.specs.Char.{IsScalar}
 use Rattle.std.proofs.Math.Seq.{drop-cons}
 use Rattle.std.proofs.lemmas.List.{drop_all}
 use Rattle.std.proofs.lemmas.Bool.Decides.{nat_tests}
-use Rattle.std.proofs.lemmas.Grind.{common_steps}
 use Rattle.yaml_decoder.specs.Decoding.{start_of, Start, Range, any_trail, is_between, sequence_from, malformed, utf_8_sequence}
 use Rattle.yaml_decoder.specs.Front.{front, bounds, Leads}
 use Rattle.yaml_decoder.specs.Trails.{Trails}

@@ -1,5 +1,5 @@
 -- What an input begins with, as the code finds it.
-use Rattle.std.specs.Prelude.{◌≡◌, ℕ, zero, suc, ◌+◌, ◌-◌, ◌*◌, ◌<◌, List, [], ◌∷◌, Bool, true}
+use Rattle.std.specs.Prelude.{◌≡◌, ℕ, zero, suc, ◌+◌, ◌-◌, ◌*◌, ◌<◌, List, [], ◌∷◌, true}
 use Rattle.std.specs.Char.{IsScalar}
 use Rattle.yaml_decoder.specs.Decoding.{Sequence, malformed, Range, is_between, little, big}
 use Rattle.yaml_decoder.specs.declared.sequence.Sequence.{Sequence as Found}

@@ -1,5 +1,5 @@
 -- What a call that decodes made of an input.
-use Rattle.std.specs.Prelude.{◌≡◌, ℕ, ◌<◌, ◌≤◌, length, List, [], drop, Result, Ok, Err, String, ⊤}
+use Rattle.std.specs.Prelude.{ℕ, ◌<◌, ◌≤◌, length, List, [], drop, Result, Ok, Err, String, ⊤}
 use Rattle.std.specs.declared.alloc.Global.{Global}
 use Rattle.yaml_chars.specs.Text.{string_chars}
 use Rattle.yaml_decoder.specs.Decoding.{Outcome, text, stopped, Steps, IsCalled, IsDecodedByCalls, parts, parts_from, reading, Encoding}

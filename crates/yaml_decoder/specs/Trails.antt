@@ -1,6 +1,6 @@
 -- A sequence of UTF-8 that is read as far as some of its bytes.
 use Rattle.std.specs.Prelude.{◌≡◌, ℕ, ◌+◌, ◌≤◌, List, drop}
-use Rattle.yaml_decoder.specs.Decoding.{Sequence, sequence_from, utf_8_sequence}
+use Rattle.yaml_decoder.specs.Decoding.{sequence_from, utf_8_sequence}
 use Rattle.yaml_decoder.specs.Front.{front, bounds, Leads}
 
 -- So many bytes of an input were read, with these bits; so many more are behind them, the first of which has these bounds.

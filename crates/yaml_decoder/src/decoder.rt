@@ -35,8 +35,11 @@ impl From<io::Error> for DecodeError {
 /// Decodes what a source gives.
 #[derive(Drop)]
 pub struct YamlDecoder<T: Read> {
+    /// Where bytes and text are kept.
     pub alloc: Global,
+    /// What is read, from where it stands.
     pub source: T,
+    /// What becomes of a malformation.
     pub trap: YAMLDecodingTrap,
 }
 
@@ -53,7 +56,7 @@ impl<T: Read> YamlDecoder<T> {
         }
     }
 
-    /// Sets what becomes of a malformation.
+    /// Sets what becomes of a malformation, and answers the same decoder.
     pub fn encoding_trap(&mut self, trap: YAMLDecodingTrap) -> &mut Self
         ensures same { result.ghost_name ≡ self.entry.ghost_name }
         ensures value { result.now ≡ record self.old { trap = trap } }
@@ -62,8 +65,9 @@ impl<T: Read> YamlDecoder<T> {
         self
     }
 
-    /// Reads the source to its end, and answers the text of its bytes, as [`text_of`] says. A second
-    /// call reads on from where the source stands.
+    /// Reads the source to its end, and answers the text of its bytes, as [`text_of`] says. Where a
+    /// source does not tell its bytes, it is the text of some. A second call reads on from where the
+    /// source stands.
     ///
     /// # Errors
     ///

@@ -10,10 +10,14 @@ mod malformation;
 mod message;
 mod sequence;
 pub mod stop;
+#[cfg(test)]
+mod tests;
 pub mod text;
 pub mod trap;
 mod utf_16;
 mod utf_8;
 
-#[cfg(test)]
-mod tests;
+pub use decoder::{DecodeError, YamlDecoder};
+pub use stop::Stop;
+pub use text::text_of;
+pub use trap::{YAMLDecodingTrap, YAMLDecodingTrapFn};

@@ -3,17 +3,17 @@ ghost use Rattle.std.specs.Prelude.{◌≡◌, ◌≤◌, length};
 ghost use Rattle.yaml_chars.specs.Text.{string_chars};
 ghost use Rattle.yaml_decoder.specs.Decoding.{message, message_or, stopped};
 ghost use Rattle.yaml_decoder.specs.Outcomes.{StopIs, LeftIs};
-ghost use Rattle.yaml_decoder.specs.Steps.{IsStep, answer_of, steps_by, Stepped};
+ghost use Rattle.yaml_decoder.specs.Steps.{IsStep, steps_by, Stepped};
 
 use crate::growing::push;
 use crate::message::message;
-use crate::sequence::Sequence;
 use crate::stop::Stop;
 use crate::trap::{YAMLDecodingTrap, YAMLDecodingTrapFn};
 use std::alloc::Global;
 use std::ops::ControlFlow;
 
-/// A malformation: its place, counted in bytes from the input's first, and the sequence that it is.
+/// A malformation: its place, counted in bytes from the input's first, how many bytes it has, and how
+/// many behind it were looked at.
 #[derive(Clone, Copy)]
 pub(crate) struct Malformation {
     pub place: usize,

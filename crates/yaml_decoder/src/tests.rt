@@ -211,7 +211,10 @@ fn sources_are_read_to_their_end(rt: HostRuntime) -> Result<(), Fail> {
     let mut decoder = YamlDecoder::read(alloc, LEAD_BEFORE_A);
     match decoder.text() {
         Err(DecodeError::Decode(message)) => {
-            assert_eq!(rt; message.as_str(), "Invalid character sequence at 2: [0, 216]");
+            assert_eq!(rt;
+                message.as_str(),
+                "Invalid character sequence at 2: [0, 216]"
+            );
         }
         _ => return Err(Fail::from("no stop")),
     }

@@ -1,4 +1,4 @@
-//! What becomes of a malformation.
+//! What may become of a malformation, by the choice of a caller.
 ghost use Rattle.std.specs.Prelude.{◌≡◌};
 
 use std::ops::ControlFlow;
@@ -16,6 +16,7 @@ use std::ops::ControlFlow;
 /// [`Strict`](YAMLDecodingTrap::Strict).
 #[derive(Clone, Copy)]
 pub struct YAMLDecodingTrapFn {
+    /// The function; its own contract says what a call may answer.
     pub function: fn(u8, u8, &[u8], &mut String) -> ControlFlow<String>,
     ghost callable: { IsAlwaysCallable function },
 }

@@ -1,7 +1,7 @@
 //! Sequences of UTF-8, by the WHATWG Encoding standard, section 8.1.1, and RFC 3629, section 4.
-ghost use Rattle.std.specs.Prelude.{◌≡◌, ◌<◌, ◌≤◌, length, IfSome, IsNone, None, Some, MatchOption};
+ghost use Rattle.std.specs.Prelude.{◌≡◌, ◌<◌, ◌≤◌, length, IfSome, None, Some, MatchOption};
 ghost use Rattle.yaml_decoder.specs.Decoding.{start_of, utf_8_sequence};
-ghost use Rattle.yaml_decoder.specs.Front.{front, sequence_of, bounds, Leads};
+ghost use Rattle.yaml_decoder.specs.Front.{front, sequence_of, bounds};
 
 use crate::sequence::Sequence;
 

@@ -1,4 +1,3 @@
-use Rattle.std.proofs.Common.{rules}
 use Rattle.yaml_chars.proofs.TextLemmas.{string_chars_nil}
 use Rattle.yaml_decoder.proofs.MessageLemmas.{message_whole}
 use Rattle.yaml_decoder.proofs.message.message.Goals as goal

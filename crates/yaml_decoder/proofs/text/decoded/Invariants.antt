@@ -1,7 +1,6 @@
-use Rattle.std.proofs.Common.{length, ◌-◌, ◌≡◌, ℕ, ◌+◌, ◌*◌, ◌<◌, ◌≤◌}
+use Rattle.std.proofs.Common.{length, ◌-◌}
 use Rattle.yaml_chars.specs.Text.{string_chars}
-use Rattle.yaml_decoder.specs.Decoding.{IsDecodedByCalls}
-use Rattle.yaml_decoder.specs.Outcomes.{OutcomeIs, IsRead}
+use Rattle.yaml_decoder.specs.Outcomes.{IsRead}
 use Rattle.yaml_decoder.specs.Encodings.{encoding_of}
 use Rattle.yaml_decoder.specs.Steps.{IsStep, curried, steps_by}
 use Rattle.yaml_decoder.proofs.text.decoded.Given as goal
