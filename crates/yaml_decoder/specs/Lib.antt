@@ -1,1 +1,9 @@
+pub mod Ascii
 pub mod Decoding
+pub mod Front
+pub mod Trails
+pub mod Encodings
+pub mod Steps
+pub mod Messages
+pub mod Outcomes
+pub mod Read

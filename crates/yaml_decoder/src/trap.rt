@@ -1,0 +1,48 @@
+//! What may become of a malformation, by the choice of a caller.
+ghost use Rattle.std.specs.Prelude.{◌≡◌};
+
+use std::ops::ControlFlow;
+
+/// A function that is called at each malformation. Its arguments are:
+///
+/// * how many bytes the malformation has, 1 to 4;
+/// * how many bytes behind it were looked at: 2 where a lead surrogate stands before a whole unit
+///   that is no trail surrogate, else 0. They are read anew;
+/// * the input, from the malformation's first byte on;
+/// * the text so far, which the function may change in any way.
+///
+/// `Continue` goes on behind the malformation. `Break` stops with a message; for the empty one
+/// stands `Invalid character sequence at {place}: {bytes}`, as with
+/// [`Strict`](YAMLDecodingTrap::Strict).
+#[derive(Clone, Copy)]
+pub struct YAMLDecodingTrapFn {
+    /// The function; its own contract says what a call may answer.
+    pub function: fn(u8, u8, &[u8], &mut String) -> ControlFlow<String>,
+    ghost callable: { IsAlwaysCallable function },
+}
+
+/// What becomes of a malformation, which is a sequence of bytes that is no character in the input's
+/// encoding.
+#[derive(Clone, Copy)]
+pub enum YAMLDecodingTrap {
+    /// It adds nothing to the text.
+    Ignore,
+    /// The first one stops, with the message `Invalid character sequence at {place}: {bytes}`: its
+    /// place is counted in bytes from the input's first, the bytes are decimal numbers, as in
+    /// `Invalid character sequence at 5: [169]`.
+    Strict,
+    /// It adds U+FFFD, the replacement character.
+    Replace,
+    /// The function is called, once for each, in order.
+    Call(YAMLDecodingTrapFn),
+}
+
+impl YAMLDecodingTrapFn {
+    /// Keeps a function that may be called on everything.
+    pub fn new(function: fn(u8, u8, &[u8], &mut String) -> ControlFlow<String>) -> Self
+        requires { IsAlwaysCallable function }
+        ensures { result.function ≡ function }
+    {
+        YAMLDecodingTrapFn { function }
+    }
+}
