@@ -6,4 +6,3 @@ pub mod Encodings
 pub mod Steps
 pub mod Messages
 pub mod Outcomes
-pub mod Read

@@ -3,7 +3,6 @@
 #![tactic(auto)]
 
 mod ascii;
-pub mod decoder;
 mod encoding;
 mod growing;
 mod malformation;
@@ -17,7 +16,6 @@ pub mod trap;
 mod utf_16;
 mod utf_8;
 
-pub use decoder::{DecodeError, YamlDecoder};
 pub use stop::Stop;
 pub use text::text_of;
 pub use trap::{YAMLDecodingTrap, YAMLDecodingTrapFn};

@@ -1,12 +1,9 @@
 //! Bytes and what each trap makes of them.
-use crate::decoder::{DecodeError, YamlDecoder};
 use crate::stop::Stop;
 use crate::text::text_of;
 use crate::trap::{YAMLDecodingTrap, YAMLDecodingTrapFn};
 use std::alloc::Global;
 use std::fmt::Write;
-use std::io;
-use std::io::{ErrorKind, Read};
 use std::ops::ControlFlow;
 use std::test::Fail;
 
@@ -16,17 +13,6 @@ fn shown(alloc: Global, input: &[u8], trap: YAMLDecodingTrap) -> Result<String, 
         Ok(text) => Ok(text),
         Err(Stop::Message(message)) => Ok(format!(in alloc; "stopped: {message}")?),
         Err(Stop::OutOfMemory) => Err(Fail::from("no memory")),
-    }
-}
-
-/// The same, by a decoder.
-fn read(alloc: Global, input: &[u8], trap: YAMLDecodingTrap) -> Result<String, Fail> {
-    let mut decoder = YamlDecoder::read(alloc, input);
-    decoder.encoding_trap(trap);
-    match decoder.text() {
-        Ok(text) => Ok(text),
-        Err(DecodeError::Decode(message)) => Ok(format!(in alloc; "stopped: {message}")?),
-        Err(DecodeError::IO(_)) => Err(Fail::from("no memory")),
     }
 }
 
@@ -44,8 +30,6 @@ fn malformations_are_ignored(rt: HostRuntime) -> Result<(), Fail> {
     ];
     for (input, want) in rows {
         let text = shown(rt.alloc(), input, YAMLDecodingTrap::Ignore)?;
-        assert_eq!(rt; text.as_str(), want);
-        let text = read(rt.alloc(), input, YAMLDecodingTrap::Ignore)?;
         assert_eq!(rt; text.as_str(), want);
     }
     Ok(())
@@ -71,8 +55,6 @@ fn malformations_are_replaced(rt: HostRuntime) -> Result<(), Fail> {
     for (input, want) in rows {
         let text = shown(rt.alloc(), input, YAMLDecodingTrap::Replace)?;
         assert_eq!(rt; text.as_str(), want);
-        let text = read(rt.alloc(), input, YAMLDecodingTrap::Replace)?;
-        assert_eq!(rt; text.as_str(), want);
     }
     Ok(())
 }
@@ -91,8 +73,6 @@ fn the_first_malformation_stops(rt: HostRuntime) -> Result<(), Fail> {
     for (input, place) in rows {
         let want = format!(in rt.alloc(); "stopped: Invalid character sequence at {place}")?;
         let text = shown(rt.alloc(), input, YAMLDecodingTrap::Strict)?;
-        assert_eq!(rt; text.as_str(), want.as_str());
-        let text = read(rt.alloc(), input, YAMLDecodingTrap::Strict)?;
         assert_eq!(rt; text.as_str(), want.as_str());
     }
     Ok(())
@@ -189,42 +169,6 @@ fn functions_are_called(rt: HostRuntime) -> Result<(), Fail> {
     for (input, trap, want) in rows {
         let text = shown(alloc, input, trap)?;
         assert_eq!(rt; text.as_str(), want);
-        let text = read(alloc, input, trap)?;
-        assert_eq!(rt; text.as_str(), want);
-    }
-    Ok(())
-}
-
-/// A source that fails.
-#[derive(Drop)]
-struct Broken;
-
-impl Read for Broken {
-    fn read(&mut self, _: &mut [u8]) -> io::Result<usize> {
-        Err(io::Error::from(ErrorKind::BrokenPipe))
-    }
-}
-
-#[test]
-fn sources_are_read_to_their_end(rt: HostRuntime) -> Result<(), Fail> {
-    let alloc = rt.alloc();
-    let mut decoder = YamlDecoder::read(alloc, LEAD_BEFORE_A);
-    match decoder.text() {
-        Err(DecodeError::Decode(message)) => {
-            assert_eq!(rt;
-                message.as_str(),
-                "Invalid character sequence at 2: [0, 216]"
-            );
-        }
-        _ => return Err(Fail::from("no stop")),
-    }
-    match decoder.encoding_trap(YAMLDecodingTrap::Replace).text() {
-        Ok(text) => assert_eq!(rt; text.as_str(), ""),
-        Err(_) => return Err(Fail::from("a stop at the end")),
-    }
-    match YamlDecoder::read(alloc, Broken).text() {
-        Err(DecodeError::IO(error)) => assert!(rt; error.kind() == ErrorKind::BrokenPipe),
-        _ => return Err(Fail::from("no error")),
     }
     Ok(())
 }

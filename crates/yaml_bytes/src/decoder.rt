@@ -1,0 +1,136 @@
+//! What a reader gives, loaded as trees.
+ghost use Rattle.std.specs.Prelude.{◌≡◌};
+ghost use Rattle.std.specs.Io.KnownBytes.{IsAtEnd};
+ghost use Rattle.yaml_decoder.specs.Decoding.{text, parts, ignored, replaced, strict, IsDecodedByCalls};
+ghost use Rattle.yaml_decoder.specs.Steps.{IsStep};
+ghost use Rattle.yaml_chars.specs.Text.{string_chars};
+ghost use Rattle.yaml_bytes.specs.Read.{DecodedIs, Loads, LoadedIs, HasBytes, WhereDecoded, WhereLoaded, wants_memory};
+
+use std::alloc::{AllocError, Global};
+use std::io;
+use std::io::Read;
+use yaml_decoder::{Stop, YAMLDecodingTrap, text_of};
+use yaml_loader::YamlLoader;
+use yaml_tokens::ScanError;
+use yaml_tree::Yaml;
+
+/// Why bytes are not loaded.
+#[derive(Debug, Drop)]
+pub enum LoadError {
+    /// The reader's error, as it is, or that memory was refused.
+    IO(io::Error),
+    /// The text's fault, or that memory was refused.
+    Scan(ScanError),
+    /// A malformation stopped decoding, with this message.
+    Decode(String),
+}
+
+impl LoadError {
+    /// Whether memory was refused. It takes none.
+    pub fn is_out_of_memory(&self) -> bool
+        ensures { result ≡ wants_memory self.now }
+    {
+        match self {
+            LoadError::IO(error) => matches!(error.kind(), io::ErrorKind::OutOfMemory),
+            LoadError::Scan(fault) => fault.is_out_of_memory(),
+            LoadError::Decode(_) => false,
+        }
+    }
+}
+
+impl From<io::Error> for LoadError {
+    ghost use Rattle.std.specs.Prelude.{◌≡◌};
+    ghost use Rattle.yaml_bytes.specs.declared.decoder.LoadError.TheVariants.{IO};
+
+    ghost from_gives = { λ error result. result ≡ IO error };
+
+    fn from(error: io::Error) -> LoadError {
+        LoadError::IO(error)
+    }
+}
+
+/// Loads what a reader gives.
+#[derive(Drop)]
+pub struct YamlDecoder<T: Read> {
+    /// Where bytes, text and trees are kept.
+    pub alloc: Global,
+    /// What is read, from where it stands.
+    pub source: T,
+    /// What becomes of a malformation.
+    pub trap: YAMLDecodingTrap,
+}
+
+/// The documents of a text.
+#[tactic(auto, unfolding(yaml_chars::specs::Text::string_chars))]
+fn load(alloc: Global, text: String) -> Result<Vec<Yaml>, LoadError>
+    ensures { Loads (string_chars text) result }
+{
+    match YamlLoader::load_from_str(alloc, text.as_str()) {
+        Ok(documents) => Ok(documents),
+        Err(fault) => Err(LoadError::Scan(fault)),
+    }
+}
+
+impl<T: Read> YamlDecoder<T> {
+    /// A decoder of a reader, whose trap is [`YAMLDecodingTrap::Strict`]. It reads nothing and takes
+    /// no memory.
+    pub fn read(alloc: Global, source: T) -> YamlDecoder<T>
+        ensures { result ≡ record { alloc = alloc; source = source; trap = YAMLDecodingTrap.Strict } }
+    {
+        YamlDecoder {
+            alloc,
+            source,
+            trap: YAMLDecodingTrap::Strict,
+        }
+    }
+
+    /// Sets what becomes of a malformation, and answers the same decoder.
+    pub fn encoding_trap(&mut self, trap: YAMLDecodingTrap) -> &mut Self
+        ensures same { result.ghost_name ≡ self.entry.ghost_name }
+        ensures value { result.now ≡ record self.old { trap = trap } }
+    {
+        self.trap = trap;
+        self
+    }
+
+    /// Reads the source to its end, and loads the text of its bytes: its encoding, its characters and its malformations are as
+    /// [`text_of`] says, its documents as [`YamlLoader::load_from_str`] does. Where a source does not tell its bytes, it is the
+    /// text of some. A second call reads on from where the source stands.
+    ///
+    /// # Errors
+    ///
+    /// [`LoadError::IO`] is the error of the source, or says that memory was refused; the source stands where reading stopped.
+    /// [`LoadError::Decode`] has the message of a stop: `Invalid character sequence at {place}: {bytes}`, or that of the function
+    /// that was called. [`LoadError::Scan`] is the text's fault. Behind these two the source stands at its end.
+    pub fn decode(&mut self) -> Result<Vec<Yaml>, LoadError>
+        ensures ignore { self.old.trap ≡ YAMLDecodingTrap.Ignore → LoadedIs result (λ o. HasBytes (T.remaining self.old.source) (λ bytes. o ≡ text (ignored (parts bytes)))) }
+        ensures replace { self.old.trap ≡ YAMLDecodingTrap.Replace → LoadedIs result (λ o. HasBytes (T.remaining self.old.source) (λ bytes. o ≡ text (replaced (parts bytes)))) }
+        ensures strict { self.old.trap ≡ YAMLDecodingTrap.Strict → LoadedIs result (λ o. HasBytes (T.remaining self.old.source) (λ bytes. o ≡ strict (parts bytes))) }
+        ensures call { (f : _) → self.old.trap ≡ YAMLDecodingTrap.Call f → LoadedIs result (λ o. HasBytes (T.remaining self.old.source) (λ bytes. IsDecodedByCalls (IsStep (post f.function)) bytes o)) }
+        ensures end { WhereLoaded result (IsAtEnd (T.remaining self.new.source)) }
+        ensures same { self.new.trap ≡ self.old.trap }
+    {
+        match self.text() {
+            Ok(text) => load(self.alloc, text),
+            Err(error) => Err(error),
+        }
+    }
+
+    /// The text of what is left of the source.
+    fn text(&mut self) -> Result<String, LoadError>
+        ensures ignore { self.old.trap ≡ YAMLDecodingTrap.Ignore → DecodedIs result (λ o. HasBytes (T.remaining self.old.source) (λ bytes. o ≡ text (ignored (parts bytes)))) }
+        ensures replace { self.old.trap ≡ YAMLDecodingTrap.Replace → DecodedIs result (λ o. HasBytes (T.remaining self.old.source) (λ bytes. o ≡ text (replaced (parts bytes)))) }
+        ensures strict { self.old.trap ≡ YAMLDecodingTrap.Strict → DecodedIs result (λ o. HasBytes (T.remaining self.old.source) (λ bytes. o ≡ strict (parts bytes))) }
+        ensures call { (f : _) → self.old.trap ≡ YAMLDecodingTrap.Call f → DecodedIs result (λ o. HasBytes (T.remaining self.old.source) (λ bytes. IsDecodedByCalls (IsStep (post f.function)) bytes o)) }
+        ensures end { WhereDecoded result (IsAtEnd (T.remaining self.new.source)) }
+        ensures same { self.new.trap ≡ self.old.trap }
+    {
+        let mut bytes = Vec::new(self.alloc);
+        self.source.read_to_end(&mut bytes)?;
+        match text_of(self.alloc, bytes.as_slice(), self.trap) {
+            Ok(text) => Ok(text),
+            Err(Stop::Message(message)) => Err(LoadError::Decode(message)),
+            Err(Stop::OutOfMemory) => Err(LoadError::IO(io::Error::from(AllocError))),
+        }
+    }
+}
