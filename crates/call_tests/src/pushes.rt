@@ -76,7 +76,7 @@ enum Call {
 // The functions below have no contract, so that a row of calls makes no long proof.
 
 // What one call of `load` pushes, as words; or its fault.
-fn pushed(
+fn load_words(
     alloc: Global,
     parser: &mut Parser<Chars<'_>>,
     refused: Option<usize>,
@@ -103,12 +103,12 @@ fn event_words(alloc: Global, event: Result<&Event, ScanError>) -> Result<String
 }
 
 // The event that a look shows.
-fn peeked(alloc: Global, parser: &mut Parser<Chars<'_>>) -> Result<String, Fail> {
+fn peek_words(alloc: Global, parser: &mut Parser<Chars<'_>>) -> Result<String, Fail> {
     event_words(alloc, parser.peek().map(|shown| &shown.0))
 }
 
 // The next event.
-fn pulled(alloc: Global, parser: &mut Parser<Chars<'_>>) -> Result<String, Fail> {
+fn pull_words(alloc: Global, parser: &mut Parser<Chars<'_>>) -> Result<String, Fail> {
     match parser.next_token() {
         Ok((event, _)) => event_words(alloc, Ok(&event)),
         Err(fault) => fault_words(alloc, &fault),
@@ -118,11 +118,11 @@ fn pulled(alloc: Global, parser: &mut Parser<Chars<'_>>) -> Result<String, Fail>
 // What a call shows.
 fn answer(alloc: Global, parser: &mut Parser<Chars<'_>>, call: Call) -> Result<String, Fail> {
     match call {
-        Call::Peek => peeked(alloc, parser),
-        Call::Pull => pulled(alloc, parser),
-        Call::Load => pushed(alloc, parser, None, false),
-        Call::LoadAll => pushed(alloc, parser, None, true),
-        Call::Refuse(rank) => pushed(alloc, parser, Some(rank), true),
+        Call::Peek => peek_words(alloc, parser),
+        Call::Pull => pull_words(alloc, parser),
+        Call::Load => load_words(alloc, parser, None, false),
+        Call::LoadAll => load_words(alloc, parser, None, true),
+        Call::Refuse(rank) => load_words(alloc, parser, Some(rank), true),
     }
 }
 
