@@ -8,6 +8,7 @@ pub mod NameLemmas
 pub mod Nesting
 pub mod NodeArms
 pub mod Parsing
+pub mod Peeking
 pub mod Places
 pub mod Resolved
 pub mod Steps

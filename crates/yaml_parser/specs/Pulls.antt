@@ -1,5 +1,6 @@
 -- What the calls of a parser answer, and what they change.
 use Rattle.std.specs.Prelude.{◌≡◌, ◌≢◌, ◌||◌, ◌<◌, ◌≤◌, if◌then◌else◌, [], ◌∷◌, ◌++◌, true, false, Some, None, IsSome, IfSome, Result, Ok, Err}
+use Rattle.std.specs.Borrow.{Bor}
 use Rattle.yaml_chars.specs.Place.{Place}
 use Rattle.yaml_tokens.specs.Fault.{Fault}
 use Rattle.event_defs.specs.Event.{Ev}
@@ -7,8 +8,8 @@ use Rattle.event_defs.specs.PulledList.{Answer}
 use Rattle.event_defs.specs.PulledList as answer
 use Rattle.event_defs.specs.Stream.{events_of}
 use Rattle.yaml_parser.specs.declared.event.Event.{Event}
-use Rattle.yaml_parser.specs.Shown.{ev_of}
-use Rattle.yaml_parser.specs.Parsed.{Parsed, is_stream_end, has_end, read}
+use Rattle.yaml_parser.specs.Shown.{ev_of, placed}
+use Rattle.yaml_parser.specs.Parsed.{Parse, Parsed, parsed, is_stream_end, has_end, read}
 use Rattle.yaml_parser.specs.Follows.{Follows, IsWhole, Explains}
 use Rattle.yaml_parser.specs.Nests.{BeginsNested}
 
@@ -82,3 +83,18 @@ ShowsNext old e = (new : Parsed) × Waits old new × (new.ahead ≡ Some e)
 -- A look meets this fault.
 abbrev pub MeetsFault : Parsed → Fault → Type 0
 MeetsFault old f = (new : Parsed) × GivesFault old f new
+
+-- What `look` answered, as `peek` passes it on: the event that waits, or the fault.
+abbrev pub ShowsLooked : Result (Unit {0}) Fault → Parsed → Result (Bor (Event × Place)) Fault → Type 0
+ShowsLooked looked new (Ok e) = (looked ≡ Ok tt) × (new.ahead ≡ Some (placed e.now))
+ShowsLooked looked new (Err f) = looked ≡ Err f
+
+-- one peek at the next event
+abbrev pub Peeks : Parsed → Result (Bor (Event × Place)) Fault → Parsed → Type 0
+Peeks old (Ok e) new = Waits old new × (new.ahead ≡ Some (placed e.now))
+Peeks old (Err f) new = GivesFault old f new
+
+-- What a peek leaves of the parser, once the event that it showed is let go.
+pub record PeekLeaves {T : Type 0} (old : Parse T) (shown : Result (Bor (Event × Place)) Fault) (new : Parse T) : Type 0 where
+  pub start : new.start ≡ old.start
+  pub peeks : Peeks (parsed old) shown (parsed new)

@@ -1,11 +1,13 @@
 ghost use Rattle.std.specs.Prelude.{◌≡◌, ◌^◌, ◌<◌, ◌&&◌, ◌||◌, ◌++◌, if◌then◌else◌, [], ◌∷◌, true, false, Some, None, IfSome, IsSome, IfOk, IfErr, option_map, is_some};
+ghost use Rattle.std.specs.Borrow.{sem};
+ghost use Rattle.std.specs.Io.BufRead.{Rests};
 ghost use Rattle.std.specs.Iterator.{IsFinite, size};
 ghost use Rattle.std.specs.Str.Iter.{chars_rest};
 ghost use Rattle.yaml_chars.specs.Reading.{HasNoNul};
 ghost use Rattle.yaml_chars.specs.Source.{CameFrom};
 ghost use Rattle.yaml_scanner.specs.Scanned.{Scans};
 ghost use Rattle.yaml_parser.specs.Parsed.{parsed, is_fresh, is_stream_end};
-ghost use Rattle.yaml_parser.specs.Pulls.{GivesEvent, Pulls, Looks, ShowsNext, MeetsFault, answer_of};
+ghost use Rattle.yaml_parser.specs.Pulls.{GivesEvent, Pulls, Looks, ShowsNext, MeetsFault, PeekLeaves, ShowsLooked, answer_of};
 ghost use Rattle.yaml_parser.specs.Shown.{placed, ev_of};
 ghost use Rattle.yaml_parser.specs.View.{no_document};
 
@@ -87,6 +89,8 @@ impl<'a> Parser<Chars<'a>> {
 }
 
 impl<T: Iterator<Item = char>> Parser<T> {
+    ghost use Rattle.yaml_parser.specs.contracts.parser.Parser.{the_row};
+
     /// A parser of the characters of an iterator, up to its end or to a NUL. It takes no memory.
     pub fn new(alloc: Global, src: T) -> Parser<T>
         requires can { T.can_next src }
@@ -143,10 +147,20 @@ impl<T: Iterator<Item = char>> Parser<T> {
     /// The next event and its place, which stays: the next call of `next_token` gives it. This is a
     /// `look` and what is then `waiting`.
     pub fn peek(&mut self) -> Result<&(Event, Marker), ScanError>
+        ensures* after { sem 𝓛 (Rests (the_row T.row T.Iterator) self.entry (λ after. PeekLeaves self.old result after)) }
         ensures event { IfOk result (λ e. ShowsNext (parsed self.old) (placed e.now)) }
         ensures fault { IfErr result (λ f. MeetsFault (parsed self.old) f) }
     {
-        self.look()?;
+        let looked = self.look();
+        self.shown(looked)
+    }
+
+    /// The event that waits, or the fault that the look met.
+    fn shown(&self, looked: Result<(), ScanError>) -> Result<&(Event, Marker), ScanError>
+        requires { IfOk looked (λ _. IsSome (parsed self.now).ahead) }
+        ensures { ShowsLooked looked (parsed self.now) result }
+    {
+        looked?;
         match self.waiting() {
             Some(next) => Ok(next),
             None => unreachable!(),

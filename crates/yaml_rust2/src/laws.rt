@@ -12,10 +12,10 @@ pub use layout_defs::laws::{
 pub use loaded_texts::laws::{
     characters_are_the_text, dumps_are_injective, dumps_are_read_as_their_tree,
     events_of_read_texts_are_read, json_texts_are_loaded, json_texts_are_read_as_their_tree,
-    json_texts_are_without_nul, layout_texts_are_read_as_their_tree,
-    layout_texts_are_without_nul, read_texts_are_loaded, read_texts_are_not_refused,
-    read_texts_have_no_fault_but_memory, read_texts_have_their_trees, strings_are_the_text,
-    texts_are_answered, texts_are_read_in_one_way,
+    json_texts_are_without_nul, layout_texts_are_read_as_their_tree, layout_texts_are_without_nul,
+    read_texts_are_loaded, read_texts_are_not_refused, read_texts_have_no_fault_but_memory,
+    read_texts_have_their_trees, strings_are_the_text, texts_are_answered,
+    texts_are_read_in_one_way,
 };
 pub use read_json::laws::{
     foretold_events_are_not_refused, json_documents_read_as_their_trees, json_events_are_loaded,
