@@ -1,6 +1,7 @@
 //! YAML 1.2 for Rattle: text to trees, text to events with their places, and tokens.
 //!
 //! - `YamlLoader::load_from_str(alloc, text)` gives the trees of all documents.
+//! - `yaml::YamlDecoder` does so of what a reader gives, in UTF-8 or UTF-16.
 //! - `parser::Parser` gives events, pulled by `next_token` or pushed into a receiver by `load`.
 //! - `scanner::Scanner` gives tokens.
 #![tactic(auto)]

@@ -1,3 +1,5 @@
-//! Trees, and the loader that makes them.
+//! Trees, the loader that makes them of a text, and the decoder that makes them of bytes.
+pub use yaml_bytes::{LoadError, YamlDecoder};
+pub use yaml_decoder::{YAMLDecodingTrap, YAMLDecodingTrapFn};
 pub use yaml_loader::YamlLoader;
 pub use yaml_tree::{Array, Hash, Yaml, YamlIter};
