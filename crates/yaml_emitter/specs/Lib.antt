@@ -1,0 +1,4 @@
+pub mod At
+pub mod Escaping
+pub mod Words
+pub mod Writing
