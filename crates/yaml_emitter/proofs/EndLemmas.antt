@@ -15,7 +15,7 @@ false_if : (b : Bool) → (b ≡ true → ⊥) → false ≡ b
 false_if true n = absurd (n refl)
 false_if false n = refl
 
-take_front : (w t : List ℕ) → take (length w) (w ++ t) ≡ w
+pub take_front : (w t : List ℕ) → take (length w) (w ++ t) ≡ w
 take_front [] t = refl
 take_front (c ∷ w) t = ap (λ x. c ∷ x) (take_front w t)
 
@@ -28,7 +28,7 @@ drop_front x w =
     by [] = refl
     by (c ∷ x) = by x
 
-halves : (n : ℕ) (t : List ℕ) → take n t ++ drop n t ≡ t
+pub halves : (n : ℕ) (t : List ℕ) → take n t ++ drop n t ≡ t
 halves zero t = refl
 halves (suc n) [] = refl
 halves (suc n) (c ∷ t) = ap (λ x. c ∷ x) (halves n t)

@@ -5,3 +5,4 @@ pub mod LineLemmas
 pub mod NumberLemmas
 pub mod EndLemmas
 pub mod WordLemmas
+pub mod LiteralLemmas

@@ -1,4 +1,6 @@
 pub mod At
+pub mod Blocks
+pub mod Entries
 pub mod Escaping
 pub mod Words
 pub mod Writing

@@ -75,12 +75,7 @@ fn has_indicator_first(text: &str) -> bool
 fn has_unfit_character(text: &str) -> bool
     ensures { result ≡ list_any is_unfit_for_plain (chars text.now) }
 {
-    'characters: for c in text.chars() {
-        if is_unfit_for_plain(c) {
-            return true;
-        }
-    }
-    false
+    text.chars().any(is_unfit_for_plain)
 }
 
 #[tactic(auto, unfolding(tree_defs::specs::Quoting::is_unfit_for_plain))]
