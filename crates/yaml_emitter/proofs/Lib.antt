@@ -6,3 +6,4 @@ pub mod NumberLemmas
 pub mod EndLemmas
 pub mod WordLemmas
 pub mod LiteralLemmas
+pub mod EntryLemmas

@@ -76,31 +76,31 @@ pub stopped_as : {W : Type 0} {gives leaves : W → List ℕ → W → Type 0} {
 stopped_as {gives = gives} {leaves} {reason} {w} {v} e = subst (λ t. Stopped gives leaves reason w t v) e
 
 -- a call behind what was written
-pub writes_late : {W : Type 0} {gives leaves : W → List ℕ → W → Type 0} {reason : Type 0} {w v u : W} {a b : List ℕ} {r : Result (Unit {0}) Error}
+pub writes_late : {W E : Type 0} {gives leaves : W → List ℕ → W → Type 0} {reason : Type 0} {w v u : W} {a b : List ℕ} {r : Result (Unit {0}) E}
     → Wrote gives w a v → WritesUnless reason gives leaves v r b u → WritesUnless reason gives leaves w r (a ++ b) u
 writes_late p q = record { ok = λ k. wrote_then p (q.ok k); err = λ k. stopped_late p (q.err k) }
 
 -- the same call, with more reasons
-pub writes_for : {W : Type 0} {gives leaves : W → List ℕ → W → Type 0} {reason other : Type 0} {w v : W} {a : List ℕ} {r : Result (Unit {0}) Error}
+pub writes_for : {W E : Type 0} {gives leaves : W → List ℕ → W → Type 0} {reason other : Type 0} {w v : W} {a : List ℕ} {r : Result (Unit {0}) E}
     → (reason → other) → WritesUnless reason gives leaves w r a v → WritesUnless other gives leaves w r a v
 writes_for f q = record { ok = q.ok; err = λ k. stopped_for f (q.err k) }
 
 -- the same text in another form
-pub writes_as : {W : Type 0} {gives leaves : W → List ℕ → W → Type 0} {reason : Type 0} {w v : W} {a b : List ℕ} {r : Result (Unit {0}) Error}
+pub writes_as : {W E : Type 0} {gives leaves : W → List ℕ → W → Type 0} {reason : Type 0} {w v : W} {a b : List ℕ} {r : Result (Unit {0}) E}
     → a ≡ b → WritesUnless reason gives leaves w r a v → WritesUnless reason gives leaves w r b v
 writes_as {gives = gives} {leaves} {reason} {w} {v} {r = r} e = subst (λ t. WritesUnless reason gives leaves w r t v) e
 
-not_both : (r : Result (Unit {0}) Error) → IsErr r → IsOk r → ⊥
+not_both : {E : Type 0} (r : Result (Unit {0}) E) → IsErr r → IsOk r → ⊥
 not_both (Ok x) e k = cc
 not_both (Err x) e k = cc
 
 -- the end of a function that is stopped
-pub writes_err : {W : Type 0} {gives leaves : W → List ℕ → W → Type 0} {reason : Type 0} {w v : W} {a : List ℕ} {r : Result (Unit {0}) Error}
+pub writes_err : {W E : Type 0} {gives leaves : W → List ℕ → W → Type 0} {reason : Type 0} {w v : W} {a : List ℕ} {r : Result (Unit {0}) E}
     → IsErr r → Stopped gives leaves reason w a v → WritesUnless reason gives leaves w r a v
 writes_err {r = r} e p = record { ok = λ k. absurd (not_both r e k); err = λ _. p }
 
 -- the end of a function that has written all
-pub writes_ok : {W : Type 0} {gives leaves : W → List ℕ → W → Type 0} {reason : Type 0} {w v : W} {a : List ℕ} {r : Result (Unit {0}) Error}
+pub writes_ok : {W E : Type 0} {gives leaves : W → List ℕ → W → Type 0} {reason : Type 0} {w v : W} {a : List ℕ} {r : Result (Unit {0}) E}
     → IsOk r → Wrote gives w a v → WritesUnless reason gives leaves w r a v
 writes_ok {r = r} e p = record { ok = λ _. p; err = λ k. absurd (not_both r k e) }
 
@@ -123,6 +123,6 @@ pub left_stopped : {W : Type 0} {gives leaves : W → List ℕ → W → Type 0}
     → IsLeft gives w text v a → Stopped gives leaves reason v a u → Stopped gives leaves reason w text u
 left_stopped {gives = gives} {leaves} {reason} {w} {u = u} p q = subst (λ t. Stopped gives leaves reason w t u) p.whole (stopped_late p.wrote q)
 
-pub left_writes : {W : Type 0} {gives leaves : W → List ℕ → W → Type 0} {reason : Type 0} {w v u : W} {text a : List ℕ} {r : Result (Unit {0}) Error}
+pub left_writes : {W E : Type 0} {gives leaves : W → List ℕ → W → Type 0} {reason : Type 0} {w v u : W} {text a : List ℕ} {r : Result (Unit {0}) E}
     → IsLeft gives w text v a → WritesUnless reason gives leaves v r a u → WritesUnless reason gives leaves w r text u
 left_writes {gives = gives} {leaves} {reason} {w} {u = u} {r = r} p q = subst (λ t. WritesUnless reason gives leaves w r t u) p.whole (writes_late p.wrote q)

@@ -29,7 +29,7 @@ pub record Stopped {W : Type 0} (gives leaves : W → List ℕ → W → Type 0)
 
 -- how a function that writes the text left the writer: `Ok` where it was written, in some calls; `Err` where one of them was refused
 -- or the reason holds
-pub record WritesUnless {W : Type 0} (reason : Type 0) (gives leaves : W → List ℕ → W → Type 0) (w : W) (r : Result (Unit {0}) Error) (text : List ℕ) (v : W) : Type 0 where
+pub record WritesUnless {W E : Type 0} (reason : Type 0) (gives leaves : W → List ℕ → W → Type 0) (w : W) (r : Result (Unit {0}) E) (text : List ℕ) (v : W) : Type 0 where
   pub ok : IsOk r → Wrote gives w text v
   pub err : IsErr r → Stopped gives leaves reason w text v
 

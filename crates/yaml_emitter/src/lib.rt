@@ -1,6 +1,7 @@
 //! YAML trees to text.
 #![tactic(auto)]
 
+mod emitter;
 mod ends;
 mod escape;
 mod line;
@@ -9,6 +10,9 @@ mod node;
 mod number;
 mod quoting;
 mod scalar;
+#[cfg(test)]
+mod tests;
 mod writer;
 
+pub use emitter::{EmitError, EmitResult, YamlEmitter};
 pub use writer::Writer;

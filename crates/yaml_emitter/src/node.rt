@@ -1,13 +1,14 @@
 //! Nodes: scalars, and arrays and hashes in block style (YAML 1.2, chapter 8).
-ghost use Rattle.std.specs.Prelude.{◌≡◌, ◌<◌, ◌≤◌, ◌+◌, ◌^◌, max, chars, if◌then◌else◌};
+ghost use Rattle.std.specs.Prelude.{◌≡◌, ◌<◌, ◌≤◌, ◌+◌, ◌^◌, max, chars, true, false, if◌then◌else◌};
 ghost use Rattle.tree_defs.specs.Box.{box, is_block, string_box};
+ghost use Rattle.tree_defs.specs.DumpText.{dump_text};
 ghost use Rattle.tree_defs.specs.Literal.{is_literal, is_root_literal};
 ghost use Rattle.tree_defs.specs.Spelling.{is_scalar};
 ghost use Rattle.tree_defs.specs.Tree.{array, hash, items_of, pairs_of};
 ghost use Rattle.tree_defs.specs.Writable.{levels};
 ghost use Rattle.yaml_tree.specs.View.{view, array_tree, hash_tree};
 ghost use Rattle.yaml_emitter.specs.At.{stacked};
-ghost use Rattle.yaml_emitter.specs.Entries.{before_value, behind_mark, before_entry, pair_text, scalar_box};
+ghost use Rattle.yaml_emitter.specs.Entries.{before_value, behind_mark, before_entry, item_mark, second_mark, scalar_key, pair_text, scalar_box};
 ghost use Rattle.yaml_emitter.specs.Writing.{Writes, WritesUnless};
 
 use crate::line::break_line;
@@ -29,8 +30,20 @@ pub(crate) struct Layout {
     pub(crate) multiline: bool,
 }
 
-/// Writes the root of a document.
-pub(crate) fn write_root<W: Writer>(out: &mut W, layout: Layout, node: &Yaml) -> fmt::Result
+/// Writes the line `---` and the document's root below it.
+pub(crate) fn write_document<W: Writer>(
+    out: &mut W,
+    layout: Layout,
+    root: &Yaml,
+) -> fmt::Result
+    ensures { WritesUnless (2 ^ 62 ≤ levels (view root.now)) W.put_gives W.put_leaves out.old result
+        (dump_text layout.compact layout.multiline (view root.now)) out.new }
+{
+    put_ascii(out, "---\n")?;
+    write_root(out, layout, root)
+}
+
+fn write_root<W: Writer>(out: &mut W, layout: Layout, node: &Yaml) -> fmt::Result
     ensures { WritesUnless (2 ^ 62 ≤ levels (view node.now)) W.put_gives W.put_leaves out.old result
         (stacked 0 (box layout.compact layout.multiline true (view node.now))) out.new }
 {
@@ -50,7 +63,7 @@ fn write_value<W: Writer>(
     blocks_lower: bool,
     node: &Yaml,
 ) -> fmt::Result
-    requires { level < 2 ^ 62 }
+    requires { level + 1 < 2 ^ 62 }
     ensures { WritesUnless (2 ^ 62 ≤ level + 1 + levels (view node.now)) W.put_gives W.put_leaves out.old result
         (behind_mark blocks_lower level (view node.now) (box layout.compact layout.multiline false (view node.now))) out.new }
 {
@@ -107,10 +120,9 @@ fn write_array<W: Writer>(
         return Err(fmt::Error);
     }
     let mut is_first = true;
-    for item in items {
-        begin_entry(out, level, is_first)?;
+    'items: for item in items {
+        begin_item(out, level, is_first)?;
         is_first = false;
-        put_ascii(out, "-")?;
         write_value(out, layout, level, !layout.compact, item)?;
     }
     Ok(())
@@ -134,7 +146,7 @@ fn write_hash<W: Writer>(
         return Err(fmt::Error);
     }
     let mut is_first = true;
-    for (key, value) in pairs {
+    'pairs: for (key, value) in pairs {
         begin_entry(out, level, is_first)?;
         is_first = false;
         write_pair(out, layout, level, key, value)?;
@@ -152,6 +164,29 @@ fn begin_entry<W: Writer>(out: &mut W, level: usize, is_first: bool) -> fmt::Res
     break_line(out, level)
 }
 
+// The dash of an item.
+fn begin_item<W: Writer>(out: &mut W, level: usize, is_first: bool) -> fmt::Result
+    ensures { Writes W.put_gives W.put_leaves out.old result (item_mark is_first level) out.new }
+{
+    begin_entry(out, level, is_first)?;
+    put_ascii(out, "-")
+}
+
+// The colon behind a complex key stands on a line of its own.
+fn begin_second<W: Writer>(out: &mut W, level: usize) -> fmt::Result
+    ensures { Writes W.put_gives W.put_leaves out.old result (second_mark level) out.new }
+{
+    break_line(out, level)?;
+    put_ascii(out, ":")
+}
+
+fn write_scalar_key<W: Writer>(out: &mut W, key: &Yaml) -> fmt::Result
+    ensures { Writes W.put_gives W.put_leaves out.old result (scalar_key (view key.now)) out.new }
+{
+    write_spelling(out, key)?;
+    put_ascii(out, ":")
+}
+
 #[cycle(write)]
 fn write_pair<W: Writer>(
     out: &mut W,
@@ -160,19 +195,17 @@ fn write_pair<W: Writer>(
     key: &Yaml,
     value: &Yaml,
 ) -> fmt::Result
-    requires { level < 2 ^ 62 }
+    requires { level + 1 < 2 ^ 62 }
     ensures { WritesUnless (2 ^ 62 ≤ level + 1 + max (levels (view key.now)) (levels (view value.now))) W.put_gives W.put_leaves
         out.old result (pair_text layout.compact layout.multiline level (view key.now) (view value.now)) out.new }
 {
     if is_scalar(key) {
-        write_spelling(out, key)?;
-        put_ascii(out, ":")?;
+        write_scalar_key(out, key)?;
         return write_value(out, layout, level, true, value);
     }
     put_ascii(out, "?")?;
     write_value(out, layout, level, !layout.compact, key)?;
-    break_line(out, level)?;
-    put_ascii(out, ":")?;
+    begin_second(out, level)?;
     write_value(out, layout, level, !layout.compact, value)
 }
 
