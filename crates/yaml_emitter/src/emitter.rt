@@ -35,6 +35,7 @@ impl From<fmt::Error> for EmitError {
 pub type EmitResult = Result<(), EmitError>;
 
 /// Writes trees as YAML to a writer, in one of four layouts.
+#[derive(Drop)]
 pub struct YamlEmitter<'a, W: Writer> {
     writer: &'a mut W,
     layout: Layout,
