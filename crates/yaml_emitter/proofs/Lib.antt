@@ -7,3 +7,4 @@ pub mod EndLemmas
 pub mod WordLemmas
 pub mod LiteralLemmas
 pub mod EntryLemmas
+pub mod NodeLemmas
