@@ -1,7 +1,9 @@
 -- How a writer stands behind a node.
-use Rattle.std.proofs.Common.{◌≡◌, ◌↔◌, ℕ, ◌+◌, ◌≤◌, ◌<◌, List, [], ◌∷◌, ◌++◌, Bool, true, false, not, refl, sym, ap, ◌∙◌, subst, arith}
+use Rattle.std.proofs.Common.{append-nil, ◌≡◌, ◌↔◌, ℕ, ◌+◌, ◌≤◌, ◌<◌, List, [], ◌∷◌, ◌++◌, Bool, true, false, not, refl, sym, ap, ◌∙◌, subst, arith}
 use Rattle.std.specs.Prelude.{◌^◌, max, Result, IsTrue, if◌then◌else◌, codes}
 use Rattle.tree_defs.specs.Box.{box, item_boxes, pair_boxes, is_block}
+use Rattle.tree_defs.specs.DumpText.{dump_text}
+use Rattle.tree_defs.specs.Lines.{joined}
 use Rattle.tree_defs.specs.Spelling.{is_scalar}
 use Rattle.tree_defs.specs.Tree.{Tree, array, hash, items_of, pairs_of}
 use Rattle.tree_defs.specs.Writable.{levels, item_levels, pair_levels}
@@ -11,10 +13,10 @@ use Rattle.yaml_tree.specs.declared.yaml.Yaml.{Yaml}
 use Rattle.yaml_tree.specs.declared.yaml.Yaml.TheVariants.{Real, Integer, String, Boolean, Array, Hash, Alias, Null, BadValue}
 use Rattle.yaml_tree.specs.declared.array.Array as arrays
 use Rattle.yaml_tree.specs.declared.hash.Hash as hashes
-use Rattle.yaml_emitter.specs.At.{stacked}
+use Rattle.yaml_emitter.specs.At.{below, stacked}
 use Rattle.yaml_emitter.specs.Entries.{before_value, behind_mark, before_entry, item_mark, second_mark, scalar_key, pair_text, entries_text, scalar_box}
 use Rattle.yaml_emitter.specs.Writing.{Wrote, WritesUnless, IsLeft}
-use Rattle.yaml_emitter.proofs.EntryLemmas.{block_of_items, block_of_pairs, next_item, next_pair}
+use Rattle.yaml_emitter.proofs.EntryLemmas.{HasLines, lines, box_lines, block_of_items, block_of_pairs, next_item, next_pair}
 use Rattle.yaml_emitter.proofs.WritingLemmas.{writes_late, left_as}
 
 -- a node that is neither an array nor a hash
@@ -36,6 +38,11 @@ pub value_writes : {W E : Type 0} {gives leaves : W → List ℕ → W → Type 
     → WritesUnless (2 ^ 62 ≤ level + 1 + levels t) gives leaves w r (behind_mark lower level t (box c m false t)) u
 value_writes {gives = gives} {leaves} {v = v} {u} {r} lower c m level t s e p q =
     writes_late p (subst (λ x. WritesUnless (2 ^ 62 ≤ level + 1 + levels x) gives leaves v r (stacked (level + 1) (box c m false x)) u) (sym e) q)
+
+-- the root
+pub root_writes : {W E : Type 0} {gives leaves : W → List ℕ → W → Type 0} {w v : W} {r : Result (Unit {0}) E} (c m : Bool) (t s : Tree)
+    → t ≡ s → WritesUnless (2 ^ 62 ≤ levels s) gives leaves w r (stacked 0 (box c m true s)) v → WritesUnless (2 ^ 62 ≤ levels t) gives leaves w r (stacked 0 (box c m true t)) v
+root_writes {gives = gives} {leaves} {w} {v} {r} c m t s e q = subst (λ x. WritesUnless (2 ^ 62 ≤ levels x) gives leaves w r (stacked 0 (box c m true x)) v) (sym e) q
 
 -- ---- what is left of an array or hash
 
@@ -91,3 +98,14 @@ pub complex_pair : (c m : Bool) (level : ℕ) (k v : Tree) → false ≡ is_scal
     → codes "?" ++ (behind_mark (not c) level k (box c m false k) ++ (second_mark level ++ behind_mark (not c) level v (box c m false v))) ≡ pair_text c m level k v
 complex_pair c m level k v e = ap (λ b. if b then scalar_key k ++ behind_mark true level v (box c m false v)
     else codes "?" ++ (behind_mark (not c) level k (box c m false k) ++ (second_mark level ++ behind_mark (not c) level v (box c m false v)))) e
+
+-- the document's text, from its root's box
+pub document_text : (c m : Bool) (t : Tree) → codes "---\n" ++ stacked 0 (box c m true t) ≡ dump_text c m t
+document_text c m t = by (box_lines c m true t)
+  where
+    all : (ls : List (List ℕ)) (l : List ℕ) → l ++ below 0 ls ≡ joined (l ∷ ls)
+    all [] l = append-nil l
+    all (k ∷ ls) l = ap (λ t. l ++ 10 ∷ t) (all ls k)
+
+    by : {ls : List (List ℕ)} → HasLines ls → codes "---\n" ++ stacked 0 ls ≡ joined (codes "---" ∷ ls)
+    by (lines l ls) = ap (λ t. codes "---\n" ++ t) (all ls l)

@@ -15,5 +15,5 @@ abbrev pub multiline_of : {W : Type 0} → YamlEmitter W → Bool
 multiline_of e = e.layout.multiline
 
 -- the name by which the caller's writer is known
-abbrev pub writer_name : {W : Type 0} (e : YamlEmitter W) → _
+abbrev pub writer_name : {W : Type 0} → YamlEmitter W → ℕ
 writer_name e = e.writer.ghost_name
