@@ -3,14 +3,14 @@ use Rattle.std.proofs.Common.{◌≡◌, ◌≢◌, ℕ, suc, ne_eqb, eq-eqb, eq
 use Rattle.std.specs.Prelude.{◌==◌, nat_eq, bytes_eq, encode_utf8, Option, Some, None, MatchOption, if◌then◌else◌, codes}
 use Rattle.std.specs.Char.{len_utf8}
 use Rattle.std.specs.Borrow.{Bor}
-use Rattle.std.specs.Str.{chars, IsUtf8, NonePass, NoCharPasses}
+use Rattle.std.specs.Str.{chars, IsUtf8}
 use Rattle.std.specs.Str.Pattern.{SplitsAroundMatch, FindsChar}
 use Rattle.std.proofs.lemmas.Slice.Eq.{bytes_eq-Decides}
 use Rattle.std.proofs.lemmas.Str.{encode_ascii, chars-nil, chars-append, chars_from_encodes, chars_past_char, IsUtf8-from_ascii, IsUtf8-append, IsUtf8-take, IsUtf8-drop, IsCharBoundary-before_ascii}
 use Rattle.std.specs.List.{list_any, list_all, ends_with}
 use Rattle.tree_defs.specs.Grammar.{is_empty}
 use Rattle.tree_defs.specs.Lines.{lines_of, onto_first_line}
-use Rattle.tree_defs.specs.Literal.{is_literal, is_root_literal, is_literal_character, is_line_feed, first_full_line_is_indented, begins_as_marker, begins_blank, starts_with_tab}
+use Rattle.tree_defs.specs.Literal.{is_literal, is_root_literal, is_literal_character, is_line_feed, first_full_line_is_indented, begins_as_marker, begins_blank}
 use Rattle.tree_defs.specs.Quoting.{begins_with}
 use Rattle.yaml_chars.specs.Class as class
 use Rattle.yaml_emitter.specs.At.{is_low, new_line, below}

@@ -1,5 +1,5 @@
 -- How a writer stands behind a node.
-use Rattle.std.proofs.Common.{append-nil, ◌≡◌, ◌↔◌, ℕ, ◌+◌, ◌≤◌, ◌<◌, List, [], ◌∷◌, ◌++◌, Bool, true, false, not, refl, sym, ap, ◌∙◌, subst, arith}
+use Rattle.std.proofs.Common.{append-nil, ◌≡◌, ◌↔◌, ℕ, ◌+◌, ◌≤◌, List, [], ◌∷◌, ◌++◌, Bool, true, false, not, refl, sym, ap, ◌∙◌, subst, arith}
 use Rattle.std.specs.Prelude.{◌^◌, max, Result, IsTrue, if◌then◌else◌, codes}
 use Rattle.tree_defs.specs.Box.{box, item_boxes, pair_boxes, is_block}
 use Rattle.tree_defs.specs.DumpText.{dump_text}

@@ -1,6 +1,6 @@
 -- The digits of a number.
 use Rattle.std.proofs.Common.{◌≡◌, ◌<◌, ◌≤◌, ◌+◌, ℕ, [], ◌∷◌, ◌++◌, ap, sym, ◌∙◌, arith, ℤ, pos, negsuc, Bool, true, false}
-use Rattle.std.specs.Prelude.{suc, ◌/◌, ◌%◌, ◌^◌, unsigned_abs, int_le, nat_le}
+use Rattle.std.specs.Prelude.{◌/◌, ◌%◌, ◌^◌, unsigned_abs, int_le, nat_le}
 use Rattle.std.proofs.lemmas.Bool.Decides.{nat_tests}
 use Rattle.std.specs.Fmt.{decimal, signed_decimal}
 use Rattle.std.proofs.lemmas.Fmt.{decimal_digit, decimal_step}

@@ -1,19 +1,19 @@
 -- The words that are quoted.
-use Rattle.std.proofs.Common.{◌≡◌, ℕ, suc, ◌+◌, cond, ◌<◌, List, [], ◌∷◌, length, ◌≤◌, Bool, true, false, ◌&&◌, ◌||◌, refl, sym, ap, subst, ◌∙◌, arith}
+use Rattle.std.proofs.Common.{◌≡◌, ℕ, suc, ◌+◌, cond, ◌<◌, List, [], ◌∷◌, length, ◌≤◌, Bool, true, false, ◌||◌, refl, sym, ap, subst, ◌∙◌, arith}
 use Rattle.std.specs.Prelude.{map, not, if◌then◌else◌, ◌==◌, nat_lt, bytes_eq, encode_utf8_all}
 use Rattle.std.specs.Char.{to_ascii_lowercase}
 use Rattle.std.specs.List.{list_all, list_any}
-use Rattle.std.specs.Str.{chars, str_to_ascii_lowercase, IsAscii, IsNotAscii, IsUtf8}
+use Rattle.std.specs.Str.{chars, IsAscii, IsNotAscii, IsUtf8}
 use Rattle.std.proofs.lemmas.Bool.{and_parts, and_from}
 use Rattle.std.proofs.lemmas.Bool.Decides.{nat_tests}
 use Rattle.std.proofs.lemmas.Slice.Eq.{bytes_eq-Decides}
 use Rattle.std.proofs.lemmas.Str.{chars-nil, chars-IsAscii, encodes-chars}
-use Rattle.tree_defs.specs.Grammar.{is_among, is_empty, one, optional, in_order, followed_by}
-use Rattle.tree_defs.specs.Quoting.{is_quoted, has_outer_space, has_indicator_first, begins_with, is_unfit_for_plain, reserved_words, is_float_word}
-use Rattle.tree_defs.specs.Typing.{is_sign, is_plus, is_minus, typing, is_string}
+use Rattle.tree_defs.specs.Grammar.{is_among, is_empty, followed_by}
+use Rattle.tree_defs.specs.Quoting.{is_quoted, has_outer_space, has_indicator_first, is_unfit_for_plain, reserved_words, is_float_word}
+use Rattle.tree_defs.specs.Typing.{is_sign, typing, is_string}
 use Rattle.tree_defs.proofs.GrammarLaws.{behind_one, Rejects, optional_one-behind, followed_by-empty}
 use Rattle.yaml_tree.proofs.WideTexts.{low, Wide, typing-wide, low_bytes}
-use Rattle.yaml_emitter.specs.Words.{is_unfit, is_word, is_name, float_names}
+use Rattle.yaml_emitter.specs.Words.{is_unfit, is_word, float_names}
 
 -- ---- names of numbers
 

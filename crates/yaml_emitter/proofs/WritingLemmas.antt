@@ -2,7 +2,6 @@
 use Rattle.std.proofs.Common.{ℕ, ◌≡◌, inl, inr, List, [], ◌∷◌, ◌++◌, refl, sym, ap, subst, ◌∙◌, append_assoc, append-nil}
 use Rattle.std.specs.Prelude.{Result, Ok, Err, IsOk, IsErr}
 use Rattle.std.specs.List.{FoldsTo, concat}
-use Rattle.std.specs.declared.fmt.Error.{Error}
 use Rattle.yaml_emitter.specs.Writing.{Wrote, IsRefused, Stopped, WritesUnless, IsLeft}
 
 concat_append : (xs ys : List (List ℕ)) → concat (xs ++ ys) ≡ concat xs ++ concat ys
@@ -33,7 +32,11 @@ wrote_then {gives = gives} {w} {v} {u} {a} {b} p q = record {
 -- a call that is refused
 pub stopped_one : {W : Type 0} {reason : Type 0} (gives leaves : W → List ℕ → W → Type 0) (w v : W) (a : List ℕ) → leaves w a v → Stopped gives leaves reason w a v
 stopped_one gives leaves w v a p = record {
-  written = []; rest = a; at = w; wrote = wrote_none; whole = refl;
+  written = [];
+  rest = a;
+  at = w;
+  wrote = wrote_none;
+  whole = refl;
   end = inl (record { piece = a; rest = []; refused = p; whole = append-nil a });
 }
 
@@ -44,7 +47,10 @@ refused_more b p = record { piece = p.piece; rest = p.rest ++ b; refused = p.ref
 pub stopped_early : {W : Type 0} {gives leaves : W → List ℕ → W → Type 0} {reason : Type 0} {w v : W} {a : List ℕ} (b : List ℕ)
     → Stopped gives leaves reason w a v → Stopped gives leaves reason w (a ++ b) v
 stopped_early b p = record {
-  written = p.written; rest = p.rest ++ b; at = p.at; wrote = p.wrote;
+  written = p.written;
+  rest = p.rest ++ b;
+  at = p.at;
+  wrote = p.wrote;
   whole = sym (append_assoc p.written p.rest b) ∙ ap (λ t. t ++ b) p.whole;
   end = elim p.end [ inl r ↦ inl (refused_more b r) | inr e ↦ inr e ];
 }
@@ -53,7 +59,10 @@ stopped_early b p = record {
 pub stopped_late : {W : Type 0} {gives leaves : W → List ℕ → W → Type 0} {reason : Type 0} {w v u : W} {a b : List ℕ}
     → Wrote gives w a v → Stopped gives leaves reason v b u → Stopped gives leaves reason w (a ++ b) u
 stopped_late {a = a} p q = record {
-  written = a ++ q.written; rest = q.rest; at = q.at; wrote = wrote_then p q.wrote;
+  written = a ++ q.written;
+  rest = q.rest;
+  at = q.at;
+  wrote = wrote_then p q.wrote;
   whole = append_assoc a q.written q.rest ∙ ap (λ t. a ++ t) q.whole;
   end = q.end;
 }
@@ -62,7 +71,11 @@ stopped_late {a = a} p q = record {
 pub stopped_for : {W : Type 0} {gives leaves : W → List ℕ → W → Type 0} {reason other : Type 0} {w v : W} {a : List ℕ}
     → (reason → other) → Stopped gives leaves reason w a v → Stopped gives leaves other w a v
 stopped_for f p = record {
-  written = p.written; rest = p.rest; at = p.at; wrote = p.wrote; whole = p.whole;
+  written = p.written;
+  rest = p.rest;
+  at = p.at;
+  wrote = p.wrote;
+  whole = p.whole;
   end = elim p.end [ inl r ↦ inl r | inr e ↦ inr (f e.0, e.1) ];
 }
 

@@ -31,11 +31,7 @@ pub(crate) struct Layout {
 }
 
 /// Writes the line `---` and the document's root below it.
-pub(crate) fn write_document<W: Writer>(
-    out: &mut W,
-    layout: Layout,
-    root: &Yaml,
-) -> fmt::Result
+pub(crate) fn write_document<W: Writer>(out: &mut W, layout: Layout, root: &Yaml) -> fmt::Result
     ensures { WritesUnless (2 ^ 62 ≤ levels (view root.now)) W.put_gives W.put_leaves out.old result
         (dump_text layout.compact layout.multiline (view root.now)) out.new }
 {
@@ -76,12 +72,7 @@ fn write_value<W: Writer>(
 }
 
 // A space, or a new line where the value is a block that goes lower.
-fn begin_value<W: Writer>(
-    out: &mut W,
-    level: usize,
-    blocks_lower: bool,
-    node: &Yaml,
-) -> fmt::Result
+fn begin_value<W: Writer>(out: &mut W, level: usize, blocks_lower: bool, node: &Yaml) -> fmt::Result
     requires { level < 2 ^ 62 }
     ensures { Writes W.put_gives W.put_leaves out.old result (before_value blocks_lower level (view node.now)) out.new }
 {
@@ -103,12 +94,7 @@ fn is_block(node: &Yaml) -> bool
 }
 
 #[cycle(write)]
-fn write_array<W: Writer>(
-    out: &mut W,
-    layout: Layout,
-    level: usize,
-    items: &Array,
-) -> fmt::Result
+fn write_array<W: Writer>(out: &mut W, layout: Layout, level: usize, items: &Array) -> fmt::Result
     requires { level < 2 ^ 62 }
     ensures { WritesUnless (2 ^ 62 ≤ level + levels (array_tree items.now)) W.put_gives W.put_leaves out.old result
         (stacked level (box layout.compact layout.multiline false (array_tree items.now))) out.new }
@@ -129,12 +115,7 @@ fn write_array<W: Writer>(
 }
 
 #[cycle(write)]
-fn write_hash<W: Writer>(
-    out: &mut W,
-    layout: Layout,
-    level: usize,
-    pairs: &Hash,
-) -> fmt::Result
+fn write_hash<W: Writer>(out: &mut W, layout: Layout, level: usize, pairs: &Hash) -> fmt::Result
     requires { level < 2 ^ 62 }
     ensures { WritesUnless (2 ^ 62 ≤ level + levels (hash_tree pairs.now)) W.put_gives W.put_leaves out.old result
         (stacked level (box layout.compact layout.multiline false (hash_tree pairs.now))) out.new }

@@ -11,9 +11,7 @@ fn word(alloc: Global, text: &str) -> Result<Yaml, Fail> {
 fn words(alloc: Global, texts: &[&str]) -> Result<Array, Fail> {
     let mut items = Array::new(alloc);
     for text in texts {
-        items
-            .push(word(alloc, text)?)
-            .map_err(|_| "out of memory")?;
+        items.push(word(alloc, text)?).map_err(|_| "out of memory")?;
     }
     Ok(items)
 }
@@ -69,13 +67,22 @@ fn scalars_are_spelt(rt: HostRuntime) -> Result<(), Fail> {
         (" a", "---\n\" a\""),
         ("a ", "---\n\"a \""),
         ("a\u{7}b", "---\na\u{7}b"),
-        ("\u{1}\u{8}\t\n\u{c}\r\u{7f}\"\\", "---\n\"\\u0001\\b\\t\\n\\f\\r\\u007f\\\"\\\\\""),
+        (
+            "\u{1}\u{8}\t\n\u{c}\r\u{7f}\"\\",
+            "---\n\"\\u0001\\b\\t\\n\\f\\r\\u007f\\\"\\\\\"",
+        ),
     ] {
         assert_eq!(rt; compactly(alloc, &word(alloc, text)?)?.as_str(), want);
     }
     assert_eq!(rt; compactly(alloc, &Yaml::Integer(42))?.as_str(), "---\n42");
-    assert_eq!(rt; compactly(alloc, &Yaml::Integer(i64::MIN))?.as_str(), "---\n-9223372036854775808");
-    assert_eq!(rt; compactly(alloc, &Yaml::Boolean(true))?.as_str(), "---\ntrue");
+    assert_eq!(rt;
+        compactly(alloc, &Yaml::Integer(i64::MIN))?.as_str(),
+        "---\n-9223372036854775808"
+    );
+    assert_eq!(rt;
+        compactly(alloc, &Yaml::Boolean(true))?.as_str(),
+        "---\ntrue"
+    );
     assert_eq!(rt; compactly(alloc, &Yaml::BadValue)?.as_str(), "---\n~");
     assert_eq!(rt; compactly(alloc, &Yaml::Alias(1))?.as_str(), "---\n");
     Ok(())
@@ -87,12 +94,22 @@ fn items_are_quoted_where_they_must_be(rt: HostRuntime) -> Result<(), Fail> {
     let mut items = words(
         alloc,
         &[
-            "yes", "true", "~", "2.6", "can't", ".milk", "a b", "2014-12-31", "你好",
+            "yes",
+            "true",
+            "~",
+            "2.6",
+            "can't",
+            ".milk",
+            "a b",
+            "2014-12-31",
+            "你好",
         ],
     )?;
     items.push(Yaml::Null).map_err(|_| "out of memory")?;
-    assert_eq!(rt; compactly(alloc, &Yaml::Array(items))?.as_str(),
-        "---\n- \"yes\"\n- \"true\"\n- \"~\"\n- \"2.6\"\n- \"can't\"\n- \".milk\"\n- a b\n- 2014-12-31\n- 你好\n- ~");
+    assert_eq!(rt;
+        compactly(alloc, &Yaml::Array(items))?.as_str(),
+        "---\n- \"yes\"\n- \"true\"\n- \"~\"\n- \"2.6\"\n- \"can't\"\n- \".milk\"\n- a b\n- 2014-12-31\n- 你好\n- ~"
+    );
     Ok(())
 }
 
@@ -107,20 +124,34 @@ fn arrays_in_arrays(rt: HostRuntime) -> Result<(), Fail> {
         .push(Yaml::Array(Array::new(alloc)))
         .map_err(|_| "out of memory")?;
     let tree = Yaml::Array(items);
-    assert_eq!(rt; compactly(alloc, &tree)?.as_str(), "---\n- - 1\n  - 2\n- []");
-    assert_eq!(rt; dumped(alloc, &tree, false, false)?.as_str(), "---\n-\n  - 1\n  - 2\n- []");
+    assert_eq!(rt;
+        compactly(alloc, &tree)?.as_str(),
+        "---\n- - 1\n  - 2\n- []"
+    );
+    assert_eq!(rt;
+        dumped(alloc, &tree, false, false)?.as_str(),
+        "---\n-\n  - 1\n  - 2\n- []"
+    );
     Ok(())
 }
 
 #[test]
 fn complex_keys(rt: HostRuntime) -> Result<(), Fail> {
     let alloc = rt.alloc();
-    let key = pair(alloc, word(alloc, "key")?, Yaml::Array(numbers(alloc, 1, 3)?))?;
+    let key = pair(
+        alloc,
+        word(alloc, "key")?,
+        Yaml::Array(numbers(alloc, 1, 3)?),
+    )?;
     let tree = Yaml::Hash(pair(alloc, Yaml::Hash(key), Yaml::Array(numbers(alloc, 4, 6)?))?);
-    assert_eq!(rt; compactly(alloc, &tree)?.as_str(),
-        "---\n? key:\n    - 1\n    - 2\n    - 3\n: - 4\n  - 5\n  - 6");
-    assert_eq!(rt; dumped(alloc, &tree, false, false)?.as_str(),
-        "---\n?\n  key:\n    - 1\n    - 2\n    - 3\n:\n  - 4\n  - 5\n  - 6");
+    assert_eq!(rt;
+        compactly(alloc, &tree)?.as_str(),
+        "---\n? key:\n    - 1\n    - 2\n    - 3\n: - 4\n  - 5\n  - 6"
+    );
+    assert_eq!(rt;
+        dumped(alloc, &tree, false, false)?.as_str(),
+        "---\n?\n  key:\n    - 1\n    - 2\n    - 3\n:\n  - 4\n  - 5\n  - 6"
+    );
     let empty = Yaml::Hash(pair(alloc, Yaml::Array(Array::new(alloc)), Yaml::Integer(1))?);
     assert_eq!(rt; compactly(alloc, &empty)?.as_str(), "---\n? []\n: 1");
     Ok(())
@@ -133,8 +164,10 @@ fn literal_blocks(rt: HostRuntime) -> Result<(), Fail> {
     pairs
         .insert(word(alloc, "baz")?, Yaml::Integer(42))
         .map_err(|_| "out of memory")?;
-    assert_eq!(rt; dumped(alloc, &Yaml::Hash(pairs), true, true)?.as_str(),
-        "---\nfoo: |-\n  bar!\n  bar!\nbaz: 42");
+    assert_eq!(rt;
+        dumped(alloc, &Yaml::Hash(pairs), true, true)?.as_str(),
+        "---\nfoo: |-\n  bar!\n  bar!\nbaz: 42"
+    );
     for (text, want) in [
         ("a\n\nb", "---\n- |-\n  a\n  \n  b"),
         ("a\n\n", "---\n- \"a\\n\\n\""),
@@ -150,7 +183,10 @@ fn literal_blocks(rt: HostRuntime) -> Result<(), Fail> {
         ("a\n---b", "---\n|-\na\n---b"),
         ("\ta\nb", "---\n\"\\ta\\nb\""),
     ] {
-        assert_eq!(rt; dumped(alloc, &word(alloc, text)?, true, true)?.as_str(), want);
+        assert_eq!(rt;
+            dumped(alloc, &word(alloc, text)?, true, true)?.as_str(),
+            want
+        );
     }
     Ok(())
 }
@@ -172,7 +208,9 @@ fn blocks_in_blocks(rt: HostRuntime) -> Result<(), Fail> {
     f.push(Yaml::Hash(i)).map_err(|_| "out of memory")?;
     a.insert(word(alloc, "e")?, Yaml::Array(f))
         .map_err(|_| "out of memory")?;
-    assert_eq!(rt; compactly(alloc, &Yaml::Hash(a))?.as_str(),
-        "---\na:\n  b:\n    c: hello\n  d: {}\ne:\n  - f\n  - - g\n    - - h\n  - i: []");
+    assert_eq!(rt;
+        compactly(alloc, &Yaml::Hash(a))?.as_str(),
+        "---\na:\n  b:\n    c: hello\n  d: {}\ne:\n  - f\n  - - g\n    - - h\n  - i: []"
+    );
     Ok(())
 }

@@ -1,4 +1,4 @@
-use Rattle.std.proofs.Common.{refl, sym, ap, ◌∙◌, arith}
+use Rattle.std.proofs.Common.{sym, ap, arith}
 use Rattle.tree_defs.specs.Escapes.{written_character}
 use Rattle.yaml_emitter.proofs.EscapeLemmas.{other_character}
 use Rattle.yaml_emitter.proofs.WritingLemmas.{writes_as}

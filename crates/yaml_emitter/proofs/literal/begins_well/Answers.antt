@@ -1,8 +1,7 @@
-use Rattle.std.proofs.Common.{refl, ap, sym, ◌∙◌, subst, ne_eqb, eq-eqb, not}
-use Rattle.std.specs.Prelude.{if◌then◌else◌, ◌==◌}
+use Rattle.std.proofs.Common.{ap, sym, ◌∙◌, subst}
 use Rattle.std.specs.Str.{chars, IsUtf8}
 use Rattle.std.specs.Str.Iter.{chars_rest}
-use Rattle.std.proofs.lemmas.Str.{IsUtf8-past_char, chars_past_char}
+use Rattle.std.proofs.lemmas.Str.{IsUtf8-past_char}
 use Rattle.yaml_emitter.specs.Blocks.{begins_well}
 use Rattle.yaml_emitter.proofs.LiteralLemmas.{well_first, well_break, well_none}
 use Rattle.yaml_emitter.proofs.literal.begins_well.Goals as goal

@@ -1,4 +1,4 @@
-use Rattle.std.proofs.Common.{refl, ap, sym, ◌∙◌, ◌||◌}
+use Rattle.std.proofs.Common.{ap, sym, ◌∙◌, ◌||◌}
 use Rattle.std.specs.List.{list_any}
 use Rattle.std.specs.Str.{chars}
 use Rattle.tree_defs.specs.Lines.{lines_of}

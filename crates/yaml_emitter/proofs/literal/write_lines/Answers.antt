@@ -1,6 +1,6 @@
 use Rattle.std.proofs.Common.{refl}
 use Rattle.yaml_emitter.proofs.LiteralLemmas.{first_below, line_last}
-use Rattle.yaml_emitter.proofs.WritingLemmas.{writes_err, writes_as, stopped_early, left_all, left_as, left_after, left_stopped, left_writes}
+use Rattle.yaml_emitter.proofs.WritingLemmas.{writes_err, stopped_early, left_all, left_as, left_after, left_stopped, left_writes}
 use Rattle.yaml_emitter.proofs.literal.write_lines.Goals as goal
 
 pub lines-init : goal.lines-init

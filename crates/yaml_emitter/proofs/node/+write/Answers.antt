@@ -1,5 +1,5 @@
-use Rattle.std.proofs.Common.{refl, ap, sym, ◌∙◌, ◌+◌, arith}
-use Rattle.std.specs.Prelude.{max, true}
+use Rattle.std.proofs.Common.{refl, ap, sym, ◌+◌, arith}
+use Rattle.std.specs.Prelude.{true}
 use Rattle.tree_defs.specs.Box.{item_boxes, pair_boxes}
 use Rattle.tree_defs.specs.Tree.{array, hash, items_of, pairs_of}
 use Rattle.tree_defs.specs.Writable.{item_levels, pair_levels}
@@ -78,7 +78,6 @@ pub write_array-returns-then-level-ge-DEEPEST : goal.write_array-returns-then-le
 write_array-returns-then-level-ge-DEEPEST g t c =
     let two = two_levels (array (items_of c.args.items.now)) (full_items _ _ c.is_empty.ensures c.if-is_empty.false) in
     writes_err refl (stopped_here _ _ _ _ _ (omega (arith, two)) refl)
-
 
 pub write_hash-pairs-init : goal.write_hash-pairs-init
 write_hash-pairs-init g t c =

@@ -5,7 +5,6 @@ use Rattle.tree_defs.specs.Tree.{items_of, pairs_of}
 use Rattle.tree_defs.specs.Writable.{item_levels, pair_levels}
 use Rattle.yaml_tree.specs.Depth.{depth, items_depth, pairs_depth}
 use Rattle.yaml_tree.specs.View.{view}
-use Rattle.yaml_emitter.specs.At.{stacked}
 use Rattle.yaml_emitter.specs.Entries.{entries_text}
 use Rattle.yaml_emitter.specs.Writing.{IsLeft}
 use Rattle.yaml_emitter.proofs.node.+write.Given as goal
