@@ -20,5 +20,5 @@ pub mod yaml;
 pub use array::Array;
 pub use hash::Hash;
 pub use items::YamlIter;
-pub use typing::is_real;
+pub use typing::{is_real, is_string};
 pub use yaml::Yaml;

@@ -1,7 +1,7 @@
 //! What a plain text stands for.
 ghost use Rattle.std.specs.Prelude.{◌≡◌, ◌≤◌, ◌||◌, IfOk, option_map, option_and_then, map, chars};
 ghost use Rattle.tree_defs.specs.Grammar.{is_among, at_least_one};
-ghost use Rattle.tree_defs.specs.Typing.{behind, signed_number, typing, is_sign, is_decimal, special_words, null_words, true_words, false_words};
+ghost use Rattle.tree_defs.specs.Typing.{behind, signed_number, typing, is_string, is_sign, is_decimal, special_words, null_words, true_words, false_words};
 ghost use Rattle.tree_defs.proofs.GrammarLaws.{behind_all, behind_one};
 ghost use Rattle.tree_defs.proofs.DecimalReading.{begins_in, reads_exponent, reads_on, reads_decimal};
 ghost use Rattle.std.specs.Char.{is_ascii_digit};
@@ -59,6 +59,16 @@ impl Yaml {
             Meaning::Real => Yaml::Real(text),
             Meaning::String => Yaml::String(text),
         }
+    }
+}
+
+/// Whether the text stands for itself as a plain scalar: `from_str` answers a `String`. It takes no memory.
+pub fn is_string(text: &str) -> bool
+    ensures { result ≡ is_string (typing (chars text.now)) }
+{
+    match stands_for(text) {
+        Meaning::String => true,
+        Meaning::Integer(_) | Meaning::Boolean(_) | Meaning::Null | Meaning::Real => false,
     }
 }
 

@@ -1,0 +1,73 @@
+-- How a text begins and ends, by its bytes and by its characters.
+use Rattle.std.proofs.Common.{◌≡◌, ◌≢◌, ℕ, zero, suc, ◌-◌, List, [], ◌∷◌, ◌++◌, length, take, drop, Bool, true, false, refl, sym, ap, ◌∙◌, arith, length-append}
+use Rattle.std.specs.Prelude.{nat_eq, encode_utf8_all, None}
+use Rattle.std.specs.List.{ends_with}
+use Rattle.std.specs.Str.{chars, IsUtf8}
+use Rattle.std.specs.Str.Pattern.{HasPrefixMatch, FindsTextPrefix, HasSuffixMatch, FindsTextSuffix}
+use Rattle.std.specs.Bool.{MatchBool}
+use Rattle.std.proofs.lemmas.Slice.Eq.{bytes_eq-Decides}
+use Rattle.std.proofs.lemmas.Str.{chars-append, encodes-append, encodes-chars, encodes-IsAscii, IsUtf8-from_ascii, IsUtf8-take}
+use Rattle.tree_defs.specs.Quoting.{begins_with}
+use Rattle.yaml_emitter.specs.At.{is_low}
+use Rattle.yaml_emitter.proofs.TextLemmas.{low_at, low_chars}
+
+false_if : (b : Bool) → (b ≡ true → ⊥) → false ≡ b
+false_if true n = absurd (n refl)
+false_if false n = refl
+
+pub take_front : (w t : List ℕ) → take (length w) (w ++ t) ≡ w
+take_front [] t = refl
+take_front (c ∷ w) t = ap (λ x. c ∷ x) (take_front w t)
+
+drop_front : (x w : List ℕ) → drop (length (x ++ w) - length w) (x ++ w) ≡ w
+drop_front x w =
+    let e : length (x ++ w) - length w ≡ length x = omega (arith, length-append x w) in
+    ap (λ k. drop k (x ++ w)) e ∙ by x
+  where
+    by : (x : List ℕ) → drop (length x) (x ++ w) ≡ w
+    by [] = refl
+    by (c ∷ x) = by x
+
+pub halves : (n : ℕ) (t : List ℕ) → take n t ++ drop n t ≡ t
+halves zero t = refl
+halves (suc n) [] = refl
+halves (suc n) (c ∷ t) = ap (λ x. c ∷ x) (halves n t)
+
+low_encoded : (w : List ℕ) → is_low w ≡ true → encode_utf8_all w ≡ w
+low_encoded w h = encodes-IsAscii w (low_at w h)
+
+pub begins_so : (w s rest : List ℕ) → is_low w ≡ true → s ≡ w ++ rest → true ≡ begins_with w (chars s)
+begins_so w s rest h e =
+    let f : chars s ≡ w ++ chars rest = ap chars e ∙ chars-append w rest (IsUtf8-from_ascii w (low_at w h)) ∙ ap (λ x. x ++ chars rest) (low_chars w h) in
+    sym ((bytes_eq-Decides w (take (length w) (chars s))).1 (sym (ap (take (length w)) f ∙ take_front w (chars rest))))
+
+pub begins_otherwise : (w s : List ℕ) → is_low w ≡ true → IsUtf8 s → ((rest : List ℕ) → s ≢ w ++ rest) → false ≡ begins_with w (chars s)
+begins_otherwise w s h u lacks = false_if (begins_with w (chars s)) (λ e.
+    let same : w ≡ take (length w) (chars s) = (bytes_eq-Decides w (take (length w) (chars s))).0 e in
+    let rest = drop (length w) (chars s) in
+    lacks (encode_utf8_all rest)
+    (sym (encodes-chars s u) ∙ ap encode_utf8_all (sym (halves (length w) (chars s)) ∙ ap (λ x. x ++ rest) (sym same))
+    ∙ encodes-append w rest ∙ ap (λ x. x ++ encode_utf8_all rest) (low_encoded w h)))
+
+pub ends_so : (w s front : List ℕ) → is_low w ≡ true → IsUtf8 front → s ≡ front ++ w → true ≡ ends_with nat_eq (chars s) w
+ends_so w s front h u e =
+    let f : chars s ≡ chars front ++ w = ap chars e ∙ chars-append front w u ∙ ap (λ x. chars front ++ x) (low_chars w h) in
+    sym ((bytes_eq-Decides w (drop (length (chars s) - length w) (chars s))).1 (sym (ap (λ x. drop (length x - length w) x) f ∙ drop_front (chars front) w)))
+
+pub ends_otherwise : (w s : List ℕ) → is_low w ≡ true → IsUtf8 s → ((front : List ℕ) → s ≢ front ++ w) → false ≡ ends_with nat_eq (chars s) w
+ends_otherwise w s h u lacks = false_if (ends_with nat_eq (chars s) w) (λ e.
+    let n = length (chars s) - length w in
+    let same : w ≡ drop n (chars s) = (bytes_eq-Decides w (drop n (chars s))).0 e in
+    let front = take n (chars s) in
+    lacks (encode_utf8_all front)
+    (sym (encodes-chars s u) ∙ ap encode_utf8_all (sym (halves n (chars s)) ∙ ap (λ x. front ++ x) (sym same))
+    ∙ encodes-append front w ∙ ap (λ x. encode_utf8_all front ++ x) (low_encoded w h)))
+
+-- what `str::starts_with` and `str::ends_with` answer
+pub begins_by : (w s : List ℕ) (b : Bool) → is_low w ≡ true → IsUtf8 s → MatchBool b (HasPrefixMatch (FindsTextPrefix w) s) (FindsTextPrefix w s None) → b ≡ begins_with w (chars s)
+begins_by w s true h u m = begins_so w s _ h m.1.1
+begins_by w s false h u m = begins_otherwise w s h u m
+
+pub ends_by : (w s : List ℕ) (b : Bool) → is_low w ≡ true → IsUtf8 s → MatchBool b (HasSuffixMatch (FindsTextSuffix w) s) (FindsTextSuffix w s None) → b ≡ ends_with nat_eq (chars s) w
+ends_by w s true h u m = ends_so w s _ h (IsUtf8-take s _ u m.3) m.1.1
+ends_by w s false h u m = ends_otherwise w s h u m

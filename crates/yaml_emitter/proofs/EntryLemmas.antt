@@ -1,0 +1,190 @@
+-- The text of arrays and hashes, entry by entry.
+use Rattle.std.proofs.Common.{◌≡◌, ◌↔◌, ℕ, zero, suc, ◌+◌, ◌≤◌, List, [], ◌∷◌, ◌++◌, Bool, true, false, not, ◌&&◌, refl, sym, ap, ◌∙◌, arith, append_assoc, add-one}
+use Rattle.std.specs.Prelude.{IsTrue, if◌then◌else◌, codes}
+use Rattle.tree_defs.specs.Box.{box, item_boxes, pair_boxes, pair_box, placed, indented, hung, hung_lower, is_block, if_none}
+use Rattle.tree_defs.specs.Spelling.{spelling, is_scalar}
+use Rattle.tree_defs.specs.Tree.{Tree, real, integer, string, boolean, array, hash, alias, null, bad_value, Items, no_items, item, Pairs, no_pairs, pair, items_of, pairs_of}
+use Rattle.tree_defs.specs.Writable.{levels}
+use Rattle.yaml_emitter.specs.At.{spaces, new_line, below, stacked}
+use Rattle.yaml_emitter.specs.Entries.{behind_mark, before_entry, item_mark, second_mark, scalar_key, pair_text, entries_text}
+
+-- ---- arrays and hashes that aren't empty
+
+pub block_of_items : (b : Bool) (ts : List Tree) → (IsTrue b ↔ (ts ≡ [])) → not b ≡ is_block (array (items_of ts))
+block_of_items true [] h = refl
+block_of_items true (t ∷ ts) h = let e = h.0 refl in cc
+block_of_items false [] h = let e = h.1 refl in cc
+block_of_items false (t ∷ ts) h = refl
+
+pub block_of_pairs : (b : Bool) (ps : List (Tree × Tree)) → (IsTrue b ↔ (ps ≡ [])) → not b ≡ is_block (hash (pairs_of ps))
+block_of_pairs true [] h = refl
+block_of_pairs true (p ∷ ps) h = let e = h.0 refl in cc
+block_of_pairs false [] h = let e = h.1 refl in cc
+block_of_pairs false (p ∷ ps) h = refl
+
+-- ---- lines two columns further to the right
+
+spaces_end : (n : ℕ) (x : List ℕ) → spaces n ++ 32 ∷ 32 ∷ x ≡ 32 ∷ 32 ∷ (spaces n ++ x)
+spaces_end zero x = refl
+spaces_end (suc n) x = ap (λ t. 32 ∷ 32 ∷ t) (spaces_end n x)
+
+deeper_line : (n : ℕ) (x : List ℕ) → new_line n ++ 32 ∷ 32 ∷ x ≡ new_line (n + 1) ++ x
+deeper_line n x = ap (λ t. 10 ∷ t) (spaces_end n x) ∙ ap (λ k. new_line k ++ x) (sym (add-one n))
+
+below_indented : (n : ℕ) (ls : List (List ℕ)) → below n (indented ls) ≡ below (n + 1) ls
+below_indented n [] = refl
+below_indented n (l ∷ ls) = ap (λ t. new_line n ++ 32 ∷ 32 ∷ (l ++ t)) (below_indented n ls) ∙ deeper_line n (l ++ below (n + 1) ls)
+
+below_append : (n : ℕ) (a b : List (List ℕ)) → below n (a ++ b) ≡ below n a ++ below n b
+below_append n [] b = refl
+below_append n (l ∷ a) b =
+    ap (λ t. new_line n ++ (l ++ t)) (below_append n a b)
+    ∙ ap (λ t. new_line n ++ t) (sym (append_assoc l (below n a) (below n b)))
+    ∙ sym (append_assoc (new_line n) (l ++ below n a) (below n b))
+
+-- ---- boxes, which all have a line
+
+pub data HasLines : List (List ℕ) → Type 0 where
+  lines : (l : List ℕ) (ls : List (List ℕ)) → HasLines (l ∷ ls)
+
+if_none_lines : (text : List ℕ) (ls : List (List ℕ)) → HasLines (if_none text ls)
+if_none_lines text [] = lines text []
+if_none_lines text (l ∷ ls) = lines l ls
+
+string_lines : (b : Bool) (l m : List ℕ) (ls : List (List ℕ)) → HasLines (if b then l ∷ ls else m ∷ [])
+string_lines true l m ls = lines l ls
+string_lines false l m ls = lines m []
+
+pub box_lines : (compact multiline at_root : Bool) (t : Tree) → HasLines (box compact multiline at_root t)
+box_lines c m r (string s) = string_lines _ _ _ _
+box_lines c m r (array ts) = if_none_lines (codes "[]") (item_boxes c m ts)
+box_lines c m r (hash ps) = if_none_lines (codes "{}") (pair_boxes c m ps)
+box_lines c m r (real s) = lines s []
+box_lines c m r (integer z) = lines (spelling (integer z)) []
+box_lines c m r (boolean b) = lines (spelling (boolean b)) []
+box_lines c m r (alias n) = lines [] []
+box_lines c m r null = lines (codes "~") []
+box_lines c m r bad_value = lines (codes "~") []
+
+stacked_append : (n : ℕ) {a : List (List ℕ)} (b : List (List ℕ)) → HasLines a → stacked n (a ++ b) ≡ stacked n a ++ below n b
+stacked_append n b (lines l ls) = ap (λ t. l ++ t) (below_append n ls b) ∙ sym (append_assoc l (below n ls) (below n b))
+
+below_stacked : (n : ℕ) {a : List (List ℕ)} → HasLines a → below n a ≡ new_line n ++ stacked n a
+below_stacked n (lines l ls) = refl
+
+placed_lines : (b : Bool) (mark : List ℕ) (t : Tree) {ls : List (List ℕ)} → HasLines ls → HasLines (placed b mark t ls)
+placed_lines b mark t (lines l ls) = string_or (b && is_block t)
+  where
+    string_or : (x : Bool) → HasLines (if x then hung_lower mark (l ∷ ls) else hung mark (l ∷ ls))
+    string_or true = lines mark (indented (l ∷ ls))
+    string_or false = lines (mark ++ 32 ∷ l) (indented ls)
+
+-- a box hung on a mark
+pub placed_at : (lower : Bool) (mark : List ℕ) (level : ℕ) (t : Tree) {ls : List (List ℕ)} → HasLines ls → stacked level (placed lower mark t ls) ≡ mark ++ behind_mark lower level t ls
+placed_at lower mark level t (lines l ls) = by (lower && is_block t)
+  where
+    by : (x : Bool) → stacked level (if x then hung_lower mark (l ∷ ls) else hung mark (l ∷ ls)) ≡ mark ++ ((if x then new_line (level + 1) else codes " ") ++ stacked (level + 1) (l ∷ ls))
+    by true = ap (λ t. mark ++ t) (below_indented level (l ∷ ls))
+    by false = ap (λ t. (mark ++ 32 ∷ l) ++ t) (below_indented level ls) ∙ append_assoc mark (32 ∷ l) (below (level + 1) ls)
+
+-- ---- entries
+
+entries_append : (first : Bool) (level : ℕ) {a : List (List ℕ)} (b : List (List ℕ)) → HasLines a
+    → entries_text first level (a ++ b) ≡ before_entry first level ++ (stacked level a ++ below level b)
+entries_append true level b h = stacked_append level b h
+entries_append false level {a} b h =
+    below_append level a b ∙ ap (λ t. t ++ below level b) (below_stacked level h) ∙ append_assoc (new_line level) (stacked level a) (below level b)
+
+-- the items that are left, the first one apart
+pub next_item : (c m first : Bool) (level : ℕ) (t : Tree) (ts : Items)
+    → entries_text first level (item_boxes c m (item t ts))
+    ≡ item_mark first level ++ (behind_mark (not c) level t (box c m false t) ++ entries_text false level (item_boxes c m ts))
+next_item c m first level t ts =
+    let h = box_lines c m false t in
+    entries_append first level (item_boxes c m ts) (placed_lines (not c) (codes "-") t h)
+    ∙ ap (λ x. before_entry first level ++ (x ++ below level (item_boxes c m ts))) (placed_at (not c) (codes "-") level t h)
+    ∙ sym (append_assoc (before_entry first level) (codes "-") (behind_mark (not c) level t (box c m false t) ++ entries_text false level (item_boxes c m ts)))
+
+-- a pair
+pair_lines : (c m : Bool) (k v : Tree) → HasLines (pair_box c k (box c m false k) v (box c m false v))
+pair_lines c m k v = by (is_scalar k)
+  where
+    longer : {a : List (List ℕ)} (b : List (List ℕ)) → HasLines a → HasLines (a ++ b)
+    longer b (lines l ls) = lines l (ls ++ b)
+
+    by : (x : Bool) → HasLines (if x then placed true (spelling k ++ codes ":") v (box c m false v)
+        else placed (not c) (codes "?") k (box c m false k) ++ placed (not c) (codes ":") v (box c m false v))
+    by true = placed_lines true (spelling k ++ codes ":") v (box_lines c m false v)
+    by false = longer _ (placed_lines (not c) (codes "?") k (box_lines c m false k))
+
+pair_at : (c m : Bool) (level : ℕ) (k v : Tree) → stacked level (pair_box c k (box c m false k) v (box c m false v)) ≡ pair_text c m level k v
+pair_at c m level k v = by (is_scalar k)
+  where
+    K : HasLines (box c m false k)
+    K = box_lines c m false k
+
+    V : HasLines (box c m false v)
+    V = box_lines c m false v
+
+    by : (x : Bool) → stacked level (if x then placed true (spelling k ++ codes ":") v (box c m false v)
+        else placed (not c) (codes "?") k (box c m false k) ++ placed (not c) (codes ":") v (box c m false v))
+        ≡ (if x then scalar_key k ++ behind_mark true level v (box c m false v)
+        else codes "?" ++ (behind_mark (not c) level k (box c m false k) ++ (second_mark level ++ behind_mark (not c) level v (box c m false v))))
+    by true = placed_at true (spelling k ++ codes ":") level v V
+    by false =
+        stacked_append level (placed (not c) (codes ":") v (box c m false v)) (placed_lines (not c) (codes "?") k K)
+        ∙ (λ i. placed_at (not c) (codes "?") level k K i ++ (below_stacked level (placed_lines (not c) (codes ":") v V) ∙ ap (λ t. new_line level ++ t) (placed_at (not c) (codes ":") level v V)
+        ∙ sym (append_assoc (new_line level) (codes ":") (behind_mark (not c) level v (box c m false v)))) i)
+        ∙ append_assoc (codes "?") (behind_mark (not c) level k (box c m false k)) _
+
+-- the pairs that are left, the first one apart
+pub next_pair : (c m first : Bool) (level : ℕ) (k v : Tree) (ps : Pairs)
+    → entries_text first level (pair_boxes c m (pair k v ps))
+    ≡ before_entry first level ++ (pair_text c m level k v ++ entries_text false level (pair_boxes c m ps))
+next_pair c m first level k v ps =
+    entries_append first level (pair_boxes c m ps) (pair_lines c m k v)
+    ∙ ap (λ x. before_entry first level ++ (x ++ below level (pair_boxes c m ps))) (pair_at c m level k v)
+
+-- a box that isn't the short form of an empty one
+pub items_text : (c m : Bool) (level : ℕ) (ts : Items) → is_block (array ts) ≡ true → stacked level (box c m false (array ts)) ≡ entries_text true level (item_boxes c m ts)
+items_text c m level no_items h = cc
+items_text c m level (item t ts) h = by (box_lines c m false t)
+  where
+    by : HasLines (box c m false t) → stacked level (if_none (codes "[]") (item_boxes c m (item t ts))) ≡ stacked level (item_boxes c m (item t ts))
+    by g = full (placed_lines (not c) (codes "-") t g)
+      where
+        full : {a : List (List ℕ)} → HasLines a → stacked level (if_none (codes "[]") (a ++ item_boxes c m ts)) ≡ stacked level (a ++ item_boxes c m ts)
+        full (lines l ls) = refl
+
+pub pairs_text : (c m : Bool) (level : ℕ) (ps : Pairs) → is_block (hash ps) ≡ true → stacked level (box c m false (hash ps)) ≡ entries_text true level (pair_boxes c m ps)
+pairs_text c m level no_pairs h = cc
+pairs_text c m level (pair k v ps) h = full (pair_lines c m k v)
+  where
+    full : {a : List (List ℕ)} → HasLines a → stacked level (if_none (codes "{}") (a ++ pair_boxes c m ps)) ≡ stacked level (a ++ pair_boxes c m ps)
+    full (lines l ls) = refl
+
+-- ---- levels
+
+pub some_level : (t : Tree) → 1 ≤ levels t
+some_level (array ts) = omega arith
+some_level (hash ps) = omega arith
+some_level (string s) = omega arith
+some_level (real s) = omega arith
+some_level (integer z) = omega arith
+some_level (boolean b) = omega arith
+some_level (alias n) = omega arith
+some_level null = omega arith
+some_level bad_value = omega arith
+
+pub two_levels : (t : Tree) → is_block t ≡ true → 2 ≤ levels t
+two_levels (array (item t ts)) h = omega (arith, some_level t)
+two_levels (array no_items) h = cc
+two_levels (hash (pair k v ps)) h = omega (arith, some_level k)
+two_levels (hash no_pairs) h = cc
+two_levels (string s) h = cc
+two_levels (real s) h = cc
+two_levels (integer z) h = cc
+two_levels (boolean b) h = cc
+two_levels (alias n) h = cc
+two_levels null h = cc
+two_levels bad_value h = cc

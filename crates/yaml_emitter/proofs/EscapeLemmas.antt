@@ -1,0 +1,8 @@
+-- The cases of a character that is written.
+use Rattle.std.proofs.Common.{◌≡◌, ◌≢◌, ℕ, refl, ne_eqb}
+use Rattle.tree_defs.specs.Escapes.{written_character}
+use Rattle.yaml_emitter.specs.Escaping.{written_code}
+
+pub other_character : (c : ℕ) → c ≢ 34 → c ≢ 92 → c ≢ 8 → c ≢ 9 → c ≢ 10 → c ≢ 12 → c ≢ 13 → written_code c ≡ written_character c
+unfolding written_character
+other_character c a b d e f g h = rw (ne_eqb c 34 a, ne_eqb c 92 b, ne_eqb c 8 d, ne_eqb c 9 e, ne_eqb c 10 f, ne_eqb c 12 g, ne_eqb c 13 h) refl

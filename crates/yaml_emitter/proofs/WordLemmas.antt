@@ -1,0 +1,144 @@
+-- The words that are quoted.
+use Rattle.std.proofs.Common.{◌≡◌, ℕ, suc, ◌+◌, cond, ◌<◌, List, [], ◌∷◌, length, ◌≤◌, Bool, true, false, ◌||◌, refl, sym, ap, subst, ◌∙◌, arith}
+use Rattle.std.specs.Prelude.{map, not, if◌then◌else◌, ◌==◌, nat_lt, bytes_eq, encode_utf8_all}
+use Rattle.std.specs.Char.{to_ascii_lowercase}
+use Rattle.std.specs.List.{list_all, list_any}
+use Rattle.std.specs.Str.{chars, IsAscii, IsNotAscii, IsUtf8}
+use Rattle.std.proofs.lemmas.Bool.{and_parts, and_from}
+use Rattle.std.proofs.lemmas.Bool.Decides.{nat_tests}
+use Rattle.std.proofs.lemmas.Slice.Eq.{bytes_eq-Decides}
+use Rattle.std.proofs.lemmas.Str.{chars-nil, chars-IsAscii, encodes-chars}
+use Rattle.tree_defs.specs.Grammar.{is_among, is_empty, followed_by}
+use Rattle.tree_defs.specs.Quoting.{is_quoted, has_outer_space, has_indicator_first, is_unfit_for_plain, reserved_words, is_float_word}
+use Rattle.tree_defs.specs.Typing.{is_sign, typing, is_string}
+use Rattle.tree_defs.proofs.GrammarLaws.{behind_one, Rejects, optional_one-behind, followed_by-empty}
+use Rattle.yaml_tree.proofs.WideTexts.{low, Wide, typing-wide, low_bytes}
+use Rattle.yaml_emitter.specs.Words.{is_unfit, is_word, float_names}
+
+-- ---- names of numbers
+
+sign_is : (c : ℕ) → is_sign c ≡ true → (c == 43) ≡ false → c ≡ 45
+sign_is c e f = grind (arith, nat_tests)
+
+no_name : (c : ℕ) (cs : List ℕ) → is_sign c ≡ true → is_among float_names (c ∷ cs) ≡ false
+no_name c cs e = by (c == 43) refl
+  where
+    by : (b : Bool) → (c == 43) ≡ b → is_among float_names (c ∷ cs) ≡ false
+    by true f = let same : 43 ≡ c = grind (arith, nat_tests) in subst (λ x. is_among float_names (x ∷ cs) ≡ false) same refl
+    by false f = subst (λ x. is_among float_names (x ∷ cs) ≡ false) (sym (sign_is c e f)) refl
+
+rejects : Rejects is_sign (λ t. followed_by (is_among float_names) is_empty t)
+rejects c cs e = followed_by-empty (is_among float_names) (c ∷ cs) ∙ no_name c cs e
+
+letter : (c : ℕ) → nat_lt c 65 ≡ false → is_sign c ≡ false
+letter c e = grind (arith, nat_tests)
+
+higher : (c : ℕ) → nat_lt c 65 ≡ false → nat_lt (c + 32) 65 ≡ false
+higher c e = grind (arith, nat_tests)
+
+lower_high : (c : ℕ) (b : Bool) → nat_lt c 65 ≡ false → nat_lt (cond b (c + 32) c) 65 ≡ false
+lower_high c true e = higher c e
+lower_high c false e = e
+
+same_sign : (c : ℕ) → is_sign (to_ascii_lowercase c) ≡ is_sign c
+same_sign c = by (nat_lt c 65) refl
+  where
+    by : (a : Bool) → nat_lt c 65 ≡ a → is_sign (cond a c (cond (nat_lt c 91) (c + 32) c)) ≡ is_sign c
+    by true e = refl
+    by false e = letter (cond (nat_lt c 91) (c + 32) c) (lower_high c (nat_lt c 91) e) ∙ sym (letter c e)
+
+below_65 : (c : ℕ) → nat_lt c 65 ≡ true → nat_lt c 128 ≡ true
+below_65 c e = grind (arith, nat_tests)
+
+below_91 : (c : ℕ) → nat_lt c 91 ≡ true → nat_lt c 128 ≡ true
+below_91 c e = grind (arith, nat_tests)
+
+lowered : (c : ℕ) (a b : Bool) → nat_lt c 65 ≡ a → nat_lt c 91 ≡ b → nat_lt (cond a c (cond b (c + 32) c)) 128 ≡ true → nat_lt c 128 ≡ true
+lowered c true b e f h = h
+lowered c false true e f h = below_91 c f
+lowered c false false e f h = h
+
+lower_behind : (t : List ℕ) → behind_one is_sign (map to_ascii_lowercase t) ≡ map to_ascii_lowercase (behind_one is_sign t)
+lower_behind [] = refl
+lower_behind (c ∷ cs) = ap (λ b. if b then map to_ascii_lowercase cs else map to_ascii_lowercase (c ∷ cs)) (same_sign c) ∙ by (is_sign c)
+  where
+    by : (b : Bool) → (if b then map to_ascii_lowercase cs else map to_ascii_lowercase (c ∷ cs)) ≡ map to_ascii_lowercase (if b then cs else c ∷ cs)
+    by true = refl
+    by false = refl
+
+pub float_word : (t : List ℕ) → is_float_word t ≡ is_among float_names (map to_ascii_lowercase (behind_one is_sign t))
+float_word t =
+    optional_one-behind is_sign (λ x. followed_by (is_among float_names) is_empty x) rejects (map to_ascii_lowercase t)
+    ∙ followed_by-empty (is_among float_names) (behind_one is_sign (map to_ascii_lowercase t))
+    ∙ ap (is_among float_names) (lower_behind t)
+
+-- ---- texts that aren't ASCII
+
+not_true : (b : Bool) → (b ≡ true → ⊥) → b ≡ false
+not_true true n = absurd (n refl)
+not_true false n = refl
+
+not_among : (ws : List (List ℕ)) (t : List ℕ) → list_all low ws ≡ true → Wide t → is_among ws t ≡ false
+not_among [] t h w = refl
+not_among (x ∷ ws) t h w =
+    let parts = and_parts (low x) (list_all low ws) h in
+    (λ i. not_true (bytes_eq x t) (λ e. w (subst (λ u. low u ≡ true) ((bytes_eq-Decides x t).0 e) parts.0)) i || not_among ws t parts.1 w i)
+
+lower_low : (t : List ℕ) → low (map to_ascii_lowercase t) ≡ true → low t ≡ true
+lower_low [] h = refl
+lower_low (c ∷ cs) h =
+    let parts = and_parts (nat_lt (to_ascii_lowercase c) 128) (low (map to_ascii_lowercase cs)) h in
+    and_from (nat_lt c 128) (low cs) (lowered c _ _ refl refl parts.0) (lower_low cs parts.1)
+
+behind_low : (t : List ℕ) → low (behind_one is_sign t) ≡ true → low t ≡ true
+behind_low [] h = refl
+behind_low (c ∷ cs) h = by (is_sign c) refl h
+  where
+    sign_low : (c : ℕ) → is_sign c ≡ true → nat_lt c 128 ≡ true
+    sign_low c e = grind (arith, nat_tests)
+
+    by : (b : Bool) → is_sign c ≡ b → low (if b then cs else c ∷ cs) ≡ true → low (c ∷ cs) ≡ true
+    by true e h = and_from (nat_lt c 128) (low cs) (sign_low c e) h
+    by false e h = h
+
+wide_float : (t : List ℕ) → Wide t → is_float_word t ≡ false
+wide_float t w = float_word t ∙ not_among float_names (map to_ascii_lowercase (behind_one is_sign t)) refl (λ h. w (behind_low t (lower_low (behind_one is_sign t) h)))
+
+wide_word : (t : List ℕ) → Wide t → is_word t ≡ false
+wide_word t w = λ i. (not_among reserved_words t refl w i || wide_float t w i) || not (is_string (typing-wide t w i))
+
+pub no_word : (bs : List ℕ) → IsUtf8 bs → IsNotAscii bs → false ≡ is_word (chars bs)
+no_word bs u n = sym (wide_word (chars bs) (λ h. below_it (low_bytes bs u h n.0) n.1))
+  where
+    below_it : {m : ℕ} → m < 128 → 128 ≤ m → ⊥
+    below_it h i = absurd (omega arith)
+
+pub ascii_word : (bs : List ℕ) → IsAscii bs → is_word bs ≡ is_word (chars bs)
+ascii_word bs h = ap is_word (sym (chars-IsAscii bs h))
+
+-- ---- the whole test
+
+regroup : (a b c d e f g h : Bool) → (((((a || b) || (c || d)) || e) || ((f || g) || h))) ≡ (a || b || c || d || e || f || g || h)
+regroup true b c d e f g h = refl
+regroup false true c d e f g h = refl
+regroup false false true d e f g h = refl
+regroup false false false true e f g h = refl
+regroup false false false false true f g h = refl
+regroup false false false false false true g h = refl
+regroup false false false false false false true h = refl
+regroup false false false false false false false h = refl
+
+pub quoted : (t : List ℕ) → is_quoted t ≡ (is_unfit t || is_word t)
+unfolding is_quoted
+quoted t = sym (regroup (is_empty t) (has_outer_space t) (has_indicator_first t) _ (list_any is_unfit_for_plain t) (is_among reserved_words t) (is_float_word t) (not (is_string (typing t))))
+
+pub empty_text : (bs : List ℕ) → IsUtf8 bs → (length bs == 0) ≡ is_empty (chars bs)
+empty_text [] u = ap is_empty (sym chars-nil)
+empty_text (b ∷ bs) u = by (chars (b ∷ bs)) refl
+  where
+    some : (n : ℕ) → (suc n == 0) ≡ false
+    some n = grind (arith, nat_tests)
+
+    by : (cs : List ℕ) → chars (b ∷ bs) ≡ cs → (suc (length bs) == 0) ≡ is_empty cs
+    by [] e = let f : b ∷ bs ≡ [] = sym (encodes-chars (b ∷ bs) u) ∙ ap encode_utf8_all e in cc
+    by (c ∷ cs) e = some (length bs)

@@ -1,0 +1,24 @@
+use Rattle.std.proofs.Common.{ap, sym, ◌∙◌, subst}
+use Rattle.std.specs.Str.{chars, IsUtf8}
+use Rattle.std.specs.Str.Iter.{chars_rest}
+use Rattle.std.proofs.lemmas.Str.{IsUtf8-past_char}
+use Rattle.yaml_emitter.specs.Blocks.{begins_well}
+use Rattle.yaml_emitter.proofs.LiteralLemmas.{well_first, well_break, well_none}
+use Rattle.yaml_emitter.proofs.literal.begins_well.Goals as goal
+
+pub characters-init : goal.characters-init
+characters-init c =
+    let e = ap chars_rest c.into_iter-c-iterator.ensures.into_iter_gives ∙ c.chars-c-items.ensures.rest in
+    record { utf8 = subst IsUtf8 (sym e) c.utf8.text; left = ap (λ bs. begins_well (chars bs)) (sym e) }
+
+pub returns-then-c-ne10 : goal.returns-then-c-ne10
+returns-then-c-ne10 c = sym (c.characters.invariant.left ∙ well_first _ _ c.in-Some.c c.characters.invariant.utf8 c.in-Some.ensures.steps.0 c.if-c-ne10.true)
+
+pub characters-preserved : goal.characters-preserved
+characters-preserved c = record {
+  utf8 = IsUtf8-past_char _ _ c.in-Some.c c.characters.invariant.utf8 c.in-Some.ensures.steps.0;
+  left = c.characters.invariant.left ∙ well_break _ _ c.in-Some.c c.characters.invariant.utf8 c.in-Some.ensures.steps.0 c.if-c-ne10.false;
+}
+
+pub returns : goal.returns
+returns c = sym (c.characters.invariant.left ∙ well_none _ c.in-None.ensures.steps.0.0)

@@ -1,0 +1,11 @@
+use Rattle.std.proofs.Common.{◌≡◌}
+use Rattle.std.specs.Str.{chars, IsUtf8}
+use Rattle.std.specs.Str.Iter.{chars_rest}
+use Rattle.yaml_emitter.specs.Blocks.{begins_well}
+use Rattle.yaml_emitter.proofs.literal.begins_well.Given as goal
+
+abbrev pub invariant-characters : goal.invariant-characters
+invariant-characters l = record {
+  utf8 : IsUtf8 (chars_rest l.c-iterator);
+  left : begins_well (chars l.fn.text) ≡ begins_well (chars (chars_rest l.c-iterator));
+}

@@ -1,0 +1,23 @@
+use Rattle.std.proofs.Common.{refl}
+use Rattle.yaml_emitter.proofs.LiteralLemmas.{first_below, line_last}
+use Rattle.yaml_emitter.proofs.WritingLemmas.{writes_err, stopped_early, left_all, left_as, left_after, left_stopped, left_writes}
+use Rattle.yaml_emitter.proofs.literal.write_lines.Goals as goal
+
+pub lines-init : goal.lines-init
+lines-init g c = record { utf8 = c.utf8.text; left = left_all }
+
+pub returns-in_err-write_line : goal.returns-in_err-write_line
+returns-in_err-write_line g c =
+    writes_err c.from_residual.ensures.0
+    (left_stopped (left_as (first_below c.args.level c.lines.rest.now c.in-Some.line.now c.in-Some.behind.now c.in-Some.ensures) c.lines.invariant.left)
+    (stopped_early _ (c.in_err-write_line.ensures.err refl)))
+
+pub lines-preserved : goal.lines-preserved
+lines-preserved g c = record {
+  utf8 = (c.in-Some.ensures {u = tt}).utf8;
+  left = left_after (left_as (first_below c.args.level c.lines.rest.now c.in-Some.line.now c.in-Some.behind.now c.in-Some.ensures) c.lines.invariant.left)
+      (c.in_ok-write_line.ensures.ok refl);
+}
+
+pub returns : goal.returns
+returns g c = left_writes (left_as (line_last c.args.level _ c.in_default.ensures) c.lines.invariant.left) c.write_last_line.ensures

@@ -1,0 +1,46 @@
+-- What is written for the entries of arrays and hashes.
+use Rattle.std.specs.Prelude.{ℕ, ◌+◌, Bool, true, false, not, ◌&&◌, if◌then◌else◌, List, [], ◌∷◌, ◌++◌, codes}
+use Rattle.tree_defs.specs.Box.{box, is_block, string_box}
+use Rattle.tree_defs.specs.Spelling.{spelling, is_scalar}
+use Rattle.tree_defs.specs.Tree.{Tree, string}
+use Rattle.yaml_emitter.specs.At.{new_line, below, stacked}
+
+-- the box of a scalar that is no key
+abbrev pub scalar_box : Bool → Bool → Tree → List (List ℕ)
+scalar_box multiline at_root (string s) = string_box multiline at_root s
+scalar_box multiline at_root t = spelling t ∷ []
+
+-- what stands before a value, behind its mark
+abbrev pub before_value : Bool → ℕ → Tree → List ℕ
+before_value blocks_lower level t = if blocks_lower && is_block t then new_line (level + 1) else codes " "
+
+-- what stands behind a mark: the value's box, one level deeper
+abbrev pub behind_mark : Bool → ℕ → Tree → List (List ℕ) → List ℕ
+behind_mark blocks_lower level t ls = before_value blocks_lower level t ++ stacked (level + 1) ls
+
+-- what stands before an entry
+abbrev pub before_entry : Bool → ℕ → List ℕ
+before_entry is_first level = if is_first then [] else new_line level
+
+-- the dash of an item
+abbrev pub item_mark : Bool → ℕ → List ℕ
+item_mark is_first level = before_entry is_first level ++ codes "-"
+
+-- the colon behind a complex key
+abbrev pub second_mark : ℕ → List ℕ
+second_mark level = new_line level ++ codes ":"
+
+-- a scalar key and its colon
+abbrev pub scalar_key : Tree → List ℕ
+scalar_key k = spelling k ++ codes ":"
+
+-- a pair
+abbrev pub pair_text : Bool → Bool → ℕ → Tree → Tree → List ℕ
+pair_text compact multiline level k v =
+    if is_scalar k then scalar_key k ++ behind_mark true level v (box compact multiline false v)
+    else codes "?" ++ (behind_mark (not compact) level k (box compact multiline false k)
+    ++ (second_mark level ++ behind_mark (not compact) level v (box compact multiline false v)))
+
+-- the lines of the entries that are left, where none or some were written
+abbrev pub entries_text : Bool → ℕ → List (List ℕ) → List ℕ
+entries_text is_first level ls = if is_first then stacked level ls else below level ls

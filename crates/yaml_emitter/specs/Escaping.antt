@@ -1,0 +1,7 @@
+-- The cases of the code that writes escapes.
+use Rattle.std.specs.Prelude.{ℕ, ◌||◌, ◌==◌, nat_lt, if◌then◌else◌, List, [], ◌∷◌}
+use Rattle.tree_defs.specs.Escapes.{escaped_code}
+
+-- a character that has no escape of its own: a control character by its code, all else as it stands
+abbrev pub written_code : ℕ → List ℕ
+written_code c = if nat_lt c 32 || (c == 127) then escaped_code c else c ∷ []

@@ -1,0 +1,112 @@
+//! The emitter: trees to text.
+ghost use Rattle.std.specs.Prelude.{◌≡◌, ◌≤◌, ◌^◌, true, false};
+ghost use Rattle.tree_defs.specs.DumpText.{dump_text};
+ghost use Rattle.tree_defs.specs.Writable.{levels};
+ghost use Rattle.yaml_tree.specs.View.{view};
+ghost use Rattle.yaml_emitter.specs.Emitter.{writer_of, writer_name, compact_of, multiline_of};
+ghost use Rattle.yaml_emitter.specs.Writing.{WritesUnless};
+
+use crate::node::{Layout, write_document};
+use crate::writer::Writer;
+use std::fmt;
+use thiserror::Error;
+use yaml_tree::Yaml;
+
+/// Why a tree was not written to its end.
+#[derive(Clone, Copy, Debug, Error)]
+pub enum EmitError {
+    /// The writer refused a part of the text, or the tree has 2^62 levels or more.
+    #[error(transparent)]
+    FmtError(fmt::Error),
+}
+
+impl From<fmt::Error> for EmitError {
+    ghost use Rattle.std.specs.Prelude.{◌≡◌};
+    ghost use Rattle.yaml_emitter.specs.declared.emitter.EmitError.TheVariants.{FmtError};
+
+    ghost from_gives = { λ e f. f ≡ FmtError e };
+
+    fn from(error: fmt::Error) -> EmitError {
+        EmitError::FmtError(error)
+    }
+}
+
+/// What a call of the emitter answers.
+pub type EmitResult = Result<(), EmitError>;
+
+/// Writes trees as YAML to a writer, in one of four layouts.
+#[derive(Drop)]
+pub struct YamlEmitter<'a, W: Writer> {
+    writer: &'a mut W,
+    layout: Layout,
+}
+
+impl<'a, W: Writer> YamlEmitter<'a, W> {
+    /// An emitter that is compact and without multiline strings.
+    pub fn new(writer: &'a mut W) -> YamlEmitter<'a, W>
+        ensures same_writer { writer_name result ≡ writer.entry.ghost_name }
+        ensures writer { writer_of result ≡ writer.old }
+        ensures compact { compact_of result ≡ true }
+        ensures multiline { multiline_of result ≡ false }
+    {
+        YamlEmitter {
+            writer,
+            layout: Layout {
+                compact: true,
+                multiline: false,
+            },
+        }
+    }
+
+    /// Sets whether an array or hash that is not empty starts behind a dash, a question mark or the
+    /// colon of a complex key (YAML 1.2, sections 8.2.1 and 8.2.2), and not on the next line.
+    pub fn compact(&mut self, compact: bool)
+        ensures same_writer { writer_name self.new ≡ writer_name self.old }
+        ensures writer { writer_of self.new ≡ writer_of self.old }
+        ensures compact { compact_of self.new ≡ compact }
+        ensures multiline { multiline_of self.new ≡ multiline_of self.old }
+    {
+        self.layout.compact = compact;
+    }
+
+    /// Whether arrays and hashes start behind their marks.
+    pub fn is_compact(&self) -> bool
+        ensures { result ≡ compact_of self.now }
+    {
+        self.layout.compact
+    }
+
+    /// Sets whether strings of several lines are written as literal blocks (YAML 1.2, section 8.1.2),
+    /// where they would be read back as they are.
+    pub fn multiline_strings(&mut self, multiline: bool)
+        ensures same_writer { writer_name self.new ≡ writer_name self.old }
+        ensures writer { writer_of self.new ≡ writer_of self.old }
+        ensures compact { compact_of self.new ≡ compact_of self.old }
+        ensures multiline { multiline_of self.new ≡ multiline }
+    {
+        self.layout.multiline = multiline;
+    }
+
+    /// Whether strings of several lines are written as literal blocks.
+    pub fn is_multiline_strings(&self) -> bool
+        ensures { result ≡ multiline_of self.now }
+    {
+        self.layout.multiline
+    }
+
+    /// Writes the line `---` and the tree (YAML 1.2, chapter 8), with no break at the end. `Ok` says that
+    /// the whole text was written behind what the writer holds. An `Err` comes only where the writer
+    /// refused, or where the tree has 2^62 levels or more; then a beginning of the text was written. A
+    /// `String` refuses only for want of memory, and has then grown by that beginning alone. The settings
+    /// stay.
+    pub fn dump(&mut self, doc: &Yaml) -> EmitResult
+        ensures same_writer { writer_name self.new ≡ writer_name self.old }
+        ensures text { WritesUnless (2 ^ 62 ≤ levels (view doc.now)) W.put_gives W.put_leaves (writer_of self.old) result
+            (dump_text (compact_of self.old) (multiline_of self.old) (view doc.now)) (writer_of self.new) }
+        ensures compact { compact_of self.new ≡ compact_of self.old }
+        ensures multiline { multiline_of self.new ≡ multiline_of self.old }
+    {
+        write_document(self.writer, self.layout, doc)?;
+        Ok(())
+    }
+}

@@ -1,0 +1,73 @@
+//! Texts in double quotes (YAML 1.2, section 5.7).
+ghost use Rattle.std.specs.Prelude.{◌≡◌, ◌<◌, ◌≤◌, chars};
+ghost use Rattle.tree_defs.specs.Escapes.{double_quoted, written_character, written_escapes, escaped_code, hexadecimal_digit};
+ghost use Rattle.yaml_emitter.specs.Escaping.{written_code};
+ghost use Rattle.yaml_emitter.specs.Writing.{Writes};
+
+use crate::writer::{Writer, put_ascii, put_char};
+use std::fmt;
+
+/// Writes a text in double quotes.
+pub(crate) fn write_double_quoted<W: Writer>(out: &mut W, text: &str) -> fmt::Result
+    ensures { Writes W.put_gives W.put_leaves out.old result (double_quoted (chars text.now)) out.new }
+{
+    put_ascii(out, "\"")?;
+    write_characters(out, text)?;
+    put_ascii(out, "\"")
+}
+
+fn write_characters<W: Writer>(out: &mut W, text: &str) -> fmt::Result
+    ensures { Writes W.put_gives W.put_leaves out.old result (written_escapes (chars text.now)) out.new }
+{
+    'characters: for c in text.chars() {
+        write_character(out, c)?;
+    }
+    Ok(())
+}
+
+// A quote, a backslash and the control characters are escaped.
+fn write_character<W: Writer>(out: &mut W, c: char) -> fmt::Result
+    ensures { Writes W.put_gives W.put_leaves out.old result (written_character c) out.new }
+{
+    match c {
+        '"' => put_ascii(out, "\\\""),
+        '\\' => put_ascii(out, "\\\\"),
+        '\u{8}' => put_ascii(out, "\\b"),
+        '\t' => put_ascii(out, "\\t"),
+        '\n' => put_ascii(out, "\\n"),
+        '\u{C}' => put_ascii(out, "\\f"),
+        '\r' => put_ascii(out, "\\r"),
+        _ => write_other(out, c),
+    }
+}
+
+// A character that has no escape of its own.
+fn write_other<W: Writer>(out: &mut W, c: char) -> fmt::Result
+    ensures { Writes W.put_gives W.put_leaves out.old result (written_code c) out.new }
+{
+    if c < ' ' || c == '\u{7F}' {
+        write_code(out, c as u32)
+    } else {
+        put_char(out, c)
+    }
+}
+
+fn write_code<W: Writer>(out: &mut W, code: u32) -> fmt::Result
+    requires { code < 256 }
+    ensures { Writes W.put_gives W.put_leaves out.old result (escaped_code code) out.new }
+{
+    put_ascii(out, "\\u00")?;
+    put_char(out, hexadecimal_digit(code / 16))?;
+    put_char(out, hexadecimal_digit(code % 16))
+}
+
+fn hexadecimal_digit(digit: u32) -> char
+    requires { digit < 16 }
+    ensures { result ≡ hexadecimal_digit digit }
+{
+    if digit < 10 {
+        char::from(b'0' + digit as u8)
+    } else {
+        char::from(b'a' + (digit - 10) as u8)
+    }
+}

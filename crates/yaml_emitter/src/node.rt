@@ -1,0 +1,242 @@
+//! Nodes: scalars, and arrays and hashes in block style (YAML 1.2, chapter 8).
+ghost use Rattle.std.specs.Prelude.{◌≡◌, ◌<◌, ◌≤◌, ◌+◌, ◌^◌, max, chars, true, false, if◌then◌else◌};
+ghost use Rattle.tree_defs.specs.Box.{box, is_block, string_box};
+ghost use Rattle.tree_defs.specs.DumpText.{dump_text};
+ghost use Rattle.tree_defs.specs.Literal.{is_literal, is_root_literal};
+ghost use Rattle.tree_defs.specs.Spelling.{is_scalar};
+ghost use Rattle.tree_defs.specs.Tree.{array, hash, items_of, pairs_of};
+ghost use Rattle.tree_defs.specs.Writable.{levels};
+ghost use Rattle.yaml_tree.specs.View.{view, array_tree, hash_tree};
+ghost use Rattle.yaml_emitter.specs.At.{stacked};
+ghost use Rattle.yaml_emitter.specs.Entries.{before_value, behind_mark, before_entry, item_mark, second_mark, scalar_key, pair_text, scalar_box};
+ghost use Rattle.yaml_emitter.specs.Writing.{Writes, WritesUnless};
+
+use crate::line::break_line;
+use crate::literal::{is_literal, is_root_literal, write_literal};
+use crate::scalar::{write_spelling, write_string};
+use crate::writer::{Writer, put_ascii};
+use std::fmt;
+use yaml_tree::{Array, Hash, Yaml};
+
+/// The deepest level at which an array or hash is written whose parts stand one level deeper.
+const DEEPEST: usize = (1 << 62) - 2;
+
+/// How a tree is laid out.
+#[derive(Clone, Copy)]
+pub(crate) struct Layout {
+    /// A block may start behind a dash, a question mark or the colon of a complex key.
+    pub(crate) compact: bool,
+    /// Strings of several lines are written as literal blocks, where they may be.
+    pub(crate) multiline: bool,
+}
+
+/// Writes the line `---` and the document's root below it.
+pub(crate) fn write_document<W: Writer>(out: &mut W, layout: Layout, root: &Yaml) -> fmt::Result
+    ensures { WritesUnless (2 ^ 62 ≤ levels (view root.now)) W.put_gives W.put_leaves out.old result
+        (dump_text layout.compact layout.multiline (view root.now)) out.new }
+{
+    put_ascii(out, "---\n")?;
+    write_root(out, layout, root)
+}
+
+fn write_root<W: Writer>(out: &mut W, layout: Layout, node: &Yaml) -> fmt::Result
+    ensures { WritesUnless (2 ^ 62 ≤ levels (view node.now)) W.put_gives W.put_leaves out.old result
+        (stacked 0 (box layout.compact layout.multiline true (view node.now))) out.new }
+{
+    match node {
+        Yaml::Array(items) => write_array(out, layout, 0, items),
+        Yaml::Hash(pairs) => write_hash(out, layout, 0, pairs),
+        _ => write_scalar(out, layout.multiline, true, 0, node),
+    }
+}
+
+// What follows a dash, a question mark or a colon that stands at the level.
+#[cycle(write)]
+fn write_value<W: Writer>(
+    out: &mut W,
+    layout: Layout,
+    level: usize,
+    blocks_lower: bool,
+    node: &Yaml,
+) -> fmt::Result
+    requires { level + 1 < 2 ^ 62 }
+    ensures { WritesUnless (2 ^ 62 ≤ level + 1 + levels (view node.now)) W.put_gives W.put_leaves out.old result
+        (behind_mark blocks_lower level (view node.now) (box layout.compact layout.multiline false (view node.now))) out.new }
+{
+    begin_value(out, level, blocks_lower, node)?;
+    match node {
+        Yaml::Array(items) => write_array(out, layout, level + 1, items),
+        Yaml::Hash(pairs) => write_hash(out, layout, level + 1, pairs),
+        _ => write_scalar(out, layout.multiline, false, level + 1, node),
+    }
+}
+
+// A space, or a new line where the value is a block that goes lower.
+fn begin_value<W: Writer>(out: &mut W, level: usize, blocks_lower: bool, node: &Yaml) -> fmt::Result
+    requires { level < 2 ^ 62 }
+    ensures { Writes W.put_gives W.put_leaves out.old result (before_value blocks_lower level (view node.now)) out.new }
+{
+    if blocks_lower && is_block(node) {
+        break_line(out, level + 1)
+    } else {
+        put_ascii(out, " ")
+    }
+}
+
+fn is_block(node: &Yaml) -> bool
+    ensures { result ≡ is_block (view node.now) }
+{
+    match node {
+        Yaml::Array(items) => !items.is_empty(),
+        Yaml::Hash(pairs) => !pairs.is_empty(),
+        _ => false,
+    }
+}
+
+#[cycle(write)]
+fn write_array<W: Writer>(out: &mut W, layout: Layout, level: usize, items: &Array) -> fmt::Result
+    requires { level < 2 ^ 62 }
+    ensures { WritesUnless (2 ^ 62 ≤ level + levels (array_tree items.now)) W.put_gives W.put_leaves out.old result
+        (stacked level (box layout.compact layout.multiline false (array_tree items.now))) out.new }
+{
+    if items.is_empty() {
+        return put_ascii(out, "[]");
+    }
+    if level >= DEEPEST {
+        return Err(fmt::Error);
+    }
+    let mut is_first = true;
+    'items: for item in items {
+        begin_item(out, level, is_first)?;
+        is_first = false;
+        write_value(out, layout, level, !layout.compact, item)?;
+    }
+    Ok(())
+}
+
+#[cycle(write)]
+fn write_hash<W: Writer>(out: &mut W, layout: Layout, level: usize, pairs: &Hash) -> fmt::Result
+    requires { level < 2 ^ 62 }
+    ensures { WritesUnless (2 ^ 62 ≤ level + levels (hash_tree pairs.now)) W.put_gives W.put_leaves out.old result
+        (stacked level (box layout.compact layout.multiline false (hash_tree pairs.now))) out.new }
+{
+    if pairs.is_empty() {
+        return put_ascii(out, "{}");
+    }
+    if level >= DEEPEST {
+        return Err(fmt::Error);
+    }
+    let mut is_first = true;
+    'pairs: for (key, value) in pairs {
+        begin_entry(out, level, is_first)?;
+        is_first = false;
+        write_pair(out, layout, level, key, value)?;
+    }
+    Ok(())
+}
+
+// The first entry starts where the array or hash does.
+fn begin_entry<W: Writer>(out: &mut W, level: usize, is_first: bool) -> fmt::Result
+    ensures { Writes W.put_gives W.put_leaves out.old result (before_entry is_first level) out.new }
+{
+    if is_first {
+        return Ok(());
+    }
+    break_line(out, level)
+}
+
+// The dash of an item.
+fn begin_item<W: Writer>(out: &mut W, level: usize, is_first: bool) -> fmt::Result
+    ensures { Writes W.put_gives W.put_leaves out.old result (item_mark is_first level) out.new }
+{
+    begin_entry(out, level, is_first)?;
+    put_ascii(out, "-")
+}
+
+// The colon behind a complex key stands on a line of its own.
+fn begin_second<W: Writer>(out: &mut W, level: usize) -> fmt::Result
+    ensures { Writes W.put_gives W.put_leaves out.old result (second_mark level) out.new }
+{
+    break_line(out, level)?;
+    put_ascii(out, ":")
+}
+
+fn write_scalar_key<W: Writer>(out: &mut W, key: &Yaml) -> fmt::Result
+    ensures { Writes W.put_gives W.put_leaves out.old result (scalar_key (view key.now)) out.new }
+{
+    write_spelling(out, key)?;
+    put_ascii(out, ":")
+}
+
+#[cycle(write)]
+fn write_pair<W: Writer>(
+    out: &mut W,
+    layout: Layout,
+    level: usize,
+    key: &Yaml,
+    value: &Yaml,
+) -> fmt::Result
+    requires { level + 1 < 2 ^ 62 }
+    ensures { WritesUnless (2 ^ 62 ≤ level + 1 + max (levels (view key.now)) (levels (view value.now))) W.put_gives W.put_leaves
+        out.old result (pair_text layout.compact layout.multiline level (view key.now) (view value.now)) out.new }
+{
+    if is_scalar(key) {
+        write_scalar_key(out, key)?;
+        return write_value(out, layout, level, true, value);
+    }
+    put_ascii(out, "?")?;
+    write_value(out, layout, level, !layout.compact, key)?;
+    begin_second(out, level)?;
+    write_value(out, layout, level, !layout.compact, value)
+}
+
+fn is_scalar(node: &Yaml) -> bool
+    ensures { result ≡ is_scalar (view node.now) }
+{
+    !matches!(node, Yaml::Array(_) | Yaml::Hash(_))
+}
+
+// A scalar that is no key: a string of several lines may be a literal block.
+#[tactic(auto, unfolding(yaml_chars::specs::Text::string_chars))]
+fn write_scalar<W: Writer>(
+    out: &mut W,
+    multiline: bool,
+    at_root: bool,
+    level: usize,
+    node: &Yaml,
+) -> fmt::Result
+    ensures { Writes W.put_gives W.put_leaves out.old result
+        (stacked level (scalar_box multiline at_root (view node.now))) out.new }
+{
+    if let Yaml::String(text) = node {
+        return write_string_node(out, multiline, at_root, level, text.as_str());
+    }
+    write_spelling(out, node)
+}
+
+fn write_string_node<W: Writer>(
+    out: &mut W,
+    multiline: bool,
+    at_root: bool,
+    level: usize,
+    text: &str,
+) -> fmt::Result
+    ensures { Writes W.put_gives W.put_leaves out.old result
+        (stacked level (string_box multiline at_root (chars text.now))) out.new }
+{
+    if multiline && may_be_literal(text, at_root) {
+        write_literal(out, level, text)
+    } else {
+        write_string(out, text)
+    }
+}
+
+fn may_be_literal(text: &str, at_root: bool) -> bool
+    ensures { result ≡ (if at_root then is_root_literal (chars text.now) else is_literal (chars text.now)) }
+{
+    if at_root {
+        is_root_literal(text)
+    } else {
+        is_literal(text)
+    }
+}
