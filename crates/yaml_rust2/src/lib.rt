@@ -1,16 +1,19 @@
-//! YAML 1.2 for Rattle: text to trees, text to events with their places, and tokens.
+//! YAML 1.2 for Rattle: text to trees and trees to text, text to events with their places, and tokens.
 //!
 //! - `YamlLoader::load_from_str(alloc, text)` gives the trees of all documents.
 //! - `yaml::YamlDecoder` does so of what a reader gives, in UTF-8 or UTF-16.
+//! - `YamlEmitter` writes a tree as a text, which loads as that tree.
 //! - `parser::Parser` gives events, pulled by `next_token` or pushed into a receiver by `load`.
 //! - `scanner::Scanner` gives tokens.
 #![tactic(auto)]
 
+pub mod emitter;
 pub mod laws;
 pub mod parser;
 pub mod scanner;
 pub mod yaml;
 
+pub use yaml_emitter::{EmitError, YamlEmitter};
 pub use yaml_loader::YamlLoader;
 pub use yaml_parser::Event;
 pub use yaml_tokens::ScanError;

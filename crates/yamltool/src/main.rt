@@ -1,6 +1,8 @@
-//! `yamltool events FILE` prints the events of a YAML file, a line each.
+//! `yamltool events FILE` prints the events of a YAML file, a line each; `yamltool dump FILE` its documents as they are
+//! written from their trees.
 #![tactic(auto)]
 
+mod command;
 mod failure;
 pub mod run;
 #[cfg(test)]

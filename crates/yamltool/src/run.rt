@@ -1,4 +1,5 @@
 //! The program over any files and writers.
+use crate::command::{Command, Settings, command};
 use crate::failure::{Failure, read_failure};
 use event_lines::write_event;
 use std::alloc::Global;
@@ -6,7 +7,10 @@ use std::fs::OpenOptions;
 use std::io;
 use std::io::{Read, Write};
 use std::rt::Files;
+use yaml_emitter::YamlEmitter;
+use yaml_loader::YamlLoader;
 use yaml_parser::{Event, Parser};
+use yaml_tree::Yaml;
 
 const USAGE: &str =
     "usage: yamltool events FILE | dump [--spread] [--multiline] FILE | overlay A B";
@@ -25,7 +29,7 @@ pub fn run<R: Files, O: Write, E: Write>(
         Err(failure) => failure,
     };
     let path = match args {
-        [_, path] => path.as_str(),
+        [.., path] => path.as_str(),
         _ => "",
     };
     // Where the error stream takes nothing, the status alone tells.
@@ -42,15 +46,15 @@ fn print<R: Files, O: Write>(
     args: &[String],
     out: &mut O,
 ) -> Result<(), Failure> {
-    let [command, path] = args else {
+    let Some((command, path)) = command(args) else {
         return Err(Failure::Usage);
     };
-    if command.as_str() != "events" {
-        return Err(Failure::Usage);
-    }
-    let text = read(rt, alloc, path.as_str())?;
+    let text = read(rt, alloc, path)?;
     let text = without_byte_order_mark(text.as_str());
-    let printed = print_events(alloc, text, out);
+    let printed = match command {
+        Command::Events => print_events(alloc, text, out),
+        Command::Dump(settings) => print_dumps(alloc, text, settings, out),
+    };
     // What was printed before a fault is shown.
     if out.flush().is_err() {
         return Err(Failure::CannotWrite);
@@ -84,6 +88,35 @@ fn print_events<O: Write>(alloc: Global, text: &str, out: &mut O) -> Result<(), 
         if let Event::StreamEnd = event {
             return Ok(());
         }
+    }
+}
+
+// Every document's dump and a line feed. They are all made before the first is printed.
+fn print_dumps<O: Write>(
+    alloc: Global,
+    text: &str,
+    settings: Settings,
+    out: &mut O,
+) -> Result<(), Failure> {
+    let documents = YamlLoader::load_from_str(alloc, text)?;
+    let mut dumps = String::new(alloc);
+    for document in &documents {
+        dump(&mut dumps, document, settings)?;
+        dumps.push_str("\n")?;
+    }
+    match out.write_all(dumps.as_bytes()) {
+        Ok(()) => Ok(()),
+        Err(_) => Err(Failure::CannotWrite),
+    }
+}
+
+fn dump(out: &mut String, document: &Yaml, settings: Settings) -> Result<(), Failure> {
+    let mut emitter = YamlEmitter::new(out);
+    emitter.compact(!settings.spread);
+    emitter.multiline_strings(settings.multiline);
+    match emitter.dump(document) {
+        Ok(()) => Ok(()),
+        Err(_) => Err(Failure::OutOfMemory),
     }
 }
 

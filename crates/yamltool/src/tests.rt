@@ -92,12 +92,24 @@ fn events_of(
     bytes: &[u8],
     want: (u8, &str, &str),
 ) -> Result<(), Fail> {
+    told_of(rt, &["events"], name, bytes, want)
+}
+
+// The same of a command with its options.
+fn told_of(
+    rt: &(impl Abort + Files + Env + AllocGlobal),
+    command: &[&str],
+    name: &str,
+    bytes: &[u8],
+    want: (u8, &str, &str),
+) -> Result<(), Fail> {
     let alloc = rt.alloc();
     let folder = env::temp_dir(rt)?;
     let path = folder.join(alloc, name)?;
     fs::write(rt, path.as_path(), bytes)?;
     let path = String::from_str(alloc, path.as_path().to_str().unwrap_or(""))?;
-    let args = words(alloc, &["events", path.as_str()])?;
+    let mut args = words(alloc, command)?;
+    args.push(String::from_str(alloc, path.as_str())?)?;
     let mut out = Vec::new(alloc);
     let mut err = Vec::new(alloc);
     let status = run(rt, alloc, args.as_slice(), &mut out, &mut err);
@@ -126,6 +138,32 @@ fn events_are_printed(rt: HostRuntime) -> Result<(), Fail> {
     let tagged =
         "StreamStart 1:0\nDocumentStart 1:0\nScalar 1:9 &1 tag \"tag:yaml.org,2002:\" \"int\" plain \"5\"\nDocumentEnd 2:0\nStreamEnd 2:0\n";
     events_of(&rt, "yamltool-c.yaml", b"!!int &x 5", (0, tagged, ""))
+}
+
+#[test]
+fn documents_are_dumped(rt: HostRuntime) -> Result<(), Fail> {
+    let two = b"--- 1\n--- 2";
+    told_of(&rt, &["dump"], "yamltool-g.yaml", two, (0, "---\n1\n---\n2\n", ""))?;
+    let texts = b"{foo: \"bar!\\nbar!\", baz: 42}";
+    let literal = "---\nfoo: |-\n  bar!\n  bar!\nbaz: 42\n";
+    told_of(&rt, &["dump", "--multiline"], "yamltool-h.yaml", texts, (0, literal, ""))?;
+    let nested = b"[[1, 2], []]";
+    let compact = "---\n- - 1\n  - 2\n- []\n";
+    told_of(&rt, &["dump"], "yamltool-i.yaml", nested, (0, compact, ""))?;
+    let spread = "---\n-\n  - 1\n  - 2\n- []\n";
+    told_of(
+        &rt,
+        &["dump", "--multiline", "--spread"],
+        "yamltool-j.yaml",
+        nested,
+        (0, spread, ""),
+    )
+}
+
+#[test]
+fn nothing_is_dumped_before_a_fault(rt: HostRuntime) -> Result<(), Fail> {
+    let fault = "while parsing a node, did not find expected node content at byte 7 line 4 column 1\n";
+    told_of(&rt, &["dump"], "yamltool-k.yaml", b"1\n---\n[", (1, "", fault))
 }
 
 #[test]
@@ -179,7 +217,9 @@ fn other_arguments_give_the_usage(rt: HostRuntime) -> Result<(), Fail> {
     for list in [
         &[][..],
         &["events"][..],
-        &["dump", "x"][..],
+        &["events", "--spread", "x"][..],
+        &["dump"][..],
+        &["dump", "--wide", "x"][..],
         &["overlay", "a", "b"][..],
     ] {
         let args = words(alloc, list)?;

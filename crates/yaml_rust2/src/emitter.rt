@@ -1,0 +1,2 @@
+//! Trees to text.
+pub use yaml_emitter::{EmitError, EmitResult, YamlEmitter};
