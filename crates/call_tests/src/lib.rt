@@ -1,6 +1,8 @@
-//! Calls, step by step: tokens, events and receivers, unfinished readings, and what a tree answers.
+//! Calls, step by step: tokens, events and receivers, unfinished readings, what a tree answers, and dumps that are loaded.
 #![tactic(auto)]
 
+#[cfg(test)]
+mod dumps;
 #[cfg(test)]
 mod misuse;
 #[cfg(test)]
