@@ -6,7 +6,8 @@ ghost use Rattle.yaml_emitter.specs.Writing.{Writes};
 
 use std::fmt;
 
-/// Where a dump goes: a text that grows at its end.
+/// Where a dump goes: a text that grows at its end. A `String` is one. Of another type, `put` is the one
+/// function to write; its two relations say what a call does to the writer, and what one that is refused leaves.
 pub trait Writer {
     // Relates the writer before a call of `put` that answers `Ok`, the characters, and the writer after it.
     ghost put_gives: { Self → List ℕ → Self → Type 0 };
@@ -14,11 +15,12 @@ pub trait Writer {
     // The same of a call that answers `Err`.
     ghost put_leaves: { Self → List ℕ → Self → Type 0 };
 
-    /// Appends a text.
+    /// Appends a text, or refuses.
     fn put(&mut self, text: &str) -> fmt::Result
         ensures { Writes put_gives put_leaves self.old result (chars text.now) self.new };
 }
 
+// It refuses only for want of memory, and is then as it was.
 impl Writer for String {
     ghost put_gives = { λ s cs t. string_chars t ≡ string_chars s ++ cs };
 
