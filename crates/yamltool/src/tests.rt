@@ -143,10 +143,22 @@ fn events_are_printed(rt: HostRuntime) -> Result<(), Fail> {
 #[test]
 fn documents_are_dumped(rt: HostRuntime) -> Result<(), Fail> {
     let two = b"--- 1\n--- 2";
-    told_of(&rt, &["dump"], "yamltool-g.yaml", two, (0, "---\n1\n---\n2\n", ""))?;
+    told_of(
+        &rt,
+        &["dump"],
+        "yamltool-g.yaml",
+        two,
+        (0, "---\n1\n---\n2\n", ""),
+    )?;
     let texts = b"{foo: \"bar!\\nbar!\", baz: 42}";
     let literal = "---\nfoo: |-\n  bar!\n  bar!\nbaz: 42\n";
-    told_of(&rt, &["dump", "--multiline"], "yamltool-h.yaml", texts, (0, literal, ""))?;
+    told_of(
+        &rt,
+        &["dump", "--multiline"],
+        "yamltool-h.yaml",
+        texts,
+        (0, literal, ""),
+    )?;
     let nested = b"[[1, 2], []]";
     let compact = "---\n- - 1\n  - 2\n- []\n";
     told_of(&rt, &["dump"], "yamltool-i.yaml", nested, (0, compact, ""))?;
@@ -162,8 +174,15 @@ fn documents_are_dumped(rt: HostRuntime) -> Result<(), Fail> {
 
 #[test]
 fn nothing_is_dumped_before_a_fault(rt: HostRuntime) -> Result<(), Fail> {
-    let fault = "while parsing a node, did not find expected node content at byte 7 line 4 column 1\n";
-    told_of(&rt, &["dump"], "yamltool-k.yaml", b"1\n---\n[", (1, "", fault))
+    let fault =
+        "while parsing a node, did not find expected node content at byte 7 line 4 column 1\n";
+    told_of(
+        &rt,
+        &["dump"],
+        "yamltool-k.yaml",
+        b"1\n---\n[",
+        (1, "", fault),
+    )
 }
 
 #[test]
