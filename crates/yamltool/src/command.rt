@@ -17,19 +17,19 @@ pub enum Command {
 }
 
 /// The command and the file's path, where the arguments are such.
-pub fn command(args: &[String]) -> Option<(Command, &str)> {
+pub fn command_of(args: &[String]) -> Option<(Command, &str)> {
     let [word, options @ .., path] = args else {
         return None;
     };
     let command = match word.as_str() {
         "events" if options.is_empty() => Command::Events,
-        "dump" => Command::Dump(settings(options)?),
+        "dump" => Command::Dump(settings_of(options)?),
         _ => return None,
     };
     Some((command, path.as_str()))
 }
 
-fn settings(options: &[String]) -> Option<Settings> {
+fn settings_of(options: &[String]) -> Option<Settings> {
     let mut settings = Settings {
         spread: false,
         multiline: false,

@@ -1,5 +1,5 @@
 //! The program over any files and writers.
-use crate::command::{Command, Settings, command};
+use crate::command::{Command, Settings, command_of};
 use crate::failure::{Failure, read_failure};
 use event_lines::write_event;
 use std::alloc::Global;
@@ -46,7 +46,7 @@ fn print<R: Files, O: Write>(
     args: &[String],
     out: &mut O,
 ) -> Result<(), Failure> {
-    let Some((command, path)) = command(args) else {
+    let Some((command, path)) = command_of(args) else {
         return Err(Failure::Usage);
     };
     let text = read(rt, alloc, path)?;
