@@ -1,8 +1,6 @@
-//! Calls, step by step: tokens, events and receivers, unfinished readings, what a tree answers, and dumps that are loaded.
+//! Calls, step by step: tokens, events and receivers, unfinished readings, and what a tree answers.
 #![tactic(auto)]
 
-#[cfg(test)]
-mod dumps;
 #[cfg(test)]
 mod misuse;
 #[cfg(test)]
