@@ -11,17 +11,21 @@ use Rattle.tree_defs.specs.Overlay.{overlay, pairs_under, new_pairs}
 use Rattle.tree_defs.proofs.PairsLaws.{tree_eq-itself}
 use Rattle.tree_defs.proofs.TypingLaws.{OfSome}
 
+-- the first holds of each key, and the second of each value
+abbrev pub Each : (Tree → Type 0) → (Tree → Type 0) → List (Tree × Tree) → Type 0
+Each K V [] = Unit {0}
+Each K V (p ∷ ps) = (K p.0 × V p.1) × Each K V ps
+
 -- each key and each value has distinct keys
 abbrev EachDistinct : List (Tree × Tree) → Type 0
-EachDistinct [] = Unit {0}
-EachDistinct (p ∷ ps) = (IsDistinct p.0 × IsDistinct p.1) × EachDistinct ps
+EachDistinct ps = Each IsDistinct IsDistinct ps
 
 -- each of these keys is one of those
 abbrev KeysWithin : List (Tree × Tree) → List (Tree × Tree) → Type 0
 KeysWithin those [] = Unit {0}
 KeysWithin those (p ∷ ps) = (has_key p.0 those ≡ true) × KeysWithin those ps
 
-list_of_pairs : (ps : List (Tree × Tree)) → pair_list_of (pairs_of ps) ≡ ps
+pub list_of_pairs : (ps : List (Tree × Tree)) → pair_list_of (pairs_of ps) ≡ ps
 list_of_pairs [] = refl
 list_of_pairs (p ∷ ps) = ap (λ qs. p ∷ qs) (list_of_pairs ps)
 
@@ -33,27 +37,28 @@ EachDistinct-pairs : (ps : List (Tree × Tree)) → EachDistinct ps → AllPairs
 EachDistinct-pairs [] h = tt
 EachDistinct-pairs (p ∷ ps) h = (h.0.0, h.0.1, EachDistinct-pairs ps h.1)
 
-EachDistinct-append : (ps qs : List (Tree × Tree)) → EachDistinct ps → EachDistinct qs → EachDistinct (ps ++ qs)
-EachDistinct-append [] qs h g = g
-EachDistinct-append (p ∷ ps) qs h g = (h.0, EachDistinct-append ps qs h.1 g)
+module _ (K V : Tree → Type 0) where
+  pub each_append : (ps qs : List (Tree × Tree)) → Each K V ps → Each K V qs → Each K V (ps ++ qs)
+  each_append [] qs h g = g
+  each_append (p ∷ ps) qs h g = (h.0, each_append ps qs h.1 g)
 
-EachDistinct-lookup : (k : Tree) (ps : List (Tree × Tree)) → EachDistinct ps → OfSome IsDistinct (lookup k ps)
-EachDistinct-lookup k [] h = tt
-EachDistinct-lookup k (p ∷ ps) h = by (tree_eq k p.0) (EachDistinct-lookup k ps h.1)
-  where
-    by : (b : Bool) → OfSome IsDistinct (lookup k ps) → OfSome IsDistinct (cond b (Some p.1) (lookup k ps))
-    by true r = h.0.1
-    by false r = r
+  pub each_lookup : (k : Tree) (ps : List (Tree × Tree)) → Each K V ps → OfSome V (lookup k ps)
+  each_lookup k [] h = tt
+  each_lookup k (p ∷ ps) h = by (tree_eq k p.0) (each_lookup k ps h.1)
+    where
+      by : (b : Bool) → OfSome V (lookup k ps) → OfSome V (cond b (Some p.1) (lookup k ps))
+      by true r = h.0.1
+      by false r = r
+
+  pub each_new : (those ps : List (Tree × Tree)) → Each K V ps → Each K V (new_pairs those ps)
+  each_new those [] h = tt
+  each_new those (p ∷ ps) h = by (has_key p.0 those) (each_new those ps h.1)
+    where
+      by : (b : Bool) → Each K V (new_pairs those ps) → Each K V (cond (not b) (p ∷ new_pairs those ps) (new_pairs those ps))
+      by true r = r
+      by false r = (h.0, r)
 
 -- ---- the new pairs
-
-EachDistinct-new : (those ps : List (Tree × Tree)) → EachDistinct ps → EachDistinct (new_pairs those ps)
-EachDistinct-new those [] h = tt
-EachDistinct-new those (p ∷ ps) h = by (has_key p.0 those) (EachDistinct-new those ps h.1)
-  where
-    by : (b : Bool) → EachDistinct (new_pairs those ps) → EachDistinct (cond (not b) (p ∷ new_pairs those ps) (new_pairs those ps))
-    by true r = r
-    by false r = (h.0, r)
 
 Lacks-new : (l : Tree) (those ps : List (Tree × Tree)) → Lacks l ps → Lacks l (new_pairs those ps)
 Lacks-new l those [] h = tt
@@ -115,9 +120,17 @@ AreDistinct-both : (those ps us : List (Tree × Tree)) → AreDistinct ps → Ke
 AreDistinct-both those [] us h k g = AreDistinct-new those us g
 AreDistinct-both those (p ∷ ps) us h k g = (Lacks-both p.0 ps (new_pairs those us) h.0 (new_lacks p.0 those us k.0), AreDistinct-both those ps us h.1 k.1 g)
 
-value_distinct : (v : Tree) (laid : Tree → Tree) (o : Option Tree) → IsDistinct v → ((w : Tree) → IsDistinct w → IsDistinct (laid w)) → OfSome IsDistinct o → IsDistinct (option_map_or laid o v)
-value_distinct v laid None h f g = h
-value_distinct v laid (Some w) h f g = f w g
+-- all keys of the overlay of two lists
+pub laid_distinct : (ps : Pairs) (us : List (Tree × Tree)) → AreDistinct (pair_list_of ps) → AreDistinct us
+    → AreDistinct (pairs_under us ps ++ new_pairs (pair_list_of ps) us)
+laid_distinct ps us h g =
+    let ts = pair_list_of ps in
+    AreDistinct-both ts (pairs_under us ps) us (AreDistinct-under us ps h) (KeysWithin-under ts us ps (KeysWithin-itself ts)) g
+
+-- a value with what may be laid over it
+pub laid_value : (V : Tree → Type 0) (v : Tree) (laid : Tree → Tree) (o : Option Tree) → V v → ((w : Tree) → V w → V (laid w)) → OfSome V o → V (option_map_or laid o v)
+laid_value V v laid None h f g = h
+laid_value V v laid (Some w) h f g = f w g
 
 -- ---- whole trees
 
@@ -126,10 +139,9 @@ whole_distinct ps qs h g each =
     let ts = pair_list_of ps in
     let us = pair_list_of qs in
     let under = pairs_under us ps in
-    let keys : AreDistinct (under ++ new_pairs ts us) =
-    AreDistinct-both ts under us (AreDistinct-under us ps h.0) (KeysWithin-under ts us ps (KeysWithin-itself ts)) g.0 in (
-      subst AreDistinct (sym (list_of_pairs (under ++ new_pairs ts us))) keys,
-      EachDistinct-pairs (under ++ new_pairs ts us) (EachDistinct-append under (new_pairs ts us) each (EachDistinct-new ts us (EachDistinct-list qs g.1))),
+    (
+      subst AreDistinct (sym (list_of_pairs (under ++ new_pairs ts us))) (laid_distinct ps us h.0 g.0),
+      EachDistinct-pairs (under ++ new_pairs ts us) (each_append IsDistinct IsDistinct under (new_pairs ts us) each (each_new IsDistinct IsDistinct ts us (EachDistinct-list qs g.1))),
     )
 
 mutual
@@ -140,6 +152,6 @@ mutual
   under_distinct : (us : List (Tree × Tree)) (ps : Pairs) → EachDistinct us → AllPairsDistinct ps → EachDistinct (pairs_under us ps)
   under_distinct us no_pairs e h = tt
   under_distinct us (pair k v ps) e h = (
-    (h.0, value_distinct v (overlay v) (lookup k us) h.1 (λ w g. overlay_distinct v w h.1 g) (EachDistinct-lookup k us e)),
+    (h.0, laid_value IsDistinct v (overlay v) (lookup k us) h.1 (λ w g. overlay_distinct v w h.1 g) (each_lookup IsDistinct IsDistinct k us e)),
     under_distinct us ps e h.2,
   )

@@ -1,0 +1,52 @@
+-- Pairs of new keys, put into a hash one after the other, stand behind its pairs.
+use Rattle.std.proofs.Common.{◌≡◌, List, [], ◌∷◌, ◌++◌, Bool, cond, refl, sym, ap, ◌∙◌, subst, append_assoc, append-nil}
+use Rattle.tree_defs.specs.Tree.{Tree, Pairs, pair_list_of, pairs_of, hash}
+use Rattle.tree_defs.specs.Overlay.{overlay, pairs_under, new_pairs}
+use Rattle.tree_defs.specs.Pairs.{without, insert, Lacks, AreDistinct}
+use Rattle.tree_defs.proofs.OverlayLaws.{laid_distinct, list_of_pairs}
+use Rattle.tree_defs.proofs.PairsLaws.{tree_eq-other}
+use Rattle.overlay.specs.Inserted.{inserted}
+
+without_none : (k : Tree) (ps : List (Tree × Tree)) → Lacks k ps → without k ps ≡ ps
+without_none k [] h = refl
+without_none k (p ∷ ps) h =
+    ap (λ b. cond b ps (p ∷ without k ps)) (tree_eq-other k p.0 h.0) ∙ ap (λ qs. p ∷ qs) (without_none k ps h.1)
+
+lacks_here : (l : Tree) (ps qs : List (Tree × Tree)) (q : Tree × Tree) → Lacks l (ps ++ q ∷ qs) → l ≡ q.0 → ⊥
+lacks_here l [] qs q h e = h.0 e
+lacks_here l (p ∷ ps) qs q h e = lacks_here l ps qs q h.1 e
+
+-- a key behind others isn't among them
+key_is_new : (ps qs : List (Tree × Tree)) (q : Tree × Tree) → AreDistinct (ps ++ q ∷ qs) → Lacks q.0 ps
+key_is_new [] qs q h = tt
+key_is_new (p ∷ ps) qs q h = ((λ e. lacks_here p.0 ps qs q h.0 (sym e)), key_is_new ps qs q h.1)
+
+pub inserted_behind : (ps qs : List (Tree × Tree)) → AreDistinct (ps ++ qs) → inserted ps qs ≡ ps ++ qs
+inserted_behind ps [] h = sym (append-nil ps)
+inserted_behind ps (q ∷ qs) h =
+    let e : insert q.0 q.1 ps ≡ ps ++ q ∷ [] = ap (λ rs. rs ++ q ∷ []) (without_none q.0 ps (key_is_new ps qs q h)) in
+    let f : (ps ++ q ∷ []) ++ qs ≡ ps ++ q ∷ qs = append_assoc ps (q ∷ []) qs in
+    ap (λ rs. inserted rs qs) e ∙ inserted_behind (ps ++ q ∷ []) qs (subst AreDistinct (sym f) h) ∙ f
+
+inserted_both : (ps qs rs : List (Tree × Tree)) → inserted (inserted ps qs) rs ≡ inserted ps (qs ++ rs)
+inserted_both ps [] rs = refl
+inserted_both ps (q ∷ qs) rs = inserted_both (insert q.0 q.1 ps) qs rs
+
+-- the two loops make the overlay
+pub laid_pairs : (ps : List (Tree × Tree)) (qs : List (Tree × Tree)) → AreDistinct ps → AreDistinct qs
+    → inserted (inserted [] (pairs_under qs (pairs_of ps))) (new_pairs ps qs) ≡ pairs_under qs (pairs_of ps) ++ new_pairs ps qs
+laid_pairs ps qs h g =
+    let under = pairs_under qs (pairs_of ps) in
+    let e = list_of_pairs ps in
+    let d : AreDistinct (under ++ new_pairs ps qs) =
+    subst (λ ts. AreDistinct (under ++ new_pairs ts qs)) e (laid_distinct (pairs_of ps) qs (subst AreDistinct (sym e) h) g) in
+    inserted_both [] under (new_pairs ps qs) ∙ inserted_behind [] (under ++ new_pairs ps qs) d
+
+-- the tree of the pairs that the two loops make
+pub laid_tree : (t u : Tree) (ps qs under laid : List (Tree × Tree)) → t ≡ hash (pairs_of ps) → u ≡ hash (pairs_of qs) → AreDistinct ps → AreDistinct qs
+    → under ≡ inserted [] (pairs_under qs (pairs_of ps)) → laid ≡ inserted under (new_pairs ps qs) → hash (pairs_of laid) ≡ overlay t u
+laid_tree t u ps qs under laid e f h g l m =
+    let list : List (Tree × Tree) → List (Tree × Tree) → Tree = λ ts us. hash (pairs_of (pairs_under us (pairs_of ps) ++ new_pairs ts us)) in
+    let all : laid ≡ pairs_under qs (pairs_of ps) ++ new_pairs ps qs = m ∙ ap (λ xs. inserted xs (new_pairs ps qs)) l ∙ laid_pairs ps qs h g in
+    let whole : list ps qs ≡ overlay (hash (pairs_of ps)) (hash (pairs_of qs)) = ap (λ ts. list ts qs) (sym (list_of_pairs ps)) ∙ ap (list (pair_list_of (pairs_of ps))) (sym (list_of_pairs qs)) in
+    ap (λ xs. hash (pairs_of xs)) all ∙ whole ∙ ap (λ x. overlay x (hash (pairs_of qs))) (sym e) ∙ ap (overlay t) (sym f)

@@ -1,0 +1,2 @@
+mod InsertedLemmas
+mod WritableLemmas

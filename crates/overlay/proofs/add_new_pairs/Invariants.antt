@@ -1,0 +1,7 @@
+use Rattle.std.proofs.Common.{◌≡◌}
+use Rattle.tree_defs.specs.Overlay.{new_pairs}
+use Rattle.overlay.specs.Inserted.{inserted}
+use Rattle.overlay.proofs.add_new_pairs.Given as goal
+
+abbrev pub invariant-pairs : goal.invariant-pairs
+invariant-pairs l = inserted l.pairs (new_pairs l.left l.key-iterator) ≡ inserted l.initial.pairs (new_pairs l.left l.fn.right)

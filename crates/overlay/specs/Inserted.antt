@@ -1,0 +1,9 @@
+-- Pairs that are put into a hash one after the other.
+use Rattle.std.specs.Prelude.{List, [], ◌∷◌}
+use Rattle.tree_defs.specs.Tree.{Tree}
+use Rattle.tree_defs.specs.Pairs.{insert}
+
+-- the hash behind the pairs
+abbrev pub inserted : List (Tree × Tree) → List (Tree × Tree) → List (Tree × Tree)
+inserted ps [] = ps
+inserted ps (q ∷ qs) = inserted (insert q.0 q.1 ps) qs
