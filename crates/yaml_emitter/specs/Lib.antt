@@ -3,5 +3,7 @@ pub mod Blocks
 pub mod Emitter
 pub mod Entries
 pub mod Escaping
+pub mod Strings
+pub mod Valid
 pub mod Words
 pub mod Writing
