@@ -1,6 +1,6 @@
 //! A walk over a tree that only looks.
 ghost use Rattle.yaml_tree.specs.View.{view, array_tree, hash_tree};
-ghost use Rattle.yaml_emitter.specs.Valid.{IsValid};
+ghost use Rattle.yaml_emitter.specs.ValidTree.{IsValid};
 
 use yaml_tree::{Array, Hash, Yaml};
 

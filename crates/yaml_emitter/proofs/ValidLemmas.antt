@@ -9,7 +9,7 @@ use Rattle.yaml_tree.specs.declared.yaml.Yaml.{Yaml}
 use Rattle.yaml_tree.specs.declared.yaml.Yaml.TheVariants.{Real, Integer, String, Boolean, Array, Hash, Alias, Null, BadValue}
 use Rattle.yaml_tree.specs.declared.array.Array as arrays
 use Rattle.yaml_tree.specs.declared.hash.Hash as hashes
-use Rattle.yaml_emitter.specs.Valid.{IsValid, AreValid, ArePairsValid}
+use Rattle.yaml_emitter.specs.ValidTree.{IsValid, AreValid, ArePairsValid}
 
 -- ---- answers
 

@@ -4,7 +4,7 @@ ghost use Rattle.tree_defs.specs.DumpText.{dump_text};
 ghost use Rattle.tree_defs.specs.Writable.{levels};
 ghost use Rattle.yaml_tree.specs.View.{view};
 ghost use Rattle.yaml_emitter.specs.Emitter.{writer_of, writer_name, compact_of, multiline_of};
-ghost use Rattle.yaml_emitter.specs.Valid.{IsValid};
+ghost use Rattle.yaml_emitter.specs.ValidTree.{IsValid};
 ghost use Rattle.yaml_emitter.specs.Writing.{WritesUnless};
 
 use crate::node::{Layout, write_document};

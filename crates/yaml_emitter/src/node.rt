@@ -9,7 +9,7 @@ ghost use Rattle.tree_defs.specs.Writable.{levels};
 ghost use Rattle.yaml_tree.specs.View.{view, array_tree, hash_tree};
 ghost use Rattle.yaml_emitter.specs.At.{stacked};
 ghost use Rattle.yaml_emitter.specs.Entries.{before_value, behind_mark, before_entry, item_mark, second_mark, scalar_key, pair_text, scalar_box};
-ghost use Rattle.yaml_emitter.specs.Valid.{IsValid, IsValidScalar};
+ghost use Rattle.yaml_emitter.specs.ValidTree.{IsValid, IsValidScalar};
 ghost use Rattle.yaml_emitter.specs.Writing.{Writes, WritesUnless};
 
 use crate::line::break_line;

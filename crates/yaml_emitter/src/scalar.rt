@@ -2,7 +2,7 @@
 ghost use Rattle.std.specs.Prelude.{chars};
 ghost use Rattle.tree_defs.specs.Spelling.{string_spelling, boolean_spelling, spelling};
 ghost use Rattle.yaml_tree.specs.View.{view};
-ghost use Rattle.yaml_emitter.specs.Valid.{IsValidScalar};
+ghost use Rattle.yaml_emitter.specs.ValidTree.{IsValidScalar};
 ghost use Rattle.yaml_emitter.specs.Writing.{Writes};
 
 use crate::escape::write_double_quoted;

@@ -2,7 +2,7 @@ use Rattle.std.proofs.Common.{◌∙◌, ap, sym, subst, arith}
 use Rattle.tree_defs.specs.Tree.{items_of, pairs_of}
 use Rattle.yaml_tree.specs.Depth.{items_depth, pairs_depth}
 use Rattle.yaml_tree.specs.View.{view}
-use Rattle.yaml_emitter.specs.Valid.{IsValid, AreValid, ArePairsValid}
+use Rattle.yaml_emitter.specs.ValidTree.{IsValid, AreValid, ArePairsValid}
 use Rattle.yaml_emitter.proofs.NodeLemmas.{item_within, pair_within}
 use Rattle.yaml_emitter.proofs.ValidLemmas.{items_valid, pairs_valid, no_items_left, no_pairs_left, valid_hash}
 use Rattle.dumped_trees.proofs.walk.+look.Goals as goal

@@ -2,7 +2,7 @@ use Rattle.std.proofs.Common.{◌+◌, ◌*◌, ◌≤◌}
 use Rattle.tree_defs.specs.Tree.{items_of, pairs_of}
 use Rattle.yaml_tree.specs.Depth.{depth, items_depth, pairs_depth}
 use Rattle.yaml_tree.specs.View.{view}
-use Rattle.yaml_emitter.specs.Valid.{AreValid, ArePairsValid}
+use Rattle.yaml_emitter.specs.ValidTree.{AreValid, ArePairsValid}
 use Rattle.dumped_trees.proofs.walk.+look.Given as goal
 
 abbrev pub decreases-look : goal.decreases-look

@@ -7,7 +7,7 @@ use Rattle.yaml_tree.specs.Depth.{depth, items_depth, pairs_depth}
 use Rattle.yaml_tree.specs.View.{view}
 use Rattle.yaml_emitter.specs.At.{stacked}
 use Rattle.yaml_emitter.specs.Entries.{entries_text}
-use Rattle.yaml_emitter.specs.Valid.{AreValid, ArePairsValid}
+use Rattle.yaml_emitter.specs.ValidTree.{AreValid, ArePairsValid}
 use Rattle.yaml_emitter.proofs.EntryLemmas.{items_text, pairs_text, two_levels}
 use Rattle.yaml_emitter.proofs.NodeLemmas.{scalar_box_is, value_writes, items_left, pairs_left, item_within, pair_within, full_items, full_pairs, none_left, no_pair_left, scalar_pair, complex_pair}
 use Rattle.yaml_emitter.proofs.ValidLemmas.{unless_ok, pair_valid, in_any, other_is_scalar, valid_as, items_valid, pairs_valid, no_items_left, no_pairs_left, valid_hash, empty_array, empty_hash}

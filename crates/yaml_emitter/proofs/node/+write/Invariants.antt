@@ -6,7 +6,7 @@ use Rattle.tree_defs.specs.Writable.{item_levels, pair_levels}
 use Rattle.yaml_tree.specs.Depth.{depth, items_depth, pairs_depth}
 use Rattle.yaml_tree.specs.View.{view}
 use Rattle.yaml_emitter.specs.Entries.{entries_text}
-use Rattle.yaml_emitter.specs.Valid.{AreValid, ArePairsValid}
+use Rattle.yaml_emitter.specs.ValidTree.{AreValid, ArePairsValid}
 use Rattle.yaml_emitter.specs.Writing.{IsLeft}
 use Rattle.yaml_emitter.proofs.node.+write.Given as goal
 
