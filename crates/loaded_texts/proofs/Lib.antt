@@ -1,5 +1,5 @@
 pub mod Answers
-pub mod Documents
+pub mod DocumentTrees
 pub mod Dumps
 pub mod JsonNul
 pub mod LayoutNul
