@@ -1,4 +1,5 @@
 pub mod Answers
+pub mod DocumentTrees
 pub mod Dumps
 pub mod JsonNul
 pub mod LayoutNul

@@ -1,3 +1,4 @@
+pub mod Documents
 pub mod Laws
 pub mod LoadsAs
 pub mod Spelled

@@ -1,4 +1,5 @@
 //! What a load answers of a text whose tokens are read as trees: the scanner's, the parser's and the loader's promises in one.
 #![tactic(auto)]
 
+pub mod documents;
 pub mod laws;

@@ -7,4 +7,5 @@ pub mod EndLemmas
 pub mod WordLemmas
 pub mod LiteralLemmas
 pub mod EntryLemmas
+pub mod ValidLemmas
 pub mod NodeLemmas

@@ -3,5 +3,8 @@ pub mod Blocks
 pub mod Emitter
 pub mod Entries
 pub mod Escaping
+pub mod FmtText
+pub mod Strings
+pub mod ValidTree
 pub mod Words
 pub mod Writing

@@ -1,9 +1,10 @@
 //! The emitter: trees to text.
-ghost use Rattle.std.specs.Prelude.{◌≡◌, ◌≤◌, ◌^◌, true, false};
+ghost use Rattle.std.specs.Prelude.{◌≡◌, ◌≤◌, ◌^◌, true, false, OnOk, OnErr};
 ghost use Rattle.tree_defs.specs.DumpText.{dump_text};
 ghost use Rattle.tree_defs.specs.Writable.{levels};
 ghost use Rattle.yaml_tree.specs.View.{view};
 ghost use Rattle.yaml_emitter.specs.Emitter.{writer_of, writer_name, compact_of, multiline_of};
+ghost use Rattle.yaml_emitter.specs.ValidTree.{IsValid};
 ghost use Rattle.yaml_emitter.specs.Writing.{WritesUnless};
 
 use crate::node::{Layout, write_document};
@@ -103,6 +104,11 @@ impl<'a, W: Writer> YamlEmitter<'a, W> {
         ensures same_writer { writer_name self.new ≡ writer_name self.old }
         ensures text { WritesUnless (2 ^ 62 ≤ levels (view doc.now)) W.put_gives W.put_leaves (writer_of self.old) result
             (dump_text (compact_of self.old) (multiline_of self.old) (view doc.now)) (writer_of self.new) }
+        ensures written { OnOk result (W.calls_give (writer_of self.old)
+            (dump_text (compact_of self.old) (multiline_of self.old) (view doc.now)) (writer_of self.new)) }
+        ensures begun { OnErr result (W.calls_leave (writer_of self.old)
+            (dump_text (compact_of self.old) (multiline_of self.old) (view doc.now)) (writer_of self.new)) }
+        ensures valid { OnOk result (IsValid (view doc.now)) }
         ensures compact { compact_of self.new ≡ compact_of self.old }
         ensures multiline { multiline_of self.new ≡ multiline_of self.old }
     {

@@ -4,6 +4,7 @@
 mod emitter;
 mod ends;
 mod escape;
+mod fmt_writer;
 mod line;
 mod literal;
 mod node;
@@ -15,4 +16,5 @@ mod tests;
 mod writer;
 
 pub use emitter::{EmitError, EmitResult, YamlEmitter};
+pub use fmt_writer::FmtWriter;
 pub use writer::Writer;

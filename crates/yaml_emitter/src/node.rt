@@ -1,5 +1,5 @@
 //! Nodes: scalars, and arrays and hashes in block style (YAML 1.2, chapter 8).
-ghost use Rattle.std.specs.Prelude.{◌≡◌, ◌<◌, ◌≤◌, ◌+◌, ◌^◌, max, chars, true, false, if◌then◌else◌};
+ghost use Rattle.std.specs.Prelude.{◌≡◌, ◌<◌, ◌≤◌, ◌+◌, ◌^◌, max, chars, true, false, if◌then◌else◌, OnOk};
 ghost use Rattle.tree_defs.specs.Box.{box, is_block, string_box};
 ghost use Rattle.tree_defs.specs.DumpText.{dump_text};
 ghost use Rattle.tree_defs.specs.Literal.{is_literal, is_root_literal};
@@ -9,6 +9,7 @@ ghost use Rattle.tree_defs.specs.Writable.{levels};
 ghost use Rattle.yaml_tree.specs.View.{view, array_tree, hash_tree};
 ghost use Rattle.yaml_emitter.specs.At.{stacked};
 ghost use Rattle.yaml_emitter.specs.Entries.{before_value, behind_mark, before_entry, item_mark, second_mark, scalar_key, pair_text, scalar_box};
+ghost use Rattle.yaml_emitter.specs.ValidTree.{IsValid, IsValidScalar};
 ghost use Rattle.yaml_emitter.specs.Writing.{Writes, WritesUnless};
 
 use crate::line::break_line;
@@ -32,16 +33,18 @@ pub(crate) struct Layout {
 
 /// Writes the line `---` and the document's root below it.
 pub(crate) fn write_document<W: Writer>(out: &mut W, layout: Layout, root: &Yaml) -> fmt::Result
-    ensures { WritesUnless (2 ^ 62 ≤ levels (view root.now)) W.put_gives W.put_leaves out.old result
+    ensures text { WritesUnless (2 ^ 62 ≤ levels (view root.now)) W.put_gives W.put_leaves out.old result
         (dump_text layout.compact layout.multiline (view root.now)) out.new }
+    ensures valid { OnOk result (IsValid (view root.now)) }
 {
     put_ascii(out, "---\n")?;
     write_root(out, layout, root)
 }
 
 fn write_root<W: Writer>(out: &mut W, layout: Layout, node: &Yaml) -> fmt::Result
-    ensures { WritesUnless (2 ^ 62 ≤ levels (view node.now)) W.put_gives W.put_leaves out.old result
+    ensures text { WritesUnless (2 ^ 62 ≤ levels (view node.now)) W.put_gives W.put_leaves out.old result
         (stacked 0 (box layout.compact layout.multiline true (view node.now))) out.new }
+    ensures valid { OnOk result (IsValid (view node.now)) }
 {
     match node {
         Yaml::Array(items) => write_array(out, layout, 0, items),
@@ -60,8 +63,9 @@ fn write_value<W: Writer>(
     node: &Yaml,
 ) -> fmt::Result
     requires { level + 1 < 2 ^ 62 }
-    ensures { WritesUnless (2 ^ 62 ≤ level + 1 + levels (view node.now)) W.put_gives W.put_leaves out.old result
+    ensures text { WritesUnless (2 ^ 62 ≤ level + 1 + levels (view node.now)) W.put_gives W.put_leaves out.old result
         (behind_mark blocks_lower level (view node.now) (box layout.compact layout.multiline false (view node.now))) out.new }
+    ensures valid { OnOk result (IsValid (view node.now)) }
 {
     begin_value(out, level, blocks_lower, node)?;
     match node {
@@ -96,8 +100,9 @@ fn is_block(node: &Yaml) -> bool
 #[cycle(write)]
 fn write_array<W: Writer>(out: &mut W, layout: Layout, level: usize, items: &Array) -> fmt::Result
     requires { level < 2 ^ 62 }
-    ensures { WritesUnless (2 ^ 62 ≤ level + levels (array_tree items.now)) W.put_gives W.put_leaves out.old result
+    ensures text { WritesUnless (2 ^ 62 ≤ level + levels (array_tree items.now)) W.put_gives W.put_leaves out.old result
         (stacked level (box layout.compact layout.multiline false (array_tree items.now))) out.new }
+    ensures valid { OnOk result (IsValid (array_tree items.now)) }
 {
     if items.is_empty() {
         return put_ascii(out, "[]");
@@ -117,8 +122,9 @@ fn write_array<W: Writer>(out: &mut W, layout: Layout, level: usize, items: &Arr
 #[cycle(write)]
 fn write_hash<W: Writer>(out: &mut W, layout: Layout, level: usize, pairs: &Hash) -> fmt::Result
     requires { level < 2 ^ 62 }
-    ensures { WritesUnless (2 ^ 62 ≤ level + levels (hash_tree pairs.now)) W.put_gives W.put_leaves out.old result
+    ensures text { WritesUnless (2 ^ 62 ≤ level + levels (hash_tree pairs.now)) W.put_gives W.put_leaves out.old result
         (stacked level (box layout.compact layout.multiline false (hash_tree pairs.now))) out.new }
+    ensures valid { OnOk result (IsValid (hash_tree pairs.now)) }
 {
     if pairs.is_empty() {
         return put_ascii(out, "{}");
@@ -127,7 +133,7 @@ fn write_hash<W: Writer>(out: &mut W, layout: Layout, level: usize, pairs: &Hash
         return Err(fmt::Error);
     }
     let mut is_first = true;
-    'pairs: for (key, value) in pairs {
+    'pairs: for (key, value) in pairs.iter() {
         begin_entry(out, level, is_first)?;
         is_first = false;
         write_pair(out, layout, level, key, value)?;
@@ -162,7 +168,8 @@ fn begin_second<W: Writer>(out: &mut W, level: usize) -> fmt::Result
 }
 
 fn write_scalar_key<W: Writer>(out: &mut W, key: &Yaml) -> fmt::Result
-    ensures { Writes W.put_gives W.put_leaves out.old result (scalar_key (view key.now)) out.new }
+    ensures text { Writes W.put_gives W.put_leaves out.old result (scalar_key (view key.now)) out.new }
+    ensures valid { IsValidScalar (view key.now) }
 {
     write_spelling(out, key)?;
     put_ascii(out, ":")
@@ -177,8 +184,9 @@ fn write_pair<W: Writer>(
     value: &Yaml,
 ) -> fmt::Result
     requires { level + 1 < 2 ^ 62 }
-    ensures { WritesUnless (2 ^ 62 ≤ level + 1 + max (levels (view key.now)) (levels (view value.now))) W.put_gives W.put_leaves
+    ensures text { WritesUnless (2 ^ 62 ≤ level + 1 + max (levels (view key.now)) (levels (view value.now))) W.put_gives W.put_leaves
         out.old result (pair_text layout.compact layout.multiline level (view key.now) (view value.now)) out.new }
+    ensures valid { OnOk result (IsValid (view key.now) × IsValid (view value.now)) }
 {
     if is_scalar(key) {
         write_scalar_key(out, key)?;
@@ -205,8 +213,9 @@ fn write_scalar<W: Writer>(
     level: usize,
     node: &Yaml,
 ) -> fmt::Result
-    ensures { Writes W.put_gives W.put_leaves out.old result
+    ensures text { Writes W.put_gives W.put_leaves out.old result
         (stacked level (scalar_box multiline at_root (view node.now))) out.new }
+    ensures valid { IsValidScalar (view node.now) }
 {
     if let Yaml::String(text) = node {
         return write_string_node(out, multiline, at_root, level, text.as_str());

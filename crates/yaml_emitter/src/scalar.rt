@@ -2,6 +2,7 @@
 ghost use Rattle.std.specs.Prelude.{chars};
 ghost use Rattle.tree_defs.specs.Spelling.{string_spelling, boolean_spelling, spelling};
 ghost use Rattle.yaml_tree.specs.View.{view};
+ghost use Rattle.yaml_emitter.specs.ValidTree.{IsValidScalar};
 ghost use Rattle.yaml_emitter.specs.Writing.{Writes};
 
 use crate::escape::write_double_quoted;
@@ -14,7 +15,8 @@ use yaml_tree::Yaml;
 /// Writes a scalar on one line, and `[]` or `{}` for an array or hash.
 #[tactic(auto, unfolding(yaml_chars::specs::Text::string_chars))]
 pub(crate) fn write_spelling<W: Writer>(out: &mut W, node: &Yaml) -> fmt::Result
-    ensures { Writes W.put_gives W.put_leaves out.old result (spelling (view node.now)) out.new }
+    ensures text { Writes W.put_gives W.put_leaves out.old result (spelling (view node.now)) out.new }
+    ensures valid { IsValidScalar (view node.now) }
 {
     match node {
         Yaml::Real(text) => out.put(text.as_str()),

@@ -1,2 +1,2 @@
 //! Trees to text.
-pub use yaml_emitter::{EmitError, EmitResult, YamlEmitter};
+pub use yaml_emitter::{EmitError, EmitResult, FmtWriter, Writer, YamlEmitter};

@@ -1,5 +1,7 @@
-//! Laws: empty functions whose clause is a statement about the definitions, of all trees, texts, tokens or events.
+//! Laws: functions whose clause is a statement about the definitions, of all trees, texts, tokens or events. They answer
+//! nothing and take no memory; but for `laid_out`, which walks its tree, their bodies are empty.
 pub use dump_layout::laws::dumps_are_laid_out;
+pub use dumped_trees::laws::laid_out;
 pub use event_defs::laws::{
     loaded_integers_have_64_bits, loaded_trees_have_distinct_keys, loaded_trees_have_no_alias,
     multi_load_pushes_all_events, nested_events_are_read_one_by_one, nesting_test_is_exact,
@@ -9,6 +11,7 @@ pub use layout_defs::laws::{
     json_trees_are_sound, laid_out_trees_are_sound, layouts_are_wide_layouts,
     widely_laid_out_trees_are_sound,
 };
+pub use loaded_texts::documents::read_documents_come_back;
 pub use loaded_texts::laws::{
     characters_are_the_text, dumps_are_injective, dumps_are_read_as_their_tree,
     events_of_read_texts_are_read, json_texts_are_loaded, json_texts_are_read_as_their_tree,

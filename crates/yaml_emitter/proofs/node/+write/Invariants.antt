@@ -6,6 +6,7 @@ use Rattle.tree_defs.specs.Writable.{item_levels, pair_levels}
 use Rattle.yaml_tree.specs.Depth.{depth, items_depth, pairs_depth}
 use Rattle.yaml_tree.specs.View.{view}
 use Rattle.yaml_emitter.specs.Entries.{entries_text}
+use Rattle.yaml_emitter.specs.ValidTree.{AreValid, ArePairsValid}
 use Rattle.yaml_emitter.specs.Writing.{IsLeft}
 use Rattle.yaml_emitter.proofs.node.+write.Given as goal
 
@@ -27,6 +28,7 @@ invariant-write_array-items g l = record {
       l.out (entries_text l.is_first l.level (item_boxes l.layout.compact l.layout.multiline (items_of l.item-iterator)));
   no_higher : item_levels (items_of l.item-iterator) ≤ item_levels (items_of l.fn.items);
   no_deeper : items_depth (items_of l.item-iterator) ≤ items_depth (items_of l.fn.items);
+  valid : AreValid (items_of l.item-iterator) → AreValid (items_of l.fn.items);
 }
 
 abbrev pub invariant-write_hash-pairs : goal.invariant-write_hash-pairs
@@ -35,4 +37,5 @@ invariant-write_hash-pairs g l = record {
       l.out (entries_text l.is_first l.level (pair_boxes l.layout.compact l.layout.multiline (pairs_of l.key-iterator)));
   no_higher : pair_levels (pairs_of l.key-iterator) ≤ pair_levels (pairs_of l.fn.pairs);
   no_deeper : pairs_depth (pairs_of l.key-iterator) ≤ pairs_depth (pairs_of l.fn.pairs);
+  valid : ArePairsValid (pairs_of l.key-iterator) → ArePairsValid (pairs_of l.fn.pairs);
 }

@@ -1,14 +1,22 @@
 use Rattle.std.proofs.Common.{refl}
-use Rattle.yaml_emitter.proofs.WritingLemmas.{writes_ok, writes_err}
+use Rattle.yaml_emitter.proofs.ValidLemmas.{unless_ok, on_err}
+use Rattle.yaml_emitter.proofs.WritingLemmas.{writes_ok, writes_err, stopped_for}
 use Rattle.yaml_emitter.proofs.emitter.YamlEmitter.dump.Goals as goal
 
-pub returns-in_err-write_document : goal.returns-in_err-write_document
-returns-in_err-write_document g c = record {
-  same_writer = refl;
-  text = writes_err c.from_residual.ensures.0 (c.in_err-write_document.ensures.err refl);
-  compact = refl;
-  multiline = refl;
-}
+pub returns-in_err-write_document-clause-text : goal.returns-in_err-write_document-clause-text
+returns-in_err-write_document-clause-text g c = writes_err c.from_residual.ensures.0 (c.in_err-write_document.ensures.text.err refl)
 
-pub returns : goal.returns
-returns g c = record { same_writer = refl; text = writes_ok refl (c.in_ok-write_document.ensures.ok refl); compact = refl; multiline = refl }
+pub returns-in_err-write_document-clause-written : goal.returns-in_err-write_document-clause-written
+returns-in_err-write_document-clause-written g c = unless_ok _ _ c.from_residual.ensures.0
+
+pub returns-in_err-write_document-clause-begun : goal.returns-in_err-write_document-clause-begun
+returns-in_err-write_document-clause-begun g c = on_err _ (g.met.W.Writer.stopped _ _ _ (stopped_for (λ _. tt) (c.in_err-write_document.ensures.text.err refl)))
+
+pub returns-in_err-write_document-clause-valid : goal.returns-in_err-write_document-clause-valid
+returns-in_err-write_document-clause-valid g c = unless_ok _ _ c.from_residual.ensures.0
+
+pub returns-clause-text : goal.returns-clause-text
+returns-clause-text g c = writes_ok refl (c.in_ok-write_document.ensures.text.ok refl)
+
+pub returns-clause-written : goal.returns-clause-written
+returns-clause-written g c = g.met.W.Writer.wrote _ _ _ (c.in_ok-write_document.ensures.text.ok refl)

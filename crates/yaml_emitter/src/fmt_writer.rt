@@ -1,0 +1,51 @@
+//! Dumps to whatever takes formatted text.
+ghost use Rattle.std.specs.Prelude.{◌≡◌};
+ghost use Rattle.yaml_emitter.specs.FmtText.{inner_of};
+
+use crate::writer::Writer;
+use std::fmt;
+
+/// Takes a dump to any `fmt::Write`, each part of the text by one call of its `write_str`. Behind a part that it refuses
+/// nothing is known of it.
+#[derive(Drop)]
+pub struct FmtWriter<W> {
+    inner: W,
+}
+
+impl<W> FmtWriter<W> {
+    /// A writer to what is handed over.
+    pub fn new(inner: W) -> FmtWriter<W>
+        ensures { inner_of result ≡ inner }
+    {
+        FmtWriter { inner }
+    }
+
+    /// What was handed over, with what was written to it.
+    pub fn into_inner(self) -> W
+        ensures { result ≡ inner_of self }
+    {
+        let FmtWriter { inner } = self;
+        inner
+    }
+}
+
+impl<W: fmt::Write> Writer for FmtWriter<W> {
+    ghost use Rattle.yaml_emitter.specs.FmtText.{TakesText, inner_of};
+    ghost use Rattle.yaml_emitter.specs.Writing.{Wrote, Stopped};
+
+    ghost put_gives = { TakesText W.write_str_gives };
+
+    ghost put_leaves = { λ v cs w. Unit {0} };
+
+    ghost calls_give = { Wrote (TakesText W.write_str_gives) };
+
+    ghost calls_leave = { Stopped (TakesText W.write_str_gives) (λ v cs w. Unit {0}) (Unit {0}) };
+
+    fn put(&mut self, text: &str) -> fmt::Result {
+        self.inner.write_str(text)
+    }
+
+    ghost wrote = { λ v text w p. p };
+
+    ghost stopped = { λ v text w p. p };
+}
