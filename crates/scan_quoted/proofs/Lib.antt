@@ -1,0 +1,4 @@
+mod Fold
+mod Bridges
+mod Turns
+mod Elements

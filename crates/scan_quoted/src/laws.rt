@@ -1,0 +1,8 @@
+//! Laws of the scanner's model and quoted scalars, each carried by an empty function.
+
+ghost use Rattle.scan_quoted.specs.Laws.{BuffersJoinFoldedLines};
+
+/// The text that the model's buffers join is that of the body's lines, trimmed and folded.
+pub fn buffers_join_folded_lines()
+    ensures { BuffersJoinFoldedLines }
+{}
