@@ -2,3 +2,6 @@ mod Fold
 mod Bridges
 mod Turns
 mod Elements
+mod Bodies
+mod NoNul
+mod Values

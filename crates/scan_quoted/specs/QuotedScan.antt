@@ -28,6 +28,10 @@ abbrev pub has_marker : (body rest : List ℕ) → Bool
 has_marker [] r = false
 has_marker (c ∷ a) r = (is_break c && is_document_marker (a ++ r)) || has_marker a r
 
+-- a character other than NUL, with which a text ends
+abbrev pub is_some : ℕ → Bool
+is_some c = not (c == 0)
+
 -- Why a scan refuses a body all the same: a line of it stands left of the innermost block collection, or a TAB stands there for indentation.
 pub data IsShallow (ctx : Context) (start : Place) (x : Result (Read (List ℕ)) Fault) : Type 0 where
   by_line : (p : Place) → nat_lt (p.col + 1) ctx.indent ≡ true → x ≡ Err (At problem.QuotedIndentation start) → IsShallow ctx start x
