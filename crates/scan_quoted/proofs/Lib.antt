@@ -1,0 +1,7 @@
+mod Fold
+mod Bridges
+mod Turns
+mod Elements
+mod Bodies
+mod NoNul
+mod Values

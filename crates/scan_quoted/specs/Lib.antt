@@ -1,0 +1,3 @@
+pub mod Buffers
+pub mod Laws
+pub mod QuotedScan
