@@ -1,15 +1,25 @@
 #!/usr/bin/env python3
 """Compares this library with another program that prints the same lines.
 
-usage: compare.py OURS THEIRS COMMAND [--exhaustive LENGTH] [--seed N] [--count N] [--json N] [--show N]
+usage: compare.py OURS THEIRS tokens|events|dumps [--exhaustive LENGTH] [--seed N] [--count N] [--json N] [--shapes N] [--trees N] [--show N]
+       compare.py OURS THEIRS decoding [--exhaustive LENGTH] [--seed N] [--count N] [--show N]
 
-`OURS COMMAND` and `THEIRS batch COMMAND` read paths from standard input and print, for each file, a line
-`== PATH`, its tokens or events (COMMAND), and a line `ERR ..` where a fault comes. Each difference is put
-under the rule of rules.py that explains it; those that none explains are shown, and make the exit status 1.
+`OURS COMMAND` and `THEIRS batch COMMAND` read paths from standard input and print, for each file, a line `== PATH`, its tokens or
+events, and a line `ERR ..` where a fault comes. `dumps` asks for `debug` (each document's tree on a line, as Rust's `Debug` prints it)
+and `dump [--spread] [--multiline]` (each document's dump and a line feed). It makes the trees of `--trees` anew from our dumps of them,
+as they are and with CR LF, which must be the same trees.
+
+`decoding` asks `OURS decode TRAP` and `THEIRS decode TRAP` in the same way, of files of any bytes: the trees, or `ERR scan FAULT`,
+`ERR decode MESSAGE`. TRAP is `ignore`, `strict`, `replace`, or a function: `call` adds `(A B C)` to the text and goes on, `stop` stops
+with the message `A B C`, where A is the malformation's length, B that of the input from it on, C that of the text so far, in bytes.
+`--exhaustive` is the length of all lists of the bytes of octets.py.
+
+Each difference is put under the rule of rules.py or trees.py that explains it; those that none explains are shown, and make the exit
+status 1.
 """
 import argparse, collections, itertools, os, random, subprocess, sys, tempfile
 
-import rules
+import octets, rules, shapes, trees
 
 BATCH = 5000
 
@@ -88,6 +98,19 @@ def json_texts(seed, count):
     r = random.Random(seed)
     for _ in range(count): yield json_text(r)
 
+def shaped(seed, count):
+    r = random.Random(seed)
+    for _ in range(count): yield shapes.generated(r)
+
+def flow_trees(seed, count):
+    r = random.Random(seed)
+    for _ in range(count): yield trees.flow(trees.made(r, 4))
+
+def byte_lists(length, seed, count):
+    yield from octets.exhaustive(length)
+    r = random.Random(seed)
+    for _ in range(count): yield octets.seeded(r)
+
 def batches(texts):
     texts = iter(texts)
     while batch := list(itertools.islice(texts, BATCH)): yield batch
@@ -97,7 +120,7 @@ def make(r, i): return [short, mutated, longer, short, mutated][i % 5](r)
 def answers(cmd, paths, env=None):
     out = subprocess.run(cmd, input="\n".join(paths) + "\n", capture_output=True, text=True, errors="surrogateescape", env=env).stdout
     got, cur = {}, None
-    for line in out.split("\n"):
+    for line in out.removesuffix("\n").split("\n"):
         if line.startswith("== "):
             cur = line[3:]; got[cur] = []
         elif cur is not None: got[cur].append(line)
@@ -109,47 +132,102 @@ def first_lines(ours, theirs):
         if x != y: return "   ours:   %s\n   theirs: %s" % (x, y)
     return ""
 
-def compared(a, texts, directory):
-    """The differences of a batch: of each its text, its name or None, and the first lines that differ."""
+def written(texts, directory):
+    """The paths of files with these texts or bytes."""
     paths = []
     for i, text in enumerate(texts):
-        path = os.path.join(directory, "%07d" % i)
-        with open(path, "wb") as f: f.write(text.encode("utf-8", "ignore"))
-        paths.append(path)
-    ours, theirs = answers([a.ours, "tokens"], paths), answers([a.theirs, "batch", "tokens"], paths)
-    found = []
+        paths.append(os.path.join(directory, "%07d" % i))
+        with open(paths[-1], "wb") as f: f.write(text if isinstance(text, bytes) else text.encode("utf-8", "ignore"))
+    return paths
+
+def both(a, words, paths):
+    return answers([a.ours, *words], paths), answers([a.theirs, "batch", *words], paths)
+
+def differing(a, texts, paths):
+    """The differences of tokens or events: of each path its text, its name or None, and the first lines that differ."""
+    ours, theirs = both(a, ["tokens"], paths)
+    found = {}
     for q, text in zip(paths, texts):
         if ours.get(q) != theirs.get(q):
-            found.append((q, text, rules.explain_tokens(text, ours.get(q, []), theirs.get(q, [])), first_lines(ours.get(q, []), theirs.get(q, []))))
-    if a.command == "events":
-        explained = {q: name for q, _, name, _ in found}
-        tokens, found = ours, []
-        ours, theirs = answers([a.ours, "events"], paths), answers([a.theirs, "batch", "events"], paths)
-        for q, text in zip(paths, texts):
-            if ours.get(q) != theirs.get(q):
-                name = explained[q] if q in explained else rules.explain_events(text, ours.get(q, []), theirs.get(q, []), tokens.get(q, []))
-                found.append((q, text, name, first_lines(ours.get(q, []), theirs.get(q, []))))
+            found[q] = (text, rules.explain_tokens(text, ours.get(q, []), theirs.get(q, [])), first_lines(ours.get(q, []), theirs.get(q, [])))
+    if a.command == "tokens": return found
+    explained = {q: name for q, (_, name, _) in found.items()}
+    tokens, found = ours, {}
+    ours, theirs = both(a, ["events"], paths)
+    for q, text in zip(paths, texts):
+        if ours.get(q) != theirs.get(q):
+            name = explained[q] if q in explained else rules.explain_events(text, ours.get(q, []), theirs.get(q, []), tokens.get(q, []))
+            found[q] = (text, name, first_lines(ours.get(q, []), theirs.get(q, [])))
     return found
+
+SETTINGS = [(spread, multiline) for spread in (False, True) for multiline in (False, True)]
+
+def differing_dumps(a, texts, paths):
+    """The same of trees and their dumps in four settings, and of trees that aren't those of their dumps."""
+    ours, theirs = both(a, ["debug"], paths)
+    loaded, found, unlike = {}, {}, []
+    for q, text in zip(paths, texts):
+        mine, other = trees.answer(ours.get(q, [])), trees.answer(theirs.get(q, []))
+        if mine != other: unlike.append((q, text))
+        elif isinstance(mine, list): loaded[q] = (text, mine)
+    names = differing(a, [t for _, t in unlike], [q for q, _ in unlike])
+    for q, text in unlike:
+        found[q] = names.get(q, (text, None, first_lines(ours.get(q, []), theirs.get(q, []))))
+    for spread, multiline in SETTINGS:
+        words = ["dump"] + ["--spread"] * spread + ["--multiline"] * multiline
+        ours, theirs = both(a, words, list(loaded))
+        for q, (text, documents) in loaded.items():
+            if ours.get(q) != theirs.get(q):
+                mine, other = ("".join(line + "\n" for line in lines.get(q, [])) for lines in (ours, theirs))
+                name = trees.explain(documents, spread, multiline, mine, other)
+                if not found.get(q, ("", "", ""))[1] is None: found[q] = (text, name, first_lines(ours.get(q, []), theirs.get(q, [])))
+        if a.trees: found.update(not_loaded_back(a, loaded, ours))
+    return found
+
+def not_loaded_back(a, loaded, dumps):
+    found = {}
+    for line_end in ("\n", "\r\n"):
+        with tempfile.TemporaryDirectory() as d:
+            texts = [line_end.join(dumps[q]) for q in loaded]
+            back = answers([a.ours, "debug"], written(texts, d))
+            for q, lines in zip(loaded, (back[p] for p in sorted(back))):
+                text, documents = loaded[q]
+                if trees.answer(lines) != documents and not any(trees.has(t, ("bad", "alias")) for t in documents):
+                    found[q] = (text, None, "   its dump loads as: %s" % lines)
+    return found
+
+def differing_decodings(a, lists, paths):
+    found = {}
+    for trap in octets.TRAPS:
+        ours, theirs = answers([a.ours, "decode", trap], paths), answers([a.theirs, "decode", trap], paths)
+        for q, units in zip(paths, lists):
+            if trees.answer(ours.get(q, [])) != trees.answer(theirs.get(q, [])):
+                found[q] = ("%s of %s" % (trap, units.hex(" ")), rules.explain_decoding(units, trap, ours.get(q, []), theirs.get(q, [])), first_lines(ours.get(q, []), theirs.get(q, [])))
+    return found
+
+COMPARED = {"tokens": differing, "events": differing, "dumps": differing_dumps, "decoding": differing_decodings}
 
 def main():
     p = argparse.ArgumentParser()
-    p.add_argument("ours"); p.add_argument("theirs"); p.add_argument("command", choices=["tokens", "events"])
+    p.add_argument("ours"); p.add_argument("theirs"); p.add_argument("command", choices=list(COMPARED))
     p.add_argument("--seed", type=int, default=1); p.add_argument("--count", type=int, default=5000); p.add_argument("--exhaustive", type=int, default=0)
-    p.add_argument("--json", type=int, default=0)
+    p.add_argument("--json", type=int, default=0); p.add_argument("--shapes", type=int, default=0); p.add_argument("--trees", type=int, default=0)
     p.add_argument("--show", type=int, default=10)
     a = p.parse_args()
     for program in (a.ours, a.theirs):
         if not os.access(program, os.X_OK):
             print("compare.py: %s is not a program: build it first" % program, file=sys.stderr)
             return 2
+    sources = byte_lists(a.exhaustive, a.seed, a.count) if a.command == "decoding" else itertools.chain(
+        exhaustive(a.exhaustive), generated(a.seed, a.count), json_texts(a.seed, a.json), shaped(a.seed, a.shapes), flow_trees(a.seed, a.trees))
     names, unexplained, done = collections.Counter(), [], 0
-    for texts in batches(itertools.chain(exhaustive(a.exhaustive), generated(a.seed, a.count), json_texts(a.seed, a.json))):
+    for texts in batches(sources):
         with tempfile.TemporaryDirectory() as d:
-            for _, text, name, lines in compared(a, texts, d):
+            for text, name, lines in COMPARED[a.command](a, texts, written(texts, d)).values():
                 if name: names[name] += 1
                 else: unexplained.append((text, lines))
         done += len(texts)
-    print("%d texts, %s: %d differ" % (done, a.command, sum(names.values()) + len(unexplained)))
+    print("%d inputs, %s: %d differ" % (done, a.command, sum(names.values()) + len(unexplained)))
     for name, count in names.most_common(): print("%8d  %s" % (count, name))
     print("%8d  not explained" % len(unexplained))
     for text, lines in unexplained[: a.show]: print(repr(text)); print(lines)

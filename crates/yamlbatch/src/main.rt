@@ -1,7 +1,15 @@
-//! Prints the tokens or the events of each file that a line of standard input names, for a
-//! comparison with another program's lines: `yamlbatch tokens` or `yamlbatch events`.
+//! Prints what this library makes of each file that a line of standard input names, for a comparison with another
+//! program's lines: `tokens`, `events`, `debug` (the trees), `dump [--spread] [--multiline]`, and of bytes
+//! `decode ignore|strict|replace|call|stop`.
 #![tactic(auto)]
 
+mod decoded;
+mod job;
+mod trees;
+
+use crate::decoded::decoded;
+use crate::job::{Job, job_of};
+use crate::trees::{dumps, trees};
 use event_lines::write_event;
 use std::alloc::Global;
 use std::io::{BufRead, BufReader, BufWriter, Write};
@@ -44,20 +52,29 @@ fn print_events<W: Write>(alloc: Global, out: &mut W, text: &str) -> io::Result<
 }
 
 fn main(rt: HostRuntime) -> io::Result<()> {
-    let mut args = env::args(&rt)?.skip(1);
-    let are_events = match args.next() {
-        Some(word) => word.as_str() == "events",
-        None => false,
-    };
-    let mut out = BufWriter::new(rt.alloc(), io::writer(&rt))?;
-    for line in BufReader::new(rt.alloc(), rt.reader())?.lines(rt.alloc()) {
+    let alloc = rt.alloc();
+    let mut words = Vec::new(alloc);
+    for word in env::args(&rt)?.skip(1) {
+        words.push(word)?;
+    }
+    let job = job_of(words.as_slice());
+    let mut out = BufWriter::new(alloc, io::writer(&rt))?;
+    for line in BufReader::new(alloc, rt.reader())?.lines(alloc) {
         let path = line?;
         writeln!(out, "== {path}")?;
-        let text = fs::read_to_string(&rt, path.as_str())?;
-        if are_events {
-            print_events(rt.alloc(), &mut out, text.as_str())?;
+        let bytes = fs::read(&rt, path.as_str())?;
+        if let Job::Decode(trap) = job {
+            out.write_all(decoded(alloc, bytes.as_slice(), trap)?.as_bytes())?;
         } else {
-            print_tokens(rt.alloc(), &mut out, text.as_str())?;
+            let text = String::from_utf8(bytes).map_err(|_| io::ErrorKind::InvalidData)?;
+            match job {
+                Job::Events => print_events(alloc, &mut out, text.as_str())?,
+                Job::Trees => out.write_all(trees(alloc, text.as_str())?.as_bytes())?,
+                Job::Dump(settings) => {
+                    out.write_all(dumps(alloc, text.as_str(), settings)?.as_bytes())?;
+                }
+                _ => print_tokens(alloc, &mut out, text.as_str())?,
+            }
         }
     }
     out.flush()
