@@ -1,1 +1,2 @@
 pub mod Inserted
+pub use Rattle.tree_defs.specs.Overlay

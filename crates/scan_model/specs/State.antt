@@ -15,18 +15,28 @@ pub record Key : Type 0 where
   pub number : ℕ
   pub place : Place
 
--- The place; all tokens so far, those handed out among them; what may be a key, one for each flow level and one outside flow, the innermost first; the levels of indentation, the innermost first, and the column of the innermost, from 1, 0 outside all collections; the flow levels, the innermost first; whether a key without `?` may begin here; whether only blanks stand before this place on its line; where a `:` may stand right behind a quoted scalar or a flow collection; and whether the tokens of the stream's start and end were met.
+-- What the scanner knows of the text before its place.
 pub record Held : Type 0 where
   pub place : Place
+  -- all tokens so far, those handed out among them
   pub tokens : List Token
+  -- what may still turn out to be a simple key: one for each flow level and one outside flow, the innermost first
   pub keys : List (Option Key)
+  -- the levels of indentation, the innermost first
   pub indents : List Indent
+  -- the column of the innermost level, counted from 1; 0 outside all collections
   pub indent : ℕ
+  -- the flow levels, the innermost first
   pub flow : List FlowLevel
+  -- whether a key without `?` may begin here
   pub key_allowed : Bool
+  -- whether only blanks stand before this place on its line
   pub leading : Bool
+  -- where a `:` may stand right behind a quoted scalar or a flow collection
   pub adjacent_value_at : ℕ
+  -- whether the token of the stream's start was met
   pub started : Bool
+  -- whether that of its end was
   pub ended : Bool
 
 -- the text that is left, and what the scanner holds

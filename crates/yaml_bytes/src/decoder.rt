@@ -94,8 +94,8 @@ impl<T: Read> YamlDecoder<T> {
     }
 
     /// Reads the source to its end, and loads the text of its bytes: its encoding, its characters and its malformations are as
-    /// [`text_of`] says, its documents as [`YamlLoader::load_from_str`] does. Where a source does not tell its bytes, it is the
-    /// text of some. A second call reads on from where the source stands.
+    /// [`text_of`] says, its documents as [`YamlLoader::load_from_str`] does. Where nothing is said of the bytes of a source, the
+    /// text is that of some bytes. A second call reads on from where the source stands.
     ///
     /// # Errors
     ///

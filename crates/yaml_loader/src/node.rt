@@ -138,7 +138,8 @@ impl Reading {
         }
     }
 
-    /// A copy of the complete node with this anchor, or `BadValue`: so it is one inside that very node.
+    /// A copy of the finished node with this anchor, or `BadValue` where there is none: a node is not finished while an alias
+    /// stands inside it.
     fn aliased(&self, number: usize) -> Result<Yaml, AllocError>
         ensures { IfOk result (λ node. view node ≡ aliased number (unfinished_of self.now).anchors) }
     {

@@ -356,7 +356,7 @@ impl<T: Iterator<Item = char>> Fetcher<T> {
         Ok(())
     }
 
-    /// A token more, before that many that wait.
+    /// Inserts a token at a place of the queue, counted from its front.
     #[inline(always)]
     fn put_token(&mut self, place: usize, mark: Marker, kind: TokenType) -> Result<(), Fault>
         ensures held { OnOk result (held self.new ≡ put (self.old.tokens.given + place) mark (tok_of kind) (held self.old)) }

@@ -67,7 +67,8 @@ impl<T: Iterator<Item = char>> Fetcher<T> {
         Ok(())
     }
 
-    /// Outside flow, what might have been a key is none behind its line or 1024 characters.
+    /// Outside flow, gives up a possible simple key that began on an earlier line or more than 1024 characters before
+    /// (YAML 1.2, section 8.2.2). One that must be a key is a fault then.
     pub(crate) fn drop_stale(&mut self) -> Result<(), Fault>
         ensures held { OnOk result (stale (held self.old) ≡ Ok (held self.new)) }
         ensures fault { IfErr result (λ e. stale (held self.old) ≡ Err e) }

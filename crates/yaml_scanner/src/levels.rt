@@ -83,7 +83,7 @@ impl Levels {
         }
     }
 
-    /// Whether the innermost level is none of a block collection.
+    /// Whether the innermost level is open without a block collection: no `BlockEnd` closes it.
     pub fn is_open(&self) -> bool
         ensures { result ≡ ends_open self.now.indents }
     {

@@ -148,7 +148,7 @@ impl<T: Iterator<Item = char>> Fetcher<T> {
         }
     }
 
-    /// Steps over a comment, of which one behind a `?` is no space.
+    /// Steps over a comment. Behind a `?` it does not count as the space that must stand there.
     fn pass_white_comment(&mut self)
         requires ahead { 0 < self.old.window.ahead }
         requires has { HasChar self.old.window }
