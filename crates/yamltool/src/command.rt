@@ -9,31 +9,38 @@ pub struct Settings {
     pub multiline: bool,
 }
 
-/// What is printed of a file.
+/// What is printed, of which files.
 #[derive(Clone, Copy)]
-pub enum Command {
-    Events,
-    Dump(Settings),
+pub enum Command<'a> {
+    Events(&'a str),
+    Dump(Settings, &'a str),
+    Overlay(&'a str, &'a str),
 }
 
-/// The command and the file's path, where the arguments are such.
-pub fn command_of(args: &[String]) -> Option<(Command, &str)> {
+/// The command that the arguments give, if they give one.
+pub fn command_of(args: &[String]) -> Option<Command<'_>> {
     let [word, options @ .., path] = args else {
         return None;
     };
-    let command = match word.as_str() {
-        "events" if options.is_empty() => Command::Events,
-        "dump" => Command::Dump(settings_of(options)?),
-        _ => return None,
-    };
-    Some((command, path.as_str()))
+    let path = path.as_str();
+    match (word.as_str(), options) {
+        ("events", []) => Some(Command::Events(path)),
+        ("dump", _) => Some(Command::Dump(settings_of(options)?, path)),
+        ("overlay", [left]) => Some(Command::Overlay(left.as_str(), path)),
+        _ => None,
+    }
 }
 
-fn settings_of(options: &[String]) -> Option<Settings> {
-    let mut settings = Settings {
+impl Settings {
+    /// Those of a dump without options.
+    pub const COMPACT: Settings = Settings {
         spread: false,
         multiline: false,
     };
+}
+
+fn settings_of(options: &[String]) -> Option<Settings> {
+    let mut settings = Settings::COMPACT;
     for option in options {
         match option.as_str() {
             "--spread" => settings.spread = true,

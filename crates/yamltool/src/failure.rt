@@ -2,33 +2,43 @@ use std::alloc::AllocError;
 use std::io;
 use yaml_tokens::ScanError;
 
-/// Why the program ends with a status other than 0.
+/// Why the program ends with a status other than 0, with the path of the file that it is about.
 #[derive(Drop)]
-pub enum Failure {
+pub enum Failure<'a> {
     Usage,
-    CannotRead,
-    NotUtf8,
+    CannotRead(&'a str),
+    NotUtf8(&'a str),
+    /// The file holds so many documents, and one is needed.
+    Documents(&'a str, usize),
     CannotWrite,
     OutOfMemory,
     Fault(ScanError),
 }
 
-impl From<AllocError> for Failure {
-    fn from(_: AllocError) -> Failure {
+impl<'a> From<AllocError> for Failure<'a> {
+    fn from(_: AllocError) -> Failure<'a> {
         Failure::OutOfMemory
     }
 }
 
-impl From<ScanError> for Failure {
-    fn from(fault: ScanError) -> Failure {
+impl<'a> From<ScanError> for Failure<'a> {
+    fn from(fault: ScanError) -> Failure<'a> {
         Failure::Fault(fault)
     }
 }
 
 /// What a failed read is: want of memory, or another failure.
-pub fn read_failure(error: io::Error) -> Failure {
+pub fn read_failure(error: io::Error, path: &str) -> Failure<'_> {
     match error.kind() {
         io::ErrorKind::OutOfMemory => Failure::OutOfMemory,
-        _ => Failure::CannotRead,
+        _ => Failure::CannotRead(path),
+    }
+}
+
+/// What arguments that could not be had are: want of memory, or no such arguments as the program takes.
+pub fn arguments_failure<'a>(error: io::Error) -> Failure<'a> {
+    match error.kind() {
+        io::ErrorKind::InvalidData => Failure::Usage,
+        _ => Failure::OutOfMemory,
     }
 }
