@@ -32,3 +32,11 @@ pub fn read_failure(error: io::Error) -> Failure {
         _ => Failure::CannotRead,
     }
 }
+
+/// What arguments that could not be had are: want of memory, or no such arguments as the program takes.
+pub fn arguments_failure(error: io::Error) -> Failure {
+    match error.kind() {
+        io::ErrorKind::InvalidData => Failure::Usage,
+        _ => Failure::OutOfMemory,
+    }
+}

@@ -8,18 +8,22 @@ pub mod run;
 #[cfg(test)]
 mod tests;
 
-use run::run;
+use run::start;
 use std::process::ExitCode;
 use std::{env, io};
 
-fn main(rt: HostRuntime) -> io::Result<ExitCode> {
+fn main(rt: HostRuntime) -> ExitCode {
     let alloc = rt.alloc();
-    let mut args = Vec::new(alloc);
-    for arg in env::args(&rt)?.skip(1) {
+    let out = io::BufWriter::new(alloc, rt.stdout());
+    let mut err = rt.stderr();
+    ExitCode::from(start(&rt, alloc, arguments(&rt), out, &mut err))
+}
+
+// The arguments, without the program's own name.
+fn arguments(rt: &HostRuntime) -> io::Result<Vec<String>> {
+    let mut args = Vec::new(rt.alloc());
+    for arg in env::args(rt)?.skip(1) {
         args.push(arg)?;
     }
-    let mut out = io::BufWriter::new(alloc, rt.stdout())?;
-    let mut err = rt.stderr();
-    let status = run(&rt, alloc, args.as_slice(), &mut out, &mut err);
-    Ok(ExitCode::from(status))
+    Ok(args)
 }

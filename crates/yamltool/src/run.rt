@@ -1,6 +1,6 @@
 //! The program over any files and writers.
 use crate::command::{Command, Settings, command_of};
-use crate::failure::{Failure, read_failure};
+use crate::failure::{Failure, arguments_failure, read_failure};
 use event_lines::write_event;
 use std::alloc::Global;
 use std::fs::OpenOptions;
@@ -14,6 +14,26 @@ use yaml_tree::Yaml;
 
 const USAGE: &str =
     "usage: yamltool events FILE | dump [--spread] [--multiline] FILE | overlay A B";
+
+/// Runs the program on its arguments and its output, where these could be had, and gives its exit status. An argument that
+/// is not UTF-8 gives the usage; else only memory can have been refused.
+pub fn start<R: Files, O: Write + Drop, E: Write>(
+    rt: &R,
+    alloc: Global,
+    args: io::Result<Vec<String>>,
+    out: io::Result<O>,
+    err: &mut E,
+) -> u8 {
+    let failure = match (args, out) {
+        (Ok(args), Ok(out)) => {
+            let mut out = out;
+            return run(rt, alloc, args.as_slice(), &mut out, err);
+        }
+        (Err(error), _) => arguments_failure(error),
+        (_, Err(_)) => Failure::OutOfMemory,
+    };
+    fail(err, &failure, "")
+}
 
 /// Runs the program on its arguments (its own name left out), and gives its exit status: 0, or 1
 /// with a line in `err` that says what failed, or 2 with the usage.
@@ -32,8 +52,12 @@ pub fn run<R: Files, O: Write, E: Write>(
         [.., path] => path.as_str(),
         _ => "",
     };
-    // Where the error stream takes nothing, the status alone tells.
-    let _ = report(err, &failure, path);
+    fail(err, &failure, path)
+}
+
+// Says what failed, and gives the status. Where the error stream takes nothing, the status alone tells.
+fn fail<E: Write>(err: &mut E, failure: &Failure, path: &str) -> u8 {
+    let _ = report(err, failure, path);
     match failure {
         Failure::Usage => 2,
         _ => 1,

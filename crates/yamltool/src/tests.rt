@@ -1,7 +1,7 @@
-use crate::run::run;
+use crate::run::{run, start};
 use std::alloc::{Allocator, Global};
 use std::fs::{File, Metadata, OpenOptions};
-use std::io::Write;
+use std::io::{ErrorKind, Write};
 use std::process::Abort;
 use std::rt::{Env, Files};
 use std::test::Fail;
@@ -10,17 +10,29 @@ use std::{env, fs, io};
 const USAGE: &str =
     "usage: yamltool events FILE | dump [--spread] [--multiline] FILE | overlay A B\n";
 
-// A writer that takes nothing.
-#[derive(Drop)]
-struct Full;
+const WANT: &str = "yamltool: out of memory\n";
 
-impl Write for Full {
-    fn write(&mut self, _bytes: &[u8]) -> io::Result<usize> {
-        Err(io::Error::from(io::ErrorKind::StorageFull))
+// A writer that takes so many writes, and whose flush may fail.
+#[derive(Drop)]
+struct Failing {
+    writes: usize,
+    flushes: bool,
+}
+
+impl Write for Failing {
+    fn write(&mut self, bytes: &[u8]) -> io::Result<usize> {
+        if self.writes == 0 {
+            return Err(io::Error::from(ErrorKind::StorageFull));
+        }
+        self.writes -= 1;
+        Ok(bytes.len())
     }
 
     fn flush(&mut self) -> io::Result<()> {
-        Ok(())
+        if self.flushes {
+            return Ok(());
+        }
+        Err(io::Error::from(ErrorKind::BrokenPipe))
     }
 }
 
@@ -28,7 +40,7 @@ impl Write for Full {
 struct NoMemory;
 
 fn refused<T>() -> io::Result<T> {
-    Err(io::Error::from(io::ErrorKind::OutOfMemory))
+    Err(io::Error::from(ErrorKind::OutOfMemory))
 }
 
 impl Files for NoMemory {
@@ -85,117 +97,75 @@ fn words(alloc: Global, list: &[&str]) -> Result<Vec<String>, Fail> {
     Ok(all)
 }
 
-// Runs `events` on a file that holds these bytes, and checks status, output and the error line.
-fn events_of(
-    rt: &(impl Abort + Files + Env + AllocGlobal),
-    name: &str,
-    bytes: &[u8],
-    want: (u8, &str, &str),
-) -> Result<(), Fail> {
-    told_of(rt, &["events"], name, bytes, want)
-}
-
-// The same of a command with its options.
-fn told_of(
-    rt: &(impl Abort + Files + Env + AllocGlobal),
-    command: &[&str],
-    name: &str,
-    bytes: &[u8],
-    want: (u8, &str, &str),
-) -> Result<(), Fail> {
+// What the program prints of a file that holds these bytes: its output, then what it says of a failure, then its status.
+fn told(rt: &HostRuntime, command: &[&str], bytes: &[u8]) -> Result<String, Fail> {
     let alloc = rt.alloc();
-    let folder = env::temp_dir(rt)?;
-    let path = folder.join(alloc, name)?;
+    let path = env::temp_dir(rt)?.join(alloc, "yamltool-test.yaml")?;
     fs::write(rt, path.as_path(), bytes)?;
-    let path = String::from_str(alloc, path.as_path().to_str().unwrap_or(""))?;
+    let name = path.as_path().to_str().unwrap_or("");
     let mut args = words(alloc, command)?;
-    args.push(String::from_str(alloc, path.as_str())?)?;
+    args.push(String::from_str(alloc, name)?)?;
     let mut out = Vec::new(alloc);
     let mut err = Vec::new(alloc);
     let status = run(rt, alloc, args.as_slice(), &mut out, &mut err);
-    let line = String::from_utf8_lossy(alloc, err.as_slice())?.replace(
-        alloc,
-        path.as_str(),
-        "FILE",
-    )?;
-    assert_eq!(rt; status, want.0);
-    assert_eq!(rt; out.as_slice(), want.1.as_bytes());
-    assert_eq!(rt; line.as_str(), want.2);
-    Ok(())
+    out.extend_from_slice(err.as_slice())?;
+    let text = String::from_utf8_lossy(alloc, out.as_slice())?;
+    let text = text.replace(alloc, name, "FILE")?;
+    Ok(format!(in alloc; "{text}{status}")?)
 }
 
-#[test]
-fn events_are_printed(rt: HostRuntime) -> Result<(), Fail> {
-    let sequence =
-        "StreamStart 1:0\nDocumentStart 1:0\nSequenceStart 1:0\nScalar 1:1 plain \"1\"\nScalar 1:4 plain \"2\"\nSequenceEnd 1:5\nDocumentEnd 2:0\nStreamEnd 2:0\n";
-    events_of(&rt, "yamltool-a.yaml", b"[1, 2]", (0, sequence, ""))?;
-    events_of(
-        &rt,
-        "yamltool-b.yaml",
+const EVENTS: &[&str] = &["events"];
+
+const DUMP: &[&str] = &["dump"];
+
+// A command with its options, what the file holds, and all that is told.
+const ROWS: [(&[&str], &[u8], &str); 10] = [
+    (
+        EVENTS,
+        b"[1, 2]",
+        "StreamStart 1:0\nDocumentStart 1:0\nSequenceStart 1:0\nScalar 1:1 plain \"1\"\nScalar 1:4 plain \"2\"\nSequenceEnd 1:5\nDocumentEnd 2:0\nStreamEnd 2:0\n0",
+    ),
+    (
+        EVENTS,
         b"\xEF\xBB\xBF[1, 2]",
-        (0, sequence, ""),
-    )?;
-    let tagged =
-        "StreamStart 1:0\nDocumentStart 1:0\nScalar 1:9 &1 tag \"tag:yaml.org,2002:\" \"int\" plain \"5\"\nDocumentEnd 2:0\nStreamEnd 2:0\n";
-    events_of(&rt, "yamltool-c.yaml", b"!!int &x 5", (0, tagged, ""))
-}
-
-#[test]
-fn documents_are_dumped(rt: HostRuntime) -> Result<(), Fail> {
-    let two = b"--- 1\n--- 2";
-    told_of(
-        &rt,
-        &["dump"],
-        "yamltool-g.yaml",
-        two,
-        (0, "---\n1\n---\n2\n", ""),
-    )?;
-    let texts = b"{foo: \"bar!\\nbar!\", baz: 42}";
-    let literal = "---\nfoo: |-\n  bar!\n  bar!\nbaz: 42\n";
-    told_of(
-        &rt,
+        "StreamStart 1:0\nDocumentStart 1:0\nSequenceStart 1:0\nScalar 1:1 plain \"1\"\nScalar 1:4 plain \"2\"\nSequenceEnd 1:5\nDocumentEnd 2:0\nStreamEnd 2:0\n0",
+    ),
+    (
+        EVENTS,
+        b"!!int &x 5",
+        "StreamStart 1:0\nDocumentStart 1:0\nScalar 1:9 &1 tag \"tag:yaml.org,2002:\" \"int\" plain \"5\"\nDocumentEnd 2:0\nStreamEnd 2:0\n0",
+    ),
+    (
+        EVENTS,
+        b"[1",
+        "StreamStart 1:0\nDocumentStart 1:0\nSequenceStart 1:0\nScalar 1:1 plain \"1\"\nwhile parsing a flow sequence, expected ',' or ']' at byte 2 line 2 column 1\n1",
+    ),
+    (EVENTS, b"a\xFF", "yamltool: FILE is not UTF-8\n1"),
+    (DUMP, b"--- 1\n--- 2", "---\n1\n---\n2\n0"),
+    (
         &["dump", "--multiline"],
-        "yamltool-h.yaml",
-        texts,
-        (0, literal, ""),
-    )?;
-    let nested = b"[[1, 2], []]";
-    let compact = "---\n- - 1\n  - 2\n- []\n";
-    told_of(&rt, &["dump"], "yamltool-i.yaml", nested, (0, compact, ""))?;
-    let spread = "---\n-\n  - 1\n  - 2\n- []\n";
-    told_of(
-        &rt,
+        b"{foo: \"bar!\\nbar!\", baz: 42}",
+        "---\nfoo: |-\n  bar!\n  bar!\nbaz: 42\n0",
+    ),
+    (DUMP, b"[[1, 2], []]", "---\n- - 1\n  - 2\n- []\n0"),
+    (
         &["dump", "--multiline", "--spread"],
-        "yamltool-j.yaml",
-        nested,
-        (0, spread, ""),
-    )
-}
-
-#[test]
-fn nothing_is_dumped_before_a_fault(rt: HostRuntime) -> Result<(), Fail> {
-    let fault =
-        "while parsing a node, did not find expected node content at byte 7 line 4 column 1\n";
-    told_of(
-        &rt,
-        &["dump"],
-        "yamltool-k.yaml",
+        b"[[1, 2], []]",
+        "---\n-\n  - 1\n  - 2\n- []\n0",
+    ),
+    (
+        DUMP,
         b"1\n---\n[",
-        (1, "", fault),
-    )
-}
+        "while parsing a node, did not find expected node content at byte 7 line 4 column 1\n1",
+    ),
+];
 
 #[test]
-fn faults_are_told(rt: HostRuntime) -> Result<(), Fail> {
-    let begun = "StreamStart 1:0\nDocumentStart 1:0\nSequenceStart 1:0\nScalar 1:1 plain \"1\"\n";
-    let fault = "while parsing a flow sequence, expected ',' or ']' at byte 2 line 2 column 1\n";
-    events_of(&rt, "yamltool-d.yaml", b"[1", (1, begun, fault))?;
-    events_of(
-        &rt,
-        "yamltool-e.yaml",
-        b"a\xFF",
-        (1, "", "yamltool: FILE is not UTF-8\n"),
-    )
+fn files_are_printed(rt: HostRuntime) -> Result<(), Fail> {
+    for (command, bytes, want) in ROWS {
+        assert_eq!(rt; told(&rt, command, bytes)?.as_str(), want);
+    }
+    Ok(())
 }
 
 #[test]
@@ -206,27 +176,39 @@ fn files_that_cannot_be_read_are_told(rt: HostRuntime) -> Result<(), Fail> {
     let mut err = Vec::new(alloc);
     assert_eq!(rt; run(&rt, alloc, args.as_slice(), &mut out, &mut err), 1);
     assert_eq!(rt;
-        err.as_slice(),
-        b"yamltool: cannot read no/such/file\n".as_slice()
-    );
-    let mut err = Vec::new(alloc);
-    assert_eq!(rt;
         run(&NoMemory, alloc, args.as_slice(), &mut out, &mut err),
         1
     );
-    assert_eq!(rt; err.as_slice(), b"yamltool: out of memory\n".as_slice());
+    assert_eq!(rt;
+        err.as_slice(),
+        b"yamltool: cannot read no/such/file\nyamltool: out of memory\n".as_slice()
+    );
+    assert!(rt; out.is_empty());
     Ok(())
 }
 
+// A full disk, one that fills up, and a pipe that is closed when the output is flushed.
 #[test]
-fn writers_that_take_nothing_are_told(rt: HostRuntime) -> Result<(), Fail> {
+fn outputs_that_fail_are_told(rt: HostRuntime) -> Result<(), Fail> {
     let alloc = rt.alloc();
-    let path = env::temp_dir(&rt)?.join(alloc, "yamltool-f.yaml")?;
+    let path = env::temp_dir(&rt)?.join(alloc, "yamltool-failing.yaml")?;
     fs::write(&rt, path.as_path(), b"a")?;
-    let args = words(alloc, &["events", path.as_path().to_str().unwrap_or("")])?;
-    let mut err = Vec::new(alloc);
-    assert_eq!(rt; run(&rt, alloc, args.as_slice(), &mut Full, &mut err), 1);
-    assert_eq!(rt; err.as_slice(), b"yamltool: cannot write\n".as_slice());
+    for command in ["events", "dump"] {
+        let args = words(alloc, &[command, path.as_path().to_str().unwrap_or("")])?;
+        for (writes, flushes) in [(0, true), (2, true), (1000, false)] {
+            let mut out = Failing { writes, flushes };
+            let mut err = Vec::new(alloc);
+            let status = run(&rt, alloc, args.as_slice(), &mut out, &mut err);
+            let is_dumped = command == "dump" && writes == 2;
+            assert_eq!(rt; status, if is_dumped { 0 } else { 1 });
+            let line: &[u8] = if is_dumped {
+                b""
+            } else {
+                b"yamltool: cannot write\n"
+            };
+            assert_eq!(rt; err.as_slice(), line);
+        }
+    }
     Ok(())
 }
 
@@ -246,6 +228,26 @@ fn other_arguments_give_the_usage(rt: HostRuntime) -> Result<(), Fail> {
         let mut err = Vec::new(alloc);
         assert_eq!(rt; run(&rt, alloc, args.as_slice(), &mut out, &mut err), 2);
         assert_eq!(rt; err.as_slice(), USAGE.as_bytes());
+        assert!(rt; out.is_empty());
+    }
+    Ok(())
+}
+
+// Arguments that are not UTF-8 or found no memory, and an output that found none.
+#[test]
+fn what_cannot_be_had_at_the_start_is_told(rt: HostRuntime) -> Result<(), Fail> {
+    let alloc = rt.alloc();
+    let args = words(alloc, &["events", "x"])?;
+    for (args, out, status, line) in [
+        (Err(ErrorKind::InvalidData), Ok(Vec::new(alloc)), 2, USAGE),
+        (Err(ErrorKind::OutOfMemory), Ok(Vec::new(alloc)), 1, WANT),
+        (Ok(args), Err(ErrorKind::OutOfMemory), 1, WANT),
+    ] {
+        let args = args.map_err(|kind| io::Error::from(kind));
+        let out: io::Result<Vec<u8>> = out.map_err(|kind| io::Error::from(kind));
+        let mut err = Vec::new(alloc);
+        assert_eq!(rt; start(&rt, alloc, args, out, &mut err), status);
+        assert_eq!(rt; err.as_slice(), line.as_bytes());
     }
     Ok(())
 }
