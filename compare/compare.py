@@ -152,7 +152,8 @@ def differing(a, texts, paths):
             found[q] = (text, rules.explain_tokens(text, ours.get(q, []), theirs.get(q, [])), first_lines(ours.get(q, []), theirs.get(q, [])))
     if a.command == "tokens": return found
     explained = {q: name for q, (_, name, _) in found.items()}
-    tokens, found = ours, {}
+    # An index stands in no event's line, but in a fault's of the loader.
+    tokens, found = ours, found if a.command == "dumps" else {}
     ours, theirs = both(a, ["events"], paths)
     for q, text in zip(paths, texts):
         if ours.get(q) != theirs.get(q):

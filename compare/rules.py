@@ -182,7 +182,22 @@ def tab_before_comment(text, ours, theirs):
     return None
 
 
-TOKEN_RULES = [pairs, characters, octets, block_at_margin, tab_before_comment]
+def pairs_and_characters(text, ours, theirs):
+    """One flag, and columns and indices that count bytes behind a block scalar."""
+    if not any(ord(c) > 127 for c in text) or not ("|" in text or ">" in text):
+        return None
+    def plain(lines): return [COLUMNS.sub("", l) for l in lines if l]
+    tokens, fault = parsed(ours)
+    want, colons = with_one_flag(text, tokens)
+    want, their = plain(want + ([fault] if fault else [])), plain(theirs)
+    stop = "illegal placement of ':' indicator"
+    is_stopped = their and stop in their[-1] and want[:len(their) - 1] == their[:-1] and any(colons.values())
+    if want == their or is_stopped or fault and stop in fault and their[:len(want) - 1] == want[:-1]:
+        return "one flag for all levels, and bytes past the window"
+    return None
+
+
+TOKEN_RULES = [pairs, characters, octets, block_at_margin, tab_before_comment, pairs_and_characters]
 
 
 def explain_tokens(text, ours, theirs):

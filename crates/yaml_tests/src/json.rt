@@ -1,4 +1,5 @@
 //! Made JSON texts (RFC 8259), each with the value that its maker had in mind.
+use crate::dumping::{LAYOUTS, loads_back};
 use std::alloc::Global;
 use std::test::Fail;
 use yaml_rust2::YamlLoader;
@@ -164,15 +165,21 @@ impl Maker {
     }
 }
 
+impl Maker {
+    fn new(alloc: Global, seed: u64) -> Maker {
+        Maker {
+            alloc,
+            seed,
+            text: String::new(alloc),
+        }
+    }
+}
+
 #[test]
 fn made_texts_load_as_their_values(rt: HostRuntime) -> Result<(), Fail> {
     let alloc = rt.alloc();
     for seed in 0..2000 {
-        let mut maker = Maker {
-            alloc,
-            seed,
-            text: String::new(alloc),
-        };
+        let mut maker = Maker::new(alloc, seed);
         maker.gap()?;
         let want = maker.value(5)?;
         maker.gap()?;
@@ -183,7 +190,29 @@ fn made_texts_load_as_their_values(rt: HostRuntime) -> Result<(), Fail> {
             [document] => *document == want,
             _ => false,
         };
-        assert!(rt; is_one);
+        assert!(rt; is_one, "seed {seed}");
+    }
+    Ok(())
+}
+
+// A made tree as the value of another.
+fn pair(maker: &mut Maker) -> Result<Yaml, Fail> {
+    let key = maker.value(2)?;
+    let value = maker.value(4)?;
+    let mut pairs = Hash::new(maker.alloc);
+    let _ = pairs.insert(key, value).map_err(|_| "no memory")?;
+    Ok(Yaml::Hash(pairs))
+}
+
+#[test]
+fn dumps_of_made_trees_load_back(rt: HostRuntime) -> Result<(), Fail> {
+    let alloc = rt.alloc();
+    for seed in 0..500 {
+        let mut maker = Maker::new(alloc, seed);
+        let tree = pair(&mut maker)?;
+        for layout in LAYOUTS {
+            assert!(rt; loads_back(alloc, &tree, layout)?, "seed {seed}");
+        }
     }
     Ok(())
 }

@@ -1,11 +1,25 @@
-//! Rows that go through all layers: texts, and the trees or faults that they give.
+//! Rows that go through all layers: tables of texts by subject, and the trees or faults that they give.
 #![tactic(auto)]
 
+#[cfg(test)]
+mod blocks;
+#[cfg(test)]
+mod decoding;
+#[cfg(test)]
+mod documents;
+#[cfg(test)]
+mod dumping;
+#[cfg(test)]
+mod faults;
+#[cfg(test)]
+mod flow;
 #[cfg(test)]
 mod json;
 #[cfg(test)]
 mod limits;
 #[cfg(test)]
-mod loads;
+mod properties;
 #[cfg(test)]
-mod rows;
+mod reading;
+#[cfg(test)]
+mod scalars;

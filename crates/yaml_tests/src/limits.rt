@@ -1,8 +1,10 @@
 //! Texts that are long, deep or both.
-use crate::loads::loaded;
+use crate::dumping::{COMPACT, LAYOUTS, dumped, loads_back, tree};
+use crate::reading::loaded;
 use std::alloc::Global;
 use std::test::Fail;
 use yaml_rust2::YamlLoader;
+use yaml_rust2::yaml::{Array, Yaml};
 
 // So many times a beginning, a middle, and as many times an end.
 fn nested(
@@ -30,23 +32,64 @@ fn is_loaded(alloc: Global, text: &str) -> bool {
     }
 }
 
+// Arrays in arrays, so many in all, the innermost empty.
+fn arrays(alloc: Global, levels: usize) -> Result<Yaml, Fail> {
+    let mut node = Array::new(alloc);
+    for _ in 1..levels {
+        let mut outer = Array::new(alloc);
+        outer.push(Yaml::Array(node))?;
+        node = outer;
+    }
+    Ok(Yaml::Array(node))
+}
+
+// Levels, a beginning, a middle, an end, and the fault.
+const TOO_DEEP: [(usize, &str, &str, &str, &str); 4] = [
+    (
+        256,
+        "[",
+        "",
+        "]",
+        "recursion limit exceeded at byte 255 line 1 column 256",
+    ),
+    (
+        254,
+        "[",
+        "{\"a\":[]}",
+        "]",
+        "recursion limit exceeded at byte 259 line 1 column 260",
+    ),
+    (
+        10000,
+        "[",
+        "",
+        "]",
+        "recursion limit exceeded at byte 255 line 1 column 256",
+    ),
+    (
+        10000,
+        "{a:",
+        "",
+        "}",
+        "recursion limit exceeded at byte 765 line 1 column 766",
+    ),
+];
+
 #[test]
 fn flow_collections_have_255_levels(rt: HostRuntime) -> Result<(), Fail> {
     let alloc = rt.alloc();
-    for (levels, middle, want) in [(254, "{\"a\":1}", true), (254, "{\"a\":[]}", false)] {
-        let text = nested(alloc, levels, "[", middle, "]")?;
-        assert_eq!(rt; is_loaded(alloc, text.as_str()), want);
+    let deepest = nested(alloc, 255, "[", "", "]")?;
+    assert!(rt; tree(alloc, deepest.as_str())? == arrays(alloc, 255)?);
+    let deep = nested(alloc, 254, "[", "{\"a\":1}", "]")?;
+    assert!(rt; is_loaded(alloc, deep.as_str()));
+    for (levels, begin, middle, end, want) in TOO_DEEP {
+        let text = nested(alloc, levels, begin, middle, end)?;
+        assert_eq!(rt;
+            loaded(alloc, text.as_str())?.as_str(),
+            want,
+            "{levels} {begin}"
+        );
     }
-    let brackets = nested(alloc, 10000, "[", "", "]")?;
-    assert_eq!(rt;
-        loaded(alloc, brackets.as_str())?.as_str(),
-        "recursion limit exceeded at byte 255 line 1 column 256"
-    );
-    let braces = nested(alloc, 10000, "{a:", "", "}")?;
-    assert_eq!(rt;
-        loaded(alloc, braces.as_str())?.as_str(),
-        "recursion limit exceeded at byte 765 line 1 column 766"
-    );
     Ok(())
 }
 
@@ -60,41 +103,83 @@ fn with_letters(alloc: Global, begin: &str, letters: usize, end: &str) -> Result
     Ok(text)
 }
 
+// A beginning, how many letters, and an end.
+const LONG_KEYS: [(&str, usize, &str); 4] = [
+    ("", 1024, ": 1"),
+    ("\"", 1022, "\": 1"),
+    ("---\n'", 1022, "': 1"),
+    ("{", 5000, ": 1}"),
+];
+
+// The same, and the fault.
+const LONGER_KEYS: [(&str, usize, &str, &str); 3] = [
+    (
+        "",
+        1025,
+        ": 1",
+        "mapping values are not allowed in this context at byte 1025 line 1 column 1026",
+    ),
+    (
+        "\"",
+        1023,
+        "\": 1",
+        "mapping values are not allowed in this context at byte 1025 line 1 column 1026",
+    ),
+    (
+        "a: 1\n",
+        1025,
+        ": 2",
+        "simple key expect ':' at byte 1030 line 2 column 1026",
+    ),
+];
+
 #[test]
 fn keys_have_1024_characters(rt: HostRuntime) -> Result<(), Fail> {
     let alloc = rt.alloc();
-    for (begin, letters, end) in [
-        ("", 1024, ": 1"),
-        ("\"", 1022, "\": 1"),
-        ("{", 5000, ": 1}"),
-    ] {
+    for (begin, letters, end) in LONG_KEYS {
         let text = with_letters(alloc, begin, letters, end)?;
-        assert!(rt; is_loaded(alloc, text.as_str()));
+        assert!(rt;
+            is_loaded(alloc, text.as_str()),
+            "{letters} letters behind {begin:?}"
+        );
     }
-    for (begin, letters, end, want) in [
-        (
-            "",
-            1025,
-            ": 1",
-            "mapping values are not allowed in this context at byte 1025 line 1 column 1026",
-        ),
-        (
-            "\"",
-            1023,
-            "\": 1",
-            "mapping values are not allowed in this context at byte 1025 line 1 column 1026",
-        ),
-        (
-            "a: 1\n",
-            1025,
-            ": 2",
-            "simple key expect ':' at byte 1030 line 2 column 1026",
-        ),
-    ] {
+    for (begin, letters, end, want) in LONGER_KEYS {
         let text = with_letters(alloc, begin, letters, end)?;
-        assert_eq!(rt; loaded(alloc, text.as_str())?.as_str(), want);
+        assert_eq!(rt;
+            loaded(alloc, text.as_str())?.as_str(),
+            want,
+            "{letters} letters behind {begin:?}"
+        );
     }
     Ok(())
+}
+
+#[test]
+fn long_keys_are_dumped(rt: HostRuntime) -> Result<(), Fail> {
+    let alloc = rt.alloc();
+    let long = with_letters(alloc, "{", 1024, ": 1}")?;
+    for layout in LAYOUTS {
+        assert!(rt; loads_back(alloc, &tree(alloc, long.as_str())?, layout)?);
+    }
+    let longer = with_letters(alloc, "{", 1025, ": 1}")?;
+    let text = dumped(alloc, &tree(alloc, longer.as_str())?, COMPACT)?;
+    assert_eq!(rt;
+        loaded(alloc, text.as_str())?.as_str(),
+        "mapping values are not allowed in this context at byte 1029 line 2 column 1026"
+    );
+    Ok(())
+}
+
+// Two arrays of two, each an array of two, and so on, down to texts.
+fn doubled(alloc: Global, levels: usize) -> Result<Yaml, Fail> {
+    let mut node = Yaml::String(String::from_str(alloc, "x")?);
+    for _ in 0..levels {
+        let mut both = Array::new(alloc);
+        both.push(node.clone(alloc)?)?;
+        both.push(node)?;
+        node = Yaml::Array(both);
+    }
+    Ok(node)
 }
 
 #[test]
@@ -105,18 +190,25 @@ fn aliases_are_copies(rt: HostRuntime) -> Result<(), Fail> {
         let before = i.saturating_sub(1);
         text.push_str(format!(in alloc; "- &a{i} [*a{before}, *a{before}]\n")?.as_str())?;
     }
-    let documents = YamlLoader::load_from_str(alloc, text.as_str()).map_err(|_| "a fault")?;
-    let last = match documents.as_slice() {
-        [document] => document.get_index(9),
-        _ => None,
-    };
-    let shown = format!(in alloc; "{last:?}")?;
-    let mut leaves = 0usize;
-    for c in shown.as_str().chars() {
-        if c == 'x' {
-            leaves = leaves.saturating_add(1);
-        }
+    let loaded = tree(alloc, text.as_str())?;
+    assert!(rt; loaded.get_index(10).is_none());
+    for i in 0..10 {
+        let item = loaded.get_index(i).ok_or("no item")?;
+        assert!(rt; *item == doubled(alloc, i.saturating_add(1))?, "item {i}");
     }
-    assert_eq!(rt; leaves, 1024);
+    Ok(())
+}
+
+#[test]
+fn an_iterator_is_left_alone_behind_its_end(rt: HostRuntime) -> Result<(), Fail> {
+    let letters = "a-b"
+        .chars()
+        .map_while(|c: char| if c == '-' { None } else { Some(c) });
+    let documents = YamlLoader::load_from_iter(rt.alloc(), letters).map_err(|_| "a fault")?;
+    let is_a = match documents.as_slice() {
+        [document] => document.as_str() == Some("a"),
+        _ => false,
+    };
+    assert!(rt; is_a);
     Ok(())
 }

@@ -1,0 +1,43 @@
+//! Block collections (YAML 1.2, section 8.2).
+use crate::reading::{Row, rows_hold};
+use std::test::Fail;
+
+// A text, and the trees that it loads as.
+const BLOCKS: [Row; 10] = [
+    (
+        "---\na:\n# note\n     - 1\n\n     - 2\n",
+        "[Hash({String(\"a\"): Array([Integer(1), Integer(2)])})]",
+    ),
+    (
+        "key:\n- item 1\n- item 2\n",
+        "[Hash({String(\"key\"): Array([String(\"item 1\"), String(\"item 2\")])})]",
+    ),
+    (
+        "---\r\n- tok1\r\n- tok2",
+        "[Array([String(\"tok1\"), String(\"tok2\")])]",
+    ),
+    ("-\n-", "[Array([Null, Null])]"),
+    ("? a", "[Hash({String(\"a\"): Null})]"),
+    (": b", "[Hash({Null: String(\"b\")})]"),
+    (
+        "s:\n  - server:\n    about: x",
+        "[Hash({String(\"s\"): Array([Hash({String(\"server\"): Null, String(\"about\"): String(\"x\")})])})]",
+    ),
+    (
+        "a:\n  b: c\n\t# x\n",
+        "[Hash({String(\"a\"): Hash({String(\"b\"): String(\"c\")})})]",
+    ),
+    (
+        "---\n# top\n\n   ? - 1\n     - 2\n# mid\n   :       - x\n           - |\n                 p\n\n                 q\n   k:\n# c\n     z: {}\n",
+        "[Hash({Array([Integer(1), Integer(2)]): Array([String(\"x\"), String(\"p\\n\\nq\\n\")]), String(\"k\"): Hash({String(\"z\"): Hash({})})})]",
+    ),
+    (
+        "---\na:\n  b:\n    c: hello\n  d: {}\ne:\n  - f\n  - - g\n    - - h\n  - i: []",
+        "[Hash({String(\"a\"): Hash({String(\"b\"): Hash({String(\"c\"): String(\"hello\")}), String(\"d\"): Hash({})}), String(\"e\"): Array([String(\"f\"), Array([String(\"g\"), Array([String(\"h\")])]), Hash({String(\"i\"): Array([])})])})]",
+    ),
+];
+
+#[test]
+fn blocks_are_read(rt: HostRuntime) -> Result<(), Fail> {
+    rows_hold(&rt, &BLOCKS)
+}

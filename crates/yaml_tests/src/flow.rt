@@ -1,0 +1,48 @@
+//! Flow collections (YAML 1.2, section 7.4).
+use crate::reading::{Row, rows_hold};
+use std::test::Fail;
+
+// A text, and the trees that it loads as.
+const FLOW: [Row; 12] = [
+    (
+        "[1e400, \"a b\", [], null]",
+        "[Array([Real(\"1e400\"), String(\"a b\"), Array([]), Null])]",
+    ),
+    (
+        "{\"a\":1,\"b\":[true,null]}",
+        "[Hash({String(\"a\"): Integer(1), String(\"b\"): Array([Boolean(true), Null])})]",
+    ),
+    (
+        "{\"k\"\n:1,\"b\":[true,null,1e400,-0]}",
+        "[Hash({String(\"k\"): Integer(1), String(\"b\"): Array([Boolean(true), Null, Real(\"1e400\"), Integer(0)])})]",
+    ),
+    (
+        "{\n\t\"a\": [\n\t\t1\n\t]\n}",
+        "[Hash({String(\"a\"): Array([Integer(1)])})]",
+    ),
+    ("[1, 2]", "[Array([Integer(1), Integer(2)])]"),
+    (
+        "[a: [b, c]]",
+        "[Array([Hash({String(\"a\"): Array([String(\"b\"), String(\"c\")])})])]",
+    ),
+    ("[? : x]", "[Array([Hash({Null: String(\"x\")})])]"),
+    ("[? ]", "[Array([Hash({Null: Null})])]"),
+    (
+        "[a: b, c: [d: e], {f: g}]",
+        "[Array([Hash({String(\"a\"): String(\"b\")}), Hash({String(\"c\"): Array([Hash({String(\"d\"): String(\"e\")})])}), Hash({String(\"f\"): String(\"g\")})])]",
+    ),
+    ("{a: :b}", "[Hash({String(\"a\"): String(\":b\")})]"),
+    (
+        "{\n  ? foo :,\n  : bar,\n}",
+        "[Hash({String(\"foo\"): Null, Null: String(\"bar\")})]",
+    ),
+    (
+        "{a: 1, b: {c: 2}}",
+        "[Hash({String(\"a\"): Integer(1), String(\"b\"): Hash({String(\"c\"): Integer(2)})})]",
+    ),
+];
+
+#[test]
+fn flow_collections_are_read(rt: HostRuntime) -> Result<(), Fail> {
+    rows_hold(&rt, &FLOW)
+}
