@@ -5,3 +5,4 @@ mod Elements
 mod Bodies
 mod NoNul
 mod Values
+pub mod Tokens
