@@ -10,3 +10,4 @@ pub mod Runs
 pub mod Spelled
 pub mod StreamEnds
 pub mod Texts
+pub mod QuotedTexts

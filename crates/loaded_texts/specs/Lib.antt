@@ -1,5 +1,6 @@
 pub mod Laws
 pub mod LoadsAs
+pub mod QuotedTexts
 pub mod Spelled
 pub mod TextEvents
 pub mod TextReadAs
