@@ -31,6 +31,10 @@ abbrev pub body_value : Quotes → List ℕ → Option (List ℕ)
 body_value single body = single_quoted_value body
 body_value double body = double_quoted_value body
 
+-- the text is one quoted scalar with this value
+abbrev pub IsQuoted : List ℕ → List ℕ → Type 0
+IsQuoted value text = (w : QuotedText) × (spell w ≡ text) × (body_value w.quotes w.body ≡ Some value)
+
 -- the text is one quoted scalar, and its tokens are these
 abbrev pub HasQuotedTokens : List ℕ → List Tok → Type 0
 HasQuotedTokens text tokens =

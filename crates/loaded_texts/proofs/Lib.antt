@@ -11,3 +11,4 @@ pub mod Runs
 pub mod Spelled
 pub mod StreamEnds
 pub mod Texts
+pub mod QuotedTexts

@@ -1,6 +1,7 @@
 pub mod Documents
 pub mod Laws
 pub mod LoadsAs
+pub mod QuotedTexts
 pub mod Spelled
 pub mod TextEvents
 pub mod TextReadAs

@@ -1,10 +1,10 @@
-mod Shapes
+pub mod Shapes
 mod Gaps
-mod Words
-mod Strings
+pub mod Words
+pub mod Strings
 mod Fetches
 mod Steps
-mod Scalars
+pub mod Scalars
 mod Numbers
 mod Values
 pub mod Whole

@@ -10,6 +10,7 @@ use Rattle.yaml_tokens.specs.declared.problem.Fault.{Fault}
 use Rattle.layout_defs.specs.JsonGap.{Blank, space, tab, line_feed, carriage_return, spell_gap}
 use Rattle.layout_defs.specs.JsonString.{Piece, spell_pieces, spell_string, are_pieces, unescaped}
 use Rattle.scalar_model.specs.Machine.{past}
+use Rattle.scalar_model.specs.Quoted.{quote_of, quoted}
 use Rattle.scan_model.specs.declared.level.FlowLevel.{FlowLevel}
 use Rattle.scan_model.specs.declared.level.FlowLevel.TheVariants.{Mapping}
 use Rattle.scan_model.specs.State.{Key, State, token, peek, try_held}
@@ -18,13 +19,13 @@ use Rattle.scan_model.specs.Keys.{stale, is_required}
 use Rattle.scan_model.specs.Space.{skip_to_next_token}
 use Rattle.scan_model.specs.Indents.{in_block, roll_one_col_indent, roll_indent, unroll_non_block_indents, without_open}
 use Rattle.scan_model.specs.Block.{check_value_space, begin_pair, insert_key, fetch_value}
-use Rattle.scan_model.specs.Document.{may_follow_quoted, check_behind_quoted, fetch_flow_scalar, fetch_plain_scalar}
+use Rattle.scan_model.specs.Document.{may_follow_quoted, quoted_style, check_behind_quoted, fetch_flow_scalar, fetch_plain_scalar}
 use Rattle.scan_model.specs.Fetch.{token_by, is_value, comes_marker, fetch, fetch_next}
 use Rattle.scan_json.proofs.Shapes.{Parts, stands, IsBottom, is_content, is_solid, Ends, at_end, at_comma, at_bracket, at_brace}
 use Rattle.scan_json.proofs.Gaps.{trim, starts_break, next_token, skip_solid}
-use Rattle.scan_json.proofs.Strings.{string_read}
-use Rattle.scan_json.proofs.Words.{IsWord, are_words, is_word, word_char, word_read, word_class, word_content}
-use Rattle.scan_json.proofs.Fetches.{here, fetched, stepped}
+use Rattle.scan_json.proofs.Strings.{Closed, string_read}
+use Rattle.scan_json.proofs.Words.{context_of, IsWord, are_words, is_word, word_char, word_read, word_class, word_content}
+use Rattle.scan_json.proofs.Fetches.{here, Fetched, fetched, stepped}
 use Rattle.scan_json.proofs.Steps.{saved}
 
 -- ---- a string
@@ -41,36 +42,36 @@ follows fs same_line (tab ∷ g) r edge may = cc
 follows fs same_line (line_feed ∷ g) r edge may = refl
 follows fs same_line (carriage_return ∷ g) r edge may = refl
 
-abbrev string_tok : List Piece → Tok
-string_tok ps = Tok.scalar Style.double_quoted (unescaped ps)
+-- the token of a quoted scalar
+abbrev pub quoted_tok : Bool → List ℕ → Tok
+quoted_tok single text = Tok.scalar (quoted_style single) text
 
--- behind a string
+-- behind a quoted scalar
 abbrev pub quoted_at : Place → List Token → Option Key → Bool → Bool → Parts
 quoted_at place tokens key allowed leading = record { place = place; tokens = tokens; key = key; allowed = allowed; leading = leading; adjacent = place.index }
 
-record QuotedAt (t : Result State Fault) (ps : List Piece) (r : List ℕ) (fs : List FlowLevel) (ks : List (Option Key)) (p : Parts) : Type 0 where
+record QuotedAt (t : Result State Fault) (tok : Tok) (r : List ℕ) (fs : List FlowLevel) (ks : List (Option Key)) (p : Parts) : Type 0 where
   place : Place
   key : Option Key
   loose : is_required key ≡ false
   new : p.allowed ≡ true → key ≡ Some (record { required = false; number = length p.tokens; place = p.place })
   allowed : Bool
   leading : Bool
-  is : t ≡ Ok (stands r fs ks (quoted_at place (p.tokens ++ token p.place (string_tok ps) ∷ []) key allowed leading))
+  is : t ≡ Ok (stands r fs ks (quoted_at place (p.tokens ++ token p.place tok ∷ []) key allowed leading))
 
-string_at : (ps : List Piece) (b : List Blank) (r : List ℕ) (fs : List FlowLevel) (ks : List (Option Key)) (p : Parts) → are_pieces ps ≡ true → is_required p.key ≡ false → is_solid r ≡ true → MayFollow fs r
-    → QuotedAt (fetch_flow_scalar false (stands (spell_string ps (spell_gap b r)) fs ks p)) ps r fs ks p
+scalar_at : (single : Bool) (text a : List ℕ) (b : List Blank) (r : List ℕ) (fs : List FlowLevel) (ks : List (Option Key)) (p : Parts) → is_required p.key ≡ false → is_solid r ≡ true → MayFollow fs r
+    → Closed (quoted single (context_of fs) a p.place) text (spell_gap b r) → QuotedAt (fetch_flow_scalar single (stands a fs ks p)) (quoted_tok single text) r fs ks p
 unfolding fetch_flow_scalar check_behind_quoted
-string_at ps b r fs ks p pieces loose solid may =
-    let k = saved (spell_string ps (spell_gap b r)) fs ks p loose in
-    let z = string_read fs ps (spell_gap b r) p.place pieces in
+scalar_at single text a b r fs ks p loose solid may z =
+    let k = saved a fs ks p loose in
     let q = record p { place = z.place; key = k.key; allowed = false; leading = false } in
     let w = trim fs ks b r q solid in
     let v = follows fs (p.place.line == w.place.line) w.gap r w.edge may in
     let u = next_token fs ks w.gap r (record q { place = w.place }) solid in
     record { place = u.place; key = k.key; loose = k.loose; new = k.new; allowed = u.allowed; leading = u.leading; is = rw (k.is, z.is, w.is, v, u.is) refl }
 
--- A fetch took a string. Inside flow, where a key may begin, it may be one.
-pub record Quoted (ps : List Piece) (from : State) (r : List ℕ) (fs : List FlowLevel) (ks : List (Option Key)) (p : Parts) : Type 0 where
+-- A fetch took a quoted scalar. Inside flow, where a key may begin, it may be one.
+pub record Quoted (tok : Tok) (from : State) (r : List ℕ) (fs : List FlowLevel) (ks : List (Option Key)) (p : Parts) : Type 0 where
   pub place : Place
   pub at : Place
   pub key : Option Key
@@ -78,15 +79,18 @@ pub record Quoted (ps : List Piece) (from : State) (r : List ℕ) (fs : List Flo
   pub new : is_nil fs ≡ false → p.allowed ≡ true → key ≡ Some (record { required = false; number = length p.tokens; place = at })
   pub allowed : Bool
   pub leading : Bool
-  pub is : fetch from ≡ Ok (stands r fs ks (quoted_at place (p.tokens ++ token at (string_tok ps) ∷ []) key allowed leading))
+  pub is : fetch from ≡ Ok (stands r fs ks (quoted_at place (p.tokens ++ token at tok ∷ []) key allowed leading))
 
-pub string_run : (ps : List Piece) (g b : List Blank) (r : List ℕ) (fs : List FlowLevel) (ks : List (Option Key)) (p : Parts) → are_pieces ps ≡ true → IsBottom fs ks → is_required p.key ≡ false → is_solid r ≡ true → MayFollow fs r
-    → Quoted ps (stands (spell_gap g (spell_string ps (spell_gap b r))) fs ks p) r fs ks p
-unfolding class_of comes_marker
-string_run ps g b r fs ks p pieces bottom loose solid may =
-    let y = fetched g 34 (spell_pieces ps (34 ∷ spell_gap b r)) fs ks p bottom loose refl refl in
-    let z = string_at ps b r fs ks (record p { place = y.place; allowed = y.allowed; leading = y.leading; key = y.key }) pieces y.loose solid may in
-    let u = stepped _ _ r fs ks _ bottom z.loose y.is z.is in
+-- the scan reads a text from a quote on, at each place, up to white space
+abbrev pub ReadsQuoted : Bool → List FlowLevel → List ℕ → List ℕ → List ℕ → Type 0
+ReadsQuoted single fs a text r = (at : Place) → Closed (quoted single (context_of fs) a at) text r
+
+fetched_by : (single : Bool) (text : List ℕ) (from : State) (c : ℕ) (a : List ℕ) (b : List Blank) (r : List ℕ) (fs : List FlowLevel) (ks : List (Option Key)) (p : Parts) → IsBottom fs ks → is_solid r ≡ true → MayFollow fs r
+    → ReadsQuoted single fs (c ∷ a) text (spell_gap b r) → ((t : State) → token_by (class_of c) t ≡ fetch_flow_scalar single t) → Fetched from c a fs ks p → Quoted (quoted_tok single text) from r fs ks p
+fetched_by single text from c a b r fs ks p bottom solid may reads decides y =
+    let q = record p { place = y.place; allowed = y.allowed; leading = y.leading; key = y.key } in
+    let z = scalar_at single text (c ∷ a) b r fs ks q y.loose solid may (reads y.place) in
+    let u = stepped _ _ r fs ks _ bottom z.loose y.is (decides (stands (c ∷ a) fs ks q) ∙ z.is) in
     record {
       place = z.place;
       at = y.place;
@@ -97,6 +101,17 @@ string_run ps g b r fs ks p pieces bottom loose solid may =
       leading = z.leading;
       is = u.is;
     }
+
+pub quoted_run : (single : Bool) (text a : List ℕ) (g b : List Blank) (r : List ℕ) (fs : List FlowLevel) (ks : List (Option Key)) (p : Parts) → IsBottom fs ks → is_required p.key ≡ false → is_solid r ≡ true → MayFollow fs r
+    → ReadsQuoted single fs (quote_of single ∷ a) text (spell_gap b r) → Quoted (quoted_tok single text) (stands (spell_gap g (quote_of single ∷ a)) fs ks p) r fs ks p
+unfolding class_of comes_marker
+quoted_run true text a g b r fs ks p bottom loose solid may reads = fetched_by true text _ 39 a b r fs ks p bottom solid may reads (λ t. refl) (fetched g 39 a fs ks p bottom loose refl refl)
+quoted_run false text a g b r fs ks p bottom loose solid may reads = fetched_by false text _ 34 a b r fs ks p bottom solid may reads (λ t. refl) (fetched g 34 a fs ks p bottom loose refl refl)
+
+pub string_run : (ps : List Piece) (g b : List Blank) (r : List ℕ) (fs : List FlowLevel) (ks : List (Option Key)) (p : Parts) → are_pieces ps ≡ true → IsBottom fs ks → is_required p.key ≡ false → is_solid r ≡ true → MayFollow fs r
+    → Quoted (quoted_tok false (unescaped ps)) (stands (spell_gap g (spell_string ps (spell_gap b r))) fs ks p) r fs ks p
+string_run ps g b r fs ks p pieces bottom loose solid may =
+    quoted_run false (unescaped ps) (spell_pieces ps (34 ∷ spell_gap b r)) g b r fs ks p bottom loose solid may (λ at. string_read fs ps (spell_gap b r) at pieces)
 
 pub ends_solid : (fs : List FlowLevel) (r : List ℕ) → Ends fs r → is_solid r ≡ true
 ends_solid fs r at_end = refl

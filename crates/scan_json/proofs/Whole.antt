@@ -23,10 +23,10 @@ use Rattle.scan_json.proofs.Values.{push_tells, value_runs}
 abbrev origin : Place
 origin = record { index = 0; line = 1; col = 0 }
 
-abbrev begun : Parts
+abbrev pub begun : Parts
 begun = record { place = origin; tokens = token origin Tok.stream_start ∷ []; key = None; allowed = true; leading = true; adjacent = 0 }
 
-begins : (a : List ℕ) → fetch (start a) ≡ Ok (stands a [] [] begun)
+pub begins : (a : List ℕ) → fetch (start a) ≡ Ok (stands a [] [] begun)
 unfolding fetch fetch_stream_start
 begins a = refl
 
@@ -69,7 +69,7 @@ finishes g p loose =
     record { parts = r; tokens = refl; is = rw (y.is, z.is, end_here r (r.place.col + 1) z.loose) refl }
 
 -- a text whose tokens up to its end were given
-all_tokens : (a : List ℕ) (want : List Tok → List Tok) → After (start a) [] [] [] want → HasToks a (want (Tok.stream_end ∷ []))
+pub all_tokens : (a : List ℕ) (want : List Tok → List Tok) → After (start a) [] [] [] want → HasToks a (want (Tok.stream_end ∷ []))
 all_tokens a want u =
     let z = finishes u.gap u.parts u.loose in
     let told = push_tells z.parts.tokens (next_line z.parts.place) Tok.stream_end want (rw (← z.tokens) at u.told) in (

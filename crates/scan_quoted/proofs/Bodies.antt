@@ -1,5 +1,5 @@
 -- The model over the elements of a body, up to its closing quote.
-use Rattle.std.proofs.Common.{◌≡◌, ℕ, zero, suc, ◌+◌, List, [], ◌∷◌, ◌++◌, Bool, true, false, ◌||◌, ◌&&◌, not, ◌==◌, if◌then◌else◌, Option, Some, None, Result, Ok, Err, refl, ap, sym, ◌∙◌, subst, append-nil, arith, nat_lt, slice_index, drop}
+use Rattle.std.proofs.Common.{◌≡◌, ℕ, zero, suc, ◌+◌, List, [], ◌∷◌, ◌++◌, Bool, true, false, ◌||◌, ◌&&◌, not, ◌==◌, if◌then◌else◌, Option, Some, None, Result, Ok, Err, refl, ap, sym, ◌∙◌, append-nil, nat_lt, slice_index, drop}
 use Rattle.yaml_chars.specs.Place.{Place}
 use Rattle.yaml_chars.specs.Class.{is_break, is_blank}
 use Rattle.yaml_chars.specs.Text.{is_nil}
@@ -8,11 +8,11 @@ use Rattle.yaml_tokens.specs.declared.problem.Fault.TheVariants.{At}
 use Rattle.yaml_tokens.specs.declared.problem.Problem.TheVariants as problem
 use Rattle.scalar_defs.specs.Classes as classes
 use Rattle.scalar_defs.specs.Classes.{is_document_marker}
-use Rattle.scalar_defs.specs.FlowScalar.{Element, Spelled, elements, followed, put_before, double_quoted_element, begins_with}
+use Rattle.scalar_defs.specs.FlowScalar.{Element, Spelled, elements, followed, put_before, double_quoted_element}
 use Rattle.scalar_model.specs.declared.context.Context.{Context}
 use Rattle.scalar_model.specs.Machine.{Read, past, at_marker}
 use Rattle.scalar_model.specs.Folding.{Folded, nothing, joined}
-use Rattle.scalar_model.specs.Quoted.{Mode, first, gap, behind, inside, closed, quote_of, quoted, quoted_from, refused}
+use Rattle.scalar_model.specs.Quoted.{Mode, first, gap, inside, closed, quote_of, refused}
 use Rattle.scalar_model.proofs.QuotedLemmas.{behind_gap, behind_quote, closed_end}
 use Rattle.scan_quoted.specs.Buffers.{behind_element, behind_elements}
 use Rattle.scan_quoted.specs.QuotedScan.{element_of, has_marker, ends_before, IsShallow, by_line, by_tab, IsRead, read, shallow}

@@ -1,24 +1,23 @@
 -- What the model does at each element of a body in single and in double quotes.
-use Rattle.std.proofs.Common.{◌≡◌, ℕ, zero, suc, ◌+◌, ◌*◌, List, [], ◌∷◌, ◌++◌, Bool, true, false, ◌||◌, ◌&&◌, not, ◌==◌, if◌then◌else◌, Option, Some, None, Result, Ok, Err, refl, ap, sym, ◌∙◌, append-nil, arith, nat_lt, slice_index, take, drop, length}
+use Rattle.std.proofs.Common.{◌≡◌, ℕ, zero, suc, ◌+◌, ◌*◌, List, [], ◌∷◌, ◌++◌, Bool, true, false, ◌||◌, ◌&&◌, ◌==◌, if◌then◌else◌, Option, Some, None, Result, refl, sym, ◌∙◌, arith, slice_index, take, drop, length}
 use Rattle.std.specs.List.{list_all}
 use Rattle.std.specs.Char.{digit_value, is_digit}
-use Rattle.std.proofs.lemmas.Bool.{and_parts, eqb-true, eq-eqb}
+use Rattle.std.proofs.lemmas.Bool.{and_parts, eqb-true}
 use Rattle.std.proofs.lemmas.Bool.Decides.{nat_tests}
 use Rattle.yaml_chars.specs.Place.{Place}
 use Rattle.yaml_chars.specs.Class.{is_break, is_blank, is_hex}
 use Rattle.yaml_tokens.specs.declared.problem.Fault.{Fault}
 use Rattle.scalar_defs.specs.Classes as classes
 use Rattle.scalar_defs.specs.Classes.{is_document_marker}
-use Rattle.scalar_defs.specs.FlowScalar.{Element, content, escaped_break, Spelled, break_further, plain_element, single_quoted_element, double_quoted_element, begins_with, lookup, escapes, numeric_escapes, hexadecimal, is_character_code, numbered, numeric_escape, escape_by, escape}
+use Rattle.scalar_defs.specs.FlowScalar.{content, escaped_break, break_further, single_quoted_element, double_quoted_element, begins_with, lookup, escapes, numeric_escapes, hexadecimal, is_character_code, numbered, numeric_escape, escape_by, escape}
 use Rattle.scalar_model.specs.declared.context.Context.{Context}
 use Rattle.scalar_model.specs.Machine.{Read, past, past_break}
 use Rattle.scalar_model.specs.Folding.{Folded, with_char, with_escaped_break, joined}
-use Rattle.scalar_model.specs.Quoted.{Mode, inside, gap, behind, digits_from, Escape, escape_of, is_scalar}
+use Rattle.scalar_model.specs.Quoted.{inside, behind, digits_from, Escape, escape_of}
 use Rattle.scalar_model.proofs.QuotedLemmas.{named_char, named_code, digit_turn, coded}
-use Rattle.scan_quoted.specs.Buffers.{behind_element}
-use Rattle.scan_quoted.specs.QuotedScan.{element_of, is_some, has_marker, IsShallow, by_line, by_tab}
-use Rattle.scan_quoted.proofs.Bridges.{same_break, same_digit, same_code, same_escape, escape_by_rows}
-use Rattle.scan_quoted.proofs.Turns.{and_false, feed_is_no_marker, Ready, in_gap, behind_escaped, scan, Begun, begun, marked, shallow, begins, Taken, Step, steps, is_marked, is_shallow, StepOf, spelled, content_step, itself_step}
+use Rattle.scan_quoted.specs.QuotedScan.{element_of, is_some, has_marker, by_line}
+use Rattle.scan_quoted.proofs.Bridges.{same_break, same_digit, same_code, same_escape}
+use Rattle.scan_quoted.proofs.Turns.{and_false, feed_is_no_marker, behind_escaped, scan, Begun, begun, marked, shallow, begins, Taken, Step, steps, is_marked, is_shallow, StepOf, spelled, content_step, itself_step}
 
 -- ---- single quotes
 

@@ -3,7 +3,7 @@ use Rattle.std.proofs.Common.{◌≡◌, ℕ, zero, suc, List, [], ◌∷◌, �
 use Rattle.yaml_chars.specs.Text.{is_nil}
 use Rattle.scalar_defs.specs.Classes.{line_feed, space}
 use Rattle.scalar_defs.specs.FlowScalar.{Element, content, blank, line_break, escaped_break, Lines, last_line, line, lines_of, begun_with, without_trailing_blanks, before_break, trimmed, trimmed_behind, text_of, folded_break, folded_behind, folded}
-use Rattle.scalar_model.specs.Folding.{Folded, nothing, with_char, with_escaped_break, joined}
+use Rattle.scalar_model.specs.Folding.{Folded, with_char, with_escaped_break, joined}
 use Rattle.scan_quoted.specs.Buffers.{behind_elements}
 use Rattle.scan_quoted.specs.Laws.{BuffersJoinFoldedLines}
 

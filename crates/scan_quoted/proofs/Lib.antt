@@ -1,7 +1,8 @@
-mod Fold
+pub mod Fold
 mod Bridges
 mod Turns
 mod Elements
-mod Bodies
-mod NoNul
-mod Values
+pub mod Bodies
+pub mod NoNul
+pub mod Values
+pub mod Tokens

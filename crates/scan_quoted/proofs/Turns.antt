@@ -1,8 +1,7 @@
 -- What the model does at an element of a body.
-use Rattle.std.proofs.Common.{◌≡◌, ℕ, zero, suc, ◌+◌, List, [], ◌∷◌, ◌++◌, Bool, true, false, ◌||◌, ◌&&◌, not, ◌==◌, if◌then◌else◌, Option, Some, None, Result, Ok, Err, refl, ap, sym, ◌∙◌, append-nil, arith, nat_lt, slice_index, take, drop, length}
+use Rattle.std.proofs.Common.{◌≡◌, ℕ, ◌+◌, List, [], ◌∷◌, ◌++◌, Bool, true, false, ◌||◌, ◌&&◌, not, ◌==◌, if◌then◌else◌, Option, Some, None, Result, Ok, Err, refl, sym, ◌∙◌, append-nil, arith, nat_lt, slice_index, drop}
 use Rattle.std.specs.List.{list_all}
-use Rattle.std.specs.Char.{digit_value, is_digit}
-use Rattle.std.proofs.lemmas.Bool.{and_parts, eqb-true, eq-eqb}
+use Rattle.std.proofs.lemmas.Bool.{and_parts, eqb-true}
 use Rattle.std.proofs.lemmas.Bool.Decides.{nat_tests}
 use Rattle.yaml_chars.specs.Place.{Place}
 use Rattle.yaml_chars.specs.Class.{is_break, is_blank}
@@ -11,15 +10,14 @@ use Rattle.yaml_tokens.specs.declared.problem.Fault.TheVariants.{At}
 use Rattle.yaml_tokens.specs.declared.problem.Problem.TheVariants as problem
 use Rattle.scalar_defs.specs.Classes as classes
 use Rattle.scalar_defs.specs.Classes.{is_document_marker}
-use Rattle.scalar_defs.specs.FlowScalar.{Element, content, blank, line_break, escaped_break, Spelled, break_further, plain_element, single_quoted_element, double_quoted_element, begins_with, lookup, escapes, numeric_escapes, hexadecimal, is_character_code, numeric_escape, escape_by, escape}
+use Rattle.scalar_defs.specs.FlowScalar.{Element, content, blank, line_break, Spelled, break_further, plain_element}
 use Rattle.scalar_model.specs.declared.context.Context.{Context}
 use Rattle.scalar_model.specs.Machine.{Read, past, past_break, at_marker}
-use Rattle.scalar_model.specs.Folding.{Folded, with_char, with_escaped_break, joined}
-use Rattle.scalar_model.specs.Quoted.{Mode, inside, gap, behind, quoted_from, digits_from, quote_of, refused, Escape, escape_of}
-use Rattle.scalar_model.proofs.QuotedLemmas.{named_char, named_code, digit_turn, coded}
+use Rattle.scalar_model.specs.Folding.{Folded, with_char, joined}
+use Rattle.scalar_model.specs.Quoted.{Mode, inside, gap, behind, quoted_from, quote_of, refused}
 use Rattle.scan_quoted.specs.Buffers.{behind_element}
 use Rattle.scan_quoted.specs.QuotedScan.{is_some, has_marker, IsShallow, by_line, by_tab}
-use Rattle.scan_quoted.proofs.Bridges.{same_break, same_blank, same_marker, same_digit, same_code, same_escape, escape_by_rows}
+use Rattle.scan_quoted.proofs.Bridges.{same_break, same_blank, same_marker}
 
 pub and_false : (b : Bool) → (b && false) ≡ false
 and_false true = refl

@@ -1,15 +1,14 @@
 -- Bodies with a value are read as it.
-use Rattle.std.proofs.Common.{◌≡◌, ℕ, zero, suc, ◌+◌, List, [], ◌∷◌, ◌++◌, Bool, true, false, ◌||◌, ◌&&◌, not, ◌==◌, if◌then◌else◌, Option, Some, None, Result, Ok, Err, refl, ap, sym, ◌∙◌, subst, nat_lt}
-use Rattle.std.specs.List.{list_all}
+use Rattle.std.proofs.Common.{◌≡◌, ℕ, ◌+◌, List, [], ◌∷◌, ◌++◌, Bool, true, false, ◌||◌, ◌&&◌, ◌==◌, if◌then◌else◌, Option, Some, None, Result, refl, ◌∙◌, nat_lt}
 use Rattle.yaml_chars.specs.Place.{Place}
 use Rattle.yaml_tokens.specs.declared.problem.Fault.{Fault}
-use Rattle.scalar_defs.specs.FlowScalar.{Element, Spelled, elements, folded_elements, has_document_marker, value_by, single_quoted_value, double_quoted_value, lines_of, trimmed, folded}
+use Rattle.scalar_defs.specs.FlowScalar.{Element, elements, folded_elements, has_document_marker, single_quoted_value, double_quoted_value, lines_of, trimmed, folded}
 use Rattle.scalar_model.specs.declared.context.Context.{Context}
 use Rattle.scalar_model.specs.Machine.{Read, past}
 use Rattle.scalar_model.specs.Folding.{nothing, joined}
 use Rattle.scalar_model.specs.Quoted.{first, gap, quote_of, quoted}
 use Rattle.scan_quoted.specs.Buffers.{behind_elements}
-use Rattle.scan_quoted.specs.QuotedScan.{element_of, value_of, is_some, has_marker, ends_before, IsShallow, by_line, by_tab, IsRead, read, shallow}
+use Rattle.scan_quoted.specs.QuotedScan.{element_of, value_of, has_marker, ends_before, by_line, by_tab, IsRead, read, shallow}
 use Rattle.scan_quoted.specs.Laws.{QuotedBodiesAreRead}
 use Rattle.scan_quoted.proofs.Fold.{buffers_join}
 use Rattle.scan_quoted.proofs.Turns.{off_margin, in_gap, scan}

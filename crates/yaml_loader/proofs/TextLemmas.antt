@@ -63,7 +63,7 @@ given_may_be steps source start s same came no_nul = λ all always. characters_a
 -- ---- texts whose one tree is known
 
 -- P of the tree that a text without NUL is read as
-of_one : (spelt text : List ℕ) (t tree : Tree) (P : List Tree → Type 0) → IsWithoutNul spelt → IsReadAs false spelt (t ∷ []) → spelt ≡ text → t ≡ tree → OfText (up_to_nul text) P → P (tree ∷ [])
+pub of_one : (spelt text : List ℕ) (t tree : Tree) (P : List Tree → Type 0) → IsWithoutNul spelt → IsReadAs false spelt (t ∷ []) → spelt ≡ text → t ≡ tree → OfText (up_to_nul text) P → P (tree ∷ [])
 of_one spelt text t tree P free reads e same h = subst (λ u. P (u ∷ [])) same (h (t ∷ []) (subst (λ a. IsReadAs false a (t ∷ [])) (sym free ∙ ap up_to_nul e) reads))
 
 pub of_json : (text : List ℕ) (P : List Tree → Type 0) → OfText (up_to_nul text) P → OfJson text P

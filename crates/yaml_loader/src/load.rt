@@ -7,6 +7,7 @@ ghost use Rattle.yaml_chars.specs.Reading.{HasNoNul, up_to_nul};
 ghost use Rattle.yaml_chars.specs.Source.{CameFrom};
 ghost use Rattle.yaml_parser.specs.Parsed.{parsed};
 ghost use Rattle.yaml_loader.specs.Loads.{AreLoaded, IsLoadFault};
+ghost use Rattle.yaml_loader.specs.QuotedLoads.{OfQuoted};
 ghost use Rattle.yaml_loader.specs.TextLoads.{LoadsText, LoadsOnly, OfTexts, OfText, OfGiven, OfJson, OfLayout};
 
 use crate::loader::{Course, YamlLoader, out_of_nesting};
@@ -25,13 +26,16 @@ impl YamlLoader {
     /// - a JSON text (RFC 8259) with TABs only among the blanks that begin a line, no escape of half a pair of UTF-16, no
     ///   key twice in an object, and at most 255 levels;
     /// - `---` and, below it, a tree laid out in lines: block arrays and hashes at any columns, scalars on one line or as
-    ///   literal blocks, and between the entries empty lines and comment lines, with no key twice in a hash.
+    ///   literal blocks, and between the entries empty lines and comment lines, with no key twice in a hash;
+    /// - one scalar in single or double quotes, over any lines (YAML 1.2, sections 7.3.1 and 7.3.2), and line feeds alone
+    ///   behind it: a string, whatever it could stand for without its quotes.
     pub fn load_from_str(alloc: Global, source: &str) -> Result<Vec<Yaml>, ScanError>
         ensures reads { LoadsText false (up_to_nul (chars source.now)) result }
         ensures no_alias { IfOk result (λ documents. All HasNoAlias (items_view documents.items)) }
         ensures texts { OfText (up_to_nul (chars source.now)) (LoadsOnly result) }
         ensures json { OfJson (chars source.now) (LoadsOnly result) }
         ensures laid_out { OfLayout (chars source.now) (LoadsOnly result) }
+        ensures quoted { OfQuoted (chars source.now) (LoadsOnly result) }
     {
         let mut parser = Parser::new_from_str(alloc, source);
         YamlLoader::load_from_parser(alloc, &mut parser)
@@ -50,6 +54,7 @@ impl YamlLoader {
         ensures texts { OfGiven I.next_gives source (λ text. OfText (up_to_nul text) (LoadsOnly result)) }
         ensures json { OfGiven I.next_gives source (λ text. OfJson text (LoadsOnly result)) }
         ensures laid_out { OfGiven I.next_gives source (λ text. OfLayout text (LoadsOnly result)) }
+        ensures quoted { OfGiven I.next_gives source (λ text. OfQuoted text (LoadsOnly result)) }
     {
         let mut parser = Parser::new(alloc, source);
         YamlLoader::load_from_parser(alloc, &mut parser)

@@ -2,6 +2,7 @@ use Rattle.std.proofs.Common.{◌∙◌}
 use Rattle.yaml_chars.specs.Reading.{up_to_nul}
 use Rattle.yaml_parser.specs.Parsed.{parsed}
 use Rattle.yaml_loader.specs.TextLoads.{LoadsText, LoadsOnly}
+use Rattle.yaml_loader.proofs.QuotedLoads.{of_quoted}
 use Rattle.yaml_loader.proofs.TextLemmas.{given_may_be, of_texts, of_text, of_json, of_layout}
 use Rattle.yaml_loader.proofs.loader.YamlLoader.load_from_iter.Goals as goal
 
@@ -23,3 +24,6 @@ returns-clause-json g c = λ text always. of_json text (LoadsOnly c.load_from_pa
 
 pub returns-clause-laid_out : goal.returns-clause-laid_out
 returns-clause-laid_out g c = λ text always. of_layout text (LoadsOnly c.load_from_parser.result) (returns-clause-texts g c text always)
+
+pub returns-clause-quoted : goal.returns-clause-quoted
+returns-clause-quoted g c = λ text always. of_quoted text (LoadsOnly c.load_from_parser.result) (returns-clause-texts g c text always)

@@ -4,6 +4,7 @@ use Rattle.std.specs.Str.Iter.{chars_rest}
 use Rattle.yaml_chars.specs.Reading.{up_to_nul}
 use Rattle.yaml_parser.specs.Parsed.{parsed}
 use Rattle.yaml_loader.specs.TextLoads.{LoadsText, LoadsOnly}
+use Rattle.yaml_loader.proofs.QuotedLoads.{of_quoted}
 use Rattle.yaml_loader.proofs.TextLemmas.{string_may_be, of_texts, of_text, of_json, of_layout}
 use Rattle.yaml_loader.proofs.loader.YamlLoader.load_from_str.Goals as goal
 
@@ -23,3 +24,6 @@ returns-clause-json c = of_json (chars c.args.source.now) (LoadsOnly c.load_from
 
 pub returns-clause-laid_out : goal.returns-clause-laid_out
 returns-clause-laid_out c = of_layout (chars c.args.source.now) (LoadsOnly c.load_from_parser.result) (returns-clause-texts c)
+
+pub returns-clause-quoted : goal.returns-clause-quoted
+returns-clause-quoted c = of_quoted (chars c.args.source.now) (LoadsOnly c.load_from_parser.result) (returns-clause-texts c)
