@@ -8,7 +8,6 @@ use Rattle.event_defs.specs.Event.{Ev}
 use Rattle.event_defs.specs.Laws.{HasRead}
 use Rattle.event_defs.specs.Nested.{NestedDocument, nested_stream}
 use Rattle.event_defs.specs.Reading.{reading}
-use Rattle.event_defs.specs.Stream.{events_of}
 use Rattle.event_defs.specs.Unfinished.{Loader, at_work, noted, refused, new_loader, with_events, documents_of}
 use Rattle.event_defs.proofs.Kept.{loaded_kept, distinct_kept, fits_kept}
 use Rattle.event_defs.proofs.OneByOne.{one_by_one}
