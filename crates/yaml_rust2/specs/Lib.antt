@@ -42,6 +42,8 @@ pub use Rattle.yaml_parser.specs.Follows
 pub use Rattle.yaml_parser.specs.Loads
 pub use Rattle.yaml_parser.specs.Nests
 pub use Rattle.yaml_parser.specs.Pulls
+pub use Rattle.yaml_parser.specs.Shown
+pub use Rattle.loaded_texts.specs.Spelled
 pub use Rattle.loaded_texts.specs.TextReadAs
 pub use Rattle.loaded_texts.specs.TextEvents
 pub use Rattle.yaml_loader.specs.Loading
