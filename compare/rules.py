@@ -156,6 +156,18 @@ def characters(text, ours, theirs):
     return None
 
 
+def pairs_and_characters(text, ours, theirs):
+    """Both at once: places may differ, and nothing else but the pairs."""
+    if not (any(ord(c) > 127 for c in text) and ("|" in text or ">" in text)):
+        return None
+    bare = lambda lines: [COLUMNS.sub("", line) for line in lines if line]
+    tokens, fault = parsed(ours)
+    want, _ = with_one_flag(text, tokens)
+    if bare(want + ([fault] if fault else [])) == bare(theirs):
+        return "one flag for all levels, and bytes past the window"
+    return None
+
+
 def octets(text, ours, theirs):
     i, a, b = first_difference(ours, theirs)
     if re.search(r"%[89A-Fa-f][0-9A-Fa-f]", text):
@@ -182,7 +194,7 @@ def tab_before_comment(text, ours, theirs):
     return None
 
 
-TOKEN_RULES = [pairs, characters, octets, block_at_margin, tab_before_comment]
+TOKEN_RULES = [pairs, characters, pairs_and_characters, octets, block_at_margin, tab_before_comment]
 
 
 def explain_tokens(text, ours, theirs):
