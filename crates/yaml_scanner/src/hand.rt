@@ -1,5 +1,5 @@
 //! Fetching as far as the next token needs, and handing it out.
-ghost use Rattle.std.specs.Prelude.{◌≡◌, ◌≤◌, ◌<◌, ◌+◌, ◌||◌, OnOk, IfErr, IfSome, IsSome, Some, None, true, false, ◌++◌, ◌∷◌, []};
+ghost use Rattle.std.specs.Prelude.{◌≡◌, ◌≤◌, ◌<◌, ◌+◌, ◌||◌, OnOk, IfErr, IfSome, IsSome, Ok, Some, None, true, false, ◌++◌, ◌∷◌, []};
 ghost use Rattle.std.specs.List.{list_any};
 ghost use Rattle.yaml_chars.specs.Place.{Place};
 ghost use Rattle.yaml_tokens.specs.Shown.{shown};
@@ -60,6 +60,7 @@ impl<T: Iterator<Item = char>> Fetcher<T> {
         ensures left { OnOk result (work self.new ≤ work self.old) }
         ensures some { OnOk result (self.new.tokens.ended ≡ false → 0 < waiting self.new.tokens) }
         ensures front { OnOk result (self.new.tokens.ended ≡ false → list_any is_front self.new.keys ≡ false) }
+        ensures behind { self.old.tokens.ended ≡ true → (result ≡ Ok tt) × (self.new ≡ self.old) }
         ensures ok { OnOk result (Follows self.new) }
         ensures err { IfErr result (λ e. (mark : Place) → Follows (record self.new { kept = Some (record { fault = e; mark = mark }) })) }
     {

@@ -1,5 +1,5 @@
 //! The scanner's public calls.
-ghost use Rattle.std.specs.Prelude.{◌≡◌, ◌≤◌, ◌<◌, ◌^◌, [], OnOk, IfOk, IfErr, IfSome, IsNone, Ok, Err, Some, None, true, false};
+ghost use Rattle.std.specs.Prelude.{◌≡◌, ◌≤◌, ◌<◌, ◌^◌, [], OnOk, IfOk, IfErr, IfSome, IsNone, IsOk, Ok, Err, Some, None, true, false};
 ghost use Rattle.std.specs.Iterator.{at_most, IsFinite, size};
 ghost use Rattle.yaml_chars.specs.Source.{CameFrom};
 ghost use Rattle.yaml_chars.specs.Reading.{HasNoNul};
@@ -74,6 +74,7 @@ impl<T: Iterator<Item = char>> Scanner<T> {
         ensures ok { OnOk result (((scanned self.old).fault ≡ None) × ((scanned self.new).fault ≡ None)) }
         ensures less { OnOk result ((scanned self.old).stopped ≡ false → (scanned self.new).left < (scanned self.old).left) }
         ensures err { IfErr result (λ e. (scanned self.new).fault ≡ Some e) }
+        ensures behind { (scanned self.old).fault ≡ None → (scanned self.old).stopped ≡ true → (result ≡ Ok tt) × (self.new ≡ self.old) }
         ensures again { IfSome (scanned self.old).fault (λ f. result ≡ Err f) }
         ensures scans { Scans (scanned self.new) }
         ensures start { self.new.start ≡ self.old.start }
@@ -99,6 +100,7 @@ impl<T: Iterator<Item = char>> Scanner<T> {
         ensures ready { OnOk result ((scanned self.new).stopped ≡ false → 0 < (scanned self.new).waiting) }
         ensures ok { OnOk result (((scanned self.old).fault ≡ None) × ((scanned self.new).fault ≡ None)) }
         ensures err { IfErr result (λ e. (scanned self.new).fault ≡ Some e) }
+        ensures behind { (scanned self.old).fault ≡ None → (scanned self.old).stopped ≡ true → (result ≡ Ok tt) × (self.new ≡ self.old) }
         ensures again { IfSome (scanned self.old).fault (λ f. result ≡ Err f) }
         ensures scans { Scans (scanned self.new) }
         ensures start { self.new.start ≡ self.old.start }
@@ -113,11 +115,14 @@ impl<T: Iterator<Item = char>> Scanner<T> {
     }
 
     /// The next token, or `None` once the stream's end was handed out. A fault is kept and answered
-    /// again; tokens that stood ready when it was met are not handed out.
+    /// again; tokens that stood ready when it was met are not handed out. Once the stream's end was fetched, no fault
+    /// comes any more, and no memory is taken.
     pub fn next_token(&mut self) -> Result<Option<Token>, ScanError>
         ensures token { IfOk result (λ o. IfSome o (λ t. HandsOut (scanned self.old) (shown t) (scanned self.new))) }
         ensures none { IfOk result (λ o. IsNone o → HandsNothing (scanned self.old) (scanned self.new)) }
         ensures err { IfErr result (λ e. Refuses (scanned self.old) e (scanned self.new)) }
+        ensures over { (scanned self.old).fault ≡ None → (scanned self.old).ended ≡ true → (result ≡ Ok None) × (self.new ≡ self.old) }
+        ensures ready { (scanned self.old).fault ≡ None → (scanned self.old).stopped ≡ true → IsOk result }
         ensures again { IfSome (scanned self.old).fault (λ f. result ≡ Err f) }
         ensures scans { Scans (scanned self.new) }
         ensures start { self.new.start ≡ self.old.start }

@@ -1,4 +1,4 @@
-use Rattle.std.proofs.Common.{◌≡◌, ◌≤◌, None}
+use Rattle.std.proofs.Common.{◌≡◌, ◌≤◌, None, true}
 use Rattle.yaml_scanner.specs.Follows.{Follows}
 use Rattle.yaml_scanner.specs.Work.{Fetches, work}
 use Rattle.yaml_scanner.proofs.fetcher.Fetcher.fill.Given as goal
@@ -10,6 +10,7 @@ invariant-tokens g l = record {
   left : work l.self ≤ work l.fn.self;
   kept : l.self.kept ≡ None;
   follows : Follows l.self;
+  behind : l.fn.self.tokens.ended ≡ true → l.self ≡ l.fn.self;
 }
 
 abbrev pub decreases-tokens : goal.decreases-tokens
