@@ -198,12 +198,13 @@ def not_loaded_back(a, loaded, dumps):
     return found
 
 def differing_decodings(a, lists, paths):
+    """The same of bytes, which no departure explains."""
     found = {}
     for trap in octets.TRAPS:
         ours, theirs = answers([a.ours, "decode", trap], paths), answers([a.theirs, "decode", trap], paths)
         for q, units in zip(paths, lists):
             if trees.answer(ours.get(q, [])) != trees.answer(theirs.get(q, [])):
-                found[q] = ("%s of %s" % (trap, units.hex(" ")), rules.explain_decoding(units, trap, ours.get(q, []), theirs.get(q, [])), first_lines(ours.get(q, []), theirs.get(q, [])))
+                found[q] = ("%s of %s" % (trap, units.hex(" ")), None, first_lines(ours.get(q, []), theirs.get(q, [])))
     return found
 
 COMPARED = {"tokens": differing, "events": differing, "dumps": differing_dumps, "decoding": differing_decodings}

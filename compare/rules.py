@@ -238,9 +238,3 @@ def explain_events(text, ours, theirs, tokens):
     if starts > 1 and "unknown anchor" in a and b.startswith("Alias"):
         return "anchors of an earlier document"
     return None
-
-
-# ---- rules on decoding
-
-def explain_decoding(units, trap, ours, theirs):
-    return None

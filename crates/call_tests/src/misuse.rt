@@ -48,31 +48,35 @@ fn answers(alloc: Global, mark: Marker, names: &[&str]) -> Result<String, Fail> 
     Ok(out)
 }
 
+// Events by their names, and what a loader answers to each, and then its documents.
+const LISTS: [(&[&str], &str); 9] = [
+    (&["]", "."], "event out of nesting event out of nesting []"),
+    (&["[", "}"], "ok event out of nesting []"),
+    (&["{", "k", "}"], "ok ok event out of nesting []"),
+    (&["a", "b"], "ok event out of nesting []"),
+    (&["[", "."], "ok event out of nesting []"),
+    (&[".", "]"], "ok event out of nesting [BadValue]"),
+    (
+        &["{", "{", "}", "v", "}", "."],
+        "ok ok ok ok ok ok [Hash({Hash({}): String(\"v\")})]",
+    ),
+    (
+        &["{", "*7", "1", "}", "."],
+        "ok ok ok ok ok [Hash({BadValue: Integer(1)})]",
+    ),
+    (&["{", "a", "1", "a", "2", "]"], "ok ok ok ok ok ok []"),
+];
+
 #[test]
 fn events_out_of_nesting_are_refused(rt: HostRuntime) -> Result<(), Fail> {
     let alloc = rt.alloc();
     let mark = Scanner::new(alloc, "".chars()).mark();
-    for (names, want) in [
-        (
-            &["]", "."][..],
-            "event out of nesting event out of nesting []",
-        ),
-        (&["[", "}"][..], "ok event out of nesting []"),
-        (&["{", "k", "}"][..], "ok ok event out of nesting []"),
-        (&["a", "b"][..], "ok event out of nesting []"),
-        (&["[", "."][..], "ok event out of nesting []"),
-        (&[".", "]"][..], "ok event out of nesting [BadValue]"),
-        (
-            &["{", "{", "}", "v", "}", "."][..],
-            "ok ok ok ok ok ok [Hash({Hash({}): String(\"v\")})]",
-        ),
-        (
-            &["{", "*7", "1", "}", "."][..],
-            "ok ok ok ok ok [Hash({BadValue: Integer(1)})]",
-        ),
-        (&["{", "a", "1", "a", "2", "]"][..], "ok ok ok ok ok ok []"),
-    ] {
-        assert_eq!(rt; answers(alloc, mark, names)?.as_str(), want);
+    for (names, want) in LISTS {
+        assert_eq!(rt;
+            answers(alloc, mark, names)?.as_str(),
+            want,
+            "row {names:?}"
+        );
     }
     Ok(())
 }
@@ -87,7 +91,7 @@ fn place_behind(alloc: Global, text: &str, count: usize) -> Result<Marker, Fail>
 }
 
 #[test]
-fn a_fault_names_its_place(rt: HostRuntime) -> Result<(), Fail> {
+fn a_fault_names_its_place_for_good(rt: HostRuntime) -> Result<(), Fail> {
     let mark = place_behind(rt.alloc(), "\n a", 2)?;
     let mut loader = YamlLoader::default(rt.alloc());
     let fault = loader
@@ -96,5 +100,11 @@ fn a_fault_names_its_place(rt: HostRuntime) -> Result<(), Fail> {
         .ok_or("no fault")?;
     assert_eq!(rt; fault.info(), NESTING);
     assert!(rt; *fault.marker() == mark);
+    let later = Scanner::new(rt.alloc(), "".chars()).mark();
+    assert!(rt; later != mark);
+    for event in [Event::DocumentEnd, Event::StreamEnd, Event::Alias(1)] {
+        let again = loader.on_event(event, later).err().ok_or("no fault")?;
+        assert!(rt; again == fault);
+    }
     Ok(())
 }

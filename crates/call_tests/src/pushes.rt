@@ -137,21 +137,57 @@ fn answers(alloc: Global, text: &str, calls: &[Call]) -> Result<String, Fail> {
     Ok(out)
 }
 
+// A text, calls of its parser, and what each shows.
+const CALLS: [(&str, &[Call], &str); 6] = [
+    (
+        "--- 1\n--- 2",
+        &[Call::Load, Call::Load, Call::Load, Call::Load],
+        "StreamStart DocumentStart 1 DocumentEnd / DocumentStart 2 DocumentEnd / StreamEnd / StreamEnd / ",
+    ),
+    (
+        "--- 1\n--- [a]",
+        &[Call::LoadAll],
+        "StreamStart DocumentStart 1 DocumentEnd DocumentStart SequenceStart(0, None) a SequenceEnd DocumentEnd StreamEnd / ",
+    ),
+    (
+        "a",
+        &[Call::Peek, Call::Load],
+        "StreamStart / StreamStart DocumentStart a DocumentEnd / ",
+    ),
+    (
+        "a",
+        &[Call::Peek, Call::Peek, Call::Pull, Call::Pull],
+        "StreamStart / StreamStart / StreamStart / DocumentStart / ",
+    ),
+    // Pushing inside a document is refused for good.
+    (
+        "[1, 2]",
+        &[
+            Call::Pull,
+            Call::Pull,
+            Call::Refuse(1),
+            Call::Refuse(1),
+            Call::Pull,
+            Call::Peek,
+        ],
+        "StreamStart / DocumentStart / did not find expected <document-start> 0 / did not find expected <document-start> 0 / did not find expected <document-start> 0 / did not find expected <document-start> 0 / ",
+    ),
+    // What a receiver answers is not kept.
+    (
+        "[1, 2]",
+        &[Call::Refuse(3), Call::Pull],
+        "stop 0 / Scalar(\"1\", Plain, 0, None) / ",
+    ),
+];
+
 #[test]
-fn documents_are_pushed(rt: HostRuntime) -> Result<(), Fail> {
-    for (text, calls, want) in [
-        (
-            "--- 1\n--- 2",
-            &[Call::Load, Call::Load, Call::Load, Call::Load][..],
-            "StreamStart DocumentStart 1 DocumentEnd / DocumentStart 2 DocumentEnd / StreamEnd / StreamEnd / ",
-        ),
-        (
-            "--- 1\n--- [a]",
-            &[Call::LoadAll][..],
-            "StreamStart DocumentStart 1 DocumentEnd DocumentStart SequenceStart(0, None) a SequenceEnd DocumentEnd StreamEnd / ",
-        ),
-    ] {
-        assert_eq!(rt; answers(rt.alloc(), text, calls)?.as_str(), want);
+fn events_are_pushed_and_pulled(rt: HostRuntime) -> Result<(), Fail> {
+    for (text, calls, want) in CALLS {
+        assert_eq!(rt;
+            answers(rt.alloc(), text, calls)?.as_str(),
+            want,
+            "row {want}"
+        );
     }
     Ok(())
 }
@@ -162,102 +198,5 @@ fn a_receiver_may_look_at_events_alone(rt: HostRuntime) -> Result<(), Fail> {
     let mut counted = Counted { count: 0 };
     parser.load(&mut counted, true).map_err(|_| "a fault")?;
     assert_eq!(rt; counted.count, 10);
-    Ok(())
-}
-
-#[test]
-fn a_peeked_event_comes_first(rt: HostRuntime) -> Result<(), Fail> {
-    for (calls, want) in [
-        (
-            &[Call::Peek, Call::Load][..],
-            "StreamStart / StreamStart DocumentStart a DocumentEnd / ",
-        ),
-        (
-            &[Call::Peek, Call::Peek, Call::Pull, Call::Pull][..],
-            "StreamStart / StreamStart / StreamStart / DocumentStart / ",
-        ),
-    ] {
-        assert_eq!(rt; answers(rt.alloc(), "a", calls)?.as_str(), want);
-    }
-    Ok(())
-}
-
-#[test]
-fn pushing_inside_a_document_is_refused_for_good(rt: HostRuntime) -> Result<(), Fail> {
-    let calls = &[
-        Call::Pull,
-        Call::Pull,
-        Call::Refuse(1),
-        Call::Refuse(1),
-        Call::Pull,
-        Call::Peek,
-    ][..];
-    assert_eq!(rt;
-        answers(rt.alloc(), "[1, 2]", calls)?.as_str(),
-        "StreamStart / DocumentStart / did not find expected <document-start> 0 / did not find expected <document-start> 0 / did not find expected <document-start> 0 / did not find expected <document-start> 0 / "
-    );
-    Ok(())
-}
-
-#[test]
-fn what_a_receiver_answers_is_not_kept(rt: HostRuntime) -> Result<(), Fail> {
-    assert_eq!(rt;
-        answers(rt.alloc(), "[1, 2]", &[Call::Refuse(3), Call::Pull][..])?.as_str(),
-        "stop 0 / Scalar(\"1\", Plain, 0, None) / "
-    );
-    Ok(())
-}
-
-// What a parser gives by pulls, each after a look where `peeks`.
-fn all_pulled(alloc: Global, text: &str, peeks: bool) -> Result<String, Fail> {
-    let mut parser = Parser::new_from_str(alloc, text);
-    let mut out = String::new(alloc);
-    for _ in 0..100 {
-        let next = one_pull(alloc, &mut parser, peeks)?;
-        out.push_str(next.as_str())?;
-        if next.as_str().starts_with("StreamEnd") {
-            break;
-        }
-    }
-    Ok(out)
-}
-
-// The next event with its place, behind a look where `peeks`; or the fault.
-fn one_pull(alloc: Global, parser: &mut Parser<Chars<'_>>, peeks: bool) -> Result<String, Fail> {
-    if peeks {
-        let _ = parser.peek();
-    }
-    match parser.next_token() {
-        Ok((event, mark)) => Ok(format!(in alloc;
-            "{event:?} {} {} {}\n",
-            mark.index(),
-            mark.line(),
-            mark.col()
-        )?),
-        Err(fault) => Ok(format!(in alloc; "{fault}\n")?),
-    }
-}
-
-#[test]
-fn events_are_the_same_behind_a_peek(rt: HostRuntime) -> Result<(), Fail> {
-    for text in [
-        "",
-        "---",
-        "&a",
-        "{\"k\"\n:1,\"b\":[true,null,1e400,-0]}",
-        "---\na:\n# note\n     - 1\n\n     - 2\n",
-        "--- |\na\n---\nb\n",
-        "[a: [b, c]]",
-        "[? : x]",
-        "[? ]",
-        "a: 1\na: 2\nb: [",
-        "%TAG !a! x:\n%TAG !b! y:\n--- [!a!p 1, !b!q 2]",
-        "a1: &DEFAULT\n    b1: 4\n    b2: d\na2: *DEFAULT\n",
-        "\n# syntax error\nscalar\nkey: [1, 2]]\nkey1:a2\n",
-    ] {
-        let alone = all_pulled(rt.alloc(), text, false)?;
-        let behind_a_peek = all_pulled(rt.alloc(), text, true)?;
-        assert_eq!(rt; alone.as_str(), behind_a_peek.as_str());
-    }
     Ok(())
 }

@@ -2,107 +2,104 @@
 use std::alloc::Global;
 use std::str::Chars;
 use std::test::Fail;
-use yaml_rust2::YamlLoader;
 use yaml_rust2::parser::{Event, Parser};
-use yaml_rust2::scanner::{Scanner, TokenType};
-
-// A token's name, or a scalar's text.
-fn name(alloc: Global, token: &TokenType) -> Result<String, Fail> {
-    match token {
-        TokenType::Scalar(_, text) => Ok(format!(in alloc; "{text} ")?),
-        other => Ok(format!(in alloc; "{other:?} ")?),
-    }
-}
+use yaml_rust2::scanner::Scanner;
 
 fn tokens(alloc: Global, text: &str) -> Result<String, Fail> {
     let mut names = String::new(alloc);
     for token in Scanner::new(alloc, text.chars()) {
-        names.push_str(name(alloc, &token.1)?.as_str())?;
+        names.push_str(format!(in alloc; "{:?} ", token.1)?.as_str())?;
     }
     Ok(names)
 }
 
+// A text and its tokens.
+const TOKENS: [(&str, &str); 3] = [
+    (
+        "{a: :b}",
+        "StreamStart(Utf8) FlowMappingStart Key Scalar(Plain, \"a\") Value Scalar(Plain, \":b\") FlowMappingEnd StreamEnd ",
+    ),
+    (
+        "{\n  ? foo :,\n  : bar,\n}",
+        "StreamStart(Utf8) FlowMappingStart Key Scalar(Plain, \"foo\") Value FlowEntry Value Scalar(Plain, \"bar\") FlowEntry FlowMappingEnd StreamEnd ",
+    ),
+    (
+        "- 'a'\n- \"b\"\n- |-\n c\n- >-\n d\n",
+        "StreamStart(Utf8) BlockSequenceStart BlockEntry Scalar(SingleQuoted, \"a\") BlockEntry Scalar(DoubleQuoted, \"b\") BlockEntry Scalar(Literal, \"c\") BlockEntry Scalar(Folded, \"d\") BlockEnd StreamEnd ",
+    ),
+];
+
 #[test]
 fn tokens_come_in_order(rt: HostRuntime) -> Result<(), Fail> {
-    for (text, want) in [
-        (
-            "{a: :b}",
-            "StreamStart(Utf8) FlowMappingStart Key a Value :b FlowMappingEnd StreamEnd ",
-        ),
-        (
-            "{\n  ? foo :,\n  : bar,\n}",
-            "StreamStart(Utf8) FlowMappingStart Key foo Value FlowEntry Value bar FlowEntry FlowMappingEnd StreamEnd ",
-        ),
-    ] {
-        assert_eq!(rt; tokens(rt.alloc(), text)?.as_str(), want);
+    for (text, want) in TOKENS {
+        assert_eq!(rt; tokens(rt.alloc(), text)?.as_str(), want, "row {text:?}");
     }
     Ok(())
 }
 
 // The next event: whether it is the stream's end, and its words with its place if it is a scalar or an alias.
-fn scalar_words(
-    alloc: Global,
-    parser: &mut Parser<Chars<'_>>,
-) -> Result<(bool, Option<String>), Fail> {
+fn scalar_words(alloc: Global, parser: &mut Parser<Chars<'_>>) -> Result<(bool, String), Fail> {
     let (event, mark) = parser.next_token().map_err(|_| "a fault")?;
     let words = match event {
-        Event::Scalar(_, _, _, _) | Event::Alias(_) => Some(format!(in alloc;
-            "{event:?} {} {} {}",
+        Event::Scalar(_, _, _, _) | Event::Alias(_) => format!(in alloc;
+            "{event:?} {} {} {}\n",
             mark.index(),
             mark.line(),
             mark.col()
-        )?),
-        _ => None,
+        )?,
+        _ => String::new(alloc),
     };
     Ok((event == Event::StreamEnd, words))
 }
 
-// The event of the last scalar, with its place.
-fn last_scalar(alloc: Global, text: &str) -> Result<String, Fail> {
+// The events of scalars and aliases, with their places, a line each.
+fn scalars(alloc: Global, text: &str) -> Result<String, Fail> {
     let mut parser = Parser::new_from_str(alloc, text);
-    let mut last = String::new(alloc);
+    let mut lines = String::new(alloc);
     for _ in 0..100 {
         let (ends, words) = scalar_words(alloc, &mut parser)?;
-        if let Some(words) = words {
-            last = words;
-        }
+        lines.push_str(words.as_str())?;
         if ends {
             break;
         }
     }
-    Ok(last)
+    Ok(lines)
 }
+
+// A text and its scalars and aliases, each with index, line and column.
+const PLACES: [(&str, &str); 8] = [
+    (
+        "[\"\u{e9}\", 1]",
+        "Scalar(\"\u{e9}\", DoubleQuoted, 0, None) 1 1 1\nScalar(\"1\", Plain, 0, None) 6 1 6\n",
+    ),
+    (
+        "a: |\n  \u{e9}\u{e9}\u{e9}\u{e9}\u{e9}\u{e9}\u{e9}\u{e9}\u{e9}\u{e9}\u{e9}\u{e9}\u{e9}\u{e9}\u{e9}\u{e9}\u{e9}\u{e9}\u{e9}\u{e9}\nb: 1",
+        "Scalar(\"a\", Plain, 0, None) 0 1 0\nScalar(\"\u{e9}\u{e9}\u{e9}\u{e9}\u{e9}\u{e9}\u{e9}\u{e9}\u{e9}\u{e9}\u{e9}\u{e9}\u{e9}\u{e9}\u{e9}\u{e9}\u{e9}\u{e9}\u{e9}\u{e9}\\n\", Literal, 0, None) 7 2 2\nScalar(\"b\", Plain, 0, None) 28 3 0\nScalar(\"1\", Plain, 0, None) 31 3 3\n",
+    ),
+    (
+        "- &a 1\n- &a 2\n- *a",
+        "Scalar(\"1\", Plain, 1, None) 5 1 5\nScalar(\"2\", Plain, 2, None) 12 2 5\nAlias(2) 16 3 2\n",
+    ),
+    ("---", "Scalar(\"\", Plain, 0, None) 3 2 0\n"),
+    ("&a", "Scalar(\"\", Plain, 1, None) 2 2 0\n"),
+    (
+        "!<tag:x%C3%A9> a",
+        "Scalar(\"a\", Plain, 0, Some(Tag { handle: \"\", suffix: \"tag:x\u{e9}\" })) 15 1 15\n",
+    ),
+    (
+        "!!int &x 5",
+        "Scalar(\"5\", Plain, 1, Some(Tag { handle: \"tag:yaml.org,2002:\", suffix: \"int\" })) 9 1 9\n",
+    ),
+    (
+        "%TAG !a! x:\n%TAG !b! y:\n--- [!a!p 1, !b!q 2]",
+        "Scalar(\"1\", Plain, 0, Some(Tag { handle: \"x:\", suffix: \"p\" })) 34 3 10\nScalar(\"2\", Plain, 0, Some(Tag { handle: \"y:\", suffix: \"q\" })) 42 3 18\n",
+    ),
+];
 
 #[test]
 fn places_count_characters(rt: HostRuntime) -> Result<(), Fail> {
-    let long =
-        "a: |\n  \u{e9}\u{e9}\u{e9}\u{e9}\u{e9}\u{e9}\u{e9}\u{e9}\u{e9}\u{e9}\u{e9}\u{e9}\u{e9}\u{e9}\u{e9}\u{e9}\u{e9}\u{e9}\u{e9}\u{e9}\nb: 1";
-    for (text, want) in [
-        ("[\"\u{e9}\", 1]", "Scalar(\"1\", Plain, 0, None) 6 1 6"),
-        (long, "Scalar(\"1\", Plain, 0, None) 31 3 3"),
-        ("- &a 1\n- &a 2\n- *a", "Alias(2) 16 3 2"),
-        ("---", "Scalar(\"\", Plain, 0, None) 3 2 0"),
-        (
-            "!<tag:x%C3%A9> a",
-            "Scalar(\"a\", Plain, 0, Some(Tag { handle: \"\", suffix: \"tag:x\u{e9}\" })) 15 1 15",
-        ),
-        (
-            "%TAG !a! x:\n--- [!a!p 1]",
-            "Scalar(\"1\", Plain, 0, Some(Tag { handle: \"x:\", suffix: \"p\" })) 22 2 10",
-        ),
-    ] {
-        assert_eq!(rt; last_scalar(rt.alloc(), text)?.as_str(), want);
+    for (text, want) in PLACES {
+        assert_eq!(rt; scalars(rt.alloc(), text)?.as_str(), want, "row {text:?}");
     }
-    Ok(())
-}
-
-#[test]
-fn declared_handles_may_be_kept(rt: HostRuntime) -> Result<(), Fail> {
-    let alloc = rt.alloc();
-    let text =
-        "%TAG !prefix! tag:example.com,2011:\n--- !prefix!A\na: b\n--- !prefix!B\nc: d\n--- !prefix!C\ne: f";
-    let mut parser = Parser::new_from_str(alloc, text).keep_tags(true);
-    let documents = YamlLoader::load_from_parser(alloc, &mut parser).map_err(|_| "a fault")?;
-    assert_eq!(rt; documents.len(), 3);
     Ok(())
 }

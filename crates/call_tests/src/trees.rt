@@ -16,38 +16,41 @@ fn word(alloc: Global, text: &str) -> Result<Yaml, Fail> {
     Ok(Yaml::String(String::from_str(alloc, text)?))
 }
 
+// A text and its type.
+const TYPED: [(&str, &str); 27] = [
+    ("0x2A", "Integer(42)"),
+    ("0o52", "Integer(42)"),
+    ("42", "Integer(42)"),
+    ("0o-7", "Integer(-7)"),
+    ("++5", "Integer(5)"),
+    ("+-5", "Integer(-5)"),
+    ("-9223372036854775808", "Integer(-9223372036854775808)"),
+    ("0x-8000000000000000", "Integer(-9223372036854775808)"),
+    ("9223372036854775808", "Real(\"9223372036854775808\")"),
+    ("1.e5", "Real(\"1.e5\")"),
+    ("+.5", "Real(\"+.5\")"),
+    ("5.", "Real(\"5.\")"),
+    ("-.inf", "Real(\"-.inf\")"),
+    (".NaN", "Real(\".NaN\")"),
+    ("", "Null"),
+    ("~", "Null"),
+    ("True", "Boolean(true)"),
+    ("FALSE", "Boolean(false)"),
+    ("0x8000000000000000", "String(\"0x8000000000000000\")"),
+    ("0o8", "String(\"0o8\")"),
+    ("+0x10", "String(\"+0x10\")"),
+    ("--5", "String(\"--5\")"),
+    ("1e", "String(\"1e\")"),
+    ("+.nan", "String(\"+.nan\")"),
+    (".", "String(\".\")"),
+    ("1_000", "String(\"1_000\")"),
+    ("\u{e9}", "String(\"\u{e9}\")"),
+];
+
 #[test]
 fn texts_are_typed(rt: HostRuntime) -> Result<(), Fail> {
-    for (text, want) in [
-        ("0x2A", "Integer(42)"),
-        ("0o52", "Integer(42)"),
-        ("42", "Integer(42)"),
-        ("0o-7", "Integer(-7)"),
-        ("++5", "Integer(5)"),
-        ("+-5", "Integer(-5)"),
-        ("-9223372036854775808", "Integer(-9223372036854775808)"),
-        ("0x-8000000000000000", "Integer(-9223372036854775808)"),
-        ("9223372036854775808", "Real(\"9223372036854775808\")"),
-        ("1.e5", "Real(\"1.e5\")"),
-        ("+.5", "Real(\"+.5\")"),
-        ("5.", "Real(\"5.\")"),
-        ("-.inf", "Real(\"-.inf\")"),
-        (".NaN", "Real(\".NaN\")"),
-        ("", "Null"),
-        ("~", "Null"),
-        ("True", "Boolean(true)"),
-        ("FALSE", "Boolean(false)"),
-        ("0x8000000000000000", "String(\"0x8000000000000000\")"),
-        ("0o8", "String(\"0o8\")"),
-        ("+0x10", "String(\"+0x10\")"),
-        ("--5", "String(\"--5\")"),
-        ("1e", "String(\"1e\")"),
-        ("+.nan", "String(\"+.nan\")"),
-        (".", "String(\".\")"),
-        ("1_000", "String(\"1_000\")"),
-        ("\u{e9}", "String(\"\u{e9}\")"),
-    ] {
-        assert_eq!(rt; typed(rt.alloc(), text)?.as_str(), want);
+    for (text, want) in TYPED {
+        assert_eq!(rt; typed(rt.alloc(), text)?.as_str(), want, "row {text:?}");
     }
     for bare in ["nan", "NAN", "NaN", "inf", "infinity", "Infinity"] {
         for sign in ["", "+", "-"] {
@@ -138,6 +141,49 @@ fn nodes_give_their_contents(rt: HostRuntime) -> Result<(), Fail> {
     assert!(rt; copy == node);
     assert!(rt; Yaml::Integer(1) < Yaml::Null);
     assert_eq!(rt; node.into_vec().ok_or("no array")?.len(), 1);
+    Ok(())
+}
+
+#[test]
+fn nodes_are_taken_apart(rt: HostRuntime) -> Result<(), Fail> {
+    let alloc = rt.alloc();
+    let node = loaded(alloc, "{a: [1, 2]}")?;
+    let pairs = node.as_hash().ok_or("no hash")?;
+    let items = pairs.get(&word(alloc, "a")?).ok_or("no value")?;
+    assert_eq!(rt; items.as_vec().ok_or("no array")?.len(), 2);
+    assert_eq!(rt; Yaml::Null.borrowed_or(items).is_array(), true);
+    assert_eq!(rt; items.borrowed_or(&Yaml::Null).is_array(), true);
+    assert!(rt; node.as_vec().is_none());
+    assert_eq!(rt; node.into_hash().ok_or("no hash")?.len(), 1);
+    assert_eq!(rt;
+        word(alloc, "b")?.into_string().ok_or("no text")?.as_str(),
+        "b"
+    );
+    assert!(rt; Yaml::Null.into_string().is_none());
+    Ok(())
+}
+
+#[test]
+fn what_is_written_lands_in_the_tree(rt: HostRuntime) -> Result<(), Fail> {
+    let alloc = rt.alloc();
+    let mut node = loaded(alloc, "{a: [1, 2], 0: b, c: d}")?;
+    if node.has_key("c") {
+        *node.key_mut("c") = Yaml::Boolean(true);
+    }
+    if node.has_index(0) {
+        *node.place_mut(0) = Yaml::Null;
+    }
+    let key = word(alloc, "a")?;
+    let pairs = node.as_mut_hash().ok_or("no hash")?;
+    let items = pairs.get_mut(&key).ok_or("no value")?;
+    if items.has_index(1) {
+        *items.place_mut(1) = Yaml::Integer(5);
+    }
+    items.as_mut_vec().ok_or("no array")?.push(Yaml::Null)?;
+    assert_eq!(rt;
+        format!(in alloc; "{node:?}")?.as_str(),
+        "Hash({String(\"a\"): Array([Integer(1), Integer(5), Null]), Integer(0): Null, String(\"c\"): Boolean(true)})"
+    );
     Ok(())
 }
 

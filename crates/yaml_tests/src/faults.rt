@@ -1,5 +1,5 @@
 //! Texts that are refused.
-use crate::reading::{Row, rows_hold};
+use crate::reading::{Row, pulled, rows_hold};
 use std::test::Fail;
 
 // A text, and its fault's printed line.
@@ -149,7 +149,15 @@ const FAULTS: [Row; 36] = [
 
 #[test]
 fn faults_are_told(rt: HostRuntime) -> Result<(), Fail> {
-    rows_hold(&rt, &FAULTS)
+    rows_hold(&rt, &FAULTS)?;
+    for (text, want) in &FAULTS {
+        let events = pulled(rt.alloc(), text, false)?;
+        assert!(rt;
+            events.as_str().trim_end().ends_with(want),
+            "row {text:?}, pulled"
+        );
+    }
+    Ok(())
 }
 
 // Keys that come twice: the events are those of a text that is read.

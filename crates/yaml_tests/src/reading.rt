@@ -85,7 +85,7 @@ fn pull(alloc: Global, parser: &mut Parser<Chars<'_>>) -> Result<(String, bool),
 }
 
 /// The same events, pulled, each behind a look where `peeks`.
-fn pulled(alloc: Global, text: &str, peeks: bool) -> Result<String, Fail> {
+pub(crate) fn pulled(alloc: Global, text: &str, peeks: bool) -> Result<String, Fail> {
     let mut parser = Parser::new_from_str(alloc, text);
     let mut lines = String::new(alloc);
     for _ in 0..10000 {
