@@ -122,6 +122,19 @@ module _ (single : Bool) (ctx : Context) (start : Place) where
   unfolding refused at_marker
   first_fails c a p e f = rw (e, f) refl
 
+  -- Behind the opening quote the scan goes on as in a gap, or the place behind it is refused.
+  pub data Opened (a : List ℕ) (p : Place) : Type 0 where
+    opened : scan single ctx start a first p nothing ≡ scan single ctx start a gap p nothing → Opened a p
+    not_opened : IsShallow ctx start (scan single ctx start a first p nothing) → Opened a p
+
+  open_by : (a : List ℕ) (p : Place) (deep : Bool) → nat_lt (p.col + 1) ctx.indent ≡ deep → (p.col == 0) ≡ false → Opened a p
+  open_by a p false f e = opened (first_is_gap a p e f)
+  open_by [] p true f e = opened refl
+  open_by (c ∷ a) p true f e = not_opened (by_line p f (first_fails c a p e f))
+
+  pub opens : (a : List ℕ) (p : Place) → (p.col == 0) ≡ false → Opened a p
+  opens a p e = open_by a p (nat_lt (p.col + 1) ctx.indent) refl e
+
   -- ---- the closing quote
 
   closes_text : (r : List ℕ) (p : Place) (u : Folded) → scan single ctx start r closed p u ≡ Ok (record { rest = r; place = p; value = u.text })

@@ -53,7 +53,7 @@ module _ (ctx : Context) (start : Place) where
 -- ---- double quotes
 
 -- a code has digits
-has_digits : (d n : ℕ) → lookup d numeric_escapes ≡ Some n → (m : ℕ) × (n ≡ suc m)
+pub has_digits : (d n : ℕ) → lookup d numeric_escapes ≡ Some n → (m : ℕ) × (n ≡ suc m)
 has_digits d n h = by (d == 120) (d == 117) (d == 85) h
   where
     by : (x u v : Bool) → (if x then Some 2 else (if u then Some 4 else (if v then Some 8 else None))) ≡ Some n → (m : ℕ) × (n ≡ suc m)

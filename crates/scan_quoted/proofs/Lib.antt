@@ -6,3 +6,7 @@ pub mod Bodies
 pub mod NoNul
 pub mod Values
 pub mod Tokens
+mod Local
+mod Faults
+mod Shapes
+pub mod Ends

@@ -1,5 +1,5 @@
 -- Bodies with a value are read as it.
-use Rattle.std.proofs.Common.{◌≡◌, ℕ, ◌+◌, List, [], ◌∷◌, ◌++◌, Bool, true, false, ◌||◌, ◌&&◌, ◌==◌, if◌then◌else◌, Option, Some, None, Result, refl, ◌∙◌, nat_lt}
+use Rattle.std.proofs.Common.{◌≡◌, ℕ, ◌+◌, List, ◌∷◌, ◌++◌, Bool, true, false, ◌||◌, ◌&&◌, ◌==◌, if◌then◌else◌, Option, Some, None, Result, refl, ◌∙◌}
 use Rattle.yaml_chars.specs.Place.{Place}
 use Rattle.yaml_tokens.specs.declared.problem.Fault.{Fault}
 use Rattle.scalar_defs.specs.FlowScalar.{Element, elements, folded_elements, has_document_marker, single_quoted_value, double_quoted_value, lines_of, trimmed, folded}
@@ -13,7 +13,7 @@ use Rattle.scan_quoted.specs.Laws.{QuotedBodiesAreRead}
 use Rattle.scan_quoted.proofs.Fold.{buffers_join}
 use Rattle.scan_quoted.proofs.Turns.{off_margin, in_gap, scan}
 use Rattle.scan_quoted.proofs.NoNul.{has_none, same_marks}
-use Rattle.scan_quoted.proofs.Bodies.{Passed, passed, met_marker, was_shallow, passes, quote_still, quote_feed, first_is_gap, first_fails, close}
+use Rattle.scan_quoted.proofs.Bodies.{Passed, passed, met_marker, was_shallow, passes, quote_still, quote_feed, Opened, opened, not_opened, opens, close}
 
 read_on : (ctx : Context) (start : Place) (text rest : List ℕ) (x y : Result (Read (List ℕ)) Fault) → x ≡ y → IsRead ctx start text rest y → IsRead ctx start text rest x
 read_on ctx start text rest x y e (read place is) = read place (e ∙ is)
@@ -39,18 +39,13 @@ module _ (single : Bool) (ctx : Context) (body r : List ℕ) (es : List Element)
   from_gap : IsRead ctx p text r (scan single ctx p (body ++ quote_of single ∷ r) gap (past p) nothing)
   from_gap = behind_body (passes single ctx p 0 body (quote_of single ∷ r) (quote_feed single r) (quote_still single r) es gap (past p) nothing is in_gap)
 
-  first_here : (a : List ℕ) (deep : Bool) → nat_lt (p.col + 1 + 1) ctx.indent ≡ deep → a ≡ body ++ quote_of single ∷ r → IsRead ctx p text r (scan single ctx p a first (past p) nothing)
-  first_here a false f same = read_on ctx p text r _ _ (first_is_gap single ctx p a (past p) off f) (rw same from_gap)
-  first_here (c ∷ a) true f same = shallow (by_line (past p) f (first_fails single ctx p c a (past p) off f))
-  first_here [] true f same = absurd (some_text body same)
-    where
-      some_text : (b : List ℕ) → [] ≡ b ++ quote_of single ∷ r → ⊥
-      some_text [] h = cc
-      some_text (c ∷ b) h = cc
+  first_here : Opened single ctx p (body ++ quote_of single ∷ r) (past p) → IsRead ctx p text r (scan single ctx p (body ++ quote_of single ∷ r) first (past p) nothing)
+  first_here (opened e) = read_on ctx p text r _ _ e from_gap
+  first_here (not_opened s) = shallow s
 
   pub body_read : IsRead ctx p text r (quoted single ctx (quote_of single ∷ (body ++ quote_of single ∷ r)) p)
   unfolding quoted
-  body_read = first_here (body ++ quote_of single ∷ r) (nat_lt (p.col + 1 + 1) ctx.indent) refl refl
+  body_read = first_here (opens single ctx p (body ++ quote_of single ∷ r) (past p) off)
 
 -- a body with a value has elements, and no line of it begins with a marker
 pub record HasElements (single : Bool) (body value : List ℕ) : Type 0 where
@@ -68,6 +63,12 @@ pub parts : (single : Bool) (body value : List ℕ) → value_of single body ≡
 unfolding single_quoted_value double_quoted_value
 parts true body value h = parts_by true (has_document_marker body) (elements (element_of true) 0 body) body value refl refl h
 parts false body value h = parts_by false (has_document_marker body) (elements (element_of false) 0 body) body value refl refl h
+
+-- the value of a body of elements, of which no line begins with a marker
+pub value_is : (single : Bool) (body : List ℕ) (es : List Element) → elements (element_of single) 0 body ≡ Some es → has_document_marker body ≡ false → value_of single body ≡ Some (folded (trimmed (lines_of es)))
+unfolding single_quoted_value double_quoted_value
+value_is true body es e f = rw (e, f) refl
+value_is false body es e f = rw (e, f) refl
 
 pub bodies_are_read : QuotedBodiesAreRead
 bodies_are_read single ctx body r value p h ends =

@@ -1,5 +1,6 @@
 -- Laws of the scanner's model and quoted scalars: each is carried by the function of `src/laws.rt` that its comment names.
 use Rattle.std.specs.Prelude.{◌≡◌, ℕ, List, ◌∷◌, ◌++◌, Bool, true, Some}
+use Rattle.std.specs.List.{list_all}
 use Rattle.yaml_chars.specs.Place.{Place}
 use Rattle.scalar_defs.specs.FlowScalar.{Element, lines_of, trimmed, folded}
 use Rattle.scalar_model.specs.Folding.{nothing, joined}
@@ -8,7 +9,8 @@ use Rattle.scalar_model.specs.Quoted.{quote_of, quoted}
 use Rattle.token_defs.specs.Token.{Tok}
 use Rattle.laid_tokens.specs.QuotedText.{HasQuotedTokens}
 use Rattle.scan_json.specs.JsonScan.{HasToks}
-use Rattle.scan_quoted.specs.QuotedScan.{value_of, ends_before, IsRead}
+use Rattle.scan_quoted.specs.QuotedScan.{value_of, ends_before, is_some, IsRead}
+use Rattle.scan_quoted.specs.QuotedEnds.{EndsAs}
 use Rattle.scan_quoted.specs.Buffers.{behind_elements}
 
 -- `buffers_join_folded_lines`
@@ -24,3 +26,8 @@ QuotedBodiesAreRead =
 -- `quoted_texts_have_their_tokens`
 abbrev pub QuotedTextsHaveTheirTokens : Type 0
 QuotedTextsHaveTheirTokens = (text : List ℕ) (tokens : List Tok) → HasQuotedTokens text tokens → HasToks text tokens
+
+-- `quoted_scans_end_as_their_text_says`; `text` is what stands behind the opening quote
+abbrev pub QuotedScansEndAsTheirTextSays : Type 0
+QuotedScansEndAsTheirTextSays =
+    (single : Bool) (ctx : Context) (text : List ℕ) (p : Place) → list_all is_some text ≡ true → EndsAs single ctx p text (quoted single ctx (quote_of single ∷ text) p)

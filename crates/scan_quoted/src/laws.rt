@@ -1,6 +1,6 @@
 //! Laws of the scanner's model and quoted scalars, each carried by an empty function.
 
-ghost use Rattle.scan_quoted.specs.Laws.{BuffersJoinFoldedLines, QuotedBodiesAreRead, QuotedTextsHaveTheirTokens};
+ghost use Rattle.scan_quoted.specs.Laws.{BuffersJoinFoldedLines, QuotedBodiesAreRead, QuotedScansEndAsTheirTextSays, QuotedTextsHaveTheirTokens};
 
 /// The text that the model's buffers join is that of the body's lines, trimmed and folded.
 pub fn buffers_join_folded_lines()
@@ -10,6 +10,13 @@ pub fn buffers_join_folded_lines()
 /// A body with a value, between its quotes, is read as that value up to the closing quote, or refused for its indentation.
 pub fn quoted_bodies_are_read()
     ensures { QuotedBodiesAreRead }
+{}
+
+/// Behind an opening quote each text without NUL is read so alone: what is read is a body with that value, up to its closing
+/// quote; and each fault has its reason in the text: a document marker in a body's line, a body that does not end, an
+/// escape that is none, or a line left of the block collection around it.
+pub fn quoted_scans_end_as_their_text_says()
+    ensures { QuotedScansEndAsTheirTextSays }
 {}
 
 /// A text that is one quoted scalar with a value, and line feeds alone behind it, has three tokens: the stream's start, the
