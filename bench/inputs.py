@@ -91,7 +91,25 @@ def settings(r, size):
     return block(r, 2000 if size > 1000000 else 200)
 
 
-KINDS = {"block": block, "json": json, "literal": literal, "quoted": quoted, "flow": flow, "anchors": anchors, "settings": settings}
+def pairs(r, size, shuffled):
+    """One mapping of keys of seven digits."""
+    count = size // 12
+    numbers = list(range(count))
+    if shuffled:
+        r.shuffle(numbers)
+    return "".join("k%07d: %d\n" % (n, n % 7) for n in numbers)
+
+
+def keys(r, size):
+    return pairs(r, size, True)
+
+
+def sorted_keys(r, size):
+    return pairs(r, size, False)
+
+
+KINDS = {"block": block, "json": json, "literal": literal, "quoted": quoted, "flow": flow, "anchors": anchors, "settings": settings,
+         "keys": keys, "sorted_keys": sorted_keys}
 
 
 def make(kind, size):

@@ -97,6 +97,44 @@ fn pairs_keep_the_order_of_insertion(rt: HostRuntime) -> Result<(), Fail> {
     Ok(())
 }
 
+// Adds, moves to the end and takes out, in a hash and in a plain list.
+fn turn(
+    hash: &mut Hash,
+    list: &mut Vec<(i64, i64)>,
+    key: i64,
+    value: i64,
+) -> Result<(), Fail> {
+    list.retain(|pair| pair.0 != key);
+    if value % 5 == 3 {
+        let _ = hash.remove(&Yaml::Integer(key));
+        return Ok(());
+    }
+    list.push((key, value))?;
+    let _ = hash
+        .insert(Yaml::Integer(key), Yaml::Integer(value))
+        .map_err(|_| "no memory")?;
+    Ok(())
+}
+
+#[test]
+fn a_hash_does_as_a_plain_list(rt: HostRuntime) -> Result<(), Fail> {
+    let alloc = rt.alloc();
+    let mut hash = Hash::new(alloc);
+    let mut list = Vec::new(alloc);
+    for i in 0..300_i64 {
+        turn(&mut hash, &mut list, i * 37 % 101, i)?;
+    }
+    assert_eq!(rt; hash.len(), list.len());
+    for ((key, value), pair) in hash.iter().zip(list.iter()) {
+        assert!(rt; *key == Yaml::Integer(pair.0));
+        assert!(rt; *value == Yaml::Integer(pair.1));
+        assert!(rt; hash.get(key).is_some_and(|found| *found == *value));
+    }
+    let copy = hash.clone(alloc)?;
+    assert!(rt; copy == hash);
+    Ok(())
+}
+
 #[test]
 fn nodes_are_looked_up(rt: HostRuntime) -> Result<(), Fail> {
     let alloc = rt.alloc();

@@ -5,9 +5,10 @@ use Rattle.std.specs.Ordering.{ordering_then, on}
 use Rattle.std.specs.Cmp.Lexicographic.{slice_cmp}
 use Rattle.tree_defs.specs.Tree.{Tree, items_of, pairs_of}
 use Rattle.tree_defs.specs.Order.{tree_cmp, items_cmp, pairs_cmp}
-use Rattle.yaml_tree.specs.View.{view, items_view, pair_view, pairs_view}
+use Rattle.yaml_tree.specs.Flat.{flat}
+use Rattle.yaml_tree.specs.View.{view, items_view}
 use Rattle.yaml_tree.specs.declared.yaml.Yaml.{Yaml}
-use Rattle.tree_defs.specs.Lists.{pair_cmp, list_cmp, pair_list_cmp}
+use Rattle.tree_defs.specs.Lists.{list_cmp}
 
 nat_cmp-less : (m n : ℕ) → m < n → nat_cmp m n ≡ Less
 nat_cmp-less m n h = grind (arith, nat_tests)
@@ -46,23 +47,17 @@ module _ {A : Type 0} (R : A → A → Ordering) where
       shift : (m n : ℕ) → nat_cmp m n ≡ nat_cmp (suc m) (suc n)
       shift m n = grind (arith, nat_tests)
 
-then_assoc : (o p q : Ordering) → ordering_then o (ordering_then p q) ≡ ordering_then (ordering_then o p) q
-then_assoc Less p q = refl
-then_assoc Equal p q = refl
-then_assoc Greater p q = refl
-
 pub items_cmp-items_of : (xs ys : List Tree) → items_cmp (items_of xs) (items_of ys) ≡ list_cmp xs ys
 items_cmp-items_of [] [] = refl
 items_cmp-items_of [] (y ∷ ys) = refl
 items_cmp-items_of (x ∷ xs) [] = refl
 items_cmp-items_of (x ∷ xs) (y ∷ ys) = ap (ordering_then (tree_cmp x y)) (items_cmp-items_of xs ys)
 
-pub pairs_cmp-pairs_of : (xs ys : List (Tree × Tree)) → pairs_cmp (pairs_of xs) (pairs_of ys) ≡ pair_list_cmp xs ys
-pairs_cmp-pairs_of [] [] = refl
-pairs_cmp-pairs_of [] (y ∷ ys) = refl
-pairs_cmp-pairs_of (x ∷ xs) [] = refl
-pairs_cmp-pairs_of (x ∷ xs) (y ∷ ys) =
-    then_assoc (tree_cmp x.0 y.0) (tree_cmp x.1 y.1) (pairs_cmp (pairs_of xs) (pairs_of ys)) ∙ ap (ordering_then (pair_cmp x y)) (pairs_cmp-pairs_of xs ys)
+flat_cmp : (ps qs : List (Tree × Tree)) → pairs_cmp (pairs_of ps) (pairs_of qs) ≡ list_cmp (flat ps) (flat qs)
+flat_cmp [] [] = refl
+flat_cmp [] (q ∷ qs) = refl
+flat_cmp (p ∷ ps) [] = refl
+flat_cmp (p ∷ ps) (q ∷ qs) = ap (λ o. ordering_then (tree_cmp p.0 q.0) (ordering_then (tree_cmp p.1 q.1) o)) (flat_cmp ps qs)
 
 -- through a function
 pub slice_cmp-map : {A B : Type 0} (R : B → B → Ordering) (f : A → B) (xs ys : List A) → slice_cmp R (map f xs) (map f ys) ≡ slice_cmp (on f R) xs ys
@@ -77,12 +72,6 @@ stops Less r p q n e f = sym (f ∙ ap (λ x. ordering_then x p) (sym e))
 stops Equal r p q n e f = absurd (n refl)
 stops Greater r p q n e f = sym (f ∙ ap (λ x. ordering_then x p) (sym e))
 
-pub stops_at_first : (o r s p q : Ordering) → (o ≡ Equal → ⊥) → o ≡ r → q ≡ ordering_then (ordering_then r s) p → o ≡ q
-stops_at_first o r s p q n e f = stops o r (ordering_then s p) q n e (f ∙ sym (then_assoc r s p))
-
-pub stops_at_second : (a o r s p q : Ordering) → a ≡ Equal → a ≡ r → (o ≡ Equal → ⊥) → o ≡ s → q ≡ ordering_then (ordering_then r s) p → o ≡ q
-stops_at_second a o r s p q d e n f g = stops o s p q n f (g ∙ ap (λ x. ordering_then (ordering_then x s) p) (sym e ∙ d))
-
 -- the values of two lists, seen through f
 pub cmp_seen : {A B : Type 0} (R : B → B → Ordering) (f : A → B) (xs ys cs ds : List A) (us vs : List B) → xs ≡ cs → ys ≡ ds → map f cs ≡ us → map f ds ≡ vs
     → slice_cmp (on f R) xs ys ≡ slice_cmp R us vs
@@ -93,9 +82,9 @@ pub items_seen : (xs ys cs ds : List Yaml) (us vs : List Tree) → xs ≡ cs →
     → slice_cmp (on view tree_cmp) xs ys ≡ items_cmp (items_of us) (items_of vs)
 items_seen xs ys cs ds us vs p q d e = cmp_seen tree_cmp view xs ys cs ds us vs p q d e ∙ sym (items_cmp-items_of us vs)
 
-pub pairs_seen : (xs ys cs ds : List (Yaml × Yaml)) (us vs : List (Tree × Tree)) → xs ≡ cs → ys ≡ ds → pairs_view cs ≡ us → pairs_view ds ≡ vs
-    → slice_cmp (on pair_view pair_cmp) xs ys ≡ pairs_cmp (pairs_of us) (pairs_of vs)
-pairs_seen xs ys cs ds us vs p q d e = cmp_seen pair_cmp pair_view xs ys cs ds us vs p q d e ∙ sym (pairs_cmp-pairs_of us vs)
+pub pairs_seen : (xs ys cs ds : List Yaml) (us vs : List (Tree × Tree)) → xs ≡ cs → ys ≡ ds → items_view cs ≡ flat us → items_view ds ≡ flat vs
+    → slice_cmp (on view tree_cmp) xs ys ≡ pairs_cmp (pairs_of us) (pairs_of vs)
+pairs_seen xs ys cs ds us vs p q d e = cmp_seen tree_cmp view xs ys cs ds (flat us) (flat vs) p q d e ∙ sym (flat_cmp us vs)
 
 pub at_drop : {A : Type 0} (xs : List A) (i : ℕ) (x : A) → i < length xs → x ≡ get_or xs i x → drop i xs ≡ x ∷ drop (i + 1) xs
 at_drop xs i x h e = rw (drop-cons xs i x h, add-one, ← e)

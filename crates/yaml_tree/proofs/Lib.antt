@@ -1,9 +1,13 @@
 pub mod Comparing
-pub mod Deeper
 pub mod Discarding
+pub mod Fed
 pub mod FirstByte
+pub mod Flattened
+pub mod Halving
 pub mod ItemsLemmas
 pub mod Placed
+pub mod Ranking
+pub mod Rows
 pub mod TextLemmas
 pub mod TextOrder
 pub mod TypingLemmas

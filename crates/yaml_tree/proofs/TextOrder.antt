@@ -2,11 +2,10 @@
 use Rattle.std.proofs.Common.{◌≡◌, ℕ, ◌+◌, ◌<◌, ◌≤◌, ◌/◌, ◌%◌, ◌⊎◌, List, [], ◌∷◌, ◌++◌, Ordering, Less, Equal, Greater, nat_cmp, refl, sym, ap, ◌∙◌, inl, inr, arith}
 use Rattle.std.specs.Prelude.{String, string_bytes, Bool, true, false, nat_lt}
 use Rattle.std.specs.Char.{encode_utf8}
-use Rattle.std.specs.Str.{encode_utf8_all, chars, IsUtf8, bytes_eq}
-use Rattle.std.proofs.lemmas.Map.Text.{is_eq-slice_cmp}
+use Rattle.std.specs.Str.{encode_utf8_all, chars, IsUtf8}
 use Rattle.std.proofs.lemmas.Bool.Decides.{nat_tests}
 use Rattle.std.proofs.lemmas.Str.{encodes-chars, IsUtf8-string_bytes}
-use Rattle.std.specs.Ordering.{ordering_then, ordering_reverse, is_eq}
+use Rattle.std.specs.Ordering.{ordering_then, ordering_reverse}
 use Rattle.std.specs.Cmp.Lexicographic.{slice_cmp}
 use Rattle.std.proofs.lemmas.Cmp.{nat_list_cmp_total}
 use Rattle.yaml_chars.specs.Text.{string_chars}
@@ -176,7 +175,6 @@ pub string_cmp : {A B : Type 0} (s : String A) (t : String B) → slice_cmp nat_
 string_cmp s t =
     sym (λ i. cmp (string_encoded s i) (string_encoded t i)) ∙ encoded_cmp (string_chars s) (string_chars t)
 
--- a text equals a string by its bytes where it does by its characters
-pub text_eq : {A : Type 0} (bs : List ℕ) (s : String A) → IsUtf8 bs → bytes_eq bs (string_bytes s) ≡ is_eq (slice_cmp nat_cmp (chars bs) (string_chars s))
-text_eq bs s u =
-    sym (is_eq-slice_cmp bs (string_bytes s)) ∙ ap is_eq (sym (λ i. cmp (encodes-chars bs u i) (string_encoded s i)) ∙ encoded_cmp (chars bs) (string_chars s))
+-- a text compared with a string by its bytes is compared by its characters
+pub text_cmp : {A : Type 0} (bs : List ℕ) (s : String A) → IsUtf8 bs → slice_cmp nat_cmp bs (string_bytes s) ≡ slice_cmp nat_cmp (chars bs) (string_chars s)
+text_cmp bs s u = sym (λ i. cmp (encodes-chars bs u i) (string_encoded s i)) ∙ encoded_cmp (chars bs) (string_chars s)

@@ -1,8 +1,9 @@
 -- What stands in an array or a hash is less deep than the tree that holds it.
-use Rattle.std.specs.Prelude.{◌≤◌, max, List, [], ◌∷◌}
-use Rattle.std.proofs.Common.{arith}
+use Rattle.std.specs.Prelude.{◌≡◌, ◌≤◌, List, [], ◌∷◌}
+use Rattle.std.proofs.Common.{arith, subst}
 use denote.Param.Weighed.{most}
-use Rattle.tree_defs.specs.Tree.{items_of, pairs_of}
+use Rattle.tree_defs.specs.Tree.{Tree, items_of, pairs_of}
+use Rattle.yaml_tree.specs.Flat.{flat}
 use Rattle.yaml_tree.specs.Depth.{depth, items_depth, pairs_depth}
 use Rattle.yaml_tree.specs.View.{view, items_view, pairs_view}
 use Rattle.yaml_tree.specs.declared.yaml.Yaml.{Yaml}
@@ -26,7 +27,13 @@ pub most-items : (ys : List Yaml) → most deep-Yaml ys ≤ items_depth (items_o
 most-items [] = omega arith
 most-items (y ∷ ys) = omega (arith, deep-le-depth y, most-items ys)
 
+-- keys and values in a row are as deep as the pairs
+flat-depth : (ps : List (Tree × Tree)) → items_depth (items_of (flat ps)) ≤ pairs_depth (pairs_of ps)
+flat-depth [] = omega arith
+flat-depth (p ∷ ps) = omega (arith, flat-depth ps)
+
 -- and for the keys and values of a hash
-pub most-pairs : (ps : List (Yaml × Yaml)) → most (λ p. max (deep-Yaml p.0) (max (deep-Yaml p.1) 0)) ps ≤ pairs_depth (pairs_of (pairs_view ps))
-most-pairs [] = omega arith
-most-pairs (p ∷ ps) = omega (arith, deep-le-depth p.0, deep-le-depth p.1, most-pairs ps)
+pub most-pairs : (ys : List Yaml) → items_view ys ≡ flat (pairs_view ys) → most deep-Yaml ys ≤ pairs_depth (pairs_of (pairs_view ys))
+most-pairs ys e =
+    let seen : most deep-Yaml ys ≤ items_depth (items_of (flat (pairs_view ys))) = subst (λ ts. most deep-Yaml ys ≤ items_depth (items_of ts)) e (most-items ys) in
+    omega (arith, seen, flat-depth (pairs_view ys))

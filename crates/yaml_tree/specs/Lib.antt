@@ -1,10 +1,13 @@
 pub mod Depth
 pub mod Falls
 pub mod Feed
+pub mod Flat
 pub mod Items
 pub mod Laws
 pub mod Meanings
 pub mod Node
+pub mod Probes
+pub mod Ranked
 pub mod Rows
 pub mod Values
 pub mod View

@@ -2,6 +2,7 @@
 use Rattle.std.specs.Prelude.{List, map}
 use Rattle.yaml_chars.specs.Text.{string_chars}
 use Rattle.tree_defs.specs.Tree.{Tree, real, integer, string, boolean, array, hash, alias, null, bad_value, items_of, pairs_of}
+use Rattle.yaml_tree.specs.Flat.{paired}
 use Rattle.yaml_tree.specs.declared.yaml.Yaml.{Yaml}
 use Rattle.yaml_tree.specs.declared.yaml.Yaml.TheVariants.{Real, Integer, String, Boolean, Array, Hash, Alias, Null, BadValue}
 
@@ -33,6 +34,6 @@ items_view ys = map view ys
 abbrev pub pair_view : Yaml × Yaml → Tree × Tree
 pair_view p = (view p.0, view p.1)
 
--- the trees of pairs in a row
-abbrev pub pairs_view : List (Yaml × Yaml) → List (Tree × Tree)
-pairs_view ps = map pair_view ps
+-- the pairs of nodes in a row
+abbrev pub pairs_view : List Yaml → List (Tree × Tree)
+pairs_view ys = paired (items_view ys)

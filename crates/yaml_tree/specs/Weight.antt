@@ -1,10 +1,7 @@
 -- How much of a tree is left to be taken apart.
-use Rattle.std.specs.Prelude.{◌≡◌, ℕ, suc, ◌+◌, ◌*◌, ◌-◌, ◌<◌, Bool, true, false, [], ◌∷◌, ◌++◌, vec_len, vec_capacity}
-use Rattle.tree_defs.specs.Tree.{Tree, array, hash, null, Items, no_items, item, Pairs, no_pairs, pair, items_of, pairs_of}
-use Rattle.tree_defs.specs.Pairs.{AreDistinct}
-use Rattle.yaml_tree.specs.View.{view, items_view, pairs_view}
-use Rattle.yaml_tree.specs.declared.discard.Outer.{Outer}
-use Rattle.yaml_tree.specs.declared.discard.Outer.TheVariants.{Items as in_items, Value as in_value, Key as in_key}
+use Rattle.std.specs.Prelude.{ℕ, suc, ◌+◌, ◌*◌, ◌-◌, List, []}
+use Rattle.tree_defs.specs.Tree.{Tree, array, hash, Items, no_items, item, Pairs, no_pairs, pair, list_of, pair_list_of}
+use Rattle.yaml_tree.specs.Flat.{flat}
 
 abbrev mutual
   -- how many nodes there are in a tree, with itself
@@ -46,23 +43,11 @@ abbrev mutual
 abbrev pub weight : Tree → ℕ
 weight t = 2 * nodes t - chain t
 
--- no collection, or an empty one
-abbrev pub is_small : Tree → Bool
-is_small (array (item t ts)) = false
-is_small (hash (pair k v ps)) = false
-is_small t = true
-
--- a collection with a hole, filled
-abbrev pub filled : Outer → Tree → Tree
-filled (in_items v a) t = array (items_of (items_view v.items ++ t ∷ view a ∷ []))
-filled (in_value v k p) t = hash (pairs_of (pairs_view v.items ++ (view k, t) ∷ (view p.0, view p.1) ∷ []))
-filled (in_key v w) t = hash (pairs_of ((t, view w) ∷ []))
-
--- it can be filled without memory, and makes a hash of distinct keys
-abbrev pub CanBeFilled : Outer → Type 0
-CanBeFilled (in_items v a) = vec_len v + 1 < vec_capacity v
-CanBeFilled (in_value v k p) = (vec_len v + 1 < vec_capacity v) × AreDistinct (pairs_view v.items ++ (view k, null) ∷ (view p.0, view p.1) ∷ [])
-CanBeFilled (in_key v w) = (vec_len v < vec_capacity v) × (v.items ≡ [])
+-- the items of an array, the keys and values of a hash; else none
+abbrev pub parts : Tree → List Tree
+parts (array ts) = list_of ts
+parts (hash ps) = flat (pair_list_of ps)
+parts t = []
 
 -- the last item changed by a function
 abbrev pub items_with_last : (Tree → Tree) → Items → Items
@@ -70,14 +55,7 @@ items_with_last f no_items = no_items
 items_with_last f (item t no_items) = item (f t) no_items
 items_with_last f (item t (item u us)) = item t (items_with_last f (item u us))
 
--- the last value changed by a function
-abbrev pub pairs_with_last : (Tree → Tree) → Pairs → Pairs
-pairs_with_last f no_pairs = no_pairs
-pairs_with_last f (pair k v no_pairs) = pair k (f v) no_pairs
-pairs_with_last f (pair k v (pair l w ps)) = pair k v (pairs_with_last f (pair l w ps))
-
--- the last item of an array, or the last value of a hash, changed by a function
+-- the last item of an array changed by a function
 abbrev pub with_last : (Tree → Tree) → Tree → Tree
 with_last f (array ts) = array (items_with_last f ts)
-with_last f (hash ps) = hash (pairs_with_last f ps)
 with_last f t = t

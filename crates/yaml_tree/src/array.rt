@@ -2,7 +2,7 @@
 ghost use Rattle.std.specs.Prelude.{◌≡◌, ◌↔◌, ◌++◌, ◌∷◌, [], length, slice_get, option_map, IsTrue, IfErr, OnOk, OnErr};
 ghost use Rattle.yaml_tree.specs.View.{view, items_view};
 
-use crate::discard::discard_array;
+use crate::discard::discard_row;
 use crate::yaml::Yaml;
 use std::alloc::{AllocFailed, Global};
 use std::marker::Model;
@@ -40,7 +40,7 @@ impl Model for Array {
 impl Drop for Array {
     fn drop(self) {
         let Array { items } = self;
-        discard_array(Array { items });
+        discard_row(items);
     }
 }
 

@@ -1,7 +1,7 @@
 //! The order of trees, and when two are equal.
-ghost use Rattle.std.specs.Prelude.{◌≡◌};
+ghost use Rattle.std.specs.Prelude.{◌≡◌, chars};
 ghost use Rattle.tree_defs.specs.Order.{rank, tree_cmp, items_cmp, pairs_cmp};
-ghost use Rattle.tree_defs.specs.Tree.{items_of, pairs_of};
+ghost use Rattle.tree_defs.specs.Tree.{string, items_of, pairs_of};
 ghost use Rattle.yaml_tree.specs.View.{view};
 
 use crate::array::Array;
@@ -27,7 +27,7 @@ fn rank(y: &Yaml) -> u8
 
 #[cycle(compare)]
 #[tactic(auto, using(crate::proofs::TextOrder::string_cmp))]
-fn compare(a: &Yaml, b: &Yaml) -> Ordering
+pub(crate) fn compare(a: &Yaml, b: &Yaml) -> Ordering
     ensures { result ≡ tree_cmp (view a.now) (view b.now) }
 {
     match (a, b) {
@@ -61,20 +61,26 @@ fn compare_items(a: &Array, b: &Array) -> Ordering
 fn compare_pairs(a: &Hash, b: &Hash) -> Ordering
     ensures { result ≡ pairs_cmp (pairs_of a.now) (pairs_of b.now) }
 {
-    let (a, b) = (a.pairs.as_slice(), b.pairs.as_slice());
+    let (a, b) = (a.row.as_slice(), b.row.as_slice());
     let mut i = 0;
     while i < a.len() && i < b.len() {
-        let ((k, v), (l, w)) = (&a[i], &b[i]);
-        match compare(k, l) {
-            Ordering::Equal => {}
-            found => return found,
-        }
-        match compare(v, w) {
+        match compare(&a[i], &b[i]) {
             Ordering::Equal => i += 1,
             found => return found,
         }
     }
     a.len().cmp(&b.len())
+}
+
+/// Compares a `String` of that text with a node.
+#[tactic(auto, using(crate::proofs::TextOrder::string_cmp))]
+pub(crate) fn compare_text(text: &str, b: &Yaml) -> Ordering
+    ensures { result ≡ tree_cmp (string (chars text.now)) (view b.now) }
+{
+    match b {
+        Yaml::String(own) => text.cmp(own.as_str()),
+        _ => 2.cmp(&rank(b)),
+    }
 }
 
 impl PartialEq for Yaml {

@@ -48,12 +48,11 @@ impl Hash {
     pub fn clone(&self, alloc: Global) -> Result<Hash, AllocError>
         ensures { IfOk result (λ h. h ≡ self.now) }
     {
-        let mut pairs = Vec::with_capacity(alloc, self.pairs.len())?;
-        for (key, value) in &self.pairs {
-            let key = key.clone(alloc)?;
-            let value = value.clone(alloc)?;
-            pairs.push((key, value))?;
+        let ranks = self.ranks.clone(alloc)?;
+        let mut row = Vec::with_capacity(alloc, self.row.len())?;
+        for item in &self.row {
+            row.push(item.clone(alloc)?)?;
         }
-        Ok(Hash { pairs })
+        Ok(Hash { row, ranks })
     }
 }

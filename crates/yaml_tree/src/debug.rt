@@ -18,8 +18,8 @@ impl fmt::Debug for Hash {
     #[cycle(yaml)]
     fn fmt<W: fmt::Write>(&self, f: &mut fmt::Formatter<W>) -> fmt::Result {
         let mut map = f.debug_map();
-        for (key, value) in &self.pairs {
-            map.entry(key, value);
+        for i in 0..self.row.len() / 2 {
+            map.entry(&self.row[2 * i], &self.row[2 * i + 1]);
         }
         map.finish()
     }

@@ -10,7 +10,7 @@ use std::vec;
 /// The pairs of a hash, in their order.
 #[derive(Drop)]
 pub struct Iter<'a> {
-    rest: &'a [(Yaml, Yaml)],
+    rest: &'a [Yaml],
 }
 
 impl<'a> Model for Iter<'a> {
@@ -37,7 +37,8 @@ impl<'a> Iterator for Iter<'a> {
     ghost remaining = { item_count (λ i. i) };
 
     fn next(&mut self) -> Option<(&'a Yaml, &'a Yaml)> {
-        let ((key, value), rest) = self.rest.split_first()?;
+        let (key, rest) = self.rest.split_first()?;
+        let (value, rest) = rest.split_first()?;
         self.rest = rest;
         Some((key, value))
     }
@@ -50,7 +51,7 @@ impl Hash {
         ensures distinct { AreDistinct self.now }
     {
         Iter {
-            rest: self.pairs.as_slice(),
+            rest: self.row.as_slice(),
         }
     }
 }
@@ -70,7 +71,7 @@ impl<'a> IntoIterator for &'a Hash {
 /// The pairs of a hash, by value, in their order.
 #[derive(Drop)]
 pub struct IntoIter {
-    pairs: vec::IntoIter<(Yaml, Yaml)>,
+    rest: vec::IntoIter<Yaml>,
 }
 
 impl Model for IntoIter {
@@ -84,7 +85,7 @@ impl Model for IntoIter {
 
     ghost coded = { pairs_code };
 
-    ghost view = { λ i. pairs_view (into_iter_items i.pairs) };
+    ghost view = { λ i. pairs_view (into_iter_items i.rest) };
 }
 
 impl Iterator for IntoIter {
@@ -98,7 +99,9 @@ impl Iterator for IntoIter {
     ghost remaining = { item_count (λ i. i) };
 
     fn next(&mut self) -> Option<(Yaml, Yaml)> {
-        self.pairs.next()
+        let key = self.rest.next()?;
+        let value = self.rest.next()?;
+        Some((key, value))
     }
 }
 
@@ -111,7 +114,7 @@ impl IntoIterator for Hash {
 
     fn into_iter(self) -> IntoIter {
         IntoIter {
-            pairs: self.into_pairs().into_iter(),
+            rest: self.into_row().into_iter(),
         }
     }
 }

@@ -63,10 +63,11 @@ fn feed_items<H: Hasher>(items: &Array, state: &mut H)
 fn feed_pairs<H: Hasher>(pairs: &Hash, state: &mut H)
     ensures { state.new ≡ fold H.write state.old (pairs_feed (pairs_of pairs.now)) }
 {
-    for (key, value) in &pairs.pairs {
+    let row = pairs.row.as_slice();
+    for i in 0..row.len() / 2 {
         state.write_u8(1);
-        feed(key, state);
-        feed(value, state);
+        feed(&row[2 * i], state);
+        feed(&row[2 * i + 1], state);
     }
     state.write_u8(0);
 }

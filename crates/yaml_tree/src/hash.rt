@@ -1,10 +1,17 @@
 //! A hash: pairs of a key and a value, in the order in which they came.
-ghost use Rattle.std.specs.Prelude.{◌≡◌, ◌<◌, ◌↔◌, [], Some, None, length, option_map, IsTrue, IsSome, IfOk, IfErr, OnOk, OnErr};
+ghost use Rattle.std.specs.Prelude.{◌≡◌, ◌+◌, ◌<◌, ◌≤◌, ◌↔◌, [], Some, None, length, option_map, IsTrue, IsSome, IfOk, IfErr, OnOk, OnErr};
+ghost use Rattle.tree_defs.specs.Digits.{binary_digits};
 ghost use Rattle.tree_defs.specs.Tree.{string};
 ghost use Rattle.tree_defs.specs.Pairs.{insert, last_of, lookup, without, place_of, value_at, with_value_at, with_value, AreDistinct};
-ghost use Rattle.yaml_tree.specs.View.{view, pairs_view};
+ghost use Rattle.yaml_tree.specs.Probes.{probed};
+ghost use Rattle.yaml_tree.specs.View.{view, items_view};
+ghost use Rattle.yaml_tree.specs.Flat.{flat};
 
-use crate::discard::discard_hash;
+use crate::discard::discard_row;
+use crate::ranks::Ranks;
+use crate::row::{add, exchange, take};
+use crate::search::{Probe, search};
+use crate::steps::Steps;
 use crate::yaml::Yaml;
 use std::alloc::Global;
 use std::marker::Model;
@@ -12,39 +19,43 @@ use std::marker::Model;
 /// Pairs of a key and a value, in the order in which they came. No two keys are equal.
 #[cycle(yaml)]
 pub struct Hash {
-    pub(crate) pairs: Vec<(Yaml, Yaml)>,
+    // The key and the value of each pair.
+    pub(crate) row: Vec<Yaml>,
+    // The places of the pairs, in the order of their keys.
+    pub(crate) ranks: Ranks,
 }
 
 impl Model for Hash {
     ghost use Rattle.std.specs.Prelude.{List};
     ghost use Rattle.tree_defs.specs.Tree.{Tree, pairs_of};
-    ghost use Rattle.tree_defs.specs.Pairs.{AreDistinct};
     ghost use Rattle.tree_defs.specs.TreeCode.{pairs_code};
     ghost use Rattle.yaml_tree.specs.Depth.{pairs_depth};
+    ghost use Rattle.yaml_tree.specs.Ranked.{IsHash};
 
     ghost Value = { List (Tree × Tree) };
 
     ghost coded = { pairs_code };
 
-    ghost use Rattle.yaml_tree.specs.View.{pairs_view};
+    ghost use Rattle.yaml_tree.specs.View.{items_view, pairs_view};
 
-    ghost view = { λ h. pairs_view h.pairs.items };
+    ghost view = { λ h. pairs_view h.row.items };
 
-    ghost invariant = { λ h. AreDistinct (pairs_view h.pairs.items) };
+    ghost invariant = { λ h. IsHash (items_view h.row.items) h.ranks };
 
     ghost size = { λ ps. pairs_depth (pairs_of ps) };
 
     ghost use Rattle.std.proofs.Common.{arith};
     ghost use Rattle.yaml_tree.specs.Falls.{most-pairs};
 
-    ghost size_decreases = { λ h i. omega (arith, most-pairs h.pairs.items) };
+    ghost size_decreases = { λ h i. omega (arith, most-pairs h.row.items i.even) };
 }
 
 // A loop, so that a deep tree takes no more of the stack than a flat one.
 impl Drop for Hash {
     fn drop(self) {
-        let Hash { pairs } = self;
-        discard_hash(Hash { pairs });
+        let Hash { row, ranks } = self;
+        drop(ranks);
+        discard_row(row);
     }
 }
 
@@ -58,7 +69,8 @@ impl Hash {
         ensures { result ≡ [] }
     {
         Hash {
-            pairs: Vec::new(alloc),
+            row: Vec::new(alloc),
+            ranks: Ranks::new(alloc),
         }
     }
 
@@ -66,35 +78,45 @@ impl Hash {
     pub fn len(&self) -> usize
         ensures { result ≡ length self.now }
     {
-        self.pairs.len()
+        self.ranks.len()
     }
 
     /// Whether there is no pair.
     pub fn is_empty(&self) -> bool
         ensures { IsTrue result ↔ (self.now ≡ []) }
     {
-        self.pairs.is_empty()
+        self.row.is_empty()
     }
 
-    #[tactic(auto, unfolding(yaml_chars::specs::Text::string_chars))]
-    fn place(&self, key: &Yaml) -> Option<usize>
-        ensures { result ≡ place_of (view key.now) self.now }
+    /// The place of the key's pair, counted from 0, or `None` where no pair has the key. The key is compared
+    /// by `Steps::compare` alone, at most as often as the number of pairs has binary digits. It takes no
+    /// memory.
+    pub fn place(&self, key: &Yaml, steps: &mut Steps) -> Option<usize>
+        ensures place { result ≡ place_of (view key.now) self.now }
+        ensures steps { steps.new ≤ steps.old + binary_digits (length self.now) }
     {
-        match key {
-            Yaml::String(text) => self.place_of_text(text.as_str()),
-            _ => self.place_of_node(key),
+        self.place_of_probe(Probe::Node(key), steps)
+    }
+
+    pub(crate) fn place_of_probe(&self, probe: Probe<'_>, steps: &mut Steps) -> Option<usize>
+        ensures place { result ≡ place_of (probed probe.entry) self.now }
+        ensures steps { steps.new ≤ steps.old + binary_digits (length self.now) }
+        ensures distinct { AreDistinct self.now }
+    {
+        match search(self.row.as_slice(), &self.ranks, probe, steps) {
+            Ok(rank) => Some(self.ranks.at(rank)),
+            Err(_) => None,
         }
     }
 
-    fn place_of_node(&self, key: &Yaml) -> Option<usize>
-        ensures { result ≡ place_of (view key.now) self.now }
+    pub(crate) fn value_of_probe(&self, probe: Probe<'_>) -> Option<&Yaml>
+        ensures value { option_map (λ v. view v.now) result ≡ lookup (probed probe.entry) self.now }
+        ensures distinct { AreDistinct self.now }
     {
-        for (i, pair) in self.pairs.iter().enumerate() {
-            if *key == pair.0 {
-                return Some(i);
-            }
-        }
-        None
+        let mut steps = Steps::new();
+        let i = self.place_of_probe(probe, &mut steps)?;
+        let row = &self.row;
+        Some(&row[2 * i + 1])
     }
 
     /// The value of the key, or `None` where no pair has it. It takes no memory.
@@ -102,9 +124,7 @@ impl Hash {
         ensures value { option_map (λ v. view v.now) result ≡ lookup (view key.now) self.now }
         ensures distinct { AreDistinct self.now }
     {
-        let pairs = &self.pairs;
-        let i = self.place(key)?;
-        Some(&pairs[i].1)
+        self.value_of_probe(Probe::Node(key))
     }
 
     pub(crate) fn value_mut_at(&mut self, i: usize) -> &mut Yaml
@@ -112,8 +132,7 @@ impl Hash {
         ensures* writes_back { sem 𝓛 (Lends the_row yaml_row self.entry result (λ w. with_value_at i (view w) self.old)) }
         ensures value { Some (view result.now) ≡ value_at i self.old }
     {
-        let pair = &mut self.pairs[i];
-        &mut pair.1
+        &mut self.row[2 * i + 1]
     }
 
     /// The value of the key, for writing, or `None` where no pair has it. What is written takes the
@@ -123,7 +142,8 @@ impl Hash {
             (λ w. with_value (view key.now) (view w) self.old) self.old) }
         ensures value { option_map (λ v. view v.now) result ≡ lookup (view key.now) self.old }
     {
-        match self.place(key) {
+        let mut steps = Steps::new();
+        match self.place(key, &mut steps) {
             Some(i) => Some(self.value_mut_at(i)),
             None => None,
         }
@@ -133,8 +153,9 @@ impl Hash {
     pub fn back(&self) -> Option<(&Yaml, &Yaml)>
         ensures { option_map (λ p. (view p.0.now, view p.1.now)) result ≡ last_of self.now }
     {
-        let (key, value) = self.pairs.last()?;
-        Some((key, value))
+        let last = self.len().checked_sub(1)?;
+        let row = &self.row;
+        Some((&row[2 * last], &row[2 * last + 1]))
     }
 
     /// Takes the key's old pair out, if there is one, and puts the new pair at the end. The answer is the
@@ -147,18 +168,20 @@ impl Hash {
         ensures unchanged { OnErr result (self.new ≡ self.old) }
         ensures only_at_growth { OnErr result (lookup (view key) self.old ≡ None) }
     {
-        match self.place(&key) {
-            Some(i) => {
-                let (_, old) = self.pairs.remove(i);
-                match self.pairs.push((key, value)) {
-                    Ok(()) => Ok(Some(old)),
-                    Err(_) => unreachable!(),
-                }
+        let mut steps = Steps::new();
+        match search(
+            self.row.as_slice(),
+            &self.ranks,
+            Probe::Node(&key),
+            &mut steps,
+        ) {
+            Ok(rank) => {
+                let place = self.ranks.at(rank);
+                self.ranks.move_to_end(place);
+                Ok(Some(exchange(&mut self.row, place, key, value)))
             }
-            None => {
-                if let Err(refused) = self.pairs.push((key, value)) {
-                    return Err(refused.value);
-                }
+            Err(rank) => {
+                add(&mut self.row, &mut self.ranks, rank, key, value)?;
                 Ok(None)
             }
         }
@@ -170,18 +193,27 @@ impl Hash {
         ensures pairs { self.new ≡ without (view key.now) self.old }
         ensures value { option_map view result ≡ lookup (view key.now) self.old }
     {
-        let i = self.place(key)?;
-        let (_, value) = self.pairs.remove(i);
-        Some(value)
+        let mut steps = Steps::new();
+        let Ok(rank) = search(
+            self.row.as_slice(),
+            &self.ranks,
+            Probe::Node(key),
+            &mut steps,
+        ) else {
+            return None;
+        };
+        let place = self.ranks.at(rank);
+        self.ranks.remove(rank);
+        Some(take(&mut self.row, place))
     }
 }
 
 impl Hash {
-    pub(crate) fn into_pairs(self) -> Vec<(Yaml, Yaml)>
-        ensures pairs { pairs_view result.items ≡ self }
-        ensures distinct { AreDistinct self }
+    pub(crate) fn into_row(self) -> Vec<Yaml>
+        ensures { items_view result.items ≡ flat self }
     {
-        let Hash { pairs } = self;
-        pairs
+        let Hash { row, ranks } = self;
+        drop(ranks);
+        row
     }
 }

@@ -14,11 +14,16 @@ pub mod items;
 pub mod laws;
 mod lookup;
 mod place;
+mod ranks;
+mod row;
+mod search;
+mod steps;
 mod typing;
 pub mod yaml;
 
 pub use array::Array;
 pub use hash::Hash;
 pub use items::YamlIter;
+pub use steps::Steps;
 pub use typing::{is_real, is_string};
 pub use yaml::Yaml;

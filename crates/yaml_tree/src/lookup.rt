@@ -6,26 +6,17 @@ ghost use Rattle.tree_defs.specs.Tree.{string};
 ghost use Rattle.yaml_tree.specs.Node.{value_at_text, value_at_index};
 ghost use Rattle.yaml_tree.specs.View.{view};
 
-use crate::hash::Hash;
+use crate::search::Probe;
 use crate::yaml::Yaml;
 
 impl Yaml {
-    fn is_text(&self, text: &str) -> bool
-        ensures { result ≡ tree_eq (string (chars text.now)) (view self.now) }
-    {
-        match self {
-            Yaml::String(own) => text == own.as_str(),
-            _ => false,
-        }
-    }
-
     #[tactic(auto, using(crate::proofs::ItemsLemmas::pair_list_of_pairs))]
     /// In a `Hash` the value of the key `String` of that text; else `None`. It takes no memory.
     pub fn get_key(&self, key: &str) -> Option<&Yaml>
         ensures { option_map (λ y. view y.now) result ≡ value_at_text (chars key.now) (view self.now) }
     {
         match self {
-            Yaml::Hash(pairs) => pairs.get_text(key),
+            Yaml::Hash(pairs) => pairs.value_of_probe(Probe::Text(key)),
             _ => None,
         }
     }
@@ -60,26 +51,5 @@ impl Yaml {
         ensures { IsTrue result ↔ IsSome (value_at_index index (view self.now)) }
     {
         self.get_index(index).is_some()
-    }
-}
-
-impl Hash {
-    pub(crate) fn place_of_text(&self, key: &str) -> Option<usize>
-        ensures { result ≡ place_of (string (chars key.now)) self.now }
-    {
-        for (i, pair) in self.pairs.iter().enumerate() {
-            if pair.0.is_text(key) {
-                return Some(i);
-            }
-        }
-        None
-    }
-
-    fn get_text(&self, key: &str) -> Option<&Yaml>
-        ensures { option_map (λ v. view v.now) result ≡ lookup (string (chars key.now)) self.now }
-    {
-        let pairs = &self.pairs;
-        let i = self.place_of_text(key)?;
-        Some(&pairs[i].1)
     }
 }

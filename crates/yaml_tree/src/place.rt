@@ -7,6 +7,8 @@ ghost use Rattle.yaml_tree.specs.View.{view};
 
 use crate::array::Array;
 use crate::hash::Hash;
+use crate::search::Probe;
+use crate::steps::Steps;
 use crate::yaml::Yaml;
 
 impl Yaml {
@@ -61,7 +63,8 @@ impl Hash {
             (λ w. with_value (string (chars key.now)) (view w) self.old)) }
         ensures value { Some (view result.now) ≡ lookup (string (chars key.now)) self.old }
     {
-        let Some(i) = self.place_of_text(key) else {
+        let mut steps = Steps::new();
+        let Some(i) = self.place_of_probe(Probe::Text(key), &mut steps) else {
             unreachable!()
         };
         self.value_mut_at(i)

@@ -1,9 +1,9 @@
-use Rattle.std.proofs.Common.{◌≤◌, ◌⊎◌, length, inl, inr, sym, ◌∙◌, rules}
+use Rattle.std.proofs.Common.{◌≤◌, ◌⊎◌, length, inl, inr, sym, ap, ◌∙◌, rules}
 use Rattle.std.specs.Ordering.{on}
 use Rattle.tree_defs.specs.Order.{tree_cmp}
-use Rattle.tree_defs.specs.Lists.{pair_cmp}
-use Rattle.yaml_tree.specs.View.{view, pair_view}
-use Rattle.yaml_tree.proofs.Comparing.{cmp_next, cmp_end, items_seen, pairs_seen, stops, stops_at_first, stops_at_second}
+use Rattle.yaml_tree.specs.Flat.{flat}
+use Rattle.yaml_tree.specs.View.{view}
+use Rattle.yaml_tree.proofs.Comparing.{cmp_next, cmp_end, items_seen, pairs_seen, stops}
 use Rattle.yaml_tree.proofs.compare.+compare.Goals as goal
 use Rattle.yaml_tree.proofs.compare.+compare.Goals.{compare_items-then-loop-i-test+else-i-b, compare_items-else-loop-i-test}
 
@@ -25,21 +25,14 @@ compare_items-returns t c =
 pub compare_pairs-returns-in_default : goal.compare_pairs-returns-in_default
 compare_pairs-returns-in_default t c =
     let i = c.loop-i.invariant in
-    let next = cmp_next (on pair_view pair_cmp) c.as_slice-a.result.now c.as_slice-b.result.now c.loop-i.i _ _ c.loop-i-test.true c.if-i-b.true c.index-a-i.is c.index-b-i.is in
-    let seen = pairs_seen _ _ _ _ _ _ c.as_slice-a.ensures.value c.as_slice-b.ensures.value c.a.view_is c.b.view_is in
-    stops_at_first _ _ _ _ _ c.in_default.not-Equal c.compare.ensures (sym seen ∙ i.same ∙ next)
-
-pub compare_pairs-returns-in_default-compare : goal.compare_pairs-returns-in_default-compare
-compare_pairs-returns-in_default-compare t c =
-    let i = c.loop-i.invariant in
-    let next = cmp_next (on pair_view pair_cmp) c.as_slice-a.result.now c.as_slice-b.result.now c.loop-i.i _ _ c.loop-i-test.true c.if-i-b.true c.index-a-i.is c.index-b-i.is in
-    let seen = pairs_seen _ _ _ _ _ _ c.as_slice-a.ensures.value c.as_slice-b.ensures.value c.a.view_is c.b.view_is in
-    stops_at_second _ _ _ _ _ _ c.in-Equal.is c.compare.ensures c.in_default-compare.not-Equal c.compare-in-loop-i.ensures (sym seen ∙ i.same ∙ next)
+    let next = cmp_next (on view tree_cmp) c.as_slice-a.result.now c.as_slice-b.result.now c.loop-i.i _ _ c.loop-i-test.true c.if-i-b.true c.index-a-i.is c.index-b-i.is in
+    let seen = pairs_seen _ _ _ _ _ _ c.as_slice-a.ensures.value c.as_slice-b.ensures.value (c.a.invariant.even ∙ ap flat c.a.view_is) (c.b.invariant.even ∙ ap flat c.b.view_is) in
+    stops _ _ _ _ c.in_default.not-Equal c.compare.ensures (sym seen ∙ i.same ∙ next)
 
 pub compare_pairs-returns : goal.compare_pairs-returns
 compare_pairs-returns t c =
     let i = c.loop-i.invariant in
     let past : (length c.as_slice-a.result.now ≤ c.loop-i.i) ⊎ (length c.as_slice-b.result.now ≤ c.loop-i.i) =
     search rules in
-    let seen = pairs_seen _ _ _ _ _ _ c.as_slice-a.ensures.value c.as_slice-b.ensures.value c.a.view_is c.b.view_is in
-    c.cmp.ensures ∙ sym (cmp_end (on pair_view pair_cmp) _ _ c.loop-i.i i.first_in i.second_in past) ∙ sym i.same ∙ seen
+    let seen = pairs_seen _ _ _ _ _ _ c.as_slice-a.ensures.value c.as_slice-b.ensures.value (c.a.invariant.even ∙ ap flat c.a.view_is) (c.b.invariant.even ∙ ap flat c.b.view_is) in
+    c.cmp.ensures ∙ sym (cmp_end (on view tree_cmp) _ _ c.loop-i.i i.first_in i.second_in past) ∙ sym i.same ∙ seen

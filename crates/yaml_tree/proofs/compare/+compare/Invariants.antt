@@ -2,8 +2,7 @@ use Rattle.std.proofs.Common.{◌≡◌, ◌-◌, ◌≤◌, length, drop}
 use Rattle.std.specs.Ordering.{on}
 use Rattle.std.specs.Cmp.Lexicographic.{slice_cmp}
 use Rattle.tree_defs.specs.Order.{tree_cmp}
-use Rattle.tree_defs.specs.Lists.{pair_cmp}
-use Rattle.yaml_tree.specs.View.{view, pair_view}
+use Rattle.yaml_tree.specs.View.{view}
 use Rattle.yaml_tree.proofs.compare.+compare.Given as goal
 
 abbrev pub invariant-compare_items-loop-i : goal.invariant-compare_items-loop-i
@@ -20,7 +19,7 @@ abbrev pub invariant-compare_pairs-loop-i : goal.invariant-compare_pairs-loop-i
 invariant-compare_pairs-loop-i l = record {
   first_in : l.i ≤ length l.a;
   second_in : l.i ≤ length l.b;
-  same : slice_cmp (on pair_view pair_cmp) l.a l.b ≡ slice_cmp (on pair_view pair_cmp) (drop l.i l.a) (drop l.i l.b);
+  same : slice_cmp (on view tree_cmp) l.a l.b ≡ slice_cmp (on view tree_cmp) (drop l.i l.a) (drop l.i l.b);
 }
 
 abbrev pub decreases-compare_pairs-loop-i : goal.decreases-compare_pairs-loop-i

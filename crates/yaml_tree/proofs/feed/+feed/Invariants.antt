@@ -1,4 +1,4 @@
-use Rattle.std.proofs.Common.{◌≡◌, drop, fold}
+use Rattle.std.proofs.Common.{◌≡◌, ◌*◌, drop, fold}
 use Rattle.tree_defs.specs.Tree.{items_of, pairs_of}
 use Rattle.yaml_tree.specs.Feed.{items_feed, pairs_feed}
 use Rattle.yaml_tree.specs.View.{items_view, pairs_view}
@@ -8,6 +8,6 @@ abbrev pub invariant-feed_items-loop-item : goal.invariant-feed_items-loop-item
 invariant-feed_items-loop-item g l =
     fold g.H.Hasher.write l.initial.state (items_feed (items_of l.items)) ≡ fold g.H.Hasher.write l.state (items_feed (items_of (items_view (drop l.item-index l.item-items))))
 
-abbrev pub invariant-feed_pairs-loop-key : goal.invariant-feed_pairs-loop-key
-invariant-feed_pairs-loop-key g l =
-    fold g.H.Hasher.write l.initial.state (pairs_feed (pairs_of l.pairs)) ≡ fold g.H.Hasher.write l.state (pairs_feed (pairs_of (pairs_view (drop l.key-index l.key-items))))
+abbrev pub invariant-feed_pairs-loop-i : goal.invariant-feed_pairs-loop-i
+invariant-feed_pairs-loop-i g l =
+    fold g.H.Hasher.write l.initial.state (pairs_feed (pairs_of l.pairs)) ≡ fold g.H.Hasher.write l.state (pairs_feed (pairs_of (pairs_view (drop (2 * l.i) l.row))))

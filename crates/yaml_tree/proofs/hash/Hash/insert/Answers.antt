@@ -1,39 +1,71 @@
-use Rattle.std.proofs.Common.{sym, ap, ◌∙◌, subst, arith}
-use Rattle.tree_defs.specs.Pairs.{AreDistinct}
+use Rattle.std.proofs.Common.{◌≡◌, length, map, None, Result, Ok, Err, OnErr, refl, sym, ap, ◌∙◌, subst}
+use Rattle.tree_defs.specs.Pairs.{insert, lookup}
+use Rattle.yaml_tree.specs.Ranked.{IsRank, IsGap, moved_up}
 use Rattle.yaml_tree.specs.View.{view, pairs_view}
-use Rattle.yaml_tree.proofs.Placed.{found_at, absent, after_push, AreDistinct-insert}
+use Rattle.yaml_tree.proofs.Placed.{absent}
+use Rattle.yaml_tree.proofs.Rows.{placed, ranked_place, gap_place, made_moved, made_added, row_added, row_exchanged, seen_as}
 use Rattle.yaml_tree.proofs.hash.Hash.insert.Goals as goal
 
-pub remove-old-requires : goal.remove-old-requires
-remove-old-requires c =
-    let at = found_at (view c.args.key) _ _ _ c.self.view_is (c.in-Some.ensures {u = tt}) in
-    omega (arith, at.within, c.self.inside.pairs.ok.0)
+always : {A B P : Type 0} (r : Result A B) → P → OnErr r P
+always (Ok x) p = tt
+always (Err e) p = p
 
-pub returns-in-Ok : goal.returns-in-Ok
-returns-in-Ok c =
-    let at = found_at (view c.args.key) _ _ _ c.self.view_is (c.in-Some.ensures {u = tt}) in
-    record {
-      pairs = after_push _ _ _ _ (c.in-Ok.ensures {u = tt}).items (ap pairs_view c.remove-old.ensures.items ∙ at.rest);
-      old = at.found _ c.remove-old.ensures.value;
-      handed_back = tt;
-      unchanged = tt;
-      only_at_growth = tt;
-    }
+pub exchange-requires : goal.exchange-requires
+exchange-requires c =
+    let k = view c.args.key in
+    let rank = subst (λ ys. IsRank k c.self.inside.ranks (pairs_view ys) c.in-Ok.rank) c.as_slice.ensures.value (c.in-Ok.ensures {u = tt}).found in
+    let place = ranked_place k c.self.inside.row.items c.args.self.now c.self.inside.ranks c.in-Ok.rank c.at-place.result c.self.invariant c.self.view_is rank c.at-place.ensures in
+    (placed k c.self.inside.row.items c.args.self.now c.self.inside.ranks c.at-place.result c.self.invariant c.self.view_is place).inside
 
 pub invariant_of-self : goal.invariant_of-self
-invariant_of-self c = subst AreDistinct (sym (returns-in-Ok c).pairs) (AreDistinct-insert (view c.args.key) c.args.self.now (view c.args.value) (subst AreDistinct c.self.view_is c.self.invariant))
+invariant_of-self c =
+    let k = view c.args.key in
+    let rank = subst (λ ys. IsRank k c.self.inside.ranks (pairs_view ys) c.in-Ok.rank) c.as_slice.ensures.value (c.in-Ok.ensures {u = tt}).found in
+    let ys = c.self.inside.row.items in
+    made_moved k (view c.args.value) ys c.self.inside.ranks c.self.invariant _ _ c.in-Ok.rank rank
+    (row_exchanged ys _ (pairs_view ys) c.self.inside.ranks c.in-Ok.rank c.at-place.result c.args.key c.args.value c.self.invariant refl rank c.at-place.ensures c.exchange.ensures.row)
+    (c.move_to_end.ensures ∙ ap (λ p. map (moved_up p (length c.self.inside.ranks)) c.self.inside.ranks) c.at-place.ensures)
 
-pub returns-in_default-clause-pairs : goal.returns-in_default-clause-pairs
-returns-in_default-clause-pairs c =
-    let away = absent (view c.args.key) c.args.self.now (c.in-None.ensures {u = tt}) in
-    after_push _ _ _ _ (c.in_default.ensures {u = tt}).items (c.self.view_is ∙ sym away.same)
+pub returns-in-Ok-clause-pairs : goal.returns-in-Ok-clause-pairs
+returns-in-Ok-clause-pairs c =
+    let k = view c.args.key in
+    let rank = subst (λ ys. IsRank k c.self.inside.ranks (pairs_view ys) c.in-Ok.rank) c.as_slice.ensures.value (c.in-Ok.ensures {u = tt}).found in
+    seen_as _ (insert k (view c.args.value) c.args.self.now)
+    (row_exchanged c.self.inside.row.items _ c.args.self.now c.self.inside.ranks c.in-Ok.rank c.at-place.result c.args.key c.args.value c.self.invariant c.self.view_is rank c.at-place.ensures c.exchange.ensures.row)
 
-pub returns-in_default-clause-old : goal.returns-in_default-clause-old
-returns-in_default-clause-old c = sym (absent (view c.args.key) c.args.self.now (c.in-None.ensures {u = tt})).unfound
+pub returns-in-Ok-clause-old : goal.returns-in-Ok-clause-old
+returns-in-Ok-clause-old c =
+    let k = view c.args.key in
+    let rank = subst (λ ys. IsRank k c.self.inside.ranks (pairs_view ys) c.in-Ok.rank) c.as_slice.ensures.value (c.in-Ok.ensures {u = tt}).found in
+    let place = ranked_place k c.self.inside.row.items c.args.self.now c.self.inside.ranks c.in-Ok.rank c.at-place.result c.self.invariant c.self.view_is rank c.at-place.ensures in
+    (placed k c.self.inside.row.items c.args.self.now c.self.inside.ranks c.at-place.result c.self.invariant c.self.view_is place).found _ c.exchange.ensures.value
 
-pub invariant_of-self-in-None : goal.invariant_of-self-in-None
-invariant_of-self-in-None c =
-    subst AreDistinct (sym (returns-in_default-clause-pairs c)) (AreDistinct-insert (view c.args.key) c.args.self.now (view c.args.value) (subst AreDistinct c.self.view_is c.self.invariant))
+pub returns-in_err-add-in-Err-clause-only_at_growth : goal.returns-in_err-add-in-Err-clause-only_at_growth
+returns-in_err-add-in-Err-clause-only_at_growth c =
+    let k = view c.args.key in
+    let gap = subst (λ ys. IsGap k c.self.inside.ranks (pairs_view ys) c.in-Err.rank) c.as_slice.ensures.value (c.in-Err.ensures {u = tt}).missing in
+    let away : lookup k c.args.self.now ≡ None =
+    (absent k c.args.self.now (gap_place k c.self.inside.row.items c.args.self.now c.self.inside.ranks c.in-Err.rank c.self.invariant c.self.view_is gap)).unfound in
+    always c.from_residual.result away
 
-pub returns-in-Err-push-clause-only_at_growth : goal.returns-in-Err-push-clause-only_at_growth
-returns-in-Err-push-clause-only_at_growth c = (absent (view c.args.key) c.args.self.now (c.in-None.ensures {u = tt})).unfound
+pub invariant_of-self-in-Err : goal.invariant_of-self-in-Err
+invariant_of-self-in-Err c =
+    let k = view c.args.key in
+    let gap = subst (λ ys. IsGap k c.self.inside.ranks (pairs_view ys) c.in-Err.rank) c.as_slice.ensures.value (c.in-Err.ensures {u = tt}).missing in
+    let ys = c.self.inside.row.items in
+    made_added k (view c.args.value) ys c.self.inside.ranks c.self.invariant _ _ c.in-Err.rank gap
+    (row_added ys _ (pairs_view ys) c.self.inside.ranks c.in-Err.rank c.args.key c.args.value c.self.invariant refl gap (c.in_ok-add-in-Err.ensures {u = tt}).row)
+    (c.in_ok-add-in-Err.ensures {u = tt}).ranks
+
+pub returns-clause-pairs : goal.returns-clause-pairs
+returns-clause-pairs c =
+    let k = view c.args.key in
+    let gap = subst (λ ys. IsGap k c.self.inside.ranks (pairs_view ys) c.in-Err.rank) c.as_slice.ensures.value (c.in-Err.ensures {u = tt}).missing in
+    seen_as _ (insert k (view c.args.value) c.args.self.now)
+    (row_added c.self.inside.row.items _ c.args.self.now c.self.inside.ranks c.in-Err.rank c.args.key c.args.value c.self.invariant c.self.view_is gap (c.in_ok-add-in-Err.ensures {u = tt}).row)
+
+pub returns-clause-old : goal.returns-clause-old
+returns-clause-old c =
+    let k = view c.args.key in
+    let gap = subst (λ ys. IsGap k c.self.inside.ranks (pairs_view ys) c.in-Err.rank) c.as_slice.ensures.value (c.in-Err.ensures {u = tt}).missing in
+    sym (absent k c.args.self.now (gap_place k c.self.inside.row.items c.args.self.now c.self.inside.ranks c.in-Err.rank c.self.invariant c.self.view_is gap)).unfound

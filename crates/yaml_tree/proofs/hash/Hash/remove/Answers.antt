@@ -1,23 +1,50 @@
-use Rattle.std.proofs.Common.{sym, ap, ◌∙◌, subst, arith}
-use Rattle.tree_defs.specs.Pairs.{AreDistinct}
+use Rattle.std.proofs.Common.{refl, sym, subst}
+use Rattle.tree_defs.specs.Pairs.{without}
+use Rattle.yaml_tree.specs.Ranked.{IsRank, IsGap}
 use Rattle.yaml_tree.specs.View.{view, pairs_view}
-use Rattle.yaml_tree.proofs.Placed.{found_at, absent, AreDistinct-without}
+use Rattle.yaml_tree.proofs.Placed.{absent}
+use Rattle.yaml_tree.proofs.Rows.{placed, ranked_place, gap_place, made_without, seen_as}
 use Rattle.yaml_tree.proofs.hash.Hash.remove.Goals as goal
 
-pub returns-in_err-i : goal.returns-in_err-i
-returns-in_err-i c =
-    let away = absent (view c.args.key.now) c.args.self.now (c.in_err-i.ensures {u = tt}) in
-    record { pairs = sym away.same; value = rw c.from_residual.ensures (sym away.unfound) }
+pub returns-in_default-clause-pairs : goal.returns-in_default-clause-pairs
+returns-in_default-clause-pairs c =
+    let k = view c.args.key.now in
+    let gap = subst (λ ys. IsGap k c.self.inside.ranks (pairs_view ys) c.in_default.field-0) c.as_slice.ensures.value (c.in_default.ensures {u = tt}).missing in
+    sym (absent k c.args.self.now (gap_place k c.self.inside.row.items c.args.self.now c.self.inside.ranks c.in_default.field-0 c.self.invariant c.self.view_is gap)).same
 
-pub remove-value-requires : goal.remove-value-requires
-remove-value-requires c =
-    let at = found_at (view c.args.key.now) _ _ _ c.self.view_is (c.in_ok-i.ensures {u = tt}) in
-    omega (arith, at.within, c.self.inside.pairs.ok.0)
+pub returns-in_default-clause-value : goal.returns-in_default-clause-value
+returns-in_default-clause-value c =
+    let k = view c.args.key.now in
+    let gap = subst (λ ys. IsGap k c.self.inside.ranks (pairs_view ys) c.in_default.field-0) c.as_slice.ensures.value (c.in_default.ensures {u = tt}).missing in
+    sym (absent k c.args.self.now (gap_place k c.self.inside.row.items c.args.self.now c.self.inside.ranks c.in_default.field-0 c.self.invariant c.self.view_is gap)).unfound
 
-pub returns : goal.returns
-returns c =
-    let at = found_at (view c.args.key.now) _ _ _ c.self.view_is (c.in_ok-i.ensures {u = tt}) in
-    record { pairs = ap pairs_view c.remove-value.ensures.items ∙ at.rest; value = at.found _ c.remove-value.ensures.value }
+pub take-requires : goal.take-requires
+take-requires c =
+    let k = view c.args.key.now in
+    let rank = subst (λ ys. IsRank k c.self.inside.ranks (pairs_view ys) c.in-Ok.rank) c.as_slice.ensures.value (c.in-Ok.ensures {u = tt}).found in
+    let place = ranked_place k c.self.inside.row.items c.args.self.now c.self.inside.ranks c.in-Ok.rank c.at-place.result c.self.invariant c.self.view_is rank c.at-place.ensures in
+    (placed k c.self.inside.row.items c.args.self.now c.self.inside.ranks c.at-place.result c.self.invariant c.self.view_is place).inside
 
 pub invariant_of-self : goal.invariant_of-self
-invariant_of-self c = subst AreDistinct (sym (ap pairs_view c.remove-value.ensures.items ∙ (found_at (view c.args.key.now) _ _ _ c.self.view_is (c.in_ok-i.ensures {u = tt})).rest)) (AreDistinct-without (view c.args.key.now) c.args.self.now (subst AreDistinct c.self.view_is c.self.invariant))
+invariant_of-self c =
+    let k = view c.args.key.now in
+    let ys = c.self.inside.row.items in
+    let rank = subst (λ ys. IsRank k c.self.inside.ranks (pairs_view ys) c.in-Ok.rank) c.as_slice.ensures.value (c.in-Ok.ensures {u = tt}).found in
+    let place = ranked_place k ys (pairs_view ys) c.self.inside.ranks c.in-Ok.rank c.at-place.result c.self.invariant refl rank c.at-place.ensures in
+    let there = placed k ys (pairs_view ys) c.self.inside.ranks c.at-place.result c.self.invariant refl place in
+    made_without k k ys c.self.inside.ranks c.self.invariant _ _ c.in-Ok.rank rank (there.rest _ c.take.ensures.rest) c.remove.ensures
+
+pub returns-clause-pairs : goal.returns-clause-pairs
+returns-clause-pairs c =
+    let k = view c.args.key.now in
+    let rank = subst (λ ys. IsRank k c.self.inside.ranks (pairs_view ys) c.in-Ok.rank) c.as_slice.ensures.value (c.in-Ok.ensures {u = tt}).found in
+    let place = ranked_place k c.self.inside.row.items c.args.self.now c.self.inside.ranks c.in-Ok.rank c.at-place.result c.self.invariant c.self.view_is rank c.at-place.ensures in
+    let there = placed k c.self.inside.row.items c.args.self.now c.self.inside.ranks c.at-place.result c.self.invariant c.self.view_is place in
+    seen_as _ (without k c.args.self.now) (there.rest _ c.take.ensures.rest)
+
+pub returns-clause-value : goal.returns-clause-value
+returns-clause-value c =
+    let k = view c.args.key.now in
+    let rank = subst (λ ys. IsRank k c.self.inside.ranks (pairs_view ys) c.in-Ok.rank) c.as_slice.ensures.value (c.in-Ok.ensures {u = tt}).found in
+    let place = ranked_place k c.self.inside.row.items c.args.self.now c.self.inside.ranks c.in-Ok.rank c.at-place.result c.self.invariant c.self.view_is rank c.at-place.ensures in
+    (placed k c.self.inside.row.items c.args.self.now c.self.inside.ranks c.at-place.result c.self.invariant c.self.view_is place).found _ c.take.ensures.value

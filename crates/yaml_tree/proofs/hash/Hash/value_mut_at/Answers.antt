@@ -1,17 +1,27 @@
-use Rattle.std.proofs.Common.{◌<◌, length, refl, sym, ap, ◌∙◌, subst, arith}
-use Rattle.tree_defs.specs.Pairs.{AreDistinct}
-use Rattle.tree_defs.specs.Pairs.{value_at, with_value_at}
-use Rattle.yaml_tree.specs.View.{view}
-use Rattle.yaml_tree.proofs.Placed.{AreDistinct-with_value_at, pairs_view-set, value_at_place, length-pairs_view}
+use Rattle.std.proofs.Common.{◌<◌, ◌+◌, ◌*◌, refl, ap, ◌∙◌, vec_len, arith, rules}
+use Rattle.yaml_tree.specs.Flat.{flat}
+use Rattle.yaml_tree.proofs.Flattened.{row_length, value_seen}
+use Rattle.yaml_tree.proofs.Rows.{made_value, seen_value}
 use Rattle.yaml_tree.proofs.hash.Hash.value_mut_at.Goals as goal
 
+pub overflow_mul-i : goal.overflow_mul-i
+overflow_mul-i c =
+    let inside : 2 * c.args.i + 1 < vec_len c.self.inside.row = omega (arith, c.requires, row_length c.self.inside.row.items c.args.self.now (c.self.invariant.even ∙ ap flat c.self.view_is), c.self.inside.row.ok.0) in
+    search rules
+
+pub overflow_add-i : goal.overflow_add-i
+overflow_add-i c =
+    let inside : 2 * c.args.i + 1 < vec_len c.self.inside.row = omega (arith, c.requires, row_length c.self.inside.row.items c.args.self.now (c.self.invariant.even ∙ ap flat c.self.view_is), c.self.inside.row.ok.0) in
+    search rules
+
+pub index_mut-requires : goal.index_mut-requires
+index_mut-requires c = omega (arith, c.requires, row_length c.self.inside.row.items c.args.self.now (c.self.invariant.even ∙ ap flat c.self.view_is), c.self.inside.row.ok.0)
+
 pub invariant_of-self-lent : goal.invariant_of-self-lent
-invariant_of-self-lent c = λ w.
-    subst AreDistinct (sym (pairs_view-set _ c.args.i _ w c.index_mut-pair.ensures.value)) (AreDistinct-with_value_at c.args.i (view w) _ c.self.invariant)
+invariant_of-self-lent c = λ w. made_value c.self.inside.row.items c.self.inside.ranks c.args.i w c.self.invariant
 
 pub returns : goal.returns
-returns c =
-    let within : c.args.i < length c.self.inside.pairs.items = omega (arith, c.requires, ap length c.self.view_is, length-pairs_view c.self.inside.pairs.items) in (
-      (refl, λ w. pairs_view-set _ c.args.i _ w c.index_mut-pair.ensures.value ∙ ap (with_value_at c.args.i (view w)) c.self.view_is),
-      record { writes_back = tt; value = value_at_place _ c.args.i _ within c.index_mut-pair.ensures.value ∙ ap (value_at c.args.i) c.self.view_is },
-    )
+returns c = (
+  (refl, λ w. seen_value c.self.inside.row.items c.args.self.now c.self.inside.ranks c.args.i w c.self.invariant c.self.view_is),
+  record { writes_back = tt; value = value_seen c.self.inside.row.items c.args.self.now (c.self.invariant.even ∙ ap flat c.self.view_is) c.args.i _ c.requires c.index_mut.ensures.value },
+)

@@ -1,0 +1,422 @@
+-- The places of a hash's pairs by rank: what finding, adding, removing and moving a pair does to them.
+use Rattle.std.proofs.Common.{◌≡◌, ◌≢◌, ℕ, zero, suc, ◌+◌, ◌-◌, ◌<◌, ◌≤◌, ◌⊎◌, Bool, true, false, ◌||◌, List, [], ◌∷◌, ◌++◌, length, get_or, map, Less, Equal, Greater, Some, None, option_map, cond, refl, sym, ap, subst, ◌∙◌, inl, inr, arith, eqb}
+use Rattle.std.specs.List.{insert, remove, list_any, IsDistinct, AllByRecursion}
+use Rattle.std.specs.Prelude.{nat_lt}
+use Rattle.std.specs.Ordering.{ordering_reverse}
+use Rattle.std.proofs.lemmas.Bool.{cases_lt, false_from_ne_true, eqb-true}
+use Rattle.std.proofs.lemmas.Bool.Decides.{nat_tests}
+use Rattle.std.proofs.lemmas.Cmp.{tied_itself}
+use Rattle.std.proofs.lemmas.List.{get_or-map}
+use Rattle.std.proofs.lemmas.List.Edits.{length-insert, length-remove, get_or-insert_below, get_or-insert_at, get_or-insert_above, get_or-remove_below, get_or-remove_above}
+use Rattle.std.proofs.lemmas.Map.Steps.{length-le_from_distinct_below}
+use Rattle.tree_defs.specs.Tree.{Tree}
+use Rattle.tree_defs.specs.Order.{tree_cmp, tree_eq}
+use Rattle.tree_defs.specs.Pairs.{place_of, with_value_at, Lacks, AreDistinct}
+use Rattle.tree_defs.proofs.OrderLaws.{tree_cmp_total}
+use Rattle.tree_defs.proofs.PairsLaws.{tree_eq-itself, tree_eq-other}
+use Rattle.yaml_tree.specs.Ranked.{key_at, key_of_rank, AreRanked, IsRank, IsGap, closed_up, moved_up}
+
+abbrev pub Pairs : Type 0
+Pairs = List (Tree × Tree)
+
+-- ---- the order
+
+less_greater : (s t : Tree) → tree_cmp s t ≡ Less → tree_cmp t s ≡ Greater
+less_greater s t e = tree_cmp_total.antisymm t s ∙ ap ordering_reverse e
+
+greater_less : (s t : Tree) → tree_cmp s t ≡ Greater → tree_cmp t s ≡ Less
+greater_less s t e = tree_cmp_total.antisymm t s ∙ ap ordering_reverse e
+
+above_lower : (k s t : Tree) → tree_cmp k t ≡ Greater → tree_cmp s t ≡ Less → tree_cmp k s ≡ Greater
+above_lower k s t e f = less_greater s k (tree_cmp_total.trans s t k f (greater_less k t e))
+
+below_higher : (k s t : Tree) → tree_cmp k s ≡ Less → tree_cmp s t ≡ Less → tree_cmp k t ≡ Less
+below_higher k s t e f = tree_cmp_total.trans k s t e f
+
+less_not_equal : Less ≢ Equal
+less_not_equal e = cc
+
+greater_not_equal : Greater ≢ Equal
+greater_not_equal e = cc
+
+not_less : (s t : Tree) → s ≡ t → tree_cmp s t ≢ Less
+not_less s t e f = less_not_equal (sym f ∙ ap (tree_cmp s) (sym e) ∙ tied_itself tree_cmp_total s)
+
+-- ---- keys by place
+
+key_append_left : (ps qs : Pairs) (i : ℕ) → i < length ps → key_at (ps ++ qs) i ≡ key_at ps i
+key_append_left [] qs i h = absurd (omega arith)
+key_append_left (p ∷ ps) qs zero h = refl
+key_append_left (p ∷ ps) qs (suc i) h = key_append_left ps qs i (omega arith)
+
+key_append_end : (ps : Pairs) (k v : Tree) (n : ℕ) → n ≡ length ps → key_at (ps ++ (k, v) ∷ []) n ≡ k
+key_append_end [] k v zero e = refl
+key_append_end [] k v (suc n) e = absurd (omega arith)
+key_append_end (p ∷ ps) k v zero e = absurd (omega arith)
+key_append_end (p ∷ ps) k v (suc n) e = key_append_end ps k v n (omega arith)
+
+key_remove_below : (ps : Pairs) (p i : ℕ) → i < p → key_at (remove ps p) i ≡ key_at ps i
+key_remove_below ps zero i h = absurd (omega arith)
+key_remove_below [] (suc p) i h = refl
+key_remove_below (q ∷ ps) (suc p) zero h = refl
+key_remove_below (q ∷ ps) (suc p) (suc i) h = key_remove_below ps p i (omega arith)
+
+key_remove_above : (ps : Pairs) (p i : ℕ) → p ≤ i → key_at (remove ps p) i ≡ key_at ps (suc i)
+key_remove_above [] zero i h = refl
+key_remove_above [] (suc p) i h = refl
+key_remove_above (q ∷ ps) zero i h = refl
+key_remove_above (q ∷ ps) (suc p) zero h = absurd (omega arith)
+key_remove_above (q ∷ ps) (suc p) (suc i) h = key_remove_above ps p i (omega arith)
+
+length-append_one : (ps : Pairs) (p : Tree × Tree) → length (ps ++ p ∷ []) ≡ length ps + 1
+length-append_one [] p = refl
+length-append_one (q ∷ ps) p = omega (arith, length-append_one ps p)
+
+key_with_value : (ps : Pairs) (i : ℕ) (t : Tree) (j : ℕ) → key_at (with_value_at i t ps) j ≡ key_at ps j
+key_with_value [] i t j = refl
+key_with_value (p ∷ ps) zero t zero = refl
+key_with_value (p ∷ ps) zero t (suc j) = refl
+key_with_value (p ∷ ps) (suc i) t zero = refl
+key_with_value (p ∷ ps) (suc i) t (suc j) = key_with_value ps i t j
+
+length-with_value : (ps : Pairs) (i : ℕ) (t : Tree) → length (with_value_at i t ps) ≡ length ps
+length-with_value [] i t = refl
+length-with_value (p ∷ ps) zero t = refl
+length-with_value (p ∷ ps) (suc i) t = ap suc (length-with_value ps i t)
+
+closed_below : (p q : ℕ) → q ≤ p → closed_up p q ≡ q
+closed_below p q h = grind (arith, nat_tests)
+
+closed_above : (p q : ℕ) → p < q → closed_up p q ≡ q - 1
+closed_above p q h = grind (arith, nat_tests)
+
+moved_same : (p n q : ℕ) → q ≡ p → moved_up p n q ≡ n - 1
+moved_same p n q h = grind (arith, nat_tests)
+
+moved_other : (p n q : ℕ) → q ≢ p → moved_up p n q ≡ closed_up p q
+moved_other p n q h = grind (arith, nat_tests)
+
+sides : (q p : ℕ) → (q < p) ⊎ ((q ≡ p) ⊎ (p < q))
+sides q p = by (cases_lt q p) (cases_lt p q)
+  where
+    by : (q < p) ⊎ (p ≤ q) → (p < q) ⊎ (q ≤ p) → (q < p) ⊎ ((q ≡ p) ⊎ (p < q))
+    by (inl h) o = inl h
+    by (inr h) (inl g) = inr (inr g)
+    by (inr h) (inr g) = inr (inl (omega arith))
+
+closed_key : (ps : Pairs) (p q : ℕ) → q ≢ p → key_at (remove ps p) (closed_up p q) ≡ key_at ps q
+closed_key ps p q n = by (sides q p)
+  where
+    after : (q : ℕ) → p < q → key_at (remove ps p) (q - 1) ≡ key_at ps q
+    after zero h = absurd (omega arith)
+    after (suc q) h = ap (key_at (remove ps p)) (omega arith) ∙ key_remove_above ps p q (omega arith)
+
+    by : (q < p) ⊎ ((q ≡ p) ⊎ (p < q)) → key_at (remove ps p) (closed_up p q) ≡ key_at ps q
+    by (inl h) = ap (key_at (remove ps p)) (closed_below p q (omega arith)) ∙ key_remove_below ps p q h
+    by (inr (inl e)) = absurd (n e)
+    by (inr (inr h)) = ap (key_at (remove ps p)) (closed_above p q h) ∙ after q h
+
+closed_within : (p q n : ℕ) → q ≢ p → p < suc n → q < suc n → closed_up p q < n
+closed_within p q n a h g = by (sides q p)
+  where
+    by : (q < p) ⊎ ((q ≡ p) ⊎ (p < q)) → closed_up p q < n
+    by (inl l) = omega (arith, closed_below p q (omega arith))
+    by (inr (inl e)) = absurd (a e)
+    by (inr (inr l)) = omega (arith, closed_above p q l)
+
+-- ---- ranks
+
+pub no_ranks : AreRanked [] []
+no_ranks = record { counted = refl; within = λ r h. absurd (omega arith); ascending = λ r s h g. absurd (omega arith) }
+
+-- the same keys at the same ranks
+same_keys : (rs qs : List ℕ) (ps us : Pairs) → AreRanked rs ps → length qs ≡ length rs → length us ≡ length ps
+    → ((r : ℕ) → r < length qs → (get_or qs r 0 < length us) × (key_of_rank qs us r ≡ key_of_rank rs ps r)) → AreRanked qs us
+same_keys rs qs ps us a m n f = record {
+  counted = m ∙ a.counted ∙ sym n;
+  within = λ r h. (f r h).0;
+  ascending = λ r s h g.
+      subst (λ t. tree_cmp t (key_of_rank qs us s) ≡ Less) (sym (f r (omega arith)).1)
+      (subst (λ t. tree_cmp (key_of_rank rs ps r) t ≡ Less) (sym (f s g).1) (a.ascending r s h (omega (arith, m))));
+}
+
+pub ranked_value : (rs : List ℕ) (ps : Pairs) (i : ℕ) (t : Tree) → AreRanked rs ps → AreRanked rs (with_value_at i t ps)
+ranked_value rs ps i t a =
+    same_keys rs rs ps (with_value_at i t ps) a refl (length-with_value ps i t)
+    (λ r h. (omega (arith, a.within r h, length-with_value ps i t), key_with_value ps i t (get_or rs r 0)))
+
+-- ranks have places of their own
+module _ (rs : List ℕ) (ps : Pairs) (a : AreRanked rs ps) where
+  rising_apart : (r s : ℕ) → r < s → s < length rs → get_or rs r 0 ≢ get_or rs s 0
+  rising_apart r s h g e = not_less _ _ (ap (key_at ps) e) (a.ascending r s h g)
+
+  other_place : (r s : ℕ) → r < length rs → s < length rs → s ≢ r → get_or rs s 0 ≢ get_or rs r 0
+  other_place r s h g n = by (sides s r)
+    where
+      by : (s < r) ⊎ ((s ≡ r) ⊎ (r < s)) → get_or rs s 0 ≢ get_or rs r 0
+      by (inl l) = rising_apart s r l h
+      by (inr (inl e)) = absurd (n e)
+      by (inr (inr l)) = λ e. rising_apart r s l g (sym e)
+
+  -- a key above that of a rank is above all before; one below it is below all behind
+  pub above_up_to : (k : Tree) (m : ℕ) → m < length rs → tree_cmp k (key_of_rank rs ps m) ≡ Greater → (s : ℕ) → s < m + 1 → tree_cmp k (key_of_rank rs ps s) ≡ Greater
+  above_up_to k m h e s l = by (cases_lt s m)
+    where
+      by : (s < m) ⊎ (m ≤ s) → tree_cmp k (key_of_rank rs ps s) ≡ Greater
+      by (inl g) = above_lower k _ _ e (a.ascending s m g h)
+      by (inr g) = ap (λ i. tree_cmp k (key_of_rank rs ps i)) (omega arith) ∙ e
+
+  pub below_from_on : (k : Tree) (m : ℕ) → tree_cmp k (key_of_rank rs ps m) ≡ Less → (s : ℕ) → m ≤ s → s < length rs → tree_cmp k (key_of_rank rs ps s) ≡ Less
+  below_from_on k m e s l h = by (cases_lt m s)
+    where
+      by : (m < s) ⊎ (s ≤ m) → tree_cmp k (key_of_rank rs ps s) ≡ Less
+      by (inl g) = below_higher k _ _ e (a.ascending m s g h)
+      by (inr g) = ap (λ i. tree_cmp k (key_of_rank rs ps i)) (omega arith) ∙ e
+
+both : (s t u v : Tree) → s ≡ u → t ≡ v → tree_cmp u v ≡ Less → tree_cmp s t ≡ Less
+both s t u v d e h = ap (λ x. tree_cmp x t) d ∙ ap (tree_cmp u) e ∙ h
+
+length-mapped : (f : ℕ → ℕ) (xs : List ℕ) → length (map f xs) ≡ length xs
+length-mapped f [] = refl
+length-mapped f (x ∷ xs) = ap suc (length-mapped f xs)
+
+-- ---- a pair goes to the end and keeps its key
+
+moved_one : (ps : Pairs) (k v : Tree) (p q n : ℕ) → n ≡ length ps → p < n → q < n → key_at ps p ≡ k
+    → (moved_up p n q < length (remove ps p ++ (k, v) ∷ [])) × (key_at (remove ps p ++ (k, v) ∷ []) (moved_up p n q) ≡ key_at ps q)
+moved_one ps k v p q n e h g is = by (sides q p)
+  where
+    fewer : length (remove ps p) + 1 ≡ length ps
+    fewer = length-remove ps p (omega arith)
+
+    elsewhere : q ≢ p → (moved_up p n q < length (remove ps p ++ (k, v) ∷ [])) × (key_at (remove ps p ++ (k, v) ∷ []) (moved_up p n q) ≡ key_at ps q)
+    elsewhere a =
+        let low : closed_up p q < length (remove ps p) = closed_within p q (length (remove ps p)) a (omega (arith, fewer)) (omega (arith, fewer)) in
+        let same = moved_other p n q a in (
+          omega (arith, same, length-append_one (remove ps p) (k, v)),
+          ap (key_at (remove ps p ++ (k, v) ∷ [])) same ∙ key_append_left (remove ps p) ((k, v) ∷ []) (closed_up p q) low ∙ closed_key ps p q a,
+        )
+
+    by : (q < p) ⊎ ((q ≡ p) ⊎ (p < q)) → (moved_up p n q < length (remove ps p ++ (k, v) ∷ [])) × (key_at (remove ps p ++ (k, v) ∷ []) (moved_up p n q) ≡ key_at ps q)
+    by (inl l) = elsewhere (λ f. absurd (omega arith))
+    by (inr (inl f)) =
+        let same = moved_same p n q f in (
+          omega (arith, same, fewer, length-append_one (remove ps p) (k, v)),
+          ap (key_at (remove ps p ++ (k, v) ∷ [])) same ∙ key_append_end (remove ps p) k v (n - 1) (omega (arith, fewer)) ∙ sym is ∙ ap (key_at ps) (sym f),
+        )
+    by (inr (inr l)) = elsewhere (λ f. absurd (omega arith))
+
+pub ranked_moved : (rs : List ℕ) (ps : Pairs) (r : ℕ) (k v : Tree) → AreRanked rs ps → IsRank k rs ps r
+    → AreRanked (map (moved_up (get_or rs r 0) (length rs)) rs) (remove ps (get_or rs r 0) ++ (k, v) ∷ [])
+ranked_moved rs ps r k v a is =
+    let fewer = length-remove ps (get_or rs r 0) (a.within r is.0) in
+    let more = length-append_one (remove ps (get_or rs r 0)) (k, v) in
+    let same = length-mapped (moved_up (get_or rs r 0) (length rs)) rs in
+    same_keys rs _ ps _ a same (omega (arith, fewer, more))
+    (λ s h.
+    let within : s < length rs = omega (arith, same) in
+    let one = moved_one ps k v (get_or rs r 0) (get_or rs s 0) (length rs) a.counted (omega (arith, a.counted, a.within r is.0)) (omega (arith, a.counted, a.within s within)) is.1 in
+    let at = get_or-map (moved_up (get_or rs r 0) (length rs)) rs s 0 0 within in
+    (omega (arith, one.0, at), ap (key_at (remove ps (get_or rs r 0) ++ (k, v) ∷ [])) at ∙ one.1))
+
+-- ---- a pair goes
+
+skip : ℕ → ℕ → ℕ
+skip r s = cond (nat_lt s r) s (suc s)
+
+skip_below : (r s : ℕ) → s < r → skip r s ≡ s
+unfolding skip
+skip_below r s h = grind (arith, nat_tests)
+
+skip_above : (r s : ℕ) → r ≤ s → skip r s ≡ suc s
+unfolding skip
+skip_above r s h = grind (arith, nat_tests)
+
+skip_rises : (r s t : ℕ) → s < t → skip r s < skip r t
+skip_rises r s t h = by (cases_lt s r) (cases_lt t r)
+  where
+    by : (s < r) ⊎ (r ≤ s) → (t < r) ⊎ (r ≤ t) → skip r s < skip r t
+    by (inl l) (inl m) = omega (arith, skip_below r s l, skip_below r t m)
+    by (inl l) (inr m) = omega (arith, skip_below r s l, skip_above r t m)
+    by (inr l) (inl m) = absurd (omega arith)
+    by (inr l) (inr m) = omega (arith, skip_above r s l, skip_above r t m)
+
+skip_apart : (r s : ℕ) → skip r s ≢ r
+skip_apart r s = by (cases_lt s r)
+  where
+    by : (s < r) ⊎ (r ≤ s) → skip r s ≢ r
+    by (inl l) = λ e. absurd (omega (arith, skip_below r s l, e))
+    by (inr l) = λ e. absurd (omega (arith, skip_above r s l, e))
+
+skip_within : (r s n : ℕ) → s + 1 < n → skip r s < n
+skip_within r s n h = by (cases_lt s r)
+  where
+    by : (s < r) ⊎ (r ≤ s) → skip r s < n
+    by (inl l) = omega (arith, skip_below r s l)
+    by (inr l) = omega (arith, skip_above r s l)
+
+skip_get : (rs : List ℕ) (r s : ℕ) → r < length rs → get_or (remove rs r) s 0 ≡ get_or rs (skip r s) 0
+skip_get rs r s h = by (cases_lt s r)
+  where
+    by : (s < r) ⊎ (r ≤ s) → get_or (remove rs r) s 0 ≡ get_or rs (skip r s) 0
+    by (inl l) = get_or-remove_below rs r 0 s l h ∙ ap (λ i. get_or rs i 0) (sym (skip_below r s l))
+    by (inr l) = get_or-remove_above rs r 0 s l h ∙ ap (λ i. get_or rs i 0) (omega (arith, skip_above r s l))
+
+pub ranked_removed : (rs : List ℕ) (ps : Pairs) (r : ℕ) → AreRanked rs ps → r < length rs
+    → AreRanked (map (closed_up (get_or rs r 0)) (remove rs r)) (remove ps (get_or rs r 0))
+ranked_removed rs ps r a h = record {
+  counted = omega (arith, same, fewer_ranks, fewer, a.counted);
+  within = λ s g. omega (arith, low s (inside s g), at s (inside s g));
+  ascending = λ s t l g.
+      let t_in = inside t g in
+      let s_in : s + 1 < length rs = omega arith in
+      both _ _ _ _ (key s s_in) (key t t_in) (a.ascending (skip r s) (skip r t) (skip_rises r s t l) (skip_within r t (length rs) t_in));
+}
+  where
+    fewer : length (remove ps (get_or rs r 0)) + 1 ≡ length ps
+    fewer = length-remove ps (get_or rs r 0) (a.within r h)
+
+    fewer_ranks : length (remove rs r) + 1 ≡ length rs
+    fewer_ranks = length-remove rs r h
+
+    same : length (map (closed_up (get_or rs r 0)) (remove rs r)) ≡ length (remove rs r)
+    same = length-mapped (closed_up (get_or rs r 0)) (remove rs r)
+
+    inside : (s : ℕ) → s < length (map (closed_up (get_or rs r 0)) (remove rs r)) → s + 1 < length rs
+    inside s g = omega (arith, same, fewer_ranks)
+
+    other : (s : ℕ) → s + 1 < length rs → get_or rs (skip r s) 0 ≢ get_or rs r 0
+    other s g = other_place rs ps a r (skip r s) h (skip_within r s (length rs) g) (skip_apart r s)
+
+    at : (s : ℕ) → s + 1 < length rs → get_or (map (closed_up (get_or rs r 0)) (remove rs r)) s 0 ≡ closed_up (get_or rs r 0) (get_or rs (skip r s) 0)
+    at s g = get_or-map (closed_up (get_or rs r 0)) (remove rs r) s 0 0 (omega (arith, fewer_ranks)) ∙ ap (closed_up (get_or rs r 0)) (skip_get rs r s h)
+
+    low : (s : ℕ) → s + 1 < length rs → closed_up (get_or rs r 0) (get_or rs (skip r s) 0) < length (remove ps (get_or rs r 0))
+    low s g =
+        closed_within (get_or rs r 0) (get_or rs (skip r s) 0) (length (remove ps (get_or rs r 0))) (other s g) (omega (arith, fewer, a.within r h))
+        (omega (arith, fewer, a.within (skip r s) (skip_within r s (length rs) g)))
+
+    key : (s : ℕ) → s + 1 < length rs
+        → key_of_rank (map (closed_up (get_or rs r 0)) (remove rs r)) (remove ps (get_or rs r 0)) s ≡ key_of_rank rs ps (skip r s)
+    key s g = ap (key_at (remove ps (get_or rs r 0))) (at s g) ∙ closed_key ps (get_or rs r 0) (get_or rs (skip r s) 0) (other s g)
+
+-- ---- a pair comes
+
+pub ranked_added : (rs : List ℕ) (ps : Pairs) (r : ℕ) (k v : Tree) → AreRanked rs ps → IsGap k rs ps r → AreRanked (insert rs r (length rs)) (ps ++ (k, v) ∷ [])
+ranked_added rs ps r k v a gap = record {
+  counted = omega (arith, more, length-append_one ps (k, v), a.counted);
+  within = λ s h. low s h (sides s r);
+  ascending = λ s t l h. rises s t l h (sides s r) (sides t r);
+}
+  where
+    more : length (insert rs r (length rs)) ≡ length rs + 1
+    more = length-insert rs r (length rs) gap.within
+
+    before : (s : ℕ) → s < r → get_or (insert rs r (length rs)) s 0 ≡ get_or rs s 0
+    before s l = get_or-insert_below rs r (length rs) 0 s l gap.within
+
+    here : (s : ℕ) → s ≡ r → get_or (insert rs r (length rs)) s 0 ≡ length rs
+    here s e = ap (λ i. get_or (insert rs r (length rs)) i 0) e ∙ get_or-insert_at rs r (length rs) 0 gap.within
+
+    behind : (s : ℕ) → r ≤ s → get_or (insert rs r (length rs)) (suc s) 0 ≡ get_or rs s 0
+    behind s l = ap (λ i. get_or (insert rs r (length rs)) i 0) (omega arith) ∙ get_or-insert_above rs r (length rs) 0 s l gap.within
+
+    low : (s : ℕ) → s < length (insert rs r (length rs)) → (s < r) ⊎ ((s ≡ r) ⊎ (r < s)) → get_or (insert rs r (length rs)) s 0 < length (ps ++ (k, v) ∷ [])
+    low s h (inl l) = omega (arith, before s l, a.within s (omega (arith, gap.within)), length-append_one ps (k, v))
+    low s h (inr (inl e)) = omega (arith, here s e, a.counted, length-append_one ps (k, v))
+    low zero h (inr (inr l)) = absurd (omega arith)
+    low (suc s) h (inr (inr l)) = omega (arith, behind s (omega arith), a.within s (omega (arith, more)), length-append_one ps (k, v))
+
+    key_before : (s : ℕ) → s < r → key_of_rank (insert rs r (length rs)) (ps ++ (k, v) ∷ []) s ≡ key_of_rank rs ps s
+    key_before s l =
+        ap (key_at (ps ++ (k, v) ∷ [])) (before s l) ∙ key_append_left ps ((k, v) ∷ []) (get_or rs s 0) (a.within s (omega (arith, gap.within)))
+
+    key_here : (s : ℕ) → s ≡ r → key_of_rank (insert rs r (length rs)) (ps ++ (k, v) ∷ []) s ≡ k
+    key_here s e = ap (key_at (ps ++ (k, v) ∷ [])) (here s e) ∙ key_append_end ps k v (length rs) a.counted
+
+    key_behind : (s : ℕ) → r ≤ s → s < length rs → key_of_rank (insert rs r (length rs)) (ps ++ (k, v) ∷ []) (suc s) ≡ key_of_rank rs ps s
+    key_behind s l h = ap (key_at (ps ++ (k, v) ∷ [])) (behind s l) ∙ key_append_left ps ((k, v) ∷ []) (get_or rs s 0) (a.within s h)
+
+    rises : (s t : ℕ) → s < t → t < length (insert rs r (length rs)) → (s < r) ⊎ ((s ≡ r) ⊎ (r < s)) → (t < r) ⊎ ((t ≡ r) ⊎ (r < t))
+        → tree_cmp (key_of_rank (insert rs r (length rs)) (ps ++ (k, v) ∷ []) s) (key_of_rank (insert rs r (length rs)) (ps ++ (k, v) ∷ []) t) ≡ Less
+    rises s t l h (inl m) (inl n) = both _ _ _ _ (key_before s m) (key_before t n) (a.ascending s t l (omega (arith, gap.within)))
+    rises s t l h (inl m) (inr (inl e)) = both _ _ _ _ (key_before s m) (key_here t e) (greater_less k (key_of_rank rs ps s) (gap.above s m))
+    rises s zero l h m (inr (inr n)) = absurd (omega arith)
+    rises s (suc t) l h (inl m) (inr (inr n)) =
+        both _ _ _ _ (key_before s m) (key_behind t (omega arith) (omega (arith, more))) (a.ascending s t (omega arith) (omega (arith, more)))
+    rises s t l h (inr (inl e)) (inl n) = absurd (omega arith)
+    rises s t l h (inr (inl e)) (inr (inl f)) = absurd (omega arith)
+    rises s (suc t) l h (inr (inl e)) (inr (inr n)) =
+        both _ _ _ _ (key_here s e) (key_behind t (omega arith) (omega (arith, more))) (gap.below t (omega arith) (omega (arith, more)))
+    rises s t l h (inr (inr m)) (inl n) = absurd (omega arith)
+    rises s t l h (inr (inr m)) (inr (inl f)) = absurd (omega arith)
+    rises zero (suc t) l h (inr (inr m)) (inr (inr n)) = absurd (omega arith)
+    rises (suc s) (suc t) l h (inr (inr m)) (inr (inr n)) =
+        both _ _ _ _ (key_behind s (omega arith) (omega (arith, more))) (key_behind t (omega arith) (omega (arith, more)))
+        (a.ascending s t (omega arith) (omega (arith, more)))
+
+-- ---- a key that has a rank, and one that has none
+
+Lacks_at : (k : Tree) (ps : Pairs) (i : ℕ) → Lacks k ps → i < length ps → k ≢ key_at ps i
+Lacks_at k [] i l h = absurd (omega arith)
+Lacks_at k (p ∷ ps) zero l h = l.0
+Lacks_at k (p ∷ ps) (suc i) l h = Lacks_at k ps i l.1 (omega arith)
+
+pub place_some : (k : Tree) (ps : Pairs) (i : ℕ) → AreDistinct ps → i < length ps → key_at ps i ≡ k → Some i ≡ place_of k ps
+place_some k [] i d h e = absurd (omega arith)
+place_some k (p ∷ ps) zero d h e = sym (ap (λ b. cond b (Some 0) (option_map suc (place_of k ps))) (ap (λ t. tree_eq k t) e ∙ tree_eq-itself k))
+place_some k (p ∷ ps) (suc i) d h e =
+    let other : k ≢ p.0 = λ f. Lacks_at p.0 ps i d.0 (omega arith) (sym f ∙ sym e) in
+    ap (option_map suc) (place_some k ps i d.1 (omega arith) e) ∙ sym (ap (λ b. cond b (Some 0) (option_map suc (place_of k ps))) (tree_eq-other k p.0 other))
+
+place_none : (k : Tree) (ps : Pairs) → ((i : ℕ) → i < length ps → key_at ps i ≢ k) → None ≡ place_of k ps
+place_none k [] n = refl
+place_none k (p ∷ ps) n =
+    ap (option_map suc) (place_none k ps (λ i h. n (suc i) (omega arith)))
+    ∙ sym (ap (λ b. cond b (Some 0) (option_map suc (place_of k ps))) (tree_eq-other k p.0 (λ e. n 0 (omega arith) (sym e))))
+
+all_apart : (x : ℕ) (xs : List ℕ) → ((j : ℕ) → j < length xs → x ≢ get_or xs j 0) → AllByRecursion (λ y. eqb x y ≡ false) xs
+all_apart x [] n = tt
+all_apart x (y ∷ xs) n = (false_from_ne_true (eqb x y) (λ e. n 0 (omega arith) (eqb-true x y e)), all_apart x xs (λ j h. n (suc j) (omega arith)))
+
+distinct_from : (xs : List ℕ) → ((i j : ℕ) → i < j → j < length xs → get_or xs i 0 ≢ get_or xs j 0) → IsDistinct eqb xs
+unfolding IsDistinct
+distinct_from [] n = tt
+distinct_from (x ∷ xs) n =
+    (all_apart x xs (λ j h. n 0 (suc j) (omega arith) (omega arith)), distinct_from xs (λ i j h g. n (suc i) (suc j) (omega arith) (omega arith)))
+
+below_from : (xs : List ℕ) (n : ℕ) → ((i : ℕ) → i < length xs → get_or xs i 0 < n) → (q : ℕ) → list_any (eqb q) xs ≡ true → q < n
+below_from [] n f q e = cc
+below_from (x ∷ xs) n f q e = by (eqb q x) refl e (below_from xs n (λ i h. f (suc i) (omega arith)) q)
+  where
+    by : (b : Bool) → eqb q x ≡ b → (b || list_any (eqb q) xs) ≡ true → (list_any (eqb q) xs ≡ true → q < n) → q < n
+    by true d e later = omega (arith, eqb-true q x d, f 0 (omega arith))
+    by false d e later = later e
+
+module _ (k : Tree) (rs : List ℕ) (ps : Pairs) (a : AreRanked rs ps) where
+  gap_apart : (r : ℕ) → IsGap k rs ps r → (s : ℕ) → s < length rs → key_of_rank rs ps s ≢ k
+  gap_apart r gap s h e = by (cases_lt s r)
+    where
+      itself : tree_cmp k (key_of_rank rs ps s) ≡ Equal
+      itself = ap (tree_cmp k) e ∙ tied_itself tree_cmp_total k
+
+      by : (s < r) ⊎ (r ≤ s) → ⊥
+      by (inl l) = greater_not_equal (sym (gap.above s l) ∙ itself)
+      by (inr l) = less_not_equal (sym (gap.below s l h) ∙ itself)
+
+  absent_at : (r : ℕ) → IsGap k rs ps r → (p : ℕ) → p < length ps → key_at ps p ≢ k
+  absent_at r gap p h e =
+      let count = length-le_from_distinct_below (p ∷ rs) (length ps) (distinct_from (p ∷ rs) apart) (below_from (p ∷ rs) (length ps) within) in
+      absurd (omega (arith, count, a.counted))
+    where
+      apart : (i j : ℕ) → i < j → j < length (p ∷ rs) → get_or (p ∷ rs) i 0 ≢ get_or (p ∷ rs) j 0
+      apart i zero l g = absurd (omega arith)
+      apart zero (suc j) l g = λ f. gap_apart r gap j (omega arith) (ap (key_at ps) (sym f) ∙ e)
+      apart (suc i) (suc j) l g = rising_apart rs ps a i j (omega arith) (omega arith)
+
+      within : (i : ℕ) → i < length (p ∷ rs) → get_or (p ∷ rs) i 0 < length ps
+      within zero g = h
+      within (suc i) g = a.within i (omega arith)
+
+  pub gap_none : (r : ℕ) → IsGap k rs ps r → None ≡ place_of k ps
+  gap_none r gap = place_none k ps (absent_at r gap)

@@ -1,0 +1,8 @@
+use Rattle.std.proofs.Common.{nat_cmp, ap, ◌∙◌}
+use Rattle.std.specs.Cmp.Lexicographic.{slice_cmp}
+use Rattle.yaml_tree.proofs.TextOrder.{text_cmp}
+use Rattle.yaml_tree.proofs.compare.compare_text.Goals as goal
+
+pub returns-in-String : goal.returns-in-String
+returns-in-String c =
+    rw c.in-String.is (c.cmp.ensures ∙ ap (slice_cmp nat_cmp c.args.text.now) c.as_str.ensures.value ∙ text_cmp c.args.text.now c.in-String.own c.utf8.text)

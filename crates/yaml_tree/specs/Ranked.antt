@@ -1,0 +1,47 @@
+-- A hash's pairs beside the places of their keys in ascending order.
+use Rattle.std.specs.Prelude.{◌≡◌, ℕ, zero, suc, ◌<◌, ◌≤◌, ◌-◌, ◌==◌, nat_lt, cond, List, [], ◌∷◌, length, get_or}
+use Rattle.std.specs.declared.cmp.Ordering.TheVariants.{Less, Greater}
+use Rattle.tree_defs.specs.Tree.{Tree, null}
+use Rattle.tree_defs.specs.Order.{tree_cmp}
+use Rattle.tree_defs.specs.Pairs.{AreDistinct}
+use Rattle.yaml_tree.specs.Flat.{flat, paired}
+
+-- the key at a place; null where there is none
+abbrev pub key_at : List (Tree × Tree) → ℕ → Tree
+key_at [] i = null
+key_at (p ∷ ps) zero = p.0
+key_at (p ∷ ps) (suc i) = key_at ps i
+
+-- the key of a rank
+abbrev pub key_of_rank : List ℕ → List (Tree × Tree) → ℕ → Tree
+key_of_rank rs ps r = key_at ps (get_or rs r 0)
+
+-- the places of all pairs, so that their keys ascend
+pub record AreRanked (rs : List ℕ) (ps : List (Tree × Tree)) : Type 0 where
+  pub counted : length rs ≡ length ps
+  pub within : (r : ℕ) → r < length rs → get_or rs r 0 < length ps
+  pub ascending : (r s : ℕ) → r < s → s < length rs → tree_cmp (key_of_rank rs ps r) (key_of_rank rs ps s) ≡ Less
+
+-- a row of keys and values, of distinct keys, whose ranks are these
+pub record IsHash (ts : List Tree) (rs : List ℕ) : Type 0 where
+  pub even : ts ≡ flat (paired ts)
+  pub distinct : AreDistinct (paired ts)
+  pub ranked : AreRanked rs (paired ts)
+
+-- the key has this rank
+abbrev pub IsRank : Tree → List ℕ → List (Tree × Tree) → ℕ → Type 0
+IsRank k rs ps r = (r < length rs) × (key_of_rank rs ps r ≡ k)
+
+-- the key has no rank, and would have this one
+pub record IsGap (k : Tree) (rs : List ℕ) (ps : List (Tree × Tree)) (r : ℕ) : Type 0 where
+  pub within : r ≤ length rs
+  pub above : (s : ℕ) → s < r → tree_cmp k (key_of_rank rs ps s) ≡ Greater
+  pub below : (s : ℕ) → r ≤ s → s < length rs → tree_cmp k (key_of_rank rs ps s) ≡ Less
+
+-- a place once the pair at another is gone
+abbrev pub closed_up : ℕ → ℕ → ℕ
+closed_up gone p = cond (nat_lt gone p) (p - 1) p
+
+-- a place of so many once the pair at one has gone to the end
+abbrev pub moved_up : ℕ → ℕ → ℕ → ℕ
+moved_up gone n p = cond (p == gone) (n - 1) (closed_up gone p)

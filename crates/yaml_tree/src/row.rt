@@ -1,0 +1,58 @@
+//! Rows of keys and values.
+ghost use Rattle.std.specs.Prelude.{◌≡◌, ◌+◌, ◌*◌, ◌<◌, ◌≤◌, ◌++◌, ◌∷◌, [], length, get_or, IfErr, OnOk, OnErr, vec_len, vec_capacity};
+ghost use Rattle.std.specs.List.{insert, remove};
+
+use crate::ranks::Ranks;
+use crate::yaml::Yaml;
+
+/// Adds a pair at the end, and its place at a rank. An `Err` comes only where memory was refused; then both
+/// are as they were, and the pair is handed back.
+pub(crate) fn add(
+    row: &mut Vec<Yaml>,
+    ranks: &mut Ranks,
+    rank: usize,
+    key: Yaml,
+    value: Yaml,
+) -> Result<(), (Yaml, Yaml)>
+    requires { rank ≤ length ranks.old }
+    ensures row { OnOk result (row.new.items ≡ row.old.items ++ key ∷ value ∷ []) }
+    ensures ranks { OnOk result (ranks.new ≡ insert ranks.old rank (length ranks.old)) }
+    ensures same_row { OnErr result (row.new.items ≡ row.old.items) }
+    ensures same_ranks { OnErr result (ranks.new ≡ ranks.old) }
+    ensures handed_back { IfErr result (λ p. p ≡ (key, value)) }
+{
+    if row.reserve(2).is_err() {
+        return Err((key, value));
+    }
+    let place = ranks.len();
+    if ranks.insert(rank, place).is_err() {
+        return Err((key, value));
+    }
+    row.push_reserved(key);
+    row.push_reserved(value);
+    Ok(())
+}
+
+/// Takes the pair at a place out, and answers its value.
+pub(crate) fn take(row: &mut Vec<Yaml>, place: usize) -> Yaml
+    requires { 2 * place + 1 < length row.old.items }
+    ensures value { result ≡ get_or row.old.items (2 * place + 1) result }
+    ensures rest { row.new.items ≡ remove (remove row.old.items (2 * place)) (2 * place) }
+    ensures len { vec_len row.new + 2 ≡ vec_len row.old }
+    ensures capacity { vec_capacity row.old ≤ vec_capacity row.new }
+{
+    drop(row.remove(2 * place));
+    row.remove(2 * place)
+}
+
+/// Takes the pair at a place out, puts another at the end, and answers the old value.
+pub(crate) fn exchange(row: &mut Vec<Yaml>, place: usize, key: Yaml, value: Yaml) -> Yaml
+    requires { 2 * place + 1 < length row.old.items }
+    ensures value { result ≡ get_or row.old.items (2 * place + 1) result }
+    ensures row { row.new.items ≡ remove (remove row.old.items (2 * place)) (2 * place) ++ key ∷ value ∷ [] }
+{
+    let old = take(row, place);
+    row.push_reserved(key);
+    row.push_reserved(value);
+    old
+}
