@@ -42,3 +42,11 @@ OfLayout text P = (tree : Tree) → IsLaidOut tree text → P (tree ∷ [])
 -- Q of the characters that an iterator always gives.
 abbrev pub OfGiven : {S : Type 0} → (S → Option ℕ → S → Type 0) → S → (List ℕ → Type 0) → Type 0
 OfGiven steps source Q = (text : List ℕ) → AlwaysYields steps (λ c. c) source text → Q text
+
+-- What a load answers of a text: the documents that it is read as, or a fault that has its reason in it; so of a text that is read as
+-- trees, of a JSON text and of one that is laid out just their trees, or want of memory.
+pub record Answers (text : List ℕ) (result : Result (Vec Yaml Global) Fault) : Type 0 where
+  pub reads : LoadsText false text result
+  pub texts : OfText text (LoadsOnly result)
+  pub json : OfJson text (LoadsOnly result)
+  pub laid_out : OfLayout text (LoadsOnly result)

@@ -4,7 +4,7 @@ use Rattle.std.specs.Str.Iter.{chars_rest}
 use Rattle.yaml_chars.specs.Reading.{up_to_nul}
 use Rattle.yaml_parser.specs.Parsed.{parsed}
 use Rattle.yaml_loader.specs.TextLoads.{LoadsText, LoadsOnly}
-use Rattle.yaml_loader.proofs.TextLemmas.{string_may_be, of_texts, of_text, of_json, of_layout}
+use Rattle.yaml_loader.proofs.TextLemmas.{string_may_be, of_texts, of_text, of_json, of_layout, of_first_json, of_first_layout}
 use Rattle.yaml_loader.proofs.loader.YamlLoader.load_from_str.Goals as goal
 
 pub returns-clause-reads : goal.returns-clause-reads
@@ -23,3 +23,9 @@ returns-clause-json c = of_json (chars c.args.source.now) (LoadsOnly c.load_from
 
 pub returns-clause-laid_out : goal.returns-clause-laid_out
 returns-clause-laid_out c = of_layout (chars c.args.source.now) (LoadsOnly c.load_from_parser.result) (returns-clause-texts c)
+
+pub returns-clause-json_before_nul : goal.returns-clause-json_before_nul
+returns-clause-json_before_nul c = of_first_json (up_to_nul (chars c.args.source.now)) (LoadsOnly c.load_from_parser.result) (returns-clause-texts c)
+
+pub returns-clause-laid_out_before_nul : goal.returns-clause-laid_out_before_nul
+returns-clause-laid_out_before_nul c = of_first_layout (up_to_nul (chars c.args.source.now)) (LoadsOnly c.load_from_parser.result) (returns-clause-texts c)
