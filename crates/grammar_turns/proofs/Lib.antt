@@ -1,4 +1,5 @@
 pub mod First
+pub mod Apart
 pub mod Carry
 pub mod Document
 pub mod Nodes

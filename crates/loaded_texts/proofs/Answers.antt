@@ -1,19 +1,20 @@
 -- What a load answers of any text, by a parser that is at its start.
 use Rattle.std.proofs.Common.{◌≡◌, ℕ, true, false, Bool, List, [], ◌∷◌, ◌++◌, length, Some, None, Ok, refl, sym, ap, ◌∙◌, subst, append_assoc, append-nil, inl, inr}
-use Rattle.std.specs.Prelude.{Option, IfSome, Result, ◌||◌}
-use Rattle.std.proofs.lemmas.List.{map-append}
+use Rattle.std.specs.Prelude.{Option, IfSome, Result, ◌||◌, codes}
 use Rattle.yaml_chars.specs.Place.{Place}
 use Rattle.token_defs.specs.Token.{Tok, Token}
 use Rattle.yaml_tokens.specs.Fault.{Fault}
 use Rattle.event_defs.specs.Event.{Ev}
-use Rattle.event_defs.specs.Stream.{IsStream, IsPlacedStream, Begins, BeginsPlaced, Foretells, NoneBegins, toks, events_of}
+use Rattle.event_defs.specs.Stream.{IsStream, IsPlacedStream, BeginsPlaced, Foretells, NoneBegins, toks, events_of}
 use Rattle.event_defs.specs.PulledList.{Answer, event, fault, given}
 use Rattle.event_defs.specs.Push as run
 use Rattle.event_defs.specs.Push.{Standing, load, load_from, before_stream, between, inside}
+use Rattle.event_defs.specs.Nested.{nested_stream}
 use Rattle.event_defs.proofs.AllPushed.{all_pushed}
 use Rattle.event_defs.proofs.StreamNests.{stream_nests}
 use Rattle.yaml_scanner.specs.Scanned.{ScansIn, IsRefusal}
 use Rattle.yaml_parser.specs.Parsed.{Parsed, is_stream_end, has_end, read}
+use Rattle.yaml_parser.specs.Blames.{Blames}
 use Rattle.yaml_parser.specs.Follows.{Follows, Refused, IsWhole, Explains}
 use Rattle.yaml_parser.specs.Loads as loads
 use Rattle.yaml_parser.specs.Loads.{PullsAll, no_call, one_call, Receives, EndsSo, Loads}
@@ -69,27 +70,21 @@ all_are_pushed keep_tags tokens es stream =
     let w = all_pushed Fault nested.0 es (sym nested.1) in
     (ap (λ l. l.pushed) w, ap (λ l. l.ending) w)
 
-placed_stream : (keep_tags : Bool) (tokens : List Token) (es : List (Ev × Place)) → IsPlacedStream keep_tags tokens es → IsStream keep_tags (toks tokens) (events_of es)
+-- the same without places
+pub placed_stream : (keep_tags : Bool) (tokens : List Token) (es : List (Ev × Place)) → IsPlacedStream keep_tags tokens es → IsStream keep_tags (toks tokens) (events_of es)
 placed_stream keep_tags tokens es s = record { documents = s.documents; has_tokens = s.has_tokens; has_events = s.has_events }
 
-events_append : (es fs : List (Ev × Place)) → events_of (es ++ fs) ≡ events_of es ++ events_of fs
-events_append es fs = map-append (λ (e : Ev × Place). e.0) es fs
-
-toks_append : (ts us : List Token) → toks (ts ++ us) ≡ toks ts ++ toks us
-toks_append ts us = map-append (λ (t : Token). t.tok) ts us
+-- The text's tokens are a stream, with its nested events.
+pub nested_is_stream : {keep_tags : Bool} {text : List ℕ} {es : List (Ev × Place)} (h : HasEvents keep_tags text es) → IsStream keep_tags (toks h.tokens) (nested_stream h.documents)
+nested_is_stream {keep_tags} {text} {es} h = subst (IsStream keep_tags (toks h.tokens)) h.events_are (placed_stream keep_tags h.tokens es h.stream)
 
 -- Events of which more stand behind these begin a stream too.
-begins_too : (keep_tags : Bool) (tokens : List Token) (es fs : List (Ev × Place)) → BeginsPlaced keep_tags tokens (es ++ fs) → Begins keep_tags (toks tokens) (events_of es)
-begins_too keep_tags tokens es fs b =
-    let stream = placed_stream keep_tags (tokens ++ b.more_tokens) ((es ++ fs) ++ b.more_events) b.stream in
-    let parts : events_of ((es ++ fs) ++ b.more_events) ≡ events_of es ++ events_of (fs ++ b.more_events) =
-    ap events_of (append_assoc es fs b.more_events) ∙ events_append es (fs ++ b.more_events) in
-    record {
-      more_tokens = toks b.more_tokens;
-      more_events = events_of (fs ++ b.more_events);
-      stream = subst (λ ts. IsStream keep_tags ts (events_of es ++ events_of (fs ++ b.more_events))) (toks_append tokens b.more_tokens)
-          (subst (λ vs. IsStream keep_tags (toks (tokens ++ b.more_tokens)) vs) parts stream);
-    }
+begins_too : (keep_tags : Bool) (tokens : List Token) (es fs : List (Ev × Place)) → BeginsPlaced keep_tags tokens (es ++ fs) → BeginsPlaced keep_tags tokens es
+begins_too keep_tags tokens es fs b = record {
+  more_tokens = b.more_tokens;
+  more_events = fs ++ b.more_events;
+  stream = subst (IsPlacedStream keep_tags (tokens ++ b.more_tokens)) (append_assoc es fs b.more_events) b.stream;
+}
 
 -- ---- a call that has pushed the stream's end
 
@@ -134,10 +129,10 @@ has_all_events text p scans s =
     let stream = placed_stream p.keep_tags p.scanner.given p.given s in
     let nested = stream_nests p.keep_tags (toks p.scanner.given) (events_of p.given) stream in
     record {
-      tokens = toks p.scanner.given;
-      has = (p.scanner.given, all_tokens text p.scanner.given s.documents scans.reached s.has_tokens, refl);
+      tokens = p.scanner.given;
+      has = all_tokens text p.scanner.given s.documents scans.reached s.has_tokens;
+      stream = s;
       documents = nested.0;
-      stream = subst (IsStream p.keep_tags (toks p.scanner.given)) (sym nested.1) stream;
       events_are = sym nested.1;
     }
 
@@ -160,21 +155,24 @@ ends_whole {takes = takes} {r = r} {s = s} {text = text} answers p b clear h rec
 fault_of : (text : List ℕ) (answers : List (Answer Fault)) (p : Parsed) (f : Fault) → Behind text answers p → Explains f p → IsFaultOf p.keep_tags text f
 fault_of text answers p f b why = elim why [
   | inl kept ↦ by_scanner f.memory refl kept
-  | inr other ↦ elim other [ inl memory ↦ wants_memory memory | inr cut ↦ by_grammar (cut b.steady) ]
+  | inr other ↦ elim other [ inl wants ↦ wants_memory wants | inr cut ↦ by_grammar cut.blames (cut.refused b.steady) ]
 ]
   where
     refusal : (o : Option Fault) → o ≡ Some f → IfSome o (λ g. g.memory ≡ false → IsRefusal text g) → f.memory ≡ false → IsRefusal text f
     refusal None e h m = cc
     refusal (Some g) e h m = let same : g ≡ f = cc in subst (IsRefusal text) same (h (ap (λ x. x.memory) same ∙ m))
 
+    says : (o : Option Fault) → o ≡ Some f → IfSome o (λ g. g.memory ≡ true → g.text ≡ codes "out of memory") → f.memory ≡ true → f.text ≡ codes "out of memory"
+    says None e h m = cc
+    says (Some g) e h m = let same : g ≡ f = cc in ap (λ x. x.text) (sym same) ∙ h (ap (λ x. x.memory) same ∙ m)
+
     by_scanner : (m : Bool) → f.memory ≡ m → p.scanner.fault ≡ Some f → IsFaultOf p.keep_tags text f
-    by_scanner true m kept = wants_memory m
+    by_scanner true m kept = wants_memory (record { memory = m; text = says p.scanner.fault kept b.scans.wants m })
     by_scanner false m kept = no_token (refusal p.scanner.fault kept b.scans.refused m)
 
-    by_grammar : Refused p → IsFaultOf p.keep_tags text f
-    by_grammar r =
-        no_stream r.before r.last (events_of (read p)) (subst (AreFirst text) r.tokens (first_tokens text p.scanner b.scans))
-        (begins_too p.keep_tags r.before (read p) [] (subst (BeginsPlaced p.keep_tags r.before) (sym (append-nil (read p))) r.begins))
+    by_grammar : Blames f p.scanner.given → Refused p → IsFaultOf p.keep_tags text f
+    by_grammar blames r =
+        no_stream r.before r.last (read p) (subst (AreFirst text) r.tokens (first_tokens text p.scanner b.scans)) (subst (Blames f) r.tokens blames) r.begins
         (subst (λ ts. NoneBegins p.keep_tags (toks ts)) r.tokens r.none)
 
 -- An event that is no document's start never stands between documents.

@@ -5,7 +5,7 @@ use Rattle.yaml_chars.specs.Place.{Place}
 use Rattle.tree_defs.specs.Tree.{Tree}
 use Rattle.yaml_tokens.specs.Fault.{Fault}
 use Rattle.event_defs.specs.Event.{Ev}
-use Rattle.event_defs.specs.Stream.{IsStream, toks}
+use Rattle.event_defs.specs.Stream.{IsStream, toks, events_of}
 use Rattle.scan_model.proofs.Runs.{one_list, not_refused}
 use Rattle.layout_defs.specs.Json.{spell_text, tree_of}
 use Rattle.read_json.proofs.Loads.{streams_are_loaded, foretold_are_not_refused, streams_are_not_cut}
@@ -17,25 +17,24 @@ use Rattle.loaded_texts.specs.LoadsAs as loads
 use Rattle.loaded_texts.specs.Laws.{ReadTextsAreLoaded, JsonTextsAreLoaded}
 use Rattle.loaded_texts.proofs.Texts.{goes_on}
 use Rattle.loaded_texts.proofs.Spelled.{json_texts_are_read}
-use Rattle.loaded_texts.proofs.Answers.{texts_are_answered}
+use Rattle.loaded_texts.proofs.Answers.{placed_stream, texts_are_answered}
 
 -- A fault of such a text is want of memory.
 pub memory_is_wanted : (keep_tags : Bool) (text : List ℕ) (trees : List Tree) (f : Fault) → IsReadAs keep_tags text trees → IsFaultOf keep_tags text f → f.memory ≡ true
-memory_is_wanted keep_tags text trees f x (wants_memory memory) = memory
+memory_is_wanted keep_tags text trees f x (wants_memory wants) = wants.memory
 memory_is_wanted keep_tags text trees f x (no_token r) = absurd (not_refused text x.has.0 r.fault x.has.1 r.refused)
-memory_is_wanted keep_tags text trees f x (no_stream before last events first begins none) =
+memory_is_wanted keep_tags text trees f x (no_stream before last events first blames begins none) =
     let y = goes_on keep_tags text trees (before ++ last ∷ []) x first in
     absurd (streams_are_not_cut keep_tags (toks (before ++ last ∷ [])) y.more trees y.reads none)
 
-same_tokens : (keep_tags : Bool) (text : List ℕ) (trees : List Tree) (es : List (Ev × Place)) (x : IsReadAs keep_tags text trees) (h : HasEvents keep_tags text es) → h.tokens ≡ x.tokens
-same_tokens keep_tags text trees es x h = sym h.has.2 ∙ ap toks (one_list text h.has.0 x.has.0 h.has.1 x.has.1) ∙ x.has.2
+same_tokens : (keep_tags : Bool) (text : List ℕ) (trees : List Tree) (es : List (Ev × Place)) (x : IsReadAs keep_tags text trees) (h : HasEvents keep_tags text es) → toks h.tokens ≡ x.tokens
+same_tokens keep_tags text trees es x h = ap toks (one_list text h.tokens x.has.0 h.has x.has.1) ∙ x.has.2
 
 loads_as : {R : Type 0} {takes : R → Ev → Place → Result (Unit {0}) Fault → R → Type 0} {r s : R} {keep_tags : Bool} {text : List ℕ} {trees : List Tree} {result : Result (Unit {0}) Fault}
     → IsReadAs keep_tags text trees → AnswersText takes keep_tags text r result s → LoadsAs takes trees r result s
 loads_as {keep_tags = keep_tags} {text = text} {trees = trees} x (answers.whole es h received) =
     let same = same_tokens keep_tags text trees es x h in
-    let stream = subst (IsStream keep_tags h.tokens) (sym h.events_are) h.stream in
-    well es received (streams_are_loaded keep_tags x.tokens trees es x.read (subst (λ ts. IsStream keep_tags ts _) same stream))
+    well es received (streams_are_loaded keep_tags x.tokens trees es x.read (subst (λ ts. IsStream keep_tags ts (events_of es)) same (placed_stream keep_tags h.tokens es h.stream)))
 loads_as {keep_tags = keep_tags} {text = text} {trees = trees} x (answers.faulted {f = f} es why received) = loads.wants_memory es received (memory_is_wanted keep_tags text trees f x why)
 loads_as {keep_tags = keep_tags} {text = text} {trees = trees} x (answers.refused es e p b received takes) =
     let y = goes_on keep_tags text trees _ x b.first in

@@ -1,6 +1,7 @@
 -- What a call that reads, decodes and loads answers.
 use Rattle.std.specs.Prelude.{◌≡◌, ℕ, List, Bool, true, false, Option, IfSome, Result, Ok, Err, String, Vec, ⊤}
 use Rattle.std.specs.declared.alloc.Global.{Global}
+use Rattle.std.specs.Io.KnownBytes.{Consumes}
 use Rattle.std.specs.IoError.{error_kind}
 use Rattle.std.specs.declared.io.ErrorKind.{ErrorKind}
 use Rattle.std.specs.declared.io.ErrorKind.TheVariants.{OutOfMemory}
@@ -57,6 +58,10 @@ WhereLoaded (Ok documents) P = P
 WhereLoaded (Err (Decode m)) P = P
 WhereLoaded (Err (Scan f)) P = P
 WhereLoaded (Err (IO e)) P = ⊤
+
+-- what a source still has is an end of what it had, where it told that: the bytes before were read
+abbrev pub LeavesEnd : Option (List ℕ) → Option (List ℕ) → Type 0
+LeavesEnd old new = (bytes : List ℕ) × Consumes old new bytes
 
 -- what holds of some bytes, which are those that a source still had, where it tells them
 abbrev pub HasBytes : Option (List ℕ) → (List ℕ → Type 0) → Type 0

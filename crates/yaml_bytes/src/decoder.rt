@@ -4,7 +4,7 @@ ghost use Rattle.std.specs.Io.KnownBytes.{IsAtEnd};
 ghost use Rattle.yaml_decoder.specs.Decoding.{text, parts, ignored, replaced, strict, IsDecodedByCalls};
 ghost use Rattle.yaml_decoder.specs.Steps.{IsStep};
 ghost use Rattle.yaml_chars.specs.Text.{string_chars};
-ghost use Rattle.yaml_bytes.specs.Read.{DecodedIs, Loads, LoadedIs, HasBytes, WhereDecoded, WhereLoaded, wants_memory};
+ghost use Rattle.yaml_bytes.specs.Read.{DecodedIs, Loads, LoadedIs, HasBytes, LeavesEnd, WhereDecoded, WhereLoaded, wants_memory};
 
 use std::alloc::{AllocError, Global};
 use std::io;
@@ -99,7 +99,8 @@ impl<T: Read> YamlDecoder<T> {
     ///
     /// # Errors
     ///
-    /// [`LoadError::IO`] is the error of the source, or says that memory was refused; the source stands where reading stopped.
+    /// [`LoadError::IO`] is the error of the source, or says that memory was refused; the source stands where reading stopped, and
+    /// what it still has is the end of what it had.
     /// [`LoadError::Decode`] has the message of a stop: `Invalid character sequence at {place}: {bytes}`, or that of the function
     /// that was called. [`LoadError::Scan`] is the text's fault. Behind these two the source stands at its end.
     pub fn decode(&mut self) -> Result<Vec<Yaml>, LoadError>
@@ -108,6 +109,7 @@ impl<T: Read> YamlDecoder<T> {
         ensures strict { self.old.trap ≡ YAMLDecodingTrap.Strict → LoadedIs result (λ o. HasBytes (T.remaining self.old.source) (λ bytes. o ≡ strict (parts bytes))) }
         ensures call { (f : _) → self.old.trap ≡ YAMLDecodingTrap.Call f → LoadedIs result (λ o. HasBytes (T.remaining self.old.source) (λ bytes. IsDecodedByCalls (IsStep (post f.function)) bytes o)) }
         ensures end { WhereLoaded result (IsAtEnd (T.remaining self.new.source)) }
+        ensures rest { LeavesEnd (T.remaining self.old.source) (T.remaining self.new.source) }
         ensures same { self.new.trap ≡ self.old.trap }
     {
         match self.text() {
@@ -123,6 +125,7 @@ impl<T: Read> YamlDecoder<T> {
         ensures strict { self.old.trap ≡ YAMLDecodingTrap.Strict → DecodedIs result (λ o. HasBytes (T.remaining self.old.source) (λ bytes. o ≡ strict (parts bytes))) }
         ensures call { (f : _) → self.old.trap ≡ YAMLDecodingTrap.Call f → DecodedIs result (λ o. HasBytes (T.remaining self.old.source) (λ bytes. IsDecodedByCalls (IsStep (post f.function)) bytes o)) }
         ensures end { WhereDecoded result (IsAtEnd (T.remaining self.new.source)) }
+        ensures rest { LeavesEnd (T.remaining self.old.source) (T.remaining self.new.source) }
         ensures same { self.new.trap ≡ self.old.trap }
     {
         let mut bytes = Vec::new(self.alloc);

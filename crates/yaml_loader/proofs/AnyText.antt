@@ -3,10 +3,10 @@ use Rattle.std.proofs.Common.{◌≡◌, ℕ, Bool, List, [], ◌∷◌, ◌++�
 use Rattle.std.specs.Prelude.{Option, Some, None, Result, Ok, Err, String, map}
 use Rattle.std.specs.declared.alloc.Global.{Global}
 use Rattle.yaml_chars.specs.Place.{Place}
-use Rattle.token_defs.specs.Token.{Tok}
+use Rattle.token_defs.specs.Token.{Token}
 use Rattle.tree_defs.specs.Tree.{Tree}
 use Rattle.event_defs.specs.Event.{Ev}
-use Rattle.event_defs.specs.Stream.{IsStream, Begins, events_of, toks}
+use Rattle.event_defs.specs.Stream.{BeginsPlaced, events_of, toks}
 use Rattle.event_defs.specs.Nested.{NestedDocument, nested_stream}
 use Rattle.event_defs.specs.Reading.{reading}
 use Rattle.event_defs.specs.Unfinished.{Loader, at_work, noted, new_loader, with_event_at, with_events, refused_at}
@@ -16,15 +16,15 @@ use Rattle.event_defs.proofs.OneByOne.{one_by_one}
 use Rattle.event_defs.proofs.StreamNests.{stream_nests}
 use Rattle.yaml_tokens.specs.Fault.{Fault}
 use Rattle.yaml_scanner.specs.Scanned.{ScansIn, MayBe, Scans}
+use Rattle.yaml_parser.specs.Blames.{WantsMemory}
 use Rattle.yaml_parser.specs.Parsed.{Parsed}
 use Rattle.yaml_parser.specs.Loads.{Receives, Loads}
 use Rattle.loaded_texts.specs.TextReadAs.{IsReadAs, IsAtStart}
 use Rattle.loaded_texts.specs.TextEvents.{HasEvents, BeginsEvents, IsFaultOf, wants_memory, AnswersText, whole, faulted, refused}
-use Rattle.loaded_texts.proofs.Answers.{texts_are_answered}
+use Rattle.loaded_texts.proofs.Answers.{placed_stream, nested_is_stream, texts_are_answered}
 use Rattle.yaml_loader.specs.declared.loader.Course.{Course}
 use Rattle.yaml_loader.specs.declared.loader.Course.TheVariants as course
 use Rattle.yaml_loader.specs.declared.loader.YamlLoader.{YamlLoader}
-use Rattle.loaded_texts.proofs.OneReading.{somewhere, with_somewhere}
 use Rattle.yaml_loader.specs.Alike.{StandAlike}
 use Rattle.yaml_loader.specs.View.{unfinished_of, repeated_key}
 use Rattle.yaml_loader.specs.Loading.{loader_of, loader_by, kept_fault, IsNewFault, Takes}
@@ -48,20 +48,20 @@ nothing_read_refused : (r : Result (List Tree) Tree) (documents : List Tree) (p 
 nothing_read_refused (Ok trees) documents p h = h
 nothing_read_refused (Err key) documents p h = h
 
-not_refused : (keep_tags : Bool) (tokens : List Tok) (es : List (Ev × Place)) (p : Place) → Begins keep_tags tokens (events_of es) → refused_at (with_events new_loader es) ≡ Some p → ⊥
+not_refused : (keep_tags : Bool) (tokens : List Token) (es : List (Ev × Place)) (p : Place) → BeginsPlaced keep_tags tokens es → refused_at (with_events new_loader es) ≡ Some p → ⊥
 not_refused keep_tags tokens es p b = by (with_events new_loader es) refl
   where
     all : List (Ev × Place)
-    all = es ++ map somewhere b.more_events
+    all = es ++ b.more_events
 
     by : (x : Loader) → with_events new_loader es ≡ x → refused_at x ≡ Some p → ⊥
     by (at_work u) e h = cc
     by (noted documents key q) e h = cc
     by (unfinished.refused documents q) e h =
-        let nested = stream_nests keep_tags (tokens ++ b.more_tokens) (events_of es ++ b.more_events) b.stream in
-        let read = one_by_one nested.0 all (with_somewhere es b.more_events ∙ sym nested.1) in
+        let nested = stream_nests keep_tags (toks (tokens ++ b.more_tokens)) (events_of all) (placed_stream keep_tags (tokens ++ b.more_tokens) all b.stream) in
+        let read = one_by_one nested.0 all (sym nested.1) in
         let stays : with_events new_loader all ≡ unfinished.refused documents q =
-        events_append new_loader es (map somewhere b.more_events) ∙ ap (λ x. with_events x (map somewhere b.more_events)) e ∙ refused_stays documents q (map somewhere b.more_events) in
+        events_append new_loader es b.more_events ∙ ap (λ x. with_events x b.more_events) e ∙ refused_stays documents q b.more_events in
         nothing_read_refused (reading nested.0) documents q (subst (HasRead (reading nested.0)) stays read)
 
 -- ---- how the loader is left
@@ -72,10 +72,10 @@ LeftBy keep_tags text (Ok u) n = (es : List (Ev × Place)) × HasEvents keep_tag
 LeftBy keep_tags text (Err f) n = IsFaultOf keep_tags text f
 
 refuses_for_memory : {keep_tags : Bool} {text : List ℕ} (es : List (Ev × Place)) (e : Ev) (p : Place) (f : Fault) → IsNewFault f p (with_event_at (with_events new_loader es) e p) → BeginsEvents keep_tags text (es ++ (e, p) ∷ [])
-    → f.memory ≡ true
+    → WantsMemory f
 refuses_for_memory {keep_tags} es e p f why b = elim why [
-  | inl memory ↦ ap (λ g. g.memory) memory
-  | inr nesting ↦ absurd (not_refused keep_tags (toks b.before) (es ++ (e, p) ∷ []) p b.begins (ap refused_at (with_last new_loader es e p) ∙ nesting.1))
+  | inl wants ↦ record { memory = ap (λ g. g.memory) wants; text = ap (λ g. g.text) wants }
+  | inr nesting ↦ absurd (not_refused keep_tags b.before (es ++ (e, p) ∷ []) p b.begins (ap refused_at (with_last new_loader es e p) ∙ nesting.1))
 ]
 
 left_by : {l n : YamlLoader} {keep_tags : Bool} {text : List ℕ} {result : Result (Unit {0}) Fault} → loader_of l ≡ new_loader → kept_fault l ≡ None → AnswersText Takes keep_tags text l result n → LeftBy keep_tags text result n
@@ -103,11 +103,11 @@ pub documents_are_read : {keep_tags : Bool} {text : List ℕ} (n : YamlLoader) �
 documents_are_read n (es, h, r) e =
     let x = with_events new_loader es in
     record {
-      tokens = h.tokens;
-      has = h.has;
+      tokens = toks h.tokens;
+      has = (h.tokens, h.has, refl);
       read = record {
         documents = h.documents;
-        stream = h.stream;
+        stream = nested_is_stream h;
         trees_are = was_read (reading h.documents) x n (one_by_one h.documents es h.events_are) (with_course n course.Reading x e r.alike);
       };
     }

@@ -3,7 +3,6 @@ pub mod GoOnAlike
 pub mod LastPair
 pub mod LoadLemmas
 pub mod OpenedLemmas
-mod QuotedLoads
 pub mod Reals
 pub mod Tags
 pub mod Words

@@ -6,7 +6,7 @@ use Rattle.std.specs.Str.{chars, IsUtf8}
 use Rattle.std.specs.Str.Iter.{chars_steps, chars_rest}
 use Rattle.std.specs.declared.str.Chars.{Chars}
 use Rattle.yaml_chars.specs.Source.{CameFrom}
-use Rattle.yaml_chars.specs.Reading.{HasNoNul, up_to_nul}
+use Rattle.yaml_chars.specs.Reading.{HasNoNul, up_to_nul, Begins}
 use Rattle.yaml_chars.specs.Place.{Place}
 use Rattle.yaml_chars.proofs.SpelledLemmas.{Chars-spelled}
 use Rattle.token_defs.specs.Token.{Tok}
@@ -31,11 +31,13 @@ use Rattle.yaml_parser.specs.Parsed.{Parsed}
 use Rattle.loaded_texts.specs.TextReadAs.{IsReadAs, IsAtStart}
 use Rattle.loaded_texts.specs.Spelled.{IsWithoutNul}
 use Rattle.loaded_texts.proofs.Loads.{memory_is_wanted}
+use Rattle.loaded_texts.proofs.Answers.{nested_is_stream}
 use Rattle.loaded_texts.proofs.OneReading.{one_reading}
 use Rattle.loaded_texts.proofs.Spelled.{characters_are_the_text, json_texts_are_read, layout_texts_are_read}
 use Rattle.loaded_texts.proofs.JsonNul.{json_texts_have_no_nul}
 use Rattle.loaded_texts.proofs.LayoutNul.{layout_texts_have_no_nul}
-use Rattle.yaml_loader.specs.TextLoads.{LoadsText, LoadsOnly, OfTexts, OfText, OfGiven, OfJson, OfLayout}
+use Rattle.loaded_texts.proofs.QuotedTexts.{quoted_texts_are_read, quoted_texts_have_no_nul}
+use Rattle.yaml_loader.specs.TextLoads.{LoadsText, LoadsOnly, OfTexts, OfText, OfGiven, OfJson, OfLayout, OfQuoted, Answers}
 use Rattle.yaml_loader.specs.Unread.{of_parser}
 use Rattle.yaml_loader.specs.Unread as unread
 
@@ -43,7 +45,7 @@ use Rattle.yaml_loader.specs.Unread as unread
 loads_only : {text : List ℕ} {trees : List Tree} (result : Result (Vec Yaml Global) Fault) → LoadsText false text result → IsReadAs false text trees → LoadsOnly result trees
 loads_only (Ok documents) h x = let same = one_reading h.tokens h.read.documents h.has h.read.stream x in let both = sym h.read.trees_are ∙ same in cc
 loads_only {text} {trees} (Err f) (of_parser why) x = memory_is_wanted false text trees f x why
-loads_only (Err f) (unread.repeated_key es h key twice at owned) x = let same = one_reading h.tokens h.documents h.has h.stream x in cc
+loads_only (Err f) (unread.repeated_key es h key twice at owned) x = let same = one_reading (toks h.tokens) h.documents (h.tokens, h.has, refl) (nested_is_stream h) x in cc
 
 -- ---- the text behind an iterator
 
@@ -60,10 +62,21 @@ pub given_may_be : {S : Type 0} (steps : S → Option ℕ → S → Type 0) (sou
     → OfGiven steps source (λ text. MayBe s (up_to_nul text))
 given_may_be steps source start s same came no_nul = λ all always. characters_are_the_text steps source all s always (subst (λ i. CameFrom steps i s.taken s.done) same came) no_nul
 
+-- What the iterator gave is the beginning of a text, of which P holds.
+pub begins_given : {S : Type 0} {P : List ℕ → Type 0} (steps : S → Option ℕ → S → Type 0) (source start : S) (s : Scanned) → start ≡ source → CameFrom steps start s.taken s.done → HasNoNul s.taken
+    → ((text : List ℕ) → MayBe s text → P text) → Begins steps source P
+begins_given steps source start s same came no_nul holds = record {
+  taken = s.taken;
+  done = s.done;
+  came = subst (λ i. CameFrom steps i s.taken s.done) same came;
+  no_nul = no_nul;
+  holds = λ text begins ends. holds text (record { begins = begins; ends = ends });
+}
+
 -- ---- texts whose one tree is known
 
 -- P of the tree that a text without NUL is read as
-pub of_one : (spelt text : List ℕ) (t tree : Tree) (P : List Tree → Type 0) → IsWithoutNul spelt → IsReadAs false spelt (t ∷ []) → spelt ≡ text → t ≡ tree → OfText (up_to_nul text) P → P (tree ∷ [])
+of_one : (spelt text : List ℕ) (t tree : Tree) (P : List Tree → Type 0) → IsWithoutNul spelt → IsReadAs false spelt (t ∷ []) → spelt ≡ text → t ≡ tree → OfText (up_to_nul text) P → P (tree ∷ [])
 of_one spelt text t tree P free reads e same h = subst (λ u. P (u ∷ [])) same (h (t ∷ []) (subst (λ a. IsReadAs false a (t ∷ [])) (sym free ∙ ap up_to_nul e) reads))
 
 pub of_json : (text : List ℕ) (P : List Tree → Type 0) → OfText (up_to_nul text) P → OfJson text P
@@ -71,3 +84,26 @@ of_json text P h tree (w, is, e, same) = of_one (spell_text w) text (tree_of w.v
 
 pub of_layout : (text : List ℕ) (P : List Tree → Type 0) → OfText (up_to_nul text) P → OfLayout text P
 of_layout text P h tree (w, is, e, same) = of_one (layout.spell w []) text (layout.tree_of w) tree P (layout_texts_have_no_nul w is) (layout_texts_are_read false w is) e same h
+
+pub of_quoted : (text : List ℕ) (P : List Tree → Type 0) → OfText (up_to_nul text) P → OfQuoted text P
+of_quoted text P h value is =
+    of_one text text (Tree.string value) (Tree.string value) P (quoted_texts_have_no_nul text value is) (quoted_texts_are_read false text value is) refl refl h
+
+-- the same of a text that ends before a NUL
+of_first : (spelt text : List ℕ) (t tree : Tree) (P : List Tree → Type 0) → IsReadAs false spelt (t ∷ []) → spelt ≡ text → t ≡ tree → OfText text P → P (tree ∷ [])
+of_first spelt text t tree P reads e same h = subst (λ u. P (u ∷ [])) same (h (t ∷ []) (subst (λ a. IsReadAs false a (t ∷ [])) e reads))
+
+pub of_first_json : (text : List ℕ) (P : List Tree → Type 0) → OfText text P → OfJson text P
+of_first_json text P h tree (w, is, e, same) = of_first (spell_text w) text (tree_of w.value) tree P (json_texts_are_read false w is) e same h
+
+pub of_first_layout : (text : List ℕ) (P : List Tree → Type 0) → OfText text P → OfLayout text P
+of_first_layout text P h tree (w, is, e, same) = of_first (layout.spell w []) text (layout.tree_of w) tree P (layout_texts_are_read false w is) e same h
+
+pub of_first_quoted : (text : List ℕ) (P : List Tree → Type 0) → OfText text P → OfQuoted text P
+of_first_quoted text P h value is = h (Tree.string value ∷ []) (quoted_texts_are_read false text value is)
+
+-- all that a load answers of a text
+pub answers : (text : List ℕ) (result : Result (Vec Yaml Global) Fault) → LoadsText false text result → Answers text result
+answers text result h =
+    let texts = of_text text result h in
+    record { reads = h; texts = texts; json = of_first_json text (LoadsOnly result) texts; laid_out = of_first_layout text (LoadsOnly result) texts; quoted = of_first_quoted text (LoadsOnly result) texts }

@@ -2,7 +2,6 @@ pub mod Alike
 pub mod Laws
 pub mod Loading
 pub mod Loads
-pub mod QuotedLoads
 pub mod Reached
 pub mod TextLoads
 pub mod Unread

@@ -5,6 +5,7 @@ use Rattle.std.specs.declared.alloc.Global.{Global}
 use Rattle.tree_defs.specs.Tree.{Tree}
 use Rattle.layout_defs.specs.Json.{IsJsonText}
 use Rattle.layout_defs.specs.Layout.{IsLaidOut}
+use Rattle.laid_tokens.specs.QuotedText.{IsQuoted}
 use Rattle.yaml_tokens.specs.Fault.{Fault}
 use Rattle.yaml_tree.specs.View.{items_view}
 use Rattle.yaml_tree.specs.declared.yaml.Yaml.{Yaml}
@@ -39,6 +40,19 @@ OfJson text P = (tree : Tree) → IsJsonText tree text → P (tree ∷ [])
 abbrev pub OfLayout : List ℕ → (List Tree → Type 0) → Type 0
 OfLayout text P = (tree : Tree) → IsLaidOut tree text → P (tree ∷ [])
 
+-- P of the string that is the value of the text's one quoted scalar, with line feeds alone behind it.
+abbrev pub OfQuoted : List ℕ → (List Tree → Type 0) → Type 0
+OfQuoted text P = (value : List ℕ) → IsQuoted value text → P (Tree.string value ∷ [])
+
 -- Q of the characters that an iterator always gives.
 abbrev pub OfGiven : {S : Type 0} → (S → Option ℕ → S → Type 0) → S → (List ℕ → Type 0) → Type 0
 OfGiven steps source Q = (text : List ℕ) → AlwaysYields steps (λ c. c) source text → Q text
+
+-- What a load answers of a text: the documents that it is read as, or a fault that has its reason in it; so of a text that is read as
+-- trees, of a JSON text, of one that is laid out and of one quoted scalar just their trees, or want of memory.
+pub record Answers (text : List ℕ) (result : Result (Vec Yaml Global) Fault) : Type 0 where
+  pub reads : LoadsText false text result
+  pub texts : OfText text (LoadsOnly result)
+  pub json : OfJson text (LoadsOnly result)
+  pub laid_out : OfLayout text (LoadsOnly result)
+  pub quoted : OfQuoted text (LoadsOnly result)

@@ -10,7 +10,9 @@ use Rattle.yaml_loader.specs.Loads.{HasNoted}
 use Rattle.loaded_texts.specs.TextEvents.{HasEvents, IsFaultOf}
 
 pub data IsUnread (keep_tags : Bool) (text : List ℕ) (f : Fault) : Type 0 where
-  -- Memory was refused, or the scanner refuses the text so, or no stream begins with its first tokens.
+  -- Memory was refused, or the scanner refuses the text so, or no stream begins with its first tokens, of which the fault blames
+  -- the last.
   of_parser : IsFaultOf keep_tags text f → IsUnread keep_tags text f
-  -- The text has events, and a key comes twice in them, first at the fault's place: that of its second value.
+  -- The text has events, and a key comes twice in them, first at the fault's place: that of the event that ends its second
+  -- value, so where this is a scalar or an alias, that of its token.
   repeated_key : (es : List (Ev × Place)) (h : HasEvents keep_tags text es) (key : Tree) → reading h.documents ≡ Err key → HasNoted (with_events new_loader es) f.place → f.memory ≡ false → IsUnread keep_tags text f

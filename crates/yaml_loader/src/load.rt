@@ -3,12 +3,11 @@ ghost use Rattle.std.specs.Prelude.{◌≡◌, ◌^◌, ◌<◌, false, None, If
 ghost use Rattle.std.specs.Iterator.{IsFinite, size};
 ghost use Rattle.event_defs.specs.NoAlias.{HasNoAlias};
 ghost use Rattle.yaml_tree.specs.View.{items_view};
-ghost use Rattle.yaml_chars.specs.Reading.{HasNoNul, up_to_nul};
+ghost use Rattle.yaml_chars.specs.Reading.{HasNoNul, up_to_nul, Begins};
 ghost use Rattle.yaml_chars.specs.Source.{CameFrom};
 ghost use Rattle.yaml_parser.specs.Parsed.{parsed};
 ghost use Rattle.yaml_loader.specs.Loads.{AreLoaded, IsLoadFault};
-ghost use Rattle.yaml_loader.specs.QuotedLoads.{OfQuoted};
-ghost use Rattle.yaml_loader.specs.TextLoads.{LoadsText, LoadsOnly, OfTexts, OfText, OfGiven, OfJson, OfLayout};
+ghost use Rattle.yaml_loader.specs.TextLoads.{LoadsText, LoadsOnly, OfTexts, OfText, OfGiven, OfJson, OfLayout, OfQuoted, Answers};
 
 use crate::loader::{Course, YamlLoader, out_of_nesting};
 use event_defs::laws::loaded_trees_have_no_alias;
@@ -36,6 +35,9 @@ impl YamlLoader {
         ensures json { OfJson (chars source.now) (LoadsOnly result) }
         ensures laid_out { OfLayout (chars source.now) (LoadsOnly result) }
         ensures quoted { OfQuoted (chars source.now) (LoadsOnly result) }
+        ensures json_before_nul { OfJson (up_to_nul (chars source.now)) (LoadsOnly result) }
+        ensures laid_out_before_nul { OfLayout (up_to_nul (chars source.now)) (LoadsOnly result) }
+        ensures quoted_before_nul { OfQuoted (up_to_nul (chars source.now)) (LoadsOnly result) }
     {
         let mut parser = Parser::new_from_str(alloc, source);
         YamlLoader::load_from_parser(alloc, &mut parser)
@@ -49,6 +51,9 @@ impl YamlLoader {
         requires can { I.can_next source }
         requires finite { IsFinite (I.remaining source) }
         requires few { size (I.remaining source) < 2 ^ 63 }
+        // Whatever iterator it is: of the characters that it gave, up to its end or to a NUL, with whatever might have come
+        // behind them where a fault came first.
+        ensures given { Begins I.next_gives source (λ text. Answers text result) }
         ensures reads { OfGiven I.next_gives source (λ text. LoadsText false (up_to_nul text) result) }
         ensures no_alias { IfOk result (λ documents. All HasNoAlias (items_view documents.items)) }
         ensures texts { OfGiven I.next_gives source (λ text. OfText (up_to_nul text) (LoadsOnly result)) }

@@ -1,12 +1,15 @@
 -- The arms of the productions of documents.
-use Rattle.std.proofs.Common.{◌≡◌, ◌≢◌, ℕ, ◌+◌, ◌<◌, List, [], ◌∷◌, ◌++◌, Some, None, option_map, Bool, true, false, nat_le, Result, Ok, Err, refl, sym, ap, ◌∙◌, subst, if◌then◌else◌, arith}
+use Rattle.std.proofs.Common.{◌≡◌, ◌≢◌, ℕ, ◌+◌, ◌<◌, List, [], ◌∷◌, ◌++◌, Some, None, option_map, Bool, true, false, nat_le, Result, Ok, Err, refl, sym, ap, ◌∙◌, subst, if◌then◌else◌, arith, inl}
 use Rattle.std.proofs.lemmas.Bool.{and_parts, and_from, and_left, and_right, lt-leb}
+use Rattle.std.specs.Option.{IfSome}
 use Rattle.std.specs.Result.{IsErrAnd}
 use Rattle.yaml_chars.specs.Place.{Place}
 use Rattle.token_defs.specs.Token.{Tok}
 use Rattle.yaml_tokens.specs.declared.token.Token.{Token}
 use Rattle.yaml_tokens.specs.declared.problem.Fault.TheVariants.{OutOfMemory}
 use Rattle.yaml_tokens.specs.declared.problem.Fault.TheVariants as fault
+use Rattle.yaml_tokens.specs.declared.problem.Problem.{Problem}
+use Rattle.yaml_tokens.specs.declared.problem.Problem.TheVariants.{SecondVersion, RepeatedHandle, UndeclaredHandle}
 use Rattle.yaml_tokens.specs.Shown.{tok_of}
 use Rattle.yaml_scanner.specs.Tokens.{is_end}
 use Rattle.event_defs.specs.Event.{Ev}
@@ -35,10 +38,11 @@ use Rattle.yaml_parser.specs.Kinds.{IsOfKind}
 use Rattle.yaml_parser.specs.Named.{IsNamed, IsOwn}
 use Rattle.yaml_parser.specs.Declares.{HasRead, Declares}
 use Rattle.yaml_parser.specs.Directing.{Directing, DirectsTo}
-use Rattle.yaml_parser.specs.At.{At, Stayed, IsStuck, Faulted, Carries, is_over}
-use Rattle.yaml_parser.proofs.Steps.{looked, took, took_on, left, left_as}
-use Rattle.yaml_parser.proofs.Arms.{Skipped, no_places}
-use Rattle.yaml_parser.proofs.NodeArms.{unnamed, unnameable_first}
+use Rattle.yaml_parser.specs.Blames.{fits, is_of_names}
+use Rattle.yaml_parser.specs.At.{At, Stayed, Faulted, Carries, is_over}
+use Rattle.yaml_parser.proofs.Steps.{looked, took, took_on, left, left_as, if_some_at}
+use Rattle.yaml_parser.proofs.Arms.{Skipped, no_places, faulted_as}
+use Rattle.yaml_parser.proofs.NodeArms.{unnamed_at, unnameable_first}
 use Rattle.yaml_parser.proofs.DirectiveLemmas.{named_alike, own_alike, version_ignored, version_snoc, tag_snoc, versions_append}
 
 -- ---- a document's start
@@ -175,29 +179,36 @@ version_taken {T} {p} {r} {names} {given} here skip d =
       version = version_snoc d.read v.0 v.1 ∙ ap (λ n. n + 1) d.version;
     }
 
+version_is_other : SecondVersion ≡ UndeclaredHandle → ⊥
+version_is_other e = cc
+
+handle_is_other : RepeatedHandle ≡ UndeclaredHandle → ⊥
+handle_is_other e = cc
+
 -- Directives that are not allowed are refused with the last one.
-refused_directive : {T : Type 0} {p r : Reader T} {t : Token} (read : List Directive) (d : Directive) {names : defs.Names} {given : List (Ev × Place)}
-    → p.tokens.peeked ≡ Some t → Skips p.tokens t r.tokens → r.names.keeping ≡ p.names.keeping → tok_of t.1 ≡ directive_token d → ((more : List Directive) → are_allowed ((read ++ d ∷ []) ++ more) ≡ false)
-    → At (at.directed read) p names given → IsStuck r given
-refused_directive {T} {p} {r} {t} read d {names} {given} here skips keep tok bad a =
-    unnamed here skips keep (subst (λ u. Takes (at.directed read) p.stack u None (at.directed (read ++ d ∷ [])) p.stack) (sym tok) (turn.directed_more p.stack read d))
+refused_directive : {T : Type 0} {p r : Reader T} {t : Token} {m : Place} (q : Problem) (read : List Directive) (d : Directive) {names : defs.Names} {given : List (Ev × Place)}
+    → fits q (kind_of (directive_token d)) ≡ true → is_of_names q ≡ true → (q ≡ UndeclaredHandle → ⊥) → t.0 ≡ m → p.tokens.peeked ≡ Some t → Skips p.tokens t r.tokens → r.names.keeping ≡ p.names.keeping → tok_of t.1 ≡ directive_token d → ((more : List Directive) → are_allowed ((read ++ d ∷ []) ++ more) ≡ false)
+    → At (at.directed read) p names given → Faulted r given (stop.Own (fault.At q m))
+refused_directive {T} {p} {r} {t} {m} q read d {names} {given} fit of_names other mark here skips keep tok bad a =
+    unnamed_at q (ap (λ u. fits q (kind_of u)) tok ∙ fit) of_names (inl (sym mark, λ e. absurd (other e))) here skips keep (subst (λ u. Takes (at.directed read) p.stack u None (at.directed (read ++ d ∷ [])) p.stack) (sym tok) (turn.directed_more p.stack read d))
     (λ x y. unnameable_first p.names.keeping.tags names (Raw.document_start ((read ++ d ∷ []) ++ x.0)) (perhaps_events x.1 (after_events x.2 (rest_events p.stack y))) (ap (λ b. if b then Some Ev.document_start else None) (bad x.0))) a
 
 -- A second version is refused.
-pub version_refused : {T : Type 0} {p r : Reader T} {names : defs.Names} {given : List (Ev × Place)}
-    → IsOfKind kind.VersionDirective p.tokens.peeked → Skipped p r p.stack → Directing p names given true → IsStuck r given
-version_refused {T} {p} {r} {names} {given} here skip d =
+pub version_refused : {T : Type 0} {p r : Reader T} {m : Place} {names : defs.Names} {given : List (Ev × Place)}
+    → IsOfKind kind.VersionDirective p.tokens.peeked → IfSome p.tokens.peeked (λ t. t.0 ≡ m) → Skipped p r p.stack → Directing p names given true
+    → Faulted r given (stop.Own (fault.At SecondVersion m))
+version_refused {T} {p} {r} {m} {names} {given} here mark skip d =
     let l = looked kind.VersionDirective p.tokens.peeked here in
     let v = version_text (tok_of l.0.1) l.2 in
     let x = skip l.0 l.1 in
-    refused_directive d.read (raw.version v.0 v.1) l.1 x.tokens (ap (λ n. n.keeping) x.names) v.2 (λ more. second_version d.read v.0 v.1 more d.version) d.here
+    refused_directive SecondVersion d.read (raw.version v.0 v.1) refl refl version_is_other (if_some_at (λ (t : Token). t.0 ≡ m) mark l.1) l.1 x.tokens (ap (λ n. n.keeping) x.names) v.2 (λ more. second_version d.read v.0 v.1 more d.version) d.here
 
 -- What declares a handle is taken.
-pub tag_directive_taken : {T : Type 0} {p : Reader T} (r : Reader T) {t : Token} {h x : List ℕ} {versioned : Bool} {names : defs.Names} {given : List (Ev × Place)} (res : Result (Unit {0}) Stop)
-    → p.tokens.peeked ≡ Some t → Skips p.tokens t r.tokens → r.stack ≡ p.stack → r.names.keeping ≡ p.names.keeping → tok_of t.1 ≡ Tok.tag_directive h x
-    → ((keep : Bool) (names : defs.Names) (read : List Directive) → HasRead p.names keep names read → Declares r.names keep names read h x res)
+pub tag_directive_taken : {T : Type 0} {p : Reader T} (r : Reader T) {t : Token} (m : Place) {h x : List ℕ} {versioned : Bool} {names : defs.Names} {given : List (Ev × Place)} (res : Result (Unit {0}) Stop)
+    → t.0 ≡ m → p.tokens.peeked ≡ Some t → Skips p.tokens t r.tokens → r.stack ≡ p.stack → r.names.keeping ≡ p.names.keeping → tok_of t.1 ≡ Tok.tag_directive h x
+    → ((keep : Bool) (names : defs.Names) (read : List Directive) → HasRead p.names keep names read → Declares m r.names keep names read h x res)
     → Directing p names given versioned → DirectsTo r names given versioned res
-tag_directive_taken {T} {p} r {t} {h} {x} {versioned} {names} {given} (Ok u) here skips stack keep tok declares d =
+tag_directive_taken {T} {p} r {t} m {h} {x} {versioned} {names} {given} (Ok u) mark here skips stack keep tok declares d =
     let k = declares p.names.keeping.tags names d.read (record { named = d.here.code; own = d.own }) in
     let read = d.read ++ raw.tag h x ∷ [] in
     record {
@@ -207,12 +218,13 @@ tag_directive_taken {T} {p} r {t} {h} {x} {versioned} {names} {given} (Ok u) her
       own = k.0.own;
       version = tag_snoc d.read h x ∙ d.version;
     }
-tag_directive_taken {T} {p} r {t} {h} {x} {versioned} {names} {given} (Err (stop.Own OutOfMemory)) here skips stack keep tok declares d = tt
-tag_directive_taken {T} {p} r {t} {h} {x} {versioned} {names} {given} (Err (stop.Own (fault.At q m))) here skips stack keep tok declares d =
+tag_directive_taken {T} {p} r {t} m {h} {x} {versioned} {names} {given} (Err (stop.Own OutOfMemory)) mark here skips stack keep tok declares d = tt
+tag_directive_taken {T} {p} r {t} m {h} {x} {versioned} {names} {given} (Err (stop.Own (fault.At q n))) mark here skips stack keep tok declares d =
     let k = declares p.names.keeping.tags names d.read (record { named = d.here.code; own = d.own }) in
-    refused_directive d.read (raw.tag h x) here skips keep tok (λ more. and_right (nat_le (versions ((d.read ++ raw.tag h x ∷ []) ++ more)) 1) (is_each_once (declared ((d.read ++ raw.tag h x ∷ []) ++ more))) (k more)) d.here
-tag_directive_taken {T} {p} r {t} {h} {x} {versioned} {names} {given} (Err stop.Scan) here skips stack keep tok declares d = absurd (declares p.names.keeping.tags names d.read (record { named = d.here.code; own = d.own }))
-tag_directive_taken {T} {p} r {t} {h} {x} {versioned} {names} {given} (Err stop.Ended) here skips stack keep tok declares d = absurd (declares p.names.keeping.tags names d.read (record { named = d.here.code; own = d.own }))
+    faulted_as r given (ap (λ y. stop.Own (fault.At y n)) k.1 ∙ ap (λ y. stop.Own (fault.At RepeatedHandle y)) k.2)
+    (refused_directive RepeatedHandle d.read (raw.tag h x) refl refl handle_is_other mark here skips keep tok (λ more. and_right (nat_le (versions ((d.read ++ raw.tag h x ∷ []) ++ more)) 1) (is_each_once (declared ((d.read ++ raw.tag h x ∷ []) ++ more))) (k.0 more)) d.here)
+tag_directive_taken {T} {p} r {t} m {h} {x} {versioned} {names} {given} (Err stop.Scan) mark here skips stack keep tok declares d = absurd (declares p.names.keeping.tags names d.read (record { named = d.here.code; own = d.own }))
+tag_directive_taken {T} {p} r {t} m {h} {x} {versioned} {names} {given} (Err stop.Ended) mark here skips stack keep tok declares d = absurd (declares p.names.keeping.tags names d.read (record { named = d.here.code; own = d.own }))
 
 pub directs_err : {T : Type 0} (r : Reader T) (names : defs.Names) (given : List (Ev × Place)) (versioned : Bool) (res : Result (Unit {0}) Stop) (x : Stop) → IsErrAnd res (λ e. e ≡ x) → DirectsTo r names given versioned (Err x) → DirectsTo r names given versioned res
 directs_err {T} r names given versioned (Ok u) x h f = absurd h

@@ -1,7 +1,8 @@
 -- The shortest way to the end from each place: so no fault is late.
-use Rattle.std.proofs.Common.{◌≡◌, List, [], ◌∷◌, ◌++◌, Option, Some, None, option_map, Bool, true, refl, sym, ap, ◌∙◌, subst, append-nil, append_assoc, if◌then◌else◌, map}
+use Rattle.std.proofs.Common.{◌≡◌, List, [], ◌∷◌, ◌++◌, Option, Some, None, option_map, Bool, true, false, refl, sym, ap, ◌∙◌, subst, append-nil, append_assoc, if◌then◌else◌, map, inl}
+use Rattle.std.proofs.lemmas.Bool.{both_ways}
 use Rattle.std.proofs.lemmas.List.{map-append}
-use Rattle.std.specs.Option.{IsSome}
+use Rattle.std.specs.Option.{IsSome, IfSome}
 use Rattle.yaml_chars.specs.Place.{Place}
 use Rattle.token_defs.specs.Token.{Style}
 use Rattle.event_defs.specs.Event.{Ev}
@@ -21,17 +22,22 @@ use Rattle.token_defs.specs.Token.{Tok}
 use Rattle.yaml_tokens.specs.declared.token.Token.{Token}
 use Rattle.yaml_tokens.specs.Shown.{shown, all_shown, tok_of}
 use Rattle.yaml_scanner.specs.Scanned.{scanned}
-use Rattle.event_defs.specs.Grammar.{stream_tokens}
+use Rattle.event_defs.specs.Grammar.{Documents, stream_tokens}
 use Rattle.event_defs.specs.Stream.{toks}
 use Rattle.grammar_turns.specs.declared.kind.Kind.{Kind}
 use Rattle.grammar_turns.specs.Kinds.{kind_of}
 use Rattle.grammar_turns.specs.Stands.{Begins as Begins1}
 use Rattle.grammar_turns.specs.Turn.{Refuses}
 use Rattle.yaml_parser.specs.Kinds.{IsOfKind}
-use Rattle.yaml_parser.proofs.Steps.{map_snoc, looked}
+use Rattle.yaml_parser.proofs.Steps.{map_snoc, looked, if_some_at}
 use Rattle.yaml_parser.proofs.Places.{taken_places_append, given_places_append, places_length}
 use Rattle.yaml_parser.specs.Handed.{taken_toks, peeked_tok, shown_list}
-use Rattle.yaml_parser.specs.At.{At, IsPending, IsStuck}
+use Rattle.yaml_parser.specs.At.{At, Faulted, IsPending, IsStuck}
+use Rattle.yaml_parser.specs.Blames.{fits, is_of_names}
+use Rattle.yaml_parser.specs.Derived.{IsDerived}
+use Rattle.yaml_parser.specs.declared.tokens.Stop.TheVariants as stop
+use Rattle.yaml_tokens.specs.declared.problem.Problem.{Problem}
+use Rattle.yaml_tokens.specs.declared.problem.Fault.TheVariants as fault
 
 abbrev pub shortest : (g : Goal) → Awaits g
 shortest at.done = tt
@@ -313,26 +319,71 @@ at_begins {T} g p names given a steady =
       };
     }
 
+-- What was given comes of what was taken.
+pub at_derived : {T : Type 0} {g : Goal} {p : Reader T} {names : Names} {given : List (Ev × Place)} → (a : At g p names given)
+    → IsDerived p.names.keeping.steady p.names.keeping.tags (all_shown p.tokens.taken.items) a.raw given
+at_derived {T} {g} {p} a =
+    let d = a.stands.sound (shortest g) (ending p.stack) in
+    record {
+      begins = record {
+        documents = d.0;
+        more_tokens = still_tokens g p.stack (shortest g) (ending p.stack);
+        more_events = still_events g p.stack (shortest g) (ending p.stack);
+        has_tokens = d.1;
+        has_events = d.2;
+      };
+      resolved = a.resolved;
+      places = a.places;
+      named = a.events;
+    }
+
 -- ---- a refused token
 
-pub refused : {T : Type 0} {g : Goal} {p : Reader T} {t : Token} {names : Names} {given : List (Ev × Place)}
+handed_with : {T : Type 0} {g : Goal} {p : Reader T} {t : Token} {names : Names} {given : List (Ev × Place)}
+    → p.tokens.peeked ≡ Some t → At g p names given → (scanned p.tokens.scanner).given ≡ all_shown p.tokens.taken.items ++ shown t ∷ []
+handed_with {T} {g} {p} here a = a.handed ∙ ap (λ o. all_shown p.tokens.taken.items ++ shown_list o) here
+
+-- No stream begins with the tokens up to it.
+cut : {T : Type 0} {g : Goal} {p : Reader T} {t : Token} {names : Names} {given : List (Ev × Place)}
+    → p.tokens.peeked ≡ Some t → Refuses g p.stack (tok_of t.1) → At g p names given
+    → (d : Documents) (ts : List Tok) → stream_tokens d ≡ toks (scanned p.tokens.scanner).given ++ ts → ⊥
+cut {T} {g} {p} {t} {names} {given} here turn a d ts has =
+    let h : stream_tokens d ≡ taken_toks p.tokens ++ (tok_of t.1 ∷ ts) =
+    has ∙ ap (λ xs. toks xs ++ ts) (handed_with here a) ∙ ap (λ xs. xs ++ ts) (map_snoc (λ (x : defs.Token). x.tok) (all_shown p.tokens.taken.items) (shown t)) ∙ append_assoc (taken_toks p.tokens) (tok_of t.1 ∷ []) ts in
+    let b : Begins1 (peeked_tok p.tokens) (tok_of t.1 ∷ ts) = subst (λ o. Begins1 (option_map (λ (x : Token). tok_of x.1) o) (tok_of t.1 ∷ ts)) (sym here) refl in
+    let o = a.stands.exact d (tok_of t.1 ∷ ts) h b in
+    turn a.stands.nested a.stands.fits o.0 o.1 (subst (Begins1 (Some (tok_of t.1))) (sym o.2) refl)
+
+refused : {T : Type 0} {g : Goal} {p : Reader T} {t : Token} {names : Names} {given : List (Ev × Place)}
     → p.tokens.peeked ≡ Some t → Refuses g p.stack (tok_of t.1) → At g p names given → IsStuck p given
 refused {T} {g} {p} {t} {names} {given} here turn a =
-    let handed : (scanned p.tokens.scanner).given ≡ all_shown p.tokens.taken.items ++ shown t ∷ [] = a.handed ∙ ap (λ o. all_shown p.tokens.taken.items ++ shown_list o) here in
     record {
       before = all_shown p.tokens.taken.items;
       last = shown t;
-      handed = handed;
+      handed = handed_with here a;
+      raw = a.raw;
+      derived = at_derived a;
       begins = at_begins g p names given a;
-      none = λ steady ts es s.
-          let h : stream_tokens s.documents ≡ taken_toks p.tokens ++ (tok_of t.1 ∷ ts) =
-          s.has_tokens ∙ ap (λ xs. toks xs ++ ts) handed ∙ ap (λ xs. xs ++ ts) (map_snoc (λ (x : defs.Token). x.tok) (all_shown p.tokens.taken.items) (shown t)) ∙ append_assoc (taken_toks p.tokens) (tok_of t.1 ∷ []) ts in
-          let b : Begins1 (peeked_tok p.tokens) (tok_of t.1 ∷ ts) = subst (λ o. Begins1 (option_map (λ (x : Token). tok_of x.1) o) (tok_of t.1 ∷ ts)) (sym here) refl in
-          let o = a.stands.exact s.documents (tok_of t.1 ∷ ts) h b in
-          turn a.stands.nested a.stands.fits o.0 o.1 (subst (Begins1 (Some (tok_of t.1))) (sym o.2) refl);
+      none = λ steady ts es s. cut here turn a s.documents ts s.has_tokens;
     }
 
--- the same from the kind of what was looked at
-pub refuses : {T : Type 0} {g : Goal} {p : Reader T} {k : Kind} {names : Names} {given : List (Ev × Place)}
-    → IsOfKind k p.tokens.peeked → ((t : Tok) → kind_of t ≡ k → Refuses g p.stack t) → At g p names given → IsStuck p given
-refuses {T} {g} {p} {k} {names} {given} o turn a = let l = looked k p.tokens.peeked o in refused l.1 (turn (tok_of l.0.1) l.2) a
+-- A token of this kind is refused, for a problem that fits it and is not of names, at its place.
+pub refuses : {T : Type 0} {g : Goal} {p : Reader T} {k : Kind} {m : Place} {names : Names} {given : List (Ev × Place)} (q : Problem)
+    → is_of_names q ≡ false → fits q k ≡ true → IfSome p.tokens.peeked (λ t. t.0 ≡ m) → IsOfKind k p.tokens.peeked → ((t : Tok) → kind_of t ≡ k → Refuses g p.stack t) → At g p names given
+    → Faulted p given (stop.Own (fault.At q m))
+refuses {T} {g} {p} {k} {m} {names} {given} q free fit mark o turn a =
+    let l = looked k p.tokens.peeked o in
+    let t = l.0 in
+    let no = turn (tok_of t.1) l.2 in (
+      refused l.1 no a,
+      record {
+        before = all_shown p.tokens.taken.items;
+        last = shown t;
+        whole = handed_with l.1 a;
+        problem = q;
+        shown = refl;
+        fits_it = ap (fits q) l.2 ∙ fit;
+        stands = inl (sym (if_some_at (λ (x : Token). x.0 ≡ m) mark l.1), λ e. absurd (both_ways (is_of_names q) free (ap is_of_names e)));
+        none = λ e. cut l.1 no a;
+      },
+    )

@@ -10,6 +10,7 @@ use Rattle.yaml_tokens.specs.declared.token.Token.{Token}
 use Rattle.yaml_tokens.specs.declared.problem.Fault.TheVariants.{OutOfMemory}
 use Rattle.yaml_tokens.specs.declared.problem.Fault.TheVariants as fault
 use Rattle.yaml_tokens.specs.Fault.{Fault}
+use Rattle.yaml_tokens.specs.Problem.{fault_of}
 use Rattle.yaml_tokens.specs.Shown.{shown, all_shown, tok_of}
 use Rattle.yaml_scanner.specs.Scanned.{scanned}
 use Rattle.event_defs.specs.Event.{Ev}
@@ -36,13 +37,15 @@ use Rattle.yaml_parser.specs.Shown.{placed, ev_of}
 use Rattle.yaml_parser.specs.Work.{work, weight, weights}
 use Rattle.yaml_parser.specs.Seen.{fault_seen}
 use Rattle.yaml_parser.specs.Parsed.{Parsed, is_stream_end, has_end, read}
-use Rattle.yaml_parser.specs.Follows.{Follows, Refused, IsWhole, Explains, listed}
+use Rattle.yaml_parser.specs.Blames.{Blames}
+use Rattle.yaml_parser.specs.Derived.{IsDerived}
+use Rattle.yaml_parser.specs.Follows.{Follows, Derives, Refused, IsWhole, Explains, listed}
 use Rattle.yaml_parser.specs.Pulls.{IsSound}
 use Rattle.yaml_parser.specs.View.{fault_kept}
 use Rattle.yaml_parser.specs.At.{At, Answers, Reads, Faulted, IsStuck, is_over, names_at, goal_behind}
 use Rattle.yaml_parser.specs.Held.{IsHeld, goal_after}
-use Rattle.yaml_parser.specs.Nests.{BeginsNested}
-use Rattle.yaml_parser.proofs.Ends.{state_pending, at_begins}
+use Rattle.yaml_parser.specs.Nests.{BeginsNested, AreResolved}
+use Rattle.yaml_parser.proofs.Ends.{state_pending, at_begins, at_derived}
 use Rattle.yaml_parser.proofs.Nesting.{at_begins_nested}
 
 -- ---- the stack
@@ -305,10 +308,34 @@ held_whole_at : {T : Type 0} (b : Bool) (p : Reader T) (names : Names) (es : Lis
 held_whole_at {T} true p names es h a steady v s = at_whole p names es a steady v s
 held_whole_at {T} false p names es h a steady v s = cc
 
+-- the same of what the reader shows
+shown_derived : {T : Type 0} (p : Reader T) (es : List (Ev × Place)) (before : List defs.Token) (raw : List Raw) (v : Parsed) → Shows p es v
+    → IsDerived p.names.keeping.steady p.names.keeping.tags before raw es → IsDerived v.steady v.keep_tags before raw (read v)
+shown_derived {T} p es before raw v s d = record {
+  begins = d.begins;
+  resolved = subst (λ xs. AreResolved raw (events_of xs)) (sym s.events) d.resolved;
+  places = ap (λ xs. taken_places raw (places_of xs)) s.events ∙ d.places;
+  named = λ b. ap (λ k. named k no_names raw) s.keep_tags ∙ d.named (sym s.steady ∙ b) ∙ ap (λ xs. Some (events_of xs)) (sym s.events);
+}
+
+at_derives : {T : Type 0} {g : Goal} (p : Reader T) (names : Names) (es : List (Ev × Place)) → At g p names es → (v : Parsed) → Shows p es v → Derives v
+at_derives {T} {g} p names es a v s = record {
+  before = all_shown p.tokens.taken.items;
+  last = option_map shown p.tokens.peeked;
+  tokens = ap (λ x. x.given) s.scanner ∙ a.handed ∙ ap (λ xs. all_shown p.tokens.taken.items ++ xs) (sym (listed_shown p.tokens.peeked));
+  raw = a.raw;
+  derived = shown_derived p es (all_shown p.tokens.taken.items) a.raw v s (at_derived a);
+  only = λ d ts h.
+      let k = handed_on p ts (stream_tokens d) a (h ∙ ap (λ z. toks z.given ++ ts) s.scanner) in
+      let o = a.stands.exact d (toks (shown_list p.tokens.peeked) ++ ts) k (begins_peeked p.tokens.peeked ts) in
+      (still_events g p.stack o.0 o.1, o.3);
+}
+
 pub held_sound : {T : Type 0} (p : Reader T) (es : List (Ev × Place)) → IsHeld p es None → (v : Parsed) → v.fault ≡ None → Shows p es v → IsSound v
 held_sound {T} p es x v none s = record {
   fault = none;
   nested = subst (λ xs. BeginsNested (events_of xs)) (sym s.events) (at_begins_nested (goal_after (has_end es)) p x.0 es x.1);
+  derives = at_derives p x.0 es x.1 v s;
   follows = λ steady. at_follows p x.0 es x.1 (sym s.steady ∙ steady) v s;
   whole = λ steady end. held_whole_at (has_end es) p x.0 es (ap has_end (sym s.events) ∙ end) x.1 (sym s.steady ∙ steady) v s;
 }
@@ -323,8 +350,19 @@ stuck_refused {T} p es x steady v s = record {
 }
 
 explained : {T : Type 0} (p : Reader T) (es : List (Ev × Place)) (u : Stop) (m : Place) (f : Fault) → fault_seen u m (scanned p.tokens.scanner).fault ≡ f → Faulted p es u → (v : Parsed) → Shows p es v → Explains f v
-explained {T} p es (stop.Own OutOfMemory) m f h x v s = inr (inl (ap (λ z. z.memory) (sym h)))
-explained {T} p es (stop.Own (fault.At q n)) m f h x v s = inr (inr (λ steady. stuck_refused p es x (sym s.steady ∙ steady) v s))
+explained {T} p es (stop.Own OutOfMemory) m f h x v s = inr (inl (record { memory = ap (λ z. z.memory) (sym h); text = ap (λ z. z.text) (sym h) }))
+explained {T} p es (stop.Own (fault.At q n)) m f h x v s =
+    inr (inr (record {
+      blames = subst (λ g. Blames g v.scanner.given) h (subst (Blames (fault_of (fault.At q n) n)) (ap (λ z. z.given) (sym s.scanner)) x.1);
+      stopped = record {
+        before = x.0.before;
+        last = x.0.last;
+        tokens = ap (λ z. z.given) s.scanner ∙ x.0.handed;
+        raw = x.0.raw;
+        derived = shown_derived p es x.0.before x.0.raw v s x.0.derived;
+      };
+      refused = λ steady. stuck_refused p es x.0 (sym s.steady ∙ steady) v s;
+    }))
 explained {T} p es stop.Scan m f h x v s = inl (ap (λ z. z.fault) s.scanner ∙ kept_some (scanned p.tokens.scanner).fault _ x h)
   where
     kept_some : (o : Option Fault) (d : Fault) {g : Fault} → IsSome o → unwrap_or o d ≡ g → o ≡ Some g

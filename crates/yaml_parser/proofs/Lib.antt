@@ -2,6 +2,7 @@ pub mod Arms
 pub mod DirectiveLemmas
 pub mod DocumentArms
 pub mod Ends
+pub mod Fits
 pub mod Holding
 pub mod LoadSteps
 pub mod NameLemmas

@@ -2,12 +2,15 @@
 use Rattle.std.proofs.Common.{◌≡◌, ◌≢◌, ℕ, List, [], ◌∷◌, ◌++◌, Option, Some, None, option_map, is_some, Bool, true, false, Result, Ok, Err, refl, sym, ap, ◌∙◌, subst, append_assoc, ◌⊎◌, inl, inr}
 use Rattle.std.specs.Result.{IfOk, IfErr}
 use Rattle.std.specs.Option.{IsSome, IfSome}
+use Rattle.std.proofs.lemmas.Bool.{both_ways}
 use Rattle.yaml_chars.specs.Place.{Place}
 use Rattle.token_defs.specs.Token as defs
 use Rattle.token_defs.specs.Token.{Tok, Style}
 use Rattle.yaml_tokens.specs.declared.token.Token.{Token}
 use Rattle.yaml_tokens.specs.declared.problem.Fault.TheVariants.{OutOfMemory}
 use Rattle.yaml_tokens.specs.declared.problem.Fault.TheVariants as fault
+use Rattle.yaml_tokens.specs.declared.problem.Problem.{Problem}
+use Rattle.yaml_tokens.specs.declared.problem.Problem.TheVariants.{UnknownAnchor, UndeclaredHandle}
 use Rattle.yaml_tokens.specs.Shown.{shown, all_shown, tok_of}
 use Rattle.yaml_scanner.specs.Scanned.{scanned}
 use Rattle.yaml_scanner.specs.Tokens.{is_end}
@@ -24,15 +27,16 @@ use Rattle.grammar_turns.specs.declared.place.Place.TheVariants as place
 use Rattle.grammar_turns.specs.declared.state.State.{State}
 use Rattle.grammar_turns.specs.Kinds.{kind_of, tok_of_kind, has_no_text}
 use Rattle.grammar_turns.specs.Goal as at
-use Rattle.grammar_turns.specs.Goal.{Goal, Awaits, ContentAt, part_content, part_dashes, perhaps_content_events, tag_and}
+use Rattle.grammar_turns.specs.Goal.{Goal, Awaits, goal_tokens, ContentAt, part_node, part_content, part_dashes, perhaps_content_events, tag_and}
 use Rattle.grammar_turns.proofs.Nodes as turn
 use Rattle.grammar_turns.specs.declared.kind.Kind.TheVariants as kind
 use Rattle.yaml_parser.specs.Resolves.{Resolves}
-use Rattle.event_defs.specs.Grammar.{items_events, flow_pairs_events, entries_events, pairs_events, perhaps_events, dashes_events, scalar, flow_sequence, flow_mapping, flow, block_sequence, block_mapping}
-use Rattle.grammar_turns.specs.Rest.{Rest, rest_events, still_events}
+use Rattle.event_defs.specs.Grammar.{items_events, flow_pairs_events, entries_events, pairs_events, perhaps_events, dashes_events, scalar, flow_sequence, flow_mapping, flow, block_sequence, block_mapping, flow_properties, block_properties}
+use Rattle.grammar_turns.specs.Rest.{Rest, rest_tokens, rest_events, still_events}
 use Rattle.grammar_turns.specs.Stands.{Begins as Starts}
 use Rattle.grammar_turns.specs.Turn.{Takes, Leaves, event_then}
 use Rattle.grammar_turns.proofs.First.{tok_is}
+use Rattle.grammar_turns.proofs.Apart.{no_two_anchors}
 use Rattle.yaml_parser.specs.declared.event.Event.{Event}
 use Rattle.yaml_parser.specs.declared.node.Properties.{Properties}
 use Rattle.yaml_parser.specs.declared.tokens.Stop.{Stop}
@@ -40,6 +44,8 @@ use Rattle.yaml_parser.specs.declared.tokens.Stop.TheVariants as stop
 use Rattle.yaml_parser.specs.declared.reader.Reader.{Reader}
 use Rattle.yaml_parser.specs.declared.tokens.Tokens.{Tokens}
 use Rattle.yaml_parser.specs.Ahead.{Skips, SkipsOne}
+use Rattle.yaml_parser.specs.Blames.{fits, is_of_names, StandsAt, EndsInAnchor}
+use Rattle.yaml_parser.specs.Derived.{IsDerived}
 use Rattle.yaml_parser.specs.Handed.{taken_toks, peeked_tok, shown_list}
 use Rattle.yaml_parser.specs.Kinds.{IsOfKind}
 use Rattle.yaml_parser.specs.Named.{IsNamed}
@@ -47,8 +53,8 @@ use Rattle.yaml_parser.specs.Properties.{Has, Registers, name_of, kept_tag}
 use Rattle.yaml_parser.specs.Shown.{placed}
 use Rattle.yaml_parser.specs.At.{At, Answers, Faulted, IsStuck, goal_behind, IsPending}
 use Rattle.yaml_parser.proofs.Steps.{looked, took, took_on, left, Named, map_snoc, if_some_at}
-use Rattle.yaml_parser.proofs.Arms.{Skipped, stays, stay, not_as}
-use Rattle.yaml_parser.proofs.Ends.{at_begins}
+use Rattle.yaml_parser.proofs.Arms.{Skipped, stays, stay, not_as, faulted_as}
+use Rattle.yaml_parser.proofs.Ends.{at_begins, at_derived, ending}
 
 -- ---- an event with properties
 
@@ -149,7 +155,7 @@ named_stops keep s [] fs h = h
 named_stops keep s (e ∷ es) fs h = ap (both (resolved_event s e)) (named_stops keep (behind keep s e) es fs h) ∙ both_none (resolved_event s e)
 
 -- The token was taken, and nothing that goes on behind it can be named.
-pub unnamed : {T : Type 0} {g g' : Goal} {p r : Reader T} {t : Token} {ss : List State} {e : Option Raw} {names : Names} {given : List (Ev × Place)}
+unnamed : {T : Type 0} {g g' : Goal} {p r : Reader T} {t : Token} {ss : List State} {e : Option Raw} {names : Names} {given : List (Ev × Place)}
     → p.tokens.peeked ≡ Some t → Skips p.tokens t r.tokens → r.names.keeping ≡ p.names.keeping → Takes g p.stack (tok_of t.1) e g' ss
     → ((x : Awaits g') (y : Rest ss) → Unnameable p.names.keeping.tags names (event_then e (still_events g' ss x y)))
     → At g p names given → IsStuck r given
@@ -161,6 +167,8 @@ unnamed {T} {g} {g'} {p} {r} {t} {ss} {e} {names} {given} here skips keep turn b
       before = all_shown p.tokens.taken.items;
       last = shown t;
       handed = handed;
+      raw = a.raw;
+      derived = subst (λ k. IsDerived k.steady k.tags (all_shown p.tokens.taken.items) a.raw given) (sym keep) (at_derived a);
       begins = λ steady. subst (λ k. Opens k.tags (all_shown p.tokens.taken.items) given) (sym keep) (at_begins g p names given a (ap (λ k. k.steady) (sym keep) ∙ steady));
       none = λ steady ts es s.
           let before : p.names.keeping.steady ≡ true = ap (λ k. k.steady) (sym keep) ∙ steady in
@@ -176,6 +184,26 @@ unnamed {T} {g} {g'} {p} {r} {t} {ss} {e} {names} {given} here skips keep turn b
           let clash : None ≡ Some es = sym no ∙ yes in
           cc;
     }
+
+-- So it is refused, for a problem of names that fits it.
+pub unnamed_at : {T : Type 0} {g g' : Goal} {p r : Reader T} {t : Token} {m : Place} {ss : List State} {e : Option Raw} {names : Names} {given : List (Ev × Place)} (q : Problem)
+    → fits q (kind_of (tok_of t.1)) ≡ true → is_of_names q ≡ true → StandsAt q m (all_shown p.tokens.taken.items) (shown t)
+    → p.tokens.peeked ≡ Some t → Skips p.tokens t r.tokens → r.names.keeping ≡ p.names.keeping → Takes g p.stack (tok_of t.1) e g' ss
+    → ((x : Awaits g') (y : Rest ss) → Unnameable p.names.keeping.tags names (event_then e (still_events g' ss x y)))
+    → At g p names given → Faulted r given (stop.Own (fault.At q m))
+unnamed_at {T} {p = p} {r = r} {t = t} q fit of_names stands here skips keep turn bad a = (
+  unnamed here skips keep turn bad a,
+  record {
+    before = all_shown p.tokens.taken.items;
+    last = shown t;
+    whole = ap (λ x. (scanned x).given) skips.scanner ∙ a.handed ∙ ap (λ o. all_shown p.tokens.taken.items ++ shown_list o) here;
+    problem = q;
+    shown = refl;
+    fits_it = fit;
+    stands = stands;
+    none = λ e. absurd (both_ways (is_of_names q) e of_names);
+  },
+)
 
 -- ---- small steps
 
@@ -251,10 +279,13 @@ alias_taken {T} m {p} {r} {t} {w} {x} {n} {names} {given} here mark skips stack 
       (λ b. (refl, ap is_end tok)) (record { alike = sym (ap gives_place tok); here = λ b. sym mark }) a,
 )
 
-pub alias_unknown : {T : Type 0} {p r : Reader T} {t : Token} {w : places.Place} {x : List ℕ} {names : Names} {given : List (Ev × Place)}
-    → p.tokens.peeked ≡ Some t → Skips p.tokens t r.tokens → r.names ≡ p.names → tok_of t.1 ≡ Tok.alias x → under_name x names.anchors ≡ None → At (at.node w) p names given → IsStuck r given
-alias_unknown {T} {p} {r} {t} {w} {x} {names} {given} here skips same tok missing a =
-    unnamed here skips (ap (λ z. z.keeping) same) (subst (λ u. Takes (at.node w) p.stack u (Some (Raw.alias x)) at.done p.stack) (sym tok) (turn.node_alias w p.stack x))
+unknown_is_other : UnknownAnchor ≡ UndeclaredHandle → ⊥
+unknown_is_other e = cc
+
+pub alias_unknown : {T : Type 0} {p r : Reader T} {t : Token} {m : Place} {w : places.Place} {x : List ℕ} {names : Names} {given : List (Ev × Place)}
+    → p.tokens.peeked ≡ Some t → t.0 ≡ m → Skips p.tokens t r.tokens → r.names ≡ p.names → tok_of t.1 ≡ Tok.alias x → under_name x names.anchors ≡ None → At (at.node w) p names given → Faulted r given (stop.Own (fault.At UnknownAnchor m))
+alias_unknown {T} {p} {r} {t} {m} {w} {x} {names} {given} here mark skips same tok missing a =
+    unnamed_at UnknownAnchor (ap (λ u. fits UnknownAnchor (kind_of u)) tok) refl (inl (sym mark, λ e. absurd (unknown_is_other e))) here skips (ap (λ z. z.keeping) same) (subst (λ u. Takes (at.node w) p.stack u (Some (Raw.alias x)) at.done p.stack) (sym tok) (turn.node_alias w p.stack x))
     (λ y z. unnameable_first p.names.keeping.tags names (Raw.alias x) (still_events at.done p.stack y z) (ap (option_map Ev.alias) missing)) a
 
 pub anchor_taken : {T : Type 0} {p r : Reader T} {t : Token} {w : places.Place} {x : List ℕ} {names : Names} {given : List (Ev × Place)}
@@ -302,20 +333,57 @@ tag_and_tag : (x : event.Tag) (y : Option (List ℕ)) → perhaps_tag_of (Some (
 tag_and_tag x None = refl
 tag_and_tag x (Some y) = refl
 
-pub tag_unknown : {T : Type 0} {p r : Reader T} {t : Token} {w : places.Place} {x : event.Tag} {names : Names} {given : List (Ev × Place)}
-    → p.tokens.peeked ≡ Some t → Skips p.tokens t r.tokens → r.names ≡ p.names → tok_of t.1 ≡ written.tag_token x → resolved names.handles x ≡ None → At (at.node w) p names given → IsStuck r given
-tag_unknown {T} {p} {r} {t} {w} {x} {names} {given} here skips same tok missing a =
-    unnamed here skips (ap (λ z. z.keeping) same) (subst (λ z. Takes (at.node w) p.stack z None (at.behind_tag w x) p.stack) (sym tok) (turn.node_tag w p.stack x))
+abbrev node_with_anchor : (w : places.Place) → Awaits (at.node w)
+node_with_anchor place.Flow = flow_properties (written.anchored [])
+node_with_anchor place.Block = block_properties (written.anchored [])
+node_with_anchor place.Part = part_node (block_properties (written.anchored []))
+
+begins_with_anchor : (w : places.Place) (r : List Tok) → goal_tokens (at.node w) (node_with_anchor w) r ≡ Tok.anchor [] ∷ r
+begins_with_anchor place.Flow r = refl
+begins_with_anchor place.Block r = refl
+begins_with_anchor place.Part r = refl
+
+anchor_named : (t : Tok) → kind_of t ≡ kind.Anchor → (n : List ℕ) × (t ≡ Tok.anchor n)
+anchor_named (Tok.anchor n) h = (n, refl)
+anchor_named _ h = cc
+
+-- Where a node is to be read, no anchor was taken last.
+no_anchor_before : {T : Type 0} {p : Reader T} {m : Place} (w : places.Place) {names : Names} {given : List (Ev × Place)}
+    → At (at.node w) p names given → EndsInAnchor (all_shown p.tokens.taken.items) m → ⊥
+no_anchor_before {T} {p} {m} w a e =
+    let d = a.stands.sound (node_with_anchor w) (ending p.stack) in
+    let n = anchor_named e.anchor.tok e.is in
+    let rest = rest_tokens p.stack (ending p.stack) in
+    let taken : taken_toks p.tokens ≡ toks e.before ++ Tok.anchor n.0 ∷ [] =
+    ap toks e.whole ∙ map_snoc (λ (x : defs.Token). x.tok) e.before e.anchor ∙ ap (λ u. toks e.before ++ u ∷ []) n.1 in
+    no_two_anchors d.0 (toks e.before) n.0 [] rest
+    (d.1 ∙ ap (λ xs. taken_toks p.tokens ++ xs) (begins_with_anchor w rest) ∙ ap (λ xs. xs ++ Tok.anchor [] ∷ rest) taken ∙ append_assoc (toks e.before) (Tok.anchor n.0 ∷ []) (Tok.anchor [] ∷ rest))
+
+pub tag_unknown : {T : Type 0} {p r : Reader T} {t : Token} {m : Place} {w : places.Place} {x : event.Tag} {names : Names} {given : List (Ev × Place)}
+    → p.tokens.peeked ≡ Some t → t.0 ≡ m → Skips p.tokens t r.tokens → r.names ≡ p.names → tok_of t.1 ≡ written.tag_token x → resolved names.handles x ≡ None → At (at.node w) p names given → Faulted r given (stop.Own (fault.At UndeclaredHandle m))
+tag_unknown {T} {p} {r} {t} {m} {w} {x} {names} {given} here mark skips same tok missing a =
+    unnamed_at UndeclaredHandle (ap (λ u. fits UndeclaredHandle (kind_of u)) tok) refl (inl (sym mark, λ e q before. no_anchor_before w a before)) here skips (ap (λ z. z.keeping) same) (subst (λ z. Takes (at.node w) p.stack z None (at.behind_tag w x) p.stack) (sym tok) (turn.node_tag w p.stack x))
     (λ y z. content_unnameable p.names.keeping.tags names w (Some (tag_and x y.0)) y.1 (rest_events p.stack z) (ap (perhaps_resolved names.handles) (tag_and_tag x y.0) ∙ ap (option_map Some) missing)) a
 
-pub tag_unknown_behind : {T : Type 0} {p r : Reader T} {t : Token} {w : places.Place} {v : List ℕ} {x : event.Tag} {names : Names} {given : List (Ev × Place)}
-    → p.tokens.peeked ≡ Some t → Skips p.tokens t r.tokens → r.names ≡ p.names → tok_of t.1 ≡ written.tag_token x → resolved names.handles x ≡ None → At (at.behind_anchor w v) p names given → IsStuck r given
-tag_unknown_behind {T} {p} {r} {t} {w} {v} {x} {names} {given} here skips same tok missing a =
-    unnamed here skips (ap (λ z. z.keeping) same) (subst (λ z. Takes (at.behind_anchor w v) p.stack z None (at.behind w (Some (written.anchored_tagged v x))) p.stack) (sym tok) (turn.anchor_tag w p.stack v x))
+pub tag_unknown_behind : {T : Type 0} {p r : Reader T} {t : Token} {m : Place} {w : places.Place} {v : List ℕ} {x : event.Tag} {names : Names} {given : List (Ev × Place)}
+    → p.tokens.peeked ≡ Some t → EndsInAnchor (all_shown p.tokens.taken.items) m → Skips p.tokens t r.tokens → r.names ≡ p.names → tok_of t.1 ≡ written.tag_token x → resolved names.handles x ≡ None → At (at.behind_anchor w v) p names given → Faulted r given (stop.Own (fault.At UndeclaredHandle m))
+tag_unknown_behind {T} {p} {r} {t} {m} {w} {v} {x} {names} {given} here anchored skips same tok missing a =
+    unnamed_at UndeclaredHandle (ap (λ u. fits UndeclaredHandle (kind_of u)) tok) refl (inr (refl, anchored)) here skips (ap (λ z. z.keeping) same) (subst (λ z. Takes (at.behind_anchor w v) p.stack z None (at.behind w (Some (written.anchored_tagged v x))) p.stack) (sym tok) (turn.anchor_tag w p.stack v x))
     (λ y z. content_unnameable p.names.keeping.tags names w (Some (written.anchored_tagged v x)) y.0 (rest_events p.stack z) (ap (option_map Some) missing)) a
 
-pub resolve_fails : {T : Type 0} (r : Reader T) (given : List (Ev × Place)) (names : Names) (t : event.Tag) (s : Stop) → Resolves names t (Err s) → (resolved names.handles t ≡ None → IsStuck r given) → Faulted r given s
-resolve_fails r given names t (stop.Own OutOfMemory) h f = tt
-resolve_fails r given names t (stop.Own (fault.At q m)) h f = f h
-resolve_fails r given names t stop.Scan h f = absurd h
-resolve_fails r given names t stop.Ended h f = absurd h
+-- An anchor was taken, and then a token was looked at.
+pub anchor_before : {T : Type 0} {p q : Tokens T} (r : Tokens T) {t : Token} {m : Place} → Skips p t q → r.taken ≡ q.taken → kind_of (tok_of t.1) ≡ kind.Anchor → t.0 ≡ m → EndsInAnchor (all_shown r.taken.items) m
+anchor_before {T} {p} {q} r {t} {m} skips taken is mark = record {
+  before = all_shown p.taken.items;
+  anchor = shown t;
+  whole = ap (λ x. all_shown x.items) taken ∙ ap all_shown skips.taken ∙ map_snoc shown p.taken.items t;
+  is = is;
+  at = sym mark;
+}
+
+pub resolve_fails : {T : Type 0} (r : Reader T) (given : List (Ev × Place)) (m : Place) (names : Names) (t : event.Tag) (s : Stop) → Resolves m names t (Err s)
+    → (resolved names.handles t ≡ None → Faulted r given (stop.Own (fault.At UndeclaredHandle m))) → Faulted r given s
+resolve_fails r given m names t (stop.Own OutOfMemory) h f = tt
+resolve_fails r given m names t (stop.Own (fault.At q n)) h f = faulted_as r given (ap (λ x. stop.Own (fault.At x n)) h.1 ∙ ap (λ x. stop.Own (fault.At UndeclaredHandle x)) h.2) (f h.0)
+resolve_fails r given m names t stop.Scan h f = absurd h
+resolve_fails r given m names t stop.Ended h f = absurd h

@@ -1,5 +1,6 @@
 -- What is known of a parser, from call to call.
-use Rattle.std.proofs.Common.{◌≡◌, ◌≢◌, inl, inr, ◌<◌, List, [], ◌∷◌, ◌++◌, Option, Some, None, option_map, is_some, Bool, true, false, not, ◌||◌, ◌&&◌, if◌then◌else◌, Result, Ok, Err, refl, sym, ap, ◌∙◌, subst, append-nil, arith}
+use Rattle.std.proofs.Common.{◌≡◌, ◌≢◌, ◌⊎◌, inl, inr, ◌<◌, List, [], ◌∷◌, ◌++◌, Option, Some, None, option_map, is_some, Bool, true, false, not, ◌||◌, ◌&&◌, if◌then◌else◌, Result, Ok, Err, refl, sym, ap, ◌∙◌, subst, append-nil, arith}
+use Rattle.std.specs.Bool.{beq}
 use Rattle.std.specs.Option.{IfSome}
 use Rattle.std.specs.Result.{IsErrAnd}
 use Rattle.std.proofs.lemmas.Bool.{both_ways, and_parts, not-true}
@@ -13,7 +14,7 @@ use Rattle.event_defs.specs.Event.{Ev}
 use Rattle.event_defs.specs.Raw.{Raw}
 use Rattle.event_defs.specs.Names as defs
 use Rattle.event_defs.specs.Names.{named, both, no_names, behind_all, resolved_event, behind}
-use Rattle.event_defs.specs.Stream.{events_of}
+use Rattle.event_defs.specs.Stream.{events_of, BeginsPlaced, NoneBegins, toks}
 use Rattle.yaml_parser.specs.declared.event.Event.{Event}
 use Rattle.yaml_parser.specs.declared.names.Keeping.{Keeping}
 use Rattle.yaml_parser.specs.declared.tokens.Kept.{Kept}
@@ -25,7 +26,7 @@ use Rattle.yaml_parser.specs.Named.{IsNamed}
 use Rattle.yaml_parser.specs.Shown.{placed, all_placed, ev_of}
 use Rattle.yaml_parser.specs.Work.{work}
 use Rattle.yaml_parser.specs.Seen.{fault_seen}
-use Rattle.yaml_parser.specs.Parsed.{Parsed, is_stream_end, is_fresh, has_end, read_so}
+use Rattle.yaml_parser.specs.Parsed.{Parsed, is_stream_end, is_fresh, stays_steady, has_end, read_so}
 use Rattle.yaml_parser.specs.Pulls.{Waits, Looks, GivesEvent, GivesFault, IsSound}
 use Rattle.yaml_parser.specs.View.{fault_kept, fault_of_all, no_document, events_left}
 use Rattle.yaml_parser.specs.At.{At, Faulted, IsStuck, names_at}
@@ -350,10 +351,9 @@ goal_seen : (b : Bool) (keep : Bool) (names : defs.Names) → names_at keep (goa
 goal_seen true keep names = refl
 goal_seen false keep names = refl
 
-at_keeping : {T : Type 0} (b : Bool) (p : Reader T) (k : Keeping) (names : defs.Names) (es : List (Ev × Place)) → (k.steady ≡ true → (p.names.keeping.steady ≡ true) × (es ≡ []))
+at_keeping : {T : Type 0} (b : Bool) (p : Reader T) (k : Keeping) (names : defs.Names) (es : List (Ev × Place)) → (k.steady ≡ true → (p.names.keeping.steady ≡ true) × ((es ≡ []) ⊎ (k.tags ≡ p.names.keeping.tags)))
     → At (goal_after b) p names es → At (goal_after b) (record p { names = record (p.names) { keeping = k } }) names es
 at_keeping {T} b p k names es f a =
-    let nothing : k.steady ≡ true → a.raw ≡ [] = λ s. named_nothing p.names.keeping.tags a.raw (a.events (f s).0 ∙ ap (λ xs. Some (events_of xs)) (f s).1) in
     record {
       raw = a.raw;
       stands = a.stands;
@@ -363,36 +363,64 @@ at_keeping {T} b p k names es f a =
       count = a.count;
       resolved = a.resolved;
       places = a.places;
-      events = λ s. ap (named k.tags no_names) (nothing s) ∙ ap (λ xs. Some (events_of xs)) (sym (f s).1);
-      names_are = λ s. ap (behind_all k.tags no_names) (nothing s) ∙ sym (ap (behind_all p.names.keeping.tags no_names) (nothing s)) ∙ a.names_are (f s).0;
+      events = λ s. elim (f s).1 [
+        | inl none ↦ ap (named k.tags no_names) (nothing (f s).0 none) ∙ ap (λ xs. Some (events_of xs)) (sym none)
+        | inr same ↦ ap (λ t. named t no_names a.raw) same ∙ a.events (f s).0
+      ];
+      names_are = λ s. elim (f s).1 [
+        | inl none ↦ ap (behind_all k.tags no_names) (nothing (f s).0 none) ∙ sym (ap (behind_all p.names.keeping.tags no_names) (nothing (f s).0 none)) ∙ a.names_are (f s).0
+        | inr same ↦ ap (λ t. behind_all t no_names a.raw) same ∙ a.names_are (f s).0
+      ];
       code = subst (IsNamed (record (p.names) { keeping = k })) (sym (goal_seen b k.tags names)) (same_code (subst (IsNamed p.names) (goal_seen b p.names.keeping.tags names) a.code));
       pending = a.pending;
     }
   where
+    nothing : p.names.keeping.steady ≡ true → es ≡ [] → a.raw ≡ []
+    nothing s none = named_nothing p.names.keeping.tags a.raw (a.events s ∙ ap (λ xs. Some (events_of xs)) none)
+
     same_code : IsNamed p.names names → IsNamed (record (p.names) { keeping = k }) names
     same_code c = record { count = c.count; anchors = c.anchors; handles = c.handles }
 
-held_keeping : {T : Type 0} (p : Reader T) (k : Keeping) (es : List (Ev × Place)) (o : Option Kept) → (k.steady ≡ true → (p.names.keeping.steady ≡ true) × (es ≡ []) × (o ≡ None))
+held_keeping : {T : Type 0} (p : Reader T) (k : Keeping) (es : List (Ev × Place)) (o : Option Kept)
+    → (k.steady ≡ true → (p.names.keeping.steady ≡ true) × (((es ≡ []) × (o ≡ None)) ⊎ (k.tags ≡ p.names.keeping.tags)))
     → IsHeld p es o → IsHeld (record p { names = record (p.names) { keeping = k } }) es o
-held_keeping {T} p k es None f x = (x.0, at_keeping (has_end es) p k x.0 es (λ s. let y = f s in (y.0, y.1)) x.1)
+held_keeping {T} p k es None f x = (x.0, at_keeping (has_end es) p k x.0 es (λ s. ((f s).0, elim (f s).1 [ inl none ↦ inl none.0 | inr same ↦ inr same ])) x.1)
 held_keeping {T} p k es (Some z) f x = (x.0, faulted_keeping z.stop x.1)
   where
-    never : k.steady ≡ true → ⊥
-    never s = let no : Some z ≡ None = (f s).2 in cc
+    same_tags : k.steady ≡ true → k.tags ≡ p.names.keeping.tags
+    same_tags s = elim (f s).1 [ inl none ↦ (let no : Some z ≡ None = none.1 in cc) | inr same ↦ same ]
 
     stuck : IsStuck p es → IsStuck (record p { names = record (p.names) { keeping = k } }) es
-    stuck y = record { before = y.before; last = y.last; handed = y.handed; begins = λ s. absurd (never s); none = λ s. absurd (never s) }
+    stuck y = record {
+      before = y.before;
+      last = y.last;
+      handed = y.handed;
+      raw = y.raw;
+      derived = record { begins = y.derived.begins; resolved = y.derived.resolved; places = y.derived.places; named = λ s. ap (λ t. named t no_names y.raw) (same_tags s) ∙ y.derived.named (f s).0 };
+      begins = λ s. subst (λ t. BeginsPlaced t y.before es) (sym (same_tags s)) (y.begins (f s).0);
+      none = λ s. subst (λ t. NoneBegins t (toks (scanned p.tokens.scanner).given)) (sym (same_tags s)) (y.none (f s).0);
+    }
 
     faulted_keeping : (u : Stop) → Faulted p es u → Faulted (record p { names = record (p.names) { keeping = k } }) es u
     faulted_keeping (stop.Own OutOfMemory) y = tt
-    faulted_keeping (stop.Own (fault.At q n)) y = stuck y
+    faulted_keeping (stop.Own (fault.At q n)) y = (stuck y.0, y.1)
     faulted_keeping stop.Scan y = y
     faulted_keeping stop.Ended y = y
 
--- A setting that counts from the start on was made where nothing was read.
+one_true : (a : Bool) {b : Bool} → (a || b) ≡ true → (a ≡ true) ⊎ (b ≡ true)
+one_true true h = inl refl
+one_true false h = inr h
+
+same_bool : (a b : Bool) → beq a b ≡ true → a ≡ b
+same_bool true true h = refl
+same_bool false false h = refl
+same_bool true false h = cc
+same_bool false true h = cc
+
+-- A setting that counts from the start on was made where nothing was read, or is what it was.
 pub settings_hold : {T : Type 0} (pull : Pull T) (given : List (Ev × Place)) (current : Option (Event × Place)) (started ended : Bool) (misplaced : Option Place) (k : Keeping)
     → Holds pull given (option_map placed current) started ended misplaced
-    → k.steady ≡ pull.reader.names.keeping.steady && is_fresh (seen pull given current started ended misplaced)
+    → k.steady ≡ stays_steady (seen pull given current started ended misplaced) k.tags
     → Holds (record pull { reader = record (pull.reader) { names = record (pull.reader.names) { keeping = k } } }) given (option_map placed current) started ended misplaced
 settings_hold {T} pull given current started ended misplaced k h steady = record {
   held = held_keeping pull.reader k (read_so given ended (option_map placed current)) pull.kept fresh h.held;
@@ -410,13 +438,18 @@ settings_hold {T} pull given current started ended misplaced k h steady = record
     none_of_all None e = none_of (λ x. fault_seen x.stop x.mark (scanned pull.reader.tokens.scanner).fault) pull.kept e
     none_of_all (Some q) e = cc
 
-    fresh : k.steady ≡ true → (pull.reader.names.keeping.steady ≡ true) × (read_so given ended (option_map placed current) ≡ []) × (pull.kept ≡ None)
-    fresh s =
-        let one = and_parts (pull.reader.names.keeping.steady) (is_fresh (seen pull given current started ended misplaced)) (sym steady ∙ s) in
-        let two = and_parts (not started) (not (is_some (option_map placed current)) && not (is_some (fault_of_all misplaced pull))) one.1 in
+    nothing_read : is_fresh (seen pull given current started ended misplaced) ≡ true → (read_so given ended (option_map placed current) ≡ []) × (pull.kept ≡ None)
+    nothing_read b =
+        let two = and_parts (not started) (not (is_some (option_map placed current)) && not (is_some (fault_of_all misplaced pull))) b in
         let three = and_parts (not (is_some (option_map placed current))) (not (is_some (fault_of_all misplaced pull))) two.1 in
         let none = none_of placed current (not-true (is_some (option_map placed current)) three.0) in
-        (one.0, ap (λ o. read_so given ended (option_map placed o)) none ∙ read_none given ended ∙ h.first (not-true started two.0), none_of_all misplaced (not-true (is_some (fault_of_all misplaced pull)) three.1))
+        (ap (λ o. read_so given ended (option_map placed o)) none ∙ read_none given ended ∙ h.first (not-true started two.0), none_of_all misplaced (not-true (is_some (fault_of_all misplaced pull)) three.1))
+
+    fresh : k.steady ≡ true
+        → (pull.reader.names.keeping.steady ≡ true) × (((read_so given ended (option_map placed current) ≡ []) × (pull.kept ≡ None)) ⊎ (k.tags ≡ pull.reader.names.keeping.tags))
+    fresh s =
+        let one = and_parts (pull.reader.names.keeping.steady) (is_fresh (seen pull given current started ended misplaced) || beq k.tags pull.reader.names.keeping.tags) (sym steady ∙ s) in
+        (one.0, elim (one_true (is_fresh (seen pull given current started ended misplaced)) one.1) [ inl a ↦ inl (nothing_read a) | inr b ↦ inr (same_bool k.tags pull.reader.names.keeping.tags b) ])
 
 -- ---- an event stands where a document must start
 

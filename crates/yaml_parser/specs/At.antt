@@ -6,6 +6,7 @@ use Rattle.token_defs.specs.Token.{Tok}
 use Rattle.yaml_tokens.specs.declared.token.Token.{Token}
 use Rattle.yaml_tokens.specs.declared.problem.Fault.TheVariants.{OutOfMemory}
 use Rattle.yaml_tokens.specs.declared.problem.Fault.TheVariants as fault
+use Rattle.yaml_tokens.specs.Problem.{fault_of}
 use Rattle.yaml_tokens.specs.Shown.{all_shown}
 use Rattle.yaml_scanner.specs.Scanned.{scanned}
 use Rattle.event_defs.specs.Event.{Ev}
@@ -22,6 +23,8 @@ use Rattle.yaml_parser.specs.declared.tokens.Stop.{Stop}
 use Rattle.yaml_parser.specs.declared.tokens.Stop.TheVariants as stop
 use Rattle.yaml_parser.specs.declared.reader.Reader.{Reader}
 use Rattle.yaml_parser.specs.Ahead.{Skips}
+use Rattle.yaml_parser.specs.Blames.{Blames}
+use Rattle.yaml_parser.specs.Derived.{IsDerived}
 use Rattle.yaml_parser.specs.Handed.{taken_toks, peeked_tok, IsHanded, IsAwake}
 use Rattle.yaml_parser.specs.Named.{IsNamed}
 use Rattle.yaml_parser.specs.Nests.{AreResolved}
@@ -67,12 +70,14 @@ pub record IsStuck {T : Type 0} (p : Reader T) (given : List (Ev × Place)) : Ty
   pub before : List defs.Token
   pub last : defs.Token
   pub handed : (scanned p.tokens.scanner).given ≡ before ++ last ∷ []
+  pub raw : List Raw
+  pub derived : IsDerived p.names.keeping.steady p.names.keeping.tags before raw given
   pub begins : p.names.keeping.steady ≡ true → BeginsPlaced p.names.keeping.tags before given
   pub none : p.names.keeping.steady ≡ true → NoneBegins p.names.keeping.tags (toks (scanned p.tokens.scanner).given)
 
 abbrev pub Faulted : {T : Type 0} → Reader T → List (Ev × Place) → Stop → Type 0
 Faulted p given (stop.Own OutOfMemory) = Unit {0}
-Faulted p given (stop.Own (fault.At problem mark)) = IsStuck p given
+Faulted p given (stop.Own (fault.At problem mark)) = IsStuck p given × Blames (fault_of (fault.At problem mark) mark) (scanned p.tokens.scanner).given
 Faulted p given stop.Scan = IsSome (scanned p.tokens.scanner).fault
 Faulted p given stop.Ended = ⊥
 

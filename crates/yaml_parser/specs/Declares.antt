@@ -1,7 +1,9 @@
 -- What one more directive comes to, behind those that were read.
 use Rattle.std.specs.Prelude.{◌≡◌, ℕ, List, [], ◌∷◌, ◌++◌, Bool, false, Result, Ok, Err}
+use Rattle.yaml_chars.specs.Place.{Place}
 use Rattle.yaml_tokens.specs.declared.problem.Fault.TheVariants.{OutOfMemory}
 use Rattle.yaml_tokens.specs.declared.problem.Fault.TheVariants as fault
+use Rattle.yaml_tokens.specs.declared.problem.Problem.TheVariants.{RepeatedHandle}
 use Rattle.event_defs.specs.Raw as raw
 use Rattle.event_defs.specs.Raw.{Directive}
 use Rattle.event_defs.specs.Names as defs
@@ -16,11 +18,13 @@ pub record HasRead (code : Names) (keep : Bool) (names : defs.Names) (read : Lis
   pub named : IsNamed code (at_document keep names read)
   pub own : IsOwn code read
 
--- A handle more is declared; or it was declared before, and so whatever may stand behind it has it twice.
-abbrev pub Declares : Names → Bool → defs.Names → List Directive → (handle prefix : List ℕ) → Result (Unit {0}) Stop → Type 0
-Declares code keep names read h p (Ok u) =
+-- A handle more is declared; or it was declared before, and so whatever may stand behind it has it
+-- twice. The fault's place is the mark.
+abbrev pub Declares : Place → Names → Bool → defs.Names → List Directive → (handle prefix : List ℕ) → Result (Unit {0}) Stop → Type 0
+Declares mark code keep names read h p (Ok u) =
     HasRead code keep names (read ++ raw.tag h p ∷ []) × (is_each_once (declared (read ++ raw.tag h p ∷ [])) ≡ is_each_once (declared read))
-Declares code keep names read h p (Err (stop.Own OutOfMemory)) = Unit {0}
-Declares code keep names read h p (Err (stop.Own (fault.At q m))) = (more : List Directive) → is_each_once (declared ((read ++ raw.tag h p ∷ []) ++ more)) ≡ false
-Declares code keep names read h p (Err stop.Scan) = ⊥
-Declares code keep names read h p (Err stop.Ended) = ⊥
+Declares mark code keep names read h p (Err (stop.Own OutOfMemory)) = Unit {0}
+Declares mark code keep names read h p (Err (stop.Own (fault.At q m))) =
+    ((more : List Directive) → is_each_once (declared ((read ++ raw.tag h p ∷ []) ++ more)) ≡ false) × (q ≡ RepeatedHandle) × (m ≡ mark)
+Declares mark code keep names read h p (Err stop.Scan) = ⊥
+Declares mark code keep names read h p (Err stop.Ended) = ⊥

@@ -3,7 +3,10 @@ use Rattle.std.specs.Prelude.{◌≡◌, ◌⊎◌, List, [], ◌∷◌, ◌++�
 use Rattle.token_defs.specs.Token.{Tok, Token}
 use Rattle.yaml_tokens.specs.Fault.{Fault}
 use Rattle.event_defs.specs.Event.{Ev}
+use Rattle.event_defs.specs.Raw.{Raw}
 use Rattle.event_defs.specs.Stream.{IsStream, IsPlacedStream, BeginsPlaced, Foretells, NoneBegins, toks, events_of}
+use Rattle.yaml_parser.specs.Blames.{Blames, WantsMemory}
+use Rattle.yaml_parser.specs.Derived.{IsDerived, ForetellsRaw}
 use Rattle.yaml_parser.specs.Parsed.{Parsed, read}
 
 abbrev pub listed : Option Token → List Token
@@ -32,6 +35,30 @@ pub record IsWhole (p : Parsed) : Type 0 where
   pub stream : IsPlacedStream p.keep_tags p.scanner.given (read p)
   pub only : (ts : List Tok) (es : List Ev) → IsStream p.keep_tags (toks p.scanner.given ++ ts) es → (ts ≡ []) × (es ≡ events_of (read p))
 
+-- Whatever the setting was: the tokens taken are some before and at most one more. The events read come of those before, and each
+-- stream that begins with the tokens taken begins with them.
+pub record Derives (p : Parsed) : Type 0 where
+  pub before : List Token
+  pub last : Option Token
+  pub tokens : p.scanner.given ≡ before ++ listed last
+  pub raw : List Raw
+  pub derived : IsDerived p.steady p.keep_tags before raw (read p)
+  pub only : ForetellsRaw (toks p.scanner.given) raw
+
+-- Whatever the setting was: where the last token is refused, the events read come of those before.
+pub record Stopped (p : Parsed) : Type 0 where
+  pub before : List Token
+  pub last : Token
+  pub tokens : p.scanner.given ≡ before ++ last ∷ []
+  pub raw : List Raw
+  pub derived : IsDerived p.steady p.keep_tags before raw (read p)
+
+-- The last token is refused: by its text and place, and by the grammar.
+pub record IsCut (f : Fault) (p : Parsed) : Type 0 where
+  pub blames : Blames f p.scanner.given
+  pub stopped : Stopped p
+  pub refused : p.steady ≡ true → Refused p
+
 -- Why a fault comes: it is the scanner's, or memory was refused, or the last token is refused.
 abbrev pub Explains : Fault → Parsed → Type 0
-Explains f p = (p.scanner.fault ≡ Some f) ⊎ ((f.memory ≡ true) ⊎ (p.steady ≡ true → Refused p))
+Explains f p = (p.scanner.fault ≡ Some f) ⊎ (WantsMemory f ⊎ IsCut f p)

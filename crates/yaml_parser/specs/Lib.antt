@@ -1,6 +1,8 @@
 pub mod Ahead
 pub mod At
+pub mod Blames
 pub mod Declares
+pub mod Derived
 pub mod Directing
 pub mod Follows
 pub mod Handed

@@ -1,5 +1,6 @@
 -- What clauses see of a parser.
 use Rattle.std.specs.Prelude.{◌||◌, ◌&&◌, not, is_some, ℕ, List, [], ◌∷◌, ◌++◌, Bool, true, false, Option, Some, None}
+use Rattle.std.specs.Bool.{beq}
 use Rattle.yaml_chars.specs.Place.{Place}
 use Rattle.yaml_tokens.specs.Fault.{Fault}
 use Rattle.yaml_scanner.specs.Scanned.{Scanned}
@@ -62,3 +63,8 @@ read p = read_so p.given p.ended p.ahead
 -- Nothing was asked for.
 abbrev pub is_fresh : Parsed → Bool
 is_fresh p = not p.started && (not (is_some p.ahead) && not (is_some p.fault))
+
+-- whether the setting still counts from the stream's start on, where it is made this one now: nothing was asked for yet, or it is
+-- what it was
+abbrev pub stays_steady : Parsed → Bool → Bool
+stays_steady p value = p.steady && (is_fresh p || beq value p.keep_tags)

@@ -10,7 +10,7 @@ use Rattle.event_defs.specs.Stream.{events_of}
 use Rattle.yaml_parser.specs.declared.event.Event.{Event}
 use Rattle.yaml_parser.specs.Shown.{ev_of, placed}
 use Rattle.yaml_parser.specs.Parsed.{Parse, Parsed, parsed, is_stream_end, has_end, read}
-use Rattle.yaml_parser.specs.Follows.{Follows, IsWhole, Explains}
+use Rattle.yaml_parser.specs.Follows.{Follows, Derives, IsWhole, Explains}
 use Rattle.yaml_parser.specs.Nests.{BeginsNested}
 
 -- The settings stay.
@@ -22,6 +22,7 @@ pub record KeepsSettings (old new : Parsed) : Type 0 where
 pub record IsSound (p : Parsed) : Type 0 where
   pub fault : p.fault ≡ None
   pub nested : BeginsNested (events_of (read p))
+  pub derives : Derives p
   pub follows : p.steady ≡ true → Follows p
   pub whole : p.steady ≡ true → has_end (read p) ≡ true → IsWhole p
 

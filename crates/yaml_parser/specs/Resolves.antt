@@ -1,7 +1,9 @@
--- What the resolution of a tag comes to.
+-- What the resolution of a tag comes to. A fault's place is the mark.
 use Rattle.std.specs.Prelude.{◌≡◌, ℕ, List, Some, None, Result, Ok, Err}
+use Rattle.yaml_chars.specs.Place.{Place}
 use Rattle.yaml_tokens.specs.declared.problem.Fault.TheVariants.{OutOfMemory}
 use Rattle.yaml_tokens.specs.declared.problem.Fault.TheVariants as fault
+use Rattle.yaml_tokens.specs.declared.problem.Problem.TheVariants.{UndeclaredHandle}
 use Rattle.event_defs.specs.Event as defs
 use Rattle.event_defs.specs.Names.{Names, resolved, undeclared}
 use Rattle.yaml_parser.specs.declared.event.Tag.{Tag}
@@ -9,17 +11,17 @@ use Rattle.yaml_parser.specs.declared.tokens.Stop.{Stop}
 use Rattle.yaml_parser.specs.declared.tokens.Stop.TheVariants as stop
 use Rattle.yaml_parser.specs.Shown.{tag_of}
 
-abbrev pub Resolves : Names → defs.Tag → Result Tag Stop → Type 0
-Resolves names t (Ok x) = resolved names.handles t ≡ Some (tag_of x)
-Resolves names t (Err (stop.Own OutOfMemory)) = Unit {0}
-Resolves names t (Err (stop.Own (fault.At p m))) = resolved names.handles t ≡ None
-Resolves names t (Err stop.Scan) = ⊥
-Resolves names t (Err stop.Ended) = ⊥
+abbrev pub Resolves : Place → Names → defs.Tag → Result Tag Stop → Type 0
+Resolves mark names t (Ok x) = resolved names.handles t ≡ Some (tag_of x)
+Resolves mark names t (Err (stop.Own OutOfMemory)) = Unit {0}
+Resolves mark names t (Err (stop.Own (fault.At p m))) = (resolved names.handles t ≡ None) × (p ≡ UndeclaredHandle) × (m ≡ mark)
+Resolves mark names t (Err stop.Scan) = ⊥
+Resolves mark names t (Err stop.Ended) = ⊥
 
 -- the same of a handle that was not declared
-abbrev pub IsUndeclared : (handle suffix : List ℕ) → Result Tag Stop → Type 0
-IsUndeclared h x (Ok t) = (undeclared h ≡ Some (tag_of t).handle) × ((tag_of t).suffix ≡ x)
-IsUndeclared h x (Err (stop.Own OutOfMemory)) = Unit {0}
-IsUndeclared h x (Err (stop.Own (fault.At p m))) = undeclared h ≡ None
-IsUndeclared h x (Err stop.Scan) = ⊥
-IsUndeclared h x (Err stop.Ended) = ⊥
+abbrev pub IsUndeclared : Place → (handle suffix : List ℕ) → Result Tag Stop → Type 0
+IsUndeclared mark h x (Ok t) = (undeclared h ≡ Some (tag_of t).handle) × ((tag_of t).suffix ≡ x)
+IsUndeclared mark h x (Err (stop.Own OutOfMemory)) = Unit {0}
+IsUndeclared mark h x (Err (stop.Own (fault.At p m))) = (undeclared h ≡ None) × (p ≡ UndeclaredHandle) × (m ≡ mark)
+IsUndeclared mark h x (Err stop.Scan) = ⊥
+IsUndeclared mark h x (Err stop.Ended) = ⊥

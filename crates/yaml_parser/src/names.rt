@@ -108,7 +108,7 @@ impl Names {
     /// Declares a handle. A document may declare each but once.
     pub fn declare(&mut self, mark: Marker, handle: String, prefix: String) -> Result<(), Stop>
         ensures keep { self.new.keeping ≡ self.old.keeping }
-        ensures declares { (keep : Bool) (names : defs.Names) (read : List Directive) → HasRead self.old keep names read → Declares self.new keep names read (string_chars handle) (string_chars prefix) result }
+        ensures declares { (keep : Bool) (names : defs.Names) (read : List Directive) → HasRead self.old keep names read → Declares mark self.new keep names read (string_chars handle) (string_chars prefix) result }
     {
         if declares_nothing(&handle, &prefix) {
             return Ok(());
@@ -124,7 +124,7 @@ impl Names {
 
     /// A tag with its handle's prefix. `mark` is the place of a fault.
     pub fn resolve(&self, mark: Marker, handle: String, suffix: String) -> Result<Tag, Stop>
-        ensures { (names : defs.Names) → IsNamed self.now names → Resolves names (record { handle = string_chars handle; suffix = string_chars suffix }) result }
+        ensures { (names : defs.Names) → IsNamed self.now names → Resolves mark names (record { handle = string_chars handle; suffix = string_chars suffix }) result }
     {
         if handle.is_empty() {
             return Ok(Tag { handle, suffix });
@@ -151,7 +151,7 @@ impl Names {
 
     /// A tag whose handle was not declared.
     fn undeclared(&self, mark: Marker, handle: String, suffix: String) -> Result<Tag, Stop>
-        ensures { IsUndeclared (string_chars handle) (string_chars suffix) result }
+        ensures { IsUndeclared mark (string_chars handle) (string_chars suffix) result }
     {
         if handle.as_str() == "!!" {
             let handle = String::from_str(self.alloc, CORE_PREFIX)?;

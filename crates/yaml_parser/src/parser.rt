@@ -6,7 +6,7 @@ ghost use Rattle.std.specs.Str.Iter.{chars_rest};
 ghost use Rattle.yaml_chars.specs.Reading.{HasNoNul};
 ghost use Rattle.yaml_chars.specs.Source.{CameFrom};
 ghost use Rattle.yaml_scanner.specs.Scanned.{Scans};
-ghost use Rattle.yaml_parser.specs.Parsed.{parsed, is_fresh, is_stream_end};
+ghost use Rattle.yaml_parser.specs.Parsed.{parsed, is_fresh, stays_steady, is_stream_end};
 ghost use Rattle.yaml_parser.specs.Pulls.{GivesEvent, Pulls, Looks, ShowsNext, MeetsFault, PeekLeaves, ShowsLooked, answer_of};
 ghost use Rattle.yaml_parser.specs.Shown.{placed, ev_of};
 ghost use Rattle.yaml_parser.specs.View.{no_document};
@@ -115,11 +115,12 @@ impl<T: Iterator<Item = char>> Parser<T> {
         }
     }
 
-    /// Whether a declared tag handle counts in later documents too.
+    /// Whether a declared tag handle counts in later documents too. Where this changes on a parser that was asked for
+    /// something, what handles mean is not promised any more.
     pub fn keep_tags(mut self, value: bool) -> Self
-        ensures { result ≡ record self { so_far = record (parsed self) { keep_tags = value; steady = (parsed self).steady && is_fresh (parsed self) } } }
+        ensures { result ≡ record self { so_far = record (parsed self) { keep_tags = value; steady = stays_steady (parsed self) value } } }
     {
-        let steady = self.stays_steady();
+        let steady = self.stays_steady(value);
         self.pull.reader.names.keeping = Keeping {
             tags: value,
             steady,
@@ -127,11 +128,12 @@ impl<T: Iterator<Item = char>> Parser<T> {
         self
     }
 
-    /// Whether a setting that is made now counts from the stream's start on.
-    fn stays_steady(&self) -> bool
-        ensures { result ≡ (parsed self.now).steady && is_fresh (parsed self.now) }
+    /// Whether the setting counts from the stream's start on, where it is made this one now.
+    fn stays_steady(&self, value: bool) -> bool
+        ensures { result ≡ stays_steady (parsed self.now) value }
     {
-        self.pull.reader.names.keeping.steady && self.is_fresh()
+        let keeping = self.pull.reader.names.keeping;
+        keeping.steady && (self.is_fresh() || value == keeping.tags)
     }
 
     /// Whether nothing was asked for.

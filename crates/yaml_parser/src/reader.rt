@@ -40,6 +40,7 @@ impl<T: Iterator<Item = char>> Reader<T> {
     pub(crate) fn peek(&mut self) -> Result<Kind, Stop>
         ensures peeked { IfOk result (λ k. IsOfKind k self.new.tokens.peeked) }
         ensures names { self.new.names ≡ self.old.names }
+        ensures taken { self.new.tokens.taken ≡ self.old.tokens.taken }
         ensures start { self.new.tokens.scanner.start ≡ self.old.tokens.scanner.start }
         ensures work { OnOk result (work self.new ≤ work self.old) }
         ensures at { OnOk result ((g : Goal) → is_over g ≡ false → Carries g self.old self.new) }

@@ -1,6 +1,6 @@
 -- What was fetched and handed out is a run of the model.
 use Rattle.std.proofs.Common.{◌≡◌, ◌≢◌, ℕ, ◌+◌, ◌≤◌, List, [], ◌∷◌, ◌++◌, Bool, true, false, ◌||◌, refl, ap, sym, ◌∙◌, arith, Option, Some, None, length, map, take, drop, option_map, subst}
-use Rattle.std.specs.Prelude.{IfSome}
+use Rattle.std.specs.Prelude.{IfSome, codes}
 use Rattle.std.specs.List.{list_any}
 use Rattle.std.proofs.lemmas.List.{take-append-drop, length-take}
 use Rattle.yaml_chars.proofs.ReadingLemmas.{Possible-taken}
@@ -193,6 +193,14 @@ memory_sound (Some k) a r ts h = by k.fault k.mark r
     by OutOfMemory m r = refl
     by (At q p) m r = absurd (not_refused a ts (At q p) h (r (λ e. absurd cc)))
 
+memory_says : (f : Option Kept) → IfSome (option_map kept_fault f) (λ x. x.memory ≡ true → x.text ≡ codes "out of memory")
+memory_says None = tt
+memory_says (Some k) = by k.fault k.mark
+  where
+    by : (e : Fault) (m : Place) → (fault_of e m).memory ≡ true → (fault_of e m).text ≡ codes "out of memory"
+    by OutOfMemory m h = refl
+    by (At q p) m h = absurd cc
+
 is_refusal : (f : Option Kept) (a : List ℕ) → IfSome f (λ k. k.fault ≢ OutOfMemory → IsRefused a k.fault) → IfSome (option_map kept_fault f) (λ x. x.memory ≡ false → IsRefusal a x)
 is_refusal None a r = tt
 is_refusal (Some k) a r = by k.fault k.mark r
@@ -223,6 +231,7 @@ scans_from x f = record {
         begins = s.begins;
         whole = s.whole;
         sound = memory_sound x.kept a s.refused;
+        wants = memory_says x.kept;
         refused = is_refusal x.kept a s.refused;
         same = one_refusal x.kept a s.refused;
       };

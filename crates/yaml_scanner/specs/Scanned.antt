@@ -1,5 +1,5 @@
 -- What clauses see of a scanner.
-use Rattle.std.specs.Prelude.{◌≡◌, ℕ, ◌<◌, List, [], ◌∷◌, ◌++◌, length, take, Bool, true, false, Option, Some, None, IfSome, option_map}
+use Rattle.std.specs.Prelude.{◌≡◌, ℕ, ◌<◌, List, [], ◌∷◌, ◌++◌, length, take, Bool, true, false, Option, Some, None, IfSome, option_map, codes}
 use Rattle.yaml_chars.specs.Place.{Place}
 use Rattle.yaml_chars.specs.Reading.{place_of}
 use Rattle.token_defs.specs.Token.{Token}
@@ -81,6 +81,8 @@ pub record ScansIn (a : List ℕ) (s : Scanned) : Type 0 where
   pub whole : s.ended ≡ true → HasTokens a s.given
   -- a text with tokens has no fault but want of memory
   pub sound : (ts : List Token) → HasTokens a ts → IfSome s.fault (λ f. f.memory ≡ true)
+  -- want of memory has its text
+  pub wants : IfSome s.fault (λ f. f.memory ≡ true → f.text ≡ codes "out of memory")
   -- a fault that is no want of memory is the text's refusal, of which there is one
   pub refused : IfSome s.fault (λ f. f.memory ≡ false → IsRefusal a f)
   pub same : (e : code.Fault) → IsRefused a e → IfSome s.fault (λ f. f.memory ≡ false → (p : Place) × (f ≡ fault_of e p))

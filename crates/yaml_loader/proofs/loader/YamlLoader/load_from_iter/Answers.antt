@@ -2,8 +2,7 @@ use Rattle.std.proofs.Common.{◌∙◌}
 use Rattle.yaml_chars.specs.Reading.{up_to_nul}
 use Rattle.yaml_parser.specs.Parsed.{parsed}
 use Rattle.yaml_loader.specs.TextLoads.{LoadsText, LoadsOnly}
-use Rattle.yaml_loader.proofs.QuotedLoads.{of_quoted}
-use Rattle.yaml_loader.proofs.TextLemmas.{given_may_be, of_texts, of_text, of_json, of_layout}
+use Rattle.yaml_loader.proofs.TextLemmas.{given_may_be, begins_given, answers, of_texts, of_text, of_json, of_layout, of_quoted}
 use Rattle.yaml_loader.proofs.loader.YamlLoader.load_from_iter.Goals as goal
 
 pub returns-clause-reads : goal.returns-clause-reads
@@ -27,3 +26,13 @@ returns-clause-laid_out g c = λ text always. of_layout text (LoadsOnly c.load_f
 
 pub returns-clause-quoted : goal.returns-clause-quoted
 returns-clause-quoted g c = λ text always. of_quoted text (LoadsOnly c.load_from_parser.result) (returns-clause-texts g c text always)
+
+pub returns-clause-given : goal.returns-clause-given
+returns-clause-given g c =
+    let e = c.new-parser.ensures in
+    let p = c.load_from_parser.ensures in
+    let old = parsed c.new-parser.result in
+    let new = parsed c.load_from_parser.new.parser in
+    begins_given g.I.Iterator.next_gives c.args.source c.load_from_parser.new.parser.start new.scanner (p.start ∙ e.start) p.came p.no_nul
+    (λ text may. answers text c.load_from_parser.result (of_texts old new text (λ keep a. LoadsText keep a c.load_from_parser.result)
+    (record { given = e.given; fault = e.fault; started = e.started; ended = e.ended; steady = e.steady }) e.keep_tags may p.reads))

@@ -4,8 +4,7 @@ use Rattle.std.specs.Str.Iter.{chars_rest}
 use Rattle.yaml_chars.specs.Reading.{up_to_nul}
 use Rattle.yaml_parser.specs.Parsed.{parsed}
 use Rattle.yaml_loader.specs.TextLoads.{LoadsText, LoadsOnly}
-use Rattle.yaml_loader.proofs.QuotedLoads.{of_quoted}
-use Rattle.yaml_loader.proofs.TextLemmas.{string_may_be, of_texts, of_text, of_json, of_layout}
+use Rattle.yaml_loader.proofs.TextLemmas.{string_may_be, of_texts, of_text, of_json, of_layout, of_first_json, of_first_layout, of_quoted, of_first_quoted}
 use Rattle.yaml_loader.proofs.loader.YamlLoader.load_from_str.Goals as goal
 
 pub returns-clause-reads : goal.returns-clause-reads
@@ -27,3 +26,12 @@ returns-clause-laid_out c = of_layout (chars c.args.source.now) (LoadsOnly c.loa
 
 pub returns-clause-quoted : goal.returns-clause-quoted
 returns-clause-quoted c = of_quoted (chars c.args.source.now) (LoadsOnly c.load_from_parser.result) (returns-clause-texts c)
+
+pub returns-clause-json_before_nul : goal.returns-clause-json_before_nul
+returns-clause-json_before_nul c = of_first_json (up_to_nul (chars c.args.source.now)) (LoadsOnly c.load_from_parser.result) (returns-clause-texts c)
+
+pub returns-clause-laid_out_before_nul : goal.returns-clause-laid_out_before_nul
+returns-clause-laid_out_before_nul c = of_first_layout (up_to_nul (chars c.args.source.now)) (LoadsOnly c.load_from_parser.result) (returns-clause-texts c)
+
+pub returns-clause-quoted_before_nul : goal.returns-clause-quoted_before_nul
+returns-clause-quoted_before_nul c = of_first_quoted (up_to_nul (chars c.args.source.now)) (LoadsOnly c.load_from_parser.result) (returns-clause-texts c)

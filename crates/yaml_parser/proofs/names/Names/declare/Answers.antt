@@ -11,9 +11,12 @@ returns-then-declares_nothing-clause-declares c = λ keep names read h.
     has_ignored (string_chars c.args.handle) (string_chars c.args.prefix) y.0 y.1 h
 
 pub returns-then-contains-clause-declares : goal.returns-then-contains-clause-declares
-returns-then-contains-clause-declares c = λ keep names read h more.
-    repeated_handle read (string_chars c.args.handle) (string_chars c.args.prefix) more (c.declares_nothing.ensures.no c.if-declares_nothing.false)
-    (sym (h.own.own c.args.handle) ∙ ap (contains_text c.args.self.now.own) (sym c.as_str.ensures.value) ∙ sym c.contains.ensures ∙ c.if-contains.true)
+returns-then-contains-clause-declares c = λ keep names read h. (
+  λ more. repeated_handle read (string_chars c.args.handle) (string_chars c.args.prefix) more (c.declares_nothing.ensures.no c.if-declares_nothing.false)
+      (sym (h.own.own c.args.handle) ∙ ap (contains_text c.args.self.now.own) (sym c.as_str.ensures.value) ∙ sym c.contains.ensures ∙ c.if-contains.true),
+  refl,
+  refl,
+)
 
 pub returns-clause-declares : goal.returns-clause-declares
 returns-clause-declares c = λ keep names read h.

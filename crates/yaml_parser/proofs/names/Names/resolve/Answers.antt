@@ -11,5 +11,5 @@ returns-in-Some c = λ names n. resolved_nonempty names.handles _ _ (Some (strin
     (sym (n.handles c.args.handle) ∙ sym c.in_ok-prefix.ensures ∙ ap (option_map string_chars) c.in-Some.is)
 
 pub returns-in-None : goal.returns-in-None
-returns-in-None c = λ names n. undeclared_resolves names _ _ c.undeclared.result (nonempty_chars c.args.handle (string_length c.args.handle ∙ sym c.is_empty.ensures ∙ c.if-is_empty.false))
+returns-in-None c = λ names n. undeclared_resolves c.args.mark names _ _ c.undeclared.result (nonempty_chars c.args.handle (string_length c.args.handle ∙ sym c.is_empty.ensures ∙ c.if-is_empty.false))
     (sym (n.handles c.args.handle) ∙ sym c.in_ok-prefix.ensures ∙ ap (option_map string_chars) c.in-None.is) c.undeclared.ensures

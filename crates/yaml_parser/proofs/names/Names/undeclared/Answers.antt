@@ -16,6 +16,9 @@ returns-then-eq-2 c = (
 )
 
 pub returns : goal.returns
-returns c =
-    undeclared_other (string_chars c.args.handle) (sym (secondary_is c.args.handle) ∙ sym (ap (λ u. bytes_eq u (codes "!!")) c.as_str.ensures.value) ∙ sym c.eq.ensures ∙ c.if-eq.false)
-    (sym (primary_is c.args.handle) ∙ sym (ap (λ u. bytes_eq u (codes "!")) c.as_str-2.ensures.value) ∙ sym c.eq-2.ensures ∙ c.if-eq-2.false)
+returns c = (
+  undeclared_other (string_chars c.args.handle) (sym (secondary_is c.args.handle) ∙ sym (ap (λ u. bytes_eq u (codes "!!")) c.as_str.ensures.value) ∙ sym c.eq.ensures ∙ c.if-eq.false)
+      (sym (primary_is c.args.handle) ∙ sym (ap (λ u. bytes_eq u (codes "!")) c.as_str-2.ensures.value) ∙ sym c.eq-2.ensures ∙ c.if-eq-2.false),
+  refl,
+  refl,
+)

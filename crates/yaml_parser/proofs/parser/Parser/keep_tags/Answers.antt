@@ -1,6 +1,6 @@
-use Rattle.std.proofs.Common.{◌∙◌, ap, sym, ◌&&◌}
+use Rattle.std.proofs.Common.{◌∙◌, ap, sym}
 use Rattle.yaml_parser.specs.Shown.{all_placed}
-use Rattle.yaml_parser.specs.Parsed.{is_fresh, parsed}
+use Rattle.yaml_parser.specs.Parsed.{stays_steady, parsed}
 use Rattle.yaml_parser.proofs.Parsing.{settings_hold}
 use Rattle.yaml_parser.proofs.parser.Parser.keep_tags.Goals as goal
 
@@ -8,4 +8,4 @@ pub invariant_of-self : goal.invariant_of-self
 invariant_of-self g c =
     let i = c.self.inside in
     settings_hold i.pull (all_placed i.given.items) i.current i.started i.ended i.misplaced (record { tags = c.args.value; steady = c.stays_steady-steady.result }) c.self.invariant
-    (c.stays_steady-steady.ensures ∙ sym (ap (λ v. (parsed v).steady && is_fresh (parsed v)) c.self.view_is))
+    (c.stays_steady-steady.ensures ∙ sym (ap (λ v. stays_steady (parsed v) c.args.value) c.self.view_is))

@@ -3,6 +3,8 @@ use Rattle.grammar_turns.specs.Goal as at
 use Rattle.grammar_turns.proofs.Flow as turn
 use Rattle.yaml_parser.proofs.Arms.{gives, goes, plain, answers_err, not_as}
 use Rattle.yaml_parser.proofs.Ends.{refuses}
+use Rattle.yaml_parser.proofs.Fits.{no_item}
+use Rattle.yaml_tokens.specs.declared.problem.Problem.TheVariants.{FlowSequenceEntry}
 use Rattle.yaml_parser.proofs.reader.Reader.flow_sequence_entry.Goals as goal
 
 pub returns-in_err-next-clause-answers : goal.returns-in_err-next-clause-answers
@@ -15,4 +17,4 @@ pub returns-in-FlowEntry-clause-answers : goal.returns-in-FlowEntry-clause-answe
 returns-in-FlowEntry-clause-answers g c = λ names given h. c.flow_sequence_next.ensures.answers names given (goes c.in_ok-next.ensures.peeked c.in-FlowEntry.is refl c.skip-in-FlowEntry.ensures.took (turn.more_items_comma _) refl tt refl refl (c.in_ok-next.ensures.at at.more_items refl names given h))
 
 pub returns-in_default-clause-answers : goal.returns-in_default-clause-answers
-returns-in_default-clause-answers g c = λ names given h. refuses c.in_ok-next.ensures.peeked (λ t e. turn.more_items_refuses _ t (not_as c.in_default.not-FlowSequenceEnd e) (not_as c.in_default.not-FlowEntry e)) (c.in_ok-next.ensures.at at.more_items refl names given h)
+returns-in_default-clause-answers g c = λ names given h. refuses FlowSequenceEntry refl (no_item _ c.in_default.not-FlowEntry c.in_default.not-FlowSequenceEnd) c.mark.ensures c.in_ok-next.ensures.peeked (λ t e. turn.more_items_refuses _ t (not_as c.in_default.not-FlowSequenceEnd e) (not_as c.in_default.not-FlowEntry e)) (c.in_ok-next.ensures.at at.more_items refl names given h)

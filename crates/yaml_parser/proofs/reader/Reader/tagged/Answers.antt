@@ -11,7 +11,7 @@ use Rattle.yaml_parser.proofs.NodeArms.{taken_with, anchor_text, tag_taken, anch
 use Rattle.yaml_parser.proofs.reader.Reader.tagged.Goals as goal
 
 pub returns-in_err-tag-clause-answers : goal.returns-in_err-tag-clause-answers
-returns-in_err-tag-clause-answers g c = λ names given h. let l = looked _ _ c.requires in answers_err _ given c.from_residual.result _ c.from_residual.ensures.1 (resolve_fails _ given names (record { handle = string_chars c.take_tag-handle.result.0; suffix = string_chars c.take_tag-handle.result.1 }) _ (c.in_err-tag.ensures names h.code) (λ no. tag_unknown l.1 (taken_with c.take_tag-handle.ensures.skips l.1) refl (if_some_at (λ t. tok_of t.1 ≡ written.tag_token (record { handle = string_chars c.take_tag-handle.result.0; suffix = string_chars c.take_tag-handle.result.1 })) c.take_tag-handle.ensures.texts l.1) no h))
+returns-in_err-tag-clause-answers g c = λ names given h. let l = looked _ _ c.requires in answers_err _ given c.from_residual.result _ c.from_residual.ensures.1 (resolve_fails _ given c.mark-mark.result names (record { handle = string_chars c.take_tag-handle.result.0; suffix = string_chars c.take_tag-handle.result.1 }) _ (c.in_err-tag.ensures names h.code) (λ no. tag_unknown l.1 (if_some_at (λ t. t.0 ≡ c.mark-mark.result) c.mark-mark.ensures l.1) (taken_with c.take_tag-handle.ensures.skips l.1) refl (if_some_at (λ t. tok_of t.1 ≡ written.tag_token (record { handle = string_chars c.take_tag-handle.result.0; suffix = string_chars c.take_tag-handle.result.1 })) c.take_tag-handle.ensures.texts l.1) no h))
 
 pub returns-in_err-next-clause-answers : goal.returns-in_err-next-clause-answers
 returns-in_err-next-clause-answers g c = λ names given h. let l = looked _ _ c.requires in let known = c.in_ok-tag.ensures names h.code in answers_err c.peek.new.self given c.from_residual-in_err-next.result _ c.from_residual-in_err-next.ensures.1 (c.in_err-next.ensures.err (at.behind_tag c.args.place (record { handle = string_chars c.take_tag-handle.result.0; suffix = string_chars c.take_tag-handle.result.1 })) refl names given (tag_taken l.1 (taken_with c.take_tag-handle.ensures.skips l.1) refl refl (if_some_at (λ t. tok_of t.1 ≡ written.tag_token (record { handle = string_chars c.take_tag-handle.result.0; suffix = string_chars c.take_tag-handle.result.1 })) c.take_tag-handle.ensures.texts l.1) known h))

@@ -4,7 +4,7 @@ use Rattle.yaml_parser.proofs.DocumentArms.{version_taken, version_refused}
 use Rattle.yaml_parser.proofs.reader.Reader.version.Goals as goal
 
 pub returns-then-versioned-clause-directs : goal.returns-then-versioned-clause-directs
-returns-then-versioned-clause-directs g c = λ names given d. version_refused c.requires c.skip-mark.ensures.took (subst (Directing c.args.self.now names given) c.if-versioned.true d)
+returns-then-versioned-clause-directs g c = λ names given d. version_refused c.requires c.skip-mark.ensures.mark c.skip-mark.ensures.took (subst (Directing c.args.self.now names given) c.if-versioned.true d)
 
 pub returns-clause-directs : goal.returns-clause-directs
 returns-clause-directs g c = λ names given d. version_taken c.requires c.skip-mark.ensures.took (subst (Directing c.args.self.now names given) c.if-versioned.false d)

@@ -1,0 +1,82 @@
+-- The parser's own fault: what it says of the token that is refused.
+use Rattle.std.specs.Prelude.{◌≡◌, ◌⊎◌, List, [], ◌∷◌, ◌++◌, Bool, true, false, not, codes}
+use Rattle.yaml_chars.specs.Place.{Place}
+use Rattle.token_defs.specs.Token.{Tok, Token}
+use Rattle.yaml_tokens.specs.Fault.{Fault}
+use Rattle.yaml_tokens.specs.Problem.{fault_of}
+use Rattle.yaml_tokens.specs.declared.problem.Fault.TheVariants as fault
+use Rattle.yaml_tokens.specs.declared.problem.Problem.{Problem}
+use Rattle.yaml_tokens.specs.declared.problem.Problem.TheVariants as problem
+use Rattle.event_defs.specs.Grammar.{Documents, stream_tokens}
+use Rattle.event_defs.specs.Stream.{toks}
+use Rattle.grammar_turns.specs.declared.kind.Kind.{Kind}
+use Rattle.grammar_turns.specs.declared.kind.Kind.TheVariants as kind
+use Rattle.grammar_turns.specs.declared.place.Place.TheVariants as place
+use Rattle.grammar_turns.specs.Kinds.{kind_of, is_directive, begins_content, ends_item, ends_flow_pair}
+
+-- what goes on in a block sequence
+abbrev pub is_entry_or_end : Kind → Bool
+is_entry_or_end kind.BlockEntry = true
+is_entry_or_end kind.BlockEnd = true
+is_entry_or_end _ = false
+
+-- what goes on in a block mapping
+abbrev pub is_key_or_end : Kind → Bool
+is_key_or_end kind.Key = true
+is_key_or_end kind.BlockEnd = true
+is_key_or_end _ = false
+
+-- whether a token of this kind may be refused for this problem; for one that is not the parser's, none may
+abbrev pub fits : Problem → Kind → Bool
+fits problem.DocumentStartToken k = true
+fits problem.SecondVersion kind.VersionDirective = true
+fits problem.RepeatedHandle kind.TagDirective = true
+fits problem.DirectiveWithoutDocumentEnd k = is_directive k
+fits problem.UnknownAnchor kind.Alias = true
+fits problem.UndeclaredHandle kind.Tag = true
+fits problem.NodeContent k = not (begins_content place.Flow k)
+fits problem.BlockMappingKey k = not (is_key_or_end k)
+fits problem.BlockSequenceEntry k = not (is_entry_or_end k)
+fits problem.FlowMappingEntry k = not (ends_flow_pair k)
+fits problem.FlowSequenceEntry k = not (ends_item k)
+fits _ _ = false
+
+-- whether the problem is what a name means, or how often it is declared: the tokens alone would go on
+abbrev pub is_of_names : Problem → Bool
+is_of_names problem.SecondVersion = true
+is_of_names problem.RepeatedHandle = true
+is_of_names problem.UnknownAnchor = true
+is_of_names problem.UndeclaredHandle = true
+is_of_names _ = false
+
+-- The last of these tokens is an anchor, at this place.
+pub record EndsInAnchor (tokens : List Token) (place : Place) : Type 0 where
+  pub before : List Token
+  pub anchor : Token
+  pub whole : tokens ≡ before ++ anchor ∷ []
+  pub is : kind_of anchor.tok ≡ kind.Anchor
+  pub at : place ≡ anchor.place
+
+-- The place is that of the token. An undeclared handle's is that of the node's first property: the anchor's, where it stands
+-- right before the tag.
+abbrev pub StandsAt : Problem → Place → List Token → Token → Type 0
+StandsAt p place before last =
+    ((place ≡ last.place) × (p ≡ problem.UndeclaredHandle → (q : Place) → EndsInAnchor before q → ⊥))
+    ⊎ ((p ≡ problem.UndeclaredHandle) × EndsInAnchor before place)
+
+-- The fault refuses the last of these tokens: it has a text of the parser's that fits the token, and stands at it.
+pub record Blames (f : Fault) (tokens : List Token) : Type 0 where
+  pub before : List Token
+  pub last : Token
+  pub whole : tokens ≡ before ++ last ∷ []
+  pub problem : Problem
+  pub shown : f ≡ fault_of (fault.At problem f.place) f.place
+  pub fits_it : fits problem (kind_of last.tok) ≡ true
+  pub stands : StandsAt problem f.place before last
+  -- But for a problem of names, the token grammar has no stream that begins so, whatever names mean.
+  pub none : is_of_names problem ≡ false → (d : Documents) (ts : List Tok) → stream_tokens d ≡ toks tokens ++ ts → ⊥
+
+-- Memory was refused.
+pub record WantsMemory (f : Fault) : Type 0 where
+  pub memory : f.memory ≡ true
+  pub text : f.text ≡ codes "out of memory"
