@@ -17,7 +17,7 @@ use Rattle.yaml_parser.specs.Parsed.{Parsed, is_stream_end, has_end, read}
 use Rattle.yaml_parser.specs.Blames.{Blames}
 use Rattle.yaml_parser.specs.Follows.{Follows, Refused, IsWhole, Explains}
 use Rattle.yaml_parser.specs.Loads as loads
-use Rattle.yaml_parser.specs.Loads.{PullsAll, no_call, one_call, Receives, EndsSo, Loads}
+use Rattle.yaml_parser.specs.Loads.{PullsAll, no_call, one_call, Receives, EndsSo}
 use Rattle.loaded_texts.specs.TextReadAs.{IsAtStart}
 use Rattle.loaded_texts.specs.TextEvents.{HasEvents, AreFirst, BeginsEvents, IsFaultOf, wants_memory, no_token, no_stream, AnswersText, whole, faulted, refused}
 use Rattle.loaded_texts.specs.Laws.{TextsAreAnswered}

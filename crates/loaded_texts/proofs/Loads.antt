@@ -1,5 +1,5 @@
 -- A load of a text that is read as trees.
-use Rattle.std.proofs.Common.{◌≡◌, ℕ, true, Bool, List, ◌∷◌, [], ◌++◌, sym, ap, ◌∙◌, subst}
+use Rattle.std.proofs.Common.{◌≡◌, ℕ, true, Bool, List, ◌∷◌, [], ◌++◌, ap, ◌∙◌, subst}
 use Rattle.std.specs.Prelude.{Result}
 use Rattle.yaml_chars.specs.Place.{Place}
 use Rattle.tree_defs.specs.Tree.{Tree}
@@ -10,7 +10,7 @@ use Rattle.scan_model.proofs.Runs.{one_list, not_refused}
 use Rattle.layout_defs.specs.Json.{spell_text, tree_of}
 use Rattle.read_json.proofs.Loads.{streams_are_loaded, foretold_are_not_refused, streams_are_not_cut}
 use Rattle.loaded_texts.specs.TextReadAs.{IsReadAs}
-use Rattle.loaded_texts.specs.TextEvents.{HasEvents, BeginsEvents, IsFaultOf, wants_memory, no_token, no_stream, AnswersText}
+use Rattle.loaded_texts.specs.TextEvents.{HasEvents, IsFaultOf, wants_memory, no_token, no_stream, AnswersText}
 use Rattle.loaded_texts.specs.TextEvents as answers
 use Rattle.loaded_texts.specs.LoadsAs.{LoadsAs, well, refused}
 use Rattle.loaded_texts.specs.LoadsAs as loads

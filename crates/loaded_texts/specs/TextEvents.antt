@@ -1,5 +1,5 @@
 -- Any text against what a parser that is at its start pushes of it.
-use Rattle.std.specs.Prelude.{◌≡◌, ℕ, Bool, true, List, [], ◌∷◌, ◌++◌, Option, Result, Ok, Err}
+use Rattle.std.specs.Prelude.{◌≡◌, ℕ, Bool, List, [], ◌∷◌, ◌++◌, Option, Result, Ok, Err}
 use Rattle.yaml_chars.specs.Place.{Place}
 use Rattle.token_defs.specs.Token.{Token}
 use Rattle.yaml_tokens.specs.Fault.{Fault}

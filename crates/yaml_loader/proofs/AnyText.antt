@@ -1,13 +1,12 @@
 -- What a load answers of any text.
 use Rattle.std.proofs.Common.{◌≡◌, ℕ, Bool, List, [], ◌∷◌, ◌++◌, true, false, refl, sym, ap, ◌∙◌, subst, inl, inr}
-use Rattle.std.specs.Prelude.{Option, Some, None, Result, Ok, Err, String, map}
+use Rattle.std.specs.Prelude.{Some, None, Result, Ok, Err, String}
 use Rattle.std.specs.declared.alloc.Global.{Global}
 use Rattle.yaml_chars.specs.Place.{Place}
 use Rattle.token_defs.specs.Token.{Token}
 use Rattle.tree_defs.specs.Tree.{Tree}
 use Rattle.event_defs.specs.Event.{Ev}
 use Rattle.event_defs.specs.Stream.{BeginsPlaced, events_of, toks}
-use Rattle.event_defs.specs.Nested.{NestedDocument, nested_stream}
 use Rattle.event_defs.specs.Reading.{reading}
 use Rattle.event_defs.specs.Unfinished.{Loader, at_work, noted, new_loader, with_event_at, with_events, refused_at}
 use Rattle.event_defs.specs.Unfinished as unfinished
@@ -15,11 +14,11 @@ use Rattle.event_defs.specs.Laws.{HasRead}
 use Rattle.event_defs.proofs.OneByOne.{one_by_one}
 use Rattle.event_defs.proofs.StreamNests.{stream_nests}
 use Rattle.yaml_tokens.specs.Fault.{Fault}
-use Rattle.yaml_scanner.specs.Scanned.{ScansIn, MayBe, Scans}
+use Rattle.yaml_scanner.specs.Scanned.{Scans}
 use Rattle.yaml_parser.specs.Blames.{WantsMemory}
 use Rattle.yaml_parser.specs.Parsed.{Parsed}
-use Rattle.yaml_parser.specs.Loads.{Receives, Loads}
-use Rattle.loaded_texts.specs.TextReadAs.{IsReadAs, IsAtStart}
+use Rattle.yaml_parser.specs.Loads.{Loads}
+use Rattle.loaded_texts.specs.TextReadAs.{IsReadAs}
 use Rattle.loaded_texts.specs.TextEvents.{HasEvents, BeginsEvents, IsFaultOf, wants_memory, AnswersText, whole, faulted, refused}
 use Rattle.loaded_texts.proofs.Answers.{placed_stream, nested_is_stream, texts_are_answered}
 use Rattle.yaml_loader.specs.declared.loader.Course.{Course}
@@ -29,7 +28,7 @@ use Rattle.yaml_loader.specs.Alike.{StandAlike}
 use Rattle.yaml_loader.specs.View.{unfinished_of, repeated_key}
 use Rattle.yaml_loader.specs.Loading.{loader_of, loader_by, kept_fault, IsNewFault, Takes}
 use Rattle.yaml_loader.specs.Loads.{HasNoted}
-use Rattle.yaml_loader.specs.Unread.{IsUnread, of_parser}
+use Rattle.yaml_loader.specs.Unread.{IsUnread}
 use Rattle.yaml_loader.specs.Unread as unread
 use Rattle.yaml_loader.specs.TextLoads.{OfTexts}
 use Rattle.yaml_loader.proofs.LoadLemmas.{with_last, StandsBehind, stands, new_fault, key_noted}

@@ -1,30 +1,18 @@
 -- What a load answers of a text that is read as trees.
-use Rattle.std.proofs.Common.{◌≡◌, ℕ, Bool, List, [], ◌∷◌, true, false, refl, sym, ap, ◌∙◌, subst}
-use Rattle.std.specs.Prelude.{Option, Result, Ok, Err, Vec, map}
+use Rattle.std.proofs.Common.{◌≡◌, ℕ, Bool, List, [], ◌∷◌, false, refl, sym, ap, ◌∙◌, subst}
+use Rattle.std.specs.Prelude.{Option, Result, Ok, Err, Vec}
 use Rattle.std.specs.declared.alloc.Global.{Global}
 use Rattle.std.specs.Str.{chars, IsUtf8}
 use Rattle.std.specs.Str.Iter.{chars_steps, chars_rest}
 use Rattle.std.specs.declared.str.Chars.{Chars}
 use Rattle.yaml_chars.specs.Source.{CameFrom}
 use Rattle.yaml_chars.specs.Reading.{HasNoNul, up_to_nul, Begins}
-use Rattle.yaml_chars.specs.Place.{Place}
 use Rattle.yaml_chars.proofs.SpelledLemmas.{Chars-spelled}
-use Rattle.token_defs.specs.Token.{Tok}
 use Rattle.tree_defs.specs.Tree.{Tree}
 use Rattle.layout_defs.specs.Json.{spell_text, tree_of}
 use Rattle.layout_defs.specs.Layout as layout
-use Rattle.event_defs.specs.Event.{Ev}
-use Rattle.event_defs.specs.Stream.{IsStream, toks, events_of}
-use Rattle.event_defs.specs.Nested.{NestedDocument, nested_stream}
-use Rattle.event_defs.specs.Reading.{reading}
-use Rattle.event_defs.specs.Unfinished.{Loader, at_work, noted, new_loader, with_events}
-use Rattle.event_defs.specs.Unfinished as unfinished
-use Rattle.event_defs.specs.Laws.{HasRead}
-use Rattle.event_defs.proofs.OneByOne.{one_by_one}
-use Rattle.event_defs.proofs.OneReading as grammar
+use Rattle.event_defs.specs.Stream.{toks}
 use Rattle.yaml_tokens.specs.Fault.{Fault}
-use Rattle.scan_model.proofs.Runs.{one_list}
-use Rattle.scan_json.specs.JsonScan.{HasToks}
 use Rattle.yaml_tree.specs.declared.yaml.Yaml.{Yaml}
 use Rattle.yaml_scanner.specs.Scanned.{Scanned, MayBe}
 use Rattle.yaml_parser.specs.Parsed.{Parsed}
