@@ -1,5 +1,5 @@
 -- What a load answers of a text that is one quoted scalar.
-use Rattle.std.proofs.Common.{ℕ, List, refl}
+use Rattle.std.proofs.Common.{ℕ, List, false, refl}
 use Rattle.tree_defs.specs.Tree.{Tree}
 use Rattle.yaml_chars.specs.Reading.{up_to_nul}
 use Rattle.loaded_texts.proofs.QuotedTexts.{quoted_texts_are_read, quoted_texts_have_no_nul}
