@@ -1,11 +1,11 @@
 -- A text that is one quoted scalar is read as one string, and has no NUL.
-use Rattle.std.proofs.Common.{◌≡◌, ◌≢◌, ℕ, zero, suc, List, [], ◌∷◌, ◌++◌, Bool, true, false, Option, Some, refl, sym, ap, ◌∙◌, subst, arith, replicate}
+use Rattle.std.proofs.Common.{◌≡◌, ◌≢◌, ℕ, zero, suc, List, [], ◌∷◌, ◌++◌, true, false, Some, refl, subst, arith, replicate}
 use Rattle.std.specs.List.{list_all}
 use Rattle.token_defs.specs.Token.{Tok}
 use Rattle.laid_tokens.specs.QuotedText.{Quotes, QuotedText, IsQuoted, HasQuotedTokens, spell, quote_of, style_of, body_value}
 use Rattle.laid_tokens.specs.QuotedText as laid
 use Rattle.read_wide.proofs.Quoted.{quoted_read_as_their_string}
-use Rattle.scan_quoted.specs.QuotedScan.{is_some, value_of}
+use Rattle.scan_quoted.specs.QuotedScan.{is_some}
 use Rattle.scan_quoted.proofs.NoNul.{has_none}
 use Rattle.scan_quoted.proofs.Values.{parts}
 use Rattle.scan_quoted.proofs.Tokens.{quoted_texts_have_their_tokens}

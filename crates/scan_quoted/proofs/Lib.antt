@@ -10,3 +10,4 @@ mod Local
 mod Faults
 mod Shapes
 pub mod Ends
+mod Rows
