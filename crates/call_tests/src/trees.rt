@@ -17,7 +17,13 @@ fn word(alloc: Global, text: &str) -> Result<Yaml, Fail> {
 }
 
 // A text and its type.
-const TYPED: [(&str, &str); 27] = [
+const TYPED: [(&str, &str); 33] = [
+    ("1e400", "Real(\"1e400\")"),
+    (".5", "Real(\".5\")"),
+    ("0x", "String(\"0x\")"),
+    ("+", "String(\"+\")"),
+    ("-0x1", "String(\"-0x1\")"),
+    ("Null", "String(\"Null\")"),
     ("0x2A", "Integer(42)"),
     ("0o52", "Integer(42)"),
     ("42", "Integer(42)"),
