@@ -12,11 +12,13 @@ characters. Of each text it is checked that
 - tokens, events and trees are those of THEIRS, or a rule of rules.py explains the difference;
 - its dump in each of the four settings is that of THEIRS, or explained by trees.py, and loads as the same trees.
 
+Before these come every beginning of each row of compare.py, and every beginning of lists of bytes, with each trap, which is answered.
+
 The last line is `clean` or counts what was found; then the exit status is 1. With the same seed and count the texts are the same.
 """
 import argparse, collections, itertools, os, random, re, subprocess, sys, tempfile
 
-import compare, rules, shapes, trees
+import compare, octets, rules, shapes, trees
 
 GROWN = 20000
 TEXT, CHARACTER = 400e-6, 4e-6
@@ -28,6 +30,16 @@ def grown(r):
     """A piece repeated, behind another one and before a third."""
     piece = compare.short(r)
     return r.choice(["", "", compare.short(r)]) + piece * (GROWN // len(piece)) + r.choice(["", "", compare.short(r)])
+
+
+def beginnings():
+    """Every beginning of each row of compare.py."""
+    return (row[:n] for row in compare.ROWS for n in range(len(row) + 1))
+
+
+OCTETS = [b"---\na\xa9: 1\nb: 2.2\nc: [1, 2]\n", b"\xff\xfe\x00\xd8a\x00", b"\x00a", b"a\xff", b"\xe2\x82A", b"\xe0\x80A", b"\xef\xbb\xbfa\xff", b"\xff\xfea\x00b", b"\xff\xfe\x00\xd8a",
+          b"\xff\xfe\x00\xd8\x01\xd8\x00\xdc", b"\xef\xbb\xbf---\na: 1\n"] + [mark + "---\na: 1\nb: 2.2\nc: [1, 2]\n".encode(code) for mark, code in
+          [(b"\xff\xfe", "utf-16-le"), (b"", "utf-16-le"), (b"\xfe\xff", "utf-16-be"), (b"", "utf-16-be")]]
 
 
 def texts(seed, count):
@@ -99,6 +111,14 @@ class Fuzz:
                 return {}
             half = len(paths) // 2
             return {**self.asked(words, paths[:half], texts[:half]), **self.asked(words, paths[half:], texts[half:])}
+
+    def octets(self, directory):
+        """Every beginning of each list of bytes, with each trap, is answered."""
+        lists = [units[:n] for units in OCTETS for n in range(len(units) + 1)]
+        paths = compare.written(lists, directory)
+        for trap in octets.TRAPS:
+            lines = self.asked(["decode", trap], paths, lists)
+            self.found += [(units, "decode %s: no answer" % trap) for q, units in zip(paths, lists) if q not in lines]
 
     def note(self, text, name, ours, theirs, what):
         if name:
@@ -176,7 +196,9 @@ def main():
             print("fuzz.py: %s is not a program: build it first" % program, file=sys.stderr)
             return 2
     fuzz, done = Fuzz(a.ours, a.theirs), 0
-    for batch in compare.batches(texts(a.seed, a.count)):
+    with tempfile.TemporaryDirectory() as directory:
+        fuzz.octets(directory)
+    for batch in compare.batches(itertools.chain(beginnings(), texts(a.seed, a.count))):
         with tempfile.TemporaryDirectory() as directory:
             fuzz.batch(batch, directory)
         done += len(batch)

@@ -3,9 +3,12 @@
 // For each call and file it makes the call with the first request refused, then with the second, and so on, up to a run that asks
 // less often; and again with all requests from that one on refused. It prints a line for each call, and one for each run that
 // answers in place of a refusal, breaks what must hold, or leaves memory behind; then its status is 1.
+//
+// refuse --call N FILE makes the call of this number once, with all memory there, and prints how many blocks it left.
 #include <stdint.h>
 #include <stdio.h>
 #include <stdlib.h>
+#include <string.h>
 
 int64_t refusals_call(uint32_t call, const unsigned char *text, size_t length);
 
@@ -83,7 +86,16 @@ static void run(uint32_t call, const char *path, const unsigned char *text, size
     }
 }
 
+static int once(uint32_t call, const char *path) {
+    size_t length;
+    unsigned char *text = read_file(path, &length);
+    int64_t outcome = refusals_call(call, text, length);
+    printf("%ld blocks left, outcome %ld\n", held, (long)outcome);
+    return outcome == 0 ? 0 : 3;
+}
+
 int main(int argc, char **argv) {
+    if (argc == 4 && !strcmp(argv[1], "--call")) return once((uint32_t)atoi(argv[2]), argv[3]);
     long all = 0;
     for (uint32_t call = 0; call < CALLS; call++) {
         long in_call = 0, before = 0;

@@ -1,7 +1,8 @@
 use std::io;
 use std::io::{ErrorKind, Read};
 use std::test::Fail;
-use yaml_rust2::yaml::{LoadError, YAMLDecodingTrap, YamlDecoder};
+use yaml_bytes::{LoadError, YamlDecoder};
+use yaml_decoder::YAMLDecodingTrap;
 
 /// Gives its bytes one by one, and then fails.
 #[derive(Drop)]

@@ -3,8 +3,9 @@ ghost use Rattle.std.specs.Prelude.{Unit};
 use std::alloc::Global;
 use std::fmt;
 use std::test::Fail;
-use yaml_emitter::Writer;
-use yaml_rust2::{Yaml, YamlEmitter, YamlLoader};
+use yaml_emitter::{Writer, YamlEmitter};
+use yaml_loader::YamlLoader;
+use yaml_tree::Yaml;
 
 /// Takes so many calls, and refuses the next.
 #[derive(Drop)]

@@ -1,9 +1,10 @@
 //! Scanner, parser and loader keep want of memory, and answer it again.
-use crate::{Outcome, refused};
+use crate::{Outcome, refused, unready};
 use std::alloc::Global;
-use yaml_rust2::parser::{Event, MarkedEventReceiver, Parser};
-use yaml_rust2::scanner::Scanner;
-use yaml_rust2::{ScanError, YamlLoader};
+use yaml_loader::YamlLoader;
+use yaml_parser::{Event, MarkedEventReceiver, Parser};
+use yaml_scanner::Scanner;
+use yaml_tokens::ScanError;
 
 pub fn tokens(alloc: Global, text: &str) -> Outcome {
     let mut scanner = Scanner::new(alloc, text.chars());
@@ -11,8 +12,12 @@ pub fn tokens(alloc: Global, text: &str) -> Outcome {
         match scanner.next_token() {
             Ok(Some(_)) => {}
             Ok(None) => return Outcome::Answered,
-            Err(fault) if fault.is_out_of_memory() => return scans_no_more(&mut scanner, &fault),
-            Err(_) => return Outcome::Answered,
+            Err(fault) => {
+                if !fault.is_out_of_memory() {
+                    return Outcome::Answered;
+                }
+                return scans_no_more(&mut scanner, &fault);
+            }
         }
     }
     Outcome::Answered
@@ -41,12 +46,12 @@ pub fn events(alloc: Global, text: &str) -> Outcome {
         match parser.next_token() {
             Ok((Event::StreamEnd, _)) => return Outcome::Answered,
             Ok(_) => {}
-            Err(fault) if fault.is_out_of_memory() => return parses_no_more(
-                alloc,
-                &mut parser,
-                &fault,
-            ),
-            Err(_) => return Outcome::Answered,
+            Err(fault) => {
+                if !fault.is_out_of_memory() {
+                    return Outcome::Answered;
+                }
+                return parses_no_more(alloc, &mut parser, &fault);
+            }
         }
     }
     Outcome::Answered
@@ -66,17 +71,16 @@ fn parses_no_more<T: Iterator<Item = char>>(
 
 /// The same, each event looked at first.
 pub fn peeked(alloc: Global, text: &str) -> Outcome {
-    let mut parser = Parser::new_from_str(alloc, text);
-    parser.keep_tags(true);
+    let mut parser = Parser::new_from_str(alloc, text).keep_tags(true);
     for _ in 0..u64::MAX {
         match parser.look() {
             Ok(_) => {}
-            Err(fault) if fault.is_out_of_memory() => return parses_no_more(
-                alloc,
-                &mut parser,
-                &fault,
-            ),
-            Err(_) => return Outcome::Answered,
+            Err(fault) => {
+                if !fault.is_out_of_memory() {
+                    return Outcome::Answered;
+                }
+                return parses_no_more(alloc, &mut parser, &fault);
+            }
         }
         if let Ok((Event::StreamEnd, _)) = parser.next_token() {
             return Outcome::Answered;
@@ -103,8 +107,7 @@ pub fn pushed(alloc: Global, text: &str) -> Outcome {
                     return refused(is_kept && loader.documents().len() == finished);
                 }
             }
-            Err(fault) if fault.is_out_of_memory() => return Outcome::Unready,
-            Err(_) => return Outcome::Answered,
+            Err(fault) => return unready(&fault),
         }
     }
     Outcome::Answered

@@ -1,11 +1,14 @@
 //! Calls of the library for hostile/, a C program that refuses each of their requests for memory in turn.
 #![tactic(auto)]
 
+mod deep;
 mod kept;
 mod loads;
 mod values;
 
+use crate::deep::Deed;
 use std::alloc::Global;
+use yaml_tokens::ScanError;
 
 /// What a call came to.
 pub(crate) enum Outcome {
@@ -25,6 +28,24 @@ pub(crate) fn refused(holds: bool) -> Outcome {
         Outcome::Refused
     } else {
         Outcome::Broken
+    }
+}
+
+/// What a fault that a call answers comes to: want of memory says so, and nothing else.
+pub(crate) fn told(fault: &ScanError) -> Outcome {
+    if fault.is_out_of_memory() {
+        refused(fault.info() == "out of memory")
+    } else {
+        Outcome::Answered
+    }
+}
+
+/// What a fault that comes before the call comes to.
+pub(crate) fn unready(fault: &ScanError) -> Outcome {
+    if fault.is_out_of_memory() {
+        Outcome::Unready
+    } else {
+        Outcome::Answered
     }
 }
 
@@ -61,6 +82,13 @@ fn outcome_of(alloc: Global, call: u32, bytes: &[u8]) -> Option<Outcome> {
         18 => values::copied_events(alloc, text),
         19 => values::copied_tokens(alloc, text),
         20 => values::faults(alloc, text),
+        21 => deep::done(alloc, text, Deed::Load),
+        22 => deep::done(alloc, text, Deed::Clone),
+        23 => deep::done(alloc, text, Deed::Compare),
+        24 => deep::done(alloc, text, Deed::Order),
+        25 => deep::done(alloc, text, Deed::Hash),
+        26 => deep::done(alloc, text, Deed::Debug),
+        27 => deep::done(alloc, text, Deed::Dump),
         _ => return None,
     };
     Some(outcome)

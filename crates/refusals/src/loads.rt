@@ -1,16 +1,19 @@
-use crate::{Outcome, refused};
+use crate::{Outcome, told};
 use std::alloc::Global;
+use std::io::ErrorKind;
 use std::ops::ControlFlow;
-use yaml_rust2::parser::Parser;
-use yaml_rust2::yaml::{LoadError, YAMLDecodingTrap, YAMLDecodingTrapFn, YamlDecoder};
-use yaml_rust2::{ScanError, Yaml, YamlLoader};
+use yaml_bytes::{LoadError, YamlDecoder};
+use yaml_decoder::{YAMLDecodingTrap, YAMLDecodingTrapFn};
+use yaml_loader::YamlLoader;
+use yaml_parser::Parser;
+use yaml_tokens::ScanError;
+use yaml_tree::Yaml;
 
 // A load that is refused memory says so, and nothing else.
-fn loaded(result: Result<Vec<Yaml>, ScanError>) -> Outcome {
-    match result {
+fn loaded(load: Result<Vec<Yaml>, ScanError>) -> Outcome {
+    match load {
         Ok(_) => Outcome::Answered,
-        Err(fault) if fault.is_out_of_memory() => refused(fault.info() == "out of memory"),
-        Err(_) => Outcome::Answered,
+        Err(fault) => told(&fault),
     }
 }
 
@@ -24,8 +27,7 @@ pub fn from_iter(alloc: Global, text: &str) -> Outcome {
 
 /// By a parser that keeps tags, which answers the same again where it was the one refused.
 pub fn from_parser(alloc: Global, text: &str) -> Outcome {
-    let mut parser = Parser::new_from_str(alloc, text);
-    parser.keep_tags(true);
+    let mut parser = Parser::new_from_str(alloc, text).keep_tags(true);
     loaded(YamlLoader::load_from_parser(alloc, &mut parser))
 }
 
@@ -40,9 +42,8 @@ pub fn decoded(alloc: Global, bytes: &[u8], call: u32) -> Outcome {
     });
     match decoder.decode() {
         Ok(_) | Err(LoadError::Decode(_)) => Outcome::Answered,
-        Err(error) if error.is_out_of_memory() => Outcome::Refused,
-        Err(LoadError::Scan(_)) => Outcome::Answered,
-        Err(LoadError::IO(_)) => Outcome::Broken,
+        Err(LoadError::Scan(fault)) => told(&fault),
+        Err(LoadError::IO(error)) => refused(matches!(error.kind(), ErrorKind::OutOfMemory)),
     }
 }
 

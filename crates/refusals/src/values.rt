@@ -1,10 +1,12 @@
 //! Dumps, insertions and copies: what is left behind a refusal.
-use crate::{Outcome, refused};
+use crate::{Outcome, refused, unready};
 use std::alloc::{AllocError, Global};
-use yaml_rust2::parser::{Event, Parser};
-use yaml_rust2::scanner::Scanner;
-use yaml_rust2::yaml::{Hash, Yaml, YamlLoader};
-use yaml_rust2::{EmitError, ScanError, YamlEmitter};
+use yaml_emitter::{EmitError, YamlEmitter};
+use yaml_loader::YamlLoader;
+use yaml_parser::{Event, Parser};
+use yaml_scanner::Scanner;
+use yaml_tokens::ScanError;
+use yaml_tree::{Hash, Yaml};
 
 fn documents(alloc: Global, text: &str) -> Option<Vec<Yaml>> {
     YamlLoader::load_from_str(alloc, text).ok()
@@ -92,8 +94,11 @@ pub fn copied(alloc: Global, text: &str) -> Outcome {
     };
     for document in &documents {
         match document.clone(alloc) {
-            Ok(copy) if copy == *document => {}
-            Ok(_) => return Outcome::Broken,
+            Ok(copy) => {
+                if copy != *document {
+                    return Outcome::Broken;
+                }
+            }
             Err(_) => return Outcome::Refused,
         }
     }
@@ -102,18 +107,19 @@ pub fn copied(alloc: Global, text: &str) -> Outcome {
 
 /// The same of events.
 pub fn copied_events(alloc: Global, text: &str) -> Outcome {
-    let mut parser = Parser::new_from_str(alloc, text);
-    parser.keep_tags(true);
+    let mut parser = Parser::new_from_str(alloc, text).keep_tags(true);
     for _ in 0..u64::MAX {
         match parser.next_token() {
             Ok((Event::StreamEnd, _)) => return Outcome::Answered,
             Ok((event, _)) => match event.clone(alloc) {
-                Ok(copy) if copy == event => {}
-                Ok(_) => return Outcome::Broken,
+                Ok(copy) => {
+                    if copy != event {
+                        return Outcome::Broken;
+                    }
+                }
                 Err(_) => return Outcome::Refused,
             },
-            Err(fault) if fault.is_out_of_memory() => return Outcome::Unready,
-            Err(_) => return Outcome::Answered,
+            Err(fault) => return unready(&fault),
         }
     }
     Outcome::Answered
@@ -125,13 +131,15 @@ pub fn copied_tokens(alloc: Global, text: &str) -> Outcome {
     for _ in 0..u64::MAX {
         match scanner.next_token() {
             Ok(Some(token)) => match token.clone(alloc) {
-                Ok(copy) if copy == token => {}
-                Ok(_) => return Outcome::Broken,
+                Ok(copy) => {
+                    if copy != token {
+                        return Outcome::Broken;
+                    }
+                }
                 Err(_) => return Outcome::Refused,
             },
             Ok(None) => return Outcome::Answered,
-            Err(fault) if fault.is_out_of_memory() => return Outcome::Unready,
-            Err(_) => return Outcome::Answered,
+            Err(fault) => return unready(&fault),
         }
     }
     Outcome::Answered
