@@ -26,6 +26,11 @@ pub enum NotBack {
 }
 
 impl From<ScanError> for NotBack {
+    ghost use Rattle.std.specs.Prelude.{◌≡◌, true};
+    ghost use Rattle.use_round_trip.specs.declared.NotBack.TheVariants.{OutOfMemory};
+
+    ghost from_gives = { λ f e. f.memory ≡ true → e ≡ OutOfMemory };
+
     fn from(fault: ScanError) -> NotBack {
         if fault.is_out_of_memory() {
             NotBack::OutOfMemory
