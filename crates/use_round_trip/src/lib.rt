@@ -41,12 +41,7 @@ impl From<ScanError> for NotBack {
 }
 
 /// The text of a tree in these settings.
-pub fn dumped(
-    alloc: Global,
-    tree: &Yaml,
-    compact: bool,
-    multiline: bool,
-) -> Result<String, NotBack>
+pub fn dumped(alloc: Global, tree: &Yaml, compact: bool, multiline: bool) -> Result<String, NotBack>
     ensures text { IfOk result (λ text. string_chars text ≡ dump_text compact multiline (view tree.now)) }
     ensures valid { OnOk result (IsValid (view tree.now)) }
     ensures refused { IfErr result (λ e. e ≡ OutOfMemory) }
