@@ -8,6 +8,8 @@ fn json_becomes_yaml(rt: HostRuntime) -> Result<(), Fail> {
     let json = "{\"a\": [1, 2.5, null], \"b\": \"\\u0041\"}";
     let yaml = to_yaml(alloc, json, true, false)?;
     assert_eq!(rt; yaml.as_str(), "---\na:\n  - 1\n  - 2.5\n  - ~\nb: A");
-    assert!(rt; YamlLoader::load_from_str(alloc, yaml.as_str())? == YamlLoader::load_from_str(alloc, json)?);
+    assert!(rt;
+        YamlLoader::load_from_str(alloc, yaml.as_str())? == YamlLoader::load_from_str(alloc, json)?
+    );
     Ok(())
 }

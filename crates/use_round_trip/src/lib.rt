@@ -26,6 +26,11 @@ pub enum NotBack {
 }
 
 impl From<ScanError> for NotBack {
+    ghost use Rattle.std.specs.Prelude.{◌≡◌, true};
+    ghost use Rattle.use_round_trip.specs.declared.NotBack.TheVariants.{OutOfMemory};
+
+    ghost from_gives = { λ f e. f.memory ≡ true → e ≡ OutOfMemory };
+
     fn from(fault: ScanError) -> NotBack {
         if fault.is_out_of_memory() {
             NotBack::OutOfMemory
@@ -36,12 +41,7 @@ impl From<ScanError> for NotBack {
 }
 
 /// The text of a tree in these settings.
-pub fn dumped(
-    alloc: Global,
-    tree: &Yaml,
-    compact: bool,
-    multiline: bool,
-) -> Result<String, NotBack>
+pub fn dumped(alloc: Global, tree: &Yaml, compact: bool, multiline: bool) -> Result<String, NotBack>
     ensures text { IfOk result (λ text. string_chars text ≡ dump_text compact multiline (view tree.now)) }
     ensures valid { OnOk result (IsValid (view tree.now)) }
     ensures refused { IfErr result (λ e. e ≡ OutOfMemory) }

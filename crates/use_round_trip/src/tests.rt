@@ -2,7 +2,8 @@ use super::round_trip;
 use std::test::Fail;
 use yaml_rust2::YamlLoader;
 
-const TREES: &str = "---\n- 1\n- [x, \"p\\n\\nq\\n\", ~, true, 2.5]\n---\nk: {z: {}}\n? [a]\n: []\n";
+const TREES: &str =
+    "---\n- 1\n- [x, \"p\\n\\nq\\n\", ~, true, 2.5]\n---\nk: {z: {}}\n? [a]\n: []\n";
 
 #[test]
 fn trees_come_back_in_all_settings(rt: HostRuntime) -> Result<(), Fail> {
