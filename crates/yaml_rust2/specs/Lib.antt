@@ -13,6 +13,7 @@ pub use Rattle.layout_defs.specs.WideLayout
 pub use Rattle.layout_defs.specs.Sound
 pub use Rattle.layout_defs.specs.DumpIsLaidOut
 pub use Rattle.layout_defs.specs.DumpIsInjective
+pub use Rattle.laid_tokens.specs.QuotedText
 pub use Rattle.token_defs.specs.Token
 pub use Rattle.event_defs.specs.Event
 pub use Rattle.event_defs.specs.Nested

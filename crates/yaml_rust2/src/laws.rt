@@ -11,7 +11,9 @@ pub use layout_defs::laws::{
     json_trees_are_sound, laid_out_trees_are_sound, layouts_are_wide_layouts,
     widely_laid_out_trees_are_sound,
 };
-pub use loaded_texts::documents::read_documents_come_back;
+pub use loaded_texts::documents::{
+    aliases_inside_their_node_are_bad_values, read_documents_come_back,
+};
 pub use loaded_texts::laws::{
     characters_are_the_text, dumps_are_injective, dumps_are_read_as_their_tree,
     events_of_read_texts_are_read, json_texts_are_loaded, json_texts_are_read_as_their_tree,
@@ -19,6 +21,9 @@ pub use loaded_texts::laws::{
     read_texts_are_loaded, read_texts_are_not_refused, read_texts_have_no_fault_but_memory,
     read_texts_have_their_trees, strings_are_the_text, texts_are_answered,
     texts_are_read_in_one_way,
+};
+pub use loaded_texts::quoted::{
+    quoted_texts_are_read_as_their_string, quoted_texts_are_without_nul,
 };
 pub use read_json::laws::{
     foretold_events_are_not_refused, json_documents_read_as_their_trees, json_events_are_loaded,
@@ -38,6 +43,9 @@ pub use scan_json::laws::{
 };
 pub use scan_layout::laws::{
     layout_texts_are_not_refused, layout_texts_have_no_other_tokens, layout_texts_have_their_tokens,
+};
+pub use scan_quoted::laws::{
+    buffers_join_folded_lines, quoted_bodies_are_read, quoted_texts_have_their_tokens,
 };
 pub use tree_defs::laws::{
     box_lines_are_unbroken, digits_are_least, equality_is_an_equivalence, equality_is_exact,
