@@ -104,12 +104,7 @@ fn pairs_keep_the_order_of_insertion(rt: HostRuntime) -> Result<(), Fail> {
 }
 
 // Adds, moves to the end and takes out, in a hash and in a plain list.
-fn turn(
-    hash: &mut Hash,
-    list: &mut Vec<(i64, i64)>,
-    key: i64,
-    value: i64,
-) -> Result<(), Fail> {
+fn turn(hash: &mut Hash, list: &mut Vec<(i64, i64)>, key: i64, value: i64) -> Result<(), Fail> {
     list.retain(|pair| pair.0 != key);
     if value % 5 == 3 {
         let _ = hash.remove(&Yaml::Integer(key));

@@ -138,8 +138,7 @@ whole_distinct : (ps qs : Pairs) → IsDistinct (hash ps) → IsDistinct (hash q
 whole_distinct ps qs h g each =
     let ts = pair_list_of ps in
     let us = pair_list_of qs in
-    let under = pairs_under us ps in
-    (
+    let under = pairs_under us ps in (
       subst AreDistinct (sym (list_of_pairs (under ++ new_pairs ts us))) (laid_distinct ps us h.0 g.0),
       EachDistinct-pairs (under ++ new_pairs ts us) (each_append IsDistinct IsDistinct under (new_pairs ts us) each (each_new IsDistinct IsDistinct ts us (EachDistinct-list qs g.1))),
     )
