@@ -95,12 +95,7 @@ fn pairs_keep_the_order_of_insertion(rt: HostRuntime) -> Result<(), Fail> {
 }
 
 // Adds, moves to the end and takes out, in a hash and in a plain list.
-fn turn(
-    hash: &mut Hash,
-    list: &mut Vec<(i64, i64)>,
-    key: i64,
-    value: i64,
-) -> Result<(), Fail> {
+fn turn(hash: &mut Hash, list: &mut Vec<(i64, i64)>, key: i64, value: i64) -> Result<(), Fail> {
     list.retain(|pair| pair.0 != key);
     if value % 5 == 3 {
         let _ = hash.remove(&Yaml::Integer(key));
@@ -119,7 +114,7 @@ fn a_hash_does_as_a_plain_list(rt: HostRuntime) -> Result<(), Fail> {
     let mut hash = Hash::new(alloc);
     let mut list = Vec::new(alloc);
     for i in 0..300_i64 {
-        turn(&mut hash, &mut list, i * 37 % 101, i)?;
+        turn(&mut hash, &mut list, i.wrapping_mul(37) % 101, i)?;
     }
     assert_eq!(rt; hash.len(), list.len());
     for ((key, value), pair) in hash.iter().zip(list.iter()) {
