@@ -123,7 +123,7 @@ fn a_hash_does_as_a_plain_list(rt: HostRuntime) -> Result<(), Fail> {
     let mut hash = Hash::new(alloc);
     let mut list = Vec::new(alloc);
     for i in 0..300_i64 {
-        turn(&mut hash, &mut list, i * 37 % 101, i)?;
+        turn(&mut hash, &mut list, i.wrapping_mul(37) % 101, i)?;
     }
     assert_eq!(rt; hash.len(), list.len());
     for ((key, value), pair) in hash.iter().zip(list.iter()) {
