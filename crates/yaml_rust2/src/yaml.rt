@@ -2,4 +2,4 @@
 pub use yaml_bytes::{LoadError, YamlDecoder};
 pub use yaml_decoder::{YAMLDecodingTrap, YAMLDecodingTrapFn};
 pub use yaml_loader::YamlLoader;
-pub use yaml_tree::{Array, Hash, Yaml, YamlIter};
+pub use yaml_tree::{Array, Hash, Steps, Yaml, YamlIter};
