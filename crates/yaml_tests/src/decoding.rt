@@ -21,20 +21,6 @@ enum Trap {
     Silent,
 }
 
-impl Trap {
-    fn trap(self) -> YAMLDecodingTrap {
-        match self {
-            Trap::Ignore => YAMLDecodingTrap::Ignore,
-            Trap::Replace => YAMLDecodingTrap::Replace,
-            Trap::Strict => YAMLDecodingTrap::Strict,
-            Trap::Notes => YAMLDecodingTrap::Call(YAMLDecodingTrapFn::new(notes)),
-            Trap::Asks => YAMLDecodingTrap::Call(YAMLDecodingTrapFn::new(asks)),
-            Trap::Bad => YAMLDecodingTrap::Call(YAMLDecodingTrapFn::new(bad)),
-            Trap::Silent => YAMLDecodingTrap::Call(YAMLDecodingTrapFn::new(silent)),
-        }
-    }
-}
-
 /// Adds what it was called with: both numbers, the input, and how long the text is.
 fn notes(bytes: u8, ahead: u8, input: &[u8], text: &mut String) -> ControlFlow<String> {
     let length = text.len();
@@ -69,7 +55,15 @@ fn silent(_: u8, _: u8, _: &[u8], text: &mut String) -> ControlFlow<String> {
 // What bytes load as.
 fn decoded(alloc: Global, bytes: &[u8], trap: Trap) -> Result<String, Fail> {
     let mut decoder = YamlDecoder::read(alloc, bytes);
-    decoder.encoding_trap(trap.trap());
+    decoder.encoding_trap(match trap {
+        Trap::Ignore => YAMLDecodingTrap::Ignore,
+        Trap::Replace => YAMLDecodingTrap::Replace,
+        Trap::Strict => YAMLDecodingTrap::Strict,
+        Trap::Notes => YAMLDecodingTrap::Call(YAMLDecodingTrapFn::new(notes)),
+        Trap::Asks => YAMLDecodingTrap::Call(YAMLDecodingTrapFn::new(asks)),
+        Trap::Bad => YAMLDecodingTrap::Call(YAMLDecodingTrapFn::new(bad)),
+        Trap::Silent => YAMLDecodingTrap::Call(YAMLDecodingTrapFn::new(silent)),
+    });
     match decoder.decode() {
         Ok(documents) => Ok(format!(in alloc; "{documents:?}")?),
         Err(LoadError::Decode(message)) => Ok(format!(in alloc; "stopped: {message}")?),

@@ -1,11 +1,20 @@
-use std::ops::ControlFlow;
-use yaml_decoder::{YAMLDecodingTrap, YAMLDecodingTrapFn};
-
 /// How a tree is written.
 #[derive(Clone, Copy)]
 pub struct Settings {
     pub compact: bool,
     pub multiline: bool,
+}
+
+/// What becomes of a malformation.
+#[derive(Clone, Copy)]
+pub enum Trap {
+    Ignore,
+    Strict,
+    Replace,
+    // Calls `notes`.
+    Call,
+    // Calls `stops`.
+    Stop,
 }
 
 /// What is printed of a file.
@@ -15,7 +24,7 @@ pub enum Job {
     Events,
     Trees,
     Dump(Settings),
-    Decode(YAMLDecodingTrap),
+    Decode(Trap),
 }
 
 /// What the words ask for; `tokens` where they are no such.
@@ -44,39 +53,15 @@ fn has(options: &[String], name: &str) -> bool {
     false
 }
 
-fn trap_of(options: &[String]) -> YAMLDecodingTrap {
-    if has(options, "ignore") {
-        return YAMLDecodingTrap::Ignore;
-    }
-    if has(options, "replace") {
-        return YAMLDecodingTrap::Replace;
-    }
-    if has(options, "call") {
-        return YAMLDecodingTrap::Call(YAMLDecodingTrapFn::new(notes));
-    }
-    if has(options, "stop") {
-        return YAMLDecodingTrap::Call(YAMLDecodingTrapFn::new(stops));
-    }
-    YAMLDecodingTrap::Strict
-}
-
-/// Adds the malformation's length, that of the input from it on, and that of the text so far.
-fn notes(bytes: u8, _: u8, input: &[u8], text: &mut String) -> ControlFlow<String> {
-    let alloc = *text.allocator();
-    match format!(in alloc; "({bytes} {} {})", input.len(), text.len()) {
-        Ok(note) => match text.push_str(note.as_str()) {
-            Ok(()) => ControlFlow::Continue(()),
-            Err(_) => ControlFlow::Break(String::new(alloc)),
-        },
-        Err(_) => ControlFlow::Break(String::new(alloc)),
-    }
-}
-
-/// Stops with these three as the message.
-fn stops(bytes: u8, _: u8, input: &[u8], text: &mut String) -> ControlFlow<String> {
-    let alloc = *text.allocator();
-    match format!(in alloc; "{bytes} {} {}", input.len(), text.len()) {
-        Ok(note) => ControlFlow::Break(note),
-        Err(_) => ControlFlow::Break(String::new(alloc)),
+fn trap_of(options: &[String]) -> Trap {
+    let [word] = options else {
+        return Trap::Strict;
+    };
+    match word.as_str() {
+        "ignore" => Trap::Ignore,
+        "replace" => Trap::Replace,
+        "call" => Trap::Call,
+        "stop" => Trap::Stop,
+        _ => Trap::Strict,
     }
 }
