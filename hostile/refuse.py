@@ -1,0 +1,35 @@
+#!/usr/bin/env python3
+"""Refuses each request for memory of a load in turn, and counts. Of each text refuse.c says what is looked at.
+
+Build the static library first: `cd crates/yamlbench && rt lib`.
+"""
+import os, subprocess, sys, tempfile
+
+HERE = os.path.dirname(os.path.abspath(__file__))
+sys.path.insert(0, os.path.join(HERE, "..", "bench"))
+import bench
+
+LAID_OUT = "---\n# top\n\n   ? - 1\n     - 2\n# mid\n   :       - x\n           - |\n                 p\n\n                 q\n   k:\n# c\n     z: {}\n"
+INPUTS = ["%TAG !prefix! tag:example.com,2011:\n--- !prefix!A\na: b\n", "---\n? key:\n    - 1\n    - 2\n    - 3\n: - 4\n  - 5\n  - 6", ">\n a\n b\n\n c\n  d\n e\n",
+          "a1: &DEFAULT\n    b1: 4\n    b2: d\na2: *DEFAULT\n", LAID_OUT, "[[[[{a: b}]]]]", '"' + "long " * 100 + '"',
+          "%YAML 1.2\n%TAG !a! x:\n--- !a!b &c [*c, ? d : 'e', !<%C3%A9> f]\n...\n---\n- &x y\n- *x\n", '{"a":"\\u00e9\\n","b":[1,2.5,-0,true,null]}',
+          "a: |\n  x\n  y\n\nb: >-\n  p\n  q\n", "? [1, 2]\n: {c: d}\n"]
+
+
+def main():
+    if not os.path.exists(bench.LIBRARY):
+        sys.exit("refuse.py: no static library: cd crates/yamlbench && rt lib")
+    kit = os.path.dirname(subprocess.run(["rt", "doc"], capture_output=True, text=True, check=True).stdout.split()[0])
+    with tempfile.TemporaryDirectory() as directory:
+        program, paths = os.path.join(directory, "refuse"), []
+        for i, text in enumerate(INPUTS):
+            paths.append(os.path.join(directory, "%02d" % i))
+            with open(paths[-1], "w") as f:
+                f.write(text)
+        wraps = ["-Wl,--wrap=malloc", "-Wl,--wrap=realloc", "-Wl,--wrap=free"]
+        subprocess.run(["gcc", "-O2", "-o", program, os.path.join(HERE, "refuse.c"), bench.LIBRARY, os.path.join(kit, "c", "liblibc_c.a"), *wraps], check=True)
+        return subprocess.run([program, *paths]).returncode
+
+
+if __name__ == "__main__":
+    sys.exit(main())
