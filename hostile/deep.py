@@ -1,0 +1,60 @@
+#!/usr/bin/env python3
+"""Finds how deep a tree may be for a load to end well on a stack of 8 MB, and loads a text of aliases that double under a limit of memory.
+
+usage: deep.py [SHAPE ..]
+
+Build the static library first: `cd crates/yamlbench && rt lib`. Each shape is tried with up to 300,000 levels; the answer lies between
+the two numbers, of which one ended well and the other by a signal.
+"""
+import os, subprocess, sys, tempfile
+
+HERE = os.path.dirname(os.path.abspath(__file__))
+sys.path.insert(0, os.path.join(HERE, "..", "bench"))
+import bench
+
+MOST = 300000
+LEVELS = {"arrays": "- ", "hash keys": "? ", "hash values": ": "}
+# A clone is made for an alias, two keys are compared for a mapping, and a key is shown where it comes twice.
+DEEDS = {
+    "load and drop": lambda levels: levels + "x\n",
+    "clone": lambda levels: "- &a\n  " + levels + "x\n- *a\n",
+    "compare": lambda levels: "? " + levels + "x\n: 1\n? " + levels + "y\n: 2\n",
+    "show": lambda levels: "? " + levels + "x\n: 1\n? " + levels + "x\n: 2\n",
+}
+DOUBLED = "- &a1 [x, x]\n" + "".join("- &a%d [*a%d, *a%d]\n" % (i, i - 1, i - 1) for i in range(2, 30))
+
+
+def status(program, directory, text, limit):
+    path = os.path.join(directory, "text")
+    with open(path, "w") as f:
+        f.write(text)
+    return subprocess.run(["bash", "-c", "ulimit %s; exec %s %s 1" % (limit, program, path)], capture_output=True).returncode
+
+
+def depth(program, directory, make, level):
+    def ends_well(levels): return status(program, directory, make(level * levels), "-s 8192") in (0, 1)
+    if ends_well(MOST):
+        return "at least %d" % MOST
+    low, high = 1, MOST
+    while high - low > low // 50:
+        middle = (low + high) // 2
+        low, high = (middle, high) if ends_well(middle) else (low, middle)
+    return "%d to %d" % (low, high)
+
+
+def main():
+    if not os.path.exists(bench.LIBRARY):
+        sys.exit("deep.py: no static library: cd crates/yamlbench && rt lib")
+    with tempfile.TemporaryDirectory() as directory:
+        program = bench.built(directory)
+        for deed, make in DEEDS.items():
+            for name, level in LEVELS.items():
+                if not sys.argv[1:] or deed in sys.argv[1:]:
+                    print("%s, %s: %s levels" % (deed, name, depth(program, directory, make, level)), flush=True)
+        # The program ends with status 1 where the load is refused.
+        answered = status(program, directory, DOUBLED, "-v 1000000")
+        print("29 lines of `[*a, *a]` under 1 GB: %s" % ("refused" if answered == 1 else "status %d" % answered))
+
+
+if __name__ == "__main__":
+    main()
