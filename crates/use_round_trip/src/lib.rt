@@ -13,6 +13,9 @@ use std::alloc::Global;
 use yaml_rust2::laws::dumps_are_laid_out;
 use yaml_rust2::{ScanError, Yaml, YamlEmitter, YamlLoader};
 
+#[cfg(test)]
+mod tests;
+
 /// Why a tree did not come back.
 #[derive(Debug, Drop)]
 pub enum NotBack {
