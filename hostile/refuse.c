@@ -1,13 +1,14 @@
 // Refuses each request for memory of a load in turn: refuse FILE.., each a text that loads.
 //
 // For each file it loads it with the first request refused, then with the second, and so on, up to a run that asks less often; and
-// again with all requests from that one on refused. It prints a line for each run that loads all the same or leaves memory behind;
+// again with all requests from that one on refused; and so with the text laid over the file before it. It prints a line for each run that loads all the same or leaves memory behind;
 // then its status is 1.
 #include <stdint.h>
 #include <stdio.h>
 #include <stdlib.h>
 
 int64_t yamlbench_load(const unsigned char *text, size_t length);
+int64_t yamlbench_overlay(const unsigned char *below, size_t below_length, const unsigned char *above, size_t above_length);
 
 void *__real_malloc(size_t size);
 void *__real_realloc(void *old, size_t size);
@@ -57,6 +58,17 @@ static unsigned char *read_file(const char *path, size_t *length) {
     return text;
 }
 
+struct text {
+    const char *path;
+    unsigned char *bytes;
+    size_t length;
+};
+
+static int64_t answer(const struct text *below, const struct text *text) {
+    if (!below) return yamlbench_load(text->bytes, text->length);
+    return yamlbench_overlay(below->bytes, below->length, text->bytes, text->length);
+}
+
 static int bad;
 
 static void tell(const char *path, const char *what) {
@@ -65,27 +77,38 @@ static void tell(const char *path, const char *what) {
 }
 
 // How many requests were refused. Each of them must be answered by a refusal, and nothing may be left behind.
-static long run(const char *path, const unsigned char *text, size_t length) {
+static long run(const struct text *below, const struct text *text) {
     for (refused_at = 1;; refused_at++) {
         asked = held = 0;
-        int64_t documents = yamlbench_load(text, length);
-        if (held != 0) tell(path, "memory is left behind");
+        int64_t documents = answer(below, text);
+        if (held != 0) tell(text->path, "memory is left behind");
         if (asked < refused_at) {
-            if (documents < 0) tell(path, "it doesn't load");
+            if (documents < 0) tell(text->path, "it doesn't load");
             return refused_at - 1;
         }
-        if (documents >= 0) tell(path, "it answers all the same");
+        if (documents >= 0) tell(text->path, "it answers all the same");
     }
 }
 
-int main(int argc, char **argv) {
+static long run_both_ways(const struct text *below, const struct text *text) {
     long all = 0;
+    for (is_for_good = 0; is_for_good < 2; is_for_good++) all += run(below, text);
+    return all;
+}
+
+int main(int argc, char **argv) {
+    struct text texts[2];
+    long loads = 0, overlays = 0;
     for (int i = 1; i < argc; i++) {
-        size_t length;
-        unsigned char *text = read_file(argv[i], &length);
-        for (is_for_good = 0; is_for_good < 2; is_for_good++) all += run(argv[i], text, length);
-        __real_free(text);
+        struct text *text = &texts[i % 2];
+        text->path = argv[i];
+        text->bytes = read_file(argv[i], &text->length);
+        loads += run_both_ways(NULL, text);
+        if (i > 1) {
+            overlays += run_both_ways(&texts[(i + 1) % 2], text);
+            __real_free(texts[(i + 1) % 2].bytes);
+        }
     }
-    printf("%ld requests refused in all: %s\n", all, bad ? "NOT all is well" : "each is answered, and nothing is left behind");
+    printf("%ld requests of loads and %ld of overlays refused: %s\n", loads, overlays, bad ? "NOT all is well" : "each is answered, and nothing is left behind");
     return bad;
 }

@@ -19,6 +19,14 @@ impl Writer for Refusing {
 
     ghost put_leaves = { λ before characters after. Unit {0} };
 
+    ghost calls_give = { λ before characters after. Unit {0} };
+
+    ghost calls_leave = { λ before characters after. Unit {0} };
+
+    ghost wrote = { λ before characters after is. tt };
+
+    ghost stopped = { λ before characters after is. tt };
+
     fn put(&mut self, text: &str) -> fmt::Result {
         match self.left.checked_sub(1) {
             Some(left) => self.left = left,

@@ -8,8 +8,9 @@ const SETTINGS: &str = "---\nhost: example.org\nport: 8080\n";
 fn settings_are_read_by_key(rt: HostRuntime) -> Result<(), Fail> {
     let alloc = rt.alloc();
     let documents = YamlLoader::load_from_str(alloc, SETTINGS)?;
-    assert!(rt; word(&documents[0], "host") == Some("example.org"));
-    assert_eq!(rt; number(&documents[0], "port"), Some(8080));
+    let settings = documents.first().ok_or("no document")?;
+    assert!(rt; word(settings, "host") == Some("example.org"));
+    assert_eq!(rt; number(settings, "port"), Some(8080));
     assert_eq!(rt; port(alloc, SETTINGS)?, Some(8080));
     Ok(())
 }

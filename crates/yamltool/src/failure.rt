@@ -42,11 +42,3 @@ pub fn arguments_failure<'a>(error: io::Error) -> Failure<'a> {
         _ => Failure::OutOfMemory,
     }
 }
-
-/// What arguments that could not be had are: want of memory, or no such arguments as the program takes.
-pub fn arguments_failure(error: io::Error) -> Failure {
-    match error.kind() {
-        io::ErrorKind::InvalidData => Failure::Usage,
-        _ => Failure::OutOfMemory,
-    }
-}
