@@ -228,27 +228,43 @@ fn files_that_cannot_be_read_are_told(rt: HostRuntime) -> Result<(), Fail> {
     Ok(())
 }
 
-// A full disk, one that fills up, and a pipe that is closed when the output is flushed.
+// What is told, and the status, where the output takes so many writes and its flush may fail.
+fn told_of_output(
+    rt: &HostRuntime,
+    command: &str,
+    path: &str,
+    writes: usize,
+    flushes: bool,
+) -> Result<String, Fail> {
+    let alloc = rt.alloc();
+    let args = words(alloc, &[command, path])?;
+    let mut out = Failing { writes, flushes };
+    let mut err = Vec::new(alloc);
+    let status = run(rt, alloc, args.as_slice(), &mut out, &mut err);
+    let text = String::from_utf8_lossy(alloc, err.as_slice())?;
+    Ok(format!(in alloc; "{text}{status}")?)
+}
+
+const UNWRITTEN: &str = "yamltool: cannot write\n1";
+
+// A full disk, one that fills up, and a pipe that is closed when the output is flushed. A dump is one write.
+const OUTPUTS: [(&str, usize, bool, &str); 6] = [
+    ("events", 0, true, UNWRITTEN),
+    ("events", 2, true, UNWRITTEN),
+    ("events", 1000, false, UNWRITTEN),
+    ("dump", 0, true, UNWRITTEN),
+    ("dump", 2, true, "0"),
+    ("dump", 1000, false, UNWRITTEN),
+];
+
 #[test]
 fn outputs_that_fail_are_told(rt: HostRuntime) -> Result<(), Fail> {
-    let alloc = rt.alloc();
-    let path = env::temp_dir(&rt)?.join(alloc, "yamltool-failing.yaml")?;
+    let path = env::temp_dir(&rt)?.join(rt.alloc(), "yamltool-failing.yaml")?;
     fs::write(&rt, path.as_path(), b"a")?;
-    for command in ["events", "dump"] {
-        let args = words(alloc, &[command, path.as_path().to_str().unwrap_or("")])?;
-        for (writes, flushes) in [(0, true), (2, true), (1000, false)] {
-            let mut out = Failing { writes, flushes };
-            let mut err = Vec::new(alloc);
-            let status = run(&rt, alloc, args.as_slice(), &mut out, &mut err);
-            let is_dumped = command == "dump" && writes == 2;
-            assert_eq!(rt; status, if is_dumped { 0 } else { 1 });
-            let line: &[u8] = if is_dumped {
-                b""
-            } else {
-                b"yamltool: cannot write\n"
-            };
-            assert_eq!(rt; err.as_slice(), line);
-        }
+    let name = path.as_path().to_str().unwrap_or("");
+    for (command, writes, flushes, want) in OUTPUTS {
+        let told = told_of_output(&rt, command, name, writes, flushes)?;
+        assert_eq!(rt; told.as_str(), want, "{command} with {writes} writes");
     }
     Ok(())
 }
