@@ -6,7 +6,7 @@ use std::io;
 use thiserror::Error;
 use yaml_rust2::{EmitError, ScanError, Yaml, YamlEmitter, YamlLoader};
 
-const SETTINGS: &str = "server:\n  host: example.org   # where it runs\n  port: 8000\n";
+const SETTINGS: &str = "host: example.org   # where it runs\nport: 8000\n";
 
 #[derive(Debug, Drop, Error)]
 enum Failure {
@@ -16,8 +16,8 @@ enum Failure {
     Emit(#[from] EmitError),
     #[error(transparent)]
     Memory(#[from] AllocError),
-    #[error("there is no server")]
-    NoServer,
+    #[error("these are no settings")]
+    NoSettings,
 }
 
 fn main(rt: HostRuntime) -> io::Result<()> {
@@ -30,31 +30,24 @@ fn main(rt: HostRuntime) -> io::Result<()> {
 // The settings with another port, as a text.
 fn with_port(alloc: Global, settings: &str, port: i64) -> Result<String, Failure> {
     let mut documents = YamlLoader::load_from_str(alloc, settings)?;
-    let Some(document) = documents.first_mut() else {
-        return Err(Failure::NoServer);
+    let Some(document) = documents.pop() else {
+        return Err(Failure::NoSettings);
     };
-    set_port(alloc, document, port)?;
+    if host(&document).is_none() {
+        return Err(Failure::NoSettings);
+    }
+    let Some(mut settings) = document.into_hash() else {
+        return Err(Failure::NoSettings);
+    };
+    let key = Yaml::from_str(alloc, "port")?;
+    if settings.insert(key, Yaml::Integer(port)).is_err() {
+        return Err(Failure::Memory(AllocError));
+    }
     let mut text = String::new(alloc);
-    YamlEmitter::new(&mut text).dump(document)?;
+    YamlEmitter::new(&mut text).dump(&Yaml::Hash(settings))?;
     Ok(text)
 }
 
-fn set_port(alloc: Global, document: &mut Yaml, port: i64) -> Result<(), Failure> {
-    if !document.has_key("server") {
-        return Err(Failure::NoServer);
-    }
-    let server = document.key_mut("server");
-    let Some(server) = server.as_mut_hash() else {
-        return Err(Failure::NoServer);
-    };
-    let key = Yaml::from_str(alloc, "port")?;
-    match server.get_mut(&key) {
-        Some(value) => *value = Yaml::Integer(port),
-        None => {
-            if server.insert(key, Yaml::Integer(port)).is_err() {
-                return Err(Failure::Memory(AllocError));
-            }
-        }
-    }
-    Ok(())
+fn host(settings: &Yaml) -> Option<&str> {
+    settings.get_key("host")?.as_str()
 }
