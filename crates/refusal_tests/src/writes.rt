@@ -1,5 +1,3 @@
-ghost use Rattle.std.specs.Prelude.{Unit};
-
 use std::alloc::Global;
 use std::fmt;
 use std::test::Fail;
