@@ -1,0 +1,2 @@
+mod Bridges
+pub mod Headers

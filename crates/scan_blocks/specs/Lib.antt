@@ -1,0 +1,2 @@
+pub mod HeaderEnds
+pub mod Laws
