@@ -1,2 +1,3 @@
+pub mod BlockScan
 pub mod HeaderEnds
 pub mod Laws

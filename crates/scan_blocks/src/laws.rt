@@ -1,10 +1,16 @@
 //! Laws of the scanner's model and block scalars, each carried by an empty function.
 
-ghost use Rattle.scan_blocks.specs.Laws.{HeadersEndAsTheirLineSays};
+ghost use Rattle.scan_blocks.specs.Laws.{FirstLinesGiveTheColumn, HeadersEndAsTheirLineSays};
 
 /// Behind `|` or `>` the rest of each line is read so alone: a header is read as the chomping and the digit that it says, if
 /// no TAB begins the next line; a line that is no header is refused, for a digit 0, for a comment without a blank before it,
 /// or for other text.
 pub fn headers_end_as_their_line_says()
     ensures { HeadersEndAsTheirLineSays }
+{}
+
+/// Behind each header the content column is what its digit gives, or what the text's lines up to the first that isn't of spaces
+/// alone show.
+pub fn first_lines_give_the_column()
+    ensures { FirstLinesGiveTheColumn }
 {}
