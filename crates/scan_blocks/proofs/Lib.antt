@@ -3,3 +3,7 @@ pub mod Headers
 pub mod Written
 pub mod Margins
 pub mod First
+mod Markers
+pub mod Rows
+pub mod Further
+pub mod Values
