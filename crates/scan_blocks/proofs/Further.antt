@@ -18,20 +18,8 @@ use Rattle.scan_blocks.specs.BlockScan.{without_spaces}
 use Rattle.scan_blocks.proofs.Bridges.{same_break, first_inner, and_false, not_true}
 use Rattle.scan_blocks.proofs.Margins.{at}
 use Rattle.scan_blocks.proofs.Markers.{marker_here}
+use Rattle.scan_blocks.proofs.Places.{space_past}
 use Rattle.scan_blocks.proofs.Rows.{front, scan, through}
-
--- ---- places
-
--- the definitions' place behind a character of a line
-pub past_is : (p : Place) (c : ℕ) (r : List ℕ) → is_break c ≡ false → place_past p c r ≡ past p
-past_is p c r h =
-    let index : suc p.index ≡ p.index + 1 = omega arith in
-    let col : suc p.col ≡ p.col + 1 = omega arith in
-    rw (same_break c, h, index, col) refl
-
-space_past : (p : Place) (r : List ℕ) → place_past p 32 r ≡ past p
-unfolding is_break
-space_past p r = past_is p 32 r refl
 
 -- ---- text outside
 

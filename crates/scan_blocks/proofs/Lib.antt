@@ -4,6 +4,9 @@ pub mod Written
 pub mod Margins
 pub mod First
 mod Markers
+pub mod Places
 pub mod Rows
 pub mod Further
 pub mod Values
+mod HeaderFacts
+mod Columns

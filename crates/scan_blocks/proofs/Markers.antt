@@ -45,7 +45,7 @@ break_is_gap c h = rw h (by (classes.is_blank c))
     by true = refl
     by false = refl
 
-line_marker : (w r : List ℕ) → ends_line r ≡ true → is_document_marker (w ++ r) ≡ is_document_marker w
+pub line_marker : (w r : List ℕ) → ends_line r ≡ true → is_document_marker (w ++ r) ≡ is_document_marker w
 unfolding classes.are_marks
 line_marker [] [] h = refl
 line_marker [] (x ∷ []) h = refl

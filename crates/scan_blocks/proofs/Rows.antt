@@ -15,6 +15,8 @@ use Rattle.scan_blocks.proofs.Bridges.{same_break, first_inner, and_false, not_t
 use Rattle.scan_blocks.proofs.Written.{Break, feed, carriage, both, Line, put, spell, texts, Fits, AreLines}
 use Rattle.scan_blocks.proofs.Margins.{behind_break, behind_line, behind_lines, at, before, margin_passes, empty_passes, last_passes}
 use Rattle.scan_blocks.proofs.Markers.{marker_in_line}
+use Rattle.scan_blocks.proofs.Places.{first_space}
+use Rattle.cut_defs.specs.BlockPiece.{first_content}
 
 -- ---- what is known behind rows
 
@@ -36,7 +38,7 @@ front p l = record { mode = margin; place = p; lines = l }
 abbrev pub inside : Place → Lines → State
 inside p l = record { mode = line; place = p; lines = l }
 
-break_ends : (k : Break) (a : List ℕ) → ends_line (put k a) ≡ true
+pub break_ends : (k : Break) (a : List ℕ) → ends_line (put k a) ≡ true
 unfolding classes.is_break
 break_ends feed a = refl
 break_ends carriage a = refl
@@ -80,17 +82,18 @@ module _ (literal : Bool) (column : ℕ) where
     pub in_column : place.col ≡ column
     pub inner : is_in_line (char ∷ rest) ≡ true
     pub ends : along rest (past place) ≡ along w p
+    pub first : (y : List ℕ) → first_content column false p (w ++ y) ≡ Some place
     pub found : indent_from column (w ++ a) (at p b) ≡ record { rest = char ∷ (rest ++ a); place = place; value = record { column = column; breaks = b } }
 
   space_then : (c : ℕ) (w a : List ℕ) (p : Place) (b : List ℕ) (n : ℕ) → (c == 32) ≡ true → nat_lt p.col column ≡ true → Starts w a (past p) b n → Starts (c ∷ w) a p b (suc n)
-  space_then c w a p b n e deep z = record { char = z.char; rest = z.rest; place = z.place; is = z.is; in_column = z.in_column; inner = z.inner; ends = z.ends; found = rw (e, deep) (z.found) }
+  space_then c w a p b n e deep z = record { char = z.char; rest = z.rest; place = z.place; is = z.is; in_column = z.in_column; inner = z.inner; ends = z.ends; first = λ y. first_space column c (w ++ y) p e deep ∙ z.first y; found = rw (e, deep) (z.found) }
 
   pub starts : (n : ℕ) (w a : List ℕ) (p : Place) (b : List ℕ) → p.col + n ≡ column → n ≤ leading_spaces w → suc n ≤ length w → is_in_line w ≡ true → Starts w a p b n
   starts zero [] a p b col lead long inner = absurd (omega (arith, long))
   starts zero (c ∷ w) a p b col lead long inner =
       let q = first_inner c w inner in
       let deep : nat_lt p.col column ≡ false = le-ltb p.col column (omega (arith, col)) in
-      record { char = c; rest = w; place = p; is = refl; in_column = omega (arith, col); inner = inner; ends = refl; found = rw (deep, and_false (c == 32), q.0) refl }
+      record { char = c; rest = w; place = p; is = refl; in_column = omega (arith, col); inner = inner; ends = refl; first = λ y. rw (same_break c, q.0, deep, and_false (c == 32)) refl; found = rw (deep, and_false (c == 32), q.0) refl }
   starts (suc n) [] a p b col lead long inner = absurd (omega (arith, long))
   starts (suc n) (c ∷ w) a p b col lead long inner = by (c == 32) refl (λ x. starts n w a (past p) b (omega (arith, col)) x (omega (arith, long)) ((first_inner c w inner).1))
     where

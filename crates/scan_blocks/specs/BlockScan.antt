@@ -1,5 +1,5 @@
 -- What the model of a block scalar's scan is told and what it leaves, in the definitions' words.
-use Rattle.std.specs.Prelude.{ℕ, zero, suc, List, [], ◌∷◌, Bool, true, false, ◌==◌, if◌then◌else◌, Option, Some, None}
+use Rattle.std.specs.Prelude.{ℕ, zero, suc, List, [], ◌∷◌, Bool, true, false, not, ◌==◌, if◌then◌else◌, Option, Some, None}
 use Rattle.scalar_defs.specs.Classes.{space}
 use Rattle.scalar_defs.specs.BlockScalar.{BlockStyle, literal, folded}
 
@@ -22,3 +22,7 @@ without_spaces (c ∷ r) = (if c == space then without_spaces r else c ∷ r)
 abbrev pub is_literal : BlockStyle → Bool
 is_literal literal = true
 is_literal folded = false
+
+-- a character other than NUL, with which a text ends
+abbrev pub is_some : ℕ → Bool
+is_some c = not (c == 0)
