@@ -10,3 +10,4 @@ pub mod Further
 pub mod Values
 mod HeaderFacts
 mod Columns
+mod Walks

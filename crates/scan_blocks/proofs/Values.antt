@@ -19,7 +19,7 @@ AreFull (empty_row ∷ rs) = AreFull rs
 AreFull (content_row [] ∷ rs) = ⊥
 AreFull (content_row (c ∷ m) ∷ rs) = AreFull rs
 
-more_breaks : (n : ℕ) → breaks n ++ 10 ∷ [] ≡ breaks (suc n)
+pub more_breaks : (n : ℕ) → breaks n ++ 10 ∷ [] ≡ breaks (suc n)
 more_breaks zero = refl
 more_breaks (suc n) = ap (λ r. 10 ∷ r) (more_breaks n)
 
