@@ -11,3 +11,4 @@ pub mod Values
 mod HeaderFacts
 mod Columns
 mod Walks
+mod Blocks
