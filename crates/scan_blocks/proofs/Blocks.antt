@@ -11,18 +11,18 @@ use Rattle.scalar_defs.specs.Classes as classes
 use Rattle.scalar_defs.specs.Classes.{tab, is_at_end}
 use Rattle.scalar_defs.specs.FlowScalar.{begins_with}
 use Rattle.scalar_defs.specs.BlockScalar as defs
-use Rattle.scalar_defs.specs.BlockScalar.{Row, empty_row, content_row, breaks, rows_of, row_of, has_content, column_by, header_of, starts_with_tab, is_further_text, value_before_text, value_before_end, with_content}
+use Rattle.scalar_defs.specs.BlockScalar.{Row, empty_row, content_row, breaks, is_spaces, rows_of, row_of, has_content, column_by, header_of, starts_with_tab, is_further_text, value_before_text, value_before_end, with_content}
 use Rattle.cut_defs.specs.Text.{place_behind}
 use Rattle.cut_defs.specs.BlockPiece.{BlockRead, first_content, past_spaces, place_or, block_place}
 use Rattle.scalar_model.specs.Machine.{Read, past, after}
 use Rattle.scalar_model.specs.Space.{linebreak}
-use Rattle.scalar_model.specs.Block.{Header, Column, Lines, lines_from, indent_from, content, header, Block, block, behind_header, is_open, tail}
+use Rattle.scalar_model.specs.Block.{Header, Column, Lines, lines_from, indent_from, content, header, Block, block, behind_header, is_open, tail, empty_text}
 use Rattle.scan_blocks.specs.HeaderEnds.{indicator_of, chomping_of, digit_or_zero, indicators_of, is_in_line, ends_line, along, read_header}
 use Rattle.scan_blocks.specs.BlockScan.{collection_by, digit_by, is_literal, without_spaces, further_place, read_block, IsRead, read, shallow, tabbed}
 use Rattle.scan_blocks.proofs.Written.{Break, feed, carriage, both, Line, put, spell, texts, Fits, AreLines}
 use Rattle.scan_blocks.proofs.Margins.{behind_break, behind_line, behind_lines, at, before, margin_passes, last_passes, col_along}
 use Rattle.scan_blocks.proofs.First.{content_is}
-use Rattle.scan_blocks.proofs.Places.{spell_more, behind_chars, behind_put, behind_spell, first_header, first_last}
+use Rattle.scan_blocks.proofs.Places.{spell_more, behind_chars, behind_put, behind_spell, first_header, first_last, header_alone}
 use Rattle.scan_blocks.proofs.Rows.{behind_row, behind_rows, front, written, rows_go, last_empty, last_content, break_ends, IsRow, is_empty, is_content, Starts, starts}
 use Rattle.scan_blocks.proofs.Further.{Outside, further_outside, further_stops}
 use Rattle.scan_blocks.proofs.Values.{AreFull, behind_empty, added, content_value, empty_value, end_value, last_value}
@@ -225,8 +225,8 @@ module _ (h : defs.Header) (line : List ℕ) (k : Break) (indent : ℕ) (p : Pla
     at_content : (q : Place) → first_content column false first_place (spell ls last) ≡ Some q → block_place column p whole [] ≡ q
     at_content q e = ap (λ o. place_or o p) (whole_first ∙ e)
 
-    reaches : (n m : ℕ) → (nat_le column n && nat_lt 0 n) ≡ nat_le (max column 1) n
-    reaches n m = both _ _ (λ e. grind (arith, nat_tests)) (λ e. grind (arith, nat_tests))
+    reaches : (n : ℕ) → (nat_le column n && nat_lt 0 n) ≡ nat_le (max column 1) n
+    reaches n = both _ _ (λ e. grind (arith, nat_tests)) (λ e. grind (arith, nat_tests))
       where
         both : (b c : Bool) → (b ≡ true → c ≡ true) → (c ≡ true → b ≡ true) → b ≡ c
         both true c f g = sym (f refl)
@@ -235,3 +235,133 @@ module _ (h : defs.Header) (line : List ℕ) (k : Break) (indent : ℕ) (p : Pla
 
     last_col : (along last last_place).col ≡ last_place.col + length last
     last_col = col_along last last_place
+
+    at_front : last_place.col ≡ 0
+    at_front = front_of ls first_place refl
+      where
+        front_of : (ls : List Line) (q : Place) → q.col ≡ 0 → (behind_lines ls q).col ≡ 0
+        front_of [] q e = e
+        front_of (l ∷ ls) q e = front_of ls (behind_line l q) refl
+
+    abbrev read_end : Row → Type 0
+    read_end r = IsRead indent p (before_end r) whole [] (scan_of (spell ls last))
+
+    -- an empty last line
+    empty_some : has_content rs ≡ true → is_spaces last ≡ true → length last ≤ column → FoundIn column ls last first_place [] → read_end empty_row
+    empty_some some spaces le f =
+        let c = f.here in
+        let reads : lines_from (is_literal h.style) column (spell ls last) (front first_place (behind_empty 0)) ≡ Ok (record { rest = []; place = along last last_place; value = rows_read }) =
+        rows_go (is_literal h.style) column ls last first_place (behind_empty 0) rs refl are rows ∙ last_empty (is_literal h.style) column last last_place rows_read at_front spaces le in
+        let far : (along last last_place).col ≡ length last = (let e = at_front in let g = last_col in omega (arith, e, g)) in
+        let open_is : is_open column [] (along last last_place).col ≡ nat_le (max column 1) (length last) = reaches (along last last_place).col ∙ ap (nat_le (max column 1)) far in
+        let text_is : rows_read.text ++ tail (chomping_of h.chomping) (is_open column [] (along last last_place).col) rows_read ≡ value_before_end h column rs last empty_row =
+        ap (λ b. rows_read.text ++ tail (chomping_of h.chomping) b rows_read) open_is ∙ content_value h (nat_le (max column 1) (length last)) rs (are_full column (texts ls) rs rows) some ∙ rw some refl in
+        read (found_by ∙ finish h line k indent p is digit inner column (spell ls last) c.rest [] c.char c.place _ c.breaks_before rows_read c.found (in_place h line k indent p is digit inner column c.place.col c.in_column) reads
+        ∙ answer [] _ (further_place p whole []) c.place (block_place column p whole []) _ (value_before_end h column rs last empty_row) whole_place (sym (at_content c.place (f.first last are))) text_is)
+
+    empty_none : has_content rs ≡ false → is_spaces last ≡ true → length last ≤ column → Empty column ls last first_place [] (length rs) → read_end empty_row
+    empty_none none spaces le f =
+        let low : last_place.col + length last ≤ column = (let e = at_front in omega (arith, e, le)) in
+        let found : indent_from column (spell ls last) (at first_place []) ≡ record { rest = []; place = along last last_place; value = record { column = column; breaks = breaks (length rs) } } = f.passes ∙ last_passes column last last_place (breaks (length rs)) spaces low in
+        let where_is : block_place column p whole [] ≡ p = ap (λ o. place_or o p) (whole_first ∙ f.first last are ∙ first_last column last last_place spaces low) in
+        read (found_by ∙ ap (behind h line k indent p is digit inner) found
+        ∙ answer [] _ (further_place p whole []) p (block_place column p whole []) _ (value_before_end h column rs last empty_row) whole_place (sym where_is) (end_value h.chomping (length rs) ∙ rw none refl))
+
+    -- a last line of content
+    abbrev last_row : Row
+    last_row = content_row (drop column last)
+
+    abbrev last_read : Lines
+    last_read = written (is_literal h.style) column last_row rows_read
+
+    opens : (n : ℕ) → suc column ≤ n → (nat_le column n && nat_lt 0 n) ≡ true
+    opens n h = grind (arith, nat_tests)
+
+    content_text : Starts (is_literal h.style) column last [] last_place [] column → suc column ≤ length last
+        → last_read.text ++ tail (chomping_of h.chomping) (is_open column [] (along last last_place).col) last_read ≡ value_before_end h column rs last last_row
+    content_text z long =
+        let far : (along last last_place).col ≡ length last = (let e = at_front in let g = last_col in omega (arith, e, g)) in
+        let open_is : is_open column [] (along last last_place).col ≡ true = ap (λ n. nat_le column n && nat_lt 0 n) far ∙ opens (length last) long in
+        ap (λ b. last_read.text ++ tail (chomping_of h.chomping) b last_read) open_is
+        ∙ ap (λ m. (written (is_literal h.style) column (content_row m) rows_read).text ++ tail (chomping_of h.chomping) true (written (is_literal h.style) column (content_row m) rows_read)) z.is
+        ∙ last_value h rs z.char z.rest (are_full column (texts ls) rs rows)
+        ∙ ap (λ m. with_content h 0 (rs ++ content_row m ∷ [])) (sym z.is)
+
+    content_by : (c : Found column (spell ls last) first_place []) → first_content column false first_place (spell ls last) ≡ Some (c.place) → Starts (is_literal h.style) column last [] last_place [] column → suc column ≤ length last
+        → lines_from (is_literal h.style) column last (front last_place rows_read) ≡ Ok (record { rest = []; place = along last last_place; value = last_read }) → read_end last_row
+    content_by c first z long reads =
+        read (found_by ∙ finish h line k indent p is digit inner column (spell ls last) c.rest [] c.char c.place _ c.breaks_before last_read c.found (in_place h line k indent p is digit inner column c.place.col c.in_column)
+        (rows_go (is_literal h.style) column ls last first_place (behind_empty 0) rs refl are rows ∙ reads)
+        ∙ answer [] _ (further_place p whole []) c.place (block_place column p whole []) _ (value_before_end h column rs last last_row) whole_place (sym (at_content c.place first)) (content_text z long))
+
+    last_found : (n : ℕ) → Empty column ls last first_place [] n → Starts (is_literal h.style) column last [] last_place (breaks n) column → Found column (spell ls last) first_place []
+    last_found n f z = record {
+      char = z.char;
+      rest = z.rest ++ [];
+      place = z.place;
+      breaks_before = breaks n;
+      in_column = z.in_column;
+      found = f.passes ∙ ap (λ a. indent_from column a (at last_place (breaks n))) (sym (append-nil last)) ∙ z.found;
+    }
+
+    pub before_the_end : (r : Row) → IsRow column last r → read_end r
+    unfolding last_found
+    before_the_end empty_row (is_empty spaces le) = by (has_content rs) refl
+      where
+        by : (b : Bool) → has_content rs ≡ b → read_end empty_row
+        by true e = empty_some e spaces le (found_in column ls last first_place [] rs refl are rows e)
+        by false e = empty_none e spaces le (all_empty column ls last first_place [] rs refl are rows e)
+    before_the_end (content_row m) (is_content lead long free) = by (has_content rs) refl
+      where
+        col : last_place.col + column ≡ column
+        col = let e = at_front in omega (arith, e)
+
+        reads : lines_from (is_literal h.style) column last (front last_place rows_read) ≡ Ok (record { rest = []; place = along last last_place; value = last_read })
+        reads = last_content (is_literal h.style) column last last_place rows_read at_front last_inner lead long free
+
+        here : (b : List ℕ) → Starts (is_literal h.style) column last [] last_place b column
+        here b = starts (is_literal h.style) column column last [] last_place b col lead long last_inner
+
+        none : Empty column ls last first_place [] (length rs) → Starts (is_literal h.style) column last [] last_place (breaks (length rs)) column → read_end last_row
+        none f z =
+            content_by (last_found (length rs) f z) (f.first last are ∙ ap (λ a. first_content column false last_place a) (sym (append-nil last)) ∙ z.first []) (here []) long reads
+
+        some : FoundIn column ls last first_place [] → read_end last_row
+        some f = content_by f.here (f.first last are) (here []) long reads
+
+        by : (b : Bool) → has_content rs ≡ b → read_end last_row
+        by true e = some (found_in column ls last first_place [] rs refl are rows e)
+        by false e = none (all_empty column ls last first_place [] rs refl are rows e) (here (breaks (length rs)))
+
+-- ---- a header at the end of the text
+
+no_lines : (indent increment : ℕ) (q : Place) → (content indent increment [] q).rest ≡ []
+unfolding content
+no_lines indent zero q = refl
+no_lines indent (suc n) q = refl
+
+same_end : (indent increment : ℕ) (q : Place) → (content indent increment [] q).place ≡ q
+unfolding content
+same_end indent zero q = refl
+same_end indent (suc n) q = refl
+
+nothing_there : (ch : defs.Chomping) (b : List ℕ) → empty_text (chomping_of ch) false b ≡ []
+unfolding empty_text
+nothing_there defs.strip b = refl
+nothing_there defs.clip b = refl
+nothing_there defs.keep b = refl
+
+pub header_alone_is_read : (h : defs.Header) (line : List ℕ) (indent : ℕ) (p : Place) → header_of (indicator_of h.style ∷ line) ≡ Some h → is_in_line line ≡ true
+    → IsRead indent p (record { style = h.style; column = 0; text = [] }) (indicator_of h.style ∷ line) [] (block (is_literal h.style) indent (indicator_of h.style ∷ line) p)
+unfolding block
+header_alone_is_read h line indent p is inner =
+    let q = along line (past p) in
+    let i = digit_or_zero h.digit in
+    let header_reads_it : header p line (past p) ≡ Ok (read_header h [] q) = ap (λ a. header p a (past p)) (sym (append-nil line)) ∙ header_reads h line [] p is inner refl refl in
+    let ends : behind_header (is_literal h.style) indent p (record { indicators = indicators_of h; broken = false }) (content indent i [] q) ≡ result [] q p [] =
+    rw (no_lines indent i q, same_end indent i q, nothing_there h.chomping (content indent i [] q).value.breaks) refl in
+    let place : q ≡ further_place p (indicator_of h.style ∷ line) [] =
+    sym (ap (λ x. place_behind p x []) (sym (append-nil (indicator_of h.style ∷ line))) ∙ behind_chars (indicator_of h.style ∷ line) [] [] p (style_inner h.style line inner)) in
+    let where_is : block_place 0 p (indicator_of h.style ∷ line) [] ≡ p = ap (λ o. place_or o p) (header_alone 0 (indicator_of h.style ∷ line) p (style_inner h.style line inner)) in
+    read (ap (λ x. after x (λ (r : Read Header). behind_header (is_literal h.style) indent p r.value (content indent r.value.indicators.increment r.rest r.place))) header_reads_it
+    ∙ ends ∙ answer [] q (further_place p (indicator_of h.style ∷ line) []) p (block_place 0 p (indicator_of h.style ∷ line) []) [] [] place (sym where_is) refl)
