@@ -12,3 +12,4 @@ mod HeaderFacts
 mod Columns
 mod Walks
 mod Blocks
+pub mod Pieces
