@@ -1,6 +1,6 @@
 //! Laws of the scanner's model and block scalars, each carried by an empty function.
 
-ghost use Rattle.scan_blocks.specs.Laws.{FirstLinesGiveTheColumn, HeadersEndAsTheirLineSays};
+ghost use Rattle.scan_blocks.specs.Laws.{BlockPiecesAreRead, FirstLinesGiveTheColumn, HeadersEndAsTheirLineSays};
 
 /// Behind `|` or `>` the rest of each line is read so alone: a header is read as the chomping and the digit that it says, if
 /// no TAB begins the next line; a line that is no header is refused, for a digit 0, for a comment without a blank before it,
@@ -13,4 +13,11 @@ pub fn headers_end_as_their_line_says()
 /// alone show.
 pub fn first_lines_give_the_column()
     ensures { FirstLinesGiveTheColumn }
+{}
+
+/// Each piece of text that is a block scalar before the text behind it is read as it: with its value, up to the piece's end and
+/// the spaces behind it, at the place where its content begins. Refused is only what stands behind a scalar without content:
+/// a TAB, or text that is indented deep enough to be content, but not as deep as the empty lines before it.
+pub fn block_pieces_are_read()
+    ensures { BlockPiecesAreRead }
 {}
