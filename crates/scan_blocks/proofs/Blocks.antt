@@ -1,5 +1,5 @@
 -- The whole scan of a block scalar whose lines are known.
-use Rattle.std.proofs.Common.{◌≡◌, ◌≤◌, ℕ, zero, suc, ◌+◌, List, [], ◌∷◌, ◌++◌, Bool, true, false, ◌&&◌, ◌||◌, not, ◌==◌, if◌then◌else◌, max, nat_lt, nat_le, length, drop, Option, Some, None, Result, Ok, Err, refl, ap, sym, ◌∙◌, append-nil, arith}
+use Rattle.std.proofs.Common.{◌≡◌, ◌≤◌, ℕ, zero, suc, ◌+◌, List, [], ◌∷◌, ◌++◌, Bool, true, false, ◌&&◌, not, if◌then◌else◌, max, nat_lt, nat_le, length, drop, Some, None, Result, Ok, Err, refl, ap, sym, ◌∙◌, append-nil, arith}
 use Rattle.std.proofs.lemmas.Bool.{le-ltb}
 use Rattle.std.proofs.lemmas.Bool.Decides.{nat_tests}
 use Rattle.yaml_chars.specs.Place.{Place}
@@ -17,15 +17,15 @@ use Rattle.cut_defs.specs.BlockPiece.{BlockRead, first_content, past_spaces, pla
 use Rattle.scalar_model.specs.Machine.{Read, past, after}
 use Rattle.scalar_model.specs.Space.{linebreak}
 use Rattle.scalar_model.specs.Block.{Header, Column, Lines, lines_from, indent_from, content, header, Block, block, behind_header, is_open, tail, empty_text}
-use Rattle.scan_blocks.specs.HeaderEnds.{indicator_of, chomping_of, digit_or_zero, indicators_of, is_in_line, ends_line, along, read_header}
-use Rattle.scan_blocks.specs.BlockScan.{collection_by, digit_by, is_literal, without_spaces, further_place, read_block, IsRead, read, shallow, tabbed}
+use Rattle.scan_blocks.specs.HeaderEnds.{indicator_of, chomping_of, digit_or_zero, indicators_of, is_in_line, along, read_header}
+use Rattle.scan_blocks.specs.BlockScan.{collection_by, digit_by, is_literal, without_spaces, further_place, IsRead, read, shallow}
 use Rattle.scan_blocks.proofs.Written.{Break, feed, carriage, both, Line, put, spell, texts, Fits, AreLines}
 use Rattle.scan_blocks.proofs.Margins.{behind_break, behind_line, behind_lines, at, before, margin_passes, last_passes, col_along}
 use Rattle.scan_blocks.proofs.First.{content_is}
 use Rattle.scan_blocks.proofs.Places.{spell_more, behind_chars, behind_put, behind_spell, first_header, first_last, header_alone}
-use Rattle.scan_blocks.proofs.Rows.{behind_row, behind_rows, front, written, rows_go, last_empty, last_content, break_ends, IsRow, is_empty, is_content, Starts, starts}
-use Rattle.scan_blocks.proofs.Further.{Outside, further_outside, further_stops}
-use Rattle.scan_blocks.proofs.Values.{AreFull, behind_empty, added, content_value, empty_value, end_value, last_value}
+use Rattle.scan_blocks.proofs.Rows.{behind_rows, front, written, rows_go, last_empty, last_content, break_ends, IsRow, is_empty, is_content, Starts, starts}
+use Rattle.scan_blocks.proofs.Further.{Outside, further_stops}
+use Rattle.scan_blocks.proofs.Values.{behind_empty, content_value, empty_value, end_value, last_value}
 use Rattle.scan_blocks.proofs.HeaderFacts.{header_reads, header_tabs, linebreak_put}
 use Rattle.scan_blocks.proofs.Walks.{Found, FoundIn, found_in, Empty, all_empty, are_full}
 
@@ -98,7 +98,7 @@ result rest q place t = Ok (record { rest = rest; place = q; value = record { pl
 answer : (rest : List ℕ) (q r place at_place : Place) (t u : List ℕ) → q ≡ r → place ≡ at_place → t ≡ u → result rest q place t ≡ result rest r at_place u
 answer rest q r place at_place t u e f g = rw (e, f, g) refl
 
-style_inner : (s : defs.BlockStyle) (line : List ℕ) → is_in_line line ≡ true → is_in_line (indicator_of s ∷ line) ≡ true
+pub style_inner : (s : defs.BlockStyle) (line : List ℕ) → is_in_line line ≡ true → is_in_line (indicator_of s ∷ line) ≡ true
 unfolding classes.is_break
 style_inner defs.literal line h = h
 style_inner defs.folded line h = h

@@ -1,16 +1,15 @@
 -- Which lines a block scalar's text goes up to, and that the lines behind it don't change its content column.
-use Rattle.std.proofs.Common.{◌≡◌, ◌≤◌, ◌<◌, ◌⊎◌, inl, inr, ℕ, zero, suc, ◌+◌, List, [], ◌∷◌, ◌++◌, Bool, true, false, ◌&&◌, ◌||◌, not, ◌==◌, if◌then◌else◌, max, nat_le, length, Option, Some, None, refl, ap, sym, ◌∙◌, append-nil, arith}
+use Rattle.std.proofs.Common.{◌≡◌, ◌≤◌, ◌⊎◌, inl, inr, ℕ, zero, suc, List, [], ◌∷◌, ◌++◌, Bool, true, false, ◌&&◌, not, ◌==◌, if◌then◌else◌, max, nat_le, length, Some, None, refl, ap, sym, ◌∙◌, append-nil, arith}
 use Rattle.std.specs.List.{list_all}
-use Rattle.std.proofs.lemmas.Bool.{and_parts, or_parts, eqb-true}
+use Rattle.std.proofs.lemmas.Bool.{and_parts}
 use Rattle.std.proofs.lemmas.Bool.Decides.{nat_tests}
-use Rattle.yaml_chars.specs.Class.{is_break}
 use Rattle.scalar_defs.specs.Classes as classes
 use Rattle.scalar_defs.specs.Classes.{is_document_marker}
-use Rattle.scalar_defs.specs.BlockScalar.{Row, empty_row, content_row, is_spaces, leading_spaces, deepest_start, is_empty_line, is_content_line, row_of, rows_of, put_row, is_outside, is_further_text}
+use Rattle.scalar_defs.specs.BlockScalar.{empty_row, is_spaces, leading_spaces, deepest_start, is_empty_line, is_content_line, row_of, is_outside, is_further_text}
 use Rattle.scan_blocks.specs.HeaderEnds.{is_in_line, ends_line}
 use Rattle.scan_blocks.specs.BlockScan.{is_some}
-use Rattle.scan_blocks.proofs.Bridges.{same_break, first_inner, not_true, not_false}
-use Rattle.scan_blocks.proofs.Written.{Break, feed, carriage, both, Line, put, spell, texts, AreLines}
+use Rattle.scan_blocks.proofs.Bridges.{same_break, first_inner, not_false}
+use Rattle.scan_blocks.proofs.Written.{Line, put, spell, texts, AreLines}
 use Rattle.scan_blocks.proofs.Markers.{line_marker}
 use Rattle.scan_blocks.proofs.Rows.{break_ends}
 

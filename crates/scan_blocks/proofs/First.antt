@@ -1,6 +1,6 @@
 -- The first lines give the content column.
-use Rattle.std.proofs.Common.{◌≡◌, ◌≤◌, ℕ, zero, suc, ◌+◌, ◌-◌, List, [], ◌∷◌, ◌++◌, Bool, true, false, ◌&&◌, ◌||◌, not, ◌==◌, if◌then◌else◌, max, nat_lt, slice_index, length, Option, Some, None, refl, ap, sym, ◌∙◌, append-nil, arith}
-use Rattle.std.proofs.lemmas.Bool.{and_parts, or_parts, eqb-true, lt-ltb, le-ltb}
+use Rattle.std.proofs.Common.{◌≡◌, ◌≤◌, ℕ, zero, suc, ◌+◌, ◌-◌, List, [], ◌∷◌, ◌++◌, Bool, true, false, ◌==◌, max, nat_lt, length, refl, ap, sym, ◌∙◌, append-nil, arith}
+use Rattle.std.proofs.lemmas.Bool.{and_parts, lt-ltb}
 use Rattle.yaml_chars.specs.Place.{Place}
 use Rattle.yaml_chars.specs.Class.{is_break}
 use Rattle.scalar_defs.specs.Breaks.{split, Split}
@@ -10,7 +10,7 @@ use Rattle.scalar_model.specs.Block.{Column, First, first_indent, indent_from, c
 use Rattle.scan_blocks.specs.HeaderEnds.{is_in_line, along}
 use Rattle.scan_blocks.specs.BlockScan.{collection_by, digit_by}
 use Rattle.scan_blocks.specs.Laws.{FirstLinesGiveTheColumn}
-use Rattle.scan_blocks.proofs.Bridges.{same_break, first_inner}
+use Rattle.scan_blocks.proofs.Bridges.{first_inner}
 use Rattle.scan_blocks.proofs.Written.{Break, feed, carriage, both, Line, put, spell, texts, Fits, AreLines, Lined, lined, split_spell}
 use Rattle.scan_blocks.proofs.Margins.{behind_break, behind_line, at, col_along, empty_passes, last_passes}
 

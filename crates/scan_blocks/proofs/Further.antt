@@ -1,21 +1,18 @@
 -- Further text ends a block scalar.
-use Rattle.std.proofs.Common.{◌≡◌, ◌≤◌, ◌<◌, ℕ, zero, suc, ◌+◌, List, [], ◌∷◌, ◌++◌, Bool, true, false, ◌&&◌, ◌||◌, not, ◌==◌, if◌then◌else◌, nat_lt, nat_le, length, Option, Some, None, Result, Ok, refl, ap, sym, ◌∙◌, arith}
-use Rattle.std.proofs.lemmas.Bool.{and_parts, or_parts, eqb-true, eq-eqb, ne_eqb, lt-ltb, le-ltb}
+use Rattle.std.proofs.Common.{◌≡◌, ◌≤◌, ◌<◌, ℕ, zero, suc, ◌+◌, List, [], ◌∷◌, Bool, true, false, ◌&&◌, not, ◌==◌, nat_lt, Ok, refl, ap, sym, ◌∙◌, arith}
+use Rattle.std.proofs.lemmas.Bool.{and_parts, eqb-true, ne_eqb, lt-ltb}
 use Rattle.std.proofs.lemmas.Bool.Decides.{nat_tests}
 use Rattle.yaml_chars.specs.Place.{Place}
 use Rattle.yaml_chars.specs.Class.{is_break}
-use Rattle.yaml_chars.specs.Text.{is_nil}
 use Rattle.scalar_defs.specs.Classes as classes
 use Rattle.scalar_defs.specs.Classes.{is_document_marker}
-use Rattle.scalar_defs.specs.Breaks.{is_before_line_feed}
-use Rattle.scalar_defs.specs.BlockScalar.{Row, is_spaces, leading_spaces, is_empty_line, is_content_line, row_of, is_outside, is_further_text}
+use Rattle.scalar_defs.specs.BlockScalar.{is_outside, is_further_text}
 use Rattle.cut_defs.specs.Text.{place_past}
 use Rattle.cut_defs.specs.BlockPiece.{past_spaces}
-use Rattle.scalar_model.specs.Machine.{Read, past, at_marker}
-use Rattle.scalar_model.specs.Block.{Column, indent_from, Lines, begins}
-use Rattle.scan_blocks.specs.HeaderEnds.{is_in_line, along}
+use Rattle.scalar_model.specs.Machine.{past}
+use Rattle.scalar_model.specs.Block.{indent_from, Lines, begins}
 use Rattle.scan_blocks.specs.BlockScan.{without_spaces}
-use Rattle.scan_blocks.proofs.Bridges.{same_break, first_inner, and_false, not_true}
+use Rattle.scan_blocks.proofs.Bridges.{same_break, not_true}
 use Rattle.scan_blocks.proofs.Margins.{at}
 use Rattle.scan_blocks.proofs.Markers.{marker_here}
 use Rattle.scan_blocks.proofs.Places.{space_past}

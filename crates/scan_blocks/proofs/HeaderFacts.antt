@@ -1,10 +1,8 @@
 -- What a header says of itself, and that the model reads it so.
-use Rattle.std.proofs.Common.{◌≡◌, ℕ, zero, suc, ◌-◌, ◌≤◌, List, [], ◌∷◌, ◌++◌, Bool, true, false, ◌&&◌, ◌==◌, if◌then◌else◌, nat_le, slice_index, Option, Some, None, Result, Ok, Err, refl, ap, sym, ◌∙◌, arith}
-use Rattle.std.proofs.lemmas.Bool.{and_parts, eqb-true}
+use Rattle.std.proofs.Common.{◌≡◌, ℕ, suc, ◌-◌, ◌≤◌, List, [], ◌∷◌, ◌++◌, Bool, true, false, ◌==◌, if◌then◌else◌, Option, Some, None, Ok, Err, refl, ap, sym, ◌∙◌, arith}
+use Rattle.std.proofs.lemmas.Bool.{eqb-true}
 use Rattle.std.proofs.lemmas.Bool.Decides.{nat_tests}
 use Rattle.yaml_chars.specs.Place.{Place}
-use Rattle.yaml_chars.specs.Class.{is_break}
-use Rattle.yaml_tokens.specs.declared.problem.Fault.{Fault}
 use Rattle.yaml_tokens.specs.declared.problem.Fault.TheVariants.{At}
 use Rattle.yaml_tokens.specs.declared.problem.Problem.TheVariants as problem
 use Rattle.scalar_defs.specs.Classes as classes
@@ -13,9 +11,9 @@ use Rattle.scalar_defs.specs.Breaks.{is_rest_of_line}
 use Rattle.scalar_defs.specs.FlowScalar.{begins_with}
 use Rattle.scalar_defs.specs.BlockScalar as defs
 use Rattle.scalar_defs.specs.BlockScalar.{BlockStyle, literal, folded, clip, sign_of, digit_of, header_of, ended, behind_style, first_indicator, behind_sign, digit_or_end, behind_digit, sign_or_end}
-use Rattle.scalar_model.specs.Machine.{Read, past}
+use Rattle.scalar_model.specs.Machine.{past}
 use Rattle.scalar_model.specs.Space.{linebreak}
-use Rattle.scalar_model.specs.Block.{Header, header}
+use Rattle.scalar_model.specs.Block.{header}
 use Rattle.scan_blocks.specs.HeaderEnds.{indicator_of, digit_or_zero, is_in_line, ends_line, along, read_header, EndsAs, reads, tabbed, zero_digit, comment, no_header}
 use Rattle.scan_blocks.specs.BlockScan.{digit_by}
 use Rattle.scan_blocks.proofs.Headers.{headers_end}

@@ -13,3 +13,4 @@ mod Columns
 mod Walks
 mod Blocks
 pub mod Pieces
+pub mod Ends

@@ -1,17 +1,13 @@
 -- What the model does before content: spaces and breaks.
-use Rattle.std.proofs.Common.{◌≡◌, ◌≤◌, ℕ, zero, suc, ◌+◌, List, [], ◌∷◌, ◌++◌, Bool, true, false, ◌&&◌, ◌||◌, not, ◌==◌, if◌then◌else◌, max, nat_lt, slice_index, length, Option, Some, None, Result, Ok, Err, refl, ap, sym, ◌∙◌, arith}
-use Rattle.std.proofs.lemmas.Bool.{and_parts, or_parts, eqb-true, lt-ltb, le-ltb}
-use Rattle.std.proofs.lemmas.Bool.Decides.{nat_tests}
+use Rattle.std.proofs.Common.{◌≡◌, ◌≤◌, ℕ, suc, ◌+◌, List, [], ◌∷◌, ◌++◌, Bool, true, false, ◌&&◌, ◌==◌, nat_lt, length, refl, ap, sym, ◌∙◌, arith}
+use Rattle.std.proofs.lemmas.Bool.{and_parts, lt-ltb}
 use Rattle.yaml_chars.specs.Place.{Place}
 use Rattle.yaml_chars.specs.Class.{is_break}
-use Rattle.yaml_tokens.specs.declared.problem.Fault.{Fault}
-use Rattle.scalar_defs.specs.Classes as classes
-use Rattle.scalar_defs.specs.BlockScalar.{is_spaces, leading_spaces, deepest_start}
+use Rattle.scalar_defs.specs.BlockScalar.{is_spaces}
 use Rattle.scalar_model.specs.Machine.{Read, past, past_break, is_cr_lf}
-use Rattle.scalar_model.specs.Block.{Column, First, first_indent, Margin, indent_from, Lines, State, margin, lines_from}
-use Rattle.scan_blocks.specs.HeaderEnds.{is_in_line, along}
-use Rattle.scan_blocks.proofs.Bridges.{same_break, first_inner, and_false}
-use Rattle.scan_blocks.proofs.Written.{Break, feed, carriage, both, Line, put, spell, texts, Fits, AreLines}
+use Rattle.scalar_model.specs.Block.{Column, Margin, indent_from, Lines, State, margin, lines_from}
+use Rattle.scan_blocks.specs.HeaderEnds.{along}
+use Rattle.scan_blocks.proofs.Written.{Break, feed, carriage, both, Line, put, Fits}
 
 -- the place behind a break
 abbrev pub before_break : Break → Place → Place

@@ -1,12 +1,12 @@
 -- A document marker is seen alike in a line and in the text that begins with the line.
-use Rattle.std.proofs.Common.{◌≡◌, ℕ, suc, List, [], ◌∷◌, ◌++◌, Bool, true, false, ◌||◌, ◌&&◌, ◌==◌, refl, sym, ◌∙◌, arith}
+use Rattle.std.proofs.Common.{◌≡◌, ℕ, List, [], ◌∷◌, ◌++◌, Bool, true, false, ◌||◌, ◌&&◌, ◌==◌, refl, ◌∙◌, arith}
 use Rattle.std.proofs.lemmas.Bool.Decides.{nat_tests}
 use Rattle.yaml_chars.specs.Class.{is_blank, is_break, is_blank_or_breakz}
 use Rattle.scalar_defs.specs.Classes as classes
 use Rattle.scalar_defs.specs.Classes.{is_document_marker}
 use Rattle.scalar_model.specs.Machine.{is_marker, at_marker}
 use Rattle.scan_blocks.specs.HeaderEnds.{ends_line}
-use Rattle.scan_blocks.proofs.Bridges.{and_false, same_break}
+use Rattle.scan_blocks.proofs.Bridges.{and_false}
 
 no_third : (x y : Bool) → ((x && false) || (y && false)) ≡ false
 no_third x y = rw (and_false x, and_false y) refl

@@ -1,26 +1,26 @@
 -- Each piece that is a block scalar is read as it.
-use Rattle.std.proofs.Common.{◌≡◌, ◌≤◌, ℕ, zero, suc, List, [], ◌∷◌, ◌++◌, Bool, true, false, ◌&&◌, ◌||◌, not, ◌==◌, if◌then◌else◌, max, slice_index, Option, Some, None, Result, refl, ap, sym, ◌∙◌, append-nil, append_assoc, arith}
+use Rattle.std.proofs.Common.{◌≡◌, ℕ, zero, suc, List, [], ◌∷◌, ◌++◌, Bool, true, false, not, ◌==◌, max, slice_index, Option, Some, None, refl, ap, sym, ◌∙◌, append-nil, append_assoc, arith}
 use Rattle.std.specs.List.{list_all}
 use Rattle.std.proofs.lemmas.Bool.{and_parts}
 use Rattle.std.proofs.lemmas.Bool.Decides.{nat_tests}
 use Rattle.yaml_chars.specs.Place.{Place}
 use Rattle.scalar_defs.specs.Classes as classes
 use Rattle.scalar_defs.specs.Classes.{tab, is_at_end, is_document_marker}
-use Rattle.scalar_defs.specs.Breaks.{split, Split}
+use Rattle.scalar_defs.specs.Breaks.{split}
 use Rattle.scalar_defs.specs.FlowScalar.{begins_with}
 use Rattle.scalar_defs.specs.BlockScalar as defs
 use Rattle.scalar_defs.specs.BlockScalar.{Row, rows_of, row_of, deepest_start, least_column, column_by, header_of, starts_with_tab, is_outside, is_further_text, further_text, unbroken, body, input_ends, Body, value_at_text, value_at_end, block_value, value_before_text, value_before_end}
-use Rattle.cut_defs.specs.BlockPiece.{BlockRead, with_value, is_past, column_of, read_body, read_lines, read_split, block_read}
-use Rattle.scalar_model.specs.Block.{Block, block, indent_from}
+use Rattle.cut_defs.specs.BlockPiece.{BlockRead, read_body, read_lines, read_split}
+use Rattle.scalar_model.specs.Block.{block, indent_from}
 use Rattle.scan_blocks.specs.HeaderEnds.{indicator_of, digit_or_zero, is_in_line}
 use Rattle.scan_blocks.specs.BlockScan.{collection_by, digit_by, is_literal, is_some, IsRead, tabbed}
 use Rattle.scan_blocks.specs.Laws.{BlockPiecesAreRead}
-use Rattle.scan_blocks.proofs.Bridges.{same_break, first_inner, not_true}
+use Rattle.scan_blocks.proofs.Bridges.{first_inner, not_true}
 use Rattle.scan_blocks.proofs.Written.{Break, feed, carriage, both, Line, put, spell, texts, Fits, AreLines, Lined, lined, split_spell}
 use Rattle.scan_blocks.proofs.Margins.{at, behind_line, behind_lines}
 use Rattle.scan_blocks.proofs.Places.{spell_more}
 use Rattle.scan_blocks.proofs.Rows.{row_is}
-use Rattle.scan_blocks.proofs.Further.{Outside, further_outside}
+use Rattle.scan_blocks.proofs.Further.{further_outside}
 use Rattle.scan_blocks.proofs.HeaderFacts.{Said, said}
 use Rattle.scan_blocks.proofs.Columns.{Deep, deep_next, same_column, spell_append, texts_append, are_append}
 use Rattle.scan_blocks.proofs.Blocks.{start, behind, block_is, tab_fails, before_further, before_the_end, header_alone_is_read}
@@ -32,7 +32,7 @@ tab_put feed a = refl
 tab_put carriage a = refl
 tab_put both a = refl
 
-tab_line : (w a : List ℕ) (k : Break) (ls : List (List ℕ)) → begins_with tab (w ++ put k a) ≡ starts_with_tab (w ∷ ls)
+pub tab_line : (w a : List ℕ) (k : Break) (ls : List (List ℕ)) → begins_with tab (w ++ put k a) ≡ starts_with_tab (w ∷ ls)
 tab_line [] a k ls = tab_put k a
 tab_line (c ∷ w) a k ls = refl
 
@@ -72,7 +72,7 @@ fits_put carriage feed a b h = h
 fits_put carriage carriage a b h = refl
 fits_put carriage both a b h = refl
 
-fits_line : (k : Break) (w : List ℕ) (m : Break) (a b : List ℕ) → Fits k (w ++ put m a) → Fits k (w ++ put m b)
+pub fits_line : (k : Break) (w : List ℕ) (m : Break) (a b : List ℕ) → Fits k (w ++ put m a) → Fits k (w ++ put m b)
 fits_line k [] m a b h = fits_put k m a b h
 fits_line feed (c ∷ w) m a b h = tt
 fits_line carriage (c ∷ w) m a b h = h
@@ -205,6 +205,10 @@ module _ (indent : ℕ) (p : Place) where
 none_some : {A : Type 0} (x : A) → None ≡ Some x → ⊥
 none_some x e = cc
 
+pub some_next : (d : ℕ) (n : List ℕ) → list_all is_some (d ∷ n) ≡ true → is_at_end (d ∷ n) ≡ false
+unfolding classes.is_nul
+some_next d n h = not_true _ ((and_parts (not (d == 0)) (list_all is_some n) h).0)
+
 module _ (indent : ℕ) (p : Place) (b : BlockRead) where
   abbrev Read_as : List ℕ → List ℕ → Type 0
   Read_as piece next = IsRead indent p b piece next (block (is_literal b.style) indent (piece ++ next) p)
@@ -252,10 +256,6 @@ module _ (indent : ℕ) (p : Place) (b : BlockRead) where
       by : (o : Option defs.Header) → header_of (c ∷ line) ≡ o → Read_as (c ∷ (line ++ put k (spell ls []))) next
       by None f = let no : None ≡ Some b = rw f at e in absurd (none_some b no)
       by (Some h) f = read_here h f (before indent p next h ls b some (rw f at e)) (said c line h f)
-
-  some_next : (d : ℕ) (n : List ℕ) → list_all is_some (d ∷ n) ≡ true → is_at_end (d ∷ n) ≡ false
-  unfolding classes.is_nul
-  some_next d n h = not_true _ ((and_parts (not (d == 0)) (list_all is_some n) h).0)
 
   of_lines : (ls : List Line) (last next : List ℕ) → AreLines ls last → is_in_line last ≡ true → list_all is_some next ≡ true → (t : Bool) → is_at_end next ≡ t
       → read_lines (collection_by indent) (texts ls) last next t ≡ Some b → Read_as (spell ls last) next

@@ -1,17 +1,16 @@
 -- The definitions' places are the model's.
-use Rattle.std.proofs.Common.{◌≡◌, ◌≤◌, ℕ, zero, suc, ◌+◌, List, [], ◌∷◌, ◌++◌, Bool, true, false, ◌&&◌, ◌||◌, not, ◌==◌, if◌then◌else◌, nat_lt, length, slice_index, Option, Some, None, refl, ap, sym, ◌∙◌, append-nil, append_assoc, arith}
-use Rattle.std.proofs.lemmas.Bool.{and_parts, eqb-true, lt-ltb, le-ltb}
+use Rattle.std.proofs.Common.{◌≡◌, ◌≤◌, ℕ, suc, ◌+◌, List, [], ◌∷◌, ◌++◌, true, false, not, ◌==◌, nat_lt, length, slice_index, None, refl, ap, sym, ◌∙◌, append-nil, append_assoc, arith}
+use Rattle.std.proofs.lemmas.Bool.{and_parts, eqb-true, lt-ltb}
 use Rattle.yaml_chars.specs.Place.{Place}
 use Rattle.yaml_chars.specs.Class.{is_break}
 use Rattle.scalar_defs.specs.Classes as classes
-use Rattle.scalar_defs.specs.Breaks.{is_before_line_feed}
 use Rattle.scalar_defs.specs.BlockScalar.{is_spaces}
 use Rattle.cut_defs.specs.Text as cut
 use Rattle.cut_defs.specs.Text.{place_past, place_behind}
 use Rattle.cut_defs.specs.BlockPiece.{first_content}
 use Rattle.scalar_model.specs.Machine.{past, past_break}
 use Rattle.scan_blocks.specs.HeaderEnds.{is_in_line, along}
-use Rattle.scan_blocks.proofs.Bridges.{same_break, first_inner, and_false}
+use Rattle.scan_blocks.proofs.Bridges.{same_break, first_inner}
 use Rattle.scan_blocks.proofs.Written.{Break, feed, carriage, both, Line, put, spell, Fits, AreLines}
 use Rattle.scan_blocks.proofs.Margins.{behind_break, behind_line, behind_lines}
 

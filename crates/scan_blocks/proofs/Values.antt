@@ -1,12 +1,9 @@
 -- What rows leave in the model's buffers is the text that the definitions give them.
-use Rattle.std.proofs.Common.{◌≡◌, ◌≤◌, ℕ, zero, suc, ◌+◌, List, [], ◌∷◌, ◌++◌, Bool, true, false, ◌&&◌, ◌||◌, not, ◌==◌, if◌then◌else◌, length, drop, replicate, max, Option, Some, None, refl, ap, sym, ◌∙◌, append-nil, append_assoc, arith}
+use Rattle.std.proofs.Common.{◌≡◌, ℕ, zero, suc, ◌+◌, List, [], ◌∷◌, ◌++◌, Bool, true, false, ◌||◌, if◌then◌else◌, length, max, refl, ap, sym, ◌∙◌, append-nil, append_assoc, arith}
 use Rattle.yaml_chars.specs.Class.{is_blank}
-use Rattle.yaml_chars.specs.Text.{is_nil}
-use Rattle.yaml_tokens.specs.declared.token.Chomping.TheVariants.{Strip, Clip, Keep}
-use Rattle.scalar_defs.specs.Classes.{line_feed}
 use Rattle.scalar_defs.specs.BlockScalar as defs
 use Rattle.scalar_defs.specs.BlockScalar.{BlockStyle, literal, folded, strip, clip, keep, Row, empty_row, content_row, starts_blank, breaks, between_lines, text_behind, text_of, has_content, empty_behind, with_content, nothing_before_text, nothing_before_end}
-use Rattle.scalar_model.specs.Block.{Lines, between, tail, empty_text, lf_if}
+use Rattle.scalar_model.specs.Block.{Lines, between, tail, empty_text}
 use Rattle.scan_blocks.specs.HeaderEnds.{chomping_of}
 use Rattle.scan_blocks.specs.BlockScan.{is_literal}
 use Rattle.scan_blocks.proofs.Bridges.{same_blank}

@@ -1,19 +1,17 @@
 -- Where content is found behind rows, and how far rows go in a text.
-use Rattle.std.proofs.Common.{◌≡◌, ◌≤◌, ℕ, zero, suc, ◌+◌, List, [], ◌∷◌, ◌++◌, Bool, true, false, ◌&&◌, ◌||◌, not, ◌==◌, length, drop, Option, Some, None, refl, ap, sym, ◌∙◌, append-nil, arith}
+use Rattle.std.proofs.Common.{◌≡◌, ◌≤◌, ℕ, zero, suc, ◌+◌, List, [], ◌∷◌, ◌++◌, true, false, length, drop, Option, Some, None, refl, ap, sym, ◌∙◌, append-nil, arith}
 use Rattle.std.specs.List.{list_all}
 use Rattle.yaml_chars.specs.Place.{Place}
-use Rattle.scalar_defs.specs.Classes.{is_document_marker}
-use Rattle.scalar_defs.specs.BlockScalar.{Row, empty_row, content_row, is_spaces, leading_spaces, breaks, row_of, rows_of, put_row, has_content, is_further_text}
+use Rattle.scalar_defs.specs.BlockScalar.{Row, empty_row, content_row, is_spaces, breaks, row_of, rows_of, put_row, has_content, is_further_text}
 use Rattle.cut_defs.specs.BlockPiece.{first_content}
-use Rattle.scalar_model.specs.Machine.{Read}
-use Rattle.scalar_model.specs.Block.{Column, indent_from}
-use Rattle.scan_blocks.specs.HeaderEnds.{is_in_line, along}
+use Rattle.scalar_model.specs.Block.{indent_from}
+use Rattle.scan_blocks.specs.HeaderEnds.{is_in_line}
 use Rattle.scan_blocks.specs.BlockScan.{is_some}
 use Rattle.scan_blocks.proofs.Written.{Line, put, spell, texts, Fits, AreLines}
 use Rattle.scan_blocks.proofs.Margins.{behind_line, behind_lines, at, empty_passes}
 use Rattle.scan_blocks.proofs.Places.{first_empty}
 use Rattle.scan_blocks.proofs.Rows.{IsRow, is_empty, is_content, row_is, break_ends, Starts, starts}
-use Rattle.scan_blocks.proofs.Values.{AreFull, more_breaks}
+use Rattle.scan_blocks.proofs.Values.{AreFull}
 use Rattle.scan_blocks.proofs.Columns.{none_further}
 
 -- ---- content is never empty

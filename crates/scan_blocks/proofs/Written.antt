@@ -1,9 +1,9 @@
 -- Each text is lines, each with its break as written, and a last line without one.
-use Rattle.std.proofs.Common.{◌≡◌, ℕ, List, [], ◌∷◌, ◌++◌, Bool, true, false, ◌&&◌, ◌||◌, not, ◌==◌, slice_index, refl, ap, sym, ◌∙◌}
+use Rattle.std.proofs.Common.{◌≡◌, ℕ, List, [], ◌∷◌, ◌++◌, Bool, true, false, ◌&&◌, ◌==◌, slice_index, refl, ap, ◌∙◌}
 use Rattle.std.proofs.lemmas.Bool.{and_parts, eqb-true}
 use Rattle.yaml_chars.specs.Class.{is_break}
 use Rattle.scalar_defs.specs.Classes as classes
-use Rattle.scalar_defs.specs.Breaks.{Split, split, split_by, with_first, with_empty_line, is_before_line_feed}
+use Rattle.scalar_defs.specs.Breaks.{Split, split, with_empty_line}
 use Rattle.scan_blocks.specs.HeaderEnds.{is_in_line}
 use Rattle.scan_blocks.proofs.Bridges.{same_break, first_inner}
 

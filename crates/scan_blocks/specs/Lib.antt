@@ -1,3 +1,4 @@
+pub mod BlockEnds
 pub mod BlockScan
 pub mod HeaderEnds
 pub mod Laws

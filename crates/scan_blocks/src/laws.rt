@@ -1,6 +1,6 @@
 //! Laws of the scanner's model and block scalars, each carried by an empty function.
 
-ghost use Rattle.scan_blocks.specs.Laws.{BlockPiecesAreRead, FirstLinesGiveTheColumn, HeadersEndAsTheirLineSays};
+ghost use Rattle.scan_blocks.specs.Laws.{BlockPiecesAreRead, BlockScansEndAsTheirTextSays, FirstLinesGiveTheColumn, HeadersEndAsTheirLineSays};
 
 /// Behind `|` or `>` the rest of each line is read so alone: a header is read as the chomping and the digit that it says, if
 /// no TAB begins the next line; a line that is no header is refused, for a digit 0, for a comment without a blank before it,
@@ -20,4 +20,10 @@ pub fn first_lines_give_the_column()
 /// a TAB, or text that is indented deep enough to be content, but not as deep as the empty lines before it.
 pub fn block_pieces_are_read()
     ensures { BlockPiecesAreRead }
+{}
+
+/// Behind `|` or `>` each text without NUL is read so alone: it begins with a piece that is a block scalar, and that is read,
+/// or what stands behind it is refused; or its header is refused.
+pub fn block_scans_end_as_their_text_says()
+    ensures { BlockScansEndAsTheirTextSays }
 {}
