@@ -1,0 +1,4 @@
+pub mod BlockEnds
+pub mod BlockScan
+pub mod HeaderEnds
+pub mod Laws
