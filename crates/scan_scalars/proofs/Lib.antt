@@ -1,1 +1,7 @@
 pub mod Names
+pub mod PlainFound
+pub mod PlainTurns
+pub mod PlainScans
+pub mod PlainValues
+pub mod Plains
+mod PlainRows
