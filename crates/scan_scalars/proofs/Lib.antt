@@ -4,4 +4,5 @@ pub mod PlainTurns
 pub mod PlainScans
 pub mod PlainValues
 pub mod Plains
+pub mod Fillers
 mod PlainRows

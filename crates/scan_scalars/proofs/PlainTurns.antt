@@ -86,7 +86,7 @@ line_is ctx c column a = rw (same_marker column (c ∷ a), shallow_by ctx.indent
 pub no_line : (ctx : Context) (c : ℕ) (a : List ℕ) (p : Place) → (p.col == 0) ≡ false → is_shallow ctx p.col ≡ false → false ≡ (at_marker p.col (c ∷ a) || is_shallow ctx p.col)
 no_line ctx c a p e f = rw (same_marker p.col (c ∷ a), e, f) refl
 
-same_feed : (c : ℕ) (a : List ℕ) → is_cr_lf c a ≡ is_before_line_feed c a
+pub same_feed : (c : ℕ) (a : List ℕ) → is_cr_lf c a ≡ is_before_line_feed c a
 same_feed c [] = and_false (c == 13)
 same_feed c (d ∷ a) = refl
 
@@ -102,7 +102,7 @@ by_line_true f g h k = rw (or_true ((f || g) || h)) refl
 pub in_line_place : (c : ℕ) (a : List ℕ) (p : Place) → (classes.is_break c && not (is_before_line_feed c a)) ≡ false → place_past p c a ≡ past p
 in_line_place c a p e = let i : suc p.index ≡ p.index + 1 = omega arith in let j : suc p.col ≡ p.col + 1 = omega arith in rw (e, i, j) refl
 
-line_place : (c : ℕ) (a : List ℕ) (p : Place) → (classes.is_break c && not (is_before_line_feed c a)) ≡ true → place_past p c a ≡ past_break p
+pub line_place : (c : ℕ) (a : List ℕ) (p : Place) → (classes.is_break c && not (is_before_line_feed c a)) ≡ true → place_past p c a ≡ past_break p
 line_place c a p e = let i : suc p.index ≡ p.index + 1 = omega arith in let j : suc p.line ≡ p.line + 1 = omega arith in rw (e, i, j) refl
 
 pub off_margin : (n : ℕ) → (n + 1 == 0) ≡ false

@@ -8,6 +8,9 @@ use Rattle.scalar_model.specs.Plain.{plain}
 use Rattle.cut_defs.specs.Piece.{is_name, goes_on_with_name}
 use Rattle.cut_defs.specs.Plain.{is_whole_plain}
 use Rattle.scan_scalars.specs.NameEnds.{behind_name, EndsAs}
+use Rattle.scan_model.specs.State.{Held}
+use Rattle.scan_model.specs.Space.{between, skip}
+use Rattle.scan_scalars.specs.Fillers.{PassesAs}
 use Rattle.scan_scalars.specs.PlainEnds.{has_no_nul, collection_of, begins_solid, is_indented, IsRead}
 use Rattle.scan_scalars.specs.PlainEnds as plains
 
@@ -29,3 +32,7 @@ PlainScalarsAreRead =
 abbrev pub PlainScansEndAsTheirTextSays : Type 0
 PlainScansEndAsTheirTextSays =
     (ctx : Context) (text : List ℕ) (p : Place) → has_no_nul text ≡ true → begins_solid text ≡ true → is_indented ctx p ≡ true → plains.EndsAs ctx p text (plain ctx text p)
+
+-- `fillers_are_passed`
+abbrev pub FillersArePassed : Type 0
+FillersArePassed = (s : Held) (text : List ℕ) → PassesAs s text (skip between text s)

@@ -1,3 +1,4 @@
 pub mod Laws
 pub mod NameEnds
 pub mod PlainEnds
+pub mod Fillers

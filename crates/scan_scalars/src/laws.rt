@@ -1,6 +1,6 @@
 //! Laws of the scanner's model and the texts of single tokens, each carried by an empty function.
 
-ghost use Rattle.scan_scalars.specs.Laws.{NamesAreRead, NamesEndAsTheirTextSays, PlainScalarsAreRead, PlainScansEndAsTheirTextSays};
+ghost use Rattle.scan_scalars.specs.Laws.{FillersArePassed, NamesAreRead, NamesEndAsTheirTextSays, PlainScalarsAreRead, PlainScansEndAsTheirTextSays};
 
 /// Behind its indicator a name is read as it stands, up to a text that goes on with no character of a name.
 pub fn names_are_read()
@@ -23,4 +23,10 @@ pub fn plain_scalars_are_read()
 /// its value, and whether a break stands behind it; and each of the three faults has its reason in the text.
 pub fn plain_scans_end_as_their_text_says()
     ensures { PlainScansEndAsTheirTextSays }
+{}
+
+/// On the way to the next token all blanks, breaks and comments are passed, and nothing else; the place is the one behind them.
+/// It is refused only where a TAB left of the innermost level has a token behind it on its line.
+pub fn fillers_are_passed()
+    ensures { FillersArePassed }
 {}
