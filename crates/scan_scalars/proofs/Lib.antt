@@ -5,4 +5,5 @@ pub mod PlainScans
 pub mod PlainValues
 pub mod Plains
 pub mod Fillers
+pub mod Uris
 mod PlainRows

@@ -29,10 +29,10 @@ abbrev stops : (ℕ → Bool) → List ℕ → Bool
 stops test [] = true
 stops test (c ∷ r) = not (test c)
 
-one_further : (p : Place) (n : ℕ) → further n (past p) ≡ further (suc n) p
+pub one_further : (p : Place) (n : ℕ) → further n (past p) ≡ further (suc n) p
 one_further p n = let index : (p.index + 1) + n ≡ p.index + suc n = omega arith in let col : (p.col + 1) + n ≡ p.col + suc n = omega arith in rw (index, col) refl
 
-none_further : (p : Place) → further 0 p ≡ p
+pub none_further : (p : Place) → further 0 p ≡ p
 none_further p = let index : p.index + 0 ≡ p.index = omega arith in let col : p.col + 0 ≡ p.col = omega arith in rw (index, col) refl
 
 taken : (test : ℕ → Bool) (name rest : List ℕ) (p : Place) (t : List ℕ) → all_of test name ≡ true → stops test rest ≡ true

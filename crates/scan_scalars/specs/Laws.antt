@@ -11,6 +11,10 @@ use Rattle.scan_scalars.specs.NameEnds.{behind_name, EndsAs}
 use Rattle.scan_model.specs.State.{Held}
 use Rattle.scan_model.specs.Space.{between, skip}
 use Rattle.scan_scalars.specs.Fillers.{PassesAs}
+use Rattle.yaml_chars.specs.Class.{is_uri, is_tag}
+use Rattle.scalar_defs.specs.Classes as classes
+use Rattle.scalar_model.specs.Uri.{uri}
+use Rattle.scan_scalars.specs.UriEnds.{uri_read}
 use Rattle.scan_scalars.specs.PlainEnds.{has_no_nul, collection_of, begins_solid, is_indented, IsRead}
 use Rattle.scan_scalars.specs.PlainEnds as plains
 
@@ -36,3 +40,9 @@ PlainScansEndAsTheirTextSays =
 -- `fillers_are_passed`
 abbrev pub FillersArePassed : Type 0
 FillersArePassed = (s : Held) (text : List ℕ) → PassesAs s text (skip between text s)
+
+-- `uris_are_read`; of URIs, and of the suffixes of tags
+abbrev pub UrisAreRead : Type 0
+UrisAreRead =
+    (start : Place) (text : List ℕ) (p : Place) (before : List ℕ) →
+    (uri is_uri start text p before ≡ uri_read classes.is_uri start p text before) × (uri is_tag start text p before ≡ uri_read classes.is_tag start p text before)

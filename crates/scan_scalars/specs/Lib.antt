@@ -2,3 +2,4 @@ pub mod Laws
 pub mod NameEnds
 pub mod PlainEnds
 pub mod Fillers
+pub mod UriEnds

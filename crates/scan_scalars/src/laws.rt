@@ -1,6 +1,6 @@
 //! Laws of the scanner's model and the texts of single tokens, each carried by an empty function.
 
-ghost use Rattle.scan_scalars.specs.Laws.{FillersArePassed, NamesAreRead, NamesEndAsTheirTextSays, PlainScalarsAreRead, PlainScansEndAsTheirTextSays};
+ghost use Rattle.scan_scalars.specs.Laws.{FillersArePassed, NamesAreRead, NamesEndAsTheirTextSays, PlainScalarsAreRead, PlainScansEndAsTheirTextSays, UrisAreRead};
 
 /// Behind its indicator a name is read as it stands, up to a text that goes on with no character of a name.
 pub fn names_are_read()
@@ -29,4 +29,10 @@ pub fn plain_scans_end_as_their_text_says()
 /// It is refused only where a TAB left of the innermost level has a token behind it on its line.
 pub fn fillers_are_passed()
     ensures { FillersArePassed }
+{}
+
+/// Of each text all characters of a URI that it begins with are read, or all of a tag's suffix: each as itself, and escapes as
+/// octets of UTF-8. A text is refused just where an octet is missing, begins no character, goes on with none, or makes none.
+pub fn uris_are_read()
+    ensures { UrisAreRead }
 {}
