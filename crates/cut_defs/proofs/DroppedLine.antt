@@ -13,11 +13,11 @@ use Rattle.cut_defs.specs.Account.{Account, first_account, blocks_at, innermost_
 use Rattle.cut_defs.specs.Piece.{Holds, IsPiece}
 use Rattle.cut_defs.specs.Cut.{Written, IsCut, IsWritten, IsRow, tokens_of, spelled, account_at, start_token, end_token}
 
-abbrev rest_of : List Token → List Token
+abbrev pub rest_of : List Token → List Token
 rest_of [] = []
 rest_of (t ∷ ts) = ts
 
-abbrev first_tok : List Token → Tok
+abbrev pub first_tok : List Token → Tok
 first_tok [] = stream_end
 first_tok (t ∷ ts) = t.tok
 
@@ -61,7 +61,7 @@ no_piece p f e h v =
     let R : List ℕ → Type 0 = λ q. plain_value q ≡ Some (codes "a") in
     no_beginning (length p) (subst Q ef (subst P ep h)) (subst R ep v)
 
-abbrev head : List ℕ → ℕ
+abbrev pub head : List ℕ → ℕ
 head [] = 0
 head (c ∷ r) = c
 
@@ -87,7 +87,7 @@ no_row [] p f k following t e w =
     no_piece p f e (subst Q (ap innermost_column (no_collection 0 p)) h.0.1) h.0.2
 
 -- a token behind others is not the only one
-not_alone : (us : List Token) (a b c : Token) → a ∷ (us ++ (b ∷ [])) ≡ c ∷ [] → ⊥
+pub not_alone : (us : List Token) (a b c : Token) → a ∷ (us ++ (b ∷ [])) ≡ c ∷ [] → ⊥
 not_alone [] a b c e = cc e
 not_alone (u ∷ us) a b c e = cc e
 

@@ -3,6 +3,7 @@ use Rattle.std.proofs.Common.{◌≡◌, ℕ, List, [], ◌∷◌, ◌++◌, Boo
 use Rattle.scalar_defs.specs.Classes.{is_blank, is_break}
 use Rattle.yaml_chars.specs.Place.{Place}
 use Rattle.token_defs.specs.Token.{Tok, Token, stream_start, stream_end, version_directive, tag_directive, document_start, document_end, block_sequence_start, block_mapping_start, block_end, flow_sequence_start, flow_sequence_end, flow_mapping_start, flow_mapping_end, block_entry, flow_entry, key, value, alias, anchor, tag, scalar, plain, single_quoted, double_quoted, literal, folded}
+use Rattle.cut_defs.specs.Text.{has_no_break}
 use Rattle.cut_defs.specs.Plain.{Stand, inside, behind_blank, on_line, past, past_blank, ends_plain, goes_on, stops, ends_with_content, is_whole_plain}
 use Rattle.cut_defs.specs.Account.{Account, Before, quoted, collection, other, before_past, is_in_flow, collection_column, blocks_at, blocks_past, account_past_filler, account_past_token}
 use Rattle.cut_defs.specs.Piece.{IsPiece, Holds, begins_node}
@@ -48,11 +49,6 @@ key_inserted a w ws f last p n r =
 abbrev pub is_in_line : List ℕ → Bool
 is_in_line [] = true
 is_in_line (c ∷ r) = not (is_break c) && (not (is_blank c) || is_in_line r)
-
--- whether a text holds no break
-abbrev pub has_no_break : List ℕ → Bool
-has_no_break [] = true
-has_no_break (c ∷ r) = not (is_break c) && has_no_break r
 
 abbrev IsInLine : Stand → Type 0
 IsInLine inside = Unit {0}

@@ -1,5 +1,6 @@
 pub mod Append
 mod DroppedLine
+mod LongDirective
 pub mod Inserted
 pub mod InsertedPair
 mod Limits

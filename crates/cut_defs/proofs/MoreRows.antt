@@ -1,12 +1,12 @@
 -- More tokens of short texts that are cuts of them, by computing.
-use Rattle.std.proofs.Common.{List, [], ◌∷◌, inl, inr, refl}
+use Rattle.std.proofs.Common.{List, [], ◌∷◌, inr, refl}
 use Rattle.std.specs.Prelude.{codes}
 use Rattle.scalar_defs.specs.Classes.{is_blank, is_break, is_nul, is_blank_or_end, is_flow, is_decimal_digit, is_letter, is_alpha, is_uri, is_tag, is_anchor_name, are_marks}
 use Rattle.scalar_defs.specs.FlowScalar.{plain_element, single_quoted_element, double_quoted_element, is_character_code, numeric_escape, escape, begins_with_marker, plain_value, single_quoted_value, double_quoted_value}
 use Rattle.scalar_defs.specs.BlockScalar.{sign_of, digit_of, is_empty_line, is_content_line, row_of}
 use Rattle.scalar_defs.specs.Tags.{octet_at, lead_of, is_trail, escaped_character, uri_character}
 use Rattle.scalar_defs.specs.Directives.{directive_of}
-use Rattle.token_defs.specs.Token.{version_directive, tag_directive, document_start, document_end, block_sequence_start, block_mapping_start, block_end, flow_sequence_start, flow_sequence_end, flow_mapping_start, flow_mapping_end, block_entry, flow_entry, key, value, alias, anchor, tag, scalar, plain, single_quoted, double_quoted, literal, folded}
+use Rattle.token_defs.specs.Token.{tag_directive, document_start, document_end, block_sequence_start, block_mapping_start, block_end, flow_sequence_start, flow_sequence_end, flow_mapping_start, flow_mapping_end, block_entry, flow_entry, key, value, tag, scalar, plain, double_quoted, literal, folded}
 use Rattle.cut_defs.specs.Cut.{Written, IsCut, IsCutOfBeginning, tokens_of, start_token}
 use Rattle.cut_defs.proofs.Shown.{place, written, first, tokens_between}
 
@@ -29,7 +29,7 @@ ignored_directive = record {
   is_text = refl;
   is_filled = refl;
   is_row = (
-    (refl, (inr (refl, refl, (refl, refl, refl, refl)), refl)),
+    (refl, (inr (refl, refl, (refl, refl, refl, refl, refl)), refl)),
     (
       (refl, ((refl, refl, refl, refl), refl)),
       (

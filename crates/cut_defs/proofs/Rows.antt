@@ -6,8 +6,8 @@ use Rattle.scalar_defs.specs.FlowScalar.{plain_element, single_quoted_element, d
 use Rattle.scalar_defs.specs.BlockScalar.{sign_of, digit_of, is_empty_line, is_content_line, row_of}
 use Rattle.scalar_defs.specs.Tags.{octet_at, lead_of, is_trail, escaped_character, uri_character}
 use Rattle.scalar_defs.specs.Directives.{directive_of}
-use Rattle.token_defs.specs.Token.{version_directive, tag_directive, document_start, document_end, block_sequence_start, block_mapping_start, block_end, flow_sequence_start, flow_sequence_end, flow_mapping_start, flow_mapping_end, block_entry, flow_entry, key, value, alias, anchor, tag, scalar, plain, single_quoted, double_quoted, literal, folded}
-use Rattle.cut_defs.specs.Cut.{Written, IsCut, IsCutOfBeginning, tokens_of, start_token}
+use Rattle.token_defs.specs.Token.{version_directive, tag_directive, document_start, document_end, block_sequence_start, block_mapping_start, block_end, flow_sequence_start, flow_sequence_end, flow_mapping_start, flow_mapping_end, block_entry, flow_entry, key, value, alias, anchor, tag, scalar, plain, single_quoted, double_quoted}
+use Rattle.cut_defs.specs.Cut.{Written, IsCut}
 use Rattle.cut_defs.proofs.Shown.{place, written, first, tokens_between}
 
 -- a plain scalar of two lines is one piece
@@ -551,9 +551,9 @@ declared = record {
   is_text = refl;
   is_filled = refl;
   is_row = (
-    (refl, ((refl, refl, refl, refl), refl)),
+    (refl, ((refl, refl, refl, refl, refl), refl)),
     (
-      (refl, (inl (refl, refl, refl, refl), refl)),
+      (refl, (inl (refl, refl, refl, refl, refl), refl)),
       (
         (refl, ((refl, refl, refl, refl), refl)),
         (

@@ -8,7 +8,7 @@ use Rattle.scalar_defs.specs.Tags.{all_of, written_tag}
 use Rattle.scalar_defs.specs.Directives.{Directive, version, tag_declaration, reserved, directive_of}
 use Rattle.yaml_chars.specs.Place.{Place}
 use Rattle.token_defs.specs.Token.{Tok, stream_start, stream_end, version_directive, tag_directive, document_start, document_end, block_sequence_start, block_mapping_start, block_end, flow_sequence_start, flow_sequence_end, flow_mapping_start, flow_mapping_end, block_entry, flow_entry, key, value, alias, anchor, tag, scalar, plain, single_quoted, double_quoted, literal, folded}
-use Rattle.cut_defs.specs.Text.{is_at_line_end}
+use Rattle.cut_defs.specs.Text.{is_at_line_end, has_no_break}
 use Rattle.cut_defs.specs.Plain.{begins_flow, is_value_indicator, begins_plain, is_whole_plain}
 use Rattle.cut_defs.specs.BlockPiece.{block_read, block_place}
 use Rattle.cut_defs.specs.Account.{Account, is_in_flow, has_open_block, is_closed, collection_column, has_room, has_open_pair, takes_pair, is_adjacent}
@@ -105,9 +105,9 @@ IsEntryEnd a piece indicator = (piece ≡ indicator) × HasNoPair a
 abbrev pub IsDocumentMarker : Account → (piece next marker : List ℕ) → Type 0
 IsDocumentMarker a piece next marker = (piece ≡ marker) × IsInColumn0 a × Holds (is_at_gap next) × Holds (is_closed a)
 
--- a line that is this directive, from column 0; outside flow no block collection is open
+-- one line that is this directive, from column 0; outside flow no block collection is open
 abbrev pub IsDirective : Account → (piece next : List ℕ) → Directive → Type 0
-IsDirective a piece next d = (directive_of piece ≡ Some d) × IsInColumn0 a × Holds (is_at_line_end next) × Holds (is_closed a)
+IsDirective a piece next d = (directive_of piece ≡ Some d) × Holds (has_no_break piece) × IsInColumn0 a × Holds (is_at_line_end next) × Holds (is_closed a)
 
 -- a declaration of a handle and its prefix, or a directive of another name, whose two texts are empty
 abbrev pub IsTagLine : Account → (piece next handle prefix : List ℕ) → Type 0

@@ -32,3 +32,8 @@ first_place = record { index = 0; line = 1; col = 0 }
 abbrev pub is_at_line_end : List ℕ → Bool
 is_at_line_end [] = true
 is_at_line_end (c ∷ r) = is_break c || is_nul c
+
+-- whether a text is part of one line
+abbrev pub has_no_break : List ℕ → Bool
+has_no_break [] = true
+has_no_break (c ∷ r) = not (is_break c) && has_no_break r

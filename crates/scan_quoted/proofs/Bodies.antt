@@ -14,7 +14,7 @@ use Rattle.scalar_model.specs.Machine.{Read, past, at_marker}
 use Rattle.scalar_model.specs.Folding.{Folded, nothing, joined}
 use Rattle.scalar_model.specs.Quoted.{Mode, first, gap, inside, closed, quote_of, refused}
 use Rattle.scalar_model.proofs.QuotedLemmas.{behind_gap, behind_quote, closed_end}
-use Rattle.scan_quoted.specs.Buffers.{behind_element, behind_elements}
+use Rattle.scalar_laws.specs.Buffers.{behind_element, behind_elements}
 use Rattle.scan_quoted.specs.QuotedScan.{element_of, has_marker, ends_before, IsShallow, by_line, by_tab, IsRead, read, shallow}
 use Rattle.scan_quoted.proofs.Turns.{no_marker, and_false, off_margin, Ready, in_gap, behind_escaped, scan, Begun, begun, marked, begins, Step, steps, is_marked, is_shallow, StepOf, inside_is_gap, may_stand}
 use Rattle.scan_quoted.proofs.Turns as turns

@@ -16,7 +16,7 @@ use Rattle.scalar_model.specs.Folding.{Folded, with_char, with_escaped_break, jo
 use Rattle.scalar_model.specs.Quoted.{inside, behind, digits_from, Escape, escape_of}
 use Rattle.scalar_model.proofs.QuotedLemmas.{named_char, named_code, digit_turn, coded}
 use Rattle.scan_quoted.specs.QuotedScan.{element_of, is_some, has_marker, by_line}
-use Rattle.scan_quoted.proofs.Bridges.{same_break, same_digit, same_code, same_escape}
+use Rattle.scalar_laws.proofs.Bridges.{same_break, same_digit, same_code, same_escape}
 use Rattle.scan_quoted.proofs.Turns.{and_false, feed_is_no_marker, behind_escaped, scan, Begun, begun, marked, shallow, begins, Taken, Step, steps, is_marked, is_shallow, StepOf, spelled, content_step, itself_step}
 
 -- ---- single quotes

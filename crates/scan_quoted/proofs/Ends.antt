@@ -12,12 +12,12 @@ use Rattle.scalar_model.specs.Machine.{Read, past}
 use Rattle.scalar_model.specs.Folding.{Folded, nothing, joined}
 use Rattle.scalar_model.specs.Quoted.{Mode, first, gap, quote_of, quoted}
 use Rattle.scalar_model.proofs.QuotedLemmas.{behind_gap}
-use Rattle.scan_quoted.specs.Buffers.{behind_elements}
+use Rattle.scalar_laws.specs.Buffers.{behind_elements}
 use Rattle.scan_quoted.specs.QuotedScan.{value_of, has_marker, ends_before, IsShallow, by_line, IsRead, read, shallow}
 use Rattle.scan_quoted.specs.QuotedScan as scans
 use Rattle.scan_quoted.specs.QuotedEnds.{HasElements, by_marker, by_end, by_escape, by_column, by_tab, EndsAs, reads, refuses}
 use Rattle.scan_quoted.specs.Laws.{QuotedScansEndAsTheirTextSays}
-use Rattle.scan_quoted.proofs.Fold.{buffers_join}
+use Rattle.scalar_laws.proofs.Fold.{buffers_join}
 use Rattle.scan_quoted.proofs.Turns.{no_marker, off_margin, Ready, in_gap, behind_escaped, scan, Begun, begun, begins}
 use Rattle.scan_quoted.proofs.Turns as turns
 use Rattle.scan_quoted.proofs.NoNul.{has_none, same_marks}

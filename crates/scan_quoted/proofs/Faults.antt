@@ -15,7 +15,7 @@ use Rattle.scalar_model.specs.Folding.{Folded}
 use Rattle.scalar_model.specs.Quoted.{inside, named, digits_from}
 use Rattle.scalar_model.proofs.QuotedLemmas.{named_code, named_unknown, digit_turn, digit_fails, coded_fails}
 use Rattle.scan_quoted.specs.QuotedEnds.{number_at, IsBadEscape, ends, unknown, no_digit, no_character}
-use Rattle.scan_quoted.proofs.Bridges.{same_break, same_digit, same_code, same_escape}
+use Rattle.scalar_laws.proofs.Bridges.{same_break, same_digit, same_code, same_escape}
 use Rattle.scan_quoted.proofs.Turns.{scan, spelled}
 use Rattle.scan_quoted.proofs.Elements.{has_digits}
 

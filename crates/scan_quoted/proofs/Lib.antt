@@ -1,5 +1,3 @@
-pub mod Fold
-mod Bridges
 mod Turns
 mod Elements
 pub mod Bodies

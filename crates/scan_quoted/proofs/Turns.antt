@@ -15,9 +15,9 @@ use Rattle.scalar_model.specs.declared.context.Context.{Context}
 use Rattle.scalar_model.specs.Machine.{Read, past, past_break, at_marker}
 use Rattle.scalar_model.specs.Folding.{Folded, with_char, joined}
 use Rattle.scalar_model.specs.Quoted.{Mode, inside, gap, behind, quoted_from, quote_of, refused}
-use Rattle.scan_quoted.specs.Buffers.{behind_element}
+use Rattle.scalar_laws.specs.Buffers.{behind_element}
 use Rattle.scan_quoted.specs.QuotedScan.{is_some, has_marker, IsShallow, by_line, by_tab}
-use Rattle.scan_quoted.proofs.Bridges.{same_break, same_blank, same_marker}
+use Rattle.scalar_laws.proofs.Bridges.{same_break, same_blank, same_marker}
 
 pub and_false : (b : Bool) → (b && false) ≡ false
 and_false true = refl

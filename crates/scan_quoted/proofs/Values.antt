@@ -7,10 +7,10 @@ use Rattle.scalar_model.specs.declared.context.Context.{Context}
 use Rattle.scalar_model.specs.Machine.{Read, past}
 use Rattle.scalar_model.specs.Folding.{nothing, joined}
 use Rattle.scalar_model.specs.Quoted.{first, gap, quote_of, quoted}
-use Rattle.scan_quoted.specs.Buffers.{behind_elements}
+use Rattle.scalar_laws.specs.Buffers.{behind_elements}
 use Rattle.scan_quoted.specs.QuotedScan.{element_of, value_of, has_marker, ends_before, by_line, by_tab, IsRead, read, shallow}
 use Rattle.scan_quoted.specs.Laws.{QuotedBodiesAreRead}
-use Rattle.scan_quoted.proofs.Fold.{buffers_join}
+use Rattle.scalar_laws.proofs.Fold.{buffers_join}
 use Rattle.scan_quoted.proofs.Turns.{off_margin, in_gap, scan}
 use Rattle.scan_quoted.proofs.NoNul.{has_none, same_marks}
 use Rattle.scan_quoted.proofs.Bodies.{Passed, passed, met_marker, was_shallow, passes, quote_still, quote_feed, Opened, opened, not_opened, opens, close}

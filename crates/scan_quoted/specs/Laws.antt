@@ -2,8 +2,6 @@
 use Rattle.std.specs.Prelude.{◌≡◌, ℕ, List, ◌∷◌, ◌++◌, Bool, true, Some}
 use Rattle.std.specs.List.{list_all}
 use Rattle.yaml_chars.specs.Place.{Place}
-use Rattle.scalar_defs.specs.FlowScalar.{Element, lines_of, trimmed, folded}
-use Rattle.scalar_model.specs.Folding.{nothing, joined}
 use Rattle.scalar_model.specs.declared.context.Context.{Context}
 use Rattle.scalar_model.specs.Quoted.{quote_of, quoted}
 use Rattle.token_defs.specs.Token.{Tok}
@@ -11,11 +9,6 @@ use Rattle.laid_tokens.specs.QuotedText.{HasQuotedTokens}
 use Rattle.scan_json.specs.JsonScan.{HasToks}
 use Rattle.scan_quoted.specs.QuotedScan.{value_of, ends_before, is_some, IsRead}
 use Rattle.scan_quoted.specs.QuotedEnds.{EndsAs}
-use Rattle.scan_quoted.specs.Buffers.{behind_elements}
-
--- `buffers_join_folded_lines`
-abbrev pub BuffersJoinFoldedLines : Type 0
-BuffersJoinFoldedLines = (es : List Element) → (joined (behind_elements es nothing)).text ≡ folded (trimmed (lines_of es))
 
 -- `quoted_bodies_are_read`; `rest` is what stands behind the closing quote
 abbrev pub QuotedBodiesAreRead : Type 0

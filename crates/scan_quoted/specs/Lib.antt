@@ -1,4 +1,3 @@
-pub mod Buffers
 pub mod Laws
 pub mod QuotedEnds
 pub mod QuotedScan

@@ -1,1 +1,9 @@
 pub mod Names
+pub mod PlainFound
+pub mod PlainTurns
+pub mod PlainScans
+pub mod PlainValues
+pub mod Plains
+pub mod Fillers
+pub mod Uris
+mod PlainRows

@@ -1,38 +1,18 @@
 -- The names of anchors and aliases are read as they stand.
-use Rattle.std.proofs.Common.{◌≡◌, ℕ, suc, ◌+◌, List, [], ◌∷◌, ◌++◌, Bool, true, false, ◌||◌, not, ◌==◌, Ok, refl, ap, sym, ◌∙◌, append_assoc, append-nil, length, arith}
+use Rattle.std.proofs.Common.{◌≡◌, ℕ, suc, ◌+◌, List, [], ◌∷◌, ◌++◌, Bool, true, false, not, Ok, refl, ap, sym, ◌∙◌, append_assoc, append-nil, length, arith}
 use Rattle.std.proofs.lemmas.Bool.{and_parts}
 use Rattle.yaml_chars.specs.Place.{Place}
-use Rattle.yaml_chars.specs.Class.{is_blank, is_break, is_flow, is_anchor}
-use Rattle.scalar_defs.specs.Classes as classes
+use Rattle.yaml_chars.specs.Class.{is_anchor}
 use Rattle.scalar_defs.specs.Classes.{is_anchor_name}
 use Rattle.scalar_defs.specs.Tags.{all_of}
 use Rattle.scalar_model.specs.Machine.{past, take_while}
 use Rattle.scalar_model.specs.Anchor.{some_name, anchor_name}
 use Rattle.cut_defs.specs.Piece.{goes_on_with_name}
+use Rattle.scalar_laws.proofs.Bridges.{same_flow, same_gap}
 use Rattle.scan_scalars.specs.NameEnds.{further, EndsAs, named, nameless}
 use Rattle.scan_scalars.specs.Laws.{NamesAreRead, NamesEndAsTheirTextSays}
 
 -- ---- characters of a name
-
-or_first : (a b c : Bool) → ((a || b) || c) ≡ (a || (b || c))
-or_first true b c = refl
-or_first false b c = refl
-
-or_five : (a b c d e : Bool) → (a || (b || (c || (d || (e || false))))) ≡ ((((a || b) || c) || d) || e)
-or_five true b c d e = refl
-or_five false true c d e = refl
-or_five false false true d e = refl
-or_five false false false true e = refl
-or_five false false false false true = refl
-or_five false false false false false = refl
-
-same_flow : (c : ℕ) → classes.is_flow c ≡ is_flow c
-unfolding classes.is_flow is_flow
-same_flow c = or_five (c == 44) (c == 91) (c == 93) (c == 123) (c == 125)
-
-same_gap : (c : ℕ) → classes.is_blank_or_end c ≡ (is_blank c || (is_break c || (c == 0)))
-unfolding classes.is_blank_or_end classes.is_blank classes.is_break classes.is_nul is_blank is_break
-same_gap c = or_first (is_blank c) (is_break c) (c == 0)
 
 same_name : (c : ℕ) → is_anchor_name c ≡ is_anchor c
 unfolding is_anchor_name is_anchor
@@ -49,10 +29,10 @@ abbrev stops : (ℕ → Bool) → List ℕ → Bool
 stops test [] = true
 stops test (c ∷ r) = not (test c)
 
-one_further : (p : Place) (n : ℕ) → further n (past p) ≡ further (suc n) p
+pub one_further : (p : Place) (n : ℕ) → further n (past p) ≡ further (suc n) p
 one_further p n = let index : (p.index + 1) + n ≡ p.index + suc n = omega arith in let col : (p.col + 1) + n ≡ p.col + suc n = omega arith in rw (index, col) refl
 
-none_further : (p : Place) → further 0 p ≡ p
+pub none_further : (p : Place) → further 0 p ≡ p
 none_further p = let index : p.index + 0 ≡ p.index = omega arith in let col : p.col + 0 ≡ p.col = omega arith in rw (index, col) refl
 
 taken : (test : ℕ → Bool) (name rest : List ℕ) (p : Place) (t : List ℕ) → all_of test name ≡ true → stops test rest ≡ true

@@ -1,9 +1,22 @@
 -- Laws of the scanner's model and the texts of single tokens: each is carried by the function of `src/laws.rt` that its comment names.
-use Rattle.std.specs.Prelude.{◌≡◌, ℕ, List, ◌∷◌, ◌++◌, true, false, Ok}
+use Rattle.std.specs.Prelude.{◌≡◌, ℕ, List, ◌∷◌, ◌++◌, true, false, Some, Ok}
 use Rattle.yaml_chars.specs.Place.{Place}
+use Rattle.scalar_defs.specs.FlowScalar.{plain_value}
+use Rattle.scalar_model.specs.declared.context.Context.{Context}
 use Rattle.scalar_model.specs.Anchor.{anchor_name}
+use Rattle.scalar_model.specs.Plain.{plain}
 use Rattle.cut_defs.specs.Piece.{is_name, goes_on_with_name}
+use Rattle.cut_defs.specs.Plain.{is_whole_plain}
 use Rattle.scan_scalars.specs.NameEnds.{behind_name, EndsAs}
+use Rattle.scan_model.specs.State.{Held}
+use Rattle.scan_model.specs.Space.{between, skip}
+use Rattle.scan_scalars.specs.Fillers.{PassesAs}
+use Rattle.yaml_chars.specs.Class.{is_uri, is_tag}
+use Rattle.scalar_defs.specs.Classes as classes
+use Rattle.scalar_model.specs.Uri.{uri}
+use Rattle.scan_scalars.specs.UriEnds.{uri_read}
+use Rattle.scan_scalars.specs.PlainEnds.{has_no_nul, collection_of, begins_solid, is_indented, IsRead}
+use Rattle.scan_scalars.specs.PlainEnds as plains
 
 -- `names_are_read`; `c` is the indicator
 abbrev pub NamesAreRead : Type 0
@@ -12,3 +25,24 @@ NamesAreRead = (c : ℕ) (name rest : List ℕ) (p : Place) → is_name name ≡
 -- `names_end_as_their_text_says`
 abbrev pub NamesEndAsTheirTextSays : Type 0
 NamesEndAsTheirTextSays = (c : ℕ) (text : List ℕ) (p : Place) → EndsAs p text (anchor_name (c ∷ text) p)
+
+-- `plain_scalars_are_read`
+abbrev pub PlainScalarsAreRead : Type 0
+PlainScalarsAreRead =
+    (ctx : Context) (piece next value : List ℕ) (p : Place) → has_no_nul (piece ++ next) ≡ true → begins_solid piece ≡ true → is_indented ctx p ≡ true
+    → is_whole_plain ctx.flow (collection_of ctx.indent) piece next ≡ true → plain_value piece ≡ Some value → IsRead ctx p piece next value (plain ctx (piece ++ next) p)
+
+-- `plain_scans_end_as_their_text_says`
+abbrev pub PlainScansEndAsTheirTextSays : Type 0
+PlainScansEndAsTheirTextSays =
+    (ctx : Context) (text : List ℕ) (p : Place) → has_no_nul text ≡ true → begins_solid text ≡ true → is_indented ctx p ≡ true → plains.EndsAs ctx p text (plain ctx text p)
+
+-- `fillers_are_passed`
+abbrev pub FillersArePassed : Type 0
+FillersArePassed = (s : Held) (text : List ℕ) → PassesAs s text (skip between text s)
+
+-- `uris_are_read`; of URIs, and of the suffixes of tags
+abbrev pub UrisAreRead : Type 0
+UrisAreRead =
+    (start : Place) (text : List ℕ) (p : Place) (before : List ℕ) →
+    (uri is_uri start text p before ≡ uri_read classes.is_uri start p text before) × (uri is_tag start text p before ≡ uri_read classes.is_tag start p text before)

@@ -1,2 +1,5 @@
 pub mod Laws
 pub mod NameEnds
+pub mod PlainEnds
+pub mod Fillers
+pub mod UriEnds

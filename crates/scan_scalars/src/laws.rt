@@ -1,6 +1,6 @@
 //! Laws of the scanner's model and the texts of single tokens, each carried by an empty function.
 
-ghost use Rattle.scan_scalars.specs.Laws.{NamesAreRead, NamesEndAsTheirTextSays};
+ghost use Rattle.scan_scalars.specs.Laws.{FillersArePassed, NamesAreRead, NamesEndAsTheirTextSays, PlainScalarsAreRead, PlainScansEndAsTheirTextSays, UrisAreRead};
 
 /// Behind its indicator a name is read as it stands, up to a text that goes on with no character of a name.
 pub fn names_are_read()
@@ -11,4 +11,28 @@ pub fn names_are_read()
 /// begins with none is refused.
 pub fn names_end_as_their_text_says()
     ensures { NamesEndAsTheirTextSays }
+{}
+
+/// Where a text begins with the whole of a plain scalar, in flow or outside, it is read as its value, with the blanks and breaks
+/// behind it; or the text is refused: for its column in flow, a dash before a flow indicator, or a TAB at a line's start.
+pub fn plain_scalars_are_read()
+    ensures { PlainScalarsAreRead }
+{}
+
+/// Each text that begins with content is read so alone: what is read is the whole of a plain scalar that the text begins with,
+/// its value, and whether a break stands behind it; and each of the three faults has its reason in the text.
+pub fn plain_scans_end_as_their_text_says()
+    ensures { PlainScansEndAsTheirTextSays }
+{}
+
+/// On the way to the next token all blanks, breaks and comments are passed, and nothing else; the place is the one behind them.
+/// It is refused only where a TAB left of the innermost level has a token behind it on its line.
+pub fn fillers_are_passed()
+    ensures { FillersArePassed }
+{}
+
+/// Of each text all characters of a URI that it begins with are read, or all of a tag's suffix: each as itself, and escapes as
+/// octets of UTF-8. A text is refused just where an octet is missing, begins no character, goes on with none, or makes none.
+pub fn uris_are_read()
+    ensures { UrisAreRead }
 {}

@@ -37,6 +37,7 @@ pub use read_layout::laws::{
 pub use read_wide::laws::{
     quoted_tokens_read_as_their_string, wide_events_are_loaded, wide_tokens_read_as_their_trees,
 };
+pub use scalar_laws::laws::buffers_join_folded_lines;
 pub use scan_json::laws::{
     json_texts_are_not_refused, json_texts_have_no_other_tokens, json_texts_have_their_tokens,
     texts_have_one_list_of_tokens, texts_with_tokens_are_not_refused,
@@ -44,9 +45,7 @@ pub use scan_json::laws::{
 pub use scan_layout::laws::{
     layout_texts_are_not_refused, layout_texts_have_no_other_tokens, layout_texts_have_their_tokens,
 };
-pub use scan_quoted::laws::{
-    buffers_join_folded_lines, quoted_bodies_are_read, quoted_texts_have_their_tokens,
-};
+pub use scan_quoted::laws::{quoted_bodies_are_read, quoted_texts_have_their_tokens};
 pub use tree_defs::laws::{
     box_lines_are_unbroken, digits_are_least, equality_is_an_equivalence, equality_is_exact,
     followed_by_is_a_cut, insert_keeps_keys_distinct, insert_keeps_other_values,

@@ -4,8 +4,8 @@ use Rattle.yaml_chars.specs.Text.{is_nil}
 use Rattle.scalar_defs.specs.Classes.{line_feed, space}
 use Rattle.scalar_defs.specs.FlowScalar.{Element, content, blank, line_break, escaped_break, Lines, last_line, line, lines_of, begun_with, without_trailing_blanks, before_break, trimmed, trimmed_behind, text_of, folded_break, folded_behind, folded}
 use Rattle.scalar_model.specs.Folding.{Folded, with_char, with_escaped_break, joined}
-use Rattle.scan_quoted.specs.Buffers.{behind_elements}
-use Rattle.scan_quoted.specs.Laws.{BuffersJoinFoldedLines}
+use Rattle.scalar_laws.specs.Buffers.{behind_elements}
+use Rattle.scalar_laws.specs.Laws.{BuffersJoinFoldedLines}
 
 -- blanks of a line, as elements before others
 abbrev blanks : List ℕ → List Element → List Element

@@ -3,7 +3,7 @@ use Rattle.std.proofs.Common.{◌≡◌, ℕ, suc, List, [], ◌∷◌, Bool, tr
 use Rattle.std.specs.Char.{is_digit}
 use Rattle.std.proofs.lemmas.Bool.{eqb-true}
 use Rattle.std.proofs.lemmas.Bool.Decides.{nat_tests}
-use Rattle.yaml_chars.specs.Class.{is_break, is_blank, is_blank_or_breakz, is_hex}
+use Rattle.yaml_chars.specs.Class.{is_break, is_blank, is_blank_or_breakz, is_flow, is_hex, is_alphanumeric, is_alpha, is_uri_mark, is_uri, is_tag}
 use Rattle.scalar_defs.specs.Classes as classes
 use Rattle.scalar_defs.specs.FlowScalar.{lookup, escapes, numeric_escapes, is_character_code}
 use Rattle.scalar_model.specs.Machine.{is_marker, at_marker}
@@ -36,7 +36,7 @@ or_first : (a b c : Bool) → ((a || b) || c) ≡ (a || (b || c))
 or_first true b c = refl
 or_first false b c = refl
 
-same_gap : (c : ℕ) → classes.is_blank_or_end c ≡ is_blank_or_breakz c
+pub same_gap : (c : ℕ) → classes.is_blank_or_end c ≡ is_blank_or_breakz c
 unfolding classes.is_blank_or_end classes.is_blank classes.is_break classes.is_nul is_blank is_break
 same_gap c = or_first (is_blank c) (is_break c) (c == 0)
 
@@ -50,7 +50,7 @@ same_marker col (c ∷ d ∷ e ∷ f ∷ a) = rw (same_gap f) refl
 
 -- ---- codes
 
-both : (b c : Bool) → (b ≡ true → c ≡ true) → (c ≡ true → b ≡ true) → b ≡ c
+pub both : (b c : Bool) → (b ≡ true → c ≡ true) → (c ≡ true → b ≡ true) → b ≡ c
 both true c f g = sym (f refl)
 both false true f g = g refl
 both false false f g = refl
@@ -107,3 +107,35 @@ same_escape c =
     row c 117 Same refl (λ e117.
     row c 85 Same refl (λ e85.
     rw (e48, e97, e98, e116, e9, e110, e118, e102, e114, e101, e32, e34, e47, e92, e78, e95, e76, e80, e120, e117, e85) refl)))))))))))))))))))))
+
+-- ---- classes of flow scalars
+
+or_five : (a b c d e : Bool) → (a || (b || (c || (d || (e || false))))) ≡ ((((a || b) || c) || d) || e)
+or_five true b c d e = refl
+or_five false true c d e = refl
+or_five false false true d e = refl
+or_five false false false true e = refl
+or_five false false false false true = refl
+or_five false false false false false = refl
+
+pub same_flow : (c : ℕ) → classes.is_flow c ≡ is_flow c
+unfolding classes.is_flow is_flow
+same_flow c = or_five (c == 44) (c == 91) (c == 93) (c == 123) (c == 125)
+
+-- ---- classes of tags
+
+or_false : (b : Bool) → (b || false) ≡ b
+or_false true = refl
+or_false false = refl
+
+pub same_alpha : (c : ℕ) → classes.is_alpha c ≡ is_alpha c
+unfolding classes.is_alpha classes.is_decimal_digit classes.is_letter is_alpha is_alphanumeric
+same_alpha c = simp (or_first, or_false) refl
+
+pub same_uri : (c : ℕ) → classes.is_uri c ≡ is_uri c
+unfolding classes.is_uri classes.is_decimal_digit classes.is_letter is_uri is_alphanumeric is_uri_mark
+same_uri c = simp (or_first, or_false) refl
+
+pub same_tag : (c : ℕ) → classes.is_tag c ≡ is_tag c
+unfolding classes.is_tag is_tag
+same_tag c = rw (same_uri c, same_flow c, or_false (c == 33)) refl

@@ -1,0 +1,36 @@
+-- What the scanner's model passes between tokens is a filler of the text. YAML 1.2, sections 6.1 to 6.7.
+use Rattle.std.specs.Prelude.{◌≡◌, ℕ, suc, List, [], ◌∷◌, ◌++◌, Bool, true, false, ◌&&◌, ◌||◌, ◌==◌, not, nat_lt, Result, Ok, Err}
+use Rattle.yaml_chars.specs.Place.{Place}
+use Rattle.yaml_chars.specs.Text.{is_nil}
+use Rattle.cut_defs.specs.Text.{place_behind}
+use Rattle.cut_defs.specs.Filler.{is_filler, is_blanks}
+use Rattle.yaml_tokens.specs.declared.problem.Fault.{Fault}
+use Rattle.yaml_tokens.specs.declared.problem.Fault.TheVariants.{At}
+use Rattle.yaml_tokens.specs.declared.problem.Problem.TheVariants as problem
+use Rattle.scan_model.specs.State.{Held, State, in_flow}
+use Rattle.scan_scalars.specs.PlainEnds.{is_white, has_break}
+
+-- whether a text begins with a blank, a break or a comment
+abbrev pub begins_filler : List ℕ → Bool
+begins_filler [] = false
+begins_filler (c ∷ r) = is_white c || (c == 35)
+
+-- whether a text begins with what is none of these
+abbrev pub begins_token : List ℕ → Bool
+begins_token [] = false
+begins_token (c ∷ r) = not (is_white c || (c == 35))
+
+-- What is held behind a filler: its place, and outside flow a key may begin behind a break in it. Whether blanks alone stand before that place on its line is said apart.
+abbrev pub behind_filler : Held → (leading : Bool) → (filler rest : List ℕ) → State
+behind_filler s leading filler rest =
+    record { rest = rest; held = record s { place = place_behind s.place filler rest; leading = leading; key_allowed = (not (in_flow s) && has_break filler) || s.key_allowed } }
+
+-- whether a place is left of the innermost level of indentation
+abbrev pub is_left : Held → Place → Bool
+is_left s p = not (is_nil s.indents) && nat_lt (suc p.col) s.indent
+
+-- How the way to the next token ends: all of a filler was passed; or a TAB left of the innermost level has more blanks behind it, and then a token.
+pub data PassesAs (s : Held) (text : List ℕ) (x : Result State Fault) : Type 0 where
+  passes : (leading : Bool) (filler rest : List ℕ) → text ≡ filler ++ rest → is_filler false filler rest ≡ true → begins_filler rest ≡ false → x ≡ Ok (behind_filler s leading filler rest) → PassesAs s text x
+  refuses : (before blanks rest : List ℕ) → text ≡ before ++ 9 ∷ (blanks ++ rest) → is_filler false before (9 ∷ (blanks ++ rest)) ≡ true → is_left s (place_behind s.place before (9 ∷ (blanks ++ rest))) ≡ true
+      → is_blanks blanks ≡ true → begins_token rest ≡ true → x ≡ Err (At problem.TabInBlockIndentation (place_behind s.place (before ++ 9 ∷ blanks) rest)) → PassesAs s text x
