@@ -3,6 +3,7 @@ pub mod BlockLines
 pub mod DumpIsInjective
 pub mod DumpIsLaidOut
 pub mod Gap
+pub mod InTurn
 pub mod Json
 pub mod JsonGap
 pub mod JsonNumber

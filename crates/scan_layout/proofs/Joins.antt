@@ -13,7 +13,7 @@ use Rattle.scan_model.specs.Block.{last_property}
 use Rattle.scan_model.specs.Fetch.{fetch_here}
 use Rattle.scan_model.specs.Run.{Reaches, here, there}
 use Rattle.scan_model.proofs.Runs.{reaches_then}
-use Rattle.scan_layout.proofs.Shapes.{Parts, stands, opened, opened_indent, ends, left, Trail, next, end, trail_text, rest_of, limit_of, IsTrail, IsOld, Tells, Before, Settles, After}
+use Rattle.scan_layout.proofs.Shapes.{Parts, stands, opened, opened_indent, ends, left, Trail, next, marker, end, marker_text, trail_text, rest_of, limit_of, IsTrail, IsOld, Tells, Before, Settles, After}
 use Rattle.scan_layout.proofs.Whites.{White, line_feed, spell_white, along, along_line, beyond, passed, allowed_beyond, AreWhite, next_token, blanks, blanks_col, blanks_white, gap_white, ending_white, next_line_is, ending_is, gap_are_white, ending_are_white}
 use Rattle.scan_layout.proofs.Levels
 
@@ -46,14 +46,17 @@ before_white from g y i is q want run white free deep no_property told =
 
 abbrev pub trail_white : Trail → List White
 trail_white (next g d r) = line_feed ∷ gap_white g (blanks d)
+trail_white (marker g r) = line_feed ∷ gap_white g (blanks 0)
 trail_white (end g) = ending_white g
 
 pub trail_is : (t : Trail) → trail_text t ≡ spell_white (trail_white t) (rest_of t)
 trail_is (next g d r) = next_line_is d g r
+trail_is (marker g r) = next_line_is 0 g (marker_text r)
 trail_is (end g) = ending_is g
 
 pub trail_are_white : (t : Trail) → IsTrail t → AreWhite (trail_white t) (rest_of t)
 trail_are_white (next g d r) h = gap_are_white g (blanks d) r h.0 (blanks_white d r h.1)
+trail_are_white (marker g r) h = gap_are_white g (blanks 0) (marker_text r) h refl
 trail_are_white (end g) h = ending_are_white g h
 
 pub gap_col : (g : List GapLine) (d : ℕ) (p : Place) → p.col ≡ 0 → (beyond (gap_white g (blanks d)) p).col ≡ d
@@ -80,6 +83,7 @@ Lies (Some k) line = k.place.line ≤ line
 -- where a next line comes, a key may begin there
 abbrev pub Allows : Trail → Bool → Type 0
 Allows (next g d r) b = b ≡ true
+Allows (marker g r) b = Unit {0}
 Allows (end g) b = Unit {0}
 
 old : (k : Option Key) (line : ℕ) (p : Place) → is_required k ≡ false → Lies k line → line < p.line → IsOld k p
@@ -92,6 +96,7 @@ settled (next g d r) p e place allows loose lies =
     let later = gap_line g d (past_break e) in
     let same : p.place.line ≡ (beyond (gap_white g (blanks d)) (past_break e)).line = ap (λ x. x.line) place in
     (ap (λ x. x.col) place ∙ gap_col g d (past_break e) refl, allows, old p.key e.line p.place loose lies (omega (arith, later, same)))
+settled (marker g r) p e place allows loose lies = (ap (λ x. x.col) place ∙ gap_col g 0 (past_break e) refl, loose)
 settled (end g) p e place allows loose lies = loose
 
 -- The scanner is behind a leaf that ends at e, or within the white space behind it.
@@ -183,7 +188,7 @@ next_levels : (from : State) (g : List GapLine) (c i : ℕ) (is : List Indent) (
     → left (c + 1) u.indent u.indents ≡ record { indent = c + 1; indents = level i true ∷ is }
 next_levels from g c i is r want u = u.same ∙ rw (le-ltb (c + 1) (c + 1) (omega arith)) refl
 
-unrolls_to : (limit : ℕ) (x : List ℕ) (j : ℕ) (js : List Indent) (p : Parts) (i : ℕ) (is : List Indent) → left limit j js ≡ record { indent = i; indents = is }
+pub unrolls_to : (limit : ℕ) (x : List ℕ) (j : ℕ) (js : List Indent) (p : Parts) (i : ℕ) (is : List Indent) → left limit j js ≡ record { indent = i; indents = is }
     → unroll_indent limit (stands x j js p).held ≡ (stands x i is (record p { tokens = (Levels.unroll limit p.place j js p.tokens).tokens })).held
 unrolls_to limit x j js p i is e =
     Levels.unrolls limit x j js p ∙ ap (λ l. (stands x l.indent l.indents (record p { tokens = (Levels.unroll limit p.place j js p.tokens).tokens })).held) e

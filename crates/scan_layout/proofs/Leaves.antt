@@ -2,12 +2,12 @@
 use Rattle.std.proofs.Common.{◌≡◌, ℕ, ◌+◌, ◌≤◌, List, [], ◌∷◌, ◌++◌, Bool, true, false, ◌==◌, if◌then◌else◌, Option, Some, None, Result, Ok, refl, ap, ◌∙◌, arith, ◌⊎◌, inl, inr}
 use Rattle.std.proofs.lemmas.Bool.{lt-ltb}
 use Rattle.yaml_chars.specs.Place.{Place}
-use Rattle.yaml_chars.specs.Class.{is_break}
+use Rattle.yaml_chars.specs.Class.{is_break, is_blank}
 use Rattle.token_defs.specs.Token.{Tok, Style}
 use Rattle.yaml_tokens.specs.declared.problem.Fault.{Fault}
 use Rattle.tree_defs.specs.Escapes.{double_quoted, written_escapes}
 use Rattle.scalar_model.specs.declared.context.SkipTabs.TheVariants.{Yes}
-use Rattle.scalar_model.specs.Machine.{past_break}
+use Rattle.scalar_model.specs.Machine.{past_break, is_marker, at_marker}
 use Rattle.scalar_model.specs.Space as scalar_space
 use Rattle.scan_model.specs.declared.level.Indent.{Indent}
 use Rattle.scan_model.specs.State.{Key, State, peek, token}
@@ -17,7 +17,7 @@ use Rattle.scan_model.specs.Indents.{unroll_non_block_indents, without_open}
 use Rattle.scan_model.specs.Space.{skip_spaces}
 use Rattle.scan_model.specs.Document.{may_follow_quoted, check_behind_quoted, fetch_flow_scalar, fetch_plain_scalar}
 use Rattle.scan_model.specs.Fetch.{fetch_here, token_by, comes_marker}
-use Rattle.scan_layout.proofs.Shapes.{Parts, stands, is_solid, Opens, opened, opened_indent, IsClosed, Trail, next, end, trail_text, rest_of, limit_of, IsTrail, Before, After}
+use Rattle.scan_layout.proofs.Shapes.{Parts, stands, is_solid, Opens, opened, opened_indent, IsClosed, Trail, next, marker, end, marker_text, trail_text, rest_of, limit_of, IsTrail, Before, After}
 use Rattle.scan_layout.proofs.Whites.{White, line_feed, spell_white, along, along_line, beyond, allowed_beyond, AreWhite, next_token, gap_white, blanks, gap_allows, stays_allowed, line_white, ending_white, leading_beyond}
 use Rattle.scan_layout.proofs.Levels
 use Rattle.scan_layout.proofs.Joins.{fetched, trail_white, trail_is, trail_are_white, gap_col, Lies, Allows, leaf_after, saved, left_open}
@@ -43,10 +43,16 @@ still_lies p (Some k) line h = by (is_far k.place p)
     by true = tt
     by false = h
 
--- What comes behind a leaf stands left of its levels.
+-- a document's marker stands at the first column
+pub marker_stands : (r : List ℕ) → at_marker 0 (marker_text r) ≡ true
+unfolding at_marker is_marker is_break is_blank
+marker_stands r = refl
+
+-- What comes behind a leaf stands left of its levels, or is a document's marker.
 is_left : (t : Trail) (i : ℕ) (start : Place) (g : List White) (p : Place) → limit_of t ≤ i → trail_white t ≡ line_feed ∷ g → (e : Place) → p ≡ beyond (trail_white t) e → IsLeft i start (rest_of t) p.col
 is_left (next g d []) i start w p low is e at = tt
-is_left (next g d (c ∷ a)) i start w p low is e at = let col : p.col ≡ d = ap (λ x. x.col) at ∙ gap_col g d (past_break e) refl in lt-ltb p.col i (omega (arith, col, low))
+is_left (next g d (c ∷ a)) i start w p low is e at = let col : p.col ≡ d = ap (λ x. x.col) at ∙ gap_col g d (past_break e) refl in inl (lt-ltb p.col i (omega (arith, col, low)))
+is_left (marker g r) i start w p low is e at = let col : p.col ≡ 0 = ap (λ x. x.col) at ∙ gap_col g 0 (past_break e) refl in inr (rw col (marker_stands r))
 is_left (end g) i start w p low is e at = tt
 
 -- ---- a plain scalar
@@ -113,6 +119,7 @@ plain_end_at c w b i is p chars close solid deep shut free =
 plain_allows : (t : Trail) (g : List White) (b : Bool) → (trail_white t ≡ [] ⊎ (b ≡ true)) → Allows t (allowed_beyond g b)
 plain_allows (next h d r) g b (inl e) = cc
 plain_allows (next h d r) g b (inr e) = rw e (stays_allowed g)
+plain_allows (marker h r) g b e = tt
 plain_allows (end h) g b e = tt
 
 pub low_enough : (b : Bool) (i col : ℕ) → i ≤ col → opened_indent b i ≤ col + 1
@@ -165,6 +172,7 @@ plain_by_trail : (t : Trail) (from : State) (c : ℕ) (w : List ℕ) (col : ℕ)
     → is_first c ≡ true → is_second c w ≡ true → are_plain w ≡ true → closes false w ≡ true → i ≤ col → IsClosed i is
     → Before from (c ∷ (w ++ spell_white (trail_white t) (rest_of t))) col (opened_indent b i) (opened b i is) allowed want → After from t i is (λ o. want (Tok.scalar Style.plain (c ∷ w) ∷ o))
 plain_by_trail (next g d r) from c w col b i is allowed want trail low first second chars close deep shut u = plain_lines (next g d r) (gap_white g (blanks d)) from c w col b i is allowed want refl trail low first second chars close deep shut u
+plain_by_trail (marker g r) from c w col b i is allowed want trail low first second chars close deep shut u = plain_lines (marker g r) (gap_white g (blanks 0)) from c w col b i is allowed want refl trail low first second chars close deep shut u
 plain_by_trail (end []) from c w col b i is allowed want trail low first second chars close deep shut u = plain_ends from c w col b i is allowed want first second chars close deep shut u
 plain_by_trail (end (l ∷ g)) from c w col b i is allowed want trail low first second chars close deep shut u = plain_lines (end (l ∷ g)) (line_white l (ending_white g)) from c w col b i is allowed want refl trail low first second chars close deep shut u
 
@@ -181,12 +189,14 @@ plain_after t from w col b i is allowed want trail low text deep shut u =
 pub spaces_stop : (t : Trail) (i : ℕ) (is : List Indent) (p : Parts) → skip_spaces Yes (stands (spell_white (trail_white t) (rest_of t)) i is p) ≡ Ok (stands (spell_white (trail_white t) (rest_of t)) i is p)
 unfolding skip_spaces scalar_space.space
 spaces_stop (next g d r) i is p = refl
+spaces_stop (marker g r) i is p = refl
 spaces_stop (end []) i is p = refl
 spaces_stop (end (l ∷ g)) i is p = refl
 
 follows : (t : Trail) (same_line : Bool) → may_follow_quoted false same_line (peek (spell_white (trail_white t) (rest_of t))) ≡ true
 unfolding may_follow_quoted is_break
 follows (next g d r) same_line = refl
+follows (marker g r) same_line = refl
 follows (end []) same_line = refl
 follows (end (l ∷ g)) same_line = refl
 
@@ -212,10 +222,12 @@ quoted_at t w b i is p k trail deep saves =
 
 rest_solid : (t : Trail) → IsTrail t → is_solid (rest_of t) ≡ true
 rest_solid (next g d r) h = h.1
+rest_solid (marker g r) h = refl
 rest_solid (end g) h = refl
 
 pub trail_allows : (t : Trail) → Allows t (allowed_beyond (trail_white t) false)
 trail_allows (next g d r) = gap_allows g d
+trail_allows (marker g r) = tt
 trail_allows (end g) = tt
 
 pub by_quote : (t : State) → token_by (class_of 34) t ≡ fetch_flow_scalar false t

@@ -1,5 +1,5 @@
 -- Plain scalars on one line are read as they stand, up to a colon or over the white space behind them.
-use Rattle.std.proofs.Common.{◌≡◌, ℕ, ◌+◌, ◌≤◌, List, [], ◌∷◌, ◌++◌, Bool, true, false, ◌||◌, ◌&&◌, not, ◌==◌, Result, Ok, refl, ap, ◌∙◌, append_assoc, append-nil, nat_lt, arith}
+use Rattle.std.proofs.Common.{◌≡◌, ℕ, ◌+◌, ◌≤◌, List, [], ◌∷◌, ◌++◌, Bool, true, false, ◌||◌, ◌&&◌, not, ◌==◌, Result, Ok, refl, ap, ◌∙◌, append_assoc, append-nil, nat_lt, arith, ◌⊎◌, inl, inr}
 use Rattle.std.proofs.lemmas.Bool.{le-ltb, ne_eqb, and_parts, eqb-true}
 use Rattle.std.proofs.lemmas.Bool.Decides.{nat_tests}
 use Rattle.yaml_chars.specs.Place.{Place}
@@ -119,10 +119,10 @@ module _ (i : ℕ) (start : Place) where
 
   -- ---- over white space
 
-  -- nothing, or what stands left of the column
+  -- nothing, what stands left of the column, or a document's marker
   abbrev pub IsLeft : List ℕ → ℕ → Type 0
   IsLeft [] col = Unit {0}
-  IsLeft (c ∷ a) col = nat_lt col i ≡ true
+  IsLeft (c ∷ a) col = (nat_lt col i ≡ true) ⊎ (at_marker col (c ∷ a) ≡ true)
 
   -- The scan is over, within the white space.
   pub record Stopped (t : Result (Read Plain) Fault) (text : List ℕ) (leading : Bool) (g : List White) (r : List ℕ) (p : Place) : Type 0 where
@@ -143,9 +143,15 @@ module _ (i : ℕ) (start : Place) where
       by true h = rw h refl
       by false h = rw h refl
 
-  at_left : (c : ℕ) (a : List ℕ) (p : Place) (text gap : List ℕ) → is_content c ≡ true → nat_lt p.col i ≡ true → scan (c ∷ a) (below p text gap) ≡ Ok (record { rest = c ∷ a; place = p; value = record { text = text; leading = true } })
+  at_left : (c : ℕ) (a : List ℕ) (p : Place) (text gap : List ℕ) → is_content c ≡ true → (nat_lt p.col i ≡ true) ⊎ (at_marker p.col (c ∷ a) ≡ true)
+      → scan (c ∷ a) (below p text gap) ≡ Ok (record { rest = c ∷ a; place = p; value = record { text = text; leading = true } })
   unfolding goes_on is_shallow
-  at_left c a p text gap solid h = let z = content c solid in rw (z.break, z.blank, h) refl
+  at_left c a p text gap solid (inl h) = let z = content c solid in rw (z.break, z.blank, h) refl
+  at_left c a p text gap solid (inr h) = by (nat_lt p.col i) refl
+    where
+      by : (b : Bool) → nat_lt p.col i ≡ b → scan (c ∷ a) (below p text gap) ≡ Ok (record { rest = c ∷ a; place = p; value = record { text = text; leading = true } })
+      by true e = let z = content c solid in rw (z.break, z.blank, e) refl
+      by false e = let z = content c solid in rw (z.break, z.blank, e, z.hash, h) refl
 
   over_white : (g : List White) (r : List ℕ) (p : Place) (text gap : List ℕ) → AreWhite g r → IsLeft r (beyond g p).col → Stopped (scan (spell_white g r) (below p text gap)) text true g r p
   unfolding is_break is_blank
