@@ -1,5 +1,5 @@
 -- The tokens of whole texts laid out in lines: of one document, and of several.
-use Rattle.std.proofs.Common.{◌≡◌, ℕ, List, [], ◌∷◌, true, refl, ap, ◌∙◌, arith, subst}
+use Rattle.std.proofs.Common.{◌≡◌, ℕ, List, [], ◌∷◌, true, false, refl, ap, ◌∙◌, arith, subst}
 use Rattle.token_defs.specs.Token.{Tok}
 use Rattle.layout_defs.specs.Gap.{GapLine, spell_gap, spaces, IsGap}
 use Rattle.layout_defs.specs.Layout.{Layout, IsLayout, Root, block, inline, literal, spell, spell_root, spell_inline, spell_literal, spell_block, IsRoot, IsEnding}
