@@ -137,3 +137,12 @@ all_tokens a g want u =
       record { end = final; run = reaches_then u.run (there refl (comes ∙ rw goes (not_stale_at_end m.indent m.indents t refl)) here); ended = refl; tokens = refl },
       sym (append-nil (toks final.held.tokens)) ∙ Levels.push_tells t.tokens t.place Tok.stream_end want told [],
     )
+
+-- the empty text
+pub nothing_has_its_tokens : HasToks [] (Tok.stream_start ∷ Tok.stream_end ∷ [])
+nothing_has_its_tokens =
+    let comes = Levels.arrives [] [] 0 0 [] [] begun begun begun begun (next_token 0 [] [] [] begun refl) (Levels.not_stale [] 0 [] begun refl) (Levels.stays 1 [] 0 [] begun refl) in
+    let q = record begun { place = next_line begun.place; key = None } in
+    let goes = ends_here 0 [] begun refl 0 [] q (Levels.stays 0 [] 0 [] q refl) in
+    let final = finished 0 [] q in
+    (final.held.tokens, record { end = final; run = there refl (begins []) (there refl (comes ∙ rw goes (not_stale_at_end 0 [] q refl)) here); ended = refl; tokens = refl }, refl)

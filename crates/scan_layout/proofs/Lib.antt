@@ -5,7 +5,7 @@ mod Joins
 mod Plains
 mod PlainTexts
 mod Quotes
-mod Documents
+pub mod Documents
 mod Marks
 mod Leaves
 mod Empties
@@ -15,5 +15,6 @@ mod LiteralTexts
 mod Literals
 mod Values
 pub mod Whole
+pub mod InTurn
 mod Rows
 mod RowsRefused

@@ -82,11 +82,11 @@ ends_before_marker (literal text ls) g r h = record { is_trail = empty_gap g h; 
 -- ---- documents
 
 -- the documents behind the marker of the first
-abbrev text_of : List Layout → Layout → List ℕ
+abbrev pub text_of : List Layout → Layout → List ℕ
 text_of [] w = spell_gap w.gap (spell_root w.root (trail_text (end w.ending)))
 text_of (v ∷ vs) w = spell_gap v.gap (spell_root v.root (trail_text (marker v.ending (text_of vs w))))
 
-abbrev tokens_of : List Layout → Layout → List Tok
+abbrev pub tokens_of : List Layout → Layout → List Tok
 tokens_of [] w = root_tokens w.root (Tok.stream_end ∷ [])
 tokens_of (v ∷ vs) w = root_tokens v.root (Tok.document_start ∷ tokens_of vs w)
 
@@ -98,7 +98,7 @@ documents_run a (v ∷ vs) w want are is o =
     documents_run a vs w (λ o. want (root_tokens v.root (Tok.document_start ∷ o))) are.1 is
     (next_document (start a) v.ending (text_of vs w) (λ o. want (root_tokens v.root o)) (document_runs v t (start a) want one.gap one.root (ends_before_marker v.root v.ending (text_of vs w) one.ending) o))
 
-documents_have_their_tokens : (vs : List Layout) (w : Layout) → AreLayouts vs → IsLayout w → HasToks (marker_text (text_of vs w)) (Tok.stream_start ∷ Tok.document_start ∷ tokens_of vs w)
+pub documents_have_their_tokens : (vs : List Layout) (w : Layout) → AreLayouts vs → IsLayout w → HasToks (marker_text (text_of vs w)) (Tok.stream_start ∷ Tok.document_start ∷ tokens_of vs w)
 documents_have_their_tokens vs w are is = documents_run (marker_text (text_of vs w)) vs w (λ o. Tok.stream_start ∷ Tok.document_start ∷ o) are is (document_begins (text_of vs w))
 
 -- ---- one document
