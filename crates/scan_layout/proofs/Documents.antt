@@ -22,15 +22,18 @@ use Rattle.scan_layout.proofs.Levels
 use Rattle.scan_layout.proofs.Whites.{next_token}
 
 -- behind the stream's start
-abbrev origin : Place
+abbrev pub origin : Place
 origin = record { index = 0; line = 1; col = 0 }
 
-abbrev begun : Parts
+abbrev pub begun : Parts
 begun = record { place = origin; tokens = token origin Tok.stream_start ∷ []; key = None; allowed = true; leading = true; adjacent = 0 }
 
 begins : (a : List ℕ) → fetch (start a) ≡ Ok (stands a 0 [] begun)
 unfolding fetch fetch_stream_start
 begins a = refl
+
+pub stream_begins : (a : List ℕ) → Reaches (start a) (stands a 0 [] begun)
+stream_begins a = there refl (begins a) here
 
 -- behind a document's marker
 abbrev pub opened : Place → List Token → (adjacent : ℕ) → Parts

@@ -1,5 +1,5 @@
 -- How runs of nodes are put together: what stands behind one node, and in front of the next.
-use Rattle.std.proofs.Common.{◌≡◌, ℕ, zero, suc, ◌+◌, ◌<◌, ◌≤◌, List, [], ◌∷◌, Bool, true, false, ◌==◌, nat_lt, Option, Some, None, Ok, refl, ap, ◌∙◌, arith, length}
+use Rattle.std.proofs.Common.{◌≡◌, ℕ, zero, suc, ◌+◌, ◌<◌, ◌≤◌, List, [], ◌∷◌, ◌++◌, Bool, true, false, ◌==◌, nat_lt, Option, Some, None, Ok, refl, ap, ◌∙◌, arith, length}
 use Rattle.std.proofs.lemmas.Bool.{ne_eqb, lt-ltb, le-ltb}
 use Rattle.yaml_chars.specs.Place.{Place}
 use Rattle.token_defs.specs.Token.{Tok}
@@ -13,6 +13,7 @@ use Rattle.scan_model.specs.Block.{last_property}
 use Rattle.scan_model.specs.Fetch.{fetch_here}
 use Rattle.scan_model.specs.Run.{Reaches, here, there}
 use Rattle.scan_model.proofs.Runs.{reaches_then}
+use Rattle.scan_json.specs.JsonScan.{toks}
 use Rattle.scan_layout.proofs.Shapes.{Parts, stands, opened, opened_indent, ends, left, Trail, next, marker, end, marker_text, trail_text, rest_of, limit_of, IsTrail, IsOld, Tells, Before, Settles, After}
 use Rattle.scan_layout.proofs.Whites.{White, line_feed, spell_white, along, along_line, beyond, passed, allowed_beyond, AreWhite, next_token, blanks, blanks_col, blanks_white, gap_white, ending_white, next_line_is, ending_is, gap_are_white, ending_are_white}
 use Rattle.scan_layout.proofs.Levels
@@ -218,4 +219,29 @@ before_next from g c i is r want u =
       allows = u.settles.1;
       no_property = z.no_property u.no_property;
       told = λ o. z.told o ∙ u.told o ∙ ap want (no_ends c i is o);
+    }
+
+-- The first entry of an array at the column of the key that it is the value of: the level behind the key's `:` ends.
+pub before_entry : (from : State) (g : List White) (c i : ℕ) (is : List Indent) (y : List ℕ) (q : Parts) (want : List Tok → List Tok) → Reaches from (stands (spell_white g y) (c + 1 + 1) (level (c + 1) false ∷ level i true ∷ is) q) → AreWhite g y
+    → q.key ≡ None → (beyond g q.place).col ≡ c → allowed_beyond g q.allowed ≡ true → last_property q.tokens ≡ None → Tells q.tokens want → Before from y c (c + 1) (level i true ∷ is) true want
+before_entry from g c i is y q want run white free column allows no_property told =
+    let js = level i true ∷ is in
+    let ks = level (c + 1) false ∷ js in
+    let p = passed g q in
+    let h : left (c + 1) (c + 1 + 1) ks ≡ record { indent = c + 1; indents = js } = rw (lt-ltb (c + 1) (c + 1 + 1) (omega arith), le-ltb (c + 1) (c + 1) (omega arith)) refl in
+    let none : (o : List Tok) → ends (c + 1) (c + 1 + 1) ks o ≡ o = λ o. rw (lt-ltb (c + 1) (c + 1 + 1) (omega arith), le-ltb (c + 1) (c + 1) (omega arith)) refl in
+    let z = Levels.unroll (c + 1) p.place (c + 1 + 1) ks p.tokens in
+    let r = record p { tokens = z.tokens } in
+    let unrolls : unroll_indent (p.place.col + 1) (stands y (c + 1 + 1) ks p).held ≡ (stands y (c + 1) js r).held = ap (λ n. unroll_indent (n + 1) (stands y (c + 1 + 1) ks p).held) column ∙ unrolls_to (c + 1) y (c + 1 + 1) ks p (c + 1) js h in
+    record {
+      state = stands (spell_white g y) (c + 1 + 1) ks q;
+      run = run;
+      going = refl;
+      parts = r;
+      fetches = Levels.arrives (spell_white g y) y (c + 1 + 1) (c + 1) ks js q p p r (next_token (c + 1 + 1) ks g y q white) (Levels.not_stale y (c + 1 + 1) ks p free) unrolls;
+      column = column;
+      free = free;
+      allows = allows;
+      no_property = z.no_property no_property;
+      told = λ o. z.told o ∙ ap (λ e. toks q.tokens ++ e) (none o) ∙ told o;
     }

@@ -7,22 +7,23 @@ use Rattle.yaml_chars.specs.Place.{Place}
 use Rattle.yaml_chars.specs.Class.{is_break, is_blank}
 use Rattle.token_defs.specs.Token.{Tok, Style, Token}
 use Rattle.tree_defs.specs.Escapes.{double_quoted, written_escapes}
+use Rattle.layout_defs.specs.Gap.{GapLine, IsGap}
 use Rattle.scalar_model.specs.declared.context.SkipTabs.TheVariants.{Yes}
-use Rattle.scalar_model.specs.Machine.{past}
+use Rattle.scalar_model.specs.Machine.{past, past_break}
 use Rattle.scalar_model.specs.Plain.{plain}
 use Rattle.scan_model.specs.declared.level.Indent.{Indent}
 use Rattle.scan_model.specs.State.{Key, Held, State, token}
 use Rattle.scan_model.specs.Keys.{is_far, save_simple_key, must_be_key}
 use Rattle.scan_model.specs.Indents.{level, unroll_non_block_indents, without_open}
-use Rattle.scan_model.specs.Block.{begin_pair, insert_key, fetch_value}
+use Rattle.scan_model.specs.Block.{last_property, begin_pair, insert_key, fetch_value}
 use Rattle.scan_model.specs.Document.{may_follow_quoted, check_behind_quoted, fetch_flow_scalar, fetch_plain_scalar}
 use Rattle.scan_model.specs.Run.{Reaches, here, there}
 use Rattle.scan_model.proofs.Runs.{reaches_then}
 use Rattle.scan_json.specs.JsonScan.{toks}
 use Rattle.scan_layout.proofs.Shapes.{Parts, stands, is_solid, IsClosed, Tells, Before}
-use Rattle.scan_layout.proofs.Whites.{spell_white, along, along_line, along_more, allowed_beyond, next_token, blanks, gap_white}
+use Rattle.scan_layout.proofs.Whites.{spell_white, along, along_line, along_more, beyond, allowed_beyond, next_token, blanks, blanks_white, gap_white, gap_are_white, gap_allows}
 use Rattle.scan_layout.proofs.Levels
-use Rattle.scan_layout.proofs.Joins.{fetched}
+use Rattle.scan_layout.proofs.Joins.{fetched, gap_col, before_entry}
 use Rattle.scan_layout.proofs.Marks.{Way, beside, below, way_white, way_column, IsWay, way_are_white, way_ends, Stand, later, first, indent_at, indents_at, starts, started, started_tells, drop_stand, rolled_at, opens, marked, solid_spaces, opens_mark, stand_low, arrived, Marked, marked_before, by_colon, value_space}
 use Rattle.scan_layout.proofs.Plains.{outside, are_plain, closes, plain_key}
 use Rattle.scan_layout.proofs.PlainTexts.{IsPlainText, is_first, is_second, at_colon, plain_opens, plain_by, first_space}
@@ -94,11 +95,40 @@ value_deep : (w : Way) (c m : ℕ) → IsWay c w → c + 1 ≤ m → c + 1 ≤ w
 value_deep (beside more) c m way h = omega (arith, h)
 value_deep (below g d) c m way h = let k = way.0 in omega (arith, k)
 
+-- The scanner is behind the `:` of a key, whose entries stand at the column c.
+pub record Taken (from : State) (x : List ℕ) (c i : ℕ) (is : List Indent) (want : List Tok → List Tok) : Type 0 where
+  pub colon : Place
+  pub off : c + 1 ≤ colon.col
+  pub parts : Parts
+  pub behind : parts.place ≡ past colon
+  pub run : Reaches from (stands x (c + 1 + 1) (level (c + 1) false ∷ level i true ∷ is) parts)
+  pub free : parts.key ≡ None
+  pub allows : parts.allowed ≡ false
+  pub no_property : last_property parts.tokens ≡ None
+  pub told : Tells parts.tokens want
+
+-- its value
+pub valued : (from : State) (w : Way) (y : List ℕ) (c i : ℕ) (is : List Indent) (want : List Tok → List Tok) → IsWay c w → is_solid y ≡ true → Taken from (spell_white (way_white w) y) c i is want → Valued from w y c i is want
+valued from w y c i is want way solid z =
+    let deep = value_deep w c z.colon.col way z.off in
+    record {
+      at = z.colon.col;
+      deep = deep;
+      marked = marked_before from (way_white w) y (way_column z.colon.col w) c i is true z.parts (allowed_beyond (way_white w) false) want z.run (way_are_white c w y way solid) z.free
+          (ap (λ p. (beyond (way_white w) p).col) z.behind ∙ way_ends w z.colon.col z.colon refl) deep (ap (allowed_beyond (way_white w)) z.allows) z.no_property z.told;
+    }
+
+-- its value is an array at its column
+pub at_entry : (from : State) (g : List GapLine) (y : List ℕ) (c i : ℕ) (is : List Indent) (want : List Tok → List Tok) → IsGap g → is_solid y ≡ true → Taken from (spell_white (way_white (below g c)) y) c i is want
+    → Before from y c (c + 1) (level i true ∷ is) true want
+at_entry from g y c i is want gap solid z =
+    before_entry from (way_white (below g c)) c i is y z.parts want z.run (gap_are_white g (blanks c) y gap (blanks_white c y solid)) z.free (gap_col g c (past_break z.parts.place) refl) (gap_allows g c) z.no_property z.told
+
 -- the `:` behind a key
-colon_behind : (from : State) (w : Way) (y : List ℕ) (s : Stand) (c i : ℕ) (is : List Indent) (tok : Tok) (ts : List Token) (want : List Tok → List Tok) → i ≤ c → IsClosed i is → IsWay c w → is_solid y ≡ true → Tells ts want
+colon_behind : (from : State) (w : Way) (y : List ℕ) (s : Stand) (c i : ℕ) (is : List Indent) (tok : Tok) (ts : List Token) (want : List Tok → List Tok) → i ≤ c → IsClosed i is → Tells ts want
     → Keyed from (58 ∷ spell_white (way_white w) y) s c i is tok ts
-    → Valued from w y c i is (λ o. want (starts s Tok.block_mapping_start (Tok.key ∷ tok ∷ Tok.value ∷ o)))
-colon_behind from w y s c i is tok ts want low shut way solid told z =
+    → Taken from (spell_white (way_white w) y) c i is (λ o. want (starts s Tok.block_mapping_start (Tok.key ∷ tok ∷ Tok.value ∷ o)))
+colon_behind from w y s c i is tok ts want low shut told z =
     let p = z.parts in
     let k = z.key in
     let off = z.off in
@@ -118,10 +148,15 @@ colon_behind from w y s c i is tok ts want low shut way solid told z =
     let tells : Tells ((started s None (token p.place Tok.block_mapping_start) ts ++ token k.place Tok.key ∷ []) ++ token z.at tok ∷ []) (λ o. want (starts s Tok.block_mapping_start (Tok.key ∷ tok ∷ o))) =
     Levels.push_tells _ z.at tok _ (Levels.push_tells _ k.place Tok.key _ (started_tells s ts p.place Tok.block_mapping_start want told)) in
     record {
-      at = p.place.col;
-      deep = value_deep w c p.place.col way off;
-      marked = marked_before from (way_white w) y (way_column p.place.col w) c i is true r (allowed_beyond (way_white w) false) _ run (way_are_white c w y way solid) refl (way_ends w p.place.col p.place refl) (value_deep w c p.place.col way off) refl
-          (Levels.last_pushed us (token p.place Tok.value)) (Levels.push_tells us p.place Tok.value (λ o. want (starts s Tok.block_mapping_start (Tok.key ∷ tok ∷ o))) (λ o. ap (λ l. toks l ++ o) tokens ∙ tells o));
+      colon = p.place;
+      off = off;
+      parts = r;
+      behind = refl;
+      run = run;
+      free = refl;
+      allows = refl;
+      no_property = Levels.last_pushed us (token p.place Tok.value);
+      told = Levels.push_tells us p.place Tok.value (λ o. want (starts s Tok.block_mapping_start (Tok.key ∷ tok ∷ o))) (λ o. ap (λ l. toks l ++ o) tokens ∙ tells o);
     }
 
 -- ---- the scalar
@@ -202,19 +237,19 @@ plain_keyed from c0 v w y s c i is want chars close one second short low shut u 
     }
 
 -- The same at a text that the value begins with.
-key_of_text : (from : State) (text : List ℕ) (w : Way) (y : List ℕ) (s : Stand) (c i : ℕ) (is : List Indent) (want : List Tok → List Tok) → IsPlainText text → length text ≤ 1024 → i ≤ c → IsClosed i is → IsWay c w → is_solid y ≡ true
+key_of_text : (from : State) (text : List ℕ) (w : Way) (y : List ℕ) (s : Stand) (c i : ℕ) (is : List Indent) (want : List Tok → List Tok) → IsPlainText text → length text ≤ 1024 → i ≤ c → IsClosed i is
     → Before from (text ++ 58 ∷ spell_white (way_white w) y) c (indent_at s c i) (indents_at s i is) true want
-    → Valued from w y c i is (λ o. want (starts (drop_stand s) Tok.block_mapping_start (Tok.key ∷ Tok.scalar Style.plain text ∷ Tok.value ∷ o)))
-key_of_text from text w y s c i is want t short low shut way solid u =
+    → Taken from (spell_white (way_white w) y) c i is (λ o. want (starts (drop_stand s) Tok.block_mapping_start (Tok.key ∷ Tok.scalar Style.plain text ∷ Tok.value ∷ o)))
+key_of_text from text w y s c i is want t short low shut u =
     let v : Before from (t.head ∷ (t.tail ++ 58 ∷ spell_white (way_white w) y)) c (indent_at s c i) (indents_at s i is) true want = rw (t.whole) at u in
     let few : length (t.head ∷ t.tail) ≤ 1024 = rw (t.whole) at short in
-    rw (t.whole) (colon_behind from w y (drop_stand s) c i is (Tok.scalar Style.plain (t.head ∷ t.tail)) v.parts.tokens want low shut way solid v.told (plain_keyed from t.head t.tail w y s c i is want t.chars t.close t.first t.second few low shut v))
+    rw (t.whole) (colon_behind from w y (drop_stand s) c i is (Tok.scalar Style.plain (t.head ∷ t.tail)) v.parts.tokens want low shut v.told (plain_keyed from t.head t.tail w y s c i is want t.chars t.close t.first t.second few low shut v))
 
-pub plain_key_run : (from : State) (text : List ℕ) (w : Way) (y : List ℕ) (s : Stand) (c i : ℕ) (is : List Indent) (want : List Tok → List Tok) → IsPlainText text → length text ≤ 1024 → i ≤ c → IsClosed i is → IsWay c w → is_solid y ≡ true
+pub plain_key_run : (from : State) (text : List ℕ) (w : Way) (y : List ℕ) (s : Stand) (c i : ℕ) (is : List Indent) (want : List Tok → List Tok) → IsPlainText text → length text ≤ 1024 → i ≤ c → IsClosed i is
     → Before from (text ++ 58 ∷ spell_white (way_white w) y) c (indent_at s c i) (indents_at s i is) true want
-    → Valued from w y c i is (λ o. want (starts s Tok.block_mapping_start (Tok.key ∷ Tok.scalar Style.plain text ∷ Tok.value ∷ o)))
-plain_key_run from text w y later c i is want t short low shut way solid u = key_of_text from text w y later c i is want t short low shut way solid u
-plain_key_run from text w y (first b) c i is want t short low shut way solid u = key_of_text from text w y (first b) c i is want t short low shut way solid u
+    → Taken from (spell_white (way_white w) y) c i is (λ o. want (starts s Tok.block_mapping_start (Tok.key ∷ Tok.scalar Style.plain text ∷ Tok.value ∷ o)))
+plain_key_run from text w y later c i is want t short low shut u = key_of_text from text w y later c i is want t short low shut u
+plain_key_run from text w y (first b) c i is want t short low shut u = key_of_text from text w y (first b) c i is want t short low shut u
 
 -- ---- a key in double quotes
 
@@ -268,8 +303,8 @@ quoted_keyed from text a s c i is want short low u =
       tokens = refl;
     }
 
-pub quoted_key_run : (from : State) (text : List ℕ) (w : Way) (y : List ℕ) (s : Stand) (c i : ℕ) (is : List Indent) (want : List Tok → List Tok) → length (double_quoted text) ≤ 1024 → i ≤ c → IsClosed i is → IsWay c w → is_solid y ≡ true
+pub quoted_key_run : (from : State) (text : List ℕ) (w : Way) (y : List ℕ) (s : Stand) (c i : ℕ) (is : List Indent) (want : List Tok → List Tok) → length (double_quoted text) ≤ 1024 → i ≤ c → IsClosed i is
     → Before from (double_quoted text ++ 58 ∷ spell_white (way_white w) y) c (indent_at s c i) (indents_at s i is) true want
-    → Valued from w y c i is (λ o. want (starts s Tok.block_mapping_start (Tok.key ∷ Tok.scalar Style.double_quoted text ∷ Tok.value ∷ o)))
-quoted_key_run from text w y s c i is want short low shut way solid u =
-    colon_behind from w y s c i is (Tok.scalar Style.double_quoted text) u.parts.tokens want low shut way solid u.told (quoted_keyed from text (spell_white (way_white w) y) s c i is want short low u)
+    → Taken from (spell_white (way_white w) y) c i is (λ o. want (starts s Tok.block_mapping_start (Tok.key ∷ Tok.scalar Style.double_quoted text ∷ Tok.value ∷ o)))
+quoted_key_run from text w y s c i is want short low shut u =
+    colon_behind from w y s c i is (Tok.scalar Style.double_quoted text) u.parts.tokens want low shut u.told (quoted_keyed from text (spell_white (way_white w) y) s c i is want short low u)

@@ -15,6 +15,7 @@ mod LiteralTexts
 mod Literals
 mod Values
 pub mod Whole
+pub mod OneLayout
 pub mod InTurn
 mod Rows
 mod RowsRefused

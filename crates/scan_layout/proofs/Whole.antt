@@ -1,22 +1,24 @@
--- The tokens of whole texts laid out in lines: of one document, and of several.
-use Rattle.std.proofs.Common.{◌≡◌, ℕ, List, [], ◌∷◌, true, false, refl, ap, ◌∙◌, arith, subst}
+-- The tokens of whole texts laid out in lines, of one document or several.
+use Rattle.std.proofs.Common.{◌≡◌, ℕ, Bool, List, [], ◌∷◌, true, false, refl, ap, ◌∙◌, arith, subst}
 use Rattle.token_defs.specs.Token.{Tok}
 use Rattle.layout_defs.specs.Gap.{GapLine, spell_gap, spaces, IsGap}
-use Rattle.layout_defs.specs.Layout.{Layout, IsLayout, Root, block, inline, literal, spell, spell_root, spell_inline, spell_literal, spell_block, IsRoot, IsEnding}
-use Rattle.layout_defs.proofs.InTurn.{AreLayouts}
-use Rattle.laid_tokens.specs.LayoutTokens.{root_tokens}
+use Rattle.layout_defs.specs.Layout.{spell_literal}
+use Rattle.layout_defs.specs.WideLayout.{Root, block, inline, literal, Document, Documents, last_document, document, WideLayout, spell, spell_mark, spell_documents, spell_root, spell_inline, spell_block, IsRoot, IsBehindRoot, AreDocuments}
+use Rattle.laid_tokens.specs.WideTokens.{root_tokens, documents_tokens, marked}
 use Rattle.scalar_model.specs.Machine.{past_break}
 use Rattle.scan_model.specs.State.{State}
 use Rattle.scan_model.specs.Run.{Reaches, start}
-use Rattle.scan_json.specs.JsonScan.{toks, HasToks}
-use Rattle.scan_model.proofs.Runs.{one_list, not_refused}
-use Rattle.scan_layout.specs.Laws.{LayoutTextsHaveTheirTokens, LayoutTextsHaveNoOtherTokens, LayoutTextsAreNotRefused}
+use Rattle.scan_json.specs.JsonScan.{HasToks}
+use Rattle.scan_layout.specs.Basic.{IsBasicRoot, AreBasicDocuments}
+use Rattle.scan_layout.specs.Laws.{BasicTextsHaveTheirTokens}
 use Rattle.scan_layout.proofs.Shapes.{stands, is_solid, Trail, marker, marker_text, end, trail_text, limit_of, IsTrail, Before, After}
-use Rattle.scan_layout.proofs.Whites.{line_feed, spell_white, blanks, blanks_white, gap_white, gap_are_white, gap_allows, next_line_is}
+use Rattle.scan_layout.proofs.Whites.{White, line_feed, spell_white, AreWhite, beyond, allowed_beyond, spaces_are, gap_is, blanks, blanks_white, gap_white, gap_are_white, gap_allows, next_line_is}
 use Rattle.scan_layout.proofs.Joins.{before_white, gap_col}
-use Rattle.scan_layout.proofs.Documents.{Opened, document_begins, next_document, all_tokens}
+use Rattle.scan_layout.proofs.Documents.{Opened, document_begins, next_document, stream_begins, begun, origin, all_tokens}
 use Rattle.scan_layout.proofs.Literals.{LowTrail, empty_gap, root_low, root_low_before_marker, root_literal_after}
 use Rattle.scan_layout.proofs.Values.{block_runs, block_solid, inline_after, inline_solid, literal_solid}
+
+-- ---- roots
 
 -- a root's column, and what begins there
 abbrev column_of : Root → ℕ
@@ -41,7 +43,7 @@ root_text (inline v) r = refl
 root_text (literal text ls) r = refl
 
 body_solid : (root : Root) (r : List ℕ) → IsRoot root → is_solid (body_of root r) ≡ true
-body_solid (block column b) r h = block_solid column b r h
+body_solid (block column b) r h = block_solid column [] b r h
 body_solid (inline v) r h = inline_solid v r h
 body_solid (literal text ls) r h = literal_solid 0 text ls r
 
@@ -51,63 +53,95 @@ record Ends (root : Root) (t : Trail) : Type 0 where
   outside : limit_of t ≡ 0
   low : IsLowBehind root t
 
-root_runs : (root : Root) (t : Trail) (from : State) (want : List Tok → List Tok) → IsRoot root → Ends root t
+root_runs : (root : Root) (t : Trail) (from : State) (want : List Tok → List Tok) → IsRoot root → IsBasicRoot root → Ends root t
     → Before from (body_of root (trail_text t)) (column_of root) 0 [] true want → After from t 0 [] (λ o. want (root_tokens root o))
-root_runs (block column b) t from want h ends u = let e = ends.outside in block_runs column b h from t 0 [] false want ends.is_trail (omega (arith, e)) (omega arith) refl u
-root_runs (inline v) t from want h ends u = let e = ends.outside in inline_after v t from 0 false 0 [] true want h ends.is_trail (omega (arith, e)) (omega arith) refl u
-root_runs (literal text ls) t from want h ends u = root_literal_after t from text ls want ends.is_trail ends.low h.0 h.1 u
+root_runs (block column b) t from want h e ends u = let out = ends.outside in block_runs column [] b h e from t 0 [] false want ends.is_trail (omega (arith, out)) (omega arith) refl u
+root_runs (inline v) t from want h e ends u = let out = ends.outside in inline_after v t from 0 false 0 [] true want h e ends.is_trail (omega (arith, out)) (omega arith) refl u
+root_runs (literal text ls) t from want h e ends u = root_literal_after t from text ls want ends.is_trail ends.low h.0 h.1 u
 
--- a document behind its marker
-document_runs : (w : Layout) (t : Trail) (from : State) (want : List Tok → List Tok) → IsGap w.gap → IsRoot w.root → Ends w.root t
-    → Opened from (spell_gap w.gap (spell_root w.root (trail_text t))) want → After from t 0 [] (λ o. want (root_tokens w.root o))
-document_runs w t from want gap is ends o =
-    let d = column_of w.root in
-    let y = body_of w.root (trail_text t) in
-    let g = line_feed ∷ gap_white w.gap (blanks d) in
-    let run : Reaches from (stands (spell_white g y) 0 [] o.parts) = subst (λ a. Reaches from (stands a 0 [] o.parts)) (ap (λ a. 10 ∷ spell_gap w.gap a) (root_text w.root (trail_text t)) ∙ next_line_is d w.gap y) o.run in
-    let solid = body_solid w.root (trail_text t) is in
-    let u = before_white from g y 0 [] o.parts want run (gap_are_white w.gap (blanks d) y gap (blanks_white d y solid)) o.free (omega arith) o.no_property o.told in
-    root_runs w.root t from want is ends (rw (gap_col w.gap d (past_break o.parts.place) refl) at rw (gap_allows w.gap d) at u)
-
-ends_text : (root : Root) (g : List GapLine) → IsEnding root g → Ends root (end g)
+ends_text : (root : Root) (g : List GapLine) → IsBehindRoot root g → Ends root (end g)
 ends_text (block column b) g h = record { is_trail = h; outside = refl; low = tt }
 ends_text (inline v) g h = record { is_trail = h; outside = refl; low = tt }
 ends_text (literal text ls) g h = record { is_trail = empty_gap g h; outside = refl; low = root_low g h }
 
-ends_before_marker : (root : Root) (g : List GapLine) (r : List ℕ) → IsEnding root g → Ends root (marker g r)
+ends_before_marker : (root : Root) (g : List GapLine) (r : List ℕ) → IsBehindRoot root g → Ends root (marker g r)
 ends_before_marker (block column b) g r h = record { is_trail = h; outside = refl; low = tt }
 ends_before_marker (inline v) g r h = record { is_trail = h; outside = refl; low = tt }
 ends_before_marker (literal text ls) g r h = record { is_trail = empty_gap g h; outside = refl; low = root_low_before_marker g r h }
 
+-- ---- in front of a root
+
+-- behind a marker
+root_opens : (from : State) (d : Document) (r : List ℕ) (want : List Tok → List Tok) → IsGap d.gap → IsRoot d.root → Opened from (spell_gap d.gap (spell_root d.root r)) want
+    → Before from (body_of d.root r) (column_of d.root) 0 [] true want
+root_opens from d r want gap is o =
+    let c = column_of d.root in
+    let y = body_of d.root r in
+    let g = line_feed ∷ gap_white d.gap (blanks c) in
+    let run : Reaches from (stands (spell_white g y) 0 [] o.parts) = subst (λ a. Reaches from (stands a 0 [] o.parts)) (ap (λ a. 10 ∷ spell_gap d.gap a) (root_text d.root r) ∙ next_line_is c d.gap y) o.run in
+    let u = before_white from g y 0 [] o.parts want run (gap_are_white d.gap (blanks c) y gap (blanks_white c y (body_solid d.root r is))) o.free (omega arith) o.no_property o.told in
+    rw (gap_col d.gap c (past_break o.parts.place) refl) at rw (gap_allows d.gap c) at u
+
+-- at the start of the text
+root_begins : (d : Document) (r : List ℕ) → IsGap d.gap → IsRoot d.root
+    → Before (start (spell_gap d.gap (spell_root d.root r))) (body_of d.root r) (column_of d.root) 0 [] true (λ o. Tok.stream_start ∷ o)
+root_begins d r gap is =
+    let c = column_of d.root in
+    let y = body_of d.root r in
+    let g = gap_white d.gap (blanks c) in
+    let text = spell_gap d.gap (spell_root d.root r) in
+    let e = ap (spell_gap d.gap) (root_text d.root r ∙ spaces_are c y) ∙ gap_is d.gap (blanks c) y in
+    let run : Reaches (start text) (stands (spell_white g y) 0 [] begun) = subst (λ a. Reaches (start text) (stands a 0 [] begun)) e (stream_begins text) in
+    let u = before_white (start text) g y 0 [] begun (λ o. Tok.stream_start ∷ o) run (gap_are_white d.gap (blanks c) y gap (blanks_white c y (body_solid d.root r is))) refl (omega arith) refl (λ o. refl) in
+    rw (gap_col d.gap c origin refl) at rw (gap_allows d.gap c) at u
+
 -- ---- documents
 
--- the documents behind the marker of the first
-abbrev pub text_of : List Layout → Layout → List ℕ
-text_of [] w = spell_gap w.gap (spell_root w.root (trail_text (end w.ending)))
-text_of (v ∷ vs) w = spell_gap v.gap (spell_root v.root (trail_text (marker v.ending (text_of vs w))))
+-- what stands behind the first root
+abbrev trail_of : Documents → Trail
+trail_of (last_document d behind) = end behind
+trail_of (document d g ds) = marker g (spell_documents ds [])
 
-abbrev pub tokens_of : List Layout → Layout → List Tok
-tokens_of [] w = root_tokens w.root (Tok.stream_end ∷ [])
-tokens_of (v ∷ vs) w = root_tokens v.root (Tok.document_start ∷ tokens_of vs w)
+abbrev first_of : Documents → Document
+first_of (last_document d behind) = d
+first_of (document d g ds) = d
 
-documents_run : (a : List ℕ) (vs : List Layout) (w : Layout) (want : List Tok → List Tok) → AreLayouts vs → IsLayout w → Opened (start a) (text_of vs w) want → HasToks a (want (tokens_of vs w))
-documents_run a [] w want are is o = all_tokens a w.ending (λ o. want (root_tokens w.root o)) (document_runs w (end w.ending) (start a) want is.gap is.root (ends_text w.root w.ending is.ending) o)
-documents_run a (v ∷ vs) w want are is o =
-    let one = are.0 in
-    let t = marker v.ending (text_of vs w) in
-    documents_run a vs w (λ o. want (root_tokens v.root (Tok.document_start ∷ o))) are.1 is
-    (next_document (start a) v.ending (text_of vs w) (λ o. want (root_tokens v.root o)) (document_runs v t (start a) want one.gap one.root (ends_before_marker v.root v.ending (text_of vs w) one.ending) o))
+documents_text : (ds : Documents) → spell_documents ds [] ≡ spell_gap (first_of ds).gap (spell_root (first_of ds).root (trail_text (trail_of ds)))
+documents_text (last_document d behind) = refl
+documents_text (document d g ds) = refl
 
-pub documents_have_their_tokens : (vs : List Layout) (w : Layout) → AreLayouts vs → IsLayout w → HasToks (marker_text (text_of vs w)) (Tok.stream_start ∷ Tok.document_start ∷ tokens_of vs w)
-documents_have_their_tokens vs w are is = documents_run (marker_text (text_of vs w)) vs w (λ o. Tok.stream_start ∷ Tok.document_start ∷ o) are is (document_begins (text_of vs w))
+first_gap : (ds : Documents) → AreDocuments ds → IsGap (first_of ds).gap
+first_gap (last_document d behind) are = are.0
+first_gap (document d g ds) are = are.0
 
--- ---- one document
+first_root : (ds : Documents) → AreDocuments ds → IsRoot (first_of ds).root
+first_root (last_document d behind) are = are.1
+first_root (document d g ds) are = are.1
 
-pub layout_text_has_its_tokens : LayoutTextsHaveTheirTokens
-layout_text_has_its_tokens w is = documents_have_their_tokens [] w tt is
+-- the documents, from the first root on
+documents_run : (a : List ℕ) (ds : Documents) (want : List Tok → List Tok) → AreDocuments ds → AreBasicDocuments ds
+    → Before (start a) (body_of (first_of ds).root (trail_text (trail_of ds))) (column_of (first_of ds).root) 0 [] true want → HasToks a (want (documents_tokens ds))
+documents_run a (last_document d behind) want are e u =
+    all_tokens a behind (λ o. want (root_tokens d.root o)) (root_runs d.root (end behind) (start a) want are.1 e (ends_text d.root behind are.2) u)
+documents_run a (document d g ds) want are e u =
+    let r = spell_documents ds [] in
+    let after = root_runs d.root (marker g r) (start a) want are.1 e.0 (ends_before_marker d.root g r are.2) u in
+    let next : Opened (start a) (spell_gap (first_of ds).gap (spell_root (first_of ds).root (trail_text (trail_of ds)))) (λ o. want (root_tokens d.root (Tok.document_start ∷ o))) =
+    rw (← documents_text ds) (next_document (start a) g r (λ o. want (root_tokens d.root o)) after) in
+    documents_run a ds (λ o. want (root_tokens d.root (Tok.document_start ∷ o))) are.3 e.1 (root_opens (start a) (first_of ds) (trail_text (trail_of ds)) _ (first_gap ds are.3) (first_root ds are.3) next)
 
-pub layout_text_has_no_other_tokens : LayoutTextsHaveNoOtherTokens
-layout_text_has_no_other_tokens w is ts z = let y = layout_text_has_its_tokens w is in ap toks (one_list (spell w []) ts y.0 z y.1) ∙ y.2
+-- ---- the whole text
 
-pub layout_text_is_not_refused : LayoutTextsAreNotRefused
-layout_text_is_not_refused w is f refusal = let y = layout_text_has_its_tokens w is in not_refused (spell w []) y.0 f y.1 refusal
+marked_run : (b : Bool) (ds : Documents) → AreDocuments ds → AreBasicDocuments ds → HasToks (spell_mark b (spell_documents ds [])) (Tok.stream_start ∷ marked b (documents_tokens ds))
+marked_run true ds are e =
+    let text = spell_documents ds [] in
+    let begins : Opened (start (marker_text text)) (spell_gap (first_of ds).gap (spell_root (first_of ds).root (trail_text (trail_of ds)))) (λ o. Tok.stream_start ∷ Tok.document_start ∷ o) =
+    rw (← documents_text ds) (document_begins text) in
+    documents_run (marker_text text) ds (λ o. Tok.stream_start ∷ Tok.document_start ∷ o) are e
+    (root_opens (start (marker_text text)) (first_of ds) (trail_text (trail_of ds)) _ (first_gap ds are) (first_root ds are) begins)
+marked_run false ds are e =
+    let u = root_begins (first_of ds) (trail_text (trail_of ds)) (first_gap ds are) (first_root ds are) in
+    rw (documents_text ds) (documents_run _ ds (λ o. Tok.stream_start ∷ o) are e u)
+
+pub basic_texts_have_their_tokens : BasicTextsHaveTheirTokens
+basic_texts_have_their_tokens w is e = marked_run w.is_marked w.documents is e

@@ -1,6 +1,13 @@
 //! Laws of the scanner's model and texts laid out in lines, each carried by an empty function.
 
 ghost use Rattle.scan_layout.specs.Laws.{LayoutTextsHaveTheirTokens, LayoutTextsHaveNoOtherTokens, LayoutTextsAreNotRefused, LayoutsInTurnHaveTheirTokens, LayoutsInTurnAreNotRefused};
+ghost use Rattle.scan_layout.specs.Laws.{BasicTextsHaveTheirTokens};
+
+/// The model gives the text of a wide layout, of one document or more, its tokens, where it has no single quotes, folded
+/// blocks, JSON values, anchors, aliases and comments behind content.
+pub fn basic_texts_have_their_tokens()
+    ensures { BasicTextsHaveTheirTokens }
+{}
 
 /// The model gives a text laid out in lines its tokens: starts and ends of block collections by
 /// the columns, entries, keys and values by their marks, and each scalar as it is written.

@@ -1,0 +1,67 @@
+-- The wide layouts whose tokens are proved: those without single quotes, folded blocks, JSON arrays and objects, anchors, aliases, and
+-- comments behind what they explain.
+use Rattle.layout_defs.specs.WideLayout.{Scalar, as_before, single_quoted, Inline, scalar, empty_array, empty_hash, Comment, no_comment, comment, Block, array, hash, Value, beside, literal, folded, json, compact, below, at_key, anchored, alias, Entries, last_entry, entry, Field, implicit, explicit, Fields, last_field, field, Root, Document, Documents, last_document, document, WideLayout}
+
+-- a scalar that is not in single quotes
+abbrev pub IsBasicScalar : Scalar → Type 0
+IsBasicScalar (as_before s) = Unit {0}
+IsBasicScalar (single_quoted text) = ⊥
+
+-- such a scalar, `[]` or `{}`
+abbrev pub IsBasicInline : Inline → Type 0
+IsBasicInline (scalar s) = IsBasicScalar s
+IsBasicInline empty_array = Unit {0}
+IsBasicInline empty_hash = Unit {0}
+
+-- no comment
+abbrev pub IsBasicComment : Comment → Type 0
+IsBasicComment no_comment = Unit {0}
+IsBasicComment (comment more text) = ⊥
+
+abbrev mutual
+  -- what stands in it is basic
+  pub IsBasicBlock : Block → Type 0
+  IsBasicBlock (array es) = AreBasicEntries es
+  IsBasicBlock (hash fs) = AreBasicFields fs
+
+  -- neither folded nor JSON, without anchor and no alias
+  pub IsBasicValue : Value → Type 0
+  IsBasicValue (beside more i behind) = IsBasicInline i × IsBasicComment behind
+  IsBasicValue (literal more column text ls) = Unit {0}
+  IsBasicValue (folded more column strips text ls) = ⊥
+  IsBasicValue (json more v) = ⊥
+  IsBasicValue (compact more b) = IsBasicBlock b
+  IsBasicValue (below behind g column b) = IsBasicComment behind × IsBasicBlock b
+  IsBasicValue (at_key behind g es) = IsBasicComment behind × AreBasicEntries es
+  IsBasicValue (anchored more name v) = ⊥
+  IsBasicValue (alias more name t) = ⊥
+
+  -- each value is basic
+  pub AreBasicEntries : Entries → Type 0
+  AreBasicEntries (last_entry v) = IsBasicValue v
+  AreBasicEntries (entry v g es) = IsBasicValue v × AreBasicEntries es
+
+  -- key and value are basic
+  pub IsBasicField : Field → Type 0
+  IsBasicField (implicit k v) = IsBasicScalar k × IsBasicValue v
+  IsBasicField (explicit k g v) = IsBasicValue k × IsBasicValue v
+
+  -- each entry is basic
+  pub AreBasicFields : Fields → Type 0
+  AreBasicFields (last_field f) = IsBasicField f
+  AreBasicFields (field f g fs) = IsBasicField f × AreBasicFields fs
+
+-- the root is basic
+abbrev pub IsBasicRoot : Root → Type 0
+IsBasicRoot (Root.block column b) = IsBasicBlock b
+IsBasicRoot (Root.inline i) = IsBasicInline i
+IsBasicRoot (Root.literal text ls) = Unit {0}
+
+-- each document's root is basic
+abbrev pub AreBasicDocuments : Documents → Type 0
+AreBasicDocuments (last_document d behind) = IsBasicRoot d.root
+AreBasicDocuments (document d g ds) = IsBasicRoot d.root × AreBasicDocuments ds
+
+-- a wide layout of basic documents
+abbrev pub IsBasic : WideLayout → Type 0
+IsBasic w = AreBasicDocuments w.documents
