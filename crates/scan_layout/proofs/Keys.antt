@@ -6,7 +6,6 @@ use Rattle.std.proofs.lemmas.List.Edits.{insert-append_left, insert_end}
 use Rattle.yaml_chars.specs.Place.{Place}
 use Rattle.yaml_chars.specs.Class.{is_break, is_blank}
 use Rattle.token_defs.specs.Token.{Tok, Style, Token}
-use Rattle.tree_defs.specs.Escapes.{double_quoted, written_escapes}
 use Rattle.layout_defs.specs.Gap.{GapLine, IsGap}
 use Rattle.scalar_model.specs.declared.context.SkipTabs.TheVariants.{Yes}
 use Rattle.scalar_model.specs.Machine.{past, past_break}
@@ -16,7 +15,8 @@ use Rattle.scan_model.specs.State.{Key, Held, State, token}
 use Rattle.scan_model.specs.Keys.{is_far, save_simple_key, must_be_key}
 use Rattle.scan_model.specs.Indents.{level, unroll_non_block_indents, without_open}
 use Rattle.scan_model.specs.Block.{last_property, begin_pair, insert_key, fetch_value}
-use Rattle.scan_model.specs.Document.{may_follow_quoted, check_behind_quoted, fetch_flow_scalar, fetch_plain_scalar}
+use Rattle.scalar_model.specs.Quoted.{quote_of}
+use Rattle.scan_model.specs.Document.{quoted_style, may_follow_quoted, check_behind_quoted, fetch_flow_scalar, fetch_plain_scalar}
 use Rattle.scan_model.specs.Run.{Reaches, here, there}
 use Rattle.scan_model.proofs.Runs.{reaches_then}
 use Rattle.scan_json.specs.JsonScan.{toks}
@@ -27,7 +27,7 @@ use Rattle.scan_layout.proofs.Joins.{fetched, gap_col, before_entry}
 use Rattle.scan_layout.proofs.Marks.{Way, beside, below, way_white, way_column, IsWay, way_are_white, way_ends, Stand, later, first, indent_at, indents_at, starts, started, started_tells, drop_stand, rolled_at, opens, marked, solid_spaces, opens_mark, stand_low, arrived, Marked, marked_before, by_colon, value_space}
 use Rattle.scan_layout.proofs.Plains.{outside, are_plain, closes, plain_key}
 use Rattle.scan_layout.proofs.PlainTexts.{IsPlainText, is_first, is_second, at_colon, plain_opens, plain_by, first_space}
-use Rattle.scan_layout.proofs.Quotes.{text_is_read}
+use Rattle.scan_layout.proofs.Quotes.{IsQuoted}
 use Rattle.scan_layout.proofs.Leaves.{non_block, by_quote, quote_opens}
 
 -- ---- tokens
@@ -251,60 +251,64 @@ pub plain_key_run : (from : State) (text : List ℕ) (w : Way) (y : List ℕ) (s
 plain_key_run from text w y later c i is want t short low shut u = key_of_text from text w y later c i is want t short low shut u
 plain_key_run from text w y (first b) c i is want t short low shut u = key_of_text from text w y (first b) c i is want t short low shut u
 
--- ---- a key in double quotes
+-- ---- a key in quotes
 
 colon_follows : (flow same_line : Bool) → same_line ≡ true → flow ≡ false → may_follow_quoted flow same_line 58 ≡ true
 unfolding may_follow_quoted is_break
 colon_follows flow same_line e f = rw (e, f) refl
 
--- behind a key in double quotes
-abbrev quoted_parts : Parts → Key → (w : List ℕ) → Parts
-quoted_parts p k w =
-    record { place = along (double_quoted w) p.place; tokens = p.tokens ++ token p.place (Tok.scalar Style.double_quoted w) ∷ []; key = Some k; allowed = false; leading = false; adjacent = (along (double_quoted w) p.place).index }
+-- behind a key in quotes
+abbrev quoted_parts : Bool → Parts → Key → (body w : List ℕ) → Parts
+quoted_parts single p k body w =
+    record { place = along (quote_of single ∷ body) p.place; tokens = p.tokens ++ token p.place (Tok.scalar (quoted_style single) w) ∷ []; key = Some k; allowed = false; leading = false; adjacent = (along (quote_of single ∷ body) p.place).index }
 
-quoted_at : (text a : List ℕ) (s : Stand) (c i : ℕ) (is : List Indent) (p : Parts) (k : Key) → p.place.col ≡ c → i ≤ c
-    → save_simple_key ((stands (double_quoted text ++ 58 ∷ a) (indent_at s c i) (indents_at s i is) p).held) ≡ (stands (double_quoted text ++ 58 ∷ a) (indent_at s c i) (indents_at s i is) (record p { key = Some k })).held
-    → fetch_flow_scalar false (stands (double_quoted text ++ 58 ∷ a) (indent_at s c i) (indents_at s i is) p) ≡ Ok (stands (58 ∷ a) (indent_at s c i) (indents_at s i is) (quoted_parts p k text))
-unfolding fetch_flow_scalar check_behind_quoted
-quoted_at text a s c i is p k col low save =
-    let at = along (double_quoted text) p.place in
-    let q : Parts = record p { key = Some k; allowed = false; place = at; leading = false } in
-    rw (
-      save,
-      text_is_read (indent_at s c i) text (58 ∷ a) p.place (stand_low s c i p.place.col low col),
-      solid_spaces Yes (58 ∷ a) (indent_at s c i) (indents_at s i is) q refl,
-      colon_follows false (p.place.line == at.line) (eq-eqb p.place.line at.line (sym (along_line (double_quoted text) p.place))) refl,
-      next_token (indent_at s c i) (indents_at s i is) [] (58 ∷ a) q refl,
-    ) refl
+module _ (single : Bool) (body text : List ℕ) (is_quoted : IsQuoted single body text) where
+  abbrev whole : List ℕ
+  whole = quote_of single ∷ body
 
-quoted_keyed : (from : State) (text a : List ℕ) (s : Stand) (c i : ℕ) (is : List Indent) (want : List Tok → List Tok) → length (double_quoted text) ≤ 1024 → i ≤ c
-    → (u : Before from (double_quoted text ++ 58 ∷ a) c (indent_at s c i) (indents_at s i is) true want) → Keyed from (58 ∷ a) s c i is (Tok.scalar Style.double_quoted text) u.parts.tokens
-quoted_keyed from text a s c i is want short low u =
-    let p = u.parts in
-    let x = double_quoted text ++ 58 ∷ a in
-    let j = indent_at s c i in
-    let js = indents_at s i is in
-    let k = key_here (must_be_key ((stands x j js p).held)) p in
-    let q = quoted_parts p k text in
-    let near = not_far (double_quoted text) p.place short in
-    let takes = arrived from 34 ((written_escapes text ++ 34 ∷ []) ++ 58 ∷ a) s c i is want low u (quote_opens ((written_escapes text ++ 34 ∷ []) ++ 58 ∷ a)) ∙ by_quote (stands x j js p) ∙ quoted_at text a s c i is p k u.column low (saves x j js p u.allows) in
-    let more = along_more (written_escapes text ++ 34 ∷ []) (past p.place) in
-    let column = u.column in
-    record {
-      parts = q;
-      key = k;
-      at = p.place;
-      run = fetched from x c j js true want _ _ u takes (Levels.near (58 ∷ a) j js q k refl near);
-      has = refl;
-      column = u.column;
-      number = refl;
-      near = near;
-      off = omega (arith, more, column);
-      tokens = refl;
-    }
+  quoted_at : (a : List ℕ) (s : Stand) (c i : ℕ) (is : List Indent) (p : Parts) (k : Key) → p.place.col ≡ c → i ≤ c
+      → save_simple_key ((stands (whole ++ 58 ∷ a) (indent_at s c i) (indents_at s i is) p).held) ≡ (stands (whole ++ 58 ∷ a) (indent_at s c i) (indents_at s i is) (record p { key = Some k })).held
+      → fetch_flow_scalar single (stands (whole ++ 58 ∷ a) (indent_at s c i) (indents_at s i is) p) ≡ Ok (stands (58 ∷ a) (indent_at s c i) (indents_at s i is) (quoted_parts single p k body text))
+  unfolding fetch_flow_scalar check_behind_quoted
+  quoted_at a s c i is p k col low save =
+      let at = along whole p.place in
+      let q : Parts = record p { key = Some k; allowed = false; place = at; leading = false } in
+      rw (
+        save,
+        is_quoted.reads (indent_at s c i) (58 ∷ a) p.place (stand_low s c i p.place.col low col) refl,
+        solid_spaces Yes (58 ∷ a) (indent_at s c i) (indents_at s i is) q refl,
+        colon_follows false (p.place.line == at.line) (eq-eqb p.place.line at.line (sym (along_line whole p.place))) refl,
+        next_token (indent_at s c i) (indents_at s i is) [] (58 ∷ a) q refl,
+      ) refl
 
-pub quoted_key_run : (from : State) (text : List ℕ) (w : Way) (y : List ℕ) (s : Stand) (c i : ℕ) (is : List Indent) (want : List Tok → List Tok) → length (double_quoted text) ≤ 1024 → i ≤ c → IsClosed i is
-    → Before from (double_quoted text ++ 58 ∷ spell_white (way_white w) y) c (indent_at s c i) (indents_at s i is) true want
-    → Taken from (spell_white (way_white w) y) c i is (λ o. want (starts s Tok.block_mapping_start (Tok.key ∷ Tok.scalar Style.double_quoted text ∷ Tok.value ∷ o)))
-quoted_key_run from text w y s c i is want short low shut u =
-    colon_behind from w y s c i is (Tok.scalar Style.double_quoted text) u.parts.tokens want low shut u.told (quoted_keyed from text (spell_white (way_white w) y) s c i is want short low u)
+  quoted_keyed : (from : State) (a : List ℕ) (s : Stand) (c i : ℕ) (is : List Indent) (want : List Tok → List Tok) → length whole ≤ 1024 → i ≤ c
+      → (u : Before from (whole ++ 58 ∷ a) c (indent_at s c i) (indents_at s i is) true want) → Keyed from (58 ∷ a) s c i is (Tok.scalar (quoted_style single) text) u.parts.tokens
+  quoted_keyed from a s c i is want short low u =
+      let p = u.parts in
+      let x = whole ++ 58 ∷ a in
+      let j = indent_at s c i in
+      let js = indents_at s i is in
+      let k = key_here (must_be_key ((stands x j js p).held)) p in
+      let q = quoted_parts single p k body text in
+      let near = not_far whole p.place short in
+      let takes = arrived from (quote_of single) (body ++ 58 ∷ a) s c i is want low u (quote_opens single (body ++ 58 ∷ a)) ∙ by_quote single (stands x j js p) ∙ quoted_at a s c i is p k u.column low (saves x j js p u.allows) in
+      let more = along_more body (past p.place) in
+      let column = u.column in
+      record {
+        parts = q;
+        key = k;
+        at = p.place;
+        run = fetched from x c j js true want _ _ u takes (Levels.near (58 ∷ a) j js q k refl near);
+        has = refl;
+        column = u.column;
+        number = refl;
+        near = near;
+        off = omega (arith, more, column);
+        tokens = refl;
+      }
+
+  pub quoted_key_run : (from : State) (w : Way) (y : List ℕ) (s : Stand) (c i : ℕ) (is : List Indent) (want : List Tok → List Tok) → length whole ≤ 1024 → i ≤ c → IsClosed i is
+      → Before from (whole ++ 58 ∷ spell_white (way_white w) y) c (indent_at s c i) (indents_at s i is) true want
+      → Taken from (spell_white (way_white w) y) c i is (λ o. want (starts s Tok.block_mapping_start (Tok.key ∷ Tok.scalar (quoted_style single) text ∷ Tok.value ∷ o)))
+  quoted_key_run from w y s c i is want short low shut u =
+      colon_behind from w y s c i is (Tok.scalar (quoted_style single) text) u.parts.tokens want low shut u.told (quoted_keyed from (spell_white (way_white w) y) s c i is want short low u)

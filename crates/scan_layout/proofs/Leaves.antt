@@ -1,11 +1,10 @@
 -- What a fetch does at a scalar that is a value, and two of them at `[]` and `{}`.
-use Rattle.std.proofs.Common.{◌≡◌, ℕ, ◌+◌, ◌≤◌, List, [], ◌∷◌, ◌++◌, Bool, true, false, ◌==◌, if◌then◌else◌, Option, Some, None, Result, Ok, refl, ap, ◌∙◌, arith, ◌⊎◌, inl, inr}
+use Rattle.std.proofs.Common.{◌≡◌, ℕ, ◌+◌, ◌≤◌, List, [], ◌∷◌, ◌++◌, Bool, true, false, ◌==◌, if◌then◌else◌, Option, Some, None, Result, Ok, refl, ap, ◌∙◌, arith, slice_index, ◌⊎◌, inl, inr}
 use Rattle.std.proofs.lemmas.Bool.{lt-ltb}
 use Rattle.yaml_chars.specs.Place.{Place}
 use Rattle.yaml_chars.specs.Class.{is_break, is_blank}
 use Rattle.token_defs.specs.Token.{Tok, Style}
 use Rattle.yaml_tokens.specs.declared.problem.Fault.{Fault}
-use Rattle.tree_defs.specs.Escapes.{double_quoted, written_escapes}
 use Rattle.scalar_model.specs.declared.context.SkipTabs.TheVariants.{Yes}
 use Rattle.scalar_model.specs.Machine.{past_break, is_marker, at_marker}
 use Rattle.scalar_model.specs.Space as scalar_space
@@ -15,7 +14,8 @@ use Rattle.scan_model.specs.Class.{class_of}
 use Rattle.scan_model.specs.Keys.{still, is_required, is_far, save_simple_key}
 use Rattle.scan_model.specs.Indents.{unroll_non_block_indents, without_open}
 use Rattle.scan_model.specs.Space.{skip_spaces}
-use Rattle.scan_model.specs.Document.{may_follow_quoted, check_behind_quoted, fetch_flow_scalar, fetch_plain_scalar}
+use Rattle.scalar_model.specs.Quoted.{quote_of}
+use Rattle.scan_model.specs.Document.{quoted_style, may_follow_quoted, check_behind_quoted, fetch_flow_scalar, fetch_plain_scalar}
 use Rattle.scan_model.specs.Fetch.{fetch_here, token_by, comes_marker}
 use Rattle.scan_layout.proofs.Shapes.{Parts, stands, is_solid, Opens, opened, opened_indent, IsClosed, Trail, next, marker, end, marker_text, trail_text, rest_of, limit_of, IsTrail, Before, After}
 use Rattle.scan_layout.proofs.Whites.{White, line_feed, spell_white, along, along_line, beyond, allowed_beyond, AreWhite, next_token, gap_white, blanks, gap_allows, stays_allowed, line_white, ending_white, leading_beyond}
@@ -23,7 +23,7 @@ use Rattle.scan_layout.proofs.Levels
 use Rattle.scan_layout.proofs.Joins.{fetched, trail_white, trail_is, trail_are_white, gap_col, Lies, Allows, leaf_after, saved, left_open}
 use Rattle.scan_layout.proofs.Plains.{are_plain, closes, IsLeft, plain_line, plain_end}
 use Rattle.scan_layout.proofs.PlainTexts.{IsPlainText, is_first, is_second, at_end, at_break, plain_opens, plain_by, first_space}
-use Rattle.scan_layout.proofs.Quotes.{text_is_read}
+use Rattle.scan_layout.proofs.Quotes.{IsQuoted}
 
 -- ---- levels and keys
 
@@ -183,7 +183,7 @@ plain_after t from w col b i is allowed want trail low text deep shut u =
     let v : Before from (text.head ∷ (text.tail ++ spell_white (trail_white t) (rest_of t))) col (opened_indent b i) (opened b i is) allowed want = rw (text.whole, trail_is t) at u in
     rw (text.whole) (plain_by_trail t from text.head text.tail col b i is allowed want trail low text.first text.second text.chars text.close deep shut v)
 
--- ---- a text in double quotes
+-- ---- a text in quotes
 
 -- a trail begins with its end or a line feed
 pub spaces_stop : (t : Trail) (i : ℕ) (is : List Indent) (p : Parts) → skip_spaces Yes (stands (spell_white (trail_white t) (rest_of t)) i is p) ≡ Ok (stands (spell_white (trail_white t) (rest_of t)) i is p)
@@ -200,25 +200,36 @@ follows (marker g r) same_line = refl
 follows (end []) same_line = refl
 follows (end (l ∷ g)) same_line = refl
 
--- behind a text in double quotes
-abbrev pub quoted_parts : Parts → (w : List ℕ) → Place → Option Key → Bool → Bool → Parts
-quoted_parts p w place key allowed leading = record { place = place; tokens = p.tokens ++ token p.place (Tok.scalar Style.double_quoted w) ∷ []; key = key; allowed = allowed; leading = leading; adjacent = place.index }
+-- behind a text in quotes
+abbrev pub quoted_parts : Bool → Parts → (w : List ℕ) → Place → Option Key → Bool → Bool → Parts
+quoted_parts single p w place key allowed leading = record { place = place; tokens = p.tokens ++ token p.place (Tok.scalar (quoted_style single) w) ∷ []; key = key; allowed = allowed; leading = leading; adjacent = place.index }
 
-quoted_at : (t : Trail) (w : List ℕ) (b : Bool) (i : ℕ) (is : List Indent) (p : Parts) (k : Option Key) → IsTrail t → i ≤ p.place.col
-    → save_simple_key ((stands (double_quoted w ++ spell_white (trail_white t) (rest_of t)) (opened_indent b i) (opened b i is) p).held) ≡ (stands (double_quoted w ++ spell_white (trail_white t) (rest_of t)) (opened_indent b i) (opened b i is) (record p { key = k })).held
-    → fetch_flow_scalar false (stands (double_quoted w ++ spell_white (trail_white t) (rest_of t)) (opened_indent b i) (opened b i is) p)
-    ≡ Ok (stands (rest_of t) (opened_indent b i) (opened b i is) (quoted_parts p w (beyond (trail_white t) (along (double_quoted w) p.place)) k (allowed_beyond (trail_white t) false) (leading_beyond (trail_white t) false)))
-unfolding fetch_flow_scalar check_behind_quoted
-quoted_at t w b i is p k trail deep saves =
-    let at = along (double_quoted w) p.place in
-    let q : Parts = record p { key = k; allowed = false; place = at; leading = false } in
-    rw (
-      saves,
-      text_is_read (opened_indent b i) w (spell_white (trail_white t) (rest_of t)) p.place (low_enough b i p.place.col deep),
-      spaces_stop t (opened_indent b i) (opened b i is) q,
-      follows t (p.place.line == at.line),
-      next_token (opened_indent b i) (opened b i is) (trail_white t) (rest_of t) q (trail_are_white t trail),
-    ) refl
+-- no quote stands behind it
+no_quote : (t : Trail) → (slice_index (spell_white (trail_white t) (rest_of t)) 0 == 39) ≡ false
+no_quote (next g d r) = refl
+no_quote (marker g r) = refl
+no_quote (end []) = refl
+no_quote (end (l ∷ g)) = refl
+
+module _ (single : Bool) (body w : List ℕ) (is_quoted : IsQuoted single body w) where
+  abbrev whole : List ℕ
+  whole = quote_of single ∷ body
+
+  quoted_at : (t : Trail) (b : Bool) (i : ℕ) (is : List Indent) (p : Parts) (k : Option Key) → IsTrail t → i ≤ p.place.col
+      → save_simple_key ((stands (whole ++ spell_white (trail_white t) (rest_of t)) (opened_indent b i) (opened b i is) p).held) ≡ (stands (whole ++ spell_white (trail_white t) (rest_of t)) (opened_indent b i) (opened b i is) (record p { key = k })).held
+      → fetch_flow_scalar single (stands (whole ++ spell_white (trail_white t) (rest_of t)) (opened_indent b i) (opened b i is) p)
+      ≡ Ok (stands (rest_of t) (opened_indent b i) (opened b i is) (quoted_parts single p w (beyond (trail_white t) (along whole p.place)) k (allowed_beyond (trail_white t) false) (leading_beyond (trail_white t) false)))
+  unfolding fetch_flow_scalar check_behind_quoted
+  quoted_at t b i is p k trail deep saves =
+      let at = along whole p.place in
+      let q : Parts = record p { key = k; allowed = false; place = at; leading = false } in
+      rw (
+        saves,
+        is_quoted.reads (opened_indent b i) (spell_white (trail_white t) (rest_of t)) p.place (low_enough b i p.place.col deep) (no_quote t),
+        spaces_stop t (opened_indent b i) (opened b i is) q,
+        follows t (p.place.line == at.line),
+        next_token (opened_indent b i) (opened b i is) (trail_white t) (rest_of t) q (trail_are_white t trail),
+      ) refl
 
 rest_solid : (t : Trail) → IsTrail t → is_solid (rest_of t) ≡ true
 rest_solid (next g d r) h = h.1
@@ -230,31 +241,35 @@ trail_allows (next g d r) = gap_allows g d
 trail_allows (marker g r) = tt
 trail_allows (end g) = tt
 
-pub by_quote : (t : State) → token_by (class_of 34) t ≡ fetch_flow_scalar false t
+pub by_quote : (single : Bool) (t : State) → token_by (class_of (quote_of single)) t ≡ fetch_flow_scalar single t
 unfolding class_of
-by_quote t = refl
+by_quote true t = refl
+by_quote false t = refl
 
-pub quote_opens : (a : List ℕ) → Opens 34 a
+pub quote_opens : (single : Bool) (a : List ℕ) → Opens (quote_of single) a
 unfolding comes_marker
-quote_opens a = record { solid = refl; no_directive = refl; no_start = refl; no_end = refl }
+quote_opens true a = record { solid = refl; no_directive = refl; no_start = refl; no_end = refl }
+quote_opens false a = record { solid = refl; no_directive = refl; no_start = refl; no_end = refl }
 
--- a text in double quotes that is a value
-pub quoted_after : (t : Trail) (from : State) (w : List ℕ) (col : ℕ) (b : Bool) (i : ℕ) (is : List Indent) (allowed : Bool) (want : List Tok → List Tok) → IsTrail t → limit_of t ≤ i → i ≤ col
-    → Before from (double_quoted w ++ trail_text t) col (opened_indent b i) (opened b i is) allowed want → After from t i is (λ o. want (Tok.scalar Style.double_quoted w ∷ o))
-quoted_after t from w col b i is allowed want trail low deep v =
+-- a text in quotes that is a value
+pub quoted_after : (single : Bool) (body w : List ℕ) → IsQuoted single body w → (t : Trail) (from : State) (col : ℕ) (b : Bool) (i : ℕ) (is : List Indent) (allowed : Bool) (want : List Tok → List Tok) → IsTrail t → limit_of t ≤ i → i ≤ col
+    → Before from (quote_of single ∷ (body ++ trail_text t)) col (opened_indent b i) (opened b i is) allowed want → After from t i is (λ o. want (Tok.scalar (quoted_style single) w ∷ o))
+quoted_after single body w is_quoted t from col b i is allowed want trail low deep v =
     let white = spell_white (trail_white t) (rest_of t) in
-    let u : Before from (double_quoted w ++ white) col (opened_indent b i) (opened b i is) allowed want = rw (trail_is t) at v in
+    let x = quote_of single ∷ (body ++ white) in
+    let tok = Tok.scalar (quoted_style single) w in
+    let u : Before from x col (opened_indent b i) (opened b i is) allowed want = rw (trail_is t) at v in
     let p = u.parts in
     let column = u.column in
     let inside : i ≤ p.place.col = omega (arith, deep, column) in
-    let k = saved (double_quoted w ++ white) b i is p inside u.free in
-    let at = along (double_quoted w) p.place in
-    let q = quoted_parts p w (beyond (trail_white t) at) k.key (allowed_beyond (trail_white t) false) (leading_beyond (trail_white t) false) in
-    let e = value_by from 34 ((written_escapes w ++ 34 ∷ []) ++ white) col b i is allowed want u deep (quote_opens ((written_escapes w ++ 34 ∷ []) ++ white)) ∙ by_quote (stands (double_quoted w ++ white) (opened_indent b i) (opened b i is) p) ∙ quoted_at t w b i is p k.key trail inside k.now in
+    let k = saved x b i is p inside u.free in
+    let at = along (quote_of single ∷ body) p.place in
+    let q = quoted_parts single p w (beyond (trail_white t) at) k.key (allowed_beyond (trail_white t) false) (leading_beyond (trail_white t) false) in
+    let e = value_by from (quote_of single) (body ++ white) col b i is allowed want u deep (quote_opens single (body ++ white)) ∙ by_quote single (stands x (opened_indent b i) (opened b i is) p) ∙ quoted_at single body w is_quoted t b i is p k.key trail inside k.now in
     let after : State = stands (rest_of t) (opened_indent b i) (opened b i is) q in
     let aged : State = stands (rest_of t) (opened_indent b i) (opened b i is) (record q { key = still q.place k.key }) in
-    let run = fetched from (double_quoted w ++ white) col (opened_indent b i) (opened b i is) allowed want after aged u e (Levels.aged (rest_of t) (opened_indent b i) (opened b i is) q k.loose) in
-    let lies : Lies (still q.place k.key) at.line = still_lies q.place k.key at.line (rw (along_line (double_quoted w) p.place) k.lies) in
-    left_open t from b i is (λ o. want (Tok.scalar Style.double_quoted w ∷ o)) low
+    let run = fetched from x col (opened_indent b i) (opened b i is) allowed want after aged u e (Levels.aged (rest_of t) (opened_indent b i) (opened b i is) q k.loose) in
+    let lies : Lies (still q.place k.key) at.line = still_lies q.place k.key at.line (rw (along_line (quote_of single ∷ body) p.place) k.lies) in
+    left_open t from b i is (λ o. want (tok ∷ o)) low
     (leaf_after t from [] (opened_indent b i) (opened b i is) (record q { key = still q.place k.key }) at _ run (rest_solid t trail) refl (trail_allows t)
-    (Levels.still_loose q.place k.key k.loose) lies (Levels.last_pushed p.tokens (token p.place (Tok.scalar Style.double_quoted w))) (Levels.push_tells p.tokens p.place (Tok.scalar Style.double_quoted w) want u.told))
+    (Levels.still_loose q.place k.key k.loose) lies (Levels.last_pushed p.tokens (token p.place tok)) (Levels.push_tells p.tokens p.place tok want u.told))

@@ -4,23 +4,18 @@ use Rattle.token_defs.specs.Token.{Tok}
 use Rattle.layout_defs.specs.Gap.{spell_gap, spell_ending}
 use Rattle.layout_defs.specs.Layout
 use Rattle.layout_defs.specs.Layout.{Layout}
-use Rattle.layout_defs.proofs.Widening.{wide_inline, wide_block, wide_value, wide_entries, wide_field, wide_fields, wide_root}
+use Rattle.layout_defs.proofs.Widening.{wide_block, wide_value, wide_entries, wide_field, wide_fields, wide_root}
 use Rattle.layout_defs.proofs.InTurn.{wide_documents, wide_all, wide_text, wide_valid}
 use Rattle.laid_tokens.specs.LayoutTokens.{layout_tokens}
 use Rattle.laid_tokens.specs.WideTokens.{wide_tokens}
 use Rattle.laid_tokens.proofs.Widened as widened
 use Rattle.scan_model.proofs.Runs.{one_list, not_refused}
 use Rattle.scan_json.specs.JsonScan.{toks, HasToks}
-use Rattle.scan_layout.specs.Basic.{IsBasicInline, IsBasicBlock, IsBasicValue, AreBasicEntries, IsBasicField, AreBasicFields, IsBasicRoot, AreBasicDocuments}
+use Rattle.scan_layout.specs.Basic.{IsBasicBlock, IsBasicValue, AreBasicEntries, IsBasicField, AreBasicFields, IsBasicRoot, AreBasicDocuments}
 use Rattle.scan_layout.specs.Laws.{LayoutTextsHaveTheirTokens, LayoutTextsHaveNoOtherTokens, LayoutTextsAreNotRefused}
 use Rattle.scan_layout.proofs.Whole.{basic_texts_have_their_tokens}
 
 -- ---- each layout is basic
-
-inline_is_basic : (i : Layout.Inline) → IsBasicInline (wide_inline i)
-inline_is_basic (Layout.scalar s) = tt
-inline_is_basic Layout.empty_array = tt
-inline_is_basic Layout.empty_hash = tt
 
 mutual
   block_is_basic : (b : Layout.Block) → IsBasicBlock (wide_block b)
@@ -28,7 +23,7 @@ mutual
   block_is_basic (Layout.hash fs) = fields_are_basic fs
 
   value_is_basic : (v : Layout.Value) → IsBasicValue (wide_value v)
-  value_is_basic (Layout.beside more i) = (inline_is_basic i, tt)
+  value_is_basic (Layout.beside more i) = tt
   value_is_basic (Layout.Value.literal more column text ls) = tt
   value_is_basic (Layout.compact more b) = block_is_basic b
   value_is_basic (Layout.below g column b) = (tt, block_is_basic b)
@@ -38,7 +33,7 @@ mutual
   entries_are_basic (Layout.entry v g es) = (value_is_basic v, entries_are_basic es)
 
   field_is_basic : (f : Layout.Field) → IsBasicField (wide_field f)
-  field_is_basic (Layout.implicit k v) = (tt, value_is_basic v)
+  field_is_basic (Layout.implicit k v) = value_is_basic v
   field_is_basic (Layout.explicit k g v) = (value_is_basic k, value_is_basic v)
 
   fields_are_basic : (fs : Layout.Fields) → AreBasicFields (wide_fields fs)
@@ -47,7 +42,7 @@ mutual
 
 root_is_basic : (x : Layout.Root) → IsBasicRoot (wide_root x)
 root_is_basic (Layout.Root.block column b) = block_is_basic b
-root_is_basic (Layout.Root.inline i) = inline_is_basic i
+root_is_basic (Layout.Root.inline i) = tt
 root_is_basic (Layout.Root.literal text ls) = tt
 
 pub documents_are_basic : (vs : List Layout) (w : Layout) → AreBasicDocuments (wide_documents vs w)

@@ -1,27 +1,28 @@
 -- The tokens of values, of arrays and of hashes.
-use Rattle.std.proofs.Common.{◌≡◌, ℕ, ◌+◌, ◌≤◌, List, ◌∷◌, ◌++◌, Bool, true, false, if◌then◌else◌, refl, ap, arith, length, append-nil, codes, subst}
+use Rattle.std.proofs.Common.{◌≡◌, ℕ, ◌+◌, ◌≤◌, List, [], ◌∷◌, ◌++◌, Bool, true, false, if◌then◌else◌, refl, ap, arith, length, append_assoc, append-nil, flat_map, codes, subst}
 use Rattle.std.specs.Prelude.{nat_eq}
 use Rattle.std.specs.List.{ends_with}
 use Rattle.token_defs.specs.Token.{Tok}
 use Rattle.tree_defs.specs.Spelling.{spelling}
-use Rattle.tree_defs.specs.Escapes.{double_quoted}
+use Rattle.tree_defs.specs.Escapes.{double_quoted, written_escapes}
 use Rattle.layout_defs.specs.Gap.{GapLine, IsGap}
 use Rattle.layout_defs.specs.BlockLines.{Line, spell_lines}
 use Rattle.layout_defs.specs.Anchored.{Anchor, begun}
 use Rattle.layout_defs.specs.Json
 use Rattle.layout_defs.specs.Layout.{plain, quoted, spell_literal, AreLinesOf}
-use Rattle.layout_defs.specs.WideLayout.{Scalar, as_before, single_quoted, Inline, scalar, empty_array, empty_hash, no_comment, comment, Block, array, hash, Value, literal, folded, json, compact, at_key, anchored, alias, Entries, last_entry, entry, Field, implicit, explicit, Fields, last_field, field, spell_scalar, spell_inline, folded_header, spell_block, spell_value, spell_entries, spell_field, spell_fields, anchors_behind, anchors_behind_field, IsScalar, IsInline, IsImplicitKey, IsExplicitKey, MayFollowScalarKey, MayFollowMark, IsBlock, IsValue, AreEntries, IsField, AreFields}
+use Rattle.layout_defs.specs.WideLayout.{Scalar, as_before, single_quoted, Inline, scalar, empty_array, empty_hash, no_comment, comment, Block, array, hash, Value, literal, folded, json, compact, at_key, anchored, alias, Entries, last_entry, entry, Field, implicit, explicit, Fields, last_field, field, doubled, spell_scalar, spell_inline, folded_header, spell_block, spell_value, spell_entries, spell_field, spell_fields, anchors_behind, anchors_behind_field, IsScalar, IsInline, IsImplicitKey, IsExplicitKey, MayFollowScalarKey, MayFollowMark, IsBlock, IsValue, AreEntries, IsField, AreFields}
 use Rattle.layout_defs.specs.WideLayout as layout
 use Rattle.laid_tokens.specs.WideTokens.{scalar_token, inline_tokens, block_tokens, value_tokens, entry_tokens, field_tokens, all_field_tokens}
 use Rattle.scan_model.specs.declared.level.Indent.{Indent}
 use Rattle.scan_model.specs.State.{State}
 use Rattle.scan_model.specs.Indents.{level}
-use Rattle.scan_layout.specs.Basic.{IsBasicScalar, IsBasicInline, IsBasicBlock, IsBasicValue, AreBasicEntries, IsBasicField, AreBasicFields}
+use Rattle.scan_layout.specs.Basic.{IsBasicBlock, IsBasicValue, AreBasicEntries, IsBasicField, AreBasicFields}
 use Rattle.scan_layout.proofs.Shapes.{is_solid, opened, opened_indent, IsClosed, Trail, next, trail_text, limit_of, IsTrail, Before, After}
 use Rattle.scan_layout.proofs.Whites.{spell_white, spaces_are, next_line_is, allowed_beyond, gap_allows}
 use Rattle.scan_layout.proofs.Joins.{closed, before_next}
 use Rattle.scan_layout.proofs.Marks.{Way, beside, below, way_white, way_column, IsWay, way_deep, Stand, later, first, indent_at, indents_at, starts, Marked, dash_run, question_run, colon_run}
 use Rattle.scan_layout.proofs.PlainTexts.{IsPlainText, spelt_plain, first_content}
+use Rattle.scan_layout.proofs.Quotes.{double_is, single_is}
 use Rattle.scan_layout.proofs.Leaves.{plain_after, quoted_after}
 use Rattle.scan_layout.proofs.Empties.{empty_after}
 use Rattle.scan_layout.proofs.Keys.{Taken, plain_key_run, quoted_key_run, valued, at_entry}
@@ -53,7 +54,7 @@ body_of c (alias more name t) r = 42 ∷ (name ++ r)
 
 value_text : (c : ℕ) (v : Value) (r : List ℕ) → IsBasicValue v → spell_value c v r ≡ spell_white (way_white (way_of c v)) (body_of c v r)
 value_text c (layout.beside more v no_comment) r h = ap (λ a. 32 ∷ a) (spaces_are more (spell_inline v r))
-value_text c (layout.beside more v (comment m text)) r h = absurd (h.1)
+value_text c (layout.beside more v (comment m text)) r h = absurd h
 value_text c (literal more column text ls) r h = ap (λ a. 32 ∷ a) (spaces_are more (spell_literal column text ls r))
 value_text c (folded more column strips text ls) r h = absurd h
 value_text c (json more v) r h = absurd h
@@ -154,16 +155,17 @@ RunsFields c fs = Runs c (spell_fields c fs) Tok.block_mapping_start (all_field_
 
 -- ---- values
 
-pub inline_after : (v : Inline) (t : Trail) (from : State) (col : ℕ) (b : Bool) (i : ℕ) (is : List Indent) (allowed : Bool) (want : List Tok → List Tok) → IsInline v → IsBasicInline v → IsTrail t → limit_of t ≤ i → i ≤ col → IsClosed i is
+pub inline_after : (v : Inline) (t : Trail) (from : State) (col : ℕ) (b : Bool) (i : ℕ) (is : List Indent) (allowed : Bool) (want : List Tok → List Tok) → IsInline v → IsTrail t → limit_of t ≤ i → i ≤ col → IsClosed i is
     → Before from (spell_inline v (trail_text t)) col (opened_indent b i) (opened b i is) allowed want → After from t i is (λ o. want (inline_tokens v o))
-inline_after (scalar (as_before (plain s))) t from col b i is allowed want h e trail low deep shut u = plain_after t from (spelling s) col b i is allowed want trail low (spelt_plain s h) deep shut u
-inline_after (scalar (as_before (quoted text))) t from col b i is allowed want h e trail low deep shut u = quoted_after t from text col b i is allowed want trail low deep u
-inline_after (scalar (single_quoted text)) t from col b i is allowed want h e trail low deep shut u = absurd e
-inline_after empty_array t from col b i is allowed want h e trail low deep shut u = empty_after false t from col b i is allowed want trail low deep shut u
-inline_after empty_hash t from col b i is allowed want h e trail low deep shut u = empty_after true t from col b i is allowed want trail low deep shut u
+inline_after (scalar (as_before (plain s))) t from col b i is allowed want h trail low deep shut u = plain_after t from (spelling s) col b i is allowed want trail low (spelt_plain s h) deep shut u
+inline_after (scalar (as_before (quoted text))) t from col b i is allowed want h trail low deep shut u = quoted_after false (written_escapes text ++ 34 ∷ []) text (double_is text) t from col b i is allowed want trail low deep u
+inline_after (scalar (single_quoted text)) t from col b i is allowed want h trail low deep shut u =
+    quoted_after true (flat_map doubled text ++ 39 ∷ []) text (single_is text h) t from col b i is allowed want trail low deep (rw (← append_assoc (flat_map doubled text) (39 ∷ []) (trail_text t)) at u)
+inline_after empty_array t from col b i is allowed want h trail low deep shut u = empty_after false t from col b i is allowed want trail low deep shut u
+inline_after empty_hash t from col b i is allowed want h trail low deep shut u = empty_after true t from col b i is allowed want trail low deep shut u
 
-beside_runs : (c more : ℕ) (v : Inline) (behind : layout.Comment) → IsInline v → IsBasicInline v → RunsValue c (layout.beside more v behind)
-beside_runs c more v behind h e from t m i is allowed want trail low deep fits u = inline_after v t from (m + 2 + more) u.is_open (c + 1) (level i true ∷ is) allowed want h e trail low deep refl u.before
+beside_runs : (c more : ℕ) (v : Inline) (behind : layout.Comment) → IsInline v → RunsValue c (layout.beside more v behind)
+beside_runs c more v behind h from t m i is allowed want trail low deep fits u = inline_after v t from (m + 2 + more) u.is_open (c + 1) (level i true ∷ is) allowed want h trail low deep refl u.before
 
 literal_runs : (c more column : ℕ) (a : List Anchor) (text : List ℕ) (ls : List Line) → IsValue c a (literal more column text ls) → RunsValue c (literal more column text ls)
 literal_runs c more column a text ls h from t m i is allowed want trail low deep fits u =
@@ -222,30 +224,31 @@ entry_runs c v g es gap one more from t s i is want trail low deep shut u =
 -- ---- entries of hashes
 
 -- a scalar key and its `:`
-key_taken : (c : ℕ) (k : Scalar) (w : Way) (y : List ℕ) (from : State) (s : Stand) (i : ℕ) (is : List Indent) (want : List Tok → List Tok) → IsImplicitKey k → IsBasicScalar k → i ≤ c → IsClosed i is
+key_taken : (c : ℕ) (k : Scalar) (w : Way) (y : List ℕ) (from : State) (s : Stand) (i : ℕ) (is : List Indent) (want : List Tok → List Tok) → IsImplicitKey k → i ≤ c → IsClosed i is
     → Before from (spell_scalar k (58 ∷ spell_white (way_white w) y)) c (indent_at s c i) (indents_at s i is) true want
     → Taken from (spell_white (way_white w) y) c i is (λ o. want (starts s Tok.block_mapping_start (Tok.key ∷ scalar_token k ∷ Tok.value ∷ o)))
-key_taken c (as_before (plain k)) w y from s i is want key e deep shut u =
+key_taken c (as_before (plain k)) w y from s i is want key deep shut u =
     let short : length (spelling k) ≤ 1024 = rw (append-nil (spelling k)) at key.1 in
     plain_key_run from (spelling k) w y s c i is want (spelt_plain k key.0) short deep shut u
-key_taken c (as_before (quoted text)) w y from s i is want key e deep shut u =
+key_taken c (as_before (quoted text)) w y from s i is want key deep shut u =
     let short : length (double_quoted text) ≤ 1024 = subst (λ l. length l ≤ 1024) (append-nil (double_quoted text)) key.1 in
-    quoted_key_run from text w y s c i is want short deep shut u
-key_taken c (single_quoted text) w y from s i is want key e deep shut u = absurd e
+    quoted_key_run false (written_escapes text ++ 34 ∷ []) text (double_is text) from w y s c i is want short deep shut u
+key_taken c (single_quoted text) w y from s i is want key deep shut u =
+    quoted_key_run true (flat_map doubled text ++ 39 ∷ []) text (single_is text key.0) from w y s c i is want key.1 deep shut (rw (← append_assoc (flat_map doubled text) (39 ∷ []) (58 ∷ spell_white (way_white w) y)) at u)
 
 implicit_runs : (c : ℕ) (a : List Anchor) (k : Scalar) (v : Value) → MayFollowMark v → IsField c a (implicit k v) → IsBasicField (implicit k v) → RunsValue c v → RunsField c (implicit k v)
 implicit_runs c a k v may h e one from t s i is want trail low deep shut u =
     let w = way_of c v in
     let y = body_of c v (trail_text t) in
-    let taken = key_taken c k w y from s i is want h.0 e.0 deep shut (rw (value_text c v (trail_text t) e.1) at u) in
-    let z = valued from w y c i is _ (is_way c a v may h.2) (body_solid c a v (trail_text t) h.2 e.1) taken in
+    let taken = key_taken c k w y from s i is want h.0 deep shut (rw (value_text c v (trail_text t) e) at u) in
+    let z = valued from w y c i is _ (is_way c a v may h.2) (body_solid c a v (trail_text t) h.2 e) taken in
     one from t z.at i is _ _ trail low z.deep (fits_colon c z.at v h.1) z.marked
 
 -- the value is an array at the key's column: the entries of the hash's own level
-at_key_runs : (c : ℕ) (a : List Anchor) (k : Scalar) (g : List GapLine) (es : Entries) → IsField c a (implicit k (at_key no_comment g es)) → IsBasicScalar k → RunsEntries c es → RunsField c (implicit k (at_key no_comment g es))
-at_key_runs c a k g es h e all from t s i is want trail low deep shut u =
+at_key_runs : (c : ℕ) (a : List Anchor) (k : Scalar) (g : List GapLine) (es : Entries) → IsField c a (implicit k (at_key no_comment g es)) → RunsEntries c es → RunsField c (implicit k (at_key no_comment g es))
+at_key_runs c a k g es h all from t s i is want trail low deep shut u =
     let y = spell_entries c es (trail_text t) in
-    let taken = key_taken c k (below g c) y from s i is want h.0 e deep shut (rw (next_line_is c g y) at u) in
+    let taken = key_taken c k (below g c) y from s i is want h.0 deep shut (rw (next_line_is c g y) at u) in
     all from t later i is _ trail low deep shut (at_entry from g y c i is _ h.2.1 (entries_solid c es (trail_text t)) taken)
 
 -- a key behind `?` is no array at its mark's column
@@ -297,7 +300,7 @@ mutual
   block_runs c a (hash fs) h e = hash_runs c fs (fields_run c a fs h.0 e)
 
   value_runs : (c : ℕ) (a : List Anchor) (v : Value) → MayFollowMark v → IsValue c a v → IsBasicValue v → RunsValue c v
-  value_runs c a (layout.beside more v behind) may h e = beside_runs c more v behind h.0 e.0
+  value_runs c a (layout.beside more v behind) may h e = beside_runs c more v behind h.0
   value_runs c a (literal more column text ls) may h e = literal_runs c more column a text ls h
   value_runs c a (folded more column strips text ls) may h e = absurd e
   value_runs c a (json more v) may h e = absurd e
@@ -312,16 +315,16 @@ mutual
   entries_run c a (entry v g es) h e = entry_runs c v g es h.2 (last_entry_runs c a v h.0 h.1 e.0 (value_runs c a v h.0 h.1 e.0)) (entries_run c (anchors_behind v a) es h.3 e.1)
 
   field_run : (c : ℕ) (a : List Anchor) (f : Field) → IsField c a f → IsBasicField f → RunsField c f
-  field_run c a (implicit k (at_key no_comment g es)) h e = at_key_runs c a k g es h e.0 (entries_run c a es h.2.2 e.1.1)
-  field_run c a (implicit k (at_key (comment more text) g es)) h e = absurd (e.1.0)
-  field_run c a (implicit k (layout.beside more v behind)) h e = implicit_runs c a k (layout.beside more v behind) tt h e (beside_runs c more v behind h.2.0 e.1.0)
+  field_run c a (implicit k (at_key no_comment g es)) h e = at_key_runs c a k g es h (entries_run c a es h.2.2 e.1)
+  field_run c a (implicit k (at_key (comment more text) g es)) h e = absurd (e.0)
+  field_run c a (implicit k (layout.beside more v behind)) h e = implicit_runs c a k (layout.beside more v behind) tt h e (beside_runs c more v behind h.2.0)
   field_run c a (implicit k (literal more column text ls)) h e = implicit_runs c a k (literal more column text ls) tt h e (literal_runs c more column a text ls h.2)
-  field_run c a (implicit k (folded more column strips text ls)) h e = absurd (e.1)
-  field_run c a (implicit k (json more v)) h e = absurd (e.1)
+  field_run c a (implicit k (folded more column strips text ls)) h e = absurd e
+  field_run c a (implicit k (json more v)) h e = absurd e
   field_run c a (implicit k (compact more b)) h e = absurd (h.1)
-  field_run c a (implicit k (layout.below behind g column b)) h e = implicit_runs c a k (layout.below behind g column b) tt h e (below_runs c behind g column b (block_runs column a b h.2.3 e.1.1))
-  field_run c a (implicit k (anchored more name v)) h e = absurd (e.1)
-  field_run c a (implicit k (alias more name t)) h e = absurd (e.1)
+  field_run c a (implicit k (layout.below behind g column b)) h e = implicit_runs c a k (layout.below behind g column b) tt h e (below_runs c behind g column b (block_runs column a b h.2.3 e.1))
+  field_run c a (implicit k (anchored more name v)) h e = absurd e
+  field_run c a (implicit k (alias more name t)) h e = absurd e
   field_run c a (explicit k g v) h e = explicit_runs c a k g v h e (value_runs c a k (explicit_follows k h.0) h.1 e.0) (value_runs c (anchors_behind k a) v h.3 h.4 e.1)
 
   fields_run : (c : ℕ) (a : List Anchor) (fs : Fields) → AreFields c a fs → AreBasicFields fs → RunsFields c fs

@@ -56,7 +56,7 @@ record Ends (root : Root) (t : Trail) : Type 0 where
 root_runs : (root : Root) (t : Trail) (from : State) (want : List Tok → List Tok) → IsRoot root → IsBasicRoot root → Ends root t
     → Before from (body_of root (trail_text t)) (column_of root) 0 [] true want → After from t 0 [] (λ o. want (root_tokens root o))
 root_runs (block column b) t from want h e ends u = let out = ends.outside in block_runs column [] b h e from t 0 [] false want ends.is_trail (omega (arith, out)) (omega arith) refl u
-root_runs (inline v) t from want h e ends u = let out = ends.outside in inline_after v t from 0 false 0 [] true want h e ends.is_trail (omega (arith, out)) (omega arith) refl u
+root_runs (inline v) t from want h e ends u = let out = ends.outside in inline_after v t from 0 false 0 [] true want h ends.is_trail (omega (arith, out)) (omega arith) refl u
 root_runs (literal text ls) t from want h e ends u = root_literal_after t from text ls want ends.is_trail ends.low h.0 h.1 u
 
 ends_text : (root : Root) (g : List GapLine) → IsBehindRoot root g → Ends root (end g)

@@ -1,17 +1,6 @@
--- The wide layouts whose tokens are proved: those without single quotes, folded blocks, JSON arrays and objects, anchors, aliases, and
--- comments behind what they explain.
-use Rattle.layout_defs.specs.WideLayout.{Scalar, as_before, single_quoted, Inline, scalar, empty_array, empty_hash, Comment, no_comment, comment, Block, array, hash, Value, beside, literal, folded, json, compact, below, at_key, anchored, alias, Entries, last_entry, entry, Field, implicit, explicit, Fields, last_field, field, Root, Document, Documents, last_document, document, WideLayout}
-
--- a scalar that is not in single quotes
-abbrev pub IsBasicScalar : Scalar → Type 0
-IsBasicScalar (as_before s) = Unit {0}
-IsBasicScalar (single_quoted text) = ⊥
-
--- such a scalar, `[]` or `{}`
-abbrev pub IsBasicInline : Inline → Type 0
-IsBasicInline (scalar s) = IsBasicScalar s
-IsBasicInline empty_array = Unit {0}
-IsBasicInline empty_hash = Unit {0}
+-- The wide layouts whose tokens are proved: those without folded blocks, JSON arrays and objects, anchors, aliases, and comments behind
+-- what they explain.
+use Rattle.layout_defs.specs.WideLayout.{Comment, no_comment, comment, Block, array, hash, Value, beside, literal, folded, json, compact, below, at_key, anchored, alias, Entries, last_entry, entry, Field, implicit, explicit, Fields, last_field, field, Root, Document, Documents, last_document, document, WideLayout}
 
 -- no comment
 abbrev pub IsBasicComment : Comment → Type 0
@@ -26,7 +15,7 @@ abbrev mutual
 
   -- neither folded nor JSON, without anchor and no alias
   pub IsBasicValue : Value → Type 0
-  IsBasicValue (beside more i behind) = IsBasicInline i × IsBasicComment behind
+  IsBasicValue (beside more i behind) = IsBasicComment behind
   IsBasicValue (literal more column text ls) = Unit {0}
   IsBasicValue (folded more column strips text ls) = ⊥
   IsBasicValue (json more v) = ⊥
@@ -43,7 +32,7 @@ abbrev mutual
 
   -- key and value are basic
   pub IsBasicField : Field → Type 0
-  IsBasicField (implicit k v) = IsBasicScalar k × IsBasicValue v
+  IsBasicField (implicit k v) = IsBasicValue v
   IsBasicField (explicit k g v) = IsBasicValue k × IsBasicValue v
 
   -- each entry is basic
@@ -54,7 +43,7 @@ abbrev mutual
 -- the root is basic
 abbrev pub IsBasicRoot : Root → Type 0
 IsBasicRoot (Root.block column b) = IsBasicBlock b
-IsBasicRoot (Root.inline i) = IsBasicInline i
+IsBasicRoot (Root.inline i) = Unit {0}
 IsBasicRoot (Root.literal text ls) = Unit {0}
 
 -- each document's root is basic

@@ -3,8 +3,8 @@
 ghost use Rattle.scan_layout.specs.Laws.{LayoutTextsHaveTheirTokens, LayoutTextsHaveNoOtherTokens, LayoutTextsAreNotRefused, LayoutsInTurnHaveTheirTokens, LayoutsInTurnAreNotRefused};
 ghost use Rattle.scan_layout.specs.Laws.{BasicTextsHaveTheirTokens};
 
-/// The model gives the text of a wide layout, of one document or more, its tokens, where it has no single quotes, folded
-/// blocks, JSON values, anchors, aliases and comments behind content.
+/// The model gives the text of a wide layout, of one document or more, its tokens, where it has no folded blocks, JSON
+/// values, anchors, aliases and comments behind content.
 pub fn basic_texts_have_their_tokens()
     ensures { BasicTextsHaveTheirTokens }
 {}
