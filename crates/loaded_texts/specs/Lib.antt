@@ -1,4 +1,5 @@
 pub mod Documents
+pub mod InTurn
 pub mod Laws
 pub mod LoadsAs
 pub mod QuotedTexts
