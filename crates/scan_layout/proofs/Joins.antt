@@ -15,7 +15,8 @@ use Rattle.scan_model.specs.Run.{Reaches, here, there}
 use Rattle.scan_model.proofs.Runs.{reaches_then}
 use Rattle.scan_json.specs.JsonScan.{toks}
 use Rattle.scan_layout.proofs.Shapes.{Parts, stands, opened, opened_indent, ends, left, Trail, next, marker, end, marker_text, trail_text, rest_of, limit_of, IsTrail, IsOld, Tells, Before, Settles, After}
-use Rattle.scan_layout.proofs.Whites.{White, line_feed, spell_white, along, along_line, beyond, passed, allowed_beyond, AreWhite, next_token, blanks, blanks_col, blanks_white, gap_white, ending_white, next_line_is, ending_is, gap_are_white, ending_are_white}
+use Rattle.scan_layout.proofs.Whites.{White, line_feed, spell_white, along, along_line, beyond, passed, allowed_beyond, EndsLine, AreWhite, next_token, blanks, blanks_col, blanks_white, gap_white, ending_white, next_line_is, ending_is, gap_are_white, ending_are_white}
+use Rattle.scan_layout.proofs.Comments.{Stops, at_end, at_feed, blanks_line}
 use Rattle.scan_layout.proofs.Levels
 
 -- ---- from state to state
@@ -60,14 +61,23 @@ trail_are_white (next g d r) h = gap_are_white g (blanks d) r h.0 (blanks_white 
 trail_are_white (marker g r) h = gap_are_white g (blanks 0) (marker_text r) h refl
 trail_are_white (end g) h = ending_are_white g h
 
+-- a trail begins with its end or a line feed
+pub trail_ends_line : (t : Trail) → EndsLine (trail_white t) (rest_of t)
+trail_ends_line (next g d r) = tt
+trail_ends_line (marker g r) = tt
+trail_ends_line (end []) = refl
+trail_ends_line (end (l ∷ g)) = tt
+
+pub trail_stops : (t : Trail) → Stops (spell_white (trail_white t) (rest_of t))
+trail_stops (next g d r) = at_feed
+trail_stops (marker g r) = at_feed
+trail_stops (end []) = at_end
+trail_stops (end (l ∷ g)) = at_feed
+
 pub gap_col : (g : List GapLine) (d : ℕ) (p : Place) → p.col ≡ 0 → (beyond (gap_white g (blanks d)) p).col ≡ d
 gap_col [] d p h = blanks_col d p ∙ omega (arith, h)
 gap_col (empty_line ∷ g) d p h = gap_col g d (past_break p) refl
 gap_col (comment_line text ∷ g) d p h = gap_col g d (past_break (along text (past p))) refl
-
-blanks_line : (n : ℕ) (p : Place) → (beyond (blanks n) p).line ≡ p.line
-blanks_line zero p = refl
-blanks_line (suc n) p = blanks_line n (past p)
 
 gap_line : (g : List GapLine) (d : ℕ) (p : Place) → p.line ≤ (beyond (gap_white g (blanks d)) p).line
 gap_line [] d p = let e = blanks_line d p in omega (arith, e)

@@ -7,6 +7,8 @@ use Rattle.yaml_chars.specs.Place.{Place}
 use Rattle.yaml_chars.specs.Class.{is_break, is_blank}
 use Rattle.token_defs.specs.Token.{Tok, Style, Token}
 use Rattle.layout_defs.specs.Gap.{GapLine, IsGap}
+use Rattle.layout_defs.specs.WideLayout.{Comment, no_comment, comment, IsComment}
+use Rattle.scan_layout.proofs.Comments.{spaced, comment_white, comment_place, comment_are_white, beyond_comment, allowed_comment}
 use Rattle.scalar_model.specs.declared.context.SkipTabs.TheVariants.{Yes}
 use Rattle.scalar_model.specs.Machine.{past, past_break}
 use Rattle.scalar_model.specs.Plain.{plain}
@@ -21,7 +23,7 @@ use Rattle.scan_model.specs.Run.{Reaches, here, there}
 use Rattle.scan_model.proofs.Runs.{reaches_then}
 use Rattle.scan_json.specs.JsonScan.{toks}
 use Rattle.scan_layout.proofs.Shapes.{Parts, stands, is_solid, IsClosed, Tells, Before}
-use Rattle.scan_layout.proofs.Whites.{spell_white, along, along_line, along_more, beyond, allowed_beyond, next_token, blanks, blanks_white, gap_white, gap_are_white, gap_allows}
+use Rattle.scan_layout.proofs.Whites.{line_feed, remark, spell_white, along, along_line, along_more, beyond, allowed_beyond, next_token, blanks, blanks_white, gap_white, gap_are_white, gap_allows}
 use Rattle.scan_layout.proofs.Levels
 use Rattle.scan_layout.proofs.Joins.{fetched, gap_col, before_entry}
 use Rattle.scan_layout.proofs.Marks.{Way, beside, below, way_white, way_column, IsWay, way_are_white, way_ends, Stand, later, first, indent_at, indents_at, starts, started, started_tells, drop_stand, rolled_at, opens, marked, solid_spaces, opens_mark, stand_low, arrived, Marked, marked_before, by_colon, value_space}
@@ -93,7 +95,7 @@ pub record Valued (from : State) (w : Way) (y : List ℕ) (c i : ℕ) (is : List
 
 value_deep : (w : Way) (c m : ℕ) → IsWay c w → c + 1 ≤ m → c + 1 ≤ way_column m w
 value_deep (beside more) c m way h = omega (arith, h)
-value_deep (below g d) c m way h = let k = way.0 in omega (arith, k)
+value_deep (below k g d) c m way h = let low = way.0 in omega (arith, low)
 
 -- The scanner is behind the `:` of a key, whose entries stand at the column c.
 pub record Taken (from : State) (x : List ℕ) (c i : ℕ) (is : List Indent) (want : List Tok → List Tok) : Type 0 where
@@ -119,10 +121,12 @@ valued from w y c i is want way solid z =
     }
 
 -- its value is an array at its column
-pub at_entry : (from : State) (g : List GapLine) (y : List ℕ) (c i : ℕ) (is : List Indent) (want : List Tok → List Tok) → IsGap g → is_solid y ≡ true → Taken from (spell_white (way_white (below g c)) y) c i is want
+pub at_entry : (from : State) (k : Comment) (g : List GapLine) (y : List ℕ) (c i : ℕ) (is : List Indent) (want : List Tok → List Tok) → IsComment k → IsGap g → is_solid y ≡ true → Taken from (spell_white (way_white (below k g c)) y) c i is want
     → Before from y c (c + 1) (level i true ∷ is) true want
-at_entry from g y c i is want gap solid z =
-    before_entry from (way_white (below g c)) c i is y z.parts want z.run (gap_are_white g (blanks c) y gap (blanks_white c y solid)) z.free (gap_col g c (past_break z.parts.place) refl) (gap_allows g c) z.no_property z.told
+at_entry from k g y c i is want line gap solid z =
+    let w = line_feed ∷ gap_white g (blanks c) in
+    before_entry from (comment_white k w) c i is y z.parts want z.run (comment_are_white k w y line tt (gap_are_white g (blanks c) y gap (blanks_white c y solid))) z.free
+    (ap (λ p. p.col) (beyond_comment k w z.parts.place) ∙ gap_col g c (past_break (comment_place k z.parts.place)) refl) (allowed_comment k w z.parts.allowed ∙ gap_allows g c) z.no_property z.told
 
 -- the `:` behind a key
 colon_behind : (from : State) (w : Way) (y : List ℕ) (s : Stand) (c i : ℕ) (is : List Indent) (tok : Tok) (ts : List Token) (want : List Tok → List Tok) → i ≤ c → IsClosed i is → Tells ts want
@@ -184,7 +188,9 @@ colon_key : (i : ℕ) (p : Place) (c : ℕ) (v : List ℕ) (w : Way) (y : List �
     → plain (outside i) (c ∷ (v ++ 58 ∷ spell_white (way_white w) y)) p ≡ Ok (record { rest = 58 ∷ spell_white (way_white w) y; place = along (c ∷ v) p; value = record { text = c ∷ v; leading = false } })
 unfolding is_blank is_break
 colon_key i p c v (beside more) y chars close one deep = let solid = first_space c one in plain_key i p c v 32 (spell_white (blanks more) y) chars (rw solid close) deep solid refl
-colon_key i p c v (below g d) y chars close one deep = let solid = first_space c one in plain_key i p c v 10 (spell_white (gap_white g (blanks d)) y) chars (rw solid close) deep solid refl
+colon_key i p c v (below no_comment g d) y chars close one deep = let solid = first_space c one in plain_key i p c v 10 (spell_white (gap_white g (blanks d)) y) chars (rw solid close) deep solid refl
+colon_key i p c v (below (comment more text) g d) y chars close one deep =
+    let solid = first_space c one in plain_key i p c v 32 (spell_white (spaced more (remark text ∷ line_feed ∷ gap_white g (blanks d))) y) chars (rw solid close) deep solid refl
 
 drop_low : (s : Stand) (c i col : ℕ) → i ≤ c → col ≡ c → indent_at (drop_stand s) c i ≤ col + 1
 drop_low later c i col low e = omega (arith, e)

@@ -1,5 +1,6 @@
 mod Shapes
 mod Whites
+mod Comments
 mod Levels
 mod Joins
 mod Plains

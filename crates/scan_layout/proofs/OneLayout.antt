@@ -26,7 +26,7 @@ mutual
   value_is_basic (Layout.beside more i) = tt
   value_is_basic (Layout.Value.literal more column text ls) = tt
   value_is_basic (Layout.compact more b) = block_is_basic b
-  value_is_basic (Layout.below g column b) = (tt, block_is_basic b)
+  value_is_basic (Layout.below g column b) = block_is_basic b
 
   entries_are_basic : (es : Layout.Entries) → AreBasicEntries (wide_entries es)
   entries_are_basic (Layout.last_entry v) = value_is_basic v

@@ -1,5 +1,5 @@
 -- Plain scalars on one line are read as they stand, up to a colon or over the white space behind them.
-use Rattle.std.proofs.Common.{◌≡◌, ℕ, ◌+◌, ◌≤◌, List, [], ◌∷◌, ◌++◌, Bool, true, false, ◌||◌, ◌&&◌, not, ◌==◌, Result, Ok, refl, ap, ◌∙◌, append_assoc, append-nil, nat_lt, arith, ◌⊎◌, inl, inr}
+use Rattle.std.proofs.Common.{◌≡◌, ℕ, zero, suc, ◌+◌, ◌≤◌, List, [], ◌∷◌, ◌++◌, Bool, true, false, ◌||◌, ◌&&◌, not, ◌==◌, Result, Ok, refl, ap, ◌∙◌, append_assoc, append-nil, nat_lt, arith, ◌⊎◌, inl, inr}
 use Rattle.std.proofs.lemmas.Bool.{le-ltb, ne_eqb, and_parts, eqb-true}
 use Rattle.std.proofs.lemmas.Bool.Decides.{nat_tests}
 use Rattle.yaml_chars.specs.Place.{Place}
@@ -9,7 +9,9 @@ use Rattle.scalar_model.specs.declared.context.Context.{Context}
 use Rattle.scalar_model.specs.Machine.{Read, past, past_break, at_marker}
 use Rattle.scalar_model.specs.Plain.{State, Plain, inside, between, plain, plain_from, can_be_plain, starts, at_dash, at_plain, goes_on, is_shallow}
 use Rattle.scan_layout.proofs.Shapes.{is_content}
-use Rattle.scan_layout.proofs.Whites.{White, space, line_feed, remark, spell_white, along, beyond, AreWhite, content}
+use Rattle.layout_defs.specs.WideLayout.{comment}
+use Rattle.scan_layout.proofs.Whites.{White, space, line_feed, remark, spell_white, along, beyond, AreWhite, blanks, content}
+use Rattle.scan_layout.proofs.Comments.{spaced, comment_white}
 
 -- a character that may stand in a plain scalar of a line
 abbrev pub is_plain_char : ℕ → Bool
@@ -170,6 +172,24 @@ module _ (i : ℕ) (start : Place) where
   plain_line c w g r all close deep solid are low =
       let z = over_white g r (past_break (along (c ∷ w) start)) (c ∷ w) [] are low in
       record { place = z.place; white = z.white; same = z.same; are = z.are; now = begins_scan c w (10 ∷ spell_white g r) all close deep solid ∙ z.now }
+
+  comment_stops : (n : ℕ) (text : List ℕ) (w : List White) (r : List ℕ) (p : Place) (t gap : List ℕ)
+      → scan (spell_white (spaced n (remark text ∷ w)) r) (at true p t gap) ≡ Ok (record { rest = spell_white (remark text ∷ w) r; place = beyond (blanks n) p; value = record { text = t; leading = false } })
+  unfolding is_break is_blank goes_on is_shallow
+  comment_stops zero text w r p t gap = by (nat_lt p.col i) refl
+    where
+      by : (b : Bool) → nat_lt p.col i ≡ b → scan (spell_white (remark text ∷ w) r) (at true p t gap) ≡ Ok (record { rest = spell_white (remark text ∷ w) r; place = p; value = record { text = t; leading = false } })
+      by true h = rw h refl
+      by false h = rw h refl
+  comment_stops (suc n) text w r p t gap = comment_stops n text w r (past p) t (gap ++ 32 ∷ [])
+
+  -- a scalar, and a comment behind it
+  pub plain_comment : (c : ℕ) (v : List ℕ) (more : ℕ) (text : List ℕ) (w : List White) (r : List ℕ) → are_plain v ≡ true → closes (c == 32) v ≡ true → i ≤ start.col + 1 → (c == 32) ≡ false
+      → plain (outside i) (c ∷ (v ++ spell_white (comment_white (comment more text) w) r)) start
+      ≡ Ok (record { rest = spell_white (remark text ∷ w) r; place = beyond (blanks more) (past (along (c ∷ v) start)); value = record { text = c ∷ v; leading = false } })
+  unfolding is_break is_blank
+  plain_comment c v more text w r all close deep solid =
+      begins_scan c v (spell_white (comment_white (comment more text) w) r) all close deep solid ∙ comment_stops more text w r (past (along (c ∷ v) start)) (c ∷ v) (32 ∷ [])
 
   pub plain_end : (c : ℕ) (w : List ℕ) → are_plain w ≡ true → closes (c == 32) w ≡ true → i ≤ start.col + 1 → (c == 32) ≡ false
       → plain (outside i) (c ∷ (w ++ [])) start ≡ Ok (record { rest = []; place = along (c ∷ w) start; value = record { text = c ∷ w; leading = false } })

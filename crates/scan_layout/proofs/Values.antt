@@ -1,16 +1,16 @@
 -- The tokens of values, of arrays and of hashes.
-use Rattle.std.proofs.Common.{◌≡◌, ℕ, ◌+◌, ◌≤◌, List, [], ◌∷◌, ◌++◌, Bool, true, false, if◌then◌else◌, refl, ap, arith, length, append_assoc, append-nil, flat_map, codes, subst}
+use Rattle.std.proofs.Common.{◌≡◌, ℕ, ◌+◌, ◌≤◌, List, [], ◌∷◌, ◌++◌, Bool, true, false, if◌then◌else◌, refl, ap, ◌∙◌, arith, length, append_assoc, append-nil, flat_map, codes, subst}
 use Rattle.std.specs.Prelude.{nat_eq}
 use Rattle.std.specs.List.{ends_with}
 use Rattle.token_defs.specs.Token.{Tok}
 use Rattle.tree_defs.specs.Spelling.{spelling}
 use Rattle.tree_defs.specs.Escapes.{double_quoted, written_escapes}
-use Rattle.layout_defs.specs.Gap.{GapLine, IsGap}
+use Rattle.layout_defs.specs.Gap.{GapLine, next_line, IsGap}
 use Rattle.layout_defs.specs.BlockLines.{Line, spell_lines}
 use Rattle.layout_defs.specs.Anchored.{Anchor, begun}
 use Rattle.layout_defs.specs.Json
 use Rattle.layout_defs.specs.Layout.{plain, quoted, spell_literal, AreLinesOf}
-use Rattle.layout_defs.specs.WideLayout.{Scalar, as_before, single_quoted, Inline, scalar, empty_array, empty_hash, no_comment, comment, Block, array, hash, Value, literal, folded, json, compact, at_key, anchored, alias, Entries, last_entry, entry, Field, implicit, explicit, Fields, last_field, field, doubled, spell_scalar, spell_inline, folded_header, spell_block, spell_value, spell_entries, spell_field, spell_fields, anchors_behind, anchors_behind_field, IsScalar, IsInline, IsImplicitKey, IsExplicitKey, MayFollowScalarKey, MayFollowMark, IsBlock, IsValue, AreEntries, IsField, AreFields}
+use Rattle.layout_defs.specs.WideLayout.{Scalar, as_before, single_quoted, Inline, scalar, empty_array, empty_hash, Comment, Block, array, hash, Value, literal, folded, json, compact, at_key, anchored, alias, Entries, last_entry, entry, Field, implicit, explicit, Fields, last_field, field, doubled, spell_scalar, spell_inline, spell_comment, folded_header, spell_block, spell_value, spell_entries, spell_field, spell_fields, anchors_behind, anchors_behind_field, IsScalar, IsInline, IsComment, IsImplicitKey, IsExplicitKey, MayFollowScalarKey, MayFollowMark, IsBlock, IsValue, AreEntries, IsField, AreFields}
 use Rattle.layout_defs.specs.WideLayout as layout
 use Rattle.laid_tokens.specs.WideTokens.{scalar_token, inline_tokens, block_tokens, value_tokens, entry_tokens, field_tokens, all_field_tokens}
 use Rattle.scan_model.specs.declared.level.Indent.{Indent}
@@ -18,7 +18,8 @@ use Rattle.scan_model.specs.State.{State}
 use Rattle.scan_model.specs.Indents.{level}
 use Rattle.scan_layout.specs.Basic.{IsBasicBlock, IsBasicValue, AreBasicEntries, IsBasicField, AreBasicFields}
 use Rattle.scan_layout.proofs.Shapes.{is_solid, opened, opened_indent, IsClosed, Trail, next, trail_text, limit_of, IsTrail, Before, After}
-use Rattle.scan_layout.proofs.Whites.{spell_white, spaces_are, next_line_is, allowed_beyond, gap_allows}
+use Rattle.scan_layout.proofs.Whites.{line_feed, spell_white, blanks, gap_white, spaces_are, next_line_is, allowed_beyond, gap_allows}
+use Rattle.scan_layout.proofs.Comments.{comment_is, allowed_comment}
 use Rattle.scan_layout.proofs.Joins.{closed, before_next}
 use Rattle.scan_layout.proofs.Marks.{Way, beside, below, way_white, way_column, IsWay, way_deep, Stand, later, first, indent_at, indents_at, starts, Marked, dash_run, question_run, colon_run}
 use Rattle.scan_layout.proofs.PlainTexts.{IsPlainText, spelt_plain, first_content}
@@ -36,13 +37,13 @@ way_of c (literal more column text ls) = beside more
 way_of c (folded more column strips text ls) = beside more
 way_of c (json more v) = beside more
 way_of c (compact more b) = beside more
-way_of c (layout.below behind g column b) = below g column
-way_of c (at_key behind g es) = below g c
+way_of c (layout.below behind g column b) = below behind g column
+way_of c (at_key behind g es) = below behind g c
 way_of c (anchored more name v) = beside more
 way_of c (alias more name t) = beside more
 
 abbrev body_of : (c : ℕ) → Value → List ℕ → List ℕ
-body_of c (layout.beside more v behind) r = spell_inline v r
+body_of c (layout.beside more v behind) r = spell_inline v (spell_comment behind r)
 body_of c (literal more column text ls) r = spell_literal column text ls r
 body_of c (folded more column strips text ls) r = folded_header strips ++ spell_lines column ls r
 body_of c (json more v) r = Json.spell v r
@@ -52,17 +53,17 @@ body_of c (at_key behind g es) r = spell_entries c es r
 body_of c (anchored more name v) r = 38 ∷ (name ++ spell_value c v r)
 body_of c (alias more name t) r = 42 ∷ (name ++ r)
 
+below_text : (k : Comment) (column : ℕ) (g : List GapLine) (r : List ℕ) → spell_comment k (next_line column g r) ≡ spell_white (way_white (below k g column)) r
+below_text k column g r = ap (spell_comment k) (next_line_is column g r) ∙ comment_is k (line_feed ∷ gap_white g (blanks column)) r
+
 value_text : (c : ℕ) (v : Value) (r : List ℕ) → IsBasicValue v → spell_value c v r ≡ spell_white (way_white (way_of c v)) (body_of c v r)
-value_text c (layout.beside more v no_comment) r h = ap (λ a. 32 ∷ a) (spaces_are more (spell_inline v r))
-value_text c (layout.beside more v (comment m text)) r h = absurd h
+value_text c (layout.beside more v behind) r h = ap (λ a. 32 ∷ a) (spaces_are more (spell_inline v (spell_comment behind r)))
 value_text c (literal more column text ls) r h = ap (λ a. 32 ∷ a) (spaces_are more (spell_literal column text ls r))
 value_text c (folded more column strips text ls) r h = absurd h
 value_text c (json more v) r h = absurd h
 value_text c (compact more b) r h = ap (λ a. 32 ∷ a) (spaces_are more (spell_block (c + 2 + more) b r))
-value_text c (layout.below no_comment g column b) r h = next_line_is column g (spell_block column b r)
-value_text c (layout.below (comment m text) g column b) r h = absurd (h.0)
-value_text c (at_key no_comment g es) r h = next_line_is c g (spell_entries c es r)
-value_text c (at_key (comment m text) g es) r h = absurd (h.0)
+value_text c (layout.below behind g column b) r h = below_text behind column g (spell_block column b r)
+value_text c (at_key behind g es) r h = below_text behind c g (spell_entries c es r)
 value_text c (anchored more name v) r h = absurd h
 value_text c (alias more name t) r h = absurd h
 
@@ -72,7 +73,7 @@ is_way c a (literal more column text ls) m h = tt
 is_way c a (folded more column strips text ls) m h = tt
 is_way c a (json more v) m h = tt
 is_way c a (compact more b) m h = tt
-is_way c a (layout.below behind g column b) m h = (h.2, h.1)
+is_way c a (layout.below behind g column b) m h = (h.2, h.0, h.1)
 is_way c a (at_key behind g es) m h = absurd m
 is_way c a (anchored more name v) m h = tt
 is_way c a (alias more name t) m h = tt
@@ -114,7 +115,7 @@ block_solid c a (array es) r h = entries_solid c es r
 block_solid c a (hash fs) r h = fields_solid c a fs r h.0
 
 body_solid : (c : ℕ) (a : List Anchor) (v : Value) (r : List ℕ) → IsValue c a v → IsBasicValue v → is_solid (body_of c v r) ≡ true
-body_solid c a (layout.beside more v behind) r h e = inline_solid v r h.0
+body_solid c a (layout.beside more v behind) r h e = inline_solid v (spell_comment behind r) h.0
 body_solid c a (literal more column text ls) r h e = literal_solid column text ls r
 body_solid c a (folded more column strips text ls) r h e = absurd e
 body_solid c a (json more v) r h e = absurd e
@@ -155,17 +156,17 @@ RunsFields c fs = Runs c (spell_fields c fs) Tok.block_mapping_start (all_field_
 
 -- ---- values
 
-pub inline_after : (v : Inline) (t : Trail) (from : State) (col : ℕ) (b : Bool) (i : ℕ) (is : List Indent) (allowed : Bool) (want : List Tok → List Tok) → IsInline v → IsTrail t → limit_of t ≤ i → i ≤ col → IsClosed i is
-    → Before from (spell_inline v (trail_text t)) col (opened_indent b i) (opened b i is) allowed want → After from t i is (λ o. want (inline_tokens v o))
-inline_after (scalar (as_before (plain s))) t from col b i is allowed want h trail low deep shut u = plain_after t from (spelling s) col b i is allowed want trail low (spelt_plain s h) deep shut u
-inline_after (scalar (as_before (quoted text))) t from col b i is allowed want h trail low deep shut u = quoted_after false (written_escapes text ++ 34 ∷ []) text (double_is text) t from col b i is allowed want trail low deep u
-inline_after (scalar (single_quoted text)) t from col b i is allowed want h trail low deep shut u =
-    quoted_after true (flat_map doubled text ++ 39 ∷ []) text (single_is text h) t from col b i is allowed want trail low deep (rw (← append_assoc (flat_map doubled text) (39 ∷ []) (trail_text t)) at u)
-inline_after empty_array t from col b i is allowed want h trail low deep shut u = empty_after false t from col b i is allowed want trail low deep shut u
-inline_after empty_hash t from col b i is allowed want h trail low deep shut u = empty_after true t from col b i is allowed want trail low deep shut u
+pub inline_after : (v : Inline) (k : Comment) (t : Trail) (from : State) (col : ℕ) (b : Bool) (i : ℕ) (is : List Indent) (allowed : Bool) (want : List Tok → List Tok) → IsInline v → IsComment k → IsTrail t → limit_of t ≤ i → i ≤ col → IsClosed i is
+    → Before from (spell_inline v (spell_comment k (trail_text t))) col (opened_indent b i) (opened b i is) allowed want → After from t i is (λ o. want (inline_tokens v o))
+inline_after (scalar (as_before (plain s))) k t from col b i is allowed want h line trail low deep shut u = plain_after k t from (spelling s) col b i is allowed want line trail low (spelt_plain s h) deep shut u
+inline_after (scalar (as_before (quoted text))) k t from col b i is allowed want h line trail low deep shut u = quoted_after false (written_escapes text ++ 34 ∷ []) text (double_is text) k t from col b i is allowed want line trail low deep u
+inline_after (scalar (single_quoted text)) k t from col b i is allowed want h line trail low deep shut u =
+    quoted_after true (flat_map doubled text ++ 39 ∷ []) text (single_is text h) k t from col b i is allowed want line trail low deep (rw (← append_assoc (flat_map doubled text) (39 ∷ []) (spell_comment k (trail_text t))) at u)
+inline_after empty_array k t from col b i is allowed want h line trail low deep shut u = empty_after false k t from col b i is allowed want line trail low deep shut u
+inline_after empty_hash k t from col b i is allowed want h line trail low deep shut u = empty_after true k t from col b i is allowed want line trail low deep shut u
 
-beside_runs : (c more : ℕ) (v : Inline) (behind : layout.Comment) → IsInline v → RunsValue c (layout.beside more v behind)
-beside_runs c more v behind h from t m i is allowed want trail low deep fits u = inline_after v t from (m + 2 + more) u.is_open (c + 1) (level i true ∷ is) allowed want h trail low deep refl u.before
+beside_runs : (c more : ℕ) (v : Inline) (behind : Comment) → IsInline v → IsComment behind → RunsValue c (layout.beside more v behind)
+beside_runs c more v behind h line from t m i is allowed want trail low deep fits u = inline_after v behind t from (m + 2 + more) u.is_open (c + 1) (level i true ∷ is) allowed want h line trail low deep refl u.before
 
 literal_runs : (c more column : ℕ) (a : List Anchor) (text : List ℕ) (ls : List Line) → IsValue c a (literal more column text ls) → RunsValue c (literal more column text ls)
 literal_runs c more column a text ls h from t m i is allowed want trail low deep fits u =
@@ -177,7 +178,7 @@ compact_runs c more b run from t m i is allowed want trail low deep fits u =
     let v = rw (fits.0) at rw (fits.1) at u.before in
     run from t (c + 1) (level i true ∷ is) u.is_open want trail low (omega arith) refl v
 
-below_runs : (c : ℕ) (behind : layout.Comment) (g : List GapLine) (column : ℕ) (b : Block) → RunsBlock column b → RunsValue c (layout.below behind g column b)
+below_runs : (c : ℕ) (behind : Comment) (g : List GapLine) (column : ℕ) (b : Block) → RunsBlock column b → RunsValue c (layout.below behind g column b)
 below_runs c behind g column b run from t m i is allowed want trail low deep fits u =
     let v = rw fits at u.before in
     run from t (c + 1) (level i true ∷ is) u.is_open want trail low deep refl v
@@ -201,7 +202,7 @@ fits_colon c m (literal more column text ls) h = tt
 fits_colon c m (folded more column strips text ls) h = tt
 fits_colon c m (json more v) h = tt
 fits_colon c m (compact more b) h = absurd h
-fits_colon c m (layout.below behind g column b) h = gap_allows g column
+fits_colon c m (layout.below behind g column b) h = allowed_comment behind (line_feed ∷ gap_white g (blanks column)) false ∙ gap_allows g column
 fits_colon c m (at_key behind g es) h = tt
 fits_colon c m (anchored more name v) h = tt
 fits_colon c m (alias more name t) h = tt
@@ -245,11 +246,11 @@ implicit_runs c a k v may h e one from t s i is want trail low deep shut u =
     one from t z.at i is _ _ trail low z.deep (fits_colon c z.at v h.1) z.marked
 
 -- the value is an array at the key's column: the entries of the hash's own level
-at_key_runs : (c : ℕ) (a : List Anchor) (k : Scalar) (g : List GapLine) (es : Entries) → IsField c a (implicit k (at_key no_comment g es)) → RunsEntries c es → RunsField c (implicit k (at_key no_comment g es))
-at_key_runs c a k g es h all from t s i is want trail low deep shut u =
+at_key_runs : (c : ℕ) (a : List Anchor) (k : Scalar) (behind : Comment) (g : List GapLine) (es : Entries) → IsField c a (implicit k (at_key behind g es)) → RunsEntries c es → RunsField c (implicit k (at_key behind g es))
+at_key_runs c a k behind g es h all from t s i is want trail low deep shut u =
     let y = spell_entries c es (trail_text t) in
-    let taken = key_taken c k (below g c) y from s i is want h.0 deep shut (rw (next_line_is c g y) at u) in
-    all from t later i is _ trail low deep shut (at_entry from g y c i is _ h.2.1 (entries_solid c es (trail_text t)) taken)
+    let taken = key_taken c k (below behind g c) y from s i is want h.0 deep shut (rw (below_text behind c g y) at u) in
+    all from t later i is _ trail low deep shut (at_entry from behind g y c i is _ h.2.0 h.2.1 (entries_solid c es (trail_text t)) taken)
 
 -- a key behind `?` is no array at its mark's column
 explicit_follows : (k : Value) → IsExplicitKey k → MayFollowMark k
@@ -300,12 +301,12 @@ mutual
   block_runs c a (hash fs) h e = hash_runs c fs (fields_run c a fs h.0 e)
 
   value_runs : (c : ℕ) (a : List Anchor) (v : Value) → MayFollowMark v → IsValue c a v → IsBasicValue v → RunsValue c v
-  value_runs c a (layout.beside more v behind) may h e = beside_runs c more v behind h.0
+  value_runs c a (layout.beside more v behind) may h e = beside_runs c more v behind h.0 h.1
   value_runs c a (literal more column text ls) may h e = literal_runs c more column a text ls h
   value_runs c a (folded more column strips text ls) may h e = absurd e
   value_runs c a (json more v) may h e = absurd e
   value_runs c a (compact more b) may h e = compact_runs c more b (block_runs (c + 2 + more) a b h e)
-  value_runs c a (layout.below behind g column b) may h e = below_runs c behind g column b (block_runs column a b h.3 e.1)
+  value_runs c a (layout.below behind g column b) may h e = below_runs c behind g column b (block_runs column a b h.3 e)
   value_runs c a (at_key behind g es) may h e = absurd may
   value_runs c a (anchored more name v) may h e = absurd e
   value_runs c a (alias more name t) may h e = absurd e
@@ -315,14 +316,13 @@ mutual
   entries_run c a (entry v g es) h e = entry_runs c v g es h.2 (last_entry_runs c a v h.0 h.1 e.0 (value_runs c a v h.0 h.1 e.0)) (entries_run c (anchors_behind v a) es h.3 e.1)
 
   field_run : (c : ℕ) (a : List Anchor) (f : Field) → IsField c a f → IsBasicField f → RunsField c f
-  field_run c a (implicit k (at_key no_comment g es)) h e = at_key_runs c a k g es h (entries_run c a es h.2.2 e.1)
-  field_run c a (implicit k (at_key (comment more text) g es)) h e = absurd (e.0)
-  field_run c a (implicit k (layout.beside more v behind)) h e = implicit_runs c a k (layout.beside more v behind) tt h e (beside_runs c more v behind h.2.0)
+  field_run c a (implicit k (at_key behind g es)) h e = at_key_runs c a k behind g es h (entries_run c a es h.2.2 e)
+  field_run c a (implicit k (layout.beside more v behind)) h e = implicit_runs c a k (layout.beside more v behind) tt h e (beside_runs c more v behind h.2.0 h.2.1)
   field_run c a (implicit k (literal more column text ls)) h e = implicit_runs c a k (literal more column text ls) tt h e (literal_runs c more column a text ls h.2)
   field_run c a (implicit k (folded more column strips text ls)) h e = absurd e
   field_run c a (implicit k (json more v)) h e = absurd e
   field_run c a (implicit k (compact more b)) h e = absurd (h.1)
-  field_run c a (implicit k (layout.below behind g column b)) h e = implicit_runs c a k (layout.below behind g column b) tt h e (below_runs c behind g column b (block_runs column a b h.2.3 e.1))
+  field_run c a (implicit k (layout.below behind g column b)) h e = implicit_runs c a k (layout.below behind g column b) tt h e (below_runs c behind g column b (block_runs column a b h.2.3 e))
   field_run c a (implicit k (anchored more name v)) h e = absurd e
   field_run c a (implicit k (alias more name t)) h e = absurd e
   field_run c a (explicit k g v) h e = explicit_runs c a k g v h e (value_runs c a k (explicit_follows k h.0) h.1 e.0) (value_runs c (anchors_behind k a) v h.3 h.4 e.1)

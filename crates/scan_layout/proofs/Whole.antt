@@ -3,7 +3,7 @@ use Rattle.std.proofs.Common.{◌≡◌, ℕ, Bool, List, [], ◌∷◌, true, f
 use Rattle.token_defs.specs.Token.{Tok}
 use Rattle.layout_defs.specs.Gap.{GapLine, spell_gap, spaces, IsGap}
 use Rattle.layout_defs.specs.Layout.{spell_literal}
-use Rattle.layout_defs.specs.WideLayout.{Root, block, inline, literal, Document, Documents, last_document, document, WideLayout, spell, spell_mark, spell_documents, spell_root, spell_inline, spell_block, IsRoot, IsBehindRoot, AreDocuments}
+use Rattle.layout_defs.specs.WideLayout.{no_comment, Root, block, inline, literal, Document, Documents, last_document, document, WideLayout, spell, spell_mark, spell_documents, spell_root, spell_inline, spell_block, IsRoot, IsBehindRoot, AreDocuments}
 use Rattle.laid_tokens.specs.WideTokens.{root_tokens, documents_tokens, marked}
 use Rattle.scalar_model.specs.Machine.{past_break}
 use Rattle.scan_model.specs.State.{State}
@@ -56,7 +56,7 @@ record Ends (root : Root) (t : Trail) : Type 0 where
 root_runs : (root : Root) (t : Trail) (from : State) (want : List Tok → List Tok) → IsRoot root → IsBasicRoot root → Ends root t
     → Before from (body_of root (trail_text t)) (column_of root) 0 [] true want → After from t 0 [] (λ o. want (root_tokens root o))
 root_runs (block column b) t from want h e ends u = let out = ends.outside in block_runs column [] b h e from t 0 [] false want ends.is_trail (omega (arith, out)) (omega arith) refl u
-root_runs (inline v) t from want h e ends u = let out = ends.outside in inline_after v t from 0 false 0 [] true want h ends.is_trail (omega (arith, out)) (omega arith) refl u
+root_runs (inline v) t from want h e ends u = let out = ends.outside in inline_after v no_comment t from 0 false 0 [] true want h tt ends.is_trail (omega (arith, out)) (omega arith) refl u
 root_runs (literal text ls) t from want h e ends u = root_literal_after t from text ls want ends.is_trail ends.low h.0 h.1 u
 
 ends_text : (root : Root) (g : List GapLine) → IsBehindRoot root g → Ends root (end g)

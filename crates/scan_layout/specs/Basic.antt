@@ -1,11 +1,5 @@
--- The wide layouts whose tokens are proved: those without folded blocks, JSON arrays and objects, anchors, aliases, and comments behind
--- what they explain.
-use Rattle.layout_defs.specs.WideLayout.{Comment, no_comment, comment, Block, array, hash, Value, beside, literal, folded, json, compact, below, at_key, anchored, alias, Entries, last_entry, entry, Field, implicit, explicit, Fields, last_field, field, Root, Document, Documents, last_document, document, WideLayout}
-
--- no comment
-abbrev pub IsBasicComment : Comment → Type 0
-IsBasicComment no_comment = Unit {0}
-IsBasicComment (comment more text) = ⊥
+-- The wide layouts whose tokens are proved: those without folded blocks, JSON arrays and objects, anchors and aliases.
+use Rattle.layout_defs.specs.WideLayout.{Block, array, hash, Value, beside, literal, folded, json, compact, below, at_key, anchored, alias, Entries, last_entry, entry, Field, implicit, explicit, Fields, last_field, field, Root, Document, Documents, last_document, document, WideLayout}
 
 abbrev mutual
   -- what stands in it is basic
@@ -15,13 +9,13 @@ abbrev mutual
 
   -- neither folded nor JSON, without anchor and no alias
   pub IsBasicValue : Value → Type 0
-  IsBasicValue (beside more i behind) = IsBasicComment behind
+  IsBasicValue (beside more i behind) = Unit {0}
   IsBasicValue (literal more column text ls) = Unit {0}
   IsBasicValue (folded more column strips text ls) = ⊥
   IsBasicValue (json more v) = ⊥
   IsBasicValue (compact more b) = IsBasicBlock b
-  IsBasicValue (below behind g column b) = IsBasicComment behind × IsBasicBlock b
-  IsBasicValue (at_key behind g es) = IsBasicComment behind × AreBasicEntries es
+  IsBasicValue (below behind g column b) = IsBasicBlock b
+  IsBasicValue (at_key behind g es) = AreBasicEntries es
   IsBasicValue (anchored more name v) = ⊥
   IsBasicValue (alias more name t) = ⊥
 

@@ -4,7 +4,7 @@ ghost use Rattle.scan_layout.specs.Laws.{LayoutTextsHaveTheirTokens, LayoutTexts
 ghost use Rattle.scan_layout.specs.Laws.{BasicTextsHaveTheirTokens};
 
 /// The model gives the text of a wide layout, of one document or more, its tokens, where it has no folded blocks, JSON
-/// values, anchors, aliases and comments behind content.
+/// values, anchors and aliases.
 pub fn basic_texts_have_their_tokens()
     ensures { BasicTextsHaveTheirTokens }
 {}
