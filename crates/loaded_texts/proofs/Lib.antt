@@ -14,3 +14,4 @@ pub mod Spelled
 pub mod StreamEnds
 pub mod Texts
 pub mod QuotedTexts
+pub mod WideTexts

@@ -6,3 +6,4 @@ pub mod QuotedTexts
 pub mod Spelled
 pub mod TextEvents
 pub mod TextReadAs
+pub mod WideTexts

@@ -5,3 +5,4 @@ pub mod documents;
 pub mod in_turn;
 pub mod laws;
 pub mod quoted;
+pub mod wide;
