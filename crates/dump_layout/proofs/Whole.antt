@@ -1,5 +1,10 @@
 -- The text that `dump` writes for a tree is a layout of that tree.
+use Rattle.std.proofs.Common.{refl, [], ◌∷◌}
+use Rattle.std.proofs.lemmas.List.Elements.{All-head, All-tail}
+use Rattle.layout_defs.specs.DumpIsInjective.{CanBeWritten}
 use Rattle.layout_defs.specs.DumpIsLaidOut.{DumpsAreLaidOut}
+use Rattle.layout_defs.specs.DumpsInTurn.{DumpsInTurnAreLaidOut, dump_texts}
+use Rattle.tree_defs.specs.DumpText.{dump_text}
 use Rattle.dump_layout.proofs.DumpLayout.{layout_of}
 use Rattle.dump_layout.proofs.Texts.{layout_of_spelt}
 use Rattle.dump_layout.proofs.Trees.{layout_of_tree}
@@ -9,3 +14,10 @@ use Rattle.dump_layout.proofs.Validity.{layout_of_valid}
 pub dump_is_laid_out : DumpsAreLaidOut
 dump_is_laid_out compact multiline t distinct fits writable =
     (layout_of compact multiline t, layout_of_valid compact multiline t distinct fits writable.has_text, layout_of_spelt compact multiline t, layout_of_tree compact multiline t)
+
+-- The same of several trees, an LF behind each text.
+pub dumps_are_laid_out_in_turn : DumpsInTurnAreLaidOut
+dumps_are_laid_out_in_turn compact multiline [] can = refl
+dumps_are_laid_out_in_turn compact multiline (t ∷ ts) can =
+    let one = All-head CanBeWritten t ts can in
+    (dump_text compact multiline t, dump_texts compact multiline ts, dump_is_laid_out compact multiline t one.0 one.1 one.2, dumps_are_laid_out_in_turn compact multiline ts (All-tail CanBeWritten t ts can), refl)

@@ -1,6 +1,8 @@
+mod Appended
 mod Differ
+pub mod InTurn
 mod JsonRows
 mod LayoutRows
 mod Soundness
 mod WideRows
-mod Widening
+pub mod Widening

@@ -10,35 +10,35 @@ use Rattle.layout_defs.specs.WideLayout.{Inline, Block, Value, Entries, Field, F
 
 -- ---- the wider form
 
-abbrev wide_inline : Layout.Inline → Inline
+abbrev pub wide_inline : Layout.Inline → Inline
 wide_inline (Layout.scalar s) = WideLayout.scalar (WideLayout.as_before s)
 wide_inline Layout.empty_array = WideLayout.empty_array
 wide_inline Layout.empty_hash = WideLayout.empty_hash
 
 abbrev mutual
-  wide_block : Layout.Block → Block
+  pub wide_block : Layout.Block → Block
   wide_block (Layout.array es) = WideLayout.array (wide_entries es)
   wide_block (Layout.hash fs) = WideLayout.hash (wide_fields fs)
 
-  wide_value : Layout.Value → Value
+  pub wide_value : Layout.Value → Value
   wide_value (Layout.beside more i) = WideLayout.beside more (wide_inline i) no_comment
   wide_value (Layout.Value.literal more column text ls) = WideLayout.Value.literal more column text ls
   wide_value (Layout.compact more b) = WideLayout.compact more (wide_block b)
   wide_value (Layout.below g column b) = WideLayout.below no_comment g column (wide_block b)
 
-  wide_entries : Layout.Entries → Entries
+  pub wide_entries : Layout.Entries → Entries
   wide_entries (Layout.last_entry v) = WideLayout.last_entry (wide_value v)
   wide_entries (Layout.entry v g es) = WideLayout.entry (wide_value v) g (wide_entries es)
 
-  wide_field : Layout.Field → Field
+  pub wide_field : Layout.Field → Field
   wide_field (Layout.implicit k v) = WideLayout.implicit (WideLayout.as_before k) (wide_value v)
   wide_field (Layout.explicit k g v) = WideLayout.explicit (wide_value k) g (wide_value v)
 
-  wide_fields : Layout.Fields → Fields
+  pub wide_fields : Layout.Fields → Fields
   wide_fields (Layout.last_field f) = WideLayout.last_field (wide_field f)
   wide_fields (Layout.field f g fs) = WideLayout.field (wide_field f) g (wide_fields fs)
 
-abbrev wide_root : Layout.Root → Root
+abbrev pub wide_root : Layout.Root → Root
 wide_root (Layout.Root.block column b) = WideLayout.Root.block column (wide_block b)
 wide_root (Layout.Root.inline i) = WideLayout.Root.inline (wide_inline i)
 wide_root (Layout.Root.literal text ls) = WideLayout.Root.literal text ls
@@ -81,7 +81,7 @@ mutual
   fields_text c (Layout.last_field f) r = field_text c f r
   fields_text c (Layout.field f g fs) r = field_text c f _ ∙ ap (λ x. Layout.spell_field c f (next_line c g x)) (fields_text c fs r)
 
-root_text : (x : Layout.Root) (r : List ℕ) → WideLayout.spell_root (wide_root x) r ≡ Layout.spell_root x r
+pub root_text : (x : Layout.Root) (r : List ℕ) → WideLayout.spell_root (wide_root x) r ≡ Layout.spell_root x r
 root_text (Layout.Root.block column b) r = ap (spaces column) (block_text column b r)
 root_text (Layout.Root.inline i) r = inline_text i r
 root_text (Layout.Root.literal text ls) r = refl
@@ -116,7 +116,7 @@ mutual
   fields_pairs (Layout.last_field f) = λ i. field_pair f i ∷ []
   fields_pairs (Layout.field f g fs) = λ i. field_pair f i ∷ fields_pairs fs i
 
-root_tree : (x : Layout.Root) → WideLayout.root_tree (wide_root x) ≡ Layout.root_tree x
+pub root_tree : (x : Layout.Root) → WideLayout.root_tree (wide_root x) ≡ Layout.root_tree x
 root_tree (Layout.Root.block column b) = block_tree b
 root_tree (Layout.Root.inline i) = inline_tree i
 root_tree (Layout.Root.literal text ls) = refl
@@ -171,12 +171,12 @@ mutual
   fields_valid c a (Layout.last_field f) h = field_valid c a f h
   fields_valid c a (Layout.field f g fs) h = (field_valid c a f h.0, h.1, fields_valid c _ fs h.2)
 
-root_valid : (x : Layout.Root) → Layout.IsRoot x → WideLayout.IsRoot (wide_root x)
+pub root_valid : (x : Layout.Root) → Layout.IsRoot x → WideLayout.IsRoot (wide_root x)
 root_valid (Layout.Root.block column b) h = block_valid column [] b h
 root_valid (Layout.Root.inline i) h = inline_valid i h
 root_valid (Layout.Root.literal text ls) h = h
 
-behind_root_valid : (x : Layout.Root) (g : List GapLine) → Layout.IsEnding x g → WideLayout.IsBehindRoot (wide_root x) g
+pub behind_root_valid : (x : Layout.Root) (g : List GapLine) → Layout.IsEnding x g → WideLayout.IsBehindRoot (wide_root x) g
 behind_root_valid (Layout.Root.block column b) g h = h
 behind_root_valid (Layout.Root.inline i) g h = h
 behind_root_valid (Layout.Root.literal text ls) g h = h

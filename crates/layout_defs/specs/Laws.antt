@@ -4,6 +4,7 @@ use Rattle.tree_defs.specs.Tree.{Tree}
 use Rattle.layout_defs.specs.Json.{IsJsonText}
 use Rattle.layout_defs.specs.Layout.{IsLaidOut}
 use Rattle.layout_defs.specs.WideLayout.{AreLaidOut}
+use Rattle.layout_defs.specs.InTurn.{AreLaidOutInTurn}
 use Rattle.layout_defs.specs.Sound.{IsSound, AreAllSound}
 
 -- `json_trees_are_sound`
@@ -21,3 +22,7 @@ WidelyLaidOutTreesAreSound = (ts : List Tree) (text : List ℕ) → AreLaidOut t
 -- `layouts_are_wide_layouts`
 abbrev pub LayoutsAreWideLayouts : Type 0
 LayoutsAreWideLayouts = (t : Tree) (text : List ℕ) → IsLaidOut t text → AreLaidOut (t ∷ []) text
+
+-- `layouts_in_turn_are_wide_layouts`, for one tree or more
+abbrev pub LayoutsInTurnAreWideLayouts : Type 0
+LayoutsInTurnAreWideLayouts = (t : Tree) (ts : List Tree) (text : List ℕ) → AreLaidOutInTurn (t ∷ ts) text → AreLaidOut (t ∷ ts) text

@@ -2,7 +2,9 @@ pub mod Anchored
 pub mod BlockLines
 pub mod DumpIsInjective
 pub mod DumpIsLaidOut
+pub mod DumpsInTurn
 pub mod Gap
+pub mod InTurn
 pub mod Json
 pub mod JsonGap
 pub mod JsonNumber

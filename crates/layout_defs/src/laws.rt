@@ -1,6 +1,6 @@
 //! Laws of the relations, each carried by an empty function.
 
-ghost use Rattle.layout_defs.specs.Laws.{JsonTreesAreSound, LaidOutTreesAreSound, WidelyLaidOutTreesAreSound, LayoutsAreWideLayouts};
+ghost use Rattle.layout_defs.specs.Laws.{JsonTreesAreSound, LaidOutTreesAreSound, WidelyLaidOutTreesAreSound, LayoutsAreWideLayouts, LayoutsInTurnAreWideLayouts};
 
 /// The tree of a JSON text has each key of a hash once, integers of 64 bits, no alias and no bad value.
 pub fn json_trees_are_sound()
@@ -20,4 +20,9 @@ pub fn widely_laid_out_trees_are_sound()
 /// What is laid out is laid out in the wider sense too.
 pub fn layouts_are_wide_layouts()
     ensures { LayoutsAreWideLayouts }
+{}
+
+/// So are trees that are laid out one after another, an LF behind each.
+pub fn layouts_in_turn_are_wide_layouts()
+    ensures { LayoutsInTurnAreWideLayouts }
 {}

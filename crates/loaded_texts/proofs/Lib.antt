@@ -1,6 +1,7 @@
 pub mod Answers
 pub mod DocumentTrees
 pub mod Dumps
+pub mod InTurn
 pub mod InsideNode
 pub mod JsonNul
 pub mod LayoutNul
@@ -13,3 +14,4 @@ pub mod Spelled
 pub mod StreamEnds
 pub mod Texts
 pub mod QuotedTexts
+pub mod WideTexts

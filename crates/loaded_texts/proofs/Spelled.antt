@@ -11,7 +11,7 @@ use Rattle.read_json.proofs.Derived.{tokens_are_a_stream}
 use Rattle.read_json.proofs.Reading.{documents_read_as_their_trees}
 use Rattle.laid_tokens.specs.JsonTokens.{json_text_tokens}
 use Rattle.laid_tokens.specs.LayoutTokens.{layout_tokens}
-use Rattle.scan_layout.proofs.Whole.{layout_text_has_its_tokens}
+use Rattle.scan_layout.proofs.OneLayout.{layout_text_has_its_tokens}
 use Rattle.read_layout.proofs.Loaded.{tokens_read_as_their_tree}
 use Rattle.loaded_texts.specs.Laws.{JsonTextsAreReadAsTheirTree, LayoutTextsAreReadAsTheirTree, CharactersAreTheText, StringsAreTheText}
 

@@ -2,5 +2,7 @@
 #![tactic(auto)]
 
 pub mod documents;
+pub mod in_turn;
 pub mod laws;
 pub mod quoted;
+pub mod wide;

@@ -273,10 +273,10 @@ module _ (column : ℕ) where
 
   -- ---- what stands behind the block
 
-  -- the white space keeps left of the lines' column
+  -- the white space keeps left of the lines' column, or a document's marker stands behind it
   abbrev pub Low : List White → List ℕ → ℕ → Type 0
   Low [] [] col = (nat_le column col && nat_lt 0 col) ≡ false
-  Low [] (c ∷ a) col = (col == column) ≡ false
+  Low [] (c ∷ a) col = ((col == column) && not (at_marker col (c ∷ a))) ≡ false
   Low (space ∷ g) r col = (nat_lt col column ≡ true) × Low g r (col + 1)
   Low (line_feed ∷ g) r col = Low g r 0
   Low (remark t ∷ g) r col = (col == column) ≡ false
@@ -292,7 +292,7 @@ module _ (column : ℕ) where
     pub shut : is_open column (spell_white white r) place.col ≡ false
     pub now : scan column a s ≡ Ok (record { rest = spell_white white r; place = place; value = record { text = text; breaks = breaks; broken = true; blank = flag } })
 
-  at_rest : (c : ℕ) (a : List ℕ) (p : Place) (text breaks : List ℕ) (b : Bool) → is_content c ≡ true → (p.col == column) ≡ false
+  at_rest : (c : ℕ) (a : List ℕ) (p : Place) (text breaks : List ℕ) (b : Bool) → is_content c ≡ true → ((p.col == column) && not (at_marker p.col (c ∷ a))) ≡ false
       → scan column (c ∷ a) (before column p text breaks true b) ≡ Ok (record { rest = c ∷ a; place = p; value = record { text = text; breaks = breaks; broken = true; blank = b } })
   unfolding begins
   at_rest c a p text breaks b solid h = let z = white.content c solid in rw (z.space, z.break, h) refl

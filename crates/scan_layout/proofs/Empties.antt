@@ -24,8 +24,10 @@ use Rattle.scan_model.proofs.Runs.{reaches_then}
 use Rattle.scan_layout.proofs.Shapes.{Parts, stands, Opens, opened, opened_indent, IsClosed, Trail, trail_text, rest_of, limit_of, IsTrail, Before, After}
 use Rattle.scan_layout.proofs.Whites.{spell_white}
 use Rattle.scan_layout.proofs.Levels
-use Rattle.scan_layout.proofs.Joins.{fetched, trail_white, trail_is, trail_are_white, Lies, leaf_after, saved, left_open}
-use Rattle.scan_layout.proofs.Leaves.{still_lies, low_enough, value_by, spaces_stop, trail_allows}
+use Rattle.scan_layout.proofs.Joins.{fetched, trail_white, trail_are_white, Lies, leaf_after, saved, left_open}
+use Rattle.layout_defs.specs.WideLayout.{Comment, spell_comment, IsComment}
+use Rattle.scan_layout.proofs.Comments.{comment_white, comment_place, comment_line}
+use Rattle.scan_layout.proofs.Leaves.{still_lies, low_enough, value_by, spaces_stop, trail_allows, behind_is}
 
 -- inside one flow collection that is empty
 abbrev flowing : List ℕ → (i : ℕ) → List Indent → FlowLevel → Parts → State
@@ -119,12 +121,12 @@ unfolding fetch_here fetch_content
 closes_here true a i is p e = closes_by true a i is p (p.place.col == 0) e
 closes_here false a i is p e = closes_by false a i is p (p.place.col == 0) e
 
-closed_at : (h : Bool) (t : Trail) (i : ℕ) (is : List Indent) (p : Parts)
-    → fetch_flow_collection_end (end_of h) (flowing (closing h ∷ spell_white (trail_white t) (rest_of t)) i is (kind_of h) p)
-    ≡ Ok (stands (spell_white (trail_white t) (rest_of t)) i is (record p { place = past p.place; tokens = p.tokens ++ token p.place (end_of h) ∷ []; allowed = false; leading = false }))
+closed_at : (h : Bool) (n : Comment) (t : Trail) (i : ℕ) (is : List Indent) (p : Parts) → IsComment n
+    → fetch_flow_collection_end (end_of h) (flowing (closing h ∷ spell_white (comment_white n (trail_white t)) (rest_of t)) i is (kind_of h) p)
+    ≡ Ok (stands (spell_white (trail_white t) (rest_of t)) i is (record p { place = comment_place n (past p.place); tokens = p.tokens ++ token p.place (end_of h) ∷ []; allowed = false; leading = false }))
 unfolding fetch_flow_collection_end end_flow remove_simple_key end_flow_pair decrease_flow_level pass_indicator adjacent_in_flow
-closed_at true t i is p = rw (spaces_stop t i is (record p { place = past p.place; allowed = false; leading = false })) refl
-closed_at false t i is p = rw (spaces_stop t i is (record p { place = past p.place; allowed = false; leading = false })) refl
+closed_at true n t i is p line = rw (spaces_stop n t i is (record p { place = past p.place; allowed = false; leading = false }) line) refl
+closed_at false n t i is p line = rw (spaces_stop n t i is (record p { place = past p.place; allowed = false; leading = false }) line) refl
 
 flow_next : (h : Bool) (a : List ℕ) (i : ℕ) (is : List Indent) (p : Parts) → nat_lt (p.place.col + 1) i ≡ false
     → fetch (flowing (closing h ∷ a) i is (kind_of h) p) ≡ (fetch_flow_collection_end (end_of h) (flowing (closing h ∷ a) i is (kind_of h) p) >>= try_held stale)
@@ -146,24 +148,25 @@ no_property true p = refl
 no_property false p = refl
 
 -- `[]` or `{}`
-pub empty_after : (h : Bool) (t : Trail) (from : State) (col : ℕ) (b : Bool) (i : ℕ) (is : List Indent) (allowed : Bool) (want : List Tok → List Tok) → IsTrail t → limit_of t ≤ i → i ≤ col → IsClosed i is
-    → Before from (opening h ∷ closing h ∷ trail_text t) col (opened_indent b i) (opened b i is) allowed want → After from t i is (λ o. want (start_of h ∷ end_of h ∷ o))
-empty_after h t from col b i is allowed want trail low deep shut v =
-    let white = spell_white (trail_white t) (rest_of t) in
-    let u : Before from (opening h ∷ closing h ∷ white) col (opened_indent b i) (opened b i is) allowed want = rw (trail_is t) at v in
+pub empty_after : (h : Bool) (n : Comment) (t : Trail) (from : State) (col : ℕ) (b : Bool) (i : ℕ) (is : List Indent) (allowed : Bool) (want : List Tok → List Tok) → IsComment n → IsTrail t → limit_of t ≤ i → i ≤ col → IsClosed i is
+    → Before from (opening h ∷ closing h ∷ spell_comment n (trail_text t)) col (opened_indent b i) (opened b i is) allowed want → After from t i is (λ o. want (start_of h ∷ end_of h ∷ o))
+empty_after h n t from col b i is allowed want line trail low deep shut v =
+    let white = spell_white (comment_white n (trail_white t)) (rest_of t) in
+    let behind = spell_white (trail_white t) (rest_of t) in
+    let u : Before from (opening h ∷ closing h ∷ white) col (opened_indent b i) (opened b i is) allowed want = rw (behind_is n t) at v in
     let p = u.parts in
     let column = u.column in
     let inside : i ≤ p.place.col = omega (arith, deep, column) in
     let k = saved (opening h ∷ closing h ∷ white) b i is p inside u.free in
     let f = filled b is in
     let q : Parts = record p { place = past p.place; key = k.key; tokens = p.tokens ++ token p.place (start_of h) ∷ [] } in
-    let r : Parts = record q { place = past q.place; tokens = q.tokens ++ token q.place (end_of h) ∷ []; allowed = false; leading = false } in
+    let r : Parts = record q { place = comment_place n (past q.place); tokens = q.tokens ++ token q.place (end_of h) ∷ []; allowed = false; leading = false } in
     let e = value_by from (opening h) (closing h ∷ white) col b i is allowed want u deep (opening_opens h (closing h ∷ white)) ∙ by_opening h (stands (opening h ∷ closing h ∷ white) (opened_indent b i) (opened b i is) p) ∙ opened_at h white b i is p k.key shut k.now in
     let inner : State = flowing (closing h ∷ white) (opened_indent f i) (opened f i is) (kind_of h) q in
     let run = fetched from (opening h ∷ closing h ∷ white) col (opened_indent b i) (opened b i is) allowed want inner inner u e (flow_stale (closing h ∷ white) (opened_indent f i) (opened f i is) (kind_of h) q) in
     let off : nat_lt (q.place.col + 1) (opened_indent f i) ≡ false = le-ltb (q.place.col + 1) (opened_indent f i) (low_enough f i q.place.col (omega (arith, inside))) in
-    let g = flow_next h white (opened_indent f i) (opened f i is) q off ∙ rw (closed_at h t (opened_indent f i) (opened f i is) q) (Levels.aged white (opened_indent f i) (opened f i is) r k.loose) in
-    let lies : Lies (still r.place k.key) r.place.line = still_lies r.place k.key r.place.line k.lies in
+    let g = flow_next h white (opened_indent f i) (opened f i is) q off ∙ rw (closed_at h n t (opened_indent f i) (opened f i is) q line) (Levels.aged behind (opened_indent f i) (opened f i is) r k.loose) in
+    let lies : Lies (still r.place k.key) r.place.line = still_lies r.place k.key r.place.line (rw (comment_line n (past q.place)) k.lies) in
     left_open t from f i is _ low
     (leaf_after t from (trail_white t) (opened_indent f i) (opened f i is) (record r { key = still r.place k.key }) r.place _ (reaches_then run (there refl g here)) (trail_are_white t trail) refl (trail_allows t)
     (Levels.still_loose r.place k.key k.loose) lies (Levels.last_pushed q.tokens (token q.place (end_of h)) ∙ no_property h q.place) (Levels.push_tells q.tokens q.place (end_of h) _ (Levels.push_tells p.tokens p.place (start_of h) want u.told)))

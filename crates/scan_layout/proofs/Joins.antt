@@ -1,5 +1,5 @@
 -- How runs of nodes are put together: what stands behind one node, and in front of the next.
-use Rattle.std.proofs.Common.{◌≡◌, ℕ, zero, suc, ◌+◌, ◌<◌, ◌≤◌, List, [], ◌∷◌, Bool, true, false, ◌==◌, nat_lt, Option, Some, None, Ok, refl, ap, ◌∙◌, arith, length}
+use Rattle.std.proofs.Common.{◌≡◌, ℕ, zero, suc, ◌+◌, ◌<◌, ◌≤◌, List, [], ◌∷◌, ◌++◌, Bool, true, false, ◌==◌, nat_lt, Option, Some, None, Ok, refl, ap, ◌∙◌, arith, length}
 use Rattle.std.proofs.lemmas.Bool.{ne_eqb, lt-ltb, le-ltb}
 use Rattle.yaml_chars.specs.Place.{Place}
 use Rattle.token_defs.specs.Token.{Tok}
@@ -13,8 +13,10 @@ use Rattle.scan_model.specs.Block.{last_property}
 use Rattle.scan_model.specs.Fetch.{fetch_here}
 use Rattle.scan_model.specs.Run.{Reaches, here, there}
 use Rattle.scan_model.proofs.Runs.{reaches_then}
-use Rattle.scan_layout.proofs.Shapes.{Parts, stands, opened, opened_indent, ends, left, Trail, next, end, trail_text, rest_of, limit_of, IsTrail, IsOld, Tells, Before, Settles, After}
-use Rattle.scan_layout.proofs.Whites.{White, line_feed, spell_white, along, along_line, beyond, passed, allowed_beyond, AreWhite, next_token, blanks, blanks_col, blanks_white, gap_white, ending_white, next_line_is, ending_is, gap_are_white, ending_are_white}
+use Rattle.scan_json.specs.JsonScan.{toks}
+use Rattle.scan_layout.proofs.Shapes.{Parts, stands, opened, opened_indent, ends, left, Trail, next, marker, end, marker_text, trail_text, rest_of, limit_of, IsTrail, IsOld, Tells, Before, Settles, After}
+use Rattle.scan_layout.proofs.Whites.{White, line_feed, spell_white, along, along_line, beyond, passed, allowed_beyond, EndsLine, AreWhite, next_token, blanks, blanks_col, blanks_white, gap_white, ending_white, next_line_is, ending_is, gap_are_white, ending_are_white}
+use Rattle.scan_layout.proofs.Comments.{Stops, at_end, at_feed, blanks_line}
 use Rattle.scan_layout.proofs.Levels
 
 -- ---- from state to state
@@ -46,24 +48,36 @@ before_white from g y i is q want run white free deep no_property told =
 
 abbrev pub trail_white : Trail → List White
 trail_white (next g d r) = line_feed ∷ gap_white g (blanks d)
+trail_white (marker g r) = line_feed ∷ gap_white g (blanks 0)
 trail_white (end g) = ending_white g
 
 pub trail_is : (t : Trail) → trail_text t ≡ spell_white (trail_white t) (rest_of t)
 trail_is (next g d r) = next_line_is d g r
+trail_is (marker g r) = next_line_is 0 g (marker_text r)
 trail_is (end g) = ending_is g
 
 pub trail_are_white : (t : Trail) → IsTrail t → AreWhite (trail_white t) (rest_of t)
 trail_are_white (next g d r) h = gap_are_white g (blanks d) r h.0 (blanks_white d r h.1)
+trail_are_white (marker g r) h = gap_are_white g (blanks 0) (marker_text r) h refl
 trail_are_white (end g) h = ending_are_white g h
+
+-- a trail begins with its end or a line feed
+pub trail_ends_line : (t : Trail) → EndsLine (trail_white t) (rest_of t)
+trail_ends_line (next g d r) = tt
+trail_ends_line (marker g r) = tt
+trail_ends_line (end []) = refl
+trail_ends_line (end (l ∷ g)) = tt
+
+pub trail_stops : (t : Trail) → Stops (spell_white (trail_white t) (rest_of t))
+trail_stops (next g d r) = at_feed
+trail_stops (marker g r) = at_feed
+trail_stops (end []) = at_end
+trail_stops (end (l ∷ g)) = at_feed
 
 pub gap_col : (g : List GapLine) (d : ℕ) (p : Place) → p.col ≡ 0 → (beyond (gap_white g (blanks d)) p).col ≡ d
 gap_col [] d p h = blanks_col d p ∙ omega (arith, h)
 gap_col (empty_line ∷ g) d p h = gap_col g d (past_break p) refl
 gap_col (comment_line text ∷ g) d p h = gap_col g d (past_break (along text (past p))) refl
-
-blanks_line : (n : ℕ) (p : Place) → (beyond (blanks n) p).line ≡ p.line
-blanks_line zero p = refl
-blanks_line (suc n) p = blanks_line n (past p)
 
 gap_line : (g : List GapLine) (d : ℕ) (p : Place) → p.line ≤ (beyond (gap_white g (blanks d)) p).line
 gap_line [] d p = let e = blanks_line d p in omega (arith, e)
@@ -80,6 +94,7 @@ Lies (Some k) line = k.place.line ≤ line
 -- where a next line comes, a key may begin there
 abbrev pub Allows : Trail → Bool → Type 0
 Allows (next g d r) b = b ≡ true
+Allows (marker g r) b = Unit {0}
 Allows (end g) b = Unit {0}
 
 old : (k : Option Key) (line : ℕ) (p : Place) → is_required k ≡ false → Lies k line → line < p.line → IsOld k p
@@ -92,6 +107,7 @@ settled (next g d r) p e place allows loose lies =
     let later = gap_line g d (past_break e) in
     let same : p.place.line ≡ (beyond (gap_white g (blanks d)) (past_break e)).line = ap (λ x. x.line) place in
     (ap (λ x. x.col) place ∙ gap_col g d (past_break e) refl, allows, old p.key e.line p.place loose lies (omega (arith, later, same)))
+settled (marker g r) p e place allows loose lies = (ap (λ x. x.col) place ∙ gap_col g 0 (past_break e) refl, loose)
 settled (end g) p e place allows loose lies = loose
 
 -- The scanner is behind a leaf that ends at e, or within the white space behind it.
@@ -183,7 +199,7 @@ next_levels : (from : State) (g : List GapLine) (c i : ℕ) (is : List Indent) (
     → left (c + 1) u.indent u.indents ≡ record { indent = c + 1; indents = level i true ∷ is }
 next_levels from g c i is r want u = u.same ∙ rw (le-ltb (c + 1) (c + 1) (omega arith)) refl
 
-unrolls_to : (limit : ℕ) (x : List ℕ) (j : ℕ) (js : List Indent) (p : Parts) (i : ℕ) (is : List Indent) → left limit j js ≡ record { indent = i; indents = is }
+pub unrolls_to : (limit : ℕ) (x : List ℕ) (j : ℕ) (js : List Indent) (p : Parts) (i : ℕ) (is : List Indent) → left limit j js ≡ record { indent = i; indents = is }
     → unroll_indent limit (stands x j js p).held ≡ (stands x i is (record p { tokens = (Levels.unroll limit p.place j js p.tokens).tokens })).held
 unrolls_to limit x j js p i is e =
     Levels.unrolls limit x j js p ∙ ap (λ l. (stands x l.indent l.indents (record p { tokens = (Levels.unroll limit p.place j js p.tokens).tokens })).held) e
@@ -213,4 +229,29 @@ before_next from g c i is r want u =
       allows = u.settles.1;
       no_property = z.no_property u.no_property;
       told = λ o. z.told o ∙ u.told o ∙ ap want (no_ends c i is o);
+    }
+
+-- The first entry of an array at the column of the key that it is the value of: the level behind the key's `:` ends.
+pub before_entry : (from : State) (g : List White) (c i : ℕ) (is : List Indent) (y : List ℕ) (q : Parts) (want : List Tok → List Tok) → Reaches from (stands (spell_white g y) (c + 1 + 1) (level (c + 1) false ∷ level i true ∷ is) q) → AreWhite g y
+    → q.key ≡ None → (beyond g q.place).col ≡ c → allowed_beyond g q.allowed ≡ true → last_property q.tokens ≡ None → Tells q.tokens want → Before from y c (c + 1) (level i true ∷ is) true want
+before_entry from g c i is y q want run white free column allows no_property told =
+    let js = level i true ∷ is in
+    let ks = level (c + 1) false ∷ js in
+    let p = passed g q in
+    let h : left (c + 1) (c + 1 + 1) ks ≡ record { indent = c + 1; indents = js } = rw (lt-ltb (c + 1) (c + 1 + 1) (omega arith), le-ltb (c + 1) (c + 1) (omega arith)) refl in
+    let none : (o : List Tok) → ends (c + 1) (c + 1 + 1) ks o ≡ o = λ o. rw (lt-ltb (c + 1) (c + 1 + 1) (omega arith), le-ltb (c + 1) (c + 1) (omega arith)) refl in
+    let z = Levels.unroll (c + 1) p.place (c + 1 + 1) ks p.tokens in
+    let r = record p { tokens = z.tokens } in
+    let unrolls : unroll_indent (p.place.col + 1) (stands y (c + 1 + 1) ks p).held ≡ (stands y (c + 1) js r).held = ap (λ n. unroll_indent (n + 1) (stands y (c + 1 + 1) ks p).held) column ∙ unrolls_to (c + 1) y (c + 1 + 1) ks p (c + 1) js h in
+    record {
+      state = stands (spell_white g y) (c + 1 + 1) ks q;
+      run = run;
+      going = refl;
+      parts = r;
+      fetches = Levels.arrives (spell_white g y) y (c + 1 + 1) (c + 1) ks js q p p r (next_token (c + 1 + 1) ks g y q white) (Levels.not_stale y (c + 1 + 1) ks p free) unrolls;
+      column = column;
+      free = free;
+      allows = allows;
+      no_property = z.no_property no_property;
+      told = λ o. z.told o ∙ ap (λ e. toks q.tokens ++ e) (none o) ∙ told o;
     }

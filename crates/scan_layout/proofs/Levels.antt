@@ -101,6 +101,25 @@ pub ends_twice : (limit i : ℕ) (is : List Indent) (o : List Tok) → ends limi
 ends_twice limit i [] o = refl
 ends_twice limit i (d ∷ ds) o = left_by (nat_lt limit i) limit i d ds o refl (deeper limit i) (ends_twice limit d.indent ds o)
 
+twice_by : (b : Bool) (limit i : ℕ) (d : Indent) (ds : List Indent) → nat_lt limit i ≡ b → (nat_lt limit i ≡ true → nat_lt 0 i ≡ true)
+    → left 0 (left limit d.indent ds).indent (left limit d.indent ds).indents ≡ left 0 d.indent ds
+    → left 0 (left limit i (d ∷ ds)).indent (left limit i (d ∷ ds)).indents ≡ left 0 i (d ∷ ds)
+twice_by true limit i d ds h deep e = rw (h, deep h) e
+twice_by false limit i d ds h deep e = rw h refl
+
+-- and the levels that they leave are the same
+pub left_twice : (limit i : ℕ) (is : List Indent) → left 0 (left limit i is).indent (left limit i is).indents ≡ left 0 i is
+left_twice limit i [] = refl
+left_twice limit i (d ∷ ds) = twice_by (nat_lt limit i) limit i d ds refl (deeper limit i) (left_twice limit d.indent ds)
+
+-- unrolled in two steps, at two places, the tokens end as in one
+pub unrolls_twice : (limit i : ℕ) (is : List Indent) (p q : Place) (ts : List Token) (want : List Tok → List Tok) → ((o : List Tok) → toks ts ++ ends 0 i is o ≡ want o)
+    → Tells (unroll 0 q (left limit i is).indent (left limit i is).indents (unroll limit p i is ts).tokens).tokens want
+unrolls_twice limit i is p q ts want told =
+    let l = left limit i is in
+    let y = unroll limit p i is ts in
+    λ o. (unroll 0 q l.indent l.indents y.tokens).told o ∙ y.told (ends 0 l.indent l.indents o) ∙ ap (λ e. toks ts ++ e) (ends_twice limit i is o) ∙ told o
+
 -- ---- stale keys
 
 pub not_stale : (x : List ℕ) (i : ℕ) (is : List Indent) (p : Parts) → p.key ≡ None → try_held stale (stands x i is p) ≡ Ok (stands x i is p)

@@ -1,11 +1,12 @@
 mod Shapes
 mod Whites
+mod Comments
 mod Levels
 mod Joins
 mod Plains
 mod PlainTexts
 mod Quotes
-mod Documents
+pub mod Documents
 mod Marks
 mod Leaves
 mod Empties
@@ -15,5 +16,7 @@ mod LiteralTexts
 mod Literals
 mod Values
 pub mod Whole
+pub mod OneLayout
+pub mod InTurn
 mod Rows
 mod RowsRefused

@@ -23,11 +23,11 @@ use Rattle.scan_model.specs.Class.{class_of}
 use Rattle.scan_model.specs.Keys.{still, save_simple_key}
 use Rattle.scan_model.specs.Document.{fetch_block_scalar}
 use Rattle.scan_model.specs.Fetch.{token_by, comes_marker}
-use Rattle.scan_layout.proofs.Shapes.{Parts, stands, is_solid, Opens, opened, opened_indent, IsClosed, Trail, next, end, trail_text, rest_of, limit_of, IsTrail, Before, After}
+use Rattle.scan_layout.proofs.Shapes.{Parts, stands, is_solid, Opens, opened, opened_indent, IsClosed, Trail, next, marker, end, marker_text, trail_text, rest_of, limit_of, IsTrail, Before, After}
 use Rattle.scan_layout.proofs.Whites.{White, line_feed, spell_white, beyond, AreWhite, stays_allowed, allowed_beyond, blanks, gap_white, line_white, ending_white}
 use Rattle.scan_layout.proofs.Levels
 use Rattle.scan_layout.proofs.Joins.{fetched, trail_white, trail_is, trail_are_white, Lies, Allows, leaf_after, saved}
-use Rattle.scan_layout.proofs.Leaves.{non_block, still_lies, value_by}
+use Rattle.scan_layout.proofs.Leaves.{non_block, still_lies, value_by, marker_stands}
 use Rattle.scan_layout.proofs.BlockLines.{Good, AllGood, EndsFull, behind, none, feed, FirstSolid, Found, first_line, full_lines, line_feeds, before, Low, stops, chomping_of, header_text, header_place, header_read}
 use Rattle.scan_layout.proofs.LiteralTexts.{are_inner, inner_lines, ends_full, last_full, ends_lines, solid_lines, AreFree, good_lines, deep_tab, margin_tab, make_text}
 
@@ -176,6 +176,7 @@ lies_later (Some k) m n h e = omega (arith, h, e)
 
 literal_allows : (t : Trail) (g : List White) → Allows t (allowed_beyond g true)
 literal_allows (next h d r) g = stays_allowed g
+literal_allows (marker h r) g = tt
 literal_allows (end h) g = tt
 
 block_done : (t : Trail) (from : State) (a : List ℕ) (text : List ℕ) (col : ℕ) (b : Bool) (i : ℕ) (is : List Indent) (allowed : Bool) (want : List Tok → List Tok) → i ≤ col → IsClosed i is
@@ -195,8 +196,9 @@ block_done t from a text col b i is allowed want deep shut u z =
     (Levels.still_loose z.place k.key k.loose) lies (Levels.last_pushed p.tokens (token z.start (Tok.scalar Style.literal text))) (Levels.push_tells p.tokens z.start (Tok.scalar Style.literal text) want u.told)
 
 -- the trail keeps left of the lines' column
-abbrev LowTrail : ℕ → Trail → Type 0
+abbrev pub LowTrail : ℕ → Trail → Type 0
 LowTrail column (next g d r) = Low column (gap_white g (blanks d)) r 0
+LowTrail column (marker g r) = Low column (gap_white g (blanks 0)) (marker_text r) 0
 LowTrail column (end []) = Unit {0}
 LowTrail column (end (l ∷ g)) = Low column (line_white l (ending_white g)) [] 0
 
@@ -205,6 +207,8 @@ block_after : (t : Trail) (from : State) (clips : Bool) (column : ℕ) (l : Line
     → Before from (block_text clips column l ls (spell_white (trail_white t) (rest_of t))) col (opened_indent b i) (opened b i is) allowed want → After from t i is (λ o. want (Tok.scalar Style.literal text ∷ o))
 block_after (next g d r) from clips column l ls text col b i is allowed want trail deep shut z low u =
     block_done (next g d r) from _ text col b i is allowed want deep shut u (block_lines clips i column l ls text (gap_white g (blanks d)) r u.parts.place z (trail_are_white (next g d r) trail) low)
+block_after (marker g r) from clips column l ls text col b i is allowed want trail deep shut z low u =
+    block_done (marker g r) from _ text col b i is allowed want deep shut u (block_lines clips i column l ls text (gap_white g (blanks 0)) (marker_text r) u.parts.place z (trail_are_white (marker g r) trail) low)
 block_after (end []) from clips column l ls text col b i is allowed want trail deep shut z low u =
     block_done (end []) from _ text col b i is allowed want deep shut u (block_ends clips i column l ls text u.parts.place z)
 block_after (end (h ∷ g)) from clips column l ls text col b i is allowed want trail deep shut z low u =
@@ -217,7 +221,7 @@ not_reached column col h = grind (arith, nat_tests)
 
 blanks_low : (column n : ℕ) (r : List ℕ) (col : ℕ) → is_solid r ≡ true → col + n < column → Low column (blanks n) r col
 blanks_low column zero [] col solid h = rw (not_reached column col (omega (arith, h))) refl
-blanks_low column zero (c ∷ a) col solid h = ne_eqb col column (λ e. omega (arith, h, e))
+blanks_low column zero (c ∷ a) col solid h = rw (ne_eqb col column (λ e. omega (arith, h, e))) refl
 blanks_low column (suc n) r col solid h = (lt-ltb col column (omega (arith, h)), blanks_low column n r (col + 1) solid (omega (arith, h)))
 
 gap_low : (column : ℕ) (g : List GapLine) (d : ℕ) (r : List ℕ) → is_solid r ≡ true → d < column → Low column (gap_white g (blanks d)) r 0
@@ -232,6 +236,7 @@ ending_low column (comment_line text ∷ g) h = ne_eqb 0 column (λ e. omega (ar
 
 trail_low : (column : ℕ) (t : Trail) → IsTrail t → limit_of t ≤ column → 0 < column → LowTrail column t
 trail_low column (next g d r) trail low some = gap_low column g d r trail.1 (omega (arith, low))
+trail_low column (marker g r) trail low some = gap_low column g 0 (marker_text r) refl some
 trail_low column (end []) trail low some = tt
 trail_low column (end (empty_line ∷ g)) trail low some = ending_low column g some
 trail_low column (end (comment_line text ∷ g)) trail low some = ne_eqb 0 column (λ e. omega (arith, some, e))
@@ -312,7 +317,7 @@ literal_after t from text column (l ∷ ls) col b i is allowed want trail low de
 
 -- ---- a literal block at the root
 
-empty_gap : (g : List GapLine) → AreEmptyLines g → IsGap g
+pub empty_gap : (g : List GapLine) → AreEmptyLines g → IsGap g
 empty_gap [] h = tt
 empty_gap (empty_line ∷ g) h = (tt, empty_gap g h.1)
 empty_gap (comment_line text ∷ g) h = absurd (h.0)
@@ -322,10 +327,15 @@ empty_low [] h = refl
 empty_low (empty_line ∷ g) h = empty_low g h.1
 empty_low (comment_line text ∷ g) h = absurd (h.0)
 
-root_low : (g : List GapLine) → AreEmptyLines g → LowTrail 0 (end g)
+pub root_low : (g : List GapLine) → AreEmptyLines g → LowTrail 0 (end g)
 root_low [] h = tt
 root_low (empty_line ∷ g) h = empty_low g h.1
 root_low (comment_line text ∷ g) h = absurd (h.0)
+
+pub root_low_before_marker : (g : List GapLine) (r : List ℕ) → AreEmptyLines g → LowTrail 0 (marker g r)
+root_low_before_marker [] r h = rw (marker_stands r) refl
+root_low_before_marker (empty_line ∷ g) r h = root_low_before_marker g r h.1
+root_low_before_marker (comment_line text ∷ g) r h = absurd (h.0)
 
 -- what a text at the root meets besides
 record RootText (text : List ℕ) : Type 0 where
@@ -340,15 +350,15 @@ root_text text h =
     let r = and_parts (is_literal text) (not (starts_with_tab text)) q.0 in
     record { literal = r.0; tab = not_true _ r.1; marker = not_true _ q.1 }
 
-pub root_literal_after : (from : State) (g : List GapLine) (text : List ℕ) (ls : List Line) (want : List Tok → List Tok) → AreEmptyLines g → is_root_literal text ≡ true → AreLinesOf text 0 ls
-    → Before from (spell_literal 0 text ls (spell_ending g [])) 0 0 [] true want → After from (end g) 0 [] (λ o. want (Tok.scalar Style.literal text ∷ o))
-root_literal_after from g text [] want empty one are u =
+pub root_literal_after : (t : Trail) (from : State) (text : List ℕ) (ls : List Line) (want : List Tok → List Tok) → IsTrail t → LowTrail 0 t → is_root_literal text ≡ true → AreLinesOf text 0 ls
+    → Before from (spell_literal 0 text ls (trail_text t)) 0 0 [] true want → After from t 0 [] (λ o. want (Tok.scalar Style.literal text ∷ o))
+root_literal_after t from text [] want trail low one are u =
     let x = root_text text one in
     let z = literal_text text x.literal in
     let e : [] ≡ lines_of text = are.0 in
     let last : ends_full [] ≡ true = ap ends_full e ∙ z.last in
     cc
-root_literal_after from g text (l ∷ ls) want empty one are u =
+root_literal_after t from text (l ∷ ls) want trail low one are u =
     let x = root_text text one in
     let z = literal_text text x.literal in
     let inner : are_inner (contents (l ∷ ls)) ≡ true = ap are_inner are.0 ∙ inner_lines text z.chars in
@@ -357,5 +367,5 @@ root_literal_after from g text (l ∷ ls) want empty one are u =
     let free : AreFree 0 (contents (l ∷ ls)) = inr (refl, marker) in
     let good = good_lines 0 (l ∷ ls) free inner are.1 in
     let tab : (r : List ℕ) → (slice_index (spell_line 0 l (spell_lines 0 ls r)) 0 == 9) ≡ false = λ r. margin_tab l ls r (last_feed (clips_of text)) text good.0 (ends_lines l ls last) (make_text (clips_of text) l ls text are.0 z.some refl) x.tab in
-    let v : Before from (block_text (clips_of text) 0 l ls (spell_white (trail_white (end g)) [])) 0 0 [] true want = rw (spelled 0 text l ls (trail_text (end g)), trail_is (end g)) at u in
-    block_after (end g) from (clips_of text) 0 l ls text 0 false 0 [] true want (empty_gap g empty) (omega arith) refl (block_of 0 0 text l ls (omega arith) z are free tab) (root_low g empty) v
+    let v : Before from (block_text (clips_of text) 0 l ls (spell_white (trail_white t) (rest_of t))) 0 0 [] true want = rw (spelled 0 text l ls (trail_text t), trail_is t) at u in
+    block_after t from (clips_of text) 0 l ls text 0 false 0 [] true want trail (omega arith) refl (block_of 0 0 text l ls (omega arith) z are free tab) low v

@@ -7,6 +7,8 @@ use Rattle.yaml_chars.specs.Class.{is_break, is_blank, is_flow}
 use Rattle.token_defs.specs.Token.{Tok, Token}
 use Rattle.yaml_tokens.specs.declared.problem.Fault.{Fault}
 use Rattle.layout_defs.specs.Gap.{GapLine, IsGap, IsLineText, is_line_character}
+use Rattle.layout_defs.specs.WideLayout.{Comment, no_comment, comment, IsComment}
+use Rattle.scan_layout.proofs.Comments.{spaced, comment_white, comment_place, at_feed, comment_are_white, beyond_comment, allowed_comment, comment_passes}
 use Rattle.scalar_model.specs.declared.context.SkipTabs.{SkipTabs}
 use Rattle.scalar_model.specs.declared.context.SkipTabs.TheVariants.{Yes, No}
 use Rattle.scalar_model.specs.declared.context.Whitespace.{Whitespace}
@@ -29,35 +31,35 @@ use Rattle.scan_layout.proofs.Joins.{fetched, before_white, gap_col}
 
 -- ---- what stands between a mark and its value
 
--- a space and more of them; or a gap, and a column of a later line
+-- a space and more of them; or a comment or none, a gap, and a column of a later line
 pub data Way : Type 0 where
   beside : (more : ℕ) → Way
-  below : List GapLine → (column : ℕ) → Way
+  below : Comment → List GapLine → (column : ℕ) → Way
 
 abbrev pub way_white : Way → List White
 way_white (beside more) = space ∷ blanks more
-way_white (below g d) = line_feed ∷ gap_white g (blanks d)
+way_white (below k g d) = comment_white k (line_feed ∷ gap_white g (blanks d))
 
 -- the column of a value whose mark stands at the column c
 abbrev pub way_column : ℕ → Way → ℕ
 way_column c (beside more) = c + 2 + more
-way_column c (below g d) = d
+way_column c (below k g d) = d
 
 abbrev pub IsWay : ℕ → Way → Type 0
 IsWay c (beside more) = Unit {0}
-IsWay c (below g d) = (c < d) × IsGap g
+IsWay c (below k g d) = (c < d) × IsComment k × IsGap g
 
 pub way_are_white : (c : ℕ) (w : Way) (y : List ℕ) → IsWay c w → is_solid y ≡ true → AreWhite (way_white w) y
 way_are_white c (beside more) y h solid = blanks_white more y solid
-way_are_white c (below g d) y h solid = gap_are_white g (blanks d) y h.1 (blanks_white d y solid)
+way_are_white c (below k g d) y h solid = comment_are_white k (line_feed ∷ gap_white g (blanks d)) y h.1 tt (gap_are_white g (blanks d) y h.2 (blanks_white d y solid))
 
 pub way_ends : (w : Way) (c : ℕ) (p : Place) → p.col ≡ c → (beyond (way_white w) (past p)).col ≡ way_column c w
 way_ends (beside more) c p h = blanks_col more (past (past p)) ∙ omega (arith, h)
-way_ends (below g d) c p h = gap_col g d (past_break (past p)) refl
+way_ends (below k g d) c p h = ap (λ x. x.col) (beyond_comment k (line_feed ∷ gap_white g (blanks d)) (past p)) ∙ gap_col g d (past_break (comment_place k (past p))) refl
 
 pub way_deep : (w : Way) (c : ℕ) → IsWay c w → c + 1 ≤ way_column c w
 way_deep (beside more) c h = omega arith
-way_deep (below g d) c h = let k = h.0 in omega (arith, k)
+way_deep (below k g d) c h = let low = h.0 in omega (arith, low)
 
 -- ---- levels
 
@@ -199,10 +201,12 @@ dash_beside n y j i is p solid free =
       free,
     ) refl
 
-dash_below : (a : List ℕ) (j i : ℕ) (is : List Indent) (p : Parts) → p.key ≡ None
-    → behind_dash (stands (10 ∷ a) j (level i true ∷ is) p) ≡ Ok (stands (10 ∷ a) (j + 1) (level j false ∷ level i true ∷ is) (marked p.place (p.tokens ++ token p.place Tok.block_entry ∷ []) true p.leading p.adjacent))
+dash_below : (k : Comment) (w : List White) (y : List ℕ) (j i : ℕ) (is : List Indent) (p : Parts) → IsComment k → p.key ≡ None
+    → behind_dash (stands (spell_white (comment_white k (line_feed ∷ w)) y) j (level i true ∷ is) p)
+    ≡ Ok (stands (spell_white (line_feed ∷ w) y) (j + 1) (level j false ∷ level i true ∷ is) (marked (comment_place k p.place) (p.tokens ++ token (comment_place k p.place) Tok.block_entry ∷ []) true p.leading p.adjacent))
 unfolding scalar_space.space check_dash skip_spaces roll_entry is_break roll_one_col_indent in_block remove_simple_key
-dash_below a j i is p free = rw free refl
+dash_below no_comment w y j i is p line free = rw free refl
+dash_below (comment more text) w y j i is p line free = rw (comment_passes more text (10 ∷ spell_white w y) (line_feed ∷ w) y p.place line refl at_feed, free) refl
 
 dash_at : (a : List ℕ) (s : Stand) (c i : ℕ) (is : List Indent) (p : Parts) → p.place.col ≡ c → i ≤ c → IsClosed i is → p.allowed ≡ true → last_property p.tokens ≡ None
     → fetch_block_entry (stands (45 ∷ a) (indent_at s c i) (indents_at s i is) p)
@@ -217,12 +221,14 @@ dash_at a s c i is p col low closed allowed none =
 by_dash : (w : Way) (y : List ℕ) (i : ℕ) (is : List Indent) (p : Parts) → token_by (class_of 45) (stands (45 ∷ spell_white (way_white w) y) i is p) ≡ fetch_block_entry (stands (45 ∷ spell_white (way_white w) y) i is p)
 unfolding class_of is_blank is_break
 by_dash (beside more) y i is p = refl
-by_dash (below g d) y i is p = refl
+by_dash (below no_comment g d) y i is p = refl
+by_dash (below (comment more text) g d) y i is p = refl
 
 pub opens_mark : (m : ℕ) (w : Way) (y : List ℕ) → is_content m ≡ true → (m == 37) ≡ false → Opens m (spell_white (way_white w) y)
 unfolding comes_marker
 opens_mark m (beside more) y h e = record { solid = h; no_directive = e; no_start = rw (Levels.and_false (m == 45)) refl; no_end = rw (Levels.and_false (m == 46)) refl }
-opens_mark m (below g d) y h e = record { solid = h; no_directive = e; no_start = rw (Levels.and_false (m == 45)) refl; no_end = rw (Levels.and_false (m == 46)) refl }
+opens_mark m (below no_comment g d) y h e = record { solid = h; no_directive = e; no_start = rw (Levels.and_false (m == 45)) refl; no_end = rw (Levels.and_false (m == 46)) refl }
+opens_mark m (below (comment more text) g d) y h e = record { solid = h; no_directive = e; no_start = rw (Levels.and_false (m == 45)) refl; no_end = rw (Levels.and_false (m == 46)) refl }
 
 -- ---- what is known behind a mark
 
@@ -271,18 +277,20 @@ dash_run from (beside more) y s c i is want low closed way solid u =
     let run = fetched from (45 ∷ x) c (indent_at s c i) (indents_at s i is) true want _ _ u (e ∙ d) (Levels.not_stale y (opened_indent b (c + 1)) (opened b (c + 1) js) r refl) in
     marked_before from [] y (c + 2 + more) c i is b r true _ run solid refl (way_ends (beside more) c p.place u.column) (omega arith) refl (Levels.last_pushed q.tokens (token at Tok.block_entry))
     (Levels.push_tells q.tokens at Tok.block_entry _ (started_tells s p.tokens p.place Tok.block_sequence_start want u.told))
-dash_run from (below g d) y s c i is want low closed way solid u =
+dash_run from (below k g d) y s c i is want low closed way solid u =
     let p = u.parts in
-    let x = spell_white (way_white (below g d)) y in
+    let x = spell_white (way_white (below k g d)) y in
+    let w = gap_white g (blanks d) in
     let js = level i true ∷ is in
     let q : Parts = record p { place = past p.place; tokens = started s None (token p.place Tok.block_sequence_start) p.tokens; leading = false } in
-    let r = marked q.place (q.tokens ++ token q.place Tok.block_entry ∷ []) true false p.adjacent in
-    let e = arrived from 45 x s c i is want low u (opens_mark 45 (below g d) y refl refl) in
-    let f = by_dash (below g d) y (indent_at s c i) (indents_at s i is) p ∙ dash_at x s c i is p u.column low closed u.allows u.no_property ∙ dash_below (spell_white (gap_white g (blanks d)) y) (c + 1) i is q u.free in
-    let run = fetched from (45 ∷ x) c (indent_at s c i) (indents_at s i is) true want _ _ u (e ∙ f) (Levels.not_stale x (c + 1 + 1) (level (c + 1) false ∷ js) r refl) in
+    let at = comment_place k q.place in
+    let r = marked at (q.tokens ++ token at Tok.block_entry ∷ []) true false p.adjacent in
+    let e = arrived from 45 x s c i is want low u (opens_mark 45 (below k g d) y refl refl) in
+    let f = by_dash (below k g d) y (indent_at s c i) (indents_at s i is) p ∙ dash_at x s c i is p u.column low closed u.allows u.no_property ∙ dash_below k w y (c + 1) i is q way.1 u.free in
+    let run = fetched from (45 ∷ x) c (indent_at s c i) (indents_at s i is) true want _ _ u (e ∙ f) (Levels.not_stale (spell_white (line_feed ∷ w) y) (c + 1 + 1) (level (c + 1) false ∷ js) r refl) in
     let h = way.0 in
-    marked_before from (way_white (below g d)) y d c i is true r true _ run (way_are_white c (below g d) y way solid) refl (way_ends (below g d) c p.place u.column) (omega (arith, h)) (gap_allows g d) (Levels.last_pushed q.tokens (token q.place Tok.block_entry))
-    (Levels.push_tells q.tokens q.place Tok.block_entry _ (started_tells s p.tokens p.place Tok.block_sequence_start want u.told))
+    marked_before from (line_feed ∷ w) y d c i is true r true _ run (gap_are_white g (blanks d) y way.2 (blanks_white d y solid)) refl (gap_col g d (past_break at) refl) (omega (arith, h)) (gap_allows g d) (Levels.last_pushed q.tokens (token at Tok.block_entry))
+    (Levels.push_tells q.tokens at Tok.block_entry _ (started_tells s p.tokens p.place Tok.block_sequence_start want u.told))
 
 -- ---- `?`
 
@@ -333,7 +341,8 @@ module _ (i : ℕ) (is : List Indent) where
   way_goes : (w : Way) (y : List ℕ) (p : Parts) → AreWhite (way_white w) y → skip_yaml_whitespace (stands (spell_white (way_white w) y) i is p) ≡ Ok (stands y i is (led (way_white w) p))
   unfolding skip_yaml_whitespace white is_break
   way_goes (beside more) y p h = white_goes (blanks more) y (record p { place = past p.place }) h
-  way_goes (below g d) y p h = white_goes (gap_white g (blanks d)) y (record p { place = past_break p.place; leading = true; allowed = true }) h
+  way_goes (below no_comment g d) y p h = white_goes (gap_white g (blanks d)) y (record p { place = past_break p.place; leading = true; allowed = true }) h
+  way_goes (below (comment more text) g d) y p h = white_goes (spaced more (remark text ∷ line_feed ∷ gap_white g (blanks d))) y (record p { place = past p.place }) h
 
   no_tab : (y : List ℕ) (p : Parts) → is_solid y ≡ true → check_key_space (stands y i is p) ≡ Ok (stands y i is p)
   unfolding check_key_space
@@ -363,11 +372,12 @@ question_at w y s c i is p col low closed allowed free are solid =
 by_question : (w : Way) (y : List ℕ) (i : ℕ) (is : List Indent) (p : Parts) → token_by (class_of 63) (stands (63 ∷ spell_white (way_white w) y) i is p) ≡ fetch_key (stands (63 ∷ spell_white (way_white w) y) i is p)
 unfolding class_of is_blank is_break
 by_question (beside more) y i is p = refl
-by_question (below g d) y i is p = refl
+by_question (below no_comment g d) y i is p = refl
+by_question (below (comment more text) g d) y i is p = refl
 
 pub way_allows : (w : Way) → allowed_beyond (way_white w) true ≡ true
 way_allows (beside more) = blanks_allow more true
-way_allows (below g d) = gap_allows g d
+way_allows (below k g d) = allowed_comment k (line_feed ∷ gap_white g (blanks d)) true ∙ gap_allows g d
 
 -- a `?`, at an entry's column
 pub question_run : (from : State) (w : Way) (y : List ℕ) (s : Stand) (c i : ℕ) (is : List Indent) (want : List Tok → List Tok) → i ≤ c → IsClosed i is → IsWay c w → is_solid y ≡ true
@@ -389,12 +399,14 @@ question_run from w y s c i is want low closed way solid u =
 pub by_colon : (w : Way) (y : List ℕ) (i : ℕ) (is : List Indent) (p : Parts) → token_by (class_of 58) (stands (58 ∷ spell_white (way_white w) y) i is p) ≡ fetch_value (stands (58 ∷ spell_white (way_white w) y) i is p)
 unfolding class_of is_value is_blank is_break
 by_colon (beside more) y i is p = refl
-by_colon (below g d) y i is p = refl
+by_colon (below no_comment g d) y i is p = refl
+by_colon (below (comment more text) g d) y i is p = refl
 
 pub value_space : (w : Way) (y : List ℕ) (i : ℕ) (is : List Indent) (p : Parts) → check_value_space (stands (spell_white (way_white w) y) i is p) ≡ Ok (stands (spell_white (way_white w) y) i is p)
 unfolding check_value_space
 value_space (beside more) y i is p = refl
-value_space (below g d) y i is p = refl
+value_space (below no_comment g d) y i is p = refl
+value_space (below (comment more text) g d) y i is p = refl
 
 colon_at : (w : Way) (y : List ℕ) (c i : ℕ) (is : List Indent) (p : Parts) → p.place.col ≡ c → i ≤ c → IsClosed i is → p.allowed ≡ true → p.key ≡ None
     → fetch_value (stands (58 ∷ spell_white (way_white w) y) (c + 1) (level i true ∷ is) p)

@@ -229,10 +229,11 @@ spelt_plain bad_value h = absurd h
 
 -- ---- what a plain scalar begins with, in front of what may follow it
 
--- the end, a line feed or a colon
+-- the end, a line feed, a space or a colon
 pub data Follows : List ℕ → Type 0 where
   at_end : Follows []
   at_break : {a : List ℕ} → Follows (10 ∷ a)
+  at_space : {a : List ℕ} → Follows (32 ∷ a)
   at_colon : {a : List ℕ} → Follows (58 ∷ a)
 
 pub plain_class : (c : ℕ) → is_first c ≡ true → (c == 45) ≡ false → class_of c ≡ Other

@@ -1,5 +1,5 @@
 -- Plain scalars on one line are read as they stand, up to a colon or over the white space behind them.
-use Rattle.std.proofs.Common.{◌≡◌, ℕ, ◌+◌, ◌≤◌, List, [], ◌∷◌, ◌++◌, Bool, true, false, ◌||◌, ◌&&◌, not, ◌==◌, Result, Ok, refl, ap, ◌∙◌, append_assoc, append-nil, nat_lt, arith}
+use Rattle.std.proofs.Common.{◌≡◌, ℕ, zero, suc, ◌+◌, ◌≤◌, List, [], ◌∷◌, ◌++◌, Bool, true, false, ◌||◌, ◌&&◌, not, ◌==◌, Result, Ok, refl, ap, ◌∙◌, append_assoc, append-nil, nat_lt, arith, ◌⊎◌, inl, inr}
 use Rattle.std.proofs.lemmas.Bool.{le-ltb, ne_eqb, and_parts, eqb-true}
 use Rattle.std.proofs.lemmas.Bool.Decides.{nat_tests}
 use Rattle.yaml_chars.specs.Place.{Place}
@@ -9,7 +9,9 @@ use Rattle.scalar_model.specs.declared.context.Context.{Context}
 use Rattle.scalar_model.specs.Machine.{Read, past, past_break, at_marker}
 use Rattle.scalar_model.specs.Plain.{State, Plain, inside, between, plain, plain_from, can_be_plain, starts, at_dash, at_plain, goes_on, is_shallow}
 use Rattle.scan_layout.proofs.Shapes.{is_content}
-use Rattle.scan_layout.proofs.Whites.{White, space, line_feed, remark, spell_white, along, beyond, AreWhite, content}
+use Rattle.layout_defs.specs.WideLayout.{comment}
+use Rattle.scan_layout.proofs.Whites.{White, space, line_feed, remark, spell_white, along, beyond, AreWhite, blanks, content}
+use Rattle.scan_layout.proofs.Comments.{spaced, comment_white}
 
 -- a character that may stand in a plain scalar of a line
 abbrev pub is_plain_char : ℕ → Bool
@@ -119,10 +121,10 @@ module _ (i : ℕ) (start : Place) where
 
   -- ---- over white space
 
-  -- nothing, or what stands left of the column
+  -- nothing, what stands left of the column, or a document's marker
   abbrev pub IsLeft : List ℕ → ℕ → Type 0
   IsLeft [] col = Unit {0}
-  IsLeft (c ∷ a) col = nat_lt col i ≡ true
+  IsLeft (c ∷ a) col = (nat_lt col i ≡ true) ⊎ (at_marker col (c ∷ a) ≡ true)
 
   -- The scan is over, within the white space.
   pub record Stopped (t : Result (Read Plain) Fault) (text : List ℕ) (leading : Bool) (g : List White) (r : List ℕ) (p : Place) : Type 0 where
@@ -143,9 +145,15 @@ module _ (i : ℕ) (start : Place) where
       by true h = rw h refl
       by false h = rw h refl
 
-  at_left : (c : ℕ) (a : List ℕ) (p : Place) (text gap : List ℕ) → is_content c ≡ true → nat_lt p.col i ≡ true → scan (c ∷ a) (below p text gap) ≡ Ok (record { rest = c ∷ a; place = p; value = record { text = text; leading = true } })
+  at_left : (c : ℕ) (a : List ℕ) (p : Place) (text gap : List ℕ) → is_content c ≡ true → (nat_lt p.col i ≡ true) ⊎ (at_marker p.col (c ∷ a) ≡ true)
+      → scan (c ∷ a) (below p text gap) ≡ Ok (record { rest = c ∷ a; place = p; value = record { text = text; leading = true } })
   unfolding goes_on is_shallow
-  at_left c a p text gap solid h = let z = content c solid in rw (z.break, z.blank, h) refl
+  at_left c a p text gap solid (inl h) = let z = content c solid in rw (z.break, z.blank, h) refl
+  at_left c a p text gap solid (inr h) = by (nat_lt p.col i) refl
+    where
+      by : (b : Bool) → nat_lt p.col i ≡ b → scan (c ∷ a) (below p text gap) ≡ Ok (record { rest = c ∷ a; place = p; value = record { text = text; leading = true } })
+      by true e = let z = content c solid in rw (z.break, z.blank, e) refl
+      by false e = let z = content c solid in rw (z.break, z.blank, e, z.hash, h) refl
 
   over_white : (g : List White) (r : List ℕ) (p : Place) (text gap : List ℕ) → AreWhite g r → IsLeft r (beyond g p).col → Stopped (scan (spell_white g r) (below p text gap)) text true g r p
   unfolding is_break is_blank
@@ -164,6 +172,24 @@ module _ (i : ℕ) (start : Place) where
   plain_line c w g r all close deep solid are low =
       let z = over_white g r (past_break (along (c ∷ w) start)) (c ∷ w) [] are low in
       record { place = z.place; white = z.white; same = z.same; are = z.are; now = begins_scan c w (10 ∷ spell_white g r) all close deep solid ∙ z.now }
+
+  comment_stops : (n : ℕ) (text : List ℕ) (w : List White) (r : List ℕ) (p : Place) (t gap : List ℕ)
+      → scan (spell_white (spaced n (remark text ∷ w)) r) (at true p t gap) ≡ Ok (record { rest = spell_white (remark text ∷ w) r; place = beyond (blanks n) p; value = record { text = t; leading = false } })
+  unfolding is_break is_blank goes_on is_shallow
+  comment_stops zero text w r p t gap = by (nat_lt p.col i) refl
+    where
+      by : (b : Bool) → nat_lt p.col i ≡ b → scan (spell_white (remark text ∷ w) r) (at true p t gap) ≡ Ok (record { rest = spell_white (remark text ∷ w) r; place = p; value = record { text = t; leading = false } })
+      by true h = rw h refl
+      by false h = rw h refl
+  comment_stops (suc n) text w r p t gap = comment_stops n text w r (past p) t (gap ++ 32 ∷ [])
+
+  -- a scalar, and a comment behind it
+  pub plain_comment : (c : ℕ) (v : List ℕ) (more : ℕ) (text : List ℕ) (w : List White) (r : List ℕ) → are_plain v ≡ true → closes (c == 32) v ≡ true → i ≤ start.col + 1 → (c == 32) ≡ false
+      → plain (outside i) (c ∷ (v ++ spell_white (comment_white (comment more text) w) r)) start
+      ≡ Ok (record { rest = spell_white (remark text ∷ w) r; place = beyond (blanks more) (past (along (c ∷ v) start)); value = record { text = c ∷ v; leading = false } })
+  unfolding is_break is_blank
+  plain_comment c v more text w r all close deep solid =
+      begins_scan c v (spell_white (comment_white (comment more text) w) r) all close deep solid ∙ comment_stops more text w r (past (along (c ∷ v) start)) (c ∷ v) (32 ∷ [])
 
   pub plain_end : (c : ℕ) (w : List ℕ) → are_plain w ≡ true → closes (c == 32) w ≡ true → i ≤ start.col + 1 → (c == 32) ≡ false
       → plain (outside i) (c ∷ (w ++ [])) start ≡ Ok (record { rest = []; place = along (c ∷ w) start; value = record { text = c ∷ w; leading = false } })

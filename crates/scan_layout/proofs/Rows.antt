@@ -13,7 +13,7 @@ use Rattle.layout_defs.specs.Gap.{empty_line, comment_line, is_line_character}
 use Rattle.layout_defs.specs.BlockLines.{full, blank}
 use Rattle.layout_defs.specs.Layout.{Scalar, plain, quoted, scalar, empty_array, empty_hash, array, hash, beside, compact, below, literal, last_entry, entry, implicit, explicit, last_field, field, block}
 use Rattle.scan_json.specs.JsonScan.{HasToks}
-use Rattle.scan_layout.proofs.Whole.{layout_text_has_its_tokens}
+use Rattle.scan_layout.proofs.OneLayout.{layout_text_has_its_tokens}
 
 abbrev word : List ℕ → Scalar
 word w = plain (Tree.string w)

@@ -1,8 +1,8 @@
 -- The states of the scanner outside flow collections, and what stands behind a node.
-use Rattle.std.proofs.Common.{◌≡◌, ℕ, ◌+◌, List, [], ◌∷◌, ◌++◌, Bool, true, false, not, ◌||◌, ◌==◌, nat_lt, if◌then◌else◌, Option, None, Ok}
+use Rattle.std.proofs.Common.{◌≡◌, ℕ, ◌+◌, List, [], ◌∷◌, ◌++◌, Bool, true, false, not, ◌||◌, ◌==◌, nat_lt, if◌then◌else◌, Option, None, Ok, codes}
 use Rattle.yaml_chars.specs.Place.{Place}
 use Rattle.token_defs.specs.Token.{Tok, Token}
-use Rattle.layout_defs.specs.Gap.{GapLine, IsGap, next_line, spell_ending}
+use Rattle.layout_defs.specs.Gap.{GapLine, IsGap, next_line, spell_gap, spell_ending}
 use Rattle.scan_model.specs.declared.level.Indent.{Indent}
 use Rattle.scan_model.specs.State.{Key, State, ◌>>=◌, try_held}
 use Rattle.scan_model.specs.Keys.{stale, still, is_required}
@@ -93,26 +93,35 @@ left limit i (d ∷ ds) = if nat_lt limit i then left limit d.indent ds else rec
 
 -- ---- what stands behind a node
 
--- a gap, and at a column of the next line the rest; or a gap up to the end
+-- a gap, and at a column of the next line the rest; a gap, and the `---` of a next document with the rest; or a gap up to the end
 pub data Trail : Type 0 where
   next : List GapLine → (column : ℕ) → (rest : List ℕ) → Trail
+  marker : List GapLine → (rest : List ℕ) → Trail
   end : List GapLine → Trail
+
+-- the marker of a document, and its line feed
+abbrev pub marker_text : List ℕ → List ℕ
+marker_text r = codes "---\n" ++ r
 
 abbrev pub trail_text : Trail → List ℕ
 trail_text (next g d r) = next_line d g r
+trail_text (marker g r) = 10 ∷ spell_gap g (marker_text r)
 trail_text (end g) = spell_ending g []
 
 abbrev pub rest_of : Trail → List ℕ
 rest_of (next g d r) = r
+rest_of (marker g r) = marker_text r
 rest_of (end g) = []
 
--- the column from 1 of what comes, 0 for the end
+-- the column from 1 of what comes, 0 for a document's marker and for the end, which end all collections
 abbrev pub limit_of : Trail → ℕ
 limit_of (next g d r) = d + 1
+limit_of (marker g r) = 0
 limit_of (end g) = 0
 
 abbrev pub IsTrail : Trail → Type 0
 IsTrail (next g d r) = IsGap g × (is_solid r ≡ true)
+IsTrail (marker g r) = IsGap g
 IsTrail (end g) = IsGap g
 
 -- ---- what is known of a run
@@ -142,6 +151,7 @@ pub record IsOld (k : Option Key) (p : Place) : Type 0 where
 -- what the scanner knows when it comes behind a node's trail
 abbrev pub Settles : Trail → Parts → Type 0
 Settles (next g d r) p = (p.place.col ≡ d) × (p.allowed ≡ true) × IsOld p.key p.place
+Settles (marker g r) p = (p.place.col ≡ 0) × (is_required p.key ≡ false)
 Settles (end g) p = is_required p.key ≡ false
 
 -- The scanner is behind a node, up to white space: as far as the next line's limit its levels are these.

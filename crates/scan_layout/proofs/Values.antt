@@ -1,60 +1,90 @@
 -- The tokens of values, of arrays and of hashes.
-use Rattle.std.proofs.Common.{◌≡◌, ℕ, ◌+◌, ◌≤◌, List, ◌∷◌, ◌++◌, Bool, true, false, if◌then◌else◌, refl, ap, arith, length, append-nil, codes, subst}
+use Rattle.std.proofs.Common.{◌≡◌, ℕ, ◌+◌, ◌≤◌, List, [], ◌∷◌, ◌++◌, Bool, true, false, if◌then◌else◌, refl, ap, ◌∙◌, arith, length, append_assoc, append-nil, flat_map, codes, subst}
 use Rattle.std.specs.Prelude.{nat_eq}
 use Rattle.std.specs.List.{ends_with}
 use Rattle.token_defs.specs.Token.{Tok}
 use Rattle.tree_defs.specs.Spelling.{spelling}
-use Rattle.tree_defs.specs.Escapes.{double_quoted}
-use Rattle.layout_defs.specs.Gap.{GapLine, IsGap}
+use Rattle.tree_defs.specs.Escapes.{double_quoted, written_escapes}
+use Rattle.layout_defs.specs.Gap.{GapLine, next_line, IsGap}
 use Rattle.layout_defs.specs.BlockLines.{Line, spell_lines}
-use Rattle.layout_defs.specs.Layout.{Scalar, plain, quoted, Inline, scalar, empty_array, empty_hash, Block, array, hash, Value, literal, compact, Entries, last_entry, entry, Field, implicit, explicit, Fields, last_field, field, spell_scalar, spell_inline, spell_literal, spell_block, spell_value, spell_entries, spell_field, spell_fields, IsScalar, IsInline, IsImplicitKey, IsNotCompact, AreLinesOf, IsBlock, IsValue, AreEntries, IsField, AreFields}
-use Rattle.layout_defs.specs.Layout as layout
-use Rattle.laid_tokens.specs.LayoutTokens.{inline_tokens, block_tokens, value_tokens, entry_tokens, field_tokens, all_field_tokens}
+use Rattle.layout_defs.specs.Anchored.{Anchor, begun}
+use Rattle.layout_defs.specs.Json
+use Rattle.layout_defs.specs.Layout.{plain, quoted, spell_literal, AreLinesOf}
+use Rattle.layout_defs.specs.WideLayout.{Scalar, as_before, single_quoted, Inline, scalar, empty_array, empty_hash, Comment, Block, array, hash, Value, literal, folded, json, compact, at_key, anchored, alias, Entries, last_entry, entry, Field, implicit, explicit, Fields, last_field, field, doubled, spell_scalar, spell_inline, spell_comment, folded_header, spell_block, spell_value, spell_entries, spell_field, spell_fields, anchors_behind, anchors_behind_field, IsScalar, IsInline, IsComment, IsImplicitKey, IsExplicitKey, MayFollowScalarKey, MayFollowMark, IsBlock, IsValue, AreEntries, IsField, AreFields}
+use Rattle.layout_defs.specs.WideLayout as layout
+use Rattle.laid_tokens.specs.WideTokens.{scalar_token, inline_tokens, block_tokens, value_tokens, entry_tokens, field_tokens, all_field_tokens}
 use Rattle.scan_model.specs.declared.level.Indent.{Indent}
 use Rattle.scan_model.specs.State.{State}
 use Rattle.scan_model.specs.Indents.{level}
+use Rattle.scan_layout.specs.Basic.{IsBasicBlock, IsBasicValue, AreBasicEntries, IsBasicField, AreBasicFields}
 use Rattle.scan_layout.proofs.Shapes.{is_solid, opened, opened_indent, IsClosed, Trail, next, trail_text, limit_of, IsTrail, Before, After}
-use Rattle.scan_layout.proofs.Whites.{spell_white, spaces_are, next_line_is, allowed_beyond, gap_allows}
+use Rattle.scan_layout.proofs.Whites.{line_feed, spell_white, blanks, gap_white, spaces_are, next_line_is, allowed_beyond, gap_allows}
+use Rattle.scan_layout.proofs.Comments.{comment_is, allowed_comment}
 use Rattle.scan_layout.proofs.Joins.{closed, before_next}
 use Rattle.scan_layout.proofs.Marks.{Way, beside, below, way_white, way_column, IsWay, way_deep, Stand, later, first, indent_at, indents_at, starts, Marked, dash_run, question_run, colon_run}
 use Rattle.scan_layout.proofs.PlainTexts.{IsPlainText, spelt_plain, first_content}
+use Rattle.scan_layout.proofs.Quotes.{double_is, single_is}
 use Rattle.scan_layout.proofs.Leaves.{plain_after, quoted_after}
 use Rattle.scan_layout.proofs.Empties.{empty_after}
-use Rattle.scan_layout.proofs.Keys.{plain_key_run, quoted_key_run}
+use Rattle.scan_layout.proofs.Keys.{Taken, plain_key_run, quoted_key_run, valued, at_entry}
 use Rattle.scan_layout.proofs.Literals.{literal_after}
 
 -- ---- a value's text: what stands before it, and what it begins with
 
-abbrev way_of : Value → Way
-way_of (layout.beside more v) = beside more
-way_of (literal more column text ls) = beside more
-way_of (compact more b) = beside more
-way_of (layout.below g column b) = below g column
+abbrev way_of : (c : ℕ) → Value → Way
+way_of c (layout.beside more v behind) = beside more
+way_of c (literal more column text ls) = beside more
+way_of c (folded more column strips text ls) = beside more
+way_of c (json more v) = beside more
+way_of c (compact more b) = beside more
+way_of c (layout.below behind g column b) = below behind g column
+way_of c (at_key behind g es) = below behind g c
+way_of c (anchored more name v) = beside more
+way_of c (alias more name t) = beside more
 
 abbrev body_of : (c : ℕ) → Value → List ℕ → List ℕ
-body_of c (layout.beside more v) r = spell_inline v r
+body_of c (layout.beside more v behind) r = spell_inline v (spell_comment behind r)
 body_of c (literal more column text ls) r = spell_literal column text ls r
+body_of c (folded more column strips text ls) r = folded_header strips ++ spell_lines column ls r
+body_of c (json more v) r = Json.spell v r
 body_of c (compact more b) r = spell_block (c + 2 + more) b r
-body_of c (layout.below g column b) r = spell_block column b r
+body_of c (layout.below behind g column b) r = spell_block column b r
+body_of c (at_key behind g es) r = spell_entries c es r
+body_of c (anchored more name v) r = 38 ∷ (name ++ spell_value c v r)
+body_of c (alias more name t) r = 42 ∷ (name ++ r)
 
-value_text : (c : ℕ) (v : Value) (r : List ℕ) → spell_value c v r ≡ spell_white (way_white (way_of v)) (body_of c v r)
-value_text c (layout.beside more v) r = ap (λ a. 32 ∷ a) (spaces_are more (spell_inline v r))
-value_text c (literal more column text ls) r = ap (λ a. 32 ∷ a) (spaces_are more (spell_literal column text ls r))
-value_text c (compact more b) r = ap (λ a. 32 ∷ a) (spaces_are more (spell_block (c + 2 + more) b r))
-value_text c (layout.below g column b) r = next_line_is column g (spell_block column b r)
+below_text : (k : Comment) (column : ℕ) (g : List GapLine) (r : List ℕ) → spell_comment k (next_line column g r) ≡ spell_white (way_white (below k g column)) r
+below_text k column g r = ap (spell_comment k) (next_line_is column g r) ∙ comment_is k (line_feed ∷ gap_white g (blanks column)) r
 
-is_way : (c : ℕ) (v : Value) → IsValue c v → IsWay c (way_of v)
-is_way c (layout.beside more v) h = tt
-is_way c (literal more column text ls) h = tt
-is_way c (compact more b) h = tt
-is_way c (layout.below g column b) h = (h.1, h.0)
+value_text : (c : ℕ) (v : Value) (r : List ℕ) → IsBasicValue v → spell_value c v r ≡ spell_white (way_white (way_of c v)) (body_of c v r)
+value_text c (layout.beside more v behind) r h = ap (λ a. 32 ∷ a) (spaces_are more (spell_inline v (spell_comment behind r)))
+value_text c (literal more column text ls) r h = ap (λ a. 32 ∷ a) (spaces_are more (spell_literal column text ls r))
+value_text c (folded more column strips text ls) r h = absurd h
+value_text c (json more v) r h = absurd h
+value_text c (compact more b) r h = ap (λ a. 32 ∷ a) (spaces_are more (spell_block (c + 2 + more) b r))
+value_text c (layout.below behind g column b) r h = below_text behind column g (spell_block column b r)
+value_text c (at_key behind g es) r h = below_text behind c g (spell_entries c es r)
+value_text c (anchored more name v) r h = absurd h
+value_text c (alias more name t) r h = absurd h
+
+is_way : (c : ℕ) (a : List Anchor) (v : Value) → MayFollowMark v → IsValue c a v → IsWay c (way_of c v)
+is_way c a (layout.beside more v behind) m h = tt
+is_way c a (literal more column text ls) m h = tt
+is_way c a (folded more column strips text ls) m h = tt
+is_way c a (json more v) m h = tt
+is_way c a (compact more b) m h = tt
+is_way c a (layout.below behind g column b) m h = (h.2, h.0, h.1)
+is_way c a (at_key behind g es) m h = absurd m
+is_way c a (anchored more name v) m h = tt
+is_way c a (alias more name t) m h = tt
 
 plain_solid : (w r : List ℕ) → IsPlainText w → is_solid (w ++ r) ≡ true
 plain_solid w r t = rw (t.whole) (first_content t.head t.first)
 
 scalar_solid : (s : Scalar) (r : List ℕ) → IsScalar s → is_solid (spell_scalar s r) ≡ true
-scalar_solid (plain t) r h = plain_solid (spelling t) r (spelt_plain t h)
-scalar_solid (quoted text) r h = refl
+scalar_solid (as_before (plain t)) r h = plain_solid (spelling t) r (spelt_plain t h)
+scalar_solid (as_before (quoted text)) r h = refl
+scalar_solid (single_quoted text) r h = refl
 
 pub inline_solid : (v : Inline) (r : List ℕ) → IsInline v → is_solid (spell_inline v r) ≡ true
 inline_solid (scalar s) r h = scalar_solid s r h
@@ -72,36 +102,40 @@ entries_solid : (c : ℕ) (es : Entries) (r : List ℕ) → is_solid (spell_entr
 entries_solid c (last_entry v) r = refl
 entries_solid c (entry v g es) r = refl
 
-field_solid : (c : ℕ) (f : Field) (r : List ℕ) → IsField c f → is_solid (spell_field c f r) ≡ true
-field_solid c (implicit k v) r h = scalar_solid k _ (h.0.0)
-field_solid c (explicit k g v) r h = refl
+field_solid : (c : ℕ) (a : List Anchor) (f : Field) (r : List ℕ) → IsField c a f → is_solid (spell_field c f r) ≡ true
+field_solid c a (implicit k v) r h = scalar_solid k _ (h.0.0)
+field_solid c a (explicit k g v) r h = refl
 
-fields_solid : (c : ℕ) (fs : Fields) (r : List ℕ) → AreFields c fs → is_solid (spell_fields c fs r) ≡ true
-fields_solid c (last_field f) r h = field_solid c f r h
-fields_solid c (field f g fs) r h = field_solid c f _ h.0
+fields_solid : (c : ℕ) (a : List Anchor) (fs : Fields) (r : List ℕ) → AreFields c a fs → is_solid (spell_fields c fs r) ≡ true
+fields_solid c a (last_field f) r h = field_solid c a f r h
+fields_solid c a (field f g fs) r h = field_solid c a f _ h.0
 
-pub block_solid : (c : ℕ) (b : Block) (r : List ℕ) → IsBlock c b → is_solid (spell_block c b r) ≡ true
-block_solid c (array es) r h = entries_solid c es r
-block_solid c (hash fs) r h = fields_solid c fs r h.0
+pub block_solid : (c : ℕ) (a : List Anchor) (b : Block) (r : List ℕ) → IsBlock c a b → is_solid (spell_block c b r) ≡ true
+block_solid c a (array es) r h = entries_solid c es r
+block_solid c a (hash fs) r h = fields_solid c a fs r h.0
 
-body_solid : (c : ℕ) (v : Value) (r : List ℕ) → IsValue c v → is_solid (body_of c v r) ≡ true
-body_solid c (layout.beside more v) r h = inline_solid v r h
-body_solid c (literal more column text ls) r h = literal_solid column text ls r
-body_solid c (compact more b) r h = block_solid (c + 2 + more) b r h
-body_solid c (layout.below g column b) r h = block_solid column b r h.2
+body_solid : (c : ℕ) (a : List Anchor) (v : Value) (r : List ℕ) → IsValue c a v → IsBasicValue v → is_solid (body_of c v r) ≡ true
+body_solid c a (layout.beside more v behind) r h e = inline_solid v (spell_comment behind r) h.0
+body_solid c a (literal more column text ls) r h e = literal_solid column text ls r
+body_solid c a (folded more column strips text ls) r h e = absurd e
+body_solid c a (json more v) r h e = absurd e
+body_solid c a (compact more b) r h e = block_solid (c + 2 + more) a b r h
+body_solid c a (layout.below behind g column b) r h e = block_solid column a b r h.3
+body_solid c a (at_key behind g es) r h e = entries_solid c es r
+body_solid c a (anchored more name v) r h e = refl
+body_solid c a (alias more name t) r h e = refl
 
 -- ---- what each run does
 
 -- where a block stands it begins on its column, and a key may begin there
 abbrev Fits : (c m : ℕ) → Bool → Value → Type 0
-Fits c m allowed (layout.beside more v) = Unit {0}
-Fits c m allowed (literal more column text ls) = Unit {0}
 Fits c m allowed (compact more b) = (m ≡ c) × (allowed ≡ true)
-Fits c m allowed (layout.below g column b) = allowed ≡ true
+Fits c m allowed (layout.below behind g column b) = allowed ≡ true
+Fits c m allowed _ = Unit {0}
 
 abbrev RunsValue : ℕ → Value → Type 0
-RunsValue c v = (from : State) (t : Trail) (m i : ℕ) (is : List Indent) (allowed : Bool) (want : List Tok → List Tok) → IsTrail t → limit_of t ≤ c + 1 → c + 1 ≤ way_column m (way_of v) → Fits c m allowed v
-    → Marked from (body_of c v (trail_text t)) (way_column m (way_of v)) c i is allowed want → After from t (c + 1) (level i true ∷ is) (λ o. want (value_tokens v o))
+RunsValue c v = (from : State) (t : Trail) (m i : ℕ) (is : List Indent) (allowed : Bool) (want : List Tok → List Tok) → IsTrail t → limit_of t ≤ c + 1 → c + 1 ≤ way_column m (way_of c v) → Fits c m allowed v
+    → Marked from (body_of c v (trail_text t)) (way_column m (way_of c v)) c i is allowed want → After from t (c + 1) (level i true ∷ is) (λ o. want (value_tokens v o))
 
 abbrev pub RunsBlock : ℕ → Block → Type 0
 RunsBlock c b = (from : State) (t : Trail) (i : ℕ) (is : List Indent) (is_open : Bool) (want : List Tok → List Tok) → IsTrail t → limit_of t ≤ i → i ≤ c → IsClosed i is
@@ -122,18 +156,20 @@ RunsFields c fs = Runs c (spell_fields c fs) Tok.block_mapping_start (all_field_
 
 -- ---- values
 
-pub inline_after : (v : Inline) (t : Trail) (from : State) (col : ℕ) (b : Bool) (i : ℕ) (is : List Indent) (allowed : Bool) (want : List Tok → List Tok) → IsInline v → IsTrail t → limit_of t ≤ i → i ≤ col → IsClosed i is
-    → Before from (spell_inline v (trail_text t)) col (opened_indent b i) (opened b i is) allowed want → After from t i is (λ o. want (inline_tokens v o))
-inline_after (scalar (plain s)) t from col b i is allowed want h trail low deep shut u = plain_after t from (spelling s) col b i is allowed want trail low (spelt_plain s h) deep shut u
-inline_after (scalar (quoted text)) t from col b i is allowed want h trail low deep shut u = quoted_after t from text col b i is allowed want trail low deep u
-inline_after empty_array t from col b i is allowed want h trail low deep shut u = empty_after false t from col b i is allowed want trail low deep shut u
-inline_after empty_hash t from col b i is allowed want h trail low deep shut u = empty_after true t from col b i is allowed want trail low deep shut u
+pub inline_after : (v : Inline) (k : Comment) (t : Trail) (from : State) (col : ℕ) (b : Bool) (i : ℕ) (is : List Indent) (allowed : Bool) (want : List Tok → List Tok) → IsInline v → IsComment k → IsTrail t → limit_of t ≤ i → i ≤ col → IsClosed i is
+    → Before from (spell_inline v (spell_comment k (trail_text t))) col (opened_indent b i) (opened b i is) allowed want → After from t i is (λ o. want (inline_tokens v o))
+inline_after (scalar (as_before (plain s))) k t from col b i is allowed want h line trail low deep shut u = plain_after k t from (spelling s) col b i is allowed want line trail low (spelt_plain s h) deep shut u
+inline_after (scalar (as_before (quoted text))) k t from col b i is allowed want h line trail low deep shut u = quoted_after false (written_escapes text ++ 34 ∷ []) text (double_is text) k t from col b i is allowed want line trail low deep u
+inline_after (scalar (single_quoted text)) k t from col b i is allowed want h line trail low deep shut u =
+    quoted_after true (flat_map doubled text ++ 39 ∷ []) text (single_is text h) k t from col b i is allowed want line trail low deep (rw (← append_assoc (flat_map doubled text) (39 ∷ []) (spell_comment k (trail_text t))) at u)
+inline_after empty_array k t from col b i is allowed want h line trail low deep shut u = empty_after false k t from col b i is allowed want line trail low deep shut u
+inline_after empty_hash k t from col b i is allowed want h line trail low deep shut u = empty_after true k t from col b i is allowed want line trail low deep shut u
 
-beside_runs : (c more : ℕ) (v : Inline) → IsInline v → RunsValue c (layout.beside more v)
-beside_runs c more v h from t m i is allowed want trail low deep fits u = inline_after v t from (m + 2 + more) u.is_open (c + 1) (level i true ∷ is) allowed want h trail low deep refl u.before
+beside_runs : (c more : ℕ) (v : Inline) (behind : Comment) → IsInline v → IsComment behind → RunsValue c (layout.beside more v behind)
+beside_runs c more v behind h line from t m i is allowed want trail low deep fits u = inline_after v behind t from (m + 2 + more) u.is_open (c + 1) (level i true ∷ is) allowed want h line trail low deep refl u.before
 
-literal_runs : (c more column : ℕ) (text : List ℕ) (ls : List Line) → IsValue c (literal more column text ls) → RunsValue c (literal more column text ls)
-literal_runs c more column text ls h from t m i is allowed want trail low deep fits u =
+literal_runs : (c more column : ℕ) (a : List Anchor) (text : List ℕ) (ls : List Line) → IsValue c a (literal more column text ls) → RunsValue c (literal more column text ls)
+literal_runs c more column a text ls h from t m i is allowed want trail low deep fits u =
     let k = h.0 in
     literal_after t from text column ls (m + 2 + more) u.is_open (c + 1) (level i true ∷ is) allowed want trail low deep refl (omega (arith, k)) (omega (arith, k)) h.1 h.2 u.before
 
@@ -142,33 +178,43 @@ compact_runs c more b run from t m i is allowed want trail low deep fits u =
     let v = rw (fits.0) at rw (fits.1) at u.before in
     run from t (c + 1) (level i true ∷ is) u.is_open want trail low (omega arith) refl v
 
-below_runs : (c : ℕ) (g : List GapLine) (column : ℕ) (b : Block) → RunsBlock column b → RunsValue c (layout.below g column b)
-below_runs c g column b run from t m i is allowed want trail low deep fits u =
+below_runs : (c : ℕ) (behind : Comment) (g : List GapLine) (column : ℕ) (b : Block) → RunsBlock column b → RunsValue c (layout.below behind g column b)
+below_runs c behind g column b run from t m i is allowed want trail low deep fits u =
     let v = rw fits at u.before in
     run from t (c + 1) (level i true ∷ is) u.is_open want trail low deep refl v
 
 -- behind a mark on its line, or below it
 fits_mark : (c : ℕ) (v : Value) → Fits c c true v
-fits_mark c (layout.beside more v) = tt
+fits_mark c (layout.beside more v behind) = tt
 fits_mark c (literal more column text ls) = tt
+fits_mark c (folded more column strips text ls) = tt
+fits_mark c (json more v) = tt
 fits_mark c (compact more b) = (refl, refl)
-fits_mark c (layout.below g column b) = refl
+fits_mark c (layout.below behind g column b) = refl
+fits_mark c (at_key behind g es) = tt
+fits_mark c (anchored more name v) = tt
+fits_mark c (alias more name t) = tt
 
 -- behind the `:` of a scalar key
-fits_colon : (c m : ℕ) (v : Value) → IsNotCompact v → Fits c m (allowed_beyond (way_white (way_of v)) false) v
-fits_colon c m (layout.beside more v) h = tt
+fits_colon : (c m : ℕ) (v : Value) → MayFollowScalarKey v → Fits c m (allowed_beyond (way_white (way_of c v)) false) v
+fits_colon c m (layout.beside more v behind) h = tt
 fits_colon c m (literal more column text ls) h = tt
+fits_colon c m (folded more column strips text ls) h = tt
+fits_colon c m (json more v) h = tt
 fits_colon c m (compact more b) h = absurd h
-fits_colon c m (layout.below g column b) h = gap_allows g column
+fits_colon c m (layout.below behind g column b) h = allowed_comment behind (line_feed ∷ gap_white g (blanks column)) false ∙ gap_allows g column
+fits_colon c m (at_key behind g es) h = tt
+fits_colon c m (anchored more name v) h = tt
+fits_colon c m (alias more name t) h = tt
 
 -- ---- entries of arrays
 
-last_entry_runs : (c : ℕ) (v : Value) → IsValue c v → RunsValue c v → RunsEntries c (last_entry v)
-last_entry_runs c v h one from t s i is want trail low deep shut u =
+last_entry_runs : (c : ℕ) (a : List Anchor) (v : Value) → MayFollowMark v → IsValue c a v → IsBasicValue v → RunsValue c v → RunsEntries c (last_entry v)
+last_entry_runs c a v may h e one from t s i is want trail low deep shut u =
     let y = body_of c v (trail_text t) in
-    let way = is_way c v h in
-    let z = dash_run from (way_of v) y s c i is want deep shut way (body_solid c v (trail_text t) h) (rw (value_text c v (trail_text t)) at u) in
-    one from t c i is true _ trail low (way_deep (way_of v) c way) (fits_mark c v) z
+    let way = is_way c a v may h in
+    let z = dash_run from (way_of c v) y s c i is want deep shut way (body_solid c a v (trail_text t) h e) (rw (value_text c v (trail_text t) e) at u) in
+    one from t c i is true _ trail low (way_deep (way_of c v) c way) (fits_mark c v) z
 
 entry_runs : (c : ℕ) (v : Value) (g : List GapLine) (es : Entries) → IsGap g → RunsEntries c (last_entry v) → RunsEntries c es → RunsEntries c (entry v g es)
 entry_runs c v g es gap one more from t s i is want trail low deep shut u =
@@ -178,39 +224,65 @@ entry_runs c v g es gap one more from t s i is want trail low deep shut u =
 
 -- ---- entries of hashes
 
-implicit_runs : (c : ℕ) (k : Scalar) (v : Value) → IsField c (implicit k v) → RunsValue c v → RunsField c (implicit k v)
-implicit_runs c (plain k) v h one from t s i is want trail low deep shut u =
-    let key = h.0 in
+-- a scalar key and its `:`
+key_taken : (c : ℕ) (k : Scalar) (w : Way) (y : List ℕ) (from : State) (s : Stand) (i : ℕ) (is : List Indent) (want : List Tok → List Tok) → IsImplicitKey k → i ≤ c → IsClosed i is
+    → Before from (spell_scalar k (58 ∷ spell_white (way_white w) y)) c (indent_at s c i) (indents_at s i is) true want
+    → Taken from (spell_white (way_white w) y) c i is (λ o. want (starts s Tok.block_mapping_start (Tok.key ∷ scalar_token k ∷ Tok.value ∷ o)))
+key_taken c (as_before (plain k)) w y from s i is want key deep shut u =
     let short : length (spelling k) ≤ 1024 = rw (append-nil (spelling k)) at key.1 in
-    let way = is_way c v h.2 in
-    let z = plain_key_run from (spelling k) (way_of v) (body_of c v (trail_text t)) s c i is want (spelt_plain k key.0) short deep shut way (body_solid c v (trail_text t) h.2) (rw (value_text c v (trail_text t)) at u) in
-    one from t z.at i is _ _ trail low z.deep (fits_colon c z.at v h.1) z.marked
-implicit_runs c (quoted text) v h one from t s i is want trail low deep shut u =
-    let key = h.0 in
+    plain_key_run from (spelling k) w y s c i is want (spelt_plain k key.0) short deep shut u
+key_taken c (as_before (quoted text)) w y from s i is want key deep shut u =
     let short : length (double_quoted text) ≤ 1024 = subst (λ l. length l ≤ 1024) (append-nil (double_quoted text)) key.1 in
-    let way = is_way c v h.2 in
-    let z = quoted_key_run from text (way_of v) (body_of c v (trail_text t)) s c i is want short deep shut way (body_solid c v (trail_text t) h.2) (rw (value_text c v (trail_text t)) at u) in
+    quoted_key_run false (written_escapes text ++ 34 ∷ []) text (double_is text) from w y s c i is want short deep shut u
+key_taken c (single_quoted text) w y from s i is want key deep shut u =
+    quoted_key_run true (flat_map doubled text ++ 39 ∷ []) text (single_is text key.0) from w y s c i is want key.1 deep shut (rw (← append_assoc (flat_map doubled text) (39 ∷ []) (58 ∷ spell_white (way_white w) y)) at u)
+
+implicit_runs : (c : ℕ) (a : List Anchor) (k : Scalar) (v : Value) → MayFollowMark v → IsField c a (implicit k v) → IsBasicField (implicit k v) → RunsValue c v → RunsField c (implicit k v)
+implicit_runs c a k v may h e one from t s i is want trail low deep shut u =
+    let w = way_of c v in
+    let y = body_of c v (trail_text t) in
+    let taken = key_taken c k w y from s i is want h.0 deep shut (rw (value_text c v (trail_text t) e) at u) in
+    let z = valued from w y c i is _ (is_way c a v may h.2) (body_solid c a v (trail_text t) h.2 e) taken in
     one from t z.at i is _ _ trail low z.deep (fits_colon c z.at v h.1) z.marked
 
-explicit_runs : (c : ℕ) (k : Value) (g : List GapLine) (v : Value) → IsField c (explicit k g v) → RunsValue c k → RunsValue c v → RunsField c (explicit k g v)
-explicit_runs c k g v h first_one one from t s i is want trail low deep shut u =
+-- the value is an array at the key's column: the entries of the hash's own level
+at_key_runs : (c : ℕ) (a : List Anchor) (k : Scalar) (behind : Comment) (g : List GapLine) (es : Entries) → IsField c a (implicit k (at_key behind g es)) → RunsEntries c es → RunsField c (implicit k (at_key behind g es))
+at_key_runs c a k behind g es h all from t s i is want trail low deep shut u =
+    let y = spell_entries c es (trail_text t) in
+    let taken = key_taken c k (below behind g c) y from s i is want h.0 deep shut (rw (below_text behind c g y) at u) in
+    all from t later i is _ trail low deep shut (at_entry from behind g y c i is _ h.2.0 h.2.1 (entries_solid c es (trail_text t)) taken)
+
+-- a key behind `?` is no array at its mark's column
+explicit_follows : (k : Value) → IsExplicitKey k → MayFollowMark k
+explicit_follows (at_key behind g es) h = h
+explicit_follows (layout.beside more i behind) h = tt
+explicit_follows (literal more column text ls) h = tt
+explicit_follows (folded more column strips text ls) h = tt
+explicit_follows (json more v) h = tt
+explicit_follows (compact more b) h = tt
+explicit_follows (layout.below behind g column b) h = tt
+explicit_follows (anchored more name v) h = tt
+explicit_follows (alias more name t) h = tt
+
+explicit_runs : (c : ℕ) (a : List Anchor) (k : Value) (g : List GapLine) (v : Value) → IsField c a (explicit k g v) → IsBasicField (explicit k g v) → RunsValue c k → RunsValue c v → RunsField c (explicit k g v)
+explicit_runs c a k g v h e first_one one from t s i is want trail low deep shut u =
     let r = 58 ∷ spell_value c v (trail_text t) in
     let n = next g c r in
-    let way = is_way c k h.1 in
-    let y = question_run from (way_of k) (body_of c k (trail_text n)) s c i is want deep shut way (body_solid c k (trail_text n) h.1) (rw (value_text c k (trail_text n)) at u) in
-    let z = first_one from n c i is true _ (h.2, refl) (omega arith) (way_deep (way_of k) c way) (fits_mark c k) y in
+    let way = is_way c a k (explicit_follows k h.0) h.1 in
+    let y = question_run from (way_of c k) (body_of c k (trail_text n)) s c i is want deep shut way (body_solid c a k (trail_text n) h.1 e.0) (rw (value_text c k (trail_text n) e.0) at u) in
+    let z = first_one from n c i is true _ (h.2, refl) (omega arith) (way_deep (way_of c k) c way) (fits_mark c k) y in
     let x = before_next from g c i is r _ z in
-    let path = is_way c v h.3 in
-    let w = colon_run from (way_of v) (body_of c v (trail_text t)) c i is _ deep shut path (body_solid c v (trail_text t) h.3) (rw (value_text c v (trail_text t)) at x) in
-    one from t c i is true _ trail low (way_deep (way_of v) c path) (fits_mark c v) w
+    let path = is_way c (anchors_behind k a) v h.3 h.4 in
+    let w = colon_run from (way_of c v) (body_of c v (trail_text t)) c i is _ deep shut path (body_solid c (anchors_behind k a) v (trail_text t) h.4 e.1) (rw (value_text c v (trail_text t) e.1) at x) in
+    one from t c i is true _ trail low (way_deep (way_of c v) c path) (fits_mark c v) w
 
 last_field_runs : (c : ℕ) (f : Field) → RunsField c f → RunsFields c (last_field f)
 last_field_runs c f one = one
 
-field_runs : (c : ℕ) (f : Field) (g : List GapLine) (fs : Fields) → IsGap g → AreFields c fs → RunsField c f → RunsFields c fs → RunsFields c (field f g fs)
-field_runs c f g fs gap are one more from t s i is want trail low deep shut u =
+field_runs : (c : ℕ) (a : List Anchor) (f : Field) (g : List GapLine) (fs : Fields) → IsGap g → AreFields c (anchors_behind_field f a) fs → RunsField c f → RunsFields c fs → RunsFields c (field f g fs)
+field_runs c a f g fs gap are one more from t s i is want trail low deep shut u =
     let n = next g c (spell_fields c fs (trail_text t)) in
-    let z = one from n s i is want (gap, fields_solid c fs (trail_text t) are) (omega arith) deep shut u in
+    let z = one from n s i is want (gap, fields_solid c (anchors_behind_field f a) fs (trail_text t) are) (omega arith) deep shut u in
     more from t later i is _ trail low deep shut (before_next from g c i is (spell_fields c fs (trail_text t)) _ z)
 
 -- ---- blocks
@@ -224,24 +296,37 @@ hash_runs c fs all from t i is is_open want trail low deep shut u =
     closed t from c i is _ (omega (arith, low, deep)) (all from t (first is_open) i is want trail (omega (arith, low, deep)) deep shut u)
 
 mutual
-  pub block_runs : (c : ℕ) (b : Block) → IsBlock c b → RunsBlock c b
-  block_runs c (array es) h = array_runs c es (entries_run c es h)
-  block_runs c (hash fs) h = hash_runs c fs (fields_run c fs h.0)
+  pub block_runs : (c : ℕ) (a : List Anchor) (b : Block) → IsBlock c a b → IsBasicBlock b → RunsBlock c b
+  block_runs c a (array es) h e = array_runs c es (entries_run c a es h e)
+  block_runs c a (hash fs) h e = hash_runs c fs (fields_run c a fs h.0 e)
 
-  value_runs : (c : ℕ) (v : Value) → IsValue c v → RunsValue c v
-  value_runs c (layout.beside more v) h = beside_runs c more v h
-  value_runs c (literal more column text ls) h = literal_runs c more column text ls h
-  value_runs c (compact more b) h = compact_runs c more b (block_runs (c + 2 + more) b h)
-  value_runs c (layout.below g column b) h = below_runs c g column b (block_runs column b h.2)
+  value_runs : (c : ℕ) (a : List Anchor) (v : Value) → MayFollowMark v → IsValue c a v → IsBasicValue v → RunsValue c v
+  value_runs c a (layout.beside more v behind) may h e = beside_runs c more v behind h.0 h.1
+  value_runs c a (literal more column text ls) may h e = literal_runs c more column a text ls h
+  value_runs c a (folded more column strips text ls) may h e = absurd e
+  value_runs c a (json more v) may h e = absurd e
+  value_runs c a (compact more b) may h e = compact_runs c more b (block_runs (c + 2 + more) a b h e)
+  value_runs c a (layout.below behind g column b) may h e = below_runs c behind g column b (block_runs column a b h.3 e)
+  value_runs c a (at_key behind g es) may h e = absurd may
+  value_runs c a (anchored more name v) may h e = absurd e
+  value_runs c a (alias more name t) may h e = absurd e
 
-  entries_run : (c : ℕ) (es : Entries) → AreEntries c es → RunsEntries c es
-  entries_run c (last_entry v) h = last_entry_runs c v h (value_runs c v h)
-  entries_run c (entry v g es) h = entry_runs c v g es h.1 (last_entry_runs c v h.0 (value_runs c v h.0)) (entries_run c es h.2)
+  entries_run : (c : ℕ) (a : List Anchor) (es : Entries) → AreEntries c a es → AreBasicEntries es → RunsEntries c es
+  entries_run c a (last_entry v) h e = last_entry_runs c a v h.0 h.1 e (value_runs c a v h.0 h.1 e)
+  entries_run c a (entry v g es) h e = entry_runs c v g es h.2 (last_entry_runs c a v h.0 h.1 e.0 (value_runs c a v h.0 h.1 e.0)) (entries_run c (anchors_behind v a) es h.3 e.1)
 
-  field_run : (c : ℕ) (f : Field) → IsField c f → RunsField c f
-  field_run c (implicit k v) h = implicit_runs c k v h (value_runs c v h.2)
-  field_run c (explicit k g v) h = explicit_runs c k g v h (value_runs c k h.1) (value_runs c v h.3)
+  field_run : (c : ℕ) (a : List Anchor) (f : Field) → IsField c a f → IsBasicField f → RunsField c f
+  field_run c a (implicit k (at_key behind g es)) h e = at_key_runs c a k behind g es h (entries_run c a es h.2.2 e)
+  field_run c a (implicit k (layout.beside more v behind)) h e = implicit_runs c a k (layout.beside more v behind) tt h e (beside_runs c more v behind h.2.0 h.2.1)
+  field_run c a (implicit k (literal more column text ls)) h e = implicit_runs c a k (literal more column text ls) tt h e (literal_runs c more column a text ls h.2)
+  field_run c a (implicit k (folded more column strips text ls)) h e = absurd e
+  field_run c a (implicit k (json more v)) h e = absurd e
+  field_run c a (implicit k (compact more b)) h e = absurd (h.1)
+  field_run c a (implicit k (layout.below behind g column b)) h e = implicit_runs c a k (layout.below behind g column b) tt h e (below_runs c behind g column b (block_runs column a b h.2.3 e))
+  field_run c a (implicit k (anchored more name v)) h e = absurd e
+  field_run c a (implicit k (alias more name t)) h e = absurd e
+  field_run c a (explicit k g v) h e = explicit_runs c a k g v h e (value_runs c a k (explicit_follows k h.0) h.1 e.0) (value_runs c (anchors_behind k a) v h.3 h.4 e.1)
 
-  fields_run : (c : ℕ) (fs : Fields) → AreFields c fs → RunsFields c fs
-  fields_run c (last_field f) h = last_field_runs c f (field_run c f h)
-  fields_run c (field f g fs) h = field_runs c f g fs h.1 h.2 (field_run c f h.0) (fields_run c fs h.2)
+  fields_run : (c : ℕ) (a : List Anchor) (fs : Fields) → AreFields c a fs → AreBasicFields fs → RunsFields c fs
+  fields_run c a (last_field f) h e = last_field_runs c f (field_run c a f h e)
+  fields_run c a (field f g fs) h e = field_runs c a f g fs h.1 h.2 (field_run c a f h.0 e.0) (fields_run c (anchors_behind_field f a) fs h.2 e.1)

@@ -1,11 +1,21 @@
 -- Laws of the scanner's model and texts laid out in lines: each is carried by the function of `src/laws.rt` that its comment names.
-use Rattle.std.specs.Prelude.{◌≡◌, List, []}
+use Rattle.std.specs.Prelude.{◌≡◌, ℕ, List, [], ◌∷◌}
 use Rattle.token_defs.specs.Token.{Token}
 use Rattle.yaml_tokens.specs.declared.problem.Fault.{Fault}
+use Rattle.tree_defs.specs.Tree.{Tree}
 use Rattle.layout_defs.specs.Layout.{Layout, IsLayout, spell}
+use Rattle.layout_defs.specs.WideLayout.{WideLayout, IsWideLayout, trees_of}
+use Rattle.layout_defs.specs.WideLayout as wide
+use Rattle.layout_defs.specs.InTurn.{AreLaidOutInTurn}
 use Rattle.laid_tokens.specs.LayoutTokens.{layout_tokens}
+use Rattle.laid_tokens.specs.WideTokens.{wide_tokens}
 use Rattle.scan_model.specs.Run.{HasTokens, IsRefused}
+use Rattle.scan_layout.specs.Basic.{IsBasic}
 use Rattle.scan_json.specs.JsonScan.{toks, HasToks}
+
+-- `basic_texts_have_their_tokens`
+abbrev pub BasicTextsHaveTheirTokens : Type 0
+BasicTextsHaveTheirTokens = (w : WideLayout) → IsWideLayout w → IsBasic w → HasToks (wide.spell w []) (wide_tokens w)
 
 -- `layout_texts_have_their_tokens`
 abbrev pub LayoutTextsHaveTheirTokens : Type 0
@@ -18,3 +28,13 @@ LayoutTextsHaveNoOtherTokens = (w : Layout) → IsLayout w → (ts : List Token)
 -- `layout_texts_are_not_refused`
 abbrev pub LayoutTextsAreNotRefused : Type 0
 LayoutTextsAreNotRefused = (w : Layout) → IsLayout w → (f : Fault) → IsRefused (spell w []) f → ⊥
+
+-- `layouts_in_turn_have_their_tokens`: they are a wide layout, and have its tokens
+abbrev pub LayoutsInTurnHaveTheirTokens : Type 0
+LayoutsInTurnHaveTheirTokens =
+    (t : Tree) (ts : List Tree) (text : List ℕ) → AreLaidOutInTurn (t ∷ ts) text
+    → (w : WideLayout) × IsWideLayout w × (wide.spell w [] ≡ text) × (trees_of w.documents ≡ t ∷ ts) × HasToks text (wide_tokens w)
+
+-- `layouts_in_turn_are_not_refused`
+abbrev pub LayoutsInTurnAreNotRefused : Type 0
+LayoutsInTurnAreNotRefused = (ts : List Tree) (text : List ℕ) → AreLaidOutInTurn ts text → (f : Fault) → IsRefused text f → ⊥

@@ -1,1 +1,2 @@
+pub mod Basic
 pub mod Laws

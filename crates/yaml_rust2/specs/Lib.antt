@@ -9,11 +9,14 @@ pub use Rattle.tree_defs.specs.Box
 pub use Rattle.tree_defs.specs.DumpText
 pub use Rattle.layout_defs.specs.Json
 pub use Rattle.layout_defs.specs.Layout
+pub use Rattle.layout_defs.specs.InTurn
 pub use Rattle.layout_defs.specs.WideLayout
 pub use Rattle.layout_defs.specs.Sound
 pub use Rattle.layout_defs.specs.DumpIsLaidOut
 pub use Rattle.layout_defs.specs.DumpIsInjective
+pub use Rattle.layout_defs.specs.DumpsInTurn
 pub use Rattle.laid_tokens.specs.QuotedText
+pub use Rattle.scan_layout.specs.Basic
 pub use Rattle.token_defs.specs.Token
 pub use Rattle.event_defs.specs.Event
 pub use Rattle.event_defs.specs.Nested

@@ -1,6 +1,6 @@
 //! Laws: functions whose clause is a statement about the definitions, of all trees, texts, tokens or events. They answer
 //! nothing and take no memory; but for `laid_out`, which walks its tree, their bodies are empty.
-pub use dump_layout::laws::dumps_are_laid_out;
+pub use dump_layout::laws::{dumps_are_laid_out, dumps_in_turn_are_laid_out};
 pub use dumped_trees::laws::laid_out;
 pub use event_defs::laws::{
     loaded_integers_have_64_bits, loaded_trees_have_distinct_keys, loaded_trees_have_no_alias,
@@ -9,10 +9,14 @@ pub use event_defs::laws::{
 };
 pub use layout_defs::laws::{
     json_trees_are_sound, laid_out_trees_are_sound, layouts_are_wide_layouts,
-    widely_laid_out_trees_are_sound,
+    layouts_in_turn_are_wide_layouts, widely_laid_out_trees_are_sound,
 };
 pub use loaded_texts::documents::{
     aliases_inside_their_node_are_bad_values, read_documents_come_back,
+};
+pub use loaded_texts::in_turn::{
+    dumps_in_turn_are_read_as_their_trees, layouts_in_turn_are_read_as_their_trees,
+    layouts_in_turn_are_without_nul,
 };
 pub use loaded_texts::laws::{
     characters_are_the_text, dumps_are_injective, dumps_are_read_as_their_tree,
@@ -25,6 +29,7 @@ pub use loaded_texts::laws::{
 pub use loaded_texts::quoted::{
     quoted_texts_are_read_as_their_string, quoted_texts_are_without_nul,
 };
+pub use loaded_texts::wide::basic_texts_are_read_as_their_trees;
 pub use read_json::laws::{
     foretold_events_are_not_refused, json_documents_read_as_their_trees, json_events_are_loaded,
     json_numbers_stand_for_their_trees, json_tokens_are_a_stream, json_tokens_read_as_their_tree,
@@ -43,7 +48,9 @@ pub use scan_json::laws::{
     texts_have_one_list_of_tokens, texts_with_tokens_are_not_refused,
 };
 pub use scan_layout::laws::{
-    layout_texts_are_not_refused, layout_texts_have_no_other_tokens, layout_texts_have_their_tokens,
+    basic_texts_have_their_tokens, layout_texts_are_not_refused, layout_texts_have_no_other_tokens,
+    layout_texts_have_their_tokens, layouts_in_turn_are_not_refused,
+    layouts_in_turn_have_their_tokens,
 };
 pub use scan_quoted::laws::{quoted_bodies_are_read, quoted_texts_have_their_tokens};
 pub use tree_defs::laws::{

@@ -1,0 +1,20 @@
+-- Laws of texts of several documents, layouts one after another: each is carried by the function of `src/in_turn.rt` that its comment names.
+use Rattle.std.specs.Prelude.{ℕ, Bool, List, All}
+use Rattle.tree_defs.specs.Tree.{Tree}
+use Rattle.layout_defs.specs.InTurn.{AreLaidOutInTurn}
+use Rattle.layout_defs.specs.DumpIsInjective.{CanBeWritten}
+use Rattle.layout_defs.specs.DumpsInTurn.{dump_texts}
+use Rattle.loaded_texts.specs.TextReadAs.{IsReadAs}
+use Rattle.loaded_texts.specs.Spelled.{IsWithoutNul}
+
+-- `layouts_in_turn_are_read_as_their_trees`
+abbrev pub LayoutsInTurnAreReadAsTheirTrees : Type 0
+LayoutsInTurnAreReadAsTheirTrees = (keep_tags : Bool) (trees : List Tree) (text : List ℕ) → AreLaidOutInTurn trees text → IsReadAs keep_tags text trees
+
+-- `layouts_in_turn_are_without_nul`
+abbrev pub LayoutsInTurnAreWithoutNul : Type 0
+LayoutsInTurnAreWithoutNul = (trees : List Tree) (text : List ℕ) → AreLaidOutInTurn trees text → IsWithoutNul text
+
+-- `dumps_in_turn_are_read_as_their_trees`, in each setting
+abbrev pub DumpsInTurnAreReadAsTheirTrees : Type 0
+DumpsInTurnAreReadAsTheirTrees = (keep_tags compact multiline : Bool) (trees : List Tree) → All CanBeWritten trees → IsReadAs keep_tags (dump_texts compact multiline trees) trees
