@@ -16,8 +16,9 @@ pub fn first_lines_give_the_column()
 {}
 
 /// Each piece of text that is a block scalar before the text behind it is read as it: with its value, up to the piece's end and
-/// the spaces behind it, at the place where its content begins. Refused is only what stands behind a scalar without content:
-/// a TAB, or text that is indented deep enough to be content, but not as deep as the empty lines before it.
+/// the spaces behind it, at the place where its content begins. It is refused exactly where a TAB stands behind a header
+/// alone, and where behind a scalar without content text is indented as content of the innermost block collection, but not
+/// as deep as the empty lines before it.
 pub fn block_pieces_are_read()
     ensures { BlockPiecesAreRead }
 {}
