@@ -3,8 +3,8 @@
 ghost use Rattle.scan_blocks.specs.Laws.{BlockPiecesAreRead, BlockScansEndAsTheirTextSays, FirstLinesGiveTheColumn, HeadersEndAsTheirLineSays};
 
 /// Behind `|` or `>` the rest of each line is read so alone: a header is read as the chomping and the digit that it says, if
-/// no TAB begins the next line; a line that is no header is refused, for a digit 0, for a comment without a blank before it,
-/// or for other text.
+/// no TAB begins the next line; a line that is no header is refused, for a digit 0, for a comment right behind a header, or
+/// for other text.
 pub fn headers_end_as_their_line_says()
     ensures { HeadersEndAsTheirLineSays }
 {}
