@@ -18,7 +18,8 @@ use Rattle.scalar_model.specs.Machine.{Read, past, after}
 use Rattle.scalar_model.specs.Space.{linebreak}
 use Rattle.scalar_model.specs.Block.{Header, Column, Lines, lines_from, indent_from, content, header, Block, block, behind_header, is_open, tail, empty_text}
 use Rattle.scan_blocks.specs.HeaderEnds.{indicator_of, chomping_of, digit_or_zero, indicators_of, is_in_line, along, read_header}
-use Rattle.scan_blocks.specs.BlockScan.{collection_by, digit_by, is_literal, without_spaces, further_place, IsRead, read, shallow}
+use Rattle.scan_blocks.specs.BlockScan.{collection_by, digit_by, is_literal, without_spaces, further_place, IsRead, read, shallow, is_none, is_tabbed, is_shallow}
+use Rattle.scan_blocks.proofs.Bridges.{and_false}
 use Rattle.scan_blocks.proofs.Written.{Break, feed, carriage, both, Line, put, spell, texts, Fits, AreLines}
 use Rattle.scan_blocks.proofs.Margins.{behind_break, behind_line, behind_lines, at, before, margin_passes, last_passes, col_along}
 use Rattle.scan_blocks.proofs.First.{content_is}
@@ -98,6 +99,10 @@ result rest q place t = Ok (record { rest = rest; place = q; value = record { pl
 answer : (rest : List ℕ) (q r place at_place : Place) (t u : List ℕ) → q ≡ r → place ≡ at_place → t ≡ u → result rest q place t ≡ result rest r at_place u
 answer rest q r place at_place t u e f g = rw (e, f, g) refl
 
+second_false : (a b c : Bool) → (((a && false) && b) && c) ≡ false
+second_false true b c = refl
+second_false false b c = refl
+
 pub style_inner : (s : defs.BlockStyle) (line : List ℕ) → is_in_line line ≡ true → is_in_line (indicator_of s ∷ line) ≡ true
 unfolding classes.is_break
 style_inner defs.literal line h = h
@@ -132,7 +137,7 @@ module _ (h : defs.Header) (line : List ℕ) (k : Break) (indent : ℕ) (p : Pla
   -- ---- before further text
 
   module _ (column : ℕ) (ls : List Line) (next : List ℕ) (rs : List Row) (are : AreLines ls next) (fits : Fits k (spell ls next)) (are_alone : AreLines ls []) (fits_alone : Fits k (spell ls []))
-      (rows : rows_of column (texts ls) ≡ Some rs) (text : is_at_end next ≡ false)
+      (rows : rows_of column (texts ls) ≡ Some rs) (text : is_at_end next ≡ false) (free : is_tabbed (with_header (spell ls [])) next ≡ false)
       (found_by : scan_of (spell ls next) ≡ behind h line k indent p is digit inner (indent_from column (spell ls next) (at first_place []))) where
     abbrev lines_read : Lines
     lines_read = behind_rows (is_literal h.style) rs (behind_empty 0)
@@ -152,13 +157,18 @@ module _ (h : defs.Header) (line : List ℕ) (k : Break) (indent : ℕ) (p : Pla
     place_is : past_spaces (behind_lines ls first_place) next ≡ further_place p piece next
     place_is = ap (λ q. past_spaces q next) (sym (piece_place ls next are fits))
 
+    content_there : {q : Place} → first_content column true p piece ≡ Some q → is_shallow indent p before_text piece next ≡ false
+    content_there e =
+        ap (λ o. ((not (is_at_end next) && is_none o) && nat_le indent (further_place p piece next).col) && nat_lt (further_place p piece next).col column) e
+        ∙ second_false (not (is_at_end next)) (nat_le indent (further_place p piece next).col) (nat_lt (further_place p piece next).col column)
+
     with_rows : has_content rs ≡ true → Outside column next (behind_lines ls first_place) → FoundIn column ls next first_place [] → IsRead indent p before_text piece next (scan_of (spell ls next))
     with_rows some z f =
         let c = f.here in
         let where_is : block_place column p piece next ≡ c.place = ap (λ o. place_or o (if is_at_end next then p else past_spaces (place_behind p piece next) next)) (piece_first column (spell ls []) fits_alone ∙ f.first [] are_alone) in
         let text_is : lines_read.text ++ tail (chomping_of h.chomping) (is_open column (without_spaces next) (past_spaces (behind_lines ls first_place) next).col) lines_read ≡ value_before_text h rs =
         ap (λ b. lines_read.text ++ tail (chomping_of h.chomping) b lines_read) (closed z _) ∙ content_value h false rs (are_full column (texts ls) rs rows) some ∙ rw some refl in
-        read (found_by ∙ finish h line k indent p is digit inner column (spell ls next) c.rest (without_spaces next) c.char c.place _ c.breaks_before lines_read c.found (in_place h line k indent p is digit inner column c.place.col c.in_column) (read_to z)
+        read free (content_there (piece_first column (spell ls []) fits_alone ∙ f.first [] are_alone)) (found_by ∙ finish h line k indent p is digit inner column (spell ls next) c.rest (without_spaces next) c.char c.place _ c.breaks_before lines_read c.found (in_place h line k indent p is digit inner column c.place.col c.in_column) (read_to z)
         ∙ answer (without_spaces next) _ (further_place p piece next) c.place (block_place column p piece next) _ (value_before_text h rs) place_is (sym where_is) text_is)
 
     none_place : (n : ℕ) → Empty column ls next first_place [] n → first_content column true p piece ≡ None
@@ -180,17 +190,22 @@ module _ (h : defs.Header) (line : List ℕ) (k : Break) (indent : ℕ) (p : Pla
         found : indent_from column (spell ls next) (at first_place []) ≡ record { rest = z.char ∷ z.rest; place = z.place; value = record { column = column; breaks = breaks n } }
         found = f.passes ∙ z.found (breaks n)
 
-        go : (nat_lt z.place.col column && nat_le indent z.place.col) ≡ false → IsRead indent p before_text piece next (scan_of (spell ls next))
-        go deep =
-            read (found_by ∙ finish h line k indent p is digit inner column (spell ls next) z.rest (without_spaces next) z.char z.place _ (breaks n) lines_read found deep (read_to z)
+        is_here : is_shallow indent p before_text piece next ≡ (nat_le indent z.place.col && nat_lt z.place.col column)
+        is_here = ap (λ b. ((not b && is_none (first_content column true p piece)) && nat_le indent (further_place p piece next).col) && nat_lt (further_place p piece next).col column) text
+            ∙ ap (λ o. (is_none o && nat_le indent (further_place p piece next).col) && nat_lt (further_place p piece next).col column) (none_place n f)
+            ∙ ap (λ (q : Place). nat_le indent q.col && nat_lt q.col column) (sym here)
+
+        go : (nat_lt z.place.col column && nat_le indent z.place.col) ≡ false → is_shallow indent p before_text piece next ≡ false → IsRead indent p before_text piece next (scan_of (spell ls next))
+        go deep not_shallow =
+            read free not_shallow (found_by ∙ finish h line k indent p is digit inner column (spell ls next) z.rest (without_spaces next) z.char z.place _ (breaks n) lines_read found deep (read_to z)
             ∙ answer (without_spaces next) _ (further_place p piece next) z.place (block_place column p piece next) _ (value_before_text h rs) place_is (sym where_is) text_is)
 
         by : (l i : Bool) → nat_lt z.place.col column ≡ l → nat_le indent z.place.col ≡ i → IsRead indent p before_text piece next (scan_of (spell ls next))
         by true true e g =
-            shallow (none_place n f) (ap (λ (q : Place). nat_le indent q.col) (sym here) ∙ g) (ap (λ (q : Place). nat_lt q.col column) (sym here) ∙ e)
+            shallow free (is_here ∙ rw (g, e) refl)
             (found_by ∙ refuse h line k indent p is digit inner column (spell ls next) z.rest z.char z.place (breaks n) found (rw (e, g) refl) ∙ ap (λ q. Err (At problem.BlockScalarIndentation q)) here)
-        by true false e g = go (rw (e, g) refl)
-        by false i e g = go (rw e refl)
+        by true false e g = go (rw (e, g) refl) (is_here ∙ rw g refl)
+        by false i e g = go (rw e refl) (is_here ∙ rw e (and_false (nat_le indent z.place.col)))
 
     pub before_further : Outside column next (behind_lines ls first_place) → IsRead indent p before_text piece next (scan_of (spell ls next))
     before_further z = by (has_content rs) refl
@@ -256,7 +271,7 @@ module _ (h : defs.Header) (line : List ℕ) (k : Break) (indent : ℕ) (p : Pla
         let open_is : is_open column [] (along last last_place).col ≡ nat_le (max column 1) (length last) = reaches (along last last_place).col ∙ ap (nat_le (max column 1)) far in
         let text_is : rows_read.text ++ tail (chomping_of h.chomping) (is_open column [] (along last last_place).col) rows_read ≡ value_before_end h column rs last empty_row =
         ap (λ b. rows_read.text ++ tail (chomping_of h.chomping) b rows_read) open_is ∙ content_value h (nat_le (max column 1) (length last)) rs (are_full column (texts ls) rs rows) some ∙ rw some refl in
-        read (found_by ∙ finish h line k indent p is digit inner column (spell ls last) c.rest [] c.char c.place _ c.breaks_before rows_read c.found (in_place h line k indent p is digit inner column c.place.col c.in_column) reads
+        read (and_false _) refl (found_by ∙ finish h line k indent p is digit inner column (spell ls last) c.rest [] c.char c.place _ c.breaks_before rows_read c.found (in_place h line k indent p is digit inner column c.place.col c.in_column) reads
         ∙ answer [] _ (further_place p whole []) c.place (block_place column p whole []) _ (value_before_end h column rs last empty_row) whole_place (sym (at_content c.place (f.first last are))) text_is)
 
     empty_none : has_content rs ≡ false → is_spaces last ≡ true → length last ≤ column → Empty column ls last first_place [] (length rs) → read_end empty_row
@@ -264,7 +279,7 @@ module _ (h : defs.Header) (line : List ℕ) (k : Break) (indent : ℕ) (p : Pla
         let low : last_place.col + length last ≤ column = (let e = at_front in omega (arith, e, le)) in
         let found : indent_from column (spell ls last) (at first_place []) ≡ record { rest = []; place = along last last_place; value = record { column = column; breaks = breaks (length rs) } } = f.passes ∙ last_passes column last last_place (breaks (length rs)) spaces low in
         let where_is : block_place column p whole [] ≡ p = ap (λ o. place_or o p) (whole_first ∙ f.first last are ∙ first_last column last last_place spaces low) in
-        read (found_by ∙ ap (behind h line k indent p is digit inner) found
+        read (and_false _) refl (found_by ∙ ap (behind h line k indent p is digit inner) found
         ∙ answer [] _ (further_place p whole []) p (block_place column p whole []) _ (value_before_end h column rs last empty_row) whole_place (sym where_is) (end_value h.chomping (length rs) ∙ rw none refl))
 
     -- a last line of content
@@ -290,7 +305,7 @@ module _ (h : defs.Header) (line : List ℕ) (k : Break) (indent : ℕ) (p : Pla
     content_by : (c : Found column (spell ls last) first_place []) → first_content column false first_place (spell ls last) ≡ Some (c.place) → Starts (is_literal h.style) column last [] last_place [] column → suc column ≤ length last
         → lines_from (is_literal h.style) column last (front last_place rows_read) ≡ Ok (record { rest = []; place = along last last_place; value = last_read }) → read_end last_row
     content_by c first z long reads =
-        read (found_by ∙ finish h line k indent p is digit inner column (spell ls last) c.rest [] c.char c.place _ c.breaks_before last_read c.found (in_place h line k indent p is digit inner column c.place.col c.in_column)
+        read (and_false _) refl (found_by ∙ finish h line k indent p is digit inner column (spell ls last) c.rest [] c.char c.place _ c.breaks_before last_read c.found (in_place h line k indent p is digit inner column c.place.col c.in_column)
         (rows_go (is_literal h.style) column ls last first_place (behind_empty 0) rs refl are rows ∙ reads)
         ∙ answer [] _ (further_place p whole []) c.place (block_place column p whole []) _ (value_before_end h column rs last last_row) whole_place (sym (at_content c.place first)) (content_text z long))
 
@@ -363,5 +378,5 @@ header_alone_is_read h line indent p is inner =
     let place : q ≡ further_place p (indicator_of h.style ∷ line) [] =
     sym (ap (λ x. place_behind p x []) (sym (append-nil (indicator_of h.style ∷ line))) ∙ behind_chars (indicator_of h.style ∷ line) [] [] p (style_inner h.style line inner)) in
     let where_is : block_place 0 p (indicator_of h.style ∷ line) [] ≡ p = ap (λ o. place_or o p) (header_alone 0 (indicator_of h.style ∷ line) p (style_inner h.style line inner)) in
-    read (ap (λ x. after x (λ (r : Read Header). behind_header (is_literal h.style) indent p r.value (content indent r.value.indicators.increment r.rest r.place))) header_reads_it
+    read (and_false _) refl (ap (λ x. after x (λ (r : Read Header). behind_header (is_literal h.style) indent p r.value (content indent r.value.indicators.increment r.rest r.place))) header_reads_it
     ∙ ends ∙ answer [] q (further_place p (indicator_of h.style ∷ line) []) p (block_place 0 p (indicator_of h.style ∷ line) []) [] [] place (sym where_is) refl)

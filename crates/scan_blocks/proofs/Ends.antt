@@ -108,8 +108,8 @@ module _ (style : BlockStyle) (indent : ℕ) (p : Place) where
       bad_header line behind (At problem.BlockScalarTab p) refl inner at_end (tabbed h f t refl) (header_fails (is_literal style) indent (indicator_of style) (line ++ behind) p (At problem.BlockScalarTab p) e)
   by_header line behind inner at_end (zero_digit f z e) go =
       bad_header line behind (At problem.BlockScalarZero p) refl inner at_end (zero_digit f z refl) (header_fails (is_literal style) indent (indicator_of style) (line ++ behind) p (At problem.BlockScalarZero p) e)
-  by_header line behind inner at_end (comment b t f c e) go =
-      bad_header line behind (At problem.CommentNotSeparated (along b (past p))) refl inner at_end (comment b t f c refl) (header_fails (is_literal style) indent (indicator_of style) (line ++ behind) p (At problem.CommentNotSeparated (along b (past p))) e)
+  by_header line behind inner at_end (comment g b t f w c e) go =
+      bad_header line behind (At problem.CommentNotSeparated (along b (past p))) refl inner at_end (comment g b t f w c refl) (header_fails (is_literal style) indent (indicator_of style) (line ++ behind) p (At problem.CommentNotSeparated (along b (past p))) e)
   by_header line behind inner at_end (no_header f e) go =
       bad_header line behind (At problem.BlockScalarHeader p) refl inner at_end (no_header f refl) (header_fails (is_literal style) indent (indicator_of style) (line ++ behind) p (At problem.BlockScalarHeader p) e)
 

@@ -103,7 +103,7 @@ module _ (h : defs.Header) (line behind : List ℕ) (p : Place) (is : header_of 
       by (reads g f t e) = let same : g ≡ h = (let x : Some g ≡ Some h = sym f ∙ is in cc) in e ∙ ap (λ k. Ok (read_header k behind (along line (past p)))) same
       by (tabbed g f t e) = let no : true ≡ false = sym t ∙ still in cc
       by (zero_digit f z e) = let no : None ≡ Some h = sym f ∙ is in cc
-      by (comment b t f c e) = let no : None ≡ Some h = sym f ∙ is in cc
+      by (comment g b t f w c e) = let no : None ≡ Some h = sym f ∙ is in cc
       by (no_header f e) = let no : None ≡ Some h = sym f ∙ is in cc
 
   pub header_tabs : is_in_line line ≡ true → ends_line behind ≡ true → begins_with tab (linebreak behind p).rest ≡ true → header p (line ++ behind) (past p) ≡ Err (At problem.BlockScalarTab p)
@@ -113,7 +113,7 @@ module _ (h : defs.Header) (line behind : List ℕ) (p : Place) (is : header_of 
       by (reads g f t e) = let no : false ≡ true = sym t ∙ still in cc
       by (tabbed g f t e) = e
       by (zero_digit f z e) = let no : None ≡ Some h = sym f ∙ is in cc
-      by (comment b t f c e) = let no : None ≡ Some h = sym f ∙ is in cc
+      by (comment g b t f w c e) = let no : None ≡ Some h = sym f ∙ is in cc
       by (no_header f e) = let no : None ≡ Some h = sym f ∙ is in cc
 
 pub linebreak_put : (k : Break) (a : List ℕ) (q : Place) → Fits k a → linebreak (put k a) q ≡ record { rest = a; place = behind_break k q; value = tt }

@@ -245,15 +245,15 @@ module _ (start : Place) (style : BlockStyle) (r : List ℕ) (ends : ends_line r
 
   -- behind the indicators, before the rest of the line
   finish : (line before w : List ℕ) (h : defs.Header) → line ≡ before ++ w → is_in_line w ≡ true → header_of (indicator_of style ∷ line) ≡ (if is_rest_of_line w then Some h else None)
-      → indicators start (line ++ r) (past start) ≡ Ok (record { rest = w ++ r; place = along before (past start); value = indicators_of h }) → Ends line
+      → header_of (indicator_of style ∷ before) ≡ Some h → indicators start (line ++ r) (past start) ≡ Ok (record { rest = w ++ r; place = along before (past start); value = indicators_of h }) → Ends line
   unfolding header
-  finish line before w h cut inner is reads_it = by (is_rest_of_line w) refl
+  finish line before w h cut inner is own reads_it = by (is_rest_of_line w) refl
     where
       q : Place
       q = along before (past start)
 
       refused : Fails start w q (header_end start (w ++ r) q) → header_of (indicator_of style ∷ line) ≡ None → Ends line
-      refused (at_comment text so e) none = comment before text none (cut ∙ ap (λ x. before ++ x) so) (rw (reads_it, e) refl)
+      refused (at_comment text so e) none = comment h before text none own (cut ∙ ap (λ x. before ++ x) so) (rw (reads_it, e) refl)
       refused (at_other e) none = no_header none (rw (reads_it, e) refl)
 
       by : (b : Bool) → is_rest_of_line w ≡ b → Ends line
@@ -298,17 +298,17 @@ module _ (start : Place) (style : BlockStyle) (r : List ℕ) (ends : ends_line r
     with_digit l a n p e = rw (sign.reads_it, e) (ap Ok (sign.late (record { rest = a; place = p; value = n })))
 
     sign_only : Ends (c ∷ [])
-    sign_only = finish (c ∷ []) (c ∷ []) [] (made ch None) refl refl (sign_said []) (with_digit [] r 0 (past (past start)) (end_increment start r (past (past start)) ends))
+    sign_only = finish (c ∷ []) (c ∷ []) [] (made ch None) refl refl (sign_said []) (sign_said []) (with_digit [] r 0 (past (past start)) (end_increment start r (past (past start)) ends))
 
     sign_other : (d : ℕ) (m : List ℕ) → is_in_line (d ∷ m) ≡ true → is_digit d ≡ false → classes.is_between 49 57 d ≡ false → Ends (c ∷ d ∷ m)
     unfolding digit_of
     sign_other d m inner e f =
-        finish (c ∷ d ∷ m) (c ∷ []) (d ∷ m) (made ch None) refl inner (sign_said (d ∷ m) ∙ rw f refl) (with_digit (d ∷ m) (d ∷ (m ++ r)) 0 (past (past start)) (no_increment start d (m ++ r) (past (past start)) e))
+        finish (c ∷ d ∷ m) (c ∷ []) (d ∷ m) (made ch None) refl inner (sign_said (d ∷ m) ∙ rw f refl) (sign_said []) (with_digit (d ∷ m) (d ∷ (m ++ r)) 0 (past (past start)) (no_increment start d (m ++ r) (past (past start)) e))
 
     sign_digit : (d : ℕ) (m : List ℕ) → is_in_line m ≡ true → is_digit d ≡ true → (d == 48) ≡ false → classes.is_between 49 57 d ≡ true → Ends (c ∷ d ∷ m)
     unfolding digit_of
     sign_digit d m inner e f g =
-        finish (c ∷ d ∷ m) (c ∷ d ∷ []) m (made ch (Some (d - 48))) refl inner (sign_said (d ∷ m) ∙ rw g refl)
+        finish (c ∷ d ∷ m) (c ∷ d ∷ []) m (made ch (Some (d - 48))) refl inner (sign_said (d ∷ m) ∙ rw g refl) (sign_said (d ∷ []) ∙ rw g refl)
         (with_digit (d ∷ m) (m ++ r) (d - 48) (past (past (past start))) (some_increment start d (m ++ r) (past (past start)) e f))
 
     sign_zero : (m : List ℕ) → Ends (c ∷ 48 ∷ m)
@@ -352,16 +352,16 @@ module _ (start : Place) (style : BlockStyle) (r : List ℕ) (ends : ends_line r
     with_sign l a ch p e = rw (no_chomping c (l ++ r) (past start) no_plus no_minus, some_increment start c (l ++ r) (past start) is_count_digit no_zero, e) refl
 
     digit_only : Ends (c ∷ [])
-    digit_only = finish (c ∷ []) (c ∷ []) [] (made clip (Some (c - 48))) refl refl (digit_said []) (with_sign [] r clip (past (past start)) (end_chomping r (past (past start)) ends))
+    digit_only = finish (c ∷ []) (c ∷ []) [] (made clip (Some (c - 48))) refl refl (digit_said []) (digit_said []) (with_sign [] r clip (past (past start)) (end_chomping r (past (past start)) ends))
 
     digit_other : (d : ℕ) (m : List ℕ) → is_in_line (d ∷ m) ≡ true → (d == 43) ≡ false → (d == 45) ≡ false → Ends (c ∷ d ∷ m)
     unfolding sign_of
     digit_other d m inner e f =
-        finish (c ∷ d ∷ m) (c ∷ []) (d ∷ m) (made clip (Some (c - 48))) refl inner (digit_said (d ∷ m) ∙ rw (f, e) refl) (with_sign (d ∷ m) (d ∷ (m ++ r)) clip (past (past start)) (no_chomping d (m ++ r) (past (past start)) e f))
+        finish (c ∷ d ∷ m) (c ∷ []) (d ∷ m) (made clip (Some (c - 48))) refl inner (digit_said (d ∷ m) ∙ rw (f, e) refl) (digit_said []) (with_sign (d ∷ m) (d ∷ (m ++ r)) clip (past (past start)) (no_chomping d (m ++ r) (past (past start)) e f))
 
     digit_sign : (d : ℕ) (ch : defs.Chomping) (m : List ℕ) → is_in_line m ≡ true → IsSign d ch → Ends (c ∷ d ∷ m)
     digit_sign d ch m inner sign =
-        finish (c ∷ d ∷ m) (c ∷ d ∷ []) m (made ch (Some (c - 48))) refl inner (digit_said (d ∷ m) ∙ rw (sign.said_so) refl) (with_sign (d ∷ m) (m ++ r) ch (past (past (past start))) (sign.reads_it (m ++ r) (past (past start))))
+        finish (c ∷ d ∷ m) (c ∷ d ∷ []) m (made ch (Some (c - 48))) refl inner (digit_said (d ∷ m) ∙ rw (sign.said_so) refl) (digit_said (d ∷ []) ∙ rw (sign.said_so) refl) (with_sign (d ∷ m) (m ++ r) ch (past (past (past start))) (sign.reads_it (m ++ r) (past (past start))))
 
     digit_then : (d : ℕ) (m : List ℕ) → is_in_line (d ∷ m) ≡ true → Kind d → Ends (c ∷ d ∷ m)
     digit_then d m inner (is_minus e) = rw e (digit_sign 45 strip m ((first_inner d m inner).1) minus)
@@ -378,7 +378,7 @@ module _ (start : Place) (style : BlockStyle) (r : List ℕ) (ends : ends_line r
 
   no_indicator : (l : List ℕ) → indicators start (l ++ r) (past start) ≡ Ok (record { rest = l ++ r; place = past start; value = indicators_of (made clip None) })
       → is_in_line l ≡ true → header_of (indicator_of style ∷ l) ≡ (if is_rest_of_line l then Some (made clip None) else None) → Ends l
-  no_indicator l e inner is = finish l [] l (made clip None) refl inner is e
+  no_indicator l e inner is = finish l [] l (made clip None) refl inner is (said []) e
 
   empty_line : Ends []
   unfolding indicators

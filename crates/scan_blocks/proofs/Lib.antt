@@ -14,3 +14,4 @@ mod Walks
 mod Blocks
 pub mod Pieces
 pub mod Ends
+mod Examples

@@ -1,19 +1,19 @@
 -- Each piece that is a block scalar is read as it.
-use Rattle.std.proofs.Common.{◌≡◌, ℕ, zero, suc, List, [], ◌∷◌, ◌++◌, Bool, true, false, not, ◌==◌, max, slice_index, Option, Some, None, refl, ap, sym, ◌∙◌, append-nil, append_assoc, arith}
+use Rattle.std.proofs.Common.{◌≡◌, ℕ, zero, suc, List, [], ◌∷◌, ◌++◌, Bool, true, false, ◌&&◌, not, ◌==◌, max, slice_index, Option, Some, None, refl, ap, sym, ◌∙◌, append-nil, append_assoc, arith}
 use Rattle.std.specs.List.{list_all}
 use Rattle.std.proofs.lemmas.Bool.{and_parts}
 use Rattle.std.proofs.lemmas.Bool.Decides.{nat_tests}
 use Rattle.yaml_chars.specs.Place.{Place}
 use Rattle.scalar_defs.specs.Classes as classes
 use Rattle.scalar_defs.specs.Classes.{tab, is_at_end, is_document_marker}
-use Rattle.scalar_defs.specs.Breaks.{split}
+use Rattle.scalar_defs.specs.Breaks.{split, Split}
 use Rattle.scalar_defs.specs.FlowScalar.{begins_with}
 use Rattle.scalar_defs.specs.BlockScalar as defs
 use Rattle.scalar_defs.specs.BlockScalar.{Row, rows_of, row_of, deepest_start, least_column, column_by, header_of, starts_with_tab, is_outside, is_further_text, further_text, unbroken, body, input_ends, Body, value_at_text, value_at_end, block_value, value_before_text, value_before_end}
 use Rattle.cut_defs.specs.BlockPiece.{BlockRead, read_body, read_lines, read_split}
 use Rattle.scalar_model.specs.Block.{block, indent_from}
 use Rattle.scan_blocks.specs.HeaderEnds.{indicator_of, digit_or_zero, is_in_line}
-use Rattle.scan_blocks.specs.BlockScan.{collection_by, digit_by, is_literal, is_some, IsRead, tabbed}
+use Rattle.scan_blocks.specs.BlockScan.{collection_by, digit_by, is_literal, is_some, IsRead, tabbed, is_tabbed, is_single}
 use Rattle.scan_blocks.specs.Laws.{BlockPiecesAreRead}
 use Rattle.scan_blocks.proofs.Bridges.{first_inner, not_true}
 use Rattle.scan_blocks.proofs.Written.{Break, feed, carriage, both, Line, put, spell, texts, Fits, AreLines, Lined, lined, split_spell}
@@ -23,7 +23,7 @@ use Rattle.scan_blocks.proofs.Rows.{row_is}
 use Rattle.scan_blocks.proofs.Further.{further_outside}
 use Rattle.scan_blocks.proofs.HeaderFacts.{Said, said}
 use Rattle.scan_blocks.proofs.Columns.{Deep, deep_next, same_column, spell_append, texts_append, are_append}
-use Rattle.scan_blocks.proofs.Blocks.{start, behind, block_is, tab_fails, before_further, before_the_end, header_alone_is_read}
+use Rattle.scan_blocks.proofs.Blocks.{style_inner, start, behind, block_is, tab_fails, before_further, before_the_end, header_alone_is_read}
 
 -- ---- a TAB behind the header
 
@@ -134,12 +134,19 @@ module _ (indent : ℕ) (p : Place) (next : List ℕ) where
     free : (slice_index next 0 == 10) ≡ false
     free = no_feed column_here next z.further
 
+    cut_of : (ls : List Line) → Fits k (spell ls []) → AreLines ls [] → split (indicator_of h.style ∷ (line ++ put k (spell ls []))) ≡ record { complete = (indicator_of h.style ∷ line) ∷ texts ls; last = [] }
+    cut_of ls fits are = split_spell (record { text = indicator_of h.style ∷ line; by = k } ∷ ls) [] (style_inner h.style line inner, fits, are) refl
+
+    no_tab : (ls : List Line) → Fits k (spell ls []) → AreLines ls [] → begins_with tab (spell ls next) ≡ false → is_tabbed (indicator_of h.style ∷ (line ++ put k (spell ls []))) next ≡ false
+    no_tab [] fits are e = ap (λ (s : Split). is_single s.complete && begins_with tab next) (cut_of [] fits are) ∙ e
+    no_tab (l ∷ ls) fits are e = ap (λ (s : Split). is_single s.complete && begins_with tab next) (cut_of (l ∷ ls) fits are)
+
     text_here : (t : Bool) → begins_with tab (spell ls next) ≡ t → IsRead indent p (record { style = h.style; column = column_here; text = value_before_text h z.rows }) (indicator_of h.style ∷ (line ++ put k (spell ls []))) next (block (is_literal h.style) indent (indicator_of h.style ∷ (line ++ put k (spell ls next))) p)
-    text_here true e = tabbed (first_tab ls z.tabless e) (tab_fails h line k indent p is digit inner (spell ls next) (fits_more k ls next free fits) e)
+    text_here true e = tabbed (first_tab ls fits are z.tabless e) (tab_fails h line k indent p is digit inner (spell ls next) (fits_more k ls next free fits) e)
       where
-        first_tab : (ls : List Line) → starts_with_tab (texts ls) ≡ false → begins_with tab (spell ls next) ≡ true → begins_with tab next ≡ true
-        first_tab [] f g = g
-        first_tab (l ∷ ls) f g = let no : false ≡ true = sym f ∙ sym (tab_line l.text (spell ls next) l.by (texts ls)) ∙ g in cc
+        first_tab : (ls : List Line) → Fits k (spell ls []) → AreLines ls [] → starts_with_tab (texts ls) ≡ false → begins_with tab (spell ls next) ≡ true → is_tabbed (indicator_of h.style ∷ (line ++ put k (spell ls []))) next ≡ true
+        first_tab [] fits are f g = ap (λ (s : Split). is_single s.complete && begins_with tab next) (cut_of [] fits are) ∙ g
+        first_tab (l ∷ ls) fits are f g = let no : false ≡ true = sym f ∙ sym (tab_line l.text (spell ls next) l.by (texts ls)) ∙ g in cc
     text_here false e = by (lined next)
       where
         by : Lined next → IsRead indent p (record { style = h.style; column = column_here; text = value_before_text h z.rows }) (indicator_of h.style ∷ (line ++ put k (spell ls []))) next (block (is_literal h.style) indent (indicator_of h.style ∷ (line ++ put k (spell ls next))) p)
@@ -152,7 +159,7 @@ module _ (indent : ℕ) (p : Place) (next : List ℕ) where
             ap (λ a. block (is_literal h.style) indent (indicator_of h.style ∷ (line ++ put k a)) p) (sym same)
             ∙ block_is h line k indent p is digit inner (ls ++ y.lines) y.last column_here (whole_column h.digit indent ls y.lines y.last column_here refl (rw (← y.is) (z.further))) (are_append ls y.lines y.last are_first y.are) y.inner (rw same fits_next) (rw same e)
             ∙ ap (λ a. behind h line k indent p is digit inner (indent_from column_here a (at (start h line k indent p is digit inner) []))) same in
-            before_further h line k indent p is digit inner column_here ls next z.rows are_next fits_next are fits z.are_rows not_end found
+            before_further h line k indent p is digit inner column_here ls next z.rows are_next fits_next are fits z.are_rows not_end (no_tab ls fits are e) found
             (further_outside column_here next (behind_lines ls (start h line k indent p is digit inner)) (lines_col ls) z.further)
           where
             lines_col : (ls : List Line) → (behind_lines ls (start h line k indent p is digit inner)).col ≡ 0

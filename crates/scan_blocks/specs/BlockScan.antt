@@ -1,7 +1,8 @@
 -- What the model of a block scalar's scan is told and what it answers, in the definitions' words.
-use Rattle.std.specs.Prelude.{◌≡◌, ℕ, zero, suc, List, [], ◌∷◌, Bool, true, false, not, ◌==◌, nat_lt, nat_le, if◌then◌else◌, Option, Some, None, Result, Ok, Err}
+use Rattle.std.specs.Prelude.{◌≡◌, ℕ, zero, suc, List, [], ◌∷◌, Bool, true, false, ◌&&◌, not, ◌==◌, nat_lt, nat_le, if◌then◌else◌, Option, Some, None, Result, Ok, Err}
 use Rattle.yaml_chars.specs.Place.{Place}
-use Rattle.scalar_defs.specs.Classes.{space, tab}
+use Rattle.scalar_defs.specs.Classes.{space, tab, is_at_end}
+use Rattle.scalar_defs.specs.Breaks.{split}
 use Rattle.scalar_defs.specs.FlowScalar.{begins_with}
 use Rattle.scalar_defs.specs.BlockScalar.{BlockStyle, literal, folded}
 use Rattle.cut_defs.specs.Text.{place_behind}
@@ -48,10 +49,28 @@ read_block p b piece next = record {
   value = record { place = block_place b.column p piece next; text = b.text };
 }
 
--- The scan at a place read this block scalar from its piece, or refused what stands behind it: where the scalar has no content, text that is
--- indented as content of the innermost block collection, but not as deep as the empty lines before it; or a TAB.
+-- whether there is no place
+abbrev pub is_none : Option Place → Bool
+is_none None = true
+is_none (Some q) = false
+
+-- whether a list has one member
+abbrev pub is_single : {A : Type 0} → List A → Bool
+is_single [] = false
+is_single (x ∷ []) = true
+is_single (x ∷ y ∷ xs) = false
+
+-- whether a TAB stands behind a piece that is a header alone
+abbrev pub is_tabbed : (piece next : List ℕ) → Bool
+is_tabbed piece next = is_single (split piece).complete && begins_with tab next
+
+-- Whether the text behind a scalar without content is indented as content of the innermost block collection, but not as deep as the empty lines before it.
+abbrev pub is_shallow : (indent : ℕ) → Place → BlockRead → (piece next : List ℕ) → Bool
+is_shallow indent p b piece next =
+    ((not (is_at_end next) && is_none (first_content b.column true p piece)) && nat_le indent (further_place p piece next).col) && nat_lt (further_place p piece next).col b.column
+
+-- The scan at a place read this block scalar from its piece, or refused what stands behind it: a TAB, or text that is neither content nor outside the block collection.
 pub data IsRead (indent : ℕ) (p : Place) (b : BlockRead) (piece next : List ℕ) (x : Result (Read Block) Fault) : Type 0 where
-  read : x ≡ Ok (read_block p b piece next) → IsRead indent p b piece next x
-  shallow : first_content b.column true p piece ≡ None → nat_le indent (further_place p piece next).col ≡ true → nat_lt (further_place p piece next).col b.column ≡ true
-      → x ≡ Err (At problem.BlockScalarIndentation (further_place p piece next)) → IsRead indent p b piece next x
-  tabbed : begins_with tab next ≡ true → x ≡ Err (At problem.BlockScalarTab p) → IsRead indent p b piece next x
+  read : is_tabbed piece next ≡ false → is_shallow indent p b piece next ≡ false → x ≡ Ok (read_block p b piece next) → IsRead indent p b piece next x
+  shallow : is_tabbed piece next ≡ false → is_shallow indent p b piece next ≡ true → x ≡ Err (At problem.BlockScalarIndentation (further_place p piece next)) → IsRead indent p b piece next x
+  tabbed : is_tabbed piece next ≡ true → x ≡ Err (At problem.BlockScalarTab p) → IsRead indent p b piece next x

@@ -64,13 +64,13 @@ has_zero [] = false
 has_zero (c ∷ r) = (c == 48) || (is_sign c && begins_with 48 r)
 
 -- How the scan of a header ends: `start` is the place of its `|` or `>`, and `line` the rest of its line, behind which the line's end stands.
--- It read the header that the line is, if no TAB begins the next line; or the line is none, for a digit 0, a comment without a blank before it, or other text.
+-- It read the header that the line is, if no TAB begins the next line; or the line is none, for a digit 0, a comment right behind a header, or other text.
 pub data EndsAs (start : Place) (style : BlockStyle) (line behind : List ℕ) (x : Result (Read Header) Fault) : Type 0 where
   reads : (h : defs.Header) → header_of (indicator_of style ∷ line) ≡ Some h → begins_with tab (linebreak behind start).rest ≡ false
       → x ≡ Ok (read_header h behind (along line (past start))) → EndsAs start style line behind x
   tabbed : (h : defs.Header) → header_of (indicator_of style ∷ line) ≡ Some h → begins_with tab (linebreak behind start).rest ≡ true
       → x ≡ Err (At problem.BlockScalarTab start) → EndsAs start style line behind x
   zero_digit : header_of (indicator_of style ∷ line) ≡ None → has_zero line ≡ true → x ≡ Err (At problem.BlockScalarZero start) → EndsAs start style line behind x
-  comment : (before text : List ℕ) → header_of (indicator_of style ∷ line) ≡ None → line ≡ before ++ 35 ∷ text
+  comment : (h : defs.Header) (before text : List ℕ) → header_of (indicator_of style ∷ line) ≡ None → header_of (indicator_of style ∷ before) ≡ Some h → line ≡ before ++ 35 ∷ text
       → x ≡ Err (At problem.CommentNotSeparated (along before (past start))) → EndsAs start style line behind x
   no_header : header_of (indicator_of style ∷ line) ≡ None → x ≡ Err (At problem.BlockScalarHeader start) → EndsAs start style line behind x

@@ -3,8 +3,8 @@
 ghost use Rattle.scan_blocks.specs.Laws.{BlockPiecesAreRead, BlockScansEndAsTheirTextSays, FirstLinesGiveTheColumn, HeadersEndAsTheirLineSays};
 
 /// Behind `|` or `>` the rest of each line is read so alone: a header is read as the chomping and the digit that it says, if
-/// no TAB begins the next line; a line that is no header is refused, for a digit 0, for a comment without a blank before it,
-/// or for other text.
+/// no TAB begins the next line; a line that is no header is refused, for a digit 0, for a comment right behind a header, or
+/// for other text.
 pub fn headers_end_as_their_line_says()
     ensures { HeadersEndAsTheirLineSays }
 {}
@@ -16,8 +16,9 @@ pub fn first_lines_give_the_column()
 {}
 
 /// Each piece of text that is a block scalar before the text behind it is read as it: with its value, up to the piece's end and
-/// the spaces behind it, at the place where its content begins. Refused is only what stands behind a scalar without content:
-/// a TAB, or text that is indented deep enough to be content, but not as deep as the empty lines before it.
+/// the spaces behind it, at the place where its content begins. It is refused exactly where a TAB stands behind a header
+/// alone, and where behind a scalar without content text is indented as content of the innermost block collection, but not
+/// as deep as the empty lines before it.
 pub fn block_pieces_are_read()
     ensures { BlockPiecesAreRead }
 {}
