@@ -6,4 +6,5 @@ pub mod PlainValues
 pub mod Plains
 pub mod Fillers
 pub mod Uris
+pub mod Tags
 mod PlainRows

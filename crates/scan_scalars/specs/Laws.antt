@@ -1,5 +1,5 @@
 -- Laws of the scanner's model and the texts of single tokens: each is carried by the function of `src/laws.rt` that its comment names.
-use Rattle.std.specs.Prelude.{◌≡◌, ℕ, List, ◌∷◌, ◌++◌, true, false, Some, Ok}
+use Rattle.std.specs.Prelude.{◌≡◌, ℕ, List, ◌∷◌, ◌++◌, Bool, true, false, Some, Ok}
 use Rattle.yaml_chars.specs.Place.{Place}
 use Rattle.scalar_defs.specs.FlowScalar.{plain_value}
 use Rattle.scalar_model.specs.declared.context.Context.{Context}
@@ -14,7 +14,9 @@ use Rattle.scan_scalars.specs.Fillers.{PassesAs}
 use Rattle.yaml_chars.specs.Class.{is_uri, is_tag}
 use Rattle.scalar_defs.specs.Classes as classes
 use Rattle.scalar_model.specs.Uri.{uri}
+use Rattle.scalar_model.specs.Tag.{tag}
 use Rattle.scan_scalars.specs.UriEnds.{uri_read}
+use Rattle.scan_scalars.specs.TagEnds as tags
 use Rattle.scan_scalars.specs.PlainEnds.{has_no_nul, collection_of, begins_solid, is_indented, IsRead}
 use Rattle.scan_scalars.specs.PlainEnds as plains
 
@@ -46,3 +48,7 @@ abbrev pub UrisAreRead : Type 0
 UrisAreRead =
     (start : Place) (text : List ℕ) (p : Place) (before : List ℕ) →
     (uri is_uri start text p before ≡ uri_read classes.is_uri start p text before) × (uri is_tag start text p before ≡ uri_read classes.is_tag start p text before)
+
+-- `tags_end_as_their_text_says`; `text` is what stands behind the `!`
+abbrev pub TagsEndAsTheirTextSays : Type 0
+TagsEndAsTheirTextSays = (in_flow : Bool) (text : List ℕ) (p : Place) → tags.EndsAs in_flow p text (tag in_flow (33 ∷ text) p)
