@@ -5,6 +5,7 @@ pub mod PlainScans
 pub mod PlainValues
 pub mod Plains
 pub mod Fillers
+pub mod WhiteSpace
 pub mod Uris
 pub mod Tags
 mod PlainRows

@@ -9,8 +9,8 @@ use Rattle.cut_defs.specs.Piece.{is_name, goes_on_with_name}
 use Rattle.cut_defs.specs.Plain.{is_whole_plain}
 use Rattle.scan_scalars.specs.NameEnds.{behind_name, EndsAs}
 use Rattle.scan_model.specs.State.{Held}
-use Rattle.scan_model.specs.Space.{between, skip}
-use Rattle.scan_scalars.specs.Fillers.{PassesAs}
+use Rattle.scan_model.specs.Space.{between, skip, white}
+use Rattle.scan_scalars.specs.Fillers.{PassesAs, GoesOverAs}
 use Rattle.yaml_chars.specs.Class.{is_uri, is_tag}
 use Rattle.scalar_defs.specs.Classes as classes
 use Rattle.scalar_model.specs.Uri.{uri}
@@ -52,3 +52,7 @@ UrisAreRead =
 -- `tags_end_as_their_text_says`; `text` is what stands behind the `!`
 abbrev pub TagsEndAsTheirTextSays : Type 0
 TagsEndAsTheirTextSays = (in_flow : Bool) (text : List ℕ) (p : Place) → tags.EndsAs in_flow p text (tag in_flow (33 ∷ text) p)
+
+-- `white_space_is_passed`; what must stand behind a `?`
+abbrev pub WhiteSpaceIsPassed : Type 0
+WhiteSpaceIsPassed = (s : Held) (text : List ℕ) → GoesOverAs s text (white false false text s)

@@ -1,6 +1,6 @@
 //! Laws of the scanner's model and the texts of single tokens, each carried by an empty function.
 
-ghost use Rattle.scan_scalars.specs.Laws.{FillersArePassed, NamesAreRead, NamesEndAsTheirTextSays, PlainScalarsAreRead, PlainScansEndAsTheirTextSays, TagsEndAsTheirTextSays, UrisAreRead};
+ghost use Rattle.scan_scalars.specs.Laws.{FillersArePassed, NamesAreRead, NamesEndAsTheirTextSays, PlainScalarsAreRead, PlainScansEndAsTheirTextSays, TagsEndAsTheirTextSays, UrisAreRead, WhiteSpaceIsPassed};
 
 /// Behind its indicator a name is read as it stands, up to a text that goes on with no character of a name.
 pub fn names_are_read()
@@ -42,4 +42,10 @@ pub fn uris_are_read()
 /// text that goes on behind the tag.
 pub fn tags_end_as_their_text_says()
     ensures { TagsEndAsTheirTextSays }
+{}
+
+/// Behind a `?` all spaces, breaks and comments are passed, and nothing else; the place is the one behind them. It is refused
+/// only where neither a space nor a break stands there, nor a break behind a comment.
+pub fn white_space_is_passed()
+    ensures { WhiteSpaceIsPassed }
 {}
