@@ -6,6 +6,7 @@ pub mod PlainValues
 pub mod Plains
 pub mod Fillers
 pub mod WhiteSpace
+pub mod Spaces
 pub mod Uris
 pub mod Tags
 mod PlainRows

@@ -8,9 +8,11 @@ use Rattle.scalar_model.specs.Plain.{plain}
 use Rattle.cut_defs.specs.Piece.{is_name, goes_on_with_name}
 use Rattle.cut_defs.specs.Plain.{is_whole_plain}
 use Rattle.scan_scalars.specs.NameEnds.{behind_name, EndsAs}
+use Rattle.scalar_model.specs.declared.context.SkipTabs.{SkipTabs}
+use Rattle.scalar_model.specs.Space.{space}
 use Rattle.scan_model.specs.State.{Held}
 use Rattle.scan_model.specs.Space.{between, skip, white}
-use Rattle.scan_scalars.specs.Fillers.{PassesAs, GoesOverAs}
+use Rattle.scan_scalars.specs.Fillers.{PassesAs, GoesOverAs, SpacesAs}
 use Rattle.yaml_chars.specs.Class.{is_uri, is_tag}
 use Rattle.scalar_defs.specs.Classes as classes
 use Rattle.scalar_model.specs.Uri.{uri}
@@ -56,3 +58,7 @@ TagsEndAsTheirTextSays = (in_flow : Bool) (text : List ℕ) (p : Place) → tags
 -- `white_space_is_passed`; what must stand behind a `?`
 abbrev pub WhiteSpaceIsPassed : Type 0
 WhiteSpaceIsPassed = (s : Held) (text : List ℕ) → GoesOverAs s text (white false false text s)
+
+-- `spaces_are_passed`; within a line
+abbrev pub SpacesArePassed : Type 0
+SpacesArePassed = (tabs : SkipTabs) (text : List ℕ) (p : Place) → SpacesAs tabs p text (space tabs text p)

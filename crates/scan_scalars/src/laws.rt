@@ -1,6 +1,6 @@
 //! Laws of the scanner's model and the texts of single tokens, each carried by an empty function.
 
-ghost use Rattle.scan_scalars.specs.Laws.{FillersArePassed, NamesAreRead, NamesEndAsTheirTextSays, PlainScalarsAreRead, PlainScansEndAsTheirTextSays, TagsEndAsTheirTextSays, UrisAreRead, WhiteSpaceIsPassed};
+ghost use Rattle.scan_scalars.specs.Laws.{FillersArePassed, NamesAreRead, NamesEndAsTheirTextSays, PlainScalarsAreRead, PlainScansEndAsTheirTextSays, SpacesArePassed, TagsEndAsTheirTextSays, UrisAreRead, WhiteSpaceIsPassed};
 
 /// Behind its indicator a name is read as it stands, up to a text that goes on with no character of a name.
 pub fn names_are_read()
@@ -48,4 +48,10 @@ pub fn tags_end_as_their_text_says()
 /// only where neither a space nor a break stands there, nor a break behind a comment.
 pub fn white_space_is_passed()
     ensures { WhiteSpaceIsPassed }
+{}
+
+/// Within a line blanks are passed, TABs among them or not, and a comment behind one, and nothing else; the place is the one
+/// behind them, and what is said to stand there does. It is refused only where a comment stands behind no blank.
+pub fn spaces_are_passed()
+    ensures { SpacesArePassed }
 {}
