@@ -1,5 +1,5 @@
 -- Tags are read as what is written, and no other text is.
-use Rattle.std.proofs.Common.{◌≡◌, ℕ, suc, ◌+◌, List, [], ◌∷◌, ◌++◌, Bool, true, false, ◌||◌, ◌&&◌, not, ◌==◌, if◌then◌else◌, Option, Some, None, Result, Ok, Err, refl, ap, sym, ◌∙◌, arith, append_assoc, append-nil, length, length-append, slice_index, codes}
+use Rattle.std.proofs.Common.{◌≡◌, ℕ, suc, ◌+◌, List, [], ◌∷◌, ◌++◌, Bool, true, false, ◌||◌, ◌==◌, if◌then◌else◌, Some, Result, Ok, Err, refl, ap, sym, ◌∙◌, arith, append_assoc, append-nil, length, length-append, slice_index, codes}
 use Rattle.std.proofs.lemmas.Bool.{and_parts, eqb-true}
 use Rattle.std.proofs.lemmas.Bool.Decides.{nat_tests}
 use Rattle.yaml_chars.specs.Place.{Place}
@@ -12,14 +12,13 @@ use Rattle.scalar_defs.specs.Classes as classes
 use Rattle.scalar_defs.specs.Classes.{is_at_gap}
 use Rattle.scalar_defs.specs.Tags as defs
 use Rattle.scalar_defs.specs.Tags.{UriFault, all_of, leading, behind, is_same, decoded, decoded_behind, uri_character, put_code, tag_by, tag_of_class, written_tag}
-use Rattle.cut_defs.specs.Plain.{begins_flow}
 use Rattle.scalar_model.specs.Machine.{Read, past, after, take_while}
 use Rattle.scalar_model.specs.Uri.{uri}
-use Rattle.scalar_model.specs.Tag.{Tag, read_tag, verbatim_end, verbatim, some_suffix, named, local, local_tag, behind_name, behind_word, shorthand, ends_tag, tag_end, tag_here, tag}
+use Rattle.scalar_model.specs.Tag.{Tag, read_tag, verbatim_end, verbatim, some_suffix, named, local, behind_name, shorthand, ends_tag, tag_end, tag}
 use Rattle.scalar_laws.proofs.Bridges.{same_gap, same_flow, same_alpha, same_tag}
 use Rattle.scan_scalars.specs.NameEnds.{further}
-use Rattle.scan_scalars.specs.UriEnds.{problem_of, behind_class, uri_read}
-use Rattle.scan_scalars.specs.TagEnds.{may_follow, behind_tag, IsRefusal, by_octets, unclosed, no_suffix, goes_on, EndsAs, reads, refuses}
+use Rattle.scan_scalars.specs.UriEnds.{problem_of, behind_class}
+use Rattle.scan_scalars.specs.TagEnds.{may_follow, by_octets, unclosed, no_suffix, goes_on, EndsAs, reads, refuses}
 use Rattle.scan_scalars.specs.Laws.{TagsEndAsTheirTextSays}
 use Rattle.scan_scalars.proofs.Names.{one_further, none_further}
 use Rattle.scan_scalars.proofs.Uris.{uris_are_read}

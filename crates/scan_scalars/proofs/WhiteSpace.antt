@@ -1,6 +1,6 @@
 -- What the model passes behind a `?` is a filler.
-use Rattle.std.proofs.Common.{◌≡◌, ℕ, suc, ◌+◌, List, [], ◌∷◌, ◌++◌, Bool, true, false, ◌||◌, ◌&&◌, not, ◌==◌, if◌then◌else◌, Result, Ok, Err, refl, ap, sym, ◌∙◌}
-use Rattle.std.proofs.lemmas.Bool.{and_parts, eqb-true}
+use Rattle.std.proofs.Common.{◌≡◌, ℕ, List, [], ◌∷◌, ◌++◌, Bool, true, false, ◌||◌, not, ◌==◌, Result, Ok, Err, refl, ap, sym, ◌∙◌}
+use Rattle.std.proofs.lemmas.Bool.{eqb-true}
 use Rattle.yaml_chars.specs.Place.{Place}
 use Rattle.yaml_chars.specs.Class.{is_break, is_blank}
 use Rattle.yaml_tokens.specs.declared.problem.Fault.{Fault}
@@ -14,12 +14,12 @@ use Rattle.cut_defs.specs.Filler.{is_filler}
 use Rattle.scalar_model.specs.Machine.{past, past_break, is_cr_lf}
 use Rattle.scan_model.specs.State.{Held, State, in_flow, moved}
 use Rattle.scan_model.specs.Space.{white, white_end}
-use Rattle.scalar_laws.proofs.Bridges.{same_break, same_blank}
-use Rattle.scan_scalars.specs.PlainEnds.{is_white, has_break}
+use Rattle.scalar_laws.proofs.Bridges.{same_break}
+use Rattle.scan_scalars.specs.PlainEnds.{has_break}
 use Rattle.scan_scalars.specs.Laws.{WhiteSpaceIsPassed}
 use Rattle.scan_scalars.specs.Fillers.{begins_white_space, behind_filler, GoesOverAs, goes, misses}
-use Rattle.scan_scalars.proofs.PlainTurns.{same_feed, in_line_place, line_place, or_true, or_false}
-use Rattle.scan_scalars.proofs.Fillers.{at, Allows, begins_break, stayed, passes_more, same_allowed, line_allowed, feed_allowed, no_hash, no_break_hash, fills_comment, fills_hash, fills_blank}
+use Rattle.scan_scalars.proofs.PlainTurns.{same_feed, in_line_place, line_place, or_true}
+use Rattle.scan_scalars.proofs.Fillers.{at, Allows, begins_break, stayed, passes_more, same_allowed, line_allowed, feed_allowed, no_break_hash, fills_comment, fills_hash, fills_blank}
 
 -- from a place in a comment or not, behind a space or a break or not
 data Goes (in_comment found : Bool) (s : Held) (a : List ℕ) (x : Result State Fault) : Type 0 where

@@ -66,8 +66,13 @@ abbrev pub are_spaces : SkipTabs → List ℕ → Bool
 are_spaces tabs [] = true
 are_spaces tabs (c ∷ r) = ((c == 32) || ((c == 9) && are_skipped tabs)) && are_spaces tabs r
 
--- How the way over blanks and a comment ends: blanks and maybe a comment behind one were passed, which is a filler of one line; or a comment stands behind no blank.
+-- whether a text begins with none of these, and no comment
+abbrev pub ends_spaces : SkipTabs → List ℕ → Bool
+ends_spaces tabs [] = true
+ends_spaces tabs (c ∷ r) = not ((c == 32) || ((c == 9) && are_skipped tabs) || (c == 35))
+
+-- How the way over blanks and a comment ends: all blanks and maybe a comment behind one were passed, which is a filler of one line; or a comment stands behind no blank.
 pub data SpacesAs (tabs : SkipTabs) (p : Place) (text : List ℕ) (x : Result (Read Whitespace) Fault) : Type 0 where
-  spaces : (blanks comment rest : List ℕ) → text ≡ blanks ++ (comment ++ rest) → are_spaces tabs blanks ≡ true → is_filler false (blanks ++ comment) rest ≡ true → has_break (blanks ++ comment) ≡ false
+  spaces : (blanks comment rest : List ℕ) → text ≡ blanks ++ (comment ++ rest) → are_spaces tabs blanks ≡ true → is_filler false (blanks ++ comment) rest ≡ true → has_break (blanks ++ comment) ≡ false → ends_spaces tabs rest ≡ true
       → x ≡ Ok (behind_space p (blanks ++ comment) rest (record { found_tabs = has 9 blanks; has_valid_yaml_ws = has 32 blanks })) → SpacesAs tabs p text x
   glued : begins_with 35 text ≡ true → x ≡ Err (At problem.CommentNotSeparated p) → SpacesAs tabs p text x

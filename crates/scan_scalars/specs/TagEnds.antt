@@ -1,5 +1,5 @@
 -- How the scan of a tag ends, told by the text behind its `!`. YAML 1.2, sections 5.6 and 6.9.1.
-use Rattle.std.specs.Prelude.{◌≡◌, ℕ, ◌+◌, List, [], ◌∷◌, ◌++◌, Bool, true, false, ◌&&◌, ◌||◌, length, Some, Result, Ok, Err}
+use Rattle.std.specs.Prelude.{◌≡◌, ℕ, List, [], ◌∷◌, ◌++◌, Bool, true, false, ◌&&◌, ◌||◌, length, Some, Result, Ok, Err}
 use Rattle.yaml_chars.specs.Place.{Place}
 use Rattle.scalar_defs.specs.Classes.{is_alpha, is_uri, is_tag, is_at_gap}
 use Rattle.scalar_defs.specs.FlowScalar.{begins_with}
