@@ -37,7 +37,7 @@ data Skips (m : Gap) (s : Held) (a : List ℕ) (x : Result State Fault) : Type 0
   fails_here : (blanks rest : List ℕ) → is_tab_line m ≡ true → a ≡ blanks ++ rest → is_blanks blanks ≡ true → begins_token rest ≡ true → x ≡ Err (At problem.TabInBlockIndentation (place_behind s.place blanks rest)) → Skips m s a x
 
 -- the same levels, at another place
-abbrev at : Held → Place → (leading key_allowed : Bool) → Held
+abbrev pub at : Held → Place → (leading key_allowed : Bool) → Held
 at s p leading allowed = record s { place = p; leading = leading; key_allowed = allowed }
 
 skips_on : (m : Gap) (s : Held) (a : List ℕ) (x y : Result State Fault) → x ≡ y → Skips m s a y → Skips m s a x
@@ -45,9 +45,23 @@ skips_on m s a x y e (skips leading filler rest cut is ends k) = skips leading f
 skips_on m s a x y e (fails before blanks rest cut is left are token k) = fails before blanks rest cut is left are token (e ∙ k)
 skips_on m s a x y e (fails_here blanks rest line cut are token k) = fails_here blanks rest line cut are token (e ∙ k)
 
+-- whether a text begins with a break
+abbrev pub begins_break : List ℕ → Bool
+begins_break [] = false
+begins_break (c ∷ r) = classes.is_break c
+
+no_break_at : (rest : List ℕ) → begins_filler rest ≡ false → begins_break rest ≡ false
+no_break_at [] h = refl
+no_break_at (c ∷ r) h = by (classes.is_blank c) (classes.is_break c) h
+  where
+    by : (b d : Bool) → ((b || d) || (c == 35)) ≡ false → d ≡ false
+    by true d h = cc
+    by false true h = cc
+    by false false h = refl
+
 -- whether a key may begin, behind one character and the filler behind it
-abbrev Allows : Held → ℕ → Bool → List ℕ → Type 0
-Allows s c allowed a = (filler rest : List ℕ) → a ≡ filler ++ rest → begins_filler rest ≡ false → ((not (in_flow s) && has_break filler) || allowed) ≡ ((not (in_flow s) && has_break (c ∷ filler)) || s.key_allowed)
+abbrev pub Allows : Held → ℕ → Bool → List ℕ → Type 0
+Allows s c allowed a = (filler rest : List ℕ) → a ≡ filler ++ rest → begins_break rest ≡ false → ((not (in_flow s) && has_break filler) || allowed) ≡ ((not (in_flow s) && has_break (c ∷ filler)) || s.key_allowed)
 
 same_behind : (s : Held) (rest : List ℕ) (leading : Bool) (p q : Place) (k l : Bool) → p ≡ q → k ≡ l
     → ◌≡◌ {A = Result State Fault} (Ok (record { rest = rest; held = at s p leading k })) (Ok (record { rest = rest; held = at s q leading l }))
@@ -66,7 +80,7 @@ unfolding classes.is_break
 is_feed d h = rw h refl
 
 -- behind one character more
-pub passes_more : (s : Held) (c : ℕ) (a : List ℕ) (b k leading : Bool) (filler rest : List ℕ) (x : Result State Fault) → Allows s c k a → a ≡ filler ++ rest → begins_filler rest ≡ false
+pub passes_more : (s : Held) (c : ℕ) (a : List ℕ) (b k leading : Bool) (filler rest : List ℕ) (x : Result State Fault) → Allows s c k a → a ≡ filler ++ rest → begins_break rest ≡ false
     → x ≡ Ok (behind_filler (at s (place_past s.place c a) b k) leading filler rest) → x ≡ Ok (behind_filler s leading (c ∷ filler) rest)
 passes_more s c a b k leading filler rest x allows cut ends e =
     e ∙ same_behind s rest leading _ _ _ _ (ap (λ r. place_behind (place_past s.place c r) filler rest) cut) (allows filler rest cut ends)
@@ -77,7 +91,7 @@ one_more : (m n : Gap) (s : Held) (c : ℕ) (a : List ℕ) (b k : Bool) (x : Res
     → Skips n (at s (place_past s.place c a) b k) a x → Skips m s (c ∷ a) x
 one_more m n s c a b k x fills allows lines (skips leading filler rest cut is ends e) =
     skips leading (c ∷ filler) rest (ap (λ r. c ∷ r) cut) (fills filler rest is) ends
-    (passes_more s c a b k leading filler rest x allows cut ends e)
+    (passes_more s c a b k leading filler rest x allows cut (no_break_at rest ends) e)
 one_more m n s c a b k x fills allows lines (fails before blanks rest cut is left are token e) =
     let here : is_left s (place_behind (place_past s.place c (before ++ 9 ∷ (blanks ++ rest))) before (9 ∷ (blanks ++ rest))) ≡ true = rw cut at left in
     fails (c ∷ before) blanks rest (ap (λ r. c ∷ r) cut) (fills before (9 ∷ (blanks ++ rest)) is) here are token
@@ -86,13 +100,13 @@ one_more m n s c a b k x fills allows lines (fails_here blanks rest line cut are
 
 -- ---- what a character adds
 
-moved_in_line : (s : Held) (c : ℕ) (a : List ℕ) → (classes.is_break c && not (is_before_line_feed c a)) ≡ false → moved s ≡ at s (place_past s.place c a) s.leading s.key_allowed
+pub moved_in_line : (s : Held) (c : ℕ) (a : List ℕ) → (classes.is_break c && not (is_before_line_feed c a)) ≡ false → moved s ≡ at s (place_past s.place c a) s.leading s.key_allowed
 moved_in_line s c a e = ap (λ p. at s p s.leading s.key_allowed) (sym (in_line_place c a s.place e))
 
-same_allowed : (s : Held) (c : ℕ) (a : List ℕ) → classes.is_break c ≡ false → Allows s c s.key_allowed a
+pub same_allowed : (s : Held) (c : ℕ) (a : List ℕ) → classes.is_break c ≡ false → Allows s c s.key_allowed a
 same_allowed s c a e filler rest cut ends = rw e refl
 
-line_allowed : (s : Held) (c : ℕ) (a : List ℕ) → classes.is_break c ≡ true → Allows s c (not (in_flow s) || s.key_allowed) a
+pub line_allowed : (s : Held) (c : ℕ) (a : List ℕ) → classes.is_break c ≡ true → Allows s c (not (in_flow s) || s.key_allowed) a
 line_allowed s c a e filler rest cut ends = rw e (by (not (in_flow s)) (has_break filler) s.key_allowed)
   where
     by : (outside breaks allowed : Bool) → ((outside && breaks) || (outside || allowed)) ≡ ((outside && true) || allowed)
@@ -101,17 +115,17 @@ line_allowed s c a e filler rest cut ends = rw e (by (not (in_flow s)) (has_brea
     by false breaks allowed = refl
 
 -- of CR LF the LF is a break
-feed_allowed : (s : Held) (c : ℕ) (a : List ℕ) → classes.is_break c ≡ true → is_before_line_feed c a ≡ true → Allows s c s.key_allowed a
+pub feed_allowed : (s : Held) (c : ℕ) (a : List ℕ) → classes.is_break c ≡ true → is_before_line_feed c a ≡ true → Allows s c s.key_allowed a
 feed_allowed s c a e f filler rest cut ends = rw (e, breaks filler rest (rw cut at f) ends) refl
   where
     feed_is_break : (d : ℕ) → (d == 10) ≡ true → classes.is_break d ≡ true
     feed_is_break d h = is_feed d (eqb-true d 10 h)
 
-    breaks : (filler rest : List ℕ) → is_before_line_feed c (filler ++ rest) ≡ true → begins_filler rest ≡ false → has_break filler ≡ true
+    breaks : (filler rest : List ℕ) → is_before_line_feed c (filler ++ rest) ≡ true → begins_break rest ≡ false → has_break filler ≡ true
     breaks [] [] h ends = cc
     breaks [] (d ∷ r) h ends =
         let q = and_parts (c == 13) (d == 10) h in
-        let none : true ≡ false = rw (feed_is_break d q.1, or_true) at ends in
+        let none : true ≡ false = rw (feed_is_break d q.1) at ends in
         cc
     breaks (d ∷ filler) rest h ends = let q = and_parts (c == 13) (d == 10) h in rw (feed_is_break d q.1) refl
 
@@ -120,11 +134,11 @@ feed_allowed s c a e f filler rest cut ends = rw (e, breaks filler rest (rw cut 
 abbrev Passed : List ℕ → Type 0
 Passed a = (m : Gap) (s : Held) → Skips m s a (skip m a s)
 
-no_hash : (c : ℕ) → is_blank c ≡ true → (c == 35) ≡ false
+pub no_hash : (c : ℕ) → is_blank c ≡ true → (c == 35) ≡ false
 unfolding is_blank
 no_hash c h = grind (arith, nat_tests)
 
-no_break_hash : (c : ℕ) → is_break c ≡ true → (c == 35) ≡ false
+pub no_break_hash : (c : ℕ) → is_break c ≡ true → (c == 35) ≡ false
 unfolding is_break
 no_break_hash c h = grind (arith, nat_tests)
 
@@ -134,13 +148,13 @@ fills_break comment c filler rest e h = rw (same_break c, e) h
 fills_break between c filler rest e h = let breaks : classes.is_break c ≡ true = same_break c ∙ e in rw (breaks, or_true (classes.is_blank c), no_break_hash c e) h
 fills_break tab_line c filler rest e h = let breaks : classes.is_break c ≡ true = same_break c ∙ e in rw (breaks, or_true (classes.is_blank c), no_break_hash c e) h
 
-fills_blank : (c : ℕ) (filler rest : List ℕ) → is_blank c ≡ true → is_filler false filler rest ≡ true → is_filler false (c ∷ filler) rest ≡ true
+pub fills_blank : (c : ℕ) (filler rest : List ℕ) → is_blank c ≡ true → is_filler false filler rest ≡ true → is_filler false (c ∷ filler) rest ≡ true
 fills_blank c filler rest e h = let blank : classes.is_blank c ≡ true = same_blank c ∙ e in rw (blank, no_hash c e) h
 
-fills_hash : (c : ℕ) (filler rest : List ℕ) → (c == 35) ≡ true → is_filler true filler rest ≡ true → is_filler false (c ∷ filler) rest ≡ true
+pub fills_hash : (c : ℕ) (filler rest : List ℕ) → (c == 35) ≡ true → is_filler true filler rest ≡ true → is_filler false (c ∷ filler) rest ≡ true
 fills_hash c filler rest e h = rw (e, or_true (is_white c)) h
 
-fills_comment : (c : ℕ) (filler rest : List ℕ) → is_break c ≡ false → is_filler true filler rest ≡ true → is_filler true (c ∷ filler) rest ≡ true
+pub fills_comment : (c : ℕ) (filler rest : List ℕ) → is_break c ≡ false → is_filler true filler rest ≡ true → is_filler true (c ∷ filler) rest ≡ true
 fills_comment c filler rest e h = let no_break : classes.is_break c ≡ false = same_break c ∙ e in rw no_break h
 
 -- a character that is no break moves the place by one

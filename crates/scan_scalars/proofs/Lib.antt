@@ -5,5 +5,8 @@ pub mod PlainScans
 pub mod PlainValues
 pub mod Plains
 pub mod Fillers
+pub mod WhiteSpace
+pub mod Spaces
 pub mod Uris
+pub mod Tags
 mod PlainRows

@@ -18,7 +18,7 @@ use Rattle.scalar_model.specs.declared.context.Context.{Context}
 use Rattle.scalar_model.specs.Machine.{Read, past, past_break, is_cr_lf, at_marker}
 use Rattle.scalar_model.specs.Folding.{Folded, with_char, with_blank, with_break, joined}
 use Rattle.scalar_model.specs.Plain.{Mode, inside, between, tabs, at_break, can_be_plain, is_shallow, at_dash, at_plain, goes_on, plain_from, Plain}
-use Rattle.scalar_laws.proofs.Bridges.{same_break, same_blank, same_gap, same_flow, same_marker}
+use Rattle.scalar_laws.proofs.Bridges.{both, same_break, same_blank, same_gap, same_flow, same_marker}
 use Rattle.scan_scalars.specs.PlainEnds.{collection_of, is_white, begins_white, begins_solid}
 use Rattle.scan_scalars.proofs.PlainFound.{behind_char, Fails, Found, found, found_on, further, after_gap, after_content}
 
@@ -33,11 +33,6 @@ or_false false = refl
 and_false : (b : Bool) → (b && false) ≡ false
 and_false true = refl
 and_false false = refl
-
-pub both : (b c : Bool) → (b ≡ true → c ≡ true) → (c ≡ true → b ≡ true) → b ≡ c
-both true c f g = sym (f refl)
-both false true f g = g refl
-both false false f g = refl
 
 -- ---- what the tests of both say
 

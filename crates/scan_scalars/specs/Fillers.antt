@@ -2,11 +2,17 @@
 use Rattle.std.specs.Prelude.{◌≡◌, ℕ, suc, List, [], ◌∷◌, ◌++◌, Bool, true, false, ◌&&◌, ◌||◌, ◌==◌, not, nat_lt, Result, Ok, Err}
 use Rattle.yaml_chars.specs.Place.{Place}
 use Rattle.yaml_chars.specs.Text.{is_nil}
+use Rattle.scalar_defs.specs.Classes.{is_break}
+use Rattle.scalar_defs.specs.FlowScalar.{begins_with}
 use Rattle.cut_defs.specs.Text.{place_behind}
 use Rattle.cut_defs.specs.Filler.{is_filler, is_blanks}
 use Rattle.yaml_tokens.specs.declared.problem.Fault.{Fault}
 use Rattle.yaml_tokens.specs.declared.problem.Fault.TheVariants.{At}
 use Rattle.yaml_tokens.specs.declared.problem.Problem.TheVariants as problem
+use Rattle.scalar_model.specs.declared.context.SkipTabs.{SkipTabs}
+use Rattle.scalar_model.specs.declared.context.Whitespace.{Whitespace}
+use Rattle.scalar_model.specs.Machine.{Read}
+use Rattle.scalar_model.specs.Space.{are_skipped}
 use Rattle.scan_model.specs.State.{Held, State, in_flow}
 use Rattle.scan_scalars.specs.PlainEnds.{is_white, has_break}
 
@@ -34,3 +40,39 @@ pub data PassesAs (s : Held) (text : List ℕ) (x : Result State Fault) : Type 0
   passes : (leading : Bool) (filler rest : List ℕ) → text ≡ filler ++ rest → is_filler false filler rest ≡ true → begins_filler rest ≡ false → x ≡ Ok (behind_filler s leading filler rest) → PassesAs s text x
   refuses : (before blanks rest : List ℕ) → text ≡ before ++ 9 ∷ (blanks ++ rest) → is_filler false before (9 ∷ (blanks ++ rest)) ≡ true → is_left s (place_behind s.place before (9 ∷ (blanks ++ rest))) ≡ true
       → is_blanks blanks ≡ true → begins_token rest ≡ true → x ≡ Err (At problem.TabInBlockIndentation (place_behind s.place (before ++ 9 ∷ blanks) rest)) → PassesAs s text x
+
+-- whether a text begins with a space, a break or a comment
+abbrev pub begins_white_space : List ℕ → Bool
+begins_white_space [] = false
+begins_white_space (c ∷ r) = (c == 32) || is_break c || (c == 35)
+
+-- How the way over what must stand behind a `?` ends: spaces, breaks and comments were passed; or neither a space nor a break stands there, nor behind a comment.
+pub data GoesOverAs (s : Held) (text : List ℕ) (x : Result State Fault) : Type 0 where
+  goes : (leading : Bool) (filler rest : List ℕ) → text ≡ filler ++ rest → is_filler false filler rest ≡ true → begins_white_space rest ≡ false → x ≡ Ok (behind_filler s leading filler rest) → GoesOverAs s text x
+  misses : (filler rest : List ℕ) → text ≡ filler ++ rest → is_filler false filler rest ≡ true → begins_with 32 text ≡ false → has_break filler ≡ false → begins_white_space rest ≡ false
+      → x ≡ Err (At problem.WhitespaceExpected (place_behind s.place filler rest)) → GoesOverAs s text x
+
+-- what spaces, TABs and a comment leave at a place, and which of the first two stood there
+abbrev pub behind_space : Place → (filler rest : List ℕ) → Whitespace → Read Whitespace
+behind_space p filler rest found = record { rest = rest; place = place_behind p filler rest; value = found }
+
+-- whether a character stands in a text
+abbrev pub has : ℕ → List ℕ → Bool
+has c [] = false
+has c (d ∷ r) = (d == c) || has c r
+
+-- whether a text is spaces, and TABs where these are passed
+abbrev pub are_spaces : SkipTabs → List ℕ → Bool
+are_spaces tabs [] = true
+are_spaces tabs (c ∷ r) = ((c == 32) || ((c == 9) && are_skipped tabs)) && are_spaces tabs r
+
+-- whether a text begins with none of these, and no comment
+abbrev pub ends_spaces : SkipTabs → List ℕ → Bool
+ends_spaces tabs [] = true
+ends_spaces tabs (c ∷ r) = not ((c == 32) || ((c == 9) && are_skipped tabs) || (c == 35))
+
+-- How the way over blanks and a comment ends: all blanks and maybe a comment behind one were passed, which is a filler of one line; or a comment stands behind no blank.
+pub data SpacesAs (tabs : SkipTabs) (p : Place) (text : List ℕ) (x : Result (Read Whitespace) Fault) : Type 0 where
+  spaces : (blanks comment rest : List ℕ) → text ≡ blanks ++ (comment ++ rest) → are_spaces tabs blanks ≡ true → is_filler false (blanks ++ comment) rest ≡ true → has_break (blanks ++ comment) ≡ false → ends_spaces tabs rest ≡ true
+      → x ≡ Ok (behind_space p (blanks ++ comment) rest (record { found_tabs = has 9 blanks; has_valid_yaml_ws = has 32 blanks })) → SpacesAs tabs p text x
+  glued : begins_with 35 text ≡ true → x ≡ Err (At problem.CommentNotSeparated p) → SpacesAs tabs p text x

@@ -1,5 +1,5 @@
 -- Laws of the scanner's model and the texts of single tokens: each is carried by the function of `src/laws.rt` that its comment names.
-use Rattle.std.specs.Prelude.{◌≡◌, ℕ, List, ◌∷◌, ◌++◌, true, false, Some, Ok}
+use Rattle.std.specs.Prelude.{◌≡◌, ℕ, List, ◌∷◌, ◌++◌, Bool, true, false, Some, Ok}
 use Rattle.yaml_chars.specs.Place.{Place}
 use Rattle.scalar_defs.specs.FlowScalar.{plain_value}
 use Rattle.scalar_model.specs.declared.context.Context.{Context}
@@ -8,13 +8,17 @@ use Rattle.scalar_model.specs.Plain.{plain}
 use Rattle.cut_defs.specs.Piece.{is_name, goes_on_with_name}
 use Rattle.cut_defs.specs.Plain.{is_whole_plain}
 use Rattle.scan_scalars.specs.NameEnds.{behind_name, EndsAs}
+use Rattle.scalar_model.specs.declared.context.SkipTabs.{SkipTabs}
+use Rattle.scalar_model.specs.Space.{space}
 use Rattle.scan_model.specs.State.{Held}
-use Rattle.scan_model.specs.Space.{between, skip}
-use Rattle.scan_scalars.specs.Fillers.{PassesAs}
+use Rattle.scan_model.specs.Space.{between, skip, white}
+use Rattle.scan_scalars.specs.Fillers.{PassesAs, GoesOverAs, SpacesAs}
 use Rattle.yaml_chars.specs.Class.{is_uri, is_tag}
 use Rattle.scalar_defs.specs.Classes as classes
 use Rattle.scalar_model.specs.Uri.{uri}
+use Rattle.scalar_model.specs.Tag.{tag}
 use Rattle.scan_scalars.specs.UriEnds.{uri_read}
+use Rattle.scan_scalars.specs.TagEnds as tags
 use Rattle.scan_scalars.specs.PlainEnds.{has_no_nul, collection_of, begins_solid, is_indented, IsRead}
 use Rattle.scan_scalars.specs.PlainEnds as plains
 
@@ -46,3 +50,15 @@ abbrev pub UrisAreRead : Type 0
 UrisAreRead =
     (start : Place) (text : List ℕ) (p : Place) (before : List ℕ) →
     (uri is_uri start text p before ≡ uri_read classes.is_uri start p text before) × (uri is_tag start text p before ≡ uri_read classes.is_tag start p text before)
+
+-- `tags_end_as_their_text_says`; `text` is what stands behind the `!`
+abbrev pub TagsEndAsTheirTextSays : Type 0
+TagsEndAsTheirTextSays = (in_flow : Bool) (text : List ℕ) (p : Place) → tags.EndsAs in_flow p text (tag in_flow (33 ∷ text) p)
+
+-- `white_space_is_passed`; what must stand behind a `?`
+abbrev pub WhiteSpaceIsPassed : Type 0
+WhiteSpaceIsPassed = (s : Held) (text : List ℕ) → GoesOverAs s text (white false false text s)
+
+-- `spaces_are_passed`; within a line
+abbrev pub SpacesArePassed : Type 0
+SpacesArePassed = (tabs : SkipTabs) (text : List ℕ) (p : Place) → SpacesAs tabs p text (space tabs text p)

@@ -3,3 +3,4 @@ pub mod NameEnds
 pub mod PlainEnds
 pub mod Fillers
 pub mod UriEnds
+pub mod TagEnds

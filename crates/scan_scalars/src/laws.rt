@@ -1,6 +1,6 @@
 //! Laws of the scanner's model and the texts of single tokens, each carried by an empty function.
 
-ghost use Rattle.scan_scalars.specs.Laws.{FillersArePassed, NamesAreRead, NamesEndAsTheirTextSays, PlainScalarsAreRead, PlainScansEndAsTheirTextSays, UrisAreRead};
+ghost use Rattle.scan_scalars.specs.Laws.{FillersArePassed, NamesAreRead, NamesEndAsTheirTextSays, PlainScalarsAreRead, PlainScansEndAsTheirTextSays, SpacesArePassed, TagsEndAsTheirTextSays, UrisAreRead, WhiteSpaceIsPassed};
 
 /// Behind its indicator a name is read as it stands, up to a text that goes on with no character of a name.
 pub fn names_are_read()
@@ -35,4 +35,23 @@ pub fn fillers_are_passed()
 /// octets of UTF-8. A text is refused just where an octet is missing, begins no character, goes on with none, or makes none.
 pub fn uris_are_read()
     ensures { UrisAreRead }
+{}
+
+/// Each text behind a `!` is read so alone: what is read is a tag as it is written there, up to a text that may follow one; and
+/// each fault has its reason in the text: octets that are no characters, an open verbatim tag, a handle without a suffix, or a
+/// text that goes on behind the tag.
+pub fn tags_end_as_their_text_says()
+    ensures { TagsEndAsTheirTextSays }
+{}
+
+/// Behind a `?` all spaces, breaks and comments are passed, and nothing else; the place is the one behind them. It is refused
+/// only where neither a space nor a break stands there, nor a break behind a comment.
+pub fn white_space_is_passed()
+    ensures { WhiteSpaceIsPassed }
+{}
+
+/// Within a line blanks are passed, TABs among them or not, and a comment behind one, and nothing else; the place is the one
+/// behind them, and what is said to stand there does. It is refused only where a comment stands behind no blank.
+pub fn spaces_are_passed()
+    ensures { SpacesArePassed }
 {}
