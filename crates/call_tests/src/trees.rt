@@ -125,6 +125,10 @@ fn a_hash_does_as_a_plain_list(rt: HostRuntime) -> Result<(), Fail> {
     for i in 0..300_i64 {
         turn(&mut hash, &mut list, i.wrapping_mul(37) % 101, i)?;
     }
+    // Long enough that places come late.
+    for i in 300..4000_i64 {
+        turn(&mut hash, &mut list, i.wrapping_mul(37) % 1999, i)?;
+    }
     assert_eq!(rt; hash.len(), list.len());
     for ((key, value), pair) in hash.iter().zip(list.iter()) {
         assert!(rt; *key == Yaml::Integer(pair.0));

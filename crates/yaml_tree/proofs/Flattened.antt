@@ -8,6 +8,7 @@ use Rattle.yaml_tree.specs.Flat.{flat, paired}
 use Rattle.yaml_tree.specs.Ranked.{key_at}
 use Rattle.yaml_tree.specs.View.{view, items_view}
 use Rattle.yaml_tree.specs.declared.yaml.Yaml.{Yaml}
+use Rattle.yaml_tree.proofs.ItemsLemmas.{length_items_view}
 
 -- ---- trees in a row
 
@@ -56,10 +57,6 @@ flat-remove (p ∷ ps) (suc i) (suc (suc n)) e h = ap (λ ts. p.0 ∷ p.1 ∷ ts
 
 -- ---- nodes in a row
 
-pub length-items_view : (ys : List Yaml) → length (items_view ys) ≡ length ys
-length-items_view [] = refl
-length-items_view (y ∷ ys) = ap suc (length-items_view ys)
-
 pub items_view-append : (ys zs : List Yaml) → items_view (ys ++ zs) ≡ items_view ys ++ items_view zs
 items_view-append [] zs = refl
 items_view-append (y ∷ ys) zs = ap (λ ts. view y ∷ ts) (items_view-append ys zs)
@@ -76,7 +73,7 @@ at_place ys n x h e = ap view e ∙ sym (get_or-map view ys n x (view x) h)
 -- a row of nodes that stands for pairs
 module _ (ys : List Yaml) (us : List (Tree × Tree)) (seen : items_view ys ≡ flat us) where
   pub row_length : length ys ≡ 2 * length us
-  row_length = omega (arith, length-items_view ys, ap length seen, length-flat us)
+  row_length = omega (arith, length_items_view ys, ap length seen, length-flat us)
 
   pub key_seen : (i : ℕ) (x : Yaml) → i < length us → x ≡ get_or ys (2 * i) x → view x ≡ key_at us i
   key_seen i x h e =

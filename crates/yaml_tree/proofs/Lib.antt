@@ -11,5 +11,6 @@ pub mod Rows
 pub mod TextLemmas
 pub mod TextOrder
 pub mod TypingLemmas
+pub mod Weaving
 pub mod WeightLemmas
 pub mod WideTexts

@@ -6,9 +6,11 @@ pub mod Items
 pub mod Laws
 pub mod Meanings
 pub mod Node
+pub mod Places
 pub mod Probes
 pub mod Ranked
 pub mod Rows
 pub mod Values
 pub mod View
 pub mod Weight
+pub mod Woven

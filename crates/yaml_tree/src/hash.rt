@@ -70,7 +70,7 @@ impl Hash {
     {
         Hash {
             row: Vec::new(alloc),
-            ranks: Ranks::new(alloc),
+            ranks: Ranks::new(),
         }
     }
 

@@ -13,12 +13,14 @@ pub mod hash;
 pub mod items;
 pub mod laws;
 mod lookup;
+mod moves;
 mod place;
 mod ranks;
 mod row;
 mod search;
 mod steps;
 mod typing;
+mod woven;
 pub mod yaml;
 
 pub use array::Array;

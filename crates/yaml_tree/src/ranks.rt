@@ -3,55 +3,40 @@ ghost use Rattle.std.specs.Prelude.{◌≡◌, ◌<◌, ◌≤◌, [], length, m
 ghost use Rattle.std.specs.List.{insert, remove};
 ghost use Rattle.yaml_tree.specs.Ranked.{closed_up, moved_up};
 
+use crate::woven::Woven;
 use std::alloc::{AllocError, Global};
 use std::marker::Model;
-
-// A place once the pair at another is gone.
-fn closed_up(gone: usize, place: usize) -> usize
-    ensures { result ≡ closed_up gone place }
-{
-    if gone < place { place - 1 } else { place }
-}
-
-// A place of so many once the pair at one has gone to the end.
-fn moved_up(gone: usize, count: usize, place: usize) -> usize
-    requires { 0 < count }
-    ensures { result ≡ moved_up gone count place }
-{
-    if place == gone {
-        count - 1
-    } else {
-        closed_up(gone, place)
-    }
-}
 
 /// Places, by their rank.
 #[derive(Drop)]
 pub(crate) struct Ranks {
-    places: Vec<usize>,
+    woven: Option<Box<Woven>>,
 }
 
 impl Model for Ranks {
     ghost use Rattle.std.specs.Prelude.{ℕ, List};
+    ghost use Rattle.yaml_tree.specs.Places.{places_in};
 
     ghost Value = { List ℕ };
 
-    ghost view = { λ r. r.places.items };
+    ghost view = { λ r. places_in r.woven };
 }
 
 impl Ranks {
-    pub(crate) fn new(alloc: Global) -> Ranks
+    /// Of no places. It takes no memory.
+    pub(crate) fn new() -> Ranks
         ensures { result ≡ [] }
     {
-        Ranks {
-            places: Vec::new(alloc),
-        }
+        Ranks { woven: None }
     }
 
     pub(crate) fn len(&self) -> usize
         ensures { result ≡ length self.now }
     {
-        self.places.len()
+        match &self.woven {
+            Some(woven) => woven.len(),
+            None => 0,
+        }
     }
 
     /// The place of a rank.
@@ -59,18 +44,33 @@ impl Ranks {
         requires { rank < length self.now }
         ensures { result ≡ get_or self.now rank 0 }
     {
-        self.places[rank]
+        match &self.woven {
+            Some(woven) => woven.at(rank),
+            None => unreachable!(),
+        }
     }
 
     /// Gives a place this rank, before the one that had it. An `Err` comes only where memory was refused,
     /// and then all is as it was.
-    pub(crate) fn insert(&mut self, rank: usize, place: usize) -> Result<(), AllocError>
+    pub(crate) fn insert(
+        &mut self,
+        alloc: Global,
+        rank: usize,
+        place: usize,
+    ) -> Result<(), AllocError>
         requires { rank ≤ length self.old }
         ensures ok { OnOk result (self.new ≡ insert self.old rank place) }
         ensures err { OnErr result (self.new ≡ self.old) }
     {
-        self.places.insert(rank, place)?;
-        Ok(())
+        match &mut self.woven {
+            Some(woven) => woven.insert(rank, place),
+            None => {
+                let mut row = Vec::new(alloc);
+                row.push(place)?;
+                self.woven = Some(Box::new(alloc, Woven::new(row))?);
+                Ok(())
+            }
+        }
     }
 
     /// Takes a rank out, and lowers the places behind its own.
@@ -78,9 +78,9 @@ impl Ranks {
         requires { rank < length self.old }
         ensures { self.new ≡ map (closed_up (get_or self.old rank 0)) (remove self.old rank) }
     {
-        let gone = self.places.remove(rank);
-        for place in self.places.iter_mut() {
-            *place = closed_up(gone, *place);
+        match &mut self.woven {
+            Some(woven) => woven.remove(rank),
+            None => unreachable!(),
         }
     }
 
@@ -88,17 +88,21 @@ impl Ranks {
     pub(crate) fn move_to_end(&mut self, gone: usize)
         ensures { self.new ≡ map (moved_up gone (length self.old)) self.old }
     {
-        let n = self.places.len();
-        for place in self.places.iter_mut() {
-            *place = moved_up(gone, n, *place);
+        if let Some(woven) = &mut self.woven {
+            woven.move_to_end(gone);
         }
     }
 
     pub(crate) fn clone(&self, alloc: Global) -> Result<Ranks, AllocError>
         ensures { IfOk result (λ r. r ≡ self.now) }
     {
-        let mut places = Vec::with_capacity(alloc, self.places.len())?;
-        places.extend_from_slice(self.places.as_slice())?;
-        Ok(Ranks { places })
+        match &self.woven {
+            Some(woven) => {
+                let row = woven.all(alloc, woven.len())?;
+                let woven = Some(Box::new(alloc, Woven::new(row))?);
+                Ok(Ranks { woven })
+            }
+            None => Ok(Ranks::new()),
+        }
     }
 }

@@ -24,8 +24,9 @@ pub(crate) fn add(
     if row.reserve(2).is_err() {
         return Err((key, value));
     }
+    let alloc = *row.allocator();
     let place = ranks.len();
-    if ranks.insert(rank, place).is_err() {
+    if ranks.insert(alloc, rank, place).is_err() {
         return Err((key, value));
     }
     row.push_reserved(key);

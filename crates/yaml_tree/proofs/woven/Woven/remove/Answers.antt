@@ -2,7 +2,7 @@ use Rattle.std.proofs.Common.{set, ap, ◌∙◌, arith}
 use Rattle.std.proofs.lemmas.List.{get_or_default}
 use Rattle.std.proofs.lemmas.List.Edits.{map_over_more}
 use Rattle.yaml_tree.specs.Ranked.{closed_up}
-use Rattle.yaml_tree.proofs.ranks.Ranks.remove.Goals as goal
+use Rattle.yaml_tree.proofs.woven.Woven.remove.Goals as goal
 
 pub loop-place-preserved : goal.loop-place-preserved
 loop-place-preserved c =
