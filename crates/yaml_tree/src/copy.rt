@@ -30,6 +30,7 @@ impl<'a> Source<'a> {
     }
 
     // The array or hash of a copied row.
+    #[inline(always)]
     fn whole(self, alloc: Global, row: Vec<Yaml>) -> Result<Yaml, AllocError>
         requires { items_view row.items ≡ parts (source_tree self) }
         ensures { IfOk result (λ y. view y ≡ source_tree self.entry) }
@@ -47,6 +48,7 @@ enum Begun<'a> {
     Collection(Source<'a>),
 }
 
+#[inline(always)]
 #[tactic(auto, using(crate::proofs::TextLemmas::same_chars))]
 fn begin<'a>(alloc: Global, node: &'a Yaml) -> Result<Begun<'a>, AllocError>
     ensures { IfOk result (λ b. begun_tree b ≡ view node.now) }
