@@ -1,9 +1,9 @@
 #!/usr/bin/env python3
-"""Finds how deep a tree may be for a load to end well on a stack of 8 MB, and loads a text of aliases that double under a limit of memory.
+"""Finds how deep a tree may be for each deed to end well on a stack of 8 MB, and loads a text of aliases that double under a limit of memory.
 
-usage: deep.py [SHAPE ..]
+usage: deep.py [DEED ..]
 
-Build the static library first: `cd crates/yamlbench && rt lib`. Each shape is tried with up to 300,000 levels; the answer lies between
+Build the static library first: `cd crates/yamlbench && rt lib`. Each deed is tried with up to 300,000 levels; the answer lies between
 the two numbers, of which one ended well and the other by a signal.
 """
 import os, subprocess, sys, tempfile
@@ -14,25 +14,36 @@ import bench
 
 MOST = 300000
 LEVELS = {"arrays": "- ", "hash keys": "? ", "hash values": ": "}
-# A clone is made for an alias, two keys are compared for a mapping, and a key is shown where it comes twice.
+# What the program is told, and the text. A clone is made for an alias, two keys are compared for a mapping, and a key is shown where it
+# comes twice.
 DEEDS = {
-    "load and drop": lambda levels: levels + "x\n",
-    "clone": lambda levels: "- &a\n  " + levels + "x\n- *a\n",
-    "compare": lambda levels: "? " + levels + "x\n: 1\n? " + levels + "y\n: 2\n",
-    "show": lambda levels: "? " + levels + "x\n: 1\n? " + levels + "x\n: 2\n",
+    "load and drop": ("load", lambda levels: levels + "x\n"),
+    "clone": ("load", lambda levels: "- &a\n  " + levels + "x\n- *a\n"),
+    "compare": ("load", lambda levels: "? " + levels + "x\n: 1\n? " + levels + "y\n: 2\n"),
+    "show": ("load", lambda levels: "? " + levels + "x\n: 1\n? " + levels + "x\n: 2\n"),
+    "hash": ("hash", lambda levels: levels + "x\n"),
+    "dump": ("dump", lambda levels: levels + "x\n"),
 }
 DOUBLED = "- &a1 [x, x]\n" + "".join("- &a%d [*a%d, *a%d]\n" % (i, i - 1, i - 1) for i in range(2, 30))
 
 
-def status(program, directory, text, limit):
+def built(directory):
+    """The program over our library."""
+    kit = os.path.dirname(subprocess.run(["rt", "doc"], capture_output=True, text=True, check=True).stdout.split()[0])
+    program = os.path.join(directory, "deep")
+    subprocess.run(["gcc", "-O2", "-o", program, os.path.join(HERE, "deep.c"), bench.LIBRARY, os.path.join(kit, "c", "liblibc_c.a")], check=True)
+    return program
+
+
+def status(program, directory, deed, text, limit):
     path = os.path.join(directory, "text")
     with open(path, "w") as f:
         f.write(text)
-    return subprocess.run(["bash", "-c", "ulimit %s; exec %s %s 1" % (limit, program, path)], capture_output=True).returncode
+    return subprocess.run(["bash", "-c", "ulimit %s; exec %s %s %s" % (limit, program, path, deed)], capture_output=True).returncode
 
 
-def depth(program, directory, make, level):
-    def ends_well(levels): return status(program, directory, make(level * levels), "-s 8192") in (0, 1)
+def depth(program, directory, deed, make, level):
+    def ends_well(levels): return status(program, directory, deed, make(level * levels), "-s 8192") in (0, 1)
     if ends_well(MOST):
         return "at least %d" % MOST
     low, high = 1, MOST
@@ -46,13 +57,13 @@ def main():
     if not os.path.exists(bench.LIBRARY):
         sys.exit("deep.py: no static library: cd crates/yamlbench && rt lib")
     with tempfile.TemporaryDirectory() as directory:
-        program = bench.built(directory)
-        for deed, make in DEEDS.items():
-            for name, level in LEVELS.items():
-                if not sys.argv[1:] or deed in sys.argv[1:]:
-                    print("%s, %s: %s levels" % (deed, name, depth(program, directory, make, level)), flush=True)
+        program = built(directory)
+        for name, (deed, make) in DEEDS.items():
+            for shape, level in LEVELS.items():
+                if not sys.argv[1:] or name in sys.argv[1:]:
+                    print("%s, %s: %s levels" % (name, shape, depth(program, directory, deed, make, level)), flush=True)
         # The program ends with status 1 where the load is refused.
-        answered = status(program, directory, DOUBLED, "-v 1000000")
+        answered = status(program, directory, "load", DOUBLED, "-v 1000000")
         print("29 lines of `[*a, *a]` under 1 GB: %s" % ("refused" if answered == 1 else "status %d" % answered))
 
 

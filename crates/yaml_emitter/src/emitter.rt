@@ -112,7 +112,7 @@ impl<'a, W: Writer> YamlEmitter<'a, W> {
         ensures compact { compact_of self.new ≡ compact_of self.old }
         ensures multiline { multiline_of self.new ≡ multiline_of self.old }
     {
-        write_document(self.writer, self.layout, doc)?;
+        write_document(self.writer, &self.layout, doc)?;
         Ok(())
     }
 }

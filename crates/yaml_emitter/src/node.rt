@@ -32,18 +32,18 @@ pub(crate) struct Layout {
 }
 
 /// Writes the line `---` and the document's root below it.
-pub(crate) fn write_document<W: Writer>(out: &mut W, layout: Layout, root: &Yaml) -> fmt::Result
+pub(crate) fn write_document<W: Writer>(out: &mut W, layout: &Layout, root: &Yaml) -> fmt::Result
     ensures text { WritesUnless (2 ^ 62 ≤ levels (view root.now)) W.put_gives W.put_leaves out.old result
-        (dump_text layout.compact layout.multiline (view root.now)) out.new }
+        (dump_text layout.now.compact layout.now.multiline (view root.now)) out.new }
     ensures valid { OnOk result (IsValid (view root.now)) }
 {
     put_ascii(out, "---\n")?;
     write_root(out, layout, root)
 }
 
-fn write_root<W: Writer>(out: &mut W, layout: Layout, node: &Yaml) -> fmt::Result
+fn write_root<W: Writer>(out: &mut W, layout: &Layout, node: &Yaml) -> fmt::Result
     ensures text { WritesUnless (2 ^ 62 ≤ levels (view node.now)) W.put_gives W.put_leaves out.old result
-        (stacked 0 (box layout.compact layout.multiline true (view node.now))) out.new }
+        (stacked 0 (box layout.now.compact layout.now.multiline true (view node.now))) out.new }
     ensures valid { OnOk result (IsValid (view node.now)) }
 {
     match node {
@@ -57,14 +57,14 @@ fn write_root<W: Writer>(out: &mut W, layout: Layout, node: &Yaml) -> fmt::Resul
 #[cycle(write)]
 fn write_value<W: Writer>(
     out: &mut W,
-    layout: Layout,
+    layout: &Layout,
     level: usize,
     blocks_lower: bool,
     node: &Yaml,
 ) -> fmt::Result
     requires { level + 1 < 2 ^ 62 }
     ensures text { WritesUnless (2 ^ 62 ≤ level + 1 + levels (view node.now)) W.put_gives W.put_leaves out.old result
-        (behind_mark blocks_lower level (view node.now) (box layout.compact layout.multiline false (view node.now))) out.new }
+        (behind_mark blocks_lower level (view node.now) (box layout.now.compact layout.now.multiline false (view node.now))) out.new }
     ensures valid { OnOk result (IsValid (view node.now)) }
 {
     begin_value(out, level, blocks_lower, node)?;
@@ -98,10 +98,10 @@ fn is_block(node: &Yaml) -> bool
 }
 
 #[cycle(write)]
-fn write_array<W: Writer>(out: &mut W, layout: Layout, level: usize, items: &Array) -> fmt::Result
+fn write_array<W: Writer>(out: &mut W, layout: &Layout, level: usize, items: &Array) -> fmt::Result
     requires { level < 2 ^ 62 }
     ensures text { WritesUnless (2 ^ 62 ≤ level + levels (array_tree items.now)) W.put_gives W.put_leaves out.old result
-        (stacked level (box layout.compact layout.multiline false (array_tree items.now))) out.new }
+        (stacked level (box layout.now.compact layout.now.multiline false (array_tree items.now))) out.new }
     ensures valid { OnOk result (IsValid (array_tree items.now)) }
 {
     if items.is_empty() {
@@ -120,10 +120,10 @@ fn write_array<W: Writer>(out: &mut W, layout: Layout, level: usize, items: &Arr
 }
 
 #[cycle(write)]
-fn write_hash<W: Writer>(out: &mut W, layout: Layout, level: usize, pairs: &Hash) -> fmt::Result
+fn write_hash<W: Writer>(out: &mut W, layout: &Layout, level: usize, pairs: &Hash) -> fmt::Result
     requires { level < 2 ^ 62 }
     ensures text { WritesUnless (2 ^ 62 ≤ level + levels (hash_tree pairs.now)) W.put_gives W.put_leaves out.old result
-        (stacked level (box layout.compact layout.multiline false (hash_tree pairs.now))) out.new }
+        (stacked level (box layout.now.compact layout.now.multiline false (hash_tree pairs.now))) out.new }
     ensures valid { OnOk result (IsValid (hash_tree pairs.now)) }
 {
     if pairs.is_empty() {
@@ -178,14 +178,14 @@ fn write_scalar_key<W: Writer>(out: &mut W, key: &Yaml) -> fmt::Result
 #[cycle(write)]
 fn write_pair<W: Writer>(
     out: &mut W,
-    layout: Layout,
+    layout: &Layout,
     level: usize,
     key: &Yaml,
     value: &Yaml,
 ) -> fmt::Result
     requires { level + 1 < 2 ^ 62 }
     ensures text { WritesUnless (2 ^ 62 ≤ level + 1 + max (levels (view key.now)) (levels (view value.now))) W.put_gives W.put_leaves
-        out.old result (pair_text layout.compact layout.multiline level (view key.now) (view value.now)) out.new }
+        out.old result (pair_text layout.now.compact layout.now.multiline level (view key.now) (view value.now)) out.new }
     ensures valid { OnOk result (IsValid (view key.now) × IsValid (view value.now)) }
 {
     if is_scalar(key) {

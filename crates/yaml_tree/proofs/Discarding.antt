@@ -29,7 +29,7 @@ pub row_next : (ys zs ws is : List Yaml) (a y : Yaml) (r : Tree) → ys ≡ zs +
 row_next ys zs ws is a y r p q e big f =
     subst (λ t. weight t < weight (array_tree (items_view ys))) (sym (f ∙ ap (λ ts. with_last (λ t. array (items_of (items_view ws ++ t ∷ view a ∷ []))) (array_tree ts)) e))
     (subst (λ ts. weight (with_last (λ t. array (items_of (items_view ws ++ t ∷ view a ∷ []))) (array_tree (parts (view y)))) < weight (array_tree ts)) (sym (two_items ys zs ws a y p q))
-    (item_descent (items_view ws) (parts (view y)) (view y) (view a) big (parts_nodes (view y) big)))
+    (item_descent (items_view ws) (parts (view y)) (view y) (view a) big (parts_nodes (view y))))
 
 pub descended : (f : Tree → Tree) (is js ks : List Yaml) (x r : Yaml) → is ≡ js ++ x ∷ [] → ks ≡ js ++ r ∷ [] → view r ≡ f (view x)
     → array_tree (items_view ks) ≡ with_last f (array_tree (items_view is))

@@ -1,4 +1,5 @@
 pub mod Comparing
+pub mod Copied
 pub mod Discarding
 pub mod Fed
 pub mod FirstByte

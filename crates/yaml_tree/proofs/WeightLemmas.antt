@@ -82,10 +82,10 @@ items_again : (ts : Items) → items_of (list_of ts) ≡ ts
 items_again no_items = refl
 items_again (item t ts) = ap (item t) (items_again ts)
 
-pub parts_nodes : (t : Tree) → parts t ≢ [] → nodes t ≡ nodes (array (items_of (parts t)))
-parts_nodes (array ts) big = ap (λ us. suc (items_nodes us)) (sym (items_again ts))
-parts_nodes (hash ps) big = ap suc (sym (flat_nodes ps))
-parts_nodes t big = absurd (big refl)
+pub parts_nodes : (t : Tree) → nodes t ≡ nodes (array (items_of (parts t)))
+parts_nodes (array ts) = ap (λ us. suc (items_nodes us)) (sym (items_again ts))
+parts_nodes (hash ps) = ap suc (sym (flat_nodes ps))
+parts_nodes t = refl
 
 pub parts_weight : (t : Tree) → parts t ≢ [] → weight (array (items_of (parts t))) ≡ weight t
 parts_weight (array ts) big = ap (λ us. weight (array us)) (items_again ts)

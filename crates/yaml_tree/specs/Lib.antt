@@ -1,3 +1,4 @@
+pub mod Copying
 pub mod Depth
 pub mod Falls
 pub mod Feed

@@ -1,9 +1,11 @@
-//! Loads a text for the bench, which is a C program.
+//! What C programs measure: loads of a text, and what is done with its trees.
 #![tactic(auto)]
 
 use overlay::overlay;
 use std::alloc::Global;
-use std::str;
+use std::hash::{DefaultHasher, Hash as _, Hasher};
+use std::{fmt, str};
+use yaml_rust2::emitter::{FmtWriter, YamlEmitter};
 use yaml_rust2::{Yaml, YamlLoader};
 
 /// How many documents a text has, or -1 where it is refused. The trees are made and dropped.
@@ -40,4 +42,41 @@ pub extern "C" fn yamlbench_overlay(alloc: Global, below: &[u8], above: &[u8]) -
 fn last_document(alloc: Global, text: &[u8]) -> Option<Yaml> {
     let text = str::from_utf8(text).ok()?;
     YamlLoader::load_from_str(alloc, text).ok()?.pop()
+}
+
+/// The lowest bit of the hash of a text's last document, or -1 where the text is refused.
+#[unsafe(no_mangle)]
+pub extern "C" fn yamlbench_hash(alloc: Global, text: &[u8]) -> i64 {
+    let Some(tree) = last_document(alloc, text) else {
+        return -1;
+    };
+    let mut hasher = DefaultHasher::new();
+    tree.hash(&mut hasher);
+    (hasher.finish() % 2) as i64
+}
+
+/// How many bytes a dump of a text's last document takes, or -1 where the text is refused. They are not kept.
+#[unsafe(no_mangle)]
+pub extern "C" fn yamlbench_dump(alloc: Global, text: &[u8]) -> i64 {
+    let Some(tree) = last_document(alloc, text) else {
+        return -1;
+    };
+    let mut writer = FmtWriter::new(Counter { bytes: 0 });
+    if YamlEmitter::new(&mut writer).dump(&tree).is_err() {
+        return -1;
+    }
+    i64::try_from(writer.into_inner().bytes).unwrap_or(i64::MAX)
+}
+
+/// Counts what is written, and keeps none of it.
+#[derive(Drop)]
+struct Counter {
+    bytes: u64,
+}
+
+impl fmt::Write for Counter {
+    fn write_str(&mut self, text: &str) -> fmt::Result {
+        self.bytes = self.bytes.wrapping_add(text.len() as u64);
+        Ok(())
+    }
 }
