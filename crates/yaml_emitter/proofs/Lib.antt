@@ -1,4 +1,6 @@
 pub mod EscapeLemmas
+pub mod MaskLemmas
+pub mod RunLemmas
 pub mod TextLemmas
 pub mod WritingLemmas
 pub mod LineLemmas
