@@ -44,7 +44,7 @@ both : (a b : Bool) → T (a && b) → T a × T b
 both true b h = (tt, h)
 both false b h = absurd h
 
-each_upto : (p : ℕ → Bool) (n : ℕ) → T (all_upto p n) → (i : ℕ) → i < n → T (p i)
+pub each_upto : (p : ℕ → Bool) (n : ℕ) → T (all_upto p n) → (i : ℕ) → i < n → T (p i)
 each_upto p zero h i lt = absurd (not-suc-le-zero lt)
 each_upto p (suc n) h i lt = go (each_upto p n (both (p n) (all_upto p n) h).1 i) (cases_order i n)
   where
