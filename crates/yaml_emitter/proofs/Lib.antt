@@ -6,6 +6,7 @@ pub mod WritingLemmas
 pub mod LineLemmas
 pub mod NumberLemmas
 pub mod EndLemmas
+pub mod ByteLemmas
 pub mod WordLemmas
 pub mod LiteralLemmas
 pub mod EntryLemmas
