@@ -1,6 +1,7 @@
 pub mod EscapeLemmas
 pub mod MaskLemmas
 pub mod RunLemmas
+pub mod PrintableLemmas
 pub mod TextLemmas
 pub mod WritingLemmas
 pub mod LineLemmas

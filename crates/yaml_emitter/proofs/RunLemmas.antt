@@ -51,7 +51,7 @@ run_of (c ∷ cs) h =
 run_is : (bs : List ℕ) → IsUtf8 bs → list_all stands bs ≡ true → IsRun (chars bs)
 run_is bs u h = run_of (chars bs) (ap (list_all stands) (encodes-chars bs u) ∙ h)
 
-all_pass : (p : ℕ → Bool) (bs : List ℕ) → list_all p (take (prefix_len p bs) bs) ≡ true
+pub all_pass : (p : ℕ → Bool) (bs : List ℕ) → list_all p (take (prefix_len p bs) bs) ≡ true
 all_pass p [] = refl
 all_pass p (b ∷ bs) = by (p b) refl (all_pass p bs)
   where

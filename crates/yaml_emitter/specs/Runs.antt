@@ -1,5 +1,5 @@
 -- Runs of a text that are written as they stand, between the characters that are escaped in double quotes.
-use Rattle.std.specs.Prelude.{ℕ, ◌≡◌, ◌<◌, length, Bool, not, ◌||◌, ◌==◌, nat_lt, List, ◌∷◌, ◌++◌}
+use Rattle.std.specs.Prelude.{ℕ, ◌≡◌, ◌<◌, length, Bool, not, ◌&&◌, ◌||◌, ◌==◌, nat_lt, nat_le, List, ◌∷◌, ◌++◌}
 use Rattle.std.specs.Str.{chars, IsUtf8}
 use Rattle.tree_defs.specs.Escapes.{written_escapes}
 
@@ -7,7 +7,11 @@ use Rattle.tree_defs.specs.Escapes.{written_escapes}
 abbrev pub is_escaped : ℕ → Bool
 is_escaped c = (c == 34) || (c == 92) || nat_lt c 32 || (c == 127)
 
--- no such one
+-- a byte that is neither LF nor TAB nor a printable character of ASCII
+abbrev pub is_unprintable : ℕ → Bool
+is_unprintable c = not ((c == 10) || (c == 9) || (nat_le 32 c && nat_le c 126))
+
+-- no character that is escaped
 abbrev pub stands : ℕ → Bool
 stands c = not (is_escaped c)
 

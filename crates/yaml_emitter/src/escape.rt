@@ -5,7 +5,7 @@ ghost use Rattle.yaml_emitter.specs.Escaping.{written_code};
 ghost use Rattle.yaml_emitter.specs.Runs.{IsRun, IsRunCut};
 ghost use Rattle.yaml_emitter.specs.Writing.{Writes};
 
-use crate::runs::run_length;
+use crate::runs::{Escaped, run_length};
 use crate::writer::{Writer, put_ascii, put_char};
 use std::fmt;
 
@@ -34,7 +34,7 @@ fn write_characters<W: Writer>(out: &mut W, text: &str) -> fmt::Result
 fn first_escape(text: &str) -> Option<(&str, char, &str)>
     ensures { MatchOption result (IsRun (chars text.now)) (λ x. IsRunCut text.now x.0.now x.1 x.2.now) }
 {
-    let (run, behind) = text.split_at(run_length(text.as_bytes()));
+    let (run, behind) = text.split_at(run_length::<Escaped>(text.as_bytes()));
     let mut behind = behind.chars();
     let c = behind.next()?;
     Some((run, c, behind.as_str()))
