@@ -5,7 +5,8 @@ usage: bench.py ORIGINAL [--bytes N] [--only KIND]
 
 `ORIGINAL time FILE N` loads FILE N times. Both programs make the trees and take them apart again; what is measured is the
 processor time of each process by its loads, the least of several runs that take turns, and its peak memory. Build the static
-library first: `cd crates/yamlbench && rt lib`.
+library first: `cd crates/yamlbench && rt lib`. Where libyaml is installed with its header (Debian's libyaml-dev), its document
+loader loads the same texts, and stands in two more columns.
 """
 import argparse, os, subprocess, sys, tempfile
 
@@ -15,12 +16,19 @@ HERE = os.path.dirname(os.path.abspath(__file__))
 LIBRARY = os.path.join(HERE, "..", "crates", "yamlbench", "out", "libyamlbench.a")
 
 
-def built(directory):
-    """The program over our library."""
+def built(directory, name="load"):
+    """A program over our library."""
     kit = os.path.dirname(subprocess.run(["rt", "doc"], capture_output=True, text=True, check=True).stdout.split()[0])
-    program = os.path.join(directory, "load")
-    subprocess.run(["gcc", "-O2", "-o", program, os.path.join(HERE, "load.c"), LIBRARY, os.path.join(kit, "c", "liblibc_c.a")], check=True)
+    program = os.path.join(directory, name)
+    subprocess.run(["gcc", "-O2", "-o", program, os.path.join(HERE, name + ".c"), LIBRARY, os.path.join(kit, "c", "liblibc_c.a")], check=True)
     return program
+
+
+def built_libyaml(directory):
+    """The program over libyaml, or None where libyaml is not installed."""
+    program = os.path.join(directory, "libyaml")
+    done = subprocess.run(["gcc", "-O2", "-o", program, os.path.join(HERE, "libyaml.c"), "-lyaml"], capture_output=True)
+    return program if done.returncode == 0 else None
 
 
 def measured(command):
@@ -33,11 +41,15 @@ def measured(command):
     return used.ru_utime + used.ru_stime, used.ru_maxrss / 1024
 
 
-def both(ours, theirs, path, rounds, turns):
-    """The least seconds a load and the peak memory, of each."""
-    best = [(1e9, 0), (1e9, 0)]
+def each(programs, path, rounds, turns):
+    """The least seconds a load and the peak memory, of each program; libyaml's may be missing."""
+    ours, theirs, libyaml = programs
+    commands = [[ours, path, str(rounds)], [theirs, "time", path, str(rounds)]]
+    if libyaml:
+        commands.append([libyaml, path, str(rounds)])
+    best = [(1e9, 0)] * len(commands)
     for _ in range(turns):
-        for i, command in enumerate(([ours, path, str(rounds)], [theirs, "time", path, str(rounds)])):
+        for i, command in enumerate(commands):
             seconds, memory = measured(command)
             best[i] = min(best[i], (seconds / rounds, memory))
     return best
@@ -47,19 +59,20 @@ def rounds_for(size):
     return max(3, 4000000 // size)
 
 
-def row(kind, size, ours, theirs, directory, turns):
+def row(kind, size, programs, directory, turns):
     found = []
     for part in (size // 10, size):
         text = inputs.make(kind, part).encode()
         path = os.path.join(directory, "%s_%d" % (kind, part))
         with open(path, "wb") as f:
             f.write(text)
-        found.append((len(text), both(ours, theirs, path, rounds_for(len(text)), turns)))
+        found.append((len(text), each(programs, path, rounds_for(len(text)), turns)))
     (small_bytes, small), (whole_bytes, whole) = found
     per_byte = whole[0][0] / whole_bytes / (small[0][0] / small_bytes)
-    return "| %s | %.3f | %.5f | %.5f | %.0f | **%.2f** | %.0f | %.0f | %.1f |" % (
+    libyaml = " | %.5f | **%.2f**" % (whole[2][0], whole[0][0] / whole[2][0]) if len(whole) > 2 else ""
+    return "| %s | %.3f | %.5f | %.5f | %.0f | **%.2f** | %.0f | %.0f | %.1f%s |" % (
         kind, whole_bytes / 1e6, whole[0][0], whole[1][0], whole_bytes / 1e6 / whole[0][0], whole[0][0] / whole[1][0],
-        whole[0][1], whole[1][1], 10 * per_byte)
+        whole[0][1], whole[1][1], 10 * per_byte, libyaml)
 
 
 def main():
@@ -73,13 +86,15 @@ def main():
         sys.exit("bench.py: %s is not a program: the original's program is wanted" % a.original)
     if not os.path.exists(LIBRARY):
         sys.exit("bench.py: no static library: cd crates/yamlbench && rt lib")
-    print("| Input | MB | Ours, s | Original, s | Ours, MB/s | Ratio | Ours, peak MB | Original, peak MB | Growth from a tenth |")
-    print("|---|---|---|---|---|---|---|---|---|")
     with tempfile.TemporaryDirectory() as directory:
-        ours = built(directory)
+        libyaml = built_libyaml(directory)
+        more = (" libyaml, s | Ratio to libyaml |", "---|---|") if libyaml else ("", "")
+        print("| Input | MB | Ours, s | Original, s | Ours, MB/s | Ratio | Ours, peak MB | Original, peak MB | Growth from a tenth |" + more[0])
+        print("|---|---|---|---|---|---|---|---|---|" + more[1])
+        programs = (built(directory), a.original, libyaml)
         for kind in inputs.KINDS:
             if a.only in (None, kind):
-                print(row(kind, a.bytes, ours, a.original, directory, a.turns), flush=True)
+                print(row(kind, a.bytes, programs, directory, a.turns), flush=True)
 
 
 if __name__ == "__main__":

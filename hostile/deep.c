@@ -6,7 +6,7 @@
 
 int64_t yamlbench_load(const unsigned char *text, size_t length);
 int64_t yamlbench_hash(const unsigned char *text, size_t length);
-int64_t yamlbench_dump(const unsigned char *text, size_t length);
+int64_t yamlbench_dump_length(const unsigned char *text, size_t length);
 
 int main(int argc, char **argv) {
     if (argc != 3) {
@@ -27,7 +27,7 @@ int main(int argc, char **argv) {
         return 2;
     }
     int64_t answer = !strcmp(argv[2], "hash")   ? yamlbench_hash(text, (size_t)length)
-                     : !strcmp(argv[2], "dump") ? yamlbench_dump(text, (size_t)length)
+                     : !strcmp(argv[2], "dump") ? yamlbench_dump_length(text, (size_t)length)
                                                 : yamlbench_load(text, (size_t)length);
     return answer < 0;
 }

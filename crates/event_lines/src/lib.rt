@@ -1,6 +1,8 @@
 //! The lines of `yamltool events`.
 #![tactic(auto)]
 
+ghost use Rattle.std.specs.Prelude.{◌<◌, length, IfSome};
+
 use std::io;
 use std::io::Write;
 use yaml_chars::Marker;
@@ -69,24 +71,45 @@ fn write_properties<W: Write>(out: &mut W, anchor: usize, tag: &Option<Tag>) -> 
     Ok(())
 }
 
-/// Writes a text in double quotes, with the escapes of double-quoted scalars.
+/// Writes a text in double quotes, with the escapes of double-quoted scalars. What stands between two escapes is one call.
 fn write_quoted<W: Write>(out: &mut W, text: &str) -> io::Result<()> {
-    write!(out, "\"")?;
-    for c in text.chars() {
-        match c {
-            '"' => write!(out, "\\\"")?,
-            '\\' => write!(out, "\\\\")?,
-            '\u{8}' => write!(out, "\\b")?,
-            '\t' => write!(out, "\\t")?,
-            '\n' => write!(out, "\\n")?,
-            '\u{c}' => write!(out, "\\f")?,
-            '\r' => write!(out, "\\r")?,
-            '\0'..='\u{1f}' | '\u{7f}' => {
-                let code = c as u32;
-                write!(out, "\\u{code:04x}")?;
-            }
-            c => write!(out, "{c}")?,
+    out.write_all(b"\"")?;
+    let mut rest = text;
+    while let Some((run, c, behind)) = first_escape(rest) {
+        out.write_all(run.as_bytes())?;
+        write_escape(out, c)?;
+        rest = behind;
+    }
+    out.write_all(rest.as_bytes())?;
+    out.write_all(b"\"")
+}
+
+// The text before the first character that is escaped, that character, and the text behind it.
+fn first_escape(text: &str) -> Option<(&str, char, &str)>
+    ensures { IfSome result (λ x. length x.2.now < length text.now) }
+{
+    let (run, behind) = text.split_at(text.find(is_escaped)?);
+    let mut behind = behind.chars();
+    let c = behind.next()?;
+    Some((run, c, behind.as_str()))
+}
+
+fn is_escaped(c: char) -> bool {
+    c < ' ' || matches!(c, '"' | '\\' | '\u{7f}')
+}
+
+fn write_escape<W: Write>(out: &mut W, c: char) -> io::Result<()> {
+    match c {
+        '"' => out.write_all(b"\\\""),
+        '\\' => out.write_all(b"\\\\"),
+        '\u{8}' => out.write_all(b"\\b"),
+        '\t' => out.write_all(b"\\t"),
+        '\n' => out.write_all(b"\\n"),
+        '\u{c}' => out.write_all(b"\\f"),
+        '\r' => out.write_all(b"\\r"),
+        _ => {
+            let code = c as u32;
+            write!(out, "\\u{code:04x}")
         }
     }
-    write!(out, "\"")
 }

@@ -1,9 +1,13 @@
 pub mod EscapeLemmas
+pub mod MaskLemmas
+pub mod RunLemmas
+pub mod PrintableLemmas
 pub mod TextLemmas
 pub mod WritingLemmas
 pub mod LineLemmas
 pub mod NumberLemmas
 pub mod EndLemmas
+pub mod ByteLemmas
 pub mod WordLemmas
 pub mod LiteralLemmas
 pub mod EntryLemmas

@@ -1,19 +1,20 @@
 -- The words that are quoted.
-use Rattle.std.proofs.Common.{◌≡◌, ℕ, suc, ◌+◌, cond, ◌<◌, List, [], ◌∷◌, length, ◌≤◌, Bool, true, false, ◌||◌, refl, sym, ap, subst, ◌∙◌, arith}
+use Rattle.std.proofs.Common.{◌≡◌, ℕ, suc, get_or, ◌+◌, cond, ◌<◌, List, [], ◌∷◌, length, ◌≤◌, Bool, true, false, ◌||◌, refl, sym, ap, subst, ◌∙◌, arith}
 use Rattle.std.specs.Prelude.{map, not, if◌then◌else◌, ◌==◌, nat_lt, bytes_eq, encode_utf8_all}
 use Rattle.std.specs.Char.{to_ascii_lowercase}
 use Rattle.std.specs.List.{list_all, list_any}
-use Rattle.std.specs.Str.{chars, IsAscii, IsNotAscii, IsUtf8}
+use Rattle.std.specs.Str.{chars, IsUtf8}
 use Rattle.std.proofs.lemmas.Bool.{and_parts, and_from}
 use Rattle.std.proofs.lemmas.Bool.Decides.{nat_tests}
 use Rattle.std.proofs.lemmas.Slice.Eq.{bytes_eq-Decides}
-use Rattle.std.proofs.lemmas.Str.{chars-nil, chars-IsAscii, encodes-chars}
+use Rattle.std.proofs.lemmas.Str.{chars-nil, encodes-chars}
 use Rattle.tree_defs.specs.Grammar.{is_among, is_empty, followed_by}
 use Rattle.tree_defs.specs.Quoting.{is_quoted, has_outer_space, has_indicator_first, is_unfit_for_plain, reserved_words, is_float_word}
 use Rattle.tree_defs.specs.Typing.{is_sign, typing, is_string}
 use Rattle.tree_defs.proofs.GrammarLaws.{behind_one, Rejects, optional_one-behind, followed_by-empty}
-use Rattle.yaml_tree.proofs.WideTexts.{low, Wide, typing-wide, low_bytes}
-use Rattle.yaml_emitter.specs.Words.{is_unfit, is_word, float_names}
+use Rattle.yaml_tree.proofs.WideTexts.{low, Wide, low_bytes}
+use Rattle.yaml_emitter.specs.Words.{is_unfit, is_word, is_name, float_names}
+use Rattle.yaml_emitter.proofs.TextLemmas.{low_chars}
 
 -- ---- names of numbers
 
@@ -104,17 +105,29 @@ behind_low (c ∷ cs) h = by (is_sign c) refl h
 wide_float : (t : List ℕ) → Wide t → is_float_word t ≡ false
 wide_float t w = float_word t ∙ not_among float_names (map to_ascii_lowercase (behind_one is_sign t)) refl (λ h. w (behind_low t (lower_low (behind_one is_sign t) h)))
 
-wide_word : (t : List ℕ) → Wide t → is_word t ≡ false
-wide_word t w = λ i. (not_among reserved_words t refl w i || wide_float t w i) || not (is_string (typing-wide t w i))
-
-pub no_word : (bs : List ℕ) → IsUtf8 bs → IsNotAscii bs → false ≡ is_word (chars bs)
-no_word bs u n = sym (wide_word (chars bs) (λ h. below_it (low_bytes bs u h n.0) n.1))
+low_from : (bs : List ℕ) → ((i : ℕ) → i < length bs → get_or bs i 0 < 128) → low bs ≡ true
+low_from [] h = refl
+low_from (b ∷ bs) h = and_from (nat_lt b 128) (low bs) (first (h 0 (omega arith))) (low_from bs (λ i lt. h (suc i) (omega arith)))
   where
-    below_it : {m : ℕ} → m < 128 → 128 ≤ m → ⊥
-    below_it h i = absurd (omega arith)
+    first : b < 128 → nat_lt b 128 ≡ true
+    first h = grind (arith, nat_tests)
 
-pub ascii_word : (bs : List ℕ) → IsAscii bs → is_word bs ≡ is_word (chars bs)
-ascii_word bs h = ap is_word (sym (chars-IsAscii bs h))
+-- the names are the same by bytes and by characters
+pub name_of_bytes : (bs : List ℕ) → IsUtf8 bs → is_name bs ≡ is_name (chars bs)
+name_of_bytes bs u = by (low bs) refl
+  where
+    wide_name : (t : List ℕ) → Wide t → is_name t ≡ false
+    wide_name t w = λ i. not_among reserved_words t refl w i || wide_float t w i
+
+    both : {b : Bool} → b ≡ true → b ≡ false → ⊥
+    both e f = let x : true ≡ false = sym e ∙ f in cc
+
+    by : (b : Bool) → low bs ≡ b → is_name bs ≡ is_name (chars bs)
+    by true e = ap is_name (sym (low_chars bs e))
+    by false e = wide_name bs (λ h. both h e) ∙ sym (wide_name (chars bs) (λ h. both (low_from bs (λ i lt. low_bytes bs u h i)) e))
+
+pub word_of_bytes : (bs : List ℕ) → IsUtf8 bs → (is_name bs || not (is_string (typing (chars bs)))) ≡ is_word (chars bs)
+word_of_bytes bs u = ap (λ b. b || not (is_string (typing (chars bs)))) (name_of_bytes bs u)
 
 -- ---- the whole test
 
@@ -142,3 +155,7 @@ empty_text (b ∷ bs) u = by (chars (b ∷ bs)) refl
     by : (cs : List ℕ) → chars (b ∷ bs) ≡ cs → (suc (length bs) == 0) ≡ is_empty cs
     by [] e = let f : b ∷ bs ≡ [] = sym (encodes-chars (b ∷ bs) u) ∙ ap encode_utf8_all e in cc
     by (c ∷ cs) e = some (length bs)
+
+pub wide_fits : (c : ℕ) → 128 ≤ c → is_unfit_for_plain c ≡ false
+unfolding is_unfit_for_plain
+wide_fits c h = grind (arith, nat_tests)

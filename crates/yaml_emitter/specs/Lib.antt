@@ -4,6 +4,7 @@ pub mod Emitter
 pub mod Entries
 pub mod Escaping
 pub mod FmtText
+pub mod Runs
 pub mod Strings
 pub mod ValidTree
 pub mod Words

@@ -1,9 +1,11 @@
 //! Texts in double quotes (YAML 1.2, section 5.7).
-ghost use Rattle.std.specs.Prelude.{◌≡◌, ◌<◌, ◌≤◌, chars};
+ghost use Rattle.std.specs.Prelude.{◌≡◌, ◌<◌, ◌≤◌, chars, MatchOption};
 ghost use Rattle.tree_defs.specs.Escapes.{double_quoted, written_character, written_escapes, escaped_code, hexadecimal_digit};
 ghost use Rattle.yaml_emitter.specs.Escaping.{written_code};
+ghost use Rattle.yaml_emitter.specs.Runs.{IsRun, IsRunCut};
 ghost use Rattle.yaml_emitter.specs.Writing.{Writes};
 
+use crate::runs::{Escaped, run_length};
 use crate::writer::{Writer, put_ascii, put_char};
 use std::fmt;
 
@@ -19,10 +21,23 @@ pub(crate) fn write_double_quoted<W: Writer>(out: &mut W, text: &str) -> fmt::Re
 fn write_characters<W: Writer>(out: &mut W, text: &str) -> fmt::Result
     ensures { Writes W.put_gives W.put_leaves out.old result (written_escapes (chars text.now)) out.new }
 {
-    'characters: for c in text.chars() {
+    let mut rest = text;
+    'runs: while let Some((front, c, behind)) = first_escape(rest) {
+        out.put(front)?;
         write_character(out, c)?;
+        rest = behind;
     }
-    Ok(())
+    out.put(rest)
+}
+
+// The run before the first character that is escaped, that character, and what stands behind it.
+fn first_escape(text: &str) -> Option<(&str, char, &str)>
+    ensures { MatchOption result (IsRun (chars text.now)) (λ x. IsRunCut text.now x.0.now x.1 x.2.now) }
+{
+    let (run, behind) = text.split_at(run_length::<Escaped>(text.as_bytes()));
+    let mut behind = behind.chars();
+    let c = behind.next()?;
+    Some((run, c, behind.as_str()))
 }
 
 // A quote, a backslash and the control characters are escaped.

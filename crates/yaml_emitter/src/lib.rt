@@ -10,6 +10,7 @@ mod literal;
 mod node;
 mod number;
 mod quoting;
+mod runs;
 mod scalar;
 #[cfg(test)]
 mod tests;

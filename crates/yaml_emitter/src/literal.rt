@@ -9,6 +9,7 @@ ghost use Rattle.yaml_emitter.specs.Writing.{Writes};
 
 use crate::ends::{begins_with, ends_with};
 use crate::line::break_line;
+use crate::runs::{Unprintable, run_length};
 use crate::writer::{Writer, put_ascii};
 use std::fmt;
 use yaml_chars::class;
@@ -39,7 +40,7 @@ fn has_clear_lines(text: &str) -> bool
 fn has_line_feed(text: &str) -> bool
     ensures { result ≡ list_any is_line_feed (chars text.now) }
 {
-    text.chars().any(is_line_feed)
+    first_cut(text).is_some()
 }
 
 fn is_clear(text: &str) -> bool
@@ -48,16 +49,18 @@ fn is_clear(text: &str) -> bool
     is_printable(text) && begins_well(text)
 }
 
+// Most texts are ASCII throughout.
 fn is_printable(text: &str) -> bool
     ensures { result ≡ list_all is_literal_character (chars text.now) }
 {
-    text.chars().all(is_literal_character)
+    let (_, rest) = text.split_at(run_length::<Unprintable>(text.as_bytes()));
+    has_literal_characters(rest)
 }
 
-fn is_line_feed(c: char) -> bool
-    ensures { result ≡ is_line_feed c }
+fn has_literal_characters(text: &str) -> bool
+    ensures { result ≡ list_all is_literal_character (chars text.now) }
 {
-    c == '\n'
+    text.chars().all(is_literal_character)
 }
 
 #[tactic(auto, using(crate::proofs::LiteralLemmas::literal_character))]

@@ -11,12 +11,6 @@ ghost use Rattle.yaml_emitter.specs.Words.{is_unfit, has_unfit_end, is_blank_at_
 
 use crate::ends::{begins_with, ends_with};
 
-// The words of booleans and of null, in YAML 1.2 and in earlier versions.
-const RESERVED: [&str; 26] = [
-    "true", "True", "TRUE", "false", "False", "FALSE", "null", "Null", "NULL", "~", "y", "Y", "n",
-    "N", "yes", "Yes", "YES", "no", "No", "NO", "on", "On", "ON", "off", "Off", "OFF",
-];
-
 /// Whether a plain scalar of the text would be read as something else than the text, here or by other
 /// readers of YAML.
 #[tactic(auto, using(crate::proofs::WordLemmas::quoted))]
@@ -72,68 +66,71 @@ fn has_indicator_first(text: &str) -> bool
     )
 }
 
+// The characters in question are all ASCII, and so a byte each.
 fn has_unfit_character(text: &str) -> bool
     ensures { result ≡ list_any is_unfit_for_plain (chars text.now) }
 {
-    text.chars().any(is_unfit_for_plain)
+    has_unfit_byte(text.as_bytes())
+}
+
+fn has_unfit_byte(bytes: &[u8]) -> bool
+    ensures { result ≡ list_any is_unfit_for_plain bytes.now }
+{
+    bytes.iter().any(|byte| is_unfit_for_plain(*byte))
 }
 
 #[tactic(auto, unfolding(tree_defs::specs::Quoting::is_unfit_for_plain))]
-fn is_unfit_for_plain(c: char) -> bool
-    ensures { result ≡ is_unfit_for_plain c }
+fn is_unfit_for_plain(byte: u8) -> bool
+    ensures { result ≡ is_unfit_for_plain byte }
 {
     matches!(
-        c,
-        ':' | '{' | '}' | '[' | ']' | ',' | '#' | '`' | '"' | '\'' | '\\'
-    ) || c <= '\u{6}'
-        || matches!(c, '\t' | '\n' | '\r')
-        || matches!(c, '\u{E}'..='\u{1A}' | '\u{1C}'..='\u{1F}')
-}
-
-// The words are all ASCII.
-fn stands_for_word(text: &str) -> bool
-    ensures { result ≡ is_word (chars text.now) }
-{
-    text.is_ascii() && is_word(text)
+        byte,
+        b':' | b'{' | b'}' | b'[' | b']' | b',' | b'#' | b'`' | b'"' | b'\'' | b'\\'
+    ) || byte <= 6
+        || matches!(byte, b'\t' | b'\n' | b'\r')
+        || matches!(byte, 14..=26 | 28..=31)
 }
 
 // A text that stands for something else, or that some reader takes for a boolean, for nothing or for a number.
-fn is_word(text: &str) -> bool
-    requires { IsAscii text.now }
-    ensures { result ≡ is_word text.now }
+fn stands_for_word(text: &str) -> bool
+    ensures { result ≡ is_word (chars text.now) }
 {
-    is_name(text) || !yaml_tree::is_string(text)
+    is_name(text.as_bytes()) || !yaml_tree::is_string(text)
 }
 
-fn is_name(text: &str) -> bool
+// The names are all ASCII.
+fn is_name(text: &[u8]) -> bool
     ensures { result ≡ is_name text.now }
 {
     is_reserved(text) || is_float_word(text)
 }
 
-fn is_reserved(text: &str) -> bool
+// The words of booleans and of null, in YAML 1.2 and in earlier versions.
+fn is_reserved(text: &[u8]) -> bool
     ensures { result ≡ is_among reserved_words text.now }
 {
-    is_among(&RESERVED, text)
-}
-
-fn is_among(words: &[&str], text: &str) -> bool
-    ensures { result ≡ is_among (map (λ w. w.now) words.now) text.now }
-{
-    for word in words {
-        if *word == text {
-            return true;
-        }
+    match text {
+        [b'~' | b'y' | b'Y' | b'n' | b'N'] => true,
+        [b't', rest @ ..] => matches!(rest, b"rue"),
+        [b'T', rest @ ..] => matches!(rest, b"rue" | b"RUE"),
+        [b'f', rest @ ..] => matches!(rest, b"alse"),
+        [b'F', rest @ ..] => matches!(rest, b"alse" | b"ALSE"),
+        [b'n', rest @ ..] => matches!(rest, b"ull" | b"o"),
+        [b'N', rest @ ..] => matches!(rest, b"ull" | b"ULL" | b"o" | b"O"),
+        [b'y', rest @ ..] => matches!(rest, b"es"),
+        [b'Y', rest @ ..] => matches!(rest, b"es" | b"ES"),
+        [b'o', rest @ ..] => matches!(rest, b"n" | b"ff"),
+        [b'O', rest @ ..] => matches!(rest, b"n" | b"N" | b"ff" | b"FF"),
+        _ => false,
     }
-    false
 }
 
 // An infinity or what is no number, in any mixture of cases and with a sign or none.
 #[tactic(auto, using(crate::proofs::WordLemmas::float_word))]
-fn is_float_word(text: &str) -> bool
+fn is_float_word(text: &[u8]) -> bool
     ensures { result ≡ is_float_word text.now }
 {
-    is_float_name(behind_sign(text.as_bytes()))
+    is_float_name(behind_sign(text))
 }
 
 fn is_float_name(word: &[u8]) -> bool

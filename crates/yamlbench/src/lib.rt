@@ -5,8 +5,8 @@ use overlay::overlay;
 use std::alloc::Global;
 use std::hash::{DefaultHasher, Hash as _, Hasher};
 use std::{fmt, str};
-use yaml_rust2::emitter::{FmtWriter, YamlEmitter};
-use yaml_rust2::{Yaml, YamlLoader};
+use yaml_rust2::emitter::FmtWriter;
+use yaml_rust2::{Yaml, YamlEmitter, YamlLoader};
 
 /// How many documents a text has, or -1 where it is refused. The trees are made and dropped.
 #[unsafe(no_mangle)]
@@ -22,6 +22,47 @@ fn load(alloc: Global, text: &str) -> i64 {
         Ok(documents) => i64::try_from(documents.len()).unwrap_or(i64::MAX),
         Err(_) => -1,
     }
+}
+
+/// Loads a text, and dumps its documents so many times: the bytes of a dump, or -1 where a text or memory is refused.
+#[unsafe(no_mangle)]
+pub extern "C" fn yamlbench_dump(
+    alloc: Global,
+    text: &[u8],
+    compact: bool,
+    multiline: bool,
+    rounds: u32,
+) -> i64 {
+    dump_all(alloc, text, compact, multiline, rounds)
+        .and_then(|bytes| i64::try_from(bytes).ok())
+        .unwrap_or(-1)
+}
+
+fn dump_all(
+    alloc: Global,
+    text: &[u8],
+    compact: bool,
+    multiline: bool,
+    rounds: u32,
+) -> Option<usize> {
+    let text = str::from_utf8(text).ok()?;
+    let documents = YamlLoader::load_from_str(alloc, text).ok()?;
+    let mut bytes = 0;
+    for _ in 0..rounds {
+        bytes = dump(alloc, documents.as_slice(), compact, multiline)?.len();
+    }
+    Some(bytes)
+}
+
+fn dump(alloc: Global, documents: &[Yaml], compact: bool, multiline: bool) -> Option<String> {
+    let mut dumps = String::new(alloc);
+    for document in documents {
+        let mut emitter = YamlEmitter::new(&mut dumps);
+        emitter.compact(compact);
+        emitter.multiline_strings(multiline);
+        emitter.dump(document).ok()?;
+    }
+    Some(dumps)
 }
 
 /// Lays the last document of one text over that of another: 1, or -1 where a text or memory is refused.
@@ -57,7 +98,7 @@ pub extern "C" fn yamlbench_hash(alloc: Global, text: &[u8]) -> i64 {
 
 /// How many bytes a dump of a text's last document takes, or -1 where the text is refused. They are not kept.
 #[unsafe(no_mangle)]
-pub extern "C" fn yamlbench_dump(alloc: Global, text: &[u8]) -> i64 {
+pub extern "C" fn yamlbench_dump_length(alloc: Global, text: &[u8]) -> i64 {
     let Some(tree) = last_document(alloc, text) else {
         return -1;
     };

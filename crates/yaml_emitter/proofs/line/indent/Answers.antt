@@ -1,17 +1,24 @@
-use Rattle.std.proofs.Common.{refl, arith}
-use Rattle.yaml_emitter.proofs.LineLemmas.{spaces_first, spaces_next, spaces_last}
-use Rattle.yaml_emitter.proofs.WritingLemmas.{writes_ok, writes_err, stopped_early, left_after, left_none, left_stopped}
+use Rattle.std.proofs.Common.{refl, sym, arith}
+use Rattle.yaml_emitter.proofs.LineLemmas.{deep_blanks, low_spaces}
+use Rattle.yaml_emitter.proofs.WritingLemmas.{writes_err, stopped_early, left_all, left_as, left_after, left_stopped, left_writes}
 use Rattle.yaml_emitter.proofs.line.indent.Goals as goal
 
 pub levels-init : goal.levels-init
-levels-init g c = spaces_first c.args.level
+levels-init g c = left_all
+
+pub put_ascii-requires : goal.put_ascii-requires
+put_ascii-requires g c = low_spaces _ 32 c.blanks.ensures
+
+pub put_ascii-requires-2 : goal.put_ascii-requires-2
+put_ascii-requires-2 g c = low_spaces _ c.levels.left c.blanks-2.ensures
 
 pub returns-in_err-put_ascii : goal.returns-in_err-put_ascii
 returns-in_err-put_ascii g c =
-    writes_err c.from_residual.ensures.0 (left_stopped (spaces_next c.args.level c.levels.counter (omega arith) c.levels.invariant) (stopped_early _ (c.in_err-put_ascii.ensures.err refl)))
+    writes_err c.from_residual.ensures.0
+    (left_stopped (left_as (deep_blanks c.levels.left (omega arith)) c.levels.invariant) (stopped_early _ (rw c.blanks.ensures at (c.in_err-put_ascii.ensures.err refl))))
 
 pub levels-preserved : goal.levels-preserved
-levels-preserved g c = left_after (spaces_next c.args.level c.levels.counter (omega arith) c.levels.invariant) (c.in_ok-put_ascii.ensures.ok refl)
+levels-preserved g c = left_after (left_as (deep_blanks c.levels.left (omega arith)) c.levels.invariant) (rw c.blanks.ensures at (c.in_ok-put_ascii.ensures.ok refl))
 
 pub returns : goal.returns
-returns g c = writes_ok refl (left_none (spaces_last c.args.level c.levels.counter (omega arith) c.levels.invariant))
+returns g c = left_writes (left_as (sym c.blanks-2.ensures) c.levels.invariant) c.put_ascii-2.ensures

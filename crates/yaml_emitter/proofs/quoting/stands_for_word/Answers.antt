@@ -1,9 +1,16 @@
-use Rattle.std.proofs.Common.{◌∙◌}
-use Rattle.yaml_emitter.proofs.WordLemmas.{ascii_word, no_word}
+use Rattle.std.proofs.Common.{ap, ◌∙◌, ◌||◌}
+use Rattle.std.specs.Prelude.{not, chars}
+use Rattle.tree_defs.specs.Typing.{typing, is_string}
+use Rattle.yaml_emitter.specs.Words.{is_name}
+use Rattle.yaml_emitter.proofs.WordLemmas.{word_of_bytes}
 use Rattle.yaml_emitter.proofs.quoting.stands_for_word.Goals as goal
 
-pub returns-then-is_ascii : goal.returns-then-is_ascii
-returns-then-is_ascii c = c.is_word.ensures ∙ ascii_word c.args.text.now (c.if-is_ascii.ensures {u = tt}).cases
+pub returns-then-is_name : goal.returns-then-is_name
+returns-then-is_name c =
+    let named = (c.if-is_name.ensures {u = tt}) ∙ ap is_name c.as_bytes.ensures.value in
+    c.if-is_name.true ∙ ap (λ b. b || not (is_string (typing (chars c.args.text.now)))) named ∙ word_of_bytes c.args.text.now c.utf8.text
 
-pub returns-else-is_ascii : goal.returns-else-is_ascii
-returns-else-is_ascii c = c.if-is_ascii.false ∙ no_word c.args.text.now c.utf8.text (c.if-is_ascii.ensures {u = tt}).cases
+pub returns-else-is_name : goal.returns-else-is_name
+returns-else-is_name c =
+    let named = (c.if-is_name.ensures {u = tt}) ∙ ap is_name c.as_bytes.ensures.value in
+    ap not c.is_string.ensures ∙ ap (λ b. b || not (is_string (typing (chars c.args.text.now)))) named ∙ word_of_bytes c.args.text.now c.utf8.text

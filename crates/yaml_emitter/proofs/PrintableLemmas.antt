@@ -1,0 +1,68 @@
+-- The printable characters of ASCII that a text begins with.
+use Rattle.std.proofs.Common.{◌≡◌, ℕ, List, [], ◌∷◌, ◌++◌, take, drop, Bool, true, false, not, ◌||◌, ◌&&◌, refl, sym, ap, ◌∙◌, arith}
+use Rattle.std.specs.Prelude.{nat_lt, is_some, Option, Some, None, MatchOption}
+use Rattle.std.specs.Borrow.{Bor}
+use Rattle.std.specs.List.{list_all, list_any, prefix_len}
+use Rattle.std.specs.Str.{chars, IsUtf8, IsCharBoundary}
+use Rattle.std.proofs.lemmas.Bool.{and_parts, and_from}
+use Rattle.std.proofs.lemmas.Bool.Decides.{nat_tests}
+use Rattle.std.proofs.lemmas.List.Folds.{list_all-append}
+use Rattle.std.proofs.lemmas.List.Sums.{prefix_len-le-length}
+use Rattle.std.proofs.lemmas.Str.{chars-append, IsUtf8-from_ascii, IsCharBoundary-from_take}
+use Rattle.tree_defs.specs.Literal.{is_literal_character, is_line_feed}
+use Rattle.yaml_emitter.specs.At.{is_low}
+use Rattle.yaml_emitter.specs.Blocks.{IsUnbroken, IsFirstCut}
+use Rattle.yaml_emitter.specs.Runs.{is_unprintable}
+use Rattle.yaml_emitter.proofs.EndLemmas.{halves}
+use Rattle.yaml_emitter.proofs.RunLemmas.{all_pass}
+use Rattle.yaml_emitter.proofs.TextLemmas.{low_at, low_chars}
+
+abbrev printable : ℕ → Bool
+printable c = not (is_unprintable c)
+
+all_so : (p q : ℕ → Bool) → ((c : ℕ) → p c ≡ true → q c ≡ true) → (t : List ℕ) → list_all p t ≡ true → list_all q t ≡ true
+all_so p q f [] h = refl
+all_so p q f (c ∷ cs) h = let parts = and_parts (p c) (list_all p cs) h in and_from (q c) (list_all q cs) (f c parts.0) (all_so p q f cs parts.1)
+
+printable_low : (c : ℕ) → printable c ≡ true → nat_lt c 128 ≡ true
+printable_low c h = grind (arith, nat_tests)
+
+printable_fits : (c : ℕ) → printable c ≡ true → is_literal_character c ≡ true
+unfolding is_literal_character
+printable_fits c h = grind (arith, nat_tests)
+
+front_low : (bs : List ℕ) → is_low (take (prefix_len printable bs) bs) ≡ true
+front_low bs = all_so printable (λ c. nat_lt c 128) printable_low (take (prefix_len printable bs) bs) (all_pass printable bs)
+
+front_utf8 : (bs : List ℕ) → IsUtf8 (take (prefix_len printable bs) bs)
+front_utf8 bs = IsUtf8-from_ascii _ (low_at _ (front_low bs))
+
+pub printable_boundary : (bs : List ℕ) → IsUtf8 bs → IsCharBoundary bs (prefix_len printable bs)
+printable_boundary bs u = IsCharBoundary-from_take bs _ u (prefix_len-le-length printable bs) (front_utf8 bs)
+
+-- what stands behind them decides
+pub rest_printable : (bs : List ℕ) → list_all is_literal_character (chars (drop (prefix_len printable bs) bs)) ≡ list_all is_literal_character (chars bs)
+rest_printable bs =
+    let n = prefix_len printable bs in
+    let front = take n bs in
+    let split : chars bs ≡ chars front ++ chars (drop n bs) = ap chars (sym (halves n bs)) ∙ chars-append front (drop n bs) (front_utf8 bs) in
+    let passes : list_all is_literal_character (chars front) ≡ true = ap (list_all is_literal_character) (low_chars front (front_low bs)) ∙ all_so printable is_literal_character printable_fits front (all_pass printable bs) in
+    sym (ap (list_all is_literal_character) split ∙ list_all-append is_literal_character (chars front) (chars (drop n bs)) ∙ ap (λ b. b && list_all is_literal_character (chars (drop n bs))) passes)
+
+-- ---- a line feed
+
+behind_feed : (a b : List ℕ) → list_any is_line_feed (a ++ 10 ∷ b) ≡ true
+behind_feed [] b = refl
+behind_feed (c ∷ a) b = ap (λ x. is_line_feed c || x) (behind_feed a b) ∙ or_true (is_line_feed c)
+  where
+    or_true : (b : Bool) → (b || true) ≡ true
+    or_true true = refl
+    or_true false = refl
+
+no_feed : (t : List ℕ) → IsUnbroken t → list_any is_line_feed t ≡ false
+no_feed [] n = refl
+no_feed (c ∷ t) n = (λ i. n.0 i || no_feed t n.1 i)
+
+pub feed_by : (s : List ℕ) (r : Option (Bor (List ℕ) × Bor (List ℕ))) → MatchOption r (IsUnbroken (chars s)) (λ x. IsFirstCut s x.0.now x.1.now) → is_some r ≡ list_any is_line_feed (chars s)
+feed_by s (Some x) m = sym (ap (list_any is_line_feed) m.whole ∙ behind_feed (chars x.0.now) (chars x.1.now))
+feed_by s None m = sym (no_feed (chars s) m)
