@@ -173,7 +173,8 @@ def differing_dumps(a, texts, paths):
         elif isinstance(mine, list): loaded[q] = (text, mine)
     names = differing(a, [t for _, t in unlike], [q for q, _ in unlike])
     for q, text in unlike:
-        found[q] = names.get(q, (text, None, first_lines(ours.get(q, []), theirs.get(q, []))))
+        name = trees.explain_trees(trees.answer(ours.get(q, [])), trees.answer(theirs.get(q, [])))
+        found[q] = names.get(q, (text, name, first_lines(ours.get(q, []), theirs.get(q, []))))
     for spread, multiline in SETTINGS:
         words = ["dump"] + ["--spread"] * spread + ["--multiline"] * multiline
         ours, theirs = both(a, words, list(loaded))

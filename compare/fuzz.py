@@ -162,7 +162,9 @@ class Fuzz:
                 continue
             is_fault = bool(mine) and mine[-1].startswith("ERR ")
             if mine != other and q not in explained and (is_fault or trees.answer(mine) != trees.answer(other)):
-                self.note(text, None, mine, other, "trees")
+                name = trees.explain_trees(trees.answer(mine), trees.answer(other))
+                self.note(text, name, mine, other, "trees")
+                explained[q] = name
             elif not is_fault:
                 same[q] = mine
         self.loaded += len(same)

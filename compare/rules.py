@@ -197,7 +197,27 @@ def pairs_and_characters(text, ours, theirs):
     return None
 
 
-TOKEN_RULES = [pairs, characters, octets, block_at_margin, tab_before_comment, pairs_and_characters]
+TAB_COMMENT = re.compile(r"[ \t]*\t[ \t]*#")
+
+
+def tab_before_comment_in_a_key(text, ours, theirs):
+    """A scalar that ends at such a comment and was to be a key: it isn't handed out, and the fault stands where it ended."""
+    tokens, fault = parsed(ours)
+    other, their_fault = parsed(theirs)
+    stop = "simple key expect ':' at byte "
+    if not fault or not their_fault or stop not in fault or stop not in their_fault:
+        return None
+    lines = re.split("\r\n|\r|\n", text)
+    line, their_line = (int(re.search(r" line (\d+) ", f)[1]) for f in (fault, their_fault))
+    is_there = line <= len(lines) and TAB_COMMENT.match(lines[line - 1]) and their_line > line
+
+    def plain(these): return [COLUMNS.sub("", t if isinstance(t, str) else t.text()) for t in these]
+    if is_there and plain(other) in (plain(tokens), plain(with_one_flag(text, tokens)[0])):
+        return "a comment behind a TAB"
+    return None
+
+
+TOKEN_RULES = [pairs, characters, octets, block_at_margin, tab_before_comment, pairs_and_characters, tab_before_comment_in_a_key]
 
 
 def explain_tokens(text, ours, theirs):

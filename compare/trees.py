@@ -231,3 +231,27 @@ def explain(trees, spread, multiline, ours, theirs):
     if theirs == texts(our_quotes, their_literal):
         return "where a literal block may stand"
     return "both: texts read as numbers, and where a literal block may stand"
+
+
+def with_lost_keys(tree):
+    """The tree as it is where a key that is a bad value counts as no key: what comes behind it is taken as the key."""
+    kind, it = tree
+    if kind == "array":
+        return kind, [with_lost_keys(x) for x in it]
+    if kind != "hash":
+        return tree
+    pairs, key = [], None
+    for x in (with_lost_keys(x) for pair in it for x in pair):
+        if key is None:
+            key = x if x[0] != "bad" else None
+        else:
+            pairs = [p for p in pairs if p[0] != key] + [(key, x)]
+            key = None
+    return kind, pairs
+
+
+def explain_trees(ours, theirs):
+    """The departure by which the original loads `theirs` and we `ours`, or None."""
+    if isinstance(ours, list) and isinstance(theirs, list) and [with_lost_keys(t) for t in ours] == theirs:
+        return "a bad value as a key"
+    return None

@@ -1,41 +1,8 @@
-//! Tokens, events and their places.
+//! Events and their places.
 use std::alloc::Global;
 use std::str::Chars;
 use std::test::Fail;
 use yaml_rust2::parser::{Event, Parser};
-use yaml_rust2::scanner::Scanner;
-
-fn tokens(alloc: Global, text: &str) -> Result<String, Fail> {
-    let mut names = String::new(alloc);
-    for token in Scanner::new(alloc, text.chars()) {
-        names.push_str(format!(in alloc; "{:?} ", token.1)?.as_str())?;
-    }
-    Ok(names)
-}
-
-// A text and its tokens.
-const TOKENS: [(&str, &str); 3] = [
-    (
-        "{a: :b}",
-        "StreamStart(Utf8) FlowMappingStart Key Scalar(Plain, \"a\") Value Scalar(Plain, \":b\") FlowMappingEnd StreamEnd ",
-    ),
-    (
-        "{\n  ? foo :,\n  : bar,\n}",
-        "StreamStart(Utf8) FlowMappingStart Key Scalar(Plain, \"foo\") Value FlowEntry Value Scalar(Plain, \"bar\") FlowEntry FlowMappingEnd StreamEnd ",
-    ),
-    (
-        "- 'a'\n- \"b\"\n- |-\n c\n- >-\n d\n",
-        "StreamStart(Utf8) BlockSequenceStart BlockEntry Scalar(SingleQuoted, \"a\") BlockEntry Scalar(DoubleQuoted, \"b\") BlockEntry Scalar(Literal, \"c\") BlockEntry Scalar(Folded, \"d\") BlockEnd StreamEnd ",
-    ),
-];
-
-#[test]
-fn tokens_come_in_order(rt: HostRuntime) -> Result<(), Fail> {
-    for (text, want) in TOKENS {
-        assert_eq!(rt; tokens(rt.alloc(), text)?.as_str(), want, "row {text:?}");
-    }
-    Ok(())
-}
 
 // The next event: whether it is the stream's end, and its words with its place if it is a scalar or an alias.
 fn scalar_words(alloc: Global, parser: &mut Parser<Chars<'_>>) -> Result<(bool, String), Fail> {

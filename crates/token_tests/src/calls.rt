@@ -1,0 +1,161 @@
+//! Calls of a scanner, one behind the other.
+use std::alloc::Global;
+use std::str::Chars;
+use std::test::Fail;
+use yaml_scanner::Scanner;
+use yaml_tokens::ScanError;
+
+#[derive(Clone, Copy)]
+enum Call {
+    // `fetch_next_token`.
+    Step,
+    // `fetch_more_tokens`.
+    More,
+    // `next_token`.
+    Token,
+    // `next` of the iterator.
+    Next,
+    // `stream_started` and `stream_ended`.
+    State,
+    // `get_error`.
+    Error,
+}
+
+// The functions below have no contract, so that a row of calls makes no long proof.
+
+// A fault's line, and whether it is want of memory.
+fn fault_words(alloc: Global, fault: &ScanError) -> Result<String, Fail> {
+    Ok(format!(in alloc; "{fault} {}", fault.is_out_of_memory())?)
+}
+
+fn outcome_words(alloc: Global, outcome: Result<(), ScanError>) -> Result<String, Fail> {
+    match outcome {
+        Ok(()) => Ok(String::from_str(alloc, "ok")?),
+        Err(fault) => fault_words(alloc, &fault),
+    }
+}
+
+fn step_words(alloc: Global, scanner: &mut Scanner<Chars<'_>>) -> Result<String, Fail> {
+    outcome_words(alloc, scanner.fetch_next_token())
+}
+
+fn more_words(alloc: Global, scanner: &mut Scanner<Chars<'_>>) -> Result<String, Fail> {
+    outcome_words(alloc, scanner.fetch_more_tokens())
+}
+
+fn token_words(alloc: Global, scanner: &mut Scanner<Chars<'_>>) -> Result<String, Fail> {
+    match scanner.next_token() {
+        Ok(Some(token)) => Ok(format!(in alloc; "{:?}", token.1)?),
+        Ok(None) => Ok(String::from_str(alloc, "none")?),
+        Err(fault) => fault_words(alloc, &fault),
+    }
+}
+
+fn next_words(alloc: Global, scanner: &mut Scanner<Chars<'_>>) -> Result<String, Fail> {
+    match scanner.next() {
+        Some(token) => Ok(format!(in alloc; "{:?}", token.1)?),
+        None => Ok(String::from_str(alloc, "none")?),
+    }
+}
+
+fn state_words(alloc: Global, scanner: &Scanner<Chars<'_>>) -> Result<String, Fail> {
+    let has_started = scanner.stream_started();
+    let has_ended = scanner.stream_ended();
+    Ok(format!(in alloc; "{has_started} {has_ended}")?)
+}
+
+fn error_words(alloc: Global, scanner: &Scanner<Chars<'_>>) -> Result<String, Fail> {
+    match scanner.get_error() {
+        Some(fault) => fault_words(alloc, &fault),
+        None => Ok(String::from_str(alloc, "none")?),
+    }
+}
+
+// What a call answers.
+fn answer(alloc: Global, scanner: &mut Scanner<Chars<'_>>, call: Call) -> Result<String, Fail> {
+    match call {
+        Call::Step => step_words(alloc, scanner),
+        Call::More => more_words(alloc, scanner),
+        Call::Token => token_words(alloc, scanner),
+        Call::Next => next_words(alloc, scanner),
+        Call::State => state_words(alloc, scanner),
+        Call::Error => error_words(alloc, scanner),
+    }
+}
+
+// What these calls answer, one behind the other.
+fn answers(alloc: Global, text: &str, calls: &[Call]) -> Result<String, Fail> {
+    let mut scanner = Scanner::new(alloc, text.chars());
+    let mut out = String::new(alloc);
+    for call in calls {
+        out.push_str(answer(alloc, &mut scanner, *call)?.as_str())?;
+        out.push_str(" / ")?;
+    }
+    Ok(out)
+}
+
+// A text, calls of its scanner, and what they answer.
+const CALLS: [(&str, &[Call], &str); 3] = [
+    // Memory is there, so no call answers want of it; behind the end nothing changes.
+    (
+        "[a]",
+        &[
+            Call::State,
+            Call::Step,
+            Call::State,
+            Call::More,
+            Call::Token,
+            Call::Token,
+            Call::Token,
+            Call::Token,
+            Call::State,
+            Call::Token,
+            Call::State,
+            Call::Step,
+            Call::More,
+            Call::Token,
+            Call::Next,
+            Call::Error,
+        ],
+        "false false / ok / true false / ok / StreamStart(Utf8) / FlowSequenceStart / Scalar(Plain, \"a\") / FlowSequenceEnd / true false / StreamEnd / true true / ok / ok / none / none / none / ",
+    ),
+    // A fault is kept.
+    (
+        "@",
+        &[
+            Call::Next,
+            Call::Next,
+            Call::Error,
+            Call::Step,
+            Call::More,
+            Call::Token,
+            Call::Next,
+            Call::State,
+        ],
+        "StreamStart(Utf8) / none / unexpected character: `@' at byte 0 line 1 column 1 false / unexpected character: `@' at byte 0 line 1 column 1 false / unexpected character: `@' at byte 0 line 1 column 1 false / unexpected character: `@' at byte 0 line 1 column 1 false / none / true false / ",
+    ),
+    // Tokens that stood ready when it was met aren't handed out.
+    (
+        "a @",
+        &[
+            Call::Token,
+            Call::Step,
+            Call::Step,
+            Call::Token,
+            Call::Error,
+        ],
+        "StreamStart(Utf8) / ok / ok / Scalar(Plain, \"a @\") / none / ",
+    ),
+];
+
+#[test]
+fn a_scanner_goes_step_by_step(rt: HostRuntime) -> Result<(), Fail> {
+    for (text, calls, want) in CALLS {
+        assert_eq!(rt;
+            answers(rt.alloc(), text, calls)?.as_str(),
+            want,
+            "row {text:?}"
+        );
+    }
+    Ok(())
+}
