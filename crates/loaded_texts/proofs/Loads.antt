@@ -19,7 +19,7 @@ use Rattle.loaded_texts.proofs.Texts.{goes_on}
 use Rattle.loaded_texts.proofs.Spelled.{json_texts_are_read}
 use Rattle.loaded_texts.proofs.Answers.{placed_stream, texts_are_answered}
 
--- A fault of such a text is want of memory.
+-- A fault of such a text is out of memory.
 pub memory_is_wanted : (keep_tags : Bool) (text : List ℕ) (trees : List Tree) (f : Fault) → IsReadAs keep_tags text trees → IsFaultOf keep_tags text f → f.memory ≡ true
 memory_is_wanted keep_tags text trees f x (wants_memory wants) = wants.memory
 memory_is_wanted keep_tags text trees f x (no_token r) = absurd (not_refused text x.has.0 r.fault x.has.1 r.refused)

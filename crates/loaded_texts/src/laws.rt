@@ -19,7 +19,7 @@ pub fn read_texts_are_not_refused()
     ensures { ReadTextsAreNotRefused }
 {}
 
-/// Its only fault, and its scanner's, is want of memory.
+/// Its only fault, and its scanner's, is out of memory.
 pub fn read_texts_have_no_fault_but_memory()
     ensures { ReadTextsHaveNoFaultButMemory }
 {}
@@ -64,7 +64,7 @@ pub fn dumps_are_injective()
     ensures { DumpIsInjective }
 {}
 
-/// A load by a parser at its start pushes all events of its text; or it has a fault of which the text, or want of memory,
+/// A load by a parser at its start pushes all events of its text; or it has a fault of which the text, or refused memory,
 /// is the reason; or the receiver refused an event that is the text's next.
 pub fn texts_are_answered<R: MarkedEventReceiver>()
     ensures { TextsAreAnswered R.takes }

@@ -38,7 +38,7 @@ WhereDecoded (Err (Decode m)) P = P
 WhereDecoded (Err (Scan f)) P = P
 WhereDecoded (Err (IO e)) P = ⊤
 
--- a load of a text: the documents that it is read as up to a NUL, or a fault that has its reason in it, or want of memory
+-- a load of a text: the documents that it is read as up to a NUL, or a fault that has its reason in it, or out of memory
 abbrev pub Loads : List ℕ → Result (Vec Yaml Global) LoadError → Type 0
 Loads characters (Ok documents) = LoadsText false (up_to_nul characters) (Ok documents)
 Loads characters (Err (Scan f)) = LoadsText false (up_to_nul characters) (Err f)

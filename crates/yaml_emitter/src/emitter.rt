@@ -98,7 +98,7 @@ impl<'a, W: Writer> YamlEmitter<'a, W> {
     /// Writes the line `---` and the tree (YAML 1.2, chapter 8), with no break at the end. `Ok` says that
     /// the whole text was written behind what the writer holds. An `Err` comes only where the writer
     /// refused, or where the tree has 2^62 levels or more; then a beginning of the text was written. A
-    /// `String` refuses only for want of memory, and has then grown by that beginning alone. The settings
+    /// `String` refuses only where memory is refused, and has then grown by that beginning alone. The settings
     /// stay.
     pub fn dump(&mut self, doc: &Yaml) -> EmitResult
         ensures same_writer { writer_name self.new ≡ writer_name self.old }

@@ -34,7 +34,7 @@ pub trait Writer {
     ghost stopped: { (w : Self) (text : List ℕ) (v : Self) → Stopped put_gives put_leaves (Unit {0}) w text v → calls_leave w text v };
 }
 
-// It refuses only for want of memory, and is then as it was.
+// It refuses only where memory is refused, and is then as it was.
 impl Writer for String {
     ghost put_gives = { HasGrown };
 

@@ -23,7 +23,7 @@ loader_by (course.OutOfMemory place) u = refused u.documents place
 abbrev pub loader_of : YamlLoader → Loader
 loader_of l = loader_by l.course (unfinished_of l.reading)
 
--- want of memory at a place
+-- out of memory at a place
 abbrev pub want_of_memory : Place → Fault
 want_of_memory place = record { place = place; text = codes "out of memory"; memory = true }
 
@@ -41,7 +41,7 @@ kept_by (course.OutOfMemory place) = Some (want_of_memory place)
 abbrev pub kept_fault : YamlLoader → Option Fault
 kept_fault l = kept_by l.course
 
--- A fault that comes anew with an event at this place, behind which the loader would be this one: want of memory, or
+-- A fault that comes anew with an event at this place, behind which the loader would be this one: out of memory, or
 -- that of an event out of nesting, where this one refuses it.
 abbrev pub IsNewFault : Fault → Place → Loader → Type 0
 IsNewFault f place l = (f ≡ want_of_memory place) ⊎ ((f ≡ event_out_of_nesting place) × (refused_at l ≡ Some place))

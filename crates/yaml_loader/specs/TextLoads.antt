@@ -49,7 +49,7 @@ abbrev pub OfGiven : {S : Type 0} → (S → Option ℕ → S → Type 0) → S 
 OfGiven steps source Q = (text : List ℕ) → AlwaysYields steps (λ c. c) source text → Q text
 
 -- What a load answers of a text: the documents that it is read as, or a fault that has its reason in it; so of a text that is read as
--- trees, of a JSON text, of one that is laid out and of one quoted scalar just their trees, or want of memory.
+-- trees, of a JSON text, of one that is laid out and of one quoted scalar just their trees, or out of memory.
 pub record Answers (text : List ℕ) (result : Result (Vec Yaml Global) Fault) : Type 0 where
   pub reads : LoadsText false text result
   pub texts : OfText text (LoadsOnly result)

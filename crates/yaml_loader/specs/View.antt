@@ -55,7 +55,7 @@ abbrev pub with_anchors : Anchors → Step → Step
 with_anchors anchors (reads u) = reads (record u { anchors = anchors })
 with_anchors anchors s = s
 
--- What is known of a step that is refused, and of the open collections behind it. Of want of memory nothing is known.
+-- What is known of a step that is refused, and of the open collections behind it. Of refused memory nothing is known.
 abbrev pub IsRefusedBy : Refusal → Step → List Opened → Type 0
 IsRefusedBy refusal.OutOfMemory s opened = Unit {0}
 IsRefusedBy refusal.OutOfNesting s opened = s ≡ out_of_nesting
@@ -73,7 +73,7 @@ IsNoInsert refusal.RepeatedKey old t new = Repeats old t new
 abbrev pub Reads : Step → Result (Unit {0}) Refusal → Reading → Type 0
 Reads s result new = OnOk result (ReadsTo s (unfinished_of new))
 
--- A refusal is the step's, but for want of memory.
+-- A refusal is the step's, but for out of memory.
 abbrev pub Refuses : Step → Result (Unit {0}) Refusal → Reading → Type 0
 Refuses s result new = IfErr result (λ r. IsRefusedBy r s (unfinished_of new).opened)
 

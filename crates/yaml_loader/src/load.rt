@@ -17,10 +17,24 @@ use yaml_tokens::ScanError;
 use yaml_tree::Yaml;
 
 impl YamlLoader {
-    /// All documents of a text, up to its end or to a NUL, or one fault: one in a later document keeps the earlier ones
-    /// back, and is answered before a key that came twice (YAML 1.2, section 3.1).
+    /// Loads all documents of a text, up to its end or its first NUL (YAML 1.2, section 3.1). An empty text has none.
     ///
-    /// These texts load as their one tree, or memory is refused:
+    /// # Example
+    ///
+    /// ```
+    /// let documents = YamlLoader::load_from_str(alloc, "a: [1, two]")?;
+    /// let first = documents.first()?.get_key("a")?.get_index(0)?.as_i64(); // Some(1)
+    /// ```
+    ///
+    /// # Errors
+    ///
+    /// The text's first fault, with its place: a text is loaded whole or not at all. A key that comes twice in its
+    /// mapping is a fault too, which is answered where no other comes. Or memory was refused:
+    /// [`ScanError::is_out_of_memory`]. Nothing is left behind then.
+    ///
+    /// # What loads for certain
+    ///
+    /// These texts load as their one tree, unless memory is refused:
     ///
     /// - a JSON text (RFC 8259) with TABs only among the blanks that begin a line, no escape of half a pair of UTF-16, no
     ///   key twice in an object, and at most 255 levels;
@@ -43,7 +57,10 @@ impl YamlLoader {
         YamlLoader::load_from_parser(alloc, &mut parser)
     }
 
-    /// All documents of the characters of an iterator, up to its first `None` or to a NUL, or one fault, as `load_from_str`.
+    /// Loads all documents of the characters that an iterator gives, up to its first `None` or NUL. It is then left alone.
+    /// Errors and promises are those of [`YamlLoader::load_from_str`].
+    ///
+    /// A caller that proves something shows that the iterator may be asked, ends, and gives fewer than 2^63 characters.
     pub fn load_from_iter<I: Iterator<Item = char> + Drop>(
         alloc: Global,
         source: I,
@@ -65,8 +82,12 @@ impl YamlLoader {
         YamlLoader::load_from_parser(alloc, &mut parser)
     }
 
-    /// All documents from where a parser stands, or one fault. A key that comes twice is answered only where no fault
-    /// of scanner or parser comes behind it.
+    /// Loads all documents from where a parser stands to the stream's end. An event that was peeked comes first.
+    ///
+    /// # Errors
+    ///
+    /// The fault that the parser meets, which it keeps. A key that comes twice in its mapping is answered only where the
+    /// parser meets none. Or memory was refused.
     pub fn load_from_parser<I: Iterator<Item = char>>(
         alloc: Global,
         parser: &mut Parser<I>,

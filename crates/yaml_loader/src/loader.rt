@@ -24,10 +24,11 @@ pub(crate) enum Course {
     OutOfMemory(Marker),
 }
 
-/// Reads events as trees: one tree for each document.
+/// Makes trees of text, by [`YamlLoader::load_from_str`] and the other two loads; or of events that are pushed into it.
 ///
-/// A fault is kept: every later event is answered the same. The documents stay. A key that comes twice in its mapping
-/// is noted, and answered by the loads alone; from then on events are ignored.
+/// A loader that events are pushed into has one tree for each finished document. A fault is kept: every later event is
+/// answered the same, and the documents stay. A key that comes twice in its mapping is noted, and answered by the loads
+/// alone; from then on events are ignored.
 #[derive(Drop)]
 pub struct YamlLoader {
     pub(crate) reading: Reading,
@@ -35,7 +36,7 @@ pub struct YamlLoader {
 }
 
 impl YamlLoader {
-    /// The empty loader. It takes no memory.
+    /// An empty loader, to push events into. It takes no memory.
     pub fn default(alloc: Global) -> YamlLoader
         ensures empty { loader_of result ≡ new_loader }
         ensures no_fault { kept_fault result ≡ None }
@@ -108,7 +109,12 @@ pub(crate) fn out_of_nesting(mark: Marker) -> ScanError
 impl MarkedEventReceiver for YamlLoader {
     ghost takes = { Takes };
 
-    /// Takes one event more. An `Err` is kept: an event out of nesting, at its place, or want of memory.
+    /// Takes one more event.
+    ///
+    /// # Errors
+    ///
+    /// `event out of nesting`, at `mark`: an end without its start, a second root node, an end of a mapping whose last
+    /// key has no value, or a document's end while a collection is open. Or memory was refused. Both are kept.
     fn on_event(&mut self, ev: Event, mark: Marker) -> Result<(), ScanError>
         ensures { Takes self.old (ev_of ev) mark result self.new }
     {

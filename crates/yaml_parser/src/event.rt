@@ -7,16 +7,21 @@ ghost use Rattle.yaml_parser.specs.Shown.{ev_of, tag_of, perhaps_tag_of};
 use std::alloc::{AllocError, Global};
 use yaml_tokens::{ScanError, TScalarStyle};
 
-/// What a parser hands out (YAML 1.2, section 3.1).
+/// A piece of a stream's structure, as a parser gives it (YAML 1.2, section 3.1.2). A start and its end enclose the events
+/// between them; a mapping has a key's events and then its value's, by turns.
 ///
 /// An anchor is its number, counted from 1 over the stream, or 0 where there is none.
 #[derive(Debug, PartialEq, Eq, Drop)]
 pub enum Event {
-    /// Never handed out.
+    /// Never given.
     Nothing,
+    /// Always first.
     StreamStart,
+    /// Always last.
     StreamEnd,
+    /// Before a document's root.
     DocumentStart,
+    /// Behind a document's root.
     DocumentEnd,
     /// The number of the anchor that is meant.
     Alias(usize),
@@ -37,7 +42,7 @@ pub struct Tag {
     pub suffix: String,
 }
 
-/// The next event and its place, or why there is none.
+/// The next event and its place, or the fault that stands in its way.
 pub type ParseResult = Result<(Event, yaml_chars::Marker), ScanError>;
 
 #[tactic(auto, using(yaml_chars::proofs::TextLemmas::string_chars_same))]
@@ -48,7 +53,7 @@ pub(crate) fn copied(alloc: Global, text: &String) -> Result<String, AllocError>
 }
 
 impl Tag {
-    /// An equal tag, or want of memory.
+    /// A copy, equal to the tag. An `Err` comes only where memory was refused.
     pub fn clone(&self, alloc: Global) -> Result<Tag, AllocError>
         ensures { IfOk result (λ t. tag_of t ≡ tag_of self.now) }
     {
@@ -69,7 +74,7 @@ fn perhaps_clone(alloc: Global, tag: &Option<Tag>) -> Result<Option<Tag>, AllocE
 }
 
 impl Event {
-    /// An equal event, or want of memory.
+    /// A copy, equal to the event. An `Err` comes only where memory was refused.
     pub fn clone(&self, alloc: Global) -> Result<Event, AllocError>
         ensures { IfOk result (λ e. ev_of e ≡ ev_of self.now) }
     {

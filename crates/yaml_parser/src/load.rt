@@ -30,9 +30,21 @@ fn is_document_end(event: &Event) -> bool
 }
 
 impl<T: Iterator<Item = char>> Parser<T> {
-    /// Pushes events into a receiver, from where the parser stands: the stream's start if it was
-    /// not given yet, and then a document's events, or with `multi` those of all documents and the
-    /// stream's end. A fault is answered, and so is what the receiver answers, which is not kept.
+    /// Pushes events into a receiver, from where the parser stands: the stream's start if it was not given yet, and then
+    /// the next document's events, or with `multi` those of all documents and the stream's end.
+    ///
+    /// # Example
+    ///
+    /// ```
+    /// let mut scalars = Scalars { count: 0 }; // an `EventReceiver`
+    /// Parser::new_from_str(alloc, "a: [1, two]").load(&mut scalars, true)?;
+    /// ```
+    ///
+    /// # Errors
+    ///
+    /// The fault that the parser meets, which it keeps; `did not find expected <document-start>`, at the event's place,
+    /// where the parser stands inside a document. Or what the receiver answered: the parser then keeps no fault, and
+    /// stands behind the event that was pushed.
     pub fn load<R: MarkedEventReceiver>(
         &mut self,
         recv: &mut R,

@@ -43,7 +43,9 @@ fn ends(ended: bool, event: &Event) -> bool
     }
 }
 
-/// Reads a stream of characters as YAML's events (YAML 1.2, chapters 6 to 9).
+/// Reads characters as events (YAML 1.2, chapters 6 to 9): [`next_token`](Parser::next_token) gives the next one,
+/// [`load`](Parser::load) pushes them into a receiver. It takes memory for open collections and for texts, and reads no
+/// further than it must.
 ///
 /// A fault is kept: every later call answers it again.
 #[derive(Drop)]
@@ -73,7 +75,7 @@ impl<T: Iterator<Item = char>> Model for Parser<T> {
 }
 
 impl<'a> Parser<Chars<'a>> {
-    /// A parser of a text, up to its end or to a NUL. It takes no memory.
+    /// A parser of a text, up to its end or its first NUL. It takes no memory.
     pub fn new_from_str(alloc: Global, value: &'a str) -> Self
         ensures given { (parsed result).given ≡ [] }
         ensures ahead { (parsed result).ahead ≡ None }
@@ -91,7 +93,9 @@ impl<'a> Parser<Chars<'a>> {
 impl<T: Iterator<Item = char>> Parser<T> {
     ghost use Rattle.yaml_parser.specs.contracts.parser.Parser.{the_row};
 
-    /// A parser of the characters of an iterator, up to its end or to a NUL. It takes no memory.
+    /// A parser of the characters that an iterator gives, up to its first `None` or NUL. It takes no memory.
+    ///
+    /// A caller that proves something shows that the iterator may be asked, ends, and gives fewer than 2^63 characters.
     pub fn new(alloc: Global, src: T) -> Parser<T>
         requires can { T.can_next src }
         requires finite { IsFinite (T.remaining src) }
@@ -115,8 +119,8 @@ impl<T: Iterator<Item = char>> Parser<T> {
         }
     }
 
-    /// Whether a declared tag handle counts in later documents too. Where this changes on a parser that was asked for
-    /// something, what handles mean is not promised any more.
+    /// Sets whether a declared tag handle counts in later documents too. A new parser forgets it at its document's end
+    /// (YAML 1.2, section 6.8.2). Set it before the first event: of a change behind it, what handles mean is not promised.
     pub fn keep_tags(mut self, value: bool) -> Self
         ensures { result ≡ record self { so_far = record (parsed self) { keep_tags = value; steady = stays_steady (parsed self) value } } }
     {
@@ -146,8 +150,11 @@ impl<T: Iterator<Item = char>> Parser<T> {
             && self.pull.kept.is_none()
     }
 
-    /// The next event and its place, which stays: the next call of `next_token` gives it. This is a
-    /// `look` and what is then `waiting`.
+    /// Shows the next event and its place, which stays: the next call of `next_token` gives it.
+    ///
+    /// # Errors
+    ///
+    /// As [`next_token`](Parser::next_token)'s.
     pub fn peek(&mut self) -> Result<&(Event, Marker), ScanError>
         ensures* after { sem 𝓛 (Rests (the_row T.row T.Iterator) self.entry (λ after. PeekLeaves self.old result after)) }
         ensures event { IfOk result (λ e. ShowsNext (parsed self.old) (placed e.now)) }
@@ -169,7 +176,8 @@ impl<T: Iterator<Item = char>> Parser<T> {
         }
     }
 
-    /// Looks at the next event: it waits, `waiting` shows it, and the next call of `next_token` gives it.
+    /// Looks at the next event: `waiting` shows it from then on, and the next call of `next_token` gives it. The two are
+    /// `peek` in two calls, for a caller that proves something.
     pub fn look(&mut self) -> Result<(), ScanError>
         ensures looks { Looks (parsed self.old) result (parsed self.new) }
         ensures start { self.new.start ≡ self.old.start }
@@ -185,14 +193,19 @@ impl<T: Iterator<Item = char>> Parser<T> {
         Ok(())
     }
 
-    /// The event that waits, and its place.
+    /// The event that was looked at, and its place, or `None`.
     pub fn waiting(&self) -> Option<&(Event, Marker)>
         ensures { option_map (λ e. placed e.now) result ≡ (parsed self.now).ahead }
     {
         self.current.as_ref()
     }
 
-    /// The next event and its place. Behind the stream's end comes that end again.
+    /// Gives the next event and its place. Behind the stream's end comes that end again, always.
+    ///
+    /// # Errors
+    ///
+    /// The first fault of the text, at its place: it is kept, and every later call answers it again. The events before it
+    /// were given. Or memory was refused ([`ScanError::is_out_of_memory`]), which is kept too.
     #[inline(always)]
     pub fn next_token(&mut self) -> ParseResult
         ensures pulls { Pulls (parsed self.old) (answer_of result) (parsed self.new) }
@@ -246,7 +259,7 @@ impl<T: Iterator<Item = char>> Parser<T> {
         next
     }
 
-    /// What was read is what the iterator gave, and the scanner's promises hold of it. It does nothing else.
+    /// Does nothing. A proof learns from it that what was read is what the iterator gave.
     pub fn note(&self)
         ensures came { CameFrom T.next_gives self.now.start (parsed self.now).scanner.taken (parsed self.now).scanner.done }
         ensures no_nul { HasNoNul (parsed self.now).scanner.taken }

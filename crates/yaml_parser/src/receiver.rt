@@ -7,7 +7,7 @@ use crate::event::Event;
 use yaml_chars::Marker;
 use yaml_tokens::ScanError;
 
-/// What takes the events that a parser pushes.
+/// Takes the events that a parser pushes by [`load`](crate::Parser::load). An impl writes `on_event` alone.
 pub trait EventReceiver {
     // What one call does: the receiver before it, the event, the answer, and the receiver behind it.
     ghost takes: { Self → Ev → Result (Unit {0}) Fault → Self → Type 0 } = { λ _ _ _ _. Unit {0} };
@@ -17,7 +17,7 @@ pub trait EventReceiver {
         ensures { takes self.old (ev_of ev) result self.new };
 }
 
-/// What takes the events that a parser pushes, with their places.
+/// Takes the events that a parser pushes by [`load`](crate::Parser::load), with their places. Each [`EventReceiver`] is one.
 pub trait MarkedEventReceiver {
     ghost use Rattle.yaml_chars.specs.Place.{Place};
 

@@ -37,7 +37,7 @@ pub fails_then : {T : Type 0} {f k h : State → Result State Fault} (x0 x1 y1 x
     → ((a b : List ℕ) → f (state a x1) ≡ Ok (state b y1) → k (state b x2) ≡ Err x → h (state a x0) ≡ Err x) → Fails h x0 y0 x
 fails_then x0 x1 y1 x2 y2 y0 x e f i d1 d2 both = record { runs = Reads-along _ _ _ _ (sym e) i (Reads-then _ _ _ d1.runs (Reads-along _ _ _ _ (sym f) refl d2.runs) (λ a b d p q n. both a b p (q n))) }
 
--- want of memory is no refusal of the model
+-- out of memory is no refusal of the model
 pub no_memory : {T : Type 0} {P : List ℕ → List ℕ → Type 0} {h : State → Result State Fault} (x0 y0 : Fetcher T) (x : Fault) → x ≡ OutOfMemory → Reads x0.window y0.window P → Fails h x0 y0 x
 no_memory x0 y0 x e run = record { runs = Reads-map _ _ run (λ a b p n. absurd (n e)) }
 

@@ -79,11 +79,11 @@ pub record ScansIn (a : List ℕ) (s : Scanned) : Type 0 where
   pub begins : (ts : List Token) → HasTokens a ts → Begins s.given ts
   -- once the stream's end was handed out, they are all tokens of the text
   pub whole : s.ended ≡ true → HasTokens a s.given
-  -- a text with tokens has no fault but want of memory
+  -- a text with tokens has no fault but out of memory
   pub sound : (ts : List Token) → HasTokens a ts → IfSome s.fault (λ f. f.memory ≡ true)
-  -- want of memory has its text
+  -- out of memory has its text
   pub wants : IfSome s.fault (λ f. f.memory ≡ true → f.text ≡ codes "out of memory")
-  -- a fault that is no want of memory is the text's refusal, of which there is one
+  -- a fault other than out of memory is the text's refusal, of which there is one
   pub refused : IfSome s.fault (λ f. f.memory ≡ false → IsRefusal a f)
   pub same : (e : code.Fault) → IsRefused a e → IfSome s.fault (λ f. f.memory ≡ false → (p : Place) × (f ≡ fault_of e p))
 

@@ -29,6 +29,6 @@ state a s = record { rest = a; held = held s }
 pub record Does {T : Type 0} (f : State → Result State Fault) (old new : Fetcher T) : Type 0 where
   pub runs : Reads old.window new.window (λ a b. f (state a old) ≡ Ok (state b new))
 
--- Whatever the text is, the model's function refuses the old state with this fault, unless it is want of memory.
+-- Whatever the text is, the model's function refuses the old state with this fault, unless it is out of memory.
 pub record Fails {T : Type 0} (f : State → Result State Fault) (old new : Fetcher T) (e : Fault) : Type 0 where
   pub runs : Reads old.window new.window (λ a b. e ≢ OutOfMemory → f (state a old) ≡ Err e)

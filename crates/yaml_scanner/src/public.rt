@@ -14,7 +14,9 @@ use yaml_chars::Marker;
 use yaml_tokens::{ScanError, ScanResult, Token};
 
 impl<T: Iterator<Item = char>> Scanner<T> {
-    /// A scanner of the characters of an iterator, up to its end or to a NUL.
+    /// A scanner of the characters that an iterator gives, up to its first `None` or NUL. It takes no memory.
+    ///
+    /// A caller that proves something shows that the iterator may be asked, ends, and gives fewer than 2^63 characters.
     pub fn new(alloc: Global, iter: T) -> Scanner<T>
         requires can { T.can_next iter }
         requires finite { IsFinite (T.remaining iter) }
@@ -31,7 +33,7 @@ impl<T: Iterator<Item = char>> Scanner<T> {
         }
     }
 
-    /// The fault that is kept. It takes no memory.
+    /// The fault that was met, or `None`. It takes no memory.
     pub fn get_error(&self) -> Option<ScanError>
         ensures { result ≡ (scanned self.now).fault }
     {
@@ -55,7 +57,7 @@ impl<T: Iterator<Item = char>> Scanner<T> {
         self.fetcher.tokens.is_over()
     }
 
-    /// Where the scanner stands. What was taken until then is what the iterator gave, up to a NUL.
+    /// Where the scanner stands: behind the characters that it read as tokens so far.
     pub fn mark(&self) -> Marker
         ensures place { result ≡ (scanned self.now).place }
         ensures came { CameFrom T.next_gives self.now.start (scanned self.now).taken (scanned self.now).done }
@@ -66,8 +68,12 @@ impl<T: Iterator<Item = char>> Scanner<T> {
         self.fetcher.window.mark()
     }
 
-    /// Fetches the next token into the queue, or several. Once the stream's end was fetched,
-    /// nothing is done. A fault is kept.
+    /// Fetches one token or more, for [`next_token`](Scanner::next_token) to hand out. Once the stream's end was fetched,
+    /// nothing is done.
+    ///
+    /// # Errors
+    ///
+    /// The text's fault, or memory was refused. Both are kept.
     pub fn fetch_next_token(&mut self) -> ScanResult
         ensures given { (scanned self.new).given ≡ (scanned self.old).given }
         ensures ended { (scanned self.new).ended ≡ (scanned self.old).ended }
@@ -91,8 +97,12 @@ impl<T: Iterator<Item = char>> Scanner<T> {
         }
     }
 
-    /// Fetches tokens until the next one can be handed out: until no key may come before it. Once
-    /// the stream's end was fetched, nothing is done. A fault is kept.
+    /// Fetches tokens until the next one can be handed out, since no `Key` may come before it any more. Once the stream's end
+    /// was fetched, nothing is done.
+    ///
+    /// # Errors
+    ///
+    /// The text's fault, or memory was refused. Both are kept.
     pub fn fetch_more_tokens(&mut self) -> ScanResult
         ensures given { (scanned self.new).given ≡ (scanned self.old).given }
         ensures ended { (scanned self.new).ended ≡ (scanned self.old).ended }
@@ -114,9 +124,12 @@ impl<T: Iterator<Item = char>> Scanner<T> {
         }
     }
 
-    /// The next token, or `None` once the stream's end was handed out. A fault is kept and answered
-    /// again; tokens that stood ready when it was met are not handed out. Once the stream's end was fetched, no fault
-    /// comes any more, and no memory is taken.
+    /// Hands out the next token, or `None` once the stream's end was handed out.
+    ///
+    /// # Errors
+    ///
+    /// The text's fault, or memory was refused. Both are kept and answered again; tokens that stood ready are not handed
+    /// out any more. Once the stream's end was fetched no fault comes, and no memory is taken.
     pub fn next_token(&mut self) -> Result<Option<Token>, ScanError>
         ensures token { IfOk result (λ o. IfSome o (λ t. HandsOut (scanned self.old) (shown t) (scanned self.new))) }
         ensures none { IfOk result (λ o. IsNone o → HandsNothing (scanned self.old) (scanned self.new)) }

@@ -1,7 +1,8 @@
 use crate::fetcher::Fetcher;
 use std::marker::Model;
 
-/// Reads a stream of characters, and hands out its tokens (YAML 1.2, chapters 5 to 9).
+/// Reads characters as tokens (YAML 1.2, chapters 5 to 9). It is an iterator of tokens, which ends at the first fault;
+/// [`next_token`](Scanner::next_token) and [`get_error`](Scanner::get_error) tell the fault.
 ///
 /// A fault is kept: every later call that scans answers it again.
 #[derive(Drop)]

@@ -12,6 +12,6 @@ pub record Fault : Type 0 where
 abbrev pub printed : Fault → List ℕ
 printed f = f.text ++ codes " at byte " ++ decimal f.place.index ++ codes " line " ++ decimal f.place.line ++ codes " column " ++ decimal (f.place.col + 1)
 
--- a fault of this text, which is no want of memory
+-- a fault of this text, which does not say that memory was refused
 abbrev pub fault_at : Place → List ℕ → Fault
 fault_at p t = record { place = p; text = t; memory = false }

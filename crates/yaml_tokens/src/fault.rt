@@ -16,7 +16,9 @@ enum Info {
     Memory,
 }
 
-/// Why a stream could not be read, and where: a fault of scanner, parser or loader, or want of memory.
+/// Why a text could not be read, and where: a fault of scanner, parser or loader, or that memory was refused. It prints
+/// as `{info} at byte {index} line {line} column {col + 1}`, whose index counts characters. Two are equal where text,
+/// place and [`is_out_of_memory`](ScanError::is_out_of_memory) are.
 #[derive(Debug, Drop)]
 pub struct ScanError {
     mark: Marker,
@@ -37,14 +39,14 @@ impl Model for ScanError {
 }
 
 impl ScanError {
-    /// A fault with a copy of this text.
+    /// A fault with a copy of this text. An `Err` comes only where memory was refused.
     pub fn new(alloc: Global, loc: Marker, info: &str) -> Result<ScanError, AllocError>
         ensures { IfOk result (λ e. e ≡ record { place = loc; text = info.now; memory = false }) }
     {
         Ok(ScanError::new_string(loc, String::from_str(alloc, info)?))
     }
 
-    /// A fault with this text.
+    /// A fault with this text. It takes no memory.
     pub fn new_string(loc: Marker, info: String) -> ScanError
         ensures { result ≡ record { place = loc; text = string_bytes info; memory = false } }
     {
@@ -64,7 +66,7 @@ impl ScanError {
         }
     }
 
-    /// Want of memory at a place. It takes no memory.
+    /// That memory was refused, at a place. It takes no memory.
     pub fn memory(loc: Marker) -> ScanError
         ensures { result ≡ record { place = loc; text = codes "out of memory"; memory = true } }
     {
@@ -92,14 +94,14 @@ impl ScanError {
         }
     }
 
-    /// Whether memory was refused.
+    /// Whether it says that memory was refused. No other fault does, whatever its text.
     pub fn is_out_of_memory(&self) -> bool
         ensures { result ≡ self.now.memory }
     {
         matches!(self.info, Info::Memory)
     }
 
-    /// An equal fault, or want of memory, which only a fault with a text of its own can meet.
+    /// A copy, equal to the fault. An `Err` comes only where memory was refused; a fault of fixed text takes none.
     pub fn clone(&self, alloc: Global) -> Result<ScanError, AllocError>
         ensures { IfOk result (λ e. e ≡ self.now) }
     {

@@ -179,7 +179,7 @@ impl Problem {
     }
 }
 
-/// Why scanner or parser stop: want of memory, or a problem and its place.
+/// Why scanner or parser stop: out of memory, or a problem and its place.
 #[derive(Clone, Copy, Debug, PartialEq, Eq)]
 pub enum Fault {
     OutOfMemory,

@@ -27,7 +27,7 @@ impl<'a> From<ScanError> for Failure<'a> {
     }
 }
 
-/// What a failed read is: want of memory, or another failure.
+/// What a failed read is: out of memory, or another failure.
 pub fn read_failure(error: io::Error, path: &str) -> Failure<'_> {
     match error.kind() {
         io::ErrorKind::OutOfMemory => Failure::OutOfMemory,
@@ -35,7 +35,7 @@ pub fn read_failure(error: io::Error, path: &str) -> Failure<'_> {
     }
 }
 
-/// What arguments that could not be had are: want of memory, or no such arguments as the program takes.
+/// What arguments that could not be had are: out of memory, or no such arguments as the program takes.
 pub fn arguments_failure<'a>(error: io::Error) -> Failure<'a> {
     match error.kind() {
         io::ErrorKind::InvalidData => Failure::Usage,
