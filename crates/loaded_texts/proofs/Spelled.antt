@@ -1,5 +1,4 @@
 -- Texts as their iterators give them, and as they are read.
-use Rattle.std.proofs.Common.{subst}
 use Rattle.yaml_chars.proofs.SpelledLemmas.{Begins-spelled, Chars-spelled}
 use Rattle.std.specs.Prelude.{ℕ, Option}
 use Rattle.std.specs.Str.{chars}
@@ -32,6 +31,5 @@ pub layout_texts_are_read : LayoutTextsAreReadAsTheirTree
 layout_texts_are_read keep_tags w is = record { tokens = layout_tokens w; has = layout_text_has_its_tokens w is; read = tokens_read_as_their_tree keep_tags w is }
 
 pub strings_are_the_text : StringsAreTheText
-strings_are_the_text start bytes s utf8 rest came no_nul free scans =
-    let may : MayBe s (chars bytes) = subst (λ a. MayBe s a) free (characters_are_the_text chars_steps start (chars bytes) s (Chars-spelled start bytes utf8 rest) came no_nul) in
-    scans.scans (chars bytes) may
+strings_are_the_text start bytes s utf8 rest came no_nul scans =
+    scans.scans _ (characters_are_the_text chars_steps start (chars bytes) s (Chars-spelled start bytes utf8 rest) came no_nul)

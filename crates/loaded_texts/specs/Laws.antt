@@ -113,5 +113,5 @@ CharactersAreTheText {S} steps =
 -- `strings_are_the_text`; `bytes` are the string's
 abbrev pub StringsAreTheText : Type 0
 StringsAreTheText =
-    (start : Chars) (bytes : List ℕ) (s : Scanned) → IsUtf8 bytes → chars_rest start ≡ bytes → CameFrom chars_steps start s.taken s.done → HasNoNul s.taken
-    → IsWithoutNul (chars bytes) → Scans s → ScansIn (chars bytes) s
+    (start : Chars) (bytes : List ℕ) (s : Scanned) → IsUtf8 bytes → chars_rest start ≡ bytes → CameFrom chars_steps start s.taken s.done → HasNoNul s.taken → Scans s
+    → ScansIn (up_to_nul (chars bytes)) s

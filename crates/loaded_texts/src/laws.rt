@@ -86,7 +86,7 @@ pub fn characters_are_the_text<T: Iterator<Item = char>>()
     ensures { CharactersAreTheText T.next_gives }
 {}
 
-/// So of a `&str` without NUL all that a scanner tells of a text holds.
+/// So of a `&str`, up to its first NUL, all that a scanner tells of a text holds.
 pub fn strings_are_the_text()
     ensures { StringsAreTheText }
 {}

@@ -49,15 +49,23 @@ impl From<io::Error> for LoadError {
     }
 }
 
-/// Loads what a reader gives.
+/// Loads what a reader gives: its bytes, in UTF-8 or UTF-16, as text, and the text as trees.
+///
+/// # Example
+///
+/// ```
+/// let mut decoder = YamlDecoder::read(alloc, bytes);
+/// decoder.encoding_trap(YAMLDecodingTrap::Replace);
+/// let documents = decoder.decode()?;
+/// ```
 #[derive(Drop)]
 pub struct YamlDecoder<T: Read> {
-    /// Where bytes, text and trees are kept.
-    pub alloc: Global,
-    /// What is read, from where it stands.
-    pub source: T,
-    /// What becomes of a malformation.
-    pub trap: YAMLDecodingTrap,
+    // Where bytes, text and trees are kept.
+    alloc: Global,
+    // What is read, from where it stands.
+    source: T,
+    // What becomes of a malformation.
+    trap: YAMLDecodingTrap,
 }
 
 /// The documents of a text.

@@ -16,8 +16,8 @@ use std::ops::ControlFlow;
 /// [`Strict`](YAMLDecodingTrap::Strict).
 #[derive(Clone, Copy)]
 pub struct YAMLDecodingTrapFn {
-    /// The function; its own contract says what a call may answer.
-    pub function: fn(u8, u8, &[u8], &mut String) -> ControlFlow<String>,
+    // Its own contract says what a call may answer.
+    pub(crate) function: fn(u8, u8, &[u8], &mut String) -> ControlFlow<String>,
     ghost callable: { IsAlwaysCallable function },
 }
 

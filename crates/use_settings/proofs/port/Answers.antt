@@ -2,7 +2,7 @@ use Rattle.std.proofs.Common.{◌≡◌, refl, ap, ◌∙◌}
 use Rattle.std.specs.Prelude.{codes}
 use Rattle.std.specs.Str.{chars}
 use Rattle.yaml_rust2.specs.View.{view}
-use Rattle.use_settings.proofs.First.{first_is, one_is_there}
+use Rattle.use_round_trip.proofs.First.{first_is, one_is_there}
 use Rattle.use_settings.specs.Settings.{number_of}
 use Rattle.use_settings.proofs.port.Goals as goal
 

@@ -1,0 +1,21 @@
+-- How many aliases the receiver still takes behind the events that it took.
+use Rattle.std.proofs.Common.{◌≡◌, ◌≤◌, ◌+◌, ℕ, List, [], ◌∷◌, ◌++◌, refl, arith}
+use Rattle.std.specs.Prelude.{Result, OnOk}
+use Rattle.yaml_rust2.specs.Event.{Ev}
+use Rattle.yaml_rust2.specs.Fault.{Fault}
+use Rattle.yaml_rust2.specs.Loads.{Receives, no_event, one_event}
+use Rattle.yaml_rust2.specs.Place.{Place}
+use Rattle.use_receivers.specs.Aliases.{counted, aliases_in}
+use Rattle.use_receivers.specs.declared.aliases.Aliases.{Aliases}
+
+-- what a call of the receiver does
+abbrev pub counts : Aliases → Ev → Place → Result (Unit {0}) Fault → Aliases → Type 0
+counts before e p result after = OnOk result (after.left + counted e ≡ before.left)
+
+one_more : (es : List (Ev × Place)) (e : Ev) (p : Place) → aliases_in (es ++ (e, p) ∷ []) ≡ aliases_in es + counted e
+one_more [] e p = omega arith
+one_more (f ∷ es) e p = omega (arith, one_more es e p)
+
+pub all_counted : {r s : Aliases} {es : List (Ev × Place)} → Receives counts r es s → s.left + aliases_in es ≡ r.left
+all_counted no_event = omega arith
+all_counted (one_event {es = es} e p before last) = omega (arith, last, all_counted before, one_more es e p)

@@ -1,0 +1,17 @@
+-- A load that ended well pushed all events of its text.
+use Rattle.std.proofs.Common.{◌≡◌, ℕ, List, Ok, Err, false, refl, subst}
+use Rattle.std.specs.Prelude.{Bool, Result}
+use Rattle.yaml_rust2.specs.Event.{Ev}
+use Rattle.yaml_rust2.specs.Fault.{Fault}
+use Rattle.yaml_rust2.specs.Loads.{Receives}
+use Rattle.yaml_rust2.specs.Place.{Place}
+use Rattle.yaml_rust2.specs.TextEvents.{HasEvents, AnswersText, whole, faulted, refused}
+
+not_ok : (f : Fault) (result : Result (Unit {0}) Fault) → result ≡ Err f → result ≡ Ok tt → ⊥
+not_ok f result is ok = cc
+
+pub all_taken : {R : Type 0} {takes : R → Ev → Place → Result (Unit {0}) Fault → R → Type 0} {r s : R} {result : Result (Unit {0}) Fault} {keep_tags : Bool} {text : List ℕ}
+    → AnswersText takes keep_tags text r result s → result ≡ Ok tt → keep_tags ≡ false → (es : List (Ev × Place)) × HasEvents false text es × Receives takes r es s
+all_taken {text = text} (whole es has received) ok keep = (es, subst (λ k. HasEvents k text es) keep has, received)
+all_taken (faulted es why received) ok keep = absurd (not_ok _ _ refl ok)
+all_taken (refused es last p begins received takes) ok keep = absurd (not_ok _ _ refl ok)
