@@ -205,9 +205,10 @@ fn deep_trees_are_copied_and_compared_and_shown(rt: HostRuntime) -> Result<(), F
     for level in ["- ", "? ", ": "] {
         let deep = nested(alloc, 60000, level, "x\n", "")?;
         let copied = format!(in alloc; "- &a\n  {deep}- *a\n")?;
-        assert!(rt; is_loaded(alloc, copied.as_str()), "{level}");
-        let key = nested(alloc, 5000, level, "x\n", "")?;
-        let repeated = format!(in alloc; "? {key}: 1\n? {key}: 2\n")?;
+        let both = tree(alloc, copied.as_str())?;
+        let first = both.get_index(0).ok_or("no item")?;
+        assert!(rt; Some(first) == both.get_index(1), "{level}");
+        let repeated = format!(in alloc; "? {deep}: 1\n? {deep}: 2\n")?;
         assert!(rt; !is_loaded(alloc, repeated.as_str()), "{level}");
     }
     Ok(())
