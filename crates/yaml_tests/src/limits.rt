@@ -200,21 +200,6 @@ fn aliases_are_copies(rt: HostRuntime) -> Result<(), Fail> {
 }
 
 #[test]
-fn deep_trees_are_copied_and_compared_and_shown(rt: HostRuntime) -> Result<(), Fail> {
-    let alloc = rt.alloc();
-    for level in ["- ", "? ", ": "] {
-        let deep = nested(alloc, 60000, level, "x\n", "")?;
-        let copied = format!(in alloc; "- &a\n  {deep}- *a\n")?;
-        let both = tree(alloc, copied.as_str())?;
-        let first = both.get_index(0).ok_or("no item")?;
-        assert!(rt; Some(first) == both.get_index(1), "{level}");
-        let repeated = format!(in alloc; "? {deep}: 1\n? {deep}: 2\n")?;
-        assert!(rt; !is_loaded(alloc, repeated.as_str()), "{level}");
-    }
-    Ok(())
-}
-
-#[test]
 fn an_iterator_is_left_alone_behind_its_end(rt: HostRuntime) -> Result<(), Fail> {
     let letters = "a-b"
         .chars()
