@@ -1,13 +1,9 @@
-//! Calls, step by step: tokens, events and receivers, unfinished readings, and what a tree answers.
+//! Calls of a loader and a decoder: events out of nesting, faults that are no want of memory, and deep trees.
 #![tactic(auto)]
 
 #[cfg(test)]
 mod copies;
 #[cfg(test)]
 mod misuse;
-#[cfg(test)]
-mod pushes;
-#[cfg(test)]
-mod tokens;
 #[cfg(test)]
 mod trees;

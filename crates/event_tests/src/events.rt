@@ -2,11 +2,11 @@
 use std::alloc::Global;
 use std::str::Chars;
 use std::test::Fail;
-use yaml_rust2::parser::{Event, Parser};
+use yaml_parser::{Event, Parser, Tag};
 
 // The next event: whether it is the stream's end, and its words with its place if it is a scalar or an alias.
 fn scalar_words(alloc: Global, parser: &mut Parser<Chars<'_>>) -> Result<(bool, String), Fail> {
-    let (event, mark) = parser.next_token().map_err(|_| "a fault")?;
+    let (event, mark) = parser.next_token()?;
     let words = match event {
         Event::Scalar(_, _, _, _) | Event::Alias(_) => format!(in alloc;
             "{event:?} {} {} {}\n",
@@ -69,4 +69,41 @@ fn places_count_characters(rt: HostRuntime) -> Result<(), Fail> {
         assert_eq!(rt; scalars(rt.alloc(), text)?.as_str(), want, "row {text:?}");
     }
     Ok(())
+}
+
+// Every kind of event.
+const ALL_EVENTS: &str =
+    "%YAML 1.2\n%TAG !t! x:\n--- &a !t!b [*a, {? c : 'd'}, e: f]\n...\n---\n- |\n g\n- h: !<i> j\n";
+
+fn is_tag_copied(alloc: Global, tag: &Tag) -> Result<bool, Fail> {
+    Ok(tag.clone(alloc)? == *tag)
+}
+
+// Whether an event and its tag are equal to their copies.
+fn is_copied(alloc: Global, event: &Event) -> Result<bool, Fail> {
+    if let Event::Scalar(_, _, _, Some(tag)) | Event::SequenceStart(_, Some(tag)) = event {
+        if !is_tag_copied(alloc, tag)? {
+            return Ok(false);
+        }
+    }
+    Ok(event.clone(alloc)? == *event)
+}
+
+// Whether the next event is equal to its copy, and whether it is the last.
+fn next_is_copied(alloc: Global, parser: &mut Parser<Chars<'_>>) -> Result<(bool, bool), Fail> {
+    let (event, _) = parser.next_token()?;
+    Ok((is_copied(alloc, &event)?, event == Event::StreamEnd))
+}
+
+#[test]
+fn events_are_copied(rt: HostRuntime) -> Result<(), Fail> {
+    let mut parser = Parser::new_from_str(rt.alloc(), ALL_EVENTS);
+    for _ in 0..100 {
+        let (is_equal, is_last) = next_is_copied(rt.alloc(), &mut parser)?;
+        assert!(rt; is_equal);
+        if is_last {
+            return Ok(());
+        }
+    }
+    Err(Fail::from("no end"))
 }

@@ -1,9 +1,10 @@
+//! Calls of a parser, one behind the other, and what receivers are pushed.
 use std::alloc::{AllocError, Global};
 use std::str::Chars;
 use std::test::Fail;
-use yaml_rust2::ScanError;
-use yaml_rust2::parser::{Event, EventReceiver, MarkedEventReceiver, Parser};
-use yaml_rust2::scanner::Marker;
+use yaml_chars::Marker;
+use yaml_parser::{Event, EventReceiver, MarkedEventReceiver, Parser};
+use yaml_tokens::ScanError;
 
 // Keeps what is pushed as words, and may refuse one event.
 #[derive(Drop)]
@@ -42,7 +43,10 @@ impl MarkedEventReceiver for Pushed {
             let stop = ScanError::new(self.alloc, mark, "stop");
             return Err(stop.unwrap_or(ScanError::memory(mark)));
         }
-        self.keep(&ev).map_err(|_| ScanError::memory(mark))
+        match self.keep(&ev) {
+            Ok(()) => Ok(()),
+            Err(_) => Err(ScanError::memory(mark)),
+        }
     }
 }
 
@@ -94,23 +98,22 @@ fn fault_words(alloc: Global, fault: &ScanError) -> Result<String, Fail> {
     Ok(format!(in alloc; "{} {} ", fault.info(), fault.marker().index())?)
 }
 
-// An event, or the fault.
-fn event_words(alloc: Global, event: Result<&Event, ScanError>) -> Result<String, Fail> {
-    match event {
-        Ok(event) => Ok(format!(in alloc; "{event:?} ")?),
-        Err(fault) => fault_words(alloc, &fault),
-    }
+fn event_words(alloc: Global, event: &Event) -> Result<String, Fail> {
+    Ok(format!(in alloc; "{event:?} ")?)
 }
 
 // The event that a look shows.
 fn peek_words(alloc: Global, parser: &mut Parser<Chars<'_>>) -> Result<String, Fail> {
-    event_words(alloc, parser.peek().map(|shown| &shown.0))
+    match parser.peek() {
+        Ok(shown) => event_words(alloc, &shown.0),
+        Err(fault) => fault_words(alloc, &fault),
+    }
 }
 
 // The next event.
 fn pull_words(alloc: Global, parser: &mut Parser<Chars<'_>>) -> Result<String, Fail> {
     match parser.next_token() {
-        Ok((event, _)) => event_words(alloc, Ok(&event)),
+        Ok((event, _)) => event_words(alloc, &event),
         Err(fault) => fault_words(alloc, &fault),
     }
 }
@@ -196,7 +199,7 @@ fn events_are_pushed_and_pulled(rt: HostRuntime) -> Result<(), Fail> {
 fn a_receiver_may_look_at_events_alone(rt: HostRuntime) -> Result<(), Fail> {
     let mut parser = Parser::new_from_str(rt.alloc(), "--- 1\n--- [a]");
     let mut counted = Counted { count: 0 };
-    parser.load(&mut counted, true).map_err(|_| "a fault")?;
+    parser.load(&mut counted, true)?;
     assert_eq!(rt; counted.count, 10);
     Ok(())
 }
