@@ -51,7 +51,7 @@ fn number_of(event: &Event) -> usize
 
 /// The numbers of all anchors of a text, in the order in which their nodes begin. An `Err` is the text's fault, or memory
 /// was refused.
-pub fn anchors(alloc: Global, text: &str) -> Result<Vec<usize>, ScanError>
+pub fn anchor_numbers(alloc: Global, text: &str) -> Result<Vec<usize>, ScanError>
     ensures { IfOk result (λ numbers. (es : List (Ev × Place)) × HasEvents false (up_to_nul (chars text.now)) es × (numbers.items ≡ anchors_in es)) }
 {
     let mut anchors = Anchors {

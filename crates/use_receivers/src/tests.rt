@@ -1,12 +1,12 @@
 use super::aliases::load_with_few_aliases;
-use super::anchors::anchors;
+use super::anchors::anchor_numbers;
 use std::test::Fail;
 
 const TEXT: &str = "- &a [x, &b y]\n- *a\n- &a z\n- *a\n";
 
 #[test]
 fn anchors_are_numbered_as_they_come(rt: HostRuntime) -> Result<(), Fail> {
-    let numbers = anchors(rt.alloc(), TEXT)?;
+    let numbers = anchor_numbers(rt.alloc(), TEXT)?;
     assert!(rt; numbers.as_slice() == [1, 2, 3].as_slice());
     Ok(())
 }
