@@ -3,6 +3,5 @@
 
 pub mod aliases;
 pub mod anchors;
-
 #[cfg(test)]
 mod tests;

@@ -16,7 +16,9 @@ fn an_alias_too_many_is_refused(rt: HostRuntime) -> Result<(), Fail> {
     let alloc = rt.alloc();
     let documents = load_with_few_aliases(alloc, TEXT, 2)?;
     assert_eq!(rt; documents.len(), 1);
-    let fault = load_with_few_aliases(alloc, TEXT, 1).err().ok_or("an alias too many")?;
+    let fault = load_with_few_aliases(alloc, TEXT, 1)
+        .err()
+        .ok_or("an alias too many")?;
     assert_eq!(rt; fault.info(), "too many aliases");
     assert_eq!(rt; fault.marker().line(), 4);
     Ok(())
