@@ -59,7 +59,7 @@ pub none_before : (text front rest before behind mark : List ℕ) (i : ℕ) → 
     → chars text ≡ before ++ (mark ++ behind) → length (chars front) ≤ length before
 none_before text front rest before behind mark i u same uf cut at none e =
     let there : drop (length (encode_utf8_all before)) text ≡ mark ++ encode_utf8_all behind =
-            ap (drop (length (encode_utf8_all before))) (in_bytes text before behind mark u same e) ∙ drop_at (encode_utf8_all before) (mark ++ encode_utf8_all behind) _ refl in
+    ap (drop (length (encode_utf8_all before))) (in_bytes text before behind mark u same e) ∙ drop_at (encode_utf8_all before) (mark ++ encode_utf8_all behind) _ refl in
     let far : length (encode_utf8_all before) < i → ⊥ = λ lt. none (length (encode_utf8_all before)) lt (encode_utf8_all behind) there in
     let le : length (encode_utf8_all (chars front)) ≤ length (encode_utf8_all before) = omega (arith, ap length (encodes-chars front uf), at, far) in
     no_longer (chars front) before rest (mark ++ behind) (sym cut ∙ e) le
