@@ -32,7 +32,7 @@ pub fn services(alloc: Global, document: &Yaml) -> Result<Vec<String>, Failure> 
     let Some(services) = document.as_hash() else {
         return Err(Failure::NoServices);
     };
-    for (name, _) in services {
+    for (name, _) in services.iter() {
         if let Some(name) = name.as_str() {
             names
                 .push(String::from_str(alloc, name)?)
