@@ -8,3 +8,4 @@ mod MoreRows
 mod Rows
 pub mod Shown
 mod WrongPair
+mod WrongStart

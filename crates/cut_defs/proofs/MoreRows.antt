@@ -301,7 +301,7 @@ nested_pair = record {
   is_row = (
     (refl, ((refl, refl), refl)),
     (
-      (refl, inr (refl, refl)),
+      (refl, inr (refl, refl, refl, refl)),
       (
         (refl, inr (refl, refl)),
         (

@@ -37,34 +37,34 @@ wrong end =
 
 -- ---- rows of given tokens
 
-abbrev piece_of : List Written → List ℕ
+abbrev pub piece_of : List Written → List ℕ
 piece_of [] = []
 piece_of (w ∷ ws) = w.piece
 
-abbrev filler_of : List Written → List ℕ
+abbrev pub filler_of : List Written → List ℕ
 filler_of [] = []
 filler_of (w ∷ ws) = w.filler
 
-abbrev rest_of : {A : Type 0} → List A → List A
+abbrev pub rest_of : {A : Type 0} → List A → List A
 rest_of [] = []
 rest_of (x ∷ xs) = xs
 
 -- a row's fillers and pieces beside other tokens
-abbrev with_tokens : List Written → List Token → List Written
+abbrev pub with_tokens : List Written → List Token → List Written
 with_tokens ws [] = []
 with_tokens ws (t ∷ ts) = record { filler = filler_of ws; piece = piece_of ws; token = t } ∷ with_tokens (rest_of ws) ts
 
-own_tokens : (ws : List Written) → with_tokens ws (tokens_of ws) ≡ ws
+pub own_tokens : (ws : List Written) → with_tokens ws (tokens_of ws) ≡ ws
 own_tokens [] = refl
 own_tokens (w ∷ ws) = ap (λ vs. w ∷ vs) (own_tokens ws)
 
 -- all but the last of a list
-abbrev but_last : List Token → List Token
+abbrev pub but_last : List Token → List Token
 but_last [] = []
 but_last (t ∷ []) = []
 but_last (t ∷ (u ∷ us)) = t ∷ but_last (u ∷ us)
 
-but_last_append : (ts : List Token) (t : Token) → but_last (ts ++ (t ∷ [])) ≡ ts
+pub but_last_append : (ts : List Token) (t : Token) → but_last (ts ++ (t ∷ [])) ≡ ts
 but_last_append [] t = refl
 but_last_append (u ∷ []) t = refl
 but_last_append (u ∷ (v ∷ vs)) t = ap (λ l. u ∷ l) (but_last_append (v ∷ vs) t)

@@ -1,5 +1,5 @@
 -- What stands between the pieces of tokens: blanks, breaks and comments. YAML 1.2, sections 6.1 to 6.7.
-use Rattle.std.specs.Prelude.{ℕ, List, [], ◌∷◌, Bool, true, false, ◌&&◌, ◌||◌, ◌==◌, not}
+use Rattle.std.specs.Prelude.{ℕ, List, [], ◌∷◌, Bool, true, false, ◌&&◌, ◌||◌, ◌==◌, not, if◌then◌else◌}
 use Rattle.scalar_defs.specs.Classes.{is_blank, is_break}
 use Rattle.cut_defs.specs.Text.{is_at_line_end}
 
@@ -13,3 +13,9 @@ is_filler false (c ∷ r) next = (is_blank c || is_break c || (c == 35)) && is_f
 abbrev pub is_blanks : List ℕ → Bool
 is_blanks [] = true
 is_blanks (c ∷ r) = is_blank c && is_blanks r
+
+-- the text behind the blanks, breaks and comments that it begins with
+abbrev pub past_filler : (in_comment : Bool) → List ℕ → List ℕ
+past_filler in_comment [] = []
+past_filler true (c ∷ r) = past_filler (not (is_break c)) r
+past_filler false (c ∷ r) = (if is_blank c || is_break c || (c == 35) then past_filler (c == 35) r else c ∷ r)

@@ -9,6 +9,7 @@ use Rattle.scalar_defs.specs.Directives.{Directive, version, tag_declaration, re
 use Rattle.yaml_chars.specs.Place.{Place}
 use Rattle.token_defs.specs.Token.{Tok, stream_start, stream_end, version_directive, tag_directive, document_start, document_end, block_sequence_start, block_mapping_start, block_end, flow_sequence_start, flow_sequence_end, flow_mapping_start, flow_mapping_end, block_entry, flow_entry, key, value, alias, anchor, tag, scalar, plain, single_quoted, double_quoted, literal, folded}
 use Rattle.cut_defs.specs.Text.{is_at_line_end, has_no_break}
+use Rattle.cut_defs.specs.Filler.{past_filler}
 use Rattle.cut_defs.specs.Plain.{begins_flow, is_value_indicator, begins_plain, is_whole_plain}
 use Rattle.cut_defs.specs.BlockPiece.{block_read, block_place}
 use Rattle.cut_defs.specs.Account.{Account, is_in_flow, has_open_block, is_closed, collection_column, has_room, has_open_pair, takes_pair, is_adjacent}
@@ -44,6 +45,13 @@ begins_node (Some flow_sequence_start) = true
 begins_node (Some flow_mapping_start) = true
 begins_node _ = false
 
+-- whether a token begins a pair, as far as one is known: a key, or a value whose key is empty
+abbrev pub begins_pair : Option Tok → Bool
+begins_pair None = true
+begins_pair (Some key) = true
+begins_pair (Some value) = true
+begins_pair _ = false
+
 -- whether a token ends an entry of a flow collection, as far as one is known: a comma or a closing bracket
 abbrev pub ends_entry : Option Tok → Bool
 ends_entry None = true
@@ -60,24 +68,29 @@ IsBlockStart a piece = (piece ≡ []) × IsOutsideFlow a
 abbrev pub IsBlockEnd : Account → (piece : List ℕ) → Type 0
 IsBlockEnd a piece = (piece ≡ []) × IsOutsideFlow a × Holds (has_open_block a)
 
+-- whether a text begins with a space or a break
+abbrev pub begins_with_space_or_break : List ℕ → Bool
+begins_with_space_or_break [] = false
+begins_with_space_or_break (c ∷ r) = (c == space) || is_break c
+
+-- whether a text begins with the indicator of a key: `?` before a space or a break
+abbrev pub begins_with_key_indicator : List ℕ → Bool
+begins_with_key_indicator [] = false
+begins_with_key_indicator (c ∷ r) = (c == 63) && begins_with_space_or_break r
+
 -- The key before a simple key has no piece; a node follows it.
 abbrev pub IsSimpleKey : (piece : List ℕ) → (following : Option Tok) → Type 0
 IsSimpleKey piece following = (piece ≡ []) × Holds (begins_node following)
 
--- The start of a pair without braces has no piece; it stands directly in a flow sequence in which no such pair is open.
-abbrev pub IsPairStart : Account → (piece : List ℕ) → Type 0
-IsPairStart a piece = (piece ≡ []) × Holds (takes_pair a)
+-- The start of a pair without braces has no piece; it stands directly in a flow sequence in which no such pair is open, before the key or the value that begins the pair. A pair that begins with `?` has no start.
+abbrev pub IsPairStart : Account → (piece next : List ℕ) → (following : Option Tok) → Type 0
+IsPairStart a piece next following = (piece ≡ []) × Holds (takes_pair a) × Holds (begins_pair following) × (begins_with_key_indicator (past_filler false next) ≡ false)
 
 -- The end of such a pair has no piece; it stands directly before the comma or closing bracket of its own level.
 abbrev pub IsPairEnd : Account → (piece : List ℕ) → (following : Option Tok) → Type 0
 IsPairEnd a piece following = (piece ≡ []) × Holds (has_open_pair a) × Holds (ends_entry following)
 
 -- ---- indicators
-
--- whether a text begins with a space or a break
-abbrev pub begins_with_space_or_break : List ℕ → Bool
-begins_with_space_or_break [] = false
-begins_with_space_or_break (c ∷ r) = (c == space) || is_break c
 
 -- `?` before a space or a break
 abbrev pub IsKeyIndicator : (piece next : List ℕ) → Type 0
@@ -171,7 +184,7 @@ IsPiece a piece next following place block_mapping_start = IsBlockStart a piece
 IsPiece a piece next following place block_end = IsBlockEnd a piece
 IsPiece a piece next following place flow_sequence_start = IsOpening a piece (codes "[") × (place ≡ a.place)
 IsPiece a piece next following place flow_sequence_end = IsEntryEnd a piece (codes "]") × (place ≡ a.place)
-IsPiece a piece next following place flow_mapping_start = (IsOpening a piece (codes "{") × (place ≡ a.place)) ⊎ IsPairStart a piece
+IsPiece a piece next following place flow_mapping_start = (IsOpening a piece (codes "{") × (place ≡ a.place)) ⊎ IsPairStart a piece next following
 IsPiece a piece next following place flow_mapping_end = (IsEntryEnd a piece (codes "}") × (place ≡ a.place)) ⊎ IsPairEnd a piece following
 IsPiece a piece next following place block_entry = IsBlockEntry a piece next
 IsPiece a piece next following place flow_entry = IsEntryEnd a piece (codes ",") × (place ≡ a.place)

@@ -179,6 +179,18 @@ blocks_as_items = (
   refl,
 )
 
+-- a folded block, a gap behind it, and further text
+folded_before_gap : AreLaidOut (Tree.array (items_of (Tree.string (codes "a") ∷ Tree.string (codes "b") ∷ [])) ∷ []) (codes "---\n- >-\n a\n\n# c\n- b")
+unfolding is_literal is_literal_character is_line_character row_of is_empty_line is_content_line is_blank is_quoted is_unfit_for_plain typing is_decimal
+folded_before_gap = (
+  alone (array
+      (entry (folded 0 1 true (codes "a") (full (codes "a") ∷ [])) (empty_line ∷ comment_line (codes " c") ∷ [])
+      (last_entry (one (word (codes "b")))))),
+  search (arith, true≢false),
+  refl,
+  refl,
+)
+
 -- an anchor inside the node of the same anchor: behind that node the alias means the inner one, which stands later
 inner_anchor : last_tree (codes "a")
     (anchors_behind (anchored 0 (codes "a") (below no_comment [] 2 (array (last_entry (anchored 0 (codes "a") (one (integer 1))))))) [])
@@ -196,10 +208,14 @@ key_1025 h = let too_long : 1025 ≤ 1024 = h.1 in omega arith
 
 -- ---- written things that are no layout
 
--- a line feed and a CR in single quotes
+-- an LF and a NUL in single quotes
 break_in_quotes : ¬ IsValue 0 [] (one (single_quoted (codes "a\nb")))
 unfolding is_line_character
 break_in_quotes h = true≢false (sym h.0)
+
+nul_in_quotes : ¬ IsValue 0 [] (one (single_quoted (97 ∷ 0 ∷ [])))
+unfolding is_line_character
+nul_in_quotes h = true≢false (sym h.0)
 
 -- an alias inside the node that has its anchor
 alias_inside : (t : Tree) → ¬ IsValue 0 [] (anchored 0 (codes "a") (below no_comment [] 2 (array (last_entry (Value.alias 0 (codes "a") t)))))
@@ -258,10 +274,18 @@ at_dash h = h.0
 at_complex_key : ¬ IsField 0 [] (explicit (beside 0 empty_array no_comment) [] (at_key no_comment [] (last_entry (beside 0 empty_array no_comment))))
 at_complex_key h = h.3
 
--- a comment that holds a CR
+-- a comment that holds a CR, an LF, a NUL
 comment_with_return : ¬ IsValue 0 [] (beside 0 empty_array (comment 0 (codes "a\r")))
 unfolding is_line_character
 comment_with_return h = true≢false (sym h.1)
+
+comment_with_line_feed : ¬ IsValue 0 [] (beside 0 empty_array (comment 0 (codes "a\nb")))
+unfolding is_line_character
+comment_with_line_feed h = true≢false (sym h.1)
+
+comment_with_nul : ¬ IsValue 0 [] (beside 0 empty_array (comment 0 (97 ∷ 0 ∷ [])))
+unfolding is_line_character
+comment_with_nul h = true≢false (sym h.1)
 
 -- a comment behind a literal block at column 0, where the next document begins
 comment_behind_literal_root : ¬ AreDocuments
