@@ -1,5 +1,6 @@
 pub mod Ends
 pub mod Given
+pub mod OnLiterals
 mod RowsBlock
 mod RowsFlow
 mod RowsLines

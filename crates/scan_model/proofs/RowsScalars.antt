@@ -1,25 +1,9 @@
 -- Documents, plain and quoted scalars, and their tokens.
 use Rattle.std.specs.Prelude.{ℕ, List, [], ◌∷◌, Result, Ok, Err, ◌≡◌, refl, codes}
 use Rattle.token_defs.specs.Token.{Tok, Style, Token}
-use Rattle.yaml_chars.specs.Class.{is_break, is_blank, is_flow, is_alpha, is_alphanumeric, is_anchor, is_digit, is_hex, is_uri, is_uri_mark, is_tag}
-use Rattle.scalar_model.specs.Machine.{is_marker, at_marker}
-use Rattle.scalar_model.specs.Space.{space}
-use Rattle.scalar_model.specs.Plain.{plain, can_be_plain, goes_on, is_shallow, at_dash, at_plain, starts}
-use Rattle.scalar_model.specs.Quoted.{quoted, escape_of, is_scalar, refused}
-use Rattle.scalar_model.specs.Anchor.{anchor_name}
-use Rattle.scalar_model.specs.Block.{chomping, increment, indicators, header_break, header_end, header, content, between, begins, tail, empty_text, block}
-use Rattle.scalar_model.specs.Directive.{kind, name, number, version_value, tag_value, directive_break, line_end, directive}
-use Rattle.scalar_model.specs.Tag.{verbatim, named, shorthand, ends_tag, tag, handle, prefix}
 use Rattle.scan_model.specs.State.{token}
-use Rattle.scan_model.specs.Class.{class_of}
-use Rattle.scan_model.specs.Keys.{is_far, drop_stale, stale, must_be_key, save_simple_key, remove_simple_key}
-use Rattle.scan_model.specs.Indents.{drop_open_level, deepen, roll_indent, in_block, roll_one_col_indent, unrolled, unroll_indent, without_open, unroll_non_block_indents}
-use Rattle.scan_model.specs.Space.{is_before_indent, skip, skip_to_next_token, skip_spaces, white, skip_yaml_whitespace}
-use Rattle.scan_model.specs.Flow.{increase_flow_level, begin_flow, pass_indicator, end_flow, end_entry, fetch_flow_collection_start, end_flow_pair, decrease_flow_level, adjacent_in_flow, fetch_flow_collection_end, fetch_flow_entry}
-use Rattle.scan_model.specs.Block.{check_block_entry, check_dash, roll_entry, fetch_block_entry, begin_key, check_key_space, fetch_key, check_behind_tab, check_value_space, begin_pair, insert_key, begin_keyless_mapping, begin_keyless_value, fetch_value}
-use Rattle.scan_model.specs.Document.{fetch_stream_start, fetch_stream_end, begin_line, fetch_directive, fetch_document_marker, check_document_end, fetch_document_end, fetch_anchor, fetch_tag, fetch_block_scalar, may_follow_quoted, check_behind_quoted, fetch_flow_scalar, fetch_plain_scalar}
-use Rattle.scan_model.specs.Fetch.{is_value, fetch_token, comes_marker, fetch_indented, fetch_first_column, fetch_content, fetch_here, fetch_next, fetch}
 use Rattle.scan_model.specs.Run.{scan}
+use Rattle.scan_model.proofs.OnLiterals.{scan_on_literals}
 
 abbrev at : ℕ → ℕ → ℕ → Tok → Token
 at index line col t = token (record { index = index; line = line; col = col }) t
@@ -55,7 +39,7 @@ record Rows : Type 0 where
   end : scan 8 (codes "a\n...\nb\n") ≡ Ok (at 0 1 0 Tok.stream_start ∷ at 0 1 0 (Tok.scalar Style.plain (codes "a")) ∷ at 2 2 0 Tok.document_end ∷ at 6 3 0 (Tok.scalar Style.plain (codes "b")) ∷ at 8 4 0 Tok.stream_end ∷ [])
 
 rows : Rows
-unfolding is_break is_blank is_flow is_alpha is_alphanumeric is_anchor is_digit is_hex is_uri is_uri_mark is_tag is_marker at_marker space plain can_be_plain goes_on is_shallow at_dash at_plain starts quoted escape_of is_scalar refused anchor_name chomping increment indicators header_break header_end header content between begins tail empty_text block kind name number version_value tag_value directive_break line_end directive verbatim named shorthand ends_tag tag handle prefix class_of is_far drop_stale stale must_be_key save_simple_key remove_simple_key drop_open_level deepen roll_indent in_block roll_one_col_indent unrolled unroll_indent without_open unroll_non_block_indents is_before_indent skip skip_to_next_token skip_spaces white skip_yaml_whitespace increase_flow_level begin_flow pass_indicator end_flow end_entry fetch_flow_collection_start end_flow_pair decrease_flow_level adjacent_in_flow fetch_flow_collection_end fetch_flow_entry check_block_entry check_dash roll_entry fetch_block_entry begin_key check_key_space fetch_key check_behind_tab check_value_space begin_pair insert_key begin_keyless_mapping begin_keyless_value fetch_value fetch_stream_start fetch_stream_end begin_line fetch_directive fetch_document_marker check_document_end fetch_document_end fetch_anchor fetch_tag fetch_block_scalar may_follow_quoted check_behind_quoted fetch_flow_scalar fetch_plain_scalar is_value fetch_token comes_marker fetch_indented fetch_first_column fetch_content fetch_here fetch_next fetch
+unfolding scan_on_literals
 rows = record {
   marker = refl;
   dashes = refl;
