@@ -25,12 +25,12 @@ use Rattle.scan_scalars.proofs.Uris.{uris_are_read}
 
 -- ---- characters of a class at a text's start
 
-abbrev begins_in : (ℕ → Bool) → List ℕ → Bool
+abbrev pub begins_in : (ℕ → Bool) → List ℕ → Bool
 begins_in class [] = false
 begins_in class (c ∷ r) = class c
 
 module _ (class : ℕ → Bool) where
-  span_cut : (a : List ℕ) → a ≡ leading class a ++ behind class a
+  pub span_cut : (a : List ℕ) → a ≡ leading class a ++ behind class a
   span_cut [] = refl
   span_cut (c ∷ a) = by (class c) (span_cut a)
     where
@@ -38,7 +38,7 @@ module _ (class : ℕ → Bool) where
       by true e = ap (λ r. c ∷ r) e
       by false e = refl
 
-  all_leading : (a : List ℕ) → all_of class (leading class a) ≡ true
+  pub all_leading : (a : List ℕ) → all_of class (leading class a) ≡ true
   all_leading [] = refl
   all_leading (c ∷ a) = by (class c) refl (all_leading a)
     where
@@ -46,7 +46,7 @@ module _ (class : ℕ → Bool) where
       by true e h = rw e h
       by false e h = refl
 
-  ends_behind : (a : List ℕ) → begins_in class (behind class a) ≡ false
+  pub ends_behind : (a : List ℕ) → begins_in class (behind class a) ≡ false
   ends_behind [] = refl
   ends_behind (c ∷ a) = by (class c) refl (ends_behind a)
     where
@@ -54,18 +54,18 @@ module _ (class : ℕ → Bool) where
       by true e h = h
       by false e h = e
 
-  leading_none : (r : List ℕ) → begins_in class r ≡ false → (leading class r ≡ []) × (behind class r ≡ r)
+  pub leading_none : (r : List ℕ) → begins_in class r ≡ false → (leading class r ≡ []) × (behind class r ≡ r)
   leading_none [] h = (refl, refl)
   leading_none (c ∷ r) h = (rw h refl, rw h refl)
 
-  leading_all : (l r : List ℕ) → all_of class l ≡ true → begins_in class r ≡ false → (leading class (l ++ r) ≡ l) × (behind class (l ++ r) ≡ r)
+  pub leading_all : (l r : List ℕ) → all_of class l ≡ true → begins_in class r ≡ false → (leading class (l ++ r) ≡ l) × (behind class (l ++ r) ≡ r)
   leading_all [] r h e = leading_none r e
   leading_all (c ∷ l) r h e =
       let q = and_parts (class c) (all_of class l) h in
       let z = leading_all l r q.1 e in
       (rw q.0 (ap (λ k. c ∷ k) z.0), rw q.0 z.1)
 
-word : (a : List ℕ) (p : Place) (t : List ℕ) → take_while is_alpha a p t ≡ record { rest = behind classes.is_alpha a; place = further (length (leading classes.is_alpha a)) p; value = t ++ leading classes.is_alpha a }
+pub word : (a : List ℕ) (p : Place) (t : List ℕ) → take_while is_alpha a p t ≡ record { rest = behind classes.is_alpha a; place = further (length (leading classes.is_alpha a)) p; value = t ++ leading classes.is_alpha a }
 word [] p t = rw (none_further p, append-nil) refl
 word (c ∷ a) p t = by (is_alpha c) refl (word a (past p) (t ++ c ∷ []))
   where
@@ -80,7 +80,7 @@ end_is_a_gap : is_blank_or_breakz 0 ≡ true
 unfolding is_blank is_break
 end_is_a_gap = refl
 
-same_end : (flow : Bool) (r : List ℕ) → ends_tag flow (slice_index r 0) ≡ may_follow flow r
+pub same_end : (flow : Bool) (r : List ℕ) → ends_tag flow (slice_index r 0) ≡ may_follow flow r
 unfolding ends_tag
 same_end flow [] = rw end_is_a_gap refl
 same_end flow (d ∷ r) = rw (same_gap d, same_flow d) refl
@@ -105,14 +105,14 @@ module _ (flow : Bool) (start : Place) (text : List ℕ) where
 
 -- ---- a verbatim tag
 
-close_is_no_uri : classes.is_uri 62 ≡ false
+pub close_is_no_uri : classes.is_uri 62 ≡ false
 unfolding classes.is_uri classes.is_decimal_digit classes.is_letter
 close_is_no_uri = refl
 
 verbatim_written : (l cs : List ℕ) → all_of classes.is_uri l ≡ true → decoded l ≡ Ok cs → written_tag (33 ∷ 60 ∷ (l ++ 62 ∷ [])) ≡ Some (record { handle = []; suffix = cs })
 verbatim_written l cs all is = let z = leading_all classes.is_uri l (62 ∷ []) all close_is_no_uri in rw (z.1, z.0, all, is) refl
 
-closed_place : (p : Place) (n m : ℕ) → m ≡ n + 1 → past (further n (past (past p))) ≡ further (suc (suc m)) p
+pub closed_place : (p : Place) (n m : ℕ) → m ≡ n + 1 → past (further n (past (past p))) ≡ further (suc (suc m)) p
 closed_place p n m e =
     let i : ((p.index + 1) + 1) + n + 1 ≡ p.index + suc (suc m) = omega (arith, e) in
     let j : ((p.col + 1) + 1) + n + 1 ≡ p.col + suc (suc m) = omega (arith, e) in
@@ -145,7 +145,7 @@ module _ (flow : Bool) (start : Place) (b : List ℕ) where
 
 -- ---- a shorthand
 
-decoded_some : (c : ℕ) (r cs : List ℕ) → decoded (c ∷ r) ≡ Ok cs → is_nil cs ≡ false
+pub decoded_some : (c : ℕ) (r cs : List ℕ) → decoded (c ∷ r) ≡ Ok cs → is_nil cs ≡ false
 decoded_some c r cs h = by (uri_character c r) h
   where
     then_by : (code : ℕ) (o : Result (List ℕ) UriFault) → put_code code o ≡ Ok cs → is_nil cs ≡ false
@@ -193,7 +193,7 @@ no_tags : (classes.is_tag 60 ≡ false) × (classes.is_tag 33 ≡ false)
 unfolding classes.is_tag classes.is_uri classes.is_decimal_digit classes.is_letter classes.is_flow
 no_tags = (refl, refl)
 
-alpha_starts : (c : ℕ) → classes.is_alpha c ≡ true → ((c == 60) ≡ false) × ((c == 37) ≡ false) × (classes.is_tag c ≡ true)
+pub alpha_starts : (c : ℕ) → classes.is_alpha c ≡ true → ((c == 60) ≡ false) × ((c == 37) ≡ false) × (classes.is_tag c ≡ true)
 alpha_starts c h = (absent classes.is_alpha c 60 h no_words.0, absent classes.is_alpha c 37 h no_words.1, same_tag c ∙ word_is_tag c (sym (same_alpha c) ∙ h))
 
 tag_starts : (c : ℕ) → classes.is_tag c ≡ true → ((c == 60) ≡ false) × ((c == 33) ≡ false)
@@ -226,7 +226,7 @@ named_written name c r cs all tags is =
     let z = leading_all classes.is_alpha name (33 ∷ c ∷ r) all mark_is_no_word in
     is_shorthand name (33 ∷ c ∷ r) all refl ∙ shorthand_by name (33 ∷ c ∷ r) (some_text name (c ∷ r) 33) ∙ rw (z.1, z.0, tags, is) refl
 
-decoded_word : (name r cs : List ℕ) → all_of classes.is_alpha name ≡ true → decoded r ≡ Ok cs → decoded (name ++ r) ≡ Ok (name ++ cs)
+pub decoded_word : (name r cs : List ℕ) → all_of classes.is_alpha name ≡ true → decoded r ≡ Ok cs → decoded (name ++ r) ≡ Ok (name ++ cs)
 unfolding uri_character
 decoded_word [] r cs h e = e
 decoded_word (c ∷ name) r cs h e =
@@ -258,7 +258,7 @@ still_none [] [] cs h e = let none : [] ≡ cs = cc in rw (← none) refl
 still_none [] (c ∷ l) cs h e = cc
 still_none (d ∷ name) l cs h e = cc
 
-still_some : (name l cs : List ℕ) → is_nil (name ++ l) ≡ false → decoded l ≡ Ok cs → is_nil (name ++ cs) ≡ false
+pub still_some : (name l cs : List ℕ) → is_nil (name ++ l) ≡ false → decoded l ≡ Ok cs → is_nil (name ++ cs) ≡ false
 still_some [] [] cs h e = cc
 still_some [] (c ∷ l) cs h e = decoded_some c l cs e
 still_some (d ∷ name) l cs h e = refl
@@ -271,13 +271,13 @@ still_no_word (c ∷ m) h = by (classes.is_tag c)
     by true = h
     by false = refl
 
-local_place : (p : Place) (n m k : ℕ) → k ≡ n + m → further m (further n (past p)) ≡ further (suc k) p
+pub local_place : (p : Place) (n m k : ℕ) → k ≡ n + m → further m (further n (past p)) ≡ further (suc k) p
 local_place p n m k e =
     let i : ((p.index + 1) + n) + m ≡ p.index + suc k = omega (arith, e) in
     let j : ((p.col + 1) + n) + m ≡ p.col + suc k = omega (arith, e) in
     rw (i, j) refl
 
-named_place : (p : Place) (n m k : ℕ) → k ≡ n + suc m → further m (past (further n (past p))) ≡ further (suc k) p
+pub named_place : (p : Place) (n m k : ℕ) → k ≡ n + suc m → further m (past (further n (past p))) ≡ further (suc k) p
 named_place p n m k e =
     let i : (((p.index + 1) + n) + 1) + m ≡ p.index + suc k = omega (arith, e) in
     let j : (((p.col + 1) + n) + 1) + m ≡ p.col + suc k = omega (arith, e) in

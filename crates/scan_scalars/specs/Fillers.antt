@@ -41,6 +41,12 @@ pub data PassesAs (s : Held) (text : List ℕ) (x : Result State Fault) : Type 0
   refuses : (before blanks rest : List ℕ) → text ≡ before ++ 9 ∷ (blanks ++ rest) → is_filler false before (9 ∷ (blanks ++ rest)) ≡ true → is_left s (place_behind s.place before (9 ∷ (blanks ++ rest))) ≡ true
       → is_blanks blanks ≡ true → begins_token rest ≡ true → x ≡ Err (At problem.TabInBlockIndentation (place_behind s.place (before ++ 9 ∷ blanks) rest)) → PassesAs s text x
 
+-- A filler before what is none was passed; or a TAB left of the innermost level is refused.
+pub data IsPassed (s : Held) (filler rest : List ℕ) (x : Result State Fault) : Type 0 where
+  passed : (leading : Bool) → x ≡ Ok (behind_filler s leading filler rest) → IsPassed s filler rest x
+  refused : (before blanks more : List ℕ) → filler ++ rest ≡ before ++ 9 ∷ (blanks ++ more) → is_filler false before (9 ∷ (blanks ++ more)) ≡ true → is_left s (place_behind s.place before (9 ∷ (blanks ++ more))) ≡ true
+      → is_blanks blanks ≡ true → begins_token more ≡ true → x ≡ Err (At problem.TabInBlockIndentation (place_behind s.place (before ++ 9 ∷ blanks) more)) → IsPassed s filler rest x
+
 -- whether a text begins with a space, a break or a comment
 abbrev pub begins_white_space : List ℕ → Bool
 begins_white_space [] = false

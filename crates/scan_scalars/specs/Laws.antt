@@ -12,13 +12,19 @@ use Rattle.scalar_model.specs.declared.context.SkipTabs.{SkipTabs}
 use Rattle.scalar_model.specs.Space.{space}
 use Rattle.scan_model.specs.State.{Held}
 use Rattle.scan_model.specs.Space.{between, skip, white}
-use Rattle.scan_scalars.specs.Fillers.{PassesAs, GoesOverAs, SpacesAs}
+use Rattle.cut_defs.specs.Filler.{is_filler}
+use Rattle.scan_scalars.specs.Fillers.{begins_filler, PassesAs, IsPassed, GoesOverAs, SpacesAs}
 use Rattle.yaml_chars.specs.Class.{is_uri, is_tag}
 use Rattle.scalar_defs.specs.Classes as classes
 use Rattle.scalar_model.specs.Uri.{uri}
 use Rattle.scalar_model.specs.Tag.{tag}
 use Rattle.scan_scalars.specs.UriEnds.{uri_read}
 use Rattle.scan_scalars.specs.TagEnds as tags
+use Rattle.scalar_defs.specs.Tags.{written_tag}
+use Rattle.scalar_defs.specs.Directives.{Directive, directive_of}
+use Rattle.cut_defs.specs.Text.{has_no_break}
+use Rattle.scalar_model.specs.Directive.{directive}
+use Rattle.scan_scalars.specs.DirectiveEnds as directives
 use Rattle.scan_scalars.specs.PlainEnds.{has_no_nul, collection_of, begins_solid, is_indented, IsRead}
 use Rattle.scan_scalars.specs.PlainEnds as plains
 
@@ -45,6 +51,10 @@ PlainScansEndAsTheirTextSays =
 abbrev pub FillersArePassed : Type 0
 FillersArePassed = (s : Held) (text : List ℕ) → PassesAs s text (skip between text s)
 
+-- `each_filler_is_passed`
+abbrev pub EachFillerIsPassed : Type 0
+EachFillerIsPassed = (s : Held) (filler rest : List ℕ) → has_no_nul (filler ++ rest) ≡ true → is_filler false filler rest ≡ true → begins_filler rest ≡ false → IsPassed s filler rest (skip between (filler ++ rest) s)
+
 -- `uris_are_read`; of URIs, and of the suffixes of tags
 abbrev pub UrisAreRead : Type 0
 UrisAreRead =
@@ -55,6 +65,12 @@ UrisAreRead =
 abbrev pub TagsEndAsTheirTextSays : Type 0
 TagsEndAsTheirTextSays = (in_flow : Bool) (text : List ℕ) (p : Place) → tags.EndsAs in_flow p text (tag in_flow (33 ∷ text) p)
 
+-- `tags_are_read`; `piece` is what stands behind the `!`
+abbrev pub TagsAreRead : Type 0
+TagsAreRead =
+    (in_flow : Bool) (piece rest handle suffix : List ℕ) (p : Place) → written_tag (33 ∷ piece) ≡ Some (record { handle = handle; suffix = suffix }) → tags.may_follow in_flow rest ≡ true
+    → tag in_flow (33 ∷ (piece ++ rest)) p ≡ Ok (tags.behind_tag p (33 ∷ piece) rest handle suffix)
+
 -- `white_space_is_passed`; what must stand behind a `?`
 abbrev pub WhiteSpaceIsPassed : Type 0
 WhiteSpaceIsPassed = (s : Held) (text : List ℕ) → GoesOverAs s text (white false false text s)
@@ -62,3 +78,13 @@ WhiteSpaceIsPassed = (s : Held) (text : List ℕ) → GoesOverAs s text (white f
 -- `spaces_are_passed`; within a line
 abbrev pub SpacesArePassed : Type 0
 SpacesArePassed = (tabs : SkipTabs) (text : List ℕ) (p : Place) → SpacesAs tabs p text (space tabs text p)
+
+-- `directives_are_read`; `line` is what stands behind the `%`, up to the line's end
+abbrev pub DirectivesAreRead : Type 0
+DirectivesAreRead =
+    (line next : List ℕ) (d : Directive) (p : Place) → has_no_break line ≡ true → directives.ends_line next ≡ true → directive_of (37 ∷ line) ≡ Some d
+    → directive (37 ∷ (line ++ next)) p ≡ Ok (directives.behind_line p (37 ∷ line) next (directives.token_of d))
+
+-- `directives_end_as_their_text_says`; `text` is what stands behind the `%`
+abbrev pub DirectivesEndAsTheirTextSays : Type 0
+DirectivesEndAsTheirTextSays = (text : List ℕ) (p : Place) → directives.EndsAs p text (directive (37 ∷ text) p)

@@ -4,3 +4,4 @@ pub mod PlainEnds
 pub mod Fillers
 pub mod UriEnds
 pub mod TagEnds
+pub mod DirectiveEnds

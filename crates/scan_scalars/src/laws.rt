@@ -1,6 +1,6 @@
 //! Laws of the scanner's model and the texts of single tokens, each carried by an empty function.
 
-ghost use Rattle.scan_scalars.specs.Laws.{FillersArePassed, NamesAreRead, NamesEndAsTheirTextSays, PlainScalarsAreRead, PlainScansEndAsTheirTextSays, SpacesArePassed, TagsEndAsTheirTextSays, UrisAreRead, WhiteSpaceIsPassed};
+ghost use Rattle.scan_scalars.specs.Laws.{DirectivesAreRead, DirectivesEndAsTheirTextSays, EachFillerIsPassed, FillersArePassed, NamesAreRead, NamesEndAsTheirTextSays, PlainScalarsAreRead, PlainScansEndAsTheirTextSays, SpacesArePassed, TagsAreRead, TagsEndAsTheirTextSays, UrisAreRead, WhiteSpaceIsPassed};
 
 /// Behind its indicator a name is read as it stands, up to a text that goes on with no character of a name.
 pub fn names_are_read()
@@ -54,4 +54,26 @@ pub fn white_space_is_passed()
 /// behind them, and what is said to stand there does. It is refused only where a comment stands behind no blank.
 pub fn spaces_are_passed()
     ensures { SpacesArePassed }
+{}
+
+/// Where a line behind a `%` is a directive, it is read as that directive, and the break behind it is passed.
+pub fn directives_are_read()
+    ensures { DirectivesAreRead }
+{}
+
+/// Each text behind a `%` is read so alone: what is read is the directive that its first line is, and the break behind it; and a
+/// line that is none is refused with its reason: a name that is missing or goes on, a version or a declaration that is none, a
+/// comment that stands behind no blank, or other text.
+pub fn directives_end_as_their_text_says()
+    ensures { DirectivesEndAsTheirTextSays }
+{}
+
+/// Each filler of a text without NUL is passed whole, up to what is none, or a TAB left of the innermost level is refused.
+pub fn each_filler_is_passed()
+    ensures { EachFillerIsPassed }
+{}
+
+/// Behind a `!` each tag is read as it is written, up to a text that may follow one.
+pub fn tags_are_read()
+    ensures { TagsAreRead }
 {}
