@@ -9,7 +9,7 @@ pub mod Rows
 pub mod Further
 pub mod Values
 mod HeaderFacts
-mod Columns
+pub mod Columns
 mod Walks
 mod Blocks
 pub mod Pieces

@@ -217,7 +217,7 @@ unfolding classes.is_nul
 some_next d n h = not_true _ ((and_parts (not (d == 0)) (list_all is_some n) h).0)
 
 module _ (indent : ℕ) (p : Place) (b : BlockRead) where
-  abbrev Read_as : List ℕ → List ℕ → Type 0
+  abbrev pub Read_as : List ℕ → List ℕ → Type 0
   Read_as piece next = IsRead indent p b piece next (block (is_literal b.style) indent (piece ++ next) p)
 
   alone : (w : List ℕ) → is_in_line w ≡ true → read_body (header_of w) (collection_by indent) input_ends [] ≡ Some b → Read_as w []
@@ -236,7 +236,7 @@ module _ (indent : ℕ) (p : Place) (b : BlockRead) where
           let same : record { style = h.style; column = 0; text = [] } ≡ b = cc in
           read_here h f same (said c line h f)
 
-  to_end : (w : List ℕ) (k : Break) (ls : List Line) (last : List ℕ) → is_in_line w ≡ true → Fits k (spell ls last) → AreLines ls last → is_in_line last ≡ true
+  pub to_end : (w : List ℕ) (k : Break) (ls : List Line) (last : List ℕ) → is_in_line w ≡ true → Fits k (spell ls last) → AreLines ls last → is_in_line last ≡ true
       → read_body (header_of w) (collection_by indent) (body (texts ls) (unbroken last)) [] ≡ Some b → Read_as (w ++ put k (spell ls last)) []
   to_end [] k ls last inner fits are last_inner e = absurd (none_some b e)
   to_end (c ∷ line) k ls last inner fits are last_inner e = by (header_of (c ∷ line)) refl
@@ -250,7 +250,7 @@ module _ (indent : ℕ) (p : Place) (b : BlockRead) where
       by None f = let no : None ≡ Some b = rw f at e in absurd (none_some b no)
       by (Some h) f = read_here h f (at_the_end indent p h ls last b (rw f at e)) (said c line h f)
 
-  to_text : (w : List ℕ) (k : Break) (ls : List Line) (next : List ℕ) → is_in_line w ≡ true → Fits k (spell ls []) → AreLines ls [] → is_at_end next ≡ false
+  pub to_text : (w : List ℕ) (k : Break) (ls : List Line) (next : List ℕ) → is_in_line w ≡ true → Fits k (spell ls []) → AreLines ls [] → is_at_end next ≡ false
       → read_body (header_of w) (collection_by indent) (body (texts ls) further_text) next ≡ Some b → Read_as (w ++ put k (spell ls [])) next
   to_text [] k ls next inner fits are some e = absurd (none_some b e)
   to_text (c ∷ line) k ls next inner fits are some e = by (header_of (c ∷ line)) refl

@@ -1,11 +1,13 @@
 pub mod Shapes
-mod Gaps
+pub mod Levels
+pub mod Gaps
 pub mod Words
 pub mod Strings
-mod Fetches
-mod Steps
+pub mod Fetches
+pub mod Steps
 pub mod Scalars
-mod Numbers
-mod Values
+pub mod Numbers
+pub mod OneLine
+pub mod Values
 pub mod Whole
 mod Rows

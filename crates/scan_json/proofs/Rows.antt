@@ -1,6 +1,5 @@
 -- JSON texts and their tokens: what the theorem says of some, and what the model does at a tab that the definition leaves out.
 use Rattle.std.proofs.Common.{arith, ◌≡◌, [], ◌∷◌, true, false, codes, refl, Err}
-use Rattle.yaml_chars.specs.Class.{is_break, is_blank, is_flow, is_alpha, is_alphanumeric}
 use Rattle.yaml_tokens.specs.declared.problem.Fault.TheVariants.{At}
 use Rattle.yaml_tokens.specs.declared.problem.Problem.TheVariants as problem
 use Rattle.token_defs.specs.Token.{Tok, Style}
@@ -10,18 +9,8 @@ use Rattle.layout_defs.specs.JsonString.{itself, short, Short, unicode, is_unesc
 use Rattle.layout_defs.specs.Json.{Json, Elements}
 use Rattle.scan_json.specs.JsonScan.{HasToks}
 use Rattle.scan_json.proofs.Whole.{json_text_has_its_tokens}
-use Rattle.scalar_model.specs.Space.{space}
-use Rattle.scalar_model.specs.Machine.{at_marker}
-use Rattle.scalar_model.specs.Quoted.{quoted, refused}
-use Rattle.scan_model.specs.Class.{class_of}
-use Rattle.scan_model.specs.Keys.{is_far, drop_stale, stale, must_be_key, save_simple_key}
-use Rattle.scan_model.specs.Indents.{in_block, roll_one_col_indent, unrolled, unroll_indent}
-use Rattle.scan_model.specs.Space.{is_before_indent, skip, skip_to_next_token, skip_spaces}
-use Rattle.scan_model.specs.Flow.{increase_flow_level, begin_flow, pass_indicator, fetch_flow_collection_start}
-use Rattle.scan_model.specs.Block.{check_behind_tab, check_value_space, fetch_value}
-use Rattle.scan_model.specs.Document.{fetch_stream_start, may_follow_quoted, check_behind_quoted, fetch_flow_scalar}
-use Rattle.scan_model.specs.Fetch.{is_value, fetch_token, comes_marker, fetch_indented, fetch_first_column, fetch_content, fetch_here, fetch_next, fetch}
 use Rattle.scan_model.specs.Run.{scan}
+use Rattle.scan_model.proofs.OnLiterals.{scan_on_literals}
 
 -- `["a\u0041\n", -2.5e+3]`
 array : HasToks (codes "[\"a\\u0041\\n\", -2.5e+3]")
@@ -38,5 +27,5 @@ array = json_text_has_its_tokens
 
 -- a tab behind a colon and a number: `{"k":` TAB `1}`
 tab_behind_colon : scan 4 (codes "{\"k\":\t1}") ≡ Err (At problem.TabAfterColon (record { index = 6; line = 1; col = 6 }))
-unfolding is_break is_blank is_flow is_alpha is_alphanumeric space at_marker quoted refused class_of is_far drop_stale stale must_be_key save_simple_key in_block roll_one_col_indent unrolled unroll_indent is_before_indent skip skip_to_next_token skip_spaces increase_flow_level begin_flow pass_indicator fetch_flow_collection_start check_behind_tab check_value_space fetch_value fetch_stream_start may_follow_quoted check_behind_quoted fetch_flow_scalar is_value fetch_token comes_marker fetch_indented fetch_first_column fetch_content fetch_here fetch_next fetch
+unfolding scan_on_literals
 tab_behind_colon = refl

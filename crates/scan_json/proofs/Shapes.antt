@@ -1,33 +1,90 @@
--- The states of the scanner in a JSON text: no block collection is open, and of the keys only the innermost changes.
-use Rattle.std.proofs.Common.{◌≡◌, ℕ, List, [], ◌∷◌, ◌++◌, Bool, true, false, not, ◌||◌, ◌==◌, Option}
+-- The states of the scanner in a JSON value: outside all block collections, or on one line within some. Of the keys only the innermost changes.
+use Rattle.std.proofs.Common.{◌≡◌, ℕ, ◌+◌, ◌≤◌, List, [], ◌∷◌, ◌++◌, Bool, true, false, not, ◌||◌, ◌==◌, Option}
 use Rattle.yaml_chars.specs.Place.{Place}
 use Rattle.token_defs.specs.Token.{Tok, Token}
-use Rattle.layout_defs.specs.JsonGap.{Blank, spell_gap}
+use Rattle.layout_defs.specs.JsonGap.{Blank, space, tab, line_feed, carriage_return, spell_gap}
 use Rattle.scan_model.specs.declared.level.FlowLevel.{FlowLevel}
+use Rattle.scan_model.specs.declared.level.Indent.{Indent}
 use Rattle.scan_model.specs.State.{Key, State}
 use Rattle.scan_model.specs.Keys.{is_required}
+use Rattle.scan_model.specs.Indents.{level}
 use Rattle.scan_model.specs.Run.{Reaches}
 use Rattle.scan_json.specs.JsonScan.{toks}
 
+-- ---- levels of indentation
+
+-- with a level on top that opens no collection, or without
+abbrev pub opened_indent : Bool → ℕ → ℕ
+opened_indent true i = i + 1
+opened_indent false i = i
+
+abbrev pub opened : Bool → ℕ → List Indent → List Indent
+opened true i is = level i false ∷ is
+opened false i is = is
+
+-- the innermost level is that of a collection, or there is none
+abbrev pub IsClosed : ℕ → List Indent → Type 0
+IsClosed i [] = i ≡ 0
+IsClosed i (d ∷ ds) = d.needs_block_end ≡ true
+
+-- What is open around a JSON value: no block collection; or some, and then it stands on one line, at the innermost one's column or behind it.
+pub data Around : Type 0 where
+  nothing : Around
+  block : (indent : ℕ) → (indents : List Indent) → (line : ℕ) → IsClosed indent indents → Around
+
+abbrev pub indent_of : Around → Bool → ℕ
+indent_of nothing b = 0
+indent_of (block i is l shut) b = opened_indent b i
+
+abbrev pub indents_of : Around → Bool → List Indent
+indents_of nothing b = []
+indents_of (block i is l shut) b = opened b i is
+
+-- whether the value must stand on one line
+abbrev pub IsLine : Around → Type 0
+IsLine nothing = ⊥
+IsLine (block i is l shut) = Unit {0}
+
+-- a place where the scanner may stand
+abbrev pub Fits : Around → Place → Type 0
+Fits nothing p = Unit {0}
+Fits (block i is l shut) p = (i ≤ p.col) × (p.line ≡ l)
+
+-- only spaces
+abbrev pub AreSpaces : List Blank → Type 0
+AreSpaces [] = Unit {0}
+AreSpaces (space ∷ g) = AreSpaces g
+AreSpaces (tab ∷ g) = ⊥
+AreSpaces (line_feed ∷ g) = ⊥
+AreSpaces (carriage_return ∷ g) = ⊥
+
+-- white space that may stand in such a value
+abbrev pub MayStand : Around → List Blank → Type 0
+MayStand d g = IsLine d → AreSpaces g
+
+-- ---- states
+
 -- what changes from token to token: the place, the tokens so far, the innermost key, and what the scanner knows of the place
-pub record Parts : Type 0 where
+pub record Parts (d : Around) : Type 0 where
   pub place : Place
   pub tokens : List Token
   pub key : Option Key
   pub allowed : Bool
   pub leading : Bool
   pub adjacent : ℕ
+  -- whether a level that opens no collection is on top
+  pub is_open : Bool
 
 -- before a text, in flow levels, with the keys of the outer ones
-abbrev pub stands : List ℕ → List FlowLevel → List (Option Key) → Parts → State
-stands r fs ks p = record {
+abbrev pub stands : {d : Around} → List ℕ → List FlowLevel → List (Option Key) → Parts d → State
+stands {d} r fs ks p = record {
   rest = r;
   held = record {
     place = p.place;
     tokens = p.tokens;
     keys = p.key ∷ ks;
-    indents = [];
-    indent = 0;
+    indents = indents_of d p.is_open;
+    indent = indent_of d p.is_open;
     flow = fs;
     key_allowed = p.allowed;
     leading = p.leading;
@@ -37,10 +94,15 @@ stands r fs ks p = record {
   };
 }
 
--- outside flow there is one key
-abbrev pub IsBottom : List FlowLevel → List (Option Key) → Type 0
-IsBottom [] ks = ks ≡ []
-IsBottom (f ∷ fs) ks = Unit {0}
+-- outside block collections
+abbrev pub IsOutside : Around → Type 0
+IsOutside nothing = Unit {0}
+IsOutside (block i is l shut) = ⊥
+
+-- outside flow there is one key, and no block collection
+abbrev pub IsBottom : Around → List FlowLevel → List (Option Key) → Type 0
+IsBottom d [] ks = IsOutside d × (ks ≡ [])
+IsBottom d (f ∷ fs) ks = Unit {0}
 
 -- a character that stands neither between tokens nor at the start of a directive, a document's end or a comment
 abbrev pub is_content : ℕ → Bool
@@ -63,14 +125,16 @@ abbrev pub Tells : List Token → (List Tok → List Tok) → Type 0
 Tells ts want = (o : List Tok) → toks ts ++ o ≡ want o
 
 -- The scanner came to a text, up to white space, with these tokens; no key must come.
-pub record After (from : State) (fs : List FlowLevel) (ks : List (Option Key)) (r : List ℕ) (want : List Tok → List Tok) : Type 0 where
-  pub parts : Parts
+pub record After (d : Around) (from : State) (fs : List FlowLevel) (ks : List (Option Key)) (r : List ℕ) (want : List Tok → List Tok) : Type 0 where
+  pub parts : Parts d
   pub gap : List Blank
+  pub fits : Fits d parts.place
+  pub may : MayStand d gap
   pub loose : is_required parts.key ≡ false
   pub told : Tells parts.tokens want
   pub run : Reaches from (stands (spell_gap gap r) fs ks parts)
 
 -- A key may begin there.
-pub record Ahead (from : State) (fs : List FlowLevel) (ks : List (Option Key)) (r : List ℕ) (want : List Tok → List Tok) : Type 0 where
-  pub after : After from fs ks r want
+pub record Ahead (d : Around) (from : State) (fs : List FlowLevel) (ks : List (Option Key)) (r : List ℕ) (want : List Tok → List Tok) : Type 0 where
+  pub after : After d from fs ks r want
   pub allowed : after.parts.allowed ≡ true

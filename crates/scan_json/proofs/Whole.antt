@@ -14,7 +14,7 @@ use Rattle.scan_model.specs.Run.{here, there, start}
 use Rattle.scan_json.specs.JsonScan.{toks, HasToks}
 use Rattle.scan_json.specs.Laws.{JsonTextsHaveTheirTokens, JsonTextsHaveNoOtherTokens, JsonTextsAreNotRefused}
 use Rattle.scan_model.proofs.Runs.{reaches_then, one_list, not_refused}
-use Rattle.scan_json.proofs.Shapes.{Parts, stands, at_end, After}
+use Rattle.scan_json.proofs.Shapes.{nothing, Parts, stands, at_end, After}
 use Rattle.scan_json.proofs.Gaps.{next_token}
 use Rattle.scan_json.proofs.Fetches.{staled}
 use Rattle.scan_json.proofs.Values.{push_tells, value_runs}
@@ -23,15 +23,15 @@ use Rattle.scan_json.proofs.Values.{push_tells, value_runs}
 abbrev origin : Place
 origin = record { index = 0; line = 1; col = 0 }
 
-abbrev pub begun : Parts
-begun = record { place = origin; tokens = token origin Tok.stream_start ∷ []; key = None; allowed = true; leading = true; adjacent = 0 }
+abbrev pub begun : Parts nothing
+begun = record { place = origin; tokens = token origin Tok.stream_start ∷ []; key = None; allowed = true; leading = true; adjacent = 0; is_open = false }
 
 pub begins : (a : List ℕ) → fetch (start a) ≡ Ok (stands a [] [] begun)
 unfolding fetch fetch_stream_start
 begins a = refl
 
 -- behind the stream's end
-abbrev finished : Parts → State
+abbrev finished : Parts nothing → State
 finished p = record {
   rest = [];
   held = record {
@@ -49,27 +49,27 @@ finished p = record {
   };
 }
 
-end_here : (p : Parts) (n : ℕ) → is_required p.key ≡ false → fetch_here (record (stands [] [] [] p) { held = unroll_indent n ((stands [] [] [] p).held) }) ≡ Ok (finished p)
+end_here : (p : Parts nothing) (n : ℕ) → is_required p.key ≡ false → fetch_here (record (stands [] [] [] p) { held = unroll_indent n ((stands [] [] [] p).held) }) ≡ Ok (finished p)
 unfolding fetch_here fetch_stream_end unroll_indent unrolled
 end_here p n loose = rw loose refl
 
 -- A fetch found the end.
 record Finished (from : State) (ts : List Token) : Type 0 where
-  parts : Parts
+  parts : Parts nothing
   tokens : parts.tokens ≡ ts
   is : fetch from ≡ Ok (finished parts)
 
-finishes : (g : List Blank) (p : Parts) → is_required p.key ≡ false → Finished (stands (spell_gap g []) [] [] p) p.tokens
+finishes : (g : List Blank) (p : Parts nothing) → is_required p.key ≡ false → Finished (stands (spell_gap g []) [] [] p) p.tokens
 unfolding fetch fetch_next stale drop_stale
 finishes g p loose =
-    let y = next_token [] [] g [] p refl in
+    let y = next_token [] [] g [] p (λ l. absurd l) tt refl in
     let q = record p { place = y.place; allowed = y.allowed; leading = y.leading } in
-    let z = staled [] [] [] q refl loose in
+    let z = staled [] [] [] q (tt, refl) loose in
     let r = record q { key = z.key } in
     record { parts = r; tokens = refl; is = rw (y.is, z.is, end_here r (r.place.col + 1) z.loose) refl }
 
 -- a text whose tokens up to its end were given
-pub all_tokens : (a : List ℕ) (want : List Tok → List Tok) → After (start a) [] [] [] want → HasToks a (want (Tok.stream_end ∷ []))
+pub all_tokens : (a : List ℕ) (want : List Tok → List Tok) → After nothing (start a) [] [] [] want → HasToks a (want (Tok.stream_end ∷ []))
 all_tokens a want u =
     let z = finishes u.gap u.parts u.loose in
     let told = push_tells z.parts.tokens (next_line z.parts.place) Tok.stream_end want (rw (← z.tokens) at u.told) in (
@@ -81,10 +81,10 @@ all_tokens a want u =
 pub json_text_has_its_tokens : JsonTextsHaveTheirTokens
 json_text_has_its_tokens w is =
     let text = spell_text w in
-    let u : After (start text) [] [] (spell w.value (spell_gap w.after [])) (λ o. Tok.stream_start ∷ o) =
-    record { parts = begun; gap = w.before; loose = refl; told = λ o. refl; run = there refl (begins text) here } in
+    let u : After nothing (start text) [] [] (spell w.value (spell_gap w.after [])) (λ o. Tok.stream_start ∷ o) =
+    record { parts = begun; gap = w.before; fits = tt; may = λ l. absurd l; loose = refl; told = λ o. refl; run = there refl (begins text) here } in
     let deep : 0 + levels w.value ≤ 255 = omega (arith, is.depth) in
-    all_tokens text (λ o. Tok.stream_start ∷ json_tokens w.value o) (value_runs w.value is.value (start text) w.after [] [] [] (λ o. Tok.stream_start ∷ o) refl at_end deep u)
+    all_tokens text (λ o. Tok.stream_start ∷ json_tokens w.value o) (value_runs nothing w.value is.value (λ l. absurd l) (start text) w.after [] [] [] (λ o. Tok.stream_start ∷ o) (tt, refl) (λ l. absurd l) at_end deep u)
 
 pub json_text_has_no_other_tokens : JsonTextsHaveNoOtherTokens
 json_text_has_no_other_tokens w is ts z = let y = json_text_has_its_tokens w is in ap toks (one_list (spell_text w) ts y.0 z y.1) ∙ y.2

@@ -3,14 +3,14 @@ use Rattle.std.proofs.Common.{◌≡◌, ℕ, zero, suc, List, [], ◌∷◌, �
 use Rattle.std.specs.List.{list_all}
 use Rattle.std.proofs.lemmas.Bool.{and_parts}
 use Rattle.yaml_chars.specs.Place.{Place}
-use Rattle.yaml_chars.specs.Class.{is_break, is_blank}
+use Rattle.yaml_chars.specs.Class.{is_break}
 use Rattle.layout_defs.specs.Gap.{spaces, IsLineText, is_line_character}
 use Rattle.layout_defs.specs.WideLayout.{Comment, no_comment, comment, spell_comment, IsComment}
 use Rattle.scalar_model.specs.declared.context.SkipTabs.TheVariants.{Yes}
 use Rattle.scalar_model.specs.declared.context.Whitespace.{Whitespace}
 use Rattle.scalar_model.specs.Machine.{past}
 use Rattle.scalar_model.specs.Space as scalar_space
-use Rattle.scan_layout.proofs.Whites.{White, space, line_feed, remark, spell_white, along, along_line, beyond, allowed_beyond, EndsLine, AreWhite, in_line, blanks}
+use Rattle.scan_layout.proofs.Whites.{White, space, remark, spell_white, along, along_line, beyond, allowed_beyond, EndsLine, AreWhite, in_line, blanks}
 
 -- so many spaces before other white space
 abbrev pub spaced : ℕ → List White → List White

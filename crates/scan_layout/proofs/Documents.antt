@@ -9,7 +9,7 @@ use Rattle.scalar_model.specs.Machine.{past}
 use Rattle.scan_model.specs.declared.level.Indent.{Indent}
 use Rattle.scan_model.specs.State.{State, token, try_held}
 use Rattle.scan_model.specs.Keys.{stale, drop_stale, still, is_required, remove_simple_key}
-use Rattle.scan_model.specs.Indents.{unroll_indent, unrolled}
+use Rattle.scan_model.specs.Indents.{unroll_indent}
 use Rattle.scan_model.specs.Block.{last_property}
 use Rattle.scan_model.specs.Document.{next_line, fetch_stream_start, fetch_stream_end, begin_line, fetch_document_marker}
 use Rattle.scan_model.specs.Fetch.{comes_marker, fetch_first_column, fetch_content, fetch_here, fetch}

@@ -1,6 +1,5 @@
--- Layouts in turn are a wide layout, which is basic: so they have its tokens.
-use Rattle.std.proofs.Common.{◌≡◌, ℕ, List, [], ◌∷◌, ◌∙◌, subst}
-use Rattle.tree_defs.specs.Tree.{Tree}
+-- Layouts in turn are a wide layout: so they have its tokens.
+use Rattle.std.proofs.Common.{[], ◌∷◌, ◌∙◌, subst}
 use Rattle.layout_defs.proofs.InTurn.{wide_all, wide_text, wide_trees, wide_valid, in_turn}
 use Rattle.laid_tokens.specs.WideTokens.{wide_tokens}
 use Rattle.scan_model.specs.Run.{IsRefused}
@@ -8,8 +7,7 @@ use Rattle.scan_model.proofs.Runs.{not_refused}
 use Rattle.scan_json.specs.JsonScan.{HasToks}
 use Rattle.scan_layout.specs.Laws.{LayoutsInTurnHaveTheirTokens, LayoutsInTurnAreNotRefused}
 use Rattle.scan_layout.proofs.Documents.{nothing_has_its_tokens}
-use Rattle.scan_layout.proofs.Whole.{basic_texts_have_their_tokens}
-use Rattle.scan_layout.proofs.OneLayout.{documents_are_basic}
+use Rattle.scan_layout.proofs.Whole.{wide_texts_have_their_tokens}
 
 pub layouts_in_turn_have_their_tokens : LayoutsInTurnHaveTheirTokens
 layouts_in_turn_have_their_tokens t ts text laid =
@@ -17,7 +15,7 @@ layouts_in_turn_have_their_tokens t ts text laid =
     let e = wide_text z.before z.last ∙ z.spelt in
     let w = wide_all z.before z.last in
     let is = wide_valid z.before z.last z.are z.is in
-    let has = basic_texts_have_their_tokens w is (documents_are_basic z.before z.last) in
+    let has = wide_texts_have_their_tokens w is in
     (w, is, e, wide_trees z.before z.last ∙ z.stand, subst (λ a. HasToks a (wide_tokens w)) e has)
 
 pub layouts_in_turn_are_not_refused : LayoutsInTurnAreNotRefused

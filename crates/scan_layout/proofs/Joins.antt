@@ -1,16 +1,16 @@
 -- How runs of nodes are put together: what stands behind one node, and in front of the next.
-use Rattle.std.proofs.Common.{◌≡◌, ℕ, zero, suc, ◌+◌, ◌<◌, ◌≤◌, List, [], ◌∷◌, ◌++◌, Bool, true, false, ◌==◌, nat_lt, Option, Some, None, Ok, refl, ap, ◌∙◌, arith, length}
+use Rattle.std.proofs.Common.{◌≡◌, ℕ, ◌+◌, ◌<◌, ◌≤◌, List, [], ◌∷◌, ◌++◌, Bool, true, false, ◌==◌, nat_lt, Option, Some, None, Ok, refl, ap, ◌∙◌, arith, length}
 use Rattle.std.proofs.lemmas.Bool.{ne_eqb, lt-ltb, le-ltb}
 use Rattle.yaml_chars.specs.Place.{Place}
 use Rattle.token_defs.specs.Token.{Tok}
 use Rattle.layout_defs.specs.Gap.{GapLine, empty_line, comment_line}
 use Rattle.scalar_model.specs.Machine.{past, past_break}
 use Rattle.scan_model.specs.declared.level.Indent.{Indent}
-use Rattle.scan_model.specs.State.{Key, State, try_held}
+use Rattle.scan_model.specs.State.{Key, State, ◌>>=◌, try_held}
 use Rattle.scan_model.specs.Keys.{stale, is_far, is_required, save_simple_key, must_be_key}
 use Rattle.scan_model.specs.Indents.{level, unroll_indent}
 use Rattle.scan_model.specs.Block.{last_property}
-use Rattle.scan_model.specs.Fetch.{fetch_here}
+use Rattle.scan_model.specs.Fetch.{fetch_here, fetch}
 use Rattle.scan_model.specs.Run.{Reaches, here, there}
 use Rattle.scan_model.proofs.Runs.{reaches_then}
 use Rattle.scan_json.specs.JsonScan.{toks}
@@ -40,7 +40,7 @@ before_white from g y i is q want run white free deep no_property told =
       column = refl;
       free = free;
       allows = refl;
-      no_property = no_property;
+      no_property = λ e. no_property;
       told = told;
     }
 
@@ -79,7 +79,7 @@ gap_col [] d p h = blanks_col d p ∙ omega (arith, h)
 gap_col (empty_line ∷ g) d p h = gap_col g d (past_break p) refl
 gap_col (comment_line text ∷ g) d p h = gap_col g d (past_break (along text (past p))) refl
 
-gap_line : (g : List GapLine) (d : ℕ) (p : Place) → p.line ≤ (beyond (gap_white g (blanks d)) p).line
+pub gap_line : (g : List GapLine) (d : ℕ) (p : Place) → p.line ≤ (beyond (gap_white g (blanks d)) p).line
 gap_line [] d p = let e = blanks_line d p in omega (arith, e)
 gap_line (empty_line ∷ g) d p = let h = gap_line g d (past_break p) in omega (arith, h)
 gap_line (comment_line text ∷ g) d p = let h = gap_line g d (past_break (along text (past p))) in let e = along_line text (past p) in omega (arith, h, e)
@@ -97,7 +97,7 @@ Allows (next g d r) b = b ≡ true
 Allows (marker g r) b = Unit {0}
 Allows (end g) b = Unit {0}
 
-old : (k : Option Key) (line : ℕ) (p : Place) → is_required k ≡ false → Lies k line → line < p.line → IsOld k p
+pub old : (k : Option Key) (line : ℕ) (p : Place) → is_required k ≡ false → Lies k line → line < p.line → IsOld k p
 unfolding is_far
 old None line p loose lies later = record { loose = refl; gone = refl }
 old (Some k) line p loose lies later = let h : nat_lt k.place.line p.line ≡ true = lt-ltb k.place.line p.line (omega (arith, lies, later)) in record { loose = loose; gone = rw h refl }
@@ -135,23 +135,55 @@ pub record Saved (x : List ℕ) (i : ℕ) (is : List Indent) (p : Parts) : Type 
   pub lies : Lies key p.place.line
   pub now : save_simple_key ((stands x i is p).held) ≡ (stands x i is (record p { key = key })).held
 
+-- a key that need not come to its `:`, and began on the line of the place or before it
+abbrev pub IsLoose : Parts → Type 0
+IsLoose p = (is_required p.key ≡ false) × Lies p.key p.place.line
+
+pub free_loose : (p : Parts) → p.key ≡ None → IsLoose p
+free_loose p free = by p.key free
+  where
+    by : (k : Option Key) → k ≡ None → (is_required k ≡ false) × Lies k p.place.line
+    by None e = (refl, tt)
+    by (Some k) e = cc
+
 pub not_key : (x : List ℕ) (b : Bool) (i : ℕ) (is : List Indent) (p : Parts) → i ≤ p.place.col → must_be_key ((stands x (opened_indent b i) (opened b i is) p).held) ≡ false
 unfolding must_be_key
 not_key x true i is p h = Levels.and_false (i + 1 == p.place.col + 1)
 not_key x false i is p h = rw (ne_eqb i (p.place.col + 1) (λ e. omega arith)) refl
 
-saved_by : (x : List ℕ) (b a : Bool) (i : ℕ) (is : List Indent) (p : Parts) → p.allowed ≡ a → i ≤ p.place.col → p.key ≡ None → Saved x (opened_indent b i) (opened b i is) p
+saved_by : (x : List ℕ) (b a : Bool) (i : ℕ) (is : List Indent) (p : Parts) → p.allowed ≡ a → i ≤ p.place.col → IsLoose p → Saved x (opened_indent b i) (opened b i is) p
 unfolding save_simple_key
-saved_by x b true i is p e h free = record {
+saved_by x b true i is p e h loose = record {
   key = Some (record { required = false; number = length p.tokens; place = p.place });
   loose = refl;
   lies = omega arith;
   now = rw (not_key x b i is p h, e) refl;
 }
-saved_by x b false i is p e h free = record { key = None; loose = refl; lies = tt; now = rw (e, free) refl }
+saved_by x b false i is p e h loose = record { key = p.key; loose = loose.0; lies = loose.1; now = rw e refl }
+
+pub saved_behind : (x : List ℕ) (b : Bool) (i : ℕ) (is : List Indent) (p : Parts) → i ≤ p.place.col → IsLoose p → Saved x (opened_indent b i) (opened b i is) p
+saved_behind x b i is p h loose = saved_by x b p.allowed i is p refl h loose
 
 pub saved : (x : List ℕ) (b : Bool) (i : ℕ) (is : List Indent) (p : Parts) → i ≤ p.place.col → p.key ≡ None → Saved x (opened_indent b i) (opened b i is) p
-saved x b i is p h free = saved_by x b p.allowed i is p refl h free
+saved x b i is p h free = saved_behind x b i is p h (free_loose p free)
+
+-- The next fetch finds a text here, on a column; a key that began on its line may be open.
+pub record Ahead (from : State) (x : List ℕ) (c : ℕ) (i : ℕ) (is : List Indent) (want : List Tok → List Tok) : Type 0 where
+  pub state : State
+  pub run : Reaches from state
+  pub going : state.held.ended ≡ false
+  pub parts : Parts
+  pub fetches : fetch state ≡ (fetch_here (stands x i is parts) >>= try_held stale)
+  pub column : parts.place.col ≡ c
+  pub loose : IsLoose parts
+  pub told : Tells parts.tokens want
+
+abbrev pub ahead : (from : State) (x : List ℕ) (c i : ℕ) (is : List Indent) (b : Bool) (want : List Tok → List Tok) → Before from x c i is b want → Ahead from x c i is want
+ahead from x c i is b want u = record { state = u.state; run = u.run; going = u.going; parts = u.parts; fetches = u.fetches; column = u.column; loose = free_loose u.parts u.free; told = u.told }
+
+pub fetched_ahead : (from : State) (x : List ℕ) (c i : ℕ) (is : List Indent) (want : List Tok → List Tok) (s u : State) → (w : Ahead from x c i is want)
+    → fetch_here (stands x i is w.parts) ≡ Ok s → try_held stale s ≡ Ok u → Reaches from u
+fetched_ahead from x c i is want s u w e f = reaches_then w.run (there w.going (w.fetches ∙ rw (e, f) refl) here)
 
 -- ---- the ends of collections
 
@@ -227,7 +259,7 @@ before_next from g c i is r want u =
       column = column;
       free = refl;
       allows = u.settles.1;
-      no_property = z.no_property u.no_property;
+      no_property = λ e. z.no_property u.no_property;
       told = λ o. z.told o ∙ u.told o ∙ ap want (no_ends c i is o);
     }
 
@@ -252,6 +284,6 @@ before_entry from g c i is y q want run white free column allows no_property tol
       column = column;
       free = free;
       allows = allows;
-      no_property = z.no_property no_property;
+      no_property = λ e. z.no_property no_property;
       told = λ o. z.told o ∙ ap (λ e. toks q.tokens ++ e) (none o) ∙ told o;
     }

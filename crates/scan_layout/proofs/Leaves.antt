@@ -23,7 +23,7 @@ use Rattle.layout_defs.specs.WideLayout.{Comment, no_comment, comment, spell_com
 use Rattle.scan_layout.proofs.Comments.{comment_white, comment_place, comment_is, beyond_comment, comment_line, comment_passes}
 use Rattle.scan_layout.proofs.Whites.{White, line_feed, remark, spell_white, along, along_line, beyond, allowed_beyond, AreWhite, next_token, gap_white, blanks, gap_allows, stays_allowed, line_white, ending_white, leading_beyond}
 use Rattle.scan_layout.proofs.Levels
-use Rattle.scan_layout.proofs.Joins.{fetched, trail_white, trail_is, trail_are_white, trail_ends_line, trail_stops, gap_col, Lies, Allows, leaf_after, saved, left_open}
+use Rattle.scan_layout.proofs.Joins.{trail_white, trail_is, trail_are_white, trail_ends_line, trail_stops, gap_col, Lies, Allows, leaf_after, IsLoose, saved_behind, Ahead, ahead, fetched_ahead, left_open}
 use Rattle.scan_layout.proofs.Plains.{are_plain, closes, IsLeft, plain_line, plain_comment, plain_end}
 use Rattle.scan_layout.proofs.PlainTexts.{IsPlainText, is_first, is_second, at_end, at_break, at_space, plain_opens, plain_by, first_space}
 use Rattle.scan_layout.proofs.Quotes.{IsQuoted}
@@ -86,13 +86,13 @@ record PlainAt (x : Result State Fault) (t : Trail) (c : ℕ) (w : List ℕ) (g 
   allows : Allows t (allowed_beyond white leading)
   now : x ≡ Ok (stands (spell_white white r) i is (plain_parts p c w place key leading))
 
-plain_line_at : (t : Trail) (c : ℕ) (w : List ℕ) (g : List White) (r : List ℕ) (b : Bool) (i : ℕ) (is : List Indent) (p : Parts) → are_plain w ≡ true → closes (c == 32) w ≡ true → (c == 32) ≡ false → i ≤ p.place.col → IsClosed i is → p.key ≡ None
+plain_line_at : (t : Trail) (c : ℕ) (w : List ℕ) (g : List White) (r : List ℕ) (b : Bool) (i : ℕ) (is : List Indent) (p : Parts) → are_plain w ≡ true → closes (c == 32) w ≡ true → (c == 32) ≡ false → i ≤ p.place.col → IsClosed i is → IsLoose p
     → AreWhite g r → IsLeft i p.place r (beyond g (past_break (along (c ∷ w) p.place))).col
     → PlainAt (fetch_plain_scalar (stands (c ∷ (w ++ 10 ∷ spell_white g r)) (opened_indent b i) (opened b i is) p)) t c w (line_feed ∷ g) r i is p
 unfolding fetch_plain_scalar
 plain_line_at t c w g r b i is p chars close solid deep shut free are low =
     let x = c ∷ (w ++ 10 ∷ spell_white g r) in
-    let k = saved x b i is p deep free in
+    let k = saved_behind x b i is p deep free in
     let q = record p { key = k.key; allowed = false } in
     let z = plain_line i p.place c w g r chars close (omega (arith, deep)) solid are low in
     record {
@@ -108,12 +108,12 @@ plain_line_at t c w g r b i is p chars close solid deep shut free are low =
       now = rw (k.now, non_block x b i is q shut, z.now) refl;
     }
 
-plain_end_at : (c : ℕ) (w : List ℕ) (b : Bool) (i : ℕ) (is : List Indent) (p : Parts) → are_plain w ≡ true → closes (c == 32) w ≡ true → (c == 32) ≡ false → i ≤ p.place.col → IsClosed i is → p.key ≡ None
+plain_end_at : (c : ℕ) (w : List ℕ) (b : Bool) (i : ℕ) (is : List Indent) (p : Parts) → are_plain w ≡ true → closes (c == 32) w ≡ true → (c == 32) ≡ false → i ≤ p.place.col → IsClosed i is → IsLoose p
     → PlainAt (fetch_plain_scalar (stands (c ∷ (w ++ [])) (opened_indent b i) (opened b i is) p)) (end []) c w [] [] i is p
 unfolding fetch_plain_scalar
 plain_end_at c w b i is p chars close solid deep shut free =
     let x = c ∷ (w ++ []) in
-    let k = saved x b i is p deep free in
+    let k = saved_behind x b i is p deep free in
     let q = record p { key = k.key; allowed = false } in
     let z = plain_end i p.place c w chars close (omega (arith, deep)) solid in
     record {
@@ -129,7 +129,7 @@ plain_end_at c w b i is p chars close solid deep shut free =
       now = rw (k.now, non_block x b i is q shut, z) refl;
     }
 
-plain_comment_at : (t : Trail) (c : ℕ) (v : List ℕ) (more : ℕ) (text : List ℕ) (b : Bool) (i : ℕ) (is : List Indent) (p : Parts) → are_plain v ≡ true → closes (c == 32) v ≡ true → (c == 32) ≡ false → i ≤ p.place.col → IsClosed i is → p.key ≡ None
+plain_comment_at : (t : Trail) (c : ℕ) (v : List ℕ) (more : ℕ) (text : List ℕ) (b : Bool) (i : ℕ) (is : List Indent) (p : Parts) → are_plain v ≡ true → closes (c == 32) v ≡ true → (c == 32) ≡ false → i ≤ p.place.col → IsClosed i is → IsLoose p
     → AreWhite (remark text ∷ trail_white t) (rest_of t)
     → PlainAt (fetch_plain_scalar (stands (c ∷ (v ++ spell_white (comment_white (comment more text) (trail_white t)) (rest_of t))) (opened_indent b i) (opened b i is) p)) t c v (comment_white (comment more text) (trail_white t)) (rest_of t) i is p
 unfolding fetch_plain_scalar
@@ -137,7 +137,7 @@ plain_comment_at t c v more text b i is p chars close solid deep shut free are =
     let w = trail_white t in
     let r = rest_of t in
     let x = c ∷ (v ++ spell_white (comment_white (comment more text) w) r) in
-    let k = saved x b i is p deep free in
+    let k = saved_behind x b i is p deep free in
     let q = record p { key = k.key; allowed = false } in
     let z = plain_comment i p.place c v more text w r chars close (omega (arith, deep)) solid in
     record {
@@ -158,28 +158,32 @@ low_enough true i col h = omega (arith, h)
 low_enough false i col h = omega (arith, h)
 
 -- the first character of a value decides
+pub value_ahead : (from : State) (c : ℕ) (a : List ℕ) (col : ℕ) (b : Bool) (i : ℕ) (is : List Indent) (want : List Tok → List Tok) → (u : Ahead from (c ∷ a) col (opened_indent b i) (opened b i is) want) → i ≤ col → Opens c a
+    → fetch_here (stands (c ∷ a) (opened_indent b i) (opened b i is) u.parts) ≡ token_by (class_of c) (stands (c ∷ a) (opened_indent b i) (opened b i is) u.parts)
+value_ahead from c a col b i is want u deep o = let e = u.column in Levels.here c a (opened_indent b i) (opened b i is) u.parts o (low_enough b i u.parts.place.col (omega (arith, deep, e)))
+
 pub value_by : (from : State) (c : ℕ) (a : List ℕ) (col : ℕ) (b : Bool) (i : ℕ) (is : List Indent) (allowed : Bool) (want : List Tok → List Tok) → (u : Before from (c ∷ a) col (opened_indent b i) (opened b i is) allowed want) → i ≤ col → Opens c a
     → fetch_here (stands (c ∷ a) (opened_indent b i) (opened b i is) u.parts) ≡ token_by (class_of c) (stands (c ∷ a) (opened_indent b i) (opened b i is) u.parts)
-value_by from c a col b i is allowed want u deep o = let e = u.column in Levels.here c a (opened_indent b i) (opened b i is) u.parts o (low_enough b i u.parts.place.col (omega (arith, deep, e)))
+value_by from c a col b i is allowed want u deep o = value_ahead from c a col b i is want (ahead from (c ∷ a) col (opened_indent b i) (opened b i is) allowed want u) deep o
 
-plain_done : (k : Comment) (t : Trail) (from : State) (c : ℕ) (w a : List ℕ) (col : ℕ) (b : Bool) (i : ℕ) (is : List Indent) (allowed : Bool) (want : List Tok → List Tok) → (u : Before from (c ∷ (w ++ a)) col (opened_indent b i) (opened b i is) allowed want) → i ≤ col
+plain_done : (k : Comment) (t : Trail) (from : State) (c : ℕ) (w a : List ℕ) (col : ℕ) (b : Bool) (i : ℕ) (is : List Indent) (want : List Tok → List Tok) → (u : Ahead from (c ∷ (w ++ a)) col (opened_indent b i) (opened b i is) want) → i ≤ col
     → Opens c (w ++ a) → token_by (class_of c) (stands (c ∷ (w ++ a)) (opened_indent b i) (opened b i is) u.parts) ≡ fetch_plain_scalar (stands (c ∷ (w ++ a)) (opened_indent b i) (opened b i is) u.parts)
     → PlainAt (fetch_plain_scalar (stands (c ∷ (w ++ a)) (opened_indent b i) (opened b i is) u.parts)) t c w (comment_white k (trail_white t)) (rest_of t) i is u.parts
     → After from t i is (λ o. want (Tok.scalar Style.plain (c ∷ w) ∷ o))
-plain_done k t from c w a col b i is allowed want u deep opens by z =
+plain_done k t from c w a col b i is want u deep opens by z =
     let p = u.parts in
     let q = plain_parts p c w z.place z.key z.leading in
     let x = spell_white z.white (rest_of t) in
-    let run = fetched from (c ∷ (w ++ a)) col (opened_indent b i) (opened b i is) allowed want _ _ u (value_by from c (w ++ a) col b i is allowed want u deep opens ∙ by ∙ z.now) (Levels.aged x i is q z.loose) in
+    let run = fetched_ahead from (c ∷ (w ++ a)) col (opened_indent b i) (opened b i is) want _ _ u (value_ahead from c (w ++ a) col b i is want u deep opens ∙ by ∙ z.now) (Levels.aged x i is q z.loose) in
     let at = comment_place k (along (c ∷ w) p.place) in
     let lies : Lies (still z.place z.key) at.line = still_lies z.place z.key at.line (rw (comment_line k (along (c ∷ w) p.place), along_line (c ∷ w) p.place) z.lies) in
     leaf_after t from z.white i is (record q { key = still z.place z.key }) at _ run z.are (z.same ∙ beyond_comment k (trail_white t) (along (c ∷ w) p.place)) z.allows
     (Levels.still_loose z.place z.key z.loose) lies (Levels.last_pushed p.tokens (token p.place (Tok.scalar Style.plain (c ∷ w)))) (Levels.push_tells p.tokens p.place (Tok.scalar Style.plain (c ∷ w)) want u.told)
 
-plain_lines : (t : Trail) (g : List White) (from : State) (c : ℕ) (w : List ℕ) (col : ℕ) (b : Bool) (i : ℕ) (is : List Indent) (allowed : Bool) (want : List Tok → List Tok) → trail_white t ≡ line_feed ∷ g → IsTrail t → limit_of t ≤ i
+plain_lines : (t : Trail) (g : List White) (from : State) (c : ℕ) (w : List ℕ) (col : ℕ) (b : Bool) (i : ℕ) (is : List Indent) (want : List Tok → List Tok) → trail_white t ≡ line_feed ∷ g → IsTrail t → limit_of t ≤ i
     → is_first c ≡ true → is_second c w ≡ true → are_plain w ≡ true → closes false w ≡ true → i ≤ col → IsClosed i is
-    → Before from (c ∷ (w ++ 10 ∷ spell_white g (rest_of t))) col (opened_indent b i) (opened b i is) allowed want → After from t i is (λ o. want (Tok.scalar Style.plain (c ∷ w) ∷ o))
-plain_lines t g from c w col b i is allowed want e trail low first second chars close deep shut u =
+    → Ahead from (c ∷ (w ++ 10 ∷ spell_white g (rest_of t))) col (opened_indent b i) (opened b i is) want → After from t i is (λ o. want (Tok.scalar Style.plain (c ∷ w) ∷ o))
+plain_lines t g from c w col b i is want e trail low first second chars close deep shut u =
     let p = u.parts in
     let column = u.column in
     let a = 10 ∷ spell_white g (rest_of t) in
@@ -187,54 +191,54 @@ plain_lines t g from c w col b i is allowed want e trail low first second chars 
     let are : AreWhite g (rest_of t) = rw e at (trail_are_white t trail) in
     let at = along (c ∷ w) p.place in
     let left = is_left t i p.place g (beyond g (past_break at)) low e at (rw e refl) in
-    let z = plain_line_at t c w g (rest_of t) b i is p chars (rw solid close) solid (omega (arith, deep, column)) shut u.free are left in
-    plain_done no_comment t from c w a col b i is allowed want u deep (plain_opens c w a first second at_break) (plain_by (stands (c ∷ (w ++ a)) (opened_indent b i) (opened b i is) p) c w a refl first second chars) (rw e z)
+    let z = plain_line_at t c w g (rest_of t) b i is p chars (rw solid close) solid (omega (arith, deep, column)) shut u.loose are left in
+    plain_done no_comment t from c w a col b i is want u deep (plain_opens c w a first second at_break) (plain_by (stands (c ∷ (w ++ a)) (opened_indent b i) (opened b i is) p) c w a refl first second chars) (rw e z)
 
-plain_ends : (from : State) (c : ℕ) (w : List ℕ) (col : ℕ) (b : Bool) (i : ℕ) (is : List Indent) (allowed : Bool) (want : List Tok → List Tok)
+plain_ends : (from : State) (c : ℕ) (w : List ℕ) (col : ℕ) (b : Bool) (i : ℕ) (is : List Indent) (want : List Tok → List Tok)
     → is_first c ≡ true → is_second c w ≡ true → are_plain w ≡ true → closes false w ≡ true → i ≤ col → IsClosed i is
-    → Before from (c ∷ (w ++ [])) col (opened_indent b i) (opened b i is) allowed want → After from (end []) i is (λ o. want (Tok.scalar Style.plain (c ∷ w) ∷ o))
-plain_ends from c w col b i is allowed want first second chars close deep shut u =
+    → Ahead from (c ∷ (w ++ [])) col (opened_indent b i) (opened b i is) want → After from (end []) i is (λ o. want (Tok.scalar Style.plain (c ∷ w) ∷ o))
+plain_ends from c w col b i is want first second chars close deep shut u =
     let p = u.parts in
     let column = u.column in
     let solid = first_space c first in
-    let z = plain_end_at c w b i is p chars (rw solid close) solid (omega (arith, deep, column)) shut u.free in
-    plain_done no_comment (end []) from c w [] col b i is allowed want u deep (plain_opens c w [] first second at_end) (plain_by (stands (c ∷ (w ++ [])) (opened_indent b i) (opened b i is) p) c w [] refl first second chars) z
+    let z = plain_end_at c w b i is p chars (rw solid close) solid (omega (arith, deep, column)) shut u.loose in
+    plain_done no_comment (end []) from c w [] col b i is want u deep (plain_opens c w [] first second at_end) (plain_by (stands (c ∷ (w ++ [])) (opened_indent b i) (opened b i is) p) c w [] refl first second chars) z
 
-plain_by_trail : (t : Trail) (from : State) (c : ℕ) (w : List ℕ) (col : ℕ) (b : Bool) (i : ℕ) (is : List Indent) (allowed : Bool) (want : List Tok → List Tok) → IsTrail t → limit_of t ≤ i
+plain_by_trail : (t : Trail) (from : State) (c : ℕ) (w : List ℕ) (col : ℕ) (b : Bool) (i : ℕ) (is : List Indent) (want : List Tok → List Tok) → IsTrail t → limit_of t ≤ i
     → is_first c ≡ true → is_second c w ≡ true → are_plain w ≡ true → closes false w ≡ true → i ≤ col → IsClosed i is
-    → Before from (c ∷ (w ++ spell_white (trail_white t) (rest_of t))) col (opened_indent b i) (opened b i is) allowed want → After from t i is (λ o. want (Tok.scalar Style.plain (c ∷ w) ∷ o))
-plain_by_trail (next g d r) from c w col b i is allowed want trail low first second chars close deep shut u = plain_lines (next g d r) (gap_white g (blanks d)) from c w col b i is allowed want refl trail low first second chars close deep shut u
-plain_by_trail (marker g r) from c w col b i is allowed want trail low first second chars close deep shut u = plain_lines (marker g r) (gap_white g (blanks 0)) from c w col b i is allowed want refl trail low first second chars close deep shut u
-plain_by_trail (end []) from c w col b i is allowed want trail low first second chars close deep shut u = plain_ends from c w col b i is allowed want first second chars close deep shut u
-plain_by_trail (end (l ∷ g)) from c w col b i is allowed want trail low first second chars close deep shut u = plain_lines (end (l ∷ g)) (line_white l (ending_white g)) from c w col b i is allowed want refl trail low first second chars close deep shut u
+    → Ahead from (c ∷ (w ++ spell_white (trail_white t) (rest_of t))) col (opened_indent b i) (opened b i is) want → After from t i is (λ o. want (Tok.scalar Style.plain (c ∷ w) ∷ o))
+plain_by_trail (next g d r) from c w col b i is want trail low first second chars close deep shut u = plain_lines (next g d r) (gap_white g (blanks d)) from c w col b i is want refl trail low first second chars close deep shut u
+plain_by_trail (marker g r) from c w col b i is want trail low first second chars close deep shut u = plain_lines (marker g r) (gap_white g (blanks 0)) from c w col b i is want refl trail low first second chars close deep shut u
+plain_by_trail (end []) from c w col b i is want trail low first second chars close deep shut u = plain_ends from c w col b i is want first second chars close deep shut u
+plain_by_trail (end (l ∷ g)) from c w col b i is want trail low first second chars close deep shut u = plain_lines (end (l ∷ g)) (line_white l (ending_white g)) from c w col b i is want refl trail low first second chars close deep shut u
 
-plain_before_comment : (more : ℕ) (text : List ℕ) (t : Trail) (from : State) (c : ℕ) (w : List ℕ) (col : ℕ) (b : Bool) (i : ℕ) (is : List Indent) (allowed : Bool) (want : List Tok → List Tok) → IsLineText text → IsTrail t
+plain_before_comment : (more : ℕ) (text : List ℕ) (t : Trail) (from : State) (c : ℕ) (w : List ℕ) (col : ℕ) (b : Bool) (i : ℕ) (is : List Indent) (want : List Tok → List Tok) → IsLineText text → IsTrail t
     → is_first c ≡ true → is_second c w ≡ true → are_plain w ≡ true → closes false w ≡ true → i ≤ col → IsClosed i is
-    → Before from (c ∷ (w ++ spell_white (comment_white (comment more text) (trail_white t)) (rest_of t))) col (opened_indent b i) (opened b i is) allowed want → After from t i is (λ o. want (Tok.scalar Style.plain (c ∷ w) ∷ o))
-plain_before_comment more text t from c w col b i is allowed want line trail first second chars close deep shut u =
+    → Ahead from (c ∷ (w ++ spell_white (comment_white (comment more text) (trail_white t)) (rest_of t))) col (opened_indent b i) (opened b i is) want → After from t i is (λ o. want (Tok.scalar Style.plain (c ∷ w) ∷ o))
+plain_before_comment more text t from c w col b i is want line trail first second chars close deep shut u =
     let p = u.parts in
     let column = u.column in
     let a = spell_white (comment_white (comment more text) (trail_white t)) (rest_of t) in
     let solid = first_space c first in
-    let z = plain_comment_at t c w more text b i is p chars (rw solid close) solid (omega (arith, deep, column)) shut u.free (line, trail_ends_line t, trail_are_white t trail) in
-    plain_done (comment more text) t from c w a col b i is allowed want u deep (plain_opens c w a first second at_space) (plain_by (stands (c ∷ (w ++ a)) (opened_indent b i) (opened b i is) p) c w a refl first second chars) z
+    let z = plain_comment_at t c w more text b i is p chars (rw solid close) solid (omega (arith, deep, column)) shut u.loose (line, trail_ends_line t, trail_are_white t trail) in
+    plain_done (comment more text) t from c w a col b i is want u deep (plain_opens c w a first second at_space) (plain_by (stands (c ∷ (w ++ a)) (opened_indent b i) (opened b i is) p) c w a refl first second chars) z
 
-plain_by_comment : (k : Comment) (t : Trail) (from : State) (c : ℕ) (w : List ℕ) (col : ℕ) (b : Bool) (i : ℕ) (is : List Indent) (allowed : Bool) (want : List Tok → List Tok) → IsComment k → IsTrail t → limit_of t ≤ i
+plain_by_comment : (k : Comment) (t : Trail) (from : State) (c : ℕ) (w : List ℕ) (col : ℕ) (b : Bool) (i : ℕ) (is : List Indent) (want : List Tok → List Tok) → IsComment k → IsTrail t → limit_of t ≤ i
     → is_first c ≡ true → is_second c w ≡ true → are_plain w ≡ true → closes false w ≡ true → i ≤ col → IsClosed i is
-    → Before from (c ∷ (w ++ spell_white (comment_white k (trail_white t)) (rest_of t))) col (opened_indent b i) (opened b i is) allowed want → After from t i is (λ o. want (Tok.scalar Style.plain (c ∷ w) ∷ o))
-plain_by_comment no_comment t from c w col b i is allowed want line trail low first second chars close deep shut u = plain_by_trail t from c w col b i is allowed want trail low first second chars close deep shut u
-plain_by_comment (comment more text) t from c w col b i is allowed want line trail low first second chars close deep shut u = plain_before_comment more text t from c w col b i is allowed want line trail first second chars close deep shut u
+    → Ahead from (c ∷ (w ++ spell_white (comment_white k (trail_white t)) (rest_of t))) col (opened_indent b i) (opened b i is) want → After from t i is (λ o. want (Tok.scalar Style.plain (c ∷ w) ∷ o))
+plain_by_comment no_comment t from c w col b i is want line trail low first second chars close deep shut u = plain_by_trail t from c w col b i is want trail low first second chars close deep shut u
+plain_by_comment (comment more text) t from c w col b i is want line trail low first second chars close deep shut u = plain_before_comment more text t from c w col b i is want line trail first second chars close deep shut u
 
 -- what stands behind a leaf
 pub behind_is : (k : Comment) (t : Trail) → spell_comment k (trail_text t) ≡ spell_white (comment_white k (trail_white t)) (rest_of t)
 behind_is k t = ap (spell_comment k) (trail_is t) ∙ comment_is k (trail_white t) (rest_of t)
 
 -- a plain scalar that is a value
-pub plain_after : (k : Comment) (t : Trail) (from : State) (w : List ℕ) (col : ℕ) (b : Bool) (i : ℕ) (is : List Indent) (allowed : Bool) (want : List Tok → List Tok) → IsComment k → IsTrail t → limit_of t ≤ i → IsPlainText w → i ≤ col → IsClosed i is
-    → Before from (w ++ spell_comment k (trail_text t)) col (opened_indent b i) (opened b i is) allowed want → After from t i is (λ o. want (Tok.scalar Style.plain w ∷ o))
-plain_after k t from w col b i is allowed want line trail low text deep shut u =
-    let v : Before from (text.head ∷ (text.tail ++ spell_white (comment_white k (trail_white t)) (rest_of t))) col (opened_indent b i) (opened b i is) allowed want = rw (text.whole, behind_is k t) at u in
-    rw (text.whole) (plain_by_comment k t from text.head text.tail col b i is allowed want line trail low text.first text.second text.chars text.close deep shut v)
+pub plain_after : (k : Comment) (t : Trail) (from : State) (w : List ℕ) (col : ℕ) (b : Bool) (i : ℕ) (is : List Indent) (want : List Tok → List Tok) → IsComment k → IsTrail t → limit_of t ≤ i → IsPlainText w → i ≤ col → IsClosed i is
+    → Ahead from (w ++ spell_comment k (trail_text t)) col (opened_indent b i) (opened b i is) want → After from t i is (λ o. want (Tok.scalar Style.plain w ∷ o))
+plain_after k t from w col b i is want line trail low text deep shut u =
+    let v : Ahead from (text.head ∷ (text.tail ++ spell_white (comment_white k (trail_white t)) (rest_of t))) col (opened_indent b i) (opened b i is) want = rw (text.whole, behind_is k t) at u in
+    rw (text.whole) (plain_by_comment k t from text.head text.tail col b i is want line trail low text.first text.second text.chars text.close deep shut v)
 
 -- ---- a text in quotes
 
@@ -303,23 +307,23 @@ quote_opens true a = record { solid = refl; no_directive = refl; no_start = refl
 quote_opens false a = record { solid = refl; no_directive = refl; no_start = refl; no_end = refl }
 
 -- a text in quotes that is a value
-pub quoted_after : (single : Bool) (body w : List ℕ) → IsQuoted single body w → (n : Comment) (t : Trail) (from : State) (col : ℕ) (b : Bool) (i : ℕ) (is : List Indent) (allowed : Bool) (want : List Tok → List Tok) → IsComment n → IsTrail t → limit_of t ≤ i → i ≤ col
-    → Before from (quote_of single ∷ (body ++ spell_comment n (trail_text t))) col (opened_indent b i) (opened b i is) allowed want → After from t i is (λ o. want (Tok.scalar (quoted_style single) w ∷ o))
-quoted_after single body w is_quoted n t from col b i is allowed want line trail low deep v =
+pub quoted_after : (single : Bool) (body w : List ℕ) → IsQuoted single body w → (n : Comment) (t : Trail) (from : State) (col : ℕ) (b : Bool) (i : ℕ) (is : List Indent) (want : List Tok → List Tok) → IsComment n → IsTrail t → limit_of t ≤ i → i ≤ col
+    → Ahead from (quote_of single ∷ (body ++ spell_comment n (trail_text t))) col (opened_indent b i) (opened b i is) want → After from t i is (λ o. want (Tok.scalar (quoted_style single) w ∷ o))
+quoted_after single body w is_quoted n t from col b i is want line trail low deep v =
     let white = spell_white (comment_white n (trail_white t)) (rest_of t) in
     let x = quote_of single ∷ (body ++ white) in
     let tok = Tok.scalar (quoted_style single) w in
-    let u : Before from x col (opened_indent b i) (opened b i is) allowed want = rw (behind_is n t) at v in
+    let u : Ahead from x col (opened_indent b i) (opened b i is) want = rw (behind_is n t) at v in
     let p = u.parts in
     let column = u.column in
     let inside : i ≤ p.place.col = omega (arith, deep, column) in
-    let k = saved x b i is p inside u.free in
+    let k = saved_behind x b i is p inside u.loose in
     let at = comment_place n (along (quote_of single ∷ body) p.place) in
     let q = quoted_parts single p w (beyond (trail_white t) at) k.key (allowed_beyond (trail_white t) false) (leading_beyond (trail_white t) false) in
-    let e = value_by from (quote_of single) (body ++ white) col b i is allowed want u deep (quote_opens single (body ++ white)) ∙ by_quote single (stands x (opened_indent b i) (opened b i is) p) ∙ quoted_at single body w is_quoted n t b i is p k.key line trail inside k.now in
+    let e = value_ahead from (quote_of single) (body ++ white) col b i is want u deep (quote_opens single (body ++ white)) ∙ by_quote single (stands x (opened_indent b i) (opened b i is) p) ∙ quoted_at single body w is_quoted n t b i is p k.key line trail inside k.now in
     let after : State = stands (rest_of t) (opened_indent b i) (opened b i is) q in
     let aged : State = stands (rest_of t) (opened_indent b i) (opened b i is) (record q { key = still q.place k.key }) in
-    let run = fetched from x col (opened_indent b i) (opened b i is) allowed want after aged u e (Levels.aged (rest_of t) (opened_indent b i) (opened b i is) q k.loose) in
+    let run = fetched_ahead from x col (opened_indent b i) (opened b i is) want after aged u e (Levels.aged (rest_of t) (opened_indent b i) (opened b i is) q k.loose) in
     let lies : Lies (still q.place k.key) at.line = still_lies q.place k.key at.line (rw (comment_line n (along (quote_of single ∷ body) p.place), along_line (quote_of single ∷ body) p.place) k.lies) in
     left_open t from b i is (λ o. want (tok ∷ o)) low
     (leaf_after t from [] (opened_indent b i) (opened b i is) (record q { key = still q.place k.key }) at _ run (rest_solid t trail) refl (trail_allows t)

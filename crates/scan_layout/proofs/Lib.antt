@@ -9,14 +9,21 @@ mod Quotes
 pub mod Documents
 mod Marks
 mod Leaves
-mod Empties
+mod JsonSpaces
+mod JsonLines
 mod Keys
 mod BlockLines
 mod LiteralTexts
 mod Literals
+mod FoldedTexts
+mod FoldedBlocks
+mod Folded
+mod Anchors
 mod Values
 pub mod Whole
 pub mod OneLayout
 pub mod InTurn
 mod Rows
+mod JsonRows
 mod RowsRefused
+mod AnchorRows

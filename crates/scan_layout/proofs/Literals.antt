@@ -1,4 +1,4 @@
--- What a fetch does at a literal block.
+-- What a fetch does at a block scalar whose scan is known, and at a literal block.
 use Rattle.std.proofs.Common.{◌≡◌, ℕ, zero, suc, ◌+◌, ◌<◌, ◌≤◌, List, [], ◌∷◌, ◌++◌, Bool, true, false, ◌&&◌, not, ◌==◌, nat_lt, nat_le, max, if◌then◌else◌, Option, Some, None, Result, Ok, refl, ap, ◌∙◌, arith, slice_index, inl, inr}
 use Rattle.std.proofs.lemmas.Bool.{le-ltb, lt-ltb, le-leb, ne_eqb, and_parts}
 use Rattle.std.proofs.lemmas.Bool.Decides.{nat_tests}
@@ -12,7 +12,7 @@ use Rattle.tree_defs.specs.Grammar.{is_empty}
 use Rattle.tree_defs.specs.Lines.{lines_of}
 use Rattle.tree_defs.specs.Literal.{is_literal, is_root_literal, is_literal_character, is_line_feed, first_full_line_is_indented, begins_as_marker, starts_with_tab}
 use Rattle.layout_defs.specs.Layout.{spell_literal, AreLinesOf}
-use Rattle.layout_defs.specs.Gap.{GapLine, empty_line, comment_line, spell_ending, IsGap, AreEmptyLines}
+use Rattle.layout_defs.specs.Gap.{GapLine, empty_line, comment_line, IsGap, AreEmptyLines}
 use Rattle.layout_defs.specs.BlockLines.{Line, content, contents, spell_line, spell_lines}
 use Rattle.scalar_model.specs.Machine.{Read, past, past_break}
 use Rattle.scalar_model.specs.Block.{Block, Lines, Column, block, body, behind_header, tail, is_open, lines_from}
@@ -21,13 +21,13 @@ use Rattle.scan_model.specs.declared.level.Indent.{Indent}
 use Rattle.scan_model.specs.State.{Key, State, token}
 use Rattle.scan_model.specs.Class.{class_of}
 use Rattle.scan_model.specs.Keys.{still, save_simple_key}
-use Rattle.scan_model.specs.Document.{fetch_block_scalar}
+use Rattle.scan_model.specs.Document.{block_style, fetch_block_scalar}
 use Rattle.scan_model.specs.Fetch.{token_by, comes_marker}
-use Rattle.scan_layout.proofs.Shapes.{Parts, stands, is_solid, Opens, opened, opened_indent, IsClosed, Trail, next, marker, end, marker_text, trail_text, rest_of, limit_of, IsTrail, Before, After}
+use Rattle.scan_layout.proofs.Shapes.{Parts, stands, is_solid, Opens, opened, opened_indent, IsClosed, Trail, next, marker, end, marker_text, trail_text, rest_of, limit_of, IsTrail, After}
 use Rattle.scan_layout.proofs.Whites.{White, line_feed, spell_white, beyond, AreWhite, stays_allowed, allowed_beyond, blanks, gap_white, line_white, ending_white}
 use Rattle.scan_layout.proofs.Levels
-use Rattle.scan_layout.proofs.Joins.{fetched, trail_white, trail_is, trail_are_white, Lies, Allows, leaf_after, saved}
-use Rattle.scan_layout.proofs.Leaves.{non_block, still_lies, value_by, marker_stands}
+use Rattle.scan_layout.proofs.Joins.{trail_white, trail_is, trail_are_white, Lies, Allows, leaf_after, saved_behind, Ahead, fetched_ahead}
+use Rattle.scan_layout.proofs.Leaves.{non_block, still_lies, value_ahead, marker_stands}
 use Rattle.scan_layout.proofs.BlockLines.{Good, AllGood, EndsFull, behind, none, feed, FirstSolid, Found, first_line, full_lines, line_feeds, before, Low, stops, chomping_of, header_text, header_place, header_read}
 use Rattle.scan_layout.proofs.LiteralTexts.{are_inner, inner_lines, ends_full, last_full, ends_lines, solid_lines, AreFree, good_lines, deep_tab, margin_tab, make_text}
 
@@ -66,15 +66,15 @@ block_by clips i column a p v at breaks r place lines text some tab deep col fou
     rw (header_read clips p a (past p) tab, content_is i column a (past_break (header_place clips (past p))) v at breaks deep found, some, low, scanned, whole) refl
 
 -- The scan is behind the block, or within the white space behind it.
-record BlockRead (t : Result (Read Block) Fault) (text : List ℕ) (g : List White) (r : List ℕ) (p : Place) : Type 0 where
-  place : Place
-  white : List White
-  start : Place
-  end_place : Place
-  same : beyond white place ≡ beyond g end_place
-  are : AreWhite white r
-  up : p.line ≤ end_place.line
-  now : t ≡ Ok (record { rest = spell_white white r; place = place; value = record { place = start; text = text } })
+pub record BlockRead (t : Result (Read Block) Fault) (text : List ℕ) (g : List White) (r : List ℕ) (p : Place) : Type 0 where
+  pub place : Place
+  pub white : List White
+  pub start : Place
+  pub end_place : Place
+  pub same : beyond white place ≡ beyond g end_place
+  pub are : AreWhite white r
+  pub up : p.line ≤ end_place.line
+  pub now : t ≡ Ok (record { rest = spell_white white r; place = place; value = record { place = start; text = text } })
 
 header_up : (clips : Bool) (p : Place) → p.line ≤ (header_place clips (past p)).line
 header_up true p = omega arith
@@ -151,49 +151,58 @@ block_lines clips i column l ls text g r p z are low =
 
 -- ---- the fetch
 
-by_bar : (a : List ℕ) (i : ℕ) (is : List Indent) (p : Parts) → token_by (class_of 124) (stands (124 ∷ a) i is p) ≡ fetch_block_scalar true (stands (124 ∷ a) i is p)
+-- the mark of a literal or folded block
+abbrev pub mark_of : (literal : Bool) → ℕ
+mark_of true = 124
+mark_of false = 62
+
+by_mark : (literal : Bool) (a : List ℕ) (i : ℕ) (is : List Indent) (p : Parts) → token_by (class_of (mark_of literal)) (stands (mark_of literal ∷ a) i is p) ≡ fetch_block_scalar literal (stands (mark_of literal ∷ a) i is p)
 unfolding class_of
-by_bar a i is p = refl
+by_mark true a i is p = refl
+by_mark false a i is p = refl
 
-bar_opens : (a : List ℕ) → Opens 124 a
+mark_opens : (literal : Bool) (a : List ℕ) → Opens (mark_of literal) a
 unfolding comes_marker
-bar_opens a = record { solid = refl; no_directive = refl; no_start = refl; no_end = refl }
+mark_opens true a = record { solid = refl; no_directive = refl; no_start = refl; no_end = refl }
+mark_opens false a = record { solid = refl; no_directive = refl; no_start = refl; no_end = refl }
 
--- behind a literal block
-abbrev block_parts : Parts → (text : List ℕ) → Place → Place → Option Key → Parts
-block_parts p text start place key = record { place = place; tokens = p.tokens ++ token start (Tok.scalar Style.literal text) ∷ []; key = key; allowed = true; leading = true; adjacent = p.adjacent }
+-- behind a block
+abbrev pub block_parts : Parts → (literal : Bool) (text : List ℕ) → Place → Place → Option Key → Parts
+block_parts p literal text start place key = record { place = place; tokens = p.tokens ++ token start (Tok.scalar (block_style literal) text) ∷ []; key = key; allowed = true; leading = true; adjacent = p.adjacent }
 
-block_at : (x : List ℕ) (b : Bool) (i : ℕ) (is : List Indent) (p : Parts) (k : Option Key) (text r : List ℕ) (start place : Place) → IsClosed i is
+block_at : (literal : Bool) (x : List ℕ) (b : Bool) (i : ℕ) (is : List Indent) (p : Parts) (k : Option Key) (text r : List ℕ) (start place : Place) → IsClosed i is
     → save_simple_key ((stands x (opened_indent b i) (opened b i is) p).held) ≡ (stands x (opened_indent b i) (opened b i is) (record p { key = k })).held
-    → block true i x p.place ≡ Ok (record { rest = r; place = place; value = record { place = start; text = text } })
-    → fetch_block_scalar true (stands x (opened_indent b i) (opened b i is) p) ≡ Ok (stands r i is (block_parts p text start place k))
+    → block literal i x p.place ≡ Ok (record { rest = r; place = place; value = record { place = start; text = text } })
+    → fetch_block_scalar literal (stands x (opened_indent b i) (opened b i is) p) ≡ Ok (stands r i is (block_parts p literal text start place k))
 unfolding fetch_block_scalar
-block_at x b i is p k text r start place shut save read = rw (save, non_block x b i is (record p { key = k; allowed = true }) shut, read) refl
+block_at literal x b i is p k text r start place shut save read = rw (save, non_block x b i is (record p { key = k; allowed = true }) shut, read) refl
 
 lies_later : (k : Option Key) (m n : ℕ) → m ≤ n → Lies k m → Lies k n
 lies_later None m n h e = tt
 lies_later (Some k) m n h e = omega (arith, h, e)
 
-literal_allows : (t : Trail) (g : List White) → Allows t (allowed_beyond g true)
-literal_allows (next h d r) g = stays_allowed g
-literal_allows (marker h r) g = tt
-literal_allows (end h) g = tt
+block_allows : (t : Trail) (g : List White) → Allows t (allowed_beyond g true)
+block_allows (next h d r) g = stays_allowed g
+block_allows (marker h r) g = tt
+block_allows (end h) g = tt
 
-block_done : (t : Trail) (from : State) (a : List ℕ) (text : List ℕ) (col : ℕ) (b : Bool) (i : ℕ) (is : List Indent) (allowed : Bool) (want : List Tok → List Tok) → i ≤ col → IsClosed i is
-    → (u : Before from (124 ∷ a) col (opened_indent b i) (opened b i is) allowed want) → BlockRead (block true i (124 ∷ a) u.parts.place) text (trail_white t) (rest_of t) u.parts.place
-    → After from t i is (λ o. want (Tok.scalar Style.literal text ∷ o))
-block_done t from a text col b i is allowed want deep shut u z =
+pub block_done : (literal : Bool) (t : Trail) (from : State) (a : List ℕ) (text : List ℕ) (col : ℕ) (b : Bool) (i : ℕ) (is : List Indent) (want : List Tok → List Tok) → i ≤ col → IsClosed i is
+    → (u : Ahead from (mark_of literal ∷ a) col (opened_indent b i) (opened b i is) want) → BlockRead (block literal i (mark_of literal ∷ a) u.parts.place) text (trail_white t) (rest_of t) u.parts.place
+    → After from t i is (λ o. want (Tok.scalar (block_style literal) text ∷ o))
+block_done literal t from a text col b i is want deep shut u z =
     let p = u.parts in
     let column = u.column in
     let inside : i ≤ p.place.col = omega (arith, deep, column) in
+    let y = mark_of literal ∷ a in
     let x = spell_white z.white (rest_of t) in
-    let k = saved (124 ∷ a) b i is p inside u.free in
-    let q = block_parts p text z.start z.place k.key in
-    let takes = value_by from 124 a col b i is allowed want u deep (bar_opens a) ∙ by_bar a (opened_indent b i) (opened b i is) p ∙ block_at (124 ∷ a) b i is p k.key text x z.start z.place shut k.now z.now in
-    let run = fetched from (124 ∷ a) col (opened_indent b i) (opened b i is) allowed want _ _ u takes (Levels.aged x i is q k.loose) in
+    let k = saved_behind y b i is p inside u.loose in
+    let q = block_parts p literal text z.start z.place k.key in
+    let tok = Tok.scalar (block_style literal) text in
+    let takes = value_ahead from (mark_of literal) a col b i is want u deep (mark_opens literal a) ∙ by_mark literal a (opened_indent b i) (opened b i is) p ∙ block_at literal y b i is p k.key text x z.start z.place shut k.now z.now in
+    let run = fetched_ahead from y col (opened_indent b i) (opened b i is) want _ _ u takes (Levels.aged x i is q k.loose) in
     let lies : Lies (still z.place k.key) z.end_place.line = still_lies z.place k.key z.end_place.line (lies_later k.key p.place.line z.end_place.line z.up k.lies) in
-    leaf_after t from z.white i is (record q { key = still z.place k.key }) z.end_place _ run z.are z.same (literal_allows t z.white)
-    (Levels.still_loose z.place k.key k.loose) lies (Levels.last_pushed p.tokens (token z.start (Tok.scalar Style.literal text))) (Levels.push_tells p.tokens z.start (Tok.scalar Style.literal text) want u.told)
+    leaf_after t from z.white i is (record q { key = still z.place k.key }) z.end_place _ run z.are z.same (block_allows t z.white)
+    (Levels.still_loose z.place k.key k.loose) lies (Levels.last_pushed p.tokens (token z.start tok)) (Levels.push_tells p.tokens z.start tok want u.told)
 
 -- the trail keeps left of the lines' column
 abbrev pub LowTrail : ℕ → Trail → Type 0
@@ -202,17 +211,17 @@ LowTrail column (marker g r) = Low column (gap_white g (blanks 0)) (marker_text 
 LowTrail column (end []) = Unit {0}
 LowTrail column (end (l ∷ g)) = Low column (line_white l (ending_white g)) [] 0
 
-block_after : (t : Trail) (from : State) (clips : Bool) (column : ℕ) (l : Line) (ls : List Line) (text : List ℕ) (col : ℕ) (b : Bool) (i : ℕ) (is : List Indent) (allowed : Bool) (want : List Tok → List Tok) → IsTrail t → i ≤ col → IsClosed i is
+block_after : (t : Trail) (from : State) (clips : Bool) (column : ℕ) (l : Line) (ls : List Line) (text : List ℕ) (col : ℕ) (b : Bool) (i : ℕ) (is : List Indent) (want : List Tok → List Tok) → IsTrail t → i ≤ col → IsClosed i is
     → IsBlock clips i column l ls text → LowTrail column t
-    → Before from (block_text clips column l ls (spell_white (trail_white t) (rest_of t))) col (opened_indent b i) (opened b i is) allowed want → After from t i is (λ o. want (Tok.scalar Style.literal text ∷ o))
-block_after (next g d r) from clips column l ls text col b i is allowed want trail deep shut z low u =
-    block_done (next g d r) from _ text col b i is allowed want deep shut u (block_lines clips i column l ls text (gap_white g (blanks d)) r u.parts.place z (trail_are_white (next g d r) trail) low)
-block_after (marker g r) from clips column l ls text col b i is allowed want trail deep shut z low u =
-    block_done (marker g r) from _ text col b i is allowed want deep shut u (block_lines clips i column l ls text (gap_white g (blanks 0)) (marker_text r) u.parts.place z (trail_are_white (marker g r) trail) low)
-block_after (end []) from clips column l ls text col b i is allowed want trail deep shut z low u =
-    block_done (end []) from _ text col b i is allowed want deep shut u (block_ends clips i column l ls text u.parts.place z)
-block_after (end (h ∷ g)) from clips column l ls text col b i is allowed want trail deep shut z low u =
-    block_done (end (h ∷ g)) from _ text col b i is allowed want deep shut u (block_lines clips i column l ls text (line_white h (ending_white g)) [] u.parts.place z (trail_are_white (end (h ∷ g)) trail) low)
+    → Ahead from (block_text clips column l ls (spell_white (trail_white t) (rest_of t))) col (opened_indent b i) (opened b i is) want → After from t i is (λ o. want (Tok.scalar Style.literal text ∷ o))
+block_after (next g d r) from clips column l ls text col b i is want trail deep shut z low u =
+    block_done true (next g d r) from _ text col b i is want deep shut u (block_lines clips i column l ls text (gap_white g (blanks d)) r u.parts.place z (trail_are_white (next g d r) trail) low)
+block_after (marker g r) from clips column l ls text col b i is want trail deep shut z low u =
+    block_done true (marker g r) from _ text col b i is want deep shut u (block_lines clips i column l ls text (gap_white g (blanks 0)) (marker_text r) u.parts.place z (trail_are_white (marker g r) trail) low)
+block_after (end []) from clips column l ls text col b i is want trail deep shut z low u =
+    block_done true (end []) from _ text col b i is want deep shut u (block_ends clips i column l ls text u.parts.place z)
+block_after (end (h ∷ g)) from clips column l ls text col b i is want trail deep shut z low u =
+    block_done true (end (h ∷ g)) from _ text col b i is want deep shut u (block_lines clips i column l ls text (line_white h (ending_white g)) [] u.parts.place z (trail_are_white (end (h ∷ g)) trail) low)
 
 -- ---- trails
 
@@ -298,22 +307,22 @@ block_of i column text l ls deep z are free tab =
     }
 
 -- a literal block that is a value
-pub literal_after : (t : Trail) (from : State) (text : List ℕ) (column : ℕ) (ls : List Line) (col : ℕ) (b : Bool) (i : ℕ) (is : List Indent) (allowed : Bool) (want : List Tok → List Tok) → IsTrail t → limit_of t ≤ i → i ≤ col → IsClosed i is
+pub literal_after : (t : Trail) (from : State) (text : List ℕ) (column : ℕ) (ls : List Line) (col : ℕ) (b : Bool) (i : ℕ) (is : List Indent) (want : List Tok → List Tok) → IsTrail t → limit_of t ≤ i → i ≤ col → IsClosed i is
     → i ≤ column → 0 < column → is_literal text ≡ true → AreLinesOf text column ls
-    → Before from (spell_literal column text ls (trail_text t)) col (opened_indent b i) (opened b i is) allowed want → After from t i is (λ o. want (Tok.scalar Style.literal text ∷ o))
-literal_after t from text column [] col b i is allowed want trail low deep shut high some one are u =
+    → Ahead from (spell_literal column text ls (trail_text t)) col (opened_indent b i) (opened b i is) want → After from t i is (λ o. want (Tok.scalar Style.literal text ∷ o))
+literal_after t from text column [] col b i is want trail low deep shut high some one are u =
     let z = literal_text text one in
     let e : [] ≡ lines_of text = are.0 in
     let last : ends_full [] ≡ true = ap ends_full e ∙ z.last in
     cc
-literal_after t from text column (l ∷ ls) col b i is allowed want trail low deep shut high some one are u =
+literal_after t from text column (l ∷ ls) col b i is want trail low deep shut high some one are u =
     let z = literal_text text one in
     let inner : are_inner (contents (l ∷ ls)) ≡ true = ap are_inner are.0 ∙ inner_lines text z.chars in
     let last : ends_full (contents (l ∷ ls)) ≡ true = ap ends_full are.0 ∙ z.last in
     let good = good_lines column (l ∷ ls) (inl some) inner are.1 in
     let tab : (r : List ℕ) → (slice_index (spell_line column l (spell_lines column ls r)) 0 == 9) ≡ false = λ r. deep_tab column l ls r some good.0 (ends_lines l ls last) in
-    let v : Before from (block_text (clips_of text) column l ls (spell_white (trail_white t) (rest_of t))) col (opened_indent b i) (opened b i is) allowed want = rw (spelled column text l ls (trail_text t), trail_is t) at u in
-    block_after t from (clips_of text) column l ls text col b i is allowed want trail deep shut (block_of i column text l ls high z are (inl some) tab) (trail_low column t trail (omega (arith, low, high)) some) v
+    let v : Ahead from (block_text (clips_of text) column l ls (spell_white (trail_white t) (rest_of t))) col (opened_indent b i) (opened b i is) want = rw (spelled column text l ls (trail_text t), trail_is t) at u in
+    block_after t from (clips_of text) column l ls text col b i is want trail deep shut (block_of i column text l ls high z are (inl some) tab) (trail_low column t trail (omega (arith, low, high)) some) v
 
 -- ---- a literal block at the root
 
@@ -351,7 +360,7 @@ root_text text h =
     record { literal = r.0; tab = not_true _ r.1; marker = not_true _ q.1 }
 
 pub root_literal_after : (t : Trail) (from : State) (text : List ℕ) (ls : List Line) (want : List Tok → List Tok) → IsTrail t → LowTrail 0 t → is_root_literal text ≡ true → AreLinesOf text 0 ls
-    → Before from (spell_literal 0 text ls (trail_text t)) 0 0 [] true want → After from t 0 [] (λ o. want (Tok.scalar Style.literal text ∷ o))
+    → Ahead from (spell_literal 0 text ls (trail_text t)) 0 0 [] want → After from t 0 [] (λ o. want (Tok.scalar Style.literal text ∷ o))
 root_literal_after t from text [] want trail low one are u =
     let x = root_text text one in
     let z = literal_text text x.literal in
@@ -367,5 +376,5 @@ root_literal_after t from text (l ∷ ls) want trail low one are u =
     let free : AreFree 0 (contents (l ∷ ls)) = inr (refl, marker) in
     let good = good_lines 0 (l ∷ ls) free inner are.1 in
     let tab : (r : List ℕ) → (slice_index (spell_line 0 l (spell_lines 0 ls r)) 0 == 9) ≡ false = λ r. margin_tab l ls r (last_feed (clips_of text)) text good.0 (ends_lines l ls last) (make_text (clips_of text) l ls text are.0 z.some refl) x.tab in
-    let v : Before from (block_text (clips_of text) 0 l ls (spell_white (trail_white t) (rest_of t))) 0 0 [] true want = rw (spelled 0 text l ls (trail_text t), trail_is t) at u in
-    block_after t from (clips_of text) 0 l ls text 0 false 0 [] true want trail (omega arith) refl (block_of 0 0 text l ls (omega arith) z are free tab) low v
+    let v : Ahead from (block_text (clips_of text) 0 l ls (spell_white (trail_white t) (rest_of t))) 0 0 [] want = rw (spelled 0 text l ls (trail_text t), trail_is t) at u in
+    block_after t from (clips_of text) 0 l ls text 0 false 0 [] want trail (omega arith) refl (block_of 0 0 text l ls (omega arith) z are free tab) low v

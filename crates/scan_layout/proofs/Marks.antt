@@ -1,5 +1,5 @@
 -- What a fetch does at `-`, at `?`, and at the `:` of a key behind `?`.
-use Rattle.std.proofs.Common.{◌≡◌, ℕ, zero, suc, ◌+◌, ◌<◌, ◌≤◌, List, [], ◌∷◌, ◌++◌, Bool, true, false, ◌==◌, Option, None, Result, Ok, refl, ap, ◌∙◌, arith}
+use Rattle.std.proofs.Common.{◌≡◌, ℕ, zero, suc, ◌+◌, ◌<◌, ◌≤◌, List, [], ◌∷◌, ◌++◌, Bool, true, false, ◌==◌, Option, Some, None, Result, Ok, refl, ap, ◌∙◌, arith}
 use Rattle.std.specs.List.{list_all}
 use Rattle.std.proofs.lemmas.Bool.{and_parts, le-ltb, lt-ltb, le-leb}
 use Rattle.yaml_chars.specs.Place.{Place}
@@ -15,15 +15,15 @@ use Rattle.scalar_model.specs.declared.context.Whitespace.{Whitespace}
 use Rattle.scalar_model.specs.Machine.{past, past_break}
 use Rattle.scalar_model.specs.Space as scalar_space
 use Rattle.scan_model.specs.declared.level.Indent.{Indent}
-use Rattle.scan_model.specs.State.{State, ◌>>=◌, peek, push, token, on_held, try_held, lexed}
+use Rattle.scan_model.specs.State.{Held, State, ◌>>=◌, peek, push, token, on_held, try_held, lexed}
 use Rattle.scan_model.specs.Class.{class_of}
 use Rattle.scan_model.specs.Keys.{remove_simple_key}
 use Rattle.scan_model.specs.Indents.{level, placed, roll_indent, drop_open_level, deepen, roll_one_col_indent, in_block}
 use Rattle.scan_model.specs.Space.{white, skip_yaml_whitespace, skip_spaces}
-use Rattle.scan_model.specs.Block.{last_property, check_block_entry, check_dash, roll_entry, fetch_block_entry, begin_key, check_key_space, fetch_key, check_value_space, begin_keyless_mapping, begin_keyless_value, fetch_value}
+use Rattle.scan_model.specs.Block.{last_property, at_margin, check_block_entry, check_dash, roll_entry, fetch_block_entry, begin_key, check_key_space, fetch_key, check_value_space, begin_keyless_mapping, begin_keyless_value, fetch_value}
 use Rattle.scan_model.specs.Flow.{allow_key}
 use Rattle.scan_model.specs.Fetch.{token_by, fetch_here, is_value, comes_marker}
-use Rattle.scan_layout.proofs.Shapes.{Parts, stands, is_content, is_solid, Opens, opened, opened_indent, IsClosed, Tells, Before}
+use Rattle.scan_layout.proofs.Shapes.{Parts, stands, is_content, is_solid, Opens, opened, opened_indent, IsClosed, Tells, HasNoProperty, Before}
 use Rattle.scan_layout.proofs.Whites.{White, space, line_feed, remark, spell_white, along, beyond, allowed_beyond, EndsLine, AreWhite, content, in_line, blanks, blanks_col, blanks_white, gap_white, gap_are_white, blanks_allow, gap_allows}
 use Rattle.scan_layout.proofs.Levels
 use Rattle.scan_model.specs.Run.{Reaches}
@@ -147,9 +147,14 @@ solid_spaces tabs y i is p h = rw (solid_stops tabs y p.place (record { found_ta
 
 -- ---- `-`
 
-may_stand : (x : List ℕ) (i : ℕ) (is : List Indent) (p : Parts) → p.allowed ≡ true → last_property p.tokens ≡ None → try_held check_block_entry (stands x i is p) ≡ Ok (stands x i is p)
+at_margin_goes : (b : Bool) (q : Option Place) (p : Place) (s : Held) → (p.col == 0) ≡ b → (b ≡ true → q ≡ None) → at_margin q p s ≡ Ok s
+at_margin_goes b None p s e none = refl
+at_margin_goes true (Some q) p s e none = let no : Some q ≡ None = none refl in cc
+at_margin_goes false (Some q) p s e none = rw e refl
+
+may_stand : (x : List ℕ) (i : ℕ) (is : List Indent) (p : Parts) → p.allowed ≡ true → HasNoProperty p → try_held check_block_entry (stands x i is p) ≡ Ok (stands x i is p)
 unfolding check_block_entry
-may_stand x i is p allowed none = rw (allowed, none) refl
+may_stand x i is p allowed none = rw (at_margin_goes (p.place.col == 0) (last_property p.tokens) p.place (stands x i is p).held refl none, allowed) refl
 
 -- behind the dash, the rest of the fetch
 abbrev behind_dash : State → Result State Fault
@@ -208,7 +213,7 @@ unfolding scalar_space.space check_dash skip_spaces roll_entry is_break roll_one
 dash_below no_comment w y j i is p line free = rw free refl
 dash_below (comment more text) w y j i is p line free = rw (comment_passes more text (10 ∷ spell_white w y) (line_feed ∷ w) y p.place line refl at_feed, free) refl
 
-dash_at : (a : List ℕ) (s : Stand) (c i : ℕ) (is : List Indent) (p : Parts) → p.place.col ≡ c → i ≤ c → IsClosed i is → p.allowed ≡ true → last_property p.tokens ≡ None
+dash_at : (a : List ℕ) (s : Stand) (c i : ℕ) (is : List Indent) (p : Parts) → p.place.col ≡ c → i ≤ c → IsClosed i is → p.allowed ≡ true → HasNoProperty p
     → fetch_block_entry (stands (45 ∷ a) (indent_at s c i) (indents_at s i is) p)
     ≡ behind_dash (stands a (c + 1) (level i true ∷ is) (record p { place = past p.place; tokens = started s None (token p.place Tok.block_sequence_start) p.tokens; leading = false }))
 unfolding fetch_block_entry

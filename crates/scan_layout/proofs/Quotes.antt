@@ -7,7 +7,7 @@ use Rattle.std.proofs.lemmas.Bool.Decides.{nat_tests}
 use Rattle.yaml_chars.specs.Place.{Place}
 use Rattle.yaml_chars.specs.Class.{is_break, is_blank, is_hex}
 use Rattle.yaml_tokens.specs.declared.problem.Fault.{Fault}
-use Rattle.tree_defs.specs.Escapes.{hexadecimal_digit, escaped_code, written_character, written_escapes, double_quoted}
+use Rattle.tree_defs.specs.Escapes.{hexadecimal_digit, escaped_code, written_character, written_escapes}
 use Rattle.layout_defs.specs.Gap.{IsLineText, is_line_character}
 use Rattle.layout_defs.specs.WideLayout.{doubled}
 use Rattle.scalar_model.specs.Machine.{Read, past, at_marker}

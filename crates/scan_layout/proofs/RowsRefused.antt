@@ -2,26 +2,10 @@
 use Rattle.std.specs.Prelude.{Err, ◌≡◌, refl, codes}
 use Rattle.yaml_tokens.specs.declared.problem.Fault.TheVariants.{At}
 use Rattle.yaml_tokens.specs.declared.problem.Problem.TheVariants as problem
-use Rattle.yaml_chars.specs.Class.{is_break, is_blank, is_flow, is_alpha, is_alphanumeric, is_anchor, is_digit, is_hex, is_uri, is_uri_mark, is_tag}
-use Rattle.scalar_model.specs.Machine.{is_marker, at_marker}
-use Rattle.scalar_model.specs.Space.{space}
-use Rattle.scalar_model.specs.Plain.{plain, can_be_plain, goes_on, is_shallow, at_dash, at_plain, starts}
-use Rattle.scalar_model.specs.Quoted.{quoted, escape_of, is_scalar, refused}
-use Rattle.scalar_model.specs.Anchor.{anchor_name}
-use Rattle.scalar_model.specs.Block.{chomping, increment, indicators, header_break, header_end, header, content, between, begins, tail, empty_text, block}
-use Rattle.scalar_model.specs.Directive.{kind, name, number, version_value, tag_value, directive_break, line_end, directive}
-use Rattle.scalar_model.specs.Tag.{verbatim, named, shorthand, ends_tag, tag, handle, prefix}
-use Rattle.scan_model.specs.Class.{class_of}
-use Rattle.scan_model.specs.Keys.{is_far, drop_stale, stale, must_be_key, save_simple_key, remove_simple_key}
-use Rattle.scan_model.specs.Indents.{drop_open_level, deepen, roll_indent, in_block, roll_one_col_indent, unrolled, unroll_indent, without_open, unroll_non_block_indents}
-use Rattle.scan_model.specs.Space.{is_before_indent, skip, skip_to_next_token, skip_spaces, white, skip_yaml_whitespace}
-use Rattle.scan_model.specs.Flow.{increase_flow_level, begin_flow, pass_indicator, end_flow, end_entry, fetch_flow_collection_start, end_flow_pair, decrease_flow_level, adjacent_in_flow, fetch_flow_collection_end, fetch_flow_entry}
-use Rattle.scan_model.specs.Block.{check_block_entry, check_dash, roll_entry, fetch_block_entry, begin_key, check_key_space, fetch_key, check_behind_tab, check_value_space, begin_pair, insert_key, begin_keyless_mapping, begin_keyless_value, fetch_value}
-use Rattle.scan_model.specs.Document.{fetch_stream_start, fetch_stream_end, begin_line, fetch_directive, fetch_document_marker, check_document_end, fetch_document_end, fetch_anchor, fetch_tag, fetch_block_scalar, may_follow_quoted, check_behind_quoted, fetch_flow_scalar, fetch_plain_scalar}
-use Rattle.scan_model.specs.Fetch.{is_value, fetch_token, comes_marker, fetch_indented, fetch_first_column, fetch_content, fetch_here, fetch_next, fetch}
 use Rattle.scan_model.specs.Run.{scan}
+use Rattle.scan_model.proofs.OnLiterals.{scan_on_literals}
 
 -- a block behind the `:` of a key, on its line
 compact_value : scan 9 (codes "---\na: - 1") ≡ Err (At problem.BlockEntryNotAllowed (record { index = 7; line = 2; col = 3 }))
-unfolding is_break is_blank is_flow is_alpha is_alphanumeric is_anchor is_digit is_hex is_uri is_uri_mark is_tag is_marker at_marker space plain can_be_plain goes_on is_shallow at_dash at_plain starts quoted escape_of is_scalar refused anchor_name chomping increment indicators header_break header_end header content between begins tail empty_text block kind name number version_value tag_value directive_break line_end directive verbatim named shorthand ends_tag tag handle prefix class_of is_far drop_stale stale must_be_key save_simple_key remove_simple_key drop_open_level deepen roll_indent in_block roll_one_col_indent unrolled unroll_indent without_open unroll_non_block_indents is_before_indent skip skip_to_next_token skip_spaces white skip_yaml_whitespace increase_flow_level begin_flow pass_indicator end_flow end_entry fetch_flow_collection_start end_flow_pair decrease_flow_level adjacent_in_flow fetch_flow_collection_end fetch_flow_entry check_block_entry check_dash roll_entry fetch_block_entry begin_key check_key_space fetch_key check_behind_tab check_value_space begin_pair insert_key begin_keyless_mapping begin_keyless_value fetch_value fetch_stream_start fetch_stream_end begin_line fetch_directive fetch_document_marker check_document_end fetch_document_end fetch_anchor fetch_tag fetch_block_scalar may_follow_quoted check_behind_quoted fetch_flow_scalar fetch_plain_scalar is_value fetch_token comes_marker fetch_indented fetch_first_column fetch_content fetch_here fetch_next fetch
+unfolding scan_on_literals
 compact_value = refl

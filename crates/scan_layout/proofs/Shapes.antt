@@ -6,12 +6,12 @@ use Rattle.layout_defs.specs.Gap.{GapLine, IsGap, next_line, spell_gap, spell_en
 use Rattle.scan_model.specs.declared.level.Indent.{Indent}
 use Rattle.scan_model.specs.State.{Key, State, ◌>>=◌, try_held}
 use Rattle.scan_model.specs.Keys.{stale, still, is_required}
-use Rattle.scan_model.specs.Indents.{level}
 use Rattle.scan_model.specs.Space.{skip_to_next_token}
 use Rattle.scan_model.specs.Block.{last_property}
 use Rattle.scan_model.specs.Fetch.{fetch_here, comes_marker, fetch}
 use Rattle.scan_model.specs.Run.{Reaches}
 use Rattle.scan_json.specs.JsonScan.{toks}
+pub use Rattle.scan_json.proofs.Shapes.{opened_indent, opened, IsClosed}
 
 -- what changes from token to token, but for the levels of indentation
 pub record Parts : Type 0 where
@@ -58,20 +58,6 @@ pub record Opens (c : ℕ) (a : List ℕ) : Type 0 where
   pub no_end : comes_marker 46 (c ∷ a) ≡ false
 
 -- ---- levels of indentation
-
--- with a level on top that opens no collection, or without
-abbrev pub opened_indent : Bool → ℕ → ℕ
-opened_indent true i = i + 1
-opened_indent false i = i
-
-abbrev pub opened : Bool → ℕ → List Indent → List Indent
-opened true i is = level i false ∷ is
-opened false i is = is
-
--- the innermost level is that of a collection, or there is none
-abbrev pub IsClosed : ℕ → List Indent → Type 0
-IsClosed i [] = i ≡ 0
-IsClosed i (d ∷ ds) = d.needs_block_end ≡ true
 
 abbrev pub ended : Bool → List Tok → List Tok
 ended true o = Tok.block_end ∷ o
@@ -130,6 +116,10 @@ IsTrail (end g) = IsGap g
 abbrev pub Tells : List Token → (List Tok → List Tok) → Type 0
 Tells ts want = (o : List Tok) → toks ts ++ o ≡ want o
 
+-- at a line's first column, the last token is no anchor and no tag
+abbrev pub HasNoProperty : Parts → Type 0
+HasNoProperty p = (p.place.col == 0) ≡ true → last_property p.tokens ≡ None
+
 -- The next fetch finds a text here, on a column, outside its levels' ends; no key is open.
 pub record Before (from : State) (x : List ℕ) (c : ℕ) (i : ℕ) (is : List Indent) (allowed : Bool) (want : List Tok → List Tok) : Type 0 where
   pub state : State
@@ -140,7 +130,7 @@ pub record Before (from : State) (x : List ℕ) (c : ℕ) (i : ℕ) (is : List I
   pub column : parts.place.col ≡ c
   pub free : parts.key ≡ None
   pub allows : parts.allowed ≡ allowed
-  pub no_property : last_property parts.tokens ≡ None
+  pub no_property : HasNoProperty parts
   pub told : Tells parts.tokens want
 
 -- a key that is none at this place

@@ -3,17 +3,16 @@ use Rattle.std.proofs.Common.{◌≡◌, ℕ, Bool, List, [], ◌∷◌, true, f
 use Rattle.token_defs.specs.Token.{Tok}
 use Rattle.layout_defs.specs.Gap.{GapLine, spell_gap, spaces, IsGap}
 use Rattle.layout_defs.specs.Layout.{spell_literal}
-use Rattle.layout_defs.specs.WideLayout.{no_comment, Root, block, inline, literal, Document, Documents, last_document, document, WideLayout, spell, spell_mark, spell_documents, spell_root, spell_inline, spell_block, IsRoot, IsBehindRoot, AreDocuments}
+use Rattle.layout_defs.specs.WideLayout.{no_comment, Root, block, inline, literal, Document, Documents, last_document, document, spell_mark, spell_documents, spell_root, spell_inline, spell_block, IsRoot, IsBehindRoot, AreDocuments}
 use Rattle.laid_tokens.specs.WideTokens.{root_tokens, documents_tokens, marked}
 use Rattle.scalar_model.specs.Machine.{past_break}
 use Rattle.scan_model.specs.State.{State}
 use Rattle.scan_model.specs.Run.{Reaches, start}
 use Rattle.scan_json.specs.JsonScan.{HasToks}
-use Rattle.scan_layout.specs.Basic.{IsBasicRoot, AreBasicDocuments}
-use Rattle.scan_layout.specs.Laws.{BasicTextsHaveTheirTokens}
+use Rattle.scan_layout.specs.Laws.{WideTextsHaveTheirTokens}
 use Rattle.scan_layout.proofs.Shapes.{stands, is_solid, Trail, marker, marker_text, end, trail_text, limit_of, IsTrail, Before, After}
-use Rattle.scan_layout.proofs.Whites.{White, line_feed, spell_white, AreWhite, beyond, allowed_beyond, spaces_are, gap_is, blanks, blanks_white, gap_white, gap_are_white, gap_allows, next_line_is}
-use Rattle.scan_layout.proofs.Joins.{before_white, gap_col}
+use Rattle.scan_layout.proofs.Whites.{line_feed, spell_white, spaces_are, gap_is, blanks, blanks_white, gap_white, gap_are_white, gap_allows, next_line_is}
+use Rattle.scan_layout.proofs.Joins.{before_white, gap_col, ahead}
 use Rattle.scan_layout.proofs.Documents.{Opened, document_begins, next_document, stream_begins, begun, origin, all_tokens}
 use Rattle.scan_layout.proofs.Literals.{LowTrail, empty_gap, root_low, root_low_before_marker, root_literal_after}
 use Rattle.scan_layout.proofs.Values.{block_runs, block_solid, inline_after, inline_solid, literal_solid}
@@ -53,11 +52,11 @@ record Ends (root : Root) (t : Trail) : Type 0 where
   outside : limit_of t ≡ 0
   low : IsLowBehind root t
 
-root_runs : (root : Root) (t : Trail) (from : State) (want : List Tok → List Tok) → IsRoot root → IsBasicRoot root → Ends root t
+root_runs : (root : Root) (t : Trail) (from : State) (want : List Tok → List Tok) → IsRoot root → Ends root t
     → Before from (body_of root (trail_text t)) (column_of root) 0 [] true want → After from t 0 [] (λ o. want (root_tokens root o))
-root_runs (block column b) t from want h e ends u = let out = ends.outside in block_runs column [] b h e from t 0 [] false want ends.is_trail (omega (arith, out)) (omega arith) refl u
-root_runs (inline v) t from want h e ends u = let out = ends.outside in inline_after v no_comment t from 0 false 0 [] true want h tt ends.is_trail (omega (arith, out)) (omega arith) refl u
-root_runs (literal text ls) t from want h e ends u = root_literal_after t from text ls want ends.is_trail ends.low h.0 h.1 u
+root_runs (block column b) t from want h ends u = let out = ends.outside in block_runs column [] b h from t 0 [] false want ends.is_trail (omega (arith, out)) (omega arith) refl u
+root_runs (inline v) t from want h ends u = let out = ends.outside in inline_after v no_comment t from 0 false 0 [] true want h tt ends.is_trail (omega (arith, out)) (omega arith) refl u
+root_runs (literal text ls) t from want h ends u = root_literal_after t from text ls want ends.is_trail ends.low h.0 h.1 (ahead from (spell_literal 0 text ls (trail_text t)) 0 0 [] true want u)
 
 ends_text : (root : Root) (g : List GapLine) → IsBehindRoot root g → Ends root (end g)
 ends_text (block column b) g h = record { is_trail = h; outside = refl; low = tt }
@@ -119,29 +118,29 @@ first_root (last_document d behind) are = are.1
 first_root (document d g ds) are = are.1
 
 -- the documents, from the first root on
-documents_run : (a : List ℕ) (ds : Documents) (want : List Tok → List Tok) → AreDocuments ds → AreBasicDocuments ds
+documents_run : (a : List ℕ) (ds : Documents) (want : List Tok → List Tok) → AreDocuments ds
     → Before (start a) (body_of (first_of ds).root (trail_text (trail_of ds))) (column_of (first_of ds).root) 0 [] true want → HasToks a (want (documents_tokens ds))
-documents_run a (last_document d behind) want are e u =
-    all_tokens a behind (λ o. want (root_tokens d.root o)) (root_runs d.root (end behind) (start a) want are.1 e (ends_text d.root behind are.2) u)
-documents_run a (document d g ds) want are e u =
+documents_run a (last_document d behind) want are u =
+    all_tokens a behind (λ o. want (root_tokens d.root o)) (root_runs d.root (end behind) (start a) want are.1 (ends_text d.root behind are.2) u)
+documents_run a (document d g ds) want are u =
     let r = spell_documents ds [] in
-    let after = root_runs d.root (marker g r) (start a) want are.1 e.0 (ends_before_marker d.root g r are.2) u in
+    let after = root_runs d.root (marker g r) (start a) want are.1 (ends_before_marker d.root g r are.2) u in
     let next : Opened (start a) (spell_gap (first_of ds).gap (spell_root (first_of ds).root (trail_text (trail_of ds)))) (λ o. want (root_tokens d.root (Tok.document_start ∷ o))) =
     rw (← documents_text ds) (next_document (start a) g r (λ o. want (root_tokens d.root o)) after) in
-    documents_run a ds (λ o. want (root_tokens d.root (Tok.document_start ∷ o))) are.3 e.1 (root_opens (start a) (first_of ds) (trail_text (trail_of ds)) _ (first_gap ds are.3) (first_root ds are.3) next)
+    documents_run a ds (λ o. want (root_tokens d.root (Tok.document_start ∷ o))) are.3 (root_opens (start a) (first_of ds) (trail_text (trail_of ds)) _ (first_gap ds are.3) (first_root ds are.3) next)
 
 -- ---- the whole text
 
-marked_run : (b : Bool) (ds : Documents) → AreDocuments ds → AreBasicDocuments ds → HasToks (spell_mark b (spell_documents ds [])) (Tok.stream_start ∷ marked b (documents_tokens ds))
-marked_run true ds are e =
+marked_run : (b : Bool) (ds : Documents) → AreDocuments ds → HasToks (spell_mark b (spell_documents ds [])) (Tok.stream_start ∷ marked b (documents_tokens ds))
+marked_run true ds are =
     let text = spell_documents ds [] in
     let begins : Opened (start (marker_text text)) (spell_gap (first_of ds).gap (spell_root (first_of ds).root (trail_text (trail_of ds)))) (λ o. Tok.stream_start ∷ Tok.document_start ∷ o) =
     rw (← documents_text ds) (document_begins text) in
-    documents_run (marker_text text) ds (λ o. Tok.stream_start ∷ Tok.document_start ∷ o) are e
+    documents_run (marker_text text) ds (λ o. Tok.stream_start ∷ Tok.document_start ∷ o) are
     (root_opens (start (marker_text text)) (first_of ds) (trail_text (trail_of ds)) _ (first_gap ds are) (first_root ds are) begins)
-marked_run false ds are e =
+marked_run false ds are =
     let u = root_begins (first_of ds) (trail_text (trail_of ds)) (first_gap ds are) (first_root ds are) in
-    rw (documents_text ds) (documents_run _ ds (λ o. Tok.stream_start ∷ o) are e u)
+    rw (documents_text ds) (documents_run _ ds (λ o. Tok.stream_start ∷ o) are u)
 
-pub basic_texts_have_their_tokens : BasicTextsHaveTheirTokens
-basic_texts_have_their_tokens w is e = marked_run w.is_marked w.documents is e
+pub wide_texts_have_their_tokens : WideTextsHaveTheirTokens
+wide_texts_have_their_tokens w is = marked_run w.is_marked w.documents is

@@ -10,12 +10,11 @@ use Rattle.layout_defs.specs.InTurn.{AreLaidOutInTurn}
 use Rattle.laid_tokens.specs.LayoutTokens.{layout_tokens}
 use Rattle.laid_tokens.specs.WideTokens.{wide_tokens}
 use Rattle.scan_model.specs.Run.{HasTokens, IsRefused}
-use Rattle.scan_layout.specs.Basic.{IsBasic}
 use Rattle.scan_json.specs.JsonScan.{toks, HasToks}
 
--- `basic_texts_have_their_tokens`
-abbrev pub BasicTextsHaveTheirTokens : Type 0
-BasicTextsHaveTheirTokens = (w : WideLayout) → IsWideLayout w → IsBasic w → HasToks (wide.spell w []) (wide_tokens w)
+-- `wide_texts_have_their_tokens`
+abbrev pub WideTextsHaveTheirTokens : Type 0
+WideTextsHaveTheirTokens = (w : WideLayout) → IsWideLayout w → HasToks (wide.spell w []) (wide_tokens w)
 
 -- `layout_texts_have_their_tokens`
 abbrev pub LayoutTextsHaveTheirTokens : Type 0

@@ -1,2 +1,1 @@
-pub mod Basic
 pub mod Laws

@@ -1,12 +1,11 @@
 //! Laws of the scanner's model and texts laid out in lines, each carried by an empty function.
 
 ghost use Rattle.scan_layout.specs.Laws.{LayoutTextsHaveTheirTokens, LayoutTextsHaveNoOtherTokens, LayoutTextsAreNotRefused, LayoutsInTurnHaveTheirTokens, LayoutsInTurnAreNotRefused};
-ghost use Rattle.scan_layout.specs.Laws.{BasicTextsHaveTheirTokens};
+ghost use Rattle.scan_layout.specs.Laws.{WideTextsHaveTheirTokens};
 
-/// The model gives the text of a wide layout, of one document or more, its tokens, where it has no folded blocks, JSON
-/// values, anchors and aliases.
-pub fn basic_texts_have_their_tokens()
-    ensures { BasicTextsHaveTheirTokens }
+/// The model gives the text of a wide layout, of one document or more, its tokens.
+pub fn wide_texts_have_their_tokens()
+    ensures { WideTextsHaveTheirTokens }
 {}
 
 /// The model gives a text laid out in lines its tokens: starts and ends of block collections by

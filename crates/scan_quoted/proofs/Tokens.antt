@@ -8,12 +8,13 @@ use Rattle.laid_tokens.specs.QuotedText.{Quotes, QuotedText, HasQuotedTokens, sp
 use Rattle.laid_tokens.specs.QuotedText as laid
 use Rattle.scalar_model.specs.Machine.{Read}
 use Rattle.scalar_model.specs.Quoted.{quote_of}
+use Rattle.scan_model.specs.State.{token}
 use Rattle.scan_model.specs.Run.{start, here, there}
 use Rattle.scan_json.specs.JsonScan.{HasToks}
 use Rattle.scan_json.proofs.Words.{context_of}
 use Rattle.scan_json.proofs.Strings.{Closed}
-use Rattle.scan_json.proofs.Shapes.{After, at_end}
-use Rattle.scan_json.proofs.Scalars.{ReadsQuoted, quoted_run, quoted_tok, ends_follow}
+use Rattle.scan_json.proofs.Shapes.{nothing, After, at_end}
+use Rattle.scan_json.proofs.Scalars.{ReadsQuoted, quoted_at, quoted_run, quoted_tok, ends_follow}
 use Rattle.scan_json.proofs.Whole.{begun, begins, all_tokens}
 use Rattle.scan_quoted.specs.QuotedScan.{value_of, ends_before, IsRead, read, shallow, by_line, by_tab}
 use Rattle.scan_quoted.specs.Laws.{QuotedTextsHaveTheirTokens}
@@ -21,8 +22,8 @@ use Rattle.scan_quoted.proofs.Turns.{no_less}
 use Rattle.scan_quoted.proofs.Values.{bodies_are_read}
 
 -- outside all collections nothing is refused for its indentation
-closed_outside : (start : Place) (text rest : List ℕ) (x : Result (Read (List ℕ)) Fault) → IsRead (context_of []) start text rest x → Closed x text rest
-closed_outside start text rest x (read place is) = record { place = place; is = is }
+closed_outside : (start : Place) (text rest : List ℕ) (x : Result (Read (List ℕ)) Fault) → IsRead (context_of nothing false []) start text rest x → Closed nothing x text rest
+closed_outside start text rest x (read place is) = record { place = place; fits = tt; is = is }
 closed_outside start text rest x (shallow (by_line p h is)) = let none = no_less (p.col + 1) in cc
 closed_outside start text rest x (shallow (by_tab p h is)) = let none = no_less (p.col + 1) in cc
 
@@ -35,16 +36,16 @@ ends true zero = refl
 ends true (suc n) = refl
 ends false n = refl
 
-reads : (single : Bool) (body value : List ℕ) (n : ℕ) → value_of single body ≡ Some value → ReadsQuoted single [] (quote_of single ∷ (body ++ quote_of single ∷ replicate n 10)) value (spell_gap (replicate n line_feed) [])
-reads single body value n h = λ at. rw (feeds n) (closed_outside at value (replicate n 10) _ (bodies_are_read single (context_of []) body (replicate n 10) value at h (ends single n)))
+reads : (single : Bool) (body value : List ℕ) (n : ℕ) → value_of single body ≡ Some value → ReadsQuoted nothing false single [] (quote_of single ∷ (body ++ quote_of single ∷ replicate n 10)) value (spell_gap (replicate n line_feed) [])
+reads single body value n h = λ at fits. rw (feeds n) (closed_outside at value (replicate n 10) _ (bodies_are_read single (context_of nothing false []) body (replicate n 10) value at h (ends single n)))
 
 pub tokens_are : (single : Bool) (body value : List ℕ) (n : ℕ) → value_of single body ≡ Some value
     → HasToks (quote_of single ∷ (body ++ quote_of single ∷ replicate n 10)) (Tok.stream_start ∷ quoted_tok single value ∷ Tok.stream_end ∷ [])
 tokens_are single body value n h =
     let text = quote_of single ∷ (body ++ quote_of single ∷ replicate n 10) in
-    let z = quoted_run single value (body ++ quote_of single ∷ replicate n 10) [] (replicate n line_feed) [] [] [] begun refl refl refl (ends_follow [] [] at_end) (reads single body value n h) in
-    let u : After (start text) [] [] [] (λ o. Tok.stream_start ∷ quoted_tok single value ∷ o) =
-    record { parts = _; gap = []; loose = z.loose; told = λ o. refl; run = there refl (begins text) (there refl z.is here) } in
+    let z = quoted_run single value (body ++ quote_of single ∷ replicate n 10) [] (replicate n line_feed) [] [] [] begun (tt, refl) (λ l. absurd l) (λ l. absurd l) tt refl refl (ends_follow [] [] at_end) (reads single body value n h) in
+    let u : After nothing (start text) [] [] [] (λ o. Tok.stream_start ∷ quoted_tok single value ∷ o) =
+    record { parts = quoted_at nothing z.place (begun.tokens ++ token z.at (quoted_tok single value) ∷ []) z.key z.allowed z.leading false; gap = []; fits = tt; may = λ l. absurd l; loose = z.loose; told = λ o. refl; run = there refl (begins text) (there refl z.is here) } in
     all_tokens text (λ o. Tok.stream_start ∷ quoted_tok single value ∷ o) u
 
 of_quotes : (quotes : Quotes) (body value : List ℕ) (n : ℕ) → body_value quotes body ≡ Some value
