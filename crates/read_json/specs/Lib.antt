@@ -1,3 +1,0 @@
-pub mod JsonNest
-pub mod Laws
-pub mod ReadAs

@@ -1,4 +1,0 @@
-pub mod Derived
-pub mod Loaded
-pub mod Reading
-mod Rows

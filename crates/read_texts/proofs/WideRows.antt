@@ -1,0 +1,74 @@
+-- Wide layouts, their events and what these are read as, computed.
+use Rattle.std.specs.Prelude.{◌≡◌, ℕ, pos, List, [], ◌∷◌, true, false, None, Ok, codes, refl}
+use Rattle.std.specs.Fmt.{digits}
+use Rattle.token_defs.specs.Token.{Style}
+use Rattle.tree_defs.specs.Tree.{Tree}
+use Rattle.tree_defs.specs.Escapes.{written_character}
+use Rattle.tree_defs.specs.Typing.{typing, is_decimal}
+use Rattle.layout_defs.specs.Layout as layout
+use Rattle.layout_defs.specs.WideLayout.{Scalar, Inline, Block, Value, Entries, Field, Fields, Root, Document, Documents, WideLayout, no_comment, spell, IsWideLayout, trees_of}
+use Rattle.laid_tokens.specs.WideTokens.{wide_tokens}
+use Rattle.event_defs.specs.Event.{Ev}
+use Rattle.event_defs.specs.Nested.{Nest, nested_alias, nested_scalar, nested_sequence, no_nests, nest, with_node, nested_stream}
+use Rattle.event_defs.specs.Reading.{reading}
+use Rattle.event_defs.specs.Stream.{IsStream}
+use Rattle.read_texts.proofs.WideDerived.{documents}
+
+abbrev single : List ℕ → Inline
+single text = Inline.scalar (Scalar.single_quoted text)
+
+abbrev number : Tree → Inline
+number t = Inline.scalar (Scalar.as_before (layout.Scalar.plain t))
+
+-- a value behind one space
+abbrev beside : Inline → Value
+beside i = Value.beside 0 i no_comment
+
+abbrev document : Root → Document
+document x = record { gap = []; root = x }
+
+-- ---- `"k":`, `- &n 'x'`, `- *n`, and a second document with the same name: its number is the next
+
+abbrev named_entries : Entries
+named_entries = Entries.entry (Value.anchored 0 (codes "n") (beside (single (codes "x")))) [] (Entries.last_entry (Value.alias 0 (codes "n") (Tree.string (codes "x"))))
+
+abbrev two_documents : WideLayout
+two_documents = record {
+  is_marked = false;
+  documents = Documents.document
+      (document (Root.block 0 (Block.hash (Fields.last_field (Field.implicit (Scalar.as_before (layout.Scalar.quoted (codes "k"))) (Value.at_key no_comment [] named_entries)))))) []
+      (Documents.last_document (document (Root.block 0 (Block.array named_entries))) []);
+}
+
+two_documents_text : spell two_documents [] ≡ codes "\"k\":\n- &n 'x'\n- *n\n---\n- &n 'x'\n- *n"
+unfolding written_character
+two_documents_text = refl
+
+two_documents_stream : IsStream false (wide_tokens two_documents)
+    (Ev.stream_start ∷ Ev.document_start ∷ Ev.mapping_start 0 None ∷ Ev.scalar (codes "k") Style.double_quoted 0 None
+    ∷ Ev.sequence_start 0 None ∷ Ev.scalar (codes "x") Style.single_quoted 1 None ∷ Ev.alias 1 ∷ Ev.sequence_end ∷ Ev.mapping_end ∷ Ev.document_end
+    ∷ Ev.document_start ∷ Ev.sequence_start 0 None ∷ Ev.scalar (codes "x") Style.single_quoted 2 None ∷ Ev.alias 2 ∷ Ev.sequence_end ∷ Ev.document_end ∷ Ev.stream_end ∷ [])
+two_documents_stream = record { documents = documents two_documents; has_tokens = refl; has_events = refl }
+
+-- ---- `- &a 1`, `- &a 2`, `- *a`: the last node of the name counts
+
+abbrev twice_named : WideLayout
+twice_named = record {
+  is_marked = true;
+  documents = Documents.last_document (document (Root.block 0 (Block.array
+      (Entries.entry (Value.anchored 0 (codes "a") (beside (number (Tree.integer (pos 1))))) []
+      (Entries.entry (Value.anchored 0 (codes "a") (beside (number (Tree.integer (pos 2))))) []
+      (Entries.last_entry (Value.alias 0 (codes "a") (Tree.integer (pos 2))))))))) [];
+}
+
+twice_named_is : IsWideLayout twice_named
+unfolding digits
+twice_named_is = search
+
+abbrev twice_named_nests : Nest
+twice_named_nests = nested_sequence 0 None (nest (nested_scalar (codes "1") Style.plain 1 None) (nest (nested_scalar (codes "2") Style.plain 2 None) (nest (nested_alias 2) no_nests)))
+
+twice_named_read : IsStream false (wide_tokens twice_named) (nested_stream (with_node twice_named_nests ∷ []))
+    × (reading (with_node twice_named_nests ∷ []) ≡ Ok (trees_of twice_named.documents))
+unfolding typing is_decimal digits
+twice_named_read = (record { documents = documents twice_named; has_tokens = refl; has_events = refl }, refl)

@@ -1,0 +1,113 @@
+-- Laws of streams that are read, and of JSON texts, layouts, wide layouts and quoted texts: each is carried by the function of
+-- `src/laws.rt` that its comment names.
+use Rattle.std.specs.Prelude.{◌≡◌, ℕ, Bool, true, List, [], ◌∷◌, ◌++◌, Ok}
+use Rattle.yaml_chars.specs.Place.{Place}
+use Rattle.token_defs.specs.Token.{Tok}
+use Rattle.tree_defs.specs.Tree.{Tree}
+use Rattle.tree_defs.specs.Typing.{typing}
+use Rattle.layout_defs.specs.JsonNumber.{Number, spell_number, is_number, number_tree}
+use Rattle.layout_defs.specs.Json as json
+use Rattle.layout_defs.specs.Json.{JsonText, IsWellFormed}
+use Rattle.layout_defs.specs.Layout as layout
+use Rattle.layout_defs.specs.Layout.{Layout, IsLayout}
+use Rattle.layout_defs.specs.WideLayout.{WideLayout, IsWideLayout, trees_of}
+use Rattle.laid_tokens.specs.JsonTokens.{json_text_tokens}
+use Rattle.laid_tokens.specs.LayoutTokens.{layout_tokens}
+use Rattle.laid_tokens.specs.WideTokens.{wide_tokens}
+use Rattle.laid_tokens.specs.QuotedText.{HasQuotedTokens}
+use Rattle.event_defs.specs.Event.{Ev}
+use Rattle.event_defs.specs.Stream.{IsStream, Foretells, NoneBegins, events_of}
+use Rattle.event_defs.specs.Nested.{nested_stream}
+use Rattle.event_defs.specs.Reading.{reading}
+use Rattle.event_defs.specs.Unfinished.{new_loader, with_events}
+use Rattle.event_defs.specs.Laws.{HasRead}
+use Rattle.read_texts.specs.ReadAs.{ReadAs, IsAtWork}
+use Rattle.read_texts.specs.JsonNest.{json_documents}
+use Rattle.read_texts.specs.LayoutNest.{layout_documents}
+
+-- ---- any tokens that are read
+
+-- `read_streams_are_loaded`
+abbrev pub ReadStreamsAreLoaded : Type 0
+ReadStreamsAreLoaded =
+    (keep_tags : Bool) (tokens : List Tok) (trees : List Tree) (events : List (Ev × Place)) → ReadAs keep_tags tokens trees → IsStream keep_tags tokens (events_of events)
+    → HasRead (Ok trees) (with_events new_loader events)
+
+-- `read_streams_are_not_refused`; `more` are the events behind the beginning
+abbrev pub ReadStreamsAreNotRefused : Type 0
+ReadStreamsAreNotRefused =
+    (keep_tags : Bool) (tokens : List Tok) (trees : List Tree) (events : List (Ev × Place)) (more : List Ev) → ReadAs keep_tags tokens trees
+    → IsStream keep_tags tokens (events_of events ++ more) → IsAtWork (with_events new_loader events)
+
+-- `foretold_events_are_not_refused`; `after` are the tokens behind the beginning
+abbrev pub ForetoldEventsAreNotRefused : Type 0
+ForetoldEventsAreNotRefused =
+    (keep_tags : Bool) (before after : List Tok) (trees : List Tree) (events : List (Ev × Place)) → ReadAs keep_tags (before ++ after) trees
+    → Foretells keep_tags before (events_of events) → IsAtWork (with_events new_loader events)
+
+-- `read_streams_are_not_cut`
+abbrev pub ReadStreamsAreNotCut : Type 0
+ReadStreamsAreNotCut = (keep_tags : Bool) (before after : List Tok) (trees : List Tree) → ReadAs keep_tags (before ++ after) trees → NoneBegins keep_tags before → ⊥
+
+-- ---- JSON texts
+
+-- `json_tokens_are_a_stream`
+abbrev pub JsonTokensAreAStream : Type 0
+JsonTokensAreAStream = (keep_tags : Bool) (w : JsonText) → IsStream keep_tags (json_text_tokens w) (nested_stream (json_documents w))
+
+-- `json_numbers_stand_for_their_trees`
+abbrev pub JsonNumbersStandForTheirTrees : Type 0
+JsonNumbersStandForTheirTrees = (n : Number) → is_number n ≡ true → typing (spell_number n []) ≡ number_tree n
+
+-- `json_documents_read_as_their_trees`
+abbrev pub JsonDocumentsReadAsTheirTrees : Type 0
+JsonDocumentsReadAsTheirTrees = (w : JsonText) → IsWellFormed w → reading (json_documents w) ≡ Ok (json.tree_of w.value ∷ [])
+
+-- `json_tokens_read_as_their_tree`
+abbrev pub JsonTokensReadAsTheirTree : Type 0
+JsonTokensReadAsTheirTree = (keep_tags : Bool) (w : JsonText) → IsWellFormed w → ReadAs keep_tags (json_text_tokens w) (json.tree_of w.value ∷ [])
+
+-- `json_events_are_loaded`
+abbrev pub JsonEventsAreLoaded : Type 0
+JsonEventsAreLoaded =
+    (keep_tags : Bool) (w : JsonText) (events : List (Ev × Place)) → IsWellFormed w → IsStream keep_tags (json_text_tokens w) (events_of events)
+    → HasRead (Ok (json.tree_of w.value ∷ [])) (with_events new_loader events)
+
+-- ---- layouts
+
+-- `layout_tokens_are_a_stream`
+abbrev pub LayoutTokensAreAStream : Type 0
+LayoutTokensAreAStream = (keep_tags : Bool) (w : Layout) → IsStream keep_tags (layout_tokens w) (nested_stream (layout_documents w))
+
+-- `layout_documents_read_as_their_trees`
+abbrev pub LayoutDocumentsReadAsTheirTrees : Type 0
+LayoutDocumentsReadAsTheirTrees = (w : Layout) → IsLayout w → reading (layout_documents w) ≡ Ok (layout.tree_of w ∷ [])
+
+-- `layout_tokens_read_as_their_tree`
+abbrev pub LayoutTokensReadAsTheirTree : Type 0
+LayoutTokensReadAsTheirTree = (keep_tags : Bool) (w : Layout) → IsLayout w → ReadAs keep_tags (layout_tokens w) (layout.tree_of w ∷ [])
+
+-- `layout_events_are_loaded`
+abbrev pub LayoutEventsAreLoaded : Type 0
+LayoutEventsAreLoaded =
+    (keep_tags : Bool) (w : Layout) (events : List (Ev × Place)) → IsLayout w → IsStream keep_tags (layout_tokens w) (events_of events)
+    → HasRead (Ok (layout.tree_of w ∷ [])) (with_events new_loader events)
+
+-- ---- wide layouts
+
+-- `wide_tokens_read_as_their_trees`
+abbrev pub WideTokensReadAsTheirTrees : Type 0
+WideTokensReadAsTheirTrees = (keep_tags : Bool) (w : WideLayout) → IsWideLayout w → ReadAs keep_tags (wide_tokens w) (trees_of w.documents)
+
+-- `wide_events_are_loaded`
+abbrev pub WideEventsAreLoaded : Type 0
+WideEventsAreLoaded =
+    (keep_tags : Bool) (w : WideLayout) (events : List (Ev × Place)) → IsWideLayout w → IsStream keep_tags (wide_tokens w) (events_of events)
+    → HasRead (Ok (trees_of w.documents)) (with_events new_loader events)
+
+-- ---- quoted texts
+
+-- `quoted_tokens_read_as_their_string`; `quoted` has what was written, the scalar's value, and that these are its tokens
+abbrev pub QuotedTokensReadAsTheirString : Type 0
+QuotedTokensReadAsTheirString =
+    (keep_tags : Bool) (text : List ℕ) (tokens : List Tok) (quoted : HasQuotedTokens text tokens) → ReadAs keep_tags tokens (Tree.string quoted.1 ∷ [])

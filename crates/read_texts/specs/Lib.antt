@@ -1,0 +1,4 @@
+pub mod JsonNest
+pub mod LayoutNest
+pub mod Laws
+pub mod ReadAs

@@ -1,7 +1,0 @@
-pub mod Derived
-pub mod Documents
-pub mod Nodes
-pub mod Numbered
-pub mod Quoted
-pub mod Reading
-mod Rows
