@@ -1,7 +1,8 @@
 -- What was fetched and handed out is a run of the model.
-use Rattle.std.proofs.Common.{◌≡◌, ◌≢◌, ℕ, ◌+◌, ◌≤◌, List, [], ◌∷◌, ◌++◌, Bool, true, false, ◌||◌, refl, ap, sym, ◌∙◌, arith, Option, Some, None, length, map, take, drop, option_map, subst}
+use Rattle.std.proofs.Common.{◌≡◌, ◌≢◌, ℕ, suc, ◌+◌, ◌≤◌, List, [], ◌∷◌, ◌++◌, Bool, true, false, not, ◌&&◌, ◌||◌, ◌==◌, refl, ap, sym, ◌∙◌, arith, Option, Some, None, length, map, take, drop, option_map, subst, inl, inr}
 use Rattle.std.specs.Prelude.{IfSome, codes}
 use Rattle.std.specs.List.{list_any}
+use Rattle.std.proofs.lemmas.Bool.{eqb-true}
 use Rattle.std.proofs.lemmas.List.{take-append-drop, length-take}
 use Rattle.yaml_chars.proofs.ReadingLemmas.{Possible-taken}
 use Rattle.token_defs.specs.Token.{Tok, Token}
@@ -19,11 +20,19 @@ use Rattle.yaml_scanner.specs.declared.fetcher.Kept.{Kept}
 use Rattle.yaml_scanner.specs.declared.keys.SimpleKey.{SimpleKey}
 use Rattle.yaml_scanner.specs.SimpleKeys.{seen, is_front, lowered}
 use Rattle.yaml_scanner.specs.Shape.{held, state, Does, Fails}
-use Rattle.yaml_scanner.specs.Tokens.{Tokens, handed, is_end}
+use Rattle.yaml_scanner.specs.Tokens.{Tokens, handed, is_end, has_end}
 use Rattle.yaml_scanner.specs.Work.{Fetches}
 use Rattle.yaml_scanner.specs.Follows.{Begins, IsReached, FollowsIn, Follows}
 use Rattle.yaml_scanner.specs.Scanned.{inside, kept_fault, IsRefusal, Scans}
 use Rattle.yaml_scanner.proofs.GivenLemmas.{lowered_seen}
+use Rattle.yaml_scanner.proofs.QueueLemmas.{has_end_append}
+use Rattle.yaml_chars.specs.Reading.{HasNoNul}
+use Rattle.scalar_defs.specs.Classes.{is_nul}
+use Rattle.cut_defs.specs.Cut.{IsCut, IsCutOfBeginning, tokens_of, end_token}
+use Rattle.scan_scalars.specs.PlainEnds.{has_no_nul}
+use Rattle.scan_cut.proofs.PieceNeeds.{pieces_are_read}
+use Rattle.scan_cut.proofs.Fetched.{tokens_are_cut}
+use Rattle.scan_cut.proofs.Beginnings.{first_tokens_are_cut}
 
 -- before a text
 pub starts : {T : Type 0} (x : Fetcher T) → held x ≡ nothing_held → x.window.at ≡ 0 → x.kept ≡ None → handed x.tokens ≡ [] → x.tokens.over ≡ false → Follows x
@@ -35,6 +44,7 @@ starts x e n k h o = λ a p. record {
   begins = λ ts _. record { more = ts; whole = rw h refl };
   whole = λ f. absurd cc;
   refused = rw k tt;
+  open_end = λ _. rw h refl;
 }
 
 -- a fetch more
@@ -50,6 +60,7 @@ fetched_on x y k g f d m n = λ a p.
       begins = λ ts h. rw m.given (old.begins ts h);
       whole = λ o. rw m.given (old.whole (sym m.over ∙ o));
       refused = rw (m.fault, k) tt;
+      open_end = λ o. rw m.given (old.open_end (sym m.over ∙ o));
     }
 
 -- a refusal, which is then kept
@@ -64,6 +75,7 @@ stopped x y e k i n g f d m = λ a p.
       begins = λ ts h. rw m.given (old.begins ts h);
       whole = λ o. rw m.given (old.whole (sym m.over ∙ o));
       refused = λ q. rw i (record { last = state (drop x.window.at a) x; run = old.run n g; going = g; refused = d.runs.reads a p (λ z. q (i ∙ z)) });
+      open_end = λ o. rw m.given (old.open_end (sym m.over ∙ o));
     }
 
 -- ---- a token is handed out
@@ -117,6 +129,14 @@ none_waits n xs e = sym (append_nil (take n xs)) ∙ ap (λ ys. take n xs ++ ys)
     append_nil : (xs : List Token) → xs ++ [] ≡ xs
     append_nil [] = refl
     append_nil (x ∷ xs) = ap (λ ys. x ∷ ys) (append_nil xs)
+
+-- the end is still to be handed out
+open_after : (xs : List Token) (t : Token) (o : Bool) → o ≡ false → has_end xs ≡ false → (o || is_end t.tok) ≡ false → has_end (xs ++ t ∷ []) ≡ false
+open_after xs t o e h l = rw (has_end_append xs (t ∷ []), h) (by (is_end t.tok) (rw e at l))
+  where
+    by : (b : Bool) → b ≡ false → (b || false) ≡ false
+    by true k = k
+    by false k = refl
 
 module _ {T : Type 0} (x : Fetcher T) (a : List ℕ) (t : Token) (old : FollowsIn a x) (kept : x.kept ≡ None) (over : x.tokens.over ≡ false) where
   abbrev count : ℕ
@@ -176,6 +196,7 @@ module _ {T : Type 0} (x : Fetcher T) (a : List ℕ) (t : Token) (old : FollowsI
     begins = begins_after x.tokens.ended refl front;
     whole = λ o. whole_after x.tokens.ended refl g (or_true x.tokens.over (is_end t.tok) over o);
     refused = rw kept tt;
+    open_end = λ o. rw g (open_after (handed x.tokens) t x.tokens.over over (old.open_end over) o);
   }
 
 -- a token more is handed out
@@ -184,6 +205,30 @@ pub handed_on : {T : Type 0} (x : Fetcher T) (q : Tokens) (ks : List (Option Sim
 handed_on x q ks t k o front e g i f = λ a p. rw (e, i) (follows_after x a t (f a p) k o front (sym (ap handed e) ∙ g))
 
 -- ---- as callers see it
+
+-- the two ways to say that no character is NUL
+no_nul : (a : List ℕ) → HasNoNul a → has_no_nul a ≡ true
+unfolding is_nul
+no_nul [] h = refl
+no_nul (c ∷ a) h = by (c == 0) refl (no_nul a (λ k l e. h (suc k) (omega (arith, l)) e))
+  where
+    by : (b : Bool) → (c == 0) ≡ b → has_no_nul a ≡ true → (not b && has_no_nul a) ≡ true
+    by true e rest = absurd (h 0 (omega arith) (eqb-true c 0 e))
+    by false e rest = rest
+
+-- a cut has the stream's end
+cut_has_end : (ts : List Token) (a : List ℕ) → IsCut ts a → has_end ts ≡ true
+cut_has_end ts a c = rw (c.are_tokens, has_end_append (tokens_of c.row) (end_token c.end ∷ [])) (always (has_end (tokens_of c.row)))
+  where
+    always : (b : Bool) → (b || true) ≡ true
+    always true = refl
+    always false = refl
+
+begun_cut : (ts : List Token) (a : List ℕ) → IsReached a ts → has_end ts ≡ false → HasNoNul a → IsCutOfBeginning ts a
+begun_cut ts a r e n = elim (first_tokens_are_cut pieces_are_read a ts r.begins.more r.last (no_nul a n) r.run r.begins.whole) [
+  | inl c ↦ absurd (cc (e, cut_has_end ts a c))
+  | inr c ↦ c
+]
 
 memory_sound : (f : Option Kept) (a : List ℕ) → IfSome f (λ k. k.fault ≢ OutOfMemory → IsRefused a k.fault) → (ts : List Token) → HasTokens a ts → IfSome (option_map kept_fault f) (λ x. x.memory ≡ true)
 memory_sound None a r ts h = tt
@@ -230,6 +275,8 @@ scans_from x f = record {
         reached = s.reached;
         begins = s.begins;
         whole = s.whole;
+        begun = λ o n. begun_cut (handed x.tokens) a s.reached (s.open_end o) n;
+        cut = λ o n. tokens_are_cut pieces_are_read a (handed x.tokens) (no_nul a n) (s.whole o);
         sound = memory_sound x.kept a s.refused;
         wants = memory_says x.kept;
         refused = is_refusal x.kept a s.refused;

@@ -54,7 +54,7 @@ or_true : (b : Bool) → b || true ≡ true
 or_true true = refl
 or_true false = refl
 
-has_end_append : (ts us : List seen.Token) → has_end (ts ++ us) ≡ has_end ts || has_end us
+pub has_end_append : (ts us : List seen.Token) → has_end (ts ++ us) ≡ has_end ts || has_end us
 has_end_append [] us = refl
 has_end_append (t ∷ ts) us = or_of (is_end t.tok) (has_end (ts ++ us)) (has_end ts) (has_end us) (has_end_append ts us)
   where

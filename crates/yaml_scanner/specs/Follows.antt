@@ -6,7 +6,7 @@ use Rattle.yaml_tokens.specs.declared.problem.Fault.TheVariants.{OutOfMemory}
 use Rattle.scan_model.specs.State.{State}
 use Rattle.scan_model.specs.Run.{Reaches, HasTokens, IsRefused, start}
 use Rattle.yaml_scanner.specs.declared.fetcher.Fetcher.{Fetcher}
-use Rattle.yaml_scanner.specs.Tokens.{handed}
+use Rattle.yaml_scanner.specs.Tokens.{handed, has_end}
 use Rattle.yaml_scanner.specs.Shape.{state}
 
 -- a list begins with another
@@ -31,6 +31,8 @@ pub record FollowsIn {T : Type 0} (a : List ℕ) (s : Fetcher T) : Type 0 where
   pub begins : (ts : List Token) → HasTokens a ts → Begins (handed s.tokens) ts
   pub whole : s.tokens.over ≡ true → HasTokens a (handed s.tokens)
   pub refused : IfSome s.kept (λ k. k.fault ≢ OutOfMemory → IsRefused a k.fault)
+  -- until the stream's end was handed out it is none of what was
+  pub open_end : s.tokens.over ≡ false → has_end (handed s.tokens) ≡ false
 
 -- whatever the text is
 abbrev pub Follows : {T : Type 0} → Fetcher T → Type 0

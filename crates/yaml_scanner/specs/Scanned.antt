@@ -1,11 +1,12 @@
 -- What clauses see of a scanner.
 use Rattle.std.specs.Prelude.{◌≡◌, ℕ, ◌<◌, List, [], ◌∷◌, ◌++◌, length, take, Bool, true, false, Option, Some, None, IfSome, option_map, codes}
 use Rattle.yaml_chars.specs.Place.{Place}
-use Rattle.yaml_chars.specs.Reading.{place_of}
+use Rattle.yaml_chars.specs.Reading.{place_of, HasNoNul}
 use Rattle.token_defs.specs.Token.{Token}
 use Rattle.yaml_tokens.specs.Fault.{Fault}
 use Rattle.yaml_tokens.specs.Problem.{fault_of}
 use Rattle.yaml_tokens.specs.declared.problem.Fault as code
+use Rattle.cut_defs.specs.Cut.{IsCut, IsCutOfBeginning}
 use Rattle.scan_model.specs.Run.{HasTokens, IsRefused}
 use Rattle.yaml_scanner.specs.declared.fetcher.Fetcher.{Fetcher}
 use Rattle.yaml_scanner.specs.declared.fetcher.Kept.{Kept}
@@ -79,6 +80,9 @@ pub record ScansIn (a : List ℕ) (s : Scanned) : Type 0 where
   pub begins : (ts : List Token) → HasTokens a ts → Begins s.given ts
   -- once the stream's end was handed out, they are all tokens of the text
   pub whole : s.ended ≡ true → HasTokens a s.given
+  -- the tokens are a cut of a beginning of the text; with the stream's end they are a cut of the whole text
+  pub begun : s.ended ≡ false → HasNoNul a → IsCutOfBeginning s.given a
+  pub cut : s.ended ≡ true → HasNoNul a → IsCut s.given a
   -- a text with tokens has no fault but out of memory
   pub sound : (ts : List Token) → HasTokens a ts → IfSome s.fault (λ f. f.memory ≡ true)
   -- out of memory has its text

@@ -1,0 +1,47 @@
+-- An indicator, and the blanks and the comment behind it.
+use Rattle.std.proofs.Common.{◌≡◌, ℕ, List, [], ◌∷◌, ◌++◌, false, not, ◌&&◌, Option, ap, sym, ◌∙◌}
+use Rattle.yaml_chars.specs.Place.{Place}
+use Rattle.token_defs.specs.Token.{Tok}
+use Rattle.scalar_defs.specs.Classes.{is_break}
+use Rattle.scalar_defs.specs.Breaks.{is_before_line_feed}
+use Rattle.cut_defs.specs.Text.{place_past, place_behind}
+use Rattle.cut_defs.specs.Account.{Account}
+use Rattle.cut_defs.specs.Piece.{IsPiece}
+use Rattle.scalar_model.specs.Machine.{past}
+use Rattle.scan_model.specs.State.{State, behind, skip_indicator}
+use Rattle.scan_scalars.proofs.PlainTurns.{in_line_place}
+use Rattle.scan_cut.specs.Needs.{ReadAs}
+use Rattle.scan_cut.proofs.Passes.{Passed, Filled}
+
+-- the place behind an indicator
+pub past_indicator : (p : Place) (c : ℕ) (next : List ℕ) → is_break c ≡ false → place_past p c next ≡ past p
+past_indicator p c next e = in_line_place c next p (ap (λ b. b && not (is_before_line_feed c next)) e)
+
+-- what is left behind an indicator and a filler is read as the indicator's token
+abbrev pub indicated : (a : Account) (c : ℕ) (more : List ℕ) (tok : Tok) (at : Place) (t v : State) → t.rest ≡ c ∷ more → t.held.place ≡ a.place → is_break c ≡ false → (s : Passed (skip_indicator t) v) →
+    ((next : List ℕ) (last : Option Tok) → more ≡ next → IsPiece a (c ∷ []) next last at tok) → ReadAs a (c ∷ more) tok at v.rest v.held.place
+indicated a c more tok at t v e place in_line s piece =
+    let cut : more ≡ s.filler ++ v.rest = ap behind (sym e) ∙ s.is_rest in
+    let q : place_past a.place c (s.filler ++ v.rest) ≡ past t.held.place = past_indicator a.place c (s.filler ++ v.rest) in_line ∙ ap past (sym place) in
+    record {
+      first = c;
+      more = [];
+      filler = s.filler;
+      is_text = ap (λ r. c ∷ r) cut;
+      is_filled = s.is_filled;
+      is_piece = λ last. piece (s.filler ++ v.rest) last cut;
+      is_end = ap (λ h. h.place) s.is_held ∙ ap (λ x. place_behind x s.filler v.rest) (sym q);
+    }
+
+-- the same, from the place behind it
+abbrev pub indicated_by : (a : Account) (c : ℕ) (more : List ℕ) (tok : Tok) (at : Place) (v : State) → is_break c ≡ false → (s : Filled more (past a.place) v) →
+    ((next : List ℕ) (last : Option Tok) → more ≡ next → IsPiece a (c ∷ []) next last at tok) → ReadAs a (c ∷ more) tok at v.rest v.held.place
+indicated_by a c more tok at v in_line s piece = record {
+  first = c;
+  more = [];
+  filler = s.filler;
+  is_text = ap (λ r. c ∷ r) s.is_rest;
+  is_filled = s.is_filled;
+  is_piece = λ last. piece (s.filler ++ v.rest) last s.is_rest;
+  is_end = s.is_place ∙ ap (λ x. place_behind x s.filler v.rest) (sym (past_indicator a.place c (s.filler ++ v.rest) in_line));
+}

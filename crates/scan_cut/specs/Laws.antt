@@ -1,0 +1,22 @@
+-- Laws of whole texts: each is carried by the function of `src/laws.rt` that its comment names.
+use Rattle.std.specs.Prelude.{◌≡◌, ℕ, ◌⊎◌, List, ◌++◌, true}
+use Rattle.token_defs.specs.Token.{Token}
+use Rattle.cut_defs.specs.Cut.{IsCut, IsCutOfBeginning}
+use Rattle.scan_model.specs.State.{State}
+use Rattle.yaml_tokens.specs.declared.problem.Fault.{Fault}
+use Rattle.scan_model.specs.Run.{start, Reaches, HasTokens, IsRefused}
+use Rattle.scan_scalars.specs.PlainEnds.{has_no_nul}
+use Rattle.scan_cut.specs.Faults.{IsThere, is_shown}
+
+-- `tokens_are_a_cut`
+abbrev pub TokensAreACut : Type 0
+TokensAreACut = (text : List ℕ) (tokens : List Token) → has_no_nul text ≡ true → HasTokens text tokens → IsCut tokens text
+
+-- `first_tokens_are_a_cut`: of any run's tokens the first are a cut of the whole text, where the stream's end is among them, or else of a beginning of it
+abbrev pub FirstTokensAreACut : Type 0
+FirstTokensAreACut =
+    (text : List ℕ) (given more : List Token) (last : State) → has_no_nul text ≡ true → Reaches (start text) last → last.held.tokens ≡ given ++ more → IsCut given text ⊎ IsCutOfBeginning given text
+
+-- `shown_faults_stand_in_the_text`
+abbrev pub ShownFaultsStandInTheText : Type 0
+ShownFaultsStandInTheText = (text : List ℕ) (f : Fault) → has_no_nul text ≡ true → IsRefused text f → is_shown f ≡ true → IsThere text f
