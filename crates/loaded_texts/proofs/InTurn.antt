@@ -1,20 +1,18 @@
 -- Layouts one after another are read as their trees, and have no NUL.
-use Rattle.std.proofs.Common.{◌≡◌, ℕ, Bool, List, [], ◌∷◌, ◌++◌, true, false, refl, sym, ap, ◌∙◌, subst, if◌then◌else◌, ◌==◌}
+use Rattle.std.proofs.Common.{Bool, [], ◌∷◌, refl, sym, ap, ◌∙◌, subst}
 use Rattle.token_defs.specs.Token.{Tok}
-use Rattle.tree_defs.specs.Tree.{Tree}
-use Rattle.layout_defs.specs.InTurn.{AreLaidOutInTurn}
 use Rattle.layout_defs.specs.DumpsInTurn.{dump_texts}
 use Rattle.laid_tokens.specs.WideTokens.{wide_tokens}
 use Rattle.event_defs.specs.Grammar.{others, end_stream}
 use Rattle.dump_layout.proofs.Whole.{dumps_are_laid_out_in_turn}
-use Rattle.read_wide.proofs.Documents.{tokens_read_as_their_trees}
+use Rattle.read_texts.proofs.WideDocuments.{tokens_read_as_their_trees}
 use Rattle.scan_layout.proofs.Documents.{nothing_has_its_tokens}
 use Rattle.scan_layout.proofs.InTurn.{layouts_in_turn_have_their_tokens}
 use Rattle.yaml_chars.specs.Reading.{up_to_nul}
 use Rattle.loaded_texts.specs.TextReadAs.{IsReadAs}
 use Rattle.loaded_texts.specs.Spelled.{IsWithoutNul}
 use Rattle.loaded_texts.specs.InTurn.{LayoutsInTurnAreReadAsTheirTrees, LayoutsInTurnAreWithoutNul, DumpsInTurnAreReadAsTheirTrees}
-use Rattle.loaded_texts.proofs.LayoutNul.{layout_texts_have_no_nul}
+use Rattle.loaded_texts.proofs.WideNul.{wide_texts_have_no_nul}
 
 nothing_is_read : (keep_tags : Bool) → IsReadAs keep_tags [] []
 nothing_is_read keep_tags = record {
@@ -34,20 +32,6 @@ dumps_in_turn_are_read keep_tags compact multiline ts can = layouts_in_turn_are_
 
 -- ---- no NUL
 
-behind_nul : (b : Bool) (c : ℕ) (a : List ℕ) → (if b then [] else c ∷ up_to_nul a) ≡ c ∷ a → up_to_nul a ≡ a
-behind_nul true c a h = cc
-behind_nul false c a h = cc
-
-in_front : (b : Bool) (c : ℕ) (a r : List ℕ) → (if b then [] else c ∷ up_to_nul a) ≡ c ∷ a → up_to_nul r ≡ r → (if b then [] else c ∷ up_to_nul r) ≡ c ∷ r
-in_front true c a r h n = cc
-in_front false c a r h n = ap (λ l. c ∷ l) n
-
-both : (a r : List ℕ) → IsWithoutNul a → IsWithoutNul r → IsWithoutNul (a ++ r)
-both [] r h n = n
-both (c ∷ a) r h n = in_front (c == 0) c a (a ++ r) h (both a r (behind_nul (c == 0) c a h) n)
-
 pub layouts_in_turn_have_no_nul : LayoutsInTurnAreWithoutNul
 layouts_in_turn_have_no_nul [] text none = ap up_to_nul none ∙ sym none
-layouts_in_turn_have_no_nul (t ∷ ts) text (first, rest, (w, is, spelt, tree), more, whole) =
-    let one = subst IsWithoutNul spelt (layout_texts_have_no_nul w is) in
-    subst IsWithoutNul whole (both first (10 ∷ rest) one (ap (λ l. 10 ∷ l) (layouts_in_turn_have_no_nul ts rest more)))
+layouts_in_turn_have_no_nul (t ∷ ts) text laid = let z = layouts_in_turn_have_their_tokens t ts text laid in subst IsWithoutNul z.2 (wide_texts_have_no_nul z.0 z.1)

@@ -98,7 +98,7 @@ of_number (number false w f e) r h n = positive w f e r h n
 -- ---- values
 
 mutual
-  value : (v : Json) (r : List ℕ) → IsJson v → IsWithoutNul r → IsWithoutNul (spell v r)
+  pub value : (v : Json) (r : List ℕ) → IsJson v → IsWithoutNul r → IsWithoutNul (spell v r)
   value Json.false_word r is n = ap (λ l. codes "false" ++ l) n
   value Json.null_word r is n = ap (λ l. codes "null" ++ l) n
   value Json.true_word r is n = ap (λ l. codes "true" ++ l) n

@@ -1,4 +1,4 @@
--- No text laid out in lines has a NUL.
+-- The parts of texts laid out in lines have no NUL.
 use Rattle.std.proofs.Common.{◌≡◌, ◌≢◌, ℕ, zero, suc, ◌+◌, ◌/◌, ◌%◌, ◌^◌, ◌<◌, List, [], ◌∷◌, ◌++◌, Bool, true, false, not, ◌||◌, ◌==◌, nat_lt, if◌then◌else◌, refl, ap, ◌∙◌, arith, append_assoc}
 use Rattle.std.specs.Prelude.{codes, nat_eq, ℤ, pos, negsuc}
 use Rattle.std.specs.List.{list_all, list_any, ends_with}
@@ -19,18 +19,17 @@ use Rattle.tree_defs.proofs.RealTexts.{is_real_character, real_text-characters}
 use Rattle.tree_defs.proofs.Unquoted.{unquoted}
 use Rattle.layout_defs.specs.Gap.{spaces, GapLine, empty_line, comment_line, spell_gap_line, spell_gap, next_line, spell_ending, is_line_character, IsGapLine, IsGap, AreEmptyLines}
 use Rattle.layout_defs.specs.BlockLines.{Line, full, blank, contents, spell_lines}
-use Rattle.layout_defs.specs.Layout.{Scalar, plain, quoted, Inline, scalar, empty_array, empty_hash, Block, Value, Entries, Field, Fields, Root, spell_scalar, spell_inline, spell_literal, spell_block, spell_value, spell_entries, spell_field, spell_fields, spell_root, IsPlain, IsScalar, IsInline, IsBlock, IsValue, AreEntries, IsField, AreFields, AreLinesOf, IsRoot, IsEnding}
+use Rattle.layout_defs.specs.Layout.{Scalar, plain, quoted, spell_scalar, spell_literal, IsPlain, IsScalar, AreLinesOf}
 use Rattle.loaded_texts.specs.Spelled.{IsWithoutNul}
-use Rattle.loaded_texts.specs.Laws.{LayoutTextsAreWithoutNul}
 use Rattle.loaded_texts.proofs.Nul.{character, characters}
 
 -- ---- gaps
 
-indentation : (k : ℕ) (r : List ℕ) → IsWithoutNul r → IsWithoutNul (spaces k r)
+pub indentation : (k : ℕ) (r : List ℕ) → IsWithoutNul r → IsWithoutNul (spaces k r)
 indentation zero r n = n
 indentation (suc k) r n = ap (λ l. 32 ∷ l) (indentation k r n)
 
-comment : (text r : List ℕ) → list_all is_line_character text ≡ true → IsWithoutNul r → IsWithoutNul (text ++ r)
+pub comment : (text r : List ℕ) → list_all is_line_character text ≡ true → IsWithoutNul r → IsWithoutNul (text ++ r)
 unfolding is_line_character
 comment text r h n = characters is_line_character refl text r h n
 
@@ -38,18 +37,18 @@ gap_line : (l : GapLine) (r : List ℕ) → IsGapLine l → IsWithoutNul r → I
 gap_line empty_line r is n = n
 gap_line (comment_line text) r is n = ap (λ l. 35 ∷ l) (comment text r is n)
 
-gap : (g : List GapLine) (r : List ℕ) → IsGap g → IsWithoutNul r → IsWithoutNul (spell_gap g r)
+pub gap : (g : List GapLine) (r : List ℕ) → IsGap g → IsWithoutNul r → IsWithoutNul (spell_gap g r)
 gap [] r is n = n
 gap (l ∷ g) r is n = gap_line l (10 ∷ spell_gap g r) is.0 (ap (λ a. 10 ∷ a) (gap g r is.1 n))
 
-line : (column : ℕ) (g : List GapLine) (r : List ℕ) → IsGap g → IsWithoutNul r → IsWithoutNul (next_line column g r)
+pub line : (column : ℕ) (g : List GapLine) (r : List ℕ) → IsGap g → IsWithoutNul r → IsWithoutNul (next_line column g r)
 line column g r is n = ap (λ l. 10 ∷ l) (gap g (spaces column r) is (indentation column r n))
 
-ending : (g : List GapLine) → IsGap g → IsWithoutNul (spell_ending g [])
+pub ending : (g : List GapLine) → IsGap g → IsWithoutNul (spell_ending g [])
 ending [] is = refl
 ending (l ∷ g) is = ap (λ a. 10 ∷ a) (gap_line l (spell_ending g []) is.0 (ending g is.1))
 
-empty_gap : (g : List GapLine) → AreEmptyLines g → IsGap g
+pub empty_gap : (g : List GapLine) → AreEmptyLines g → IsGap g
 empty_gap [] are = tt
 empty_gap (empty_line ∷ g) are = (tt, empty_gap g are.1)
 empty_gap (comment_line text ∷ g) are = absurd are.0
@@ -101,7 +100,7 @@ code c r n =
     ap (λ l. codes "\\u00" ++ l) (character (hexadecimal_digit (c / 16)) (y ∷ r) (hexadecimal (c / 16)) (character y r (hexadecimal (c % 16)) n))
 
 -- one or the other way
-either : (b : Bool) (v w r : List ℕ) → (b ≡ true → IsWithoutNul (v ++ r)) → (b ≡ false → IsWithoutNul (w ++ r)) → IsWithoutNul ((if b then v else w) ++ r)
+pub either : (b : Bool) (v w r : List ℕ) → (b ≡ true → IsWithoutNul (v ++ r)) → (b ≡ false → IsWithoutNul (w ++ r)) → IsWithoutNul ((if b then v else w) ++ r)
 either true v w r first second = first refl
 either false v w r first second = second refl
 
@@ -126,16 +125,11 @@ escapes (c ∷ w) r n = rw (append_assoc (written_character c) (written_escapes 
 in_quotes : (w r : List ℕ) → IsWithoutNul r → IsWithoutNul (double_quoted w ++ r)
 in_quotes w r n = ap (λ l. 34 ∷ l) (rw (append_assoc (written_escapes w) (34 ∷ []) r) (escapes w (34 ∷ r) (ap (λ l. 34 ∷ l) n)))
 
--- ---- what stands on one line
+-- ---- a scalar
 
-one_scalar : (s : Scalar) (r : List ℕ) → IsScalar s → IsWithoutNul r → IsWithoutNul (spell_scalar s r)
+pub one_scalar : (s : Scalar) (r : List ℕ) → IsScalar s → IsWithoutNul r → IsWithoutNul (spell_scalar s r)
 one_scalar (plain t) r is n = unquoted_scalar t r is n
 one_scalar (quoted w) r is n = in_quotes w r n
-
-inline : (i : Inline) (r : List ℕ) → IsInline i → IsWithoutNul r → IsWithoutNul (spell_inline i r)
-inline (scalar s) r is n = one_scalar s r is n
-inline empty_array r is n = ap (λ l. codes "[]" ++ l) n
-inline empty_hash r is n = ap (λ l. codes "{}" ++ l) n
 
 -- ---- literal blocks
 
@@ -177,57 +171,11 @@ literal_characters w h =
     let s = and_parts _ _ q.0 in
     (and_parts _ (list_all is_literal_character w) s.0).1
 
-literal : (column : ℕ) (w : List ℕ) (ls : List Line) (r : List ℕ) → is_literal w ≡ true → AreLinesOf w column ls → IsWithoutNul r → IsWithoutNul (spell_literal column w ls r)
+pub literal : (column : ℕ) (w : List ℕ) (ls : List Line) (r : List ℕ) → is_literal w ≡ true → AreLinesOf w column ls → IsWithoutNul r → IsWithoutNul (spell_literal column w ls r)
 literal column w ls r h are n =
     header (ends_with nat_eq w (codes "\n")) (spell_lines column ls r)
     (lines column ls r (ap are_fit are.0 ∙ lines_fit w (literal_characters w h)) n)
 
--- ---- blocks
-
-mutual
-  block : (c : ℕ) (b : Block) (r : List ℕ) → IsBlock c b → IsWithoutNul r → IsWithoutNul (spell_block c b r)
-  block c (Block.array es) r is n = entries c es r is n
-  block c (Block.hash fs) r is n = fields c fs r is.0 n
-
-  value : (c : ℕ) (v : Value) (r : List ℕ) → IsValue c v → IsWithoutNul r → IsWithoutNul (spell_value c v r)
-  value c (Value.beside more i) r is n = ap (λ l. 32 ∷ l) (indentation more (spell_inline i r) (inline i r is n))
-  value c (Value.literal more column w ls) r is n = ap (λ l. 32 ∷ l) (indentation more (spell_literal column w ls r) (literal column w ls r is.1 is.2 n))
-  value c (Value.compact more b) r is n = ap (λ l. 32 ∷ l) (indentation more (spell_block (c + 2 + more) b r) (block (c + 2 + more) b r is n))
-  value c (Value.below g column b) r is n = line column g (spell_block column b r) is.0 (block column b r is.2 n)
-
-  entries : (c : ℕ) (es : Entries) (r : List ℕ) → AreEntries c es → IsWithoutNul r → IsWithoutNul (spell_entries c es r)
-  entries c (Entries.last_entry v) r are n = ap (λ l. 45 ∷ l) (value c v r are n)
-  entries c (Entries.entry v g es) r are n =
-      ap (λ l. 45 ∷ l) (value c v (next_line c g (spell_entries c es r)) are.0 (line c g (spell_entries c es r) are.1 (entries c es r are.2 n)))
-
-  one_field : (c : ℕ) (f : Field) (r : List ℕ) → IsField c f → IsWithoutNul r → IsWithoutNul (spell_field c f r)
-  one_field c (Field.implicit k v) r is n = one_scalar k (58 ∷ spell_value c v r) is.0.0 (ap (λ l. 58 ∷ l) (value c v r is.2 n))
-  one_field c (Field.explicit k g v) r is n =
-      let behind = 58 ∷ spell_value c v r in
-      ap (λ l. 63 ∷ l) (value c k (next_line c g behind) is.1 (line c g behind is.2 (ap (λ l. 58 ∷ l) (value c v r is.3 n))))
-
-  fields : (c : ℕ) (fs : Fields) (r : List ℕ) → AreFields c fs → IsWithoutNul r → IsWithoutNul (spell_fields c fs r)
-  fields c (Fields.last_field f) r are n = one_field c f r are n
-  fields c (Fields.field f g fs) r are n =
-      one_field c f (next_line c g (spell_fields c fs r)) are.0 (line c g (spell_fields c fs r) are.1 (fields c fs r are.2 n))
-
--- ---- documents
-
-root_literal : (w : List ℕ) → is_root_literal w ≡ true → is_literal w ≡ true
+pub root_literal : (w : List ℕ) → is_root_literal w ≡ true → is_literal w ≡ true
 unfolding is_root_literal
 root_literal w h = (and_parts (is_literal w) _ (and_parts _ _ h).0).0
-
-root : (x : Root) (r : List ℕ) → IsRoot x → IsWithoutNul r → IsWithoutNul (spell_root x r)
-root (Root.block column b) r is n = indentation column (spell_block column b r) (block column b r is n)
-root (Root.inline i) r is n = inline i r is n
-root (Root.literal w ls) r is n = literal 0 w ls r (root_literal w is.0) is.1 n
-
-ending_gap : (x : Root) (g : List GapLine) → IsEnding x g → IsGap g
-ending_gap (Root.block column b) g is = is
-ending_gap (Root.inline i) g is = is
-ending_gap (Root.literal w ls) g is = empty_gap g is
-
-pub layout_texts_have_no_nul : LayoutTextsAreWithoutNul
-layout_texts_have_no_nul w is =
-    let r = spell_ending w.ending [] in
-    ap (λ l. codes "---\n" ++ l) (gap w.gap (spell_root w.root r) is.gap (root w.root r is.root (ending w.ending (ending_gap w.root w.ending is.ending))))

@@ -1,10 +1,11 @@
 pub mod Answers
+pub mod CutTexts
 pub mod DocumentTrees
 pub mod Dumps
 pub mod InTurn
 pub mod InsideNode
 pub mod JsonNul
-pub mod LayoutNul
+mod LayoutNul
 pub mod Loads
 mod Nul
 pub mod OneReading
@@ -14,4 +15,5 @@ pub mod Spelled
 pub mod StreamEnds
 pub mod Texts
 pub mod QuotedTexts
+pub mod WideNul
 pub mod WideTexts

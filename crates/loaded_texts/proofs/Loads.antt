@@ -8,7 +8,7 @@ use Rattle.event_defs.specs.Event.{Ev}
 use Rattle.event_defs.specs.Stream.{IsStream, toks, events_of}
 use Rattle.scan_model.proofs.Runs.{one_list, not_refused}
 use Rattle.layout_defs.specs.Json.{spell_text, tree_of}
-use Rattle.read_json.proofs.Loads.{streams_are_loaded, foretold_are_not_refused, streams_are_not_cut}
+use Rattle.read_texts.proofs.Loads.{streams_are_loaded, foretold_are_not_refused, streams_are_not_cut}
 use Rattle.loaded_texts.specs.TextReadAs.{IsReadAs}
 use Rattle.loaded_texts.specs.TextEvents.{HasEvents, IsFaultOf, wants_memory, no_token, no_stream, AnswersText}
 use Rattle.loaded_texts.specs.TextEvents as answers

@@ -4,7 +4,7 @@ use Rattle.std.specs.List.{list_all}
 use Rattle.token_defs.specs.Token.{Tok}
 use Rattle.laid_tokens.specs.QuotedText.{Quotes, QuotedText, IsQuoted, HasQuotedTokens, spell, quote_of, style_of, body_value}
 use Rattle.laid_tokens.specs.QuotedText as laid
-use Rattle.read_wide.proofs.Quoted.{quoted_read_as_their_string}
+use Rattle.read_texts.proofs.Quoted.{quoted_read_as_their_string}
 use Rattle.scan_quoted.specs.QuotedScan.{is_some}
 use Rattle.scan_quoted.proofs.NoNul.{has_none}
 use Rattle.scan_quoted.proofs.Values.{parts}

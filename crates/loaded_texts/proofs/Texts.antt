@@ -11,8 +11,8 @@ use Rattle.event_defs.specs.Stream.{IsStream, Foretells, toks, events_of}
 use Rattle.event_defs.specs.Unfinished.{new_loader, with_events}
 use Rattle.yaml_scanner.specs.Scanned.{Scanned, ScansIn}
 use Rattle.yaml_parser.specs.Parsed.{read}
-use Rattle.read_json.specs.ReadAs.{ReadAs, IsAtWork}
-use Rattle.read_json.proofs.Loads.{streams_are_loaded, foretold_are_not_refused, streams_are_not_cut}
+use Rattle.read_texts.specs.ReadAs.{ReadAs, IsAtWork}
+use Rattle.read_texts.proofs.Loads.{streams_are_loaded, foretold_are_not_refused, streams_are_not_cut}
 use Rattle.loaded_texts.specs.TextReadAs.{IsReadAs}
 use Rattle.loaded_texts.specs.TextEvents.{AreFirst}
 use Rattle.loaded_texts.specs.Laws.{ReadTextsAreNotRefused, ReadTextsHaveNoFaultButMemory, EventsOfReadTextsAreRead, ReadTextsHaveTheirTrees}

@@ -21,7 +21,7 @@ use Rattle.yaml_scanner.specs.Scanned.{Scanned, MayBe, ScansIn, Scans}
 use Rattle.yaml_parser.specs.Parsed.{Parsed, read}
 use Rattle.yaml_parser.specs.Follows.{Follows, Refused, IsWhole, Explains}
 use Rattle.yaml_parser.specs.Loads.{Loads}
-use Rattle.read_json.specs.ReadAs.{IsAtWork}
+use Rattle.read_texts.specs.ReadAs.{IsAtWork}
 use Rattle.loaded_texts.specs.TextReadAs.{IsReadAs, IsAtStart}
 use Rattle.loaded_texts.specs.TextEvents.{AnswersText}
 use Rattle.loaded_texts.specs.LoadsAs.{LoadsAs}

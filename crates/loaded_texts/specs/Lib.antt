@@ -1,3 +1,4 @@
+pub mod Cuts
 pub mod Documents
 pub mod InTurn
 pub mod Laws

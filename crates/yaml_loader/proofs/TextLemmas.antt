@@ -1,6 +1,6 @@
 -- What a load answers of a text that is read as trees.
 use Rattle.std.proofs.Common.{◌≡◌, ℕ, Bool, List, [], ◌∷◌, false, refl, sym, ap, ◌∙◌, subst}
-use Rattle.std.specs.Prelude.{Option, Result, Ok, Err, Vec}
+use Rattle.std.specs.Prelude.{Option, Result, Ok, Err, Vec, IfOk}
 use Rattle.std.specs.declared.alloc.Global.{Global}
 use Rattle.std.specs.Str.{chars, IsUtf8}
 use Rattle.std.specs.Str.Iter.{chars_steps, chars_rest}
@@ -11,21 +11,26 @@ use Rattle.yaml_chars.proofs.SpelledLemmas.{Chars-spelled}
 use Rattle.tree_defs.specs.Tree.{Tree}
 use Rattle.layout_defs.specs.Json.{spell_text, tree_of}
 use Rattle.layout_defs.specs.Layout as layout
+use Rattle.layout_defs.specs.WideLayout as wide
 use Rattle.event_defs.specs.Stream.{toks}
 use Rattle.yaml_tokens.specs.Fault.{Fault}
+use Rattle.yaml_tree.specs.View.{items_view}
 use Rattle.yaml_tree.specs.declared.yaml.Yaml.{Yaml}
 use Rattle.yaml_scanner.specs.Scanned.{Scanned, MayBe}
 use Rattle.yaml_parser.specs.Parsed.{Parsed}
 use Rattle.loaded_texts.specs.TextReadAs.{IsReadAs, IsAtStart}
 use Rattle.loaded_texts.specs.Spelled.{IsWithoutNul}
+use Rattle.loaded_texts.specs.Cuts.{IsReadOfCut}
+use Rattle.loaded_texts.proofs.CutTexts.{of_a_cut, none_before}
 use Rattle.loaded_texts.proofs.Loads.{memory_is_wanted}
 use Rattle.loaded_texts.proofs.Answers.{nested_is_stream}
 use Rattle.loaded_texts.proofs.OneReading.{one_reading}
 use Rattle.loaded_texts.proofs.Spelled.{characters_are_the_text, json_texts_are_read, layout_texts_are_read}
 use Rattle.loaded_texts.proofs.JsonNul.{json_texts_have_no_nul}
-use Rattle.loaded_texts.proofs.LayoutNul.{layout_texts_have_no_nul}
+use Rattle.loaded_texts.proofs.WideNul.{layout_texts_have_no_nul, wide_texts_have_no_nul}
+use Rattle.loaded_texts.proofs.WideTexts.{wide_texts_are_read}
 use Rattle.loaded_texts.proofs.QuotedTexts.{quoted_texts_are_read, quoted_texts_have_no_nul}
-use Rattle.yaml_loader.specs.TextLoads.{LoadsText, LoadsOnly, OfTexts, OfText, OfGiven, OfJson, OfLayout, OfQuoted, Answers}
+use Rattle.yaml_loader.specs.TextLoads.{LoadsText, LoadsOnly, OfTexts, OfText, OfGiven, OfJson, OfLayout, OfWideLayout, OfQuoted, Answers}
 use Rattle.yaml_loader.specs.Unread.{of_parser}
 use Rattle.yaml_loader.specs.Unread as unread
 
@@ -73,6 +78,11 @@ of_json text P h tree (w, is, e, same) = of_one (spell_text w) text (tree_of w.v
 pub of_layout : (text : List ℕ) (P : List Tree → Type 0) → OfText (up_to_nul text) P → OfLayout text P
 of_layout text P h tree (w, is, e, same) = of_one (layout.spell w []) text (layout.tree_of w) tree P (layout_texts_have_no_nul w is) (layout_texts_are_read false w is) e same h
 
+pub of_wide_layout : (text : List ℕ) (P : List Tree → Type 0) → OfText (up_to_nul text) P → OfWideLayout text P
+of_wide_layout text P h trees (w, is, e, same) =
+    let stand = wide.trees_of w.documents in
+    subst P same (h stand (subst (λ a. IsReadAs false a stand) (sym (wide_texts_have_no_nul w is) ∙ ap up_to_nul e) (wide_texts_are_read false w is)))
+
 pub of_quoted : (text : List ℕ) (P : List Tree → Type 0) → OfText (up_to_nul text) P → OfQuoted text P
 of_quoted text P h value is =
     of_one text text (Tree.string value) (Tree.string value) P (quoted_texts_have_no_nul text value is) (quoted_texts_are_read false text value is) refl refl h
@@ -87,6 +97,11 @@ of_first_json text P h tree (w, is, e, same) = of_first (spell_text w) text (tre
 pub of_first_layout : (text : List ℕ) (P : List Tree → Type 0) → OfText text P → OfLayout text P
 of_first_layout text P h tree (w, is, e, same) = of_first (layout.spell w []) text (layout.tree_of w) tree P (layout_texts_are_read false w is) e same h
 
+pub of_first_wide_layout : (text : List ℕ) (P : List Tree → Type 0) → OfText text P → OfWideLayout text P
+of_first_wide_layout text P h trees (w, is, e, same) =
+    let stand = wide.trees_of w.documents in
+    subst P same (h stand (subst (λ a. IsReadAs false a stand) e (wide_texts_are_read false w is)))
+
 pub of_first_quoted : (text : List ℕ) (P : List Tree → Type 0) → OfText text P → OfQuoted text P
 of_first_quoted text P h value is = h (Tree.string value ∷ []) (quoted_texts_are_read false text value is)
 
@@ -94,4 +109,10 @@ of_first_quoted text P h value is = h (Tree.string value ∷ []) (quoted_texts_a
 pub answers : (text : List ℕ) (result : Result (Vec Yaml Global) Fault) → LoadsText false text result → Answers text result
 answers text result h =
     let texts = of_text text result h in
-    record { reads = h; texts = texts; json = of_first_json text (LoadsOnly result) texts; laid_out = of_first_layout text (LoadsOnly result) texts; quoted = of_first_quoted text (LoadsOnly result) texts }
+    record { reads = h; texts = texts; json = of_first_json text (LoadsOnly result) texts; laid_out = of_first_layout text (LoadsOnly result) texts; widely_laid_out = of_first_wide_layout text (LoadsOnly result) texts; quoted = of_first_quoted text (LoadsOnly result) texts }
+
+-- the documents are what a cut of the text is read as
+pub of_cut : (text : List ℕ) (result : Result (Vec Yaml Global) Fault) → LoadsText false (up_to_nul text) result
+    → IfOk result (λ documents. IsReadOfCut false (up_to_nul text) (items_view documents.items))
+of_cut text (Ok documents) h = of_a_cut false (up_to_nul text) (items_view documents.items) (none_before text) h
+of_cut text (Err f) h = tt

@@ -5,6 +5,7 @@ use Rattle.std.specs.declared.alloc.Global.{Global}
 use Rattle.tree_defs.specs.Tree.{Tree}
 use Rattle.layout_defs.specs.Json.{IsJsonText}
 use Rattle.layout_defs.specs.Layout.{IsLaidOut}
+use Rattle.layout_defs.specs.WideLayout.{AreLaidOut}
 use Rattle.laid_tokens.specs.QuotedText.{IsQuoted}
 use Rattle.yaml_tokens.specs.Fault.{Fault}
 use Rattle.yaml_tree.specs.View.{items_view}
@@ -40,6 +41,10 @@ OfJson text P = (tree : Tree) → IsJsonText tree text → P (tree ∷ [])
 abbrev pub OfLayout : List ℕ → (List Tree → Type 0) → Type 0
 OfLayout text P = (tree : Tree) → IsLaidOut tree text → P (tree ∷ [])
 
+-- P of the trees that are laid out as the text, one a document, in any of the forms of a wider layout.
+abbrev pub OfWideLayout : List ℕ → (List Tree → Type 0) → Type 0
+OfWideLayout text P = (trees : List Tree) → AreLaidOut trees text → P trees
+
 -- P of the string that is the value of the text's one quoted scalar, with line feeds alone behind it.
 abbrev pub OfQuoted : List ℕ → (List Tree → Type 0) → Type 0
 OfQuoted text P = (value : List ℕ) → IsQuoted value text → P (Tree.string value ∷ [])
@@ -49,10 +54,11 @@ abbrev pub OfGiven : {S : Type 0} → (S → Option ℕ → S → Type 0) → S 
 OfGiven steps source Q = (text : List ℕ) → AlwaysYields steps (λ c. c) source text → Q text
 
 -- What a load answers of a text: the documents that it is read as, or a fault that has its reason in it; so of a text that is read as
--- trees, of a JSON text, of one that is laid out and of one quoted scalar just their trees, or out of memory.
+-- trees, of a JSON text, of one that is laid out, also as several documents, and of one quoted scalar just their trees, or out of memory.
 pub record Answers (text : List ℕ) (result : Result (Vec Yaml Global) Fault) : Type 0 where
   pub reads : LoadsText false text result
   pub texts : OfText text (LoadsOnly result)
   pub json : OfJson text (LoadsOnly result)
   pub laid_out : OfLayout text (LoadsOnly result)
+  pub widely_laid_out : OfWideLayout text (LoadsOnly result)
   pub quoted : OfQuoted text (LoadsOnly result)

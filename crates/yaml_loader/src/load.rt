@@ -6,8 +6,9 @@ ghost use Rattle.yaml_tree.specs.View.{items_view};
 ghost use Rattle.yaml_chars.specs.Reading.{HasNoNul, up_to_nul, Begins};
 ghost use Rattle.yaml_chars.specs.Source.{CameFrom};
 ghost use Rattle.yaml_parser.specs.Parsed.{parsed};
+ghost use Rattle.loaded_texts.specs.Cuts.{IsReadOfCut};
 ghost use Rattle.yaml_loader.specs.Loads.{AreLoaded, IsLoadFault};
-ghost use Rattle.yaml_loader.specs.TextLoads.{LoadsText, LoadsOnly, OfTexts, OfText, OfGiven, OfJson, OfLayout, OfQuoted, Answers};
+ghost use Rattle.yaml_loader.specs.TextLoads.{LoadsText, LoadsOnly, OfTexts, OfText, OfGiven, OfJson, OfLayout, OfWideLayout, OfQuoted, Answers};
 
 use crate::loader::{Course, YamlLoader, out_of_nesting};
 use event_defs::laws::loaded_trees_have_no_alias;
@@ -34,23 +35,29 @@ impl YamlLoader {
     ///
     /// # What loads for certain
     ///
-    /// These texts load as their one tree, unless memory is refused:
+    /// These texts load as their trees, unless memory is refused:
     ///
     /// - a JSON text (RFC 8259) with TABs only among the blanks that begin a line, no escape of half a pair of UTF-16, no
     ///   key twice in an object, and at most 255 levels;
     /// - `---` and, below it, a tree laid out in lines: block arrays and hashes at any columns, scalars on one line or as
     ///   literal blocks, and between the entries empty lines and comment lines, with no key twice in a hash;
+    /// - such layouts with single quotes, folded blocks, JSON arrays and objects on one line, arrays at the column of the
+    ///   key that they are the value of, comments behind what they explain, anchors and aliases, and without the first
+    ///   `---`; and several documents, each further one behind its `---`, as their trees in order;
     /// - one scalar in single or double quotes, over any lines (YAML 1.2, sections 7.3.1 and 7.3.2), and line feeds alone
     ///   behind it: a string, whatever it could stand for without its quotes.
     pub fn load_from_str(alloc: Global, source: &str) -> Result<Vec<Yaml>, ScanError>
         ensures reads { LoadsText false (up_to_nul (chars source.now)) result }
+        ensures of_cut { IfOk result (λ documents. IsReadOfCut false (up_to_nul (chars source.now)) (items_view documents.items)) }
         ensures no_alias { IfOk result (λ documents. All HasNoAlias (items_view documents.items)) }
         ensures texts { OfText (up_to_nul (chars source.now)) (LoadsOnly result) }
         ensures json { OfJson (chars source.now) (LoadsOnly result) }
         ensures laid_out { OfLayout (chars source.now) (LoadsOnly result) }
+        ensures widely_laid_out { OfWideLayout (chars source.now) (LoadsOnly result) }
         ensures quoted { OfQuoted (chars source.now) (LoadsOnly result) }
         ensures json_before_nul { OfJson (up_to_nul (chars source.now)) (LoadsOnly result) }
         ensures laid_out_before_nul { OfLayout (up_to_nul (chars source.now)) (LoadsOnly result) }
+        ensures widely_laid_out_before_nul { OfWideLayout (up_to_nul (chars source.now)) (LoadsOnly result) }
         ensures quoted_before_nul { OfQuoted (up_to_nul (chars source.now)) (LoadsOnly result) }
     {
         let mut parser = Parser::new_from_str(alloc, source);
@@ -72,10 +79,12 @@ impl YamlLoader {
         // behind them where a fault came first.
         ensures given { Begins I.next_gives source (λ text. Answers text result) }
         ensures reads { OfGiven I.next_gives source (λ text. LoadsText false (up_to_nul text) result) }
+        ensures of_cut { OfGiven I.next_gives source (λ text. IfOk result (λ documents. IsReadOfCut false (up_to_nul text) (items_view documents.items))) }
         ensures no_alias { IfOk result (λ documents. All HasNoAlias (items_view documents.items)) }
         ensures texts { OfGiven I.next_gives source (λ text. OfText (up_to_nul text) (LoadsOnly result)) }
         ensures json { OfGiven I.next_gives source (λ text. OfJson text (LoadsOnly result)) }
         ensures laid_out { OfGiven I.next_gives source (λ text. OfLayout text (LoadsOnly result)) }
+        ensures widely_laid_out { OfGiven I.next_gives source (λ text. OfWideLayout text (LoadsOnly result)) }
         ensures quoted { OfGiven I.next_gives source (λ text. OfQuoted text (LoadsOnly result)) }
     {
         let mut parser = Parser::new(alloc, source);

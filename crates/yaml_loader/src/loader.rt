@@ -115,6 +115,7 @@ impl MarkedEventReceiver for YamlLoader {
     ///
     /// `event out of nesting`, at `mark`: an end without its start, a second root node, an end of a mapping whose last
     /// key has no value, or a document's end while a collection is open. Or memory was refused. Both are kept.
+    #[inline(always)]
     fn on_event(&mut self, ev: Event, mark: Marker) -> Result<(), ScanError>
         ensures { Takes self.old (ev_of ev) mark result self.new }
     {

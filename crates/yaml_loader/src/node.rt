@@ -1,5 +1,5 @@
 //! The events of a reading, and where a complete node goes.
-ghost use Rattle.std.specs.Prelude.{◌≡◌, ◌<◌, ℕ, [], None, IfOk, IfErr, OnOk};
+ghost use Rattle.std.specs.Prelude.{◌≡◌, ◌<◌, ℕ, [], Some, None, IfOk, IfErr, OnOk};
 ghost use Rattle.yaml_chars.specs.Text.{string_chars};
 ghost use Rattle.yaml_tokens.specs.Shown.{style_of};
 ghost use Rattle.event_defs.specs.Anchors.{aliased, finished};
@@ -19,6 +19,7 @@ use yaml_tree::{Array, Hash, Yaml};
 impl Reading {
     /// Takes one event more. Behind a refusal only the documents count, and behind that of a repeated key the
     /// mapping that has it.
+    #[inline(always)]
     pub(crate) fn take(&mut self, event: Event) -> Result<(), Refusal>
         ensures ok { Reads (with_event (unfinished_of self.old) (ev_of event)) result self.new }
         ensures err { Refuses (with_event (unfinished_of self.old) (ev_of event)) result self.new }
@@ -46,7 +47,7 @@ impl Reading {
         self.insert(node)
     }
 
-    #[inline(never)]
+    #[inline(always)]
     fn take_scalar(
         &mut self,
         text: String,
@@ -102,7 +103,8 @@ impl Reading {
         if self.opened.is_empty() && self.root.is_some() {
             return Err(Refusal::OutOfNesting);
         }
-        self.opened.push(collection).map_err(|_| AllocError)?;
+        self.opened.reserve(1)?;
+        self.opened.push_reserved(collection);
         Ok(())
     }
 
@@ -198,7 +200,7 @@ impl Reading {
     }
 
     /// A complete node: the root, the next item, the next key, or the value of the key that waits.
-    #[inline(never)]
+    #[inline(always)]
     fn insert(&mut self, node: Yaml) -> Result<(), Refusal>
         ensures ok { let u = unfinished_of self.old in OnOk result (with_tree (view node) u u.opened ≡ reads (unfinished_of self.new)) }
         ensures err { let u = unfinished_of self.old in Refuses (with_tree (view node) u u.opened) result self.new }
@@ -218,27 +220,37 @@ impl Reading {
 }
 
 impl Open {
-    #[tactic(auto, using(crate::proofs::LastPair::last_of_push))]
+    #[inline(always)]
     fn insert(&mut self, node: Yaml) -> Result<(), Refusal>
         ensures ok { OnOk result (Inserts (opened_of self.old) (view node) (opened_of self.new)) }
         ensures err { IfErr result (λ r. IsNoInsert r (opened_of self.old) (view node) (opened_of self.new)) }
     {
         match self {
-            Open::Sequence(_, items) => {
-                items.push(node).map_err(|_| AllocError)?;
-                Ok(())
-            }
+            Open::Sequence(_, items) => match items.push(node) {
+                Ok(()) => Ok(()),
+                Err(_) => Err(Refusal::OutOfMemory),
+            },
             Open::Mapping(_, pairs, key) => match key.take() {
                 None => {
                     *key = Some(node);
                     Ok(())
                 }
-                Some(key) => match pairs.insert(key, node) {
-                    Ok(None) => Ok(()),
-                    Ok(Some(_)) => Err(Refusal::RepeatedKey),
-                    Err(_) => Err(Refusal::OutOfMemory),
-                },
+                Some(key) => insert_pair(pairs, key, node),
             },
         }
+    }
+}
+
+// A call of its own, so that no other node pays for its locals.
+#[inline(never)]
+#[tactic(auto, using(crate::proofs::LastPair::last_of_push))]
+fn insert_pair(pairs: &mut Hash, key: Yaml, value: Yaml) -> Result<(), Refusal>
+    ensures ok { OnOk result ((n : ℕ) → Inserts (opened_mapping n pairs.old (Some (view key))) (view value) (opened_mapping n pairs.new None)) }
+    ensures err { IfErr result (λ r. (n : ℕ) → IsNoInsert r (opened_mapping n pairs.old (Some (view key))) (view value) (opened_mapping n pairs.new None)) }
+{
+    match pairs.insert(key, value) {
+        Ok(None) => Ok(()),
+        Ok(Some(_)) => Err(Refusal::RepeatedKey),
+        Err(_) => Err(Refusal::OutOfMemory),
     }
 }

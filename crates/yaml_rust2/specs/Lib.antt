@@ -16,8 +16,8 @@ pub use Rattle.layout_defs.specs.DumpIsLaidOut
 pub use Rattle.layout_defs.specs.DumpIsInjective
 pub use Rattle.layout_defs.specs.DumpsInTurn
 pub use Rattle.laid_tokens.specs.QuotedText
-pub use Rattle.scan_layout.specs.Basic
 pub use Rattle.token_defs.specs.Token
+pub use Rattle.cut_defs.specs.Cut
 pub use Rattle.event_defs.specs.Event
 pub use Rattle.event_defs.specs.Nested
 pub use Rattle.event_defs.specs.Stream
@@ -47,6 +47,7 @@ pub use Rattle.yaml_parser.specs.Loads
 pub use Rattle.yaml_parser.specs.Nests
 pub use Rattle.yaml_parser.specs.Pulls
 pub use Rattle.yaml_parser.specs.Shown
+pub use Rattle.loaded_texts.specs.Cuts
 pub use Rattle.loaded_texts.specs.Spelled
 pub use Rattle.loaded_texts.specs.TextReadAs
 pub use Rattle.loaded_texts.specs.TextEvents

@@ -11,6 +11,7 @@ pub use layout_defs::laws::{
     json_trees_are_sound, laid_out_trees_are_sound, layouts_are_wide_layouts,
     layouts_in_turn_are_wide_layouts, widely_laid_out_trees_are_sound,
 };
+pub use loaded_texts::cuts::read_texts_are_read_of_a_cut;
 pub use loaded_texts::documents::{
     aliases_inside_their_node_are_bad_values, read_documents_come_back,
 };
@@ -29,28 +30,28 @@ pub use loaded_texts::laws::{
 pub use loaded_texts::quoted::{
     quoted_texts_are_read_as_their_string, quoted_texts_are_without_nul,
 };
-pub use loaded_texts::wide::basic_texts_are_read_as_their_trees;
-pub use read_json::laws::{
+pub use loaded_texts::wide::{wide_texts_are_read_as_their_trees, wide_texts_are_without_nul};
+pub use read_texts::laws::{
     foretold_events_are_not_refused, json_documents_read_as_their_trees, json_events_are_loaded,
     json_numbers_stand_for_their_trees, json_tokens_are_a_stream, json_tokens_read_as_their_tree,
-    read_streams_are_loaded, read_streams_are_not_cut, read_streams_are_not_refused,
-};
-pub use read_layout::laws::{
     layout_documents_read_as_their_trees, layout_events_are_loaded, layout_tokens_are_a_stream,
-    layout_tokens_read_as_their_tree,
-};
-pub use read_wide::laws::{
-    quoted_tokens_read_as_their_string, wide_events_are_loaded, wide_tokens_read_as_their_trees,
+    layout_tokens_read_as_their_tree, quoted_tokens_read_as_their_string, read_streams_are_loaded,
+    read_streams_are_not_cut, read_streams_are_not_refused, wide_events_are_loaded,
+    wide_tokens_read_as_their_trees,
 };
 pub use scalar_laws::laws::buffers_join_folded_lines;
+pub use scan_cut::laws::{
+    first_tokens_are_a_cut, lexing_functions_read_pieces, shown_faults_stand_in_the_text,
+    tokens_are_a_cut,
+};
 pub use scan_json::laws::{
     json_texts_are_not_refused, json_texts_have_no_other_tokens, json_texts_have_their_tokens,
     texts_have_one_list_of_tokens, texts_with_tokens_are_not_refused,
 };
 pub use scan_layout::laws::{
-    basic_texts_have_their_tokens, layout_texts_are_not_refused, layout_texts_have_no_other_tokens,
+    layout_texts_are_not_refused, layout_texts_have_no_other_tokens,
     layout_texts_have_their_tokens, layouts_in_turn_are_not_refused,
-    layouts_in_turn_have_their_tokens,
+    layouts_in_turn_have_their_tokens, wide_texts_have_their_tokens,
 };
 pub use scan_quoted::laws::{quoted_bodies_are_read, quoted_texts_have_their_tokens};
 pub use tree_defs::laws::{

@@ -1,4 +1,4 @@
-use Rattle.std.proofs.Common.{sym, ap, ◌∙◌}
+use Rattle.std.proofs.Common.{ap}
 use Rattle.std.proofs.lemmas.Result.{err_from_is_err_and}
 use Rattle.yaml_loader.specs.View.{unfinished_of}
 use Rattle.yaml_loader.proofs.LoadLemmas.{went_well, load_fault, was_reading, had_noted, not_out_of_nesting, not_out_of_memory, no_alias}

@@ -4,7 +4,7 @@ use Rattle.std.specs.Str.Iter.{chars_rest}
 use Rattle.yaml_chars.specs.Reading.{up_to_nul}
 use Rattle.yaml_parser.specs.Parsed.{parsed}
 use Rattle.yaml_loader.specs.TextLoads.{LoadsText, LoadsOnly}
-use Rattle.yaml_loader.proofs.TextLemmas.{string_may_be, of_texts, of_text, of_json, of_layout, of_first_json, of_first_layout, of_quoted, of_first_quoted}
+use Rattle.yaml_loader.proofs.TextLemmas.{string_may_be, of_texts, of_text, of_cut, of_json, of_layout, of_wide_layout, of_first_json, of_first_layout, of_first_wide_layout, of_quoted, of_first_quoted}
 use Rattle.yaml_loader.proofs.loader.YamlLoader.load_from_str.Goals as goal
 
 pub returns-clause-reads : goal.returns-clause-reads
@@ -15,6 +15,9 @@ returns-clause-reads c =
     of_texts (parsed c.new_from_str-parser.result) (parsed c.load_from_parser.new.parser) (up_to_nul (chars c.args.source.now)) (λ keep text. LoadsText keep text c.load_from_parser.result)
     (record { given = e.given; fault = e.fault; started = e.started; ended = e.ended; steady = e.steady }) e.keep_tags may p.reads
 
+pub returns-clause-of_cut : goal.returns-clause-of_cut
+returns-clause-of_cut c = of_cut (chars c.args.source.now) c.load_from_parser.result (returns-clause-reads c)
+
 pub returns-clause-texts : goal.returns-clause-texts
 returns-clause-texts c = of_text (up_to_nul (chars c.args.source.now)) c.load_from_parser.result (returns-clause-reads c)
 
@@ -24,6 +27,9 @@ returns-clause-json c = of_json (chars c.args.source.now) (LoadsOnly c.load_from
 pub returns-clause-laid_out : goal.returns-clause-laid_out
 returns-clause-laid_out c = of_layout (chars c.args.source.now) (LoadsOnly c.load_from_parser.result) (returns-clause-texts c)
 
+pub returns-clause-widely_laid_out : goal.returns-clause-widely_laid_out
+returns-clause-widely_laid_out c = of_wide_layout (chars c.args.source.now) (LoadsOnly c.load_from_parser.result) (returns-clause-texts c)
+
 pub returns-clause-quoted : goal.returns-clause-quoted
 returns-clause-quoted c = of_quoted (chars c.args.source.now) (LoadsOnly c.load_from_parser.result) (returns-clause-texts c)
 
@@ -32,6 +38,9 @@ returns-clause-json_before_nul c = of_first_json (up_to_nul (chars c.args.source
 
 pub returns-clause-laid_out_before_nul : goal.returns-clause-laid_out_before_nul
 returns-clause-laid_out_before_nul c = of_first_layout (up_to_nul (chars c.args.source.now)) (LoadsOnly c.load_from_parser.result) (returns-clause-texts c)
+
+pub returns-clause-widely_laid_out_before_nul : goal.returns-clause-widely_laid_out_before_nul
+returns-clause-widely_laid_out_before_nul c = of_first_wide_layout (up_to_nul (chars c.args.source.now)) (LoadsOnly c.load_from_parser.result) (returns-clause-texts c)
 
 pub returns-clause-quoted_before_nul : goal.returns-clause-quoted_before_nul
 returns-clause-quoted_before_nul c = of_first_quoted (up_to_nul (chars c.args.source.now)) (LoadsOnly c.load_from_parser.result) (returns-clause-texts c)

@@ -1,5 +1,5 @@
-use Rattle.std.proofs.Common.{◌≡◌, ◌<◌, [], ◌∷◌, ◌++◌, refl, sym, ap, ◌∙◌, subst, arith, length, true}
-use Rattle.std.specs.Prelude.{None, option_map, is_ok, if◌then◌else◌}
+use Rattle.std.proofs.Common.{◌≡◌, ◌<◌, [], ◌∷◌, ◌++◌, refl, sym, ap, ◌∙◌, subst, arith, length}
+use Rattle.std.specs.Prelude.{None, option_map}
 use Rattle.std.proofs.lemmas.Bool.Decides.{nat_tests}
 use Rattle.yaml_tree.specs.View.{view}
 use Rattle.yaml_loader.specs.Alike.{ReadsTo}
@@ -18,8 +18,7 @@ returns-clause-ok c =
       | else-is_empty-via-then-is_empty+else-is_some w ↦ (λ e. no_root r.root (sym w.is_some.ensures ∙ w.if-is_some.false))
       | else-is_empty-via-else-is_empty w ↦ (let test = w.if-is_empty.ensures {u = tt} in let some : 0 < length r.opened.items = grind (arith, nat_tests) in λ e. absurd (some_opened r.opened.items some e))
     ] in
-    let ok : is_ok c.push.result ≡ true = sym c.map_err.ensures.variant ∙ ap is_ok (c.in_ok-map_err.was {u = tt}) in
-    let new : all_opened c.push.new.self.items [] ≡ opened_of c.args.collection ∷ os =
-    ap (λ x. all_opened x []) (c.push.ensures.items ∙ ap (λ b. if b then r.opened.items ++ c.args.collection ∷ [] else r.opened.items) ok) ∙ all_opened_push r.opened.items c.args.collection [] in
-    subst (λ s. ReadsTo s (unfinished_of (record r { opened = c.push.new.self }))) (sym (start_reads (opened_of c.args.collection) (unfinished_of r) os (option_map view r.root) may))
+    let new : all_opened c.push_reserved.new.self.items [] ≡ opened_of c.args.collection ∷ os =
+    ap (λ x. all_opened x []) (c.push_reserved.ensures.items ∙ ap (λ x. x ++ c.args.collection ∷ []) c.reserve.ensures.items) ∙ all_opened_push r.opened.items c.args.collection [] in
+    subst (λ s. ReadsTo s (unfinished_of (record r { opened = c.push_reserved.new.self }))) (sym (start_reads (opened_of c.args.collection) (unfinished_of r) os (option_map view r.root) may))
     (record { documents = refl; opened = sym new; root = refl; aliases = λ n. refl })

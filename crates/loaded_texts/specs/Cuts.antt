@@ -1,0 +1,19 @@
+-- What a text is read as, told of its cut: each law is carried by the function of `src/cuts.rt` that its comment names.
+use Rattle.std.specs.Prelude.{ℕ, Bool, List}
+use Rattle.token_defs.specs.Token.{Token}
+use Rattle.tree_defs.specs.Tree.{Tree}
+use Rattle.cut_defs.specs.Cut.{IsCut}
+use Rattle.scan_json.specs.JsonScan.{toks}
+use Rattle.read_texts.specs.ReadAs.{ReadAs}
+use Rattle.loaded_texts.specs.TextReadAs.{IsReadAs}
+use Rattle.loaded_texts.specs.Spelled.{IsWithoutNul}
+
+-- A cut of the text: its tokens are a stream's, whose events are read as these trees.
+pub record IsReadOfCut (keep_tags : Bool) (text : List ℕ) (trees : List Tree) : Type 0 where
+  pub tokens : List Token
+  pub is_cut : IsCut tokens text
+  pub read : ReadAs keep_tags (toks tokens) trees
+
+-- `read_texts_are_read_of_a_cut`
+abbrev pub ReadTextsAreReadOfACut : Type 0
+ReadTextsAreReadOfACut = (keep_tags : Bool) (text : List ℕ) (trees : List Tree) → IsWithoutNul text → IsReadAs keep_tags text trees → IsReadOfCut keep_tags text trees
