@@ -2,7 +2,7 @@
 use crate::made::tree;
 use std::alloc::Global;
 use std::test::Fail;
-use yaml_tree::Yaml;
+use yaml_tree::{Array, Yaml};
 
 // The functions below have no contract, so that many questions make no long proof.
 
@@ -40,6 +40,21 @@ fn items_words(alloc: Global, node: Yaml) -> Result<String, Fail> {
     Ok(words)
 }
 
+// An array's length, whether it is empty, its second item and the one behind its end; then the array that is made anew of
+// its nodes.
+fn array_words(alloc: Global, node: Yaml) -> Result<String, Fail> {
+    let items = node.into_vec().ok_or("no array")?;
+    let words = format!(in alloc;
+        "{} {} {:?} {:?}",
+        items.len(),
+        items.is_empty(),
+        items.get(1),
+        items.get(2)
+    )?;
+    let again = Array::from_vec(items.into_vec());
+    Ok(format!(in alloc; "{words} {again:?}")?)
+}
+
 fn key_words(alloc: Global, node: &Yaml, key: &str) -> Result<String, Fail> {
     Ok(format!(in alloc; "{:?} {}", node.get_key(key), node.has_key(key))?)
 }
@@ -61,6 +76,7 @@ fn answer(alloc: Global, node: Yaml, question: &str) -> Result<String, Fail> {
         "collection" => collection_words(alloc, &node),
         "kind" => kind_words(alloc, &node),
         "into_iter" => items_words(alloc, node),
+        "array" => array_words(alloc, node),
         "clone" => copy_words(alloc, &node),
         _ => into_words(alloc, node, question),
     }
@@ -78,7 +94,7 @@ fn into_words(alloc: Global, node: Yaml, question: &str) -> Result<String, Fail>
 }
 
 // A tree, a question, and the answer.
-const ANSWERS: [(&str, &str, &str); 31] = [
+const ANSWERS: [(&str, &str, &str); 32] = [
     ("flag", "scalar", "Some(false) None None"),
     ("number", "scalar", "None Some(3) None"),
     ("b", "scalar", "None None Some(\"b\")"),
@@ -111,6 +127,11 @@ const ANSWERS: [(&str, &str, &str); 31] = [
         "Some({Integer(0): Hash({String(\"important\"): Boolean(true)}), String(\"a\"): Array([Integer(1), Integer(2)]), String(\"c\"): String(\"d\")})",
     ),
     ("items", "into_hash", "None"),
+    (
+        "items",
+        "array",
+        "2 false Some(Integer(2)) None [Integer(1), Integer(2)]",
+    ),
     ("items", "into_iter", "Integer(1) Integer(2) "),
     ("pairs", "into_iter", ""),
     ("b", "into_iter", ""),

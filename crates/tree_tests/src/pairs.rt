@@ -2,7 +2,7 @@
 use crate::made::{put, word};
 use std::alloc::Global;
 use std::test::Fail;
-use yaml_tree::{Hash, Yaml};
+use yaml_tree::{Hash, Steps, Yaml};
 
 // The functions below have no contract, so that many calls make no long proof.
 
@@ -39,12 +39,32 @@ fn none_words(alloc: Global, pairs: &Hash) -> Result<String, Fail> {
     Ok(format!(in alloc; "{is_equal}")?)
 }
 
+fn place_words(alloc: Global, pairs: &Hash, key: &str) -> Result<String, Fail> {
+    let key = word(alloc, key)?;
+    let mut steps = Steps::new();
+    Ok(format!(in alloc; "{:?}", pairs.place(&key, &mut steps))?)
+}
+
+// The pairs, lent and then by value.
+fn all_words(alloc: Global, pairs: &Hash) -> Result<String, Fail> {
+    let mut words = String::new(alloc);
+    for pair in pairs {
+        words.push_str(format!(in alloc; "{pair:?} ")?.as_str())?;
+    }
+    for pair in pairs.clone(alloc)? {
+        words.push_str(format!(in alloc; "{pair:?} ")?.as_str())?;
+    }
+    Ok(words)
+}
+
 // What a call answers; `show` is its length, whether it is empty, and its pairs.
 fn answer(alloc: Global, pairs: &mut Hash, call: &str, key: &str) -> Result<String, Fail> {
     match call {
         "get" => get_words(alloc, pairs, key),
         "remove" => remove_words(alloc, pairs, key),
         "back" => back_words(alloc, pairs),
+        "place" => place_words(alloc, pairs, key),
+        "all" => all_words(alloc, pairs),
         "show" => show_words(alloc, pairs),
         "clone" => copy_words(alloc, pairs),
         "is none" => none_words(alloc, pairs),
@@ -53,9 +73,11 @@ fn answer(alloc: Global, pairs: &mut Hash, call: &str, key: &str) -> Result<Stri
 }
 
 // Calls of one hash, one behind the other, and what each answers; `1` inserts the text.
-const CALLS: [(&str, &str, &str); 15] = [
+const CALLS: [(&str, &str, &str); 21] = [
     ("show", "", "0 true {}"),
     ("back", "", "None"),
+    ("place", "a", "None"),
+    ("all", "", ""),
     ("is none", "", "true"),
     ("1", "a", "None"),
     ("2", "b", "None"),
@@ -64,6 +86,14 @@ const CALLS: [(&str, &str, &str); 15] = [
         "show",
         "",
         "2 false {String(\"b\"): String(\"2\"), String(\"a\"): String(\"3\")}",
+    ),
+    ("place", "b", "Some(0)"),
+    ("place", "a", "Some(1)"),
+    ("place", "c", "None"),
+    (
+        "all",
+        "",
+        "(String(\"b\"), String(\"2\")) (String(\"a\"), String(\"3\")) (String(\"b\"), String(\"2\")) (String(\"a\"), String(\"3\")) ",
     ),
     ("clone", "", "true"),
     ("is none", "", "false"),

@@ -9,6 +9,7 @@ pub mod ItemsLemmas
 pub mod Placed
 pub mod Ranking
 pub mod Rows
+pub mod Shifting
 pub mod TextLemmas
 pub mod TextOrder
 pub mod TypingLemmas

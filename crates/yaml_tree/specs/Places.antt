@@ -1,9 +1,9 @@
--- The places that a hash keeps by rank, where it has any.
-use Rattle.std.specs.Prelude.{ℕ, List, [], Option, Some, None}
-use Rattle.std.specs.declared.boxed.Box.{Box}
-use Rattle.std.specs.declared.alloc.Global.{Global}
+-- The places that a hash keeps by rank.
+use Rattle.std.specs.Prelude.{ℕ, List}
+use Rattle.yaml_tree.specs.declared.ranks.Kept.{Kept}
+use Rattle.yaml_tree.specs.declared.ranks.Kept.TheVariants.{Few, Many}
 
--- what is in the box, if there is one
-abbrev pub places_in : Option (Box (List ℕ) Global) → List ℕ
-places_in (Some b) = b.value
-places_in None = []
+-- those of a short hash, or what is in the box
+abbrev pub places_in : Kept → List ℕ
+places_in (Few places) = places
+places_in (Many b) = b.value

@@ -161,6 +161,7 @@ impl Hash {
     /// Takes the key's old pair out, if there is one, and puts the new pair at the end. The answer is the
     /// key's old value. An `Err` comes only where memory was refused; then the hash is as it was, and the
     /// pair is handed back. With a key that is there already it takes no memory, and doesn't fail.
+    #[inline(always)]
     pub fn insert(&mut self, key: Yaml, value: Yaml) -> Result<Option<Yaml>, (Yaml, Yaml)>
         ensures pairs { OnOk result (self.new ≡ insert (view key) (view value) self.old) }
         ensures old { IfOk result (λ v. option_map view v ≡ lookup (view key) self.old) }

@@ -9,6 +9,7 @@ mod debug;
 mod discard;
 pub mod entries;
 mod feed;
+mod few;
 pub mod hash;
 pub mod items;
 pub mod laws;

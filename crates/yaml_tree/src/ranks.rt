@@ -3,14 +3,22 @@ ghost use Rattle.std.specs.Prelude.{◌≡◌, ◌<◌, ◌≤◌, [], length, m
 ghost use Rattle.std.specs.List.{insert, remove};
 ghost use Rattle.yaml_tree.specs.Ranked.{closed_up, moved_up};
 
+use crate::few::{Few, ROOM};
 use crate::woven::Woven;
 use std::alloc::{AllocError, Global};
 use std::marker::Model;
 
+// Those of a short hash take no memory of their own.
+#[derive(Drop)]
+enum Kept {
+    Few(Few),
+    Many(Box<Woven>),
+}
+
 /// Places, by their rank.
 #[derive(Drop)]
 pub(crate) struct Ranks {
-    woven: Option<Box<Woven>>,
+    kept: Kept,
 }
 
 impl Model for Ranks {
@@ -19,7 +27,18 @@ impl Model for Ranks {
 
     ghost Value = { List ℕ };
 
-    ghost view = { λ r. places_in r.woven };
+    ghost view = { λ r. places_in r.kept };
+}
+
+// The places of a short hash, and the next one with this rank.
+#[inline(never)]
+fn with_next(few: &Few, alloc: Global, rank: usize) -> Result<Box<Woven>, AllocError>
+    requires { rank ≤ length few.now }
+    ensures { IfOk result (λ b. b.value ≡ insert few.now rank (length few.now)) }
+{
+    let mut row = few.all(alloc)?;
+    row.insert(rank, few.len())?;
+    Ok(Box::new(alloc, Woven::new(row))?)
 }
 
 impl Ranks {
@@ -27,15 +46,17 @@ impl Ranks {
     pub(crate) fn new() -> Ranks
         ensures { result ≡ [] }
     {
-        Ranks { woven: None }
+        Ranks {
+            kept: Kept::Few(Few::new()),
+        }
     }
 
     pub(crate) fn len(&self) -> usize
         ensures { result ≡ length self.now }
     {
-        match &self.woven {
-            Some(woven) => woven.len(),
-            None => 0,
+        match &self.kept {
+            Kept::Few(few) => few.len(),
+            Kept::Many(woven) => woven.len(),
         }
     }
 
@@ -44,32 +65,31 @@ impl Ranks {
         requires { rank < length self.now }
         ensures { result ≡ get_or self.now rank 0 }
     {
-        match &self.woven {
-            Some(woven) => woven.at(rank),
-            None => unreachable!(),
+        match &self.kept {
+            Kept::Few(few) => few.at(rank),
+            Kept::Many(woven) => woven.at(rank),
         }
     }
 
-    /// Gives a place this rank, before the one that had it. An `Err` comes only where memory was refused,
-    /// and then all is as it was.
-    pub(crate) fn insert(
-        &mut self,
-        alloc: Global,
-        rank: usize,
-        place: usize,
-    ) -> Result<(), AllocError>
+    /// Gives the next place this rank, before the place that had it. An `Err` comes only where memory was
+    /// refused, and then all is as it was.
+    pub(crate) fn insert(&mut self, alloc: Global, rank: usize) -> Result<(), AllocError>
         requires { rank ≤ length self.old }
-        ensures ok { OnOk result (self.new ≡ insert self.old rank place) }
+        ensures ok { OnOk result (self.new ≡ insert self.old rank (length self.old)) }
         ensures err { OnErr result (self.new ≡ self.old) }
     {
-        match &mut self.woven {
-            Some(woven) => woven.insert(rank, place),
-            None => {
-                let mut row = Vec::new(alloc);
-                row.push(place)?;
-                self.woven = Some(Box::new(alloc, Woven::new(row))?);
+        match &mut self.kept {
+            Kept::Few(few) if few.len() < ROOM => {
+                let place = few.len() as u8;
+                few.insert(rank, place);
                 Ok(())
             }
+            Kept::Few(few) => {
+                let many = with_next(few, alloc, rank)?;
+                self.kept = Kept::Many(many);
+                Ok(())
+            }
+            Kept::Many(woven) => woven.add_next(rank),
         }
     }
 
@@ -78,31 +98,33 @@ impl Ranks {
         requires { rank < length self.old }
         ensures { self.new ≡ map (closed_up (get_or self.old rank 0)) (remove self.old rank) }
     {
-        match &mut self.woven {
-            Some(woven) => woven.remove(rank),
-            None => unreachable!(),
+        match &mut self.kept {
+            Kept::Few(few) => *few = few.without(rank),
+            Kept::Many(woven) => woven.remove(rank),
         }
     }
 
     /// Makes a place the last one, and lowers those behind it.
+    #[inline(never)]
     pub(crate) fn move_to_end(&mut self, gone: usize)
         ensures { self.new ≡ map (moved_up gone (length self.old)) self.old }
     {
-        if let Some(woven) = &mut self.woven {
-            woven.move_to_end(gone);
+        match &mut self.kept {
+            Kept::Few(few) => *few = few.moved_to_end(gone),
+            Kept::Many(woven) => woven.move_to_end(gone),
         }
     }
 
     pub(crate) fn clone(&self, alloc: Global) -> Result<Ranks, AllocError>
         ensures { IfOk result (λ r. r ≡ self.now) }
     {
-        match &self.woven {
-            Some(woven) => {
+        let kept = match &self.kept {
+            Kept::Few(few) => Kept::Few(few.same()),
+            Kept::Many(woven) => {
                 let row = woven.all(alloc, woven.len())?;
-                let woven = Some(Box::new(alloc, Woven::new(row))?);
-                Ok(Ranks { woven })
+                Kept::Many(Box::new(alloc, Woven::new(row))?)
             }
-            None => Ok(Ranks::new()),
-        }
+        };
+        Ok(Ranks { kept })
     }
 }

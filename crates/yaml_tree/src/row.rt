@@ -5,8 +5,12 @@ ghost use Rattle.std.specs.List.{insert, remove};
 use crate::ranks::Ranks;
 use crate::yaml::Yaml;
 
+// Room that the first pair takes: most hashes have no more than four pairs.
+const FIRST_ROOM: usize = 8;
+
 /// Adds a pair at the end, and its place at a rank. An `Err` comes only where memory was refused; then both
 /// are as they were, and the pair is handed back.
+#[inline(always)]
 pub(crate) fn add(
     row: &mut Vec<Yaml>,
     ranks: &mut Ranks,
@@ -21,12 +25,12 @@ pub(crate) fn add(
     ensures same_ranks { OnErr result (ranks.new ≡ ranks.old) }
     ensures handed_back { IfErr result (λ p. p ≡ (key, value)) }
 {
-    if row.reserve(2).is_err() {
+    let room = if row.is_empty() { FIRST_ROOM } else { 2 };
+    if row.reserve(room).is_err() {
         return Err((key, value));
     }
     let alloc = *row.allocator();
-    let place = ranks.len();
-    if ranks.insert(alloc, rank, place).is_err() {
+    if ranks.insert(alloc, rank).is_err() {
         return Err((key, value));
     }
     row.push_reserved(key);
@@ -47,6 +51,7 @@ pub(crate) fn take(row: &mut Vec<Yaml>, place: usize) -> Yaml
 }
 
 /// Takes the pair at a place out, puts another at the end, and answers the old value.
+#[inline(never)]
 pub(crate) fn exchange(row: &mut Vec<Yaml>, place: usize, key: Yaml, value: Yaml) -> Yaml
     requires { 2 * place + 1 < length row.old.items }
     ensures value { result ≡ get_or row.old.items (2 * place + 1) result }

@@ -135,6 +135,17 @@ impl Woven {
         self.add(rank, place)
     }
 
+    /// Gives the next place this rank. An `Err` comes only where memory was refused, and then all is as it was.
+    #[inline(never)]
+    pub(crate) fn add_next(&mut self, rank: usize) -> Result<(), AllocError>
+        requires { rank ≤ length self.old }
+        ensures ok { OnOk result (self.new ≡ insert self.old rank (length self.old)) }
+        ensures err { OnErr result (self.new ≡ self.old) }
+    {
+        let place = self.len();
+        self.insert(rank, place)
+    }
+
     // Where many are late, puts them into the row.
     fn shorten(&mut self) -> Result<(), AllocError>
         ensures { self.new ≡ self.old }
