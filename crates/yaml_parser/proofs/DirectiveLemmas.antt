@@ -16,11 +16,23 @@ use Rattle.event_defs.specs.Names.{under_name, declared, versions, is_each_once,
 use Rattle.yaml_parser.specs.declared.names.Names.{Names}
 use Rattle.yaml_parser.specs.Named.{IsNamed, IsOwn}
 use Rattle.yaml_parser.specs.Declares.{HasRead}
-use Rattle.yaml_parser.proofs.NameLemmas.{same_text}
+use Rattle.yaml_parser.proofs.NameLemmas.{chars_then_bytes, same_text}
 
 pub note_text : (m n : BTreeSet (String Global)) (key : String Global) → sorted.Updates string_cmp m n key true → (x : String Global)
     → contains_text n (string_bytes x) ≡ (if bytes_eq (string_chars x) (string_chars key) then true else contains_text m (string_bytes x))
 note_text m n key u x = btree_set_updates_text (string_bytes key) m n true u (string_bytes x) ∙ ap (λ b. cond b true (contains_text m (string_bytes x))) (same_text key x)
+
+same_by_not : (b c : Bool) → not b ≡ not c → b ≡ c
+same_by_not true true h = refl
+same_by_not true false h = cc
+same_by_not false true h = cc
+same_by_not false false h = refl
+
+-- whether a name was there, from what its copy's insertion answers
+pub had_name : (own : BTreeSet (String Global)) (name copy : String Global) (is_new had : Bool) → string_chars copy ≡ string_chars name
+    → is_new ≡ not (contains_text own (string_bytes copy)) → is_new ≡ not had → contains_text own (string_bytes name) ≡ had
+had_name own name copy is_new had same added e =
+    ap (contains_text own) (chars_then_bytes name copy (sym same)) ∙ same_by_not (contains_text own (string_bytes copy)) had (sym added ∙ e)
 
 -- ---- what is kept under a name
 

@@ -27,7 +27,7 @@ nil_of : (xs : List ℕ) → is_nil xs ≡ true → xs ≡ []
 nil_of [] h = refl
 nil_of (x ∷ xs) h = cc
 
-chars_then_bytes : (a b : String Global) → string_chars a ≡ string_chars b → string_bytes a ≡ string_bytes b
+pub chars_then_bytes : (a b : String Global) → string_chars a ≡ string_chars b → string_bytes a ≡ string_bytes b
 unfolding string_chars
 chars_then_bytes a b h = sym (encodes-chars (string_bytes a) (IsUtf8-string_bytes a)) ∙ ap encodes h ∙ encodes-chars (string_bytes b) (IsUtf8-string_bytes b)
 

@@ -1,4 +1,4 @@
-ghost use Rattle.std.specs.Prelude.{◌≡◌, List, [], Bool, true, false, Some, None, option_map, string_bytes, if◌then◌else◌, bytes_eq, String, IfOk, IfErr, OnOk};
+ghost use Rattle.std.specs.Prelude.{◌≡◌, List, [], Bool, true, false, not, Some, None, option_map, string_bytes, if◌then◌else◌, bytes_eq, String, IfOk, IfErr, OnOk};
 ghost use Rattle.std.specs.BTreeMap.{get_by_text};
 ghost use Rattle.std.specs.BTreeSet.{contains_text};
 ghost use Rattle.std.specs.declared.alloc.Global.{Global};
@@ -42,14 +42,15 @@ fn declares_nothing(handle: &String, prefix: &String) -> bool
     handle.is_empty() && prefix.is_empty()
 }
 
-/// Adds a name. An `Err` changes nothing.
-fn note(names: &mut BTreeSet<String>, name: String) -> Result<(), AllocError>
-    ensures { OnOk result ((x : String Global) → contains_text names.new (string_bytes x) ≡ (if bytes_eq (string_chars x) (string_chars name) then true else contains_text names.old (string_bytes x))) }
+/// Adds a name, and answers whether it is new. An `Err` changes nothing.
+fn note(names: &mut BTreeSet<String>, name: String) -> Result<bool, AllocError>
+    ensures new { IfOk result (λ is_new. is_new ≡ not (contains_text names.old (string_bytes name))) }
+    ensures noted { OnOk result ((x : String Global) → contains_text names.new (string_bytes x) ≡ (if bytes_eq (string_chars x) (string_chars name) then true else contains_text names.old (string_bytes x))) }
 {
-    let Ok(_) = names.insert(name) else {
+    let Ok(is_new) = names.insert(name) else {
         return Err(AllocError);
     };
-    Ok(())
+    Ok(is_new)
 }
 
 /// Whether declared handles count in later documents too.
@@ -113,11 +114,11 @@ impl Names {
         if declares_nothing(&handle, &prefix) {
             return Ok(());
         }
-        if self.own.contains(handle.as_str()) {
+        let own = copied(self.alloc, &handle)?;
+        let is_new = note(&mut self.own, own)?;
+        if !is_new {
             return Err(Stop::Own(Fault::At(Problem::RepeatedHandle, mark)));
         }
-        let own = copied(self.alloc, &handle)?;
-        note(&mut self.own, own)?;
         put(&mut self.handles, handle, prefix)?;
         Ok(())
     }

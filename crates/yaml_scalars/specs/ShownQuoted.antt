@@ -1,15 +1,18 @@
 -- What the code of quoted scalars holds, as the model's states.
-use Rattle.std.specs.Prelude.{ℕ}
-use Rattle.yaml_chars.specs.Reading.{Reading, place_of}
+use Rattle.std.specs.Prelude.{◌≡◌, ◌≢◌, ℕ, Err}
+use Rattle.yaml_chars.specs.Reading.{Reading, Reads, place_of}
+use Rattle.yaml_tokens.specs.declared.problem.Fault.{Fault}
+use Rattle.yaml_tokens.specs.declared.problem.Fault.TheVariants.{OutOfMemory}
 use Rattle.yaml_scalars.specs.declared.folding.Folding.{Folding}
 use Rattle.yaml_scalars.specs.declared.quoted.Part.{Part}
+use Rattle.yaml_scalars.specs.declared.quoted.Quote.{Quote}
 use Rattle.yaml_scalars.specs.declared.quoted.Part.TheVariants as part
 use Rattle.yaml_scalars.specs.declared.escape.Escape as code
 use Rattle.yaml_scalars.specs.declared.escape.Escape.TheVariants.{Char, Code, Unknown}
 use Rattle.yaml_scalars.specs.declared.escape.Digits.{Digits}
 use Rattle.yaml_scalars.specs.declared.escape.Digits.TheVariants.{Two, Four, Eight}
 use Rattle.yaml_scalars.specs.Shown.{folded}
-use Rattle.scalar_model.specs.Quoted.{Mode, State, Escape, first, inside, gap, breaking, behind, doubled, named, closed}
+use Rattle.scalar_model.specs.Quoted.{Mode, State, Escape, quoted_from, first, inside, gap, breaking, behind, doubled, named, closed}
 
 abbrev pub mode_of : Part → Mode
 mode_of part.First = first
@@ -23,6 +26,16 @@ mode_of part.Closed = closed
 
 abbrev pub at : {T : Type 0} → Mode → Reading T → Folding → State
 at mode w p = record { mode = mode; place = place_of w; folded = folded p }
+
+-- What is left at one place of a scalar is read as what is left at a later one.
+abbrev pub GoesOn : {T : Type 0} → Quote → (from : Mode) → Reading T → Folding → (to : Mode) → Reading T → Folding → Type 0
+GoesOn q from old before to new so_far =
+    Reads old new (λ a b. quoted_from q.single q.context q.start a (at from old before) ≡ quoted_from q.single q.context q.start b (at to new so_far))
+
+-- what is left at a place of a scalar is refused with this fault, unless memory was refused
+abbrev pub IsRefused : {T : Type 0} → Quote → (from : Mode) → Reading T → Folding → Reading T → Fault → Type 0
+IsRefused q from old before new fault =
+    Reads old new (λ a b. fault ≢ OutOfMemory → quoted_from q.single q.context q.start a (at from old before) ≡ Err fault)
 
 -- how many digits a code has behind the first
 abbrev pub more_of : Digits → ℕ

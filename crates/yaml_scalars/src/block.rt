@@ -1,5 +1,5 @@
 //! Block scalars (YAML 1.2, section 8.1).
-ghost use Rattle.std.specs.Prelude.{◌≡◌, ◌≢◌, ◌≤◌, ◌<◌, ◌^◌, ◌++◌, [], Bool, true, false, max, Ok, Err, OnOk, OnErr, IfOk, IfErr};
+ghost use Rattle.std.specs.Prelude.{◌≡◌, ◌≢◌, ◌≤◌, ◌<◌, ◌^◌, ◌++◌, [], ℕ, Bool, true, false, max, Ok, Err, OnOk, OnErr, IfOk, IfErr};
 ghost use Rattle.yaml_chars.specs.Reading.{Reads, Sees, HasChar, place_of};
 ghost use Rattle.yaml_chars.specs.Text.{string_chars};
 ghost use Rattle.scalar_model.specs.Block.{margin, line, lines_from, begins, begun, with_char, tail, is_open, ends_indent, indent_from, first_indent, content, empty_text, body, behind_header, block};
@@ -130,16 +130,12 @@ fn read_indent<T: Iterator<Item = char>>(
 /// Reads the characters up to a break or the end.
 fn read_run<T: Iterator<Item = char>>(
     window: &mut Window<T>,
-    literal: bool,
-    column: usize,
     block: &mut Lines,
 ) -> Result<(), AllocError>
-    ensures ok { OnOk result (Reads window.old window.new (λ a b.
+    ensures ok { OnOk result (Reads window.old window.new (λ a b. (literal : Bool) (column : ℕ) →
         lines_from literal column a (at line window.old block.old) ≡ lines_from literal column b (at line window.new block.new))) }
     ensures err { OnErr result (Reads window.old window.new (λ _ _. Unit {0})) }
 {
-    let _ = literal;
-    let _ = column;
     window.take_run(Run::Line, &mut block.text)?;
     Ok(())
 }
@@ -147,18 +143,14 @@ fn read_run<T: Iterator<Item = char>>(
 /// Reads a content line and its break.
 fn read_line<T: Iterator<Item = char>>(
     window: &mut Window<T>,
-    literal: bool,
-    column: usize,
     block: &mut Lines,
 ) -> Result<(), AllocError>
-    ensures ok { OnOk result (Reads window.old window.new (λ a b.
+    ensures ok { OnOk result (Reads window.old window.new (λ a b. (literal : Bool) (column : ℕ) →
         lines_from literal column a (at line window.old block.old) ≡ lines_from literal column b (at margin window.new block.new))) }
     ensures err { OnErr result (Reads window.old window.new (λ _ _. Unit {0})) }
 {
-    let _ = literal;
-    let _ = column;
     'line: loop {
-        read_run(window, literal, column, block)?;
+        read_run(window, block)?;
         window.lookahead(2);
         let c = window.ch();
         if is_break(c) {
@@ -209,7 +201,7 @@ fn read_content<T: Iterator<Item = char>>(
     let c = window.ch();
     block.begin(literal, c)?;
     window.skip();
-    read_line(window, literal, column, block)?;
+    read_line(window, block)?;
     Ok(())
 }
 

@@ -4,12 +4,11 @@ ghost use Rattle.yaml_chars.specs.Reading.{Reads, Sees, HasChar, place_of};
 ghost use Rattle.scalar_model.specs.declared.context.Context.{Context};
 ghost use Rattle.scalar_model.specs.Folding.{Folded};
 ghost use Rattle.scalar_model.specs.Quoted.{escape_of, is_scalar, digits_from, quoted_from, named};
-ghost use Rattle.yaml_scalars.specs.ShownQuoted.{at, mode_of, escape_shown, count_of};
+ghost use Rattle.yaml_scalars.specs.ShownQuoted.{at, mode_of, escape_shown, count_of, GoesOn, IsRefused};
 ghost use Rattle.yaml_scalars.specs.Shown.{folded};
 
 use crate::folding::Folding;
-use crate::quoted::Part;
-use scalar_model::Context;
+use crate::quoted::{Part, Quote};
 use yaml_chars::class::{hex_value, is_hex};
 use yaml_chars::{Marker, Window};
 use yaml_tokens::{Fault, Problem};
@@ -160,26 +159,22 @@ fn read_code<T: Iterator<Item = char>>(
 #[tactic(auto, using(scalar_model::proofs::QuotedLemmas::coded, scalar_model::proofs::QuotedLemmas::coded_fails))]
 fn read_coded<T: Iterator<Item = char>>(
     window: &mut Window<T>,
-    single: bool,
-    context: Context,
-    start: Marker,
+    quote: &Quote,
     digits: Digits,
     scalar: &mut Folding,
 ) -> Result<Part, Fault>
     ensures ok { IfOk result (λ next. Reads window.old window.new (λ a b.
-        digits_from single context start (count_of digits) 0 a (place_of window.old) (folded scalar.old) ≡ quoted_from single context start b (at (mode_of next) window.new scalar.new))) }
+        digits_from quote.now.single quote.now.context quote.now.start (count_of digits) 0 a (place_of window.old) (folded scalar.old) ≡ quoted_from quote.now.single quote.now.context quote.now.start b (at (mode_of next) window.new scalar.new))) }
     ensures err { IfErr result (λ e. Reads window.old window.new (λ a b. e ≢ Fault.OutOfMemory →
-        digits_from single context start (count_of digits) 0 a (place_of window.old) (folded scalar.old) ≡ Err e)) }
+        digits_from quote.now.single quote.now.context quote.now.start (count_of digits) 0 a (place_of window.old) (folded scalar.old) ≡ Err e)) }
 {
-    let _ = single;
-    let _ = context;
-    match read_code(window, start, digits) {
+    match read_code(window, quote.start, digits) {
         Ok(code) => match char_of(code) {
             Some(c) => {
                 scalar.push(c)?;
                 Ok(Part::Inside)
             }
-            None => Err(Fault::At(Problem::EscapedCode, start)),
+            None => Err(Fault::At(Problem::EscapedCode, quote.start)),
         },
         Err(fault) => Err(fault),
     }
@@ -189,9 +184,7 @@ fn read_coded<T: Iterator<Item = char>>(
 #[tactic(auto, using(scalar_model::proofs::QuotedLemmas::named_char, scalar_model::proofs::QuotedLemmas::named_code, scalar_model::proofs::QuotedLemmas::named_unknown))]
 pub(crate) fn read_named<T: Iterator<Item = char>>(
     window: &mut Window<T>,
-    single: bool,
-    context: Context,
-    start: Marker,
+    quote: &Quote,
     c: char,
     scalar: &mut Folding,
 ) -> Result<Part, Fault>
@@ -199,10 +192,8 @@ pub(crate) fn read_named<T: Iterator<Item = char>>(
     requires here { Sees window.old (λ a. c ≡ slice_index a 0) }
     requires has { HasChar window.old }
     requires ahead { 2 ≤ window.old.ahead }
-    ensures ok { IfOk result (λ next. Reads window.old window.new (λ a b.
-        quoted_from single context start a (at named window.old scalar.old) ≡ quoted_from single context start b (at (mode_of next) window.new scalar.new))) }
-    ensures err { IfErr result (λ e. Reads window.old window.new (λ a b. e ≢ Fault.OutOfMemory →
-        quoted_from single context start a (at named window.old scalar.old) ≡ Err e)) }
+    ensures ok { IfOk result (λ next. GoesOn quote.now named window.old scalar.old (mode_of next) window.new scalar.new) }
+    ensures err { IfErr result (λ e. IsRefused quote.now named window.old scalar.old window.new e) }
     ensures less { OnOk result (window.new.left < window.old.left) }
 {
     match escape_of(c) {
@@ -211,10 +202,10 @@ pub(crate) fn read_named<T: Iterator<Item = char>>(
             window.skip();
             Ok(Part::Inside)
         }
-        Escape::Unknown => Err(Fault::At(Problem::UnknownEscape, start)),
+        Escape::Unknown => Err(Fault::At(Problem::UnknownEscape, quote.start)),
         Escape::Code(digits) => {
             window.skip();
-            read_coded(window, single, context, start, digits, scalar)
+            read_coded(window, quote, digits, scalar)
         }
     }
 }

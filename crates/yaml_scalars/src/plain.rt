@@ -1,5 +1,6 @@
 //! Plain scalars (YAML 1.2, section 7.3.3).
 ghost use Rattle.std.specs.Prelude.{◌≡◌, ◌≢◌, ◌≤◌, ◌<◌, true, false, Ok, Err, OnOk, OnErr, IfOk, IfErr, slice_index};
+ghost use Rattle.yaml_chars.specs.Place.{Place};
 ghost use Rattle.yaml_chars.specs.Reading.{Reads, Sees, HasChar, SamePlace, place_of};
 ghost use Rattle.scalar_model.specs.Machine.{is_marker, at_marker};
 ghost use Rattle.scalar_model.specs.Plain.{can_be_plain, is_shallow, at_dash, at_plain, goes_on, starts, plain, plain_from, first, inside, between, tabs, ends_gap};
@@ -34,14 +35,12 @@ fn can_be_plain(flow: bool, c: char, next: char) -> bool
 fn read_word<T: Iterator<Item = char>>(
     window: &mut Window<T>,
     context: Context,
-    start: Marker,
     scalar: &mut Folding,
 ) -> Result<(), AllocError>
-    ensures ok { OnOk result (Reads window.old window.new (λ a b.
+    ensures ok { OnOk result (Reads window.old window.new (λ a b. (start : Place) →
         plain_from context start a (at inside window.old scalar.old) ≡ plain_from context start b (at inside window.new scalar.new))) }
     ensures err { OnErr result (Reads window.old window.new (λ _ _. Unit {0})) }
 {
-    let _ = start;
     'run: while let Some(c) = window.take(Run::Plain(context.flow)) {
         scalar.push(c)?;
     }
@@ -53,16 +52,14 @@ fn read_word<T: Iterator<Item = char>>(
 fn read_run<T: Iterator<Item = char>>(
     window: &mut Window<T>,
     context: Context,
-    start: Marker,
     scalar: &mut Folding,
 ) -> Result<(), AllocError>
-    ensures ok { OnOk result (Reads window.old window.new (λ a b.
+    ensures ok { OnOk result (Reads window.old window.new (λ a b. (start : Place) →
         plain_from context start a (at inside window.old scalar.old) ≡ plain_from context start b (at between window.new scalar.new))) }
     ensures err { OnErr result (Reads window.old window.new (λ _ _. Unit {0})) }
 {
-    let _ = start;
     'run: loop {
-        read_word(window, context, start, scalar)?;
+        read_word(window, context, scalar)?;
         window.lookahead(2);
         let c = window.ch();
         if is_blank_or_breakz(c) || !can_be_plain(context.flow, c, window.peek(1)) {
@@ -252,7 +249,7 @@ fn read_line<T: Iterator<Item = char>>(
     scalar.join()?;
     scalar.push(c)?;
     window.skip();
-    read_run(window, context, start, scalar)?;
+    read_run(window, context, scalar)?;
     read_gap(window, context, start, scalar)
 }
 

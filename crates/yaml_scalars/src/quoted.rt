@@ -3,9 +3,9 @@ ghost use Rattle.std.specs.Prelude.{◌≡◌, ◌≢◌, ◌≤◌, ◌<◌, �
 ghost use Rattle.yaml_chars.specs.Class.{is_blank, is_break};
 ghost use Rattle.yaml_chars.specs.Reading.{Reads, Sees, HasChar, SamePlace, place_of};
 ghost use Rattle.yaml_chars.specs.Text.{string_chars};
-ghost use Rattle.scalar_model.specs.Quoted.{quote_of, refused, quoted, quoted_from, first, inside, gap, breaking, behind, doubled, named, closed};
+ghost use Rattle.scalar_model.specs.Quoted.{quote_of, refused, quoted, first, inside, gap, breaking, behind, doubled, named, closed};
 ghost use Rattle.yaml_scalars.specs.Shown.{read};
-ghost use Rattle.yaml_scalars.specs.ShownQuoted.{at, mode_of};
+ghost use Rattle.yaml_scalars.specs.ShownQuoted.{mode_of, GoesOn, IsRefused};
 
 use crate::escape::read_named;
 use crate::folding::Folding;
@@ -31,6 +31,14 @@ pub(crate) enum Part {
     Closed,
 }
 
+/// A quoted scalar that is being read: whether its quotes are single, what surrounds it, and the place of its first quote.
+#[derive(Clone, Copy)]
+pub(crate) struct Quote {
+    pub single: bool,
+    pub context: Context,
+    pub start: Marker,
+}
+
 fn quote_of(single: bool) -> char
     ensures value { result ≡ quote_of single }
     ensures some { result ≢ 0 }
@@ -40,19 +48,15 @@ fn quote_of(single: bool) -> char
 
 /// Refuses a document marker and a line that stands too far left.
 #[tactic(auto, unfolding(scalar_model::specs::Quoted::refused))]
-fn check_line<T: Iterator<Item = char>>(
-    window: &Window<T>,
-    context: Context,
-    start: Marker,
-) -> Result<(), Fault>
+fn check_line<T: Iterator<Item = char>>(window: &Window<T>, quote: &Quote) -> Result<(), Fault>
     requires { 4 ≤ window.now.ahead }
-    ensures { Sees window.now (λ a. result ≡ refused context start a (place_of window.now)) }
+    ensures { Sees window.now (λ a. result ≡ refused quote.now.context quote.now.start a (place_of window.now)) }
 {
     if at_marker(window) {
-        return Err(Fault::At(Problem::QuotedDocumentMarker, start));
+        return Err(Fault::At(Problem::QuotedDocumentMarker, quote.start));
     }
-    if window.mark().col() + 1 < context.indent {
-        return Err(Fault::At(Problem::QuotedIndentation, start));
+    if window.mark().col() + 1 < quote.context.indent {
+        return Err(Fault::At(Problem::QuotedIndentation, quote.start));
     }
     Ok(())
 }
@@ -61,9 +65,7 @@ fn check_line<T: Iterator<Item = char>>(
 #[inline(always)]
 fn read_gap<T: Iterator<Item = char>>(
     window: &mut Window<T>,
-    single: bool,
-    context: Context,
-    start: Marker,
+    quote: &Quote,
     c: char,
     scalar: &mut Folding,
 ) -> Result<(), Fault>
@@ -71,14 +73,10 @@ fn read_gap<T: Iterator<Item = char>>(
     requires here { Sees window.old (λ a. c ≡ slice_index a 0) }
     requires has { HasChar window.old }
     requires ahead { 2 ≤ window.old.ahead }
-    ensures ok { OnOk result (Reads window.old window.new (λ a b.
-        quoted_from single context start a (at gap window.old scalar.old) ≡ quoted_from single context start b (at gap window.new scalar.new))) }
-    ensures err { IfErr result (λ e. Reads window.old window.new (λ a b. e ≢ Fault.OutOfMemory →
-        quoted_from single context start a (at gap window.old scalar.old) ≡ Err e)) }
+    ensures ok { OnOk result (GoesOn quote.now gap window.old scalar.old gap window.new scalar.new) }
+    ensures err { IfErr result (λ e. IsRefused quote.now gap window.old scalar.old window.new e) }
     ensures less { OnOk result (window.new.left < window.old.left) }
 {
-    let _ = single;
-    let _ = start;
     if is_break(c) {
         if c == '\r' && window.peek(1) == '\n' {
             window.skip();
@@ -86,7 +84,7 @@ fn read_gap<T: Iterator<Item = char>>(
             window.skip_break();
             scalar.add_break()?;
         }
-    } else if scalar.leading && c == '\t' && window.mark().col() + 1 < context.indent {
+    } else if scalar.leading && c == '\t' && window.mark().col() + 1 < quote.context.indent {
         return Err(Fault::At(Problem::TabAsIndentation, window.mark()));
     } else {
         window.skip();
@@ -99,9 +97,7 @@ fn read_gap<T: Iterator<Item = char>>(
 #[inline(always)]
 fn read_inside<T: Iterator<Item = char>>(
     window: &mut Window<T>,
-    single: bool,
-    context: Context,
-    start: Marker,
+    quote: &Quote,
     c: char,
     scalar: &mut Folding,
 ) -> Result<Part, Fault>
@@ -109,21 +105,17 @@ fn read_inside<T: Iterator<Item = char>>(
     requires here { Sees window.old (λ a. c ≡ slice_index a 0) }
     requires has { HasChar window.old }
     requires ahead { 2 ≤ window.old.ahead }
-    ensures ok { IfOk result (λ next. Reads window.old window.new (λ a b.
-        quoted_from single context start a (at inside window.old scalar.old) ≡ quoted_from single context start b (at (mode_of next) window.new scalar.new))) }
-    ensures err { IfErr result (λ e. Reads window.old window.new (λ a b. e ≢ Fault.OutOfMemory →
-        quoted_from single context start a (at inside window.old scalar.old) ≡ Err e)) }
+    ensures ok { IfOk result (λ next. GoesOn quote.now inside window.old scalar.old (mode_of next) window.new scalar.new) }
+    ensures err { IfErr result (λ e. IsRefused quote.now inside window.old scalar.old window.new e) }
     ensures less { OnOk result (window.new.left < window.old.left) }
 {
-    let _ = context;
-    let _ = start;
-    if c == '\\' && !single {
+    if c == '\\' && !quote.single {
         let breaks = is_break(window.peek(1));
         window.skip();
         return Ok(if breaks { Part::Breaking } else { Part::Named });
     }
-    if c == quote_of(single) {
-        let doubled = single && window.peek(1) == '\'';
+    if c == quote_of(quote.single) {
+        let doubled = quote.single && window.peek(1) == '\'';
         window.skip();
         return Ok(if doubled { Part::Doubled } else { Part::Closed });
     }
@@ -137,28 +129,24 @@ fn read_inside<T: Iterator<Item = char>>(
 #[tactic(auto, using(scalar_model::proofs::QuotedLemmas::inside_gap))]
 fn read_in_line<T: Iterator<Item = char>>(
     window: &mut Window<T>,
-    single: bool,
-    context: Context,
-    start: Marker,
+    quote: &Quote,
     c: char,
     scalar: &mut Folding,
 ) -> Result<Part, Fault>
     requires here { Sees window.old (λ a. c ≡ slice_index a 0) }
     requires has { HasChar window.old }
     requires ahead { 2 ≤ window.old.ahead }
-    ensures ok { IfOk result (λ next. Reads window.old window.new (λ a b.
-        quoted_from single context start a (at inside window.old scalar.old) ≡ quoted_from single context start b (at (mode_of next) window.new scalar.new))) }
-    ensures err { IfErr result (λ e. Reads window.old window.new (λ a b. e ≢ Fault.OutOfMemory →
-        quoted_from single context start a (at inside window.old scalar.old) ≡ Err e)) }
+    ensures ok { IfOk result (λ next. GoesOn quote.now inside window.old scalar.old (mode_of next) window.new scalar.new) }
+    ensures err { IfErr result (λ e. IsRefused quote.now inside window.old scalar.old window.new e) }
     ensures less { OnOk result (window.new.left < window.old.left) }
 {
     if is_break(c) || is_blank(c) {
-        return match read_gap(window, single, context, start, c, scalar) {
+        return match read_gap(window, quote, c, scalar) {
             Ok(()) => Ok(Part::Gap),
             Err(fault) => Err(fault),
         };
     }
-    read_inside(window, single, context, start, c, scalar)
+    read_inside(window, quote, c, scalar)
 }
 
 /// Reads the first character of a line, or one behind a gap.
@@ -166,9 +154,7 @@ fn read_in_line<T: Iterator<Item = char>>(
 #[tactic(auto, using(scalar_model::proofs::QuotedLemmas::line_inside, scalar_model::proofs::QuotedLemmas::line_fails))]
 fn read_line<T: Iterator<Item = char>>(
     window: &mut Window<T>,
-    single: bool,
-    context: Context,
-    start: Marker,
+    quote: &Quote,
     c: char,
     scalar: &mut Folding,
 ) -> Result<Part, Fault>
@@ -176,26 +162,22 @@ fn read_line<T: Iterator<Item = char>>(
     requires here { Sees window.old (λ a. c ≡ slice_index a 0) }
     requires has { HasChar window.old }
     requires ahead { 4 ≤ window.old.ahead }
-    ensures ok { IfOk result (λ next. Reads window.old window.new (λ a b.
-        quoted_from single context start a (at first window.old scalar.old) ≡ quoted_from single context start b (at (mode_of next) window.new scalar.new))) }
-    ensures err { IfErr result (λ e. Reads window.old window.new (λ a b. e ≢ Fault.OutOfMemory →
-        quoted_from single context start a (at first window.old scalar.old) ≡ Err e)) }
+    ensures ok { IfOk result (λ next. GoesOn quote.now first window.old scalar.old (mode_of next) window.new scalar.new) }
+    ensures err { IfErr result (λ e. IsRefused quote.now first window.old scalar.old window.new e) }
     ensures less { OnOk result (window.new.left < window.old.left) }
 {
-    if let Err(fault) = check_line(window, context, start) {
+    if let Err(fault) = check_line(window, quote) {
         return Err(fault);
     }
     scalar.join()?;
-    read_in_line(window, single, context, start, c, scalar)
+    read_in_line(window, quote, c, scalar)
 }
 
 /// Reads a character in a gap, or the one behind it.
 #[tactic(auto, using(scalar_model::proofs::QuotedLemmas::gap_line))]
 fn read_in_gap<T: Iterator<Item = char>>(
     window: &mut Window<T>,
-    single: bool,
-    context: Context,
-    start: Marker,
+    quote: &Quote,
     c: char,
     scalar: &mut Folding,
 ) -> Result<Part, Fault>
@@ -203,28 +185,24 @@ fn read_in_gap<T: Iterator<Item = char>>(
     requires here { Sees window.old (λ a. c ≡ slice_index a 0) }
     requires has { HasChar window.old }
     requires ahead { 4 ≤ window.old.ahead }
-    ensures ok { IfOk result (λ next. Reads window.old window.new (λ a b.
-        quoted_from single context start a (at gap window.old scalar.old) ≡ quoted_from single context start b (at (mode_of next) window.new scalar.new))) }
-    ensures err { IfErr result (λ e. Reads window.old window.new (λ a b. e ≢ Fault.OutOfMemory →
-        quoted_from single context start a (at gap window.old scalar.old) ≡ Err e)) }
+    ensures ok { IfOk result (λ next. GoesOn quote.now gap window.old scalar.old (mode_of next) window.new scalar.new) }
+    ensures err { IfErr result (λ e. IsRefused quote.now gap window.old scalar.old window.new e) }
     ensures less { OnOk result (window.new.left < window.old.left) }
 {
     if is_break(c) || is_blank(c) {
-        return match read_gap(window, single, context, start, c, scalar) {
+        return match read_gap(window, quote, c, scalar) {
             Ok(()) => Ok(Part::Gap),
             Err(fault) => Err(fault),
         };
     }
-    read_line(window, single, context, start, c, scalar)
+    read_line(window, quote, c, scalar)
 }
 
 /// Reads a character behind an escaped break.
 #[tactic(auto, using(scalar_model::proofs::QuotedLemmas::behind_quote, scalar_model::proofs::QuotedLemmas::behind_gap))]
 fn read_behind<T: Iterator<Item = char>>(
     window: &mut Window<T>,
-    single: bool,
-    context: Context,
-    start: Marker,
+    quote: &Quote,
     c: char,
     scalar: &mut Folding,
 ) -> Result<Part, Fault>
@@ -232,39 +210,31 @@ fn read_behind<T: Iterator<Item = char>>(
     requires here { Sees window.old (λ a. c ≡ slice_index a 0) }
     requires has { HasChar window.old }
     requires ahead { 4 ≤ window.old.ahead }
-    ensures ok { IfOk result (λ next. Reads window.old window.new (λ a b.
-        quoted_from single context start a (at behind window.old scalar.old) ≡ quoted_from single context start b (at (mode_of next) window.new scalar.new))) }
-    ensures err { IfErr result (λ e. Reads window.old window.new (λ a b. e ≢ Fault.OutOfMemory →
-        quoted_from single context start a (at behind window.old scalar.old) ≡ Err e)) }
+    ensures ok { IfOk result (λ next. GoesOn quote.now behind window.old scalar.old (mode_of next) window.new scalar.new) }
+    ensures err { IfErr result (λ e. IsRefused quote.now behind window.old scalar.old window.new e) }
     ensures less { OnOk result (window.new.left < window.old.left) }
 {
-    if c == quote_of(single) {
-        return read_in_line(window, single, context, start, c, scalar);
+    if c == quote_of(quote.single) {
+        return read_in_line(window, quote, c, scalar);
     }
-    read_in_gap(window, single, context, start, c, scalar)
+    read_in_gap(window, quote, c, scalar)
 }
 
 /// Reads an escaped break.
 fn read_escaped_break<T: Iterator<Item = char>>(
     window: &mut Window<T>,
-    single: bool,
-    context: Context,
-    start: Marker,
+    quote: &Quote,
     c: char,
     scalar: &mut Folding,
 ) -> Result<Part, Fault>
     requires here { Sees window.old (λ a. c ≡ slice_index a 0) }
     requires has { HasChar window.old }
     requires ahead { 2 ≤ window.old.ahead }
-    ensures ok { IfOk result (λ next. Reads window.old window.new (λ a b.
-        quoted_from single context start a (at breaking window.old scalar.old) ≡ quoted_from single context start b (at (mode_of next) window.new scalar.new))) }
-    ensures err { IfErr result (λ e. Reads window.old window.new (λ a b. e ≢ Fault.OutOfMemory →
-        quoted_from single context start a (at breaking window.old scalar.old) ≡ Err e)) }
+    ensures ok { IfOk result (λ next. GoesOn quote.now breaking window.old scalar.old (mode_of next) window.new scalar.new) }
+    ensures err { IfErr result (λ e. IsRefused quote.now breaking window.old scalar.old window.new e) }
     ensures less { OnOk result (window.new.left < window.old.left) }
 {
-    let _ = single;
-    let _ = context;
-    let _ = start;
+    let _ = quote;
     if c == '\r' && window.peek(1) == '\n' {
         window.skip();
         return Ok(Part::Breaking);
@@ -277,24 +247,18 @@ fn read_escaped_break<T: Iterator<Item = char>>(
 /// Reads the second one of two quotes.
 fn read_doubled<T: Iterator<Item = char>>(
     window: &mut Window<T>,
-    single: bool,
-    context: Context,
-    start: Marker,
+    quote: &Quote,
     c: char,
     scalar: &mut Folding,
 ) -> Result<Part, Fault>
     requires here { Sees window.old (λ a. c ≡ slice_index a 0) }
     requires has { HasChar window.old }
     requires ahead { 2 ≤ window.old.ahead }
-    ensures ok { IfOk result (λ next. Reads window.old window.new (λ a b.
-        quoted_from single context start a (at doubled window.old scalar.old) ≡ quoted_from single context start b (at (mode_of next) window.new scalar.new))) }
-    ensures err { IfErr result (λ e. Reads window.old window.new (λ a b. e ≢ Fault.OutOfMemory →
-        quoted_from single context start a (at doubled window.old scalar.old) ≡ Err e)) }
+    ensures ok { IfOk result (λ next. GoesOn quote.now doubled window.old scalar.old (mode_of next) window.new scalar.new) }
+    ensures err { IfErr result (λ e. IsRefused quote.now doubled window.old scalar.old window.new e) }
     ensures less { OnOk result (window.new.left < window.old.left) }
 {
-    let _ = single;
-    let _ = context;
-    let _ = start;
+    let _ = quote;
     scalar.push(c)?;
     window.skip();
     Ok(Part::Inside)
@@ -303,17 +267,13 @@ fn read_doubled<T: Iterator<Item = char>>(
 /// Reads what stands here.
 fn read_part<T: Iterator<Item = char>>(
     window: &mut Window<T>,
-    single: bool,
-    context: Context,
-    start: Marker,
+    quote: &Quote,
     part: Part,
     scalar: &mut Folding,
 ) -> Result<Part, Fault>
     requires { part ≢ Part.Closed }
-    ensures ok { IfOk result (λ next. Reads window.old window.new (λ a b.
-        quoted_from single context start a (at (mode_of part) window.old scalar.old) ≡ quoted_from single context start b (at (mode_of next) window.new scalar.new))) }
-    ensures err { IfErr result (λ e. Reads window.old window.new (λ a b. e ≢ Fault.OutOfMemory →
-        quoted_from single context start a (at (mode_of part) window.old scalar.old) ≡ Err e)) }
+    ensures ok { IfOk result (λ next. GoesOn quote.now (mode_of part) window.old scalar.old (mode_of next) window.new scalar.new) }
+    ensures err { IfErr result (λ e. IsRefused quote.now (mode_of part) window.old scalar.old window.new e) }
     ensures less { OnOk result (window.new.left < window.old.left) }
 {
     window.lookahead(4);
@@ -323,16 +283,16 @@ fn read_part<T: Iterator<Item = char>>(
             Part::Named => Problem::UnknownEscape,
             _ => Problem::QuotedEnd,
         };
-        return Err(Fault::At(problem, start));
+        return Err(Fault::At(problem, quote.start));
     }
     match part {
-        Part::First => read_line(window, single, context, start, c, scalar),
-        Part::Inside => read_in_line(window, single, context, start, c, scalar),
-        Part::Gap => read_in_gap(window, single, context, start, c, scalar),
-        Part::Breaking => read_escaped_break(window, single, context, start, c, scalar),
-        Part::Behind => read_behind(window, single, context, start, c, scalar),
-        Part::Doubled => read_doubled(window, single, context, start, c, scalar),
-        Part::Named => read_named(window, single, context, start, c, scalar),
+        Part::First => read_line(window, quote, c, scalar),
+        Part::Inside => read_in_line(window, quote, c, scalar),
+        Part::Gap => read_in_gap(window, quote, c, scalar),
+        Part::Breaking => read_escaped_break(window, quote, c, scalar),
+        Part::Behind => read_behind(window, quote, c, scalar),
+        Part::Doubled => read_doubled(window, quote, c, scalar),
+        Part::Named => read_named(window, quote, c, scalar),
         Part::Closed => unreachable!(),
     }
 }
@@ -341,21 +301,39 @@ fn read_part<T: Iterator<Item = char>>(
 #[tactic(auto, using(scalar_model::proofs::RunLemmas::quoted_run))]
 fn read_run<T: Iterator<Item = char>>(
     window: &mut Window<T>,
-    single: bool,
-    context: Context,
-    start: Marker,
+    quote: &Quote,
     scalar: &mut Folding,
 ) -> Result<(), AllocError>
-    ensures ok { OnOk result (Reads window.old window.new (λ a b.
-        quoted_from single context start a (at inside window.old scalar.old) ≡ quoted_from single context start b (at inside window.new scalar.new))) }
+    ensures ok { OnOk result (GoesOn quote.now inside window.old scalar.old inside window.new scalar.new) }
     ensures err { OnErr result (Reads window.old window.new (λ _ _. Unit {0})) }
 {
-    let _ = context;
-    let _ = start;
-    'run: while let Some(c) = window.take(Run::Quoted(quote_of(single))) {
+    'run: while let Some(c) = window.take(Run::Quoted(quote_of(quote.single))) {
         scalar.push(c)?;
     }
     Ok(())
+}
+
+/// Reads what stands between the quotes, and the closing one.
+fn read_parts<T: Iterator<Item = char>>(
+    window: &mut Window<T>,
+    quote: &Quote,
+    scalar: &mut Folding,
+) -> Result<(), Fault>
+    ensures ok { OnOk result (GoesOn quote.now first window.old scalar.old closed window.new scalar.new) }
+    ensures err { IfErr result (λ e. IsRefused quote.now first window.old scalar.old window.new e) }
+    ensures left { OnOk result (window.new.left ≤ window.old.left) }
+{
+    let mut part = Part::First;
+    'parts: loop {
+        match read_part(window, quote, part, scalar) {
+            Ok(Part::Closed) => return Ok(()),
+            Ok(next) => part = next,
+            Err(fault) => return Err(fault),
+        }
+        if part == Part::Inside {
+            read_run(window, quote, scalar)?;
+        }
+    }
 }
 
 /// Reads a quoted scalar, from the opening quote to behind the closing one.
@@ -372,18 +350,15 @@ pub fn read_quoted<T: Iterator<Item = char>>(
     ensures err { IfErr result (λ e. Reads window.old window.new (λ a b. e ≢ Fault.OutOfMemory → quoted single context a (place_of window.old) ≡ Err e)) }
     ensures less { OnOk result (window.new.left < window.old.left) }
 {
-    let start = window.mark();
+    let quote = Quote {
+        single,
+        context,
+        start: window.mark(),
+    };
     window.skip();
     let mut scalar = Folding::new(alloc);
-    let mut part = Part::First;
-    'parts: loop {
-        match read_part(window, single, context, start, part, &mut scalar) {
-            Ok(Part::Closed) => return Ok(scalar.text.into_string()),
-            Ok(next) => part = next,
-            Err(fault) => return Err(fault),
-        }
-        if part == Part::Inside {
-            read_run(window, single, context, start, &mut scalar)?;
-        }
+    match read_parts(window, &quote, &mut scalar) {
+        Ok(()) => Ok(scalar.text.into_string()),
+        Err(fault) => Err(fault),
     }
 }

@@ -12,4 +12,4 @@ returns-clause-ok g c =
     begin_lines c.args.literal c.args.column a b c.ch-c.result _ _ (p.1 ∙ ap (λ x. x ∷ b) (sym p.0)) e h
     ∙ ap (λ w. lines_from c.args.literal c.args.column b (record { mode = line; place = place_of w; lines = with_char c.ch-c.result (begun c.args.literal c.ch-c.result (lines c.args.block.now)) })) (sym c.skip.ensures.state)
     ∙ ap (λ (l : Lines). lines_from c.args.literal c.args.column b (record { mode = line; place = place_of c.skip.new.self; lines = l })) (sym c.in_ok-begin.ensures)
-    ∙ q)
+    ∙ q c.args.literal c.args.column)

@@ -1,11 +1,12 @@
 use Rattle.std.proofs.Common.{◌≡◌}
+use Rattle.yaml_chars.specs.Place.{Place}
 use Rattle.yaml_chars.specs.Reading.{Reads}
 use Rattle.scalar_model.specs.Plain.{plain_from, inside}
 use Rattle.yaml_scalars.specs.Shown.{at}
 use Rattle.yaml_scalars.proofs.plain.read_word.Given as goal
 
 abbrev pub invariant-run : goal.invariant-run
-invariant-run g l = Reads l.fn.window l.window (λ a b. plain_from l.fn.context l.fn.start a (at inside l.fn.window l.fn.scalar) ≡ plain_from l.fn.context l.fn.start b (at inside l.window l.scalar))
+invariant-run g l = Reads l.fn.window l.window (λ a b. (start : Place) → plain_from l.fn.context start a (at inside l.fn.window l.fn.scalar) ≡ plain_from l.fn.context start b (at inside l.window l.scalar))
 
 abbrev pub decreases-run : goal.decreases-run
 decreases-run g l = l.window.left
