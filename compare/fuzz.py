@@ -22,6 +22,8 @@ import compare, octets, rules, shapes, trees
 
 GROWN = 20000
 TEXT, CHARACTER = 400e-6, 4e-6
+KEY = 1024
+SHOWN = 1000
 
 KINDS = [compare.short, compare.mutated, compare.longer, compare.mutated, compare.short, compare.json_text, shapes.generated, compare.mutated]
 
@@ -52,13 +54,13 @@ INTEGER = re.compile(r"[+-]?[0-9]+")
 
 
 def is_written(tree):
-    """Whether a dump of the tree is promised to load back: no bad value, no alias, and no real that reads as an integer, as that of
-    `!!float 12`."""
+    """Whether a dump of the tree is promised to load back: no bad value, no alias, no real that reads as an integer, as that of
+    `!!float 12`, and no scalar key that takes more than 1024 characters, which no simple key may."""
     kind, it = tree
     if kind == "array":
         return all(map(is_written, it))
     if kind == "hash":
-        return all(is_written(k) and is_written(v) for k, v in it)
+        return all(is_written(k) and is_written(v) and len(trees.as_key(k)) <= KEY for k, v in it)
     if kind == "real":
         return not (INTEGER.fullmatch(it) and -2**63 <= int(it) < 2**63)
     return kind not in ("bad", "alias")
@@ -207,7 +209,7 @@ def main():
         print("%d texts, %d found" % (done, len(fuzz.found)), file=sys.stderr, flush=True)
     print("seed %d: %d texts of %d characters, %d load, %d dumps of them load back" % (a.seed, done, fuzz.characters, fuzz.loaded, fuzz.dumped))
     for name, count in fuzz.names.most_common(): print("%8d  %s" % (count, name))
-    for text, what in fuzz.found[: a.show]: print(repr(text if len(text) < 300 else text[:150] + " .. " + text[-150:])); print(what)
+    for text, what in fuzz.found[: a.show]: print(repr(text if len(text) < 300 else text[:150] + " .. " + text[-150:])); print(what[:SHOWN])
     print("%d found" % len(fuzz.found) if fuzz.found else "clean")
     return 1 if fuzz.found else 0
 

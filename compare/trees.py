@@ -221,6 +221,15 @@ class Emitter:
         self.node(tree, level, False)
 
 
+def as_key(tree):
+    """What we write of a scalar that is a key; nothing of other trees."""
+    emitter = Emitter(False, False, our_quotes, our_literal)
+    emitter.out = []
+    if tree[0] not in ("array", "hash"):
+        emitter.node(tree, 0, True)
+    return "".join(emitter.out)
+
+
 def explain(trees, spread, multiline, ours, theirs):
     """The departure by which the original writes `theirs` and we `ours` for these trees, or None."""
     def texts(quotes, literal): return "".join(Emitter(spread, multiline, quotes, literal).text(t) + "\n" for t in trees)

@@ -1,14 +1,17 @@
-// Refuses each request for memory of a load in turn: refuse FILE.., each a text that loads.
+// Refuses each request for memory in turn: refuse FILE.., each a text that loads.
 //
 // For each file it loads it with the first request refused, then with the second, and so on, up to a run that asks less often; and
-// again with all requests from that one on refused; and so with the text laid over the file before it. It prints a line for each run that loads all the same or leaves memory behind;
-// then its status is 1.
+// again with all requests from that one on refused. So it does with the text laid over the file before it; and with every other call
+// that takes memory: loads by an iterator, a parser and from bytes, the typing of the text, a fault of it, copies of tokens, events, the
+// fault and trees, dumps, and trees put into a hash. It prints a line for each run that answers all the same, answers wrongly or leaves
+// memory behind; then its status is 1.
 #include <stdint.h>
 #include <stdio.h>
 #include <stdlib.h>
 
 int64_t yamlbench_load(const unsigned char *text, size_t length);
 int64_t yamlbench_overlay(const unsigned char *below, size_t below_length, const unsigned char *above, size_t above_length);
+int64_t yamlbench_calls(const unsigned char *text, size_t length);
 
 void *__real_malloc(size_t size);
 void *__real_realloc(void *old, size_t size);
@@ -64,9 +67,21 @@ struct text {
     size_t length;
 };
 
-static int64_t answer(const struct text *below, const struct text *text) {
-    if (!below) return yamlbench_load(text->bytes, text->length);
+// What is done with a text, and the one before it: below 0 where memory is refused, below -1 where an answer is wrong.
+typedef int64_t deed(const struct text *below, const struct text *text);
+
+static int64_t load(const struct text *below, const struct text *text) {
+    (void)below;
+    return yamlbench_load(text->bytes, text->length);
+}
+
+static int64_t overlay(const struct text *below, const struct text *text) {
     return yamlbench_overlay(below->bytes, below->length, text->bytes, text->length);
+}
+
+static int64_t call(const struct text *below, const struct text *text) {
+    (void)below;
+    return yamlbench_calls(text->bytes, text->length);
 }
 
 static int bad;
@@ -77,38 +92,40 @@ static void tell(const char *path, const char *what) {
 }
 
 // How many requests were refused. Each of them must be answered by a refusal, and nothing may be left behind.
-static long run(const struct text *below, const struct text *text) {
+static long run(deed *deed, const struct text *below, const struct text *text) {
     for (refused_at = 1;; refused_at++) {
         asked = held = 0;
-        int64_t documents = answer(below, text);
+        int64_t answer = deed(below, text);
         if (held != 0) tell(text->path, "memory is left behind");
         if (asked < refused_at) {
-            if (documents < 0) tell(text->path, "it doesn't load");
+            if (answer < 0) tell(text->path, "it doesn't load");
             return refused_at - 1;
         }
-        if (documents >= 0) tell(text->path, "it answers all the same");
+        if (answer >= 0) tell(text->path, "it answers all the same");
+        if (answer < -1) tell(text->path, "it answers wrongly");
     }
 }
 
-static long run_both_ways(const struct text *below, const struct text *text) {
+static long run_both_ways(deed *deed, const struct text *below, const struct text *text) {
     long all = 0;
-    for (is_for_good = 0; is_for_good < 2; is_for_good++) all += run(below, text);
+    for (is_for_good = 0; is_for_good < 2; is_for_good++) all += run(deed, below, text);
     return all;
 }
 
 int main(int argc, char **argv) {
     struct text texts[2];
-    long loads = 0, overlays = 0;
+    long loads = 0, overlays = 0, calls = 0;
     for (int i = 1; i < argc; i++) {
         struct text *text = &texts[i % 2];
         text->path = argv[i];
         text->bytes = read_file(argv[i], &text->length);
-        loads += run_both_ways(NULL, text);
+        loads += run_both_ways(load, NULL, text);
+        calls += run_both_ways(call, NULL, text);
         if (i > 1) {
-            overlays += run_both_ways(&texts[(i + 1) % 2], text);
+            overlays += run_both_ways(overlay, &texts[(i + 1) % 2], text);
             __real_free(texts[(i + 1) % 2].bytes);
         }
     }
-    printf("%ld requests of loads and %ld of overlays refused: %s\n", loads, overlays, bad ? "NOT all is well" : "each is answered, and nothing is left behind");
+    printf("%ld requests of loads, %ld of overlays and %ld of other calls refused: %s\n", loads, overlays, calls, bad ? "NOT all is well" : "each is answered, and nothing is left behind");
     return bad;
 }

@@ -1,5 +1,5 @@
 #!/usr/bin/env python3
-"""Refuses each request for memory of a load, and of an overlay of loads, in turn, and counts. Of each text refuse.c says what is looked at.
+"""Refuses each request for memory of loads, overlays and all other calls in turn, and counts. refuse.c says what is looked at.
 
 Build the static library first: `cd crates/yamlbench && rt lib`.
 """

@@ -1,6 +1,9 @@
-//! Readers that fail behind each number of bytes, and writers that refuse each of their calls.
+//! What is refused: readers that fail behind each number of bytes, writers that refuse each of their calls, and events out
+//! of nesting.
 #![tactic(auto)]
 
+#[cfg(test)]
+mod events;
 #[cfg(test)]
 mod reads;
 #[cfg(test)]

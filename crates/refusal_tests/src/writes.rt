@@ -1,7 +1,8 @@
+//! Writers that refuse.
 use std::alloc::Global;
 use std::fmt;
 use std::test::Fail;
-use yaml_emitter::{Writer, YamlEmitter};
+use yaml_emitter::{FmtWriter, Writer, YamlEmitter};
 use yaml_loader::YamlLoader;
 use yaml_tree::Yaml;
 
@@ -10,6 +11,16 @@ use yaml_tree::Yaml;
 struct Refusing {
     text: String,
     left: u32,
+}
+
+impl Refusing {
+    fn take(&mut self, text: &str) -> fmt::Result {
+        match self.left.checked_sub(1) {
+            Some(left) => self.left = left,
+            None => return Err(fmt::Error),
+        }
+        self.text.push_str(text).map_err(|_| fmt::Error)
+    }
 }
 
 impl Writer for Refusing {
@@ -26,44 +37,99 @@ impl Writer for Refusing {
     ghost stopped = { λ before characters after is. tt };
 
     fn put(&mut self, text: &str) -> fmt::Result {
-        match self.left.checked_sub(1) {
-            Some(left) => self.left = left,
-            None => return Err(fmt::Error),
-        }
-        self.text.push_str(text).map_err(|_| fmt::Error)
+        self.take(text)
     }
 }
 
-// How many calls a dump makes: each of them is refused in turn, and what was written then is a beginning of the text.
-fn refused(alloc: Global, tree: &Yaml, compact: bool, multiline: bool) -> Result<u32, Fail> {
+impl fmt::Write for Refusing {
+    fn write_str(&mut self, text: &str) -> fmt::Result {
+        self.take(text)
+    }
+}
+
+// How a tree is written.
+#[derive(Clone, Copy)]
+struct Settings {
+    compact: bool,
+    multiline: bool,
+}
+
+// Whether a dump is written.
+fn is_written<W: Writer>(writer: &mut W, tree: &Yaml, settings: Settings) -> bool {
+    let mut emitter = YamlEmitter::new(writer);
+    emitter.compact(settings.compact);
+    emitter.multiline_strings(settings.multiline);
+    emitter.dump(tree).is_ok()
+}
+
+// What a writer that refuses behind so many calls has then, and whether the dump is written.
+fn written(alloc: Global, tree: &Yaml, settings: Settings, left: u32) -> (String, bool) {
+    let text = String::new(alloc);
+    let mut writer = Refusing { text, left };
+    let is_whole = is_written(&mut writer, tree, settings);
+    (writer.text, is_whole)
+}
+
+// The same of a `fmt::Write`.
+fn formatted(alloc: Global, tree: &Yaml, settings: Settings, left: u32) -> (String, bool) {
+    let text = String::new(alloc);
+    let mut writer = FmtWriter::new(Refusing { text, left });
+    let is_whole = is_written(&mut writer, tree, settings);
+    (writer.into_inner().text, is_whole)
+}
+
+// How many calls a dump makes: each of them is refused in turn, and what was written then is a beginning of the text, which
+// a `String` takes whole.
+fn refused(alloc: Global, tree: &Yaml, settings: Settings) -> Result<u32, Fail> {
     let mut whole = String::new(alloc);
-    let mut emitter = YamlEmitter::new(&mut whole);
-    emitter.compact(compact);
-    emitter.multiline_strings(multiline);
-    emitter.dump(tree).map_err(|_| "out of memory")?;
+    if !is_written(&mut whole, tree, settings) {
+        return Err(Fail::from("no memory"));
+    }
     for left in 0..u32::MAX {
-        let mut writer = Refusing {
-            text: String::new(alloc),
-            left,
-        };
-        let mut emitter = YamlEmitter::new(&mut writer);
-        emitter.compact(compact);
-        emitter.multiline_strings(multiline);
-        let is_written = emitter.dump(tree).is_ok();
-        if !whole.as_str().starts_with(writer.text.as_str()) {
-            return Err(Fail::from("no beginning"));
+        let (text, is_whole) = written(alloc, tree, settings, left);
+        let (other, is_other_whole) = formatted(alloc, tree, settings, left);
+        let is_same = text == other && is_whole == is_other_whole;
+        let is_beginning = whole.as_str().starts_with(text.as_str());
+        if !is_same || !is_beginning || is_whole && text != whole {
+            return Err(Fail::from("another text"));
         }
-        if is_written {
+        if is_whole {
             return Ok(left);
         }
     }
     Err(Fail::from("no end"))
 }
 
-const TEXTS: [(&str, u32); 2] = [
+const SETTINGS: [Settings; 4] = [
+    Settings {
+        compact: true,
+        multiline: false,
+    },
+    Settings {
+        compact: true,
+        multiline: true,
+    },
+    Settings {
+        compact: false,
+        multiline: false,
+    },
+    Settings {
+        compact: false,
+        multiline: true,
+    },
+];
+
+// Texts of trees, and how many calls their dumps make at least.
+const TEXTS: [(&str, u32); 5] = [
     ("? key:\n    - 1\n    - 2\n    - 3\n: - 4\n  - 5\n  - 6", 10),
     (
         "- \"a\\nb\\u0001\"\n- {x: [~, true, -5, 1.5], y: {}, z: []}\n",
+        10,
+    ),
+    (">\n a\n b\n\n c\n  d\n e\n", 2),
+    ("a1: &DEFAULT\n    b1: 4\n    b2: d\na2: *DEFAULT\n", 10),
+    (
+        "---\n# top\n\n   ? - 1\n     - 2\n# mid\n   :       - x\n           - |\n                 p\n\n                 q\n   k:\n# c\n     z: {}\n",
         10,
     ),
 ];
@@ -75,8 +141,11 @@ fn a_writer_that_refuses_is_answered(rt: HostRuntime) -> Result<(), Fail> {
         let [tree] = documents.as_slice() else {
             return Err(Fail::from("no document"));
         };
-        for (compact, multiline) in [(true, true), (true, false), (false, true), (false, false)] {
-            assert!(rt; refused(rt.alloc(), tree, compact, multiline)? >= least);
+        for settings in SETTINGS {
+            assert!(rt;
+                refused(rt.alloc(), tree, settings)? >= least,
+                "row {text:?}"
+            );
         }
     }
     Ok(())

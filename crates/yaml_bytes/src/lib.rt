@@ -2,7 +2,5 @@
 #![tactic(auto)]
 
 mod decoder;
-#[cfg(test)]
-mod tests;
 
 pub use decoder::{LoadError, YamlDecoder};

@@ -9,8 +9,6 @@ mod malformation;
 mod message;
 mod sequence;
 pub mod stop;
-#[cfg(test)]
-mod tests;
 pub mod text;
 pub mod trap;
 mod utf_16;

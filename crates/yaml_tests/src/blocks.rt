@@ -3,7 +3,7 @@ use crate::reading::{Row, rows_hold};
 use std::test::Fail;
 
 // A text, and the trees that it loads as.
-const BLOCKS: [Row; 10] = [
+const BLOCKS: [Row; 11] = [
     (
         "---\na:\n# note\n     - 1\n\n     - 2\n",
         "[Hash({String(\"a\"): Array([Integer(1), Integer(2)])})]",
@@ -29,6 +29,10 @@ const BLOCKS: [Row; 10] = [
     ),
     (
         "---\n# top\n\n   ? - 1\n     - 2\n# mid\n   :       - x\n           - |\n                 p\n\n                 q\n   k:\n# c\n     z: {}\n",
+        "[Hash({Array([Integer(1), Integer(2)]): Array([String(\"x\"), String(\"p\\n\\nq\\n\")]), String(\"k\"): Hash({String(\"z\"): Hash({})})})]",
+    ),
+    (
+        "---\r\n# top\r\n\r\n   ? - 1\r\n     - 2\r\n# mid\r\n   :       - x\r\n           - |\r\n                 p\r\n\r\n                 q\r\n   k:\r\n# c\r\n     z: {}\r\n",
         "[Hash({Array([Integer(1), Integer(2)]): Array([String(\"x\"), String(\"p\\n\\nq\\n\")]), String(\"k\"): Hash({String(\"z\"): Hash({})})})]",
     ),
     (

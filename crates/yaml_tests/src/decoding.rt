@@ -80,7 +80,7 @@ const TREE: &str =
     "[Hash({String(\"a\"): Integer(1), String(\"b\"): Real(\"2.2\"), String(\"c\"): Array([Integer(1), Integer(2)])})]";
 
 // Bytes, a trap, and the trees, the message of a stop, or a fault.
-const DECODING: [(&[u8], Trap, &str); 22] = [
+const DECODING: [(&[u8], Trap, &str); 29] = [
     (A_LETTER_TOO_MUCH, Trap::Ignore, TREE),
     (
         A_LETTER_TOO_MUCH,
@@ -144,6 +144,33 @@ const DECODING: [(&[u8], Trap, &str); 22] = [
         Trap::Replace,
         "[String(\"\u{FFFD}\u{10400}\")]",
     ),
+    (
+        &[0xFE, 0xFF, 0x00, 0x61, 0xDC, 0x00],
+        Trap::Ignore,
+        "[String(\"a\")]",
+    ),
+    (&[0xF0, 0x9F, 0x98], Trap::Replace, "[String(\"\u{FFFD}\")]"),
+    (
+        &[0xF0, 0x9F, 0x98, 0x80],
+        Trap::Replace,
+        "[String(\"\u{1F600}\")]",
+    ),
+    (
+        &[0xC3, 0xA9, 0xE2, 0x82, 0xAC],
+        Trap::Replace,
+        "[String(\"\u{e9}\u{20AC}\")]",
+    ),
+    (
+        &[0x61, 0xFF, 0xFE],
+        Trap::Strict,
+        "stopped: Invalid character sequence at 1: [255]",
+    ),
+    (
+        &[0x61, 0xFF, 0x61, 0xE2, 0x82],
+        Trap::Asks,
+        "[String(\"a?a?\")]",
+    ),
+    (&[0x61, 0xFF, 0xFF], Trap::Ignore, "[String(\"a\")]"),
     (&[], Trap::Strict, "[]"),
     (&[0x00], Trap::Strict, "[]"),
     (
@@ -160,6 +187,48 @@ fn bytes_are_decoded(rt: HostRuntime) -> Result<(), Fail> {
             decoded(rt.alloc(), bytes, trap)?.as_str(),
             want,
             "row {bytes:?}, {want}"
+        );
+    }
+    Ok(())
+}
+
+const TRAPS: [Trap; 7] = [
+    Trap::Ignore,
+    Trap::Replace,
+    Trap::Strict,
+    Trap::Notes,
+    Trap::Asks,
+    Trap::Bad,
+    Trap::Silent,
+];
+
+// Whether every beginning of bytes is answered with each trap, by trees, a message or a fault.
+fn are_beginnings_answered(alloc: Global, bytes: &[u8]) -> Result<bool, Fail> {
+    for length in 0..bytes.len() {
+        let beginning = bytes.get(..length).ok_or("no beginning")?;
+        for trap in TRAPS {
+            let told = decoded(alloc, beginning, trap)?;
+            if told.as_str() == "no bytes" || told.as_str().contains("out of memory") {
+                return Ok(false);
+            }
+        }
+    }
+    Ok(true)
+}
+
+#[test]
+fn beginnings_of_bytes_are_answered(rt: HostRuntime) -> Result<(), Fail> {
+    for (bytes, _, _) in DECODING {
+        assert!(rt;
+            are_beginnings_answered(rt.alloc(), bytes)?,
+            "row {bytes:?}"
+        );
+    }
+    for (mark, is_little) in ENCODINGS {
+        let bytes = utf_16(rt.alloc(), mark, is_little)?;
+        assert!(rt;
+            are_beginnings_answered(rt.alloc(), bytes.as_slice())?,
+            "mark {mark:?}"
         );
     }
     Ok(())

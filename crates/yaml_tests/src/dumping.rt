@@ -121,6 +121,15 @@ fn trees_are_dumped(rt: HostRuntime) -> Result<(), Fail> {
 }
 
 #[test]
+fn nodes_that_no_text_gives_are_dumped(rt: HostRuntime) -> Result<(), Fail> {
+    let bad = dumped(rt.alloc(), &Yaml::BadValue, COMPACT)?;
+    assert_eq!(rt; bad.as_str(), "---\n~");
+    let alias = dumped(rt.alloc(), &Yaml::Alias(1), COMPACT)?;
+    assert_eq!(rt; alias.as_str(), "---\n");
+    Ok(())
+}
+
+#[test]
 fn a_refusal_is_printed(rt: HostRuntime) -> Result<(), Fail> {
     let refused = yaml_rust2::EmitError::from(std::fmt::Error);
     let printed = format!(in rt.alloc(); "{refused}")?;

@@ -1,9 +1,10 @@
 //! Texts that are refused.
 use crate::reading::{Row, pulled, rows_hold};
+use std::alloc::Global;
 use std::test::Fail;
 
 // A text, and its fault's printed line.
-const FAULTS: [Row; 36] = [
+const FAULTS: [Row; 72] = [
     (
         "[a",
         "while parsing a flow sequence, expected ',' or ']' at byte 2 line 2 column 1",
@@ -145,17 +146,145 @@ const FAULTS: [Row; 36] = [
         "!<%C3A> a",
         "while parsing a tag, did not find URI escaped octet at byte 0 line 1 column 1",
     ),
+    (
+        "-\t-",
+        "'-' must be followed by a valid YAML whitespace at byte 2 line 1 column 3",
+    ),
+    (
+        "[]-",
+        "block sequence entries are not allowed in this context at byte 2 line 1 column 3",
+    ),
+    (
+        ",#",
+        "comments must be separated from other tokens by whitespace at byte 1 line 1 column 2",
+    ),
+    ("?", "expected whitespace at byte 1 line 1 column 2"),
+    (
+        "[a\n: b]",
+        "illegal placement of ':' indicator at byte 3 line 2 column 1",
+    ),
+    (
+        "%TAG !a! \"\n--- a",
+        "invalid global tag character at byte 0 line 1 column 1",
+    ),
+    (": {\n- ", "invalid indentation at byte 4 line 2 column 1"),
+    (
+        "s:\n  - [a:\n  b: c",
+        "invalid indentation in flow construct at byte 13 line 3 column 3",
+    ),
+    (
+        "a: 'b\n- c'",
+        "invalid indentation in quoted scalar at byte 3 line 1 column 4",
+    ),
+    (
+        "[]?",
+        "mapping keys are not allowed in this context at byte 2 line 1 column 3",
+    ),
+    (
+        "[-,",
+        "plain scalar cannot start with '-' followed by ,[]{} at byte 1 line 1 column 2",
+    ),
+    ("-\na\n", "simple key expect ':' at byte 4 line 3 column 1"),
+    (
+        "a: 'b\n\t c'",
+        "tab cannot be used as indentation at byte 6 line 2 column 1",
+    ),
+    (
+        "? \t",
+        "tabs disallowed in this context at byte 2 line 1 column 3",
+    ),
+    (
+        "-\n\ta",
+        "tabs disallowed within this context (block indentation) at byte 3 line 2 column 2",
+    ),
+    ("[%", "unexpected character: `%' at byte 1 line 1 column 2"),
+    ("@", "unexpected character: `@' at byte 0 line 1 column 1"),
+    ("`", "unexpected character: ``' at byte 0 line 1 column 1"),
+    (
+        "\"\\x4g\"",
+        "while parsing a quoted scalar, did not find expected hexadecimal number at byte 0 line 1 column 1",
+    ),
+    (
+        "%TAG !t*b x:\n--- a",
+        "while parsing a tag directive, did not find expected '!' at byte 0 line 1 column 1",
+    ),
+    (
+        "!!",
+        "while parsing a tag, did not find expected tag URI at byte 0 line 1 column 1",
+    ),
+    (
+        "!<%C0%280> a",
+        "while parsing a tag, found an incorrect trailing UTF-8 octet at byte 0 line 1 column 1",
+    ),
+    (
+        "%TAG !t!  x\u{feff}\n---",
+        "while scanning TAG, did not find expected whitespace or line break at byte 0 line 1 column 1",
+    ),
+    (
+        "%YAML 1 2\n--- a",
+        "while scanning a YAML directive, did not find expected digit or '.' character at byte 0 line 1 column 1",
+    ),
+    (
+        "%YAML 1.\n--- a",
+        "while scanning a YAML directive, did not find expected version number at byte 0 line 1 column 1",
+    ),
+    (
+        "|a",
+        "while scanning a block scalar, did not find expected comment or line break at byte 0 line 1 column 1",
+    ),
+    (
+        "%",
+        "while scanning a directive, could not find expected directive name at byte 1 line 1 column 2",
+    ),
+    (
+        "%YAML 1.1-\n--- a",
+        "while scanning a directive, did not find expected comment or line break at byte 0 line 1 column 1",
+    ),
+    (
+        "%a?",
+        "while scanning a directive, found unexpected non-alphabetical character at byte 1 line 1 column 2",
+    ),
+    (
+        "- a|\n\ta",
+        "while scanning a plain scalar, found a tab at byte 2 line 1 column 3",
+    ),
+    (
+        "- a\n%TAG t! x:\n- b",
+        "while scanning a tag, did not find expected '!' at byte 4 line 2 column 1",
+    ),
+    (
+        "!,",
+        "while scanning a tag, did not find expected whitespace or line break at byte 0 line 1 column 1",
+    ),
+    (
+        "!<x a",
+        "while scanning a verbatim tag, did not find the expected '>' at byte 0 line 1 column 1",
+    ),
+    (
+        "&",
+        "while scanning an anchor or alias, did not find expected alphabetic or numeric character at byte 0 line 1 column 1",
+    ),
+    (
+        "a: |2\n x",
+        "wrongly indented line in block scalar at byte 7 line 2 column 2",
+    ),
+    (
+        "%YAML 1234567890.1\n--- a",
+        "while scanning a YAML directive, found extremely long version number at byte 0 line 1 column 1",
+    ),
 ];
+
+// Whether the events that are pulled end in a fault.
+fn ends_in(alloc: Global, text: &str, fault: &str) -> Result<bool, Fail> {
+    let events = pulled(alloc, text, false)?;
+    Ok(events.as_str().trim_end().ends_with(fault))
+}
 
 #[test]
 fn faults_are_told(rt: HostRuntime) -> Result<(), Fail> {
     rows_hold(&rt, &FAULTS)?;
     for (text, want) in &FAULTS {
-        let events = pulled(rt.alloc(), text, false)?;
-        assert!(rt;
-            events.as_str().trim_end().ends_with(want),
-            "row {text:?}, pulled"
-        );
+        assert!(rt; ends_in(rt.alloc(), text, want)?, "row {text:?}, pulled");
     }
     Ok(())
 }

@@ -16,6 +16,8 @@ mod flow;
 #[cfg(test)]
 mod json;
 #[cfg(test)]
+mod layouts;
+#[cfg(test)]
 mod limits;
 #[cfg(test)]
 mod properties;

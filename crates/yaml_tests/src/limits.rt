@@ -93,6 +93,13 @@ fn flow_collections_have_255_levels(rt: HostRuntime) -> Result<(), Fail> {
     Ok(())
 }
 
+#[test]
+fn deep_trees_are_dropped(rt: HostRuntime) -> Result<(), Fail> {
+    let dashes = nested(rt.alloc(), 100000, "- ", "", "")?;
+    assert!(rt; tree(rt.alloc(), dashes.as_str())?.is_array());
+    Ok(())
+}
+
 // A text with so many letters in it.
 fn with_letters(alloc: Global, begin: &str, letters: usize, end: &str) -> Result<String, Fail> {
     let mut text = String::from_str(alloc, begin)?;
@@ -112,7 +119,7 @@ const LONG_KEYS: [(&str, usize, &str); 4] = [
 ];
 
 // The same, and the fault.
-const LONGER_KEYS: [(&str, usize, &str, &str); 3] = [
+const LONGER_KEYS: [(&str, usize, &str, &str); 4] = [
     (
         "",
         1025,
@@ -124,6 +131,12 @@ const LONGER_KEYS: [(&str, usize, &str, &str); 3] = [
         1023,
         "\": 1",
         "mapping values are not allowed in this context at byte 1025 line 1 column 1026",
+    ),
+    (
+        "---\n'",
+        1023,
+        "': 1",
+        "mapping values are not allowed in this context at byte 1029 line 2 column 1026",
     ),
     (
         "a: 1\n",

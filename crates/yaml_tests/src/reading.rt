@@ -101,8 +101,27 @@ pub(crate) fn pulled(alloc: Global, text: &str, peeks: bool) -> Result<String, F
     Ok(lines)
 }
 
-/// Every row's text loads as it says, from a `&str` and from an iterator; and its events are the same pushed, pulled, and
-/// pulled behind a look each.
+// Whether a text loads, or has a fault with a text that is no want of memory.
+fn is_answered(alloc: Global, text: &str) -> bool {
+    match YamlLoader::load_from_str(alloc, text) {
+        Ok(_) => true,
+        Err(fault) => !fault.is_out_of_memory() && !fault.info().is_empty(),
+    }
+}
+
+// Whether that holds of every beginning of a text.
+fn are_beginnings_answered(alloc: Global, text: &str) -> bool {
+    for (place, _) in text.char_indices() {
+        match text.get(..place) {
+            Some(beginning) if is_answered(alloc, beginning) => {}
+            _ => return false,
+        }
+    }
+    true
+}
+
+/// Every row's text loads as it says, from a `&str` and from an iterator; its events are the same pushed, pulled, and
+/// pulled behind a look each; and every beginning of it is answered.
 pub(crate) fn rows_hold(rt: &(impl Abort + AllocGlobal), rows: &[Row]) -> Result<(), Fail> {
     let alloc = rt.alloc();
     for (text, want) in rows {
@@ -123,6 +142,7 @@ pub(crate) fn rows_hold(rt: &(impl Abort + AllocGlobal), rows: &[Row]) -> Result
             events.as_str(),
             "row {text:?}, pushed"
         );
+        assert!(rt; are_beginnings_answered(alloc, text), "row {text:?}");
     }
     Ok(())
 }

@@ -3,7 +3,7 @@ use crate::reading::{Row, rows_hold};
 use std::test::Fail;
 
 // A text, and the trees that it loads as.
-const SCALARS: [Row; 18] = [
+const SCALARS: [Row; 23] = [
     ("\"a  \n  b\n\n c\\\n   d\"", "[String(\"a b\\ncd\")]"),
     ("'it''s'", "[String(\"it's\")]"),
     (
@@ -33,6 +33,14 @@ const SCALARS: [Row; 18] = [
     (
         "a: |\n  x\n  ",
         "[Hash({String(\"a\"): String(\"x\\n\\n\")})]",
+    ),
+    ("a: |", "[Hash({String(\"a\"): String(\"\")})]"),
+    ("a: |\n", "[Hash({String(\"a\"): String(\"\\n\")})]"),
+    ("a: |-\n", "[Hash({String(\"a\"): String(\"\")})]"),
+    ("a: |+\n\n", "[Hash({String(\"a\"): String(\"\\n\")})]"),
+    (
+        "a: |+\n\nb: 1",
+        "[Hash({String(\"a\"): String(\"\\n\"), String(\"b\"): Integer(1)})]",
     ),
     (
         "a: |\n  \u{e9}\u{e9}\u{e9}\u{e9}\u{e9}\u{e9}\u{e9}\u{e9}\u{e9}\u{e9}\u{e9}\u{e9}\u{e9}\u{e9}\u{e9}\u{e9}\u{e9}\u{e9}\u{e9}\u{e9}\nb: 1",

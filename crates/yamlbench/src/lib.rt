@@ -1,6 +1,9 @@
 //! What C programs measure: loads of a text, and what is done with its trees.
 #![tactic(auto)]
 
+mod calls;
+
+use crate::calls::{End, call_all};
 use overlay::overlay;
 use std::alloc::Global;
 use std::hash::{DefaultHasher, Hash as _, Hasher};
@@ -77,6 +80,20 @@ pub extern "C" fn yamlbench_overlay(alloc: Global, below: &[u8], above: &[u8]) -
             }
         }
         _ => -1,
+    }
+}
+
+/// Makes each call that takes memory with a text: 1, or -1 where the text or memory is refused, or -2 where an answer is
+/// wrong.
+#[unsafe(no_mangle)]
+pub extern "C" fn yamlbench_calls(alloc: Global, text: &[u8]) -> i64 {
+    let Ok(text) = str::from_utf8(text) else {
+        return -1;
+    };
+    match call_all(alloc, text) {
+        Ok(()) => 1,
+        Err(End::Refused) => -1,
+        Err(End::Wrong) => -2,
     }
 }
 

@@ -2,8 +2,5 @@
 use Rattle.yaml_emitter.proofs.WritingLemmas.{wrote_one, stopped_one}
 use Rattle.refusal_tests.proofs.writes.RefusingWriter.put.Goals as goal
 
-pub returns-in-None : goal.returns-in-None
-returns-in-None c = record { ok = λ is. wrote_one _ _ _ _ tt; err = λ is. stopped_one _ _ _ _ _ tt }
-
 pub returns : goal.returns
 returns c = record { ok = λ is. wrote_one _ _ _ _ tt; err = λ is. stopped_one _ _ _ _ _ tt }

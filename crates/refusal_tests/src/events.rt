@@ -1,8 +1,11 @@
+//! Events out of nesting.
 use std::alloc::Global;
 use std::test::Fail;
-use yaml_rust2::YamlLoader;
-use yaml_rust2::parser::{Event, MarkedEventReceiver};
-use yaml_rust2::scanner::{Marker, Scanner, TScalarStyle};
+use yaml_chars::Marker;
+use yaml_loader::YamlLoader;
+use yaml_parser::{Event, MarkedEventReceiver};
+use yaml_scanner::Scanner;
+use yaml_tokens::TScalarStyle;
 
 const NESTING: &str = "event out of nesting";
 
