@@ -18,7 +18,8 @@ use Rattle.scan_model.specs.Keys.{save_simple_key, stale}
 use Rattle.scan_model.specs.Document.{fetch_block_scalar, fetch_plain_scalar}
 use Rattle.scan_model.specs.Fetch.{is_value, token_by, comes_marker, fetch_token, fetch_indented, fetch_first_column, fetch_content, fetch_here, fetch_next, fetch}
 use Rattle.scan_model.specs.Run.{IsRefused, start}
-use Rattle.scan_model.proofs.Given.{held_of}
+use Rattle.scan_model.proofs.Holds.{held_of, tried, both_hold}
+use Rattle.scan_model.proofs.Walk as walk
 use Rattle.scan_blocks.specs.BlockScan as block_scans
 use Rattle.scan_blocks.specs.BlockScan.{is_literal}
 use Rattle.scan_blocks.specs.BlockEnds as block_ends
@@ -27,17 +28,16 @@ use Rattle.scan_blocks.specs.HeaderEnds.{indicator_of}
 use Rattle.scan_blocks.proofs.Ends as block_laws
 use Rattle.scan_scalars.specs.PlainEnds.{has_no_nul}
 use Rattle.scan_scalars.specs.Fillers.{begins_filler}
-use Rattle.scan_cut.specs.Needs.{Needs}
+use Rattle.scan_cut.specs.PiecesRead.{PiecesAreRead}
 use Rattle.scan_cut.specs.Faults.{IsThere, is_shown}
 use Rattle.scan_cut.specs.Stands.{Stands}
 use Rattle.scan_cut.proofs.PieceQuoteds.{some_chars}
 use Rattle.scan_cut.proofs.Passes.{to_token}
-use Rattle.scan_cut.proofs.Rules.{tried, both_hold}
 use Rattle.scan_cut.proofs.Nodes.{clean_more, IsDeep}
 use Rattle.scan_cut.proofs.Documents.{passed_stands}
 use Rattle.scan_cut.proofs.Characters.{Ordinary, of_all}
 use Rattle.scan_cut.proofs.Dispatch.{gap_here}
-use Rattle.scan_cut.proofs.Going as going
+use Rattle.scan_cut.proofs.Going.{started, started_is_kept}
 use Rattle.scan_cut.proofs.Fetched.{Fresh, stale_stands, begins_with_this, Here, is_deep, goes_on_here, here_now, goes, over, Came, starts, fares, came}
 use Rattle.scan_cut.proofs.Blames.{Refuses, none, this, IsOther, IsTold, blamed, bound, chosen, on_holding, lexes, other_told, skip_other, stale_other}
 use Rattle.scan_cut.proofs.BlameSteps.{stream_end_other, directive_fetch_other, marker_other, document_end_other, anchor_fetch_other, tag_fetch_other, flow_end_other, entry_other, key_other, value_other}
@@ -151,13 +151,13 @@ here_told : (text : List ℕ) (t : State) → has_no_nul text ≡ true → Here 
 unfolding fetch_here
 here_told text t nul h = chosen (peek t.rest == 0) (λ e. other_told text (stream_end_other t)) (λ e. content_told text t nul (goes_on_here t.rest e) h)
 
-next_told : (text : List ℕ) (t : State) → has_no_nul text ≡ true → Stands text t → going.Stands t.held → Refuses (IsTold text) (fetch_next t)
+next_told : (text : List ℕ) (t : State) → has_no_nul text ≡ true → Stands text t → walk.Stands started t.held → Refuses (IsTold text) (fetch_next t)
 unfolding fetch_next
 next_told text t nul s g =
     bound (other_told text (skip_other t)) (λ u k.
-    let a = held_of u (both_hold (to_token t) (going.to_token t g)) k in
+    let a = held_of u (both_hold (to_token t) (walk.to_token started started_is_kept t g)) k in
     bound (other_told text (on_holding u (stale_other u.held))) (λ v l.
-    let d = held_of v (tried {Q = λ v. (v ≡ record u { held = v.held }) × Fresh text u v.held × going.Stands v.held} u (stale u.held) (both_hold (stale_stands text u (passed_stands text t u a.0.passed s)) (going.stale_dropped u.held a.1)) (λ h d. (refl, d.0, d.1))) l in
+    let d = held_of v (tried {Q = λ v. (v ≡ record u { held = v.held }) × Fresh text u v.held × walk.Stands started v.held} u (stale u.held) (both_hold (stale_stands text u (passed_stands text t u a.0.passed s)) (walk.stale_dropped started started_is_kept u.held a.1)) (λ h d. (refl, d.0, d.1))) l in
     bound (here_told text (on_held (λ h. unroll_indent (h.place.col + 1) h) v) nul (here_now text u v a.0.solid d.0 d.1 d.2)) (λ w m. other_told text (on_holding w (stale_other w.held)))))
 
 -- ---- refusals
@@ -169,5 +169,5 @@ fetch_told text t nul going_on (fares (goes s g)) = chosen t.held.started (λ k.
 fetch_told text t nul going_on (fares (over c e)) = absurd (cc (e, going_on))
 
 -- A text is refused for such a fault only where it stands in it.
-pub faults_stand : Needs → (text : List ℕ) (f : Fault) → has_no_nul text ≡ true → IsRefused text f → is_shown f ≡ true → IsThere text f
-faults_stand needs text f nul r shown = blamed f (fetch_told text r.last nul r.going (came needs text nul (start text) r.last r.run (starts refl))) r.refused shown
+pub faults_stand : PiecesAreRead → (text : List ℕ) (f : Fault) → has_no_nul text ≡ true → IsRefused text f → is_shown f ≡ true → IsThere text f
+faults_stand pieces text f nul r shown = blamed f (fetch_told text r.last nul r.going (came pieces text nul (start text) r.last r.run (starts refl))) r.refused shown

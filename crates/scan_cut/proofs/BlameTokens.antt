@@ -22,9 +22,9 @@ use Rattle.scan_model.specs.Indents.{Levels, without_open, roll_one_col_indent, 
 use Rattle.scan_model.specs.Flow.{allow_key, increase_flow_level, deepened_flow, begin_flow, fetch_flow_collection_start}
 use Rattle.scan_model.specs.Block.{last_property, at_margin, check_block_entry, fetch_block_entry}
 use Rattle.scan_model.specs.Document.{behind_plain, context, node_start, may_follow_quoted, check_behind_quoted, fetch_flow_scalar, fetch_plain_scalar}
-use Rattle.scan_quoted.specs.QuotedEnds as quoted_ends
-use Rattle.scan_quoted.specs.QuotedEnds.{IsBadEscape}
-use Rattle.scan_quoted.proofs.Ends.{scans_end}
+use Rattle.scan_texts.specs.QuotedEnds as quoted_ends
+use Rattle.scan_texts.specs.QuotedEnds.{IsBadEscape}
+use Rattle.scan_texts.proofs.QuotedScanEnds.{scans_end}
 use Rattle.scan_scalars.specs.PlainEnds.{has_no_nul}
 use Rattle.scan_scalars.specs.PlainEnds as plain_ends
 use Rattle.scan_scalars.specs.Fillers.{begins_filler}
@@ -32,7 +32,7 @@ use Rattle.scan_scalars.proofs.Plains as plain_laws
 use Rattle.scan_cut.specs.Faults.{IsSpot, bad_escape, open_quote, marked_quote, too_deep, entry_in_flow, dash_in_flow}
 use Rattle.scan_cut.specs.Stands.{levels_of, Stands}
 use Rattle.scan_cut.proofs.PieceQuoteds.{some_chars}
-use Rattle.scan_cut.proofs.Rules.{saved_keys, saved_is}
+use Rattle.scan_cut.proofs.Saved.{saved_keys, saved_is}
 use Rattle.scan_cut.proofs.Levels.{one_indents, one_indent, rolled_one_is, without_is}
 use Rattle.scan_cut.proofs.Nodes.{account_now, same_flow, clean_more, IsDeep}
 use Rattle.scan_cut.proofs.Documents.{whole_text}

@@ -21,20 +21,18 @@ use Rattle.scan_model.specs.Keys.{remove_simple_key}
 use Rattle.scan_model.specs.Space.{skip_spaces}
 use Rattle.scalar_model.specs.Space.{space}
 use Rattle.scalar_model.specs.Machine.{past}
-use Rattle.scan_scalars.specs.PlainEnds.{has_no_nul}
 use Rattle.scan_model.specs.Indents.{roll_indent, roll_one_col_indent}
 use Rattle.scan_model.specs.Flow.{allow_key}
 use Rattle.scan_model.specs.Block.{last_property, at_margin, check_block_entry, check_dash, roll_entry, fetch_block_entry}
-use Rattle.scan_model.proofs.Given.{Holds, went}
-use Rattle.scan_cut.specs.Needs.{ReadAs}
+use Rattle.scan_model.proofs.Holds.{Holds, went, weakened, chained, passes, checked, tried}
+use Rattle.scan_cut.specs.PiecesRead.{ReadAs}
 use Rattle.scan_cut.specs.Here.{AreOpen}
 use Rattle.scan_cut.specs.Stands.{columns, AreLevels, levels_of, account_of, Stood, Fares, Stands}
-use Rattle.scan_cut.proofs.Heres.{led, clean_behind}
+use Rattle.scan_cut.proofs.Heres.{led}
 use Rattle.scan_cut.proofs.Pushed.{with_piece, with_blocks, past_empty, columns_settled}
 use Rattle.scan_cut.proofs.Stoods.{piece_stood, two_stood, stood_levels}
 use Rattle.scan_cut.proofs.Passes.{placed_at, Passed, Filled, Spaced, spaced, spaces_skipped, passed_spaces, passed_both}
-use Rattle.scan_cut.proofs.Rules.{weakened, chained, passes, checked, tried}
-use Rattle.scan_cut.proofs.Nodes.{same_flow, clean_more, further_read}
+use Rattle.scan_cut.proofs.Nodes.{same_flow, further_read}
 use Rattle.scan_cut.proofs.Indicators.{indicated_by}
 use Rattle.scan_cut.proofs.FlowEnds.{length_top}
 use Rattle.scan_cut.proofs.Rolls.{SameBlocks, same_blocks, rolled_one, Rolls, begins, goes_on, rolled_is}
@@ -163,10 +161,6 @@ pub rolls_place : (col : ℕ) (n : Option ℕ) (k : Token) (h u : Held) → Roll
 rolls_place col n k h u (begins ds i w cols are) = (ap (λ x. x.place) w, ap (λ x. x.keys) w, ap (λ x. x.flow) w, ap (λ x. x.adjacent_value_at) w)
 rolls_place col n k h u (goes_on d) = (ap (λ x. x.place) d.is_held, ap (λ x. x.keys) d.is_held, ap (λ x. x.flow) d.is_held, ap (λ x. x.adjacent_value_at) d.is_held)
 
--- no character is NUL behind a state's place
-pub clean_rest : (text : List ℕ) (t : State) (c : ℕ) (more g rest2 : List ℕ) → t.rest ≡ c ∷ more → Stands text t → more ≡ g ++ rest2 → has_no_nul rest2 ≡ true
-clean_rest text t c more g rest2 e s cut = clean_behind g rest2 (subst (λ r. has_no_nul r ≡ true) cut (clean_more text t c more e s))
-
 entry_fares : (text more : List ℕ) (t w x : State) → t.rest ≡ 45 ∷ more → is_at_gap more ≡ true → (s : Stands text t) → in_flow t.held ≡ false →
     (u : Held) → Rolls t.held.place.col None (token t.held.place Tok.block_sequence_start) (skip_indicator t).held u → Spaced Yes (record { rest = behind t.rest; held = u }) w → Spaced No w x →
     Stands text (record { rest = (roll_entry x).rest; held = push (roll_entry x).held.place Tok.block_entry (allow_key true (record (roll_entry x).held { keys = with_top None (roll_entry x).held.keys })) })
@@ -175,8 +169,7 @@ entry_fares text more t w x e gap s out u r a b =
     let v : State = record { rest = behind t.rest; held = u } in
     let p : Place = t.held.place in
     let same : (u.place ≡ h.place) × (u.keys ≡ h.keys) × (u.flow ≡ h.flow) × (u.adjacent_value_at ≡ h.adjacent_value_at) = rolls_place p.col None (token p Tok.block_sequence_start) h u r in
-    let first : more ≡ (a.blanks ++ a.comment) ++ w.rest = ap behind (sym e) ∙ (passed_spaces Yes v w a).is_rest in
-    let c : Passed v x = passed_both v w x (clean_rest text t 45 more (a.blanks ++ a.comment) w.rest e s first) (passed_spaces Yes v w a) (passed_spaces No w x b) in
+    let c : Passed v x = passed_both v w x (passed_spaces Yes v w a) (passed_spaces No w x b) in
     let g : Filled more (past p) x = record { filler = c.filler; is_rest = ap behind (sym e) ∙ c.is_rest; is_filled = c.is_filled; is_place = ap (λ y. y.place) c.is_held ∙ ap (λ q. place_behind q c.filler x.rest) same.0 } in
     let y : Stood text (45 ∷ more) p t.held.tokens t.held.keys t.held.indents t.held.indent t.held.flow s.before = subst (λ z. Stood text z p t.held.tokens t.held.keys t.held.indents t.held.indent t.held.flow s.before) e s.stood in
     let k : Stood text x.rest x.held.place (u.tokens ++ token x.held.place Tok.block_entry ∷ []) (with_top None t.held.keys) u.indents u.indent t.held.flow other =

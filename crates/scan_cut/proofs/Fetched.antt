@@ -19,22 +19,22 @@ use Rattle.scan_model.specs.Indents.{unroll_indent}
 use Rattle.scan_model.specs.Document.{fetch_stream_start}
 use Rattle.scan_model.specs.Fetch.{comes_marker, fetch_indented, fetch_first_column, fetch_content, fetch_here, fetch_next, fetch}
 use Rattle.scan_model.specs.Run.{start, Reaches, here, there, HasTokens}
-use Rattle.scan_model.proofs.Given.{Holds, went, refused, held_of}
+use Rattle.scan_model.proofs.Holds.{Holds, went, refused, held_of, chained, tried, checked, either, weakened, both_hold}
+use Rattle.scan_model.proofs.Walk as walk
 use Rattle.scalar_laws.proofs.Bridges.{same_gap}
 use Rattle.scan_scalars.specs.PlainEnds.{has_no_nul}
 use Rattle.scan_scalars.specs.Fillers.{begins_filler}
-use Rattle.scan_cut.specs.Needs.{Needs}
+use Rattle.scan_cut.specs.PiecesRead.{PiecesAreRead}
 use Rattle.scan_cut.specs.Here.{AreOpen}
 use Rattle.scan_cut.specs.Stands.{columns, Stood, Stands}
 use Rattle.scan_cut.proofs.Opens.{open_given_up}
 use Rattle.scan_cut.proofs.Passes.{to_token}
-use Rattle.scan_cut.proofs.Rules.{chained, tried, checked, either, weakened, both_hold}
 use Rattle.scan_cut.proofs.Nodes.{AreNear}
 use Rattle.scan_cut.proofs.Blocks.{nil_length}
 use Rattle.scan_cut.proofs.Unrolls.{UnrolledTo, unrolled_here}
 use Rattle.scan_cut.proofs.Documents.{passed_stands, directive_fetched, start_marked, document_ended, stream_begun, stream_ended}
 use Rattle.scan_cut.proofs.Dispatch.{token_fetched}
-use Rattle.scan_cut.proofs.Going as going
+use Rattle.scan_cut.proofs.Going.{started, started_is_kept}
 
 -- ---- keys that are too far back
 
@@ -114,7 +114,7 @@ stale_stands text u s = either (in_flow u.held) (λ e. went (record { stands = s
 
 -- the tokens so far are a cut, and the stream goes on; or it has ended, and the tokens are a cut of the whole text
 pub data Fared (text : List ℕ) (u : State) : Type 0 where
-  goes : Stands text u → going.Stands u.held → Fared text u
+  goes : Stands text u → walk.Stands started u.held → Fared text u
   over : IsCut u.held.tokens text → u.held.ended ≡ true → Fared text u
 
 -- ---- markers
@@ -184,20 +184,20 @@ no_marker (x ∷ y ∷ z ∷ more) h k = ap (λ g. (((x == 45) && (y == 45) && (
 -- what holds where a token begins, or the text ends
 pub record Here (text : List ℕ) (t : State) : Type 0 where
   pub stands : Stands text t
-  pub under_way : going.Stands t.held
+  pub under_way : walk.Stands started t.held
   pub solid : begins_filler t.rest ≡ false
   pub near : is_nil t.held.flow ≡ true → AreNear t.held.place t.held.keys
 
 pub is_deep : (col indent : ℕ) → nat_lt (col + 1) indent ≡ false → indent ≤ col + 1
 is_deep col indent h = grind (arith, nat_tests)
 
-indented_fetched : Needs → (text : List ℕ) (t : State) → is_nil t.rest ≡ false → Here text t → ((t.held.place.col == 0) && is_document_marker t.rest) ≡ false → Holds (Stands text) (fetch_indented t)
+indented_fetched : PiecesAreRead → (text : List ℕ) (t : State) → is_nil t.rest ≡ false → Here text t → ((t.held.place.col == 0) && is_document_marker t.rest) ≡ false → Holds (Stands text) (fetch_indented t)
 unfolding fetch_indented
 indented_fetched n text t some h none =
     checked (nat_lt (t.held.place.col + 1) t.held.indent) (At problem.InvalidIndentation t.held.place) (λ e.
     token_fetched n text t (record { stands = h.stands; some = some; solid = h.solid; near = h.near }) (is_deep t.held.place.col t.held.indent e) none)
 
-first_fetched : Needs → (text : List ℕ) (t : State) → is_nil t.rest ≡ false → Here text t → t.held.place.col ≡ 0 → Holds (Stands text) (fetch_first_column t)
+first_fetched : PiecesAreRead → (text : List ℕ) (t : State) → is_nil t.rest ≡ false → Here text t → t.held.place.col ≡ 0 → Holds (Stands text) (fetch_first_column t)
 unfolding fetch_first_column
 first_fetched n text t some h col =
     either (peek t.rest == 37) (λ e. directive_fetched n text (behind t.rest) t (begins_with_this t.rest 37 some e) col h.stands) (λ _.
@@ -209,11 +209,11 @@ first_fetched n text t some h col =
     by true e = e
     by false e = refl
 
-content_fetched : Needs → (text : List ℕ) (t : State) → is_nil t.rest ≡ false → Here text t → Holds (Stands text) (fetch_content t)
+content_fetched : PiecesAreRead → (text : List ℕ) (t : State) → is_nil t.rest ≡ false → Here text t → Holds (Stands text) (fetch_content t)
 unfolding fetch_content
 content_fetched n text t some h = either (t.held.place.col == 0) (λ e. first_fetched n text t some h (eqb-true t.held.place.col 0 e)) (λ e. indented_fetched n text t some h (rw e refl))
 
-fared : (text : List ℕ) (r : Result State Fault) → Holds (Stands text) r → Holds going.StandsAt r → Holds (Fared text) r
+fared : (text : List ℕ) (r : Result State Fault) → Holds (Stands text) r → Holds (walk.StandsAt started) r → Holds (Fared text) r
 fared text r a b = weakened (λ u s. goes s.0 s.1) (both_hold a b)
 
 no_end : (r : List ℕ) → has_no_nul r ≡ true → (peek r == 0) ≡ true → r ≡ []
@@ -225,11 +225,11 @@ pub goes_on_here : (r : List ℕ) → (peek r == 0) ≡ false → is_nil r ≡ f
 goes_on_here [] h = absurd (cc h)
 goes_on_here (c ∷ r) h = refl
 
-here_fetched : Needs → (text : List ℕ) → has_no_nul text ≡ true → (t : State) → Here text t → Holds (Fared text) (fetch_here t)
+here_fetched : PiecesAreRead → (text : List ℕ) → has_no_nul text ≡ true → (t : State) → Here text t → Holds (Fared text) (fetch_here t)
 unfolding fetch_here
 here_fetched n text nul t h =
     either (peek t.rest == 0) (λ e. weakened (λ u s. over s.0 s.1) (stream_ended text t nul (no_end t.rest h.stands.stood.here.is_clean e) h.stands)) (λ e.
-    fared text (fetch_content t) (content_fetched n text t (goes_on_here t.rest e) h) (going.content_fetched t h.under_way))
+    fared text (fetch_content t) (content_fetched n text t (goes_on_here t.rest e) h) (walk.content_fetched started started_is_kept t h.under_way))
 
 keys_only : (s : Held) → Holds (λ h. h ≡ record s { keys = h.keys }) (stale s)
 unfolding stale
@@ -241,11 +241,11 @@ keys_only s = either (in_flow s) (λ _. went refl) (λ _. by (drop_stale s.place
 
 -- the keys that are dropped behind a token change nothing of the rest
 fared_stale : (text : List ℕ) (t : State) → Fared text t → Holds (Fared text) (try_held stale t)
-fared_stale text t (goes s g) = tried t (stale t.held) (both_hold (stale_stands text t s) (going.stale_dropped t.held g)) (λ h d. goes d.0.stands d.1)
+fared_stale text t (goes s g) = tried t (stale t.held) (both_hold (stale_stands text t s) (walk.stale_dropped started started_is_kept t.held g)) (λ h d. goes d.0.stands d.1)
 fared_stale text t (over c e) = tried t (stale t.held) (keys_only t.held) (λ h d. over (subst (λ y. IsCut y.tokens text) (sym d) c) (ap (λ y. y.ended) d ∙ e))
 
 -- a state whose keys are near, behind the ends of block collections
-pub here_now : (text : List ℕ) (u v : State) → begins_filler u.rest ≡ false → v ≡ record u { held = v.held } → Fresh text u v.held → going.Stands v.held → Here text (on_held (λ s. unroll_indent (s.place.col + 1) s) v)
+pub here_now : (text : List ℕ) (u v : State) → begins_filler u.rest ≡ false → v ≡ record u { held = v.held } → Fresh text u v.held → walk.Stands started v.held → Here text (on_held (λ s. unroll_indent (s.place.col + 1) s) v)
 here_now text u v solid e f g =
     let stands : Stands text v = subst (λ y. Stands text y) (sym e) f.stands in
     let now : UnrolledTo text v (v.held.place.col + 1) = unrolled_here text v stands in
@@ -253,24 +253,24 @@ here_now text u v solid e f g =
     subst (λ q. AreNear q v.held.keys) (sym (ap (λ h. h.place) f.same)) (f.near (sym (ap (λ h. is_nil h.flow) f.same) ∙ o)) in
     record {
       stands = now.stands;
-      under_way = going.unrolled_all (v.held.place.col + 1) v.held g;
+      under_way = walk.unrolled_all started started_is_kept (v.held.place.col + 1) v.held g;
       solid = ap (λ y. begins_filler y.rest) e ∙ solid;
       near = subst (λ h. is_nil h.flow ≡ true → AreNear h.place h.keys) (sym now.is_held) near;
     }
 
-next_fetched : Needs → (text : List ℕ) → has_no_nul text ≡ true → (t : State) → Stands text t → going.Stands t.held → Holds (Fared text) (fetch_next t)
+next_fetched : PiecesAreRead → (text : List ℕ) → has_no_nul text ≡ true → (t : State) → Stands text t → walk.Stands started t.held → Holds (Fared text) (fetch_next t)
 unfolding fetch_next
 next_fetched n text nul t s g =
-    chained (both_hold (to_token t) (going.to_token t g)) (λ u a.
-    chained {P = λ v. (v ≡ record u { held = v.held }) × Fresh text u v.held × going.Stands v.held}
-    (tried u (stale u.held) (both_hold (stale_stands text u (passed_stands text t u a.0.passed s)) (going.stale_dropped u.held a.1)) (λ h d. (refl, d.0, d.1))) (λ v d.
+    chained (both_hold (to_token t) (walk.to_token started started_is_kept t g)) (λ u a.
+    chained {P = λ v. (v ≡ record u { held = v.held }) × Fresh text u v.held × walk.Stands started v.held}
+    (tried u (stale u.held) (both_hold (stale_stands text u (passed_stands text t u a.0.passed s)) (walk.stale_dropped started started_is_kept u.held a.1)) (λ h d. (refl, d.0, d.1))) (λ v d.
     chained (here_fetched n text nul (on_held (λ h. unroll_indent (h.place.col + 1) h) v) (here_now text u v a.0.solid d.0 d.1 d.2)) (λ w f.
     fared_stale text w f)))
 
 -- A fetch of a state that goes on.
-pub fetched : Needs → (text : List ℕ) → has_no_nul text ≡ true → (t : State) → Stands text t → going.Stands t.held → Holds (Fared text) (fetch t)
+pub fetched : PiecesAreRead → (text : List ℕ) → has_no_nul text ≡ true → (t : State) → Stands text t → walk.Stands started t.held → Holds (Fared text) (fetch t)
 unfolding fetch
-fetched n text nul t s g = either t.held.started (λ _. next_fetched n text nul t s g) (λ e. absurd (cc (e, g.stood.begun)))
+fetched n text nul t s g = either t.held.started (λ _. next_fetched n text nul t s g) (λ e. absurd (cc (e, g.stood.tokens)))
 
 -- ---- runs
 
@@ -282,21 +282,21 @@ pub data Came (text : List ℕ) (u : State) : Type 0 where
 ok_same : {x y : State} → ◌≡◌ {A = Result State Fault} (Ok x) (Ok y) → x ≡ y
 ok_same k = cc
 
-came_on : Needs → (text : List ℕ) → has_no_nul text ≡ true → (t u : State) → Came text t → t.held.ended ≡ false → fetch t ≡ Ok u → Came text u
+came_on : PiecesAreRead → (text : List ℕ) → has_no_nul text ≡ true → (t u : State) → Came text t → t.held.ended ≡ false → fetch t ≡ Ok u → Came text u
 unfolding fetch fetch_stream_start
-came_on n text nul t u (starts e) going_on f = fares (goes (subst (λ y. Stands text y) same (stream_begun text nul)) (subst (λ y. going.Stands y.held) same (record { stood = record { begun = refl; going = refl } })))
+came_on n text nul t u (starts e) going_on f = fares (goes (subst (λ y. Stands text y) same (stream_begun text nul)) (subst (λ y. walk.Stands started y.held) same (record { stood = record { tokens = refl; keys = (tt, tt); going = refl } })))
   where
     same : fetch_stream_start (start text) ≡ u
     same = ok_same (subst (λ y. fetch y ≡ Ok u) e f)
 came_on n text nul t u (fares (goes s g)) going_on f = fares (held_of u (fetched n text nul t s g) f)
 came_on n text nul t u (fares (over c e)) going_on f = absurd (cc (e, going_on))
 
-pub came : Needs → (text : List ℕ) → has_no_nul text ≡ true → (t u : State) → Reaches t u → Came text t → Came text u
+pub came : PiecesAreRead → (text : List ℕ) → has_no_nul text ≡ true → (t u : State) → Reaches t u → Came text t → Came text u
 came n text nul t u here c = c
 came n text nul t u (there {u = v} e f run) c = came n text nul v u run (came_on n text nul t v c e f)
 
 -- The tokens that the model gives for a text are a cut of it.
-pub tokens_are_cut : Needs → (text : List ℕ) (ts : List Token) → has_no_nul text ≡ true → HasTokens text ts → IsCut ts text
+pub tokens_are_cut : PiecesAreRead → (text : List ℕ) (ts : List Token) → has_no_nul text ≡ true → HasTokens text ts → IsCut ts text
 tokens_are_cut n text ts nul h = subst (λ x. IsCut x text) h.tokens (by (came n text nul (start text) h.end h.run (starts refl)))
   where
     by : Came text h.end → IsCut h.end.held.tokens text

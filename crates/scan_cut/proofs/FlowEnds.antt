@@ -23,8 +23,8 @@ use Rattle.scan_model.specs.declared.level.FlowLevel.TheVariants.{Mapping, Entry
 use Rattle.scan_model.specs.State.{Key, Held, State, push, pop, with_top, token, behind, on_held, skip_indicator}
 use Rattle.scan_model.specs.Keys.{remove_simple_key}
 use Rattle.scan_model.specs.Flow.{allow_key, pass_indicator, end_flow_pair, decrease_flow_level, adjacent_in_flow, ended_flow, end_flow, next_entry, end_entry, fetch_flow_collection_end, fetch_flow_entry}
-use Rattle.scan_model.proofs.Given.{Holds, went, refused}
-use Rattle.scan_cut.specs.Needs.{ReadAs}
+use Rattle.scan_model.proofs.Holds.{Holds, went, refused, chained, tried}
+use Rattle.scan_cut.specs.PiecesRead.{ReadAs}
 use Rattle.scan_cut.specs.Order.{NotBefore}
 use Rattle.scan_cut.specs.Inside.{step_inside, levels_then}
 use Rattle.scan_cut.specs.Here.{AreOpen}
@@ -35,7 +35,6 @@ use Rattle.scan_cut.proofs.Places.{weaker}
 use Rattle.scan_cut.proofs.Opens.{Goes, GoesOn, Leads, open_more, open_given_up}
 use Rattle.scan_cut.proofs.Stoods.{read_later, piece_stood, two_stood}
 use Rattle.scan_cut.proofs.Passes.{Passed, Spaced, spaces_skipped, passed_spaces}
-use Rattle.scan_cut.proofs.Rules.{chained, tried}
 use Rattle.scan_cut.proofs.Nodes.{not_same, adjacent_other, further_read}
 use Rattle.scan_cut.proofs.Scalars.{same_number}
 use Rattle.scan_cut.proofs.Indicators.{indicated}

@@ -16,18 +16,17 @@ use Rattle.scan_model.specs.State.{Held, State, push, token, on_held, skip_indic
 use Rattle.scan_model.specs.Keys.{must_be_key, save_simple_key}
 use Rattle.scan_model.specs.Indents.{roll_one_col_indent}
 use Rattle.scan_model.specs.Flow.{increase_flow_level, deepened_flow, begin_flow, pass_indicator, fetch_flow_collection_start}
-use Rattle.scan_model.proofs.Given.{Holds, went, refused}
-use Rattle.scan_cut.specs.Needs.{ReadAs}
+use Rattle.scan_model.proofs.Holds.{Holds, went, refused, chained, tried}
+use Rattle.scan_cut.specs.PiecesRead.{ReadAs}
 use Rattle.scan_cut.specs.Inside.{step_inside, levels_then}
 use Rattle.scan_cut.specs.Here.{IsNotRight}
 use Rattle.scan_cut.specs.Stands.{columns, level_of, levels_of, account_of, IsAdjacent, Stood, Fares, Stands}
 use Rattle.scan_cut.proofs.Heres.{led}
 use Rattle.scan_cut.proofs.Pushed.{with_piece, columns_settled}
-use Rattle.scan_cut.proofs.Saved.{Opens, open_saved}
+use Rattle.scan_cut.proofs.Saved.{Opens, open_saved, saved_keys, saved_is}
 use Rattle.scan_cut.proofs.Stoods.{not_right, number_of, read_later, length_saved, piece_stood, stood_levels}
 use Rattle.scan_cut.proofs.Levels.{one_indents, one_indent, rolled_one_is, one_columns, one_levels}
 use Rattle.scan_cut.proofs.Passes.{Passed, Spaced, spaces_skipped, passed_spaces}
-use Rattle.scan_cut.proofs.Rules.{chained, tried, saved_keys, saved_is}
 use Rattle.scan_cut.proofs.Nodes.{IsDeep, adjacent_other, further_read}
 use Rattle.scan_cut.proofs.Indicators.{indicated}
 

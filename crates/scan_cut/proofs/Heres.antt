@@ -1,19 +1,18 @@
 -- How a row goes on in a text.
-use Rattle.std.proofs.Common.{◌≡◌, ℕ, List, [], ◌∷◌, ◌++◌, Bool, true, false, not, ◌&&◌, ◌||◌, ◌==◌, Option, refl, ap, sym, ◌∙◌, subst, append_assoc}
-use Rattle.std.proofs.lemmas.Bool.{and_parts}
+use Rattle.std.proofs.Common.{◌≡◌, ℕ, List, [], ◌∷◌, ◌++◌, Bool, true, false, ◌&&◌, Option, refl, ap, sym, ◌∙◌, subst, append_assoc}
 use Rattle.token_defs.specs.Token.{Tok}
-use Rattle.scalar_defs.specs.Classes.{is_break, is_blank, is_nul}
-use Rattle.cut_defs.specs.Text.{place_behind, is_at_line_end}
+use Rattle.scalar_defs.specs.Classes.{is_blank}
+use Rattle.cut_defs.specs.Text.{place_behind}
 use Rattle.cut_defs.specs.Filler.{is_filler, is_blanks}
 use Rattle.cut_defs.specs.Account.{Account, Before, quoted, collection, other, before_past, first_account, account_past_filler, account_at_piece, account_past_token}
 use Rattle.cut_defs.specs.Piece.{IsPiece}
 use Rattle.cut_defs.specs.Cut.{Written, IsRow, spelled, first_token, account_at, account_past_row}
 use Rattle.cut_defs.proofs.Append.{spelled_append, account_append, row_append}
 use Rattle.scan_scalars.specs.PlainEnds.{has_no_nul}
-use Rattle.scalar_laws.proofs.Bridges.{same_break}
-use Rattle.scan_scalars.proofs.Fillers.{no_break_hash}
+use Rattle.scan_scalars.proofs.Places.{place_append}
+use Rattle.scan_scalars.proofs.EachFiller.{no_nul_behind}
 use Rattle.scan_cut.specs.Here.{Here}
-use Rattle.scan_cut.proofs.Places.{behind_both}
+use Rattle.scan_cut.proofs.PieceFillers.{filler_append}
 
 -- ---- fillers
 
@@ -42,34 +41,8 @@ before_again other = refl
 -- the account behind two fillers
 pub filler_both : (a : Account) (f g rest : List ℕ) → account_past_filler (account_past_filler a f (g ++ rest)) g rest ≡ account_past_filler a (f ++ g) rest
 filler_both a f g rest =
-    ap (λ p. record a { place = p; before = before_past (before_past a.before f) g }) (sym (behind_both a.place f g rest)) ∙
+    ap (λ p. record a { place = p; before = before_past (before_past a.before f) g }) (sym (place_append a.place f g rest)) ∙
     ap (λ b. record a { place = place_behind a.place (f ++ g) rest; before = b }) (before_both a.before f g)
-
--- a comment that ended goes on as nothing or from a break on
-ended_comment : (g rest : List ℕ) → is_at_line_end (g ++ rest) ≡ true → has_no_nul (g ++ rest) ≡ true → is_filler false g rest ≡ true → is_filler true g rest ≡ true
-ended_comment [] rest e n h = e
-ended_comment (c ∷ g) rest e n h = by (is_break c) (is_nul c) refl e n
-  where
-    by : (b z : Bool) → is_break c ≡ b → (b || z) ≡ true → (not z && has_no_nul (g ++ rest)) ≡ true → is_filler (not b) g rest ≡ true
-    by true z q e n = rw (no_break_hash c (sym (same_break c) ∙ q)) at (and_parts (is_blank c || is_break c || (c == 35)) (is_filler (c == 35) g rest) h).1
-    by false true q e n = absurd (cc n)
-    by false false q e n = absurd (cc e)
-
-filler_from : (k : Bool) (f g rest : List ℕ) → has_no_nul (g ++ rest) ≡ true → is_filler k f (g ++ rest) ≡ true → is_filler false g rest ≡ true → is_filler k (f ++ g) rest ≡ true
-filler_from false [] g rest n a b = b
-filler_from true [] g rest n a b = ended_comment g rest a n b
-filler_from true (c ∷ f) g rest n a b = filler_from (not (is_break c)) f g rest n a b
-filler_from false (c ∷ f) g rest n a b =
-    let h : ((is_blank c || is_break c || (c == 35)) ≡ true) × (is_filler (c == 35) f (g ++ rest) ≡ true) = and_parts _ _ a in
-    rw (h.0) (filler_from (c == 35) f g rest n h.1 b)
-
--- two fillers are one
-pub fills_both : (f g rest : List ℕ) → has_no_nul (g ++ rest) ≡ true → is_filler false f (g ++ rest) ≡ true → is_filler false g rest ≡ true → is_filler false (f ++ g) rest ≡ true
-fills_both f g rest n a b = filler_from false f g rest n a b
-
-pub clean_behind : (f rest : List ℕ) → has_no_nul (f ++ rest) ≡ true → has_no_nul rest ≡ true
-clean_behind [] rest h = h
-clean_behind (c ∷ f) rest h = clean_behind f rest (and_parts _ _ h).1
 
 -- ---- a filler more
 
@@ -84,9 +57,9 @@ here_filled text row behind rest here g rest2 e f h =
       is_behind = h.is_behind ∙ ap (λ r. h.filler ++ r) e ∙ sym (append_assoc h.filler g rest2);
       is_text = h.is_text;
       is_row = h.is_row;
-      is_filled = fills_both h.filler g rest2 clean filled f;
+      is_filled = filler_append false h.filler g rest2 filled f;
       is_here = sym (filler_both before h.filler g rest2) ∙ ap (λ a. account_past_filler a g rest2) (ap (λ r. account_past_filler before h.filler r) (sym e) ∙ h.is_here);
-      is_clean = clean_behind g rest2 clean;
+      is_clean = no_nul_behind g rest2 clean;
     }
 
 -- ---- tokens more
@@ -122,7 +95,7 @@ again a rest = ap (λ b. record a { before = b }) (before_again a.before)
 
 clean_row : (ws : List Written) (rest : List ℕ) → has_no_nul (spelled ws rest) ≡ true → has_no_nul rest ≡ true
 clean_row [] rest h = h
-clean_row (w ∷ ws) rest h = clean_row ws rest (clean_behind w.piece (spelled ws rest) (clean_behind w.filler (w.piece ++ spelled ws rest) h))
+clean_row (w ∷ ws) rest h = clean_row ws rest (no_nul_behind w.piece (spelled ws rest) (no_nul_behind w.filler (w.piece ++ spelled ws rest) h))
 
 -- A row goes on by tokens, of which the first has no filler of its own.
 pub here_more : (text : List ℕ) (row : List Written) (behind rest : List ℕ) (here : Account) (w : Written) (ws : List Written) (rest2 : List ℕ) → w.filler ≡ [] → rest ≡ w.piece ++ spelled ws rest2 →
@@ -144,5 +117,5 @@ here_more text row behind rest here w ws rest2 e cut r h =
           (led_row before h.filler w ws rest2 last e filled (subst (λ a. IsRow a (w ∷ ws) rest2 last) (sym same) (r last)));
       is_filled = refl;
       is_here = again (account_past_row first_account (row ++ vs) rest2) rest2 ∙ account_append first_account row vs rest2 ∙ sym past;
-      is_clean = clean_row ws rest2 (clean_behind w.piece (spelled ws rest2) (rw cut at h.is_clean));
+      is_clean = clean_row ws rest2 (no_nul_behind w.piece (spelled ws rest2) (rw cut at h.is_clean));
     }

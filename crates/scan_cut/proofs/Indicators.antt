@@ -10,7 +10,7 @@ use Rattle.cut_defs.specs.Piece.{IsPiece}
 use Rattle.scalar_model.specs.Machine.{past}
 use Rattle.scan_model.specs.State.{State, behind, skip_indicator}
 use Rattle.scan_scalars.proofs.PlainTurns.{in_line_place}
-use Rattle.scan_cut.specs.Needs.{ReadAs}
+use Rattle.scan_cut.specs.PiecesRead.{ReadAs}
 use Rattle.scan_cut.proofs.Passes.{Passed, Filled}
 
 -- the place behind an indicator

@@ -17,18 +17,17 @@ use Rattle.scan_model.specs.Keys.{remove_simple_key}
 use Rattle.scan_model.specs.Space.{at_break, white_end, white, skip_yaml_whitespace}
 use Rattle.scan_model.specs.Flow.{allow_key}
 use Rattle.scan_model.specs.Block.{keyed, begin_key, check_key_space, fetch_key}
-use Rattle.scan_model.proofs.Given.{Holds, went, refused}
+use Rattle.scan_model.proofs.Holds.{Holds, went, refused, chained, either, passes, tried, both_hold}
 use Rattle.scalar_laws.proofs.Bridges.{same_break}
 use Rattle.scan_scalars.specs.PlainEnds.{has_no_nul}
 use Rattle.scan_scalars.proofs.PlainTurns.{or_true}
-use Rattle.scan_cut.specs.Needs.{ReadAs}
+use Rattle.scan_cut.specs.PiecesRead.{ReadAs}
 use Rattle.scan_cut.specs.Stands.{columns, levels_of, account_of, Stood, Fares, Stands}
 use Rattle.scan_cut.proofs.Places.{weaker}
 use Rattle.scan_cut.proofs.Heres.{led, spelled_led}
 use Rattle.scan_cut.proofs.Pushed.{with_piece}
 use Rattle.scan_cut.proofs.Stoods.{piece_stood, read_later}
 use Rattle.scan_cut.proofs.Passes.{placed_at, Passed, Filled, white_passed}
-use Rattle.scan_cut.proofs.Rules.{chained, either, passes, tried, both_hold}
 use Rattle.scan_cut.proofs.Nodes.{clean_more, adjacent_other, further_read}
 use Rattle.scan_cut.proofs.Indicators.{indicated_by}
 use Rattle.scan_cut.proofs.FlowEnds.{LeadsOut, entry_open, length_top}

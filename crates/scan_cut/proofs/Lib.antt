@@ -5,7 +5,7 @@ pub mod PieceNames
 pub mod PieceTags
 pub mod PieceBlocks
 pub mod PieceDirectives
-pub mod PieceNeeds
+pub mod PiecesRead
 pub mod PieceInserted
 pub mod Places
 pub mod Insides
@@ -13,7 +13,6 @@ pub mod Heres
 pub mod Opens
 pub mod Pushed
 pub mod Saved
-pub mod Rules
 pub mod Stoods
 pub mod Levels
 pub mod Passes

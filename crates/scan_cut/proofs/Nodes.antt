@@ -21,19 +21,18 @@ use Rattle.scan_model.specs.State.{Key, Held, State, in_flow, push, token, on_he
 use Rattle.scan_model.specs.Keys.{must_be_key}
 use Rattle.scan_model.specs.Flow.{allow_key}
 use Rattle.scan_model.specs.Document.{anchor_token, unled, node_start, fetch_anchor, fetch_tag, context, behind_plain, fetch_plain_scalar}
-use Rattle.scan_model.proofs.Given.{Holds, went}
+use Rattle.scan_model.proofs.Holds.{Holds, went, read}
 use Rattle.scan_scalars.specs.Fillers.{begins_filler}
 use Rattle.scan_scalars.specs.PlainEnds.{has_no_nul}
-use Rattle.scan_cut.specs.Needs.{ReadAs, Needs, comes_plain}
+use Rattle.scan_cut.specs.PiecesRead.{ReadAs, PiecesAreRead, comes_plain}
 use Rattle.scan_cut.specs.Inside.{step_inside, levels_then}
 use Rattle.scan_cut.specs.Stands.{columns, levels_of, account_of, IsAdjacent, Stood, Fares, Stands}
 use Rattle.scan_cut.proofs.Places.{index_behind}
 use Rattle.scan_cut.proofs.Heres.{led}
 use Rattle.scan_cut.proofs.Pushed.{with_piece}
-use Rattle.scan_cut.proofs.Saved.{Opens}
+use Rattle.scan_cut.proofs.Saved.{Opens, saved_keys, saved_is}
 use Rattle.scan_cut.proofs.Stoods.{with_saved, node_stood, stood_levels}
 use Rattle.scan_cut.proofs.Levels.{WithoutOpen, without_is}
-use Rattle.scan_cut.proofs.Rules.{read, saved_keys, saved_is}
 
 -- what may still be a key outside flow stands on the line
 abbrev pub AreNear : Place → List (Option Key) → Type 0
@@ -129,7 +128,7 @@ neutral_fares text t s deep tok at rest2 end r n none =
 pub clean_more : (text : List ℕ) (t : State) (c : ℕ) (more : List ℕ) → t.rest ≡ c ∷ more → Stands text t → has_no_nul more ≡ true
 clean_more text t c more e s = (and_parts (not (is_nul c)) (has_no_nul more) (rw e at s.stood.here.is_clean)).1
 
-name_fares : Needs → (text : List ℕ) (alias : Bool) (t : State) (more : List ℕ) → t.rest ≡ (if alias then 42 else 38) ∷ more → Stands text t → IsDeep t.held → (x : Read (List ℕ)) → anchor_name t.rest t.held.place ≡ Ok x →
+name_fares : PiecesAreRead → (text : List ℕ) (alias : Bool) (t : State) (more : List ℕ) → t.rest ≡ (if alias then 42 else 38) ∷ more → Stands text t → IsDeep t.held → (x : Read (List ℕ)) → anchor_name t.rest t.held.place ≡ Ok x →
     Fares text x.rest x.place (t.held.tokens ++ token t.held.place (anchor_token alias x.value) ∷ []) (saved_keys t.held) t.held.indents t.held.indent t.held.flow t.held.adjacent_value_at
 name_fares n text alias t more e s deep x k = by alias (subst (λ r. ReadAs a r (anchor_token alias x.value) t.held.place x.rest x.place) (sym e) (n.name a alias more x (clean_more text t _ more e s) (subst (λ r. anchor_name r t.held.place ≡ Ok x) e k)))
   where
@@ -141,7 +140,7 @@ name_fares n text alias t more e s deep x k = by alias (subst (λ r. ReadAs a r 
     by true r = neutral_fares text t s deep (Tok.alias x.value) t.held.place x.rest x.place r (neutral_alias x.value) refl
     by false r = neutral_fares text t s deep (Tok.anchor x.value) t.held.place x.rest x.place r (neutral_anchor x.value) refl
 
-pub anchor_fetched : Needs → (text : List ℕ) (alias : Bool) (t : State) (more : List ℕ) → t.rest ≡ (if alias then 42 else 38) ∷ more → Stands text t → IsDeep t.held → Holds (Stands text) (fetch_anchor alias t)
+pub anchor_fetched : PiecesAreRead → (text : List ℕ) (alias : Bool) (t : State) (more : List ℕ) → t.rest ≡ (if alias then 42 else 38) ∷ more → Stands text t → IsDeep t.held → Holds (Stands text) (fetch_anchor alias t)
 unfolding fetch_anchor
 anchor_fetched n text alias t more e s deep = read (node_start t.held) (anchor_name t.rest t.held.place) _ (λ x k.
     went (subst (λ h. Stands text (on_held (λ u. push t.held.place (anchor_token alias x.value) (unled u)) (go_on x (allow_key false h)))) (sym (saved_is t.held)) (name_fares n text alias t more e s deep x k)))
@@ -150,7 +149,7 @@ pub same_flow : (fs : List FlowLevel) → not (is_empty (levels_of fs)) ≡ not 
 same_flow [] = refl
 same_flow (f ∷ fs) = refl
 
-pub tag_fetched : Needs → (text : List ℕ) (t : State) (more : List ℕ) → t.rest ≡ 33 ∷ more → Stands text t → IsDeep t.held → Holds (Stands text) (fetch_tag t)
+pub tag_fetched : PiecesAreRead → (text : List ℕ) (t : State) (more : List ℕ) → t.rest ≡ 33 ∷ more → Stands text t → IsDeep t.held → Holds (Stands text) (fetch_tag t)
 unfolding fetch_tag
 tag_fetched n text t more e s deep = read (node_start t.held) (tags.tag (in_flow t.held) t.rest t.held.place) _ (λ x k.
     let a : Account = account_now text t s in
@@ -182,7 +181,7 @@ gone_stood text rest h keys before s =
 abbrev plain_context : Held → Context
 plain_context h = record { flow = in_flow h; indent = (levels_gone h).indent }
 
-plain_fares : Needs → (text : List ℕ) (t : State) (s : Stands text t) → IsDeep t.held → comes_plain (in_flow t.held) (is_adjacent s.before) t.held.place.col t.rest ≡ true → (x : Read plains.Plain) → plains.plain (plain_context t.held) t.rest t.held.place ≡ Ok x →
+plain_fares : PiecesAreRead → (text : List ℕ) (t : State) (s : Stands text t) → IsDeep t.held → comes_plain (in_flow t.held) (is_adjacent s.before) t.held.place.col t.rest ≡ true → (x : Read plains.Plain) → plains.plain (plain_context t.held) t.rest t.held.place ≡ Ok x →
     Fares text x.rest x.place ((levels_gone t.held).tokens ++ token t.held.place (Tok.scalar Style.plain x.value.text) ∷ []) (saved_keys t.held) (levels_gone t.held).indents (levels_gone t.held).indent t.held.flow t.held.adjacent_value_at
 unfolding levels_gone
 plain_fares n text t s deep comes x k =
@@ -200,7 +199,7 @@ plain_fares n text t s deep comes x k =
     m.node deep2 (m.blocks (columns u.indent u.indents)) (m.levels (levels_of t.held.flow) r.first r.more) refl
     (opens_none t.held.place x.place x.rest v.here.filler (r.first ∷ r.more) t.held.place tok (λ ns. m.steps ns r.first r.more)) t.held.key_allowed (must_be_key t.held))
 
-pub plain_fetched : Needs → (text : List ℕ) (t : State) (s : Stands text t) → IsDeep t.held → comes_plain (in_flow t.held) (is_adjacent s.before) t.held.place.col t.rest ≡ true → Holds (Stands text) (fetch_plain_scalar t)
+pub plain_fetched : PiecesAreRead → (text : List ℕ) (t : State) (s : Stands text t) → IsDeep t.held → comes_plain (in_flow t.held) (is_adjacent s.before) t.held.place.col t.rest ≡ true → Holds (Stands text) (fetch_plain_scalar t)
 unfolding fetch_plain_scalar unroll_non_block_indents levels_gone
 plain_fetched n text t s deep comes =
     subst (λ h. Holds (Stands text) (lexed (plains.plain (context (unroll_non_block_indents (allow_key false h))) t.rest t.held.place) (unroll_non_block_indents (allow_key false h))

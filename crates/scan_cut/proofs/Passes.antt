@@ -14,15 +14,15 @@ use Rattle.scalar_model.specs.Machine.{Read}
 use Rattle.scalar_model.specs.Space.{space}
 use Rattle.scan_model.specs.State.{Held, State, lexed}
 use Rattle.scan_model.specs.Space.{between, skip, skip_to_next_token, skip_spaces, white, skip_yaml_whitespace}
-use Rattle.scan_model.proofs.Given.{Holds, went, refused}
-use Rattle.scan_scalars.specs.PlainEnds.{has_break, has_no_nul}
+use Rattle.scan_model.proofs.Holds.{Holds, went, refused}
+use Rattle.scan_scalars.specs.PlainEnds.{has_break}
 use Rattle.scan_scalars.specs.Fillers.{begins_filler, PassesAs, passes, refuses, GoesOverAs, goes, misses, are_spaces, ends_spaces, SpacesAs, spaces, glued}
 use Rattle.scan_scalars.proofs.Fillers.{fillers_are_passed}
 use Rattle.scan_scalars.proofs.WhiteSpace.{white_space_is_passed}
 use Rattle.scan_scalars.proofs.Spaces.{spaces_are_passed}
+use Rattle.scan_scalars.proofs.Places.{place_append}
 use Rattle.scan_cut.specs.Stands.{Stood}
-use Rattle.scan_cut.proofs.Places.{behind_both}
-use Rattle.scan_cut.proofs.Heres.{fills_both}
+use Rattle.scan_cut.proofs.PieceFillers.{filler_append}
 use Rattle.scan_cut.proofs.Stoods.{stood_filled}
 
 -- a held state at another place
@@ -102,17 +102,17 @@ passed_spaces tabs t u s = record {
 }
 
 -- one after another
-pub passed_both : (t u v : State) → has_no_nul u.rest ≡ true → Passed t u → Passed u v → Passed t v
-passed_both t u v clean a b =
+pub passed_both : (t u v : State) → Passed t u → Passed u v → Passed t v
+passed_both t u v a b =
     let cut : t.rest ≡ (a.filler ++ b.filler) ++ v.rest = a.is_rest ∙ ap (λ r. a.filler ++ r) b.is_rest ∙ sym (append_assoc a.filler b.filler v.rest) in
     let place : place_behind u.held.place b.filler v.rest ≡ place_behind t.held.place (a.filler ++ b.filler) v.rest =
-    ap (λ h. place_behind h.place b.filler v.rest) a.is_held ∙ ap (λ r. place_behind (place_behind t.held.place a.filler r) b.filler v.rest) b.is_rest ∙ sym (behind_both t.held.place a.filler b.filler v.rest) in
+    ap (λ h. place_behind h.place b.filler v.rest) a.is_held ∙ ap (λ r. place_behind (place_behind t.held.place a.filler r) b.filler v.rest) b.is_rest ∙ sym (place_append t.held.place a.filler b.filler v.rest) in
     record {
       filler = a.filler ++ b.filler;
       leading = b.leading;
       allowed = b.allowed;
       is_rest = cut;
-      is_filled = fills_both a.filler b.filler v.rest (rw b.is_rest at clean) (rw b.is_rest at a.is_filled) b.is_filled;
+      is_filled = filler_append false a.filler b.filler v.rest (rw b.is_rest at a.is_filled) b.is_filled;
       is_held = b.is_held ∙ ap (λ h. placed_at h (place_behind u.held.place b.filler v.rest) b.leading b.allowed) a.is_held ∙ ap (λ p. placed_at t.held p b.leading b.allowed) place;
     }
 

@@ -23,7 +23,8 @@ use Rattle.scan_blocks.specs.BlockEnds as ends
 use Rattle.scan_blocks.specs.HeaderEnds.{indicator_of}
 use Rattle.scan_blocks.proofs.Ends.{scans_end}
 use Rattle.scan_scalars.specs.PlainEnds.{has_no_nul, collection_of}
-use Rattle.scan_cut.specs.Needs.{ReadAs, BlockNeeds}
+use Rattle.scan_scalars.proofs.EachFiller.{no_nul_behind}
+use Rattle.scan_cut.specs.PiecesRead.{ReadAs, BlockIsRead}
 use Rattle.scan_cut.proofs.PieceQuoteds.{some_chars}
 
 -- ---- the spaces behind a piece
@@ -190,10 +191,6 @@ end_no_text : (t : List ℕ) → has_no_nul t ≡ true → is_at_end t ≡ true 
 end_no_text [] h e = refl
 end_no_text (c ∷ t) h e = let q = and_parts (not (is_nul c)) (has_no_nul t) h in absurd (cc (q.0, e))
 
-no_nul_behind : (t r : List ℕ) → has_no_nul (t ++ r) ≡ true → has_no_nul r ≡ true
-no_nul_behind [] r h = h
-no_nul_behind (c ∷ t) r h = no_nul_behind t r (and_parts (not (is_nul c)) (has_no_nul (t ++ r)) h).1
-
 module _ (a : Account) (indent : ℕ) (outside : is_in_flow a ≡ false) (column : collection_column a ≡ collection_of indent) where
   same_column : collection_column a ≡ collection_by indent
   same_column = column ∙ same_collection indent
@@ -244,7 +241,7 @@ module _ (a : Account) (indent : ℕ) (outside : is_in_flow a ≡ false) (column
           rw (← same) (found style (indicator_of style ∷ more) piece next b none cut is looks)
 
 -- a block scalar that was read is the piece of its token, and behind it spaces were passed
-pub block_needs : BlockNeeds
+pub block_is_read : BlockIsRead
 unfolding is_nul
-block_needs a true indent more r nul outside column e = by_style a indent outside column literal more r nul nul e
-block_needs a false indent more r nul outside column e = by_style a indent outside column folded more r nul nul e
+block_is_read a true indent more r nul outside column e = by_style a indent outside column literal more r nul nul e
+block_is_read a false indent more r nul outside column e = by_style a indent outside column folded more r nul nul e

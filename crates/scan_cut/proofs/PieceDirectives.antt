@@ -14,8 +14,8 @@ use Rattle.scalar_model.specs.Machine.{Read}
 use Rattle.scalar_model.specs.Directive.{directive}
 use Rattle.scan_scalars.specs.DirectiveEnds.{token_of, ends_line, first_break, next_line, behind_line, EndsAs, reads, refuses}
 use Rattle.scan_scalars.proofs.Directives.{directives_end}
-use Rattle.scan_cut.specs.Needs.{ReadAs, is_directive_token, DirectiveNeeds}
-use Rattle.scan_cut.proofs.PieceFillers.{place_append}
+use Rattle.scan_scalars.proofs.Places.{place_append}
+use Rattle.scan_cut.specs.PiecesRead.{ReadAs, is_directive_token, DirectiveIsRead}
 
 -- ---- the break behind a directive
 
@@ -71,8 +71,8 @@ unfolding is_break
 percent_in_line l h = h
 
 -- a directive that was read is the piece of its token, and behind it the break of its line was passed
-pub directive_needs : DirectiveNeeds
-directive_needs a more r nul column closed e = by (directive (37 ∷ more) a.place) e (directives_end more a.place)
+pub directive_is_read : DirectiveIsRead
+directive_is_read a more r nul column closed e = by (directive (37 ∷ more) a.place) e (directives_end more a.place)
   where
     by : (x : Result (Read Tok) Fault) → x ≡ Ok r → EndsAs a.place more x → ReadAs a (37 ∷ more) r.value a.place r.rest r.place × (is_directive_token r.value ≡ true)
     by x e (refuses line next f cut no_break ends none why k) = absurd (cc (e, k))

@@ -1,11 +1,10 @@
--- Fillers and places, one behind another.
+-- Fillers, one behind another.
 use Rattle.std.proofs.Common.{◌≡◌, ℕ, List, [], ◌∷◌, ◌++◌, Bool, true, false, ◌||◌, ◌==◌, not, refl}
 use Rattle.std.proofs.lemmas.Bool.{and_parts, eqb-true}
 use Rattle.scalar_defs.specs.Classes.{is_blank, is_break, is_nul}
 use Rattle.cut_defs.specs.Text.{has_no_break}
 use Rattle.cut_defs.specs.Filler.{is_filler}
 use Rattle.scan_scalars.specs.PlainEnds.{is_white, is_gap}
-pub use Rattle.scan_scalars.proofs.Places.{place_append, place_in_line}
 
 pub no_break_append : (a b : List ℕ) → has_no_break a ≡ true → has_no_break b ≡ true → has_no_break (a ++ b) ≡ true
 no_break_append [] b h k = k

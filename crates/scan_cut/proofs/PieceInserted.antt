@@ -14,8 +14,9 @@ use Rattle.cut_defs.specs.Cut.{Written, IsRow, spelled, account_at, account_past
 use Rattle.cut_defs.proofs.Append.{spelled_append}
 use Rattle.cut_defs.proofs.Inserted.{bare, empty_token, key_at, mapping_at, with_blocks, is_of_key, is_in_line, AreOnLine}
 use Rattle.cut_defs.proofs.InsertedPair.{with_levels, above, pair_at, pair_inserted}
+use Rattle.scan_scalars.proofs.Places.{place_append}
 use Rattle.scan_cut.specs.Inside.{inside}
-use Rattle.scan_cut.proofs.Places.{behind_both, not_before_behind}
+use Rattle.scan_cut.proofs.Places.{not_before_behind}
 use Rattle.scan_cut.proofs.Heres.{before_again}
 use Rattle.scan_cut.proofs.Insides.{Stepped, stepped, stays_inside, levels_step, first_of_key}
 
@@ -224,8 +225,8 @@ place_of_row a (w ∷ ws) f =
     let at : Place = place_behind a.place w.filler (w.piece ++ next) in
     place_of_row (account_past a w next) ws f
     ∙ ap (λ t. place_behind (place_behind (place_behind a.place w.filler (w.piece ++ t)) w.piece t) (spelled ws []) f) (spelled_before ws f)
-    ∙ ap (λ p. place_behind p (spelled ws []) f) (sym (behind_both a.place w.filler w.piece (spelled ws [] ++ f)))
-    ∙ sym (behind_both a.place (w.filler ++ w.piece) (spelled ws []) f) ∙ ap (λ t. place_behind a.place t f) (append_assoc w.filler w.piece (spelled ws []))
+    ∙ ap (λ p. place_behind p (spelled ws []) f) (sym (place_append a.place w.filler w.piece (spelled ws [] ++ f)))
+    ∙ sym (place_append a.place (w.filler ++ w.piece) (spelled ws []) f) ∙ ap (λ t. place_behind a.place t f) (append_assoc w.filler w.piece (spelled ws []))
 
 colon_breaks : is_break 58 ≡ false
 unfolding is_break
@@ -273,7 +274,7 @@ on_line a w ws f g r ms i cut h =
     let row : List ℕ = w.piece ++ spelled ws [] in
     let end : (account_past_row a (w ∷ ws) f).place ≡ place_behind start.place row f = ap (λ (b : Account). b.place) (sym (bare_behind a w ws f)) ∙ place_of_row start (bare w ∷ ws) f in
     let here : place_behind (account_past_row a (w ∷ ws) f).place g (58 ∷ r) ≡ place_behind start.place (row ++ g) (58 ∷ r) =
-    ap (λ p. place_behind p g (58 ∷ r)) (end ∙ ap (place_behind start.place row) cut) ∙ sym (behind_both start.place row g (58 ∷ r)) in
+    ap (λ p. place_behind p g (58 ∷ r)) (end ∙ ap (place_behind start.place row) cut) ∙ sym (place_append start.place row g (58 ∷ r)) in
     let still : (place_behind start.place (row ++ g) (58 ∷ r)).line ≤ start.place.line = subst (λ (p : Place). p.line ≤ start.place.line) here h in
     let clean : has_no_break (row ++ g) ≡ true = no_break_on_line start.place (row ++ g) 58 r refl still in
     subst (AreOnLine (w ∷ ws)) (sym cut) (are_on_line [] ms (bare w ∷ ws) g r i clean)

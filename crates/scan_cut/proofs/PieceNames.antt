@@ -13,8 +13,8 @@ use Rattle.scalar_model.specs.Anchor.{anchor_name}
 use Rattle.scan_model.specs.Document.{anchor_token}
 use Rattle.scan_scalars.specs.NameEnds.{further, behind_name, EndsAs, named, nameless}
 use Rattle.scan_scalars.proofs.Names.{names_end}
-use Rattle.scan_cut.specs.Needs.{ReadAs, NameNeeds}
-use Rattle.scan_cut.proofs.PieceFillers.{place_in_line}
+use Rattle.scan_scalars.proofs.Places.{place_in_line}
+use Rattle.scan_cut.specs.PiecesRead.{ReadAs, NameIsRead}
 
 -- ---- no break stands among the characters of a class that has none
 
@@ -67,8 +67,8 @@ module _ (a : Account) (more name rest : List ℕ) (is : is_name name ≡ true) 
   }
 
 -- a name that was read is, with its indicator, the piece of its token
-pub name_needs : NameNeeds
-name_needs a is_alias more r nul e = by (anchor_name (mark is_alias ∷ more) a.place) e (names_end (mark is_alias) more a.place)
+pub name_is_read : NameIsRead
+name_is_read a is_alias more r nul e = by (anchor_name (mark is_alias ∷ more) a.place) e (names_end (mark is_alias) more a.place)
   where
     by : (x : Result (Read (List ℕ)) Fault) → x ≡ Ok r → EndsAs a.place more x → ReadAs a (mark is_alias ∷ more) (anchor_token is_alias r.value) a.place r.rest r.place
     by x e (nameless none k) = absurd (cc (e, k))

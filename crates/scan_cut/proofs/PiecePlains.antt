@@ -19,8 +19,9 @@ use Rattle.scalar_model.specs.Plain as models
 use Rattle.scalar_laws.proofs.Bridges.{same_flow}
 use Rattle.scan_scalars.specs.PlainEnds.{collection_of, begins_solid, is_white, behind_plain, EndsAs, reads, refuses}
 use Rattle.scan_scalars.proofs.Plains.{scans_end}
-use Rattle.scan_cut.specs.Needs.{ReadAs, comes_plain, PlainNeeds}
-use Rattle.scan_cut.proofs.PieceFillers.{place_append, gap_is_filler}
+use Rattle.scan_scalars.proofs.Places.{place_append}
+use Rattle.scan_cut.specs.PiecesRead.{ReadAs, comes_plain, PlainIsRead}
+use Rattle.scan_cut.proofs.PieceFillers.{gap_is_filler}
 
 -- ---- a plain scalar begins with content
 
@@ -118,7 +119,7 @@ module _ (a : Account) (ctx : Context) (text : List ℕ) (r : Read Plain) (flows
       subst (λ (q : Read Plain). ReadAs a text (scalar plain q.value.text) a.place q.rest q.place) same (found piece gap rest value cut here (gap_is_filler gap rest white) is)
 
 -- a plain scalar that was read is the piece of its token, and behind it blanks and breaks were passed
-pub plain_needs : PlainNeeds
-plain_needs a ctx text r nul flows column comes indented is =
+pub plain_is_read : PlainIsRead
+plain_is_read a ctx text r nul flows column comes indented is =
     let begins : begins_plain (is_in_flow a) (is_adjacent a.before) a.place.col text ≡ true = rw flows (begins_as_read ctx (is_adjacent a.before) text a.place r comes is) in
     by a ctx text r flows column begins (models.plain ctx text a.place) is (scans_end ctx text a.place nul (begins_solid_with (is_in_flow a) (is_adjacent a.before) a.place.col text begins) indented)

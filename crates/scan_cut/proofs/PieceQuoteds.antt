@@ -22,12 +22,12 @@ use Rattle.scalar_model.specs.Folding.{nothing, joined}
 use Rattle.scalar_model.specs.Quoted.{Mode, first, inside, gap, breaking, behind, doubled, named, digits, closed, State, Escape, escape_of, is_scalar, quote_of, at_char, at_break, at_gap, at_escaped_break, at_quote, at_backslash, at_inside, at_named, at_digit, refused, unless, in_line, at_line, turn_in, turn, end_in, ended, quoted_from, quoted}
 use Rattle.scan_model.specs.Document.{quoted_style}
 use Rattle.scalar_laws.proofs.Bridges.{same_break}
-use Rattle.scan_quoted.specs.QuotedScan.{value_of, ends_before, is_some}
-use Rattle.scan_quoted.specs.QuotedEnds.{EndsAs, reads, refuses}
-use Rattle.scan_quoted.proofs.Ends.{scans_end}
+use Rattle.scan_texts.specs.QuotedScan.{value_of, ends_before, is_some}
+use Rattle.scan_texts.specs.QuotedEnds.{EndsAs, reads, refuses}
+use Rattle.scan_texts.proofs.QuotedScanEnds.{scans_end}
 use Rattle.scan_scalars.specs.PlainEnds.{has_no_nul}
 use Rattle.scan_scalars.proofs.PlainTurns.{same_feed, in_line_place, line_place}
-use Rattle.scan_cut.specs.Needs.{ReadAs, QuotedNeeds}
+use Rattle.scan_cut.specs.PiecesRead.{ReadAs, QuotedIsRead}
 
 -- ---- the place goes along with the characters
 
@@ -274,8 +274,8 @@ module _ (a : Account) (more body rest value : List ℕ) where
   }
 
 -- a quoted scalar that was read is the piece of its token
-pub quoted_needs : QuotedNeeds
-quoted_needs a single ctx more r nul e = by (quoted single ctx (quote_of single ∷ more) a.place) e (scans_end single ctx more a.place (some_chars more nul)) (quoted_passes single ctx more a.place r e)
+pub quoted_is_read : QuotedIsRead
+quoted_is_read a single ctx more r nul e = by (quoted single ctx (quote_of single ∷ more) a.place) e (scans_end single ctx more a.place (some_chars more nul)) (quoted_passes single ctx more a.place r e)
   where
     by : (x : Result (Read (List ℕ)) Fault) → x ≡ Ok r → EndsAs single ctx a.place more x → Went (past a.place) more r.rest r.place
         → ReadAs a (quote_of single ∷ more) (scalar (quoted_style single) r.value) a.place r.rest r.place

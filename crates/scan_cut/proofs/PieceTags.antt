@@ -11,8 +11,9 @@ use Rattle.scalar_model.specs.Machine.{Read}
 use Rattle.scalar_model.specs.Tag as models
 use Rattle.scan_scalars.specs.TagEnds.{may_follow, behind_tag, EndsAs, reads, refuses}
 use Rattle.scan_scalars.proofs.Tags.{span_cut, all_leading, tags_end}
-use Rattle.scan_cut.specs.Needs.{ReadAs, TagNeeds}
-use Rattle.scan_cut.proofs.PieceFillers.{place_in_line, no_break_append}
+use Rattle.scan_scalars.proofs.Places.{place_in_line}
+use Rattle.scan_cut.specs.PiecesRead.{ReadAs, TagIsRead}
+use Rattle.scan_cut.proofs.PieceFillers.{no_break_append}
 use Rattle.scan_cut.proofs.PieceNames.{all_in_line}
 
 -- ---- no break stands in a tag
@@ -92,8 +93,8 @@ written_in_line (c ∷ t) g h = by (c == 60) refl h
 -- ---- the piece
 
 -- a tag that was read is the piece of its token
-pub tag_needs : TagNeeds
-tag_needs a in_flow more r nul flows e = by (models.tag in_flow (33 ∷ more) a.place) e (tags_end in_flow more a.place)
+pub tag_is_read : TagIsRead
+tag_is_read a in_flow more r nul flows e = by (models.tag in_flow (33 ∷ more) a.place) e (tags_end in_flow more a.place)
   where
     by : (x : Result (Read models.Tag) Fault) → x ≡ Ok r → EndsAs in_flow a.place more x → ReadAs a (33 ∷ more) (Tok.tag r.value.handle r.value.suffix) a.place r.rest r.place
     by x e (refuses why reason k) = absurd (cc (e, k))

@@ -1,14 +1,8 @@
 -- Places behind texts.
-use Rattle.std.proofs.Common.{◌≡◌, ℕ, suc, ◌+◌, List, [], ◌∷◌, ◌++◌, Bool, true, false, if◌then◌else◌, length, refl, ap, ◌∙◌, arith, append_assoc}
+use Rattle.std.proofs.Common.{◌≡◌, ℕ, suc, ◌+◌, List, [], ◌∷◌, ◌++◌, Bool, true, false, if◌then◌else◌, length, refl, arith}
 use Rattle.yaml_chars.specs.Place.{Place}
 use Rattle.cut_defs.specs.Text.{ends_line, place_past, place_behind}
 use Rattle.scan_cut.specs.Order.{NotBefore, Behind}
-
--- the place behind two texts
-pub behind_both : (p : Place) (a b next : List ℕ) → place_behind p (a ++ b) next ≡ place_behind (place_behind p a (b ++ next)) b next
-behind_both p [] b next = refl
-behind_both p (c ∷ a) b next =
-    ap (λ t. place_behind (place_past p c t) (a ++ b) next) (append_assoc a b next) ∙ behind_both (place_past p c (a ++ (b ++ next))) a b next
 
 pub not_before_same : (p : Place) → NotBefore p p
 not_before_same p = (omega arith, λ h. omega arith)

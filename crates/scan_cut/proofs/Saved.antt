@@ -6,13 +6,27 @@ use Rattle.cut_defs.specs.Text.{place_behind}
 use Rattle.cut_defs.specs.Account.{Level, Account, first_account, settled}
 use Rattle.cut_defs.specs.Piece.{begins_node}
 use Rattle.cut_defs.specs.Cut.{Written, IsRow, spelled, tokens_of, account_past_row}
-use Rattle.scan_model.specs.State.{Key, with_top}
+use Rattle.scan_model.specs.State.{Key, Held, with_top}
+use Rattle.scan_model.specs.Keys.{save_simple_key, must_be_key}
 use Rattle.scan_cut.specs.Order.{NotBefore, Behind}
 use Rattle.scan_cut.specs.Here.{Here, IsLive, IsNotRight, account_in, AreOpen}
 use Rattle.scan_cut.proofs.Places.{not_before_same, weaker}
 use Rattle.scan_cut.proofs.Heres.{led, spelled_led}
 use Rattle.scan_cut.proofs.Pushed.{with_piece}
 use Rattle.scan_cut.proofs.Opens.{Goes, GoesOn, Leads, open_more, open_outer}
+
+-- what may be a key behind a node's start
+abbrev pub saved_keys : Held → List (Option Key)
+saved_keys s = (if s.key_allowed then with_top (Some (record { required = must_be_key s; number = length s.tokens; place = s.place })) s.keys else s.keys)
+
+pub saved_is : (s : Held) → save_simple_key s ≡ record s { keys = saved_keys s }
+unfolding save_simple_key
+saved_is s = by s.key_allowed refl
+  where
+    by : (b : Bool) → s.key_allowed ≡ b → (if b then record s { keys = with_top (Some (record { required = must_be_key s; number = length s.tokens; place = s.place })) s.keys } else s)
+        ≡ record s { keys = (if b then with_top (Some (record { required = must_be_key s; number = length s.tokens; place = s.place })) s.keys else s.keys) }
+    by true e = refl
+    by false e = refl
 
 pub length_tokens : (ws : List Written) → length (tokens_of ws) ≡ length ws
 length_tokens [] = refl

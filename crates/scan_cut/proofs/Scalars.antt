@@ -20,17 +20,16 @@ use Rattle.scan_model.specs.Keys.{must_be_key}
 use Rattle.scan_model.specs.Space.{skip_to_next_token}
 use Rattle.scan_model.specs.Flow.{allow_key}
 use Rattle.scan_model.specs.Document.{unled, context, quoted_style, block_style, check_behind_quoted, adjacent_here, fetch_flow_scalar, fetch_block_scalar}
-use Rattle.scan_model.proofs.Given.{Holds, went, refused}
+use Rattle.scan_model.proofs.Holds.{Holds, went, refused, read, chained, choice}
 use Rattle.scan_scalars.specs.Fillers.{begins_filler}
-use Rattle.scan_cut.specs.Needs.{ReadAs, Needs}
+use Rattle.scan_cut.specs.PiecesRead.{ReadAs, PiecesAreRead}
 use Rattle.scan_cut.specs.Stands.{columns, levels_of, account_of, IsAdjacent, Stood, Fares, Stands}
 use Rattle.scan_cut.proofs.Heres.{led}
 use Rattle.scan_cut.proofs.Pushed.{with_piece}
-use Rattle.scan_cut.proofs.Saved.{Opens}
+use Rattle.scan_cut.proofs.Saved.{Opens, saved_keys, saved_is}
 use Rattle.scan_cut.proofs.Stoods.{node_stood}
 use Rattle.scan_cut.proofs.Levels.{WithoutOpen, without_is}
 use Rattle.scan_cut.proofs.Passes.{Passed, PassedAll, to_token, spaces_skipped, passed_spaces, passed_both, stood_passed}
-use Rattle.scan_cut.proofs.Rules.{read, chained, choice, saved_keys, saved_is}
 use Rattle.scan_cut.proofs.Nodes.{IsDeep, IsNeutral, neutral_single, neutral_double, account_now, opens_none, clean_more, same_flow, node_fares, levels_gone, gone_stood}
 
 -- ---- quoted scalars
@@ -57,7 +56,7 @@ quoted_opens : (single : Bool) (x : List ℕ) → IsNeutral (Tok.scalar (quoted_
 quoted_opens true x = (neutral_single x, refl)
 quoted_opens false x = (neutral_double x, refl)
 
-quoted_stood : Needs → (text : List ℕ) (single : Bool) (t : State) (more : List ℕ) → t.rest ≡ quotes.quote_of single ∷ more → (s : Stands text t) → IsDeep t.held → (x : Read (List ℕ)) → quotes.quoted single (context t.held) t.rest t.held.place ≡ Ok x →
+quoted_stood : PiecesAreRead → (text : List ℕ) (single : Bool) (t : State) (more : List ℕ) → t.rest ≡ quotes.quote_of single ∷ more → (s : Stands text t) → IsDeep t.held → (x : Read (List ℕ)) → quotes.quoted single (context t.held) t.rest t.held.place ≡ Ok x →
     (filler : List ℕ) × Stood text x.rest x.place (t.held.tokens ++ token t.held.place (Tok.scalar (quoted_style single) x.value) ∷ []) (saved_keys t.held) t.held.indents t.held.indent t.held.flow (before_past quoted filler)
 quoted_stood n text single t more e s deep x k =
     let a : Account = account_now text t s in
@@ -79,7 +78,7 @@ behind_body single t x u =
     skip_to_next_token v >>= λ w.
     Ok (on_held (λ s. push t.held.place (Tok.scalar (quoted_style single) x) (adjacent_here s)) w)
 
-pub flow_scalar_fetched : Needs → (text : List ℕ) (single : Bool) (t : State) (more : List ℕ) → t.rest ≡ quotes.quote_of single ∷ more → Stands text t → IsDeep t.held → Holds (Stands text) (fetch_flow_scalar single t)
+pub flow_scalar_fetched : PiecesAreRead → (text : List ℕ) (single : Bool) (t : State) (more : List ℕ) → t.rest ≡ quotes.quote_of single ∷ more → Stands text t → IsDeep t.held → Holds (Stands text) (fetch_flow_scalar single t)
 unfolding fetch_flow_scalar
 flow_scalar_fetched n text single t more e s deep =
     subst (λ h. Holds (Stands text) (lexed (quotes.quoted single (context (allow_key false h)) t.rest t.held.place) (allow_key false h) (behind_body single t))) (sym (saved_is t.held))
@@ -99,9 +98,7 @@ flow_scalar_fetched n text single t more e s deep =
         let tok : Token = token t.held.place (Tok.scalar (quoted_style single) x.value) in
         let tokens : List Token = t.held.tokens ++ tok ∷ [] in
         let q : (filler : List ℕ) × Stood text x.rest x.place tokens (saved_keys t.held) t.held.indents t.held.indent t.held.flow (before_past quoted filler) = quoted_stood n text single t more e s deep x k in
-        let at_v : Stood text v.rest v.held.place tokens (saved_keys t.held) t.held.indents t.held.indent t.held.flow quoted =
-        stood_passed text (behind x) v tokens (saved_keys t.held) t.held.indents t.held.indent t.held.flow (before_past quoted q.0) a q.1 in
-        let c : Passed (behind x) w = passed_both (behind x) v w at_v.here.is_clean a b.passed in
+        let c : Passed (behind x) w = passed_both (behind x) v w a b.passed in
         let at_w : Stood text w.rest w.held.place tokens (saved_keys t.held) t.held.indents t.held.indent t.held.flow quoted =
         stood_passed text (behind x) w tokens (saved_keys t.held) t.held.indents t.held.indent t.held.flow (before_past quoted q.0) c q.1 in
         subst (λ h. Fares text w.rest w.held.place (h.tokens ++ tok ∷ []) h.keys h.indents h.indent h.flow w.held.place.index) (sym c.is_held)
@@ -122,7 +119,7 @@ block_node : (literal : Bool) (x : List ℕ) (bs : List (Option ℕ)) (ls : List
 block_node true x bs ls c more = (refl, refl, refl, refl)
 block_node false x bs ls c more = (refl, refl, refl, refl)
 
-block_fares : Needs → (text : List ℕ) (literal : Bool) (t : State) (more : List ℕ) → t.rest ≡ (if literal then 124 else 62) ∷ more → is_nil t.held.flow ≡ true → (s : Stands text t) → IsDeep t.held → (x : Read blocks.Block) →
+block_fares : PiecesAreRead → (text : List ℕ) (literal : Bool) (t : State) (more : List ℕ) → t.rest ≡ (if literal then 124 else 62) ∷ more → is_nil t.held.flow ≡ true → (s : Stands text t) → IsDeep t.held → (x : Read blocks.Block) →
     blocks.block literal (levels_gone t.held).indent t.rest t.held.place ≡ Ok x →
     Fares text x.rest x.place ((levels_gone t.held).tokens ++ token x.value.place (Tok.scalar (block_style literal) x.value.text) ∷ []) (saved_keys t.held) (levels_gone t.held).indents (levels_gone t.held).indent t.held.flow t.held.adjacent_value_at
 unfolding levels_gone
@@ -143,7 +140,7 @@ block_fares n text literal t more e out s deep x k =
     (node_fares text t.rest t.held.place t.held.tokens t.held.keys u.indents u.indent t.held.flow s.before t.held.adjacent_value_at v s.was_adjacent tok x.value.place x.rest x.place r
     m.0 deep2 m.1 m.2 m.3 (block_opens t.held.place x.place x.rest v.here.filler (r.first ∷ r.more) x.value.place tok both.1) t.held.key_allowed (must_be_key t.held))
 
-pub block_fetched : Needs → (text : List ℕ) (literal : Bool) (t : State) (more : List ℕ) → t.rest ≡ (if literal then 124 else 62) ∷ more → is_nil t.held.flow ≡ true → Stands text t → IsDeep t.held → Holds (Stands text) (fetch_block_scalar literal t)
+pub block_fetched : PiecesAreRead → (text : List ℕ) (literal : Bool) (t : State) (more : List ℕ) → t.rest ≡ (if literal then 124 else 62) ∷ more → is_nil t.held.flow ≡ true → Stands text t → IsDeep t.held → Holds (Stands text) (fetch_block_scalar literal t)
 unfolding fetch_block_scalar unroll_non_block_indents levels_gone
 block_fetched n text literal t more e out s deep =
     subst (λ h. Holds (Stands text) (lexed (blocks.block literal (unroll_non_block_indents (allow_key true h)).indent t.rest t.held.place) (unroll_non_block_indents (allow_key true h))

@@ -12,13 +12,13 @@ use Rattle.cut_defs.proofs.Append.{tokens_append}
 use Rattle.scan_model.specs.declared.level.Indent.{Indent}
 use Rattle.scan_model.specs.declared.level.FlowLevel.{FlowLevel}
 use Rattle.scan_model.specs.State.{Key, with_top, token}
-use Rattle.scan_scalars.specs.PlainEnds.{has_no_nul}
-use Rattle.scan_cut.specs.Needs.{ReadAs}
+use Rattle.scan_cut.specs.PiecesRead.{ReadAs}
 use Rattle.scan_cut.specs.Order.{Behind}
 use Rattle.scan_cut.specs.Here.{Here, IsNotRight, AreOpen}
 use Rattle.scan_cut.specs.Stands.{columns, AreLevels, IsLevel, levels_of, account_of, IsAdjacent, Stood}
 use Rattle.scan_cut.proofs.Places.{not_before_behind, index_behind, is_behind, behind_then}
-use Rattle.scan_cut.proofs.Heres.{here_filled, led, before_both, fills_both}
+use Rattle.scan_cut.proofs.PieceFillers.{filler_append}
+use Rattle.scan_cut.proofs.Heres.{here_filled, led, before_both}
 use Rattle.scan_cut.proofs.Pushed.{with_piece, same_account, columns_settled, here_token, here_two, with_blocks, past_empty}
 use Rattle.scan_cut.proofs.Opens.{GoesOn, open_moved}
 use Rattle.scan_cut.proofs.Saved.{Opens, open_saved, length_tokens}
@@ -45,11 +45,10 @@ stood_filled text rest p tokens keys indents indent flow before g rest2 cut f s 
   are_open = open_moved 0 s.row s.behind p (place_behind p g rest2) rest rest2 (innermost_column (columns indent indents)) keys (not_before_behind p g rest2) (goes_behind g rest rest2 cut) s.are_open;
 }
 
-pub adjacent_filled : (before : Before) (p : Place) (adj : ℕ) (rest g rest2 : List ℕ) → rest ≡ g ++ rest2 → has_no_nul rest2 ≡ true → is_filler false g rest2 ≡ true → IsAdjacent before p adj rest → IsAdjacent (before_past before g) (place_behind p g rest2) adj rest2
-adjacent_filled before p adj rest g rest2 cut n f a = λ filler r e k t.
-    let clean : has_no_nul (filler ++ r) ≡ true = rw e at n in
+pub adjacent_filled : (before : Before) (p : Place) (adj : ℕ) (rest g rest2 : List ℕ) → rest ≡ g ++ rest2 → is_filler false g rest2 ≡ true → IsAdjacent before p adj rest → IsAdjacent (before_past before g) (place_behind p g rest2) adj rest2
+adjacent_filled before p adj rest g rest2 cut f a = λ filler r e k t.
     let fills : is_filler false g (filler ++ r) ≡ true = rw e at f in
-    let known : is_adjacent (before_past before (g ++ filler)) ≡ ((p.index + length (g ++ filler)) == adj) = a (g ++ filler) r (cut ∙ ap (λ x. g ++ x) e ∙ sym (append_assoc g filler r)) (fills_both g filler r clean fills k) t in
+    let known : is_adjacent (before_past before (g ++ filler)) ≡ ((p.index + length (g ++ filler)) == adj) = a (g ++ filler) r (cut ∙ ap (λ x. g ++ x) e ∙ sym (append_assoc g filler r)) (filler_append false g filler r fills k) t in
     let many : p.index + length (g ++ filler) ≡ (place_behind p g rest2).index + length filler = rw (length-append g filler, index_behind p g rest2) (omega arith) in
     ap is_adjacent (before_both before g filler) ∙ known ∙ ap (λ x. x == adj) many
 

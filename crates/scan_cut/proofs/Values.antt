@@ -22,15 +22,14 @@ use Rattle.scan_model.specs.Keys.{top_key}
 use Rattle.scan_model.specs.Indents.{roll_indent, roll_one_col_indent}
 use Rattle.scan_model.specs.Flow.{allow_key}
 use Rattle.scan_model.specs.Block.{check_behind_tab, check_value_space, opens_pair, paired, begin_keyless_mapping, begin_keyless_value}
-use Rattle.scan_model.proofs.Given.{Holds, went}
-use Rattle.scan_cut.specs.Needs.{ReadAs}
+use Rattle.scan_model.proofs.Holds.{Holds, went, chained, choice, passes, weakened}
+use Rattle.scan_cut.specs.PiecesRead.{ReadAs}
 use Rattle.scan_cut.specs.Stands.{columns, AreLevels, levels_of, account_of, Stood, Fares, Stands}
 use Rattle.scan_cut.proofs.Places.{weaker, index_behind}
 use Rattle.scan_cut.proofs.Heres.{led, spelled_led}
 use Rattle.scan_cut.proofs.Pushed.{with_piece, columns_settled}
 use Rattle.scan_cut.proofs.Stoods.{piece_stood, two_stood, read_later, stood_levels}
 use Rattle.scan_cut.proofs.Passes.{placed_at, Passed, Filled, spaced, passed_spaces}
-use Rattle.scan_cut.proofs.Rules.{chained, choice, passes, weakened}
 use Rattle.scan_cut.proofs.Nodes.{same_flow, adjacent_other}
 use Rattle.scan_cut.proofs.Indicators.{indicated_by}
 use Rattle.scan_cut.proofs.FlowEnds.{LeadsOut, entry_open, length_top}

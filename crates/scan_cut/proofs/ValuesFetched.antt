@@ -17,11 +17,10 @@ use Rattle.scan_model.specs.State.{Key, Held, State, ◌>>=◌, in_flow, push, w
 use Rattle.scan_model.specs.Keys.{top_key}
 use Rattle.scan_model.specs.Indents.{roll_indent, roll_one_col_indent}
 use Rattle.scan_model.specs.Block.{opens_pair, paired, begin_pair, insert_key, value_of, fetch_value}
-use Rattle.scan_model.proofs.Given.{Holds, went}
+use Rattle.scan_model.proofs.Holds.{Holds, went, chained, checked, tried}
 use Rattle.scan_cut.specs.Stands.{AreLevels, levels_of, Stood, Fares, Stands}
 use Rattle.scan_cut.proofs.Stoods.{stood_levels}
 use Rattle.scan_cut.proofs.Passes.{placed_at, Passed, Filled}
-use Rattle.scan_cut.proofs.Rules.{chained, checked, tried}
 use Rattle.scan_cut.proofs.Nodes.{same_flow, AreNear}
 use Rattle.scan_cut.proofs.Rolls.{SameBlocks, rolled_one, Rolls, begins, goes_on, rolled_is, rolls_levels}
 use Rattle.scan_cut.proofs.Blocks.{rolls_place}

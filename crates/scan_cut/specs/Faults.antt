@@ -12,8 +12,8 @@ use Rattle.cut_defs.specs.Account.{Account, first_account, is_in_flow, has_room,
 use Rattle.cut_defs.specs.Piece.{Holds}
 use Rattle.cut_defs.specs.Cut.{Written, IsRow, spelled, account_past_row}
 use Rattle.scalar_model.specs.Quoted.{quote_of}
-use Rattle.scan_quoted.specs.QuotedScan.{has_marker}
-use Rattle.scan_quoted.specs.QuotedEnds.{HasElements, IsBadEscape}
+use Rattle.scan_texts.specs.QuotedScan.{has_marker}
+use Rattle.scan_texts.specs.QuotedEnds.{HasElements, IsBadEscape}
 use Rattle.scan_scalars.specs.PlainEnds.{stand_behind, is_apart}
 
 -- A place of a text behind a row of pieces and a filler: the text from there on, and the account.

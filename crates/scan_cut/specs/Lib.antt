@@ -1,5 +1,5 @@
 pub mod Laws
-pub mod Needs
+pub mod PiecesRead
 pub mod Order
 pub mod Inside
 pub mod Here

@@ -1,12 +1,12 @@
 //! Laws of the scanner's model and the cut of a text, each carried by an empty function.
 
 ghost use Rattle.scan_cut.specs.Laws.{FirstTokensAreACut, ShownFaultsStandInTheText, TokensAreACut};
-ghost use Rattle.scan_cut.specs.Needs.{Needs};
+ghost use Rattle.scan_cut.specs.PiecesRead.{PiecesAreRead};
 
 /// What a lexing function reads of a text at an account is a piece that belongs to its token, and a filler behind it; the place is
 /// the one behind both. So of plain, quoted and block scalars, names of anchors and aliases, tags and directives.
 pub fn lexing_functions_read_pieces()
-    ensures { Needs }
+    ensures { PiecesAreRead }
 {}
 
 /// The tokens that the scanner's model gives for a text without NUL are a cut of it: the text is a row of fillers and pieces in

@@ -1,5 +1,7 @@
 pub mod Ends
 pub mod Given
+pub mod Holds
+pub mod NoEnds
 pub mod OnLiterals
 mod RowsBlock
 mod RowsFlow
@@ -8,3 +10,4 @@ mod RowsProperties
 mod RowsRefused
 mod RowsScalars
 pub mod Runs
+pub mod Walk

@@ -29,7 +29,7 @@ rest_is in_comment [] r n h e = nothing_more in_comment r n h e
 rest_is true (c ∷ f) r n h e = rest_is (not (is_break c)) f r n h e
 rest_is false (c ∷ f) r n h e = let q = and_parts (is_blank c || is_break c || (c == 35)) (is_filler (c == 35) f r) h in rw q.0 (rest_is (c == 35) f r n q.1 e)
 
-no_nul_behind : (a b : List ℕ) → has_no_nul (a ++ b) ≡ true → has_no_nul b ≡ true
+pub no_nul_behind : (a b : List ℕ) → has_no_nul (a ++ b) ≡ true → has_no_nul b ≡ true
 no_nul_behind [] b h = h
 no_nul_behind (c ∷ a) b h = no_nul_behind a b (and_parts (not (is_nul c)) (has_no_nul (a ++ b)) h).1
 

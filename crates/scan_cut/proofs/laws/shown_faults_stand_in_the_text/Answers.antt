@@ -1,4 +1,4 @@
-use Rattle.scan_cut.proofs.PieceNeeds.{pieces_are_read}
+use Rattle.scan_cut.proofs.PiecesRead.{pieces_are_read}
 use Rattle.scan_cut.proofs.BlameFetch.{faults_stand}
 use Rattle.scan_cut.proofs.laws.shown_faults_stand_in_the_text.Goals as goal
 

@@ -1,10 +1,24 @@
--- Rules for what holds of what is left, and the steps of the model that need no proof of their own.
-use Rattle.std.proofs.Common.{◌≡◌, List, Bool, true, false, length, if◌then◌else◌, Option, Some, Result, Ok, Err, refl}
+-- What holds of what a step leaves, unless it refuses: rules for the forms that the model's functions are made of.
+use Rattle.std.proofs.Common.{◌≡◌, Bool, true, false, if◌then◌else◌, Result, Ok, Err, refl, ap, subst}
 use Rattle.yaml_tokens.specs.declared.problem.Fault.{Fault}
 use Rattle.scalar_model.specs.Machine.{Read}
-use Rattle.scan_model.specs.State.{Key, Held, State, ◌>>=◌, with_held, go_on, lexed, with_top}
-use Rattle.scan_model.specs.Keys.{save_simple_key, must_be_key}
-use Rattle.scan_model.proofs.Given.{Holds, went, refused, held_of}
+use Rattle.scan_model.specs.State.{Held, State, ◌>>=◌, with_held, go_on, lexed}
+
+-- P holds of what is left, unless it is a fault
+pub data Holds {A : Type 0} (P : A → Type 0) : Result A Fault → Type 0 where
+  went : {x : A} → P x → Holds P (Ok x)
+  refused : {f : Fault} → Holds P (Err f)
+
+pub held_of : {A : Type 0} {P : A → Type 0} {r : Result A Fault} (x : A) → Holds P r → r ≡ Ok x → P x
+held_of {P = P} x (went {x = y} p) e = subst P (same y x e) p
+  where
+    value_or : {B : Type 0} → B → Result B Fault → B
+    value_or z (Ok w) = w
+    value_or z (Err f) = z
+
+    same : {B : Type 0} (y x : B) → ◌≡◌ {A = Result B Fault} (Ok y) (Ok x) → y ≡ x
+    same y x e = ap (value_or y) e
+held_of x refused e = absurd (cc)
 
 pub chained : {A B : Type 0} {P : A → Type 0} {Q : B → Type 0} {r : Result A Fault} {k : A → Result B Fault} → Holds P r → ((x : A) → P x → Holds Q (k x)) → Holds Q (r >>= k)
 chained (went p) f = f _ p
@@ -41,18 +55,3 @@ weakened f refused = refused
 pub both_hold : {A : Type 0} {P Q : A → Type 0} {r : Result A Fault} → Holds P r → Holds Q r → Holds (λ x. P x × Q x) r
 both_hold {P = P} {Q = Q} (went {x = x} p) h = went (p, held_of {P = Q} x h refl)
 both_hold refused h = refused
-
--- ---- the key that is saved
-
--- what may be a key behind a node's start
-abbrev pub saved_keys : Held → List (Option Key)
-saved_keys s = (if s.key_allowed then with_top (Some (record { required = must_be_key s; number = length s.tokens; place = s.place })) s.keys else s.keys)
-
-pub saved_is : (s : Held) → save_simple_key s ≡ record s { keys = saved_keys s }
-unfolding save_simple_key
-saved_is s = by s.key_allowed refl
-  where
-    by : (b : Bool) → s.key_allowed ≡ b → (if b then record s { keys = with_top (Some (record { required = must_be_key s; number = length s.tokens; place = s.place })) s.keys } else s)
-        ≡ record s { keys = (if b then with_top (Some (record { required = must_be_key s; number = length s.tokens; place = s.place })) s.keys else s.keys) }
-    by true e = refl
-    by false e = refl

@@ -1,4 +1,4 @@
--- What the exact model of each lexing function has to read for its token: a piece of the cut, and a filler behind it.
+-- What the exact model of each lexing function reads for its token: a piece of the cut, and a filler behind it.
 use Rattle.std.specs.Prelude.{◌≡◌, ℕ, List, [], ◌∷◌, ◌++◌, Bool, true, false, ◌==◌, ◌&&◌, ◌⊎◌, not, nat_lt, if◌then◌else◌, Option, Ok}
 use Rattle.yaml_chars.specs.Place.{Place}
 use Rattle.token_defs.specs.Token.{Tok, version_directive, tag_directive, tag, scalar, plain}
@@ -34,31 +34,31 @@ abbrev pub comes_plain : (in_flow adjacent : Bool) → (column : ℕ) → List �
 comes_plain in_flow adjacent column [] = false
 comes_plain in_flow adjacent column (c ∷ r) = (if c == 45 then not (is_at_gap r) else may_begin in_flow adjacent c r) && not ((column == 0) && is_document_marker (c ∷ r))
 
-abbrev pub PlainNeeds : Type 0
-PlainNeeds =
+abbrev pub PlainIsRead : Type 0
+PlainIsRead =
     (a : Account) (ctx : Context) (text : List ℕ) (r : Read plains.Plain) → has_no_nul text ≡ true → is_in_flow a ≡ ctx.flow → collection_column a ≡ collection_of ctx.indent
     → comes_plain ctx.flow (is_adjacent a.before) a.place.col text ≡ true → is_indented ctx a.place ≡ true → plains.plain ctx text a.place ≡ Ok r
     → ReadAs a text (scalar plain r.value.text) a.place r.rest r.place
 
-abbrev pub QuotedNeeds : Type 0
-QuotedNeeds =
+abbrev pub QuotedIsRead : Type 0
+QuotedIsRead =
     (a : Account) (single : Bool) (ctx : Context) (more : List ℕ) (r : Read (List ℕ)) → has_no_nul more ≡ true → quoted single ctx (quote_of single ∷ more) a.place ≡ Ok r
     → ReadAs a (quote_of single ∷ more) (scalar (quoted_style single) r.value) a.place r.rest r.place
 
 -- Besides: the scan ends on a later line, or at the text's end.
-abbrev pub BlockNeeds : Type 0
-BlockNeeds =
+abbrev pub BlockIsRead : Type 0
+BlockIsRead =
     (a : Account) (literal : Bool) (indent : ℕ) (more : List ℕ) (r : Read Block) → has_no_nul more ≡ true → is_in_flow a ≡ false → collection_column a ≡ collection_of indent
     → block literal indent ((if literal then 124 else 62) ∷ more) a.place ≡ Ok r
     → ReadAs a ((if literal then 124 else 62) ∷ more) (scalar (block_style literal) r.value.text) r.value.place r.rest r.place × ((r.rest ≡ []) ⊎ (nat_lt a.place.line r.place.line ≡ true))
 
-abbrev pub NameNeeds : Type 0
-NameNeeds =
+abbrev pub NameIsRead : Type 0
+NameIsRead =
     (a : Account) (alias : Bool) (more : List ℕ) (r : Read (List ℕ)) → has_no_nul more ≡ true → anchor_name ((if alias then 42 else 38) ∷ more) a.place ≡ Ok r
     → ReadAs a ((if alias then 42 else 38) ∷ more) (anchor_token alias r.value) a.place r.rest r.place
 
-abbrev pub TagNeeds : Type 0
-TagNeeds =
+abbrev pub TagIsRead : Type 0
+TagIsRead =
     (a : Account) (in_flow : Bool) (more : List ℕ) (r : Read tags.Tag) → has_no_nul more ≡ true → is_in_flow a ≡ in_flow → tags.tag in_flow (33 ∷ more) a.place ≡ Ok r
     → ReadAs a (33 ∷ more) (tag r.value.handle r.value.suffix) a.place r.rest r.place
 
@@ -68,16 +68,16 @@ is_directive_token (version_directive major minor) = true
 is_directive_token (tag_directive handle prefix) = true
 is_directive_token _ = false
 
-abbrev pub DirectiveNeeds : Type 0
-DirectiveNeeds =
+abbrev pub DirectiveIsRead : Type 0
+DirectiveIsRead =
     (a : Account) (more : List ℕ) (r : Read Tok) → has_no_nul more ≡ true → a.place.col ≡ 0 → is_closed a ≡ true → directive (37 ∷ more) a.place ≡ Ok r
     → ReadAs a (37 ∷ more) r.value a.place r.rest r.place × (is_directive_token r.value ≡ true)
 
 -- all of these
-pub record Needs : Type 0 where
-  pub plain : PlainNeeds
-  pub quoted : QuotedNeeds
-  pub block : BlockNeeds
-  pub name : NameNeeds
-  pub tag : TagNeeds
-  pub directive : DirectiveNeeds
+pub record PiecesAreRead : Type 0 where
+  pub plain : PlainIsRead
+  pub quoted : QuotedIsRead
+  pub block : BlockIsRead
+  pub name : NameIsRead
+  pub tag : TagIsRead
+  pub directive : DirectiveIsRead
