@@ -9,7 +9,7 @@ use Rattle.tree_defs.specs.Spelling.{is_scalar}
 use Rattle.tree_defs.specs.Literal.{is_literal, is_root_literal}
 use Rattle.tree_defs.specs.Lines.{lines_of}
 use Rattle.layout_defs.specs.BlockLines.{Line}
-use Rattle.layout_defs.specs.Layout.{Scalar, Inline, Block, Value, below, Entries, Field, Fields, Root, Layout}
+use Rattle.layout_defs.specs.WideLayout.{Scalar, Inline, no_comment, Block, Value, below, Entries, Field, Fields, Root, last_document, WideLayout}
 
 -- A node before it is placed behind a mark or as root: what stands on one line, the text of a literal block, or a block.
 pub data Node : Type 0 where
@@ -41,9 +41,9 @@ may_be_literal at_root text = if at_root then is_root_literal text else is_liter
 
 -- A node behind a mark at the column c: a block goes below where the flag says so.
 abbrev pub value_of : (lower : Bool) → (c : ℕ) → Node → Value
-value_of lower c (Node.inline i) = Value.beside 0 i
+value_of lower c (Node.inline i) = Value.beside 0 i no_comment
 value_of lower c (Node.literal text) = Value.literal 0 (c + 2) text (text_lines (c + 2) text)
-value_of lower c (Node.block b) = if lower then below [] (c + 2) b else Value.compact 0 b
+value_of lower c (Node.block b) = if lower then below no_comment [] (c + 2) b else Value.compact 0 b
 
 -- A node as root stands at column 0.
 abbrev pub root_of : Node → Root
@@ -119,5 +119,5 @@ abbrev mutual
       ∷ all_fields_of compact multiline c ps
 
 -- The whole document has no gap, and nothing stands behind its root.
-abbrev pub layout_of : (compact multiline : Bool) → Tree → Layout
-layout_of compact multiline t = record { gap = []; root = root_of (node_of compact multiline true 0 t); ending = [] }
+abbrev pub layout_of : (compact multiline : Bool) → Tree → WideLayout
+layout_of compact multiline t = record { is_marked = true; documents = last_document (record { gap = []; root = root_of (node_of compact multiline true 0 t) }) [] }

@@ -1,3 +1,4 @@
+mod Basic
 mod DumpLayout
 mod Texts
 mod Trees

@@ -4,7 +4,7 @@ use Rattle.std.specs.Prelude.{if◌then◌else◌}
 use Rattle.tree_defs.specs.Tree.{Tree, Items, no_items, item, Pairs, no_pairs, pair, items_of, pairs_of, pair_list_of}
 use Rattle.tree_defs.specs.Quoting.{is_quoted}
 use Rattle.tree_defs.specs.Spelling.{is_scalar}
-use Rattle.layout_defs.specs.Layout.{Scalar, Value, Field, scalar_tree, inline_tree, block_tree, value_tree, items, pair_of, pair_list, root_tree, tree_of}
+use Rattle.layout_defs.specs.WideLayout.{Scalar, Value, Field, scalar_tree, inline_tree, block_tree, value_tree, items, pair_of, pair_list, root_tree, trees_of}
 use Rattle.dump_layout.proofs.DumpLayout.{Node, value_of, root_of, string_scalar, scalar_of, string_node, may_be_literal, entries_of, fields_of, array_node, hash_node, field_of, node_of, values_of, all_fields_of, layout_of}
 
 -- The tree of a node.
@@ -110,5 +110,5 @@ mutual
       (all_fields_pairs compact multiline c ps)
 
 -- The tree of the layout is the tree.
-pub layout_of_tree : (compact multiline : Bool) (t : Tree) → tree_of (layout_of compact multiline t) ≡ t
-layout_of_tree compact multiline t = root_of_tree (node_of compact multiline true 0 t) ∙ node_of_tree compact multiline true 0 t
+pub layout_of_tree : (compact multiline : Bool) (t : Tree) → trees_of (layout_of compact multiline t).documents ≡ t ∷ []
+layout_of_tree compact multiline t = ap (λ u. u ∷ []) (root_of_tree (node_of compact multiline true 0 t) ∙ node_of_tree compact multiline true 0 t)

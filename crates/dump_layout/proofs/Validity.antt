@@ -9,7 +9,8 @@ use Rattle.tree_defs.specs.Lines.{lines_of}
 use Rattle.tree_defs.specs.Valid.{IsDistinct, AllDistinct, AllPairsDistinct, FitsI64, AllFitI64, AllPairsFitI64}
 use Rattle.tree_defs.specs.Writable.{IsShortKey, HasText, AllHaveText, AllPairsHaveText}
 use Rattle.layout_defs.specs.BlockLines.{contents, IsLine, AreLines}
-use Rattle.layout_defs.specs.Layout.{Scalar, Inline, Value, Field, IsScalar, IsInline, IsImplicitKey, IsExplicitKey, IsNotCompact, AreLinesOf, IsBlock, IsValue, AreEntries, IsField, AreFields, IsRoot, IsEnding, IsLayout, spell_scalar, pair_of}
+use Rattle.layout_defs.specs.Anchored.{Anchor}
+use Rattle.layout_defs.specs.WideLayout.{Scalar, Inline, Value, Field, IsScalar, IsInline, IsImplicitKey, IsExplicitKey, MayFollowScalarKey, MayFollowMark, AreLinesOf, IsBlock, IsValue, AreEntries, IsField, AreFields, IsRoot, IsBehindRoot, IsWideLayout, spell_scalar, pair_of, anchors_behind, anchors_behind_field}
 use Rattle.dump_layout.proofs.DumpLayout.{Node, line_at, lines_at, text_lines, may_be_literal, value_of, root_of, string_scalar, scalar_of, string_node, entries_of, fields_of, array_node, hash_node, field_of, node_of, values_of, all_fields_of, layout_of}
 use Rattle.dump_layout.proofs.Texts.{scalar_of_spelt}
 use Rattle.dump_layout.proofs.Trees.{fields_pairs, all_fields_pairs}
@@ -38,11 +39,11 @@ text_lines_valid column text = (lines_at_contents column (lines_of text), lines_
 
 -- ---- nodes
 
--- A node is valid at its place.
+-- A node is valid at its place, whatever anchors stand before it.
 abbrev IsNode : (at_root : Bool) → (c : ℕ) → Node → Type 0
 IsNode at_root c (Node.inline i) = IsInline i
 IsNode at_root c (Node.literal text) = may_be_literal at_root text ≡ true
-IsNode at_root c (Node.block b) = IsBlock c b
+IsNode at_root c (Node.block b) = (a : List Anchor) → IsBlock c a b
 
 -- A node is an array or a hash.
 abbrev IsCollection : Node → Type 0
@@ -53,14 +54,21 @@ IsCollection (Node.literal text) = ⊥
 IsCollection (Node.block b) = Unit {0}
 
 -- A valid node is a valid value, two columns to the right of its mark.
-value_of_valid : (lower : Bool) (c : ℕ) (n : Node) → IsNode false (c + 2) n → IsValue c (value_of lower c n)
-value_of_valid lower c (Node.inline i) h = h
-value_of_valid lower c (Node.literal text) h = (omega arith, h, text_lines_valid (c + 2) text)
-value_of_valid true c (Node.block b) h = (tt, omega arith, h)
-value_of_valid false c (Node.block b) h = let e : c + 2 + 0 ≡ c + 2 = omega arith in rw e h
+value_of_valid : (lower : Bool) (c : ℕ) (n : Node) → IsNode false (c + 2) n → (a : List Anchor) → IsValue c a (value_of lower c n)
+value_of_valid lower c (Node.inline i) h a = (h, tt)
+value_of_valid lower c (Node.literal text) h a = (omega arith, h, text_lines_valid (c + 2) text)
+value_of_valid true c (Node.block b) h a = (tt, tt, omega arith, h a)
+value_of_valid false c (Node.block b) h a = let e : c + 2 + 0 ≡ c + 2 = omega arith in rw e (h a)
+
+-- Such a value may stand behind any mark.
+value_of_follows : (lower : Bool) (c : ℕ) (n : Node) → MayFollowMark (value_of lower c n)
+value_of_follows lower c (Node.inline i) = tt
+value_of_follows lower c (Node.literal text) = tt
+value_of_follows true c (Node.block b) = tt
+value_of_follows false c (Node.block b) = tt
 
 -- A value whose block goes below begins no block on its mark's line.
-lower_not_compact : (c : ℕ) (n : Node) → IsNotCompact (value_of true c n)
+lower_not_compact : (c : ℕ) (n : Node) → MayFollowScalarKey (value_of true c n)
 lower_not_compact c (Node.inline i) = tt
 lower_not_compact c (Node.literal text) = tt
 lower_not_compact c (Node.block b) = tt
@@ -78,10 +86,10 @@ collection_as_key false c (Node.block b) h = tt
 root_of_valid : (n : Node) → IsNode true 0 n → IsRoot (root_of n)
 root_of_valid (Node.inline i) h = h
 root_of_valid (Node.literal text) h = (h, text_lines_valid 0 text)
-root_of_valid (Node.block b) h = h
+root_of_valid (Node.block b) h = h []
 
 -- Nothing may stand behind any root.
-root_of_ending : (n : Node) → IsEnding (root_of n) []
+root_of_ending : (n : Node) → IsBehindRoot (root_of n) []
 root_of_ending (Node.inline i) = tt
 root_of_ending (Node.literal text) = tt
 root_of_ending (Node.block b) = tt
@@ -128,29 +136,37 @@ scalar_key_valid t k f s h =
 -- ---- collections
 
 -- Each element of a list is so.
-abbrev AreAll : {A : Type 0} → (A → Type 0) → List A → Type 0
+abbrev pub AreAll : {A : Type 0} → (A → Type 0) → List A → Type 0
 AreAll P [] = Unit {0}
 AreAll P (x ∷ xs) = P x × AreAll P xs
 
+-- A valid value that may stand behind a dash.
+abbrev IsItem : (c : ℕ) → Value → Type 0
+IsItem c v = MayFollowMark v × ((a : List Anchor) → IsValue c a v)
+
+-- A valid entry of a hash.
+abbrev IsPair : (c : ℕ) → Field → Type 0
+IsPair c f = (a : List Anchor) → IsField c a f
+
 -- Valid values are valid entries.
-entries_valid : (c : ℕ) (v : Value) (vs : List Value) → IsValue c v → AreAll (IsValue c) vs → AreEntries c (entries_of v vs)
-entries_valid c v [] h hs = h
-entries_valid c v (w ∷ vs) h hs = (h, tt, entries_valid c w vs hs.0 hs.1)
+entries_valid : (c : ℕ) (v : Value) (vs : List Value) → IsItem c v → AreAll (IsItem c) vs → (a : List Anchor) → AreEntries c a (entries_of v vs)
+entries_valid c v [] h hs a = (h.0, h.1 a)
+entries_valid c v (w ∷ vs) h hs a = (h.0, h.1 a, tt, entries_valid c w vs hs.0 hs.1 (anchors_behind v a))
 
 -- Valid entries of a hash are valid together.
-fields_valid : (c : ℕ) (f : Field) (fs : List Field) → IsField c f → AreAll (IsField c) fs → AreFields c (fields_of f fs)
-fields_valid c f [] h hs = h
-fields_valid c f (g ∷ fs) h hs = (h, tt, fields_valid c g fs hs.0 hs.1)
+fields_valid : (c : ℕ) (f : Field) (fs : List Field) → IsPair c f → AreAll (IsPair c) fs → (a : List Anchor) → AreFields c a (fields_of f fs)
+fields_valid c f [] h hs a = h a
+fields_valid c f (g ∷ fs) h hs a = (h a, tt, fields_valid c g fs hs.0 hs.1 (anchors_behind_field f a))
 
 -- The node of valid values is valid.
-array_node_valid : (at_root : Bool) (c : ℕ) (vs : List Value) → AreAll (IsValue c) vs → IsNode at_root c (array_node vs)
+array_node_valid : (at_root : Bool) (c : ℕ) (vs : List Value) → AreAll (IsItem c) vs → IsNode at_root c (array_node vs)
 array_node_valid at_root c [] h = tt
 array_node_valid at_root c (v ∷ vs) h = entries_valid c v vs h.0 h.1
 
 -- The node of valid entries with distinct keys is valid.
-hash_node_valid : (at_root : Bool) (c : ℕ) (fs : List Field) → AreAll (IsField c) fs → AreDistinct (map pair_of fs) → IsNode at_root c (hash_node fs)
+hash_node_valid : (at_root : Bool) (c : ℕ) (fs : List Field) → AreAll (IsPair c) fs → AreDistinct (map pair_of fs) → IsNode at_root c (hash_node fs)
 hash_node_valid at_root c [] h d = tt
-hash_node_valid at_root c (f ∷ fs) h d = (fields_valid c f fs h.0 h.1, rw (fields_pairs f fs) d)
+hash_node_valid at_root c (f ∷ fs) h d = λ a. (fields_valid c f fs h.0 h.1 a, rw (fields_pairs f fs) d)
 
 -- An array's node is a collection.
 array_node_collection : (vs : List Value) → IsCollection (array_node vs)
@@ -170,13 +186,13 @@ node_of_collection compact multiline at_root c t k = absurd (true≢false k)
 
 -- An entry of a hash is valid, with a scalar before the colon or a collection behind the question mark.
 field_of_valid : (compact : Bool) (c : ℕ) (k : Tree) (key value : Node) → (is_scalar k ≡ true → IsImplicitKey (scalar_of k)) → (is_scalar k ≡ false → IsCollection key)
-    → IsNode false (c + 2) key → IsNode false (c + 2) value → IsField c (field_of compact c k key value)
-field_of_valid compact c k key value s p g h = by (is_scalar k) refl
+    → IsNode false (c + 2) key → IsNode false (c + 2) value → IsPair c (field_of compact c k key value)
+field_of_valid compact c k key value s p g h a = by (is_scalar k) refl
   where
     by : (b : Bool) → is_scalar k ≡ b
-        → IsField c (if b then Field.implicit (scalar_of k) (value_of true c value) else Field.explicit (value_of (not compact) c key) [] (value_of (not compact) c value))
-    by true e = (s e, lower_not_compact c value, value_of_valid true c value h)
-    by false e = (collection_as_key (not compact) c key (p e), value_of_valid (not compact) c key g, tt, value_of_valid (not compact) c value h)
+        → IsField c a (if b then Field.implicit (scalar_of k) (value_of true c value) else Field.explicit (value_of (not compact) c key) [] (value_of (not compact) c value))
+    by true e = (s e, lower_not_compact c value, value_of_valid true c value h a)
+    by false e = (collection_as_key (not compact) c key (p e), value_of_valid (not compact) c key g a, tt, value_of_follows (not compact) c value, value_of_valid (not compact) c value h (anchors_behind (value_of (not compact) c key) a))
 
 -- ---- trees
 
@@ -192,15 +208,15 @@ mutual
   node_of_valid compact multiline at_root c t d f h = h
 
   -- The values of an array are valid.
-  values_of_valid : (compact multiline : Bool) (c : ℕ) (ts : Items) → AllDistinct ts → AllFitI64 ts → AllHaveText ts → AreAll (IsValue c) (values_of compact multiline c ts)
+  values_of_valid : (compact multiline : Bool) (c : ℕ) (ts : Items) → AllDistinct ts → AllFitI64 ts → AllHaveText ts → AreAll (IsItem c) (values_of compact multiline c ts)
   values_of_valid compact multiline c no_items d f h = tt
   values_of_valid compact multiline c (item t ts) d f h = (
-    value_of_valid (not compact) c (node_of compact multiline false (c + 2) t) (node_of_valid compact multiline false (c + 2) t d.0 f.0 h.0),
+    (value_of_follows (not compact) c (node_of compact multiline false (c + 2) t), value_of_valid (not compact) c (node_of compact multiline false (c + 2) t) (node_of_valid compact multiline false (c + 2) t d.0 f.0 h.0)),
     values_of_valid compact multiline c ts d.1 f.1 h.1,
   )
 
   -- The entries of a hash are valid.
-  all_fields_valid : (compact multiline : Bool) (c : ℕ) (ps : Pairs) → AllPairsDistinct ps → AllPairsFitI64 ps → AllPairsHaveText ps → AreAll (IsField c) (all_fields_of compact multiline c ps)
+  all_fields_valid : (compact multiline : Bool) (c : ℕ) (ps : Pairs) → AllPairsDistinct ps → AllPairsFitI64 ps → AllPairsHaveText ps → AreAll (IsPair c) (all_fields_of compact multiline c ps)
   all_fields_valid compact multiline c no_pairs d f h = tt
   all_fields_valid compact multiline c (pair k v ps) d f h = (
     field_of_valid compact c k (node_of compact multiline false (c + 2) k) (node_of compact multiline false (c + 2) v)
@@ -210,7 +226,6 @@ mutual
   )
 
 -- The layout is valid.
-pub layout_of_valid : (compact multiline : Bool) (t : Tree) → IsDistinct t → FitsI64 t → HasText t → IsLayout (layout_of compact multiline t)
+pub layout_of_valid : (compact multiline : Bool) (t : Tree) → IsDistinct t → FitsI64 t → HasText t → IsWideLayout (layout_of compact multiline t)
 layout_of_valid compact multiline t d f h =
-    let n = node_of compact multiline true 0 t in
-    record { gap = tt; root = root_of_valid n (node_of_valid compact multiline true 0 t d f h); ending = root_of_ending n }
+    let n = node_of compact multiline true 0 t in (tt, root_of_valid n (node_of_valid compact multiline true 0 t d f h), root_of_ending n)

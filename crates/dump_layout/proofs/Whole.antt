@@ -5,6 +5,7 @@ use Rattle.layout_defs.specs.DumpIsInjective.{CanBeWritten}
 use Rattle.layout_defs.specs.DumpIsLaidOut.{DumpsAreLaidOut}
 use Rattle.layout_defs.specs.DumpsInTurn.{DumpsInTurnAreLaidOut, dump_texts}
 use Rattle.tree_defs.specs.DumpText.{dump_text}
+use Rattle.dump_layout.proofs.Basic.{layout_of_basic}
 use Rattle.dump_layout.proofs.DumpLayout.{layout_of}
 use Rattle.dump_layout.proofs.Texts.{layout_of_spelt}
 use Rattle.dump_layout.proofs.Trees.{layout_of_tree}
@@ -13,7 +14,7 @@ use Rattle.dump_layout.proofs.Validity.{layout_of_valid}
 -- The layout that dump writes is valid, has the text of the dump, and stands for the tree.
 pub dump_is_laid_out : DumpsAreLaidOut
 dump_is_laid_out compact multiline t distinct fits writable =
-    (layout_of compact multiline t, layout_of_valid compact multiline t distinct fits writable.has_text, layout_of_spelt compact multiline t, layout_of_tree compact multiline t)
+    (layout_of compact multiline t, layout_of_valid compact multiline t distinct fits writable.has_text, layout_of_basic compact multiline t, layout_of_spelt compact multiline t, layout_of_tree compact multiline t)
 
 -- The same of several trees, an LF behind each text.
 pub dumps_are_laid_out_in_turn : DumpsInTurnAreLaidOut

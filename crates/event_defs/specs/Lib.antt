@@ -8,6 +8,7 @@ pub mod NoAlias
 pub mod PulledList
 pub mod Push
 pub mod Raw
+pub mod ReadAs
 pub mod Reading
 pub mod Scalar
 pub mod Stream

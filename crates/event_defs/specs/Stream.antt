@@ -2,6 +2,7 @@
 use Rattle.std.specs.Prelude.{◌≡◌, Bool, true, false, List, [], ◌∷◌, ◌++◌, Some, map}
 use Rattle.yaml_chars.specs.Place.{Place}
 use Rattle.token_defs.specs.Token.{Tok, Token}
+use Rattle.token_defs.specs.Toks.{toks}
 use Rattle.event_defs.specs.Event.{Ev}
 use Rattle.event_defs.specs.Raw.{Raw}
 use Rattle.event_defs.specs.Grammar.{Documents, stream_tokens, stream_events}
@@ -64,9 +65,6 @@ abbrev pub taken_places : List Raw → List Place → List Place
 taken_places [] ps = []
 taken_places (e ∷ es) [] = []
 taken_places (e ∷ es) (p ∷ ps) = place_if (has_place e) p (taken_places es ps)
-
-abbrev pub toks : List Token → List Tok
-toks ts = map (λ t. t.tok) ts
 
 abbrev pub events_of : List (Ev × Place) → List Ev
 events_of es = map (λ e. e.0) es

@@ -1,15 +1,18 @@
--- The tokens of a wider layout. YAML 1.2, sections 6.9.2, 7.1, 7.3, 7.4, 8.1, 8.2 and 9.1 to 9.2.
--- As those of a layout; besides, an anchor stands before its node and an alias is a token of its own, an array at its key's column
--- has neither a start nor an end, a first document without `---` has no marker's token, and each further document has one.
+-- The tokens of trees laid out in lines. YAML 1.2, sections 6.9.2, 7.1, 7.3, 7.4, 8.1, 8.2 and 9.1 to 9.2.
+-- An array's entries stand between the start and the end of a block sequence, each behind a `BlockEntry`; a hash's between the start
+-- and the end of a block mapping, a `Key` before each key and a `Value` before each value. `[]` and `{}` are flow tokens.
+-- An anchor stands before its node and an alias is a token of its own, an array at its key's column has neither a start nor an end,
+-- a first document without `---` has no marker's token, and each further document has one.
 use Rattle.std.specs.Prelude.{List, [], ◌∷◌, Bool, true, false}
 use Rattle.token_defs.specs.Token.{Tok, Style}
+use Rattle.tree_defs.specs.Spelling.{spelling}
 use Rattle.layout_defs.specs.WideLayout.{Scalar, Inline, Block, Value, Entries, Field, Fields, Root, Documents, WideLayout}
 use Rattle.laid_tokens.specs.JsonTokens.{json_tokens}
-use Rattle.laid_tokens.specs.LayoutTokens as layout
 
 -- a scalar: its style and its text
 abbrev pub scalar_token : Scalar → Tok
-scalar_token (Scalar.as_before s) = layout.scalar_token s
+scalar_token (Scalar.plain t) = Tok.scalar Style.plain (spelling t)
+scalar_token (Scalar.quoted text) = Tok.scalar Style.double_quoted text
 scalar_token (Scalar.single_quoted text) = Tok.scalar Style.single_quoted text
 
 -- what stands on one line, before the tokens r

@@ -1,12 +1,13 @@
--- What stands behind a layout is appended to its text.
-use Rattle.std.proofs.Common.{◌≡◌, refl, sym, ap, ◌∙◌, ℕ, zero, suc, ◌+◌, List, [], ◌∷◌, ◌++◌, append_assoc}
+-- What stands behind a basic layout is appended to its text.
+use Rattle.std.proofs.Common.{◌≡◌, refl, sym, ap, ◌∙◌, ℕ, zero, suc, ◌+◌, List, [], ◌∷◌, ◌++◌, append_assoc, flat_map}
 use Rattle.std.specs.Prelude.{codes}
 use Rattle.tree_defs.specs.Escapes.{double_quoted}
 use Rattle.tree_defs.specs.Spelling.{spelling}
 use Rattle.tree_defs.specs.Literal.{literal_header}
 use Rattle.layout_defs.specs.Gap.{spaces, GapLine, empty_line, comment_line, spell_gap, next_line, spell_ending}
 use Rattle.layout_defs.specs.BlockLines.{Line, full, blank, spell_line, spell_lines}
-use Rattle.layout_defs.specs.Layout
+use Rattle.layout_defs.specs.WideLayout.{Scalar, plain, quoted, single_quoted, Inline, scalar, empty_array, empty_hash, no_comment, comment, Block, array, hash, Value, Entries, last_entry, entry, Field, implicit, explicit, Fields, last_field, field, Root, Document, doubled, spell_scalar, spell_inline, spell_literal, spell_block, spell_value, spell_entries, spell_field, spell_fields, spell_root, spell_document}
+use Rattle.layout_defs.specs.Layout.{IsBasicBlock, IsBasicValue, AreBasicEntries, IsBasicField, AreBasicFields, IsBasicRoot}
 
 -- the text of f goes before what stands behind it
 abbrev Appends : (List ℕ → List ℕ) → Type 0
@@ -43,16 +44,17 @@ lines_append column (l ∷ ls) a b = ap (λ x. 10 ∷ spell_line column l x) (li
 
 -- ---- nodes
 
-scalar_append : (s : Layout.Scalar) → Appends (Layout.spell_scalar s)
-scalar_append (Layout.plain t) a b = sym (append_assoc (spelling t) a b)
-scalar_append (Layout.quoted text) a b = sym (append_assoc (double_quoted text) a b)
+scalar_append : (s : Scalar) → Appends (spell_scalar s)
+scalar_append (plain t) a b = sym (append_assoc (spelling t) a b)
+scalar_append (quoted text) a b = sym (append_assoc (double_quoted text) a b)
+scalar_append (single_quoted text) a b = ap (λ x. 39 ∷ x) (sym (append_assoc (flat_map doubled text) (39 ∷ a) b))
 
-inline_append : (i : Layout.Inline) → Appends (Layout.spell_inline i)
-inline_append (Layout.scalar s) a b = scalar_append s a b
-inline_append Layout.empty_array a b = refl
-inline_append Layout.empty_hash a b = refl
+inline_append : (i : Inline) → Appends (spell_inline i)
+inline_append (scalar s) a b = scalar_append s a b
+inline_append empty_array a b = refl
+inline_append empty_hash a b = refl
 
-literal_append : (column : ℕ) (text : List ℕ) (ls : List Line) → Appends (Layout.spell_literal column text ls)
+literal_append : (column : ℕ) (text : List ℕ) (ls : List Line) → Appends (spell_literal column text ls)
 literal_append column text ls a b =
     ap (λ x. literal_header text ++ x) (lines_append column ls a b) ∙ sym (append_assoc (literal_header text) (spell_lines column ls a) b)
 
@@ -60,44 +62,51 @@ behind_spaces : (more : ℕ) (f : List ℕ → List ℕ) → Appends f → Appen
 behind_spaces more f h a b = ap (λ x. 32 ∷ spaces more x) (h a b) ∙ ap (λ x. 32 ∷ x) (spaces_append more (f a) b)
 
 mutual
-  block_append : (c : ℕ) (k : Layout.Block) → Appends (Layout.spell_block c k)
-  block_append c (Layout.array es) a b = entries_append c es a b
-  block_append c (Layout.hash fs) a b = fields_append c fs a b
+  block_append : (c : ℕ) (k : Block) → IsBasicBlock k → Appends (spell_block c k)
+  block_append c (array es) h a b = entries_append c es h a b
+  block_append c (hash fs) h a b = fields_append c fs h a b
 
-  value_append : (c : ℕ) (v : Layout.Value) → Appends (Layout.spell_value c v)
-  value_append c (Layout.beside more i) a b = behind_spaces more (Layout.spell_inline i) (inline_append i) a b
-  value_append c (Layout.Value.literal more column text ls) a b = behind_spaces more (Layout.spell_literal column text ls) (literal_append column text ls) a b
-  value_append c (Layout.compact more k) a b = behind_spaces more (Layout.spell_block (c + 2 + more) k) (block_append (c + 2 + more) k) a b
-  value_append c (Layout.below g column k) a b = ap (next_line column g) (block_append column k a b) ∙ next_line_append column g (Layout.spell_block column k a) b
+  value_append : (c : ℕ) (v : Value) → IsBasicValue v → Appends (spell_value c v)
+  value_append c (Value.beside more i no_comment) h a b = behind_spaces more (spell_inline i) (inline_append i) a b
+  value_append c (Value.literal more column text ls) h a b = behind_spaces more (spell_literal column text ls) (literal_append column text ls) a b
+  value_append c (Value.compact more k) h a b = behind_spaces more (spell_block (c + 2 + more) k) (block_append (c + 2 + more) k h) a b
+  value_append c (Value.below no_comment g column k) h a b = ap (next_line column g) (block_append column k h.1 a b) ∙ next_line_append column g (spell_block column k a) b
+  value_append c (Value.beside more i (comment n text)) h a b = absurd h.1
+  value_append c (Value.below (comment n text) g column k) h a b = absurd h.0
+  value_append c (Value.folded more column strips text ls) h a b = absurd h
+  value_append c (Value.json more v) h a b = absurd h
+  value_append c (Value.at_key behind g es) h a b = absurd h
+  value_append c (Value.anchored more name v) h a b = absurd h
+  value_append c (Value.alias more name t) h a b = absurd h
 
-  entries_append : (c : ℕ) (es : Layout.Entries) → Appends (Layout.spell_entries c es)
-  entries_append c (Layout.last_entry v) a b = ap (λ x. 45 ∷ x) (value_append c v a b)
-  entries_append c (Layout.entry v g es) a b =
-      ap (λ x. 45 ∷ Layout.spell_value c v x) (ap (next_line c g) (entries_append c es a b) ∙ next_line_append c g (Layout.spell_entries c es a) b)
-      ∙ ap (λ x. 45 ∷ x) (value_append c v (next_line c g (Layout.spell_entries c es a)) b)
+  entries_append : (c : ℕ) (es : Entries) → AreBasicEntries es → Appends (spell_entries c es)
+  entries_append c (last_entry v) h a b = ap (λ x. 45 ∷ x) (value_append c v h a b)
+  entries_append c (entry v g es) h a b =
+      ap (λ x. 45 ∷ spell_value c v x) (ap (next_line c g) (entries_append c es h.1 a b) ∙ next_line_append c g (spell_entries c es a) b)
+      ∙ ap (λ x. 45 ∷ x) (value_append c v h.0 (next_line c g (spell_entries c es a)) b)
 
-  field_append : (c : ℕ) (f : Layout.Field) → Appends (Layout.spell_field c f)
-  field_append c (Layout.implicit k v) a b =
-      ap (λ x. Layout.spell_scalar k (58 ∷ x)) (value_append c v a b) ∙ scalar_append k (58 ∷ Layout.spell_value c v a) b
-  field_append c (Layout.explicit k g v) a b =
-      ap (λ x. 63 ∷ Layout.spell_value c k x) (ap (λ x. next_line c g (58 ∷ x)) (value_append c v a b) ∙ next_line_append c g (58 ∷ Layout.spell_value c v a) b)
-      ∙ ap (λ x. 63 ∷ x) (value_append c k (next_line c g (58 ∷ Layout.spell_value c v a)) b)
+  field_append : (c : ℕ) (f : Field) → IsBasicField f → Appends (spell_field c f)
+  field_append c (implicit k v) h a b =
+      ap (λ x. spell_scalar k (58 ∷ x)) (value_append c v h.1 a b) ∙ scalar_append k (58 ∷ spell_value c v a) b
+  field_append c (explicit k g v) h a b =
+      ap (λ x. 63 ∷ spell_value c k x) (ap (λ x. next_line c g (58 ∷ x)) (value_append c v h.1 a b) ∙ next_line_append c g (58 ∷ spell_value c v a) b)
+      ∙ ap (λ x. 63 ∷ x) (value_append c k h.0 (next_line c g (58 ∷ spell_value c v a)) b)
 
-  fields_append : (c : ℕ) (fs : Layout.Fields) → Appends (Layout.spell_fields c fs)
-  fields_append c (Layout.last_field f) a b = field_append c f a b
-  fields_append c (Layout.field f g fs) a b =
-      ap (Layout.spell_field c f) (ap (next_line c g) (fields_append c fs a b) ∙ next_line_append c g (Layout.spell_fields c fs a) b)
-      ∙ field_append c f (next_line c g (Layout.spell_fields c fs a)) b
+  fields_append : (c : ℕ) (fs : Fields) → AreBasicFields fs → Appends (spell_fields c fs)
+  fields_append c (last_field f) h a b = field_append c f h a b
+  fields_append c (field f g fs) h a b =
+      ap (spell_field c f) (ap (next_line c g) (fields_append c fs h.1 a b) ∙ next_line_append c g (spell_fields c fs a) b)
+      ∙ field_append c f h.0 (next_line c g (spell_fields c fs a)) b
 
-root_append : (x : Layout.Root) → Appends (Layout.spell_root x)
-root_append (Layout.Root.block column k) a b = ap (spaces column) (block_append column k a b) ∙ spaces_append column (Layout.spell_block column k a) b
-root_append (Layout.Root.inline i) a b = inline_append i a b
-root_append (Layout.Root.literal text ls) a b = literal_append 0 text ls a b
+root_append : (x : Root) → IsBasicRoot x → Appends (spell_root x)
+root_append (Root.block column k) h a b = ap (spaces column) (block_append column k h a b) ∙ spaces_append column (spell_block column k a) b
+root_append (Root.inline i) h a b = inline_append i a b
+root_append (Root.literal text ls) h a b = literal_append 0 text ls a b
 
--- ---- the whole text
+-- ---- a document behind its `---`
 
-pub text_append : (w : Layout.Layout) → Appends (Layout.spell w)
-text_append w a b =
-    ap (λ x. codes "---\n" ++ spell_gap w.gap (Layout.spell_root w.root x)) (ending_append w.ending a b)
-    ∙ ap (λ x. codes "---\n" ++ spell_gap w.gap x) (root_append w.root (spell_ending w.ending a) b)
-    ∙ ap (λ x. codes "---\n" ++ x) (gap_append w.gap (Layout.spell_root w.root (spell_ending w.ending a)) b)
+pub document_append : (d : Document) (behind : List GapLine) → IsBasicRoot d.root → Appends (λ r. codes "---\n" ++ spell_document d (spell_ending behind r))
+document_append d behind h a b =
+    ap (λ x. codes "---\n" ++ spell_document d x) (ending_append behind a b)
+    ∙ ap (λ x. codes "---\n" ++ spell_gap d.gap x) (root_append d.root h (spell_ending behind a) b)
+    ∙ ap (λ x. codes "---\n" ++ x) (gap_append d.gap (spell_root d.root (spell_ending behind a)) b)

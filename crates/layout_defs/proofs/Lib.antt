@@ -5,4 +5,3 @@ mod JsonRows
 mod LayoutRows
 mod Soundness
 mod WideRows
-pub mod Widening

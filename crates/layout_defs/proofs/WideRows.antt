@@ -14,9 +14,8 @@ use Rattle.layout_defs.specs.JsonNumber.{number, no_fraction, no_exponent}
 use Rattle.layout_defs.specs.JsonString.{itself, is_unescaped}
 use Rattle.layout_defs.specs.JsonGap.{space, tab, line_feed}
 use Rattle.layout_defs.specs.Json.{Json, last_element, element, last_member}
-use Rattle.layout_defs.specs.Layout.{plain}
 use Rattle.layout_defs.specs.Anchored.{last_tree}
-use Rattle.layout_defs.specs.WideLayout.{Scalar, as_before, single_quoted, scalar, empty_array, no_comment, comment, Block, array, hash, Value, beside, folded, compact, below, at_key, anchored, last_entry, entry, implicit, explicit, last_field, field, Root, block, inline, Document, last_document, document, WideLayout, IsImplicitKey, IsValue, IsField, AreEntries, AreDocuments, AreLaidOut, anchors_behind, is_on_one_line}
+use Rattle.layout_defs.specs.WideLayout.{Scalar, plain, single_quoted, scalar, empty_array, no_comment, comment, Block, array, hash, Value, beside, folded, compact, below, at_key, anchored, last_entry, entry, implicit, explicit, last_field, field, Root, block, inline, Document, last_document, document, WideLayout, IsImplicitKey, IsValue, IsField, AreEntries, AreDocuments, AreLaidOut, anchors_behind, is_on_one_line}
 use Rattle.tree_defs.specs.Order.{tree_eq}
 use Rattle.layout_defs.proofs.Differ.{differ}
 
@@ -24,10 +23,10 @@ use Rattle.layout_defs.proofs.Differ.{differ}
 
 -- a string as it stands, and an integer
 abbrev word : List ℕ → Scalar
-word w = as_before (plain (Tree.string w))
+word w = plain (Tree.string w)
 
 abbrev integer : ℕ → Scalar
-integer n = as_before (plain (Tree.integer (pos n)))
+integer n = plain (Tree.integer (pos n))
 
 -- a scalar behind one space
 abbrev one : Scalar → Value

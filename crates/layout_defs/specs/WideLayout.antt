@@ -1,27 +1,32 @@
--- More of what a YAML text may be: the layout of trees in lines, and besides single quotes, folded blocks, JSON arrays and objects on
--- one line, arrays at the column of the key that they are the value of, comments behind what they explain, anchors and aliases, a
--- missing `---`, and several documents.
--- YAML 1.2, chapters 6 (indentation, comments, anchors), 7 (single-quoted style, flow collections, aliases), 8 (block styles) and 9 (streams).
+-- Trees laid out in lines: block arrays and hashes at any columns, scalars on one line, literal and folded blocks, gaps of empty and
+-- comment lines between the entries, JSON arrays and objects on one line, arrays at the column of the key that they are the value of,
+-- comments behind what they explain, anchors and aliases, and one document or several, of which the first may lack its `---`.
+-- What was written is kept: columns, spaces, gaps and comments.
+-- YAML 1.2, chapters 6 (indentation, comments, anchors), 7 (scalars on one line, flow collections, aliases), 8 (block styles) and 9 (streams).
 use Rattle.std.specs.Prelude.{◌≡◌, ℕ, ◌+◌, ◌<◌, ◌≤◌, List, [], ◌∷◌, ◌++◌, Bool, true, false, not, ◌||◌, ◌==◌, Some, None, if◌then◌else◌, map, flat_map, length, codes}
 use Rattle.std.specs.List.{list_all}
 use Rattle.tree_defs.specs.Tree.{Tree, Items, Pairs, pairs_of}
 use Rattle.tree_defs.specs.Pairs.{AreDistinct}
-use Rattle.tree_defs.specs.Literal.{is_literal, is_root_literal}
+use Rattle.tree_defs.specs.Typing.{fits_i64, is_real_text}
+use Rattle.tree_defs.specs.Quoting.{is_quoted}
+use Rattle.tree_defs.specs.Escapes.{double_quoted}
+use Rattle.tree_defs.specs.Spelling.{spelling}
+use Rattle.tree_defs.specs.Lines.{lines_of}
+use Rattle.tree_defs.specs.Literal.{is_literal, is_root_literal, literal_header}
 use Rattle.scalar_defs.specs.BlockScalar.{BlockStyle, Chomping, Header, Body, Ending, block_value}
 use Rattle.layout_defs.specs.Marks.{ampersand, asterisk, carriage_return, colon, dash, line_feed, number_sign, question_mark, single_quote, space, tab}
 use Rattle.layout_defs.specs.Gap.{spaces, GapLine, spell_gap, next_line, spell_ending, IsLineText, IsGap, AreEmptyLines}
-use Rattle.layout_defs.specs.BlockLines.{Line, full, blank, spell_line, spell_lines, AreLines}
+use Rattle.layout_defs.specs.BlockLines.{Line, full, blank, contents, spell_line, spell_lines, AreLines}
 use Rattle.layout_defs.specs.Json.{Json, IsJson, levels}
 use Rattle.layout_defs.specs.Json
-use Rattle.layout_defs.specs.Layout
-use Rattle.layout_defs.specs.Layout.{AreLinesOf, spell_literal}
 use Rattle.layout_defs.specs.Anchored.{Anchor, begun, with_end, last_tree, is_name}
 
 -- ---- what was written
 
--- a scalar of a layout, or a string in single quotes
+-- a scalar as it is spelt, a string so only as it stands; or a string in double or in single quotes
 pub data Scalar : Type 0 where
-  as_before : Layout.Scalar → Scalar
+  plain : Tree → Scalar
+  quoted : (text : List ℕ) → Scalar
   single_quoted : (text : List ℕ) → Scalar
 
 -- what stands on one line: a scalar, `[]` or `{}`
@@ -106,7 +111,8 @@ doubled c = if c == single_quote then single_quote ∷ single_quote ∷ [] else 
 
 -- a scalar
 abbrev pub spell_scalar : Scalar → List ℕ → List ℕ
-spell_scalar (as_before s) r = Layout.spell_scalar s r
+spell_scalar (plain t) r = spelling t ++ r
+spell_scalar (quoted text) r = double_quoted text ++ r
 spell_scalar (single_quoted text) r = single_quote ∷ (flat_map doubled text ++ single_quote ∷ r)
 
 -- what stands on one line
@@ -114,6 +120,10 @@ abbrev pub spell_inline : Inline → List ℕ → List ℕ
 spell_inline (scalar s) r = spell_scalar s r
 spell_inline empty_array r = codes "[]" ++ r
 spell_inline empty_hash r = codes "{}" ++ r
+
+-- a literal block: its header, and its lines at a column
+abbrev pub spell_literal : (column : ℕ) → (text : List ℕ) → List Line → List ℕ → List ℕ
+spell_literal column text ls r = literal_header text ++ spell_lines column ls r
 
 -- spaces, `#` and a text
 abbrev pub spell_comment : Comment → List ℕ → List ℕ
@@ -186,7 +196,8 @@ spell w r = spell_mark w.is_marked (spell_documents w.documents r)
 
 -- of a scalar
 abbrev pub scalar_tree : Scalar → Tree
-scalar_tree (as_before s) = Layout.scalar_tree s
+scalar_tree (plain t) = t
+scalar_tree (quoted text) = Tree.string text
 scalar_tree (single_quoted text) = Tree.string text
 
 -- of what stands on one line
@@ -276,9 +287,22 @@ abbrev mutual
 
 -- ---- what makes it valid
 
--- a text in single quotes stays within its line
+-- a scalar that is spelt without quotes: a string only where it isn't quoted, a real only where its text reads as one
+abbrev pub IsPlain : Tree → Type 0
+IsPlain (Tree.real text) = is_real_text text ≡ true
+IsPlain (Tree.integer z) = fits_i64 z ≡ true
+IsPlain (Tree.string text) = is_quoted text ≡ false
+IsPlain (Tree.boolean b) = Unit {0}
+IsPlain (Tree.array ts) = ⊥
+IsPlain (Tree.hash ps) = ⊥
+IsPlain (Tree.alias n) = ⊥
+IsPlain Tree.null = Unit {0}
+IsPlain Tree.bad_value = ⊥
+
+-- any string may stand in double quotes; a text in single quotes stays within its line
 abbrev pub IsScalar : Scalar → Type 0
-IsScalar (as_before s) = Layout.IsScalar s
+IsScalar (plain t) = IsPlain t
+IsScalar (quoted text) = Unit {0}
 IsScalar (single_quoted text) = IsLineText text
 
 -- a scalar is one
@@ -333,6 +357,10 @@ MayBeAnchored (below behind g column b) = Unit {0}
 MayBeAnchored (at_key behind g es) = ⊥
 MayBeAnchored (anchored more name v) = ⊥
 MayBeAnchored (alias more name t) = ⊥
+
+-- the lines of a literal block are those of its text, each as it may be written at the column
+abbrev pub AreLinesOf : (text : List ℕ) → (column : ℕ) → List Line → Type 0
+AreLinesOf text column ls = (contents ls ≡ lines_of text) × AreLines column ls
 
 -- an array or an object
 abbrev pub IsJsonCollection : Json → Type 0

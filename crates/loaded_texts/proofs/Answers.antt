@@ -5,7 +5,8 @@ use Rattle.yaml_chars.specs.Place.{Place}
 use Rattle.token_defs.specs.Token.{Tok, Token}
 use Rattle.yaml_tokens.specs.Fault.{Fault}
 use Rattle.event_defs.specs.Event.{Ev}
-use Rattle.event_defs.specs.Stream.{IsStream, IsPlacedStream, BeginsPlaced, Foretells, NoneBegins, toks, events_of}
+use Rattle.token_defs.specs.Toks.{toks}
+use Rattle.event_defs.specs.Stream.{IsStream, IsPlacedStream, BeginsPlaced, Foretells, NoneBegins, events_of}
 use Rattle.event_defs.specs.PulledList.{Answer, event, fault, given}
 use Rattle.event_defs.specs.Push as run
 use Rattle.event_defs.specs.Push.{Standing, load, load_from, before_stream, between, inside}

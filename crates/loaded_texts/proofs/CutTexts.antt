@@ -5,8 +5,8 @@ use Rattle.tree_defs.specs.Tree.{Tree}
 use Rattle.scalar_defs.specs.Classes.{is_nul}
 use Rattle.scan_scalars.specs.PlainEnds.{has_no_nul}
 use Rattle.scan_cut.proofs.Fetched.{tokens_are_cut}
-use Rattle.scan_cut.proofs.PieceNeeds.{pieces_are_read}
-use Rattle.read_texts.specs.ReadAs.{ReadAs}
+use Rattle.scan_cut.proofs.PiecesRead.{pieces_are_read}
+use Rattle.event_defs.specs.ReadAs.{ReadAs}
 use Rattle.loaded_texts.specs.TextReadAs.{IsReadAs}
 use Rattle.loaded_texts.specs.Cuts.{IsReadOfCut, ReadTextsAreReadOfACut}
 

@@ -6,8 +6,8 @@ use Rattle.laid_tokens.specs.WideTokens.{wide_tokens}
 use Rattle.event_defs.specs.Grammar.{others, end_stream}
 use Rattle.dump_layout.proofs.Whole.{dumps_are_laid_out_in_turn}
 use Rattle.read_texts.proofs.WideDocuments.{tokens_read_as_their_trees}
-use Rattle.scan_layout.proofs.Documents.{nothing_has_its_tokens}
-use Rattle.scan_layout.proofs.InTurn.{layouts_in_turn_have_their_tokens}
+use Rattle.scan_texts.proofs.Documents.{nothing_has_its_tokens}
+use Rattle.scan_texts.proofs.InTurn.{layouts_in_turn_have_their_tokens}
 use Rattle.yaml_chars.specs.Reading.{up_to_nul}
 use Rattle.loaded_texts.specs.TextReadAs.{IsReadAs}
 use Rattle.loaded_texts.specs.Spelled.{IsWithoutNul}

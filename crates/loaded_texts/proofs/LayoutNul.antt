@@ -19,7 +19,7 @@ use Rattle.tree_defs.proofs.RealTexts.{is_real_character, real_text-characters}
 use Rattle.tree_defs.proofs.Unquoted.{unquoted}
 use Rattle.layout_defs.specs.Gap.{spaces, GapLine, empty_line, comment_line, spell_gap_line, spell_gap, next_line, spell_ending, is_line_character, IsGapLine, IsGap, AreEmptyLines}
 use Rattle.layout_defs.specs.BlockLines.{Line, full, blank, contents, spell_lines}
-use Rattle.layout_defs.specs.Layout.{Scalar, plain, quoted, spell_scalar, spell_literal, IsPlain, IsScalar, AreLinesOf}
+use Rattle.layout_defs.specs.WideLayout.{spell_literal, IsPlain, AreLinesOf}
 use Rattle.loaded_texts.specs.Spelled.{IsWithoutNul}
 use Rattle.loaded_texts.proofs.Nul.{character, characters}
 
@@ -73,7 +73,7 @@ integers (negsuc n) r h free =
     let small : n < 2 ^ 63 = ltb-true n (2 ^ 63) h in
     ap (λ l. 45 ∷ l) (digits (decimal (suc n)) r (decimal_is_IsNumeral (suc n) (omega arith)).0.1 free)
 
-unquoted_scalar : (t : Tree) (r : List ℕ) → IsPlain t → IsWithoutNul r → IsWithoutNul (spelling t ++ r)
+pub unquoted_scalar : (t : Tree) (r : List ℕ) → IsPlain t → IsWithoutNul r → IsWithoutNul (spelling t ++ r)
 unquoted_scalar (real s) r h n = characters is_real_character refl s r (real_text-characters s h) n
 unquoted_scalar (integer z) r h n = integers z r h n
 unquoted_scalar (string s) r h n = rw h (text s r (unquoted s h).fit n)
@@ -122,14 +122,8 @@ escapes : (w r : List ℕ) → IsWithoutNul r → IsWithoutNul (written_escapes 
 escapes [] r n = n
 escapes (c ∷ w) r n = rw (append_assoc (written_character c) (written_escapes w) r) (written c (written_escapes w ++ r) (escapes w r n))
 
-in_quotes : (w r : List ℕ) → IsWithoutNul r → IsWithoutNul (double_quoted w ++ r)
+pub in_quotes : (w r : List ℕ) → IsWithoutNul r → IsWithoutNul (double_quoted w ++ r)
 in_quotes w r n = ap (λ l. 34 ∷ l) (rw (append_assoc (written_escapes w) (34 ∷ []) r) (escapes w (34 ∷ r) (ap (λ l. 34 ∷ l) n)))
-
--- ---- a scalar
-
-pub one_scalar : (s : Scalar) (r : List ℕ) → IsScalar s → IsWithoutNul r → IsWithoutNul (spell_scalar s r)
-one_scalar (plain t) r is n = unquoted_scalar t r is n
-one_scalar (quoted w) r is n = in_quotes w r n
 
 -- ---- literal blocks
 

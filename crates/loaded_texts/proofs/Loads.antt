@@ -5,7 +5,8 @@ use Rattle.yaml_chars.specs.Place.{Place}
 use Rattle.tree_defs.specs.Tree.{Tree}
 use Rattle.yaml_tokens.specs.Fault.{Fault}
 use Rattle.event_defs.specs.Event.{Ev}
-use Rattle.event_defs.specs.Stream.{IsStream, toks, events_of}
+use Rattle.token_defs.specs.Toks.{toks}
+use Rattle.event_defs.specs.Stream.{IsStream, events_of}
 use Rattle.scan_model.proofs.Runs.{one_list, not_refused}
 use Rattle.layout_defs.specs.Json.{spell_text, tree_of}
 use Rattle.read_texts.proofs.Loads.{streams_are_loaded, foretold_are_not_refused, streams_are_not_cut}

@@ -5,7 +5,8 @@ use Rattle.yaml_chars.specs.Place.{Place}
 use Rattle.token_defs.specs.Token.{Tok}
 use Rattle.tree_defs.specs.Tree.{Tree}
 use Rattle.event_defs.specs.Event.{Ev}
-use Rattle.event_defs.specs.Stream.{IsStream, toks, events_of}
+use Rattle.token_defs.specs.Toks.{toks}
+use Rattle.event_defs.specs.Stream.{IsStream, events_of}
 use Rattle.event_defs.specs.Nested.{NestedDocument, nested_stream}
 use Rattle.event_defs.specs.Reading.{reading}
 use Rattle.event_defs.specs.Unfinished.{Loader, at_work, noted, new_loader, with_events}
@@ -14,7 +15,7 @@ use Rattle.event_defs.specs.Laws.{HasRead}
 use Rattle.event_defs.proofs.OneByOne.{one_by_one}
 use Rattle.event_defs.proofs.OneReading as grammar
 use Rattle.scan_model.proofs.Runs.{one_list}
-use Rattle.scan_json.specs.JsonScan.{HasToks}
+use Rattle.scan_model.specs.TextTokens.{HasToks}
 use Rattle.loaded_texts.specs.TextReadAs.{IsReadAs}
 use Rattle.loaded_texts.specs.Laws.{TextsAreReadInOneWay}
 

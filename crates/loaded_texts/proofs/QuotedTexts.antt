@@ -5,10 +5,10 @@ use Rattle.token_defs.specs.Token.{Tok}
 use Rattle.laid_tokens.specs.QuotedText.{Quotes, QuotedText, IsQuoted, HasQuotedTokens, spell, quote_of, style_of, body_value}
 use Rattle.laid_tokens.specs.QuotedText as laid
 use Rattle.read_texts.proofs.Quoted.{quoted_read_as_their_string}
-use Rattle.scan_quoted.specs.QuotedScan.{is_some}
-use Rattle.scan_quoted.proofs.NoNul.{has_none}
-use Rattle.scan_quoted.proofs.Values.{parts}
-use Rattle.scan_quoted.proofs.Tokens.{quoted_texts_have_their_tokens}
+use Rattle.scan_texts.specs.QuotedScan.{is_some}
+use Rattle.scan_texts.proofs.QuotedNoNul.{has_none}
+use Rattle.scan_texts.proofs.QuotedValues.{parts}
+use Rattle.scan_texts.proofs.QuotedTokens.{quoted_texts_have_their_tokens}
 use Rattle.loaded_texts.specs.Spelled.{IsWithoutNul}
 use Rattle.loaded_texts.specs.QuotedTexts.{QuotedTextsAreReadAsTheirString, QuotedTextsAreWithoutNul}
 use Rattle.loaded_texts.proofs.Nul.{character, characters}

@@ -4,13 +4,10 @@ use Rattle.std.specs.Prelude.{ℕ, Option}
 use Rattle.std.specs.Str.{chars}
 use Rattle.std.specs.Str.Iter.{chars_steps}
 use Rattle.yaml_scanner.specs.Scanned.{MayBe}
-use Rattle.scan_json.proofs.Whole.{json_text_has_its_tokens}
+use Rattle.scan_texts.proofs.JsonTexts.{json_text_has_its_tokens}
 use Rattle.laid_tokens.specs.JsonTokens.{json_text_tokens}
-use Rattle.laid_tokens.specs.LayoutTokens.{layout_tokens}
-use Rattle.scan_layout.proofs.OneLayout.{layout_text_has_its_tokens}
 use Rattle.read_texts.proofs.JsonReading as json
-use Rattle.read_texts.proofs.LayoutReading as layout
-use Rattle.loaded_texts.specs.Laws.{JsonTextsAreReadAsTheirTree, LayoutTextsAreReadAsTheirTree, CharactersAreTheText, StringsAreTheText}
+use Rattle.loaded_texts.specs.Laws.{JsonTextsAreReadAsTheirTree, CharactersAreTheText, StringsAreTheText}
 
 pub characters_are_the_text : {S : Type 0} (steps : S → Option ℕ → S → Type 0) → CharactersAreTheText steps
 characters_are_the_text steps start all s always came no_nul =
@@ -19,9 +16,6 @@ characters_are_the_text steps start all s always came no_nul =
 
 pub json_texts_are_read : JsonTextsAreReadAsTheirTree
 json_texts_are_read keep_tags w is = record { tokens = json_text_tokens w; has = json_text_has_its_tokens w is; read = json.tokens_read_as_their_tree keep_tags w is }
-
-pub layout_texts_are_read : LayoutTextsAreReadAsTheirTree
-layout_texts_are_read keep_tags w is = record { tokens = layout_tokens w; has = layout_text_has_its_tokens w is; read = layout.tokens_read_as_their_tree keep_tags w is }
 
 pub strings_are_the_text : StringsAreTheText
 strings_are_the_text start bytes s utf8 rest came no_nul scans =

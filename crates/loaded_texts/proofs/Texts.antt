@@ -7,11 +7,12 @@ use Rattle.token_defs.specs.Token.{Tok, Token}
 use Rattle.tree_defs.specs.Tree.{Tree}
 use Rattle.yaml_tokens.specs.Fault.{Fault}
 use Rattle.event_defs.specs.Event.{Ev}
-use Rattle.event_defs.specs.Stream.{IsStream, Foretells, toks, events_of}
+use Rattle.token_defs.specs.Toks.{toks}
+use Rattle.event_defs.specs.Stream.{IsStream, Foretells, events_of}
 use Rattle.event_defs.specs.Unfinished.{new_loader, with_events}
 use Rattle.yaml_scanner.specs.Scanned.{Scanned, ScansIn}
 use Rattle.yaml_parser.specs.Parsed.{read}
-use Rattle.read_texts.specs.ReadAs.{ReadAs, IsAtWork}
+use Rattle.event_defs.specs.ReadAs.{ReadAs, IsAtWork}
 use Rattle.read_texts.proofs.Loads.{streams_are_loaded, foretold_are_not_refused, streams_are_not_cut}
 use Rattle.loaded_texts.specs.TextReadAs.{IsReadAs}
 use Rattle.loaded_texts.specs.TextEvents.{AreFirst}

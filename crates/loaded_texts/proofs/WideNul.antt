@@ -1,5 +1,5 @@
--- No text of a wide layout has a NUL: so none that is laid out in lines.
-use Rattle.std.proofs.Common.{◌≡◌, ℕ, ◌+◌, List, [], ◌∷◌, ◌++◌, Bool, true, false, ◌==◌, refl, ap, append_assoc, subst, flat_map}
+-- No text that is laid out in lines has a NUL.
+use Rattle.std.proofs.Common.{◌≡◌, ℕ, ◌+◌, List, [], ◌∷◌, ◌++◌, Bool, true, false, ◌==◌, refl, ap, append_assoc, flat_map}
 use Rattle.std.specs.Prelude.{codes}
 use Rattle.std.specs.List.{list_all}
 use Rattle.std.specs.Char.{is_ascii_alphanumeric}
@@ -8,11 +8,8 @@ use Rattle.layout_defs.specs.Anchored.{Anchor, begun, is_name}
 use Rattle.layout_defs.specs.Gap.{GapLine, spaces, next_line, spell_gap, spell_ending, IsLineText, is_line_character, IsGap}
 use Rattle.layout_defs.specs.BlockLines.{Line, full, blank, spell_lines}
 use Rattle.layout_defs.specs.Json
-use Rattle.layout_defs.specs.Layout.{spell_literal}
-use Rattle.layout_defs.specs.WideLayout.{Scalar, as_before, single_quoted, Inline, scalar, empty_array, empty_hash, Comment, no_comment, comment, Block, Value, Entries, Field, Fields, Root, Document, Documents, last_document, document, doubled, spell_scalar, spell_inline, spell_comment, folded_header, spell_block, spell_value, spell_entries, spell_field, spell_fields, spell_root, spell_document, spell_documents, spell_mark, anchors_behind, anchors_behind_field, IsScalar, IsInline, IsComment, AreLineTexts, IsBlock, IsValue, AreEntries, IsField, AreFields, IsRoot, IsBehindRoot, AreDocuments}
-use Rattle.layout_defs.proofs.InTurn.{wide_all, wide_text, wide_valid}
+use Rattle.layout_defs.specs.WideLayout.{Scalar, plain, quoted, single_quoted, Inline, scalar, empty_array, empty_hash, Comment, no_comment, comment, Block, Value, Entries, Field, Fields, Root, Document, Documents, last_document, document, doubled, spell_scalar, spell_inline, spell_comment, spell_literal, folded_header, spell_block, spell_value, spell_entries, spell_field, spell_fields, spell_root, spell_document, spell_documents, spell_mark, anchors_behind, anchors_behind_field, IsScalar, IsInline, IsComment, AreLineTexts, IsBlock, IsValue, AreEntries, IsField, AreFields, IsRoot, IsBehindRoot, AreDocuments}
 use Rattle.loaded_texts.specs.Spelled.{IsWithoutNul}
-use Rattle.loaded_texts.specs.Laws.{LayoutTextsAreWithoutNul}
 use Rattle.loaded_texts.specs.WideTexts.{WideTextsAreWithoutNul}
 use Rattle.loaded_texts.proofs.Nul.{character, not_nul, characters}
 use Rattle.loaded_texts.proofs.JsonNul as json
@@ -35,7 +32,8 @@ all_doubled (c ∷ w) r h n =
     rw (append_assoc (doubled c) (flat_map doubled w) r) (one_doubled c (flat_map doubled w ++ r) q.0 (all_doubled w r q.1 n))
 
 one_scalar : (s : Scalar) (r : List ℕ) → IsScalar s → IsWithoutNul r → IsWithoutNul (spell_scalar s r)
-one_scalar (as_before s) r is n = part.one_scalar s r is n
+one_scalar (plain t) r is n = part.unquoted_scalar t r is n
+one_scalar (quoted w) r is n = part.in_quotes w r n
 one_scalar (single_quoted w) r is n = ap (λ l. 39 ∷ l) (all_doubled w (39 ∷ r) is (ap (λ l. 39 ∷ l) n))
 
 inline : (i : Inline) (r : List ℕ) → IsInline i → IsWithoutNul r → IsWithoutNul (spell_inline i r)
@@ -127,6 +125,3 @@ marked false r n = n
 
 pub wide_texts_have_no_nul : WideTextsAreWithoutNul
 wide_texts_have_no_nul w is = marked w.is_marked (spell_documents w.documents []) (documents w.documents is)
-
-pub layout_texts_have_no_nul : LayoutTextsAreWithoutNul
-layout_texts_have_no_nul w is = subst IsWithoutNul (wide_text [] w) (wide_texts_have_no_nul (wide_all [] w) (wide_valid [] w tt is))

@@ -3,8 +3,8 @@ use Rattle.std.specs.Prelude.{ℕ, Bool, List}
 use Rattle.token_defs.specs.Token.{Token}
 use Rattle.tree_defs.specs.Tree.{Tree}
 use Rattle.cut_defs.specs.Cut.{IsCut}
-use Rattle.scan_json.specs.JsonScan.{toks}
-use Rattle.read_texts.specs.ReadAs.{ReadAs}
+use Rattle.token_defs.specs.Toks.{toks}
+use Rattle.event_defs.specs.ReadAs.{ReadAs}
 use Rattle.loaded_texts.specs.TextReadAs.{IsReadAs}
 use Rattle.loaded_texts.specs.Spelled.{IsWithoutNul}
 

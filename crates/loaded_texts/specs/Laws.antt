@@ -10,8 +10,6 @@ use Rattle.yaml_chars.specs.Reading.{HasNoNul, up_to_nul}
 use Rattle.tree_defs.specs.Tree.{Tree}
 use Rattle.tree_defs.specs.DumpText.{dump_text}
 use Rattle.layout_defs.specs.Json.{JsonText, IsWellFormed, spell_text, tree_of}
-use Rattle.layout_defs.specs.Layout as layout
-use Rattle.layout_defs.specs.Layout.{Layout, IsLayout}
 use Rattle.layout_defs.specs.DumpIsInjective.{CanBeWritten}
 use Rattle.yaml_tokens.specs.Fault.{Fault}
 use Rattle.event_defs.specs.Event.{Ev}
@@ -21,7 +19,7 @@ use Rattle.yaml_scanner.specs.Scanned.{Scanned, MayBe, ScansIn, Scans}
 use Rattle.yaml_parser.specs.Parsed.{Parsed, read}
 use Rattle.yaml_parser.specs.Follows.{Follows, Refused, IsWhole, Explains}
 use Rattle.yaml_parser.specs.Loads.{Loads}
-use Rattle.read_texts.specs.ReadAs.{IsAtWork}
+use Rattle.event_defs.specs.ReadAs.{IsAtWork}
 use Rattle.loaded_texts.specs.TextReadAs.{IsReadAs, IsAtStart}
 use Rattle.loaded_texts.specs.TextEvents.{AnswersText}
 use Rattle.loaded_texts.specs.LoadsAs.{LoadsAs}
@@ -86,16 +84,6 @@ JsonTextsAreLoaded {R} takes =
 -- `json_texts_are_without_nul`
 abbrev pub JsonTextsAreWithoutNul : Type 0
 JsonTextsAreWithoutNul = (w : JsonText) → IsWellFormed w → IsWithoutNul (spell_text w)
-
--- ---- layouts
-
--- `layout_texts_are_read_as_their_tree`
-abbrev pub LayoutTextsAreReadAsTheirTree : Type 0
-LayoutTextsAreReadAsTheirTree = (keep_tags : Bool) (w : Layout) → IsLayout w → IsReadAs keep_tags (layout.spell w []) (layout.tree_of w ∷ [])
-
--- `layout_texts_are_without_nul`
-abbrev pub LayoutTextsAreWithoutNul : Type 0
-LayoutTextsAreWithoutNul = (w : Layout) → IsLayout w → IsWithoutNul (layout.spell w [])
 
 -- ---- dumps
 

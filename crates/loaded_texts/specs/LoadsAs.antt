@@ -6,7 +6,7 @@ use Rattle.yaml_tokens.specs.Fault.{Fault}
 use Rattle.event_defs.specs.Event.{Ev}
 use Rattle.event_defs.specs.Unfinished.{new_loader, with_events}
 use Rattle.event_defs.specs.Laws.{HasRead}
-use Rattle.read_texts.specs.ReadAs.{IsAtWork}
+use Rattle.event_defs.specs.ReadAs.{IsAtWork}
 use Rattle.yaml_parser.specs.Loads.{Receives}
 
 -- The receiver took events behind which a loader has just these documents; or the parser wanted memory; or the receiver refused

@@ -5,7 +5,8 @@ use Rattle.token_defs.specs.Token.{Token}
 use Rattle.yaml_tokens.specs.Fault.{Fault}
 use Rattle.event_defs.specs.Event.{Ev}
 use Rattle.event_defs.specs.Nested.{NestedDocument, nested_stream}
-use Rattle.event_defs.specs.Stream.{IsPlacedStream, BeginsPlaced, Foretells, NoneBegins, toks, events_of}
+use Rattle.token_defs.specs.Toks.{toks}
+use Rattle.event_defs.specs.Stream.{IsPlacedStream, BeginsPlaced, Foretells, NoneBegins, events_of}
 use Rattle.scan_model.specs.Run.{HasTokens}
 use Rattle.yaml_scanner.specs.Follows as scan
 use Rattle.yaml_scanner.specs.Follows.{IsReached}

@@ -2,8 +2,8 @@
 use Rattle.std.specs.Prelude.{◌≡◌, ℕ, Bool, true, false, List, [], None}
 use Rattle.token_defs.specs.Token.{Tok}
 use Rattle.tree_defs.specs.Tree.{Tree}
-use Rattle.scan_json.specs.JsonScan.{HasToks}
-use Rattle.read_texts.specs.ReadAs.{ReadAs}
+use Rattle.scan_model.specs.TextTokens.{HasToks}
+use Rattle.event_defs.specs.ReadAs.{ReadAs}
 use Rattle.yaml_parser.specs.Parsed.{Parsed}
 
 -- The text has tokens, these are a stream's, and its events are read as these trees.

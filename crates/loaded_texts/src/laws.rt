@@ -2,7 +2,6 @@
 
 ghost use Rattle.loaded_texts.specs.Laws.{ReadTextsAreNotRefused, ReadTextsHaveNoFaultButMemory, EventsOfReadTextsAreRead, ReadTextsHaveTheirTrees};
 ghost use Rattle.loaded_texts.specs.Laws.{JsonTextsAreReadAsTheirTree, JsonTextsAreWithoutNul, ReadTextsAreLoaded, JsonTextsAreLoaded};
-ghost use Rattle.loaded_texts.specs.Laws.{LayoutTextsAreReadAsTheirTree, LayoutTextsAreWithoutNul};
 ghost use Rattle.loaded_texts.specs.Laws.{TextsAreReadInOneWay, DumpsAreReadAsTheirTree};
 ghost use Rattle.layout_defs.specs.DumpIsInjective.{DumpIsInjective};
 ghost use Rattle.loaded_texts.specs.Laws.{TextsAreAnswered, CharactersAreTheText, StringsAreTheText};
@@ -42,16 +41,6 @@ pub fn json_texts_are_read_as_their_tree()
 /// No JSON text has a NUL.
 pub fn json_texts_are_without_nul()
     ensures { JsonTextsAreWithoutNul }
-{}
-
-/// Each text laid out in lines is read as its tree.
-pub fn layout_texts_are_read_as_their_tree()
-    ensures { LayoutTextsAreReadAsTheirTree }
-{}
-
-/// No text laid out in lines has a NUL.
-pub fn layout_texts_are_without_nul()
-    ensures { LayoutTextsAreWithoutNul }
 {}
 
 /// In each setting, the text that is written for a tree that can be written is read as that one tree.

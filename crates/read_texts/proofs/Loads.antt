@@ -12,7 +12,7 @@ use Rattle.event_defs.specs.Unfinished.{Loader, at_work, noted, refused, new_loa
 use Rattle.event_defs.specs.Laws.{HasRead}
 use Rattle.event_defs.proofs.OneByOne.{one_by_one}
 use Rattle.event_defs.proofs.OneReading.{one_list}
-use Rattle.read_texts.specs.ReadAs.{ReadAs, IsAtWork}
+use Rattle.event_defs.specs.ReadAs.{ReadAs, IsAtWork}
 use Rattle.read_texts.specs.Laws.{ReadStreamsAreLoaded, ReadStreamsAreNotRefused, ForetoldEventsAreNotRefused, ReadStreamsAreNotCut}
 
 loaded : (ds : List NestedDocument) (trees : List Tree) (events : List (Ev × Place)) → reading ds ≡ Ok trees → events_of events ≡ nested_stream ds

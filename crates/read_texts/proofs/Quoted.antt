@@ -6,7 +6,7 @@ use Rattle.laid_tokens.specs.QuotedText.{Quotes, single, double, style_of}
 use Rattle.event_defs.specs.Grammar as grammar
 use Rattle.event_defs.specs.Nested.{nested_scalar, with_node}
 use Rattle.event_defs.specs.Reading.{reading}
-use Rattle.read_texts.specs.ReadAs.{ReadAs}
+use Rattle.event_defs.specs.ReadAs.{ReadAs}
 use Rattle.read_texts.specs.Laws.{QuotedTokensReadAsTheirString}
 use Rattle.read_texts.proofs.WideDerived.{leaf}
 

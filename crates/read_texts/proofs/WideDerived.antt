@@ -2,7 +2,6 @@
 use Rattle.std.proofs.Common.{◌≡◌, ℕ, Bool, true, false, List, [], ◌∷◌, Option, Some, None, refl, ap, ◌∙◌}
 use Rattle.token_defs.specs.Token.{Tok, Style}
 use Rattle.tree_defs.specs.Spelling.{spelling}
-use Rattle.layout_defs.specs.Layout as layout
 use Rattle.layout_defs.specs.Anchored.{Anchor, begun}
 use Rattle.layout_defs.specs.WideLayout.{Scalar, Inline, Block, Value, Entries, Field, Fields, Root, Documents, WideLayout, IsBlock, IsValue, AreEntries, IsField, AreFields, IsRoot, AreDocuments, IsWideLayout, MayFollowMark, MayBeAnchored, IsExplicitKey, anchors_behind, anchors_behind_field}
 use Rattle.laid_tokens.specs.WideTokens.{scalar_token, inline_tokens, block_tokens, value_tokens, entry_tokens, field_tokens, all_field_tokens, root_tokens, documents_tokens, marked, wide_tokens}
@@ -20,8 +19,8 @@ abbrev pub leaf : Style → List ℕ → Content
 leaf style text = grammar.flow (grammar.scalar style text)
 
 abbrev pub scalar : Scalar → Content
-scalar (Scalar.as_before (layout.Scalar.plain t)) = leaf Style.plain (spelling t)
-scalar (Scalar.as_before (layout.Scalar.quoted text)) = leaf Style.double_quoted text
+scalar (Scalar.plain t) = leaf Style.plain (spelling t)
+scalar (Scalar.quoted text) = leaf Style.double_quoted text
 scalar (Scalar.single_quoted text) = leaf Style.single_quoted text
 
 abbrev pub inline : Inline → Content
@@ -122,11 +121,11 @@ content_told None c r = refl
 content_told (Some name) c r = refl
 
 pub scalar_told : (s : Scalar) (r : List Tok) → content_tokens (scalar s) r ≡ scalar_token s ∷ r
-scalar_told (Scalar.as_before (layout.Scalar.plain t)) r = refl
-scalar_told (Scalar.as_before (layout.Scalar.quoted text)) r = refl
+scalar_told (Scalar.plain t) r = refl
+scalar_told (Scalar.quoted text) r = refl
 scalar_told (Scalar.single_quoted text) r = refl
 
-inline_told : (i : Inline) (r : List Tok) → content_tokens (inline i) r ≡ inline_tokens i r
+pub inline_told : (i : Inline) (r : List Tok) → content_tokens (inline i) r ≡ inline_tokens i r
 inline_told (Inline.scalar s) r = scalar_told s r
 inline_told Inline.empty_array r = refl
 inline_told Inline.empty_hash r = refl

@@ -7,8 +7,7 @@ use Rattle.tree_defs.specs.Laws.{IsSpeltPlain}
 use Rattle.tree_defs.proofs.ReadBack.{spelling_back}
 use Rattle.layout_defs.specs.Anchored.{Anchor}
 use Rattle.layout_defs.specs.Json.{Json, IsJson, tree_of}
-use Rattle.layout_defs.specs.Layout as layout
-use Rattle.layout_defs.specs.WideLayout.{Scalar, Inline, Block, Value, Entries, Field, Fields, Root, IsScalar, IsInline, IsBlock, IsValue, AreEntries, IsField, AreFields, IsRoot, scalar_tree, inline_tree, block_tree, value_tree, items, pair_of, pair_list, root_tree, anchors_behind_block, anchors_behind, anchors_behind_entries, anchors_behind_field, anchors_behind_fields}
+use Rattle.layout_defs.specs.WideLayout.{Scalar, Inline, Block, Value, Entries, Field, Fields, Root, IsPlain, IsScalar, IsInline, IsBlock, IsValue, AreEntries, IsField, AreFields, IsRoot, scalar_tree, inline_tree, block_tree, value_tree, items, pair_of, pair_list, root_tree, anchors_behind_block, anchors_behind, anchors_behind_entries, anchors_behind_field, anchors_behind_fields}
 use Rattle.event_defs.specs.Event.{Ev}
 use Rattle.event_defs.specs.Raw.{Raw}
 use Rattle.event_defs.specs.Grammar as grammar
@@ -46,7 +45,7 @@ mapping_starts keep s (Some name) r = refl
 
 -- ---- what stands on one line
 
-spelt_plain : (t : Tree) → layout.IsPlain t → IsSpeltPlain t
+spelt_plain : (t : Tree) → IsPlain t → IsSpeltPlain t
 spelt_plain (Tree.real text) h = h
 spelt_plain (Tree.integer z) h = h
 spelt_plain (Tree.string text) h = rw h refl
@@ -59,8 +58,8 @@ spelt_plain Tree.bad_value h = absurd h
 
 scalar_reads : (keep : Bool) (s : Names) (a : List Anchor) (read : Anchors) (o : Option (List ℕ)) (x : Scalar) → IsScalar x → Agrees s a read
     → ReadsNode keep s a (ended_by o (scalar_tree x) (begun_by o a)) read (λ r. node_events (grammar.block_content (properties o) (scalar x)) r) (scalar_tree x)
-scalar_reads keep s a read o (Scalar.as_before (layout.Scalar.plain t)) is h = leaf_reads keep s a read o Style.plain (spelling t) t (spelling_back t (spelt_plain t is)) h
-scalar_reads keep s a read o (Scalar.as_before (layout.Scalar.quoted text)) is h = leaf_reads keep s a read o Style.double_quoted text (Tree.string text) refl h
+scalar_reads keep s a read o (Scalar.plain t) is h = leaf_reads keep s a read o Style.plain (spelling t) t (spelling_back t (spelt_plain t is)) h
+scalar_reads keep s a read o (Scalar.quoted text) is h = leaf_reads keep s a read o Style.double_quoted text (Tree.string text) refl h
 scalar_reads keep s a read o (Scalar.single_quoted text) is h = leaf_reads keep s a read o Style.single_quoted text (Tree.string text) refl h
 
 inline_reads : (keep : Bool) (s : Names) (a : List Anchor) (read : Anchors) (o : Option (List ℕ)) (i : Inline) → IsInline i → Agrees s a read

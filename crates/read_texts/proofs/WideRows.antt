@@ -5,7 +5,6 @@ use Rattle.token_defs.specs.Token.{Style}
 use Rattle.tree_defs.specs.Tree.{Tree}
 use Rattle.tree_defs.specs.Escapes.{written_character}
 use Rattle.tree_defs.specs.Typing.{typing, is_decimal}
-use Rattle.layout_defs.specs.Layout as layout
 use Rattle.layout_defs.specs.WideLayout.{Scalar, Inline, Block, Value, Entries, Field, Fields, Root, Document, Documents, WideLayout, no_comment, spell, IsWideLayout, trees_of}
 use Rattle.laid_tokens.specs.WideTokens.{wide_tokens}
 use Rattle.event_defs.specs.Event.{Ev}
@@ -18,7 +17,7 @@ abbrev single : List ℕ → Inline
 single text = Inline.scalar (Scalar.single_quoted text)
 
 abbrev number : Tree → Inline
-number t = Inline.scalar (Scalar.as_before (layout.Scalar.plain t))
+number t = Inline.scalar (Scalar.plain t)
 
 -- a value behind one space
 abbrev beside : Inline → Value
@@ -36,7 +35,7 @@ abbrev two_documents : WideLayout
 two_documents = record {
   is_marked = false;
   documents = Documents.document
-      (document (Root.block 0 (Block.hash (Fields.last_field (Field.implicit (Scalar.as_before (layout.Scalar.quoted (codes "k"))) (Value.at_key no_comment [] named_entries)))))) []
+      (document (Root.block 0 (Block.hash (Fields.last_field (Field.implicit (Scalar.quoted (codes "k")) (Value.at_key no_comment [] named_entries)))))) []
       (Documents.last_document (document (Root.block 0 (Block.array named_entries))) []);
 }
 

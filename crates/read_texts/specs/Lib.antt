@@ -1,4 +1,3 @@
 pub mod JsonNest
 pub mod LayoutNest
 pub mod Laws
-pub mod ReadAs

@@ -4,8 +4,7 @@
 ghost use Rattle.read_texts.specs.Laws.{ReadStreamsAreLoaded, ReadStreamsAreNotRefused, ForetoldEventsAreNotRefused, ReadStreamsAreNotCut};
 ghost use Rattle.read_texts.specs.Laws.{JsonTokensAreAStream, JsonNumbersStandForTheirTrees, JsonDocumentsReadAsTheirTrees};
 ghost use Rattle.read_texts.specs.Laws.{JsonTokensReadAsTheirTree, JsonEventsAreLoaded};
-ghost use Rattle.read_texts.specs.Laws.{LayoutTokensAreAStream, LayoutDocumentsReadAsTheirTrees, LayoutTokensReadAsTheirTree, LayoutEventsAreLoaded};
-ghost use Rattle.read_texts.specs.Laws.{WideTokensReadAsTheirTrees, WideEventsAreLoaded, QuotedTokensReadAsTheirString};
+ghost use Rattle.read_texts.specs.Laws.{WideTokensReadAsTheirTrees, WideEventsAreLoaded, LayoutTokensAreAStream, LayoutDocumentsReadAsTheirTrees, QuotedTokensReadAsTheirString};
 
 /// A loader to which the events of a stream are handed, at any places, has the trees that they are read as for documents;
 /// nothing is open and no key was noted.
@@ -55,27 +54,6 @@ pub fn json_events_are_loaded()
     ensures { JsonEventsAreLoaded }
 {}
 
-/// The tokens of a layout are a stream of the token grammar, whose events are those of its one nested document.
-pub fn layout_tokens_are_a_stream()
-    ensures { LayoutTokensAreAStream }
-{}
-
-/// That document is read as the layout's tree, so no key comes twice and each plain scalar stands for what was spelt.
-pub fn layout_documents_read_as_their_trees()
-    ensures { LayoutDocumentsReadAsTheirTrees }
-{}
-
-/// So the tokens of a layout are a stream, and are read as its tree.
-pub fn layout_tokens_read_as_their_tree()
-    ensures { LayoutTokensReadAsTheirTree }
-{}
-
-/// A loader to which the stream's events are handed, at any places, has the layout's tree as its one document; nothing is
-/// open and no key was noted.
-pub fn layout_events_are_loaded()
-    ensures { LayoutEventsAreLoaded }
-{}
-
 /// The tokens of a wide layout are a stream of the token grammar, whose events are read as the text's trees, one a
 /// document: anchors are numbered over the stream, and an alias is read as the tree that it stands for.
 pub fn wide_tokens_read_as_their_trees()
@@ -86,6 +64,16 @@ pub fn wide_tokens_read_as_their_trees()
 /// and no key was noted.
 pub fn wide_events_are_loaded()
     ensures { WideEventsAreLoaded }
+{}
+
+/// The events of a basic layout are those of its one nested document: no node has an anchor.
+pub fn layout_tokens_are_a_stream()
+    ensures { LayoutTokensAreAStream }
+{}
+
+/// That document is read as the layout's tree, so no key comes twice and each plain scalar stands for what was spelt.
+pub fn layout_documents_read_as_their_trees()
+    ensures { LayoutDocumentsReadAsTheirTrees }
 {}
 
 /// The tokens of a text that is one quoted scalar are a stream, and are read as a string, whatever it could stand for

@@ -8,3 +8,4 @@ pub mod Block
 pub mod Document
 pub mod Fetch
 pub mod Run
+pub mod TextTokens

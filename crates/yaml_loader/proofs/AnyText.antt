@@ -6,7 +6,8 @@ use Rattle.yaml_chars.specs.Place.{Place}
 use Rattle.token_defs.specs.Token.{Token}
 use Rattle.tree_defs.specs.Tree.{Tree}
 use Rattle.event_defs.specs.Event.{Ev}
-use Rattle.event_defs.specs.Stream.{BeginsPlaced, events_of, toks}
+use Rattle.token_defs.specs.Toks.{toks}
+use Rattle.event_defs.specs.Stream.{BeginsPlaced, events_of}
 use Rattle.event_defs.specs.Reading.{reading}
 use Rattle.event_defs.specs.Unfinished.{Loader, at_work, noted, new_loader, with_event_at, with_events, refused_at}
 use Rattle.event_defs.specs.Unfinished as unfinished

@@ -10,9 +10,8 @@ use Rattle.yaml_chars.specs.Reading.{HasNoNul, up_to_nul, Begins}
 use Rattle.yaml_chars.proofs.SpelledLemmas.{Chars-spelled}
 use Rattle.tree_defs.specs.Tree.{Tree}
 use Rattle.layout_defs.specs.Json.{spell_text, tree_of}
-use Rattle.layout_defs.specs.Layout as layout
 use Rattle.layout_defs.specs.WideLayout as wide
-use Rattle.event_defs.specs.Stream.{toks}
+use Rattle.token_defs.specs.Toks.{toks}
 use Rattle.yaml_tokens.specs.Fault.{Fault}
 use Rattle.yaml_tree.specs.View.{items_view}
 use Rattle.yaml_tree.specs.declared.yaml.Yaml.{Yaml}
@@ -25,9 +24,9 @@ use Rattle.loaded_texts.proofs.CutTexts.{of_a_cut, none_before}
 use Rattle.loaded_texts.proofs.Loads.{memory_is_wanted}
 use Rattle.loaded_texts.proofs.Answers.{nested_is_stream}
 use Rattle.loaded_texts.proofs.OneReading.{one_reading}
-use Rattle.loaded_texts.proofs.Spelled.{characters_are_the_text, json_texts_are_read, layout_texts_are_read}
+use Rattle.loaded_texts.proofs.Spelled.{characters_are_the_text, json_texts_are_read}
 use Rattle.loaded_texts.proofs.JsonNul.{json_texts_have_no_nul}
-use Rattle.loaded_texts.proofs.WideNul.{layout_texts_have_no_nul, wide_texts_have_no_nul}
+use Rattle.loaded_texts.proofs.WideNul.{wide_texts_have_no_nul}
 use Rattle.loaded_texts.proofs.WideTexts.{wide_texts_are_read}
 use Rattle.loaded_texts.proofs.QuotedTexts.{quoted_texts_are_read, quoted_texts_have_no_nul}
 use Rattle.yaml_loader.specs.TextLoads.{LoadsText, LoadsOnly, OfTexts, OfText, OfGiven, OfJson, OfLayout, OfWideLayout, OfQuoted, Answers}
@@ -75,13 +74,13 @@ of_one spelt text t tree P free reads e same h = subst (λ u. P (u ∷ [])) same
 pub of_json : (text : List ℕ) (P : List Tree → Type 0) → OfText (up_to_nul text) P → OfJson text P
 of_json text P h tree (w, is, e, same) = of_one (spell_text w) text (tree_of w.value) tree P (json_texts_have_no_nul w is) (json_texts_are_read false w is) e same h
 
-pub of_layout : (text : List ℕ) (P : List Tree → Type 0) → OfText (up_to_nul text) P → OfLayout text P
-of_layout text P h tree (w, is, e, same) = of_one (layout.spell w []) text (layout.tree_of w) tree P (layout_texts_have_no_nul w is) (layout_texts_are_read false w is) e same h
-
 pub of_wide_layout : (text : List ℕ) (P : List Tree → Type 0) → OfText (up_to_nul text) P → OfWideLayout text P
 of_wide_layout text P h trees (w, is, e, same) =
     let stand = wide.trees_of w.documents in
     subst P same (h stand (subst (λ a. IsReadAs false a stand) (sym (wide_texts_have_no_nul w is) ∙ ap up_to_nul e) (wide_texts_are_read false w is)))
+
+pub of_layout : (text : List ℕ) (P : List Tree → Type 0) → OfText (up_to_nul text) P → OfLayout text P
+of_layout text P h tree (w, is, basic, e, same) = of_wide_layout text P h (tree ∷ []) (w, is, e, same)
 
 pub of_quoted : (text : List ℕ) (P : List Tree → Type 0) → OfText (up_to_nul text) P → OfQuoted text P
 of_quoted text P h value is =
@@ -94,13 +93,13 @@ of_first spelt text t tree P reads e same h = subst (λ u. P (u ∷ [])) same (h
 pub of_first_json : (text : List ℕ) (P : List Tree → Type 0) → OfText text P → OfJson text P
 of_first_json text P h tree (w, is, e, same) = of_first (spell_text w) text (tree_of w.value) tree P (json_texts_are_read false w is) e same h
 
-pub of_first_layout : (text : List ℕ) (P : List Tree → Type 0) → OfText text P → OfLayout text P
-of_first_layout text P h tree (w, is, e, same) = of_first (layout.spell w []) text (layout.tree_of w) tree P (layout_texts_are_read false w is) e same h
-
 pub of_first_wide_layout : (text : List ℕ) (P : List Tree → Type 0) → OfText text P → OfWideLayout text P
 of_first_wide_layout text P h trees (w, is, e, same) =
     let stand = wide.trees_of w.documents in
     subst P same (h stand (subst (λ a. IsReadAs false a stand) e (wide_texts_are_read false w is)))
+
+pub of_first_layout : (text : List ℕ) (P : List Tree → Type 0) → OfText text P → OfLayout text P
+of_first_layout text P h tree (w, is, basic, e, same) = of_first_wide_layout text P h (tree ∷ []) (w, is, e, same)
 
 pub of_first_quoted : (text : List ℕ) (P : List Tree → Type 0) → OfText text P → OfQuoted text P
 of_first_quoted text P h value is = h (Tree.string value ∷ []) (quoted_texts_are_read false text value is)
