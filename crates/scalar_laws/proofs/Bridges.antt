@@ -25,7 +25,7 @@ no_third true false = refl
 no_third false true = refl
 no_third false false = refl
 
-and_false : (b : Bool) → (b && false) ≡ false
+pub and_false : (b : Bool) → (b && false) ≡ false
 and_false true = refl
 and_false false = refl
 
@@ -124,7 +124,7 @@ same_flow c = or_five (c == 44) (c == 91) (c == 93) (c == 123) (c == 125)
 
 -- ---- classes of tags
 
-or_false : (b : Bool) → (b || false) ≡ b
+pub or_false : (b : Bool) → (b || false) ≡ b
 or_false true = refl
 or_false false = refl
 

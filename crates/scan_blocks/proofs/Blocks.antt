@@ -17,9 +17,9 @@ use Rattle.cut_defs.specs.BlockPiece.{BlockRead, first_content, past_spaces, pla
 use Rattle.scalar_model.specs.Machine.{Read, past, after}
 use Rattle.scalar_model.specs.Space.{linebreak}
 use Rattle.scalar_model.specs.Block.{Header, Column, Lines, lines_from, indent_from, content, header, Block, block, behind_header, is_open, tail, empty_text}
+use Rattle.scalar_laws.proofs.Bridges.{and_false}
 use Rattle.scan_blocks.specs.HeaderEnds.{indicator_of, chomping_of, digit_or_zero, indicators_of, is_in_line, along, read_header}
 use Rattle.scan_blocks.specs.BlockScan.{collection_by, digit_by, is_literal, without_spaces, further_place, IsRead, read, shallow, is_none, is_tabbed, is_shallow}
-use Rattle.scan_blocks.proofs.Bridges.{and_false}
 use Rattle.scan_blocks.proofs.Written.{Break, feed, carriage, both, Line, put, spell, texts, Fits, AreLines}
 use Rattle.scan_blocks.proofs.Margins.{behind_break, behind_line, behind_lines, at, before, margin_passes, last_passes, col_along}
 use Rattle.scan_blocks.proofs.First.{content_is}

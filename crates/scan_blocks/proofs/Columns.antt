@@ -1,14 +1,15 @@
 -- Which lines a block scalar's text goes up to, and that the lines behind it don't change its content column.
 use Rattle.std.proofs.Common.{◌≡◌, ◌≤◌, ◌⊎◌, inl, inr, ℕ, zero, suc, List, [], ◌∷◌, ◌++◌, Bool, true, false, ◌&&◌, not, ◌==◌, if◌then◌else◌, max, nat_le, length, Some, None, refl, ap, sym, ◌∙◌, append-nil, arith}
 use Rattle.std.specs.List.{list_all}
-use Rattle.std.proofs.lemmas.Bool.{and_parts}
+use Rattle.std.proofs.lemmas.Bool.{and_parts, not-false}
 use Rattle.std.proofs.lemmas.Bool.Decides.{nat_tests}
 use Rattle.scalar_defs.specs.Classes as classes
 use Rattle.scalar_defs.specs.Classes.{is_document_marker}
 use Rattle.scalar_defs.specs.BlockScalar.{empty_row, is_spaces, leading_spaces, deepest_start, is_empty_line, is_content_line, row_of, is_outside, is_further_text}
+use Rattle.scalar_laws.proofs.Bridges.{same_break}
 use Rattle.scan_blocks.specs.HeaderEnds.{is_in_line, ends_line}
 use Rattle.scan_blocks.specs.BlockScan.{is_some}
-use Rattle.scan_blocks.proofs.Bridges.{same_break, first_inner, not_false}
+use Rattle.scan_blocks.proofs.InLine.{first_inner}
 use Rattle.scan_blocks.proofs.Written.{Line, put, spell, texts, AreLines}
 use Rattle.scan_blocks.proofs.Markers.{line_marker}
 use Rattle.scan_blocks.proofs.Rows.{break_ends}
@@ -85,7 +86,7 @@ false_true : false ≡ true → ⊥
 false_true e = cc
 
 last_fails : (a b m : Bool) → a ≡ true → b ≡ true → ((a && b) && not m) ≡ false → m ≡ true
-last_fails a b m e f h = let n : not m ≡ false = rw (e, f) at h in not_false m n
+last_fails a b m e f h = let n : not m ≡ false = rw (e, f) at h in not-false m n
 
 none_marked : (w y : List ℕ) → NoRow 0 w → ends_line y ≡ true → is_further_text 0 (w ++ y) ≡ true
 none_marked [] y z ends = absurd (false_true (sym z.no_empty))

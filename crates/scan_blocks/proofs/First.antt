@@ -10,7 +10,7 @@ use Rattle.scalar_model.specs.Block.{Column, First, first_indent, indent_from, c
 use Rattle.scan_blocks.specs.HeaderEnds.{is_in_line, along}
 use Rattle.scan_blocks.specs.BlockScan.{collection_by, digit_by}
 use Rattle.scan_blocks.specs.Laws.{FirstLinesGiveTheColumn}
-use Rattle.scan_blocks.proofs.Bridges.{first_inner}
+use Rattle.scan_blocks.proofs.InLine.{first_inner}
 use Rattle.scan_blocks.proofs.Written.{Break, feed, carriage, both, Line, put, spell, texts, Fits, AreLines, Lined, lined, split_spell}
 use Rattle.scan_blocks.proofs.Margins.{behind_break, behind_line, at, col_along, empty_passes, last_passes}
 

@@ -1,6 +1,6 @@
 -- Further text ends a block scalar.
 use Rattle.std.proofs.Common.{◌≡◌, ◌≤◌, ◌<◌, ℕ, zero, suc, ◌+◌, List, [], ◌∷◌, Bool, true, false, ◌&&◌, not, ◌==◌, nat_lt, Ok, refl, ap, sym, ◌∙◌, arith}
-use Rattle.std.proofs.lemmas.Bool.{and_parts, eqb-true, ne_eqb, lt-ltb}
+use Rattle.std.proofs.lemmas.Bool.{and_parts, eqb-true, ne_eqb, lt-ltb, not-true}
 use Rattle.std.proofs.lemmas.Bool.Decides.{nat_tests}
 use Rattle.yaml_chars.specs.Place.{Place}
 use Rattle.yaml_chars.specs.Class.{is_break}
@@ -11,8 +11,8 @@ use Rattle.cut_defs.specs.Text.{place_past}
 use Rattle.cut_defs.specs.BlockPiece.{past_spaces}
 use Rattle.scalar_model.specs.Machine.{past}
 use Rattle.scalar_model.specs.Block.{indent_from, Lines, begins}
+use Rattle.scalar_laws.proofs.Bridges.{same_break}
 use Rattle.scan_blocks.specs.BlockScan.{without_spaces}
-use Rattle.scan_blocks.proofs.Bridges.{same_break, not_true}
 use Rattle.scan_blocks.proofs.Margins.{at}
 use Rattle.scan_blocks.proofs.Markers.{marker_here}
 use Rattle.scan_blocks.proofs.Places.{space_past}
@@ -82,7 +82,7 @@ outside (suc n) column (c ∷ r) p col h = by (c == 32) refl (λ x. outside n co
     by false e go =
         let solid : (not (classes.is_break c) && not (classes.is_nul c)) ≡ true = rw e at h in
         let q = and_parts (not (classes.is_break c)) (not (classes.is_nul c)) solid in
-        here_outside column c r p e (sym (same_break c) ∙ not_true _ q.0) (omega (arith, col)) (before_column column (c ∷ r) p.col (omega (arith, col)))
+        here_outside column c r p e (sym (same_break c) ∙ not-true _ q.0) (omega (arith, col)) (before_column column (c ∷ r) p.col (omega (arith, col)))
 
 -- a document marker's first character
 record Mark (c : ℕ) : Type 0 where

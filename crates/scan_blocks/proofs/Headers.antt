@@ -19,9 +19,10 @@ use Rattle.scalar_model.specs.declared.context.Whitespace.{Whitespace}
 use Rattle.scalar_model.specs.Machine.{Read, past, after, skip_while}
 use Rattle.scalar_model.specs.Space.{space_from, space, linebreak, is_line}
 use Rattle.scalar_model.specs.Block.{chomping, increment, indicators, late_chomping, with_chomping, header_break, header_end, header, with_indicators}
+use Rattle.scalar_laws.proofs.Bridges.{same_break, same_blank}
 use Rattle.scan_blocks.specs.HeaderEnds.{indicator_of, chomping_of, indicators_of, is_in_line, ends_line, along, is_sign, has_zero, EndsAs, reads, tabbed, zero_digit, comment, no_header}
 use Rattle.scan_blocks.specs.Laws.{HeadersEndAsTheirLineSays}
-use Rattle.scan_blocks.proofs.Bridges.{same_break, same_blank, first_inner}
+use Rattle.scan_blocks.proofs.InLine.{first_inner}
 
 -- ---- the rest of a line
 

@@ -1,4 +1,4 @@
-mod Bridges
+mod InLine
 pub mod Headers
 pub mod Written
 pub mod Margins

@@ -5,8 +5,8 @@ use Rattle.yaml_chars.specs.Class.{is_blank, is_break}
 use Rattle.scalar_defs.specs.Classes as classes
 use Rattle.scalar_defs.specs.Classes.{is_document_marker}
 use Rattle.scalar_model.specs.Machine.{is_marker, at_marker}
+use Rattle.scalar_laws.proofs.Bridges.{and_false}
 use Rattle.scan_blocks.specs.HeaderEnds.{ends_line}
-use Rattle.scan_blocks.proofs.Bridges.{and_false}
 
 -- the model looks at four characters, and at NUL behind the end
 pub marker_here : (col : ℕ) (a : List ℕ) → at_marker col a ≡ ((col == 0) && is_document_marker a)

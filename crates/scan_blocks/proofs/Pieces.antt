@@ -1,7 +1,7 @@
 -- Each piece that is a block scalar is read as it.
 use Rattle.std.proofs.Common.{◌≡◌, ℕ, zero, suc, List, [], ◌∷◌, ◌++◌, Bool, true, false, ◌&&◌, not, ◌==◌, max, slice_index, Option, Some, None, refl, ap, sym, ◌∙◌, append-nil, append_assoc, arith}
 use Rattle.std.specs.List.{list_all}
-use Rattle.std.proofs.lemmas.Bool.{and_parts}
+use Rattle.std.proofs.lemmas.Bool.{and_parts, not-true}
 use Rattle.std.proofs.lemmas.Bool.Decides.{nat_tests}
 use Rattle.yaml_chars.specs.Place.{Place}
 use Rattle.scalar_defs.specs.Classes as classes
@@ -15,7 +15,7 @@ use Rattle.scalar_model.specs.Block.{block, indent_from}
 use Rattle.scan_blocks.specs.HeaderEnds.{indicator_of, digit_or_zero, is_in_line}
 use Rattle.scan_blocks.specs.BlockScan.{collection_by, digit_by, is_literal, is_some, IsRead, tabbed, is_tabbed, is_single}
 use Rattle.scan_blocks.specs.Laws.{BlockPiecesAreRead}
-use Rattle.scan_blocks.proofs.Bridges.{first_inner, not_true}
+use Rattle.scan_blocks.proofs.InLine.{first_inner}
 use Rattle.scan_blocks.proofs.Written.{Break, feed, carriage, both, Line, put, spell, texts, Fits, AreLines, Lined, lined, split_spell}
 use Rattle.scan_blocks.proofs.Margins.{at, behind_line, behind_lines}
 use Rattle.scan_blocks.proofs.Places.{spell_more}
@@ -214,7 +214,7 @@ none_some x e = cc
 
 pub some_next : (d : ℕ) (n : List ℕ) → list_all is_some (d ∷ n) ≡ true → is_at_end (d ∷ n) ≡ false
 unfolding classes.is_nul
-some_next d n h = not_true _ ((and_parts (not (d == 0)) (list_all is_some n) h).0)
+some_next d n h = not-true _ ((and_parts (not (d == 0)) (list_all is_some n) h).0)
 
 module _ (indent : ℕ) (p : Place) (b : BlockRead) where
   abbrev pub Read_as : List ℕ → List ℕ → Type 0

@@ -9,8 +9,9 @@ use Rattle.cut_defs.specs.Text as cut
 use Rattle.cut_defs.specs.Text.{place_past, place_behind}
 use Rattle.cut_defs.specs.BlockPiece.{first_content}
 use Rattle.scalar_model.specs.Machine.{past, past_break}
+use Rattle.scalar_laws.proofs.Bridges.{same_break}
 use Rattle.scan_blocks.specs.HeaderEnds.{is_in_line, along}
-use Rattle.scan_blocks.proofs.Bridges.{same_break, first_inner}
+use Rattle.scan_blocks.proofs.InLine.{first_inner}
 use Rattle.scan_blocks.proofs.Written.{Break, feed, carriage, both, Line, put, spell, Fits, AreLines}
 use Rattle.scan_blocks.proofs.Margins.{behind_break, behind_line, behind_lines}
 

@@ -1,6 +1,6 @@
 -- The lines of a block scalar are read row by row.
 use Rattle.std.proofs.Common.{◌≡◌, ◌≤◌, ℕ, zero, suc, ◌+◌, List, [], ◌∷◌, ◌++◌, Bool, true, false, ◌&&◌, not, ◌==◌, nat_lt, nat_le, length, drop, Option, Some, None, Result, Ok, refl, ap, sym, ◌∙◌, append-nil, append_assoc, arith}
-use Rattle.std.proofs.lemmas.Bool.{and_parts, eq-eqb, lt-ltb, le-ltb}
+use Rattle.std.proofs.lemmas.Bool.{and_parts, eq-eqb, lt-ltb, le-ltb, not-true}
 use Rattle.std.proofs.lemmas.Bool.Decides.{nat_tests}
 use Rattle.yaml_chars.specs.Place.{Place}
 use Rattle.yaml_chars.specs.Class.{is_break, is_blank}
@@ -10,8 +10,9 @@ use Rattle.scalar_defs.specs.Classes.{is_document_marker}
 use Rattle.scalar_defs.specs.BlockScalar.{Row, empty_row, content_row, is_spaces, leading_spaces, is_empty_line, is_content_line, row_of, rows_of, put_row}
 use Rattle.scalar_model.specs.Machine.{Read, past, at_marker}
 use Rattle.scalar_model.specs.Block.{Column, indent_from, Lines, State, margin, line, lines_from, between, begins, begun, with_char}
+use Rattle.scalar_laws.proofs.Bridges.{same_break, and_false}
 use Rattle.scan_blocks.specs.HeaderEnds.{is_in_line, ends_line, along}
-use Rattle.scan_blocks.proofs.Bridges.{same_break, first_inner, and_false, not_true}
+use Rattle.scan_blocks.proofs.InLine.{first_inner}
 use Rattle.scan_blocks.proofs.Written.{Break, feed, carriage, both, Line, put, spell, texts, Fits, AreLines}
 use Rattle.scan_blocks.proofs.Margins.{behind_break, behind_line, behind_lines, at, before, margin_passes, empty_passes, last_passes}
 use Rattle.scan_blocks.proofs.Markers.{marker_in_line}
@@ -168,7 +169,7 @@ row_is column w r h = by (is_spaces w && nat_le (length w) column) ((nat_le colu
         let s = and_parts (nat_le column (leading_spaces w)) (nat_le (suc column) (length w)) q.0 in
         let one : Some (content_row (drop column w)) ≡ Some r = rw (f, g) at h in
         let same : content_row (drop column w) ≡ r = cc in
-        rw (← same) (is_content (within column (leading_spaces w) s.0) (within (suc column) (length w) s.1) (not_true _ q.1))
+        rw (← same) (is_content (within column (leading_spaces w) s.0) (within (suc column) (length w) s.1) (not-true _ q.1))
     by false false f g = let no : None ≡ Some r = rw (f, g) at h in cc
 
 module _ (literal : Bool) (column : ℕ) where

@@ -4,9 +4,9 @@ use Rattle.yaml_chars.specs.Class.{is_blank}
 use Rattle.scalar_defs.specs.BlockScalar as defs
 use Rattle.scalar_defs.specs.BlockScalar.{BlockStyle, literal, folded, strip, clip, keep, Row, empty_row, content_row, starts_blank, breaks, between_lines, text_behind, text_of, has_content, empty_behind, with_content, nothing_before_text, nothing_before_end}
 use Rattle.scalar_model.specs.Block.{Lines, between, tail, empty_text}
+use Rattle.scalar_laws.proofs.Bridges.{same_blank}
 use Rattle.scan_blocks.specs.HeaderEnds.{chomping_of}
 use Rattle.scan_blocks.specs.BlockScan.{is_literal}
-use Rattle.scan_blocks.proofs.Bridges.{same_blank}
 use Rattle.scan_blocks.proofs.Rows.{behind_row, behind_rows}
 
 -- content is never empty

@@ -4,8 +4,9 @@ use Rattle.std.proofs.lemmas.Bool.{and_parts, eqb-true}
 use Rattle.yaml_chars.specs.Class.{is_break}
 use Rattle.scalar_defs.specs.Classes as classes
 use Rattle.scalar_defs.specs.Breaks.{Split, split, with_empty_line}
+use Rattle.scalar_laws.proofs.Bridges.{same_break}
 use Rattle.scan_blocks.specs.HeaderEnds.{is_in_line}
-use Rattle.scan_blocks.proofs.Bridges.{same_break, first_inner}
+use Rattle.scan_blocks.proofs.InLine.{first_inner}
 
 -- a break as written: LF, CR, or CR LF
 pub data Break : Type 0 where

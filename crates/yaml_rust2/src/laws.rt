@@ -22,10 +22,9 @@ pub use loaded_texts::in_turn::{
 pub use loaded_texts::laws::{
     characters_are_the_text, dumps_are_injective, dumps_are_read_as_their_tree,
     events_of_read_texts_are_read, json_texts_are_loaded, json_texts_are_read_as_their_tree,
-    json_texts_are_without_nul, layout_texts_are_read_as_their_tree, layout_texts_are_without_nul,
-    read_texts_are_loaded, read_texts_are_not_refused, read_texts_have_no_fault_but_memory,
-    read_texts_have_their_trees, strings_are_the_text, texts_are_answered,
-    texts_are_read_in_one_way,
+    json_texts_are_without_nul, read_texts_are_loaded, read_texts_are_not_refused,
+    read_texts_have_no_fault_but_memory, read_texts_have_their_trees, strings_are_the_text,
+    texts_are_answered, texts_are_read_in_one_way,
 };
 pub use loaded_texts::quoted::{
     quoted_texts_are_read_as_their_string, quoted_texts_are_without_nul,
@@ -34,26 +33,22 @@ pub use loaded_texts::wide::{wide_texts_are_read_as_their_trees, wide_texts_are_
 pub use read_texts::laws::{
     foretold_events_are_not_refused, json_documents_read_as_their_trees, json_events_are_loaded,
     json_numbers_stand_for_their_trees, json_tokens_are_a_stream, json_tokens_read_as_their_tree,
-    layout_documents_read_as_their_trees, layout_events_are_loaded, layout_tokens_are_a_stream,
-    layout_tokens_read_as_their_tree, quoted_tokens_read_as_their_string, read_streams_are_loaded,
-    read_streams_are_not_cut, read_streams_are_not_refused, wide_events_are_loaded,
-    wide_tokens_read_as_their_trees,
+    layout_documents_read_as_their_trees, layout_tokens_are_a_stream,
+    quoted_tokens_read_as_their_string, read_streams_are_loaded, read_streams_are_not_cut,
+    read_streams_are_not_refused, wide_events_are_loaded, wide_tokens_read_as_their_trees,
 };
 pub use scalar_laws::laws::buffers_join_folded_lines;
 pub use scan_cut::laws::{
     first_tokens_are_a_cut, lexing_functions_read_pieces, shown_faults_stand_in_the_text,
     tokens_are_a_cut,
 };
-pub use scan_json::laws::{
+pub use scan_texts::laws::{
     json_texts_are_not_refused, json_texts_have_no_other_tokens, json_texts_have_their_tokens,
-    texts_have_one_list_of_tokens, texts_with_tokens_are_not_refused,
+    layouts_in_turn_are_not_refused, layouts_in_turn_have_their_tokens, quoted_bodies_are_read,
+    quoted_texts_have_their_tokens, texts_have_one_list_of_tokens,
+    texts_with_tokens_are_not_refused, wide_texts_are_not_refused, wide_texts_have_no_other_tokens,
+    wide_texts_have_their_tokens,
 };
-pub use scan_layout::laws::{
-    layout_texts_are_not_refused, layout_texts_have_no_other_tokens,
-    layout_texts_have_their_tokens, layouts_in_turn_are_not_refused,
-    layouts_in_turn_have_their_tokens, wide_texts_have_their_tokens,
-};
-pub use scan_quoted::laws::{quoted_bodies_are_read, quoted_texts_have_their_tokens};
 pub use tree_defs::laws::{
     box_lines_are_unbroken, digits_are_least, equality_is_an_equivalence, equality_is_exact,
     followed_by_is_a_cut, insert_keeps_keys_distinct, insert_keeps_other_values,

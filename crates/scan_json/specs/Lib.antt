@@ -1,2 +1,0 @@
-pub mod JsonScan
-pub mod Laws
