@@ -152,11 +152,35 @@ fn a_hash_does_as_a_plain_list(rt: HostRuntime) -> Result<(), Fail> {
     for i in 0..300_i64 {
         turn(&mut hash, &mut list, i.wrapping_mul(37) % 101, i)?;
     }
-    // Long enough that places come late.
+    // Long enough that places stand in several blocks.
     for i in 300..4000_i64 {
         turn(&mut hash, &mut list, i.wrapping_mul(37) % 1999, i)?;
     }
     assert!(rt; is_alike(&hash, list.as_slice()));
     assert!(rt; hash.clone(alloc)? == hash);
+    Ok(())
+}
+
+// Texts that differ behind their first eight bytes alone.
+fn numbered(alloc: Global, number: i64) -> Result<Yaml, Fail> {
+    Ok(Yaml::String(format!(in alloc; "beginning {number}")?))
+}
+
+#[test]
+fn keys_that_begin_alike_are_found(rt: HostRuntime) -> Result<(), Fail> {
+    let alloc = rt.alloc();
+    let mut hash = Hash::new(alloc);
+    for i in 0..1999_i64 {
+        let key = numbered(alloc, i.wrapping_mul(37) % 1999)?;
+        let _ = put(&mut hash, key, Yaml::Integer(i))?;
+    }
+    for i in 0..1999_i64 {
+        let key = numbered(alloc, i.wrapping_mul(37) % 1999)?;
+        assert!(rt; hash.get(&key) == Some(&Yaml::Integer(i)));
+    }
+    let gone = hash.remove(&numbered(alloc, 37)?);
+    assert!(rt; gone == Some(Yaml::Integer(1)));
+    assert!(rt; hash.get(&numbered(alloc, 37)?).is_none());
+    assert!(rt; hash.len() == 1998);
     Ok(())
 }

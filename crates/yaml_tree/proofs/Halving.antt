@@ -14,3 +14,6 @@ halved m n h e = from (binary_digits n) (least_exponent n)
         let half : m < 2 ^ k = omega (arith, pow-suc 2 k) in
         let less : binary_digits m ≤ k = (least_exponent m).1 k half in
         omega arith
+
+pub digits_rise : (m n : ℕ) → m ≤ n → binary_digits m ≤ binary_digits n
+digits_rise m n h = let high : n < 2 ^ binary_digits n = (least_exponent n).0 in (least_exponent m).1 (binary_digits n) (omega arith)

@@ -5,7 +5,10 @@ pub mod Fed
 pub mod FirstByte
 pub mod Flattened
 pub mod Halving
+pub mod Indexed
 pub mod ItemsLemmas
+pub mod Keeping
+pub mod Marking
 pub mod Placed
 pub mod Ranking
 pub mod Rows
@@ -13,6 +16,5 @@ pub mod Shifting
 pub mod TextLemmas
 pub mod TextOrder
 pub mod TypingLemmas
-pub mod Weaving
 pub mod WeightLemmas
 pub mod WideTexts

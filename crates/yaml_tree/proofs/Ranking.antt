@@ -14,7 +14,8 @@ use Rattle.tree_defs.specs.Order.{tree_cmp, tree_eq}
 use Rattle.tree_defs.specs.Pairs.{place_of, with_value_at, Lacks, AreDistinct}
 use Rattle.tree_defs.proofs.OrderLaws.{tree_cmp_total}
 use Rattle.tree_defs.proofs.PairsLaws.{tree_eq-itself, tree_eq-other}
-use Rattle.yaml_tree.specs.Ranked.{key_at, key_of_rank, AreRanked, IsRank, IsGap, closed_up, moved_up}
+use Rattle.yaml_tree.specs.Ranked.{key_at, key_of_rank, AreRanked, IsRank, IsGap}
+use Rattle.place_blocks.specs.Moves.{closed_up, moved_up}
 
 abbrev pub Pairs : Type 0
 Pairs = List (Tree × Tree)
@@ -24,7 +25,7 @@ Pairs = List (Tree × Tree)
 less_greater : (s t : Tree) → tree_cmp s t ≡ Less → tree_cmp t s ≡ Greater
 less_greater s t e = tree_cmp_total.antisymm t s ∙ ap ordering_reverse e
 
-greater_less : (s t : Tree) → tree_cmp s t ≡ Greater → tree_cmp t s ≡ Less
+pub greater_less : (s t : Tree) → tree_cmp s t ≡ Greater → tree_cmp t s ≡ Less
 greater_less s t e = tree_cmp_total.antisymm t s ∙ ap ordering_reverse e
 
 above_lower : (k s t : Tree) → tree_cmp k t ≡ Greater → tree_cmp s t ≡ Less → tree_cmp k s ≡ Greater
@@ -44,12 +45,12 @@ not_less s t e f = less_not_equal (sym f ∙ ap (tree_cmp s) (sym e) ∙ tied_it
 
 -- ---- keys by place
 
-key_append_left : (ps qs : Pairs) (i : ℕ) → i < length ps → key_at (ps ++ qs) i ≡ key_at ps i
+pub key_append_left : (ps qs : Pairs) (i : ℕ) → i < length ps → key_at (ps ++ qs) i ≡ key_at ps i
 key_append_left [] qs i h = absurd (omega arith)
 key_append_left (p ∷ ps) qs zero h = refl
 key_append_left (p ∷ ps) qs (suc i) h = key_append_left ps qs i (omega arith)
 
-key_append_end : (ps : Pairs) (k v : Tree) (n : ℕ) → n ≡ length ps → key_at (ps ++ (k, v) ∷ []) n ≡ k
+pub key_append_end : (ps : Pairs) (k v : Tree) (n : ℕ) → n ≡ length ps → key_at (ps ++ (k, v) ∷ []) n ≡ k
 key_append_end [] k v zero e = refl
 key_append_end [] k v (suc n) e = absurd (omega arith)
 key_append_end (p ∷ ps) k v zero e = absurd (omega arith)
@@ -72,7 +73,7 @@ length-append_one : (ps : Pairs) (p : Tree × Tree) → length (ps ++ p ∷ []) 
 length-append_one [] p = refl
 length-append_one (q ∷ ps) p = omega (arith, length-append_one ps p)
 
-key_with_value : (ps : Pairs) (i : ℕ) (t : Tree) (j : ℕ) → key_at (with_value_at i t ps) j ≡ key_at ps j
+pub key_with_value : (ps : Pairs) (i : ℕ) (t : Tree) (j : ℕ) → key_at (with_value_at i t ps) j ≡ key_at ps j
 key_with_value [] i t j = refl
 key_with_value (p ∷ ps) zero t zero = refl
 key_with_value (p ∷ ps) zero t (suc j) = refl
@@ -206,22 +207,25 @@ moved_one ps k v p q n e h g is = by (sides q p)
         )
     by (inr (inr l)) = elsewhere (λ f. absurd (omega arith))
 
+pub moved_key : (rs : List ℕ) (ps : Pairs) (r : ℕ) (k v : Tree) → AreRanked rs ps → IsRank k rs ps r → (s : ℕ) → s < length rs
+    → (get_or (map (moved_up (get_or rs r 0) (length rs)) rs) s 0 < length (remove ps (get_or rs r 0) ++ (k, v) ∷ []))
+    × (key_of_rank (map (moved_up (get_or rs r 0) (length rs)) rs) (remove ps (get_or rs r 0) ++ (k, v) ∷ []) s ≡ key_of_rank rs ps s)
+moved_key rs ps r k v a is s within =
+    let one = moved_one ps k v (get_or rs r 0) (get_or rs s 0) (length rs) a.counted (omega (arith, a.counted, a.within r is.0)) (omega (arith, a.counted, a.within s within)) is.1 in
+    let at = get_or-map (moved_up (get_or rs r 0) (length rs)) rs s 0 0 within in
+    (omega (arith, one.0, at), ap (key_at (remove ps (get_or rs r 0) ++ (k, v) ∷ [])) at ∙ one.1)
+
 pub ranked_moved : (rs : List ℕ) (ps : Pairs) (r : ℕ) (k v : Tree) → AreRanked rs ps → IsRank k rs ps r
     → AreRanked (map (moved_up (get_or rs r 0) (length rs)) rs) (remove ps (get_or rs r 0) ++ (k, v) ∷ [])
 ranked_moved rs ps r k v a is =
     let fewer = length-remove ps (get_or rs r 0) (a.within r is.0) in
     let more = length-append_one (remove ps (get_or rs r 0)) (k, v) in
     let same = length-mapped (moved_up (get_or rs r 0) (length rs)) rs in
-    same_keys rs _ ps _ a same (omega (arith, fewer, more))
-    (λ s h.
-    let within : s < length rs = omega (arith, same) in
-    let one = moved_one ps k v (get_or rs r 0) (get_or rs s 0) (length rs) a.counted (omega (arith, a.counted, a.within r is.0)) (omega (arith, a.counted, a.within s within)) is.1 in
-    let at = get_or-map (moved_up (get_or rs r 0) (length rs)) rs s 0 0 within in
-    (omega (arith, one.0, at), ap (key_at (remove ps (get_or rs r 0) ++ (k, v) ∷ [])) at ∙ one.1))
+    same_keys rs _ ps _ a same (omega (arith, fewer, more)) (λ s h. moved_key rs ps r k v a is s (omega (arith, same)))
 
 -- ---- a pair goes
 
-skip : ℕ → ℕ → ℕ
+pub skip : ℕ → ℕ → ℕ
 skip r s = cond (nat_lt s r) s (suc s)
 
 skip_below : (r s : ℕ) → s < r → skip r s ≡ s
@@ -248,29 +252,41 @@ skip_apart r s = by (cases_lt s r)
     by (inl l) = λ e. absurd (omega (arith, skip_below r s l, e))
     by (inr l) = λ e. absurd (omega (arith, skip_above r s l, e))
 
-skip_within : (r s n : ℕ) → s + 1 < n → skip r s < n
+pub skip_within : (r s n : ℕ) → s + 1 < n → skip r s < n
 skip_within r s n h = by (cases_lt s r)
   where
     by : (s < r) ⊎ (r ≤ s) → skip r s < n
     by (inl l) = omega (arith, skip_below r s l)
     by (inr l) = omega (arith, skip_above r s l)
 
-skip_get : (rs : List ℕ) (r s : ℕ) → r < length rs → get_or (remove rs r) s 0 ≡ get_or rs (skip r s) 0
+pub skip_get : (rs : List ℕ) (r s : ℕ) → r < length rs → get_or (remove rs r) s 0 ≡ get_or rs (skip r s) 0
 skip_get rs r s h = by (cases_lt s r)
   where
     by : (s < r) ⊎ (r ≤ s) → get_or (remove rs r) s 0 ≡ get_or rs (skip r s) 0
     by (inl l) = get_or-remove_below rs r 0 s l h ∙ ap (λ i. get_or rs i 0) (sym (skip_below r s l))
     by (inr l) = get_or-remove_above rs r 0 s l h ∙ ap (λ i. get_or rs i 0) (omega (arith, skip_above r s l))
 
+module _ (rs : List ℕ) (ps : Pairs) (r : ℕ) (a : AreRanked rs ps) (h : r < length rs) where
+  other_skipped : (s : ℕ) → s + 1 < length rs → get_or rs (skip r s) 0 ≢ get_or rs r 0
+  other_skipped s g = other_place rs ps a r (skip r s) h (skip_within r s (length rs) g) (skip_apart r s)
+
+  removed_place : (s : ℕ) → s + 1 < length rs → get_or (map (closed_up (get_or rs r 0)) (remove rs r)) s 0 ≡ closed_up (get_or rs r 0) (get_or rs (skip r s) 0)
+  removed_place s g =
+      get_or-map (closed_up (get_or rs r 0)) (remove rs r) s 0 0 (omega (arith, length-remove rs r h)) ∙ ap (closed_up (get_or rs r 0)) (skip_get rs r s h)
+
+  pub removed_key : (s : ℕ) → s + 1 < length rs
+      → key_of_rank (map (closed_up (get_or rs r 0)) (remove rs r)) (remove ps (get_or rs r 0)) s ≡ key_of_rank rs ps (skip r s)
+  removed_key s g = ap (key_at (remove ps (get_or rs r 0))) (removed_place s g) ∙ closed_key ps (get_or rs r 0) (get_or rs (skip r s) 0) (other_skipped s g)
+
 pub ranked_removed : (rs : List ℕ) (ps : Pairs) (r : ℕ) → AreRanked rs ps → r < length rs
     → AreRanked (map (closed_up (get_or rs r 0)) (remove rs r)) (remove ps (get_or rs r 0))
 ranked_removed rs ps r a h = record {
   counted = omega (arith, same, fewer_ranks, fewer, a.counted);
-  within = λ s g. omega (arith, low s (inside s g), at s (inside s g));
+  within = λ s g. omega (arith, low s (inside s g), removed_place rs ps r a h s (inside s g));
   ascending = λ s t l g.
       let t_in = inside t g in
       let s_in : s + 1 < length rs = omega arith in
-      both _ _ _ _ (key s s_in) (key t t_in) (a.ascending (skip r s) (skip r t) (skip_rises r s t l) (skip_within r t (length rs) t_in));
+      both _ _ _ _ (removed_key rs ps r a h s s_in) (removed_key rs ps r a h t t_in) (a.ascending (skip r s) (skip r t) (skip_rises r s t l) (skip_within r t (length rs) t_in));
 }
   where
     fewer : length (remove ps (get_or rs r 0)) + 1 ≡ length ps
@@ -285,20 +301,10 @@ ranked_removed rs ps r a h = record {
     inside : (s : ℕ) → s < length (map (closed_up (get_or rs r 0)) (remove rs r)) → s + 1 < length rs
     inside s g = omega (arith, same, fewer_ranks)
 
-    other : (s : ℕ) → s + 1 < length rs → get_or rs (skip r s) 0 ≢ get_or rs r 0
-    other s g = other_place rs ps a r (skip r s) h (skip_within r s (length rs) g) (skip_apart r s)
-
-    at : (s : ℕ) → s + 1 < length rs → get_or (map (closed_up (get_or rs r 0)) (remove rs r)) s 0 ≡ closed_up (get_or rs r 0) (get_or rs (skip r s) 0)
-    at s g = get_or-map (closed_up (get_or rs r 0)) (remove rs r) s 0 0 (omega (arith, fewer_ranks)) ∙ ap (closed_up (get_or rs r 0)) (skip_get rs r s h)
-
     low : (s : ℕ) → s + 1 < length rs → closed_up (get_or rs r 0) (get_or rs (skip r s) 0) < length (remove ps (get_or rs r 0))
     low s g =
-        closed_within (get_or rs r 0) (get_or rs (skip r s) 0) (length (remove ps (get_or rs r 0))) (other s g) (omega (arith, fewer, a.within r h))
+        closed_within (get_or rs r 0) (get_or rs (skip r s) 0) (length (remove ps (get_or rs r 0))) (other_skipped rs ps r a h s g) (omega (arith, fewer, a.within r h))
         (omega (arith, fewer, a.within (skip r s) (skip_within r s (length rs) g)))
-
-    key : (s : ℕ) → s + 1 < length rs
-        → key_of_rank (map (closed_up (get_or rs r 0)) (remove rs r)) (remove ps (get_or rs r 0)) s ≡ key_of_rank rs ps (skip r s)
-    key s g = ap (key_at (remove ps (get_or rs r 0))) (at s g) ∙ closed_key ps (get_or rs r 0) (get_or rs (skip r s) 0) (other s g)
 
 -- ---- a pair comes
 

@@ -13,10 +13,10 @@ use Rattle.yaml_chars.specs.Text.{string_chars}
 abbrev cmp : List ℕ → List ℕ → Ordering
 cmp = slice_cmp nat_cmp
 
-less : (m n : ℕ) → m < n → nat_cmp m n ≡ Less
+pub less : (m n : ℕ) → m < n → nat_cmp m n ≡ Less
 less m n h = grind (arith, nat_tests)
 
-equal : (m n : ℕ) → m ≡ n → nat_cmp m n ≡ Equal
+pub equal : (m n : ℕ) → m ≡ n → nat_cmp m n ≡ Equal
 equal m n h = grind (arith, nat_tests)
 
 first_less : (m n : ℕ) (xs ys : List ℕ) → m < n → cmp (m ∷ xs) (n ∷ ys) ≡ Less
@@ -158,7 +158,7 @@ starts c r = by (class_of c)
     by (three a i e) = (_, (_, ap (λ xs. xs ++ r) e))
     by (four a e) = (_, (_, ap (λ xs. xs ++ r) e))
 
-encoded_cmp : (cs ds : List ℕ) → cmp (encode_utf8_all cs) (encode_utf8_all ds) ≡ cmp cs ds
+pub encoded_cmp : (cs ds : List ℕ) → cmp (encode_utf8_all cs) (encode_utf8_all ds) ≡ cmp cs ds
 encoded_cmp [] [] = refl
 encoded_cmp [] (d ∷ ds) = let s = starts d (encode_utf8_all ds) in ap (cmp []) s.1.1
 encoded_cmp (c ∷ cs) [] = let s = starts c (encode_utf8_all cs) in ap (λ xs. cmp xs []) s.1.1

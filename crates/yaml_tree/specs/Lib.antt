@@ -5,6 +5,7 @@ pub mod Feed
 pub mod Flat
 pub mod Items
 pub mod Laws
+pub mod Marks
 pub mod Meanings
 pub mod Node
 pub mod Places
@@ -14,4 +15,3 @@ pub mod Rows
 pub mod Values
 pub mod View
 pub mod Weight
-pub mod Woven

@@ -1,9 +1,47 @@
 -- The places that a hash keeps by rank.
-use Rattle.std.specs.Prelude.{ℕ, List}
+use Rattle.std.specs.Prelude.{ℕ, ◌<◌, ◌≤◌, List, [], map, length}
+use Rattle.place_blocks.specs.Blocks.{joined, rank_of, IsSpot, IsTaken}
+use Rattle.place_blocks.specs.declared.entry.Entry.{Entry}
+use Rattle.place_blocks.specs.declared.entry.Spot.{Spot}
+use Rattle.tree_defs.specs.Tree.{Tree}
+use Rattle.yaml_tree.specs.Flat.{paired}
+use Rattle.yaml_tree.specs.Marks.{AreMarks}
+use Rattle.yaml_tree.specs.Ranked.{IsHash}
 use Rattle.yaml_tree.specs.declared.ranks.Kept.{Kept}
 use Rattle.yaml_tree.specs.declared.ranks.Kept.TheVariants.{Few, Many}
 
--- those of a short hash, or what is in the box
-abbrev pub places_in : Kept → List ℕ
-places_in (Few places) = places
-places_in (Many b) = b.value
+abbrev pub place_of_entry : Entry → ℕ
+place_of_entry e = e.place
+
+abbrev pub mark_of_entry : Entry → ℕ
+mark_of_entry e = e.mark
+
+-- those of a short hash, or those in blocks
+abbrev pub places : Kept → List ℕ
+places (Few ps) = ps
+places (Many b) = map place_of_entry (joined b.value)
+
+-- the marks of their keys; a short hash keeps none
+abbrev pub marks : Kept → List ℕ
+marks (Few ps) = []
+marks (Many b) = map mark_of_entry (joined b.value)
+
+-- the rank of a spot
+abbrev pub rank_at : Kept → Spot → ℕ
+rank_at (Few ps) s = s.offset
+rank_at (Many b) s = rank_of b.value s
+
+-- a place stands before the spot or at it, or it is an end
+abbrev pub HasSpot : Kept → Spot → Type 0
+HasSpot (Few ps) s = s.offset ≤ length ps
+HasSpot (Many b) s = IsSpot b.value s
+
+-- a place stands at the spot
+abbrev pub HasPlace : Kept → Spot → Type 0
+HasPlace (Few ps) s = s.offset < length ps
+HasPlace (Many b) s = IsTaken b.value s
+
+-- a row of keys and values, whose ranks and marks are these
+pub record IsIndexed (ts : List Tree) (k : Kept) : Type 0 where
+  pub hash : IsHash ts (places k)
+  pub marked : AreMarks (marks k) (places k) (paired ts)

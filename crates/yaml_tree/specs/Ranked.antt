@@ -1,5 +1,5 @@
 -- A hash's pairs beside the places of their keys in ascending order.
-use Rattle.std.specs.Prelude.{◌≡◌, ℕ, zero, suc, ◌<◌, ◌≤◌, ◌-◌, ◌==◌, nat_lt, cond, List, [], ◌∷◌, length, get_or}
+use Rattle.std.specs.Prelude.{◌≡◌, ℕ, zero, suc, ◌<◌, ◌≤◌, List, [], ◌∷◌, length, get_or}
 use Rattle.std.specs.declared.cmp.Ordering.TheVariants.{Less, Greater}
 use Rattle.tree_defs.specs.Tree.{Tree, null}
 use Rattle.tree_defs.specs.Order.{tree_cmp}
@@ -37,11 +37,3 @@ pub record IsGap (k : Tree) (rs : List ℕ) (ps : List (Tree × Tree)) (r : ℕ)
   pub within : r ≤ length rs
   pub above : (s : ℕ) → s < r → tree_cmp k (key_of_rank rs ps s) ≡ Greater
   pub below : (s : ℕ) → r ≤ s → s < length rs → tree_cmp k (key_of_rank rs ps s) ≡ Less
-
--- a place once the pair at another is gone
-abbrev pub closed_up : ℕ → ℕ → ℕ
-closed_up gone p = cond (nat_lt gone p) (p - 1) p
-
--- a place of so many once the pair at one has gone to the end
-abbrev pub moved_up : ℕ → ℕ → ℕ → ℕ
-moved_up gone n p = cond (p == gone) (n - 1) (closed_up gone p)

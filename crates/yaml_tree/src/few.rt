@@ -1,9 +1,9 @@
 //! Places by rank for a short hash, with no memory of their own.
 ghost use Rattle.std.specs.Prelude.{◌≡◌, ◌<◌, ◌≤◌, ◌+◌, ◌++◌, ◌∷◌, [], length, map, take, get_or, IfOk};
 ghost use Rattle.std.specs.List.{insert, remove};
-ghost use Rattle.yaml_tree.specs.Ranked.{closed_up, moved_up};
+ghost use Rattle.place_blocks.specs.Moves.{closed_up, moved_up};
 
-use crate::moves::{closed_up, moved_up};
+use place_blocks::moves::{closed_up, moved_up};
 use std::alloc::{AllocError, Global};
 use std::marker::Model;
 

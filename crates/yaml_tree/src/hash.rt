@@ -30,7 +30,7 @@ impl Model for Hash {
     ghost use Rattle.tree_defs.specs.Tree.{Tree, pairs_of};
     ghost use Rattle.tree_defs.specs.TreeCode.{pairs_code};
     ghost use Rattle.yaml_tree.specs.Depth.{pairs_depth};
-    ghost use Rattle.yaml_tree.specs.Ranked.{IsHash};
+    ghost use Rattle.yaml_tree.specs.Places.{IsIndexed};
 
     ghost Value = { List (Tree × Tree) };
 
@@ -40,14 +40,14 @@ impl Model for Hash {
 
     ghost view = { λ h. pairs_view h.row.items };
 
-    ghost invariant = { λ h. IsHash (items_view h.row.items) h.ranks };
+    ghost invariant = { λ h. IsIndexed (items_view h.row.items) h.ranks.kept };
 
     ghost size = { λ ps. pairs_depth (pairs_of ps) };
 
     ghost use Rattle.std.proofs.Common.{arith};
     ghost use Rattle.yaml_tree.specs.Falls.{most-pairs};
 
-    ghost size_decreases = { λ h i. omega (arith, most-pairs h.row.items i.even) };
+    ghost size_decreases = { λ h i. omega (arith, most-pairs h.row.items i.hash.even) };
 }
 
 // A loop, so that a deep tree takes no more of the stack than a flat one.
@@ -78,7 +78,7 @@ impl Hash {
     pub fn len(&self) -> usize
         ensures { result ≡ length self.now }
     {
-        self.ranks.len()
+        self.row.len() / 2
     }
 
     /// Whether there is no pair.
@@ -89,8 +89,8 @@ impl Hash {
     }
 
     /// The place of the key's pair, counted from 0, or `None` where no pair has the key. The key is compared
-    /// by `Steps::compare` alone, at most as often as the number of pairs has binary digits. It takes no
-    /// memory.
+    /// by `Steps::compare` alone, at most as often as the number of pairs has binary digits; numbers kept
+    /// beside the places rule out most pairs before. It takes no memory.
     pub fn place(&self, key: &Yaml, steps: &mut Steps) -> Option<usize>
         ensures place { result ≡ place_of (view key.now) self.now }
         ensures steps { steps.new ≤ steps.old + binary_digits (length self.now) }
@@ -104,7 +104,7 @@ impl Hash {
         ensures distinct { AreDistinct self.now }
     {
         match search(self.row.as_slice(), &self.ranks, probe, steps) {
-            Ok(rank) => Some(self.ranks.at(rank)),
+            Ok(spot) => Some(self.ranks.at(spot)),
             Err(_) => None,
         }
     }
@@ -176,13 +176,14 @@ impl Hash {
             Probe::Node(&key),
             &mut steps,
         ) {
-            Ok(rank) => {
-                let place = self.ranks.at(rank);
-                self.ranks.move_to_end(place);
+            Ok(spot) => {
+                let place = self.ranks.at(spot);
+                let count = self.row.len() / 2;
+                self.ranks.move_to_end(place, count);
                 Ok(Some(exchange(&mut self.row, place, key, value)))
             }
-            Err(rank) => {
-                add(&mut self.row, &mut self.ranks, rank, key, value)?;
+            Err(spot) => {
+                add(&mut self.row, &mut self.ranks, spot, key, value)?;
                 Ok(None)
             }
         }
@@ -195,7 +196,7 @@ impl Hash {
         ensures value { option_map view result ≡ lookup (view key.now) self.old }
     {
         let mut steps = Steps::new();
-        let Ok(rank) = search(
+        let Ok(spot) = search(
             self.row.as_slice(),
             &self.ranks,
             Probe::Node(key),
@@ -203,8 +204,8 @@ impl Hash {
         ) else {
             return None;
         };
-        let place = self.ranks.at(rank);
-        self.ranks.remove(rank);
+        let place = self.ranks.at(spot);
+        self.ranks.remove(spot);
         Some(take(&mut self.row, place))
     }
 }

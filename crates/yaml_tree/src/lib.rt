@@ -14,14 +14,13 @@ pub mod hash;
 pub mod items;
 pub mod laws;
 mod lookup;
-mod moves;
+mod mark;
 mod place;
 mod ranks;
 mod row;
 mod search;
 mod steps;
 mod typing;
-mod woven;
 pub mod yaml;
 
 pub use array::Array;

@@ -1,28 +1,36 @@
 //! Rows of keys and values.
 ghost use Rattle.std.specs.Prelude.{◌≡◌, ◌+◌, ◌*◌, ◌<◌, ◌≤◌, ◌++◌, ◌∷◌, [], length, get_or, IfErr, OnOk, OnErr, vec_len, vec_capacity};
 ghost use Rattle.std.specs.List.{insert, remove};
+ghost use Rattle.tree_defs.specs.Tree.{Tree};
+ghost use Rattle.yaml_tree.specs.Marks.{AreMarks};
+ghost use Rattle.yaml_tree.specs.Places.{places, marks, rank_at, HasSpot, IsIndexed};
+ghost use Rattle.yaml_tree.specs.View.{view, items_view, pairs_view};
 
 use crate::ranks::Ranks;
 use crate::yaml::Yaml;
+use place_blocks::Spot;
 
 // Room that the first pair takes: most hashes have no more than four pairs.
 const FIRST_ROOM: usize = 8;
 
-/// Adds a pair at the end, and its place at a rank. An `Err` comes only where memory was refused; then both
+/// Adds a pair at the end, and its place at a spot. An `Err` comes only where memory was refused; then both
 /// are as they were, and the pair is handed back.
 #[inline(always)]
 pub(crate) fn add(
     row: &mut Vec<Yaml>,
     ranks: &mut Ranks,
-    rank: usize,
+    spot: Spot,
     key: Yaml,
     value: Yaml,
 ) -> Result<(), (Yaml, Yaml)>
-    requires { rank ≤ length ranks.old }
+    requires indexed { IsIndexed (items_view row.old.items) ranks.old.kept }
+    requires spot { HasSpot ranks.old.kept spot }
     ensures row { OnOk result (row.new.items ≡ row.old.items ++ key ∷ value ∷ []) }
-    ensures ranks { OnOk result (ranks.new ≡ insert ranks.old rank (length ranks.old)) }
+    ensures places { OnOk result (places ranks.new.kept ≡ insert (places ranks.old.kept) (rank_at ranks.old.kept spot) (length (places ranks.old.kept))) }
+    ensures marks { OnOk result ((v : Tree) → AreMarks (marks ranks.new.kept) (places ranks.new.kept) (pairs_view row.old.items ++ (view key, v) ∷ [])) }
     ensures same_row { OnErr result (row.new.items ≡ row.old.items) }
-    ensures same_ranks { OnErr result (ranks.new ≡ ranks.old) }
+    ensures same_places { OnErr result (places ranks.new.kept ≡ places ranks.old.kept) }
+    ensures same_marks { OnErr result (marks ranks.new.kept ≡ marks ranks.old.kept) }
     ensures handed_back { IfErr result (λ p. p ≡ (key, value)) }
 {
     let room = if row.is_empty() { FIRST_ROOM } else { 2 };
@@ -30,7 +38,7 @@ pub(crate) fn add(
         return Err((key, value));
     }
     let alloc = *row.allocator();
-    if ranks.insert(alloc, rank).is_err() {
+    if ranks.insert(alloc, row.as_slice(), spot, &key).is_err() {
         return Err((key, value));
     }
     row.push_reserved(key);

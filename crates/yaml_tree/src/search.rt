@@ -1,14 +1,18 @@
-//! The rank of a key, found by halving.
+//! Where a key's place stands, found by halving.
 ghost use Rattle.std.specs.Prelude.{◌≡◌, ◌+◌, ◌≤◌, length, IfOk, IfErr};
 ghost use Rattle.tree_defs.specs.Digits.{binary_digits};
 ghost use Rattle.tree_defs.specs.Order.{tree_cmp};
 ghost use Rattle.yaml_tree.specs.Probes.{probed};
-ghost use Rattle.yaml_tree.specs.Ranked.{IsHash, IsRank, IsGap};
+ghost use Rattle.yaml_tree.specs.Marks.{IsMark};
+ghost use Rattle.yaml_tree.specs.Places.{places, rank_at, HasSpot, HasPlace, IsIndexed};
+ghost use Rattle.yaml_tree.specs.Ranked.{IsRank, IsGap};
 ghost use Rattle.yaml_tree.specs.View.{view, items_view, pairs_view};
 
+use crate::mark::{mark, mark_of_text};
 use crate::ranks::Ranks;
 use crate::steps::Steps;
 use crate::yaml::Yaml;
+use place_blocks::Spot;
 use std::cmp::Ordering;
 
 /// What is looked up: a key, or a key `String` of a text.
@@ -19,6 +23,16 @@ pub(crate) enum Probe<'a> {
 }
 
 impl<'a> Probe<'a> {
+    /// The mark of what is looked up.
+    pub(crate) fn mark(self) -> u64
+        ensures { IsMark (probed self.entry) result }
+    {
+        match self {
+            Probe::Node(node) => mark(node),
+            Probe::Text(text) => mark_of_text(text),
+        }
+    }
+
     fn compare(self, key: &Yaml, steps: &mut Steps) -> Ordering
         ensures order { result ≡ tree_cmp (probed self.entry) (view key.now) }
         ensures steps { steps.new ≡ steps.old + 1 }
@@ -30,26 +44,34 @@ impl<'a> Probe<'a> {
     }
 }
 
-/// The rank of a key, or where no pair has it the rank that it would have.
+/// The spot of a key, or where no pair has it the spot that it would have.
 pub(crate) fn search(
     row: &[Yaml],
     ranks: &Ranks,
     probe: Probe<'_>,
     steps: &mut Steps,
-) -> Result<usize, usize>
-    requires { IsHash (items_view row.now) ranks.now }
-    ensures found { IfOk result (λ r. IsRank (probed probe.entry) ranks.now (pairs_view row.now) r) }
-    ensures missing { IfErr result (λ r. IsGap (probed probe.entry) ranks.now (pairs_view row.now) r) }
-    ensures steps { steps.new ≤ steps.old + binary_digits (length ranks.now) }
+) -> Result<Spot, Spot>
+    requires { IsIndexed (items_view row.now) ranks.now.kept }
+    ensures place { IfOk result (λ s. HasPlace ranks.now.kept s) }
+    ensures found { IfOk result (λ s. IsRank (probed probe.entry) (places ranks.now.kept) (pairs_view row.now) (rank_at ranks.now.kept s)) }
+    ensures spot { IfErr result (λ s. HasSpot ranks.now.kept s) }
+    ensures missing { IfErr result (λ s. IsGap (probed probe.entry) (places ranks.now.kept) (pairs_view row.now) (rank_at ranks.now.kept s)) }
+    ensures steps { steps.new ≤ steps.old + binary_digits (length (places ranks.now.kept)) }
 {
-    let mut low = 0;
-    let mut high = ranks.len();
-    while low < high {
-        let middle = low + (high - low) / 2;
+    let (mut low, mut count) = ranks.window(probe);
+    while 0 < count {
+        let half = count / 2;
+        let middle = ranks.advanced(low, half);
         let place = ranks.at(middle);
         match probe.compare(&row[2 * place], steps) {
-            Ordering::Less => high = middle,
-            Ordering::Greater => low = middle + 1,
+            Ordering::Less => count = half,
+            Ordering::Greater => {
+                low = Spot {
+                    block: middle.block,
+                    offset: middle.offset + 1,
+                };
+                count -= half + 1;
+            }
             Ordering::Equal => return Ok(middle),
         }
     }

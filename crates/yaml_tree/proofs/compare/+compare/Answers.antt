@@ -26,7 +26,7 @@ pub compare_pairs-returns-in_default : goal.compare_pairs-returns-in_default
 compare_pairs-returns-in_default t c =
     let i = c.loop-i.invariant in
     let next = cmp_next (on view tree_cmp) c.as_slice-a.result.now c.as_slice-b.result.now c.loop-i.i _ _ c.loop-i-test.true c.if-i-b.true c.index-a-i.is c.index-b-i.is in
-    let seen = pairs_seen _ _ _ _ _ _ c.as_slice-a.ensures.value c.as_slice-b.ensures.value (c.a.invariant.even ∙ ap flat c.a.view_is) (c.b.invariant.even ∙ ap flat c.b.view_is) in
+    let seen = pairs_seen _ _ _ _ _ _ c.as_slice-a.ensures.value c.as_slice-b.ensures.value (c.a.invariant.hash.even ∙ ap flat c.a.view_is) (c.b.invariant.hash.even ∙ ap flat c.b.view_is) in
     stops _ _ _ _ c.in_default.not-Equal c.compare.ensures (sym seen ∙ i.same ∙ next)
 
 pub compare_pairs-returns : goal.compare_pairs-returns
@@ -34,5 +34,5 @@ compare_pairs-returns t c =
     let i = c.loop-i.invariant in
     let past : (length c.as_slice-a.result.now ≤ c.loop-i.i) ⊎ (length c.as_slice-b.result.now ≤ c.loop-i.i) =
     search rules in
-    let seen = pairs_seen _ _ _ _ _ _ c.as_slice-a.ensures.value c.as_slice-b.ensures.value (c.a.invariant.even ∙ ap flat c.a.view_is) (c.b.invariant.even ∙ ap flat c.b.view_is) in
+    let seen = pairs_seen _ _ _ _ _ _ c.as_slice-a.ensures.value c.as_slice-b.ensures.value (c.a.invariant.hash.even ∙ ap flat c.a.view_is) (c.b.invariant.hash.even ∙ ap flat c.b.view_is) in
     c.cmp.ensures ∙ sym (cmp_end (on view tree_cmp) _ _ c.loop-i.i i.first_in i.second_in past) ∙ sym i.same ∙ seen

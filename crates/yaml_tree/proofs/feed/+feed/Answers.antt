@@ -23,6 +23,6 @@ feed_pairs-loop-i-preserved g t c =
 
 pub feed_pairs-returns : goal.feed_pairs-returns
 feed_pairs-returns g t c =
-    let even = row_length c.pairs.inside.row.items c.args.pairs.now (c.pairs.invariant.even ∙ ap flat c.pairs.view_is) in
+    let even = row_length c.pairs.inside.row.items c.args.pairs.now (c.pairs.invariant.hash.even ∙ ap flat c.pairs.view_is) in
     let none = no_pair c.as_slice-row.result.now c.loop-i.i (omega (arith, c.loop-i-test.false)) (length c.args.pairs.now) (ap length c.as_slice-row.ensures.value ∙ even) in
     c.write_u8-2.ensures ∙ ap (fold g.H.Hasher.write c.loop-i.state) (sym none) ∙ sym c.loop-i.invariant

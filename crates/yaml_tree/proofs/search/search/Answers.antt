@@ -1,61 +1,104 @@
-use Rattle.std.proofs.Common.{◌+◌, ◌-◌, ◌/◌, ◌<◌, sym, ap, ◌∙◌, arith, rules}
+use Rattle.std.proofs.Common.{◌≡◌, ◌+◌, ◌-◌, ◌*◌, ◌/◌, ◌^◌, ◌<◌, length, sym, ap, ◌∙◌, arith, rules}
 use Rattle.tree_defs.specs.Order.{tree_cmp}
 use Rattle.tree_defs.proofs.OrderLaws.{tree_tied}
+use Rattle.yaml_tree.specs.Places.{places, marks, rank_at}
 use Rattle.yaml_tree.specs.Probes.{probed}
-use Rattle.yaml_tree.proofs.Rows.{ranked_inside, inside_row, ranked_key}
-use Rattle.yaml_tree.proofs.Halving.{halved}
+use Rattle.yaml_tree.specs.View.{pairs_view}
+use Rattle.yaml_tree.proofs.Flattened.{row_length}
+use Rattle.yaml_tree.proofs.Halving.{halved, digits_rise}
+use Rattle.yaml_tree.proofs.Indexed.{marks_counted, next_spot, next_rank, offset_inside, place_inside}
+use Rattle.yaml_tree.proofs.Marking.{ranked_marks_rise, window_above, window_below}
 use Rattle.yaml_tree.proofs.Ranking.{above_up_to, below_from_on}
+use Rattle.yaml_tree.proofs.Rows.{ranked_inside, inside_row, ranked_key}
 use Rattle.yaml_tree.proofs.search.search.Goals as goal
+
+pub window-count-requires-clause-rising : goal.window-count-requires-clause-rising
+window-count-requires-clause-rising c = ranked_marks_rise (marks c.args.ranks.now.kept) (places c.args.ranks.now.kept) (pairs_view c.args.row.now) c.requires.hash.ranked (marks_counted c.args.ranks.now.kept) c.requires.marked
+
+pub window-count-requires-clause-fits : goal.window-count-requires-clause-fits
+window-count-requires-clause-fits c =
+    let twice : length c.args.row.now ≡ 2 * length (places c.args.ranks.now.kept) = omega (arith, row_length c.args.row.now (pairs_view c.args.row.now) c.requires.hash.even, c.requires.hash.ranked.counted) in
+    omega arith
+
+pub loop-count-init : goal.loop-count-init
+loop-count-init c =
+    let w = c.window-count.ensures.window in
+    let k = probed c.args.probe in
+    let low = rank_at c.args.ranks.now.kept c.window-count.result.0 in
+    let count = c.window-count.result.1 in
+    record {
+      spot = c.window-count.ensures.spot;
+      within = w.within;
+      above = window_above k (marks c.args.ranks.now.kept) (places c.args.ranks.now.kept) (pairs_view c.args.row.now) low count c.requires.hash.ranked c.requires.marked w;
+      below = window_below k (marks c.args.ranks.now.kept) (places c.args.ranks.now.kept) (pairs_view c.args.row.now) low count c.requires.hash.ranked c.requires.marked w;
+      steps = omega (arith, digits_rise count (length (places c.args.ranks.now.kept)) (omega (arith, w.within)));
+    }
+
+pub advanced-middle-requires-clause-fits : goal.advanced-middle-requires-clause-fits
+advanced-middle-requires-clause-fits c =
+    let twice : length c.args.row.now ≡ 2 * length (places c.args.ranks.now.kept) = omega (arith, row_length c.args.row.now (pairs_view c.args.row.now) c.requires.hash.even, c.requires.hash.ranked.counted) in
+    omega arith
 
 pub overflow_mul-place : goal.overflow_mul-place
 overflow_mul-place c =
-    let inside = inside_row c.args.row.now c.args.ranks.now c.requires c.at-place.result (ranked_inside c.args.row.now c.args.ranks.now c.requires (c.loop-low.low + (c.loop-low.high - c.loop-low.low) / 2) c.at-place.result (omega (arith, c.loop-low-test.true, c.loop-low.invariant.within)) c.at-place.ensures) in
+    let inside = inside_row c.args.row.now (places c.args.ranks.now.kept) c.requires.hash c.at-place.result (ranked_inside c.args.row.now (places c.args.ranks.now.kept) c.requires.hash (rank_at c.args.ranks.now.kept c.advanced-middle.result) c.at-place.result (place_inside c.args.ranks.now.kept c.advanced-middle.result c.advanced-middle.ensures.place) c.at-place.ensures) in
     search rules
 
 pub offset_bounds-row-place : goal.offset_bounds-row-place
 offset_bounds-row-place c =
-    let inside = inside_row c.args.row.now c.args.ranks.now c.requires c.at-place.result (ranked_inside c.args.row.now c.args.ranks.now c.requires (c.loop-low.low + (c.loop-low.high - c.loop-low.low) / 2) c.at-place.result (omega (arith, c.loop-low-test.true, c.loop-low.invariant.within)) c.at-place.ensures) in
+    let inside = inside_row c.args.row.now (places c.args.ranks.now.kept) c.requires.hash c.at-place.result (ranked_inside c.args.row.now (places c.args.ranks.now.kept) c.requires.hash (rank_at c.args.ranks.now.kept c.advanced-middle.result) c.at-place.result (place_inside c.args.ranks.now.kept c.advanced-middle.result c.advanced-middle.ensures.place) c.at-place.ensures) in
     search rules
 
 pub bounds-row-place : goal.bounds-row-place
 bounds-row-place c =
-    let inside = inside_row c.args.row.now c.args.ranks.now c.requires c.at-place.result (ranked_inside c.args.row.now c.args.ranks.now c.requires (c.loop-low.low + (c.loop-low.high - c.loop-low.low) / 2) c.at-place.result (omega (arith, c.loop-low-test.true, c.loop-low.invariant.within)) c.at-place.ensures) in
+    let inside = inside_row c.args.row.now (places c.args.ranks.now.kept) c.requires.hash c.at-place.result (ranked_inside c.args.row.now (places c.args.ranks.now.kept) c.requires.hash (rank_at c.args.ranks.now.kept c.advanced-middle.result) c.at-place.result (place_inside c.args.ranks.now.kept c.advanced-middle.result c.advanced-middle.ensures.place) c.at-place.ensures) in
     search rules
 
-pub loop-low-preserved : goal.loop-low-preserved
-loop-low-preserved c =
-    let i = c.loop-low.invariant in
-    let test : c.loop-low.low < c.loop-low.high = c.loop-low-test.true in
-    let compared = c.compare.ensures.order ∙ ap (tree_cmp (probed c.args.probe)) (ranked_key c.args.row.now c.args.ranks.now c.requires (c.loop-low.low + (c.loop-low.high - c.loop-low.low) / 2) c.at-place.result c.index-row-place.result (omega (arith, c.loop-low-test.true, c.loop-low.invariant.within)) c.at-place.ensures c.index-row-place.is) in
-    let half = halved (c.loop-low.high - (c.loop-low.low + (c.loop-low.high - c.loop-low.low) / 2 + 1)) (c.loop-low.high - c.loop-low.low) (omega arith) (omega arith) in
+pub loop-count-preserved-in-Less : goal.loop-count-preserved-in-Less
+loop-count-preserved-in-Less c =
+    let i = c.loop-count.invariant in
+    let within = place_inside c.args.ranks.now.kept c.advanced-middle.result c.advanced-middle.ensures.place in
+    let compared = c.compare.ensures.order ∙ ap (tree_cmp (probed c.args.probe)) (ranked_key c.args.row.now (places c.args.ranks.now.kept) c.requires.hash (rank_at c.args.ranks.now.kept c.advanced-middle.result) c.at-place.result c.index-row-place.result within c.at-place.ensures c.index-row-place.is) in
+    let half = halved (c.loop-count.count / 2) c.loop-count.count c.loop-count-test.true (omega arith) in
     record {
-      ordered = omega arith;
-      within = i.within;
-      above = above_up_to _ _ c.requires.ranked (probed c.args.probe) (c.loop-low.low + (c.loop-low.high - c.loop-low.low) / 2) (omega (arith, i.within)) (sym (sym c.in-Greater.is ∙ compared));
-      below = i.below;
+      spot = i.spot;
+      within = omega (arith, i.within);
+      above = i.above;
+      below = λ r h g. below_from_on (places c.args.ranks.now.kept) (pairs_view c.args.row.now) c.requires.hash.ranked (probed c.args.probe) (rank_at c.args.ranks.now.kept c.advanced-middle.result) (sym (sym c.in-Less.is ∙ compared)) r (omega (arith, h, c.advanced-middle.ensures.rank)) g;
       steps = omega (arith, half, i.steps, c.compare.ensures.steps);
     }
 
-pub loop-low-preserved-in-Less : goal.loop-low-preserved-in-Less
-loop-low-preserved-in-Less c =
-    let i = c.loop-low.invariant in
-    let test : c.loop-low.low < c.loop-low.high = c.loop-low-test.true in
-    let compared = c.compare.ensures.order ∙ ap (tree_cmp (probed c.args.probe)) (ranked_key c.args.row.now c.args.ranks.now c.requires (c.loop-low.low + (c.loop-low.high - c.loop-low.low) / 2) c.at-place.result c.index-row-place.result (omega (arith, c.loop-low-test.true, c.loop-low.invariant.within)) c.at-place.ensures c.index-row-place.is) in
-    let half = halved (c.loop-low.low + (c.loop-low.high - c.loop-low.low) / 2 - c.loop-low.low) (c.loop-low.high - c.loop-low.low) (omega arith) (omega arith) in
+pub overflow_add-low : goal.overflow_add-low
+overflow_add-low c =
+    let twice : length c.args.row.now ≡ 2 * length (places c.args.ranks.now.kept) =
+    omega (arith, row_length c.args.row.now (pairs_view c.args.row.now) c.requires.hash.even, c.requires.hash.ranked.counted) in
+    let inside = offset_inside c.args.ranks.now.kept c.advanced-middle.result c.advanced-middle.ensures.place in
+    let low : c.advanced-middle.result.offset + 1 < 2 ^ 63 = omega arith in
+    search rules
+
+pub loop-count-preserved : goal.loop-count-preserved
+loop-count-preserved c =
+    let i = c.loop-count.invariant in
+    let test : 0 < c.loop-count.count = c.loop-count-test.true in
+    let next = next_rank c.args.ranks.now.kept c.advanced-middle.result.block c.advanced-middle.result.offset in
+    let within = place_inside c.args.ranks.now.kept c.advanced-middle.result c.advanced-middle.ensures.place in
+    let compared = c.compare.ensures.order ∙ ap (tree_cmp (probed c.args.probe)) (ranked_key c.args.row.now (places c.args.ranks.now.kept) c.requires.hash (rank_at c.args.ranks.now.kept c.advanced-middle.result) c.at-place.result c.index-row-place.result within c.at-place.ensures c.index-row-place.is) in
+    let half = halved (c.loop-count.count - (c.loop-count.count / 2 + 1)) c.loop-count.count c.loop-count-test.true (omega arith) in
     record {
-      ordered = omega arith;
-      within = omega (arith, i.within);
-      above = i.above;
-      below = below_from_on _ _ c.requires.ranked (probed c.args.probe) _ (sym (sym c.in-Less.is ∙ compared));
+      spot = next_spot c.args.ranks.now.kept c.advanced-middle.result.block c.advanced-middle.result.offset c.advanced-middle.ensures.place;
+      within = omega (arith, next, c.advanced-middle.ensures.rank, i.within);
+      above = λ r h. above_up_to (places c.args.ranks.now.kept) (pairs_view c.args.row.now) c.requires.hash.ranked (probed c.args.probe) (rank_at c.args.ranks.now.kept c.advanced-middle.result) within (sym (sym c.in-Greater.is ∙ compared)) r (omega (arith, h, next));
+      below = λ r h g. i.below r (omega (arith, h, next, c.advanced-middle.ensures.rank)) g;
       steps = omega (arith, half, i.steps, c.compare.ensures.steps);
     }
 
 pub returns-in-Equal-clause-found : goal.returns-in-Equal-clause-found
 returns-in-Equal-clause-found c =
-    let compared = c.compare.ensures.order ∙ ap (tree_cmp (probed c.args.probe)) (ranked_key c.args.row.now c.args.ranks.now c.requires (c.loop-low.low + (c.loop-low.high - c.loop-low.low) / 2) c.at-place.result c.index-row-place.result (omega (arith, c.loop-low-test.true, c.loop-low.invariant.within)) c.at-place.ensures c.index-row-place.is) in
-    (omega (arith, c.loop-low-test.true, c.loop-low.invariant.within), sym (tree_tied _ _ (sym (compared) ∙ c.in-Equal.is)))
+    let within = place_inside c.args.ranks.now.kept c.advanced-middle.result c.advanced-middle.ensures.place in
+    let compared = c.compare.ensures.order ∙ ap (tree_cmp (probed c.args.probe)) (ranked_key c.args.row.now (places c.args.ranks.now.kept) c.requires.hash (rank_at c.args.ranks.now.kept c.advanced-middle.result) c.at-place.result c.index-row-place.result within c.at-place.ensures c.index-row-place.is) in
+    (within, sym (tree_tied _ _ (sym compared ∙ c.in-Equal.is)))
 
 pub returns-in-Equal-clause-steps : goal.returns-in-Equal-clause-steps
 returns-in-Equal-clause-steps c =
-    let half = halved 0 (c.loop-low.high - c.loop-low.low) (omega (arith, c.loop-low-test.true)) (omega arith) in
-    omega (arith, half, c.loop-low.invariant.steps, c.compare.ensures.steps)
+    let half = halved 0 c.loop-count.count c.loop-count-test.true (omega arith) in
+    omega (arith, half, c.loop-count.invariant.steps, c.compare.ensures.steps)

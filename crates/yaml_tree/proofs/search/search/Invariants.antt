@@ -1,20 +1,21 @@
-use Rattle.std.proofs.Common.{◌≡◌, ℕ, ◌+◌, ◌-◌, ◌<◌, ◌≤◌, length}
+use Rattle.std.proofs.Common.{◌≡◌, ℕ, ◌+◌, ◌<◌, ◌≤◌, length}
 use Rattle.std.specs.declared.cmp.Ordering.TheVariants.{Less, Greater}
 use Rattle.tree_defs.specs.Digits.{binary_digits}
 use Rattle.tree_defs.specs.Order.{tree_cmp}
+use Rattle.yaml_tree.specs.Places.{places, rank_at, HasSpot}
 use Rattle.yaml_tree.specs.Probes.{probed}
 use Rattle.yaml_tree.specs.Ranked.{key_of_rank}
 use Rattle.yaml_tree.specs.View.{pairs_view}
 use Rattle.yaml_tree.proofs.search.search.Given as goal
 
-abbrev pub invariant-loop-low : goal.invariant-loop-low
-invariant-loop-low l = record {
-  ordered : l.low ≤ l.high;
-  within : l.high ≤ length l.ranks;
-  above : (r : ℕ) → r < l.low → tree_cmp (probed l.probe) (key_of_rank l.ranks (pairs_view l.row) r) ≡ Greater;
-  below : (r : ℕ) → l.high ≤ r → r < length l.ranks → tree_cmp (probed l.probe) (key_of_rank l.ranks (pairs_view l.row) r) ≡ Less;
-  steps : l.steps + binary_digits (l.high - l.low) ≤ l.initial.steps + binary_digits (length l.ranks);
+abbrev pub invariant-loop-count : goal.invariant-loop-count
+invariant-loop-count l = record {
+  spot : HasSpot l.ranks.kept l.low;
+  within : rank_at l.ranks.kept l.low + l.count ≤ length (places l.ranks.kept);
+  above : (r : ℕ) → r < rank_at l.ranks.kept l.low → tree_cmp (probed l.probe) (key_of_rank (places l.ranks.kept) (pairs_view l.row) r) ≡ Greater;
+  below : (r : ℕ) → rank_at l.ranks.kept l.low + l.count ≤ r → r < length (places l.ranks.kept) → tree_cmp (probed l.probe) (key_of_rank (places l.ranks.kept) (pairs_view l.row) r) ≡ Less;
+  steps : l.steps + binary_digits l.count ≤ l.initial.steps + binary_digits (length (places l.ranks.kept));
 }
 
-abbrev pub decreases-loop-low : goal.decreases-loop-low
-decreases-loop-low l = l.high - l.low
+abbrev pub decreases-loop-count : goal.decreases-loop-count
+decreases-loop-count l = l.count

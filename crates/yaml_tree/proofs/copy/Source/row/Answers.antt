@@ -9,4 +9,4 @@ returns-in-Items c = rw c.in-Items.is (items_are_parts _ _ (ap items_view c.as_s
 
 pub returns-in-Pairs : goal.returns-in-Pairs
 returns-in-Pairs c =
-    rw c.in-Pairs.is (pairs_are_parts _ _ (ap items_view c.as_slice-in-Pairs.ensures.value ∙ c.pairs.invariant.even ∙ ap flat c.pairs.view_is))
+    rw c.in-Pairs.is (pairs_are_parts _ _ (ap items_view c.as_slice-in-Pairs.ensures.value ∙ c.pairs.invariant.hash.even ∙ ap flat c.pairs.view_is))

@@ -2,22 +2,23 @@ use Rattle.std.proofs.Common.{subst}
 use Rattle.tree_defs.specs.Pairs.{AreDistinct}
 use Rattle.yaml_tree.specs.Probes.{probed}
 use Rattle.yaml_tree.specs.Ranked.{IsRank, IsGap}
+use Rattle.yaml_tree.specs.Places.{places, rank_at}
 use Rattle.yaml_tree.specs.View.{pairs_view}
 use Rattle.yaml_tree.proofs.Rows.{ranked_place, gap_place}
 use Rattle.yaml_tree.proofs.hash.Hash.place_of_probe.Goals as goal
 
 pub returns-in-Ok-clause-place : goal.returns-in-Ok-clause-place
 returns-in-Ok-clause-place c =
-    ranked_place (probed c.args.probe) c.self.inside.row.items c.args.self.now c.self.inside.ranks c.in-Ok.rank c.at.result c.self.invariant c.self.view_is
-    (subst (λ ys. IsRank (probed c.args.probe) c.self.inside.ranks (pairs_view ys) c.in-Ok.rank) c.as_slice.ensures.value (c.in-Ok.ensures {u = tt}).found) c.at.ensures
+    ranked_place (probed c.args.probe) c.self.inside.row.items c.args.self.now (places c.self.inside.ranks.kept) (rank_at c.self.inside.ranks.kept c.in-Ok.spot) c.at.result c.self.invariant.hash c.self.view_is
+    (subst (λ ys. IsRank (probed c.args.probe) (places c.self.inside.ranks.kept) (pairs_view ys) (rank_at c.self.inside.ranks.kept c.in-Ok.spot)) c.as_slice.ensures.value (c.in-Ok.ensures {u = tt}).found) c.at.ensures
 
 pub returns-in-Err-clause-place : goal.returns-in-Err-clause-place
 returns-in-Err-clause-place c =
-    gap_place (probed c.args.probe) c.self.inside.row.items c.args.self.now c.self.inside.ranks c.in-Err.field-0 c.self.invariant c.self.view_is
-    (subst (λ ys. IsGap (probed c.args.probe) c.self.inside.ranks (pairs_view ys) c.in-Err.field-0) c.as_slice.ensures.value (c.in-Err.ensures {u = tt}).missing)
+    gap_place (probed c.args.probe) c.self.inside.row.items c.args.self.now (places c.self.inside.ranks.kept) (rank_at c.self.inside.ranks.kept c.in-Err.field-0) c.self.invariant.hash c.self.view_is
+    (subst (λ ys. IsGap (probed c.args.probe) (places c.self.inside.ranks.kept) (pairs_view ys) (rank_at c.self.inside.ranks.kept c.in-Err.field-0)) c.as_slice.ensures.value (c.in-Err.ensures {u = tt}).missing)
 
 pub returns-in-Ok-clause-distinct : goal.returns-in-Ok-clause-distinct
-returns-in-Ok-clause-distinct c = subst AreDistinct c.self.view_is c.self.invariant.distinct
+returns-in-Ok-clause-distinct c = subst AreDistinct c.self.view_is c.self.invariant.hash.distinct
 
 pub returns-in-Err-clause-distinct : goal.returns-in-Err-clause-distinct
-returns-in-Err-clause-distinct c = subst AreDistinct c.self.view_is c.self.invariant.distinct
+returns-in-Err-clause-distinct c = subst AreDistinct c.self.view_is c.self.invariant.hash.distinct

@@ -1,5 +1,6 @@
 use Rattle.std.proofs.Common.{◌<◌, ◌+◌, ◌*◌, sym, vec_len, arith, rules}
 use Rattle.yaml_tree.specs.Probes.{probed}
+use Rattle.yaml_tree.specs.Places.{places}
 use Rattle.yaml_tree.proofs.Placed.{absent}
 use Rattle.yaml_tree.proofs.Rows.{placed}
 use Rattle.yaml_tree.proofs.hash.Hash.value_of_probe.Goals as goal
@@ -9,22 +10,22 @@ returns-in_err-i-clause-value c = rw c.from_residual.ensures (sym (absent (probe
 
 pub overflow_mul-i : goal.overflow_mul-i
 overflow_mul-i c =
-    let at = placed (probed c.args.probe) c.self.inside.row.items c.args.self.now c.self.inside.ranks c.in_ok-i.i c.self.invariant c.self.view_is (c.in_ok-i.ensures {u = tt}).place in
+    let at = placed (probed c.args.probe) c.self.inside.row.items c.args.self.now (places c.self.inside.ranks.kept) c.in_ok-i.i c.self.invariant.hash c.self.view_is (c.in_ok-i.ensures {u = tt}).place in
     let inside : 2 * c.in_ok-i.i + 1 < vec_len c.self.inside.row = omega (arith, at.inside, c.self.inside.row.ok.0) in
     search rules
 
 pub overflow_add-i : goal.overflow_add-i
 overflow_add-i c =
-    let at = placed (probed c.args.probe) c.self.inside.row.items c.args.self.now c.self.inside.ranks c.in_ok-i.i c.self.invariant c.self.view_is (c.in_ok-i.ensures {u = tt}).place in
+    let at = placed (probed c.args.probe) c.self.inside.row.items c.args.self.now (places c.self.inside.ranks.kept) c.in_ok-i.i c.self.invariant.hash c.self.view_is (c.in_ok-i.ensures {u = tt}).place in
     let inside : 2 * c.in_ok-i.i + 1 < vec_len c.self.inside.row = omega (arith, at.inside, c.self.inside.row.ok.0) in
     search rules
 
 pub index-requires : goal.index-requires
 index-requires c =
-    let at = placed (probed c.args.probe) c.self.inside.row.items c.args.self.now c.self.inside.ranks c.in_ok-i.i c.self.invariant c.self.view_is (c.in_ok-i.ensures {u = tt}).place in
+    let at = placed (probed c.args.probe) c.self.inside.row.items c.args.self.now (places c.self.inside.ranks.kept) c.in_ok-i.i c.self.invariant.hash c.self.view_is (c.in_ok-i.ensures {u = tt}).place in
     omega (arith, at.inside, c.self.inside.row.ok.0)
 
 pub returns-clause-value : goal.returns-clause-value
 returns-clause-value c =
-    let at = placed (probed c.args.probe) c.self.inside.row.items c.args.self.now c.self.inside.ranks c.in_ok-i.i c.self.invariant c.self.view_is (c.in_ok-i.ensures {u = tt}).place in
+    let at = placed (probed c.args.probe) c.self.inside.row.items c.args.self.now (places c.self.inside.ranks.kept) c.in_ok-i.i c.self.invariant.hash c.self.view_is (c.in_ok-i.ensures {u = tt}).place in
     at.found _ c.index.ensures

@@ -1,0 +1,118 @@
+-- Places and marks of a hash, as blocks or few keep them.
+use Rattle.std.proofs.Common.{◌≡◌, ℕ, zero, suc, ◌+◌, ◌<◌, ◌≤◌, ◌⊎◌, List, [], ◌∷◌, ◌++◌, length, get_or, map, refl, sym, ap, subst, ◌∙◌, inl, inr, length-append, arith}
+use Rattle.std.specs.List.{insert, remove}
+use Rattle.std.proofs.lemmas.List.{length-map, append-nil, get_or_append_left, get_or_at}
+use Rattle.std.proofs.lemmas.Bool.{cases_lt}
+use Rattle.place_blocks.specs.Blocks.{joined, IsNarrowed}
+use Rattle.place_blocks.specs.Edges.{mark_at, place_at, AreRising as AreRisingEntries}
+use Rattle.place_blocks.specs.Moves.{closed_up, moved_up, entry_closed_up, entry_moved_up}
+use Rattle.place_blocks.specs.declared.entry.Entry.{Entry}
+use Rattle.tree_defs.specs.Tree.{Tree}
+use Rattle.yaml_tree.specs.Marks.{IsMark, AreMarks, AreRising, IsWindow}
+use Rattle.yaml_tree.specs.Places.{place_of_entry, mark_of_entry, places, marks, rank_at, HasSpot, HasPlace}
+use Rattle.place_blocks.proofs.Joining.{rank_within, rank_inside}
+use Rattle.place_blocks.specs.declared.entry.Spot.{Spot}
+use Rattle.yaml_tree.specs.Ranked.{key_of_rank}
+use Rattle.yaml_tree.specs.declared.ranks.Kept.{Kept}
+use Rattle.yaml_tree.specs.declared.ranks.Kept.TheVariants.{Few, Many}
+
+pub mark_mapped : (es : List Entry) (i : ℕ) → get_or (map mark_of_entry es) i 0 ≡ mark_at es i
+mark_mapped [] i = refl
+mark_mapped (e ∷ es) zero = refl
+mark_mapped (e ∷ es) (suc i) = mark_mapped es i
+
+pub place_mapped : (es : List Entry) (i : ℕ) → place_at es i ≡ get_or (map place_of_entry es) i 0
+place_mapped [] i = refl
+place_mapped (e ∷ es) zero = refl
+place_mapped (e ∷ es) (suc i) = place_mapped es i
+
+pub marks_counted : (k : Kept) → length (marks k) ≤ length (places k)
+marks_counted (Few ps) = omega arith
+marks_counted (Many b) = omega (arith, length-map (joined b.value) mark_of_entry, length-map (joined b.value) place_of_entry)
+
+pub entries_rise : (es : List Entry) → AreRising (map mark_of_entry es) → AreRisingEntries es
+entries_rise es a i j h g = omega (arith, mark_mapped es i, mark_mapped es j, a i j h (omega (arith, length-map es mark_of_entry)))
+
+pub narrowed_window : (k : Tree) (es : List Entry) (m rank count : ℕ) → IsMark k m → IsNarrowed es m rank count → IsWindow k (map mark_of_entry es) (length (map place_of_entry es)) rank count
+narrowed_window k es m rank count its n = record {
+  within = omega (arith, n.within, length-map es place_of_entry);
+  before = λ i e. record { mark = m; its = its; inside = omega (arith, n.within, length-map es mark_of_entry); higher = omega (arith, mark_mapped es i, n.below i e) };
+  behind = λ h. record {
+    mark = m;
+    its = its;
+    inside = omega (arith, length-map es mark_of_entry, length-map es place_of_entry);
+    lower = omega (arith, mark_mapped es (rank + count), n.above (omega (arith, length-map es place_of_entry)));
+  };
+}
+
+pub whole_window : (k : Tree) (ms : List ℕ) (n : ℕ) → IsWindow k ms n 0 n
+whole_window k ms n = record { within = omega arith; before = λ i e. absurd (omega arith); behind = λ h. absurd (omega arith) }
+
+-- ---- maps over changes
+
+module _ (f : Entry → ℕ) where
+  pub map-insert : (es : List Entry) (i : ℕ) (e : Entry) → map f (insert es i e) ≡ insert (map f es) i (f e)
+  map-insert [] zero e = refl
+  map-insert [] (suc i) e = refl
+  map-insert (d ∷ es) zero e = refl
+  map-insert (d ∷ es) (suc i) e = ap (λ ns. f d ∷ ns) (map-insert es i e)
+
+  pub map-remove : (es : List Entry) (i : ℕ) → map f (remove es i) ≡ remove (map f es) i
+  map-remove [] zero = refl
+  map-remove [] (suc i) = refl
+  map-remove (d ∷ es) zero = refl
+  map-remove (d ∷ es) (suc i) = ap (λ ns. f d ∷ ns) (map-remove es i)
+
+pub places_closed : (gone : ℕ) (es : List Entry) → map place_of_entry (map (entry_closed_up gone) es) ≡ map (closed_up gone) (map place_of_entry es)
+places_closed gone [] = refl
+places_closed gone (e ∷ es) = ap (λ ns. closed_up gone e.place ∷ ns) (places_closed gone es)
+
+pub marks_closed : (gone : ℕ) (es : List Entry) → map mark_of_entry (map (entry_closed_up gone) es) ≡ map mark_of_entry es
+marks_closed gone [] = refl
+marks_closed gone (e ∷ es) = ap (λ ns. e.mark ∷ ns) (marks_closed gone es)
+
+pub places_moved : (gone n : ℕ) (es : List Entry) → map place_of_entry (map (entry_moved_up gone n) es) ≡ map (moved_up gone n) (map place_of_entry es)
+places_moved gone n [] = refl
+places_moved gone n (e ∷ es) = ap (λ ns. moved_up gone n e.place ∷ ns) (places_moved gone n es)
+
+pub marks_moved : (gone n : ℕ) (es : List Entry) → map mark_of_entry (map (entry_moved_up gone n) es) ≡ map mark_of_entry es
+marks_moved gone n [] = refl
+marks_moved gone n (e ∷ es) = ap (λ ns. e.mark ∷ ns) (marks_moved gone n es)
+
+-- ---- one more
+
+pub marked_more : (ms rs : List ℕ) (ps : List (Tree × Tree)) (m n : ℕ) → n ≡ length ms → AreMarks ms rs ps → IsMark (key_of_rank rs ps n) m → AreMarks (ms ++ m ∷ []) rs ps
+marked_more ms rs ps m n e marked its r h = by (cases_lt r (length ms))
+  where
+    by : (r < length ms) ⊎ (length ms ≤ r) → IsMark (key_of_rank rs ps r) (get_or (ms ++ m ∷ []) r 0)
+    by (inl g) = subst (IsMark (key_of_rank rs ps r)) (sym (get_or_append_left ms (m ∷ []) 0 r g)) (marked r g)
+    by (inr g) =
+        let here : r ≡ n = omega (arith, length-append ms (m ∷ [])) in
+        subst (λ i. IsMark (key_of_rank rs ps i) (get_or (ms ++ m ∷ []) i 0)) (sym here)
+        (subst (IsMark (key_of_rank rs ps n)) (sym (get_or_at ms m [] 0 n (sym e))) its)
+
+-- all entries of one block, and one more among them
+pub joined_one : (bs : List (List Entry)) (es : List Entry) → bs ≡ es ∷ [] → joined bs ≡ es
+joined_one bs es e = ap joined e ∙ append-nil es
+
+-- ---- spots
+
+pub next_spot : (k : Kept) (b o : ℕ) → HasPlace k (record { block = b; offset = o }) → HasSpot k (record { block = b; offset = o + 1 })
+next_spot (Few ps) b o h = omega arith
+next_spot (Many x) b o h = (omega (arith, h.0), omega (arith, h.1))
+
+pub next_rank : (k : Kept) (b o : ℕ) → rank_at k (record { block = b; offset = o + 1 }) ≡ rank_at k (record { block = b; offset = o }) + 1
+next_rank (Few ps) b o = refl
+next_rank (Many x) b o = omega arith
+
+pub place_inside : (k : Kept) (s : Spot) → HasPlace k s → rank_at k s < length (places k)
+place_inside (Few ps) s h = h
+place_inside (Many x) s h = omega (arith, rank_inside x.value s.block s.offset h.1, length-map (joined x.value) place_of_entry)
+
+pub spot_within : (k : Kept) (s : Spot) → HasSpot k s → rank_at k s ≤ length (places k)
+spot_within (Few ps) s h = h
+spot_within (Many x) s h = omega (arith, rank_within x.value s.block s.offset h.1, length-map (joined x.value) place_of_entry)
+
+pub offset_inside : (k : Kept) (s : Spot) → HasPlace k s → s.offset < length (places k)
+offset_inside (Few ps) s h = h
+offset_inside (Many x) s h = omega (arith, rank_inside x.value s.block s.offset h.1, length-map (joined x.value) place_of_entry)

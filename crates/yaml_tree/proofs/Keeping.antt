@@ -1,0 +1,85 @@
+-- A row beside its places and marks, after a change.
+use Rattle.std.proofs.Common.{◌≡◌, ℕ, zero, suc, ◌+◌, ◌*◌, ◌<◌, List, [], ◌∷◌, ◌++◌, length, get_or, set, map, refl, sym, subst, arith}
+use Rattle.std.specs.List.{insert, remove}
+use Rattle.std.proofs.lemmas.List.{length-map}
+use Rattle.place_blocks.specs.Blocks.{joined}
+use Rattle.place_blocks.specs.Moves.{closed_up, moved_up}
+use Rattle.tree_defs.specs.Tree.{Tree}
+use Rattle.tree_defs.specs.Pairs.{insert as insert_pair, without}
+use Rattle.yaml_tree.specs.Flat.{flat, paired}
+use Rattle.yaml_tree.specs.Marks.{AreMarks}
+use Rattle.yaml_tree.specs.Places.{place_of_entry, mark_of_entry, places, marks, IsIndexed}
+use Rattle.yaml_tree.specs.Ranked.{AreRanked, IsHash, IsRank, IsGap}
+use Rattle.yaml_tree.specs.View.{view, items_view, pairs_view}
+use Rattle.yaml_tree.specs.declared.ranks.Kept.{Kept}
+use Rattle.yaml_tree.specs.declared.ranks.Kept.TheVariants.{Few, Many}
+use Rattle.yaml_tree.specs.declared.yaml.Yaml.{Yaml}
+use Rattle.yaml_tree.proofs.Indexed.{marks_counted}
+use Rattle.yaml_tree.proofs.Marking.{marked_value, marked_removed, marked_moved}
+use Rattle.yaml_tree.proofs.Placed.{place_in, absent}
+use Rattle.yaml_tree.proofs.Ranking.{gap_none}
+use Rattle.yaml_tree.proofs.Rows.{made_without, made_moved, made_added, made_value, ranked_place, seen_as, seen_value}
+
+no_marks : (ms : List ℕ) (r s : ℕ) → ms ≡ [] → s < length (remove ms r) → ⊥
+no_marks [] zero s e h = absurd (omega arith)
+no_marks [] (suc r) s e h = absurd (omega arith)
+no_marks (m ∷ ms) r s e h = cc
+
+marked_without : (o : Kept) (ps : List (Tree × Tree)) (r : ℕ) → AreRanked (places o) ps → r < length (places o) → AreMarks (marks o) (places o) ps
+    → AreMarks (remove (marks o) r) (map (closed_up (get_or (places o) r 0)) (remove (places o) r)) (remove ps (get_or (places o) r 0))
+marked_without (Few rs) ps r a h marked = λ s g. absurd (no_marks [] r s refl g)
+marked_without (Many b) ps r a h marked =
+    marked_removed (map mark_of_entry (joined b.value)) (map place_of_entry (joined b.value)) ps r
+    (omega (arith, length-map (joined b.value) mark_of_entry, length-map (joined b.value) place_of_entry)) a h marked
+
+module _ (k v : Tree) (ys zs : List Yaml) (o n : Kept) (i : IsIndexed (items_view ys) o) (r : ℕ) where
+  pub indexed_moved : IsRank k (places o) (pairs_view ys) r → items_view zs ≡ flat (insert_pair k v (pairs_view ys))
+      → places n ≡ map (moved_up (get_or (places o) r 0) (length (places o))) (places o) → marks n ≡ marks o → IsIndexed (items_view zs) n
+  indexed_moved at e f g =
+      let p = place_in k (pairs_view ys) (get_or (places o) r 0) (ranked_place k ys (pairs_view ys) (places o) r (get_or (places o) r 0) i.hash refl at refl) in
+      record {
+        hash = made_moved k v ys (places o) i.hash zs (places n) r at e f;
+        marked = subst (AreMarks (marks n) (places n)) (sym (seen_as zs (insert_pair k v (pairs_view ys)) e))
+            (subst (λ us. AreMarks (marks n) (places n) (us ++ (k, v) ∷ [])) p.rest
+            (subst (λ ms. AreMarks ms (places n) (remove (pairs_view ys) (get_or (places o) r 0) ++ (k, v) ∷ [])) (sym g)
+            (subst (λ rs. AreMarks (marks o) rs (remove (pairs_view ys) (get_or (places o) r 0) ++ (k, v) ∷ [])) (sym f)
+            (marked_moved (marks o) (places o) (pairs_view ys) r k v (marks_counted o) i.hash.ranked at i.marked))));
+      }
+
+  pub indexed_without : IsRank k (places o) (pairs_view ys) r → items_view zs ≡ flat (without k (pairs_view ys))
+      → places n ≡ map (closed_up (get_or (places o) r 0)) (remove (places o) r) → marks n ≡ remove (marks o) r → IsIndexed (items_view zs) n
+  indexed_without at e f g =
+      let p = place_in k (pairs_view ys) (get_or (places o) r 0) (ranked_place k ys (pairs_view ys) (places o) r (get_or (places o) r 0) i.hash refl at refl) in
+      record {
+        hash = made_without k v ys (places o) i.hash zs (places n) r at e f;
+        marked = subst (AreMarks (marks n) (places n)) (sym (seen_as zs (without k (pairs_view ys)) e))
+            (subst (AreMarks (marks n) (places n)) p.rest
+            (subst (λ ms. AreMarks ms (places n) (remove (pairs_view ys) (get_or (places o) r 0))) (sym g)
+            (subst (λ rs. AreMarks (remove (marks o) r) rs (remove (pairs_view ys) (get_or (places o) r 0))) (sym f)
+            (marked_without o (pairs_view ys) r i.hash.ranked at.0 i.marked))));
+      }
+
+  pub indexed_added : IsGap k (places o) (pairs_view ys) r → items_view zs ≡ flat (insert_pair k v (pairs_view ys))
+      → places n ≡ insert (places o) r (length (places o)) → AreMarks (marks n) (places n) (pairs_view ys ++ (k, v) ∷ []) → IsIndexed (items_view zs) n
+  indexed_added gap e f g =
+      let away = absent k (pairs_view ys) (gap_none k (places o) (pairs_view ys) i.hash.ranked r gap) in
+      record {
+        hash = made_added k v ys (places o) i.hash zs (places n) r gap e f;
+        marked = subst (AreMarks (marks n) (places n)) (sym (seen_as zs (insert_pair k v (pairs_view ys)) e))
+            (subst (λ us. AreMarks (marks n) (places n) (us ++ (k, v) ∷ [])) (sym away.same) g);
+      }
+
+-- the same places and marks
+pub indexed_same : (ys zs : List Yaml) (o n : Kept) → IsIndexed (items_view ys) o → items_view zs ≡ items_view ys → places n ≡ places o → marks n ≡ marks o → IsIndexed (items_view zs) n
+indexed_same ys zs o n i e f g = record {
+  hash = subst (λ ts. IsHash ts (places n)) (sym e) (subst (IsHash (items_view ys)) (sym f) i.hash);
+  marked = subst (λ ts. AreMarks (marks n) (places n) (paired ts)) (sym e)
+      (subst (λ ms. AreMarks ms (places n) (pairs_view ys)) (sym g) (subst (λ rs. AreMarks (marks o) rs (pairs_view ys)) (sym f) i.marked));
+}
+
+-- another value
+pub indexed_value : (ys : List Yaml) (o : Kept) (j : ℕ) (w : Yaml) → IsIndexed (items_view ys) o → IsIndexed (items_view (set ys (2 * j + 1) w)) o
+indexed_value ys o j w i = record {
+  hash = made_value ys (places o) j w i.hash;
+  marked = subst (AreMarks (marks o) (places o)) (sym (seen_value ys (pairs_view ys) (places o) j w i.hash refl)) (marked_value (marks o) (places o) (pairs_view ys) j (view w) i.marked);
+}

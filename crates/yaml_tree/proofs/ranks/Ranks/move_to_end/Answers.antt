@@ -1,0 +1,16 @@
+use Rattle.std.proofs.Common.{map, ap, ◌∙◌}
+use Rattle.place_blocks.specs.Blocks.{joined}
+use Rattle.place_blocks.specs.Moves.{entry_moved_up}
+use Rattle.yaml_tree.specs.Places.{place_of_entry, mark_of_entry}
+use Rattle.yaml_tree.proofs.Indexed.{places_moved, marks_moved}
+use Rattle.yaml_tree.proofs.ranks.Ranks.move_to_end.Goals as goal
+
+pub returns-in-Many-clause-places : goal.returns-in-Many-clause-places
+returns-in-Many-clause-places c =
+    let all = c.move_up.ensures ∙ ap (λ bs. map (entry_moved_up c.args.gone c.args.count) (joined bs)) c.deref_mut.ensures.value in
+    rw c.in-Many.is (ap (map place_of_entry) all ∙ places_moved c.args.gone c.args.count (joined c.in-Many.blocks.value))
+
+pub returns-in-Many-clause-marks : goal.returns-in-Many-clause-marks
+returns-in-Many-clause-marks c =
+    let all = c.move_up.ensures ∙ ap (λ bs. map (entry_moved_up c.args.gone c.args.count) (joined bs)) c.deref_mut.ensures.value in
+    rw c.in-Many.is (ap (map mark_of_entry) all ∙ marks_moved c.args.gone c.args.count (joined c.in-Many.blocks.value))
