@@ -1,38 +1,20 @@
 -- Directives, one after the other.
-use Rattle.std.proofs.Common.{◌≡◌, ℕ, ◌+◌, List, [], ◌∷◌, ◌++◌, Option, Some, None, option_map, is_some, Bool, true, false, not, ◌&&◌, cond, refl, sym, ap, ◌∙◌, subst, if◌then◌else◌, append_assoc, append-nil, arith}
+use Rattle.std.proofs.Common.{◌≡◌, ℕ, ◌+◌, ◌≤◌, nat_lt, List, [], ◌∷◌, ◌++◌, Option, Some, None, option_map, is_some, Bool, true, false, not, ◌&&◌, refl, sym, ap, ◌∙◌, subst, if◌then◌else◌, append_assoc, append-nil, arith}
 use Rattle.std.specs.Prelude.{String, string_bytes, bytes_eq}
 use Rattle.std.specs.BTreeMap.{get_by_text}
-use Rattle.std.specs.BTreeSet as sorted
-use Rattle.std.specs.BTreeSet.{BTreeSet, contains_text}
-use Rattle.std.specs.String.{string_cmp}
 use Rattle.std.specs.declared.alloc.Global.{Global}
-use Rattle.std.proofs.lemmas.Map.Text.{btree_set_updates_text}
+use Rattle.std.specs.Option.{IfSome}
 use Rattle.std.proofs.lemmas.Bool.{both_ways, false_from_ne_true, and_left, and_right, not_from_true}
+use Rattle.std.proofs.lemmas.Bool.Decides.{nat_tests}
 use Rattle.std.proofs.lemmas.Slice.Eq.{bytes_eq-Decides}
 use Rattle.yaml_chars.specs.Text.{string_chars}
 use Rattle.event_defs.specs.Raw.{Directive, version, tag}
 use Rattle.event_defs.specs.Names as defs
 use Rattle.event_defs.specs.Names.{under_name, declared, versions, is_each_once, are_allowed, at_document}
+use Rattle.yaml_parser.specs.declared.names.Declaration.{Declaration}
 use Rattle.yaml_parser.specs.declared.names.Names.{Names}
-use Rattle.yaml_parser.specs.Named.{IsNamed, IsOwn}
+use Rattle.yaml_parser.specs.Named.{IsNamed, IsOwn, is_own, prefix_of}
 use Rattle.yaml_parser.specs.Declares.{HasRead}
-use Rattle.yaml_parser.proofs.NameLemmas.{chars_then_bytes, same_text}
-
-pub note_text : (m n : BTreeSet (String Global)) (key : String Global) → sorted.Updates string_cmp m n key true → (x : String Global)
-    → contains_text n (string_bytes x) ≡ (if bytes_eq (string_chars x) (string_chars key) then true else contains_text m (string_bytes x))
-note_text m n key u x = btree_set_updates_text (string_bytes key) m n true u (string_bytes x) ∙ ap (λ b. cond b true (contains_text m (string_bytes x))) (same_text key x)
-
-same_by_not : (b c : Bool) → not b ≡ not c → b ≡ c
-same_by_not true true h = refl
-same_by_not true false h = cc
-same_by_not false true h = cc
-same_by_not false false h = refl
-
--- whether a name was there, from what its copy's insertion answers
-pub had_name : (own : BTreeSet (String Global)) (name copy : String Global) (is_new had : Bool) → string_chars copy ≡ string_chars name
-    → is_new ≡ not (contains_text own (string_bytes copy)) → is_new ≡ not had → contains_text own (string_bytes name) ≡ had
-had_name own name copy is_new had same added e =
-    ap (contains_text own) (chars_then_bytes name copy (sym same)) ∙ same_by_not (contains_text own (string_bytes copy)) had (sym added ∙ e)
 
 -- ---- what is kept under a name
 
@@ -127,42 +109,63 @@ none_of : {A : Type 0} (o : Option A) → is_some o ≡ false → o ≡ None
 none_of None h = refl
 none_of (Some x) h = cc
 
-map_if : (b : Bool) (v : String Global) (o : Option (String Global)) → option_map string_chars (if b then Some v else o) ≡ (if b then Some (string_chars v) else option_map string_chars o)
-map_if true v o = refl
-map_if false v o = refl
+map_if : (b : Bool) (d : Declaration) (o : Option Declaration) → option_map prefix_of (if b then Some d else o) ≡ (if b then Some (prefix_of d) else option_map prefix_of o)
+map_if true d o = refl
+map_if false d o = refl
 
 some_by : (b : Bool) (v : List ℕ) (o : Option (List ℕ)) → is_some (if b then Some v else o) ≡ (if b then true else is_some o)
 some_by true v o = refl
 some_by false v o = refl
 
-pub has_declared : {code new : Names} {keep : Bool} {names : defs.Names} {read : List Directive} (handle prefix : String Global)
-    → HasRead code keep names read → new.count ≡ code.count → new.anchors ≡ code.anchors
-    → ((x : String Global) → get_by_text new.handles (string_bytes x) ≡ (if bytes_eq (string_chars x) (string_chars handle) then Some prefix else get_by_text code.handles (string_bytes x)))
-    → ((x : String Global) → contains_text new.own (string_bytes x) ≡ (if bytes_eq (string_chars x) (string_chars handle) then true else contains_text code.own (string_bytes x)))
-    → contains_text code.own (string_bytes handle) ≡ false → (string_chars handle ≡ [] → string_chars prefix ≡ [] → ⊥)
-    → HasRead new keep names (read ++ tag (string_chars handle) (string_chars prefix) ∷ []) × (is_each_once (declared (read ++ tag (string_chars handle) (string_chars prefix) ∷ [])) ≡ is_each_once (declared read))
-has_declared {code} {new} {keep} {names} {read} handle prefix h count anchors handles own first named =
+own_by : (earlier : ℕ) (b : Bool) (d : Declaration) (o : Option Declaration) → nat_lt earlier d.number ≡ true → is_own earlier (if b then Some d else o) ≡ (if b then true else is_own earlier o)
+own_by earlier true d o h = h
+own_by earlier false d o h = refl
+
+-- Every declaration is numbered, also behind one more.
+numbered_by : (b : Bool) (d : Declaration) (o : Option Declaration) (n : ℕ) → d.number ≡ n + 1 → IfSome o (λ e. e.number ≤ n) → IfSome (if b then Some d else o) (λ e. e.number ≤ n + 1)
+numbered_by true d o n e h = omega (arith, e)
+numbered_by false d (Some x) n e h = omega (arith, h)
+numbered_by false d None n e h = tt
+
+-- No declaration so far is of a document that begins.
+pub none_own : (o : Option Declaration) (n : ℕ) → IfSome o (λ d. d.number ≤ n) → is_own n o ≡ false
+none_own None n h = refl
+none_own (Some d) n h = grind (arith, nat_tests, h)
+
+-- A handle of which the code knows nothing of this document is declared now, under this number.
+pub has_declared : {code new : Names} {keep : Bool} {names : defs.Names} {read : List Directive} (handle : String Global) (d : Declaration)
+    → HasRead code keep names read → new.count ≡ code.count → new.anchors ≡ code.anchors → new.earlier ≡ code.earlier → new.declared ≡ code.declared + 1 → d.number ≡ code.declared + 1
+    → ((x : String Global) → get_by_text new.handles (string_bytes x) ≡ (if bytes_eq (string_chars x) (string_chars handle) then Some d else get_by_text code.handles (string_bytes x)))
+    → is_own code.earlier (get_by_text code.handles (string_bytes handle)) ≡ false → (string_chars handle ≡ [] → prefix_of d ≡ [] → ⊥)
+    → HasRead new keep names (read ++ tag (string_chars handle) (prefix_of d) ∷ []) × (is_each_once (declared (read ++ tag (string_chars handle) (prefix_of d) ∷ [])) ≡ is_each_once (declared read))
+has_declared {code} {new} {keep} {names} {read} handle d h count anchors earlier more number handles first named =
     let hs = string_chars handle in
-    let ps = string_chars prefix in
+    let ps = prefix_of d in
     let free : under_name hs (declared read) ≡ None = none_of (under_name hs (declared read)) (sym (h.own.own handle) ∙ first) in
     let all = declared_snoc read hs ps named in
+    let later : nat_lt code.earlier d.number ≡ true = grind (arith, nat_tests, h.own.earlier, number) in
     let older = (if keep then names.handles else []) in (
       record {
         named = record {
           count = count ∙ h.named.count;
           anchors = λ x. ap (λ m. get_by_text m (string_bytes x)) anchors ∙ h.named.anchors x;
-          handles = λ x. ap (option_map string_chars) (handles x) ∙ map_if (bytes_eq (string_chars x) hs) prefix (get_by_text code.handles (string_bytes x))
+          handles = λ x. ap (option_map prefix_of) (handles x) ∙ map_if (bytes_eq (string_chars x) hs) d (get_by_text code.handles (string_bytes x))
               ∙ ap (λ o. if bytes_eq (string_chars x) hs then Some ps else o) (h.named.handles x)
               ∙ sym (insert_under (string_chars x) hs ps (declared read) older free)
               ∙ sym (ap (under_name (string_chars x)) (append_assoc (declared read) ((hs, ps) ∷ []) older))
               ∙ sym (ap (λ xs. under_name (string_chars x) (xs ++ older)) all);
+          numbers = λ x. subst (λ n. IfSome (get_by_text new.handles (string_bytes x)) (λ e. e.number ≤ n)) (sym more)
+              (subst (λ o. IfSome o (λ e. e.number ≤ code.declared + 1)) (sym (handles x)) (numbered_by (bytes_eq (string_chars x) hs) d (get_by_text code.handles (string_bytes x)) code.declared number (h.named.numbers x)));
         };
         own = record {
-          own = λ x. own x ∙ ap (λ b. if bytes_eq (string_chars x) hs then true else b) (h.own.own x)
+          own = λ x. ap (λ n. is_own n (get_by_text new.handles (string_bytes x))) earlier ∙ ap (is_own code.earlier) (handles x)
+              ∙ own_by code.earlier (bytes_eq (string_chars x) hs) d (get_by_text code.handles (string_bytes x)) later
+              ∙ ap (λ b. if bytes_eq (string_chars x) hs then true else b) (h.own.own x)
               ∙ sym (some_by (bytes_eq (string_chars x) hs) ps (under_name (string_chars x) (declared read)))
               ∙ sym (ap (λ xs. is_some (if bytes_eq (string_chars x) hs then Some ps else under_name (string_chars x) xs)) (append-nil (declared read)))
               ∙ sym (ap is_some (insert_under (string_chars x) hs ps (declared read) [] free))
               ∙ sym (ap (λ xs. is_some (under_name (string_chars x) xs)) all);
+          earlier = omega (arith, earlier, more, h.own.earlier);
         };
       },
       ap is_each_once all ∙ once_more hs ps (declared read) free,
@@ -174,10 +177,11 @@ named_alike {code} keep names read more same x = record {
   count = x.count;
   anchors = x.anchors;
   handles = λ y. x.handles y ∙ sym (ap (λ xs. under_name (string_chars y) (xs ++ (if keep then names.handles else []))) same);
+  numbers = x.numbers;
 }
 
 pub own_alike : {code : Names} (read more : List Directive) → declared more ≡ declared read → IsOwn code read → IsOwn code more
-own_alike {code} read more same x = record { own = λ y. x.own y ∙ sym (ap (λ xs. is_some (under_name (string_chars y) xs)) same) }
+own_alike {code} read more same x = record { own = λ y. x.own y ∙ sym (ap (λ xs. is_some (under_name (string_chars y) xs)) same); earlier = x.earlier }
 
 -- A directive of another name changes nothing.
 pub has_ignored : {code : Names} {keep : Bool} {names : defs.Names} {read : List Directive} (h p : List ℕ) → h ≡ [] → p ≡ [] → HasRead code keep names read

@@ -128,7 +128,7 @@ not_directive kind.TagDirective a b = absurd (b refl)
 not_directive _ a b = refl
 
 pub directives_begin : {T : Type 0} {p q : Reader T} (k : Kind) {names : defs.Names} {given : List (Ev × Place)}
-    → IsOfKind k p.tokens.peeked → is_directive k ≡ true → q.tokens ≡ p.tokens → q.stack ≡ p.stack → q.names.keeping ≡ p.names.keeping → Starts p.names q.names → IsOwn q.names []
+    → IsOfKind k p.tokens.peeked → is_directive k ≡ true → q.tokens ≡ p.tokens → q.stack ≡ p.stack → q.names.keeping ≡ p.names.keeping → Starts p.names q.names → ((ns : defs.Names) → IsNamed p.names ns → IsOwn q.names [])
     → At at.documents p names given → Directing q names given false
 directives_begin {T} {p} {q} k {names} {given} here h tokens stack keep starts own a =
     let l = looked k p.tokens.peeked here in
@@ -137,7 +137,7 @@ directives_begin {T} {p} {q} k {names} {given} here h tokens stack keep starts o
       read = [];
       here = left_as (ap (option_map (λ (x : Token). tok_of x.1)) l.1) tokens stack (turn.documents_directives p.stack (tok_of l.0.1) e (no_node _ e)) keep
           (subst (λ b. IsNamed q.names (at_document b.tags names [])) (sym keep) (starts names a.code)) refl refl a;
-      own = own;
+      own = own names a.code;
       version = refl;
     }
 

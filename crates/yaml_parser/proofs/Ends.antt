@@ -23,7 +23,7 @@ use Rattle.yaml_tokens.specs.declared.token.Token.{Token}
 use Rattle.yaml_tokens.specs.Shown.{shown, all_shown, tok_of}
 use Rattle.yaml_scanner.specs.Scanned.{scanned}
 use Rattle.event_defs.specs.Grammar.{Documents, stream_tokens}
-use Rattle.event_defs.specs.Stream.{toks}
+use Rattle.token_defs.specs.Toks.{toks}
 use Rattle.grammar_turns.specs.declared.kind.Kind.{Kind}
 use Rattle.grammar_turns.specs.Kinds.{kind_of}
 use Rattle.grammar_turns.specs.Stands.{Begins as Begins1}

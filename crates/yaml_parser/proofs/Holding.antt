@@ -17,7 +17,8 @@ use Rattle.event_defs.specs.Event.{Ev}
 use Rattle.event_defs.specs.Raw.{Raw}
 use Rattle.event_defs.specs.Grammar.{Documents, stream_tokens, stream_events}
 use Rattle.event_defs.specs.Names.{Names, named, no_names}
-use Rattle.event_defs.specs.Stream.{IsStream, BeginsPlaced, events_of, places_of, taken_places, given_places, toks}
+use Rattle.token_defs.specs.Toks.{toks}
+use Rattle.event_defs.specs.Stream.{IsStream, BeginsPlaced, events_of, places_of, taken_places, given_places}
 use Rattle.event_defs.proofs.NameLemmas.{named_append}
 use Rattle.grammar_turns.specs.declared.state.State.{State}
 use Rattle.grammar_turns.specs.declared.state.State.TheVariants as state

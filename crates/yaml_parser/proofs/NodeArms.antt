@@ -20,7 +20,8 @@ use Rattle.event_defs.specs.Raw.{Raw}
 use Rattle.event_defs.specs.Grammar as written
 use Rattle.event_defs.specs.Grammar.{perhaps_anchor_of, perhaps_tag_of, stream_tokens, stream_events}
 use Rattle.event_defs.specs.Names.{Names, number, with_anchor, behind, behind_all, both, named, no_names, resolved_event, perhaps_resolved, resolved, under_name}
-use Rattle.event_defs.specs.Stream.{toks, has_place, gives_place, BeginsPlaced as Opens}
+use Rattle.token_defs.specs.Toks.{toks}
+use Rattle.event_defs.specs.Stream.{has_place, gives_place, BeginsPlaced as Opens}
 use Rattle.grammar_turns.specs.declared.kind.Kind.{Kind}
 use Rattle.grammar_turns.specs.declared.place.Place as places
 use Rattle.grammar_turns.specs.declared.place.Place.TheVariants as place

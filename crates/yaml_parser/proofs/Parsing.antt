@@ -14,7 +14,8 @@ use Rattle.event_defs.specs.Event.{Ev}
 use Rattle.event_defs.specs.Raw.{Raw}
 use Rattle.event_defs.specs.Names as defs
 use Rattle.event_defs.specs.Names.{named, both, no_names, behind_all, resolved_event, behind}
-use Rattle.event_defs.specs.Stream.{events_of, BeginsPlaced, NoneBegins, toks}
+use Rattle.token_defs.specs.Toks.{toks}
+use Rattle.event_defs.specs.Stream.{events_of, BeginsPlaced, NoneBegins}
 use Rattle.yaml_parser.specs.declared.event.Event.{Event}
 use Rattle.yaml_parser.specs.declared.names.Keeping.{Keeping}
 use Rattle.yaml_parser.specs.declared.tokens.Kept.{Kept}
@@ -379,7 +380,7 @@ at_keeping {T} b p k names es f a =
     nothing s none = named_nothing p.names.keeping.tags a.raw (a.events s ∙ ap (λ xs. Some (events_of xs)) none)
 
     same_code : IsNamed p.names names → IsNamed (record (p.names) { keeping = k }) names
-    same_code c = record { count = c.count; anchors = c.anchors; handles = c.handles }
+    same_code c = record { count = c.count; anchors = c.anchors; handles = c.handles; numbers = c.numbers }
 
 held_keeping : {T : Type 0} (p : Reader T) (k : Keeping) (es : List (Ev × Place)) (o : Option Kept)
     → (k.steady ≡ true → (p.names.keeping.steady ≡ true) × (((es ≡ []) × (o ≡ None)) ⊎ (k.tags ≡ p.names.keeping.tags)))

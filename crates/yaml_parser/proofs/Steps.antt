@@ -11,7 +11,8 @@ use Rattle.yaml_scanner.specs.Tokens.{is_end}
 use Rattle.event_defs.specs.Event.{Ev}
 use Rattle.event_defs.specs.Raw.{Raw}
 use Rattle.event_defs.specs.Names.{Names, no_names, named, both, behind, behind_all, resolved_event}
-use Rattle.event_defs.specs.Stream.{events_of, toks, given_places, has_place, gives_place}
+use Rattle.token_defs.specs.Toks.{toks}
+use Rattle.event_defs.specs.Stream.{events_of, given_places, has_place, gives_place}
 use Rattle.grammar_turns.specs.declared.kind.Kind.{Kind}
 use Rattle.grammar_turns.specs.declared.state.State.{State}
 use Rattle.grammar_turns.specs.Kinds.{kind_of}

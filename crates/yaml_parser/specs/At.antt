@@ -13,7 +13,8 @@ use Rattle.event_defs.specs.Event.{Ev}
 use Rattle.event_defs.specs.Raw.{Raw}
 use Rattle.event_defs.specs.Grammar.{tag_of}
 use Rattle.event_defs.specs.Names.{Names, no_names, named, behind_all, at_document, are_allowed, resolved, perhaps_resolved}
-use Rattle.event_defs.specs.Stream.{BeginsPlaced, NoneBegins, events_of, places_of, taken_places, given_places, toks}
+use Rattle.token_defs.specs.Toks.{toks}
+use Rattle.event_defs.specs.Stream.{BeginsPlaced, NoneBegins, events_of, places_of, taken_places, given_places}
 use Rattle.grammar_turns.specs.Goal as at
 use Rattle.grammar_turns.specs.Goal.{Goal}
 use Rattle.grammar_turns.specs.Stands.{Stands}

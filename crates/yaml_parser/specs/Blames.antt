@@ -8,7 +8,7 @@ use Rattle.yaml_tokens.specs.declared.problem.Fault.TheVariants as fault
 use Rattle.yaml_tokens.specs.declared.problem.Problem.{Problem}
 use Rattle.yaml_tokens.specs.declared.problem.Problem.TheVariants as problem
 use Rattle.event_defs.specs.Grammar.{Documents, stream_tokens}
-use Rattle.event_defs.specs.Stream.{toks}
+use Rattle.token_defs.specs.Toks.{toks}
 use Rattle.grammar_turns.specs.declared.kind.Kind.{Kind}
 use Rattle.grammar_turns.specs.declared.kind.Kind.TheVariants as kind
 use Rattle.grammar_turns.specs.declared.place.Place.TheVariants as place

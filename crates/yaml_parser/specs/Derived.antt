@@ -6,7 +6,8 @@ use Rattle.event_defs.specs.Event.{Ev}
 use Rattle.event_defs.specs.Raw.{Raw}
 use Rattle.event_defs.specs.Grammar.{Documents, stream_tokens, stream_events}
 use Rattle.event_defs.specs.Names.{named, no_names}
-use Rattle.event_defs.specs.Stream.{toks, events_of, places_of, taken_places, given_places}
+use Rattle.token_defs.specs.Toks.{toks}
+use Rattle.event_defs.specs.Stream.{events_of, places_of, taken_places, given_places}
 use Rattle.yaml_parser.specs.Nests.{AreResolved}
 
 -- A stream begins with these tokens, and with these events before names are resolved.

@@ -4,7 +4,8 @@ use Rattle.token_defs.specs.Token.{Tok, Token}
 use Rattle.yaml_tokens.specs.Fault.{Fault}
 use Rattle.event_defs.specs.Event.{Ev}
 use Rattle.event_defs.specs.Raw.{Raw}
-use Rattle.event_defs.specs.Stream.{IsStream, IsPlacedStream, BeginsPlaced, Foretells, NoneBegins, toks, events_of}
+use Rattle.token_defs.specs.Toks.{toks}
+use Rattle.event_defs.specs.Stream.{IsStream, IsPlacedStream, BeginsPlaced, Foretells, NoneBegins, events_of}
 use Rattle.yaml_parser.specs.Blames.{Blames, WantsMemory}
 use Rattle.yaml_parser.specs.Derived.{IsDerived, ForetellsRaw}
 use Rattle.yaml_parser.specs.Parsed.{Parsed, read}

@@ -6,7 +6,7 @@ use Rattle.yaml_tokens.specs.declared.token.Token.{Token}
 use Rattle.yaml_tokens.specs.Shown.{shown, all_shown, tok_of}
 use Rattle.yaml_scanner.specs.Scanned.{scanned}
 use Rattle.yaml_scanner.specs.Tokens.{is_end}
-use Rattle.event_defs.specs.Stream.{toks}
+use Rattle.token_defs.specs.Toks.{toks}
 use Rattle.yaml_parser.specs.declared.tokens.Tokens.{Tokens}
 
 abbrev pub shown_list : Option Token → List defs.Token

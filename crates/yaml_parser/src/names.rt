@@ -1,6 +1,5 @@
-ghost use Rattle.std.specs.Prelude.{◌≡◌, List, [], Bool, true, false, not, Some, None, option_map, string_bytes, if◌then◌else◌, bytes_eq, String, IfOk, IfErr, OnOk};
+ghost use Rattle.std.specs.Prelude.{◌≡◌, List, [], Bool, true, false, Some, None, option_map, string_bytes, if◌then◌else◌, bytes_eq, String, IfOk, IfErr, OnOk};
 ghost use Rattle.std.specs.BTreeMap.{get_by_text};
-ghost use Rattle.std.specs.BTreeSet.{contains_text};
 ghost use Rattle.std.specs.declared.alloc.Global.{Global};
 ghost use Rattle.yaml_chars.specs.Text.{string_chars};
 ghost use Rattle.yaml_tokens.specs.declared.problem.Fault.TheVariants.{OutOfMemory};
@@ -10,26 +9,31 @@ ghost use Rattle.event_defs.specs.Names as defs;
 ghost use Rattle.event_defs.specs.Names.{at_document, no_names, number, with_anchor};
 ghost use Rattle.yaml_parser.specs.declared.tokens.Stop.TheVariants.{Own};
 ghost use Rattle.event_defs.specs.Raw.{Directive};
-ghost use Rattle.yaml_parser.specs.Named.{IsNamed, IsOwn};
+ghost use Rattle.yaml_parser.specs.Named.{IsNamed, IsOwn, is_own, prefix_of};
 ghost use Rattle.yaml_parser.specs.Declares.{HasRead, Declares};
 ghost use Rattle.yaml_parser.specs.Resolves.{Resolves, IsUndeclared};
 
 use crate::event::{Tag, copied};
 use crate::tokens::Stop;
 use std::alloc::{AllocError, Global};
-use std::collections::{BTreeMap, BTreeSet};
+use std::collections::BTreeMap;
 use yaml_chars::Marker;
 use yaml_tokens::{Fault, Problem};
 
 // What `!!` stands for where it is not declared (YAML 1.2, section 6.8.2.1).
 const CORE_PREFIX: &str = "tag:yaml.org,2002:";
 
-/// Sets what is kept under a name. An `Err` changes nothing that is kept.
-fn put<V: Drop>(map: &mut BTreeMap<String, V>, key: String, value: V) -> Result<(), AllocError>
-    ensures { OnOk result ((x : String Global) → get_by_text map.new (string_bytes x) ≡ (if bytes_eq (string_chars x) (string_chars key) then Some value else get_by_text map.old (string_bytes x))) }
+/// Sets what is kept under a name, and gives what was kept there. An `Err` changes nothing that is kept.
+fn put<V: Drop>(
+    map: &mut BTreeMap<String, V>,
+    key: String,
+    value: V,
+) -> Result<Option<V>, AllocError>
+    ensures before { IfOk result (λ o. o ≡ get_by_text map.old (string_bytes key)) }
+    ensures kept { OnOk result ((x : String Global) → get_by_text map.new (string_bytes x) ≡ (if bytes_eq (string_chars x) (string_chars key) then Some value else get_by_text map.old (string_bytes x))) }
 {
     match map.insert(key, value) {
-        Ok(_) => Ok(()),
+        Ok(before) => Ok(before),
         Err(_) => Err(AllocError),
     }
 }
@@ -42,23 +46,20 @@ fn declares_nothing(handle: &String, prefix: &String) -> bool
     handle.is_empty() && prefix.is_empty()
 }
 
-/// Adds a name, and answers whether it is new. An `Err` changes nothing.
-fn note(names: &mut BTreeSet<String>, name: String) -> Result<bool, AllocError>
-    ensures new { IfOk result (λ is_new. is_new ≡ not (contains_text names.old (string_bytes name))) }
-    ensures noted { OnOk result ((x : String Global) → contains_text names.new (string_bytes x) ≡ (if bytes_eq (string_chars x) (string_chars name) then true else contains_text names.old (string_bytes x))) }
-{
-    let Ok(is_new) = names.insert(name) else {
-        return Err(AllocError);
-    };
-    Ok(is_new)
-}
-
 /// Whether declared handles count in later documents too.
 #[derive(Clone, Copy)]
 pub struct Keeping {
     pub tags: bool,
     /// Whether this was so from the stream's start on.
     pub steady: bool,
+}
+
+/// What a handle was declared to stand for.
+#[derive(Drop)]
+pub struct Declaration {
+    prefix: String,
+    // The rank of the declaration in the stream, from 1.
+    number: usize,
 }
 
 /// The names of a stream: anchors with their numbers, and tag handles with their prefixes.
@@ -68,9 +69,11 @@ pub struct Names {
     // How many anchors came so far.
     count: usize,
     anchors: BTreeMap<String, usize>,
-    handles: BTreeMap<String, String>,
-    // The handles that this document declared.
-    own: BTreeSet<String>,
+    // How many declarations came so far.
+    declared: usize,
+    // How many of them came before this document.
+    earlier: usize,
+    handles: BTreeMap<String, Declaration>,
     pub keeping: Keeping,
 }
 
@@ -84,8 +87,9 @@ impl Names {
             alloc,
             count: 0,
             anchors: BTreeMap::new(alloc),
+            declared: 0,
+            earlier: 0,
             handles: BTreeMap::new(alloc),
-            own: BTreeSet::new(alloc),
             keeping: Keeping {
                 tags: false,
                 steady: true,
@@ -96,11 +100,11 @@ impl Names {
     /// Forgets what a document's start forgets: the anchors, and the handles unless they are kept.
     pub fn start_document(&mut self)
         ensures keep { self.new.keeping ≡ self.old.keeping }
-        ensures own { IsOwn self.new [] }
+        ensures own { (names : defs.Names) → IsNamed self.old names → IsOwn self.new [] }
         ensures named { (names : defs.Names) → IsNamed self.old names → IsNamed self.new (at_document self.old.keeping.tags names []) }
     {
         self.anchors.clear();
-        self.own.clear();
+        self.earlier = self.declared;
         if !self.keeping.tags {
             self.handles.clear();
         }
@@ -114,13 +118,25 @@ impl Names {
         if declares_nothing(&handle, &prefix) {
             return Ok(());
         }
-        let own = copied(self.alloc, &handle)?;
-        let is_new = note(&mut self.own, own)?;
-        if !is_new {
+        let Some(number) = self.declared.checked_add(1) else {
+            return Err(Stop::Own(Fault::OutOfMemory));
+        };
+        let before = put(&mut self.handles, handle, Declaration { prefix, number })?;
+        if self.is_own(&before) {
             return Err(Stop::Own(Fault::At(Problem::RepeatedHandle, mark)));
         }
-        put(&mut self.handles, handle, prefix)?;
+        self.declared = number;
         Ok(())
+    }
+
+    /// Whether a declaration, where there is one, is of this document.
+    fn is_own(&self, declaration: &Option<Declaration>) -> bool
+        ensures { result ≡ is_own self.now.earlier declaration.now }
+    {
+        match declaration {
+            Some(declaration) => self.earlier < declaration.number,
+            None => false,
+        }
     }
 
     /// A tag with its handle's prefix. `mark` is the place of a fault.
@@ -142,10 +158,10 @@ impl Names {
     /// A copy of what a handle was declared to stand for.
     #[tactic(auto, using(yaml_chars::proofs::TextLemmas::string_chars_same))]
     fn prefix(&self, handle: &String) -> Result<Option<String>, AllocError>
-        ensures { IfOk result (λ o. option_map string_chars o ≡ option_map string_chars (get_by_text self.now.handles (string_bytes handle.now))) }
+        ensures { IfOk result (λ o. option_map string_chars o ≡ option_map prefix_of (get_by_text self.now.handles (string_bytes handle.now))) }
     {
         match self.handles.get(handle.as_str()) {
-            Some(prefix) => Ok(Some(copied(self.alloc, prefix)?)),
+            Some(declaration) => Ok(Some(copied(self.alloc, &declaration.prefix)?)),
             None => Ok(None),
         }
     }
