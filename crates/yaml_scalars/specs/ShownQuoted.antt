@@ -12,7 +12,7 @@ use Rattle.yaml_scalars.specs.declared.escape.Escape.TheVariants.{Char, Code, Un
 use Rattle.yaml_scalars.specs.declared.escape.Digits.{Digits}
 use Rattle.yaml_scalars.specs.declared.escape.Digits.TheVariants.{Two, Four, Eight}
 use Rattle.yaml_scalars.specs.Shown.{folded}
-use Rattle.scalar_model.specs.Quoted.{Mode, State, Escape, quoted_from, first, inside, gap, breaking, behind, doubled, named, closed}
+use Rattle.scalar_model.specs.Quoted.{Mode, State, Escape, quoted_from, first, inside, gap, breaking, behind, doubled, closed}
 
 abbrev pub mode_of : Part → Mode
 mode_of part.First = first
@@ -21,7 +21,6 @@ mode_of part.Gap = gap
 mode_of part.Breaking = breaking
 mode_of part.Behind = behind
 mode_of part.Doubled = doubled
-mode_of part.Named = named
 mode_of part.Closed = closed
 
 abbrev pub at : {T : Type 0} → Mode → Reading T → Folding → State

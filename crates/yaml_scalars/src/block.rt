@@ -346,10 +346,8 @@ fn read_behind<T: Iterator<Item = char>>(
         let text = take_empty(header.chomping, header.broken, block)?;
         return Ok((start, text.into_string()));
     }
-    match read_body(window, literal, indent, column, header.chomping, &mut block) {
-        Ok(place) => Ok((place, block.text.into_string())),
-        Err(fault) => Err(fault),
-    }
+    let place = read_body(window, literal, indent, column, header.chomping, &mut block)?;
+    Ok((place, block.text.into_string()))
 }
 
 /// Reads a block scalar, from its `|` or `>` on. `indent` is the innermost block collection's
@@ -370,9 +368,6 @@ pub fn read_block_scalar<T: Iterator<Item = char>>(
 {
     let start = window.mark();
     window.skip();
-    let header = match read_header(window, start) {
-        Ok(header) => header,
-        Err(fault) => return Err(fault),
-    };
+    let header = read_header(window, start)?;
     read_behind(alloc, window, literal, indent, start, header)
 }

@@ -127,10 +127,8 @@ fn read_minor<T: Iterator<Item = char>>(
         return Err(Fault::At(Problem::VersionDot, start));
     }
     window.skip();
-    match read_number(window, start) {
-        Ok(minor) => Ok(TokenType::VersionDirective(major, minor)),
-        Err(fault) => Err(fault),
-    }
+    let minor = read_number(window, start)?;
+    Ok(TokenType::VersionDirective(major, minor))
 }
 
 /// Reads the two numbers of a version.
@@ -143,10 +141,7 @@ fn read_version<T: Iterator<Item = char>>(
     ensures err { IfErr result (λ e. Reads window.old window.new (λ a b. e ≢ Fault.OutOfMemory → version_value start a (place_of window.old) ≡ Err e)) }
 {
     skip_blanks(window);
-    let major = match read_number(window, start) {
-        Ok(major) => major,
-        Err(fault) => return Err(fault),
-    };
+    let major = read_number(window, start)?;
     read_minor(window, start, major)
 }
 
@@ -161,10 +156,7 @@ fn read_tag_prefix<T: Iterator<Item = char>>(
     ensures err { IfErr result (λ e. Reads window.old window.new (λ a b. e ≢ Fault.OutOfMemory → prefix_behind start handle (blanks a (place_of window.old)) ≡ Err e)) }
 {
     skip_blanks(window);
-    let prefix = match read_prefix(alloc, window, start) {
-        Ok(prefix) => prefix,
-        Err(fault) => return Err(fault),
-    };
+    let prefix = read_prefix(alloc, window, start)?;
     if !is_blank_or_breakz(window.look_ch()) {
         return Err(Fault::At(Problem::TagDirectiveEnd, start));
     }
@@ -182,10 +174,8 @@ fn read_tag_directive<T: Iterator<Item = char>>(
     ensures err { IfErr result (λ e. Reads window.old window.new (λ a b. e ≢ Fault.OutOfMemory → tag_value start a (place_of window.old) ≡ Err e)) }
 {
     skip_blanks(window);
-    match read_handle(alloc, window, start) {
-        Ok(handle) => read_tag_prefix(alloc, window, start, handle),
-        Err(fault) => Err(fault),
-    }
+    let handle = read_handle(alloc, window, start)?;
+    read_tag_prefix(alloc, window, start, handle)
 }
 
 /// Reads what a directive says, up to what may stand before its line's end.
@@ -254,14 +244,9 @@ fn read_named<T: Iterator<Item = char>>(
     ensures ok { IfOk result (λ t. Reads window.old window.new (λ a b. behind_name start (read a window.old (kind_shown directive)) ≡ Ok (read b window.new (tok_of t)))) }
     ensures err { IfErr result (λ e. Reads window.old window.new (λ a b. e ≢ Fault.OutOfMemory → behind_name start (read a window.old (kind_shown directive)) ≡ Err e)) }
 {
-    let token = match read_value(alloc, window, start, directive) {
-        Ok(token) => token,
-        Err(fault) => return Err(fault),
-    };
-    match skip_line_end(window, start) {
-        Ok(()) => Ok(token),
-        Err(fault) => Err(fault),
-    }
+    let token = read_value(alloc, window, start, directive)?;
+    skip_line_end(window, start)?;
+    Ok(token)
 }
 
 /// Reads a directive, from the `%` to behind its line's break. One of an unknown name is a tag
@@ -279,8 +264,6 @@ pub fn read_directive<T: Iterator<Item = char>>(
 {
     let start = window.mark();
     window.skip();
-    match skip_name(window) {
-        Ok(directive) => read_named(alloc, window, start, directive),
-        Err(fault) => Err(fault),
-    }
+    let directive = skip_name(window)?;
+    read_named(alloc, window, start, directive)
 }

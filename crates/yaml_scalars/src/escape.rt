@@ -1,15 +1,15 @@
 //! Escapes of double-quoted scalars (YAML 1.2, section 5.7).
-ghost use Rattle.std.specs.Prelude.{◌≡◌, ◌≢◌, ◌≤◌, ◌<◌, ◌^◌, ◌+◌, ◌*◌, ℕ, zero, suc, Bool, true, false, Ok, Err, OnOk, OnErr, IfOk, IfErr, slice_index, MatchOption};
+ghost use Rattle.std.specs.Prelude.{◌≡◌, ◌≢◌, ◌≤◌, ◌<◌, ◌^◌, ◌+◌, ◌*◌, ℕ, zero, suc, Bool, true, false, Ok, Err, OnOk, OnErr, IfOk, IfErr, slice_index, MatchOption, if◌then◌else◌};
 ghost use Rattle.yaml_chars.specs.Reading.{Reads, Sees, HasChar, place_of};
 ghost use Rattle.scalar_model.specs.declared.context.Context.{Context};
 ghost use Rattle.scalar_model.specs.Folding.{Folded};
-ghost use Rattle.scalar_model.specs.Quoted.{escape_of, is_scalar, digits_from, quoted_from, named};
+ghost use Rattle.scalar_model.specs.Quoted.{escape_of, is_scalar, digits_from, quoted_from, inside, breaking, named};
 ghost use Rattle.yaml_scalars.specs.ShownQuoted.{at, mode_of, escape_shown, count_of, GoesOn, IsRefused};
 ghost use Rattle.yaml_scalars.specs.Shown.{folded};
 
 use crate::folding::Folding;
 use crate::quoted::{Part, Quote};
-use yaml_chars::class::{hex_value, is_hex};
+use yaml_chars::class::{hex_value, is_break, is_hex};
 use yaml_chars::{Marker, Window};
 use yaml_tokens::{Fault, Problem};
 
@@ -19,6 +19,18 @@ enum Digits {
     Two,
     Four,
     Eight,
+}
+
+impl Digits {
+    fn count(self) -> usize
+        ensures { result ≡ count_of self }
+    {
+        match self {
+            Digits::Two => 2,
+            Digits::Four => 4,
+            Digits::Eight => 8,
+        }
+    }
 }
 
 /// What stands behind a backslash: a character's name, or what begins its code.
@@ -31,7 +43,8 @@ enum Escape {
 
 #[tactic(auto, unfolding(scalar_model::specs::Quoted::escape_of))]
 fn escape_of(c: char) -> Escape
-    ensures { escape_shown result ≡ escape_of c }
+    ensures value { escape_shown result ≡ escape_of c }
+    ensures some { result ≢ Escape.Unknown → c ≢ 0 }
 {
     match c {
         '0' => Escape::Char('\0'),
@@ -56,6 +69,7 @@ fn escape_of(c: char) -> Escape
 }
 
 /// Reads a hexadecimal digit.
+#[inline(always)]
 #[tactic(auto, using(scalar_model::proofs::QuotedLemmas::digit_turn, scalar_model::proofs::QuotedLemmas::digit_fails))]
 fn read_digit<T: Iterator<Item = char>>(window: &mut Window<T>, start: Marker) -> Result<u32, Fault>
     ensures ok { IfOk result (λ n. Reads window.old window.new (λ a b. (single : Bool) (context : Context) (more value : ℕ) (t : Folded) →
@@ -72,62 +86,6 @@ fn read_digit<T: Iterator<Item = char>>(window: &mut Window<T>, start: Marker) -
     Ok(hex_value(c))
 }
 
-/// Reads two hexadecimal digits.
-#[tactic(auto, using(scalar_model::proofs::QuotedLemmas::two_digits))]
-fn read_two<T: Iterator<Item = char>>(window: &mut Window<T>, start: Marker) -> Result<u32, Fault>
-    ensures ok { IfOk result (λ n. Reads window.old window.new (λ a b. (single : Bool) (context : Context) (more value : ℕ) (t : Folded) →
-        digits_from single context start (suc (suc more)) value a (place_of window.old) t ≡ digits_from single context start more (value * 256 + n) b (place_of window.new) t)) }
-    ensures err { IfErr result (λ e. Reads window.old window.new (λ a b. (single : Bool) (context : Context) (more value : ℕ) (t : Folded) →
-        digits_from single context start (suc (suc more)) value a (place_of window.old) t ≡ Err e)) }
-    ensures small { IfOk result (λ n. n < 256) }
-{
-    let high = match read_digit(window, start) {
-        Ok(high) => high,
-        Err(fault) => return Err(fault),
-    };
-    match read_digit(window, start) {
-        Ok(low) => Ok(high * 16 + low),
-        Err(fault) => Err(fault),
-    }
-}
-
-/// Reads four hexadecimal digits.
-#[tactic(auto, using(scalar_model::proofs::QuotedLemmas::four_digits))]
-fn read_four<T: Iterator<Item = char>>(window: &mut Window<T>, start: Marker) -> Result<u32, Fault>
-    ensures ok { IfOk result (λ n. Reads window.old window.new (λ a b. (single : Bool) (context : Context) (more value : ℕ) (t : Folded) →
-        digits_from single context start (suc (suc (suc (suc more)))) value a (place_of window.old) t ≡ digits_from single context start more (value * 65536 + n) b (place_of window.new) t)) }
-    ensures err { IfErr result (λ e. Reads window.old window.new (λ a b. (single : Bool) (context : Context) (more value : ℕ) (t : Folded) →
-        digits_from single context start (suc (suc (suc (suc more)))) value a (place_of window.old) t ≡ Err e)) }
-    ensures small { IfOk result (λ n. n < 65536) }
-{
-    let high = match read_two(window, start) {
-        Ok(high) => high,
-        Err(fault) => return Err(fault),
-    };
-    match read_two(window, start) {
-        Ok(low) => Ok(high * 256 + low),
-        Err(fault) => Err(fault),
-    }
-}
-
-/// Reads eight hexadecimal digits.
-#[tactic(auto, using(scalar_model::proofs::QuotedLemmas::eight_digits))]
-fn read_eight<T: Iterator<Item = char>>(window: &mut Window<T>, start: Marker) -> Result<u32, Fault>
-    ensures ok { IfOk result (λ n. Reads window.old window.new (λ a b. (single : Bool) (context : Context) (more value : ℕ) (t : Folded) →
-        digits_from single context start (suc (suc (suc (suc (suc (suc (suc (suc more)))))))) value a (place_of window.old) t ≡ digits_from single context start more (value * 4294967296 + n) b (place_of window.new) t)) }
-    ensures err { IfErr result (λ e. Reads window.old window.new (λ a b. (single : Bool) (context : Context) (more value : ℕ) (t : Folded) →
-        digits_from single context start (suc (suc (suc (suc (suc (suc (suc (suc more)))))))) value a (place_of window.old) t ≡ Err e)) }
-{
-    let high = match read_four(window, start) {
-        Ok(high) => high,
-        Err(fault) => return Err(fault),
-    };
-    match read_four(window, start) {
-        Ok(low) => Ok(high * 65536 + low),
-        Err(fault) => Err(fault),
-    }
-}
-
 /// The character of a code, if it is one's.
 #[tactic(auto, unfolding(scalar_model::specs::Quoted::is_scalar))]
 fn char_of(code: u32) -> Option<char>
@@ -137,7 +95,6 @@ fn char_of(code: u32) -> Option<char>
 }
 
 /// Reads a code's digits.
-#[tactic(auto, using(scalar_model::proofs::QuotedLemmas::from_zero))]
 fn read_code<T: Iterator<Item = char>>(
     window: &mut Window<T>,
     start: Marker,
@@ -148,11 +105,16 @@ fn read_code<T: Iterator<Item = char>>(
     ensures err { IfErr result (λ e. Reads window.old window.new (λ a b. (single : Bool) (context : Context) (t : Folded) →
         digits_from single context start (count_of digits) 0 a (place_of window.old) t ≡ Err e)) }
 {
-    match digits {
-        Digits::Two => read_two(window, start),
-        Digits::Four => read_four(window, start),
-        Digits::Eight => read_eight(window, start),
+    let mut code = 0;
+    let mut left = digits.count();
+    'digits: while left > 0 {
+        match read_digit(window, start) {
+            Ok(digit) => code = code * 16 + digit,
+            Err(fault) => return Err(fault),
+        }
+        left -= 1;
     }
+    Ok(code)
 }
 
 /// Reads a code's digits. The code has to be a character's.
@@ -162,9 +124,9 @@ fn read_coded<T: Iterator<Item = char>>(
     quote: &Quote,
     digits: Digits,
     scalar: &mut Folding,
-) -> Result<Part, Fault>
-    ensures ok { IfOk result (λ next. Reads window.old window.new (λ a b.
-        digits_from quote.now.single quote.now.context quote.now.start (count_of digits) 0 a (place_of window.old) (folded scalar.old) ≡ quoted_from quote.now.single quote.now.context quote.now.start b (at (mode_of next) window.new scalar.new))) }
+) -> Result<(), Fault>
+    ensures ok { OnOk result (Reads window.old window.new (λ a b.
+        digits_from quote.now.single quote.now.context quote.now.start (count_of digits) 0 a (place_of window.old) (folded scalar.old) ≡ quoted_from quote.now.single quote.now.context quote.now.start b (at inside window.new scalar.new))) }
     ensures err { IfErr result (λ e. Reads window.old window.new (λ a b. e ≢ Fault.OutOfMemory →
         digits_from quote.now.single quote.now.context quote.now.start (count_of digits) 0 a (place_of window.old) (folded scalar.old) ≡ Err e)) }
 {
@@ -172,7 +134,7 @@ fn read_coded<T: Iterator<Item = char>>(
         Ok(code) => match char_of(code) {
             Some(c) => {
                 scalar.push(c)?;
-                Ok(Part::Inside)
+                Ok(())
             }
             None => Err(Fault::At(Problem::EscapedCode, quote.start)),
         },
@@ -181,31 +143,77 @@ fn read_coded<T: Iterator<Item = char>>(
 }
 
 /// Reads what a backslash names.
+#[inline(always)]
 #[tactic(auto, using(scalar_model::proofs::QuotedLemmas::named_char, scalar_model::proofs::QuotedLemmas::named_code, scalar_model::proofs::QuotedLemmas::named_unknown))]
-pub(crate) fn read_named<T: Iterator<Item = char>>(
+fn read_named<T: Iterator<Item = char>>(
     window: &mut Window<T>,
     quote: &Quote,
-    c: char,
     scalar: &mut Folding,
-) -> Result<Part, Fault>
-    requires some { c ≢ 0 }
-    requires here { Sees window.old (λ a. c ≡ slice_index a 0) }
-    requires has { HasChar window.old }
-    requires ahead { 2 ≤ window.old.ahead }
-    ensures ok { IfOk result (λ next. GoesOn quote.now named window.old scalar.old (mode_of next) window.new scalar.new) }
+) -> Result<(), Fault>
+    ensures ok { OnOk result (GoesOn quote.now named window.old scalar.old inside window.new scalar.new) }
     ensures err { IfErr result (λ e. IsRefused quote.now named window.old scalar.old window.new e) }
     ensures less { OnOk result (window.new.left < window.old.left) }
 {
+    let c = window.look_ch();
     match escape_of(c) {
         Escape::Char(d) => {
             scalar.push(d)?;
             window.skip();
-            Ok(Part::Inside)
+            Ok(())
         }
         Escape::Unknown => Err(Fault::At(Problem::UnknownEscape, quote.start)),
         Escape::Code(digits) => {
             window.skip();
             read_coded(window, quote, digits, scalar)
+        }
+    }
+}
+
+/// Steps over a backslash, and says whether a break stands behind it.
+#[inline(always)]
+fn skip_backslash<T: Iterator<Item = char>>(
+    window: &mut Window<T>,
+    quote: &Quote,
+    scalar: &Folding,
+) -> bool
+    requires double { quote.now.single ≡ false }
+    requires here { Sees window.old (λ a. slice_index a 0 ≡ 92) }
+    requires has { HasChar window.old }
+    requires ahead { 2 ≤ window.old.ahead }
+    ensures reads { GoesOn quote.now inside window.old scalar.now (if result then breaking else named) window.new scalar.now }
+    ensures less { window.new.left < window.old.left }
+{
+    let _ = quote;
+    let _ = scalar;
+    let breaks = is_break(window.peek(1));
+    window.skip();
+    breaks
+}
+
+/// Reads an escape, and those right behind it.
+pub(crate) fn read_escapes<T: Iterator<Item = char>>(
+    window: &mut Window<T>,
+    quote: &Quote,
+    scalar: &mut Folding,
+) -> Result<Part, Fault>
+    requires double { quote.now.single ≡ false }
+    requires here { Sees window.old (λ a. slice_index a 0 ≡ 92) }
+    requires has { HasChar window.old }
+    requires ahead { 2 ≤ window.old.ahead }
+    ensures ok { IfOk result (λ next. GoesOn quote.now inside window.old scalar.old (mode_of next) window.new scalar.new) }
+    ensures err { IfErr result (λ e. IsRefused quote.now inside window.old scalar.old window.new e) }
+    ensures less { OnOk result (window.new.left < window.old.left) }
+{
+    'escapes: loop {
+        if skip_backslash(window, quote, scalar) {
+            return Ok(Part::Breaking);
+        }
+        if let Err(fault) = read_named(window, quote, scalar) {
+            return Err(fault);
+        }
+        window.lookahead(2);
+        if window.ch() != '\\' {
+            return Ok(Part::Inside);
         }
     }
 }

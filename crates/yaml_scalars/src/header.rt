@@ -70,10 +70,7 @@ fn read_indicators<T: Iterator<Item = char>>(
     ensures small { IfOk result (λ h. h.1 < 10) }
 {
     let early = read_chomping(window);
-    let increment = match read_increment(window, start) {
-        Ok(increment) => increment,
-        Err(fault) => return Err(fault),
-    };
+    let increment = read_increment(window, start)?;
     match early {
         Chomping::Clip => Ok((read_chomping(window), increment)),
         Chomping::Strip => Ok((Chomping::Strip, increment)),
@@ -126,16 +123,11 @@ pub(crate) fn read_header<T: Iterator<Item = char>>(
     ensures err { IfErr result (λ e. Reads window.old window.new (λ a b. header start a (place_of window.old) ≡ Err e)) }
     ensures small { IfOk result (λ h. h.increment < 10) }
 {
-    let (chomping, increment) = match read_indicators(window, start) {
-        Ok(indicators) => indicators,
-        Err(fault) => return Err(fault),
-    };
-    match end_header(window, start) {
-        Ok(broken) => Ok(Header {
-            chomping,
-            increment,
-            broken,
-        }),
-        Err(fault) => Err(fault),
-    }
+    let (chomping, increment) = read_indicators(window, start)?;
+    let broken = end_header(window, start)?;
+    Ok(Header {
+        chomping,
+        increment,
+        broken,
+    })
 }

@@ -3,11 +3,11 @@ ghost use Rattle.std.specs.Prelude.{◌≡◌, ◌≢◌, ◌≤◌, ◌<◌, �
 ghost use Rattle.yaml_chars.specs.Class.{is_blank, is_break};
 ghost use Rattle.yaml_chars.specs.Reading.{Reads, Sees, HasChar, SamePlace, place_of};
 ghost use Rattle.yaml_chars.specs.Text.{string_chars};
-ghost use Rattle.scalar_model.specs.Quoted.{quote_of, refused, quoted, first, inside, gap, breaking, behind, doubled, named, closed};
+ghost use Rattle.scalar_model.specs.Quoted.{quote_of, refused, quoted, first, inside, gap, breaking, behind, doubled, closed};
 ghost use Rattle.yaml_scalars.specs.Shown.{read};
 ghost use Rattle.yaml_scalars.specs.ShownQuoted.{mode_of, GoesOn, IsRefused};
 
-use crate::escape::read_named;
+use crate::escape::read_escapes;
 use crate::folding::Folding;
 use crate::plain::at_marker;
 use scalar_model::Context;
@@ -27,7 +27,6 @@ pub(crate) enum Part {
     Breaking,
     Behind,
     Doubled,
-    Named,
     Closed,
 }
 
@@ -110,9 +109,7 @@ fn read_inside<T: Iterator<Item = char>>(
     ensures less { OnOk result (window.new.left < window.old.left) }
 {
     if c == '\\' && !quote.single {
-        let breaks = is_break(window.peek(1));
-        window.skip();
-        return Ok(if breaks { Part::Breaking } else { Part::Named });
+        return read_escapes(window, quote, scalar);
     }
     if c == quote_of(quote.single) {
         let doubled = quote.single && window.peek(1) == '\'';
@@ -279,11 +276,7 @@ fn read_part<T: Iterator<Item = char>>(
     window.lookahead(4);
     let c = window.ch();
     if c == '\0' {
-        let problem = match part {
-            Part::Named => Problem::UnknownEscape,
-            _ => Problem::QuotedEnd,
-        };
-        return Err(Fault::At(problem, quote.start));
+        return Err(Fault::At(Problem::QuotedEnd, quote.start));
     }
     match part {
         Part::First => read_line(window, quote, c, scalar),
@@ -292,7 +285,6 @@ fn read_part<T: Iterator<Item = char>>(
         Part::Breaking => read_escaped_break(window, quote, c, scalar),
         Part::Behind => read_behind(window, quote, c, scalar),
         Part::Doubled => read_doubled(window, quote, c, scalar),
-        Part::Named => read_named(window, quote, c, scalar),
         Part::Closed => unreachable!(),
     }
 }

@@ -160,10 +160,7 @@ pub fn read_tag<T: Iterator<Item = char>>(
 {
     let start = window.mark();
     window.skip();
-    let tag = match read_here(alloc, window, start) {
-        Ok(tag) => tag,
-        Err(fault) => return Err(fault),
-    };
+    let tag = read_here(alloc, window, start)?;
     if !ends_tag(in_flow, window.look_ch()) {
         return Err(Fault::At(Problem::TagEnd, start));
     }
@@ -228,8 +225,6 @@ pub(crate) fn read_prefix<T: Iterator<Item = char>>(
     if c != '!' && !is_tag(c) {
         return Err(Fault::At(Problem::GlobalTagCharacter, start));
     }
-    match read_uri(window, start, &mut prefix) {
-        Ok(()) => Ok(prefix),
-        Err(fault) => Err(fault),
-    }
+    read_uri(window, start, &mut prefix)?;
+    Ok(prefix)
 }

@@ -44,10 +44,7 @@ fn read_octet<T: Iterator<Item = char>>(window: &mut Window<T>, start: Marker) -
     ensures less { OnOk result (window.new.left < window.old.left) }
     ensures small { IfOk result (λ n. n < 256) }
 {
-    let high = match read_high(window, start) {
-        Ok(high) => high,
-        Err(fault) => return Err(fault),
-    };
+    let high = read_high(window, start)?;
     let c = window.look_ch();
     if !is_hex(c) {
         return Err(Fault::At(Problem::TagOctet, start));
@@ -95,10 +92,8 @@ fn read_two_trails<T: Iterator<Item = char>>(
         trails_from test start (suc (suc more)) code least a (place_of window.old) t ≡ Err e)) }
     ensures less { OnOk result (window.new.left < window.old.left) }
 {
-    match read_trail(window, start, code) {
-        Ok(code) => read_trail(window, start, code),
-        Err(fault) => Err(fault),
-    }
+    let code = read_trail(window, start, code)?;
+    read_trail(window, start, code)
 }
 
 /// Reads three octets that go on with a character whose first bits are `code`.
@@ -114,10 +109,8 @@ fn read_three_trails<T: Iterator<Item = char>>(
         trails_from test start (suc (suc (suc more))) code least a (place_of window.old) t ≡ Err e)) }
     ensures less { OnOk result (window.new.left < window.old.left) }
 {
-    match read_trail(window, start, code) {
-        Ok(code) => read_two_trails(window, start, code),
-        Err(fault) => Err(fault),
-    }
+    let code = read_trail(window, start, code)?;
+    read_two_trails(window, start, code)
 }
 
 /// The character of a code of at least `least`: a smaller one is overlong.
@@ -158,10 +151,8 @@ fn read_trails<T: Iterator<Item = char>>(
     } else {
         (Err(Fault::At(Problem::TagLeadingOctet, start)), 0)
     };
-    match code {
-        Ok(code) => Ok((code, least)),
-        Err(fault) => Err(fault),
-    }
+    let code = code?;
+    Ok((code, least))
 }
 
 /// Reads the octets of a character in UTF-8, each a `%` and two hexadecimal digits.
@@ -175,14 +166,9 @@ fn read_uri_escape<T: Iterator<Item = char>>(
         uri_from test start a (at (percent lead) window.old t) ≡ Err e)) }
     ensures less { OnOk result (window.new.left < window.old.left) }
 {
-    let octet = match read_octet(window, start) {
-        Ok(octet) => octet,
-        Err(fault) => return Err(fault),
-    };
-    match read_trails(window, start, octet) {
-        Ok((code, least)) => decoded(code, least, start),
-        Err(fault) => Err(fault),
-    }
+    let octet = read_octet(window, start)?;
+    let (code, least) = read_trails(window, start, octet)?;
+    decoded(code, least, start)
 }
 
 /// Reads a character of a URI, which may be an escaped one.

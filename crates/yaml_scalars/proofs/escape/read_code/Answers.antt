@@ -1,36 +1,18 @@
-use Rattle.std.proofs.Common.{◌≡◌, ◌∙◌, ap, zero, suc, ℕ, Bool, ◌+◌, ◌*◌, Err}
-use Rattle.yaml_chars.specs.Reading.{Reads, place_of}
-use Rattle.yaml_tokens.specs.declared.problem.Fault.{Fault}
-use Rattle.scalar_model.specs.declared.context.Context.{Context}
-use Rattle.scalar_model.specs.Folding.{Folded}
-use Rattle.scalar_model.specs.Quoted.{digits_from}
-use Rattle.scalar_model.proofs.QuotedLemmas.{from_zero}
-use Rattle.yaml_scalars.specs.ShownQuoted.{count_of}
-use Rattle.yaml_scalars.proofs.WindowLemmas.{Reads-map, IfOk-map, IfErr-map}
+use Rattle.std.proofs.Common.{◌∙◌, ◌-◌, arith}
+use Rattle.yaml_chars.proofs.ReadingLemmas.{Reads-then}
+use Rattle.yaml_scalars.proofs.EscapeLemmas.{one_fewer, seven_digits, one_more_fits}
 use Rattle.yaml_scalars.proofs.escape.read_code.Goals as goal
 
-pub returns-in-Eight-clause-ok : goal.returns-in-Eight-clause-ok
-returns-in-Eight-clause-ok g c =
-    let old = place_of c.args.window.now in
-    let new = place_of c.read_eight.new.window in
-    let start = c.args.start in
-    IfOk-map
-    {P = λ n. Reads c.args.window.now c.read_eight.new.window (λ a b. (single : Bool) (context : Context) (more value : ℕ) (t : Folded) → digits_from single context start (suc (suc (suc (suc (suc (suc (suc (suc more)))))))) value a old t ≡ digits_from single context start more (value * 4294967296 + n) b new t)}
-    {Q = λ n. Reads c.args.window.now c.read_eight.new.window (λ a b. (single : Bool) (context : Context) (t : Folded) → digits_from single context start (count_of c.args.digits) 0 a old t ≡ digits_from single context start zero n b new t)}
-    _ c.read_eight.ensures.ok
-    (λ n reads. Reads-map _ _ reads (λ a b p single context t.
-    ap (λ d. digits_from single context start (count_of d) 0 a old t) c.in-Eight.is
-    ∙ p single context zero 0 t
-    ∙ ap (λ k. digits_from single context start zero k b new t) (from_zero 4294967296 n)))
+pub overflow_mul-code : goal.overflow_mul-code
+overflow_mul-code g c = record { fits = omega (arith, seven_digits c.digits.code c.digits.left c.digits.invariant.fits c.digits-test.true) }
 
-pub returns-in-Eight-clause-err : goal.returns-in-Eight-clause-err
-returns-in-Eight-clause-err g c =
-    let old = place_of c.args.window.now in
-    let start = c.args.start in
-    IfErr-map
-    {P = λ (e : Fault). Reads c.args.window.now c.read_eight.new.window (λ a b. (single : Bool) (context : Context) (more value : ℕ) (t : Folded) → digits_from single context start (suc (suc (suc (suc (suc (suc (suc (suc more)))))))) value a old t ≡ Err e)}
-    {Q = λ (e : Fault). Reads c.args.window.now c.read_eight.new.window (λ a b. (single : Bool) (context : Context) (t : Folded) → digits_from single context start (count_of c.args.digits) 0 a old t ≡ Err e)}
-    _ c.read_eight.ensures.err
-    (λ e reads. Reads-map _ _ reads (λ a b p single context t.
-    ap (λ d. digits_from single context start (count_of d) 0 a old t) c.in-Eight.is
-    ∙ p single context zero 0 t))
+pub overflow_add-code : goal.overflow_add-code
+overflow_add-code g c = record { fits = omega (arith, seven_digits c.digits.code c.digits.left c.digits.invariant.fits c.digits-test.true, c.in-Ok.ensures.small) }
+
+pub digits-preserved : goal.digits-preserved
+digits-preserved g c = record {
+  reads = Reads-then _ _ _ c.digits.invariant.reads c.in-Ok.ensures.ok (λ a b d e f single context t.
+      e single context t ∙ one_fewer single context c.args.start c.digits.left c.digits.code b _ t c.digits-test.true ∙ f single context (c.digits.left - 1) c.digits.code t);
+  few = omega (arith, c.digits.invariant.few);
+  fits = one_more_fits c.digits.code c.in-Ok.digit c.digits.left c.digits.invariant.fits c.digits-test.true c.digits.invariant.few c.in-Ok.ensures.small;
+}

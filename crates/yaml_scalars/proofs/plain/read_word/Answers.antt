@@ -1,4 +1,4 @@
-use Rattle.std.proofs.Common.{◌≡◌, ◌∙◌}
+use Rattle.std.proofs.Common.{◌∙◌}
 use Rattle.yaml_chars.proofs.ReadingLemmas.{Reads-then}
 use Rattle.scalar_model.proofs.RunLemmas.{plain_run}
 use Rattle.yaml_scalars.proofs.plain.read_word.Goals as goal

@@ -1,4 +1,4 @@
-use Rattle.std.proofs.Common.{◌≡◌, ◌∙◌}
+use Rattle.std.proofs.Common.{◌∙◌}
 use Rattle.yaml_chars.proofs.ReadingLemmas.{Reads-then}
 use Rattle.scalar_model.proofs.RunLemmas.{quoted_run}
 use Rattle.yaml_scalars.proofs.quoted.read_run.Goals as goal
