@@ -30,8 +30,9 @@ use Rattle.yaml_chars.specs.Reading.{HasNoNul}
 use Rattle.scalar_defs.specs.Classes.{is_nul}
 use Rattle.cut_defs.specs.Cut.{IsCut, IsCutOfBeginning, tokens_of, end_token}
 use Rattle.scan_scalars.specs.PlainEnds.{has_no_nul}
-use Rattle.scan_cut.proofs.PieceNeeds.{pieces_are_read}
+use Rattle.scan_cut.proofs.PiecesRead.{pieces_are_read}
 use Rattle.scan_cut.proofs.Fetched.{tokens_are_cut}
+use Rattle.scan_cut.proofs.BlameFetch.{faults_stand}
 use Rattle.scan_cut.proofs.Beginnings.{first_tokens_are_cut}
 
 -- before a text
@@ -252,7 +253,7 @@ is_refusal (Some k) a r = by k.fault k.mark r
   where
     by : (e : Fault) (m : Place) → (e ≢ OutOfMemory → IsRefused a e) → (fault_of e m).memory ≡ false → IsRefusal a (fault_of e m)
     by OutOfMemory m r n = absurd cc
-    by (At q p) m r n = record { fault = At q p; place = m; refused = r (λ e. absurd cc); shown = refl }
+    by (At q p) m r n = record { fault = At q p; place = m; refused = r (λ e. absurd cc); shown = refl; stands = λ n s. faults_stand pieces_are_read a (At q p) (no_nul a n) (r (λ e. absurd cc)) s }
 
 one_refusal : (f : Option Kept) (a : List ℕ) → IfSome f (λ k. k.fault ≢ OutOfMemory → IsRefused a k.fault) → (e : Fault) → IsRefused a e → IfSome (option_map kept_fault f) (λ x. x.memory ≡ false → (p : Place) × (x ≡ fault_of e p))
 one_refusal None a r e i = tt

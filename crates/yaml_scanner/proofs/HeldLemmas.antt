@@ -138,6 +138,14 @@ pub unroll_done : (limit : ℕ) (h u : Held) (l : Levels) → in_flow h ≡ fals
 unfolding unroll_indent
 unroll_done limit h u l g e f = rw (g, e) f
 
+pub unroll_shallow : (limit : ℕ) (h : Held) → h.indent ≤ limit → h ≡ unroll_indent limit h
+unfolding unroll_indent
+unroll_shallow limit h e = by (in_flow h) refl
+  where
+    by : (b : Bool) → in_flow h ≡ b → h ≡ (if in_flow h then h else with_levels h (unrolled limit h.place h.indent h.indents h.tokens))
+    by true g = rw g refl
+    by false g = rw (g, unrolled_done limit h.place h.indent h.indents h.tokens e) refl
+
 pub without_block : (i : ℕ) (ds : List Indent) (ts : List Token) → ends_open ds ≡ false → without_open i ds ts ≡ record { indent = i; indents = ds; tokens = ts }
 unfolding without_open
 without_block i [] ts o = refl

@@ -1,26 +1,26 @@
--- Block and flow collections.
-use Rattle.std.specs.Prelude.{Bool, if◌then◌else◌}
+-- Block and flow collections, by their kind.
 use Rattle.token_defs.specs.Token.{Tok}
 use Rattle.scan_model.specs.declared.level.FlowLevel.{FlowLevel}
 use Rattle.scan_model.specs.declared.level.FlowLevel.TheVariants as level
-use Rattle.yaml_scanner.specs.declared.levels.Collection.{Collection}
-use Rattle.yaml_scanner.specs.declared.levels.Collection.TheVariants.{Sequence, Mapping}
+use Rattle.yaml_scanner.specs.declared.collection.Collection.{Collection}
+use Rattle.yaml_scanner.specs.declared.collection.Collection.TheVariants.{Sequence, Mapping}
 
--- the token of a collection's start
-abbrev pub start_of : Collection → Tok
-start_of Sequence = Tok.block_sequence_start
-start_of Mapping = Tok.block_mapping_start
+-- the token of the start of a block collection
+abbrev pub block_start : Collection → Tok
+block_start Sequence = Tok.block_sequence_start
+block_start Mapping = Tok.block_mapping_start
 
--- the level of a flow mapping, or of a flow sequence
-abbrev pub level_of : Bool → FlowLevel
-level_of mapping = (if mapping then level.Mapping else level.Entry)
+-- the token of the start of a flow collection
+abbrev pub flow_start : Collection → Tok
+flow_start Sequence = Tok.flow_sequence_start
+flow_start Mapping = Tok.flow_mapping_start
 
-abbrev pub flow_start : Bool → Tok
-flow_start mapping = (if mapping then Tok.flow_mapping_start else Tok.flow_sequence_start)
+-- the token of the end of a flow collection
+abbrev pub flow_end : Collection → Tok
+flow_end Sequence = Tok.flow_sequence_end
+flow_end Mapping = Tok.flow_mapping_end
 
-abbrev pub flow_end : Bool → Tok
-flow_end mapping = (if mapping then Tok.flow_mapping_end else Tok.flow_sequence_end)
-
--- a document's marker: of its end, or of its start
-abbrev pub marker_of : Bool → Tok
-marker_of end = (if end then Tok.document_end else Tok.document_start)
+-- the level of a flow collection, before its first entry
+abbrev pub level_of : Collection → FlowLevel
+level_of Sequence = level.Entry
+level_of Mapping = level.Mapping

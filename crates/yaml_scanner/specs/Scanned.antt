@@ -8,6 +8,7 @@ use Rattle.yaml_tokens.specs.Problem.{fault_of}
 use Rattle.yaml_tokens.specs.declared.problem.Fault as code
 use Rattle.cut_defs.specs.Cut.{IsCut, IsCutOfBeginning}
 use Rattle.scan_model.specs.Run.{HasTokens, IsRefused}
+use Rattle.scan_cut.specs.Faults.{IsThere, is_shown}
 use Rattle.yaml_scanner.specs.declared.fetcher.Fetcher.{Fetcher}
 use Rattle.yaml_scanner.specs.declared.fetcher.Kept.{Kept}
 use Rattle.yaml_scanner.specs.Follows.{Begins, IsReached}
@@ -71,6 +72,8 @@ pub record IsRefusal (a : List ℕ) (f : Fault) : Type 0 where
   pub place : Place
   pub refused : IsRefused a fault
   pub shown : f ≡ fault_of fault place
+  -- a fault that stands in a text by itself stands in this one: a bad escape, the end or a document marker inside a quoted scalar, a flow collection too deep, a dash in flow
+  pub stands : HasNoNul a → is_shown fault ≡ true → IsThere a fault
 
 -- What was handed out, and the fault, where a is the text.
 pub record ScansIn (a : List ℕ) (s : Scanned) : Type 0 where

@@ -12,9 +12,9 @@ ghost use Rattle.yaml_scanner.specs.Shape.{held, Does, Fails};
 ghost use Rattle.yaml_scanner.specs.SimpleKeys.{keyed_by};
 ghost use Rattle.yaml_scanner.specs.Work.{Moves, Fetches};
 
+use crate::collection::Collection;
 use crate::fetcher::Fetcher;
 use crate::keys::SimpleKey;
-use crate::levels::Collection;
 use scan_model::FlowLevel;
 use yaml_chars::Marker;
 use yaml_chars::class::{is_alpha, is_blank_or_breakz, is_break, is_flow};

@@ -10,9 +10,9 @@ ghost use Rattle.scan_model.specs.Document.{begin_stream, fetch_stream_end, fetc
 ghost use Rattle.scan_model.specs.Fetch.{comes_marker, is_value, token_by, fetch_token, fetch_indented, fetch_first_column, fetch_content, fetch_here, fetch_next, fetch};
 ghost use Rattle.yaml_scanner.specs.Shape.{held, state, Does, Fails};
 ghost use Rattle.yaml_scanner.specs.Steps.{end_quoted, fetch_bar, scalar_by};
-ghost use Rattle.yaml_scanner.specs.Collections.{marker_of};
 ghost use Rattle.yaml_scanner.specs.Work.{Moves, Fetches, HasChars, work};
 
+use crate::collection::Collection;
 use crate::fetcher::Fetcher;
 use scan_model::{Class, class_of};
 use yaml_chars::class::{is_blank_or_breakz, is_breakz, is_flow};
@@ -29,16 +29,6 @@ fn anchor_token(alias: bool, name: String) -> TokenType
         TokenType::Alias(name)
     } else {
         TokenType::Anchor(name)
-    }
-}
-
-fn marker_of(end: bool) -> TokenType
-    ensures { tok_of result ≡ marker_of end }
-{
-    if end {
-        TokenType::DocumentEnd
-    } else {
-        TokenType::DocumentStart
     }
 }
 
@@ -194,7 +184,7 @@ impl<T: Iterator<Item = char>> Fetcher<T> {
             return self.fetch_directive();
         }
         if self.at_marker('-') {
-            return self.fetch_document_marker(false);
+            return self.fetch_document_marker(TokenType::DocumentStart);
         }
         if self.at_marker('.') {
             return self.fetch_document_end();
@@ -241,10 +231,10 @@ impl<T: Iterator<Item = char>> Fetcher<T> {
         ensures moves { OnOk result (Moves self.old self.new 7 8) }
     {
         match class_of(self.window.ch()) {
-            Class::OpenBracket => self.fetch_flow_collection_start(false),
-            Class::OpenBrace => self.fetch_flow_collection_start(true),
-            Class::CloseBracket => self.fetch_flow_collection_end(false),
-            Class::CloseBrace => self.fetch_flow_collection_end(true),
+            Class::OpenBracket => self.fetch_flow_collection_start(Collection::Sequence),
+            Class::OpenBrace => self.fetch_flow_collection_start(Collection::Mapping),
+            Class::CloseBracket => self.fetch_flow_collection_end(Collection::Sequence),
+            Class::CloseBrace => self.fetch_flow_collection_end(Collection::Mapping),
             Class::Comma => self.fetch_flow_entry(),
             Class::Dash => self.fetch_dash(),
             Class::Question => self.fetch_question(),
@@ -391,18 +381,18 @@ impl<T: Iterator<Item = char>> Fetcher<T> {
     }
 
     /// `---` or `...`
-    fn fetch_document_marker(&mut self, end: bool) -> Result<(), Fault>
+    fn fetch_document_marker(&mut self, marker: TokenType) -> Result<(), Fault>
         requires ahead { 3 ≤ self.old.window.ahead }
         requires has { HasChars 3 self.old.window }
-        ensures does { OnOk result (Does (fetch_document_marker (marker_of end)) self.old self.new) }
-        ensures fails { IfErr result (λ e. Fails (fetch_document_marker (marker_of end)) self.old self.new e) }
+        ensures does { OnOk result (Does (fetch_document_marker (tok_of marker)) self.old self.new) }
+        ensures fails { IfErr result (λ e. Fails (fetch_document_marker (tok_of marker)) self.old self.new e) }
         ensures run { Fetches self.old self.new }
         ensures moves { OnOk result (Moves self.old self.new 1 8) }
     {
         let mark = self.window.mark();
         self.begin_line()?;
         self.skip_marker();
-        self.push_token(mark, marker_of(end))?;
+        self.push_token(mark, marker)?;
         Ok(())
     }
 
@@ -415,7 +405,7 @@ impl<T: Iterator<Item = char>> Fetcher<T> {
         ensures run { Fetches self.old self.new }
         ensures moves { OnOk result (Moves self.old self.new 1 8) }
     {
-        self.fetch_document_marker(true)?;
+        self.fetch_document_marker(TokenType::DocumentEnd)?;
         self.pass_spaces()?;
         if !is_breakz(self.window.ch()) {
             return Err(Fault::At(Problem::ContentAfterDocumentEnd, self.window.mark()));

@@ -9,6 +9,7 @@ ghost use Rattle.yaml_scanner.specs.Collections.{level_of, flow_start, flow_end}
 ghost use Rattle.yaml_scanner.specs.Shape.{held, Does, Fails};
 ghost use Rattle.yaml_scanner.specs.Work.{Moves, Fetches};
 
+use crate::collection::Collection;
 use crate::fetcher::Fetcher;
 use scan_model::FlowLevel;
 use yaml_chars::Marker;
@@ -17,36 +18,6 @@ use yaml_tokens::{Fault, Problem, Token, TokenType};
 
 // How deep flow collections may stand one in another.
 const DEEPEST_FLOW: usize = 255;
-
-fn level_of(mapping: bool) -> FlowLevel
-    ensures { result ≡ level_of mapping }
-{
-    if mapping {
-        FlowLevel::Mapping
-    } else {
-        FlowLevel::Entry
-    }
-}
-
-fn flow_start(mapping: bool) -> TokenType
-    ensures { tok_of result ≡ flow_start mapping }
-{
-    if mapping {
-        TokenType::FlowMappingStart
-    } else {
-        TokenType::FlowSequenceStart
-    }
-}
-
-fn flow_end(mapping: bool) -> TokenType
-    ensures { tok_of result ≡ flow_end mapping }
-{
-    if mapping {
-        TokenType::FlowMappingEnd
-    } else {
-        TokenType::FlowSequenceEnd
-    }
-}
 
 impl<T: Iterator<Item = char>> Fetcher<T> {
     /// Steps over an indicator.
@@ -90,38 +61,38 @@ impl<T: Iterator<Item = char>> Fetcher<T> {
     }
 
     /// `[` or `{`
-    pub(crate) fn fetch_flow_collection_start(&mut self, mapping: bool) -> Result<(), Fault>
+    pub(crate) fn fetch_flow_collection_start(&mut self, kind: Collection) -> Result<(), Fault>
         requires ahead { 0 < self.old.window.ahead }
         requires has { HasChar self.old.window }
-        ensures does { OnOk result (Does (fetch_flow_collection_start (level_of mapping) (flow_start mapping)) self.old self.new) }
-        ensures fails { IfErr result (λ e. Fails (fetch_flow_collection_start (level_of mapping) (flow_start mapping)) self.old self.new e) }
+        ensures does { OnOk result (Does (fetch_flow_collection_start (level_of kind) (flow_start kind)) self.old self.new) }
+        ensures fails { IfErr result (λ e. Fails (fetch_flow_collection_start (level_of kind) (flow_start kind)) self.old self.new e) }
         ensures run { Fetches self.old self.new }
         ensures moves { OnOk result (Moves self.old self.new 2 8) }
     {
         let mark = self.window.mark();
-        self.begin_flow(mapping)?;
+        self.begin_flow(kind)?;
         self.pass_indicator()?;
-        self.push_token(mark, flow_start(mapping))?;
+        self.push_token(mark, kind.flow_start())?;
         Ok(())
     }
 
     /// What the start of a flow collection leaves, which may be a key.
-    fn begin_flow(&mut self, mapping: bool) -> Result<(), Fault>
-        ensures held { OnOk result (begin_flow (level_of mapping) (held self.old) ≡ Ok (held self.new)) }
-        ensures fault { IfErr result (λ e. e ≢ Fault.OutOfMemory → begin_flow (level_of mapping) (held self.old) ≡ Err e) }
+    fn begin_flow(&mut self, kind: Collection) -> Result<(), Fault>
+        ensures held { OnOk result (begin_flow (level_of kind) (held self.old) ≡ Ok (held self.new)) }
+        ensures fault { IfErr result (λ e. e ≢ Fault.OutOfMemory → begin_flow (level_of kind) (held self.old) ≡ Err e) }
         ensures moves { Moves self.old self.new 1 0 }
         ensures window { self.new.window ≡ self.old.window }
     {
         self.save_simple_key();
         self.roll_one_col_indent()?;
-        self.increase_flow_level(mapping)?;
+        self.increase_flow_level(kind)?;
         self.key_allowed = true;
         Ok(())
     }
 
-    fn increase_flow_level(&mut self, mapping: bool) -> Result<(), Fault>
-        ensures held { OnOk result (increase_flow_level (level_of mapping) (held self.old) ≡ Ok (held self.new)) }
-        ensures fault { IfErr result (λ e. e ≢ Fault.OutOfMemory → increase_flow_level (level_of mapping) (held self.old) ≡ Err e) }
+    fn increase_flow_level(&mut self, kind: Collection) -> Result<(), Fault>
+        ensures held { OnOk result (increase_flow_level (level_of kind) (held self.old) ≡ Ok (held self.new)) }
+        ensures fault { IfErr result (λ e. e ≢ Fault.OutOfMemory → increase_flow_level (level_of kind) (held self.old) ≡ Err e) }
         ensures moves { Moves self.old self.new 0 0 }
         ensures window { self.new.window ≡ self.old.window }
     {
@@ -129,16 +100,16 @@ impl<T: Iterator<Item = char>> Fetcher<T> {
             return Err(Fault::At(Problem::FlowTooDeep, self.window.mark()));
         }
         self.keys.open_level()?;
-        self.flow.push(level_of(mapping))?;
+        self.flow.push(kind.flow_level())?;
         Ok(())
     }
 
     /// `]` or `}`
-    pub(crate) fn fetch_flow_collection_end(&mut self, mapping: bool) -> Result<(), Fault>
+    pub(crate) fn fetch_flow_collection_end(&mut self, kind: Collection) -> Result<(), Fault>
         requires ahead { 0 < self.old.window.ahead }
         requires has { HasChar self.old.window }
-        ensures does { OnOk result (Does (fetch_flow_collection_end (flow_end mapping)) self.old self.new) }
-        ensures fails { IfErr result (λ e. Fails (fetch_flow_collection_end (flow_end mapping)) self.old self.new e) }
+        ensures does { OnOk result (Does (fetch_flow_collection_end (flow_end kind)) self.old self.new) }
+        ensures fails { IfErr result (λ e. Fails (fetch_flow_collection_end (flow_end kind)) self.old self.new e) }
         ensures run { Fetches self.old self.new }
         ensures moves { OnOk result (Moves self.old self.new 2 8) }
     {
@@ -146,7 +117,7 @@ impl<T: Iterator<Item = char>> Fetcher<T> {
         self.end_flow()?;
         self.pass_indicator()?;
         self.adjacent_in_flow();
-        self.push_token(mark, flow_end(mapping))?;
+        self.push_token(mark, kind.flow_end())?;
         Ok(())
     }
 

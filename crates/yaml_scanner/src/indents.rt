@@ -8,15 +8,15 @@ ghost use Rattle.yaml_tokens.specs.Shown.{tok_of};
 ghost use Rattle.scan_model.specs.Indents.{in_block, deepen, placed};
 ghost use Rattle.scan_model.specs.State.{token};
 ghost use Rattle.scan_model.specs.Keys.{top_needs_block_end};
-ghost use Rattle.yaml_scanner.specs.Collections.{start_of};
+ghost use Rattle.yaml_scanner.specs.Collections.{block_start};
 ghost use Rattle.yaml_scanner.specs.Levels.{ends_open};
 ghost use Rattle.yaml_scanner.specs.Shape.{held};
 ghost use Rattle.yaml_scanner.specs.SimpleKeys.{number_of};
 ghost use Rattle.yaml_scanner.specs.Work.{Moves};
 
+use crate::collection::Collection;
 use crate::fetcher::Fetcher;
 use crate::keys::SimpleKey;
-use crate::levels::{Collection, start_of};
 use yaml_chars::Marker;
 use yaml_tokens::{Fault, Problem, Token, TokenType};
 
@@ -96,7 +96,7 @@ impl<T: Iterator<Item = char>> Fetcher<T> {
         mark: Marker,
     ) -> Result<(), Fault>
         requires { col < 2 ^ 63 }
-        ensures held { OnOk result (held self.new ≡ roll_indent col (number_of self.old.tokens.given place) (start_of kind) mark (held self.old)) }
+        ensures held { OnOk result (held self.new ≡ roll_indent col (number_of self.old.tokens.given place) (block_start kind) mark (held self.old)) }
         ensures err { IfErr result (λ e. e ≡ Fault.OutOfMemory) }
         ensures moves { Moves self.old self.new 2 0 }
         ensures window { self.new.window ≡ self.old.window }
@@ -118,7 +118,7 @@ impl<T: Iterator<Item = char>> Fetcher<T> {
         mark: Marker,
     ) -> Result<(), Fault>
         requires { col < 2 ^ 63 }
-        ensures held { OnOk result (held self.new ≡ deepen col (number_of self.old.tokens.given place) (token mark (start_of kind)) (held self.old)) }
+        ensures held { OnOk result (held self.new ≡ deepen col (number_of self.old.tokens.given place) (token mark (block_start kind)) (held self.old)) }
         ensures err { IfErr result (λ e. e ≡ Fault.OutOfMemory) }
         ensures moves { Moves self.old self.new 2 0 }
         ensures window { self.new.window ≡ self.old.window }
@@ -147,11 +147,11 @@ impl<T: Iterator<Item = char>> Fetcher<T> {
         mark: Marker,
     ) -> Result<(), Fault>
         ensures err { IfErr result (λ e. e ≡ Fault.OutOfMemory) }
-        ensures held { OnOk result (held self.new ≡ record (held self.old) { tokens = placed (number_of self.old.tokens.given place) (token mark (start_of kind)) (held self.old).tokens }) }
+        ensures held { OnOk result (held self.new ≡ record (held self.old) { tokens = placed (number_of self.old.tokens.given place) (token mark (block_start kind)) (held self.old).tokens }) }
         ensures moves { Moves self.old self.new 1 0 }
         ensures window { self.new.window ≡ self.old.window }
     {
-        let token = Token(mark, start_of(kind));
+        let token = Token(mark, kind.block_start());
         match place {
             Some(place) => self.tokens.insert(place, token)?,
             None => self.tokens.push(token)?,
@@ -198,7 +198,22 @@ impl<T: Iterator<Item = char>> Fetcher<T> {
     }
 
     /// Outside flow, the levels deeper than the limit end.
+    #[inline(always)]
     pub(crate) fn unroll_indent(&mut self, limit: usize) -> Result<(), Fault>
+        ensures err { IfErr result (λ e. e ≡ Fault.OutOfMemory) }
+        ensures held { OnOk result (held self.new ≡ unroll_indent limit (held self.old)) }
+        ensures moves { Moves self.old self.new 0 0 }
+        ensures window { self.new.window ≡ self.old.window }
+    {
+        if self.levels.indent() <= limit {
+            return Ok(());
+        }
+        self.end_levels(limit)
+    }
+
+    // The same, where some level is deeper.
+    #[inline(never)]
+    fn end_levels(&mut self, limit: usize) -> Result<(), Fault>
         ensures err { IfErr result (λ e. e ≡ Fault.OutOfMemory) }
         ensures held { OnOk result (held self.new ≡ unroll_indent limit (held self.old)) }
         ensures moves { Moves self.old self.new 0 0 }

@@ -2,32 +2,12 @@ ghost use Rattle.std.specs.Prelude.{◌≡◌, ◌<◌, ◌≤◌, ◌^◌, ◌+
 ghost use Rattle.scan_model.specs.Keys.{top_needs_block_end};
 ghost use Rattle.scan_model.specs.Indents.{level};
 ghost use Rattle.yaml_scanner.specs.Levels.{ends_open};
-ghost use Rattle.yaml_scanner.specs.Collections.{start_of};
-ghost use Rattle.yaml_tokens.specs.Shown.{tok_of};
 ghost use Rattle.yaml_chars.specs.Text.{is_nil};
 
 use crate::stack::Stack;
 use scan_model::Indent;
 use std::alloc::{AllocError, Global};
 use std::marker::Model;
-use yaml_tokens::TokenType;
-
-/// A block collection.
-#[derive(Clone, Copy, PartialEq, Eq)]
-pub enum Collection {
-    Sequence,
-    Mapping,
-}
-
-/// The token of a block collection's start.
-pub fn start_of(kind: Collection) -> TokenType
-    ensures { tok_of result ≡ start_of kind }
-{
-    match kind {
-        Collection::Sequence => TokenType::BlockSequenceStart,
-        Collection::Mapping => TokenType::BlockMappingStart,
-    }
-}
 
 /// The levels of indentation, and the column of the innermost, counted from 1; 0 is outside all
 /// collections.

@@ -2,6 +2,7 @@
 #![tactic(auto)]
 
 mod block;
+mod collection;
 mod fetch;
 mod fetcher;
 mod flow;

@@ -137,16 +137,21 @@ impl<T: Iterator<Item = char>> Scanner<T> {
         ensures over { (scanned self.old).fault ≡ None → (scanned self.old).ended ≡ true → (result ≡ Ok None) × (self.new ≡ self.old) }
         ensures ready { (scanned self.old).fault ≡ None → (scanned self.old).stopped ≡ true → IsOk result }
         ensures again { IfSome (scanned self.old).fault (λ f. result ≡ Err f) }
+        ensures came { CameFrom T.next_gives self.new.start (scanned self.new).taken (scanned self.new).done }
+        ensures no_nul { HasNoNul (scanned self.new).taken }
         ensures scans { Scans (scanned self.new) }
         ensures start { self.new.start ≡ self.old.start }
     {
+        self.fetcher.window.note();
         if let Some(error) = self.get_error() {
             return Err(error);
         }
         if self.fetcher.tokens.is_over() {
             return Ok(None);
         }
-        match self.fetcher.fill() {
+        let filled = self.fetcher.fill();
+        self.fetcher.window.note();
+        match filled {
             Ok(()) => Ok(self.fetcher.hand()),
             Err(fault) => Err(self.fetcher.keep(fault)),
         }

@@ -4,7 +4,7 @@ use Rattle.scan_model.specs.State.{in_flow}
 use Rattle.scan_model.specs.Indents.{unrolled, with_levels}
 use Rattle.yaml_scanner.specs.Shape.{held}
 use Rattle.yaml_scanner.specs.Work.{Moves}
-use Rattle.yaml_scanner.proofs.fetcher.Fetcher.unroll_indent.Given as goal
+use Rattle.yaml_scanner.proofs.fetcher.Fetcher.end_levels.Given as goal
 
 abbrev pub invariant-levels : goal.invariant-levels
 invariant-levels g l = record {
