@@ -1,5 +1,5 @@
--- What is open behind the tokens so far: block collections, flow collections and flow pairs.
--- It speaks of tokens and of their pieces of text alone. YAML 1.2, sections 7.4 (flow collections), 8.2 (block collections).
+-- What is open after the tokens so far: block collections, flow collections and flow pairs.
+-- It is computed from tokens and their pieces of text alone. YAML 1.2, sections 7.4 (flow collections), 8.2 (block collections).
 use Rattle.std.specs.Prelude.{ℕ, List, [], ◌∷◌, Bool, true, false, ◌&&◌, not, nat_lt, if◌then◌else◌, length, drop, Option, Some, None}
 use Rattle.yaml_chars.specs.Place.{Place}
 use Rattle.token_defs.specs.Token.{Tok, block_sequence_start, block_mapping_start, block_end, flow_sequence_start, flow_sequence_end, flow_mapping_start, flow_mapping_end, scalar, single_quoted, double_quoted}
@@ -16,13 +16,13 @@ pub record Level : Type 0 where
   pub kind : FlowKind
   pub pair : Bool
 
--- what the last piece was the end of, as far as a colon next to it asks: a quoted scalar, a flow collection with blanks alone behind it, or anything else
+-- what stands before a place, as far as it matters for a colon there: a quoted scalar, a flow collection with nothing but blanks after it, or anything else
 pub data Before : Type 0 where
   quoted : Before
   collection : Before
   other : Before
 
--- The account at a place of the text: the place, the open block collections, each with its column once its first piece has come, and the open flow levels, both with the innermost first, and what stands before.
+-- The account at a place of the text: the place; the open block collections, each with its column once its first piece has come; the open flow levels; and what stands before. Both lists have the innermost first.
 pub record Account : Type 0 where
   pub place : Place
   pub blocks : List (Option ℕ)
@@ -95,27 +95,27 @@ is_adjacent quoted = true
 is_adjacent collection = true
 is_adjacent other = false
 
--- ---- the account behind a filler
+-- ---- the account after a filler
 
--- a colon may stand behind a flow collection and blanks, and behind a quoted scalar and any filler
+-- a colon may stand after a flow collection and blanks, and after a quoted scalar and any filler
 abbrev pub before_past : Before → (filler : List ℕ) → Before
 before_past quoted f = quoted
 before_past collection f = (if is_blanks f then collection else other)
 before_past other f = other
 
--- the account behind a filler; the text behind it
+-- the account after a filler; the text after it
 abbrev pub account_past_filler : Account → (filler next : List ℕ) → Account
 account_past_filler a f next = record a { place = place_behind a.place f next; before = before_past a.before f }
 
--- ---- the account behind a token
+-- ---- the account after a token
 
--- block collections, of which those without a column have this one
+-- block collections, where those without a column get this one
 abbrev pub settled : (column : ℕ) → List (Option ℕ) → List (Option ℕ)
 settled column [] = []
 settled column (None ∷ bs) = Some column ∷ settled column bs
 settled column (Some n ∷ bs) = Some n ∷ settled column bs
 
--- the open block collections at a token's piece: it is the first piece of each that waits for one
+-- the open block collections at a token's piece, which is the first piece of each collection that has no column yet
 abbrev pub blocks_at : List (Option ℕ) → (column : ℕ) → (piece : List ℕ) → List (Option ℕ)
 blocks_at bs column [] = bs
 blocks_at bs column (c ∷ r) = settled column bs
@@ -124,7 +124,7 @@ blocks_at bs column (c ∷ r) = settled column bs
 abbrev pub account_at_piece : Account → (piece : List ℕ) → Account
 account_at_piece a piece = record a { blocks = blocks_at a.blocks a.place.col piece }
 
--- the block collections open behind a token
+-- the block collections open after a token
 abbrev pub blocks_past : List (Option ℕ) → Tok → List (Option ℕ)
 blocks_past bs block_sequence_start = None ∷ bs
 blocks_past bs block_mapping_start = None ∷ bs
@@ -136,7 +136,7 @@ abbrev pub with_pair : Bool → List Level → List Level
 with_pair b [] = []
 with_pair b (l ∷ ls) = record l { pair = b } ∷ ls
 
--- The flow levels behind a token: a mapping's start or end without a piece is that of a pair without braces.
+-- The flow levels after a token: a mapping's start or end without a piece is that of a pair without braces.
 abbrev pub levels_past : List Level → (piece : List ℕ) → Tok → List Level
 levels_past ls piece flow_sequence_start = record { kind = sequence; pair = false } ∷ ls
 levels_past ls piece flow_sequence_end = drop 1 ls
@@ -146,7 +146,7 @@ levels_past ls [] flow_mapping_end = with_pair false ls
 levels_past ls (c ∷ r) flow_mapping_end = drop 1 ls
 levels_past ls piece _ = ls
 
--- what stands before the text behind a piece of a token
+-- what stands before the text after a piece of a token
 abbrev pub before_by : Tok → Before
 before_by (scalar single_quoted t) = quoted
 before_by (scalar double_quoted t) = quoted
@@ -154,12 +154,12 @@ before_by flow_sequence_end = collection
 before_by flow_mapping_end = collection
 before_by _ = other
 
--- what stands before the text behind a token; without a piece what stood there before
+-- what stands before the text after a token; without a piece what stood there before
 abbrev pub before_past_token : Before → (piece : List ℕ) → Tok → Before
 before_past_token b [] t = b
 before_past_token b (c ∷ r) t = before_by t
 
--- the account behind a token, from that at its piece; the text behind it
+-- the account after a token, from that at its piece; the text after it
 abbrev pub account_past_token : Account → (piece next : List ℕ) → Tok → Account
 account_past_token a piece next t = record {
   place = place_behind a.place piece next;

@@ -26,7 +26,7 @@ with_value h column (Some text) = Some (record { style = h.style; column = colum
 abbrev pub is_past : (column : ℕ) → (next : List ℕ) → Bool
 is_past column next = is_at_end next || is_further_text column next
 
--- a header and its body, if its lines end before the text behind them
+-- a header and its body, if its lines end before the text after them
 abbrev pub read_body : Option Header → (collection : Option ℕ) → Body → (next : List ℕ) → Option BlockRead
 read_body None collection b next = None
 read_body (Some h) collection b next = (if is_past (column_of h collection b) next then with_value h (column_of h collection b) (block_value h collection b) else None)
@@ -42,7 +42,7 @@ read_lines collection _ _ next false = None
 abbrev pub read_split : (collection : Option ℕ) → Split → (next : List ℕ) → Option BlockRead
 read_split collection s next = read_lines collection (s.complete) (s.last) next (is_at_end next)
 
--- The block scalar that a piece of text is, if it is the whole of one before the text behind it.
+-- The block scalar that a piece of text is, if the piece is a whole block scalar before the text after it.
 abbrev pub block_read : (collection : Option ℕ) → (piece next : List ℕ) → Option BlockRead
 block_read collection piece next = read_split collection (split piece) next
 
@@ -64,6 +64,6 @@ abbrev pub place_or : Option Place → Place → Place
 place_or (Some p) other = p
 place_or None other = other
 
--- The place of a block scalar's token: where its content begins; without content that of the further text, or of the header where the text ends.
+-- The place of a block scalar's token: where its content begins. Without content it is the place of the further text, or of the header if the text ends.
 abbrev pub block_place : (column : ℕ) → Place → (piece next : List ℕ) → Place
 block_place column p piece next = place_or (first_content column true p piece) (if is_at_end next then p else past_spaces (place_behind p piece next) next)

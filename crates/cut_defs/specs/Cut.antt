@@ -1,5 +1,5 @@
--- When a list of tokens is a cut of a text: the text up to its end is a row of fillers and pieces in order, and each piece belongs to one token.
--- YAML 1.2, chapters 6 to 9. It says which tokens stand where; not that a text has a cut, nor that it has only one.
+-- When a list of tokens is a cut of a text: the text up to its end is a row of fillers (blanks, breaks and comments) and pieces in order, and each piece belongs to one token.
+-- YAML 1.2, chapters 6 to 9. The definition says which tokens stand where. It does not say that a text has a cut, or only one.
 use Rattle.std.specs.Prelude.{◌≡◌, ℕ, ◌⊎◌, List, [], ◌∷◌, ◌++◌, false, Option, Some, None}
 use Rattle.yaml_chars.specs.Place.{Place}
 use Rattle.token_defs.specs.Token.{Tok, Token, stream_start, stream_end}
@@ -14,7 +14,7 @@ pub record Written : Type 0 where
   pub piece : List ℕ
   pub token : Token
 
--- the text of a row of tokens, before the text behind it
+-- the text of a row of tokens, before the text after it
 abbrev pub spelled : List Written → (behind : List ℕ) → List ℕ
 spelled [] behind = behind
 spelled (w ∷ ws) behind = w.filler ++ (w.piece ++ spelled ws behind)
@@ -24,16 +24,16 @@ abbrev pub tokens_of : List Written → List Token
 tokens_of [] = []
 tokens_of (w ∷ ws) = w.token ∷ tokens_of ws
 
--- the first token of a row, or else the one known to stand behind it
+-- the first token of a row, or else the one known to stand after it
 abbrev pub first_token : List Written → (last : Option Tok) → Option Tok
 first_token [] last = last
 first_token (w ∷ ws) last = Some (w.token.tok)
 
--- the account at a token's piece, from that before its filler; the text behind the token
+-- the account at a token's piece, from that before its filler; the text after the token
 abbrev pub account_at : Account → Written → (next : List ℕ) → Account
 account_at a w next = account_at_piece (account_past_filler a w.filler (w.piece ++ next)) w.piece
 
--- the account behind a token
+-- the account after a token
 abbrev pub account_past : Account → Written → (next : List ℕ) → Account
 account_past a w next = account_past_token (account_at a w next) w.piece next (w.token.tok)
 
@@ -43,12 +43,12 @@ IsWritten a w next following =
     Holds (is_filler false w.filler (w.piece ++ next)) ×
     IsPiece (account_at a w next) w.piece next following (w.token.place) (w.token.tok)
 
--- Whether each token of a row is written so, before the text behind the row and the token that is known to stand there.
+-- Whether each token of a row is written so, before the text after the row and the token that is known to stand there.
 abbrev pub IsRow : Account → List Written → (behind : List ℕ) → (last : Option Tok) → Type 0
 IsRow a [] behind last = Unit {0}
 IsRow a (w ∷ ws) behind last = IsWritten a w (spelled ws behind) (first_token ws last) × IsRow (account_past a w (spelled ws behind)) ws behind last
 
--- the account behind a row
+-- the account after a row
 abbrev pub account_past_row : Account → List Written → (behind : List ℕ) → Account
 account_past_row a [] behind = a
 account_past_row a (w ∷ ws) behind = account_past_row (account_past a w (spelled ws behind)) ws behind
@@ -61,7 +61,7 @@ start_token p = record { place = p; tok = stream_start }
 abbrev pub end_token : Place → Token
 end_token p = record { place = p; tok = stream_end }
 
--- Whether tokens are a cut of a text: the stream's start, a row of tokens, and the stream's end; the row and the filler behind it are the text up to its end, and outside flow no block collection is left open.
+-- Whether tokens are a cut of a text. They are the stream's start, a row of tokens, and the stream's end. The row and the filler after it are the text up to its end. Outside flow no block collection is left open.
 pub record IsCut (tokens : List Token) (text : List ℕ) : Type 0 where
   pub begin : Place
   pub end : Place
@@ -73,7 +73,7 @@ pub record IsCut (tokens : List Token) (text : List ℕ) : Type 0 where
   pub is_row : IsRow first_account row filler (Some stream_end)
   pub closes : Holds (is_closed (account_past_row first_account row filler))
 
--- Whether tokens are the stream's start and a row of tokens that a beginning of a text is cut into; the text's next characters stand behind it, and no token is known to.
+-- Whether tokens are the stream's start and a row of tokens whose text begins the text. What characters follow is known, but not what token.
 pub record IsBegun (tokens : List Token) (text : List ℕ) : Type 0 where
   pub begin : Place
   pub row : List Written

@@ -14,7 +14,7 @@ abbrev pub is_blanks : List ℕ → Bool
 is_blanks [] = true
 is_blanks (c ∷ r) = is_blank c && is_blanks r
 
--- the text behind the blanks, breaks and comments that it begins with
+-- the text after the blanks, breaks and comments that it begins with
 abbrev pub past_filler : (in_comment : Bool) → List ℕ → List ℕ
 past_filler in_comment [] = []
 past_filler true (c ∷ r) = past_filler (not (is_break c)) r

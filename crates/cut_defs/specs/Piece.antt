@@ -155,7 +155,7 @@ IsPlain a piece next text =
     Holds (is_whole_plain (is_in_flow a) (collection_column a) piece next) ×
     (plain_value piece ≡ Some text)
 
--- a scalar in single quotes; no quote follows, with which the last one would be a quote inside
+-- a scalar in single quotes; no further quote follows, which would make the last one a quote inside it
 abbrev pub IsSingleQuoted : (piece next text : List ℕ) → Type 0
 IsSingleQuoted piece next text = (body : List ℕ) × (piece ≡ single_quote ∷ (body ++ (single_quote ∷ []))) × (single_quoted_value body ≡ Some text) × (begins_with single_quote next ≡ false)
 
@@ -171,7 +171,7 @@ IsBlockScalar a piece next style text place =
 
 -- ---- tokens
 
--- Whether a piece of text belongs to a token: what stands open before it, the text behind it, and the token behind it, where one is known. The stream's own two tokens stand only at its ends.
+-- Whether a piece of text belongs to a token. The arguments are what is open before it, the piece, the text after it, the token after it if one is known, and the token's place. The stream's own two tokens stand only at its ends.
 abbrev pub IsPiece : Account → (piece next : List ℕ) → (following : Option Tok) → (place : Place) → Tok → Type 0
 IsPiece a piece next following place stream_start = ⊥
 IsPiece a piece next following place stream_end = ⊥

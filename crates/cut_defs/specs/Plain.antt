@@ -13,7 +13,7 @@ is_value_indicator in_flow adjacent r = is_at_gap r || (in_flow && (begins_flow 
 
 -- ---- where one begins
 
--- whether this character may begin a plain scalar before the text behind it
+-- whether this character may begin a plain scalar before the text after it
 abbrev pub may_begin : (in_flow adjacent : Bool) → ℕ → List ℕ → Bool
 may_begin in_flow adjacent c r =
     (if c == 45 then not (is_at_gap r) && not (in_flow && begins_flow r) else
@@ -29,19 +29,19 @@ begins_plain in_flow adjacent column (c ∷ r) = may_begin in_flow adjacent c r 
 
 -- ---- where one ends
 
--- What stands directly before a place: a character of content, a blank behind content, or a break and so many blanks.
+-- What stands directly before a place: a character of content, a blank after content, or a break and a number of blanks.
 pub data Stand : Type 0 where
   inside : Stand
   behind_blank : Stand
   on_line : (column : ℕ) → Stand
 
--- what stands before the place behind a blank
+-- what stands before the place after a blank
 abbrev pub past_blank : Stand → Stand
 past_blank inside = behind_blank
 past_blank behind_blank = behind_blank
 past_blank (on_line k) = on_line (suc k)
 
--- what stands before the place behind a character
+-- what stands before the place after a character
 abbrev pub past : Stand → ℕ → Stand
 past s c = (if is_break c then on_line 0 else (if is_blank c then past_blank s else inside))
 
@@ -50,7 +50,7 @@ abbrev pub ends_at_colon : (in_flow : Bool) → List ℕ → Bool
 ends_at_colon in_flow [] = false
 ends_at_colon in_flow (c ∷ r) = (c == 58) && is_value_indicator in_flow false r
 
--- a `#` behind a blank or a break
+-- a `#` after a blank or a break
 abbrev pub ends_at_comment : Stand → List ℕ → Bool
 ends_at_comment _ [] = false
 ends_at_comment inside (c ∷ r) = false

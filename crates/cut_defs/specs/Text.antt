@@ -4,7 +4,7 @@ use Rattle.scalar_defs.specs.Classes.{is_break, is_nul}
 use Rattle.scalar_defs.specs.Breaks.{is_before_line_feed}
 use Rattle.yaml_chars.specs.Place.{Place}
 
--- A text up to its end: its first NUL, or the place behind its last character.
+-- A text up to its end: its first NUL, or the place after its last character.
 abbrev pub up_to_end : List ℕ → List ℕ
 up_to_end [] = []
 up_to_end (c ∷ r) = (if is_nul c then [] else c ∷ up_to_end r)
@@ -13,13 +13,13 @@ up_to_end (c ∷ r) = (if is_nul c then [] else c ∷ up_to_end r)
 abbrev pub ends_line : ℕ → (next : List ℕ) → Bool
 ends_line c next = is_break c && not (is_before_line_feed c next)
 
--- the place behind a character; the text behind it
+-- the place after a character; the text after it
 abbrev pub place_past : Place → ℕ → (next : List ℕ) → Place
 place_past p c next =
     (if ends_line c next then record { index = suc p.index; line = suc p.line; col = 0 } else
     record { index = suc p.index; line = p.line; col = suc p.col })
 
--- the place behind a piece of text
+-- the place after a piece of text
 abbrev pub place_behind : Place → (piece next : List ℕ) → Place
 place_behind p [] next = p
 place_behind p (c ∷ r) next = place_behind (place_past p c (r ++ next)) r next

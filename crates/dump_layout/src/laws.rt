@@ -1,15 +1,16 @@
-//! Laws of dumps and layouts, each carried by an empty function.
+//! Laws of dumps and layouts, each the contract of an empty function.
 
 ghost use Rattle.layout_defs.specs.DumpIsLaidOut.{DumpsAreLaidOut};
 ghost use Rattle.layout_defs.specs.DumpsInTurn.{DumpsInTurnAreLaidOut};
 
-/// In every setting, the text that is written for a tree of the library that can be written is a layout of that tree: it begins
-/// with `---`, and what stands below a mark stands two columns to the right of it.
+/// In every setting, the text that is written for a tree of the library that can be written is a basic layout of that
+/// tree: it begins with `---`, and what stands below an indicator stands two columns to the right of it.
 pub fn dumps_are_laid_out()
     ensures { DumpsAreLaidOut }
 {}
 
-/// So the texts that are written for several such trees, an LF behind each, are those trees laid out one after another.
+/// The texts that are written for several such trees, each followed by an LF, are those trees laid out one after
+/// another.
 pub fn dumps_in_turn_are_laid_out()
     ensures { DumpsInTurnAreLaidOut }
 {}

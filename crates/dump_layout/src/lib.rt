@@ -1,4 +1,4 @@
-//! The text that `dump` writes for a tree is a layout of that tree.
+//! The text that `dump` writes for a tree is a basic layout of that tree.
 #![tactic(auto)]
 
 pub mod laws;

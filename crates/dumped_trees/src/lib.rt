@@ -1,4 +1,4 @@
-//! What the text of a dump is to the tree that it was written for.
+//! The law that the text of a dump is a basic layout of its tree, for a `Yaml` in a program.
 #![tactic(auto)]
 
 pub mod laws;

@@ -1,4 +1,4 @@
-//! A walk over a tree that only looks.
+//! A visit of all nodes of a tree, which changes nothing.
 ghost use Rattle.yaml_tree.specs.View.{view, array_tree, hash_tree};
 ghost use Rattle.yaml_emitter.specs.ValidTree.{IsValid};
 

@@ -18,8 +18,8 @@ pub data Properties : Type 0 where
 -- ---- flow (chapter 7)
 
 mutual
-  -- A node in a flow collection. Nothing that may stand behind it begins a content, so one with properties alone has
-  -- no content behind it.
+  -- A node in a flow collection. Nothing that may stand after it begins a content, so one with properties alone has
+  -- no content after it.
   pub data FlowNode : Type 0 where
     flow_alias : (name : List ℕ) → FlowNode
     flow_content : Option Properties → FlowContent → FlowNode
@@ -35,12 +35,12 @@ mutual
     no_flow : PerhapsFlow
     some_flow : FlowNode → PerhapsFlow
 
-  -- behind `[`
+  -- after `[`
   pub data Items : Type 0 where
     no_items : Items
     items : Item → MoreItems → Items
 
-  -- behind an item: `]`, `,]`, or `,` and another item
+  -- after an item: `]`, `,]`, or `,` and another item
   pub data MoreItems : Type 0 where
     end_items : MoreItems
     comma_end_items : MoreItems
@@ -51,17 +51,17 @@ mutual
     single : FlowNode → Item
     single_pair : PerhapsFlow → FlowValue → Item
 
-  -- behind a key: nothing, where no `:` stands there, or `:` and its value
+  -- after a key: nothing, where no `:` stands there, or `:` and its value
   pub data FlowValue : Type 0 where
     no_flow_value : FlowValue
     flow_value : PerhapsFlow → FlowValue
 
-  -- behind `{`
+  -- after `{`
   pub data FlowPairs : Type 0 where
     no_flow_pairs : FlowPairs
     flow_pairs : FlowPair → MoreFlowPairs → FlowPairs
 
-  -- behind a pair: `}`, `,}`, or `,` and another pair
+  -- after a pair: `}`, `,}`, or `,` and another pair
   pub data MoreFlowPairs : Type 0 where
     end_flow_pairs : MoreFlowPairs
     comma_end_flow_pairs : MoreFlowPairs
@@ -92,7 +92,7 @@ mutual
     no_node : Perhaps
     some_node : Node → Perhaps
 
-  -- behind the start of a block sequence, or an entry
+  -- after the start of a block sequence, or an entry
   pub data Entries : Type 0 where
     end_entries : Entries
     entry : Perhaps → Entries → Entries
@@ -102,22 +102,22 @@ mutual
     plain : Perhaps → Part
     indentless : Option Properties → Perhaps → Dashes → Part
 
-  -- behind an entry of such a sequence
+  -- after an entry of such a sequence
   pub data Dashes : Type 0 where
     end_dashes : Dashes
     dash : Perhaps → Dashes → Dashes
 
-  -- behind the start of a block mapping, or a pair with a value
+  -- after the start of a block mapping, or a pair with a value
   pub data Pairs : Type 0 where
     keyed : KeyPairs → Pairs
     keyless : Part → Pairs → Pairs
 
-  -- behind a key without value: a `:` here would be its value's
+  -- after a key without value: a `:` here would be its value's
   pub data KeyPairs : Type 0 where
     end_pairs : KeyPairs
     key : Part → AfterKey → KeyPairs
 
-  -- behind a key
+  -- after a key
   pub data AfterKey : Type 0 where
     value : Part → Pairs → AfterKey
     no_value : KeyPairs → AfterKey
@@ -125,7 +125,7 @@ mutual
 -- ---- documents (chapter 9)
 
 mutual
-  -- behind the start of the stream, or `...`: here a document may have directives, or begin without `---`
+  -- after the start of the stream, or `...`: here a document may have directives, or begin without `---`
   pub data Documents : Type 0 where
     marker : Documents → Documents
     bare : Node → After → Documents
@@ -137,7 +137,7 @@ mutual
     end_stream : Explicit
     explicit : Perhaps → After → Explicit
 
-  -- behind a document's node: `...`, or nothing
+  -- after a document's node: `...`, or nothing
   pub data After : Type 0 where
     marked : Documents → After
     unmarked : Explicit → After

@@ -1,4 +1,4 @@
--- Statements over the definitions, each carried by the function of its name in `laws`.
+-- Statements over the definitions, each the contract of the function with its name in `laws`.
 use Rattle.std.specs.Prelude.{◌≡◌, ℕ, Bool, true, false, List, length, [], None, Result, Ok, Err, All, IsTrue, ◌↔◌}
 use Rattle.yaml_chars.specs.Place.{Place}
 use Rattle.tree_defs.specs.Tree.{Tree}
@@ -56,7 +56,7 @@ NestedEventsAreReadOneByOne =
     (documents : List NestedDocument) (events : List (Ev × Place)) → events_of events ≡ nested_stream documents
     → HasRead (reading documents) (with_events new_loader events)
 
--- `multi_load_pushes_all_events`; faults are told by numbers here, and none comes
+-- `multi_load_pushes_all_events`; faults are numbers here, and there is none
 abbrev pub MultiLoadPushesAllEvents : Type 0
 MultiLoadPushesAllEvents =
     (documents : List NestedDocument) (events : List (Ev × Place)) → events_of events ≡ nested_stream documents

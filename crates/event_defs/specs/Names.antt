@@ -95,7 +95,7 @@ with_anchor s (Some name) = record s { count = s.count + 1; anchors = (name, s.c
 abbrev pub at_document : Bool → Names → List Directive → Names
 at_document keep_tags s ds = record s { anchors = []; handles = declared ds ++ (if keep_tags then s.handles else []) }
 
--- the names behind an event
+-- the names after an event
 abbrev pub behind : Bool → Names → Raw → Names
 behind keep_tags s (Raw.document_start ds) = at_document keep_tags s ds
 behind keep_tags s (Raw.scalar text style a t) = with_anchor s a
@@ -133,7 +133,7 @@ abbrev pub named : Bool → Names → List Raw → Option (List Ev)
 named keep_tags s [] = Some []
 named keep_tags s (e ∷ es) = both (resolved_event s e) (named keep_tags (behind keep_tags s e) es)
 
--- the names behind all these events
+-- the names after all these events
 abbrev pub behind_all : Bool → Names → List Raw → Names
 behind_all keep_tags s [] = s
 behind_all keep_tags s (e ∷ es) = behind_all keep_tags (behind keep_tags s e) es

@@ -69,7 +69,7 @@ pub data Open : Type 0 where
   at_key : Open
   at_value : Open
 
--- behind a node that stands there, or nothing where none may stand
+-- after a node that stands there, or nothing where none may stand
 abbrev pub with_child : Open → Option Open
 with_child before_node = Some behind_node
 with_child in_sequence = Some in_sequence
@@ -82,7 +82,7 @@ child_then None inner outer = None
 child_then (Some o) [] outer = Some (o ∷ outer)
 child_then (Some o) (i ∷ inner) outer = Some (i ∷ o ∷ outer)
 
--- what is open behind an event, or nothing where it is out of order
+-- what is open after an event, or nothing where it is out of order
 abbrev pub open_behind : Ev → List Open → Option (List Open)
 open_behind Ev.document_start (in_stream ∷ os) = Some (before_node ∷ in_stream ∷ os)
 open_behind Ev.document_end (before_node ∷ os) = Some os

@@ -1,4 +1,4 @@
--- What a parser answers, call for call: an event with its place, or a fault.
+-- What a parser returns, call by call: an event with its place, or a fault.
 use Rattle.std.specs.Prelude.{◌≡◌, List, [], ◌∷◌}
 use Rattle.yaml_chars.specs.Place.{Place}
 use Rattle.event_defs.specs.Event.{Ev}
@@ -11,13 +11,13 @@ abbrev pub IsStreamEnd : {Fault : Type 0} → Answer Fault → Type 0
 IsStreamEnd (event Ev.stream_end p) = Unit {0}
 IsStreamEnd _ = ⊥
 
--- The second answer may come behind the first: behind the stream's end only that end, and behind a fault only that fault.
+-- Which answer may follow which: after the stream's end only that end, and after a fault only that fault.
 abbrev pub MayFollow : {Fault : Type 0} → Answer Fault → Answer Fault → Type 0
 MayFollow (event Ev.stream_end p) b = IsStreamEnd b
 MayFollow (event e p) b = Unit {0}
 MayFollow (fault f) b = b ≡ fault f
 
--- In a list of answers the stream's end, and each fault, comes again for good.
+-- In a list of answers, after the stream's end or a fault the same answer comes again for ever.
 abbrev pub IsSettled : {Fault : Type 0} → List (Answer Fault) → Type 0
 IsSettled [] = Unit {0}
 IsSettled (a ∷ []) = Unit {0}

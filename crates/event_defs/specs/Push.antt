@@ -2,7 +2,7 @@
 -- (1) If the start of the stream was not given yet, it is taken and pushed. (2) If the next event is the end of the
 -- stream, it is pushed and the call ends well. (3) Else it must be the start of a document. (4) The document's events
 -- are pushed up to its end; then with `multi` the work goes on at (2), else the call ends well.
--- A fault is answered and not pushed.
+-- A fault is returned and not pushed.
 use Rattle.std.specs.Prelude.{ℕ, ◌+◌, Bool, List, [], ◌∷◌, take, if◌then◌else◌}
 use Rattle.yaml_chars.specs.Place.{Place}
 use Rattle.event_defs.specs.Event.{Ev}
@@ -20,7 +20,7 @@ pub data Standing : Type 0 where
 -- how a call ends
 pub data Ending (Fault : Type 0) : Type 0 where
   well : Ending Fault
-  -- the parser's fault, which is answered
+  -- the parser's fault, which is returned
   faulted : Fault → Ending Fault
   -- an event where a document must start: the fault of rule (3), at that event's place
   no_document : Place → Ending Fault

@@ -9,8 +9,8 @@ pub data Directive : Type 0 where
   version : (major minor : ℕ) → Directive
   tag : (handle prefix : List ℕ) → Directive
 
--- Where a token of its own stands for an event, the event is told from its like without one: a scalar from an empty
--- one, a flow collection's start from that of a block collection or of a single pair.
+-- An event that has a token of its own is distinguished from one of its kind that has none: a scalar from an empty one, a flow
+-- collection's start from that of a block collection or of a single pair.
 pub data Raw : Type 0 where
   stream_start : Raw
   stream_end : Raw

@@ -7,7 +7,7 @@ use Rattle.event_defs.specs.Nested.{Nest, nested_alias, nested_scalar, nested_se
 use Rattle.event_defs.specs.Scalar.{scalar_tree}
 use Rattle.event_defs.specs.Anchors.{Anchors, aliased, finished}
 
--- What is read, and the finished anchors behind it; or a key that came twice.
+-- What is read, and the finished anchors after it; or a key that came twice.
 abbrev pub Read : Type 0 → Type 0
 Read A = Result (A × Anchors) Tree
 
@@ -26,7 +26,7 @@ abbrev mutual
   read_node (nested_sequence a tag ns) anchors = then_read (read_items ns [] anchors) (λ ts more. node_read a (array (items_of ts)) more)
   read_node (nested_mapping a tag ps) anchors = then_read (read_pairs ps [] anchors) (λ held more. node_read a (hash (pairs_of held)) more)
 
-  -- behind the items so far
+  -- after the items so far
   pub read_items : Nests → List Tree → Anchors → Read (List Tree)
   read_items no_nests ts anchors = Ok (ts, anchors)
   read_items (nest n ns) ts anchors = then_read (read_node n anchors) (λ t more. read_items ns (ts ++ t ∷ []) more)
@@ -43,7 +43,7 @@ abbrev pub read_document : NestedDocument → Anchors → Read Tree
 read_document without_node anchors = Ok (bad_value, anchors)
 read_document (with_node n) anchors = read_node n anchors
 
--- behind the documents so far
+-- after the documents so far
 abbrev pub read_documents : List NestedDocument → List Tree → Anchors → Read (List Tree)
 read_documents [] docs anchors = Ok (docs, anchors)
 read_documents (d ∷ ds) docs anchors = then_read (read_document d anchors) (λ t more. read_documents ds (docs ++ t ∷ []) more)

@@ -9,7 +9,7 @@ use Rattle.event_defs.specs.Grammar.{Documents, stream_tokens, stream_events}
 use Rattle.event_defs.specs.Names.{named, no_names}
 
 -- These are the tokens of a stream, and its events: a derivation has the tokens, and what it says has these events
--- where its names are resolved. `keep_tags`: a declared handle counts in the documents behind its own too.
+-- where its names are resolved. With `keep_tags` a declared handle counts in later documents too.
 pub record IsStream (keep_tags : Bool) (tokens : List Tok) (events : List Ev) : Type 0 where
   pub documents : Documents
   pub has_tokens : stream_tokens documents ≡ tokens
@@ -35,7 +35,7 @@ NoneBegins keep_tags tokens = (ts : List Tok) (es : List Ev) → IsStream keep_t
 -- ---- places
 
 -- A scalar, an alias and the start of a flow collection have the place of their token. Each of these tokens gives one
--- such event, in order; so the places are those of these tokens, in order. Of other events no place is promised.
+-- such event, in order; so the places are those of these tokens, in order. No place is promised for other events.
 
 abbrev pub gives_place : Tok → Bool
 gives_place (Tok.alias name) = true

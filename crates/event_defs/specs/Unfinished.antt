@@ -1,5 +1,5 @@
--- A reading that is not at its end, and what one event more makes of it. It takes events in any order: those out of
--- nesting are refused. YAML 1.2, section 3.1 (construction from the serialization's events).
+-- A reading that is not at its end, and what one more event makes of it. It takes events in any order, and refuses those out of
+-- nesting. YAML 1.2, section 3.1 (construction from the serialization's events).
 use Rattle.std.specs.Prelude.{ℕ, if◌then◌else◌, List, [], ◌∷◌, ◌++◌, Option, Some, None, unwrap_or}
 use Rattle.yaml_chars.specs.Place.{Place}
 use Rattle.tree_defs.specs.Tree.{Tree, array, hash, bad_value, items_of, pairs_of}
@@ -70,7 +70,7 @@ abbrev pub with_document_end : Unfinished → List Opened → Step
 with_document_end u [] = reads (record u { documents = u.documents ++ unwrap_or u.root bad_value ∷ []; root = None })
 with_document_end u (c ∷ outer) = out_of_nesting
 
--- One event more.
+-- One more event.
 abbrev pub with_event : Unfinished → Ev → Step
 with_event u Ev.nothing = reads u
 with_event u Ev.stream_start = reads u
@@ -90,7 +90,7 @@ pub data Loader : Type 0 where
   at_work : Unfinished → Loader
   -- A key that came twice was noted, with the place of its value's event; from then on events are ignored.
   noted : (documents : List Tree) → (key : Tree) → Place → Loader
-  -- An event out of nesting was refused at this place; every later one is refused likewise.
+  -- An event out of nesting was refused at this place. Every later event is refused with the same fault.
   refused : (documents : List Tree) → Place → Loader
 
 abbrev pub new_loader : Loader
@@ -101,13 +101,13 @@ loader_behind (reads u) documents p = at_work u
 loader_behind (repeats key) documents p = noted documents key p
 loader_behind out_of_nesting documents p = refused documents p
 
--- the loader behind an event
+-- the loader after an event
 abbrev pub with_event_at : Loader → Ev → Place → Loader
 with_event_at (at_work u) e p = loader_behind (with_event u e) u.documents p
 with_event_at (noted documents key at) e p = noted documents key at
 with_event_at (refused documents at) e p = refused documents at
 
--- behind all these events
+-- after all these events
 abbrev pub with_events : Loader → List (Ev × Place) → Loader
 with_events l [] = l
 with_events l (e ∷ es) = with_events (with_event_at l e.0 e.1) es
@@ -118,7 +118,7 @@ documents_of (at_work u) = u.documents
 documents_of (noted documents key p) = documents
 documents_of (refused documents p) = documents
 
--- the place of the fault that is answered, where one is
+-- the place of the fault that is returned, if there is one
 abbrev pub refused_at : Loader → Option Place
 refused_at (at_work u) = None
 refused_at (noted documents key p) = None

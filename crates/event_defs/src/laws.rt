@@ -1,4 +1,4 @@
-//! Laws of the definitions, each carried by an empty function.
+//! Laws of the definitions, each the contract of an empty function.
 
 ghost use Rattle.event_defs.specs.Laws.{TokensAreDerivedInOneWay, StreamsHaveOneReading, NestingTestIsExact};
 ghost use Rattle.event_defs.specs.Laws.{StreamEventsAreNested, NestedEventsAreReadOneByOne};
@@ -24,22 +24,23 @@ pub fn nesting_test_is_exact()
     ensures { NestingTestIsExact }
 {}
 
-/// No tree that a loader makes of events has an alias in it.
+/// No tree that a loader makes from events has an alias in it.
 pub fn loaded_trees_have_no_alias()
     ensures { LoadedTreesHaveNoAlias }
 {}
 
-/// The integers in the trees that a loader makes of events have 64 bits.
+/// The integers in the trees that a loader makes from events have 64 bits.
 pub fn loaded_integers_have_64_bits()
     ensures { LoadedIntegersHave64Bits }
 {}
 
-/// No hash in the trees that a loader makes of events has a key twice.
+/// No hash in the trees that a loader makes from events has a key twice.
 pub fn loaded_trees_have_distinct_keys()
     ensures { LoadedTreesHaveDistinctKeys }
 {}
 
-/// Nested events that are handed in one by one leave the documents that they are read as, or note the key that comes twice.
+/// If a loader takes nested events one by one, it has the documents that they are read as, or has noted the key that
+/// comes twice.
 pub fn nested_events_are_read_one_by_one()
     ensures { NestedEventsAreReadOneByOne }
 {}

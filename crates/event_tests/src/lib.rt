@@ -1,4 +1,4 @@
-//! What a parser answers, call by call: events and their places, pulled, peeked and pushed.
+//! What a parser returns, call by call: events and their places, pulled, peeked and pushed.
 #![tactic(auto)]
 
 #[cfg(test)]

@@ -1,4 +1,4 @@
-//! Calls of a parser, one behind the other, and what receivers are pushed.
+//! Calls of a parser, one after the other, and what receivers are pushed.
 use std::alloc::{AllocError, Global};
 use std::str::Chars;
 use std::test::Fail;
@@ -129,7 +129,7 @@ fn answer(alloc: Global, parser: &mut Parser<Chars<'_>>, call: Call) -> Result<S
     }
 }
 
-// What these calls show, one behind the other.
+// What these calls show, one after the other.
 fn answers(alloc: Global, text: &str, calls: &[Call]) -> Result<String, Fail> {
     let mut parser = Parser::new_from_str(alloc, text);
     let mut out = String::new(alloc);
@@ -175,7 +175,7 @@ const CALLS: [(&str, &[Call], &str); 6] = [
         ],
         "StreamStart / DocumentStart / did not find expected <document-start> 0 / did not find expected <document-start> 0 / did not find expected <document-start> 0 / did not find expected <document-start> 0 / ",
     ),
-    // What a receiver answers is not kept.
+    // What a receiver returns is not kept.
     (
         "[1, 2]",
         &[Call::Refuse(3), Call::Pull],

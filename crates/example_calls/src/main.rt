@@ -1,4 +1,4 @@
-//! The library's main calls, a few lines each. What is printed stands in the file `stdout` beside `src`.
+//! The library's main calls, a few lines each. The file `stdout` beside `src` has what is printed.
 #![tactic(auto)]
 
 mod bytes;

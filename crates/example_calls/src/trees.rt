@@ -42,7 +42,7 @@ pub fn services(alloc: Global, document: &Yaml) -> Result<Vec<String>, Failure> 
     Ok(names)
 }
 
-/// Writes `true` behind a key of a document, which is a hash that has the key.
+/// Sets the value of a key to `true`, in a document that is a hash with that key.
 pub fn change(alloc: Global, document: &mut Yaml, key: &str) -> Result<(), Failure> {
     let key = Yaml::from_str(alloc, key)?;
     match document.as_mut_hash().and_then(|hash| hash.get_mut(&key)) {

@@ -16,18 +16,18 @@ pub data Goal : Type 0 where
   start : Goal
   documents : Goal
   explicit : Goal
-  -- behind directives
+  -- after directives
   directed : List Directive → Goal
-  -- behind `---`
+  -- after `---`
   content : Goal
   after : Goal
   node : Place → Goal
-  -- behind a node's anchor, its tag, its properties
+  -- after a node's anchor, its tag, its properties
   behind_anchor : Place → List ℕ → Goal
   behind_tag : Place → Tag → Goal
   behind : Place → Option Properties → Goal
   entries : Goal
-  -- behind `-`
+  -- after `-`
   entry : Goal
   dashes : Goal
   dashed : Goal
@@ -37,23 +37,23 @@ pub data Goal : Type 0 where
   after_key : Goal
   items : Goal
   more_items : Goal
-  -- behind `,`
+  -- after `,`
   comma_items : Goal
   item : Goal
   pair_key : Goal
   pair_value : Goal
-  -- behind its `:`
+  -- after its `:`
   pair_valued : Goal
   pair_end : Goal
   flow_pairs : Goal
   more_flow_pairs : Goal
   comma_flow_pairs : Goal
   flow_pair : Goal
-  -- a key behind `?`, what stands behind it, and what stands behind its `:`
+  -- a key after `?`, what stands after it, and what stands after its `:`
   flow_key : Goal
   flow_after_key : Goal
   flow_valued : Goal
-  -- behind a key that has no value
+  -- after a key that has no value
   flow_empty : Goal
 
 -- ---- a node at a place
@@ -131,7 +131,7 @@ abbrev pub tag_and : Tag → Option (List ℕ) → Properties
 tag_and t None = tagged t
 tag_and t (Some a) = tagged_anchored t a
 
--- behind a comma: an item and more, or `]`
+-- after a comma: an item and more, or `]`
 pub data Comma : Type 0 where
   last : Comma
   another : Item → MoreItems → Comma

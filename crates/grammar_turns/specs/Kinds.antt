@@ -48,43 +48,43 @@ begins_node p kind.Anchor = true
 begins_node p kind.Tag = true
 begins_node p k = begins_content p k
 
--- what stands behind a part of a block mapping
+-- what stands after a part of a block mapping
 abbrev pub ends_part : Kind → Bool
 ends_part kind.Key = true
 ends_part kind.Value = true
 ends_part kind.BlockEnd = true
 ends_part _ = false
 
--- what stands behind a document's node
+-- what stands after a document's node
 abbrev pub ends_document : Kind → Bool
 ends_document kind.DocumentStart = true
 ends_document kind.DocumentEnd = true
 ends_document kind.StreamEnd = true
 ends_document _ = false
 
--- what stands behind an item of a flow sequence
+-- what stands after an item of a flow sequence
 abbrev pub ends_item : Kind → Bool
 ends_item kind.FlowEntry = true
 ends_item kind.FlowSequenceEnd = true
 ends_item _ = false
 
--- what stands behind the key of a pair that is an item
+-- what stands after the key of a pair that is an item
 abbrev pub ends_item_key : Kind → Bool
 ends_item_key kind.Value = true
 ends_item_key k = ends_item k
 
--- what stands behind a pair of a flow mapping
+-- what stands after a pair of a flow mapping
 abbrev pub ends_flow_pair : Kind → Bool
 ends_flow_pair kind.FlowEntry = true
 ends_flow_pair kind.FlowMappingEnd = true
 ends_flow_pair _ = false
 
--- what stands behind a key of a flow mapping
+-- what stands after a key of a flow mapping
 abbrev pub ends_flow_key : Kind → Bool
 ends_flow_key kind.Value = true
 ends_flow_key k = ends_flow_pair k
 
--- what stands behind an item of a sequence without indentation
+-- what stands after an item of a sequence without indentation
 abbrev pub ends_dashed : Kind → Bool
 ends_dashed kind.BlockEntry = true
 ends_dashed k = ends_part k

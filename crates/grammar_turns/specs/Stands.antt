@@ -1,4 +1,4 @@
--- A parser stands where what it still awaits is what may come behind the tokens that it took.
+-- A parser stands where what it still awaits is what may come after the tokens that it took.
 use Rattle.std.specs.Prelude.{◌≡◌, List, [], ◌∷◌, ◌++◌, Option, Some, None}
 use Rattle.token_defs.specs.Token.{Tok}
 use Rattle.event_defs.specs.Raw.{Raw}

@@ -16,7 +16,7 @@ abbrev pub then_event : List Raw → Option Raw → List Raw
 then_event es None = es
 then_event es (Some x) = es ++ x ∷ []
 
--- What is awaited here goes on there, behind this token and this event.
+-- What is awaited here goes on there, after this token and this event.
 abbrev pub Goes : (g : Goal) (ss : List State) → Tok → Option Raw → (g' : Goal) (ss' : List State) → Awaits g → Type 0
 Goes g ss t e g' ss' x = (r : Rest ss) (ts : List Tok) → still_tokens g ss x r ≡ t ∷ ts
     → (x' : Awaits g') × (r' : Rest ss') × (still_tokens g' ss' x' r' ≡ ts) × (still_events g ss x r ≡ event_then e (still_events g' ss' x' r'))
@@ -32,7 +32,7 @@ pub record Takes (g : Goal) (ss : List State) (t : Tok) (e : Option Raw) (g' : G
   pub comes : (x' : Awaits g') → Comes g ss (t ∷ []) e g' ss' x'
   pub goes : IsNested ss → IsFor g ss → (x : Awaits g) → Goes g ss t e g' ss' x
 
--- What is awaited here, where that token comes, goes on there behind this event.
+-- What is awaited here, where that token comes, goes on there after this event.
 abbrev pub Stays : (g : Goal) (ss : List State) → Option Tok → Option Raw → (g' : Goal) (ss' : List State) → Awaits g → Type 0
 Stays g ss p e g' ss' x = (r : Rest ss) → Begins p (still_tokens g ss x r)
     → (x' : Awaits g') × (r' : Rest ss') × (still_tokens g' ss' x' r' ≡ still_tokens g ss x r) × (still_events g ss x r ≡ event_then e (still_events g' ss' x' r'))

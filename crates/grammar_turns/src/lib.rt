@@ -1,4 +1,4 @@
-//! What may still come under a stack of parser states, and the turns of the parser over it.
+//! The tokens that may still come under a stack of parser states, and a lemma for each step of the parser.
 #![tactic(auto)]
 
 pub mod kind;

@@ -4,26 +4,26 @@ use yaml_chars::Marker;
 #[derive(Clone, Copy, Debug, PartialEq, Eq)]
 pub enum State {
     StreamStart,
-    /// Behind the stream's start or `...`: a document may do without `---`.
+    /// After the stream's start or `...`: a document may do without `---`.
     ImplicitDocumentStart,
-    /// Behind a document without `...`.
+    /// After a document without `...`.
     DocumentStart,
-    /// Behind `---`.
+    /// After `---`.
     DocumentContent,
-    /// Behind a document's node.
+    /// After a document's node.
     DocumentEnd,
     /// The node of a document without `---`.
     BlockNode,
     BlockSequenceEntry,
     IndentlessSequenceEntry,
-    /// Behind a `-` of a sequence without indentation.
+    /// After a `-` of a sequence without indentation.
     IndentlessSequenceItem,
     BlockMappingKey,
-    /// Behind a key without value.
+    /// After a key without value.
     BlockMappingNextKey,
-    /// Behind a key.
+    /// After a key.
     BlockMappingValue,
-    /// Behind the `:` of a pair without key.
+    /// After the `:` of a pair without key.
     BlockMappingPart,
     FlowSequenceFirstEntry,
     FlowSequenceEntry,
@@ -32,10 +32,10 @@ pub enum State {
     FlowSequenceEntryMappingEnd,
     FlowMappingFirstKey,
     FlowMappingKey,
-    /// Behind a key.
+    /// After a key.
     FlowMappingValue,
-    /// Behind the `:` of a pair without key, which stands here.
+    /// After the `:` of a pair without key, which stands here.
     FlowMappingPart(Marker),
-    /// Behind a node that is a key without value.
+    /// After a node that is a key without value.
     FlowMappingEmptyValue,
 }

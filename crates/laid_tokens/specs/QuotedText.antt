@@ -1,4 +1,4 @@
--- Texts that are one quoted scalar with line feeds alone behind it, and their tokens. YAML 1.2, sections 7.3.1 and 7.3.2.
+-- Texts that are one quoted scalar with line feeds alone after it, and their tokens. YAML 1.2, sections 7.3.1 and 7.3.2.
 use Rattle.std.specs.Prelude.{◌≡◌, ℕ, List, [], ◌∷◌, ◌++◌, Option, Some, replicate}
 use Rattle.token_defs.specs.Token.{Tok, Style}
 use Rattle.scalar_defs.specs.FlowScalar.{single_quoted_value, double_quoted_value}
@@ -8,7 +8,7 @@ pub data Quotes : Type 0 where
   single : Quotes
   double : Quotes
 
--- the quotes, what stands between them, and how many line feeds stand behind
+-- the quotes, what stands between them, and how many line feeds stand after
 pub record QuotedText : Type 0 where
   pub quotes : Quotes
   pub body : List ℕ

@@ -1,8 +1,8 @@
--- The tokens of trees laid out in lines. YAML 1.2, sections 6.9.2, 7.1, 7.3, 7.4, 8.1, 8.2 and 9.1 to 9.2.
--- An array's entries stand between the start and the end of a block sequence, each behind a `BlockEntry`; a hash's between the start
+-- The tokens of layouts. YAML 1.2, sections 6.9.2, 7.1, 7.3, 7.4, 8.1, 8.2 and 9.1 to 9.2.
+-- An array's entries stand between the start and the end of a block sequence, each after a `BlockEntry`; a hash's between the start
 -- and the end of a block mapping, a `Key` before each key and a `Value` before each value. `[]` and `{}` are flow tokens.
--- An anchor stands before its node and an alias is a token of its own, an array at its key's column has neither a start nor an end,
--- a first document without `---` has no marker's token, and each further document has one.
+-- An anchor stands before its node, and an alias is a token of its own. An array at its key's column has no start and no end. A first
+-- document without `---` has no token for the marker; each further document has one.
 use Rattle.std.specs.Prelude.{List, [], ◌∷◌, Bool, true, false}
 use Rattle.token_defs.specs.Token.{Tok, Style}
 use Rattle.tree_defs.specs.Spelling.{spelling}

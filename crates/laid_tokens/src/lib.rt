@@ -1,2 +1,2 @@
-//! The tokens of texts that are known as what was written: JSON texts, layouts, and quoted scalars. Definitions alone.
+//! The tokens of JSON texts, layouts and texts of one quoted scalar. There are definitions, and no code.
 #![tactic(auto)]

@@ -23,7 +23,7 @@ abbrev pub spell_line : (column : ℕ) → Line → List ℕ → List ℕ
 spell_line column (full text) r = spaces column (text ++ r)
 spell_line column (blank n) r = spaces n r
 
--- the lines, each behind an LF
+-- the lines, each after an LF
 abbrev pub spell_lines : (column : ℕ) → List Line → List ℕ → List ℕ
 spell_lines column [] r = r
 spell_lines column (l ∷ ls) r = line_feed ∷ spell_line column l (spell_lines column ls r)

@@ -7,7 +7,7 @@ use Rattle.layout_defs.specs.Marks.{line_feed}
 use Rattle.layout_defs.specs.InTurn.{AreLaidOutInTurn}
 use Rattle.layout_defs.specs.DumpIsInjective.{CanBeWritten}
 
--- the texts that are written for the trees in these settings, an LF behind each
+-- the texts that are written for the trees in these settings, an LF after each
 abbrev pub dump_texts : (compact multiline : Bool) → List Tree → List ℕ
 dump_texts compact multiline [] = []
 dump_texts compact multiline (t ∷ ts) = dump_text compact multiline t ++ line_feed ∷ dump_texts compact multiline ts

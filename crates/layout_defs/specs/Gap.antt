@@ -1,4 +1,4 @@
--- Gaps: the empty lines and comment lines that stand between the entries of a layout, and what may stand behind its root.
+-- Gaps: the empty lines and comment lines that stand between the entries of a layout, and what may stand after its root.
 -- YAML 1.2, sections 6.1 (indentation) and 6.6 (comments).
 use Rattle.std.specs.Prelude.{◌≡◌, ℕ, zero, suc, List, [], ◌∷◌, ◌++◌, Bool, true, not, ◌||◌, ◌==◌}
 use Rattle.std.specs.List.{list_all}
@@ -36,8 +36,8 @@ spell_gap (l ∷ g) r = spell_gap_line l (line_feed ∷ spell_gap g r)
 abbrev pub next_line : (column : ℕ) → List GapLine → List ℕ → List ℕ
 next_line column g r = line_feed ∷ spell_gap g (spaces column r)
 
--- what may stand behind a document's root: nothing, or LF and a gap whose last LF may be missing. So each line stands
--- behind an LF, and the last may be empty.
+-- what may stand after a document's root: nothing, or LF and a gap whose last LF may be missing. So each line stands
+-- after an LF, and the last may be empty.
 abbrev pub spell_ending : List GapLine → List ℕ → List ℕ
 spell_ending [] r = r
 spell_ending (l ∷ g) r = line_feed ∷ spell_gap_line l (spell_ending g r)

@@ -1,10 +1,10 @@
--- Texts of several documents: layouts one after another, each beginning with its `---`, and an LF behind each. YAML 1.2, chapter 9 (streams).
+-- Texts of several documents: layouts one after another, each beginning with its `---`, and an LF after each. YAML 1.2, chapter 9 (streams).
 use Rattle.std.specs.Prelude.{◌≡◌, ℕ, List, [], ◌∷◌, ◌++◌}
 use Rattle.tree_defs.specs.Tree.{Tree}
 use Rattle.layout_defs.specs.Marks.{line_feed}
 use Rattle.layout_defs.specs.Layout.{IsLaidOut}
 
--- the trees are laid out one after another, an LF behind each: of no tree the text is empty
+-- the trees are laid out one after another, an LF after each: of no tree the text is empty
 abbrev pub AreLaidOutInTurn : List Tree → List ℕ → Type 0
 AreLaidOutInTurn [] text = text ≡ []
 AreLaidOutInTurn (t ∷ ts) text =

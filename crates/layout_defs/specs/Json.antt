@@ -1,6 +1,6 @@
 -- JSON texts, as trees that keep what was written, and the YAML tree that each stands for. RFC 8259, sections 2 to 7.
--- Of the texts of that grammar these are left out: those with a tab that isn't among the blanks that begin a line, with an escape
--- of half a pair of UTF-16, with an object that has a key twice, or with a 256th level of arrays and objects.
+-- Four kinds of texts of that grammar are left out: those with a TAB outside the indentation of a line, with a `\u` escape of a surrogate,
+-- alone or in a pair, with an object that has a key twice, or with a 256th level of arrays and objects.
 use Rattle.std.specs.Prelude.{◌≡◌, ℕ, suc, ◌≤◌, max, List, [], ◌∷◌, ◌++◌, true, false, codes}
 use Rattle.tree_defs.specs.Tree.{Tree, Items, Pairs, pairs_of}
 use Rattle.tree_defs.specs.Pairs.{AreDistinct}
@@ -118,7 +118,7 @@ abbrev mutual
   member_levels (last_member k g h v a) = levels v
   member_levels (member k g h v a b ms) = max (levels v) (member_levels ms)
 
--- white space behind another character
+-- white space after another character
 abbrev pub IsGap : List Blank → Type 0
 IsGap g = TabsBeginLines false g
 

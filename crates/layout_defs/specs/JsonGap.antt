@@ -1,4 +1,4 @@
--- White space of a JSON text, and where a tab may stand in it: only among the blanks that begin a line, as tabs do that indent.
+-- White space of a JSON text, and where a TAB may stand in it: only among the blanks that begin a line.
 -- RFC 8259, section 2; YAML 1.2, sections 6.1 (indentation) and 6.3 (separation in a flow collection's lines).
 use Rattle.std.specs.Prelude.{◌≡◌, ℕ, List, [], ◌∷◌, Bool, true}
 
@@ -22,7 +22,7 @@ spell_gap [] r = r
 spell_gap (b ∷ g) r = blank_character b ∷ spell_gap g r
 
 -- Between each tab and the beginning of its line only spaces and tabs stand. `at_beginning`: so it is before the gap's
--- first character, which is so at the text's start alone, since every other gap stands behind a character of JSON.
+-- first character, which is so at the text's start alone, since every other gap stands after a character of JSON.
 abbrev pub TabsBeginLines : (at_beginning : Bool) → List Blank → Type 0
 TabsBeginLines at_beginning [] = Unit {0}
 TabsBeginLines at_beginning (space ∷ g) = TabsBeginLines at_beginning g

@@ -73,12 +73,12 @@ is_whole [] = false
 is_whole (c ∷ []) = is_ascii_digit c
 is_whole (c ∷ d ∷ w) = not (c == digit_zero) && are_digits (c ∷ d ∷ w)
 
--- at least one digit behind the point
+-- at least one digit after the point
 abbrev pub is_fraction : Fraction → Bool
 is_fraction no_fraction = true
 is_fraction (fraction digits) = are_digits digits
 
--- at least one digit behind the letter and the sign
+-- at least one digit after the letter and the sign
 abbrev pub is_exponent : Exponent → Bool
 is_exponent no_exponent = true
 is_exponent (exponent is_capital s digits) = are_digits digits

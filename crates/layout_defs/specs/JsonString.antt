@@ -15,7 +15,7 @@ pub data Short : Type 0 where
   return : Short
   tabulator : Short
 
--- the letter behind `\`
+-- the letter after `\`
 abbrev pub letter_of : Short → ℕ
 letter_of quotation_mark = 34  -- `"`
 letter_of reverse_solidus = 92  -- `\`
@@ -51,7 +51,7 @@ spell_piece (itself c) r = c ∷ r
 spell_piece (short s) r = backslash ∷ letter_of s ∷ r
 spell_piece (unicode a b c d) r = backslash ∷ letter_u ∷ a ∷ b ∷ c ∷ d ∷ r
 
--- one piece behind the other
+-- one piece after the other
 abbrev pub spell_pieces : List Piece → List ℕ → List ℕ
 spell_pieces [] r = r
 spell_pieces (p ∷ ps) r = spell_piece p (spell_pieces ps r)

@@ -1,4 +1,4 @@
--- Laws of the relations between trees and texts: each is carried by the function of `src/laws.rt` that its comment names.
+-- Laws of the relations between trees and texts: each is the contract of the function of `src/laws.rt` that its comment names.
 use Rattle.std.specs.Prelude.{ℕ, List, [], ◌∷◌}
 use Rattle.tree_defs.specs.Tree.{Tree}
 use Rattle.layout_defs.specs.Json.{IsJsonText}

@@ -1,4 +1,4 @@
--- Basic layouts: one document behind its `---`, whose scalars are plain, in double quotes or literal blocks. Comments stand on lines of
+-- Basic layouts: one document after its `---`, whose scalars are plain, in double quotes or literal blocks. Comments stand on lines of
 -- their own. There is no anchor, no alias, no folded block, no JSON collection, and no array at its key's column.
 -- Each text that `dump` writes is one.
 use Rattle.std.specs.Prelude.{◌≡◌, ℕ, List, [], ◌∷◌, true}

@@ -1,6 +1,6 @@
 -- Trees laid out in lines: block arrays and hashes at any columns, scalars on one line, literal and folded blocks, gaps of empty and
 -- comment lines between the entries, JSON arrays and objects on one line, arrays at the column of the key that they are the value of,
--- comments behind what they explain, anchors and aliases, and one document or several, of which the first may lack its `---`.
+-- comments after values on their line, anchors and aliases, and one document or several. The first document may lack its `---`.
 -- What was written is kept: columns, spaces, gaps and comments.
 -- YAML 1.2, chapters 6 (indentation, comments, anchors), 7 (scalars on one line, flow collections, aliases), 8 (block styles) and 9 (streams).
 use Rattle.std.specs.Prelude.{◌≡◌, ℕ, ◌+◌, ◌<◌, ◌≤◌, List, [], ◌∷◌, ◌++◌, Bool, true, false, not, ◌||◌, ◌==◌, Some, None, if◌then◌else◌, map, flat_map, length, codes}
@@ -23,7 +23,7 @@ use Rattle.layout_defs.specs.Anchored.{Anchor, begun, with_end, last_tree, is_na
 
 -- ---- what was written
 
--- a scalar as it is spelt, a string so only as it stands; or a string in double or in single quotes
+-- a scalar by its spelling, where a string stands without quotes; or a string in double or in single quotes
 pub data Scalar : Type 0 where
   plain : Tree → Scalar
   quoted : (text : List ℕ) → Scalar
@@ -35,7 +35,7 @@ pub data Inline : Type 0 where
   empty_array : Inline
   empty_hash : Inline
 
--- a comment behind something, or none. Of the spaces before it, `more` are those behind the first.
+-- A comment on the line of a value, or no comment. One space stands before it, and `more` further spaces.
 pub data Comment : Type 0 where
   no_comment : Comment
   comment : (more : ℕ) → (text : List ℕ) → Comment
@@ -46,8 +46,8 @@ mutual
     array : Entries → Block
     hash : Fields → Block
 
-  -- What stands behind `-`, `?` or `:`. Of the spaces before it, `more` are those behind the first. An alias keeps the tree that
-  -- it stands for.
+  -- What stands after `-`, `?` or `:`. One space stands before it, and `more` further spaces. An alias keeps the tree that it
+  -- stands for.
   pub data Value : Type 0 where
     -- a scalar, `[]` or `{}` on the same line
     beside : (more : ℕ) → Inline → Comment → Value
@@ -93,7 +93,7 @@ pub record Document : Type 0 where
   pub gap : List GapLine
   pub root : Root
 
--- one document or more; behind each but the last an LF and a gap, and then the `---` of the next
+-- one document or more; after each but the last an LF and a gap, and then the `---` of the next
 pub data Documents : Type 0 where
   last_document : Document → (behind : List GapLine) → Documents
   document : Document → List GapLine → Documents → Documents
@@ -141,7 +141,7 @@ abbrev mutual
   spell_block c (array es) r = spell_entries c es r
   spell_block c (hash fs) r = spell_fields c fs r
 
-  -- a value behind a mark at the column c: a compact block begins behind the mark and the spaces
+  -- a value after a mark at the column c: a compact block begins after the mark and the spaces
   pub spell_value : (c : ℕ) → Value → List ℕ → List ℕ
   spell_value c (beside more i behind) r = space ∷ spaces more (spell_inline i (spell_comment behind r))
   spell_value c (literal more column text ls) r = space ∷ spaces more (spell_literal column text ls r)
@@ -168,7 +168,7 @@ abbrev mutual
   spell_fields c (last_field f) r = spell_field c f r
   spell_fields c (field f g fs) r = spell_field c f (next_line c g (spell_fields c fs r))
 
--- a block behind its column's spaces, and all else at column 0
+-- a block after its column's spaces, and all else at column 0
 abbrev pub spell_root : Root → List ℕ → List ℕ
 spell_root (block column b) r = spaces column (spell_block column b r)
 spell_root (inline i) r = spell_inline i r
@@ -178,7 +178,7 @@ spell_root (literal text ls) r = spell_literal 0 text ls r
 abbrev pub spell_document : Document → List ℕ → List ℕ
 spell_document d r = spell_gap d.gap (spell_root d.root r)
 
--- each document but the first behind an LF, a gap and its `---`
+-- each document but the first after an LF, a gap and its `---`
 abbrev pub spell_documents : Documents → List ℕ → List ℕ
 spell_documents (last_document d behind) r = spell_document d (spell_ending behind r)
 spell_documents (document d g ds) r = spell_document d (line_feed ∷ spell_gap g (codes "---\n" ++ spell_documents ds r))
@@ -250,15 +250,15 @@ abbrev pub trees_of : Documents → List Tree
 trees_of (last_document d behind) = root_tree d.root ∷ []
 trees_of (document d g ds) = root_tree d.root ∷ trees_of ds
 
--- ---- the anchors behind a part, from those before it
+-- ---- the anchors after a part, from those before it
 
 abbrev mutual
-  -- behind a block
+  -- after a block
   pub anchors_behind_block : Block → List Anchor → List Anchor
   anchors_behind_block (array es) a = anchors_behind_entries es a
   anchors_behind_block (hash fs) a = anchors_behind_fields fs a
 
-  -- behind a value; an anchor begins before its node, and ends with the tree of the node
+  -- after a value; an anchor begins before its node, and ends with the tree of the node
   pub anchors_behind : Value → List Anchor → List Anchor
   anchors_behind (beside more i behind) a = a
   anchors_behind (literal more column text ls) a = a
@@ -270,17 +270,17 @@ abbrev mutual
   anchors_behind (anchored more name v) a = with_end (value_tree v) (anchors_behind v (begun name ∷ a))
   anchors_behind (alias more name t) a = a
 
-  -- behind the entries of an array
+  -- after the entries of an array
   pub anchors_behind_entries : Entries → List Anchor → List Anchor
   anchors_behind_entries (last_entry v) a = anchors_behind v a
   anchors_behind_entries (entry v g es) a = anchors_behind_entries es (anchors_behind v a)
 
-  -- behind an entry of a hash: its key comes before its value
+  -- after an entry of a hash: its key comes before its value
   pub anchors_behind_field : Field → List Anchor → List Anchor
   anchors_behind_field (implicit k v) a = anchors_behind v a
   anchors_behind_field (explicit k g v) a = anchors_behind v (anchors_behind k a)
 
-  -- behind the entries of a hash
+  -- after the entries of a hash
   pub anchors_behind_fields : Fields → List Anchor → List Anchor
   anchors_behind_fields (last_field f) a = anchors_behind_field f a
   anchors_behind_fields (field f g fs) a = anchors_behind_fields fs (anchors_behind_field f a)
@@ -305,7 +305,7 @@ IsScalar (plain t) = IsPlain t
 IsScalar (quoted text) = Unit {0}
 IsScalar (single_quoted text) = IsLineText text
 
--- a scalar is one
+-- a scalar is valid
 abbrev pub IsInline : Inline → Type 0
 IsInline (scalar s) = IsScalar s
 IsInline empty_array = Unit {0}
@@ -320,7 +320,7 @@ IsComment (comment more text) = IsLineText text
 abbrev pub IsImplicitKey : Scalar → Type 0
 IsImplicitKey s = IsScalar s × (length (spell_scalar s []) ≤ 1024)
 
--- a key that may stand behind `?`: an array or a hash, without anchor and no alias
+-- a key that may stand after `?`: an array or a hash, without anchor and no alias
 abbrev pub IsExplicitKey : Value → Type 0
 IsExplicitKey (beside more (scalar s) behind) = ⊥
 IsExplicitKey (beside more empty_array behind) = Unit {0}
@@ -334,7 +334,7 @@ IsExplicitKey (at_key behind g es) = ⊥
 IsExplicitKey (anchored more name v) = ⊥
 IsExplicitKey (alias more name t) = ⊥
 
--- behind the `:` of a scalar key no block begins on the same line
+-- after the `:` of a scalar key no block begins on the same line
 abbrev pub MayFollowScalarKey : Value → Type 0
 MayFollowScalarKey (compact more b) = ⊥
 MayFollowScalarKey _ = Unit {0}
@@ -430,17 +430,17 @@ abbrev mutual
   IsValue c a (anchored more name v) = (is_name name ≡ true) × MayBeAnchored v × IsValue c (begun name ∷ a) v
   IsValue c a (alias more name t) = (is_name name ≡ true) × (last_tree name a ≡ Some t)
 
-  -- each value is one behind the anchors of those before it, and so is each gap
+  -- Each value and each gap is valid. A value sees the anchors of the values before it.
   pub AreEntries : (c : ℕ) → List Anchor → Entries → Type 0
   AreEntries c a (last_entry v) = MayFollowMark v × IsValue c a v
   AreEntries c a (entry v g es) = MayFollowMark v × IsValue c a v × IsGap g × AreEntries c (anchors_behind v a) es
 
-  -- a key of its kind, and a value that may stand behind it
+  -- a key of its kind, and a value that may stand after it
   pub IsField : (c : ℕ) → List Anchor → Field → Type 0
   IsField c a (implicit k v) = IsImplicitKey k × MayFollowScalarKey v × IsValue c a v
   IsField c a (explicit k g v) = IsExplicitKey k × IsValue c a k × IsGap g × MayFollowMark v × IsValue c (anchors_behind k a) v
 
-  -- each entry is one, behind the anchors of those before it
+  -- Each entry is valid. It sees the anchors of the entries before it.
   pub AreFields : (c : ℕ) → List Anchor → Fields → Type 0
   AreFields c a (last_field f) = IsField c a f
   AreFields c a (field f g fs) = IsField c a f × IsGap g × AreFields c (anchors_behind_field f a) fs
@@ -451,18 +451,18 @@ IsRoot (block column b) = IsBlock column [] b
 IsRoot (inline i) = IsInline i
 IsRoot (literal text ls) = (is_root_literal text ≡ true) × AreLinesOf text 0 ls
 
--- behind a literal block at column 0 a comment would be a line of its text
+-- after a literal block at column 0 a comment would be a line of its text
 abbrev pub IsBehindRoot : Root → List GapLine → Type 0
 IsBehindRoot (block column b) g = IsGap g
 IsBehindRoot (inline i) g = IsGap g
 IsBehindRoot (literal text ls) g = AreEmptyLines g
 
--- each document is one
+-- each document is valid
 abbrev pub AreDocuments : Documents → Type 0
 AreDocuments (last_document d behind) = IsGap d.gap × IsRoot d.root × IsBehindRoot d.root behind
 AreDocuments (document d g ds) = IsGap d.gap × IsRoot d.root × IsBehindRoot d.root g × AreDocuments ds
 
--- what makes a written text a wide layout
+-- what makes a written text a layout
 abbrev pub IsWideLayout : WideLayout → Type 0
 IsWideLayout w = AreDocuments w.documents
 

@@ -1,28 +1,31 @@
-//! Laws of the relations, each carried by an empty function.
+//! Laws of the relations, each the contract of an empty function.
 
 ghost use Rattle.layout_defs.specs.Laws.{JsonTreesAreSound, LaidOutTreesAreSound, WidelyLaidOutTreesAreSound, LayoutsAreWideLayouts, LayoutsInTurnAreWideLayouts};
 
-/// The tree of a JSON text has each key of a hash once, integers of 64 bits, no alias and no bad value.
+/// The tree of a JSON text is sound: no hash has a key twice, integers have 64 bits, and there is no alias and no bad
+/// value.
 pub fn json_trees_are_sound()
     ensures { JsonTreesAreSound }
 {}
 
-/// So has a tree that is laid out.
+/// The tree of a basic layout is sound: no hash has a key twice, integers have 64 bits, and there is no alias and no
+/// bad value.
 pub fn laid_out_trees_are_sound()
     ensures { LaidOutTreesAreSound }
 {}
 
-/// So has each tree of a text that is laid out in the wider sense.
+/// Each tree of a layout is sound: no hash has a key twice, integers have 64 bits, and there is no alias and no bad
+/// value.
 pub fn widely_laid_out_trees_are_sound()
     ensures { WidelyLaidOutTreesAreSound }
 {}
 
-/// What is laid out is laid out in the wider sense too.
+/// A basic layout of a tree is a layout of that one tree.
 pub fn layouts_are_wide_layouts()
     ensures { LayoutsAreWideLayouts }
 {}
 
-/// So are trees that are laid out one after another, an LF behind each.
+/// Basic layouts of several trees, each followed by an LF, are a layout of these trees.
 pub fn layouts_in_turn_are_wide_layouts()
     ensures { LayoutsInTurnAreWideLayouts }
 {}

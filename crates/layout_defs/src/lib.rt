@@ -1,4 +1,4 @@
-//! The relations between trees and texts: JSON texts, trees laid out in lines, and the wider layouts.
+//! The relations between trees and texts: JSON texts, layouts, and basic layouts.
 #![tactic(auto)]
 
 pub mod laws;

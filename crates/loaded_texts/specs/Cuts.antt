@@ -1,4 +1,4 @@
--- What a text is read as, told of its cut: each law is carried by the function of `src/cuts.rt` that its comment names.
+-- What a text is read as comes from a cut of it: each law is the contract of the function of `src/cuts.rt` that its comment names.
 use Rattle.std.specs.Prelude.{ℕ, Bool, List}
 use Rattle.token_defs.specs.Token.{Token}
 use Rattle.tree_defs.specs.Tree.{Tree}

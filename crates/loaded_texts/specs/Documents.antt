@@ -1,4 +1,4 @@
--- Laws of documents, whatever text they were read from: each is carried by the function of `src/documents.rt` that its comment names.
+-- Laws of documents, whatever text they were read from: each is the contract of the function of `src/documents.rt` that its comment names.
 use Rattle.std.specs.Prelude.{ℕ, ◌≡◌, ◌⊎◌, Bool, List, [], ◌∷◌, ◌++◌, All}
 use Rattle.yaml_chars.specs.Place.{Place}
 use Rattle.token_defs.specs.Token.{Tok}
@@ -23,7 +23,7 @@ IsOpen n (opened_sequence a ts ∷ outer) = (a ≡ n) ⊎ IsOpen n outer
 IsOpen n (opened_mapping a ps waiting ∷ outer) = (a ≡ n) ⊎ IsOpen n outer
 
 -- `aliases_inside_their_node_are_bad_values`: a stream's events begin with those before, and the node with the anchor n, which the
--- alias means, is still open behind them
+-- alias means, is still open after them
 abbrev pub AliasesInsideTheirNodeAreBadValues : Type 0
 AliasesInsideTheirNodeAreBadValues =
     (keep_tags : Bool) (tokens : List Tok) (before : List (Ev × Place)) (n : ℕ) (more : List Ev) (u : Unfinished)

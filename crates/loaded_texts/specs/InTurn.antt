@@ -1,4 +1,4 @@
--- Laws of texts of several documents, layouts one after another: each is carried by the function of `src/in_turn.rt` that its comment names.
+-- Laws of texts of several documents, layouts one after another: each is the contract of the function of `src/in_turn.rt` that its comment names.
 use Rattle.std.specs.Prelude.{ℕ, Bool, List, All}
 use Rattle.tree_defs.specs.Tree.{Tree}
 use Rattle.layout_defs.specs.InTurn.{AreLaidOutInTurn}

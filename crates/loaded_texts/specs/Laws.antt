@@ -1,4 +1,4 @@
--- Laws of texts that are read as trees: each is carried by the function of `src/laws.rt` that its comment names.
+-- Laws of texts that are read as trees: each is the contract of the function of `src/laws.rt` that its comment names.
 use Rattle.std.specs.Prelude.{◌≡◌, ℕ, Bool, true, Option, List, [], ◌∷◌, ◌++◌, Result, Ok}
 use Rattle.std.specs.Iterator.{AlwaysYields}
 use Rattle.std.specs.Str.{chars, IsUtf8}
@@ -91,7 +91,7 @@ JsonTextsAreWithoutNul = (w : JsonText) → IsWellFormed w → IsWithoutNul (spe
 abbrev pub DumpsAreReadAsTheirTree : Type 0
 DumpsAreReadAsTheirTree = (keep_tags compact multiline : Bool) (t : Tree) → CanBeWritten t → IsReadAs keep_tags (dump_text compact multiline t) (t ∷ [])
 
--- ---- the text behind an iterator
+-- ---- the text after an iterator
 
 -- `characters_are_the_text`, for each kind of iterator; `all` are the characters that it always gives
 abbrev pub CharactersAreTheText : {S : Type 0} → (S → Option ℕ → S → Type 0) → Type 0

@@ -9,8 +9,8 @@ use Rattle.event_defs.specs.Laws.{HasRead}
 use Rattle.event_defs.specs.ReadAs.{IsAtWork}
 use Rattle.yaml_parser.specs.Loads.{Receives}
 
--- The receiver took events behind which a loader has just these documents; or the parser wanted memory; or the receiver refused
--- an event behind which a loader is at work: no key came twice, and the event stood in its place.
+-- The receiver took events after which a loader has just these documents; or the parser wanted memory; or the receiver refused
+-- an event after which a loader is at work: no key came twice, and the event stood in its place.
 pub data LoadsAs {R : Type 0} (takes : R → Ev → Place → Result (Unit {0}) Fault → R → Type 0) (trees : List Tree) (r : R) : Result (Unit {0}) Fault → R → Type 0 where
   well : {s : R} (es : List (Ev × Place)) → Receives takes r es s → HasRead (Ok trees) (with_events new_loader es) → LoadsAs takes trees r (Ok tt) s
   wants_memory : {s : R} {f : Fault} (es : List (Ev × Place)) → Receives takes r es s → f.memory ≡ true → LoadsAs takes trees r (Err f) s

@@ -1,4 +1,4 @@
--- Laws of texts that are one quoted scalar: each is carried by the function of `src/quoted.rt` that its comment names.
+-- Laws of texts that are one quoted scalar: each is the contract of the function of `src/quoted.rt` that its comment names.
 use Rattle.std.specs.Prelude.{ℕ, Bool, List, [], ◌∷◌}
 use Rattle.tree_defs.specs.Tree.{Tree}
 use Rattle.laid_tokens.specs.QuotedText.{IsQuoted}

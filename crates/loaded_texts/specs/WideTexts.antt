@@ -1,4 +1,4 @@
--- Laws of texts that are wide layouts: each is carried by the function of `src/wide.rt` that its comment names.
+-- Laws of layouts: each is the contract of the function of `src/wide.rt` that its comment names.
 use Rattle.std.specs.Prelude.{Bool, []}
 use Rattle.layout_defs.specs.WideLayout.{WideLayout, IsWideLayout, spell, trees_of}
 use Rattle.loaded_texts.specs.TextReadAs.{IsReadAs}

@@ -1,9 +1,9 @@
-//! Laws of the documents of any text, each carried by an empty function.
+//! Laws of the documents of any text, each the contract of an empty function.
 
 ghost use Rattle.loaded_texts.specs.Documents.{ReadDocumentsComeBack, AliasesInsideTheirNodeAreBadValues};
 
-/// Whatever text they were read from, the text that is written for a document that can be written is read as that one document,
-/// in each setting.
+/// If a document can be written, its dump is read as that one document, in each setting, whatever text the document
+/// was read from.
 pub fn read_documents_come_back()
     ensures { ReadDocumentsComeBack }
 {}

@@ -1,4 +1,4 @@
-//! What a load answers of a text whose tokens are read as trees: the scanner's, the parser's and the loader's promises in one.
+//! What a load of a text returns: the promises of the scanner, the parser and the loader put together.
 #![tactic(auto)]
 
 pub mod cuts;

@@ -3,7 +3,7 @@ use Rattle.std.specs.Prelude.{List, [], ◌∷◌}
 use Rattle.tree_defs.specs.Tree.{Tree}
 use Rattle.tree_defs.specs.Pairs.{insert}
 
--- the hash behind the pairs
+-- the hash after the pairs
 abbrev pub inserted : List (Tree × Tree) → List (Tree × Tree) → List (Tree × Tree)
 inserted ps [] = ps
 inserted ps (q ∷ qs) = inserted (insert q.0 q.1 ps) qs

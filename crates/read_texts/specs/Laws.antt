@@ -1,4 +1,4 @@
--- Laws of streams that are read, and of JSON texts, layouts, wide layouts and quoted texts: each is carried by the function of
+-- Laws of streams that are read, and of JSON texts, layouts and quoted texts: each is the contract of the function of
 -- `src/laws.rt` that its comment names.
 use Rattle.std.specs.Prelude.{◌≡◌, ℕ, Bool, true, List, [], ◌∷◌, ◌++◌, Ok}
 use Rattle.yaml_chars.specs.Place.{Place}
@@ -31,13 +31,13 @@ ReadStreamsAreLoaded =
     (keep_tags : Bool) (tokens : List Tok) (trees : List Tree) (events : List (Ev × Place)) → ReadAs keep_tags tokens trees → IsStream keep_tags tokens (events_of events)
     → HasRead (Ok trees) (with_events new_loader events)
 
--- `read_streams_are_not_refused`; `more` are the events behind the beginning
+-- `read_streams_are_not_refused`; `more` are the events after the beginning
 abbrev pub ReadStreamsAreNotRefused : Type 0
 ReadStreamsAreNotRefused =
     (keep_tags : Bool) (tokens : List Tok) (trees : List Tree) (events : List (Ev × Place)) (more : List Ev) → ReadAs keep_tags tokens trees
     → IsStream keep_tags tokens (events_of events ++ more) → IsAtWork (with_events new_loader events)
 
--- `foretold_events_are_not_refused`; `after` are the tokens behind the beginning
+-- `foretold_events_are_not_refused`; `after` are the tokens after the beginning
 abbrev pub ForetoldEventsAreNotRefused : Type 0
 ForetoldEventsAreNotRefused =
     (keep_tags : Bool) (before after : List Tok) (trees : List Tree) (events : List (Ev × Place)) → ReadAs keep_tags (before ++ after) trees

@@ -1,4 +1,4 @@
-//! What is refused: readers that fail behind each number of bytes, writers that refuse each of their calls, and events out
+//! What is refused: readers that fail after each number of bytes, writers that refuse each of their calls, and events out
 //! of nesting.
 #![tactic(auto)]
 

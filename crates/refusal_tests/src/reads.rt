@@ -72,7 +72,7 @@ const FAILURES: [(ErrorKind, bool); 2] = [
     (ErrorKind::BrokenPipe, false),
 ];
 
-// Bytes that aren't read.
+// Bytes that are not read.
 const MALFORMED: [&[u8]; 2] = [b"\xFF", b"["];
 
 #[test]

@@ -33,37 +33,37 @@ sign_of c = (if c == 45 then Some strip else (if c == 43 then Some keep else Non
 unfoldable pub digit_of : ℕ → Option ℕ
 digit_of c = (if is_between 49 57 c then Some (c - 48) else None)
 
--- a header, if nothing but blanks and a comment stands behind its indicators
+-- a header, if nothing but blanks and a comment stands after its indicators
 abbrev pub ended : Header → List ℕ → Option Header
 ended h r = (if is_rest_of_line r then Some h else None)
 
--- behind a sign: what a character is that is a digit, or none
+-- after a sign: what a character is that is a digit, or none
 abbrev pub digit_or_end : BlockStyle → Chomping → Option ℕ → ℕ → List ℕ → Option Header
 digit_or_end s ch (Some d) c r = ended (record { style = s; chomping = ch; digit = Some d }) r
 digit_or_end s ch None c r = ended (record { style = s; chomping = ch; digit = None }) (c ∷ r)
 
--- behind a sign: a digit or none
+-- after a sign: a digit or none
 abbrev pub behind_sign : BlockStyle → Chomping → List ℕ → Option Header
 behind_sign s ch [] = Some (record { style = s; chomping = ch; digit = None })
 behind_sign s ch (c ∷ r) = digit_or_end s ch (digit_of c) c r
 
--- behind a digit: what a character is that is a sign, or none
+-- after a digit: what a character is that is a sign, or none
 abbrev pub sign_or_end : BlockStyle → ℕ → Option Chomping → ℕ → List ℕ → Option Header
 sign_or_end s d (Some ch) c r = ended (record { style = s; chomping = ch; digit = Some d }) r
 sign_or_end s d None c r = ended (record { style = s; chomping = clip; digit = Some d }) (c ∷ r)
 
--- behind a digit: a sign or none
+-- after a digit: a sign or none
 abbrev pub behind_digit : BlockStyle → ℕ → List ℕ → Option Header
 behind_digit s d [] = Some (record { style = s; chomping = clip; digit = Some d })
 behind_digit s d (c ∷ r) = sign_or_end s d (sign_of c) c r
 
--- the first character behind the style, by what it is: a sign, a digit, or neither
+-- the first character after the style, by what it is: a sign, a digit, or neither
 abbrev pub first_indicator : BlockStyle → Option Chomping → Option ℕ → ℕ → List ℕ → Option Header
 first_indicator s (Some ch) _ c r = behind_sign s ch r
 first_indicator s None (Some d) c r = behind_digit s d r
 first_indicator s None None c r = ended (record { style = s; chomping = clip; digit = None }) (c ∷ r)
 
--- behind the style: the indicators
+-- after the style: the indicators
 abbrev pub behind_style : BlockStyle → List ℕ → Option Header
 behind_style s [] = Some (record { style = s; chomping = clip; digit = None })
 behind_style s (c ∷ r) = first_indicator s (sign_of c) (digit_of c) c r
@@ -73,14 +73,14 @@ abbrev pub header_of : List ℕ → Option Header
 header_of [] = None
 header_of (c ∷ r) = (if c == 124 then behind_style literal r else (if c == 62 then behind_style folded r else None))
 
--- ---- the lines behind a header
+-- ---- the lines after a header
 
 -- How a block scalar's lines end: before further text, or at the end of input in a line without a break, which may be empty.
 pub data Ending : Type 0 where
   further_text : Ending
   unbroken : (last : List ℕ) → Ending
 
--- What stands behind a header: the end of input, or its break and lines, each with its own break, and how they end.
+-- What stands after a header: the end of input, or its break and lines, each with its own break, and how they end.
 pub data Body : Type 0 where
   input_ends : Body
   body : (lines : List (List ℕ)) → Ending → Body
@@ -137,7 +137,7 @@ pub data Row : Type 0 where
 unfoldable pub is_empty_line : (column : ℕ) → List ℕ → Bool
 is_empty_line column l = is_spaces l && nat_le (length l) column
 
--- A content line has a character at the content column and spaces before it; in column 0 a document marker is none.
+-- A content line has a character at the content column and spaces before it. In column 0 a document marker is no content line.
 unfoldable pub is_content_line : (column : ℕ) → List ℕ → Bool
 is_content_line column l = nat_le column (leading_spaces l) && nat_le (suc column) (length l) && not ((column == 0) && is_document_marker l)
 
@@ -162,7 +162,7 @@ abbrev pub starts_blank : List ℕ → Bool
 starts_blank [] = false
 starts_blank (c ∷ l) = is_blank c
 
--- so many line feeds
+-- this number of line feeds
 abbrev pub breaks : ℕ → List ℕ
 breaks n = replicate n line_feed
 
@@ -171,13 +171,13 @@ abbrev pub folded_break : (empty_lines : ℕ) → List ℕ
 folded_break zero = space ∷ []
 folded_break (suc n) = breaks (suc n)
 
--- What stands between two content lines with so many empty lines between them: every break, but where both lines are folded.
+-- What stands between two content lines with this number of empty lines between them: every break, except that folding applies if both lines are folded.
 abbrev pub between_lines : BlockStyle → (empty_lines : ℕ) → (either_blank : Bool) → List ℕ
 between_lines literal n _ = breaks (suc n)
 between_lines folded n true = breaks (suc n)
 between_lines folded n false = folded_break n
 
--- the text behind a content line and so many empty ones, up to the last content line
+-- the text after a content line and so many empty ones, up to the last content line
 abbrev pub text_behind : BlockStyle → (line : List ℕ) → (empty_lines : ℕ) → List Row → List ℕ
 text_behind s l n [] = []
 text_behind s l n (empty_row ∷ rs) = text_behind s l (suc n) rs
@@ -197,19 +197,19 @@ has_content [] = false
 has_content (empty_row ∷ rs) = has_content rs
 has_content (content_row l ∷ rs) = true
 
--- how many empty lines stand behind so many others and the last content line
+-- how many empty lines stand after so many others and the last content line
 abbrev pub empty_behind : (before : ℕ) → List Row → ℕ
 empty_behind n [] = n
 empty_behind n (empty_row ∷ rs) = empty_behind (suc n) rs
 empty_behind n (content_row l ∷ rs) = empty_behind 0 rs
 
--- What stands behind the last content line: nothing; its break and the one that the end of input adds; or these and the empty lines' breaks.
+-- What stands after the last content line: nothing; its break and the one that the end of input adds; or these and the empty lines' breaks.
 abbrev pub tail : Chomping → (added : ℕ) → (empty_lines : ℕ) → List ℕ
 tail strip added n = []
 tail clip added n = breaks (suc added)
 tail keep added n = breaks (suc added + n)
 
--- a scalar without a content line, behind which further text follows
+-- a scalar without a content line, after which further text follows
 abbrev pub nothing_before_text : Chomping → (empty_lines : ℕ) → List ℕ
 nothing_before_text strip n = []
 nothing_before_text clip n = []
@@ -223,7 +223,7 @@ nothing_before_end keep n = breaks (max n 1)
 
 -- ---- the value
 
--- the value of lines with content: their text, and what chomping leaves behind it
+-- the value of lines with content: their text, and what chomping leaves after it
 abbrev pub with_content : Header → (added : ℕ) → List Row → List ℕ
 with_content h added rows = text_of h.style rows ++ tail h.chomping added (empty_behind 0 rows)
 
@@ -257,7 +257,7 @@ abbrev pub starts_with_tab : List (List ℕ) → Bool
 starts_with_tab ((c ∷ l) ∷ ls) = c == tab
 starts_with_tab _ = false
 
--- The value of a block scalar: none where its first line starts with a TAB, or where a line is neither content nor empty.
+-- The value of a block scalar. It has none if its first line starts with a TAB, or if a line is neither content nor empty.
 abbrev pub block_value : Header → (collection : Option ℕ) → Body → Option (List ℕ)
 block_value h collection input_ends = Some []
 block_value h collection (body lines ending) =
@@ -271,7 +271,7 @@ is_outside zero r = false
 is_outside (suc n) [] = false
 is_outside (suc n) (c ∷ r) = (if c == space then is_outside n r else not (is_break c) && not (is_nul c))
 
--- Whether a text that stands directly behind a block scalar's last break is further text: it stands before the content column, or is a document marker where that is column 0.
+-- Whether a text that stands directly after a block scalar's last break is further text: it stands before the content column, or is a document marker where that is column 0.
 abbrev pub is_further_text : (column : ℕ) → List ℕ → Bool
 is_further_text zero r = is_document_marker r
 is_further_text (suc n) r = is_outside (suc n) r

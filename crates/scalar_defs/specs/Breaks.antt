@@ -2,7 +2,7 @@
 use Rattle.std.specs.Prelude.{ℕ, List, [], ◌∷◌, Bool, true, false, ◌&&◌, ◌||◌, ◌==◌}
 use Rattle.scalar_defs.specs.Classes.{line_feed, carriage_return, is_blank, is_break}
 
--- A text's lines, without their breaks: those with a break, and what stands behind the last break.
+-- A text's lines, without their breaks: those with a break, and what stands after the last break.
 pub record Split : Type 0 where
   pub complete : List (List ℕ)
   pub last : List ℕ
@@ -25,7 +25,7 @@ abbrev pub is_before_line_feed : ℕ → List ℕ → Bool
 is_before_line_feed c [] = false
 is_before_line_feed c (d ∷ r) = (c == carriage_return) && (d == line_feed)
 
--- What a character adds to the lines behind it: a carriage return before a line feed adds nothing, a break an empty line, another character itself.
+-- What a character adds to the lines after it: a carriage return before a line feed adds nothing, a break an empty line, another character itself.
 abbrev pub split_by : (is_break is_first_of_two : Bool) → ℕ → Split → Split
 split_by true true c s = s
 split_by true false c s = with_empty_line s
@@ -41,7 +41,7 @@ abbrev pub is_blanks_and_comment : List ℕ → Bool
 is_blanks_and_comment [] = true
 is_blanks_and_comment (c ∷ r) = (c == 35) || (is_blank c && is_blanks_and_comment r)
 
--- whether nothing stands here up to the line's end but, behind a blank, blanks and maybe a comment
+-- whether nothing stands here up to the line's end but, after a blank, blanks and maybe a comment
 abbrev pub is_rest_of_line : List ℕ → Bool
 is_rest_of_line [] = true
 is_rest_of_line (c ∷ r) = is_blank c && is_blanks_and_comment r

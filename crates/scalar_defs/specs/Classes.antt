@@ -1,4 +1,4 @@
--- The classes of characters that the parts of a YAML text are told apart by.
+-- The classes of characters by which the parts of a YAML text are recognised.
 -- YAML 1.2, sections 5.4 (breaks), 5.5 (white space), 5.6 (URI and tag characters), 5.3 (flow indicators), 6.9.2 (anchor names), 9.1.2 (document markers).
 use Rattle.std.specs.Prelude.{ℕ, List, [], ◌∷◌, Bool, true, false, not, ◌&&◌, ◌||◌, ◌==◌, nat_le, codes}
 

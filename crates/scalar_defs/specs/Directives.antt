@@ -13,7 +13,7 @@ pub data Directive : Type 0 where
 
 -- ---- %YAML
 
--- the number that decimal digits write, behind those already read
+-- the number that decimal digits write, after those already read
 abbrev pub decimal_value : (before : ℕ) → List ℕ → ℕ
 decimal_value n [] = n
 decimal_value n (c ∷ cs) = decimal_value (n * 10 + (c - 48)) cs
@@ -28,12 +28,12 @@ abbrev pub version_by : Option ℕ → Option ℕ → Option Directive
 version_by (Some major) (Some minor) = Some (version major minor)
 version_by _ _ = None
 
--- the point, the minor number, and nothing behind it but blanks and a comment
+-- the point, the minor number, and nothing after it but blanks and a comment
 abbrev pub minor_of : Option ℕ → List ℕ → Option Directive
 minor_of major [] = None
 minor_of major (c ∷ r) = (if (c == 46) && is_rest_of_line (behind is_decimal_digit r) then version_by major (number_of (leading is_decimal_digit r)) else None)
 
--- the text behind the directive's name and the blanks there
+-- the text after the directive's name and the blanks there
 abbrev pub version_of : List ℕ → Option Directive
 version_of r = minor_of (number_of (leading is_decimal_digit r)) (behind is_decimal_digit r)
 
@@ -49,16 +49,16 @@ abbrev pub begins_prefix : List ℕ → Bool
 begins_prefix [] = false
 begins_prefix (c ∷ r) = is_tag_mark c || is_tag c
 
--- a prefix, and nothing behind it but blanks and a comment
+-- a prefix, and nothing after it but blanks and a comment
 abbrev pub prefix_of : (handle : List ℕ) → List ℕ → Option Directive
 prefix_of handle r = prefix_by (begins_prefix r) handle (behind is_uri r) (decoded (leading is_uri r))
 
--- the handle that a text begins with, behind its first mark: up to the second mark, if the name ends there
+-- the handle that a text begins with, after its first mark: up to the second mark, if the name ends there
 abbrev pub name_and_mark : List ℕ → (name rest : List ℕ) → List ℕ × List ℕ
 name_and_mark mark name [] = (mark ++ name, [])
 name_and_mark mark name (c ∷ r) = (if is_tag_mark c then (mark ++ name ++ (c ∷ []), r) else (mark ++ name, c ∷ r))
 
--- the handle that a text begins with, and what stands behind it
+-- the handle that a text begins with, and what stands after it
 abbrev pub handle_and_rest : List ℕ → List ℕ × List ℕ
 handle_and_rest [] = ([], [])
 handle_and_rest (c ∷ r) = (if is_tag_mark c then name_and_mark (c ∷ []) (leading is_alpha r) (behind is_alpha r) else ([], c ∷ r))
@@ -67,13 +67,13 @@ handle_and_rest (c ∷ r) = (if is_tag_mark c then name_and_mark (c ∷ []) (lea
 abbrev pub declaration_by : List ℕ × List ℕ → Option Directive
 declaration_by p = (if is_handle (p.0) then prefix_of (p.0) (behind is_blank (p.1)) else None)
 
--- the text behind the directive's name and the blanks there: a handle, blanks, and a prefix
+-- the text after the directive's name and the blanks there: a handle, blanks, and a prefix
 abbrev pub declaration_of : List ℕ → Option Directive
 declaration_of r = declaration_by (handle_and_rest r)
 
 -- ---- the directive
 
--- a directive by its name; the text behind it
+-- a directive by its name; the text after it
 abbrev pub directive_by : (name : List ℕ) → (rest : List ℕ) → Option Directive
 directive_by [] rest = None
 directive_by name rest =

@@ -2,7 +2,7 @@
 -- YAML 1.2, sections 5.7 (escapes), 6.5 (line folding) and 7.3 (flow scalar styles).
 --
 -- A body is read as characters, blanks and breaks, in which escapes and doubled quotes are already resolved.
--- Its lines lose the blanks around their breaks, and are then folded: a break is a space, or a line feed for each empty line behind it.
+-- Its lines lose the blanks around their breaks, and are then folded: a break is a space, or a line feed for each empty line after it.
 use Rattle.std.specs.Prelude.{ℕ, zero, suc, ◌+◌, ◌*◌, List, [], ◌∷◌, ◌++◌, Bool, true, false, ◌&&◌, ◌||◌, ◌==◌, not, nat_le, if◌then◌else◌, replicate, take, length, Option, Some, None}
 use Rattle.std.specs.Char.{digit_value, is_digit}
 use Rattle.scalar_defs.specs.Classes.{line_feed, space, backslash, double_quote, single_quote, is_blank, is_break, is_nul, is_between, are_marks}
@@ -10,14 +10,14 @@ use Rattle.scalar_defs.specs.Breaks.{is_before_line_feed}
 
 -- ---- what a body is made of
 
--- What a place of a body holds: a character that is content, a blank that is not escaped, a break, or a break behind a backslash.
+-- What a place of a body holds: a character that is content, a blank that is not escaped, a break, or a break after a backslash.
 pub data Element : Type 0 where
   content : (code : ℕ) → Element
   blank : (code : ℕ) → Element
   line_break : Element
   escaped_break : Element
 
--- an element, and how many characters behind its first one belong to it
+-- an element, and how many characters after its first one belong to it
 pub record Spelled : Type 0 where
   pub element : Element
   pub further : ℕ
@@ -26,7 +26,7 @@ pub record Spelled : Type 0 where
 abbrev pub alone : Element → Option Spelled
 alone e = Some (record { element = e; further = 0 })
 
--- how many characters behind its first one a break has: one, the line feed of CR LF
+-- how many characters after its first one a break has: one, the line feed of CR LF
 abbrev pub break_further : ℕ → List ℕ → ℕ
 break_further c r = (if is_before_line_feed c r then 1 else 0)
 
@@ -52,7 +52,7 @@ single_quoted_element c r =
 
 -- ---- double quotes
 
--- the escapes of one character: the character behind the backslash, and the code it stands for
+-- the escapes of one character: the character after the backslash, and the code it stands for
 abbrev pub escapes : List (ℕ × ℕ)
 escapes =
     (48, 0x00) ∷  -- 0
@@ -75,7 +75,7 @@ escapes =
     (80, 0x2029) ∷  -- P, paragraph separator
     []
 
--- the escapes by number: the letter behind the backslash, and how many hexadecimal digits follow it
+-- the escapes by number: the letter after the backslash, and how many hexadecimal digits follow it
 abbrev pub numeric_escapes : List (ℕ × ℕ)
 numeric_escapes =
     (120, 2) ∷  -- x
@@ -88,7 +88,7 @@ abbrev pub lookup : ℕ → List (ℕ × ℕ) → Option ℕ
 lookup c [] = None
 lookup c (row ∷ rows) = (if c == row.0 then Some (row.1) else lookup c rows)
 
--- the number that a list of hexadecimal digits writes behind those already read, if they are all digits
+-- the number that a list of hexadecimal digits writes after those already read, if they are all digits
 abbrev pub hexadecimal : (before : ℕ) → List ℕ → Option ℕ
 hexadecimal n [] = Some n
 hexadecimal n (c ∷ cs) = (if is_digit c 16 then hexadecimal (n * 16 + digit_value c) cs else None)
@@ -102,7 +102,7 @@ abbrev pub numbered : (digits : ℕ) → Option ℕ → Option Spelled
 numbered digits None = None
 numbered digits (Some n) = (if is_character_code n then Some (record { element = content n; further = suc digits }) else None)
 
--- an escape by number; the text behind its letter
+-- an escape by number; the text after its letter
 unfoldable pub numeric_escape : (digits : ℕ) → List ℕ → Option Spelled
 numeric_escape digits r = (if length (take digits r) == digits then numbered digits (hexadecimal 0 (take digits r)) else None)
 
@@ -112,7 +112,7 @@ escape_by (Some code) _ r = Some (record { element = content code; further = 1 }
 escape_by None (Some digits) r = numeric_escape digits r
 escape_by None None r = None
 
--- what a backslash and the text behind it are
+-- what a backslash and the text after it are
 unfoldable pub escape : List ℕ → Option Spelled
 escape [] = None
 escape (c ∷ r) =
@@ -133,12 +133,12 @@ abbrev pub put_before : Element → Option (List Element) → Option (List Eleme
 put_before e None = None
 put_before e (Some es) = Some (e ∷ es)
 
--- an element, and the others behind it
+-- an element, and the others after it
 abbrev pub followed : Option Spelled → (ℕ → Option (List Element)) → Option (List Element)
 followed None others = None
 followed (Some s) others = put_before s.element (others s.further)
 
--- The elements of a body, behind so many characters that belong to the element before.
+-- The elements of a body, after so many characters that belong to the element before.
 abbrev pub elements : (ℕ → List ℕ → Option Spelled) → (belonging : ℕ) → List ℕ → Option (List Element)
 elements at n [] = Some []
 elements at (suc n) (c ∷ r) = elements at n r
@@ -146,7 +146,7 @@ elements at zero (c ∷ r) = followed (at c r) (λ n. elements at n r)
 
 -- ---- lines
 
--- A body's lines: each but the last with whether the break behind it is escaped.
+-- A body's lines: each but the last with whether the break after it is escaped.
 pub data Lines : Type 0 where
   last_line : List Element → Lines
   line : List Element → (escaped : Bool) → Lines → Lines
@@ -184,7 +184,7 @@ abbrev pub before_break : (escaped : Bool) → List Element → List Element
 before_break true l = l
 before_break false l = without_trailing_blanks l
 
--- the lines behind the first, without the blanks around their breaks
+-- the lines after the first, without the blanks around their breaks
 abbrev pub trimmed_behind : Lines → Lines
 trimmed_behind (last_line l) = last_line (without_leading_blanks l)
 trimmed_behind (line l escaped ls) = line (before_break escaped (without_leading_blanks l)) escaped (trimmed_behind ls)
@@ -204,13 +204,13 @@ text_of (blank c ∷ es) = c ∷ text_of es
 text_of (line_break ∷ es) = text_of es
 text_of (escaped_break ∷ es) = text_of es
 
--- what a break becomes that has so many empty lines behind it
+-- what a break becomes that has so many empty lines after it
 abbrev pub folded_break : (escaped : Bool) → (empty_lines : ℕ) → List ℕ
 folded_break false zero = space ∷ []
 folded_break true zero = []
 folded_break _ (suc n) = replicate (suc n) line_feed
 
--- the text of the lines behind a break, of which so many empty ones are already counted; a line is empty if nothing stands before its own break
+-- the text of the lines after a break, of which so many empty ones are already counted; a line is empty if nothing stands before its own break
 abbrev pub folded_behind : (escaped : Bool) → (empty_lines : ℕ) → Lines → List ℕ
 folded_behind escaped n (last_line l) = folded_break escaped n ++ text_of l
 folded_behind escaped n (line [] false ls) = folded_behind escaped (suc n) ls
@@ -223,12 +223,12 @@ folded (line l escaped ls) = text_of l ++ folded_behind escaped 0 ls
 
 -- ---- document markers
 
--- whether a text begins with a document marker and a blank or break behind it
+-- whether a text begins with a document marker and a blank or break after it
 unfoldable pub begins_with_marker : List ℕ → Bool
 begins_with_marker (a ∷ b ∷ c ∷ d ∷ r) = are_marks a b c && (is_blank d || is_break d)
 begins_with_marker _ = false
 
--- Whether a line behind the first begins with a document marker. At a body's end no marker ends: a quote, or a plain text's next character, stands there.
+-- Whether a line after the first begins with a document marker. At a body's end no marker ends: a quote, or a plain text's next character, stands there.
 abbrev pub has_document_marker : List ℕ → Bool
 has_document_marker [] = false
 has_document_marker (c ∷ r) = (is_break c && begins_with_marker r) || has_document_marker r

@@ -17,7 +17,7 @@ abbrev pub leading : (ℕ → Bool) → List ℕ → List ℕ
 leading p [] = []
 leading p (c ∷ r) = (if p c then c ∷ leading p r else [])
 
--- what stands behind them
+-- what stands after them
 abbrev pub behind : (ℕ → Bool) → List ℕ → List ℕ
 behind p [] = []
 behind p (c ∷ r) = (if p c then behind p r else c ∷ r)
@@ -32,7 +32,7 @@ is_same _ _ = false
 
 -- why a URI's escapes are no characters
 pub data UriFault : Type 0 where
-  -- a percent sign without two hexadecimal digits, or another octet is due and none stands there
+  -- a percent sign without two hexadecimal digits; or another octet must follow, and none does
   no_octet : UriFault
   -- an octet with which no character begins
   wrong_lead : UriFault
@@ -69,7 +69,7 @@ lead_of o =
 unfoldable pub is_trail : ℕ → Bool
 is_trail o = is_between 0x80 0xBF o
 
--- a code with the six bits of a trailing octet behind it
+-- a code with the six bits of a trailing octet after it
 abbrev pub with_trail : ℕ → ℕ → ℕ
 with_trail code o = code * 64 + (o - 0x80)
 
@@ -78,12 +78,12 @@ abbrev pub trail_by : Option ℕ → ℕ → (ℕ → Result ℕ UriFault) → R
 trail_by None code on = Err no_octet
 trail_by (Some o) code on = (if is_trail o then on (with_trail code o) else Err wrong_trail)
 
--- the code that so many trailing octets at a text's start complete
+-- the code that this number of trailing octets at a text's start completes
 abbrev pub trails : (further : ℕ) → (code : ℕ) → List ℕ → Result ℕ UriFault
 trails zero code r = Ok code
 trails (suc n) code r = trail_by (octet_at r) code (λ code'. trails n code' (drop 3 r))
 
--- a character's code, and how many characters of text behind the first spell it
+-- a character's code, and how many characters of text after the first spell it
 pub record Escaped : Type 0 where
   pub code : ℕ
   pub further : ℕ
@@ -116,12 +116,12 @@ abbrev pub put_code : ℕ → Result (List ℕ) UriFault → Result (List ℕ) U
 put_code c (Err f) = Err f
 put_code c (Ok cs) = Ok (c ∷ cs)
 
--- a character, and the others behind it
+-- a character, and the others after it
 abbrev pub code_followed : Result Escaped UriFault → (ℕ → Result (List ℕ) UriFault) → Result (List ℕ) UriFault
 code_followed (Err f) others = Err f
 code_followed (Ok e) others = put_code e.code (others e.further)
 
--- The characters that a URI's text means, behind so many characters that belong to the one before; each escape is one octet, and octets are read as UTF-8.
+-- The characters that a URI's text means, after so many characters that belong to the one before; each escape is one octet, and octets are read as UTF-8.
 abbrev pub decoded_behind : (belonging : ℕ) → List ℕ → Result (List ℕ) UriFault
 decoded_behind n [] = Ok []
 decoded_behind (suc n) (c ∷ r) = decoded_behind n r
@@ -137,7 +137,7 @@ decoded uri = decoded_behind 0 uri
 abbrev pub is_tag_mark : ℕ → Bool
 is_tag_mark c = c == 33
 
--- whether a text is the name of a handle and the mark behind it
+-- whether a text is the name of a handle and the mark after it
 abbrev pub is_marked_name : List ℕ → Bool
 is_marked_name [] = false
 is_marked_name (c ∷ []) = is_tag_mark c
@@ -165,7 +165,7 @@ tag_by handle (Ok suffix) = Some (record { handle = handle; suffix = suffix })
 abbrev pub tag_of_class : (ℕ → Bool) → List ℕ → List ℕ → Option Tag
 tag_of_class p handle text = (if all_of p text then tag_by handle (decoded text) else None)
 
--- A verbatim tag: the text behind `!<`, a URI and `>`; the handle is empty.
+-- A verbatim tag: the text after `!<`, a URI and `>`; the handle is empty.
 abbrev pub verbatim : List ℕ → Option Tag
 verbatim text = (if is_same (behind is_uri text) (codes ">") then tag_of_class is_uri [] (leading is_uri text) else None)
 
@@ -180,12 +180,12 @@ named name [] = None
 named name (c ∷ []) = None
 named name (c ∷ suffix) = tag_of_class is_tag (codes "!" ++ name ++ codes "!") suffix
 
--- a shorthand, from the text behind its first mark: `!!s` and `!h!s` have the handle up to the second mark, `!s` has the handle `!`
+-- a shorthand, from the text after its first mark: `!!s` and `!h!s` have the handle up to the second mark, `!s` has the handle `!`
 abbrev pub shorthand : List ℕ → Option Tag
 shorthand [] = Some (record { handle = []; suffix = codes "!" })
 shorthand text = (if begins_with_mark (behind is_alpha text) then named (leading is_alpha text) (behind is_alpha text) else tag_of_class is_tag (codes "!") text)
 
--- the tag that the text behind its first mark is
+-- the tag that the text after its first mark is
 abbrev pub behind_mark : List ℕ → Option Tag
 behind_mark [] = shorthand []
 behind_mark (c ∷ r) = (if c == 60 then verbatim r else shorthand (c ∷ r))

@@ -1,4 +1,4 @@
--- Laws of the model's buffers: each is carried by the function of `src/laws.rt` that its comment names.
+-- Laws of the model's buffers: each is the contract of the function of `src/laws.rt` that its comment names.
 use Rattle.std.specs.Prelude.{◌≡◌, List}
 use Rattle.scalar_defs.specs.FlowScalar.{Element, lines_of, trimmed, folded}
 use Rattle.scalar_model.specs.Folding.{nothing, joined}

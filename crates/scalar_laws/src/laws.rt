@@ -1,4 +1,4 @@
-//! Laws of the model's buffers and the folding of lines, each carried by an empty function.
+//! Laws of the model's buffers and the folding of lines, each the contract of an empty function.
 
 ghost use Rattle.scalar_laws.specs.Laws.{BuffersJoinFoldedLines};
 

@@ -1,4 +1,5 @@
-//! What the exact model and the definitions of scalars share: theorems that the crates on whole tokens stand on.
+//! What the exact model and the definitions of scalars share: theorems that the crates about whole tokens are built
+//! on.
 #![tactic(auto)]
 
 pub mod laws;

@@ -12,7 +12,7 @@ use Rattle.scalar_model.specs.Machine.{Read, past, take_while}
 abbrev pub some_name : Place → Read (List ℕ) → Result (Read (List ℕ)) Fault
 some_name start r = (if is_nil r.value then Err (At problem.AnchorName start) else Ok r)
 
--- the name behind the `&` or `*` that stands here
+-- the name after the `&` or `*` that stands here
 unfoldable pub anchor_name : List ℕ → Place → Result (Read (List ℕ)) Fault
 anchor_name [] p = Err (At problem.AnchorName p)
 anchor_name (c ∷ a) p = some_name p (take_while is_anchor a (past p) [])

@@ -36,7 +36,7 @@ increment start (c ∷ a) p = (if is_digit c then (if c == 48 then Err (At probl
 abbrev pub with_chomping : ℕ → Read Chomping → Read Indicators
 with_chomping n r = record { rest = r.rest; place = r.place; value = record { chomping = r.value; increment = n } }
 
--- a chomping indicator may also stand behind the other
+-- a chomping indicator may also stand after the other
 abbrev pub late_chomping : Chomping → Read ℕ → Read Indicators
 late_chomping Clip n = with_chomping n.value (chomping n.rest n.place)
 late_chomping Strip n = record { rest = n.rest; place = n.place; value = record { chomping = Strip; increment = n.value } }
@@ -51,7 +51,7 @@ indicators start a p = behind_chomping start (chomping a p)
 abbrev pub no_tab : Place → Read (Unit {0}) → Result (Read Bool) Fault
 no_tab start r = (if slice_index r.rest 0 == 9 then Err (At problem.BlockScalarTab start) else Ok (record { rest = r.rest; place = r.place; value = true }))
 
--- the break behind a header, or the end
+-- the break after a header, or the end
 unfoldable pub header_break : Place → List ℕ → Place → Result (Read Bool) Fault
 header_break start [] p = Ok (record { rest = []; place = p; value = false })
 header_break start (c ∷ a) p = (if is_break c then no_tab start (linebreak (c ∷ a) p) else Err (At problem.BlockScalarHeader start))
@@ -63,7 +63,7 @@ header_end start a p = after (space Yes a p) (λ (w : Read Whitespace). header_b
 abbrev pub with_indicators : Indicators → Read Bool → Read Header
 with_indicators i r = record { rest = r.rest; place = r.place; value = record { indicators = i; broken = r.value } }
 
--- the header behind the `|` or `>`
+-- the header after the `|` or `>`
 unfoldable pub header : Place → List ℕ → Place → Result (Read Header) Fault
 header start a p = after (indicators start a p) (λ (i : Read Indicators). after (header_end start i.rest i.place) (λ r. Ok (with_indicators i.value r)))
 
@@ -118,7 +118,7 @@ unfoldable pub content : (indent increment : ℕ) → List ℕ → Place → Rea
 content indent zero a p = at_least indent (first_indent a (record { most = 0; spaces = 0; place = p; breaks = [] }))
 content indent (suc n) a p = indent_from ((indent - 1) + suc n) a (record { place = p; breaks = [] })
 
--- the text up to the last content line, the breaks behind that line's own, whether it has one, and whether it starts with a blank
+-- the text up to the last content line, the breaks after that line's own, whether it has one, and whether it starts with a blank
 pub record Lines : Type 0 where
   pub text : List ℕ
   pub breaks : List ℕ

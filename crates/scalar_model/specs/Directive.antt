@@ -86,7 +86,7 @@ value start version a p = version_value start a p
 value start tag a p = tag_value start a p
 value start unknown a p = Ok (empty_tag (comment a p))
 
--- the break behind a directive, or the end
+-- the break after a directive, or the end
 unfoldable pub directive_break : Place → List ℕ → Place → Result (Read (Unit {0})) Fault
 directive_break start [] p = Ok (record { rest = []; place = p; value = tt })
 directive_break start (c ∷ a) p = (if is_break c then Ok (linebreak (c ∷ a) p) else Err (At problem.DirectiveEnd start))
@@ -101,7 +101,7 @@ with_end v r = record { rest = r.rest; place = r.place; value = v.value }
 abbrev pub behind_value : Place → Read Tok → Result (Read Tok) Fault
 behind_value start v = after (line_end start v.rest v.place) (λ r. Ok (with_end v r))
 
--- the directive behind its `%`
+-- the directive after its `%`
 abbrev pub behind_name : Place → Read Kind → Result (Read Tok) Fault
 behind_name start n = after (value start n.value n.rest n.place) (λ v. behind_value start v)
 

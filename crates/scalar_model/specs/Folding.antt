@@ -2,7 +2,7 @@
 use Rattle.std.specs.Prelude.{ℕ, Bool, true, false, List, [], ◌∷◌, ◌++◌, ◌&&◌, not, if◌then◌else◌}
 use Rattle.yaml_chars.specs.Text.{is_nil}
 
--- a text that is being folded, and what stands between it and the next character: blanks, or behind a break the breaks behind that, and whether that break was an escaped one
+-- a text that is being folded, and what stands between it and the next character: blanks, or after a break the breaks after that, and whether that break was an escaped one
 pub record Folded : Type 0 where
   pub text : List ℕ
   pub gap : List ℕ

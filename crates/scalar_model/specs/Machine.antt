@@ -1,9 +1,9 @@
--- Machines that read a text character by character, and what lexing functions leave. A turn sees the text behind its character too.
+-- Machines that read a text character by character, and what lexing functions leave. A turn sees the text after its character too.
 use Rattle.std.specs.Prelude.{ℕ, ◌+◌, List, [], ◌∷◌, ◌==◌, ◌&&◌, ◌||◌, ◌++◌, Bool, true, not, if◌then◌else◌, Option, Some, None, Result, Ok, Err, slice_index}
 use Rattle.yaml_chars.specs.Place.{Place}
 use Rattle.yaml_chars.specs.Class.{is_blank_or_breakz}
 
--- what a turn does: it stops before its character, fails, or goes on behind it
+-- what a turn does: it stops before its character, fails, or goes on after it
 pub data Turn (S F : Type 0) : Type 0 where
   stop : S → Turn S F
   fail : F → Turn S F
@@ -14,7 +14,7 @@ pub record Stop (S : Type 0) : Type 0 where
   pub rest : List ℕ
   pub state : S
 
--- the rest of a run behind a turn
+-- the rest of a run after a turn
 abbrev pub turned : {S F : Type 0} → Turn S F → List ℕ → (S → Result (Stop S) F) → Result (Stop S) F
 turned (stop s) a go = Ok (record { rest = a; state = s })
 turned (fail f) a go = Err f
@@ -40,20 +40,20 @@ pub record Read (A : Type 0) : Type 0 where
   pub place : Place
   pub value : A
 
--- the place behind a character of a line
+-- the place after a character of a line
 abbrev pub past : Place → Place
 past p = record { index = p.index + 1; line = p.line; col = p.col + 1 }
 
--- the place behind a line break's last character
+-- the place after a line break's last character
 abbrev pub past_break : Place → Place
 past_break p = record { index = p.index + 1; line = p.line + 1; col = 0 }
 
--- behind the characters of a kind
+-- after the characters of a kind
 abbrev pub skip_while : (ℕ → Bool) → List ℕ → Place → Read (Unit {0})
 skip_while test [] p = record { rest = []; place = p; value = tt }
 skip_while test (c ∷ a) p = (if test c then skip_while test a (past p) else record { rest = c ∷ a; place = p; value = tt })
 
--- the characters of a kind, behind a text
+-- the characters of a kind, after a text
 abbrev pub take_while : (ℕ → Bool) → List ℕ → Place → List ℕ → Read (List ℕ)
 take_while test [] p t = record { rest = []; place = p; value = t }
 take_while test (c ∷ a) p t = (if test c then take_while test a (past p) (t ++ c ∷ []) else record { rest = c ∷ a; place = p; value = t })

@@ -9,7 +9,7 @@ use Rattle.scalar_model.specs.declared.context.Context.{Context}
 use Rattle.scalar_model.specs.Machine.{Turn, stop, fail, on, Stop, run, Read, after, past, past_break, is_cr_lf, at_marker}
 use Rattle.scalar_model.specs.Folding.{Folded, nothing, with_char, with_blank, with_break, joined}
 
--- what stands next: a character of the text, one more of its line, a gap of blanks and breaks or what stands behind one, or what stands behind a TAB at the indentation's place
+-- what stands next: a character of the text, one more of its line, a gap of blanks and breaks or what stands after one, or what stands after a TAB at the indentation's place
 pub data Mode : Type 0 where
   first : Mode
   inside : Mode
@@ -49,7 +49,7 @@ at_dash flow a = flow && (slice_index a 0 == 45) && is_flow (slice_index a 1)
 unfoldable pub at_plain : Bool → List ℕ → Bool
 at_plain flow a = not (is_blank_or_breakz (slice_index a 0)) && can_be_plain flow (slice_index a 0) (slice_index a 1)
 
--- whether a scalar goes on at a character behind a gap
+-- whether a scalar goes on at a character after a gap
 unfoldable pub goes_on : Context → List ℕ → Place → Result Bool Fault
 goes_on ctx a p =
     (if is_shallow ctx p.col then Ok false else
@@ -73,7 +73,7 @@ turn_in ctx start tabs s c a =
 abbrev pub turn : Context → Place → State → ℕ → List ℕ → Turn State Fault
 turn ctx start s c a = turn_in ctx start s.mode s c a
 
--- what a plain scalar is: its text, and whether it ended behind a break
+-- what a plain scalar is: its text, and whether it ended after a break
 pub record Plain : Type 0 where
   pub text : List ℕ
   pub leading : Bool
@@ -106,7 +106,7 @@ abbrev pub ends_gap : List ℕ → Bool
 ends_gap [] = true
 ends_gap (c ∷ a) = not (is_break c || is_blank c)
 
--- whether the blanks behind a TAB end here, and nothing but a break or a comment follows
+-- whether the blanks after a TAB end here, and nothing but a break or a comment follows
 abbrev pub ends_tabs : List ℕ → Bool
 ends_tabs [] = true
 ends_tabs (c ∷ a) = is_break c || (c == 35)

@@ -10,7 +10,7 @@ use Rattle.scalar_model.specs.declared.context.Context.{Context}
 use Rattle.scalar_model.specs.Machine.{Turn, stop, fail, on, Stop, run, Read, past, past_break, is_cr_lf, at_marker}
 use Rattle.scalar_model.specs.Folding.{Folded, nothing, with_char, with_blank, with_break, with_escaped_break, joined}
 
--- What stands next: the first character; one more of its line; a gap of blanks and breaks, or what stands behind one; an escaped break; what stands behind that; a second quote; what is named behind a backslash; a code's digits, one and so many more, behind the value of those before; or what stands behind the closing quote.
+-- What stands next: the first character; one more of its line; a gap of blanks and breaks, or what stands after one; an escaped break; what stands after that; a second quote; what is named after a backslash; a code's digits, one and so many more, after the value of those before; or what stands after the closing quote.
 pub data Mode : Type 0 where
   first : Mode
   inside : Mode
@@ -30,7 +30,7 @@ pub record State : Type 0 where
 abbrev pub quote_of : Bool → ℕ
 quote_of single = (if single then 39 else 34)
 
--- what a backslash and a character are: a character, the start of a code of so many digits behind the first, or nothing
+-- what a backslash and a character are: a character, the start of a code of so many digits after the first, or nothing
 pub data Escape : Type 0 where
   char : ℕ → Escape
   code : (more : ℕ) → Escape
@@ -94,7 +94,7 @@ at_named start (Escape.char d) s = at_char d s
 at_named start (Escape.code more) s = on (record { mode = digits more 0; place = past s.place; folded = s.folded })
 at_named start Escape.unknown s = fail (At problem.UnknownEscape start)
 
--- a code's digit: behind the last one the code has to be a character's
+-- a code's digit: after the last one the code has to be a character's
 abbrev pub at_digit : Place → ℕ → ℕ → State → Turn State Fault
 at_digit start zero value s = (if is_scalar value then at_char value s else fail (At problem.EscapedCode start))
 at_digit start (suc more) value s = on (record { mode = digits more value; place = past s.place; folded = s.folded })

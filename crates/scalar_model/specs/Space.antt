@@ -13,7 +13,7 @@ use Rattle.scalar_model.specs.Machine.{Stop, walk, Read, past, past_break, is_cr
 abbrev pub linebreak_at : ℕ → List ℕ → Place → Read (Unit {0})
 linebreak_at c a p = (if is_cr_lf c a then record { rest = drop 1 a; place = past_break (past p); value = tt } else record { rest = a; place = past_break p; value = tt })
 
--- behind the line break that stands here
+-- after the line break that stands here
 abbrev pub linebreak : List ℕ → Place → Read (Unit {0})
 linebreak [] p = record { rest = []; place = p; value = tt }
 linebreak (c ∷ a) p = linebreak_at c a p
@@ -25,7 +25,7 @@ is_line c = not (is_break c)
 abbrev pub comment : List ℕ → Place → Read (Unit {0})
 comment a p = skip_while is_line a p
 
--- behind blanks
+-- after blanks
 abbrev pub blanks : List ℕ → Place → Read (Unit {0})
 blanks a p = skip_while is_blank a p
 
@@ -36,7 +36,7 @@ are_skipped No = false
 abbrev pub with_found : Whitespace → Read (Unit {0}) → Read Whitespace
 with_found w r = record { rest = r.rest; place = r.place; value = w }
 
--- a comment has to stand behind a space or a TAB
+-- a comment has to stand after a space or a TAB
 abbrev pub comment_behind : Whitespace → List ℕ → Place → Result (Read Whitespace) Fault
 comment_behind w a p = (if w.found_tabs || w.has_valid_yaml_ws then Ok (with_found w (comment a p)) else Err (At problem.CommentNotSeparated p))
 
@@ -58,7 +58,7 @@ behind_spaces (c ∷ a) s = (if c == 35 then comment_behind s.found (c ∷ a) s.
 abbrev pub spaces_end : Stop Spaces → Result (Read Whitespace) Fault
 spaces_end t = behind_spaces t.rest t.state
 
--- behind spaces, TABs where these are skipped, and a comment, from what was found before on
+-- after spaces, TABs where these are skipped, and a comment, from what was found before on
 abbrev pub space_from : SkipTabs → List ℕ → Spaces → Result (Read Whitespace) Fault
 space_from tabs a s = spaces_end (walk (space_step tabs) a s)
 

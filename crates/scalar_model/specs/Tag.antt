@@ -21,14 +21,14 @@ abbrev pub verbatim_end : Place → List ℕ → List ℕ → Place → Result (
 verbatim_end start t [] p = Err (At problem.VerbatimTagEnd start)
 verbatim_end start t (c ∷ a) p = (if c == 62 then Ok (read_tag a (past p) [] t) else Err (At problem.VerbatimTagEnd start))
 
--- a tag behind its `!<`
+-- a tag after its `!<`
 unfoldable pub verbatim : Place → List ℕ → Place → Result (Read Tag) Fault
 verbatim start a p = after (uri is_uri start a p []) (λ (r : Read (List ℕ)). verbatim_end start r.value r.rest r.place)
 
 abbrev pub some_suffix : Place → List ℕ → Read (List ℕ) → Result (Read Tag) Fault
 some_suffix start name r = (if is_nil r.value then Err (At problem.TagUri start) else Ok (read_tag r.rest r.place ((33 ∷ name) ++ 33 ∷ []) r.value))
 
--- a tag behind its handle
+-- a tag after its handle
 unfoldable pub named : Place → List ℕ → List ℕ → Place → Result (Read Tag) Fault
 named start name a p = after (uri is_tag start a p []) (λ r. some_suffix start name r)
 
@@ -45,11 +45,11 @@ behind_name start name a p = (if slice_index a 0 == 33 then named start name (dr
 abbrev pub behind_word : Place → Read (List ℕ) → Result (Read Tag) Fault
 behind_word start r = behind_name start r.value r.rest r.place
 
--- a tag behind its first `!`
+-- a tag after its first `!`
 unfoldable pub shorthand : Place → List ℕ → Place → Result (Read Tag) Fault
 shorthand start a p = behind_word start (take_while is_alpha a p [])
 
--- what may stand behind a tag
+-- what may stand after a tag
 unfoldable pub ends_tag : Bool → ℕ → Bool
 ends_tag flow c = is_blank_or_breakz c || (flow && is_flow c)
 

@@ -9,7 +9,7 @@ use Rattle.yaml_tokens.specs.declared.problem.Problem.TheVariants as problem
 use Rattle.scalar_model.specs.Machine.{Turn, stop, fail, on, Stop, run, Read, after, past}
 use Rattle.scalar_model.specs.Quoted.{is_scalar}
 
--- which octet of a character comes: the first, or one behind which so many more follow, with the bits so far and the least code of this length
+-- which octet of a character comes: the first, or one after which so many more follow, with the bits so far and the least code of this length
 pub data Octet : Type 0 where
   lead : Octet
   trail : (more code least : ℕ) → Octet
@@ -31,7 +31,7 @@ abbrev pub at_trail : Place → (left code least : ℕ) → Place → List ℕ �
 at_trail start zero code least p t = (if nat_le least code && is_scalar code then Ok (record { mode = plain; place = p; text = t ++ code ∷ [] }) else Err (At problem.TagCodepoint start))
 at_trail start (suc more) code least p t = Ok (record { mode = percent (trail more code least); place = p; text = t })
 
--- behind an octet
+-- after an octet
 abbrev pub at_octet : Place → Octet → ℕ → Place → List ℕ → Result State Fault
 at_octet start lead n p t =
     (if nat_lt n 128 then at_trail start 0 n 0 p t else
@@ -67,11 +67,11 @@ ended start (Err f) = Err f
 abbrev pub uri_from : (ℕ → Bool) → Place → List ℕ → State → Result (Read (List ℕ)) Fault
 uri_from test start a s = ended start (run (turn test start) a s)
 
--- the characters of a kind behind a text
+-- the characters of a kind after a text
 abbrev pub uri : (ℕ → Bool) → Place → List ℕ → Place → List ℕ → Result (Read (List ℕ)) Fault
 uri test start a p t = uri_from test start a (record { mode = plain; place = p; text = t })
 
--- the scan behind an octet
+-- the scan after an octet
 abbrev pub octet_from : (ℕ → Bool) → Place → Octet → ℕ → List ℕ → Place → List ℕ → Result (Read (List ℕ)) Fault
 octet_from test start o n a p t = after (at_octet start o n p t) (λ s. uri_from test start a s)
 

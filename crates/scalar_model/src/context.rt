@@ -1,5 +1,5 @@
-/// What surrounds a flow scalar: whether it stands inside a flow collection, and the innermost
-/// block collection's column counted from 1, 0 where none is open.
+/// What surrounds a flow scalar: whether it stands inside a flow collection, and the column of the innermost block
+/// collection, counted from 1, or 0 if none is open.
 #[derive(Clone, Copy)]
 pub struct Context {
     pub flow: bool,

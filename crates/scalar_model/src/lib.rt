@@ -1,5 +1,5 @@
-//! The exact model of the lexing functions, as functions on lists of characters, and the small
-//! types that it shares with them.
+//! The exact model of the lexing functions: functions on lists of characters. And the small types that the model
+//! shares with them.
 #![tactic(auto)]
 
 pub mod context;

@@ -37,11 +37,11 @@ is_literal folded = false
 abbrev pub is_some : ℕ → Bool
 is_some c = not (c == 0)
 
--- the place of the first character that is no space behind a piece
+-- the place of the first character that is no space after a piece
 abbrev pub further_place : Place → (piece next : List ℕ) → Place
 further_place p piece next = past_spaces (place_behind p piece next) next
 
--- a block scalar read from its piece: the spaces behind the piece are passed too
+-- a block scalar read from its piece: the spaces after the piece are passed too
 abbrev pub read_block : Place → BlockRead → (piece next : List ℕ) → Read Block
 read_block p b piece next = record {
   rest = without_spaces next;
@@ -60,16 +60,16 @@ is_single [] = false
 is_single (x ∷ []) = true
 is_single (x ∷ y ∷ xs) = false
 
--- whether a TAB stands behind a piece that is a header alone
+-- whether a TAB stands after a piece that is a header alone
 abbrev pub is_tabbed : (piece next : List ℕ) → Bool
 is_tabbed piece next = is_single (split piece).complete && begins_with tab next
 
--- Whether the text behind a scalar without content is indented as content of the innermost block collection, but not as deep as the empty lines before it.
+-- Whether the text after a scalar without content is indented as content of the innermost block collection, but not as deep as the empty lines before it.
 abbrev pub is_shallow : (indent : ℕ) → Place → BlockRead → (piece next : List ℕ) → Bool
 is_shallow indent p b piece next =
     ((not (is_at_end next) && is_none (first_content b.column true p piece)) && nat_le indent (further_place p piece next).col) && nat_lt (further_place p piece next).col b.column
 
--- The scan at a place read this block scalar from its piece, or refused what stands behind it: a TAB, or text that is neither content nor outside the block collection.
+-- The scan at a place read this block scalar from its piece, or refused what stands after it: a TAB, or text that is neither content nor outside the block collection.
 pub data IsRead (indent : ℕ) (p : Place) (b : BlockRead) (piece next : List ℕ) (x : Result (Read Block) Fault) : Type 0 where
   read : is_tabbed piece next ≡ false → is_shallow indent p b piece next ≡ false → x ≡ Ok (read_block p b piece next) → IsRead indent p b piece next x
   shallow : is_tabbed piece next ≡ false → is_shallow indent p b piece next ≡ true → x ≡ Err (At problem.BlockScalarIndentation (further_place p piece next)) → IsRead indent p b piece next x

@@ -1,4 +1,4 @@
--- How the scan of a block scalar's header ends, told by the rest of its line behind `|` or `>`. YAML 1.2, section 8.1.1.
+-- How the scan of a block scalar's header ends, told by the rest of its line after `|` or `>`. YAML 1.2, section 8.1.1.
 use Rattle.std.specs.Prelude.{◌≡◌, ℕ, List, [], ◌∷◌, ◌++◌, Bool, true, false, ◌&&◌, ◌||◌, ◌==◌, not, Option, Some, None, Result, Ok, Err}
 use Rattle.std.specs.List.{list_all}
 use Rattle.yaml_chars.specs.Place.{Place}
@@ -45,7 +45,7 @@ abbrev pub ends_line : List ℕ → Bool
 ends_line [] = true
 ends_line (c ∷ r) = is_break c
 
--- the place behind characters of a line
+-- the place after characters of a line
 abbrev pub along : List ℕ → Place → Place
 along [] p = p
 along (c ∷ w) p = along w (past p)
@@ -63,8 +63,8 @@ abbrev pub has_zero : List ℕ → Bool
 has_zero [] = false
 has_zero (c ∷ r) = (c == 48) || (is_sign c && begins_with 48 r)
 
--- How the scan of a header ends: `start` is the place of its `|` or `>`, and `line` the rest of its line, behind which the line's end stands.
--- It read the header that the line is, if no TAB begins the next line; or the line is none, for a digit 0, a comment right behind a header, or other text.
+-- How the scan of a header ends: `start` is the place of its `|` or `>`, and `line` the rest of its line, after which the line's end stands.
+-- It read the header that the line is, if no TAB begins the next line; or the line is none, for a digit 0, a comment right after a header, or other text.
 pub data EndsAs (start : Place) (style : BlockStyle) (line behind : List ℕ) (x : Result (Read Header) Fault) : Type 0 where
   reads : (h : defs.Header) → header_of (indicator_of style ∷ line) ≡ Some h → begins_with tab (linebreak behind start).rest ≡ false
       → x ≡ Ok (read_header h behind (along line (past start))) → EndsAs start style line behind x

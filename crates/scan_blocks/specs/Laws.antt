@@ -1,4 +1,4 @@
--- Laws of the scanner's model and block scalars: each is carried by the function of `src/laws.rt` that its comment names.
+-- Laws of the scanner's model and block scalars: each is the contract of the function of `src/laws.rt` that its comment names.
 use Rattle.std.specs.Prelude.{◌≡◌, ℕ, List, ◌∷◌, ◌++◌, true, Some}
 use Rattle.std.specs.List.{list_all}
 use Rattle.yaml_chars.specs.Place.{Place}
@@ -18,7 +18,7 @@ HeadersEndAsTheirLineSays =
     (style : BlockStyle) (line behind : List ℕ) (p : Place) → is_in_line line ≡ true → ends_line behind ≡ true
     → header_ends.EndsAs p style line behind (header p (line ++ behind) (past p))
 
--- `first_lines_give_the_column`; `text` is what stands behind the header's break
+-- `first_lines_give_the_column`; `text` is what stands after the header's break
 abbrev pub FirstLinesGiveTheColumn : Type 0
 FirstLinesGiveTheColumn =
     (indent increment : ℕ) (text : List ℕ) (p : Place) → p.col ≡ 0
@@ -30,7 +30,7 @@ BlockPiecesAreRead =
     (indent : ℕ) (piece next : List ℕ) (p : Place) (b : BlockRead) → list_all is_some next ≡ true → block_read (collection_by indent) piece next ≡ Some b
     → IsRead indent p b piece next (block (is_literal b.style) indent (piece ++ next) p)
 
--- `block_scans_end_as_their_text_says`; `text` is what stands behind `|` or `>`
+-- `block_scans_end_as_their_text_says`; `text` is what stands after `|` or `>`
 abbrev pub BlockScansEndAsTheirTextSays : Type 0
 BlockScansEndAsTheirTextSays =
     (style : BlockStyle) (indent : ℕ) (text : List ℕ) (p : Place) → list_all is_some text ≡ true

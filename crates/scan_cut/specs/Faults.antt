@@ -16,7 +16,7 @@ use Rattle.scan_texts.specs.QuotedScan.{has_marker}
 use Rattle.scan_texts.specs.QuotedEnds.{HasElements, IsBadEscape}
 use Rattle.scan_scalars.specs.PlainEnds.{stand_behind, is_apart}
 
--- A place of a text behind a row of pieces and a filler: the text from there on, and the account.
+-- A place of a text after a row of pieces and a filler: the text from there on, and the account.
 pub record IsSpot (text rest : List ℕ) (account : Account) : Type 0 where
   pub row : List Written
   pub filler : List ℕ
@@ -25,8 +25,8 @@ pub record IsSpot (text rest : List ℕ) (account : Account) : Type 0 where
   pub is_filled : Holds (is_filler false filler rest)
   pub is_account : account_past_filler (account_past_row first_account row (filler ++ rest)) filler rest ≡ account
 
--- A fault stands in a text, behind a row of pieces: in a scalar in double quotes an escape that is none; a quoted scalar that does not end, or with a document marker at the start of a line; an opening
--- bracket where as many flow collections are open as may be; in flow a dash before a gap, or a dash before a flow indicator where a plain scalar begins or goes on behind a blank or a break.
+-- A fault stands in a text, after a row of pieces: in a scalar in double quotes an escape that is none; a quoted scalar that does not end, or with a document marker at the start of a line; an opening
+-- bracket where as many flow collections are open as may be; in flow a dash before a gap, or a dash before a flow indicator where a plain scalar begins or goes on after a blank or a break.
 pub data IsThere (text : List ℕ) : Fault → Type 0 where
   bad_escape : (a : Account) (body rest : List ℕ) (why : Problem) → IsSpot text (34 ∷ (body ++ 92 ∷ rest)) a → HasElements false body → IsBadEscape rest why → IsThere text (At why a.place)
   open_quote : (a : Account) (single : Bool) (body : List ℕ) → IsSpot text (quote_of single ∷ body) a → HasElements single body → IsThere text (At problem.QuotedEnd a.place)

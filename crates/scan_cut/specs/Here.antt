@@ -12,7 +12,7 @@ use Rattle.scan_scalars.specs.PlainEnds.{has_no_nul}
 use Rattle.scan_cut.specs.Order.{Behind}
 use Rattle.scan_cut.specs.Inside.{inside}
 
--- A row, and a filler behind it, are the text up to a place, whatever token follows; the text behind the row, the text behind the place, and the account there.
+-- A row, and a filler after it, are the text up to a place, whatever token follows; the text after the row, the text after the place, and the account there.
 pub record Here (text : List ℕ) (row : List Written) (behind rest : List ℕ) (here : Account) : Type 0 where
   pub filler : List ℕ
   pub is_behind : behind ≡ filler ++ rest

@@ -4,7 +4,7 @@ use Rattle.token_defs.specs.Token.{Tok, flow_sequence_start, flow_sequence_end, 
 use Rattle.cut_defs.specs.Account.{sequence, mapping, Level}
 use Rattle.cut_defs.specs.Cut.{Written}
 
--- the levels behind a token that may belong to a simple key and asks for none outside it
+-- the levels after a token that may belong to a simple key and asks for none outside it
 abbrev pub step_inside : List Level → (piece : List ℕ) → Tok → Option (List Level)
 step_inside ns p flow_sequence_start = Some (record { kind = sequence; pair = false } ∷ ns)
 step_inside ns (c ∷ p) flow_mapping_start = Some (record { kind = mapping; pair = false } ∷ ns)
@@ -28,7 +28,7 @@ abbrev pub levels_then : Option (List Level) → (List Level → Option (List Le
 levels_then None f = None
 levels_then (Some ns) f = f ns
 
--- the levels behind a row of such tokens
+-- the levels after a row of such tokens
 abbrev pub inside : List Level → List Written → Option (List Level)
 inside ns [] = Some ns
 inside ns (w ∷ ws) = levels_then (step_inside ns w.piece w.token.tok) (λ ms. inside ms ws)

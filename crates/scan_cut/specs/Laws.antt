@@ -1,4 +1,4 @@
--- Laws of whole texts: each is carried by the function of `src/laws.rt` that its comment names.
+-- Laws of whole texts: each is the contract of the function of `src/laws.rt` that its comment names.
 use Rattle.std.specs.Prelude.{◌≡◌, ℕ, ◌⊎◌, List, ◌++◌, true}
 use Rattle.token_defs.specs.Token.{Token}
 use Rattle.cut_defs.specs.Cut.{IsCut, IsCutOfBeginning}

@@ -6,6 +6,6 @@ use Rattle.yaml_chars.specs.Place.{Place}
 abbrev pub NotBefore : (p q : Place) → Type 0
 NotBefore p q = (p.line ≤ q.line) × (q.line ≤ p.line → p.col ≤ q.col)
 
--- a place is behind another
+-- a place is after another
 abbrev pub Behind : (p q : Place) → Type 0
 Behind p q = (p.line ≤ q.line) × (q.line ≤ p.line → suc p.col ≤ q.col)

@@ -1,4 +1,4 @@
--- What the exact model of each lexing function reads for its token: a piece of the cut, and a filler behind it.
+-- What the exact model of each lexing function reads for its token: a piece of the cut, and a filler after it.
 use Rattle.std.specs.Prelude.{◌≡◌, ℕ, List, [], ◌∷◌, ◌++◌, Bool, true, false, ◌==◌, ◌&&◌, ◌⊎◌, not, nat_lt, if◌then◌else◌, Option, Ok}
 use Rattle.yaml_chars.specs.Place.{Place}
 use Rattle.token_defs.specs.Token.{Tok, version_directive, tag_directive, tag, scalar, plain}
@@ -19,7 +19,7 @@ use Rattle.scalar_model.specs.Tag as tags
 use Rattle.scan_model.specs.Document.{anchor_token, block_style, quoted_style}
 use Rattle.scan_scalars.specs.PlainEnds.{has_no_nul, collection_of, is_indented}
 
--- What was read of a text at an account: a piece, which belongs to a token, and a filler behind it; the text that is left, and the place there.
+-- What was read of a text at an account: a piece, which belongs to a token, and a filler after it; the text that is left, and the place there.
 pub record ReadAs (a : Account) (text : List ℕ) (tok : Tok) (place : Place) (rest : List ℕ) (end : Place) : Type 0 where
   pub first : ℕ
   pub more : List ℕ

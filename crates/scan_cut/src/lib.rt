@@ -1,4 +1,4 @@
-//! The tokens that the scanner's exact model gives for a text are a cut of it: theorems over the model.
+//! The tokens that the scanner's exact model gives a text are a cut of it: theorems about the model.
 #![tactic(auto)]
 
 pub mod laws;

@@ -79,7 +79,7 @@ fetch_key t =
     check_key_space w >>= λ x.
     Ok (on_held (push t.held.place Tok.key) x)
 
--- behind a `:`, a TAB and more blanks
+-- after a `:`, a TAB and more blanks
 unfoldable pub check_behind_tab : Whitespace → State → Result State Fault
 check_behind_tab w t = (if not w.has_valid_yaml_ws && ((peek t.rest == 45) || is_alpha (peek t.rest)) then Err (At problem.TabAfterColon t.held.place) else Ok t)
 
@@ -115,7 +115,7 @@ begin_keyless_mapping p s =
     (if in_flow s then Ok s else
     (if not s.key_allowed then Err (At problem.ValueNotAllowed p) else Ok (roll_indent p.col None Tok.block_mapping_start p s)))
 
--- A `:` behind a key that began with `?`, or without a key.
+-- A `:` after a key that began with `?`, or without a key.
 unfoldable pub begin_keyless_value : Place → Bool → Held → Result Held Fault
 begin_keyless_value p pair s =
     begin_keyless_mapping p (begin_keyless_pair pair s) >>= λ u.

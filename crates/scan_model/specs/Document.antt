@@ -64,7 +64,7 @@ fetch_document_marker tok t =
 unfoldable pub check_document_end : State → Result State Fault
 check_document_end t = (if is_breakz (peek t.rest) then Ok t else Err (At problem.ContentAfterDocumentEnd t.held.place))
 
--- `...`, behind which the line has no content.
+-- `...`, after which the line has no content.
 unfoldable pub fetch_document_end : State → Result State Fault
 fetch_document_end t = fetch_document_marker Tok.document_end t >>= λ u. skip_spaces Yes u >>= λ v. check_document_end v
 
@@ -98,7 +98,7 @@ fetch_block_scalar literal t =
 abbrev pub context : Held → Context
 context s = record { flow = in_flow s; indent = s.indent }
 
--- What may stand behind a quoted scalar that began on a line.
+-- What may stand after a quoted scalar that began on a line.
 unfoldable pub may_follow_quoted : Bool → Bool → ℕ → Bool
 may_follow_quoted flow same_line c = is_breakz c || (if flow then (c == 44) || (c == 125) || (c == 93) || (c == 58) else (c == 58) && same_line)
 
@@ -110,7 +110,7 @@ check_behind_quoted line t =
 abbrev pub quoted_style : Bool → Style
 quoted_style single = (if single then Style.single_quoted else Style.double_quoted)
 
--- A `:` may stand right behind a quoted scalar that is a key, also on a later line.
+-- A `:` may stand right after a quoted scalar that is a key, also on a later line.
 abbrev pub adjacent_here : Held → Held
 adjacent_here s = record s { adjacent_value_at = s.place.index }
 

@@ -17,7 +17,7 @@ use Rattle.scan_model.specs.Flow.{fetch_flow_collection_start, fetch_flow_collec
 use Rattle.scan_model.specs.Block.{fetch_block_entry, fetch_key, fetch_value}
 use Rattle.scan_model.specs.Document.{fetch_stream_start, fetch_stream_end, fetch_directive, fetch_document_marker, fetch_document_end, fetch_anchor, fetch_tag, fetch_block_scalar, fetch_flow_scalar, fetch_plain_scalar}
 
--- the character behind the next one
+-- the character after the next one
 abbrev pub second : State → ℕ
 second t = slice_index t.rest 1
 
@@ -71,7 +71,7 @@ fetch_content t = (if t.held.place.col == 0 then fetch_first_column t else fetch
 unfoldable pub fetch_here : State → Result State Fault
 fetch_here t = (if peek t.rest == 0 then fetch_stream_end t else fetch_content t)
 
--- The next token, behind what stands before it and the ends of block collections.
+-- The next token, after what stands before it and the ends of block collections.
 unfoldable pub fetch_next : State → Result State Fault
 fetch_next t =
     skip_to_next_token t >>= λ u.

@@ -28,7 +28,7 @@ deepened_flow (Err f) = Err f
 unfoldable pub begin_flow : FlowLevel → Held → Result Held Fault
 begin_flow kind s = deepened_flow (increase_flow_level kind (roll_one_col_indent (save_simple_key s)))
 
--- behind an indicator, spaces and a comment
+-- after an indicator, spaces and a comment
 unfoldable pub pass_indicator : State → Result State Fault
 pass_indicator t = skip_spaces Yes (skip_indicator t)
 
@@ -51,7 +51,7 @@ end_flow_pair s = end_pair s.flow s
 unfoldable pub decrease_flow_level : Held → Held
 decrease_flow_level s = (if is_nil s.flow then s else record s { flow = pop s.flow; keys = pop s.keys })
 
--- A `:` may stand right behind a flow collection that is a key.
+-- A `:` may stand right after a flow collection that is a key.
 unfoldable pub adjacent_in_flow : Held → Held
 adjacent_in_flow s = (if in_flow s then record s { adjacent_value_at = s.place.index } else s)
 

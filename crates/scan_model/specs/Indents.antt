@@ -10,7 +10,7 @@ use Rattle.scan_model.specs.Keys.{top_needs_block_end}
 abbrev pub level : ℕ → Bool → Indent
 level i ends = record { indent = i; needs_block_end = ends }
 
--- a token that goes in before those of a number, or behind all
+-- a token that goes in before those of a number, or after all
 abbrev pub placed : Option ℕ → Token → List Token → List Token
 placed None t ts = ts ++ t ∷ []
 placed (Some n) t ts = insert ts n t
@@ -19,14 +19,14 @@ abbrev pub drop_open : Held → List Indent → Held
 drop_open s [] = s
 drop_open s (d ∷ ds) = (if d.needs_block_end then s else record s { indent = d.indent; indents = ds })
 
--- An innermost level that opens no collection goes before one at its column or behind that.
+-- An innermost level that opens no collection goes before one at its column or after that.
 unfoldable pub drop_open_level : ℕ → Held → Held
 drop_open_level col s = (if nat_le s.indent (col + 1) then drop_open s s.indents else s)
 
 unfoldable pub deepen : ℕ → Option ℕ → Token → Held → Held
 deepen col number t s = (if nat_lt s.indent (col + 1) then record s { indents = level s.indent true ∷ s.indents; indent = col + 1; tokens = placed number t s.tokens } else s)
 
--- A collection begins at a column, unless one stands there or the place is inside flow. Its start goes in before the tokens of a number, or behind all.
+-- A collection begins at a column, unless one stands there or the place is inside flow. Its start goes in before the tokens of a number, or after all.
 unfoldable pub roll_indent : ℕ → Option ℕ → Tok → Place → Held → Held
 roll_indent col number t p s = (if in_flow s then s else deepen col number (token p t) (drop_open_level col s))
 

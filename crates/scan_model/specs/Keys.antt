@@ -8,7 +8,7 @@ use Rattle.yaml_tokens.specs.declared.problem.Problem.TheVariants as problem
 use Rattle.scan_model.specs.State.{Key, Held, in_flow, with_top, top}
 use Rattle.scan_model.specs.declared.level.Indent.{Indent}
 
--- whether a place lies on a later line than another, or more than 1024 characters behind it
+-- whether a place lies on a later line than another, or more than 1024 characters after it
 unfoldable pub is_far : Place → Place → Bool
 is_far from to = nat_lt from.line to.line || nat_lt (from.index + 1024) to.index
 

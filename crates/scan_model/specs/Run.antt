@@ -25,7 +25,7 @@ nothing_held = record {
 abbrev pub start : List ℕ → State
 start a = record { rest = a; held = nothing_held }
 
--- from one state to another by fetches, none behind the stream's end
+-- from one state to another by fetches, none after the stream's end
 pub data Reaches : State → State → Type 0 where
   here : {t : State} → Reaches t t
   there : {t u v : State} → t.held.ended ≡ false → fetch t ≡ Ok u → Reaches u v → Reaches t v

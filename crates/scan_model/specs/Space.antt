@@ -17,7 +17,7 @@ pub data Gap : Type 0 where
   comment : Gap
   tab_line : Gap
 
--- behind a line break. Outside flow a key may begin there.
+-- after a line break. Outside flow a key may begin there.
 abbrev pub past_line : Held → Held
 past_line s = record s { place = past_break s.place; leading = true; key_allowed = not (in_flow s) || s.key_allowed }
 
@@ -48,7 +48,7 @@ skip m (c ∷ a) s = gap_by m c a s (λ n u. skip n a u)
 unfoldable pub skip_to_next_token : State → Result State Fault
 skip_to_next_token t = skip between t.rest t.held
 
--- behind spaces, TABs where these are skipped, and a comment
+-- after spaces, TABs where these are skipped, and a comment
 unfoldable pub skip_spaces : SkipTabs → State → Result State Fault
 skip_spaces tabs t = lexed (space tabs t.rest t.held.place) t.held (λ w u. Ok u)
 
@@ -56,7 +56,7 @@ abbrev pub white_end : Bool → List ℕ → Held → Result State Fault
 white_end true a s = Ok (record { rest = a; held = s })
 white_end false a s = Err (At problem.WhitespaceExpected s.place)
 
--- in a comment or not, behind a space or a break or not
+-- in a comment or not, after a space or a break or not
 abbrev pub white_by : Bool → Bool → ℕ → List ℕ → Held → (Bool → Bool → Held → Result State Fault) → Result State Fault
 white_by in_comment found c a s go =
     (if is_break c then go false true (at_break c a s) else
@@ -68,6 +68,6 @@ unfoldable pub white : Bool → Bool → List ℕ → Held → Result State Faul
 white in_comment found [] s = white_end found [] s
 white in_comment found (c ∷ a) s = white_by in_comment found c a s (λ i f u. white i f a u)
 
--- What must stand behind a `?`: spaces, breaks and comments.
+-- What must stand after a `?`: spaces, breaks and comments.
 unfoldable pub skip_yaml_whitespace : State → Result State Fault
 skip_yaml_whitespace t = white false false t.rest t.held

@@ -32,7 +32,7 @@ pub record Held : Type 0 where
   pub key_allowed : Bool
   -- whether only blanks stand before this place on its line
   pub leading : Bool
-  -- where a `:` may stand right behind a quoted scalar or a flow collection
+  -- where a `:` may stand right after a quoted scalar or a flow collection
   pub adjacent_value_at : ℕ
   -- whether the token of the stream's start was met
   pub started : Bool
@@ -55,7 +55,7 @@ abbrev pub peek : List ℕ → ℕ
 peek [] = 0
 peek (c ∷ a) = c
 
--- what stands behind the next character
+-- what stands after the next character
 abbrev pub behind : List ℕ → List ℕ
 behind [] = []
 behind (c ∷ a) = a
@@ -103,7 +103,7 @@ try_held f t = with_held t (f t.held)
 abbrev pub go_on : {A : Type 0} → Read A → Held → State
 go_on r s = record { rest = r.rest; held = record s { place = r.place } }
 
--- behind what a lexing function read
+-- after what a lexing function read
 abbrev pub lexed : {A : Type 0} → Result (Read A) Fault → Held → (A → State → Result State Fault) → Result State Fault
 lexed (Ok r) s go = go r.value (go_on r s)
 lexed (Err f) s go = Err f
@@ -112,6 +112,6 @@ lexed (Err f) s go = Err f
 abbrev pub moved : Held → Held
 moved s = record s { place = past s.place }
 
--- behind an indicator
+-- after an indicator
 abbrev pub skip_indicator : State → State
 skip_indicator t = record { rest = behind t.rest; held = record t.held { place = past t.held.place; leading = false } }

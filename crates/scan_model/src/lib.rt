@@ -1,5 +1,5 @@
-//! The exact model of the scanner, as functions on what it holds and on the characters that come,
-//! and the small types that it shares with the code.
+//! The exact model of the scanner: functions on its state and on the characters that come. And the small types that
+//! the model shares with the code.
 #![tactic(auto)]
 
 pub mod class;

@@ -26,7 +26,7 @@ abbrev pub begins_token : List ℕ → Bool
 begins_token [] = false
 begins_token (c ∷ r) = not (is_white c || (c == 35))
 
--- What is held behind a filler: its place, and outside flow a key may begin behind a break in it. Whether blanks alone stand before that place on its line is said apart.
+-- What is held after a filler: its place, and outside flow a key may begin after a break in it. Whether blanks alone stand before that place on its line is said apart.
 abbrev pub behind_filler : Held → (leading : Bool) → (filler rest : List ℕ) → State
 behind_filler s leading filler rest =
     record { rest = rest; held = record s { place = place_behind s.place filler rest; leading = leading; key_allowed = (not (in_flow s) && has_break filler) || s.key_allowed } }
@@ -35,7 +35,7 @@ behind_filler s leading filler rest =
 abbrev pub is_left : Held → Place → Bool
 is_left s p = not (is_nil s.indents) && nat_lt (suc p.col) s.indent
 
--- How the way to the next token ends: all of a filler was passed; or a TAB left of the innermost level has more blanks behind it, and then a token.
+-- How the way to the next token ends: all of a filler was passed; or a TAB left of the innermost level has more blanks after it, and then a token.
 pub data PassesAs (s : Held) (text : List ℕ) (x : Result State Fault) : Type 0 where
   passes : (leading : Bool) (filler rest : List ℕ) → text ≡ filler ++ rest → is_filler false filler rest ≡ true → begins_filler rest ≡ false → x ≡ Ok (behind_filler s leading filler rest) → PassesAs s text x
   refuses : (before blanks rest : List ℕ) → text ≡ before ++ 9 ∷ (blanks ++ rest) → is_filler false before (9 ∷ (blanks ++ rest)) ≡ true → is_left s (place_behind s.place before (9 ∷ (blanks ++ rest))) ≡ true
@@ -52,7 +52,7 @@ abbrev pub begins_white_space : List ℕ → Bool
 begins_white_space [] = false
 begins_white_space (c ∷ r) = (c == 32) || is_break c || (c == 35)
 
--- How the way over what must stand behind a `?` ends: spaces, breaks and comments were passed; or neither a space nor a break stands there, nor behind a comment.
+-- How the way over what must stand after a `?` ends: spaces, breaks and comments were passed; or neither a space nor a break stands there, nor after a comment.
 pub data GoesOverAs (s : Held) (text : List ℕ) (x : Result State Fault) : Type 0 where
   goes : (leading : Bool) (filler rest : List ℕ) → text ≡ filler ++ rest → is_filler false filler rest ≡ true → begins_white_space rest ≡ false → x ≡ Ok (behind_filler s leading filler rest) → GoesOverAs s text x
   misses : (filler rest : List ℕ) → text ≡ filler ++ rest → is_filler false filler rest ≡ true → begins_with 32 text ≡ false → has_break filler ≡ false → begins_white_space rest ≡ false
@@ -77,7 +77,7 @@ abbrev pub ends_spaces : SkipTabs → List ℕ → Bool
 ends_spaces tabs [] = true
 ends_spaces tabs (c ∷ r) = not ((c == 32) || ((c == 9) && are_skipped tabs) || (c == 35))
 
--- How the way over blanks and a comment ends: all blanks and maybe a comment behind one were passed, which is a filler of one line; or a comment stands behind no blank.
+-- How the way over blanks and a comment ends: all blanks and maybe a comment after one were passed, which is a filler of one line; or a comment stands after no blank.
 pub data SpacesAs (tabs : SkipTabs) (p : Place) (text : List ℕ) (x : Result (Read Whitespace) Fault) : Type 0 where
   spaces : (blanks comment rest : List ℕ) → text ≡ blanks ++ (comment ++ rest) → are_spaces tabs blanks ≡ true → is_filler false (blanks ++ comment) rest ≡ true → has_break (blanks ++ comment) ≡ false → ends_spaces tabs rest ≡ true
       → x ≡ Ok (behind_space p (blanks ++ comment) rest (record { found_tabs = has 9 blanks; has_valid_yaml_ws = has 32 blanks })) → SpacesAs tabs p text x

@@ -1,4 +1,4 @@
--- Laws of the scanner's model and the texts of single tokens: each is carried by the function of `src/laws.rt` that its comment names.
+-- Laws of the scanner's model and the texts of single tokens: each is the contract of the function of `src/laws.rt` that its comment names.
 use Rattle.std.specs.Prelude.{◌≡◌, ℕ, List, ◌∷◌, ◌++◌, Bool, true, false, Some, Ok}
 use Rattle.yaml_chars.specs.Place.{Place}
 use Rattle.scalar_defs.specs.FlowScalar.{plain_value}
@@ -61,17 +61,17 @@ UrisAreRead =
     (start : Place) (text : List ℕ) (p : Place) (before : List ℕ) →
     (uri is_uri start text p before ≡ uri_read classes.is_uri start p text before) × (uri is_tag start text p before ≡ uri_read classes.is_tag start p text before)
 
--- `tags_end_as_their_text_says`; `text` is what stands behind the `!`
+-- `tags_end_as_their_text_says`; `text` is what stands after the `!`
 abbrev pub TagsEndAsTheirTextSays : Type 0
 TagsEndAsTheirTextSays = (in_flow : Bool) (text : List ℕ) (p : Place) → tags.EndsAs in_flow p text (tag in_flow (33 ∷ text) p)
 
--- `tags_are_read`; `piece` is what stands behind the `!`
+-- `tags_are_read`; `piece` is what stands after the `!`
 abbrev pub TagsAreRead : Type 0
 TagsAreRead =
     (in_flow : Bool) (piece rest handle suffix : List ℕ) (p : Place) → written_tag (33 ∷ piece) ≡ Some (record { handle = handle; suffix = suffix }) → tags.may_follow in_flow rest ≡ true
     → tag in_flow (33 ∷ (piece ++ rest)) p ≡ Ok (tags.behind_tag p (33 ∷ piece) rest handle suffix)
 
--- `white_space_is_passed`; what must stand behind a `?`
+-- `white_space_is_passed`; what must stand after a `?`
 abbrev pub WhiteSpaceIsPassed : Type 0
 WhiteSpaceIsPassed = (s : Held) (text : List ℕ) → GoesOverAs s text (white false false text s)
 
@@ -79,12 +79,12 @@ WhiteSpaceIsPassed = (s : Held) (text : List ℕ) → GoesOverAs s text (white f
 abbrev pub SpacesArePassed : Type 0
 SpacesArePassed = (tabs : SkipTabs) (text : List ℕ) (p : Place) → SpacesAs tabs p text (space tabs text p)
 
--- `directives_are_read`; `line` is what stands behind the `%`, up to the line's end
+-- `directives_are_read`; `line` is what stands after the `%`, up to the line's end
 abbrev pub DirectivesAreRead : Type 0
 DirectivesAreRead =
     (line next : List ℕ) (d : Directive) (p : Place) → has_no_break line ≡ true → directives.ends_line next ≡ true → directive_of (37 ∷ line) ≡ Some d
     → directive (37 ∷ (line ++ next)) p ≡ Ok (directives.behind_line p (37 ∷ line) next (directives.token_of d))
 
--- `directives_end_as_their_text_says`; `text` is what stands behind the `%`
+-- `directives_end_as_their_text_says`; `text` is what stands after the `%`
 abbrev pub DirectivesEndAsTheirTextSays : Type 0
 DirectivesEndAsTheirTextSays = (text : List ℕ) (p : Place) → directives.EndsAs p text (directive (37 ∷ text) p)

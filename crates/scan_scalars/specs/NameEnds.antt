@@ -1,4 +1,4 @@
--- How the scan of the name of an anchor or an alias ends, told by the text behind its indicator. YAML 1.2, section 6.9.2.
+-- How the scan of the name of an anchor or an alias ends, told by the text after its indicator. YAML 1.2, section 6.9.2.
 use Rattle.std.specs.Prelude.{◌≡◌, ℕ, ◌+◌, List, ◌++◌, true, false, length, Result, Ok, Err}
 use Rattle.yaml_chars.specs.Place.{Place}
 use Rattle.yaml_tokens.specs.declared.problem.Fault.{Fault}
@@ -11,11 +11,11 @@ use Rattle.cut_defs.specs.Piece.{is_name, goes_on_with_name}
 abbrev pub further : ℕ → Place → Place
 further n p = record { index = p.index + n; line = p.line; col = p.col + n }
 
--- what is left behind an indicator at a place and a name
+-- what is left after an indicator at a place and a name
 abbrev pub behind_name : Place → (name rest : List ℕ) → Read (List ℕ)
 behind_name p name rest = record { rest = rest; place = further (1 + length name) p; value = name }
 
--- The scan of a text behind an indicator at a place: it read the name that the text begins with, or the text begins with none.
+-- The scan of a text after an indicator at a place: it read the name that the text begins with, or the text begins with none.
 pub data EndsAs (p : Place) (text : List ℕ) (x : Result (Read (List ℕ)) Fault) : Type 0 where
   named : (name rest : List ℕ) → text ≡ name ++ rest → is_name name ≡ true → goes_on_with_name rest ≡ false → x ≡ Ok (behind_name p name rest) → EndsAs p text x
   nameless : goes_on_with_name text ≡ false → x ≡ Err (At problem.AnchorName p) → EndsAs p text x

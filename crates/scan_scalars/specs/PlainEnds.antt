@@ -47,7 +47,7 @@ abbrev pub has_break : List ℕ → Bool
 has_break [] = false
 has_break (c ∷ r) = is_break c || has_break r
 
--- what stands before the place behind a text
+-- what stands before the place after a text
 abbrev pub stand_behind : Stand → List ℕ → Stand
 stand_behind s [] = s
 stand_behind s (c ∷ r) = stand_behind (past s c) r
@@ -66,7 +66,7 @@ abbrev pub goes_over : Context → (text next : List ℕ) → Bool
 goes_over ctx [] next = true
 goes_over ctx (c ∷ r) next = goes_on ctx.flow (collection_of ctx.indent) inside r next
 
--- Why a plain scalar at a place is refused: in a flow collection it begins left of the innermost block collection, or at its start or behind blanks or breaks in it a dash stands before a
+-- Why a plain scalar at a place is refused: in a flow collection it begins left of the innermost block collection, or at its start or after blanks or breaks in it a dash stands before a
 -- flow indicator; or a later line of it begins with a TAB left of the innermost block collection.
 pub data IsRefusal (ctx : Context) (start : Place) (text : List ℕ) : Fault → Type 0 where
   by_column : ctx.flow ≡ true → nat_lt start.col ctx.indent ≡ true → IsRefusal ctx start text (At problem.FlowIndentation start)
@@ -75,17 +75,17 @@ pub data IsRefusal (ctx : Context) (start : Place) (text : List ℕ) : Fault →
   by_tab : (before blanks rest : List ℕ) (column : ℕ) → text ≡ before ++ 9 ∷ (blanks ++ rest) → goes_over ctx before (9 ∷ (blanks ++ rest)) ≡ true → stand_behind behind_blank before ≡ on_line column
       → nat_lt column ctx.indent ≡ true → is_blanks blanks ≡ true → begins_solid rest ≡ true → IsRefusal ctx start text (At problem.PlainTab start)
 
--- what is left behind a plain scalar at a place, its gap, and what stands behind that; its value, and whether a break stands in the gap
+-- what is left after a plain scalar at a place, its gap, and what stands after that; its value, and whether a break stands in the gap
 abbrev pub behind_plain : Place → (piece gap rest value : List ℕ) → Read Plain
 behind_plain p piece gap rest value = record { rest = rest; place = place_behind p (piece ++ gap) rest; value = record { text = value; leading = has_break gap } }
 
--- How a scan ends: it read the whole of a plain scalar as its value, and the blanks and breaks behind it; or it has a fault of which the text is the reason.
+-- How a scan ends: it read the whole of a plain scalar as its value, and the blanks and breaks after it; or it has a fault of which the text is the reason.
 pub data EndsAs (ctx : Context) (start : Place) (text : List ℕ) (x : Result (Read Plain) Fault) : Type 0 where
   reads : (piece gap rest value : List ℕ) → text ≡ piece ++ (gap ++ rest) → is_whole_plain ctx.flow (collection_of ctx.indent) piece (gap ++ rest) ≡ true → is_gap gap ≡ true → begins_white rest ≡ false
       → plain_value piece ≡ Some value → x ≡ Ok (behind_plain start piece gap rest value) → EndsAs ctx start text x
   refuses : (f : Fault) → IsRefusal ctx start text f → x ≡ Err f → EndsAs ctx start text x
 
--- The scan read just this piece, and the blanks and breaks that the text behind it begins with, or it refused the text.
+-- The scan read just this piece, and the blanks and breaks that the text after it begins with, or it refused the text.
 pub data IsRead (ctx : Context) (start : Place) (piece next value : List ℕ) (x : Result (Read Plain) Fault) : Type 0 where
   read : (gap rest : List ℕ) → next ≡ gap ++ rest → is_gap gap ≡ true → begins_white rest ≡ false → x ≡ Ok (behind_plain start piece gap rest value) → IsRead ctx start piece next value x
   refused : (f : Fault) → IsRefusal ctx start (piece ++ next) f → x ≡ Err f → IsRead ctx start piece next value x

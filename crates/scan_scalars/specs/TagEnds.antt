@@ -1,4 +1,4 @@
--- How the scan of a tag ends, told by the text behind its `!`. YAML 1.2, sections 5.6 and 6.9.1.
+-- How the scan of a tag ends, told by the text after its `!`. YAML 1.2, sections 5.6 and 6.9.1.
 use Rattle.std.specs.Prelude.{◌≡◌, ℕ, List, [], ◌∷◌, ◌++◌, Bool, true, false, ◌&&◌, ◌||◌, length, Some, Result, Ok, Err}
 use Rattle.yaml_chars.specs.Place.{Place}
 use Rattle.scalar_defs.specs.Classes.{is_alpha, is_uri, is_tag, is_at_gap}
@@ -18,11 +18,11 @@ use Rattle.scan_scalars.specs.UriEnds.{problem_of}
 abbrev pub may_follow : (in_flow : Bool) → List ℕ → Bool
 may_follow in_flow r = is_at_gap r || (in_flow && begins_flow r)
 
--- what is left behind a tag at a place
+-- what is left after a tag at a place
 abbrev pub behind_tag : Place → (piece rest handle suffix : List ℕ) → Read Tag
 behind_tag p piece rest handle suffix = record { rest = rest; place = further (length piece) p; value = record { handle = handle; suffix = suffix } }
 
--- Why the text behind a `!` is refused: octets of it are no characters; a verbatim tag is not closed; a handle of two marks has no suffix; or a tag stands there, and the text goes on.
+-- Why the text after a `!` is refused: octets of it are no characters; a verbatim tag is not closed; a handle of two marks has no suffix; or a tag stands there, and the text goes on.
 pub data IsRefusal (in_flow : Bool) (text : List ℕ) : Problem → Type 0 where
   by_octets : (before uri rest : List ℕ) (f : UriFault) → text ≡ before ++ (uri ++ rest) → decoded uri ≡ Err f → IsRefusal in_flow text (problem_of f)
   unclosed : (uri rest : List ℕ) → text ≡ 60 ∷ (uri ++ rest) → all_of is_uri uri ≡ true → begins_with 62 rest ≡ false → IsRefusal in_flow text problem.VerbatimTagEnd

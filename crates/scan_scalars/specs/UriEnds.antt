@@ -16,7 +16,7 @@ problem_of wrong_lead = problem.TagLeadingOctet
 problem_of wrong_trail = problem.TagTrailingOctet
 problem_of no_character = problem.TagCodepoint
 
--- What is left behind the characters of a class that a text begins with, by what they mean; what was read before them stays before it.
+-- What is left after the characters of a class that a text begins with, by what they mean; what was read before them stays before it.
 abbrev pub behind_class : (class : ℕ → Bool) → (start p : Place) → (text before : List ℕ) → Result (List ℕ) UriFault → Result (Read (List ℕ)) Fault
 behind_class class start p text before (Ok cs) = Ok (record { rest = behind class text; place = further (length (leading class text)) p; value = before ++ cs })
 behind_class class start p text before (Err f) = Err (At (problem_of f) start)

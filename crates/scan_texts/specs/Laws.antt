@@ -1,4 +1,4 @@
--- Laws of the scanner's model and whole texts, and of quoted scalars: each is carried by the function of `src/laws.rt` that its comment names.
+-- Laws of the scanner's model and whole texts, and of quoted scalars: each is the contract of the function of `src/laws.rt` that its comment names.
 use Rattle.std.specs.Prelude.{◌≡◌, ℕ, List, [], ◌∷◌, ◌++◌, Bool, true, Some}
 use Rattle.std.specs.List.{list_all}
 use Rattle.yaml_chars.specs.Place.{Place}
@@ -57,7 +57,7 @@ WideTextsHaveNoOtherTokens = (w : WideLayout) → IsWideLayout w → (ts : List 
 abbrev pub WideTextsAreNotRefused : Type 0
 WideTextsAreNotRefused = (w : WideLayout) → IsWideLayout w → (f : Fault) → IsRefused (spell w []) f → ⊥
 
--- `layouts_in_turn_have_their_tokens`: they are a wide layout, and have its tokens
+-- `layouts_in_turn_have_their_tokens`: together they are one layout, and have its tokens
 abbrev pub LayoutsInTurnHaveTheirTokens : Type 0
 LayoutsInTurnHaveTheirTokens =
     (t : Tree) (ts : List Tree) (text : List ℕ) → AreLaidOutInTurn (t ∷ ts) text
@@ -69,7 +69,7 @@ LayoutsInTurnAreNotRefused = (ts : List Tree) (text : List ℕ) → AreLaidOutIn
 
 -- ---- quoted scalars
 
--- `quoted_bodies_are_read`; `rest` is what stands behind the closing quote
+-- `quoted_bodies_are_read`; `rest` is what stands after the closing quote
 abbrev pub QuotedBodiesAreRead : Type 0
 QuotedBodiesAreRead =
     (single : Bool) (ctx : Context) (body rest value : List ℕ) (p : Place) → value_of single body ≡ Some value → ends_before single rest ≡ true
@@ -79,7 +79,7 @@ QuotedBodiesAreRead =
 abbrev pub QuotedTextsHaveTheirTokens : Type 0
 QuotedTextsHaveTheirTokens = (text : List ℕ) (tokens : List Tok) → HasQuotedTokens text tokens → HasToks text tokens
 
--- `quoted_scans_end_as_their_text_says`; `text` is what stands behind the opening quote
+-- `quoted_scans_end_as_their_text_says`; `text` is what stands after the opening quote
 abbrev pub QuotedScansEndAsTheirTextSays : Type 0
 QuotedScansEndAsTheirTextSays =
     (single : Bool) (ctx : Context) (text : List ℕ) (p : Place) → list_all is_some text ≡ true → EndsAs single ctx p text (quoted single ctx (quote_of single ∷ text) p)

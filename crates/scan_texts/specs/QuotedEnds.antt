@@ -1,4 +1,4 @@
--- How the scan of a quoted scalar ends, told by the text behind the opening quote.
+-- How the scan of a quoted scalar ends, told by the text after the opening quote.
 use Rattle.std.specs.Prelude.{◌≡◌, ℕ, ◌+◌, List, [], ◌∷◌, ◌++◌, Bool, true, false, ◌==◌, nat_lt, if◌then◌else◌, take, length, Option, Some, None, Result, Ok, Err}
 use Rattle.yaml_chars.specs.Place.{Place}
 use Rattle.scalar_defs.specs.Classes.{is_break}
@@ -20,7 +20,7 @@ HasElements single body = (es : List Element) × (elements (element_of single) 0
 abbrev pub number_at : (digits : ℕ) → List ℕ → Option ℕ
 number_at digits r = (if length (take digits r) == digits then hexadecimal 0 (take digits r) else None)
 
--- What is wrong with an escape, by the text behind its backslash: no character is known there; too few hexadecimal digits; or a code that is no character's.
+-- What is wrong with an escape, by the text after its backslash: no character is known there; too few hexadecimal digits; or a code that is no character's.
 pub data IsBadEscape : List ℕ → Problem → Type 0 where
   ends : IsBadEscape [] problem.UnknownEscape
   unknown : (c : ℕ) (r : List ℕ) → is_break c ≡ false → lookup c escapes ≡ None → lookup c numeric_escapes ≡ None → IsBadEscape (c ∷ r) problem.UnknownEscape
@@ -28,7 +28,7 @@ pub data IsBadEscape : List ℕ → Problem → Type 0 where
   no_character : (c digits code : ℕ) (r : List ℕ) → lookup c escapes ≡ None → lookup c numeric_escapes ≡ Some digits → number_at digits r ≡ Some code → is_character_code code ≡ false
       → IsBadEscape (c ∷ r) problem.EscapedCode
 
--- Why the text behind an opening quote at a place is refused: a line behind the first begins with a document marker; the text ends before the scalar; an escape is none; or a place
+-- Why the text after an opening quote at a place is refused: a line after the first begins with a document marker; the text ends before the scalar; an escape is none; or a place
 -- of it stands left of the innermost block collection, where a TAB is refused for itself.
 pub data IsRefusal (single : Bool) (ctx : Context) (start : Place) (text : List ℕ) : Fault → Type 0 where
   by_marker : (body rest : List ℕ) → text ≡ body ++ rest → HasElements single body → has_marker body rest ≡ true → IsRefusal single ctx start text (At problem.QuotedDocumentMarker start)

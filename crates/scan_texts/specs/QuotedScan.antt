@@ -23,7 +23,7 @@ value_of false = double_quoted_value
 abbrev pub ends_before : (single : Bool) → List ℕ → Bool
 ends_before single r = not (single && begins_with 39 r)
 
--- Whether a line behind the first begins with a document marker, in a body and the text behind it.
+-- Whether a line after the first begins with a document marker, in a body and the text after it.
 abbrev pub has_marker : (body rest : List ℕ) → Bool
 has_marker [] r = false
 has_marker (c ∷ a) r = (is_break c && is_document_marker (a ++ r)) || has_marker a r

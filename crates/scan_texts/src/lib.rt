@@ -1,4 +1,5 @@
-//! Every JSON text, every text laid out in lines, and every text of one quoted scalar has exactly its tokens: theorems over the scanner's model.
+//! Every JSON text, every layout and every text of one quoted scalar has exactly its tokens: theorems about the
+//! scanner's model.
 #![tactic(auto)]
 
 pub mod laws;

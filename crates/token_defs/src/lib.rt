@@ -1,2 +1,2 @@
-//! Definitions.
+//! Definitions of the kinds of token. There is no code.
 #![tactic(auto)]

@@ -1,4 +1,4 @@
-//! Calls of a scanner, one behind the other.
+//! Calls of a scanner, one after the other.
 use std::alloc::Global;
 use std::str::Chars;
 use std::test::Fail;
@@ -71,7 +71,7 @@ fn error_words(alloc: Global, scanner: &Scanner<Chars<'_>>) -> Result<String, Fa
     }
 }
 
-// What a call answers.
+// What a call returns.
 fn answer(alloc: Global, scanner: &mut Scanner<Chars<'_>>, call: Call) -> Result<String, Fail> {
     match call {
         Call::Step => step_words(alloc, scanner),
@@ -83,7 +83,7 @@ fn answer(alloc: Global, scanner: &mut Scanner<Chars<'_>>, call: Call) -> Result
     }
 }
 
-// What these calls answer, one behind the other.
+// What these calls answer, one after the other.
 fn answers(alloc: Global, text: &str, calls: &[Call]) -> Result<String, Fail> {
     let mut scanner = Scanner::new(alloc, text.chars());
     let mut out = String::new(alloc);
@@ -96,7 +96,7 @@ fn answers(alloc: Global, text: &str, calls: &[Call]) -> Result<String, Fail> {
 
 // A text, calls of its scanner, and what they answer.
 const CALLS: [(&str, &[Call], &str); 3] = [
-    // Memory is there, so no call answers want of it; behind the end nothing changes.
+    // Memory is there, so no call returns want of it; after the end nothing changes.
     (
         "[a]",
         &[
@@ -134,7 +134,7 @@ const CALLS: [(&str, &[Call], &str); 3] = [
         ],
         "StreamStart(Utf8) / none / unexpected character: `@' at byte 0 line 1 column 1 false / unexpected character: `@' at byte 0 line 1 column 1 false / unexpected character: `@' at byte 0 line 1 column 1 false / unexpected character: `@' at byte 0 line 1 column 1 false / none / true false / ",
     ),
-    // Tokens that stood ready when it was met aren't handed out.
+    // Tokens that stood ready when it was met are not handed out.
     (
         "a @",
         &[

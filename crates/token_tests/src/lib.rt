@@ -1,4 +1,4 @@
-//! What a scanner answers, call by call: tokens, copies and faults.
+//! What a scanner returns, call by call: tokens, copies and faults.
 #![tactic(auto)]
 
 #[cfg(test)]

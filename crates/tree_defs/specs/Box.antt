@@ -10,7 +10,7 @@ use Rattle.tree_defs.specs.Lines.{lines_of}
 abbrev pub indented : List (List ℕ) → List (List ℕ)
 indented ls = map (λ l. 32 ∷ 32 ∷ l) ls
 
--- lines hung on a mark: the first stands behind the mark and a space, the others two columns to the right
+-- lines hung on a mark: the first stands after the mark and a space, the others two columns to the right
 abbrev pub hung : List ℕ → List (List ℕ) → List (List ℕ)
 hung mark [] = mark ∷ []
 hung mark (l ∷ ls) = (mark ++ 32 ∷ l) ∷ indented ls
@@ -52,7 +52,7 @@ pair_box compact k key v value =
 
 abbrev mutual
   -- the box of a tree, with the two settings: an array is its items one below the other, each hung on a dash, a hash its pairs
-  -- one below the other; compact says that a block may start behind a dash, a question mark or a colon
+  -- one below the other; compact says that a block may start after a dash, a question mark or a colon
   pub box : Bool → Bool → Bool → Tree → List (List ℕ)
   box compact multiline at_root (string s) = string_box multiline at_root s
   box compact multiline at_root (array ts) = if_none (codes "[]") (item_boxes compact multiline ts)

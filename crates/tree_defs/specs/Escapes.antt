@@ -1,5 +1,5 @@
 -- How a text is written in double quotes.
--- YAML 1.2, section 5.7 (escaped characters); of its many escapes, those that a writer needs.
+-- YAML 1.2, section 5.7 (escaped characters). Only the escapes that a writer needs.
 use Rattle.std.specs.Prelude.{ℕ, ◌+◌, ◌/◌, ◌%◌, ◌||◌, ◌==◌, nat_lt, if◌then◌else◌, List, [], ◌∷◌, ◌++◌, flat_map, codes}
 
 -- the character of a hexadecimal digit, in lower case

@@ -1,5 +1,5 @@
 -- Grammars on whole texts. A language is a test that says of a text whether it belongs.
--- These are the marks of a grammar's notation: a class, `*`, `+`, `?`, one after the other, and a choice.
+-- These are the operators of a grammar: a class, `*`, `+`, `?`, sequence, and choice.
 use Rattle.std.specs.Prelude.{◌≡◌, ◌++◌, IsTrue, ℕ, Bool, true, false, not, ◌&&◌, ◌||◌, List, [], ◌∷◌, bytes_eq}
 use Rattle.std.specs.List.{list_any, list_all}
 
@@ -25,7 +25,7 @@ at_least_one class text = not (is_empty text) && list_all class text
 abbrev pub optional : (List ℕ → Bool) → List ℕ → Bool
 optional language text = is_empty text || language text
 
--- the text is cut somewhere, and what stands before the cut is of the first language, what stands behind it of the second
+-- the text can be split so that the part before is of the first language, and the part after of the second
 abbrev pub followed_by : (List ℕ → Bool) → (List ℕ → Bool) → List ℕ → Bool
 followed_by first second [] = first [] && second []
 followed_by first second (c ∷ cs) = (first [] && second (c ∷ cs)) || followed_by (λ before. first (c ∷ before)) second cs

@@ -1,4 +1,4 @@
--- Laws of trees and texts: each is carried by the function of `src/laws.rt` that its comment names.
+-- Laws of trees and texts: each is the contract of the function of `src/laws.rt` that its comment names.
 use Rattle.std.specs.Prelude.{option_and_then, if◌then◌else◌, ◌||◌, ◌==◌, nat_eq, codes, ◌≡◌, ◌≢◌, ℕ, Bool, not, ◌↔◌, List, [], ◌∷◌, ◌++◌, Some, filter, is_none, IsTrue}
 use Rattle.std.specs.List.{list_all, ends_with}
 use Rattle.std.specs.Str.Lines.{lines}

@@ -1,5 +1,5 @@
--- The lines of a text, as Rust's `str::lines` gives them where the text has no CR: parts between line feeds, of which an empty last
--- one is no line.
+-- The lines of a text: the parts between line feeds, without an empty last part. If the text has no CR, these are the lines that Rust's
+-- `str::lines` gives.
 use Rattle.std.specs.Prelude.{ℕ, Bool, not, ◌==◌, if◌then◌else◌, List, [], ◌∷◌, ◌++◌}
 use Rattle.std.specs.List.{list_all, join_with_byte, flat_map}
 

@@ -49,7 +49,7 @@ begins_as_marker line = is_among (codes "---" ∷ codes "..." ∷ []) (take 3 li
 abbrev pub starts_with_tab : List ℕ → Bool
 starts_with_tab text = starts_with nat_eq text (codes "\t")
 
--- the same at the root, where the lines stand in column 0: the first one doesn't start with a TAB either, and none is read as a
+-- the same at the root, where the lines stand in column 0: also, the first line doesn't start with a TAB, and no line is read as a
 -- document marker
 unfoldable pub is_root_literal : List ℕ → Bool
 is_root_literal text = is_literal text && not (starts_with_tab text) && not (list_any begins_as_marker (lines_of text))

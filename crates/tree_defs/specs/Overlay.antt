@@ -9,8 +9,8 @@ abbrev pub new_pairs : List (Tree × Tree) → List (Tree × Tree) → List (Tre
 new_pairs others ps = filter (λ p. not (has_key p.0 others)) ps
 
 abbrev mutual
-  -- the right tree laid over the left one. Of two hashes: the left's pairs in order, a shared key's value being the right's value
-  -- laid over the left's, then the right's pairs of new keys in order. Else the right tree
+  -- the right tree laid over the left one. Two hashes give the left's pairs in order, where the value of a shared key is the right's value
+  -- laid over the left's, and then the right's pairs of new keys in order. Else it is the right tree
   pub overlay : Tree → Tree → Tree
   overlay (hash ps) (hash qs) = hash (pairs_of (pairs_under (pair_list_of qs) ps ++ new_pairs (pair_list_of ps) (pair_list_of qs)))
   overlay t u = u

@@ -1,4 +1,4 @@
--- A hash as the list of its pairs, in the order in which they came.
+-- A hash as the list of its pairs, in the order of insertion.
 -- YAML 1.2, section 3.2.1.1 (mapping nodes: unordered pairs with distinct keys); the order is ours.
 use Rattle.std.specs.Prelude.{◌≢◌, ℕ, zero, suc, cond, Bool, List, [], ◌∷◌, ◌++◌, Option, Some, None, option_map, is_some}
 use Rattle.tree_defs.specs.Tree.{Tree}
@@ -55,7 +55,7 @@ abbrev pub Lacks : Tree → List (Tree × Tree) → Type 0
 Lacks k [] = Unit {0}
 Lacks k (p ∷ ps) = (k ≢ p.0) × Lacks k ps
 
--- no two pairs have one key
+-- no two pairs have the same key
 abbrev pub AreDistinct : List (Tree × Tree) → Type 0
 AreDistinct [] = Unit {0}
 AreDistinct (p ∷ ps) = Lacks p.0 ps × AreDistinct ps

@@ -1,4 +1,4 @@
--- When a string is written in double quotes: where it would be read as something else, or not as one plain scalar.
+-- When a string is written in double quotes: if it would be read as something else, or not as one plain scalar.
 -- YAML 1.2, section 7.3.3 (plain style) and section 5.3 (indicators); the words of YAML 1.1's booleans and of number formats
 -- are quoted too, so that other readers of the text take them for strings.
 use Rattle.std.specs.Prelude.{ℕ, Bool, false, not, ◌&&◌, ◌||◌, ◌==◌, nat_le, nat_eq, List, [], ◌∷◌, codes}
@@ -47,7 +47,7 @@ reserved_words =
 abbrev pub is_float_word : List ℕ → Bool
 is_float_word text = in_order (optional (one is_sign) ∷ is_among (codes "inf" ∷ codes "infinity" ∷ codes "nan" ∷ []) ∷ []) (str_to_ascii_lowercase text)
 
--- a string that is written in double quotes, where it isn't written as a literal block
+-- a string that is written in double quotes, unless it is written as a literal block
 unfoldable pub is_quoted : List ℕ → Bool
 is_quoted text =
     is_empty text || has_outer_space text

@@ -15,8 +15,8 @@ abbrev pub boolean_spelling : Bool → List ℕ
 boolean_spelling true = codes "true"
 boolean_spelling false = codes "false"
 
--- the spelling of a scalar; arrays and hashes have one only where they are empty. An integer is its decimal digits, behind `-` where
--- it is negative. An alias is nothing at all, and what couldn't be read is spelt as null is.
+-- the spelling of a scalar; arrays and hashes have one only where they are empty. An integer is its decimal digits, after `-` where
+-- it is negative. An alias has the empty spelling, and a bad value is spelt like null.
 abbrev pub spelling : Tree → List ℕ
 spelling (real s) = s
 spelling (integer z) = decimal_digits z

@@ -29,7 +29,7 @@ is_minus c = c == 45
 abbrev pub number : ℕ → List ℕ → Option ℕ
 number base text = if at_least_one (is_digit base) text then Some (digits_value base text) else None
 
--- the number behind an optional sign
+-- the number after an optional sign
 abbrev pub with_sign : ℕ → List ℕ → Option ℤ
 with_sign base [] = None
 with_sign base (c ∷ cs) =
@@ -45,7 +45,7 @@ signed_number base text = option_and_then (λ z. if fits_i64 z then Some z else 
 abbrev pub signed_decimal : List ℕ → Option ℤ
 signed_decimal text = signed_number 10 text
 
--- what stands behind a beginning, where the text begins so
+-- what stands after a beginning, where the text begins so
 abbrev pub behind : List ℕ → List ℕ → Option (List ℕ)
 behind [] text = Some text
 behind (p ∷ ps) [] = None

@@ -1,4 +1,4 @@
-//! Laws of the definitions, each carried by an empty function.
+//! Laws of the definitions, each the contract of an empty function.
 
 ghost use Rattle.tree_defs.specs.Laws.{OrderIsTotal, EqualityIsExact, EqualityIsAnEquivalence};
 ghost use Rattle.tree_defs.specs.Laws.{InsertKeepsKeysDistinct, InsertedValueIsFound, InsertKeepsOtherValues, InsertKeepsTheOrder, PlaceFindsTheValue};
@@ -11,7 +11,7 @@ pub fn order_is_total()
     ensures { OrderIsTotal }
 {}
 
-/// The test of equality holds of one and the same tree, and of no two others.
+/// The test of equality holds of two trees exactly if they are the same.
 pub fn equality_is_exact()
     ensures { EqualityIsExact }
 {}
@@ -21,17 +21,17 @@ pub fn equality_is_an_equivalence()
     ensures { EqualityIsAnEquivalence }
 {}
 
-/// Where the keys are distinct, they are after an insert.
+/// If the keys are distinct, they are distinct after an insertion.
 pub fn insert_keeps_keys_distinct()
     ensures { InsertKeepsKeysDistinct }
 {}
 
-/// What was inserted at a key is found there.
+/// The value that was inserted at a key is found there.
 pub fn inserted_value_is_found()
     ensures { InsertedValueIsFound }
 {}
 
-/// At every other key an insert leaves what was there.
+/// An insertion leaves the value at every other key.
 pub fn insert_keeps_other_values()
     ensures { InsertKeepsOtherValues }
 {}
@@ -41,17 +41,18 @@ pub fn insert_keeps_the_order()
     ensures { InsertKeepsTheOrder }
 {}
 
-/// The value at a key's place is the key's value, and a key without a place has none.
+/// The value at a key's place is the key's value. A key without a place has no value.
 pub fn place_finds_the_value()
     ensures { PlaceFindsTheValue }
 {}
 
-/// One language followed by another has just the texts that can be cut into a text of each.
+/// The texts of one language followed by another are those that can be split into a text of each.
 pub fn followed_by_is_a_cut()
     ensures { FollowedByIsACut }
 {}
 
-/// The lines of a text, each ended by a line feed, are the text, and a line feed more where it doesn't end in one.
+/// The lines of a text, each followed by a line feed, are the text, with one more line feed if the text does not end
+/// in one.
 pub fn lines_make_the_text()
     ensures { LinesMakeTheText }
 {}
@@ -61,27 +62,27 @@ pub fn lines_are_unbroken()
     ensures { LinesAreUnbroken }
 {}
 
-/// Where a text has no CR, its lines are those that `str::lines` gives.
+/// If a text has no CR, its lines are those that `str::lines` gives.
 pub fn lines_are_those_of_std()
     ensures { LinesAreThoseOfStd }
 {}
 
-/// No line in which a tree is written holds a line feed, so the lines of its text are these.
+/// No line in which a tree is written holds a line feed. So the lines of its text are these lines.
 pub fn box_lines_are_unbroken()
     ensures { BoxLinesAreUnbroken }
 {}
 
-/// A plain text stands for a null, a boolean, an integer of 64 bits, or a real or string of that very text.
+/// A plain text stands for a null, a boolean, an integer of 64 bits, or a real or string with that text.
 pub fn typing_gives_a_plain_scalar()
     ensures { TypingGivesAPlainScalar }
 {}
 
-/// A text is a string exactly where no row of the table fits it.
+/// A text is a string exactly if no row of the typing table fits it.
 pub fn strings_fit_no_row()
     ensures { StringsFitNoRow }
 {}
 
-/// A scalar that is spelt plainly is what its spelling stands for.
+/// The spelling of a scalar that is written plainly stands for that scalar.
 pub fn spelling_stands_for_its_scalar()
     ensures { SpellingStandsForItsScalar }
 {}
@@ -91,7 +92,7 @@ pub fn digits_are_least()
     ensures { DigitsAreLeast }
 {}
 
-/// Laid over one another, trees with distinct keys give a tree with distinct keys.
+/// If two trees have distinct keys, one laid over the other has distinct keys.
 pub fn overlay_keeps_keys_distinct()
     ensures { OverlayKeepsKeysDistinct }
 {}

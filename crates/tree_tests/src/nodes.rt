@@ -40,7 +40,7 @@ fn items_words(alloc: Global, node: Yaml) -> Result<String, Fail> {
     Ok(words)
 }
 
-// An array's length, whether it is empty, its second item and the one behind its end; then the array that is made anew of
+// An array's length, whether it is empty, its second item and the one after its end; then the array that is made anew of
 // its nodes.
 fn array_words(alloc: Global, node: Yaml) -> Result<String, Fail> {
     let items = node.into_vec().ok_or("no array")?;
@@ -69,7 +69,7 @@ fn copy_words(alloc: Global, node: &Yaml) -> Result<String, Fail> {
     Ok(format!(in alloc; "{is_equal} {copy:?}")?)
 }
 
-// What a tree answers to a question.
+// What a tree returns to a question.
 fn answer(alloc: Global, node: Yaml, question: &str) -> Result<String, Fail> {
     match question {
         "scalar" => scalar_words(alloc, &node),

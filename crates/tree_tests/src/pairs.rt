@@ -57,7 +57,7 @@ fn all_words(alloc: Global, pairs: &Hash) -> Result<String, Fail> {
     Ok(words)
 }
 
-// What a call answers; `show` is its length, whether it is empty, and its pairs.
+// What a call returns; `show` is its length, whether it is empty, and its pairs.
 fn answer(alloc: Global, pairs: &mut Hash, call: &str, key: &str) -> Result<String, Fail> {
     match call {
         "get" => get_words(alloc, pairs, key),
@@ -72,7 +72,7 @@ fn answer(alloc: Global, pairs: &mut Hash, call: &str, key: &str) -> Result<Stri
     }
 }
 
-// Calls of one hash, one behind the other, and what each answers; `1` inserts the text.
+// Calls of one hash, one after the other, and what each returns; `1` inserts the text.
 const CALLS: [(&str, &str, &str); 21] = [
     ("show", "", "0 true {}"),
     ("back", "", "None"),
@@ -161,7 +161,7 @@ fn a_hash_does_as_a_plain_list(rt: HostRuntime) -> Result<(), Fail> {
     Ok(())
 }
 
-// Texts that differ behind their first eight bytes alone.
+// Texts that differ after their first eight bytes alone.
 fn numbered(alloc: Global, number: i64) -> Result<Yaml, Fail> {
     Ok(Yaml::String(format!(in alloc; "beginning {number}")?))
 }

@@ -4,11 +4,11 @@ use Rattle.yaml_rust2.specs.CharactersRead.{up_to_nul}
 use Rattle.yaml_rust2.specs.TextReadAs.{IsReadAs}
 use Rattle.yaml_rust2.specs.Tree.{Tree}
 
--- A line `---` behind another line.
+-- A line `---` after another line.
 abbrev pub line : List ℕ
 line = codes "\n---\n"
 
--- The page is cut at its first such line: these documents are what the part before it is read as, and this stands behind it.
+-- The page is cut at its first such line: these documents are what the part before it is read as, and this stands after it.
 pub record IsSplitAs (page : List ℕ) (documents : List Tree) (rest : List ℕ) : Type 0 where
   pub front : List ℕ
   pub whole : page ≡ front ++ (line ++ rest)

@@ -1,4 +1,4 @@
-//! Front matter: the documents before a line `---`, and the text behind it, from the library's public contracts alone.
+//! Front matter: the documents before a line `---`, and the text after it, from the library's public contracts alone.
 #![tactic(auto)]
 
 ghost use Rattle.std.specs.Prelude.{IfOk, IfSome, IfNone, chars};
@@ -14,14 +14,14 @@ mod tests;
 /// A page that begins with front matter.
 #[derive(Debug, Drop)]
 pub struct Page<'a> {
-    /// What stands before the line `---`, as documents.
+    /// The part before the line `---`, as documents.
     pub front: Vec<Yaml>,
-    /// What stands behind that line.
+    /// The part after that line.
     pub rest: &'a str,
 }
 
-/// The front matter of a page and the rest, cut at the first line `---` that follows another line; `None` where there is
-/// no such line. An `Err` is the load's.
+/// Splits a page at its first line `---` that follows another line, into its front matter and the rest. `None` if
+/// there is no such line. An `Err` is that of the load.
 pub fn split_page<'a>(alloc: Global, text: &'a str) -> Result<Option<Page<'a>>, ScanError>
     ensures split { IfOk result (λ found. IfSome found (λ p. IsSplitAs (chars text.now) (items_view p.front.items) (chars p.rest.now))) }
     ensures whole { IfOk result (λ found. IfNone found (IsWhole (chars text.now))) }

@@ -17,9 +17,9 @@ use yaml_rust2::laws::dumps_are_laid_out;
 #[cfg(test)]
 mod tests;
 
-/// The first document of a text as YAML, in these settings, or the empty text where there is none. If the text is a JSON
-/// text of the class that is loaded, and its value can be written, then the answer is a text that is laid out as that value,
-/// so that it loads as it.
+/// Writes the first document of a text as YAML, in these settings; the text is empty if there is no document. If the
+/// text is a JSON text whose value can be written, the result is a basic layout of that value, so it loads as that
+/// value.
 pub fn to_yaml(alloc: Global, json: &str, compact: bool, multiline: bool) -> Result<String, NotBack>
     ensures same { IfOk result (λ yaml. (tree : Tree) → IsJsonText tree (chars json.now) → IsWritable tree → IsLaidOut tree (string_chars yaml)) }
     ensures refused { IfErr result (λ e. (tree : Tree) → IsJsonText tree (chars json.now) → e ≡ OutOfMemory) }

@@ -1,5 +1,5 @@
-//! Several trees are dumped into one text, a line feed behind each, and the text is loaded again: from the library's public
-//! contracts alone.
+//! Several trees are dumped into one text, each followed by a line feed, and the text is loaded again. Everything
+//! follows from public contracts.
 #![tactic(auto)]
 
 ghost use Rattle.std.specs.Prelude.{◌≡◌, [], ◌∷◌, ◌++◌, All, OnOk, IfOk, IfErr};
@@ -59,7 +59,7 @@ fn append(text: &mut String, tree: &Yaml, compact: bool, multiline: bool) -> Res
     Ok(())
 }
 
-/// The texts of the trees in these settings, one behind the other, each with a line feed behind it.
+/// The dumps of the trees in these settings, in order, each followed by a line feed.
 pub fn dumped_in_turn(
     alloc: Global,
     trees: &[Yaml],
@@ -77,8 +77,8 @@ pub fn dumped_in_turn(
     Ok(text)
 }
 
-/// The documents of the text that is dumped of the trees. If each of them can be written, these are the trees, in order,
-/// or memory was refused.
+/// Dumps trees into one text and loads it. If each of them can be written, the documents are the trees, in order, or
+/// memory was refused.
 pub fn round_trip_in_turn(
     alloc: Global,
     trees: &[Yaml],

@@ -1,4 +1,4 @@
-//! Settings from three places, laid over each other, and written as a text that loads as them.
+//! Settings from three places are laid over each other, dumped, and loaded again.
 #![tactic(auto)]
 
 ghost use Rattle.std.specs.Prelude.{◌≡◌, [], ◌∷◌, IfOk, IfErr};
@@ -15,8 +15,8 @@ use yaml_rust2::Yaml;
 #[cfg(test)]
 mod tests;
 
-/// The defaults, with a file's settings laid over them, and what was asked for over both. If each of the three can be
-/// written, the settings can be.
+/// The defaults, with the settings of a file laid over them, and then the settings that were asked for. If each of
+/// the three can be written, the result can be.
 pub fn settle(alloc: Global, defaults: &Yaml, file: &Yaml, asked: &Yaml) -> Result<Yaml, AllocError>
     ensures tree { IfOk result (λ y. view y ≡ overlay (overlay (view defaults.now) (view file.now)) (view asked.now)) }
     ensures writable { IfOk result (λ y. IsWritable (view defaults.now) → IsWritable (view file.now) → IsWritable (view asked.now) → IsWritable (view y)) }
@@ -25,8 +25,8 @@ pub fn settle(alloc: Global, defaults: &Yaml, file: &Yaml, asked: &Yaml) -> Resu
     overlay(alloc, &base, asked)
 }
 
-/// The documents of the text that is dumped of the settings. If each of the three can be written, that is one document,
-/// the settings, or memory was refused.
+/// Lays the three over each other, dumps the result and loads it. If each of the three can be written, the result is
+/// one document, the settings, or memory was refused.
 pub fn settle_and_load(
     alloc: Global,
     defaults: &Yaml,

@@ -1,4 +1,5 @@
-//! Texts whose aliases are bounded. Each alias is a copy of a tree, so a short text with many can ask for much memory.
+//! A load with a limit on aliases. Each alias is a copy of a tree, so a short text with many aliases can ask for much
+//! memory.
 ghost use Rattle.std.specs.Prelude.{◌≡◌, ◌≤◌, false, List, IfOk, chars, if◌then◌else◌};
 ghost use Rattle.yaml_rust2.specs.CharactersRead.{up_to_nul};
 ghost use Rattle.yaml_rust2.specs.Event.{Ev};
@@ -15,7 +16,7 @@ use yaml_rust2::parser::{Event, MarkedEventReceiver, Parser};
 use yaml_rust2::scanner::Marker;
 use yaml_rust2::{ScanError, Yaml, YamlLoader};
 
-/// Takes so many aliases more, and refuses the next.
+/// Takes a number of further aliases, and refuses the next one.
 #[derive(Drop)]
 pub struct Aliases {
     left: usize,
@@ -47,9 +48,9 @@ fn is_alias(event: &Event) -> bool
     matches!(event, Event::Alias(_))
 }
 
-/// All documents of a text with at most so many aliases. Its events are read first, and no tree is made before they were
-/// counted. An `Err` is the text's fault, or `too many aliases` at the place of the first that is too many, or memory was
-/// refused.
+/// All documents of a text, if it has at most this many aliases. The aliases are counted in a first pass over the
+/// events, before any tree is made. An `Err` is the text's fault, or `too many aliases` at the place of the first one
+/// too many, or memory was refused.
 pub fn load_with_few_aliases(alloc: Global, text: &str, most: usize) -> Result<Vec<Yaml>, ScanError>
     ensures few { IfOk result (λ documents. (es : List (Ev × Place)) × HasEvents false (up_to_nul (chars text.now)) es × (aliases_in es ≤ most)) }
     ensures reads { IfOk result (λ documents. IsReadAs false (up_to_nul (chars text.now)) (items_view documents.items)) }

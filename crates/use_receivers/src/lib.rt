@@ -1,4 +1,4 @@
-//! Receivers of a text's events, from the library's public contracts alone: one collects the anchors, one bounds the aliases.
+//! Two receivers of a text's events, from public contracts alone: one collects the anchors, one limits the aliases.
 #![tactic(auto)]
 
 pub mod aliases;

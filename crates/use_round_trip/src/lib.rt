@@ -21,7 +21,7 @@ mod tests;
 pub enum NotBack {
     /// Memory was refused, or the tree has 2^62 levels.
     OutOfMemory,
-    /// The tree cannot be written, and its text is not read.
+    /// The tree cannot be written, and its text was refused.
     NotRead(ScanError),
 }
 
@@ -56,8 +56,8 @@ pub fn dumped(alloc: Global, tree: &Yaml, compact: bool, multiline: bool) -> Res
     }
 }
 
-/// The documents of the text that is dumped of a tree. If the tree can be written, that is one document, which is the
-/// tree, or memory was refused.
+/// Dumps a tree and loads the text. If the tree can be written, the result is one document, which is the tree, or
+/// memory was refused.
 pub fn round_trip(
     alloc: Global,
     tree: &Yaml,

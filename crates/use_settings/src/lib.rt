@@ -27,7 +27,7 @@ pub fn word<'a>(settings: &'a Yaml, key: &str) -> Option<&'a str>
     settings.get_key(key)?.as_str()
 }
 
-/// The number at `port` in a text's first document. Of a text that is laid out in lines it is the number of its tree.
+/// The number at `port` in a text's first document. If the text is a basic layout, it is the number in its tree.
 pub fn port(alloc: Global, text: &str) -> Result<Option<i64>, ScanError>
     ensures { IfOk result (λ port. (tree : Tree) → IsLaidOut tree (chars text.now) → port ≡ number_of (codes "port") tree) }
 {

@@ -45,7 +45,7 @@ Loads characters (Err (Scan f)) = LoadsText false (up_to_nul characters) (Err f)
 Loads characters (Err (Decode m)) = ⊥
 Loads characters (Err (IO e)) = ⊥
 
--- what holds of the outcome of decoding where a load came behind it, which the text was given to
+-- what holds of the outcome of decoding where a load came after it, which the text was given to
 abbrev pub LoadedIs : Result (Vec Yaml Global) LoadError → (Outcome → Type 0) → Type 0
 LoadedIs (Ok documents) P = (characters : List ℕ) × P (text characters) × Loads characters (Ok documents)
 LoadedIs (Err (Scan f)) P = (characters : List ℕ) × P (text characters) × Loads characters (Err (Scan f))

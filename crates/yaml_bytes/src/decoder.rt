@@ -60,7 +60,7 @@ impl From<io::Error> for LoadError {
 /// ```
 #[derive(Drop)]
 pub struct YamlDecoder<T: Read> {
-    // Where bytes, text and trees are kept.
+    // The allocator for bytes, text and trees.
     alloc: Global,
     // What is read, from where it stands.
     source: T,
@@ -80,8 +80,7 @@ fn load(alloc: Global, text: String) -> Result<Vec<Yaml>, LoadError>
 }
 
 impl<T: Read> YamlDecoder<T> {
-    /// A decoder of a reader, whose trap is [`YAMLDecodingTrap::Strict`]. It reads nothing and takes
-    /// no memory.
+    /// A decoder of a reader, with the trap [`YAMLDecodingTrap::Strict`]. It reads nothing yet and takes no memory.
     pub fn read(alloc: Global, source: T) -> YamlDecoder<T>
         ensures { result ≡ record { alloc = alloc; source = source; trap = YAMLDecodingTrap.Strict } }
     {
@@ -92,7 +91,7 @@ impl<T: Read> YamlDecoder<T> {
         }
     }
 
-    /// Sets what becomes of a malformation, and answers the same decoder.
+    /// Sets what becomes of a malformation, and returns the decoder.
     pub fn encoding_trap(&mut self, trap: YAMLDecodingTrap) -> &mut Self
         ensures same { result.ghost_name ≡ self.entry.ghost_name }
         ensures value { result.now ≡ record self.old { trap = trap } }
@@ -101,16 +100,16 @@ impl<T: Read> YamlDecoder<T> {
         self
     }
 
-    /// Reads the source to its end, and loads the text of its bytes: its encoding, its characters and its malformations are as
-    /// [`text_of`] says, its documents as [`YamlLoader::load_from_str`] does. Where nothing is said of the bytes of a source, the
-    /// text is that of some bytes. A second call reads on from where the source stands.
+    /// Reads the source to its end, and loads the text of its bytes. Encoding, characters and malformations are as
+    /// [`text_of`] says, documents as [`YamlLoader::load_from_str`] says. If the contract of the source says nothing
+    /// of its bytes, the text is that of some bytes. A second call reads on from where the source stands.
     ///
     /// # Errors
     ///
-    /// [`LoadError::IO`] is the error of the source, or says that memory was refused; the source stands where reading stopped, and
-    /// what it still has is the end of what it had.
-    /// [`LoadError::Decode`] has the message of a stop: `Invalid character sequence at {place}: {bytes}`, or that of the function
-    /// that was called. [`LoadError::Scan`] is the text's fault. Behind these two the source stands at its end.
+    /// [`LoadError::IO`] is the error of the source, or says that memory was refused. The source then stands where
+    /// reading stopped, and what it still has is an end of what it had. [`LoadError::Decode`] has the message of a
+    /// stop: `Invalid character sequence at {place}: {bytes}`, or that of the trap's function. [`LoadError::Scan`] is
+    /// the text's fault. After these two the source stands at its end.
     pub fn decode(&mut self) -> Result<Vec<Yaml>, LoadError>
         ensures ignore { self.old.trap ≡ YAMLDecodingTrap.Ignore → LoadedIs result (λ o. HasBytes (T.remaining self.old.source) (λ bytes. o ≡ text (ignored (parts bytes)))) }
         ensures replace { self.old.trap ≡ YAMLDecodingTrap.Replace → LoadedIs result (λ o. HasBytes (T.remaining self.old.source) (λ bytes. o ≡ text (replaced (parts bytes)))) }

@@ -25,7 +25,7 @@ begins [] bs = true
 begins (m ∷ ms) [] = false
 begins (m ∷ ms) (b ∷ bs) = (m == b) && begins ms bs
 
--- without a mark, two first bytes of which one is 0 choose
+-- without a mark, the first two bytes choose if just one of them is 0
 unfoldable pub unmarked : List ℕ → Encoding
 unmarked (a ∷ b ∷ r) = (if a == b then utf_8 else (if a == 0 then utf_16_big else (if b == 0 then utf_16_little else utf_8)))
 unmarked _ = utf_8
@@ -40,17 +40,17 @@ chosen bytes =
 
 -- ---- sequences
 
--- What an input begins with: how many bytes it takes, the character that they mean, none for a malformation, and for that how many bytes behind it were looked at.
+-- What an input begins with: how many bytes it takes, the character that they mean, none for a malformation, and for that how many bytes after it were looked at.
 pub record Sequence : Type 0 where
   pub bytes : ℕ
   pub character : Option ℕ
   pub ahead : ℕ
 
--- a sequence of so many bytes that means a character
+-- a sequence of this number of bytes that encodes a character
 abbrev pub means : (bytes code : ℕ) → Sequence
 means n c = record { bytes = n; character = Some c; ahead = 0 }
 
--- a malformation of so many bytes, with so many more looked at
+-- a malformation of this number of bytes, with a number of further bytes looked at
 abbrev pub malformed : (bytes ahead : ℕ) → Sequence
 malformed n a = record { bytes = n; character = None; ahead = a }
 
@@ -61,7 +61,7 @@ pub record Range : Type 0 where
   pub low : ℕ
   pub high : ℕ
 
--- the bits of a first byte, and the ranges of the bytes behind it
+-- the bits of a first byte, and the ranges of the bytes after it
 pub record Start : Type 0 where
   pub bits : ℕ
   pub behind : List Range
@@ -94,7 +94,7 @@ abbrev pub sequence_by : Option Start → List ℕ → Sequence
 sequence_by None r = malformed 1 0
 sequence_by (Some s) r = sequence_from 1 (s.bits) (s.behind) r
 
--- What a byte and those behind it begin with in UTF-8. A malformation is the longest beginning of a sequence that is not whole, else one byte.
+-- What a byte and those after it begin with in UTF-8. A malformation is the longest beginning of a sequence that is not whole, else one byte.
 abbrev pub utf_8_sequence : ℕ → List ℕ → Sequence
 utf_8_sequence b r = sequence_by (start_of b) r
 
@@ -125,24 +125,24 @@ abbrev pub pair_by : Bool → (lead next : ℕ) → Sequence
 pair_by true u v = means 4 (of_two_units u v)
 pair_by false u v = malformed 2 2
 
--- A lead surrogate: with a trail it is a character; before another unit it is a malformation, and that unit is read anew; at the end it is one with the odd byte behind it.
+-- A lead surrogate: with a trail it is a character; before another unit it is a malformation, and that unit is read again; at the end it is a malformation together with an odd last byte.
 abbrev pub led : (ℕ → ℕ → ℕ) → (lead : ℕ) → List ℕ → Sequence
 led unit u [] = malformed 2 0
 led unit u (a ∷ []) = malformed 3 0
 led unit u (a ∷ b ∷ r) = pair_by (is_trail (unit a b)) u (unit a b)
 
--- what a unit and the bytes behind it begin with
+-- what a unit and the bytes after it begin with
 abbrev pub unit_sequence : (ℕ → ℕ → ℕ) → (u : ℕ) → List ℕ → Sequence
 unit_sequence unit u r = (if is_lead u then led unit u r else (if is_trail u then malformed 2 0 else means 2 u))
 
--- What a byte and those behind it begin with in UTF-16. A trail surrogate alone and an odd byte at the end are malformations.
+-- What a byte and those after it begin with in UTF-16. A trail surrogate alone and an odd byte at the end are malformations.
 abbrev pub utf_16_sequence : (ℕ → ℕ → ℕ) → ℕ → List ℕ → Sequence
 utf_16_sequence unit a [] = malformed 1 0
 utf_16_sequence unit a (b ∷ r) = unit_sequence unit (unit a b) r
 
 -- ---- an input as characters and malformations
 
--- A character, or a malformation: its place in the input, its length in bytes, how many bytes behind it were looked at, and the input from it on.
+-- A character, or a malformation: its place in the input, its length in bytes, how many bytes after it were looked at, and the input from it on.
 pub data Part : Type 0 where
   character : (code : ℕ) → Part
   malformation : (place bytes ahead : ℕ) → (input : List ℕ) → Part
@@ -156,7 +156,7 @@ part_by place input n a None = malformation place n a input
 abbrev pub part_of : (place : ℕ) → (input : List ℕ) → Sequence → Part
 part_of place input s = part_by place input (s.bytes) (s.ahead) (s.character)
 
--- the parts of an input from a place on, behind so many bytes that belong to the part before
+-- the parts of an input from a place on, after so many bytes that belong to the part before
 abbrev pub parts_from : (ℕ → List ℕ → Sequence) → (belonging place : ℕ) → List ℕ → List Part
 parts_from at n place [] = []
 parts_from at (suc n) place (b ∷ r) = parts_from at n (suc place) r
@@ -168,11 +168,11 @@ reading utf_8 = utf_8_sequence
 reading utf_16_little = utf_16_sequence little
 reading utf_16_big = utf_16_sequence big
 
--- the parts of an input in an encoding, behind its mark
+-- the parts of an input in an encoding, after its mark
 abbrev pub parts_by : Chosen → List ℕ → List Part
 parts_by c bytes = parts_from (reading (c.encoding)) 0 (c.mark) (drop (c.mark) bytes)
 
--- The characters and malformations of an input, in its own encoding and behind its byte order mark.
+-- The characters and malformations of an input, in its own encoding and after its byte order mark.
 abbrev pub parts : List ℕ → List Part
 parts bytes = parts_by (chosen bytes) bytes
 
@@ -221,7 +221,7 @@ pub data Answer : Type 0 where
   go_on : (new_text : List ℕ) → Answer
   break : (message : List ℕ) → Answer
 
--- The steps that a function allows: from a malformation's length, how many bytes behind it were looked at, the input from it on, and the text so far, to an answer.
+-- The steps that a function allows: from a malformation's length, how many bytes after it were looked at, the input from it on, and the text so far, to an answer.
 abbrev pub Steps : Type 1
 Steps = (bytes ahead : ℕ) → (input text_so_far : List ℕ) → Answer → Type 0
 
@@ -230,7 +230,7 @@ abbrev pub message_or : List ℕ → (place bytes : ℕ) → (input : List ℕ) 
 message_or [] place n input = message place n input
 message_or (c ∷ m) place n input = c ∷ m
 
--- Whether an outcome comes of the parts behind a text so far, where at each malformation, in order, one step of the function is taken.
+-- Whether an outcome comes of the parts after a text so far, where at each malformation, in order, one step of the function is taken.
 abbrev pub IsCalled : Steps → List Part → (text_so_far : List ℕ) → Outcome → Type 0
 IsCalled step [] so_far outcome = outcome ≡ text so_far
 IsCalled step (character c ∷ ps) so_far outcome = IsCalled step ps (so_far ++ (c ∷ [])) outcome

@@ -1,4 +1,4 @@
--- Numbers behind others.
+-- Numbers after others.
 use Rattle.std.specs.Prelude.{ℕ, List, [], ◌∷◌, ◌++◌, codes, decimal}
 
 -- numbers in decimal, with a comma and a space before each

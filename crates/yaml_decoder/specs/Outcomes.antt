@@ -25,7 +25,7 @@ LeftIs (Err stop) s P = StopIs stop P
 pub record IsRead (step : Steps) (encoding : Encoding) (input : List ℕ) (at : ℕ) (so_far : List ℕ) : Type 0 where
   pub goes : (outcome : Outcome) → IsCalled step (parts_from (reading encoding) 0 at (drop at input)) so_far outcome → IsCalled step (parts input) [] outcome
 
--- A part of an input is read at a place: up to the place behind it, or to a stop.
+-- A part of an input is read at a place: up to the place after it, or to a stop.
 abbrev pub Passes : (step : Steps) → (encoding : Encoding) → (input : List ℕ) → (at : ℕ) → (so_far next : List ℕ) → Result ℕ Stop → Type 0
 Passes step e input at so_far next (Ok behind) = (at < behind) × (behind ≤ length input) × (IsRead step e input at so_far → IsRead step e input behind next)
 Passes step e input at so_far next (Err stop) = IsRead step e input at so_far → StopIs stop (IsDecodedByCalls step input)

@@ -15,7 +15,7 @@ abbrev pub answer_of : ControlFlow (String Global) (Unit {0}) → String Global 
 answer_of (Continue u) s = go_on (string_chars s)
 answer_of (Break m) s = break (string_chars m)
 
--- What a function's contract says of a call, from the form in which proofs see it: arguments, and result with what is left behind the `&mut`.
+-- What a function's contract says of a call, from the form in which proofs see it: arguments, and result with what is left after the `&mut`.
 abbrev pub curried : (ℕ × (ℕ × (Bor (List ℕ) × (MutBor (String Global) × Unit {0}))) → ControlFlow (String Global) (Unit {0}) × (MutBor (String Global) × Unit {0}) → Type 0)
     → (bytes ahead : ℕ) → Bor (List ℕ) → MutBor (String Global) → ControlFlow (String Global) (Unit {0}) → MutBor (String Global) → Type 0
 curried post n a shown shown_text result left = post (n, (a, (shown, (shown_text, tt)))) (result, (left, tt))

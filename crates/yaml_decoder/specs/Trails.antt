@@ -3,7 +3,7 @@ use Rattle.std.specs.Prelude.{◌≡◌, ℕ, ◌+◌, ◌≤◌, List, drop}
 use Rattle.yaml_decoder.specs.Decoding.{sequence_from, utf_8_sequence}
 use Rattle.yaml_decoder.specs.Front.{front, bounds, Leads}
 
--- So many bytes of an input were read, with these bits; so many more are behind them, the first of which has these bounds.
+-- So many bytes of an input were read, with these bits; so many more are after them, the first of which has these bounds.
 pub record Trails (input : List ℕ) (bytes bits low high behind : ℕ) : Type 0 where
   pub goes : sequence_from bytes bits (bounds low high behind) (drop bytes input) ≡ front utf_8_sequence input
   pub leads : Leads bits (bounds low high behind)

@@ -20,7 +20,7 @@ fn run_length(input: &[u8]) -> usize
     input.len()
 }
 
-/// Reads the run of ASCII bytes with which an input begins, and answers how many they are.
+/// Reads the run of ASCII bytes with which an input begins, and returns how many they are.
 pub(crate) fn read_run(input: &[u8], text: &mut String) -> Result<usize, AllocError>
     requires there { 0 < length input.now }
     requires ascii { slice_index input.now 0 < 128 }

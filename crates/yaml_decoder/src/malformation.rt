@@ -12,8 +12,8 @@ use crate::trap::{YAMLDecodingTrap, YAMLDecodingTrapFn};
 use std::alloc::Global;
 use std::ops::ControlFlow;
 
-/// A malformation: its place, counted in bytes from the input's first, how many bytes it has, and how
-/// many behind it were looked at.
+/// A malformation: its place, counted in bytes from the start of the input, how many bytes it has, and how many after
+/// it were looked at.
 #[derive(Clone, Copy)]
 pub(crate) struct Malformation {
     pub place: usize,
@@ -33,7 +33,7 @@ fn stop(alloc: Global, malformation: Malformation, input: &[u8]) -> Stop
     }
 }
 
-/// A stop with a function's message; for the empty one stands the malformation's own.
+/// A stop with a function's message. An empty one stands for the malformation's own.
 #[tactic(auto, using(crate::proofs::MalformationLemmas::message_or_own, crate::proofs::MalformationLemmas::message_or_said))]
 fn broken(message: String, malformation: Malformation, input: &[u8]) -> Stop
     requires { malformation.bytes ≤ length input.now }

@@ -9,14 +9,14 @@ ghost use Rattle.yaml_decoder.specs.Front.{sequence_of};
 pub(crate) struct Sequence {
     /// How many bytes it takes, at least one.
     pub bytes: u8,
-    /// The character that they mean; none for a malformation.
+    /// The character that they encode; none for a malformation.
     pub character: Option<char>,
-    /// For a malformation, how many bytes behind it were looked at.
+    /// For a malformation, how many bytes after it were looked at.
     pub ahead: u8,
 }
 
 impl Sequence {
-    /// So many bytes that mean the character of a code.
+    /// A character in so many bytes, by its code.
     pub fn means(bytes: u8, code: u32) -> Sequence
         requires { IsScalar code }
         ensures { sequence_of result ≡ means bytes code }

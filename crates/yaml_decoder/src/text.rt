@@ -14,7 +14,7 @@ use crate::stop::Stop;
 use crate::trap::YAMLDecodingTrap;
 use std::alloc::Global;
 
-/// Reads the part of an input at a place, and answers the place behind it.
+/// Reads the part of an input at a place, and returns the place after it.
 fn read_part(
     encoding: Encoding,
     trap: YAMLDecodingTrap,
@@ -43,8 +43,8 @@ fn read_part(
     Ok(behind)
 }
 
-/// Reads some of an input at a place, and answers the place behind it: in UTF-8 a run of ASCII bytes
-/// where there is one, else a part.
+/// Reads some of an input at a place, and returns the place after it: in UTF-8 a run of ASCII bytes if one begins
+/// there, else one part.
 fn read_some(
     encoding: Encoding,
     trap: YAMLDecodingTrap,
@@ -77,16 +77,15 @@ fn decoded(alloc: Global, input: &[u8], trap: YAMLDecodingTrap) -> Result<String
     Ok(text)
 }
 
-/// The text of an input. Its encoding is that of its byte order mark, which is no part of the text;
-/// without a mark, UTF-16 in the order that one NUL among the first two bytes tells; else UTF-8
-/// (YAML 1.2, section 5.2). Its malformations are those of the WHATWG Encoding standard, sections
-/// 8.1.1 and 14.4, and the trap says what becomes of each.
+/// The text of an input. The encoding is that of the byte order mark, which is no part of the text. Without a mark it
+/// is UTF-16 if just one of the first two bytes is NUL: big endian if it is the first, little endian if it is the
+/// second. Else it is UTF-8 (YAML 1.2, section 5.2). Malformations are those of the WHATWG Encoding standard,
+/// sections 8.1.1 and 14.4, and the trap says what becomes of each.
 ///
 /// # Errors
 ///
-/// [`Stop::Message`] where the trap stops at a malformation: `Strict` at the first, `Call` where its
-/// function breaks; the others never. [`Stop::OutOfMemory`] where memory was refused, which no
-/// clause rules out.
+/// [`Stop::Message`] if the trap stops at a malformation: `Strict` at the first, `Call` when its function breaks, the
+/// others never. [`Stop::OutOfMemory`] if memory was refused; no clause says when it is not.
 pub fn text_of(alloc: Global, input: &[u8], trap: YAMLDecodingTrap) -> Result<String, Stop>
     ensures ignore { trap ≡ YAMLDecodingTrap.Ignore → OutcomeIs result (λ o. o ≡ text (ignored (parts input.now))) }
     ensures replace { trap ≡ YAMLDecodingTrap.Replace → OutcomeIs result (λ o. o ≡ text (replaced (parts input.now))) }

@@ -6,17 +6,16 @@ use std::ops::ControlFlow;
 /// A function that is called at each malformation. Its arguments are:
 ///
 /// * how many bytes the malformation has, 1 to 4;
-/// * how many bytes behind it were looked at: 2 where a lead surrogate stands before a whole unit
-///   that is no trail surrogate, else 0. They are read anew;
-/// * the input, from the malformation's first byte on;
+/// * how many bytes after it were looked at: 2 if a lead surrogate stands before a whole unit that is no trail
+///   surrogate, else 0. They are read again;
+/// * the input from the malformation's first byte on;
 /// * the text so far, which the function may change in any way.
 ///
-/// `Continue` goes on behind the malformation. `Break` stops with a message; for the empty one
-/// stands `Invalid character sequence at {place}: {bytes}`, as with
-/// [`Strict`](YAMLDecodingTrap::Strict).
+/// `Continue` goes on after the malformation. `Break` stops with a message. An empty message stands for `Invalid
+/// character sequence at {place}: {bytes}`, as with [`Strict`](YAMLDecodingTrap::Strict).
 #[derive(Clone, Copy)]
 pub struct YAMLDecodingTrapFn {
-    // Its own contract says what a call may answer.
+    // What a call may return is said by its own contract.
     pub(crate) function: fn(u8, u8, &[u8], &mut String) -> ControlFlow<String>,
     ghost callable: { IsAlwaysCallable function },
 }
@@ -27,9 +26,9 @@ pub struct YAMLDecodingTrapFn {
 pub enum YAMLDecodingTrap {
     /// It adds nothing to the text.
     Ignore,
-    /// The first one stops, with the message `Invalid character sequence at {place}: {bytes}`: its
-    /// place is counted in bytes from the input's first, the bytes are decimal numbers, as in
-    /// `Invalid character sequence at 5: [169]`.
+    /// The first one stops decoding, with the message `Invalid character sequence at {place}: {bytes}`. The place
+    /// counts bytes from the start of the input, and the bytes are decimal numbers, as in `Invalid character sequence
+    /// at 5: [169]`.
     Strict,
     /// It adds U+FFFD, the replacement character.
     Replace,
@@ -38,7 +37,7 @@ pub enum YAMLDecodingTrap {
 }
 
 impl YAMLDecodingTrapFn {
-    /// Keeps a function that may be called on everything.
+    /// Keeps a function. Condition: it may be called on everything.
     pub fn new(function: fn(u8, u8, &[u8], &mut String) -> ControlFlow<String>) -> Self
         requires { IsAlwaysCallable function }
         ensures { result.function ≡ function }

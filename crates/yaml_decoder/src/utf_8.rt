@@ -10,11 +10,11 @@ use crate::sequence::Sequence;
 struct Start {
     /// Its bits of the character.
     bits: u32,
-    /// The least byte that may stand behind it.
+    /// The least byte that may stand after it.
     low: u8,
-    /// The greatest byte that may stand behind it.
+    /// The greatest byte that may stand after it.
     high: u8,
-    /// How many bytes stand behind it.
+    /// How many bytes stand after it.
     behind: u8,
 }
 

@@ -1,4 +1,4 @@
--- Lines as they stand in a text: each but the first behind a line feed and the spaces of its level, which are two for each level.
+-- Lines as they stand in a text: each but the first after a line feed and the spaces of its level, which are two for each level.
 use Rattle.std.specs.Prelude.{ℕ, zero, suc, Bool, nat_lt, List, [], ◌∷◌, ◌++◌}
 use Rattle.std.specs.List.{list_all}
 

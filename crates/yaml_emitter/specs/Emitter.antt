@@ -6,7 +6,7 @@ use Rattle.yaml_emitter.specs.declared.emitter.YamlEmitter.{YamlEmitter}
 abbrev pub writer_of : {W : Type 0} → YamlEmitter W → W
 writer_of e = e.writer.now
 
--- whether arrays and hashes start behind their marks
+-- whether arrays and hashes start after their marks
 abbrev pub compact_of : {W : Type 0} → YamlEmitter W → Bool
 compact_of e = e.layout.compact
 

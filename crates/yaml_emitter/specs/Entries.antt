@@ -10,11 +10,11 @@ abbrev pub scalar_box : Bool → Bool → Tree → List (List ℕ)
 scalar_box multiline at_root (string s) = string_box multiline at_root s
 scalar_box multiline at_root t = spelling t ∷ []
 
--- what stands before a value, behind its mark
+-- what stands before a value, after its mark
 abbrev pub before_value : Bool → ℕ → Tree → List ℕ
 before_value blocks_lower level t = if blocks_lower && is_block t then new_line (level + 1) else codes " "
 
--- what stands behind a mark: the value's box, one level deeper
+-- what stands after a mark: the value's box, one level deeper
 abbrev pub behind_mark : Bool → ℕ → Tree → List (List ℕ) → List ℕ
 behind_mark blocks_lower level t ls = before_value blocks_lower level t ++ stacked (level + 1) ls
 
@@ -26,7 +26,7 @@ before_entry is_first level = if is_first then [] else new_line level
 abbrev pub item_mark : Bool → ℕ → List ℕ
 item_mark is_first level = before_entry is_first level ++ codes "-"
 
--- the colon behind a complex key
+-- the colon after a complex key
 abbrev pub second_mark : ℕ → List ℕ
 second_mark level = new_line level ++ codes ":"
 

@@ -19,7 +19,7 @@ stands c = not (is_escaped c)
 abbrev pub IsRun : List ℕ → Type 0
 IsRun text = written_escapes text ≡ text
 
--- the bytes of a text that is cut at a character, behind a run
+-- the bytes of a text that is cut at a character, after a run
 pub record IsRunCut (text run : List ℕ) (c : ℕ) (back : List ℕ) : Type 0 where
   pub stands : IsRun (chars run)
   pub whole : chars text ≡ chars run ++ c ∷ chars back

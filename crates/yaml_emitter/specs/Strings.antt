@@ -1,4 +1,4 @@
--- What a `String` holds behind what is written to it.
+-- What a `String` holds after what is written to it.
 use Rattle.std.specs.Prelude.{ℕ, ◌≡◌, List, [], ◌∷◌, ◌++◌, String}
 use Rattle.std.specs.List.{FoldsTo, concat}
 use Rattle.std.proofs.Common.{sym, ap, ◌∙◌, append_assoc, append-nil, inl, inr}
@@ -20,7 +20,7 @@ pub record HasBegun {A : Type 0} (s : String A) (text : List ℕ) (t : String A)
   pub whole : written ++ rest ≡ text
   pub grown : HasGrown s written t
 
--- So it has behind parts, one after another.
+-- So it has after parts, one after another.
 grown_by_parts : {A : Type 0} (s : String A) (parts : List (List ℕ)) (t : String A) → FoldsTo HasGrown s parts t → HasGrown s (concat parts) t
 grown_by_parts s [] t e = ap string_chars (sym e) ∙ sym (append-nil (string_chars s))
 grown_by_parts s (part ∷ parts) t p =

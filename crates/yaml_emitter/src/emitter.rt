@@ -32,10 +32,11 @@ impl From<fmt::Error> for EmitError {
     }
 }
 
-/// What a call of the emitter answers.
+/// The result of a dump.
 pub type EmitResult = Result<(), EmitError>;
 
-/// Writes trees as YAML to a writer, in one of four layouts.
+/// Writes trees as YAML to a writer. Two settings, [`compact`](YamlEmitter::compact) and
+/// [`multiline_strings`](YamlEmitter::multiline_strings), choose one of four forms.
 #[derive(Drop)]
 pub struct YamlEmitter<'a, W: Writer> {
     writer: &'a mut W,
@@ -59,8 +60,8 @@ impl<'a, W: Writer> YamlEmitter<'a, W> {
         }
     }
 
-    /// Sets whether an array or hash that is not empty starts behind a dash, a question mark or the
-    /// colon of a complex key (YAML 1.2, sections 8.2.1 and 8.2.2), and not on the next line.
+    /// With `true`, an array or hash that is not empty starts on the line of its dash, its question mark or the colon
+    /// of a complex key (YAML 1.2, sections 8.2.1 and 8.2.2). With `false`, it starts on the next line.
     pub fn compact(&mut self, compact: bool)
         ensures same_writer { writer_name self.new ≡ writer_name self.old }
         ensures writer { writer_of self.new ≡ writer_of self.old }
@@ -70,15 +71,15 @@ impl<'a, W: Writer> YamlEmitter<'a, W> {
         self.layout.compact = compact;
     }
 
-    /// Whether arrays and hashes start behind their marks.
+    /// Whether arrays and hashes start on the line of their indicator.
     pub fn is_compact(&self) -> bool
         ensures { result ≡ compact_of self.now }
     {
         self.layout.compact
     }
 
-    /// Sets whether strings of several lines are written as literal blocks (YAML 1.2, section 8.1.2),
-    /// where they would be read back as they are.
+    /// Sets whether strings of several lines are written as literal blocks (YAML 1.2, section 8.1.2). A string that
+    /// would not be read back stays in double quotes.
     pub fn multiline_strings(&mut self, multiline: bool)
         ensures same_writer { writer_name self.new ≡ writer_name self.old }
         ensures writer { writer_of self.new ≡ writer_of self.old }
@@ -95,11 +96,10 @@ impl<'a, W: Writer> YamlEmitter<'a, W> {
         self.layout.multiline
     }
 
-    /// Writes the line `---` and the tree (YAML 1.2, chapter 8), with no break at the end. `Ok` says that
-    /// the whole text was written behind what the writer holds. An `Err` comes only where the writer
-    /// refused, or where the tree has 2^62 levels or more; then a beginning of the text was written. A
-    /// `String` refuses only where memory is refused, and has then grown by that beginning alone. The settings
-    /// stay.
+    /// Writes the line `---` and the tree (YAML 1.2, chapter 8), without a line break at the end. On `Ok` the writer
+    /// has taken the whole text. An `Err` comes only if the writer refused a part of the text, or if the tree has
+    /// 2^62 levels or more; then a beginning of the text was written. A `String` refuses only if memory is refused,
+    /// and has then grown by just that beginning. The settings stay.
     pub fn dump(&mut self, doc: &Yaml) -> EmitResult
         ensures same_writer { writer_name self.new ≡ writer_name self.old }
         ensures text { WritesUnless (2 ^ 62 ≤ levels (view doc.now)) W.put_gives W.put_leaves (writer_of self.old) result

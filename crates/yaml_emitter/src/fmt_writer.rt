@@ -5,22 +5,22 @@ ghost use Rattle.yaml_emitter.specs.FmtText.{inner_of};
 use crate::writer::Writer;
 use std::fmt;
 
-/// Takes a dump to any `fmt::Write`, each part of the text by one call of its `write_str`. Behind a part that it refuses
-/// nothing is known of it.
+/// A writer over any `fmt::Write`: each part of the text is one call of its `write_str`. After a refused part nothing
+/// is known of what was written.
 #[derive(Drop)]
 pub struct FmtWriter<W> {
     inner: W,
 }
 
 impl<W> FmtWriter<W> {
-    /// A writer to what is handed over.
+    /// A writer over this value.
     pub fn new(inner: W) -> FmtWriter<W>
         ensures { inner_of result ≡ inner }
     {
         FmtWriter { inner }
     }
 
-    /// What was handed over, with what was written to it.
+    /// The value, with what was written to it.
     pub fn into_inner(self) -> W
         ensures { result ≡ inner_of self }
     {

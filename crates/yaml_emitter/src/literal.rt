@@ -95,7 +95,7 @@ fn has_marker(text: &str) -> bool
     begins_as_marker(rest)
 }
 
-// The first line, and what stands behind its line feed.
+// The first line, and what stands after its line feed.
 fn first_cut(text: &str) -> Option<(&str, &str)>
     ensures { MatchOption result (IsUnbroken (chars text.now)) (λ x. IsFirstCut text.now x.0.now x.1.now) }
 {
@@ -135,7 +135,7 @@ pub(crate) fn write_literal<W: Writer>(out: &mut W, level: usize, text: &str) ->
     write_lines(out, level, text)
 }
 
-// The last break is kept where there is one.
+// The last break is kept if there is one.
 fn write_header<W: Writer>(out: &mut W, text: &str) -> fmt::Result
     ensures { Writes W.put_gives W.put_leaves out.old result (literal_header (chars text.now)) out.new }
 {
@@ -164,7 +164,7 @@ fn write_line<W: Writer>(out: &mut W, level: usize, line: &str) -> fmt::Result
     out.put(line)
 }
 
-// An empty text behind the last break is no line.
+// An empty text after the last break is no line.
 fn write_last_line<W: Writer>(out: &mut W, level: usize, line: &str) -> fmt::Result
     ensures { Writes W.put_gives W.put_leaves out.old result (last_line level (chars line.now)) out.new }
 {

@@ -19,13 +19,13 @@ use crate::writer::{Writer, put_ascii};
 use std::fmt;
 use yaml_tree::{Array, Hash, Yaml};
 
-/// The deepest level at which an array or hash is written whose parts stand one level deeper.
+/// The deepest level at which an array or hash with parts is written: the parts stand one level deeper.
 const DEEPEST: usize = (1 << 62) - 2;
 
 /// How a tree is laid out.
 #[derive(Clone, Copy)]
 pub(crate) struct Layout {
-    /// A block may start behind a dash, a question mark or the colon of a complex key.
+    /// A block may start on the line of a dash, a question mark or the colon of a complex key.
     pub(crate) compact: bool,
     /// Strings of several lines are written as literal blocks, where they may be.
     pub(crate) multiline: bool,
@@ -159,7 +159,7 @@ fn begin_item<W: Writer>(out: &mut W, level: usize, is_first: bool) -> fmt::Resu
     put_ascii(out, "-")
 }
 
-// The colon behind a complex key stands on a line of its own.
+// The colon after a complex key stands on a line of its own.
 fn begin_second<W: Writer>(out: &mut W, level: usize) -> fmt::Result
     ensures { Writes W.put_gives W.put_leaves out.old result (second_mark level) out.new }
 {

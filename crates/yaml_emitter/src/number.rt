@@ -6,7 +6,7 @@ ghost use Rattle.yaml_emitter.specs.Writing.{Writes};
 use crate::writer::{Writer, put_ascii, put_char};
 use std::fmt;
 
-/// Writes a number's decimal digits, behind `-` where it is negative.
+/// Writes a number's decimal digits, after `-` where it is negative.
 pub(crate) fn write_integer<W: Writer>(out: &mut W, number: i64) -> fmt::Result
     ensures { Writes W.put_gives W.put_leaves out.old result (signed_decimal number) out.new }
 {

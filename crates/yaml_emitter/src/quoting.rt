@@ -124,7 +124,7 @@ fn is_reserved(text: &[u8]) -> bool
     }
 }
 
-// An infinity or what is no number, in any mixture of cases and with a sign or none.
+// An infinity or `nan`, in any mixture of cases, with a sign or without.
 #[tactic(auto, using(crate::proofs::WordLemmas::float_word))]
 fn is_float_word(text: &[u8]) -> bool
     ensures { result ≡ is_float_word text.now }

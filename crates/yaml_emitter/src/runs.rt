@@ -47,7 +47,7 @@ fn run_end<C: Class>(bytes: &[u8], from: usize) -> usize
     at
 }
 
-/// What is escaped in double quotes.
+/// The bytes that are escaped in double quotes.
 pub(crate) struct Escaped;
 
 impl Class for Escaped {
@@ -66,7 +66,7 @@ impl Class for Escaped {
     }
 }
 
-/// What is no character of ASCII that a literal block may hold.
+/// The bytes that are not an ASCII character of a literal block.
 pub(crate) struct Unprintable;
 
 impl Class for Unprintable {

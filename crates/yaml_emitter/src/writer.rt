@@ -6,35 +6,36 @@ ghost use Rattle.yaml_emitter.specs.Writing.{Wrote, Stopped, Writes};
 
 use std::fmt;
 
-/// Where a dump goes: a text that grows at its end. A `String` is one. Of another type, `put` is the one
-/// function to write. Its two relations say what a call does to the writer, and what one that is refused leaves; two
-/// more say the same of calls in a row, and two laws that they follow.
+/// Takes the text of a dump, part by part. `String` is a writer. For another type implement `put`, with two relations
+/// that say what a call does to the writer and what a refused call leaves. Two more relations say the same of several
+/// calls, and two laws connect them.
 pub trait Writer {
-    // Relates the writer before a call of `put` that answers `Ok`, the characters, and the writer after it.
+    // Relates the writer before a call of `put` that returns `Ok`, the characters, and the writer after it.
     ghost put_gives: { Self → List ℕ → Self → Type 0 };
 
-    // The same of a call that answers `Err`.
+    // The same of a call that returns `Err`.
     ghost put_leaves: { Self → List ℕ → Self → Type 0 };
 
-    // Relates the writer before some calls that all answer `Ok`, the characters of them all, and the writer after them.
+    // Relates the writer before some calls that all return `Ok`, the characters of all of them, and the writer after
+    // them.
     ghost calls_give: { Self → List ℕ → Self → Type 0 };
 
-    // Relates the writer before, a text, and the writer after some calls that wrote a beginning of it: behind these one
-    // may have been refused.
+    // Relates the writer before some calls, a text, and the writer after them, if they wrote a beginning of the text.
+    // After these one more call may have been refused.
     ghost calls_leave: { Self → List ℕ → Self → Type 0 };
 
-    /// Appends a text, or refuses.
+    /// Appends a text, or refuses it.
     fn put(&mut self, text: &str) -> fmt::Result
         ensures { Writes put_gives put_leaves self.old result (chars text.now) self.new };
 
-    // What each call gives makes up what they give together.
+    // Several calls that all return `Ok` do together what `calls_give` says.
     ghost wrote: { (w : Self) (text : List ℕ) (v : Self) → Wrote put_gives w text v → calls_give w text v };
 
-    // The same of calls that stop within the text.
+    // Calls that stop within the text do together what `calls_leave` says.
     ghost stopped: { (w : Self) (text : List ℕ) (v : Self) → Stopped put_gives put_leaves (Unit {0}) w text v → calls_leave w text v };
 }
 
-// It refuses only where memory is refused, and is then as it was.
+// A `String` refuses only if memory is refused, and is then as it was.
 impl Writer for String {
     ghost put_gives = { HasGrown };
 

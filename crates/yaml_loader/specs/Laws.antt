@@ -1,4 +1,4 @@
--- Statements over the definitions, each carried by the function of its name in `laws`.
+-- Statements over the definitions, each the contract of the function with its name in `laws`.
 use Rattle.std.specs.Prelude.{◌≡◌, List}
 use Rattle.yaml_chars.specs.Place.{Place}
 use Rattle.event_defs.specs.Event.{Ev}

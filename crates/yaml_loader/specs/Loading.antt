@@ -1,4 +1,4 @@
--- Where a loader stands, as clauses see it, and what it makes of one event more.
+-- The state of a loader, as clauses see it, and what it makes of one more event.
 -- YAML 1.2, section 3.1 (construction); the faults and what is kept of them are this project's.
 use Rattle.std.specs.Prelude.{◌≡◌, ◌⊎◌, true, Option, Some, None, IfSome, Result, Err, OnOk, OnErr, IfErr, IsOk, codes}
 use Rattle.yaml_chars.specs.Place.{Place}
@@ -41,7 +41,7 @@ kept_by (course.OutOfMemory place) = Some (want_of_memory place)
 abbrev pub kept_fault : YamlLoader → Option Fault
 kept_fault l = kept_by l.course
 
--- A fault that comes anew with an event at this place, behind which the loader would be this one: out of memory, or
+-- A new fault with an event at this place, after which the loader would be this one: out of memory, or
 -- that of an event out of nesting, where this one refuses it.
 abbrev pub IsNewFault : Fault → Place → Loader → Type 0
 IsNewFault f place l = (f ≡ want_of_memory place) ⊎ ((f ≡ event_out_of_nesting place) × (refused_at l ≡ Some place))
@@ -53,17 +53,17 @@ HasNotedKey _ = ⊥
 
 -- What a loader makes of an event at its place.
 pub record Takes (old : YamlLoader) (e : Ev) (place : Place) (result : Result (Unit {0}) Fault) (new : YamlLoader) : Type 0 where
-  -- Where the answer is good, the loader is the one behind the event, and keeps no fault.
+  -- On `Ok` the loader is the one after the event, and keeps no fault.
   pub reads : OnOk result (StandAlike (with_event_at (loader_of old) e place) (loader_of new))
   pub goes_on : OnOk result (kept_fault new ≡ None)
   -- A fault is kept, and the documents stay.
   pub keeps : IfErr result (λ f. kept_fault new ≡ Some f)
   pub documents : OnErr result (documents_of (loader_of new) ≡ documents_of (loader_of old))
-  -- One that was kept is answered again.
+  -- A fault that was kept is returned again.
   pub again : IfSome (kept_fault old) (λ f. result ≡ Err f)
   -- Any other fault has its reason.
   pub reason : IfErr result (λ f. kept_fault old ≡ None → IsNewFault f place (with_event_at (loader_of old) e place))
-  -- Once a key that came twice was noted, every event is answered well.
+  -- Once a key that came twice was noted, the result is always `Ok`.
   pub ignores : HasNotedKey (loader_of old) → IsOk result
 
 -- What a loader that is at work makes of an event which its reading refused, whatever the event was: so it takes the event.

@@ -5,7 +5,7 @@ use Rattle.event_defs.specs.Event.{Ev}
 use Rattle.yaml_loader.specs.declared.loader.YamlLoader.{YamlLoader}
 use Rattle.yaml_loader.specs.Loading.{Takes}
 
--- The second loader is the first behind these events, each of which was answered well.
+-- The second loader is the first after these events, each with `Ok`.
 pub data Reaches : YamlLoader → List (Ev × Place) → YamlLoader → Type 0 where
   here : (l : YamlLoader) → Reaches l [] l
   behind : {l m n : YamlLoader} {e : Ev} {p : Place} {es : List (Ev × Place)} → Takes l e p (Ok tt) m → Reaches m es n → Reaches l ((e, p) ∷ es) n

@@ -15,17 +15,17 @@ use Rattle.yaml_parser.specs.Parsed.{Parsed}
 use Rattle.loaded_texts.specs.TextReadAs.{IsReadAs, IsAtStart}
 use Rattle.yaml_loader.specs.Unread.{IsUnread}
 
--- A load answers just these documents, or memory was wanted.
+-- A load gives exactly these documents, or memory was refused.
 abbrev pub LoadsOnly : Result (Vec Yaml Global) Fault → List Tree → Type 0
 LoadsOnly (Ok documents) trees = items_view documents.items ≡ trees
 LoadsOnly (Err f) trees = f.memory ≡ true
 
--- A load of the text answers the documents that it is read as, or a fault that has its reason in it.
+-- A load of the text gives the documents that it is read as, or a fault whose reason is in the text.
 abbrev pub LoadsText : Bool → List ℕ → Result (Vec Yaml Global) Fault → Type 0
 LoadsText keep_tags text (Ok documents) = IsReadAs keep_tags text (items_view documents.items)
 LoadsText keep_tags text (Err f) = IsUnread keep_tags text f
 
--- Where the parser was at its start: P of whichever text it may have.
+-- If the parser was at its start: P of every text that it may have.
 abbrev pub OfTexts : Parsed → Parsed → (List ℕ → Type 0) → Type 0
 OfTexts old new P = IsAtStart old → (text : List ℕ) → MayBe new.scanner text → P text
 
@@ -37,15 +37,15 @@ OfText text P = (trees : List Tree) → IsReadAs false text trees → P trees
 abbrev pub OfJson : List ℕ → (List Tree → Type 0) → Type 0
 OfJson text P = (tree : Tree) → IsJsonText tree text → P (tree ∷ [])
 
--- P of the one tree that is laid out as the text.
+-- P of the one tree of a basic layout that is the text.
 abbrev pub OfLayout : List ℕ → (List Tree → Type 0) → Type 0
 OfLayout text P = (tree : Tree) → IsLaidOut tree text → P (tree ∷ [])
 
--- P of the trees that are laid out as the text, one a document, in any of the forms of a wider layout.
+-- P of the trees that any layout has which is the text, one for each document.
 abbrev pub OfWideLayout : List ℕ → (List Tree → Type 0) → Type 0
 OfWideLayout text P = (trees : List Tree) → AreLaidOut trees text → P trees
 
--- P of the string that is the value of the text's one quoted scalar, with line feeds alone behind it.
+-- P of the string that is the value of the text's one quoted scalar, with line feeds alone after it.
 abbrev pub OfQuoted : List ℕ → (List Tree → Type 0) → Type 0
 OfQuoted text P = (value : List ℕ) → IsQuoted value text → P (Tree.string value ∷ [])
 
@@ -53,8 +53,8 @@ OfQuoted text P = (value : List ℕ) → IsQuoted value text → P (Tree.string 
 abbrev pub OfGiven : {S : Type 0} → (S → Option ℕ → S → Type 0) → S → (List ℕ → Type 0) → Type 0
 OfGiven steps source Q = (text : List ℕ) → AlwaysYields steps (λ c. c) source text → Q text
 
--- What a load answers of a text: the documents that it is read as, or a fault that has its reason in it; so of a text that is read as
--- trees, of a JSON text, of one that is laid out, also as several documents, and of one quoted scalar just their trees, or out of memory.
+-- What a load of a text gives: the documents that it is read as, or a fault whose reason is in it. So for a text that is read as trees, for a
+-- JSON text, for a layout of one or several documents and for a text of one quoted scalar it gives exactly their trees, or out of memory.
 pub record Answers (text : List ℕ) (result : Result (Vec Yaml Global) Fault) : Type 0 where
   pub reads : LoadsText false text result
   pub texts : OfText text (LoadsOnly result)

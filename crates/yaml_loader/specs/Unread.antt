@@ -10,9 +10,9 @@ use Rattle.yaml_loader.specs.Loads.{HasNoted}
 use Rattle.loaded_texts.specs.TextEvents.{HasEvents, IsFaultOf}
 
 pub data IsUnread (keep_tags : Bool) (text : List ℕ) (f : Fault) : Type 0 where
-  -- Memory was refused, or the scanner refuses the text so, or no stream begins with its first tokens, of which the fault blames
-  -- the last.
+  -- Memory was refused; or it is the scanner's refusal of the text; or no stream begins with the text's first tokens, and the fault is
+  -- about the last of these.
   of_parser : IsFaultOf keep_tags text f → IsUnread keep_tags text f
-  -- The text has events, and a key comes twice in them, first at the fault's place: that of the event that ends its second
-  -- value, so where this is a scalar or an alias, that of its token.
+  -- The text has events in which a key comes twice. The fault has the place of the event that ends the key's second value. If that value
+  -- is a scalar or an alias, this is the place of its token.
   repeated_key : (es : List (Ev × Place)) (h : HasEvents keep_tags text es) (key : Tree) → reading h.documents ≡ Err key → HasNoted (with_events new_loader es) f.place → f.memory ≡ false → IsUnread keep_tags text f

@@ -55,7 +55,7 @@ abbrev pub with_anchors : Anchors → Step → Step
 with_anchors anchors (reads u) = reads (record u { anchors = anchors })
 with_anchors anchors s = s
 
--- What is known of a step that is refused, and of the open collections behind it. Of refused memory nothing is known.
+-- What is known of a step that is refused, and of the open collections after it. Of refused memory nothing is known.
 abbrev pub IsRefusedBy : Refusal → Step → List Opened → Type 0
 IsRefusedBy refusal.OutOfMemory s opened = Unit {0}
 IsRefusedBy refusal.OutOfNesting s opened = s ≡ out_of_nesting
@@ -77,6 +77,6 @@ Reads s result new = OnOk result (ReadsTo s (unfinished_of new))
 abbrev pub Refuses : Step → Result (Unit {0}) Refusal → Reading → Type 0
 Refuses s result new = IfErr result (λ r. IsRefusedBy r s (unfinished_of new).opened)
 
--- Behind a refusal the documents are as they were.
+-- After a refusal the documents are as they were.
 abbrev pub KeepsDocuments : Reading → Result (Unit {0}) Refusal → Reading → Type 0
 KeepsDocuments old result new = OnErr result ((unfinished_of new).documents ≡ (unfinished_of old).documents)

@@ -1,18 +1,18 @@
-//! Laws of the definitions, each carried by an empty function.
+//! Laws of the definitions, each the contract of an empty function.
 
 ghost use Rattle.yaml_loader.specs.Laws.{AlikeLoadersShowTheSame, AlikeLoadersGoOnAlike, EventsAreReadAsDefined};
 
-/// Loaders that stand alike have the same documents, and answer the same fault.
+/// Loaders that are alike have the same documents, and return the same fault.
 pub fn alike_loaders_show_the_same()
     ensures { AlikeLoadersShowTheSame }
 {}
 
-/// Loaders that stand alike stand alike behind each event.
+/// Loaders that are alike are alike after each event.
 pub fn alike_loaders_go_on_alike()
     ensures { AlikeLoadersGoOnAlike }
 {}
 
-/// An empty loader that took events one by one, each answered well, stands as the definitions say.
+/// An empty loader that took events one by one, each with `Ok`, is in the state that the definitions give.
 pub fn events_are_read_as_defined()
     ensures { EventsAreReadAsDefined }
 {}

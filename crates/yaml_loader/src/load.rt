@@ -18,7 +18,8 @@ use yaml_tokens::ScanError;
 use yaml_tree::Yaml;
 
 impl YamlLoader {
-    /// Loads all documents of a text, up to its end or its first NUL (YAML 1.2, section 3.1). An empty text has none.
+    /// Loads all documents of a text, up to its end or its first NUL (YAML 1.2, section 3.1). An empty text has no
+    /// document.
     ///
     /// # Example
     ///
@@ -30,22 +31,22 @@ impl YamlLoader {
     /// # Errors
     ///
     /// The text's first fault, with its place: a text is loaded whole or not at all. A key that comes twice in its
-    /// mapping is a fault too, which is answered where no other comes. Or memory was refused:
-    /// [`ScanError::is_out_of_memory`]. Nothing is left behind then.
+    /// mapping is a fault too, which is returned only if there is no other. Or memory was refused
+    /// ([`ScanError::is_out_of_memory`]); then all memory that the load took is freed.
     ///
-    /// # What loads for certain
+    /// # What is sure to load
     ///
     /// These texts load as their trees, unless memory is refused:
     ///
-    /// - a JSON text (RFC 8259) with TABs only among the blanks that begin a line, no escape of half a pair of UTF-16, no
-    ///   key twice in an object, and at most 255 levels;
-    /// - `---` and, below it, a tree laid out in lines: block arrays and hashes at any columns, scalars on one line or as
-    ///   literal blocks, and between the entries empty lines and comment lines, with no key twice in a hash;
-    /// - such layouts with single quotes, folded blocks, JSON arrays and objects on one line, arrays at the column of the
-    ///   key that they are the value of, comments behind what they explain, anchors and aliases, and without the first
-    ///   `---`; and several documents, each further one behind its `---`, as their trees in order;
-    /// - one scalar in single or double quotes, over any lines (YAML 1.2, sections 7.3.1 and 7.3.2), and line feeds alone
-    ///   behind it: a string, whatever it could stand for without its quotes.
+    /// - a JSON text (RFC 8259) with TABs only in the indentation of a line, no `\u` escape of a surrogate, no key
+    ///   twice in an object, and at most 255 levels;
+    /// - `---` and, below it, a tree laid out in lines: block arrays and hashes at any columns, scalars on one line
+    ///   or as literal blocks, empty lines and comment lines between the entries, and no key twice in a hash;
+    /// - the same with single quotes, folded blocks, JSON arrays and objects on one line, arrays at the column of
+    ///   their key, comments at the end of a line, anchors and aliases, and also without the first `---`; several of
+    ///   these, each further one after its `---`, load as their trees in order;
+    /// - one scalar in single or double quotes, on any number of lines (YAML 1.2, sections 7.3.1 and 7.3.2), followed
+    ///   by nothing but line feeds: it loads as a string, also if its text without quotes would be another scalar.
     pub fn load_from_str(alloc: Global, source: &str) -> Result<Vec<Yaml>, ScanError>
         ensures reads { LoadsText false (up_to_nul (chars source.now)) result }
         ensures of_cut { IfOk result (λ documents. IsReadOfCut false (up_to_nul (chars source.now)) (items_view documents.items)) }
@@ -64,10 +65,10 @@ impl YamlLoader {
         YamlLoader::load_from_parser(alloc, &mut parser)
     }
 
-    /// Loads all documents of the characters that an iterator gives, up to its first `None` or NUL. It is then left alone.
-    /// Errors and promises are those of [`YamlLoader::load_from_str`].
+    /// Loads all documents of the characters that an iterator gives, up to its first `None` or NUL. After that the
+    /// iterator is not asked again. Errors and promises are those of [`YamlLoader::load_from_str`].
     ///
-    /// A caller that proves something shows that the iterator may be asked, ends, and gives fewer than 2^63 characters.
+    /// Conditions: the iterator may be asked, ends, and gives fewer than 2^63 characters.
     pub fn load_from_iter<I: Iterator<Item = char> + Drop>(
         alloc: Global,
         source: I,
@@ -75,8 +76,8 @@ impl YamlLoader {
         requires can { I.can_next source }
         requires finite { IsFinite (I.remaining source) }
         requires few { size (I.remaining source) < 2 ^ 63 }
-        // Whatever iterator it is: of the characters that it gave, up to its end or to a NUL, with whatever might have come
-        // behind them where a fault came first.
+        // For every iterator: the clauses hold of each text that begins with the characters that it gave, or that is
+        // just these if they end with the iterator or a NUL.
         ensures given { Begins I.next_gives source (λ text. Answers text result) }
         ensures reads { OfGiven I.next_gives source (λ text. LoadsText false (up_to_nul text) result) }
         ensures of_cut { OfGiven I.next_gives source (λ text. IfOk result (λ documents. IsReadOfCut false (up_to_nul text) (items_view documents.items))) }
@@ -91,12 +92,12 @@ impl YamlLoader {
         YamlLoader::load_from_parser(alloc, &mut parser)
     }
 
-    /// Loads all documents from where a parser stands to the stream's end. An event that was peeked comes first.
+    /// Loads all documents from where a parser stands to the end of the stream. An event that was peeked comes first.
     ///
     /// # Errors
     ///
-    /// The fault that the parser meets, which it keeps. A key that comes twice in its mapping is answered only where the
-    /// parser meets none. Or memory was refused.
+    /// The parser's fault, which the parser keeps. A key that comes twice in its mapping is returned only if the
+    /// parser has no fault. Or memory was refused.
     pub fn load_from_parser<I: Iterator<Item = char>>(
         alloc: Global,
         parser: &mut Parser<I>,

@@ -12,23 +12,24 @@ use yaml_parser::{Event, MarkedEventReceiver};
 use yaml_tokens::{Problem, ScanError};
 use yaml_tree::Yaml;
 
-// How a loader goes on.
+// What a loader does with the next event.
 #[derive(Drop)]
 pub(crate) enum Course {
     Reading,
-    // A key came twice, its second value at this place; what a fault says of it. Every later event is ignored.
+    // A key came twice: the place of its second value, and the text of the fault. Every later event is ignored.
     RepeatedKey(Marker, String),
-    // The event at this place stood out of nesting: every later one is refused likewise.
+    // The event at this place was out of nesting. Every later event is refused with the same fault.
     OutOfNesting(Marker),
-    // Memory was refused at this place: so is every later event.
+    // Memory was refused at this place. Every later event is refused with the same fault.
     OutOfMemory(Marker),
 }
 
-/// Makes trees of text, by [`YamlLoader::load_from_str`] and the other two loads; or of events that are pushed into it.
+/// Makes trees from text, by [`YamlLoader::load_from_str`] and the other two loads, or from events that are pushed
+/// into it.
 ///
-/// A loader that events are pushed into has one tree for each finished document. A fault is kept: every later event is
-/// answered the same, and the documents stay. A key that comes twice in its mapping is noted, and answered by the loads
-/// alone; from then on events are ignored.
+/// A loader that events are pushed into has one tree for each finished document. A fault is kept: each later event
+/// gets the same fault, and the documents stay. A key that comes twice in its mapping is noted; later events are
+/// ignored, and only the loads return it as a fault.
 #[derive(Drop)]
 pub struct YamlLoader {
     pub(crate) reading: Reading,
@@ -47,14 +48,14 @@ impl YamlLoader {
         }
     }
 
-    /// The documents that are finished.
+    /// The finished documents.
     pub fn documents(&self) -> &[Yaml]
         ensures { items_view result.now ≡ documents_of (loader_of self.now) }
     {
         self.reading.documents.as_slice()
     }
 
-    // The event at this place isn't read.
+    // Stops at the event at this place, which was refused.
     #[cold]
     #[inline(never)]
     fn stop(&mut self, refusal: Refusal, mark: Marker) -> Result<(), ScanError>
@@ -109,12 +110,13 @@ pub(crate) fn out_of_nesting(mark: Marker) -> ScanError
 impl MarkedEventReceiver for YamlLoader {
     ghost takes = { Takes };
 
-    /// Takes one more event.
+    /// Adds one more event.
     ///
     /// # Errors
     ///
-    /// `event out of nesting`, at `mark`: an end without its start, a second root node, an end of a mapping whose last
-    /// key has no value, or a document's end while a collection is open. Or memory was refused. Both are kept.
+    /// `event out of nesting`, at `mark`: an end without its start, a second root node, the end of a mapping whose
+    /// last key has no value, or a document's end while a collection is open. Or memory was refused. Both faults are
+    /// kept.
     #[inline(always)]
     fn on_event(&mut self, ev: Event, mark: Marker) -> Result<(), ScanError>
         ensures { Takes self.old (ev_of ev) mark result self.new }

@@ -17,8 +17,8 @@ use yaml_tokens::TScalarStyle;
 use yaml_tree::{Array, Hash, Yaml};
 
 impl Reading {
-    /// Takes one event more. Behind a refusal only the documents count, and behind that of a repeated key the
-    /// mapping that has it.
+    /// Adds one more event. After a refusal only the documents count; after a repeated key also the mapping that has
+    /// it.
     #[inline(always)]
     pub(crate) fn take(&mut self, event: Event) -> Result<(), Refusal>
         ensures ok { Reads (with_event (unfinished_of self.old) (ev_of event)) result self.new }
@@ -140,8 +140,8 @@ impl Reading {
         }
     }
 
-    /// A copy of the finished node with this anchor, or `BadValue` where there is none: a node is not finished while an alias
-    /// stands inside it.
+    /// A copy of the finished node with this anchor, or `BadValue` if there is none. A node is not finished while an
+    /// alias stands inside it.
     fn aliased(&self, number: usize) -> Result<Yaml, AllocError>
         ensures { IfOk result (λ node. view node ≡ aliased number (unfinished_of self.now).anchors) }
     {
@@ -151,7 +151,7 @@ impl Reading {
         }
     }
 
-    /// A complete node with its anchor, where the number isn't 0.
+    /// A complete node with its anchor, if the number is not 0.
     #[inline(always)]
     fn insert_anchored(&mut self, anchor: usize, node: Yaml) -> Result<(), Refusal>
         ensures ok { let u = unfinished_of self.old in Reads (with_node anchor (view node) u u.opened) result self.new }

@@ -29,7 +29,7 @@ pub struct Reading {
     pub(crate) anchors: BTreeMap<usize, Yaml>,
 }
 
-/// Why an event isn't read.
+/// Why an event is not read.
 #[derive(Clone, Copy, Debug)]
 pub enum Refusal {
     OutOfMemory,

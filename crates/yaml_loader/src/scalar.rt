@@ -13,7 +13,7 @@ use yaml_tree::{Yaml, is_real};
 // The tags of the core schema begin so (YAML 1.2, section 10.3).
 const CORE_PREFIX: &str = "tag:yaml.org,2002:";
 
-/// What a scalar stands for. One that isn't plain is a string; a plain one is read by its tag, where it has one.
+/// The tree of a scalar. A scalar that is not plain is a string. A plain one is read by its tag, if it has one.
 pub(crate) fn scalar_tree(text: String, style: TScalarStyle, tag: Option<Tag>) -> Yaml
     ensures { view result ≡ scalar_tree (string_chars text) (style_of style) (perhaps_tag_of tag) }
 {

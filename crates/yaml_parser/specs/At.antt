@@ -51,7 +51,7 @@ IsPending names g = Unit {0}
 
 -- ---- productions
 
--- It reads this production; these events were given, and these are the names behind them.
+-- It reads this production; these events were given, and these are the names after them.
 pub record At {T : Type 0} (g : Goal) (p : Reader T) (names : Names) (given : List (Ev × Place)) : Type 0 where
   pub raw : List Raw
   pub stands : Stands g p.stack (taken_toks p.tokens) (peeked_tok p.tokens) raw

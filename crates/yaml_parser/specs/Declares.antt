@@ -1,4 +1,4 @@
--- What one more directive comes to, behind those that were read.
+-- What one more directive comes to, after those that were read.
 use Rattle.std.specs.Prelude.{◌≡◌, ℕ, List, [], ◌∷◌, ◌++◌, Bool, false, Result, Ok, Err}
 use Rattle.yaml_chars.specs.Place.{Place}
 use Rattle.yaml_tokens.specs.declared.problem.Fault.TheVariants.{OutOfMemory}
@@ -13,12 +13,12 @@ use Rattle.yaml_parser.specs.declared.tokens.Stop.{Stop}
 use Rattle.yaml_parser.specs.declared.tokens.Stop.TheVariants as stop
 use Rattle.yaml_parser.specs.Named.{IsNamed, IsOwn}
 
--- The directives were read, and the names are those behind them.
+-- The directives were read, and the names are those after them.
 pub record HasRead (code : Names) (keep : Bool) (names : defs.Names) (read : List Directive) : Type 0 where
   pub named : IsNamed code (at_document keep names read)
   pub own : IsOwn code read
 
--- A handle more is declared; or it was declared before, and so whatever may stand behind it has it
+-- A handle more is declared; or it was declared before, and so whatever may stand after it has it
 -- twice. The fault's place is the mark.
 abbrev pub Declares : Place → Names → Bool → defs.Names → List Directive → (handle prefix : List ℕ) → Result (Unit {0}) Stop → Type 0
 Declares mark code keep names read h p (Ok u) =

@@ -14,8 +14,8 @@ abbrev pub listed : Option Token → List Token
 listed None = []
 listed (Some t) = t ∷ []
 
--- The tokens taken are some before and at most one more. A stream begins with those before and with the events read, and
--- each stream that begins with the tokens taken begins with the events read.
+-- The tokens taken are some before and at most one more. Some stream begins with those before and with the events read. Each
+-- stream that begins with the tokens taken begins with the events read.
 pub record Follows (p : Parsed) : Type 0 where
   pub before : List Token
   pub last : Option Token
@@ -23,7 +23,7 @@ pub record Follows (p : Parsed) : Type 0 where
   pub begins : BeginsPlaced p.keep_tags before (read p)
   pub only : Foretells p.keep_tags (toks p.scanner.given) (events_of (read p))
 
--- The tokens taken are some before and the last. A stream begins with those before and with the events read, and none with all.
+-- The tokens taken are some before and the last. Some stream begins with those before and with the events read. No stream begins with all of them.
 pub record Refused (p : Parsed) : Type 0 where
   pub before : List Token
   pub last : Token
@@ -31,7 +31,7 @@ pub record Refused (p : Parsed) : Type 0 where
   pub begins : BeginsPlaced p.keep_tags before (read p)
   pub none : NoneBegins p.keep_tags (toks p.scanner.given)
 
--- The tokens taken are a stream, whose events were read, and none goes on behind it.
+-- The tokens taken are a whole stream, whose events were read. No stream goes on after it.
 pub record IsWhole (p : Parsed) : Type 0 where
   pub stream : IsPlacedStream p.keep_tags p.scanner.given (read p)
   pub only : (ts : List Tok) (es : List Ev) → IsStream p.keep_tags (toks p.scanner.given ++ ts) es → (ts ≡ []) × (es ≡ events_of (read p))

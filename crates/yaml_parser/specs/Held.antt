@@ -19,7 +19,7 @@ abbrev pub goal_after : Bool → Goal
 goal_after true = at.ended
 goal_after false = at.done
 
--- These events were read, and the reader stands behind them; or a fault was met there.
+-- These events were read, and the reader stands after them; or a fault was met there.
 abbrev pub IsHeld : {T : Type 0} → Reader T → List (Ev × Place) → Option Kept → Type 0
 IsHeld p read None = (names : Names) × At (goal_after (has_end read)) p names read
 IsHeld p read (Some k) = (has_end read ≡ false) × Faulted p read k.stop

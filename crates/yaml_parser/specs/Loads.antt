@@ -20,7 +20,7 @@ pub data Receives {R : Type 0} (takes : R → Ev → Place → Result (Unit {0})
   no_event : {r : R} → Receives takes r [] r
   one_event : {r s t : R} {es : List (Ev × Place)} (e : Ev) (p : Place) → Receives takes r es s → takes s e p (Ok tt) t → Receives takes r (es ++ (e, p) ∷ []) t
 
--- How a call ends whose run is this, behind the parser that gave its answers; and whether that one keeps a fault.
+-- How a call ends whose run is this, after the parser that gave its answers; and whether that one keeps a fault.
 pub data EndsSo {R : Type 0} (takes : R → Ev → Place → Result (Unit {0}) Fault → R → Type 0) (r : R) (l : Loaded Fault) (behind : Parsed) : Result (Unit {0}) Fault → Parsed → R → Type 0 where
   well : {s : R} → l.ending ≡ run.well → behind.fault ≡ None → Receives takes r l.pushed s → EndsSo takes r l behind (Ok tt) behind s
   faulted : {s : R} {f : Fault} → l.ending ≡ run.faulted f → behind.fault ≡ Some f → Receives takes r l.pushed s → EndsSo takes r l behind (Err f) behind s
@@ -54,16 +54,16 @@ pub record Going {R : Type 0} (takes : R → Ev → Place → Result (Unit {0}) 
 abbrev pub Stands : {R : Type 0} → (R → Ev → Place → Result (Unit {0}) Fault → R → Type 0) → Bool → Parsed → R → run.Standing → Parsed → R → Type 0
 Stands takes multi old r at now s = Going takes multi old r (load_from at multi) now s
 
--- behind the stream's start
+-- after the stream's start
 abbrev pub StartsSo : {R : Type 0} → (R → Ev → Place → Result (Unit {0}) Fault → R → Type 0) → Bool → Parsed → R → Result (Unit {0}) Fault → Parsed → R → Type 0
 StartsSo takes multi old r (Ok u) now s = Stands takes multi old r run.between now s
 StartsSo takes multi old r (Err f) now s = Loads takes multi old r (Err f) now s
 
--- how a run goes on behind a document
+-- how a run goes on after a document
 abbrev pub behind_document : Bool → List (Answer Fault) → Loaded Fault
 behind_document multi rest = if multi then load_from run.between multi rest else ends run.well 0
 
--- behind the document's end
+-- after the document's end
 abbrev pub IsBehind : {R : Type 0} → (R → Ev → Place → Result (Unit {0}) Fault → R → Type 0) → Bool → Parsed → R → Result (Unit {0}) Fault → Parsed → R → Type 0
 IsBehind takes multi old r (Ok u) now s = Going takes multi old r (behind_document multi) now s × (now.fault ≡ None)
 IsBehind takes multi old r (Err f) now s = Loads takes multi old r (Err f) now s

@@ -12,7 +12,7 @@ use Rattle.yaml_parser.specs.declared.names.Names.{Names}
 abbrev pub prefix_of : Declaration → List ℕ
 prefix_of d = string_chars d.prefix
 
--- whether a handle's declaration, where there is one, came behind so many
+-- whether a handle's declaration, where there is one, came after so many
 abbrev pub is_own : ℕ → Option Declaration → Bool
 is_own earlier None = false
 is_own earlier (Some d) = nat_lt earlier d.number

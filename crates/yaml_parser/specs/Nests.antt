@@ -17,11 +17,11 @@ AreResolved [] [] = Unit {0}
 AreResolved (r ∷ rs) (e ∷ es) = ((names : Names) × (resolved_event names r ≡ Some e)) × AreResolved rs es
 AreResolved _ _ = ⊥
 
--- whether a document is open behind an event, where one was open before it or was not
+-- whether a document is open after an event, where one was open before it or was not
 abbrev pub opened : Ev → Bool → Bool
 opened e b = is_document_start e || (b && not (is_document_end e))
 
--- whether a document is open behind these events
+-- whether a document is open after these events
 abbrev pub is_open : Bool → List Ev → Bool
 is_open b [] = b
 is_open b (e ∷ es) = is_open (opened e b) es

@@ -51,7 +51,7 @@ abbrev pub has_end : List (Ev × Place) → Bool
 has_end [] = false
 has_end (e ∷ es) = is_stream_end e.0 || has_end es
 
--- The events that were read: those given, and the one that waits. Behind the stream's end nothing more is noted.
+-- The events that were read: those given, and the one that waits. After the stream's end nothing more is noted.
 abbrev pub read_so : (given : List (Ev × Place)) → (ended : Bool) → (ahead : Option (Ev × Place)) → List (Ev × Place)
 read_so given true ahead = given
 read_so given false None = given

@@ -32,7 +32,7 @@ pub record Has (names : Names) (o : Option written.Properties) (p : Option Prope
   pub anchor : written.perhaps_anchor_of o ≡ name_of p
   pub tag : perhaps_resolved names.handles (written.perhaps_tag_of o) ≡ Some (kept_tag p)
 
--- what a content comes to, behind these properties
+-- what a content comes to, after these properties
 abbrev pub ReadsBehind : {T : Type 0} → Place → Option Properties → Reader T → Reader T → Result (Event × chars.Place) Stop → Type 0
 ReadsBehind p properties old new result =
     (o : Option written.Properties) (names : Names) (given : List (Ev × chars.Place)) → Has names o properties → At (at.behind p o) old names given → Answers new given result

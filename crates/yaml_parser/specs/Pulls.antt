@@ -26,7 +26,7 @@ pub record IsSound (p : Parsed) : Type 0 where
   pub follows : p.steady ≡ true → Follows p
   pub whole : p.steady ≡ true → has_end (read p) ≡ true → IsWhole p
 
--- An event is given, the one that waited if one did. Behind the stream's end that end comes again, and is not noted.
+-- An event is given, the one that waited if one did. After the stream's end that end comes again, and is not noted.
 pub record GivesEvent (old : Parsed) (e : Ev × Place) (new : Parsed) : Type 0 where
   pub given : new.given ≡ old.given ++ (if old.ended then [] else e ∷ [])
   pub ended : new.ended ≡ old.ended || is_stream_end e.0
@@ -77,7 +77,7 @@ abbrev pub Looks : Parsed → Result (Unit {0}) Fault → Parsed → Type 0
 Looks old (Ok u) new = Waits old new
 Looks old (Err f) new = GivesFault old f new
 
--- This event waits behind a look.
+-- This event waits after a look.
 abbrev pub ShowsNext : Parsed → Ev × Place → Type 0
 ShowsNext old e = (new : Parsed) × Waits old new × (new.ahead ≡ Some e)
 

@@ -27,7 +27,7 @@ weights (s ∷ ss) = weight s + weights ss
 abbrev pub work : {T : Type 0} → Reader T → ℕ
 work p = 4 * left p.tokens + weights p.stack
 
--- by how much a content lowers the bound, behind these properties
+-- by how much a content lowers the bound, after these properties
 abbrev pub owed : {P : Type 0} → Option P → ℕ
 owed None = 2
 owed (Some p) = 0

@@ -30,7 +30,7 @@ impl<T: Iterator<Item = char>> Reader<T> {
         }
     }
 
-    /// Behind a `-`.
+    /// After a `-`.
     #[inline(always)]
     fn block_sequence_item(&mut self) -> Answer
         ensures answers { Reads at.entry self.old self.new result }
@@ -62,7 +62,7 @@ impl<T: Iterator<Item = char>> Reader<T> {
         }
     }
 
-    /// Behind a `-`.
+    /// After a `-`.
     #[inline(always)]
     pub(crate) fn indentless_sequence_item(&mut self) -> Answer
         ensures answers { Reads at.dashed self.old self.new result }
@@ -130,7 +130,7 @@ impl<T: Iterator<Item = char>> Reader<T> {
         }
     }
 
-    /// Behind a key.
+    /// After a key.
     #[inline(always)]
     pub(crate) fn block_mapping_value(&mut self) -> Answer
         ensures answers { Reads at.after_key self.old self.new result }

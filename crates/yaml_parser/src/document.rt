@@ -49,7 +49,7 @@ impl<T: Iterator<Item = char>> Reader<T> {
         Ok(next)
     }
 
-    /// Behind the stream's start or `...`.
+    /// After the stream's start or `...`.
     pub(crate) fn document(&mut self) -> Answer
         ensures answers { Reads at.documents self.old self.new result }
         ensures work { OnOk result (work self.new < work self.old + 4) }
@@ -69,7 +69,7 @@ impl<T: Iterator<Item = char>> Reader<T> {
         }
     }
 
-    /// Behind a document without `...`.
+    /// After a document without `...`.
     pub(crate) fn explicit_document(&mut self) -> Answer
         ensures answers { Reads at.explicit self.old self.new result }
         ensures work { OnOk result (work self.new < work self.old + 1) }
@@ -100,7 +100,7 @@ impl<T: Iterator<Item = char>> Reader<T> {
         }
     }
 
-    /// A document with directives, of which the first is looked at.
+    /// A document with directives. The first directive was looked at.
     fn directed_document(&mut self, kind: Kind) -> Answer
         requires looks { IsOfKind kind self.old.tokens.peeked }
         requires directive { is_directive kind ≡ true }
@@ -173,7 +173,7 @@ impl<T: Iterator<Item = char>> Reader<T> {
         Ok(())
     }
 
-    /// Behind `---`.
+    /// After `---`.
     pub(crate) fn document_content(&mut self) -> Answer
         ensures answers { Reads at.content self.old self.new result }
         ensures work { OnOk result (work self.new < work self.old + 3) }
@@ -192,7 +192,7 @@ impl<T: Iterator<Item = char>> Reader<T> {
         }
     }
 
-    /// Behind a document's node.
+    /// After a document's node.
     pub(crate) fn document_end(&mut self) -> Answer
         ensures answers { Reads at.after self.old self.new result }
         ensures work { OnOk result (work self.new < work self.old + 2) }

@@ -7,10 +7,10 @@ ghost use Rattle.yaml_parser.specs.Shown.{ev_of, tag_of, perhaps_tag_of};
 use std::alloc::{AllocError, Global};
 use yaml_tokens::{ScanError, TScalarStyle};
 
-/// A piece of a stream's structure, as a parser gives it (YAML 1.2, section 3.1.2). A start and its end enclose the events
-/// between them; a mapping has a key's events and then its value's, by turns.
+/// A piece of a stream's structure, as a parser gives it (YAML 1.2, section 3.1.2). A start and its end enclose the
+/// events between them. A mapping has the events of a key and then of its value, in turn.
 ///
-/// An anchor is its number, counted from 1 over the stream, or 0 where there is none.
+/// An anchor is its number, counted from 1 over the stream, or 0 if there is none.
 #[derive(Debug, PartialEq, Eq, Drop)]
 pub enum Event {
     /// Never given.
@@ -21,9 +21,9 @@ pub enum Event {
     StreamEnd,
     /// Before a document's root.
     DocumentStart,
-    /// Behind a document's root.
+    /// After a document's root.
     DocumentEnd,
-    /// The number of the anchor that is meant.
+    /// The number of the anchor that the alias means.
     Alias(usize),
     /// Text, style, anchor and tag.
     Scalar(String, TScalarStyle, usize, Option<Tag>),
@@ -42,7 +42,7 @@ pub struct Tag {
     pub suffix: String,
 }
 
-/// The next event and its place, or the fault that stands in its way.
+/// The next event and its place, or a fault.
 pub type ParseResult = Result<(Event, yaml_chars::Marker), ScanError>;
 
 #[tactic(auto, using(yaml_chars::proofs::TextLemmas::string_chars_same))]
@@ -53,7 +53,7 @@ pub(crate) fn copied(alloc: Global, text: &String) -> Result<String, AllocError>
 }
 
 impl Tag {
-    /// A copy, equal to the tag. An `Err` comes only where memory was refused.
+    /// A copy, equal to the tag. An `Err` comes only if memory was refused.
     pub fn clone(&self, alloc: Global) -> Result<Tag, AllocError>
         ensures { IfOk result (λ t. tag_of t ≡ tag_of self.now) }
     {
@@ -74,7 +74,7 @@ fn perhaps_clone(alloc: Global, tag: &Option<Tag>) -> Result<Option<Tag>, AllocE
 }
 
 impl Event {
-    /// A copy, equal to the event. An `Err` comes only where memory was refused.
+    /// A copy, equal to the event. An `Err` comes only if memory was refused.
     pub fn clone(&self, alloc: Global) -> Result<Event, AllocError>
         ensures { IfOk result (λ e. ev_of e ≡ ev_of self.now) }
     {
@@ -102,7 +102,7 @@ impl Event {
         }
     }
 
-    /// A scalar of which only properties are written.
+    /// A scalar that has properties and no text.
     #[tactic(auto, using(yaml_chars::proofs::TextLemmas::string_chars_nil))]
     pub(crate) fn empty_with(alloc: Global, anchor: usize, tag: Option<Tag>) -> Event
         ensures { ev_of result ≡ Ev.scalar [] Style.plain anchor (perhaps_tag_of tag) }

@@ -27,7 +27,7 @@ impl<T: Iterator<Item = char>> Reader<T> {
         }
     }
 
-    /// Behind an item.
+    /// After an item.
     #[inline(always)]
     pub(crate) fn flow_sequence_entry(&mut self) -> Answer
         ensures answers { Reads at.more_items self.old self.new result }
@@ -46,7 +46,7 @@ impl<T: Iterator<Item = char>> Reader<T> {
         }
     }
 
-    /// Behind a comma.
+    /// After a comma.
     #[inline(always)]
     fn flow_sequence_next(&mut self) -> Answer
         ensures answers { Reads at.comma_items self.old self.new result }
@@ -100,7 +100,7 @@ impl<T: Iterator<Item = char>> Reader<T> {
         }
     }
 
-    /// Behind the key of a pair that is an item.
+    /// After the key of a pair that is an item.
     pub(crate) fn flow_pair_value(&mut self) -> Answer
         ensures answers { Reads at.pair_value self.old self.new result }
         ensures work { OnOk result (work self.new < work self.old + 3) }
@@ -120,7 +120,7 @@ impl<T: Iterator<Item = char>> Reader<T> {
         }
     }
 
-    /// Behind its `:`.
+    /// After its `:`.
     #[inline(always)]
     fn flow_pair_valued(&mut self) -> Answer
         ensures answers { Reads at.pair_valued self.old self.new result }
@@ -161,7 +161,7 @@ impl<T: Iterator<Item = char>> Reader<T> {
         }
     }
 
-    /// Behind a pair.
+    /// After a pair.
     #[inline(always)]
     pub(crate) fn flow_mapping_key(&mut self) -> Answer
         ensures answers { Reads at.more_flow_pairs self.old self.new result }
@@ -180,7 +180,7 @@ impl<T: Iterator<Item = char>> Reader<T> {
         }
     }
 
-    /// Behind a comma, which stands here.
+    /// After a comma, which stands here.
     #[inline(always)]
     fn flow_mapping_next(&mut self, comma: Marker) -> Answer
         ensures answers { Reads at.comma_flow_pairs self.old self.new result }
@@ -224,7 +224,7 @@ impl<T: Iterator<Item = char>> Reader<T> {
         }
     }
 
-    /// A key behind its `?`, or behind what stands for it.
+    /// A key after its `?`, or after what stands for it.
     #[inline(always)]
     fn flow_mapping_keyed(&mut self) -> Answer
         ensures answers { Reads at.flow_key self.old self.new result }
@@ -242,7 +242,7 @@ impl<T: Iterator<Item = char>> Reader<T> {
         }
     }
 
-    /// Behind a key.
+    /// After a key.
     #[inline(always)]
     pub(crate) fn flow_mapping_value(&mut self) -> Answer
         ensures answers { Reads at.flow_after_key self.old self.new result }
@@ -263,7 +263,7 @@ impl<T: Iterator<Item = char>> Reader<T> {
         }
     }
 
-    /// Behind a `:`, which stands here.
+    /// After a `:`, which stands here.
     #[inline(always)]
     pub(crate) fn flow_mapping_valued(&mut self, colon: Marker) -> Answer
         ensures answers { Reads at.flow_valued self.old self.new result }
@@ -279,7 +279,7 @@ impl<T: Iterator<Item = char>> Reader<T> {
         }
     }
 
-    /// Behind a node that is a key without value.
+    /// After a node that is a key without value.
     pub(crate) fn flow_mapping_empty_value(&mut self) -> Answer
         ensures answers { Reads at.flow_empty self.old self.new result }
         ensures work { OnOk result (work self.new < work self.old + 2) }

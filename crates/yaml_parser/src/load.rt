@@ -30,8 +30,8 @@ fn is_document_end(event: &Event) -> bool
 }
 
 impl<T: Iterator<Item = char>> Parser<T> {
-    /// Pushes events into a receiver, from where the parser stands: the stream's start if it was not given yet, and then
-    /// the next document's events, or with `multi` those of all documents and the stream's end.
+    /// Pushes events into a receiver, from where the parser stands: first the stream's start, if it was not given
+    /// yet; then the events of the next document, or with `multi` those of all documents and the stream's end.
     ///
     /// # Example
     ///
@@ -42,9 +42,9 @@ impl<T: Iterator<Item = char>> Parser<T> {
     ///
     /// # Errors
     ///
-    /// The fault that the parser meets, which it keeps; `did not find expected <document-start>`, at the event's place,
-    /// where the parser stands inside a document. Or what the receiver answered: the parser then keeps no fault, and
-    /// stands behind the event that was pushed.
+    /// The parser's fault, which it keeps. `did not find expected <document-start>`, at the event's place, if the
+    /// parser stands inside a document. Or the error that the receiver returned: the parser then keeps no fault, and
+    /// stands after the event that was pushed.
     pub fn load<R: MarkedEventReceiver>(
         &mut self,
         recv: &mut R,
@@ -84,8 +84,8 @@ impl<T: Iterator<Item = char>> Parser<T> {
         Ok(())
     }
 
-    /// Pushes the events of a document whose start was given, up to its end. The stream's end comes
-    /// in no document.
+    /// Pushes the events of a document whose start was given, up to its end. The stream does not end inside a
+    /// document.
     fn load_document<R: MarkedEventReceiver>(&mut self, recv: &mut R) -> Result<(), ScanError>
         requires { IsInside (parsed self.old) }
         ensures reads { (multi : Bool) (parser : Parsed) (receiver : R) → ReadsOn R.takes multi parser receiver (parsed self.old) recv.old result (parsed self.new) recv.new }

@@ -23,7 +23,7 @@ use yaml_tokens::{Fault, Problem};
 // What `!!` stands for where it is not declared (YAML 1.2, section 6.8.2.1).
 const CORE_PREFIX: &str = "tag:yaml.org,2002:";
 
-/// Sets what is kept under a name, and gives what was kept there. An `Err` changes nothing that is kept.
+/// Sets the value of a name, and gives its old value. An `Err` changes no value.
 fn put<V: Drop>(
     map: &mut BTreeMap<String, V>,
     key: String,
@@ -38,7 +38,7 @@ fn put<V: Drop>(
     }
 }
 
-/// Whether this stands for a directive of another name.
+/// Whether this is a directive other than `%YAML` and `%TAG`.
 fn declares_nothing(handle: &String, prefix: &String) -> bool
     ensures yes { result ≡ true → (string_chars handle.now ≡ []) × (string_chars prefix.now ≡ []) }
     ensures no { result ≡ false → string_chars handle.now ≡ [] → string_chars prefix.now ≡ [] → ⊥ }
@@ -110,7 +110,7 @@ impl Names {
         }
     }
 
-    /// Declares a handle. A document may declare each but once.
+    /// Declares a handle. A document may declare each handle only once.
     pub fn declare(&mut self, mark: Marker, handle: String, prefix: String) -> Result<(), Stop>
         ensures keep { self.new.keeping ≡ self.old.keeping }
         ensures declares { (keep : Bool) (names : defs.Names) (read : List Directive) → HasRead self.old keep names read → Declares mark self.new keep names read (string_chars handle) (string_chars prefix) result }
@@ -129,7 +129,7 @@ impl Names {
         Ok(())
     }
 
-    /// Whether a declaration, where there is one, is of this document.
+    /// Whether a declaration, if there is one, is of this document.
     fn is_own(&self, declaration: &Option<Declaration>) -> bool
         ensures { result ≡ is_own self.now.earlier declaration.now }
     {
@@ -180,7 +180,7 @@ impl Names {
         Err(Stop::Own(Fault::At(Problem::UndeclaredHandle, mark)))
     }
 
-    /// Numbers an anchor, where there is one.
+    /// Numbers an anchor, if there is one.
     pub fn register(&mut self, anchor: Option<String>) -> Result<usize, Stop>
         ensures keep { self.new.keeping ≡ self.old.keeping }
         ensures value { IfOk result (λ n. (names : defs.Names) → IsNamed self.old names → n ≡ number names (option_map string_chars anchor)) }

@@ -1,4 +1,4 @@
-//! Nodes: their properties, and what may stand behind them (YAML 1.2, section 6.9).
+//! Nodes: their properties, and what may stand after them (YAML 1.2, section 6.9).
 ghost use Rattle.std.specs.Prelude.{◌≡◌, false, Some, None, ◌+◌, ◌<◌, ◌≤◌, OnOk, IfOk, IfErr, IsSome, IfSome};
 ghost use Rattle.grammar_turns.specs.Goal as at;
 ghost use Rattle.event_defs.specs.Event.{Ev};
@@ -142,7 +142,7 @@ impl<T: Iterator<Item = char>> Reader<T> {
         }
     }
 
-    /// What stands behind these properties.
+    /// What stands after these properties.
     #[inline(never)]
     fn content_behind(&mut self, place: Place, properties: Properties) -> Answer
         ensures answers { ReadsBehind place (Some properties) self.old self.new result }
@@ -154,7 +154,7 @@ impl<T: Iterator<Item = char>> Reader<T> {
         self.content(place, Some(properties), next)
     }
 
-    /// What stands behind a node's properties. `next` was looked at.
+    /// What stands after a node's properties. `next` was looked at.
     #[inline(never)]
     fn content(&mut self, place: Place, properties: Option<Properties>, next: Kind) -> Answer
         requires { IsOfKind next self.old.tokens.peeked }

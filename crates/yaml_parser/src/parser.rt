@@ -21,7 +21,7 @@ use yaml_chars::Marker;
 use yaml_chars::history::History;
 use yaml_tokens::{Fault, Problem, ScanError};
 
-/// Notes an event, but behind the stream's end none.
+/// Notes an event, unless the stream's end was given before.
 fn note(given: &mut History<(Event, Marker)>, next: &(Event, Marker), ended: bool)
     ensures { given.new.items ≡ given.old.items ++ (if ended then [] else next.now ∷ []) }
 {
@@ -30,7 +30,7 @@ fn note(given: &mut History<(Event, Marker)>, next: &(Event, Marker), ended: boo
     }
 }
 
-/// Whether the stream's end was given, this event counted.
+/// Whether the stream's end was given, by this event or before.
 fn ends(ended: bool, event: &Event) -> bool
     ensures { result ≡ ended || is_stream_end (ev_of event.now) }
 {
@@ -43,11 +43,11 @@ fn ends(ended: bool, event: &Event) -> bool
     }
 }
 
-/// Reads characters as events (YAML 1.2, chapters 6 to 9): [`next_token`](Parser::next_token) gives the next one,
-/// [`load`](Parser::load) pushes them into a receiver. It takes memory for open collections and for texts, and reads no
-/// further than it must.
+/// Reads characters as events (YAML 1.2, chapters 6 to 9). [`next_token`](Parser::next_token) gives the next event,
+/// [`load`](Parser::load) pushes events into a receiver. The parser takes memory for open collections and for texts,
+/// and reads no further than it must.
 ///
-/// A fault is kept: every later call answers it again.
+/// A fault is kept: each later call returns it again.
 #[derive(Drop)]
 pub struct Parser<T: Iterator<Item = char>> {
     pull: Pull<T>,
@@ -55,7 +55,7 @@ pub struct Parser<T: Iterator<Item = char>> {
     given: History<(Event, Marker)>,
     started: bool,
     ended: bool,
-    // Where `load` met another event than a document's start: a fault that is kept.
+    // The place where `load` met an event other than a document's start: a fault that is kept.
     misplaced: Option<Marker>,
 }
 
@@ -95,7 +95,7 @@ impl<T: Iterator<Item = char>> Parser<T> {
 
     /// A parser of the characters that an iterator gives, up to its first `None` or NUL. It takes no memory.
     ///
-    /// A caller that proves something shows that the iterator may be asked, ends, and gives fewer than 2^63 characters.
+    /// Conditions: the iterator may be asked, ends, and gives fewer than 2^63 characters.
     pub fn new(alloc: Global, src: T) -> Parser<T>
         requires can { T.can_next src }
         requires finite { IsFinite (T.remaining src) }
@@ -119,8 +119,9 @@ impl<T: Iterator<Item = char>> Parser<T> {
         }
     }
 
-    /// Sets whether a declared tag handle counts in later documents too. A new parser forgets it at its document's end
-    /// (YAML 1.2, section 6.8.2). Set it before the first event: of a change behind it, what handles mean is not promised.
+    /// Sets whether a declared tag handle counts in later documents too. By default it is forgotten at the end of its
+    /// document (YAML 1.2, section 6.8.2). Call it before the first event: after a later change, no clause says what
+    /// handles mean.
     pub fn keep_tags(mut self, value: bool) -> Self
         ensures { result ≡ record self { so_far = record (parsed self) { keep_tags = value; steady = stays_steady (parsed self) value } } }
     {
@@ -132,7 +133,7 @@ impl<T: Iterator<Item = char>> Parser<T> {
         self
     }
 
-    /// Whether the setting counts from the stream's start on, where it is made this one now.
+    /// Whether the setting counts from the start of the stream, if it is set to this value now.
     fn stays_steady(&self, value: bool) -> bool
         ensures { result ≡ stays_steady (parsed self.now) value }
     {
@@ -140,7 +141,7 @@ impl<T: Iterator<Item = char>> Parser<T> {
         keeping.steady && (self.is_fresh() || value == keeping.tags)
     }
 
-    /// Whether nothing was asked for.
+    /// Whether no event was asked for yet.
     fn is_fresh(&self) -> bool
         ensures { result ≡ is_fresh (parsed self.now) }
     {
@@ -150,11 +151,11 @@ impl<T: Iterator<Item = char>> Parser<T> {
             && self.pull.kept.is_none()
     }
 
-    /// Shows the next event and its place, which stays: the next call of `next_token` gives it.
+    /// Shows the next event and its place. The event stays: the next call of `next_token` gives it.
     ///
     /// # Errors
     ///
-    /// As [`next_token`](Parser::next_token)'s.
+    /// Those of [`next_token`](Parser::next_token).
     pub fn peek(&mut self) -> Result<&(Event, Marker), ScanError>
         ensures* after { sem 𝓛 (Rests (the_row T.row T.Iterator) self.entry (λ after. PeekLeaves self.old result after)) }
         ensures event { IfOk result (λ e. ShowsNext (parsed self.old) (placed e.now)) }
@@ -176,8 +177,8 @@ impl<T: Iterator<Item = char>> Parser<T> {
         }
     }
 
-    /// Looks at the next event: `waiting` shows it from then on, and the next call of `next_token` gives it. The two are
-    /// `peek` in two calls, for a caller that proves something.
+    /// Looks at the next event. After that `waiting` shows it, and the next call of `next_token` gives it. The two
+    /// calls do what `peek` does; use them to prove something, since a proof learns more from their contracts.
     pub fn look(&mut self) -> Result<(), ScanError>
         ensures looks { Looks (parsed self.old) result (parsed self.new) }
         ensures start { self.new.start ≡ self.old.start }
@@ -200,12 +201,12 @@ impl<T: Iterator<Item = char>> Parser<T> {
         self.current.as_ref()
     }
 
-    /// Gives the next event and its place. Behind the stream's end comes that end again, always.
+    /// Gives the next event and its place. After the end of the stream it gives that end again.
     ///
     /// # Errors
     ///
-    /// The first fault of the text, at its place: it is kept, and every later call answers it again. The events before it
-    /// were given. Or memory was refused ([`ScanError::is_out_of_memory`]), which is kept too.
+    /// The first fault of the text, at its place. The events before it were given. Or memory was refused
+    /// ([`ScanError::is_out_of_memory`]). Either fault is kept: each later call returns it again.
     #[inline(always)]
     pub fn next_token(&mut self) -> ParseResult
         ensures pulls { Pulls (parsed self.old) (answer_of result) (parsed self.new) }
@@ -259,7 +260,7 @@ impl<T: Iterator<Item = char>> Parser<T> {
         next
     }
 
-    /// Does nothing. A proof learns from it that what was read is what the iterator gave.
+    /// Does nothing. A proof learns from it that the characters read are those that the iterator gave.
     pub fn note(&self)
         ensures came { CameFrom T.next_gives self.now.start (parsed self.now).scanner.taken (parsed self.now).scanner.done }
         ensures no_nul { HasNoNul (parsed self.now).scanner.taken }
@@ -275,7 +276,7 @@ impl<T: Iterator<Item = char>> Parser<T> {
         self.started
     }
 
-    /// Keeps the fault of an event that stands where a document must start, and which was given.
+    /// Keeps the fault of an event that was given where a document must start.
     pub(crate) fn misplace(&mut self, mark: Marker) -> ScanError
         requires none { (parsed self.old).ahead ≡ None }
         requires going { (parsed self.old).ended ≡ false }

@@ -48,7 +48,7 @@ impl<T: Iterator<Item = char>> Pull<T> {
         }
     }
 
-    /// The next event. Behind the stream's end comes that end again.
+    /// The next event. After the stream's end comes that end again.
     #[inline(always)]
     pub fn next(&mut self) -> ParseResult
         ensures continues { (read : List (Ev × Place)) → IsHeld self.old.reader read self.old.kept → Continues self.old read result self.new }

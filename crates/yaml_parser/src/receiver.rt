@@ -7,24 +7,25 @@ use crate::event::Event;
 use yaml_chars::Marker;
 use yaml_tokens::ScanError;
 
-/// Takes the events that a parser pushes by [`load`](crate::Parser::load). An impl writes `on_event` alone.
+/// Takes the events that a parser pushes by [`load`](crate::Parser::load). Implement `on_event`.
 pub trait EventReceiver {
-    // What one call does: the receiver before it, the event, the answer, and the receiver behind it.
+    // What one call does: the receiver before it, the event, the result, and the receiver after it.
     ghost takes: { Self → Ev → Result (Unit {0}) Fault → Self → Type 0 } = { λ _ _ _ _. Unit {0} };
 
-    /// Takes an event. An `Err` stops the parser's call.
+    /// Takes an event. An `Err` stops the call of `load`, which returns it.
     fn on_event(&mut self, ev: Event) -> Result<(), ScanError>
         ensures { takes self.old (ev_of ev) result self.new };
 }
 
-/// Takes the events that a parser pushes by [`load`](crate::Parser::load), with their places. Each [`EventReceiver`] is one.
+/// Takes the events that a parser pushes by [`load`](crate::Parser::load), with their places. Every [`EventReceiver`]
+/// is a `MarkedEventReceiver`.
 pub trait MarkedEventReceiver {
     ghost use Rattle.yaml_chars.specs.Place.{Place};
 
-    // What one call does: the receiver before it, the event and its place, the answer, and the receiver behind it.
+    // What one call does: the receiver before it, the event and its place, the result, and the receiver after it.
     ghost takes: { Self → Ev → Place → Result (Unit {0}) Fault → Self → Type 0 } = { λ _ _ _ _ _. Unit {0} };
 
-    /// Takes an event and its place. An `Err` stops the parser's call.
+    /// Takes an event and its place. An `Err` stops the call of `load`, which returns it.
     fn on_event(&mut self, ev: Event, mark: Marker) -> Result<(), ScanError>
         ensures { takes self.old (ev_of ev) mark result self.new };
 }

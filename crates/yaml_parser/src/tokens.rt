@@ -81,7 +81,7 @@ pub struct Kept {
     pub mark: Marker,
 }
 
-/// A scanner's tokens, of which the next may have been looked at.
+/// A scanner's tokens. The next one may have been looked at.
 #[derive(Drop)]
 pub struct Tokens<T: Iterator<Item = char>> {
     pub scanner: Scanner<T>,

@@ -1,5 +1,5 @@
-//! Laws: functions whose clause is a statement about the definitions, of all trees, texts, tokens or events. They answer
-//! nothing and take no memory; but for `laid_out`, which walks its tree, their bodies are empty.
+//! Laws: functions whose clause is a theorem about the definitions. A proof calls a law to learn its theorem. A law
+//! returns nothing and takes no memory. Its body is empty, except that `laid_out` visits the nodes of its tree.
 pub use dump_layout::laws::{dumps_are_laid_out, dumps_in_turn_are_laid_out};
 pub use dumped_trees::laws::laid_out;
 pub use event_defs::laws::{

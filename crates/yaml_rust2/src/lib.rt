@@ -1,9 +1,9 @@
-//! YAML 1.2 for Rattle: text to trees and trees to text, text to events with their places, and tokens.
+//! YAML 1.2 for Rattle: text to trees and back, text to events with their places, and text to tokens.
 //!
 //! - `YamlLoader::load_from_str(alloc, text)` gives the trees of all documents.
-//! - `yaml::YamlDecoder` does so of what a reader gives, in UTF-8 or UTF-16.
+//! - `yaml::YamlDecoder` loads the bytes of a reader, in UTF-8 or UTF-16.
 //! - `YamlEmitter` writes a tree as a text, which loads as that tree.
-//! - `parser::Parser` gives events, pulled by `next_token` or pushed into a receiver by `load`.
+//! - `parser::Parser` gives events: one at a time by `next_token`, or pushed into a receiver by `load`.
 //! - `scanner::Scanner` gives tokens.
 #![tactic(auto)]
 

@@ -1,4 +1,4 @@
-//! Trees, the loader that makes them of a text, and the decoder that makes them of bytes.
+//! Trees, the loader that makes them from a text, and the decoder that makes them from bytes.
 pub use yaml_bytes::{LoadError, YamlDecoder};
 pub use yaml_decoder::{YAMLDecodingTrap, YAMLDecodingTrapFn};
 pub use yaml_loader::YamlLoader;

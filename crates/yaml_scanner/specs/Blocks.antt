@@ -10,7 +10,7 @@ use Rattle.scan_model.specs.Space.{skip_spaces, skip_yaml_whitespace}
 use Rattle.scan_model.specs.Flow.{allow_key}
 use Rattle.scan_model.specs.Block.{check_dash, roll_entry, check_behind_tab}
 
--- behind a `-` that was passed
+-- after a `-` that was passed
 abbrev pub pass_dash : State → Result State Fault
 pass_dash t = lexed (space Yes t.rest t.held.place) t.held check_dash
 
@@ -27,10 +27,10 @@ begin_entry t =
     try_held remove_simple_key (roll_entry u) >>= λ v.
     Ok (on_held entered v)
 
--- behind a `?` and the space behind it
+-- after a `?` and the space after it
 abbrev pub pass_key : State → Result State Fault
 pass_key t = skip_yaml_whitespace (skip_indicator t)
 
--- behind the spaces and TABs of a `:`
+-- after the spaces and TABs of a `:`
 abbrev pub pass_tab : State → Result State Fault
 pass_tab t = lexed (space Yes t.rest t.held.place) t.held check_behind_tab

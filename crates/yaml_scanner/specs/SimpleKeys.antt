@@ -5,7 +5,7 @@ use Rattle.scan_model.specs.State.{Key}
 use Rattle.scan_model.specs.Keys.{is_far}
 use Rattle.yaml_scanner.specs.declared.keys.SimpleKey.{SimpleKey}
 
--- a key behind so many tokens that were handed out
+-- a key after so many tokens that were handed out
 abbrev pub keyed_by : ℕ → SimpleKey → Key
 keyed_by given k = record { required = k.required; number = given + k.place; place = k.mark }
 
@@ -21,7 +21,7 @@ abbrev pub is_front : Option SimpleKey → Bool
 is_front None = false
 is_front (Some k) = k.place == 0
 
--- a key behind one token more that was handed out
+-- a key after one token more that was handed out
 abbrev pub lowered : Option SimpleKey → Option SimpleKey
 lowered None = None
 lowered (Some k) = Some (record k { place = k.place - 1 })

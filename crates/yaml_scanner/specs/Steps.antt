@@ -9,7 +9,7 @@ use Rattle.scan_model.specs.State.{State, ◌>>=◌, in_flow, on_held}
 use Rattle.scan_model.specs.Space.{skip_to_next_token}
 use Rattle.scan_model.specs.Document.{adjacent_here, check_behind_quoted, fetch_block_scalar, fetch_flow_scalar, fetch_plain_scalar}
 
--- what stands behind a quoted scalar that began on a line
+-- what stands after a quoted scalar that began on a line
 unfoldable pub end_quoted : ℕ → State → Result State Fault
 end_quoted line t =
     check_behind_quoted line t >>= λ u.

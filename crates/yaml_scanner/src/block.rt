@@ -21,7 +21,7 @@ use yaml_chars::class::{is_alpha, is_blank_or_breakz, is_break, is_flow};
 use yaml_scalars::{SkipTabs, Whitespace};
 use yaml_tokens::{Fault, Problem, Token, TokenType};
 
-/// Whether a character behind a `-` is a break or a flow indicator.
+/// Whether a character after a `-` is a break or a flow indicator.
 fn begins_apart(c: char) -> bool
     ensures { result ≡ (is_break c || is_flow c) }
 {
@@ -70,7 +70,7 @@ impl<T: Iterator<Item = char>> Fetcher<T> {
         Ok(())
     }
 
-    /// An anchor or a tag at the first column must not belong to an entry there.
+    /// Refuses an entry at the first column after an anchor or a tag at the first column.
     fn check_margin(&self) -> Result<(), Fault>
         ensures ok { OnOk result (at_margin (last_property (held self.now).tokens) (held self.now).place (held self.now) ≡ Ok (held self.now)) }
         ensures fault { IfErr result (λ e. at_margin (last_property (held self.now).tokens) (held self.now).place (held self.now) ≡ Err e) }
@@ -91,7 +91,7 @@ impl<T: Iterator<Item = char>> Fetcher<T> {
         self.window.mark().col() == 0 && place.col() == 0 && self.levels.indent() > 0
     }
 
-    /// Steps over spaces and TABs behind a `-`.
+    /// Steps over spaces and TABs after a `-`.
     fn pass_dash(&mut self) -> Result<(), Fault>
         ensures does { OnOk result (Does pass_dash self.old self.new) }
         ensures fails { IfErr result (λ e. Fails pass_dash self.old self.new e) }
@@ -103,7 +103,7 @@ impl<T: Iterator<Item = char>> Fetcher<T> {
         Ok(())
     }
 
-    /// A TAB must not stand between two dashes that are indicators.
+    /// Refuses a TAB between two dashes that are indicators.
     fn check_dash(&mut self, found: Whitespace) -> Result<(), Fault>
         ensures does { OnOk result (Does (check_dash found) self.old self.new) }
         ensures fails { IfErr result (λ e. Fails (check_dash found) self.old self.new e) }
@@ -152,7 +152,7 @@ impl<T: Iterator<Item = char>> Fetcher<T> {
         }
     }
 
-    /// A level that opens no collection, for an entry on a later line, or one that begins with a flow
+    /// Opens a level without a collection, for an entry on a later line, or one that begins with a flow
     /// indicator.
     fn roll_entry(&mut self) -> Result<(), Fault>
         ensures does { OnOk result (Does entry_level self.old self.new) }
@@ -187,7 +187,7 @@ impl<T: Iterator<Item = char>> Fetcher<T> {
         Ok(())
     }
 
-    /// A key with `?` begins, and its mapping where it is the first.
+    /// Begins a key with `?`, and its mapping if the key is the first.
     #[tactic(auto, unfolding(scan_model::specs::Block::begin_key))]
     fn begin_key(&mut self) -> Result<(), Fault>
         ensures held { OnOk result (begin_key (held self.old) ≡ Ok (held self.new)) }
@@ -207,7 +207,7 @@ impl<T: Iterator<Item = char>> Fetcher<T> {
         Ok(())
     }
 
-    /// An entry of a flow sequence has a key with `?`.
+    /// Notes that an entry of a flow sequence has a key with `?`.
     fn key_entry(&mut self)
         ensures held { held self.new ≡ record (held self.old) { flow = keyed (held self.old).flow } }
         ensures moves { Moves self.old self.new 0 0 }
@@ -218,7 +218,7 @@ impl<T: Iterator<Item = char>> Fetcher<T> {
         }
     }
 
-    /// Steps over a `?` and what must stand behind it.
+    /// Steps over a `?` and what must stand after it.
     fn pass_key(&mut self) -> Result<(), Fault>
         requires ahead { 0 < self.old.window.ahead }
         requires has { HasChar self.old.window }
@@ -233,7 +233,7 @@ impl<T: Iterator<Item = char>> Fetcher<T> {
         Ok(())
     }
 
-    /// A TAB must not stand behind the space of a `?`.
+    /// Refuses a TAB after the space of a `?`.
     fn check_key_space(&self) -> Result<(), Fault>
         requires { 0 < self.now.window.ahead }
         ensures ok { OnOk result (Does check_key_space self.now self.now) }
@@ -263,7 +263,7 @@ impl<T: Iterator<Item = char>> Fetcher<T> {
         Ok(())
     }
 
-    /// An entry of a flow sequence has a `:`. The answer is whether it is the first.
+    /// Notes that an entry of a flow sequence has a `:`. The result is whether it is the first.
     fn open_pair(&mut self) -> bool
         ensures value { result ≡ opens_pair (held self.old).flow }
         ensures held { held self.new ≡ record (held self.old) { flow = paired (held self.old).flow } }
@@ -279,7 +279,7 @@ impl<T: Iterator<Item = char>> Fetcher<T> {
         }
     }
 
-    /// What must not follow a `:` and a TAB.
+    /// Refuses what must not follow a `:` and a TAB.
     fn check_value_space(&mut self) -> Result<(), Fault>
         ensures does { OnOk result (Does check_value_space self.old self.new) }
         ensures fails { IfErr result (λ e. Fails check_value_space self.old self.new e) }
@@ -293,7 +293,7 @@ impl<T: Iterator<Item = char>> Fetcher<T> {
         Ok(())
     }
 
-    /// Steps over spaces and TABs behind a `:`.
+    /// Steps over spaces and TABs after a `:`.
     fn pass_tab(&mut self) -> Result<(), Fault>
         ensures does { OnOk result (Does pass_tab self.old self.new) }
         ensures fails { IfErr result (λ e. Fails pass_tab self.old self.new e) }
@@ -305,7 +305,7 @@ impl<T: Iterator<Item = char>> Fetcher<T> {
         Ok(())
     }
 
-    /// Only TABs must not stand between a `:` and a word or a `-`.
+    /// Refuses TABs alone between a `:` and a word or a `-`.
     fn check_behind_tab(&self, found: Whitespace) -> Result<(), Fault>
         requires { 0 < self.now.window.ahead }
         ensures ok { OnOk result (Does (check_behind_tab found) self.now self.now) }
@@ -325,7 +325,7 @@ impl<T: Iterator<Item = char>> Fetcher<T> {
         !found.has_valid_yaml_ws && begins_word(self.window.ch())
     }
 
-    /// The key of a `:`, if it has one, gets its token, and its mapping a start where it is the first.
+    /// Gives the key of a `:`, if it has one, its token, and its mapping a start if the key is the first.
     fn begin_value(&mut self, mark: Marker, opens_pair: bool) -> Result<(), Fault>
         ensures held { OnOk result (value_of (top_key (held self.old).keys) mark opens_pair (held self.old) ≡ Ok (held self.new)) }
         ensures fault { IfErr result (λ e. e ≢ Fault.OutOfMemory → value_of (top_key (held self.old).keys) mark opens_pair (held self.old) ≡ Err e) }
@@ -339,7 +339,7 @@ impl<T: Iterator<Item = char>> Fetcher<T> {
         Ok(())
     }
 
-    /// The key that began without `?` gets its token, and its mapping a start where it is the first.
+    /// Gives the key that began without `?` its token, and its mapping a start if the key is the first.
     fn insert_key(&mut self, key: SimpleKey, mark: Marker, opens_pair: bool) -> Result<(), Fault>
         ensures held { OnOk result (insert_key (keyed_by self.old.tokens.given key) mark opens_pair (held self.old) ≡ Ok (held self.new)) }
         ensures fault { IfErr result (λ e. e ≢ Fault.OutOfMemory → insert_key (keyed_by self.old.tokens.given key) mark opens_pair (held self.old) ≡ Err e) }
@@ -369,7 +369,7 @@ impl<T: Iterator<Item = char>> Fetcher<T> {
         Ok(())
     }
 
-    /// A pair of a flow sequence begins before its key, which stands on the line of its `:`.
+    /// Begins a pair of a flow sequence, before its key, which stands on the line of its `:`.
     #[tactic(auto, unfolding(scan_model::specs::Block::begin_pair))]
     fn begin_pair(&mut self, key: SimpleKey, mark: Marker, opens_pair: bool) -> Result<(), Fault>
         ensures held { OnOk result (begin_pair (keyed_by self.old.tokens.given key) mark opens_pair (held self.old) ≡ Ok (held self.new)) }
@@ -389,7 +389,7 @@ impl<T: Iterator<Item = char>> Fetcher<T> {
         Ok(())
     }
 
-    /// A `:` behind a key that began with `?`, or without a key.
+    /// A `:` after a key that began with `?`, or without a key.
     fn begin_keyless_value(&mut self, mark: Marker, opens_pair: bool) -> Result<(), Fault>
         ensures held { OnOk result (begin_keyless_value mark opens_pair (held self.old) ≡ Ok (held self.new)) }
         ensures fault { IfErr result (λ e. e ≢ Fault.OutOfMemory → begin_keyless_value mark opens_pair (held self.old) ≡ Err e) }
@@ -403,7 +403,7 @@ impl<T: Iterator<Item = char>> Fetcher<T> {
         Ok(())
     }
 
-    /// A pair of a flow sequence begins, with a `:` and no key.
+    /// Begins a pair of a flow sequence that has a `:` and no key.
     fn begin_keyless_pair(&mut self, opens_pair: bool) -> Result<(), Fault>
         ensures held { OnOk result (held self.new ≡ begin_keyless_pair opens_pair (held self.old)) }
         ensures err { IfErr result (λ e. e ≡ Fault.OutOfMemory) }
@@ -418,7 +418,7 @@ impl<T: Iterator<Item = char>> Fetcher<T> {
         Ok(())
     }
 
-    /// A `:` outside flow, where a key may begin, begins a mapping, unless one stands there.
+    /// Outside flow, where a key may begin, begins a mapping at a `:`, unless one is open at its column.
     #[tactic(auto, unfolding(scan_model::specs::Block::begin_keyless_mapping))]
     fn begin_keyless_mapping(&mut self, mark: Marker) -> Result<(), Fault>
         ensures held { OnOk result (begin_keyless_mapping mark (held self.old) ≡ Ok (held self.new)) }

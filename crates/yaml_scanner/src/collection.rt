@@ -44,7 +44,7 @@ impl Collection {
         }
     }
 
-    /// How the first entry of a flow collection stands.
+    /// The state of the first entry of a flow collection.
     pub fn flow_level(self) -> FlowLevel
         ensures { result ≡ level_of self }
     {

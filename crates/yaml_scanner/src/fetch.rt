@@ -52,7 +52,7 @@ fn quoted_style(single: bool) -> TScalarStyle
     }
 }
 
-/// What may stand behind a quoted scalar.
+/// What may stand after a quoted scalar.
 #[tactic(auto, unfolding(scan_model::specs::Document::may_follow_quoted))]
 fn may_follow_quoted(in_flow: bool, same_line: bool, c: char) -> bool
     ensures { result ≡ may_follow_quoted in_flow same_line c }
@@ -87,7 +87,7 @@ impl<T: Iterator<Item = char>> Fetcher<T> {
         self.fetch_next()
     }
 
-    /// The next token, behind what stands before it and the ends of block collections.
+    /// Skips to the next token, ends the block collections that end there, and fetches the token.
     fn fetch_next(&mut self) -> Result<(), Fault>
         requires { self.old.tokens.ended ≡ false }
         ensures does { OnOk result (Does fetch_next self.old self.new) }
@@ -105,7 +105,7 @@ impl<T: Iterator<Item = char>> Fetcher<T> {
         Ok(())
     }
 
-    /// A token of a text that goes on, or the stream's end.
+    /// Fetches a token if the text goes on, else the stream's end.
     fn fetch_here(&mut self) -> Result<(), Fault>
         requires { self.old.tokens.ended ≡ false }
         ensures does { OnOk result (Does fetch_here self.old self.new) }
@@ -337,7 +337,7 @@ impl<T: Iterator<Item = char>> Fetcher<T> {
         self.fetch_block_scalar(literal)
     }
 
-    /// A directive or a document marker ends all collections.
+    /// Ends all collections, at a directive or a document marker.
     fn begin_line(&mut self) -> Result<(), Fault>
         ensures held { OnOk result (begin_line (held self.old) ≡ Ok (held self.new)) }
         ensures fault { IfErr result (λ e. e ≢ Fault.OutOfMemory → begin_line (held self.old) ≡ Err e) }
@@ -396,7 +396,7 @@ impl<T: Iterator<Item = char>> Fetcher<T> {
         Ok(())
     }
 
-    /// `...`, behind which the line has no content.
+    /// `...`, after which the line has no content.
     fn fetch_document_end(&mut self) -> Result<(), Fault>
         requires ahead { 3 ≤ self.old.window.ahead }
         requires has { HasChars 3 self.old.window }
@@ -509,8 +509,8 @@ impl<T: Iterator<Item = char>> Fetcher<T> {
         Ok(())
     }
 
-    /// Behind a quoted scalar that began on a line. To be as JSON is, a key's `:` may stand right
-    /// behind it, also on a later line.
+    /// After a quoted scalar that began on a line. To be as JSON is, a key's `:` may stand right
+    /// after it, also on a later line.
     fn end_quoted(&mut self, line: usize) -> Result<(), Fault>
         ensures does { OnOk result (Does (end_quoted line) self.old self.new) }
         ensures fails { IfErr result (λ e. Fails (end_quoted line) self.old self.new e) }
@@ -523,7 +523,7 @@ impl<T: Iterator<Item = char>> Fetcher<T> {
         Ok(())
     }
 
-    /// What may stand behind a quoted scalar that began on a line.
+    /// What may stand after a quoted scalar that began on a line.
     fn check_behind_quoted(&mut self, line: usize) -> Result<(), Fault>
         ensures does { OnOk result (Does (check_behind_quoted line) self.old self.new) }
         ensures fails { IfErr result (λ e. Fails (check_behind_quoted line) self.old self.new e) }

@@ -30,7 +30,7 @@ pub struct Fetcher<T: Iterator<Item = char>> {
     pub(crate) key_allowed: bool,
     // Whether only blanks stand before this place on its line.
     pub(crate) leading: bool,
-    // Where a `:` may stand right behind a quoted scalar or a flow collection.
+    // Where a `:` may stand right after a quoted scalar or a flow collection.
     pub(crate) adjacent_value_at: usize,
     pub(crate) started: bool,
     pub(crate) kept: Option<Kept>,

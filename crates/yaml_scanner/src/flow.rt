@@ -16,7 +16,7 @@ use yaml_chars::Marker;
 use yaml_scalars::SkipTabs;
 use yaml_tokens::{Fault, Problem, Token, TokenType};
 
-// How deep flow collections may stand one in another.
+// How many levels of flow collections there may be.
 const DEEPEST_FLOW: usize = 255;
 
 impl<T: Iterator<Item = char>> Fetcher<T> {
@@ -48,7 +48,7 @@ impl<T: Iterator<Item = char>> Fetcher<T> {
         }
     }
 
-    /// A token more.
+    /// Adds a token.
     #[inline(always)]
     pub(crate) fn push_token(&mut self, mark: Marker, kind: TokenType) -> Result<(), Fault>
         ensures held { OnOk result (held self.new ≡ push mark (tok_of kind) (held self.old)) }
@@ -76,7 +76,7 @@ impl<T: Iterator<Item = char>> Fetcher<T> {
         Ok(())
     }
 
-    /// What the start of a flow collection leaves, which may be a key.
+    /// Notes the start of a flow collection, which may be a key.
     fn begin_flow(&mut self, kind: Collection) -> Result<(), Fault>
         ensures held { OnOk result (begin_flow (level_of kind) (held self.old) ≡ Ok (held self.new)) }
         ensures fault { IfErr result (λ e. e ≢ Fault.OutOfMemory → begin_flow (level_of kind) (held self.old) ≡ Err e) }
@@ -121,7 +121,7 @@ impl<T: Iterator<Item = char>> Fetcher<T> {
         Ok(())
     }
 
-    /// The innermost flow collection ends.
+    /// Ends the innermost flow collection.
     fn end_flow(&mut self) -> Result<(), Fault>
         ensures held { OnOk result (end_flow (held self.old) ≡ Ok (held self.new)) }
         ensures fault { IfErr result (λ e. e ≢ Fault.OutOfMemory → end_flow (held self.old) ≡ Err e) }
@@ -146,7 +146,7 @@ impl<T: Iterator<Item = char>> Fetcher<T> {
         self.keys.close_level();
     }
 
-    /// A `:` may stand right behind a flow collection that is a key.
+    /// A `:` may stand right after a flow collection that is a key.
     fn adjacent_in_flow(&mut self)
         ensures held { held self.new ≡ adjacent_in_flow (held self.old) }
         ensures moves { Moves self.old self.new 0 0 }
@@ -173,7 +173,7 @@ impl<T: Iterator<Item = char>> Fetcher<T> {
         Ok(())
     }
 
-    /// An entry of the innermost flow collection ends, and another may come.
+    /// Ends an entry of the innermost flow collection; another may come.
     fn end_entry(&mut self) -> Result<(), Fault>
         ensures held { OnOk result (end_entry (held self.old) ≡ Ok (held self.new)) }
         ensures fault { IfErr result (λ e. e ≢ Fault.OutOfMemory → end_entry (held self.old) ≡ Err e) }
@@ -186,7 +186,7 @@ impl<T: Iterator<Item = char>> Fetcher<T> {
         Ok(())
     }
 
-    /// An entry of the innermost flow collection ends, and with it a pair without braces.
+    /// Ends an entry of the innermost flow collection, and with it a pair without braces.
     fn end_flow_pair(&mut self) -> Result<(), Fault>
         ensures held { OnOk result (held self.new ≡ end_flow_pair (held self.old)) }
         ensures err { IfErr result (λ e. e ≡ Fault.OutOfMemory) }
@@ -210,7 +210,7 @@ impl<T: Iterator<Item = char>> Fetcher<T> {
         }
     }
 
-    /// How the entry stands that is read at the innermost flow level.
+    /// The state of the entry that is read at the innermost flow level.
     pub(crate) fn flow_entry(&self) -> Option<FlowLevel>
         ensures { result ≡ top self.now.flow }
     {

@@ -37,7 +37,7 @@ impl<T: Iterator<Item = char>> Fetcher<T> {
             && self.levels.needs_block_end()
     }
 
-    /// The next token may be a key, where one is allowed.
+    /// Notes that the next token may be a key, if one is allowed.
     pub(crate) fn save_simple_key(&mut self)
         ensures held { held self.new ≡ save_simple_key (held self.old) }
         ensures moves { Moves self.old self.new 0 0 }
@@ -53,7 +53,7 @@ impl<T: Iterator<Item = char>> Fetcher<T> {
         }
     }
 
-    /// What might have been a key at the innermost level is none.
+    /// Gives up the possible key of the innermost level.
     pub(crate) fn remove_simple_key(&mut self) -> Result<(), Fault>
         ensures held { OnOk result (remove_simple_key (held self.old) ≡ Ok (held self.new)) }
         ensures fault { IfErr result (λ e. remove_simple_key (held self.old) ≡ Err e) }
@@ -86,8 +86,8 @@ impl<T: Iterator<Item = char>> Fetcher<T> {
         }
     }
 
-    /// A collection begins at a column, unless one stands there or the place is inside flow. Its
-    /// start goes in before that many tokens that wait, or behind all.
+    /// Begins a collection at a column, unless one is open there or the place is inside flow. Its start goes in
+    /// before that many waiting tokens, or after all of them.
     pub(crate) fn roll_indent(
         &mut self,
         col: usize,
@@ -109,7 +109,7 @@ impl<T: Iterator<Item = char>> Fetcher<T> {
         Ok(())
     }
 
-    /// A level for a collection at a column, unless one stands there.
+    /// Opens a level for a collection at a column, unless one is open there.
     fn deepen(
         &mut self,
         col: usize,
@@ -139,7 +139,7 @@ impl<T: Iterator<Item = char>> Fetcher<T> {
         self.levels.indent() < col + 1
     }
 
-    /// The start of a collection goes in before that many tokens that wait, or behind all.
+    /// Inserts the start of a collection before that many waiting tokens, or after all of them.
     fn place_start(
         &mut self,
         place: Option<usize>,
@@ -183,7 +183,7 @@ impl<T: Iterator<Item = char>> Fetcher<T> {
         !self.in_flow() && self.levels.needs_block_end()
     }
 
-    /// A level that opens no collection, one column deeper, inside a block collection.
+    /// Opens a level without a collection, one column deeper, inside a block collection.
     pub(crate) fn roll_one_col_indent(&mut self) -> Result<(), Fault>
         ensures err { IfErr result (λ e. e ≡ Fault.OutOfMemory) }
         ensures held { OnOk result (held self.new ≡ roll_one_col_indent (held self.old)) }
@@ -197,7 +197,7 @@ impl<T: Iterator<Item = char>> Fetcher<T> {
         Ok(())
     }
 
-    /// Outside flow, the levels deeper than the limit end.
+    /// Outside flow, ends the levels deeper than the limit.
     #[inline(always)]
     pub(crate) fn unroll_indent(&mut self, limit: usize) -> Result<(), Fault>
         ensures err { IfErr result (λ e. e ≡ Fault.OutOfMemory) }
@@ -234,7 +234,7 @@ impl<T: Iterator<Item = char>> Fetcher<T> {
         Ok(())
     }
 
-    /// The innermost levels that open no collection go.
+    /// Removes the innermost levels that open no collection.
     pub(crate) fn unroll_non_block_indents(&mut self)
         ensures held { held self.new ≡ unroll_non_block_indents (held self.old) }
         ensures block { ends_open self.new.levels.indents ≡ false }

@@ -20,7 +20,7 @@ pub struct SimpleKey {
     pub mark: Marker,
 }
 
-/// What may be a key, one for each flow level, and one outside flow. Clauses see the innermost
+/// The possible simple keys: one for each flow level, and one outside flow. Clauses see the innermost
 /// first.
 #[derive(Drop)]
 pub struct SimpleKeys {
@@ -88,7 +88,7 @@ fn any_front(keys: &[Option<SimpleKey>]) -> bool
     keys.iter().any(|key| is_front(*key))
 }
 
-/// What began on an earlier line, or too far back, is no key.
+/// Gives up a possible key that began on an earlier line or too far back.
 fn drop_one(key: &mut Option<SimpleKey>, mark: Marker)
     ensures { key.new ≡ still_simple mark key.old }
 {
@@ -160,7 +160,7 @@ impl SimpleKeys {
         let _ = self.levels.pop();
     }
 
-    /// What may be a key at the innermost level.
+    /// The possible key of the innermost level.
     pub fn top(&self) -> Option<SimpleKey>
         ensures { result ≡ top_simple self.now }
     {
@@ -170,7 +170,7 @@ impl SimpleKeys {
         }
     }
 
-    /// Whether what may be a key at the innermost level must be one.
+    /// Whether the possible key of the innermost level must be a key.
     #[tactic(auto, using(crate::proofs::KeyLemmas::required_top))]
     pub fn top_is_required(&self) -> bool
         ensures { (g : ℕ) → result ≡ is_required (top_key (seen g self.now)) }
@@ -178,7 +178,7 @@ impl SimpleKeys {
         is_required(self.top())
     }
 
-    /// Sets what may be a key at the innermost level.
+    /// Sets the possible key of the innermost level.
     #[tactic(auto, using(crate::proofs::StackLemmas::top_set, crate::proofs::StackLemmas::none_set))]
     pub fn set_top(&mut self, key: Option<SimpleKey>)
         ensures { self.new ≡ with_top key self.old }
@@ -189,7 +189,7 @@ impl SimpleKeys {
         }
     }
 
-    /// Keys that began on an earlier line, or too far back, are none. An `Err` changes nothing.
+    /// Gives up all possible keys that began on an earlier line or too far back. An `Err` changes nothing.
     pub fn drop_stale(&mut self, mark: Marker) -> Result<(), Fault>
         ensures ok { OnOk result ((g : ℕ) → drop_stale mark (seen g self.old) ≡ Ok (seen g self.new)) }
         ensures err { IfErr result (λ e. (g : ℕ) → drop_stale mark (seen g self.old) ≡ Err e) }
@@ -208,7 +208,7 @@ impl SimpleKeys {
         any_required(&self.levels)
     }
 
-    /// No key is open any more.
+    /// Gives up all possible keys.
     pub fn clear(&mut self)
         ensures { (g : ℕ) → seen g self.new ≡ cleared (seen g self.old) }
     {

@@ -73,7 +73,7 @@ impl Levels {
         }
     }
 
-    /// A block collection at a column. An `Err` changes nothing.
+    /// Opens a block collection at a column. An `Err` changes nothing.
     #[tactic(auto, using(crate::proofs::LevelLemmas::small_below))]
     pub fn push_block(&mut self, col: usize) -> Result<(), AllocError>
         requires { col < 2 ^ 63 }
@@ -89,7 +89,7 @@ impl Levels {
         Ok(())
     }
 
-    /// A level one column deeper than a block collection. An `Err` changes nothing.
+    /// Opens a level one column deeper than a block collection. An `Err` changes nothing.
     #[tactic(auto, using(crate::proofs::LevelLemmas::small_indent, crate::proofs::LevelLemmas::small_under))]
     pub fn push_open(&mut self) -> Result<(), AllocError>
         requires { top_needs_block_end self.old.indents ≡ true }
@@ -105,7 +105,7 @@ impl Levels {
         Ok(())
     }
 
-    /// The innermost level goes. The answer is whether it was a block collection.
+    /// Removes the innermost level. The result is whether it was a block collection.
     pub fn pop(&mut self) -> Option<bool>
         ensures { MatchOption result ((self.old.indents ≡ []) × (self.new ≡ self.old)) (λ ends. self.old.indents ≡ level self.new.indent ends ∷ self.new.indents) }
     {

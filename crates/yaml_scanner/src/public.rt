@@ -16,7 +16,7 @@ use yaml_tokens::{ScanError, ScanResult, Token};
 impl<T: Iterator<Item = char>> Scanner<T> {
     /// A scanner of the characters that an iterator gives, up to its first `None` or NUL. It takes no memory.
     ///
-    /// A caller that proves something shows that the iterator may be asked, ends, and gives fewer than 2^63 characters.
+    /// Conditions: the iterator may be asked, ends, and gives fewer than 2^63 characters.
     pub fn new(alloc: Global, iter: T) -> Scanner<T>
         requires can { T.can_next iter }
         requires finite { IsFinite (T.remaining iter) }
@@ -33,7 +33,7 @@ impl<T: Iterator<Item = char>> Scanner<T> {
         }
     }
 
-    /// The fault that was met, or `None`. It takes no memory.
+    /// The fault that is kept, or `None`. It takes no memory.
     pub fn get_error(&self) -> Option<ScanError>
         ensures { result ≡ (scanned self.now).fault }
     {
@@ -57,7 +57,7 @@ impl<T: Iterator<Item = char>> Scanner<T> {
         self.fetcher.tokens.is_over()
     }
 
-    /// Where the scanner stands: behind the characters that it read as tokens so far.
+    /// The place of the scanner: after the characters that it read as tokens so far.
     pub fn mark(&self) -> Marker
         ensures place { result ≡ (scanned self.now).place }
         ensures came { CameFrom T.next_gives self.now.start (scanned self.now).taken (scanned self.now).done }
@@ -68,12 +68,12 @@ impl<T: Iterator<Item = char>> Scanner<T> {
         self.fetcher.window.mark()
     }
 
-    /// Fetches one token or more, for [`next_token`](Scanner::next_token) to hand out. Once the stream's end was fetched,
-    /// nothing is done.
+    /// Fetches at least one token, for [`next_token`](Scanner::next_token) to hand out. Once the stream's end was
+    /// fetched, it does nothing.
     ///
     /// # Errors
     ///
-    /// The text's fault, or memory was refused. Both are kept.
+    /// The text's fault, or memory was refused. Either fault is kept.
     pub fn fetch_next_token(&mut self) -> ScanResult
         ensures given { (scanned self.new).given ≡ (scanned self.old).given }
         ensures ended { (scanned self.new).ended ≡ (scanned self.old).ended }
@@ -97,12 +97,12 @@ impl<T: Iterator<Item = char>> Scanner<T> {
         }
     }
 
-    /// Fetches tokens until the next one can be handed out, since no `Key` may come before it any more. Once the stream's end
-    /// was fetched, nothing is done.
+    /// Fetches tokens until the next one can be handed out, because no `Key` may come before it any more. Once the
+    /// stream's end was fetched, it does nothing.
     ///
     /// # Errors
     ///
-    /// The text's fault, or memory was refused. Both are kept.
+    /// The text's fault, or memory was refused. Either fault is kept.
     pub fn fetch_more_tokens(&mut self) -> ScanResult
         ensures given { (scanned self.new).given ≡ (scanned self.old).given }
         ensures ended { (scanned self.new).ended ≡ (scanned self.old).ended }
@@ -128,8 +128,9 @@ impl<T: Iterator<Item = char>> Scanner<T> {
     ///
     /// # Errors
     ///
-    /// The text's fault, or memory was refused. Both are kept and answered again; tokens that stood ready are not handed
-    /// out any more. Once the stream's end was fetched no fault comes, and no memory is taken.
+    /// The text's fault, or memory was refused. Either fault is kept: each later call returns it again, and tokens
+    /// that were ready are not handed out any more. Once the stream's end was fetched, no fault comes, and no memory
+    /// is taken.
     pub fn next_token(&mut self) -> Result<Option<Token>, ScanError>
         ensures token { IfOk result (λ o. IfSome o (λ t. HandsOut (scanned self.old) (shown t) (scanned self.new))) }
         ensures none { IfOk result (λ o. IsNone o → HandsNothing (scanned self.old) (scanned self.new)) }

@@ -11,7 +11,7 @@ use yaml_chars::Marker;
 use yaml_chars::history::History;
 use yaml_tokens::{Token, TokenType};
 
-/// The tokens that wait to be handed out. Clauses see all so far, those handed out among them.
+/// The tokens that wait to be handed out. Clauses see all tokens so far, also those handed out.
 #[derive(Drop)]
 pub struct Queue {
     given: History<Token>,

@@ -1,10 +1,10 @@
 use crate::fetcher::Fetcher;
 use std::marker::Model;
 
-/// Reads characters as tokens (YAML 1.2, chapters 5 to 9). It is an iterator of tokens, which ends at the first fault;
-/// [`next_token`](Scanner::next_token) and [`get_error`](Scanner::get_error) tell the fault.
+/// Reads characters as tokens (YAML 1.2, chapters 5 to 9). It is an iterator of tokens, which ends at the first
+/// fault. [`next_token`](Scanner::next_token) and [`get_error`](Scanner::get_error) give the fault.
 ///
-/// A fault is kept: every later call that scans answers it again.
+/// A fault is kept: each later call that scans returns it again.
 #[derive(Drop)]
 pub struct Scanner<T: Iterator<Item = char>> {
     pub(crate) fetcher: Fetcher<T>,

@@ -15,7 +15,7 @@ use yaml_scalars::{SkipTabs, Whitespace, skip_comment, skip_linebreak, skip_ws_t
 use yaml_tokens::{Fault, Problem};
 
 impl<T: Iterator<Item = char>> Fetcher<T> {
-    /// Steps over a line break. Outside flow a key may begin behind it.
+    /// Steps over a line break. Outside flow a key may begin after it.
     pub(crate) fn pass_break(&mut self)
         requires { HasChar self.old.window }
         ensures gap { Reads self.old.window self.new.window (λ a b. is_break (slice_index a 0) ≡ true → skip between a (held self.old) ≡ skip between b (held self.new)) }
@@ -121,7 +121,7 @@ impl<T: Iterator<Item = char>> Fetcher<T> {
         }
     }
 
-    /// Steps over a comment behind a TAB in the indentation.
+    /// Steps over a comment after a TAB in the indentation.
     fn end_tab_line(&mut self)
         requires ahead { 0 < self.old.window.ahead }
         requires has { HasChar self.old.window }
@@ -148,7 +148,7 @@ impl<T: Iterator<Item = char>> Fetcher<T> {
         }
     }
 
-    /// Steps over a comment. Behind a `?` it does not count as the space that must stand there.
+    /// Steps over a comment. After a `?` it does not count as the space that must stand there.
     fn pass_white_comment(&mut self)
         requires ahead { 0 < self.old.window.ahead }
         requires has { HasChar self.old.window }
@@ -160,7 +160,7 @@ impl<T: Iterator<Item = char>> Fetcher<T> {
         skip_comment(&mut self.window);
     }
 
-    /// What must stand behind a `?`: spaces, breaks and comments.
+    /// What must stand after a `?`: spaces, breaks and comments.
     #[tactic(auto, using(crate::proofs::SpaceLemmas::white_space, crate::proofs::SpaceLemmas::white_stop, crate::proofs::SpaceLemmas::white_missing), unfolding(scan_model::specs::Space::skip_yaml_whitespace))]
     pub(crate) fn skip_yaml_whitespace(&mut self) -> Result<(), Fault>
         ensures does { OnOk result (Does skip_yaml_whitespace self.old self.new) }

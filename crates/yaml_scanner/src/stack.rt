@@ -57,7 +57,7 @@ impl<X: Copy> Stack<X> {
         }
     }
 
-    /// Another item in the top's place, if there is one.
+    /// Replaces the top item, if there is one.
     #[tactic(auto, using(crate::proofs::StackLemmas::top_set, crate::proofs::StackLemmas::none_set))]
     pub fn set_top(&mut self, item: X)
         ensures { self.new ≡ with_top item self.old }

@@ -84,7 +84,7 @@ fn pull(alloc: Global, parser: &mut Parser<Chars<'_>>) -> Result<(String, bool),
     }
 }
 
-/// The same events, pulled, each behind a look where `peeks`.
+/// The same events, pulled, each after a look where `peeks`.
 pub(crate) fn pulled(alloc: Global, text: &str, peeks: bool) -> Result<String, Fail> {
     let mut parser = Parser::new_from_str(alloc, text);
     let mut lines = String::new(alloc);
@@ -121,7 +121,7 @@ fn are_beginnings_answered(alloc: Global, text: &str) -> bool {
 }
 
 /// Every row's text loads as it says, from a `&str` and from an iterator; its events are the same pushed, pulled, and
-/// pulled behind a look each; and every beginning of it is answered.
+/// pulled after a look each; and every beginning of it is answered.
 pub(crate) fn rows_hold(rt: &(impl Abort + AllocGlobal), rows: &[Row]) -> Result<(), Fail> {
     let alloc = rt.alloc();
     for (text, want) in rows {

@@ -16,16 +16,16 @@ enum Info {
     Memory,
 }
 
-/// Why a text could not be read, and where: a fault of scanner, parser or loader, or that memory was refused. It prints
-/// as `{info} at byte {index} line {line} column {col + 1}`, whose index counts characters. Two are equal where text,
-/// place and [`is_out_of_memory`](ScanError::is_out_of_memory) are.
+/// Why a text could not be read, and where: a fault of scanner, parser or loader, or that memory was refused. It
+/// prints as `{info} at byte {index} line {line} column {col + 1}`; the index counts characters. Two are equal if
+/// their text, their place and [`is_out_of_memory`](ScanError::is_out_of_memory) are equal.
 #[derive(Debug, Drop)]
 pub struct ScanError {
     mark: Marker,
     info: Info,
 }
 
-/// What a scan that gives nothing answers.
+/// The result of a call that gives no token.
 pub type ScanResult = Result<(), ScanError>;
 
 impl Model for ScanError {
@@ -39,7 +39,7 @@ impl Model for ScanError {
 }
 
 impl ScanError {
-    /// A fault with a copy of this text. An `Err` comes only where memory was refused.
+    /// A fault with a copy of this text. An `Err` comes only if memory was refused.
     pub fn new(alloc: Global, loc: Marker, info: &str) -> Result<ScanError, AllocError>
         ensures { IfOk result (λ e. e ≡ record { place = loc; text = info.now; memory = false }) }
     {
@@ -66,7 +66,7 @@ impl ScanError {
         }
     }
 
-    /// That memory was refused, at a place. It takes no memory.
+    /// The fault that memory was refused, at a place. It takes no memory.
     pub fn memory(loc: Marker) -> ScanError
         ensures { result ≡ record { place = loc; text = codes "out of memory"; memory = true } }
     {
@@ -94,14 +94,15 @@ impl ScanError {
         }
     }
 
-    /// Whether it says that memory was refused. No other fault does, whatever its text.
+    /// Whether the fault says that memory was refused. A fault of another kind does not, whatever its text.
     pub fn is_out_of_memory(&self) -> bool
         ensures { result ≡ self.now.memory }
     {
         matches!(self.info, Info::Memory)
     }
 
-    /// A copy, equal to the fault. An `Err` comes only where memory was refused; a fault of fixed text takes none.
+    /// A copy, equal to the fault. An `Err` comes only if memory was refused. The copy of a fixed text takes no
+    /// memory.
     pub fn clone(&self, alloc: Global) -> Result<ScanError, AllocError>
         ensures { IfOk result (λ e. e ≡ self.now) }
     {

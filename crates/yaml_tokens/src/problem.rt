@@ -5,7 +5,8 @@ use crate::fault::ScanError;
 use std::alloc::AllocError;
 use yaml_chars::Marker;
 
-/// What may be wrong with a stream: first what the scanner finds, then the parser, then the loader.
+/// What may be wrong with a stream: first the problems that the scanner finds, then those of the parser, then that of
+/// the loader.
 #[derive(Clone, Copy, Debug, PartialEq, Eq)]
 pub enum Problem {
     UnexpectedPercent,
@@ -179,7 +180,7 @@ impl Problem {
     }
 }
 
-/// Why scanner or parser stop: out of memory, or a problem and its place.
+/// Why scanner or parser stop: memory was refused, or a problem and its place.
 #[derive(Clone, Copy, Debug, PartialEq, Eq)]
 pub enum Fault {
     OutOfMemory,

@@ -5,7 +5,7 @@ ghost use Rattle.yaml_tokens.specs.Shown.{shown, tok_of};
 use std::alloc::{AllocError, Global};
 use yaml_chars::Marker;
 
-/// The encoding of a stream: its characters come decoded.
+/// The encoding of a stream. There is one value, since the scanner gets decoded characters.
 #[derive(Clone, Copy, Debug, PartialEq, Eq)]
 pub enum TEncoding {
     Utf8,
@@ -21,12 +21,12 @@ pub enum TScalarStyle {
     Folded,
 }
 
-/// What a block scalar keeps of the breaks at its end (YAML 1.2, section 8.1.1.2).
+/// Which line breaks at its end a block scalar keeps (YAML 1.2, section 8.1.1.2).
 #[derive(PartialEq, Eq, Drop)]
 pub enum Chomping {
     /// None.
     Strip,
-    /// The last content line's own break.
+    /// The break of the last line with content.
     Clip,
     /// All.
     Keep,
@@ -82,7 +82,7 @@ pub enum TokenType {
 }
 
 impl Token {
-    /// A copy, equal to the token. An `Err` comes only where memory was refused.
+    /// A copy, equal to the token. An `Err` comes only if memory was refused.
     pub fn clone(&self, alloc: Global) -> Result<Token, AllocError>
         ensures { IfOk result (λ t. shown t ≡ shown self.now) }
     {
@@ -98,7 +98,7 @@ fn copied(alloc: Global, text: &String) -> Result<String, AllocError>
 }
 
 impl TokenType {
-    /// A copy, equal to the token type. An `Err` comes only where memory was refused.
+    /// A copy, equal to the token type. An `Err` comes only if memory was refused.
     pub fn clone(&self, alloc: Global) -> Result<TokenType, AllocError>
         ensures { IfOk result (λ t. tok_of t ≡ tok_of self.now) }
     {

@@ -1,5 +1,5 @@
 -- What a tree feeds a hasher: the place of its variant, then its contents; a text by the bytes of its UTF-8,
--- and a 1 before each item or pair, a 0 behind the last.
+-- and a 1 before each item or pair, a 0 after the last.
 use Rattle.std.specs.Prelude.{◌++◌, encode_utf8_all}
 use Rattle.std.specs.Hash as fed
 use Rattle.std.specs.Hash.{HashWrites}

@@ -1,4 +1,4 @@
--- Statements over trees and what the code makes of them, each carried by the function of its name in `laws`.
+-- Statements over trees and what the code makes of them, each the contract of the function with its name in `laws`.
 use Rattle.std.specs.Prelude.{◌≡◌, IsTrue}
 use Rattle.tree_defs.specs.Tree.{Tree}
 use Rattle.tree_defs.specs.Order.{tree_eq}

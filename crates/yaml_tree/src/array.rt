@@ -1,4 +1,4 @@
-//! An array: nodes in a row.
+//! An array: a list of nodes.
 ghost use Rattle.std.specs.Prelude.{◌≡◌, ◌↔◌, ◌++◌, ◌∷◌, [], length, slice_get, option_map, IsTrue, IfErr, OnOk, OnErr};
 ghost use Rattle.yaml_tree.specs.View.{view, items_view};
 
@@ -8,7 +8,7 @@ use std::alloc::{AllocFailed, Global};
 use std::marker::Model;
 use std::ops::{Deref, DerefMut};
 
-/// Nodes in a row. It acts as its `Vec<Yaml>`.
+/// A list of nodes. It derefs to its `Vec<Yaml>`.
 #[cycle(yaml)]
 pub struct Array {
     pub(crate) items: Vec<Yaml>,
@@ -36,7 +36,7 @@ impl Model for Array {
     ghost size_decreases = { λ a h. omega (arith, most-items a.items.items) };
 }
 
-// A loop, so that a deep tree takes no more of the stack than a flat one.
+// This is a loop, so that a deep tree takes no more stack than a flat one.
 impl Drop for Array {
     fn drop(self) {
         let Array { items } = self;
@@ -84,7 +84,7 @@ impl Array {
         self.items.is_empty()
     }
 
-    /// The item at a place, counted from 0, or `None` where the array ends before it.
+    /// The item at a place, counted from 0, or `None` if the array ends before it.
     #[tactic(auto, using(crate::proofs::ItemsLemmas::get_items_view))]
     pub fn get(&self, place: usize) -> Option<&Yaml>
         ensures { option_map (λ y. view y.now) result ≡ slice_get self.now place }
@@ -92,8 +92,8 @@ impl Array {
         self.items.get(place)
     }
 
-    /// Adds an item at the end. An `Err` comes only where memory was refused; then the array is as it
-    /// was, and the item is handed back.
+    /// Adds an item at the end. An `Err` comes only if memory was refused; then the array is as it was, and the item
+    /// is handed back.
     #[tactic(auto, using(crate::proofs::ItemsLemmas::items_view_push))]
     pub fn push(&mut self, item: Yaml) -> Result<(), AllocFailed<Yaml>>
         ensures ok { OnOk result (self.new ≡ self.old ++ view item ∷ []) }
@@ -104,7 +104,7 @@ impl Array {
     }
 }
 
-// An array acts as its `Vec`.
+// An array derefs to its `Vec`.
 impl Deref for Array {
     ghost use Rattle.std.specs.Prelude.{◌≡◌};
     ghost use Rattle.yaml_tree.specs.View.{items_view};

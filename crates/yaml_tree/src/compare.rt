@@ -72,7 +72,7 @@ fn compare_pairs(a: &Hash, b: &Hash) -> Ordering
     a.len().cmp(&b.len())
 }
 
-/// Compares a `String` of that text with a node.
+/// Compares the `String` with that text with a node.
 #[tactic(auto, using(crate::proofs::TextOrder::string_cmp))]
 pub(crate) fn compare_text(text: &str, b: &Yaml) -> Ordering
     ensures { result ≡ tree_cmp (string (chars text.now)) (view b.now) }

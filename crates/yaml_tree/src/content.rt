@@ -174,7 +174,7 @@ impl Yaml {
         matches!(self, Yaml::Hash(_))
     }
 
-    /// The other node where this one is `Null` or `BadValue`, else this one.
+    /// The other node if this one is `Null` or `BadValue`, else this one.
     pub fn or(self, other: Yaml) -> Yaml
         ensures { view result ≡ or_else (view self) (view other) }
     {
@@ -184,7 +184,7 @@ impl Yaml {
         }
     }
 
-    /// As `or`, for references.
+    /// The same as `or`, for references.
     pub fn borrowed_or<'a>(&'a self, other: &'a Yaml) -> &'a Yaml
         ensures { view result.now ≡ or_else (view self.now) (view other.now) }
     {

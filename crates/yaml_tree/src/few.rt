@@ -14,7 +14,7 @@ pub(crate) const ROOM: usize = 8;
 #[derive(Drop)]
 pub(crate) struct Few {
     count: u32,
-    // Only so many count.
+    // Only the first `count` of them are in use.
     slots: [u8; 8],
 }
 
@@ -28,7 +28,7 @@ impl Model for Few {
     ghost invariant = { λ f. (f.count ≤ 8) × (length f.slots ≡ 8) };
 }
 
-// Puts a place among so many.
+// Inserts a place at a rank, before the places from that rank on.
 fn insert_at(slots: &mut [u8], count: usize, rank: usize, place: u8)
     requires rank { rank ≤ count }
     requires room { count < length slots.old }
@@ -98,7 +98,7 @@ impl Few {
         self.count += 1;
     }
 
-    /// Without a rank, and the places behind its own lowered.
+    /// The places without that of a rank; the places above it fall by one.
     pub(crate) fn without(&self, rank: usize) -> Few
         requires { rank < length self.now }
         ensures { result ≡ map (closed_up (get_or self.now rank 0)) (remove self.now rank) }
@@ -113,7 +113,7 @@ impl Few {
         rest
     }
 
-    /// With a place as the last one, and those behind it lowered.
+    /// The places after the pair at `gone` moved to the end; the places above it fall by one.
     pub(crate) fn moved_to_end(&self, gone: usize) -> Few
         ensures { result ≡ map (moved_up gone (length self.now)) self.now }
     {

@@ -1,4 +1,4 @@
-//! A hash: pairs of a key and a value, in the order in which they came.
+//! A hash: pairs of a key and a value, in the order of insertion.
 ghost use Rattle.std.specs.Prelude.{◌≡◌, ◌+◌, ◌<◌, ◌≤◌, ◌↔◌, [], Some, None, length, option_map, IsTrue, IsSome, IfOk, IfErr, OnOk, OnErr};
 ghost use Rattle.tree_defs.specs.Digits.{binary_digits};
 ghost use Rattle.tree_defs.specs.Tree.{string};
@@ -16,7 +16,7 @@ use crate::yaml::Yaml;
 use std::alloc::Global;
 use std::marker::Model;
 
-/// Pairs of a key and a value, in the order in which they came. No two keys are equal.
+/// Pairs of a key and a value, in the order of insertion. No two keys are equal.
 #[cycle(yaml)]
 pub struct Hash {
     // The key and the value of each pair.
@@ -50,7 +50,7 @@ impl Model for Hash {
     ghost size_decreases = { λ h i. omega (arith, most-pairs h.row.items i.hash.even) };
 }
 
-// A loop, so that a deep tree takes no more of the stack than a flat one.
+// This is a loop, so that a deep tree takes no more stack than a flat one.
 impl Drop for Hash {
     fn drop(self) {
         let Hash { row, ranks } = self;
@@ -88,9 +88,9 @@ impl Hash {
         self.row.is_empty()
     }
 
-    /// The place of the key's pair, counted from 0, or `None` where no pair has the key. The key is compared
-    /// by `Steps::compare` alone, at most as often as the number of pairs has binary digits; numbers kept
-    /// beside the places rule out most pairs before. It takes no memory.
+    /// The place of the key's pair, counted from 0, or `None` if no pair has the key. Keys are compared only by
+    /// `Steps::compare`, at most as often as the number of pairs has binary digits. Most pairs are ruled out without
+    /// it, by numbers that are kept beside the places. It takes no memory.
     pub fn place(&self, key: &Yaml, steps: &mut Steps) -> Option<usize>
         ensures place { result ≡ place_of (view key.now) self.now }
         ensures steps { steps.new ≤ steps.old + binary_digits (length self.now) }
@@ -119,7 +119,7 @@ impl Hash {
         Some(&row[2 * i + 1])
     }
 
-    /// The value of the key, or `None` where no pair has it. It takes no memory.
+    /// The value of the key, or `None` if no pair has it. It takes no memory.
     pub fn get(&self, key: &Yaml) -> Option<&Yaml>
         ensures value { option_map (λ v. view v.now) result ≡ lookup (view key.now) self.now }
         ensures distinct { AreDistinct self.now }
@@ -135,8 +135,8 @@ impl Hash {
         &mut self.row[2 * i + 1]
     }
 
-    /// The value of the key, for writing, or `None` where no pair has it. What is written takes the
-    /// value's place; the key and the order stay. It takes no memory.
+    /// The value of the key, for writing, or `None` if no pair has it. What is written replaces the value; the key
+    /// and the order stay. It takes no memory.
     pub fn get_mut(&mut self, key: &Yaml) -> Option<&mut Yaml>
         ensures* writes_back { sem 𝓛 (LendsIf the_row yaml_row self.entry result
             (λ w. with_value (view key.now) (view w) self.old) self.old) }
@@ -149,7 +149,7 @@ impl Hash {
         }
     }
 
-    /// The last pair, or `None` where there is none.
+    /// The last pair, or `None` if there is none.
     pub fn back(&self) -> Option<(&Yaml, &Yaml)>
         ensures { option_map (λ p. (view p.0.now, view p.1.now)) result ≡ last_of self.now }
     {
@@ -158,9 +158,9 @@ impl Hash {
         Some((&row[2 * last], &row[2 * last + 1]))
     }
 
-    /// Takes the key's old pair out, if there is one, and puts the new pair at the end. The answer is the
-    /// key's old value. An `Err` comes only where memory was refused; then the hash is as it was, and the
-    /// pair is handed back. With a key that is there already it takes no memory, and doesn't fail.
+    /// Removes the key's old pair, if there is one, and puts the new pair at the end. The result is the key's old
+    /// value. An `Err` comes only if memory was refused; then the hash is as it was, and the pair is handed back. If
+    /// the key is there already, it takes no memory and cannot fail.
     #[inline(always)]
     pub fn insert(&mut self, key: Yaml, value: Yaml) -> Result<Option<Yaml>, (Yaml, Yaml)>
         ensures pairs { OnOk result (self.new ≡ insert (view key) (view value) self.old) }
@@ -189,8 +189,8 @@ impl Hash {
         }
     }
 
-    /// Takes the key's pair out, and answers its value, or `None` where no pair has the key. The other
-    /// pairs keep their order. It takes no memory.
+    /// Removes the key's pair, and returns its value, or `None` if no pair has the key. The other pairs keep their
+    /// order. It takes no memory.
     pub fn remove(&mut self, key: &Yaml) -> Option<Yaml>
         ensures pairs { self.new ≡ without (view key.now) self.old }
         ensures value { option_map view result ≡ lookup (view key.now) self.old }

@@ -6,7 +6,7 @@ use crate::yaml::Yaml;
 use std::marker::Model;
 use std::vec;
 
-/// The items of an array, by value, in their order; of every other node, none.
+/// The items of an array, by value, in their order. Every other node has none.
 #[derive(Drop)]
 pub struct YamlIter {
     items: Option<vec::IntoIter<Yaml>>,

@@ -1,8 +1,8 @@
-//! Laws of the trees, each carried by an empty function.
+//! Laws of the trees, each the contract of an empty function.
 
 ghost use Rattle.yaml_tree.specs.Laws.{EqualTreesHashAlike};
 
-/// Equal trees give a hasher the same.
+/// Equal trees feed a hasher the same.
 pub fn equal_trees_hash_alike()
     ensures { EqualTreesHashAlike }
 {}

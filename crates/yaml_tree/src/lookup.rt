@@ -10,7 +10,7 @@ use crate::search::Probe;
 use crate::yaml::Yaml;
 
 impl Yaml {
-    /// In a `Hash` the value of the key `String` of that text; else `None`. It takes no memory.
+    /// In a `Hash` the value of the key `String` with that text; else `None`. It takes no memory.
     #[tactic(auto, using(crate::proofs::ItemsLemmas::pair_list_of_pairs))]
     pub fn get_key(&self, key: &str) -> Option<&Yaml>
         ensures { option_map (λ y. view y.now) result ≡ value_at_text (chars key.now) (view self.now) }
@@ -21,8 +21,8 @@ impl Yaml {
         }
     }
 
-    /// In an `Array` the item at that place, counted from 0; in a `Hash` the value of the key `Integer`
-    /// of that number, which is no greater than `i64::MAX`; else `None`. It takes no memory.
+    /// In an `Array` the item at that place, counted from 0. In a `Hash` the value of the key `Integer` with that
+    /// number, if it is at most `i64::MAX`. Else `None`. It takes no memory.
     #[tactic(auto, using(crate::proofs::ItemsLemmas::list_of_items, crate::proofs::ItemsLemmas::pair_list_of_pairs))]
     pub fn get_index(&self, index: usize) -> Option<&Yaml>
         ensures { option_map (λ y. view y.now) result ≡ value_at_index index (view self.now) }

@@ -6,7 +6,7 @@ ghost use Rattle.yaml_tree.specs.View.{view};
 
 use crate::yaml::Yaml;
 
-// Texts are above this, integers not.
+// The marks of texts are at least this, those of integers are below it.
 const FIRST_OF_TEXTS: u64 = 1 << 60;
 
 fn byte_at(bytes: &[u8], i: usize) -> u64
@@ -38,15 +38,15 @@ fn mark_of_bytes(bytes: &[u8]) -> u64
     leading(bytes).max(FIRST_OF_TEXTS)
 }
 
-/// The mark of a `String` of that text.
+/// The mark of the `String` with that text.
 pub(crate) fn mark_of_text(text: &str) -> u64
     ensures { IsMark (string (chars text.now)) result }
 {
     mark_of_bytes(text.as_bytes())
 }
 
-/// The mark of a key: the first eight bytes of a `String`, and the number of an `Integer`. That of a lower key is
-/// no higher.
+/// The mark of a key: for a `String` its first eight bytes, for an `Integer` its value. A lower key has no higher
+/// mark.
 pub(crate) fn mark(key: &Yaml) -> u64
     ensures { IsMark (view key.now) result }
 {

@@ -12,9 +12,8 @@ use crate::steps::Steps;
 use crate::yaml::Yaml;
 
 impl Yaml {
-    /// The value of the key `String` of that text, for writing: what is written takes the value's place.
-    /// A caller asks `has_key` first. Where a proof is to know the node after the write, take
-    /// `as_mut_hash` and its `get_mut`.
+    /// The value of the key `String` with that text, for writing: what is written replaces the value. Condition:
+    /// `has_key`. If a proof needs to know the node after the write, use `as_mut_hash` and `get_mut`.
     #[tactic(auto, using(crate::proofs::ItemsLemmas::pair_list_of_pairs))]
     pub fn key_mut(&mut self, key: &str) -> &mut Yaml
         requires { IsSome (value_at_text (chars key.now) (view self.old)) }
@@ -26,9 +25,9 @@ impl Yaml {
         }
     }
 
-    /// In an `Array` the item at that place, in a `Hash` the value of the key `Integer` of that number, for
-    /// writing: what is written takes its place. A caller asks `has_index` first. Where a proof is to know
-    /// the node after the write, take `as_mut_vec` or `as_mut_hash`.
+    /// In an `Array` the item at that place, in a `Hash` the value of the key `Integer` with that number, for
+    /// writing: what is written replaces it. Condition: `has_index`. If a proof needs to know the node after the
+    /// write, use `as_mut_vec` or `as_mut_hash`.
     #[tactic(auto, using(crate::proofs::ItemsLemmas::pair_list_of_pairs, crate::proofs::ItemsLemmas::list_of_items))]
     pub fn place_mut(&mut self, index: usize) -> &mut Yaml
         requires { IsSome (value_at_index index (view self.old)) }

@@ -70,7 +70,7 @@ fn with_next(
 }
 
 impl Ranks {
-    /// Of no places. It takes no memory.
+    /// The index of no pairs. It takes no memory.
     pub(crate) fn new() -> Ranks
         ensures places { places result.kept ≡ [] }
         ensures marks { marks result.kept ≡ [] }
@@ -80,7 +80,7 @@ impl Ranks {
         }
     }
 
-    /// The spot from which on the key's place stands, if there is one, and among how many.
+    /// The first spot at which the key's place may be, and how many spots to search from there.
     #[inline(always)]
     pub(crate) fn window(&self, probe: Probe<'_>) -> (Spot, usize)
         requires rising { AreRising (marks self.now.kept) }
@@ -100,7 +100,7 @@ impl Ranks {
         }
     }
 
-    /// The spot so many places on.
+    /// The spot that many places further.
     #[inline(always)]
     pub(crate) fn advanced(&self, spot: Spot, by: usize) -> Spot
         requires spot { HasSpot self.now.kept spot }
@@ -131,7 +131,7 @@ impl Ranks {
     }
 
     /// Puts the next place at a spot, before the place that stands there: that of a new pair of the row, with this
-    /// key. An `Err` comes only where memory was refused, and then all is as it was.
+    /// key. An `Err` comes only if memory was refused, and then all is as it was.
     pub(crate) fn insert(
         &mut self,
         alloc: Global,
@@ -169,7 +169,7 @@ impl Ranks {
         }
     }
 
-    /// Takes the place at a spot out, and lowers those behind it.
+    /// Removes the place at a spot; the places above it fall by one.
     pub(crate) fn remove(&mut self, spot: Spot)
         requires { HasPlace self.old.kept spot }
         ensures places { places self.new.kept ≡ map (closed_up (get_or (places self.old.kept) (rank_at self.old.kept spot) 0)) (remove (places self.old.kept) (rank_at self.old.kept spot)) }
@@ -181,7 +181,7 @@ impl Ranks {
         }
     }
 
-    /// Makes a place the last one of so many, and lowers those behind it.
+    /// Moves the pair at `gone` to the end of `count` pairs; the places above it fall by one.
     #[inline(never)]
     pub(crate) fn move_to_end(&mut self, gone: usize, count: usize)
         requires some { 0 < count }

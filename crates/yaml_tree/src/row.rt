@@ -13,7 +13,7 @@ use place_blocks::Spot;
 // Room that the first pair takes: most hashes have no more than four pairs.
 const FIRST_ROOM: usize = 8;
 
-/// Adds a pair at the end, and its place at a spot. An `Err` comes only where memory was refused; then both
+/// Adds a pair at the end, and its place at a spot. An `Err` comes only if memory was refused; then both
 /// are as they were, and the pair is handed back.
 #[inline(always)]
 pub(crate) fn add(
@@ -46,7 +46,7 @@ pub(crate) fn add(
     Ok(())
 }
 
-/// Takes the pair at a place out, and answers its value.
+/// Removes the pair at a place, and returns its value.
 pub(crate) fn take(row: &mut Vec<Yaml>, place: usize) -> Yaml
     requires { 2 * place + 1 < length row.old.items }
     ensures value { result ≡ get_or row.old.items (2 * place + 1) result }
@@ -58,7 +58,7 @@ pub(crate) fn take(row: &mut Vec<Yaml>, place: usize) -> Yaml
     row.remove(2 * place)
 }
 
-/// Takes the pair at a place out, puts another at the end, and answers the old value.
+/// Removes the pair at a place, puts another at the end, and returns the old value.
 #[inline(never)]
 pub(crate) fn exchange(row: &mut Vec<Yaml>, place: usize, key: Yaml, value: Yaml) -> Yaml
     requires { 2 * place + 1 < length row.old.items }

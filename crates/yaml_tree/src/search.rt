@@ -15,7 +15,7 @@ use crate::yaml::Yaml;
 use place_blocks::Spot;
 use std::cmp::Ordering;
 
-/// What is looked up: a key, or a key `String` of a text.
+/// What is looked up: a key, or the key `String` with a text.
 #[derive(Clone, Copy)]
 pub(crate) enum Probe<'a> {
     Node(&'a Yaml),
@@ -44,7 +44,7 @@ impl<'a> Probe<'a> {
     }
 }
 
-/// The spot of a key, or where no pair has it the spot that it would have.
+/// The spot of a key as `Ok`, or as `Err` the spot that it would have if no pair has it.
 pub(crate) fn search(
     row: &[Yaml],
     ranks: &Ranks,

@@ -10,7 +10,7 @@ use std::cmp::Ordering;
 use std::marker::Model;
 use yaml_chars::history::History;
 
-/// How many keys were compared, for contracts alone: it takes no bytes.
+/// A count of comparisons, which only contracts see. It takes no bytes.
 #[derive(Drop)]
 pub struct Steps {
     compared: History<()>,
@@ -34,7 +34,7 @@ impl Steps {
         }
     }
 
-    /// Compares two nodes, and counts that.
+    /// Compares two nodes, and counts one comparison.
     pub fn compare(&mut self, a: &Yaml, b: &Yaml) -> Ordering
         ensures order { result ≡ tree_cmp (view a.now) (view b.now) }
         ensures steps { self.new ≡ self.old + 1 }

@@ -31,10 +31,10 @@ enum Meaning {
 }
 
 impl Yaml {
-    /// What the text stands for as a plain scalar, by the core schema: an integer of 64 bits, in base 10, or
-    /// in base 16 or 8 behind `0x` or `0o`; `Null`, a `Boolean`, or a `Real`, which keeps the text as it
-    /// stands; else the `String` of the text. Only a kept text takes memory, and an `Err` comes only where
-    /// that was refused.
+    /// What the text stands for as a plain scalar, by the core schema (YAML 1.2, section 10.3.2): an integer of 64
+    /// bits, in base 10, or in base 16 or 8 after `0x` or `0o`; `Null`; a `Boolean`; a `Real`, which keeps the text
+    /// as it is; else the `String` of the text. Only a kept text takes memory, and an `Err` comes only if that was
+    /// refused.
     pub fn from_str(alloc: Global, text: &str) -> Result<Yaml, AllocError>
         ensures { IfOk result (λ y. view y ≡ typing (chars text.now)) }
     {
@@ -47,7 +47,7 @@ impl Yaml {
         }
     }
 
-    /// As `from_str`, of a text that is given away. It takes no memory.
+    /// The same as `from_str`, of an owned text. It takes no memory.
     #[tactic(auto, unfolding(yaml_chars::specs::Text::string_chars))]
     pub fn from_string(text: String) -> Yaml
         ensures { view result ≡ typing (string_chars text) }
@@ -62,7 +62,7 @@ impl Yaml {
     }
 }
 
-/// Whether the text stands for itself as a plain scalar: `from_str` answers a `String`. It takes no memory.
+/// Whether the text is a string as a plain scalar: `from_str` gives a `String`. It takes no memory.
 pub fn is_string(text: &str) -> bool
     ensures { result ≡ is_string (typing (chars text.now)) }
 {
@@ -142,7 +142,7 @@ fn is_false(text: &str) -> bool
     matches!(text, "false" | "False" | "FALSE")
 }
 
-/// Whether a text is a real: one of the words for infinity and not a number, or decimal.
+/// Whether a text is a real: one of the words for infinity and for not a number, or a decimal number.
 #[tactic(auto, using(crate::proofs::TypingLemmas::decimal_read))]
 pub fn is_real(text: &str) -> bool
     ensures { result ≡ (is_among special_words text.now || is_decimal text.now) }

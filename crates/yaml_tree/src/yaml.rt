@@ -6,7 +6,7 @@ use crate::hash::Hash;
 #[cycle(yaml)]
 #[derive(Debug, Drop)]
 pub enum Yaml {
-    /// A real number, as the text that was read.
+    /// A real number, as its text.
     Real(String),
     /// An integer of 64 bits.
     Integer(i64),
@@ -14,14 +14,15 @@ pub enum Yaml {
     String(String),
     /// `true` or `false`.
     Boolean(bool),
-    /// Nodes in a row.
+    /// A list of nodes.
     Array(Array),
-    /// Pairs of a key and a value, in the order in which they came; no two keys are equal.
+    /// Pairs of a key and a value, in the order of insertion; no two keys are equal.
     Hash(Hash),
     /// The number of an anchor that stands for a node elsewhere.
     Alias(usize),
-    /// No value, as `~`.
+    /// The null value, as `~`.
     Null,
-    /// What stands for a node that is not there.
+    /// Stands for a missing node: an empty document, an alias inside its own node, or a plain scalar that does not
+    /// fit its tag.
     BadValue,
 }

@@ -27,7 +27,7 @@ pub enum Job {
     Decode(Trap),
 }
 
-/// What the words ask for; `tokens` where they are no such.
+/// What the words ask for; `tokens` if they ask for nothing known.
 pub fn job_of(words: &[String]) -> Job {
     let [word, options @ ..] = words else {
         return Job::Tokens;

@@ -3,13 +3,13 @@
 /// How a tree is laid out.
 #[derive(Clone, Copy)]
 pub struct Settings {
-    /// A nested array or hash begins on a line of its own, below its mark.
+    /// A nested array or hash begins on the line below its indicator.
     pub spread: bool,
-    /// Texts of several lines are literal blocks.
+    /// Strings of several lines are literal blocks.
     pub multiline: bool,
 }
 
-/// What is printed, of which files.
+/// What to print, and the paths of the files.
 #[derive(Clone, Copy)]
 pub enum Command<'a> {
     Events(&'a str),
@@ -32,7 +32,7 @@ pub fn command_of(args: &[String]) -> Option<Command<'_>> {
 }
 
 impl Settings {
-    /// Those of a dump without options.
+    /// The settings of a dump without options.
     pub const COMPACT: Settings = Settings {
         spread: false,
         multiline: false,

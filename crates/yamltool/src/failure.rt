@@ -8,7 +8,7 @@ pub enum Failure<'a> {
     Usage,
     CannotRead(&'a str),
     NotUtf8(&'a str),
-    /// The file holds so many documents, and one is needed.
+    /// The file holds this number of documents, and one is needed.
     Documents(&'a str, usize),
     CannotWrite,
     OutOfMemory,
@@ -35,7 +35,7 @@ pub fn read_failure(error: io::Error, path: &str) -> Failure<'_> {
     }
 }
 
-/// What arguments that could not be had are: out of memory, or no such arguments as the program takes.
+/// The failure if the arguments cannot be read: out of memory, or arguments that the program does not take.
 pub fn arguments_failure<'a>(error: io::Error) -> Failure<'a> {
     match error.kind() {
         io::ErrorKind::InvalidData => Failure::Usage,

@@ -1,5 +1,5 @@
-//! `yamltool events FILE` prints the events of a YAML file, a line each; `yamltool dump FILE` its documents as they are
-//! written from their trees; `yamltool overlay A B` B's document laid over A's.
+//! `yamltool events FILE` prints the events of a YAML file, one line each. `yamltool dump FILE` loads a file and
+//! writes its documents anew. `yamltool overlay A B` writes B's document laid over A's.
 #![tactic(auto)]
 
 mod command;

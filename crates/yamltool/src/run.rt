@@ -16,8 +16,8 @@ use yaml_tree::Yaml;
 const USAGE: &str =
     "usage: yamltool events FILE | dump [--spread] [--multiline] FILE | overlay A B";
 
-/// Runs the program on its arguments and its output, where these could be had, and gives its exit status. An argument that
-/// is not UTF-8 gives the usage; else only memory can have been refused.
+/// Runs the program on its arguments and its output, if these could be had, and gives its exit status. An argument
+/// that is not UTF-8 gives the usage; any other failure to get them is refused memory.
 pub fn start<R: Files, O: Write + Drop, E: Write>(
     rt: &R,
     alloc: Global,
@@ -51,7 +51,7 @@ pub fn run<R: Files, O: Write, E: Write>(
     }
 }
 
-// Says what failed, and gives the status. Where the error stream takes nothing, the status alone tells.
+// Says what failed, and gives the status. If the error stream takes nothing, only the status says it.
 fn fail<E: Write>(err: &mut E, failure: &Failure) -> u8 {
     let _ = report(err, failure);
     match failure {
