@@ -4,8 +4,8 @@ use Rattle.std.specs.Prelude.{if◌then◌else◌}
 use Rattle.tree_defs.specs.Tree.{Tree, Items, no_items, item, Pairs, no_pairs, pair}
 use Rattle.tree_defs.specs.Quoting.{is_quoted}
 use Rattle.tree_defs.specs.Spelling.{is_scalar}
-use Rattle.layout_defs.specs.WideLayout.{Scalar, Value, Field}
-use Rattle.layout_defs.specs.Layout.{IsBasicScalar, IsBasicInline, IsBasicBlock, IsBasicValue, AreBasicEntries, IsBasicField, AreBasicFields, IsBasicRoot, IsBasic}
+use Rattle.layout_defs.specs.Layout.{Scalar, Value, Field}
+use Rattle.layout_defs.specs.Basic.{IsBasicScalar, IsBasicInline, IsBasicBlock, IsBasicValue, AreBasicEntries, IsBasicField, AreBasicFields, IsBasicRoot, IsBasic}
 use Rattle.dump_layout.proofs.DumpLayout.{Node, may_be_literal, value_of, root_of, string_scalar, scalar_of, string_node, entries_of, fields_of, array_node, hash_node, field_of, node_of, values_of, all_fields_of, layout_of}
 use Rattle.dump_layout.proofs.Validity.{AreAll}
 

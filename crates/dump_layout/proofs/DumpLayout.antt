@@ -9,7 +9,7 @@ use Rattle.tree_defs.specs.Spelling.{is_scalar}
 use Rattle.tree_defs.specs.Literal.{is_literal, is_root_literal}
 use Rattle.tree_defs.specs.Lines.{lines_of}
 use Rattle.layout_defs.specs.BlockLines.{Line}
-use Rattle.layout_defs.specs.WideLayout.{Scalar, Inline, no_comment, Block, Value, below, Entries, Field, Fields, Root, last_document, WideLayout}
+use Rattle.layout_defs.specs.Layout.{Scalar, Inline, no_comment, Block, Value, below, Entries, Field, Fields, Root, last_document, Layout}
 
 -- A node before it is placed behind a mark or as root: what stands on one line, the text of a literal block, or a block.
 pub data Node : Type 0 where
@@ -119,5 +119,5 @@ abbrev mutual
       ∷ all_fields_of compact multiline c ps
 
 -- The whole document has no gap, and nothing stands behind its root.
-abbrev pub layout_of : (compact multiline : Bool) → Tree → WideLayout
+abbrev pub layout_of : (compact multiline : Bool) → Tree → Layout
 layout_of compact multiline t = record { is_marked = true; documents = last_document (record { gap = []; root = root_of (node_of compact multiline true 0 t) }) [] }

@@ -12,7 +12,7 @@ use Rattle.tree_defs.specs.DumpText.{dump_text}
 use Rattle.layout_defs.specs.Marks.{line_feed, space, dash, colon}
 use Rattle.layout_defs.specs.Gap.{spaces}
 use Rattle.layout_defs.specs.BlockLines.{spell_lines}
-use Rattle.layout_defs.specs.WideLayout.{Scalar, Value, Field, spell_scalar, spell_inline, spell_literal, spell_block, spell_value, spell_entries, spell_field, spell_fields, spell_root, spell}
+use Rattle.layout_defs.specs.Layout.{Scalar, Value, Field, spell_scalar, spell_inline, spell_literal, spell_block, spell_value, spell_entries, spell_field, spell_fields, spell_root, spell}
 use Rattle.dump_layout.proofs.DumpLayout.{Node, lines_at, text_lines, may_be_literal, value_of, root_of, string_scalar, scalar_of, string_node, entries_of, fields_of, array_node, hash_node, field_of, node_of, values_of, all_fields_of, layout_of}
 
 -- ---- lines at a column

@@ -4,7 +4,7 @@ use Rattle.std.specs.Prelude.{if◌then◌else◌}
 use Rattle.tree_defs.specs.Tree.{Tree, Items, no_items, item, Pairs, no_pairs, pair, items_of, pairs_of, pair_list_of}
 use Rattle.tree_defs.specs.Quoting.{is_quoted}
 use Rattle.tree_defs.specs.Spelling.{is_scalar}
-use Rattle.layout_defs.specs.WideLayout.{Scalar, Value, Field, scalar_tree, inline_tree, block_tree, value_tree, items, pair_of, pair_list, root_tree, trees_of}
+use Rattle.layout_defs.specs.Layout.{Scalar, Value, Field, scalar_tree, inline_tree, block_tree, value_tree, items, pair_of, pair_list, root_tree, trees_of}
 use Rattle.dump_layout.proofs.DumpLayout.{Node, value_of, root_of, string_scalar, scalar_of, string_node, may_be_literal, entries_of, fields_of, array_node, hash_node, field_of, node_of, values_of, all_fields_of, layout_of}
 
 -- The tree of a node.

@@ -10,7 +10,7 @@ use Rattle.tree_defs.specs.Valid.{IsDistinct, AllDistinct, AllPairsDistinct, Fit
 use Rattle.tree_defs.specs.Writable.{IsShortKey, HasText, AllHaveText, AllPairsHaveText}
 use Rattle.layout_defs.specs.BlockLines.{contents, IsLine, AreLines}
 use Rattle.layout_defs.specs.Anchored.{Anchor}
-use Rattle.layout_defs.specs.WideLayout.{Scalar, Inline, Value, Field, IsScalar, IsInline, IsImplicitKey, IsExplicitKey, MayFollowScalarKey, MayFollowMark, AreLinesOf, IsBlock, IsValue, AreEntries, IsField, AreFields, IsRoot, IsBehindRoot, IsWideLayout, spell_scalar, pair_of, anchors_behind, anchors_behind_field}
+use Rattle.layout_defs.specs.Layout.{Scalar, Inline, Value, Field, IsScalar, IsInline, IsImplicitKey, IsExplicitKey, MayFollowScalarKey, MayFollowMark, AreLinesOf, IsBlock, IsValue, AreEntries, IsField, AreFields, IsRoot, IsBehindRoot, IsLayout, spell_scalar, pair_of, anchors_behind, anchors_behind_field}
 use Rattle.dump_layout.proofs.DumpLayout.{Node, line_at, lines_at, text_lines, may_be_literal, value_of, root_of, string_scalar, scalar_of, string_node, entries_of, fields_of, array_node, hash_node, field_of, node_of, values_of, all_fields_of, layout_of}
 use Rattle.dump_layout.proofs.Texts.{scalar_of_spelt}
 use Rattle.dump_layout.proofs.Trees.{fields_pairs, all_fields_pairs}
@@ -226,6 +226,6 @@ mutual
   )
 
 -- The layout is valid.
-pub layout_of_valid : (compact multiline : Bool) (t : Tree) → IsDistinct t → FitsI64 t → HasText t → IsWideLayout (layout_of compact multiline t)
+pub layout_of_valid : (compact multiline : Bool) (t : Tree) → IsDistinct t → FitsI64 t → HasText t → IsLayout (layout_of compact multiline t)
 layout_of_valid compact multiline t d f h =
     let n = node_of compact multiline true 0 t in (tt, root_of_valid n (node_of_valid compact multiline true 0 t d f h), root_of_ending n)

@@ -5,9 +5,9 @@ use Rattle.tree_defs.specs.Tree.{Tree}
 use Rattle.layout_defs.specs.JsonString as string
 use Rattle.layout_defs.specs.Json
 use Rattle.layout_defs.specs.BlockLines.{full}
-use Rattle.layout_defs.specs.WideLayout
+use Rattle.layout_defs.specs.Layout
 use Rattle.laid_tokens.specs.JsonTokens.{json_text_tokens}
-use Rattle.laid_tokens.specs.WideTokens.{wide_tokens}
+use Rattle.laid_tokens.specs.LayoutTokens.{layout_tokens}
 use Rattle.laid_tokens.specs.QuotedText.{single, double, HasQuotedTokens}
 use Rattle.scalar_defs.specs.Classes.{is_blank, is_break, is_nul, are_marks}
 use Rattle.scalar_defs.specs.FlowScalar.{plain_element, single_quoted_element, double_quoted_element, is_character_code, numeric_escape, escape, begins_with_marker, single_quoted_value, double_quoted_value}
@@ -25,20 +25,20 @@ object : json_text_tokens (record {
 object = refl
 
 -- a document without a gap
-abbrev document : WideLayout.Root → WideLayout.Document
+abbrev document : Layout.Root → Layout.Document
 document x = record { gap = []; root = x }
 
 -- a value behind one space
-abbrev beside : WideLayout.Inline → WideLayout.Value
-beside i = WideLayout.Value.beside 0 i WideLayout.Comment.no_comment
+abbrev beside : Layout.Inline → Layout.Value
+beside i = Layout.Value.beside 0 i Layout.Comment.no_comment
 
 -- `---`, `"k":`, `  - ~`, `  - []`
-nested : wide_tokens (record {
+nested : layout_tokens (record {
   is_marked = true;
-  documents = WideLayout.Documents.last_document
-      (document (WideLayout.Root.block 0 (WideLayout.Block.hash (WideLayout.Fields.last_field (WideLayout.Field.implicit (WideLayout.Scalar.quoted (codes "k"))
-      (WideLayout.below WideLayout.Comment.no_comment [] 2 (WideLayout.Block.array (WideLayout.Entries.entry (beside (WideLayout.Inline.scalar (WideLayout.Scalar.plain Tree.null))) []
-      (WideLayout.Entries.last_entry (beside WideLayout.Inline.empty_array)))))))))) [];
+  documents = Layout.Documents.last_document
+      (document (Layout.Root.block 0 (Layout.Block.hash (Layout.Fields.last_field (Layout.Field.implicit (Layout.Scalar.quoted (codes "k"))
+      (Layout.below Layout.Comment.no_comment [] 2 (Layout.Block.array (Layout.Entries.entry (beside (Layout.Inline.scalar (Layout.Scalar.plain Tree.null))) []
+      (Layout.Entries.last_entry (beside Layout.Inline.empty_array)))))))))) [];
 })
     ≡ Tok.stream_start ∷ Tok.document_start ∷ Tok.block_mapping_start ∷ Tok.key ∷ Tok.scalar Style.double_quoted (codes "k") ∷ Tok.value
     ∷ Tok.block_sequence_start ∷ Tok.block_entry ∷ Tok.scalar Style.plain (codes "~") ∷ Tok.block_entry ∷ Tok.flow_sequence_start ∷ Tok.flow_sequence_end ∷ Tok.block_end
@@ -46,28 +46,28 @@ nested : wide_tokens (record {
 nested = refl
 
 -- `---`, `? - a`, `: |-`, `  b`
-key_of_lines : wide_tokens (record {
+key_of_lines : layout_tokens (record {
   is_marked = true;
-  documents = WideLayout.Documents.last_document
-      (document (WideLayout.Root.block 0 (WideLayout.Block.hash (WideLayout.Fields.last_field (WideLayout.Field.explicit
-      (WideLayout.Value.compact 0 (WideLayout.Block.array (WideLayout.Entries.last_entry (beside (WideLayout.Inline.scalar (WideLayout.Scalar.quoted (codes "a")))))))
-      [] (WideLayout.Value.literal 0 2 (codes "b") (full (codes "b") ∷ []))))))) [];
+  documents = Layout.Documents.last_document
+      (document (Layout.Root.block 0 (Layout.Block.hash (Layout.Fields.last_field (Layout.Field.explicit
+      (Layout.Value.compact 0 (Layout.Block.array (Layout.Entries.last_entry (beside (Layout.Inline.scalar (Layout.Scalar.quoted (codes "a")))))))
+      [] (Layout.Value.literal 0 2 (codes "b") (full (codes "b") ∷ []))))))) [];
 })
     ≡ Tok.stream_start ∷ Tok.document_start ∷ Tok.block_mapping_start ∷ Tok.key ∷ Tok.block_sequence_start ∷ Tok.block_entry ∷ Tok.scalar Style.double_quoted (codes "a") ∷ Tok.block_end
     ∷ Tok.value ∷ Tok.scalar Style.literal (codes "b") ∷ Tok.block_end ∷ Tok.stream_end ∷ []
 key_of_lines = refl
 
 -- `"k":`, `- &n 'x'`, `- *n`, and a second document `~`
-wide : wide_tokens (record {
+wide : layout_tokens (record {
   is_marked = false;
-  documents = WideLayout.Documents.document
+  documents = Layout.Documents.document
       (record {
         gap = [];
-        root = WideLayout.Root.block 0 (WideLayout.Block.hash (WideLayout.Fields.last_field (WideLayout.Field.implicit (WideLayout.Scalar.quoted (codes "k"))
-            (WideLayout.Value.at_key WideLayout.Comment.no_comment [] (WideLayout.Entries.entry (WideLayout.Value.anchored 0 (codes "n") (WideLayout.Value.beside 0 (WideLayout.Inline.scalar (WideLayout.Scalar.single_quoted (codes "x"))) WideLayout.Comment.no_comment)) []
-            (WideLayout.Entries.last_entry (WideLayout.Value.alias 0 (codes "n") (Tree.string (codes "x")))))))));
+        root = Layout.Root.block 0 (Layout.Block.hash (Layout.Fields.last_field (Layout.Field.implicit (Layout.Scalar.quoted (codes "k"))
+            (Layout.Value.at_key Layout.Comment.no_comment [] (Layout.Entries.entry (Layout.Value.anchored 0 (codes "n") (Layout.Value.beside 0 (Layout.Inline.scalar (Layout.Scalar.single_quoted (codes "x"))) Layout.Comment.no_comment)) []
+            (Layout.Entries.last_entry (Layout.Value.alias 0 (codes "n") (Tree.string (codes "x")))))))));
       })
-      [] (WideLayout.Documents.last_document (record { gap = []; root = WideLayout.Root.inline (WideLayout.Inline.scalar (WideLayout.Scalar.plain Tree.null)) }) []);
+      [] (Layout.Documents.last_document (record { gap = []; root = Layout.Root.inline (Layout.Inline.scalar (Layout.Scalar.plain Tree.null)) }) []);
 })
     ≡ Tok.stream_start ∷ Tok.block_mapping_start ∷ Tok.key ∷ Tok.scalar Style.double_quoted (codes "k") ∷ Tok.value ∷ Tok.block_entry ∷ Tok.anchor (codes "n") ∷ Tok.scalar Style.single_quoted (codes "x")
     ∷ Tok.block_entry ∷ Tok.alias (codes "n") ∷ Tok.block_end ∷ Tok.document_start ∷ Tok.scalar Style.plain (codes "~") ∷ Tok.stream_end ∷ []

@@ -1,3 +1,3 @@
 pub mod JsonTokens
+pub mod LayoutTokens
 pub mod QuotedText
-pub mod WideTokens

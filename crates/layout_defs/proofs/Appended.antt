@@ -6,8 +6,8 @@ use Rattle.tree_defs.specs.Spelling.{spelling}
 use Rattle.tree_defs.specs.Literal.{literal_header}
 use Rattle.layout_defs.specs.Gap.{spaces, GapLine, empty_line, comment_line, spell_gap, next_line, spell_ending}
 use Rattle.layout_defs.specs.BlockLines.{Line, full, blank, spell_line, spell_lines}
-use Rattle.layout_defs.specs.WideLayout.{Scalar, plain, quoted, single_quoted, Inline, scalar, empty_array, empty_hash, no_comment, comment, Block, array, hash, Value, Entries, last_entry, entry, Field, implicit, explicit, Fields, last_field, field, Root, Document, doubled, spell_scalar, spell_inline, spell_literal, spell_block, spell_value, spell_entries, spell_field, spell_fields, spell_root, spell_document}
-use Rattle.layout_defs.specs.Layout.{IsBasicBlock, IsBasicValue, AreBasicEntries, IsBasicField, AreBasicFields, IsBasicRoot}
+use Rattle.layout_defs.specs.Layout.{Scalar, plain, quoted, single_quoted, Inline, scalar, empty_array, empty_hash, no_comment, comment, Block, array, hash, Value, Entries, last_entry, entry, Field, implicit, explicit, Fields, last_field, field, Root, Document, doubled, spell_scalar, spell_inline, spell_literal, spell_block, spell_value, spell_entries, spell_field, spell_fields, spell_root, spell_document}
+use Rattle.layout_defs.specs.Basic.{IsBasicBlock, IsBasicValue, AreBasicEntries, IsBasicField, AreBasicFields, IsBasicRoot}
 
 -- the text of f goes before what stands behind it
 abbrev Appends : (List ℕ → List ℕ) → Type 0

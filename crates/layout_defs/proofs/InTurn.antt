@@ -1,16 +1,16 @@
--- A basic layout is a wide layout, and basic layouts one after another, an LF behind each, are one too.
+-- A basic layout is a layout of its one tree, and basic layouts one after another, an LF behind each, are a layout of their trees.
 use Rattle.std.proofs.Common.{◌≡◌, refl, sym, ap, ◌∙◌, ℕ, List, [], ◌∷◌, ◌++◌, Bool, true, false, true≢false}
 use Rattle.std.specs.Prelude.{codes}
 use Rattle.tree_defs.specs.Tree.{Tree}
 use Rattle.layout_defs.specs.Gap.{GapLine, empty_line, comment_line, spell_gap, spell_ending, IsGap, AreEmptyLines}
-use Rattle.layout_defs.specs.Layout.{IsBasicRoot, AreBasicDocuments, IsLaidOut}
-use Rattle.layout_defs.specs.WideLayout.{Root, Document, Documents, last_document, document, spell_document, spell_documents, spell_mark, root_tree, trees_of, IsBehindRoot, AreDocuments}
+use Rattle.layout_defs.specs.Basic.{IsBasicRoot, AreBasicDocuments, IsBasicLayout}
+use Rattle.layout_defs.specs.Layout.{Root, Document, Documents, last_document, document, spell_document, spell_documents, spell_mark, root_tree, trees_of, IsBehindRoot, AreDocuments}
 use Rattle.layout_defs.specs.InTurn.{AreLaidOutInTurn}
-use Rattle.layout_defs.specs.Laws.{LayoutsAreWideLayouts, LayoutsInTurnAreWideLayouts}
+use Rattle.layout_defs.specs.Laws.{BasicLayoutsAreLayouts, LayoutsInTurnAreLayouts}
 use Rattle.layout_defs.proofs.Appended.{document_append}
 
-pub widened : LayoutsAreWideLayouts
-widened t text (w, is, basic, spelt, trees) = (w, is, spelt, trees)
+pub is_layout : BasicLayoutsAreLayouts
+is_layout t text (w, is, basic, spelt, trees) = (w, is, spelt, trees)
 
 -- ---- the one document of a basic layout
 
@@ -32,7 +32,7 @@ one_of true (document d g ds) t text marked basic are spelt trees = absurd basic
 one_of true (last_document d behind) t text marked basic are spelt trees =
     record { written = d; behind = behind; is = are; basic = basic; spelt = spelt; tree = first_tree trees }
 
-one : (t : Tree) (text : List ℕ) → IsLaidOut t text → One t text
+one : (t : Tree) (text : List ℕ) → IsBasicLayout t text → One t text
 one t text (w, is, basic, spelt, trees) = one_of w.is_marked w.documents t text basic.0 basic.1 is spelt trees
 
 -- ---- an LF behind it
@@ -94,5 +94,5 @@ in_turn t (u ∷ us) text (first, others, laid, more, whole) =
       stand = ap (λ x. x ∷ trees_of z.written) o.tree ∙ ap (λ ts. t ∷ ts) z.stand;
     }
 
-pub layouts_in_turn : LayoutsInTurnAreWideLayouts
+pub layouts_in_turn : LayoutsInTurnAreLayouts
 layouts_in_turn t ts text laid = let z = in_turn t ts text laid in (record { is_marked = true; documents = z.written }, z.are, z.spelt, z.stand)

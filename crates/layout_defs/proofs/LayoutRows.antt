@@ -1,17 +1,22 @@
 -- Texts that are in the layout relation, and written things that are not, each shown by computing.
-use Rattle.std.proofs.Common.{◌≡◌, refl, sym, ap, ◌∙◌, ℕ, ◌<◌, ◌≤◌, List, [], ◌∷◌, true, arith, true≢false}
-use Rattle.std.specs.Prelude.{codes, replicate, pos, negsuc, slice_index, ◌==◌}
+use Rattle.std.proofs.Common.{◌≡◌, refl, sym, ap, ◌∙◌, ℕ, ◌≤◌, List, [], ◌∷◌, true, false, arith, true≢false}
+use Rattle.std.specs.Prelude.{codes, replicate, pos, Option, Some, is_some, unwrap_or, bytes_eq}
 use Rattle.std.specs.Fmt.{digits}
-use Rattle.tree_defs.specs.Tree.{Tree, Items, Pairs, items_of, pairs_of}
+use Rattle.tree_defs.specs.Tree.{Tree, items_of, pairs_of}
 use Rattle.tree_defs.specs.Quoting.{is_quoted, is_unfit_for_plain}
 use Rattle.tree_defs.specs.Typing.{typing, is_decimal}
 use Rattle.tree_defs.specs.Literal.{is_literal, is_root_literal, is_literal_character}
-use Rattle.tree_defs.specs.Escapes.{written_character}
-use Rattle.layout_defs.specs.Gap.{GapLine, empty_line, comment_line, IsGap, is_line_character}
+use Rattle.scalar_defs.specs.BlockScalar.{row_of, is_empty_line, is_content_line}
+use Rattle.scalar_defs.specs.Classes.{is_blank}
+use Rattle.layout_defs.specs.Gap.{empty_line, comment_line, is_line_character}
 use Rattle.layout_defs.specs.BlockLines.{full, blank}
-use Rattle.layout_defs.specs.WideLayout.{Scalar, plain, quoted, scalar, empty_array, empty_hash, Block, array, hash, Value, no_comment, below, last_entry, entry, implicit, explicit, last_field, field, Root, Document, last_document, WideLayout, AreDocuments, IsImplicitKey, IsValue, IsBlock, IsRoot, IsField, IsPlain}
-use Rattle.layout_defs.specs.WideLayout as wide
-use Rattle.layout_defs.specs.Layout.{IsLaidOut}
+use Rattle.layout_defs.specs.JsonNumber.{number, no_fraction, no_exponent}
+use Rattle.layout_defs.specs.JsonString.{itself, is_unescaped}
+use Rattle.layout_defs.specs.JsonGap.{space, tab, line_feed}
+use Rattle.layout_defs.specs.Json.{Json, last_element, element, last_member}
+use Rattle.layout_defs.specs.Anchored.{last_tree}
+use Rattle.layout_defs.specs.Layout.{Scalar, plain, single_quoted, scalar, empty_array, no_comment, comment, Block, array, hash, Value, beside, folded, compact, below, at_key, anchored, last_entry, entry, implicit, explicit, last_field, field, Root, block, inline, Document, last_document, document, Layout, IsImplicitKey, IsValue, IsField, AreEntries, AreDocuments, AreLaidOut, anchors_behind, is_on_one_line}
+use Rattle.tree_defs.specs.Order.{tree_eq}
 use Rattle.layout_defs.proofs.Differ.{differ}
 
 -- ---- words for the examples
@@ -23,303 +28,266 @@ word w = plain (Tree.string w)
 abbrev integer : ℕ → Scalar
 integer n = plain (Tree.integer (pos n))
 
--- what stands on one line, behind some spaces, and a scalar behind one
-abbrev beside : (more : ℕ) → wide.Inline → Value
-beside more i = Value.beside more i no_comment
-
+-- a scalar behind one space
 abbrev one : Scalar → Value
-one s = beside 0 (scalar s)
+one s = beside 0 (scalar s) no_comment
 
-abbrev compact : (more : ℕ) → Block → Value
-compact more b = Value.compact more b
+-- a document without a gap, whose root is a block at column 0
+abbrev plainly : Block → Document
+plainly b = record { gap = []; root = block 0 b }
 
--- one document behind its `---`, and what stands behind it
-abbrev marked : Document → List GapLine → WideLayout
-marked d behind = record { is_marked = true; documents = last_document d behind }
+-- one document behind its `---`
+abbrev alone : Block → Layout
+alone b = record { is_marked = true; documents = last_document (plainly b) [] }
 
--- a document without gaps, whose root is a block at column 0
-abbrev plainly : Block → WideLayout
-plainly b = marked (record { gap = []; root = Root.block 0 b }) []
+-- a number of one digit or more in JSON
+abbrev json_number : List ℕ → Json
+json_number w = Json.number (number false w no_fraction no_exponent)
 
--- ---- a text with each of the forms
+-- nothing is not something, and two trees or texts that a test tells apart are not one
+nothing_differs : (o : Option Tree) (t : Tree) → is_some o ≡ false → o ≡ Some t → ⊥
+nothing_differs o t none e = true≢false (sym (ap is_some e) ∙ none)
 
--- arrays and hashes at many columns, an array as key, empty lines and comment lines between entries, a literal block with an empty line
-long_text : IsLaidOut
+some_differ : (a b : Tree) → tree_eq a a ≡ true → tree_eq a b ≡ false → Some a ≡ Some b → ⊥
+some_differ a b same other e = differ a b same other (ap (λ o. unwrap_or o a) e)
+
+some_text_differ : (a b : List ℕ) → bytes_eq a a ≡ true → bytes_eq a b ≡ false → Some a ≡ Some b → ⊥
+some_text_differ a b same other e = true≢false (sym same ∙ ap (λ o. bytes_eq a (unwrap_or o a)) e ∙ other)
+
+-- ---- texts in the relation
+
+-- an anchor before a block and an alias, single quotes, a folded block, JSON on one line
+many_forms : AreLaidOut
     (Tree.hash (pairs_of
-    ((Tree.array (items_of (Tree.integer (pos 1) ∷ Tree.integer (pos 2) ∷ [])), Tree.array (items_of (Tree.string (codes "x") ∷ Tree.string (codes "p\n\nq\n") ∷ [])))
-    ∷ (Tree.string (codes "k"), Tree.hash (pairs_of ((Tree.string (codes "z"), Tree.hash Pairs.no_pairs) ∷ []))) ∷ [])))
-    (codes "---\n# top\n\n   ? - 1\n     - 2\n# mid\n   :       - x\n           - |\n                 p\n\n                 q\n   k:\n# c\n     z: {}\n")
-unfolding is_quoted is_unfit_for_plain typing is_decimal is_literal is_literal_character is_line_character digits
-long_text = (
-  marked (record {
-    gap = comment_line (codes " top") ∷ empty_line ∷ [];
-    root = Root.block 3 (hash (field
-        (explicit (compact 0 (array (entry (one (integer 1)) [] (last_entry (one (integer 2))))))
-        (comment_line (codes " mid") ∷ [])
-        (compact 6 (array (entry (one (word (codes "x"))) []
-        (last_entry (Value.literal 0 17 (codes "p\n\nq\n") (full (codes "p") ∷ blank 0 ∷ full (codes "q") ∷ [])))))))
-        []
-        (last_field (implicit (word (codes "k"))
-        (below no_comment (comment_line (codes " c") ∷ []) 5 (hash (last_field (implicit (word (codes "z")) (beside 0 empty_hash)))))))));
-  }) (empty_line ∷ []),
+    ((Tree.string (codes "a"), Tree.hash (pairs_of ((Tree.string (codes "k"), Tree.string (codes "it's")) ∷ [])))
+    ∷ (Tree.string (codes "b"), Tree.hash (pairs_of ((Tree.string (codes "k"), Tree.string (codes "it's")) ∷ [])))
+    ∷ (Tree.string (codes "c"), Tree.string (codes "p q\nr"))
+    ∷ (Tree.string (codes "d"), Tree.array (items_of (Tree.integer (pos 1) ∷ Tree.hash (pairs_of ((Tree.string (codes "e"), Tree.integer (pos 2)) ∷ [])) ∷ []))) ∷ [])) ∷ [])
+    (codes "---\na: &x\n  k: 'it''s'\nb: *x\nc: >-\n  p\n  q\n\n  r\nd: [1, {\"e\": 2}]")
+unfolding is_quoted is_unfit_for_plain typing is_decimal is_line_character is_unescaped is_on_one_line row_of is_empty_line is_content_line is_blank
+many_forms = (
+  alone (hash
+      (field (implicit (word (codes "a")) (anchored 0 (codes "x") (below no_comment [] 2
+      (hash (last_field (implicit (word (codes "k")) (one (single_quoted (codes "it's"))))))))) []
+      (field (implicit (word (codes "b")) (Value.alias 0 (codes "x") (Tree.hash (pairs_of ((Tree.string (codes "k"), Tree.string (codes "it's")) ∷ []))))) []
+      (field (implicit (word (codes "c")) (folded 0 2 true (codes "p q\nr") (full (codes "p") ∷ full (codes "q") ∷ blank 0 ∷ full (codes "r") ∷ []))) []
+      (last_field (implicit (word (codes "d")) (Value.json 0
+      (Json.array [] (element (json_number (codes "1")) [] (space ∷ [])
+      (last_element (Json.object [] (last_member (itself 101 ∷ []) [] (space ∷ []) (json_number (codes "2")) [])) [])))))))))),
+  search (arith, differ, true≢false),
+  refl,
+  refl,
+)
+
+-- a JSON array as key
+json_key : AreLaidOut
+    (Tree.hash (pairs_of ((Tree.array (items_of (Tree.integer (pos 1) ∷ Tree.integer (pos 2) ∷ [])), Tree.string (codes "x")) ∷ [])) ∷ [])
+    (codes "---\n? [1, 2]\n: x")
+unfolding is_quoted is_unfit_for_plain typing is_decimal is_line_character is_on_one_line
+json_key = (
+  alone (hash (last_field (explicit
+      (Value.json 0 (Json.array [] (element (json_number (codes "1")) [] (space ∷ []) (last_element (json_number (codes "2")) []))))
+      [] (one (word (codes "x")))))),
+  search arith,
+  refl,
+  refl,
+)
+
+-- no `---`, comments behind a key and behind a scalar, an array at its key's column
+array_at_key : AreLaidOut
+    (Tree.hash (pairs_of ((Tree.string (codes "k"), Tree.array (items_of (Tree.string (codes "a") ∷ Tree.string (codes "x") ∷ []))) ∷ (Tree.string (codes "m"), Tree.integer (pos 1)) ∷ [])) ∷ [])
+    (codes "# top\nk: # why\n- 'a' # b\n- x\nm: 1")
+unfolding is_quoted is_unfit_for_plain typing is_decimal is_line_character digits
+array_at_key = (
+  record {
+    is_marked = false;
+    documents = last_document (record {
+      gap = comment_line (codes " top") ∷ [];
+      root = block 0 (hash
+          (field (implicit (word (codes "k")) (at_key (comment 0 (codes " why")) []
+          (entry (beside 0 (scalar (single_quoted (codes "a"))) (comment 0 (codes " b"))) [] (last_entry (one (word (codes "x"))))))) []
+          (last_field (implicit (word (codes "m")) (one (integer 1))))));
+    }) [];
+  },
   search (arith, differ),
+  refl,
+  refl,
+)
+
+-- an alias means the last anchor of its name before it
+anchor_again : AreLaidOut
+    (Tree.array (items_of (Tree.integer (pos 5) ∷ Tree.integer (pos 5) ∷ Tree.integer (pos 6) ∷ Tree.integer (pos 6) ∷ [])) ∷ [])
+    (codes "---\n- &n 5\n- *n\n- &n 6\n- *n")
+unfolding digits
+anchor_again = (
+  alone (array (entry (anchored 0 (codes "n") (one (integer 5))) [] (entry (Value.alias 0 (codes "n") (Tree.integer (pos 5))) []
+      (entry (anchored 0 (codes "n") (one (integer 6))) [] (last_entry (Value.alias 0 (codes "n") (Tree.integer (pos 6)))))))),
   search,
   refl,
   refl,
 )
 
--- ---- the rows of the relation, one by one
-
--- the scalars: a null, a boolean, integers, a real, a string as it stands, one in double quotes that need not be, one with escapes
-scalars : IsLaidOut
-    (Tree.array (items_of (Tree.null ∷ Tree.boolean true ∷ Tree.integer (negsuc 6) ∷ Tree.real (codes "1e400")
-    ∷ Tree.string (codes "a b") ∷ Tree.string (codes "a") ∷ Tree.string (codes "\t\"\n") ∷ [])))
-    (codes "---\n- ~\n- true\n- -7\n- 1e400\n- a b\n-   \"a\"\n- \"\\t\\\"\\n\"")
-unfolding is_quoted is_unfit_for_plain typing is_decimal is_literal is_literal_character is_line_character digits written_character
-scalars = (
-  plainly (array (entry (one (plain Tree.null)) [] (entry (one (plain (Tree.boolean true))) [] (entry (one (plain (Tree.integer (negsuc 6)))) []
-      (entry (one (plain (Tree.real (codes "1e400")))) [] (entry (one (word (codes "a b"))) [] (entry (beside 2 (scalar (quoted (codes "a")))) []
-      (last_entry (one (quoted (codes "\t\"\n"))))))))))),
-  search,
-  search,
-  refl,
-  refl,
-)
-
--- an array at a deeper column than its key's, with a comment line before it and an empty line in it
-array_below_key : IsLaidOut
-    (Tree.hash (pairs_of ((Tree.string (codes "a"), Tree.array (items_of (Tree.integer (pos 1) ∷ Tree.integer (pos 2) ∷ []))) ∷ [])))
-    (codes "---\na:\n# note\n     - 1\n\n     - 2\n")
-unfolding is_quoted is_unfit_for_plain typing is_decimal is_literal is_literal_character is_line_character digits
-array_below_key = (
-  marked (record {
-    gap = [];
-    root = Root.block 0 (hash (last_field (implicit (word (codes "a"))
-        (below no_comment (comment_line (codes " note") ∷ []) 5 (array (entry (one (integer 1)) (empty_line ∷ []) (last_entry (one (integer 2)))))))));
-  }) (empty_line ∷ []),
+-- three documents
+documents : AreLaidOut
+    (Tree.hash (pairs_of ((Tree.string (codes "a"), Tree.integer (pos 1)) ∷ []))
+    ∷ Tree.array (items_of (Tree.string (codes "b") ∷ []))
+    ∷ Tree.integer (pos 5) ∷ [])
+    (codes "a: 1\n\n---\n- b\n# c\n---\n5")
+unfolding is_quoted is_unfit_for_plain typing is_decimal is_line_character digits
+documents = (
+  record {
+    is_marked = false;
+    documents =
+        document (plainly (hash (last_field (implicit (word (codes "a")) (one (integer 1)))))) (empty_line ∷ [])
+        (document (plainly (array (last_entry (one (word (codes "b")))))) (comment_line (codes " c") ∷ [])
+        (last_document (record { gap = []; root = inline (scalar (integer 5)) }) []));
+  },
   search arith,
-  search,
   refl,
   refl,
 )
 
--- a literal block without a last break, and an entry behind it
-literal_value : IsLaidOut
-    (Tree.hash (pairs_of ((Tree.string (codes "foo"), Tree.string (codes "bar!\nbar!")) ∷ (Tree.string (codes "baz"), Tree.integer (pos 42)) ∷ [])))
-    (codes "---\nfoo: |-\n  bar!\n  bar!\nbaz: 42")
-unfolding is_quoted is_unfit_for_plain typing is_decimal is_literal is_literal_character is_line_character digits
-literal_value = (
-  plainly (hash (field (implicit (word (codes "foo")) (Value.literal 0 2 (codes "bar!\nbar!") (full (codes "bar!") ∷ full (codes "bar!") ∷ []))) []
-      (last_field (implicit (word (codes "baz")) (one (integer 42)))))),
-  search (arith, differ),
-  search,
-  refl,
-  refl,
-)
-
--- an empty line of a literal block has as many spaces as the others at most: here none, two, and three
-literal_with_empty_lines : IsLaidOut
-    (Tree.array (items_of (Tree.string (codes "\na\n\n\nb") ∷ [])))
-    (codes "---\n- |-\n   \n   a\n\n  \n   b")
-unfolding is_quoted is_unfit_for_plain typing is_decimal is_literal is_literal_character is_line_character digits
-literal_with_empty_lines = (
-  plainly (array (last_entry (Value.literal 0 3 (codes "\na\n\n\nb") (blank 3 ∷ full (codes "a") ∷ blank 0 ∷ blank 2 ∷ full (codes "b") ∷ [])))),
-  search arith,
-  search,
-  refl,
-  refl,
-)
-
--- a block behind `-` on its line, and one on the next line
-compact_array : IsLaidOut
-    (Tree.array (items_of (Tree.array (items_of (Tree.integer (pos 1) ∷ Tree.integer (pos 2) ∷ [])) ∷ Tree.array Items.no_items ∷ [])))
-    (codes "---\n- - 1\n  - 2\n- []")
-unfolding is_quoted is_unfit_for_plain typing is_decimal is_literal is_literal_character is_line_character digits
-compact_array = (
-  plainly (array (entry (compact 0 (array (entry (one (integer 1)) [] (last_entry (one (integer 2)))))) [] (last_entry (beside 0 empty_array)))),
-  search arith,
-  search,
-  refl,
-  refl,
-)
-
-spread_array : IsLaidOut
-    (Tree.array (items_of (Tree.array (items_of (Tree.integer (pos 1) ∷ Tree.integer (pos 2) ∷ [])) ∷ Tree.array Items.no_items ∷ [])))
-    (codes "---\n-\n  - 1\n  - 2\n- []")
-unfolding is_quoted is_unfit_for_plain typing is_decimal is_literal is_literal_character is_line_character digits
-spread_array = (
-  plainly (array (entry (below no_comment [] 2 (array (entry (one (integer 1)) [] (last_entry (one (integer 2)))))) [] (last_entry (beside 0 empty_array)))),
-  search arith,
-  search,
-  refl,
-  refl,
-)
-
--- a hash as key
-hash_as_key : IsLaidOut
-    (Tree.hash (pairs_of
-    ((
-      Tree.hash (pairs_of ((Tree.string (codes "key"), Tree.array (items_of (Tree.integer (pos 1) ∷ Tree.integer (pos 2) ∷ Tree.integer (pos 3) ∷ []))) ∷ [])),
-      Tree.array (items_of (Tree.integer (pos 4) ∷ Tree.integer (pos 5) ∷ Tree.integer (pos 6) ∷ [])),
-    ) ∷ [])))
-    (codes "---\n? key:\n    - 1\n    - 2\n    - 3\n: - 4\n  - 5\n  - 6")
-unfolding is_quoted is_unfit_for_plain typing is_decimal is_literal is_literal_character is_line_character digits
-hash_as_key = (
-  plainly (hash (last_field (explicit
-      (compact 0 (hash (last_field (implicit (word (codes "key"))
-      (below no_comment [] 4 (array (entry (one (integer 1)) [] (entry (one (integer 2)) [] (last_entry (one (integer 3)))))))))))
-      []
-      (compact 0 (array (entry (one (integer 4)) [] (entry (one (integer 5)) [] (last_entry (one (integer 6)))))))))),
-  search arith,
-  search,
-  refl,
-  refl,
-)
-
--- an empty array as key, behind two spaces, and a key and a value on lines of their own
-other_keys : IsLaidOut
-    (Tree.hash (pairs_of ((Tree.array Items.no_items, Tree.integer (pos 1)) ∷ (Tree.array (items_of (Tree.null ∷ [])), Tree.array (items_of (Tree.null ∷ []))) ∷ [])))
-    (codes "---\n?  []\n: 1\n?\n - ~\n:\n  - ~")
-unfolding is_quoted is_unfit_for_plain typing is_decimal is_literal is_literal_character is_line_character digits
-other_keys = (
-  plainly (hash (field (explicit (beside 1 empty_array) [] (one (integer 1))) []
-      (last_field (explicit (below no_comment [] 1 (array (last_entry (one (plain Tree.null))))) [] (below no_comment [] 2 (array (last_entry (one (plain Tree.null))))))))),
-  search (arith, differ),
-  search,
-  refl,
-  refl,
-)
-
--- a root on one line, behind a gap, with a comment at the end that no break ends
-scalar_root : IsLaidOut (Tree.string (codes "a")) (codes "---\n\n#\na\n# end")
-unfolding is_quoted is_unfit_for_plain typing is_decimal is_literal is_literal_character is_line_character digits
-scalar_root = (
-  marked (record { gap = empty_line ∷ comment_line [] ∷ []; root = Root.inline (scalar (word (codes "a"))) }) (comment_line (codes " end") ∷ []),
-  search,
-  search,
-  refl,
-  refl,
-)
-
--- a literal block as root, and line feeds behind it
-literal_root : IsLaidOut (Tree.string (codes "a\n\n b\n")) (codes "---\n|\na\n\n b\n\n")
-unfolding is_quoted is_unfit_for_plain typing is_decimal is_literal is_literal_character is_line_character digits is_root_literal
-literal_root = (
-  marked (record { gap = []; root = Root.literal (codes "a\n\n b\n") (full (codes "a") ∷ blank 0 ∷ full (codes " b") ∷ []) }) (empty_line ∷ empty_line ∷ []),
+-- a literal block at column 0, line feeds, and the next document, which is one in single quotes
+literal_and_document : AreLaidOut (Tree.string (codes "a\nb\n") ∷ Tree.string (codes "c") ∷ []) (codes "---\n|\na\nb\n\n---\n'c'\n")
+unfolding is_literal is_literal_character is_root_literal is_line_character
+literal_and_document = (
+  record {
+    is_marked = true;
+    documents =
+        document (record { gap = []; root = Root.literal (codes "a\nb\n") (full (codes "a") ∷ full (codes "b") ∷ []) }) (empty_line ∷ [])
+        (last_document (record { gap = []; root = inline (scalar (single_quoted (codes "c"))) }) (empty_line ∷ []));
+  },
   search (arith, true≢false),
-  search,
   refl,
   refl,
 )
 
--- ---- keys of 1024 characters, and of one more: so many letters, and two quotes
+-- a folded block that keeps one break, with a more indented line and a line that begins with a tab; an anchored literal block and its alias
+blocks_as_items : AreLaidOut
+    (Tree.array (items_of (Tree.string (codes "a b\n  c\nd\n\te\nf\n") ∷ Tree.string (codes "p\nq\n") ∷ Tree.string (codes "p\nq\n") ∷ [])) ∷ [])
+    (codes "---\n- >\n a\n b\n   c\n d\n \te\n f\n- &l1 |\n  p\n  q\n-  *l1")
+unfolding is_literal is_literal_character is_line_character row_of is_empty_line is_content_line is_blank
+blocks_as_items = (
+  alone (array
+      (entry (folded 0 1 false (codes "a b\n  c\nd\n\te\nf\n")
+      (full (codes "a") ∷ full (codes "b") ∷ full (codes "  c") ∷ full (codes "d") ∷ full (codes "\te") ∷ full (codes "f") ∷ [])) []
+      (entry (anchored 0 (codes "l1") (Value.literal 0 2 (codes "p\nq\n") (full (codes "p") ∷ full (codes "q") ∷ []))) []
+      (last_entry (Value.alias 1 (codes "l1") (Tree.string (codes "p\nq\n"))))))),
+  search (arith, true≢false),
+  refl,
+  refl,
+)
 
-key_1024 : IsImplicitKey (quoted (replicate 1022 97))
-unfolding written_character
-key_1024 = (tt, omega arith)
+-- a folded block, a gap behind it, and further text
+folded_before_gap : AreLaidOut (Tree.array (items_of (Tree.string (codes "a") ∷ Tree.string (codes "b") ∷ [])) ∷ []) (codes "---\n- >-\n a\n\n# c\n- b")
+unfolding is_literal is_literal_character is_line_character row_of is_empty_line is_content_line is_blank is_quoted is_unfit_for_plain typing is_decimal
+folded_before_gap = (
+  alone (array
+      (entry (folded 0 1 true (codes "a") (full (codes "a") ∷ [])) (empty_line ∷ comment_line (codes " c") ∷ [])
+      (last_entry (one (word (codes "b")))))),
+  search (arith, true≢false),
+  refl,
+  refl,
+)
 
-key_1025 : ¬ IsImplicitKey (quoted (replicate 1023 97))
-unfolding written_character
+-- an anchor inside the node of the same anchor: behind that node the alias means the inner one, which stands later
+inner_anchor : last_tree (codes "a")
+    (anchors_behind (anchored 0 (codes "a") (below no_comment [] 2 (array (last_entry (anchored 0 (codes "a") (one (integer 1))))))) [])
+    ≡ Some (Tree.integer (pos 1))
+inner_anchor = refl
+
+-- ---- keys in single quotes, of 1024 characters and of one more
+
+key_1024 : IsImplicitKey (single_quoted (replicate 1022 97))
+unfolding is_line_character
+key_1024 = (refl, omega arith)
+
+key_1025 : ¬ IsImplicitKey (single_quoted (replicate 1023 97))
 key_1025 h = let too_long : 1025 ≤ 1024 = h.1 in omega arith
 
 -- ---- written things that are no layout
 
--- a nested block at the column of what it is nested in; one column deeper it may stand
-same_column : ¬ IsValue 3 [] (below no_comment [] 3 (array (last_entry (beside 0 empty_array))))
-same_column h = let deeper : 3 < 3 = h.2 in omega arith
+-- an LF and a NUL in single quotes
+break_in_quotes : ¬ IsValue 0 [] (one (single_quoted (codes "a\nb")))
+unfolding is_line_character
+break_in_quotes h = true≢false (sym h.0)
 
-one_column_deeper : IsValue 3 [] (below no_comment [] 4 (array (last_entry (beside 0 empty_array))))
-one_column_deeper = search arith
+nul_in_quotes : ¬ IsValue 0 [] (one (single_quoted (97 ∷ 0 ∷ [])))
+unfolding is_line_character
+nul_in_quotes h = true≢false (sym h.0)
 
--- the lines of a literal block likewise
-literal_at_same_column : ¬ IsValue 1 [] (Value.literal 0 1 (codes "a\nb") (full (codes "a") ∷ full (codes "b") ∷ []))
-literal_at_same_column h = let deeper : 1 < 1 = h.0 in omega arith
+-- an alias inside the node that has its anchor
+alias_inside : (t : Tree) → ¬ IsValue 0 [] (anchored 0 (codes "a") (below no_comment [] 2 (array (last_entry (Value.alias 0 (codes "a") t)))))
+alias_inside t h = nothing_differs _ t refl h.2.3.1.1
 
--- a literal text that ends in two breaks, one that is breaks alone, one whose first line begins with a space, one without a break
-ends_in_two_breaks : ¬ IsValue 0 [] (Value.literal 0 2 (codes "a\n\n") (full (codes "a") ∷ blank 0 ∷ []))
-unfolding is_literal is_literal_character
-ends_in_two_breaks h = true≢false (sym h.1)
+-- an alias in another document than its anchor
+alias_past_document : (t : Tree) → ¬ AreDocuments
+    (document (plainly (array (last_entry (anchored 0 (codes "a") (one (word (codes "b"))))))) []
+    (last_document (plainly (array (last_entry (Value.alias 0 (codes "a") t)))) []))
+alias_past_document t h = nothing_differs _ t refl h.3.1.1.1
 
-breaks_alone : ¬ IsValue 0 [] (Value.literal 0 2 (codes "\n") (blank 0 ∷ []))
-unfolding is_literal is_literal_character
-breaks_alone h = true≢false (sym h.1)
+-- an alias that stands for another tree than its anchor's
+alias_of_other : ¬ AreEntries 0 [] (entry (anchored 0 (codes "a") (one (word (codes "b")))) [] (last_entry (Value.alias 0 (codes "a") Tree.null)))
+alias_of_other h = some_differ (Tree.string (codes "b")) Tree.null refl refl h.3.1.1
 
-begins_with_space : ¬ IsValue 0 [] (Value.literal 0 2 (codes "\n a\nb") (blank 0 ∷ full (codes " a") ∷ full (codes "b") ∷ []))
-unfolding is_literal is_literal_character
-begins_with_space h = true≢false (sym h.1)
+-- a name that holds a sign
+name_with_sign : ¬ IsValue 0 [] (anchored 0 (codes "a-b") (one (single_quoted [])))
+name_with_sign h = true≢false (sym h.0)
 
-without_break : ¬ IsValue 0 [] (Value.literal 0 2 (codes "a") (full (codes "a") ∷ []))
-unfolding is_literal is_literal_character
-without_break h = true≢false (sym h.1)
+-- an anchor before an empty array, before a folded block, and before a block on its line
+anchored_empty_array : ¬ IsValue 0 [] (anchored 0 (codes "a") (beside 0 empty_array no_comment))
+anchored_empty_array h = h.1
 
--- an empty line with more spaces than the others have
-deeper_empty_line : ¬ IsValue 0 [] (Value.literal 0 2 (codes "a\n\nb") (full (codes "a") ∷ blank 3 ∷ full (codes "b") ∷ []))
-deeper_empty_line h = let at_most : 3 ≤ 2 = h.2.1.1.0 in omega arith
+anchored_folded : ¬ IsValue 0 [] (anchored 0 (codes "a") (folded 0 1 true (codes "a") (full (codes "a") ∷ [])))
+anchored_folded h = h.1
 
--- at the root, a first line that begins with a tab, a line that is a document marker, and a comment behind the block
-root_begins_with_tab : ¬ IsRoot (Root.literal (codes "\ta\nb") (full (codes "\ta") ∷ full (codes "b") ∷ []))
-unfolding is_literal is_literal_character is_root_literal
-root_begins_with_tab h = true≢false (sym h.0)
+anchored_compact : ¬ IsValue 0 [] (anchored 0 (codes "a") (compact 0 (array (last_entry (beside 0 empty_array no_comment)))))
+anchored_compact h = h.1
 
-root_holds_marker : ¬ IsRoot (Root.literal (codes "a\n---\nb") (full (codes "a") ∷ full (codes "---") ∷ full (codes "b") ∷ []))
-unfolding is_literal is_literal_character is_root_literal
-root_holds_marker h = true≢false (sym h.0)
+-- a folded block whose first line begins with a space, one whose last line is empty, and one of another text
+folded_begins_with_space : ¬ IsValue 0 [] (folded 0 2 true (codes " a") (full (codes " a") ∷ []))
+folded_begins_with_space h = true≢false h.1.0
 
-comment_behind_literal_root : ¬ AreDocuments (last_document (record { gap = []; root = Root.literal (codes "a\nb") (full (codes "a") ∷ full (codes "b") ∷ []) }) (comment_line [] ∷ []))
+folded_ends_empty : ¬ IsValue 0 [] (folded 0 2 true (codes "a") (full (codes "a") ∷ blank 0 ∷ []))
+folded_ends_empty h = h.1.1
+
+folded_other_text : ¬ IsValue 0 [] (folded 0 2 true (codes "a\nb") (full (codes "a") ∷ full (codes "b") ∷ []))
+unfolding row_of is_empty_line is_content_line is_blank
+folded_other_text h = some_text_differ (codes "a b") (codes "a\nb") refl refl h.1.4
+
+-- JSON that has a tab or a break, and JSON that is no array and no object
+json_with_break : ¬ IsValue 0 [] (Value.json 0 (Json.empty_array (line_feed ∷ [])))
+unfolding is_on_one_line
+json_with_break h = true≢false (sym h.3)
+
+json_with_tab : ¬ IsValue 0 [] (Value.json 0 (Json.empty_array (tab ∷ [])))
+json_with_tab h = true≢false (sym h.1.0)
+
+json_scalar : ¬ IsValue 0 [] (Value.json 0 Json.null_word)
+json_scalar h = h.0
+
+-- an array at the column of the dash that it is an item of, and at the column of the `:` behind an array as key
+at_dash : ¬ AreEntries 0 [] (last_entry (at_key no_comment [] (last_entry (beside 0 empty_array no_comment))))
+at_dash h = h.0
+
+at_complex_key : ¬ IsField 0 [] (explicit (beside 0 empty_array no_comment) [] (at_key no_comment [] (last_entry (beside 0 empty_array no_comment))))
+at_complex_key h = h.3
+
+-- a comment that holds a CR, an LF, a NUL
+comment_with_return : ¬ IsValue 0 [] (beside 0 empty_array (comment 0 (codes "a\r")))
+unfolding is_line_character
+comment_with_return h = true≢false (sym h.1)
+
+comment_with_line_feed : ¬ IsValue 0 [] (beside 0 empty_array (comment 0 (codes "a\nb")))
+unfolding is_line_character
+comment_with_line_feed h = true≢false (sym h.1)
+
+comment_with_nul : ¬ IsValue 0 [] (beside 0 empty_array (comment 0 (97 ∷ 0 ∷ [])))
+unfolding is_line_character
+comment_with_nul h = true≢false (sym h.1)
+
+-- a comment behind a literal block at column 0, where the next document begins
+comment_behind_literal_root : ¬ AreDocuments
+    (document (record { gap = []; root = Root.literal (codes "a\nb") (full (codes "a") ∷ full (codes "b") ∷ []) }) (comment_line [] ∷ [])
+    (last_document (record { gap = []; root = inline empty_array }) []))
 comment_behind_literal_root h = h.2.0
-
--- a comment line that holds CR, and one that holds NUL
-comment_with_return : ¬ IsGap (comment_line (codes "a\r") ∷ [])
-unfolding is_line_character
-comment_with_return h = true≢false (sym h.0)
-
-comment_with_nul : ¬ IsGap (comment_line (0 ∷ []) ∷ [])
-unfolding is_line_character
-comment_with_nul h = true≢false (sym h.0)
-
--- a block on the line of its scalar key; a scalar behind `?`
-block_beside_key : ¬ IsField 0 [] (implicit (quoted (codes "a")) (compact 0 (array (last_entry (beside 0 empty_array)))))
-block_beside_key h = h.1
-
-scalar_behind_question_mark : ¬ IsField 0 [] (explicit (one (quoted (codes "a"))) [] (beside 0 empty_array))
-scalar_behind_question_mark h = h.0
-
--- a key twice, as it stands and in quotes
-repeated_key : ¬ IsBlock 0 [] (hash (field (implicit (word (codes "a")) (beside 0 empty_array)) []
-    (last_field (implicit (quoted (codes "a")) (beside 0 empty_array)))))
-repeated_key h = h.1.0.0 refl
-
--- strings that are quoted, a text that is no real, an integer past 64 bits, and the two variants that have no text
-plain_colon : ¬ IsPlain (Tree.string (codes "a: b"))
-unfolding is_quoted is_unfit_for_plain typing is_decimal
-plain_colon h = true≢false h
-
-plain_number : ¬ IsPlain (Tree.string (codes "12"))
-unfolding is_quoted is_unfit_for_plain typing is_decimal
-plain_number h = true≢false h
-
-no_real : ¬ IsPlain (Tree.real (codes "12"))
-unfolding typing is_decimal
-no_real h = true≢false (sym h)
-
-no_integer : ¬ IsPlain (Tree.integer (pos 9223372036854775808))
-no_integer h = true≢false (sym h)
-
-no_alias : ¬ IsPlain (Tree.alias 1)
-no_alias h = h
-
-no_bad_value : ¬ IsPlain Tree.bad_value
-no_bad_value h = h
-
--- ---- texts that no written thing has
-
--- a text that doesn't begin with `---` is a layout of no tree
-begins_with_dash : {t : Tree} {text : List ℕ} → IsLaidOut t text → slice_index text 0 == 45 ≡ true
-begins_with_dash (w, is, basic, spelt, trees) =
-    ap (λ x. slice_index x 0 == 45) (sym spelt) ∙ ap (λ b. slice_index (wide.spell_mark b (wide.spell_documents w.documents [])) 0 == 45) basic.0
-
-without_marker : (t : Tree) → ¬ IsLaidOut t (codes "a: 1")
-without_marker t h = true≢false (sym (begins_with_dash h))
-
-empty_text : (t : Tree) → ¬ IsLaidOut t []
-empty_text t h = true≢false (sym (begins_with_dash h))

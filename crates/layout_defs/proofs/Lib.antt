@@ -1,7 +1,7 @@
 mod Appended
+mod BasicRows
 mod Differ
 pub mod InTurn
 mod JsonRows
 mod LayoutRows
 mod Soundness
-mod WideRows

@@ -8,8 +8,7 @@ use Rattle.tree_defs.specs.Valid.{AllDistinct, AllPairsDistinct, AllFitI64, AllP
 use Rattle.layout_defs.specs.JsonNumber.{Number, number, no_fraction, fraction, no_exponent, exponent, number_tree, integer_value}
 use Rattle.layout_defs.specs.Json.{Json, Elements, last_element, element, Members, last_member, member, IsJson, AreElements, AreMembers, tree_of, items, pair_list, IsJsonText}
 use Rattle.layout_defs.specs.Anchored.{Anchor, begun, ended, with_end, last_tree}
-use Rattle.layout_defs.specs.Layout.{IsLaidOut}
-use Rattle.layout_defs.specs.WideLayout
+use Rattle.layout_defs.specs.Layout
 use Rattle.layout_defs.specs.Sound.{IsSound, AreAllSound, AllHaveValues, AllPairsHaveValues}
 
 -- ---- items and pairs
@@ -96,7 +95,7 @@ json_text_sound t text h = rw (h.3) at (json_sound h.0.value h.1.value)
 
 -- ---- layouts
 
-plain_sound : (t : Tree) → WideLayout.IsPlain t → IsSound t
+plain_sound : (t : Tree) → Layout.IsPlain t → IsSound t
 plain_sound (Tree.real s) h = real_sound s
 plain_sound (Tree.integer z) h = record { distinct = tt; fits = h; has_values = tt }
 plain_sound (Tree.string s) h = string_sound s
@@ -136,67 +135,64 @@ last_tree_sound name (begun n ∷ a) t hs e =
 last_tree_sound name (ended n u ∷ a) t hs e =
     either_sound (bytes_eq n name) (Some u) (last_tree name a) t (found_sound u t hs.0) (last_tree_sound name a t hs.1) e
 
-scalar_sound : (s : WideLayout.Scalar) → WideLayout.IsScalar s → IsSound (WideLayout.scalar_tree s)
-scalar_sound (WideLayout.plain t) h = plain_sound t h
-scalar_sound (WideLayout.quoted text) h = string_sound text
-scalar_sound (WideLayout.single_quoted text) h = string_sound text
+scalar_sound : (s : Layout.Scalar) → Layout.IsScalar s → IsSound (Layout.scalar_tree s)
+scalar_sound (Layout.plain t) h = plain_sound t h
+scalar_sound (Layout.quoted text) h = string_sound text
+scalar_sound (Layout.single_quoted text) h = string_sound text
 
-inline_sound : (i : WideLayout.Inline) → WideLayout.IsInline i → IsSound (WideLayout.inline_tree i)
-inline_sound (WideLayout.scalar s) h = scalar_sound s h
-inline_sound WideLayout.empty_array h = array_sound Items.no_items no_items_sound
-inline_sound WideLayout.empty_hash h = empty_hash_sound
+inline_sound : (i : Layout.Inline) → Layout.IsInline i → IsSound (Layout.inline_tree i)
+inline_sound (Layout.scalar s) h = scalar_sound s h
+inline_sound Layout.empty_array h = array_sound Items.no_items no_items_sound
+inline_sound Layout.empty_hash h = empty_hash_sound
 
 mutual
-  block_sound : (c : ℕ) (a : List Anchor) (b : WideLayout.Block) → WideLayout.IsBlock c a b → AreAnchorsSound a → IsSound (WideLayout.block_tree b) × AreAnchorsSound (WideLayout.anchors_behind_block b a)
-  block_sound c a (WideLayout.array es) h hs = let k = entries_sound c a es h hs in (array_sound _ k.0, k.1)
-  block_sound c a (WideLayout.hash fs) h hs = let k = fields_sound c a fs h.0 hs in (hash_sound (WideLayout.pair_list fs) h.1 k.0, k.1)
+  block_sound : (c : ℕ) (a : List Anchor) (b : Layout.Block) → Layout.IsBlock c a b → AreAnchorsSound a → IsSound (Layout.block_tree b) × AreAnchorsSound (Layout.anchors_behind_block b a)
+  block_sound c a (Layout.array es) h hs = let k = entries_sound c a es h hs in (array_sound _ k.0, k.1)
+  block_sound c a (Layout.hash fs) h hs = let k = fields_sound c a fs h.0 hs in (hash_sound (Layout.pair_list fs) h.1 k.0, k.1)
 
-  value_sound : (c : ℕ) (a : List Anchor) (v : WideLayout.Value) → WideLayout.IsValue c a v → AreAnchorsSound a → IsSound (WideLayout.value_tree v) × AreAnchorsSound (WideLayout.anchors_behind v a)
-  value_sound c a (WideLayout.beside more i behind) h hs = (inline_sound i h.0, hs)
-  value_sound c a (WideLayout.Value.literal more column text ls) h hs = (string_sound text, hs)
-  value_sound c a (WideLayout.folded more column strips text ls) h hs = (string_sound text, hs)
-  value_sound c a (WideLayout.Value.json more v) h hs = (json_sound v h.1, hs)
-  value_sound c a (WideLayout.compact more b) h hs = block_sound _ a b h hs
-  value_sound c a (WideLayout.below behind g column b) h hs = block_sound column a b h.3 hs
-  value_sound c a (WideLayout.at_key behind g es) h hs = let k = entries_sound c a es h.2 hs in (array_sound _ k.0, k.1)
-  value_sound c a (WideLayout.anchored more name v) h hs =
+  value_sound : (c : ℕ) (a : List Anchor) (v : Layout.Value) → Layout.IsValue c a v → AreAnchorsSound a → IsSound (Layout.value_tree v) × AreAnchorsSound (Layout.anchors_behind v a)
+  value_sound c a (Layout.beside more i behind) h hs = (inline_sound i h.0, hs)
+  value_sound c a (Layout.Value.literal more column text ls) h hs = (string_sound text, hs)
+  value_sound c a (Layout.folded more column strips text ls) h hs = (string_sound text, hs)
+  value_sound c a (Layout.Value.json more v) h hs = (json_sound v h.1, hs)
+  value_sound c a (Layout.compact more b) h hs = block_sound _ a b h hs
+  value_sound c a (Layout.below behind g column b) h hs = block_sound column a b h.3 hs
+  value_sound c a (Layout.at_key behind g es) h hs = let k = entries_sound c a es h.2 hs in (array_sound _ k.0, k.1)
+  value_sound c a (Layout.anchored more name v) h hs =
       let k = value_sound c (begun name ∷ a) v h.2 hs in (k.0, with_end_sound _ _ k.0 k.1)
-  value_sound c a (WideLayout.Value.alias more name t) h hs = (last_tree_sound name a t hs h.1, hs)
+  value_sound c a (Layout.Value.alias more name t) h hs = (last_tree_sound name a t hs h.1, hs)
 
-  entries_sound : (c : ℕ) (a : List Anchor) (es : WideLayout.Entries) → WideLayout.AreEntries c a es → AreAnchorsSound a → AreSound (WideLayout.items es) × AreAnchorsSound (WideLayout.anchors_behind_entries es a)
-  entries_sound c a (WideLayout.last_entry v) h hs = let k = value_sound c a v h.1 hs in (item_sound _ Items.no_items k.0 no_items_sound, k.1)
-  entries_sound c a (WideLayout.entry v g es) h hs =
+  entries_sound : (c : ℕ) (a : List Anchor) (es : Layout.Entries) → Layout.AreEntries c a es → AreAnchorsSound a → AreSound (Layout.items es) × AreAnchorsSound (Layout.anchors_behind_entries es a)
+  entries_sound c a (Layout.last_entry v) h hs = let k = value_sound c a v h.1 hs in (item_sound _ Items.no_items k.0 no_items_sound, k.1)
+  entries_sound c a (Layout.entry v g es) h hs =
       let k = value_sound c a v h.1 hs in
       let l = entries_sound c _ es h.3 k.1 in
       (item_sound _ _ k.0 l.0, l.1)
 
-  field_sound : (c : ℕ) (a : List Anchor) (f : WideLayout.Field) → WideLayout.IsField c a f → AreAnchorsSound a
-      → (IsSound (WideLayout.pair_of f).0 × IsSound (WideLayout.pair_of f).1) × AreAnchorsSound (WideLayout.anchors_behind_field f a)
-  field_sound c a (WideLayout.implicit k v) h hs = let l = value_sound c a v h.2 hs in ((scalar_sound k h.0.0, l.0), l.1)
-  field_sound c a (WideLayout.explicit k g v) h hs =
+  field_sound : (c : ℕ) (a : List Anchor) (f : Layout.Field) → Layout.IsField c a f → AreAnchorsSound a
+      → (IsSound (Layout.pair_of f).0 × IsSound (Layout.pair_of f).1) × AreAnchorsSound (Layout.anchors_behind_field f a)
+  field_sound c a (Layout.implicit k v) h hs = let l = value_sound c a v h.2 hs in ((scalar_sound k h.0.0, l.0), l.1)
+  field_sound c a (Layout.explicit k g v) h hs =
       let m = value_sound c a k h.1 hs in
       let l = value_sound c _ v h.4 m.1 in
       ((m.0, l.0), l.1)
 
-  fields_sound : (c : ℕ) (a : List Anchor) (fs : WideLayout.Fields) → WideLayout.AreFields c a fs → AreAnchorsSound a → ArePairsSound (pairs_of (WideLayout.pair_list fs)) × AreAnchorsSound (WideLayout.anchors_behind_fields fs a)
-  fields_sound c a (WideLayout.last_field f) h hs =
+  fields_sound : (c : ℕ) (a : List Anchor) (fs : Layout.Fields) → Layout.AreFields c a fs → AreAnchorsSound a → ArePairsSound (pairs_of (Layout.pair_list fs)) × AreAnchorsSound (Layout.anchors_behind_fields fs a)
+  fields_sound c a (Layout.last_field f) h hs =
       let k = field_sound c a f h hs in (pair_sound _ _ Pairs.no_pairs k.0.0 k.0.1 no_pairs_sound, k.1)
-  fields_sound c a (WideLayout.field f g fs) h hs =
+  fields_sound c a (Layout.field f g fs) h hs =
       let k = field_sound c a f h.0 hs in
       let l = fields_sound c _ fs h.2 k.1 in
       (pair_sound _ _ _ k.0.0 k.0.1 l.0, l.1)
 
-root_sound : (x : WideLayout.Root) → WideLayout.IsRoot x → IsSound (WideLayout.root_tree x)
-root_sound (WideLayout.Root.block column b) h = (block_sound column [] b h tt).0
-root_sound (WideLayout.Root.inline i) h = inline_sound i h
-root_sound (WideLayout.Root.literal text ls) h = string_sound text
+root_sound : (x : Layout.Root) → Layout.IsRoot x → IsSound (Layout.root_tree x)
+root_sound (Layout.Root.block column b) h = (block_sound column [] b h tt).0
+root_sound (Layout.Root.inline i) h = inline_sound i h
+root_sound (Layout.Root.literal text ls) h = string_sound text
 
-documents_sound : (ds : WideLayout.Documents) → WideLayout.AreDocuments ds → AreAllSound (WideLayout.trees_of ds)
-documents_sound (WideLayout.last_document d behind) h = (root_sound d.root h.1, tt)
-documents_sound (WideLayout.document d g ds) h = (root_sound d.root h.1, documents_sound ds h.3)
+documents_sound : (ds : Layout.Documents) → Layout.AreDocuments ds → AreAllSound (Layout.trees_of ds)
+documents_sound (Layout.last_document d behind) h = (root_sound d.root h.1, tt)
+documents_sound (Layout.document d g ds) h = (root_sound d.root h.1, documents_sound ds h.3)
 
-pub widely_laid_out_sound : (ts : List Tree) (text : List ℕ) → WideLayout.AreLaidOut ts text → AreAllSound ts
-widely_laid_out_sound ts text h = rw (h.3) at (documents_sound h.0.documents h.1)
-
-pub laid_out_sound : (t : Tree) (text : List ℕ) → IsLaidOut t text → IsSound t
-laid_out_sound t text (w, is, basic, spelt, trees) = (widely_laid_out_sound (t ∷ []) text (w, is, spelt, trees)).0
+pub laid_out_sound : (ts : List Tree) (text : List ℕ) → Layout.AreLaidOut ts text → AreAllSound ts
+laid_out_sound ts text h = rw (h.3) at (documents_sound h.0.documents h.1)

@@ -5,11 +5,11 @@ use Rattle.tree_defs.specs.Tree.{Tree}
 use Rattle.tree_defs.specs.Valid.{IsDistinct, FitsI64}
 use Rattle.tree_defs.specs.Writable.{IsWritable}
 use Rattle.tree_defs.specs.DumpText.{dump_text}
-use Rattle.layout_defs.specs.Layout.{IsLaidOut}
+use Rattle.layout_defs.specs.Basic.{IsBasicLayout}
 
 -- the text of a tree that can be written is a layout of that tree, in these settings
 abbrev pub IsDumpLaidOut : (compact multiline : Bool) → Tree → Type 0
-IsDumpLaidOut compact multiline t = IsWritable t → IsLaidOut t (dump_text compact multiline t)
+IsDumpLaidOut compact multiline t = IsWritable t → IsBasicLayout t (dump_text compact multiline t)
 
 -- the same of every tree of the library, in every setting
 abbrev pub DumpsAreLaidOut : Type 0

@@ -2,10 +2,10 @@
 use Rattle.std.specs.Prelude.{◌≡◌, ℕ, List, [], ◌∷◌, ◌++◌}
 use Rattle.tree_defs.specs.Tree.{Tree}
 use Rattle.layout_defs.specs.Marks.{line_feed}
-use Rattle.layout_defs.specs.Layout.{IsLaidOut}
+use Rattle.layout_defs.specs.Basic.{IsBasicLayout}
 
 -- the trees are laid out one after another, an LF after each: of no tree the text is empty
 abbrev pub AreLaidOutInTurn : List Tree → List ℕ → Type 0
 AreLaidOutInTurn [] text = text ≡ []
 AreLaidOutInTurn (t ∷ ts) text =
-    (first others : List ℕ) × IsLaidOut t first × AreLaidOutInTurn ts others × (first ++ line_feed ∷ others ≡ text)
+    (first others : List ℕ) × IsBasicLayout t first × AreLaidOutInTurn ts others × (first ++ line_feed ∷ others ≡ text)

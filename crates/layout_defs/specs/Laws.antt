@@ -2,8 +2,8 @@
 use Rattle.std.specs.Prelude.{ℕ, List, [], ◌∷◌}
 use Rattle.tree_defs.specs.Tree.{Tree}
 use Rattle.layout_defs.specs.Json.{IsJsonText}
-use Rattle.layout_defs.specs.Layout.{IsLaidOut}
-use Rattle.layout_defs.specs.WideLayout.{AreLaidOut}
+use Rattle.layout_defs.specs.Basic.{IsBasicLayout}
+use Rattle.layout_defs.specs.Layout.{AreLaidOut}
 use Rattle.layout_defs.specs.InTurn.{AreLaidOutInTurn}
 use Rattle.layout_defs.specs.Sound.{IsSound, AreAllSound}
 
@@ -13,16 +13,12 @@ JsonTreesAreSound = (t : Tree) (text : List ℕ) → IsJsonText t text → IsSou
 
 -- `laid_out_trees_are_sound`
 abbrev pub LaidOutTreesAreSound : Type 0
-LaidOutTreesAreSound = (t : Tree) (text : List ℕ) → IsLaidOut t text → IsSound t
+LaidOutTreesAreSound = (ts : List Tree) (text : List ℕ) → AreLaidOut ts text → AreAllSound ts
 
--- `widely_laid_out_trees_are_sound`
-abbrev pub WidelyLaidOutTreesAreSound : Type 0
-WidelyLaidOutTreesAreSound = (ts : List Tree) (text : List ℕ) → AreLaidOut ts text → AreAllSound ts
+-- `basic_layouts_are_layouts`
+abbrev pub BasicLayoutsAreLayouts : Type 0
+BasicLayoutsAreLayouts = (t : Tree) (text : List ℕ) → IsBasicLayout t text → AreLaidOut (t ∷ []) text
 
--- `layouts_are_wide_layouts`
-abbrev pub LayoutsAreWideLayouts : Type 0
-LayoutsAreWideLayouts = (t : Tree) (text : List ℕ) → IsLaidOut t text → AreLaidOut (t ∷ []) text
-
--- `layouts_in_turn_are_wide_layouts`, for one tree or more
-abbrev pub LayoutsInTurnAreWideLayouts : Type 0
-LayoutsInTurnAreWideLayouts = (t : Tree) (ts : List Tree) (text : List ℕ) → AreLaidOutInTurn (t ∷ ts) text → AreLaidOut (t ∷ ts) text
+-- `layouts_in_turn_are_layouts`, for one tree or more
+abbrev pub LayoutsInTurnAreLayouts : Type 0
+LayoutsInTurnAreLayouts = (t : Tree) (ts : List Tree) (text : List ℕ) → AreLaidOutInTurn (t ∷ ts) text → AreLaidOut (t ∷ ts) text

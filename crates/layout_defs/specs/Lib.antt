@@ -1,4 +1,5 @@
 pub mod Anchored
+pub mod Basic
 pub mod BlockLines
 pub mod DumpIsInjective
 pub mod DumpIsLaidOut
@@ -13,4 +14,3 @@ pub mod Laws
 pub mod Layout
 pub mod Marks
 pub mod Sound
-pub mod WideLayout

@@ -2,18 +2,18 @@
 use Rattle.std.proofs.Common.{◌≡◌, [], ◌∷◌, true, sym, subst}
 use Rattle.tree_defs.specs.Tree.{Tree}
 use Rattle.tree_defs.specs.DumpText.{dump_text}
-use Rattle.layout_defs.specs.WideLayout.{trees_of}
+use Rattle.layout_defs.specs.Layout.{trees_of}
 use Rattle.layout_defs.specs.DumpIsInjective.{DumpIsInjective}
 use Rattle.dump_layout.proofs.Whole.{dump_is_laid_out}
 use Rattle.loaded_texts.specs.TextReadAs.{IsReadAs}
 use Rattle.loaded_texts.specs.Laws.{DumpsAreReadAsTheirTree}
-use Rattle.loaded_texts.proofs.WideTexts.{wide_texts_are_read}
+use Rattle.loaded_texts.proofs.Layouts.{layouts_are_read}
 use Rattle.loaded_texts.proofs.OneReading.{texts_are_read_in_one_way}
 
 pub dumps_are_read : DumpsAreReadAsTheirTree
 dumps_are_read keep_tags compact multiline t is =
     let laid = dump_is_laid_out compact multiline t is.0 is.1 is.2 in
-    let text = subst (λ s. IsReadAs keep_tags s (trees_of laid.0.documents)) laid.3 (wide_texts_are_read keep_tags laid.0 laid.1) in
+    let text = subst (λ s. IsReadAs keep_tags s (trees_of laid.0.documents)) laid.3 (layouts_are_read keep_tags laid.0 laid.1) in
     subst (λ ts. IsReadAs keep_tags (dump_text compact multiline t) ts) laid.4 text
 
 one_tree : {t u : Tree} → t ∷ [] ≡ u ∷ [] → t ≡ u

@@ -2,17 +2,17 @@
 use Rattle.std.proofs.Common.{Bool, [], ◌∷◌, refl, sym, ap, ◌∙◌, subst}
 use Rattle.token_defs.specs.Token.{Tok}
 use Rattle.layout_defs.specs.DumpsInTurn.{dump_texts}
-use Rattle.laid_tokens.specs.WideTokens.{wide_tokens}
+use Rattle.laid_tokens.specs.LayoutTokens.{layout_tokens}
 use Rattle.event_defs.specs.Grammar.{others, end_stream}
 use Rattle.dump_layout.proofs.Whole.{dumps_are_laid_out_in_turn}
-use Rattle.read_texts.proofs.WideDocuments.{tokens_read_as_their_trees}
+use Rattle.read_texts.proofs.LayoutDocuments.{tokens_read_as_their_trees}
 use Rattle.scan_texts.proofs.Documents.{nothing_has_its_tokens}
 use Rattle.scan_texts.proofs.InTurn.{layouts_in_turn_have_their_tokens}
 use Rattle.yaml_chars.specs.Reading.{up_to_nul}
 use Rattle.loaded_texts.specs.TextReadAs.{IsReadAs}
 use Rattle.loaded_texts.specs.Spelled.{IsWithoutNul}
 use Rattle.loaded_texts.specs.InTurn.{LayoutsInTurnAreReadAsTheirTrees, LayoutsInTurnAreWithoutNul, DumpsInTurnAreReadAsTheirTrees}
-use Rattle.loaded_texts.proofs.WideNul.{wide_texts_have_no_nul}
+use Rattle.loaded_texts.proofs.LayoutNul.{layouts_have_no_nul}
 
 nothing_is_read : (keep_tags : Bool) → IsReadAs keep_tags [] []
 nothing_is_read keep_tags = record {
@@ -25,7 +25,7 @@ pub layouts_in_turn_are_read : LayoutsInTurnAreReadAsTheirTrees
 layouts_in_turn_are_read keep_tags [] text none = subst (λ a. IsReadAs keep_tags a []) (sym none) (nothing_is_read keep_tags)
 layouts_in_turn_are_read keep_tags (t ∷ ts) text laid =
     let z = layouts_in_turn_have_their_tokens t ts text laid in
-    subst (λ trees. IsReadAs keep_tags text trees) z.3 (record { tokens = wide_tokens z.0; has = z.4; read = tokens_read_as_their_trees keep_tags z.0 z.1 })
+    subst (λ trees. IsReadAs keep_tags text trees) z.3 (record { tokens = layout_tokens z.0; has = z.4; read = tokens_read_as_their_trees keep_tags z.0 z.1 })
 
 pub dumps_in_turn_are_read : DumpsInTurnAreReadAsTheirTrees
 dumps_in_turn_are_read keep_tags compact multiline ts can = layouts_in_turn_are_read keep_tags ts (dump_texts compact multiline ts) (dumps_are_laid_out_in_turn compact multiline ts can)
@@ -34,4 +34,4 @@ dumps_in_turn_are_read keep_tags compact multiline ts can = layouts_in_turn_are_
 
 pub layouts_in_turn_have_no_nul : LayoutsInTurnAreWithoutNul
 layouts_in_turn_have_no_nul [] text none = ap up_to_nul none ∙ sym none
-layouts_in_turn_have_no_nul (t ∷ ts) text laid = let z = layouts_in_turn_have_their_tokens t ts text laid in subst IsWithoutNul z.2 (wide_texts_have_no_nul z.0 z.1)
+layouts_in_turn_have_no_nul (t ∷ ts) text laid = let z = layouts_in_turn_have_their_tokens t ts text laid in subst IsWithoutNul z.2 (layouts_have_no_nul z.0 z.1)

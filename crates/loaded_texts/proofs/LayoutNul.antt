@@ -1,175 +1,127 @@
--- The parts of texts laid out in lines have no NUL.
-use Rattle.std.proofs.Common.{◌≡◌, ◌≢◌, ℕ, zero, suc, ◌+◌, ◌/◌, ◌%◌, ◌^◌, ◌<◌, List, [], ◌∷◌, ◌++◌, Bool, true, false, not, ◌||◌, ◌==◌, nat_lt, if◌then◌else◌, refl, ap, ◌∙◌, arith, append_assoc}
-use Rattle.std.specs.Prelude.{codes, nat_eq, ℤ, pos, negsuc}
-use Rattle.std.specs.List.{list_all, list_any, ends_with}
-use Rattle.std.specs.Fmt.{decimal, signed_decimal as decimal_digits}
-use Rattle.std.specs.Str.Parse.{AllDigits}
-use Rattle.std.proofs.lemmas.Fmt.{decimal_is_IsNumeral}
-use Rattle.std.proofs.lemmas.Str.Parse.{digit_from_value}
-use Rattle.std.proofs.lemmas.Bool.{and_parts, or_parts, ltb-true}
-use Rattle.std.proofs.lemmas.Bool.Decides.{nat_tests}
-use Rattle.tree_defs.specs.Tree.{Tree, real, integer, string, boolean, array, hash, alias, null, bad_value}
-use Rattle.tree_defs.specs.Typing.{fits_i64}
-use Rattle.tree_defs.specs.Quoting.{is_unfit_for_plain}
-use Rattle.tree_defs.specs.Escapes.{hexadecimal_digit, escaped_code, written_character, written_escapes, double_quoted}
-use Rattle.tree_defs.specs.Spelling.{spelling}
-use Rattle.tree_defs.specs.Lines.{lines_of, onto_first_line}
-use Rattle.tree_defs.specs.Literal.{is_literal, is_root_literal, is_literal_character}
-use Rattle.tree_defs.proofs.RealTexts.{is_real_character, real_text-characters}
-use Rattle.tree_defs.proofs.Unquoted.{unquoted}
-use Rattle.layout_defs.specs.Gap.{spaces, GapLine, empty_line, comment_line, spell_gap_line, spell_gap, next_line, spell_ending, is_line_character, IsGapLine, IsGap, AreEmptyLines}
-use Rattle.layout_defs.specs.BlockLines.{Line, full, blank, contents, spell_lines}
-use Rattle.layout_defs.specs.WideLayout.{spell_literal, IsPlain, AreLinesOf}
+-- No text that is laid out in lines has a NUL.
+use Rattle.std.proofs.Common.{◌≡◌, ℕ, ◌+◌, List, [], ◌∷◌, ◌++◌, Bool, true, false, ◌==◌, refl, ap, append_assoc, flat_map}
+use Rattle.std.specs.Prelude.{codes}
+use Rattle.std.specs.List.{list_all}
+use Rattle.std.specs.Char.{is_ascii_alphanumeric}
+use Rattle.std.proofs.lemmas.Bool.{and_parts}
+use Rattle.layout_defs.specs.Anchored.{Anchor, begun, is_name}
+use Rattle.layout_defs.specs.Gap.{GapLine, spaces, next_line, spell_gap, spell_ending, IsLineText, is_line_character, IsGap}
+use Rattle.layout_defs.specs.BlockLines.{Line, full, blank, spell_lines}
+use Rattle.layout_defs.specs.Json
+use Rattle.layout_defs.specs.Layout.{Scalar, plain, quoted, single_quoted, Inline, scalar, empty_array, empty_hash, Comment, no_comment, comment, Block, Value, Entries, Field, Fields, Root, Document, Documents, last_document, document, doubled, spell_scalar, spell_inline, spell_comment, spell_literal, folded_header, spell_block, spell_value, spell_entries, spell_field, spell_fields, spell_root, spell_document, spell_documents, spell_mark, anchors_behind, anchors_behind_field, IsScalar, IsInline, IsComment, AreLineTexts, IsBlock, IsValue, AreEntries, IsField, AreFields, IsRoot, IsBehindRoot, AreDocuments}
 use Rattle.loaded_texts.specs.Spelled.{IsWithoutNul}
-use Rattle.loaded_texts.proofs.Nul.{character, characters}
+use Rattle.loaded_texts.specs.Layouts.{LayoutsAreWithoutNul}
+use Rattle.loaded_texts.proofs.Nul.{character, not_nul, characters}
+use Rattle.loaded_texts.proofs.JsonNul as json
+use Rattle.loaded_texts.proofs.PartsNul as part
 
--- ---- gaps
+-- ---- what stands on one line
 
-pub indentation : (k : ℕ) (r : List ℕ) → IsWithoutNul r → IsWithoutNul (spaces k r)
-indentation zero r n = n
-indentation (suc k) r n = ap (λ l. 32 ∷ l) (indentation k r n)
-
-pub comment : (text r : List ℕ) → list_all is_line_character text ≡ true → IsWithoutNul r → IsWithoutNul (text ++ r)
+line_text : (w r : List ℕ) → IsLineText w → IsWithoutNul r → IsWithoutNul (w ++ r)
 unfolding is_line_character
-comment text r h n = characters is_line_character refl text r h n
+line_text w r h n = characters is_line_character refl w r h n
 
-gap_line : (l : GapLine) (r : List ℕ) → IsGapLine l → IsWithoutNul r → IsWithoutNul (spell_gap_line l r)
-gap_line empty_line r is n = n
-gap_line (comment_line text) r is n = ap (λ l. 35 ∷ l) (comment text r is n)
+one_doubled : (c : ℕ) (r : List ℕ) → is_line_character c ≡ true → IsWithoutNul r → IsWithoutNul (doubled c ++ r)
+unfolding is_line_character
+one_doubled c r h n = part.either (c == 39) (39 ∷ 39 ∷ []) (c ∷ []) r (λ e. ap (λ l. 39 ∷ 39 ∷ l) n) (λ e. character c r (not_nul is_line_character refl c h) n)
 
-pub gap : (g : List GapLine) (r : List ℕ) → IsGap g → IsWithoutNul r → IsWithoutNul (spell_gap g r)
-gap [] r is n = n
-gap (l ∷ g) r is n = gap_line l (10 ∷ spell_gap g r) is.0 (ap (λ a. 10 ∷ a) (gap g r is.1 n))
+all_doubled : (w r : List ℕ) → IsLineText w → IsWithoutNul r → IsWithoutNul (flat_map doubled w ++ r)
+all_doubled [] r h n = n
+all_doubled (c ∷ w) r h n =
+    let q = and_parts (is_line_character c) (list_all is_line_character w) h in
+    rw (append_assoc (doubled c) (flat_map doubled w) r) (one_doubled c (flat_map doubled w ++ r) q.0 (all_doubled w r q.1 n))
 
-pub line : (column : ℕ) (g : List GapLine) (r : List ℕ) → IsGap g → IsWithoutNul r → IsWithoutNul (next_line column g r)
-line column g r is n = ap (λ l. 10 ∷ l) (gap g (spaces column r) is (indentation column r n))
+one_scalar : (s : Scalar) (r : List ℕ) → IsScalar s → IsWithoutNul r → IsWithoutNul (spell_scalar s r)
+one_scalar (plain t) r is n = part.unquoted_scalar t r is n
+one_scalar (quoted w) r is n = part.in_quotes w r n
+one_scalar (single_quoted w) r is n = ap (λ l. 39 ∷ l) (all_doubled w (39 ∷ r) is (ap (λ l. 39 ∷ l) n))
 
-pub ending : (g : List GapLine) → IsGap g → IsWithoutNul (spell_ending g [])
-ending [] is = refl
-ending (l ∷ g) is = ap (λ a. 10 ∷ a) (gap_line l (spell_ending g []) is.0 (ending g is.1))
+inline : (i : Inline) (r : List ℕ) → IsInline i → IsWithoutNul r → IsWithoutNul (spell_inline i r)
+inline (scalar s) r is n = one_scalar s r is n
+inline empty_array r is n = ap (λ l. codes "[]" ++ l) n
+inline empty_hash r is n = ap (λ l. codes "{}" ++ l) n
 
-pub empty_gap : (g : List GapLine) → AreEmptyLines g → IsGap g
-empty_gap [] are = tt
-empty_gap (empty_line ∷ g) are = (tt, empty_gap g are.1)
-empty_gap (comment_line text ∷ g) are = absurd are.0
+behind_it : (k : Comment) (r : List ℕ) → IsComment k → IsWithoutNul r → IsWithoutNul (spell_comment k r)
+behind_it no_comment r is n = n
+behind_it (comment more w) r is n = ap (λ l. 32 ∷ l) (part.indentation more (35 ∷ (w ++ r)) (ap (λ l. 35 ∷ l) (line_text w r is n)))
 
--- ---- scalars without quotes
+name_text : (w r : List ℕ) → is_name w ≡ true → IsWithoutNul r → IsWithoutNul (w ++ r)
+name_text [] r h n = n
+name_text (c ∷ w) r h n = characters is_ascii_alphanumeric refl (c ∷ w) r h n
 
-fit : (w : List ℕ) → list_any is_unfit_for_plain w ≡ false → list_all (λ c. not (is_unfit_for_plain c)) w ≡ true
-fit [] h = refl
-fit (c ∷ w) h = let q = or_parts (is_unfit_for_plain c) (list_any is_unfit_for_plain w) h in rw (q.0) (fit w q.1)
+-- a space and more of them
+spaced : (more : ℕ) (r : List ℕ) → IsWithoutNul r → IsWithoutNul (32 ∷ spaces more r)
+spaced more r n = ap (λ l. 32 ∷ l) (part.indentation more r n)
 
-text : (w r : List ℕ) → list_any is_unfit_for_plain w ≡ false → IsWithoutNul r → IsWithoutNul (w ++ r)
-unfolding is_unfit_for_plain
-text w r h n = characters (λ c. not (is_unfit_for_plain c)) refl w r (fit w h) n
+-- ---- folded blocks
 
-digits : (ds r : List ℕ) → AllDigits 10 ds → IsWithoutNul r → IsWithoutNul (ds ++ r)
-digits [] r h n = n
-digits (d ∷ ds) r h n = let range = digit_from_value d h.0 in character d (ds ++ r) (λ e. omega (arith, range.0, e)) (digits ds r h.1 n)
+lines : (column : ℕ) (ls : List Line) (r : List ℕ) → AreLineTexts ls → IsWithoutNul r → IsWithoutNul (spell_lines column ls r)
+lines column [] r are n = n
+lines column (full w ∷ ls) r are n = ap (λ l. 10 ∷ l) (part.indentation column (w ++ spell_lines column ls r) (line_text w (spell_lines column ls r) are.0 (lines column ls r are.1 n)))
+lines column (blank k ∷ ls) r are n = ap (λ l. 10 ∷ l) (part.indentation k (spell_lines column ls r) (lines column ls r are n))
 
-integers : (z : ℤ) (r : List ℕ) → fits_i64 z ≡ true → IsWithoutNul r → IsWithoutNul (decimal_digits z ++ r)
-integers (pos n) r h free = let small : n < 2 ^ 63 = ltb-true n (2 ^ 63) h in digits (decimal n) r (decimal_is_IsNumeral n (omega arith)).0.1 free
-integers (negsuc n) r h free =
-    let small : n < 2 ^ 63 = ltb-true n (2 ^ 63) h in
-    ap (λ l. 45 ∷ l) (digits (decimal (suc n)) r (decimal_is_IsNumeral (suc n) (omega arith)).0.1 free)
+header : (strips : Bool) (r : List ℕ) → IsWithoutNul r → IsWithoutNul (folded_header strips ++ r)
+header true r n = ap (λ l. 62 ∷ 45 ∷ l) n
+header false r n = ap (λ l. 62 ∷ l) n
 
-pub unquoted_scalar : (t : Tree) (r : List ℕ) → IsPlain t → IsWithoutNul r → IsWithoutNul (spelling t ++ r)
-unquoted_scalar (real s) r h n = characters is_real_character refl s r (real_text-characters s h) n
-unquoted_scalar (integer z) r h n = integers z r h n
-unquoted_scalar (string s) r h n = rw h (text s r (unquoted s h).fit n)
-unquoted_scalar (boolean true) r h n = ap (λ l. codes "true" ++ l) n
-unquoted_scalar (boolean false) r h n = ap (λ l. codes "false" ++ l) n
-unquoted_scalar (array ts) r h n = absurd h
-unquoted_scalar (hash ps) r h n = absurd h
-unquoted_scalar (alias k) r h n = absurd h
-unquoted_scalar null r h n = ap (λ l. 126 ∷ l) n
-unquoted_scalar bad_value r h n = absurd h
+-- ---- blocks
 
--- ---- strings in double quotes
+mutual
+  block : (c : ℕ) (a : List Anchor) (b : Block) (r : List ℕ) → IsBlock c a b → IsWithoutNul r → IsWithoutNul (spell_block c b r)
+  block c a (Block.array es) r is n = entries c a es r is n
+  block c a (Block.hash fs) r is n = fields c a fs r is.0 n
 
-hexadecimal : (k : ℕ) → hexadecimal_digit k ≢ 0
-hexadecimal k = by (nat_lt k 10)
-  where
-    by : (b : Bool) → (if b then 48 + k else 87 + k) ≢ 0
-    by true e = omega (arith, e)
-    by false e = omega (arith, e)
+  value : (c : ℕ) (a : List Anchor) (v : Value) (r : List ℕ) → IsValue c a v → IsWithoutNul r → IsWithoutNul (spell_value c v r)
+  value c a (Value.beside more i k) r is n = spaced more (spell_inline i (spell_comment k r)) (inline i (spell_comment k r) is.0 (behind_it k r is.1 n))
+  value c a (Value.literal more column w ls) r is n = spaced more (spell_literal column w ls r) (part.literal column w ls r is.1 is.2 n)
+  value c a (Value.folded more column strips w ls) r is n = spaced more (folded_header strips ++ spell_lines column ls r) (header strips (spell_lines column ls r) (lines column ls r is.1.2 n))
+  value c a (Value.json more v) r is n = spaced more (Json.spell v r) (json.value v r is.1 n)
+  value c a (Value.compact more b) r is n = spaced more (spell_block (c + 2 + more) b r) (block (c + 2 + more) a b r is n)
+  value c a (Value.below k g column b) r is n = behind_it k (next_line column g (spell_block column b r)) is.0 (part.line column g (spell_block column b r) is.1 (block column a b r is.3 n))
+  value c a (Value.at_key k g es) r is n = behind_it k (next_line c g (spell_entries c es r)) is.0 (part.line c g (spell_entries c es r) is.1 (entries c a es r is.2 n))
+  value c a (Value.anchored more w v) r is n = spaced more (38 ∷ (w ++ spell_value c v r)) (ap (λ l. 38 ∷ l) (name_text w (spell_value c v r) is.0 (value c (begun w ∷ a) v r is.2 n)))
+  value c a (Value.alias more w t) r is n = spaced more (42 ∷ (w ++ r)) (ap (λ l. 42 ∷ l) (name_text w r is.0 n))
 
-code : (c : ℕ) (r : List ℕ) → IsWithoutNul r → IsWithoutNul (escaped_code c ++ r)
-code c r n =
-    let y = hexadecimal_digit (c % 16) in
-    ap (λ l. codes "\\u00" ++ l) (character (hexadecimal_digit (c / 16)) (y ∷ r) (hexadecimal (c / 16)) (character y r (hexadecimal (c % 16)) n))
+  entries : (c : ℕ) (a : List Anchor) (es : Entries) (r : List ℕ) → AreEntries c a es → IsWithoutNul r → IsWithoutNul (spell_entries c es r)
+  entries c a (Entries.last_entry v) r are n = ap (λ l. 45 ∷ l) (value c a v r are.1 n)
+  entries c a (Entries.entry v g es) r are n =
+      ap (λ l. 45 ∷ l) (value c a v (next_line c g (spell_entries c es r)) are.1 (part.line c g (spell_entries c es r) are.2 (entries c (anchors_behind v a) es r are.3 n)))
 
--- one or the other way
-pub either : (b : Bool) (v w r : List ℕ) → (b ≡ true → IsWithoutNul (v ++ r)) → (b ≡ false → IsWithoutNul (w ++ r)) → IsWithoutNul ((if b then v else w) ++ r)
-either true v w r first second = first refl
-either false v w r first second = second refl
+  one_field : (c : ℕ) (a : List Anchor) (f : Field) (r : List ℕ) → IsField c a f → IsWithoutNul r → IsWithoutNul (spell_field c f r)
+  one_field c a (Field.implicit k v) r is n = one_scalar k (58 ∷ spell_value c v r) is.0.0 (ap (λ l. 58 ∷ l) (value c a v r is.2 n))
+  one_field c a (Field.explicit k g v) r is n =
+      let behind = 58 ∷ spell_value c v r in
+      ap (λ l. 63 ∷ l) (value c a k (next_line c g behind) is.1 (part.line c g behind is.2 (ap (λ l. 58 ∷ l) (value c (anchors_behind k a) v r is.4 n))))
 
--- an escape of one letter, or else
-letter : (b : Bool) (l : ℕ) (w r : List ℕ) → l ≢ 0 → IsWithoutNul r → (b ≡ false → IsWithoutNul (w ++ r)) → IsWithoutNul ((if b then 92 ∷ l ∷ [] else w) ++ r)
-letter b l w r some n otherwise = either b (92 ∷ l ∷ []) w r (λ e. ap (λ a. 92 ∷ a) (character l r some n)) otherwise
+  fields : (c : ℕ) (a : List Anchor) (fs : Fields) (r : List ℕ) → AreFields c a fs → IsWithoutNul r → IsWithoutNul (spell_fields c fs r)
+  fields c a (Fields.last_field f) r are n = one_field c a f r are n
+  fields c a (Fields.field f g fs) r are n =
+      one_field c a f (next_line c g (spell_fields c fs r)) are.0 (part.line c g (spell_fields c fs r) are.1 (fields c (anchors_behind_field f a) fs r are.2 n))
 
-itself : (c : ℕ) (r : List ℕ) → (nat_lt c 32 || (c == 127)) ≡ false → IsWithoutNul r → IsWithoutNul (c ∷ r)
-itself c r h n = character c r (λ e. grind (arith, nat_tests, e)) n
+-- ---- documents
 
-written : (c : ℕ) (r : List ℕ) → IsWithoutNul r → IsWithoutNul (written_character c ++ r)
-unfolding written_character
-written c r n =
-    letter (c == 34) 34 _ r (omega arith) n λ e0. letter (c == 92) 92 _ r (omega arith) n λ e1. letter (c == 8) 98 _ r (omega arith) n λ e2.
-    letter (c == 9) 116 _ r (omega arith) n λ e3. letter (c == 10) 110 _ r (omega arith) n λ e4. letter (c == 12) 102 _ r (omega arith) n λ e5.
-    letter (c == 13) 114 _ r (omega arith) n λ e6. either (nat_lt c 32 || (c == 127)) (escaped_code c) (c ∷ []) r (λ e. code c r n) (λ e. itself c r e n)
+root : (x : Root) (r : List ℕ) → IsRoot x → IsWithoutNul r → IsWithoutNul (spell_root x r)
+root (Root.block column b) r is n = part.indentation column (spell_block column b r) (block column [] b r is n)
+root (Root.inline i) r is n = inline i r is n
+root (Root.literal w ls) r is n = part.literal 0 w ls r (part.root_literal w is.0) is.1 n
 
-escapes : (w r : List ℕ) → IsWithoutNul r → IsWithoutNul (written_escapes w ++ r)
-escapes [] r n = n
-escapes (c ∷ w) r n = rw (append_assoc (written_character c) (written_escapes w) r) (written c (written_escapes w ++ r) (escapes w r n))
+behind_gap : (x : Root) (g : List GapLine) → IsBehindRoot x g → IsGap g
+behind_gap (Root.block column b) g is = is
+behind_gap (Root.inline i) g is = is
+behind_gap (Root.literal w ls) g is = part.empty_gap g is
 
-pub in_quotes : (w r : List ℕ) → IsWithoutNul r → IsWithoutNul (double_quoted w ++ r)
-in_quotes w r n = ap (λ l. 34 ∷ l) (rw (append_assoc (written_escapes w) (34 ∷ []) r) (escapes w (34 ∷ r) (ap (λ l. 34 ∷ l) n)))
+one_document : (d : Document) (r : List ℕ) → IsGap d.gap → IsRoot d.root → IsWithoutNul r → IsWithoutNul (spell_document d r)
+one_document d r gap is n = part.gap d.gap (spell_root d.root r) gap (root d.root r is n)
 
--- ---- literal blocks
+documents : (ds : Documents) → AreDocuments ds → IsWithoutNul (spell_documents ds [])
+documents (last_document d g) are = one_document d (spell_ending g []) are.0 are.1 (part.ending g (behind_gap d.root g are.2))
+documents (document d g ds) are =
+    let more = codes "---\n" ++ spell_documents ds [] in
+    one_document d (10 ∷ spell_gap g more) are.0 are.1 (ap (λ l. 10 ∷ l) (part.gap g more (behind_gap d.root g are.2) (ap (λ l. codes "---\n" ++ l) (documents ds are.3))))
 
-abbrev are_fit : List (List ℕ) → Bool
-are_fit ls = list_all (λ l. list_all is_literal_character l) ls
+marked : (b : Bool) (r : List ℕ) → IsWithoutNul r → IsWithoutNul (spell_mark b r)
+marked true r n = ap (λ l. codes "---\n" ++ l) n
+marked false r n = n
 
-onto_fit : (c : ℕ) (ls : List (List ℕ)) → is_literal_character c ≡ true → are_fit ls ≡ true → are_fit (onto_first_line c ls) ≡ true
-onto_fit c [] h e = rw h refl
-onto_fit c (l ∷ ls) h e = rw h e
-
-lines_fit : (w : List ℕ) → list_all is_literal_character w ≡ true → are_fit (lines_of w) ≡ true
-lines_fit [] h = refl
-lines_fit (c ∷ w) h = let q = and_parts (is_literal_character c) (list_all is_literal_character w) h in by (c == 10) q.0 (lines_fit w q.1)
-  where
-    by : (b : Bool) → is_literal_character c ≡ true → are_fit (lines_of w) ≡ true → are_fit (if b then [] ∷ lines_of w else onto_first_line c (lines_of w)) ≡ true
-    by true one all = all
-    by false one all = onto_fit c (lines_of w) one all
-
-one_line : (w r : List ℕ) → list_all is_literal_character w ≡ true → IsWithoutNul r → IsWithoutNul (w ++ r)
-unfolding is_literal_character
-one_line w r h n = characters is_literal_character refl w r h n
-
-lines : (column : ℕ) (ls : List Line) (r : List ℕ) → are_fit (contents ls) ≡ true → IsWithoutNul r → IsWithoutNul (spell_lines column ls r)
-lines column [] r h n = n
-lines column (full w ∷ ls) r h n =
-    let q = and_parts (list_all is_literal_character w) (are_fit (contents ls)) h in
-    ap (λ l. 10 ∷ l) (indentation column (w ++ spell_lines column ls r) (one_line w (spell_lines column ls r) q.0 (lines column ls r q.1 n)))
-lines column (blank k ∷ ls) r h n = ap (λ l. 10 ∷ l) (indentation k (spell_lines column ls r) (lines column ls r h n))
-
-header : (b : Bool) (r : List ℕ) → IsWithoutNul r → IsWithoutNul ((if b then codes "|" else codes "|-") ++ r)
-header true r n = ap (λ l. 124 ∷ l) n
-header false r n = ap (λ l. 124 ∷ 45 ∷ l) n
-
-literal_characters : (w : List ℕ) → is_literal w ≡ true → list_all is_literal_character w ≡ true
-unfolding is_literal
-literal_characters w h =
-    let p = and_parts _ _ h in
-    let q = and_parts _ _ p.0 in
-    let s = and_parts _ _ q.0 in
-    (and_parts _ (list_all is_literal_character w) s.0).1
-
-pub literal : (column : ℕ) (w : List ℕ) (ls : List Line) (r : List ℕ) → is_literal w ≡ true → AreLinesOf w column ls → IsWithoutNul r → IsWithoutNul (spell_literal column w ls r)
-literal column w ls r h are n =
-    header (ends_with nat_eq w (codes "\n")) (spell_lines column ls r)
-    (lines column ls r (ap are_fit are.0 ∙ lines_fit w (literal_characters w h)) n)
-
-pub root_literal : (w : List ℕ) → is_root_literal w ≡ true → is_literal w ≡ true
-unfolding is_root_literal
-root_literal w h = (and_parts (is_literal w) _ (and_parts _ _ h).0).0
+pub layouts_have_no_nul : LayoutsAreWithoutNul
+layouts_have_no_nul w is = marked w.is_marked (spell_documents w.documents []) (documents w.documents is)

@@ -5,15 +5,15 @@ pub mod Dumps
 pub mod InTurn
 pub mod InsideNode
 pub mod JsonNul
-mod LayoutNul
+pub mod LayoutNul
+pub mod Layouts
 pub mod Loads
 mod Nul
 pub mod OneReading
+mod PartsNul
 pub mod Pulled
+pub mod QuotedTexts
 pub mod Runs
 pub mod Spelled
 pub mod StreamEnds
 pub mod Texts
-pub mod QuotedTexts
-pub mod WideNul
-pub mod WideTexts

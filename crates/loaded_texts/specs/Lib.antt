@@ -2,9 +2,9 @@ pub mod Cuts
 pub mod Documents
 pub mod InTurn
 pub mod Laws
+pub mod Layouts
 pub mod LoadsAs
 pub mod QuotedTexts
 pub mod Spelled
 pub mod TextEvents
 pub mod TextReadAs
-pub mod WideTexts

@@ -5,5 +5,5 @@ pub mod cuts;
 pub mod documents;
 pub mod in_turn;
 pub mod laws;
+pub mod layouts;
 pub mod quoted;
-pub mod wide;

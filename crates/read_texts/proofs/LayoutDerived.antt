@@ -1,136 +1,226 @@
--- The derivation of a basic layout's tokens by the token grammar, and its events.
-use Rattle.std.proofs.Common.{◌≡◌, Bool, true, List, [], ◌∷◌, Some, None, refl, sym, ap, ◌∙◌}
-use Rattle.token_defs.specs.Token.{Tok}
-use Rattle.layout_defs.specs.WideLayout.{Scalar, Inline, Block, Value, Entries, Field, Fields, Root, Documents}
-use Rattle.layout_defs.specs.Layout.{IsBasicScalar, IsBasicInline, IsBasicBlock, IsBasicValue, AreBasicEntries, IsBasicField, AreBasicFields, IsBasicRoot, AreBasicDocuments}
-use Rattle.laid_tokens.specs.WideTokens.{scalar_token, block_tokens, value_tokens, entry_tokens, field_tokens, all_field_tokens, root_tokens, documents_tokens, marked}
-use Rattle.event_defs.specs.Event.{Ev}
-use Rattle.event_defs.specs.Raw.{Raw}
+-- The derivation of a layout's tokens by the token grammar.
+use Rattle.std.proofs.Common.{◌≡◌, ℕ, Bool, true, false, List, [], ◌∷◌, Option, Some, None, refl, ap, ◌∙◌}
+use Rattle.token_defs.specs.Token.{Tok, Style}
+use Rattle.tree_defs.specs.Spelling.{spelling}
+use Rattle.layout_defs.specs.Anchored.{Anchor, begun}
+use Rattle.layout_defs.specs.Layout.{Scalar, Inline, Block, Value, Entries, Field, Fields, Root, Documents, Layout, IsBlock, IsValue, AreEntries, IsField, AreFields, IsRoot, AreDocuments, IsLayout, MayFollowMark, MayBeAnchored, IsExplicitKey, anchors_behind, anchors_behind_field}
+use Rattle.laid_tokens.specs.LayoutTokens.{scalar_token, inline_tokens, block_tokens, value_tokens, entry_tokens, field_tokens, all_field_tokens, root_tokens, documents_tokens, marked, layout_tokens}
 use Rattle.event_defs.specs.Grammar as grammar
-use Rattle.event_defs.specs.Grammar.{content_tokens, node_tokens, entries_tokens, part_tokens, pairs_tokens, key_pairs_tokens, stream_tokens, content_events, node_events, entries_events, pairs_events, key_pairs_events, stream_events}
-use Rattle.event_defs.specs.Names.{Names, no_names, named, at_document}
-use Rattle.event_defs.specs.Nested.{NestPairs, nest_events, nests_events, nest_pairs_events, with_node, nested_stream}
-use Rattle.read_texts.proofs.JsonDerived.{and_then}
-use Rattle.read_texts.specs.LayoutNest.{scalar_nest, inline_nest, block_nest, value_nest, entry_nests, field_nests, all_field_nests, root_nest, document_nest}
-use Rattle.read_texts.specs.Laws.{LayoutTokensAreAStream}
-use Rattle.read_texts.proofs.WideDerived.{scalar, inline, whole, block, node, entries, part, field, fields, root, documents, documents_by, scalar_told, inline_told}
+use Rattle.event_defs.specs.Grammar.{Properties, Content, Node, Perhaps, Part, Dashes, KeyPairs, After, content_tokens, node_tokens, perhaps_tokens, entries_tokens, part_tokens, dashes_tokens, pairs_tokens, key_pairs_tokens, after_tokens, stream_tokens}
+use Rattle.read_texts.proofs.JsonDerived as json
 
--- a value behind a key: it is no array at the key's column
-whole_part : (v : Value) → IsBasicValue v → part v ≡ whole (node None v)
-whole_part (Value.at_key behind g es) h = absurd h
-whole_part (Value.beside more i behind) h = refl
-whole_part (Value.literal more column text ls) h = refl
-whole_part (Value.folded more column strips text ls) h = refl
-whole_part (Value.json more v) h = refl
-whole_part (Value.compact more b) h = refl
-whole_part (Value.below behind g column b) h = refl
-whole_part (Value.anchored more name v) h = refl
-whole_part (Value.alias more name t) h = refl
+-- ---- the derivation; o is the name of an anchor before the node, or nothing
+
+abbrev pub properties : Option (List ℕ) → Option Properties
+properties None = None
+properties (Some name) = Some (grammar.anchored name)
+
+abbrev pub leaf : Style → List ℕ → Content
+leaf style text = grammar.flow (grammar.scalar style text)
+
+abbrev pub scalar : Scalar → Content
+scalar (Scalar.plain t) = leaf Style.plain (spelling t)
+scalar (Scalar.quoted text) = leaf Style.double_quoted text
+scalar (Scalar.single_quoted text) = leaf Style.single_quoted text
+
+abbrev pub inline : Inline → Content
+inline (Inline.scalar s) = scalar s
+inline Inline.empty_array = grammar.flow (grammar.flow_sequence grammar.no_items)
+inline Inline.empty_hash = grammar.flow (grammar.flow_mapping grammar.no_flow_pairs)
+
+-- a node as a key or a value
+abbrev pub whole : Node → Part
+whole n = grammar.plain (grammar.some_node n)
+
+abbrev mutual
+  pub block : Block → Content
+  block (Block.array es) = grammar.block_sequence (entries es)
+  block (Block.hash fs) = grammar.block_mapping (grammar.keyed (fields fs))
+
+  pub node : Option (List ℕ) → Value → Node
+  node o (Value.beside more i behind) = grammar.block_content (properties o) (inline i)
+  node o (Value.literal more column text ls) = grammar.block_content (properties o) (leaf Style.literal text)
+  node o (Value.folded more column strips text ls) = grammar.block_content (properties o) (leaf Style.folded text)
+  node o (Value.json more v) = grammar.block_content (properties o) (grammar.flow (json.content v))
+  node o (Value.compact more b) = grammar.block_content (properties o) (block b)
+  node o (Value.below behind g column b) = grammar.block_content (properties o) (block b)
+  node o (Value.at_key behind g es) = grammar.block_content (properties o) (grammar.block_sequence (entries es))
+  node o (Value.anchored more name v) = node (Some name) v
+  node o (Value.alias more name t) = grammar.block_alias name
+
+  pub entries : Entries → grammar.Entries
+  entries (Entries.last_entry v) = grammar.entry (grammar.some_node (node None v)) grammar.end_entries
+  entries (Entries.entry v g es) = grammar.entry (grammar.some_node (node None v)) (entries es)
+
+  -- the first of an array's entries
+  pub first_entry : Entries → Perhaps
+  first_entry (Entries.last_entry v) = grammar.some_node (node None v)
+  first_entry (Entries.entry v g es) = grammar.some_node (node None v)
+
+  -- the others
+  pub later_entries : Entries → Dashes
+  later_entries (Entries.last_entry v) = grammar.end_dashes
+  later_entries (Entries.entry v g es) = grammar.dash (first_entry es) (later_entries es)
+
+  -- the value of a key
+  pub part : Value → Part
+  part (Value.at_key behind g es) = grammar.indentless None (first_entry es) (later_entries es)
+  part (Value.beside more i behind) = whole (grammar.block_content None (inline i))
+  part (Value.literal more column text ls) = whole (grammar.block_content None (leaf Style.literal text))
+  part (Value.folded more column strips text ls) = whole (grammar.block_content None (leaf Style.folded text))
+  part (Value.json more v) = whole (grammar.block_content None (grammar.flow (json.content v)))
+  part (Value.compact more b) = whole (grammar.block_content None (block b))
+  part (Value.below behind g column b) = whole (grammar.block_content None (block b))
+  part (Value.anchored more name v) = whole (node (Some name) v)
+  part (Value.alias more name t) = whole (grammar.block_alias name)
+
+  pub field : Field → grammar.Pairs → KeyPairs
+  field (Field.implicit k v) ps = grammar.key (whole (grammar.block_content None (scalar k))) (grammar.value (part v) ps)
+  field (Field.explicit k g v) ps = grammar.key (whole (node None k)) (grammar.value (part v) ps)
+
+  pub fields : Fields → KeyPairs
+  fields (Fields.last_field f) = field f (grammar.keyed grammar.end_pairs)
+  fields (Fields.field f g fs) = field f (grammar.keyed (fields fs))
+
+abbrev pub root : Root → Node
+root (Root.block column b) = grammar.block_content None (block b)
+root (Root.inline i) = grammar.block_content None (inline i)
+root (Root.literal text ls) = grammar.block_content None (leaf Style.literal text)
+
+-- the first document's root
+abbrev pub first_root : Documents → Node
+first_root (Documents.last_document d behind) = root d.root
+first_root (Documents.document d g ds) = root d.root
+
+-- the documents behind the first, each with its marker
+abbrev pub later_roots : Documents → After
+later_roots (Documents.last_document d behind) = grammar.unmarked grammar.end_stream
+later_roots (Documents.document d g ds) = grammar.unmarked (grammar.explicit (grammar.some_node (first_root ds)) (later_roots ds))
+
+abbrev pub documents_by : Bool → Documents → grammar.Documents
+documents_by true ds = grammar.others (grammar.explicit (grammar.some_node (first_root ds)) (later_roots ds))
+documents_by false ds = grammar.bare (first_root ds) (later_roots ds)
+
+abbrev pub documents : Layout → grammar.Documents
+documents w = documents_by w.is_marked w.documents
 
 -- ---- its tokens
 
-part_told : (v : Value) (r : List Tok) → IsBasicValue v → node_tokens (node None v) r ≡ value_tokens v r → part_tokens (part v) r ≡ value_tokens v r
-part_told v r h told = rw (whole_part v h) told
+-- an anchor before a node, or nothing
+abbrev anchor_tokens : Option (List ℕ) → List Tok → List Tok
+anchor_tokens None r = r
+anchor_tokens (Some name) r = Tok.anchor name ∷ r
+
+-- only some values may have an anchor
+abbrev pub IsAnchorable : Option (List ℕ) → Value → Type 0
+IsAnchorable None v = Unit {0}
+IsAnchorable (Some name) v = MayBeAnchored v
+
+content_told : (o : Option (List ℕ)) (c : Content) (r : List Tok) → node_tokens (grammar.block_content (properties o) c) r ≡ anchor_tokens o (content_tokens c r)
+content_told None c r = refl
+content_told (Some name) c r = refl
+
+pub scalar_told : (s : Scalar) (r : List Tok) → content_tokens (scalar s) r ≡ scalar_token s ∷ r
+scalar_told (Scalar.plain t) r = refl
+scalar_told (Scalar.quoted text) r = refl
+scalar_told (Scalar.single_quoted text) r = refl
+
+pub inline_told : (i : Inline) (r : List Tok) → content_tokens (inline i) r ≡ inline_tokens i r
+inline_told (Inline.scalar s) r = scalar_told s r
+inline_told Inline.empty_array r = refl
+inline_told Inline.empty_hash r = refl
+
+explicit_follows : (k : Value) → IsExplicitKey k → MayFollowMark k
+explicit_follows (Value.at_key behind g es) h = h
+explicit_follows (Value.beside more i behind) h = tt
+explicit_follows (Value.literal more column text ls) h = tt
+explicit_follows (Value.folded more column strips text ls) h = tt
+explicit_follows (Value.json more v) h = tt
+explicit_follows (Value.compact more b) h = tt
+explicit_follows (Value.below behind g column b) h = tt
+explicit_follows (Value.anchored more name v) h = tt
+explicit_follows (Value.alias more name t) h = tt
+
+anchorable_follows : (v : Value) → MayBeAnchored v → MayFollowMark v
+anchorable_follows (Value.at_key behind g es) h = h
+anchorable_follows (Value.beside more i behind) h = tt
+anchorable_follows (Value.literal more column text ls) h = tt
+anchorable_follows (Value.folded more column strips text ls) h = tt
+anchorable_follows (Value.json more v) h = tt
+anchorable_follows (Value.compact more b) h = tt
+anchorable_follows (Value.below behind g column b) h = tt
+anchorable_follows (Value.anchored more name v) h = tt
+anchorable_follows (Value.alias more name t) h = tt
 
 mutual
-  block_told : (b : Block) (r : List Tok) → IsBasicBlock b → content_tokens (block b) r ≡ block_tokens b r
-  block_told (Block.array es) r h = ap (λ ts. Tok.block_sequence_start ∷ ts) (entries_told es r h)
-  block_told (Block.hash fs) r h = ap (λ ts. Tok.block_mapping_start ∷ ts) (fields_told fs r h)
+  block_told : (c : ℕ) (a : List Anchor) (b : Block) (r : List Tok) → IsBlock c a b → content_tokens (block b) r ≡ block_tokens b r
+  block_told c a (Block.array es) r is = ap (λ ts. Tok.block_sequence_start ∷ ts) (entries_told c a es r is)
+  block_told c a (Block.hash fs) r is = ap (λ ts. Tok.block_mapping_start ∷ ts) (fields_told c a fs r is.0)
 
-  value_told : (v : Value) (r : List Tok) → IsBasicValue v → node_tokens (node None v) r ≡ value_tokens v r
-  value_told (Value.beside more i behind) r h = inline_told i r
-  value_told (Value.literal more column text ls) r h = refl
-  value_told (Value.compact more b) r h = block_told b r h
-  value_told (Value.below behind g column b) r h = block_told b r h.1
-  value_told (Value.folded more column strips text ls) r h = absurd h
-  value_told (Value.json more v) r h = absurd h
-  value_told (Value.at_key behind g es) r h = absurd h
-  value_told (Value.anchored more name v) r h = absurd h
-  value_told (Value.alias more name t) r h = absurd h
+  value_told : (c : ℕ) (a : List Anchor) (o : Option (List ℕ)) (v : Value) (r : List Tok) → IsValue c a v → MayFollowMark v → IsAnchorable o v
+      → node_tokens (node o v) r ≡ anchor_tokens o (value_tokens v r)
+  value_told c a o (Value.beside more i behind) r is follows named = content_told o (inline i) r ∙ ap (anchor_tokens o) (inline_told i r)
+  value_told c a o (Value.literal more column text ls) r is follows named = content_told o (leaf Style.literal text) r
+  value_told c a o (Value.folded more column strips text ls) r is follows named = content_told o (leaf Style.folded text) r
+  value_told c a o (Value.json more v) r is follows named = content_told o (grammar.flow (json.content v)) r ∙ ap (anchor_tokens o) (json.content_tokens v r)
+  value_told c a o (Value.compact more b) r is follows named = content_told o (block b) r ∙ ap (anchor_tokens o) (block_told _ a b r is)
+  value_told c a o (Value.below behind g column b) r is follows named = content_told o (block b) r ∙ ap (anchor_tokens o) (block_told column a b r is.3)
+  value_told c a o (Value.at_key behind g es) r is follows named = absurd follows
+  value_told c a None (Value.anchored more name v) r is follows named = value_told c (begun name ∷ a) (Some name) v r is.2 (anchorable_follows v is.1) is.1
+  value_told c a (Some n) (Value.anchored more name v) r is follows named = absurd named
+  value_told c a None (Value.alias more name t) r is follows named = refl
+  value_told c a (Some n) (Value.alias more name t) r is follows named = absurd named
 
-  entries_told : (es : Entries) (r : List Tok) → AreBasicEntries es → entries_tokens (entries es) r ≡ entry_tokens es (Tok.block_end ∷ r)
-  entries_told (Entries.last_entry v) r h = ap (λ ts. Tok.block_entry ∷ ts) (value_told v (Tok.block_end ∷ r) h)
-  entries_told (Entries.entry v g es) r h =
-      ap (λ ts. Tok.block_entry ∷ ts) (value_told v (entries_tokens (entries es) r) h.0 ∙ ap (value_tokens v) (entries_told es r h.1))
+  entries_told : (c : ℕ) (a : List Anchor) (es : Entries) (r : List Tok) → AreEntries c a es → entries_tokens (entries es) r ≡ entry_tokens es (Tok.block_end ∷ r)
+  entries_told c a (Entries.last_entry v) r are = ap (λ ts. Tok.block_entry ∷ ts) (value_told c a None v (Tok.block_end ∷ r) are.1 are.0 tt)
+  entries_told c a (Entries.entry v g es) r are =
+      ap (λ ts. Tok.block_entry ∷ ts) (value_told c a None v (entries_tokens (entries es) r) are.1 are.0 tt
+      ∙ ap (value_tokens v) (entries_told c (anchors_behind v a) es r are.3))
 
-  field_told : (f : Field) (ps : grammar.Pairs) (r : List Tok) → IsBasicField f → key_pairs_tokens (field f ps) r ≡ field_tokens f (pairs_tokens ps r)
-  field_told (Field.implicit k v) ps r h =
-      ap (λ ts. Tok.key ∷ ts) (scalar_told k _ ∙ ap (λ ts. scalar_token k ∷ Tok.value ∷ ts) (part_told v _ h.1 (value_told v (pairs_tokens ps r) h.1)))
-  field_told (Field.explicit k g v) ps r h =
-      ap (λ ts. Tok.key ∷ ts) (value_told k _ h.0 ∙ ap (λ ts. value_tokens k (Tok.value ∷ ts)) (part_told v _ h.1 (value_told v (pairs_tokens ps r) h.1)))
+  dashes_told : (c : ℕ) (a : List Anchor) (es : Entries) (r : List Tok) → AreEntries c a es
+      → Tok.block_entry ∷ perhaps_tokens (first_entry es) (dashes_tokens (later_entries es) r) ≡ entry_tokens es r
+  dashes_told c a (Entries.last_entry v) r are = ap (λ ts. Tok.block_entry ∷ ts) (value_told c a None v r are.1 are.0 tt)
+  dashes_told c a (Entries.entry v g es) r are =
+      ap (λ ts. Tok.block_entry ∷ ts) (value_told c a None v _ are.1 are.0 tt ∙ ap (value_tokens v) (dashes_told c (anchors_behind v a) es r are.3))
 
-  fields_told : (fs : Fields) (r : List Tok) → AreBasicFields fs → key_pairs_tokens (fields fs) r ≡ all_field_tokens fs (Tok.block_end ∷ r)
-  fields_told (Fields.last_field f) r h = field_told f (grammar.keyed grammar.end_pairs) r h
-  fields_told (Fields.field f g fs) r h = field_told f (grammar.keyed (fields fs)) r h.0 ∙ ap (field_tokens f) (fields_told fs r h.1)
+  part_told : (c : ℕ) (a : List Anchor) (v : Value) (r : List Tok) → IsValue c a v → part_tokens (part v) r ≡ value_tokens v r
+  part_told c a (Value.at_key behind g es) r is = dashes_told c a es r is.2
+  part_told c a (Value.beside more i behind) r is = inline_told i r
+  part_told c a (Value.literal more column text ls) r is = refl
+  part_told c a (Value.folded more column strips text ls) r is = refl
+  part_told c a (Value.json more v) r is = json.content_tokens v r
+  part_told c a (Value.compact more b) r is = block_told _ a b r is
+  part_told c a (Value.below behind g column b) r is = block_told column a b r is.3
+  part_told c a (Value.anchored more name v) r is = value_told c (begun name ∷ a) (Some name) v r is.2 (anchorable_follows v is.1) is.1
+  part_told c a (Value.alias more name t) r is = refl
 
-root_told : (x : Root) (r : List Tok) → IsBasicRoot x → node_tokens (root x) r ≡ root_tokens x r
-root_told (Root.block column b) r h = block_told b r h
-root_told (Root.inline i) r h = inline_told i r
-root_told (Root.literal text ls) r h = refl
+  field_told : (c : ℕ) (a : List Anchor) (f : Field) (ps : grammar.Pairs) (r : List Tok) → IsField c a f → key_pairs_tokens (field f ps) r ≡ field_tokens f (pairs_tokens ps r)
+  field_told c a (Field.implicit k v) ps r is =
+      ap (λ ts. Tok.key ∷ ts) (scalar_told k (Tok.value ∷ part_tokens (part v) (pairs_tokens ps r))
+      ∙ ap (λ ts. scalar_token k ∷ Tok.value ∷ ts) (part_told c a v (pairs_tokens ps r) is.2))
+  field_told c a (Field.explicit k g v) ps r is =
+      ap (λ ts. Tok.key ∷ ts) (value_told c a None k (Tok.value ∷ part_tokens (part v) (pairs_tokens ps r)) is.1 (explicit_follows k is.0) tt
+      ∙ ap (λ ts. value_tokens k (Tok.value ∷ ts)) (part_told c (anchors_behind k a) v (pairs_tokens ps r) is.4))
 
--- ---- its events
+  fields_told : (c : ℕ) (a : List Anchor) (fs : Fields) (r : List Tok) → AreFields c a fs → key_pairs_tokens (fields fs) r ≡ all_field_tokens fs (Tok.block_end ∷ r)
+  fields_told c a (Fields.last_field f) r are = field_told c a f (grammar.keyed grammar.end_pairs) r are
+  fields_told c a (Fields.field f g fs) r are =
+      field_told c a f (grammar.keyed (fields fs)) r are.0 ∙ ap (field_tokens f) (fields_told c (anchors_behind_field f a) fs r are.2)
 
-scalar_named : (x : Scalar) (h : IsBasicScalar x) (keep : Bool) (s : Names) (r : List Raw) (es : List Ev) → named keep s r ≡ Some es → named keep s (content_events None (scalar x) r) ≡ Some (nest_events (scalar_nest x h) es)
-scalar_named (Scalar.plain t) h keep s r es k = and_then _ _ es k
-scalar_named (Scalar.quoted text) h keep s r es k = and_then _ _ es k
-scalar_named (Scalar.single_quoted text) h keep s r es k = absurd h
+root_told : (x : Root) (r : List Tok) → IsRoot x → node_tokens (root x) r ≡ root_tokens x r
+root_told (Root.block column b) r is = block_told column [] b r is
+root_told (Root.inline i) r is = inline_told i r
+root_told (Root.literal text ls) r is = refl
 
-inline_named : (i : Inline) (h : IsBasicInline i) (keep : Bool) (s : Names) (r : List Raw) (es : List Ev) → named keep s r ≡ Some es → named keep s (content_events None (inline i) r) ≡ Some (nest_events (inline_nest i h) es)
-inline_named (Inline.scalar x) h keep s r es k = scalar_named x h keep s r es k
-inline_named Inline.empty_array h keep s r es k = and_then _ _ _ (and_then _ _ es k)
-inline_named Inline.empty_hash h keep s r es k = and_then _ _ _ (and_then _ _ es k)
+documents_told : (ds : Documents) → AreDocuments ds → node_tokens (first_root ds) (after_tokens (later_roots ds) []) ≡ documents_tokens ds
+documents_told (Documents.last_document d behind) are = root_told d.root (Tok.stream_end ∷ []) are.1
+documents_told (Documents.document d g ds) are =
+    root_told d.root (Tok.document_start ∷ node_tokens (first_root ds) (after_tokens (later_roots ds) [])) are.1
+    ∙ ap (λ ts. root_tokens d.root (Tok.document_start ∷ ts)) (documents_told ds are.3)
 
-mutual
-  block_named : (b : Block) (h : IsBasicBlock b) (keep : Bool) (s : Names) (r : List Raw) (es : List Ev) → named keep s r ≡ Some es → named keep s (content_events None (block b) r) ≡ Some (nest_events (block_nest b h) es)
-  block_named (Block.array vs) h keep s r es k = and_then _ _ _ (entries_named vs h keep s r es k)
-  block_named (Block.hash fs) h keep s r es k = and_then _ _ _ (fields_named fs h keep s r es k)
-
-  value_named : (v : Value) (h : IsBasicValue v) (keep : Bool) (s : Names) (r : List Raw) (es : List Ev) → named keep s r ≡ Some es → named keep s (node_events (node None v) r) ≡ Some (nest_events (value_nest v h) es)
-  value_named (Value.beside more i behind) h keep s r es k = inline_named i h.0 keep s r es k
-  value_named (Value.literal more column text ls) h keep s r es k = and_then _ _ es k
-  value_named (Value.compact more b) h keep s r es k = block_named b h keep s r es k
-  value_named (Value.below behind g column b) h keep s r es k = block_named b h.1 keep s r es k
-  value_named (Value.folded more column strips text ls) h keep s r es k = absurd h
-  value_named (Value.json more v) h keep s r es k = absurd h
-  value_named (Value.at_key behind g vs) h keep s r es k = absurd h
-  value_named (Value.anchored more name v) h keep s r es k = absurd h
-  value_named (Value.alias more name t) h keep s r es k = absurd h
-
-  entries_named : (vs : Entries) (h : AreBasicEntries vs) (keep : Bool) (s : Names) (r : List Raw) (es : List Ev) → named keep s r ≡ Some es
-      → named keep s (entries_events (entries vs) r) ≡ Some (nests_events (entry_nests vs h) (Ev.sequence_end ∷ es))
-  entries_named (Entries.last_entry v) h keep s r es k = value_named v h keep s _ _ (and_then _ _ es k)
-  entries_named (Entries.entry v g vs) h keep s r es k = value_named v h.0 keep s _ _ (entries_named vs h.1 keep s r es k)
-
-  field_named : (f : Field) (h : IsBasicField f) (ps : grammar.Pairs) (ns : NestPairs) (keep : Bool) (s : Names) (r : List Raw) (es : List Ev) → named keep s (pairs_events ps r) ≡ Some (nest_pairs_events ns es)
-      → named keep s (key_pairs_events (field f ps) r) ≡ Some (nest_pairs_events (field_nests f h ns) es)
-  field_named (Field.implicit x v) h ps ns keep s r es k = rw (whole_part v h.1) (scalar_named x h.0 keep s _ _ (value_named v h.1 keep s _ _ k))
-  field_named (Field.explicit x g v) h ps ns keep s r es k = rw (whole_part v h.1) (value_named x h.0 keep s _ _ (value_named v h.1 keep s _ _ k))
-
-  fields_named : (fs : Fields) (h : AreBasicFields fs) (keep : Bool) (s : Names) (r : List Raw) (es : List Ev) → named keep s r ≡ Some es
-      → named keep s (key_pairs_events (fields fs) r) ≡ Some (nest_pairs_events (all_field_nests fs h) (Ev.mapping_end ∷ es))
-  fields_named (Fields.last_field f) h keep s r es k = field_named f h (grammar.keyed grammar.end_pairs) _ keep s r _ (and_then _ _ es k)
-  fields_named (Fields.field f g fs) h keep s r es k = field_named f h.0 (grammar.keyed (fields fs)) _ keep s r _ (fields_named fs h.1 keep s r es k)
-
-root_named : (x : Root) (h : IsBasicRoot x) (keep : Bool) (s : Names) (r : List Raw) (es : List Ev) → named keep s r ≡ Some es → named keep s (node_events (root x) r) ≡ Some (nest_events (root_nest x h) es)
-root_named (Root.block column b) h keep s r es k = block_named b h keep s r es k
-root_named (Root.inline i) h keep s r es k = inline_named i h keep s r es k
-root_named (Root.literal text ls) h keep s r es k = and_then _ _ es k
-
--- ---- the one document
-
-tokens_told : (ds : Documents) → AreBasicDocuments ds → stream_tokens (documents_by true ds) ≡ Tok.stream_start ∷ Tok.document_start ∷ documents_tokens ds
-tokens_told (Documents.last_document d behind) h = ap (λ ts. Tok.stream_start ∷ Tok.document_start ∷ ts) (root_told d.root (Tok.stream_end ∷ []) h)
-tokens_told (Documents.document d g ds) h = absurd h
-
-events_named : (keep : Bool) (ds : Documents) (h : AreBasicDocuments ds) → named keep no_names (stream_events (documents_by true ds)) ≡ Some (nested_stream (with_node (document_nest ds h) ∷ []))
-events_named keep (Documents.last_document d behind) h =
-    and_then Ev.stream_start _ _ (and_then Ev.document_start _ _
-    (root_named d.root h keep (at_document keep no_names []) (Raw.document_end ∷ Raw.stream_end ∷ []) (Ev.document_end ∷ Ev.stream_end ∷ []) refl))
-events_named keep (Documents.document d g ds) h = absurd h
-
-pub tokens_are_a_stream : LayoutTokensAreAStream
-tokens_are_a_stream keep w basic = record {
-  documents = documents w;
-  has_tokens = ap (λ b. stream_tokens (documents_by b w.documents)) basic.0 ∙ tokens_told w.documents basic.1 ∙ ap (λ b. Tok.stream_start ∷ marked b (documents_tokens w.documents)) (sym basic.0);
-  has_events = ap (λ b. named keep no_names (stream_events (documents_by b w.documents))) basic.0 ∙ events_named keep w.documents basic.1;
-}
+pub tokens_told : (w : Layout) → IsLayout w → stream_tokens (documents w) ≡ layout_tokens w
+tokens_told w is = by w.is_marked
+  where
+    by : (b : Bool) → stream_tokens (documents_by b w.documents) ≡ Tok.stream_start ∷ marked b (documents_tokens w.documents)
+    by true = ap (λ ts. Tok.stream_start ∷ Tok.document_start ∷ ts) (documents_told w.documents is)
+    by false = ap (λ ts. Tok.stream_start ∷ ts) (documents_told w.documents is)

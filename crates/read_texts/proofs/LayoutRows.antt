@@ -1,98 +1,73 @@
--- Basic layouts, their events and what these are read as, computed.
-use Rattle.std.specs.Prelude.{◌≡◌, pos, [], ◌∷◌, true, None, Ok, Err, codes, refl}
+-- Layouts, their events and what these are read as, computed.
+use Rattle.std.specs.Prelude.{◌≡◌, ℕ, pos, List, [], ◌∷◌, true, false, None, Ok, codes, refl}
 use Rattle.std.specs.Fmt.{digits}
 use Rattle.token_defs.specs.Token.{Style}
-use Rattle.tree_defs.specs.Tree.{Tree, items_of, pairs_of}
-use Rattle.tree_defs.specs.Typing.{typing, is_decimal}
+use Rattle.tree_defs.specs.Tree.{Tree}
 use Rattle.tree_defs.specs.Escapes.{written_character}
-use Rattle.tree_defs.specs.Quoting.{is_unfit_for_plain, is_quoted}
-use Rattle.layout_defs.specs.WideLayout.{WideLayout, Scalar, Inline, no_comment, Block, Value, Entries, Field, Fields, Root, last_document, below, spell}
-use Rattle.layout_defs.specs.Layout.{IsBasic}
-use Rattle.layout_defs.specs.BlockLines.{full}
+use Rattle.tree_defs.specs.Typing.{typing, is_decimal}
+use Rattle.layout_defs.specs.Layout.{Scalar, Inline, Block, Value, Entries, Field, Fields, Root, Document, Documents, Layout, no_comment, spell, IsLayout, trees_of}
+use Rattle.laid_tokens.specs.LayoutTokens.{layout_tokens}
 use Rattle.event_defs.specs.Event.{Ev}
-use Rattle.event_defs.specs.Nested.{nested_stream}
+use Rattle.event_defs.specs.Nested.{Nest, nested_alias, nested_scalar, nested_sequence, no_nests, nest, with_node, nested_stream}
 use Rattle.event_defs.specs.Reading.{reading}
-use Rattle.read_texts.specs.LayoutNest.{layout_documents}
+use Rattle.event_defs.specs.Stream.{IsStream}
+use Rattle.read_texts.proofs.LayoutDerived.{documents}
 
-abbrev text_of : Tree → Inline
-text_of t = Inline.scalar (Scalar.plain t)
+abbrev single : List ℕ → Inline
+single text = Inline.scalar (Scalar.single_quoted text)
+
+abbrev number : Tree → Inline
+number t = Inline.scalar (Scalar.plain t)
 
 -- a value behind one space
 abbrev beside : Inline → Value
 beside i = Value.beside 0 i no_comment
 
--- a document without gaps, whose root is a block at column 0
-abbrev plainly : Block → WideLayout
-plainly b = record { is_marked = true; documents = last_document (record { gap = []; root = Root.block 0 b }) [] }
+abbrev document : Root → Document
+document x = record { gap = []; root = x }
 
--- ---- `---`, `"k":`, `  - ~`, `  - []`
+-- ---- `"k":`, `- &n 'x'`, `- *n`, and a second document with the same name: its number is the next
 
-abbrev list_below : WideLayout
-list_below =
-    plainly (Block.hash (Fields.last_field (Field.implicit (Scalar.quoted (codes "k"))
-    (below no_comment [] 2 (Block.array (Entries.entry (beside (text_of Tree.null)) [] (Entries.last_entry (beside Inline.empty_array))))))))
+abbrev named_entries : Entries
+named_entries = Entries.entry (Value.anchored 0 (codes "n") (beside (single (codes "x")))) [] (Entries.last_entry (Value.alias 0 (codes "n") (Tree.string (codes "x"))))
 
-list_below_basic : IsBasic list_below
-list_below_basic = search
+abbrev two_documents : Layout
+two_documents = record {
+  is_marked = false;
+  documents = Documents.document
+      (document (Root.block 0 (Block.hash (Fields.last_field (Field.implicit (Scalar.quoted (codes "k")) (Value.at_key no_comment [] named_entries)))))) []
+      (Documents.last_document (document (Root.block 0 (Block.array named_entries))) []);
+}
 
-list_below_text : spell list_below [] ≡ codes "---\n\"k\":\n  - ~\n  - []"
+two_documents_text : spell two_documents [] ≡ codes "\"k\":\n- &n 'x'\n- *n\n---\n- &n 'x'\n- *n"
 unfolding written_character
-list_below_text = refl
+two_documents_text = refl
 
-list_below_events : nested_stream (layout_documents list_below list_below_basic) ≡
-    Ev.stream_start ∷ Ev.document_start ∷ Ev.mapping_start 0 None ∷ Ev.scalar (codes "k") Style.double_quoted 0 None
-    ∷ Ev.sequence_start 0 None ∷ Ev.scalar (codes "~") Style.plain 0 None ∷ Ev.sequence_start 0 None ∷ Ev.sequence_end ∷ Ev.sequence_end
-    ∷ Ev.mapping_end ∷ Ev.document_end ∷ Ev.stream_end ∷ []
-list_below_events = refl
+two_documents_stream : IsStream false (layout_tokens two_documents)
+    (Ev.stream_start ∷ Ev.document_start ∷ Ev.mapping_start 0 None ∷ Ev.scalar (codes "k") Style.double_quoted 0 None
+    ∷ Ev.sequence_start 0 None ∷ Ev.scalar (codes "x") Style.single_quoted 1 None ∷ Ev.alias 1 ∷ Ev.sequence_end ∷ Ev.mapping_end ∷ Ev.document_end
+    ∷ Ev.document_start ∷ Ev.sequence_start 0 None ∷ Ev.scalar (codes "x") Style.single_quoted 2 None ∷ Ev.alias 2 ∷ Ev.sequence_end ∷ Ev.document_end ∷ Ev.stream_end ∷ [])
+two_documents_stream = record { documents = documents two_documents; has_tokens = refl; has_events = refl }
 
-list_below_read : reading (layout_documents list_below list_below_basic) ≡ Ok (Tree.hash (pairs_of (
-    (Tree.string (codes "k"), Tree.array (items_of (Tree.null ∷ Tree.array (items_of []) ∷ []))) ∷ [])) ∷ [])
-unfolding typing is_decimal
-list_below_read = refl
+-- ---- `- &a 1`, `- &a 2`, `- *a`: the last node of the name counts
 
--- ---- `---`, `? - 12`, `: |-`, `  12`: the key's is a number, the literal block is a string
+abbrev twice_named : Layout
+twice_named = record {
+  is_marked = true;
+  documents = Documents.last_document (document (Root.block 0 (Block.array
+      (Entries.entry (Value.anchored 0 (codes "a") (beside (number (Tree.integer (pos 1))))) []
+      (Entries.entry (Value.anchored 0 (codes "a") (beside (number (Tree.integer (pos 2))))) []
+      (Entries.last_entry (Value.alias 0 (codes "a") (Tree.integer (pos 2))))))))) [];
+}
 
-abbrev key_of_lines : WideLayout
-key_of_lines =
-    plainly (Block.hash (Fields.last_field (Field.explicit
-    (Value.compact 0 (Block.array (Entries.last_entry (beside (text_of (Tree.integer (pos 12)))))))
-    [] (Value.literal 0 2 (codes "12") (full (codes "12") ∷ [])))))
-
-key_of_lines_basic : IsBasic key_of_lines
-key_of_lines_basic = search
-
-key_of_lines_text : spell key_of_lines [] ≡ codes "---\n? - 12\n: |-\n  12"
+twice_named_is : IsLayout twice_named
 unfolding digits
-key_of_lines_text = refl
+twice_named_is = search
 
-key_of_lines_read : reading (layout_documents key_of_lines key_of_lines_basic) ≡ Ok (Tree.hash (pairs_of (
-    (Tree.array (items_of (Tree.integer (pos 12) ∷ [])), Tree.string (codes "12")) ∷ [])) ∷ [])
+abbrev twice_named_nests : Nest
+twice_named_nests = nested_sequence 0 None (nest (nested_scalar (codes "1") Style.plain 1 None) (nest (nested_scalar (codes "2") Style.plain 2 None) (nest (nested_alias 2) no_nests)))
+
+twice_named_read : IsStream false (layout_tokens twice_named) (nested_stream (with_node twice_named_nests ∷ []))
+    × (reading (with_node twice_named_nests ∷ []) ≡ Ok (trees_of twice_named.documents))
 unfolding typing is_decimal digits
-key_of_lines_read = refl
-
--- ---- `---`, `"a": 1`, `a: 2`: the keys are one
-
-abbrev repeated : WideLayout
-repeated =
-    plainly (Block.hash (Fields.field (Field.implicit (Scalar.quoted (codes "a")) (beside (text_of (Tree.integer (pos 1))))) []
-    (Fields.last_field (Field.implicit (Scalar.plain (Tree.string (codes "a"))) (beside (text_of (Tree.integer (pos 2))))))))
-
-repeated_basic : IsBasic repeated
-repeated_basic = search
-
-repeated_read : reading (layout_documents repeated repeated_basic) ≡ Err (Tree.string (codes "a"))
-unfolding typing is_decimal is_quoted is_unfit_for_plain digits
-repeated_read = refl
-
--- ---- `---`, `- true`, spelt as a real that is none: it is read as a boolean
-
-abbrev unquoted : WideLayout
-unquoted =
-    plainly (Block.array (Entries.last_entry (beside (text_of (Tree.real (codes "true"))))))
-
-unquoted_basic : IsBasic unquoted
-unquoted_basic = search
-
-unquoted_read : reading (layout_documents unquoted unquoted_basic) ≡ Ok (Tree.array (items_of (Tree.boolean true ∷ [])) ∷ [])
-unfolding typing is_decimal
-unquoted_read = refl
+twice_named_read = (record { documents = documents twice_named; has_tokens = refl; has_events = refl }, refl)

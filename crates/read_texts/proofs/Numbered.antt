@@ -1,4 +1,4 @@
--- Anchors by their names, as a wide layout keeps them, by their numbers, as events have them, and the trees that are read under
+-- Anchors by their names, as a layout keeps them, by their numbers, as events have them, and the trees that are read under
 -- these numbers.
 use Rattle.std.proofs.Common.{◌≡◌, ◌≢◌, ℕ, ◌+◌, ◌<◌, ◌≤◌, List, [], ◌∷◌, ◌++◌, Bool, true, false, Option, Some, None, refl, sym, ap, ◌∙◌, add-one, arith}
 use Rattle.std.specs.Prelude.{bytes_eq, nat_eq, if◌then◌else◌}

@@ -8,7 +8,7 @@ use Rattle.event_defs.specs.Nested.{nested_scalar, with_node}
 use Rattle.event_defs.specs.Reading.{reading}
 use Rattle.event_defs.specs.ReadAs.{ReadAs}
 use Rattle.read_texts.specs.Laws.{QuotedTokensReadAsTheirString}
-use Rattle.read_texts.proofs.WideDerived.{leaf}
+use Rattle.read_texts.proofs.LayoutDerived.{leaf}
 
 one_scalar : (keep_tags : Bool) (quotes : Quotes) (value : List ℕ) → ReadAs keep_tags (Tok.stream_start ∷ Tok.scalar (style_of quotes) value ∷ Tok.stream_end ∷ []) (Tree.string value ∷ [])
 one_scalar keep_tags quotes value = record {

@@ -8,10 +8,10 @@ use Rattle.tree_defs.specs.Typing.{typing}
 use Rattle.layout_defs.specs.JsonNumber.{Number, spell_number, is_number, number_tree}
 use Rattle.layout_defs.specs.Json as json
 use Rattle.layout_defs.specs.Json.{JsonText, IsWellFormed}
-use Rattle.layout_defs.specs.Layout.{IsBasic}
-use Rattle.layout_defs.specs.WideLayout.{WideLayout, IsWideLayout, trees_of}
+use Rattle.layout_defs.specs.Basic.{IsBasic}
+use Rattle.layout_defs.specs.Layout.{Layout, IsLayout, trees_of}
 use Rattle.laid_tokens.specs.JsonTokens.{json_text_tokens}
-use Rattle.laid_tokens.specs.WideTokens.{wide_tokens}
+use Rattle.laid_tokens.specs.LayoutTokens.{layout_tokens}
 use Rattle.laid_tokens.specs.QuotedText.{HasQuotedTokens}
 use Rattle.event_defs.specs.Event.{Ev}
 use Rattle.event_defs.specs.Stream.{IsStream, Foretells, NoneBegins, events_of}
@@ -21,7 +21,7 @@ use Rattle.event_defs.specs.Unfinished.{new_loader, with_events}
 use Rattle.event_defs.specs.Laws.{HasRead}
 use Rattle.event_defs.specs.ReadAs.{ReadAs, IsAtWork}
 use Rattle.read_texts.specs.JsonNest.{json_documents}
-use Rattle.read_texts.specs.LayoutNest.{layout_documents}
+use Rattle.read_texts.specs.BasicNest.{basic_documents}
 
 -- ---- any tokens that are read
 
@@ -73,23 +73,23 @@ JsonEventsAreLoaded =
 
 -- ---- layouts
 
--- `wide_tokens_read_as_their_trees`
-abbrev pub WideTokensReadAsTheirTrees : Type 0
-WideTokensReadAsTheirTrees = (keep_tags : Bool) (w : WideLayout) → IsWideLayout w → ReadAs keep_tags (wide_tokens w) (trees_of w.documents)
+-- `layout_tokens_read_as_their_trees`
+abbrev pub LayoutTokensReadAsTheirTrees : Type 0
+LayoutTokensReadAsTheirTrees = (keep_tags : Bool) (w : Layout) → IsLayout w → ReadAs keep_tags (layout_tokens w) (trees_of w.documents)
 
--- `wide_events_are_loaded`
-abbrev pub WideEventsAreLoaded : Type 0
-WideEventsAreLoaded =
-    (keep_tags : Bool) (w : WideLayout) (events : List (Ev × Place)) → IsWideLayout w → IsStream keep_tags (wide_tokens w) (events_of events)
+-- `layout_events_are_loaded`
+abbrev pub LayoutEventsAreLoaded : Type 0
+LayoutEventsAreLoaded =
+    (keep_tags : Bool) (w : Layout) (events : List (Ev × Place)) → IsLayout w → IsStream keep_tags (layout_tokens w) (events_of events)
     → HasRead (Ok (trees_of w.documents)) (with_events new_loader events)
 
--- `layout_tokens_are_a_stream`
-abbrev pub LayoutTokensAreAStream : Type 0
-LayoutTokensAreAStream = (keep_tags : Bool) (w : WideLayout) (basic : IsBasic w) → IsStream keep_tags (wide_tokens w) (nested_stream (layout_documents w basic))
+-- `basic_tokens_are_a_stream`
+abbrev pub BasicTokensAreAStream : Type 0
+BasicTokensAreAStream = (keep_tags : Bool) (w : Layout) (basic : IsBasic w) → IsStream keep_tags (layout_tokens w) (nested_stream (basic_documents w basic))
 
--- `layout_documents_read_as_their_trees`
-abbrev pub LayoutDocumentsReadAsTheirTrees : Type 0
-LayoutDocumentsReadAsTheirTrees = (w : WideLayout) (basic : IsBasic w) → IsWideLayout w → reading (layout_documents w basic) ≡ Ok (trees_of w.documents)
+-- `basic_documents_read_as_their_trees`
+abbrev pub BasicDocumentsReadAsTheirTrees : Type 0
+BasicDocumentsReadAsTheirTrees = (w : Layout) (basic : IsBasic w) → IsLayout w → reading (basic_documents w basic) ≡ Ok (trees_of w.documents)
 
 -- ---- quoted texts
 

@@ -1,3 +1,3 @@
+pub mod BasicNest
 pub mod JsonNest
-pub mod LayoutNest
 pub mod Laws

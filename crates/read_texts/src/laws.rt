@@ -4,7 +4,7 @@
 ghost use Rattle.read_texts.specs.Laws.{ReadStreamsAreLoaded, ReadStreamsAreNotRefused, ForetoldEventsAreNotRefused, ReadStreamsAreNotCut};
 ghost use Rattle.read_texts.specs.Laws.{JsonTokensAreAStream, JsonNumbersStandForTheirTrees, JsonDocumentsReadAsTheirTrees};
 ghost use Rattle.read_texts.specs.Laws.{JsonTokensReadAsTheirTree, JsonEventsAreLoaded};
-ghost use Rattle.read_texts.specs.Laws.{WideTokensReadAsTheirTrees, WideEventsAreLoaded, LayoutTokensAreAStream, LayoutDocumentsReadAsTheirTrees, QuotedTokensReadAsTheirString};
+ghost use Rattle.read_texts.specs.Laws.{LayoutTokensReadAsTheirTrees, LayoutEventsAreLoaded, BasicTokensAreAStream, BasicDocumentsReadAsTheirTrees, QuotedTokensReadAsTheirString};
 
 /// Let tokens be read as trees. A loader that takes the events of their stream, at any places, has these trees as its
 /// documents. Nothing is open, and no repeated key was noted.
@@ -57,25 +57,25 @@ pub fn json_events_are_loaded()
 
 /// The tokens of a layout are a stream of the token grammar, whose events are read as the layout's trees, one for
 /// each document. Anchors are numbered over the stream, and an alias is read as the tree that it stands for.
-pub fn wide_tokens_read_as_their_trees()
-    ensures { WideTokensReadAsTheirTrees }
+pub fn layout_tokens_read_as_their_trees()
+    ensures { LayoutTokensReadAsTheirTrees }
 {}
 
 /// A loader that takes the events of a layout's stream, at any places, has the layout's trees as its documents.
 /// Nothing is open, and no repeated key was noted.
-pub fn wide_events_are_loaded()
-    ensures { WideEventsAreLoaded }
+pub fn layout_events_are_loaded()
+    ensures { LayoutEventsAreLoaded }
 {}
 
 /// The events of a basic layout are those of its one nested document. No node has an anchor.
-pub fn layout_tokens_are_a_stream()
-    ensures { LayoutTokensAreAStream }
+pub fn basic_tokens_are_a_stream()
+    ensures { BasicTokensAreAStream }
 {}
 
 /// The nested document of a basic layout is read as the layout's tree. So no key comes twice, and each plain scalar
 /// stands for what was spelt.
-pub fn layout_documents_read_as_their_trees()
-    ensures { LayoutDocumentsReadAsTheirTrees }
+pub fn basic_documents_read_as_their_trees()
+    ensures { BasicDocumentsReadAsTheirTrees }
 {}
 
 /// The tokens of a text of one quoted scalar are a stream, and are read as a string, also if the text without quotes

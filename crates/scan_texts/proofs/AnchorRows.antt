@@ -10,9 +10,9 @@ use Rattle.scalar_defs.specs.BlockScalar.{row_of, is_empty_line, is_content_line
 use Rattle.scalar_defs.specs.Classes.{is_blank}
 use Rattle.layout_defs.specs.Gap.{empty_line, is_line_character}
 use Rattle.layout_defs.specs.BlockLines.{full, blank}
-use Rattle.layout_defs.specs.WideLayout.{Scalar, plain, single_quoted, scalar, no_comment, Block, beside, literal, folded, below, anchored, alias, implicit, last_field, field, Root, last_document}
+use Rattle.layout_defs.specs.Layout.{Scalar, plain, single_quoted, scalar, no_comment, Block, beside, literal, folded, below, anchored, alias, implicit, last_field, field, Root, last_document}
 use Rattle.scan_model.specs.TextTokens.{HasToks}
-use Rattle.scan_texts.proofs.WideTexts.{wide_texts_have_their_tokens}
+use Rattle.scan_texts.proofs.Layouts.{layouts_have_their_tokens}
 
 abbrev word : List ℕ → Scalar
 word w = plain (Tree.string w)
@@ -33,7 +33,7 @@ each_anchor : HasToks (codes "---\na: &x\n  k: &y 'it''s'\nb: *x\nc: >-\n  p\n  
     ∷ Tok.key ∷ text_tok (codes "d") ∷ Tok.value ∷ Tok.anchor (codes "z") ∷ Tok.scalar Style.literal (codes "s\nt\n")
     ∷ Tok.block_end ∷ Tok.stream_end ∷ [])
 unfolding is_quoted is_unfit_for_plain typing is_decimal is_line_character is_literal is_literal_character row_of is_empty_line is_content_line is_blank
-each_anchor = wide_texts_have_their_tokens
+each_anchor = layouts_have_their_tokens
     (record {
       is_marked = true;
       documents = last_document (record {

@@ -9,7 +9,7 @@ use Rattle.yaml_chars.specs.Class.{is_anchor, is_blank, is_break, is_flow}
 use Rattle.token_defs.specs.Token.{Tok}
 use Rattle.layout_defs.specs.Anchored.{is_name}
 use Rattle.layout_defs.specs.Gap.{GapLine, IsGap}
-use Rattle.layout_defs.specs.WideLayout.{Comment, no_comment, comment, IsComment}
+use Rattle.layout_defs.specs.Layout.{Comment, no_comment, comment, IsComment}
 use Rattle.scalar_model.specs.Machine.{past, past_break, take_while, ends_while}
 use Rattle.scalar_model.specs.Anchor.{anchor_name}
 use Rattle.scan_model.specs.declared.level.Indent.{Indent}

@@ -14,7 +14,7 @@ use Rattle.cut_defs.specs.BlockPiece as cut
 use Rattle.cut_defs.specs.BlockPiece.{read_body, past_spaces, block_place}
 use Rattle.layout_defs.specs.Gap.{GapLine, empty_line, comment_line, spaces, IsGap, AreEmptyLines, IsLineText, is_line_character}
 use Rattle.layout_defs.specs.BlockLines.{Line, full, blank, spell_line, spell_lines, AreLines}
-use Rattle.layout_defs.specs.WideLayout.{indented_lines, BeginsWithText, EndsInText, AreLineTexts}
+use Rattle.layout_defs.specs.Layout.{indented_lines, BeginsWithText, EndsInText, AreLineTexts}
 use Rattle.scalar_model.specs.Machine.{Read, past, past_break}
 use Rattle.scalar_model.specs.Block.{Block, block}
 use Rattle.scalar_laws.proofs.Bridges.{and_false}

@@ -6,7 +6,7 @@ use Rattle.scalar_defs.specs.Classes.{is_document_marker}
 use Rattle.scalar_defs.specs.BlockScalar.{BlockStyle, Chomping, Header, Row, empty_row, content_row, row_of, rows_of, is_empty_line, is_content_line, is_spaces, leading_spaces, deepest_start, has_content, text_of, text_behind, with_content, value_before_text, value_before_end}
 use Rattle.layout_defs.specs.Gap.{spaces}
 use Rattle.layout_defs.specs.BlockLines.{Line, full, blank, spell_line, spell_lines, AreLines}
-use Rattle.layout_defs.specs.WideLayout.{indented_lines, BeginsWithText, EndsInText}
+use Rattle.layout_defs.specs.Layout.{indented_lines, BeginsWithText, EndsInText}
 use Rattle.scalar_laws.proofs.Bridges.{and_false}
 use Rattle.scan_blocks.proofs.Written as written
 use Rattle.scan_blocks.proofs.Written.{feed, texts}

@@ -5,7 +5,7 @@ use Rattle.token_defs.specs.Token.{Tok, Style}
 use Rattle.tree_defs.specs.Literal.{is_literal as may_be_literal, is_root_literal}
 use Rattle.scalar_defs.specs.BlockScalar.{BlockStyle, literal, folded}
 use Rattle.layout_defs.specs.BlockLines.{Line, spell_lines}
-use Rattle.layout_defs.specs.WideLayout.{folded_header, AreFoldedLines, spell_literal, AreLinesOf}
+use Rattle.layout_defs.specs.Layout.{folded_header, AreFoldedLines, spell_literal, AreLinesOf}
 use Rattle.scalar_model.specs.Block.{block}
 use Rattle.scan_model.specs.declared.level.Indent.{Indent}
 use Rattle.scan_model.specs.State.{Key, State, token}

@@ -5,7 +5,7 @@ use Rattle.std.proofs.lemmas.Bool.{and_parts}
 use Rattle.yaml_chars.specs.Place.{Place}
 use Rattle.yaml_chars.specs.Class.{is_break}
 use Rattle.layout_defs.specs.Gap.{spaces, IsLineText, is_line_character}
-use Rattle.layout_defs.specs.WideLayout.{Comment, no_comment, comment, spell_comment, IsComment}
+use Rattle.layout_defs.specs.Layout.{Comment, no_comment, comment, spell_comment, IsComment}
 use Rattle.scalar_model.specs.declared.context.SkipTabs.TheVariants.{Yes}
 use Rattle.scalar_model.specs.declared.context.Whitespace.{Whitespace}
 use Rattle.scalar_model.specs.Machine.{past}

@@ -6,7 +6,7 @@ use Rattle.token_defs.specs.Token.{Tok}
 use Rattle.yaml_tokens.specs.declared.problem.Fault.{Fault}
 use Rattle.layout_defs.specs.JsonGap.{Blank, spell_gap}
 use Rattle.layout_defs.specs.Json.{Json, false_word, null_word, true_word, number, string, empty_array, array, empty_object, object, spell, spell_elements, spell_members, levels, IsJson}
-use Rattle.layout_defs.specs.WideLayout.{Comment, spell_comment, IsComment, IsJsonCollection}
+use Rattle.layout_defs.specs.Layout.{Comment, spell_comment, IsComment, IsJsonCollection}
 use Rattle.laid_tokens.specs.JsonTokens.{json_tokens}
 use Rattle.scalar_model.specs.Machine.{past}
 use Rattle.scan_model.specs.declared.level.Indent.{Indent}

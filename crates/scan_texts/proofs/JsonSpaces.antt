@@ -6,7 +6,7 @@ use Rattle.layout_defs.specs.JsonGap.{Blank, space, tab, line_feed, carriage_ret
 use Rattle.layout_defs.specs.JsonNumber.{Number, spell_number}
 use Rattle.layout_defs.specs.JsonString.{Piece, itself, short, unicode, letter_of, spell_piece, spell_pieces, spell_string}
 use Rattle.layout_defs.specs.Json.{Json, false_word, null_word, true_word, number, string, empty_array, array, empty_object, object, Elements, last_element, element, Members, last_member, member, spell, spell_elements, spell_members}
-use Rattle.layout_defs.specs.WideLayout.{is_on_one_line}
+use Rattle.layout_defs.specs.Layout.{is_on_one_line}
 use Rattle.scan_texts.proofs.JsonStates.{AreSpaces}
 use Rattle.scan_texts.proofs.JsonOnOneLine.{HasSpaces, HaveSpaces, MembersHaveSpaces}
 use Rattle.scan_texts.proofs.JsonNumbers.{number_then}

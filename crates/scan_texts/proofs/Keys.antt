@@ -7,7 +7,7 @@ use Rattle.yaml_chars.specs.Place.{Place}
 use Rattle.yaml_chars.specs.Class.{is_break, is_blank}
 use Rattle.token_defs.specs.Token.{Tok, Style, Token}
 use Rattle.layout_defs.specs.Gap.{GapLine, IsGap}
-use Rattle.layout_defs.specs.WideLayout.{Comment, no_comment, comment, IsComment}
+use Rattle.layout_defs.specs.Layout.{Comment, no_comment, comment, IsComment}
 use Rattle.scan_texts.proofs.Comments.{spaced, comment_white, comment_place, comment_are_white, beyond_comment, allowed_comment}
 use Rattle.scalar_model.specs.declared.context.SkipTabs.TheVariants.{Yes}
 use Rattle.scalar_model.specs.Machine.{past, past_break}

@@ -9,9 +9,9 @@ use Rattle.layout_defs.specs.JsonGap as gap
 use Rattle.layout_defs.specs.JsonNumber.{number, no_fraction, fraction, plus, no_exponent, exponent}
 use Rattle.layout_defs.specs.JsonString.{itself, is_unescaped}
 use Rattle.layout_defs.specs.Json.{Json, Elements, Members}
-use Rattle.layout_defs.specs.WideLayout.{plain, Block, json, compact, last_entry, entry, implicit, explicit, last_field, Root, last_document, is_on_one_line}
+use Rattle.layout_defs.specs.Layout.{plain, Block, json, compact, last_entry, entry, implicit, explicit, last_field, Root, last_document, is_on_one_line}
 use Rattle.scan_model.specs.TextTokens.{HasToks}
-use Rattle.scan_texts.proofs.WideTexts.{wide_texts_have_their_tokens}
+use Rattle.scan_texts.proofs.Layouts.{layouts_have_their_tokens}
 
 abbrev plain_tok : List ℕ → Tok
 plain_tok w = Tok.scalar Style.plain w
@@ -45,7 +45,7 @@ behind_each_mark : HasToks (codes "- [1, {\"a\": [true, \"x\"]}]\n- ? {\"b\" : n
     ∷ Tok.flow_mapping_start ∷ Tok.flow_mapping_end ∷ Tok.flow_sequence_end ∷ Tok.block_end
     ∷ Tok.block_end ∷ Tok.stream_end ∷ [])
 unfolding is_quoted is_unfit_for_plain typing is_decimal digits is_unescaped is_on_one_line
-behind_each_mark = wide_texts_have_their_tokens
+behind_each_mark = layouts_have_their_tokens
     (record {
       is_marked = false;
       documents = last_document (record {

@@ -11,9 +11,9 @@ use Rattle.tree_defs.specs.Escapes.{written_character}
 use Rattle.tree_defs.specs.Literal.{is_literal, is_literal_character}
 use Rattle.layout_defs.specs.Gap.{empty_line, comment_line, is_line_character}
 use Rattle.layout_defs.specs.BlockLines.{full, blank}
-use Rattle.layout_defs.specs.WideLayout.{Scalar, plain, quoted, Inline, scalar, empty_array, empty_hash, no_comment, array, hash, Value, compact, below, literal, last_entry, entry, implicit, explicit, last_field, field, Root, last_document}
+use Rattle.layout_defs.specs.Layout.{Scalar, plain, quoted, Inline, scalar, empty_array, empty_hash, no_comment, array, hash, Value, compact, below, literal, last_entry, entry, implicit, explicit, last_field, field, Root, last_document}
 use Rattle.scan_model.specs.TextTokens.{HasToks}
-use Rattle.scan_texts.proofs.WideTexts.{wide_texts_have_their_tokens}
+use Rattle.scan_texts.proofs.Layouts.{layouts_have_their_tokens}
 
 abbrev word : List ℕ → Scalar
 word w = plain (Tree.string w)
@@ -36,7 +36,7 @@ each_form : HasToks (codes "---\n# top\n\n   ? - 1\n     - []\n# mid\n   :      
     ∷ Tok.key ∷ text_tok (codes "k") ∷ Tok.value ∷ Tok.block_mapping_start ∷ Tok.key ∷ Tok.scalar Style.double_quoted (codes "z") ∷ Tok.value ∷ Tok.flow_mapping_start ∷ Tok.flow_mapping_end ∷ Tok.block_end
     ∷ Tok.block_end ∷ Tok.stream_end ∷ [])
 unfolding is_quoted is_unfit_for_plain typing is_decimal is_literal is_literal_character is_line_character digits written_character
-each_form = wide_texts_have_their_tokens
+each_form = layouts_have_their_tokens
     (record {
       is_marked = true;
       documents = last_document (record {

@@ -12,9 +12,9 @@ use Rattle.layout_defs.specs.BlockLines.{Line, spell_lines}
 use Rattle.layout_defs.specs.Anchored.{Anchor, begun, is_name}
 use Rattle.layout_defs.specs.Json
 use Rattle.layout_defs.specs.Json.{Json}
-use Rattle.layout_defs.specs.WideLayout.{Scalar, plain, quoted, single_quoted, Inline, scalar, empty_array, empty_hash, Comment, no_comment, Block, array, hash, Value, literal, folded, json, compact, at_key, anchored, alias, Entries, last_entry, entry, Field, implicit, explicit, Fields, last_field, field, doubled, spell_scalar, spell_inline, spell_comment, spell_literal, folded_header, spell_block, spell_value, spell_entries, spell_field, spell_fields, anchors_behind, anchors_behind_field, IsScalar, IsInline, IsComment, IsJsonCollection, IsJsonOnOneLine, AreLinesOf, IsImplicitKey, IsExplicitKey, MayFollowScalarKey, MayFollowMark, MayBeAnchored, IsBlock, IsValue, AreEntries, IsField, AreFields}
-use Rattle.layout_defs.specs.WideLayout as layout
-use Rattle.laid_tokens.specs.WideTokens.{scalar_token, inline_tokens, block_tokens, value_tokens, entry_tokens, field_tokens, all_field_tokens}
+use Rattle.layout_defs.specs.Layout.{Scalar, plain, quoted, single_quoted, Inline, scalar, empty_array, empty_hash, Comment, no_comment, Block, array, hash, Value, literal, folded, json, compact, at_key, anchored, alias, Entries, last_entry, entry, Field, implicit, explicit, Fields, last_field, field, doubled, spell_scalar, spell_inline, spell_comment, spell_literal, folded_header, spell_block, spell_value, spell_entries, spell_field, spell_fields, anchors_behind, anchors_behind_field, IsScalar, IsInline, IsComment, IsJsonCollection, IsJsonOnOneLine, AreLinesOf, IsImplicitKey, IsExplicitKey, MayFollowScalarKey, MayFollowMark, MayBeAnchored, IsBlock, IsValue, AreEntries, IsField, AreFields}
+use Rattle.layout_defs.specs.Layout as layout
+use Rattle.laid_tokens.specs.LayoutTokens.{scalar_token, inline_tokens, block_tokens, value_tokens, entry_tokens, field_tokens, all_field_tokens}
 use Rattle.scan_model.specs.declared.level.Indent.{Indent}
 use Rattle.scan_model.specs.State.{State}
 use Rattle.scan_model.specs.Indents.{level}

@@ -19,7 +19,7 @@ use Rattle.scan_model.specs.Document.{quoted_style, may_follow_quoted, check_beh
 use Rattle.scan_model.specs.Fetch.{fetch_here, token_by, comes_marker}
 use Rattle.scan_texts.proofs.LayoutStates.{Parts, stands, is_solid, Opens, opened, opened_indent, IsClosed, Trail, next, marker, end, marker_text, trail_text, rest_of, limit_of, IsTrail, Before, After}
 use Rattle.layout_defs.specs.Gap.{IsLineText}
-use Rattle.layout_defs.specs.WideLayout.{Comment, no_comment, comment, spell_comment, IsComment}
+use Rattle.layout_defs.specs.Layout.{Comment, no_comment, comment, spell_comment, IsComment}
 use Rattle.scan_texts.proofs.Comments.{comment_white, comment_place, comment_is, beyond_comment, comment_line, comment_passes}
 use Rattle.scan_texts.proofs.Whites.{White, line_feed, remark, spell_white, along, along_line, beyond, allowed_beyond, AreWhite, next_token, gap_white, blanks, gap_allows, stays_allowed, line_white, ending_white, leading_beyond}
 use Rattle.scan_texts.proofs.Levels

@@ -1,52 +1,52 @@
-mod TextTokens
-mod JsonStates
-mod JsonLevels
-mod JsonGaps
-mod JsonWords
-mod JsonStrings
-mod QuotedLines
+mod AnchorRows
+mod Anchors
+mod BlockScans
+mod BlockTexts
+mod Blocks
+mod Comments
+pub mod Documents
+pub mod InTurn
+mod Joins
 mod JsonFetches
-mod JsonSteps
-mod JsonScalars
+mod JsonGaps
+mod JsonLevels
+mod JsonLines
 mod JsonNumbers
 mod JsonOnOneLine
-mod JsonValues
-pub mod JsonTexts
-mod JsonTextRows
-mod LayoutStates
-mod Whites
-mod Comments
-mod Levels
-mod Joins
-mod Plains
-mod PlainTexts
-mod Quotes
-pub mod Documents
-mod Marks
-mod Leaves
+mod JsonScalars
 mod JsonSpaces
-mod JsonLines
+mod JsonStates
+mod JsonSteps
+mod JsonStrings
+mod JsonTextRows
+pub mod JsonTexts
+mod JsonValues
+mod JsonWords
 mod Keys
-mod BlockTexts
-mod BlockScans
-mod LiteralTexts
-mod Blocks
-mod Anchors
-mod LayoutValues
-pub mod WideTexts
-pub mod InTurn
-mod LayoutRows
 mod LayoutJsonRows
+mod LayoutRows
 mod LayoutRowsRefused
-mod AnchorRows
-mod QuotedTurns
-mod QuotedElements
+mod LayoutStates
+mod LayoutValues
+pub mod Layouts
+mod Leaves
+mod Levels
+mod LiteralTexts
+mod Marks
+mod PlainTexts
+mod Plains
 mod QuotedBodies
-pub mod QuotedNoNul
-pub mod QuotedValues
-pub mod QuotedTokens
-mod QuotedLocal
+mod QuotedElements
 mod QuotedFaults
-mod QuotedShapes
-pub mod QuotedScanEnds
+mod QuotedLines
+mod QuotedLocal
+pub mod QuotedNoNul
 mod QuotedRows
+pub mod QuotedScanEnds
+mod QuotedShapes
+pub mod QuotedTokens
+mod QuotedTurns
+pub mod QuotedValues
+mod Quotes
+mod TextTokens
+mod Whites

@@ -15,7 +15,7 @@ use Rattle.scalar_defs.specs.Classes.{are_marks, is_blank, is_break, is_nul, is_
 use Rattle.scalar_defs.specs.BlockScalar.{BlockStyle, Row, empty_row, content_row, rows_of, starts_with_tab, has_content, breaks, text_behind, text_of, value_before_text}
 use Rattle.layout_defs.specs.Gap.{IsLineText, is_line_character}
 use Rattle.layout_defs.specs.BlockLines.{Line, full, blank, content, contents, AreLines}
-use Rattle.layout_defs.specs.WideLayout.{indented_lines, BeginsWithText, EndsInText, AreLineTexts, AreLinesOf}
+use Rattle.layout_defs.specs.Layout.{indented_lines, BeginsWithText, EndsInText, AreLineTexts, AreLinesOf}
 use Rattle.scalar_laws.proofs.Bridges.{and_false}
 use Rattle.scan_texts.proofs.BlockTexts.{header_by, row_spaces, text_row}
 use Rattle.scan_texts.proofs.BlockScans.{block_text, IsInside, AreBlockLines, in_its_column, value_by_rows}

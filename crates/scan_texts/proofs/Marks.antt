@@ -7,7 +7,7 @@ use Rattle.yaml_chars.specs.Class.{is_break, is_blank, is_flow}
 use Rattle.token_defs.specs.Token.{Tok, Token}
 use Rattle.yaml_tokens.specs.declared.problem.Fault.{Fault}
 use Rattle.layout_defs.specs.Gap.{GapLine, IsGap, IsLineText, is_line_character}
-use Rattle.layout_defs.specs.WideLayout.{Comment, no_comment, comment, IsComment}
+use Rattle.layout_defs.specs.Layout.{Comment, no_comment, comment, IsComment}
 use Rattle.scalar_laws.proofs.Bridges.{and_false}
 use Rattle.scan_texts.proofs.Comments.{spaced, comment_white, comment_place, at_feed, comment_are_white, beyond_comment, allowed_comment, comment_passes}
 use Rattle.scalar_model.specs.declared.context.SkipTabs.{SkipTabs}

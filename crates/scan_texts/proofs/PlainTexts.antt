@@ -19,7 +19,7 @@ use Rattle.tree_defs.proofs.LinesLaws.{ends_with-step, ends_with-one}
 use Rattle.tree_defs.proofs.RealTexts.{is_real_character, real_text-characters}
 use Rattle.tree_defs.proofs.TypingLaws.{real_text-cases}
 use Rattle.tree_defs.proofs.Unquoted.{unquoted}
-use Rattle.layout_defs.specs.WideLayout.{IsPlain}
+use Rattle.layout_defs.specs.Layout.{IsPlain}
 use Rattle.scan_model.specs.declared.class.Class.TheVariants.{Other}
 use Rattle.scan_model.specs.State.{State}
 use Rattle.scan_model.specs.Class.{class_of}

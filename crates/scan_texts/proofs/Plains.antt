@@ -9,7 +9,7 @@ use Rattle.scalar_model.specs.declared.context.Context.{Context}
 use Rattle.scalar_model.specs.Machine.{Read, past, past_break, at_marker}
 use Rattle.scalar_model.specs.Plain.{State, Plain, inside, between, plain, plain_from, can_be_plain, starts, at_dash, at_plain, goes_on, is_shallow}
 use Rattle.scan_texts.proofs.LayoutStates.{is_content}
-use Rattle.layout_defs.specs.WideLayout.{comment}
+use Rattle.layout_defs.specs.Layout.{comment}
 use Rattle.scan_texts.proofs.Whites.{White, space, line_feed, remark, spell_white, along, beyond, AreWhite, blanks, content}
 use Rattle.scan_texts.proofs.Comments.{spaced, comment_white}
 

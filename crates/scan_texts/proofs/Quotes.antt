@@ -8,7 +8,7 @@ use Rattle.yaml_chars.specs.Place.{Place}
 use Rattle.yaml_chars.specs.Class.{is_break, is_blank, is_hex}
 use Rattle.tree_defs.specs.Escapes.{hexadecimal_digit, escaped_code, written_character, written_escapes}
 use Rattle.layout_defs.specs.Gap.{IsLineText, is_line_character}
-use Rattle.layout_defs.specs.WideLayout.{doubled}
+use Rattle.layout_defs.specs.Layout.{doubled}
 use Rattle.scalar_model.specs.Quoted.{quote_of, quoted, escape_of, is_scalar}
 use Rattle.scalar_model.specs.Quoted
 use Rattle.scalar_laws.proofs.Bridges.{and_false}

@@ -7,10 +7,10 @@ use Rattle.token_defs.specs.Toks.{toks}
 use Rattle.yaml_tokens.specs.declared.problem.Fault.{Fault}
 use Rattle.tree_defs.specs.Tree.{Tree}
 use Rattle.layout_defs.specs.Json.{JsonText, IsWellFormed, spell_text}
-use Rattle.layout_defs.specs.WideLayout.{WideLayout, IsWideLayout, spell, trees_of}
+use Rattle.layout_defs.specs.Layout.{Layout, IsLayout, spell, trees_of}
 use Rattle.layout_defs.specs.InTurn.{AreLaidOutInTurn}
 use Rattle.laid_tokens.specs.JsonTokens.{json_text_tokens}
-use Rattle.laid_tokens.specs.WideTokens.{wide_tokens}
+use Rattle.laid_tokens.specs.LayoutTokens.{layout_tokens}
 use Rattle.laid_tokens.specs.QuotedText.{HasQuotedTokens}
 use Rattle.scalar_model.specs.declared.context.Context.{Context}
 use Rattle.scalar_model.specs.Quoted.{quote_of, quoted}
@@ -45,23 +45,23 @@ JsonTextsAreNotRefused = (w : JsonText) → IsWellFormed w → (f : Fault) → I
 
 -- ---- texts laid out in lines
 
--- `wide_texts_have_their_tokens`
-abbrev pub WideTextsHaveTheirTokens : Type 0
-WideTextsHaveTheirTokens = (w : WideLayout) → IsWideLayout w → HasToks (spell w []) (wide_tokens w)
+-- `layouts_have_their_tokens`
+abbrev pub LayoutsHaveTheirTokens : Type 0
+LayoutsHaveTheirTokens = (w : Layout) → IsLayout w → HasToks (spell w []) (layout_tokens w)
 
--- `wide_texts_have_no_other_tokens`
-abbrev pub WideTextsHaveNoOtherTokens : Type 0
-WideTextsHaveNoOtherTokens = (w : WideLayout) → IsWideLayout w → (ts : List Token) → HasTokens (spell w []) ts → toks ts ≡ wide_tokens w
+-- `layouts_have_no_other_tokens`
+abbrev pub LayoutsHaveNoOtherTokens : Type 0
+LayoutsHaveNoOtherTokens = (w : Layout) → IsLayout w → (ts : List Token) → HasTokens (spell w []) ts → toks ts ≡ layout_tokens w
 
--- `wide_texts_are_not_refused`
-abbrev pub WideTextsAreNotRefused : Type 0
-WideTextsAreNotRefused = (w : WideLayout) → IsWideLayout w → (f : Fault) → IsRefused (spell w []) f → ⊥
+-- `layouts_are_not_refused`
+abbrev pub LayoutsAreNotRefused : Type 0
+LayoutsAreNotRefused = (w : Layout) → IsLayout w → (f : Fault) → IsRefused (spell w []) f → ⊥
 
 -- `layouts_in_turn_have_their_tokens`: together they are one layout, and have its tokens
 abbrev pub LayoutsInTurnHaveTheirTokens : Type 0
 LayoutsInTurnHaveTheirTokens =
     (t : Tree) (ts : List Tree) (text : List ℕ) → AreLaidOutInTurn (t ∷ ts) text
-    → (w : WideLayout) × IsWideLayout w × (spell w [] ≡ text) × (trees_of w.documents ≡ t ∷ ts) × HasToks text (wide_tokens w)
+    → (w : Layout) × IsLayout w × (spell w [] ≡ text) × (trees_of w.documents ≡ t ∷ ts) × HasToks text (layout_tokens w)
 
 -- `layouts_in_turn_are_not_refused`
 abbrev pub LayoutsInTurnAreNotRefused : Type 0

@@ -2,7 +2,7 @@
 
 ghost use Rattle.scan_texts.specs.Laws.{TextsHaveOneListOfTokens, TextsWithTokensAreNotRefused};
 ghost use Rattle.scan_texts.specs.Laws.{JsonTextsHaveTheirTokens, JsonTextsHaveNoOtherTokens, JsonTextsAreNotRefused};
-ghost use Rattle.scan_texts.specs.Laws.{WideTextsHaveTheirTokens, WideTextsHaveNoOtherTokens, WideTextsAreNotRefused};
+ghost use Rattle.scan_texts.specs.Laws.{LayoutsHaveTheirTokens, LayoutsHaveNoOtherTokens, LayoutsAreNotRefused};
 ghost use Rattle.scan_texts.specs.Laws.{LayoutsInTurnHaveTheirTokens, LayoutsInTurnAreNotRefused};
 ghost use Rattle.scan_texts.specs.Laws.{QuotedBodiesAreRead, QuotedScansEndAsTheirTextSays, QuotedTextsHaveTheirTokens};
 
@@ -34,18 +34,18 @@ pub fn json_texts_are_not_refused()
 
 /// The model gives a layout, of one document or more, its tokens: starts and ends of block collections by the
 /// columns, entries, keys and values by their indicators, and each scalar as it is written.
-pub fn wide_texts_have_their_tokens()
-    ensures { WideTextsHaveTheirTokens }
+pub fn layouts_have_their_tokens()
+    ensures { LayoutsHaveTheirTokens }
 {}
 
 /// The model gives a layout no other tokens.
-pub fn wide_texts_have_no_other_tokens()
-    ensures { WideTextsHaveNoOtherTokens }
+pub fn layouts_have_no_other_tokens()
+    ensures { LayoutsHaveNoOtherTokens }
 {}
 
 /// The model refuses no layout.
-pub fn wide_texts_are_not_refused()
-    ensures { WideTextsAreNotRefused }
+pub fn layouts_are_not_refused()
+    ensures { LayoutsAreNotRefused }
 {}
 
 /// Several basic layouts, each followed by an LF, are one layout of several documents. The model gives their text the

@@ -3,7 +3,7 @@
 
 ghost use Rattle.std.specs.Prelude.{◌≡◌, chars, IfOk, IfErr};
 ghost use Rattle.yaml_rust2.specs.Json.{IsJsonText};
-ghost use Rattle.yaml_rust2.specs.Layout.{IsLaidOut};
+ghost use Rattle.yaml_rust2.specs.Basic.{IsBasicLayout};
 ghost use Rattle.yaml_rust2.specs.Text.{string_chars};
 ghost use Rattle.yaml_rust2.specs.Tree.{Tree};
 ghost use Rattle.yaml_rust2.specs.Writable.{IsWritable};
@@ -21,7 +21,7 @@ mod tests;
 /// text is a JSON text whose value can be written, the result is a basic layout of that value, so it loads as that
 /// value.
 pub fn to_yaml(alloc: Global, json: &str, compact: bool, multiline: bool) -> Result<String, NotBack>
-    ensures same { IfOk result (λ yaml. (tree : Tree) → IsJsonText tree (chars json.now) → IsWritable tree → IsLaidOut tree (string_chars yaml)) }
+    ensures same { IfOk result (λ yaml. (tree : Tree) → IsJsonText tree (chars json.now) → IsWritable tree → IsBasicLayout tree (string_chars yaml)) }
     ensures refused { IfErr result (λ e. (tree : Tree) → IsJsonText tree (chars json.now) → e ≡ OutOfMemory) }
 {
     let documents = match YamlLoader::load_from_str(alloc, json) {

@@ -2,7 +2,7 @@
 #![tactic(auto)]
 
 ghost use Rattle.std.specs.Prelude.{◌≡◌, codes, chars, option_map, IfOk};
-ghost use Rattle.yaml_rust2.specs.Layout.{IsLaidOut};
+ghost use Rattle.yaml_rust2.specs.Basic.{IsBasicLayout};
 ghost use Rattle.yaml_rust2.specs.Tree.{Tree};
 ghost use Rattle.yaml_rust2.specs.View.{view};
 ghost use Rattle.use_settings.specs.Settings.{number_of, word_of};
@@ -29,7 +29,7 @@ pub fn word<'a>(settings: &'a Yaml, key: &str) -> Option<&'a str>
 
 /// The number at `port` in a text's first document. If the text is a basic layout, it is the number in its tree.
 pub fn port(alloc: Global, text: &str) -> Result<Option<i64>, ScanError>
-    ensures { IfOk result (λ port. (tree : Tree) → IsLaidOut tree (chars text.now) → port ≡ number_of (codes "port") tree) }
+    ensures { IfOk result (λ port. (tree : Tree) → IsBasicLayout tree (chars text.now) → port ≡ number_of (codes "port") tree) }
 {
     let documents = YamlLoader::load_from_str(alloc, text)?;
     match documents.first() {

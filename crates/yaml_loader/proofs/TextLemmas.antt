@@ -10,7 +10,7 @@ use Rattle.yaml_chars.specs.Reading.{HasNoNul, up_to_nul, Begins}
 use Rattle.yaml_chars.proofs.SpelledLemmas.{Chars-spelled}
 use Rattle.tree_defs.specs.Tree.{Tree}
 use Rattle.layout_defs.specs.Json.{spell_text, tree_of}
-use Rattle.layout_defs.specs.WideLayout as wide
+use Rattle.layout_defs.specs.Layout as layout
 use Rattle.token_defs.specs.Toks.{toks}
 use Rattle.yaml_tokens.specs.Fault.{Fault}
 use Rattle.yaml_tree.specs.View.{items_view}
@@ -26,10 +26,10 @@ use Rattle.loaded_texts.proofs.Answers.{nested_is_stream}
 use Rattle.loaded_texts.proofs.OneReading.{one_reading}
 use Rattle.loaded_texts.proofs.Spelled.{characters_are_the_text, json_texts_are_read}
 use Rattle.loaded_texts.proofs.JsonNul.{json_texts_have_no_nul}
-use Rattle.loaded_texts.proofs.WideNul.{wide_texts_have_no_nul}
-use Rattle.loaded_texts.proofs.WideTexts.{wide_texts_are_read}
+use Rattle.loaded_texts.proofs.LayoutNul.{layouts_have_no_nul}
+use Rattle.loaded_texts.proofs.Layouts.{layouts_are_read}
 use Rattle.loaded_texts.proofs.QuotedTexts.{quoted_texts_are_read, quoted_texts_have_no_nul}
-use Rattle.yaml_loader.specs.TextLoads.{LoadsText, LoadsOnly, OfTexts, OfText, OfGiven, OfJson, OfLayout, OfWideLayout, OfQuoted, Answers}
+use Rattle.yaml_loader.specs.TextLoads.{LoadsText, LoadsOnly, OfTexts, OfText, OfGiven, OfJson, OfBasic, OfLayout, OfQuoted, Answers}
 use Rattle.yaml_loader.specs.Unread.{of_parser}
 use Rattle.yaml_loader.specs.Unread as unread
 
@@ -74,13 +74,13 @@ of_one spelt text t tree P free reads e same h = subst (λ u. P (u ∷ [])) same
 pub of_json : (text : List ℕ) (P : List Tree → Type 0) → OfText (up_to_nul text) P → OfJson text P
 of_json text P h tree (w, is, e, same) = of_one (spell_text w) text (tree_of w.value) tree P (json_texts_have_no_nul w is) (json_texts_are_read false w is) e same h
 
-pub of_wide_layout : (text : List ℕ) (P : List Tree → Type 0) → OfText (up_to_nul text) P → OfWideLayout text P
-of_wide_layout text P h trees (w, is, e, same) =
-    let stand = wide.trees_of w.documents in
-    subst P same (h stand (subst (λ a. IsReadAs false a stand) (sym (wide_texts_have_no_nul w is) ∙ ap up_to_nul e) (wide_texts_are_read false w is)))
-
 pub of_layout : (text : List ℕ) (P : List Tree → Type 0) → OfText (up_to_nul text) P → OfLayout text P
-of_layout text P h tree (w, is, basic, e, same) = of_wide_layout text P h (tree ∷ []) (w, is, e, same)
+of_layout text P h trees (w, is, e, same) =
+    let stand = layout.trees_of w.documents in
+    subst P same (h stand (subst (λ a. IsReadAs false a stand) (sym (layouts_have_no_nul w is) ∙ ap up_to_nul e) (layouts_are_read false w is)))
+
+pub of_basic : (text : List ℕ) (P : List Tree → Type 0) → OfText (up_to_nul text) P → OfBasic text P
+of_basic text P h tree (w, is, basic, e, same) = of_layout text P h (tree ∷ []) (w, is, e, same)
 
 pub of_quoted : (text : List ℕ) (P : List Tree → Type 0) → OfText (up_to_nul text) P → OfQuoted text P
 of_quoted text P h value is =
@@ -93,13 +93,13 @@ of_first spelt text t tree P reads e same h = subst (λ u. P (u ∷ [])) same (h
 pub of_first_json : (text : List ℕ) (P : List Tree → Type 0) → OfText text P → OfJson text P
 of_first_json text P h tree (w, is, e, same) = of_first (spell_text w) text (tree_of w.value) tree P (json_texts_are_read false w is) e same h
 
-pub of_first_wide_layout : (text : List ℕ) (P : List Tree → Type 0) → OfText text P → OfWideLayout text P
-of_first_wide_layout text P h trees (w, is, e, same) =
-    let stand = wide.trees_of w.documents in
-    subst P same (h stand (subst (λ a. IsReadAs false a stand) e (wide_texts_are_read false w is)))
-
 pub of_first_layout : (text : List ℕ) (P : List Tree → Type 0) → OfText text P → OfLayout text P
-of_first_layout text P h tree (w, is, basic, e, same) = of_first_wide_layout text P h (tree ∷ []) (w, is, e, same)
+of_first_layout text P h trees (w, is, e, same) =
+    let stand = layout.trees_of w.documents in
+    subst P same (h stand (subst (λ a. IsReadAs false a stand) e (layouts_are_read false w is)))
+
+pub of_first_basic : (text : List ℕ) (P : List Tree → Type 0) → OfText text P → OfBasic text P
+of_first_basic text P h tree (w, is, basic, e, same) = of_first_layout text P h (tree ∷ []) (w, is, e, same)
 
 pub of_first_quoted : (text : List ℕ) (P : List Tree → Type 0) → OfText text P → OfQuoted text P
 of_first_quoted text P h value is = h (Tree.string value ∷ []) (quoted_texts_are_read false text value is)
@@ -108,7 +108,7 @@ of_first_quoted text P h value is = h (Tree.string value ∷ []) (quoted_texts_a
 pub answers : (text : List ℕ) (result : Result (Vec Yaml Global) Fault) → LoadsText false text result → Answers text result
 answers text result h =
     let texts = of_text text result h in
-    record { reads = h; texts = texts; json = of_first_json text (LoadsOnly result) texts; laid_out = of_first_layout text (LoadsOnly result) texts; widely_laid_out = of_first_wide_layout text (LoadsOnly result) texts; quoted = of_first_quoted text (LoadsOnly result) texts }
+    record { reads = h; texts = texts; json = of_first_json text (LoadsOnly result) texts; basic = of_first_basic text (LoadsOnly result) texts; laid_out = of_first_layout text (LoadsOnly result) texts; quoted = of_first_quoted text (LoadsOnly result) texts }
 
 -- the documents are what a cut of the text is read as
 pub of_cut : (text : List ℕ) (result : Result (Vec Yaml Global) Fault) → LoadsText false (up_to_nul text) result

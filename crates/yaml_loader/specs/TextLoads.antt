@@ -4,8 +4,8 @@ use Rattle.std.specs.Iterator.{AlwaysYields}
 use Rattle.std.specs.declared.alloc.Global.{Global}
 use Rattle.tree_defs.specs.Tree.{Tree}
 use Rattle.layout_defs.specs.Json.{IsJsonText}
-use Rattle.layout_defs.specs.Layout.{IsLaidOut}
-use Rattle.layout_defs.specs.WideLayout.{AreLaidOut}
+use Rattle.layout_defs.specs.Basic.{IsBasicLayout}
+use Rattle.layout_defs.specs.Layout.{AreLaidOut}
 use Rattle.laid_tokens.specs.QuotedText.{IsQuoted}
 use Rattle.yaml_tokens.specs.Fault.{Fault}
 use Rattle.yaml_tree.specs.View.{items_view}
@@ -38,12 +38,12 @@ abbrev pub OfJson : List ℕ → (List Tree → Type 0) → Type 0
 OfJson text P = (tree : Tree) → IsJsonText tree text → P (tree ∷ [])
 
 -- P of the one tree of a basic layout that is the text.
-abbrev pub OfLayout : List ℕ → (List Tree → Type 0) → Type 0
-OfLayout text P = (tree : Tree) → IsLaidOut tree text → P (tree ∷ [])
+abbrev pub OfBasic : List ℕ → (List Tree → Type 0) → Type 0
+OfBasic text P = (tree : Tree) → IsBasicLayout tree text → P (tree ∷ [])
 
 -- P of the trees that any layout has which is the text, one for each document.
-abbrev pub OfWideLayout : List ℕ → (List Tree → Type 0) → Type 0
-OfWideLayout text P = (trees : List Tree) → AreLaidOut trees text → P trees
+abbrev pub OfLayout : List ℕ → (List Tree → Type 0) → Type 0
+OfLayout text P = (trees : List Tree) → AreLaidOut trees text → P trees
 
 -- P of the string that is the value of the text's one quoted scalar, with line feeds alone after it.
 abbrev pub OfQuoted : List ℕ → (List Tree → Type 0) → Type 0
@@ -59,6 +59,6 @@ pub record Answers (text : List ℕ) (result : Result (Vec Yaml Global) Fault) :
   pub reads : LoadsText false text result
   pub texts : OfText text (LoadsOnly result)
   pub json : OfJson text (LoadsOnly result)
+  pub basic : OfBasic text (LoadsOnly result)
   pub laid_out : OfLayout text (LoadsOnly result)
-  pub widely_laid_out : OfWideLayout text (LoadsOnly result)
   pub quoted : OfQuoted text (LoadsOnly result)

@@ -8,7 +8,7 @@ ghost use Rattle.yaml_chars.specs.Source.{CameFrom};
 ghost use Rattle.yaml_parser.specs.Parsed.{parsed};
 ghost use Rattle.loaded_texts.specs.Cuts.{IsReadOfCut};
 ghost use Rattle.yaml_loader.specs.Loads.{AreLoaded, IsLoadFault};
-ghost use Rattle.yaml_loader.specs.TextLoads.{LoadsText, LoadsOnly, OfTexts, OfText, OfGiven, OfJson, OfLayout, OfWideLayout, OfQuoted, Answers};
+ghost use Rattle.yaml_loader.specs.TextLoads.{LoadsText, LoadsOnly, OfTexts, OfText, OfGiven, OfJson, OfBasic, OfLayout, OfQuoted, Answers};
 
 use crate::loader::{Course, YamlLoader, out_of_nesting};
 use event_defs::laws::loaded_trees_have_no_alias;
@@ -53,12 +53,12 @@ impl YamlLoader {
         ensures no_alias { IfOk result (λ documents. All HasNoAlias (items_view documents.items)) }
         ensures texts { OfText (up_to_nul (chars source.now)) (LoadsOnly result) }
         ensures json { OfJson (chars source.now) (LoadsOnly result) }
+        ensures basic { OfBasic (chars source.now) (LoadsOnly result) }
         ensures laid_out { OfLayout (chars source.now) (LoadsOnly result) }
-        ensures widely_laid_out { OfWideLayout (chars source.now) (LoadsOnly result) }
         ensures quoted { OfQuoted (chars source.now) (LoadsOnly result) }
         ensures json_before_nul { OfJson (up_to_nul (chars source.now)) (LoadsOnly result) }
+        ensures basic_before_nul { OfBasic (up_to_nul (chars source.now)) (LoadsOnly result) }
         ensures laid_out_before_nul { OfLayout (up_to_nul (chars source.now)) (LoadsOnly result) }
-        ensures widely_laid_out_before_nul { OfWideLayout (up_to_nul (chars source.now)) (LoadsOnly result) }
         ensures quoted_before_nul { OfQuoted (up_to_nul (chars source.now)) (LoadsOnly result) }
     {
         let mut parser = Parser::new_from_str(alloc, source);
@@ -84,8 +84,8 @@ impl YamlLoader {
         ensures no_alias { IfOk result (λ documents. All HasNoAlias (items_view documents.items)) }
         ensures texts { OfGiven I.next_gives source (λ text. OfText (up_to_nul text) (LoadsOnly result)) }
         ensures json { OfGiven I.next_gives source (λ text. OfJson text (LoadsOnly result)) }
+        ensures basic { OfGiven I.next_gives source (λ text. OfBasic text (LoadsOnly result)) }
         ensures laid_out { OfGiven I.next_gives source (λ text. OfLayout text (LoadsOnly result)) }
-        ensures widely_laid_out { OfGiven I.next_gives source (λ text. OfWideLayout text (LoadsOnly result)) }
         ensures quoted { OfGiven I.next_gives source (λ text. OfQuoted text (LoadsOnly result)) }
     {
         let mut parser = Parser::new(alloc, source);

@@ -8,9 +8,9 @@ pub use Rattle.tree_defs.specs.Writable
 pub use Rattle.tree_defs.specs.Box
 pub use Rattle.tree_defs.specs.DumpText
 pub use Rattle.layout_defs.specs.Json
-pub use Rattle.layout_defs.specs.Layout
+pub use Rattle.layout_defs.specs.Basic
 pub use Rattle.layout_defs.specs.InTurn
-pub use Rattle.layout_defs.specs.WideLayout
+pub use Rattle.layout_defs.specs.Layout
 pub use Rattle.layout_defs.specs.Sound
 pub use Rattle.layout_defs.specs.DumpIsLaidOut
 pub use Rattle.layout_defs.specs.DumpIsInjective

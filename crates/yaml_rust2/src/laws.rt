@@ -8,8 +8,8 @@ pub use event_defs::laws::{
     stream_events_are_nested, streams_have_one_reading, tokens_are_derived_in_one_way,
 };
 pub use layout_defs::laws::{
-    json_trees_are_sound, laid_out_trees_are_sound, layouts_are_wide_layouts,
-    layouts_in_turn_are_wide_layouts, widely_laid_out_trees_are_sound,
+    basic_layouts_are_layouts, json_trees_are_sound, laid_out_trees_are_sound,
+    layouts_in_turn_are_layouts,
 };
 pub use loaded_texts::cuts::read_texts_are_read_of_a_cut;
 pub use loaded_texts::documents::{
@@ -26,16 +26,17 @@ pub use loaded_texts::laws::{
     read_texts_have_no_fault_but_memory, read_texts_have_their_trees, strings_are_the_text,
     texts_are_answered, texts_are_read_in_one_way,
 };
+pub use loaded_texts::layouts::{layouts_are_read_as_their_trees, layouts_are_without_nul};
 pub use loaded_texts::quoted::{
     quoted_texts_are_read_as_their_string, quoted_texts_are_without_nul,
 };
-pub use loaded_texts::wide::{wide_texts_are_read_as_their_trees, wide_texts_are_without_nul};
 pub use read_texts::laws::{
+    basic_documents_read_as_their_trees, basic_tokens_are_a_stream,
     foretold_events_are_not_refused, json_documents_read_as_their_trees, json_events_are_loaded,
     json_numbers_stand_for_their_trees, json_tokens_are_a_stream, json_tokens_read_as_their_tree,
-    layout_documents_read_as_their_trees, layout_tokens_are_a_stream,
+    layout_events_are_loaded, layout_tokens_read_as_their_trees,
     quoted_tokens_read_as_their_string, read_streams_are_loaded, read_streams_are_not_cut,
-    read_streams_are_not_refused, wide_events_are_loaded, wide_tokens_read_as_their_trees,
+    read_streams_are_not_refused,
 };
 pub use scalar_laws::laws::buffers_join_folded_lines;
 pub use scan_cut::laws::{
@@ -44,10 +45,10 @@ pub use scan_cut::laws::{
 };
 pub use scan_texts::laws::{
     json_texts_are_not_refused, json_texts_have_no_other_tokens, json_texts_have_their_tokens,
+    layouts_are_not_refused, layouts_have_no_other_tokens, layouts_have_their_tokens,
     layouts_in_turn_are_not_refused, layouts_in_turn_have_their_tokens, quoted_bodies_are_read,
     quoted_texts_have_their_tokens, texts_have_one_list_of_tokens,
-    texts_with_tokens_are_not_refused, wide_texts_are_not_refused, wide_texts_have_no_other_tokens,
-    wide_texts_have_their_tokens,
+    texts_with_tokens_are_not_refused,
 };
 pub use tree_defs::laws::{
     box_lines_are_unbroken, digits_are_least, equality_is_an_equivalence, equality_is_exact,

@@ -1,16 +1,16 @@
 use Rattle.std.proofs.Common.{◌≡◌, ℕ, List, Bool, sym, ap, subst, ◌∙◌}
 use Rattle.std.specs.Prelude.{chars, string_bytes, String}
 use Rattle.yaml_rust2.specs.DumpText.{dump_text}
-use Rattle.yaml_rust2.specs.Layout.{IsLaidOut}
+use Rattle.yaml_rust2.specs.Basic.{IsBasicLayout}
 use Rattle.yaml_rust2.specs.Text.{string_chars}
 use Rattle.yaml_rust2.specs.Tree.{Tree}
 use Rattle.yaml_rust2.specs.View.{view}
 use Rattle.use_round_trip.proofs.round_trip.Goals as goal
 
 laid_out_as : {A : Type 0} (t : Tree) (text : String A) (bytes : List ℕ) (c m : Bool) → bytes ≡ string_bytes text → string_chars text ≡ dump_text c m t
-    → IsLaidOut t (dump_text c m t) → IsLaidOut t (chars bytes)
+    → IsBasicLayout t (dump_text c m t) → IsBasicLayout t (chars bytes)
 unfolding string_chars
-laid_out_as t text bytes c m e same laid = subst (IsLaidOut t) (sym (ap chars e ∙ same)) laid
+laid_out_as t text bytes c m e same laid = subst (IsBasicLayout t) (sym (ap chars e ∙ same)) laid
 
 pub returns-in-Ok-clause-same : goal.returns-in-Ok-clause-same
 returns-in-Ok-clause-same c = λ writable.

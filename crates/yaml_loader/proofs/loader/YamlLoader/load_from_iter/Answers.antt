@@ -2,7 +2,7 @@ use Rattle.std.proofs.Common.{◌∙◌}
 use Rattle.yaml_chars.specs.Reading.{up_to_nul}
 use Rattle.yaml_parser.specs.Parsed.{parsed}
 use Rattle.yaml_loader.specs.TextLoads.{LoadsText, LoadsOnly}
-use Rattle.yaml_loader.proofs.TextLemmas.{given_may_be, begins_given, answers, of_texts, of_text, of_cut, of_json, of_layout, of_wide_layout, of_quoted}
+use Rattle.yaml_loader.proofs.TextLemmas.{given_may_be, begins_given, answers, of_texts, of_text, of_cut, of_json, of_basic, of_layout, of_quoted}
 use Rattle.yaml_loader.proofs.loader.YamlLoader.load_from_iter.Goals as goal
 
 pub returns-clause-reads : goal.returns-clause-reads
@@ -24,11 +24,11 @@ returns-clause-texts g c = λ text always. of_text (up_to_nul text) c.load_from_
 pub returns-clause-json : goal.returns-clause-json
 returns-clause-json g c = λ text always. of_json text (LoadsOnly c.load_from_parser.result) (returns-clause-texts g c text always)
 
+pub returns-clause-basic : goal.returns-clause-basic
+returns-clause-basic g c = λ text always. of_basic text (LoadsOnly c.load_from_parser.result) (returns-clause-texts g c text always)
+
 pub returns-clause-laid_out : goal.returns-clause-laid_out
 returns-clause-laid_out g c = λ text always. of_layout text (LoadsOnly c.load_from_parser.result) (returns-clause-texts g c text always)
-
-pub returns-clause-widely_laid_out : goal.returns-clause-widely_laid_out
-returns-clause-widely_laid_out g c = λ text always. of_wide_layout text (LoadsOnly c.load_from_parser.result) (returns-clause-texts g c text always)
 
 pub returns-clause-quoted : goal.returns-clause-quoted
 returns-clause-quoted g c = λ text always. of_quoted text (LoadsOnly c.load_from_parser.result) (returns-clause-texts g c text always)

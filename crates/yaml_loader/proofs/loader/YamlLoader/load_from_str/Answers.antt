@@ -4,7 +4,7 @@ use Rattle.std.specs.Str.Iter.{chars_rest}
 use Rattle.yaml_chars.specs.Reading.{up_to_nul}
 use Rattle.yaml_parser.specs.Parsed.{parsed}
 use Rattle.yaml_loader.specs.TextLoads.{LoadsText, LoadsOnly}
-use Rattle.yaml_loader.proofs.TextLemmas.{string_may_be, of_texts, of_text, of_cut, of_json, of_layout, of_wide_layout, of_first_json, of_first_layout, of_first_wide_layout, of_quoted, of_first_quoted}
+use Rattle.yaml_loader.proofs.TextLemmas.{string_may_be, of_texts, of_text, of_cut, of_json, of_basic, of_layout, of_first_json, of_first_basic, of_first_layout, of_quoted, of_first_quoted}
 use Rattle.yaml_loader.proofs.loader.YamlLoader.load_from_str.Goals as goal
 
 pub returns-clause-reads : goal.returns-clause-reads
@@ -24,11 +24,11 @@ returns-clause-texts c = of_text (up_to_nul (chars c.args.source.now)) c.load_fr
 pub returns-clause-json : goal.returns-clause-json
 returns-clause-json c = of_json (chars c.args.source.now) (LoadsOnly c.load_from_parser.result) (returns-clause-texts c)
 
+pub returns-clause-basic : goal.returns-clause-basic
+returns-clause-basic c = of_basic (chars c.args.source.now) (LoadsOnly c.load_from_parser.result) (returns-clause-texts c)
+
 pub returns-clause-laid_out : goal.returns-clause-laid_out
 returns-clause-laid_out c = of_layout (chars c.args.source.now) (LoadsOnly c.load_from_parser.result) (returns-clause-texts c)
-
-pub returns-clause-widely_laid_out : goal.returns-clause-widely_laid_out
-returns-clause-widely_laid_out c = of_wide_layout (chars c.args.source.now) (LoadsOnly c.load_from_parser.result) (returns-clause-texts c)
 
 pub returns-clause-quoted : goal.returns-clause-quoted
 returns-clause-quoted c = of_quoted (chars c.args.source.now) (LoadsOnly c.load_from_parser.result) (returns-clause-texts c)
@@ -36,11 +36,11 @@ returns-clause-quoted c = of_quoted (chars c.args.source.now) (LoadsOnly c.load_
 pub returns-clause-json_before_nul : goal.returns-clause-json_before_nul
 returns-clause-json_before_nul c = of_first_json (up_to_nul (chars c.args.source.now)) (LoadsOnly c.load_from_parser.result) (returns-clause-texts c)
 
+pub returns-clause-basic_before_nul : goal.returns-clause-basic_before_nul
+returns-clause-basic_before_nul c = of_first_basic (up_to_nul (chars c.args.source.now)) (LoadsOnly c.load_from_parser.result) (returns-clause-texts c)
+
 pub returns-clause-laid_out_before_nul : goal.returns-clause-laid_out_before_nul
 returns-clause-laid_out_before_nul c = of_first_layout (up_to_nul (chars c.args.source.now)) (LoadsOnly c.load_from_parser.result) (returns-clause-texts c)
-
-pub returns-clause-widely_laid_out_before_nul : goal.returns-clause-widely_laid_out_before_nul
-returns-clause-widely_laid_out_before_nul c = of_first_wide_layout (up_to_nul (chars c.args.source.now)) (LoadsOnly c.load_from_parser.result) (returns-clause-texts c)
 
 pub returns-clause-quoted_before_nul : goal.returns-clause-quoted_before_nul
 returns-clause-quoted_before_nul c = of_first_quoted (up_to_nul (chars c.args.source.now)) (LoadsOnly c.load_from_parser.result) (returns-clause-texts c)
