@@ -31,6 +31,7 @@ SHAPES = {
     "items of a flow sequence": lambda n: "[" + "a, " * n + "]\n",
     "pairs in a flow sequence": lambda n: "[" + "a: b, " * n + "]\n",
     "keys of one mapping": lambda n: "".join("k%d: v\n" % i for i in range(n // 50)),
+    "keys that begin alike": lambda n: "".join("service-name-%07d: v\n" % (i * 7919 % (n // 5)) for i in range(n // 5)),
     "escapes": lambda n: '"' + "\\u00e9" * n + '"\n',
     "tags": lambda n: "- !!str a\n" * n,
 }

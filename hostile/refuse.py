@@ -13,7 +13,8 @@ LAID_OUT = "---\n# top\n\n   ? - 1\n     - 2\n# mid\n   :       - x\n           
 INPUTS = ["%TAG !prefix! tag:example.com,2011:\n--- !prefix!A\na: b\n", "---\n? key:\n    - 1\n    - 2\n    - 3\n: - 4\n  - 5\n  - 6", ">\n a\n b\n\n c\n  d\n e\n",
           "a1: &DEFAULT\n    b1: 4\n    b2: d\na2: *DEFAULT\n", LAID_OUT, "[[[[{a: b}]]]]", '"' + "long " * 100 + '"',
           "%YAML 1.2\n%TAG !a! x:\n--- !a!b &c [*c, ? d : 'e', !<%C3%A9> f]\n...\n---\n- &x y\n- *x\n", '{"a":"\\u00e9\\n","b":[1,2.5,-0,true,null]}',
-          "a: |\n  x\n  y\n\nb: >-\n  p\n  q\n", "? [1, 2]\n: {c: d}\n"]
+          "a: |\n  x\n  y\n\nb: >-\n  p\n  q\n", "? [1, 2]\n: {c: d}\n",
+          "".join("k%d: v\n" % (i * 7 % 300) for i in range(300))]
 
 
 def main():
