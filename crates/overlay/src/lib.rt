@@ -12,13 +12,11 @@ ghost use Rattle.overlay.specs.Inserted.{inserted};
 use std::alloc::{AllocError, Global};
 use yaml_tree::{Hash, Yaml};
 
-/// The right tree laid over the left one.
+/// The right tree laid over the left one. Of two hashes: the left's pairs in order, the value of a key that both have
+/// being the right's value laid over the left's, and then the right's pairs of new keys in order. Else a copy of the
+/// right. Both trees stay as they are. An `Err` comes only where memory was refused.
 ///
-/// Two hashes give a hash: first the left's pairs in order, where the value of a key that both have is the right's
-/// value laid over the left's; then the right's pairs with new keys, in order. Any other two trees give a copy of the
-/// right. Both trees stay as they are. An `Err` comes only if memory was refused.
-///
-/// If both trees can be written and read back, the overlay can be too.
+/// Of two trees that can be written and read back, the overlay can be too.
 #[cycle(overlay)]
 pub fn overlay(alloc: Global, left: &Yaml, right: &Yaml) -> Result<Yaml, AllocError>
     ensures tree { IfOk result (λ y. view y ≡ overlay (view left.now) (view right.now)) }
@@ -51,7 +49,7 @@ fn shared_pairs(alloc: Global, left: &Hash, right: &Hash) -> Result<Hash, AllocE
     Ok(pairs)
 }
 
-// The right's pairs of keys that the left does not have.
+// The right's pairs of keys that the left doesn't have.
 fn add_new_pairs(
     alloc: Global,
     pairs: &mut Hash,

@@ -26,7 +26,7 @@ fn event(alloc: Global, name: &str) -> Result<Event, Fail> {
     })
 }
 
-// What a loader returns to an event. This has no contract, so that many of them make no long proof.
+// What a loader returns for an event. This has no contract, so that many of them make no long proof.
 fn answer(
     alloc: Global,
     loader: &mut YamlLoader,
@@ -39,7 +39,7 @@ fn answer(
     }
 }
 
-// What an empty loader returns to each event, and then its documents.
+// What an empty loader returns for each event, and then its documents.
 fn answers(alloc: Global, mark: Marker, names: &[&str]) -> Result<String, Fail> {
     let mut loader = YamlLoader::default(alloc);
     let mut out = String::new(alloc);
@@ -51,7 +51,7 @@ fn answers(alloc: Global, mark: Marker, names: &[&str]) -> Result<String, Fail> 
     Ok(out)
 }
 
-// Events by their names, and what a loader returns to each, and then its documents.
+// Events by their names, what a loader returns for each, and then its documents.
 const LISTS: [(&[&str], &str); 9] = [
     (&["]", "."], "event out of nesting event out of nesting []"),
     (&["[", "}"], "ok event out of nesting []"),
@@ -84,7 +84,7 @@ fn events_out_of_nesting_are_refused(rt: HostRuntime) -> Result<(), Fail> {
     Ok(())
 }
 
-// The place after so many tokens.
+// The place after a number of tokens.
 fn place_behind(alloc: Global, text: &str, count: usize) -> Result<Marker, Fail> {
     let mut scanner = Scanner::new(alloc, text.chars());
     for _ in 0..count {

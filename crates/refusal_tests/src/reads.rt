@@ -1,4 +1,4 @@
-//! Readers that fail, and what is told of it.
+//! Readers that fail, and what a decoder returns then.
 use std::alloc::Global;
 use std::io;
 use std::io::{ErrorKind, Read};

@@ -6,7 +6,7 @@ use yaml_emitter::{FmtWriter, Writer, YamlEmitter};
 use yaml_loader::YamlLoader;
 use yaml_tree::Yaml;
 
-/// Takes so many calls, and refuses the next.
+/// Takes a number of calls, and refuses the next one.
 #[derive(Drop)]
 struct Refusing {
     text: String,
@@ -62,7 +62,7 @@ fn is_written<W: Writer>(writer: &mut W, tree: &Yaml, settings: Settings) -> boo
     emitter.dump(tree).is_ok()
 }
 
-// What a writer that refuses after so many calls has then, and whether the dump is written.
+// What a writer that refuses after a number of calls has then, and whether the dump is written.
 fn written(alloc: Global, tree: &Yaml, settings: Settings, left: u32) -> (String, bool) {
     let text = String::new(alloc);
     let mut writer = Refusing { text, left };

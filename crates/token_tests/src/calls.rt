@@ -96,7 +96,7 @@ fn answers(alloc: Global, text: &str, calls: &[Call]) -> Result<String, Fail> {
 
 // A text, calls of its scanner, and what they answer.
 const CALLS: [(&str, &[Call], &str); 3] = [
-    // Memory is there, so no call returns want of it; after the end nothing changes.
+    // No memory is refused here, so no call returns that fault; after the end nothing changes.
     (
         "[a]",
         &[

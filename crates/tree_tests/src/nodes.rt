@@ -69,7 +69,7 @@ fn copy_words(alloc: Global, node: &Yaml) -> Result<String, Fail> {
     Ok(format!(in alloc; "{is_equal} {copy:?}")?)
 }
 
-// What a tree returns to a question.
+// What a tree returns for a question.
 fn answer(alloc: Global, node: Yaml, question: &str) -> Result<String, Fail> {
     match question {
         "scalar" => scalar_words(alloc, &node),

@@ -1,4 +1,4 @@
-//! Made JSON texts (RFC 8259), each with the value that its maker had in mind.
+//! Generated JSON texts (RFC 8259), each with the value that it was generated from.
 use crate::dumping::{LAYOUTS, loads_back};
 use std::alloc::Global;
 use std::test::Fail;

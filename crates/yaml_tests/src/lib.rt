@@ -1,4 +1,4 @@
-//! Rows that go through all layers: tables of texts by subject, and the trees or faults that they give.
+//! Tests that go through all layers: tables of texts by subject, with the trees or faults that they give.
 #![tactic(auto)]
 
 #[cfg(test)]

@@ -32,7 +32,7 @@ fn is_loaded(alloc: Global, text: &str) -> bool {
     }
 }
 
-// Arrays in arrays, so many in all, the innermost empty.
+// Arrays in arrays, this number in all, the innermost empty.
 fn arrays(alloc: Global, levels: usize) -> Result<Yaml, Fail> {
     let mut node = Array::new(alloc);
     for _ in 1..levels {
@@ -100,7 +100,7 @@ fn deep_trees_are_dropped(rt: HostRuntime) -> Result<(), Fail> {
     Ok(())
 }
 
-// A text with so many letters in it.
+// A text with this number of letters in it.
 fn with_letters(alloc: Global, begin: &str, letters: usize, end: &str) -> Result<String, Fail> {
     let mut text = String::from_str(alloc, begin)?;
     for _ in 0..letters {

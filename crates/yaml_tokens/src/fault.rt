@@ -101,8 +101,7 @@ impl ScanError {
         matches!(self.info, Info::Memory)
     }
 
-    /// A copy, equal to the fault. An `Err` comes only if memory was refused. The copy of a fixed text takes no
-    /// memory.
+    /// A copy, equal to the fault. An `Err` comes only where memory was refused; a fault of fixed text takes none.
     pub fn clone(&self, alloc: Global) -> Result<ScanError, AllocError>
         ensures { IfOk result (λ e. e ≡ self.now) }
     {

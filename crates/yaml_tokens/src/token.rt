@@ -82,7 +82,7 @@ pub enum TokenType {
 }
 
 impl Token {
-    /// A copy, equal to the token. An `Err` comes only if memory was refused.
+    /// A copy, equal to the token. An `Err` comes only where memory was refused.
     pub fn clone(&self, alloc: Global) -> Result<Token, AllocError>
         ensures { IfOk result (λ t. shown t ≡ shown self.now) }
     {
@@ -98,7 +98,7 @@ fn copied(alloc: Global, text: &String) -> Result<String, AllocError>
 }
 
 impl TokenType {
-    /// A copy, equal to the token type. An `Err` comes only if memory was refused.
+    /// A copy, equal to the token type. An `Err` comes only where memory was refused.
     pub fn clone(&self, alloc: Global) -> Result<TokenType, AllocError>
         ensures { IfOk result (λ t. tok_of t ≡ tok_of self.now) }
     {

@@ -135,7 +135,7 @@ fn copy_row(alloc: Global, source: Source<'_>) -> Result<Vec<Yaml>, AllocError>
 }
 
 impl Yaml {
-    /// A copy, equal to the node. An `Err` comes only if memory was refused.
+    /// A copy, equal to the node. An `Err` comes only where memory was refused.
     pub fn clone(&self, alloc: Global) -> Result<Yaml, AllocError>
         ensures { IfOk result (λ y. view y ≡ view self.now) }
     {
@@ -147,7 +147,7 @@ impl Yaml {
 }
 
 impl Array {
-    /// A copy with equal items. An `Err` comes only if memory was refused.
+    /// A copy with equal items. An `Err` comes only where memory was refused.
     pub fn clone(&self, alloc: Global) -> Result<Array, AllocError>
         ensures { IfOk result (λ a. a ≡ self.now) }
     {
@@ -157,7 +157,7 @@ impl Array {
 }
 
 impl Hash {
-    /// A copy with equal pairs in the same order. An `Err` comes only if memory was refused.
+    /// A copy with equal pairs in the same order. An `Err` comes only where memory was refused.
     pub fn clone(&self, alloc: Global) -> Result<Hash, AllocError>
         ensures { IfOk result (λ h. h ≡ self.now) }
     {

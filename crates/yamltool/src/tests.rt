@@ -12,7 +12,7 @@ const USAGE: &str =
 
 const WANT: &str = "yamltool: out of memory\n";
 
-// A writer that takes so many writes, and whose flush may fail.
+// A writer that takes a number of writes, and whose flush may fail.
 #[derive(Drop)]
 struct Failing {
     writes: usize,
@@ -130,7 +130,7 @@ const DUMP: &[&str] = &["dump"];
 
 const OVERLAY: &[&str] = &["overlay"];
 
-// A command with its options, what the file holds, and all that is told.
+// A command with its options, what the file holds, and all that is printed.
 const ROWS: [(&[&str], &[u8], &str); 10] = [
     (
         EVENTS,
@@ -180,7 +180,7 @@ fn files_are_printed(rt: HostRuntime) -> Result<(), Fail> {
     Ok(())
 }
 
-// What the two files hold, and all that is told, their paths being `A` and `B`. `A` is read, loaded and counted first.
+// What the two files, `A` and `B`, hold, and all that is printed. `A` is read, loaded and counted first.
 const OVERLAYS: [(&[u8], &[u8], &str); 6] = [
     (
         b"a: 1\nb: {c: 2}",
@@ -240,7 +240,7 @@ fn files_that_cannot_be_read_are_told(rt: HostRuntime) -> Result<(), Fail> {
     Ok(())
 }
 
-// What is told, and the status, where the output takes so many writes and its flush may fail.
+// What is printed, and the status, if the output takes a number of writes and its flush may fail.
 fn told_of_output(
     rt: &HostRuntime,
     command: &str,
