@@ -1,11 +1,10 @@
 //! The lines of `yamltool events`.
 #![tactic(auto)]
 
-ghost use Rattle.std.specs.Prelude.{◌<◌, length, IfSome};
-
 use std::io;
 use std::io::Write;
 use yaml_chars::Marker;
+use yaml_emitter::DoubleQuoted;
 use yaml_parser::{Event, Tag};
 use yaml_tokens::TScalarStyle;
 
@@ -21,8 +20,8 @@ pub fn write_event<W: Write>(out: &mut W, event: &Event, mark: Marker) -> io::Re
         Event::Scalar(text, style, anchor, tag) => {
             write_properties(out, *anchor, tag)?;
             let style = style_name(*style);
-            write!(out, " {style} ")?;
-            write_quoted(out, text.as_str())?;
+            let text = DoubleQuoted(text.as_str());
+            write!(out, " {style} {text}")?;
         }
         Event::SequenceStart(anchor, tag) | Event::MappingStart(anchor, tag) => {
             write_properties(out, *anchor, tag)?;
@@ -63,53 +62,9 @@ fn write_properties<W: Write>(out: &mut W, anchor: usize, tag: &Option<Tag>) -> 
         write!(out, " &{anchor}")?;
     }
     if let Some(tag) = tag {
-        write!(out, " tag ")?;
-        write_quoted(out, tag.handle.as_str())?;
-        write!(out, " ")?;
-        write_quoted(out, tag.suffix.as_str())?;
+        let handle = DoubleQuoted(tag.handle.as_str());
+        let suffix = DoubleQuoted(tag.suffix.as_str());
+        write!(out, " tag {handle} {suffix}")?;
     }
     Ok(())
-}
-
-/// Writes a text in double quotes, with the escapes of double-quoted scalars. What stands between two escapes is one call.
-fn write_quoted<W: Write>(out: &mut W, text: &str) -> io::Result<()> {
-    out.write_all(b"\"")?;
-    let mut rest = text;
-    while let Some((run, c, behind)) = first_escape(rest) {
-        out.write_all(run.as_bytes())?;
-        write_escape(out, c)?;
-        rest = behind;
-    }
-    out.write_all(rest.as_bytes())?;
-    out.write_all(b"\"")
-}
-
-// The text before the first character that is escaped, that character, and the text behind it.
-fn first_escape(text: &str) -> Option<(&str, char, &str)>
-    ensures { IfSome result (λ x. length x.2.now < length text.now) }
-{
-    let (run, behind) = text.split_at(text.find(is_escaped)?);
-    let mut behind = behind.chars();
-    let c = behind.next()?;
-    Some((run, c, behind.as_str()))
-}
-
-fn is_escaped(c: char) -> bool {
-    c < ' ' || matches!(c, '"' | '\\' | '\u{7f}')
-}
-
-fn write_escape<W: Write>(out: &mut W, c: char) -> io::Result<()> {
-    match c {
-        '"' => out.write_all(b"\\\""),
-        '\\' => out.write_all(b"\\\\"),
-        '\u{8}' => out.write_all(b"\\b"),
-        '\t' => out.write_all(b"\\t"),
-        '\n' => out.write_all(b"\\n"),
-        '\u{c}' => out.write_all(b"\\f"),
-        '\r' => out.write_all(b"\\r"),
-        _ => {
-            let code = c as u32;
-            write!(out, "\\u{code:04x}")
-        }
-    }
 }

@@ -1,5 +1,5 @@
 -- Lemmas about the scan of a quoted scalar.
-use Rattle.std.proofs.Common.{◌≡◌, ◌≢◌, ℕ, zero, suc, ◌+◌, ◌*◌, List, [], ◌∷◌, Bool, true, false, ◌||◌, ◌&&◌, not, ◌==◌, refl, slice_index, ap, sym, ◌∙◌, arith, Ok, Err}
+use Rattle.std.proofs.Common.{◌≡◌, ◌≢◌, ℕ, zero, suc, ◌+◌, ◌*◌, List, [], ◌∷◌, Bool, true, false, ◌||◌, ◌&&◌, not, ◌==◌, refl, slice_index, ap, sym, ◌∙◌, Ok, Err}
 use Rattle.std.specs.Char.{digit_value}
 use Rattle.yaml_chars.specs.Place.{Place}
 use Rattle.yaml_chars.specs.Class.{is_break, is_blank, is_hex}
@@ -104,19 +104,6 @@ pub behind_quote : (single : Bool) (ctx : Context) (start : Place) (c : ℕ) (a 
     → quoted_from single ctx start a (record { mode = behind; place = p; folded = t }) ≡ quoted_from single ctx start a (record { mode = inside; place = p; folded = t })
 behind_quote single ctx start c [] p t e h = refl
 behind_quote single ctx start c (d ∷ a) p t e h = behind_quote_at single ctx start d a p t (sym e ∙ h)
-
--- how digits add up
-pub two_digits : (value n m : ℕ) → (value * 16 + n) * 16 + m ≡ value * 256 + (n * 16 + m)
-two_digits value n m = omega arith
-
-pub four_digits : (value n m : ℕ) → (value * 256 + n) * 256 + m ≡ value * 65536 + (n * 256 + m)
-four_digits value n m = omega arith
-
-pub eight_digits : (value n m : ℕ) → (value * 65536 + n) * 65536 + m ≡ value * 4294967296 + (n * 65536 + m)
-eight_digits value n m = omega arith
-
-pub from_zero : (k n : ℕ) → 0 * k + n ≡ n
-from_zero k n = omega arith
 
 pub quoted_starts : (single : Bool) (ctx : Context) (a b : List ℕ) (p : Place) → a ≡ slice_index a 0 ∷ b
     → quoted single ctx a p ≡ quoted_from single ctx p b (record { mode = first; place = past p; folded = nothing })

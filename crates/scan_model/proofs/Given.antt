@@ -1,7 +1,6 @@
 -- A token that stands before every open key never moves: what was fetched up to it stays the beginning of all tokens.
-use Rattle.std.proofs.Common.{◌≡◌, ℕ, ◌-◌, ◌≤◌, List, [], ◌∷◌, ◌++◌, Option, length, take, drop, refl, ap, sym, ◌∙◌, arith, append_assoc, length-append}
+use Rattle.std.proofs.Common.{◌≡◌, ℕ, ◌-◌, ◌≤◌, List, [], ◌∷◌, ◌++◌, Option, length, refl, ap, ◌∙◌, arith, append_assoc, length-append}
 use Rattle.std.specs.List.{insert}
-use Rattle.std.proofs.lemmas.List.{take-append-drop, length-take-le, take_at}
 use Rattle.std.proofs.lemmas.List.Edits.{insert-append_right}
 use Rattle.token_defs.specs.Token.{Token}
 use Rattle.scan_model.specs.State.{Key, Held, State}
@@ -56,25 +55,3 @@ reached given t u (there going e run) s = by (fares (begins_given given) (given_
     by : walk.Fares (begins_given given) u.held → Stands given u.held
     by (goes s) = record { stood = record { more = s.stood.tokens.more; tokens = s.stood.tokens.tokens; keys = s.stood.keys } }
     by (over s) = record { stood = record { more = s.all.more; tokens = s.all.tokens; keys = s.keys } }
-
--- the first tokens, where every open key stands behind them
-pub record First (n : ℕ) (old new : Held) : Type 0 where
-  pub tokens : take n new.tokens ≡ take n old.tokens
-  pub many : n ≤ length new.tokens
-  pub keys : KeysFrom n new.keys
-
-first_stand : (n : ℕ) (h : Held) → n ≤ length h.tokens → KeysFrom n h.keys → Stands (take n h.tokens) h
-first_stand n h l k = record { stood = record { more = drop n h.tokens; tokens = sym (take-append-drop n h.tokens); keys = rw (length-take-le n h.tokens l) k } }
-
-first_stood : (n : ℕ) (h u : Held) → n ≤ length h.tokens → Stands (take n h.tokens) u → First n h u
-first_stood n h u l s =
-    let m = length-take-le n h.tokens l in
-    record {
-      tokens = ap (take n) s.stood.tokens ∙ take_at (take n h.tokens) s.stood.more n m;
-      many = omega (arith, m, more_len (take n h.tokens) s.stood.more u.tokens s.stood.tokens);
-      keys = rw m at s.stood.keys;
-    }
-
--- A token that stands before every open key never moves.
-pub first_stay : (n : ℕ) (t u : State) → n ≤ length t.held.tokens → KeysFrom n t.held.keys → Reaches t u → First n t.held u.held
-first_stay n t u l k run = first_stood n t.held u.held l (reached (take n t.held.tokens) t u run (first_stand n t.held l k))

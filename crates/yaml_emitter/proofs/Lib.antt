@@ -1,4 +1,5 @@
 pub mod EscapeLemmas
+pub mod FmtLemmas
 pub mod MaskLemmas
 pub mod RunLemmas
 pub mod PrintableLemmas

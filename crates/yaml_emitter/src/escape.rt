@@ -1,13 +1,26 @@
 //! Texts in double quotes (YAML 1.2, section 5.7).
-ghost use Rattle.std.specs.Prelude.{◌≡◌, ◌<◌, ◌≤◌, chars, MatchOption};
+ghost use Rattle.std.specs.Prelude.{◌≡◌, ◌<◌, ◌≤◌, chars, Some, MatchOption};
+ghost use Rattle.std.specs.Str.{encode_utf8_all};
 ghost use Rattle.tree_defs.specs.Escapes.{double_quoted, written_character, written_escapes, escaped_code, hexadecimal_digit};
-ghost use Rattle.yaml_emitter.specs.Escaping.{written_code};
+ghost use Rattle.yaml_emitter.specs.Escaping.{inner_text, written_code};
 ghost use Rattle.yaml_emitter.specs.Runs.{IsRun, IsRunCut};
 ghost use Rattle.yaml_emitter.specs.Writing.{Writes};
 
 use crate::runs::{Escaped, run_length};
 use crate::writer::{Writer, put_ascii, put_char};
 use std::fmt;
+
+/// A text that is shown in double quotes: by `{}`, as the emitter writes it.
+#[derive(Clone, Copy)]
+pub struct DoubleQuoted<'a>(pub &'a str);
+
+impl fmt::Display for DoubleQuoted<'_> {
+    ghost output = { λ quoted. Some (encode_utf8_all (double_quoted (chars (inner_text quoted)))) };
+
+    fn fmt<W: fmt::Write>(&self, f: &mut fmt::Formatter<W>) -> fmt::Result {
+        write_double_quoted(f, self.0)
+    }
+}
 
 /// Writes a text in double quotes.
 pub(crate) fn write_double_quoted<W: Writer>(out: &mut W, text: &str) -> fmt::Result

@@ -49,3 +49,25 @@ impl<W: fmt::Write> Writer for FmtWriter<W> {
 
     ghost stopped = { λ v text w p. p };
 }
+
+/// So an `impl Display` can dump a tree. What was written is known where the formatter formats as `{}` does.
+impl<W: fmt::Write> Writer for fmt::Formatter<W> {
+    ghost use Rattle.yaml_emitter.specs.FmtText.{TakesPlain};
+    ghost use Rattle.yaml_emitter.specs.Writing.{Wrote, Stopped};
+
+    ghost put_gives = { TakesPlain W.write_str_gives };
+
+    ghost put_leaves = { λ f text g. Unit {0} };
+
+    ghost calls_give = { Wrote (TakesPlain W.write_str_gives) };
+
+    ghost calls_leave = { Stopped (TakesPlain W.write_str_gives) (λ f text g. Unit {0}) (Unit {0}) };
+
+    fn put(&mut self, text: &str) -> fmt::Result {
+        self.write_str(text)
+    }
+
+    ghost wrote = { λ f text g p. p };
+
+    ghost stopped = { λ f text g p. p };
+}

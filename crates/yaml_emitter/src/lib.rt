@@ -17,5 +17,6 @@ mod tests;
 mod writer;
 
 pub use emitter::{EmitError, EmitResult, YamlEmitter};
+pub use escape::DoubleQuoted;
 pub use fmt_writer::FmtWriter;
 pub use writer::Writer;

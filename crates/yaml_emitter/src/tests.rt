@@ -1,5 +1,5 @@
 //! Trees and the texts that are written for them.
-use crate::YamlEmitter;
+use crate::{DoubleQuoted, YamlEmitter};
 use std::alloc::Global;
 use std::test::Fail;
 use yaml_tree::{Array, Hash, Yaml};
@@ -211,6 +211,17 @@ fn blocks_in_blocks(rt: HostRuntime) -> Result<(), Fail> {
     assert_eq!(rt;
         compactly(alloc, &Yaml::Hash(a))?.as_str(),
         "---\na:\n  b:\n    c: hello\n  d: {}\ne:\n  - f\n  - - g\n    - - h\n  - i: []"
+    );
+    Ok(())
+}
+
+#[test]
+fn a_text_is_shown_in_double_quotes(rt: HostRuntime) -> Result<(), Fail> {
+    let quoted = DoubleQuoted("é\u{1}\u{8}\t\n\u{c}\r\u{7f}\"\\b");
+    let shown = format!(in rt.alloc(); "<{quoted}>")?;
+    assert_eq!(rt;
+        shown.as_str(),
+        "<\"é\\u0001\\b\\t\\n\\f\\r\\u007f\\\"\\\\b\">"
     );
     Ok(())
 }

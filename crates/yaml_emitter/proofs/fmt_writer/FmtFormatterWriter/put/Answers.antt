@@ -1,0 +1,11 @@
+use Rattle.std.proofs.Common.{sym}
+use Rattle.std.proofs.Output.{has_written_of_eq}
+use Rattle.std.proofs.lemmas.Str.{encodes-chars}
+use Rattle.yaml_emitter.proofs.WritingLemmas.{wrote_one, stopped_one}
+use Rattle.yaml_emitter.proofs.fmt_writer.FmtFormatterWriter.put.Goals as goal
+
+pub returns : goal.returns
+returns g c = record {
+  ok = λ k. wrote_one _ _ _ _ (λ plain. has_written_of_eq _ _ _ _ _ (sym (encodes-chars c.args.text.now c.utf8.text)) (c.write_str.ensures.writes plain k));
+  err = λ _. stopped_one _ _ _ _ _ tt;
+}
