@@ -131,7 +131,7 @@ word_of_bytes bs u = ap (λ b. b || not (is_string (typing (chars bs)))) (name_o
 
 -- ---- the whole test
 
-regroup : (a b c d e f g h : Bool) → (((((a || b) || (c || d)) || e) || ((f || g) || h))) ≡ (a || b || c || d || e || f || g || h)
+regroup : (a b c d e f g h : Bool) → ((a || b || c || d || e) || ((f || g) || h)) ≡ (a || b || c || d || e || f || g || h)
 regroup true b c d e f g h = refl
 regroup false true c d e f g h = refl
 regroup false false true d e f g h = refl

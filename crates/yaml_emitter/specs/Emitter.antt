@@ -8,11 +8,11 @@ writer_of e = e.writer.now
 
 -- whether arrays and hashes start after their marks
 abbrev pub compact_of : {W : Type 0} → YamlEmitter W → Bool
-compact_of e = e.layout.compact
+compact_of e = e.settings.compact
 
 -- whether strings of several lines are written as literal blocks
 abbrev pub multiline_of : {W : Type 0} → YamlEmitter W → Bool
-multiline_of e = e.layout.multiline
+multiline_of e = e.settings.multiline
 
 -- the name by which the caller's writer is known
 abbrev pub writer_name : {W : Type 0} → YamlEmitter W → ℕ

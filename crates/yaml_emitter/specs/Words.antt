@@ -5,21 +5,12 @@ use Rattle.tree_defs.specs.Grammar.{is_among, is_empty}
 use Rattle.tree_defs.specs.Quoting.{has_outer_space, has_indicator_first, begins_with, is_unfit_for_plain, reserved_words, is_float_word}
 use Rattle.tree_defs.specs.Typing.{typing, is_string}
 
--- the text is empty or has a space at an end
-abbrev pub is_blank_at_end : List ℕ → Bool
-is_blank_at_end text = is_empty text || has_outer_space text
-
--- its beginning has a meaning
-abbrev pub has_unfit_beginning : List ℕ → Bool
-has_unfit_beginning text = has_indicator_first text || begins_with (codes "0x") text
-
--- either of the two
-abbrev pub has_unfit_end : List ℕ → Bool
-has_unfit_end text = is_blank_at_end text || has_unfit_beginning text
-
--- it cannot be written as one plain scalar
+-- the text cannot be written as one plain scalar
 abbrev pub is_unfit : List ℕ → Bool
-is_unfit text = has_unfit_end text || list_any is_unfit_for_plain text
+is_unfit text =
+    is_empty text || has_outer_space text
+    || has_indicator_first text || begins_with (codes "0x") text
+    || list_any is_unfit_for_plain text
 
 -- what some reader takes for a boolean, for nothing or for a number
 abbrev pub is_name : List ℕ → Bool

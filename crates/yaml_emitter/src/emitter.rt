@@ -7,7 +7,7 @@ ghost use Rattle.yaml_emitter.specs.Emitter.{writer_of, writer_name, compact_of,
 ghost use Rattle.yaml_emitter.specs.ValidTree.{IsValid};
 ghost use Rattle.yaml_emitter.specs.Writing.{WritesUnless};
 
-use crate::node::{Layout, write_document};
+use crate::node::{Settings, write_document};
 use crate::writer::Writer;
 use std::fmt;
 use thiserror::Error;
@@ -40,7 +40,7 @@ pub type EmitResult = Result<(), EmitError>;
 #[derive(Drop)]
 pub struct YamlEmitter<'a, W: Writer> {
     writer: &'a mut W,
-    layout: Layout,
+    settings: Settings,
 }
 
 impl<'a, W: Writer> YamlEmitter<'a, W> {
@@ -53,7 +53,7 @@ impl<'a, W: Writer> YamlEmitter<'a, W> {
     {
         YamlEmitter {
             writer,
-            layout: Layout {
+            settings: Settings {
                 compact: true,
                 multiline: false,
             },
@@ -68,14 +68,14 @@ impl<'a, W: Writer> YamlEmitter<'a, W> {
         ensures compact { compact_of self.new ≡ compact }
         ensures multiline { multiline_of self.new ≡ multiline_of self.old }
     {
-        self.layout.compact = compact;
+        self.settings.compact = compact;
     }
 
     /// Whether arrays and hashes start on the line of their indicator.
     pub fn is_compact(&self) -> bool
         ensures { result ≡ compact_of self.now }
     {
-        self.layout.compact
+        self.settings.compact
     }
 
     /// Sets whether strings of several lines are written as literal blocks (YAML 1.2, section 8.1.2). A string that
@@ -86,14 +86,14 @@ impl<'a, W: Writer> YamlEmitter<'a, W> {
         ensures compact { compact_of self.new ≡ compact_of self.old }
         ensures multiline { multiline_of self.new ≡ multiline }
     {
-        self.layout.multiline = multiline;
+        self.settings.multiline = multiline;
     }
 
     /// Whether strings of several lines are written as literal blocks.
     pub fn is_multiline_strings(&self) -> bool
         ensures { result ≡ multiline_of self.now }
     {
-        self.layout.multiline
+        self.settings.multiline
     }
 
     /// Writes the line `---` and the tree (YAML 1.2, chapter 8), without a line break at the end. On `Ok` the writer
@@ -112,7 +112,7 @@ impl<'a, W: Writer> YamlEmitter<'a, W> {
         ensures compact { compact_of self.new ≡ compact_of self.old }
         ensures multiline { multiline_of self.new ≡ multiline_of self.old }
     {
-        write_document(self.writer, &self.layout, doc)?;
+        write_document(self.writer, &self.settings, doc)?;
         Ok(())
     }
 }

@@ -22,9 +22,9 @@ use yaml_tree::{Array, Hash, Yaml};
 /// The deepest level at which an array or hash with parts is written: the parts stand one level deeper.
 const DEEPEST: usize = (1 << 62) - 2;
 
-/// How a tree is laid out.
+/// The settings of an emitter.
 #[derive(Clone, Copy)]
-pub(crate) struct Layout {
+pub(crate) struct Settings {
     /// A block may start on the line of a dash, a question mark or the colon of a complex key.
     pub(crate) compact: bool,
     /// Strings of several lines are written as literal blocks, where they may be.
@@ -32,24 +32,24 @@ pub(crate) struct Layout {
 }
 
 /// Writes the line `---` and the document's root below it.
-pub(crate) fn write_document<W: Writer>(out: &mut W, layout: &Layout, root: &Yaml) -> fmt::Result
+pub(crate) fn write_document<W: Writer>(out: &mut W, settings: &Settings, root: &Yaml) -> fmt::Result
     ensures text { WritesUnless (2 ^ 62 ≤ levels (view root.now)) W.put_gives W.put_leaves out.old result
-        (dump_text layout.now.compact layout.now.multiline (view root.now)) out.new }
+        (dump_text settings.now.compact settings.now.multiline (view root.now)) out.new }
     ensures valid { OnOk result (IsValid (view root.now)) }
 {
     put_ascii(out, "---\n")?;
-    write_root(out, layout, root)
+    write_root(out, settings, root)
 }
 
-fn write_root<W: Writer>(out: &mut W, layout: &Layout, node: &Yaml) -> fmt::Result
+fn write_root<W: Writer>(out: &mut W, settings: &Settings, node: &Yaml) -> fmt::Result
     ensures text { WritesUnless (2 ^ 62 ≤ levels (view node.now)) W.put_gives W.put_leaves out.old result
-        (stacked 0 (box layout.now.compact layout.now.multiline true (view node.now))) out.new }
+        (stacked 0 (box settings.now.compact settings.now.multiline true (view node.now))) out.new }
     ensures valid { OnOk result (IsValid (view node.now)) }
 {
     match node {
-        Yaml::Array(items) => write_array(out, layout, 0, items),
-        Yaml::Hash(pairs) => write_hash(out, layout, 0, pairs),
-        _ => write_scalar(out, layout.multiline, true, 0, node),
+        Yaml::Array(items) => write_array(out, settings, 0, items),
+        Yaml::Hash(pairs) => write_hash(out, settings, 0, pairs),
+        _ => write_scalar(out, settings.multiline, true, 0, node),
     }
 }
 
@@ -57,21 +57,21 @@ fn write_root<W: Writer>(out: &mut W, layout: &Layout, node: &Yaml) -> fmt::Resu
 #[cycle(write)]
 fn write_value<W: Writer>(
     out: &mut W,
-    layout: &Layout,
+    settings: &Settings,
     level: usize,
     blocks_lower: bool,
     node: &Yaml,
 ) -> fmt::Result
     requires { level + 1 < 2 ^ 62 }
     ensures text { WritesUnless (2 ^ 62 ≤ level + 1 + levels (view node.now)) W.put_gives W.put_leaves out.old result
-        (behind_mark blocks_lower level (view node.now) (box layout.now.compact layout.now.multiline false (view node.now))) out.new }
+        (behind_mark blocks_lower level (view node.now) (box settings.now.compact settings.now.multiline false (view node.now))) out.new }
     ensures valid { OnOk result (IsValid (view node.now)) }
 {
     begin_value(out, level, blocks_lower, node)?;
     match node {
-        Yaml::Array(items) => write_array(out, layout, level + 1, items),
-        Yaml::Hash(pairs) => write_hash(out, layout, level + 1, pairs),
-        _ => write_scalar(out, layout.multiline, false, level + 1, node),
+        Yaml::Array(items) => write_array(out, settings, level + 1, items),
+        Yaml::Hash(pairs) => write_hash(out, settings, level + 1, pairs),
+        _ => write_scalar(out, settings.multiline, false, level + 1, node),
     }
 }
 
@@ -98,10 +98,10 @@ fn is_block(node: &Yaml) -> bool
 }
 
 #[cycle(write)]
-fn write_array<W: Writer>(out: &mut W, layout: &Layout, level: usize, items: &Array) -> fmt::Result
+fn write_array<W: Writer>(out: &mut W, settings: &Settings, level: usize, items: &Array) -> fmt::Result
     requires { level < 2 ^ 62 }
     ensures text { WritesUnless (2 ^ 62 ≤ level + levels (array_tree items.now)) W.put_gives W.put_leaves out.old result
-        (stacked level (box layout.now.compact layout.now.multiline false (array_tree items.now))) out.new }
+        (stacked level (box settings.now.compact settings.now.multiline false (array_tree items.now))) out.new }
     ensures valid { OnOk result (IsValid (array_tree items.now)) }
 {
     if items.is_empty() {
@@ -114,16 +114,16 @@ fn write_array<W: Writer>(out: &mut W, layout: &Layout, level: usize, items: &Ar
     'items: for item in items {
         begin_item(out, level, is_first)?;
         is_first = false;
-        write_value(out, layout, level, !layout.compact, item)?;
+        write_value(out, settings, level, !settings.compact, item)?;
     }
     Ok(())
 }
 
 #[cycle(write)]
-fn write_hash<W: Writer>(out: &mut W, layout: &Layout, level: usize, pairs: &Hash) -> fmt::Result
+fn write_hash<W: Writer>(out: &mut W, settings: &Settings, level: usize, pairs: &Hash) -> fmt::Result
     requires { level < 2 ^ 62 }
     ensures text { WritesUnless (2 ^ 62 ≤ level + levels (hash_tree pairs.now)) W.put_gives W.put_leaves out.old result
-        (stacked level (box layout.now.compact layout.now.multiline false (hash_tree pairs.now))) out.new }
+        (stacked level (box settings.now.compact settings.now.multiline false (hash_tree pairs.now))) out.new }
     ensures valid { OnOk result (IsValid (hash_tree pairs.now)) }
 {
     if pairs.is_empty() {
@@ -136,7 +136,7 @@ fn write_hash<W: Writer>(out: &mut W, layout: &Layout, level: usize, pairs: &Has
     'pairs: for (key, value) in pairs.iter() {
         begin_entry(out, level, is_first)?;
         is_first = false;
-        write_pair(out, layout, level, key, value)?;
+        write_pair(out, settings, level, key, value)?;
     }
     Ok(())
 }
@@ -178,24 +178,24 @@ fn write_scalar_key<W: Writer>(out: &mut W, key: &Yaml) -> fmt::Result
 #[cycle(write)]
 fn write_pair<W: Writer>(
     out: &mut W,
-    layout: &Layout,
+    settings: &Settings,
     level: usize,
     key: &Yaml,
     value: &Yaml,
 ) -> fmt::Result
     requires { level + 1 < 2 ^ 62 }
     ensures text { WritesUnless (2 ^ 62 ≤ level + 1 + max (levels (view key.now)) (levels (view value.now))) W.put_gives W.put_leaves
-        out.old result (pair_text layout.now.compact layout.now.multiline level (view key.now) (view value.now)) out.new }
+        out.old result (pair_text settings.now.compact settings.now.multiline level (view key.now) (view value.now)) out.new }
     ensures valid { OnOk result (IsValid (view key.now) × IsValid (view value.now)) }
 {
     if is_scalar(key) {
         write_scalar_key(out, key)?;
-        return write_value(out, layout, level, true, value);
+        return write_value(out, settings, level, true, value);
     }
     put_ascii(out, "?")?;
-    write_value(out, layout, level, !layout.compact, key)?;
+    write_value(out, settings, level, !settings.compact, key)?;
     begin_second(out, level)?;
-    write_value(out, layout, level, !layout.compact, value)
+    write_value(out, settings, level, !settings.compact, value)
 }
 
 fn is_scalar(node: &Yaml) -> bool

@@ -6,7 +6,7 @@ ghost use Rattle.tree_defs.specs.Grammar.{is_among, is_empty};
 ghost use Rattle.tree_defs.specs.Quoting.{is_quoted, has_outer_space, has_indicator_first, is_unfit_for_plain, reserved_words, is_float_word};
 ghost use Rattle.tree_defs.specs.Typing.{typing, is_string, is_sign};
 ghost use Rattle.tree_defs.proofs.GrammarLaws.{behind_one};
-ghost use Rattle.yaml_emitter.specs.Words.{is_unfit, has_unfit_end, is_blank_at_end, has_unfit_beginning, is_word, is_name, float_names};
+ghost use Rattle.yaml_emitter.specs.Words.{is_unfit, is_word, is_name, float_names};
 
 use crate::ends::{begins_with, ends_with};
 
@@ -23,25 +23,11 @@ pub(crate) fn needs_quotes(text: &str) -> bool
 fn is_unfit(text: &str) -> bool
     ensures { result ≡ is_unfit (chars text.now) }
 {
-    has_unfit_end(text) || has_unfit_character(text)
-}
-
-fn has_unfit_end(text: &str) -> bool
-    ensures { result ≡ has_unfit_end (chars text.now) }
-{
-    is_blank_at_end(text) || has_unfit_beginning(text)
-}
-
-fn is_blank_at_end(text: &str) -> bool
-    ensures { result ≡ is_blank_at_end (chars text.now) }
-{
-    is_empty(text) || has_outer_space(text)
-}
-
-fn has_unfit_beginning(text: &str) -> bool
-    ensures { result ≡ has_unfit_beginning (chars text.now) }
-{
-    has_indicator_first(text) || begins_with(text, "0x")
+    is_empty(text)
+        || has_outer_space(text)
+        || has_indicator_first(text)
+        || begins_with(text, "0x")
+        || has_unfit_character(text)
 }
 
 fn is_empty(text: &str) -> bool

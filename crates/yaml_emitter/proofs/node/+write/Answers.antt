@@ -38,7 +38,7 @@ pub write_array-items-init : goal.write_array-items-init
 write_array-items-init g t c =
     let e = sym c.into_iter-item-iterator.ensures.into_iter_gives in
     record {
-      left = left_as (ap (λ ts. entries_text true c.args.level (item_boxes c.args.layout.now.compact c.args.layout.now.multiline (items_of ts))) e) left_all;
+      left = left_as (ap (λ ts. entries_text true c.args.level (item_boxes c.args.settings.now.compact c.args.settings.now.multiline (items_of ts))) e) left_all;
       no_higher = omega (arith, ap (λ ts. item_levels (items_of ts)) e);
       no_deeper = omega (arith, ap (λ ts. items_depth (items_of ts)) e);
       valid = subst (λ ts. AreValid (items_of ts) → AreValid (items_of c.args.items.now)) e (λ v. v);
@@ -87,7 +87,7 @@ pub write_hash-pairs-init : goal.write_hash-pairs-init
 write_hash-pairs-init g t c =
     let e = sym (c.into_iter-key-iterator.ensures.into_iter_gives ∙ c.iter-key-items.ensures.pairs) in
     record {
-      left = left_as (ap (λ ps. entries_text true c.args.level (pair_boxes c.args.layout.now.compact c.args.layout.now.multiline (pairs_of ps))) e) left_all;
+      left = left_as (ap (λ ps. entries_text true c.args.level (pair_boxes c.args.settings.now.compact c.args.settings.now.multiline (pairs_of ps))) e) left_all;
       no_higher = omega (arith, ap (λ ps. pair_levels (pairs_of ps)) e);
       no_deeper = omega (arith, ap (λ ps. pairs_depth (pairs_of ps)) e);
       valid = subst (λ ps. ArePairsValid (pairs_of ps) → ArePairsValid (pairs_of c.args.pairs.now)) e (λ v. v);

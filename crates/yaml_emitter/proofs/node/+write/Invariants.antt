@@ -24,8 +24,8 @@ decreases-write_pair g l = 3 * max (depth (view l.key.now)) (depth (view l.value
 
 abbrev pub invariant-write_array-items : goal.invariant-write_array-items
 invariant-write_array-items g l = record {
-  left : IsLeft g.W.Writer.put_gives l.initial.out (entries_text true l.level (item_boxes l.layout.compact l.layout.multiline (items_of l.fn.items)))
-      l.out (entries_text l.is_first l.level (item_boxes l.layout.compact l.layout.multiline (items_of l.item-iterator)));
+  left : IsLeft g.W.Writer.put_gives l.initial.out (entries_text true l.level (item_boxes l.settings.compact l.settings.multiline (items_of l.fn.items)))
+      l.out (entries_text l.is_first l.level (item_boxes l.settings.compact l.settings.multiline (items_of l.item-iterator)));
   no_higher : item_levels (items_of l.item-iterator) ≤ item_levels (items_of l.fn.items);
   no_deeper : items_depth (items_of l.item-iterator) ≤ items_depth (items_of l.fn.items);
   valid : AreValid (items_of l.item-iterator) → AreValid (items_of l.fn.items);
@@ -33,8 +33,8 @@ invariant-write_array-items g l = record {
 
 abbrev pub invariant-write_hash-pairs : goal.invariant-write_hash-pairs
 invariant-write_hash-pairs g l = record {
-  left : IsLeft g.W.Writer.put_gives l.initial.out (entries_text true l.level (pair_boxes l.layout.compact l.layout.multiline (pairs_of l.fn.pairs)))
-      l.out (entries_text l.is_first l.level (pair_boxes l.layout.compact l.layout.multiline (pairs_of l.key-iterator)));
+  left : IsLeft g.W.Writer.put_gives l.initial.out (entries_text true l.level (pair_boxes l.settings.compact l.settings.multiline (pairs_of l.fn.pairs)))
+      l.out (entries_text l.is_first l.level (pair_boxes l.settings.compact l.settings.multiline (pairs_of l.key-iterator)));
   no_higher : pair_levels (pairs_of l.key-iterator) ≤ pair_levels (pairs_of l.fn.pairs);
   no_deeper : pairs_depth (pairs_of l.key-iterator) ≤ pairs_depth (pairs_of l.fn.pairs);
   valid : ArePairsValid (pairs_of l.key-iterator) → ArePairsValid (pairs_of l.fn.pairs);

@@ -7,10 +7,10 @@ use Rattle.yaml_emitter.proofs.node.write_document.Goals as goal
 
 pub returns-in_err-put_ascii-clause-text : goal.returns-in_err-put_ascii-clause-text
 returns-in_err-put_ascii-clause-text g c =
-    writes_as (document_text c.args.layout.now.compact c.args.layout.now.multiline (view c.args.root.now)) (writes_err c.from_residual.ensures.0 (stopped_early _ (stopped_for (λ b. absurd b) (c.in_err-put_ascii.ensures.err refl))))
+    writes_as (document_text c.args.settings.now.compact c.args.settings.now.multiline (view c.args.root.now)) (writes_err c.from_residual.ensures.0 (stopped_early _ (stopped_for (λ b. absurd b) (c.in_err-put_ascii.ensures.err refl))))
 
 pub returns-clause-text : goal.returns-clause-text
-returns-clause-text g c = writes_as (document_text c.args.layout.now.compact c.args.layout.now.multiline (view c.args.root.now)) (writes_late (c.in_ok-put_ascii.ensures.ok refl) c.write_root.ensures.text)
+returns-clause-text g c = writes_as (document_text c.args.settings.now.compact c.args.settings.now.multiline (view c.args.root.now)) (writes_late (c.in_ok-put_ascii.ensures.ok refl) c.write_root.ensures.text)
 
 pub returns-in_err-put_ascii-clause-valid : goal.returns-in_err-put_ascii-clause-valid
 returns-in_err-put_ascii-clause-valid g c = unless_ok _ _ c.from_residual.ensures.0
