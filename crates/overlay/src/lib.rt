@@ -1,11 +1,12 @@
 //! One tree laid over another, as settings are laid over their defaults.
 #![tactic(auto)]
 
-ghost use Rattle.std.specs.Prelude.{◌≡◌, [], IfOk, OnOk};
+ghost use Rattle.std.specs.Prelude.{◌≡◌, [], true, IfOk, OnOk, OnErr};
 ghost use Rattle.tree_defs.specs.Overlay.{overlay, pairs_under, new_pairs};
 ghost use Rattle.tree_defs.specs.Pairs.{insert, AreDistinct};
 ghost use Rattle.tree_defs.specs.Tree.{pairs_of};
 ghost use Rattle.tree_defs.specs.Writable.{IsWritable};
+ghost use Rattle.yaml_tree.specs.Node.{takes_memory};
 ghost use Rattle.yaml_tree.specs.View.{view};
 ghost use Rattle.overlay.specs.Inserted.{inserted};
 
@@ -14,13 +15,15 @@ use yaml_tree::{Hash, Yaml};
 
 /// The right tree laid over the left one. Of two hashes: the left's pairs in order, the value of a key that both have
 /// being the right's value laid over the left's, and then the right's pairs of new keys in order. Else a copy of the
-/// right. Both trees stay as they are. An `Err` comes only where memory was refused.
+/// right. Both trees stay as they are. An `Err` comes only where memory was refused, and where the right is a number of
+/// 64 bits, a `Boolean`, an `Alias`, `Null` or `BadValue` none is asked for.
 ///
 /// Of two trees that can be written and read back, the overlay can be too.
 #[cycle(overlay)]
 pub fn overlay(alloc: Global, left: &Yaml, right: &Yaml) -> Result<Yaml, AllocError>
     ensures tree { IfOk result (λ y. view y ≡ overlay (view left.now) (view right.now)) }
     ensures writable { IsWritable (view left.now) → IsWritable (view right.now) → IfOk result (λ y. IsWritable (view y)) }
+    ensures only_in_memory { OnErr result (takes_memory (view right.now) ≡ true) }
 {
     match (left, right) {
         (Yaml::Hash(under), Yaml::Hash(over)) => {

@@ -1,5 +1,5 @@
 -- The tokens of the code, as clauses see them.
-use Rattle.std.specs.Prelude.{List, map}
+use Rattle.std.specs.Prelude.{List, map, Bool, true, false}
 use Rattle.yaml_chars.specs.Text.{string_chars}
 use Rattle.token_defs.specs.Token.{Style, Tok, Token}
 use Rattle.yaml_tokens.specs.declared.token.TScalarStyle.{TScalarStyle}
@@ -43,3 +43,12 @@ shown t = record { place = t.0; tok = tok_of t.1 }
 
 abbrev pub all_shown : List code.Token → List Token
 all_shown = map shown
+
+-- whether a token keeps a text, for which a copy asks for memory
+abbrev pub keeps_text : Tok → Bool
+keeps_text (Tok.tag_directive h p) = true
+keeps_text (Tok.alias n) = true
+keeps_text (Tok.anchor n) = true
+keeps_text (Tok.tag h s) = true
+keeps_text (Tok.scalar y s) = true
+keeps_text _ = false

@@ -1,4 +1,4 @@
-ghost use Rattle.std.specs.Prelude.{◌≡◌, true, false, codes, string_bytes, IfOk};
+ghost use Rattle.std.specs.Prelude.{◌≡◌, true, false, codes, string_bytes, IfOk, IsOk};
 
 use std::alloc::{AllocError, Global};
 use std::error::Error;
@@ -101,9 +101,11 @@ impl ScanError {
         matches!(self.info, Info::Memory)
     }
 
-    /// A copy, equal to the fault. An `Err` comes only where memory was refused; a fault of fixed text takes none.
+    /// A copy, equal to the fault. An `Err` comes only where memory was refused; a fault of fixed text takes none,
+    /// nor does one of refused memory.
     pub fn clone(&self, alloc: Global) -> Result<ScanError, AllocError>
-        ensures { IfOk result (λ e. e ≡ self.now) }
+        ensures copy { IfOk result (λ e. e ≡ self.now) }
+        ensures memory { self.now.memory ≡ true → IsOk result }
     {
         let info = match &self.info {
             Info::Fixed(text) => Info::Fixed(text),

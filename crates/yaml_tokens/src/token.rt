@@ -1,6 +1,6 @@
-ghost use Rattle.std.specs.Prelude.{◌≡◌, IfOk};
+ghost use Rattle.std.specs.Prelude.{◌≡◌, true, IfOk, OnErr};
 ghost use Rattle.yaml_chars.specs.Text.{string_chars};
-ghost use Rattle.yaml_tokens.specs.Shown.{shown, tok_of};
+ghost use Rattle.yaml_tokens.specs.Shown.{shown, tok_of, keeps_text};
 
 use std::alloc::{AllocError, Global};
 use yaml_chars::Marker;
@@ -82,9 +82,10 @@ pub enum TokenType {
 }
 
 impl Token {
-    /// A copy, equal to the token. An `Err` comes only where memory was refused.
+    /// A copy, equal to the token. An `Err` comes only where memory was refused; a token without a text asks for none.
     pub fn clone(&self, alloc: Global) -> Result<Token, AllocError>
-        ensures { IfOk result (λ t. shown t ≡ shown self.now) }
+        ensures copy { IfOk result (λ t. shown t ≡ shown self.now) }
+        ensures only_for_a_text { OnErr result (keeps_text (shown self.now).tok ≡ true) }
     {
         Ok(Token(self.0, self.1.clone(alloc)?))
     }
@@ -98,9 +99,10 @@ fn copied(alloc: Global, text: &String) -> Result<String, AllocError>
 }
 
 impl TokenType {
-    /// A copy, equal to the token type. An `Err` comes only where memory was refused.
+    /// A copy, equal to the token type. An `Err` comes only where memory was refused; one without a text asks for none.
     pub fn clone(&self, alloc: Global) -> Result<TokenType, AllocError>
-        ensures { IfOk result (λ t. tok_of t ≡ tok_of self.now) }
+        ensures copy { IfOk result (λ t. tok_of t ≡ tok_of self.now) }
+        ensures only_for_a_text { OnErr result (keeps_text (tok_of self.now) ≡ true) }
     {
         match self {
             TokenType::StreamStart(encoding) => Ok(TokenType::StreamStart(*encoding)),

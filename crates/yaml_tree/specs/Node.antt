@@ -1,6 +1,6 @@
 -- What a node holds, by its tree: its content where it is of one kind, and the value at a key or a place.
 use Rattle.std.specs.Prelude.{ℕ, ℤ, pos, ◌^◌, Bool, true, false, List, Option, Some, None, option_and_then, nat_lt, slice_get, if◌then◌else◌}
-use Rattle.tree_defs.specs.Tree.{Tree, integer, string, boolean, array, hash, null, bad_value, list_of, pair_list_of}
+use Rattle.tree_defs.specs.Tree.{Tree, real, integer, string, boolean, array, hash, null, bad_value, list_of, pair_list_of}
 use Rattle.tree_defs.specs.Pairs.{lookup}
 
 -- the truth value, of a boolean
@@ -47,6 +47,14 @@ is_array t = false
 abbrev pub is_hash : Tree → Bool
 is_hash (hash ps) = true
 is_hash t = false
+
+-- whether a node is kept in memory of its own: a text, an array or a hash
+abbrev pub takes_memory : Tree → Bool
+takes_memory (real s) = true
+takes_memory (string s) = true
+takes_memory (array ts) = true
+takes_memory (hash ps) = true
+takes_memory t = false
 
 -- the second where the first is null or a bad value, else the first
 abbrev pub or_else : Tree → Tree → Tree

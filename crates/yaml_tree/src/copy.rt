@@ -1,7 +1,8 @@
 //! Copies of trees. What is half copied stands in memory and not on the stack, however deep the tree is.
-ghost use Rattle.std.specs.Prelude.{◌≡◌, ◌+◌, ◌<◌, ◌≤◌, ◌∷◌, [], IfOk, IfSome, IfNone};
+ghost use Rattle.std.specs.Prelude.{◌≡◌, ◌+◌, ◌<◌, ◌≤◌, ◌∷◌, [], true, IfOk, OnErr, IfSome, IfNone};
 ghost use Rattle.yaml_tree.specs.Copying.{source_tree, begun_tree, left, IsFilled};
 ghost use Rattle.yaml_tree.specs.Flat.{flat};
+ghost use Rattle.yaml_tree.specs.Node.{takes_memory};
 ghost use Rattle.yaml_tree.specs.View.{view, items_view};
 ghost use Rattle.yaml_tree.specs.Weight.{nodes, parts};
 
@@ -51,7 +52,8 @@ enum Begun<'a> {
 #[inline(always)]
 #[tactic(auto, using(crate::proofs::TextLemmas::same_chars))]
 fn begin<'a>(alloc: Global, node: &'a Yaml) -> Result<Begun<'a>, AllocError>
-    ensures { IfOk result (λ b. begun_tree b ≡ view node.now) }
+    ensures tree { IfOk result (λ b. begun_tree b ≡ view node.now) }
+    ensures only_in_memory { OnErr result (takes_memory (view node.now) ≡ true) }
 {
     match node {
         Yaml::Real(text) => Ok(Begun::Scalar(Yaml::Real(String::from_str(alloc, text.as_str())?))),
@@ -135,9 +137,11 @@ fn copy_row(alloc: Global, source: Source<'_>) -> Result<Vec<Yaml>, AllocError>
 }
 
 impl Yaml {
-    /// A copy, equal to the node. An `Err` comes only where memory was refused.
+    /// A copy, equal to the node. An `Err` comes only where memory was refused, which none but a text, an array or a
+    /// hash asks for.
     pub fn clone(&self, alloc: Global) -> Result<Yaml, AllocError>
-        ensures { IfOk result (λ y. view y ≡ view self.now) }
+        ensures tree { IfOk result (λ y. view y ≡ view self.now) }
+        ensures only_in_memory { OnErr result (takes_memory (view self.now) ≡ true) }
     {
         match begin(alloc, self)? {
             Begun::Scalar(copy) => Ok(copy),

@@ -94,6 +94,7 @@ impl Hash {
     pub fn place(&self, key: &Yaml, steps: &mut Steps) -> Option<usize>
         ensures place { result ≡ place_of (view key.now) self.now }
         ensures steps { steps.new ≤ steps.old + binary_digits (length self.now) }
+        ensures counted { steps.old ≤ steps.new }
     {
         self.place_of_probe(Probe::Node(key), steps)
     }
@@ -101,6 +102,7 @@ impl Hash {
     pub(crate) fn place_of_probe(&self, probe: Probe<'_>, steps: &mut Steps) -> Option<usize>
         ensures place { result ≡ place_of (probed probe.entry) self.now }
         ensures steps { steps.new ≤ steps.old + binary_digits (length self.now) }
+        ensures counted { steps.old ≤ steps.new }
         ensures distinct { AreDistinct self.now }
     {
         match search(self.row.as_slice(), &self.ranks, probe, steps) {

@@ -57,6 +57,7 @@ pub(crate) fn search(
     ensures spot { IfErr result (λ s. HasSpot ranks.now.kept s) }
     ensures missing { IfErr result (λ s. IsGap (probed probe.entry) (places ranks.now.kept) (pairs_view row.now) (rank_at ranks.now.kept s)) }
     ensures steps { steps.new ≤ steps.old + binary_digits (length (places ranks.now.kept)) }
+    ensures counted { steps.old ≤ steps.new }
 {
     let (mut low, mut count) = ranks.window(probe);
     while 0 < count {

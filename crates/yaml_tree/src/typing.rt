@@ -1,11 +1,12 @@
 //! What a plain text stands for.
-ghost use Rattle.std.specs.Prelude.{◌≡◌, ◌≤◌, ◌||◌, IfOk, option_map, option_and_then, map, chars};
+ghost use Rattle.std.specs.Prelude.{◌≡◌, ◌≤◌, ◌||◌, true, IfOk, OnErr, option_map, option_and_then, map, chars};
 ghost use Rattle.tree_defs.specs.Grammar.{is_among, at_least_one};
 ghost use Rattle.tree_defs.specs.Typing.{behind, signed_number, typing, is_string, is_sign, is_decimal, special_words, null_words, true_words, false_words};
 ghost use Rattle.tree_defs.proofs.GrammarLaws.{behind_all, behind_one};
 ghost use Rattle.tree_defs.proofs.DecimalReading.{begins_in, reads_exponent, reads_on, reads_decimal};
 ghost use Rattle.std.specs.Char.{is_ascii_digit};
 ghost use Rattle.yaml_chars.specs.Text.{string_chars};
+ghost use Rattle.yaml_tree.specs.Node.{takes_memory};
 ghost use Rattle.yaml_tree.specs.Values.{value_row, begins_value};
 ghost use Rattle.yaml_tree.specs.Meanings.{meant};
 ghost use Rattle.yaml_tree.specs.View.{view};
@@ -36,7 +37,8 @@ impl Yaml {
     /// as it is; else the `String` of the text. Only a kept text takes memory, and an `Err` comes only if that was
     /// refused.
     pub fn from_str(alloc: Global, text: &str) -> Result<Yaml, AllocError>
-        ensures { IfOk result (λ y. view y ≡ typing (chars text.now)) }
+        ensures value { IfOk result (λ y. view y ≡ typing (chars text.now)) }
+        ensures only_for_a_text { OnErr result (takes_memory (typing (chars text.now)) ≡ true) }
     {
         match stands_for(text) {
             Meaning::Integer(number) => Ok(Yaml::Integer(number)),

@@ -32,6 +32,7 @@ loop-count-init c =
       above = window_above k (marks c.args.ranks.now.kept) (places c.args.ranks.now.kept) (pairs_view c.args.row.now) low count c.requires.hash.ranked c.requires.marked w;
       below = window_below k (marks c.args.ranks.now.kept) (places c.args.ranks.now.kept) (pairs_view c.args.row.now) low count c.requires.hash.ranked c.requires.marked w;
       steps = omega (arith, digits_rise count (length (places c.args.ranks.now.kept)) (omega (arith, w.within)));
+      counted = omega arith;
     }
 
 pub advanced-middle-requires-clause-fits : goal.advanced-middle-requires-clause-fits
@@ -66,6 +67,7 @@ loop-count-preserved-in-Less c =
       above = i.above;
       below = λ r h g. below_from_on (places c.args.ranks.now.kept) (pairs_view c.args.row.now) c.requires.hash.ranked (probed c.args.probe) (rank_at c.args.ranks.now.kept c.advanced-middle.result) (sym (sym c.in-Less.is ∙ compared)) r (omega (arith, h, c.advanced-middle.ensures.rank)) g;
       steps = omega (arith, half, i.steps, c.compare.ensures.steps);
+      counted = omega (arith, i.counted, c.compare.ensures.steps);
     }
 
 pub overflow_add-low : goal.overflow_add-low
@@ -90,6 +92,7 @@ loop-count-preserved c =
       above = λ r h. above_up_to (places c.args.ranks.now.kept) (pairs_view c.args.row.now) c.requires.hash.ranked (probed c.args.probe) (rank_at c.args.ranks.now.kept c.advanced-middle.result) within (sym (sym c.in-Greater.is ∙ compared)) r (omega (arith, h, next));
       below = λ r h g. i.below r (omega (arith, h, next, c.advanced-middle.ensures.rank)) g;
       steps = omega (arith, half, i.steps, c.compare.ensures.steps);
+      counted = omega (arith, i.counted, c.compare.ensures.steps);
     }
 
 pub returns-in-Equal-clause-found : goal.returns-in-Equal-clause-found

@@ -15,6 +15,7 @@ invariant-loop-count l = record {
   above : (r : ℕ) → r < rank_at l.ranks.kept l.low → tree_cmp (probed l.probe) (key_of_rank (places l.ranks.kept) (pairs_view l.row) r) ≡ Greater;
   below : (r : ℕ) → rank_at l.ranks.kept l.low + l.count ≤ r → r < length (places l.ranks.kept) → tree_cmp (probed l.probe) (key_of_rank (places l.ranks.kept) (pairs_view l.row) r) ≡ Less;
   steps : l.steps + binary_digits l.count ≤ l.initial.steps + binary_digits (length (places l.ranks.kept));
+  counted : l.initial.steps ≤ l.steps;
 }
 
 abbrev pub decreases-loop-count : goal.decreases-loop-count
