@@ -1,4 +1,4 @@
-ghost use Rattle.std.specs.Prelude.{◌≡◌, ◌≢◌, ℕ, ◌+◌, ◌-◌, ◌^◌, ◌<◌, ◌≤◌, [], ◌∷◌, ◌++◌, true, false, length, drop, slice_index, IfSome, IfNone, OnSome, OnOk, OnErr};
+ghost use Rattle.std.specs.Prelude.{◌≡◌, ◌≢◌, ℕ, ◌+◌, ◌-◌, ◌^◌, ◌<◌, ◌≤◌, [], ◌∷◌, ◌++◌, ◌==◌, ◌&&◌, true, false, length, drop, slice_index, IfSome, IfNone, OnSome, OnOk, OnErr};
 ghost use Rattle.std.specs.Iterator.{IsFinite, size};
 ghost use Rattle.yaml_chars.specs.Run.{stops, ran};
 ghost use Rattle.yaml_chars.specs.Source.{CameFrom};
@@ -110,6 +110,15 @@ impl<T: Iterator<Item = char>> Window<T> {
         ensures done { result ≡ 0 → self.now.done ≡ true }
     {
         self.peek(0)
+    }
+
+    /// Whether a CR stands here with an LF behind it, which are one line break.
+    pub fn at_cr_lf(&self) -> bool
+        requires { 1 < self.now.ahead }
+        ensures sees { Sees self.now (λ a. result ≡ (slice_index a 0 == 13 && slice_index a 1 == 10)) }
+        ensures has { result ≡ true → self.now.at + 1 < length self.now.taken }
+    {
+        self.ch() == '\r' && self.peek(1) == '\n'
     }
 
     /// The next character, which is then in the window.

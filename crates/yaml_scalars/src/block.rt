@@ -84,7 +84,7 @@ fn read_first_indent<T: Iterator<Item = char>>(
             spaces = window.mark().col();
         } else if !is_break(c) {
             return Ok(most.max(spaces));
-        } else if c == '\r' && window.peek(1) == '\n' {
+        } else if window.at_cr_lf() {
             window.skip();
         } else {
             window.skip_break();
@@ -114,15 +114,13 @@ fn read_indent<T: Iterator<Item = char>>(
         let c = window.ch();
         if c == ' ' && window.mark().col() < column {
             window.skip();
-        } else if is_break(c) {
-            if c == '\r' && window.peek(1) == '\n' {
-                window.skip();
-            } else {
-                window.skip_break();
-                block.breaks.push('\n')?;
-            }
-        } else {
+        } else if !is_break(c) {
             return Ok(());
+        } else if window.at_cr_lf() {
+            window.skip();
+        } else {
+            window.skip_break();
+            block.breaks.push('\n')?;
         }
     }
 }
@@ -154,7 +152,7 @@ fn read_line<T: Iterator<Item = char>>(
         window.lookahead(2);
         let c = window.ch();
         if is_break(c) {
-            if c == '\r' && window.peek(1) == '\n' {
+            if window.at_cr_lf() {
                 window.skip();
             } else {
                 window.skip_break();

@@ -195,7 +195,7 @@ fn read_gap<T: Iterator<Item = char>>(
         window.lookahead(2);
         let c = window.ch();
         if is_break(c) {
-            if c == '\r' && window.peek(1) == '\n' {
+            if window.at_cr_lf() {
                 window.skip();
             } else {
                 window.skip_break();

@@ -77,7 +77,7 @@ fn read_gap<T: Iterator<Item = char>>(
     ensures less { OnOk result (window.new.left < window.old.left) }
 {
     if is_break(c) {
-        if c == '\r' && window.peek(1) == '\n' {
+        if window.at_cr_lf() {
             window.skip();
         } else {
             window.skip_break();
@@ -221,10 +221,8 @@ fn read_behind<T: Iterator<Item = char>>(
 fn read_escaped_break<T: Iterator<Item = char>>(
     window: &mut Window<T>,
     quote: &Quote,
-    c: char,
     scalar: &mut Folding,
 ) -> Result<Part, Fault>
-    requires here { Sees window.old (λ a. c ≡ slice_index a 0) }
     requires has { HasChar window.old }
     requires ahead { 2 ≤ window.old.ahead }
     ensures ok { IfOk result (λ next. GoesOn quote.now breaking window.old scalar.old (mode_of next) window.new scalar.new) }
@@ -232,7 +230,7 @@ fn read_escaped_break<T: Iterator<Item = char>>(
     ensures less { OnOk result (window.new.left < window.old.left) }
 {
     let _ = quote;
-    if c == '\r' && window.peek(1) == '\n' {
+    if window.at_cr_lf() {
         window.skip();
         return Ok(Part::Breaking);
     }
@@ -282,7 +280,7 @@ fn read_part<T: Iterator<Item = char>>(
         Part::First => read_line(window, quote, c, scalar),
         Part::Inside => read_in_line(window, quote, c, scalar),
         Part::Gap => read_in_gap(window, quote, c, scalar),
-        Part::Breaking => read_escaped_break(window, quote, c, scalar),
+        Part::Breaking => read_escaped_break(window, quote, scalar),
         Part::Behind => read_behind(window, quote, c, scalar),
         Part::Doubled => read_doubled(window, quote, c, scalar),
         Part::Closed => unreachable!(),

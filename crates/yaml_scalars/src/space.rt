@@ -17,8 +17,7 @@ pub fn skip_linebreak<T: Iterator<Item = char>>(window: &mut Window<T>)
     ensures less { window.new.left < window.old.left }
 {
     window.lookahead(2);
-    let c = window.ch();
-    if c == '\r' && window.peek(1) == '\n' {
+    if window.at_cr_lf() {
         window.skip();
         window.skip_break();
     } else {
