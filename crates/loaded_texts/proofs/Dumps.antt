@@ -7,7 +7,7 @@ use Rattle.layout_defs.specs.DumpIsInjective.{DumpIsInjective}
 use Rattle.dump_layout.proofs.Whole.{dump_is_laid_out}
 use Rattle.loaded_texts.specs.TextReadAs.{IsReadAs}
 use Rattle.loaded_texts.specs.Laws.{DumpsAreReadAsTheirTree}
-use Rattle.loaded_texts.proofs.Layouts.{layouts_are_read}
+use Rattle.loaded_texts.proofs.LayoutTexts.{layouts_are_read}
 use Rattle.loaded_texts.proofs.OneReading.{texts_are_read_in_one_way}
 
 pub dumps_are_read : DumpsAreReadAsTheirTree

@@ -10,7 +10,7 @@ use Rattle.layout_defs.specs.BlockLines.{Line, full, blank, spell_lines}
 use Rattle.layout_defs.specs.Json
 use Rattle.layout_defs.specs.Layout.{Scalar, plain, quoted, single_quoted, Inline, scalar, empty_array, empty_hash, Comment, no_comment, comment, Block, Value, Entries, Field, Fields, Root, Document, Documents, last_document, document, doubled, spell_scalar, spell_inline, spell_comment, spell_literal, folded_header, spell_block, spell_value, spell_entries, spell_field, spell_fields, spell_root, spell_document, spell_documents, spell_mark, anchors_behind, anchors_behind_field, IsScalar, IsInline, IsComment, AreLineTexts, IsBlock, IsValue, AreEntries, IsField, AreFields, IsRoot, IsBehindRoot, AreDocuments}
 use Rattle.loaded_texts.specs.Spelled.{IsWithoutNul}
-use Rattle.loaded_texts.specs.Layouts.{LayoutsAreWithoutNul}
+use Rattle.loaded_texts.specs.LayoutTexts.{LayoutsAreWithoutNul}
 use Rattle.loaded_texts.proofs.Nul.{character, not_nul, characters}
 use Rattle.loaded_texts.proofs.JsonNul as json
 use Rattle.loaded_texts.proofs.PartsNul as part

@@ -6,7 +6,7 @@ pub mod InTurn
 pub mod InsideNode
 pub mod JsonNul
 pub mod LayoutNul
-pub mod Layouts
+pub mod LayoutTexts
 pub mod Loads
 mod Nul
 pub mod OneReading

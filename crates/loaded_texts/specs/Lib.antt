@@ -2,7 +2,7 @@ pub mod Cuts
 pub mod Documents
 pub mod InTurn
 pub mod Laws
-pub mod Layouts
+pub mod LayoutTexts
 pub mod LoadsAs
 pub mod QuotedTexts
 pub mod Spelled

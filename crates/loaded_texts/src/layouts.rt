@@ -1,6 +1,6 @@
 //! Laws of layouts. Each law is the contract of an empty function.
 
-ghost use Rattle.loaded_texts.specs.Layouts.{LayoutsAreReadAsTheirTrees, LayoutsAreWithoutNul};
+ghost use Rattle.loaded_texts.specs.LayoutTexts.{LayoutsAreReadAsTheirTrees, LayoutsAreWithoutNul};
 
 /// A layout is read as its trees, one for each document, in order.
 pub fn layouts_are_read_as_their_trees()

@@ -12,7 +12,7 @@ use Rattle.layout_defs.specs.Gap.{empty_line, is_line_character}
 use Rattle.layout_defs.specs.BlockLines.{full, blank}
 use Rattle.layout_defs.specs.Layout.{Scalar, plain, single_quoted, scalar, no_comment, Block, beside, literal, folded, below, anchored, alias, implicit, last_field, field, Root, last_document}
 use Rattle.scan_model.specs.TextTokens.{HasToks}
-use Rattle.scan_texts.proofs.Layouts.{layouts_have_their_tokens}
+use Rattle.scan_texts.proofs.LayoutTexts.{layouts_have_their_tokens}
 
 abbrev word : List ℕ → Scalar
 word w = plain (Tree.string w)

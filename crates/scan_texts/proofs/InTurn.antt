@@ -7,7 +7,7 @@ use Rattle.scan_model.specs.TextTokens.{HasToks}
 use Rattle.scan_texts.specs.Laws.{LayoutsInTurnHaveTheirTokens, LayoutsInTurnAreNotRefused}
 use Rattle.scan_texts.proofs.Documents.{nothing_has_its_tokens}
 use Rattle.scan_texts.proofs.TextTokens.{none_is_refused}
-use Rattle.scan_texts.proofs.Layouts.{layouts_have_their_tokens}
+use Rattle.scan_texts.proofs.LayoutTexts.{layouts_have_their_tokens}
 
 pub layouts_in_turn_have_their_tokens : LayoutsInTurnHaveTheirTokens
 layouts_in_turn_have_their_tokens t ts text laid =

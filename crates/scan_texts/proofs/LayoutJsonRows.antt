@@ -11,7 +11,7 @@ use Rattle.layout_defs.specs.JsonString.{itself, is_unescaped}
 use Rattle.layout_defs.specs.Json.{Json, Elements, Members}
 use Rattle.layout_defs.specs.Layout.{plain, Block, json, compact, last_entry, entry, implicit, explicit, last_field, Root, last_document, is_on_one_line}
 use Rattle.scan_model.specs.TextTokens.{HasToks}
-use Rattle.scan_texts.proofs.Layouts.{layouts_have_their_tokens}
+use Rattle.scan_texts.proofs.LayoutTexts.{layouts_have_their_tokens}
 
 abbrev plain_tok : List ℕ → Tok
 plain_tok w = Tok.scalar Style.plain w

@@ -13,7 +13,7 @@ use Rattle.layout_defs.specs.Gap.{empty_line, comment_line, is_line_character}
 use Rattle.layout_defs.specs.BlockLines.{full, blank}
 use Rattle.layout_defs.specs.Layout.{Scalar, plain, quoted, Inline, scalar, empty_array, empty_hash, no_comment, array, hash, Value, compact, below, literal, last_entry, entry, implicit, explicit, last_field, field, Root, last_document}
 use Rattle.scan_model.specs.TextTokens.{HasToks}
-use Rattle.scan_texts.proofs.Layouts.{layouts_have_their_tokens}
+use Rattle.scan_texts.proofs.LayoutTexts.{layouts_have_their_tokens}
 
 abbrev word : List ℕ → Scalar
 word w = plain (Tree.string w)

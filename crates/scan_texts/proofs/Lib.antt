@@ -27,8 +27,8 @@ mod LayoutJsonRows
 mod LayoutRows
 mod LayoutRowsRefused
 mod LayoutStates
+pub mod LayoutTexts
 mod LayoutValues
-pub mod Layouts
 mod Leaves
 mod Levels
 mod LiteralTexts

@@ -27,7 +27,7 @@ use Rattle.loaded_texts.proofs.OneReading.{one_reading}
 use Rattle.loaded_texts.proofs.Spelled.{characters_are_the_text, json_texts_are_read}
 use Rattle.loaded_texts.proofs.JsonNul.{json_texts_have_no_nul}
 use Rattle.loaded_texts.proofs.LayoutNul.{layouts_have_no_nul}
-use Rattle.loaded_texts.proofs.Layouts.{layouts_are_read}
+use Rattle.loaded_texts.proofs.LayoutTexts.{layouts_are_read}
 use Rattle.loaded_texts.proofs.QuotedTexts.{quoted_texts_are_read, quoted_texts_have_no_nul}
 use Rattle.yaml_loader.specs.TextLoads.{LoadsText, LoadsOnly, OfTexts, OfText, OfGiven, OfJson, OfBasic, OfLayout, OfQuoted, Answers}
 use Rattle.yaml_loader.specs.Unread.{of_parser}

@@ -1,4 +1,4 @@
-use Rattle.loaded_texts.proofs.Layouts.{layouts_are_read}
+use Rattle.loaded_texts.proofs.LayoutTexts.{layouts_are_read}
 use Rattle.loaded_texts.proofs.layouts.layouts_are_read_as_their_trees.Goals as goal
 
 pub returns : goal.returns

@@ -1,4 +1,4 @@
-use Rattle.scan_texts.proofs.Layouts.{layouts_have_their_tokens}
+use Rattle.scan_texts.proofs.LayoutTexts.{layouts_have_their_tokens}
 use Rattle.scan_texts.proofs.laws.layouts_have_their_tokens.Goals as goal
 
 pub returns : goal.returns
