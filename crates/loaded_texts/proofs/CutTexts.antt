@@ -5,7 +5,6 @@ use Rattle.tree_defs.specs.Tree.{Tree}
 use Rattle.scalar_defs.specs.Classes.{is_nul}
 use Rattle.scan_scalars.specs.PlainEnds.{has_no_nul}
 use Rattle.scan_cut.proofs.Fetched.{tokens_are_cut}
-use Rattle.scan_cut.proofs.PiecesRead.{pieces_are_read}
 use Rattle.event_defs.specs.ReadAs.{ReadAs}
 use Rattle.loaded_texts.specs.TextReadAs.{IsReadAs}
 use Rattle.loaded_texts.specs.Cuts.{IsReadOfCut, ReadTextsAreReadOfACut}
@@ -23,7 +22,7 @@ none_before (c ∷ a) = by (c == 0) refl (none_before a)
 pub of_a_cut : (keep_tags : Bool) (text : List ℕ) (trees : List Tree) → has_no_nul text ≡ true → IsReadAs keep_tags text trees → IsReadOfCut keep_tags text trees
 of_a_cut keep_tags text trees nul h =
     let has = h.has in
-    record { tokens = has.0; is_cut = tokens_are_cut pieces_are_read text has.0 nul has.1; read = subst (λ ts. ReadAs keep_tags ts trees) (sym has.2) h.read }
+    record { tokens = has.0; is_cut = tokens_are_cut text has.0 nul has.1; read = subst (λ ts. ReadAs keep_tags ts trees) (sym has.2) h.read }
 
 pub read_of_a_cut : ReadTextsAreReadOfACut
 read_of_a_cut keep_tags text trees without h = of_a_cut keep_tags text trees (subst (λ a. has_no_nul a ≡ true) without (none_before text)) h

@@ -75,7 +75,7 @@ abbrev Same : ℕ → Type 0
 Same c = escape_of c ≡ escape_by_rows (lookup c escapes) (lookup c numeric_escapes)
 
 -- what holds of a number, and of each other one, holds
-row : (c k : ℕ) (P : ℕ → Type 0) → P k → ((c == k) ≡ false → P c) → P c
+pub row : (c k : ℕ) (P : ℕ → Type 0) → P k → ((c == k) ≡ false → P c) → P c
 row c k P at other = by (c == k) refl
   where
     by : (b : Bool) → (c == k) ≡ b → P c

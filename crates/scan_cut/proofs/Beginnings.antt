@@ -10,7 +10,6 @@ use Rattle.cut_defs.proofs.Append.{spelled_append}
 use Rattle.scan_model.specs.State.{State}
 use Rattle.scan_model.specs.Run.{start, Reaches}
 use Rattle.scan_scalars.specs.PlainEnds.{has_no_nul}
-use Rattle.scan_cut.specs.PiecesRead.{PiecesAreRead}
 use Rattle.scan_cut.proofs.Documents.{whole_text}
 use Rattle.scan_cut.proofs.Fetched.{goes, over, Came, starts, fares, came}
 
@@ -113,8 +112,8 @@ before_last x (y ∷ xs) (t ∷ given) more e = by (before_last x xs given more 
     by (some others f) = some others (ap (λ z. z ∷ xs) same ∙ ap (λ ts. t ∷ ts) f)
 
 -- Of a run, the first tokens are a cut of the whole text, up to the stream's end, or of a beginning of it.
-pub first_tokens_are_cut : PiecesAreRead → (text : List ℕ) (given more : List Token) (t : State) → has_no_nul text ≡ true → Reaches (start text) t → t.held.tokens ≡ given ++ more → IsCut given text ⊎ IsCutOfBeginning given text
-first_tokens_are_cut n text given more t nul run e = by (came n text nul (start text) t run (starts refl))
+pub first_tokens_are_cut : (text : List ℕ) (given more : List Token) (t : State) → has_no_nul text ≡ true → Reaches (start text) t → t.held.tokens ≡ given ++ more → IsCut given text ⊎ IsCutOfBeginning given text
+first_tokens_are_cut text given more t nul run e = by (came text nul (start text) t run (starts refl))
   where
     nothing : (given : List Token) → [] ≡ given ++ more → IsCutOfBeginning given text
     nothing [] f = inl refl

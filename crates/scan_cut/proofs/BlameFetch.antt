@@ -28,7 +28,6 @@ use Rattle.scan_blocks.specs.HeaderEnds.{indicator_of}
 use Rattle.scan_blocks.proofs.Ends as block_laws
 use Rattle.scan_scalars.specs.PlainEnds.{has_no_nul}
 use Rattle.scan_scalars.specs.Fillers.{begins_filler}
-use Rattle.scan_cut.specs.PiecesRead.{PiecesAreRead}
 use Rattle.scan_cut.specs.Faults.{IsThere, is_shown}
 use Rattle.scan_cut.specs.Stands.{Stands}
 use Rattle.scan_cut.proofs.PieceQuoteds.{some_chars}
@@ -169,5 +168,5 @@ fetch_told text t nul going_on (fares (goes s g)) = chosen t.held.started (λ k.
 fetch_told text t nul going_on (fares (over c e)) = absurd (cc (e, going_on))
 
 -- A text is refused for such a fault only where it stands in it.
-pub faults_stand : PiecesAreRead → (text : List ℕ) (f : Fault) → has_no_nul text ≡ true → IsRefused text f → is_shown f ≡ true → IsThere text f
-faults_stand pieces text f nul r shown = blamed f (fetch_told text r.last nul r.going (came pieces text nul (start text) r.last r.run (starts refl))) r.refused shown
+pub faults_stand : (text : List ℕ) (f : Fault) → has_no_nul text ≡ true → IsRefused text f → is_shown f ≡ true → IsThere text f
+faults_stand text f nul r shown = blamed f (fetch_told text r.last nul r.going (came text nul (start text) r.last r.run (starts refl))) r.refused shown

@@ -1,14 +1,6 @@
 -- What holds of each indicator, and of each other character, holds of all.
-use Rattle.std.proofs.Common.{◌≡◌, ℕ, Bool, true, false, ◌==◌, refl}
-use Rattle.std.proofs.lemmas.Bool.{eqb-true}
-
--- what holds of a number, and of each other one, holds
-row : (c k : ℕ) (P : ℕ → Type 0) → P k → ((c == k) ≡ false → P c) → P c
-row c k P at other = by (c == k) refl
-  where
-    by : (b : Bool) → (c == k) ≡ b → P c
-    by true e = rw (eqb-true c k e) at
-    by false e = other e
+use Rattle.std.proofs.Common.{◌≡◌, ℕ, false, ◌==◌}
+use Rattle.scalar_laws.proofs.Bridges.{row}
 
 -- a character that is no indicator, no blank, no break and no NUL
 pub record Ordinary (c : ℕ) : Type 0 where

@@ -17,7 +17,7 @@ use Rattle.scan_model.proofs.Holds.{Holds, refused}
 use Rattle.scalar_laws.proofs.Bridges.{same_gap, same_flow}
 use Rattle.scan_scalars.specs.PlainEnds.{has_no_nul, is_white}
 use Rattle.scan_scalars.specs.Fillers.{begins_filler, begins_token}
-use Rattle.scan_cut.specs.PiecesRead.{PiecesAreRead, comes_plain}
+use Rattle.scan_cut.specs.PiecesRead.{comes_plain}
 use Rattle.scan_cut.specs.Stands.{Stands}
 use Rattle.scan_cut.proofs.Heres.{before_again}
 use Rattle.scan_cut.proofs.Characters.{Ordinary, of_all}
@@ -47,7 +47,7 @@ unfolding classes.is_blank_or_end classes.is_blank classes.is_break classes.is_n
 other_begins fl adjacent c more o =
     rw (o.e45, o.e63, o.e58, o.e124, o.e62, o.e32, o.e9, o.e10, o.e13, o.e0, o.e44, o.e91, o.e93, o.e123, o.e125, o.e35, o.e38, o.e42, o.e33, o.e37, o.e64, o.e96, o.e39, o.e34) refl
 
-module _ (pieces : PiecesAreRead) (text : List ℕ) (t : State) (r : Ready text t) (deep : IsDeep t.held) (marker : ((t.held.place.col == 0) && is_document_marker t.rest) ≡ false) where
+module _ (text : List ℕ) (t : State) (r : Ready text t) (deep : IsDeep t.held) (marker : ((t.held.place.col == 0) && is_document_marker t.rest) ≡ false) where
   -- a token that begins with a character
   abbrev Reads : ℕ → Type 0
   Reads c = (more : List ℕ) → t.rest ≡ c ∷ more → Holds (Stands text) (token_by (class_of c) t)
@@ -55,7 +55,7 @@ module _ (pieces : PiecesAreRead) (text : List ℕ) (t : State) (r : Ready text 
   plain_here : (c : ℕ) (more : List ℕ) → t.rest ≡ c ∷ more → (if c == 45 then not (is_at_gap more) else may_begin (in_flow t.held) (is_adjacent r.stands.before) c more) ≡ true → Holds (Stands text) (fetch_plain_scalar t)
   plain_here c more e h =
       let none : ((t.held.place.col == 0) && is_document_marker (c ∷ more)) ≡ false = ap (λ l. (t.held.place.col == 0) && is_document_marker l) (sym e) ∙ marker in
-      plain_fetched pieces text t r.stands deep (ap (comes_plain (in_flow t.held) (is_adjacent r.stands.before) t.held.place.col) e ∙ rw (h, none) refl)
+      plain_fetched text t r.stands deep (ap (comes_plain (in_flow t.held) (is_adjacent r.stands.before) t.held.place.col) e ∙ rw (h, none) refl)
 
   solid_at : (c : ℕ) (more : List ℕ) → t.rest ≡ c ∷ more → (is_white c || (c == 35)) ≡ false
   solid_at c more e = ap begins_filler (sym e) ∙ r.solid
@@ -128,7 +128,7 @@ module _ (pieces : PiecesAreRead) (text : List ℕ) (t : State) (r : Ready text 
   block_or_plain literal c more e is may = by (is_nil t.held.flow) refl
     where
       by : (out : Bool) → is_nil t.held.flow ≡ out → Holds (Stands text) (if not out then fetch_plain_scalar t else fetch_block_scalar literal t)
-      by true o = block_fetched pieces text literal t more (e ∙ ap (λ k. k ∷ more) is) o r.stands deep
+      by true o = block_fetched text literal t more (e ∙ ap (λ k. k ∷ more) is) o r.stands deep
       by false o = plain_here c more e (may (ap not o))
 
   bar : Reads 124
@@ -161,23 +161,23 @@ module _ (pieces : PiecesAreRead) (text : List ℕ) (t : State) (r : Ready text 
 
   asterisk : Reads 42
   unfolding class_of
-  asterisk more e = anchor_fetched pieces text true t more e r.stands deep
+  asterisk more e = anchor_fetched text true t more e r.stands deep
 
   ampersand : Reads 38
   unfolding class_of
-  ampersand more e = anchor_fetched pieces text false t more e r.stands deep
+  ampersand more e = anchor_fetched text false t more e r.stands deep
 
   exclamation : Reads 33
   unfolding class_of
-  exclamation more e = tag_fetched pieces text t more e r.stands deep
+  exclamation more e = tag_fetched text t more e r.stands deep
 
   single_quote : Reads 39
   unfolding class_of
-  single_quote more e = flow_scalar_fetched pieces text true t more e r.stands deep
+  single_quote more e = flow_scalar_fetched text true t more e r.stands deep
 
   double_quote : Reads 34
   unfolding class_of
-  double_quote more e = flow_scalar_fetched pieces text false t more e r.stands deep
+  double_quote more e = flow_scalar_fetched text false t more e r.stands deep
 
   percent : Reads 37
   unfolding class_of
@@ -251,10 +251,10 @@ module _ (pieces : PiecesAreRead) (text : List ℕ) (t : State) (r : Ready text 
     other = other;
   }) c
 
-pub token_fetched : PiecesAreRead → (text : List ℕ) (t : State) → Ready text t → IsDeep t.held → ((t.held.place.col == 0) && is_document_marker t.rest) ≡ false → Holds (Stands text) (fetch_token t)
+pub token_fetched : (text : List ℕ) (t : State) → Ready text t → IsDeep t.held → ((t.held.place.col == 0) && is_document_marker t.rest) ≡ false → Holds (Stands text) (fetch_token t)
 unfolding fetch_token
-token_fetched pieces text t r deep marker = by t.rest refl r.some
+token_fetched text t r deep marker = by t.rest refl r.some
   where
     by : (l : List ℕ) → t.rest ≡ l → is_nil l ≡ false → Holds (Stands text) (token_by (class_of (peek t.rest)) t)
     by [] e n = absurd (cc n)
-    by (c ∷ more) e n = rw (ap peek e) (each pieces text t r deep marker c more e)
+    by (c ∷ more) e n = rw (ap peek e) (each text t r deep marker c more e)

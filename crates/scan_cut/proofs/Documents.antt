@@ -25,10 +25,11 @@ use Rattle.scan_model.specs.Run.{start}
 use Rattle.scan_model.specs.Document.{closed_key, begin_line, fetch_directive, fetch_document_marker, check_document_end, fetch_document_end, fetch_stream_start, next_line, ended_at, fetch_stream_end}
 use Rattle.scan_model.proofs.Holds.{Holds, went, refused, chained, tried, choice, read}
 use Rattle.scan_scalars.specs.PlainEnds.{has_no_nul}
-use Rattle.scan_cut.specs.PiecesRead.{PiecesAreRead, ReadAs, is_directive_token}
+use Rattle.scan_cut.specs.PiecesRead.{ReadAs, is_directive_token}
 use Rattle.scan_cut.specs.Order.{Behind}
 use Rattle.scan_cut.specs.Here.{IsLive, AreOpen}
 use Rattle.scan_cut.specs.Stands.{columns, levels_of, account_of, AreLevels, IsLevel, IsAdjacent, Stood, Fares, Stands}
+use Rattle.scan_cut.proofs.PieceDirectives.{directive_is_read}
 use Rattle.scan_cut.proofs.Places.{weaker, index_behind}
 use Rattle.scan_cut.proofs.Heres.{led, spelled_led}
 use Rattle.scan_cut.proofs.Pushed.{with_piece}
@@ -163,23 +164,23 @@ directive_is (Tok.scalar style text) h = absurd (cc h)
 clean_of : (text rest : List ℕ) (p : Place) (tokens : List Token) (keys : List (Option Key)) (indents : List Indent) (indent : ℕ) (flow : List FlowLevel) (adj : ℕ) (c : ℕ) (more : List ℕ) → rest ≡ c ∷ more → Fares text rest p tokens keys indents indent flow adj → has_no_nul more ≡ true
 clean_of text rest p tokens keys indents indent flow adj c more e s = (and_parts (not (is_nul c)) (has_no_nul more) (rw e at s.stood.here.is_clean)).1
 
-directive_fares : PiecesAreRead → (text more : List ℕ) (t : State) (u : Held) → t.rest ≡ 37 ∷ more → t.held.place.col ≡ 0 → (b : Begun text t u) → (x : Read Tok) → directive t.rest u.place ≡ Ok x →
+directive_fares : (text more : List ℕ) (t : State) (u : Held) → t.rest ≡ 37 ∷ more → t.held.place.col ≡ 0 → (b : Begun text t u) → (x : Read Tok) → directive t.rest u.place ≡ Ok x →
     Fares text x.rest x.place (u.tokens ++ token t.held.place x.value ∷ []) u.keys u.indents u.indent u.flow u.adjacent_value_at
-directive_fares pieces text more t u e col b x is =
+directive_fares text more t u e col b x is =
     let a : Account = account_of t.held.place b.indent b.indents t.held.flow b.stands.before in
     let at_place : directive (37 ∷ more) t.held.place ≡ Ok x = ap (λ r. directive r t.held.place) (sym e) ∙ ap (λ (h : Held). directive t.rest h.place) (sym b.is_held) ∙ is in
     let clean : has_no_nul more ≡ true = clean_of text t.rest t.held.place b.tokens t.held.keys b.indents b.indent t.held.flow t.held.adjacent_value_at 37 more e b.stands in
-    let r = pieces.directive a more x clean col (closed_account t.held.place b.indent b.indents t.held.flow b.stands.before b.closed) at_place in
+    let r = directive_is_read a more x clean col (closed_account t.held.place b.indent b.indents t.held.flow b.stands.before b.closed) at_place in
     let k = directive_is x.value r.1 in
     subst (λ (h : Held). Fares text x.rest x.place (h.tokens ++ token t.held.place x.value ∷ []) h.keys h.indents h.indent h.flow h.adjacent_value_at) (sym b.is_held)
     (margin_fares text t.rest t.held.place b.tokens t.held.keys b.indents b.indent t.held.flow t.held.adjacent_value_at b.stands col x.value x.rest x.place
     (subst (λ l. ReadAs a l x.value t.held.place x.rest x.place) (sym e) r.0) (k.0 (columns b.indent b.indents)) (k.1 (levels_of t.held.flow) r.0.first r.0.more) k.2)
 
-pub directive_fetched : PiecesAreRead → (text more : List ℕ) (t : State) → t.rest ≡ 37 ∷ more → t.held.place.col ≡ 0 → Stands text t → Holds (Stands text) (fetch_directive t)
+pub directive_fetched : (text more : List ℕ) (t : State) → t.rest ≡ 37 ∷ more → t.held.place.col ≡ 0 → Stands text t → Holds (Stands text) (fetch_directive t)
 unfolding fetch_directive
-directive_fetched pieces text more t e col s =
+directive_fetched text more t e col s =
     chained {P = λ u. (u.rest ≡ t.rest) × Begun text t u.held} (tried t (begin_line t.held) (line_begun text t col s) (λ h b. (refl, b))) (λ u b.
-    read u.held (directive u.rest u.held.place) (directive_pushed t) (λ x is. went (directive_fares pieces text more t u.held e col b.1 x (ap (λ r. directive r u.held.place) (sym b.0) ∙ is))))
+    read u.held (directive u.rest u.held.place) (directive_pushed t) (λ x is. went (directive_fares text more t u.held e col b.1 x (ap (λ r. directive r u.held.place) (sym b.0) ∙ is))))
 
 -- ---- document markers
 

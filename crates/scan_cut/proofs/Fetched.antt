@@ -24,7 +24,6 @@ use Rattle.scan_model.proofs.Walk as walk
 use Rattle.scalar_laws.proofs.Bridges.{same_gap}
 use Rattle.scan_scalars.specs.PlainEnds.{has_no_nul}
 use Rattle.scan_scalars.specs.Fillers.{begins_filler}
-use Rattle.scan_cut.specs.PiecesRead.{PiecesAreRead}
 use Rattle.scan_cut.specs.Here.{AreOpen}
 use Rattle.scan_cut.specs.Stands.{columns, Stood, Stands}
 use Rattle.scan_cut.proofs.Opens.{open_given_up}
@@ -191,27 +190,27 @@ pub record Here (text : List ℕ) (t : State) : Type 0 where
 pub is_deep : (col indent : ℕ) → nat_lt (col + 1) indent ≡ false → indent ≤ col + 1
 is_deep col indent h = grind (arith, nat_tests)
 
-indented_fetched : PiecesAreRead → (text : List ℕ) (t : State) → is_nil t.rest ≡ false → Here text t → ((t.held.place.col == 0) && is_document_marker t.rest) ≡ false → Holds (Stands text) (fetch_indented t)
+indented_fetched : (text : List ℕ) (t : State) → is_nil t.rest ≡ false → Here text t → ((t.held.place.col == 0) && is_document_marker t.rest) ≡ false → Holds (Stands text) (fetch_indented t)
 unfolding fetch_indented
-indented_fetched n text t some h none =
+indented_fetched text t some h none =
     checked (nat_lt (t.held.place.col + 1) t.held.indent) (At problem.InvalidIndentation t.held.place) (λ e.
-    token_fetched n text t (record { stands = h.stands; some = some; solid = h.solid; near = h.near }) (is_deep t.held.place.col t.held.indent e) none)
+    token_fetched text t (record { stands = h.stands; some = some; solid = h.solid; near = h.near }) (is_deep t.held.place.col t.held.indent e) none)
 
-first_fetched : PiecesAreRead → (text : List ℕ) (t : State) → is_nil t.rest ≡ false → Here text t → t.held.place.col ≡ 0 → Holds (Stands text) (fetch_first_column t)
+first_fetched : (text : List ℕ) (t : State) → is_nil t.rest ≡ false → Here text t → t.held.place.col ≡ 0 → Holds (Stands text) (fetch_first_column t)
 unfolding fetch_first_column
-first_fetched n text t some h col =
-    either (peek t.rest == 37) (λ e. directive_fetched n text (behind t.rest) t (begins_with_this t.rest 37 some e) col h.stands) (λ _.
+first_fetched text t some h col =
+    either (peek t.rest == 37) (λ e. directive_fetched text (behind t.rest) t (begins_with_this t.rest 37 some e) col h.stands) (λ _.
     either (comes_marker 45 t.rest) (λ e. let m : Marked 45 t.rest = marked 45 t.rest refl e in start_marked text m.more t m.is_text m.gap col h.stands) (λ a.
     either (comes_marker 46 t.rest) (λ e. let m : Marked 46 t.rest = marked 46 t.rest refl e in document_ended text m.more t m.is_text m.gap col h.stands) (λ b.
-    indented_fetched n text t some h (by (t.held.place.col == 0) (no_marker t.rest a b)))))
+    indented_fetched text t some h (by (t.held.place.col == 0) (no_marker t.rest a b)))))
   where
     by : (b : Bool) → is_document_marker t.rest ≡ false → (b && is_document_marker t.rest) ≡ false
     by true e = e
     by false e = refl
 
-content_fetched : PiecesAreRead → (text : List ℕ) (t : State) → is_nil t.rest ≡ false → Here text t → Holds (Stands text) (fetch_content t)
+content_fetched : (text : List ℕ) (t : State) → is_nil t.rest ≡ false → Here text t → Holds (Stands text) (fetch_content t)
 unfolding fetch_content
-content_fetched n text t some h = either (t.held.place.col == 0) (λ e. first_fetched n text t some h (eqb-true t.held.place.col 0 e)) (λ e. indented_fetched n text t some h (rw e refl))
+content_fetched text t some h = either (t.held.place.col == 0) (λ e. first_fetched text t some h (eqb-true t.held.place.col 0 e)) (λ e. indented_fetched text t some h (rw e refl))
 
 fared : (text : List ℕ) (r : Result State Fault) → Holds (Stands text) r → Holds (walk.StandsAt started) r → Holds (Fared text) r
 fared text r a b = weakened (λ u s. goes s.0 s.1) (both_hold a b)
@@ -225,11 +224,11 @@ pub goes_on_here : (r : List ℕ) → (peek r == 0) ≡ false → is_nil r ≡ f
 goes_on_here [] h = absurd (cc h)
 goes_on_here (c ∷ r) h = refl
 
-here_fetched : PiecesAreRead → (text : List ℕ) → has_no_nul text ≡ true → (t : State) → Here text t → Holds (Fared text) (fetch_here t)
+here_fetched : (text : List ℕ) → has_no_nul text ≡ true → (t : State) → Here text t → Holds (Fared text) (fetch_here t)
 unfolding fetch_here
-here_fetched n text nul t h =
+here_fetched text nul t h =
     either (peek t.rest == 0) (λ e. weakened (λ u s. over s.0 s.1) (stream_ended text t nul (no_end t.rest h.stands.stood.here.is_clean e) h.stands)) (λ e.
-    fared text (fetch_content t) (content_fetched n text t (goes_on_here t.rest e) h) (walk.content_fetched started started_is_kept t h.under_way))
+    fared text (fetch_content t) (content_fetched text t (goes_on_here t.rest e) h) (walk.content_fetched started started_is_kept t h.under_way))
 
 keys_only : (s : Held) → Holds (λ h. h ≡ record s { keys = h.keys }) (stale s)
 unfolding stale
@@ -258,19 +257,19 @@ here_now text u v solid e f g =
       near = subst (λ h. is_nil h.flow ≡ true → AreNear h.place h.keys) (sym now.is_held) near;
     }
 
-next_fetched : PiecesAreRead → (text : List ℕ) → has_no_nul text ≡ true → (t : State) → Stands text t → walk.Stands started t.held → Holds (Fared text) (fetch_next t)
+next_fetched : (text : List ℕ) → has_no_nul text ≡ true → (t : State) → Stands text t → walk.Stands started t.held → Holds (Fared text) (fetch_next t)
 unfolding fetch_next
-next_fetched n text nul t s g =
+next_fetched text nul t s g =
     chained (both_hold (to_token t) (walk.to_token started started_is_kept t g)) (λ u a.
     chained {P = λ v. (v ≡ record u { held = v.held }) × Fresh text u v.held × walk.Stands started v.held}
     (tried u (stale u.held) (both_hold (stale_stands text u (passed_stands text t u a.0.passed s)) (walk.stale_dropped started started_is_kept u.held a.1)) (λ h d. (refl, d.0, d.1))) (λ v d.
-    chained (here_fetched n text nul (on_held (λ h. unroll_indent (h.place.col + 1) h) v) (here_now text u v a.0.solid d.0 d.1 d.2)) (λ w f.
+    chained (here_fetched text nul (on_held (λ h. unroll_indent (h.place.col + 1) h) v) (here_now text u v a.0.solid d.0 d.1 d.2)) (λ w f.
     fared_stale text w f)))
 
 -- A fetch of a state that goes on.
-pub fetched : PiecesAreRead → (text : List ℕ) → has_no_nul text ≡ true → (t : State) → Stands text t → walk.Stands started t.held → Holds (Fared text) (fetch t)
+pub fetched : (text : List ℕ) → has_no_nul text ≡ true → (t : State) → Stands text t → walk.Stands started t.held → Holds (Fared text) (fetch t)
 unfolding fetch
-fetched n text nul t s g = either t.held.started (λ _. next_fetched n text nul t s g) (λ e. absurd (cc (e, g.stood.tokens)))
+fetched text nul t s g = either t.held.started (λ _. next_fetched text nul t s g) (λ e. absurd (cc (e, g.stood.tokens)))
 
 -- ---- runs
 
@@ -282,22 +281,22 @@ pub data Came (text : List ℕ) (u : State) : Type 0 where
 ok_same : {x y : State} → ◌≡◌ {A = Result State Fault} (Ok x) (Ok y) → x ≡ y
 ok_same k = cc
 
-came_on : PiecesAreRead → (text : List ℕ) → has_no_nul text ≡ true → (t u : State) → Came text t → t.held.ended ≡ false → fetch t ≡ Ok u → Came text u
+came_on : (text : List ℕ) → has_no_nul text ≡ true → (t u : State) → Came text t → t.held.ended ≡ false → fetch t ≡ Ok u → Came text u
 unfolding fetch fetch_stream_start
-came_on n text nul t u (starts e) going_on f = fares (goes (subst (λ y. Stands text y) same (stream_begun text nul)) (subst (λ y. walk.Stands started y.held) same (record { stood = record { tokens = refl; keys = (tt, tt); going = refl } })))
+came_on text nul t u (starts e) going_on f = fares (goes (subst (λ y. Stands text y) same (stream_begun text nul)) (subst (λ y. walk.Stands started y.held) same (record { stood = record { tokens = refl; keys = (tt, tt); going = refl } })))
   where
     same : fetch_stream_start (start text) ≡ u
     same = ok_same (subst (λ y. fetch y ≡ Ok u) e f)
-came_on n text nul t u (fares (goes s g)) going_on f = fares (held_of u (fetched n text nul t s g) f)
-came_on n text nul t u (fares (over c e)) going_on f = absurd (cc (e, going_on))
+came_on text nul t u (fares (goes s g)) going_on f = fares (held_of u (fetched text nul t s g) f)
+came_on text nul t u (fares (over c e)) going_on f = absurd (cc (e, going_on))
 
-pub came : PiecesAreRead → (text : List ℕ) → has_no_nul text ≡ true → (t u : State) → Reaches t u → Came text t → Came text u
-came n text nul t u here c = c
-came n text nul t u (there {u = v} e f run) c = came n text nul v u run (came_on n text nul t v c e f)
+pub came : (text : List ℕ) → has_no_nul text ≡ true → (t u : State) → Reaches t u → Came text t → Came text u
+came text nul t u here c = c
+came text nul t u (there {u = v} e f run) c = came text nul v u run (came_on text nul t v c e f)
 
 -- The tokens that the model gives for a text are a cut of it.
-pub tokens_are_cut : PiecesAreRead → (text : List ℕ) (ts : List Token) → has_no_nul text ≡ true → HasTokens text ts → IsCut ts text
-tokens_are_cut n text ts nul h = subst (λ x. IsCut x text) h.tokens (by (came n text nul (start text) h.end h.run (starts refl)))
+pub tokens_are_cut : (text : List ℕ) (ts : List Token) → has_no_nul text ≡ true → HasTokens text ts → IsCut ts text
+tokens_are_cut text ts nul h = subst (λ x. IsCut x text) h.tokens (by (came text nul (start text) h.end h.run (starts refl)))
   where
     by : Came text h.end → IsCut h.end.held.tokens text
     by (starts e) = absurd (cc (ap (λ y. y.held.ended) e, h.ended))

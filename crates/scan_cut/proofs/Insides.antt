@@ -47,58 +47,32 @@ steps_of ns p block_mapping_start ms e = no_some e
 steps_of ns p block_end ms e = no_some e
 steps_of ns p block_entry ms e = no_some e
 
--- what is open outside stays
-framed : (ns : List Level) (p : List ℕ) (t : Tok) (ms os : List Level) → Steps ns p t ms → step_inside (ns ++ os) p t ≡ Some (ms ++ os)
-framed ns p t ms os (opens_sequence us v) = refl
-framed ns p t ms os (opens_mapping us x v) = refl
-framed ns p t ms os (opens_pair m us) = refl
-framed ns p t ms os (closes_sequence m us v) = refl
-framed ns p t ms os (closes_mapping m us x v) = refl
-framed ns p t ms os (closes_pair m us) = refl
-framed ns p t ms os (separates m us v) = refl
-framed ns p t ms os (is_key us v) = refl
-framed ns p t ms os (is_value us v) = refl
-framed ns p t ms os (is_alias us v x) = refl
-framed ns p t ms os (is_anchor us v x) = refl
-framed ns p t ms os (is_tag us v h x) = refl
-framed ns p t ms os (is_plain us v x) = refl
-framed ns p t ms os (is_single_quoted us v x) = refl
-framed ns p t ms os (is_double_quoted us v x) = refl
+-- what a step does where more is open outside: that stays
+record Framed (ns : List Level) (p : List ℕ) (t : Tok) (ms os : List Level) : Type 0 where
+  is_step : step_inside (ns ++ os) p t ≡ Some (ms ++ os)
+  are_levels : levels_past (ns ++ os) p t ≡ ms ++ os
+  of_key : is_of_key t ≡ true
+
+framed : (ns : List Level) (p : List ℕ) (t : Tok) (ms os : List Level) → Steps ns p t ms → Framed ns p t ms os
+framed ns p t ms os (opens_sequence us v) = record { is_step = refl; are_levels = refl; of_key = refl }
+framed ns p t ms os (opens_mapping us x v) = record { is_step = refl; are_levels = refl; of_key = refl }
+framed ns p t ms os (opens_pair m us) = record { is_step = refl; are_levels = refl; of_key = refl }
+framed ns p t ms os (closes_sequence m us v) = record { is_step = refl; are_levels = refl; of_key = refl }
+framed ns p t ms os (closes_mapping m us x v) = record { is_step = refl; are_levels = refl; of_key = refl }
+framed ns p t ms os (closes_pair m us) = record { is_step = refl; are_levels = refl; of_key = refl }
+framed ns p t ms os (separates m us v) = record { is_step = refl; are_levels = refl; of_key = refl }
+framed ns p t ms os (is_key us v) = record { is_step = refl; are_levels = refl; of_key = refl }
+framed ns p t ms os (is_value us v) = record { is_step = refl; are_levels = refl; of_key = refl }
+framed ns p t ms os (is_alias us v x) = record { is_step = refl; are_levels = refl; of_key = refl }
+framed ns p t ms os (is_anchor us v x) = record { is_step = refl; are_levels = refl; of_key = refl }
+framed ns p t ms os (is_tag us v h x) = record { is_step = refl; are_levels = refl; of_key = refl }
+framed ns p t ms os (is_plain us v x) = record { is_step = refl; are_levels = refl; of_key = refl }
+framed ns p t ms os (is_single_quoted us v x) = record { is_step = refl; are_levels = refl; of_key = refl }
+framed ns p t ms os (is_double_quoted us v x) = record { is_step = refl; are_levels = refl; of_key = refl }
 
 -- the account's levels go the same way
 pub levels_step : (ns : List Level) (p : List ℕ) (t : Tok) (ms os : List Level) → Steps ns p t ms → levels_past (ns ++ os) p t ≡ ms ++ os
-levels_step ns p t ms os (opens_sequence us v) = refl
-levels_step ns p t ms os (opens_mapping us x v) = refl
-levels_step ns p t ms os (opens_pair m us) = refl
-levels_step ns p t ms os (closes_sequence m us v) = refl
-levels_step ns p t ms os (closes_mapping m us x v) = refl
-levels_step ns p t ms os (closes_pair m us) = refl
-levels_step ns p t ms os (separates m us v) = refl
-levels_step ns p t ms os (is_key us v) = refl
-levels_step ns p t ms os (is_value us v) = refl
-levels_step ns p t ms os (is_alias us v x) = refl
-levels_step ns p t ms os (is_anchor us v x) = refl
-levels_step ns p t ms os (is_tag us v h x) = refl
-levels_step ns p t ms os (is_plain us v x) = refl
-levels_step ns p t ms os (is_single_quoted us v x) = refl
-levels_step ns p t ms os (is_double_quoted us v x) = refl
-
-of_key : (ns : List Level) (p : List ℕ) (t : Tok) (ms : List Level) → Steps ns p t ms → is_of_key t ≡ true
-of_key ns p t ms (opens_sequence us v) = refl
-of_key ns p t ms (opens_mapping us x v) = refl
-of_key ns p t ms (opens_pair m us) = refl
-of_key ns p t ms (closes_sequence m us v) = refl
-of_key ns p t ms (closes_mapping m us x v) = refl
-of_key ns p t ms (closes_pair m us) = refl
-of_key ns p t ms (separates m us v) = refl
-of_key ns p t ms (is_key us v) = refl
-of_key ns p t ms (is_value us v) = refl
-of_key ns p t ms (is_alias us v x) = refl
-of_key ns p t ms (is_anchor us v x) = refl
-of_key ns p t ms (is_tag us v h x) = refl
-of_key ns p t ms (is_plain us v x) = refl
-of_key ns p t ms (is_single_quoted us v x) = refl
-of_key ns p t ms (is_double_quoted us v x) = refl
+levels_step ns p t ms os s = (framed ns p t ms os s).are_levels
 
 -- ---- rows
 
@@ -120,7 +94,7 @@ pub inside_framed : (ns : List Level) (ws : List Written) (ms os : List Level) �
 inside_framed ns [] ms os e = ap (λ ks. Some (ks ++ os)) (some_same e)
 inside_framed ns (w ∷ ws) ms os e =
     let s : Stepped ns w ws ms = stepped ns w ws ms e in
-    ap (λ o. levels_then o (λ ks. inside ks ws)) (framed ns w.piece w.token.tok s.next os s.step) ∙ inside_framed s.next ws ms os s.others
+    ap (λ o. levels_then o (λ ks. inside ks ws)) (framed ns w.piece w.token.tok s.next os s.step).is_step ∙ inside_framed s.next ws ms os s.others
 
 pub inside_both : (ns : List Level) (ws vs : List Written) (ms : List Level) → inside ns ws ≡ Some ms → inside ns (ws ++ vs) ≡ inside ms vs
 inside_both ns [] vs ms e = ap (λ ks. inside ks vs) (some_same e)
@@ -137,4 +111,4 @@ stays_inside ns (w ∷ ws) ms e =
 pub first_of_key : (ns : List Level) (w : Written) (ws : List Written) (ms : List Level) → inside ns (w ∷ ws) ≡ Some ms → is_of_key w.token.tok ≡ true
 first_of_key ns w ws ms e =
     let s : Stepped ns w ws ms = stepped ns w ws ms e in
-    of_key ns w.piece w.token.tok s.next s.step
+    (framed ns w.piece w.token.tok s.next [] s.step).of_key

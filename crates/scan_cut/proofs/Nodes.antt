@@ -24,9 +24,12 @@ use Rattle.scan_model.specs.Document.{anchor_token, unled, node_start, fetch_anc
 use Rattle.scan_model.proofs.Holds.{Holds, went, read}
 use Rattle.scan_scalars.specs.Fillers.{begins_filler}
 use Rattle.scan_scalars.specs.PlainEnds.{has_no_nul}
-use Rattle.scan_cut.specs.PiecesRead.{ReadAs, PiecesAreRead, comes_plain}
+use Rattle.scan_cut.specs.PiecesRead.{ReadAs, comes_plain}
 use Rattle.scan_cut.specs.Inside.{step_inside, levels_then}
 use Rattle.scan_cut.specs.Stands.{columns, levels_of, account_of, IsAdjacent, Stood, Fares, Stands}
+use Rattle.scan_cut.proofs.PieceNames.{name_is_read}
+use Rattle.scan_cut.proofs.PiecePlains.{plain_is_read}
+use Rattle.scan_cut.proofs.PieceTags.{tag_is_read}
 use Rattle.scan_cut.proofs.Places.{index_behind}
 use Rattle.scan_cut.proofs.Heres.{led}
 use Rattle.scan_cut.proofs.Pushed.{with_piece}
@@ -128,9 +131,9 @@ neutral_fares text t s deep tok at rest2 end r n none =
 pub clean_more : (text : List ℕ) (t : State) (c : ℕ) (more : List ℕ) → t.rest ≡ c ∷ more → Stands text t → has_no_nul more ≡ true
 clean_more text t c more e s = (and_parts (not (is_nul c)) (has_no_nul more) (rw e at s.stood.here.is_clean)).1
 
-name_fares : PiecesAreRead → (text : List ℕ) (alias : Bool) (t : State) (more : List ℕ) → t.rest ≡ (if alias then 42 else 38) ∷ more → Stands text t → IsDeep t.held → (x : Read (List ℕ)) → anchor_name t.rest t.held.place ≡ Ok x →
+name_fares : (text : List ℕ) (alias : Bool) (t : State) (more : List ℕ) → t.rest ≡ (if alias then 42 else 38) ∷ more → Stands text t → IsDeep t.held → (x : Read (List ℕ)) → anchor_name t.rest t.held.place ≡ Ok x →
     Fares text x.rest x.place (t.held.tokens ++ token t.held.place (anchor_token alias x.value) ∷ []) (saved_keys t.held) t.held.indents t.held.indent t.held.flow t.held.adjacent_value_at
-name_fares n text alias t more e s deep x k = by alias (subst (λ r. ReadAs a r (anchor_token alias x.value) t.held.place x.rest x.place) (sym e) (n.name a alias more x (clean_more text t _ more e s) (subst (λ r. anchor_name r t.held.place ≡ Ok x) e k)))
+name_fares text alias t more e s deep x k = by alias (subst (λ r. ReadAs a r (anchor_token alias x.value) t.held.place x.rest x.place) (sym e) (name_is_read a alias more x (clean_more text t _ more e s) (subst (λ r. anchor_name r t.held.place ≡ Ok x) e k)))
   where
     a : Account
     a = account_now text t s
@@ -140,22 +143,22 @@ name_fares n text alias t more e s deep x k = by alias (subst (λ r. ReadAs a r 
     by true r = neutral_fares text t s deep (Tok.alias x.value) t.held.place x.rest x.place r (neutral_alias x.value) refl
     by false r = neutral_fares text t s deep (Tok.anchor x.value) t.held.place x.rest x.place r (neutral_anchor x.value) refl
 
-pub anchor_fetched : PiecesAreRead → (text : List ℕ) (alias : Bool) (t : State) (more : List ℕ) → t.rest ≡ (if alias then 42 else 38) ∷ more → Stands text t → IsDeep t.held → Holds (Stands text) (fetch_anchor alias t)
+pub anchor_fetched : (text : List ℕ) (alias : Bool) (t : State) (more : List ℕ) → t.rest ≡ (if alias then 42 else 38) ∷ more → Stands text t → IsDeep t.held → Holds (Stands text) (fetch_anchor alias t)
 unfolding fetch_anchor
-anchor_fetched n text alias t more e s deep = read (node_start t.held) (anchor_name t.rest t.held.place) _ (λ x k.
-    went (subst (λ h. Stands text (on_held (λ u. push t.held.place (anchor_token alias x.value) (unled u)) (go_on x (allow_key false h)))) (sym (saved_is t.held)) (name_fares n text alias t more e s deep x k)))
+anchor_fetched text alias t more e s deep = read (node_start t.held) (anchor_name t.rest t.held.place) _ (λ x k.
+    went (subst (λ h. Stands text (on_held (λ u. push t.held.place (anchor_token alias x.value) (unled u)) (go_on x (allow_key false h)))) (sym (saved_is t.held)) (name_fares text alias t more e s deep x k)))
 
 pub same_flow : (fs : List FlowLevel) → not (is_empty (levels_of fs)) ≡ not (is_nil fs)
 same_flow [] = refl
 same_flow (f ∷ fs) = refl
 
-pub tag_fetched : PiecesAreRead → (text : List ℕ) (t : State) (more : List ℕ) → t.rest ≡ 33 ∷ more → Stands text t → IsDeep t.held → Holds (Stands text) (fetch_tag t)
+pub tag_fetched : (text : List ℕ) (t : State) (more : List ℕ) → t.rest ≡ 33 ∷ more → Stands text t → IsDeep t.held → Holds (Stands text) (fetch_tag t)
 unfolding fetch_tag
-tag_fetched n text t more e s deep = read (node_start t.held) (tags.tag (in_flow t.held) t.rest t.held.place) _ (λ x k.
+tag_fetched text t more e s deep = read (node_start t.held) (tags.tag (in_flow t.held) t.rest t.held.place) _ (λ x k.
     let a : Account = account_now text t s in
     let r : ReadAs a t.rest (Tok.tag x.value.handle x.value.suffix) t.held.place x.rest x.place =
     subst (λ r. ReadAs a r (Tok.tag x.value.handle x.value.suffix) t.held.place x.rest x.place) (sym e)
-    (n.tag a (in_flow t.held) more x (clean_more text t 33 more e s) (same_flow t.held.flow) (subst (λ r. tags.tag (in_flow t.held) r t.held.place ≡ Ok x) e k)) in
+    (tag_is_read a (in_flow t.held) more x (clean_more text t 33 more e s) (same_flow t.held.flow) (subst (λ r. tags.tag (in_flow t.held) r t.held.place ≡ Ok x) e k)) in
     went (subst (λ h. Stands text (on_held (λ u. push t.held.place (Tok.tag x.value.handle x.value.suffix) (unled u)) (go_on x (allow_key false h)))) (sym (saved_is t.held))
     (neutral_fares text t s deep (Tok.tag x.value.handle x.value.suffix) t.held.place x.rest x.place r (neutral_tag x.value.handle x.value.suffix) refl)))
 
@@ -181,10 +184,10 @@ gone_stood text rest h keys before s =
 abbrev plain_context : Held → Context
 plain_context h = record { flow = in_flow h; indent = (levels_gone h).indent }
 
-plain_fares : PiecesAreRead → (text : List ℕ) (t : State) (s : Stands text t) → IsDeep t.held → comes_plain (in_flow t.held) (is_adjacent s.before) t.held.place.col t.rest ≡ true → (x : Read plains.Plain) → plains.plain (plain_context t.held) t.rest t.held.place ≡ Ok x →
+plain_fares : (text : List ℕ) (t : State) (s : Stands text t) → IsDeep t.held → comes_plain (in_flow t.held) (is_adjacent s.before) t.held.place.col t.rest ≡ true → (x : Read plains.Plain) → plains.plain (plain_context t.held) t.rest t.held.place ≡ Ok x →
     Fares text x.rest x.place ((levels_gone t.held).tokens ++ token t.held.place (Tok.scalar Style.plain x.value.text) ∷ []) (saved_keys t.held) (levels_gone t.held).indents (levels_gone t.held).indent t.held.flow t.held.adjacent_value_at
 unfolding levels_gone
-plain_fares n text t s deep comes x k =
+plain_fares text t s deep comes x k =
     let u : Levels = without_open t.held.indent t.held.indents t.held.tokens in
     let w : WithoutOpen t.held.indent t.held.indents t.held.tokens u = without_is t.held.indent t.held.indents t.held.tokens s.stood.are_levels in
     let tok : Tok = Tok.scalar Style.plain x.value.text in
@@ -192,16 +195,16 @@ plain_fares n text t s deep comes x k =
     let a : Account = account_of t.held.place u.indent u.indents t.held.flow s.before in
     let deep2 : u.indent ≤ t.held.place.col + 1 = omega (arith, deep, w.not_deeper) in
     let r : ReadAs a t.rest tok t.held.place x.rest x.place =
-    n.plain a (plain_context t.held) t.rest x s.stood.here.is_clean (same_flow t.held.flow) w.is_collection comes (less_or (in_flow t.held) u.indent t.held.place.col (omega (arith, deep2))) k in
+    plain_is_read a (plain_context t.held) t.rest x s.stood.here.is_clean (same_flow t.held.flow) w.is_collection comes (less_or (in_flow t.held) u.indent t.held.place.col (omega (arith, deep2))) k in
     let m : IsNeutral tok = neutral_plain x.value.text in
     subst (λ ts. Fares text x.rest x.place (ts ++ token t.held.place tok ∷ []) (saved_keys t.held) u.indents u.indent t.held.flow t.held.adjacent_value_at) (sym w.same_tokens)
     (node_fares text t.rest t.held.place t.held.tokens t.held.keys u.indents u.indent t.held.flow s.before t.held.adjacent_value_at v s.was_adjacent tok t.held.place x.rest x.place r
     m.node deep2 (m.blocks (columns u.indent u.indents)) (m.levels (levels_of t.held.flow) r.first r.more) refl
     (opens_none t.held.place x.place x.rest v.here.filler (r.first ∷ r.more) t.held.place tok (λ ns. m.steps ns r.first r.more)) t.held.key_allowed (must_be_key t.held))
 
-pub plain_fetched : PiecesAreRead → (text : List ℕ) (t : State) (s : Stands text t) → IsDeep t.held → comes_plain (in_flow t.held) (is_adjacent s.before) t.held.place.col t.rest ≡ true → Holds (Stands text) (fetch_plain_scalar t)
+pub plain_fetched : (text : List ℕ) (t : State) (s : Stands text t) → IsDeep t.held → comes_plain (in_flow t.held) (is_adjacent s.before) t.held.place.col t.rest ≡ true → Holds (Stands text) (fetch_plain_scalar t)
 unfolding fetch_plain_scalar unroll_non_block_indents levels_gone
-plain_fetched n text t s deep comes =
+plain_fetched text t s deep comes =
     subst (λ h. Holds (Stands text) (lexed (plains.plain (context (unroll_non_block_indents (allow_key false h))) t.rest t.held.place) (unroll_non_block_indents (allow_key false h))
     (λ r u. Ok (on_held (λ v. push t.held.place (Tok.scalar Style.plain r.text) (behind_plain r.leading v)) u)))) (sym (saved_is t.held))
-    (read (unroll_non_block_indents (allow_key false (record t.held { keys = saved_keys t.held }))) (plains.plain (plain_context t.held) t.rest t.held.place) _ (λ x k. went (plain_fares n text t s deep comes x k)))
+    (read (unroll_non_block_indents (allow_key false (record t.held { keys = saved_keys t.held }))) (plains.plain (plain_context t.held) t.rest t.held.place) _ (λ x k. went (plain_fares text t s deep comes x k)))

@@ -8,7 +8,7 @@ use Rattle.cut_defs.proofs.Append.{spelled_append}
 use Rattle.scan_model.specs.State.{Key, with_top}
 use Rattle.scan_cut.specs.Order.{NotBefore, Behind}
 use Rattle.scan_cut.specs.Inside.{inside}
-use Rattle.scan_cut.specs.Here.{IsLive, IsInside, AreOpen}
+use Rattle.scan_cut.specs.Here.{IsLive, IsInside, IsOpen, AreOpen}
 use Rattle.scan_cut.proofs.Places.{behind_then}
 use Rattle.scan_cut.proofs.Insides.{inside_framed, inside_both}
 
@@ -67,6 +67,31 @@ account_by before own next = account_at (account_past_row first_account before (
 abbrev outer_open : Key → (before : List Written) → Written → Option ℕ → List (Option Key) → (next : List ℕ) → Type 0
 outer_open k before own column ks next = AreOpen 1 before (own.filler ++ (own.piece ++ next)) k.place (own.piece ++ next) column ks
 
+-- the text behind a row that goes on
+pub spelled_more : (ws vs : List Written) (behind behind2 : List ℕ) → behind ≡ spelled vs behind2 → spelled ws behind ≡ spelled (ws ++ vs) behind2
+spelled_more ws vs behind behind2 cut = ap (λ t. spelled ws t) cut ∙ sym (spelled_append ws vs behind2)
+
+-- an open key, as its row and its place go on
+abbrev pub is_open_more : (k : Key) (i j : ℕ) (row vs : List Written) (behind behind2 : List ℕ) (p q : Place) (rest rest2 : List ℕ) (column column2 : Option ℕ) → behind ≡ spelled vs behind2 → Behind k.place q →
+    (o : IsOpen k i row behind p rest column) → (IsLive k q rest2 → IsInside k j (o.own ∷ (o.after ++ vs)) column2) → IsOpen k j (row ++ vs) behind2 q rest2 column2
+is_open_more k i j row vs behind behind2 p q rest rest2 column column2 cut earlier o lives =
+    let own : Written = o.own in
+    let next : spelled o.after behind ≡ spelled (o.after ++ vs) behind2 = spelled_more o.after vs behind behind2 cut in
+    record {
+      before = o.before;
+      own = own;
+      after = o.after ++ vs;
+      is_split = ap (λ r. r ++ vs) o.is_split ∙ append_assoc o.before (own ∷ o.after) vs;
+      number_is = o.number_is;
+      is_node = o.is_node;
+      is_solid = o.is_solid;
+      is_free = λ last. subst (λ t. IsRow first_account o.before (own.filler ++ (own.piece ++ t)) last) next (o.is_free last);
+      is_settled = λ n. subst (λ t. let bs : List (Option ℕ) = (account_past_row first_account o.before (own.filler ++ (own.piece ++ t))).blocks in settled n bs ≡ bs) next (o.is_settled n);
+      place_is = o.place_is ∙ ap (λ t. (account_by o.before own t).place) next;
+      is_earlier = earlier;
+      live = lives;
+    }
+
 pub open_more : (i j : ℕ) (row vs : List Written) (behind behind2 : List ℕ) (p q : Place) (rest rest2 : List ℕ) (column : Option ℕ) (ks : List (Option Key)) → behind ≡ spelled vs behind2 → NotBefore p q → GoesOn rest2 rest →
     Leads i j p q rest2 vs → AreOpen i row behind p rest column ks → AreOpen j (row ++ vs) behind2 q rest2 column ks
 open_more i j row vs behind behind2 p q rest rest2 column [] cut n g l o = tt
@@ -74,26 +99,12 @@ open_more i j row vs behind behind2 p q rest rest2 column (None ∷ ks) cut n g 
     open_more (suc i) (suc j) row vs behind behind2 p q rest rest2 column ks cut n g (leads_outer i j p q rest2 vs l) o
 open_more i j row vs behind behind2 p q rest rest2 column (Some k ∷ ks) cut n g l o =
     let own : Written = o.0.own in
-    let next : spelled o.0.after behind ≡ spelled (o.0.after ++ vs) behind2 = ap (λ t. spelled o.0.after t) cut ∙ sym (spelled_append o.0.after vs behind2) in
     let lives : IsLive k q rest2 → IsInside k j (own ∷ (o.0.after ++ vs)) column = λ v.
     let a : IsInside k i (own ∷ o.0.after) column = o.0.live (live_before k p q rest rest2 n g v) in
     let b : Goes a.levels vs (j + 0) = l k 0 a.levels o.0.is_earlier v (omega (arith, a.many)) in
     record { levels = b.levels; is_inside = inside_both [] (own ∷ o.0.after) vs a.levels a.is_inside ∙ b.is_inside; many = omega (arith, b.are_many); column_is = a.column_is } in (
-      record {
-        before = o.0.before;
-        own = own;
-        after = o.0.after ++ vs;
-        is_split = ap (λ r. r ++ vs) o.0.is_split ∙ append_assoc o.0.before (own ∷ o.0.after) vs;
-        number_is = o.0.number_is;
-        is_node = o.0.is_node;
-        is_solid = o.0.is_solid;
-        is_free = λ last. subst (λ t. IsRow first_account o.0.before (own.filler ++ (own.piece ++ t)) last) next (o.0.is_free last);
-        is_settled = λ n. subst (λ t. let bs : List (Option ℕ) = (account_past_row first_account o.0.before (own.filler ++ (own.piece ++ t))).blocks in settled n bs ≡ bs) next (o.0.is_settled n);
-        place_is = o.0.place_is ∙ ap (λ t. (account_by o.0.before own t).place) next;
-        is_earlier = behind_then k.place p q o.0.is_earlier n;
-        live = lives;
-      },
-      subst (outer_open k o.0.before own column ks) next o.1,
+      is_open_more k i j row vs behind behind2 p q rest rest2 column column cut (behind_then k.place p q o.0.is_earlier n) o.0 lives,
+      subst (outer_open k o.0.before own column ks) (spelled_more o.0.after vs behind behind2 cut) o.1,
     )
 
 -- ---- keys that are given up

@@ -22,8 +22,10 @@ use Rattle.scan_model.specs.Flow.{allow_key}
 use Rattle.scan_model.specs.Document.{unled, context, quoted_style, block_style, check_behind_quoted, adjacent_here, fetch_flow_scalar, fetch_block_scalar}
 use Rattle.scan_model.proofs.Holds.{Holds, went, refused, read, chained, choice}
 use Rattle.scan_scalars.specs.Fillers.{begins_filler}
-use Rattle.scan_cut.specs.PiecesRead.{ReadAs, PiecesAreRead}
+use Rattle.scan_cut.specs.PiecesRead.{ReadAs}
 use Rattle.scan_cut.specs.Stands.{columns, levels_of, account_of, IsAdjacent, Stood, Fares, Stands}
+use Rattle.scan_cut.proofs.PieceBlocks.{block_is_read}
+use Rattle.scan_cut.proofs.PieceQuoteds.{quoted_is_read}
 use Rattle.scan_cut.proofs.Heres.{led}
 use Rattle.scan_cut.proofs.Pushed.{with_piece}
 use Rattle.scan_cut.proofs.Saved.{Opens, saved_keys, saved_is}
@@ -56,14 +58,14 @@ quoted_opens : (single : Bool) (x : List ℕ) → IsNeutral (Tok.scalar (quoted_
 quoted_opens true x = (neutral_single x, refl)
 quoted_opens false x = (neutral_double x, refl)
 
-quoted_stood : PiecesAreRead → (text : List ℕ) (single : Bool) (t : State) (more : List ℕ) → t.rest ≡ quotes.quote_of single ∷ more → (s : Stands text t) → IsDeep t.held → (x : Read (List ℕ)) → quotes.quoted single (context t.held) t.rest t.held.place ≡ Ok x →
+quoted_stood : (text : List ℕ) (single : Bool) (t : State) (more : List ℕ) → t.rest ≡ quotes.quote_of single ∷ more → (s : Stands text t) → IsDeep t.held → (x : Read (List ℕ)) → quotes.quoted single (context t.held) t.rest t.held.place ≡ Ok x →
     (filler : List ℕ) × Stood text x.rest x.place (t.held.tokens ++ token t.held.place (Tok.scalar (quoted_style single) x.value) ∷ []) (saved_keys t.held) t.held.indents t.held.indent t.held.flow (before_past quoted filler)
-quoted_stood n text single t more e s deep x k =
+quoted_stood text single t more e s deep x k =
     let a : Account = account_now text t s in
     let tok : Tok = Tok.scalar (quoted_style single) x.value in
     let m : IsNeutral tok × (before_by tok ≡ quoted) = quoted_opens single x.value in
     let r : ReadAs a t.rest tok t.held.place x.rest x.place =
-    subst (λ r. ReadAs a r tok t.held.place x.rest x.place) (sym e) (n.quoted a single (context t.held) more x (clean_more text t _ more e s) (subst (λ r. quotes.quoted single (context t.held) r t.held.place ≡ Ok x) e k)) in (
+    subst (λ r. ReadAs a r tok t.held.place x.rest x.place) (sym e) (quoted_is_read a single (context t.held) more x (clean_more text t _ more e s) (subst (λ r. quotes.quoted single (context t.held) r t.held.place ≡ Ok x) e k)) in (
       r.filler,
       subst (λ b. Stood text x.rest x.place (t.held.tokens ++ token t.held.place tok ∷ []) (saved_keys t.held) t.held.indents t.held.indent t.held.flow (before_past b r.filler)) m.1
           (node_stood text t.rest t.held.place t.held.tokens t.held.keys t.held.indents t.held.indent t.held.flow s.before s.stood tok t.held.place x.rest x.place r
@@ -78,9 +80,9 @@ behind_body single t x u =
     skip_to_next_token v >>= λ w.
     Ok (on_held (λ s. push t.held.place (Tok.scalar (quoted_style single) x) (adjacent_here s)) w)
 
-pub flow_scalar_fetched : PiecesAreRead → (text : List ℕ) (single : Bool) (t : State) (more : List ℕ) → t.rest ≡ quotes.quote_of single ∷ more → Stands text t → IsDeep t.held → Holds (Stands text) (fetch_flow_scalar single t)
+pub flow_scalar_fetched : (text : List ℕ) (single : Bool) (t : State) (more : List ℕ) → t.rest ≡ quotes.quote_of single ∷ more → Stands text t → IsDeep t.held → Holds (Stands text) (fetch_flow_scalar single t)
 unfolding fetch_flow_scalar
-flow_scalar_fetched n text single t more e s deep =
+flow_scalar_fetched text single t more e s deep =
     subst (λ h. Holds (Stands text) (lexed (quotes.quoted single (context (allow_key false h)) t.rest t.held.place) (allow_key false h) (behind_body single t))) (sym (saved_is t.held))
     (read (allow_key false now) (quotes.quoted single (context t.held) t.rest t.held.place) (behind_body single t) (λ x k.
     chained (quoted_checked t.held.place.line (behind x)) (λ v a.
@@ -97,7 +99,7 @@ flow_scalar_fetched n text single t more e s deep =
     fares x k v w a b =
         let tok : Token = token t.held.place (Tok.scalar (quoted_style single) x.value) in
         let tokens : List Token = t.held.tokens ++ tok ∷ [] in
-        let q : (filler : List ℕ) × Stood text x.rest x.place tokens (saved_keys t.held) t.held.indents t.held.indent t.held.flow (before_past quoted filler) = quoted_stood n text single t more e s deep x k in
+        let q : (filler : List ℕ) × Stood text x.rest x.place tokens (saved_keys t.held) t.held.indents t.held.indent t.held.flow (before_past quoted filler) = quoted_stood text single t more e s deep x k in
         let c : Passed (behind x) w = passed_both (behind x) v w a b.passed in
         let at_w : Stood text w.rest w.held.place tokens (saved_keys t.held) t.held.indents t.held.indent t.held.flow quoted =
         stood_passed text (behind x) w tokens (saved_keys t.held) t.held.indents t.held.indent t.held.flow (before_past quoted q.0) c q.1 in
@@ -119,11 +121,11 @@ block_node : (literal : Bool) (x : List ℕ) (bs : List (Option ℕ)) (ls : List
 block_node true x bs ls c more = (refl, refl, refl, refl)
 block_node false x bs ls c more = (refl, refl, refl, refl)
 
-block_fares : PiecesAreRead → (text : List ℕ) (literal : Bool) (t : State) (more : List ℕ) → t.rest ≡ (if literal then 124 else 62) ∷ more → is_nil t.held.flow ≡ true → (s : Stands text t) → IsDeep t.held → (x : Read blocks.Block) →
+block_fares : (text : List ℕ) (literal : Bool) (t : State) (more : List ℕ) → t.rest ≡ (if literal then 124 else 62) ∷ more → is_nil t.held.flow ≡ true → (s : Stands text t) → IsDeep t.held → (x : Read blocks.Block) →
     blocks.block literal (levels_gone t.held).indent t.rest t.held.place ≡ Ok x →
     Fares text x.rest x.place ((levels_gone t.held).tokens ++ token x.value.place (Tok.scalar (block_style literal) x.value.text) ∷ []) (saved_keys t.held) (levels_gone t.held).indents (levels_gone t.held).indent t.held.flow t.held.adjacent_value_at
 unfolding levels_gone
-block_fares n text literal t more e out s deep x k =
+block_fares text literal t more e out s deep x k =
     let u : Levels = without_open t.held.indent t.held.indents t.held.tokens in
     let w : WithoutOpen t.held.indent t.held.indents t.held.tokens u = without_is t.held.indent t.held.indents t.held.tokens s.stood.are_levels in
     let tok : Tok = Tok.scalar (block_style literal) x.value.text in
@@ -132,7 +134,7 @@ block_fares n text literal t more e out s deep x k =
     let deep2 : u.indent ≤ t.held.place.col + 1 = omega (arith, deep, w.not_deeper) in
     let outside : not (is_empty (levels_of t.held.flow)) ≡ false = same_flow t.held.flow ∙ ap not out in
     let both : ReadAs a ((if literal then 124 else 62) ∷ more) tok x.value.place x.rest x.place × ((x.rest ≡ []) ⊎ (nat_lt t.held.place.line x.place.line ≡ true)) =
-    n.block a literal u.indent more x (clean_more text t _ more e s) outside w.is_collection (subst (λ r. blocks.block literal u.indent r t.held.place ≡ Ok x) e k) in
+    block_is_read a literal u.indent more x (clean_more text t _ more e s) outside w.is_collection (subst (λ r. blocks.block literal u.indent r t.held.place ≡ Ok x) e k) in
     let r : ReadAs a t.rest tok x.value.place x.rest x.place = subst (λ y. ReadAs a y tok x.value.place x.rest x.place) (sym e) both.0 in
     let m : (begins_node (Some tok) ≡ true) × (blocks_past (columns u.indent u.indents) tok ≡ columns u.indent u.indents) × (levels_past (levels_of t.held.flow) (r.first ∷ r.more) tok ≡ levels_of t.held.flow) × (before_by tok ≡ other) =
     block_node literal x.value.text (columns u.indent u.indents) (levels_of t.held.flow) r.first r.more in
@@ -140,9 +142,9 @@ block_fares n text literal t more e out s deep x k =
     (node_fares text t.rest t.held.place t.held.tokens t.held.keys u.indents u.indent t.held.flow s.before t.held.adjacent_value_at v s.was_adjacent tok x.value.place x.rest x.place r
     m.0 deep2 m.1 m.2 m.3 (block_opens t.held.place x.place x.rest v.here.filler (r.first ∷ r.more) x.value.place tok both.1) t.held.key_allowed (must_be_key t.held))
 
-pub block_fetched : PiecesAreRead → (text : List ℕ) (literal : Bool) (t : State) (more : List ℕ) → t.rest ≡ (if literal then 124 else 62) ∷ more → is_nil t.held.flow ≡ true → Stands text t → IsDeep t.held → Holds (Stands text) (fetch_block_scalar literal t)
+pub block_fetched : (text : List ℕ) (literal : Bool) (t : State) (more : List ℕ) → t.rest ≡ (if literal then 124 else 62) ∷ more → is_nil t.held.flow ≡ true → Stands text t → IsDeep t.held → Holds (Stands text) (fetch_block_scalar literal t)
 unfolding fetch_block_scalar unroll_non_block_indents levels_gone
-block_fetched n text literal t more e out s deep =
+block_fetched text literal t more e out s deep =
     subst (λ h. Holds (Stands text) (lexed (blocks.block literal (unroll_non_block_indents (allow_key true h)).indent t.rest t.held.place) (unroll_non_block_indents (allow_key true h))
     (λ b u. Ok (on_held (λ v. push b.place (Tok.scalar (block_style literal) b.text) (record v { leading = true })) u)))) (sym (saved_is t.held))
-    (read (unroll_non_block_indents (allow_key true (record t.held { keys = saved_keys t.held }))) (blocks.block literal (levels_gone t.held).indent t.rest t.held.place) _ (λ x k. went (block_fares n text literal t more e out s deep x k)))
+    (read (unroll_non_block_indents (allow_key true (record t.held { keys = saved_keys t.held }))) (blocks.block literal (levels_gone t.held).indent t.rest t.held.place) _ (λ x k. went (block_fares text literal t more e out s deep x k)))

@@ -101,32 +101,6 @@ read_later a rest tok at rest2 end r =
     subst (λ x. Behind a.place x) (sym r.is_end)
     (behind_then a.place q (place_behind q r.filler rest2) (is_behind a.place r.first r.more (r.filler ++ rest2)) (not_before_behind q r.filler rest2))
 
-pub node_stood : (text rest : List ℕ) (p : Place) (tokens : List Token) (keys : List (Option Key)) (indents : List Indent) (indent : ℕ) (flow : List FlowLevel) (before : Before)
-    (s : Stood text rest p tokens keys indents indent flow before) (tok : Tok) (at : Place) (rest2 : List ℕ) (end : Place) (r : ReadAs (account_of p indent indents flow before) rest tok at rest2 end) →
-    begins_node (Some tok) ≡ true → indent ≤ p.col + 1 → blocks_past (columns indent indents) tok ≡ columns indent indents → levels_past (levels_of flow) (r.first ∷ r.more) tok ≡ levels_of flow →
-    Opens 0 p end rest2 (led s.here.filler (with_piece (r.first ∷ r.more) at tok) ∷ []) → (allowed required : Bool) →
-    Stood text rest2 end (tokens ++ token at tok ∷ []) (with_saved allowed required (length tokens) p keys) indents indent flow (before_past (before_by tok) r.filler)
-node_stood text rest p tokens keys indents indent flow before s tok at rest2 end r node deep blocks levels opens allowed required =
-    let a : Account = account_of p indent indents flow before in
-    let bs : List (Option ℕ) = columns indent indents in
-    let w : Written = led s.here.filler (with_piece (r.first ∷ r.more) at tok) in
-    let b : Before = before_past (before_by tok) r.filler in
-    let q : Place = place_behind (place_behind p (r.first ∷ r.more) (r.filler ++ rest2)) r.filler rest2 in
-    let same : ◌≡◌ {A = Account} (record { place = q; blocks = blocks_past bs tok; levels = levels_past (levels_of flow) (r.first ∷ r.more) tok; before = b }) (account_of end indent indents flow b) =
-    same_account q end (blocks_past bs tok) bs (levels_past (levels_of flow) (r.first ∷ r.more) tok) (levels_of flow) b b (sym r.is_end) blocks levels refl in
-    record {
-      begin = s.begin;
-      row = s.row ++ (w ∷ []);
-      behind = r.filler ++ rest2;
-      tokens_are = tokens_more s.begin s.row w tokens s.tokens_are;
-      here = subst (λ x. Here text (s.row ++ (w ∷ [])) (r.filler ++ rest2) rest2 x) same
-          (here_token text s.row s.behind rest a bs r.first r.more r.filler rest2 at tok r.is_text r.is_filled (columns_settled p.col indent indents) r.is_piece s.here);
-      are_levels = s.are_levels;
-      one_each = length_saved allowed required (length tokens) p keys ∙ s.one_each;
-      are_open = open_saved text s.row s.behind rest a keys (innermost_column bs) r.first r.more (r.filler ++ rest2) rest2 end at tok 0 allowed (record { required = required; number = length tokens; place = p })
-          s.here (λ n. columns_settled n indent indents) s.are_open r.is_text (read_later a rest tok at rest2 end r) node (not_right p.col indent indents s.are_levels deep) (number_of s.begin s.row tokens s.tokens_are) refl opens;
-    }
-
 -- A token with its piece, whatever it opens and closes of flow.
 pub piece_stood : (text rest : List ℕ) (p : Place) (tokens : List Token) (keys : List (Option Key)) (indents : List Indent) (indent : ℕ) (flow : List FlowLevel) (before : Before)
     (s : Stood text rest p tokens keys indents indent flow before) (tok : Tok) (at : Place) (rest2 : List ℕ) (end : Place) (r : ReadAs (account_of p indent indents flow before) rest tok at rest2 end) →
@@ -153,6 +127,19 @@ piece_stood text rest p tokens keys indents indent flow before s tok at rest2 en
       one_each = many;
       are_open = opened;
     }
+
+-- A token that begins a node.
+pub node_stood : (text rest : List ℕ) (p : Place) (tokens : List Token) (keys : List (Option Key)) (indents : List Indent) (indent : ℕ) (flow : List FlowLevel) (before : Before)
+    (s : Stood text rest p tokens keys indents indent flow before) (tok : Tok) (at : Place) (rest2 : List ℕ) (end : Place) (r : ReadAs (account_of p indent indents flow before) rest tok at rest2 end) →
+    begins_node (Some tok) ≡ true → indent ≤ p.col + 1 → blocks_past (columns indent indents) tok ≡ columns indent indents → levels_past (levels_of flow) (r.first ∷ r.more) tok ≡ levels_of flow →
+    Opens 0 p end rest2 (led s.here.filler (with_piece (r.first ∷ r.more) at tok) ∷ []) → (allowed required : Bool) →
+    Stood text rest2 end (tokens ++ token at tok ∷ []) (with_saved allowed required (length tokens) p keys) indents indent flow (before_past (before_by tok) r.filler)
+node_stood text rest p tokens keys indents indent flow before s tok at rest2 end r node deep blocks levels opens allowed required =
+    let a : Account = account_of p indent indents flow before in
+    let q : List (Option Key) = with_saved allowed required (length tokens) p keys in
+    piece_stood text rest p tokens keys indents indent flow before s tok at rest2 end r blocks flow levels q (length_saved allowed required (length tokens) p keys ∙ s.one_each)
+    (open_saved text s.row s.behind rest a keys (innermost_column (columns indent indents)) r.first r.more (r.filler ++ rest2) rest2 end at tok 0 allowed (record { required = required; number = length tokens; place = p })
+    s.here (λ n. columns_settled n indent indents) s.are_open r.is_text (read_later a rest tok at rest2 end r) node (not_right p.col indent indents s.are_levels deep) (number_of s.begin s.row tokens s.tokens_are) refl opens)
 
 tokens_two : (begin : Place) (row : List Written) (v w : Written) (tokens : List Token) → tokens ≡ start_token begin ∷ tokens_of row → (tokens ++ v.token ∷ []) ++ w.token ∷ [] ≡ start_token begin ∷ tokens_of (row ++ (v ∷ w ∷ []))
 tokens_two begin row v w tokens e =

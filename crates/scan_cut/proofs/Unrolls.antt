@@ -1,12 +1,11 @@
 -- The ends of block collections: what holds between fetches holds behind them.
-use Rattle.std.proofs.Common.{◌≡◌, ℕ, suc, ◌+◌, ◌-◌, ◌<◌, ◌≤◌, List, [], ◌∷◌, ◌++◌, Bool, true, false, not, length, drop, nat_lt, if◌then◌else◌, Option, Some, None, refl, ap, sym, ◌∙◌, subst, arith, append_assoc}
+use Rattle.std.proofs.Common.{◌≡◌, ℕ, suc, ◌+◌, ◌-◌, ◌<◌, ◌≤◌, List, [], ◌∷◌, ◌++◌, Bool, true, false, not, length, drop, nat_lt, if◌then◌else◌, Option, Some, None, refl, ap, sym, ◌∙◌, subst, arith}
 use Rattle.std.proofs.lemmas.Bool.Decides.{nat_tests}
 use Rattle.yaml_chars.specs.Place.{Place}
 use Rattle.yaml_chars.specs.Text.{is_nil}
 use Rattle.token_defs.specs.Token.{Tok, Token}
-use Rattle.cut_defs.specs.Account.{Account, Before, first_account, settled, is_empty, innermost_column}
-use Rattle.cut_defs.specs.Cut.{Written, IsRow, spelled, account_at, account_past_row}
-use Rattle.cut_defs.proofs.Append.{spelled_append}
+use Rattle.cut_defs.specs.Account.{Account, Before, is_empty, innermost_column}
+use Rattle.cut_defs.specs.Cut.{Written, spelled}
 use Rattle.scan_model.specs.declared.level.Indent.{Indent}
 use Rattle.scan_model.specs.declared.level.FlowLevel.{FlowLevel}
 use Rattle.scan_model.specs.State.{Key, Held, State, token, on_held}
@@ -14,6 +13,7 @@ use Rattle.scan_model.specs.Indents.{Levels, with_levels, end_level, unrolled, u
 use Rattle.scan_cut.specs.Here.{Here, IsLive, IsNotRight, AreOpen}
 use Rattle.scan_cut.specs.Stands.{columns, levels_of, account_of, Stood, Fares, Stands}
 use Rattle.scan_cut.proofs.Heres.{led}
+use Rattle.scan_cut.proofs.Opens.{is_open_more}
 use Rattle.scan_cut.proofs.Pushed.{with_piece, past_empty, here_empty}
 use Rattle.scan_cut.proofs.Stoods.{stood_levels, tokens_more}
 use Rattle.scan_cut.proofs.Nodes.{same_flow}
@@ -38,24 +38,7 @@ dead_more row vs behind behind2 p rest column column2 [] one cut dead o = tt
 dead_more row vs behind behind2 p rest column column2 (x ∷ y ∷ ks) one cut dead o = absurd (omega (arith, one))
 dead_more row vs behind behind2 p rest column column2 (None ∷ []) one cut dead o = tt
 dead_more row vs behind behind2 p rest column column2 (Some k ∷ []) one cut dead o =
-    let own : Written = o.0.own in
-    let next : spelled o.0.after behind ≡ spelled (o.0.after ++ vs) behind2 = ap (λ t. spelled o.0.after t) cut ∙ sym (spelled_append o.0.after vs behind2) in (
-      record {
-        before = o.0.before;
-        own = own;
-        after = o.0.after ++ vs;
-        is_split = ap (λ r. r ++ vs) o.0.is_split ∙ append_assoc o.0.before (own ∷ o.0.after) vs;
-        number_is = o.0.number_is;
-        is_node = o.0.is_node;
-        is_solid = o.0.is_solid;
-        is_free = λ last. subst (λ t. IsRow first_account o.0.before (own.filler ++ (own.piece ++ t)) last) next (o.0.is_free last);
-        is_settled = λ n. subst (λ t. let bs : List (Option ℕ) = (account_past_row first_account o.0.before (own.filler ++ (own.piece ++ t))).blocks in settled n bs ≡ bs) next (o.0.is_settled n);
-        place_is = o.0.place_is ∙ ap (λ t. (account_at (account_past_row first_account o.0.before (own.filler ++ (own.piece ++ t))) own t).place) next;
-        is_earlier = o.0.is_earlier;
-        live = λ l. absurd (dead.0 l);
-      },
-      tt,
-    )
+    (is_open_more k 0 0 row vs behind behind2 p p rest rest column column2 cut o.0.is_earlier o.0 (λ l. absurd (dead.0 l)), tt)
 
 -- ---- one end
 

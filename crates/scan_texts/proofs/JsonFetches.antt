@@ -51,7 +51,7 @@ module _ {d : Around} (c : ℕ) (a : List ℕ) (ks : List (Option Key)) (solid :
 
   pub here : (fs : List FlowLevel) (p : Parts d) → IsBottom d fs ks → Fits d p.place → fetch_here (on_held (λ s. unroll_indent (s.place.col + 1) s) (stands (c ∷ a) fs ks p)) ≡ token_by (class_of c) (stands (c ∷ a) fs ks p)
   unfolding fetch_here fetch_content
-  here fs p bottom fits = let z = content c solid in rw (unrolls d (c ∷ a) fs ks (p.place.col + 1) p bottom, z.nul) (no_end fs p (p.place.col == 0) fits)
+  here fs p bottom fits = let z = content c solid in rw (unrolls d (c ∷ a) fs ks (p.place.col + 1) p bottom, z.common.nul) (no_end fs p (p.place.col == 0) fits)
 
 -- The first character of a token decides. Inside flow the key is the one before, and whether one may begin.
 pub record Fetched {d : Around} (from : State) (c : ℕ) (a : List ℕ) (fs : List FlowLevel) (ks : List (Option Key)) (p : Parts d) : Type 0 where

@@ -14,35 +14,22 @@ use Rattle.scan_model.specs.declared.level.FlowLevel.{FlowLevel}
 use Rattle.scan_model.specs.State.{Key, State}
 use Rattle.scan_model.specs.Space.{between, skip, is_before_indent, skip_spaces, skip_to_next_token}
 use Rattle.scan_texts.proofs.JsonStates.{Around, nothing, block, IsLine, Fits, MayStand, Parts, stands, is_content, is_solid}
+use Rattle.scan_texts.proofs.LayoutStates as layouts
+use Rattle.scan_texts.proofs.Whites as whites
 use Rattle.scan_texts.proofs.JsonLevels.{fits_past, fits_break}
 
--- what a content character is not
+-- a content character is one of a layout too
+in_layout : (c : ℕ) → is_content c ≡ true → layouts.is_content c ≡ true
+in_layout c h = grind (arith, nat_tests)
+
+-- what it is not
 pub record Content (c : ℕ) : Type 0 where
-  pub nul : (c == 0) ≡ false
-  pub tab : (c == 9) ≡ false
-  pub line_feed : (c == 10) ≡ false
-  pub carriage_return : (c == 13) ≡ false
-  pub space : (c == 32) ≡ false
-  pub hash : (c == 35) ≡ false
+  pub common : whites.Content c
   pub percent : (c == 37) ≡ false
   pub point : (c == 46) ≡ false
-  pub break : is_break c ≡ false
-  pub blank : is_blank c ≡ false
 
 pub content : (c : ℕ) → is_content c ≡ true → Content c
-unfolding is_break is_blank
-content c h = record {
-  nul = grind (arith, nat_tests);
-  tab = grind (arith, nat_tests);
-  line_feed = grind (arith, nat_tests);
-  carriage_return = grind (arith, nat_tests);
-  space = grind (arith, nat_tests);
-  hash = grind (arith, nat_tests);
-  percent = grind (arith, nat_tests);
-  point = grind (arith, nat_tests);
-  break = grind (arith, nat_tests);
-  blank = grind (arith, nat_tests);
-}
+content c h = record { common = whites.content c (in_layout c h); percent = grind (arith, nat_tests); point = grind (arith, nat_tests) }
 
 -- where lines may be broken no place belongs to a block collection's indentation
 not_before : (d : Around) (fs : List FlowLevel) (ks : List (Option Key)) (r : List ℕ) (p : Parts d) → (IsLine d → ⊥) → is_before_indent ((stands r fs ks p).held) ≡ false
@@ -65,9 +52,8 @@ lined_allowed false c h = refl
 
 module _ {d : Around} (fs : List FlowLevel) (ks : List (Option Key)) where
   pub skip_solid : (r : List ℕ) (p : Parts d) → is_solid r ≡ true → skip between r (stands r fs ks p).held ≡ Ok (stands r fs ks p)
-  unfolding skip
-  skip_solid [] p h = refl
-  skip_solid (c ∷ a) p h = let z = content c h in rw (z.break, z.tab, z.blank, z.hash) refl
+  skip_solid [] p h = whites.solid_stays [] _ refl
+  skip_solid (c ∷ a) p h = whites.solid_stays (c ∷ a) _ (in_layout c h)
 
   abbrev lined : Parts d → Parts d
   lined p = record p { place = past_break p.place; leading = true; allowed = not (not (is_nil fs)) || p.allowed }
@@ -120,7 +106,7 @@ record Passed (d : Around) (a r : List ℕ) (p : Place) (w : Whitespace) : Type 
 
 solid_passed : (d : Around) (r : List ℕ) (p : Place) (w : Whitespace) → Fits d p → is_solid r ≡ true → Passed d r r p w
 solid_passed d [] p w fits h = record { place = p; fits = fits; gap = []; may = λ _. tt; found = w; edge = refl; is = refl }
-solid_passed d (c ∷ a) p w fits h = let z = content c h in record { place = p; fits = fits; gap = []; may = λ _. tt; found = w; edge = refl; is = rw (z.space, z.tab, z.hash) refl }
+solid_passed d (c ∷ a) p w fits h = let z = (content c h).common in record { place = p; fits = fits; gap = []; may = λ _. tt; found = w; edge = refl; is = rw (z.space, z.tab, z.hash) refl }
 
 on : (d : Around) (a b r : List ℕ) (p q : Place) (w x : Whitespace) → scalar_space.space_from Yes a (record { place = p; found = w }) ≡ scalar_space.space_from Yes b (record { place = q; found = x })
     → Passed d b r q x → Passed d a r p w

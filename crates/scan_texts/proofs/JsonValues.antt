@@ -159,7 +159,7 @@ word_after d w from b r fs ks want word bottom may ends u =
 -- no tab comes next
 no_tab : (h : List Blank) (r : List ℕ) → IsGap h → is_solid r ≡ true → (peek (spell_gap h r) == 9) ≡ false
 no_tab [] [] gap solid = refl
-no_tab [] (c ∷ a) gap solid = (content c solid).tab
+no_tab [] (c ∷ a) gap solid = (content c solid).common.tab
 no_tab (space ∷ h) r gap solid = refl
 no_tab (tab ∷ h) r gap solid = cc (gap.0)
 no_tab (line_feed ∷ h) r gap solid = refl

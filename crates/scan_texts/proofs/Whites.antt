@@ -8,6 +8,7 @@ use Rattle.yaml_chars.specs.Class.{is_break, is_blank}
 use Rattle.layout_defs.specs.Gap.{spaces, GapLine, empty_line, comment_line, spell_gap, next_line, spell_ending, IsGap, IsLineText, is_line_character}
 use Rattle.scalar_model.specs.Machine.{past, past_break}
 use Rattle.scan_model.specs.declared.level.Indent.{Indent}
+use Rattle.scan_model.specs.State.{Held}
 use Rattle.scan_model.specs.Space.{between, comment, skip, skip_to_next_token}
 pub use Rattle.scan_blocks.specs.HeaderEnds.{along}
 use Rattle.scan_texts.proofs.LayoutStates.{Parts, stands, is_content, is_solid}
@@ -85,12 +86,13 @@ pub in_line : (c : ℕ) → is_line_character c ≡ true → is_break c ≡ fals
 unfolding is_break is_line_character
 in_line c h = grind (arith, nat_tests)
 
-module _ (i : ℕ) (is : List Indent) where
-  skip_solid : (r : List ℕ) (p : Parts) → is_solid r ≡ true → skip between r (stands r i is p).held ≡ Ok (stands r i is p)
-  unfolding skip
-  skip_solid [] p h = refl
-  skip_solid (c ∷ a) p h = let z = content c h in rw (z.break, z.tab, z.blank, z.hash) refl
+-- nothing is passed where a token or the end stands
+pub solid_stays : (r : List ℕ) (s : Held) → is_solid r ≡ true → skip between r s ≡ Ok (record { rest = r; held = s })
+unfolding skip
+solid_stays [] s h = refl
+solid_stays (c ∷ a) s h = let z = content c h in rw (z.break, z.tab, z.blank, z.hash) refl
 
+module _ (i : ℕ) (is : List Indent) where
   skip_text : (text a : List ℕ) (p : Parts) → IsLineText text → skip comment (text ++ a) (stands a i is p).held ≡ skip comment a (stands a i is (record p { place = along text p.place })).held
   unfolding skip
   skip_text [] a p h = refl
@@ -111,7 +113,7 @@ module _ (i : ℕ) (is : List Indent) where
 
   skip_white : (g : List White) (r : List ℕ) (p : Parts) → AreWhite g r → skip between (spell_white g r) (stands r i is p).held ≡ Ok (stands r i is (passed g p))
   unfolding skip is_break is_blank
-  skip_white [] r p h = skip_solid r p h
+  skip_white [] r p h = solid_stays r (stands r i is p).held h
   skip_white (space ∷ g) r p h = skip_white g r (record p { place = past p.place }) h
   skip_white (line_feed ∷ g) r p h = skip_white g r (record p { place = past_break p.place; leading = true; allowed = true }) h
   skip_white (remark text ∷ g) r p h =

@@ -30,7 +30,6 @@ use Rattle.yaml_chars.specs.Reading.{HasNoNul}
 use Rattle.scalar_defs.specs.Classes.{is_nul}
 use Rattle.cut_defs.specs.Cut.{IsCut, IsCutOfBeginning, tokens_of, end_token}
 use Rattle.scan_scalars.specs.PlainEnds.{has_no_nul}
-use Rattle.scan_cut.proofs.PiecesRead.{pieces_are_read}
 use Rattle.scan_cut.proofs.Fetched.{tokens_are_cut}
 use Rattle.scan_cut.proofs.BlameFetch.{faults_stand}
 use Rattle.scan_cut.proofs.Beginnings.{first_tokens_are_cut}
@@ -226,7 +225,7 @@ cut_has_end ts a c = rw (c.are_tokens, has_end_append (tokens_of c.row) (end_tok
     always false = refl
 
 begun_cut : (ts : List Token) (a : List ℕ) → IsReached a ts → has_end ts ≡ false → HasNoNul a → IsCutOfBeginning ts a
-begun_cut ts a r e n = elim (first_tokens_are_cut pieces_are_read a ts r.begins.more r.last (no_nul a n) r.run r.begins.whole) [
+begun_cut ts a r e n = elim (first_tokens_are_cut a ts r.begins.more r.last (no_nul a n) r.run r.begins.whole) [
   | inl c ↦ absurd (cc (e, cut_has_end ts a c))
   | inr c ↦ c
 ]
@@ -253,7 +252,7 @@ is_refusal (Some k) a r = by k.fault k.mark r
   where
     by : (e : Fault) (m : Place) → (e ≢ OutOfMemory → IsRefused a e) → (fault_of e m).memory ≡ false → IsRefusal a (fault_of e m)
     by OutOfMemory m r n = absurd cc
-    by (At q p) m r n = record { fault = At q p; place = m; refused = r (λ e. absurd cc); shown = refl; stands = λ n s. faults_stand pieces_are_read a (At q p) (no_nul a n) (r (λ e. absurd cc)) s }
+    by (At q p) m r n = record { fault = At q p; place = m; refused = r (λ e. absurd cc); shown = refl; stands = λ n s. faults_stand a (At q p) (no_nul a n) (r (λ e. absurd cc)) s }
 
 one_refusal : (f : Option Kept) (a : List ℕ) → IfSome f (λ k. k.fault ≢ OutOfMemory → IsRefused a k.fault) → (e : Fault) → IsRefused a e → IfSome (option_map kept_fault f) (λ x. x.memory ≡ false → (p : Place) × (x ≡ fault_of e p))
 one_refusal None a r e i = tt
@@ -277,7 +276,7 @@ scans_from x f = record {
         begins = s.begins;
         whole = s.whole;
         begun = λ o n. begun_cut (handed x.tokens) a s.reached (s.open_end o) n;
-        cut = λ o n. tokens_are_cut pieces_are_read a (handed x.tokens) (no_nul a n) (s.whole o);
+        cut = λ o n. tokens_are_cut a (handed x.tokens) (no_nul a n) (s.whole o);
         sound = memory_sound x.kept a s.refused;
         wants = memory_says x.kept;
         refused = is_refusal x.kept a s.refused;

@@ -1,6 +1,5 @@
 use Rattle.scan_cut.proofs.Beginnings.{first_tokens_are_cut}
-use Rattle.scan_cut.proofs.PiecesRead.{pieces_are_read}
 use Rattle.scan_cut.proofs.laws.first_tokens_are_a_cut.Goals as goal
 
 pub returns : goal.returns
-returns c = first_tokens_are_cut pieces_are_read
+returns c = first_tokens_are_cut

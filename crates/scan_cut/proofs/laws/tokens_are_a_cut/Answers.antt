@@ -1,6 +1,5 @@
 use Rattle.scan_cut.proofs.Fetched.{tokens_are_cut}
-use Rattle.scan_cut.proofs.PiecesRead.{pieces_are_read}
 use Rattle.scan_cut.proofs.laws.tokens_are_a_cut.Goals as goal
 
 pub returns : goal.returns
-returns c = tokens_are_cut pieces_are_read
+returns c = tokens_are_cut
