@@ -1,10 +1,10 @@
 -- What a call that reads, decodes and loads answers.
-use Rattle.std.specs.Prelude.{◌≡◌, ℕ, List, Bool, true, false, Option, IfSome, Result, Ok, Err, String, Vec, ⊤}
+use Rattle.std.specs.Prelude.{◌≡◌, ◌≢◌, ℕ, List, Bool, true, false, Option, IfSome, Result, Ok, Err, String, Vec, ⊤}
 use Rattle.std.specs.declared.alloc.Global.{Global}
 use Rattle.std.specs.Io.KnownBytes.{Consumes}
 use Rattle.std.specs.IoError.{error_kind}
 use Rattle.std.specs.declared.io.ErrorKind.{ErrorKind}
-use Rattle.std.specs.declared.io.ErrorKind.TheVariants.{OutOfMemory}
+use Rattle.std.specs.declared.io.ErrorKind.TheVariants.{OutOfMemory, Interrupted}
 use Rattle.yaml_chars.specs.Text.{string_chars}
 use Rattle.yaml_chars.specs.Reading.{up_to_nul}
 use Rattle.yaml_tree.specs.declared.yaml.Yaml.{Yaml}
@@ -58,6 +58,11 @@ WhereLoaded (Ok documents) P = P
 WhereLoaded (Err (Decode m)) P = P
 WhereLoaded (Err (Scan f)) P = P
 WhereLoaded (Err (IO e)) P = ⊤
+
+-- the error is not that a read was interrupted
+abbrev pub IsNoInterruption : LoadError → Type 0
+IsNoInterruption (IO e) = error_kind e ≢ Interrupted
+IsNoInterruption _ = ⊤
 
 -- what a source still has is an end of what it had, where it told that: the bytes before were read
 abbrev pub LeavesEnd : Option (List ℕ) → Option (List ℕ) → Type 0

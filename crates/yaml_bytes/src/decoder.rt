@@ -1,10 +1,10 @@
 //! What a reader gives, loaded as trees.
-ghost use Rattle.std.specs.Prelude.{◌≡◌};
+ghost use Rattle.std.specs.Prelude.{◌≡◌, IfErr};
 ghost use Rattle.std.specs.Io.KnownBytes.{IsAtEnd};
 ghost use Rattle.yaml_decoder.specs.Decoding.{text, parts, ignored, replaced, strict, IsDecodedByCalls};
 ghost use Rattle.yaml_decoder.specs.Steps.{IsStep};
 ghost use Rattle.yaml_chars.specs.Text.{string_chars};
-ghost use Rattle.yaml_bytes.specs.Read.{DecodedIs, Loads, LoadedIs, HasBytes, LeavesEnd, WhereDecoded, WhereLoaded, wants_memory};
+ghost use Rattle.yaml_bytes.specs.Read.{DecodedIs, Loads, LoadedIs, HasBytes, LeavesEnd, WhereDecoded, WhereLoaded, IsNoInterruption, wants_memory};
 
 use std::alloc::{AllocError, Global};
 use std::io;
@@ -107,9 +107,9 @@ impl<T: Read> YamlDecoder<T> {
     /// # Errors
     ///
     /// [`LoadError::IO`] is the error of the source, or says that memory was refused. The source then stands where
-    /// reading stopped, and what it still has is an end of what it had. [`LoadError::Decode`] has the message of a
-    /// stop: `Invalid character sequence at {place}: {bytes}`, or that of the trap's function. [`LoadError::Scan`] is
-    /// the text's fault. After these two the source stands at its end.
+    /// reading stopped, and what it still has is an end of what it had. A read that was interrupted is tried again.
+    /// [`LoadError::Decode`] has the message of a stop: `Invalid character sequence at {place}: {bytes}`, or that of
+    /// the trap's function. [`LoadError::Scan`] is the text's fault. After these two the source stands at its end.
     pub fn decode(&mut self) -> Result<Vec<Yaml>, LoadError>
         ensures ignore { self.old.trap ≡ YAMLDecodingTrap.Ignore → LoadedIs result (λ o. HasBytes (T.remaining self.old.source) (λ bytes. o ≡ text (ignored (parts bytes)))) }
         ensures replace { self.old.trap ≡ YAMLDecodingTrap.Replace → LoadedIs result (λ o. HasBytes (T.remaining self.old.source) (λ bytes. o ≡ text (replaced (parts bytes)))) }
@@ -117,6 +117,7 @@ impl<T: Read> YamlDecoder<T> {
         ensures call { (f : _) → self.old.trap ≡ YAMLDecodingTrap.Call f → LoadedIs result (λ o. HasBytes (T.remaining self.old.source) (λ bytes. IsDecodedByCalls (IsStep (post f.function)) bytes o)) }
         ensures end { WhereLoaded result (IsAtEnd (T.remaining self.new.source)) }
         ensures rest { LeavesEnd (T.remaining self.old.source) (T.remaining self.new.source) }
+        ensures retried { IfErr result IsNoInterruption }
         ensures same { self.new.trap ≡ self.old.trap }
     {
         match self.text() {
@@ -133,6 +134,7 @@ impl<T: Read> YamlDecoder<T> {
         ensures call { (f : _) → self.old.trap ≡ YAMLDecodingTrap.Call f → DecodedIs result (λ o. HasBytes (T.remaining self.old.source) (λ bytes. IsDecodedByCalls (IsStep (post f.function)) bytes o)) }
         ensures end { WhereDecoded result (IsAtEnd (T.remaining self.new.source)) }
         ensures rest { LeavesEnd (T.remaining self.old.source) (T.remaining self.new.source) }
+        ensures retried { IfErr result IsNoInterruption }
         ensures same { self.new.trap ≡ self.old.trap }
     {
         let mut bytes = Vec::new(self.alloc);

@@ -1,5 +1,5 @@
 -- The events of the code, as clauses see them.
-use Rattle.std.specs.Prelude.{List, Option, option_map, map}
+use Rattle.std.specs.Prelude.{List, Bool, true, false, Option, option_map, is_some, map}
 use Rattle.yaml_chars.specs.Place.{Place}
 use Rattle.yaml_chars.specs.Text.{string_chars}
 use Rattle.yaml_tokens.specs.Shown.{style_of}
@@ -29,6 +29,13 @@ ev_of (event.MappingStart a t) = Ev.mapping_start a (perhaps_tag_of t)
 ev_of event.MappingEnd = Ev.mapping_end
 
 -- an event and its place
+-- whether an event keeps a text, for which a copy asks for memory
+abbrev pub keeps_text : Ev → Bool
+keeps_text (Ev.scalar x s a t) = true
+keeps_text (Ev.sequence_start a t) = is_some t
+keeps_text (Ev.mapping_start a t) = is_some t
+keeps_text _ = false
+
 abbrev pub placed : Event × Place → Ev × Place
 placed e = (ev_of e.0, e.1)
 

@@ -1,8 +1,8 @@
-ghost use Rattle.std.specs.Prelude.{◌≡◌, [], IfOk};
+ghost use Rattle.std.specs.Prelude.{◌≡◌, [], true, is_some, IfOk, OnErr};
 ghost use Rattle.token_defs.specs.Token.{Style};
 ghost use Rattle.event_defs.specs.Event.{Ev};
 ghost use Rattle.yaml_chars.specs.Text.{string_chars};
-ghost use Rattle.yaml_parser.specs.Shown.{ev_of, tag_of, perhaps_tag_of};
+ghost use Rattle.yaml_parser.specs.Shown.{ev_of, tag_of, perhaps_tag_of, keeps_text};
 
 use std::alloc::{AllocError, Global};
 use yaml_tokens::{ScanError, TScalarStyle};
@@ -65,7 +65,8 @@ impl Tag {
 }
 
 fn perhaps_clone(alloc: Global, tag: &Option<Tag>) -> Result<Option<Tag>, AllocError>
-    ensures { IfOk result (λ t. perhaps_tag_of t ≡ perhaps_tag_of tag.now) }
+    ensures copy { IfOk result (λ t. perhaps_tag_of t ≡ perhaps_tag_of tag.now) }
+    ensures only_for_a_tag { OnErr result (is_some (perhaps_tag_of tag.now) ≡ true) }
 {
     match tag {
         Some(tag) => Ok(Some(tag.clone(alloc)?)),
@@ -74,9 +75,11 @@ fn perhaps_clone(alloc: Global, tag: &Option<Tag>) -> Result<Option<Tag>, AllocE
 }
 
 impl Event {
-    /// A copy, equal to the event. An `Err` comes only if memory was refused.
+    /// A copy, equal to the event. An `Err` comes only if memory was refused; an event without a text or a tag asks
+    /// for none.
     pub fn clone(&self, alloc: Global) -> Result<Event, AllocError>
-        ensures { IfOk result (λ e. ev_of e ≡ ev_of self.now) }
+        ensures copy { IfOk result (λ e. ev_of e ≡ ev_of self.now) }
+        ensures only_for_a_text { OnErr result (keeps_text (ev_of self.now) ≡ true) }
     {
         match self {
             Event::Nothing => Ok(Event::Nothing),
