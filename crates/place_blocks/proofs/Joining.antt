@@ -238,11 +238,20 @@ get_before (c ∷ bs) i zero u d e h = absurd (omega arith)
 get_before (c ∷ bs) zero (suc n) u d e h = refl
 get_before (c ∷ bs) (suc i) (suc n) u d e h = get_before bs i n u d (omega arith) (omega arith)
 
+-- a block's upper half is put behind it, and it keeps the lower one
+pub halved_made : (xs ys : List (List Entry)) (i n h : ℕ) (upper whole lower : List Entry) → n ≡ suc i → i < length xs → ys ≡ insert xs n upper
+    → upper ≡ drop h (get_or xs i []) → whole ≡ get_or ys i whole → lower ≡ take h whole → set ys i lower ≡ halved xs i n h
+halved_made xs ys i n h upper whole lower e l put u w low =
+    ap (λ zs. set zs i lower) put
+    ∙ set_before xs i n lower upper e l
+    ∙ ap (λ b. insert (set xs i b) n upper) (low ∙ ap (take h) (block_read ys (insert xs n upper) i whole put (omega (arith, l, e, length-insert xs n upper (omega (arith, l, e)))) w ∙ get_before xs i n upper [] (omega (arith, e)) l))
+    ∙ ap (insert (set xs i (take h (get_or xs i []))) n) u
+
 -- of a loop over all blocks that has come to its end
 pub all_mapped : (f : List Entry → List Entry) (n : ℕ) (xs ys : List (List Entry)) → length xs ≤ n → ys ≡ map f (take n xs) ++ drop n xs → ys ≡ map f xs
 all_mapped f n xs ys h e = e ∙ (λ i. map f (take_all n xs h i) ++ drop_all n xs h i) ∙ append-nil (map f xs)
 
-pub lent_back : (n : ℕ) (xs ys : List (List Entry)) → length xs ≡ n → take n (xs ++ drop (length xs) ys) ≡ xs
+pub lent_back : {X : Type 0} (n : ℕ) (xs ys : List X) → length xs ≡ n → take n (xs ++ drop (length xs) ys) ≡ xs
 lent_back n xs ys e = take_at xs (drop (length xs) ys) n e
 
 pub not_past : (bs : List (List Entry)) (i j : ℕ) → start bs i + j < length (joined bs) → i < length bs

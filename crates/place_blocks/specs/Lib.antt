@@ -1,3 +1,4 @@
 pub mod Blocks
 pub mod Edges
 pub mod Moves
+pub mod Starts

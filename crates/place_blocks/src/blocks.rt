@@ -1,5 +1,5 @@
 //! Entries in blocks.
-ghost use Rattle.std.specs.Prelude.{◌≡◌, ◌<◌, ◌≤◌, ◌+◌, ◌^◌, ◌∷◌, [], length, map, take, drop, get_or, set, IsTrue, IfOk, OnOk, OnErr};
+ghost use Rattle.std.specs.Prelude.{◌≡◌, ◌<◌, ◌≤◌, ◌+◌, ◌^◌, ◌∷◌, [], length, map, take, drop, get_or, set, IsTrue, IsFalse, IfOk, OnOk, OnErr};
 ghost use Rattle.std.specs.List.{insert, remove};
 ghost use Rattle.place_blocks.specs.Blocks.{joined, start, rank_of, head_at, halved, IsSpot, IsTaken, AreFilled, IsNarrowed};
 ghost use Rattle.place_blocks.specs.Edges.{mark_at, place_at, IsEdge, AreRising};
@@ -7,6 +7,7 @@ ghost use Rattle.place_blocks.specs.Moves.{entry_closed_up, entry_moved_up};
 
 use crate::block::Block;
 use crate::entry::{Entry, Spot};
+use crate::starts::{STRIDE, add_blocks, group_of, grow, lower, raise, subtract_blocks};
 use std::alloc::{AllocError, Global};
 use std::marker::Model;
 
@@ -17,18 +18,20 @@ const ROOM: usize = 256;
 #[derive(Drop)]
 pub struct Blocks {
     blocks: Vec<Block>,
+    // How many entries stand before every sixteenth block.
+    starts: Vec<usize>,
 }
 
 impl Model for Blocks {
     ghost use Rattle.std.specs.Prelude.{List};
     ghost use Rattle.place_blocks.specs.declared.entry.Entry.{Entry};
-    ghost use Rattle.place_blocks.specs.Blocks.{AreFilled};
+    ghost use Rattle.place_blocks.specs.Starts.{AreCounted};
 
     ghost Value = { List (List Entry) };
 
     ghost view = { λ b. b.blocks.items };
 
-    ghost invariant = { λ b. AreFilled b.blocks.items };
+    ghost invariant = { λ b. AreCounted b.blocks.items b.starts.items };
 }
 
 // Where the first marks of the blocks reach this one.
@@ -55,9 +58,12 @@ impl Blocks {
         requires { 0 < length entries.items }
         ensures { IfOk result (λ b. b ≡ entries.items ∷ []) }
     {
+        let mut starts = Vec::with_capacity(alloc, 2)?;
+        starts.push(0)?;
+        starts.push(entries.len())?;
         let mut blocks = Vec::new(alloc);
         blocks.push(Block::from_row(entries))?;
-        Ok(Blocks { blocks })
+        Ok(Blocks { blocks, starts })
     }
 
     /// The place at a spot.
@@ -112,14 +118,25 @@ impl Blocks {
         requires fits { length (joined self.now) < 2 ^ 63 }
         ensures { rank_of self.now low + result ≡ rank_of self.now high }
     {
-        if high.block < low.block {
-            return 0;
+        if low.block == high.block {
+            return high.offset - low.offset;
         }
-        let mut count = high.offset;
-        for i in low.block..high.block {
+        let before = self.start(low.block) + low.offset;
+        self.start(high.block) + high.offset - before
+    }
+
+    // How many entries stand before a block.
+    fn start(&self, block: usize) -> usize
+        requires within { block ≤ length self.now }
+        requires fits { length (joined self.now) < 2 ^ 63 }
+        ensures { result ≡ start self.now block }
+    {
+        let group = block / STRIDE;
+        let mut count = self.starts[group];
+        for i in group * STRIDE..block {
             count += self.blocks[i].len();
         }
-        count - low.offset
+        count
     }
 
     /// A spot and a count of entries from there on, among which are all with this mark.
@@ -159,6 +176,30 @@ impl Blocks {
         ensures taken { IsTaken self.now result }
         ensures rank { rank_of self.now result ≡ rank_of self.now spot + by }
     {
+        let offset = spot.offset + by;
+        if offset < self.blocks[spot.block].len() {
+            return Spot {
+                block: spot.block,
+                offset,
+            };
+        }
+        let rank = self.start(spot.block) + offset;
+        let group = group_of(self.starts.as_slice(), rank);
+        let first = Spot {
+            block: group * STRIDE,
+            offset: 0,
+        };
+        self.walked(first, rank - self.starts[group])
+    }
+
+    // The spot so many entries on, by way of each block between.
+    fn walked(&self, spot: Spot, by: usize) -> Spot
+        requires spot { IsSpot self.now spot }
+        requires within { rank_of self.now spot + by < length (joined self.now) }
+        requires fits { length (joined self.now) < 2 ^ 63 }
+        ensures taken { IsTaken self.now result }
+        ensures rank { rank_of self.now result ≡ rank_of self.now spot + by }
+    {
         let mut block = spot.block;
         let mut offset = spot.offset + by;
         while self.blocks[block].len() <= offset {
@@ -168,21 +209,59 @@ impl Blocks {
         Spot { block, offset }
     }
 
-    /// Puts an entry at a spot. An `Err` comes only where memory was refused, and then all is as it was.
+    /// Puts an entry at a spot. An `Err` comes only where memory was refused, or there are as many entries as can be
+    /// counted, and then all is as it was.
     pub fn insert(&mut self, spot: Spot, entry: Entry) -> Result<(), AllocError>
         requires { IsSpot self.old spot }
         ensures ok { OnOk result (joined self.new ≡ insert (joined self.old) (rank_of self.old spot) entry) }
         ensures err { OnErr result (joined self.new ≡ joined self.old) }
     {
+        if self.is_full() {
+            return Err(AllocError);
+        }
         let spot = self.with_room(spot)?;
         if spot.block == self.blocks.len() {
-            let block = Block::of(*self.blocks.allocator(), entry)?;
-            self.blocks.push(block)?;
+            self.push(entry)?;
             Ok(())
         } else {
-            self.blocks[spot.block].insert(spot.offset, entry)?;
+            self.insert_inside(spot, entry)?;
             Ok(())
         }
+    }
+
+    // Whether there are as many entries as can be counted.
+    fn is_full(&self) -> bool
+        ensures full { IsTrue result → 2 ^ 64 ≤ length (joined self.now) + 1 }
+        ensures room { IsFalse result → length (joined self.now) + 1 < 2 ^ 64 }
+    {
+        self.starts[self.starts.len() - 1] == usize::MAX
+    }
+
+    // Puts an entry behind all, in a block of its own.
+    fn push(&mut self, entry: Entry) -> Result<(), AllocError>
+        requires { length (joined self.old) + 1 < 2 ^ 64 }
+        ensures ok { OnOk result (joined self.new ≡ insert (joined self.old) (length (joined self.old)) entry) }
+        ensures err { OnErr result (self.new ≡ self.old) }
+    {
+        let count = self.blocks.len();
+        let block = Block::of(*self.blocks.allocator(), entry)?;
+        grow(&mut self.starts, self.blocks.as_slice())?;
+        self.blocks.push(block)?;
+        raise(self.starts.as_mut_slice(), count / STRIDE + 1);
+        Ok(())
+    }
+
+    // Puts an entry into a block.
+    fn insert_inside(&mut self, spot: Spot, entry: Entry) -> Result<(), AllocError>
+        requires block { spot.block < length self.old }
+        requires spot { IsSpot self.old spot }
+        requires fits { length (joined self.old) + 1 < 2 ^ 64 }
+        ensures ok { OnOk result (joined self.new ≡ insert (joined self.old) (rank_of self.old spot) entry) }
+        ensures err { OnErr result (self.new ≡ self.old) }
+    {
+        self.blocks[spot.block].insert(spot.offset, entry)?;
+        raise(self.starts.as_mut_slice(), spot.block / STRIDE + 1);
+        Ok(())
     }
 
     // The same spot, where its block has room for an entry; if need be, the block is made two.
@@ -227,8 +306,14 @@ impl Blocks {
         ensures err { OnErr result (self.new ≡ self.old) }
     {
         let upper = self.blocks[block].from(*self.blocks.allocator(), half, ROOM)?;
+        grow(&mut self.starts, self.blocks.as_slice())?;
         self.blocks.insert(block + 1, upper)?;
         self.blocks[block].truncate(half);
+        subtract_blocks(
+            self.starts.as_mut_slice(),
+            self.blocks.as_slice(),
+            block / STRIDE + 1,
+        );
         Ok(())
     }
 
@@ -250,10 +335,32 @@ impl Blocks {
         ensures { joined self.new ≡ remove (joined self.old) (rank_of self.old spot) }
     {
         if self.blocks[spot.block].len() == 1 {
-            drop(self.blocks.remove(spot.block));
+            self.remove_block(spot.block);
         } else {
-            self.blocks[spot.block].remove(spot.offset);
+            self.remove_inside(spot);
         }
+    }
+
+    // Takes a block of one entry out.
+    fn remove_block(&mut self, block: usize)
+        requires block { block < length self.old }
+        requires one { length (get_or self.old block []) ≡ 1 }
+        ensures { joined self.new ≡ remove (joined self.old) (start self.old block) }
+    {
+        let behind = block / STRIDE + 1;
+        add_blocks(self.starts.as_mut_slice(), self.blocks.as_slice(), behind);
+        lower(self.starts.as_mut_slice(), behind);
+        drop(self.blocks.remove(block));
+    }
+
+    // Takes an entry out of a block of more.
+    fn remove_inside(&mut self, spot: Spot)
+        requires taken { IsTaken self.old spot }
+        requires more { 1 < length (get_or self.old spot.block []) }
+        ensures { joined self.new ≡ remove (joined self.old) (rank_of self.old spot) }
+    {
+        self.blocks[spot.block].remove(spot.offset);
+        lower(self.starts.as_mut_slice(), spot.block / STRIDE + 1);
     }
 
     /// Makes a place the last of so many, and lowers those behind it.
@@ -270,10 +377,12 @@ impl Blocks {
     pub fn copied(&self, alloc: Global) -> Result<Blocks, AllocError>
         ensures { IfOk result (λ b. b ≡ self.now) }
     {
+        let mut starts = Vec::with_capacity(alloc, self.starts.len())?;
+        starts.extend_from_slice(self.starts.as_slice())?;
         let mut blocks = Vec::with_capacity(alloc, self.blocks.len())?;
         for block in &self.blocks {
             blocks.push(block.from(alloc, 0, block.len())?)?;
         }
-        Ok(Blocks { blocks })
+        Ok(Blocks { blocks, starts })
     }
 }

@@ -5,6 +5,7 @@ mod block;
 pub mod blocks;
 pub mod entry;
 pub mod moves;
+mod starts;
 
 pub use blocks::Blocks;
 pub use entry::{Entry, Spot};

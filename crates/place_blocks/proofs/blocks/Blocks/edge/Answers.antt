@@ -8,7 +8,7 @@ pub returns-in-Some-clause-edge : goal.returns-in-Some-clause-edge
 returns-in-Some-clause-edge c =
     let bs = c.args.self.now in
     let k = c.edge_of_heads-before.result in
-    let filled = subst AreFilled c.self.view_is c.self.invariant in
+    let filled = subst AreFilled c.self.view_is c.self.invariant.filled in
     let heads : IsEdge (head_at bs) (length bs) c.args.mark k = subst (λ xs. IsEdge (head_at xs) (length xs) c.args.mark k) (c.as_slice.ensures.value ∙ c.self.view_is) c.edge_of_heads-before.ensures in
     let h = c.in-Some.ensures in
     let next : k ≡ suc c.in-Some.block = omega (arith, h) in
@@ -20,7 +20,7 @@ pub returns-in-None-clause-edge : goal.returns-in-None-clause-edge
 returns-in-None-clause-edge c =
     let bs = c.args.self.now in
     let k = c.edge_of_heads-before.result in
-    let filled = subst AreFilled c.self.view_is c.self.invariant in
+    let filled = subst AreFilled c.self.view_is c.self.invariant.filled in
     let heads : IsEdge (head_at bs) (length bs) c.args.mark k = subst (λ xs. IsEdge (head_at xs) (length xs) c.args.mark k) (c.as_slice.ensures.value ∙ c.self.view_is) c.edge_of_heads-before.ensures in
     let h = c.in-None.ensures in
     edge_first bs c.args.mark k filled heads (omega (arith, h))

@@ -1,8 +1,10 @@
 use Rattle.std.proofs.Common.{◌≡◌, length, map, set, ap, sym, subst, ◌∙◌, arith}
 use Rattle.std.proofs.lemmas.List.Edits.{map_over_more}
-use Rattle.place_blocks.specs.Blocks.{joined, AreFilled}
+use Rattle.place_blocks.specs.Blocks.{joined}
+use Rattle.place_blocks.specs.Starts.{AreCounted}
 use Rattle.place_blocks.specs.Moves.{entry_moved_up}
-use Rattle.place_blocks.proofs.Joining.{all_mapped, lent_back, joined_map, filled_map}
+use Rattle.place_blocks.proofs.Joining.{all_mapped, lent_back, joined_map}
+use Rattle.place_blocks.proofs.Starting.{counted_map}
 use Rattle.place_blocks.proofs.blocks.Blocks.move_up.Goals as goal
 
 pub loop-block-preserved : goal.loop-block-preserved
@@ -16,7 +18,7 @@ invariant_of-self c =
     let count : length c.loop-block.block-items ≡ c.self.inside.blocks.len = omega (arith, c.loop-block.auto.block-items, ap length c.deref_mut-block-items.ensures.value, c.self.inside.blocks.ok.0) in
     let all = all_mapped (map (entry_moved_up c.args.gone c.args.count)) c.loop-block.block-index c.deref_mut-block-items.result.now c.loop-block.block-items c.loop-block-test.false c.loop-block.invariant
     ∙ ap (map (map (entry_moved_up c.args.gone c.args.count))) c.deref_mut-block-items.ensures.value in
-    subst AreFilled (sym (lent_back c.self.inside.blocks.len c.loop-block.block-items xs count ∙ all)) (filled_map (entry_moved_up c.args.gone c.args.count) xs c.self.invariant)
+    subst (λ ys. AreCounted ys c.self.inside.starts.items) (sym (lent_back c.self.inside.blocks.len c.loop-block.block-items xs count ∙ all)) (counted_map (entry_moved_up c.args.gone c.args.count) xs c.self.inside.starts.items c.self.invariant)
 
 pub returns : goal.returns
 returns c =

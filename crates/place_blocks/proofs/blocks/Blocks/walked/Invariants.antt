@@ -1,6 +1,6 @@
 use Rattle.std.proofs.Common.{◌≡◌, ◌+◌, ◌-◌, ◌≤◌, length}
 use Rattle.place_blocks.specs.Blocks.{start, rank_of}
-use Rattle.place_blocks.proofs.blocks.Blocks.advanced.Given as goal
+use Rattle.place_blocks.proofs.blocks.Blocks.walked.Given as goal
 
 abbrev pub invariant-loop-offset : goal.invariant-loop-offset
 invariant-loop-offset l = record {
