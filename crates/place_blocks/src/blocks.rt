@@ -229,7 +229,7 @@ impl Blocks {
         }
     }
 
-    // Whether there are as many entries as can be counted.
+    // Whether there are as many entries as can be counted. Memory ends long before.
     fn is_full(&self) -> bool
         ensures full { IsTrue result → 2 ^ 64 ≤ length (joined self.now) + 1 }
         ensures room { IsFalse result → length (joined self.now) + 1 < 2 ^ 64 }
