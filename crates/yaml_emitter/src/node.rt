@@ -32,7 +32,11 @@ pub(crate) struct Settings {
 }
 
 /// Writes the line `---` and the document's root below it.
-pub(crate) fn write_document<W: Writer>(out: &mut W, settings: &Settings, root: &Yaml) -> fmt::Result
+pub(crate) fn write_document<W: Writer>(
+    out: &mut W,
+    settings: &Settings,
+    root: &Yaml,
+) -> fmt::Result
     ensures text { WritesUnless (2 ^ 62 ≤ levels (view root.now)) W.put_gives W.put_leaves out.old result
         (dump_text settings.now.compact settings.now.multiline (view root.now)) out.new }
     ensures valid { OnOk result (IsValid (view root.now)) }
@@ -98,7 +102,12 @@ fn is_block(node: &Yaml) -> bool
 }
 
 #[cycle(write)]
-fn write_array<W: Writer>(out: &mut W, settings: &Settings, level: usize, items: &Array) -> fmt::Result
+fn write_array<W: Writer>(
+    out: &mut W,
+    settings: &Settings,
+    level: usize,
+    items: &Array,
+) -> fmt::Result
     requires { level < 2 ^ 62 }
     ensures text { WritesUnless (2 ^ 62 ≤ level + levels (array_tree items.now)) W.put_gives W.put_leaves out.old result
         (stacked level (box settings.now.compact settings.now.multiline false (array_tree items.now))) out.new }
@@ -120,7 +129,12 @@ fn write_array<W: Writer>(out: &mut W, settings: &Settings, level: usize, items:
 }
 
 #[cycle(write)]
-fn write_hash<W: Writer>(out: &mut W, settings: &Settings, level: usize, pairs: &Hash) -> fmt::Result
+fn write_hash<W: Writer>(
+    out: &mut W,
+    settings: &Settings,
+    level: usize,
+    pairs: &Hash,
+) -> fmt::Result
     requires { level < 2 ^ 62 }
     ensures text { WritesUnless (2 ^ 62 ≤ level + levels (hash_tree pairs.now)) W.put_gives W.put_leaves out.old result
         (stacked level (box settings.now.compact settings.now.multiline false (hash_tree pairs.now))) out.new }
