@@ -16,10 +16,10 @@ pub returns-in-Ok-clause-same : goal.returns-in-Ok-clause-same
 returns-in-Ok-clause-same c = λ writable.
     let valid = c.in_ok-text.ensures.valid in
     let laid = c.dumps_are_laid_out.ensures c.args.compact c.args.multiline (view c.args.tree.now) valid.0 valid.1 writable in
-    c.in-Ok.ensures.laid_out _ (laid_out_as _ c.in_ok-text.text _ _ _ c.as_str.ensures.value c.in_ok-text.ensures.text laid)
+    c.in-Ok.ensures.basic _ (laid_out_as _ c.in_ok-text.text _ _ _ c.as_str.ensures.value c.in_ok-text.ensures.text laid)
 
 pub returns-clause-refused : goal.returns-clause-refused
 returns-clause-refused c = λ writable.
     let valid = c.in_ok-text.ensures.valid in
     let laid = c.dumps_are_laid_out.ensures c.args.compact c.args.multiline (view c.args.tree.now) valid.0 valid.1 writable in
-    c.from.ensures (c.in-Err.ensures.laid_out _ (laid_out_as _ c.in_ok-text.text _ _ _ c.as_str.ensures.value c.in_ok-text.ensures.text laid))
+    c.from.ensures (c.in-Err.ensures.basic _ (laid_out_as _ c.in_ok-text.text _ _ _ c.as_str.ensures.value c.in_ok-text.ensures.text laid))

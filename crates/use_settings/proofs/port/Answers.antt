@@ -13,7 +13,7 @@ its_key = refl
 pub returns-in-Some : goal.returns-in-Some
 returns-in-Some c = λ tree laid.
     c.number.ensures ∙ ap (λ k. number_of k (view c.in-Some.settings.now)) its_key
-    ∙ ap (number_of (codes "port")) (first_is view _ _ _ _ (c.in_ok-documents.ensures.laid_out tree laid) c.deref.ensures.value c.in-Some.ensures.value)
+    ∙ ap (number_of (codes "port")) (first_is view _ _ _ _ (c.in_ok-documents.ensures.basic tree laid) c.deref.ensures.value c.in-Some.ensures.value)
 
 pub returns : goal.returns
-returns c = λ tree laid. absurd (one_is_there view _ _ _ (c.in_ok-documents.ensures.laid_out tree laid) c.deref.ensures.value c.in-None.ensures.value)
+returns c = λ tree laid. absurd (one_is_there view _ _ _ (c.in_ok-documents.ensures.basic tree laid) c.deref.ensures.value c.in-None.ensures.value)
