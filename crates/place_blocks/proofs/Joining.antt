@@ -6,7 +6,7 @@ use Rattle.std.proofs.lemmas.Bool.{cases_lt}
 use Rattle.std.proofs.lemmas.List.Edits.{length-insert, insert-append_left, insert-append_right, remove-append_left, remove-append_right, insert_end}
 use Rattle.place_blocks.specs.declared.entry.Entry.{Entry}
 use Rattle.place_blocks.specs.Edges.{number_at, mark_at, place_at, IsEdge, AreRising}
-use Rattle.place_blocks.specs.Blocks.{joined, start, head_at, halved, AreFilled}
+use Rattle.place_blocks.specs.Blocks.{joined, start, head_at, halved, AreFilled, IsNarrowed}
 
 -- ---- entries by number
 
@@ -219,6 +219,32 @@ edges_rise es m n j k a d e h = by j d (cases_lt k j)
     by j d (inr g) = g
     by zero d (inl g) = absurd (omega arith)
     by (suc j) d (inl g) = absurd (omega (arith, d.counted, d.below j refl, e.from (omega (arith, d.counted)), a k j (omega arith) (omega (arith, d.counted))))
+
+-- between the first entry with a mark and the first with a higher one, all have this mark
+pub edges_narrow : (es : List Entry) (m n j k count : ℕ) → AreRising es → IsEdge (mark_at es) (length es) m j → IsEdge (mark_at es) (length es) n k → n ≡ m + 1 → j + count ≡ k
+    → IsNarrowed es m j count
+edges_narrow es m n j k count a d e next c = record { within = omega (arith, e.counted); below = d.below; inside = same; above = behind }
+  where
+    last : (i l : ℕ) → i ≤ l → suc l ≡ k → mark_at es i < n
+    last i l h f = omega (arith, e.below l f, a i l h (omega (arith, e.counted)))
+
+    same : (i : ℕ) → j ≤ i → i < j + count → mark_at es i ≡ m
+    same i h g = omega (arith, d.from (omega (arith, e.counted)), a j i h (omega (arith, e.counted)), last i (k - 1) (omega arith) (omega arith))
+
+    behind : j + count < length es → m < mark_at es (j + count)
+    behind h = omega (arith, ap (mark_at es) c, e.from (omega arith))
+
+-- no entry from the first with a mark on has it
+pub edge_past : (es : List Entry) (m j : ℕ) → IsEdge (mark_at es) (length es) m j → (j < length es → m < mark_at es j) → IsNarrowed es m j 0
+edge_past es m j d h = record {
+  within = omega (arith, d.counted);
+  below = d.below;
+  inside = λ i f g. absurd (omega arith);
+  above = λ g. omega (arith, h (omega arith), ap (mark_at es) (same j));
+}
+  where
+    same : (j : ℕ) → j + 0 ≡ j
+    same j = omega arith
 
 -- ---- reads and changes of a list of blocks
 

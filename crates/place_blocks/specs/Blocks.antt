@@ -36,10 +36,11 @@ AreFilled bs = (i : ℕ) → i < length bs → 0 < length (get_or bs i [])
 abbrev pub head_at : List (List Entry) → ℕ → ℕ
 head_at bs i = mark_at (get_or bs i []) 0
 
--- the entries before the rank have lower marks; those behind so many from there on, higher ones
+-- so many entries from the rank on have the mark; those before have lower ones, those behind higher ones
 pub record IsNarrowed (es : List Entry) (m rank count : ℕ) : Type 0 where
   pub within : rank + count ≤ length es
   pub below : (i : ℕ) → suc i ≡ rank → mark_at es i < m
+  pub inside : (i : ℕ) → rank ≤ i → i < rank + count → mark_at es i ≡ m
   pub above : rank + count < length es → m < mark_at es (rank + count)
 
 -- a block's first entries, so many, are a block of their own; the others are block n

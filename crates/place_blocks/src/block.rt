@@ -34,12 +34,6 @@ impl Block {
         Ok(Block { entries })
     }
 
-    pub(crate) fn from_row(entries: Vec<Entry>) -> Block
-        ensures { result ≡ entries.items }
-    {
-        Block { entries }
-    }
-
     pub(crate) fn len(&self) -> usize
         ensures { result ≡ length self.now }
     {

@@ -53,17 +53,16 @@ fn edge_of_heads(blocks: &[Block], mark: u64) -> usize
 }
 
 impl Blocks {
-    /// Entries in one block.
-    pub fn of(alloc: Global, entries: Vec<Entry>) -> Result<Blocks, AllocError>
-        requires { 0 < length entries.items }
-        ensures { IfOk result (λ b. b ≡ entries.items ∷ []) }
+    /// No entries.
+    pub fn new(alloc: Global) -> Result<Blocks, AllocError>
+        ensures { IfOk result (λ b. b ≡ []) }
     {
         let mut starts = Vec::with_capacity(alloc, 2)?;
         starts.push(0)?;
-        starts.push(entries.len())?;
-        let mut blocks = Vec::new(alloc);
-        blocks.push(Block::from_row(entries))?;
-        Ok(Blocks { blocks, starts })
+        Ok(Blocks {
+            blocks: Vec::new(alloc),
+            starts,
+        })
     }
 
     /// The place at a spot.
@@ -139,10 +138,11 @@ impl Blocks {
         count
     }
 
-    /// A spot and a count of entries from there on, among which are all with this mark.
+    /// The first spot whose mark is at least this one, and how many entries from there on have this mark.
     pub fn narrowed(&self, mark: u64) -> (Spot, usize)
         requires rising { AreRising (joined self.now) }
         requires fits { length (joined self.now) < 2 ^ 63 }
+        requires next { mark + 1 < 2 ^ 64 }
         ensures spot { IsSpot self.now result.0 }
         ensures narrowed { IsNarrowed (joined self.now) mark (rank_of self.now result.0) result.1 }
     {
@@ -150,22 +150,8 @@ impl Blocks {
         if self.is_past(low, mark) {
             return (low, 0);
         }
-        let high = match mark.checked_add(1) {
-            Some(next) => self.edge(next),
-            None => self.end(),
-        };
+        let high = self.edge(mark + 1);
         (low, self.between(low, high))
-    }
-
-    // The end of all.
-    fn end(&self) -> Spot
-        ensures spot { IsSpot self.now result }
-        ensures last { rank_of self.now result ≡ length (joined self.now) }
-    {
-        Spot {
-            block: self.blocks.len(),
-            offset: 0,
-        }
     }
 
     /// The spot so many entries on.

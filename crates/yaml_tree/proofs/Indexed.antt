@@ -1,18 +1,14 @@
 -- Places and marks of a hash, as blocks or few keep them.
-use Rattle.std.proofs.Common.{◌≡◌, ℕ, zero, suc, ◌+◌, ◌<◌, ◌≤◌, ◌⊎◌, List, [], ◌∷◌, ◌++◌, length, get_or, map, refl, sym, ap, subst, ◌∙◌, inl, inr, length-append, arith}
+use Rattle.std.proofs.Common.{◌≡◌, ℕ, zero, suc, ◌+◌, ◌<◌, ◌≤◌, List, [], ◌∷◌, length, get_or, map, refl, ap, arith}
 use Rattle.std.specs.List.{insert, remove}
-use Rattle.std.proofs.lemmas.List.{length-map, append-nil, get_or_append_left, get_or_at}
-use Rattle.std.proofs.lemmas.Bool.{cases_lt}
-use Rattle.place_blocks.specs.Blocks.{joined, IsNarrowed}
-use Rattle.place_blocks.specs.Edges.{mark_at, place_at, AreRising as AreRisingEntries}
+use Rattle.std.proofs.lemmas.List.{length-map}
+use Rattle.place_blocks.specs.Blocks.{joined}
+use Rattle.place_blocks.specs.Edges.{mark_at, place_at}
 use Rattle.place_blocks.specs.Moves.{closed_up, moved_up, entry_closed_up, entry_moved_up}
 use Rattle.place_blocks.specs.declared.entry.Entry.{Entry}
-use Rattle.tree_defs.specs.Tree.{Tree}
-use Rattle.yaml_tree.specs.Marks.{IsMark, AreMarks, AreRising, IsWindow}
 use Rattle.yaml_tree.specs.Places.{place_of_entry, mark_of_entry, places, marks, rank_at, HasSpot, HasPlace}
 use Rattle.place_blocks.proofs.Joining.{rank_within, rank_inside}
 use Rattle.place_blocks.specs.declared.entry.Spot.{Spot}
-use Rattle.yaml_tree.specs.Ranked.{key_of_rank}
 use Rattle.yaml_tree.specs.declared.ranks.Kept.{Kept}
 use Rattle.yaml_tree.specs.declared.ranks.Kept.TheVariants.{Few, Many}
 
@@ -29,24 +25,6 @@ place_mapped (e ∷ es) (suc i) = place_mapped es i
 pub marks_counted : (k : Kept) → length (marks k) ≤ length (places k)
 marks_counted (Few ps) = omega arith
 marks_counted (Many b) = omega (arith, length-map (joined b.value) mark_of_entry, length-map (joined b.value) place_of_entry)
-
-pub entries_rise : (es : List Entry) → AreRising (map mark_of_entry es) → AreRisingEntries es
-entries_rise es a i j h g = omega (arith, mark_mapped es i, mark_mapped es j, a i j h (omega (arith, length-map es mark_of_entry)))
-
-pub narrowed_window : (k : Tree) (es : List Entry) (m rank count : ℕ) → IsMark k m → IsNarrowed es m rank count → IsWindow k (map mark_of_entry es) (length (map place_of_entry es)) rank count
-narrowed_window k es m rank count its n = record {
-  within = omega (arith, n.within, length-map es place_of_entry);
-  before = λ i e. record { mark = m; its = its; inside = omega (arith, n.within, length-map es mark_of_entry); higher = omega (arith, mark_mapped es i, n.below i e) };
-  behind = λ h. record {
-    mark = m;
-    its = its;
-    inside = omega (arith, length-map es mark_of_entry, length-map es place_of_entry);
-    lower = omega (arith, mark_mapped es (rank + count), n.above (omega (arith, length-map es place_of_entry)));
-  };
-}
-
-pub whole_window : (k : Tree) (ms : List ℕ) (n : ℕ) → IsWindow k ms n 0 n
-whole_window k ms n = record { within = omega arith; before = λ i e. absurd (omega arith); behind = λ h. absurd (omega arith) }
 
 -- ---- maps over changes
 
@@ -78,22 +56,6 @@ places_moved gone n (e ∷ es) = ap (λ ns. moved_up gone n e.place ∷ ns) (pla
 pub marks_moved : (gone n : ℕ) (es : List Entry) → map mark_of_entry (map (entry_moved_up gone n) es) ≡ map mark_of_entry es
 marks_moved gone n [] = refl
 marks_moved gone n (e ∷ es) = ap (λ ns. e.mark ∷ ns) (marks_moved gone n es)
-
--- ---- one more
-
-pub marked_more : (ms rs : List ℕ) (ps : List (Tree × Tree)) (m n : ℕ) → n ≡ length ms → AreMarks ms rs ps → IsMark (key_of_rank rs ps n) m → AreMarks (ms ++ m ∷ []) rs ps
-marked_more ms rs ps m n e marked its r h = by (cases_lt r (length ms))
-  where
-    by : (r < length ms) ⊎ (length ms ≤ r) → IsMark (key_of_rank rs ps r) (get_or (ms ++ m ∷ []) r 0)
-    by (inl g) = subst (IsMark (key_of_rank rs ps r)) (sym (get_or_append_left ms (m ∷ []) 0 r g)) (marked r g)
-    by (inr g) =
-        let here : r ≡ n = omega (arith, length-append ms (m ∷ [])) in
-        subst (λ i. IsMark (key_of_rank rs ps i) (get_or (ms ++ m ∷ []) i 0)) (sym here)
-        (subst (IsMark (key_of_rank rs ps n)) (sym (get_or_at ms m [] 0 n (sym e))) its)
-
--- all entries of one block, and one more among them
-pub joined_one : (bs : List (List Entry)) (es : List Entry) → bs ≡ es ∷ [] → joined bs ≡ es
-joined_one bs es e = ap joined e ∙ append-nil es
 
 -- ---- spots
 

@@ -1,13 +1,13 @@
 -- A row beside its places and marks, after a change.
 use Rattle.std.proofs.Common.{◌≡◌, ℕ, zero, suc, ◌+◌, ◌*◌, ◌<◌, List, [], ◌∷◌, ◌++◌, length, get_or, set, map, refl, sym, subst, arith}
-use Rattle.std.specs.List.{insert, remove}
+use Rattle.std.specs.List.{remove}
 use Rattle.std.proofs.lemmas.List.{length-map}
 use Rattle.place_blocks.specs.Blocks.{joined}
 use Rattle.place_blocks.specs.Moves.{closed_up, moved_up}
 use Rattle.tree_defs.specs.Tree.{Tree}
 use Rattle.tree_defs.specs.Pairs.{insert as insert_pair, without}
-use Rattle.yaml_tree.specs.Flat.{flat, paired}
-use Rattle.yaml_tree.specs.Marks.{AreMarks}
+use Rattle.yaml_tree.specs.Flat.{flat}
+use Rattle.yaml_tree.specs.Marks.{AreMarks, first_by}
 use Rattle.yaml_tree.specs.Places.{place_of_entry, mark_of_entry, places, marks, IsIndexed}
 use Rattle.yaml_tree.specs.Ranked.{AreRanked, IsHash, IsRank, IsGap}
 use Rattle.yaml_tree.specs.View.{view, items_view, pairs_view}
@@ -25,7 +25,7 @@ no_marks [] zero s e h = absurd (omega arith)
 no_marks [] (suc r) s e h = absurd (omega arith)
 no_marks (m ∷ ms) r s e h = cc
 
-marked_without : (o : Kept) (ps : List (Tree × Tree)) (r : ℕ) → AreRanked (places o) ps → r < length (places o) → AreMarks (marks o) (places o) ps
+marked_without : (o : Kept) (ps : List (Tree × Tree)) (r : ℕ) → AreRanked (first_by o) (places o) ps → r < length (places o) → AreMarks (marks o) (places o) ps
     → AreMarks (remove (marks o) r) (map (closed_up (get_or (places o) r 0)) (remove (places o) r)) (remove ps (get_or (places o) r 0))
 marked_without (Few rs) ps r a h marked = λ s g. absurd (no_marks [] r s refl g)
 marked_without (Many b) ps r a h marked =
@@ -34,11 +34,11 @@ marked_without (Many b) ps r a h marked =
 
 module _ (k v : Tree) (ys zs : List Yaml) (o n : Kept) (i : IsIndexed (items_view ys) o) (r : ℕ) where
   pub indexed_moved : IsRank k (places o) (pairs_view ys) r → items_view zs ≡ flat (insert_pair k v (pairs_view ys))
-      → places n ≡ map (moved_up (get_or (places o) r 0) (length (places o))) (places o) → marks n ≡ marks o → IsIndexed (items_view zs) n
-  indexed_moved at e f g =
+      → places n ≡ map (moved_up (get_or (places o) r 0) (length (places o))) (places o) → marks n ≡ marks o → first_by n ≡ first_by o → IsIndexed (items_view zs) n
+  indexed_moved at e f g order =
       let p = place_in k (pairs_view ys) (get_or (places o) r 0) (ranked_place k ys (pairs_view ys) (places o) r (get_or (places o) r 0) i.hash refl at refl) in
       record {
-        hash = made_moved k v ys (places o) i.hash zs (places n) r at e f;
+        hash = subst (λ m. IsHash m (items_view zs) (places n)) (sym order) (made_moved k v ys (places o) i.hash zs (places n) r at e f);
         marked = subst (AreMarks (marks n) (places n)) (sym (seen_as zs (insert_pair k v (pairs_view ys)) e))
             (subst (λ us. AreMarks (marks n) (places n) (us ++ (k, v) ∷ [])) p.rest
             (subst (λ ms. AreMarks ms (places n) (remove (pairs_view ys) (get_or (places o) r 0) ++ (k, v) ∷ [])) (sym g)
@@ -47,11 +47,11 @@ module _ (k v : Tree) (ys zs : List Yaml) (o n : Kept) (i : IsIndexed (items_vie
       }
 
   pub indexed_without : IsRank k (places o) (pairs_view ys) r → items_view zs ≡ flat (without k (pairs_view ys))
-      → places n ≡ map (closed_up (get_or (places o) r 0)) (remove (places o) r) → marks n ≡ remove (marks o) r → IsIndexed (items_view zs) n
-  indexed_without at e f g =
+      → places n ≡ map (closed_up (get_or (places o) r 0)) (remove (places o) r) → marks n ≡ remove (marks o) r → first_by n ≡ first_by o → IsIndexed (items_view zs) n
+  indexed_without at e f g order =
       let p = place_in k (pairs_view ys) (get_or (places o) r 0) (ranked_place k ys (pairs_view ys) (places o) r (get_or (places o) r 0) i.hash refl at refl) in
       record {
-        hash = made_without k v ys (places o) i.hash zs (places n) r at e f;
+        hash = subst (λ m. IsHash m (items_view zs) (places n)) (sym order) (made_without k v ys (places o) i.hash zs (places n) r at e f);
         marked = subst (AreMarks (marks n) (places n)) (sym (seen_as zs (without k (pairs_view ys)) e))
             (subst (AreMarks (marks n) (places n)) p.rest
             (subst (λ ms. AreMarks ms (places n) (remove (pairs_view ys) (get_or (places o) r 0))) (sym g)
@@ -59,23 +59,15 @@ module _ (k v : Tree) (ys zs : List Yaml) (o n : Kept) (i : IsIndexed (items_vie
             (marked_without o (pairs_view ys) r i.hash.ranked at.0 i.marked))));
       }
 
-  pub indexed_added : IsGap k (places o) (pairs_view ys) r → items_view zs ≡ flat (insert_pair k v (pairs_view ys))
-      → places n ≡ insert (places o) r (length (places o)) → AreMarks (marks n) (places n) (pairs_view ys ++ (k, v) ∷ []) → IsIndexed (items_view zs) n
-  indexed_added gap e f g =
+  pub indexed_added : IsGap (first_by o) k (places o) (pairs_view ys) r → items_view zs ≡ flat (insert_pair k v (pairs_view ys))
+      → AreRanked (first_by n) (places n) (pairs_view ys ++ (k, v) ∷ []) → AreMarks (marks n) (places n) (pairs_view ys ++ (k, v) ∷ []) → IsIndexed (items_view zs) n
+  indexed_added gap e a g =
       let away = absent k (pairs_view ys) (gap_none k (places o) (pairs_view ys) i.hash.ranked r gap) in
       record {
-        hash = made_added k v ys (places o) i.hash zs (places n) r gap e f;
+        hash = made_added k v ys (places o) i.hash zs (places n) r gap e a;
         marked = subst (AreMarks (marks n) (places n)) (sym (seen_as zs (insert_pair k v (pairs_view ys)) e))
             (subst (λ us. AreMarks (marks n) (places n) (us ++ (k, v) ∷ [])) (sym away.same) g);
       }
-
--- the same places and marks
-pub indexed_same : (ys zs : List Yaml) (o n : Kept) → IsIndexed (items_view ys) o → items_view zs ≡ items_view ys → places n ≡ places o → marks n ≡ marks o → IsIndexed (items_view zs) n
-indexed_same ys zs o n i e f g = record {
-  hash = subst (λ ts. IsHash ts (places n)) (sym e) (subst (IsHash (items_view ys)) (sym f) i.hash);
-  marked = subst (λ ts. AreMarks (marks n) (places n) (paired ts)) (sym e)
-      (subst (λ ms. AreMarks ms (places n) (pairs_view ys)) (sym g) (subst (λ rs. AreMarks (marks o) rs (pairs_view ys)) (sym f) i.marked));
-}
 
 -- another value
 pub indexed_value : (ys : List Yaml) (o : Kept) (j : ℕ) (w : Yaml) → IsIndexed (items_view ys) o → IsIndexed (items_view (set ys (2 * j + 1) w)) o

@@ -1,3 +1,4 @@
+pub mod Beginnings
 pub mod Comparing
 pub mod Copied
 pub mod Discarding

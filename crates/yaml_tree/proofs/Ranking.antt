@@ -3,18 +3,19 @@ use Rattle.std.proofs.Common.{◌≡◌, ◌≢◌, ℕ, zero, suc, ◌+◌, ◌
 use Rattle.std.specs.List.{insert, remove, list_any, IsDistinct, AllByRecursion}
 use Rattle.std.specs.Prelude.{nat_lt}
 use Rattle.std.specs.Ordering.{ordering_reverse}
+use Rattle.std.specs.Cmp.{IsTotalOrder}
 use Rattle.std.proofs.lemmas.Bool.{cases_lt, false_from_ne_true, eqb-true}
 use Rattle.std.proofs.lemmas.Bool.Decides.{nat_tests}
-use Rattle.std.proofs.lemmas.Cmp.{tied_itself}
+use Rattle.std.proofs.lemmas.Cmp.{tied_itself, nat_cmp_total, on_total, then_total}
 use Rattle.std.proofs.lemmas.List.{get_or-map}
 use Rattle.std.proofs.lemmas.List.Edits.{length-insert, length-remove, get_or-insert_below, get_or-insert_at, get_or-insert_above, get_or-remove_below, get_or-remove_above}
 use Rattle.std.proofs.lemmas.Map.Steps.{length-le_from_distinct_below}
 use Rattle.tree_defs.specs.Tree.{Tree}
-use Rattle.tree_defs.specs.Order.{tree_cmp, tree_eq}
+use Rattle.tree_defs.specs.Order.{tree_eq}
 use Rattle.tree_defs.specs.Pairs.{place_of, with_value_at, Lacks, AreDistinct}
 use Rattle.tree_defs.proofs.OrderLaws.{tree_cmp_total}
 use Rattle.tree_defs.proofs.PairsLaws.{tree_eq-itself, tree_eq-other}
-use Rattle.yaml_tree.specs.Ranked.{key_at, key_of_rank, AreRanked, IsRank, IsGap}
+use Rattle.yaml_tree.specs.Ranked.{key_at, key_of_rank, key_cmp, AreRanked, IsRank, IsGap}
 use Rattle.place_blocks.specs.Moves.{closed_up, moved_up}
 
 abbrev pub Pairs : Type 0
@@ -22,17 +23,20 @@ Pairs = List (Tree × Tree)
 
 -- ---- the order
 
-less_greater : (s t : Tree) → tree_cmp s t ≡ Less → tree_cmp t s ≡ Greater
-less_greater s t e = tree_cmp_total.antisymm t s ∙ ap ordering_reverse e
+pub key_cmp_total : (m : Tree → ℕ) → IsTotalOrder (key_cmp m)
+key_cmp_total m = then_total (on_total m nat_cmp_total) tree_cmp_total
 
-pub greater_less : (s t : Tree) → tree_cmp s t ≡ Greater → tree_cmp t s ≡ Less
-greater_less s t e = tree_cmp_total.antisymm t s ∙ ap ordering_reverse e
+less_greater : (m : Tree → ℕ) (s t : Tree) → key_cmp m s t ≡ Less → key_cmp m t s ≡ Greater
+less_greater m s t e = (key_cmp_total m).antisymm t s ∙ ap ordering_reverse e
 
-above_lower : (k s t : Tree) → tree_cmp k t ≡ Greater → tree_cmp s t ≡ Less → tree_cmp k s ≡ Greater
-above_lower k s t e f = less_greater s k (tree_cmp_total.trans s t k f (greater_less k t e))
+pub greater_less : (m : Tree → ℕ) (s t : Tree) → key_cmp m s t ≡ Greater → key_cmp m t s ≡ Less
+greater_less m s t e = (key_cmp_total m).antisymm t s ∙ ap ordering_reverse e
 
-below_higher : (k s t : Tree) → tree_cmp k s ≡ Less → tree_cmp s t ≡ Less → tree_cmp k t ≡ Less
-below_higher k s t e f = tree_cmp_total.trans k s t e f
+above_lower : (m : Tree → ℕ) (k s t : Tree) → key_cmp m k t ≡ Greater → key_cmp m s t ≡ Less → key_cmp m k s ≡ Greater
+above_lower m k s t e f = less_greater m s k ((key_cmp_total m).trans s t k f (greater_less m k t e))
+
+below_higher : (m : Tree → ℕ) (k s t : Tree) → key_cmp m k s ≡ Less → key_cmp m s t ≡ Less → key_cmp m k t ≡ Less
+below_higher m k s t e f = (key_cmp_total m).trans k s t e f
 
 less_not_equal : Less ≢ Equal
 less_not_equal e = cc
@@ -40,8 +44,8 @@ less_not_equal e = cc
 greater_not_equal : Greater ≢ Equal
 greater_not_equal e = cc
 
-not_less : (s t : Tree) → s ≡ t → tree_cmp s t ≢ Less
-not_less s t e f = less_not_equal (sym f ∙ ap (tree_cmp s) (sym e) ∙ tied_itself tree_cmp_total s)
+not_less : (m : Tree → ℕ) (s t : Tree) → s ≡ t → key_cmp m s t ≢ Less
+not_less m s t e f = less_not_equal (sym f ∙ ap (key_cmp m s) (sym e) ∙ tied_itself (key_cmp_total m) s)
 
 -- ---- keys by place
 
@@ -127,29 +131,29 @@ closed_within p q n a h g = by (sides q p)
 
 -- ---- ranks
 
-pub no_ranks : AreRanked [] []
+pub no_ranks : {m : Tree → ℕ} → AreRanked m [] []
 no_ranks = record { counted = refl; within = λ r h. absurd (omega arith); ascending = λ r s h g. absurd (omega arith) }
 
 -- the same keys at the same ranks
-same_keys : (rs qs : List ℕ) (ps us : Pairs) → AreRanked rs ps → length qs ≡ length rs → length us ≡ length ps
-    → ((r : ℕ) → r < length qs → (get_or qs r 0 < length us) × (key_of_rank qs us r ≡ key_of_rank rs ps r)) → AreRanked qs us
-same_keys rs qs ps us a m n f = record {
-  counted = m ∙ a.counted ∙ sym n;
+same_keys : {m : Tree → ℕ} (rs qs : List ℕ) (ps us : Pairs) → AreRanked m rs ps → length qs ≡ length rs → length us ≡ length ps
+    → ((r : ℕ) → r < length qs → (get_or qs r 0 < length us) × (key_of_rank qs us r ≡ key_of_rank rs ps r)) → AreRanked m qs us
+same_keys {m} rs qs ps us a l n f = record {
+  counted = l ∙ a.counted ∙ sym n;
   within = λ r h. (f r h).0;
   ascending = λ r s h g.
-      subst (λ t. tree_cmp t (key_of_rank qs us s) ≡ Less) (sym (f r (omega arith)).1)
-      (subst (λ t. tree_cmp (key_of_rank rs ps r) t ≡ Less) (sym (f s g).1) (a.ascending r s h (omega (arith, m))));
+      subst (λ t. key_cmp m t (key_of_rank qs us s) ≡ Less) (sym (f r (omega arith)).1)
+      (subst (λ t. key_cmp m (key_of_rank rs ps r) t ≡ Less) (sym (f s g).1) (a.ascending r s h (omega (arith, l))));
 }
 
-pub ranked_value : (rs : List ℕ) (ps : Pairs) (i : ℕ) (t : Tree) → AreRanked rs ps → AreRanked rs (with_value_at i t ps)
+pub ranked_value : {m : Tree → ℕ} (rs : List ℕ) (ps : Pairs) (i : ℕ) (t : Tree) → AreRanked m rs ps → AreRanked m rs (with_value_at i t ps)
 ranked_value rs ps i t a =
     same_keys rs rs ps (with_value_at i t ps) a refl (length-with_value ps i t)
     (λ r h. (omega (arith, a.within r h, length-with_value ps i t), key_with_value ps i t (get_or rs r 0)))
 
 -- ranks have places of their own
-module _ (rs : List ℕ) (ps : Pairs) (a : AreRanked rs ps) where
+module _ {m : Tree → ℕ} (rs : List ℕ) (ps : Pairs) (a : AreRanked m rs ps) where
   rising_apart : (r s : ℕ) → r < s → s < length rs → get_or rs r 0 ≢ get_or rs s 0
-  rising_apart r s h g e = not_less _ _ (ap (key_at ps) e) (a.ascending r s h g)
+  rising_apart r s h g e = not_less m _ _ (ap (key_at ps) e) (a.ascending r s h g)
 
   other_place : (r s : ℕ) → r < length rs → s < length rs → s ≢ r → get_or rs s 0 ≢ get_or rs r 0
   other_place r s h g n = by (sides s r)
@@ -160,22 +164,22 @@ module _ (rs : List ℕ) (ps : Pairs) (a : AreRanked rs ps) where
       by (inr (inr l)) = λ e. rising_apart r s l g (sym e)
 
   -- a key above that of a rank is above all before; one below it is below all behind
-  pub above_up_to : (k : Tree) (m : ℕ) → m < length rs → tree_cmp k (key_of_rank rs ps m) ≡ Greater → (s : ℕ) → s < m + 1 → tree_cmp k (key_of_rank rs ps s) ≡ Greater
-  above_up_to k m h e s l = by (cases_lt s m)
+  pub above_up_to : (k : Tree) (l : ℕ) → l < length rs → key_cmp m k (key_of_rank rs ps l) ≡ Greater → (s : ℕ) → s < l + 1 → key_cmp m k (key_of_rank rs ps s) ≡ Greater
+  above_up_to k l h e s below = by (cases_lt s l)
     where
-      by : (s < m) ⊎ (m ≤ s) → tree_cmp k (key_of_rank rs ps s) ≡ Greater
-      by (inl g) = above_lower k _ _ e (a.ascending s m g h)
-      by (inr g) = ap (λ i. tree_cmp k (key_of_rank rs ps i)) (omega arith) ∙ e
+      by : (s < l) ⊎ (l ≤ s) → key_cmp m k (key_of_rank rs ps s) ≡ Greater
+      by (inl g) = above_lower m k _ _ e (a.ascending s l g h)
+      by (inr g) = ap (λ i. key_cmp m k (key_of_rank rs ps i)) (omega arith) ∙ e
 
-  pub below_from_on : (k : Tree) (m : ℕ) → tree_cmp k (key_of_rank rs ps m) ≡ Less → (s : ℕ) → m ≤ s → s < length rs → tree_cmp k (key_of_rank rs ps s) ≡ Less
-  below_from_on k m e s l h = by (cases_lt m s)
+  pub below_from_on : (k : Tree) (l : ℕ) → key_cmp m k (key_of_rank rs ps l) ≡ Less → (s : ℕ) → l ≤ s → s < length rs → key_cmp m k (key_of_rank rs ps s) ≡ Less
+  below_from_on k l e s above h = by (cases_lt l s)
     where
-      by : (m < s) ⊎ (s ≤ m) → tree_cmp k (key_of_rank rs ps s) ≡ Less
-      by (inl g) = below_higher k _ _ e (a.ascending m s g h)
-      by (inr g) = ap (λ i. tree_cmp k (key_of_rank rs ps i)) (omega arith) ∙ e
+      by : (l < s) ⊎ (s ≤ l) → key_cmp m k (key_of_rank rs ps s) ≡ Less
+      by (inl g) = below_higher m k _ _ e (a.ascending l s g h)
+      by (inr g) = ap (λ i. key_cmp m k (key_of_rank rs ps i)) (omega arith) ∙ e
 
-both : (s t u v : Tree) → s ≡ u → t ≡ v → tree_cmp u v ≡ Less → tree_cmp s t ≡ Less
-both s t u v d e h = ap (λ x. tree_cmp x t) d ∙ ap (tree_cmp u) e ∙ h
+both : (m : Tree → ℕ) (s t u v : Tree) → s ≡ u → t ≡ v → key_cmp m u v ≡ Less → key_cmp m s t ≡ Less
+both m s t u v d e h = ap (λ x. key_cmp m x t) d ∙ ap (key_cmp m u) e ∙ h
 
 length-mapped : (f : ℕ → ℕ) (xs : List ℕ) → length (map f xs) ≡ length xs
 length-mapped f [] = refl
@@ -207,7 +211,7 @@ moved_one ps k v p q n e h g is = by (sides q p)
         )
     by (inr (inr l)) = elsewhere (λ f. absurd (omega arith))
 
-pub moved_key : (rs : List ℕ) (ps : Pairs) (r : ℕ) (k v : Tree) → AreRanked rs ps → IsRank k rs ps r → (s : ℕ) → s < length rs
+pub moved_key : {m : Tree → ℕ} (rs : List ℕ) (ps : Pairs) (r : ℕ) (k v : Tree) → AreRanked m rs ps → IsRank k rs ps r → (s : ℕ) → s < length rs
     → (get_or (map (moved_up (get_or rs r 0) (length rs)) rs) s 0 < length (remove ps (get_or rs r 0) ++ (k, v) ∷ []))
     × (key_of_rank (map (moved_up (get_or rs r 0) (length rs)) rs) (remove ps (get_or rs r 0) ++ (k, v) ∷ []) s ≡ key_of_rank rs ps s)
 moved_key rs ps r k v a is s within =
@@ -215,8 +219,8 @@ moved_key rs ps r k v a is s within =
     let at = get_or-map (moved_up (get_or rs r 0) (length rs)) rs s 0 0 within in
     (omega (arith, one.0, at), ap (key_at (remove ps (get_or rs r 0) ++ (k, v) ∷ [])) at ∙ one.1)
 
-pub ranked_moved : (rs : List ℕ) (ps : Pairs) (r : ℕ) (k v : Tree) → AreRanked rs ps → IsRank k rs ps r
-    → AreRanked (map (moved_up (get_or rs r 0) (length rs)) rs) (remove ps (get_or rs r 0) ++ (k, v) ∷ [])
+pub ranked_moved : {m : Tree → ℕ} (rs : List ℕ) (ps : Pairs) (r : ℕ) (k v : Tree) → AreRanked m rs ps → IsRank k rs ps r
+    → AreRanked m (map (moved_up (get_or rs r 0) (length rs)) rs) (remove ps (get_or rs r 0) ++ (k, v) ∷ [])
 ranked_moved rs ps r k v a is =
     let fewer = length-remove ps (get_or rs r 0) (a.within r is.0) in
     let more = length-append_one (remove ps (get_or rs r 0)) (k, v) in
@@ -266,7 +270,7 @@ skip_get rs r s h = by (cases_lt s r)
     by (inl l) = get_or-remove_below rs r 0 s l h ∙ ap (λ i. get_or rs i 0) (sym (skip_below r s l))
     by (inr l) = get_or-remove_above rs r 0 s l h ∙ ap (λ i. get_or rs i 0) (omega (arith, skip_above r s l))
 
-module _ (rs : List ℕ) (ps : Pairs) (r : ℕ) (a : AreRanked rs ps) (h : r < length rs) where
+module _ {m : Tree → ℕ} (rs : List ℕ) (ps : Pairs) (r : ℕ) (a : AreRanked m rs ps) (h : r < length rs) where
   other_skipped : (s : ℕ) → s + 1 < length rs → get_or rs (skip r s) 0 ≢ get_or rs r 0
   other_skipped s g = other_place rs ps a r (skip r s) h (skip_within r s (length rs) g) (skip_apart r s)
 
@@ -278,15 +282,15 @@ module _ (rs : List ℕ) (ps : Pairs) (r : ℕ) (a : AreRanked rs ps) (h : r < l
       → key_of_rank (map (closed_up (get_or rs r 0)) (remove rs r)) (remove ps (get_or rs r 0)) s ≡ key_of_rank rs ps (skip r s)
   removed_key s g = ap (key_at (remove ps (get_or rs r 0))) (removed_place s g) ∙ closed_key ps (get_or rs r 0) (get_or rs (skip r s) 0) (other_skipped s g)
 
-pub ranked_removed : (rs : List ℕ) (ps : Pairs) (r : ℕ) → AreRanked rs ps → r < length rs
-    → AreRanked (map (closed_up (get_or rs r 0)) (remove rs r)) (remove ps (get_or rs r 0))
-ranked_removed rs ps r a h = record {
+pub ranked_removed : {m : Tree → ℕ} (rs : List ℕ) (ps : Pairs) (r : ℕ) → AreRanked m rs ps → r < length rs
+    → AreRanked m (map (closed_up (get_or rs r 0)) (remove rs r)) (remove ps (get_or rs r 0))
+ranked_removed {m} rs ps r a h = record {
   counted = omega (arith, same, fewer_ranks, fewer, a.counted);
   within = λ s g. omega (arith, low s (inside s g), removed_place rs ps r a h s (inside s g));
   ascending = λ s t l g.
       let t_in = inside t g in
       let s_in : s + 1 < length rs = omega arith in
-      both _ _ _ _ (removed_key rs ps r a h s s_in) (removed_key rs ps r a h t t_in) (a.ascending (skip r s) (skip r t) (skip_rises r s t l) (skip_within r t (length rs) t_in));
+      both m _ _ _ _ (removed_key rs ps r a h s s_in) (removed_key rs ps r a h t t_in) (a.ascending (skip r s) (skip r t) (skip_rises r s t l) (skip_within r t (length rs) t_in));
 }
   where
     fewer : length (remove ps (get_or rs r 0)) + 1 ≡ length ps
@@ -308,8 +312,8 @@ ranked_removed rs ps r a h = record {
 
 -- ---- a pair comes
 
-pub ranked_added : (rs : List ℕ) (ps : Pairs) (r : ℕ) (k v : Tree) → AreRanked rs ps → IsGap k rs ps r → AreRanked (insert rs r (length rs)) (ps ++ (k, v) ∷ [])
-ranked_added rs ps r k v a gap = record {
+pub ranked_added : {m : Tree → ℕ} (rs : List ℕ) (ps : Pairs) (r : ℕ) (k v : Tree) → AreRanked m rs ps → IsGap m k rs ps r → AreRanked m (insert rs r (length rs)) (ps ++ (k, v) ∷ [])
+ranked_added {m} rs ps r k v a gap = record {
   counted = omega (arith, more, length-append_one ps (k, v), a.counted);
   within = λ s h. low s h (sides s r);
   ascending = λ s t l h. rises s t l h (sides s r) (sides t r);
@@ -344,26 +348,26 @@ ranked_added rs ps r k v a gap = record {
     key_behind s l h = ap (key_at (ps ++ (k, v) ∷ [])) (behind s l) ∙ key_append_left ps ((k, v) ∷ []) (get_or rs s 0) (a.within s h)
 
     rises : (s t : ℕ) → s < t → t < length (insert rs r (length rs)) → (s < r) ⊎ ((s ≡ r) ⊎ (r < s)) → (t < r) ⊎ ((t ≡ r) ⊎ (r < t))
-        → tree_cmp (key_of_rank (insert rs r (length rs)) (ps ++ (k, v) ∷ []) s) (key_of_rank (insert rs r (length rs)) (ps ++ (k, v) ∷ []) t) ≡ Less
-    rises s t l h (inl m) (inl n) = both _ _ _ _ (key_before s m) (key_before t n) (a.ascending s t l (omega (arith, gap.within)))
-    rises s t l h (inl m) (inr (inl e)) = both _ _ _ _ (key_before s m) (key_here t e) (greater_less k (key_of_rank rs ps s) (gap.above s m))
-    rises s zero l h m (inr (inr n)) = absurd (omega arith)
-    rises s (suc t) l h (inl m) (inr (inr n)) =
-        both _ _ _ _ (key_before s m) (key_behind t (omega arith) (omega (arith, more))) (a.ascending s t (omega arith) (omega (arith, more)))
-    rises s t l h (inr (inl e)) (inl n) = absurd (omega arith)
+        → key_cmp m (key_of_rank (insert rs r (length rs)) (ps ++ (k, v) ∷ []) s) (key_of_rank (insert rs r (length rs)) (ps ++ (k, v) ∷ []) t) ≡ Less
+    rises s t l h (inl f) (inl g) = both m _ _ _ _ (key_before s f) (key_before t g) (a.ascending s t l (omega (arith, gap.within)))
+    rises s t l h (inl f) (inr (inl e)) = both m _ _ _ _ (key_before s f) (key_here t e) (greater_less m k (key_of_rank rs ps s) (gap.above s f))
+    rises s zero l h f (inr (inr g)) = absurd (omega arith)
+    rises s (suc t) l h (inl f) (inr (inr g)) =
+        both m _ _ _ _ (key_before s f) (key_behind t (omega arith) (omega (arith, more))) (a.ascending s t (omega arith) (omega (arith, more)))
+    rises s t l h (inr (inl e)) (inl g) = absurd (omega arith)
     rises s t l h (inr (inl e)) (inr (inl f)) = absurd (omega arith)
-    rises s (suc t) l h (inr (inl e)) (inr (inr n)) =
-        both _ _ _ _ (key_here s e) (key_behind t (omega arith) (omega (arith, more))) (gap.below t (omega arith) (omega (arith, more)))
-    rises s t l h (inr (inr m)) (inl n) = absurd (omega arith)
-    rises s t l h (inr (inr m)) (inr (inl f)) = absurd (omega arith)
-    rises zero (suc t) l h (inr (inr m)) (inr (inr n)) = absurd (omega arith)
-    rises (suc s) (suc t) l h (inr (inr m)) (inr (inr n)) =
-        both _ _ _ _ (key_behind s (omega arith) (omega (arith, more))) (key_behind t (omega arith) (omega (arith, more)))
+    rises s (suc t) l h (inr (inl e)) (inr (inr g)) =
+        both m _ _ _ _ (key_here s e) (key_behind t (omega arith) (omega (arith, more))) (gap.below t (omega arith) (omega (arith, more)))
+    rises s t l h (inr (inr f)) (inl g) = absurd (omega arith)
+    rises s t l h (inr (inr f)) (inr (inl g)) = absurd (omega arith)
+    rises zero (suc t) l h (inr (inr f)) (inr (inr g)) = absurd (omega arith)
+    rises (suc s) (suc t) l h (inr (inr f)) (inr (inr g)) =
+        both m _ _ _ _ (key_behind s (omega arith) (omega (arith, more))) (key_behind t (omega arith) (omega (arith, more)))
         (a.ascending s t (omega arith) (omega (arith, more)))
 
 -- ---- a key that has a rank, and one that has none
 
-Lacks_at : (k : Tree) (ps : Pairs) (i : ℕ) → Lacks k ps → i < length ps → k ≢ key_at ps i
+pub Lacks_at : (k : Tree) (ps : Pairs) (i : ℕ) → Lacks k ps → i < length ps → k ≢ key_at ps i
 Lacks_at k [] i l h = absurd (omega arith)
 Lacks_at k (p ∷ ps) zero l h = l.0
 Lacks_at k (p ∷ ps) (suc i) l h = Lacks_at k ps i l.1 (omega arith)
@@ -375,7 +379,7 @@ place_some k (p ∷ ps) (suc i) d h e =
     let other : k ≢ p.0 = λ f. Lacks_at p.0 ps i d.0 (omega arith) (sym f ∙ sym e) in
     ap (option_map suc) (place_some k ps i d.1 (omega arith) e) ∙ sym (ap (λ b. cond b (Some 0) (option_map suc (place_of k ps))) (tree_eq-other k p.0 other))
 
-place_none : (k : Tree) (ps : Pairs) → ((i : ℕ) → i < length ps → key_at ps i ≢ k) → None ≡ place_of k ps
+pub place_none : (k : Tree) (ps : Pairs) → ((i : ℕ) → i < length ps → key_at ps i ≢ k) → None ≡ place_of k ps
 place_none k [] n = refl
 place_none k (p ∷ ps) n =
     ap (option_map suc) (place_none k ps (λ i h. n (suc i) (omega arith)))
@@ -399,18 +403,18 @@ below_from (x ∷ xs) n f q e = by (eqb q x) refl e (below_from xs n (λ i h. f 
     by true d e later = omega (arith, eqb-true q x d, f 0 (omega arith))
     by false d e later = later e
 
-module _ (k : Tree) (rs : List ℕ) (ps : Pairs) (a : AreRanked rs ps) where
-  gap_apart : (r : ℕ) → IsGap k rs ps r → (s : ℕ) → s < length rs → key_of_rank rs ps s ≢ k
+module _ {m : Tree → ℕ} (k : Tree) (rs : List ℕ) (ps : Pairs) (a : AreRanked m rs ps) where
+  gap_apart : (r : ℕ) → IsGap m k rs ps r → (s : ℕ) → s < length rs → key_of_rank rs ps s ≢ k
   gap_apart r gap s h e = by (cases_lt s r)
     where
-      itself : tree_cmp k (key_of_rank rs ps s) ≡ Equal
-      itself = ap (tree_cmp k) e ∙ tied_itself tree_cmp_total k
+      itself : key_cmp m k (key_of_rank rs ps s) ≡ Equal
+      itself = ap (key_cmp m k) e ∙ tied_itself (key_cmp_total m) k
 
       by : (s < r) ⊎ (r ≤ s) → ⊥
       by (inl l) = greater_not_equal (sym (gap.above s l) ∙ itself)
       by (inr l) = less_not_equal (sym (gap.below s l h) ∙ itself)
 
-  absent_at : (r : ℕ) → IsGap k rs ps r → (p : ℕ) → p < length ps → key_at ps p ≢ k
+  absent_at : (r : ℕ) → IsGap m k rs ps r → (p : ℕ) → p < length ps → key_at ps p ≢ k
   absent_at r gap p h e =
       let count = length-le_from_distinct_below (p ∷ rs) (length ps) (distinct_from (p ∷ rs) apart) (below_from (p ∷ rs) (length ps) within) in
       absurd (omega (arith, count, a.counted))
@@ -424,5 +428,5 @@ module _ (k : Tree) (rs : List ℕ) (ps : Pairs) (a : AreRanked rs ps) where
       within zero g = h
       within (suc i) g = a.within i (omega arith)
 
-  pub gap_none : (r : ℕ) → IsGap k rs ps r → None ≡ place_of k ps
+  pub gap_none : (r : ℕ) → IsGap m k rs ps r → None ≡ place_of k ps
   gap_none r gap = place_none k ps (absent_at r gap)

@@ -1,6 +1,6 @@
 -- A row of keys and values beside its ranks.
 use Rattle.std.proofs.Common.{◌≡◌, ℕ, ◌+◌, ◌*◌, ◌<◌, List, [], ◌∷◌, ◌++◌, length, get_or, set, map, Some, None, refl, sym, ap, subst, ◌∙◌, arith}
-use Rattle.std.specs.List.{insert, remove}
+use Rattle.std.specs.List.{remove}
 use Rattle.tree_defs.specs.Tree.{Tree}
 use Rattle.tree_defs.specs.Pairs.{insert as insert_pair, lookup, without, place_of, with_value_at, AreDistinct}
 use Rattle.tree_defs.proofs.PairsLaws.{AreDistinct-without, AreDistinct-insert}
@@ -11,11 +11,11 @@ use Rattle.yaml_tree.specs.View.{view, items_view, pairs_view}
 use Rattle.yaml_tree.specs.declared.yaml.Yaml.{Yaml}
 use Rattle.yaml_tree.proofs.Flattened.{pairs_from, even_from, row_length, key_seen, value_seen, taken, added, value_set}
 use Rattle.yaml_tree.proofs.Placed.{place_in, absent, AreDistinct-with_value_at}
-use Rattle.yaml_tree.proofs.Ranking.{place_some, gap_none, ranked_moved, ranked_removed, ranked_added, ranked_value}
+use Rattle.yaml_tree.proofs.Ranking.{place_some, gap_none, ranked_moved, ranked_removed, ranked_value}
 
 -- ---- a row that was looked into
 
-module _ (ys : List Yaml) (rs : List ℕ) (h : IsHash (items_view ys) rs) where
+module _ {m : Tree → ℕ} (ys : List Yaml) (rs : List ℕ) (h : IsHash m (items_view ys) rs) where
   pub ranked_inside : (r p : ℕ) → r < length rs → p ≡ get_or rs r 0 → p < length (pairs_view ys)
   ranked_inside r p g e = omega (arith, e, h.ranked.within r g)
 
@@ -33,7 +33,7 @@ pub record IsFound (k : Tree) (ys : List Yaml) (us : List (Tree × Tree)) (p : �
   pub found : (x : Yaml) → x ≡ get_or ys (2 * p + 1) x → Some (view x) ≡ lookup k us
   pub rest : (zs : List Yaml) → zs ≡ remove (remove ys (2 * p)) (2 * p) → items_view zs ≡ flat (without k us)
 
-pub placed : (k : Tree) (ys : List Yaml) (us : List (Tree × Tree)) (rs : List ℕ) (p : ℕ) → IsHash (items_view ys) rs → pairs_view ys ≡ us → Some p ≡ place_of k us → IsFound k ys us p
+pub placed : {m : Tree → ℕ} (k : Tree) (ys : List Yaml) (us : List (Tree × Tree)) (rs : List ℕ) (p : ℕ) → IsHash m (items_view ys) rs → pairs_view ys ≡ us → Some p ≡ place_of k us → IsFound k ys us p
 placed k ys us rs p h is e =
     let even : items_view ys ≡ flat us = h.even ∙ ap flat is in
     let at = place_in k us p e in
@@ -44,69 +44,68 @@ placed k ys us rs p h is e =
       rest = λ zs f. taken ys us even zs p at.within f ∙ ap flat at.rest;
     }
 
-pub ranked_place : (k : Tree) (ys : List Yaml) (us : List (Tree × Tree)) (rs : List ℕ) (r p : ℕ) → IsHash (items_view ys) rs → pairs_view ys ≡ us
+pub ranked_place : {m : Tree → ℕ} (k : Tree) (ys : List Yaml) (us : List (Tree × Tree)) (rs : List ℕ) (r p : ℕ) → IsHash m (items_view ys) rs → pairs_view ys ≡ us
     → IsRank k rs (pairs_view ys) r → p ≡ get_or rs r 0 → Some p ≡ place_of k us
 ranked_place k ys us rs r p h is at e =
     place_some k (pairs_view ys) p h.distinct (ranked_inside ys rs h r p at.0 e) (ap (key_at (pairs_view ys)) e ∙ at.1) ∙ ap (place_of k) is
 
-pub gap_place : (k : Tree) (ys : List Yaml) (us : List (Tree × Tree)) (rs : List ℕ) (r : ℕ) → IsHash (items_view ys) rs → pairs_view ys ≡ us
-    → IsGap k rs (pairs_view ys) r → None ≡ place_of k us
+pub gap_place : {m : Tree → ℕ} (k : Tree) (ys : List Yaml) (us : List (Tree × Tree)) (rs : List ℕ) (r : ℕ) → IsHash m (items_view ys) rs → pairs_view ys ≡ us
+    → IsGap m k rs (pairs_view ys) r → None ≡ place_of k us
 gap_place k ys us rs r h is gap = gap_none k rs (pairs_view ys) h.ranked r gap ∙ ap (place_of k) is
 
 -- ---- what a row is after a change
 
-pub made : (ys : List Yaml) (rs : List ℕ) (us : List (Tree × Tree)) → items_view ys ≡ flat us → AreDistinct us → AreRanked rs us → IsHash (items_view ys) rs
-made ys rs us e d a =
+pub made : {m : Tree → ℕ} (ys : List Yaml) (rs : List ℕ) (us : List (Tree × Tree)) → items_view ys ≡ flat us → AreDistinct us → AreRanked m rs us → IsHash m (items_view ys) rs
+made {m} ys rs us e d a =
     let same = pairs_from (items_view ys) us e in
-    record { even = even_from (items_view ys) us e; distinct = subst AreDistinct (sym same) d; ranked = subst (AreRanked rs) (sym same) a }
+    record { even = even_from (items_view ys) us e; distinct = subst AreDistinct (sym same) d; ranked = subst (AreRanked m rs) (sym same) a }
 
 pub seen_as : (ys : List Yaml) (us : List (Tree × Tree)) → items_view ys ≡ flat us → pairs_view ys ≡ us
 seen_as ys us e = pairs_from (items_view ys) us e
 
-module _ (k v : Tree) (ys : List Yaml) (rs : List ℕ) (h : IsHash (items_view ys) rs) where
+module _ {m : Tree → ℕ} (k v : Tree) (ys : List Yaml) (rs : List ℕ) (h : IsHash m (items_view ys) rs) where
   pub made_without : (zs : List Yaml) (qs : List ℕ) (r : ℕ) → IsRank k rs (pairs_view ys) r → items_view zs ≡ flat (without k (pairs_view ys))
-      → qs ≡ map (closed_up (get_or rs r 0)) (remove rs r) → IsHash (items_view zs) qs
+      → qs ≡ map (closed_up (get_or rs r 0)) (remove rs r) → IsHash m (items_view zs) qs
   made_without zs qs r at e f =
       let p = place_in k (pairs_view ys) (get_or rs r 0) (ranked_place k ys (pairs_view ys) rs r (get_or rs r 0) h refl at refl) in
       made zs qs (without k (pairs_view ys)) e (AreDistinct-without k (pairs_view ys) h.distinct)
-      (subst (λ xs. AreRanked xs (without k (pairs_view ys))) (sym f) (subst (AreRanked (map (closed_up (get_or rs r 0)) (remove rs r))) p.rest (ranked_removed rs (pairs_view ys) r h.ranked at.0)))
+      (subst (λ xs. AreRanked m xs (without k (pairs_view ys))) (sym f) (subst (AreRanked m (map (closed_up (get_or rs r 0)) (remove rs r))) p.rest (ranked_removed rs (pairs_view ys) r h.ranked at.0)))
 
   pub made_moved : (zs : List Yaml) (qs : List ℕ) (r : ℕ) → IsRank k rs (pairs_view ys) r → items_view zs ≡ flat (insert_pair k v (pairs_view ys))
-      → qs ≡ map (moved_up (get_or rs r 0) (length rs)) rs → IsHash (items_view zs) qs
+      → qs ≡ map (moved_up (get_or rs r 0) (length rs)) rs → IsHash m (items_view zs) qs
   made_moved zs qs r at e f =
       let p = place_in k (pairs_view ys) (get_or rs r 0) (ranked_place k ys (pairs_view ys) rs r (get_or rs r 0) h refl at refl) in
       made zs qs (insert_pair k v (pairs_view ys)) e (AreDistinct-insert k v (pairs_view ys) h.distinct)
-      (subst (λ xs. AreRanked xs (insert_pair k v (pairs_view ys))) (sym f)
-      (subst (λ us. AreRanked (map (moved_up (get_or rs r 0) (length rs)) rs) (us ++ (k, v) ∷ [])) p.rest (ranked_moved rs (pairs_view ys) r k v h.ranked at)))
+      (subst (λ xs. AreRanked m xs (insert_pair k v (pairs_view ys))) (sym f)
+      (subst (λ us. AreRanked m (map (moved_up (get_or rs r 0) (length rs)) rs) (us ++ (k, v) ∷ [])) p.rest (ranked_moved rs (pairs_view ys) r k v h.ranked at)))
 
-  pub made_added : (zs : List Yaml) (qs : List ℕ) (r : ℕ) → IsGap k rs (pairs_view ys) r → items_view zs ≡ flat (insert_pair k v (pairs_view ys))
-      → qs ≡ insert rs r (length rs) → IsHash (items_view zs) qs
-  made_added zs qs r gap e f =
+  pub made_added : {n : Tree → ℕ} (zs : List Yaml) (qs : List ℕ) (r : ℕ) → IsGap m k rs (pairs_view ys) r → items_view zs ≡ flat (insert_pair k v (pairs_view ys))
+      → AreRanked n qs (pairs_view ys ++ (k, v) ∷ []) → IsHash n (items_view zs) qs
+  made_added {n} zs qs r gap e a =
       let away = absent k (pairs_view ys) (gap_none k rs (pairs_view ys) h.ranked r gap) in
       made zs qs (insert_pair k v (pairs_view ys)) e (AreDistinct-insert k v (pairs_view ys) h.distinct)
-      (subst (λ xs. AreRanked xs (insert_pair k v (pairs_view ys))) (sym f)
-      (subst (λ us. AreRanked (insert rs r (length rs)) (us ++ (k, v) ∷ [])) (sym away.same) (ranked_added rs (pairs_view ys) r k v h.ranked gap)))
+      (subst (λ us. AreRanked n qs (us ++ (k, v) ∷ [])) (sym away.same) a)
 
 -- the pair is new
-pub row_added : (ys zs : List Yaml) (us : List (Tree × Tree)) (rs : List ℕ) (r : ℕ) (k v : Yaml) → IsHash (items_view ys) rs → pairs_view ys ≡ us → IsGap (view k) rs (pairs_view ys) r
+pub row_added : {m : Tree → ℕ} (ys zs : List Yaml) (us : List (Tree × Tree)) (rs : List ℕ) (r : ℕ) (k v : Yaml) → IsHash m (items_view ys) rs → pairs_view ys ≡ us → IsGap m (view k) rs (pairs_view ys) r
     → zs ≡ ys ++ k ∷ v ∷ [] → items_view zs ≡ flat (insert_pair (view k) (view v) us)
 row_added ys zs us rs r k v h is gap e =
     added ys us (h.even ∙ ap flat is) zs k v e
     ∙ ap (λ vs. flat (vs ++ (view k, view v) ∷ [])) (sym (absent (view k) us (gap_place (view k) ys us rs r h is gap)).same)
 
 -- the pair was there
-pub row_exchanged : (ys zs : List Yaml) (us : List (Tree × Tree)) (rs : List ℕ) (r p : ℕ) (k v : Yaml) → IsHash (items_view ys) rs → pairs_view ys ≡ us → IsRank (view k) rs (pairs_view ys) r
+pub row_exchanged : {m : Tree → ℕ} (ys zs : List Yaml) (us : List (Tree × Tree)) (rs : List ℕ) (r p : ℕ) (k v : Yaml) → IsHash m (items_view ys) rs → pairs_view ys ≡ us → IsRank (view k) rs (pairs_view ys) r
     → p ≡ get_or rs r 0 → zs ≡ remove (remove ys (2 * p)) (2 * p) ++ k ∷ v ∷ [] → items_view zs ≡ flat (insert_pair (view k) (view v) us)
 row_exchanged ys zs us rs r p k v h is at e f =
     let there = placed (view k) ys us rs p h is (ranked_place (view k) ys us rs r p h is at e) in
     added (remove (remove ys (2 * p)) (2 * p)) (without (view k) us) (there.rest _ refl) zs k v f
 
 -- another value
-pub made_value : (ys : List Yaml) (rs : List ℕ) (i : ℕ) (w : Yaml) → IsHash (items_view ys) rs → IsHash (items_view (set ys (2 * i + 1) w)) rs
+pub made_value : {m : Tree → ℕ} (ys : List Yaml) (rs : List ℕ) (i : ℕ) (w : Yaml) → IsHash m (items_view ys) rs → IsHash m (items_view (set ys (2 * i + 1) w)) rs
 made_value ys rs i w h =
     made (set ys (2 * i + 1) w) rs (with_value_at i (view w) (pairs_view ys)) (value_set ys (pairs_view ys) i w h.even)
     (AreDistinct-with_value_at i (view w) (pairs_view ys) h.distinct) (ranked_value rs (pairs_view ys) i (view w) h.ranked)
 
-pub seen_value : (ys : List Yaml) (us : List (Tree × Tree)) (rs : List ℕ) (i : ℕ) (w : Yaml) → IsHash (items_view ys) rs → pairs_view ys ≡ us
+pub seen_value : {m : Tree → ℕ} (ys : List Yaml) (us : List (Tree × Tree)) (rs : List ℕ) (i : ℕ) (w : Yaml) → IsHash m (items_view ys) rs → pairs_view ys ≡ us
     → pairs_view (set ys (2 * i + 1) w) ≡ with_value_at i (view w) us
 seen_value ys us rs i w h is = seen_as (set ys (2 * i + 1) w) (with_value_at i (view w) us) (value_set ys us i w (h.even ∙ ap flat is))

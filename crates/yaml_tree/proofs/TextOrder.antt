@@ -158,7 +158,7 @@ starts c r = by (class_of c)
     by (three a i e) = (_, (_, ap (λ xs. xs ++ r) e))
     by (four a e) = (_, (_, ap (λ xs. xs ++ r) e))
 
-pub encoded_cmp : (cs ds : List ℕ) → cmp (encode_utf8_all cs) (encode_utf8_all ds) ≡ cmp cs ds
+encoded_cmp : (cs ds : List ℕ) → cmp (encode_utf8_all cs) (encode_utf8_all ds) ≡ cmp cs ds
 encoded_cmp [] [] = refl
 encoded_cmp [] (d ∷ ds) = let s = starts d (encode_utf8_all ds) in ap (cmp []) s.1.1
 encoded_cmp (c ∷ cs) [] = let s = starts c (encode_utf8_all cs) in ap (λ xs. cmp xs []) s.1.1

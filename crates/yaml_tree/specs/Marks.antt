@@ -1,64 +1,50 @@
--- Numbers that rise as keys do: where two differ, so do the keys, in the same order.
-use Rattle.std.specs.Prelude.{◌≡◌, ℕ, ℤ, zero, suc, pos, negsuc, ◌+◌, ◌-◌, ◌*◌, ◌^◌, ◌<◌, ◌≤◌, max, min, List, [], ◌∷◌, length, get_or}
+-- A number of each key, by which most keys are told apart without a look at them.
+use Rattle.std.specs.Prelude.{◌≡◌, ℕ, suc, pos, negsuc, ◌+◌, ◌-◌, ◌*◌, ◌%◌, ◌^◌, ◌<◌, min, List, [], ◌∷◌, length, get_or}
 use Rattle.std.specs.Str.{encode_utf8_all}
+use Rattle.place_blocks.specs.Blocks.{joined, IsNarrowed}
+use Rattle.place_blocks.specs.Edges.{AreRising}
 use Rattle.tree_defs.specs.Tree.{Tree, real, integer, string, boolean, array, hash, alias, null, bad_value}
 use Rattle.yaml_tree.specs.Ranked.{key_of_rank}
+use Rattle.yaml_tree.specs.declared.ranks.Kept.{Kept}
+use Rattle.yaml_tree.specs.declared.ranks.Kept.TheVariants.{Few, Many}
 
--- a number with the first bytes of a text as further digits to the base 256, so many; a digit that is missing is 0
-abbrev pub leading : ℕ → ℕ → List ℕ → ℕ
-leading zero n bs = n
-leading (suc digits) n [] = leading digits (n * 256) []
-leading (suc digits) n (b ∷ bs) = leading digits (n * 256 + b) bs
+-- a number with the bytes as further digits to the base 257, of which the low 64 bits are kept
+abbrev pub with_digits : ℕ → List ℕ → ℕ
+with_digits n [] = n
+with_digits n (b ∷ bs) = with_digits ((n * 257 + b) % 2 ^ 64) bs
 
--- every item is a byte
-abbrev pub AreBytes : List ℕ → Type 0
-AreBytes bs = (i : ℕ) → i < length bs → get_or bs i 0 < 256
-
--- the number of a text by its bytes: that of its first eight, and no less than those of integers
+-- the mark of a text by its bytes; one more has 64 bits too
 unfoldable pub text_mark : List ℕ → ℕ
-text_mark bs = max (leading 8 0 bs) (2 ^ 60)
+text_mark bs = min (with_digits 0 bs) (2 ^ 64 - 2)
 
--- the number of an integer: those below 0 and the greatest aren't told apart
-abbrev pub number_mark : ℤ → ℕ
-number_mark (pos n) = min n (2 ^ 60 - 1)
-number_mark (negsuc n) = 0
+-- the mark of a key; only texts and integers have marks of their own
+abbrev pub mark : Tree → ℕ
+mark (real s) = text_mark (encode_utf8_all s)
+mark (integer (pos n)) = n
+mark (integer (negsuc n)) = suc n
+mark (string s) = text_mark (encode_utf8_all s)
+mark (boolean b) = 0
+mark (array ts) = 0
+mark (hash ps) = 0
+mark (alias n) = 0
+mark null = 0
+mark bad_value = 0
 
--- the number is that of the key
-abbrev pub IsMark : Tree → ℕ → Type 0
-IsMark (real s) m = m ≡ 0
-IsMark (integer z) m = m ≡ number_mark z
-IsMark (string s) m = AreBytes (encode_utf8_all s) × (m ≡ text_mark (encode_utf8_all s))
-IsMark (boolean b) m = m ≡ 2 ^ 64 - 1
-IsMark (array ts) m = m ≡ 2 ^ 64 - 1
-IsMark (hash ps) m = m ≡ 2 ^ 64 - 1
-IsMark (alias n) m = m ≡ 2 ^ 64 - 1
-IsMark null m = m ≡ 2 ^ 64 - 1
-IsMark bad_value m = m ≡ 2 ^ 64 - 1
-
--- each number is that of the key with this rank; there may be no numbers
+-- each number is the mark of the key with this rank; there may be no numbers
 abbrev pub AreMarks : List ℕ → List ℕ → List (Tree × Tree) → Type 0
-AreMarks ms rs ps = (r : ℕ) → r < length ms → IsMark (key_of_rank rs ps r) (get_or ms r 0)
+AreMarks ms rs ps = (r : ℕ) → r < length ms → get_or ms r 0 ≡ mark (key_of_rank rs ps r)
 
--- no number is above a later one
-abbrev pub AreRising : List ℕ → Type 0
-AreRising ms = (i j : ℕ) → i ≤ j → j < length ms → get_or ms i 0 ≤ get_or ms j 0
+-- the number by which ranks ascend before they do so by keys: a short hash has none
+abbrev pub first_by : Kept → Tree → ℕ
+first_by (Few ps) = λ t. 0
+first_by (Many b) = mark
 
--- the key's number is above the one with this rank
-pub record IsAboveMark (k : Tree) (ms : List ℕ) (r : ℕ) : Type 0 where
-  pub mark : ℕ
-  pub its : IsMark k mark
-  pub inside : r < length ms
-  pub higher : get_or ms r 0 < mark
+-- the marks that are kept rise
+abbrev pub HaveRising : Kept → Type 0
+HaveRising (Few ps) = Unit {0}
+HaveRising (Many b) = AreRising (joined b.value)
 
--- the key's number is below the one with this rank
-pub record IsBelowMark (k : Tree) (ms : List ℕ) (r : ℕ) : Type 0 where
-  pub mark : ℕ
-  pub its : IsMark k mark
-  pub inside : r < length ms
-  pub lower : mark < get_or ms r 0
-
--- of so many ranks, those that the numbers leave for the key: so many from there on
-pub record IsWindow (k : Tree) (ms : List ℕ) (n rank count : ℕ) : Type 0 where
-  pub within : rank + count ≤ n
-  pub before : (i : ℕ) → suc i ≡ rank → IsAboveMark k ms i
-  pub behind : rank + count < n → IsBelowMark k ms (rank + count)
+-- so many ranks from this one on are left for a key: all of a short hash, else those with its mark
+abbrev pub IsWindow : Kept → Tree → ℕ → ℕ → Type 0
+IsWindow (Few ps) k rank count = (rank ≡ 0) × (count ≡ length ps)
+IsWindow (Many b) k rank count = IsNarrowed (joined b.value) (mark k) rank count

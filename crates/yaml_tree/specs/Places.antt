@@ -5,7 +5,7 @@ use Rattle.place_blocks.specs.declared.entry.Entry.{Entry}
 use Rattle.place_blocks.specs.declared.entry.Spot.{Spot}
 use Rattle.tree_defs.specs.Tree.{Tree}
 use Rattle.yaml_tree.specs.Flat.{paired}
-use Rattle.yaml_tree.specs.Marks.{AreMarks}
+use Rattle.yaml_tree.specs.Marks.{AreMarks, first_by}
 use Rattle.yaml_tree.specs.Ranked.{IsHash}
 use Rattle.yaml_tree.specs.declared.ranks.Kept.{Kept}
 use Rattle.yaml_tree.specs.declared.ranks.Kept.TheVariants.{Few, Many}
@@ -16,15 +16,27 @@ place_of_entry e = e.place
 abbrev pub mark_of_entry : Entry → ℕ
 mark_of_entry e = e.mark
 
+-- places and marks of entries in blocks
+abbrev pub places_in : List (List Entry) → List ℕ
+places_in bs = map place_of_entry (joined bs)
+
+abbrev pub marks_in : List (List Entry) → List ℕ
+marks_in bs = map mark_of_entry (joined bs)
+
 -- those of a short hash, or those in blocks
 abbrev pub places : Kept → List ℕ
 places (Few ps) = ps
-places (Many b) = map place_of_entry (joined b.value)
+places (Many b) = places_in b.value
 
 -- the marks of their keys; a short hash keeps none
 abbrev pub marks : Kept → List ℕ
 marks (Few ps) = []
-marks (Many b) = map mark_of_entry (joined b.value)
+marks (Many b) = marks_in b.value
+
+-- a mark is kept for each key
+abbrev pub HasMarks : Kept → Type 0
+HasMarks (Few ps) = ⊥
+HasMarks (Many b) = Unit {0}
 
 -- the rank of a spot
 abbrev pub rank_at : Kept → Spot → ℕ
@@ -43,5 +55,5 @@ HasPlace (Many b) s = IsTaken b.value s
 
 -- a row of keys and values, whose ranks and marks are these
 pub record IsIndexed (ts : List Tree) (k : Kept) : Type 0 where
-  pub hash : IsHash ts (places k)
+  pub hash : IsHash (first_by k) ts (places k)
   pub marked : AreMarks (marks k) (places k) (paired ts)

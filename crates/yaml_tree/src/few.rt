@@ -1,10 +1,9 @@
 //! Places by rank for a short hash, with no memory of their own.
-ghost use Rattle.std.specs.Prelude.{◌≡◌, ◌<◌, ◌≤◌, ◌+◌, ◌++◌, ◌∷◌, [], length, map, take, get_or, IfOk};
+ghost use Rattle.std.specs.Prelude.{◌≡◌, ◌<◌, ◌≤◌, ◌+◌, ◌++◌, ◌∷◌, [], length, map, take, get_or};
 ghost use Rattle.std.specs.List.{insert, remove};
 ghost use Rattle.place_blocks.specs.Moves.{closed_up, moved_up};
 
 use place_blocks::moves::{closed_up, moved_up};
-use std::alloc::{AllocError, Global};
 use std::marker::Model;
 
 /// How many places there is room for.
@@ -123,16 +122,5 @@ impl Few {
             moved.push(moved_up(gone, count, self.at(rank)));
         }
         moved
-    }
-
-    /// The places in a row.
-    pub(crate) fn all(&self, alloc: Global) -> Result<Vec<usize>, AllocError>
-        ensures { IfOk result (λ v. v.items ≡ self.now) }
-    {
-        let mut all = Vec::with_capacity(alloc, 2 * ROOM)?;
-        for rank in 0..self.len() {
-            all.push(self.at(rank))?;
-        }
-        Ok(all)
     }
 }

@@ -1,18 +1,22 @@
-//! The places of a hash's pairs, in the order of their keys.
-ghost use Rattle.std.specs.Prelude.{◌≡◌, ◌<◌, ◌≤◌, ◌+◌, ◌^◌, ◌++◌, ◌∷◌, [], ℕ, List, length, map, get_or, IfOk, OnOk, OnErr};
-ghost use Rattle.std.specs.List.{insert, remove};
-ghost use Rattle.place_blocks.specs.Blocks.{joined};
+//! The places of a hash's pairs, in the order of their keys: a short hash's by the order of trees, a long one's by
+//! marks first.
+ghost use Rattle.std.specs.Prelude.{◌≡◌, ◌<◌, ◌≤◌, ◌+◌, ◌^◌, ◌++◌, ◌∷◌, [], ℕ, List, None, length, map, get_or, IfOk, OnOk, OnErr};
+ghost use Rattle.std.specs.List.{remove};
+ghost use Rattle.place_blocks.specs.Blocks.{joined, rank_of, IsSpot};
 ghost use Rattle.place_blocks.specs.Moves.{closed_up, moved_up};
+ghost use Rattle.tree_defs.specs.Pairs.{place_of, AreDistinct};
 ghost use Rattle.tree_defs.specs.Tree.{Tree};
-ghost use Rattle.yaml_tree.specs.Marks.{AreMarks, AreRising, IsWindow};
-ghost use Rattle.yaml_tree.specs.Places.{place_of_entry, mark_of_entry, places, marks, rank_at, HasSpot, HasPlace};
+ghost use Rattle.yaml_tree.specs.Flat.{flat};
+ghost use Rattle.yaml_tree.specs.Marks.{mark, first_by, AreMarks, HaveRising, IsWindow};
+ghost use Rattle.yaml_tree.specs.Places.{places_in, marks_in, places, marks, rank_at, HasSpot, HasPlace, HasMarks, IsIndexed};
 ghost use Rattle.yaml_tree.specs.Probes.{probed};
-ghost use Rattle.yaml_tree.specs.Ranked.{IsHash};
+ghost use Rattle.yaml_tree.specs.Ranked.{AreRanked, IsHash, IsGap};
 ghost use Rattle.yaml_tree.specs.View.{view, items_view, pairs_view};
 
 use crate::few::{Few, ROOM};
 use crate::mark::mark;
-use crate::search::Probe;
+use crate::search::{Probe, search};
+use crate::steps::Steps;
 use crate::yaml::Yaml;
 use place_blocks::{Blocks, Entry, Spot};
 use std::alloc::{AllocError, Global};
@@ -30,43 +34,40 @@ pub(crate) struct Ranks {
     kept: Kept,
 }
 
-// The places of a short hash, each with the mark of its key.
-fn marked(few: &Few, alloc: Global, row: &[Yaml]) -> Result<Vec<Entry>, AllocError>
-    requires { IsHash (items_view row.now) few.now }
-    ensures places { IfOk result (λ v. map place_of_entry v.items ≡ few.now) }
-    ensures marks { IfOk result (λ v. AreMarks (map mark_of_entry v.items) few.now (pairs_view row.now)) }
+// Adds the place of the next pair of a row, whose key belongs at this spot.
+fn put(blocks: &mut Blocks, row: &[Yaml], spot: Spot, key: &Yaml) -> Result<(), AllocError>
+    requires hash { IsHash mark (items_view row.now) (places_in blocks.old) }
+    requires marked { AreMarks (marks_in blocks.old) (places_in blocks.old) (pairs_view row.now) }
+    requires spot { IsSpot blocks.old spot }
+    requires gap { IsGap mark (view key.now) (places_in blocks.old) (pairs_view row.now) (rank_of blocks.old spot) }
+    ensures ranked { OnOk result ((v : Tree) → AreRanked mark (places_in blocks.new) (pairs_view row.now ++ (view key.now, v) ∷ [])) }
+    ensures marked { OnOk result ((v : Tree) → AreMarks (marks_in blocks.new) (places_in blocks.new) (pairs_view row.now ++ (view key.now, v) ∷ [])) }
+    ensures same { OnErr result (joined blocks.new ≡ joined blocks.old) }
 {
-    let mut entries = Vec::with_capacity(alloc, 2 * ROOM)?;
-    for rank in 0..few.len() {
-        let place = few.at(rank);
-        let mark = mark(&row[2 * place]);
-        entries.push(Entry { mark, place })?;
-    }
-    Ok(entries)
-}
-
-// The places of a short hash, and the next one with this rank.
-#[inline(never)]
-fn with_next(
-    few: &Few,
-    alloc: Global,
-    row: &[Yaml],
-    rank: usize,
-    key: &Yaml,
-) -> Result<Box<Blocks>, AllocError>
-    requires hash { IsHash (items_view row.now) few.now }
-    requires rank { rank ≤ length few.now }
-    ensures places { IfOk result (λ b. map place_of_entry (joined b.value) ≡ insert few.now rank (length few.now)) }
-    ensures marks { IfOk result (λ b. (v : Tree) → AreMarks (map mark_of_entry (joined b.value)) (insert few.now rank (length few.now))
-        (pairs_view row.now ++ (view key.now, v) ∷ [])) }
-{
-    let mut entries = marked(few, alloc, row)?;
     let next = Entry {
         mark: mark(key),
-        place: few.len(),
+        place: row.len() / 2,
     };
-    entries.insert(rank, next)?;
-    Ok(Box::new(alloc, Blocks::of(alloc, entries)?)?)
+    blocks.insert(spot, next)?;
+    Ok(())
+}
+
+// The index by marks of the pairs of a row.
+#[inline(never)]
+fn by_marks(alloc: Global, row: &[Yaml]) -> Result<Ranks, AllocError>
+    requires even { items_view row.now ≡ flat (pairs_view row.now) }
+    requires distinct { AreDistinct (pairs_view row.now) }
+    ensures indexed { IfOk result (λ r. IsIndexed (items_view row.now) r.kept) }
+    ensures many { IfOk result (λ r. HasMarks r.kept) }
+{
+    let blocks = Box::new(alloc, Blocks::new(alloc)?)?;
+    let mut ranks = Ranks {
+        kept: Kept::Many(blocks),
+    };
+    for place in 0..row.len() / 2 {
+        ranks.add(&row[..2 * place], &row[2 * place])?;
+    }
+    Ok(ranks)
 }
 
 impl Ranks {
@@ -83,10 +84,10 @@ impl Ranks {
     /// The first spot at which the key's place may be, and how many spots to search from there.
     #[inline(always)]
     pub(crate) fn window(&self, probe: Probe<'_>) -> (Spot, usize)
-        requires rising { AreRising (marks self.now.kept) }
+        requires rising { HaveRising self.now.kept }
         requires fits { length (places self.now.kept) < 2 ^ 63 }
         ensures spot { HasSpot self.now.kept result.0 }
-        ensures window { IsWindow (probed probe.entry) (marks self.now.kept) (length (places self.now.kept)) (rank_at self.now.kept result.0) result.1 }
+        ensures window { IsWindow self.now.kept (probed probe.entry) (rank_at self.now.kept result.0) result.1 }
     {
         match &self.kept {
             Kept::Few(few) => {
@@ -130,8 +131,8 @@ impl Ranks {
         }
     }
 
-    /// Puts the next place at a spot, before the place that stands there: that of a new pair of the row, with this
-    /// key. An `Err` comes only if memory was refused, and then all is as it was.
+    /// Adds the place of the next pair of a row, whose key belongs at this spot. An `Err` comes only if memory was
+    /// refused, and then all is as it was.
     pub(crate) fn insert(
         &mut self,
         alloc: Global,
@@ -139,13 +140,12 @@ impl Ranks {
         spot: Spot,
         key: &Yaml,
     ) -> Result<(), AllocError>
-        requires hash { IsHash (items_view row.now) (places self.old.kept) }
-        requires marked { AreMarks (marks self.old.kept) (places self.old.kept) (pairs_view row.now) }
+        requires indexed { IsIndexed (items_view row.now) self.old.kept }
         requires spot { HasSpot self.old.kept spot }
-        ensures places { OnOk result (places self.new.kept ≡ insert (places self.old.kept) (rank_at self.old.kept spot) (length (places self.old.kept))) }
+        requires gap { IsGap (first_by self.old.kept) (view key.now) (places self.old.kept) (pairs_view row.now) (rank_at self.old.kept spot) }
+        ensures ranked { OnOk result ((v : Tree) → AreRanked (first_by self.new.kept) (places self.new.kept) (pairs_view row.now ++ (view key.now, v) ∷ [])) }
         ensures marks { OnOk result ((v : Tree) → AreMarks (marks self.new.kept) (places self.new.kept) (pairs_view row.now ++ (view key.now, v) ∷ [])) }
-        ensures same_places { OnErr result (places self.new.kept ≡ places self.old.kept) }
-        ensures same_marks { OnErr result (marks self.new.kept ≡ marks self.old.kept) }
+        ensures same { OnErr result (IsIndexed (items_view row.now) self.new.kept) }
     {
         match &mut self.kept {
             Kept::Few(few) if few.len() < ROOM => {
@@ -153,20 +153,33 @@ impl Ranks {
                 few.insert(spot.offset, place);
                 Ok(())
             }
-            Kept::Few(few) => {
-                let many = with_next(few, alloc, row, spot.offset, key)?;
-                self.kept = Kept::Many(many);
+            Kept::Few(_) => {
+                let mut ranks = by_marks(alloc, row)?;
+                ranks.add(row, key)?;
+                *self = ranks;
                 Ok(())
             }
-            Kept::Many(blocks) => {
-                let next = Entry {
-                    mark: mark(key),
-                    place: row.len() / 2,
-                };
-                blocks.insert(spot, next)?;
-                Ok(())
-            }
+            Kept::Many(blocks) => put(blocks, row, spot, key),
         }
+    }
+
+    // The same where marks are kept, if no pair of the row has the key.
+    fn add(&mut self, row: &[Yaml], key: &Yaml) -> Result<(), AllocError>
+        requires indexed { IsIndexed (items_view row.now) self.old.kept }
+        requires many { HasMarks self.old.kept }
+        requires absent { None ≡ place_of (view key.now) (pairs_view row.now) }
+        ensures ranked { OnOk result ((v : Tree) → AreRanked mark (places self.new.kept) (pairs_view row.now ++ (view key.now, v) ∷ [])) }
+        ensures marked { OnOk result ((v : Tree) → AreMarks (marks self.new.kept) (places self.new.kept) (pairs_view row.now ++ (view key.now, v) ∷ [])) }
+        ensures many { OnOk result (HasMarks self.new.kept) }
+    {
+        let mut steps = Steps::new();
+        let Err(spot) = search(row, self, Probe::Node(key), &mut steps) else {
+            unreachable!()
+        };
+        let Kept::Many(blocks) = &mut self.kept else {
+            unreachable!()
+        };
+        put(blocks, row, spot, key)
     }
 
     /// Removes the place at a spot; the places above it fall by one.
@@ -174,6 +187,7 @@ impl Ranks {
         requires { HasPlace self.old.kept spot }
         ensures places { places self.new.kept ≡ map (closed_up (get_or (places self.old.kept) (rank_at self.old.kept spot) 0)) (remove (places self.old.kept) (rank_at self.old.kept spot)) }
         ensures marks { marks self.new.kept ≡ remove (marks self.old.kept) (rank_at self.old.kept spot) }
+        ensures order { first_by self.new.kept ≡ first_by self.old.kept }
     {
         match &mut self.kept {
             Kept::Few(few) => *few = few.without(spot.offset),
@@ -188,6 +202,7 @@ impl Ranks {
         requires all { count ≡ length (places self.old.kept) }
         ensures places { places self.new.kept ≡ map (moved_up gone count) (places self.old.kept) }
         ensures marks { marks self.new.kept ≡ marks self.old.kept }
+        ensures order { first_by self.new.kept ≡ first_by self.old.kept }
     {
         match &mut self.kept {
             Kept::Few(few) => *few = few.moved_to_end(gone),
@@ -198,6 +213,7 @@ impl Ranks {
     pub(crate) fn clone(&self, alloc: Global) -> Result<Ranks, AllocError>
         ensures places { IfOk result (λ r. places r.kept ≡ places self.now.kept) }
         ensures marks { IfOk result (λ r. marks r.kept ≡ marks self.now.kept) }
+        ensures order { IfOk result (λ r. first_by r.kept ≡ first_by self.now.kept) }
     {
         let kept = match &self.kept {
             Kept::Few(few) => Kept::Few(few.same()),

@@ -1,9 +1,10 @@
 //! Rows of keys and values.
 ghost use Rattle.std.specs.Prelude.{◌≡◌, ◌+◌, ◌*◌, ◌<◌, ◌≤◌, ◌++◌, ◌∷◌, [], length, get_or, IfErr, OnOk, OnErr, vec_len, vec_capacity};
-ghost use Rattle.std.specs.List.{insert, remove};
+ghost use Rattle.std.specs.List.{remove};
 ghost use Rattle.tree_defs.specs.Tree.{Tree};
-ghost use Rattle.yaml_tree.specs.Marks.{AreMarks};
+ghost use Rattle.yaml_tree.specs.Marks.{first_by, AreMarks};
 ghost use Rattle.yaml_tree.specs.Places.{places, marks, rank_at, HasSpot, IsIndexed};
+ghost use Rattle.yaml_tree.specs.Ranked.{AreRanked, IsGap};
 ghost use Rattle.yaml_tree.specs.View.{view, items_view, pairs_view};
 
 use crate::ranks::Ranks;
@@ -25,12 +26,12 @@ pub(crate) fn add(
 ) -> Result<(), (Yaml, Yaml)>
     requires indexed { IsIndexed (items_view row.old.items) ranks.old.kept }
     requires spot { HasSpot ranks.old.kept spot }
+    requires gap { IsGap (first_by ranks.old.kept) (view key) (places ranks.old.kept) (pairs_view row.old.items) (rank_at ranks.old.kept spot) }
     ensures row { OnOk result (row.new.items ≡ row.old.items ++ key ∷ value ∷ []) }
-    ensures places { OnOk result (places ranks.new.kept ≡ insert (places ranks.old.kept) (rank_at ranks.old.kept spot) (length (places ranks.old.kept))) }
+    ensures ranked { OnOk result ((v : Tree) → AreRanked (first_by ranks.new.kept) (places ranks.new.kept) (pairs_view row.old.items ++ (view key, v) ∷ [])) }
     ensures marks { OnOk result ((v : Tree) → AreMarks (marks ranks.new.kept) (places ranks.new.kept) (pairs_view row.old.items ++ (view key, v) ∷ [])) }
-    ensures same_row { OnErr result (row.new.items ≡ row.old.items) }
-    ensures same_places { OnErr result (places ranks.new.kept ≡ places ranks.old.kept) }
-    ensures same_marks { OnErr result (marks ranks.new.kept ≡ marks ranks.old.kept) }
+    ensures same { OnErr result (row.new.items ≡ row.old.items) }
+    ensures indexed { OnErr result (IsIndexed (items_view row.old.items) ranks.new.kept) }
     ensures handed_back { IfErr result (λ p. p ≡ (key, value)) }
 {
     let room = if row.is_empty() { FIRST_ROOM } else { 2 };

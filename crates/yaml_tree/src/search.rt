@@ -1,9 +1,9 @@
 //! Where a key's place stands, found by halving.
-ghost use Rattle.std.specs.Prelude.{◌≡◌, ◌+◌, ◌≤◌, length, IfOk, IfErr};
+ghost use Rattle.std.specs.Prelude.{◌≡◌, ◌+◌, ◌^◌, ◌<◌, ◌≤◌, length, IfOk, IfErr};
 ghost use Rattle.tree_defs.specs.Digits.{binary_digits};
 ghost use Rattle.tree_defs.specs.Order.{tree_cmp};
 ghost use Rattle.yaml_tree.specs.Probes.{probed};
-ghost use Rattle.yaml_tree.specs.Marks.{IsMark};
+ghost use Rattle.yaml_tree.specs.Marks.{mark, first_by};
 ghost use Rattle.yaml_tree.specs.Places.{places, rank_at, HasSpot, HasPlace, IsIndexed};
 ghost use Rattle.yaml_tree.specs.Ranked.{IsRank, IsGap};
 ghost use Rattle.yaml_tree.specs.View.{view, items_view, pairs_view};
@@ -25,7 +25,8 @@ pub(crate) enum Probe<'a> {
 impl<'a> Probe<'a> {
     /// The mark of what is looked up.
     pub(crate) fn mark(self) -> u64
-        ensures { IsMark (probed self.entry) result }
+        ensures mark { result ≡ mark (probed self.entry) }
+        ensures next { result + 1 < 2 ^ 64 }
     {
         match self {
             Probe::Node(node) => mark(node),
@@ -55,7 +56,7 @@ pub(crate) fn search(
     ensures place { IfOk result (λ s. HasPlace ranks.now.kept s) }
     ensures found { IfOk result (λ s. IsRank (probed probe.entry) (places ranks.now.kept) (pairs_view row.now) (rank_at ranks.now.kept s)) }
     ensures spot { IfErr result (λ s. HasSpot ranks.now.kept s) }
-    ensures missing { IfErr result (λ s. IsGap (probed probe.entry) (places ranks.now.kept) (pairs_view row.now) (rank_at ranks.now.kept s)) }
+    ensures missing { IfErr result (λ s. IsGap (first_by ranks.now.kept) (probed probe.entry) (places ranks.now.kept) (pairs_view row.now) (rank_at ranks.now.kept s)) }
     ensures steps { steps.new ≤ steps.old + binary_digits (length (places ranks.now.kept)) }
     ensures counted { steps.old ≤ steps.new }
 {

@@ -1,19 +1,21 @@
 use Rattle.std.proofs.Common.{◌≡◌, ◌+◌, ◌-◌, ◌*◌, ◌/◌, ◌^◌, ◌<◌, length, sym, ap, ◌∙◌, arith, rules}
 use Rattle.tree_defs.specs.Order.{tree_cmp}
 use Rattle.tree_defs.proofs.OrderLaws.{tree_tied}
-use Rattle.yaml_tree.specs.Places.{places, marks, rank_at}
+use Rattle.yaml_tree.specs.Marks.{first_by}
+use Rattle.yaml_tree.specs.Places.{places, rank_at}
+use Rattle.yaml_tree.specs.Ranked.{key_of_rank}
 use Rattle.yaml_tree.specs.Probes.{probed}
 use Rattle.yaml_tree.specs.View.{pairs_view}
 use Rattle.yaml_tree.proofs.Flattened.{row_length}
 use Rattle.yaml_tree.proofs.Halving.{halved, digits_rise}
-use Rattle.yaml_tree.proofs.Indexed.{marks_counted, next_spot, next_rank, offset_inside, place_inside}
-use Rattle.yaml_tree.proofs.Marking.{ranked_marks_rise, window_above, window_below}
+use Rattle.yaml_tree.proofs.Indexed.{next_spot, next_rank, offset_inside, place_inside}
+use Rattle.yaml_tree.proofs.Marking.{kept_marks_rise, window_leaves, same_mark}
 use Rattle.yaml_tree.proofs.Ranking.{above_up_to, below_from_on}
 use Rattle.yaml_tree.proofs.Rows.{ranked_inside, inside_row, ranked_key}
 use Rattle.yaml_tree.proofs.search.search.Goals as goal
 
 pub window-count-requires-clause-rising : goal.window-count-requires-clause-rising
-window-count-requires-clause-rising c = ranked_marks_rise (marks c.args.ranks.now.kept) (places c.args.ranks.now.kept) (pairs_view c.args.row.now) c.requires.hash.ranked (marks_counted c.args.ranks.now.kept) c.requires.marked
+window-count-requires-clause-rising c = kept_marks_rise c.args.ranks.now.kept (pairs_view c.args.row.now) c.requires.hash.ranked c.requires.marked
 
 pub window-count-requires-clause-fits : goal.window-count-requires-clause-fits
 window-count-requires-clause-fits c =
@@ -22,16 +24,16 @@ window-count-requires-clause-fits c =
 
 pub loop-count-init : goal.loop-count-init
 loop-count-init c =
-    let w = c.window-count.ensures.window in
     let k = probed c.args.probe in
-    let low = rank_at c.args.ranks.now.kept c.window-count.result.0 in
     let count = c.window-count.result.1 in
+    let left = window_leaves c.args.ranks.now.kept k (pairs_view c.args.row.now) (rank_at c.args.ranks.now.kept c.window-count.result.0) count c.requires.hash.ranked c.requires.marked c.window-count.ensures.window in
     record {
       spot = c.window-count.ensures.spot;
-      within = w.within;
-      above = window_above k (marks c.args.ranks.now.kept) (places c.args.ranks.now.kept) (pairs_view c.args.row.now) low count c.requires.hash.ranked c.requires.marked w;
-      below = window_below k (marks c.args.ranks.now.kept) (places c.args.ranks.now.kept) (pairs_view c.args.row.now) low count c.requires.hash.ranked c.requires.marked w;
-      steps = omega (arith, digits_rise count (length (places c.args.ranks.now.kept)) (omega (arith, w.within)));
+      within = left.within;
+      above = left.above;
+      below = left.below;
+      same = left.same;
+      steps = omega (arith, digits_rise count (length (places c.args.ranks.now.kept)) (omega (arith, left.within)));
       counted = omega arith;
     }
 
@@ -60,12 +62,16 @@ loop-count-preserved-in-Less c =
     let i = c.loop-count.invariant in
     let within = place_inside c.args.ranks.now.kept c.advanced-middle.result c.advanced-middle.ensures.place in
     let compared = c.compare.ensures.order ∙ ap (tree_cmp (probed c.args.probe)) (ranked_key c.args.row.now (places c.args.ranks.now.kept) c.requires.hash (rank_at c.args.ranks.now.kept c.advanced-middle.result) c.at-place.result c.index-row-place.result within c.at-place.ensures c.index-row-place.is) in
+    let test : 0 < c.loop-count.count = c.loop-count-test.true in
+    let by_key = same_mark (first_by c.args.ranks.now.kept) (probed c.args.probe) (key_of_rank (places c.args.ranks.now.kept) (pairs_view c.args.row.now) (rank_at c.args.ranks.now.kept c.advanced-middle.result))
+    (i.same (rank_at c.args.ranks.now.kept c.advanced-middle.result) (omega (arith, c.advanced-middle.ensures.rank)) (omega (arith, test, c.advanced-middle.ensures.rank))) in
     let half = halved (c.loop-count.count / 2) c.loop-count.count c.loop-count-test.true (omega arith) in
     record {
       spot = i.spot;
       within = omega (arith, i.within);
       above = i.above;
-      below = λ r h g. below_from_on (places c.args.ranks.now.kept) (pairs_view c.args.row.now) c.requires.hash.ranked (probed c.args.probe) (rank_at c.args.ranks.now.kept c.advanced-middle.result) (sym (sym c.in-Less.is ∙ compared)) r (omega (arith, h, c.advanced-middle.ensures.rank)) g;
+      below = λ r h g. below_from_on (places c.args.ranks.now.kept) (pairs_view c.args.row.now) c.requires.hash.ranked (probed c.args.probe) (rank_at c.args.ranks.now.kept c.advanced-middle.result) (by_key ∙ sym (sym c.in-Less.is ∙ compared)) r (omega (arith, h, c.advanced-middle.ensures.rank)) g;
+      same = λ r h g. i.same r h (omega (arith, g));
       steps = omega (arith, half, i.steps, c.compare.ensures.steps);
       counted = omega (arith, i.counted, c.compare.ensures.steps);
     }
@@ -85,12 +91,15 @@ loop-count-preserved c =
     let next = next_rank c.args.ranks.now.kept c.advanced-middle.result.block c.advanced-middle.result.offset in
     let within = place_inside c.args.ranks.now.kept c.advanced-middle.result c.advanced-middle.ensures.place in
     let compared = c.compare.ensures.order ∙ ap (tree_cmp (probed c.args.probe)) (ranked_key c.args.row.now (places c.args.ranks.now.kept) c.requires.hash (rank_at c.args.ranks.now.kept c.advanced-middle.result) c.at-place.result c.index-row-place.result within c.at-place.ensures c.index-row-place.is) in
+    let by_key = same_mark (first_by c.args.ranks.now.kept) (probed c.args.probe) (key_of_rank (places c.args.ranks.now.kept) (pairs_view c.args.row.now) (rank_at c.args.ranks.now.kept c.advanced-middle.result))
+    (i.same (rank_at c.args.ranks.now.kept c.advanced-middle.result) (omega (arith, c.advanced-middle.ensures.rank)) (omega (arith, test, c.advanced-middle.ensures.rank))) in
     let half = halved (c.loop-count.count - (c.loop-count.count / 2 + 1)) c.loop-count.count c.loop-count-test.true (omega arith) in
     record {
       spot = next_spot c.args.ranks.now.kept c.advanced-middle.result.block c.advanced-middle.result.offset c.advanced-middle.ensures.place;
       within = omega (arith, next, c.advanced-middle.ensures.rank, i.within);
-      above = λ r h. above_up_to (places c.args.ranks.now.kept) (pairs_view c.args.row.now) c.requires.hash.ranked (probed c.args.probe) (rank_at c.args.ranks.now.kept c.advanced-middle.result) within (sym (sym c.in-Greater.is ∙ compared)) r (omega (arith, h, next));
+      above = λ r h. above_up_to (places c.args.ranks.now.kept) (pairs_view c.args.row.now) c.requires.hash.ranked (probed c.args.probe) (rank_at c.args.ranks.now.kept c.advanced-middle.result) within (by_key ∙ sym (sym c.in-Greater.is ∙ compared)) r (omega (arith, h, next));
       below = λ r h g. i.below r (omega (arith, h, next, c.advanced-middle.ensures.rank)) g;
+      same = λ r h g. i.same r (omega (arith, h, next, c.advanced-middle.ensures.rank)) (omega (arith, g, next, c.advanced-middle.ensures.rank));
       steps = omega (arith, half, i.steps, c.compare.ensures.steps);
       counted = omega (arith, i.counted, c.compare.ensures.steps);
     }

@@ -1,10 +1,10 @@
 use Rattle.std.proofs.Common.{◌≡◌, ℕ, ◌+◌, ◌<◌, ◌≤◌, length}
 use Rattle.std.specs.declared.cmp.Ordering.TheVariants.{Less, Greater}
 use Rattle.tree_defs.specs.Digits.{binary_digits}
-use Rattle.tree_defs.specs.Order.{tree_cmp}
+use Rattle.yaml_tree.specs.Marks.{first_by}
 use Rattle.yaml_tree.specs.Places.{places, rank_at, HasSpot}
 use Rattle.yaml_tree.specs.Probes.{probed}
-use Rattle.yaml_tree.specs.Ranked.{key_of_rank}
+use Rattle.yaml_tree.specs.Ranked.{key_of_rank, key_cmp}
 use Rattle.yaml_tree.specs.View.{pairs_view}
 use Rattle.yaml_tree.proofs.search.search.Given as goal
 
@@ -12,8 +12,9 @@ abbrev pub invariant-loop-count : goal.invariant-loop-count
 invariant-loop-count l = record {
   spot : HasSpot l.ranks.kept l.low;
   within : rank_at l.ranks.kept l.low + l.count ≤ length (places l.ranks.kept);
-  above : (r : ℕ) → r < rank_at l.ranks.kept l.low → tree_cmp (probed l.probe) (key_of_rank (places l.ranks.kept) (pairs_view l.row) r) ≡ Greater;
-  below : (r : ℕ) → rank_at l.ranks.kept l.low + l.count ≤ r → r < length (places l.ranks.kept) → tree_cmp (probed l.probe) (key_of_rank (places l.ranks.kept) (pairs_view l.row) r) ≡ Less;
+  above : (r : ℕ) → r < rank_at l.ranks.kept l.low → key_cmp (first_by l.ranks.kept) (probed l.probe) (key_of_rank (places l.ranks.kept) (pairs_view l.row) r) ≡ Greater;
+  below : (r : ℕ) → rank_at l.ranks.kept l.low + l.count ≤ r → r < length (places l.ranks.kept) → key_cmp (first_by l.ranks.kept) (probed l.probe) (key_of_rank (places l.ranks.kept) (pairs_view l.row) r) ≡ Less;
+  same : (r : ℕ) → rank_at l.ranks.kept l.low ≤ r → r < rank_at l.ranks.kept l.low + l.count → first_by l.ranks.kept (key_of_rank (places l.ranks.kept) (pairs_view l.row) r) ≡ first_by l.ranks.kept (probed l.probe);
   steps : l.steps + binary_digits l.count ≤ l.initial.steps + binary_digits (length (places l.ranks.kept));
   counted : l.initial.steps ≤ l.steps;
 }

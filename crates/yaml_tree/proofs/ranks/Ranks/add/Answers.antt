@@ -1,0 +1,13 @@
+use Rattle.std.proofs.Common.{◌≡◌, None, Some, get_or, refl, sym, ◌∙◌}
+use Rattle.yaml_tree.specs.Places.{places, rank_at}
+use Rattle.yaml_tree.specs.View.{view, pairs_view}
+use Rattle.yaml_tree.proofs.Rows.{ranked_place}
+use Rattle.yaml_tree.proofs.ranks.Ranks.add.Goals as goal
+
+pub unreachable-requires : goal.unreachable-requires
+unreachable-requires c =
+    let rank = rank_at c.args.self.now.kept c.in_default.field-0 in
+    let place = get_or (places c.args.self.now.kept) rank 0 in
+    let there = ranked_place (view c.args.key.now) c.args.row.now (pairs_view c.args.row.now) (places c.args.self.now.kept) rank place c.requires.indexed.hash refl (c.in_default.ensures {u = tt}).found refl in
+    let no : None ≡ Some place = c.requires.absent ∙ sym there in
+    cc

@@ -1,0 +1,41 @@
+use Rattle.std.proofs.Common.{◌≡◌, ◌/◌, ◌++◌, ◌∷◌, [], length, map, ap, sym, subst, ◌∙◌, arith}
+use Rattle.std.specs.List.{insert}
+use Rattle.std.proofs.lemmas.List.{length-map}
+use Rattle.place_blocks.specs.Blocks.{joined, rank_of}
+use Rattle.place_blocks.specs.declared.entry.Entry.{Entry}
+use Rattle.place_blocks.proofs.Joining.{rank_within}
+use Rattle.yaml_tree.specs.Marks.{mark, AreMarks}
+use Rattle.yaml_tree.specs.Places.{place_of_entry, mark_of_entry, places_in, marks_in}
+use Rattle.yaml_tree.specs.Ranked.{AreRanked}
+use Rattle.yaml_tree.specs.View.{view, pairs_view}
+use Rattle.yaml_tree.proofs.Flattened.{row_length}
+use Rattle.yaml_tree.proofs.Indexed.{map-insert}
+use Rattle.yaml_tree.proofs.Marking.{marked_added}
+use Rattle.yaml_tree.proofs.Ranking.{ranked_added}
+use Rattle.yaml_tree.proofs.ranks.put.Goals as goal
+
+pub returns-clause-ranked : goal.returns-clause-ranked
+returns-clause-ranked c =
+    let bs = c.args.blocks.now in
+    let r = rank_of bs c.args.spot in
+    let ps = pairs_view c.args.row.now in
+    let next : Entry = record { mark = c.mark.result; place = length c.args.row.now / 2 } in
+    let count : length c.args.row.now / 2 ≡ length (places_in bs) = omega (arith, row_length c.args.row.now ps c.requires.hash.even, c.requires.hash.ranked.counted) in
+    let rs = ap (map place_of_entry) (c.in_ok-insert.ensures {u = tt}).ok ∙ map-insert place_of_entry (joined bs) r next ∙ ap (insert (places_in bs) r) count in
+    λ v. subst (λ qs. AreRanked mark qs (ps ++ (view c.args.key.now, v) ∷ [])) (sym rs) (ranked_added (places_in bs) ps r (view c.args.key.now) v c.requires.hash.ranked c.requires.gap)
+
+pub returns-clause-marked : goal.returns-clause-marked
+returns-clause-marked c =
+    let bs = c.args.blocks.now in
+    let r = rank_of bs c.args.spot in
+    let k = view c.args.key.now in
+    let ps = pairs_view c.args.row.now in
+    let next : Entry = record { mark = c.mark.result; place = length c.args.row.now / 2 } in
+    let put = (c.in_ok-insert.ensures {u = tt}).ok in
+    let count : length c.args.row.now / 2 ≡ length (places_in bs) = omega (arith, row_length c.args.row.now ps c.requires.hash.even, c.requires.hash.ranked.counted) in
+    let counted : length (marks_in bs) ≡ length (places_in bs) = omega (arith, length-map (joined bs) mark_of_entry, length-map (joined bs) place_of_entry) in
+    let within = rank_within bs c.args.spot.block c.args.spot.offset c.requires.spot.1 in
+    λ v. subst (λ es. AreMarks (map mark_of_entry es) (map place_of_entry es) (ps ++ (k, v) ∷ [])) (sym put)
+    (subst (λ ms. AreMarks ms (map place_of_entry (insert (joined bs) r next)) (ps ++ (k, v) ∷ [])) (sym (map-insert mark_of_entry (joined bs) r next))
+    (subst (λ rs. AreMarks (insert (marks_in bs) r c.mark.result) rs (ps ++ (k, v) ∷ [])) (sym (map-insert place_of_entry (joined bs) r next ∙ ap (insert (places_in bs) r) count))
+    (marked_added (marks_in bs) (places_in bs) ps r c.mark.result k v counted (omega (arith, within, length-map (joined bs) place_of_entry)) c.requires.hash.ranked.counted c.requires.hash.ranked.within c.requires.marked c.mark.ensures.mark)))
