@@ -1,6 +1,7 @@
 //! Pairs, which keep the order of insertion.
 use crate::made::{put, word};
-use std::alloc::Global;
+use std::alloc::{AllocGlobal, Global};
+use std::process::Abort;
 use std::test::Fail;
 use yaml_tree::{Hash, Steps, Yaml};
 
@@ -161,26 +162,50 @@ fn a_hash_does_as_a_plain_list(rt: HostRuntime) -> Result<(), Fail> {
     Ok(())
 }
 
-// Texts that differ after their first eight bytes alone.
-fn numbered(alloc: Global, number: i64) -> Result<Yaml, Fail> {
-    Ok(Yaml::String(format!(in alloc; "beginning {number}")?))
+// What keys have in common.
+#[derive(Clone, Copy)]
+enum Alike {
+    // Texts that begin with the same bytes.
+    Beginning,
+    // Integers, of which each but one is the negative of another: an index has one mark for both.
+    Absolute,
+    // Aliases: an index has one mark for all of them.
+    All,
+}
+
+fn numbered(alloc: Global, alike: Alike, number: i64) -> Result<Yaml, Fail> {
+    match alike {
+        Alike::Beginning => Ok(Yaml::String(format!(in alloc; "beginning {number}")?)),
+        Alike::Absolute => Ok(Yaml::Integer(number.wrapping_sub(999))),
+        Alike::All => Ok(Yaml::Alias(number.unsigned_abs() as usize)),
+    }
+}
+
+fn are_found(rt: &(impl Abort + AllocGlobal), alike: Alike) -> Result<(), Fail> {
+    let alloc = rt.alloc();
+    let mut hash = Hash::new(alloc);
+    for i in 0..1999_i64 {
+        let key = numbered(alloc, alike, i.wrapping_mul(37) % 1999)?;
+        let _ = put(&mut hash, key, Yaml::Integer(i))?;
+    }
+    for i in 0..1999_i64 {
+        let key = numbered(alloc, alike, i.wrapping_mul(37) % 1999)?;
+        assert!(rt; hash.get(&key) == Some(&Yaml::Integer(i)));
+    }
+    let gone = hash.remove(&numbered(alloc, alike, 37)?);
+    assert!(rt; gone == Some(Yaml::Integer(1)));
+    assert!(rt; hash.get(&numbered(alloc, alike, 37)?).is_none());
+    assert!(rt; hash.len() == 1998);
+    Ok(())
 }
 
 #[test]
 fn keys_that_begin_alike_are_found(rt: HostRuntime) -> Result<(), Fail> {
-    let alloc = rt.alloc();
-    let mut hash = Hash::new(alloc);
-    for i in 0..1999_i64 {
-        let key = numbered(alloc, i.wrapping_mul(37) % 1999)?;
-        let _ = put(&mut hash, key, Yaml::Integer(i))?;
-    }
-    for i in 0..1999_i64 {
-        let key = numbered(alloc, i.wrapping_mul(37) % 1999)?;
-        assert!(rt; hash.get(&key) == Some(&Yaml::Integer(i)));
-    }
-    let gone = hash.remove(&numbered(alloc, 37)?);
-    assert!(rt; gone == Some(Yaml::Integer(1)));
-    assert!(rt; hash.get(&numbered(alloc, 37)?).is_none());
-    assert!(rt; hash.len() == 1998);
-    Ok(())
+    are_found(&rt, Alike::Beginning)
+}
+
+#[test]
+fn keys_with_one_mark_are_found(rt: HostRuntime) -> Result<(), Fail> {
+    are_found(&rt, Alike::Absolute)?;
+    are_found(&rt, Alike::All)
 }

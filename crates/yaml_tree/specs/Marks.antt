@@ -13,7 +13,7 @@ abbrev pub with_digits : ℕ → List ℕ → ℕ
 with_digits n [] = n
 with_digits n (b ∷ bs) = with_digits ((n * 257 + b) % 2 ^ 64) bs
 
--- the mark of a text by its bytes; one more has 64 bits too
+-- the mark of a text, by its bytes; at most 2 ^ 64 - 2, so that one more has 64 bits too
 unfoldable pub text_mark : List ℕ → ℕ
 text_mark bs = min (with_digits 0 bs) (2 ^ 64 - 2)
 
@@ -34,7 +34,7 @@ mark bad_value = 0
 abbrev pub AreMarks : List ℕ → List ℕ → List (Tree × Tree) → Type 0
 AreMarks ms rs ps = (r : ℕ) → r < length ms → get_or ms r 0 ≡ mark (key_of_rank rs ps r)
 
--- the number by which ranks ascend before they do so by keys: a short hash has none
+-- the number by which ranks ascend first: the mark of a key; a short hash has none
 abbrev pub first_by : Kept → Tree → ℕ
 first_by (Few ps) = λ t. 0
 first_by (Many b) = mark

@@ -163,7 +163,7 @@ impl Ranks {
         }
     }
 
-    // The same where marks are kept, if no pair of the row has the key.
+    // Adds the place of the next pair of a row, among places with marks. No pair of the row has the key.
     fn add(&mut self, row: &[Yaml], key: &Yaml) -> Result<(), AllocError>
         requires indexed { IsIndexed (items_view row.now) self.old.kept }
         requires many { HasMarks self.old.kept }
