@@ -1,6 +1,6 @@
 -- What a load answers of any text.
-use Rattle.std.proofs.Common.{◌≡◌, ℕ, Bool, List, [], ◌∷◌, ◌++◌, true, false, refl, sym, ap, ◌∙◌, subst, inl, inr}
-use Rattle.std.specs.Prelude.{Some, None, Result, Ok, Err, String}
+use Rattle.std.proofs.Common.{◌≡◌, ℕ, Bool, false, List, [], ◌∷◌, ◌++◌, true, false, refl, sym, ap, ◌∙◌, subst, inl, inr}
+use Rattle.std.specs.Prelude.{Some, None, Result, Ok, Err, String, string_bytes}
 use Rattle.std.specs.declared.alloc.Global.{Global}
 use Rattle.yaml_chars.specs.Place.{Place}
 use Rattle.token_defs.specs.Token.{Token}
@@ -32,7 +32,7 @@ use Rattle.yaml_loader.specs.Loads.{HasNoted}
 use Rattle.yaml_loader.specs.Unread.{IsUnread}
 use Rattle.yaml_loader.specs.Unread as unread
 use Rattle.yaml_loader.specs.TextLoads.{OfTexts}
-use Rattle.yaml_loader.proofs.LoadLemmas.{with_last, StandsBehind, stands, new_fault, key_noted}
+use Rattle.yaml_loader.proofs.LoadLemmas.{with_last, StandsBehind, stands, new_fault, key_noted, kept_text}
 
 -- ---- events with which a stream's begin are not refused
 
@@ -113,17 +113,20 @@ documents_are_read n (es, h, r) e =
     }
 
 -- a reading that notes a key
-noted_key : (r : Result (List Tree) Tree) (x : Loader) (documents : List Tree) (k : Tree) (p : Place) → HasRead r x → StandAlike x (noted documents k p) → (key : Tree) × (r ≡ Err key)
+noted_key : (r : Result (List Tree) Tree) (x : Loader) (documents : List Tree) (k : Tree) (p : Place) → HasRead r x → StandAlike x (noted documents k p) → r ≡ Err k
 noted_key (Ok trees) (at_work u) documents k p h alike = absurd alike
 noted_key (Ok trees) (noted d key q) documents k p h alike = absurd h
 noted_key (Ok trees) (unfinished.refused d q) documents k p h alike = absurd h
-noted_key (Err key) x documents k p h alike = (key, refl)
+noted_key (Err key) (at_work u) documents k p h alike = absurd h
+noted_key (Err key) (noted d k' q) documents k p h alike = cc
+noted_key (Err key) (unfinished.refused d q) documents k p h alike = absurd h
 
-pub key_came_twice : {keep_tags : Bool} {text : List ℕ} (n : YamlLoader) (p : Place) (message : String Global) (f : Fault) → LeftBy keep_tags text (Ok tt) n → n.course ≡ course.RepeatedKey p message → f.place ≡ p → f.memory ≡ false
-    → IsUnread keep_tags text f
-key_came_twice n p message f (es, h, r) e at owned =
+pub key_came_twice : {keep_tags : Bool} {text : List ℕ} (n : YamlLoader) (p : Place) (message : String Global) (f : Fault) → LeftBy keep_tags text (Ok tt) n → n.course ≡ course.RepeatedKey p message
+    → f ≡ record { place = p; text = string_bytes message; memory = false } → IsUnread keep_tags text f
+key_came_twice n p message f (es, h, r) e is =
     let u = unfinished_of n.reading in
     let x = with_events new_loader es in
     let alike : StandAlike x (noted u.documents (repeated_key u.opened) p) = with_course n (course.RepeatedKey p message) x e r.alike in
-    let key = noted_key (reading h.documents) x u.documents (repeated_key u.opened) p (one_by_one h.documents es h.events_are) alike in
-    unread.repeated_key es h key.0 key.1 (subst (HasNoted x) (sym at) (key_noted u.documents (repeated_key u.opened) p x alike)) owned
+    let key = repeated_key u.opened in
+    let twice = noted_key (reading h.documents) x u.documents key p (one_by_one h.documents es h.events_are) alike in
+    unread.repeated_key es h key twice (subst (HasNoted x key) (sym (ap (λ g. g.place) is)) (key_noted u.documents key p x alike)) (kept_text n p message f r.tells e is) (ap (λ g. g.memory) is)

@@ -1,5 +1,6 @@
 pub mod AliasLemmas
 pub mod GoOnAlike
+pub mod KeyText
 pub mod LastPair
 pub mod LoadLemmas
 pub mod OpenedLemmas

@@ -1,6 +1,6 @@
 -- What a load answers, from what its parser did with the loader.
 use Rattle.std.proofs.Common.{◌≡◌, List, [], ◌∷◌, ◌++◌, length, true, refl, sym, ap, ◌∙◌, subst, inl, inr}
-use Rattle.std.specs.Prelude.{None, Result, Ok, Err, All, String, false}
+use Rattle.std.specs.Prelude.{None, Result, Ok, Err, All, String, false, string_bytes}
 use Rattle.std.specs.declared.alloc.Global.{Global}
 use Rattle.yaml_chars.specs.Place.{Place}
 use Rattle.tree_defs.specs.Tree.{Tree}
@@ -20,7 +20,8 @@ use Rattle.yaml_loader.specs.declared.loader.Course.TheVariants as course
 use Rattle.yaml_loader.specs.declared.loader.YamlLoader.{YamlLoader}
 use Rattle.yaml_loader.specs.Alike.{StandAlike}
 use Rattle.yaml_loader.specs.View.{unfinished_of, repeated_key}
-use Rattle.yaml_loader.specs.Loading.{loader_of, loader_by, kept_fault, kept_by, IsNewFault, Takes}
+use Rattle.yaml_loader.specs.Loading.{loader_of, loader_by, kept_fault, kept_by, IsNewFault, Takes, TellsBy, TellsNotedKey}
+use Rattle.yaml_loader.specs.RepeatedKey.{TellsKey}
 use Rattle.yaml_loader.specs.Loads as ends
 use Rattle.yaml_loader.specs.Loads.{HasDocuments, HasNoted, Notes, Pushes, AreLoaded, IsLoadFault}
 use Rattle.yaml_loader.proofs.GoOnAlike.{event_at_alike, alike_trans, show_the_same}
@@ -29,10 +30,18 @@ pub with_last : (l : Loader) (es : List (Ev × Place)) (e : Ev) (p : Place) → 
 with_last l [] e p = refl
 with_last l (x ∷ es) e p = with_last (with_event_at l x.0 x.1) es e p
 
--- A loader stands as the definitions say behind these events, and keeps no fault.
+-- A loader stands as the definitions say behind these events, and keeps no fault. If it noted a key, it keeps the text that tells it.
 pub record StandsBehind (es : List (Ev × Place)) (l : YamlLoader) : Type 0 where
   pub alike : StandAlike (with_events new_loader es) (loader_of l)
   pub clear : kept_fault l ≡ None
+  pub tells : TellsNotedKey l
+
+-- a loader that is at work has noted no key
+nothing_noted : (l : YamlLoader) → (d : Course) → loader_by d (unfinished_of l.reading) ≡ new_loader → TellsBy d (unfinished_of l.reading).opened
+nothing_noted l course.Reading e = tt
+nothing_noted l (course.RepeatedKey place text) e = cc
+nothing_noted l (course.OutOfNesting place) e = tt
+nothing_noted l (course.OutOfMemory place) e = tt
 
 -- what stands behind a load that went well
 abbrev pub Went : Parsed → Parsed → YamlLoader → Type 0
@@ -49,7 +58,7 @@ pushes {old} {behind} {new} {answers} pulled taken ends = record { answers = ans
 
 module _ (l : YamlLoader) (empty : loader_of l ≡ new_loader) (clear : kept_fault l ≡ None) where
   pub stands : {n : YamlLoader} {es : List (Ev × Place)} → Receives Takes l es n → StandsBehind es n
-  stands no_event = record { alike = subst (λ x. StandAlike new_loader x) (sym empty) (record { documents = refl; opened = refl; root = refl; aliases = λ n. refl }); clear = clear }
+  stands no_event = record { alike = subst (λ x. StandAlike new_loader x) (sym empty) (record { documents = refl; opened = refl; root = refl; aliases = λ n. refl }); clear = clear; tells = nothing_noted l l.course empty }
   stands (one_event {r} {s} {t} {es} e p h takes) =
       let before = stands h in
       record {
@@ -57,6 +66,7 @@ module _ (l : YamlLoader) (empty : loader_of l ≡ new_loader) (clear : kept_fau
             (alike_trans (with_event_at (with_events new_loader es) e p) (with_event_at (loader_of s) e p) (loader_of t)
             (event_at_alike (with_events new_loader es) (loader_of s) e p before.alike) takes.reads);
         clear = takes.goes_on;
+        tells = takes.tells before.tells;
       }
 
   pub new_fault : {s t : YamlLoader} {es : List (Ev × Place)} {f : Fault} (e : Ev) (p : Place) → Receives Takes l es s → Takes s e p (Err f) t → IsNewFault f p (with_event_at (with_events new_loader es) e p)
@@ -95,9 +105,9 @@ documents_loaded u (at_work v) h = h.documents
 documents_loaded u (noted documents key place) h = cc
 documents_loaded u (unfinished.refused documents place) h = cc
 
-pub key_noted : (documents : List Tree) (key : Tree) (p : Place) (x : Loader) → StandAlike x (noted documents key p) → HasNoted x p
+pub key_noted : (documents : List Tree) (key : Tree) (p : Place) (x : Loader) → StandAlike x (noted documents key p) → HasNoted x key p
 key_noted documents key p (at_work v) h = absurd h
-key_noted documents key p (noted d k q) h = cc
+key_noted documents key p (noted d k q) h = (cc, cc)
 key_noted documents key p (unfinished.refused d q) h = cc
 
 with_course : (l : YamlLoader) (d : Course) → l.course ≡ d → loader_of l ≡ loader_by d (unfinished_of l.reading)
@@ -108,12 +118,18 @@ was_reading l (es, all, clear, behind) e =
     let u = unfinished_of l.reading in
     (es, all, documents_loaded u (with_events new_loader es) (subst (λ x. StandAlike (with_events new_loader es) x) (with_course l course.Reading e) behind.alike))
 
-pub had_noted : {old new : Parsed} (l : YamlLoader) (p : Place) (text : String Global) (f : Fault) → Went old new l → l.course ≡ course.RepeatedKey p text → f.place ≡ p → f.memory ≡ false → IsLoadFault old f new
-had_noted l p text f (es, all, clear, behind) e at owned =
+-- the text that is kept tells the key
+pub kept_text : (l : YamlLoader) (p : Place) (text : String Global) (f : Fault) → TellsNotedKey l → l.course ≡ course.RepeatedKey p text → f ≡ record { place = p; text = string_bytes text; memory = false }
+    → TellsKey (repeated_key (unfinished_of l.reading).opened) f.text
+kept_text l p text f tells e is =
+    subst (TellsKey (repeated_key (unfinished_of l.reading).opened)) (sym (ap (λ x. x.text) is)) (subst (λ d. TellsBy d (unfinished_of l.reading).opened) e tells)
+
+pub had_noted : {old new : Parsed} (l : YamlLoader) (p : Place) (text : String Global) (f : Fault) → Went old new l → l.course ≡ course.RepeatedKey p text → f ≡ record { place = p; text = string_bytes text; memory = false } → IsLoadFault old f new
+had_noted l p text f (es, all, clear, behind) e is =
     let u = unfinished_of l.reading in
     let d = course.RepeatedKey p text in
     let n = key_noted u.documents (repeated_key u.opened) p (with_events new_loader es) (subst (λ x. StandAlike (with_events new_loader es) x) (with_course l d e) behind.alike) in
-    ends.repeated_key es all clear (subst (HasNoted (with_events new_loader es)) (sym at) n) owned
+    ends.repeated_key es (repeated_key u.opened) all clear (subst (HasNoted (with_events new_loader es) (repeated_key u.opened)) (sym (ap (λ x. x.place) is)) n) (kept_text l p text f behind.tells e is) (ap (λ x. x.memory) is)
 
 pub not_out_of_nesting : {old new : Parsed} (l : YamlLoader) (p : Place) → Went old new l → l.course ≡ course.OutOfNesting p → ⊥
 not_out_of_nesting l p w e = let f = sym (ap kept_by e) ∙ w.3.clear in cc

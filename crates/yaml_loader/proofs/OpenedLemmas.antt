@@ -31,7 +31,7 @@ innermost (x ∷ y ∷ os) outer h =
     let rest = innermost (y ∷ os) (opened_of x ∷ outer) (omega arith) in
     record { around = rest.around; before = λ d. rest.before d; after = λ o. rest.after o }
 
-last_place : (n : ℕ) (os : List Open) → n ≡ length os → n - 1 ≡ pred (length os)
+pub last_place : (n : ℕ) (os : List Open) → n ≡ length os → n - 1 ≡ pred (length os)
 last_place n os len = sub-one n ∙ ap pred len
 
 -- a tree that goes into the innermost collection, seen from the last of the list

@@ -37,7 +37,7 @@ use Rattle.yaml_loader.specs.Unread as unread
 loads_only : {text : List ℕ} {trees : List Tree} (result : Result (Vec Yaml Global) Fault) → LoadsText false text result → IsReadAs false text trees → LoadsOnly result trees
 loads_only (Ok documents) h x = let same = one_reading h.tokens h.read.documents h.has h.read.stream x in let both = sym h.read.trees_are ∙ same in cc
 loads_only {text} {trees} (Err f) (of_parser why) x = memory_is_wanted false text trees f x why
-loads_only (Err f) (unread.repeated_key es h key twice at owned) x = let same = one_reading (toks h.tokens) h.documents (h.tokens, h.has, refl) (nested_is_stream h) x in cc
+loads_only (Err f) (unread.repeated_key es h key twice at tells owned) x = let same = one_reading (toks h.tokens) h.documents (h.tokens, h.has, refl) (nested_is_stream h) x in cc
 
 -- ---- the text behind an iterator
 

@@ -3,6 +3,7 @@ pub mod Laws
 pub mod Loading
 pub mod Loads
 pub mod Reached
+pub mod RepeatedKey
 pub mod TextLoads
 pub mod Unread
 pub mod View

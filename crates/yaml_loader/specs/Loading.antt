@@ -1,15 +1,16 @@
 -- The state of a loader, as clauses see it, and what it makes of one more event.
 -- YAML 1.2, section 3.1 (construction); the faults and what is kept of them are this project's.
-use Rattle.std.specs.Prelude.{◌≡◌, ◌⊎◌, true, Option, Some, None, IfSome, Result, Err, OnOk, OnErr, IfErr, IsOk, codes}
+use Rattle.std.specs.Prelude.{◌≡◌, ◌⊎◌, true, Option, Some, None, IfSome, Result, Err, OnOk, OnErr, IfErr, IsOk, codes, string_bytes, List}
 use Rattle.yaml_chars.specs.Place.{Place}
 use Rattle.event_defs.specs.Event.{Ev}
-use Rattle.event_defs.specs.Unfinished.{Unfinished, with_event, Loader, at_work, noted, refused, with_event_at, documents_of, refused_at}
+use Rattle.event_defs.specs.Unfinished.{Opened, Unfinished, with_event, Loader, at_work, noted, refused, with_event_at, documents_of, refused_at}
 use Rattle.yaml_tokens.specs.Fault.{Fault, fault_at}
 use Rattle.yaml_loader.specs.declared.loader.Course.{Course}
 use Rattle.yaml_loader.specs.declared.loader.Course.TheVariants as course
 use Rattle.yaml_loader.specs.declared.loader.YamlLoader.{YamlLoader}
 use Rattle.yaml_loader.specs.declared.reading.Refusal.{Refusal}
 use Rattle.yaml_loader.specs.Alike.{StandAlike}
+use Rattle.yaml_loader.specs.RepeatedKey.{TellsKey}
 use Rattle.yaml_loader.specs.View.{unfinished_of, repeated_key, IsRefusedBy}
 
 -- by how it goes on, over what was read
@@ -51,6 +52,14 @@ abbrev pub HasNotedKey : Loader → Type 0
 HasNotedKey (noted documents key place) = Unit {0}
 HasNotedKey _ = ⊥
 
+abbrev pub TellsBy : Course → List Opened → Type 0
+TellsBy (course.RepeatedKey place text) opened = TellsKey (repeated_key opened) (string_bytes text)
+TellsBy _ opened = Unit {0}
+
+-- Where a loader has noted a key that came twice, the text that it keeps tells this key.
+abbrev pub TellsNotedKey : YamlLoader → Type 0
+TellsNotedKey l = TellsBy l.course (unfinished_of l.reading).opened
+
 -- What a loader makes of an event at its place.
 pub record Takes (old : YamlLoader) (e : Ev) (place : Place) (result : Result (Unit {0}) Fault) (new : YamlLoader) : Type 0 where
   -- On `Ok` the loader is the one after the event, and keeps no fault.
@@ -65,6 +74,8 @@ pub record Takes (old : YamlLoader) (e : Ev) (place : Place) (result : Result (U
   pub reason : IfErr result (λ f. kept_fault old ≡ None → IsNewFault f place (with_event_at (loader_of old) e place))
   -- Once a key that came twice was noted, the result is always `Ok`.
   pub ignores : HasNotedKey (loader_of old) → IsOk result
+  -- The text that is kept with such a key goes on to tell it.
+  pub tells : TellsNotedKey old → TellsNotedKey new
 
 -- What a loader that is at work makes of an event which its reading refused, whatever the event was: so it takes the event.
 abbrev pub Stops : YamlLoader → Refusal → Place → Result (Unit {0}) Fault → YamlLoader → Type 0

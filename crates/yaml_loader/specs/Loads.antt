@@ -8,16 +8,17 @@ use Rattle.yaml_tokens.specs.Fault.{Fault}
 use Rattle.yaml_parser.specs.Loads.{Loads}
 use Rattle.yaml_parser.specs.Parsed.{Parsed}
 use Rattle.yaml_loader.specs.Loading.{IsNewFault}
+use Rattle.yaml_loader.specs.RepeatedKey.{TellsKey}
 
 -- A loader that is at work has these documents.
 abbrev pub HasDocuments : Loader → List Tree → Type 0
 HasDocuments (at_work u) documents = u.documents ≡ documents
 HasDocuments _ documents = ⊥
 
--- A loader has noted a key that came twice, its second value at this place.
-abbrev pub HasNoted : Loader → Place → Type 0
-HasNoted (noted documents key at) place = at ≡ place
-HasNoted _ place = ⊥
+-- A loader has noted that this key came twice, its second value at this place.
+abbrev pub HasNoted : Loader → Tree → Place → Type 0
+HasNoted (noted documents noted_key at) key place = (noted_key ≡ key) × (at ≡ place)
+HasNoted _ key place = ⊥
 
 -- A receiver that only notes the events that are pushed.
 abbrev pub Notes : List (Ev × Place) → Ev → Place → Result (Unit {0}) Fault → List (Ev × Place) → Type 0
@@ -38,6 +39,6 @@ pub data IsLoadFault (old : Parsed) (f : Fault) (new : Parsed) : Type 0 where
   -- The last event that was pushed is refused: it stands out of nesting, or memory was refused.
   refused : (events : List (Ev × Place)) (e : Ev) (p : Place) → Pushes old (events ++ (e, p) ∷ []) (Err f) new → new.fault ≡ None
       → IsNewFault f p (with_event_at (with_events new_loader events) e p) → IsLoadFault old f new
-  -- All events were pushed, and among them a key came twice, its second value at the fault's place.
-  repeated_key : (events : List (Ev × Place)) → Pushes old events (Ok tt) new → new.fault ≡ None
-      → HasNoted (with_events new_loader events) f.place → f.memory ≡ false → IsLoadFault old f new
+  -- All events were pushed, and among them a key came twice, its second value at the fault's place. The fault's text tells the key.
+  repeated_key : (events : List (Ev × Place)) (key : Tree) → Pushes old events (Ok tt) new → new.fault ≡ None
+      → HasNoted (with_events new_loader events) key f.place → TellsKey key f.text → f.memory ≡ false → IsLoadFault old f new

@@ -7,6 +7,7 @@ use Rattle.event_defs.specs.Event.{Ev}
 use Rattle.event_defs.specs.Reading.{reading}
 use Rattle.event_defs.specs.Unfinished.{new_loader, with_events}
 use Rattle.yaml_loader.specs.Loads.{HasNoted}
+use Rattle.yaml_loader.specs.RepeatedKey.{TellsKey}
 use Rattle.loaded_texts.specs.TextEvents.{HasEvents, IsFaultOf}
 
 pub data IsUnread (keep_tags : Bool) (text : List ℕ) (f : Fault) : Type 0 where
@@ -14,5 +15,6 @@ pub data IsUnread (keep_tags : Bool) (text : List ℕ) (f : Fault) : Type 0 wher
   -- about the last of these.
   of_parser : IsFaultOf keep_tags text f → IsUnread keep_tags text f
   -- The text has events in which a key comes twice. The fault has the place of the event that ends the key's second value. If that value
-  -- is a scalar or an alias, this is the place of its token.
-  repeated_key : (es : List (Ev × Place)) (h : HasEvents keep_tags text es) (key : Tree) → reading h.documents ≡ Err key → HasNoted (with_events new_loader es) f.place → f.memory ≡ false → IsUnread keep_tags text f
+  -- is a scalar or an alias, this is the place of its token. The fault's text tells the key.
+  repeated_key : (es : List (Ev × Place)) (h : HasEvents keep_tags text es) (key : Tree) → reading h.documents ≡ Err key
+      → HasNoted (with_events new_loader es) key f.place → TellsKey key f.text → f.memory ≡ false → IsUnread keep_tags text f

@@ -31,7 +31,8 @@ impl YamlLoader {
     /// # Errors
     ///
     /// The text's first fault, with its place: a text is loaded whole or not at all. A key that comes twice in its
-    /// mapping is a fault too, which is returned only if there is no other. Or memory was refused
+    /// mapping is a fault too, which is returned only if there is no other: it tells the key, as
+    /// `String("a"): duplicated key in mapping`, and has the place of the key's second value. Or memory was refused
     /// ([`ScanError::is_out_of_memory`]); then all memory that the load took is freed.
     ///
     /// # What is sure to load

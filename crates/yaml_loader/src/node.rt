@@ -1,17 +1,19 @@
 //! The events of a reading, and where a complete node goes.
-ghost use Rattle.std.specs.Prelude.{◌≡◌, ◌<◌, ℕ, [], Some, None, IfOk, IfErr, OnOk};
+ghost use Rattle.std.specs.Prelude.{◌≡◌, ◌<◌, ℕ, [], Some, None, IfSome, IfOk, IfErr, OnOk, option_map, unwrap_or, string_bytes};
 ghost use Rattle.yaml_chars.specs.Text.{string_chars};
 ghost use Rattle.yaml_tokens.specs.Shown.{style_of};
 ghost use Rattle.event_defs.specs.Anchors.{aliased, finished};
 ghost use Rattle.event_defs.specs.Event.{Ev};
 ghost use Rattle.event_defs.specs.Unfinished.{opened_sequence, opened_mapping, reads, with_tree, with_node, with_start, with_event};
+ghost use Rattle.tree_defs.specs.Tree.{bad_value};
 ghost use Rattle.yaml_tree.specs.View.{view};
 ghost use Rattle.yaml_parser.specs.Shown.{ev_of, perhaps_tag_of};
-ghost use Rattle.yaml_loader.specs.View.{opened_of, unfinished_of, Inserts, IsNoInsert, Reads, Refuses, KeepsDocuments};
+ghost use Rattle.yaml_loader.specs.View.{opened_of, unfinished_of, Inserts, IsNoInsert, Reads, Refuses, KeepsDocuments, repeated_key};
+ghost use Rattle.yaml_loader.specs.RepeatedKey.{TellsKey, shown_key};
 
 use crate::reading::{Open, Reading, Refusal};
 use crate::scalar::scalar_tree;
-use std::alloc::AllocError;
+use std::alloc::{AllocError, Global};
 use yaml_parser::{Event, Tag};
 use yaml_tokens::TScalarStyle;
 use yaml_tree::{Array, Hash, Yaml};
@@ -187,16 +189,23 @@ impl Reading {
         Ok(())
     }
 
-    /// What a fault says of a key that came twice: the last one of the innermost mapping.
+    /// What a fault says of a key that came twice.
     #[cold]
     #[inline(never)]
-    pub(crate) fn repeated_key_text(&self) -> Result<String, AllocError> {
-        if let Some(Open::Mapping(_, pairs, _)) = self.opened.last()
-            && let Some((key, _)) = pairs.back()
-        {
-            return format!(in self.alloc; "{key:?}: duplicated key in mapping");
+    pub(crate) fn repeated_key_text(&self) -> Result<String, AllocError>
+        ensures { let key = repeated_key (unfinished_of self.now).opened in IfOk result (λ text. TellsKey key (string_bytes text)) }
+    {
+        text_of_key(self.alloc, self.repeated_key().unwrap_or(&Yaml::BadValue))
+    }
+
+    /// The key that came twice: the last one of the innermost mapping.
+    fn repeated_key(&self) -> Option<&Yaml>
+        ensures { unwrap_or (option_map (λ key. view key.now) result) bad_value ≡ repeated_key (unfinished_of self.now).opened }
+    {
+        match self.opened.last()? {
+            Open::Mapping(_, pairs, _) => Some(pairs.back()?.0),
+            Open::Sequence(_, _) => None,
         }
-        format!(in self.alloc; "duplicated key in mapping")
     }
 
     /// A complete node: the root, the next item, the next key, or the value of the key that waits.
@@ -216,6 +225,25 @@ impl Reading {
                 Ok(())
             }
         }
+    }
+}
+
+// What a fault says of this key.
+fn text_of_key(alloc: Global, key: &Yaml) -> Result<String, AllocError>
+    ensures { IfOk result (λ text. TellsKey (view key.now) (string_bytes text)) }
+{
+    let mut text = shown_key(alloc, key)?;
+    text.push_str(": duplicated key in mapping")?;
+    Ok(text)
+}
+
+// The key as `Debug` shows it. A string is written here, since no clause says what the derived `Debug` writes.
+fn shown_key(alloc: Global, key: &Yaml) -> Result<String, AllocError>
+    ensures { IfOk result (λ text. IfSome (shown_key (view key.now)) (λ known. string_bytes text ≡ known)) }
+{
+    match key {
+        Yaml::String(text) => format!(in alloc; "String({text:?})"),
+        _ => format!(in alloc; "{key:?}"),
     }
 }
 

@@ -1,4 +1,3 @@
-use Rattle.std.proofs.Common.{ap}
 use Rattle.std.proofs.lemmas.Result.{err_from_is_err_and}
 use Rattle.yaml_loader.specs.View.{unfinished_of}
 use Rattle.yaml_loader.proofs.LoadLemmas.{went_well, load_fault, was_reading, had_noted, not_out_of_nesting, not_out_of_memory, no_alias}
@@ -18,7 +17,7 @@ returns-in-RepeatedKey-clause-fault g c =
     let l = c.default-loader.result in
     let n = c.load-outcome.new.recv in
     let h = went_well l c.default-loader.ensures.empty c.default-loader.ensures.no_fault (rw (c.in_ok-outcome.was {u = tt}) at c.load-outcome.ensures.loads) in
-    had_noted n c.in-RepeatedKey.mark c.in-RepeatedKey.text c.new_string.result h c.in-RepeatedKey.is (ap (λ x. x.place) c.new_string.ensures) (ap (λ x. x.memory) c.new_string.ensures)
+    had_noted n c.in-RepeatedKey.mark c.in-RepeatedKey.text c.new_string.result h c.in-RepeatedKey.is c.new_string.ensures
 
 pub returns-in-Reading-clause-documents : goal.returns-in-Reading-clause-documents
 returns-in-Reading-clause-documents g c =
@@ -58,7 +57,7 @@ pub returns-in-RepeatedKey-clause-reads : goal.returns-in-RepeatedKey-clause-rea
 returns-in-RepeatedKey-clause-reads g c =
     let n = c.load-outcome.new.recv in
     let t = any_text_leaves c.default-loader.ensures.empty c.default-loader.ensures.no_fault c.note.ensures.scans (rw (c.in_ok-outcome.was {u = tt}) at c.load-outcome.ensures.loads) in
-    λ start text may. key_came_twice n c.in-RepeatedKey.mark c.in-RepeatedKey.text c.new_string.result (t start text may) c.in-RepeatedKey.is (ap (λ x. x.place) c.new_string.ensures) (ap (λ x. x.memory) c.new_string.ensures)
+    λ start text may. key_came_twice n c.in-RepeatedKey.mark c.in-RepeatedKey.text c.new_string.result (t start text may) c.in-RepeatedKey.is c.new_string.ensures
 
 pub returns-in-OutOfNesting-clause-reads : goal.returns-in-OutOfNesting-clause-reads
 returns-in-OutOfNesting-clause-reads g c =
