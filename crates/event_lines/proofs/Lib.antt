@@ -1,0 +1,2 @@
+pub mod AppendsLemmas
+mod Rows
