@@ -52,6 +52,7 @@ pub use Rattle.loaded_texts.specs.Spelled
 pub use Rattle.loaded_texts.specs.TextReadAs
 pub use Rattle.loaded_texts.specs.TextEvents
 pub use Rattle.yaml_loader.specs.Loading
+pub use Rattle.yaml_loader.specs.RepeatedKey
 pub use Rattle.yaml_loader.specs.TextLoads
 pub use Rattle.yaml_loader.specs.Unread
 pub use Rattle.yaml_decoder.specs.Decoding
