@@ -31,9 +31,9 @@ impl YamlLoader {
     /// # Errors
     ///
     /// The text's first fault, with its place: a text is loaded whole or not at all. A key that comes twice in its
-    /// mapping is a fault too, which is returned only if there is no other: it tells the key, as
-    /// `String("a"): duplicated key in mapping`, and has the place of the key's second value. Or memory was refused
-    /// ([`ScanError::is_out_of_memory`]); then all memory that the load took is freed.
+    /// mapping is a fault too, which is returned only if there is no other. It tells the key, as
+    /// `String("a"): duplicated key in mapping`, and has the place of the key's second value, for a collection that of
+    /// its end. Or memory was refused ([`ScanError::is_out_of_memory`]); then all memory that the load took is freed.
     ///
     /// # What is sure to load
     ///
