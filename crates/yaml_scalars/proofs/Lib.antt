@@ -1,2 +1,3 @@
 pub mod WindowLemmas
 mod EscapeLemmas
+mod UriLemmas

@@ -1,10 +1,10 @@
 //! Characters of a URI, escaped ones too (YAML 1.2, section 5.6).
-ghost use Rattle.std.specs.Prelude.{◌≡◌, ◌≢◌, ◌≤◌, ◌<◌, ◌+◌, ◌*◌, ◌^◌, ◌++◌, ℕ, zero, suc, List, [], ◌∷◌, Bool, true, false, Ok, Err, OnOk, OnErr, IfOk, IfErr, slice_index, MatchOption};
+ghost use Rattle.std.specs.Prelude.{◌≡◌, ◌≢◌, ◌≤◌, ◌<◌, ◌+◌, ◌*◌, ◌^◌, ◌++◌, ℕ, zero, suc, List, [], ◌∷◌, Bool, true, false, Ok, Err, OnOk, OnErr, IfOk, IfErr, slice_index, IfSome, IfNone};
 ghost use Rattle.yaml_chars.specs.Class.{is_uri, is_tag};
 ghost use Rattle.yaml_chars.specs.Place.{Place};
 ghost use Rattle.yaml_chars.specs.Reading.{Reads, Sees, HasChar, place_of};
 ghost use Rattle.scalar_model.specs.Quoted.{is_scalar};
-ghost use Rattle.scalar_model.specs.Uri.{Octet, lead, plain, percent, low, uri, uri_from, octet_from, trails_from, at_trail};
+ghost use Rattle.scalar_model.specs.Uri.{Octet, lead, plain, percent, low, uri, uri_from, octet_from, trails_from, at_octet, at_trail};
 ghost use Rattle.yaml_scalars.specs.Shown.{read};
 ghost use Rattle.yaml_scalars.specs.ShownTag.{at};
 
@@ -53,6 +53,45 @@ fn read_octet<T: Iterator<Item = char>>(window: &mut Window<T>, start: Marker) -
     Ok(high * 16 + hex_value(c))
 }
 
+/// What a character's first octet says in UTF-8: how many octets come behind it, the first bits of
+/// the character's code, and the least code that has so many octets.
+#[derive(Clone, Copy)]
+struct Lead {
+    trails: usize,
+    bits: u32,
+    least: u32,
+}
+
+fn lead_of(octet: u32) -> Option<Lead>
+    ensures some { IfSome result (λ l. (start p : Place) (t : List ℕ) → at_octet start lead octet p t ≡ at_trail start l.trails l.bits l.least p t) }
+    ensures none { IfNone result ((start p : Place) (t : List ℕ) → at_octet start lead octet p t ≡ Err (Fault.At Problem.TagLeadingOctet start)) }
+    ensures small { IfSome result (λ l. (l.bits + 1) * 64 ^ l.trails ≤ 2 ^ 21) }
+{
+    match octet {
+        0x00..=0x7F => Some(Lead {
+            trails: 0,
+            bits: octet,
+            least: 0,
+        }),
+        0xC0..=0xDF => Some(Lead {
+            trails: 1,
+            bits: octet - 0xC0,
+            least: 0x80,
+        }),
+        0xE0..=0xEF => Some(Lead {
+            trails: 2,
+            bits: octet - 0xE0,
+            least: 0x800,
+        }),
+        0xF0..=0xF7 => Some(Lead {
+            trails: 3,
+            bits: octet - 0xF0,
+            least: 0x10000,
+        }),
+        _ => None,
+    }
+}
+
 /// Reads an octet that goes on with a character whose first bits are `code`.
 fn read_trail<T: Iterator<Item = char>>(
     window: &mut Window<T>,
@@ -64,53 +103,34 @@ fn read_trail<T: Iterator<Item = char>>(
         trails_from test start (suc more) code least a (place_of window.old) t ≡ trails_from test start more n least b (place_of window.new) t)) }
     ensures err { IfErr result (λ e. Reads window.old window.new (λ a b. (test : ℕ → Bool) (more least : ℕ) (t : List ℕ) →
         trails_from test start (suc more) code least a (place_of window.old) t ≡ Err e)) }
-    ensures less { OnOk result (window.new.left < window.old.left) }
     ensures small { IfOk result (λ n. n < (code + 1) * 64) }
 {
-    match read_octet(window, start) {
-        Ok(octet) => {
-            if octet >= 128 && octet < 192 {
-                Ok(code * 64 + (octet - 128))
-            } else {
-                Err(Fault::At(Problem::TagTrailingOctet, start))
-            }
-        }
-        Err(fault) => Err(fault),
+    let octet = read_octet(window, start)?;
+    match octet {
+        0x80..=0xBF => Ok(code * 64 + (octet - 0x80)),
+        _ => Err(Fault::At(Problem::TagTrailingOctet, start)),
     }
 }
 
-/// Reads two octets that go on with a character whose first bits are `code`.
-fn read_two_trails<T: Iterator<Item = char>>(
+/// Reads the octets behind the first one. The answer is the character's code.
+fn read_trails<T: Iterator<Item = char>>(
     window: &mut Window<T>,
     start: Marker,
-    code: u32,
+    lead: Lead,
 ) -> Result<u32, Fault>
-    requires { code < 2 ^ 10 }
-    ensures ok { IfOk result (λ n. Reads window.old window.new (λ a b. (test : ℕ → Bool) (more least : ℕ) (t : List ℕ) →
-        trails_from test start (suc (suc more)) code least a (place_of window.old) t ≡ trails_from test start more n least b (place_of window.new) t)) }
-    ensures err { IfErr result (λ e. Reads window.old window.new (λ a b. (test : ℕ → Bool) (more least : ℕ) (t : List ℕ) →
-        trails_from test start (suc (suc more)) code least a (place_of window.old) t ≡ Err e)) }
-    ensures less { OnOk result (window.new.left < window.old.left) }
+    requires { (lead.bits + 1) * 64 ^ lead.trails ≤ 2 ^ 21 }
+    ensures ok { IfOk result (λ n. Reads window.old window.new (λ a b. (test : ℕ → Bool) (t : List ℕ) →
+        trails_from test start lead.trails lead.bits lead.least a (place_of window.old) t ≡ trails_from test start zero n lead.least b (place_of window.new) t)) }
+    ensures err { IfErr result (λ e. Reads window.old window.new (λ a b. (test : ℕ → Bool) (t : List ℕ) →
+        trails_from test start lead.trails lead.bits lead.least a (place_of window.old) t ≡ Err e)) }
 {
-    let code = read_trail(window, start, code)?;
-    read_trail(window, start, code)
-}
-
-/// Reads three octets that go on with a character whose first bits are `code`.
-fn read_three_trails<T: Iterator<Item = char>>(
-    window: &mut Window<T>,
-    start: Marker,
-    code: u32,
-) -> Result<u32, Fault>
-    requires { code < 8 }
-    ensures ok { IfOk result (λ n. Reads window.old window.new (λ a b. (test : ℕ → Bool) (more least : ℕ) (t : List ℕ) →
-        trails_from test start (suc (suc (suc more))) code least a (place_of window.old) t ≡ trails_from test start more n least b (place_of window.new) t)) }
-    ensures err { IfErr result (λ e. Reads window.old window.new (λ a b. (test : ℕ → Bool) (more least : ℕ) (t : List ℕ) →
-        trails_from test start (suc (suc (suc more))) code least a (place_of window.old) t ≡ Err e)) }
-    ensures less { OnOk result (window.new.left < window.old.left) }
-{
-    let code = read_trail(window, start, code)?;
-    read_two_trails(window, start, code)
+    let mut code = lead.bits;
+    let mut left = lead.trails;
+    'trails: while left > 0 {
+        code = read_trail(window, start, code)?;
+        left -= 1;
+    }
+    Ok(code)
 }
 
 /// The character of a code of at least `least`: a smaller one is overlong.
@@ -128,33 +148,6 @@ fn decoded(code: u32, least: u32, start: Marker) -> Result<char, Fault>
     }
 }
 
-/// Reads the octets behind the first. The answer is the code, and the least one of this length.
-fn read_trails<T: Iterator<Item = char>>(
-    window: &mut Window<T>,
-    start: Marker,
-    octet: u32,
-) -> Result<(u32, u32), Fault>
-    ensures ok { IfOk result (λ r. Reads window.old window.new (λ a b. (test : ℕ → Bool) (t : List ℕ) →
-        octet_from test start lead octet a (place_of window.old) t ≡ trails_from test start zero r.0 r.1 b (place_of window.new) t)) }
-    ensures err { IfErr result (λ e. Reads window.old window.new (λ a b. (test : ℕ → Bool) (t : List ℕ) →
-        octet_from test start lead octet a (place_of window.old) t ≡ Err e)) }
-{
-    if octet < 128 {
-        return Ok((octet, 0));
-    }
-    let (code, least) = if octet >= 192 && octet < 224 {
-        (read_trail(window, start, octet - 192), 128)
-    } else if octet >= 224 && octet < 240 {
-        (read_two_trails(window, start, octet - 224), 2048)
-    } else if octet >= 240 && octet < 248 {
-        (read_three_trails(window, start, octet - 240), 65536)
-    } else {
-        (Err(Fault::At(Problem::TagLeadingOctet, start)), 0)
-    };
-    let code = code?;
-    Ok((code, least))
-}
-
 /// Reads the octets of a character in UTF-8, each a `%` and two hexadecimal digits.
 fn read_uri_escape<T: Iterator<Item = char>>(
     window: &mut Window<T>,
@@ -167,8 +160,11 @@ fn read_uri_escape<T: Iterator<Item = char>>(
     ensures less { OnOk result (window.new.left < window.old.left) }
 {
     let octet = read_octet(window, start)?;
-    let (code, least) = read_trails(window, start, octet)?;
-    decoded(code, least, start)
+    let Some(lead) = lead_of(octet) else {
+        return Err(Fault::At(Problem::TagLeadingOctet, start));
+    };
+    let code = read_trails(window, start, lead)?;
+    decoded(code, lead.least, start)
 }
 
 /// Reads a character of a URI, which may be an escaped one.
@@ -193,13 +189,9 @@ fn read_uri_char<T: Iterator<Item = char>>(
         text.push(c)?;
         return Ok(());
     }
-    match read_uri_escape(window, start) {
-        Ok(c) => {
-            text.push(c)?;
-            Ok(())
-        }
-        Err(fault) => Err(fault),
-    }
+    let c = read_uri_escape(window, start)?;
+    text.push(c)?;
+    Ok(())
 }
 
 /// Reads the characters of a URI.
@@ -218,9 +210,7 @@ pub(crate) fn read_uri<T: Iterator<Item = char>>(
         if !is_uri(c) {
             return Ok(());
         }
-        if let Err(fault) = read_uri_char(window, start, c, text) {
-            return Err(fault);
-        }
+        read_uri_char(window, start, c, text)?;
     }
 }
 
@@ -240,8 +230,6 @@ pub(crate) fn read_suffix<T: Iterator<Item = char>>(
         if !is_tag(c) {
             return Ok(());
         }
-        if let Err(fault) = read_uri_char(window, start, c, text) {
-            return Err(fault);
-        }
+        read_uri_char(window, start, c, text)?;
     }
 }
