@@ -1,5 +1,5 @@
 //! Block scalars (YAML 1.2, section 8.1).
-ghost use Rattle.std.specs.Prelude.{◌≡◌, ◌≢◌, ◌≤◌, ◌<◌, ◌^◌, ◌++◌, [], ℕ, Bool, true, false, max, Ok, Err, OnOk, OnErr, IfOk, IfErr};
+ghost use Rattle.std.specs.Prelude.{◌≡◌, ◌≢◌, ◌≤◌, ◌<◌, ◌^◌, ◌++◌, ◌&&◌, not, [], ℕ, Bool, true, false, max, Ok, Err, OnOk, OnErr, IfOk, IfErr};
 ghost use Rattle.yaml_chars.specs.Reading.{Reads, Sees, HasChar, place_of};
 ghost use Rattle.yaml_chars.specs.Text.{string_chars};
 ghost use Rattle.scalar_model.specs.Block.{margin, line, lines_from, begins, begun, with_char, tail, is_open, ends_indent, indent_from, first_indent, content, empty_text, body, behind_header, block};
@@ -35,13 +35,21 @@ impl Lines {
         }
     }
 
+    /// Whether line folding applies to the break before a content line: it stands behind another
+    /// content line, and neither of the two begins with a blank (YAML 1.2, section 8.1.3).
+    fn folds_before(&self, blank: bool) -> bool
+        ensures { result ≡ ((lines self.now).broken && not (lines self.now).blank && not blank) }
+    {
+        self.broken && !self.blank && !blank
+    }
+
     /// Begins a content line with `c`, behind what stands between it and the last one.
     #[tactic(auto, unfolding(scalar_model::specs::Block::between))]
     fn begin(&mut self, literal: bool, c: char) -> Result<(), AllocError>
         ensures { OnOk result (lines self.new ≡ with_char c (begun literal c (lines self.old))) }
     {
         let blank = is_blank(c);
-        if !literal && self.broken && !self.blank && !blank {
+        if !literal && self.folds_before(blank) {
             if self.breaks.is_empty() {
                 self.text.push(' ')?;
             } else {
