@@ -9,10 +9,7 @@ use Rattle.scalar_model.specs.declared.context.Context.{Context}
 use Rattle.scalar_model.specs.Machine.{past}
 use Rattle.scalar_model.specs.Folding.{Folded}
 use Rattle.scalar_model.specs.Quoted.{quoted_from, digits_from, inside, breaking, named}
-use Rattle.yaml_scalars.specs.declared.folding.Folding.{Folding}
-use Rattle.yaml_scalars.specs.declared.quoted.Quote.{Quote}
-use Rattle.yaml_scalars.specs.Shown.{folded}
-use Rattle.yaml_scalars.specs.ShownQuoted.{GoesOn}
+use Rattle.yaml_scalars.specs.ShownQuoted.{at_folded}
 
 backslash : (ctx : Context) (start : Place) (a : List ℕ) (p : Place) (t : Folded)
     → quoted_from false ctx start (92 ∷ a) (record { mode = inside; place = p; folded = t })
@@ -21,14 +18,16 @@ unfolding is_break is_blank
 backslash ctx start a p t = refl
 
 -- behind a backslash stands a break or what it names
-pub backslash_read : {T : Type 0} (q : Quote) (old new : Reading T) (s : Folding) (d : ℕ) (breaks : Bool) → q.single ≡ false
+pub backslash_read : {T : Type 0} (old new : Reading T) (d : ℕ) (breaks : Bool)
     → Sees old (λ a. slice_index a 0 ≡ 92) → Sees old (λ a. d ≡ slice_index a 1) → breaks ≡ is_break d
-    → new ≡ after_char old → Reads old new (λ a b. a ≡ slice_index a 0 ∷ b) → GoesOn q inside old s (if breaks then breaking else named) new s
-backslash_read q old new s d breaks double here next is state reads =
-    Reads-saw old new (Sees-both old here next) reads (λ a b w e.
+    → new ≡ after_char old → Reads old new (λ a b. a ≡ slice_index a 0 ∷ b)
+    → Reads old new (λ a b. (context : Context) (start : Place) (t : Folded) →
+    quoted_from false context start a (at_folded inside old t) ≡ quoted_from false context start b (at_folded (if breaks then breaking else named) new t))
+backslash_read old new d breaks here next is state reads =
+    Reads-saw old new (Sees-both old here next) reads (λ a b w e context start t.
     let f : a ≡ 92 ∷ b = e ∙ ap (λ x. x ∷ b) w.0 in
     let h : breaks ≡ is_break (slice_index b 0) = is ∙ ap is_break (w.1 ∙ ap (λ x. slice_index x 1) f) in
-    rw (state, double, h, f) (backslash q.context q.start b (place_of old) (folded s)))
+    rw (state, h, f) (backslash context start b (place_of old) t))
 
 -- one digit fewer is left of a code
 pub one_fewer : (single : Bool) (ctx : Context) (start : Place) (left code : ℕ) (a : List ℕ) (p : Place) (t : Folded) → 0 < left

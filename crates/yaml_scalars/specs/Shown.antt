@@ -11,8 +11,12 @@ use Rattle.scalar_model.specs.Plain.{Mode, State, Plain}
 abbrev pub folded : Folding → Folded
 folded p = record { text = p.text; gap = p.gap; leading = p.leading; escaped = p.escaped }
 
+-- what was read of a plain scalar in front of a window's next characters
+abbrev pub at_folded : {T : Type 0} → Mode → Reading T → Folded → State
+at_folded mode w t = record { mode = mode; place = place_of w; folded = t }
+
 abbrev pub at : {T : Type 0} → Mode → Reading T → Folding → State
-at mode w p = record { mode = mode; place = place_of w; folded = folded p }
+at mode w p = at_folded mode w (folded p)
 
 abbrev pub plain_shown : code.Plain → Plain
 plain_shown s = record { text = string_chars s.text; leading = s.leading }

@@ -1,5 +1,6 @@
 -- What the code of quoted scalars holds, as the model's states.
-use Rattle.std.specs.Prelude.{◌≡◌, ◌≢◌, ℕ, Err}
+use Rattle.std.specs.Prelude.{◌≡◌, ◌≢◌, ℕ, Bool, Err}
+use Rattle.yaml_chars.specs.Place.{Place}
 use Rattle.yaml_chars.specs.Reading.{Reading, Reads, place_of}
 use Rattle.yaml_tokens.specs.declared.problem.Fault.{Fault}
 use Rattle.yaml_tokens.specs.declared.problem.Fault.TheVariants.{OutOfMemory}
@@ -12,6 +13,8 @@ use Rattle.yaml_scalars.specs.declared.escape.Escape.TheVariants.{Char, Code, Un
 use Rattle.yaml_scalars.specs.declared.escape.Digits.{Digits}
 use Rattle.yaml_scalars.specs.declared.escape.Digits.TheVariants.{Two, Four, Eight}
 use Rattle.yaml_scalars.specs.Shown.{folded}
+use Rattle.scalar_model.specs.Folding.{Folded}
+use Rattle.scalar_model.specs.declared.context.Context.{Context}
 use Rattle.scalar_model.specs.Quoted.{Mode, State, Escape, quoted_from, first, inside, gap, breaking, behind, doubled, closed}
 
 abbrev pub mode_of : Part → Mode
@@ -23,13 +26,22 @@ mode_of part.Behind = behind
 mode_of part.Doubled = doubled
 mode_of part.Closed = closed
 
+-- what was read of a quoted scalar in front of a window's next characters
+abbrev pub at_folded : {T : Type 0} → Mode → Reading T → Folded → State
+at_folded mode w t = record { mode = mode; place = place_of w; folded = t }
+
 abbrev pub at : {T : Type 0} → Mode → Reading T → Folding → State
-at mode w p = record { mode = mode; place = place_of w; folded = folded p }
+at mode w p = at_folded mode w (folded p)
 
 -- What is left at one place of a scalar is read as what is left at a later one.
 abbrev pub GoesOn : {T : Type 0} → Quote → (from : Mode) → Reading T → Folding → (to : Mode) → Reading T → Folding → Type 0
 GoesOn q from old before to new so_far =
     Reads old new (λ a b. quoted_from q.single q.context q.start a (at from old before) ≡ quoted_from q.single q.context q.start b (at to new so_far))
+
+-- the same of every scalar, whatever its quotes are and what surrounds it
+abbrev pub AllGoOn : {T : Type 0} → (from : Mode) → Reading T → Folding → (to : Mode) → Reading T → Folding → Type 0
+AllGoOn from old before to new so_far =
+    Reads old new (λ a b. (single : Bool) (context : Context) (start : Place) → quoted_from single context start a (at from old before) ≡ quoted_from single context start b (at to new so_far))
 
 -- what is left at a place of a scalar is refused with this fault, unless memory was refused
 abbrev pub IsRefused : {T : Type 0} → Quote → (from : Mode) → Reading T → Folding → Reading T → Fault → Type 0

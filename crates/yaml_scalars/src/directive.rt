@@ -228,9 +228,7 @@ fn skip_line_end<T: Iterator<Item = char>>(
     ensures ok { IfOk result (λ _. Reads window.old window.new (λ a b. line_end start a (place_of window.old) ≡ Ok (read b window.new tt))) }
     ensures err { IfErr result (λ e. Reads window.old window.new (λ a b. e ≢ Fault.OutOfMemory → line_end start a (place_of window.old) ≡ Err e)) }
 {
-    if let Err(fault) = skip_ws_to_eol(window, SkipTabs::Yes) {
-        return Err(fault);
-    }
+    skip_ws_to_eol(window, SkipTabs::Yes)?;
     skip_directive_break(window, start)
 }
 

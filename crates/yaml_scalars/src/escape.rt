@@ -1,10 +1,11 @@
 //! Escapes of double-quoted scalars (YAML 1.2, section 5.7).
 ghost use Rattle.std.specs.Prelude.{◌≡◌, ◌≢◌, ◌≤◌, ◌<◌, ◌^◌, ◌+◌, ◌*◌, ℕ, zero, suc, Bool, true, false, Ok, Err, OnOk, OnErr, IfOk, IfErr, slice_index, MatchOption, if◌then◌else◌};
+ghost use Rattle.yaml_chars.specs.Place.{Place};
 ghost use Rattle.yaml_chars.specs.Reading.{Reads, Sees, HasChar, place_of};
 ghost use Rattle.scalar_model.specs.declared.context.Context.{Context};
 ghost use Rattle.scalar_model.specs.Folding.{Folded};
 ghost use Rattle.scalar_model.specs.Quoted.{escape_of, is_scalar, digits_from, quoted_from, inside, breaking, named};
-ghost use Rattle.yaml_scalars.specs.ShownQuoted.{at, mode_of, escape_shown, count_of, GoesOn, IsRefused};
+ghost use Rattle.yaml_scalars.specs.ShownQuoted.{at, at_folded, mode_of, escape_shown, count_of, GoesOn, IsRefused};
 ghost use Rattle.yaml_scalars.specs.Shown.{folded};
 
 use crate::folding::Folding;
@@ -108,10 +109,8 @@ fn read_code<T: Iterator<Item = char>>(
     let mut code = 0;
     let mut left = digits.count();
     'digits: while left > 0 {
-        match read_digit(window, start) {
-            Ok(digit) => code = code * 16 + digit,
-            Err(fault) => return Err(fault),
-        }
+        let digit = read_digit(window, start)?;
+        code = code * 16 + digit;
         left -= 1;
     }
     Ok(code)
@@ -130,16 +129,12 @@ fn read_coded<T: Iterator<Item = char>>(
     ensures err { IfErr result (λ e. Reads window.old window.new (λ a b. e ≢ Fault.OutOfMemory →
         digits_from quote.now.single quote.now.context quote.now.start (count_of digits) 0 a (place_of window.old) (folded scalar.old) ≡ Err e)) }
 {
-    match read_code(window, quote.start, digits) {
-        Ok(code) => match char_of(code) {
-            Some(c) => {
-                scalar.push(c)?;
-                Ok(())
-            }
-            None => Err(Fault::At(Problem::EscapedCode, quote.start)),
-        },
-        Err(fault) => Err(fault),
-    }
+    let code = read_code(window, quote.start, digits)?;
+    let Some(c) = char_of(code) else {
+        return Err(Fault::At(Problem::EscapedCode, quote.start));
+    };
+    scalar.push(c)?;
+    Ok(())
 }
 
 /// Reads what a backslash names.
@@ -171,20 +166,14 @@ fn read_named<T: Iterator<Item = char>>(
 
 /// Steps over a backslash, and says whether a break stands behind it.
 #[inline(always)]
-fn skip_backslash<T: Iterator<Item = char>>(
-    window: &mut Window<T>,
-    quote: &Quote,
-    scalar: &Folding,
-) -> bool
-    requires double { quote.now.single ≡ false }
+fn skip_backslash<T: Iterator<Item = char>>(window: &mut Window<T>) -> bool
     requires here { Sees window.old (λ a. slice_index a 0 ≡ 92) }
     requires has { HasChar window.old }
     requires ahead { 2 ≤ window.old.ahead }
-    ensures reads { GoesOn quote.now inside window.old scalar.now (if result then breaking else named) window.new scalar.now }
+    ensures reads { Reads window.old window.new (λ a b. (context : Context) (start : Place) (t : Folded) →
+        quoted_from false context start a (at_folded inside window.old t) ≡ quoted_from false context start b (at_folded (if result then breaking else named) window.new t)) }
     ensures less { window.new.left < window.old.left }
 {
-    let _ = quote;
-    let _ = scalar;
     let breaks = is_break(window.peek(1));
     window.skip();
     breaks
@@ -205,12 +194,10 @@ pub(crate) fn read_escapes<T: Iterator<Item = char>>(
     ensures less { OnOk result (window.new.left < window.old.left) }
 {
     'escapes: loop {
-        if skip_backslash(window, quote, scalar) {
+        if skip_backslash(window) {
             return Ok(Part::Breaking);
         }
-        if let Err(fault) = read_named(window, quote, scalar) {
-            return Err(fault);
-        }
+        read_named(window, quote, scalar)?;
         window.lookahead(2);
         if window.ch() != '\\' {
             return Ok(Part::Inside);

@@ -107,9 +107,7 @@ fn end_header<T: Iterator<Item = char>>(
     ensures ok { IfOk result (λ broken. Reads window.old window.new (λ a b. header_end start a (place_of window.old) ≡ Ok (read b window.new broken))) }
     ensures err { IfErr result (λ e. Reads window.old window.new (λ a b. header_end start a (place_of window.old) ≡ Err e)) }
 {
-    if let Err(fault) = skip_ws_to_eol(window, SkipTabs::Yes) {
-        return Err(fault);
-    }
+    skip_ws_to_eol(window, SkipTabs::Yes)?;
     end_line(window, start)
 }
 

@@ -2,9 +2,11 @@
 ghost use Rattle.std.specs.Prelude.{◌≡◌, ◌≢◌, ◌≤◌, ◌<◌, true, false, Ok, Err, OnOk, OnErr, IfOk, IfErr, slice_index};
 ghost use Rattle.yaml_chars.specs.Place.{Place};
 ghost use Rattle.yaml_chars.specs.Reading.{Reads, Sees, HasChar, SamePlace, place_of};
+ghost use Rattle.scalar_model.specs.declared.context.Context.{Context};
+ghost use Rattle.scalar_model.specs.Folding.{Folded};
 ghost use Rattle.scalar_model.specs.Machine.{is_marker, at_marker};
-ghost use Rattle.scalar_model.specs.Plain.{can_be_plain, is_shallow, at_dash, at_plain, goes_on, starts, plain, plain_from, first, inside, between, tabs, ends_gap};
-ghost use Rattle.yaml_scalars.specs.Shown.{at, read, plain_shown};
+ghost use Rattle.scalar_model.specs.Plain.{can_be_plain, is_shallow, at_dash, at_plain, goes_on, starts, plain, plain_from, first, inside, between, ends_gap};
+ghost use Rattle.yaml_scalars.specs.Shown.{at, at_folded, read, plain_shown};
 
 use crate::folding::Folding;
 use scalar_model::Context;
@@ -147,25 +149,16 @@ fn goes_on<T: Iterator<Item = char>>(
 /// Steps over a TAB at the indentation's place and the blanks behind it, up to the end of the
 /// line or a comment.
 #[tactic(auto, using(scalar_model::proofs::PlainLemmas::tabs_end))]
-fn skip_tabs<T: Iterator<Item = char>>(
-    window: &mut Window<T>,
-    context: Context,
-    start: Marker,
-    scalar: &Folding,
-) -> Result<(), Fault>
-    requires leading { scalar.now.leading ≡ true }
-    requires left { window.old.col < context.indent }
+fn skip_tabs<T: Iterator<Item = char>>(window: &mut Window<T>, start: Marker) -> Result<(), Fault>
     requires tab { Sees window.old (λ a. slice_index a 0 ≡ 9) }
     requires has { HasChar window.old }
     requires ahead { 0 < window.old.ahead }
-    ensures ok { OnOk result (Reads window.old window.new (λ a b.
-        plain_from context start a (at between window.old scalar.now) ≡ plain_from context start b (at between window.new scalar.now))) }
-    ensures err { IfErr result (λ e. Reads window.old window.new (λ a b.
-        plain_from context start a (at between window.old scalar.now) ≡ Err e)) }
+    ensures ok { OnOk result (Reads window.old window.new (λ a b. (context : Context) (t : Folded) → t.leading ≡ true → window.old.col < context.indent →
+        plain_from context start a (at_folded between window.old t) ≡ plain_from context start b (at_folded between window.new t))) }
+    ensures err { IfErr result (λ e. Reads window.old window.new (λ a b. (context : Context) (t : Folded) → t.leading ≡ true → window.old.col < context.indent →
+        plain_from context start a (at_folded between window.old t) ≡ Err e)) }
     ensures less { window.new.left < window.old.left }
 {
-    let _ = scalar;
-    let _ = context;
     window.skip();
     'tabs: loop {
         let c = window.look_ch();
@@ -204,9 +197,7 @@ fn read_gap<T: Iterator<Item = char>>(
         } else if !is_blank(c) {
             return Ok(());
         } else if scalar.leading && c == '\t' && window.mark().col() < context.indent {
-            if let Err(fault) = skip_tabs(window, context, start, scalar) {
-                return Err(fault);
-            }
+            skip_tabs(window, start)?;
         } else {
             window.skip();
             scalar.add_blank(c)?;
@@ -267,24 +258,15 @@ pub fn read_plain<T: Iterator<Item = char>>(
 {
     window.lookahead(2);
     let start = window.mark();
-    if let Err(fault) = check_start(window, context) {
-        return Err(fault);
-    }
+    check_start(window, context)?;
     let mut scalar = Folding::new(alloc);
     'lines: loop {
-        if let Err(fault) = read_line(window, context, start, &mut scalar) {
-            return Err(fault);
-        }
-        match goes_on(window, context) {
-            Ok(true) => {}
-            Ok(false) => {
-                let leading = scalar.leading;
-                return Ok(Plain {
-                    text: scalar.text.into_string(),
-                    leading,
-                });
-            }
-            Err(fault) => return Err(fault),
+        read_line(window, context, start, &mut scalar)?;
+        if !goes_on(window, context)? {
+            return Ok(Plain {
+                leading: scalar.leading,
+                text: scalar.text.into_string(),
+            });
         }
     }
 }

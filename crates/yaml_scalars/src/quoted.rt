@@ -5,7 +5,7 @@ ghost use Rattle.yaml_chars.specs.Reading.{Reads, Sees, HasChar, SamePlace, plac
 ghost use Rattle.yaml_chars.specs.Text.{string_chars};
 ghost use Rattle.scalar_model.specs.Quoted.{quote_of, refused, quoted, first, inside, gap, breaking, behind, doubled, closed};
 ghost use Rattle.yaml_scalars.specs.Shown.{read};
-ghost use Rattle.yaml_scalars.specs.ShownQuoted.{mode_of, GoesOn, IsRefused};
+ghost use Rattle.yaml_scalars.specs.ShownQuoted.{mode_of, GoesOn, AllGoOn, IsRefused};
 
 use crate::escape::read_escapes;
 use crate::folding::Folding;
@@ -138,10 +138,8 @@ fn read_in_line<T: Iterator<Item = char>>(
     ensures less { OnOk result (window.new.left < window.old.left) }
 {
     if is_break(c) || is_blank(c) {
-        return match read_gap(window, quote, c, scalar) {
-            Ok(()) => Ok(Part::Gap),
-            Err(fault) => Err(fault),
-        };
+        read_gap(window, quote, c, scalar)?;
+        return Ok(Part::Gap);
     }
     read_inside(window, quote, c, scalar)
 }
@@ -163,9 +161,7 @@ fn read_line<T: Iterator<Item = char>>(
     ensures err { IfErr result (λ e. IsRefused quote.now first window.old scalar.old window.new e) }
     ensures less { OnOk result (window.new.left < window.old.left) }
 {
-    if let Err(fault) = check_line(window, quote) {
-        return Err(fault);
-    }
+    check_line(window, quote)?;
     scalar.join()?;
     read_in_line(window, quote, c, scalar)
 }
@@ -187,10 +183,8 @@ fn read_in_gap<T: Iterator<Item = char>>(
     ensures less { OnOk result (window.new.left < window.old.left) }
 {
     if is_break(c) || is_blank(c) {
-        return match read_gap(window, quote, c, scalar) {
-            Ok(()) => Ok(Part::Gap),
-            Err(fault) => Err(fault),
-        };
+        read_gap(window, quote, c, scalar)?;
+        return Ok(Part::Gap);
     }
     read_line(window, quote, c, scalar)
 }
@@ -220,40 +214,35 @@ fn read_behind<T: Iterator<Item = char>>(
 /// Reads an escaped break.
 fn read_escaped_break<T: Iterator<Item = char>>(
     window: &mut Window<T>,
-    quote: &Quote,
     scalar: &mut Folding,
-) -> Result<Part, Fault>
+) -> Part
     requires has { HasChar window.old }
     requires ahead { 2 ≤ window.old.ahead }
-    ensures ok { IfOk result (λ next. GoesOn quote.now breaking window.old scalar.old (mode_of next) window.new scalar.new) }
-    ensures err { IfErr result (λ e. IsRefused quote.now breaking window.old scalar.old window.new e) }
-    ensures less { OnOk result (window.new.left < window.old.left) }
+    ensures reads { AllGoOn breaking window.old scalar.old (mode_of result) window.new scalar.new }
+    ensures less { window.new.left < window.old.left }
 {
-    let _ = quote;
     if window.at_cr_lf() {
         window.skip();
-        return Ok(Part::Breaking);
+        return Part::Breaking;
     }
     window.skip_break();
     scalar.escape_break();
-    Ok(Part::Behind)
+    Part::Behind
 }
 
 /// Reads the second one of two quotes.
 fn read_doubled<T: Iterator<Item = char>>(
     window: &mut Window<T>,
-    quote: &Quote,
     c: char,
     scalar: &mut Folding,
-) -> Result<Part, Fault>
+) -> Result<Part, AllocError>
     requires here { Sees window.old (λ a. c ≡ slice_index a 0) }
     requires has { HasChar window.old }
-    requires ahead { 2 ≤ window.old.ahead }
-    ensures ok { IfOk result (λ next. GoesOn quote.now doubled window.old scalar.old (mode_of next) window.new scalar.new) }
-    ensures err { IfErr result (λ e. IsRefused quote.now doubled window.old scalar.old window.new e) }
+    requires ahead { 0 < window.old.ahead }
+    ensures ok { IfOk result (λ next. AllGoOn doubled window.old scalar.old (mode_of next) window.new scalar.new) }
+    ensures err { OnErr result (Reads window.old window.new (λ _ _. Unit {0})) }
     ensures less { OnOk result (window.new.left < window.old.left) }
 {
-    let _ = quote;
     scalar.push(c)?;
     window.skip();
     Ok(Part::Inside)
@@ -280,9 +269,9 @@ fn read_part<T: Iterator<Item = char>>(
         Part::First => read_line(window, quote, c, scalar),
         Part::Inside => read_in_line(window, quote, c, scalar),
         Part::Gap => read_in_gap(window, quote, c, scalar),
-        Part::Breaking => read_escaped_break(window, quote, scalar),
+        Part::Breaking => Ok(read_escaped_break(window, scalar)),
         Part::Behind => read_behind(window, quote, c, scalar),
-        Part::Doubled => read_doubled(window, quote, c, scalar),
+        Part::Doubled => Ok(read_doubled(window, c, scalar)?),
         Part::Closed => unreachable!(),
     }
 }
@@ -314,16 +303,13 @@ fn read_parts<T: Iterator<Item = char>>(
     ensures left { OnOk result (window.new.left ≤ window.old.left) }
 {
     let mut part = Part::First;
-    'parts: loop {
-        match read_part(window, quote, part, scalar) {
-            Ok(Part::Closed) => return Ok(()),
-            Ok(next) => part = next,
-            Err(fault) => return Err(fault),
-        }
+    'parts: while part != Part::Closed {
+        part = read_part(window, quote, part, scalar)?;
         if part == Part::Inside {
             read_run(window, quote, scalar)?;
         }
     }
+    Ok(())
 }
 
 /// Reads a quoted scalar, from the opening quote to behind the closing one.
@@ -347,8 +333,6 @@ pub fn read_quoted<T: Iterator<Item = char>>(
     };
     window.skip();
     let mut scalar = Folding::new(alloc);
-    match read_parts(window, &quote, &mut scalar) {
-        Ok(()) => Ok(scalar.text.into_string()),
-        Err(fault) => Err(fault),
-    }
+    read_parts(window, &quote, &mut scalar)?;
+    Ok(scalar.text.into_string())
 }

@@ -46,9 +46,7 @@ fn read_verbatim<T: Iterator<Item = char>>(
 {
     let handle = Text::new(alloc);
     let mut uri = Text::new(alloc);
-    if let Err(fault) = read_uri(window, start, &mut uri) {
-        return Err(fault);
-    }
+    read_uri(window, start, &mut uri)?;
     if window.look_ch() != '>' {
         return Err(Fault::At(Problem::VerbatimTagEnd, start));
     }
@@ -72,9 +70,7 @@ fn read_named<T: Iterator<Item = char>>(
     handle.append(&name)?;
     handle.push('!')?;
     let mut suffix = Text::new(alloc);
-    if let Err(fault) = read_suffix(window, start, &mut suffix) {
-        return Err(fault);
-    }
+    read_suffix(window, start, &mut suffix)?;
     if suffix.is_empty() {
         return Err(Fault::At(Problem::TagUri, start));
     }
@@ -91,9 +87,7 @@ fn read_local<T: Iterator<Item = char>>(
     ensures ok { IfOk result (λ s. Reads window.old window.new (λ a b. local_tag start name a (place_of window.old) ≡ Ok (read b window.new (tag_shown (string_chars s.0) (string_chars s.1))))) }
     ensures err { IfErr result (λ e. Reads window.old window.new (λ a b. e ≢ Fault.OutOfMemory → local_tag start name a (place_of window.old) ≡ Err e)) }
 {
-    if let Err(fault) = read_suffix(window, start, &mut name) {
-        return Err(fault);
-    }
+    read_suffix(window, start, &mut name)?;
     let mut exclamation = Text::new(alloc);
     exclamation.push('!')?;
     if name.is_empty() {

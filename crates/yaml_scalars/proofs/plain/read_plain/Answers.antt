@@ -12,7 +12,7 @@ pub lines-init : goal.lines-init
 lines-init g c = record {
   reads = Reads-see _ _ c.lookahead.ensures.reads c.check_start.ensures (λ a b same checked.
       ap (λ x. plain c.args.context x (place_of c.args.window.now)) (sym same)
-      ∙ plain_starts c.args.context b (place_of c.lookahead.new.self) (place_of c.args.window.now) (sym checked ∙ c.in_default.is) (place_kept _ _ c.lookahead.ensures.place)
+      ∙ plain_starts c.args.context b (place_of c.lookahead.new.self) (place_of c.args.window.now) (sym checked ∙ c.in_ok-check_start.was) (place_kept _ _ c.lookahead.ensures.place)
       ∙ ap (λ (p : Place). plain_from c.args.context p b (record { mode = first; place = place_of c.lookahead.new.self; folded = nothing })) (sym c.mark-start.ensures)
       ∙ ap (λ (t : Folded). plain_from c.args.context c.mark-start.result b (record { mode = first; place = place_of c.lookahead.new.self; folded = t })) (sym c.new-scalar.ensures));
   has = has_kept _ _ c.lookahead.ensures.reads c.lookahead.ensures.place.at c.requires;

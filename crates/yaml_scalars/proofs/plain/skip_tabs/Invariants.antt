@@ -1,12 +1,15 @@
-use Rattle.std.proofs.Common.{◌≡◌, ◌<◌}
+use Rattle.std.proofs.Common.{◌≡◌, ◌<◌, true}
 use Rattle.yaml_chars.specs.Reading.{Reads}
+use Rattle.scalar_model.specs.declared.context.Context.{Context}
+use Rattle.scalar_model.specs.Folding.{Folded}
 use Rattle.scalar_model.specs.Plain.{plain_from, between, tabs}
-use Rattle.yaml_scalars.specs.Shown.{at}
+use Rattle.yaml_scalars.specs.Shown.{at_folded}
 use Rattle.yaml_scalars.proofs.plain.skip_tabs.Given as goal
 
 abbrev pub invariant-tabs : goal.invariant-tabs
 invariant-tabs g l = record {
-  reads : Reads l.fn.window l.window (λ a b. plain_from l.fn.context l.fn.start a (at between l.fn.window l.fn.scalar) ≡ plain_from l.fn.context l.fn.start b (at tabs l.window l.fn.scalar));
+  reads : Reads l.fn.window l.window (λ a b. (context : Context) (t : Folded) → t.leading ≡ true → l.fn.window.col < context.indent →
+      plain_from context l.fn.start a (at_folded between l.fn.window t) ≡ plain_from context l.fn.start b (at_folded tabs l.window t));
   less : l.window.left < l.fn.window.left;
 }
 

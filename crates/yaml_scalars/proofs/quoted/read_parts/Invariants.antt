@@ -1,13 +1,11 @@
-use Rattle.std.proofs.Common.{◌≢◌, ◌≤◌}
+use Rattle.std.proofs.Common.{◌≤◌}
 use Rattle.scalar_model.specs.Quoted.{first}
-use Rattle.yaml_scalars.specs.declared.quoted.Part.TheVariants.{Closed}
 use Rattle.yaml_scalars.specs.ShownQuoted.{mode_of, GoesOn}
 use Rattle.yaml_scalars.proofs.quoted.read_parts.Given as goal
 
 abbrev pub invariant-parts : goal.invariant-parts
 invariant-parts g l = record {
   reads : GoesOn l.fn.quote first l.fn.window l.fn.scalar (mode_of l.part) l.window l.scalar;
-  going : l.part ≢ Closed;
   left : l.window.left ≤ l.fn.window.left;
 }
 
