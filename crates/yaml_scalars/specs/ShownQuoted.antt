@@ -1,7 +1,7 @@
 -- What the code of quoted scalars holds, as the model's states.
-use Rattle.std.specs.Prelude.{◌≡◌, ◌≢◌, ℕ, Bool, Err}
+use Rattle.std.specs.Prelude.{◌≡◌, ◌≢◌, ◌≤◌, ◌<◌, ℕ, Bool, Result, Err, OnOk, IfOk, IfErr, slice_index}
 use Rattle.yaml_chars.specs.Place.{Place}
-use Rattle.yaml_chars.specs.Reading.{Reading, Reads, place_of}
+use Rattle.yaml_chars.specs.Reading.{Reading, Reads, Sees, HasChar, place_of}
 use Rattle.yaml_tokens.specs.declared.problem.Fault.{Fault}
 use Rattle.yaml_tokens.specs.declared.problem.Fault.TheVariants.{OutOfMemory}
 use Rattle.yaml_scalars.specs.declared.folding.Folding.{Folding}
@@ -47,6 +47,22 @@ AllGoOn from old before to new so_far =
 abbrev pub IsRefused : {T : Type 0} → Quote → (from : Mode) → Reading T → Folding → Reading T → Fault → Type 0
 IsRefused q from old before new fault =
     Reads old new (λ a b. fault ≢ OutOfMemory → quoted_from q.single q.context q.start a (at from old before) ≡ Err fault)
+
+-- the scalar is read on to the mode of the answer, by a character or more, or it is refused
+abbrev pub ReadsOn : {T A : Type 0} → Quote → (from : Mode) → Reading T → Folding → Result A Fault → (A → Mode) → Reading T → Folding → Type 0
+ReadsOn q from old before result to new so_far = record {
+  ok : IfOk result (λ x. GoesOn q from old before (to x) new so_far);
+  err : IfErr result (λ e. IsRefused q from old before new e);
+  less : OnOk result (new.left < old.left);
+}
+
+-- c stands at the front of a window that holds so many places
+abbrev pub Shows : {T : Type 0} → Reading T → (places c : ℕ) → Type 0
+Shows w places c = record {
+  here : Sees w (λ a. c ≡ slice_index a 0);
+  has : HasChar w;
+  ahead : places ≤ w.ahead;
+}
 
 -- how many digits a code has behind the first
 abbrev pub more_of : Digits → ℕ

@@ -1,8 +1,8 @@
 //! Block scalars (YAML 1.2, section 8.1).
-ghost use Rattle.std.specs.Prelude.{◌≡◌, ◌≢◌, ◌≤◌, ◌<◌, ◌^◌, ◌++◌, ◌&&◌, not, [], ℕ, Bool, true, false, max, Ok, Err, OnOk, OnErr, IfOk, IfErr};
+ghost use Rattle.std.specs.Prelude.{◌≡◌, ◌≢◌, ◌≤◌, ◌<◌, ◌^◌, ◌++◌, ◌&&◌, not, [], ℕ, Bool, true, false, Ok, Err, OnOk, OnErr, IfOk, IfErr};
 ghost use Rattle.yaml_chars.specs.Reading.{Reads, Sees, HasChar, place_of};
 ghost use Rattle.yaml_chars.specs.Text.{string_chars};
-ghost use Rattle.scalar_model.specs.Block.{margin, line, lines_from, begins, begun, with_char, tail, is_open, ends_indent, indent_from, first_indent, content, empty_text, body, behind_header, block};
+ghost use Rattle.scalar_model.specs.Block.{margin, line, lines_from, begins, begun, with_char, tail, ends_indent, indent_from, first_indent, content, empty_text, body, behind_header, block};
 ghost use Rattle.yaml_scalars.specs.Shown.{read};
 ghost use Rattle.yaml_scalars.specs.ShownBlock.{lines, at, column_shown, header_shown};
 

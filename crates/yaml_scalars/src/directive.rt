@@ -1,5 +1,5 @@
 //! Directives (YAML 1.2, section 6.8).
-ghost use Rattle.std.specs.Prelude.{◌≡◌, ◌≢◌, ◌≤◌, ◌<◌, ◌^◌, ◌+◌, ◌-◌, ◌*◌, [], drop, slice_index, true, false, Ok, Err, OnOk, OnErr, IfOk, IfErr};
+ghost use Rattle.std.specs.Prelude.{◌≡◌, ◌≢◌, ◌≤◌, ◌<◌, ◌+◌, ◌-◌, ◌*◌, true, Ok, Err, OnOk, IfOk, IfErr};
 ghost use Rattle.yaml_chars.specs.Class.{is_alpha, is_digit};
 ghost use Rattle.yaml_chars.specs.Reading.{Reads, Sees, HasChar, place_of};
 ghost use Rattle.yaml_tokens.specs.Shown.{tok_of};

@@ -1,11 +1,11 @@
 //! Escapes of double-quoted scalars (YAML 1.2, section 5.7).
-ghost use Rattle.std.specs.Prelude.{◌≡◌, ◌≢◌, ◌≤◌, ◌<◌, ◌^◌, ◌+◌, ◌*◌, ℕ, zero, suc, Bool, true, false, Ok, Err, OnOk, OnErr, IfOk, IfErr, slice_index, MatchOption, if◌then◌else◌};
+ghost use Rattle.std.specs.Prelude.{◌≡◌, ◌≢◌, ◌≤◌, ◌<◌, ◌+◌, ◌*◌, ℕ, zero, suc, Bool, true, false, Ok, Err, OnOk, IfOk, IfErr, slice_index, MatchOption, if◌then◌else◌};
 ghost use Rattle.yaml_chars.specs.Place.{Place};
 ghost use Rattle.yaml_chars.specs.Reading.{Reads, Sees, HasChar, place_of};
 ghost use Rattle.scalar_model.specs.declared.context.Context.{Context};
 ghost use Rattle.scalar_model.specs.Folding.{Folded};
 ghost use Rattle.scalar_model.specs.Quoted.{escape_of, is_scalar, digits_from, quoted_from, inside, breaking, named};
-ghost use Rattle.yaml_scalars.specs.ShownQuoted.{at, at_folded, mode_of, escape_shown, count_of, GoesOn, IsRefused};
+ghost use Rattle.yaml_scalars.specs.ShownQuoted.{at, at_folded, mode_of, escape_shown, count_of, ReadsOn};
 ghost use Rattle.yaml_scalars.specs.Shown.{folded};
 
 use crate::folding::Folding;
@@ -145,9 +145,7 @@ fn read_named<T: Iterator<Item = char>>(
     quote: &Quote,
     scalar: &mut Folding,
 ) -> Result<(), Fault>
-    ensures ok { OnOk result (GoesOn quote.now named window.old scalar.old inside window.new scalar.new) }
-    ensures err { IfErr result (λ e. IsRefused quote.now named window.old scalar.old window.new e) }
-    ensures less { OnOk result (window.new.left < window.old.left) }
+    ensures { ReadsOn quote.now named window.old scalar.old result (λ _. inside) window.new scalar.new }
 {
     let c = window.look_ch();
     match escape_of(c) {
@@ -189,9 +187,7 @@ pub(crate) fn read_escapes<T: Iterator<Item = char>>(
     requires here { Sees window.old (λ a. slice_index a 0 ≡ 92) }
     requires has { HasChar window.old }
     requires ahead { 2 ≤ window.old.ahead }
-    ensures ok { IfOk result (λ next. GoesOn quote.now inside window.old scalar.old (mode_of next) window.new scalar.new) }
-    ensures err { IfErr result (λ e. IsRefused quote.now inside window.old scalar.old window.new e) }
-    ensures less { OnOk result (window.new.left < window.old.left) }
+    ensures { ReadsOn quote.now inside window.old scalar.old result mode_of window.new scalar.new }
 {
     'escapes: loop {
         if skip_backslash(window) {

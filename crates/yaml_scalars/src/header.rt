@@ -1,6 +1,6 @@
 //! Headers of block scalars (YAML 1.2, section 8.1.1).
-ghost use Rattle.std.specs.Prelude.{◌≡◌, ◌≢◌, ◌≤◌, ◌<◌, true, false, Ok, Err, OnOk, OnErr, IfOk, IfErr};
-ghost use Rattle.yaml_chars.specs.Reading.{Reads, Sees, HasChar, place_of};
+ghost use Rattle.std.specs.Prelude.{◌≡◌, ◌<◌, true, false, Ok, Err, IfOk, IfErr};
+ghost use Rattle.yaml_chars.specs.Reading.{Reads, place_of};
 ghost use Rattle.scalar_model.specs.Block.{chomping, increment, indicators, header_break, header_end, header};
 ghost use Rattle.yaml_scalars.specs.Shown.{read};
 ghost use Rattle.yaml_scalars.specs.ShownBlock.{indicators_shown, header_shown};

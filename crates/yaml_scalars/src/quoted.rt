@@ -1,11 +1,11 @@
 //! Quoted scalars (YAML 1.2, sections 7.3.1 and 7.3.2).
-ghost use Rattle.std.specs.Prelude.{◌≡◌, ◌≢◌, ◌≤◌, ◌<◌, ◌==◌, ◌||◌, true, false, Ok, Err, OnOk, OnErr, IfOk, IfErr, slice_index};
+ghost use Rattle.std.specs.Prelude.{◌≡◌, ◌≢◌, ◌≤◌, ◌<◌, ◌==◌, ◌||◌, true, false, Ok, Err, OnOk, OnErr, IfOk, IfErr};
 ghost use Rattle.yaml_chars.specs.Class.{is_blank, is_break};
-ghost use Rattle.yaml_chars.specs.Reading.{Reads, Sees, HasChar, SamePlace, place_of};
+ghost use Rattle.yaml_chars.specs.Reading.{Reads, Sees, HasChar, place_of};
 ghost use Rattle.yaml_chars.specs.Text.{string_chars};
 ghost use Rattle.scalar_model.specs.Quoted.{quote_of, refused, quoted, first, inside, gap, breaking, behind, doubled, closed};
 ghost use Rattle.yaml_scalars.specs.Shown.{read};
-ghost use Rattle.yaml_scalars.specs.ShownQuoted.{mode_of, GoesOn, AllGoOn, IsRefused};
+ghost use Rattle.yaml_scalars.specs.ShownQuoted.{mode_of, GoesOn, AllGoOn, IsRefused, ReadsOn, Shows};
 
 use crate::escape::read_escapes;
 use crate::folding::Folding;
@@ -69,12 +69,8 @@ fn read_gap<T: Iterator<Item = char>>(
     scalar: &mut Folding,
 ) -> Result<(), Fault>
     requires blank { (is_break c || is_blank c) ≡ true }
-    requires here { Sees window.old (λ a. c ≡ slice_index a 0) }
-    requires has { HasChar window.old }
-    requires ahead { 2 ≤ window.old.ahead }
-    ensures ok { OnOk result (GoesOn quote.now gap window.old scalar.old gap window.new scalar.new) }
-    ensures err { IfErr result (λ e. IsRefused quote.now gap window.old scalar.old window.new e) }
-    ensures less { OnOk result (window.new.left < window.old.left) }
+    requires here { Shows window.old 2 c }
+    ensures { ReadsOn quote.now gap window.old scalar.old result (λ _. gap) window.new scalar.new }
 {
     if is_break(c) {
         if window.at_cr_lf() {
@@ -101,12 +97,8 @@ fn read_inside<T: Iterator<Item = char>>(
     scalar: &mut Folding,
 ) -> Result<Part, Fault>
     requires other { (is_break c || is_blank c) ≡ false }
-    requires here { Sees window.old (λ a. c ≡ slice_index a 0) }
-    requires has { HasChar window.old }
-    requires ahead { 2 ≤ window.old.ahead }
-    ensures ok { IfOk result (λ next. GoesOn quote.now inside window.old scalar.old (mode_of next) window.new scalar.new) }
-    ensures err { IfErr result (λ e. IsRefused quote.now inside window.old scalar.old window.new e) }
-    ensures less { OnOk result (window.new.left < window.old.left) }
+    requires here { Shows window.old 2 c }
+    ensures { ReadsOn quote.now inside window.old scalar.old result mode_of window.new scalar.new }
 {
     if c == '\\' && !quote.single {
         return read_escapes(window, quote, scalar);
@@ -130,12 +122,8 @@ fn read_in_line<T: Iterator<Item = char>>(
     c: char,
     scalar: &mut Folding,
 ) -> Result<Part, Fault>
-    requires here { Sees window.old (λ a. c ≡ slice_index a 0) }
-    requires has { HasChar window.old }
-    requires ahead { 2 ≤ window.old.ahead }
-    ensures ok { IfOk result (λ next. GoesOn quote.now inside window.old scalar.old (mode_of next) window.new scalar.new) }
-    ensures err { IfErr result (λ e. IsRefused quote.now inside window.old scalar.old window.new e) }
-    ensures less { OnOk result (window.new.left < window.old.left) }
+    requires here { Shows window.old 2 c }
+    ensures { ReadsOn quote.now inside window.old scalar.old result mode_of window.new scalar.new }
 {
     if is_break(c) || is_blank(c) {
         read_gap(window, quote, c, scalar)?;
@@ -154,12 +142,8 @@ fn read_line<T: Iterator<Item = char>>(
     scalar: &mut Folding,
 ) -> Result<Part, Fault>
     requires some { c ≢ 0 }
-    requires here { Sees window.old (λ a. c ≡ slice_index a 0) }
-    requires has { HasChar window.old }
-    requires ahead { 4 ≤ window.old.ahead }
-    ensures ok { IfOk result (λ next. GoesOn quote.now first window.old scalar.old (mode_of next) window.new scalar.new) }
-    ensures err { IfErr result (λ e. IsRefused quote.now first window.old scalar.old window.new e) }
-    ensures less { OnOk result (window.new.left < window.old.left) }
+    requires here { Shows window.old 4 c }
+    ensures { ReadsOn quote.now first window.old scalar.old result mode_of window.new scalar.new }
 {
     check_line(window, quote)?;
     scalar.join()?;
@@ -175,12 +159,8 @@ fn read_in_gap<T: Iterator<Item = char>>(
     scalar: &mut Folding,
 ) -> Result<Part, Fault>
     requires some { c ≢ 0 }
-    requires here { Sees window.old (λ a. c ≡ slice_index a 0) }
-    requires has { HasChar window.old }
-    requires ahead { 4 ≤ window.old.ahead }
-    ensures ok { IfOk result (λ next. GoesOn quote.now gap window.old scalar.old (mode_of next) window.new scalar.new) }
-    ensures err { IfErr result (λ e. IsRefused quote.now gap window.old scalar.old window.new e) }
-    ensures less { OnOk result (window.new.left < window.old.left) }
+    requires here { Shows window.old 4 c }
+    ensures { ReadsOn quote.now gap window.old scalar.old result mode_of window.new scalar.new }
 {
     if is_break(c) || is_blank(c) {
         read_gap(window, quote, c, scalar)?;
@@ -198,12 +178,8 @@ fn read_behind<T: Iterator<Item = char>>(
     scalar: &mut Folding,
 ) -> Result<Part, Fault>
     requires some { c ≢ 0 }
-    requires here { Sees window.old (λ a. c ≡ slice_index a 0) }
-    requires has { HasChar window.old }
-    requires ahead { 4 ≤ window.old.ahead }
-    ensures ok { IfOk result (λ next. GoesOn quote.now behind window.old scalar.old (mode_of next) window.new scalar.new) }
-    ensures err { IfErr result (λ e. IsRefused quote.now behind window.old scalar.old window.new e) }
-    ensures less { OnOk result (window.new.left < window.old.left) }
+    requires here { Shows window.old 4 c }
+    ensures { ReadsOn quote.now behind window.old scalar.old result mode_of window.new scalar.new }
 {
     if c == quote_of(quote.single) {
         return read_in_line(window, quote, c, scalar);
@@ -236,9 +212,7 @@ fn read_doubled<T: Iterator<Item = char>>(
     c: char,
     scalar: &mut Folding,
 ) -> Result<Part, AllocError>
-    requires here { Sees window.old (λ a. c ≡ slice_index a 0) }
-    requires has { HasChar window.old }
-    requires ahead { 0 < window.old.ahead }
+    requires here { Shows window.old 1 c }
     ensures ok { IfOk result (λ next. AllGoOn doubled window.old scalar.old (mode_of next) window.new scalar.new) }
     ensures err { OnErr result (Reads window.old window.new (λ _ _. Unit {0})) }
     ensures less { OnOk result (window.new.left < window.old.left) }
@@ -256,9 +230,7 @@ fn read_part<T: Iterator<Item = char>>(
     scalar: &mut Folding,
 ) -> Result<Part, Fault>
     requires { part ≢ Part.Closed }
-    ensures ok { IfOk result (λ next. GoesOn quote.now (mode_of part) window.old scalar.old (mode_of next) window.new scalar.new) }
-    ensures err { IfErr result (λ e. IsRefused quote.now (mode_of part) window.old scalar.old window.new e) }
-    ensures less { OnOk result (window.new.left < window.old.left) }
+    ensures { ReadsOn quote.now (mode_of part) window.old scalar.old result mode_of window.new scalar.new }
 {
     window.lookahead(4);
     let c = window.ch();

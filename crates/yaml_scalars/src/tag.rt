@@ -1,10 +1,10 @@
 //! Tags (YAML 1.2, sections 6.8.2 and 6.9.1).
-ghost use Rattle.std.specs.Prelude.{◌≡◌, ◌≢◌, ◌≤◌, ◌<◌, ◌+◌, [], length, drop, slice_index, true, false, Ok, Err, OnOk, OnErr, IfOk, IfErr};
+ghost use Rattle.std.specs.Prelude.{◌≡◌, ◌≢◌, ◌<◌, Ok, Err, OnOk, OnErr, IfOk, IfErr};
 ghost use Rattle.yaml_chars.specs.Class.{is_alpha};
-ghost use Rattle.yaml_chars.specs.Reading.{Reads, Sees, HasChar, place_of};
+ghost use Rattle.yaml_chars.specs.Reading.{Reads, HasChar, place_of};
 ghost use Rattle.yaml_chars.specs.Text.{string_chars};
-ghost use Rattle.scalar_model.specs.Machine.{past, take_while};
-ghost use Rattle.scalar_model.specs.Tag.{verbatim_end, verbatim, named, local_tag, shorthand, tag_here, ends_tag, tag, handle_end, handle, prefix};
+ghost use Rattle.scalar_model.specs.Machine.{take_while};
+ghost use Rattle.scalar_model.specs.Tag.{verbatim, named, local_tag, shorthand, tag_here, ends_tag, tag, handle_end, handle, prefix};
 ghost use Rattle.yaml_scalars.specs.Shown.{read};
 ghost use Rattle.yaml_scalars.specs.ShownTag.{tag_shown};
 

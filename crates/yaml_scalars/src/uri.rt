@@ -1,5 +1,5 @@
 //! Characters of a URI, escaped ones too (YAML 1.2, section 5.6).
-ghost use Rattle.std.specs.Prelude.{◌≡◌, ◌≢◌, ◌≤◌, ◌<◌, ◌+◌, ◌*◌, ◌^◌, ◌++◌, ℕ, zero, suc, List, [], ◌∷◌, Bool, true, false, Ok, Err, OnOk, OnErr, IfOk, IfErr, slice_index, IfSome, IfNone};
+ghost use Rattle.std.specs.Prelude.{◌≡◌, ◌≢◌, ◌≤◌, ◌<◌, ◌+◌, ◌*◌, ◌^◌, ◌++◌, ℕ, zero, suc, List, [], ◌∷◌, Bool, true, Ok, Err, OnOk, IfOk, IfErr, slice_index, IfSome, IfNone};
 ghost use Rattle.yaml_chars.specs.Class.{is_uri, is_tag};
 ghost use Rattle.yaml_chars.specs.Place.{Place};
 ghost use Rattle.yaml_chars.specs.Reading.{Reads, Sees, HasChar, place_of};
