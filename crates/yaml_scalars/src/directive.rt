@@ -6,7 +6,7 @@ ghost use Rattle.yaml_tokens.specs.Shown.{tok_of};
 ghost use Rattle.scalar_model.specs.Machine.{skip_while};
 ghost use Rattle.scalar_model.specs.Space.{blanks};
 ghost use Rattle.scalar_model.specs.Directive.{kind, name, number, version_value, tag_value, behind_major, prefix_behind, behind_name, value, directive_break, line_end, directive};
-ghost use Rattle.yaml_scalars.specs.Shown.{read};
+ghost use Rattle.yaml_scalars.specs.Shown.{Lexes, Refuses, read};
 ghost use Rattle.yaml_scalars.specs.ShownTag.{kind_shown};
 
 use crate::space::{skip_blanks, skip_comment, skip_linebreak, skip_ws_to_eol};
@@ -59,8 +59,8 @@ fn skip_word<T: Iterator<Item = char>>(window: &mut Window<T>)
 /// Steps over a directive's name.
 #[tactic(auto, unfolding(scalar_model::specs::Directive::name))]
 fn skip_name<T: Iterator<Item = char>>(window: &mut Window<T>) -> Result<Directive, Fault>
-    ensures ok { IfOk result (λ k. Reads window.old window.new (λ a b. name a (place_of window.old) ≡ Ok (read b window.new (kind_shown k)))) }
-    ensures err { IfErr result (λ e. Reads window.old window.new (λ a b. e ≢ Fault.OutOfMemory → name a (place_of window.old) ≡ Err e)) }
+    ensures ok { IfOk result (λ k. Lexes name window.old window.new (kind_shown k)) }
+    ensures err { IfErr result (λ e. Refuses name window.old window.new e) }
 {
     window.lookahead(5);
     let place = window.mark();
@@ -92,8 +92,8 @@ fn read_number<T: Iterator<Item = char>>(
     window: &mut Window<T>,
     start: Marker,
 ) -> Result<u32, Fault>
-    ensures ok { IfOk result (λ n. Reads window.old window.new (λ a b. number start a (place_of window.old) ≡ Ok (read b window.new n))) }
-    ensures err { IfErr result (λ e. Reads window.old window.new (λ a b. e ≢ Fault.OutOfMemory → number start a (place_of window.old) ≡ Err e)) }
+    ensures ok { IfOk result (λ n. Lexes (number start) window.old window.new n) }
+    ensures err { IfErr result (λ e. Refuses (number start) window.old window.new e) }
 {
     let mut value = 0u32;
     let mut length = 0usize;
@@ -137,8 +137,8 @@ fn read_version<T: Iterator<Item = char>>(
     window: &mut Window<T>,
     start: Marker,
 ) -> Result<TokenType, Fault>
-    ensures ok { IfOk result (λ t. Reads window.old window.new (λ a b. version_value start a (place_of window.old) ≡ Ok (read b window.new (tok_of t)))) }
-    ensures err { IfErr result (λ e. Reads window.old window.new (λ a b. e ≢ Fault.OutOfMemory → version_value start a (place_of window.old) ≡ Err e)) }
+    ensures ok { IfOk result (λ t. Lexes (version_value start) window.old window.new (tok_of t)) }
+    ensures err { IfErr result (λ e. Refuses (version_value start) window.old window.new e) }
 {
     skip_blanks(window);
     let major = read_number(window, start)?;
@@ -170,8 +170,8 @@ fn read_tag_directive<T: Iterator<Item = char>>(
     window: &mut Window<T>,
     start: Marker,
 ) -> Result<TokenType, Fault>
-    ensures ok { IfOk result (λ t. Reads window.old window.new (λ a b. tag_value start a (place_of window.old) ≡ Ok (read b window.new (tok_of t)))) }
-    ensures err { IfErr result (λ e. Reads window.old window.new (λ a b. e ≢ Fault.OutOfMemory → tag_value start a (place_of window.old) ≡ Err e)) }
+    ensures ok { IfOk result (λ t. Lexes (tag_value start) window.old window.new (tok_of t)) }
+    ensures err { IfErr result (λ e. Refuses (tag_value start) window.old window.new e) }
 {
     skip_blanks(window);
     let handle = read_handle(alloc, window, start)?;
@@ -185,8 +185,8 @@ fn read_value<T: Iterator<Item = char>>(
     start: Marker,
     directive: Directive,
 ) -> Result<TokenType, Fault>
-    ensures ok { IfOk result (λ t. Reads window.old window.new (λ a b. value start (kind_shown directive) a (place_of window.old) ≡ Ok (read b window.new (tok_of t)))) }
-    ensures err { IfErr result (λ e. Reads window.old window.new (λ a b. e ≢ Fault.OutOfMemory → value start (kind_shown directive) a (place_of window.old) ≡ Err e)) }
+    ensures ok { IfOk result (λ t. Lexes (value start (kind_shown directive)) window.old window.new (tok_of t)) }
+    ensures err { IfErr result (λ e. Refuses (value start (kind_shown directive)) window.old window.new e) }
 {
     match directive {
         Directive::Version => read_version(window, start),
@@ -205,8 +205,8 @@ fn skip_directive_break<T: Iterator<Item = char>>(
     window: &mut Window<T>,
     start: Marker,
 ) -> Result<(), Fault>
-    ensures ok { IfOk result (λ _. Reads window.old window.new (λ a b. directive_break start a (place_of window.old) ≡ Ok (read b window.new tt))) }
-    ensures err { IfErr result (λ e. Reads window.old window.new (λ a b. e ≢ Fault.OutOfMemory → directive_break start a (place_of window.old) ≡ Err e)) }
+    ensures ok { IfOk result (λ _. Lexes (directive_break start) window.old window.new tt) }
+    ensures err { IfErr result (λ e. Refuses (directive_break start) window.old window.new e) }
 {
     let c = window.look_ch();
     if c == '\0' {
@@ -225,8 +225,8 @@ fn skip_line_end<T: Iterator<Item = char>>(
     window: &mut Window<T>,
     start: Marker,
 ) -> Result<(), Fault>
-    ensures ok { IfOk result (λ _. Reads window.old window.new (λ a b. line_end start a (place_of window.old) ≡ Ok (read b window.new tt))) }
-    ensures err { IfErr result (λ e. Reads window.old window.new (λ a b. e ≢ Fault.OutOfMemory → line_end start a (place_of window.old) ≡ Err e)) }
+    ensures ok { IfOk result (λ _. Lexes (line_end start) window.old window.new tt) }
+    ensures err { IfErr result (λ e. Refuses (line_end start) window.old window.new e) }
 {
     skip_ws_to_eol(window, SkipTabs::Yes)?;
     skip_directive_break(window, start)

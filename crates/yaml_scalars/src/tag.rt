@@ -5,7 +5,7 @@ ghost use Rattle.yaml_chars.specs.Reading.{Reads, HasChar, place_of};
 ghost use Rattle.yaml_chars.specs.Text.{string_chars};
 ghost use Rattle.scalar_model.specs.Machine.{take_while};
 ghost use Rattle.scalar_model.specs.Tag.{verbatim, named, local_tag, shorthand, tag_here, ends_tag, tag, handle_end, handle, prefix};
-ghost use Rattle.yaml_scalars.specs.Shown.{read};
+ghost use Rattle.yaml_scalars.specs.Shown.{Lexes, Refuses, read};
 ghost use Rattle.yaml_scalars.specs.ShownTag.{tag_shown};
 
 use crate::uri::{read_suffix, read_uri};
@@ -41,8 +41,8 @@ fn read_verbatim<T: Iterator<Item = char>>(
     window: &mut Window<T>,
     start: Marker,
 ) -> Result<(String, String), Fault>
-    ensures ok { IfOk result (λ s. Reads window.old window.new (λ a b. verbatim start a (place_of window.old) ≡ Ok (read b window.new (tag_shown (string_chars s.0) (string_chars s.1))))) }
-    ensures err { IfErr result (λ e. Reads window.old window.new (λ a b. e ≢ Fault.OutOfMemory → verbatim start a (place_of window.old) ≡ Err e)) }
+    ensures ok { IfOk result (λ s. Lexes (verbatim start) window.old window.new (tag_shown (string_chars s.0) (string_chars s.1))) }
+    ensures err { IfErr result (λ e. Refuses (verbatim start) window.old window.new e) }
 {
     let handle = Text::new(alloc);
     let mut uri = Text::new(alloc);
@@ -62,8 +62,8 @@ fn read_named<T: Iterator<Item = char>>(
     start: Marker,
     name: Text,
 ) -> Result<(String, String), Fault>
-    ensures ok { IfOk result (λ s. Reads window.old window.new (λ a b. named start name a (place_of window.old) ≡ Ok (read b window.new (tag_shown (string_chars s.0) (string_chars s.1))))) }
-    ensures err { IfErr result (λ e. Reads window.old window.new (λ a b. e ≢ Fault.OutOfMemory → named start name a (place_of window.old) ≡ Err e)) }
+    ensures ok { IfOk result (λ s. Lexes (named start name) window.old window.new (tag_shown (string_chars s.0) (string_chars s.1))) }
+    ensures err { IfErr result (λ e. Refuses (named start name) window.old window.new e) }
 {
     let mut handle = Text::new(alloc);
     handle.push('!')?;
@@ -84,8 +84,8 @@ fn read_local<T: Iterator<Item = char>>(
     start: Marker,
     mut name: Text,
 ) -> Result<(String, String), Fault>
-    ensures ok { IfOk result (λ s. Reads window.old window.new (λ a b. local_tag start name a (place_of window.old) ≡ Ok (read b window.new (tag_shown (string_chars s.0) (string_chars s.1))))) }
-    ensures err { IfErr result (λ e. Reads window.old window.new (λ a b. e ≢ Fault.OutOfMemory → local_tag start name a (place_of window.old) ≡ Err e)) }
+    ensures ok { IfOk result (λ s. Lexes (local_tag start name) window.old window.new (tag_shown (string_chars s.0) (string_chars s.1))) }
+    ensures err { IfErr result (λ e. Refuses (local_tag start name) window.old window.new e) }
 {
     read_suffix(window, start, &mut name)?;
     let mut exclamation = Text::new(alloc);
@@ -103,8 +103,8 @@ fn read_shorthand<T: Iterator<Item = char>>(
     window: &mut Window<T>,
     start: Marker,
 ) -> Result<(String, String), Fault>
-    ensures ok { IfOk result (λ s. Reads window.old window.new (λ a b. shorthand start a (place_of window.old) ≡ Ok (read b window.new (tag_shown (string_chars s.0) (string_chars s.1))))) }
-    ensures err { IfErr result (λ e. Reads window.old window.new (λ a b. e ≢ Fault.OutOfMemory → shorthand start a (place_of window.old) ≡ Err e)) }
+    ensures ok { IfOk result (λ s. Lexes (shorthand start) window.old window.new (tag_shown (string_chars s.0) (string_chars s.1))) }
+    ensures err { IfErr result (λ e. Refuses (shorthand start) window.old window.new e) }
 {
     let mut name = Text::new(alloc);
     read_word(window, &mut name)?;
@@ -122,8 +122,8 @@ fn read_here<T: Iterator<Item = char>>(
     window: &mut Window<T>,
     start: Marker,
 ) -> Result<(String, String), Fault>
-    ensures ok { IfOk result (λ s. Reads window.old window.new (λ a b. tag_here start a (place_of window.old) ≡ Ok (read b window.new (tag_shown (string_chars s.0) (string_chars s.1))))) }
-    ensures err { IfErr result (λ e. Reads window.old window.new (λ a b. e ≢ Fault.OutOfMemory → tag_here start a (place_of window.old) ≡ Err e)) }
+    ensures ok { IfOk result (λ s. Lexes (tag_here start) window.old window.new (tag_shown (string_chars s.0) (string_chars s.1))) }
+    ensures err { IfErr result (λ e. Refuses (tag_here start) window.old window.new e) }
 {
     if window.look_ch() == '<' {
         window.skip();
@@ -169,8 +169,8 @@ fn end_handle<T: Iterator<Item = char>>(
     bare: bool,
     mut handle: Text,
 ) -> Result<Text, Fault>
-    ensures ok { IfOk result (λ h. Reads window.old window.new (λ a b. handle_end start bare handle a (place_of window.old) ≡ Ok (read b window.new h))) }
-    ensures err { IfErr result (λ e. Reads window.old window.new (λ a b. e ≢ Fault.OutOfMemory → handle_end start bare handle a (place_of window.old) ≡ Err e)) }
+    ensures ok { IfOk result (λ h. Lexes (handle_end start bare handle) window.old window.new h) }
+    ensures err { IfErr result (λ e. Refuses (handle_end start bare handle) window.old window.new e) }
 {
     if window.look_ch() == '!' {
         window.skip();
@@ -190,8 +190,8 @@ pub(crate) fn read_handle<T: Iterator<Item = char>>(
     window: &mut Window<T>,
     start: Marker,
 ) -> Result<Text, Fault>
-    ensures ok { IfOk result (λ h. Reads window.old window.new (λ a b. handle start a (place_of window.old) ≡ Ok (read b window.new h))) }
-    ensures err { IfErr result (λ e. Reads window.old window.new (λ a b. e ≢ Fault.OutOfMemory → handle start a (place_of window.old) ≡ Err e)) }
+    ensures ok { IfOk result (λ h. Lexes (handle start) window.old window.new h) }
+    ensures err { IfErr result (λ e. Refuses (handle start) window.old window.new e) }
 {
     if window.look_ch() != '!' {
         return Err(Fault::At(Problem::TagStart, start));
@@ -211,8 +211,8 @@ pub(crate) fn read_prefix<T: Iterator<Item = char>>(
     window: &mut Window<T>,
     start: Marker,
 ) -> Result<Text, Fault>
-    ensures ok { IfOk result (λ h. Reads window.old window.new (λ a b. prefix start a (place_of window.old) ≡ Ok (read b window.new h))) }
-    ensures err { IfErr result (λ e. Reads window.old window.new (λ a b. e ≢ Fault.OutOfMemory → prefix start a (place_of window.old) ≡ Err e)) }
+    ensures ok { IfOk result (λ h. Lexes (prefix start) window.old window.new h) }
+    ensures err { IfErr result (λ e. Refuses (prefix start) window.old window.new e) }
 {
     let c = window.look_ch();
     let mut prefix = Text::new(alloc);
