@@ -1,11 +1,11 @@
 //! Anchors and aliases (YAML 1.2, sections 6.9.2 and 7.1).
-ghost use Rattle.std.specs.Prelude.{◌≡◌, ◌≢◌, ◌≤◌, ◌<◌, true, false, Ok, Err, OnOk, OnErr, IfOk, IfErr};
+ghost use Rattle.std.specs.Prelude.{◌≡◌, ◌<◌, Ok, Err, OnOk, OnErr, IfOk, IfErr};
 ghost use Rattle.yaml_chars.specs.Class.{is_anchor};
-ghost use Rattle.yaml_chars.specs.Reading.{Reads, Sees, HasChar, place_of};
+ghost use Rattle.yaml_chars.specs.Reading.{Reads, HasChar, place_of};
 ghost use Rattle.yaml_chars.specs.Text.{string_chars};
 ghost use Rattle.scalar_model.specs.Machine.{take_while};
 ghost use Rattle.scalar_model.specs.Anchor.{anchor_name};
-ghost use Rattle.yaml_scalars.specs.Shown.{read};
+ghost use Rattle.yaml_scalars.specs.Shown.{Lexes, Refuses, read};
 
 use std::alloc::{AllocError, Global};
 use yaml_chars::class::is_anchor;
@@ -39,8 +39,8 @@ pub fn read_anchor_name<T: Iterator<Item = char>>(
 ) -> Result<String, Fault>
     requires has { HasChar window.old }
     requires ahead { 0 < window.old.ahead }
-    ensures ok { IfOk result (λ s. Reads window.old window.new (λ a b. anchor_name a (place_of window.old) ≡ Ok (read b window.new (string_chars s)))) }
-    ensures err { IfErr result (λ e. Reads window.old window.new (λ a b. e ≢ Fault.OutOfMemory → anchor_name a (place_of window.old) ≡ Err e)) }
+    ensures ok { IfOk result (λ s. Lexes anchor_name window.old window.new (string_chars s)) }
+    ensures err { IfErr result (λ e. Refuses anchor_name window.old window.new e) }
     ensures less { OnOk result (window.new.left < window.old.left) }
 {
     let start = window.mark();

@@ -3,7 +3,7 @@ ghost use Rattle.std.specs.Prelude.{◌≡◌, ◌≢◌, ◌≤◌, ◌<◌, �
 ghost use Rattle.yaml_chars.specs.Reading.{Reads, Sees, HasChar, place_of};
 ghost use Rattle.yaml_chars.specs.Text.{string_chars};
 ghost use Rattle.scalar_model.specs.Block.{margin, line, lines_from, begins, begun, with_char, tail, ends_indent, indent_from, first_indent, content, empty_text, body, behind_header, block};
-ghost use Rattle.yaml_scalars.specs.Shown.{read};
+ghost use Rattle.yaml_scalars.specs.Shown.{Lexes, Refuses, read};
 ghost use Rattle.yaml_scalars.specs.ShownBlock.{lines, at, column_shown, header_shown};
 
 use crate::header::{Header, read_header};
@@ -368,8 +368,8 @@ pub fn read_block_scalar<T: Iterator<Item = char>>(
     requires indented { indent ≤ 2 ^ 63 }
     requires has { HasChar window.old }
     requires ahead { 0 < window.old.ahead }
-    ensures ok { IfOk result (λ s. Reads window.old window.new (λ a b. block literal indent a (place_of window.old) ≡ Ok (read b window.new (record { place = s.0; text = string_chars s.1 })))) }
-    ensures err { IfErr result (λ e. Reads window.old window.new (λ a b. e ≢ Fault.OutOfMemory → block literal indent a (place_of window.old) ≡ Err e)) }
+    ensures ok { IfOk result (λ s. Lexes (block literal indent) window.old window.new (record { place = s.0; text = string_chars s.1 })) }
+    ensures err { IfErr result (λ e. Refuses (block literal indent) window.old window.new e) }
     ensures less { OnOk result (window.new.left < window.old.left) }
 {
     let start = window.mark();

@@ -256,8 +256,8 @@ pub fn read_directive<T: Iterator<Item = char>>(
 ) -> Result<TokenType, Fault>
     requires has { HasChar window.old }
     requires ahead { 0 < window.old.ahead }
-    ensures ok { IfOk result (λ t. Reads window.old window.new (λ a b. directive a (place_of window.old) ≡ Ok (read b window.new (tok_of t)))) }
-    ensures err { IfErr result (λ e. Reads window.old window.new (λ a b. e ≢ Fault.OutOfMemory → directive a (place_of window.old) ≡ Err e)) }
+    ensures ok { IfOk result (λ t. Lexes directive window.old window.new (tok_of t)) }
+    ensures err { IfErr result (λ e. Refuses directive window.old window.new e) }
     ensures less { OnOk result (window.new.left < window.old.left) }
 {
     let start = window.mark();

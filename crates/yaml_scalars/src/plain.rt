@@ -6,7 +6,7 @@ ghost use Rattle.scalar_model.specs.declared.context.Context.{Context};
 ghost use Rattle.scalar_model.specs.Folding.{Folded};
 ghost use Rattle.scalar_model.specs.Machine.{is_marker, at_marker};
 ghost use Rattle.scalar_model.specs.Plain.{can_be_plain, is_shallow, at_dash, at_plain, goes_on, starts, plain, plain_from, first, inside, between, ends_gap};
-ghost use Rattle.yaml_scalars.specs.Shown.{at, at_folded, read, plain_shown};
+ghost use Rattle.yaml_scalars.specs.Shown.{Lexes, Refuses, at, at_folded, plain_shown};
 
 use crate::folding::Folding;
 use scalar_model::Context;
@@ -252,8 +252,8 @@ pub fn read_plain<T: Iterator<Item = char>>(
     context: Context,
 ) -> Result<Plain, Fault>
     requires { HasChar window.old }
-    ensures ok { IfOk result (λ s. Reads window.old window.new (λ a b. plain context a (place_of window.old) ≡ Ok (read b window.new (plain_shown s)))) }
-    ensures err { IfErr result (λ e. Reads window.old window.new (λ a b. e ≢ Fault.OutOfMemory → plain context a (place_of window.old) ≡ Err e)) }
+    ensures ok { IfOk result (λ s. Lexes (plain context) window.old window.new (plain_shown s)) }
+    ensures err { IfErr result (λ e. Refuses (plain context) window.old window.new e) }
     ensures less { OnOk result (window.new.left < window.old.left) }
 {
     window.lookahead(2);

@@ -4,7 +4,7 @@ ghost use Rattle.yaml_chars.specs.Class.{is_blank, is_break};
 ghost use Rattle.yaml_chars.specs.Reading.{Reads, Sees, HasChar, place_of};
 ghost use Rattle.yaml_chars.specs.Text.{string_chars};
 ghost use Rattle.scalar_model.specs.Quoted.{quote_of, refused, quoted, first, inside, gap, breaking, behind, doubled, closed};
-ghost use Rattle.yaml_scalars.specs.Shown.{read};
+ghost use Rattle.yaml_scalars.specs.Shown.{Lexes, Refuses};
 ghost use Rattle.yaml_scalars.specs.ShownQuoted.{mode_of, GoesOn, AllGoOn, IsRefused, ReadsOn, Shows};
 
 use crate::escape::read_escapes;
@@ -294,8 +294,8 @@ pub fn read_quoted<T: Iterator<Item = char>>(
 ) -> Result<String, Fault>
     requires has { HasChar window.old }
     requires ahead { 0 < window.old.ahead }
-    ensures ok { IfOk result (λ s. Reads window.old window.new (λ a b. quoted single context a (place_of window.old) ≡ Ok (read b window.new (string_chars s)))) }
-    ensures err { IfErr result (λ e. Reads window.old window.new (λ a b. e ≢ Fault.OutOfMemory → quoted single context a (place_of window.old) ≡ Err e)) }
+    ensures ok { IfOk result (λ s. Lexes (quoted single context) window.old window.new (string_chars s)) }
+    ensures err { IfErr result (λ e. Refuses (quoted single context) window.old window.new e) }
     ensures less { OnOk result (window.new.left < window.old.left) }
 {
     let quote = Quote {

@@ -1,6 +1,6 @@
 //! Spaces, comments and line breaks.
-ghost use Rattle.std.specs.Prelude.{◌≡◌, ◌≢◌, ◌≤◌, ◌<◌, true, false, Ok, Err, OnOk, OnErr, IfOk, IfErr};
-ghost use Rattle.yaml_chars.specs.Reading.{Reads, Sees, HasChar, place_of};
+ghost use Rattle.std.specs.Prelude.{◌≡◌, ◌<◌, true, false, Ok, Err, IfOk, IfErr};
+ghost use Rattle.yaml_chars.specs.Reading.{Reads, HasChar, place_of};
 ghost use Rattle.scalar_model.specs.Space.{linebreak, comment, blanks, space};
 ghost use Rattle.yaml_scalars.specs.Shown.{read};
 

@@ -1,5 +1,5 @@
 //! Tags (YAML 1.2, sections 6.8.2 and 6.9.1).
-ghost use Rattle.std.specs.Prelude.{◌≡◌, ◌≢◌, ◌<◌, Ok, Err, OnOk, OnErr, IfOk, IfErr};
+ghost use Rattle.std.specs.Prelude.{◌≡◌, ◌<◌, Ok, Err, OnOk, OnErr, IfOk, IfErr};
 ghost use Rattle.yaml_chars.specs.Class.{is_alpha};
 ghost use Rattle.yaml_chars.specs.Reading.{Reads, HasChar, place_of};
 ghost use Rattle.yaml_chars.specs.Text.{string_chars};
@@ -148,8 +148,8 @@ pub fn read_tag<T: Iterator<Item = char>>(
 ) -> Result<(String, String), Fault>
     requires has { HasChar window.old }
     requires ahead { 0 < window.old.ahead }
-    ensures ok { IfOk result (λ s. Reads window.old window.new (λ a b. tag in_flow a (place_of window.old) ≡ Ok (read b window.new (tag_shown (string_chars s.0) (string_chars s.1))))) }
-    ensures err { IfErr result (λ e. Reads window.old window.new (λ a b. e ≢ Fault.OutOfMemory → tag in_flow a (place_of window.old) ≡ Err e)) }
+    ensures ok { IfOk result (λ s. Lexes (tag in_flow) window.old window.new (tag_shown (string_chars s.0) (string_chars s.1))) }
+    ensures err { IfErr result (λ e. Refuses (tag in_flow) window.old window.new e) }
     ensures less { OnOk result (window.new.left < window.old.left) }
 {
     let start = window.mark();
