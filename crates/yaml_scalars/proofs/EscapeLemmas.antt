@@ -1,5 +1,5 @@
 -- Lemmas about escapes.
-use Rattle.std.proofs.Common.{◌≡◌, ◌≤◌, ◌<◌, ◌+◌, ◌*◌, ◌-◌, ◌^◌, ◌∙◌, ℕ, suc, List, ◌∷◌, Bool, false, refl, slice_index, ap, arith, add-one, lit<, if◌then◌else◌}
+use Rattle.std.proofs.Common.{◌≡◌, ◌≤◌, ◌<◌, ◌+◌, ◌*◌, ◌-◌, ◌^◌, ◌∙◌, ℕ, suc, List, ◌∷◌, Bool, false, refl, slice_index, ap, sym, arith, add-one, lit<, if◌then◌else◌}
 use Rattle.std.proofs.Math.Nat.{pow-succ', pow-le-pow_right}
 use Rattle.yaml_chars.specs.Place.{Place}
 use Rattle.yaml_chars.specs.Class.{is_break, is_blank}
@@ -19,13 +19,13 @@ backslash ctx start a p t = refl
 
 -- behind a backslash stands a break or what it names
 pub backslash_read : {T : Type 0} (old new : Reading T) (d : ℕ) (breaks : Bool)
-    → Sees old (λ a. slice_index a 0 ≡ 92) → Sees old (λ a. d ≡ slice_index a 1) → breaks ≡ is_break d
+    → Sees old (λ a. 92 ≡ slice_index a 0) → Sees old (λ a. d ≡ slice_index a 1) → breaks ≡ is_break d
     → new ≡ after_char old → Reads old new (λ a b. a ≡ slice_index a 0 ∷ b)
     → Reads old new (λ a b. (context : Context) (start : Place) (t : Folded) →
     quoted_from false context start a (at_folded inside old t) ≡ quoted_from false context start b (at_folded (if breaks then breaking else named) new t))
 backslash_read old new d breaks here next is state reads =
     Reads-saw old new (Sees-both old here next) reads (λ a b w e context start t.
-    let f : a ≡ 92 ∷ b = e ∙ ap (λ x. x ∷ b) w.0 in
+    let f : a ≡ 92 ∷ b = e ∙ ap (λ x. x ∷ b) (sym w.0) in
     let h : breaks ≡ is_break (slice_index b 0) = is ∙ ap is_break (w.1 ∙ ap (λ x. slice_index x 1) f) in
     rw (state, h, f) (backslash context start b (place_of old) t))
 

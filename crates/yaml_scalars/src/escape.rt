@@ -5,7 +5,7 @@ ghost use Rattle.yaml_chars.specs.Reading.{Reads, Sees, HasChar, place_of};
 ghost use Rattle.scalar_model.specs.declared.context.Context.{Context};
 ghost use Rattle.scalar_model.specs.Folding.{Folded};
 ghost use Rattle.scalar_model.specs.Quoted.{escape_of, is_scalar, digits_from, quoted_from, inside, breaking, named};
-ghost use Rattle.yaml_scalars.specs.ShownQuoted.{at, at_folded, mode_of, escape_shown, count_of, ReadsOn};
+ghost use Rattle.yaml_scalars.specs.ShownQuoted.{at, at_folded, mode_of, escape_shown, count_of, ReadsOn, Shows};
 ghost use Rattle.yaml_scalars.specs.Shown.{folded};
 
 use crate::folding::Folding;
@@ -165,9 +165,7 @@ fn read_named<T: Iterator<Item = char>>(
 /// Steps over a backslash, and says whether a break stands behind it.
 #[inline(always)]
 fn skip_backslash<T: Iterator<Item = char>>(window: &mut Window<T>) -> bool
-    requires here { Sees window.old (λ a. slice_index a 0 ≡ 92) }
-    requires has { HasChar window.old }
-    requires ahead { 2 ≤ window.old.ahead }
+    requires here { Shows window.old 2 92 }
     ensures reads { Reads window.old window.new (λ a b. (context : Context) (start : Place) (t : Folded) →
         quoted_from false context start a (at_folded inside window.old t) ≡ quoted_from false context start b (at_folded (if result then breaking else named) window.new t)) }
     ensures less { window.new.left < window.old.left }
@@ -184,9 +182,7 @@ pub(crate) fn read_escapes<T: Iterator<Item = char>>(
     scalar: &mut Folding,
 ) -> Result<Part, Fault>
     requires double { quote.now.single ≡ false }
-    requires here { Sees window.old (λ a. slice_index a 0 ≡ 92) }
-    requires has { HasChar window.old }
-    requires ahead { 2 ≤ window.old.ahead }
+    requires here { Shows window.old 2 92 }
     ensures { ReadsOn quote.now inside window.old scalar.old result mode_of window.new scalar.new }
 {
     'escapes: loop {

@@ -10,7 +10,6 @@ use yaml_chars::class::{is_blank, is_breakz};
 use yaml_tokens::{Fault, Problem};
 
 /// Steps over the line break that stands here, CR LF as one.
-#[tactic(auto, using(crate::proofs::WindowLemmas::has_kept))]
 pub fn skip_linebreak<T: Iterator<Item = char>>(window: &mut Window<T>)
     requires { HasChar window.old }
     ensures reads { Reads window.old window.new (λ a b. linebreak a (place_of window.old) ≡ read b window.new tt) }

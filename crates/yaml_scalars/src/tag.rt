@@ -116,7 +116,6 @@ fn read_shorthand<T: Iterator<Item = char>>(
 }
 
 /// Reads a tag behind its first `!`.
-#[tactic(auto)]
 fn read_here<T: Iterator<Item = char>>(
     alloc: Global,
     window: &mut Window<T>,
@@ -162,7 +161,6 @@ pub fn read_tag<T: Iterator<Item = char>>(
 }
 
 /// Reads the end of a tag directive's handle behind its name.
-#[tactic(auto)]
 fn end_handle<T: Iterator<Item = char>>(
     window: &mut Window<T>,
     start: Marker,
