@@ -123,7 +123,7 @@ first_tokens_are_cut text given more t nul run e = by (came text nul (start text
     by (starts f) = inr (nothing given (sym (ap (λ y. y.held.tokens) f) ∙ e))
     by (fares (goes s g)) =
         inr (begun_by text s.stood.begin s.stood.row s.stood.behind None given more (s.stood.here.is_text ∙ sym (whole_text text nul)) (s.stood.here.is_row None) (sym s.stood.tokens_are ∙ e))
-    by (fares (over c f)) = elim (before_last (end_token c.end) (start_token c.begin ∷ tokens_of c.row) given more (sym c.are_tokens ∙ e)) [
+    by (fares (over c f n)) = elim (before_last (end_token c.end) (start_token c.begin ∷ tokens_of c.row) given more (sym c.are_tokens ∙ e)) [
       | all k ↦ inl (subst (λ ts. IsCut ts text) (c.are_tokens ∙ sym k) c)
       | some others k ↦ inr (begun_by text c.begin c.row c.filler (Some stream_end) given others c.is_text c.is_row k)
     ]

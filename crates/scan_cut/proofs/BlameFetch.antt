@@ -165,7 +165,7 @@ fetch_told : (text : List ℕ) (t : State) → has_no_nul text ≡ true → t.he
 unfolding fetch
 fetch_told text t nul going_on (starts e) = chosen t.held.started (λ k. let begun : false ≡ true = ap (λ (u : State). u.held.started) (sym e) ∙ k in absurd cc) (λ k. none)
 fetch_told text t nul going_on (fares (goes s g)) = chosen t.held.started (λ k. next_told text t nul s g) (λ k. none)
-fetch_told text t nul going_on (fares (over c e)) = absurd (cc (e, going_on))
+fetch_told text t nul going_on (fares (over c e n)) = absurd (cc (e, going_on))
 
 -- A text is refused for such a fault only where it stands in it.
 pub faults_stand : (text : List ℕ) (f : Fault) → has_no_nul text ≡ true → IsRefused text f → is_shown f ≡ true → IsThere text f

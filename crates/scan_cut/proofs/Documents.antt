@@ -27,10 +27,12 @@ use Rattle.scan_model.proofs.Holds.{Holds, went, refused, chained, tried, choice
 use Rattle.scan_scalars.specs.PlainEnds.{has_no_nul}
 use Rattle.scan_cut.specs.PiecesRead.{ReadAs, is_directive_token}
 use Rattle.scan_cut.specs.Order.{Behind}
+use Rattle.scan_cut.specs.Places.{IsAtEnd}
 use Rattle.scan_cut.specs.Here.{IsLive, AreOpen}
 use Rattle.scan_cut.specs.Stands.{columns, levels_of, account_of, AreLevels, IsLevel, IsAdjacent, Stood, Fares, Stands}
 use Rattle.scan_cut.proofs.PieceDirectives.{directive_is_read}
 use Rattle.scan_cut.proofs.Places.{weaker, index_behind}
+use Rattle.scan_cut.proofs.RowPlaces.{end_place}
 use Rattle.scan_cut.proofs.Heres.{led, spelled_led}
 use Rattle.scan_cut.proofs.Pushed.{with_piece}
 use Rattle.scan_cut.proofs.Opens.{Leads, open_more, open_given_up}
@@ -350,11 +352,26 @@ stream_cut text t nul none s q = by (is_nil t.held.flow) refl
         (cut_of text t.held.place q u.tokens (cleared t.held.keys) u.indents u.indent t.held.flow s.before nul
         (closed_account t.held.place u.indent u.indents t.held.flow s.before (λ out. none_left u.indent u.indents z.stood.are_levels z.shallow)) z.stood)
 
-pub stream_ended : (text : List ℕ) (t : State) → has_no_nul text ≡ true → t.rest ≡ [] → Stands text t → Holds (λ u. IsCut u.held.tokens text × (u.held.ended ≡ true)) (fetch_stream_end t)
-unfolding fetch_stream_end
-stream_ended text t nul none s = by (has_required t.held.keys)
+-- the ends of levels change neither the place nor whether the stream's start was met
+unroll_keeps : (limit : ℕ) (h : Held) → ((unroll_indent limit h).place ≡ h.place) × ((unroll_indent limit h).started ≡ h.started)
+unroll_keeps limit h = by (is_nil h.flow) refl
   where
-    by : (b : Bool) → Holds (λ (u : State). IsCut u.held.tokens text × (u.held.ended ≡ true))
+    by : (out : Bool) → is_nil h.flow ≡ out → ((unroll_indent limit h).place ≡ h.place) × ((unroll_indent limit h).started ≡ h.started)
+    by false e = (ap (λ k. k.place) (unrolled_in_flow limit h e), ap (λ k. k.started) (unrolled_in_flow limit h e))
+    by true e = (ap (λ k. k.place) (unrolled_outside limit h e), ap (λ k. k.started) (unrolled_outside limit h e))
+
+pub stream_ended : (text : List ℕ) (t : State) → has_no_nul text ≡ true → t.rest ≡ [] → Stands text t → t.held.started ≡ true
+    → Holds (λ u. IsCut u.held.tokens text × (u.held.ended ≡ true) × IsAtEnd text u.held) (fetch_stream_end t)
+unfolding fetch_stream_end
+stream_ended text t nul none s began = by (has_required t.held.keys)
+  where
+    h : Held
+    h = record t.held { place = next_line t.held.place; keys = cleared t.held.keys }
+
+    at_end : IsAtEnd text (ended_at (unroll_indent 0 h))
+    at_end = record { began = (unroll_keeps 0 h).1 ∙ began; place = (unroll_keeps 0 h).0 ∙ ap next_line (end_place text t none s) }
+
+    by : (b : Bool) → Holds (λ (u : State). IsCut u.held.tokens text × (u.held.ended ≡ true) × IsAtEnd text u.held)
         (with_held t (if b then Err (At problem.KeyExpected (next_line t.held.place)) else Ok (ended_at (unroll_indent 0 (record t.held { place = next_line t.held.place; keys = cleared t.held.keys })))))
     by true = refused
-    by false = went (stream_cut text t nul none s (next_line t.held.place), refl)
+    by false = went (stream_cut text t nul none s (next_line t.held.place), refl, at_end)

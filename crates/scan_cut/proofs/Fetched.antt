@@ -25,6 +25,7 @@ use Rattle.scalar_laws.proofs.Bridges.{same_gap}
 use Rattle.scan_scalars.specs.PlainEnds.{has_no_nul}
 use Rattle.scan_scalars.specs.Fillers.{begins_filler}
 use Rattle.scan_cut.specs.Here.{AreOpen}
+use Rattle.scan_cut.specs.Places.{IsAtEnd}
 use Rattle.scan_cut.specs.Stands.{columns, Stood, Stands}
 use Rattle.scan_cut.proofs.Opens.{open_given_up}
 use Rattle.scan_cut.proofs.Passes.{to_token}
@@ -111,10 +112,10 @@ stale_stands text u s = either (in_flow u.held) (λ e. went (record { stands = s
 
 -- ---- what a fetch leaves
 
--- the tokens so far are a cut, and the stream goes on; or it has ended, and the tokens are a cut of the whole text
+-- The tokens so far are a cut, and the stream goes on; or it has ended, and the tokens are a cut of the whole text.
 pub data Fared (text : List ℕ) (u : State) : Type 0 where
   goes : Stands text u → walk.Stands started u.held → Fared text u
-  over : IsCut u.held.tokens text → u.held.ended ≡ true → Fared text u
+  over : IsCut u.held.tokens text → u.held.ended ≡ true → IsAtEnd text u.held → Fared text u
 
 -- ---- markers
 
@@ -227,7 +228,7 @@ goes_on_here (c ∷ r) h = refl
 here_fetched : (text : List ℕ) → has_no_nul text ≡ true → (t : State) → Here text t → Holds (Fared text) (fetch_here t)
 unfolding fetch_here
 here_fetched text nul t h =
-    either (peek t.rest == 0) (λ e. weakened (λ u s. over s.0 s.1) (stream_ended text t nul (no_end t.rest h.stands.stood.here.is_clean e) h.stands)) (λ e.
+    either (peek t.rest == 0) (λ e. weakened (λ u s. over s.0 s.1 s.2) (stream_ended text t nul (no_end t.rest h.stands.stood.here.is_clean e) h.stands h.under_way.stood.tokens)) (λ e.
     fared text (fetch_content t) (content_fetched text t (goes_on_here t.rest e) h) (walk.content_fetched started started_is_kept t h.under_way))
 
 keys_only : (s : Held) → Holds (λ h. h ≡ record s { keys = h.keys }) (stale s)
@@ -241,7 +242,7 @@ keys_only s = either (in_flow s) (λ _. went refl) (λ _. by (drop_stale s.place
 -- the keys that are dropped behind a token change nothing of the rest
 fared_stale : (text : List ℕ) (t : State) → Fared text t → Holds (Fared text) (try_held stale t)
 fared_stale text t (goes s g) = tried t (stale t.held) (both_hold (stale_stands text t s) (walk.stale_dropped started started_is_kept t.held g)) (λ h d. goes d.0.stands d.1)
-fared_stale text t (over c e) = tried t (stale t.held) (keys_only t.held) (λ h d. over (subst (λ y. IsCut y.tokens text) (sym d) c) (ap (λ y. y.ended) d ∙ e))
+fared_stale text t (over c e n) = tried t (stale t.held) (keys_only t.held) (λ h d. over (subst (λ y. IsCut y.tokens text) (sym d) c) (ap (λ y. y.ended) d ∙ e) (record { began = ap (λ y. y.started) d ∙ n.began; place = ap (λ y. y.place) d ∙ n.place }))
 
 -- a state whose keys are near, behind the ends of block collections
 pub here_now : (text : List ℕ) (u v : State) → begins_filler u.rest ≡ false → v ≡ record u { held = v.held } → Fresh text u v.held → walk.Stands started v.held → Here text (on_held (λ s. unroll_indent (s.place.col + 1) s) v)
@@ -288,7 +289,7 @@ came_on text nul t u (starts e) going_on f = fares (goes (subst (λ y. Stands te
     same : fetch_stream_start (start text) ≡ u
     same = ok_same (subst (λ y. fetch y ≡ Ok u) e f)
 came_on text nul t u (fares (goes s g)) going_on f = fares (held_of u (fetched text nul t s g) f)
-came_on text nul t u (fares (over c e)) going_on f = absurd (cc (e, going_on))
+came_on text nul t u (fares (over c e n)) going_on f = absurd (cc (e, going_on))
 
 pub came : (text : List ℕ) → has_no_nul text ≡ true → (t u : State) → Reaches t u → Came text t → Came text u
 came text nul t u here c = c
@@ -301,4 +302,4 @@ tokens_are_cut text ts nul h = subst (λ x. IsCut x text) h.tokens (by (came tex
     by : Came text h.end → IsCut h.end.held.tokens text
     by (starts e) = absurd (cc (ap (λ y. y.held.ended) e, h.ended))
     by (fares (goes s g)) = absurd (cc (g.stood.going, h.ended))
-    by (fares (over c e)) = c
+    by (fares (over c e n)) = c

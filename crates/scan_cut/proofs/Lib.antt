@@ -8,6 +8,7 @@ pub mod PieceDirectives
 pub mod PiecesRead
 pub mod PieceInserted
 pub mod Places
+pub mod RowPlaces
 pub mod Insides
 pub mod Heres
 pub mod Opens
@@ -27,6 +28,7 @@ pub mod Unrolls
 pub mod Documents
 pub mod Going
 pub mod Fetched
+pub mod Reached
 pub mod Keys
 pub mod Values
 pub mod Characters

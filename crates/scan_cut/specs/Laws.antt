@@ -7,6 +7,7 @@ use Rattle.yaml_tokens.specs.declared.problem.Fault.{Fault}
 use Rattle.scan_model.specs.Run.{start, Reaches, HasTokens, IsRefused}
 use Rattle.scan_scalars.specs.PlainEnds.{has_no_nul}
 use Rattle.scan_cut.specs.Faults.{IsThere, is_shown}
+use Rattle.scan_cut.specs.Places.{IsWhere}
 
 -- `tokens_are_a_cut`
 abbrev pub TokensAreACut : Type 0
@@ -20,3 +21,7 @@ FirstTokensAreACut =
 -- `shown_faults_stand_in_the_text`
 abbrev pub ShownFaultsStandInTheText : Type 0
 ShownFaultsStandInTheText = (text : List ℕ) (f : Fault) → has_no_nul text ≡ true → IsRefused text f → is_shown f ≡ true → IsThere text f
+
+-- `places_are_in_the_text`
+abbrev pub PlacesAreInTheText : Type 0
+PlacesAreInTheText = (text : List ℕ) (last : State) → has_no_nul text ≡ true → Reaches (start text) last → IsWhere text last

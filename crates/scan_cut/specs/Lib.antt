@@ -5,3 +5,4 @@ pub mod Inside
 pub mod Here
 pub mod Stands
 pub mod Faults
+pub mod Places

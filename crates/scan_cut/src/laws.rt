@@ -1,6 +1,6 @@
 //! Laws of the scanner's model and the cut of a text, each the contract of an empty function.
 
-ghost use Rattle.scan_cut.specs.Laws.{FirstTokensAreACut, ShownFaultsStandInTheText, TokensAreACut};
+ghost use Rattle.scan_cut.specs.Laws.{FirstTokensAreACut, PlacesAreInTheText, ShownFaultsStandInTheText, TokensAreACut};
 ghost use Rattle.scan_cut.specs.PiecesRead.{PiecesAreRead};
 
 /// What a lexing function reads of a text is a piece that belongs to its token, followed by a filler, whatever is
@@ -27,4 +27,11 @@ pub fn first_tokens_are_a_cut()
 /// of pieces and a filler, at the fault's place.
 pub fn shown_faults_stand_in_the_text()
     ensures { ShownFaultsStandInTheText }
+{}
+
+/// At each state of the model its place is the one after a beginning of the text, and the rest of the text is left. After
+/// the stream's end it is where a line begins, after the whole text. The stream's start was met just where there are
+/// tokens.
+pub fn places_are_in_the_text()
+    ensures { PlacesAreInTheText }
 {}
