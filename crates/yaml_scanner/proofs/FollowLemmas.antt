@@ -25,6 +25,7 @@ use Rattle.yaml_scanner.specs.Work.{Fetches}
 use Rattle.yaml_scanner.specs.Follows.{Begins, IsReached, FollowsIn, Follows}
 use Rattle.yaml_scanner.specs.Scanned.{inside, kept_fault, IsRefusal, Scans}
 use Rattle.yaml_scanner.proofs.GivenLemmas.{lowered_seen}
+use Rattle.yaml_scanner.proofs.WhereLemmas.{in_text, at_end, not_started, has_started}
 use Rattle.yaml_scanner.proofs.QueueLemmas.{has_end_append}
 use Rattle.yaml_chars.specs.Reading.{HasNoNul}
 use Rattle.scalar_defs.specs.Classes.{is_nul}
@@ -54,7 +55,7 @@ fetched_on x y k g f d m n = λ a p.
     let run : Reaches (start a) (state (drop y.window.at a) y) = one_more (old.run k g) g (d.runs.reads a p) in
     record {
       run = λ _ _. run;
-      all = λ _ e. record { end = state (drop y.window.at a) y; run = run; ended = e; tokens = refl };
+      all = λ _ e. record { whole = record { end = state (drop y.window.at a) y; run = run; ended = e; tokens = refl }; place = refl; began = refl };
       done = λ _ e. n e;
       reached = rw m.given old.reached;
       begins = λ ts h. rw m.given (old.begins ts h);
@@ -160,7 +161,7 @@ module _ {T : Type 0} (x : Fetcher T) (a : List ℕ) (t : Token) (old : FollowsI
   begins_after : (b : Bool) → x.tokens.ended ≡ b → (x.tokens.ended ≡ false → list_any is_front x.keys ≡ false) → (ts : List Token) → HasTokens a ts → Begins (take count x.tokens.all) ts
   begins_after true e front ts h = record {
     more = drop count x.tokens.all;
-    whole = one_list a ts x.tokens.all h (old.all kept e) ∙ sym (take-append-drop count x.tokens.all);
+    whole = one_list a ts x.tokens.all h (old.all kept e).whole ∙ sym (take-append-drop count x.tokens.all);
   }
   begins_after false e front ts h =
       let run = run_to_end a ts (state (drop x.window.at a) after) h (run_after e (front e)) in
@@ -172,7 +173,7 @@ module _ {T : Type 0} (x : Fetcher T) (a : List ℕ) (t : Token) (old : FollowsI
 
   whole_after : (b : Bool) → x.tokens.ended ≡ b → take count x.tokens.all ≡ handed x.tokens ++ t ∷ [] → is_end t.tok ≡ true → HasTokens a (take count x.tokens.all)
   whole_after true e g i =
-      let z = old.all kept e in
+      let z = (old.all kept e).whole in
       let l = end_is_last a z.end (handed x.tokens) (drop count x.tokens.all) t z.run (z.tokens ∙ split g) (is_the_end t.tok i) in
       rw (none_waits count x.tokens.all l.1) z
   whole_after false e g i =
@@ -182,7 +183,7 @@ module _ {T : Type 0} (x : Fetcher T) (a : List ℕ) (t : Token) (old : FollowsI
 
   reached_after : (b : Bool) → x.tokens.ended ≡ b → (x.tokens.ended ≡ false → list_any is_front x.keys ≡ false) → IsReached a (take count x.tokens.all)
   reached_after true e front =
-      let z = old.all kept e in
+      let z = (old.all kept e).whole in
       record { last = z.end; run = z.run; begins = record { more = drop count x.tokens.all; whole = z.tokens ∙ sym (take-append-drop count x.tokens.all) } }
   reached_after false e front =
       record { last = state (drop x.window.at a) after; run = run_after e (front e); begins = record { more = drop count x.tokens.all; whole = sym (take-append-drop count x.tokens.all) } }
@@ -277,6 +278,10 @@ scans_from x f = record {
         whole = s.whole;
         begun = λ o n. begun_cut (handed x.tokens) a s.reached (s.open_end o) n;
         cut = λ o n. tokens_are_cut a (handed x.tokens) (no_nul a n) (s.whole o);
+        place = λ k e n. in_text x a s (none_kept x.kept k) (no_nul a n) e;
+        end = λ k e n. at_end x a s (none_kept x.kept k) (no_nul a n) e;
+        none = λ k n b. not_started x a s (none_kept x.kept k) (no_nul a n) b;
+        some = λ k n b. has_started x a s (none_kept x.kept k) (no_nul a n) b;
         sound = memory_sound x.kept a s.refused;
         wants = memory_says x.kept;
         refused = is_refusal x.kept a s.refused;

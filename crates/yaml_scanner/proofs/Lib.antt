@@ -3,6 +3,7 @@ pub mod DispatchLemmas
 pub mod DoesLemmas
 pub mod FetchLemmas
 pub mod FlowLemmas
+pub mod WhereLemmas
 pub mod FollowLemmas
 pub mod GivenLemmas
 pub mod HeldLemmas

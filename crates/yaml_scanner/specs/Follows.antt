@@ -1,6 +1,7 @@
 -- What was fetched and handed out, against the model's runs over each text that is still possible.
-use Rattle.std.specs.Prelude.{◌≡◌, ◌≢◌, ℕ, List, ◌++◌, drop, true, false, None, IfSome}
-use Rattle.yaml_chars.specs.Reading.{Possible}
+use Rattle.std.specs.Prelude.{◌≡◌, ◌≢◌, ℕ, List, ◌++◌, drop, Bool, true, false, None, IfSome}
+use Rattle.yaml_chars.specs.Place.{Place}
+use Rattle.yaml_chars.specs.Reading.{Possible, place_of}
 use Rattle.token_defs.specs.Token.{Token}
 use Rattle.yaml_tokens.specs.declared.problem.Fault.TheVariants.{OutOfMemory}
 use Rattle.scan_model.specs.State.{State}
@@ -20,10 +21,16 @@ pub record IsReached (a : List ℕ) (given : List Token) : Type 0 where
   pub run : Reaches (start a) last
   pub begins : Begins given last.held.tokens
 
+-- these are all tokens of a text, and the run that met them ended at a place
+pub record HasEnded (a : List ℕ) (ts : List Token) (p : Place) (started : Bool) : Type 0 where
+  pub whole : HasTokens a ts
+  pub place : whole.end.held.place ≡ p
+  pub began : whole.end.held.started ≡ started
+
 pub record FollowsIn {T : Type 0} (a : List ℕ) (s : Fetcher T) : Type 0 where
   -- where no fault is kept: the model reaches what is held, and has all tokens once the stream's end is among them
   pub run : s.kept ≡ None → s.tokens.ended ≡ false → Reaches (start a) (state (drop s.window.at a) s)
-  pub all : s.kept ≡ None → s.tokens.ended ≡ true → HasTokens a s.tokens.all
+  pub all : s.kept ≡ None → s.tokens.ended ≡ true → HasEnded a s.tokens.all (place_of s.window) s.started
   -- the stream's end comes where no character is left to take
   pub done : s.kept ≡ None → s.tokens.ended ≡ true → s.window.done ≡ true
   -- what was handed out

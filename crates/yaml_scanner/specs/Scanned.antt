@@ -1,5 +1,5 @@
 -- What clauses see of a scanner.
-use Rattle.std.specs.Prelude.{◌≡◌, ℕ, ◌<◌, List, [], ◌∷◌, ◌++◌, length, take, Bool, true, false, Option, Some, None, IfSome, option_map, codes}
+use Rattle.std.specs.Prelude.{◌≡◌, ℕ, ◌+◌, ◌<◌, List, [], ◌∷◌, ◌++◌, length, take, drop, Bool, true, false, Option, Some, None, IfSome, option_map, codes}
 use Rattle.yaml_chars.specs.Place.{Place}
 use Rattle.yaml_chars.specs.Reading.{place_of, HasNoNul}
 use Rattle.token_defs.specs.Token.{Token}
@@ -7,8 +7,11 @@ use Rattle.yaml_tokens.specs.Fault.{Fault}
 use Rattle.yaml_tokens.specs.Problem.{fault_of}
 use Rattle.yaml_tokens.specs.declared.problem.Fault as code
 use Rattle.cut_defs.specs.Cut.{IsCut, IsCutOfBeginning}
+use Rattle.cut_defs.specs.Text.{first_place, place_behind}
+use Rattle.scan_model.specs.Document.{next_line}
 use Rattle.scan_model.specs.Run.{HasTokens, IsRefused}
 use Rattle.scan_cut.specs.Faults.{IsThere, is_shown}
+use Rattle.scan_cut.specs.Places.{IsPlaceIn}
 use Rattle.yaml_scanner.specs.declared.fetcher.Fetcher.{Fetcher}
 use Rattle.yaml_scanner.specs.declared.fetcher.Kept.{Kept}
 use Rattle.yaml_scanner.specs.Follows.{Begins, IsReached}
@@ -86,6 +89,12 @@ pub record ScansIn (a : List ℕ) (s : Scanned) : Type 0 where
   -- the tokens are a cut of a beginning of the text; with the stream's end they are a cut of the whole text
   pub begun : s.ended ≡ false → HasNoNul a → IsCutOfBeginning s.given a
   pub cut : s.ended ≡ true → HasNoNul a → IsCut s.given a
+  -- where no fault is kept, the place is that after so many characters; after the stream's end, it is where a line begins after the text
+  pub place : s.fault ≡ None → s.stopped ≡ false → HasNoNul a → IsPlaceIn a (drop s.place.index a) s.place
+  pub end : s.fault ≡ None → s.stopped ≡ true → HasNoNul a → s.place ≡ next_line (place_behind first_place a [])
+  -- where no fault is kept, the stream's start was fetched just where some token was
+  pub none : s.fault ≡ None → HasNoNul a → s.started ≡ false → (s.given ≡ []) × (s.waiting ≡ 0)
+  pub some : s.fault ≡ None → HasNoNul a → s.started ≡ true → 0 < length s.given + s.waiting
   -- a text with tokens has no fault but out of memory
   pub sound : (ts : List Token) → HasTokens a ts → IfSome s.fault (λ f. f.memory ≡ true)
   -- out of memory has its text

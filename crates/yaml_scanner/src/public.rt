@@ -45,8 +45,11 @@ impl<T: Iterator<Item = char>> Scanner<T> {
 
     /// Whether the token of the stream's start was fetched.
     pub fn stream_started(&self) -> bool
-        ensures { result ≡ (scanned self.now).started }
+        ensures value { result ≡ (scanned self.now).started }
+        ensures no_nul { HasNoNul (scanned self.now).taken }
+        ensures scans { Scans (scanned self.now) }
     {
+        self.fetcher.window.note();
         self.fetcher.started
     }
 

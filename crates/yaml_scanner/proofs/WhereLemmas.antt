@@ -1,0 +1,48 @@
+-- Where the scanner stands in a text, and whether it met the stream's start.
+use Rattle.std.proofs.Common.{◌≡◌, ℕ, zero, suc, ◌+◌, ◌-◌, ◌<◌, List, [], ◌∷◌, Bool, true, false, refl, ap, sym, ◌∙◌, arith, None, length, take, drop}
+use Rattle.std.proofs.lemmas.List.{length-take}
+use Rattle.token_defs.specs.Token.{Token}
+use Rattle.yaml_chars.specs.Reading.{place_of}
+use Rattle.yaml_chars.specs.Text.{is_nil}
+use Rattle.cut_defs.specs.Text.{first_place, place_behind}
+use Rattle.scan_model.specs.Document.{next_line}
+use Rattle.scan_scalars.specs.PlainEnds.{has_no_nul}
+use Rattle.scan_cut.specs.Places.{IsPlaceIn}
+use Rattle.scan_cut.proofs.Reached.{run_is_where}
+use Rattle.yaml_scanner.specs.declared.fetcher.Fetcher.{Fetcher}
+use Rattle.yaml_scanner.specs.Shape.{state}
+use Rattle.yaml_scanner.specs.Tokens.{handed, waiting}
+use Rattle.yaml_scanner.specs.Follows.{FollowsIn}
+
+none_of : (n : ℕ) (xs : List Token) → xs ≡ [] → (take n xs ≡ []) × (length xs - n ≡ 0)
+none_of n [] e = (take_nil n, omega arith)
+  where
+    take_nil : (n : ℕ) → take {A = Token} n [] ≡ []
+    take_nil zero = refl
+    take_nil (suc n) = refl
+none_of n (x ∷ xs) e = absurd cc
+
+some_of : (n : ℕ) (xs : List Token) → is_nil xs ≡ false → 0 < length (take n xs) + (length xs - n)
+some_of n [] e = absurd cc
+some_of n (x ∷ xs) e = rw (length-take n (x ∷ xs)) (omega arith)
+
+module _ {T : Type 0} (x : Fetcher T) (a : List ℕ) (old : FollowsIn a x) (kept : x.kept ≡ None) (nul : has_no_nul a ≡ true) where
+  pub in_text : x.tokens.ended ≡ false → IsPlaceIn a (drop x.window.at a) (place_of x.window)
+  in_text e = (run_is_where a (state (drop x.window.at a) x) nul (old.run kept e)).going e
+
+  pub at_end : x.tokens.ended ≡ true → place_of x.window ≡ next_line (place_behind first_place a [])
+  at_end e = let z = old.all kept e in sym z.place ∙ (run_is_where a z.whole.end nul z.whole.run).over z.whole.ended
+
+  pub not_started : x.started ≡ false → (handed x.tokens ≡ []) × (waiting x.tokens ≡ 0)
+  not_started n = none_of x.tokens.given x.tokens.all (by x.tokens.ended refl)
+    where
+      by : (b : Bool) → x.tokens.ended ≡ b → x.tokens.all ≡ []
+      by true e = let z = old.all kept e in sym z.whole.tokens ∙ (run_is_where a z.whole.end nul z.whole.run).none (z.began ∙ n)
+      by false e = (run_is_where a (state (drop x.window.at a) x) nul (old.run kept e)).none n
+
+  pub has_started : x.started ≡ true → 0 < length (handed x.tokens) + waiting x.tokens
+  has_started s = some_of x.tokens.given x.tokens.all (by x.tokens.ended refl)
+    where
+      by : (b : Bool) → x.tokens.ended ≡ b → is_nil x.tokens.all ≡ false
+      by true e = let z = old.all kept e in ap is_nil (sym z.whole.tokens) ∙ (run_is_where a z.whole.end nul z.whole.run).some (z.began ∙ s)
+      by false e = (run_is_where a (state (drop x.window.at a) x) nul (old.run kept e)).some s
