@@ -67,14 +67,6 @@ pub fails_lexed : {T : Type 0} (tabs : SkipTabs) (go : Whitespace → State → 
     → Reads x.window y.window (λ a b. space tabs a (place_of x.window) ≡ Ok (read b y.window w)) → Fails (go w) y z f → Fails (λ t. lexed (space tabs t.rest t.held.place) t.held go) x z f
 fails_lexed tabs go w x y z f e run d = record { runs = Reads-then _ _ _ run d.runs (λ a b c p q n. rw (p, ← e) (q n)) }
 
-pub fails_space : {T : Type 0} (tabs : SkipTabs) (go : Whitespace → State → Result State Fault) (x y : Fetcher T) (f : Fault)
-    → Reads x.window y.window (λ a b. space tabs a (place_of x.window) ≡ Err f) → Fails (λ t. lexed (space tabs t.rest t.held.place) t.held go) x y f
-fails_space tabs go x y f run = record { runs = Reads-map _ _ run (λ a b p n. rw p refl) }
-
--- nothing is done
-pub does_same : {T : Type 0} (x : Fetcher T) → Does (λ t. Ok t) x x
-does_same x = record { runs = Reads-map _ _ (Reads-none x.window) (λ a b i. rw i refl) }
-
 peek_is : (a : List ℕ) → slice_index a 0 ≡ peek a
 peek_is [] = refl
 peek_is (c ∷ a) = refl

@@ -1,15 +1,13 @@
 -- Lemmas about flow collections.
-use Rattle.std.proofs.Common.{◌≡◌, ℕ, ◌<◌, ◌≤◌, List, [], ◌∷◌, Bool, true, false, nat_le, refl, sym, ◌∙◌, arith, Option, Some, None, Ok, Err, length, slice_index}
+use Rattle.std.proofs.Common.{◌≡◌, ℕ, ◌<◌, ◌≤◌, List, [], ◌∷◌, Bool, true, false, nat_le, refl, sym, ◌∙◌, arith, Option, Some, None, Ok, Err, length}
 use Rattle.std.proofs.lemmas.Bool.Decides.{nat_tests}
 use Rattle.yaml_chars.specs.Place.{Place}
+use Rattle.yaml_chars.specs.Reading.{after_char}
 use Rattle.token_defs.specs.Token.{Tok}
 use Rattle.yaml_tokens.specs.declared.problem.Fault.{Fault}
 use Rattle.yaml_tokens.specs.declared.problem.Fault.TheVariants.{At}
 use Rattle.yaml_tokens.specs.declared.problem.Problem.TheVariants as problem
 use Rattle.scalar_model.specs.declared.context.SkipTabs.TheVariants.{Yes}
-use Rattle.scalar_model.specs.declared.context.Whitespace.{Whitespace}
-use Rattle.scalar_model.specs.Machine.{past}
-use Rattle.scalar_model.specs.Space.{space}
 use Rattle.scan_model.specs.declared.level.FlowLevel.{FlowLevel}
 use Rattle.scan_model.specs.declared.level.FlowLevel.TheVariants.{Mapping, Entry, Keyed, Pair}
 use Rattle.scan_model.specs.State.{Key, Held, in_flow, push, pop, top, with_top}
@@ -17,6 +15,8 @@ use Rattle.scan_model.specs.Keys.{save_simple_key, remove_simple_key}
 use Rattle.scan_model.specs.Indents.{roll_one_col_indent}
 use Rattle.scan_model.specs.Space.{skip_spaces}
 use Rattle.scan_model.specs.Flow.{increase_flow_level, allow_key, begin_flow, pass_indicator, end_pair, end_flow_pair, decrease_flow_level, adjacent_in_flow, end_flow, end_entry, fetch_flow_collection_start, fetch_flow_collection_end, fetch_flow_entry}
+use Rattle.yaml_scanner.specs.declared.fetcher.Fetcher.{Fetcher}
+use Rattle.yaml_scanner.specs.Shape.{state}
 
 deep_test : (n : ℕ) → 255 ≤ n → nat_le 255 n ≡ true
 deep_test n h = grind (arith, nat_tests)
@@ -41,14 +41,9 @@ pub flow_refused : (k : FlowLevel) (h u v : Held) (x : Fault) → u ≡ save_sim
 unfolding begin_flow
 flow_refused k h u v x e f i = let i' = rw (f, e) at i in rw i' refl
 
-pub passed : (a b d : List ℕ) (h : Held) (p q : Place) (w : Whitespace) → a ≡ slice_index a 0 ∷ b → p ≡ past h.place → space Yes b p ≡ Ok (record { rest = d; place = q; value = w })
-    → pass_indicator (record { rest = a; held = h }) ≡ Ok (record { rest = d; held = record h { place = q; leading = false } })
-unfolding pass_indicator skip_spaces
-passed a b d h p q w e f i = let i' = rw f at i in rw (e, i') refl
-
-pub not_passed : (a b : List ℕ) (h : Held) (p : Place) (x : Fault) → a ≡ slice_index a 0 ∷ b → p ≡ past h.place → space Yes b p ≡ Err x → pass_indicator (record { rest = a; held = h }) ≡ Err x
-unfolding pass_indicator skip_spaces
-not_passed a b h p x e f i = let i' = rw f at i in rw (e, i') refl
+pub indicator_passed : {T : Type 0} (a b : List ℕ) (c : ℕ) (x y : Fetcher T) → a ≡ c ∷ b → y ≡ record x { window = after_char x.window; leading = false } → pass_indicator (state a x) ≡ skip_spaces Yes (state b y)
+unfolding pass_indicator
+indicator_passed a b c x y e f = rw (e, f) refl
 
 pub started : (k : FlowLevel) (t : Tok) (a b : List ℕ) (h u v w : Held) (p : Place) → begin_flow k h ≡ Ok u → pass_indicator (record { rest = a; held = u }) ≡ Ok (record { rest = b; held = v }) → p ≡ h.place → w ≡ push p t v
     → fetch_flow_collection_start k t (record { rest = a; held = h }) ≡ Ok (record { rest = b; held = w })

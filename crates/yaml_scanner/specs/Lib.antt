@@ -7,5 +7,6 @@ pub mod Scanned
 pub mod Shape
 pub mod SimpleKeys
 pub mod Steps
+pub mod Styles
 pub mod Tokens
 pub mod Work

@@ -131,25 +131,13 @@ impl<T: Iterator<Item = char>> Fetcher<T> {
         ensures run { Fetches self.old self.new }
         ensures moves { OnOk result (Moves self.old self.new 2 0) }
     {
-        self.pass_entry_spaces()?;
+        self.pass_spaces(SkipTabs::No)?;
         self.roll_entry()?;
         self.remove_simple_key()?;
         self.key_allowed = true;
         let here = self.window.mark();
         self.push_token(here, TokenType::BlockEntry)?;
         Ok(())
-    }
-
-    /// Steps over spaces and a comment.
-    fn pass_entry_spaces(&mut self) -> Result<(), Fault>
-        ensures does { OnOk result (Does (skip_spaces SkipTabs.No) self.old self.new) }
-        ensures fails { IfErr result (λ e. Fails (skip_spaces SkipTabs.No) self.old self.new e) }
-        ensures moves { Moves self.old self.new 0 0 }
-    {
-        match self.skip_spaces(SkipTabs::No) {
-            Ok(_) => Ok(()),
-            Err(fault) => Err(fault),
-        }
     }
 
     /// Opens a level without a collection, for an entry on a later line, or one that begins with a flow

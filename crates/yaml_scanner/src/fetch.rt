@@ -3,17 +3,18 @@ ghost use Rattle.std.specs.Prelude.{◌≡◌, ◌≢◌, ◌≤◌, ◌<◌, �
 ghost use Rattle.yaml_chars.specs.Reading.{HasChar, Reads, Sees};
 ghost use Rattle.scan_model.specs.State.{behind};
 ghost use Rattle.scalar_model.specs.Machine.{past};
-ghost use Rattle.yaml_chars.specs.Text.{string_chars};
-ghost use Rattle.yaml_tokens.specs.Shown.{tok_of, style_of};
+ghost use Rattle.yaml_tokens.specs.Shown.{tok_of};
 ghost use Rattle.scan_model.specs.Space.{skip_spaces};
-ghost use Rattle.scan_model.specs.Document.{begin_stream, fetch_stream_end, fetch_document_marker, fetch_document_end, begin_line, anchor_token, block_style, quoted_style, context, may_follow_quoted, check_behind_quoted, fetch_directive, fetch_anchor, fetch_tag, fetch_block_scalar, fetch_flow_scalar, fetch_plain_scalar};
+ghost use Rattle.scan_model.specs.Document.{begin_stream, fetch_stream_end, fetch_document_marker, fetch_document_end, begin_line, context, may_follow_quoted, check_behind_quoted, fetch_directive, fetch_anchor, fetch_tag, fetch_block_scalar, fetch_flow_scalar, fetch_plain_scalar};
 ghost use Rattle.scan_model.specs.Fetch.{comes_marker, is_value, token_by, fetch_token, fetch_indented, fetch_first_column, fetch_content, fetch_here, fetch_next, fetch};
 ghost use Rattle.yaml_scanner.specs.Shape.{held, state, Does, Fails};
 ghost use Rattle.yaml_scanner.specs.Steps.{end_quoted, fetch_bar, scalar_by};
+ghost use Rattle.yaml_scanner.specs.Styles.{is_alias, are_single, is_literal};
 ghost use Rattle.yaml_scanner.specs.Work.{Moves, Fetches, HasChars, work};
 
 use crate::collection::Collection;
 use crate::fetcher::Fetcher;
+use crate::style::{BlockStyle, NameKind, Quotes};
 use scan_model::{Class, class_of};
 use yaml_chars::class::{is_blank_or_breakz, is_breakz, is_flow};
 use yaml_scalars::{
@@ -21,36 +22,6 @@ use yaml_scalars::{
     read_quoted, read_tag,
 };
 use yaml_tokens::{Fault, Problem, TEncoding, TScalarStyle, TokenType};
-
-fn anchor_token(alias: bool, name: String) -> TokenType
-    ensures { tok_of result ≡ anchor_token alias (string_chars name) }
-{
-    if alias {
-        TokenType::Alias(name)
-    } else {
-        TokenType::Anchor(name)
-    }
-}
-
-fn block_style(literal: bool) -> TScalarStyle
-    ensures { style_of result ≡ block_style literal }
-{
-    if literal {
-        TScalarStyle::Literal
-    } else {
-        TScalarStyle::Folded
-    }
-}
-
-fn quoted_style(single: bool) -> TScalarStyle
-    ensures { style_of result ≡ quoted_style single }
-{
-    if single {
-        TScalarStyle::SingleQuoted
-    } else {
-        TScalarStyle::DoubleQuoted
-    }
-}
 
 /// What may stand after a quoted scalar.
 #[tactic(auto, unfolding(scan_model::specs::Document::may_follow_quoted))]
@@ -239,8 +210,8 @@ impl<T: Iterator<Item = char>> Fetcher<T> {
             Class::Dash => self.fetch_dash(),
             Class::Question => self.fetch_question(),
             Class::Colon => self.fetch_colon(),
-            Class::Asterisk => self.fetch_anchor(true),
-            Class::Ampersand => self.fetch_anchor(false),
+            Class::Asterisk => self.fetch_anchor(NameKind::Alias),
+            Class::Ampersand => self.fetch_anchor(NameKind::Anchor),
             Class::Exclamation => self.fetch_tag(),
             class => self.fetch_scalar(class),
         }
@@ -311,10 +282,10 @@ impl<T: Iterator<Item = char>> Fetcher<T> {
         ensures moves { OnOk result (Moves self.old self.new 7 8) }
     {
         match class {
-            Class::Bar => self.fetch_bar(true),
-            Class::Greater => self.fetch_bar(false),
-            Class::SingleQuote => self.fetch_flow_scalar(true),
-            Class::DoubleQuote => self.fetch_flow_scalar(false),
+            Class::Bar => self.fetch_bar(BlockStyle::Literal),
+            Class::Greater => self.fetch_bar(BlockStyle::Folded),
+            Class::SingleQuote => self.fetch_flow_scalar(Quotes::Single),
+            Class::DoubleQuote => self.fetch_flow_scalar(Quotes::Double),
             Class::Percent => Err(Fault::At(Problem::UnexpectedPercent, self.window.mark())),
             Class::AtSign => Err(Fault::At(Problem::UnexpectedAt, self.window.mark())),
             Class::Backtick => Err(Fault::At(Problem::UnexpectedBacktick, self.window.mark())),
@@ -323,18 +294,18 @@ impl<T: Iterator<Item = char>> Fetcher<T> {
     }
 
     /// `|` or `>`, which in flow begins a plain scalar.
-    fn fetch_bar(&mut self, literal: bool) -> Result<(), Fault>
+    fn fetch_bar(&mut self, style: BlockStyle) -> Result<(), Fault>
         requires ahead { 4 ≤ self.old.window.ahead }
         requires has { HasChar self.old.window }
-        ensures does { OnOk result (Does (fetch_bar literal) self.old self.new) }
-        ensures fails { IfErr result (λ e. Fails (fetch_bar literal) self.old self.new e) }
+        ensures does { OnOk result (Does (fetch_bar (is_literal style)) self.old self.new) }
+        ensures fails { IfErr result (λ e. Fails (fetch_bar (is_literal style)) self.old self.new e) }
         ensures run { Fetches self.old self.new }
         ensures moves { OnOk result (Moves self.old self.new 7 8) }
     {
         if self.in_flow() {
             return self.fetch_plain_scalar();
         }
-        self.fetch_block_scalar(literal)
+        self.fetch_block_scalar(style)
     }
 
     /// Ends all collections, at a directive or a document marker.
@@ -406,32 +377,19 @@ impl<T: Iterator<Item = char>> Fetcher<T> {
         ensures moves { OnOk result (Moves self.old self.new 1 8) }
     {
         self.fetch_document_marker(TokenType::DocumentEnd)?;
-        self.pass_spaces()?;
+        self.pass_spaces(SkipTabs::Yes)?;
         if !is_breakz(self.window.ch()) {
             return Err(Fault::At(Problem::ContentAfterDocumentEnd, self.window.mark()));
         }
         Ok(())
     }
 
-    /// Steps over spaces, TABs and a comment.
-    fn pass_spaces(&mut self) -> Result<(), Fault>
-        ensures does { OnOk result (Does (skip_spaces SkipTabs.Yes) self.old self.new) }
-        ensures fails { IfErr result (λ e. Fails (skip_spaces SkipTabs.Yes) self.old self.new e) }
-        ensures moves { Moves self.old self.new 0 0 }
-        ensures ahead { OnOk result (0 < self.new.window.ahead) }
-    {
-        match self.skip_spaces(SkipTabs::Yes) {
-            Ok(_) => Ok(()),
-            Err(fault) => Err(fault),
-        }
-    }
-
     /// `*name` or `&name`
-    fn fetch_anchor(&mut self, alias: bool) -> Result<(), Fault>
+    fn fetch_anchor(&mut self, kind: NameKind) -> Result<(), Fault>
         requires ahead { 0 < self.old.window.ahead }
         requires has { HasChar self.old.window }
-        ensures does { OnOk result (Does (fetch_anchor alias) self.old self.new) }
-        ensures fails { IfErr result (λ e. Fails (fetch_anchor alias) self.old self.new e) }
+        ensures does { OnOk result (Does (fetch_anchor (is_alias kind)) self.old self.new) }
+        ensures fails { IfErr result (λ e. Fails (fetch_anchor (is_alias kind)) self.old self.new e) }
         ensures run { Fetches self.old self.new }
         ensures moves { OnOk result (Moves self.old self.new 1 8) }
     {
@@ -440,7 +398,7 @@ impl<T: Iterator<Item = char>> Fetcher<T> {
         self.key_allowed = false;
         let name = read_anchor_name(self.alloc, &mut self.window)?;
         self.leading = false;
-        self.push_token(mark, anchor_token(alias, name))?;
+        self.push_token(mark, kind.token(name))?;
         Ok(())
     }
 
@@ -471,11 +429,11 @@ impl<T: Iterator<Item = char>> Fetcher<T> {
         }
     }
 
-    fn fetch_block_scalar(&mut self, literal: bool) -> Result<(), Fault>
+    fn fetch_block_scalar(&mut self, style: BlockStyle) -> Result<(), Fault>
         requires ahead { 0 < self.old.window.ahead }
         requires has { HasChar self.old.window }
-        ensures does { OnOk result (Does (fetch_block_scalar literal) self.old self.new) }
-        ensures fails { IfErr result (λ e. Fails (fetch_block_scalar literal) self.old self.new e) }
+        ensures does { OnOk result (Does (fetch_block_scalar (is_literal style)) self.old self.new) }
+        ensures fails { IfErr result (λ e. Fails (fetch_block_scalar (is_literal style)) self.old self.new e) }
         ensures run { Fetches self.old self.new }
         ensures moves { OnOk result (Moves self.old self.new 1 8) }
     {
@@ -483,18 +441,19 @@ impl<T: Iterator<Item = char>> Fetcher<T> {
         self.key_allowed = true;
         self.unroll_non_block_indents();
         let indent = self.levels.indent();
+        let literal = style.is_literal();
         let (mark, text) = read_block_scalar(self.alloc, &mut self.window, literal, indent)?;
         self.leading = true;
-        self.push_token(mark, TokenType::Scalar(block_style(literal), text))?;
+        self.push_token(mark, TokenType::Scalar(style.style(), text))?;
         Ok(())
     }
 
     /// `'` or `"`
-    fn fetch_flow_scalar(&mut self, single: bool) -> Result<(), Fault>
+    fn fetch_flow_scalar(&mut self, quotes: Quotes) -> Result<(), Fault>
         requires ahead { 0 < self.old.window.ahead }
         requires has { HasChar self.old.window }
-        ensures does { OnOk result (Does (fetch_flow_scalar single) self.old self.new) }
-        ensures fails { IfErr result (λ e. Fails (fetch_flow_scalar single) self.old self.new e) }
+        ensures does { OnOk result (Does (fetch_flow_scalar (are_single quotes)) self.old self.new) }
+        ensures fails { IfErr result (λ e. Fails (fetch_flow_scalar (are_single quotes)) self.old self.new e) }
         ensures run { Fetches self.old self.new }
         ensures moves { OnOk result (Moves self.old self.new 1 8) }
     {
@@ -502,10 +461,11 @@ impl<T: Iterator<Item = char>> Fetcher<T> {
         self.save_simple_key();
         self.key_allowed = false;
         let context = self.context();
+        let single = quotes.are_single();
         let text = read_quoted(self.alloc, &mut self.window, single, context)?;
         self.leading = false;
         self.end_quoted(mark.line())?;
-        self.push_token(mark, TokenType::Scalar(quoted_style(single), text))?;
+        self.push_token(mark, TokenType::Scalar(quotes.style(), text))?;
         Ok(())
     }
 
@@ -529,7 +489,7 @@ impl<T: Iterator<Item = char>> Fetcher<T> {
         ensures fails { IfErr result (λ e. Fails (check_behind_quoted line) self.old self.new e) }
         ensures moves { Moves self.old self.new 0 0 }
     {
-        self.pass_spaces()?;
+        self.pass_spaces(SkipTabs::Yes)?;
         let mark = self.window.mark();
         let same_line = line == mark.line();
         if !may_follow_quoted(self.in_flow(), same_line, self.window.ch()) {

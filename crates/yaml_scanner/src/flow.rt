@@ -42,10 +42,8 @@ impl<T: Iterator<Item = char>> Fetcher<T> {
         ensures moves { OnOk result (Moves self.old self.new 0 8) }
     {
         self.skip_indicator();
-        match self.skip_spaces(SkipTabs::Yes) {
-            Ok(_) => Ok(()),
-            Err(fault) => Err(fault),
-        }
+        self.pass_spaces(SkipTabs::Yes)?;
+        Ok(())
     }
 
     /// Adds a token.

@@ -80,10 +80,8 @@ impl<T: Iterator<Item = char>> Fetcher<T> {
             return Ok(());
         }
         let mark = self.window.mark();
-        match self.keys.drop_stale(mark) {
-            Ok(()) => Ok(()),
-            Err(fault) => Err(fault),
-        }
+        self.keys.drop_stale(mark)?;
+        Ok(())
     }
 
     /// Begins a collection at a column, unless one is open there or the place is inside flow. Its start goes in

@@ -15,5 +15,6 @@ mod queue;
 mod scanner;
 mod space;
 mod stack;
+mod style;
 
 pub use scanner::Scanner;

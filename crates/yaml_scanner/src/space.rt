@@ -4,7 +4,7 @@ ghost use Rattle.yaml_chars.specs.Class.{is_break, is_blank};
 ghost use Rattle.yaml_chars.specs.Reading.{HasChar, Reads, place_of};
 ghost use Rattle.scalar_model.specs.Space.{space};
 ghost use Rattle.scan_model.specs.State.{in_flow};
-ghost use Rattle.scan_model.specs.Space.{skip, between, tab_line, white, is_before_indent, skip_to_next_token, skip_yaml_whitespace};
+ghost use Rattle.scan_model.specs.Space.{skip, between, tab_line, white, is_before_indent, skip_spaces, skip_to_next_token, skip_yaml_whitespace};
 ghost use Rattle.yaml_scalars.specs.Shown.{read};
 ghost use Rattle.yaml_scanner.specs.Shape.{held, Does, Fails};
 ghost use Rattle.yaml_scanner.specs.Work.{Moves};
@@ -49,10 +49,7 @@ impl<T: Iterator<Item = char>> Fetcher<T> {
             if is_break(c) {
                 self.pass_break();
             } else if self.at_tab_line(c) {
-                match self.skip_tab_line() {
-                    Ok(()) => {}
-                    Err(fault) => return Err(fault),
-                }
+                self.skip_tab_line()?;
             } else if is_blank(c) {
                 self.window.skip();
             } else if c == '#' {
@@ -142,10 +139,18 @@ impl<T: Iterator<Item = char>> Fetcher<T> {
         ensures ahead { OnOk result (0 < self.new.window.ahead) }
         ensures less { self.new.window.left ≤ self.old.window.left }
     {
-        match skip_ws_to_eol(&mut self.window, tabs) {
-            Ok(found) => Ok(found),
-            Err(fault) => Err(fault),
-        }
+        skip_ws_to_eol(&mut self.window, tabs)
+    }
+
+    /// The same, where it does not matter what was found.
+    pub(crate) fn pass_spaces(&mut self, tabs: SkipTabs) -> Result<(), Fault>
+        ensures does { OnOk result (Does (skip_spaces tabs) self.old self.new) }
+        ensures fails { IfErr result (λ e. Fails (skip_spaces tabs) self.old self.new e) }
+        ensures moves { Moves self.old self.new 0 0 }
+        ensures ahead { OnOk result (0 < self.new.window.ahead) }
+    {
+        self.skip_spaces(tabs)?;
+        Ok(())
     }
 
     /// Steps over a comment. After a `?` it does not count as the space that must stand there.

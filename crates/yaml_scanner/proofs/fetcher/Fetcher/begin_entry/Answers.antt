@@ -10,7 +10,7 @@ use Rattle.yaml_scanner.proofs.fetcher.Fetcher.begin_entry.Goals as goal
 
 pub returns-clause-does : goal.returns-clause-does
 returns-clause-does g c = does_as _ _ (λ a. refl)
-    (does_bind _ c.pass_entry_spaces.new.self _ c.in_ok-pass_entry_spaces.ensures.does
+    (does_bind _ c.pass_spaces.new.self _ c.in_ok-pass_spaces.ensures.does
     (does_bind _ c.roll_entry.new.self _ c.in_ok-roll_entry.ensures.does
     (does_bind _ c.remove_simple_key.new.self _ (does_held remove_simple_key _ _ c.in_ok-remove_simple_key.ensures.window c.in_ok-remove_simple_key.ensures.held)
     (does_pure entered c.remove_simple_key.new.self c.push_token.new.self c.in_ok-push_token.ensures.window (c.in_ok-push_token.ensures.held ∙ ap (λ p. push p Tok.block_entry (allow_key true (held c.remove_simple_key.new.self))) c.mark-here.ensures)))))

@@ -1,12 +1,14 @@
 use Rattle.yaml_scanner.specs.Shape.{held}
+use Rattle.yaml_scanner.proofs.DoesLemmas.{exits}
 use Rattle.yaml_scanner.proofs.HeldLemmas.{stale_in_flow, stale_dropped, stale_failed}
 use Rattle.yaml_scanner.proofs.fetcher.Fetcher.drop_stale.Goals as goal
 
 pub returns-then-in_flow-clause-held : goal.returns-then-in_flow-clause-held
 returns-then-in_flow-clause-held g c = stale_in_flow (held c.args.self.now) c.in_flow.result c.in_flow.ensures c.if-in_flow.true
 
-pub returns-in-Ok-clause-held : goal.returns-in-Ok-clause-held
-returns-in-Ok-clause-held g c = stale_dropped (held c.args.self.now) _ c.in_flow.result c.mark-mark.result c.in_flow.ensures c.if-in_flow.false c.mark-mark.ensures (c.in-Ok.ensures.ok c.args.self.now.tokens.given)
+pub returns-clause-held : goal.returns-clause-held
+returns-clause-held g c = stale_dropped (held c.args.self.now) _ c.in_flow.result c.mark-mark.result c.in_flow.ensures c.if-in_flow.false c.mark-mark.ensures (c.in_ok-drop_stale.ensures.ok c.args.self.now.tokens.given)
 
-pub returns-in-Err-clause-fault : goal.returns-in-Err-clause-fault
-returns-in-Err-clause-fault g c = stale_failed (held c.args.self.now) _ c.in_flow.result c.mark-mark.result c.in_flow.ensures c.if-in_flow.false c.mark-mark.ensures (c.in-Err.ensures.err c.args.self.now.tokens.given)
+pub returns-in_err-drop_stale-clause-fault : goal.returns-in_err-drop_stale-clause-fault
+returns-in_err-drop_stale-clause-fault g c = exits _ c.from_residual.result _ c.from_residual.ensures.1
+    (stale_failed (held c.args.self.now) _ c.in_flow.result c.mark-mark.result c.in_flow.ensures c.if-in_flow.false c.mark-mark.ensures (c.in_err-drop_stale.ensures.err c.args.self.now.tokens.given))

@@ -1,5 +1,4 @@
-use Rattle.std.proofs.Common.{◌∙◌, sym}
-use Rattle.scan_model.specs.State.{push}
+use Rattle.std.proofs.Common.{sym}
 use Rattle.yaml_scanner.specs.Shape.{held}
 use Rattle.yaml_tokens.specs.Shown.{tok_of}
 use Rattle.yaml_scanner.proofs.DoesLemmas.{exits, Reads-along, Reads-map, fails_held}

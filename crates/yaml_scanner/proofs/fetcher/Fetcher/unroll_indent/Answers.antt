@@ -1,4 +1,3 @@
-use Rattle.std.proofs.Common.{◌≡◌}
 use Rattle.yaml_scanner.specs.Shape.{held}
 use Rattle.yaml_scanner.proofs.HeldLemmas.{unroll_shallow}
 use Rattle.yaml_scanner.proofs.fetcher.Fetcher.unroll_indent.Goals as goal
