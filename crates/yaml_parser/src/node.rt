@@ -89,13 +89,7 @@ impl<T: Iterator<Item = char>> Reader<T> {
             Kind::Tag => {
                 let (handle, suffix) = self.tokens.take_tag();
                 let tag = self.names.resolve(mark, handle, suffix)?;
-                self.content_behind(
-                    place,
-                    Properties {
-                        anchor: Some(name),
-                        tag: Some(tag),
-                    },
-                )
+                self.content_behind(place, name, tag)
             }
             _ => self.content(
                 place,
@@ -123,13 +117,7 @@ impl<T: Iterator<Item = char>> Reader<T> {
         match next {
             Kind::Anchor => {
                 let name = self.tokens.take_name();
-                self.content_behind(
-                    place,
-                    Properties {
-                        anchor: Some(name),
-                        tag: Some(tag),
-                    },
-                )
+                self.content_behind(place, name, tag)
             }
             _ => self.content(
                 place,
@@ -142,15 +130,19 @@ impl<T: Iterator<Item = char>> Reader<T> {
         }
     }
 
-    /// What stands after these properties.
+    /// What stands after an anchor and a tag.
     #[inline(never)]
-    fn content_behind(&mut self, place: Place, properties: Properties) -> Answer
-        ensures answers { ReadsBehind place (Some properties) self.old self.new result }
+    fn content_behind(&mut self, place: Place, anchor: String, tag: Tag) -> Answer
+        ensures answers { ReadsBehind place (Some (record { anchor = Some anchor; tag = Some tag })) self.old self.new result }
         ensures work { OnOk result (work self.new ≤ work self.old) }
         ensures keeping { self.new.names.keeping ≡ self.old.names.keeping }
         ensures start { self.new.tokens.scanner.start ≡ self.old.tokens.scanner.start }
     {
         let next = self.peek()?;
+        let properties = Properties {
+            anchor: Some(anchor),
+            tag: Some(tag),
+        };
         self.content(place, Some(properties), next)
     }
 
