@@ -60,7 +60,8 @@ impl<T: Iterator<Item = char>> Scanner<T> {
         self.fetcher.tokens.is_over()
     }
 
-    /// The place of the scanner: after the characters that it read as tokens so far.
+    /// The place of the scanner: after the characters that it read as tokens so far. Once the stream's end was fetched,
+    /// it is where a line begins, after the whole text.
     pub fn mark(&self) -> Marker
         ensures place { result ≡ (scanned self.now).place }
         ensures came { CameFrom T.next_gives self.now.start (scanned self.now).taken (scanned self.now).done }
