@@ -46,28 +46,19 @@ fn is_far(from: Marker, to: Marker) -> bool
 fn is_overdue(key: Option<SimpleKey>, mark: Marker) -> bool
     ensures { result ≡ is_overdue mark (key_of 0 key) }
 {
-    match key {
-        Some(key) => is_far(key.mark, mark) && key.required,
-        None => false,
-    }
+    key.is_some_and(|key| is_far(key.mark, mark) && key.required)
 }
 
 fn is_required(key: Option<SimpleKey>) -> bool
     ensures { result ≡ is_required (key_of 0 key) }
 {
-    match key {
-        Some(key) => key.required,
-        None => false,
-    }
+    key.is_some_and(|key| key.required)
 }
 
 fn is_front(key: Option<SimpleKey>) -> bool
     ensures { result ≡ is_front key }
 {
-    match key {
-        Some(key) => key.place == 0,
-        None => false,
-    }
+    key.is_some_and(|key| key.place == 0)
 }
 
 fn any_overdue(keys: &[Option<SimpleKey>], mark: Marker) -> bool
@@ -164,10 +155,7 @@ impl SimpleKeys {
     pub fn top(&self) -> Option<SimpleKey>
         ensures { result ≡ top_simple self.now }
     {
-        match self.levels.last() {
-            Some(key) => *key,
-            None => None,
-        }
+        *self.levels.last()?
     }
 
     /// Whether the possible key of the innermost level must be a key.

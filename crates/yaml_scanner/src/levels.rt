@@ -57,20 +57,18 @@ impl Levels {
     pub fn needs_block_end(&self) -> bool
         ensures { result ≡ top_needs_block_end self.now.indents }
     {
-        match self.indents.top() {
-            Some(level) => level.needs_block_end,
-            None => false,
-        }
+        self.indents
+            .top()
+            .is_some_and(|level| level.needs_block_end)
     }
 
     /// Whether the innermost level is open without a block collection: no `BlockEnd` closes it.
     pub fn is_open(&self) -> bool
         ensures { result ≡ ends_open self.now.indents }
     {
-        match self.indents.top() {
-            Some(level) => !level.needs_block_end,
-            None => false,
-        }
+        self.indents
+            .top()
+            .is_some_and(|level| !level.needs_block_end)
     }
 
     /// Opens a block collection at a column. An `Err` changes nothing.

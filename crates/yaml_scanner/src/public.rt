@@ -37,10 +37,7 @@ impl<T: Iterator<Item = char>> Scanner<T> {
     pub fn get_error(&self) -> Option<ScanError>
         ensures { result ≡ (scanned self.now).fault }
     {
-        match self.fetcher.kept {
-            Some(kept) => Some(kept.error()),
-            None => None,
-        }
+        Some(self.fetcher.kept?.error())
     }
 
     /// Whether the token of the stream's start was fetched.

@@ -41,20 +41,14 @@ impl<X: Copy> Stack<X> {
     pub fn pop(&mut self) -> Option<X>
         ensures { MatchOption result ((self.old ≡ []) × (self.new ≡ [])) (λ x. self.old ≡ x ∷ self.new) }
     {
-        match self.items.pop() {
-            Some(item) => Some(item),
-            None => None,
-        }
+        self.items.pop()
     }
 
     #[tactic(auto, using(crate::proofs::StackLemmas::topped))]
     pub fn top(&self) -> Option<X>
         ensures { result ≡ top self.now }
     {
-        match self.items.last() {
-            Some(item) => Some(*item),
-            None => None,
-        }
+        self.items.last().copied()
     }
 
     /// Replaces the top item, if there is one.
@@ -79,6 +73,6 @@ impl<X: Copy> Stack<X> {
     pub fn is_empty(&self) -> bool
         ensures { result ≡ is_nil self.now }
     {
-        self.items.len() == 0
+        self.items.is_empty()
     }
 }
