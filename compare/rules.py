@@ -201,15 +201,17 @@ TAB_COMMENT = re.compile(r"[ \t]*\t[ \t]*#")
 
 
 def tab_before_comment_in_a_key(text, ours, theirs):
-    """A scalar that ends at such a comment and was to be a key: it isn't handed out, and the fault stands where it ended."""
+    """A scalar that ends at such a comment and was to be a key: it isn't handed out, and the fault stands where it ended. The original
+    goes on, to a later fault of the same kind or to a line with a TAB that is no comment; then its fault has the scalar's first place."""
     tokens, fault = parsed(ours)
     other, their_fault = parsed(theirs)
-    stop = "simple key expect ':' at byte "
-    if not fault or not their_fault or stop not in fault or stop not in their_fault:
+    stop, tab = "simple key expect ':' at byte ", "while scanning a plain scalar, found a tab at byte "
+    if not fault or not their_fault or stop not in fault or not (stop in their_fault or tab in their_fault):
         return None
     lines = re.split("\r\n|\r|\n", text)
     line, their_line = (int(re.search(r" line (\d+) ", f)[1]) for f in (fault, their_fault))
-    is_there = line <= len(lines) and TAB_COMMENT.match(lines[line - 1]) and their_line > line
+    goes_on = their_line > line if stop in their_fault else their_line < line
+    is_there = line <= len(lines) and TAB_COMMENT.match(lines[line - 1]) and goes_on
 
     def plain(these): return [COLUMNS.sub("", t if isinstance(t, str) else t.text()) for t in these]
     if is_there and plain(other) in (plain(tokens), plain(with_one_flag(text, tokens)[0])):
