@@ -1,10 +1,10 @@
 -- Pairs of new keys, put into a hash one after the other, stand behind its pairs.
 use Rattle.std.proofs.Common.{◌≡◌, List, [], ◌∷◌, ◌++◌, Bool, cond, refl, sym, ap, ◌∙◌, subst, append_assoc, append-nil}
-use Rattle.tree_defs.specs.Tree.{Tree, Pairs, pair_list_of, pairs_of, hash}
-use Rattle.tree_defs.specs.Overlay.{overlay, pairs_under, new_pairs}
-use Rattle.tree_defs.specs.Pairs.{without, insert, Lacks, AreDistinct}
-use Rattle.tree_defs.proofs.OverlayLaws.{laid_distinct, list_of_pairs}
-use Rattle.tree_defs.proofs.PairsLaws.{tree_eq-other}
+use Rattle.defs_tree.specs.Tree.{Tree, Pairs, pair_list_of, pairs_of, hash}
+use Rattle.defs_tree.specs.Overlay.{overlay, pairs_under, new_pairs}
+use Rattle.defs_tree.specs.Pairs.{without, insert, Lacks, AreDistinct}
+use Rattle.defs_tree.proofs.OverlayLaws.{laid_distinct, list_of_pairs}
+use Rattle.defs_tree.proofs.PairsLaws.{tree_eq-other}
 use Rattle.overlay.specs.Inserted.{inserted}
 
 without_none : (k : Tree) (ps : List (Tree × Tree)) → Lacks k ps → without k ps ≡ ps

@@ -1,11 +1,11 @@
 -- Of two trees that can be written, the overlay can be written.
 use Rattle.std.proofs.Common.{◌≡◌, ℕ, zero, suc, ◌≤◌, ◌<◌, List, [], ◌∷◌, ◌++◌, arith, sym, subst}
 use Rattle.std.specs.Prelude.{max, ◌^◌}
-use Rattle.tree_defs.specs.Tree.{Tree, hash, Pairs, no_pairs, pair, pairs_of, pair_list_of}
-use Rattle.tree_defs.specs.Pairs.{lookup}
-use Rattle.tree_defs.specs.Overlay.{overlay, pairs_under, new_pairs}
-use Rattle.tree_defs.specs.Writable.{levels, pair_levels, IsShortKey, HasText, AllPairsHaveText, IsWritable}
-use Rattle.tree_defs.proofs.OverlayLaws.{Each, each_append, each_lookup, each_new, laid_value}
+use Rattle.defs_tree.specs.Tree.{Tree, hash, Pairs, no_pairs, pair, pairs_of, pair_list_of}
+use Rattle.defs_tree.specs.Pairs.{lookup}
+use Rattle.defs_tree.specs.Overlay.{overlay, pairs_under, new_pairs}
+use Rattle.defs_tree.specs.Writable.{levels, pair_levels, IsShortKey, HasText, AllPairsHaveText, IsWritable}
+use Rattle.defs_tree.proofs.OverlayLaws.{Each, each_append, each_lookup, each_new, laid_value}
 
 -- ---- levels
 

@@ -1,7 +1,7 @@
 -- Pairs that are put into a hash one after the other.
 use Rattle.std.specs.Prelude.{List, [], ◌∷◌}
-use Rattle.tree_defs.specs.Tree.{Tree}
-use Rattle.tree_defs.specs.Pairs.{insert}
+use Rattle.defs_tree.specs.Tree.{Tree}
+use Rattle.defs_tree.specs.Pairs.{insert}
 
 -- the hash after the pairs
 abbrev pub inserted : List (Tree × Tree) → List (Tree × Tree) → List (Tree × Tree)

@@ -1,2 +1,2 @@
 pub mod Inserted
-pub use Rattle.tree_defs.specs.Overlay
+pub use Rattle.defs_tree.specs.Overlay

@@ -2,10 +2,10 @@
 #![tactic(auto)]
 
 ghost use Rattle.std.specs.Prelude.{◌≡◌, [], true, IfOk, OnOk, OnErr};
-ghost use Rattle.tree_defs.specs.Overlay.{overlay, pairs_under, new_pairs};
-ghost use Rattle.tree_defs.specs.Pairs.{insert, AreDistinct};
-ghost use Rattle.tree_defs.specs.Tree.{pairs_of};
-ghost use Rattle.tree_defs.specs.Writable.{IsWritable};
+ghost use Rattle.defs_tree.specs.Overlay.{overlay, pairs_under, new_pairs};
+ghost use Rattle.defs_tree.specs.Pairs.{insert, AreDistinct};
+ghost use Rattle.defs_tree.specs.Tree.{pairs_of};
+ghost use Rattle.defs_tree.specs.Writable.{IsWritable};
 ghost use Rattle.yaml_tree.specs.Node.{takes_memory};
 ghost use Rattle.yaml_tree.specs.View.{view};
 ghost use Rattle.overlay.specs.Inserted.{inserted};

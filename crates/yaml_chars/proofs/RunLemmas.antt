@@ -1,6 +1,6 @@
 -- Lemmas about runs that are taken from a source.
 use Rattle.std.proofs.Common.{◌≡◌, ◌≢◌, ℕ, ◌+◌, ◌<◌, ◌≤◌, Bool, false, true, List, [], ◌∷◌, ◌++◌, length, drop, slice_index, arith, refl, ◌∙◌, length-append}
-use Rattle.yaml_chars.specs.Place.{Place}
+use Rattle.defs_text.specs.Position.{Place}
 use Rattle.yaml_chars.specs.Reading.{Reading, Reads, Fills}
 use Rattle.yaml_chars.specs.Source.{Pulled, Pulls}
 use Rattle.yaml_chars.specs.Run.{stops, ran, bare, GoesOn, GoesOver}

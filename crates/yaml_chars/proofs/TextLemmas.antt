@@ -4,7 +4,7 @@ use Rattle.std.specs.Prelude.{String, string_bytes, encode_utf8, encode_utf8_all
 use Rattle.std.specs.Str.{chars}
 use Rattle.std.specs.Char.{IsScalar}
 use Rattle.std.proofs.lemmas.Str.{chars-nil, chars-encodes, chars-append, IsUtf8-string_bytes}
-use Rattle.yaml_chars.specs.Text.{string_chars, is_nil}
+use Rattle.defs_text.specs.Text.{string_chars, is_nil}
 use Rattle.std.proofs.Common.{length, ◌==◌, suc, arith, false}
 use Rattle.std.proofs.lemmas.Bool.Decides.{nat_tests}
 use Rattle.std.proofs.lemmas.Str.{encodes-chars}

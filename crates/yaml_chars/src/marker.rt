@@ -1,5 +1,5 @@
 ghost use Rattle.std.specs.Prelude.{◌≡◌, ◌^◌, ◌<◌, ◌≤◌};
-ghost use Rattle.yaml_chars.specs.Place.{IsSmall};
+ghost use Rattle.defs_text.specs.Position.{IsSmall};
 
 use std::marker::Model;
 
@@ -12,7 +12,7 @@ pub struct Marker {
 }
 
 impl Model for Marker {
-    ghost use Rattle.yaml_chars.specs.Place.{Place, IsSmall};
+    ghost use Rattle.defs_text.specs.Position.{Place, IsSmall};
 
     ghost Value = { Place };
 

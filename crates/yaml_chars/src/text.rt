@@ -1,6 +1,6 @@
 //! Texts that clauses see as lists of characters.
 ghost use Rattle.std.specs.Prelude.{◌≡◌, ◌++◌, [], ◌∷◌, OnOk, OnErr, chars, IsTrue, ◌↔◌};
-ghost use Rattle.yaml_chars.specs.Text.{string_chars, is_nil};
+ghost use Rattle.defs_text.specs.Text.{string_chars, is_nil};
 
 use std::alloc::{AllocError, Global};
 use std::marker::Model;
@@ -73,7 +73,7 @@ impl Text {
         self.inner.is_empty()
     }
 
-    #[tactic(auto, unfolding(crate::specs::Text::string_chars))]
+    #[tactic(auto, unfolding(defs_text::specs::Text::string_chars))]
     pub fn into_string(self) -> String
         ensures { string_chars result ≡ self }
     {

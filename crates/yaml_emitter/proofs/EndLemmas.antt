@@ -7,7 +7,7 @@ use Rattle.std.specs.Str.Pattern.{HasPrefixMatch, FindsTextPrefix, HasSuffixMatc
 use Rattle.std.specs.Bool.{MatchBool}
 use Rattle.std.proofs.lemmas.Slice.Eq.{bytes_eq-Decides}
 use Rattle.std.proofs.lemmas.Str.{chars-append, encodes-append, encodes-chars, encodes-IsAscii, IsUtf8-from_ascii, IsUtf8-take}
-use Rattle.tree_defs.specs.Quoting.{begins_with}
+use Rattle.defs_tree.specs.Quoting.{begins_with}
 use Rattle.yaml_emitter.specs.At.{is_low}
 use Rattle.yaml_emitter.proofs.TextLemmas.{low_at, low_chars}
 

@@ -1,10 +1,10 @@
 -- The text of arrays and hashes, entry by entry.
 use Rattle.std.proofs.Common.{◌≡◌, ◌↔◌, ℕ, zero, suc, ◌+◌, ◌≤◌, List, [], ◌∷◌, ◌++◌, Bool, true, false, not, ◌&&◌, refl, sym, ap, ◌∙◌, arith, append_assoc, add-one}
 use Rattle.std.specs.Prelude.{IsTrue, if◌then◌else◌, codes}
-use Rattle.tree_defs.specs.Box.{box, item_boxes, pair_boxes, pair_box, placed, indented, hung, hung_lower, is_block, if_none}
-use Rattle.tree_defs.specs.Spelling.{spelling, is_scalar}
-use Rattle.tree_defs.specs.Tree.{Tree, real, integer, string, boolean, array, hash, alias, null, bad_value, Items, no_items, item, Pairs, no_pairs, pair, items_of, pairs_of}
-use Rattle.tree_defs.specs.Writable.{levels}
+use Rattle.defs_tree.specs.Box.{box, item_boxes, pair_boxes, pair_box, placed, indented, hung, hung_lower, is_block, if_none}
+use Rattle.defs_tree.specs.Spelling.{spelling, is_scalar}
+use Rattle.defs_tree.specs.Tree.{Tree, real, integer, string, boolean, array, hash, alias, null, bad_value, Items, no_items, item, Pairs, no_pairs, pair, items_of, pairs_of}
+use Rattle.defs_tree.specs.Writable.{levels}
 use Rattle.yaml_emitter.specs.At.{spaces, new_line, below, stacked}
 use Rattle.yaml_emitter.specs.Entries.{behind_mark, before_entry, item_mark, second_mark, scalar_key, pair_text, entries_text}
 

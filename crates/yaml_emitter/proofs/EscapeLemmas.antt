@@ -1,6 +1,6 @@
 -- The cases of a character that is written.
 use Rattle.std.proofs.Common.{◌≡◌, ◌≢◌, ℕ, refl, ne_eqb}
-use Rattle.tree_defs.specs.Escapes.{written_character}
+use Rattle.defs_tree.specs.Escapes.{written_character}
 use Rattle.yaml_emitter.specs.Escaping.{written_code}
 
 pub other_character : (c : ℕ) → c ≢ 34 → c ≢ 92 → c ≢ 8 → c ≢ 9 → c ≢ 10 → c ≢ 12 → c ≢ 13 → written_code c ≡ written_character c

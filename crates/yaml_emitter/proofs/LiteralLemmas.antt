@@ -8,10 +8,10 @@ use Rattle.std.specs.Str.Pattern.{SplitsAroundMatch, FindsChar}
 use Rattle.std.proofs.lemmas.Slice.Eq.{bytes_eq-Decides}
 use Rattle.std.proofs.lemmas.Str.{encode_ascii, chars-nil, chars-append, chars_from_encodes, chars_past_char, IsUtf8-from_ascii, IsUtf8-append, IsUtf8-take, IsUtf8-drop, IsCharBoundary-before_ascii}
 use Rattle.std.specs.List.{list_any, list_all, ends_with}
-use Rattle.tree_defs.specs.Grammar.{is_empty}
-use Rattle.tree_defs.specs.Lines.{lines_of, onto_first_line}
-use Rattle.tree_defs.specs.Literal.{is_literal, is_root_literal, is_literal_character, is_line_feed, first_full_line_is_indented, begins_as_marker, begins_blank}
-use Rattle.tree_defs.specs.Quoting.{begins_with}
+use Rattle.defs_tree.specs.Grammar.{is_empty}
+use Rattle.defs_tree.specs.Lines.{lines_of, onto_first_line}
+use Rattle.defs_tree.specs.Literal.{is_literal, is_root_literal, is_literal_character, is_line_feed, first_full_line_is_indented, begins_as_marker, begins_blank}
+use Rattle.defs_tree.specs.Quoting.{begins_with}
 use Rattle.yaml_chars.specs.Class as class
 use Rattle.yaml_emitter.specs.At.{is_low, new_line, below}
 use Rattle.yaml_emitter.specs.Blocks.{begins_well, has_clear_lines, begins_with_mark, last_line, IsUnbroken, IsFirstCut}

@@ -1,12 +1,12 @@
 -- How a writer stands behind a node.
 use Rattle.std.proofs.Common.{append-nil, ◌≡◌, ◌↔◌, ℕ, ◌+◌, ◌≤◌, List, [], ◌∷◌, ◌++◌, Bool, true, false, not, refl, sym, ap, ◌∙◌, subst, arith}
 use Rattle.std.specs.Prelude.{◌^◌, max, Result, IsTrue, if◌then◌else◌, codes}
-use Rattle.tree_defs.specs.Box.{box, item_boxes, pair_boxes, is_block}
-use Rattle.tree_defs.specs.DumpText.{dump_text}
-use Rattle.tree_defs.specs.Lines.{joined}
-use Rattle.tree_defs.specs.Spelling.{is_scalar}
-use Rattle.tree_defs.specs.Tree.{Tree, array, hash, items_of, pairs_of}
-use Rattle.tree_defs.specs.Writable.{levels, item_levels, pair_levels}
+use Rattle.defs_tree.specs.Box.{box, item_boxes, pair_boxes, is_block}
+use Rattle.defs_tree.specs.DumpText.{dump_text}
+use Rattle.defs_tree.specs.Lines.{joined}
+use Rattle.defs_tree.specs.Spelling.{is_scalar}
+use Rattle.defs_tree.specs.Tree.{Tree, array, hash, items_of, pairs_of}
+use Rattle.defs_tree.specs.Writable.{levels, item_levels, pair_levels}
 use Rattle.yaml_tree.specs.Depth.{depth, items_depth, pairs_depth}
 use Rattle.yaml_tree.specs.View.{view}
 use Rattle.yaml_tree.specs.declared.yaml.Yaml.{Yaml}

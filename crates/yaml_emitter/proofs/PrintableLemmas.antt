@@ -9,7 +9,7 @@ use Rattle.std.proofs.lemmas.Bool.Decides.{nat_tests}
 use Rattle.std.proofs.lemmas.List.Folds.{list_all-append}
 use Rattle.std.proofs.lemmas.List.Sums.{prefix_len-le-length}
 use Rattle.std.proofs.lemmas.Str.{chars-append, IsUtf8-from_ascii, IsCharBoundary-from_take}
-use Rattle.tree_defs.specs.Literal.{is_literal_character, is_line_feed}
+use Rattle.defs_tree.specs.Literal.{is_literal_character, is_line_feed}
 use Rattle.yaml_emitter.specs.At.{is_low}
 use Rattle.yaml_emitter.specs.Blocks.{IsUnbroken, IsFirstCut}
 use Rattle.yaml_emitter.specs.Runs.{is_unprintable}

@@ -9,7 +9,7 @@ use Rattle.std.proofs.lemmas.List.Folds.{list_all-append}
 use Rattle.std.proofs.lemmas.List.Concat.{flat_map-append}
 use Rattle.std.proofs.lemmas.List.Sums.{prefix_len-le-length, prefix_len_stops}
 use Rattle.std.proofs.lemmas.Str.{encode_ascii, encodes-chars, chars-append, chars_past_char, IsUtf8-take, IsUtf8-drop, IsUtf8-past_char, length-encode, len_utf8_bounds, IsCharBoundary-before_ascii, IsCharBoundary-end}
-use Rattle.tree_defs.specs.Escapes.{written_character, written_escapes, escaped_code}
+use Rattle.defs_tree.specs.Escapes.{written_character, written_escapes, escaped_code}
 use Rattle.yaml_emitter.specs.Runs.{stands, IsRun, IsRunCut}
 use Rattle.yaml_emitter.proofs.EndLemmas.{halves}
 use Rattle.yaml_emitter.proofs.EscapeLemmas.{other_character}

@@ -1,9 +1,9 @@
 -- Valid trees, part by part.
 use Rattle.std.proofs.Common.{◌≡◌, List, [], ◌∷◌, true, sym, ap, subst, refl}
 use Rattle.std.specs.Prelude.{Result, Ok, Err, IsErr, OnOk, OnErr}
-use Rattle.tree_defs.specs.Pairs.{AreDistinct}
-use Rattle.tree_defs.specs.Spelling.{is_scalar}
-use Rattle.tree_defs.specs.Tree.{Tree, Items, Pairs, items_of, pairs_of, pair_list_of}
+use Rattle.defs_tree.specs.Pairs.{AreDistinct}
+use Rattle.defs_tree.specs.Spelling.{is_scalar}
+use Rattle.defs_tree.specs.Tree.{Tree, Items, Pairs, items_of, pairs_of, pair_list_of}
 use Rattle.yaml_tree.specs.View.{view, array_tree, hash_tree}
 use Rattle.yaml_tree.specs.declared.yaml.Yaml.{Yaml}
 use Rattle.yaml_tree.specs.declared.yaml.Yaml.TheVariants.{Real, Integer, String, Boolean, Array, Hash, Alias, Null, BadValue}

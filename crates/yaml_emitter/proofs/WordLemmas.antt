@@ -8,10 +8,10 @@ use Rattle.std.proofs.lemmas.Bool.{and_parts, and_from}
 use Rattle.std.proofs.lemmas.Bool.Decides.{nat_tests}
 use Rattle.std.proofs.lemmas.Slice.Eq.{bytes_eq-Decides}
 use Rattle.std.proofs.lemmas.Str.{chars-nil, encodes-chars}
-use Rattle.tree_defs.specs.Grammar.{is_among, is_empty, followed_by}
-use Rattle.tree_defs.specs.Quoting.{is_quoted, has_outer_space, has_indicator_first, is_unfit_for_plain, reserved_words, is_float_word}
-use Rattle.tree_defs.specs.Typing.{is_sign, typing, is_string}
-use Rattle.tree_defs.proofs.GrammarLaws.{behind_one, Rejects, optional_one-behind, followed_by-empty}
+use Rattle.defs_tree.specs.Grammar.{is_among, is_empty, followed_by}
+use Rattle.defs_tree.specs.Quoting.{is_quoted, has_outer_space, has_indicator_first, is_unfit_for_plain, reserved_words, is_float_word}
+use Rattle.defs_tree.specs.Typing.{is_sign, typing, is_string}
+use Rattle.defs_tree.proofs.GrammarLaws.{behind_one, Rejects, optional_one-behind, followed_by-empty}
 use Rattle.yaml_tree.proofs.WideTexts.{low, Wide, low_bytes}
 use Rattle.yaml_emitter.specs.Words.{is_unfit, is_word, is_name, float_names}
 use Rattle.yaml_emitter.proofs.TextLemmas.{low_chars}

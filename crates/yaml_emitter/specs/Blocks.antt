@@ -2,7 +2,7 @@
 use Rattle.std.specs.Prelude.{ℕ, ◌≡◌, ◌<◌, length, Bool, false, not, ◌&&◌, ◌==◌, bytes_eq, if◌then◌else◌, List, [], ◌∷◌, ◌++◌, take, drop}
 use Rattle.std.specs.List.{list_any, list_all}
 use Rattle.std.specs.Str.{chars, IsUtf8, NonePass}
-use Rattle.tree_defs.specs.Literal.{is_literal_character, is_line_feed, begins_blank}
+use Rattle.defs_tree.specs.Literal.{is_literal_character, is_line_feed, begins_blank}
 use Rattle.yaml_emitter.specs.At.{new_line}
 
 -- the first character that is no line feed is there, and is no space

@@ -1,8 +1,8 @@
 -- What is written for the entries of arrays and hashes.
 use Rattle.std.specs.Prelude.{ℕ, ◌+◌, Bool, true, false, not, ◌&&◌, if◌then◌else◌, List, [], ◌∷◌, ◌++◌, codes}
-use Rattle.tree_defs.specs.Box.{box, is_block, string_box}
-use Rattle.tree_defs.specs.Spelling.{spelling, is_scalar}
-use Rattle.tree_defs.specs.Tree.{Tree, string}
+use Rattle.defs_tree.specs.Box.{box, is_block, string_box}
+use Rattle.defs_tree.specs.Spelling.{spelling, is_scalar}
+use Rattle.defs_tree.specs.Tree.{Tree, string}
 use Rattle.yaml_emitter.specs.At.{new_line, below, stacked}
 
 -- the box of a scalar that is no key

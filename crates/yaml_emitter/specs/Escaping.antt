@@ -1,6 +1,6 @@
 -- What is shown in double quotes, and the cases of the code that writes escapes.
 use Rattle.std.specs.Prelude.{ℕ, ◌||◌, ◌==◌, nat_lt, if◌then◌else◌, List, [], ◌∷◌}
-use Rattle.tree_defs.specs.Escapes.{escaped_code}
+use Rattle.defs_tree.specs.Escapes.{escaped_code}
 use Rattle.yaml_emitter.specs.declared.escape.DoubleQuoted.{DoubleQuoted}
 
 -- the bytes of the text that is shown in double quotes

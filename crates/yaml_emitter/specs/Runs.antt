@@ -1,7 +1,7 @@
 -- Runs of a text that are written as they stand, between the characters that are escaped in double quotes.
 use Rattle.std.specs.Prelude.{ℕ, ◌≡◌, ◌<◌, length, Bool, not, ◌&&◌, ◌||◌, ◌==◌, nat_lt, nat_le, List, ◌∷◌, ◌++◌}
 use Rattle.std.specs.Str.{chars, IsUtf8}
-use Rattle.tree_defs.specs.Escapes.{written_escapes}
+use Rattle.defs_tree.specs.Escapes.{written_escapes}
 
 -- a quote, a backslash or a control character
 abbrev pub is_escaped : ℕ → Bool

@@ -1,9 +1,9 @@
 -- What the tree of every `Yaml` meets: no hash in it has a key twice, and its integers have 64 bits.
 -- YAML 1.2, section 3.2.1.1 (keys are unique).
 use Rattle.std.specs.Prelude.{◌≡◌, true}
-use Rattle.tree_defs.specs.Spelling.{is_scalar}
-use Rattle.tree_defs.specs.Tree.{Tree, Items, Pairs}
-use Rattle.tree_defs.specs.Valid.{IsDistinct, AllDistinct, AllPairsDistinct, FitsI64, AllFitI64, AllPairsFitI64}
+use Rattle.defs_tree.specs.Spelling.{is_scalar}
+use Rattle.defs_tree.specs.Tree.{Tree, Items, Pairs}
+use Rattle.defs_tree.specs.Valid.{IsDistinct, AllDistinct, AllPairsDistinct, FitsI64, AllFitI64, AllPairsFitI64}
 
 -- the tree does
 abbrev pub IsValid : Tree → Type 0

@@ -1,7 +1,7 @@
 //! The emitter: trees to text.
 ghost use Rattle.std.specs.Prelude.{◌≡◌, ◌≤◌, ◌^◌, true, false, OnOk, OnErr};
-ghost use Rattle.tree_defs.specs.DumpText.{dump_text};
-ghost use Rattle.tree_defs.specs.Writable.{levels};
+ghost use Rattle.defs_tree.specs.DumpText.{dump_text};
+ghost use Rattle.defs_tree.specs.Writable.{levels};
 ghost use Rattle.yaml_tree.specs.View.{view};
 ghost use Rattle.yaml_emitter.specs.Emitter.{writer_of, writer_name, compact_of, multiline_of};
 ghost use Rattle.yaml_emitter.specs.ValidTree.{IsValid};

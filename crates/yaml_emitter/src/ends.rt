@@ -1,7 +1,7 @@
 //! How texts begin and end.
 ghost use Rattle.std.specs.Prelude.{◌≡◌, chars, nat_eq, IsTrue};
 ghost use Rattle.std.specs.List.{ends_with};
-ghost use Rattle.tree_defs.specs.Quoting.{begins_with};
+ghost use Rattle.defs_tree.specs.Quoting.{begins_with};
 ghost use Rattle.yaml_emitter.specs.At.{is_low};
 
 pub(crate) fn begins_with(text: &str, beginning: &str) -> bool

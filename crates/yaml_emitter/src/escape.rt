@@ -1,7 +1,7 @@
 //! Texts in double quotes (YAML 1.2, section 5.7).
 ghost use Rattle.std.specs.Prelude.{◌≡◌, ◌<◌, ◌≤◌, chars, Some, MatchOption};
 ghost use Rattle.std.specs.Str.{encode_utf8_all};
-ghost use Rattle.tree_defs.specs.Escapes.{double_quoted, written_character, written_escapes, escaped_code, hexadecimal_digit};
+ghost use Rattle.defs_tree.specs.Escapes.{double_quoted, written_character, written_escapes, escaped_code, hexadecimal_digit};
 ghost use Rattle.yaml_emitter.specs.Escaping.{inner_text, written_code};
 ghost use Rattle.yaml_emitter.specs.Runs.{IsRun, IsRunCut};
 ghost use Rattle.yaml_emitter.specs.Writing.{Writes};

@@ -1,8 +1,8 @@
 //! Literal blocks (YAML 1.2, section 8.1.2).
 ghost use Rattle.std.specs.Prelude.{◌≡◌, ◌++◌, chars, not, ◌&&◌, ◌||◌, IsTrue, MatchOption, length, bytes_eq, take, drop};
 ghost use Rattle.std.specs.List.{list_any, list_all};
-ghost use Rattle.tree_defs.specs.Lines.{lines_of};
-ghost use Rattle.tree_defs.specs.Literal.{is_literal, is_root_literal, is_literal_character, is_line_feed, begins_blank, begins_as_marker, literal_header};
+ghost use Rattle.defs_tree.specs.Lines.{lines_of};
+ghost use Rattle.defs_tree.specs.Literal.{is_literal, is_root_literal, is_literal_character, is_line_feed, begins_blank, begins_as_marker, literal_header};
 ghost use Rattle.yaml_emitter.specs.At.{is_low, new_line, below};
 ghost use Rattle.yaml_emitter.specs.Blocks.{has_clear_lines, is_clear, begins_well, begins_with_mark, last_line, IsUnbroken, IsFirstCut};
 ghost use Rattle.yaml_emitter.specs.Writing.{Writes};

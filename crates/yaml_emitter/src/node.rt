@@ -1,11 +1,11 @@
 //! Nodes: scalars, and arrays and hashes in block style (YAML 1.2, chapter 8).
 ghost use Rattle.std.specs.Prelude.{◌≡◌, ◌<◌, ◌≤◌, ◌+◌, ◌^◌, max, chars, true, false, if◌then◌else◌, OnOk};
-ghost use Rattle.tree_defs.specs.Box.{box, is_block, string_box};
-ghost use Rattle.tree_defs.specs.DumpText.{dump_text};
-ghost use Rattle.tree_defs.specs.Literal.{is_literal, is_root_literal};
-ghost use Rattle.tree_defs.specs.Spelling.{is_scalar};
-ghost use Rattle.tree_defs.specs.Tree.{array, hash, items_of, pairs_of};
-ghost use Rattle.tree_defs.specs.Writable.{levels};
+ghost use Rattle.defs_tree.specs.Box.{box, is_block, string_box};
+ghost use Rattle.defs_tree.specs.DumpText.{dump_text};
+ghost use Rattle.defs_tree.specs.Literal.{is_literal, is_root_literal};
+ghost use Rattle.defs_tree.specs.Spelling.{is_scalar};
+ghost use Rattle.defs_tree.specs.Tree.{array, hash, items_of, pairs_of};
+ghost use Rattle.defs_tree.specs.Writable.{levels};
 ghost use Rattle.yaml_tree.specs.View.{view, array_tree, hash_tree};
 ghost use Rattle.yaml_emitter.specs.At.{stacked};
 ghost use Rattle.yaml_emitter.specs.Entries.{before_value, behind_mark, before_entry, item_mark, second_mark, scalar_key, pair_text, scalar_box};
@@ -219,7 +219,7 @@ fn is_scalar(node: &Yaml) -> bool
 }
 
 // A scalar that is no key: a string of several lines may be a literal block.
-#[tactic(auto, unfolding(yaml_chars::specs::Text::string_chars))]
+#[tactic(auto, unfolding(defs_text::specs::Text::string_chars))]
 fn write_scalar<W: Writer>(
     out: &mut W,
     multiline: bool,

@@ -2,10 +2,10 @@
 ghost use Rattle.std.specs.Prelude.{◌≡◌, not, ◌||◌, map, chars};
 ghost use Rattle.std.specs.Char.{to_ascii_lowercase};
 ghost use Rattle.std.specs.List.{list_any};
-ghost use Rattle.tree_defs.specs.Grammar.{is_among, is_empty};
-ghost use Rattle.tree_defs.specs.Quoting.{is_quoted, has_outer_space, has_indicator_first, is_unfit_for_plain, reserved_words, is_float_word};
-ghost use Rattle.tree_defs.specs.Typing.{typing, is_string, is_sign};
-ghost use Rattle.tree_defs.proofs.GrammarLaws.{behind_one};
+ghost use Rattle.defs_tree.specs.Grammar.{is_among, is_empty};
+ghost use Rattle.defs_tree.specs.Quoting.{is_quoted, has_outer_space, has_indicator_first, is_unfit_for_plain, reserved_words, is_float_word};
+ghost use Rattle.defs_tree.specs.Typing.{typing, is_string, is_sign};
+ghost use Rattle.defs_tree.proofs.GrammarLaws.{behind_one};
 ghost use Rattle.yaml_emitter.specs.Words.{is_unfit, is_word, is_name, float_names};
 
 use crate::ends::{begins_with, ends_with};
@@ -64,7 +64,7 @@ fn has_unfit_byte(bytes: &[u8]) -> bool
     bytes.iter().any(|byte| is_unfit_for_plain(*byte))
 }
 
-#[tactic(auto, unfolding(tree_defs::specs::Quoting::is_unfit_for_plain))]
+#[tactic(auto, unfolding(defs_tree::specs::Quoting::is_unfit_for_plain))]
 fn is_unfit_for_plain(byte: u8) -> bool
     ensures { result ≡ is_unfit_for_plain byte }
 {

@@ -1,6 +1,6 @@
 //! Scalars on one line (YAML 1.2, section 10.3 and chapter 7).
 ghost use Rattle.std.specs.Prelude.{chars};
-ghost use Rattle.tree_defs.specs.Spelling.{string_spelling, boolean_spelling, spelling};
+ghost use Rattle.defs_tree.specs.Spelling.{string_spelling, boolean_spelling, spelling};
 ghost use Rattle.yaml_tree.specs.View.{view};
 ghost use Rattle.yaml_emitter.specs.ValidTree.{IsValidScalar};
 ghost use Rattle.yaml_emitter.specs.Writing.{Writes};
@@ -13,7 +13,7 @@ use std::fmt;
 use yaml_tree::Yaml;
 
 /// Writes a scalar on one line, and `[]` or `{}` for an array or hash.
-#[tactic(auto, unfolding(yaml_chars::specs::Text::string_chars))]
+#[tactic(auto, unfolding(defs_text::specs::Text::string_chars))]
 pub(crate) fn write_spelling<W: Writer>(out: &mut W, node: &Yaml) -> fmt::Result
     ensures text { Writes W.put_gives W.put_leaves out.old result (spelling (view node.now)) out.new }
     ensures valid { IsValidScalar (view node.now) }

@@ -5,10 +5,10 @@ use Rattle.std.specs.Ordering.{nat_cmp}
 use Rattle.std.specs.BTreeMap.{is_at}
 use Rattle.std.specs.Map.{lookup}
 use Rattle.std.proofs.lemmas.Bool.Decides.{nat_tests}
-use Rattle.tree_defs.specs.Tree.{Tree, bad_value}
-use Rattle.event_defs.specs.Anchors.{Anchors, aliased, finished}
-use Rattle.event_defs.specs.Unfinished.{Opened, opened_sequence, opened_mapping, Unfinished, Step, reads, repeats, out_of_nesting, with_root, with_tree, with_node}
-use Rattle.tree_defs.specs.Pairs.{has_key, insert}
+use Rattle.defs_tree.specs.Tree.{Tree, bad_value}
+use Rattle.defs_event.specs.Anchors.{Anchors, aliased, finished}
+use Rattle.defs_event.specs.Unfinished.{Opened, opened_sequence, opened_mapping, Unfinished, Step, reads, repeats, out_of_nesting, with_root, with_tree, with_node}
+use Rattle.defs_tree.specs.Pairs.{has_key, insert}
 use Rattle.yaml_tree.specs.View.{view}
 use Rattle.yaml_tree.specs.declared.yaml.Yaml.{Yaml}
 use Rattle.yaml_loader.specs.Alike.{AreAlike, ReadsTo}

@@ -2,26 +2,26 @@
 use Rattle.std.proofs.Common.{◌≡◌, ℕ, Bool, false, List, [], ◌∷◌, ◌++◌, true, false, refl, sym, ap, ◌∙◌, subst, inl, inr}
 use Rattle.std.specs.Prelude.{Some, None, Result, Ok, Err, String, string_bytes}
 use Rattle.std.specs.declared.alloc.Global.{Global}
-use Rattle.yaml_chars.specs.Place.{Place}
-use Rattle.token_defs.specs.Token.{Token}
-use Rattle.tree_defs.specs.Tree.{Tree}
-use Rattle.event_defs.specs.Event.{Ev}
-use Rattle.token_defs.specs.Toks.{toks}
-use Rattle.event_defs.specs.Stream.{BeginsPlaced, events_of}
-use Rattle.event_defs.specs.Reading.{reading}
-use Rattle.event_defs.specs.Unfinished.{Loader, at_work, noted, new_loader, with_event_at, with_events, refused_at}
-use Rattle.event_defs.specs.Unfinished as unfinished
-use Rattle.event_defs.specs.Laws.{HasRead}
-use Rattle.event_defs.proofs.OneByOne.{one_by_one}
-use Rattle.event_defs.proofs.StreamNests.{stream_nests}
+use Rattle.defs_text.specs.Position.{Place}
+use Rattle.defs_token.specs.Token.{Token}
+use Rattle.defs_tree.specs.Tree.{Tree}
+use Rattle.defs_event.specs.Event.{Ev}
+use Rattle.defs_token.specs.Toks.{toks}
+use Rattle.defs_event.specs.Stream.{BeginsPlaced, events_of}
+use Rattle.defs_event.specs.Reading.{reading}
+use Rattle.defs_event.specs.Unfinished.{Loader, at_work, noted, new_loader, with_event_at, with_events, refused_at}
+use Rattle.defs_event.specs.Unfinished as unfinished
+use Rattle.defs_event.specs.Laws.{HasRead}
+use Rattle.defs_event.proofs.OneByOne.{one_by_one}
+use Rattle.defs_event.proofs.StreamNests.{stream_nests}
 use Rattle.yaml_tokens.specs.Fault.{Fault}
 use Rattle.yaml_scanner.specs.Scanned.{Scans}
 use Rattle.yaml_parser.specs.Blames.{WantsMemory}
 use Rattle.yaml_parser.specs.Parsed.{Parsed}
 use Rattle.yaml_parser.specs.Loads.{Loads}
-use Rattle.loaded_texts.specs.TextReadAs.{IsReadAs}
-use Rattle.loaded_texts.specs.TextEvents.{HasEvents, BeginsEvents, IsFaultOf, wants_memory, AnswersText, whole, faulted, refused}
-use Rattle.loaded_texts.proofs.Answers.{placed_stream, nested_is_stream, texts_are_answered}
+use Rattle.proof_loads.specs.TextReadAs.{IsReadAs}
+use Rattle.proof_loads.specs.TextEvents.{HasEvents, BeginsEvents, IsFaultOf, wants_memory, AnswersText, whole, faulted, refused}
+use Rattle.proof_loads.proofs.Answers.{placed_stream, nested_is_stream, texts_are_answered}
 use Rattle.yaml_loader.specs.declared.loader.Course.{Course}
 use Rattle.yaml_loader.specs.declared.loader.Course.TheVariants as course
 use Rattle.yaml_loader.specs.declared.loader.YamlLoader.{YamlLoader}

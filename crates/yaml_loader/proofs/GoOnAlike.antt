@@ -1,12 +1,12 @@
 -- Loaders that stand alike stand alike behind each event.
 use Rattle.std.proofs.Common.{◌≡◌, ℕ, zero, suc, List, [], ◌∷◌, Bool, true, false, refl, sym, ap, ◌∙◌, subst, nat_eq}
 use Rattle.std.specs.Prelude.{Option, Some, None, if◌then◌else◌}
-use Rattle.yaml_chars.specs.Place.{Place}
-use Rattle.tree_defs.specs.Tree.{Tree, array, hash, items_of, pairs_of}
-use Rattle.event_defs.specs.Event.{Ev}
-use Rattle.event_defs.specs.Scalar.{scalar_tree}
-use Rattle.event_defs.specs.Anchors.{Anchors, aliased, finished}
-use Rattle.event_defs.specs.Unfinished.{Opened, opened_sequence, opened_mapping, Unfinished, Step, reads, repeats, out_of_nesting, with_tree, with_node, with_start, with_sequence_end, with_mapping_end, with_document_end, with_event, Loader, at_work, noted, refused, loader_behind, with_event_at, with_events, new_loader, documents_of, refused_at}
+use Rattle.defs_text.specs.Position.{Place}
+use Rattle.defs_tree.specs.Tree.{Tree, array, hash, items_of, pairs_of}
+use Rattle.defs_event.specs.Event.{Ev}
+use Rattle.defs_event.specs.Scalar.{scalar_tree}
+use Rattle.defs_event.specs.Anchors.{Anchors, aliased, finished}
+use Rattle.defs_event.specs.Unfinished.{Opened, opened_sequence, opened_mapping, Unfinished, Step, reads, repeats, out_of_nesting, with_tree, with_node, with_start, with_sequence_end, with_mapping_end, with_document_end, with_event, Loader, at_work, noted, refused, loader_behind, with_event_at, with_events, new_loader, documents_of, refused_at}
 use Rattle.yaml_loader.specs.declared.loader.YamlLoader.{YamlLoader}
 use Rattle.yaml_loader.specs.Alike.{AreAlike, StandAlike}
 use Rattle.yaml_loader.specs.Loading.{loader_of}

@@ -4,10 +4,10 @@ use Rattle.std.proofs.lemmas.Str.{encodes-chars, IsUtf8-string_bytes}
 use Rattle.std.specs.Prelude.{String, string_bytes, Option, Some, None, slice_index_or, codes, pos}
 use Rattle.std.specs.Fmt.{debug_escape}
 use Rattle.std.specs.Str.{encode_utf8_all}
-use Rattle.yaml_chars.specs.Text.{string_chars}
-use Rattle.tree_defs.specs.Tree.{Tree, bad_value, string, integer}
-use Rattle.tree_defs.specs.Pairs.{last_of}
-use Rattle.event_defs.specs.Unfinished.{opened_sequence, opened_mapping}
+use Rattle.defs_text.specs.Text.{string_chars}
+use Rattle.defs_tree.specs.Tree.{Tree, bad_value, string, integer}
+use Rattle.defs_tree.specs.Pairs.{last_of}
+use Rattle.defs_event.specs.Unfinished.{opened_sequence, opened_mapping}
 use Rattle.yaml_loader.specs.declared.reading.Open.{Open}
 use Rattle.yaml_loader.specs.View.{opened_of, all_opened, last_key, repeated_key}
 use Rattle.yaml_loader.specs.RepeatedKey.{shown_key, TellsKey}

@@ -2,15 +2,15 @@
 use Rattle.std.proofs.Common.{◌≡◌, List, [], ◌∷◌, ◌++◌, length, true, refl, sym, ap, ◌∙◌, subst, inl, inr}
 use Rattle.std.specs.Prelude.{None, Result, Ok, Err, All, String, false, string_bytes}
 use Rattle.std.specs.declared.alloc.Global.{Global}
-use Rattle.yaml_chars.specs.Place.{Place}
-use Rattle.tree_defs.specs.Tree.{Tree}
-use Rattle.event_defs.specs.Event.{Ev}
-use Rattle.event_defs.specs.PulledList.{Answer}
-use Rattle.event_defs.specs.Push.{load}
-use Rattle.event_defs.specs.Unfinished.{Loader, at_work, noted, Unfinished, new_loader, with_event_at, with_events, documents_of, refused_at}
-use Rattle.event_defs.specs.NoAlias.{HasNoAlias}
-use Rattle.event_defs.specs.Laws.{LoadedTreesHaveNoAlias}
-use Rattle.event_defs.specs.Unfinished as unfinished
+use Rattle.defs_text.specs.Position.{Place}
+use Rattle.defs_tree.specs.Tree.{Tree}
+use Rattle.defs_event.specs.Event.{Ev}
+use Rattle.defs_event.specs.PulledList.{Answer}
+use Rattle.defs_event.specs.Push.{load}
+use Rattle.defs_event.specs.Unfinished.{Loader, at_work, noted, Unfinished, new_loader, with_event_at, with_events, documents_of, refused_at}
+use Rattle.defs_event.specs.NoAlias.{HasNoAlias}
+use Rattle.defs_event.specs.Laws.{LoadedTreesHaveNoAlias}
+use Rattle.defs_event.specs.Unfinished as unfinished
 use Rattle.yaml_tokens.specs.Fault.{Fault}
 use Rattle.yaml_parser.specs.Parsed.{Parsed}
 use Rattle.yaml_parser.specs.Loads as loads

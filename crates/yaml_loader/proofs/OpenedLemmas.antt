@@ -6,8 +6,8 @@ use Rattle.std.specs.Prelude.{Option, Some, None, option_map, is_some, false}
 use Rattle.std.proofs.lemmas.Bool.{true≢false}
 use Rattle.yaml_tree.specs.View.{view}
 use Rattle.yaml_tree.specs.declared.yaml.Yaml.{Yaml}
-use Rattle.tree_defs.specs.Tree.{Tree}
-use Rattle.event_defs.specs.Unfinished.{Opened, Unfinished, reads, repeats, out_of_nesting, with_tree, with_start, with_document_end}
+use Rattle.defs_tree.specs.Tree.{Tree}
+use Rattle.defs_event.specs.Unfinished.{Opened, Unfinished, reads, repeats, out_of_nesting, with_tree, with_start, with_document_end}
 use Rattle.yaml_loader.specs.declared.reading.Open.{Open}
 use Rattle.yaml_loader.specs.declared.reading.Refusal.{Refusal}
 use Rattle.yaml_loader.specs.declared.reading.Refusal.TheVariants as refusal

@@ -5,11 +5,11 @@ use Rattle.std.specs.List.{list_all}
 use Rattle.std.proofs.lemmas.Bool.{and_parts, or_cases, or_left, or_right, false≢true}
 use Rattle.std.proofs.lemmas.Bool.Decides.{nat_tests}
 use Rattle.std.proofs.lemmas.Slice.Eq.{bytes_eq-Decides}
-use Rattle.tree_defs.specs.Grammar.{is_among}
-use Rattle.tree_defs.specs.Typing.{typing, is_decimal, is_real_text, special_words}
-use Rattle.tree_defs.proofs.RealTexts.{is_real_character, decimal-characters}
-use Rattle.tree_defs.proofs.GrammarLaws.{list_all-more}
-use Rattle.tree_defs.proofs.TypingLaws.{real_text-cases}
+use Rattle.defs_tree.specs.Grammar.{is_among}
+use Rattle.defs_tree.specs.Typing.{typing, is_decimal, is_real_text, special_words}
+use Rattle.defs_tree.proofs.RealTexts.{is_real_character, decimal-characters}
+use Rattle.defs_tree.proofs.GrammarLaws.{list_all-more}
+use Rattle.defs_tree.proofs.TypingLaws.{real_text-cases}
 use Rattle.yaml_loader.proofs.Words.{IsWord, AreWords, ascii_word, ascii_words, among_chars, chars_of_word, bytes_of_word}
 
 low : (c : ℕ) → is_real_character c ≡ true → nat_lt c 128 ≡ true

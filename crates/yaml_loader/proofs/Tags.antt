@@ -1,12 +1,12 @@
 -- Plain scalars with a tag: what the bytes of text, handle and suffix say.
 use Rattle.std.proofs.Common.{◌≡◌, ℕ, List, [], ◌∷◌, true, false, refl, sym, ap, ◌∙◌}
 use Rattle.std.specs.Prelude.{chars, bytes_eq, codes, IsUtf8, if◌then◌else◌}
-use Rattle.tree_defs.specs.Tree.{boolean, null, string, bad_value}
-use Rattle.tree_defs.specs.Grammar.{is_among}
-use Rattle.tree_defs.specs.Typing.{true_words, false_words}
-use Rattle.event_defs.specs.Event.{Tag}
-use Rattle.event_defs.specs.Names.{core_prefix}
-use Rattle.event_defs.specs.Scalar.{as_boolean, as_integer, as_real, as_null, by_name, tagged_tree}
+use Rattle.defs_tree.specs.Tree.{boolean, null, string, bad_value}
+use Rattle.defs_tree.specs.Grammar.{is_among}
+use Rattle.defs_tree.specs.Typing.{true_words, false_words}
+use Rattle.defs_event.specs.Event.{Tag}
+use Rattle.defs_event.specs.Names.{core_prefix}
+use Rattle.defs_event.specs.Scalar.{as_boolean, as_integer, as_real, as_null, by_name, tagged_tree}
 use Rattle.yaml_loader.proofs.Words.{IsNoneOf, ascii_word, ascii_words, among_chars, not_among, chars_word, word_other}
 
 pub boolean-chars : (bs : List ℕ) → IsUtf8 bs → as_boolean (chars bs) ≡ as_boolean bs

@@ -8,27 +8,27 @@ use Rattle.std.specs.declared.str.Chars.{Chars}
 use Rattle.yaml_chars.specs.Source.{CameFrom}
 use Rattle.yaml_chars.specs.Reading.{HasNoNul, up_to_nul, Begins}
 use Rattle.yaml_chars.proofs.SpelledLemmas.{Chars-spelled}
-use Rattle.tree_defs.specs.Tree.{Tree}
-use Rattle.layout_defs.specs.Json.{spell_text, tree_of}
-use Rattle.layout_defs.specs.Layout as layout
-use Rattle.token_defs.specs.Toks.{toks}
+use Rattle.defs_tree.specs.Tree.{Tree}
+use Rattle.defs_layout.specs.Json.{spell_text, tree_of}
+use Rattle.defs_layout.specs.Layout as layout
+use Rattle.defs_token.specs.Toks.{toks}
 use Rattle.yaml_tokens.specs.Fault.{Fault}
 use Rattle.yaml_tree.specs.View.{items_view}
 use Rattle.yaml_tree.specs.declared.yaml.Yaml.{Yaml}
 use Rattle.yaml_scanner.specs.Scanned.{Scanned, MayBe}
 use Rattle.yaml_parser.specs.Parsed.{Parsed}
-use Rattle.loaded_texts.specs.TextReadAs.{IsReadAs, IsAtStart}
-use Rattle.loaded_texts.specs.Spelled.{IsWithoutNul}
-use Rattle.loaded_texts.specs.Cuts.{IsReadOfCut}
-use Rattle.loaded_texts.proofs.CutTexts.{of_a_cut, none_before}
-use Rattle.loaded_texts.proofs.Loads.{memory_is_wanted}
-use Rattle.loaded_texts.proofs.Answers.{nested_is_stream}
-use Rattle.loaded_texts.proofs.OneReading.{one_reading}
-use Rattle.loaded_texts.proofs.Spelled.{characters_are_the_text, json_texts_are_read}
-use Rattle.loaded_texts.proofs.JsonNul.{json_texts_have_no_nul}
-use Rattle.loaded_texts.proofs.LayoutNul.{layouts_have_no_nul}
-use Rattle.loaded_texts.proofs.LayoutTexts.{layouts_are_read}
-use Rattle.loaded_texts.proofs.QuotedTexts.{quoted_texts_are_read, quoted_texts_have_no_nul}
+use Rattle.proof_loads.specs.TextReadAs.{IsReadAs, IsAtStart}
+use Rattle.proof_loads.specs.Spelled.{IsWithoutNul}
+use Rattle.proof_loads.specs.Cuts.{IsReadOfCut}
+use Rattle.proof_loads.proofs.CutTexts.{of_a_cut, none_before}
+use Rattle.proof_loads.proofs.Loads.{memory_is_wanted}
+use Rattle.proof_loads.proofs.Answers.{nested_is_stream}
+use Rattle.proof_loads.proofs.OneReading.{one_reading}
+use Rattle.proof_loads.proofs.Spelled.{characters_are_the_text, json_texts_are_read}
+use Rattle.proof_loads.proofs.JsonNul.{json_texts_have_no_nul}
+use Rattle.proof_loads.proofs.LayoutNul.{layouts_have_no_nul}
+use Rattle.proof_loads.proofs.LayoutTexts.{layouts_are_read}
+use Rattle.proof_loads.proofs.QuotedTexts.{quoted_texts_are_read, quoted_texts_have_no_nul}
 use Rattle.yaml_loader.specs.TextLoads.{LoadsText, LoadsOnly, OfTexts, OfText, OfGiven, OfJson, OfBasic, OfLayout, OfQuoted, Answers}
 use Rattle.yaml_loader.specs.Unread.{of_parser}
 use Rattle.yaml_loader.specs.Unread as unread

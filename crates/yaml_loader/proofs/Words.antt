@@ -8,7 +8,7 @@ use Rattle.std.proofs.lemmas.Slice.Eq.{bytes_eq-Decides}
 use Rattle.std.proofs.lemmas.Str.{chars-encodes, encodes-chars, encode_ascii}
 use lib.Utf8.{scalar, scalars, encodes}
 use Rattle.std.specs.List.{list_all}
-use Rattle.tree_defs.specs.Grammar.{is_among}
+use Rattle.defs_tree.specs.Grammar.{is_among}
 
 -- a word whose bytes are its characters
 pub record IsWord (w : List ℕ) : Type 0 where

@@ -1,8 +1,8 @@
 -- When two readings are the same but for what no alias can tell apart: of the trees that were finished under one number,
 -- an alias means the last alone. YAML 1.2, section 3.2.2.2 (anchors and aliases).
 use Rattle.std.specs.Prelude.{◌≡◌, ℕ}
-use Rattle.event_defs.specs.Anchors.{aliased}
-use Rattle.event_defs.specs.Unfinished.{Unfinished, Step, reads, Loader, at_work, noted, refused}
+use Rattle.defs_event.specs.Anchors.{aliased}
+use Rattle.defs_event.specs.Unfinished.{Unfinished, Step, reads, Loader, at_work, noted, refused}
 
 -- The documents, the open collections and the root are the same, and each alias has the same tree.
 pub record AreAlike (u v : Unfinished) : Type 0 where

@@ -1,8 +1,8 @@
 -- Statements over the definitions, each the contract of the function with its name in `laws`.
 use Rattle.std.specs.Prelude.{◌≡◌, List}
-use Rattle.yaml_chars.specs.Place.{Place}
-use Rattle.event_defs.specs.Event.{Ev}
-use Rattle.event_defs.specs.Unfinished.{Loader, new_loader, with_event_at, with_events, documents_of, refused_at}
+use Rattle.defs_text.specs.Position.{Place}
+use Rattle.defs_event.specs.Event.{Ev}
+use Rattle.defs_event.specs.Unfinished.{Loader, new_loader, with_event_at, with_events, documents_of, refused_at}
 use Rattle.yaml_loader.specs.declared.loader.YamlLoader.{YamlLoader}
 use Rattle.yaml_loader.specs.Alike.{StandAlike}
 use Rattle.yaml_loader.specs.Loading.{loader_of}

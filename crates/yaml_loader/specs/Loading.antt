@@ -1,9 +1,9 @@
 -- The state of a loader, as clauses see it, and what it makes of one more event.
 -- YAML 1.2, section 3.1 (construction); the faults and what is kept of them are this project's.
 use Rattle.std.specs.Prelude.{◌≡◌, ◌⊎◌, true, Option, Some, None, IfSome, Result, Err, OnOk, OnErr, IfErr, IsOk, codes, string_bytes, List}
-use Rattle.yaml_chars.specs.Place.{Place}
-use Rattle.event_defs.specs.Event.{Ev}
-use Rattle.event_defs.specs.Unfinished.{Opened, Unfinished, with_event, Loader, at_work, noted, refused, with_event_at, documents_of, refused_at}
+use Rattle.defs_text.specs.Position.{Place}
+use Rattle.defs_event.specs.Event.{Ev}
+use Rattle.defs_event.specs.Unfinished.{Opened, Unfinished, with_event, Loader, at_work, noted, refused, with_event_at, documents_of, refused_at}
 use Rattle.yaml_tokens.specs.Fault.{Fault, fault_at}
 use Rattle.yaml_loader.specs.declared.loader.Course.{Course}
 use Rattle.yaml_loader.specs.declared.loader.Course.TheVariants as course

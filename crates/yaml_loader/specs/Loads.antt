@@ -1,9 +1,9 @@
 -- What the loads answer. YAML 1.2, section 3.1 (construction).
 use Rattle.std.specs.Prelude.{◌≡◌, List, [], ◌∷◌, ◌++◌, true, false, Some, None, Result, Ok, Err}
-use Rattle.yaml_chars.specs.Place.{Place}
-use Rattle.tree_defs.specs.Tree.{Tree}
-use Rattle.event_defs.specs.Event.{Ev}
-use Rattle.event_defs.specs.Unfinished.{Loader, at_work, noted, new_loader, with_event_at, with_events}
+use Rattle.defs_text.specs.Position.{Place}
+use Rattle.defs_tree.specs.Tree.{Tree}
+use Rattle.defs_event.specs.Event.{Ev}
+use Rattle.defs_event.specs.Unfinished.{Loader, at_work, noted, new_loader, with_event_at, with_events}
 use Rattle.yaml_tokens.specs.Fault.{Fault}
 use Rattle.yaml_parser.specs.Loads.{Loads}
 use Rattle.yaml_parser.specs.Parsed.{Parsed}

@@ -1,7 +1,7 @@
 -- Loaders that are reached from one another by events.
 use Rattle.std.specs.Prelude.{List, [], ◌∷◌, Ok}
-use Rattle.yaml_chars.specs.Place.{Place}
-use Rattle.event_defs.specs.Event.{Ev}
+use Rattle.defs_text.specs.Position.{Place}
+use Rattle.defs_event.specs.Event.{Ev}
 use Rattle.yaml_loader.specs.declared.loader.YamlLoader.{YamlLoader}
 use Rattle.yaml_loader.specs.Loading.{Takes}
 

@@ -3,7 +3,7 @@
 use Rattle.std.specs.Prelude.{◌≡◌, List, ◌++◌, ℕ, Option, Some, None, IfSome, codes}
 use Rattle.std.specs.Fmt.{◌++?◌, debug_str}
 use Rattle.std.specs.Str.{encode_utf8_all}
-use Rattle.tree_defs.specs.Tree.{Tree, string}
+use Rattle.defs_tree.specs.Tree.{Tree, string}
 
 -- How a key is shown, as `String("a")`. It is said of a string of ASCII characters alone.
 abbrev pub shown_key : Tree → Option (List ℕ)

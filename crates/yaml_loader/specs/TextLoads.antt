@@ -2,17 +2,17 @@
 use Rattle.std.specs.Prelude.{◌≡◌, List, [], ◌∷◌, ℕ, Bool, true, false, Option, Result, Ok, Err, Vec}
 use Rattle.std.specs.Iterator.{AlwaysYields}
 use Rattle.std.specs.declared.alloc.Global.{Global}
-use Rattle.tree_defs.specs.Tree.{Tree}
-use Rattle.layout_defs.specs.Json.{IsJsonText}
-use Rattle.layout_defs.specs.Basic.{IsBasicLayout}
-use Rattle.layout_defs.specs.Layout.{AreLaidOut}
-use Rattle.laid_tokens.specs.QuotedText.{IsQuoted}
+use Rattle.defs_tree.specs.Tree.{Tree}
+use Rattle.defs_layout.specs.Json.{IsJsonText}
+use Rattle.defs_layout.specs.Basic.{IsBasicLayout}
+use Rattle.defs_layout.specs.Layout.{AreLaidOut}
+use Rattle.defs_layout.specs.QuotedText.{IsQuoted}
 use Rattle.yaml_tokens.specs.Fault.{Fault}
 use Rattle.yaml_tree.specs.View.{items_view}
 use Rattle.yaml_tree.specs.declared.yaml.Yaml.{Yaml}
 use Rattle.yaml_scanner.specs.Scanned.{MayBe}
 use Rattle.yaml_parser.specs.Parsed.{Parsed}
-use Rattle.loaded_texts.specs.TextReadAs.{IsReadAs, IsAtStart}
+use Rattle.proof_loads.specs.TextReadAs.{IsReadAs, IsAtStart}
 use Rattle.yaml_loader.specs.Unread.{IsUnread}
 
 -- A load gives exactly these documents, or memory was refused.

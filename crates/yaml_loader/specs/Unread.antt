@@ -1,14 +1,14 @@
 -- Why a load answers a fault, of a text.
 use Rattle.std.specs.Prelude.{◌≡◌, ℕ, Bool, false, List, Err}
-use Rattle.yaml_chars.specs.Place.{Place}
-use Rattle.tree_defs.specs.Tree.{Tree}
+use Rattle.defs_text.specs.Position.{Place}
+use Rattle.defs_tree.specs.Tree.{Tree}
 use Rattle.yaml_tokens.specs.Fault.{Fault}
-use Rattle.event_defs.specs.Event.{Ev}
-use Rattle.event_defs.specs.Reading.{reading}
-use Rattle.event_defs.specs.Unfinished.{new_loader, with_events}
+use Rattle.defs_event.specs.Event.{Ev}
+use Rattle.defs_event.specs.Reading.{reading}
+use Rattle.defs_event.specs.Unfinished.{new_loader, with_events}
 use Rattle.yaml_loader.specs.Loads.{HasNoted}
 use Rattle.yaml_loader.specs.RepeatedKey.{TellsKey}
-use Rattle.loaded_texts.specs.TextEvents.{HasEvents, IsFaultOf}
+use Rattle.proof_loads.specs.TextEvents.{HasEvents, IsFaultOf}
 
 pub data IsUnread (keep_tags : Bool) (text : List ℕ) (f : Fault) : Type 0 where
   -- Memory was refused; or it is the scanner's refusal of the text; or no stream begins with the text's first tokens, and the fault is

@@ -1,10 +1,10 @@
 -- What was read, as clauses see it: the unfinished reading of the code as that of the definitions.
 -- YAML 1.2, section 3.1 (construction from the serialization's events).
 use Rattle.std.specs.Prelude.{◌≡◌, ℕ, List, [], ◌∷◌, Option, Some, None, option_map, map, Result, OnOk, OnErr, IfErr}
-use Rattle.tree_defs.specs.Tree.{Tree, bad_value}
-use Rattle.tree_defs.specs.Pairs.{last_of}
-use Rattle.event_defs.specs.Anchors.{Anchors}
-use Rattle.event_defs.specs.Unfinished.{Opened, opened_sequence, opened_mapping, Unfinished, Step, repeats, out_of_nesting, reads, with_tree}
+use Rattle.defs_tree.specs.Tree.{Tree, bad_value}
+use Rattle.defs_tree.specs.Pairs.{last_of}
+use Rattle.defs_event.specs.Anchors.{Anchors}
+use Rattle.defs_event.specs.Unfinished.{Opened, opened_sequence, opened_mapping, Unfinished, Step, repeats, out_of_nesting, reads, with_tree}
 use Rattle.yaml_tree.specs.View.{view, items_view}
 use Rattle.yaml_tree.specs.declared.yaml.Yaml.{Yaml}
 use Rattle.yaml_loader.specs.Alike.{ReadsTo}

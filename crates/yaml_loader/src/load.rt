@@ -1,17 +1,17 @@
 //! Texts, read as trees.
 ghost use Rattle.std.specs.Prelude.{◌≡◌, ◌^◌, ◌<◌, false, None, IfOk, OnOk, IfErr, All, chars};
 ghost use Rattle.std.specs.Iterator.{IsFinite, size};
-ghost use Rattle.event_defs.specs.NoAlias.{HasNoAlias};
+ghost use Rattle.defs_event.specs.NoAlias.{HasNoAlias};
 ghost use Rattle.yaml_tree.specs.View.{items_view};
 ghost use Rattle.yaml_chars.specs.Reading.{HasNoNul, up_to_nul, Begins};
 ghost use Rattle.yaml_chars.specs.Source.{CameFrom};
 ghost use Rattle.yaml_parser.specs.Parsed.{parsed};
-ghost use Rattle.loaded_texts.specs.Cuts.{IsReadOfCut};
+ghost use Rattle.proof_loads.specs.Cuts.{IsReadOfCut};
 ghost use Rattle.yaml_loader.specs.Loads.{AreLoaded, IsLoadFault};
 ghost use Rattle.yaml_loader.specs.TextLoads.{LoadsText, LoadsOnly, OfTexts, OfText, OfGiven, OfJson, OfBasic, OfLayout, OfQuoted, Answers};
 
 use crate::loader::{Course, YamlLoader, out_of_nesting};
-use event_defs::laws::loaded_trees_have_no_alias;
+use defs_event::laws::loaded_trees_have_no_alias;
 use std::alloc::Global;
 use yaml_parser::Parser;
 use yaml_tokens::ScanError;

@@ -1,6 +1,6 @@
 //! The loader, to which events are handed one by one.
 ghost use Rattle.std.specs.Prelude.{◌≡◌, None, Err};
-ghost use Rattle.event_defs.specs.Unfinished.{new_loader, documents_of};
+ghost use Rattle.defs_event.specs.Unfinished.{new_loader, documents_of};
 ghost use Rattle.yaml_tree.specs.View.{items_view};
 ghost use Rattle.yaml_parser.specs.Shown.{ev_of};
 ghost use Rattle.yaml_loader.specs.Loading.{loader_of, kept_fault, want_of_memory, event_out_of_nesting, Takes, Stops};

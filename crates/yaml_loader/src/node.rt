@@ -1,11 +1,11 @@
 //! The events of a reading, and where a complete node goes.
 ghost use Rattle.std.specs.Prelude.{◌≡◌, ◌<◌, ℕ, [], Some, None, IfSome, IfOk, IfErr, OnOk, option_map, unwrap_or, string_bytes};
-ghost use Rattle.yaml_chars.specs.Text.{string_chars};
+ghost use Rattle.defs_text.specs.Text.{string_chars};
 ghost use Rattle.yaml_tokens.specs.Shown.{style_of};
-ghost use Rattle.event_defs.specs.Anchors.{aliased, finished};
-ghost use Rattle.event_defs.specs.Event.{Ev};
-ghost use Rattle.event_defs.specs.Unfinished.{opened_sequence, opened_mapping, reads, with_tree, with_node, with_start, with_event};
-ghost use Rattle.tree_defs.specs.Tree.{bad_value};
+ghost use Rattle.defs_event.specs.Anchors.{aliased, finished};
+ghost use Rattle.defs_event.specs.Event.{Ev};
+ghost use Rattle.defs_event.specs.Unfinished.{opened_sequence, opened_mapping, reads, with_tree, with_node, with_start, with_event};
+ghost use Rattle.defs_tree.specs.Tree.{bad_value};
 ghost use Rattle.yaml_tree.specs.View.{view};
 ghost use Rattle.yaml_parser.specs.Shown.{ev_of, perhaps_tag_of};
 ghost use Rattle.yaml_loader.specs.View.{opened_of, unfinished_of, Inserts, IsNoInsert, Reads, Refuses, KeepsDocuments, repeated_key};

@@ -1,6 +1,6 @@
 //! A reading that is not at its end.
 ghost use Rattle.std.specs.Prelude.{◌≡◌};
-ghost use Rattle.event_defs.specs.Unfinished.{nothing_read};
+ghost use Rattle.defs_event.specs.Unfinished.{nothing_read};
 ghost use Rattle.yaml_loader.specs.View.{unfinished_of};
 
 use std::alloc::{AllocError, Global};

@@ -1,8 +1,8 @@
 //! The tree of a scalar.
 ghost use Rattle.std.specs.Prelude.{◌≡◌, chars};
-ghost use Rattle.yaml_chars.specs.Text.{string_chars};
+ghost use Rattle.defs_text.specs.Text.{string_chars};
 ghost use Rattle.yaml_tokens.specs.Shown.{style_of};
-ghost use Rattle.event_defs.specs.Scalar.{scalar_tree, tagged_tree, as_boolean, as_integer, as_real, as_null};
+ghost use Rattle.defs_event.specs.Scalar.{scalar_tree, tagged_tree, as_boolean, as_integer, as_real, as_null};
 ghost use Rattle.yaml_tree.specs.View.{view};
 ghost use Rattle.yaml_parser.specs.Shown.{tag_of, perhaps_tag_of};
 

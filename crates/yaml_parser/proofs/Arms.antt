@@ -2,22 +2,22 @@
 use Rattle.std.proofs.Common.{◌≡◌, ◌≢◌, List, [], ◌∷◌, ◌++◌, Some, None, option_map, Bool, true, false, ◌||◌, Result, Ok, Err, refl, sym, ap, ◌∙◌, subst, ◌⊎◌, inl, inr}
 use Rattle.std.specs.Result.{IsErrAnd, IfErr}
 use Rattle.std.proofs.lemmas.Bool.{or_parts, or_from, both_ways}
-use Rattle.yaml_chars.specs.Place.{Place}
-use Rattle.token_defs.specs.Token.{Tok}
+use Rattle.defs_text.specs.Position.{Place}
+use Rattle.defs_token.specs.Token.{Tok}
 use Rattle.yaml_tokens.specs.declared.token.Token.{Token}
 use Rattle.yaml_tokens.specs.Shown.{tok_of}
 use Rattle.yaml_scanner.specs.Tokens.{is_end}
-use Rattle.event_defs.specs.Event.{Ev}
-use Rattle.event_defs.specs.Raw.{Raw}
-use Rattle.event_defs.specs.Names.{Names, behind, resolved_event}
-use Rattle.event_defs.specs.Stream.{has_place, gives_place}
-use Rattle.grammar_turns.specs.declared.kind.Kind.{Kind}
-use Rattle.grammar_turns.specs.declared.state.State.{State}
-use Rattle.grammar_turns.specs.Kinds.{kind_of, tok_of_kind, has_no_text}
-use Rattle.grammar_turns.specs.Goal as at
-use Rattle.grammar_turns.specs.Goal.{Goal}
-use Rattle.grammar_turns.specs.Turn.{Takes, Leaves}
-use Rattle.grammar_turns.proofs.First.{tok_is}
+use Rattle.defs_event.specs.Event.{Ev}
+use Rattle.defs_event.specs.Raw.{Raw}
+use Rattle.defs_event.specs.Names.{Names, behind, resolved_event}
+use Rattle.defs_event.specs.Stream.{has_place, gives_place}
+use Rattle.model_parser.specs.declared.kind.Kind.{Kind}
+use Rattle.model_parser.specs.declared.state.State.{State}
+use Rattle.model_parser.specs.Kinds.{kind_of, tok_of_kind, has_no_text}
+use Rattle.model_parser.specs.Goal as at
+use Rattle.model_parser.specs.Goal.{Goal}
+use Rattle.model_parser.specs.Turn.{Takes, Leaves}
+use Rattle.model_parser.proofs.First.{tok_is}
 use Rattle.yaml_parser.specs.declared.event.Event.{Event}
 use Rattle.yaml_parser.specs.declared.tokens.Stop.{Stop}
 use Rattle.yaml_parser.specs.declared.reader.Reader.{Reader}

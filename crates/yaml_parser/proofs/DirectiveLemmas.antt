@@ -7,10 +7,10 @@ use Rattle.std.specs.Option.{IfSome}
 use Rattle.std.proofs.lemmas.Bool.{both_ways, false_from_ne_true, and_left, and_right, not_from_true}
 use Rattle.std.proofs.lemmas.Bool.Decides.{nat_tests}
 use Rattle.std.proofs.lemmas.Slice.Eq.{bytes_eq-Decides}
-use Rattle.yaml_chars.specs.Text.{string_chars}
-use Rattle.event_defs.specs.Raw.{Directive, version, tag}
-use Rattle.event_defs.specs.Names as defs
-use Rattle.event_defs.specs.Names.{under_name, declared, versions, is_each_once, are_allowed, at_document}
+use Rattle.defs_text.specs.Text.{string_chars}
+use Rattle.defs_event.specs.Raw.{Directive, version, tag}
+use Rattle.defs_event.specs.Names as defs
+use Rattle.defs_event.specs.Names.{under_name, declared, versions, is_each_once, are_allowed, at_document}
 use Rattle.yaml_parser.specs.declared.names.Declaration.{Declaration}
 use Rattle.yaml_parser.specs.declared.names.Names.{Names}
 use Rattle.yaml_parser.specs.Named.{IsNamed, IsOwn, is_own, prefix_of}

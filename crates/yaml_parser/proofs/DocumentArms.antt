@@ -3,8 +3,8 @@ use Rattle.std.proofs.Common.{◌≡◌, ◌≢◌, ℕ, ◌+◌, ◌<◌, List,
 use Rattle.std.proofs.lemmas.Bool.{and_parts, and_from, and_left, and_right, lt-leb}
 use Rattle.std.specs.Option.{IfSome}
 use Rattle.std.specs.Result.{IsErrAnd}
-use Rattle.yaml_chars.specs.Place.{Place}
-use Rattle.token_defs.specs.Token.{Tok}
+use Rattle.defs_text.specs.Position.{Place}
+use Rattle.defs_token.specs.Token.{Tok}
 use Rattle.yaml_tokens.specs.declared.token.Token.{Token}
 use Rattle.yaml_tokens.specs.declared.problem.Fault.TheVariants.{OutOfMemory}
 use Rattle.yaml_tokens.specs.declared.problem.Fault.TheVariants as fault
@@ -12,23 +12,23 @@ use Rattle.yaml_tokens.specs.declared.problem.Problem.{Problem}
 use Rattle.yaml_tokens.specs.declared.problem.Problem.TheVariants.{SecondVersion, RepeatedHandle, UndeclaredHandle}
 use Rattle.yaml_tokens.specs.Shown.{tok_of}
 use Rattle.yaml_scanner.specs.Tokens.{is_end}
-use Rattle.event_defs.specs.Event.{Ev}
-use Rattle.event_defs.specs.Raw as raw
-use Rattle.event_defs.specs.Raw.{Raw, Directive}
-use Rattle.event_defs.specs.Grammar.{directive_token, perhaps_events, after_events}
-use Rattle.event_defs.specs.Names as defs
-use Rattle.event_defs.specs.Names.{declared, versions, is_each_once, are_allowed, at_document, under_name}
-use Rattle.event_defs.specs.Stream.{gives_place}
-use Rattle.grammar_turns.specs.declared.kind.Kind.{Kind}
-use Rattle.grammar_turns.specs.declared.kind.Kind.TheVariants as kind
-use Rattle.grammar_turns.specs.declared.place.Place.TheVariants as place
-use Rattle.grammar_turns.specs.declared.state.State.TheVariants as state
-use Rattle.grammar_turns.specs.Kinds.{kind_of, begins_node, is_directive}
-use Rattle.grammar_turns.specs.Goal as at
-use Rattle.grammar_turns.specs.Rest.{rest_events}
-use Rattle.grammar_turns.specs.Turn.{Takes, Leaves}
-use Rattle.grammar_turns.proofs.First.{tok_is}
-use Rattle.grammar_turns.proofs.Document as turn
+use Rattle.defs_event.specs.Event.{Ev}
+use Rattle.defs_event.specs.Raw as raw
+use Rattle.defs_event.specs.Raw.{Raw, Directive}
+use Rattle.defs_event.specs.Grammar.{directive_token, perhaps_events, after_events}
+use Rattle.defs_event.specs.Names as defs
+use Rattle.defs_event.specs.Names.{declared, versions, is_each_once, are_allowed, at_document, under_name}
+use Rattle.defs_event.specs.Stream.{gives_place}
+use Rattle.model_parser.specs.declared.kind.Kind.{Kind}
+use Rattle.model_parser.specs.declared.kind.Kind.TheVariants as kind
+use Rattle.model_parser.specs.declared.place.Place.TheVariants as place
+use Rattle.model_parser.specs.declared.state.State.TheVariants as state
+use Rattle.model_parser.specs.Kinds.{kind_of, begins_node, is_directive}
+use Rattle.model_parser.specs.Goal as at
+use Rattle.model_parser.specs.Rest.{rest_events}
+use Rattle.model_parser.specs.Turn.{Takes, Leaves}
+use Rattle.model_parser.proofs.First.{tok_is}
+use Rattle.model_parser.proofs.Document as turn
 use Rattle.yaml_parser.specs.declared.tokens.Stop.{Stop}
 use Rattle.yaml_parser.specs.declared.tokens.Stop.TheVariants as stop
 use Rattle.yaml_parser.specs.declared.names.Names.{Names}

@@ -1,8 +1,8 @@
 -- Tokens that are refused, by what they are not.
 use Rattle.std.proofs.Common.{◌≡◌, ◌≢◌, true, refl}
 use Rattle.yaml_tokens.specs.declared.problem.Problem.TheVariants.{BlockMappingKey, BlockSequenceEntry, FlowMappingEntry, FlowSequenceEntry}
-use Rattle.grammar_turns.specs.declared.kind.Kind.{Kind}
-use Rattle.grammar_turns.specs.declared.kind.Kind.TheVariants as kind
+use Rattle.model_parser.specs.declared.kind.Kind.{Kind}
+use Rattle.model_parser.specs.declared.kind.Kind.TheVariants as kind
 use Rattle.yaml_parser.specs.Blames.{fits}
 
 pub no_item : (k : Kind) → k ≢ kind.FlowEntry → k ≢ kind.FlowSequenceEnd → fits FlowSequenceEntry k ≡ true

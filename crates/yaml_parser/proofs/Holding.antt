@@ -3,9 +3,9 @@ use Rattle.std.proofs.Common.{◌≡◌, inl, inr, ◌+◌, ◌<◌, List, [], �
 use Rattle.std.specs.Option.{IsSome, IfSome}
 use Rattle.std.proofs.lemmas.Bool.{both_ways}
 use Rattle.std.proofs.lemmas.List.{map-append}
-use Rattle.yaml_chars.specs.Place.{Place}
-use Rattle.token_defs.specs.Token as defs
-use Rattle.token_defs.specs.Token.{Tok}
+use Rattle.defs_text.specs.Position.{Place}
+use Rattle.defs_token.specs.Token as defs
+use Rattle.defs_token.specs.Token.{Tok}
 use Rattle.yaml_tokens.specs.declared.token.Token.{Token}
 use Rattle.yaml_tokens.specs.declared.problem.Fault.TheVariants.{OutOfMemory}
 use Rattle.yaml_tokens.specs.declared.problem.Fault.TheVariants as fault
@@ -13,19 +13,19 @@ use Rattle.yaml_tokens.specs.Fault.{Fault}
 use Rattle.yaml_tokens.specs.Problem.{fault_of}
 use Rattle.yaml_tokens.specs.Shown.{shown, all_shown, tok_of}
 use Rattle.yaml_scanner.specs.Scanned.{scanned}
-use Rattle.event_defs.specs.Event.{Ev}
-use Rattle.event_defs.specs.Raw.{Raw}
-use Rattle.event_defs.specs.Grammar.{Documents, stream_tokens, stream_events}
-use Rattle.event_defs.specs.Names.{Names, named, no_names}
-use Rattle.token_defs.specs.Toks.{toks}
-use Rattle.event_defs.specs.Stream.{IsStream, BeginsPlaced, events_of, places_of, taken_places, given_places}
-use Rattle.event_defs.proofs.NameLemmas.{named_append}
-use Rattle.grammar_turns.specs.declared.state.State.{State}
-use Rattle.grammar_turns.specs.declared.state.State.TheVariants as state
-use Rattle.grammar_turns.specs.Goal as at
-use Rattle.grammar_turns.specs.Goal.{Goal}
-use Rattle.grammar_turns.specs.Rest.{goal_of, still_events, IsBottom, IsUnder}
-use Rattle.grammar_turns.specs.Stands.{Stands, Begins}
+use Rattle.defs_event.specs.Event.{Ev}
+use Rattle.defs_event.specs.Raw.{Raw}
+use Rattle.defs_event.specs.Grammar.{Documents, stream_tokens, stream_events}
+use Rattle.defs_event.specs.Names.{Names, named, no_names}
+use Rattle.defs_token.specs.Toks.{toks}
+use Rattle.defs_event.specs.Stream.{IsStream, BeginsPlaced, events_of, places_of, taken_places, given_places}
+use Rattle.defs_event.proofs.NameLemmas.{named_append}
+use Rattle.model_parser.specs.declared.state.State.{State}
+use Rattle.model_parser.specs.declared.state.State.TheVariants as state
+use Rattle.model_parser.specs.Goal as at
+use Rattle.model_parser.specs.Goal.{Goal}
+use Rattle.model_parser.specs.Rest.{goal_of, still_events, IsBottom, IsUnder}
+use Rattle.model_parser.specs.Stands.{Stands, Begins}
 use Rattle.yaml_parser.specs.declared.event.Event.{Event}
 use Rattle.yaml_parser.specs.declared.tokens.Kept.{Kept}
 use Rattle.yaml_parser.specs.declared.tokens.Stop.{Stop}

@@ -3,13 +3,13 @@ use Rattle.std.proofs.Common.{◌≡◌, ◌≢◌, ◌+◌, ◌||◌, ◌&&◌,
 use Rattle.std.specs.Result.{IsErrAnd}
 use Rattle.std.proofs.lemmas.Bool.{or_from}
 use Rattle.std.proofs.lemmas.List.{length-append}
-use Rattle.yaml_chars.specs.Place.{Place}
+use Rattle.defs_text.specs.Position.{Place}
 use Rattle.yaml_tokens.specs.Fault.{Fault}
-use Rattle.event_defs.specs.Event.{Ev}
-use Rattle.event_defs.specs.PulledList.{Answer, event, fault, given}
-use Rattle.event_defs.specs.Push as run
-use Rattle.event_defs.specs.Stream.{events_of}
-use Rattle.event_defs.specs.Push.{Loaded, load, load_from, push, ends}
+use Rattle.defs_event.specs.Event.{Ev}
+use Rattle.defs_event.specs.PulledList.{Answer, event, fault, given}
+use Rattle.defs_event.specs.Push as run
+use Rattle.defs_event.specs.Stream.{events_of}
+use Rattle.defs_event.specs.Push.{Loaded, load, load_from, push, ends}
 use Rattle.yaml_parser.specs.Nests.{BeginsNested, opened, is_open, IsInside}
 use Rattle.yaml_parser.specs.Parsed.{Parsed, is_stream_end, is_document_start, is_document_end, read, read_so}
 use Rattle.yaml_parser.specs.Pulls.{Pulls, GivesEvent}

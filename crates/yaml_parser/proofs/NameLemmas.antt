@@ -11,16 +11,16 @@ use Rattle.std.proofs.lemmas.Map.Text.{btree_map_updates_text}
 use Rattle.std.proofs.lemmas.Bool.Decides.{same_from_decides, Decides-like}
 use Rattle.std.proofs.lemmas.Slice.Eq.{bytes_eq-Decides}
 use Rattle.std.proofs.lemmas.Str.{encodes-chars, IsUtf8-string_bytes}
-use Rattle.yaml_chars.specs.Text.{string_chars, is_nil}
+use Rattle.defs_text.specs.Text.{string_chars, is_nil}
 use Rattle.yaml_chars.proofs.TextLemmas.{is_nil_chars}
 use Rattle.yaml_tokens.specs.declared.problem.Fault.TheVariants.{OutOfMemory}
 use Rattle.yaml_tokens.specs.declared.problem.Fault.TheVariants as fault
-use Rattle.event_defs.specs.Names.{Names, under_name, prefix_or_undeclared, undeclared, resolved}
+use Rattle.defs_event.specs.Names.{Names, under_name, prefix_or_undeclared, undeclared, resolved}
 use Rattle.yaml_parser.specs.declared.event.Tag.{Tag}
 use Rattle.yaml_parser.specs.declared.tokens.Stop.{Stop}
 use Rattle.yaml_parser.specs.declared.tokens.Stop.TheVariants as stop
 use Rattle.yaml_parser.specs.Shown.{tag_of}
-use Rattle.yaml_chars.specs.Place.{Place}
+use Rattle.defs_text.specs.Position.{Place}
 use Rattle.yaml_parser.specs.Resolves.{Resolves, IsUndeclared}
 
 nil_of : (xs : List ℕ) → is_nil xs ≡ true → xs ≡ []

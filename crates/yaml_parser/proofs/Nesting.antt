@@ -1,15 +1,15 @@
 -- The events that a parser gives are a beginning of nested events, so the stream's end comes in no document.
 use Rattle.std.proofs.Common.{◌≡◌, List, [], ◌∷◌, ◌++◌, Option, Some, None, Bool, true, false, refl, sym, ap, subst}
-use Rattle.yaml_chars.specs.Place.{Place}
-use Rattle.event_defs.specs.Event.{Ev}
-use Rattle.event_defs.specs.Nested.{Open, in_stream, before_node, behind_node, in_sequence, at_key, at_value, open_behind, there_and, closes, is_nested}
-use Rattle.event_defs.specs.Stream.{events_of}
-use Rattle.event_defs.proofs.NestedTest.{test_is_exact}
-use Rattle.event_defs.proofs.Shaped.{Shaped, named_shaped}
-use Rattle.event_defs.proofs.StreamNests.{shaped_nests}
-use Rattle.grammar_turns.specs.Goal.{Goal}
-use Rattle.grammar_turns.specs.Rest.{rest_events, still_events}
-use Rattle.event_defs.specs.Names.{Names}
+use Rattle.defs_text.specs.Position.{Place}
+use Rattle.defs_event.specs.Event.{Ev}
+use Rattle.defs_event.specs.Nested.{Open, in_stream, before_node, behind_node, in_sequence, at_key, at_value, open_behind, there_and, closes, is_nested}
+use Rattle.defs_event.specs.Stream.{events_of}
+use Rattle.defs_event.proofs.NestedTest.{test_is_exact}
+use Rattle.defs_event.proofs.Shaped.{Shaped, named_shaped}
+use Rattle.defs_event.proofs.StreamNests.{shaped_nests}
+use Rattle.model_parser.specs.Goal.{Goal}
+use Rattle.model_parser.specs.Rest.{rest_events, still_events}
+use Rattle.defs_event.specs.Names.{Names}
 use Rattle.yaml_parser.specs.declared.reader.Reader.{Reader}
 use Rattle.yaml_parser.specs.At.{At}
 use Rattle.yaml_parser.specs.Nests.{BeginsNested, opened, is_open}

@@ -3,9 +3,9 @@ use Rattle.std.proofs.Common.{◌≡◌, ◌≢◌, ℕ, List, [], ◌∷◌, �
 use Rattle.std.specs.Result.{IfOk, IfErr}
 use Rattle.std.specs.Option.{IsSome, IfSome}
 use Rattle.std.proofs.lemmas.Bool.{both_ways}
-use Rattle.yaml_chars.specs.Place.{Place}
-use Rattle.token_defs.specs.Token as defs
-use Rattle.token_defs.specs.Token.{Tok, Style}
+use Rattle.defs_text.specs.Position.{Place}
+use Rattle.defs_token.specs.Token as defs
+use Rattle.defs_token.specs.Token.{Tok, Style}
 use Rattle.yaml_tokens.specs.declared.token.Token.{Token}
 use Rattle.yaml_tokens.specs.declared.problem.Fault.TheVariants.{OutOfMemory}
 use Rattle.yaml_tokens.specs.declared.problem.Fault.TheVariants as fault
@@ -14,30 +14,30 @@ use Rattle.yaml_tokens.specs.declared.problem.Problem.TheVariants.{UnknownAnchor
 use Rattle.yaml_tokens.specs.Shown.{shown, all_shown, tok_of}
 use Rattle.yaml_scanner.specs.Scanned.{scanned}
 use Rattle.yaml_scanner.specs.Tokens.{is_end}
-use Rattle.event_defs.specs.Event as event
-use Rattle.event_defs.specs.Event.{Ev}
-use Rattle.event_defs.specs.Raw.{Raw}
-use Rattle.event_defs.specs.Grammar as written
-use Rattle.event_defs.specs.Grammar.{perhaps_anchor_of, perhaps_tag_of, stream_tokens, stream_events}
-use Rattle.event_defs.specs.Names.{Names, number, with_anchor, behind, behind_all, both, named, no_names, resolved_event, perhaps_resolved, resolved, under_name}
-use Rattle.token_defs.specs.Toks.{toks}
-use Rattle.event_defs.specs.Stream.{has_place, gives_place, BeginsPlaced as Opens}
-use Rattle.grammar_turns.specs.declared.kind.Kind.{Kind}
-use Rattle.grammar_turns.specs.declared.place.Place as places
-use Rattle.grammar_turns.specs.declared.place.Place.TheVariants as place
-use Rattle.grammar_turns.specs.declared.state.State.{State}
-use Rattle.grammar_turns.specs.Kinds.{kind_of, tok_of_kind, has_no_text}
-use Rattle.grammar_turns.specs.Goal as at
-use Rattle.grammar_turns.specs.Goal.{Goal, Awaits, goal_tokens, ContentAt, part_node, part_content, part_dashes, perhaps_content_events, tag_and}
-use Rattle.grammar_turns.proofs.Nodes as turn
-use Rattle.grammar_turns.specs.declared.kind.Kind.TheVariants as kind
+use Rattle.defs_event.specs.Event as event
+use Rattle.defs_event.specs.Event.{Ev}
+use Rattle.defs_event.specs.Raw.{Raw}
+use Rattle.defs_event.specs.Grammar as written
+use Rattle.defs_event.specs.Grammar.{perhaps_anchor_of, perhaps_tag_of, stream_tokens, stream_events}
+use Rattle.defs_event.specs.Names.{Names, number, with_anchor, behind, behind_all, both, named, no_names, resolved_event, perhaps_resolved, resolved, under_name}
+use Rattle.defs_token.specs.Toks.{toks}
+use Rattle.defs_event.specs.Stream.{has_place, gives_place, BeginsPlaced as Opens}
+use Rattle.model_parser.specs.declared.kind.Kind.{Kind}
+use Rattle.model_parser.specs.declared.place.Place as places
+use Rattle.model_parser.specs.declared.place.Place.TheVariants as place
+use Rattle.model_parser.specs.declared.state.State.{State}
+use Rattle.model_parser.specs.Kinds.{kind_of, tok_of_kind, has_no_text}
+use Rattle.model_parser.specs.Goal as at
+use Rattle.model_parser.specs.Goal.{Goal, Awaits, goal_tokens, ContentAt, part_node, part_content, part_dashes, perhaps_content_events, tag_and}
+use Rattle.model_parser.proofs.Nodes as turn
+use Rattle.model_parser.specs.declared.kind.Kind.TheVariants as kind
 use Rattle.yaml_parser.specs.Resolves.{Resolves}
-use Rattle.event_defs.specs.Grammar.{items_events, flow_pairs_events, entries_events, pairs_events, perhaps_events, dashes_events, scalar, flow_sequence, flow_mapping, flow, block_sequence, block_mapping, flow_properties, block_properties}
-use Rattle.grammar_turns.specs.Rest.{Rest, rest_tokens, rest_events, still_events}
-use Rattle.grammar_turns.specs.Stands.{Begins as Starts}
-use Rattle.grammar_turns.specs.Turn.{Takes, Leaves, event_then}
-use Rattle.grammar_turns.proofs.First.{tok_is}
-use Rattle.grammar_turns.proofs.Apart.{no_two_anchors}
+use Rattle.defs_event.specs.Grammar.{items_events, flow_pairs_events, entries_events, pairs_events, perhaps_events, dashes_events, scalar, flow_sequence, flow_mapping, flow, block_sequence, block_mapping, flow_properties, block_properties}
+use Rattle.model_parser.specs.Rest.{Rest, rest_tokens, rest_events, still_events}
+use Rattle.model_parser.specs.Stands.{Begins as Starts}
+use Rattle.model_parser.specs.Turn.{Takes, Leaves, event_then}
+use Rattle.model_parser.proofs.First.{tok_is}
+use Rattle.model_parser.proofs.Apart.{no_two_anchors}
 use Rattle.yaml_parser.specs.declared.event.Event.{Event}
 use Rattle.yaml_parser.specs.declared.node.Properties.{Properties}
 use Rattle.yaml_parser.specs.declared.tokens.Stop.{Stop}

@@ -5,17 +5,17 @@ use Rattle.std.specs.Option.{IfSome}
 use Rattle.std.specs.Result.{IsErrAnd}
 use Rattle.std.proofs.lemmas.Bool.{both_ways, and_parts, not-true}
 use Rattle.std.proofs.lemmas.List.{map-append}
-use Rattle.yaml_chars.specs.Place.{Place}
+use Rattle.defs_text.specs.Position.{Place}
 use Rattle.yaml_tokens.specs.Fault.{Fault}
 use Rattle.yaml_tokens.specs.declared.problem.Fault.TheVariants.{OutOfMemory}
 use Rattle.yaml_tokens.specs.declared.problem.Fault.TheVariants as fault
 use Rattle.yaml_scanner.specs.Scanned.{scanned}
-use Rattle.event_defs.specs.Event.{Ev}
-use Rattle.event_defs.specs.Raw.{Raw}
-use Rattle.event_defs.specs.Names as defs
-use Rattle.event_defs.specs.Names.{named, both, no_names, behind_all, resolved_event, behind}
-use Rattle.token_defs.specs.Toks.{toks}
-use Rattle.event_defs.specs.Stream.{events_of, BeginsPlaced, NoneBegins}
+use Rattle.defs_event.specs.Event.{Ev}
+use Rattle.defs_event.specs.Raw.{Raw}
+use Rattle.defs_event.specs.Names as defs
+use Rattle.defs_event.specs.Names.{named, both, no_names, behind_all, resolved_event, behind}
+use Rattle.defs_token.specs.Toks.{toks}
+use Rattle.defs_event.specs.Stream.{events_of, BeginsPlaced, NoneBegins}
 use Rattle.yaml_parser.specs.declared.event.Event.{Event}
 use Rattle.yaml_parser.specs.declared.names.Keeping.{Keeping}
 use Rattle.yaml_parser.specs.declared.tokens.Kept.{Kept}

@@ -1,13 +1,13 @@
 -- The places of events and of tokens, side by side.
 use Rattle.std.proofs.Common.{◌≡◌, ◌+◌, List, [], ◌∷◌, ◌++◌, length, Bool, true, false, refl, sym, ap, ◌∙◌, append-nil, arith}
 use Rattle.std.proofs.lemmas.List.{length-append, map-append}
-use Rattle.yaml_chars.specs.Place.{Place}
-use Rattle.token_defs.specs.Token as defs
+use Rattle.defs_text.specs.Position.{Place}
+use Rattle.defs_token.specs.Token as defs
 use Rattle.yaml_tokens.specs.declared.token.Token.{Token}
 use Rattle.yaml_tokens.specs.Shown.{shown, all_shown, tok_of}
-use Rattle.event_defs.specs.Event.{Ev}
-use Rattle.event_defs.specs.Raw.{Raw}
-use Rattle.event_defs.specs.Stream.{gives_place, has_place, place_if, given_places, taken_places, places_of}
+use Rattle.defs_event.specs.Event.{Ev}
+use Rattle.defs_event.specs.Raw.{Raw}
+use Rattle.defs_event.specs.Stream.{gives_place, has_place, place_if, given_places, taken_places, places_of}
 
 -- The event has its token's place, or neither has one.
 pub record IsPlaced (e : Raw) (t : Token) (m : Place) : Type 0 where

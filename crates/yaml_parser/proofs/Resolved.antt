@@ -1,11 +1,11 @@
 -- Events and the raw ones that they come of, side by side.
 use Rattle.std.proofs.Common.{◌≡◌, List, [], ◌∷◌, ◌++◌, Some, true, ap}
-use Rattle.yaml_chars.specs.Place.{Place}
-use Rattle.event_defs.specs.Event.{Ev}
-use Rattle.event_defs.specs.Raw.{Raw}
-use Rattle.event_defs.specs.Names.{Names, both, resolved_event}
-use Rattle.event_defs.specs.Stream.{events_of}
-use Rattle.event_defs.proofs.Shaped.{Shaped, named_shaped}
+use Rattle.defs_text.specs.Position.{Place}
+use Rattle.defs_event.specs.Event.{Ev}
+use Rattle.defs_event.specs.Raw.{Raw}
+use Rattle.defs_event.specs.Names.{Names, both, resolved_event}
+use Rattle.defs_event.specs.Stream.{events_of}
+use Rattle.defs_event.proofs.Shaped.{Shaped, named_shaped}
 use Rattle.yaml_parser.specs.Nests.{AreResolved}
 
 -- One more is resolved.

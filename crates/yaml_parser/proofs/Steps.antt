@@ -1,25 +1,25 @@
 -- The turns over the code's state.
 use Rattle.std.proofs.Common.{◌≡◌, List, [], ◌∷◌, ◌++◌, Option, Some, None, option_map, Bool, true, false, ◌||◌, Result, Ok, Err, refl, sym, ap, ◌∙◌, subst, append-nil, map}
 use Rattle.std.proofs.lemmas.Bool.{or_parts, both_ways}
-use Rattle.yaml_chars.specs.Place.{Place}
-use Rattle.token_defs.specs.Token as defs
-use Rattle.token_defs.specs.Token.{Tok, Style}
+use Rattle.defs_text.specs.Position.{Place}
+use Rattle.defs_token.specs.Token as defs
+use Rattle.defs_token.specs.Token.{Tok, Style}
 use Rattle.yaml_tokens.specs.declared.token.Token.{Token}
 use Rattle.yaml_tokens.specs.Shown.{shown, all_shown, tok_of}
 use Rattle.yaml_scanner.specs.Scanned.{scanned}
 use Rattle.yaml_scanner.specs.Tokens.{is_end}
-use Rattle.event_defs.specs.Event.{Ev}
-use Rattle.event_defs.specs.Raw.{Raw}
-use Rattle.event_defs.specs.Names.{Names, no_names, named, both, behind, behind_all, resolved_event}
-use Rattle.token_defs.specs.Toks.{toks}
-use Rattle.event_defs.specs.Stream.{events_of, given_places, has_place, gives_place}
-use Rattle.grammar_turns.specs.declared.kind.Kind.{Kind}
-use Rattle.grammar_turns.specs.declared.state.State.{State}
-use Rattle.grammar_turns.specs.Kinds.{kind_of}
-use Rattle.grammar_turns.specs.Goal.{Goal}
-use Rattle.grammar_turns.specs.Stands.{Stands}
-use Rattle.grammar_turns.specs.Turn.{Takes, Leaves}
-use Rattle.grammar_turns.proofs.Carry.{stands_take, stands_leave}
+use Rattle.defs_event.specs.Event.{Ev}
+use Rattle.defs_event.specs.Raw.{Raw}
+use Rattle.defs_event.specs.Names.{Names, no_names, named, both, behind, behind_all, resolved_event}
+use Rattle.defs_token.specs.Toks.{toks}
+use Rattle.defs_event.specs.Stream.{events_of, given_places, has_place, gives_place}
+use Rattle.model_parser.specs.declared.kind.Kind.{Kind}
+use Rattle.model_parser.specs.declared.state.State.{State}
+use Rattle.model_parser.specs.Kinds.{kind_of}
+use Rattle.model_parser.specs.Goal.{Goal}
+use Rattle.model_parser.specs.Stands.{Stands}
+use Rattle.model_parser.specs.Turn.{Takes, Leaves}
+use Rattle.model_parser.proofs.Carry.{stands_take, stands_leave}
 use Rattle.yaml_parser.specs.declared.tokens.Tokens.{Tokens}
 use Rattle.yaml_parser.specs.declared.reader.Reader.{Reader}
 use Rattle.yaml_parser.specs.Ahead.{Skips}

@@ -1,24 +1,24 @@
 -- Where the productions stand.
 use Rattle.std.specs.Prelude.{◌≡◌, length, List, [], ◌∷◌, ◌++◌, Bool, true, false, Some, None, IsSome, Result, Ok, Err}
-use Rattle.yaml_chars.specs.Place.{Place}
-use Rattle.token_defs.specs.Token as defs
-use Rattle.token_defs.specs.Token.{Tok}
+use Rattle.defs_text.specs.Position.{Place}
+use Rattle.defs_token.specs.Token as defs
+use Rattle.defs_token.specs.Token.{Tok}
 use Rattle.yaml_tokens.specs.declared.token.Token.{Token}
 use Rattle.yaml_tokens.specs.declared.problem.Fault.TheVariants.{OutOfMemory}
 use Rattle.yaml_tokens.specs.declared.problem.Fault.TheVariants as fault
 use Rattle.yaml_tokens.specs.Problem.{fault_of}
 use Rattle.yaml_tokens.specs.Shown.{all_shown}
 use Rattle.yaml_scanner.specs.Scanned.{scanned}
-use Rattle.event_defs.specs.Event.{Ev}
-use Rattle.event_defs.specs.Raw.{Raw}
-use Rattle.event_defs.specs.Grammar.{tag_of}
-use Rattle.event_defs.specs.Names.{Names, no_names, named, behind_all, at_document, are_allowed, resolved, perhaps_resolved}
-use Rattle.token_defs.specs.Toks.{toks}
-use Rattle.event_defs.specs.Stream.{BeginsPlaced, NoneBegins, events_of, places_of, taken_places, given_places}
-use Rattle.grammar_turns.specs.Goal as at
-use Rattle.grammar_turns.specs.Goal.{Goal}
-use Rattle.grammar_turns.specs.Stands.{Stands}
-use Rattle.grammar_turns.specs.declared.state.State.{State}
+use Rattle.defs_event.specs.Event.{Ev}
+use Rattle.defs_event.specs.Raw.{Raw}
+use Rattle.defs_event.specs.Grammar.{tag_of}
+use Rattle.defs_event.specs.Names.{Names, no_names, named, behind_all, at_document, are_allowed, resolved, perhaps_resolved}
+use Rattle.defs_token.specs.Toks.{toks}
+use Rattle.defs_event.specs.Stream.{BeginsPlaced, NoneBegins, events_of, places_of, taken_places, given_places}
+use Rattle.model_parser.specs.Goal as at
+use Rattle.model_parser.specs.Goal.{Goal}
+use Rattle.model_parser.specs.Stands.{Stands}
+use Rattle.model_parser.specs.declared.state.State.{State}
 use Rattle.yaml_parser.specs.declared.event.Event.{Event}
 use Rattle.yaml_parser.specs.declared.tokens.Stop.{Stop}
 use Rattle.yaml_parser.specs.declared.tokens.Stop.TheVariants as stop

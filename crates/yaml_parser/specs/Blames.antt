@@ -1,18 +1,18 @@
 -- The parser's own fault: what it says of the token that is refused.
 use Rattle.std.specs.Prelude.{◌≡◌, ◌⊎◌, List, [], ◌∷◌, ◌++◌, Bool, true, false, not, codes}
-use Rattle.yaml_chars.specs.Place.{Place}
-use Rattle.token_defs.specs.Token.{Tok, Token}
+use Rattle.defs_text.specs.Position.{Place}
+use Rattle.defs_token.specs.Token.{Tok, Token}
 use Rattle.yaml_tokens.specs.Fault.{Fault}
 use Rattle.yaml_tokens.specs.Problem.{fault_of}
 use Rattle.yaml_tokens.specs.declared.problem.Fault.TheVariants as fault
 use Rattle.yaml_tokens.specs.declared.problem.Problem.{Problem}
 use Rattle.yaml_tokens.specs.declared.problem.Problem.TheVariants as problem
-use Rattle.event_defs.specs.Grammar.{Documents, stream_tokens}
-use Rattle.token_defs.specs.Toks.{toks}
-use Rattle.grammar_turns.specs.declared.kind.Kind.{Kind}
-use Rattle.grammar_turns.specs.declared.kind.Kind.TheVariants as kind
-use Rattle.grammar_turns.specs.declared.place.Place.TheVariants as place
-use Rattle.grammar_turns.specs.Kinds.{kind_of, is_directive, begins_content, ends_item, ends_flow_pair}
+use Rattle.defs_event.specs.Grammar.{Documents, stream_tokens}
+use Rattle.defs_token.specs.Toks.{toks}
+use Rattle.model_parser.specs.declared.kind.Kind.{Kind}
+use Rattle.model_parser.specs.declared.kind.Kind.TheVariants as kind
+use Rattle.model_parser.specs.declared.place.Place.TheVariants as place
+use Rattle.model_parser.specs.Kinds.{kind_of, is_directive, begins_content, ends_item, ends_flow_pair}
 
 -- what goes on in a block sequence
 abbrev pub is_entry_or_end : Kind → Bool

@@ -1,13 +1,13 @@
 -- What one more directive comes to, after those that were read.
 use Rattle.std.specs.Prelude.{◌≡◌, ℕ, List, [], ◌∷◌, ◌++◌, Bool, false, Result, Ok, Err}
-use Rattle.yaml_chars.specs.Place.{Place}
+use Rattle.defs_text.specs.Position.{Place}
 use Rattle.yaml_tokens.specs.declared.problem.Fault.TheVariants.{OutOfMemory}
 use Rattle.yaml_tokens.specs.declared.problem.Fault.TheVariants as fault
 use Rattle.yaml_tokens.specs.declared.problem.Problem.TheVariants.{RepeatedHandle}
-use Rattle.event_defs.specs.Raw as raw
-use Rattle.event_defs.specs.Raw.{Directive}
-use Rattle.event_defs.specs.Names as defs
-use Rattle.event_defs.specs.Names.{at_document, declared, is_each_once}
+use Rattle.defs_event.specs.Raw as raw
+use Rattle.defs_event.specs.Raw.{Directive}
+use Rattle.defs_event.specs.Names as defs
+use Rattle.defs_event.specs.Names.{at_document, declared, is_each_once}
 use Rattle.yaml_parser.specs.declared.names.Names.{Names}
 use Rattle.yaml_parser.specs.declared.tokens.Stop.{Stop}
 use Rattle.yaml_parser.specs.declared.tokens.Stop.TheVariants as stop

@@ -1,13 +1,13 @@
 -- Events against tokens, whatever the setting of `keep_tags` was.
 use Rattle.std.specs.Prelude.{◌≡◌, List, ◌++◌, Bool, true, Some}
-use Rattle.yaml_chars.specs.Place.{Place}
-use Rattle.token_defs.specs.Token.{Tok, Token}
-use Rattle.event_defs.specs.Event.{Ev}
-use Rattle.event_defs.specs.Raw.{Raw}
-use Rattle.event_defs.specs.Grammar.{Documents, stream_tokens, stream_events}
-use Rattle.event_defs.specs.Names.{named, no_names}
-use Rattle.token_defs.specs.Toks.{toks}
-use Rattle.event_defs.specs.Stream.{events_of, places_of, taken_places, given_places}
+use Rattle.defs_text.specs.Position.{Place}
+use Rattle.defs_token.specs.Token.{Tok, Token}
+use Rattle.defs_event.specs.Event.{Ev}
+use Rattle.defs_event.specs.Raw.{Raw}
+use Rattle.defs_event.specs.Grammar.{Documents, stream_tokens, stream_events}
+use Rattle.defs_event.specs.Names.{named, no_names}
+use Rattle.defs_token.specs.Toks.{toks}
+use Rattle.defs_event.specs.Stream.{events_of, places_of, taken_places, given_places}
 use Rattle.yaml_parser.specs.Nests.{AreResolved}
 
 -- A stream begins with these tokens, and with these events before names are resolved.

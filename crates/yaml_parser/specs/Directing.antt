@@ -1,10 +1,10 @@
 -- Where directives are read.
 use Rattle.std.specs.Prelude.{◌≡◌, List, Bool, false, if◌then◌else◌, Result, Ok, Err}
-use Rattle.yaml_chars.specs.Place.{Place}
-use Rattle.event_defs.specs.Event.{Ev}
-use Rattle.event_defs.specs.Raw.{Directive}
-use Rattle.event_defs.specs.Names.{Names, versions}
-use Rattle.grammar_turns.specs.Goal as at
+use Rattle.defs_text.specs.Position.{Place}
+use Rattle.defs_event.specs.Event.{Ev}
+use Rattle.defs_event.specs.Raw.{Directive}
+use Rattle.defs_event.specs.Names.{Names, versions}
+use Rattle.model_parser.specs.Goal as at
 use Rattle.yaml_parser.specs.declared.tokens.Stop.{Stop}
 use Rattle.yaml_parser.specs.declared.reader.Reader.{Reader}
 use Rattle.yaml_parser.specs.Named.{IsOwn}

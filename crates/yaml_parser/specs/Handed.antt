@@ -1,12 +1,12 @@
 -- The tokens of a parser, and those that its scanner handed out.
 use Rattle.std.specs.Prelude.{◌≡◌, List, [], ◌∷◌, ◌++◌, Bool, false, Option, Some, None, option_map}
-use Rattle.token_defs.specs.Token as defs
-use Rattle.token_defs.specs.Token.{Tok}
+use Rattle.defs_token.specs.Token as defs
+use Rattle.defs_token.specs.Token.{Tok}
 use Rattle.yaml_tokens.specs.declared.token.Token.{Token}
 use Rattle.yaml_tokens.specs.Shown.{shown, all_shown, tok_of}
 use Rattle.yaml_scanner.specs.Scanned.{scanned}
 use Rattle.yaml_scanner.specs.Tokens.{is_end}
-use Rattle.token_defs.specs.Toks.{toks}
+use Rattle.defs_token.specs.Toks.{toks}
 use Rattle.yaml_parser.specs.declared.tokens.Tokens.{Tokens}
 
 abbrev pub shown_list : Option Token → List defs.Token

@@ -1,11 +1,11 @@
 -- What is known between two calls.
 use Rattle.std.specs.Prelude.{◌≡◌, ◌⊎◌, ◌<◌, List, [], ◌∷◌, ◌++◌, Bool, true, false, Option, Some, None, IsSome, IfSome, Result, Ok, Err}
-use Rattle.yaml_chars.specs.Place.{Place}
+use Rattle.defs_text.specs.Position.{Place}
 use Rattle.yaml_tokens.specs.Fault.{Fault}
-use Rattle.event_defs.specs.Event.{Ev}
-use Rattle.event_defs.specs.Names.{Names}
-use Rattle.grammar_turns.specs.Goal as at
-use Rattle.grammar_turns.specs.Goal.{Goal}
+use Rattle.defs_event.specs.Event.{Ev}
+use Rattle.defs_event.specs.Names.{Names}
+use Rattle.model_parser.specs.Goal as at
+use Rattle.model_parser.specs.Goal.{Goal}
 use Rattle.yaml_parser.specs.declared.event.Event.{Event}
 use Rattle.yaml_parser.specs.declared.tokens.Kept.{Kept}
 use Rattle.yaml_parser.specs.declared.pull.Pull.{Pull}

@@ -2,9 +2,9 @@
 use Rattle.std.specs.Prelude.{◌≡◌, ◌⊎◌, Option, Some, None}
 use Rattle.yaml_tokens.specs.declared.token.Token.{Token}
 use Rattle.yaml_tokens.specs.Shown.{tok_of}
-use Rattle.grammar_turns.specs.declared.kind.Kind.{Kind}
-use Rattle.grammar_turns.specs.declared.kind.Kind.TheVariants as kind
-use Rattle.grammar_turns.specs.Kinds.{kind_of}
+use Rattle.model_parser.specs.declared.kind.Kind.{Kind}
+use Rattle.model_parser.specs.declared.kind.Kind.TheVariants as kind
+use Rattle.model_parser.specs.Kinds.{kind_of}
 use Rattle.yaml_parser.specs.declared.tokens.Missing.{Missing}
 use Rattle.yaml_parser.specs.declared.tokens.Missing.TheVariants as missing
 use Rattle.yaml_parser.specs.declared.tokens.Stop.{Stop}

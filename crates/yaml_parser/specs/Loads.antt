@@ -1,11 +1,11 @@
 -- What `load` does with a parser and a receiver. `takes` is what one call of the receiver does.
 use Rattle.std.specs.Prelude.{◌≡◌, List, [], ◌∷◌, ◌++◌, length, Bool, if◌then◌else◌, Some, None, Result, Ok, Err}
-use Rattle.yaml_chars.specs.Place.{Place}
+use Rattle.defs_text.specs.Position.{Place}
 use Rattle.yaml_tokens.specs.Fault.{Fault}
-use Rattle.event_defs.specs.Event.{Ev}
-use Rattle.event_defs.specs.PulledList.{Answer, given}
-use Rattle.event_defs.specs.Push as run
-use Rattle.event_defs.specs.Push.{Loaded, load, load_from, push, ends}
+use Rattle.defs_event.specs.Event.{Ev}
+use Rattle.defs_event.specs.PulledList.{Answer, given}
+use Rattle.defs_event.specs.Push as run
+use Rattle.defs_event.specs.Push.{Loaded, load, load_from, push, ends}
 use Rattle.yaml_parser.specs.Parsed.{Parsed}
 use Rattle.yaml_parser.specs.Pulls.{Pulls}
 use Rattle.yaml_parser.specs.View.{no_document}

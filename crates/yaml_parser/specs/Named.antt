@@ -2,10 +2,10 @@
 use Rattle.std.specs.Prelude.{◌≡◌, ◌≤◌, ℕ, Bool, false, nat_lt, List, Option, Some, None, IfSome, option_map, is_some, String, string_bytes}
 use Rattle.std.specs.BTreeMap.{get_by_text}
 use Rattle.std.specs.declared.alloc.Global.{Global}
-use Rattle.yaml_chars.specs.Text.{string_chars}
-use Rattle.event_defs.specs.Names as defs
-use Rattle.event_defs.specs.Raw.{Directive}
-use Rattle.event_defs.specs.Names.{under_name, declared}
+use Rattle.defs_text.specs.Text.{string_chars}
+use Rattle.defs_event.specs.Names as defs
+use Rattle.defs_event.specs.Raw.{Directive}
+use Rattle.defs_event.specs.Names.{under_name, declared}
 use Rattle.yaml_parser.specs.declared.names.Declaration.{Declaration}
 use Rattle.yaml_parser.specs.declared.names.Names.{Names}
 

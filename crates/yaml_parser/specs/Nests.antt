@@ -1,10 +1,10 @@
 -- Events that are nested, as far as they were read.
 use Rattle.std.specs.Prelude.{◌≡◌, ◌||◌, ◌&&◌, not, List, [], ◌∷◌, ◌++◌, Bool, true, false, Some}
-use Rattle.event_defs.specs.Event.{Ev}
-use Rattle.event_defs.specs.Raw.{Raw}
-use Rattle.event_defs.specs.Names.{Names, resolved_event}
-use Rattle.event_defs.specs.Nested.{IsNested}
-use Rattle.event_defs.specs.Stream.{events_of}
+use Rattle.defs_event.specs.Event.{Ev}
+use Rattle.defs_event.specs.Raw.{Raw}
+use Rattle.defs_event.specs.Names.{Names, resolved_event}
+use Rattle.defs_event.specs.Nested.{IsNested}
+use Rattle.defs_event.specs.Stream.{events_of}
 use Rattle.yaml_parser.specs.Parsed.{Parsed, is_document_start, is_document_end}
 
 -- These events are a beginning of nested events.

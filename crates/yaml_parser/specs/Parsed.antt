@@ -1,10 +1,10 @@
 -- What clauses see of a parser.
 use Rattle.std.specs.Prelude.{◌||◌, ◌&&◌, not, is_some, ℕ, List, [], ◌∷◌, ◌++◌, Bool, true, false, Option, Some, None}
 use Rattle.std.specs.Bool.{beq}
-use Rattle.yaml_chars.specs.Place.{Place}
+use Rattle.defs_text.specs.Position.{Place}
 use Rattle.yaml_tokens.specs.Fault.{Fault}
 use Rattle.yaml_scanner.specs.Scanned.{Scanned}
-use Rattle.event_defs.specs.Event.{Ev}
+use Rattle.defs_event.specs.Event.{Ev}
 
 pub record Parsed : Type 0 where
   -- its scanner: the tokens that it handed out are those that the parser took from it

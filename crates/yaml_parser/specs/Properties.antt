@@ -1,14 +1,14 @@
 -- The properties of a node in the code, and those that were written.
 use Rattle.std.specs.Prelude.{◌≡◌, ℕ, List, Option, Some, None, option_map, is_some, Result}
-use Rattle.yaml_chars.specs.Place as chars
-use Rattle.yaml_chars.specs.Text.{string_chars}
-use Rattle.event_defs.specs.Event as defs
-use Rattle.event_defs.specs.Event.{Ev}
-use Rattle.event_defs.specs.Grammar as written
-use Rattle.event_defs.specs.Grammar.{anchor_of, tag_of}
-use Rattle.event_defs.specs.Names.{Names, number, with_anchor, perhaps_resolved}
-use Rattle.grammar_turns.specs.declared.place.Place.{Place}
-use Rattle.grammar_turns.specs.Goal as at
+use Rattle.defs_text.specs.Position as chars
+use Rattle.defs_text.specs.Text.{string_chars}
+use Rattle.defs_event.specs.Event as defs
+use Rattle.defs_event.specs.Event.{Ev}
+use Rattle.defs_event.specs.Grammar as written
+use Rattle.defs_event.specs.Grammar.{anchor_of, tag_of}
+use Rattle.defs_event.specs.Names.{Names, number, with_anchor, perhaps_resolved}
+use Rattle.model_parser.specs.declared.place.Place.{Place}
+use Rattle.model_parser.specs.Goal as at
 use Rattle.yaml_parser.specs.declared.event.Event.{Event}
 use Rattle.yaml_parser.specs.declared.node.Properties.{Properties}
 use Rattle.yaml_parser.specs.declared.tokens.Stop.{Stop}

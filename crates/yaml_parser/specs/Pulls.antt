@@ -1,12 +1,12 @@
 -- What the calls of a parser answer, and what they change.
 use Rattle.std.specs.Prelude.{◌≡◌, ◌≢◌, ◌||◌, ◌<◌, ◌≤◌, if◌then◌else◌, [], ◌∷◌, ◌++◌, true, false, Some, None, IsSome, IfSome, Result, Ok, Err}
 use Rattle.std.specs.Borrow.{Bor}
-use Rattle.yaml_chars.specs.Place.{Place}
+use Rattle.defs_text.specs.Position.{Place}
 use Rattle.yaml_tokens.specs.Fault.{Fault}
-use Rattle.event_defs.specs.Event.{Ev}
-use Rattle.event_defs.specs.PulledList.{Answer}
-use Rattle.event_defs.specs.PulledList as answer
-use Rattle.event_defs.specs.Stream.{events_of}
+use Rattle.defs_event.specs.Event.{Ev}
+use Rattle.defs_event.specs.PulledList.{Answer}
+use Rattle.defs_event.specs.PulledList as answer
+use Rattle.defs_event.specs.Stream.{events_of}
 use Rattle.yaml_parser.specs.declared.event.Event.{Event}
 use Rattle.yaml_parser.specs.Shown.{ev_of, placed}
 use Rattle.yaml_parser.specs.Parsed.{Parse, Parsed, parsed, is_stream_end, has_end, read}

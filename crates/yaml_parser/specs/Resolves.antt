@@ -1,11 +1,11 @@
 -- What the resolution of a tag comes to. A fault's place is the mark.
 use Rattle.std.specs.Prelude.{◌≡◌, ℕ, List, Some, None, Result, Ok, Err}
-use Rattle.yaml_chars.specs.Place.{Place}
+use Rattle.defs_text.specs.Position.{Place}
 use Rattle.yaml_tokens.specs.declared.problem.Fault.TheVariants.{OutOfMemory}
 use Rattle.yaml_tokens.specs.declared.problem.Fault.TheVariants as fault
 use Rattle.yaml_tokens.specs.declared.problem.Problem.TheVariants.{UndeclaredHandle}
-use Rattle.event_defs.specs.Event as defs
-use Rattle.event_defs.specs.Names.{Names, resolved, undeclared}
+use Rattle.defs_event.specs.Event as defs
+use Rattle.defs_event.specs.Names.{Names, resolved, undeclared}
 use Rattle.yaml_parser.specs.declared.event.Tag.{Tag}
 use Rattle.yaml_parser.specs.declared.tokens.Stop.{Stop}
 use Rattle.yaml_parser.specs.declared.tokens.Stop.TheVariants as stop

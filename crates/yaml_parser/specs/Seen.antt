@@ -1,6 +1,6 @@
 -- A fault as callers see it.
 use Rattle.std.specs.Prelude.{Option, unwrap_or}
-use Rattle.yaml_chars.specs.Place.{Place}
+use Rattle.defs_text.specs.Position.{Place}
 use Rattle.yaml_tokens.specs.Fault.{Fault}
 use Rattle.yaml_tokens.specs.Problem.{fault_of}
 use Rattle.yaml_tokens.specs.declared.problem.Fault.TheVariants as fault

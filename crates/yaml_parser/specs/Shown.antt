@@ -1,10 +1,10 @@
 -- The events of the code, as clauses see them.
 use Rattle.std.specs.Prelude.{List, Bool, true, false, Option, option_map, is_some, map}
-use Rattle.yaml_chars.specs.Place.{Place}
-use Rattle.yaml_chars.specs.Text.{string_chars}
+use Rattle.defs_text.specs.Position.{Place}
+use Rattle.defs_text.specs.Text.{string_chars}
 use Rattle.yaml_tokens.specs.Shown.{style_of}
-use Rattle.event_defs.specs.Event as defs
-use Rattle.event_defs.specs.Event.{Ev}
+use Rattle.defs_event.specs.Event as defs
+use Rattle.defs_event.specs.Event.{Ev}
 use Rattle.yaml_parser.specs.declared.event.Event.{Event}
 use Rattle.yaml_parser.specs.declared.event.Event.TheVariants as event
 use Rattle.yaml_parser.specs.declared.event.Tag.{Tag}

@@ -1,6 +1,6 @@
 -- How a parser's fields are seen.
 use Rattle.std.specs.Prelude.{ℕ, ◌+◌, Option, Some, None, option_map}
-use Rattle.yaml_chars.specs.Place.{Place}
+use Rattle.defs_text.specs.Position.{Place}
 use Rattle.yaml_tokens.specs.Fault.{Fault}
 use Rattle.yaml_tokens.specs.Problem.{fault_of}
 use Rattle.yaml_tokens.specs.declared.problem.Fault.TheVariants as fault

@@ -1,7 +1,7 @@
 -- A bound on the events that may still come: it falls with each event.
 use Rattle.std.specs.Prelude.{ℕ, ◌+◌, ◌*◌, List, [], ◌∷◌, Option, Some, None}
-use Rattle.grammar_turns.specs.declared.state.State.{State}
-use Rattle.grammar_turns.specs.declared.state.State.TheVariants as state
+use Rattle.model_parser.specs.declared.state.State.{State}
+use Rattle.model_parser.specs.declared.state.State.TheVariants as state
 use Rattle.yaml_parser.specs.declared.reader.Reader.{Reader}
 use Rattle.yaml_parser.specs.Ahead.{left}
 

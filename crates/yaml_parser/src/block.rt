@@ -1,6 +1,6 @@
 //! Block collections (YAML 1.2, section 8.2).
 ghost use Rattle.std.specs.Prelude.{◌≡◌, List, ◌+◌, ◌<◌, ◌≤◌, OnOk};
-ghost use Rattle.grammar_turns.specs.Goal as at;
+ghost use Rattle.model_parser.specs.Goal as at;
 ghost use Rattle.yaml_parser.specs.At.{Reads};
 ghost use Rattle.yaml_parser.specs.Work.{work};
 ghost use Rattle.yaml_parser.specs.Kinds.{IsOfKind};
@@ -8,7 +8,7 @@ ghost use Rattle.yaml_parser.specs.Kinds.{IsOfKind};
 use crate::event::Event;
 use crate::reader::{Answer, Reader};
 use crate::tokens::Stop;
-use grammar_turns::{Kind, Place, State};
+use model_parser::{Kind, Place, State};
 use yaml_tokens::{Fault, Problem};
 
 impl<T: Iterator<Item = char>> Reader<T> {

@@ -1,17 +1,17 @@
 //! The stream and its documents (YAML 1.2, chapter 9).
 ghost use Rattle.std.specs.Prelude.{◌≡◌, ◌≢◌, Bool, true, List, IfErr, ◌+◌, ◌<◌, ◌≤◌, OnOk, IfOk, IsSome};
-ghost use Rattle.grammar_turns.specs.Goal as at;
-ghost use Rattle.grammar_turns.specs.Kinds.{is_directive};
+ghost use Rattle.model_parser.specs.Goal as at;
+ghost use Rattle.model_parser.specs.Kinds.{is_directive};
 ghost use Rattle.yaml_parser.specs.At.{Reads, Carries, Fails};
 ghost use Rattle.yaml_parser.specs.Directing.{Directs, AreRead, DirectivesFail};
-ghost use Rattle.grammar_turns.specs.declared.kind.Kind.TheVariants as kind;
+ghost use Rattle.model_parser.specs.declared.kind.Kind.TheVariants as kind;
 ghost use Rattle.yaml_parser.specs.Work.{work};
 ghost use Rattle.yaml_parser.specs.Kinds.{IsOfKind};
 
 use crate::event::Event;
 use crate::reader::{Answer, Reader};
 use crate::tokens::Stop;
-use grammar_turns::{Kind, Place, State};
+use model_parser::{Kind, Place, State};
 use yaml_tokens::{Fault, Problem};
 
 impl<T: Iterator<Item = char>> Reader<T> {

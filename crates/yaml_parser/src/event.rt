@@ -1,7 +1,7 @@
 ghost use Rattle.std.specs.Prelude.{◌≡◌, [], true, is_some, IfOk, OnErr};
-ghost use Rattle.token_defs.specs.Token.{Style};
-ghost use Rattle.event_defs.specs.Event.{Ev};
-ghost use Rattle.yaml_chars.specs.Text.{string_chars};
+ghost use Rattle.defs_token.specs.Token.{Style};
+ghost use Rattle.defs_event.specs.Event.{Ev};
+ghost use Rattle.defs_text.specs.Text.{string_chars};
 ghost use Rattle.yaml_parser.specs.Shown.{ev_of, tag_of, perhaps_tag_of, keeps_text};
 
 use std::alloc::{AllocError, Global};

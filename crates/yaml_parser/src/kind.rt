@@ -1,8 +1,8 @@
 ghost use Rattle.std.specs.Prelude.{◌≡◌};
 ghost use Rattle.yaml_tokens.specs.Shown.{tok_of};
-ghost use Rattle.grammar_turns.specs.Kinds.{kind_of};
+ghost use Rattle.model_parser.specs.Kinds.{kind_of};
 
-use grammar_turns::Kind;
+use model_parser::Kind;
 use yaml_tokens::TokenType;
 
 /// What a token is, without its texts.

@@ -1,14 +1,14 @@
 ghost use Rattle.std.specs.Prelude.{◌≡◌, List, [], Bool, true, false, Some, None, option_map, string_bytes, if◌then◌else◌, bytes_eq, String, IfOk, IfErr, OnOk};
 ghost use Rattle.std.specs.BTreeMap.{get_by_text};
 ghost use Rattle.std.specs.declared.alloc.Global.{Global};
-ghost use Rattle.yaml_chars.specs.Text.{string_chars};
+ghost use Rattle.defs_text.specs.Text.{string_chars};
 ghost use Rattle.yaml_tokens.specs.declared.problem.Fault.TheVariants.{OutOfMemory};
 ghost use Rattle.yaml_tokens.specs.declared.problem.Fault.TheVariants as fault;
 ghost use Rattle.yaml_tokens.specs.declared.problem.Problem.TheVariants.{UnknownAnchor};
-ghost use Rattle.event_defs.specs.Names as defs;
-ghost use Rattle.event_defs.specs.Names.{at_document, no_names, number, with_anchor};
+ghost use Rattle.defs_event.specs.Names as defs;
+ghost use Rattle.defs_event.specs.Names.{at_document, no_names, number, with_anchor};
 ghost use Rattle.yaml_parser.specs.declared.tokens.Stop.TheVariants.{Own};
-ghost use Rattle.event_defs.specs.Raw.{Directive};
+ghost use Rattle.defs_event.specs.Raw.{Directive};
 ghost use Rattle.yaml_parser.specs.Named.{IsNamed, IsOwn, is_own, prefix_of};
 ghost use Rattle.yaml_parser.specs.Declares.{HasRead, Declares};
 ghost use Rattle.yaml_parser.specs.Resolves.{Resolves, IsUndeclared};

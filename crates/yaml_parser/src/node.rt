@@ -1,10 +1,10 @@
 //! Nodes: their properties, and what may stand after them (YAML 1.2, section 6.9).
 ghost use Rattle.std.specs.Prelude.{◌≡◌, false, Some, None, ◌+◌, ◌<◌, ◌≤◌, OnOk, IfOk, IfErr, IsSome, IfSome};
-ghost use Rattle.grammar_turns.specs.Goal as at;
-ghost use Rattle.event_defs.specs.Event.{Ev};
-ghost use Rattle.event_defs.specs.Names.{Names};
-ghost use Rattle.grammar_turns.specs.declared.place.Place.TheVariants as place;
-ghost use Rattle.grammar_turns.specs.Kinds.{begins_content};
+ghost use Rattle.model_parser.specs.Goal as at;
+ghost use Rattle.defs_event.specs.Event.{Ev};
+ghost use Rattle.defs_event.specs.Names.{Names};
+ghost use Rattle.model_parser.specs.declared.place.Place.TheVariants as place;
+ghost use Rattle.model_parser.specs.Kinds.{begins_content};
 ghost use Rattle.yaml_tokens.specs.declared.problem.Fault.TheVariants.{OutOfMemory};
 ghost use Rattle.yaml_parser.specs.declared.tokens.Stop.TheVariants.{Own};
 ghost use Rattle.yaml_parser.specs.Shown.{placed, perhaps_tag_of};
@@ -13,12 +13,12 @@ ghost use Rattle.yaml_parser.specs.Properties.{ReadsBehind, Registers};
 ghost use Rattle.yaml_parser.specs.At.{Reads};
 ghost use Rattle.yaml_parser.specs.Work.{work, owed};
 ghost use Rattle.yaml_parser.specs.Kinds.{IsOfKind, IsName};
-ghost use Rattle.grammar_turns.specs.declared.kind.Kind.TheVariants as kind;
+ghost use Rattle.model_parser.specs.declared.kind.Kind.TheVariants as kind;
 
 use crate::event::{Event, Tag};
 use crate::reader::{Answer, Reader};
 use crate::tokens::Stop;
-use grammar_turns::{Kind, Place, State};
+use model_parser::{Kind, Place, State};
 use yaml_chars::Marker;
 use yaml_tokens::{Fault, Problem};
 

@@ -1,10 +1,10 @@
 ghost use Rattle.std.specs.Prelude.{◌≡◌, ◌⊎◌, ◌^◌, ◌<◌, ◌≤◌, List, [], ◌∷◌, true, false, Some, None, Ok, Err, IfOk, IfErr, IfSome, OnOk};
 ghost use Rattle.std.specs.Iterator.{IsFinite, size};
 ghost use Rattle.yaml_scanner.specs.Scanned.{scanned};
-ghost use Rattle.grammar_turns.specs.declared.state.State.TheVariants.{StreamStart};
+ghost use Rattle.model_parser.specs.declared.state.State.TheVariants.{StreamStart};
 ghost use Rattle.yaml_parser.specs.Shown.{placed, ev_of};
-ghost use Rattle.yaml_chars.specs.Place.{Place};
-ghost use Rattle.event_defs.specs.Event.{Ev};
+ghost use Rattle.defs_text.specs.Position.{Place};
+ghost use Rattle.defs_event.specs.Event.{Ev};
 ghost use Rattle.yaml_parser.specs.Held.{IsHeld, Continues};
 ghost use Rattle.yaml_parser.specs.View.{fault_kept};
 

@@ -1,5 +1,5 @@
 ghost use Rattle.std.specs.Prelude.{Result};
-ghost use Rattle.event_defs.specs.Event.{Ev};
+ghost use Rattle.defs_event.specs.Event.{Ev};
 ghost use Rattle.yaml_tokens.specs.Fault.{Fault};
 ghost use Rattle.yaml_parser.specs.Shown.{ev_of};
 
@@ -20,7 +20,7 @@ pub trait EventReceiver {
 /// Takes the events that a parser pushes by [`load`](crate::Parser::load), with their places. Every [`EventReceiver`]
 /// is a `MarkedEventReceiver`.
 pub trait MarkedEventReceiver {
-    ghost use Rattle.yaml_chars.specs.Place.{Place};
+    ghost use Rattle.defs_text.specs.Position.{Place};
 
     // What one call does: the receiver before it, the event and its place, the result, and the receiver after it.
     ghost takes: { Self → Ev → Place → Result (Unit {0}) Fault → Self → Type 0 } = { λ _ _ _ _ _. Unit {0} };

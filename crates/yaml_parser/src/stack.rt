@@ -1,8 +1,8 @@
 ghost use Rattle.std.specs.Prelude.{◌≡◌, List, [], ◌∷◌, OnOk, OnErr, IfSome, IfNone};
-ghost use Rattle.grammar_turns.specs.declared.state.State.{State};
-ghost use Rattle.grammar_turns.specs.declared.state.State.TheVariants.{StreamStart};
+ghost use Rattle.model_parser.specs.declared.state.State.{State};
+ghost use Rattle.model_parser.specs.declared.state.State.TheVariants.{StreamStart};
 
-use grammar_turns::State;
+use model_parser::State;
 use std::alloc::{AllocError, Global};
 use std::marker::Model;
 
@@ -16,7 +16,7 @@ pub struct Stack {
 
 impl Model for Stack {
     ghost use Rattle.std.specs.Prelude.{List};
-    ghost use Rattle.grammar_turns.specs.declared.state.State.{State};
+    ghost use Rattle.model_parser.specs.declared.state.State.{State};
     ghost use Rattle.yaml_parser.specs.Stacked.{stacked};
 
     ghost Value = { List State };

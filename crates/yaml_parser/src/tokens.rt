@@ -1,16 +1,16 @@
 ghost use Rattle.std.specs.Prelude.{◌≡◌, ◌⊎◌, ◌+◌, ◌≤◌, List, [], ◌∷◌, ◌++◌, Some, None, IsSome, IfSome, IfOk, IfErr, OnOk};
 ghost use Rattle.yaml_scanner.specs.Scanned.{scanned};
-ghost use Rattle.token_defs.specs.Token.{Tok};
-ghost use Rattle.yaml_chars.specs.Text.{string_chars};
+ghost use Rattle.defs_token.specs.Token.{Tok};
+ghost use Rattle.defs_text.specs.Text.{string_chars};
 ghost use Rattle.yaml_tokens.specs.Shown.{tok_of, style_of};
 ghost use Rattle.yaml_parser.specs.Kinds.{IsOfKind, IsName};
 ghost use Rattle.yaml_parser.specs.Ahead.{left, Skips, SkipsOne};
 ghost use Rattle.yaml_parser.specs.Handed.{IsHanded, IsAwake};
 ghost use Rattle.yaml_parser.specs.declared.tokens.Missing.TheVariants.{Scan};
-ghost use Rattle.grammar_turns.specs.declared.kind.Kind.TheVariants as kind;
+ghost use Rattle.model_parser.specs.declared.kind.Kind.TheVariants as kind;
 
 use crate::kind::kind_of_token;
-use grammar_turns::Kind;
+use model_parser::Kind;
 use std::alloc::AllocError;
 use yaml_chars::Marker;
 use yaml_chars::history::History;

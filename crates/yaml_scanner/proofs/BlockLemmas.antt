@@ -1,21 +1,21 @@
 -- Lemmas about block collections, keys and values.
 use Rattle.std.proofs.Common.{◌≡◌, ◌≢◌, ℕ, List, [], ◌∷◌, Bool, true, false, not, ◌&&◌, ◌||◌, ◌==◌, refl, ap, ◌∙◌, Option, Some, None, Result, Ok, Err, slice_index}
 use Rattle.std.proofs.lemmas.Bool.{ne_eqb}
-use Rattle.yaml_chars.specs.Place.{Place}
+use Rattle.defs_text.specs.Position.{Place}
 use Rattle.yaml_chars.specs.Reading.{Reading, Reads, SamePlace, place_of, after_char}
 use Rattle.yaml_chars.proofs.ReadingLemmas.{Reads-then}
 use Rattle.yaml_tokens.specs.declared.problem.Fault.{Fault}
 use Rattle.yaml_tokens.specs.declared.problem.Fault.TheVariants.{At, OutOfMemory}
 use Rattle.yaml_tokens.specs.declared.problem.Problem.TheVariants as problem
-use Rattle.scalar_model.specs.declared.context.SkipTabs.{SkipTabs}
-use Rattle.scalar_model.specs.declared.context.Whitespace.{Whitespace}
-use Rattle.scalar_model.specs.Space.{space}
+use Rattle.model_lexers.specs.declared.context.SkipTabs.{SkipTabs}
+use Rattle.model_lexers.specs.declared.context.Whitespace.{Whitespace}
+use Rattle.model_lexers.specs.Space.{space}
 use Rattle.yaml_chars.specs.Class.{is_alpha, is_blank_or_breakz, is_break, is_flow}
-use Rattle.token_defs.specs.Token.{Tok}
-use Rattle.yaml_scalars.specs.Shown.{read}
-use Rattle.scan_model.specs.State.{Key, Held, State, ◌>>=◌, peek, put, in_flow, with_top, on_held, try_held, lexed, skip_indicator}
-use Rattle.scan_model.specs.Indents.{roll_indent, roll_one_col_indent}
-use Rattle.scan_model.specs.Block.{check_dash, roll_entry, check_key_space, check_behind_tab, check_value_space, begin_pair, insert_key, begin_keyless_pair, begin_keyless_mapping, begin_keyless_value}
+use Rattle.defs_token.specs.Token.{Tok}
+use Rattle.yaml_lexers.specs.Shown.{read}
+use Rattle.model_scanner.specs.State.{Key, Held, State, ◌>>=◌, peek, put, in_flow, with_top, on_held, try_held, lexed, skip_indicator}
+use Rattle.model_scanner.specs.Indents.{roll_indent, roll_one_col_indent}
+use Rattle.model_scanner.specs.Block.{check_dash, roll_entry, check_key_space, check_behind_tab, check_value_space, begin_pair, insert_key, begin_keyless_pair, begin_keyless_mapping, begin_keyless_value}
 use Rattle.yaml_scanner.specs.Blocks.{entry_level, pass_tab}
 use Rattle.yaml_scanner.specs.declared.fetcher.Fetcher.{Fetcher}
 use Rattle.yaml_scanner.specs.Shape.{held, state, Does, Fails}

@@ -2,22 +2,22 @@
 use Rattle.std.proofs.Common.{◌≡◌, ◌≢◌, ℕ, ◌+◌, ◌<◌, ◌≤◌, List, Bool, true, false, nat_lt, ◌==◌, refl, ap, sym, ◌∙◌, arith, Result, Ok, Err, slice_index}
 use Rattle.std.proofs.lemmas.Bool.Decides.{nat_tests}
 use Rattle.std.specs.Prelude.{OnOk, IfErr}
-use Rattle.yaml_chars.specs.Place.{Place}
+use Rattle.defs_text.specs.Position.{Place}
 use Rattle.yaml_chars.specs.Reading.{Sees}
-use Rattle.token_defs.specs.Token.{Tok}
+use Rattle.defs_token.specs.Token.{Tok}
 use Rattle.yaml_tokens.specs.declared.problem.Fault.{Fault}
 use Rattle.yaml_tokens.specs.declared.problem.Fault.TheVariants.{At}
 use Rattle.yaml_tokens.specs.declared.problem.Problem.{Problem}
 use Rattle.yaml_tokens.specs.declared.problem.Problem.TheVariants as problem
-use Rattle.scan_model.specs.declared.class.Class.{Class}
-use Rattle.scan_model.specs.declared.class.Class.TheVariants as class
-use Rattle.scan_model.specs.Class.{class_of}
-use Rattle.scan_model.specs.State.{Held, State, peek, in_flow}
-use Rattle.scan_model.specs.Document.{fetch_stream_start, begin_stream, fetch_stream_end, fetch_directive, fetch_document_marker, fetch_document_end, fetch_block_scalar, fetch_plain_scalar}
-use Rattle.scan_model.specs.Fetch.{comes_marker, token_by, fetch_token, fetch_indented, fetch_first_column, fetch_content, fetch_here, fetch_next, fetch}
-use Rattle.scan_model.specs.Keys.{stale}
-use Rattle.scan_model.specs.Indents.{unroll_indent}
-use Rattle.scan_model.specs.Space.{skip_to_next_token}
+use Rattle.model_scanner.specs.declared.class.Class.{Class}
+use Rattle.model_scanner.specs.declared.class.Class.TheVariants as class
+use Rattle.model_scanner.specs.Class.{class_of}
+use Rattle.model_scanner.specs.State.{Held, State, peek, in_flow}
+use Rattle.model_scanner.specs.Document.{fetch_stream_start, begin_stream, fetch_stream_end, fetch_directive, fetch_document_marker, fetch_document_end, fetch_block_scalar, fetch_plain_scalar}
+use Rattle.model_scanner.specs.Fetch.{comes_marker, token_by, fetch_token, fetch_indented, fetch_first_column, fetch_content, fetch_here, fetch_next, fetch}
+use Rattle.model_scanner.specs.Keys.{stale}
+use Rattle.model_scanner.specs.Indents.{unroll_indent}
+use Rattle.model_scanner.specs.Space.{skip_to_next_token}
 use Rattle.yaml_scanner.specs.declared.fetcher.Fetcher.{Fetcher}
 use Rattle.yaml_scanner.specs.Shape.{held, state, Does, Fails}
 use Rattle.yaml_scanner.specs.Steps.{fetch_bar, scalar_by}

@@ -5,7 +5,7 @@ use Rattle.yaml_chars.specs.Reading.{Reading, Reads, SamePlace, place_of}
 use Rattle.yaml_chars.proofs.ReadingLemmas.{Reads-then}
 use Rattle.yaml_tokens.specs.declared.problem.Fault.{Fault}
 use Rattle.yaml_tokens.specs.declared.problem.Fault.TheVariants.{OutOfMemory}
-use Rattle.scan_model.specs.State.{Held, State}
+use Rattle.model_scanner.specs.State.{Held, State}
 use Rattle.yaml_scanner.specs.declared.fetcher.Fetcher.{Fetcher}
 use Rattle.yaml_scanner.specs.Shape.{state, Does, Fails}
 

@@ -1,30 +1,30 @@
 -- Lemmas about the choice of the next token.
 use Rattle.std.proofs.Common.{◌≡◌, ℕ, List, [], ◌∷◌, Bool, true, false, ◌==◌, ◌&&◌, refl, ap, sym, ◌∙◌, Result, Ok, Err, slice_index}
 use Rattle.std.specs.Prelude.{OnOk, IfErr}
-use Rattle.yaml_chars.specs.Place.{Place}
+use Rattle.defs_text.specs.Position.{Place}
 use Rattle.yaml_chars.specs.Reading.{Reading, Reads, Sees, SamePlace}
 use Rattle.yaml_chars.proofs.ReadingLemmas.{Reads-then, Reads-see, Reads-saw}
 use Rattle.yaml_tokens.specs.declared.problem.Fault.{Fault}
 use Rattle.yaml_tokens.specs.declared.problem.Fault.TheVariants.{At}
 use Rattle.yaml_tokens.specs.declared.problem.Problem.TheVariants as problem
-use Rattle.scalar_model.specs.declared.context.SkipTabs.{SkipTabs}
-use Rattle.scalar_model.specs.declared.context.SkipTabs.TheVariants.{Yes}
-use Rattle.scalar_model.specs.declared.context.Whitespace.{Whitespace}
-use Rattle.scalar_model.specs.Space.{space}
-use Rattle.scan_model.specs.State.{Held, State, peek, in_flow}
-use Rattle.scan_model.specs.Space.{skip_spaces}
-use Rattle.scan_model.specs.Document.{fetch_document_marker, check_document_end, fetch_document_end, context, quoted_style, adjacent_here, may_follow_quoted, check_behind_quoted, fetch_flow_scalar}
+use Rattle.model_lexers.specs.declared.context.SkipTabs.{SkipTabs}
+use Rattle.model_lexers.specs.declared.context.SkipTabs.TheVariants.{Yes}
+use Rattle.model_lexers.specs.declared.context.Whitespace.{Whitespace}
+use Rattle.model_lexers.specs.Space.{space}
+use Rattle.model_scanner.specs.State.{Held, State, peek, in_flow}
+use Rattle.model_scanner.specs.Space.{skip_spaces}
+use Rattle.model_scanner.specs.Document.{fetch_document_marker, check_document_end, fetch_document_end, context, quoted_style, adjacent_here, may_follow_quoted, check_behind_quoted, fetch_flow_scalar}
 use Rattle.yaml_chars.specs.Class.{is_breakz}
-use Rattle.token_defs.specs.Token.{Tok, Style}
-use Rattle.scalar_model.specs.declared.context.Context.{Context}
-use Rattle.scalar_model.specs.Quoted.{quoted}
-use Rattle.scan_model.specs.State.{◌>>=◌, on_held, push}
-use Rattle.scan_model.specs.Keys.{save_simple_key}
-use Rattle.scan_model.specs.Space.{skip_to_next_token}
+use Rattle.defs_token.specs.Token.{Tok, Style}
+use Rattle.model_lexers.specs.declared.context.Context.{Context}
+use Rattle.model_lexers.specs.Quoted.{quoted}
+use Rattle.model_scanner.specs.State.{◌>>=◌, on_held, push}
+use Rattle.model_scanner.specs.Keys.{save_simple_key}
+use Rattle.model_scanner.specs.Space.{skip_to_next_token}
 use Rattle.yaml_scanner.specs.Steps.{end_quoted}
 use Rattle.yaml_scanner.proofs.DoesLemmas.{Reads-along, Reads-map, Reads-none, same_place}
 use Rattle.yaml_chars.specs.Class.{is_blank_or_breakz}
-use Rattle.scan_model.specs.Fetch.{comes_marker}
+use Rattle.model_scanner.specs.Fetch.{comes_marker}
 use Rattle.yaml_scanner.specs.declared.fetcher.Fetcher.{Fetcher}
 use Rattle.yaml_scanner.specs.Shape.{held, state, Does, Fails}
 

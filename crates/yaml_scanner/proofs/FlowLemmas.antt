@@ -1,20 +1,20 @@
 -- Lemmas about flow collections.
 use Rattle.std.proofs.Common.{◌≡◌, ℕ, ◌<◌, ◌≤◌, List, [], ◌∷◌, Bool, true, false, nat_le, refl, sym, ◌∙◌, arith, Option, Some, None, Ok, Err, length}
 use Rattle.std.proofs.lemmas.Bool.Decides.{nat_tests}
-use Rattle.yaml_chars.specs.Place.{Place}
+use Rattle.defs_text.specs.Position.{Place}
 use Rattle.yaml_chars.specs.Reading.{after_char}
-use Rattle.token_defs.specs.Token.{Tok}
+use Rattle.defs_token.specs.Token.{Tok}
 use Rattle.yaml_tokens.specs.declared.problem.Fault.{Fault}
 use Rattle.yaml_tokens.specs.declared.problem.Fault.TheVariants.{At}
 use Rattle.yaml_tokens.specs.declared.problem.Problem.TheVariants as problem
-use Rattle.scalar_model.specs.declared.context.SkipTabs.TheVariants.{Yes}
-use Rattle.scan_model.specs.declared.level.FlowLevel.{FlowLevel}
-use Rattle.scan_model.specs.declared.level.FlowLevel.TheVariants.{Mapping, Entry, Keyed, Pair}
-use Rattle.scan_model.specs.State.{Key, Held, in_flow, push, pop, top, with_top}
-use Rattle.scan_model.specs.Keys.{save_simple_key, remove_simple_key}
-use Rattle.scan_model.specs.Indents.{roll_one_col_indent}
-use Rattle.scan_model.specs.Space.{skip_spaces}
-use Rattle.scan_model.specs.Flow.{increase_flow_level, allow_key, begin_flow, pass_indicator, end_pair, end_flow_pair, decrease_flow_level, adjacent_in_flow, end_flow, end_entry, fetch_flow_collection_start, fetch_flow_collection_end, fetch_flow_entry}
+use Rattle.model_lexers.specs.declared.context.SkipTabs.TheVariants.{Yes}
+use Rattle.model_scanner.specs.declared.level.FlowLevel.{FlowLevel}
+use Rattle.model_scanner.specs.declared.level.FlowLevel.TheVariants.{Mapping, Entry, Keyed, Pair}
+use Rattle.model_scanner.specs.State.{Key, Held, in_flow, push, pop, top, with_top}
+use Rattle.model_scanner.specs.Keys.{save_simple_key, remove_simple_key}
+use Rattle.model_scanner.specs.Indents.{roll_one_col_indent}
+use Rattle.model_scanner.specs.Space.{skip_spaces}
+use Rattle.model_scanner.specs.Flow.{increase_flow_level, allow_key, begin_flow, pass_indicator, end_pair, end_flow_pair, decrease_flow_level, adjacent_in_flow, end_flow, end_entry, fetch_flow_collection_start, fetch_flow_collection_end, fetch_flow_entry}
 use Rattle.yaml_scanner.specs.declared.fetcher.Fetcher.{Fetcher}
 use Rattle.yaml_scanner.specs.Shape.{state}
 

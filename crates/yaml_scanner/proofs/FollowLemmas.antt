@@ -5,16 +5,16 @@ use Rattle.std.specs.List.{list_any}
 use Rattle.std.proofs.lemmas.Bool.{eqb-true}
 use Rattle.std.proofs.lemmas.List.{take-append-drop, length-take}
 use Rattle.yaml_chars.proofs.ReadingLemmas.{Possible-taken}
-use Rattle.token_defs.specs.Token.{Tok, Token}
-use Rattle.yaml_chars.specs.Place.{Place}
+use Rattle.defs_token.specs.Token.{Tok, Token}
+use Rattle.defs_text.specs.Position.{Place}
 use Rattle.yaml_tokens.specs.Problem.{fault_of}
 use Rattle.yaml_tokens.specs.declared.problem.Fault.{Fault}
 use Rattle.yaml_tokens.specs.declared.problem.Fault.TheVariants.{At, OutOfMemory}
-use Rattle.scan_model.specs.Fetch.{fetch}
-use Rattle.scan_model.specs.Run.{Reaches, here, HasTokens, IsRefused, start, nothing_held}
-use Rattle.scan_model.proofs.Runs.{one_more, run_to_end, one_list, one_fault, not_refused}
-use Rattle.scan_model.proofs.Given.{Stands, KeysFrom, reached}
-use Rattle.scan_model.proofs.Ends.{end_is_last}
+use Rattle.model_scanner.specs.Fetch.{fetch}
+use Rattle.model_scanner.specs.Run.{Reaches, here, HasTokens, IsRefused, start, nothing_held}
+use Rattle.model_scanner.proofs.Runs.{one_more, run_to_end, one_list, one_fault, not_refused}
+use Rattle.model_scanner.proofs.Given.{Stands, KeysFrom, reached}
+use Rattle.model_scanner.proofs.Ends.{end_is_last}
 use Rattle.yaml_scanner.specs.declared.fetcher.Fetcher.{Fetcher}
 use Rattle.yaml_scanner.specs.declared.fetcher.Kept.{Kept}
 use Rattle.yaml_scanner.specs.declared.keys.SimpleKey.{SimpleKey}
@@ -28,12 +28,12 @@ use Rattle.yaml_scanner.proofs.GivenLemmas.{lowered_seen}
 use Rattle.yaml_scanner.proofs.WhereLemmas.{in_text, at_end, not_started, has_started}
 use Rattle.yaml_scanner.proofs.QueueLemmas.{has_end_append}
 use Rattle.yaml_chars.specs.Reading.{HasNoNul}
-use Rattle.scalar_defs.specs.Classes.{is_nul}
-use Rattle.cut_defs.specs.Cut.{IsCut, IsCutOfBeginning, tokens_of, end_token}
-use Rattle.scan_scalars.specs.PlainEnds.{has_no_nul}
-use Rattle.scan_cut.proofs.Fetched.{tokens_are_cut}
-use Rattle.scan_cut.proofs.BlameFetch.{faults_stand}
-use Rattle.scan_cut.proofs.Beginnings.{first_tokens_are_cut}
+use Rattle.defs_text.specs.Classes.{is_nul}
+use Rattle.defs_token.specs.Cut.{IsCut, IsCutOfBeginning, tokens_of, end_token}
+use Rattle.proof_lexers.specs.PlainEnds.{has_no_nul}
+use Rattle.proof_cut.proofs.Fetched.{tokens_are_cut}
+use Rattle.proof_cut.proofs.Faults.Fetches.{faults_stand}
+use Rattle.proof_cut.proofs.Beginnings.{first_tokens_are_cut}
 
 -- before a text
 pub starts : {T : Type 0} (x : Fetcher T) → held x ≡ nothing_held → x.window.at ≡ 0 → x.kept ≡ None → handed x.tokens ≡ [] → x.tokens.over ≡ false → Follows x

@@ -2,15 +2,15 @@
 use Rattle.std.proofs.Common.{◌≡◌, ℕ, ◌+◌, ◌<◌, ◌≤◌, List, [], ◌∷◌, Bool, true, false, not, nat_lt, nat_le, refl, ap, sym, ◌∙◌, arith, if◌then◌else◌, Option, Some, None, Ok, Err, length}
 use Rattle.std.proofs.lemmas.Bool.Decides.{nat_tests}
 use Rattle.std.specs.Prelude.{MatchOption}
-use Rattle.yaml_chars.specs.Place.{Place}
-use Rattle.token_defs.specs.Token.{Token, Tok}
+use Rattle.defs_text.specs.Position.{Place}
+use Rattle.defs_token.specs.Token.{Token, Tok}
 use Rattle.yaml_tokens.specs.declared.problem.Fault.{Fault}
 use Rattle.yaml_tokens.specs.declared.problem.Fault.TheVariants.{At}
 use Rattle.yaml_tokens.specs.declared.problem.Problem.TheVariants as problem
-use Rattle.scan_model.specs.declared.level.Indent.{Indent}
-use Rattle.scan_model.specs.State.{Key, Held, in_flow, token, with_top}
-use Rattle.scan_model.specs.Keys.{must_be_key, save_simple_key, remove_simple_key, stale, drop_stale, is_required, top_key}
-use Rattle.scan_model.specs.Indents.{level, placed, drop_open, drop_open_level, deepen, roll_indent, in_block, roll_one_col_indent, Levels, with_levels, end_level, unrolled, unroll_indent, without_open, unroll_non_block_indents}
+use Rattle.model_scanner.specs.declared.level.Indent.{Indent}
+use Rattle.model_scanner.specs.State.{Key, Held, in_flow, token, with_top}
+use Rattle.model_scanner.specs.Keys.{must_be_key, save_simple_key, remove_simple_key, stale, drop_stale, is_required, top_key}
+use Rattle.model_scanner.specs.Indents.{level, placed, drop_open, drop_open_level, deepen, roll_indent, in_block, roll_one_col_indent, Levels, with_levels, end_level, unrolled, unroll_indent, without_open, unroll_non_block_indents}
 use Rattle.yaml_scanner.specs.Levels.{Columns, ends_open}
 
 not_less : (m n : ℕ) → n ≤ m → nat_lt m n ≡ false

@@ -3,11 +3,11 @@ use Rattle.std.proofs.Common.{◌≡◌, ℕ, List, [], ◌∷◌, ◌++◌, rev
 use Rattle.std.specs.List.{list_any}
 use Rattle.std.proofs.lemmas.List.{reverse-append, map-append}
 use Rattle.std.proofs.Common.{Ok, Err, if◌then◌else◌}
-use Rattle.yaml_chars.specs.Place.{Place}
+use Rattle.defs_text.specs.Position.{Place}
 use Rattle.yaml_tokens.specs.declared.problem.Fault.TheVariants.{At}
 use Rattle.yaml_tokens.specs.declared.problem.Problem.TheVariants as problem
-use Rattle.scan_model.specs.State.{pop, with_top}
-use Rattle.scan_model.specs.Keys.{is_far, is_overdue, still, drop_stale, is_required, has_required, cleared, top_key}
+use Rattle.model_scanner.specs.State.{pop, with_top}
+use Rattle.model_scanner.specs.Keys.{is_far, is_overdue, still, drop_stale, is_required, has_required, cleared, top_key}
 use Rattle.yaml_scanner.specs.declared.keys.SimpleKey.{SimpleKey}
 use Rattle.yaml_scanner.specs.SimpleKeys.{key_of, seen, still_simple, no_simple, top_simple}
 use Rattle.yaml_scanner.proofs.StackLemmas as stack

@@ -1,8 +1,8 @@
 -- Lemmas about levels of indentation.
 use Rattle.std.proofs.Common.{◌≡◌, ℕ, ◌+◌, ◌^◌, ◌<◌, ◌≤◌, List, [], ◌∷◌, Bool, true, false, not, refl, arith, if◌then◌else◌}
-use Rattle.scan_model.specs.declared.level.Indent.{Indent}
-use Rattle.scan_model.specs.Keys.{top_needs_block_end}
-use Rattle.scan_model.specs.Indents.{level}
+use Rattle.model_scanner.specs.declared.level.Indent.{Indent}
+use Rattle.model_scanner.specs.Keys.{top_needs_block_end}
+use Rattle.model_scanner.specs.Indents.{level}
 use Rattle.yaml_scanner.specs.Levels.{ends_open, AreSmall}
 
 deep : (b : Bool) (i : ℕ) → i ≤ (if b then 2 ^ 63 + 1 else 2 ^ 63) → i ≤ 2 ^ 63 + 1

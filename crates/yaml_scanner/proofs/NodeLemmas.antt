@@ -1,24 +1,24 @@
 -- Lemmas about directives, anchors and tags.
 use Rattle.std.proofs.Common.{◌≡◌, ℕ, ◌+◌, List, Bool, true, false, refl, ap, sym, ◌∙◌, Ok, Err}
-use Rattle.yaml_chars.specs.Place.{Place}
-use Rattle.token_defs.specs.Token.{Tok, Style}
-use Rattle.scalar_model.specs.declared.context.Context.{Context}
-use Rattle.scalar_model.specs.Plain.{plain}
-use Rattle.scalar_model.specs.Block.{block}
+use Rattle.defs_text.specs.Position.{Place}
+use Rattle.defs_token.specs.Token.{Tok, Style}
+use Rattle.model_lexers.specs.declared.context.Context.{Context}
+use Rattle.model_lexers.specs.Plain.{plain}
+use Rattle.model_lexers.specs.Block.{block}
 use Rattle.yaml_tokens.specs.declared.problem.Fault.{Fault}
-use Rattle.scalar_model.specs.Anchor.{anchor_name}
-use Rattle.scalar_model.specs.Directive.{directive}
-use Rattle.scalar_model.specs.Tag.{tag}
+use Rattle.model_lexers.specs.Anchor.{anchor_name}
+use Rattle.model_lexers.specs.Directive.{directive}
+use Rattle.model_lexers.specs.Tag.{tag}
 use Rattle.std.proofs.Common.{Option, if◌then◌else◌, ◌==◌}
 use Rattle.yaml_chars.specs.Reading.{Reading, after_line, place_of}
 use Rattle.yaml_tokens.specs.declared.problem.Fault.TheVariants.{At}
 use Rattle.yaml_tokens.specs.declared.problem.Problem.TheVariants as problem
-use Rattle.scan_model.specs.Keys.{has_required, cleared}
-use Rattle.scan_model.specs.State.{Key, Held, in_flow, push, behind}
-use Rattle.scalar_model.specs.Machine.{past}
-use Rattle.scan_model.specs.Keys.{save_simple_key, remove_simple_key}
-use Rattle.scan_model.specs.Indents.{unroll_indent, unroll_non_block_indents}
-use Rattle.scan_model.specs.Document.{next_line, fetch_stream_end, fetch_document_marker, begin_line, anchor_token, block_style, context, fetch_directive, fetch_anchor, fetch_tag, fetch_block_scalar, fetch_plain_scalar}
+use Rattle.model_scanner.specs.Keys.{has_required, cleared}
+use Rattle.model_scanner.specs.State.{Key, Held, in_flow, push, behind}
+use Rattle.model_lexers.specs.Machine.{past}
+use Rattle.model_scanner.specs.Keys.{save_simple_key, remove_simple_key}
+use Rattle.model_scanner.specs.Indents.{unroll_indent, unroll_non_block_indents}
+use Rattle.model_scanner.specs.Document.{next_line, fetch_stream_end, fetch_document_marker, begin_line, anchor_token, block_style, context, fetch_directive, fetch_anchor, fetch_tag, fetch_block_scalar, fetch_plain_scalar}
 
 pub line_begun : (h u v : Held) → u ≡ unroll_indent 0 h → remove_simple_key u ≡ Ok v → begin_line h ≡ Ok (record v { key_allowed = false })
 unfolding begin_line

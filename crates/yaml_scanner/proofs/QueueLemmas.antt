@@ -7,10 +7,10 @@ use Rattle.std.proofs.lemmas.Bool.{cases_lt}
 use Rattle.yaml_tokens.specs.declared.token.Token.{Token}
 use Rattle.yaml_tokens.specs.Shown.{shown, tok_of}
 use Rattle.yaml_scanner.specs.Tokens.{is_end, has_end, end_at}
-use Rattle.yaml_chars.specs.Place.{Place}
-use Rattle.token_defs.specs.Token as seen
+use Rattle.defs_text.specs.Position.{Place}
+use Rattle.defs_token.specs.Token as seen
 use Rattle.std.proofs.Common.{Option, None}
-use Rattle.scan_model.specs.Block.{property_place, last_property}
+use Rattle.model_scanner.specs.Block.{property_place, last_property}
 
 length_shown : (w : List Token) → length (map shown w) ≡ length w
 length_shown [] = refl

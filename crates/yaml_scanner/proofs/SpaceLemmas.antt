@@ -1,14 +1,14 @@
 -- Lemmas about what stands between two tokens.
 use Rattle.std.proofs.Common.{◌≡◌, ℕ, List, [], ◌∷◌, Bool, true, false, not, ◌&&◌, ◌||◌, ◌==◌, refl, ap, ◌∙◌, if◌then◌else◌, Ok, Err, slice_index}
 use Rattle.std.proofs.lemmas.Bool.{eqb-true}
-use Rattle.yaml_chars.specs.Place.{Place}
+use Rattle.defs_text.specs.Position.{Place}
 use Rattle.yaml_chars.specs.Class.{is_break, is_blank}
 use Rattle.yaml_tokens.specs.declared.problem.Fault.TheVariants.{At}
 use Rattle.yaml_tokens.specs.declared.problem.Problem.TheVariants as problem
-use Rattle.scalar_model.specs.Machine.{Read, past, past_break}
-use Rattle.scalar_model.specs.Space as lex
-use Rattle.scan_model.specs.State.{Held, in_flow, moved}
-use Rattle.scan_model.specs.Space.{between, comment, tab_line, is_before_indent, skip, white}
+use Rattle.model_lexers.specs.Machine.{Read, past, past_break}
+use Rattle.model_lexers.specs.Space as lex
+use Rattle.model_scanner.specs.State.{Held, in_flow, moved}
+use Rattle.model_scanner.specs.Space.{between, comment, tab_line, is_before_indent, skip, white}
 
 -- behind a line break
 abbrev broken : Held → Place → Held

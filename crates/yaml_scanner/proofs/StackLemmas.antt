@@ -3,8 +3,8 @@ use Rattle.std.proofs.Common.{◌≡◌, ◌-◌, List, [], ◌∷◌, ◌++◌,
 use Rattle.std.proofs.lemmas.List.{reverse-append, reverse-reverse, length-reverse}
 use Rattle.std.proofs.lemmas.Grind.{common_steps, elements}
 use Rattle.std.proofs.lemmas.Bool.{ne_eqb}
-use Rattle.scan_model.specs.State.{top, with_top}
-use Rattle.yaml_chars.specs.Text.{is_nil}
+use Rattle.model_scanner.specs.State.{top, with_top}
+use Rattle.defs_text.specs.Text.{is_nil}
 
 pub pushed : {A : Type 0} (xs ys : List A) (x : A) → ys ≡ xs ++ x ∷ [] → reverse ys ≡ x ∷ reverse xs
 pushed xs ys x e = ap reverse e ∙ reverse-append xs (x ∷ [])

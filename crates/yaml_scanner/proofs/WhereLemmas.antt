@@ -1,14 +1,14 @@
 -- Where the scanner stands in a text, and whether it met the stream's start.
 use Rattle.std.proofs.Common.{◌≡◌, ℕ, zero, suc, ◌+◌, ◌-◌, ◌<◌, List, [], ◌∷◌, Bool, true, false, refl, ap, sym, ◌∙◌, arith, None, length, take, drop}
 use Rattle.std.proofs.lemmas.List.{length-take}
-use Rattle.token_defs.specs.Token.{Token}
+use Rattle.defs_token.specs.Token.{Token}
 use Rattle.yaml_chars.specs.Reading.{place_of}
-use Rattle.yaml_chars.specs.Text.{is_nil}
-use Rattle.cut_defs.specs.Text.{first_place, place_behind}
-use Rattle.scan_model.specs.Document.{next_line}
-use Rattle.scan_scalars.specs.PlainEnds.{has_no_nul}
-use Rattle.scan_cut.specs.Places.{IsPlaceIn}
-use Rattle.scan_cut.proofs.Reached.{run_is_where}
+use Rattle.defs_text.specs.Text.{is_nil}
+use Rattle.defs_token.specs.Text.{first_place, place_behind}
+use Rattle.model_scanner.specs.Document.{next_line}
+use Rattle.proof_lexers.specs.PlainEnds.{has_no_nul}
+use Rattle.proof_cut.specs.Places.{IsPlaceIn}
+use Rattle.proof_cut.proofs.Reached.{run_is_where}
 use Rattle.yaml_scanner.specs.declared.fetcher.Fetcher.{Fetcher}
 use Rattle.yaml_scanner.specs.Shape.{state}
 use Rattle.yaml_scanner.specs.Tokens.{handed, waiting}

@@ -1,14 +1,14 @@
 -- Parts of the model's functions on block collections, as the code has them.
 use Rattle.std.specs.Prelude.{true, Result, Ok}
-use Rattle.token_defs.specs.Token.{Tok}
+use Rattle.defs_token.specs.Token.{Tok}
 use Rattle.yaml_tokens.specs.declared.problem.Fault.{Fault}
-use Rattle.scalar_model.specs.declared.context.SkipTabs.TheVariants.{Yes, No}
-use Rattle.scalar_model.specs.Space.{space}
-use Rattle.scan_model.specs.State.{Held, State, ◌>>=◌, push, on_held, try_held, lexed, skip_indicator}
-use Rattle.scan_model.specs.Keys.{remove_simple_key}
-use Rattle.scan_model.specs.Space.{skip_spaces, skip_yaml_whitespace}
-use Rattle.scan_model.specs.Flow.{allow_key}
-use Rattle.scan_model.specs.Block.{check_dash, roll_entry, check_behind_tab}
+use Rattle.model_lexers.specs.declared.context.SkipTabs.TheVariants.{Yes, No}
+use Rattle.model_lexers.specs.Space.{space}
+use Rattle.model_scanner.specs.State.{Held, State, ◌>>=◌, push, on_held, try_held, lexed, skip_indicator}
+use Rattle.model_scanner.specs.Keys.{remove_simple_key}
+use Rattle.model_scanner.specs.Space.{skip_spaces, skip_yaml_whitespace}
+use Rattle.model_scanner.specs.Flow.{allow_key}
+use Rattle.model_scanner.specs.Block.{check_dash, roll_entry, check_behind_tab}
 
 -- after a `-` that was passed
 abbrev pub pass_dash : State → Result State Fault

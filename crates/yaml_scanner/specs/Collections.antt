@@ -1,7 +1,7 @@
 -- Block and flow collections, by their kind.
-use Rattle.token_defs.specs.Token.{Tok}
-use Rattle.scan_model.specs.declared.level.FlowLevel.{FlowLevel}
-use Rattle.scan_model.specs.declared.level.FlowLevel.TheVariants as level
+use Rattle.defs_token.specs.Token.{Tok}
+use Rattle.model_scanner.specs.declared.level.FlowLevel.{FlowLevel}
+use Rattle.model_scanner.specs.declared.level.FlowLevel.TheVariants as level
 use Rattle.yaml_scanner.specs.declared.collection.Collection.{Collection}
 use Rattle.yaml_scanner.specs.declared.collection.Collection.TheVariants.{Sequence, Mapping}
 

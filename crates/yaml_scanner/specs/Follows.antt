@@ -1,11 +1,11 @@
 -- What was fetched and handed out, against the model's runs over each text that is still possible.
 use Rattle.std.specs.Prelude.{◌≡◌, ◌≢◌, ℕ, List, ◌++◌, drop, Bool, true, false, None, IfSome}
-use Rattle.yaml_chars.specs.Place.{Place}
+use Rattle.defs_text.specs.Position.{Place}
 use Rattle.yaml_chars.specs.Reading.{Possible, place_of}
-use Rattle.token_defs.specs.Token.{Token}
+use Rattle.defs_token.specs.Token.{Token}
 use Rattle.yaml_tokens.specs.declared.problem.Fault.TheVariants.{OutOfMemory}
-use Rattle.scan_model.specs.State.{State}
-use Rattle.scan_model.specs.Run.{Reaches, HasTokens, IsRefused, start}
+use Rattle.model_scanner.specs.State.{State}
+use Rattle.model_scanner.specs.Run.{Reaches, HasTokens, IsRefused, start}
 use Rattle.yaml_scanner.specs.declared.fetcher.Fetcher.{Fetcher}
 use Rattle.yaml_scanner.specs.Tokens.{handed, has_end}
 use Rattle.yaml_scanner.specs.Shape.{state}

@@ -1,6 +1,6 @@
 -- Levels of indentation, as clauses see them.
 use Rattle.std.specs.Prelude.{ℕ, ◌+◌, ◌≤◌, ◌^◌, List, [], ◌∷◌, Bool, false, not, if◌then◌else◌}
-use Rattle.scan_model.specs.declared.level.Indent.{Indent}
+use Rattle.model_scanner.specs.declared.level.Indent.{Indent}
 
 -- the innermost column, and the levels, the innermost first
 pub record Columns : Type 0 where

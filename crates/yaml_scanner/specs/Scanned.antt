@@ -1,17 +1,17 @@
 -- What clauses see of a scanner.
 use Rattle.std.specs.Prelude.{◌≡◌, ℕ, ◌+◌, ◌<◌, List, [], ◌∷◌, ◌++◌, length, take, drop, Bool, true, false, Option, Some, None, IfSome, option_map, codes}
-use Rattle.yaml_chars.specs.Place.{Place}
+use Rattle.defs_text.specs.Position.{Place}
 use Rattle.yaml_chars.specs.Reading.{place_of, HasNoNul}
-use Rattle.token_defs.specs.Token.{Token}
+use Rattle.defs_token.specs.Token.{Token}
 use Rattle.yaml_tokens.specs.Fault.{Fault}
 use Rattle.yaml_tokens.specs.Problem.{fault_of}
 use Rattle.yaml_tokens.specs.declared.problem.Fault as code
-use Rattle.cut_defs.specs.Cut.{IsCut, IsCutOfBeginning}
-use Rattle.cut_defs.specs.Text.{first_place, place_behind}
-use Rattle.scan_model.specs.Document.{next_line}
-use Rattle.scan_model.specs.Run.{HasTokens, IsRefused}
-use Rattle.scan_cut.specs.Faults.{IsThere, is_shown}
-use Rattle.scan_cut.specs.Places.{IsPlaceIn}
+use Rattle.defs_token.specs.Cut.{IsCut, IsCutOfBeginning}
+use Rattle.defs_token.specs.Text.{first_place, place_behind}
+use Rattle.model_scanner.specs.Document.{next_line}
+use Rattle.model_scanner.specs.Run.{HasTokens, IsRefused}
+use Rattle.proof_cut.specs.Faults.{IsThere, is_shown}
+use Rattle.proof_cut.specs.Places.{IsPlaceIn}
 use Rattle.yaml_scanner.specs.declared.fetcher.Fetcher.{Fetcher}
 use Rattle.yaml_scanner.specs.declared.fetcher.Kept.{Kept}
 use Rattle.yaml_scanner.specs.Follows.{Begins, IsReached}

@@ -1,8 +1,8 @@
 -- What may be a key, as the model sees it. In the code a place counts from the first token that waits.
 use Rattle.std.specs.Prelude.{ℕ, ◌+◌, ◌-◌, List, [], ◌∷◌, Bool, false, ◌==◌, Option, Some, None, map, if◌then◌else◌}
-use Rattle.yaml_chars.specs.Place.{Place}
-use Rattle.scan_model.specs.State.{Key}
-use Rattle.scan_model.specs.Keys.{is_far}
+use Rattle.defs_text.specs.Position.{Place}
+use Rattle.model_scanner.specs.State.{Key}
+use Rattle.model_scanner.specs.Keys.{is_far}
 use Rattle.yaml_scanner.specs.declared.keys.SimpleKey.{SimpleKey}
 
 -- a key after so many tokens that were handed out

@@ -3,11 +3,11 @@ use Rattle.std.specs.Prelude.{ℕ, Bool, true, false, if◌then◌else◌, Resul
 use Rattle.yaml_tokens.specs.declared.problem.Fault.{Fault}
 use Rattle.yaml_tokens.specs.declared.problem.Fault.TheVariants.{At}
 use Rattle.yaml_tokens.specs.declared.problem.Problem.TheVariants as problem
-use Rattle.scan_model.specs.declared.class.Class.{Class}
-use Rattle.scan_model.specs.declared.class.Class.TheVariants as class
-use Rattle.scan_model.specs.State.{State, ◌>>=◌, in_flow, on_held}
-use Rattle.scan_model.specs.Space.{skip_to_next_token}
-use Rattle.scan_model.specs.Document.{adjacent_here, check_behind_quoted, fetch_block_scalar, fetch_flow_scalar, fetch_plain_scalar}
+use Rattle.model_scanner.specs.declared.class.Class.{Class}
+use Rattle.model_scanner.specs.declared.class.Class.TheVariants as class
+use Rattle.model_scanner.specs.State.{State, ◌>>=◌, in_flow, on_held}
+use Rattle.model_scanner.specs.Space.{skip_to_next_token}
+use Rattle.model_scanner.specs.Document.{adjacent_here, check_behind_quoted, fetch_block_scalar, fetch_flow_scalar, fetch_plain_scalar}
 
 -- what stands after a quoted scalar that began on a line
 unfoldable pub end_quoted : ℕ → State → Result State Fault

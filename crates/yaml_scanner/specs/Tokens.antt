@@ -1,7 +1,7 @@
 -- All tokens so far, how many of them were handed out, and whether the stream's end is among all and among those.
 use Rattle.std.specs.Prelude.{ℕ, ◌-◌, List, [], ◌∷◌, length, take, Bool, true, false, ◌||◌}
-use Rattle.yaml_chars.specs.Place.{Place}
-use Rattle.token_defs.specs.Token.{Token, Tok}
+use Rattle.defs_text.specs.Position.{Place}
+use Rattle.defs_token.specs.Token.{Token, Tok}
 
 pub record Tokens : Type 0 where
   pub all : List Token

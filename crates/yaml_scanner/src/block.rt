@@ -3,10 +3,10 @@ ghost use Rattle.std.specs.Prelude.{◌≡◌, ◌≢◌, ◌<◌, ◌≤◌, �
 ghost use Rattle.yaml_chars.specs.Class.{is_alpha, is_blank_or_breakz, is_break, is_flow};
 ghost use Rattle.yaml_chars.specs.Reading.{HasChar, Sees};
 ghost use Rattle.yaml_tokens.specs.Shown.{tok_of};
-ghost use Rattle.scan_model.specs.State.{put};
-ghost use Rattle.scan_model.specs.Keys.{top_key};
-ghost use Rattle.scan_model.specs.Space.{skip_spaces};
-ghost use Rattle.scan_model.specs.Block.{at_margin, last_property, check_block_entry, check_dash, fetch_block_entry, keyed, begin_key, check_key_space, fetch_key, check_behind_tab, check_value_space, opens_pair, paired, begin_pair, insert_key, begin_keyless_pair, begin_keyless_mapping, begin_keyless_value, value_of, fetch_value};
+ghost use Rattle.model_scanner.specs.State.{put};
+ghost use Rattle.model_scanner.specs.Keys.{top_key};
+ghost use Rattle.model_scanner.specs.Space.{skip_spaces};
+ghost use Rattle.model_scanner.specs.Block.{at_margin, last_property, check_block_entry, check_dash, fetch_block_entry, keyed, begin_key, check_key_space, fetch_key, check_behind_tab, check_value_space, opens_pair, paired, begin_pair, insert_key, begin_keyless_pair, begin_keyless_mapping, begin_keyless_value, value_of, fetch_value};
 ghost use Rattle.yaml_scanner.specs.Blocks.{pass_dash, entry_level, begin_entry, pass_key, pass_tab};
 ghost use Rattle.yaml_scanner.specs.Shape.{held, Does, Fails};
 ghost use Rattle.yaml_scanner.specs.SimpleKeys.{keyed_by};
@@ -15,10 +15,10 @@ ghost use Rattle.yaml_scanner.specs.Work.{Moves, Fetches};
 use crate::collection::Collection;
 use crate::fetcher::Fetcher;
 use crate::keys::SimpleKey;
-use scan_model::FlowLevel;
+use model_scanner::FlowLevel;
 use yaml_chars::Marker;
 use yaml_chars::class::{is_alpha, is_blank_or_breakz, is_break, is_flow};
-use yaml_scalars::{SkipTabs, Whitespace};
+use yaml_lexers::{SkipTabs, Whitespace};
 use yaml_tokens::{Fault, Problem, Token, TokenType};
 
 /// Whether a character after a `-` is a break or a flow indicator.
@@ -55,7 +55,7 @@ impl<T: Iterator<Item = char>> Fetcher<T> {
     }
 
     /// Whether an entry of a block sequence may stand here.
-    #[tactic(auto, unfolding(scan_model::specs::Block::check_block_entry))]
+    #[tactic(auto, unfolding(model_scanner::specs::Block::check_block_entry))]
     fn check_block_entry(&self) -> Result<(), Fault>
         ensures ok { OnOk result (check_block_entry (held self.now) ≡ Ok (held self.now)) }
         ensures fault { IfErr result (λ e. check_block_entry (held self.now) ≡ Err e) }
@@ -176,7 +176,7 @@ impl<T: Iterator<Item = char>> Fetcher<T> {
     }
 
     /// Begins a key with `?`, and its mapping if the key is the first.
-    #[tactic(auto, unfolding(scan_model::specs::Block::begin_key))]
+    #[tactic(auto, unfolding(model_scanner::specs::Block::begin_key))]
     fn begin_key(&mut self) -> Result<(), Fault>
         ensures held { OnOk result (begin_key (held self.old) ≡ Ok (held self.new)) }
         ensures fault { IfErr result (λ e. e ≢ Fault.OutOfMemory → begin_key (held self.old) ≡ Err e) }
@@ -358,7 +358,7 @@ impl<T: Iterator<Item = char>> Fetcher<T> {
     }
 
     /// Begins a pair of a flow sequence, before its key, which stands on the line of its `:`.
-    #[tactic(auto, unfolding(scan_model::specs::Block::begin_pair))]
+    #[tactic(auto, unfolding(model_scanner::specs::Block::begin_pair))]
     fn begin_pair(&mut self, key: SimpleKey, mark: Marker, opens_pair: bool) -> Result<(), Fault>
         ensures held { OnOk result (begin_pair (keyed_by self.old.tokens.given key) mark opens_pair (held self.old) ≡ Ok (held self.new)) }
         ensures fault { IfErr result (λ e. e ≢ Fault.OutOfMemory → begin_pair (keyed_by self.old.tokens.given key) mark opens_pair (held self.old) ≡ Err e) }
@@ -407,7 +407,7 @@ impl<T: Iterator<Item = char>> Fetcher<T> {
     }
 
     /// Outside flow, where a key may begin, begins a mapping at a `:`, unless one is open at its column.
-    #[tactic(auto, unfolding(scan_model::specs::Block::begin_keyless_mapping))]
+    #[tactic(auto, unfolding(model_scanner::specs::Block::begin_keyless_mapping))]
     fn begin_keyless_mapping(&mut self, mark: Marker) -> Result<(), Fault>
         ensures held { OnOk result (begin_keyless_mapping mark (held self.old) ≡ Ok (held self.new)) }
         ensures fault { IfErr result (λ e. e ≢ Fault.OutOfMemory → begin_keyless_mapping mark (held self.old) ≡ Err e) }

@@ -3,7 +3,7 @@ ghost use Rattle.std.specs.Prelude.{◌≡◌};
 ghost use Rattle.yaml_scanner.specs.Collections.{block_start, flow_start, flow_end, level_of};
 ghost use Rattle.yaml_tokens.specs.Shown.{tok_of};
 
-use scan_model::FlowLevel;
+use model_scanner::FlowLevel;
 use yaml_tokens::TokenType;
 
 /// A kind of collection.

@@ -1,12 +1,12 @@
 //! The next token, by its first characters.
 ghost use Rattle.std.specs.Prelude.{◌≡◌, ◌≢◌, ◌≤◌, ◌<◌, ◌==◌, ◌&&◌, ℕ, List, OnOk, IfErr, Ok, Err, true, false, slice_index};
 ghost use Rattle.yaml_chars.specs.Reading.{HasChar, Reads, Sees};
-ghost use Rattle.scan_model.specs.State.{behind};
-ghost use Rattle.scalar_model.specs.Machine.{past};
+ghost use Rattle.model_scanner.specs.State.{behind};
+ghost use Rattle.model_lexers.specs.Machine.{past};
 ghost use Rattle.yaml_tokens.specs.Shown.{tok_of};
-ghost use Rattle.scan_model.specs.Space.{skip_spaces};
-ghost use Rattle.scan_model.specs.Document.{begin_stream, fetch_stream_end, fetch_document_marker, fetch_document_end, begin_line, context, may_follow_quoted, check_behind_quoted, fetch_directive, fetch_anchor, fetch_tag, fetch_block_scalar, fetch_flow_scalar, fetch_plain_scalar};
-ghost use Rattle.scan_model.specs.Fetch.{comes_marker, is_value, token_by, fetch_token, fetch_indented, fetch_first_column, fetch_content, fetch_here, fetch_next, fetch};
+ghost use Rattle.model_scanner.specs.Space.{skip_spaces};
+ghost use Rattle.model_scanner.specs.Document.{begin_stream, fetch_stream_end, fetch_document_marker, fetch_document_end, begin_line, context, may_follow_quoted, check_behind_quoted, fetch_directive, fetch_anchor, fetch_tag, fetch_block_scalar, fetch_flow_scalar, fetch_plain_scalar};
+ghost use Rattle.model_scanner.specs.Fetch.{comes_marker, is_value, token_by, fetch_token, fetch_indented, fetch_first_column, fetch_content, fetch_here, fetch_next, fetch};
 ghost use Rattle.yaml_scanner.specs.Shape.{held, state, Does, Fails};
 ghost use Rattle.yaml_scanner.specs.Steps.{end_quoted, fetch_bar, scalar_by};
 ghost use Rattle.yaml_scanner.specs.Styles.{is_alias, are_single, is_literal};
@@ -15,16 +15,16 @@ ghost use Rattle.yaml_scanner.specs.Work.{Moves, Fetches, HasChars, work};
 use crate::collection::Collection;
 use crate::fetcher::Fetcher;
 use crate::style::{BlockStyle, NameKind, Quotes};
-use scan_model::{Class, class_of};
+use model_scanner::{Class, class_of};
 use yaml_chars::class::{is_blank_or_breakz, is_breakz, is_flow};
-use yaml_scalars::{
+use yaml_lexers::{
     Context, SkipTabs, read_anchor_name, read_block_scalar, read_directive, read_plain,
     read_quoted, read_tag,
 };
 use yaml_tokens::{Fault, Problem, TEncoding, TScalarStyle, TokenType};
 
 /// What may stand after a quoted scalar.
-#[tactic(auto, unfolding(scan_model::specs::Document::may_follow_quoted))]
+#[tactic(auto, unfolding(model_scanner::specs::Document::may_follow_quoted))]
 fn may_follow_quoted(in_flow: bool, same_line: bool, c: char) -> bool
     ensures { result ≡ may_follow_quoted in_flow same_line c }
 {
@@ -263,7 +263,7 @@ impl<T: Iterator<Item = char>> Fetcher<T> {
     }
 
     /// Whether a `:` before this character is the indicator of a value.
-    #[tactic(auto, unfolding(scan_model::specs::Fetch::is_value))]
+    #[tactic(auto, unfolding(model_scanner::specs::Fetch::is_value))]
     fn is_value(&self, next: char) -> bool
         ensures { (a : List ℕ) → next ≡ slice_index a 1 → result ≡ is_value (state a self.now) }
     {

@@ -5,7 +5,7 @@ use crate::keys::SimpleKeys;
 use crate::levels::Levels;
 use crate::queue::Queue;
 use crate::stack::Stack;
-use scan_model::FlowLevel;
+use model_scanner::FlowLevel;
 use std::alloc::Global;
 use yaml_chars::{Marker, Window};
 use yaml_tokens::Fault;
@@ -37,7 +37,7 @@ pub struct Fetcher<T: Iterator<Item = char>> {
 }
 
 impl<T: Iterator<Item = char>> Fetcher<T> {
-    ghost use Rattle.scan_model.specs.Run.{nothing_held};
+    ghost use Rattle.model_scanner.specs.Run.{nothing_held};
     ghost use Rattle.yaml_scanner.specs.Shape.{held};
     ghost use Rattle.yaml_scanner.specs.Tokens.{handed};
     ghost use Rattle.yaml_scanner.specs.Follows.{Follows};

@@ -1,7 +1,7 @@
 //! Fetching as far as the next token needs, and handing it out.
 ghost use Rattle.std.specs.Prelude.{◌≡◌, ◌≤◌, ◌<◌, ◌+◌, ◌||◌, OnOk, IfErr, IfSome, IsSome, Ok, Some, None, true, false, ◌++◌, ◌∷◌, []};
 ghost use Rattle.std.specs.List.{list_any};
-ghost use Rattle.yaml_chars.specs.Place.{Place};
+ghost use Rattle.defs_text.specs.Position.{Place};
 ghost use Rattle.yaml_tokens.specs.Shown.{shown};
 ghost use Rattle.yaml_scanner.specs.Follows.{Follows};
 ghost use Rattle.yaml_scanner.specs.SimpleKeys.{is_front};

@@ -1,13 +1,13 @@
 ghost use Rattle.std.specs.Prelude.{◌≡◌, ◌≢◌, ◌<◌, ◌≤◌, ◌^◌, ℕ, OnOk, IfErr, Ok, Err, List, true, false, nat_lt, ◌+◌};
-ghost use Rattle.scan_model.specs.State.{Held};
-ghost use Rattle.scan_model.specs.Keys.{must_be_key, save_simple_key, remove_simple_key};
-ghost use Rattle.scan_model.specs.Keys.{stale};
-ghost use Rattle.scan_model.specs.Indents.{roll_indent, drop_open_level, roll_one_col_indent, unroll_indent, unroll_non_block_indents};
-ghost use Rattle.scan_model.specs.State.{in_flow};
+ghost use Rattle.model_scanner.specs.State.{Held};
+ghost use Rattle.model_scanner.specs.Keys.{must_be_key, save_simple_key, remove_simple_key};
+ghost use Rattle.model_scanner.specs.Keys.{stale};
+ghost use Rattle.model_scanner.specs.Indents.{roll_indent, drop_open_level, roll_one_col_indent, unroll_indent, unroll_non_block_indents};
+ghost use Rattle.model_scanner.specs.State.{in_flow};
 ghost use Rattle.yaml_tokens.specs.Shown.{tok_of};
-ghost use Rattle.scan_model.specs.Indents.{in_block, deepen, placed};
-ghost use Rattle.scan_model.specs.State.{token};
-ghost use Rattle.scan_model.specs.Keys.{top_needs_block_end};
+ghost use Rattle.model_scanner.specs.Indents.{in_block, deepen, placed};
+ghost use Rattle.model_scanner.specs.State.{token};
+ghost use Rattle.model_scanner.specs.Keys.{top_needs_block_end};
 ghost use Rattle.yaml_scanner.specs.Collections.{block_start};
 ghost use Rattle.yaml_scanner.specs.Levels.{ends_open};
 ghost use Rattle.yaml_scanner.specs.Shape.{held};
@@ -28,7 +28,7 @@ impl<T: Iterator<Item = char>> Fetcher<T> {
     }
 
     /// Whether a token here must be a key.
-    #[tactic(auto, unfolding(scan_model::specs::Keys::must_be_key))]
+    #[tactic(auto, unfolding(model_scanner::specs::Keys::must_be_key))]
     fn must_be_key(&self) -> bool
         ensures { result ≡ must_be_key (held self.now) }
     {
@@ -173,7 +173,7 @@ impl<T: Iterator<Item = char>> Fetcher<T> {
     }
 
     /// Whether the innermost level is a block collection, and the place is outside flow.
-    #[tactic(auto, unfolding(scan_model::specs::Indents::in_block))]
+    #[tactic(auto, unfolding(model_scanner::specs::Indents::in_block))]
     fn in_block(&self) -> bool
         ensures value { result ≡ in_block (held self.now) }
         ensures block { result ≡ true → top_needs_block_end self.now.levels.indents ≡ true }

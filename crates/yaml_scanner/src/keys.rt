@@ -1,7 +1,7 @@
 ghost use Rattle.std.specs.Prelude.{◌≡◌, ℕ, ◌+◌, ◌-◌, ◌∷◌, [], OnOk, OnErr, IfErr, Ok, Err, None, true, false, map};
 ghost use Rattle.std.specs.List.{list_any};
-ghost use Rattle.scan_model.specs.State.{Key, with_top, pop};
-ghost use Rattle.scan_model.specs.Keys.{is_far, is_overdue, drop_stale, is_required, has_required, cleared, top_key};
+ghost use Rattle.model_scanner.specs.State.{Key, with_top, pop};
+ghost use Rattle.model_scanner.specs.Keys.{is_far, is_overdue, drop_stale, is_required, has_required, cleared, top_key};
 ghost use Rattle.yaml_scanner.specs.SimpleKeys.{key_of, seen, is_front, lowered, still_simple, no_simple, top_simple};
 
 use std::alloc::{AllocError, Global};
@@ -36,7 +36,7 @@ impl Model for SimpleKeys {
     ghost view = { λ s. reverse s.levels.items };
 }
 
-#[tactic(auto, unfolding(scan_model::specs::Keys::is_far))]
+#[tactic(auto, unfolding(model_scanner::specs::Keys::is_far))]
 fn is_far(from: Marker, to: Marker) -> bool
     ensures { result ≡ is_far from to }
 {

@@ -1,11 +1,11 @@
 ghost use Rattle.std.specs.Prelude.{◌≡◌, ◌<◌, ◌≤◌, ◌^◌, ◌+◌, ◌∷◌, [], OnOk, OnErr, MatchOption, true, false};
-ghost use Rattle.scan_model.specs.Keys.{top_needs_block_end};
-ghost use Rattle.scan_model.specs.Indents.{level};
+ghost use Rattle.model_scanner.specs.Keys.{top_needs_block_end};
+ghost use Rattle.model_scanner.specs.Indents.{level};
 ghost use Rattle.yaml_scanner.specs.Levels.{ends_open};
-ghost use Rattle.yaml_chars.specs.Text.{is_nil};
+ghost use Rattle.defs_text.specs.Text.{is_nil};
 
 use crate::stack::Stack;
-use scan_model::Indent;
+use model_scanner::Indent;
 use std::alloc::{AllocError, Global};
 use std::marker::Model;
 

@@ -1,7 +1,7 @@
 ghost use Rattle.std.specs.Prelude.{◌≡◌, ◌≤◌, ◌+◌, ◌∷◌, [], ◌++◌, OnOk, OnErr, IfSome, IsNone, true, false, ◌||◌, length};
 ghost use Rattle.std.specs.List.{insert};
 ghost use Rattle.yaml_tokens.specs.Shown.{shown};
-ghost use Rattle.scan_model.specs.Block.{last_property, property_place};
+ghost use Rattle.model_scanner.specs.Block.{last_property, property_place};
 ghost use Rattle.yaml_scanner.specs.Tokens.{handed, waiting, is_end, end_at};
 
 use std::alloc::{AllocError, Global};
@@ -27,7 +27,7 @@ impl Model for Queue {
     ghost use Rattle.std.specs.Prelude.{length as list_len};
     ghost use Rattle.yaml_scanner.specs.Tokens.{Tokens, has_end};
     ghost use Rattle.yaml_tokens.specs.Shown.{shown};
-    ghost use Rattle.scan_model.specs.Block.{last_property};
+    ghost use Rattle.model_scanner.specs.Block.{last_property};
 
     ghost Value = { Tokens };
 

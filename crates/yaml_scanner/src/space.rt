@@ -2,16 +2,16 @@
 ghost use Rattle.std.specs.Prelude.{◌≡◌, ◌≢◌, ◌<◌, ◌≤◌, ℕ, OnOk, IfOk, IfErr, Ok, Err, true, false, Bool, slice_index, ◌==◌, ◌&&◌, ◌||◌, not};
 ghost use Rattle.yaml_chars.specs.Class.{is_break, is_blank};
 ghost use Rattle.yaml_chars.specs.Reading.{HasChar, Reads, place_of};
-ghost use Rattle.scalar_model.specs.Space.{space};
-ghost use Rattle.scan_model.specs.State.{in_flow};
-ghost use Rattle.scan_model.specs.Space.{skip, between, tab_line, white, is_before_indent, skip_spaces, skip_to_next_token, skip_yaml_whitespace};
-ghost use Rattle.yaml_scalars.specs.Shown.{read};
+ghost use Rattle.model_lexers.specs.Space.{space};
+ghost use Rattle.model_scanner.specs.State.{in_flow};
+ghost use Rattle.model_scanner.specs.Space.{skip, between, tab_line, white, is_before_indent, skip_spaces, skip_to_next_token, skip_yaml_whitespace};
+ghost use Rattle.yaml_lexers.specs.Shown.{read};
 ghost use Rattle.yaml_scanner.specs.Shape.{held, Does, Fails};
 ghost use Rattle.yaml_scanner.specs.Work.{Moves};
 
 use crate::fetcher::Fetcher;
 use yaml_chars::class::{is_blank, is_break, is_breakz};
-use yaml_scalars::{SkipTabs, Whitespace, skip_comment, skip_linebreak, skip_ws_to_eol};
+use yaml_lexers::{SkipTabs, Whitespace, skip_comment, skip_linebreak, skip_ws_to_eol};
 use yaml_tokens::{Fault, Problem};
 
 impl<T: Iterator<Item = char>> Fetcher<T> {
@@ -37,7 +37,7 @@ impl<T: Iterator<Item = char>> Fetcher<T> {
     }
 
     /// Steps to the next token.
-    #[tactic(auto, using(crate::proofs::SpaceLemmas::gap_blank, crate::proofs::SpaceLemmas::gap_end), unfolding(scan_model::specs::Space::skip_to_next_token))]
+    #[tactic(auto, using(crate::proofs::SpaceLemmas::gap_blank, crate::proofs::SpaceLemmas::gap_end), unfolding(model_scanner::specs::Space::skip_to_next_token))]
     pub(crate) fn skip_to_next_token(&mut self) -> Result<(), Fault>
         ensures does { OnOk result (Does skip_to_next_token self.old self.new) }
         ensures fails { IfErr result (λ e. Fails skip_to_next_token self.old self.new e) }
@@ -61,7 +61,7 @@ impl<T: Iterator<Item = char>> Fetcher<T> {
     }
 
     /// Whether this place belongs to the indentation of a block collection.
-    #[tactic(auto, unfolding(scan_model::specs::Space::is_before_indent))]
+    #[tactic(auto, unfolding(model_scanner::specs::Space::is_before_indent))]
     fn is_before_indent(&self) -> bool
         ensures { result ≡ is_before_indent (held self.now) }
     {
@@ -166,7 +166,7 @@ impl<T: Iterator<Item = char>> Fetcher<T> {
     }
 
     /// What must stand after a `?`: spaces, breaks and comments.
-    #[tactic(auto, using(crate::proofs::SpaceLemmas::white_space, crate::proofs::SpaceLemmas::white_stop, crate::proofs::SpaceLemmas::white_missing), unfolding(scan_model::specs::Space::skip_yaml_whitespace))]
+    #[tactic(auto, using(crate::proofs::SpaceLemmas::white_space, crate::proofs::SpaceLemmas::white_stop, crate::proofs::SpaceLemmas::white_missing), unfolding(model_scanner::specs::Space::skip_yaml_whitespace))]
     pub(crate) fn skip_yaml_whitespace(&mut self) -> Result<(), Fault>
         ensures does { OnOk result (Does skip_yaml_whitespace self.old self.new) }
         ensures fails { IfErr result (λ e. Fails skip_yaml_whitespace self.old self.new e) }

@@ -1,6 +1,6 @@
 ghost use Rattle.std.specs.Prelude.{◌≡◌, [], ◌∷◌, OnOk, OnErr, MatchOption, List, length, true};
-ghost use Rattle.scan_model.specs.State.{top, with_top, pop};
-ghost use Rattle.yaml_chars.specs.Text.{is_nil};
+ghost use Rattle.model_scanner.specs.State.{top, with_top, pop};
+ghost use Rattle.defs_text.specs.Text.{is_nil};
 
 use std::alloc::{AllocError, Global};
 use std::marker::Model;

@@ -1,8 +1,8 @@
 //! What tells like tokens apart: the kind of a name, and the style of a scalar.
 ghost use Rattle.std.specs.Prelude.{◌≡◌};
-ghost use Rattle.yaml_chars.specs.Text.{string_chars};
+ghost use Rattle.defs_text.specs.Text.{string_chars};
 ghost use Rattle.yaml_tokens.specs.Shown.{tok_of, style_of};
-ghost use Rattle.scan_model.specs.Document.{anchor_token, block_style, quoted_style};
+ghost use Rattle.model_scanner.specs.Document.{anchor_token, block_style, quoted_style};
 ghost use Rattle.yaml_scanner.specs.Styles.{is_alias, are_single, is_literal};
 
 use yaml_tokens::{TScalarStyle, TokenType};

@@ -1,7 +1,7 @@
 -- What clauses see of a fault: its place, the bytes of its text, and whether memory was refused.
 use Rattle.std.specs.Prelude.{ℕ, ◌+◌, List, ◌++◌, Bool, false, codes}
 use Rattle.std.specs.Fmt.{decimal}
-use Rattle.yaml_chars.specs.Place.{Place}
+use Rattle.defs_text.specs.Position.{Place}
 
 pub record Fault : Type 0 where
   pub place : Place

@@ -1,6 +1,6 @@
 -- The texts of the problems, and what a fault shows.
 use Rattle.std.specs.Prelude.{ℕ, List, Bool, true, false, codes}
-use Rattle.yaml_chars.specs.Place.{Place}
+use Rattle.defs_text.specs.Position.{Place}
 use Rattle.yaml_tokens.specs.declared.problem.Problem.{Problem}
 use Rattle.yaml_tokens.specs.declared.problem.Problem.TheVariants as problem
 use Rattle.yaml_tokens.specs.declared.problem.Fault as code

@@ -1,7 +1,7 @@
 -- The tokens of the code, as clauses see them.
 use Rattle.std.specs.Prelude.{List, map, Bool, true, false}
-use Rattle.yaml_chars.specs.Text.{string_chars}
-use Rattle.token_defs.specs.Token.{Style, Tok, Token}
+use Rattle.defs_text.specs.Text.{string_chars}
+use Rattle.defs_token.specs.Token.{Style, Tok, Token}
 use Rattle.yaml_tokens.specs.declared.token.TScalarStyle.{TScalarStyle}
 use Rattle.yaml_tokens.specs.declared.token.TScalarStyle.TheVariants as style
 use Rattle.yaml_tokens.specs.declared.token.TokenType.{TokenType}

@@ -1,10 +1,10 @@
 -- The first pairs of a row.
 use Rattle.std.proofs.Common.{◌≡◌, ◌≢◌, ℕ, zero, suc, ◌*◌, ◌<◌, List, [], ◌∷◌, ◌++◌, length, get_or, take, Some, None, Box, Global, option_map, cond, refl, sym, ap, subst, ◌∙◌, arith}
 use Rattle.std.proofs.lemmas.List.{take-map}
-use Rattle.tree_defs.specs.Tree.{Tree}
-use Rattle.tree_defs.specs.Pairs.{place_of, Lacks, AreDistinct}
-use Rattle.tree_defs.proofs.PairsLaws.{tree_eq-other}
-use Rattle.place_blocks.specs.declared.blocks.Blocks.{Blocks}
+use Rattle.defs_tree.specs.Tree.{Tree}
+use Rattle.defs_tree.specs.Pairs.{place_of, Lacks, AreDistinct}
+use Rattle.defs_tree.proofs.PairsLaws.{tree_eq-other}
+use Rattle.yaml_hash_index.specs.declared.blocks.Blocks.{Blocks}
 use Rattle.yaml_tree.specs.Flat.{flat}
 use Rattle.yaml_tree.specs.Marks.{mark, AreMarks}
 use Rattle.yaml_tree.specs.Places.{places_in, marks_in, places, marks, HasMarks, IsIndexed}

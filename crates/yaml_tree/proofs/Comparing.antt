@@ -3,12 +3,12 @@ use Rattle.std.proofs.Common.{◌≡◌, ℕ, zero, suc, ◌+◌, ◌<◌, ◌�
 use Rattle.std.proofs.lemmas.Bool.Decides.{nat_tests}
 use Rattle.std.specs.Ordering.{ordering_then, on}
 use Rattle.std.specs.Cmp.Lexicographic.{slice_cmp}
-use Rattle.tree_defs.specs.Tree.{Tree, items_of, pairs_of}
-use Rattle.tree_defs.specs.Order.{tree_cmp, items_cmp, pairs_cmp}
+use Rattle.defs_tree.specs.Tree.{Tree, items_of, pairs_of}
+use Rattle.defs_tree.specs.Order.{tree_cmp, items_cmp, pairs_cmp}
 use Rattle.yaml_tree.specs.Flat.{flat}
 use Rattle.yaml_tree.specs.View.{view, items_view}
 use Rattle.yaml_tree.specs.declared.yaml.Yaml.{Yaml}
-use Rattle.tree_defs.specs.Lists.{list_cmp}
+use Rattle.defs_tree.specs.Lists.{list_cmp}
 
 nat_cmp-less : (m n : ℕ) → m < n → nat_cmp m n ≡ Less
 nat_cmp-less m n h = grind (arith, nat_tests)

@@ -1,6 +1,6 @@
 -- The levels of a copy, from the outermost to the one that is filled.
 use Rattle.std.proofs.Common.{◌≡◌, ℕ, ◌+◌, ◌*◌, ◌<◌, ◌≤◌, List, [], ◌∷◌, ◌++◌, refl, sym, ap, subst, ◌∙◌, arith, append_assoc}
-use Rattle.tree_defs.specs.Tree.{Tree, items_of}
+use Rattle.defs_tree.specs.Tree.{Tree, items_of}
 use Rattle.yaml_tree.specs.Copying.{source_tree, left, lefts, IsFilled, Leads}
 use Rattle.yaml_tree.specs.Flat.{flat}
 use Rattle.yaml_tree.specs.View.{view, items_view, array_tree, hash_tree}

@@ -1,6 +1,6 @@
 -- The steps of a drop, on rows of nodes.
 use Rattle.std.proofs.Common.{◌≡◌, ◌≢◌, ◌<◌, List, [], ◌∷◌, ◌++◌, length, sym, ap, subst, ◌∙◌, arith, append_assoc}
-use Rattle.tree_defs.specs.Tree.{Tree, array, items_of}
+use Rattle.defs_tree.specs.Tree.{Tree, array, items_of}
 use Rattle.yaml_tree.specs.View.{view, items_view, array_tree}
 use Rattle.yaml_tree.specs.Weight.{weight, parts, with_last, items_with_last}
 use Rattle.yaml_tree.specs.declared.yaml.Yaml.{Yaml}

@@ -1,7 +1,7 @@
 -- What the keys and values of a row feed a hasher, pair by pair.
 use Rattle.std.proofs.Common.{◌≡◌, ℕ, ◌+◌, ◌*◌, ◌/◌, ◌<◌, ◌≤◌, List, ◌∷◌, ◌++◌, length, get_or, drop, ap, ◌∙◌, arith}
 use Rattle.std.specs.Hash as fed
-use Rattle.tree_defs.specs.Tree.{pairs_of}
+use Rattle.defs_tree.specs.Tree.{pairs_of}
 use Rattle.yaml_tree.specs.Feed.{tree_feed, pairs_feed}
 use Rattle.yaml_tree.specs.View.{view, pairs_view}
 use Rattle.yaml_tree.specs.declared.yaml.Yaml.{Yaml}

@@ -9,12 +9,12 @@ use Rattle.std.proofs.lemmas.Bool.{and_parts}
 use Rattle.std.proofs.lemmas.Bool.Decides.{nat_tests}
 use Rattle.std.proofs.lemmas.Slice.Eq.{bytes_eq-Decides}
 use Rattle.std.proofs.lemmas.Str.{chars-nil, chars-IsAscii}
-use Rattle.tree_defs.specs.Grammar.{is_among}
-use Rattle.tree_defs.specs.Tree.{Tree, string, integer, real, boolean, null}
-use Rattle.tree_defs.specs.Typing.{typing, rows, where_true, is_digit, is_sign, is_point, is_plus, is_minus, number, signed_number, fits_i64, behind, is_decimal, null_words, true_words, false_words, special_words}
-use Rattle.tree_defs.proofs.DecimalReading.{begins_in, reads_exponent, reads_on, reads_unsigned, is_decimal-read}
-use Rattle.tree_defs.proofs.GrammarLaws.{behind_all}
-use Rattle.tree_defs.proofs.TypingLaws.{strings_exactly}
+use Rattle.defs_tree.specs.Grammar.{is_among}
+use Rattle.defs_tree.specs.Tree.{Tree, string, integer, real, boolean, null}
+use Rattle.defs_tree.specs.Typing.{typing, rows, where_true, is_digit, is_sign, is_point, is_plus, is_minus, number, signed_number, fits_i64, behind, is_decimal, null_words, true_words, false_words, special_words}
+use Rattle.defs_tree.proofs.DecimalReading.{begins_in, reads_exponent, reads_on, reads_unsigned, is_decimal-read}
+use Rattle.defs_tree.proofs.GrammarLaws.{behind_all}
+use Rattle.defs_tree.proofs.TypingLaws.{strings_exactly}
 use Rattle.yaml_tree.specs.Values.{begins_value, begins_word}
 use Rattle.yaml_tree.proofs.WideTexts.{low, low_bytes, typing-wide}
 

@@ -2,8 +2,8 @@
 use Rattle.std.proofs.Common.{◌≡◌, ℕ, zero, suc, ◌+◌, ◌*◌, ◌<◌, List, [], ◌∷◌, ◌++◌, length, get_or, set, Some, refl, sym, ap, ◌∙◌, arith}
 use Rattle.std.specs.List.{remove}
 use Rattle.std.proofs.lemmas.List.{get_or-map}
-use Rattle.tree_defs.specs.Tree.{Tree}
-use Rattle.tree_defs.specs.Pairs.{value_at, with_value_at}
+use Rattle.defs_tree.specs.Tree.{Tree}
+use Rattle.defs_tree.specs.Pairs.{value_at, with_value_at}
 use Rattle.yaml_tree.specs.Flat.{flat, paired}
 use Rattle.yaml_tree.specs.Ranked.{key_at}
 use Rattle.yaml_tree.specs.View.{view, items_view}

@@ -1,8 +1,8 @@
 -- Half of what is left has fewer binary digits.
 use Rattle.std.proofs.Common.{ℕ, zero, suc, ◌+◌, ◌<◌, ◌≤◌, ◌/◌, ◌^◌, arith}
 use Rattle.std.proofs.Math.Nat.{pow-suc}
-use Rattle.tree_defs.specs.Digits.{binary_digits, IsLeastExponent}
-use Rattle.tree_defs.proofs.DigitsLaws.{least_exponent}
+use Rattle.defs_tree.specs.Digits.{binary_digits, IsLeastExponent}
+use Rattle.defs_tree.proofs.DigitsLaws.{least_exponent}
 
 pub halved : (m n : ℕ) → 0 < n → m ≤ n / 2 → binary_digits m + 1 ≤ binary_digits n
 halved m n h e = from (binary_digits n) (least_exponent n)

@@ -2,13 +2,13 @@
 use Rattle.std.proofs.Common.{◌≡◌, ℕ, zero, suc, ◌+◌, ◌<◌, ◌≤◌, List, [], ◌∷◌, length, get_or, map, refl, ap, arith}
 use Rattle.std.specs.List.{insert, remove}
 use Rattle.std.proofs.lemmas.List.{length-map}
-use Rattle.place_blocks.specs.Blocks.{joined}
-use Rattle.place_blocks.specs.Edges.{mark_at, place_at}
-use Rattle.place_blocks.specs.Moves.{closed_up, moved_up, entry_closed_up, entry_moved_up}
-use Rattle.place_blocks.specs.declared.entry.Entry.{Entry}
+use Rattle.yaml_hash_index.specs.Blocks.{joined}
+use Rattle.yaml_hash_index.specs.Edges.{mark_at, place_at}
+use Rattle.yaml_hash_index.specs.Moves.{closed_up, moved_up, entry_closed_up, entry_moved_up}
+use Rattle.yaml_hash_index.specs.declared.entry.Entry.{Entry}
 use Rattle.yaml_tree.specs.Places.{place_of_entry, mark_of_entry, places, marks, rank_at, HasSpot, HasPlace}
-use Rattle.place_blocks.proofs.Joining.{rank_within, rank_inside}
-use Rattle.place_blocks.specs.declared.entry.Spot.{Spot}
+use Rattle.yaml_hash_index.proofs.Joining.{rank_within, rank_inside}
+use Rattle.yaml_hash_index.specs.declared.entry.Spot.{Spot}
 use Rattle.yaml_tree.specs.declared.ranks.Kept.{Kept}
 use Rattle.yaml_tree.specs.declared.ranks.Kept.TheVariants.{Few, Many}
 

@@ -2,8 +2,8 @@
 use Rattle.std.proofs.Common.{◌≡◌, IsSome, ℕ, zero, suc, ◌<◌, ◌^◌, Bool, true, false, arith, List, [], ◌∷◌, ◌++◌, length, Option, None, option_map, refl, sym, ap, subst, ◌∙◌}
 use Rattle.std.specs.Prelude.{slice_get, pos, nat_lt, if◌then◌else◌}
 use Rattle.std.proofs.lemmas.Bool.Decides.{nat_tests}
-use Rattle.tree_defs.specs.Tree.{Tree, integer, hash, items_of, pairs_of, list_of, pair_list_of}
-use Rattle.tree_defs.specs.Pairs.{lookup}
+use Rattle.defs_tree.specs.Tree.{Tree, integer, hash, items_of, pairs_of, list_of, pair_list_of}
+use Rattle.defs_tree.specs.Pairs.{lookup}
 use Rattle.yaml_tree.specs.Node.{value_at_index}
 use Rattle.yaml_tree.specs.View.{view, items_view}
 use Rattle.yaml_tree.specs.declared.yaml.Yaml.{Yaml}

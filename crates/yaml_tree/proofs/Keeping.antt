@@ -2,10 +2,10 @@
 use Rattle.std.proofs.Common.{◌≡◌, ℕ, zero, suc, ◌+◌, ◌*◌, ◌<◌, List, [], ◌∷◌, ◌++◌, length, get_or, set, map, refl, sym, subst, arith}
 use Rattle.std.specs.List.{remove}
 use Rattle.std.proofs.lemmas.List.{length-map}
-use Rattle.place_blocks.specs.Blocks.{joined}
-use Rattle.place_blocks.specs.Moves.{closed_up, moved_up}
-use Rattle.tree_defs.specs.Tree.{Tree}
-use Rattle.tree_defs.specs.Pairs.{insert as insert_pair, without}
+use Rattle.yaml_hash_index.specs.Blocks.{joined}
+use Rattle.yaml_hash_index.specs.Moves.{closed_up, moved_up}
+use Rattle.defs_tree.specs.Tree.{Tree}
+use Rattle.defs_tree.specs.Pairs.{insert as insert_pair, without}
 use Rattle.yaml_tree.specs.Flat.{flat}
 use Rattle.yaml_tree.specs.Marks.{AreMarks, first_by}
 use Rattle.yaml_tree.specs.Places.{place_of_entry, mark_of_entry, places, marks, IsIndexed}

@@ -6,13 +6,13 @@ use Rattle.std.proofs.lemmas.Bool.{cases_lt}
 use Rattle.std.proofs.lemmas.Bool.Decides.{nat_tests}
 use Rattle.std.proofs.lemmas.List.{length-map}
 use Rattle.std.proofs.lemmas.List.Edits.{length-insert, length-remove, get_or-insert_below, get_or-insert_at, get_or-insert_above}
-use Rattle.tree_defs.specs.Tree.{Tree}
-use Rattle.tree_defs.specs.Order.{tree_cmp}
-use Rattle.tree_defs.specs.Pairs.{with_value_at}
-use Rattle.place_blocks.specs.Blocks.{joined, IsNarrowed}
-use Rattle.place_blocks.specs.Edges.{mark_at, AreRising}
-use Rattle.place_blocks.specs.declared.entry.Entry.{Entry}
-use Rattle.place_blocks.specs.Moves.{closed_up, moved_up}
+use Rattle.defs_tree.specs.Tree.{Tree}
+use Rattle.defs_tree.specs.Order.{tree_cmp}
+use Rattle.defs_tree.specs.Pairs.{with_value_at}
+use Rattle.yaml_hash_index.specs.Blocks.{joined, IsNarrowed}
+use Rattle.yaml_hash_index.specs.Edges.{mark_at, AreRising}
+use Rattle.yaml_hash_index.specs.declared.entry.Entry.{Entry}
+use Rattle.yaml_hash_index.specs.Moves.{closed_up, moved_up}
 use Rattle.yaml_tree.specs.Marks.{mark, AreMarks, first_by, HaveRising, IsWindow}
 use Rattle.yaml_tree.specs.Places.{place_of_entry, mark_of_entry, places, marks}
 use Rattle.yaml_tree.specs.Ranked.{key_at, key_of_rank, key_cmp, AreRanked, IsRank}

@@ -1,9 +1,9 @@
 -- Where a key's pair stands in a list of pairs, and what that says of the list.
 use Rattle.std.proofs.Common.{◌≡◌, IsSome, ℕ, zero, suc, ◌<◌, List, [], ◌∷◌, length, Option, Some, None, option_map, Bool, true, false, cond, ◌⊎◌, inl, inr, refl, sym, ap, ◌∙◌, subst, arith}
 use Rattle.std.specs.List.{remove}
-use Rattle.tree_defs.specs.Tree.{Tree}
-use Rattle.tree_defs.specs.Order.{tree_eq}
-use Rattle.tree_defs.specs.Pairs.{Lacks, AreDistinct, last_of, lookup, without, place_of, value_at, with_value_at, with_value}
+use Rattle.defs_tree.specs.Tree.{Tree}
+use Rattle.defs_tree.specs.Order.{tree_eq}
+use Rattle.defs_tree.specs.Pairs.{Lacks, AreDistinct, last_of, lookup, without, place_of, value_at, with_value_at, with_value}
 use Rattle.yaml_tree.specs.Ranked.{key_at}
 
 shift_place : (b : Bool) (o : Option ℕ) (i : ℕ) → Some i ≡ cond b (Some 0) (option_map suc o) → ((b ≡ true) × (i ≡ 0)) ⊎ ((b ≡ false) × ((j : ℕ) × (i ≡ suc j) × (Some j ≡ o)))

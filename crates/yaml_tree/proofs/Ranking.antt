@@ -10,13 +10,13 @@ use Rattle.std.proofs.lemmas.Cmp.{tied_itself, nat_cmp_total, on_total, then_tot
 use Rattle.std.proofs.lemmas.List.{get_or-map}
 use Rattle.std.proofs.lemmas.List.Edits.{length-insert, length-remove, get_or-insert_below, get_or-insert_at, get_or-insert_above, get_or-remove_below, get_or-remove_above}
 use Rattle.std.proofs.lemmas.Map.Steps.{length-le_from_distinct_below}
-use Rattle.tree_defs.specs.Tree.{Tree}
-use Rattle.tree_defs.specs.Order.{tree_eq}
-use Rattle.tree_defs.specs.Pairs.{place_of, with_value_at, Lacks, AreDistinct}
-use Rattle.tree_defs.proofs.OrderLaws.{tree_cmp_total}
-use Rattle.tree_defs.proofs.PairsLaws.{tree_eq-itself, tree_eq-other}
+use Rattle.defs_tree.specs.Tree.{Tree}
+use Rattle.defs_tree.specs.Order.{tree_eq}
+use Rattle.defs_tree.specs.Pairs.{place_of, with_value_at, Lacks, AreDistinct}
+use Rattle.defs_tree.proofs.OrderLaws.{tree_cmp_total}
+use Rattle.defs_tree.proofs.PairsLaws.{tree_eq-itself, tree_eq-other}
 use Rattle.yaml_tree.specs.Ranked.{key_at, key_of_rank, key_cmp, AreRanked, IsRank, IsGap}
-use Rattle.place_blocks.specs.Moves.{closed_up, moved_up}
+use Rattle.yaml_hash_index.specs.Moves.{closed_up, moved_up}
 
 abbrev pub Pairs : Type 0
 Pairs = List (Tree × Tree)

@@ -1,12 +1,12 @@
 -- A row of keys and values beside its ranks.
 use Rattle.std.proofs.Common.{◌≡◌, ℕ, ◌+◌, ◌*◌, ◌<◌, List, [], ◌∷◌, ◌++◌, length, get_or, set, map, Some, None, refl, sym, ap, subst, ◌∙◌, arith}
 use Rattle.std.specs.List.{remove}
-use Rattle.tree_defs.specs.Tree.{Tree}
-use Rattle.tree_defs.specs.Pairs.{insert as insert_pair, lookup, without, place_of, with_value_at, AreDistinct}
-use Rattle.tree_defs.proofs.PairsLaws.{AreDistinct-without, AreDistinct-insert}
+use Rattle.defs_tree.specs.Tree.{Tree}
+use Rattle.defs_tree.specs.Pairs.{insert as insert_pair, lookup, without, place_of, with_value_at, AreDistinct}
+use Rattle.defs_tree.proofs.PairsLaws.{AreDistinct-without, AreDistinct-insert}
 use Rattle.yaml_tree.specs.Flat.{flat}
 use Rattle.yaml_tree.specs.Ranked.{key_at, key_of_rank, AreRanked, IsHash, IsRank, IsGap}
-use Rattle.place_blocks.specs.Moves.{closed_up, moved_up}
+use Rattle.yaml_hash_index.specs.Moves.{closed_up, moved_up}
 use Rattle.yaml_tree.specs.View.{view, items_view, pairs_view}
 use Rattle.yaml_tree.specs.declared.yaml.Yaml.{Yaml}
 use Rattle.yaml_tree.proofs.Flattened.{pairs_from, even_from, row_length, key_seen, value_seen, taken, added, value_set}

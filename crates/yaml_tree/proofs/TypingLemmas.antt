@@ -10,15 +10,15 @@ use Rattle.std.specs.Str.Parse.{AllDigits, IsNumeral, digits_value, ParsesSigned
 use Rattle.std.proofs.lemmas.Bool.Decides.{nat_tests}
 use mir.Syntax.{w64}
 use mir.Val.{SFits}
-use Rattle.tree_defs.specs.Grammar.{is_empty, at_least_one, is_among}
-use Rattle.tree_defs.specs.Tree.{Tree, real, string}
+use Rattle.defs_tree.specs.Grammar.{is_empty, at_least_one, is_among}
+use Rattle.defs_tree.specs.Tree.{Tree, real, string}
 use Rattle.yaml_tree.specs.Values.{first_row, value_row}
 use Rattle.std.specs.Option.{option_or}
 use Rattle.std.specs.Str.{chars, IsAscii}
 use Rattle.std.proofs.lemmas.Str.{chars-IsAscii}
-use Rattle.tree_defs.specs.Typing.{is_digit, is_plus, is_minus, number, signed_number, fits_i64, behind, is_decimal, typing, rows, by_rows, where_true, special_words}
-use Rattle.tree_defs.proofs.GrammarLaws.{behind_all}
-use Rattle.tree_defs.proofs.DecimalReading.{begins_in, reads_decimal, is_decimal-read}
+use Rattle.defs_tree.specs.Typing.{is_digit, is_plus, is_minus, number, signed_number, fits_i64, behind, is_decimal, typing, rows, by_rows, where_true, special_words}
+use Rattle.defs_tree.proofs.GrammarLaws.{behind_all}
+use Rattle.defs_tree.proofs.DecimalReading.{begins_in, reads_decimal, is_decimal-read}
 
 -- ---- digits
 

@@ -1,6 +1,6 @@
 -- What is left of a tree that is taken apart grows less.
 use Rattle.std.proofs.Common.{◌≡◌, ◌≢◌, ℕ, suc, ◌+◌, ◌<◌, ◌≤◌, List, [], ◌∷◌, ◌++◌, refl, sym, ap, arith}
-use Rattle.tree_defs.specs.Tree.{Tree, array, hash, Items, no_items, item, Pairs, no_pairs, pair, items_of, list_of, pair_list_of}
+use Rattle.defs_tree.specs.Tree.{Tree, array, hash, Items, no_items, item, Pairs, no_pairs, pair, items_of, list_of, pair_list_of}
 use Rattle.yaml_tree.specs.Flat.{flat}
 use Rattle.yaml_tree.specs.Weight.{nodes, items_nodes, pairs_nodes, chain, items_chain, pairs_chain, weight, parts, with_last, items_with_last}
 

@@ -7,11 +7,11 @@ use Rattle.std.proofs.lemmas.Bool.{and_parts, and_from}
 use Rattle.std.proofs.lemmas.Bool.Decides.{nat_tests}
 use Rattle.std.proofs.lemmas.Slice.Eq.{bytes_eq-Decides}
 use Rattle.std.proofs.lemmas.Str.{encodes-chars, encodes-IsAscii}
-use Rattle.tree_defs.specs.Grammar.{at_least_one, is_among}
-use Rattle.tree_defs.specs.Tree.{Tree, string, integer, real, boolean, null}
-use Rattle.tree_defs.specs.Typing.{typing, rows, where_true, is_digit, is_plus, is_minus, number, with_sign, signed_number, fits_i64, behind, is_decimal, null_words, true_words, false_words, special_words}
-use Rattle.tree_defs.proofs.RealTexts.{is_real_character, decimal-characters}
-use Rattle.tree_defs.proofs.TypingLaws.{strings_exactly}
+use Rattle.defs_tree.specs.Grammar.{at_least_one, is_among}
+use Rattle.defs_tree.specs.Tree.{Tree, string, integer, real, boolean, null}
+use Rattle.defs_tree.specs.Typing.{typing, rows, where_true, is_digit, is_plus, is_minus, number, with_sign, signed_number, fits_i64, behind, is_decimal, null_words, true_words, false_words, special_words}
+use Rattle.defs_tree.proofs.RealTexts.{is_real_character, decimal-characters}
+use Rattle.defs_tree.proofs.TypingLaws.{strings_exactly}
 
 -- all characters are ASCII
 abbrev pub low : List ℕ → Bool

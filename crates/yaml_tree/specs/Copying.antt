@@ -1,6 +1,6 @@
 -- Trees of which some parts are copied.
 use Rattle.std.specs.Prelude.{◌≡◌, ℕ, ◌+◌, List, [], ◌∷◌, ◌++◌}
-use Rattle.tree_defs.specs.Tree.{Tree, items_of}
+use Rattle.defs_tree.specs.Tree.{Tree, items_of}
 use Rattle.yaml_tree.specs.View.{view, items_view, array_tree, hash_tree}
 use Rattle.yaml_tree.specs.Weight.{items_nodes, parts}
 use Rattle.yaml_tree.specs.declared.copy.Source.{Source}

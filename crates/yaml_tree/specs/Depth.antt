@@ -1,6 +1,6 @@
 -- How deep arrays and hashes stand one in another: the measure of recursions over trees.
 use Rattle.std.specs.Prelude.{ℕ, suc, max}
-use Rattle.tree_defs.specs.Tree.{Tree, real, integer, string, boolean, array, hash, alias, null, bad_value, Items, no_items, item, Pairs, no_pairs, pair}
+use Rattle.defs_tree.specs.Tree.{Tree, real, integer, string, boolean, array, hash, alias, null, bad_value, Items, no_items, item, Pairs, no_pairs, pair}
 
 abbrev mutual
   -- of a tree: 0 for a scalar, and one more than what stands in it for an array and a hash, an empty one too

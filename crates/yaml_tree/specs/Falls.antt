@@ -2,7 +2,7 @@
 use Rattle.std.specs.Prelude.{◌≡◌, ◌≤◌, List, [], ◌∷◌}
 use Rattle.std.proofs.Common.{arith, subst}
 use denote.Param.Weighed.{most}
-use Rattle.tree_defs.specs.Tree.{Tree, items_of, pairs_of}
+use Rattle.defs_tree.specs.Tree.{Tree, items_of, pairs_of}
 use Rattle.yaml_tree.specs.Flat.{flat}
 use Rattle.yaml_tree.specs.Depth.{depth, items_depth, pairs_depth}
 use Rattle.yaml_tree.specs.View.{view, items_view, pairs_view}

@@ -1,6 +1,6 @@
 -- The keys and values of a hash in one row.
 use Rattle.std.specs.Prelude.{List, [], ◌∷◌}
-use Rattle.tree_defs.specs.Tree.{Tree}
+use Rattle.defs_tree.specs.Tree.{Tree}
 
 -- keys and values in a row, taken two by two as pairs; a last one alone is left out
 abbrev pub paired : List Tree → List (Tree × Tree)

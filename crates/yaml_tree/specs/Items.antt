@@ -3,7 +3,7 @@ use Rattle.std.specs.Prelude.{List, [], Option, Some, None}
 use Rattle.std.specs.declared.vec.IntoIter.{IntoIter}
 use Rattle.std.specs.declared.alloc.Global.{Global}
 use Rattle.std.specs.Vec.Iter.{into_iter_items}
-use Rattle.tree_defs.specs.Tree.{Tree}
+use Rattle.defs_tree.specs.Tree.{Tree}
 use Rattle.yaml_tree.specs.View.{items_view}
 use Rattle.yaml_tree.specs.declared.yaml.Yaml.{Yaml}
 use Rattle.yaml_tree.specs.declared.yaml.Yaml.TheVariants.{Array}

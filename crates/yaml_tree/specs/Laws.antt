@@ -1,7 +1,7 @@
 -- Statements over trees and what the code makes of them, each the contract of the function with its name in `laws`.
 use Rattle.std.specs.Prelude.{◌≡◌, IsTrue}
-use Rattle.tree_defs.specs.Tree.{Tree}
-use Rattle.tree_defs.specs.Order.{tree_eq}
+use Rattle.defs_tree.specs.Tree.{Tree}
+use Rattle.defs_tree.specs.Order.{tree_eq}
 use Rattle.yaml_tree.specs.Feed.{tree_feed}
 
 -- `equal_trees_hash_alike`

@@ -1,6 +1,6 @@
 -- What the code finds a text to mean, as a tree.
 use Rattle.std.specs.Prelude.{ℕ, List}
-use Rattle.tree_defs.specs.Tree.{Tree, real, integer, string, boolean, null}
+use Rattle.defs_tree.specs.Tree.{Tree, real, integer, string, boolean, null}
 use Rattle.yaml_tree.specs.declared.typing.Meaning.{Meaning}
 use Rattle.yaml_tree.specs.declared.typing.Meaning.TheVariants as meaning
 

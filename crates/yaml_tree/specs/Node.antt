@@ -1,7 +1,7 @@
 -- What a node holds, by its tree: its content where it is of one kind, and the value at a key or a place.
 use Rattle.std.specs.Prelude.{ℕ, ℤ, pos, ◌^◌, Bool, true, false, List, Option, Some, None, option_and_then, nat_lt, slice_get, if◌then◌else◌}
-use Rattle.tree_defs.specs.Tree.{Tree, real, integer, string, boolean, array, hash, null, bad_value, list_of, pair_list_of}
-use Rattle.tree_defs.specs.Pairs.{lookup}
+use Rattle.defs_tree.specs.Tree.{Tree, real, integer, string, boolean, array, hash, null, bad_value, list_of, pair_list_of}
+use Rattle.defs_tree.specs.Pairs.{lookup}
 
 -- the truth value, of a boolean
 abbrev pub boolean_of : Tree → Option Bool

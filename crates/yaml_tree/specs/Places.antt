@@ -1,9 +1,9 @@
 -- The places that a hash keeps by rank.
 use Rattle.std.specs.Prelude.{ℕ, ◌<◌, ◌≤◌, List, [], map, length}
-use Rattle.place_blocks.specs.Blocks.{joined, rank_of, IsSpot, IsTaken}
-use Rattle.place_blocks.specs.declared.entry.Entry.{Entry}
-use Rattle.place_blocks.specs.declared.entry.Spot.{Spot}
-use Rattle.tree_defs.specs.Tree.{Tree}
+use Rattle.yaml_hash_index.specs.Blocks.{joined, rank_of, IsSpot, IsTaken}
+use Rattle.yaml_hash_index.specs.declared.entry.Entry.{Entry}
+use Rattle.yaml_hash_index.specs.declared.entry.Spot.{Spot}
+use Rattle.defs_tree.specs.Tree.{Tree}
 use Rattle.yaml_tree.specs.Flat.{paired}
 use Rattle.yaml_tree.specs.Marks.{AreMarks, first_by}
 use Rattle.yaml_tree.specs.Ranked.{IsHash}

@@ -1,6 +1,6 @@
 -- What is looked up in a hash, as a tree.
 use Rattle.std.specs.Prelude.{chars}
-use Rattle.tree_defs.specs.Tree.{Tree, string}
+use Rattle.defs_tree.specs.Tree.{Tree, string}
 use Rattle.yaml_tree.specs.View.{view}
 use Rattle.yaml_tree.specs.declared.search.Probe.{Probe}
 use Rattle.yaml_tree.specs.declared.search.Probe.TheVariants.{Node, Text}

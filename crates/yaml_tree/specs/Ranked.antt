@@ -4,9 +4,9 @@ use Rattle.std.specs.Prelude.{◌≡◌, ℕ, zero, suc, ◌<◌, ◌≤◌, Lis
 use Rattle.std.specs.declared.cmp.Ordering.{Ordering}
 use Rattle.std.specs.declared.cmp.Ordering.TheVariants.{Less, Greater}
 use Rattle.std.specs.Ordering.{nat_cmp, on, then_cmp}
-use Rattle.tree_defs.specs.Tree.{Tree, null}
-use Rattle.tree_defs.specs.Order.{tree_cmp}
-use Rattle.tree_defs.specs.Pairs.{AreDistinct}
+use Rattle.defs_tree.specs.Tree.{Tree, null}
+use Rattle.defs_tree.specs.Order.{tree_cmp}
+use Rattle.defs_tree.specs.Pairs.{AreDistinct}
 use Rattle.yaml_tree.specs.Flat.{flat, paired}
 
 -- the key at a place; null where there is none

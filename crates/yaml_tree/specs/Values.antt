@@ -2,8 +2,8 @@
 use Rattle.std.specs.Prelude.{ℕ, ◌==◌, Bool, ◌||◌, List, [], ◌∷◌, Option, None, take}
 use Rattle.std.specs.Char.{is_ascii_digit}
 use Rattle.std.specs.Option.{option_or}
-use Rattle.tree_defs.specs.Tree.{Tree}
-use Rattle.tree_defs.specs.Typing.{rows, is_sign, is_point}
+use Rattle.defs_tree.specs.Tree.{Tree}
+use Rattle.defs_tree.specs.Typing.{rows, is_sign, is_point}
 
 -- the tree of the first row that fits, if one does
 abbrev pub first_row : List (List ℕ → Option Tree) → List ℕ → Option Tree

@@ -1,7 +1,7 @@
 -- The tree that a `Yaml` stands for: its strings are lists of characters, its arrays and hashes lists of trees.
 use Rattle.std.specs.Prelude.{List, map}
-use Rattle.yaml_chars.specs.Text.{string_chars}
-use Rattle.tree_defs.specs.Tree.{Tree, real, integer, string, boolean, array, hash, alias, null, bad_value, items_of, pairs_of}
+use Rattle.defs_text.specs.Text.{string_chars}
+use Rattle.defs_tree.specs.Tree.{Tree, real, integer, string, boolean, array, hash, alias, null, bad_value, items_of, pairs_of}
 use Rattle.yaml_tree.specs.Flat.{paired}
 use Rattle.yaml_tree.specs.declared.yaml.Yaml.{Yaml}
 use Rattle.yaml_tree.specs.declared.yaml.Yaml.TheVariants.{Real, Integer, String, Boolean, Array, Hash, Alias, Null, BadValue}

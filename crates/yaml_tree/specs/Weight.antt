@@ -1,6 +1,6 @@
 -- How much of a tree is left to be taken apart.
 use Rattle.std.specs.Prelude.{ℕ, suc, ◌+◌, ◌*◌, ◌-◌, List, []}
-use Rattle.tree_defs.specs.Tree.{Tree, array, hash, Items, no_items, item, Pairs, no_pairs, pair, list_of, pair_list_of}
+use Rattle.defs_tree.specs.Tree.{Tree, array, hash, Items, no_items, item, Pairs, no_pairs, pair, list_of, pair_list_of}
 use Rattle.yaml_tree.specs.Flat.{flat}
 
 abbrev mutual

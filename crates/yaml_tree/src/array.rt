@@ -16,8 +16,8 @@ pub struct Array {
 
 impl Model for Array {
     ghost use Rattle.std.specs.Prelude.{List};
-    ghost use Rattle.tree_defs.specs.Tree.{Tree, items_of};
-    ghost use Rattle.tree_defs.specs.TreeCode.{items_code};
+    ghost use Rattle.defs_tree.specs.Tree.{Tree, items_of};
+    ghost use Rattle.defs_tree.specs.TreeCode.{items_code};
     ghost use Rattle.yaml_tree.specs.Depth.{items_depth};
 
     ghost Value = { List Tree };

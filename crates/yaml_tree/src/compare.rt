@@ -1,7 +1,7 @@
 //! The order of trees, and when two are equal.
 ghost use Rattle.std.specs.Prelude.{◌≡◌, chars};
-ghost use Rattle.tree_defs.specs.Order.{rank, tree_cmp, items_cmp, pairs_cmp};
-ghost use Rattle.tree_defs.specs.Tree.{string, items_of, pairs_of};
+ghost use Rattle.defs_tree.specs.Order.{rank, tree_cmp, items_cmp, pairs_cmp};
+ghost use Rattle.defs_tree.specs.Tree.{string, items_of, pairs_of};
 ghost use Rattle.yaml_tree.specs.View.{view};
 
 use crate::array::Array;
@@ -87,8 +87,8 @@ impl PartialEq for Yaml {
     ghost use Rattle.std.specs.Ordering.{on};
     ghost use Rattle.std.specs.Cmp.{partial_equiv_from_equiv};
     ghost use Rattle.std.proofs.lemmas.Cmp.{on_equiv};
-    ghost use Rattle.tree_defs.specs.Order.{tree_eq};
-    ghost use Rattle.tree_defs.proofs.OrderLaws.{tree_eq_equiv};
+    ghost use Rattle.defs_tree.specs.Order.{tree_eq};
+    ghost use Rattle.defs_tree.proofs.OrderLaws.{tree_eq_equiv};
     ghost use Rattle.yaml_tree.specs.View.{view};
 
     ghost eq = { on view tree_eq };
@@ -102,7 +102,7 @@ impl PartialEq for Yaml {
 
 impl Eq for Yaml {
     ghost use Rattle.std.proofs.lemmas.Cmp.{on_equiv};
-    ghost use Rattle.tree_defs.proofs.OrderLaws.{tree_eq_equiv};
+    ghost use Rattle.defs_tree.proofs.OrderLaws.{tree_eq_equiv};
     ghost use Rattle.yaml_tree.specs.View.{view};
 
     ghost laws = { on_equiv view tree_eq_equiv };
@@ -113,8 +113,8 @@ impl PartialOrd for Yaml {
     ghost use Rattle.std.specs.Ordering.{on, as_partial_cmp};
     ghost use Rattle.std.specs.Cmp.{partial_order_from_agreeing_total};
     ghost use Rattle.std.proofs.lemmas.Cmp.{on_total};
-    ghost use Rattle.tree_defs.specs.Order.{tree_cmp};
-    ghost use Rattle.tree_defs.proofs.OrderLaws.{tree_cmp_total};
+    ghost use Rattle.defs_tree.specs.Order.{tree_cmp};
+    ghost use Rattle.defs_tree.proofs.OrderLaws.{tree_cmp_total};
     ghost use Rattle.yaml_tree.specs.View.{view};
 
     ghost partial_cmp = { as_partial_cmp (on view tree_cmp) };
@@ -130,8 +130,8 @@ impl Ord for Yaml {
     ghost use Rattle.std.specs.Prelude.{refl};
     ghost use Rattle.std.specs.Ordering.{on};
     ghost use Rattle.std.proofs.lemmas.Cmp.{on_total};
-    ghost use Rattle.tree_defs.specs.Order.{tree_cmp};
-    ghost use Rattle.tree_defs.proofs.OrderLaws.{tree_cmp_total};
+    ghost use Rattle.defs_tree.specs.Order.{tree_cmp};
+    ghost use Rattle.defs_tree.proofs.OrderLaws.{tree_cmp_total};
     ghost use Rattle.yaml_tree.specs.View.{view};
 
     ghost cmp = { on view tree_cmp };
@@ -151,8 +151,8 @@ impl PartialEq for Array {
     ghost use Rattle.std.specs.Ordering.{on};
     ghost use Rattle.std.specs.Cmp.{partial_equiv_from_equiv};
     ghost use Rattle.std.proofs.lemmas.Cmp.{on_equiv};
-    ghost use Rattle.tree_defs.specs.Order.{tree_eq};
-    ghost use Rattle.tree_defs.proofs.OrderLaws.{tree_eq_equiv};
+    ghost use Rattle.defs_tree.specs.Order.{tree_eq};
+    ghost use Rattle.defs_tree.proofs.OrderLaws.{tree_eq_equiv};
     ghost use Rattle.yaml_tree.specs.View.{array_tree};
 
     ghost eq = { on array_tree tree_eq };
@@ -166,7 +166,7 @@ impl PartialEq for Array {
 
 impl Eq for Array {
     ghost use Rattle.std.proofs.lemmas.Cmp.{on_equiv};
-    ghost use Rattle.tree_defs.proofs.OrderLaws.{tree_eq_equiv};
+    ghost use Rattle.defs_tree.proofs.OrderLaws.{tree_eq_equiv};
     ghost use Rattle.yaml_tree.specs.View.{array_tree};
 
     ghost laws = { on_equiv array_tree tree_eq_equiv };
@@ -177,8 +177,8 @@ impl PartialOrd for Array {
     ghost use Rattle.std.specs.Ordering.{on, as_partial_cmp};
     ghost use Rattle.std.specs.Cmp.{partial_order_from_agreeing_total};
     ghost use Rattle.std.proofs.lemmas.Cmp.{on_total};
-    ghost use Rattle.tree_defs.specs.Order.{tree_cmp};
-    ghost use Rattle.tree_defs.proofs.OrderLaws.{tree_cmp_total};
+    ghost use Rattle.defs_tree.specs.Order.{tree_cmp};
+    ghost use Rattle.defs_tree.proofs.OrderLaws.{tree_cmp_total};
     ghost use Rattle.yaml_tree.specs.View.{array_tree};
 
     ghost partial_cmp = { as_partial_cmp (on array_tree tree_cmp) };
@@ -194,8 +194,8 @@ impl Ord for Array {
     ghost use Rattle.std.specs.Prelude.{refl};
     ghost use Rattle.std.specs.Ordering.{on};
     ghost use Rattle.std.proofs.lemmas.Cmp.{on_total};
-    ghost use Rattle.tree_defs.specs.Order.{tree_cmp};
-    ghost use Rattle.tree_defs.proofs.OrderLaws.{tree_cmp_total};
+    ghost use Rattle.defs_tree.specs.Order.{tree_cmp};
+    ghost use Rattle.defs_tree.proofs.OrderLaws.{tree_cmp_total};
     ghost use Rattle.yaml_tree.specs.View.{array_tree};
 
     ghost cmp = { on array_tree tree_cmp };
@@ -215,8 +215,8 @@ impl PartialEq for Hash {
     ghost use Rattle.std.specs.Ordering.{on};
     ghost use Rattle.std.specs.Cmp.{partial_equiv_from_equiv};
     ghost use Rattle.std.proofs.lemmas.Cmp.{on_equiv};
-    ghost use Rattle.tree_defs.specs.Order.{tree_eq};
-    ghost use Rattle.tree_defs.proofs.OrderLaws.{tree_eq_equiv};
+    ghost use Rattle.defs_tree.specs.Order.{tree_eq};
+    ghost use Rattle.defs_tree.proofs.OrderLaws.{tree_eq_equiv};
     ghost use Rattle.yaml_tree.specs.View.{hash_tree};
 
     ghost eq = { on hash_tree tree_eq };
@@ -230,7 +230,7 @@ impl PartialEq for Hash {
 
 impl Eq for Hash {
     ghost use Rattle.std.proofs.lemmas.Cmp.{on_equiv};
-    ghost use Rattle.tree_defs.proofs.OrderLaws.{tree_eq_equiv};
+    ghost use Rattle.defs_tree.proofs.OrderLaws.{tree_eq_equiv};
     ghost use Rattle.yaml_tree.specs.View.{hash_tree};
 
     ghost laws = { on_equiv hash_tree tree_eq_equiv };
@@ -241,8 +241,8 @@ impl PartialOrd for Hash {
     ghost use Rattle.std.specs.Ordering.{on, as_partial_cmp};
     ghost use Rattle.std.specs.Cmp.{partial_order_from_agreeing_total};
     ghost use Rattle.std.proofs.lemmas.Cmp.{on_total};
-    ghost use Rattle.tree_defs.specs.Order.{tree_cmp};
-    ghost use Rattle.tree_defs.proofs.OrderLaws.{tree_cmp_total};
+    ghost use Rattle.defs_tree.specs.Order.{tree_cmp};
+    ghost use Rattle.defs_tree.proofs.OrderLaws.{tree_cmp_total};
     ghost use Rattle.yaml_tree.specs.View.{hash_tree};
 
     ghost partial_cmp = { as_partial_cmp (on hash_tree tree_cmp) };
@@ -258,8 +258,8 @@ impl Ord for Hash {
     ghost use Rattle.std.specs.Prelude.{refl};
     ghost use Rattle.std.specs.Ordering.{on};
     ghost use Rattle.std.proofs.lemmas.Cmp.{on_total};
-    ghost use Rattle.tree_defs.specs.Order.{tree_cmp};
-    ghost use Rattle.tree_defs.proofs.OrderLaws.{tree_cmp_total};
+    ghost use Rattle.defs_tree.specs.Order.{tree_cmp};
+    ghost use Rattle.defs_tree.proofs.OrderLaws.{tree_cmp_total};
     ghost use Rattle.yaml_tree.specs.View.{hash_tree};
 
     ghost cmp = { on hash_tree tree_cmp };

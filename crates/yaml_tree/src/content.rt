@@ -1,6 +1,6 @@
 //! What a node holds.
 ghost use Rattle.std.specs.Prelude.{◌≡◌, option_map, chars};
-ghost use Rattle.yaml_chars.specs.Text.{string_chars};
+ghost use Rattle.defs_text.specs.Text.{string_chars};
 ghost use Rattle.yaml_tree.specs.Node.{boolean_of, integer_of, text_of, array_of, hash_of, is_null, is_bad_value, is_array, is_hash, or_else};
 ghost use Rattle.yaml_tree.specs.View.{view};
 
@@ -36,7 +36,7 @@ impl Yaml {
     }
 
     /// The text of a `String`; `None` for every other node.
-    #[tactic(auto, unfolding(yaml_chars::specs::Text::string_chars))]
+    #[tactic(auto, unfolding(defs_text::specs::Text::string_chars))]
     pub fn as_str(&self) -> Option<&str>
         ensures { option_map (λ s. chars s.now) result ≡ text_of (view self.now) }
     {

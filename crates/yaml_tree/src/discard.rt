@@ -1,7 +1,7 @@
 //! How trees are dropped: without memory, and in a bounded number of stack frames, however deep they are.
 ghost use Rattle.std.specs.Prelude.{◌≡◌, ◌≢◌, ◌<◌, ◌≤◌, ◌++◌, ◌∷◌, [], IfSome, IfNone, ◌+◌, vec_len, vec_capacity};
 ghost use Rattle.yaml_tree.specs.View.{view, items_view, array_tree};
-ghost use Rattle.tree_defs.specs.Tree.{array, items_of};
+ghost use Rattle.defs_tree.specs.Tree.{array, items_of};
 ghost use Rattle.yaml_tree.specs.Weight.{parts, weight, with_last};
 
 use crate::array::Array;

@@ -1,6 +1,6 @@
 //! Hashes by their pairs: iterators.
 ghost use Rattle.std.specs.Prelude.{◌≡◌};
-ghost use Rattle.tree_defs.specs.Pairs.{AreDistinct};
+ghost use Rattle.defs_tree.specs.Pairs.{AreDistinct};
 
 use crate::hash::Hash;
 use crate::yaml::Yaml;
@@ -15,8 +15,8 @@ pub struct Iter<'a> {
 
 impl<'a> Model for Iter<'a> {
     ghost use Rattle.std.specs.Prelude.{List};
-    ghost use Rattle.tree_defs.specs.Tree.{Tree};
-    ghost use Rattle.tree_defs.specs.TreeCode.{pairs_code};
+    ghost use Rattle.defs_tree.specs.Tree.{Tree};
+    ghost use Rattle.defs_tree.specs.TreeCode.{pairs_code};
     ghost use Rattle.yaml_tree.specs.View.{pairs_view};
 
     ghost Value = { List (Tree × Tree) };
@@ -77,8 +77,8 @@ pub struct IntoIter {
 impl Model for IntoIter {
     ghost use Rattle.std.specs.Prelude.{List};
     ghost use Rattle.std.specs.Vec.Iter.{into_iter_items};
-    ghost use Rattle.tree_defs.specs.Tree.{Tree};
-    ghost use Rattle.tree_defs.specs.TreeCode.{pairs_code};
+    ghost use Rattle.defs_tree.specs.Tree.{Tree};
+    ghost use Rattle.defs_tree.specs.TreeCode.{pairs_code};
     ghost use Rattle.yaml_tree.specs.View.{pairs_view};
 
     ghost Value = { List (Tree × Tree) };

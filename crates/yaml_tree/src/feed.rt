@@ -1,6 +1,6 @@
 //! What a tree feeds a hasher.
 ghost use Rattle.std.specs.Prelude.{◌≡◌, fold};
-ghost use Rattle.tree_defs.specs.Tree.{items_of, pairs_of};
+ghost use Rattle.defs_tree.specs.Tree.{items_of, pairs_of};
 ghost use Rattle.yaml_tree.specs.Feed.{tree_feed, items_feed, pairs_feed};
 ghost use Rattle.yaml_tree.specs.View.{view};
 
@@ -74,7 +74,7 @@ fn feed_pairs<H: Hasher>(pairs: &Hash, state: &mut H)
 
 impl std::hash::Hash for Yaml {
     ghost use Rattle.std.proofs.Common.{ap};
-    ghost use Rattle.tree_defs.proofs.OrderLaws.{tree_eq_decides};
+    ghost use Rattle.defs_tree.proofs.OrderLaws.{tree_eq_decides};
     ghost use Rattle.yaml_tree.specs.Feed.{tree_feed};
     ghost use Rattle.yaml_tree.specs.View.{view};
 
@@ -89,7 +89,7 @@ impl std::hash::Hash for Yaml {
 
 impl std::hash::Hash for Array {
     ghost use Rattle.std.proofs.Common.{ap};
-    ghost use Rattle.tree_defs.proofs.OrderLaws.{tree_eq_decides};
+    ghost use Rattle.defs_tree.proofs.OrderLaws.{tree_eq_decides};
     ghost use Rattle.yaml_tree.specs.Feed.{tree_feed};
     ghost use Rattle.yaml_tree.specs.View.{array_tree};
 
@@ -105,7 +105,7 @@ impl std::hash::Hash for Array {
 
 impl std::hash::Hash for Hash {
     ghost use Rattle.std.proofs.Common.{ap};
-    ghost use Rattle.tree_defs.proofs.OrderLaws.{tree_eq_decides};
+    ghost use Rattle.defs_tree.proofs.OrderLaws.{tree_eq_decides};
     ghost use Rattle.yaml_tree.specs.Feed.{tree_feed};
     ghost use Rattle.yaml_tree.specs.View.{hash_tree};
 

@@ -1,9 +1,9 @@
 //! Places by rank for a short hash, with no memory of their own.
 ghost use Rattle.std.specs.Prelude.{◌≡◌, ◌<◌, ◌≤◌, ◌+◌, ◌++◌, ◌∷◌, [], length, map, take, get_or};
 ghost use Rattle.std.specs.List.{insert, remove};
-ghost use Rattle.place_blocks.specs.Moves.{closed_up, moved_up};
+ghost use Rattle.yaml_hash_index.specs.Moves.{closed_up, moved_up};
 
-use place_blocks::moves::{closed_up, moved_up};
+use yaml_hash_index::moves::{closed_up, moved_up};
 use std::marker::Model;
 
 /// How many places there is room for.

@@ -1,8 +1,8 @@
 //! A hash: pairs of a key and a value, in the order of insertion.
 ghost use Rattle.std.specs.Prelude.{◌≡◌, ◌+◌, ◌<◌, ◌≤◌, ◌↔◌, [], Some, None, length, option_map, IsTrue, IsSome, IfOk, IfErr, OnOk, OnErr};
-ghost use Rattle.tree_defs.specs.Digits.{binary_digits};
-ghost use Rattle.tree_defs.specs.Tree.{string};
-ghost use Rattle.tree_defs.specs.Pairs.{insert, last_of, lookup, without, place_of, value_at, with_value_at, with_value, AreDistinct};
+ghost use Rattle.defs_tree.specs.Digits.{binary_digits};
+ghost use Rattle.defs_tree.specs.Tree.{string};
+ghost use Rattle.defs_tree.specs.Pairs.{insert, last_of, lookup, without, place_of, value_at, with_value_at, with_value, AreDistinct};
 ghost use Rattle.yaml_tree.specs.Probes.{probed};
 ghost use Rattle.yaml_tree.specs.View.{view, items_view};
 ghost use Rattle.yaml_tree.specs.Flat.{flat};
@@ -27,8 +27,8 @@ pub struct Hash {
 
 impl Model for Hash {
     ghost use Rattle.std.specs.Prelude.{List};
-    ghost use Rattle.tree_defs.specs.Tree.{Tree, pairs_of};
-    ghost use Rattle.tree_defs.specs.TreeCode.{pairs_code};
+    ghost use Rattle.defs_tree.specs.Tree.{Tree, pairs_of};
+    ghost use Rattle.defs_tree.specs.TreeCode.{pairs_code};
     ghost use Rattle.yaml_tree.specs.Depth.{pairs_depth};
     ghost use Rattle.yaml_tree.specs.Places.{IsIndexed};
 

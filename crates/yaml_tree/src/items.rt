@@ -14,8 +14,8 @@ pub struct YamlIter {
 
 impl Model for YamlIter {
     ghost use Rattle.std.specs.Prelude.{List};
-    ghost use Rattle.tree_defs.specs.Tree.{Tree};
-    ghost use Rattle.tree_defs.specs.TreeCode.{items_code};
+    ghost use Rattle.defs_tree.specs.Tree.{Tree};
+    ghost use Rattle.defs_tree.specs.TreeCode.{items_code};
 
     ghost Value = { List Tree };
 
@@ -83,8 +83,8 @@ pub struct Iter<'a> {
 
 impl<'a> Model for Iter<'a> {
     ghost use Rattle.std.specs.Prelude.{List};
-    ghost use Rattle.tree_defs.specs.Tree.{Tree};
-    ghost use Rattle.tree_defs.specs.TreeCode.{items_code};
+    ghost use Rattle.defs_tree.specs.Tree.{Tree};
+    ghost use Rattle.defs_tree.specs.TreeCode.{items_code};
     ghost use Rattle.yaml_tree.specs.View.{items_view};
 
     ghost Value = { List Tree };

@@ -1,8 +1,8 @@
 //! The value at a key or a place of a node.
 ghost use Rattle.std.specs.Prelude.{◌≡◌, ◌↔◌, Some, IsTrue, IsSome, option_map, chars};
-ghost use Rattle.tree_defs.specs.Order.{tree_eq};
-ghost use Rattle.tree_defs.specs.Pairs.{lookup, place_of, with_value};
-ghost use Rattle.tree_defs.specs.Tree.{string};
+ghost use Rattle.defs_tree.specs.Order.{tree_eq};
+ghost use Rattle.defs_tree.specs.Pairs.{lookup, place_of, with_value};
+ghost use Rattle.defs_tree.specs.Tree.{string};
 ghost use Rattle.yaml_tree.specs.Node.{value_at_text, value_at_index};
 ghost use Rattle.yaml_tree.specs.View.{view};
 

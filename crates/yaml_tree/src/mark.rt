@@ -1,6 +1,6 @@
 //! A number of each key, by which most keys are told apart without a look at them.
 ghost use Rattle.std.specs.Prelude.{◌≡◌, ◌+◌, ◌^◌, ◌<◌, chars};
-ghost use Rattle.tree_defs.specs.Tree.{string};
+ghost use Rattle.defs_tree.specs.Tree.{string};
 ghost use Rattle.yaml_tree.specs.Marks.{mark, text_mark};
 ghost use Rattle.yaml_tree.specs.View.{view};
 

@@ -1,7 +1,7 @@
 //! The value at a key or a place of a node, for writing.
 ghost use Rattle.std.specs.Prelude.{◌≡◌, ◌<◌, ◌^◌, Some, IsSome, pos, chars, slice_get};
-ghost use Rattle.tree_defs.specs.Pairs.{lookup, place_of, with_value};
-ghost use Rattle.tree_defs.specs.Tree.{integer, string};
+ghost use Rattle.defs_tree.specs.Pairs.{lookup, place_of, with_value};
+ghost use Rattle.defs_tree.specs.Tree.{integer, string};
 ghost use Rattle.yaml_tree.specs.Node.{value_at_text, value_at_index};
 ghost use Rattle.yaml_tree.specs.View.{view};
 

@@ -2,10 +2,10 @@
 //! marks first.
 ghost use Rattle.std.specs.Prelude.{◌≡◌, ◌<◌, ◌≤◌, ◌+◌, ◌^◌, ◌++◌, ◌∷◌, [], ℕ, List, None, length, map, get_or, IfOk, OnOk, OnErr};
 ghost use Rattle.std.specs.List.{remove};
-ghost use Rattle.place_blocks.specs.Blocks.{joined, rank_of, IsSpot};
-ghost use Rattle.place_blocks.specs.Moves.{closed_up, moved_up};
-ghost use Rattle.tree_defs.specs.Pairs.{place_of, AreDistinct};
-ghost use Rattle.tree_defs.specs.Tree.{Tree};
+ghost use Rattle.yaml_hash_index.specs.Blocks.{joined, rank_of, IsSpot};
+ghost use Rattle.yaml_hash_index.specs.Moves.{closed_up, moved_up};
+ghost use Rattle.defs_tree.specs.Pairs.{place_of, AreDistinct};
+ghost use Rattle.defs_tree.specs.Tree.{Tree};
 ghost use Rattle.yaml_tree.specs.Flat.{flat};
 ghost use Rattle.yaml_tree.specs.Marks.{mark, first_by, AreMarks, HaveRising, IsWindow};
 ghost use Rattle.yaml_tree.specs.Places.{places_in, marks_in, places, marks, rank_at, HasSpot, HasPlace, HasMarks, IsIndexed};
@@ -18,7 +18,7 @@ use crate::mark::mark;
 use crate::search::{Probe, search};
 use crate::steps::Steps;
 use crate::yaml::Yaml;
-use place_blocks::{Blocks, Entry, Spot};
+use yaml_hash_index::{Blocks, Entry, Spot};
 use std::alloc::{AllocError, Global};
 
 // Those of a short hash take no memory of their own.

@@ -1,7 +1,7 @@
 //! Rows of keys and values.
 ghost use Rattle.std.specs.Prelude.{◌≡◌, ◌+◌, ◌*◌, ◌<◌, ◌≤◌, ◌++◌, ◌∷◌, [], length, get_or, IfErr, OnOk, OnErr, vec_len, vec_capacity};
 ghost use Rattle.std.specs.List.{remove};
-ghost use Rattle.tree_defs.specs.Tree.{Tree};
+ghost use Rattle.defs_tree.specs.Tree.{Tree};
 ghost use Rattle.yaml_tree.specs.Marks.{first_by, AreMarks};
 ghost use Rattle.yaml_tree.specs.Places.{places, marks, rank_at, HasSpot, IsIndexed};
 ghost use Rattle.yaml_tree.specs.Ranked.{AreRanked, IsGap};
@@ -9,7 +9,7 @@ ghost use Rattle.yaml_tree.specs.View.{view, items_view, pairs_view};
 
 use crate::ranks::Ranks;
 use crate::yaml::Yaml;
-use place_blocks::Spot;
+use yaml_hash_index::Spot;
 
 // Room that the first pair takes: most hashes have no more than four pairs.
 const FIRST_ROOM: usize = 8;

@@ -1,7 +1,7 @@
 //! Where a key's place stands, found by halving.
 ghost use Rattle.std.specs.Prelude.{◌≡◌, ◌+◌, ◌^◌, ◌<◌, ◌≤◌, length, IfOk, IfErr};
-ghost use Rattle.tree_defs.specs.Digits.{binary_digits};
-ghost use Rattle.tree_defs.specs.Order.{tree_cmp};
+ghost use Rattle.defs_tree.specs.Digits.{binary_digits};
+ghost use Rattle.defs_tree.specs.Order.{tree_cmp};
 ghost use Rattle.yaml_tree.specs.Probes.{probed};
 ghost use Rattle.yaml_tree.specs.Marks.{mark, first_by};
 ghost use Rattle.yaml_tree.specs.Places.{places, rank_at, HasSpot, HasPlace, IsIndexed};
@@ -12,7 +12,7 @@ use crate::mark::{mark, mark_of_text};
 use crate::ranks::Ranks;
 use crate::steps::Steps;
 use crate::yaml::Yaml;
-use place_blocks::Spot;
+use yaml_hash_index::Spot;
 use std::cmp::Ordering;
 
 /// What is looked up: a key, or the key `String` with a text.

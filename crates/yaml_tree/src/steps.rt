@@ -1,7 +1,7 @@
 //! A count of comparisons.
 ghost use Rattle.std.specs.Prelude.{◌≡◌, ◌+◌, chars};
-ghost use Rattle.tree_defs.specs.Order.{tree_cmp};
-ghost use Rattle.tree_defs.specs.Tree.{string};
+ghost use Rattle.defs_tree.specs.Order.{tree_cmp};
+ghost use Rattle.defs_tree.specs.Tree.{string};
 ghost use Rattle.yaml_tree.specs.View.{view};
 
 use crate::compare::{compare, compare_text};

@@ -1,11 +1,11 @@
 //! What a plain text stands for.
 ghost use Rattle.std.specs.Prelude.{◌≡◌, ◌≤◌, ◌||◌, true, IfOk, OnErr, option_map, option_and_then, map, chars};
-ghost use Rattle.tree_defs.specs.Grammar.{is_among, at_least_one};
-ghost use Rattle.tree_defs.specs.Typing.{behind, signed_number, typing, is_string, is_sign, is_decimal, special_words, null_words, true_words, false_words};
-ghost use Rattle.tree_defs.proofs.GrammarLaws.{behind_all, behind_one};
-ghost use Rattle.tree_defs.proofs.DecimalReading.{begins_in, reads_exponent, reads_on, reads_decimal};
+ghost use Rattle.defs_tree.specs.Grammar.{is_among, at_least_one};
+ghost use Rattle.defs_tree.specs.Typing.{behind, signed_number, typing, is_string, is_sign, is_decimal, special_words, null_words, true_words, false_words};
+ghost use Rattle.defs_tree.proofs.GrammarLaws.{behind_all, behind_one};
+ghost use Rattle.defs_tree.proofs.DecimalReading.{begins_in, reads_exponent, reads_on, reads_decimal};
 ghost use Rattle.std.specs.Char.{is_ascii_digit};
-ghost use Rattle.yaml_chars.specs.Text.{string_chars};
+ghost use Rattle.defs_text.specs.Text.{string_chars};
 ghost use Rattle.yaml_tree.specs.Node.{takes_memory};
 ghost use Rattle.yaml_tree.specs.Values.{value_row, begins_value};
 ghost use Rattle.yaml_tree.specs.Meanings.{meant};
@@ -50,7 +50,7 @@ impl Yaml {
     }
 
     /// The same as `from_str`, of an owned text. It takes no memory.
-    #[tactic(auto, unfolding(yaml_chars::specs::Text::string_chars))]
+    #[tactic(auto, unfolding(defs_text::specs::Text::string_chars))]
     pub fn from_string(text: String) -> Yaml
         ensures { view result ≡ typing (string_chars text) }
     {

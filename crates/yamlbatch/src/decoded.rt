@@ -2,8 +2,8 @@ use crate::job::Trap;
 use crate::trees::lines_of;
 use std::alloc::{AllocError, Global};
 use std::ops::ControlFlow;
-use yaml_bytes::{LoadError, YamlDecoder};
-use yaml_decoder::{YAMLDecodingTrap, YAMLDecodingTrapFn};
+use yaml_decoder::{LoadError, YamlDecoder};
+use yaml_encoding::{YAMLDecodingTrap, YAMLDecodingTrapFn};
 
 /// The trees of bytes, a line each, or the line of the fault.
 pub fn decoded(alloc: Global, bytes: &[u8], trap: Trap) -> Result<String, AllocError> {

@@ -10,7 +10,7 @@ mod trees;
 use crate::decoded::decoded;
 use crate::job::{Job, job_of};
 use crate::trees::{dumps, trees};
-use event_lines::write_event;
+use yaml_event_lines::write_event;
 use std::alloc::Global;
 use std::io::{BufRead, BufReader, BufWriter, Write};
 use std::{env, fs, io};

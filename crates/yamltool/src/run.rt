@@ -1,7 +1,7 @@
 //! The program over any files and writers.
 use crate::command::{Command, Settings, command_of};
 use crate::failure::{Failure, arguments_failure, read_failure};
-use event_lines::write_event;
+use yaml_event_lines::write_event;
 use overlay::overlay;
 use std::alloc::Global;
 use std::fs::OpenOptions;

@@ -1,5 +1,5 @@
 use Rattle.std.proofs.Common.{refl, ap, sym, subst}
-use Rattle.tree_defs.specs.Writable.{IsWritable}
+use Rattle.defs_tree.specs.Writable.{IsWritable}
 use Rattle.yaml_tree.specs.View.{view}
 use Rattle.overlay.proofs.InsertedLemmas.{laid_tree}
 use Rattle.overlay.proofs.WritableLemmas.{overlay_is_writable}

@@ -1,6 +1,6 @@
 use Rattle.std.proofs.Common.{◌+◌, ◌*◌, ◌≤◌, ◌≡◌, []}
-use Rattle.tree_defs.specs.Overlay.{pairs_under}
-use Rattle.tree_defs.specs.Tree.{pairs_of}
+use Rattle.defs_tree.specs.Overlay.{pairs_under}
+use Rattle.defs_tree.specs.Tree.{pairs_of}
 use Rattle.yaml_tree.specs.Depth.{depth, pairs_depth}
 use Rattle.yaml_tree.specs.View.{view}
 use Rattle.overlay.specs.Inserted.{inserted}

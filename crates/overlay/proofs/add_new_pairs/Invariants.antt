@@ -1,5 +1,5 @@
 use Rattle.std.proofs.Common.{◌≡◌}
-use Rattle.tree_defs.specs.Overlay.{new_pairs}
+use Rattle.defs_tree.specs.Overlay.{new_pairs}
 use Rattle.overlay.specs.Inserted.{inserted}
 use Rattle.overlay.proofs.add_new_pairs.Given as goal
 

@@ -1,5 +1,5 @@
 use Rattle.std.proofs.Common.{sym, ap, arith}
-use Rattle.tree_defs.specs.Escapes.{written_character}
+use Rattle.defs_tree.specs.Escapes.{written_character}
 use Rattle.yaml_emitter.proofs.EscapeLemmas.{other_character}
 use Rattle.yaml_emitter.proofs.WritingLemmas.{writes_as}
 use Rattle.yaml_emitter.proofs.escape.write_character.Goals as goal

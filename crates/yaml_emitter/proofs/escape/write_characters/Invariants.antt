@@ -1,6 +1,6 @@
 use Rattle.std.proofs.Common.{length}
 use Rattle.std.specs.Str.{chars, IsUtf8}
-use Rattle.tree_defs.specs.Escapes.{written_escapes}
+use Rattle.defs_tree.specs.Escapes.{written_escapes}
 use Rattle.yaml_emitter.specs.Writing.{IsLeft}
 use Rattle.yaml_emitter.proofs.escape.write_characters.Given as goal
 

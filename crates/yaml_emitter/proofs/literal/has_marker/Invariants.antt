@@ -1,8 +1,8 @@
 use Rattle.std.proofs.Common.{◌≡◌, length}
 use Rattle.std.specs.List.{list_any}
 use Rattle.std.specs.Str.{chars, IsUtf8}
-use Rattle.tree_defs.specs.Lines.{lines_of}
-use Rattle.tree_defs.specs.Literal.{begins_as_marker}
+use Rattle.defs_tree.specs.Lines.{lines_of}
+use Rattle.defs_tree.specs.Literal.{begins_as_marker}
 use Rattle.yaml_emitter.proofs.literal.has_marker.Given as goal
 
 abbrev pub invariant-lines : goal.invariant-lines

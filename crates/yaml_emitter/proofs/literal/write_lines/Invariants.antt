@@ -1,6 +1,6 @@
 use Rattle.std.proofs.Common.{length}
 use Rattle.std.specs.Str.{chars, IsUtf8}
-use Rattle.tree_defs.specs.Lines.{lines_of}
+use Rattle.defs_tree.specs.Lines.{lines_of}
 use Rattle.yaml_emitter.specs.At.{below}
 use Rattle.yaml_emitter.specs.Writing.{IsLeft}
 use Rattle.yaml_emitter.proofs.literal.write_lines.Given as goal

@@ -1,8 +1,8 @@
 use Rattle.std.proofs.Common.{◌+◌, ◌*◌, ◌≤◌, true}
 use Rattle.std.specs.Prelude.{max}
-use Rattle.tree_defs.specs.Box.{item_boxes, pair_boxes}
-use Rattle.tree_defs.specs.Tree.{items_of, pairs_of}
-use Rattle.tree_defs.specs.Writable.{item_levels, pair_levels}
+use Rattle.defs_tree.specs.Box.{item_boxes, pair_boxes}
+use Rattle.defs_tree.specs.Tree.{items_of, pairs_of}
+use Rattle.defs_tree.specs.Writable.{item_levels, pair_levels}
 use Rattle.yaml_tree.specs.Depth.{depth, items_depth, pairs_depth}
 use Rattle.yaml_tree.specs.View.{view}
 use Rattle.yaml_emitter.specs.Entries.{entries_text}

@@ -1,5 +1,5 @@
 use Rattle.std.proofs.Common.{ap, sym, ◌∙◌}
-use Rattle.tree_defs.specs.Box.{is_block}
+use Rattle.defs_tree.specs.Box.{is_block}
 use Rattle.yaml_tree.specs.View.{view}
 use Rattle.yaml_emitter.proofs.EntryLemmas.{block_of_items, block_of_pairs}
 use Rattle.yaml_emitter.proofs.node.is_block.Goals as goal

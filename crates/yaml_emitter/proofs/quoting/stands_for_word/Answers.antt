@@ -1,6 +1,6 @@
 use Rattle.std.proofs.Common.{ap, ◌∙◌, ◌||◌}
 use Rattle.std.specs.Prelude.{not, chars}
-use Rattle.tree_defs.specs.Typing.{typing, is_string}
+use Rattle.defs_tree.specs.Typing.{typing, is_string}
 use Rattle.yaml_emitter.specs.Words.{is_name}
 use Rattle.yaml_emitter.proofs.WordLemmas.{word_of_bytes}
 use Rattle.yaml_emitter.proofs.quoting.stands_for_word.Goals as goal

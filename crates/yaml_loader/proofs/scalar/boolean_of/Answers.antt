@@ -1,5 +1,5 @@
 use Rattle.std.proofs.Common.{sym, ap, ◌∙◌, inl, inr}
-use Rattle.event_defs.specs.Scalar.{as_boolean}
+use Rattle.defs_event.specs.Scalar.{as_boolean}
 use Rattle.yaml_loader.proofs.Tags.{boolean-chars, no_boolean}
 use Rattle.yaml_loader.proofs.scalar.boolean_of.Goals as goal
 

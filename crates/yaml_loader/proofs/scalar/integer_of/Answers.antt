@@ -4,9 +4,9 @@ use Rattle.std.proofs.lemmas.Result.{MatchResult-at_ok, MatchResult-at_err}
 use Rattle.std.proofs.Math.Facts.{to_z-of_z}
 use mir.Val.{to_z, of_z}
 use mir.Syntax.{w64}
-use Rattle.tree_defs.specs.Tree.{integer, bad_value}
-use Rattle.tree_defs.specs.Typing.{signed_number}
-use Rattle.tree_defs.proofs.Parsing.{parsed_text}
+use Rattle.defs_tree.specs.Tree.{integer, bad_value}
+use Rattle.defs_tree.specs.Typing.{signed_number}
+use Rattle.defs_tree.proofs.Parsing.{parsed_text}
 use Rattle.yaml_loader.proofs.scalar.integer_of.Goals as goal
 
 pub returns-in-Ok : goal.returns-in-Ok

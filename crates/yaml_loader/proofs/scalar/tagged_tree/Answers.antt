@@ -1,8 +1,8 @@
 use Rattle.std.proofs.Common.{◌≡◌, Bool, sym, ap, ◌∙◌, true, false, not}
 use Rattle.std.specs.Prelude.{chars, bytes_eq}
-use Rattle.yaml_chars.specs.Text.{string_chars}
-use Rattle.event_defs.specs.Names.{core_prefix}
-use Rattle.event_defs.specs.Scalar.{by_name, as_boolean, as_integer, as_null}
+use Rattle.defs_text.specs.Text.{string_chars}
+use Rattle.defs_event.specs.Names.{core_prefix}
+use Rattle.defs_event.specs.Scalar.{by_name, as_boolean, as_integer, as_null}
 use Rattle.yaml_parser.specs.Shown.{tag_of}
 use Rattle.yaml_loader.proofs.Tags.{other_tag, core_tag, other_name}
 use Rattle.yaml_loader.proofs.scalar.tagged_tree.Goals as goal

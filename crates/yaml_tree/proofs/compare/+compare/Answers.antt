@@ -1,6 +1,6 @@
 use Rattle.std.proofs.Common.{◌≤◌, ◌⊎◌, length, inl, inr, sym, ap, ◌∙◌, rules}
 use Rattle.std.specs.Ordering.{on}
-use Rattle.tree_defs.specs.Order.{tree_cmp}
+use Rattle.defs_tree.specs.Order.{tree_cmp}
 use Rattle.yaml_tree.specs.Flat.{flat}
 use Rattle.yaml_tree.specs.View.{view}
 use Rattle.yaml_tree.proofs.Comparing.{cmp_next, cmp_end, items_seen, pairs_seen, stops}

@@ -1,7 +1,7 @@
 use Rattle.std.proofs.Common.{◌≡◌, ◌-◌, ◌≤◌, length, drop}
 use Rattle.std.specs.Ordering.{on}
 use Rattle.std.specs.Cmp.Lexicographic.{slice_cmp}
-use Rattle.tree_defs.specs.Order.{tree_cmp}
+use Rattle.defs_tree.specs.Order.{tree_cmp}
 use Rattle.yaml_tree.specs.View.{view}
 use Rattle.yaml_tree.proofs.compare.+compare.Given as goal
 

@@ -1,5 +1,5 @@
 use Rattle.std.proofs.Common.{◌++◌, [], ◌∷◌}
-use Rattle.tree_defs.specs.Tree.{array, items_of}
+use Rattle.defs_tree.specs.Tree.{array, items_of}
 use Rattle.yaml_tree.specs.View.{view, items_view}
 use Rattle.yaml_tree.proofs.Discarding.{descended, around}
 use Rattle.yaml_tree.proofs.discard.descend.Goals as goal

@@ -1,7 +1,7 @@
 use Rattle.std.proofs.Common.{◌+◌, ◌*◌, ◌++◌, length, drop, fold, sym, ap, ◌∙◌, arith}
 use Rattle.std.specs.Hash as fed
 use Rattle.std.proofs.lemmas.List.Sums.{fold-append}
-use Rattle.tree_defs.specs.Tree.{pairs_of}
+use Rattle.defs_tree.specs.Tree.{pairs_of}
 use Rattle.yaml_tree.specs.Feed.{tree_feed, pairs_feed}
 use Rattle.yaml_tree.specs.Flat.{flat}
 use Rattle.yaml_tree.specs.View.{view, pairs_view}

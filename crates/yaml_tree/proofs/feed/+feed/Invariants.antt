@@ -1,5 +1,5 @@
 use Rattle.std.proofs.Common.{◌≡◌, ◌*◌, drop, fold}
-use Rattle.tree_defs.specs.Tree.{items_of, pairs_of}
+use Rattle.defs_tree.specs.Tree.{items_of, pairs_of}
 use Rattle.yaml_tree.specs.Feed.{items_feed, pairs_feed}
 use Rattle.yaml_tree.specs.View.{items_view, pairs_view}
 use Rattle.yaml_tree.proofs.feed.+feed.Given as goal

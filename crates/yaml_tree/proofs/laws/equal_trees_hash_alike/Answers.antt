@@ -1,6 +1,6 @@
 use Rattle.std.proofs.Common.{ap}
 use Rattle.yaml_tree.specs.Feed.{tree_feed}
-use Rattle.tree_defs.proofs.OrderLaws.{tree_eq_decides}
+use Rattle.defs_tree.proofs.OrderLaws.{tree_eq_decides}
 use Rattle.yaml_tree.proofs.laws.equal_trees_hash_alike.Goals as goal
 
 pub returns : goal.returns

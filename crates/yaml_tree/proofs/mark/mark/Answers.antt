@@ -1,6 +1,6 @@
 use Rattle.std.proofs.Common.{◌≡◌, ◌⊎◌, inl, inr, sym, ap, ◌∙◌}
 use Rattle.std.specs.Str.{encode_utf8_all}
-use Rattle.yaml_chars.specs.Text.{string_chars}
+use Rattle.defs_text.specs.Text.{string_chars}
 use Rattle.yaml_tree.specs.Marks.{mark, text_mark}
 use Rattle.yaml_tree.specs.View.{view}
 use Rattle.yaml_tree.specs.declared.yaml.Yaml.TheVariants.{Real, String}

@@ -1,9 +1,9 @@
 use Rattle.std.proofs.Common.{◌≡◌, ◌/◌, ◌++◌, ◌∷◌, [], length, map, ap, sym, subst, ◌∙◌, arith}
 use Rattle.std.specs.List.{insert}
 use Rattle.std.proofs.lemmas.List.{length-map}
-use Rattle.place_blocks.specs.Blocks.{joined, rank_of}
-use Rattle.place_blocks.specs.declared.entry.Entry.{Entry}
-use Rattle.place_blocks.proofs.Joining.{rank_within}
+use Rattle.yaml_hash_index.specs.Blocks.{joined, rank_of}
+use Rattle.yaml_hash_index.specs.declared.entry.Entry.{Entry}
+use Rattle.yaml_hash_index.proofs.Joining.{rank_within}
 use Rattle.yaml_tree.specs.Marks.{mark, AreMarks}
 use Rattle.yaml_tree.specs.Places.{place_of_entry, mark_of_entry, places_in, marks_in}
 use Rattle.yaml_tree.specs.Ranked.{AreRanked}

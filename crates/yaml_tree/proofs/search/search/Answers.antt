@@ -1,6 +1,6 @@
 use Rattle.std.proofs.Common.{◌≡◌, ◌+◌, ◌-◌, ◌*◌, ◌/◌, ◌^◌, ◌<◌, length, sym, ap, ◌∙◌, arith, rules}
-use Rattle.tree_defs.specs.Order.{tree_cmp}
-use Rattle.tree_defs.proofs.OrderLaws.{tree_tied}
+use Rattle.defs_tree.specs.Order.{tree_cmp}
+use Rattle.defs_tree.proofs.OrderLaws.{tree_tied}
 use Rattle.yaml_tree.specs.Marks.{first_by}
 use Rattle.yaml_tree.specs.Places.{places, rank_at}
 use Rattle.yaml_tree.specs.Ranked.{key_of_rank}

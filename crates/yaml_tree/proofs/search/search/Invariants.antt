@@ -1,6 +1,6 @@
 use Rattle.std.proofs.Common.{◌≡◌, ℕ, ◌+◌, ◌<◌, ◌≤◌, length}
 use Rattle.std.specs.declared.cmp.Ordering.TheVariants.{Less, Greater}
-use Rattle.tree_defs.specs.Digits.{binary_digits}
+use Rattle.defs_tree.specs.Digits.{binary_digits}
 use Rattle.yaml_tree.specs.Marks.{first_by}
 use Rattle.yaml_tree.specs.Places.{places, rank_at, HasSpot}
 use Rattle.yaml_tree.specs.Probes.{probed}

@@ -1,6 +1,6 @@
 use Rattle.std.proofs.Common.{◌≡◌, length}
 use Rattle.std.specs.Char.{is_ascii_digit}
-use Rattle.tree_defs.proofs.GrammarLaws.{behind_all}
+use Rattle.defs_tree.proofs.GrammarLaws.{behind_all}
 use Rattle.yaml_tree.proofs.typing.behind_digits.Given as goal
 
 abbrev pub invariant-loop-rest : goal.invariant-loop-rest

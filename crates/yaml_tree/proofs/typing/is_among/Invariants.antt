@@ -1,5 +1,5 @@
 use Rattle.std.proofs.Common.{◌≡◌, map, drop}
-use Rattle.tree_defs.specs.Grammar.{is_among}
+use Rattle.defs_tree.specs.Grammar.{is_among}
 use Rattle.yaml_tree.proofs.typing.is_among.Given as goal
 
 abbrev pub invariant-loop-word : goal.invariant-loop-word

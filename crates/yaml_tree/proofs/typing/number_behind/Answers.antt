@@ -1,6 +1,6 @@
 use Rattle.std.proofs.Common.{sym, ap, ◌∙◌}
 use Rattle.std.specs.Prelude.{option_and_then}
-use Rattle.tree_defs.specs.Typing.{signed_number}
+use Rattle.defs_tree.specs.Typing.{signed_number}
 use Rattle.yaml_tree.proofs.TypingLemmas.{lacks_behind, strips_behind}
 use Rattle.yaml_tree.proofs.typing.number_behind.Goals as goal
 

@@ -2,8 +2,8 @@ use Rattle.std.proofs.Common.{sym, ap, ◌∙◌}
 use Rattle.std.specs.Prelude.{option_map, unwrap_or, ◌≡◌}
 use Rattle.std.specs.Option.{option_copied}
 use Rattle.std.proofs.lemmas.Result.{IfOk-weaker}
-use Rattle.tree_defs.specs.Tree.{bad_value}
-use Rattle.event_defs.specs.Anchors.{aliased}
+use Rattle.defs_tree.specs.Tree.{bad_value}
+use Rattle.defs_event.specs.Anchors.{aliased}
 use Rattle.yaml_tree.specs.View.{view}
 use Rattle.yaml_loader.specs.View.{anchors_of}
 use Rattle.yaml_loader.proofs.AliasLemmas.{aliased_is}

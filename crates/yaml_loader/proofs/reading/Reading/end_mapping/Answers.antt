@@ -1,8 +1,8 @@
 use Rattle.std.proofs.Common.{◌≡◌, ◌∷◌, [], sym, ap, ◌∙◌, subst}
 use Rattle.std.specs.Prelude.{None, option_map}
 use Rattle.std.proofs.lemmas.Result.{on_ok_weaker, IfErr-weaker}
-use Rattle.tree_defs.specs.Tree.{hash, pairs_of}
-use Rattle.event_defs.specs.Unfinished.{opened_mapping, with_node, with_mapping_end}
+use Rattle.defs_tree.specs.Tree.{hash, pairs_of}
+use Rattle.defs_event.specs.Unfinished.{opened_mapping, with_node, with_mapping_end}
 use Rattle.yaml_tree.specs.View.{view}
 use Rattle.yaml_loader.specs.Alike.{ReadsTo}
 use Rattle.yaml_loader.specs.View.{opened_of, all_opened, unfinished_of, IsRefusedBy}

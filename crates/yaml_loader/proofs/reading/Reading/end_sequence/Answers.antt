@@ -1,7 +1,7 @@
 use Rattle.std.proofs.Common.{◌≡◌, ◌∷◌, [], sym, ap, ◌∙◌, subst}
 use Rattle.std.proofs.lemmas.Result.{on_ok_weaker, IfErr-weaker}
-use Rattle.tree_defs.specs.Tree.{array, items_of}
-use Rattle.event_defs.specs.Unfinished.{opened_sequence, with_node, with_sequence_end}
+use Rattle.defs_tree.specs.Tree.{array, items_of}
+use Rattle.defs_event.specs.Unfinished.{opened_sequence, with_node, with_sequence_end}
 use Rattle.yaml_loader.specs.Alike.{ReadsTo}
 use Rattle.yaml_loader.specs.View.{opened_of, all_opened, unfinished_of, IsRefusedBy}
 use Rattle.yaml_loader.proofs.AliasLemmas.{with_node_opened}

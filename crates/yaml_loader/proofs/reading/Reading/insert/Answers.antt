@@ -2,7 +2,7 @@ use Rattle.std.proofs.Common.{refl}
 use Rattle.std.proofs.lemmas.Result.{on_ok_weaker, IfErr-weaker}
 use Rattle.yaml_tree.specs.View.{view}
 use Rattle.yaml_loader.specs.View.{opened_of, all_opened, unfinished_of, IsNoInsert, IsRefusedBy}
-use Rattle.event_defs.specs.Unfinished.{with_tree}
+use Rattle.defs_event.specs.Unfinished.{with_tree}
 use Rattle.std.specs.Prelude.{slice_set, ◌-◌, []}
 use Rattle.yaml_loader.proofs.OpenedLemmas.{inserts_at, no_insert_at}
 use Rattle.yaml_loader.proofs.reading.Reading.insert.Goals as goal

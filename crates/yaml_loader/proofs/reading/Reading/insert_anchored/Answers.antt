@@ -1,7 +1,7 @@
 use Rattle.std.proofs.Common.{◌≡◌, ap, subst}
 use Rattle.std.proofs.lemmas.Result.{on_ok_weaker, IfErr-weaker}
-use Rattle.event_defs.specs.Anchors.{finished}
-use Rattle.event_defs.specs.Unfinished.{reads, with_tree, with_node}
+use Rattle.defs_event.specs.Anchors.{finished}
+use Rattle.defs_event.specs.Unfinished.{reads, with_tree, with_node}
 use Rattle.yaml_tree.specs.View.{view}
 use Rattle.yaml_loader.specs.View.{unfinished_of, IsRefusedBy}
 use Rattle.yaml_loader.proofs.AliasLemmas.{reads_over, refused_over}

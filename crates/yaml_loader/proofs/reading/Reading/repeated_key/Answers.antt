@@ -1,6 +1,6 @@
 use Rattle.std.proofs.Common.{[], ap, ◌∙◌}
 use Rattle.std.specs.Prelude.{unwrap_or, option_map}
-use Rattle.tree_defs.specs.Tree.{bad_value}
+use Rattle.defs_tree.specs.Tree.{bad_value}
 use Rattle.yaml_tree.specs.View.{view}
 use Rattle.yaml_loader.specs.View.{opened_of, all_opened, last_key, repeated_key}
 use Rattle.yaml_loader.proofs.KeyText.{last_of_innermost, no_key_in_sequence}

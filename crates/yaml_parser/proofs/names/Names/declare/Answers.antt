@@ -1,6 +1,6 @@
 use Rattle.std.proofs.Common.{◌≡◌, ◌+◌, refl, sym, ap, ◌∙◌, arith}
 use Rattle.std.proofs.lemmas.Grind.{common_steps}
-use Rattle.yaml_chars.specs.Text.{string_chars}
+use Rattle.defs_text.specs.Text.{string_chars}
 use Rattle.yaml_parser.specs.Named.{is_own}
 use Rattle.yaml_parser.proofs.DirectiveLemmas.{has_declared, has_ignored, repeated_handle}
 use Rattle.yaml_parser.proofs.names.Names.declare.Goals as goal

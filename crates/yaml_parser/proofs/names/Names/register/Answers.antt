@@ -2,8 +2,8 @@ use Rattle.std.proofs.Common.{◌≡◌, ◌+◌, Some, option_map, sym, ap, sub
 use Rattle.std.proofs.lemmas.Grind.{common_steps}
 use Rattle.std.specs.Prelude.{bytes_eq, string_bytes}
 use Rattle.std.specs.BTreeMap.{get_by_text}
-use Rattle.yaml_chars.specs.Text.{string_chars}
-use Rattle.event_defs.specs.Names.{with_anchor}
+use Rattle.defs_text.specs.Text.{string_chars}
+use Rattle.defs_event.specs.Names.{with_anchor}
 use Rattle.yaml_parser.specs.Named.{IsNamed}
 use Rattle.yaml_parser.proofs.names.Names.register.Goals as goal
 

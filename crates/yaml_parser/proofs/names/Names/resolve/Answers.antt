@@ -1,5 +1,5 @@
 use Rattle.std.proofs.Common.{sym, ap, ◌∙◌, Some, option_map}
-use Rattle.yaml_chars.specs.Text.{string_chars}
+use Rattle.defs_text.specs.Text.{string_chars}
 use Rattle.yaml_parser.proofs.NameLemmas.{resolved_empty, resolved_nonempty, empty_chars, nonempty_chars, undeclared_resolves, string_length}
 use Rattle.yaml_parser.proofs.names.Names.resolve.Goals as goal
 

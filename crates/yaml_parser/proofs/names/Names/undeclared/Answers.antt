@@ -1,6 +1,6 @@
 use Rattle.std.proofs.Common.{refl, sym, ap, ◌∙◌, Some}
 use Rattle.std.specs.Prelude.{bytes_eq, codes}
-use Rattle.yaml_chars.specs.Text.{string_chars}
+use Rattle.defs_text.specs.Text.{string_chars}
 use Rattle.yaml_parser.proofs.NameLemmas.{undeclared_secondary, undeclared_primary, undeclared_other, secondary_is, primary_is, core_is}
 use Rattle.yaml_parser.proofs.names.Names.undeclared.Goals as goal
 

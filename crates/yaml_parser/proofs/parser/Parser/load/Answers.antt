@@ -1,7 +1,7 @@
 use Rattle.std.proofs.Common.{◌≡◌, refl, sym, subst, ◌∙◌, [], true, false, Err}
-use Rattle.event_defs.specs.Event.{Ev}
-use Rattle.event_defs.specs.Push as run
-use Rattle.event_defs.specs.Push.{load_from, ends}
+use Rattle.defs_event.specs.Event.{Ev}
+use Rattle.defs_event.specs.Push as run
+use Rattle.defs_event.specs.Push.{load_from, ends}
 use Rattle.yaml_parser.specs.View.{no_document}
 use Rattle.yaml_parser.specs.Shown.{ev_of}
 use Rattle.yaml_parser.specs.Parsed.{is_stream_end, is_document_start, parsed}

@@ -1,5 +1,5 @@
 use Rattle.std.proofs.Common.{◌≡◌}
-use Rattle.event_defs.specs.Push.{between}
+use Rattle.defs_event.specs.Push.{between}
 use Rattle.yaml_parser.specs.Loads.{Stands}
 use Rattle.yaml_parser.specs.Parsed.{parsed}
 use Rattle.yaml_parser.proofs.parser.Parser.load.Given as goal

@@ -1,5 +1,5 @@
 use Rattle.std.proofs.Common.{◌≡◌, refl, sym, ◌∙◌, true, false, arith}
-use Rattle.event_defs.specs.Event.{Ev}
+use Rattle.defs_event.specs.Event.{Ev}
 use Rattle.yaml_parser.specs.Shown.{ev_of}
 use Rattle.yaml_parser.specs.Parsed.{is_document_end}
 use Rattle.yaml_parser.proofs.LoadSteps.{goes_on, faults, refuses, behind_err, inside_run, last_run, inside_stops, end_is_not, no_end, stays_inside}

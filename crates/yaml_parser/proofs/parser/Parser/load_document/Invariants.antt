@@ -1,5 +1,5 @@
 use Rattle.std.proofs.Common.{◌≡◌, ◌≤◌, Bool}
-use Rattle.event_defs.specs.Push.{inside}
+use Rattle.defs_event.specs.Push.{inside}
 use Rattle.yaml_parser.specs.Nests.{IsInside}
 use Rattle.yaml_parser.specs.Parsed.{Parsed, parsed}
 use Rattle.yaml_parser.specs.Loads.{Stands}

@@ -1,6 +1,6 @@
 use Rattle.std.proofs.Common.{refl, sym, ◌∙◌, true, false}
-use Rattle.event_defs.specs.Push as run
-use Rattle.event_defs.specs.Push.{load_from, ends}
+use Rattle.defs_event.specs.Push as run
+use Rattle.defs_event.specs.Push.{load_from, ends}
 use Rattle.yaml_parser.specs.Shown.{ev_of}
 use Rattle.yaml_parser.specs.Parsed.{parsed}
 use Rattle.yaml_parser.proofs.LoadSteps.{begins, goes_on, faults, refuses, starts_err}

@@ -1,6 +1,6 @@
 use Rattle.std.proofs.Common.{◌≡◌, refl, sym, ◌∙◌, ◌⊎◌}
-use Rattle.yaml_chars.specs.Text.{string_chars}
-use Rattle.token_defs.specs.Token.{Tok}
+use Rattle.defs_text.specs.Text.{string_chars}
+use Rattle.defs_token.specs.Token.{Tok}
 use Rattle.yaml_tokens.specs.Shown.{tok_of}
 use Rattle.yaml_parser.proofs.Steps.{looked, if_some_at}
 use Rattle.yaml_parser.proofs.Arms.{answers_err, faulted_as}

@@ -1,10 +1,10 @@
 use Rattle.std.proofs.Common.{◌≡◌, refl, ap, Some, option_map, ◌⊎◌}
-use Rattle.yaml_chars.specs.Text.{string_chars}
-use Rattle.token_defs.specs.Token.{Tok}
+use Rattle.defs_text.specs.Text.{string_chars}
+use Rattle.defs_token.specs.Token.{Tok}
 use Rattle.yaml_tokens.specs.Shown.{tok_of}
-use Rattle.event_defs.specs.Grammar as written
-use Rattle.grammar_turns.specs.Goal as at
-use Rattle.grammar_turns.proofs.Nodes as turn
+use Rattle.defs_event.specs.Grammar as written
+use Rattle.model_parser.specs.Goal as at
+use Rattle.model_parser.proofs.Nodes as turn
 use Rattle.yaml_parser.proofs.Steps.{looked, if_some_at}
 use Rattle.yaml_parser.proofs.Arms.{stays, stay, answers_err, not_as}
 use Rattle.yaml_parser.proofs.NodeArms.{taken_with, anchor_text, anchor_taken, tag_behind_anchor, tag_unknown_behind, anchor_before, resolve_fails}

@@ -1,5 +1,5 @@
 use Rattle.std.proofs.Common.{refl}
-use Rattle.grammar_turns.specs.Goal as at
+use Rattle.model_parser.specs.Goal as at
 use Rattle.yaml_parser.proofs.Arms.{answers_err}
 use Rattle.yaml_parser.proofs.reader.Reader.block_mapping_next_key.Goals as goal
 

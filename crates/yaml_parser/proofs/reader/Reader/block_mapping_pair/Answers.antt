@@ -1,5 +1,5 @@
 use Rattle.std.proofs.Common.{refl}
-use Rattle.grammar_turns.proofs.Block as turn
+use Rattle.model_parser.proofs.Block as turn
 use Rattle.yaml_parser.proofs.Arms.{gives, goes, plain, push_behind, not_as}
 use Rattle.yaml_parser.proofs.Ends.{refuses}
 use Rattle.yaml_parser.proofs.Fits.{no_key}

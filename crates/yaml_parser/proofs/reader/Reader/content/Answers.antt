@@ -1,5 +1,5 @@
 use Rattle.std.proofs.Common.{subst}
-use Rattle.grammar_turns.specs.Goal as at
+use Rattle.model_parser.specs.Goal as at
 use Rattle.yaml_parser.specs.At.{At}
 use Rattle.yaml_parser.proofs.reader.Reader.content.Goals as goal
 

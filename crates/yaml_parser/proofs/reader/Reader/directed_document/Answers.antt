@@ -1,5 +1,5 @@
 use Rattle.std.proofs.Common.{refl}
-use Rattle.grammar_turns.proofs.Document as turn
+use Rattle.model_parser.proofs.Document as turn
 use Rattle.yaml_parser.proofs.Arms.{push_behind, answers_err, not_as}
 use Rattle.yaml_parser.proofs.Ends.{refuses}
 use Rattle.yaml_tokens.specs.declared.problem.Problem.TheVariants.{DocumentStartToken}

@@ -1,6 +1,6 @@
 use Rattle.yaml_parser.specs.Directing.{DirectivesFail}
 use Rattle.std.proofs.Common.{refl, arith}
-use Rattle.grammar_turns.specs.Goal as at
+use Rattle.model_parser.specs.Goal as at
 use Rattle.yaml_parser.proofs.Arms.{if_err_as}
 use Rattle.yaml_parser.proofs.DocumentArms.{directing_on}
 use Rattle.yaml_parser.proofs.reader.Reader.directives.Goals as goal

@@ -1,7 +1,7 @@
 use Rattle.std.proofs.Common.{◌≡◌, ◌≤◌, List, false}
-use Rattle.yaml_chars.specs.Place.{Place}
-use Rattle.event_defs.specs.Event.{Ev}
-use Rattle.event_defs.specs.Names.{Names}
+use Rattle.defs_text.specs.Position.{Place}
+use Rattle.defs_event.specs.Event.{Ev}
+use Rattle.defs_event.specs.Names.{Names}
 use Rattle.yaml_parser.specs.Directing.{Directing}
 use Rattle.yaml_parser.specs.Work.{work}
 use Rattle.yaml_parser.proofs.reader.Reader.directives.Given as goal

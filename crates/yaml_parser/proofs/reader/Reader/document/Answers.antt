@@ -1,8 +1,8 @@
 use Rattle.std.proofs.Common.{◌≡◌, refl, true, false}
-use Rattle.grammar_turns.specs.declared.place.Place.TheVariants as place
-use Rattle.grammar_turns.specs.Kinds.{begins_node, ends_document, is_directive}
-use Rattle.grammar_turns.proofs.First as first
-use Rattle.grammar_turns.proofs.Document as turn
+use Rattle.model_parser.specs.declared.place.Place.TheVariants as place
+use Rattle.model_parser.specs.Kinds.{begins_node, ends_document, is_directive}
+use Rattle.model_parser.proofs.First as first
+use Rattle.model_parser.proofs.Document as turn
 use Rattle.yaml_parser.proofs.Arms.{stays, stay, stay_push, answers_err, either, as_kind, not_as}
 use Rattle.yaml_parser.proofs.DocumentArms.{bare_begins, not_directive}
 use Rattle.yaml_parser.proofs.reader.Reader.document.Goals as goal

@@ -1,7 +1,7 @@
 use Rattle.std.proofs.Common.{◌≡◌, refl, false, true}
-use Rattle.grammar_turns.specs.Kinds.{ends_document}
-use Rattle.grammar_turns.specs.Goal as at
-use Rattle.grammar_turns.proofs.Document as turn
+use Rattle.model_parser.specs.Kinds.{ends_document}
+use Rattle.model_parser.specs.Goal as at
+use Rattle.model_parser.proofs.Document as turn
 use Rattle.yaml_parser.proofs.Arms.{gives, leaves, plain, stay, stay_push, push_behind, answers_err, either, as_kind, not_as}
 use Rattle.yaml_parser.proofs.Ends.{refuses}
 use Rattle.yaml_parser.specs.Blames.{fits}

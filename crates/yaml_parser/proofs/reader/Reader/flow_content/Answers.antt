@@ -1,7 +1,7 @@
 use Rattle.std.proofs.Common.{◌≡◌, refl}
-use Rattle.event_defs.specs.Event.{Ev}
-use Rattle.event_defs.specs.Raw.{Raw}
-use Rattle.grammar_turns.proofs.Nodes as turn
+use Rattle.defs_event.specs.Event.{Ev}
+use Rattle.defs_event.specs.Raw.{Raw}
+use Rattle.model_parser.proofs.Nodes as turn
 use Rattle.yaml_parser.proofs.Steps.{looked}
 use Rattle.yaml_parser.proofs.Arms.{push_behind}
 use Rattle.yaml_parser.proofs.NodeArms.{starts, scalar_taken, taken_with}

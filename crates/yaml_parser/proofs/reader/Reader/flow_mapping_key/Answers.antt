@@ -1,6 +1,6 @@
 use Rattle.std.proofs.Common.{refl}
-use Rattle.grammar_turns.specs.Goal as at
-use Rattle.grammar_turns.proofs.Flow as turn
+use Rattle.model_parser.specs.Goal as at
+use Rattle.model_parser.proofs.Flow as turn
 use Rattle.yaml_parser.proofs.Arms.{gives, goes, plain, answers_err, not_as}
 use Rattle.yaml_parser.proofs.Ends.{refuses}
 use Rattle.yaml_parser.proofs.Fits.{no_flow_pair}

@@ -1,5 +1,5 @@
 use Rattle.std.proofs.Common.{refl}
-use Rattle.grammar_turns.proofs.Flow as turn
+use Rattle.model_parser.proofs.Flow as turn
 use Rattle.yaml_parser.proofs.Arms.{went, plain, stay, stay_push}
 use Rattle.yaml_parser.proofs.reader.Reader.flow_pair_end.Goals as goal
 

@@ -1,6 +1,6 @@
 use Rattle.std.proofs.Common.{refl}
-use Rattle.grammar_turns.specs.Goal as at
-use Rattle.grammar_turns.proofs.Flow as turn
+use Rattle.model_parser.specs.Goal as at
+use Rattle.model_parser.proofs.Flow as turn
 use Rattle.yaml_parser.proofs.Arms.{goes, leaves, plain, stay, stay_push, answers_written, answers_err, not_as}
 use Rattle.yaml_parser.proofs.reader.Reader.flow_pair_value.Goals as goal
 

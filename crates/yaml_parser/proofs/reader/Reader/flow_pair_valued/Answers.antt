@@ -1,9 +1,9 @@
 use Rattle.std.proofs.Common.{◌≡◌, refl, false}
-use Rattle.grammar_turns.specs.declared.place.Place.TheVariants as place
-use Rattle.grammar_turns.specs.Kinds.{begins_node, ends_item}
-use Rattle.grammar_turns.specs.Goal as at
-use Rattle.grammar_turns.proofs.First as first
-use Rattle.grammar_turns.proofs.Flow as turn
+use Rattle.model_parser.specs.declared.place.Place.TheVariants as place
+use Rattle.model_parser.specs.Kinds.{begins_node, ends_item}
+use Rattle.model_parser.specs.Goal as at
+use Rattle.model_parser.proofs.First as first
+use Rattle.model_parser.proofs.Flow as turn
 use Rattle.yaml_parser.proofs.Arms.{leaves, stays, plain, stay, stay_push, answers_written, answers_err, either, as_kind}
 use Rattle.yaml_parser.proofs.reader.Reader.flow_pair_valued.Goals as goal
 

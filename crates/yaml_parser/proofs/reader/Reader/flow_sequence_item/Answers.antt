@@ -1,5 +1,5 @@
 use Rattle.std.proofs.Common.{refl}
-use Rattle.grammar_turns.proofs.Flow as turn
+use Rattle.model_parser.proofs.Flow as turn
 use Rattle.yaml_parser.proofs.Arms.{gives, stays, plain, stay, stay_push, push_behind, not_as}
 use Rattle.yaml_parser.proofs.reader.Reader.flow_sequence_item.Goals as goal
 

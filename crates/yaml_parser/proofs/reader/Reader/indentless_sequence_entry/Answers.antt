@@ -1,6 +1,6 @@
 use Rattle.std.proofs.Common.{refl}
-use Rattle.grammar_turns.specs.Goal as at
-use Rattle.grammar_turns.proofs.Block as turn
+use Rattle.model_parser.specs.Goal as at
+use Rattle.model_parser.proofs.Block as turn
 use Rattle.yaml_parser.proofs.Arms.{goes, leaves, plain, stay, answers_err, not_as}
 use Rattle.yaml_parser.proofs.reader.Reader.indentless_sequence_entry.Goals as goal
 

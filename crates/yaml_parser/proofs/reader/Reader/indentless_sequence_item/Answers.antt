@@ -1,9 +1,9 @@
 use Rattle.std.proofs.Common.{◌≡◌, refl, false}
-use Rattle.grammar_turns.specs.declared.place.Place.TheVariants as place
-use Rattle.grammar_turns.specs.Kinds.{begins_node, ends_part}
-use Rattle.grammar_turns.specs.Goal as at
-use Rattle.grammar_turns.proofs.First as first
-use Rattle.grammar_turns.proofs.Block as turn
+use Rattle.model_parser.specs.declared.place.Place.TheVariants as place
+use Rattle.model_parser.specs.Kinds.{begins_node, ends_part}
+use Rattle.model_parser.specs.Goal as at
+use Rattle.model_parser.proofs.First as first
+use Rattle.model_parser.proofs.Block as turn
 use Rattle.yaml_parser.proofs.Arms.{leaves, stays, plain, stay, stay_push, answers_written, answers_err, one_of_four, as_kind, not_as}
 use Rattle.yaml_parser.proofs.reader.Reader.indentless_sequence_item.Goals as goal
 

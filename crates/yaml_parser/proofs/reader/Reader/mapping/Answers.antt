@@ -1,4 +1,4 @@
-use Rattle.event_defs.specs.Event.{Ev}
+use Rattle.defs_event.specs.Event.{Ev}
 use Rattle.yaml_parser.proofs.NodeArms.{two_values}
 use Rattle.yaml_parser.proofs.reader.Reader.mapping.Goals as goal
 

@@ -1,5 +1,5 @@
 use Rattle.std.proofs.Common.{sym, subst}
-use Rattle.grammar_turns.specs.Rest.{goal_of}
+use Rattle.model_parser.specs.Rest.{goal_of}
 use Rattle.yaml_parser.specs.At.{Reads}
 use Rattle.yaml_parser.proofs.reader.Reader.next.Goals as goal
 

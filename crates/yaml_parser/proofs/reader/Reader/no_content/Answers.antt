@@ -1,8 +1,8 @@
 use Rattle.std.proofs.Common.{refl, ap, subst, not}
-use Rattle.grammar_turns.specs.declared.place.Place.TheVariants as place
-use Rattle.grammar_turns.specs.Kinds.{begins_content}
-use Rattle.grammar_turns.specs.Goal as at
-use Rattle.grammar_turns.proofs.Nodes as turn
+use Rattle.model_parser.specs.declared.place.Place.TheVariants as place
+use Rattle.model_parser.specs.Kinds.{begins_content}
+use Rattle.model_parser.specs.Goal as at
+use Rattle.model_parser.proofs.Nodes as turn
 use Rattle.yaml_parser.proofs.Arms.{answers_written, as_kind}
 use Rattle.yaml_parser.proofs.Ends.{refuses}
 use Rattle.yaml_tokens.specs.declared.problem.Problem.TheVariants.{NodeContent}

@@ -1,8 +1,8 @@
 use Rattle.std.proofs.Common.{refl}
-use Rattle.event_defs.specs.Event.{Ev}
-use Rattle.event_defs.specs.Raw.{Raw}
-use Rattle.grammar_turns.specs.declared.place.Place.TheVariants as place
-use Rattle.grammar_turns.proofs.Nodes as turn
+use Rattle.defs_event.specs.Event.{Ev}
+use Rattle.defs_event.specs.Raw.{Raw}
+use Rattle.model_parser.specs.declared.place.Place.TheVariants as place
+use Rattle.model_parser.proofs.Nodes as turn
 use Rattle.yaml_parser.proofs.Arms.{stays, stay, push_behind, not_as}
 use Rattle.yaml_parser.proofs.NodeArms.{starts, pending_same}
 use Rattle.yaml_parser.proofs.reader.Reader.part_content.Goals as goal

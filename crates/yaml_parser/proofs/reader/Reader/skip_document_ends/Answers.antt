@@ -1,7 +1,7 @@
 use Rattle.yaml_parser.specs.At.{Fails}
 use Rattle.std.proofs.Common.{refl, arith}
-use Rattle.grammar_turns.specs.Goal as at
-use Rattle.grammar_turns.proofs.Document as turn
+use Rattle.model_parser.specs.Goal as at
+use Rattle.model_parser.proofs.Document as turn
 use Rattle.yaml_parser.proofs.Arms.{goes, if_err_as}
 use Rattle.yaml_parser.proofs.reader.Reader.skip_document_ends.Goals as goal
 

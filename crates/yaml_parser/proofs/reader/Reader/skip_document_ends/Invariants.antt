@@ -1,5 +1,5 @@
 use Rattle.std.proofs.Common.{◌≡◌, ◌≤◌}
-use Rattle.grammar_turns.specs.Goal as at
+use Rattle.model_parser.specs.Goal as at
 use Rattle.yaml_parser.specs.Work.{work}
 use Rattle.yaml_parser.specs.Kinds.{IsOfKind}
 use Rattle.yaml_parser.specs.At.{Carries}

@@ -1,6 +1,6 @@
 use Rattle.std.proofs.Common.{refl}
-use Rattle.grammar_turns.specs.Goal as at
-use Rattle.grammar_turns.proofs.Document as turn
+use Rattle.model_parser.specs.Goal as at
+use Rattle.model_parser.proofs.Document as turn
 use Rattle.yaml_parser.proofs.Arms.{gives, plain, push_behind, answers_err, not_as}
 use Rattle.yaml_parser.proofs.Ends.{refuses}
 use Rattle.yaml_tokens.specs.declared.problem.Problem.TheVariants.{DocumentStartToken}

@@ -1,8 +1,8 @@
-use Rattle.yaml_chars.specs.Text.{string_chars}
-use Rattle.token_defs.specs.Token.{Tok}
+use Rattle.defs_text.specs.Text.{string_chars}
+use Rattle.defs_token.specs.Token.{Tok}
 use Rattle.yaml_parser.specs.declared.reader.Reader.{Reader}
 use Rattle.std.proofs.Common.{◌≡◌, refl, Ok, Err}
-use Rattle.grammar_turns.specs.declared.kind.Kind.TheVariants as kind
+use Rattle.model_parser.specs.declared.kind.Kind.TheVariants as kind
 use Rattle.yaml_tokens.specs.Shown.{tok_of}
 use Rattle.yaml_parser.proofs.Steps.{looked, if_some_at}
 use Rattle.yaml_parser.proofs.NodeArms.{taken_with}

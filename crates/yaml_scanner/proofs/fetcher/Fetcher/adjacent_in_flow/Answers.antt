@@ -1,5 +1,5 @@
 use Rattle.std.proofs.Common.{ap}
-use Rattle.yaml_chars.specs.Place.{Place}
+use Rattle.defs_text.specs.Position.{Place}
 use Rattle.yaml_scanner.specs.Shape.{held}
 use Rattle.yaml_scanner.proofs.FlowLemmas.{adjacent, not_adjacent}
 use Rattle.yaml_scanner.proofs.fetcher.Fetcher.adjacent_in_flow.Goals as goal

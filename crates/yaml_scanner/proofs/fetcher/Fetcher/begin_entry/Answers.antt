@@ -1,8 +1,8 @@
 use Rattle.std.proofs.Common.{refl, ap, true, ◌∙◌}
-use Rattle.token_defs.specs.Token.{Tok}
-use Rattle.scan_model.specs.State.{push}
-use Rattle.scan_model.specs.Flow.{allow_key}
-use Rattle.scan_model.specs.Keys.{remove_simple_key}
+use Rattle.defs_token.specs.Token.{Tok}
+use Rattle.model_scanner.specs.State.{push}
+use Rattle.model_scanner.specs.Flow.{allow_key}
+use Rattle.model_scanner.specs.Keys.{remove_simple_key}
 use Rattle.yaml_scanner.specs.Blocks.{entered}
 use Rattle.yaml_scanner.specs.Shape.{held}
 use Rattle.yaml_scanner.proofs.BlockLemmas.{does_held, does_pure, does_bind, does_as}

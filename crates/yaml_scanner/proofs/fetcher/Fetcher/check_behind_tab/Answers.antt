@@ -1,6 +1,6 @@
 use Rattle.std.proofs.Common.{refl}
 use Rattle.yaml_chars.proofs.ReadingLemmas.{Reads-see}
-use Rattle.scan_model.specs.Block.{check_behind_tab}
+use Rattle.model_scanner.specs.Block.{check_behind_tab}
 use Rattle.yaml_scanner.specs.Shape.{held}
 use Rattle.yaml_scanner.proofs.DoesLemmas.{Reads-none}
 use Rattle.yaml_scanner.proofs.BlockLemmas.{word_apart, word_behind, behind_look, before_look}

@@ -1,6 +1,6 @@
 use Rattle.std.proofs.Common.{◌∙◌}
 use Rattle.yaml_chars.proofs.ReadingLemmas.{Reads-see}
-use Rattle.scan_model.specs.Block.{check_dash}
+use Rattle.model_scanner.specs.Block.{check_dash}
 use Rattle.yaml_scanner.specs.Shape.{held}
 use Rattle.yaml_scanner.proofs.DoesLemmas.{same_place}
 use Rattle.yaml_scanner.proofs.BlockLemmas.{dash_apart, dash_behind, looked, behind_look, before_look}

@@ -1,6 +1,6 @@
 use Rattle.std.proofs.Common.{refl}
 use Rattle.yaml_chars.proofs.ReadingLemmas.{Reads-see}
-use Rattle.scan_model.specs.Block.{check_key_space}
+use Rattle.model_scanner.specs.Block.{check_key_space}
 use Rattle.yaml_scanner.specs.Shape.{held}
 use Rattle.yaml_scanner.proofs.DoesLemmas.{Reads-none}
 use Rattle.yaml_scanner.proofs.BlockLemmas.{key_spaced, key_not_spaced, behind_look, before_look}

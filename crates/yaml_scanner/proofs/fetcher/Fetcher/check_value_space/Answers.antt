@@ -1,6 +1,6 @@
 use Rattle.std.proofs.Common.{◌∙◌, ap, sym}
 use Rattle.yaml_chars.proofs.ReadingLemmas.{Reads-then}
-use Rattle.scan_model.specs.Block.{check_value_space}
+use Rattle.model_scanner.specs.Block.{check_value_space}
 use Rattle.yaml_scanner.specs.Shape.{held}
 use Rattle.yaml_scanner.specs.Blocks.{pass_tab}
 use Rattle.yaml_scanner.proofs.DoesLemmas.{Reads-map, exits}

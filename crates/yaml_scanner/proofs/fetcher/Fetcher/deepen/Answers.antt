@@ -1,6 +1,6 @@
 use Rattle.std.proofs.Common.{◌∙◌}
 use Rattle.yaml_scanner.specs.Shape.{held}
-use Rattle.scan_model.specs.State.{token}
+use Rattle.model_scanner.specs.State.{token}
 use Rattle.yaml_scanner.specs.SimpleKeys.{number_of}
 use Rattle.yaml_scanner.specs.Collections.{block_start}
 use Rattle.yaml_scanner.proofs.HeldLemmas.{deepened, not_deepened}

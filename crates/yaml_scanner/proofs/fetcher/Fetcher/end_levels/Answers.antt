@@ -1,9 +1,9 @@
 use Rattle.std.proofs.Common.{◌≡◌, refl, ap, ◌∙◌, ◌++◌, ◌∷◌, [], rules}
 use Rattle.yaml_scanner.specs.Shape.{held}
 use Rattle.yaml_chars.specs.Reading.{place_of}
-use Rattle.token_defs.specs.Token.{Tok}
-use Rattle.scan_model.specs.State.{token}
-use Rattle.scan_model.specs.Indents.{Levels, with_levels, level}
+use Rattle.defs_token.specs.Token.{Tok}
+use Rattle.model_scanner.specs.State.{token}
+use Rattle.model_scanner.specs.Indents.{Levels, with_levels, level}
 use Rattle.yaml_scanner.proofs.HeldLemmas.{unroll_in_flow, unroll_done, unrolled_done, unrolled_none, unrolled_more}
 use Rattle.yaml_scanner.proofs.fetcher.Fetcher.end_levels.Goals as goal
 

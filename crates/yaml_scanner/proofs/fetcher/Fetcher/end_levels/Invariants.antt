@@ -1,7 +1,7 @@
 use Rattle.std.proofs.Common.{◌≡◌, length, false}
 use Rattle.yaml_chars.specs.Reading.{place_of}
-use Rattle.scan_model.specs.State.{in_flow}
-use Rattle.scan_model.specs.Indents.{unrolled, with_levels}
+use Rattle.model_scanner.specs.State.{in_flow}
+use Rattle.model_scanner.specs.Indents.{unrolled, with_levels}
 use Rattle.yaml_scanner.specs.Shape.{held}
 use Rattle.yaml_scanner.specs.Work.{Moves}
 use Rattle.yaml_scanner.proofs.fetcher.Fetcher.end_levels.Given as goal

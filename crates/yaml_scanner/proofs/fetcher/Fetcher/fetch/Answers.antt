@@ -1,4 +1,4 @@
-use Rattle.scan_model.specs.Fetch.{fetch, fetch_next}
+use Rattle.model_scanner.specs.Fetch.{fetch, fetch_next}
 use Rattle.yaml_scanner.specs.Shape.{held}
 use Rattle.yaml_scanner.proofs.FetchLemmas.{does_as, fails_as, does_held, on_ok_map}
 use Rattle.yaml_scanner.proofs.DispatchLemmas.{going, begun}

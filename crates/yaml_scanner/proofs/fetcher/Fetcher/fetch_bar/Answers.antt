@@ -1,4 +1,4 @@
-use Rattle.scan_model.specs.Document.{fetch_block_scalar, fetch_plain_scalar}
+use Rattle.model_scanner.specs.Document.{fetch_block_scalar, fetch_plain_scalar}
 use Rattle.yaml_scanner.specs.Steps.{fetch_bar}
 use Rattle.yaml_scanner.specs.Styles.{is_literal}
 use Rattle.yaml_scanner.proofs.FetchLemmas.{does_as, fails_as}

@@ -1,7 +1,7 @@
 use Rattle.std.proofs.Common.{refl, None}
-use Rattle.token_defs.specs.Token.{Tok}
-use Rattle.scan_model.specs.Indents.{roll_indent}
-use Rattle.scan_model.specs.Block.{check_block_entry, fetch_block_entry}
+use Rattle.defs_token.specs.Token.{Tok}
+use Rattle.model_scanner.specs.Indents.{roll_indent}
+use Rattle.model_scanner.specs.Block.{check_block_entry, fetch_block_entry}
 use Rattle.yaml_scanner.specs.Blocks.{begin_entry}
 use Rattle.yaml_scanner.proofs.DoesLemmas.{exits, fails_held}
 use Rattle.yaml_scanner.proofs.BlockLemmas.{does_held, does_pure, does_indicator, does_bind, does_as, fails_bind, fails_now, fails_as}

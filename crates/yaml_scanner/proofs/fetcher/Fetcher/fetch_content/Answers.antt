@@ -1,4 +1,4 @@
-use Rattle.scan_model.specs.Fetch.{fetch_content, fetch_first_column, fetch_indented}
+use Rattle.model_scanner.specs.Fetch.{fetch_content, fetch_first_column, fetch_indented}
 use Rattle.yaml_scanner.proofs.FetchLemmas.{does_as, fails_as}
 use Rattle.yaml_scanner.proofs.DispatchLemmas.{at_first, behind_first}
 use Rattle.yaml_scanner.proofs.fetcher.Fetcher.fetch_content.Goals as goal

@@ -1,6 +1,6 @@
-use Rattle.token_defs.specs.Token.{Tok}
-use Rattle.scan_model.specs.Document.{fetch_directive, fetch_document_marker, fetch_document_end}
-use Rattle.scan_model.specs.Fetch.{fetch_first_column, fetch_indented}
+use Rattle.defs_token.specs.Token.{Tok}
+use Rattle.model_scanner.specs.Document.{fetch_directive, fetch_document_marker, fetch_document_end}
+use Rattle.model_scanner.specs.Fetch.{fetch_first_column, fetch_indented}
 use Rattle.yaml_scanner.proofs.FetchLemmas.{does_as, fails_as}
 use Rattle.yaml_scanner.proofs.DispatchLemmas.{at_percent, at_start, at_end, at_other}
 use Rattle.yaml_scanner.proofs.fetcher.Fetcher.fetch_first_column.Goals as goal

@@ -1,5 +1,5 @@
 use Rattle.std.proofs.Common.{◌∙◌, ap, refl}
-use Rattle.scan_model.specs.State.{push}
+use Rattle.model_scanner.specs.State.{push}
 use Rattle.yaml_scanner.specs.Shape.{held}
 use Rattle.yaml_scanner.proofs.DoesLemmas.{exits, does_in, fails_in, fails_held}
 use Rattle.yaml_scanner.proofs.FlowLemmas.{ended, end_failed, not_ended}

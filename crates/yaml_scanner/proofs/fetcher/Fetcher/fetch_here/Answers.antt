@@ -1,6 +1,6 @@
 use Rattle.std.proofs.Common.{refl}
-use Rattle.scan_model.specs.Document.{fetch_stream_end}
-use Rattle.scan_model.specs.Fetch.{fetch_here, fetch_content}
+use Rattle.model_scanner.specs.Document.{fetch_stream_end}
+use Rattle.model_scanner.specs.Fetch.{fetch_here, fetch_content}
 use Rattle.yaml_scanner.proofs.FetchLemmas.{does_as, fails_as, does_after, fails_after, held_same}
 use Rattle.yaml_scanner.proofs.DispatchLemmas.{at_nul, at_char}
 use Rattle.yaml_scanner.proofs.fetcher.Fetcher.fetch_here.Goals as goal

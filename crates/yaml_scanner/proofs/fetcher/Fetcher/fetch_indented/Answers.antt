@@ -1,4 +1,4 @@
-use Rattle.scan_model.specs.Fetch.{fetch_indented, fetch_token}
+use Rattle.model_scanner.specs.Fetch.{fetch_indented, fetch_token}
 use Rattle.yaml_scanner.proofs.FetchLemmas.{does_as, fails_as}
 use Rattle.yaml_scanner.proofs.DispatchLemmas.{left_of_block, in_block}
 use Rattle.yaml_scanner.proofs.fetcher.Fetcher.fetch_indented.Goals as goal

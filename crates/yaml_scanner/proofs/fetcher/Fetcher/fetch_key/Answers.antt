@@ -1,10 +1,10 @@
 use Rattle.std.proofs.Common.{refl, ap, not, Ok, ◌∙◌}
 use Rattle.yaml_chars.specs.Reading.{place_of}
-use Rattle.token_defs.specs.Token.{Tok}
-use Rattle.scan_model.specs.State.{◌>>=◌, in_flow, push, on_held}
-use Rattle.scan_model.specs.Keys.{remove_simple_key}
-use Rattle.scan_model.specs.Flow.{allow_key}
-use Rattle.scan_model.specs.Block.{begin_key, check_key_space, fetch_key}
+use Rattle.defs_token.specs.Token.{Tok}
+use Rattle.model_scanner.specs.State.{◌>>=◌, in_flow, push, on_held}
+use Rattle.model_scanner.specs.Keys.{remove_simple_key}
+use Rattle.model_scanner.specs.Flow.{allow_key}
+use Rattle.model_scanner.specs.Block.{begin_key, check_key_space, fetch_key}
 use Rattle.yaml_scanner.specs.Shape.{held}
 use Rattle.yaml_scanner.proofs.DoesLemmas.{exits, fails_held}
 use Rattle.yaml_scanner.proofs.BlockLemmas.{does_held, does_pure, does_bind, does_as, fails_bind, fails_now, fails_as}

@@ -1,5 +1,5 @@
 use Rattle.std.proofs.Common.{refl}
-use Rattle.scan_model.specs.declared.class.Class.TheVariants as class
+use Rattle.model_scanner.specs.declared.class.Class.TheVariants as class
 use Rattle.yaml_tokens.specs.declared.problem.Problem.TheVariants as problem
 use Rattle.yaml_scanner.specs.Steps.{scalar_by}
 use Rattle.yaml_scanner.proofs.DispatchLemmas.{scalar_does, scalar_fails, refused, plain_does, plain_fails}

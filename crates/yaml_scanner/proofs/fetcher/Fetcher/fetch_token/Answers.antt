@@ -1,4 +1,4 @@
-use Rattle.scan_model.specs.declared.class.Class.TheVariants as class
+use Rattle.model_scanner.specs.declared.class.Class.TheVariants as class
 use Rattle.yaml_scanner.proofs.DispatchLemmas.{arm_does, arm_fails, rest_does, rest_fails}
 use Rattle.yaml_scanner.proofs.fetcher.Fetcher.fetch_token.Goals as goal
 

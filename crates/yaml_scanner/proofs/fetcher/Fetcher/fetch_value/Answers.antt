@@ -1,8 +1,8 @@
 use Rattle.std.proofs.Common.{refl, Ok}
-use Rattle.token_defs.specs.Token.{Tok}
-use Rattle.scan_model.specs.State.{◌>>=◌, push, on_held, try_held}
-use Rattle.scan_model.specs.Keys.{top_key}
-use Rattle.scan_model.specs.Block.{paired, value_of, fetch_value}
+use Rattle.defs_token.specs.Token.{Tok}
+use Rattle.model_scanner.specs.State.{◌>>=◌, push, on_held, try_held}
+use Rattle.model_scanner.specs.Keys.{top_key}
+use Rattle.model_scanner.specs.Block.{paired, value_of, fetch_value}
 use Rattle.yaml_scanner.proofs.DoesLemmas.{exits}
 use Rattle.yaml_scanner.proofs.BlockLemmas.{does_held, does_pure, does_indicator, does_bind, does_as, fails_bind, fails_now, fails_as, fails_try}
 use Rattle.yaml_scanner.proofs.fetcher.Fetcher.fetch_value.Goals as goal

@@ -1,6 +1,6 @@
 use Rattle.std.proofs.Common.{◌∙◌, ap, sym, true, false}
 use Rattle.yaml_chars.specs.Reading.{place_of}
-use Rattle.scan_model.specs.Space.{skip, between, white}
+use Rattle.model_scanner.specs.Space.{skip, between, white}
 use Rattle.yaml_scanner.specs.Shape.{held}
 use Rattle.yaml_scanner.proofs.DoesLemmas.{Reads-map}
 use Rattle.yaml_scanner.proofs.SpaceLemmas.{gap_break, white_break}

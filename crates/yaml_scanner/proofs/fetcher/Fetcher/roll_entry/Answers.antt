@@ -1,6 +1,6 @@
 use Rattle.std.proofs.Common.{◌∙◌, ap, refl}
 use Rattle.yaml_scanner.specs.Shape.{held}
-use Rattle.scan_model.specs.Indents.{roll_one_col_indent}
+use Rattle.model_scanner.specs.Indents.{roll_one_col_indent}
 use Rattle.yaml_scanner.specs.Blocks.{entry_level}
 use Rattle.yaml_scanner.proofs.DoesLemmas.{Reads-map, Reads-along}
 use Rattle.yaml_scanner.proofs.BlockLemmas.{entry_here, entry_apart, looked, behind_look, before_look}

@@ -1,6 +1,6 @@
 use Rattle.std.proofs.Common.{◌≡◌, ◌<◌, slice_index, true}
 use Rattle.yaml_chars.specs.Reading.{Reads}
-use Rattle.scan_model.specs.Space.{skip, between, tab_line, is_before_indent}
+use Rattle.model_scanner.specs.Space.{skip, between, tab_line, is_before_indent}
 use Rattle.yaml_scanner.specs.Shape.{held}
 use Rattle.yaml_scanner.specs.Work.{Moves}
 use Rattle.yaml_scanner.proofs.fetcher.Fetcher.skip_tab_line.Given as goal

@@ -1,6 +1,6 @@
 use Rattle.std.proofs.Common.{◌≡◌}
 use Rattle.yaml_chars.specs.Reading.{Reads}
-use Rattle.scan_model.specs.Space.{skip, between}
+use Rattle.model_scanner.specs.Space.{skip, between}
 use Rattle.yaml_scanner.specs.Shape.{held}
 use Rattle.yaml_scanner.specs.Work.{Moves}
 use Rattle.yaml_scanner.proofs.fetcher.Fetcher.skip_to_next_token.Given as goal

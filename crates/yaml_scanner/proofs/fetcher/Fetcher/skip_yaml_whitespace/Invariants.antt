@@ -1,6 +1,6 @@
 use Rattle.std.proofs.Common.{◌≡◌, false}
 use Rattle.yaml_chars.specs.Reading.{Reads}
-use Rattle.scan_model.specs.Space.{white}
+use Rattle.model_scanner.specs.Space.{white}
 use Rattle.yaml_scanner.specs.Shape.{held}
 use Rattle.yaml_scanner.specs.Work.{Moves}
 use Rattle.yaml_scanner.proofs.fetcher.Fetcher.skip_yaml_whitespace.Given as goal

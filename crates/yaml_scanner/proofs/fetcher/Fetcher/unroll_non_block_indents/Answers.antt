@@ -1,6 +1,6 @@
 use Rattle.std.proofs.Common.{ap, ◌∙◌, sym, rules}
 use Rattle.yaml_scanner.specs.Shape.{held}
-use Rattle.scan_model.specs.Indents.{Levels, with_levels}
+use Rattle.model_scanner.specs.Indents.{Levels, with_levels}
 use Rattle.yaml_scanner.proofs.HeldLemmas.{open_popped, without_block, without_more, without_done}
 use Rattle.yaml_scanner.proofs.fetcher.Fetcher.unroll_non_block_indents.Goals as goal
 

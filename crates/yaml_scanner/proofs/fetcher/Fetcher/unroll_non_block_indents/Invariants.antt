@@ -1,5 +1,5 @@
 use Rattle.std.proofs.Common.{◌≡◌, length}
-use Rattle.scan_model.specs.Indents.{without_open, with_levels}
+use Rattle.model_scanner.specs.Indents.{without_open, with_levels}
 use Rattle.yaml_scanner.specs.Shape.{held}
 use Rattle.yaml_scanner.specs.Work.{Moves}
 use Rattle.yaml_scanner.proofs.fetcher.Fetcher.unroll_non_block_indents.Given as goal

@@ -1,7 +1,7 @@
 use Rattle.std.proofs.Common.{◌∙◌, ap, sym, map}
 use Rattle.std.proofs.lemmas.List.{with_items_is}
 use Rattle.std.specs.List.{list_any}
-use Rattle.scan_model.specs.Keys.{is_overdue}
+use Rattle.model_scanner.specs.Keys.{is_overdue}
 use Rattle.yaml_scanner.specs.SimpleKeys.{key_of, still_simple}
 use Rattle.yaml_scanner.proofs.KeyLemmas.{overdue_seen, still_seen}
 use Rattle.yaml_scanner.proofs.keys.SimpleKeys.drop_stale.Goals as goal

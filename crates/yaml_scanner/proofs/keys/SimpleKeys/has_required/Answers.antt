@@ -1,6 +1,6 @@
 use Rattle.std.proofs.Common.{◌∙◌, ap}
 use Rattle.std.specs.List.{list_any}
-use Rattle.scan_model.specs.Keys.{is_required}
+use Rattle.model_scanner.specs.Keys.{is_required}
 use Rattle.yaml_scanner.specs.SimpleKeys.{key_of}
 use Rattle.yaml_scanner.proofs.KeyLemmas.{required_seen}
 use Rattle.yaml_scanner.proofs.keys.SimpleKeys.has_required.Goals as goal

@@ -1,6 +1,6 @@
 use Rattle.std.proofs.Common.{◌≡◌, ◌≤◌, length, map, take}
 use Rattle.std.specs.List.{remove}
-use Rattle.place_blocks.specs.Moves.{closed_up}
+use Rattle.yaml_hash_index.specs.Moves.{closed_up}
 use Rattle.yaml_tree.proofs.few.Few.without.Given as goal
 
 abbrev pub invariant-loop-other : goal.invariant-loop-other

@@ -1,7 +1,7 @@
 use Rattle.std.proofs.Common.{◌≡◌, ◌/◌, length, map, None, Result, Ok, Err, OnErr, refl, sym, ◌∙◌, subst, arith}
-use Rattle.tree_defs.specs.Pairs.{insert, lookup}
+use Rattle.defs_tree.specs.Pairs.{insert, lookup}
 use Rattle.yaml_tree.specs.Ranked.{IsRank, IsGap}
-use Rattle.place_blocks.specs.Moves.{moved_up}
+use Rattle.yaml_hash_index.specs.Moves.{moved_up}
 use Rattle.yaml_tree.specs.Marks.{first_by}
 use Rattle.yaml_tree.specs.Places.{places, rank_at}
 use Rattle.yaml_tree.specs.View.{view, pairs_view}

@@ -1,5 +1,5 @@
 use Rattle.std.proofs.Common.{subst}
-use Rattle.tree_defs.specs.Pairs.{AreDistinct}
+use Rattle.defs_tree.specs.Pairs.{AreDistinct}
 use Rattle.yaml_tree.specs.Probes.{probed}
 use Rattle.yaml_tree.specs.Ranked.{IsRank, IsGap}
 use Rattle.yaml_tree.specs.Marks.{first_by}

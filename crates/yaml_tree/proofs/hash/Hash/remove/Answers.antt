@@ -1,5 +1,5 @@
 use Rattle.std.proofs.Common.{refl, sym, subst}
-use Rattle.tree_defs.specs.Pairs.{without}
+use Rattle.defs_tree.specs.Pairs.{without}
 use Rattle.yaml_tree.specs.Ranked.{IsRank, IsGap}
 use Rattle.yaml_tree.specs.Marks.{first_by}
 use Rattle.yaml_tree.specs.Places.{places, rank_at}

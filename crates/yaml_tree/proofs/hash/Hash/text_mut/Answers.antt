@@ -1,6 +1,6 @@
 use Rattle.std.proofs.Common.{ℕ, None, IsSome, refl, sym, subst, ◌∙◌}
 use Rattle.std.specs.Prelude.{chars}
-use Rattle.tree_defs.specs.Tree.{string}
+use Rattle.defs_tree.specs.Tree.{string}
 use Rattle.yaml_tree.specs.View.{view}
 use Rattle.yaml_tree.proofs.Placed.{place_in, place_somewhere}
 use Rattle.yaml_tree.proofs.hash.Hash.text_mut.Goals as goal

@@ -1,6 +1,6 @@
 use Rattle.std.proofs.Common.{map, ap, ◌∙◌}
-use Rattle.place_blocks.specs.Blocks.{joined}
-use Rattle.place_blocks.specs.Moves.{entry_moved_up}
+use Rattle.yaml_hash_index.specs.Blocks.{joined}
+use Rattle.yaml_hash_index.specs.Moves.{entry_moved_up}
 use Rattle.yaml_tree.specs.Places.{place_of_entry, mark_of_entry}
 use Rattle.yaml_tree.proofs.Indexed.{places_moved, marks_moved}
 use Rattle.yaml_tree.proofs.ranks.Ranks.move_to_end.Goals as goal

@@ -1,8 +1,8 @@
 use Rattle.std.proofs.Common.{map, ap, ◌∙◌}
 use Rattle.std.specs.List.{remove}
-use Rattle.place_blocks.specs.Blocks.{joined, rank_of}
-use Rattle.place_blocks.specs.Edges.{place_at}
-use Rattle.place_blocks.specs.Moves.{closed_up, entry_closed_up}
+use Rattle.yaml_hash_index.specs.Blocks.{joined, rank_of}
+use Rattle.yaml_hash_index.specs.Edges.{place_at}
+use Rattle.yaml_hash_index.specs.Moves.{closed_up, entry_closed_up}
 use Rattle.yaml_tree.specs.Places.{place_of_entry, mark_of_entry}
 use Rattle.yaml_tree.proofs.Indexed.{places_closed, marks_closed, place_mapped, map-remove}
 use Rattle.yaml_tree.proofs.ranks.Ranks.remove.Goals as goal

@@ -1,6 +1,6 @@
 use Rattle.std.proofs.Common.{sym, subst}
-use Rattle.place_blocks.specs.Blocks.{joined, rank_of, IsNarrowed}
-use Rattle.place_blocks.specs.Edges.{AreRising}
+use Rattle.yaml_hash_index.specs.Blocks.{joined, rank_of, IsNarrowed}
+use Rattle.yaml_hash_index.specs.Edges.{AreRising}
 use Rattle.yaml_tree.specs.Marks.{HaveRising}
 use Rattle.yaml_tree.proofs.ranks.Ranks.window.Goals as goal
 

@@ -1,5 +1,5 @@
 use Rattle.std.proofs.Common.{ap, ◌∙◌}
-use Rattle.tree_defs.specs.Tree.{real, string}
+use Rattle.defs_tree.specs.Tree.{real, string}
 use Rattle.yaml_tree.proofs.TextLemmas.{kept_chars}
 use Rattle.yaml_tree.proofs.yaml.Yaml.from_str.Goals as goal
 

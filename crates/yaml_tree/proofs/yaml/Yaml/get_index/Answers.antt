@@ -2,8 +2,8 @@ use Rattle.std.proofs.Common.{◌≡◌, ◌<◌, ◌^◌, ap, subst, sym, ◌�
 use Rattle.std.proofs.lemmas.Int.{ints, to_z-of_z}
 use mir.Val.{to_z, of_z, SFits}
 use mir.Syntax.{w64}
-use Rattle.tree_defs.specs.Tree.{integer}
-use Rattle.tree_defs.specs.Pairs.{lookup}
+use Rattle.defs_tree.specs.Tree.{integer}
+use Rattle.defs_tree.specs.Pairs.{lookup}
 use Rattle.yaml_tree.proofs.ItemsLemmas.{at_number}
 use Rattle.yaml_tree.proofs.yaml.Yaml.get_index.Goals as goal
 

@@ -1,7 +1,0 @@
-pub mod Account
-pub mod BlockPiece
-pub mod Cut
-pub mod Filler
-pub mod Piece
-pub mod Plain
-pub mod Text

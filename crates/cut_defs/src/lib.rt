@@ -1,2 +1,0 @@
-//! Definitions of a cut: a text as a row of pieces, one for each token. There is no code.
-#![tactic(auto)]

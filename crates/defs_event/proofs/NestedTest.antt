@@ -1,0 +1,123 @@
+-- The test of nesting holds of nested events and of no others.
+use Rattle.std.proofs.Common.{◌≡◌, ℕ, true, List, [], ◌∷◌, Option, Some, refl, sym, ap, ◌∙◌, subst, ◌↔◌}
+use Rattle.std.specs.Prelude.{IsTrue}
+use Rattle.defs_event.specs.Event.{Tag, Ev}
+use Rattle.defs_event.specs.Nested.{Nest, nested_alias, nested_scalar, nested_sequence, nested_mapping, Nests, no_nests, nest, NestPairs, no_nest_pairs, nest_pair, NestedDocument, without_node, with_node, nest_events, nests_events, nest_pairs_events, nested_document_events, nested_documents_events, nested_stream, IsNested, Open, in_stream, before_node, behind_node, in_sequence, at_key, at_value, with_child, child_then, there_and, closes, is_nested}
+
+-- ---- nested events pass
+
+mutual
+  node_passes : (n : Nest) (o o' : Open) (os : List Open) (r : List Ev) → with_child o ≡ Some o' → closes (nest_events n r) (o ∷ os) ≡ closes r (o' ∷ os)
+  node_passes (nested_alias n) o o' os r h = ap (λ c. there_and (closes r) (child_then c [] os)) h
+  node_passes (nested_scalar x s a t) o o' os r h = ap (λ c. there_and (closes r) (child_then c [] os)) h
+  node_passes (nested_sequence a t ns) o o' os r h =
+      ap (λ c. there_and (closes (nests_events ns (Ev.sequence_end ∷ r))) (child_then c (in_sequence ∷ []) os)) h
+      ∙ nodes_pass ns (o' ∷ os) (Ev.sequence_end ∷ r)
+  node_passes (nested_mapping a t ps) o o' os r h =
+      ap (λ c. there_and (closes (nest_pairs_events ps (Ev.mapping_end ∷ r))) (child_then c (at_key ∷ []) os)) h
+      ∙ pairs_pass ps (o' ∷ os) (Ev.mapping_end ∷ r)
+
+  nodes_pass : (ns : Nests) (os : List Open) (r : List Ev) → closes (nests_events ns r) (in_sequence ∷ os) ≡ closes r (in_sequence ∷ os)
+  nodes_pass no_nests os r = refl
+  nodes_pass (nest n ns) os r = node_passes n in_sequence in_sequence os (nests_events ns r) refl ∙ nodes_pass ns os r
+
+  pairs_pass : (ps : NestPairs) (os : List Open) (r : List Ev) → closes (nest_pairs_events ps r) (at_key ∷ os) ≡ closes r (at_key ∷ os)
+  pairs_pass no_nest_pairs os r = refl
+  pairs_pass (nest_pair k v ps) os r =
+      node_passes k at_key at_value os (nest_events v (nest_pairs_events ps r)) refl
+      ∙ node_passes v at_value at_key os (nest_pairs_events ps r) refl ∙ pairs_pass ps os r
+
+document_passes : (d : NestedDocument) (os : List Open) (r : List Ev) → closes (nested_document_events d r) (in_stream ∷ os) ≡ closes r (in_stream ∷ os)
+document_passes without_node os r = refl
+document_passes (with_node n) os r = node_passes n before_node behind_node (in_stream ∷ os) (Ev.document_end ∷ r) refl
+
+documents_pass : (ds : List NestedDocument) (r : List Ev) → closes (nested_documents_events ds r) (in_stream ∷ []) ≡ closes r (in_stream ∷ [])
+documents_pass [] r = refl
+documents_pass (d ∷ ds) r = document_passes d [] (nested_documents_events ds r) ∙ documents_pass ds r
+
+nested_pass : (es : List Ev) → IsNested es → IsTrue (is_nested es)
+nested_pass es h =
+    let e : is_nested (nested_stream h.0) ≡ true = documents_pass h.0 (Ev.stream_end ∷ []) in
+    subst (λ vs. IsTrue (is_nested vs)) h.1 e
+
+-- ---- what passes is nested: the events fill what is open
+
+abbrev Fills : List Open → List Ev → Type 0
+Fills [] es = es ≡ []
+Fills (in_stream ∷ os) es = (ds : List NestedDocument) × (vs : List Ev) × (es ≡ nested_documents_events ds (Ev.stream_end ∷ vs)) × Fills os vs
+Fills (before_node ∷ os) es = (d : NestedDocument) × (vs : List Ev) × (Ev.document_start ∷ es ≡ nested_document_events d vs) × Fills os vs
+Fills (behind_node ∷ os) es = (vs : List Ev) × (es ≡ Ev.document_end ∷ vs) × Fills os vs
+Fills (in_sequence ∷ os) es = (ns : Nests) × (vs : List Ev) × (es ≡ nests_events ns (Ev.sequence_end ∷ vs)) × Fills os vs
+Fills (at_key ∷ os) es = (ps : NestPairs) × (vs : List Ev) × (es ≡ nest_pairs_events ps (Ev.mapping_end ∷ vs)) × Fills os vs
+Fills (at_value ∷ os) es = (v : Nest) × (ps : NestPairs) × (vs : List Ev) × (es ≡ nest_events v (nest_pairs_events ps (Ev.mapping_end ∷ vs))) × Fills os vs
+
+-- A node there, and what fills the rest.
+in_document : (n : Nest) (os : List Open) (es vs : List Ev) → es ≡ nest_events n vs → Fills (behind_node ∷ os) vs → Fills (before_node ∷ os) es
+in_document n os es vs e f = (with_node n, f.0, ap (λ ws. Ev.document_start ∷ ws) (e ∙ ap (nest_events n) f.1), f.2)
+
+as_item : (n : Nest) (os : List Open) (es vs : List Ev) → es ≡ nest_events n vs → Fills (in_sequence ∷ os) vs → Fills (in_sequence ∷ os) es
+as_item n os es vs e f = (nest n f.0, f.1, e ∙ ap (nest_events n) f.2, f.3)
+
+as_key : (n : Nest) (os : List Open) (es vs : List Ev) → es ≡ nest_events n vs → Fills (at_value ∷ os) vs → Fills (at_key ∷ os) es
+as_key n os es vs e f = (nest_pair n f.0 f.1, f.2, e ∙ ap (nest_events n) f.3, f.4)
+
+as_value : (n : Nest) (os : List Open) (es vs : List Ev) → es ≡ nest_events n vs → Fills (at_key ∷ os) vs → Fills (at_value ∷ os) es
+as_value n os es vs e f = (n, f.0, f.1, e ∙ ap (nest_events n) f.2, f.3)
+
+-- a sequence, and what stands behind it
+abbrev sequence_then : ℕ → Option Tag → List Open → List Ev → Type 0
+sequence_then a t os es = (n : Nest) × (vs : List Ev) × (Ev.sequence_start a t ∷ es ≡ nest_events n vs) × Fills os vs
+
+a_sequence : (a : ℕ) (t : Option Tag) (os : List Open) (es : List Ev) → Fills (in_sequence ∷ os) es → sequence_then a t os es
+a_sequence a t os es f = (nested_sequence a t f.0, f.1, ap (λ ws. Ev.sequence_start a t ∷ ws) f.2, f.3)
+
+abbrev mapping_then : ℕ → Option Tag → List Open → List Ev → Type 0
+mapping_then a t os es = (n : Nest) × (vs : List Ev) × (Ev.mapping_start a t ∷ es ≡ nest_events n vs) × Fills os vs
+
+a_mapping : (a : ℕ) (t : Option Tag) (os : List Open) (es : List Ev) → Fills (at_key ∷ os) es → mapping_then a t os es
+a_mapping a t os es f = (nested_mapping a t f.0, f.1, ap (λ ws. Ev.mapping_start a t ∷ ws) f.2, f.3)
+
+fills : (es : List Ev) (os : List Open) → IsTrue (closes es os) → Fills os es
+fills [] [] h = refl
+fills [] (o ∷ os) h = cc
+fills (Ev.document_start ∷ es) (in_stream ∷ os) h =
+    let f = fills es (before_node ∷ in_stream ∷ os) h in
+    (f.0 ∷ f.3.0, f.3.1, f.2 ∙ ap (nested_document_events f.0) f.3.2, f.3.3)
+fills (Ev.stream_end ∷ es) (in_stream ∷ os) h = ([], es, refl, fills es os h)
+fills (Ev.document_end ∷ es) (before_node ∷ os) h = (without_node, es, refl, fills es os h)
+fills (Ev.document_end ∷ es) (behind_node ∷ os) h = (es, refl, fills es os h)
+fills (Ev.sequence_end ∷ es) (in_sequence ∷ os) h = (no_nests, es, refl, fills es os h)
+fills (Ev.mapping_end ∷ es) (at_key ∷ os) h = (no_nest_pairs, es, refl, fills es os h)
+fills (Ev.alias n ∷ es) (before_node ∷ os) h = in_document (nested_alias n) os (Ev.alias n ∷ es) es refl (fills es (behind_node ∷ os) h)
+fills (Ev.alias n ∷ es) (in_sequence ∷ os) h = as_item (nested_alias n) os (Ev.alias n ∷ es) es refl (fills es (in_sequence ∷ os) h)
+fills (Ev.alias n ∷ es) (at_key ∷ os) h = as_key (nested_alias n) os (Ev.alias n ∷ es) es refl (fills es (at_value ∷ os) h)
+fills (Ev.alias n ∷ es) (at_value ∷ os) h = as_value (nested_alias n) os (Ev.alias n ∷ es) es refl (fills es (at_key ∷ os) h)
+fills (Ev.scalar x s a t ∷ es) (before_node ∷ os) h = in_document (nested_scalar x s a t) os (Ev.scalar x s a t ∷ es) es refl (fills es (behind_node ∷ os) h)
+fills (Ev.scalar x s a t ∷ es) (in_sequence ∷ os) h = as_item (nested_scalar x s a t) os (Ev.scalar x s a t ∷ es) es refl (fills es (in_sequence ∷ os) h)
+fills (Ev.scalar x s a t ∷ es) (at_key ∷ os) h = as_key (nested_scalar x s a t) os (Ev.scalar x s a t ∷ es) es refl (fills es (at_value ∷ os) h)
+fills (Ev.scalar x s a t ∷ es) (at_value ∷ os) h = as_value (nested_scalar x s a t) os (Ev.scalar x s a t ∷ es) es refl (fills es (at_key ∷ os) h)
+fills (Ev.sequence_start a t ∷ es) (before_node ∷ os) h =
+    let y = a_sequence a t (behind_node ∷ os) es (fills es (in_sequence ∷ behind_node ∷ os) h) in in_document y.0 os (Ev.sequence_start a t ∷ es) y.1 y.2 y.3
+fills (Ev.sequence_start a t ∷ es) (in_sequence ∷ os) h =
+    let y = a_sequence a t (in_sequence ∷ os) es (fills es (in_sequence ∷ in_sequence ∷ os) h) in as_item y.0 os (Ev.sequence_start a t ∷ es) y.1 y.2 y.3
+fills (Ev.sequence_start a t ∷ es) (at_key ∷ os) h =
+    let y = a_sequence a t (at_value ∷ os) es (fills es (in_sequence ∷ at_value ∷ os) h) in as_key y.0 os (Ev.sequence_start a t ∷ es) y.1 y.2 y.3
+fills (Ev.sequence_start a t ∷ es) (at_value ∷ os) h =
+    let y = a_sequence a t (at_key ∷ os) es (fills es (in_sequence ∷ at_key ∷ os) h) in as_value y.0 os (Ev.sequence_start a t ∷ es) y.1 y.2 y.3
+fills (Ev.mapping_start a t ∷ es) (before_node ∷ os) h =
+    let y = a_mapping a t (behind_node ∷ os) es (fills es (at_key ∷ behind_node ∷ os) h) in in_document y.0 os (Ev.mapping_start a t ∷ es) y.1 y.2 y.3
+fills (Ev.mapping_start a t ∷ es) (in_sequence ∷ os) h =
+    let y = a_mapping a t (in_sequence ∷ os) es (fills es (at_key ∷ in_sequence ∷ os) h) in as_item y.0 os (Ev.mapping_start a t ∷ es) y.1 y.2 y.3
+fills (Ev.mapping_start a t ∷ es) (at_key ∷ os) h =
+    let y = a_mapping a t (at_value ∷ os) es (fills es (at_key ∷ at_value ∷ os) h) in as_key y.0 os (Ev.mapping_start a t ∷ es) y.1 y.2 y.3
+fills (Ev.mapping_start a t ∷ es) (at_value ∷ os) h =
+    let y = a_mapping a t (at_key ∷ os) es (fills es (at_key ∷ at_key ∷ os) h) in as_value y.0 os (Ev.mapping_start a t ∷ es) y.1 y.2 y.3
+fills (e ∷ es) os h = cc
+
+pass_nested : (es : List Ev) → IsTrue (is_nested es) → IsNested es
+pass_nested (Ev.stream_start ∷ es) h =
+    let f = fills es (in_stream ∷ []) h in (f.0, sym (ap (λ vs. Ev.stream_start ∷ vs) (f.2 ∙ ap (λ vs. nested_documents_events f.0 (Ev.stream_end ∷ vs)) f.3)))
+pass_nested es h = cc
+
+pub test_is_exact : (es : List Ev) → IsTrue (is_nested es) ↔ IsNested es
+test_is_exact es = (pass_nested es, nested_pass es)

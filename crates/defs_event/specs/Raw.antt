@@ -1,0 +1,31 @@
+-- The events that the token grammar gives, before names are resolved: anchors by name, tags as written, each
+-- document with its directives.
+use Rattle.std.specs.Prelude.{ℕ, List, Option}
+use Rattle.defs_token.specs.Token.{Style}
+use Rattle.defs_event.specs.Event.{Tag}
+
+-- A directive. One of another name than `%YAML` and `%TAG` is a `tag` of two empty texts. YAML 1.2, section 6.8.
+pub data Directive : Type 0 where
+  version : (major minor : ℕ) → Directive
+  tag : (handle prefix : List ℕ) → Directive
+
+-- An event that has a token of its own is distinguished from one of its kind that has none: a scalar from an empty one, a flow
+-- collection's start from that of a block collection or of a single pair.
+pub data Raw : Type 0 where
+  stream_start : Raw
+  stream_end : Raw
+  document_start : List Directive → Raw
+  document_end : Raw
+  alias : (name : List ℕ) → Raw
+  scalar : (text : List ℕ) → Style → (anchor : Option (List ℕ)) → Option Tag → Raw
+  empty_scalar : (anchor : Option (List ℕ)) → Option Tag → Raw
+  flow_sequence_start : (anchor : Option (List ℕ)) → Option Tag → Raw
+  sequence_start : (anchor : Option (List ℕ)) → Option Tag → Raw
+  sequence_end : Raw
+  flow_mapping_start : (anchor : Option (List ℕ)) → Option Tag → Raw
+  mapping_start : (anchor : Option (List ℕ)) → Option Tag → Raw
+  mapping_end : Raw
+
+-- a scalar that is not written: plain and empty, without anchor and tag
+abbrev pub nothing_written : Raw
+nothing_written = Raw.empty_scalar Option.None Option.None

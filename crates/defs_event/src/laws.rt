@@ -1,0 +1,51 @@
+//! Laws of the definitions, each the contract of an empty function.
+
+ghost use Rattle.defs_event.specs.Laws.{TokensAreDerivedInOneWay, StreamsHaveOneReading, NestingTestIsExact};
+ghost use Rattle.defs_event.specs.Laws.{StreamEventsAreNested, NestedEventsAreReadOneByOne};
+ghost use Rattle.defs_event.specs.Laws.{MultiLoadPushesAllEvents, LoadedTreesHaveNoAlias, LoadedTreesHaveDistinctKeys, LoadedIntegersHave64Bits};
+
+/// A list of tokens has at most one derivation by the token grammar.
+pub fn tokens_are_derived_in_one_way()
+    ensures { TokensAreDerivedInOneWay }
+{}
+
+/// The tokens of a stream have one list of events.
+pub fn streams_have_one_reading()
+    ensures { StreamsHaveOneReading }
+{}
+
+/// The events of every stream are nested.
+pub fn stream_events_are_nested()
+    ensures { StreamEventsAreNested }
+{}
+
+/// The test of nesting holds of nested events and of no others.
+pub fn nesting_test_is_exact()
+    ensures { NestingTestIsExact }
+{}
+
+/// No tree that a loader makes from events has an alias in it.
+pub fn loaded_trees_have_no_alias()
+    ensures { LoadedTreesHaveNoAlias }
+{}
+
+/// The integers in the trees that a loader makes from events have 64 bits.
+pub fn loaded_integers_have_64_bits()
+    ensures { LoadedIntegersHave64Bits }
+{}
+
+/// No hash in the trees that a loader makes from events has a key twice.
+pub fn loaded_trees_have_distinct_keys()
+    ensures { LoadedTreesHaveDistinctKeys }
+{}
+
+/// If a loader takes nested events one by one, it has the documents that they are read as, or has noted the key that
+/// comes twice.
+pub fn nested_events_are_read_one_by_one()
+    ensures { NestedEventsAreReadOneByOne }
+{}
+
+/// With `multi`, one call of `load` pushes all events of a finished run, each once and in order.
+pub fn multi_load_pushes_all_events()
+    ensures { MultiLoadPushesAllEvents }
+{}

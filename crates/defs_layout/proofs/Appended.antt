@@ -1,0 +1,112 @@
+-- What stands behind a basic layout is appended to its text.
+use Rattle.std.proofs.Common.{◌≡◌, refl, sym, ap, ◌∙◌, ℕ, zero, suc, ◌+◌, List, [], ◌∷◌, ◌++◌, append_assoc, flat_map}
+use Rattle.std.specs.Prelude.{codes}
+use Rattle.defs_tree.specs.Escapes.{double_quoted}
+use Rattle.defs_tree.specs.Spelling.{spelling}
+use Rattle.defs_tree.specs.Literal.{literal_header}
+use Rattle.defs_layout.specs.Gap.{spaces, GapLine, empty_line, comment_line, spell_gap, next_line, spell_ending}
+use Rattle.defs_layout.specs.BlockLines.{Line, full, blank, spell_line, spell_lines}
+use Rattle.defs_layout.specs.Layout.{Scalar, plain, quoted, single_quoted, Inline, scalar, empty_array, empty_hash, no_comment, comment, Block, array, hash, Value, Entries, last_entry, entry, Field, implicit, explicit, Fields, last_field, field, Root, Document, doubled, spell_scalar, spell_inline, spell_literal, spell_block, spell_value, spell_entries, spell_field, spell_fields, spell_root, spell_document}
+use Rattle.defs_layout.specs.Basic.{IsBasicBlock, IsBasicValue, AreBasicEntries, IsBasicField, AreBasicFields, IsBasicRoot}
+
+-- the text of f goes before what stands behind it
+abbrev Appends : (List ℕ → List ℕ) → Type 0
+Appends f = (a b : List ℕ) → f (a ++ b) ≡ f a ++ b
+
+-- ---- gaps and lines
+
+spaces_append : (n : ℕ) → Appends (spaces n)
+spaces_append zero a b = refl
+spaces_append (suc n) a b = ap (λ x. 32 ∷ x) (spaces_append n a b)
+
+gap_append : (g : List GapLine) → Appends (spell_gap g)
+gap_append [] a b = refl
+gap_append (empty_line ∷ g) a b = ap (λ x. 10 ∷ x) (gap_append g a b)
+gap_append (comment_line text ∷ g) a b =
+    ap (λ x. 35 ∷ (text ++ 10 ∷ x)) (gap_append g a b) ∙ ap (λ x. 35 ∷ x) (sym (append_assoc text (10 ∷ spell_gap g a) b))
+
+ending_append : (g : List GapLine) → Appends (spell_ending g)
+ending_append [] a b = refl
+ending_append (empty_line ∷ g) a b = ap (λ x. 10 ∷ x) (ending_append g a b)
+ending_append (comment_line text ∷ g) a b =
+    ap (λ x. 10 ∷ 35 ∷ (text ++ x)) (ending_append g a b) ∙ ap (λ x. 10 ∷ 35 ∷ x) (sym (append_assoc text (spell_ending g a) b))
+
+next_line_append : (column : ℕ) (g : List GapLine) → Appends (next_line column g)
+next_line_append column g a b = ap (λ x. 10 ∷ spell_gap g x) (spaces_append column a b) ∙ ap (λ x. 10 ∷ x) (gap_append g (spaces column a) b)
+
+line_append : (column : ℕ) (l : Line) → Appends (spell_line column l)
+line_append column (full text) a b = ap (spaces column) (sym (append_assoc text a b)) ∙ spaces_append column (text ++ a) b
+line_append column (blank n) a b = spaces_append n a b
+
+lines_append : (column : ℕ) (ls : List Line) → Appends (spell_lines column ls)
+lines_append column [] a b = refl
+lines_append column (l ∷ ls) a b = ap (λ x. 10 ∷ spell_line column l x) (lines_append column ls a b) ∙ ap (λ x. 10 ∷ x) (line_append column l (spell_lines column ls a) b)
+
+-- ---- nodes
+
+scalar_append : (s : Scalar) → Appends (spell_scalar s)
+scalar_append (plain t) a b = sym (append_assoc (spelling t) a b)
+scalar_append (quoted text) a b = sym (append_assoc (double_quoted text) a b)
+scalar_append (single_quoted text) a b = ap (λ x. 39 ∷ x) (sym (append_assoc (flat_map doubled text) (39 ∷ a) b))
+
+inline_append : (i : Inline) → Appends (spell_inline i)
+inline_append (scalar s) a b = scalar_append s a b
+inline_append empty_array a b = refl
+inline_append empty_hash a b = refl
+
+literal_append : (column : ℕ) (text : List ℕ) (ls : List Line) → Appends (spell_literal column text ls)
+literal_append column text ls a b =
+    ap (λ x. literal_header text ++ x) (lines_append column ls a b) ∙ sym (append_assoc (literal_header text) (spell_lines column ls a) b)
+
+behind_spaces : (more : ℕ) (f : List ℕ → List ℕ) → Appends f → Appends (λ r. 32 ∷ spaces more (f r))
+behind_spaces more f h a b = ap (λ x. 32 ∷ spaces more x) (h a b) ∙ ap (λ x. 32 ∷ x) (spaces_append more (f a) b)
+
+mutual
+  block_append : (c : ℕ) (k : Block) → IsBasicBlock k → Appends (spell_block c k)
+  block_append c (array es) h a b = entries_append c es h a b
+  block_append c (hash fs) h a b = fields_append c fs h a b
+
+  value_append : (c : ℕ) (v : Value) → IsBasicValue v → Appends (spell_value c v)
+  value_append c (Value.beside more i no_comment) h a b = behind_spaces more (spell_inline i) (inline_append i) a b
+  value_append c (Value.literal more column text ls) h a b = behind_spaces more (spell_literal column text ls) (literal_append column text ls) a b
+  value_append c (Value.compact more k) h a b = behind_spaces more (spell_block (c + 2 + more) k) (block_append (c + 2 + more) k h) a b
+  value_append c (Value.below no_comment g column k) h a b = ap (next_line column g) (block_append column k h.1 a b) ∙ next_line_append column g (spell_block column k a) b
+  value_append c (Value.beside more i (comment n text)) h a b = absurd h.1
+  value_append c (Value.below (comment n text) g column k) h a b = absurd h.0
+  value_append c (Value.folded more column strips text ls) h a b = absurd h
+  value_append c (Value.json more v) h a b = absurd h
+  value_append c (Value.at_key behind g es) h a b = absurd h
+  value_append c (Value.anchored more name v) h a b = absurd h
+  value_append c (Value.alias more name t) h a b = absurd h
+
+  entries_append : (c : ℕ) (es : Entries) → AreBasicEntries es → Appends (spell_entries c es)
+  entries_append c (last_entry v) h a b = ap (λ x. 45 ∷ x) (value_append c v h a b)
+  entries_append c (entry v g es) h a b =
+      ap (λ x. 45 ∷ spell_value c v x) (ap (next_line c g) (entries_append c es h.1 a b) ∙ next_line_append c g (spell_entries c es a) b)
+      ∙ ap (λ x. 45 ∷ x) (value_append c v h.0 (next_line c g (spell_entries c es a)) b)
+
+  field_append : (c : ℕ) (f : Field) → IsBasicField f → Appends (spell_field c f)
+  field_append c (implicit k v) h a b =
+      ap (λ x. spell_scalar k (58 ∷ x)) (value_append c v h.1 a b) ∙ scalar_append k (58 ∷ spell_value c v a) b
+  field_append c (explicit k g v) h a b =
+      ap (λ x. 63 ∷ spell_value c k x) (ap (λ x. next_line c g (58 ∷ x)) (value_append c v h.1 a b) ∙ next_line_append c g (58 ∷ spell_value c v a) b)
+      ∙ ap (λ x. 63 ∷ x) (value_append c k h.0 (next_line c g (58 ∷ spell_value c v a)) b)
+
+  fields_append : (c : ℕ) (fs : Fields) → AreBasicFields fs → Appends (spell_fields c fs)
+  fields_append c (last_field f) h a b = field_append c f h a b
+  fields_append c (field f g fs) h a b =
+      ap (spell_field c f) (ap (next_line c g) (fields_append c fs h.1 a b) ∙ next_line_append c g (spell_fields c fs a) b)
+      ∙ field_append c f h.0 (next_line c g (spell_fields c fs a)) b
+
+root_append : (x : Root) → IsBasicRoot x → Appends (spell_root x)
+root_append (Root.block column k) h a b = ap (spaces column) (block_append column k h a b) ∙ spaces_append column (spell_block column k a) b
+root_append (Root.inline i) h a b = inline_append i a b
+root_append (Root.literal text ls) h a b = literal_append 0 text ls a b
+
+-- ---- a document behind its `---`
+
+pub document_append : (d : Document) (behind : List GapLine) → IsBasicRoot d.root → Appends (λ r. codes "---\n" ++ spell_document d (spell_ending behind r))
+document_append d behind h a b =
+    ap (λ x. codes "---\n" ++ spell_document d x) (ending_append behind a b)
+    ∙ ap (λ x. codes "---\n" ++ spell_gap d.gap x) (root_append d.root h (spell_ending behind a) b)
+    ∙ ap (λ x. codes "---\n" ++ x) (gap_append d.gap (spell_root d.root (spell_ending behind a)) b)

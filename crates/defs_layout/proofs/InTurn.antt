@@ -1,0 +1,98 @@
+-- A basic layout is a layout of its one tree, and basic layouts one after another, an LF behind each, are a layout of their trees.
+use Rattle.std.proofs.Common.{◌≡◌, refl, sym, ap, ◌∙◌, ℕ, List, [], ◌∷◌, ◌++◌, Bool, true, false, true≢false}
+use Rattle.std.specs.Prelude.{codes}
+use Rattle.defs_tree.specs.Tree.{Tree}
+use Rattle.defs_layout.specs.Gap.{GapLine, empty_line, comment_line, spell_gap, spell_ending, IsGap, AreEmptyLines}
+use Rattle.defs_layout.specs.Basic.{IsBasicRoot, AreBasicDocuments, IsBasicLayout}
+use Rattle.defs_layout.specs.Layout.{Root, Document, Documents, last_document, document, spell_document, spell_documents, spell_mark, root_tree, trees_of, IsBehindRoot, AreDocuments}
+use Rattle.defs_layout.specs.InTurn.{AreLaidOutInTurn}
+use Rattle.defs_layout.specs.Laws.{BasicLayoutsAreLayouts, LayoutsInTurnAreLayouts}
+use Rattle.defs_layout.proofs.Appended.{document_append}
+
+pub is_layout : BasicLayoutsAreLayouts
+is_layout t text (w, is, basic, spelt, trees) = (w, is, spelt, trees)
+
+-- ---- the one document of a basic layout
+
+record One (t : Tree) (text : List ℕ) : Type 0 where
+  written : Document
+  behind : List GapLine
+  is : AreDocuments (last_document written behind)
+  basic : IsBasicRoot written.root
+  spelt : codes "---\n" ++ spell_document written (spell_ending behind []) ≡ text
+  tree : root_tree written.root ≡ t
+
+first_tree : {t u : Tree} → t ∷ [] ≡ u ∷ [] → t ≡ u
+first_tree e = cc
+
+one_of : (is_marked : Bool) (ds : Documents) (t : Tree) (text : List ℕ) → is_marked ≡ true → AreBasicDocuments ds → AreDocuments ds
+    → spell_mark is_marked (spell_documents ds []) ≡ text → trees_of ds ≡ t ∷ [] → One t text
+one_of false ds t text marked basic are spelt trees = absurd (true≢false (sym marked))
+one_of true (document d g ds) t text marked basic are spelt trees = absurd basic
+one_of true (last_document d behind) t text marked basic are spelt trees =
+    record { written = d; behind = behind; is = are; basic = basic; spelt = spelt; tree = first_tree trees }
+
+one : (t : Tree) (text : List ℕ) → IsBasicLayout t text → One t text
+one t text (w, is, basic, spelt, trees) = one_of w.is_marked w.documents t text basic.0 basic.1 is spelt trees
+
+-- ---- an LF behind it
+
+-- it ends the last line of what ends the document
+feed_ends : (g : List GapLine) (r : List ℕ) → spell_ending g (10 ∷ r) ≡ 10 ∷ spell_gap g r
+feed_ends [] r = refl
+feed_ends (empty_line ∷ g) r = ap (λ x. 10 ∷ x) (feed_ends g r)
+feed_ends (comment_line text ∷ g) r = ap (λ x. 10 ∷ 35 ∷ (text ++ x)) (feed_ends g r)
+
+-- or it is an empty line more
+ending_text : (g : List GapLine) → spell_ending (g ++ empty_line ∷ []) [] ≡ spell_ending g (10 ∷ [])
+ending_text [] = refl
+ending_text (empty_line ∷ g) = ap (λ x. 10 ∷ x) (ending_text g)
+ending_text (comment_line text ∷ g) = ap (λ x. 10 ∷ 35 ∷ (text ++ x)) (ending_text g)
+
+ended_gap : (g : List GapLine) → IsGap g → IsGap (g ++ empty_line ∷ [])
+ended_gap [] h = (tt, tt)
+ended_gap (l ∷ g) h = (h.0, ended_gap g h.1)
+
+ended_lines : (g : List GapLine) → AreEmptyLines g → AreEmptyLines (g ++ empty_line ∷ [])
+ended_lines [] h = (tt, tt)
+ended_lines (l ∷ g) h = (h.0, ended_lines g h.1)
+
+ended_behind : (x : Root) (g : List GapLine) → IsBehindRoot x g → IsBehindRoot x (g ++ empty_line ∷ [])
+ended_behind (Root.block column b) g h = ended_gap g h
+ended_behind (Root.inline i) g h = ended_gap g h
+ended_behind (Root.literal text ls) g h = ended_lines g h
+
+-- ---- all of them
+
+-- documents, the first behind its `---`
+record AllInTurn (trees : List Tree) (text : List ℕ) : Type 0 where
+  written : Documents
+  are : AreDocuments written
+  spelt : codes "---\n" ++ spell_documents written [] ≡ text
+  stand : trees_of written ≡ trees
+
+in_turn : (t : Tree) (ts : List Tree) (text : List ℕ) → AreLaidOutInTurn (t ∷ ts) text → AllInTurn (t ∷ ts) text
+in_turn t [] text (first, others, laid, none, whole) =
+    let o = one t first laid in
+    record {
+      written = last_document o.written (o.behind ++ empty_line ∷ []);
+      are = (o.is.0, o.is.1, ended_behind o.written.root o.behind o.is.2);
+      spelt =
+          ap (λ x. codes "---\n" ++ spell_document o.written x) (ending_text o.behind) ∙ document_append o.written o.behind o.basic [] (10 ∷ [])
+          ∙ ap (λ x. x ++ 10 ∷ []) o.spelt ∙ ap (λ x. first ++ 10 ∷ x) (sym none) ∙ whole;
+      stand = ap (λ x. x ∷ []) o.tree;
+    }
+in_turn t (u ∷ us) text (first, others, laid, more, whole) =
+    let o = one t first laid in
+    let z = in_turn u us others more in
+    record {
+      written = document o.written o.behind z.written;
+      are = (o.is.0, o.is.1, o.is.2, z.are);
+      spelt =
+          ap (λ x. codes "---\n" ++ spell_document o.written x) (ap (λ x. 10 ∷ spell_gap o.behind x) z.spelt ∙ sym (feed_ends o.behind others))
+          ∙ document_append o.written o.behind o.basic [] (10 ∷ others) ∙ ap (λ x. x ++ 10 ∷ others) o.spelt ∙ whole;
+      stand = ap (λ x. x ∷ trees_of z.written) o.tree ∙ ap (λ ts. t ∷ ts) z.stand;
+    }
+
+pub layouts_in_turn : LayoutsInTurnAreLayouts
+layouts_in_turn t ts text laid = let z = in_turn t ts text laid in (record { is_marked = true; documents = z.written }, z.are, z.spelt, z.stand)

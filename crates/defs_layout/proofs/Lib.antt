@@ -1,0 +1,8 @@
+mod Appended
+mod BasicRows
+mod Differ
+pub mod InTurn
+mod JsonRows
+mod LayoutRows
+mod Soundness
+pub mod TokenRows

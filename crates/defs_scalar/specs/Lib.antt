@@ -1,0 +1,4 @@
+pub mod BlockScalar
+pub mod Directives
+pub mod FlowScalar
+pub mod Tags

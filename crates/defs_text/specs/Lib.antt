@@ -1,0 +1,4 @@
+pub mod Breaks
+pub mod Classes
+pub mod Position
+pub mod Text

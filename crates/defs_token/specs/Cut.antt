@@ -1,0 +1,87 @@
+-- When a list of tokens is a cut of a text: the text up to its end is a row of fillers (blanks, breaks and comments) and pieces in order, and each piece belongs to one token.
+-- YAML 1.2, chapters 6 to 9. The definition says which tokens stand where. It does not say that a text has a cut, or only one.
+use Rattle.std.specs.Prelude.{◌≡◌, ℕ, ◌⊎◌, List, [], ◌∷◌, ◌++◌, false, Option, Some, None}
+use Rattle.defs_text.specs.Position.{Place}
+use Rattle.defs_token.specs.Token.{Tok, Token, stream_start, stream_end}
+use Rattle.defs_token.specs.Text.{up_to_end}
+use Rattle.defs_token.specs.Filler.{is_filler}
+use Rattle.defs_token.specs.Account.{Account, first_account, is_closed, account_past_filler, account_at_piece, account_past_token}
+use Rattle.defs_token.specs.Piece.{Holds, IsPiece}
+
+-- A token as it is written: the filler before its piece, and its piece, which is empty for some tokens.
+pub record Written : Type 0 where
+  pub filler : List ℕ
+  pub piece : List ℕ
+  pub token : Token
+
+-- the text of a row of tokens, before the text after it
+abbrev pub spelled : List Written → (behind : List ℕ) → List ℕ
+spelled [] behind = behind
+spelled (w ∷ ws) behind = w.filler ++ (w.piece ++ spelled ws behind)
+
+-- the tokens of a row
+abbrev pub tokens_of : List Written → List Token
+tokens_of [] = []
+tokens_of (w ∷ ws) = w.token ∷ tokens_of ws
+
+-- the first token of a row, or else the one known to stand after it
+abbrev pub first_token : List Written → (last : Option Tok) → Option Tok
+first_token [] last = last
+first_token (w ∷ ws) last = Some (w.token.tok)
+
+-- the account at a token's piece, from that before its filler; the text after the token
+abbrev pub account_at : Account → Written → (next : List ℕ) → Account
+account_at a w next = account_at_piece (account_past_filler a w.filler (w.piece ++ next)) w.piece
+
+-- the account after a token
+abbrev pub account_past : Account → Written → (next : List ℕ) → Account
+account_past a w next = account_past_token (account_at a w next) w.piece next (w.token.tok)
+
+-- Whether a token is written so: a filler stands before its piece, and the piece belongs to it.
+abbrev pub IsWritten : Account → Written → (next : List ℕ) → (following : Option Tok) → Type 0
+IsWritten a w next following =
+    Holds (is_filler false w.filler (w.piece ++ next)) ×
+    IsPiece (account_at a w next) w.piece next following (w.token.place) (w.token.tok)
+
+-- Whether each token of a row is written so, before the text after the row and the token that is known to stand there.
+abbrev pub IsRow : Account → List Written → (behind : List ℕ) → (last : Option Tok) → Type 0
+IsRow a [] behind last = Unit {0}
+IsRow a (w ∷ ws) behind last = IsWritten a w (spelled ws behind) (first_token ws last) × IsRow (account_past a w (spelled ws behind)) ws behind last
+
+-- the account after a row
+abbrev pub account_past_row : Account → List Written → (behind : List ℕ) → Account
+account_past_row a [] behind = a
+account_past_row a (w ∷ ws) behind = account_past_row (account_past a w (spelled ws behind)) ws behind
+
+-- the start of a stream
+abbrev pub start_token : Place → Token
+start_token p = record { place = p; tok = stream_start }
+
+-- the end of a stream
+abbrev pub end_token : Place → Token
+end_token p = record { place = p; tok = stream_end }
+
+-- Whether tokens are a cut of a text. They are the stream's start, a row of tokens, and the stream's end. The row and the filler after it are the text up to its end. Outside flow no block collection is left open.
+pub record IsCut (tokens : List Token) (text : List ℕ) : Type 0 where
+  pub begin : Place
+  pub end : Place
+  pub row : List Written
+  pub filler : List ℕ
+  pub are_tokens : tokens ≡ start_token begin ∷ (tokens_of row ++ (end_token end ∷ []))
+  pub is_text : spelled row filler ≡ up_to_end text
+  pub is_filled : Holds (is_filler false filler [])
+  pub is_row : IsRow first_account row filler (Some stream_end)
+  pub closes : Holds (is_closed (account_past_row first_account row filler))
+
+-- Whether tokens are the stream's start and a row of tokens whose text begins the text. What characters follow is known, but not what token.
+pub record IsBegun (tokens : List Token) (text : List ℕ) : Type 0 where
+  pub begin : Place
+  pub row : List Written
+  pub behind : List ℕ
+  pub are_tokens : tokens ≡ start_token begin ∷ tokens_of row
+  pub is_text : spelled row behind ≡ up_to_end text
+  pub is_row : IsRow first_account row behind None
+
+-- Whether tokens are a cut of a beginning of a text, without the stream's end.
+abbrev pub IsCutOfBeginning : List Token → (text : List ℕ) → Type 0
+IsCutOfBeginning tokens text = (tokens ≡ []) ⊎ IsBegun tokens text

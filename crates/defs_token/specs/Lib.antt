@@ -1,0 +1,9 @@
+pub mod Account
+pub mod BlockPiece
+pub mod Cut
+pub mod Filler
+pub mod Piece
+pub mod Plain
+pub mod Text
+pub mod Token
+pub mod Toks

@@ -1,0 +1,7 @@
+-- Tokens without their places.
+use Rattle.std.specs.Prelude.{List, map}
+use Rattle.defs_token.specs.Token.{Tok, Token}
+
+-- what stands at each of the places
+abbrev pub toks : List Token → List Tok
+toks ts = map (λ t. t.tok) ts

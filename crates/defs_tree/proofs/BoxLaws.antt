@@ -1,0 +1,186 @@
+-- No line of a box holds a line feed.
+use Rattle.std.proofs.Common.{◌≡◌, ℕ, suc, ◌+◌, ◌/◌, ◌%◌, ◌<◌, ◌≤◌, ◌^◌, List, [], ◌∷◌, ◌++◌, Bool, true, false, not, ◌&&◌, ◌||◌, refl, sym, ap, ◌∙◌, arith}
+use Rattle.std.specs.Prelude.{ℤ, pos, negsuc, if◌then◌else◌, ◌==◌, nat_lt, codes}
+use Rattle.std.specs.List.{list_all, list_any}
+use Rattle.std.specs.Fmt.{decimal, signed_decimal as decimal_digits}
+use Rattle.std.specs.Str.Parse.{AllDigits}
+use Rattle.std.proofs.lemmas.Fmt.{decimal_is_IsNumeral}
+use Rattle.std.proofs.lemmas.Str.Parse.{digit_from_value}
+use Rattle.std.proofs.lemmas.Bool.{true≢false, and_parts, and_from, or_parts, ne_eqb, eqb-true, ltb-true, false_from_ne_true, not_from_false}
+use Rattle.defs_tree.specs.Tree.{Tree, real, integer, string, boolean, array, hash, alias, null, bad_value, Items, no_items, item, Pairs, no_pairs, pair}
+use Rattle.defs_tree.specs.Typing.{fits_i64}
+use Rattle.defs_tree.specs.Escapes.{hexadecimal_digit, escaped_code, written_character, written_escapes, double_quoted}
+use Rattle.defs_tree.specs.Quoting.{is_quoted, is_unfit_for_plain}
+use Rattle.defs_tree.specs.Spelling.{spelling, string_spelling, boolean_spelling, is_scalar}
+use Rattle.defs_tree.specs.Lines.{is_unbroken, lines_of}
+use Rattle.defs_tree.specs.Literal.{literal_header, is_literal, is_root_literal}
+use Rattle.defs_tree.specs.Box.{indented, hung, hung_lower, placed, if_none, is_block, literal_box, string_box, pair_box, box, item_boxes, pair_boxes}
+use Rattle.defs_tree.specs.Valid.{FitsI64, AllFitI64, AllPairsFitI64}
+use Rattle.defs_tree.specs.Writable.{HasText, AllHaveText, AllPairsHaveText}
+use Rattle.defs_tree.proofs.GrammarLaws.{list_all-more}
+use Rattle.defs_tree.proofs.LinesLaws.{lines_of-unbroken}
+use Rattle.defs_tree.proofs.RealTexts.{is_real_character, real_text-characters}
+use Rattle.defs_tree.proofs.Unquoted.{unquoted}
+
+-- ---- characters
+
+no_break : (p : ℕ → Bool) → p 10 ≡ false → (c : ℕ) → p c ≡ true → not (c == 10) ≡ true
+no_break p h c e = not_from_false (c == 10) (false_from_ne_true (c == 10) (λ t. true≢false (sym e ∙ ap p (eqb-true c 10 t) ∙ h)))
+
+unbroken-append : (a b : List ℕ) → is_unbroken a ≡ true → is_unbroken b ≡ true → is_unbroken (a ++ b) ≡ true
+unbroken-append [] b h e = e
+unbroken-append (c ∷ a) b h e =
+    let p = and_parts (not (c == 10)) (is_unbroken a) h in and_from (not (c == 10)) (is_unbroken (a ++ b)) p.0 (unbroken-append a b p.1 e)
+
+hexadecimal-unbroken : (n : ℕ) → not (hexadecimal_digit n == 10) ≡ true
+hexadecimal-unbroken n = by (nat_lt n 10)
+  where
+    by : (b : Bool) → not ((if b then 48 + n else 87 + n) == 10) ≡ true
+    by true = not_from_false (48 + n == 10) (ne_eqb (48 + n) 10 (λ e. omega arith))
+    by false = not_from_false (87 + n == 10) (ne_eqb (87 + n) 10 (λ e. omega arith))
+
+escaped_code-unbroken : (c : ℕ) → is_unbroken (escaped_code c) ≡ true
+escaped_code-unbroken c =
+    and_from (not (hexadecimal_digit (c / 16) == 10)) (not (hexadecimal_digit (c % 16) == 10) && true) (hexadecimal-unbroken (c / 16))
+    (ap (λ b. b && true) (hexadecimal-unbroken (c % 16)))
+
+written_character-unbroken : (c : ℕ) → is_unbroken (written_character c) ≡ true
+unfolding written_character
+written_character-unbroken c = by (c == 34) (c == 92) (c == 8) (c == 9) (c == 10) (c == 12) (c == 13) (nat_lt c 32 || (c == 127)) refl
+  where
+    by : (a b d e f g h i : Bool) → (c == 10) ≡ f → is_unbroken
+        (if a then codes "\\\"" else (if b then codes "\\\\" else (if d then codes "\\b" else (if e then codes "\\t" else (if f then codes "\\n"
+        else (if g then codes "\\f" else (if h then codes "\\r" else (if i then escaped_code c else c ∷ [])))))))) ≡ true
+    by true b d e f g h i n = refl
+    by false true d e f g h i n = refl
+    by false false true e f g h i n = refl
+    by false false false true f g h i n = refl
+    by false false false false true g h i n = refl
+    by false false false false false true h i n = refl
+    by false false false false false false true i n = refl
+    by false false false false false false false true n = escaped_code-unbroken c
+    by false false false false false false false false n = ap (λ b. not b && true) n
+
+written_escapes-unbroken : (s : List ℕ) → is_unbroken (written_escapes s) ≡ true
+written_escapes-unbroken [] = refl
+written_escapes-unbroken (c ∷ cs) = unbroken-append (written_character c) (written_escapes cs) (written_character-unbroken c) (written_escapes-unbroken cs)
+
+pub double_quoted-unbroken : (s : List ℕ) → is_unbroken (double_quoted s) ≡ true
+double_quoted-unbroken s = unbroken-append (written_escapes s) (34 ∷ []) (written_escapes-unbroken s) refl
+
+fit-unbroken : (s : List ℕ) → list_any is_unfit_for_plain s ≡ false → is_unbroken s ≡ true
+unfolding is_unfit_for_plain
+fit-unbroken [] h = refl
+fit-unbroken (c ∷ cs) h =
+    let p = or_parts (is_unfit_for_plain c) (list_any is_unfit_for_plain cs) h in
+    and_from (not (c == 10)) (is_unbroken cs) (no_break (λ d. not (is_unfit_for_plain d)) refl c (not_from_false (is_unfit_for_plain c) p.0)) (fit-unbroken cs p.1)
+
+string_spelling-unbroken : (s : List ℕ) → is_unbroken (string_spelling s) ≡ true
+string_spelling-unbroken s = by (is_quoted s) refl
+  where
+    by : (b : Bool) → is_quoted s ≡ b → is_unbroken (if b then double_quoted s else s) ≡ true
+    by true e = double_quoted-unbroken s
+    by false e = fit-unbroken s ((unquoted s e).fit)
+
+digits-unbroken : (ds : List ℕ) → AllDigits 10 ds → is_unbroken ds ≡ true
+digits-unbroken [] h = refl
+digits-unbroken (d ∷ ds) h =
+    let range : (48 ≤ d) × (d ≤ 57) = digit_from_value d h.0 in
+    and_from (not (d == 10)) (is_unbroken ds) (not_from_false (d == 10) (ne_eqb d 10 (λ e. omega arith))) (digits-unbroken ds h.1)
+
+integer-unbroken : (z : ℤ) → fits_i64 z ≡ true → is_unbroken (decimal_digits z) ≡ true
+integer-unbroken (pos n) h = let small : n < 2 ^ 63 = ltb-true n (2 ^ 63) h in digits-unbroken (decimal n) (decimal_is_IsNumeral n (omega arith)).0.1
+integer-unbroken (negsuc n) h = let small : n < 2 ^ 63 = ltb-true n (2 ^ 63) h in digits-unbroken (decimal (suc n)) (decimal_is_IsNumeral (suc n) (omega arith)).0.1
+
+boolean-unbroken : (b : Bool) → is_unbroken (boolean_spelling b) ≡ true
+boolean-unbroken true = refl
+boolean-unbroken false = refl
+
+pub spelling-unbroken : (t : Tree) → FitsI64 t → HasText t → is_unbroken (spelling t) ≡ true
+spelling-unbroken (real s) f h = list_all-more is_real_character (λ c. not (c == 10)) (no_break is_real_character refl) s (real_text-characters s h)
+spelling-unbroken (integer z) f h = integer-unbroken z f
+spelling-unbroken (string s) f h = string_spelling-unbroken s
+spelling-unbroken (boolean b) f h = boolean-unbroken b
+spelling-unbroken (array ts) f h = refl
+spelling-unbroken (hash ps) f h = refl
+spelling-unbroken (alias n) f h = refl
+spelling-unbroken null f h = refl
+spelling-unbroken bad_value f h = refl
+
+-- ---- lines
+
+abbrev AreUnbroken : List (List ℕ) → Type 0
+AreUnbroken ls = list_all is_unbroken ls ≡ true
+
+both : (l : List ℕ) (ls : List (List ℕ)) → is_unbroken l ≡ true → AreUnbroken ls → AreUnbroken (l ∷ ls)
+both l ls h e = and_from (is_unbroken l) (list_all is_unbroken ls) h e
+
+all-append : (ls ms : List (List ℕ)) → AreUnbroken ls → AreUnbroken ms → AreUnbroken (ls ++ ms)
+all-append [] ms h e = e
+all-append (l ∷ ls) ms h e = let p = and_parts (is_unbroken l) (list_all is_unbroken ls) h in both l (ls ++ ms) p.0 (all-append ls ms p.1 e)
+
+indented-unbroken : (ls : List (List ℕ)) → AreUnbroken ls → AreUnbroken (indented ls)
+indented-unbroken [] h = refl
+indented-unbroken (l ∷ ls) h = let p = and_parts (is_unbroken l) (list_all is_unbroken ls) h in both (32 ∷ 32 ∷ l) (indented ls) p.0 (indented-unbroken ls p.1)
+
+hung-unbroken : (mark : List ℕ) (ls : List (List ℕ)) → is_unbroken mark ≡ true → AreUnbroken ls → AreUnbroken (hung mark ls)
+hung-unbroken mark [] m h = both mark [] m refl
+hung-unbroken mark (l ∷ ls) m h =
+    let p = and_parts (is_unbroken l) (list_all is_unbroken ls) h in both (mark ++ 32 ∷ l) (indented ls) (unbroken-append mark (32 ∷ l) m p.0) (indented-unbroken ls p.1)
+
+placed-unbroken : (lower : Bool) (mark : List ℕ) (t : Tree) (ls : List (List ℕ)) → is_unbroken mark ≡ true → AreUnbroken ls → AreUnbroken (placed lower mark t ls)
+placed-unbroken lower mark t ls m h = by (lower && is_block t)
+  where
+    by : (b : Bool) → AreUnbroken (if b then hung_lower mark ls else hung mark ls)
+    by true = both mark (indented ls) m (indented-unbroken ls h)
+    by false = hung-unbroken mark ls m h
+
+if_none-unbroken : (text : List ℕ) (ls : List (List ℕ)) → is_unbroken text ≡ true → AreUnbroken ls → AreUnbroken (if_none text ls)
+if_none-unbroken text [] m h = both text [] m refl
+if_none-unbroken text (l ∷ ls) m h = h
+
+header-unbroken : (b : Bool) → is_unbroken (if b then codes "|" else codes "|-") ≡ true
+header-unbroken true = refl
+header-unbroken false = refl
+
+string_box-unbroken : (multiline at_root : Bool) (s : List ℕ) → AreUnbroken (string_box multiline at_root s)
+string_box-unbroken multiline at_root s = by (multiline && (if at_root then is_root_literal s else is_literal s))
+  where
+    by : (b : Bool) → AreUnbroken (if b then literal_box s else string_spelling s ∷ [])
+    by true = both (literal_header s) (lines_of s) (header-unbroken _) (lines_of-unbroken s)
+    by false = both (string_spelling s) [] (string_spelling-unbroken s) refl
+
+pair_box-unbroken : (compact : Bool) (k : Tree) (key : List (List ℕ)) (v : Tree) (value : List (List ℕ)) → is_unbroken (spelling k) ≡ true → AreUnbroken key → AreUnbroken value
+    → AreUnbroken (pair_box compact k key v value)
+pair_box-unbroken compact k key v value s e h = by (is_scalar k)
+  where
+    by : (b : Bool) → AreUnbroken (if b then placed true (spelling k ++ codes ":") v value else placed (not compact) (codes "?") k key ++ placed (not compact) (codes ":") v value)
+    by true = placed-unbroken true (spelling k ++ codes ":") v value (unbroken-append (spelling k) (codes ":") s refl) h
+    by false =
+        all-append (placed (not compact) (codes "?") k key) (placed (not compact) (codes ":") v value)
+        (placed-unbroken (not compact) (codes "?") k key refl e) (placed-unbroken (not compact) (codes ":") v value refl h)
+
+mutual
+  pub box-unbroken : (c m r : Bool) (t : Tree) → FitsI64 t → HasText t → AreUnbroken (box c m r t)
+  box-unbroken c m r (string s) f h = string_box-unbroken m r s
+  box-unbroken c m r (array ts) f h = if_none-unbroken (codes "[]") (item_boxes c m ts) refl (items-unbroken c m ts f h)
+  box-unbroken c m r (hash ps) f h = if_none-unbroken (codes "{}") (pair_boxes c m ps) refl (pairs-unbroken c m ps f h)
+  box-unbroken c m r (real s) f h = both s [] (spelling-unbroken (real s) f h) refl
+  box-unbroken c m r (integer z) f h = both (decimal_digits z) [] (spelling-unbroken (integer z) f h) refl
+  box-unbroken c m r (boolean b) f h = both (boolean_spelling b) [] (boolean-unbroken b) refl
+  box-unbroken c m r (alias n) f h = refl
+  box-unbroken c m r null f h = refl
+  box-unbroken c m r bad_value f h = refl
+
+  items-unbroken : (c m : Bool) (ts : Items) → AllFitI64 ts → AllHaveText ts → AreUnbroken (item_boxes c m ts)
+  items-unbroken c m no_items f h = refl
+  items-unbroken c m (item t ts) f h =
+      all-append (placed (not c) (codes "-") t (box c m false t)) (item_boxes c m ts)
+      (placed-unbroken (not c) (codes "-") t (box c m false t) refl (box-unbroken c m false t f.0 h.0)) (items-unbroken c m ts f.1 h.1)
+
+  pairs-unbroken : (c m : Bool) (ps : Pairs) → AllPairsFitI64 ps → AllPairsHaveText ps → AreUnbroken (pair_boxes c m ps)
+  pairs-unbroken c m no_pairs f h = refl
+  pairs-unbroken c m (pair k v ps) f h =
+      all-append (pair_box c k (box c m false k) v (box c m false v)) (pair_boxes c m ps)
+      (pair_box-unbroken c k (box c m false k) v (box c m false v) (spelling-unbroken k f.0 h.1) (box-unbroken c m false k f.0 h.1) (box-unbroken c m false v f.1 h.2))
+      (pairs-unbroken c m ps f.2 h.3)

@@ -1,0 +1,206 @@
+-- The decimal grammar read from left to right: a sign, digits, a point, digits, an exponent. For code that reads so.
+use Rattle.std.proofs.Common.{◌≡◌, ℕ, List, [], ◌∷◌, Bool, true, false, ◌&&◌, ◌||◌, refl, ap, ◌∙◌, arith}
+use Rattle.std.specs.Prelude.{if◌then◌else◌}
+use Rattle.std.specs.Char.{is_ascii_digit}
+use Rattle.std.proofs.lemmas.Bool.Decides.{nat_tests}
+use Rattle.defs_tree.specs.Grammar.{one, any_number, at_least_one, optional, followed_by, in_order}
+use Rattle.defs_tree.specs.Typing.{is_sign, is_point, is_exponent_mark, is_exponent, is_mantissa, is_decimal}
+use Rattle.defs_tree.proofs.GrammarLaws.{Rejects, behind_all, behind_one, one-then, at_least-behind, any-behind, optional_one-behind, followed_by-or, followed_by-assoc, followed_by-empty, or-false}
+
+-- the first character is of a class
+abbrev pub begins_in : (ℕ → Bool) → List ℕ → Bool
+begins_in class [] = false
+begins_in class (c ∷ cs) = class c
+
+-- an exponent or nothing, up to the end
+abbrev pub reads_exponent : List ℕ → Bool
+reads_exponent [] = true
+reads_exponent (c ∷ cs) = is_exponent_mark c && at_least_one is_ascii_digit (behind_one is_sign cs)
+
+-- what follows the first digits: a point, digits and an exponent; at least one digit must stand before or behind the point
+abbrev pub reads_on : Bool → List ℕ → Bool
+reads_on had_digits [] = had_digits
+reads_on had_digits (c ∷ cs) =
+    if is_point c then (had_digits || begins_in is_ascii_digit cs) && reads_exponent (behind_all is_ascii_digit cs)
+    else had_digits && reads_exponent (c ∷ cs)
+
+abbrev pub reads_unsigned : List ℕ → Bool
+reads_unsigned t = reads_on (begins_in is_ascii_digit t) (behind_all is_ascii_digit t)
+
+-- the whole decimal grammar
+abbrev pub reads_decimal : List ℕ → Bool
+reads_decimal t = reads_unsigned (behind_one is_sign t)
+
+-- ---- classes
+
+sign_no_digit : (c : ℕ) → is_sign c ≡ true → is_ascii_digit c ≡ false
+sign_no_digit c h = grind (arith, nat_tests)
+
+sign_no_point : (c : ℕ) → is_sign c ≡ true → is_point c ≡ false
+sign_no_point c h = grind (arith, nat_tests)
+
+digit_no_mark : (c : ℕ) → is_ascii_digit c ≡ true → is_exponent_mark c ≡ false
+digit_no_mark c h = grind (arith, nat_tests)
+
+digit_no_point : (c : ℕ) → is_ascii_digit c ≡ true → is_point c ≡ false
+digit_no_point c h = grind (arith, nat_tests)
+
+point_no_mark : (c : ℕ) → is_point c ≡ true → is_exponent_mark c ≡ false
+point_no_mark c h = grind (arith, nat_tests)
+
+-- ---- the exponent
+
+abbrev exponent_part : List ℕ → Bool
+exponent_part t = in_order (optional is_exponent ∷ []) t
+
+abbrev digits_part : List ℕ → Bool
+digits_part t = in_order (at_least_one is_ascii_digit ∷ []) t
+
+digits_part-is : (t : List ℕ) → digits_part t ≡ at_least_one is_ascii_digit t
+digits_part-is t = followed_by-empty (at_least_one is_ascii_digit) t
+
+digits_reject_sign : Rejects is_sign digits_part
+digits_reject_sign c cs h = digits_part-is (c ∷ cs) ∙ ap (λ b. b && any_number is_ascii_digit cs) (sign_no_digit c h)
+
+pub exponent_read : (t : List ℕ) → exponent_part t ≡ reads_exponent t
+exponent_read [] = refl
+exponent_read (c ∷ cs) =
+    followed_by-empty (optional is_exponent) (c ∷ cs)
+    ∙ one-then is_exponent_mark (λ b. in_order (optional (one is_sign) ∷ at_least_one is_ascii_digit ∷ []) b) c cs
+    ∙ ap (λ b. is_exponent_mark c && b) (optional_one-behind is_sign digits_part digits_reject_sign cs ∙ digits_part-is (behind_one is_sign cs))
+
+exponent_rejects_digit : Rejects is_ascii_digit reads_exponent
+exponent_rejects_digit c cs h = ap (λ b. b && at_least_one is_ascii_digit (behind_one is_sign cs)) (digit_no_mark c h)
+
+-- ---- the mantissa and the exponent
+
+-- the three forms of a mantissa, each with the exponent behind it
+whole_form : List ℕ → Bool
+whole_form t = followed_by (at_least_one is_ascii_digit) reads_exponent t
+
+behind_point : (List ℕ → Bool) → List ℕ → Bool
+behind_point g t = followed_by (one is_point) g t
+
+first_point : List ℕ → Bool
+first_point t = followed_by (at_least_one is_ascii_digit) (behind_point (λ b. followed_by (any_number is_ascii_digit) reads_exponent b)) t
+
+late_point : List ℕ → Bool
+late_point t = followed_by (any_number is_ascii_digit) (behind_point (λ b. followed_by (at_least_one is_ascii_digit) reads_exponent b)) t
+
+-- three languages in order, and then a fourth
+in_order-then : (l m n g : List ℕ → Bool) (t : List ℕ)
+    → followed_by (λ b. in_order (l ∷ m ∷ n ∷ []) b) g t ≡ followed_by l (λ b. followed_by m (λ d. followed_by n g d) b) t
+in_order-then l m n g t =
+    followed_by-assoc l (λ b. in_order (m ∷ n ∷ []) b) g t
+    ∙ (λ i. followed_by l (λ b. followed_by-assoc m (λ d. in_order (n ∷ []) d) g b i) t)
+    ∙ (λ i. followed_by l (λ b. followed_by m (λ d. followed_by (λ e. followed_by-empty n e i) g d) b) t)
+
+abbrev first_mantissa : List ℕ → Bool
+first_mantissa b = in_order (at_least_one is_ascii_digit ∷ one is_point ∷ any_number is_ascii_digit ∷ []) b
+
+abbrev late_mantissa : List ℕ → Bool
+late_mantissa b = in_order (any_number is_ascii_digit ∷ one is_point ∷ at_least_one is_ascii_digit ∷ []) b
+
+forms : (t : List ℕ) → followed_by is_mantissa exponent_part t ≡ (whole_form t || (first_point t || late_point t))
+unfolding whole_form first_point late_point behind_point
+forms t =
+    (λ i. followed_by is_mantissa (λ b. exponent_read b i) t)
+    ∙ followed_by-or (at_least_one is_ascii_digit) (λ b. first_mantissa b || (late_mantissa b || false)) reads_exponent t
+    ∙ ap (λ x. whole_form t || x)
+    (followed_by-or first_mantissa (λ b. late_mantissa b || false) reads_exponent t
+    ∙ (λ i. in_order-then (at_least_one is_ascii_digit) (one is_point) (any_number is_ascii_digit) reads_exponent t i
+    || (followed_by (λ b. or-false (late_mantissa b) i) reads_exponent t))
+    ∙ ap (λ x. first_point t || x) (in_order-then (any_number is_ascii_digit) (one is_point) (at_least_one is_ascii_digit) reads_exponent t))
+
+-- what stands behind a point
+fraction : List ℕ → Bool
+fraction t = followed_by (any_number is_ascii_digit) reads_exponent t
+
+fraction_read : (t : List ℕ) → fraction t ≡ reads_exponent (behind_all is_ascii_digit t)
+unfolding fraction
+fraction_read t = any-behind is_ascii_digit reads_exponent exponent_rejects_digit t
+
+whole_read : (t : List ℕ) → whole_form t ≡ (begins_in is_ascii_digit t && reads_exponent (behind_all is_ascii_digit t))
+unfolding whole_form
+whole_read [] = refl
+whole_read (c ∷ cs) = at_least-behind is_ascii_digit reads_exponent exponent_rejects_digit c cs ∙ by (is_ascii_digit c)
+  where
+    by : (b : Bool) → (b && reads_exponent (behind_all is_ascii_digit cs)) ≡ (b && reads_exponent (if b then behind_all is_ascii_digit cs else c ∷ cs))
+    by true = refl
+    by false = refl
+
+point_then : (g : List ℕ → Bool) (t : List ℕ) → behind_point g t ≡ (begins_in is_point t && g (behind_one is_point t))
+unfolding behind_point
+point_then g [] = refl
+point_then g (c ∷ cs) = one-then is_point g c cs ∙ by (is_point c)
+  where
+    by : (b : Bool) → (b && g cs) ≡ (b && g (if b then cs else c ∷ cs))
+    by true = refl
+    by false = refl
+
+point_rejects_digit : (g : List ℕ → Bool) → Rejects is_ascii_digit (behind_point g)
+unfolding behind_point
+point_rejects_digit g c cs h = one-then is_point g c cs ∙ ap (λ b. b && g cs) (digit_no_point c h)
+
+-- a text that begins with a digit, seen behind its first digits
+with_digits : (r : List ℕ) → (reads_exponent r || (behind_point fraction r || behind_point whole_form r)) ≡ reads_on true r
+with_digits [] = refl
+with_digits (d ∷ ds) =
+    (λ i. reads_exponent (d ∷ ds) || (point_then fraction (d ∷ ds) i || point_then whole_form (d ∷ ds) i))
+    ∙ by (is_point d) refl
+  where
+    more : (b e : Bool) → (e || (b && e)) ≡ e
+    more true true = refl
+    more true false = refl
+    more false true = refl
+    more false false = refl
+
+    by : (b : Bool) → is_point d ≡ b
+        → (reads_exponent (d ∷ ds) || ((b && fraction (if b then ds else d ∷ ds)) || (b && whole_form (if b then ds else d ∷ ds))))
+        ≡ (if b then (true || begins_in is_ascii_digit ds) && reads_exponent (behind_all is_ascii_digit ds) else true && reads_exponent (d ∷ ds))
+    by true e =
+        ap (λ x. (x && at_least_one is_ascii_digit (behind_one is_sign ds)) || (fraction ds || whole_form ds)) (point_no_mark d e)
+        ∙ (λ i. fraction_read ds i || whole_read ds i)
+        ∙ more (begins_in is_ascii_digit ds) (reads_exponent (behind_all is_ascii_digit ds))
+    by false e = or-false (reads_exponent (d ∷ ds))
+
+-- one that doesn't
+without_digits : (r : List ℕ) → behind_point whole_form r ≡ reads_on false r
+without_digits [] = point_then whole_form []
+without_digits (d ∷ ds) = point_then whole_form (d ∷ ds) ∙ by (is_point d)
+  where
+    by : (b : Bool) → (b && whole_form (if b then ds else d ∷ ds))
+        ≡ (if b then (false || begins_in is_ascii_digit ds) && reads_exponent (behind_all is_ascii_digit ds) else false && reads_exponent (d ∷ ds))
+    by true = whole_read ds
+    by false = refl
+
+first_read : (t : List ℕ) → first_point t ≡ (begins_in is_ascii_digit t && behind_point fraction (behind_all is_ascii_digit t))
+unfolding first_point fraction
+first_read [] = refl
+first_read (c ∷ cs) = at_least-behind is_ascii_digit (behind_point fraction) (point_rejects_digit fraction) c cs ∙ by (is_ascii_digit c)
+  where
+    by : (b : Bool) → (b && behind_point fraction (behind_all is_ascii_digit cs)) ≡ (b && behind_point fraction (if b then behind_all is_ascii_digit cs else c ∷ cs))
+    by true = refl
+    by false = refl
+
+late_read : (t : List ℕ) → late_point t ≡ behind_point whole_form (behind_all is_ascii_digit t)
+unfolding late_point whole_form
+late_read t = any-behind is_ascii_digit (behind_point whole_form) (point_rejects_digit whole_form) t
+
+pub unsigned_read : (t : List ℕ) → followed_by is_mantissa exponent_part t ≡ reads_unsigned t
+unsigned_read t =
+    forms t ∙ (λ i. whole_read t i || (first_read t i || late_read t i)) ∙ by (begins_in is_ascii_digit t)
+  where
+    by : (b : Bool) → ((b && reads_exponent (behind_all is_ascii_digit t)) || ((b && behind_point fraction (behind_all is_ascii_digit t)) || behind_point whole_form (behind_all is_ascii_digit t)))
+        ≡ reads_on b (behind_all is_ascii_digit t)
+    by true = with_digits (behind_all is_ascii_digit t)
+    by false = without_digits (behind_all is_ascii_digit t)
+
+unsigned_rejects_sign : Rejects is_sign (λ t. followed_by is_mantissa exponent_part t)
+unsigned_rejects_sign c cs h = unsigned_read (c ∷ cs) ∙ rw (sign_no_digit c h, sign_no_point c h) refl
+
+-- the decimal grammar is what is read from left to right
+pub is_decimal-read : (t : List ℕ) → is_decimal t ≡ reads_decimal t
+unfolding is_decimal
+is_decimal-read t =
+    optional_one-behind is_sign (λ b. in_order (is_mantissa ∷ optional is_exponent ∷ []) b) unsigned_rejects_sign t ∙ unsigned_read (behind_one is_sign t)

@@ -1,0 +1,156 @@
+-- Laid over one another, trees with distinct keys have distinct keys.
+use Rattle.std.proofs.Common.{◌≡◌, List, [], ◌∷◌, ◌++◌, Option, Some, None, Bool, true, false, cond, not, refl, sym, ap, ◌∙◌, subst}
+use Rattle.std.specs.Prelude.{is_some}
+use Rattle.std.specs.Option.{option_map_or}
+use Rattle.std.proofs.lemmas.Bool.{true≢false}
+use Rattle.defs_tree.specs.Tree.{Tree, hash, Pairs, no_pairs, pair, pairs_of, pair_list_of}
+use Rattle.defs_tree.specs.Order.{tree_eq}
+use Rattle.defs_tree.specs.Pairs.{lookup, has_key, Lacks, AreDistinct}
+use Rattle.defs_tree.specs.Valid.{IsDistinct, AllPairsDistinct}
+use Rattle.defs_tree.specs.Overlay.{overlay, pairs_under, new_pairs}
+use Rattle.defs_tree.proofs.PairsLaws.{tree_eq-itself}
+use Rattle.defs_tree.proofs.TypingLaws.{OfSome}
+
+-- the first holds of each key, and the second of each value
+abbrev pub Each : (Tree → Type 0) → (Tree → Type 0) → List (Tree × Tree) → Type 0
+Each K V [] = Unit {0}
+Each K V (p ∷ ps) = (K p.0 × V p.1) × Each K V ps
+
+-- each key and each value has distinct keys
+abbrev EachDistinct : List (Tree × Tree) → Type 0
+EachDistinct ps = Each IsDistinct IsDistinct ps
+
+-- each of these keys is one of those
+abbrev KeysWithin : List (Tree × Tree) → List (Tree × Tree) → Type 0
+KeysWithin those [] = Unit {0}
+KeysWithin those (p ∷ ps) = (has_key p.0 those ≡ true) × KeysWithin those ps
+
+pub list_of_pairs : (ps : List (Tree × Tree)) → pair_list_of (pairs_of ps) ≡ ps
+list_of_pairs [] = refl
+list_of_pairs (p ∷ ps) = ap (λ qs. p ∷ qs) (list_of_pairs ps)
+
+EachDistinct-list : (ps : Pairs) → AllPairsDistinct ps → EachDistinct (pair_list_of ps)
+EachDistinct-list no_pairs h = tt
+EachDistinct-list (pair k v ps) h = ((h.0, h.1), EachDistinct-list ps h.2)
+
+EachDistinct-pairs : (ps : List (Tree × Tree)) → EachDistinct ps → AllPairsDistinct (pairs_of ps)
+EachDistinct-pairs [] h = tt
+EachDistinct-pairs (p ∷ ps) h = (h.0.0, h.0.1, EachDistinct-pairs ps h.1)
+
+module _ (K V : Tree → Type 0) where
+  pub each_append : (ps qs : List (Tree × Tree)) → Each K V ps → Each K V qs → Each K V (ps ++ qs)
+  each_append [] qs h g = g
+  each_append (p ∷ ps) qs h g = (h.0, each_append ps qs h.1 g)
+
+  pub each_lookup : (k : Tree) (ps : List (Tree × Tree)) → Each K V ps → OfSome V (lookup k ps)
+  each_lookup k [] h = tt
+  each_lookup k (p ∷ ps) h = by (tree_eq k p.0) (each_lookup k ps h.1)
+    where
+      by : (b : Bool) → OfSome V (lookup k ps) → OfSome V (cond b (Some p.1) (lookup k ps))
+      by true r = h.0.1
+      by false r = r
+
+  pub each_new : (those ps : List (Tree × Tree)) → Each K V ps → Each K V (new_pairs those ps)
+  each_new those [] h = tt
+  each_new those (p ∷ ps) h = by (has_key p.0 those) (each_new those ps h.1)
+    where
+      by : (b : Bool) → Each K V (new_pairs those ps) → Each K V (cond (not b) (p ∷ new_pairs those ps) (new_pairs those ps))
+      by true r = r
+      by false r = (h.0, r)
+
+-- ---- the new pairs
+
+Lacks-new : (l : Tree) (those ps : List (Tree × Tree)) → Lacks l ps → Lacks l (new_pairs those ps)
+Lacks-new l those [] h = tt
+Lacks-new l those (p ∷ ps) h = by (has_key p.0 those) (Lacks-new l those ps h.1)
+  where
+    by : (b : Bool) → Lacks l (new_pairs those ps) → Lacks l (cond (not b) (p ∷ new_pairs those ps) (new_pairs those ps))
+    by true r = r
+    by false r = (h.0, r)
+
+AreDistinct-new : (those ps : List (Tree × Tree)) → AreDistinct ps → AreDistinct (new_pairs those ps)
+AreDistinct-new those [] h = tt
+AreDistinct-new those (p ∷ ps) h = by (has_key p.0 those) (Lacks-new p.0 those ps h.0) (AreDistinct-new those ps h.1)
+  where
+    by : (b : Bool) → Lacks p.0 (new_pairs those ps) → AreDistinct (new_pairs those ps) → AreDistinct (cond (not b) (p ∷ new_pairs those ps) (new_pairs those ps))
+    by true l r = r
+    by false l r = (l, r)
+
+-- they lack each of those keys
+new_lacks : (l : Tree) (those ps : List (Tree × Tree)) → has_key l those ≡ true → Lacks l (new_pairs those ps)
+new_lacks l those [] h = tt
+new_lacks l those (p ∷ ps) h = by (has_key p.0 those) refl (new_lacks l those ps h)
+  where
+    by : (b : Bool) → has_key p.0 those ≡ b → Lacks l (new_pairs those ps) → Lacks l (cond (not b) (p ∷ new_pairs those ps) (new_pairs those ps))
+    by true e r = r
+    by false e r = (λ is. true≢false (sym h ∙ ap (λ k. has_key k those) is ∙ e), r)
+
+-- ---- the left's pairs
+
+Lacks-under : (l : Tree) (us : List (Tree × Tree)) (ps : Pairs) → Lacks l (pair_list_of ps) → Lacks l (pairs_under us ps)
+Lacks-under l us no_pairs h = tt
+Lacks-under l us (pair k v ps) h = (h.0, Lacks-under l us ps h.1)
+
+AreDistinct-under : (us : List (Tree × Tree)) (ps : Pairs) → AreDistinct (pair_list_of ps) → AreDistinct (pairs_under us ps)
+AreDistinct-under us no_pairs h = tt
+AreDistinct-under us (pair k v ps) h = (Lacks-under k us ps h.0, AreDistinct-under us ps h.1)
+
+KeysWithin-under : (those us : List (Tree × Tree)) (ps : Pairs) → KeysWithin those (pair_list_of ps) → KeysWithin those (pairs_under us ps)
+KeysWithin-under those us no_pairs h = tt
+KeysWithin-under those us (pair k v ps) h = (h.0, KeysWithin-under those us ps h.1)
+
+KeysWithin-more : (q : Tree × Tree) (those ps : List (Tree × Tree)) → KeysWithin those ps → KeysWithin (q ∷ those) ps
+KeysWithin-more q those [] h = tt
+KeysWithin-more q those (p ∷ ps) h = (by (tree_eq p.0 q.0), KeysWithin-more q those ps h.1)
+  where
+    by : (b : Bool) → is_some (cond b (Some q.1) (lookup p.0 those)) ≡ true
+    by true = refl
+    by false = h.0
+
+KeysWithin-itself : (ps : List (Tree × Tree)) → KeysWithin ps ps
+KeysWithin-itself [] = tt
+KeysWithin-itself (p ∷ ps) = (ap (λ b. is_some (cond b (Some p.1) (lookup p.0 ps))) (tree_eq-itself p.0), KeysWithin-more p ps ps (KeysWithin-itself ps))
+
+Lacks-both : (l : Tree) (ps qs : List (Tree × Tree)) → Lacks l ps → Lacks l qs → Lacks l (ps ++ qs)
+Lacks-both l [] qs h g = g
+Lacks-both l (p ∷ ps) qs h g = (h.0, Lacks-both l ps qs h.1 g)
+
+-- the left's pairs and then the new ones
+AreDistinct-both : (those ps us : List (Tree × Tree)) → AreDistinct ps → KeysWithin those ps → AreDistinct us → AreDistinct (ps ++ new_pairs those us)
+AreDistinct-both those [] us h k g = AreDistinct-new those us g
+AreDistinct-both those (p ∷ ps) us h k g = (Lacks-both p.0 ps (new_pairs those us) h.0 (new_lacks p.0 those us k.0), AreDistinct-both those ps us h.1 k.1 g)
+
+-- all keys of the overlay of two lists
+pub laid_distinct : (ps : Pairs) (us : List (Tree × Tree)) → AreDistinct (pair_list_of ps) → AreDistinct us
+    → AreDistinct (pairs_under us ps ++ new_pairs (pair_list_of ps) us)
+laid_distinct ps us h g =
+    let ts = pair_list_of ps in
+    AreDistinct-both ts (pairs_under us ps) us (AreDistinct-under us ps h) (KeysWithin-under ts us ps (KeysWithin-itself ts)) g
+
+-- a value with what may be laid over it
+pub laid_value : (V : Tree → Type 0) (v : Tree) (laid : Tree → Tree) (o : Option Tree) → V v → ((w : Tree) → V w → V (laid w)) → OfSome V o → V (option_map_or laid o v)
+laid_value V v laid None h f g = h
+laid_value V v laid (Some w) h f g = f w g
+
+-- ---- whole trees
+
+whole_distinct : (ps qs : Pairs) → IsDistinct (hash ps) → IsDistinct (hash qs) → EachDistinct (pairs_under (pair_list_of qs) ps) → IsDistinct (overlay (hash ps) (hash qs))
+whole_distinct ps qs h g each =
+    let ts = pair_list_of ps in
+    let us = pair_list_of qs in
+    let under = pairs_under us ps in (
+      subst AreDistinct (sym (list_of_pairs (under ++ new_pairs ts us))) (laid_distinct ps us h.0 g.0),
+      EachDistinct-pairs (under ++ new_pairs ts us) (each_append IsDistinct IsDistinct under (new_pairs ts us) each (each_new IsDistinct IsDistinct ts us (EachDistinct-list qs g.1))),
+    )
+
+mutual
+  pub overlay_distinct : (t u : Tree) → IsDistinct t → IsDistinct u → IsDistinct (overlay t u)
+  overlay_distinct (hash ps) (hash qs) h g = whole_distinct ps qs h g (under_distinct (pair_list_of qs) ps (EachDistinct-list qs g.1) h.1)
+  overlay_distinct t u h g = g
+
+  under_distinct : (us : List (Tree × Tree)) (ps : Pairs) → EachDistinct us → AllPairsDistinct ps → EachDistinct (pairs_under us ps)
+  under_distinct us no_pairs e h = tt
+  under_distinct us (pair k v ps) e h = (
+    (h.0, laid_value IsDistinct v (overlay v) (lookup k us) h.1 (λ w g. overlay_distinct v w h.1 g) (each_lookup IsDistinct IsDistinct k us e)),
+    under_distinct us ps e h.2,
+  )

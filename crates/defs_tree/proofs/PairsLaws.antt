@@ -1,0 +1,99 @@
+-- What inserting does to a list of pairs.
+use Rattle.std.proofs.Common.{◌≡◌, ◌≢◌, List, [], ◌∷◌, ◌++◌, Some, None, Bool, true, false, cond, not, refl, sym, ap, ◌∙◌, subst}
+use Rattle.std.specs.List.{filter}
+use Rattle.std.proofs.lemmas.Bool.{true≢false, false_from_ne_true}
+use Rattle.defs_tree.specs.Tree.{Tree}
+use Rattle.defs_tree.specs.Order.{tree_eq}
+use Rattle.defs_tree.specs.Pairs.{lookup, without, insert, Lacks, AreDistinct}
+use Rattle.defs_tree.proofs.OrderLaws.{tree_eq_decides}
+
+pub tree_eq-itself : (t : Tree) → tree_eq t t ≡ true
+tree_eq-itself t = (tree_eq_decides t t).1 refl
+
+pub tree_eq-other : (t u : Tree) → t ≢ u → tree_eq t u ≡ false
+tree_eq-other t u n = false_from_ne_true (tree_eq t u) (λ e. n ((tree_eq_decides t u).0 e))
+
+apart : (k l : Tree) → tree_eq k l ≡ false → k ≢ l
+apart k l f e = true≢false (sym ((tree_eq_decides k l).1 e) ∙ f)
+
+pub Lacks-without : (k l : Tree) (ps : List (Tree × Tree)) → Lacks l ps → Lacks l (without k ps)
+Lacks-without k l [] h = tt
+Lacks-without k l (p ∷ ps) h = by (tree_eq k p.0) (Lacks-without k l ps h.1)
+  where
+    by : (b : Bool) → Lacks l (without k ps) → Lacks l (cond b ps (p ∷ without k ps))
+    by true r = h.1
+    by false r = (h.0, r)
+
+pub AreDistinct-without : (k : Tree) (ps : List (Tree × Tree)) → AreDistinct ps → AreDistinct (without k ps)
+AreDistinct-without k [] h = tt
+AreDistinct-without k (p ∷ ps) h = by (tree_eq k p.0) (AreDistinct-without k ps h.1)
+  where
+    by : (b : Bool) → AreDistinct (without k ps) → AreDistinct (cond b ps (p ∷ without k ps))
+    by true r = h.1
+    by false r = (Lacks-without k p.0 ps h.0, r)
+
+-- of distinct keys, none is left that was taken out
+pub Lacks-itself : (k : Tree) (ps : List (Tree × Tree)) → AreDistinct ps → Lacks k (without k ps)
+Lacks-itself k [] h = tt
+Lacks-itself k (p ∷ ps) h = by (tree_eq k p.0) refl (Lacks-itself k ps h.1)
+  where
+    by : (b : Bool) → tree_eq k p.0 ≡ b → Lacks k (without k ps) → Lacks k (cond b ps (p ∷ without k ps))
+    by true e r = subst (λ t. Lacks t ps) (sym ((tree_eq_decides k p.0).0 e)) h.0
+    by false e r = (apart k p.0 e, r)
+
+pub Lacks-append : (l k v : Tree) (ps : List (Tree × Tree)) → Lacks l ps → l ≢ k → Lacks l (ps ++ (k, v) ∷ [])
+Lacks-append l k v [] h n = (n, tt)
+Lacks-append l k v (p ∷ ps) h n = (h.0, Lacks-append l k v ps h.1 n)
+
+pub AreDistinct-append : (k v : Tree) (ps : List (Tree × Tree)) → AreDistinct ps → Lacks k ps → AreDistinct (ps ++ (k, v) ∷ [])
+AreDistinct-append k v [] h n = (tt, tt)
+AreDistinct-append k v (p ∷ ps) h n = (Lacks-append p.0 k v ps h.0 (λ e. n.0 (sym e)), AreDistinct-append k v ps h.1 n.1)
+
+pub AreDistinct-insert : (k v : Tree) (ps : List (Tree × Tree)) → AreDistinct ps → AreDistinct (insert k v ps)
+AreDistinct-insert k v ps h = AreDistinct-append k v (without k ps) (AreDistinct-without k ps h) (Lacks-itself k ps h)
+
+-- a key that no pair has is found in what is put behind
+pub lookup-append : (k v : Tree) (ps : List (Tree × Tree)) → Lacks k ps → lookup k (ps ++ (k, v) ∷ []) ≡ Some v
+lookup-append k v [] h = ap (λ b. cond b (Some v) None) (tree_eq-itself k)
+lookup-append k v (p ∷ ps) h = ap (λ b. cond b (Some p.1) (lookup k (ps ++ (k, v) ∷ []))) (tree_eq-other k p.0 h.0) ∙ lookup-append k v ps h.1
+
+pub lookup-insert : (k v : Tree) (ps : List (Tree × Tree)) → AreDistinct ps → lookup k (insert k v ps) ≡ Some v
+lookup-insert k v ps h = lookup-append k v (without k ps) (Lacks-itself k ps h)
+
+lookup-append_other : (k v l : Tree) (ps : List (Tree × Tree)) → l ≢ k → lookup l (ps ++ (k, v) ∷ []) ≡ lookup l ps
+lookup-append_other k v l [] n = ap (λ b. cond b (Some v) None) (tree_eq-other l k n)
+lookup-append_other k v l (p ∷ ps) n = ap (λ o. cond (tree_eq l p.0) (Some p.1) o) (lookup-append_other k v l ps n)
+
+pub lookup-without_other : (k l : Tree) (ps : List (Tree × Tree)) → l ≢ k → lookup l (without k ps) ≡ lookup l ps
+lookup-without_other k l [] n = refl
+lookup-without_other k l (p ∷ ps) n = by (tree_eq k p.0) refl (lookup-without_other k l ps n)
+  where
+    by : (b : Bool) → tree_eq k p.0 ≡ b → lookup l (without k ps) ≡ lookup l ps → lookup l (cond b ps (p ∷ without k ps)) ≡ lookup l (p ∷ ps)
+    by true e r = sym (ap (λ b. cond b (Some p.1) (lookup l ps)) (tree_eq-other l p.0 (λ is. n (is ∙ sym ((tree_eq_decides k p.0).0 e)))))
+    by false e r = ap (λ o. cond (tree_eq l p.0) (Some p.1) o) r
+
+pub lookup-insert_other : (k v l : Tree) (ps : List (Tree × Tree)) → l ≢ k → lookup l (insert k v ps) ≡ lookup l ps
+lookup-insert_other k v l ps n = lookup-append_other k v l (without k ps) n ∙ lookup-without_other k l ps n
+
+-- ---- the order
+
+others : Tree → List (Tree × Tree) → List (Tree × Tree)
+others k ps = filter (λ p. not (tree_eq k p.0)) ps
+
+others-lacking : (k : Tree) (ps : List (Tree × Tree)) → Lacks k ps → others k ps ≡ ps
+unfolding others
+others-lacking k [] h = refl
+others-lacking k (p ∷ ps) h = ap (λ b. cond (not b) (p ∷ others k ps) (others k ps)) (tree_eq-other k p.0 h.0) ∙ ap (λ qs. p ∷ qs) (others-lacking k ps h.1)
+
+without-others : (k : Tree) (ps : List (Tree × Tree)) → AreDistinct ps → without k ps ≡ others k ps
+unfolding others
+without-others k [] h = refl
+without-others k (p ∷ ps) h = by (tree_eq k p.0) refl (without-others k ps h.1)
+  where
+    by : (b : Bool) → tree_eq k p.0 ≡ b → without k ps ≡ others k ps → cond b ps (p ∷ without k ps) ≡ cond (not b) (p ∷ others k ps) (others k ps)
+    by true e r = sym (others-lacking k ps (subst (λ t. Lacks t ps) (sym ((tree_eq_decides k p.0).0 e)) h.0))
+    by false e r = ap (λ qs. p ∷ qs) r
+
+pub insert-in_order : (k v : Tree) (ps : List (Tree × Tree)) → AreDistinct ps → insert k v ps ≡ filter (λ p. not (tree_eq k p.0)) ps ++ (k, v) ∷ []
+unfolding others
+insert-in_order k v ps h = ap (λ qs. qs ++ (k, v) ∷ []) (without-others k ps h)

@@ -1,0 +1,147 @@
+-- The spelling of a scalar, where it is plain, stands for that scalar.
+use Rattle.std.proofs.Common.{◌≡◌, ◌≢◌, ℕ, suc, ◌<◌, ◌≤◌, ◌^◌, Bool, true, false, not, ◌&&◌, List, [], ◌∷◌, Some, None, refl, sym, ap, ◌∙◌, arith}
+use Rattle.std.specs.Prelude.{ℤ, pos, negsuc, option_and_then, if◌then◌else◌, ◌==◌, nat_lt, bytes_eq}
+use Rattle.std.specs.List.{list_all}
+use Rattle.std.specs.Char.{digit_value}
+use Rattle.std.specs.Str.Parse.{AllDigits, digits_value, IsNumeral}
+use Rattle.std.specs.Fmt.{decimal, signed_decimal as decimal_digits}
+use Rattle.std.proofs.lemmas.Fmt.{decimal_is_IsNumeral}
+use Rattle.std.proofs.lemmas.Str.Parse.{digit_from_value}
+use Rattle.std.proofs.lemmas.Bool.{ltb-true, lt-ltb, ne_eqb, and_left, or_from, or_parts, and_parts, not-false, not-true, cond-false}
+use Rattle.defs_tree.specs.Tree.{Tree, real, integer, string, boolean, array, hash, alias, null, bad_value}
+use Rattle.defs_tree.specs.Grammar.{is_among}
+use Rattle.defs_tree.specs.Typing.{typing, number, signed_decimal, behind, fits_i64, is_digit, is_string, is_decimal, null_words, true_words, false_words}
+use Rattle.defs_tree.specs.Quoting.{is_quoted}
+use Rattle.defs_tree.specs.Spelling.{spelling}
+use Rattle.defs_tree.specs.Laws.{IsSpeltPlain}
+use Rattle.defs_tree.proofs.TypingLaws.{typing-real, typing-string}
+
+-- ---- texts that begin with a digit or a minus
+
+-- not one of a word's first characters
+abbrev pub IsNumberStart : ℕ → Type 0
+IsNumberStart c = (c < 58) × (c ≢ 43)
+
+-- a word that is empty or begins with a letter or a tilde
+abbrev starts_late : List ℕ → Bool
+starts_late [] = true
+starts_late (c ∷ cs) = nat_lt 57 c
+
+late_word : (w : List ℕ) (c : ℕ) (cs : List ℕ) → starts_late w ≡ true → c < 58 → bytes_eq w (c ∷ cs) ≡ false
+late_word [] c cs h s = refl
+late_word (x ∷ xs) c cs h s = and_left (x == c) (bytes_eq xs cs) (ne_eqb x c (let far : 57 < x = ltb-true 57 x h in λ e. omega arith))
+
+no_late_word : (ws : List (List ℕ)) (c : ℕ) (cs : List ℕ) → list_all starts_late ws ≡ true → c < 58 → is_among ws (c ∷ cs) ≡ false
+no_late_word [] c cs h s = refl
+no_late_word (w ∷ ws) c cs h s =
+    let parts = and_parts (starts_late w) (list_all starts_late ws) h in
+    or_from (bytes_eq w (c ∷ cs)) (is_among ws (c ∷ cs)) (late_word w c cs parts.0 s) (no_late_word ws c cs parts.1 s)
+
+-- a second character that is a letter is not found
+abbrev SecondIsEarly : List ℕ → Type 0
+SecondIsEarly [] = Unit {0}
+SecondIsEarly (c ∷ cs) = c < 58
+
+behind_letter : (x : ℕ) (c : ℕ) (cs : List ℕ) → 57 < x → SecondIsEarly cs → behind (48 ∷ x ∷ []) (c ∷ cs) ≡ None
+behind_letter x c [] h s = by (48 == c)
+  where
+    by : (b : Bool) → (if b then behind (x ∷ []) [] else None) ≡ None
+    by true = refl
+    by false = refl
+behind_letter x c (d ∷ ds) h s = by (48 == c) (ne_eqb x d (λ e. omega arith))
+  where
+    by : (b : Bool) → (x == d) ≡ false → (if b then (if x == d then Some ds else None) else None) ≡ None
+    by true e = ap (λ b. if b then Some ds else None) e
+    by false e = refl
+
+behind_plus : (c : ℕ) (cs : List ℕ) → c ≢ 43 → behind (43 ∷ []) (c ∷ cs) ≡ None
+behind_plus c cs n = ap (λ b. if b then Some cs else None) (ne_eqb 43 c (λ e. n (sym e)))
+
+-- such a text stands for the integer that it writes
+integer_text : (c : ℕ) (cs : List ℕ) (z : ℤ) → c < 58 → c ≢ 43 → SecondIsEarly cs → signed_decimal (c ∷ cs) ≡ Some z → typing (c ∷ cs) ≡ integer z
+unfolding typing
+integer_text c cs z early n second e =
+    rw (
+      behind_letter 120 c cs (omega arith) second,
+      behind_letter 111 c cs (omega arith) second,
+      behind_plus c cs n,
+      no_late_word null_words c cs refl early,
+      no_late_word true_words c cs refl early,
+      no_late_word false_words c cs refl early,
+      e,
+    ) refl
+
+-- ---- the digits of a number
+
+digits-test : (base : ℕ) (ds : List ℕ) → AllDigits base ds → list_all (is_digit base) ds ≡ true
+digits-test base [] h = refl
+digits-test base (d ∷ ds) h = ap (λ b. b && list_all (is_digit base) ds) (lt-ltb (digit_value d) base h.0) ∙ digits-test base ds h.1
+
+number-digits : (d : ℕ) (ds : List ℕ) → AllDigits 10 (d ∷ ds) → number 10 (d ∷ ds) ≡ Some (digits_value 10 (d ∷ ds))
+number-digits d ds h = ap (λ b. if b then Some (digits_value 10 (d ∷ ds)) else None) (digits-test 10 (d ∷ ds) h)
+
+fitted : (z : ℤ) → fits_i64 z ≡ true → option_and_then (λ z. if fits_i64 z then Some z else None) (Some z) ≡ Some z
+fitted z h = ap (λ b. if b then Some z else None) h
+
+second_digit : (ds : List ℕ) → AllDigits 10 ds → SecondIsEarly ds
+second_digit [] h = tt
+second_digit (d ∷ ds) h = let r = digit_from_value d h.0 in omega arith
+
+-- a number's digits
+numeral_text : (ds : List ℕ) (n : ℕ) → IsNumeral 10 ds → digits_value 10 ds ≡ n → n < 2 ^ 63 → typing ds ≡ integer (pos n)
+numeral_text [] n h e small = absurd (omega (arith, h.0))
+numeral_text (d ∷ ds) n h e small =
+    let range : (48 ≤ d) × (d ≤ 57) = digit_from_value d h.1.0 in
+    let one = number-digits d ds h.1 in
+    integer_text d ds (pos n) (omega arith) (λ is. omega arith) (second_digit ds h.1.1)
+    (rw (ne_eqb d 43 (λ is. omega arith), ne_eqb d 45 (λ is. omega arith), one, e) (fitted (pos n) (lt-ltb n (2 ^ 63) small)))
+
+-- and a minus before them
+negative_text : (ds : List ℕ) (n : ℕ) → IsNumeral 10 ds → digits_value 10 ds ≡ suc n → n < 2 ^ 63 → typing (45 ∷ ds) ≡ integer (negsuc n)
+negative_text [] n h e small = absurd (omega (arith, h.0))
+negative_text (d ∷ ds) n h e small =
+    let one = number-digits d ds h.1 in
+    integer_text 45 (d ∷ ds) (negsuc n) (omega arith) (λ is. omega arith) (second_digit (d ∷ ds) h.1)
+    (rw (one, e) (fitted (negsuc n) (lt-ltb n (2 ^ 63) small)))
+
+pub integer_back : (z : ℤ) → fits_i64 z ≡ true → typing (decimal_digits z) ≡ integer z
+integer_back (pos n) h =
+    let small : n < 2 ^ 63 = ltb-true n (2 ^ 63) h in
+    let is = decimal_is_IsNumeral n (omega arith) in
+    numeral_text (decimal n) n is.0 is.1 small
+integer_back (negsuc n) h =
+    let small : n < 2 ^ 63 = ltb-true n (2 ^ 63) h in
+    let is = decimal_is_IsNumeral (suc n) (omega arith) in
+    negative_text (decimal (suc n)) n is.0 is.1 small
+
+-- ---- the other scalars
+
+-- a string that isn't quoted is typed as a string
+pub unquoted_is_string : (s : List ℕ) → is_quoted s ≡ false → is_string (typing s) ≡ true
+unfolding is_quoted
+unquoted_is_string s h = not-false (is_string (typing s)) (or_parts _ (not (is_string (typing s))) h).1
+
+pub string_back : (s : List ℕ) → is_quoted s ≡ false → typing s ≡ string s
+string_back s h = typing-string s (unquoted_is_string s h)
+
+boolean_back : (b : Bool) → typing (spelling (boolean b)) ≡ boolean b
+unfolding typing is_decimal
+boolean_back true = refl
+boolean_back false = refl
+
+null_back : typing (spelling null) ≡ null
+unfolding typing is_decimal
+null_back = refl
+
+pub spelling_back : (t : Tree) → IsSpeltPlain t → typing (spelling t) ≡ t
+spelling_back (real s) h = typing-real s h
+spelling_back (integer z) h = integer_back z h
+spelling_back (string s) h =
+    let plain = not-true (is_quoted s) h in
+    ap typing (cond-false (is_quoted s) _ s plain) ∙ string_back s plain
+spelling_back (boolean b) h = boolean_back b
+spelling_back null h = null_back
+spelling_back (array ts) h = absurd h
+spelling_back (hash ps) h = absurd h
+spelling_back (alias n) h = absurd h
+spelling_back bad_value h = absurd h

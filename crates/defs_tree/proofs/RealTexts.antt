@@ -1,0 +1,108 @@
+-- The characters of a text that stands for a real: it isn't empty, and it has no blank, no break and no indicator but signs.
+use Rattle.std.proofs.Common.{◌≡◌, ℕ, List, [], ◌∷◌, Bool, true, false, ◌||◌, ◌⊎◌, inl, inr, refl, subst, arith}
+use Rattle.std.specs.Prelude.{codes, bytes_eq}
+use Rattle.std.specs.List.{list_all}
+use Rattle.std.specs.Char.{is_ascii_digit}
+use Rattle.std.proofs.lemmas.Bool.{and_parts, or_cases, or_left}
+use Rattle.std.proofs.lemmas.Bool.Decides.{nat_tests}
+use Rattle.std.proofs.lemmas.Slice.Eq.{bytes_eq-Decides}
+use Rattle.defs_tree.specs.Grammar.{is_empty, one, any_number, at_least_one, optional, in_order, is_among}
+use Rattle.defs_tree.specs.Typing.{typing, is_decimal, is_real_text, is_sign, is_point, is_exponent_mark, is_exponent, is_mantissa, special_words}
+use Rattle.defs_tree.specs.Quoting.{is_in}
+use Rattle.defs_tree.proofs.GrammarLaws.{IsWithin, IsWithin-followed_by, IsWithin-empty, IsWithin-one, IsWithin-any_number, IsWithin-at_least_one, IsWithin-optional, IsWithin-or, IsWithin-none}
+use Rattle.defs_tree.proofs.TypingLaws.{real_text-cases}
+
+-- digits, signs, the point, and the letters of the words and of the exponent
+abbrev pub is_real_character : ℕ → Bool
+is_real_character c = is_ascii_digit c || is_in (codes "+-.eEinfaINFA") c
+
+digit_fits : (c : ℕ) → is_ascii_digit c ≡ true → is_real_character c ≡ true
+digit_fits c h = or_left (is_ascii_digit c) (is_in (codes "+-.eEinfaINFA") c) h
+
+sign_fits : (c : ℕ) → is_sign c ≡ true → is_real_character c ≡ true
+sign_fits c h = grind (arith, nat_tests)
+
+point_fits : (c : ℕ) → is_point c ≡ true → is_real_character c ≡ true
+point_fits c h = grind (arith, nat_tests)
+
+mark_fits : (c : ℕ) → is_exponent_mark c ≡ true → is_real_character c ≡ true
+mark_fits c h = grind (arith, nat_tests)
+
+abbrev Fits : (List ℕ → Bool) → Type 0
+Fits f = IsWithin is_real_character f
+
+digits_fit : Fits (at_least_one is_ascii_digit)
+digits_fit = IsWithin-at_least_one is_real_character is_ascii_digit digit_fits
+
+any_digits_fit : Fits (any_number is_ascii_digit)
+any_digits_fit = IsWithin-any_number is_real_character is_ascii_digit digit_fits
+
+one_point_fits : Fits (one is_point)
+one_point_fits = IsWithin-one is_real_character is_point point_fits
+
+optional_sign_fits : Fits (optional (one is_sign))
+optional_sign_fits = IsWithin-optional is_real_character (one is_sign) (IsWithin-one is_real_character is_sign sign_fits)
+
+in_order_fits : (f : List ℕ → Bool) (fs : List (List ℕ → Bool)) → Fits f → Fits (λ t. in_order fs t) → Fits (λ t. in_order (f ∷ fs) t)
+in_order_fits f fs h e = IsWithin-followed_by is_real_character f (λ t. in_order fs t) h e
+
+exponent_fits : Fits is_exponent
+exponent_fits =
+    in_order_fits (one is_exponent_mark) (optional (one is_sign) ∷ at_least_one is_ascii_digit ∷ []) (IsWithin-one is_real_character is_exponent_mark mark_fits)
+    (in_order_fits (optional (one is_sign)) (at_least_one is_ascii_digit ∷ []) optional_sign_fits
+    (in_order_fits (at_least_one is_ascii_digit) [] digits_fit (IsWithin-empty is_real_character)))
+
+either_fits : (f g : List ℕ → Bool) → Fits f → Fits g → Fits (λ t. f t || g t)
+either_fits f g h e = IsWithin-or is_real_character f g h e
+
+one_point_part : (fs : List (List ℕ → Bool)) → Fits (λ t. in_order fs t) → Fits (λ t. in_order (one is_point ∷ fs) t)
+one_point_part fs h = in_order_fits (one is_point) fs one_point_fits h
+
+last_part : (f : List ℕ → Bool) → Fits f → Fits (λ t. in_order (f ∷ []) t)
+last_part f h = in_order_fits f [] h (IsWithin-empty is_real_character)
+
+abbrev first_mantissa : List ℕ → Bool
+first_mantissa t = in_order (at_least_one is_ascii_digit ∷ one is_point ∷ any_number is_ascii_digit ∷ []) t
+
+abbrev late_mantissa : List ℕ → Bool
+late_mantissa t = in_order (any_number is_ascii_digit ∷ one is_point ∷ at_least_one is_ascii_digit ∷ []) t
+
+mantissa_fits : Fits is_mantissa
+mantissa_fits =
+    either_fits (at_least_one is_ascii_digit) (λ t. first_mantissa t || (late_mantissa t || false)) digits_fit
+    (either_fits first_mantissa (λ t. late_mantissa t || false)
+    (in_order_fits (at_least_one is_ascii_digit) (one is_point ∷ any_number is_ascii_digit ∷ []) digits_fit
+    (one_point_part (any_number is_ascii_digit ∷ []) (last_part (any_number is_ascii_digit) any_digits_fit)))
+    (either_fits late_mantissa (λ t. false)
+    (in_order_fits (any_number is_ascii_digit) (one is_point ∷ at_least_one is_ascii_digit ∷ []) any_digits_fit
+    (one_point_part (at_least_one is_ascii_digit ∷ []) (last_part (at_least_one is_ascii_digit) digits_fit)))
+    (IsWithin-none is_real_character)))
+
+pub decimal-characters : (t : List ℕ) → is_decimal t ≡ true → list_all is_real_character t ≡ true
+unfolding is_decimal
+decimal-characters =
+    in_order_fits (optional (one is_sign)) (is_mantissa ∷ optional is_exponent ∷ []) optional_sign_fits
+    (in_order_fits is_mantissa (optional is_exponent ∷ []) mantissa_fits
+    (last_part (optional is_exponent) (IsWithin-optional is_real_character is_exponent exponent_fits)))
+
+words-characters : (ws : List (List ℕ)) (t : List ℕ) → list_all (λ w. list_all is_real_character w) ws ≡ true → is_among ws t ≡ true → list_all is_real_character t ≡ true
+words-characters [] t h e = cc
+words-characters (w ∷ ws) t h e =
+    let parts = and_parts (list_all is_real_character w) (list_all (λ w. list_all is_real_character w) ws) h in
+    by parts.0 (words-characters ws t parts.1) (or_cases (bytes_eq w t) (is_among ws t) e)
+  where
+    by : list_all is_real_character w ≡ true → (is_among ws t ≡ true → list_all is_real_character t ≡ true) → (bytes_eq w t ≡ true) ⊎ (is_among ws t ≡ true) → list_all is_real_character t ≡ true
+    by fit later (inl is) = subst (λ u. list_all is_real_character u ≡ true) ((bytes_eq-Decides w t).0 is) fit
+    by fit later (inr is) = later is
+
+pub real_text-characters : (t : List ℕ) → is_real_text t ≡ true → list_all is_real_character t ≡ true
+real_text-characters t h = by (real_text-cases t h)
+  where
+    by : (is_among special_words t ≡ true) ⊎ (is_decimal t ≡ true) → list_all is_real_character t ≡ true
+    by (inl is) = words-characters special_words t refl is
+    by (inr is) = decimal-characters t is
+
+pub real_text-nonempty : (t : List ℕ) → is_real_text t ≡ true → is_empty t ≡ false
+unfolding typing is_decimal
+real_text-nonempty [] h = cc
+real_text-nonempty (c ∷ cs) h = refl

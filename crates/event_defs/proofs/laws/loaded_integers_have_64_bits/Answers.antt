@@ -1,5 +1,0 @@
-use Rattle.event_defs.proofs.Kept.{loaded_kept, fits_kept}
-use Rattle.event_defs.proofs.laws.loaded_integers_have_64_bits.Goals as goal
-
-pub returns : goal.returns
-returns c = loaded_kept _ fits_kept

@@ -1,5 +1,0 @@
-use Rattle.event_defs.proofs.Kept.{loaded_kept, no_alias_kept}
-use Rattle.event_defs.proofs.laws.loaded_trees_have_no_alias.Goals as goal
-
-pub returns : goal.returns
-returns c = loaded_kept _ no_alias_kept

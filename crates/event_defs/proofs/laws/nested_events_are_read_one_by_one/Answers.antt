@@ -1,5 +1,0 @@
-use Rattle.event_defs.proofs.OneByOne.{one_by_one}
-use Rattle.event_defs.proofs.laws.nested_events_are_read_one_by_one.Goals as goal
-
-pub returns : goal.returns
-returns c = one_by_one

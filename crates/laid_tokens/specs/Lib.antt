@@ -1,3 +1,0 @@
-pub mod JsonTokens
-pub mod LayoutTokens
-pub mod QuotedText

@@ -1,7 +1,0 @@
-mod Appended
-mod BasicRows
-mod Differ
-pub mod InTurn
-mod JsonRows
-mod LayoutRows
-mod Soundness

@@ -1,5 +1,0 @@
-use Rattle.layout_defs.proofs.InTurn.{layouts_in_turn}
-use Rattle.layout_defs.proofs.laws.layouts_in_turn_are_layouts.Goals as goal
-
-pub returns : goal.returns
-returns c = layouts_in_turn

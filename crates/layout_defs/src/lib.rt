@@ -1,4 +1,0 @@
-//! The relations between trees and texts: JSON texts, layouts, and basic layouts.
-#![tactic(auto)]
-
-pub mod laws;

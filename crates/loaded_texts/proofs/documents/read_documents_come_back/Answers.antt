@@ -1,5 +1,0 @@
-use Rattle.loaded_texts.proofs.DocumentTrees.{documents_come_back}
-use Rattle.loaded_texts.proofs.documents.read_documents_come_back.Goals as goal
-
-pub returns : goal.returns
-returns c = documents_come_back

@@ -1,5 +1,0 @@
-use Rattle.loaded_texts.proofs.Dumps.{dump_is_injective}
-use Rattle.loaded_texts.proofs.laws.dumps_are_injective.Goals as goal
-
-pub returns : goal.returns
-returns c = dump_is_injective

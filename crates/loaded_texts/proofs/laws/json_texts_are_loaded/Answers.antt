@@ -1,5 +1,0 @@
-use Rattle.loaded_texts.proofs.Loads.{json_is_loaded}
-use Rattle.loaded_texts.proofs.laws.json_texts_are_loaded.Goals as goal
-
-pub returns : goal.returns
-returns g c = json_is_loaded g.R.MarkedEventReceiver.takes

@@ -1,5 +1,0 @@
-use Rattle.loaded_texts.proofs.Texts.{texts_are_not_refused}
-use Rattle.loaded_texts.proofs.laws.read_texts_are_not_refused.Goals as goal
-
-pub returns : goal.returns
-returns c = texts_are_not_refused

@@ -1,0 +1,79 @@
+-- A run of ordinary characters of one line belongs to a scalar's text as it stands.
+use Rattle.std.proofs.Common.{◌≡◌, ℕ, List, [], ◌∷◌, ◌++◌, ◌∙◌, ap, Bool, true, false, ◌||◌, ◌&&◌, not, ◌==◌, refl, slice_index}
+use Rattle.defs_text.specs.Position.{Place}
+use Rattle.yaml_chars.specs.Class.{is_break, is_blank, is_breakz, is_flow}
+use Rattle.yaml_chars.specs.Run.{Ran, stops, ran}
+use Rattle.yaml_chars.specs.declared.run.Run.{Run}
+use Rattle.yaml_chars.specs.declared.run.Run.TheVariants as kind
+use Rattle.model_lexers.specs.declared.context.Context.{Context}
+use Rattle.model_lexers.specs.Machine.{past}
+use Rattle.model_lexers.specs.Folding as folding
+use Rattle.model_lexers.specs.Plain as plain
+use Rattle.model_lexers.specs.Quoted as quoted
+use Rattle.model_lexers.specs.Block as block
+
+first_of : (b c : Bool) → (b || c) ≡ false → b ≡ false
+first_of true c h = h
+first_of false c h = refl
+
+second_of : (b c : Bool) → (b || c) ≡ false → c ≡ false
+second_of true c h = cc
+second_of false c h = h
+
+no_break : (c : ℕ) → is_breakz c ≡ false → is_break c ≡ false
+no_break c h = first_of (is_break c) _ h
+
+no_gap : (c : ℕ) → (is_blank c || is_breakz c) ≡ false → (is_break c || is_blank c) ≡ false
+no_gap c h = let b = first_of (is_blank c) _ h in let d = no_break c (second_of (is_blank c) _ h) in rw (d, b) refl
+
+-- of a line of a block scalar
+pub block_run : (literal : Bool) (column c : ℕ) (a : List ℕ) (p : Place) (t : block.Lines) → stops kind.Line c ≡ false
+    → block.lines_from literal column (c ∷ a) (record { mode = block.line; place = p; lines = t })
+    ≡ block.lines_from literal column a (record { mode = block.line; place = past p; lines = block.with_char c t })
+unfolding stops
+block_run literal column c a p t h = let b = no_break c h in rw b refl
+
+-- of a quoted scalar
+pub quoted_run : (single : Bool) (ctx : Context) (start : Place) (c : ℕ) (a : List ℕ) (p : Place) (t : folding.Folded) → stops (kind.Quoted (quoted.quote_of single)) c ≡ false
+    → quoted.quoted_from single ctx start (c ∷ a) (record { mode = quoted.inside; place = p; folded = t })
+    ≡ quoted.quoted_from single ctx start a (record { mode = quoted.inside; place = past p; folded = folding.with_char c t })
+unfolding stops
+quoted_run single ctx start c a p t h =
+    let front = first_of _ (c == 92) h in
+    let gap = no_gap c (first_of _ (c == quoted.quote_of single) front) in
+    let quote = second_of _ (c == quoted.quote_of single) front in
+    let slash = second_of _ (c == 92) h in
+    rw (gap, quote, slash) (elim single [ true ↦ refl | false ↦ refl ])
+
+plain_char : (flow : Bool) (c d : ℕ) → (c == 58) ≡ false → (flow && is_flow c) ≡ false → plain.can_be_plain flow c d ≡ true
+unfolding plain.can_be_plain
+plain_char flow c d colon indicator = rw (colon, indicator) refl
+
+-- of a plain scalar
+pub plain_run : (ctx : Context) (start : Place) (c : ℕ) (a : List ℕ) (p : Place) (t : folding.Folded) → stops (kind.Plain ctx.flow) c ≡ false
+    → plain.plain_from ctx start (c ∷ a) (record { mode = plain.inside; place = p; folded = t })
+    ≡ plain.plain_from ctx start a (record { mode = plain.inside; place = past p; folded = folding.with_char c t })
+unfolding stops
+plain_run ctx start c a p t h =
+    let front = first_of _ (ctx.flow && is_flow c) h in
+    let gap = no_gap c (first_of _ (c == 58) front) in
+    let goes = plain_char ctx.flow c (slice_index a 0) (second_of _ (c == 58) front) (second_of _ (ctx.flow && is_flow c) h) in
+    rw (gap, goes) refl
+
+-- what takes a run's characters one by one takes the whole run
+pub through_run : {A : Type 0} (run : Run) (f : List ℕ → Place → List ℕ → A)
+    → ((c : ℕ) (a : List ℕ) (p : Place) (t : List ℕ) → stops run c ≡ false → f (c ∷ a) p t ≡ f a (past p) (t ++ c ∷ []))
+    → (a b : List ℕ) (p q : Place) (t u : List ℕ) → ran run a p t ≡ record { rest = b; place = q; text = u } → f a p t ≡ f b q u
+through_run run f step [] b p q t u h = ap (λ (r : Ran). f r.rest r.place r.text) h
+through_run run f step (c ∷ a) b p q t u h = turn (stops run c) refl (through_run run f step a b (past p) q (t ++ c ∷ []) u)
+  where
+    turn : (ends : Bool) → stops run c ≡ ends → (ran run a (past p) (t ++ c ∷ []) ≡ record { rest = b; place = q; text = u } → f a (past p) (t ++ c ∷ []) ≡ f b q u) → f (c ∷ a) p t ≡ f b q u
+    turn true e more = let here : record { rest = c ∷ a; place = p; text = t } ≡ record { rest = b; place = q; text = u } = rw e at h in ap (λ (r : Ran). f r.rest r.place r.text) here
+    turn false e more = step c a p t e ∙ more (rw e at h)
+
+pub block_ran : (literal : Bool) (column : ℕ) (a b : List ℕ) (p q : Place) (l : block.Lines) (u : List ℕ) → ran kind.Line a p l.text ≡ record { rest = b; place = q; text = u }
+    → block.lines_from literal column a (record { mode = block.line; place = p; lines = l })
+    ≡ block.lines_from literal column b (record { mode = block.line; place = q; lines = record l { text = u } })
+block_ran literal column a b p q l u h =
+    through_run kind.Line (λ d r t. block.lines_from literal column d (record { mode = block.line; place = r; lines = record l { text = t } }))
+    (λ c d r t e. block_run literal column c d r (record l { text = t }) e) a b p q l.text u h

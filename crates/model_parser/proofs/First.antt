@@ -1,0 +1,307 @@
+-- What each part of the grammar begins with.
+use Rattle.std.proofs.Common.{◌≡◌, ◌≢◌, List, [], ◌∷◌, Some, None, Bool, true, false, not, refl, sym, ap, ◌∙◌, subst}
+use Rattle.defs_token.specs.Token.{Tok}
+use Rattle.defs_event.specs.Grammar.{anchored, tagged, anchored_tagged, tagged_anchored, Properties, FlowNode, flow_alias, flow_content, flow_properties, FlowContent, scalar, flow_sequence, flow_mapping, MoreItems, end_items, comma_end_items, comma_item, FlowValue, no_flow_value, flow_value, MoreFlowPairs, end_flow_pairs, comma_end_flow_pairs, comma_flow_pair, Node, block_alias, block_content, block_properties, Content, flow, block_sequence, block_mapping, Entries, end_entries, entry, Dashes, end_dashes, dash, Pairs, keyed, keyless, end_pairs, key, AfterKey, value, no_value, end_stream, explicit, After, marked, unmarked, flow_node_tokens, flow_content_tokens, more_items_tokens, flow_value_tokens, more_flow_pairs_tokens, node_tokens, content_tokens, entries_tokens, dashes_tokens, pairs_tokens, after_key_tokens, after_tokens, properties_tokens}
+use Rattle.model_parser.specs.declared.kind.Kind.{Kind}
+use Rattle.model_parser.specs.declared.kind.Kind.TheVariants as kind
+use Rattle.model_parser.specs.declared.place.Place.{Place}
+use Rattle.model_parser.specs.declared.place.Place.TheVariants as place
+use Rattle.model_parser.specs.declared.state.State.{State}
+use Rattle.model_parser.specs.declared.state.State.TheVariants as state
+use Rattle.model_parser.specs.Kinds.{kind_of, begins_content, begins_node, ends_part, ends_document, ends_item, ends_item_key, ends_flow_pair, ends_flow_key, tok_of_kind, has_no_text}
+use Rattle.model_parser.specs.Goal.{NodeAt, ContentAt, part_node, part_sequence, part_content, part_dashes, node_at_tokens, content_at_tokens}
+use Rattle.model_parser.specs.Rest.{Rest, rest_tokens, first_is, BeginsNoNode, EndsPart, Behind}
+use Rattle.model_parser.specs.Stands.{Begins}
+
+pub true_is_not_false : {b : Bool} → b ≡ true → b ≡ false → ⊥
+true_is_not_false {b} h e = let f : true ≡ false = sym h ∙ e in cc
+
+-- The first token meets what all first tokens meet.
+pub first_token : (test : Kind → Bool) (us : List Tok) (t : Tok) → first_is test us ≡ true → Begins (Some t) us → test (kind_of t) ≡ true
+first_token test [] t h b = absurd b
+first_token test (u ∷ us) t h b = ap (λ x. test (kind_of x)) (sym b) ∙ h
+
+pub begins_some : (t : Tok) (ts us : List Tok) → us ≡ t ∷ ts → Begins (Some t) us
+begins_some t ts us h = subst (Begins (Some t)) (sym h) refl
+
+pub clash : (test : Kind → Bool) (us : List Tok) (t : Tok) → first_is test us ≡ true → test (kind_of t) ≡ false → Begins (Some t) us → ⊥
+clash test us t h e b = true_is_not_false (first_token test us t h b) e
+
+pub clash_cons : (test : Kind → Bool) (us : List Tok) (t : Tok) (ts : List Tok) → first_is test us ≡ true → test (kind_of t) ≡ false → us ≡ t ∷ ts → ⊥
+clash_cons test us t ts h e b = clash test us t h e (begins_some t ts us b)
+
+-- Two tokens differ, of which one meets a test and the other does not.
+pub other : (test : Kind → Bool) {x t : Tok} → x ≡ t → test (kind_of x) ≡ true → test (kind_of t) ≡ false → ⊥
+other test h a b = true_is_not_false (ap (λ y. test (kind_of y)) (sym h) ∙ a) b
+
+-- a token without texts is known by its kind
+plain_tok : (t : Tok) → has_no_text (kind_of t) ≡ true → tok_of_kind (kind_of t) ≡ t
+plain_tok Tok.stream_start h = refl
+plain_tok Tok.stream_end h = refl
+plain_tok (Tok.version_directive m n) h = cc
+plain_tok (Tok.tag_directive m n) h = cc
+plain_tok Tok.document_start h = refl
+plain_tok Tok.document_end h = refl
+plain_tok Tok.block_sequence_start h = refl
+plain_tok Tok.block_mapping_start h = refl
+plain_tok Tok.block_end h = refl
+plain_tok Tok.flow_sequence_start h = refl
+plain_tok Tok.flow_sequence_end h = refl
+plain_tok Tok.flow_mapping_start h = refl
+plain_tok Tok.flow_mapping_end h = refl
+plain_tok Tok.block_entry h = refl
+plain_tok Tok.flow_entry h = refl
+plain_tok Tok.key h = refl
+plain_tok Tok.value h = refl
+plain_tok (Tok.alias n) h = cc
+plain_tok (Tok.anchor n) h = cc
+plain_tok (Tok.tag m n) h = cc
+plain_tok (Tok.scalar m n) h = cc
+
+pub tok_is : {t : Tok} {k : Kind} → kind_of t ≡ k → has_no_text k ≡ true → t ≡ tok_of_kind k
+tok_is {t} {k} h e = sym (plain_tok t (ap has_no_text h ∙ e)) ∙ ap tok_of_kind h
+
+-- ---- nodes
+
+pub flow_content_first : (c : FlowContent) (r : List Tok) → first_is (begins_content place.Flow) (flow_content_tokens c r) ≡ true
+flow_content_first (scalar s x) r = refl
+flow_content_first (flow_sequence i) r = refl
+flow_content_first (flow_mapping p) r = refl
+
+pub content_first : (c : Content) (r : List Tok) → first_is (begins_content place.Block) (content_tokens c r) ≡ true
+content_first (flow (scalar s x)) r = refl
+content_first (flow (flow_sequence i)) r = refl
+content_first (flow (flow_mapping p)) r = refl
+content_first (block_sequence x) r = refl
+content_first (block_mapping x) r = refl
+
+pub content_at_first : (p : Place) (c : ContentAt p) (r : List Tok) → first_is (begins_content p) (content_at_tokens p c r) ≡ true
+content_at_first place.Flow c r = flow_content_first c r
+content_at_first place.Block c r = content_first c r
+content_at_first place.Part (part_content (flow (scalar s x))) r = refl
+content_at_first place.Part (part_content (flow (flow_sequence i))) r = refl
+content_at_first place.Part (part_content (flow (flow_mapping i))) r = refl
+content_at_first place.Part (part_content (block_sequence i)) r = refl
+content_at_first place.Part (part_content (block_mapping i)) r = refl
+content_at_first place.Part (part_dashes q d) r = refl
+
+properties_first : (p : Place) (o : Properties) (r : List Tok) → first_is (begins_node p) (properties_tokens o r) ≡ true
+properties_first p (anchored a) r = refl
+properties_first p (tagged t) r = refl
+properties_first p (anchored_tagged a t) r = refl
+properties_first p (tagged_anchored t a) r = refl
+
+pub flow_node_first : (n : FlowNode) (r : List Tok) → first_is (begins_node place.Flow) (flow_node_tokens n r) ≡ true
+flow_node_first (flow_alias n) r = refl
+flow_node_first (flow_content None (scalar s x)) r = refl
+flow_node_first (flow_content None (flow_sequence i)) r = refl
+flow_node_first (flow_content None (flow_mapping i)) r = refl
+flow_node_first (flow_content (Some o) c) r = properties_first place.Flow o _
+flow_node_first (flow_properties o) r = properties_first place.Flow o _
+
+pub node_first : (n : Node) (r : List Tok) → first_is (begins_node place.Block) (node_tokens n r) ≡ true
+node_first (block_alias n) r = refl
+node_first (block_content None (flow (scalar s x))) r = refl
+node_first (block_content None (flow (flow_sequence i))) r = refl
+node_first (block_content None (flow (flow_mapping i))) r = refl
+node_first (block_content None (block_sequence i)) r = refl
+node_first (block_content None (block_mapping i)) r = refl
+node_first (block_content (Some o) c) r = properties_first place.Block o _
+node_first (block_properties o) r = properties_first place.Block o _
+
+part_node_first : (n : Node) (r : List Tok) → first_is (begins_node place.Part) (node_tokens n r) ≡ true
+part_node_first (block_alias n) r = refl
+part_node_first (block_content None (flow (scalar s x))) r = refl
+part_node_first (block_content None (flow (flow_sequence i))) r = refl
+part_node_first (block_content None (flow (flow_mapping i))) r = refl
+part_node_first (block_content None (block_sequence i)) r = refl
+part_node_first (block_content None (block_mapping i)) r = refl
+part_node_first (block_content (Some o) c) r = properties_first place.Part o _
+part_node_first (block_properties o) r = properties_first place.Part o _
+
+pub node_at_first : (p : Place) (n : NodeAt p) (r : List Tok) → first_is (begins_node p) (node_at_tokens p n r) ≡ true
+node_at_first place.Flow n r = flow_node_first n r
+node_at_first place.Block n r = node_first n r
+node_at_first place.Part (part_node n) r = part_node_first n r
+node_at_first place.Part (part_sequence None p d) r = refl
+node_at_first place.Part (part_sequence (Some o) p d) r = properties_first place.Part o _
+
+-- ---- what stands behind nodes
+
+pub after_first : (a : After) (r : List Tok) → first_is ends_document (after_tokens a r) ≡ true
+after_first (marked d) r = refl
+after_first (unmarked end_stream) r = refl
+after_first (unmarked (explicit p a)) r = refl
+
+pub pairs_first : (x : Pairs) (r : List Tok) → first_is ends_part (pairs_tokens x r) ≡ true
+pairs_first (keyed end_pairs) r = refl
+pairs_first (keyed (key p a)) r = refl
+pairs_first (keyless v x) r = refl
+
+pub after_key_first : (x : AfterKey) (r : List Tok) → first_is ends_part (after_key_tokens x r) ≡ true
+after_key_first (value v x) r = refl
+after_key_first (no_value end_pairs) r = refl
+after_key_first (no_value (key p a)) r = refl
+
+pub more_items_first : (m : MoreItems) (r : List Tok) → first_is ends_item (more_items_tokens m r) ≡ true
+more_items_first end_items r = refl
+more_items_first comma_end_items r = refl
+more_items_first (comma_item i m) r = refl
+
+pub item_key_first : (v : FlowValue) (m : MoreItems) (r : List Tok) → first_is ends_item_key (flow_value_tokens v (more_items_tokens m r)) ≡ true
+item_key_first no_flow_value end_items r = refl
+item_key_first no_flow_value comma_end_items r = refl
+item_key_first no_flow_value (comma_item i m) r = refl
+item_key_first (flow_value v) m r = refl
+
+pub more_pairs_first : (m : MoreFlowPairs) (r : List Tok) → first_is ends_flow_pair (more_flow_pairs_tokens m r) ≡ true
+more_pairs_first end_flow_pairs r = refl
+more_pairs_first comma_end_flow_pairs r = refl
+more_pairs_first (comma_flow_pair i m) r = refl
+
+pub flow_key_first : (v : FlowValue) (m : MoreFlowPairs) (r : List Tok) → first_is ends_flow_key (flow_value_tokens v (more_flow_pairs_tokens m r)) ≡ true
+flow_key_first no_flow_value end_flow_pairs r = refl
+flow_key_first no_flow_value comma_end_flow_pairs r = refl
+flow_key_first no_flow_value (comma_flow_pair i m) r = refl
+flow_key_first (flow_value v) m r = refl
+
+-- the first token is one of a larger class
+pub first_more : (a b : Kind → Bool) → ((k : Kind) → a k ≡ true → b k ≡ true) → (ts : List Tok) → first_is a ts ≡ true → first_is b ts ≡ true
+first_more a b f [] h = refl
+first_more a b f (t ∷ ts) h = f (kind_of t) h
+
+pub no_node_at : Place → Kind → Bool
+no_node_at p k = not (begins_node p k)
+
+part_ends_no_node : (p : Place) (k : Kind) → ends_part k ≡ true → not (begins_node p k) ≡ true
+part_ends_no_node p kind.Key h = refl
+part_ends_no_node p kind.Value h = refl
+part_ends_no_node p kind.BlockEnd h = refl
+part_ends_no_node p _ h = cc
+
+pub ends_part_begins_none : (p : Place) (ss : List State) → EndsPart ss → BeginsNoNode p ss
+ends_part_begins_none p ss e r = first_more ends_part (λ k. not (begins_node p k)) (part_ends_no_node p) (rest_tokens ss r) (e r)
+
+document_no_node : (p : Place) (k : Kind) → ends_document k ≡ true → not (begins_node p k) ≡ true
+document_no_node p kind.DocumentStart h = refl
+document_no_node p kind.DocumentEnd h = refl
+document_no_node p kind.StreamEnd h = refl
+document_no_node p _ h = cc
+
+item_no_node : (p : Place) (k : Kind) → ends_item_key k ≡ true → not (begins_node p k) ≡ true
+item_no_node p kind.Value h = refl
+item_no_node p kind.FlowEntry h = refl
+item_no_node p kind.FlowSequenceEnd h = refl
+item_no_node p _ h = cc
+
+flow_pair_no_node : (p : Place) (k : Kind) → ends_flow_key k ≡ true → not (begins_node p k) ≡ true
+flow_pair_no_node p kind.Value h = refl
+flow_pair_no_node p kind.FlowEntry h = refl
+flow_pair_no_node p kind.FlowMappingEnd h = refl
+flow_pair_no_node p _ h = cc
+
+item_is_key : (k : Kind) → ends_item k ≡ true → ends_item_key k ≡ true
+item_is_key kind.FlowEntry h = refl
+item_is_key kind.FlowSequenceEnd h = refl
+item_is_key _ h = cc
+
+pair_is_key : (k : Kind) → ends_flow_pair k ≡ true → ends_flow_key k ≡ true
+pair_is_key kind.FlowEntry h = refl
+pair_is_key kind.FlowMappingEnd h = refl
+pair_is_key _ h = cc
+
+pub block_begins_fewer : (k : Kind) → not (begins_node place.Block k) ≡ true → not (begins_node place.Flow k) ≡ true
+block_begins_fewer kind.BlockSequenceStart h = refl
+block_begins_fewer kind.BlockMappingStart h = refl
+block_begins_fewer kind.Alias h = h
+block_begins_fewer kind.Anchor h = h
+block_begins_fewer kind.Tag h = h
+block_begins_fewer kind.Scalar h = h
+block_begins_fewer kind.FlowSequenceStart h = h
+block_begins_fewer kind.FlowMappingStart h = h
+block_begins_fewer _ h = refl
+
+-- what stands under a node begins none
+pub behind_begins_none : (p : Place) (ss : List State) → Behind p ss → BeginsNoNode p ss
+behind_begins_none place.Part ss b = ends_part_begins_none place.Part ss b
+behind_begins_none place.Block ss b = b
+behind_begins_none place.Flow ss b = b
+
+-- ---- what may be pushed below a node
+
+pub behind_after : (ss : List State) → BeginsNoNode place.Block (state.DocumentEnd ∷ ss)
+behind_after ss r = first_more ends_document (λ k. not (begins_node place.Block k)) (document_no_node place.Block) _ (after_first r.0 _)
+
+entries_first : (x : Entries) (r : List Tok) → first_is (λ k. not (begins_node place.Block k)) (entries_tokens x r) ≡ true
+entries_first end_entries r = refl
+entries_first (entry p x) r = refl
+
+pub behind_entries : (ss : List State) → BeginsNoNode place.Block (state.BlockSequenceEntry ∷ ss)
+behind_entries ss r = entries_first r.0 _
+
+dashes_first : (d : Dashes) (ss : List State) → EndsPart ss → (r : Rest ss) → first_is (λ k. not (begins_node place.Block k)) (dashes_tokens d (rest_tokens ss r)) ≡ true
+dashes_first end_dashes ss e r = ends_part_begins_none place.Block ss e r
+dashes_first (dash p d) ss e r = refl
+
+pub behind_dashes : (ss : List State) → EndsPart ss → BeginsNoNode place.Block (state.IndentlessSequenceEntry ∷ ss)
+behind_dashes ss e r = dashes_first r.0 ss e r.1
+
+pub behind_pairs : (ss : List State) → EndsPart (state.BlockMappingKey ∷ ss)
+behind_pairs ss r = pairs_first r.0 _
+
+pub behind_after_key : (ss : List State) → EndsPart (state.BlockMappingValue ∷ ss)
+behind_after_key ss r = after_key_first r.0 _
+
+pub behind_more_items : (ss : List State) → BeginsNoNode place.Flow (state.FlowSequenceEntry ∷ ss)
+behind_more_items ss r = first_more ends_item (λ k. not (begins_node place.Flow k)) (λ k h. item_no_node place.Flow k (item_is_key k h)) _ (more_items_first r.0 _)
+
+pub behind_pair_value : (ss : List State) → BeginsNoNode place.Flow (state.FlowSequenceEntryMappingValue ∷ ss)
+behind_pair_value ss r = first_more ends_item_key (λ k. not (begins_node place.Flow k)) (item_no_node place.Flow) _ (item_key_first r.0.0 r.0.1 _)
+
+pub behind_pair_end : (ss : List State) → BeginsNoNode place.Flow (state.FlowSequenceEntryMappingEnd ∷ ss)
+behind_pair_end ss r = first_more ends_item (λ k. not (begins_node place.Flow k)) (λ k h. item_no_node place.Flow k (item_is_key k h)) _ (more_items_first r.0 _)
+
+pub behind_more_flow : (ss : List State) → BeginsNoNode place.Flow (state.FlowMappingKey ∷ ss)
+behind_more_flow ss r = first_more ends_flow_pair (λ k. not (begins_node place.Flow k)) (λ k h. flow_pair_no_node place.Flow k (pair_is_key k h)) _ (more_pairs_first r.0 _)
+
+pub behind_flow_value : (ss : List State) → BeginsNoNode place.Flow (state.FlowMappingValue ∷ ss)
+behind_flow_value ss r = first_more ends_flow_key (λ k. not (begins_node place.Flow k)) (flow_pair_no_node place.Flow) _ (flow_key_first r.0.0 r.0.1 _)
+
+pub behind_flow_empty : (ss : List State) → BeginsNoNode place.Flow (state.FlowMappingEmptyValue ∷ ss)
+behind_flow_empty ss r = first_more ends_flow_pair (λ k. not (begins_node place.Flow k)) (λ k h. flow_pair_no_node place.Flow k (pair_is_key k h)) _ (more_pairs_first r.0 _)
+
+-- ---- a kind that is none of several
+
+pub not_document : (k : Kind) → k ≢ kind.DocumentStart → k ≢ kind.DocumentEnd → k ≢ kind.StreamEnd → ends_document k ≡ false
+not_document kind.DocumentStart a b c = absurd (a refl)
+not_document kind.DocumentEnd a b c = absurd (b refl)
+not_document kind.StreamEnd a b c = absurd (c refl)
+not_document _ a b c = refl
+
+pub not_part : (k : Kind) → k ≢ kind.Key → k ≢ kind.Value → k ≢ kind.BlockEnd → ends_part k ≡ false
+not_part kind.Key a b c = absurd (a refl)
+not_part kind.Value a b c = absurd (b refl)
+not_part kind.BlockEnd a b c = absurd (c refl)
+not_part _ a b c = refl
+
+pub not_item : (k : Kind) → k ≢ kind.FlowEntry → k ≢ kind.FlowSequenceEnd → ends_item k ≡ false
+not_item kind.FlowEntry a b = absurd (a refl)
+not_item kind.FlowSequenceEnd a b = absurd (b refl)
+not_item _ a b = refl
+
+pub not_item_key : (k : Kind) → k ≢ kind.Value → k ≢ kind.FlowEntry → k ≢ kind.FlowSequenceEnd → ends_item_key k ≡ false
+not_item_key kind.Value a b c = absurd (a refl)
+not_item_key kind.FlowEntry a b c = absurd (b refl)
+not_item_key kind.FlowSequenceEnd a b c = absurd (c refl)
+not_item_key _ a b c = refl
+
+pub not_flow_pair : (k : Kind) → k ≢ kind.FlowEntry → k ≢ kind.FlowMappingEnd → ends_flow_pair k ≡ false
+not_flow_pair kind.FlowEntry a b = absurd (a refl)
+not_flow_pair kind.FlowMappingEnd a b = absurd (b refl)
+not_flow_pair _ a b = refl
+
+pub not_flow_key : (k : Kind) → k ≢ kind.Value → k ≢ kind.FlowEntry → k ≢ kind.FlowMappingEnd → ends_flow_key k ≡ false
+not_flow_key kind.Value a b c = absurd (a refl)
+not_flow_key kind.FlowEntry a b c = absurd (b refl)
+not_flow_key kind.FlowMappingEnd a b c = absurd (c refl)
+not_flow_key _ a b c = refl

@@ -1,0 +1,124 @@
+-- What a token is, without its texts.
+use Rattle.std.specs.Prelude.{Bool, true, false}
+use Rattle.defs_token.specs.Token.{Tok}
+use Rattle.model_parser.specs.declared.kind.Kind.{Kind}
+use Rattle.model_parser.specs.declared.kind.Kind.TheVariants as kind
+use Rattle.model_parser.specs.declared.place.Place.{Place}
+use Rattle.model_parser.specs.declared.place.Place.TheVariants as place
+
+abbrev pub kind_of : Tok → Kind
+kind_of Tok.stream_start = kind.StreamStart
+kind_of Tok.stream_end = kind.StreamEnd
+kind_of (Tok.version_directive m n) = kind.VersionDirective
+kind_of (Tok.tag_directive h p) = kind.TagDirective
+kind_of Tok.document_start = kind.DocumentStart
+kind_of Tok.document_end = kind.DocumentEnd
+kind_of Tok.block_sequence_start = kind.BlockSequenceStart
+kind_of Tok.block_mapping_start = kind.BlockMappingStart
+kind_of Tok.block_end = kind.BlockEnd
+kind_of Tok.flow_sequence_start = kind.FlowSequenceStart
+kind_of Tok.flow_sequence_end = kind.FlowSequenceEnd
+kind_of Tok.flow_mapping_start = kind.FlowMappingStart
+kind_of Tok.flow_mapping_end = kind.FlowMappingEnd
+kind_of Tok.block_entry = kind.BlockEntry
+kind_of Tok.flow_entry = kind.FlowEntry
+kind_of Tok.key = kind.Key
+kind_of Tok.value = kind.Value
+kind_of (Tok.alias n) = kind.Alias
+kind_of (Tok.anchor n) = kind.Anchor
+kind_of (Tok.tag h s) = kind.Tag
+kind_of (Tok.scalar y x) = kind.Scalar
+
+-- what begins a node's content at a place
+abbrev pub begins_content : Place → Kind → Bool
+begins_content p kind.Scalar = true
+begins_content p kind.FlowSequenceStart = true
+begins_content p kind.FlowMappingStart = true
+begins_content place.Block kind.BlockSequenceStart = true
+begins_content place.Block kind.BlockMappingStart = true
+begins_content place.Part kind.BlockSequenceStart = true
+begins_content place.Part kind.BlockMappingStart = true
+begins_content place.Part kind.BlockEntry = true
+begins_content _ _ = false
+
+-- what begins a node at a place
+abbrev pub begins_node : Place → Kind → Bool
+begins_node p kind.Alias = true
+begins_node p kind.Anchor = true
+begins_node p kind.Tag = true
+begins_node p k = begins_content p k
+
+-- what stands after a part of a block mapping
+abbrev pub ends_part : Kind → Bool
+ends_part kind.Key = true
+ends_part kind.Value = true
+ends_part kind.BlockEnd = true
+ends_part _ = false
+
+-- what stands after a document's node
+abbrev pub ends_document : Kind → Bool
+ends_document kind.DocumentStart = true
+ends_document kind.DocumentEnd = true
+ends_document kind.StreamEnd = true
+ends_document _ = false
+
+-- what stands after an item of a flow sequence
+abbrev pub ends_item : Kind → Bool
+ends_item kind.FlowEntry = true
+ends_item kind.FlowSequenceEnd = true
+ends_item _ = false
+
+-- what stands after the key of a pair that is an item
+abbrev pub ends_item_key : Kind → Bool
+ends_item_key kind.Value = true
+ends_item_key k = ends_item k
+
+-- what stands after a pair of a flow mapping
+abbrev pub ends_flow_pair : Kind → Bool
+ends_flow_pair kind.FlowEntry = true
+ends_flow_pair kind.FlowMappingEnd = true
+ends_flow_pair _ = false
+
+-- what stands after a key of a flow mapping
+abbrev pub ends_flow_key : Kind → Bool
+ends_flow_key kind.Value = true
+ends_flow_key k = ends_flow_pair k
+
+-- what stands after an item of a sequence without indentation
+abbrev pub ends_dashed : Kind → Bool
+ends_dashed kind.BlockEntry = true
+ends_dashed k = ends_part k
+
+-- a directive
+abbrev pub is_directive : Kind → Bool
+is_directive kind.VersionDirective = true
+is_directive kind.TagDirective = true
+is_directive _ = false
+
+-- a token with that kind, where the kind has no texts
+abbrev pub tok_of_kind : Kind → Tok
+tok_of_kind kind.StreamStart = Tok.stream_start
+tok_of_kind kind.StreamEnd = Tok.stream_end
+tok_of_kind kind.DocumentStart = Tok.document_start
+tok_of_kind kind.DocumentEnd = Tok.document_end
+tok_of_kind kind.BlockSequenceStart = Tok.block_sequence_start
+tok_of_kind kind.BlockMappingStart = Tok.block_mapping_start
+tok_of_kind kind.BlockEnd = Tok.block_end
+tok_of_kind kind.FlowSequenceStart = Tok.flow_sequence_start
+tok_of_kind kind.FlowSequenceEnd = Tok.flow_sequence_end
+tok_of_kind kind.FlowMappingStart = Tok.flow_mapping_start
+tok_of_kind kind.FlowMappingEnd = Tok.flow_mapping_end
+tok_of_kind kind.BlockEntry = Tok.block_entry
+tok_of_kind kind.FlowEntry = Tok.flow_entry
+tok_of_kind kind.Key = Tok.key
+tok_of_kind kind.Value = Tok.value
+tok_of_kind _ = Tok.stream_start
+
+abbrev pub has_no_text : Kind → Bool
+has_no_text kind.VersionDirective = false
+has_no_text kind.TagDirective = false
+has_no_text kind.Alias = false
+has_no_text kind.Anchor = false
+has_no_text kind.Tag = false
+has_no_text kind.Scalar = false
+has_no_text _ = true

@@ -1,0 +1,106 @@
+-- What may still come under a parser's stack.
+use Rattle.std.specs.Prelude.{◌≡◌, List, [], ◌∷◌, Bool, true, not}
+use Rattle.defs_token.specs.Token.{Tok}
+use Rattle.defs_event.specs.Raw.{Raw}
+use Rattle.model_parser.specs.declared.kind.Kind.{Kind}
+use Rattle.model_parser.specs.declared.place.Place.{Place}
+use Rattle.model_parser.specs.declared.place.Place.TheVariants as place
+use Rattle.model_parser.specs.declared.state.State.{State}
+use Rattle.model_parser.specs.declared.state.State.TheVariants as state
+use Rattle.model_parser.specs.Kinds.{kind_of, begins_node, ends_part}
+use Rattle.model_parser.specs.Goal as at
+use Rattle.model_parser.specs.Goal.{Goal, Awaits, goal_tokens, goal_events}
+
+abbrev pub goal_of : State → Goal
+goal_of state.StreamStart = at.start
+goal_of state.ImplicitDocumentStart = at.documents
+goal_of state.DocumentStart = at.explicit
+goal_of state.DocumentContent = at.content
+goal_of state.DocumentEnd = at.after
+goal_of state.BlockNode = at.node place.Block
+goal_of state.BlockSequenceEntry = at.entries
+goal_of state.IndentlessSequenceEntry = at.dashes
+goal_of state.IndentlessSequenceItem = at.dashed
+goal_of state.BlockMappingKey = at.pairs
+goal_of state.BlockMappingNextKey = at.key_pairs
+goal_of state.BlockMappingValue = at.after_key
+goal_of state.BlockMappingPart = at.part
+goal_of state.FlowSequenceFirstEntry = at.items
+goal_of state.FlowSequenceEntry = at.more_items
+goal_of state.FlowSequenceEntryMappingKey = at.pair_key
+goal_of state.FlowSequenceEntryMappingValue = at.pair_value
+goal_of state.FlowSequenceEntryMappingEnd = at.pair_end
+goal_of state.FlowMappingFirstKey = at.flow_pairs
+goal_of state.FlowMappingKey = at.more_flow_pairs
+goal_of state.FlowMappingValue = at.flow_after_key
+goal_of (state.FlowMappingPart m) = at.flow_valued
+goal_of state.FlowMappingEmptyValue = at.flow_empty
+
+abbrev pub Rest : List State → Type 0
+Rest [] = Unit {0}
+Rest (s ∷ ss) = Awaits (goal_of s) × Rest ss
+
+abbrev pub rest_tokens : (ss : List State) → Rest ss → List Tok
+rest_tokens [] r = []
+rest_tokens (s ∷ ss) r = goal_tokens (goal_of s) r.0 (rest_tokens ss r.1)
+
+abbrev pub rest_events : (ss : List State) → Rest ss → List Raw
+rest_events [] r = []
+rest_events (s ∷ ss) r = goal_events (goal_of s) r.0 (rest_events ss r.1)
+
+-- and under what is read now
+abbrev pub still_tokens : (g : Goal) (ss : List State) → Awaits g → Rest ss → List Tok
+still_tokens g ss x r = goal_tokens g x (rest_tokens ss r)
+
+abbrev pub still_events : (g : Goal) (ss : List State) → Awaits g → Rest ss → List Raw
+still_events g ss x r = goal_events g x (rest_events ss r)
+
+-- ---- what stands under what
+
+-- whether the test holds of the first token, where there is one
+abbrev pub first_is : (Kind → Bool) → List Tok → Bool
+first_is test [] = true
+first_is test (t ∷ ts) = test (kind_of t)
+
+-- Nothing that may come here begins a node of that place.
+abbrev pub BeginsNoNode : Place → List State → Type 0
+BeginsNoNode p ss = (r : Rest ss) → first_is (λ k. not (begins_node p k)) (rest_tokens ss r) ≡ true
+
+-- What comes here ends a part of a block mapping.
+abbrev pub EndsPart : List State → Type 0
+EndsPart ss = (r : Rest ss) → first_is ends_part (rest_tokens ss r) ≡ true
+
+-- what stands under a node of that place
+abbrev pub Behind : Place → List State → Type 0
+Behind place.Part ss = EndsPart ss
+Behind p ss = BeginsNoNode p ss
+
+abbrev pub IsBottom : List State → Type 0
+IsBottom [] = Unit {0}
+IsBottom (s ∷ ss) = ⊥
+
+abbrev pub IsUnder : List State → Type 0
+IsUnder [] = ⊥
+IsUnder (s ∷ ss) = Unit {0}
+
+-- what must stand under what is read
+abbrev pub IsFor : Goal → List State → Type 0
+IsFor at.ended ss = IsBottom ss
+IsFor at.start ss = IsBottom ss
+IsFor at.documents ss = IsBottom ss
+IsFor at.explicit ss = IsBottom ss
+IsFor (at.directed ds) ss = IsBottom ss
+IsFor at.content ss = IsBottom ss
+IsFor at.after ss = IsBottom ss
+IsFor (at.node p) ss = Behind p ss × IsUnder ss
+IsFor (at.behind_anchor p a) ss = Behind p ss × IsUnder ss
+IsFor (at.behind_tag p t) ss = Behind p ss × IsUnder ss
+IsFor (at.behind p o) ss = Behind p ss × IsUnder ss
+IsFor at.dashes ss = EndsPart ss × IsUnder ss
+IsFor at.dashed ss = EndsPart ss × IsUnder ss
+IsFor at.part ss = EndsPart ss × IsUnder ss
+IsFor _ ss = IsUnder ss
+
+abbrev pub IsNested : List State → Type 0
+IsNested [] = Unit {0}
+IsNested (s ∷ ss) = IsFor (goal_of s) ss × IsNested ss

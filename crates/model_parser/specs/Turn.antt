@@ -1,0 +1,48 @@
+-- One turn of the parser: it takes the next token or leaves it, and gives an event or none.
+use Rattle.std.specs.Prelude.{◌≡◌, List, [], ◌∷◌, ◌++◌, Option, Some, None}
+use Rattle.defs_token.specs.Token.{Tok}
+use Rattle.defs_event.specs.Raw.{Raw}
+use Rattle.model_parser.specs.declared.state.State.{State}
+use Rattle.model_parser.specs.Goal.{Goal, Awaits}
+use Rattle.model_parser.specs.Rest.{Rest, still_tokens, still_events, IsNested, IsFor}
+use Rattle.model_parser.specs.Stands.{Begins}
+
+-- an event, or none
+abbrev pub event_then : Option Raw → List Raw → List Raw
+event_then None es = es
+event_then (Some x) es = x ∷ es
+
+abbrev pub then_event : List Raw → Option Raw → List Raw
+then_event es None = es
+then_event es (Some x) = es ++ x ∷ []
+
+-- What is awaited here goes on there, after this token and this event.
+abbrev pub Goes : (g : Goal) (ss : List State) → Tok → Option Raw → (g' : Goal) (ss' : List State) → Awaits g → Type 0
+Goes g ss t e g' ss' x = (r : Rest ss) (ts : List Tok) → still_tokens g ss x r ≡ t ∷ ts
+    → (x' : Awaits g') × (r' : Rest ss') × (still_tokens g' ss' x' r' ≡ ts) × (still_events g ss x r ≡ event_then e (still_events g' ss' x' r'))
+
+-- What is awaited there comes of what is awaited here.
+abbrev pub Comes : (g : Goal) (ss : List State) → List Tok → Option Raw → (g' : Goal) (ss' : List State) → Awaits g' → Type 0
+Comes g ss ts e g' ss' x' = (r' : Rest ss')
+    → (x : Awaits g) × (r : Rest ss) × (still_tokens g ss x r ≡ ts ++ still_tokens g' ss' x' r') × (still_events g ss x r ≡ event_then e (still_events g' ss' x' r'))
+
+-- The token is taken.
+pub record Takes (g : Goal) (ss : List State) (t : Tok) (e : Option Raw) (g' : Goal) (ss' : List State) : Type 0 where
+  pub nested : IsNested ss → IsFor g ss → IsNested ss' × IsFor g' ss'
+  pub comes : (x' : Awaits g') → Comes g ss (t ∷ []) e g' ss' x'
+  pub goes : IsNested ss → IsFor g ss → (x : Awaits g) → Goes g ss t e g' ss' x
+
+-- What is awaited here, where that token comes, goes on there after this event.
+abbrev pub Stays : (g : Goal) (ss : List State) → Option Tok → Option Raw → (g' : Goal) (ss' : List State) → Awaits g → Type 0
+Stays g ss p e g' ss' x = (r : Rest ss) → Begins p (still_tokens g ss x r)
+    → (x' : Awaits g') × (r' : Rest ss') × (still_tokens g' ss' x' r' ≡ still_tokens g ss x r) × (still_events g ss x r ≡ event_then e (still_events g' ss' x' r'))
+
+-- The token stays.
+pub record Leaves (g : Goal) (ss : List State) (p : Option Tok) (e : Option Raw) (g' : Goal) (ss' : List State) : Type 0 where
+  pub nested : IsNested ss → IsFor g ss → IsNested ss' × IsFor g' ss'
+  pub comes : (x' : Awaits g') → Comes g ss [] e g' ss' x'
+  pub goes : IsNested ss → IsFor g ss → (x : Awaits g) → Stays g ss p e g' ss' x
+
+-- Nothing that is awaited begins with that token.
+abbrev pub Refuses : (g : Goal) (ss : List State) → Tok → Type 0
+Refuses g ss t = IsNested ss → IsFor g ss → (x : Awaits g) (r : Rest ss) → Begins (Some t) (still_tokens g ss x r) → ⊥

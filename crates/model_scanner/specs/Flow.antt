@@ -1,0 +1,84 @@
+-- Flow collections (YAML 1.2, section 7.4).
+use Rattle.std.specs.Prelude.{ℕ, ◌+◌, List, [], ◌∷◌, Bool, true, false, nat_le, if◌then◌else◌, Option, Some, None, Result, Ok, Err, length}
+use Rattle.defs_text.specs.Text.{is_nil}
+use Rattle.defs_token.specs.Token.{Tok}
+use Rattle.yaml_tokens.specs.declared.problem.Fault.{Fault}
+use Rattle.yaml_tokens.specs.declared.problem.Fault.TheVariants.{At}
+use Rattle.yaml_tokens.specs.declared.problem.Problem.TheVariants as problem
+use Rattle.model_lexers.specs.declared.context.SkipTabs.TheVariants.{Yes}
+use Rattle.model_scanner.specs.declared.level.FlowLevel.{FlowLevel}
+use Rattle.model_scanner.specs.declared.level.FlowLevel.TheVariants.{Mapping, Entry, Keyed, Pair}
+use Rattle.model_scanner.specs.State.{Held, State, ◌>>=◌, in_flow, push, pop, on_held, try_held, skip_indicator}
+use Rattle.model_scanner.specs.Keys.{save_simple_key, remove_simple_key}
+use Rattle.model_scanner.specs.Indents.{roll_one_col_indent}
+use Rattle.model_scanner.specs.Space.{skip_spaces}
+
+-- At most 255 flow collections stand one in another.
+unfoldable pub increase_flow_level : FlowLevel → Held → Result Held Fault
+increase_flow_level kind s = (if nat_le 255 (length s.flow) then Err (At problem.FlowTooDeep s.place) else Ok (record s { keys = None ∷ s.keys; flow = kind ∷ s.flow }))
+
+abbrev pub allow_key : Bool → Held → Held
+allow_key b s = record s { key_allowed = b }
+
+abbrev pub deepened_flow : Result Held Fault → Result Held Fault
+deepened_flow (Ok s) = Ok (allow_key true s)
+deepened_flow (Err f) = Err f
+
+-- what the start of a flow collection leaves, which may be a key
+unfoldable pub begin_flow : FlowLevel → Held → Result Held Fault
+begin_flow kind s = deepened_flow (increase_flow_level kind (roll_one_col_indent (save_simple_key s)))
+
+-- after an indicator, spaces and a comment
+unfoldable pub pass_indicator : State → Result State Fault
+pass_indicator t = skip_spaces Yes (skip_indicator t)
+
+-- `[` or `{`
+unfoldable pub fetch_flow_collection_start : FlowLevel → Tok → State → Result State Fault
+fetch_flow_collection_start kind tok t =
+    try_held (begin_flow kind) t >>= λ u.
+    pass_indicator u >>= λ v.
+    Ok (on_held (push t.held.place tok) v)
+
+abbrev pub end_pair : List FlowLevel → Held → Held
+end_pair (Pair ∷ fs) s = push s.place Tok.flow_mapping_end (record s { flow = Entry ∷ fs })
+end_pair (Keyed ∷ fs) s = record s { flow = Entry ∷ fs }
+end_pair _ s = s
+
+-- An entry of the innermost flow collection ends, and with it a pair without braces.
+unfoldable pub end_flow_pair : Held → Held
+end_flow_pair s = end_pair s.flow s
+
+unfoldable pub decrease_flow_level : Held → Held
+decrease_flow_level s = (if is_nil s.flow then s else record s { flow = pop s.flow; keys = pop s.keys })
+
+-- A `:` may stand right after a flow collection that is a key.
+unfoldable pub adjacent_in_flow : Held → Held
+adjacent_in_flow s = (if in_flow s then record s { adjacent_value_at = s.place.index } else s)
+
+abbrev pub ended_flow : Result Held Fault → Result Held Fault
+ended_flow (Ok s) = Ok (allow_key false (decrease_flow_level (end_flow_pair s)))
+ended_flow (Err f) = Err f
+
+unfoldable pub end_flow : Held → Result Held Fault
+end_flow s = ended_flow (remove_simple_key s)
+
+-- `]` or `}`
+unfoldable pub fetch_flow_collection_end : Tok → State → Result State Fault
+fetch_flow_collection_end tok t =
+    try_held end_flow t >>= λ u.
+    pass_indicator u >>= λ v.
+    Ok (on_held (λ s. push t.held.place tok (adjacent_in_flow s)) v)
+
+abbrev pub next_entry : Result Held Fault → Result Held Fault
+next_entry (Ok s) = Ok (end_flow_pair (allow_key true s))
+next_entry (Err f) = Err f
+
+unfoldable pub end_entry : Held → Result Held Fault
+end_entry s = next_entry (remove_simple_key s)
+
+-- `,`
+unfoldable pub fetch_flow_entry : State → Result State Fault
+fetch_flow_entry t =
+    try_held end_entry t >>= λ u.
+    pass_indicator u >>= λ v.
+    Ok (on_held (push t.held.place Tok.flow_entry) v)

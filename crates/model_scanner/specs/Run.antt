@@ -1,0 +1,53 @@
+-- Runs of the scanner from the start of a text.
+use Rattle.std.specs.Prelude.{◌≡◌, ℕ, zero, suc, List, [], ◌∷◌, Bool, true, false, if◌then◌else◌, Result, Ok, Err}
+use Rattle.defs_text.specs.Position.{Place}
+use Rattle.defs_token.specs.Token.{Token}
+use Rattle.yaml_tokens.specs.declared.problem.Fault.{Fault}
+use Rattle.model_scanner.specs.State.{Held, State, ◌>>=◌}
+use Rattle.model_scanner.specs.Fetch.{fetch}
+
+abbrev pub nothing_held : Held
+nothing_held = record {
+  place = record { index = 0; line = 1; col = 0 };
+  tokens = [];
+  keys = [];
+  indents = [];
+  indent = 0;
+  flow = [];
+  key_allowed = true;
+  leading = true;
+  adjacent_value_at = 0;
+  started = false;
+  ended = false;
+}
+
+-- the scanner before a text
+abbrev pub start : List ℕ → State
+start a = record { rest = a; held = nothing_held }
+
+-- from one state to another by fetches, none after the stream's end
+pub data Reaches : State → State → Type 0 where
+  here : {t : State} → Reaches t t
+  there : {t u v : State} → t.held.ended ≡ false → fetch t ≡ Ok u → Reaches u v → Reaches t v
+
+-- these are all tokens of a text
+pub record HasTokens (a : List ℕ) (ts : List Token) : Type 0 where
+  pub end : State
+  pub run : Reaches (start a) end
+  pub ended : end.held.ended ≡ true
+  pub tokens : end.held.tokens ≡ ts
+
+-- a text is refused with a fault
+pub record IsRefused (a : List ℕ) (f : Fault) : Type 0 where
+  pub last : State
+  pub run : Reaches (start a) last
+  pub going : last.held.ended ≡ false
+  pub refused : fetch last ≡ Err f
+
+-- the tokens of a text that needs at most so many fetches
+abbrev pub scan_from : ℕ → State → Result (List Token) Fault
+scan_from zero t = Ok t.held.tokens
+scan_from (suc n) t = (if t.held.ended then Ok t.held.tokens else fetch t >>= λ u. scan_from n u)
+
+abbrev pub scan : ℕ → List ℕ → Result (List Token) Fault
+scan n a = scan_from n (start a)

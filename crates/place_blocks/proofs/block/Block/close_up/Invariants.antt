@@ -1,6 +1,0 @@
-use Rattle.std.proofs.Common.{◌≡◌, ◌++◌, take, drop, map}
-use Rattle.place_blocks.specs.Moves.{entry_closed_up}
-use Rattle.place_blocks.proofs.block.Block.close_up.Given as goal
-
-abbrev pub invariant-loop-entry : goal.invariant-loop-entry
-invariant-loop-entry l = l.entry-items ≡ map (entry_closed_up l.gone) (take l.entry-index l.initial.entry-items) ++ drop l.entry-index l.initial.entry-items

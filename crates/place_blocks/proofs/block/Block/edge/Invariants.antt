@@ -1,9 +1,0 @@
-use Rattle.std.proofs.Common.{◌-◌, length}
-use Rattle.place_blocks.specs.Edges.{mark_at, IsHalving}
-use Rattle.place_blocks.proofs.block.Block.edge.Given as goal
-
-abbrev pub invariant-loop-low : goal.invariant-loop-low
-invariant-loop-low l = IsHalving (mark_at l.entries) (length l.entries) l.mark l.low l.high
-
-abbrev pub decreases-loop-low : goal.decreases-loop-low
-decreases-loop-low l = l.high - l.low

@@ -1,6 +1,0 @@
-use Rattle.std.proofs.Common.{◌≡◌, ◌++◌, take, drop, map}
-use Rattle.place_blocks.specs.Moves.{entry_moved_up}
-use Rattle.place_blocks.proofs.block.Block.move_up.Given as goal
-
-abbrev pub invariant-loop-entry : goal.invariant-loop-entry
-invariant-loop-entry l = l.entry-items ≡ map (entry_moved_up l.gone l.count) (take l.entry-index l.initial.entry-items) ++ drop l.entry-index l.initial.entry-items

@@ -1,9 +1,0 @@
-use Rattle.std.proofs.Common.{sym, ap, ◌∙◌}
-use Rattle.place_blocks.specs.Edges.{place_at}
-use Rattle.place_blocks.proofs.Joining.{place_in, block_read}
-use Rattle.place_blocks.proofs.blocks.Blocks.place.Goals as goal
-
-pub returns : goal.returns
-returns c =
-    c.place.ensures ∙ ap (λ b. place_at b c.args.spot.offset) (block_read c.self.inside.blocks.items c.args.self.now c.args.spot.block _ c.self.view_is c.requires.0 c.index.ensures)
-    ∙ sym (place_in c.args.self.now c.args.spot.block c.args.spot.offset c.requires.0 c.requires.1)

@@ -1,6 +1,0 @@
-use Rattle.std.proofs.Common.{◌≡◌, ◌++◌, take, drop, map}
-use Rattle.place_blocks.specs.Moves.{entry_closed_up}
-use Rattle.place_blocks.proofs.blocks.Blocks.remove.Given as goal
-
-abbrev pub invariant-loop-block : goal.invariant-loop-block
-invariant-loop-block l = l.block-items ≡ map (map (entry_closed_up l.gone)) (take l.block-index l.initial.block-items) ++ drop l.block-index l.initial.block-items

@@ -1,5 +1,0 @@
-use Rattle.place_blocks.specs.Starts.{AreApart, head_length}
-use Rattle.place_blocks.proofs.starts.subtract_blocks.Given as goal
-
-abbrev pub invariant-loop-i : goal.invariant-loop-i
-invariant-loop-i l = AreApart (head_length l.blocks) l.first l.i l.starts l.initial.starts

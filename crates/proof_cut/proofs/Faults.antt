@@ -1,0 +1,4 @@
+pub mod Fetches
+pub mod Shown
+pub mod Steps
+pub mod Tokens

@@ -1,0 +1,9 @@
+pub mod Blocks
+pub mod Directives
+pub mod Fillers
+pub mod Inserted
+pub mod Names
+pub mod Plains
+pub mod Quoted
+pub mod Read
+pub mod Tags

@@ -1,0 +1,65 @@
+-- Where a row of pieces has come to in a text, and what is open there.
+use Rattle.std.specs.Prelude.{◌≡◌, ℕ, suc, ◌≤◌, List, [], ◌∷◌, ◌++◌, true, false, length, Option, Some, None}
+use Rattle.defs_text.specs.Position.{Place}
+use Rattle.defs_text.specs.Text.{is_nil}
+use Rattle.defs_token.specs.Token.{Tok}
+use Rattle.defs_token.specs.Filler.{is_filler}
+use Rattle.defs_token.specs.Account.{Level, Account, first_account, settled, account_past_filler}
+use Rattle.defs_token.specs.Piece.{begins_node}
+use Rattle.defs_token.specs.Cut.{Written, IsRow, spelled, account_at, account_past_row}
+use Rattle.model_scanner.specs.State.{Key}
+use Rattle.proof_lexers.specs.PlainEnds.{has_no_nul}
+use Rattle.proof_cut.specs.Order.{Behind}
+use Rattle.proof_cut.specs.Inside.{inside}
+
+-- A row, and a filler after it, are the text up to a place, whatever token follows; the text after the row, the text after the place, and the account there.
+pub record Here (text : List ℕ) (row : List Written) (behind rest : List ℕ) (here : Account) : Type 0 where
+  pub filler : List ℕ
+  pub is_behind : behind ≡ filler ++ rest
+  pub is_text : spelled row behind ≡ text
+  pub is_row : (last : Option Tok) → IsRow first_account row behind last
+  pub is_filled : is_filler false filler rest ≡ true
+  pub is_here : account_past_filler (account_past_row first_account row behind) filler rest ≡ here
+  pub is_clean : has_no_nul rest ≡ true
+
+-- whether a place is on a key's line, and the text goes on there
+abbrev pub IsLive : Key → Place → (rest : List ℕ) → Type 0
+IsLive k p rest = (p.line ≤ k.place.line) × (is_nil rest ≡ false)
+
+-- a column is not right of a key
+abbrev pub IsNotRight : Option ℕ → ℕ → Type 0
+IsNotRight None k = Unit {0}
+IsNotRight (Some n) k = n ≤ k
+
+-- what stands from a key on: pieces of a key, with so many flow levels open; and the innermost block collection is not right of it
+pub record IsInside (k : Key) (depth : ℕ) (ws : List Written) (column : Option ℕ) : Type 0 where
+  pub levels : List Level
+  pub is_inside : inside [] ws ≡ Some levels
+  pub many : length levels ≡ depth
+  pub column_is : IsNotRight column k.place.col
+
+-- the account at a piece of a row
+abbrev pub account_in : (before : List Written) → Written → (after : List Written) → (behind : List ℕ) → Account
+account_in before own after behind = account_at (account_past_row first_account before (spelled (own ∷ after) behind)) own (spelled after behind)
+
+-- An open key splits a row at its number, where a node begins; the rows before and from there on; and the place now.
+pub record IsOpen (k : Key) (depth : ℕ) (row : List Written) (behind : List ℕ) (p : Place) (rest : List ℕ) (column : Option ℕ) : Type 0 where
+  pub before : List Written
+  pub own : Written
+  pub after : List Written
+  pub is_split : row ≡ before ++ (own ∷ after)
+  pub number_is : k.number ≡ suc (length before)
+  pub is_node : begins_node (Some (own.token.tok)) ≡ true
+  pub is_solid : is_nil own.piece ≡ false
+  pub is_free : (last : Option Tok) → IsRow first_account before (spelled (own ∷ after) behind) last
+  pub is_settled : (column : ℕ) → settled column (account_past_row first_account before (spelled (own ∷ after) behind)).blocks ≡ (account_past_row first_account before (spelled (own ∷ after) behind)).blocks
+  pub place_is : k.place ≡ (account_in before own after behind).place
+  pub is_earlier : Behind k.place p
+  pub live : IsLive k p rest → IsInside k depth (own ∷ after) column
+
+-- The open keys, the innermost first; each outer one is open in the row before the inner one.
+abbrev pub AreOpen : (depth : ℕ) → List Written → (behind : List ℕ) → Place → (rest : List ℕ) → (column : Option ℕ) → List (Option Key) → Type 0
+AreOpen depth row behind p rest column [] = Unit {0}
+AreOpen depth row behind p rest column (None ∷ ks) = AreOpen (suc depth) row behind p rest column ks
+AreOpen depth row behind p rest column (Some k ∷ ks) =
+    (o : IsOpen k depth row behind p rest column) × AreOpen 1 o.before (spelled (o.own ∷ o.after) behind) k.place (o.own.piece ++ spelled o.after behind) column ks

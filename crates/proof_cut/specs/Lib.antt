@@ -1,0 +1,8 @@
+pub mod Faults
+pub mod Here
+pub mod Inside
+pub mod Laws
+pub mod Order
+pub mod PiecesRead
+pub mod Places
+pub mod Stands

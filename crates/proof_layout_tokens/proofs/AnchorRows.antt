@@ -1,0 +1,48 @@
+-- Anchors before each kind of value, an alias, and a folded block: what the theorem says of a text with them.
+use Rattle.std.proofs.Common.{arith, ◌≡◌, ◌≢◌, ℕ, List, [], ◌∷◌, true, false, sym, ap, ◌∙◌, true≢false, codes}
+use Rattle.defs_token.specs.Token.{Tok, Style}
+use Rattle.defs_tree.specs.Tree.{Tree, pairs_of}
+use Rattle.defs_tree.specs.Order.{tree_eq}
+use Rattle.defs_tree.specs.Quoting.{is_quoted, is_unfit_for_plain}
+use Rattle.defs_tree.specs.Typing.{typing, is_decimal}
+use Rattle.defs_tree.specs.Literal.{is_literal, is_literal_character}
+use Rattle.defs_scalar.specs.BlockScalar.{row_of, is_empty_line, is_content_line}
+use Rattle.defs_text.specs.Classes.{is_blank}
+use Rattle.defs_layout.specs.Gap.{empty_line, is_line_character}
+use Rattle.defs_layout.specs.BlockLines.{full, blank}
+use Rattle.defs_layout.specs.Layout.{Scalar, plain, single_quoted, scalar, no_comment, Block, beside, literal, folded, below, anchored, alias, implicit, last_field, field, Root, last_document}
+use Rattle.model_scanner.specs.TextTokens.{HasToks}
+use Rattle.proof_layout_tokens.proofs.LayoutTexts.{layouts_have_their_tokens}
+
+abbrev word : List ℕ → Scalar
+word w = plain (Tree.string w)
+
+abbrev text_tok : List ℕ → Tok
+text_tok w = Tok.scalar Style.plain w
+
+differ : (a b : Tree) → tree_eq a a ≡ true → tree_eq a b ≡ false → a ≢ b
+differ a b same other e = true≢false (sym same ∙ ap (tree_eq a) e ∙ other)
+
+-- an anchor before a block, a scalar and a literal block; a folded block and an empty line behind it
+each_anchor : HasToks (codes "---\na: &x\n  k: &y 'it''s'\nb: *x\nc: >-\n  p\n  q\n\n  r\n\nd: &z |\n  s\n  t\n")
+    (Tok.stream_start ∷ Tok.document_start ∷ Tok.block_mapping_start
+    ∷ Tok.key ∷ text_tok (codes "a") ∷ Tok.value ∷ Tok.anchor (codes "x")
+    ∷ Tok.block_mapping_start ∷ Tok.key ∷ text_tok (codes "k") ∷ Tok.value ∷ Tok.anchor (codes "y") ∷ Tok.scalar Style.single_quoted (codes "it's") ∷ Tok.block_end
+    ∷ Tok.key ∷ text_tok (codes "b") ∷ Tok.value ∷ Tok.alias (codes "x")
+    ∷ Tok.key ∷ text_tok (codes "c") ∷ Tok.value ∷ Tok.scalar Style.folded (codes "p q\nr")
+    ∷ Tok.key ∷ text_tok (codes "d") ∷ Tok.value ∷ Tok.anchor (codes "z") ∷ Tok.scalar Style.literal (codes "s\nt\n")
+    ∷ Tok.block_end ∷ Tok.stream_end ∷ [])
+unfolding is_quoted is_unfit_for_plain typing is_decimal is_line_character is_literal is_literal_character row_of is_empty_line is_content_line is_blank
+each_anchor = layouts_have_their_tokens
+    (record {
+      is_marked = true;
+      documents = last_document (record {
+        gap = [];
+        root = Root.block 0 (Block.hash
+            (field (implicit (word (codes "a")) (anchored 0 (codes "x") (below no_comment [] 2 (Block.hash (last_field (implicit (word (codes "k")) (anchored 0 (codes "y") (beside 0 (scalar (single_quoted (codes "it's"))) no_comment)))))))) []
+            (field (implicit (word (codes "b")) (alias 0 (codes "x") (Tree.hash (pairs_of ((Tree.string (codes "k"), Tree.string (codes "it's")) ∷ []))))) []
+            (field (implicit (word (codes "c")) (folded 0 2 true (codes "p q\nr") (full (codes "p") ∷ full (codes "q") ∷ blank 0 ∷ full (codes "r") ∷ []))) (empty_line ∷ [])
+            (last_field (implicit (word (codes "d")) (anchored 0 (codes "z") (literal 0 2 (codes "s\nt\n") (full (codes "s") ∷ full (codes "t") ∷ [])))))))));
+      }) (empty_line ∷ []);
+    })
+    (search (arith, differ, true≢false))

@@ -1,0 +1,31 @@
+-- JSON texts and their tokens: what the theorem says of some, and what the model does at a tab that the definition leaves out.
+use Rattle.std.proofs.Common.{arith, ◌≡◌, [], ◌∷◌, true, false, codes, refl, Err}
+use Rattle.yaml_tokens.specs.declared.problem.Fault.TheVariants.{At}
+use Rattle.yaml_tokens.specs.declared.problem.Problem.TheVariants as problem
+use Rattle.defs_token.specs.Token.{Tok, Style}
+use Rattle.defs_layout.specs.JsonGap as gap
+use Rattle.defs_layout.specs.JsonNumber.{number, fraction, plus, exponent}
+use Rattle.defs_layout.specs.JsonString.{itself, short, Short, unicode, is_unescaped}
+use Rattle.defs_layout.specs.Json.{Json, Elements}
+use Rattle.model_scanner.specs.TextTokens.{HasToks}
+use Rattle.proof_layout_tokens.proofs.Json.Texts.{json_text_has_its_tokens}
+use Rattle.model_scanner.specs.Run.{scan}
+use Rattle.model_scanner.proofs.OnLiterals.{scan_on_literals}
+
+-- `["a\u0041\n", -2.5e+3]`
+array : HasToks (codes "[\"a\\u0041\\n\", -2.5e+3]")
+    (Tok.stream_start ∷ Tok.flow_sequence_start ∷ Tok.scalar Style.double_quoted (codes "aA\n") ∷ Tok.flow_entry ∷ Tok.scalar Style.plain (codes "-2.5e+3") ∷ Tok.flow_sequence_end ∷ Tok.stream_end ∷ [])
+unfolding is_unescaped
+array = json_text_has_its_tokens
+    (record {
+      before = [];
+      value = Json.array [] (Elements.element (Json.string (itself 97 ∷ unicode 48 48 52 49 ∷ short Short.new_line ∷ [])) [] (gap.space ∷ [])
+          (Elements.last_element (Json.number (number true (codes "2") (fraction (codes "5")) (exponent false plus (codes "3")))) []));
+      after = [];
+    })
+    (record { before = tt; value = search; after = tt; depth = omega arith })
+
+-- a tab behind a colon and a number: `{"k":` TAB `1}`
+tab_behind_colon : scan 4 (codes "{\"k\":\t1}") ≡ Err (At problem.TabAfterColon (record { index = 6; line = 1; col = 6 }))
+unfolding scan_on_literals
+tab_behind_colon = refl

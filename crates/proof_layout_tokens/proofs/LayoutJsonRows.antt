@@ -1,0 +1,58 @@
+-- JSON arrays and objects behind each mark of a block collection: what the theorem says of a text with them.
+use Rattle.std.proofs.Common.{arith, ℕ, List, [], ◌∷◌, true, false, codes}
+use Rattle.std.specs.Fmt.{digits}
+use Rattle.defs_token.specs.Token.{Tok, Style}
+use Rattle.defs_tree.specs.Tree.{Tree}
+use Rattle.defs_tree.specs.Quoting.{is_quoted, is_unfit_for_plain}
+use Rattle.defs_tree.specs.Typing.{typing, is_decimal}
+use Rattle.defs_layout.specs.JsonGap as gap
+use Rattle.defs_layout.specs.JsonNumber.{number, no_fraction, fraction, plus, no_exponent, exponent}
+use Rattle.defs_layout.specs.JsonString.{itself, is_unescaped}
+use Rattle.defs_layout.specs.Json.{Json, Elements, Members}
+use Rattle.defs_layout.specs.Layout.{plain, Block, json, compact, last_entry, entry, implicit, explicit, last_field, Root, last_document, is_on_one_line}
+use Rattle.model_scanner.specs.TextTokens.{HasToks}
+use Rattle.proof_layout_tokens.proofs.LayoutTexts.{layouts_have_their_tokens}
+
+abbrev plain_tok : List ℕ → Tok
+plain_tok w = Tok.scalar Style.plain w
+
+abbrev quoted_tok : List ℕ → Tok
+quoted_tok w = Tok.scalar Style.double_quoted w
+
+-- `[1, {"a": [true, "x"]}]`
+abbrev nested : Json
+nested = Json.array [] (Elements.element (Json.number (number false (codes "1") no_fraction no_exponent)) [] (gap.space ∷ [])
+    (Elements.last_element (Json.object [] (Members.last_member (itself 97 ∷ []) [] (gap.space ∷ [])
+    (Json.array [] (Elements.element Json.true_word [] (gap.space ∷ []) (Elements.last_element (Json.string (itself 120 ∷ [])) []))) [])) []))
+
+-- `{"b" : null }`
+abbrev spaced : Json
+spaced = Json.object [] (Members.last_member (itself 98 ∷ []) (gap.space ∷ []) (gap.space ∷ []) Json.null_word (gap.space ∷ []))
+
+-- `[-1.5e+3, {}]`
+abbrev numbered : Json
+numbered = Json.array [] (Elements.element (Json.number (number true (codes "1") (fraction (codes "5")) (exponent false plus (codes "3")))) [] (gap.space ∷ [])
+    (Elements.last_element (Json.empty_object []) []))
+
+-- behind `-`, behind `?` and the `:` below it, and behind the `:` of a key at the end of the text
+behind_each_mark : HasToks (codes "- [1, {\"a\": [true, \"x\"]}]\n- ? {\"b\" : null }\n  :  [ ]\n- k: [-1.5e+3, {}]")
+    (Tok.stream_start ∷ Tok.block_sequence_start
+    ∷ Tok.block_entry ∷ Tok.flow_sequence_start ∷ plain_tok (codes "1") ∷ Tok.flow_entry ∷ Tok.flow_mapping_start ∷ Tok.key ∷ quoted_tok (codes "a") ∷ Tok.value
+    ∷ Tok.flow_sequence_start ∷ plain_tok (codes "true") ∷ Tok.flow_entry ∷ quoted_tok (codes "x") ∷ Tok.flow_sequence_end ∷ Tok.flow_mapping_end ∷ Tok.flow_sequence_end
+    ∷ Tok.block_entry ∷ Tok.block_mapping_start ∷ Tok.key ∷ Tok.flow_mapping_start ∷ Tok.key ∷ quoted_tok (codes "b") ∷ Tok.value ∷ plain_tok (codes "null") ∷ Tok.flow_mapping_end
+    ∷ Tok.value ∷ Tok.flow_sequence_start ∷ Tok.flow_sequence_end ∷ Tok.block_end
+    ∷ Tok.block_entry ∷ Tok.block_mapping_start ∷ Tok.key ∷ plain_tok (codes "k") ∷ Tok.value ∷ Tok.flow_sequence_start ∷ plain_tok (codes "-1.5e+3") ∷ Tok.flow_entry
+    ∷ Tok.flow_mapping_start ∷ Tok.flow_mapping_end ∷ Tok.flow_sequence_end ∷ Tok.block_end
+    ∷ Tok.block_end ∷ Tok.stream_end ∷ [])
+unfolding is_quoted is_unfit_for_plain typing is_decimal digits is_unescaped is_on_one_line
+behind_each_mark = layouts_have_their_tokens
+    (record {
+      is_marked = false;
+      documents = last_document (record {
+        gap = [];
+        root = Root.block 0 (Block.array (entry (json 0 nested) []
+            (entry (compact 0 (Block.hash (last_field (explicit (json 0 spaced) [] (json 1 (Json.empty_array (gap.space ∷ []))))))) []
+            (last_entry (compact 0 (Block.hash (last_field (implicit (plain (Tree.string (codes "k"))) (json 0 numbered)))))))));
+      }) [];
+    })
+    (search arith)

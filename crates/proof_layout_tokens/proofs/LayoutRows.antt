@@ -1,0 +1,53 @@
+-- Texts laid out in lines and their tokens: what the theorem says of one with each form, and what the model computes for small ones.
+use Rattle.std.proofs.Common.{arith, ◌≡◌, ◌≢◌, ℕ, List, [], ◌∷◌, true, false, sym, ap, ◌∙◌, true≢false, codes}
+use Rattle.std.specs.Prelude.{pos}
+use Rattle.std.specs.Fmt.{digits}
+use Rattle.defs_token.specs.Token.{Tok, Style}
+use Rattle.defs_tree.specs.Tree.{Tree}
+use Rattle.defs_tree.specs.Order.{tree_eq}
+use Rattle.defs_tree.specs.Quoting.{is_quoted, is_unfit_for_plain}
+use Rattle.defs_tree.specs.Typing.{typing, is_decimal}
+use Rattle.defs_tree.specs.Escapes.{written_character}
+use Rattle.defs_tree.specs.Literal.{is_literal, is_literal_character}
+use Rattle.defs_layout.specs.Gap.{empty_line, comment_line, is_line_character}
+use Rattle.defs_layout.specs.BlockLines.{full, blank}
+use Rattle.defs_layout.specs.Layout.{Scalar, plain, quoted, Inline, scalar, empty_array, empty_hash, no_comment, array, hash, Value, compact, below, literal, last_entry, entry, implicit, explicit, last_field, field, Root, last_document}
+use Rattle.model_scanner.specs.TextTokens.{HasToks}
+use Rattle.proof_layout_tokens.proofs.LayoutTexts.{layouts_have_their_tokens}
+
+abbrev word : List ℕ → Scalar
+word w = plain (Tree.string w)
+
+-- a value behind one space
+abbrev beside : Inline → Value
+beside i = Value.beside 0 i no_comment
+
+abbrev text_tok : List ℕ → Tok
+text_tok w = Tok.scalar Style.plain w
+
+differ : (a b : Tree) → tree_eq a a ≡ true → tree_eq a b ≡ false → a ≢ b
+differ a b same other e = true≢false (sym same ∙ ap (tree_eq a) e ∙ other)
+
+-- arrays and hashes at many columns, an array as key, empty lines and comment lines between entries, a literal block with an empty line
+each_form : HasToks (codes "---\n# top\n\n   ? - 1\n     - []\n# mid\n   :       - x\n           - |\n                 p\n\n                 q\n   k:\n# c\n     \"z\": {}\n")
+    (Tok.stream_start ∷ Tok.document_start ∷ Tok.block_mapping_start
+    ∷ Tok.key ∷ Tok.block_sequence_start ∷ Tok.block_entry ∷ text_tok (codes "1") ∷ Tok.block_entry ∷ Tok.flow_sequence_start ∷ Tok.flow_sequence_end ∷ Tok.block_end
+    ∷ Tok.value ∷ Tok.block_sequence_start ∷ Tok.block_entry ∷ text_tok (codes "x") ∷ Tok.block_entry ∷ Tok.scalar Style.literal (codes "p\n\nq\n") ∷ Tok.block_end
+    ∷ Tok.key ∷ text_tok (codes "k") ∷ Tok.value ∷ Tok.block_mapping_start ∷ Tok.key ∷ Tok.scalar Style.double_quoted (codes "z") ∷ Tok.value ∷ Tok.flow_mapping_start ∷ Tok.flow_mapping_end ∷ Tok.block_end
+    ∷ Tok.block_end ∷ Tok.stream_end ∷ [])
+unfolding is_quoted is_unfit_for_plain typing is_decimal is_literal is_literal_character is_line_character digits written_character
+each_form = layouts_have_their_tokens
+    (record {
+      is_marked = true;
+      documents = last_document (record {
+        gap = comment_line (codes " top") ∷ empty_line ∷ [];
+        root = Root.block 3 (hash (field
+            (explicit (compact 0 (array (entry (beside (scalar (plain (Tree.integer (pos 1))))) [] (last_entry (beside empty_array)))))
+            (comment_line (codes " mid") ∷ [])
+            (compact 6 (array (entry (beside (scalar (word (codes "x")))) []
+            (last_entry (literal 0 17 (codes "p\n\nq\n") (full (codes "p") ∷ blank 0 ∷ full (codes "q") ∷ [])))))))
+            []
+            (last_field (implicit (word (codes "k")) (below no_comment (comment_line (codes " c") ∷ []) 5 (hash (last_field (implicit (quoted (codes "z")) (beside empty_hash)))))))));
+      }) (empty_line ∷ []);
+    })
+    (search (arith, differ))

@@ -1,0 +1,273 @@
+-- A text that may be a literal block is the value of the lines that are written for it.
+use Rattle.std.proofs.Common.{◌≡◌, ℕ, zero, suc, ◌-◌, ◌<◌, List, [], ◌∷◌, ◌++◌, Bool, true, false, ◌&&◌, not, ◌==◌, if◌then◌else◌, Some, refl, ap, sym, ◌∙◌, arith, append_assoc, append-nil, drop, length}
+use Rattle.std.specs.Prelude.{nat_eq, codes}
+use Rattle.std.specs.List.{list_all, list_any, ends_with}
+use Rattle.std.proofs.lemmas.Bool.{and_parts, or_parts, eqb-true, not-true}
+use Rattle.std.proofs.lemmas.Bool.Decides.{nat_tests}
+use Rattle.std.proofs.lemmas.List.{append_cancel_right}
+use lib.Pointwise.{pointwise}
+use Rattle.defs_tree.specs.Grammar.{is_empty}
+use Rattle.defs_tree.specs.Lines.{lines_of, onto_first_line, ended}
+use Rattle.defs_tree.specs.Literal.{is_literal, is_root_literal, is_literal_character, is_line_feed, first_full_line_is_indented, begins_as_marker, literal_header}
+use Rattle.defs_tree.specs.Literal as literal_defs
+use Rattle.defs_tree.proofs.LinesLaws.{lines_of-ended}
+use Rattle.defs_text.specs.Classes.{are_marks, is_blank, is_break, is_nul, is_blank_or_end, is_document_marker}
+use Rattle.defs_scalar.specs.BlockScalar.{BlockStyle, Row, empty_row, content_row, rows_of, starts_with_tab, has_content, breaks, text_behind, text_of, value_before_text}
+use Rattle.defs_layout.specs.Gap.{IsLineText, is_line_character}
+use Rattle.defs_layout.specs.BlockLines.{Line, full, blank, content, contents, AreLines}
+use Rattle.defs_layout.specs.Layout.{indented_lines, BeginsWithText, EndsInText, AreLineTexts, AreLinesOf}
+use Rattle.proof_lexers.proofs.Bridges.{and_false}
+use Rattle.proof_layout_tokens.proofs.BlockTexts.{header_by, row_spaces, text_row}
+use Rattle.proof_layout_tokens.proofs.BlockScans.{block_text, IsInside, AreBlockLines, in_its_column, value_by_rows}
+
+-- ---- characters
+
+in_line : (c : ℕ) → is_literal_character c ≡ true → (c == 10) ≡ false → is_line_character c ≡ true
+unfolding is_literal_character is_line_character
+in_line c h e = grind (arith, nat_tests)
+
+abbrev are_line_texts : List (List ℕ) → Bool
+are_line_texts ls = list_all (λ l. list_all is_line_character l) ls
+
+onto_text : (c : ℕ) (ls : List (List ℕ)) → is_line_character c ≡ true → are_line_texts ls ≡ true → are_line_texts (onto_first_line c ls) ≡ true
+onto_text c [] h e = rw h refl
+onto_text c (l ∷ ls) h e = rw h e
+
+text_lines : (text : List ℕ) → list_all is_literal_character text ≡ true → are_line_texts (lines_of text) ≡ true
+text_lines [] h = refl
+text_lines (c ∷ cs) h = let q = and_parts (is_literal_character c) (list_all is_literal_character cs) h in by (c == 10) refl q.0 (text_lines cs q.1)
+  where
+    by : (b : Bool) → (c == 10) ≡ b → is_literal_character c ≡ true → are_line_texts (lines_of cs) ≡ true → are_line_texts (if b then [] ∷ lines_of cs else onto_first_line c (lines_of cs)) ≡ true
+    by true e one all = all
+    by false e one all = onto_text c (lines_of cs) (in_line c one e) all
+
+-- ---- the last line
+
+abbrev ends_full : List (List ℕ) → Bool
+ends_full [] = false
+ends_full (l ∷ []) = not (is_empty l)
+ends_full (l ∷ m ∷ ls) = ends_full (m ∷ ls)
+
+below_empty : (ls : List (List ℕ)) → ends_full ls ≡ true → ends_full ([] ∷ ls) ≡ true
+below_empty [] h = cc
+below_empty (l ∷ ls) h = h
+
+onto_full : (c : ℕ) (ls : List (List ℕ)) → ends_full ls ≡ true → ends_full (onto_first_line c ls) ≡ true
+onto_full c [] h = refl
+onto_full c (l ∷ []) h = refl
+onto_full c (l ∷ m ∷ ls) h = h
+
+two_step : (c d e : ℕ) (cs : List ℕ) → ends_with nat_eq (c ∷ d ∷ e ∷ cs) (10 ∷ 10 ∷ []) ≡ ends_with nat_eq (d ∷ e ∷ cs) (10 ∷ 10 ∷ [])
+two_step c d e cs =
+    let f : suc (suc (suc (length cs))) - 2 ≡ suc (length cs) = omega arith in
+    let g : suc (suc (length cs)) - 2 ≡ length cs = omega arith in
+    ap (λ k. pointwise nat_eq (10 ∷ 10 ∷ []) (drop k (c ∷ d ∷ e ∷ cs))) f ∙ sym (ap (λ k. pointwise nat_eq (10 ∷ 10 ∷ []) (drop k (d ∷ e ∷ cs))) g)
+
+last_full : (c : ℕ) (cs : List ℕ) → ((c == 10) && is_empty cs) ≡ false → ends_with nat_eq (c ∷ cs) (codes "\n\n") ≡ false → ends_full (lines_of (c ∷ cs)) ≡ true
+last_full c [] h e = by (c == 10) h
+  where
+    by : (b : Bool) → (b && true) ≡ false → ends_full (if b then [] ∷ [] else (c ∷ []) ∷ []) ≡ true
+    by true h = cc
+    by false h = refl
+last_full c (d ∷ []) h e = by (c == 10) (d == 10) refl refl
+  where
+    by : (b f : Bool) → (c == 10) ≡ b → (d == 10) ≡ f → ends_full (if b then [] ∷ (if f then [] ∷ [] else (d ∷ []) ∷ []) else onto_first_line c (if f then [] ∷ [] else (d ∷ []) ∷ [])) ≡ true
+    by true true p q = let is : c ≡ 10 = eqb-true c 10 p in let so : d ≡ 10 = eqb-true d 10 q in let z : ends_with nat_eq (10 ∷ 10 ∷ []) (codes "\n\n") ≡ false = rw so at rw is at e in cc
+    by true false p q = refl
+    by false true p q = refl
+    by false false p q = refl
+last_full c (d ∷ e ∷ cs) h f = by (c == 10) (last_full d (e ∷ cs) (and_false (d == 10)) (sym (two_step c d e cs) ∙ f))
+  where
+    by : (b : Bool) → ends_full (lines_of (d ∷ e ∷ cs)) ≡ true → ends_full (if b then [] ∷ lines_of (d ∷ e ∷ cs) else onto_first_line c (lines_of (d ∷ e ∷ cs))) ≡ true
+    by true z = below_empty (lines_of (d ∷ e ∷ cs)) z
+    by false z = onto_full c (lines_of (d ∷ e ∷ cs)) z
+
+-- ---- the written lines
+
+line_texts : (ls : List Line) → are_line_texts (contents ls) ≡ true → AreLineTexts ls
+line_texts [] h = tt
+line_texts (full w ∷ ls) h = let q = and_parts (list_all is_line_character w) (are_line_texts (contents ls)) h in (q.0, line_texts ls q.1)
+line_texts (blank n ∷ ls) h = line_texts ls h
+
+ends_lines : (ls : List Line) → ends_full (contents ls) ≡ true → EndsInText ls
+ends_lines [] h = cc
+ends_lines (full w ∷ []) h = tt
+ends_lines (blank n ∷ []) h = cc
+ends_lines (l ∷ m ∷ ls) h = ends_lines (m ∷ ls) h
+
+begins_lines : (column : ℕ) (ls : List Line) → AreLines column ls → EndsInText ls → first_full_line_is_indented (contents ls) ≡ false → BeginsWithText ls
+begins_lines column [] are ends h = absurd ends
+begins_lines column (full [] ∷ ls) are ends h = absurd (are.0 refl)
+begins_lines column (full (c ∷ w) ∷ ls) are ends h = h
+begins_lines column (blank n ∷ []) are ends h = absurd ends
+begins_lines column (blank n ∷ m ∷ ls) are ends h = begins_lines column (m ∷ ls) are.1 ends h
+
+-- ---- their rows
+
+-- no line is read as a document marker
+abbrev AreFree : ℕ → List (List ℕ) → Type 0
+AreFree column ls = column ≡ 0 → list_any begins_as_marker ls ≡ false
+
+three_alike : (a b c : ℕ) → begins_as_marker (a ∷ b ∷ c ∷ []) ≡ false → is_document_marker (a ∷ b ∷ c ∷ []) ≡ false
+unfolding are_marks
+three_alike a b c h = grind (arith, nat_tests)
+
+four_alike : (a b c d : ℕ) (r s : List ℕ) → is_line_character d ≡ true → begins_as_marker (a ∷ b ∷ c ∷ d ∷ r) ≡ false → is_document_marker (a ∷ b ∷ c ∷ d ∷ s) ≡ false
+unfolding are_marks is_line_character is_blank_or_end is_blank is_break is_nul
+four_alike a b c d r s h e = grind (arith, nat_tests)
+
+no_marker : (w : List ℕ) → IsLineText w → begins_as_marker w ≡ false → is_document_marker (w ++ []) ≡ false
+no_marker [] h e = refl
+no_marker (a ∷ []) h e = refl
+no_marker (a ∷ b ∷ []) h e = refl
+no_marker (a ∷ b ∷ c ∷ []) h e = three_alike a b c e
+no_marker (a ∷ b ∷ c ∷ d ∷ r) h e =
+    let p = and_parts (is_line_character a) (list_all is_line_character (b ∷ c ∷ d ∷ r)) h in
+    let q = and_parts (is_line_character b) (list_all is_line_character (c ∷ d ∷ r)) p.1 in
+    let s = and_parts (is_line_character c) (list_all is_line_character (d ∷ r)) q.1 in
+    four_alike a b c d r (r ++ []) ((and_parts (is_line_character d) (list_all is_line_character r) s.1).0) e
+
+abbrev rows : List Line → List Row
+rows [] = []
+rows (full w ∷ ls) = content_row w ∷ rows ls
+rows (blank n ∷ ls) = empty_row ∷ rows ls
+
+rows_are : (column : ℕ) (ls : List Line) → AreLines column ls → AreLineTexts ls → AreFree column (contents ls) → rows_of column (indented_lines column ls) ≡ Some (rows ls)
+rows_are column [] are texts free = refl
+rows_are column (full [] ∷ ls) are texts free = absurd (are.0 refl)
+rows_are column (full (c ∷ w) ∷ ls) are texts free =
+    rw (
+      text_row column c w (λ e. no_marker (c ∷ w) texts.0 (or_parts (begins_as_marker (c ∷ w)) (list_any begins_as_marker (contents ls)) (free e)).0),
+      rows_are column ls are.1 texts.1 (λ e. (or_parts (begins_as_marker (c ∷ w)) (list_any begins_as_marker (contents ls)) (free e)).1),
+    ) refl
+rows_are column (blank n ∷ ls) are texts free = rw (row_spaces column n are.0, rows_are column ls are.1 texts free) refl
+
+content_last : (ls : List Line) → EndsInText ls → has_content (rows ls) ≡ true
+content_last [] h = absurd h
+content_last (full w ∷ ls) h = refl
+content_last (blank n ∷ []) h = absurd h
+content_last (blank n ∷ m ∷ ls) h = content_last (m ∷ ls) h
+
+-- the text behind a first line
+abbrev behind : List Line → List ℕ
+behind [] = []
+behind (l ∷ ls) = 10 ∷ (content l ++ behind ls)
+
+one_break : (k : ℕ) (r : List ℕ) → breaks (suc k) ++ r ≡ breaks k ++ 10 ∷ r
+one_break zero r = refl
+one_break (suc k) r = ap (λ x. 10 ∷ x) (one_break k r)
+
+text_from : (w : List ℕ) (k : ℕ) (ls : List Line) → EndsInText ls → text_behind BlockStyle.literal w k (rows ls) ≡ breaks k ++ behind ls
+text_from w k [] h = absurd h
+text_from w k (full v ∷ []) h = append_assoc (breaks (suc k)) v [] ∙ one_break k (v ++ [])
+text_from w k (full v ∷ m ∷ ls) h = append_assoc (breaks (suc k)) v (text_behind BlockStyle.literal v 0 (rows (m ∷ ls))) ∙ one_break k (v ++ text_behind BlockStyle.literal v 0 (rows (m ∷ ls))) ∙ ap (λ x. breaks k ++ 10 ∷ (v ++ x)) (text_from v 0 (m ∷ ls) h)
+text_from w k (blank n ∷ []) h = absurd h
+text_from w k (blank n ∷ m ∷ ls) h = text_from w (suc k) (m ∷ ls) h ∙ one_break k (behind (m ∷ ls))
+
+text_is : (l : Line) (ls : List Line) → EndsInText (l ∷ ls) → text_of BlockStyle.literal (rows (l ∷ ls)) ≡ content l ++ behind ls
+text_is (full w) [] h = refl
+text_is (full w) (m ∷ ls) h = ap (λ x. w ++ x) (text_from w 0 (m ∷ ls) h)
+text_is (blank n) [] h = absurd h
+text_is (blank n) (m ∷ ls) h = ap (λ x. 10 ∷ x) (text_is m ls h)
+
+-- ---- the lines make the text
+
+lines_make : (l : Line) (ls : List Line) → (content l ++ behind ls) ++ 10 ∷ [] ≡ ended (contents (l ∷ ls))
+lines_make l [] = ap (λ t. t ++ 10 ∷ []) (append-nil (content l)) ∙ sym (append-nil (content l ++ 10 ∷ []))
+lines_make l (m ∷ ls) = append_assoc (content l) (10 ∷ (content m ++ behind ls)) (10 ∷ []) ∙ ap (λ t. content l ++ 10 ∷ t) (lines_make m ls) ∙ sym (append_assoc (content l) (10 ∷ []) (ended (contents (m ∷ ls))))
+
+-- whether a text lacks an LF at its end
+abbrev pub strips_of : List ℕ → Bool
+strips_of text = not (ends_with nat_eq text (codes "\n"))
+
+-- the last LF of a text that ends so
+abbrev last_feed : Bool → List ℕ
+last_feed clips = if clips then 10 ∷ [] else []
+
+make_text : (clips : Bool) (l : Line) (ls : List Line) (text : List ℕ) → contents (l ∷ ls) ≡ lines_of text → is_empty text ≡ false → ends_with nat_eq text (codes "\n") ≡ clips → (content l ++ behind ls) ++ last_feed clips ≡ text
+make_text true l ls text e some h = lines_make l ls ∙ ap ended e ∙ lines_of-ended text ∙ rw (some, h) refl
+make_text false l ls text e some h = append-nil (content l ++ behind ls) ∙ append_cancel_right (content l ++ behind ls) text (10 ∷ []) (lines_make l ls ∙ ap ended e ∙ lines_of-ended text ∙ rw (some, h) refl)
+
+value_is : (clips : Bool) (l : Line) (ls : List Line) → EndsInText (l ∷ ls) → value_before_text (header_by BlockStyle.literal (not clips)) (rows (l ∷ ls)) ≡ (content l ++ behind ls) ++ last_feed clips
+value_is true l ls h = rw (content_last (l ∷ ls) h) (ap (λ x. x ++ 10 ∷ []) (text_is l ls h))
+value_is false l ls h = rw (content_last (l ∷ ls) h) (ap (λ x. x ++ []) (text_is l ls h))
+
+-- no TAB begins the first line
+no_tab : (column : ℕ) (l : Line) (ls : List Line) (feed text : List ℕ) → AreLines column (l ∷ ls) → (content l ++ behind ls) ++ feed ≡ text → (column ≡ 0 → literal_defs.starts_with_tab text ≡ false)
+    → starts_with_tab (indented_lines column (l ∷ ls)) ≡ false
+no_tab zero (full []) ls feed text are whole free = absurd (are.0 refl)
+no_tab zero (full (c ∷ w)) ls feed text are whole free = let e : literal_defs.starts_with_tab ((c ∷ (w ++ behind ls)) ++ feed) ≡ false = rw (← whole) at (free refl) in grind (arith, nat_tests)
+no_tab (suc n) (full w) ls feed text are whole free = refl
+no_tab column (blank zero) ls feed text are whole free = refl
+no_tab column (blank (suc n)) ls feed text are whole free = refl
+
+-- ---- the block
+
+-- what is known of a text that may be a literal block
+record LiteralText (text : List ℕ) : Type 0 where
+  some : is_empty text ≡ false
+  chars : list_all is_literal_character text ≡ true
+  last : ends_full (lines_of text) ≡ true
+  first : first_full_line_is_indented (lines_of text) ≡ false
+
+not_lone : (c : ℕ) (cs : List ℕ) → list_all is_line_feed (c ∷ cs) ≡ false → ((c == 10) && is_empty cs) ≡ false
+not_lone c [] h = h
+not_lone c (d ∷ cs) h = and_false (c == 10)
+
+literal_text : (text : List ℕ) → is_literal text ≡ true → LiteralText text
+unfolding is_literal
+literal_text [] h = cc
+literal_text (c ∷ cs) h =
+    let text = c ∷ cs in
+    let q = and_parts (list_any is_line_feed text && list_all is_literal_character text && not (list_all is_line_feed text) && not (ends_with nat_eq text (codes "\n\n"))) (not (first_full_line_is_indented (lines_of text))) h in
+    let r = and_parts (list_any is_line_feed text && list_all is_literal_character text && not (list_all is_line_feed text)) (not (ends_with nat_eq text (codes "\n\n"))) q.0 in
+    let s = and_parts (list_any is_line_feed text && list_all is_literal_character text) (not (list_all is_line_feed text)) r.0 in
+    let t = and_parts (list_any is_line_feed text) (list_all is_literal_character text) s.0 in
+    record { some = refl; chars = t.1; last = last_full c cs (not_lone c cs (not-true _ s.1)) (not-true _ r.1); first = not-true _ q.1 }
+
+-- at column 0 it begins with no TAB, and no line is read as a document marker
+abbrev MayStandAt : ℕ → List ℕ → Type 0
+MayStandAt column text = column ≡ 0 → (literal_defs.starts_with_tab text ≡ false) × (list_any begins_as_marker (lines_of text) ≡ false)
+
+lines_by : (i column : ℕ) (text : List ℕ) (ls : List Line) → IsInside i column → LiteralText text → AreLinesOf text column ls → MayStandAt column text → AreBlockLines BlockStyle.literal i column (strips_of text) text ls
+lines_by i column text ls inside z are may = by ls are.0 are.1 ends
+  where
+    ends : EndsInText ls
+    ends = ends_lines ls (ap ends_full are.0 ∙ z.last)
+
+    by : (ls : List Line) → contents ls ≡ lines_of text → AreLines column ls → EndsInText ls → AreBlockLines BlockStyle.literal i column (strips_of text) text ls
+    by [] e g h = absurd h
+    by (l ∷ ls) e g h =
+        let clips = ends_with nat_eq text (codes "\n") in
+        let begins = begins_lines column (l ∷ ls) g h (ap first_full_line_is_indented e ∙ z.first) in
+        let texts = line_texts (l ∷ ls) (ap are_line_texts e ∙ text_lines text z.chars) in
+        let whole = make_text clips l ls text e z.some refl in
+        let tabless = no_tab column l ls (last_feed clips) text g whole (λ x. (may x).0) in
+        let free : AreFree column (contents (l ∷ ls)) = λ x. ap (list_any begins_as_marker) e ∙ (may x).1 in (
+          begins,
+          h,
+          texts,
+          g,
+          value_by_rows BlockStyle.literal i column (not clips) (indented_lines column (l ∷ ls)) (rows (l ∷ ls)) tabless (in_its_column i column (l ∷ ls) inside begins g) (rows_are column (l ∷ ls) g texts free)
+              ∙ ap Some (value_is clips l ls h ∙ whole),
+        )
+
+-- below a collection at a column
+pub literal_lines : (c column : ℕ) (text : List ℕ) (ls : List Line) → c < column → is_literal text ≡ true → AreLinesOf text column ls → AreBlockLines BlockStyle.literal (suc c) column (strips_of text) text ls
+literal_lines c column text ls deep one are = lines_by (suc c) column text ls deep (literal_text text one) are (λ e. absurd (omega (arith, deep, e)))
+
+-- at the root
+pub root_literal_lines : (text : List ℕ) (ls : List Line) → is_root_literal text ≡ true → AreLinesOf text 0 ls → AreBlockLines BlockStyle.literal 0 0 (strips_of text) text ls
+unfolding is_root_literal
+root_literal_lines text ls one are =
+    let q = and_parts (is_literal text && not (literal_defs.starts_with_tab text)) (not (list_any begins_as_marker (lines_of text))) one in
+    let r = and_parts (is_literal text) (not (literal_defs.starts_with_tab text)) q.0 in
+    lines_by 0 0 text ls refl (literal_text text r.0) are (λ e. (not-true _ r.1, not-true _ q.1))
+
+-- their header
+pub headed_literal : (text r : List ℕ) → literal_header text ++ r ≡ block_text BlockStyle.literal (strips_of text) r
+headed_literal text r = by (ends_with nat_eq text (codes "\n"))
+  where
+    by : (b : Bool) → (if b then codes "|" else codes "|-") ++ r ≡ block_text BlockStyle.literal (not b) r
+    by true = refl
+    by false = refl

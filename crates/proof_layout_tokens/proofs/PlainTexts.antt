@@ -1,0 +1,273 @@
+-- The scalars that are spelt without quotes, as texts that a plain scalar may be.
+use Rattle.std.proofs.Common.{◌≡◌, ℕ, suc, ◌<◌, ◌≤◌, ◌^◌, List, [], ◌∷◌, ◌++◌, Bool, true, false, ◌||◌, ◌&&◌, not, ◌==◌, refl, arith, slice_index, inl, inr, ◌⊎◌}
+use Rattle.std.specs.Prelude.{codes, ℤ, pos, negsuc, nat_eq}
+use Rattle.std.specs.List.{list_any, list_all, ends_with}
+use Rattle.std.specs.Fmt.{decimal, signed_decimal as decimal_digits}
+use Rattle.std.specs.Str.Parse.{AllDigits, IsNumeral}
+use Rattle.std.proofs.lemmas.Fmt.{decimal_is_IsNumeral}
+use Rattle.std.proofs.lemmas.Str.Parse.{digit_from_value}
+use Rattle.std.proofs.lemmas.Bool.{and_parts, or_parts, eqb-true, ltb-true, ne_eqb, not-true, and_from}
+use Rattle.std.proofs.lemmas.Bool.Decides.{nat_tests}
+use Rattle.yaml_chars.specs.Class.{is_blank_or_breakz, is_break, is_blank}
+use Rattle.defs_tree.specs.Tree.{Tree, real, integer, string, boolean, array, hash, alias, null, bad_value}
+use Rattle.defs_tree.specs.Grammar.{is_among}
+use Rattle.defs_tree.specs.Typing.{typing, is_decimal, is_real_text, fits_i64, special_words}
+use Rattle.defs_tree.specs.Quoting.{is_quoted, has_indicator_first, begins_with, is_unfit_for_plain}
+use Rattle.defs_tree.specs.Spelling.{spelling}
+use Rattle.defs_tree.proofs.DecimalReading.{is_decimal-read}
+use Rattle.defs_tree.proofs.LinesLaws.{ends_with-step, ends_with-one}
+use Rattle.defs_tree.proofs.RealTexts.{is_real_character, real_text-characters}
+use Rattle.defs_tree.proofs.TypingLaws.{real_text-cases}
+use Rattle.defs_tree.proofs.Unquoted.{unquoted}
+use Rattle.defs_layout.specs.Layout.{IsPlain}
+use Rattle.model_scanner.specs.declared.class.Class.TheVariants.{Other}
+use Rattle.model_scanner.specs.State.{State}
+use Rattle.model_scanner.specs.Class.{class_of}
+use Rattle.model_scanner.specs.Document.{fetch_plain_scalar}
+use Rattle.model_scanner.specs.Fetch.{token_by, comes_marker}
+use Rattle.proof_lexers.proofs.Bridges.{and_false}
+use Rattle.proof_layout_tokens.proofs.LayoutStates.{is_content, Opens}
+use Rattle.proof_layout_tokens.proofs.Plains.{is_plain_char, are_plain, closes}
+
+-- a character with which a plain scalar may begin: neither white space nor an indicator, but for a dash
+abbrev pub is_first : ℕ → Bool
+is_first c =
+    is_plain_char c && not ((c == 32) || (c == 37) || (c == 63) || (c == 44) || (c == 91) || (c == 93) || (c == 123) || (c == 125) || (c == 42) || (c == 38) || (c == 33) || (c == 124) || (c == 62) || (c == 39) || (c == 34) || (c == 64) || (c == 96))
+
+-- It begins with neither two dashes nor two points, and doesn't begin with a dash or point alone.
+abbrev pub is_second : ℕ → List ℕ → Bool
+is_second c [] = not (c == 45) && not (c == 46)
+is_second c (d ∷ v) = not ((c == 45) && (d == 45)) && not ((c == 46) && (d == 46)) && not ((c == 45) && (d == 32))
+
+pub record IsPlainText (w : List ℕ) : Type 0 where
+  pub head : ℕ
+  pub tail : List ℕ
+  pub whole : w ≡ head ∷ tail
+  pub first : is_first head ≡ true
+  pub second : is_second head tail ≡ true
+  pub chars : are_plain tail ≡ true
+  pub close : closes false tail ≡ true
+
+-- ---- what a plain scalar doesn't begin with
+
+record First (c : ℕ) : Type 0 where
+  content : is_content c ≡ true
+  percent : (c == 37) ≡ false
+  space : (c == 32) ≡ false
+
+first_is : (c : ℕ) → is_first c ≡ true → First c
+first_is c h = record { content = grind (arith, nat_tests); percent = grind (arith, nat_tests); space = grind (arith, nat_tests) }
+
+pub first_space : (c : ℕ) → is_first c ≡ true → (c == 32) ≡ false
+first_space c h = (first_is c h).space
+
+-- ---- strings
+
+fit_char : (c : ℕ) → is_unfit_for_plain c ≡ false → is_plain_char c ≡ true
+unfolding is_unfit_for_plain
+fit_char c h = grind (arith, nat_tests)
+
+fit_chars : (w : List ℕ) → list_any is_unfit_for_plain w ≡ false → are_plain w ≡ true
+fit_chars [] h = refl
+fit_chars (c ∷ w) h = let q = or_parts (is_unfit_for_plain c) (list_any is_unfit_for_plain w) h in and_from _ _ (fit_char c q.0) (fit_chars w q.1)
+
+no_last_space : (c : ℕ) (w : List ℕ) → ends_with nat_eq (c ∷ w) (codes " ") ≡ false → closes (c == 32) w ≡ true
+no_last_space c [] h = let e : (32 == c) ≡ false = cc (ends_with-one 32 c, h) in grind (arith, nat_tests)
+no_last_space c (d ∷ w) h = no_last_space d w (cc (ends_with-step 32 c d w, h))
+
+first_fits : (c : ℕ) (w : List ℕ) → is_unfit_for_plain c ≡ false → has_indicator_first (c ∷ w) ≡ false → begins_with (codes " ") (c ∷ w) ≡ false → is_first c ≡ true
+unfolding is_unfit_for_plain
+first_fits c w h e f = grind (arith, nat_tests)
+
+no_dash : (c : ℕ) (w : List ℕ) → has_indicator_first (c ∷ w) ≡ false → ((c == 45) ≡ false) × ((c == 46) ≡ false)
+no_dash c w e = (grind (arith, nat_tests), grind (arith, nat_tests))
+
+second_fits : (c : ℕ) (w : List ℕ) → (c == 45) ≡ false → (c == 46) ≡ false → is_second c w ≡ true
+second_fits c [] d p = rw (d, p) refl
+second_fits c (x ∷ w) d p = rw (d, p) refl
+
+string_plain : (s : List ℕ) → is_quoted s ≡ false → IsPlainText s
+string_plain [] h = let z = unquoted [] h in let e = z.nonempty in cc
+string_plain (c ∷ w) h =
+    let z = unquoted (c ∷ w) h in
+    let fit = or_parts (is_unfit_for_plain c) (list_any is_unfit_for_plain w) z.fit in
+    let outer = or_parts (begins_with (codes " ") (c ∷ w)) (ends_with nat_eq (c ∷ w) (codes " ")) z.no_outer_space in
+    let dash = no_dash c w z.no_indicator_first in
+    let first = first_fits c w fit.0 z.no_indicator_first outer.0 in
+    record {
+      head = c;
+      tail = w;
+      whole = refl;
+      first = first;
+      second = second_fits c w dash.0 dash.1;
+      chars = fit_chars w fit.1;
+      close = rw (first_space c first) at (no_last_space c w outer.1);
+    }
+
+-- ---- integers
+
+digit_char : (c : ℕ) → 48 ≤ c → c ≤ 57 → is_plain_char c ≡ true
+digit_char c h e = grind (arith, nat_tests)
+
+digit_first : (c : ℕ) → 48 ≤ c → c ≤ 57 → is_first c ≡ true
+digit_first c h e = grind (arith, nat_tests)
+
+digits_chars : (ds : List ℕ) → AllDigits 10 ds → are_plain ds ≡ true
+digits_chars [] h = refl
+digits_chars (d ∷ ds) h = let range : (48 ≤ d) × (d ≤ 57) = digit_from_value d h.0 in and_from _ _ (digit_char d range.0 range.1) (digits_chars ds h.1)
+
+digits_close : (ds : List ℕ) → AllDigits 10 ds → closes false ds ≡ true
+digits_close [] h = refl
+digits_close (d ∷ ds) h = let range : (48 ≤ d) × (d ≤ 57) = digit_from_value d h.0 in rw (ne_eqb d 32 (λ e. omega arith)) (digits_close ds h.1)
+
+numeral_plain : (ds : List ℕ) → IsNumeral 10 ds → IsPlainText ds
+numeral_plain [] h = absurd (omega (arith, h.0))
+numeral_plain (d ∷ ds) h =
+    let range : (48 ≤ d) × (d ≤ 57) = digit_from_value d h.1.0 in
+    record { head = d; tail = ds; whole = refl; first = digit_first d range.0 range.1; second = second_fits d ds (ne_eqb d 45 (λ e. omega arith)) (ne_eqb d 46 (λ e. omega arith)); chars = digits_chars ds h.1.1; close = digits_close ds h.1.1 }
+
+digit_second : (d : ℕ) (ds : List ℕ) → 48 ≤ d → is_second 45 (d ∷ ds) ≡ true
+digit_second d ds h = rw (ne_eqb d 45 (λ e. omega arith), ne_eqb d 32 (λ e. omega arith)) refl
+
+negative_plain : (ds : List ℕ) → IsNumeral 10 ds → IsPlainText (45 ∷ ds)
+negative_plain [] h = absurd (omega (arith, h.0))
+negative_plain (d ∷ ds) h =
+    let range : (48 ≤ d) × (d ≤ 57) = digit_from_value d h.1.0 in
+    record { head = 45; tail = d ∷ ds; whole = refl; first = refl; second = digit_second d ds range.0; chars = digits_chars (d ∷ ds) h.1; close = digits_close (d ∷ ds) h.1 }
+
+integer_plain : (z : ℤ) → fits_i64 z ≡ true → IsPlainText (decimal_digits z)
+integer_plain (pos n) h = let small : n < 2 ^ 63 = ltb-true n (2 ^ 63) h in numeral_plain (decimal n) (decimal_is_IsNumeral n (omega arith)).0
+integer_plain (negsuc n) h = let small : n < 2 ^ 63 = ltb-true n (2 ^ 63) h in negative_plain (decimal (suc n)) (decimal_is_IsNumeral (suc n) (omega arith)).0
+
+-- ---- reals
+
+real_char : (c : ℕ) → is_real_character c ≡ true → is_plain_char c ≡ true
+real_char c h = grind (arith, nat_tests)
+
+real_first : (c : ℕ) → is_real_character c ≡ true → is_first c ≡ true
+real_first c h = grind (arith, nat_tests)
+
+real_no_space : (c : ℕ) → is_real_character c ≡ true → (c == 32) ≡ false
+real_no_space c h = grind (arith, nat_tests)
+
+real_chars : (w : List ℕ) → list_all is_real_character w ≡ true → are_plain w ≡ true
+real_chars [] h = refl
+real_chars (c ∷ w) h = let q = and_parts (is_real_character c) (list_all is_real_character w) h in and_from _ _ (real_char c q.0) (real_chars w q.1)
+
+real_close : (w : List ℕ) → list_all is_real_character w ≡ true → closes false w ≡ true
+real_close [] h = refl
+real_close (c ∷ w) h = let q = and_parts (is_real_character c) (list_all is_real_character w) h in rw (real_no_space c q.0) (real_close w q.1)
+
+-- no real is one of these
+lone_dash : is_real_text (45 ∷ []) ≡ false
+unfolding typing is_decimal
+lone_dash = refl
+
+lone_point : is_real_text (46 ∷ []) ≡ false
+unfolding typing is_decimal
+lone_point = refl
+
+two_dashes : (w : List ℕ) → is_real_text (45 ∷ 45 ∷ w) ≡ true → ⊥
+two_dashes w h = by (real_text-cases (45 ∷ 45 ∷ w) h)
+  where
+    by : (is_among special_words (45 ∷ 45 ∷ w) ≡ true) ⊎ (is_decimal (45 ∷ 45 ∷ w) ≡ true) → ⊥
+    by (inl e) = cc
+    by (inr e) = let f = rw (is_decimal-read (45 ∷ 45 ∷ w)) at e in cc
+
+two_points : (w : List ℕ) → is_real_text (46 ∷ 46 ∷ w) ≡ true → ⊥
+two_points w h = by (real_text-cases (46 ∷ 46 ∷ w) h)
+  where
+    by : (is_among special_words (46 ∷ 46 ∷ w) ≡ true) ⊎ (is_decimal (46 ∷ 46 ∷ w) ≡ true) → ⊥
+    by (inl e) = cc
+    by (inr e) = let f = rw (is_decimal-read (46 ∷ 46 ∷ w)) at e in cc
+
+not_alone : (c : ℕ) (b : Bool) (x : ℕ) → (c == x) ≡ b → is_real_text (x ∷ []) ≡ false → is_real_text (c ∷ []) ≡ true → (c == x) ≡ false
+not_alone c true x e f h = let is : c ≡ x = eqb-true c x e in let g : is_real_text (x ∷ []) ≡ true = rw is at h in cc
+not_alone c false x e f h = e
+
+not_double : (c d : ℕ) (w : List ℕ) (b : Bool) (x : ℕ) → ((c == x) && (d == x)) ≡ b → (is_real_text (x ∷ x ∷ w) ≡ true → ⊥) → is_real_text (c ∷ d ∷ w) ≡ true → ((c == x) && (d == x)) ≡ false
+not_double c d w true x e f h =
+    let q = and_parts (c == x) (d == x) e in
+    let is : c ≡ x = eqb-true c x q.0 in
+    let so : d ≡ x = eqb-true d x q.1 in
+    absurd (f (rw so at rw is at h))
+not_double c d w false x e f h = e
+
+real_second : (c : ℕ) (w : List ℕ) → is_real_text (c ∷ w) ≡ true → list_all is_real_character w ≡ true → is_second c w ≡ true
+real_second c [] h e = rw (not_alone c (c == 45) 45 refl lone_dash h, not_alone c (c == 46) 46 refl lone_point h) refl
+real_second c (d ∷ w) h e =
+    let q = and_parts (is_real_character d) (list_all is_real_character w) e in
+    rw (not_double c d w ((c == 45) && (d == 45)) 45 refl (two_dashes w) h, not_double c d w ((c == 46) && (d == 46)) 46 refl (two_points w) h, real_no_space d q.0, and_false (c == 45)) refl
+
+real_plain : (s : List ℕ) → is_real_text s ≡ true → IsPlainText s
+unfolding typing is_decimal
+real_plain [] h = cc
+real_plain (c ∷ w) h =
+    let all = and_parts (is_real_character c) (list_all is_real_character w) (real_text-characters (c ∷ w) h) in
+    record { head = c; tail = w; whole = refl; first = real_first c all.0; second = real_second c w h all.1; chars = real_chars w all.1; close = real_close w all.1 }
+
+-- ---- all of them
+
+boolean_plain : (b : Bool) → IsPlainText (spelling (boolean b))
+boolean_plain true = record { head = 116; tail = codes "rue"; whole = refl; first = refl; second = refl; chars = refl; close = refl }
+boolean_plain false = record { head = 102; tail = codes "alse"; whole = refl; first = refl; second = refl; chars = refl; close = refl }
+
+pub spelt_plain : (t : Tree) → IsPlain t → IsPlainText (spelling t)
+spelt_plain (real s) h = real_plain s h
+spelt_plain (integer z) h = integer_plain z h
+spelt_plain (string s) h = rw h (string_plain s h)
+spelt_plain (boolean b) h = boolean_plain b
+spelt_plain (array ts) h = absurd h
+spelt_plain (hash ps) h = absurd h
+spelt_plain (alias n) h = absurd h
+spelt_plain null h = record { head = 126; tail = []; whole = refl; first = refl; second = refl; chars = refl; close = refl }
+spelt_plain bad_value h = absurd h
+
+-- ---- what a plain scalar begins with, in front of what may follow it
+
+-- the end, a line feed, a space or a colon
+pub data Follows : List ℕ → Type 0 where
+  at_end : Follows []
+  at_break : {a : List ℕ} → Follows (10 ∷ a)
+  at_space : {a : List ℕ} → Follows (32 ∷ a)
+  at_colon : {a : List ℕ} → Follows (58 ∷ a)
+
+pub plain_class : (c : ℕ) → is_first c ≡ true → (c == 45) ≡ false → class_of c ≡ Other
+unfolding class_of
+plain_class c h e = grind (arith, nat_tests)
+
+pub plain_opens : (c : ℕ) (w r : List ℕ) → is_first c ≡ true → is_second c w ≡ true → Follows r → Opens c (w ++ r)
+unfolding comes_marker
+plain_opens c [] r h e f =
+    let z = first_is c h in
+    let q = and_parts (not (c == 45)) (not (c == 46)) e in
+    record { solid = z.content; no_directive = z.percent; no_start = rw (not-true (c == 45) q.0) refl; no_end = rw (not-true (c == 46) q.1) refl }
+plain_opens c (d ∷ w) r h e f =
+    let z = first_is c h in
+    let q = and_parts (not ((c == 45) && (d == 45)) && not ((c == 46) && (d == 46))) (not ((c == 45) && (d == 32))) e in
+    let u = and_parts (not ((c == 45) && (d == 45))) (not ((c == 46) && (d == 46))) q.0 in
+    record { solid = z.content; no_directive = z.percent; no_start = rw (not-true ((c == 45) && (d == 45)) u.0) refl; no_end = rw (not-true ((c == 46) && (d == 46)) u.1) refl }
+
+dash_by : (t : State) → is_blank_or_breakz (slice_index t.rest 1) ≡ false → token_by (class_of 45) t ≡ fetch_plain_scalar t
+unfolding class_of
+dash_by t h = rw h refl
+
+second_solid : (d : ℕ) → is_plain_char d ≡ true → (d == 32) ≡ false → is_blank_or_breakz d ≡ false
+unfolding is_blank is_break
+second_solid d h e = grind (arith, nat_tests)
+
+by_dash : (b : Bool) (t : State) (c : ℕ) (w r : List ℕ) → t.rest ≡ c ∷ (w ++ r) → (c == 45) ≡ b → is_first c ≡ true → is_second c w ≡ true → are_plain w ≡ true → token_by (class_of c) t ≡ fetch_plain_scalar t
+by_dash false t c w r rest e first second chars = rw (plain_class c first e) refl
+by_dash true t c [] r rest e first second chars = let q = and_parts (not (c == 45)) (not (c == 46)) second in let n = not-true (c == 45) q.0 in cc
+by_dash true t c (d ∷ w) r rest e first second chars =
+    let is : c ≡ 45 = eqb-true c 45 e in
+    let q = and_parts (not ((c == 45) && (d == 45)) && not ((c == 46) && (d == 46))) (not ((c == 45) && (d == 32))) second in
+    let n : (d == 32) ≡ false = rw e at (not-true ((c == 45) && (d == 32)) q.1) in
+    let one = and_parts (is_plain_char d) (are_plain w) chars in
+    rw is (dash_by t (rw rest (second_solid d one.0 n)))
+
+pub plain_by : (t : State) (c : ℕ) (w r : List ℕ) → t.rest ≡ c ∷ (w ++ r) → is_first c ≡ true → is_second c w ≡ true → are_plain w ≡ true → token_by (class_of c) t ≡ fetch_plain_scalar t
+plain_by t c w r rest first second chars = by_dash (c == 45) t c w r rest refl first second chars
+
+pub first_content : (c : ℕ) → is_first c ≡ true → is_content c ≡ true
+first_content c h = (first_is c h).content

@@ -1,0 +1,202 @@
+-- Each scan of a block scalar ends as its text says.
+use Rattle.std.proofs.Common.{◌≡◌, ℕ, zero, suc, List, [], ◌∷◌, ◌++◌, Bool, true, false, not, ◌==◌, max, Option, Some, None, Err, refl, ap, sym, ◌∙◌, append-nil, append_assoc, subst}
+use Rattle.std.specs.List.{list_all}
+use Rattle.std.proofs.lemmas.Bool.{and_parts}
+use Rattle.defs_text.specs.Position.{Place}
+use Rattle.yaml_tokens.specs.declared.problem.Fault.{Fault}
+use Rattle.yaml_tokens.specs.declared.problem.Fault.TheVariants.{At}
+use Rattle.yaml_tokens.specs.declared.problem.Problem.TheVariants as problem
+use Rattle.defs_text.specs.Classes.{tab, is_at_end}
+use Rattle.defs_scalar.specs.FlowScalar.{begins_with}
+use Rattle.defs_scalar.specs.BlockScalar as defs
+use Rattle.defs_scalar.specs.BlockScalar.{BlockStyle, Row, rows_of, row_of, deepest_start, least_column, column_by, header_of, starts_with_tab, is_further_text, further_text, unbroken, body, input_ends, value_before_text, value_before_end}
+use Rattle.defs_token.specs.BlockPiece.{BlockRead, read_body, read_lines, read_split, block_read}
+use Rattle.model_lexers.specs.Machine.{Read, past}
+use Rattle.model_lexers.specs.Space.{linebreak}
+use Rattle.model_lexers.specs.Block.{block, header}
+use Rattle.proof_lexers.specs.HeaderEnds as header_ends
+use Rattle.proof_lexers.specs.HeaderEnds.{indicator_of, is_in_line, ends_line, along, read_header, reads, tabbed, zero_digit, comment, no_header}
+use Rattle.proof_lexers.specs.BlockScan.{collection_by, is_literal, is_some, IsRead}
+use Rattle.proof_lexers.specs.BlockEnds.{EndsAs, scalar, bad_header}
+use Rattle.proof_lexers.specs.BlockLaws.{BlockScansEndAsTheirTextSays}
+use Rattle.proof_lexers.proofs.Blocks.Written.{Break, feed, carriage, both, Line, put, spell, texts, Fits, AreLines, Lined, lined, split_spell}
+use Rattle.proof_lexers.proofs.Blocks.Headers.{headers_end}
+use Rattle.proof_lexers.proofs.Blocks.Places.{spell_more}
+use Rattle.proof_lexers.proofs.Blocks.Rows.{break_ends}
+use Rattle.proof_lexers.proofs.Blocks.HeaderFacts.{said, linebreak_put}
+use Rattle.proof_lexers.proofs.Blocks.Columns.{Deep, deep_next, same_column_back, spell_append, texts_append, are_first}
+use Rattle.proof_lexers.proofs.Blocks.Walks.{Walked, stops, ends, HaveNoNul, walked}
+use Rattle.proof_lexers.proofs.Blocks.Scans.{style_inner}
+use Rattle.proof_lexers.proofs.Blocks.Pieces.{tab_line, tab_whole, fits_line, pieces_are_read, some_next}
+
+-- ---- texts without NUL
+
+parts : (a b : List ℕ) → list_all is_some (a ++ b) ≡ true → (list_all is_some a ≡ true) × (list_all is_some b ≡ true)
+parts [] b h = (refl, h)
+parts (c ∷ a) b h =
+    let q = and_parts (not (c == 0)) (list_all is_some (a ++ b)) h in
+    let r = parts a b q.1 in
+    (rw (q.0) (r.0), r.1)
+
+put_parts : (k : Break) (a : List ℕ) → list_all is_some (put k a) ≡ true → list_all is_some a ≡ true
+put_parts feed a h = h
+put_parts carriage a h = h
+put_parts both a h = h
+
+line_parts : (column : ℕ) (ls : List Line) (a : List ℕ) → list_all is_some (spell ls a) ≡ true → HaveNoNul column ls × (list_all is_some a ≡ true)
+line_parts column [] a h = (tt, h)
+line_parts column (l ∷ ls) a h =
+    let q = parts l.text (put l.by (spell ls a)) h in
+    let r = line_parts column ls a (put_parts l.by (spell ls a) q.1) in
+    ((q.0, r.0), r.1)
+
+true_false : true ≡ false → ⊥
+true_false e = cc
+
+further_not_end : (column : ℕ) (next : List ℕ) → is_further_text column next ≡ true → list_all is_some next ≡ true → is_at_end next ≡ false
+further_not_end zero [] h some = absurd (true_false (sym h))
+further_not_end (suc n) [] h some = absurd (true_false (sym h))
+further_not_end column (d ∷ n) h some = not_end d n some
+  where
+    not_end : (d : ℕ) (n : List ℕ) → list_all is_some (d ∷ n) ≡ true → is_at_end (d ∷ n) ≡ false
+    not_end d n h = some_next d n h
+
+-- ---- breaks before the end of a piece
+
+fits_alone : (k : Break) → Fits k []
+fits_alone feed = tt
+fits_alone carriage = refl
+fits_alone both = tt
+
+fits_less : (k : Break) (ls : List Line) (next : List ℕ) → Fits k (spell ls next) → Fits k (spell ls [])
+fits_less k [] next h = fits_alone k
+fits_less k (l ∷ ls) next h = fits_line k l.text l.by (spell ls next) (spell ls []) h
+
+are_less : (ls : List Line) (next : List ℕ) → AreLines ls next → AreLines ls []
+are_less [] next are = tt
+are_less (l ∷ ls) next are = (are.0, fits_less l.by ls next are.1, are_less ls next are.2)
+
+-- the column of a piece is that of the whole text
+part_column : (digit : Option ℕ) (indent : ℕ) (ls ns : List Line) (e : List ℕ) → is_further_text (column_by digit (collection_by indent) (texts (ls ++ ns) ++ e ∷ [])) (spell ns e) ≡ true
+    → column_by digit (collection_by indent) (texts (ls ++ ns) ++ e ∷ []) ≡ column_by digit (collection_by indent) (texts ls)
+part_column (Some d) indent ls ns e further = refl
+part_column None indent ls ns e further =
+    let joined : texts (ls ++ ns) ++ e ∷ [] ≡ texts ls ++ (texts ns ++ e ∷ []) = ap (λ x. x ++ e ∷ []) (texts_append ls ns) ∙ append_assoc (texts ls) (texts ns) (e ∷ []) in
+    let there : Deep (max (deepest_start (texts ls ++ (texts ns ++ e ∷ []))) (least_column (collection_by indent))) (deepest_start (texts ns ++ e ∷ [])) = rw (← joined) (deep_next _ ns e further) in
+    ap (λ x. max (deepest_start x) (least_column (collection_by indent))) joined ∙ same_column_back (texts ls) (texts ns ++ e ∷ []) (least_column (collection_by indent)) there
+
+-- ---- the two ends
+
+style_same : (s t : BlockStyle) → indicator_of s ≡ indicator_of t → s ≡ t
+style_same defs.literal defs.literal e = refl
+style_same defs.literal defs.folded e = let no : true ≡ false = ap (λ n. n == 124) e in absurd (true_false no)
+style_same defs.folded defs.literal e = let no : false ≡ true = ap (λ n. n == 124) e in absurd (true_false (sym no))
+style_same defs.folded defs.folded e = refl
+
+header_fails : (literal : Bool) (indent c : ℕ) (text : List ℕ) (p : Place) (f : Fault) → header p text (past p) ≡ Err f → block literal indent (c ∷ text) p ≡ Err f
+unfolding block
+header_fails literal indent c text p f e = rw e refl
+
+module _ (style : BlockStyle) (indent : ℕ) (p : Place) where
+  abbrev Ends : List ℕ → Type 0
+  Ends text = EndsAs style indent p text (block (is_literal style) indent (indicator_of style ∷ text) p)
+
+  by_header : (line behind : List ℕ) → is_in_line line ≡ true → ends_line behind ≡ true → header_ends.EndsAs p style line behind (header p (line ++ behind) (past p))
+      → ((h : defs.Header) → header_of (indicator_of style ∷ line) ≡ Some h → begins_with tab (linebreak behind p).rest ≡ false → Ends (line ++ behind)) → Ends (line ++ behind)
+  by_header line behind inner at_end (reads h f t e) go = go h f t
+  by_header line behind inner at_end (tabbed h f t e) go =
+      bad_header line behind (At problem.BlockScalarTab p) refl inner at_end (tabbed h f t refl) (header_fails (is_literal style) indent (indicator_of style) (line ++ behind) p (At problem.BlockScalarTab p) e)
+  by_header line behind inner at_end (zero_digit f z e) go =
+      bad_header line behind (At problem.BlockScalarZero p) refl inner at_end (zero_digit f z refl) (header_fails (is_literal style) indent (indicator_of style) (line ++ behind) p (At problem.BlockScalarZero p) e)
+  by_header line behind inner at_end (comment g b t f w c e) go =
+      bad_header line behind (At problem.CommentNotSeparated (along b (past p))) refl inner at_end (comment g b t f w c refl) (header_fails (is_literal style) indent (indicator_of style) (line ++ behind) p (At problem.CommentNotSeparated (along b (past p))) e)
+  by_header line behind inner at_end (no_header f e) go =
+      bad_header line behind (At problem.BlockScalarHeader p) refl inner at_end (no_header f refl) (header_fails (is_literal style) indent (indicator_of style) (line ++ behind) p (At problem.BlockScalarHeader p) e)
+
+  -- a piece that is a block scalar
+  found : (text piece next : List ℕ) (h : defs.Header) (line : List ℕ) (b : BlockRead) → header_of (indicator_of style ∷ line) ≡ Some h → h.style ≡ b.style → indicator_of style ∷ text ≡ piece ++ next → list_all is_some next ≡ true
+      → block_read (collection_by indent) piece next ≡ Some b → Ends text
+  found text piece next h line b is same cut some value =
+      let z = said (indicator_of style) line h is in
+      let own : b.style ≡ style = sym same ∙ sym (style_same style h.style z.begins) in
+      let it : IsRead indent p b piece next (block (is_literal b.style) indent (piece ++ next) p) = pieces_are_read indent piece next p b some value in
+      let so : IsRead indent p b piece next (block (is_literal style) indent (indicator_of style ∷ text) p) = subst (λ (a : List ℕ). IsRead indent p b piece next (block (is_literal style) indent a p)) (sym cut) (subst (λ (s : BlockStyle). IsRead indent p b piece next (block (is_literal s) indent (piece ++ next) p)) own it) in
+      scalar piece next b cut value own so
+
+  -- ---- a header alone
+
+  alone_value : (line : List ℕ) (h : defs.Header) → is_in_line line ≡ true → header_of (indicator_of style ∷ line) ≡ Some h
+      → block_read (collection_by indent) (indicator_of style ∷ line) [] ≡ Some (record { style = h.style; column = 0; text = [] })
+  alone_value line h inner is =
+      ap (λ s. read_split (collection_by indent) s []) (split_spell [] (indicator_of style ∷ line) tt (style_inner style line inner)) ∙ rw is refl
+
+  alone : (line : List ℕ) → is_in_line line ≡ true → Ends (line ++ [])
+  alone line inner = by_header line [] inner refl (headers_end style line [] p inner refl) (λ h is t. one h is)
+    where
+      one : (h : defs.Header) → header_of (indicator_of style ∷ line) ≡ Some h → Ends (line ++ [])
+      one h is = found (line ++ []) (indicator_of style ∷ line) [] h line (record { style = h.style; column = 0; text = [] }) is refl refl refl (alone_value line h inner is)
+
+  -- ---- lines behind a header
+
+  module _ (line : List ℕ) (k : Break) (ls : List Line) (last : List ℕ) (inner : is_in_line line ≡ true) (fits : Fits k (spell ls last)) (are : AreLines ls last) (last_inner : is_in_line last ≡ true)
+      (h : defs.Header) (is : header_of (indicator_of style ∷ line) ≡ Some h) (tabless : begins_with tab (spell ls last) ≡ false) (some : list_all is_some (spell ls last) ≡ true) where
+    abbrev column : ℕ
+    column = column_by h.digit (collection_by indent) (texts ls ++ last ∷ [])
+
+    end_value : (rs : List Row) (r : Row) → rows_of column (texts ls) ≡ Some rs → row_of column last ≡ Some r
+        → block_read (collection_by indent) (indicator_of style ∷ (line ++ put k (spell ls last))) [] ≡ Some (record { style = h.style; column = column; text = value_before_end h column rs last r })
+    end_value rs r rows row =
+        let cut = split_spell (record { text = indicator_of style ∷ line; by = k } ∷ ls) last (style_inner style line inner, fits, are) last_inner in
+        let tab_free : starts_with_tab (texts ls ++ last ∷ []) ≡ false = sym (tab_whole ls last) ∙ tabless in
+        ap (λ s. read_split (collection_by indent) s []) cut ∙ ap (λ o. read_body o (collection_by indent) (body (texts ls) (unbroken last)) []) is ∙ rw (tab_free, rows, row) refl
+
+    text_value : (own ns : List Line) (rs : List Row) → ls ≡ own ++ ns → rows_of column (texts own) ≡ Some rs → is_further_text column (spell ns last) ≡ true → column ≡ column_by h.digit (collection_by indent) (texts own)
+        → AreLines own [] → Fits k (spell own []) → starts_with_tab (texts own) ≡ false → is_at_end (spell ns last) ≡ false
+        → block_read (collection_by indent) (indicator_of style ∷ (line ++ put k (spell own []))) (spell ns last) ≡ Some (record { style = h.style; column = column_by h.digit (collection_by indent) (texts own); text = value_before_text h rs })
+    text_value own ns rs split_at rows further same are_own fits_own tab_free not_end =
+        let cut = split_spell (record { text = indicator_of style ∷ line; by = k } ∷ own) [] (style_inner style line inner, fits_own, are_own) refl in
+        let rows_here : rows_of (column_by h.digit (collection_by indent) (texts own)) (texts own) ≡ Some rs = rw (← same) rows in
+        let further_here : is_further_text (column_by h.digit (collection_by indent) (texts own)) (spell ns last) ≡ true = rw (← same) further in
+        ap (λ s. read_split (collection_by indent) s (spell ns last)) cut
+        ∙ ap (λ t. read_lines (collection_by indent) ((indicator_of style ∷ line) ∷ texts own) [] (spell ns last) t) not_end
+        ∙ ap (λ o. read_body o (collection_by indent) (body (texts own) further_text) (spell ns last)) is
+        ∙ rw (not_end, further_here, tab_free, rows_here) refl
+
+    to_text : (own ns : List Line) (rs : List Row) → ls ≡ own ++ ns → rows_of column (texts own) ≡ Some rs → is_further_text column (spell ns last) ≡ true → Ends (line ++ put k (spell ls last))
+    to_text own ns rs split_at rows further =
+        let joined : spell ls last ≡ spell own (spell ns last) = ap (λ x. spell x last) split_at ∙ spell_append own ns last in
+        let some_next_text : list_all is_some (spell ns last) ≡ true = (line_parts column own (spell ns last) (rw (← joined) some)).1 in
+        let are_own : AreLines own (spell ns last) = are_first own ns last (rw (← split_at) are) in
+        let column_is : column ≡ column_by h.digit (collection_by indent) (texts (own ++ ns) ++ last ∷ []) = ap (λ x. column_by h.digit (collection_by indent) (texts x ++ last ∷ [])) split_at in
+        let same : column ≡ column_by h.digit (collection_by indent) (texts own) = column_is ∙ part_column h.digit indent own ns last (rw (← column_is) further) in
+        let fits_own : Fits k (spell own []) = fits_less k own (spell ns last) (rw (← joined) fits) in
+        let tab_there : begins_with tab (spell own (spell ns last)) ≡ false = rw (← joined) tabless in
+        let not_end = further_not_end column (spell ns last) further some_next_text in
+        let cut : indicator_of style ∷ (line ++ put k (spell ls last)) ≡ (indicator_of style ∷ (line ++ put k (spell own []))) ++ spell ns last =
+        ap (λ a. indicator_of style ∷ (line ++ put k a)) joined ∙ sym (spell_more (record { text = indicator_of style ∷ line; by = k } ∷ own) [] (spell ns last)) in
+        found (line ++ put k (spell ls last)) (indicator_of style ∷ (line ++ put k (spell own []))) (spell ns last) h line _ is refl cut some_next_text
+        (text_value own ns rs split_at rows further same (are_less own (spell ns last) are_own) fits_own (tab_of own (spell ns last) tab_there) not_end)
+      where
+        tab_of : (own : List Line) (next : List ℕ) → begins_with tab (spell own next) ≡ false → starts_with_tab (texts own) ≡ false
+        tab_of [] next e = refl
+        tab_of (l ∷ own) next e = sym (tab_line l.text (spell own next) l.by (texts own)) ∙ e
+
+    by_walk : Walked column ls last → Ends (line ++ put k (spell ls last))
+    by_walk (stops own ns rs split_at rows further) = to_text own ns rs split_at rows further
+    by_walk (ends rs r rows row) = found (line ++ put k (spell ls last)) (indicator_of style ∷ (line ++ put k (spell ls last))) [] h line _ is refl (sym (append-nil _)) refl (end_value rs r rows row)
+
+    with_lines : Ends (line ++ put k (spell ls last))
+    with_lines = let q = line_parts column ls last some in by_walk (walked column ls last are last_inner q.0 q.1)
+
+  of_lines : (ls : List Line) (last : List ℕ) → AreLines ls last → is_in_line last ≡ true → list_all is_some (spell ls last) ≡ true → Ends (spell ls last)
+  of_lines [] last are inner some = subst Ends (append-nil last) (alone last inner)
+  of_lines (l ∷ ls) last are inner some =
+      let rest = put_parts l.by (spell ls last) ((parts l.text (put l.by (spell ls last)) some).1) in
+      by_header l.text (put l.by (spell ls last)) are.0 (break_ends l.by (spell ls last)) (headers_end style l.text (put l.by (spell ls last)) p are.0 (break_ends l.by (spell ls last)))
+      (λ h is t. with_lines l.text l.by ls last are.0 are.1 are.2 inner h is (sym (ap (λ (r : Read (Unit {0})). begins_with tab r.rest) (linebreak_put l.by (spell ls last) p are.1)) ∙ t) rest)
+
+pub scans_end : BlockScansEndAsTheirTextSays
+scans_end style indent text p some = by (lined text)
+  where
+    by : Lined text → EndsAs style indent p text (block (is_literal style) indent (indicator_of style ∷ text) p)
+    by z = rw (z.is) (of_lines style indent p z.lines z.last z.are z.inner (rw (← z.is) some))

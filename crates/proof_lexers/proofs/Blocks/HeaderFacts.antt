@@ -1,0 +1,122 @@
+-- What a header says of itself, and that the model reads it so.
+use Rattle.std.proofs.Common.{◌≡◌, ℕ, suc, ◌-◌, ◌≤◌, List, [], ◌∷◌, ◌++◌, Bool, true, false, ◌==◌, if◌then◌else◌, Option, Some, None, Ok, Err, refl, ap, sym, ◌∙◌, arith}
+use Rattle.std.proofs.lemmas.Bool.{eqb-true}
+use Rattle.std.proofs.lemmas.Bool.Decides.{nat_tests}
+use Rattle.defs_text.specs.Position.{Place}
+use Rattle.yaml_tokens.specs.declared.problem.Fault.TheVariants.{At}
+use Rattle.yaml_tokens.specs.declared.problem.Problem.TheVariants as problem
+use Rattle.defs_text.specs.Classes as classes
+use Rattle.defs_text.specs.Classes.{tab}
+use Rattle.defs_text.specs.Breaks.{is_rest_of_line}
+use Rattle.defs_scalar.specs.FlowScalar.{begins_with}
+use Rattle.defs_scalar.specs.BlockScalar as defs
+use Rattle.defs_scalar.specs.BlockScalar.{BlockStyle, literal, folded, clip, sign_of, digit_of, header_of, ended, behind_style, first_indicator, behind_sign, digit_or_end, behind_digit, sign_or_end}
+use Rattle.model_lexers.specs.Machine.{past}
+use Rattle.model_lexers.specs.Space.{linebreak}
+use Rattle.model_lexers.specs.Block.{header}
+use Rattle.proof_lexers.specs.HeaderEnds.{indicator_of, digit_or_zero, is_in_line, ends_line, along, read_header, EndsAs, reads, tabbed, zero_digit, comment, no_header}
+use Rattle.proof_lexers.specs.BlockScan.{digit_by}
+use Rattle.proof_lexers.proofs.Blocks.Headers.{headers_end}
+use Rattle.proof_lexers.proofs.Blocks.Written.{Break, feed, carriage, both, put, Fits}
+use Rattle.proof_lexers.proofs.Blocks.Margins.{behind_break}
+
+-- A header has the style that it begins with, and no digit 0.
+pub record From (s : BlockStyle) (h : defs.Header) : Type 0 where
+  pub style_is : h.style ≡ s
+  pub digit_is : digit_by (digit_or_zero h.digit) ≡ h.digit
+
+from_some : (s : BlockStyle) (g h : defs.Header) → From s g → Some g ≡ Some h → From s h
+from_some s g h z e = let same : g ≡ h = cc in rw (← same) z
+
+from_ended : (s : BlockStyle) (g h : defs.Header) (r : List ℕ) → From s g → ended g r ≡ Some h → From s h
+from_ended s g h r z e = by (is_rest_of_line r) e
+  where
+    by : (b : Bool) → (if b then Some g else None) ≡ Some h → From s h
+    by true f = from_some s g h z f
+    by false f = cc
+
+abbrev made : BlockStyle → defs.Chomping → Option ℕ → defs.Header
+made s ch d = record { style = s; chomping = ch; digit = d }
+
+digit_from : (c d : ℕ) → digit_of c ≡ Some d → digit_by d ≡ Some d
+unfolding digit_of
+digit_from c d h = by (classes.is_between 49 57 c) refl h
+  where
+    counted : (n : ℕ) → 49 ≤ n → digit_by (n - 48) ≡ Some (n - 48)
+    counted n le = let e : n - 48 ≡ suc (n - 49) = omega (arith, le) in rw e refl
+
+    by : (b : Bool) → classes.is_between 49 57 c ≡ b → (if b then Some (c - 48) else None) ≡ Some d → digit_by d ≡ Some d
+    by true e f =
+        let same : c - 48 ≡ d = cc in
+        let least : 49 ≤ c = grind (arith, nat_tests) in
+        rw (← same) (counted c least)
+    by false e f = cc
+
+from_sign : (s : BlockStyle) (ch : defs.Chomping) (l : List ℕ) (h : defs.Header) → behind_sign s ch l ≡ Some h → From s h
+from_sign s ch [] h e = from_some s (made s ch None) h (record { style_is = refl; digit_is = refl }) e
+from_sign s ch (c ∷ r) h e = by (digit_of c) refl e
+  where
+    by : (o : Option ℕ) → digit_of c ≡ o → digit_or_end s ch o c r ≡ Some h → From s h
+    by (Some d) f g = from_ended s (made s ch (Some d)) h r (record { style_is = refl; digit_is = digit_from c d f }) g
+    by None f g = from_ended s (made s ch None) h (c ∷ r) (record { style_is = refl; digit_is = refl }) g
+
+from_digit : (s : BlockStyle) (d : ℕ) (l : List ℕ) (h : defs.Header) → digit_by d ≡ Some d → behind_digit s d l ≡ Some h → From s h
+from_digit s d [] h k e = from_some s (made s clip (Some d)) h (record { style_is = refl; digit_is = k }) e
+from_digit s d (c ∷ r) h k e = by (sign_of c) e
+  where
+    by : (o : Option defs.Chomping) → sign_or_end s d o c r ≡ Some h → From s h
+    by (Some ch) g = from_ended s (made s ch (Some d)) h r (record { style_is = refl; digit_is = k }) g
+    by None g = from_ended s (made s clip (Some d)) h (c ∷ r) (record { style_is = refl; digit_is = k }) g
+
+from_style : (s : BlockStyle) (l : List ℕ) (h : defs.Header) → behind_style s l ≡ Some h → From s h
+from_style s [] h e = from_some s (made s clip None) h (record { style_is = refl; digit_is = refl }) e
+from_style s (c ∷ r) h e = by (sign_of c) (digit_of c) refl e
+  where
+    by : (o : Option defs.Chomping) (d : Option ℕ) → digit_of c ≡ d → first_indicator s o d c r ≡ Some h → From s h
+    by (Some ch) d f g = from_sign s ch r h g
+    by None (Some d) f g = from_digit s d r h (digit_from c d f) g
+    by None None f g = from_ended s (made s clip None) h (c ∷ r) (record { style_is = refl; digit_is = refl }) g
+
+-- the same of a header and its first character
+pub record Said (c : ℕ) (h : defs.Header) : Type 0 where
+  pub begins : c ≡ indicator_of h.style
+  pub digit_is : digit_by (digit_or_zero h.digit) ≡ h.digit
+
+pub said : (c : ℕ) (l : List ℕ) (h : defs.Header) → header_of (c ∷ l) ≡ Some h → Said c h
+said c l h e = by (c == 124) (c == 62) refl refl e
+  where
+    by_style : (s : BlockStyle) → c ≡ indicator_of s → From s h → Said c h
+    by_style s is z = record { begins = is ∙ ap indicator_of (sym z.style_is); digit_is = z.digit_is }
+
+    by : (b f : Bool) → (c == 124) ≡ b → (c == 62) ≡ f → (if b then behind_style literal l else (if f then behind_style folded l else None)) ≡ Some h → Said c h
+    by true f g k x = by_style literal (eqb-true c 124 g) (from_style literal l h x)
+    by false true g k x = by_style folded (eqb-true c 62 k) (from_style folded l h x)
+    by false false g k x = cc
+
+-- ---- the model reads it
+
+module _ (h : defs.Header) (line behind : List ℕ) (p : Place) (is : header_of (indicator_of h.style ∷ line) ≡ Some h) where
+  pub header_reads : is_in_line line ≡ true → ends_line behind ≡ true → begins_with tab (linebreak behind p).rest ≡ false → header p (line ++ behind) (past p) ≡ Ok (read_header h behind (along line (past p)))
+  header_reads inner ends still = by (headers_end h.style line behind p inner ends)
+    where
+      by : EndsAs p h.style line behind (header p (line ++ behind) (past p)) → header p (line ++ behind) (past p) ≡ Ok (read_header h behind (along line (past p)))
+      by (reads g f t e) = let same : g ≡ h = (let x : Some g ≡ Some h = sym f ∙ is in cc) in e ∙ ap (λ k. Ok (read_header k behind (along line (past p)))) same
+      by (tabbed g f t e) = let no : true ≡ false = sym t ∙ still in cc
+      by (zero_digit f z e) = let no : None ≡ Some h = sym f ∙ is in cc
+      by (comment g b t f w c e) = let no : None ≡ Some h = sym f ∙ is in cc
+      by (no_header f e) = let no : None ≡ Some h = sym f ∙ is in cc
+
+  pub header_tabs : is_in_line line ≡ true → ends_line behind ≡ true → begins_with tab (linebreak behind p).rest ≡ true → header p (line ++ behind) (past p) ≡ Err (At problem.BlockScalarTab p)
+  header_tabs inner ends still = by (headers_end h.style line behind p inner ends)
+    where
+      by : EndsAs p h.style line behind (header p (line ++ behind) (past p)) → header p (line ++ behind) (past p) ≡ Err (At problem.BlockScalarTab p)
+      by (reads g f t e) = let no : false ≡ true = sym t ∙ still in cc
+      by (tabbed g f t e) = e
+      by (zero_digit f z e) = let no : None ≡ Some h = sym f ∙ is in cc
+      by (comment g b t f w c e) = let no : None ≡ Some h = sym f ∙ is in cc
+      by (no_header f e) = let no : None ≡ Some h = sym f ∙ is in cc
+
+pub linebreak_put : (k : Break) (a : List ℕ) (q : Place) → Fits k a → linebreak (put k a) q ≡ record { rest = a; place = behind_break k q; value = tt }
+linebreak_put feed a q fits = refl
+linebreak_put carriage a q fits = rw fits refl
+linebreak_put both a q fits = refl

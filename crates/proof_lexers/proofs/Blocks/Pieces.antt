@@ -1,0 +1,284 @@
+-- Each piece that is a block scalar is read as it.
+use Rattle.std.proofs.Common.{◌≡◌, ℕ, zero, suc, List, [], ◌∷◌, ◌++◌, Bool, true, false, ◌&&◌, not, ◌==◌, max, slice_index, Option, Some, None, refl, ap, sym, ◌∙◌, append-nil, append_assoc, arith}
+use Rattle.std.specs.List.{list_all}
+use Rattle.std.proofs.lemmas.Bool.{and_parts, not-true}
+use Rattle.std.proofs.lemmas.Bool.Decides.{nat_tests}
+use Rattle.defs_text.specs.Position.{Place}
+use Rattle.defs_text.specs.Classes as classes
+use Rattle.defs_text.specs.Classes.{tab, is_at_end, is_document_marker}
+use Rattle.defs_text.specs.Breaks.{split, Split}
+use Rattle.defs_scalar.specs.FlowScalar.{begins_with}
+use Rattle.defs_scalar.specs.BlockScalar as defs
+use Rattle.defs_scalar.specs.BlockScalar.{Row, rows_of, row_of, deepest_start, least_column, column_by, header_of, starts_with_tab, is_outside, is_further_text, further_text, unbroken, body, input_ends, Body, value_at_text, value_at_end, block_value, value_before_text, value_before_end}
+use Rattle.defs_token.specs.BlockPiece.{BlockRead, read_body, read_lines, read_split}
+use Rattle.model_lexers.specs.Block.{block, indent_from}
+use Rattle.proof_lexers.specs.HeaderEnds.{indicator_of, digit_or_zero, is_in_line}
+use Rattle.proof_lexers.specs.BlockScan.{collection_by, digit_by, is_literal, is_some, IsRead, tabbed, is_tabbed, is_single}
+use Rattle.proof_lexers.specs.BlockLaws.{BlockPiecesAreRead}
+use Rattle.proof_lexers.proofs.Blocks.InLine.{first_inner}
+use Rattle.proof_lexers.proofs.Blocks.Written.{Break, feed, carriage, both, Line, put, spell, texts, Fits, AreLines, Lined, lined, split_spell}
+use Rattle.proof_lexers.proofs.Blocks.Margins.{at, behind_line, behind_lines}
+use Rattle.proof_lexers.proofs.Blocks.Places.{spell_more}
+use Rattle.proof_lexers.proofs.Blocks.Rows.{row_is}
+use Rattle.proof_lexers.proofs.Blocks.Further.{further_outside}
+use Rattle.proof_lexers.proofs.Blocks.HeaderFacts.{Said, said}
+use Rattle.proof_lexers.proofs.Blocks.Columns.{Deep, deep_next, same_column, spell_append, texts_append, are_append}
+use Rattle.proof_lexers.proofs.Blocks.Scans.{style_inner, start, behind, block_is, tab_fails, before_further, before_the_end, header_alone_is_read}
+
+-- ---- a TAB behind the header
+
+tab_put : (k : Break) (a : List ℕ) → begins_with tab (put k a) ≡ false
+tab_put feed a = refl
+tab_put carriage a = refl
+tab_put both a = refl
+
+pub tab_line : (w a : List ℕ) (k : Break) (ls : List (List ℕ)) → begins_with tab (w ++ put k a) ≡ starts_with_tab (w ∷ ls)
+tab_line [] a k ls = tab_put k a
+tab_line (c ∷ w) a k ls = refl
+
+pub tab_whole : (ls : List Line) (e : List ℕ) → begins_with tab (spell ls e) ≡ starts_with_tab (texts ls ++ e ∷ [])
+tab_whole [] [] = refl
+tab_whole [] (c ∷ e) = refl
+tab_whole (l ∷ ls) e = tab_line l.text (spell ls e) l.by (texts ls ++ e ∷ [])
+
+-- ---- further text begins with no line feed, and is not the end
+
+outside_feed : (n : ℕ) (r : List ℕ) → is_outside n r ≡ true → (slice_index r 0 == 10) ≡ false
+unfolding classes.is_break
+outside_feed zero r h = cc
+outside_feed (suc n) [] h = refl
+outside_feed (suc n) (c ∷ r) h = by (c == 10) refl
+  where
+    by : (b : Bool) → (c == 10) ≡ b → (c == 10) ≡ false
+    by true e = grind (arith, nat_tests)
+    by false e = e
+
+marker_feed : (r : List ℕ) → is_document_marker r ≡ true → (slice_index r 0 == 10) ≡ false
+unfolding classes.are_marks
+marker_feed [] h = refl
+marker_feed (c ∷ []) h = cc
+marker_feed (c ∷ d ∷ []) h = cc
+marker_feed (c ∷ d ∷ e ∷ r) h = grind (arith, nat_tests)
+
+no_feed : (column : ℕ) (r : List ℕ) → is_further_text column r ≡ true → (slice_index r 0 == 10) ≡ false
+no_feed zero r h = marker_feed r h
+no_feed (suc n) r h = outside_feed (suc n) r h
+
+-- a break stays one before further text
+fits_put : (k m : Break) (a b : List ℕ) → Fits k (put m a) → Fits k (put m b)
+fits_put feed m a b h = tt
+fits_put both m a b h = tt
+fits_put carriage feed a b h = h
+fits_put carriage carriage a b h = refl
+fits_put carriage both a b h = refl
+
+pub fits_line : (k : Break) (w : List ℕ) (m : Break) (a b : List ℕ) → Fits k (w ++ put m a) → Fits k (w ++ put m b)
+fits_line k [] m a b h = fits_put k m a b h
+fits_line feed (c ∷ w) m a b h = tt
+fits_line carriage (c ∷ w) m a b h = h
+fits_line both (c ∷ w) m a b h = tt
+
+fits_next : (k : Break) (next : List ℕ) → (slice_index next 0 == 10) ≡ false → Fits k next
+fits_next feed next h = tt
+fits_next carriage next h = h
+fits_next both next h = tt
+
+fits_more : (k : Break) (ls : List Line) (next : List ℕ) → (slice_index next 0 == 10) ≡ false → Fits k (spell ls []) → Fits k (spell ls next)
+fits_more k [] next free h = fits_next k next free
+fits_more k (l ∷ ls) next free h = fits_line k l.text l.by (spell ls []) (spell ls next) h
+
+are_more : (ls : List Line) (next : List ℕ) → (slice_index next 0 == 10) ≡ false → AreLines ls [] → AreLines ls next
+are_more [] next free are = tt
+are_more (l ∷ ls) next free are = (are.0, fits_more l.by ls next free are.1, are_more ls next free are.2)
+
+-- ---- the column is that of the whole text
+
+pub whole_column : (digit : Option ℕ) (indent : ℕ) (ls ns : List Line) (e : List ℕ) (column : ℕ) → column_by digit (collection_by indent) (texts ls) ≡ column → is_further_text column (spell ns e) ≡ true
+    → column_by digit (collection_by indent) (texts (ls ++ ns) ++ e ∷ []) ≡ column
+whole_column (Some d) indent ls ns e column same further = same
+whole_column None indent ls ns e column same further =
+    let deep : Deep (max (deepest_start (texts ls)) (least_column (collection_by indent))) (deepest_start (texts ns ++ e ∷ [])) = rw same (deep_next column ns e further) in
+    ap (λ x. max (deepest_start x) (least_column (collection_by indent))) (ap (λ x. x ++ e ∷ []) (texts_append ls ns) ∙ append_assoc (texts ls) (texts ns) (e ∷ []))
+    ∙ same_column (texts ls) (texts ns ++ e ∷ []) (least_column (collection_by indent)) deep ∙ same
+
+-- ---- before further text
+
+module _ (indent : ℕ) (p : Place) (next : List ℕ) where
+  -- what a piece before further text is
+  record Before (h : defs.Header) (ls : List Line) (b : BlockRead) : Type 0 where
+    rows : List Row
+    tabless : starts_with_tab (texts ls) ≡ false
+    are_rows : rows_of (column_by h.digit (collection_by indent) (texts ls)) (texts ls) ≡ Some rows
+    further : is_further_text (column_by h.digit (collection_by indent) (texts ls)) next ≡ true
+    value : record { style = h.style; column = column_by h.digit (collection_by indent) (texts ls); text = value_before_text h rows } ≡ b
+
+  before : (h : defs.Header) (ls : List Line) (b : BlockRead) → is_at_end next ≡ false → read_body (Some h) (collection_by indent) (body (texts ls) further_text) next ≡ Some b → Before h ls b
+  before h ls b some e = by (is_further_text K next) (starts_with_tab (texts ls)) (rows_of K (texts ls)) refl refl refl
+    where
+      K : ℕ
+      K = column_by h.digit (collection_by indent) (texts ls)
+
+      by : (f t : Bool) (o : Option (List Row)) → is_further_text K next ≡ f → starts_with_tab (texts ls) ≡ t → rows_of K (texts ls) ≡ o → Before h ls b
+      by false t o x y z = let no : None ≡ Some b = rw (some, x) at e in cc
+      by true true o x y z = let no : None ≡ Some b = rw (some, x, y) at e in cc
+      by true false None x y z = let no : None ≡ Some b = rw (some, x, y, z) at e in cc
+      by true false (Some rs) x y z =
+          let one : Some (record { style = h.style; column = K; text = value_before_text h rs }) ≡ Some b = rw (some, x, y, z) at e in
+          record { rows = rs; tabless = y; are_rows = z; further = x; value = cc }
+
+  module _ (h : defs.Header) (line : List ℕ) (k : Break) (ls : List Line) (b : BlockRead) (is : header_of (indicator_of h.style ∷ line) ≡ Some h) (digit : digit_by (digit_or_zero h.digit) ≡ h.digit) (inner : is_in_line line ≡ true)
+      (fits : Fits k (spell ls [])) (are : AreLines ls []) (not_end : is_at_end next ≡ false) (z : Before h ls b) where
+    abbrev column_here : ℕ
+    column_here = column_by h.digit (collection_by indent) (texts ls)
+
+    free : (slice_index next 0 == 10) ≡ false
+    free = no_feed column_here next z.further
+
+    cut_of : (ls : List Line) → Fits k (spell ls []) → AreLines ls [] → split (indicator_of h.style ∷ (line ++ put k (spell ls []))) ≡ record { complete = (indicator_of h.style ∷ line) ∷ texts ls; last = [] }
+    cut_of ls fits are = split_spell (record { text = indicator_of h.style ∷ line; by = k } ∷ ls) [] (style_inner h.style line inner, fits, are) refl
+
+    no_tab : (ls : List Line) → Fits k (spell ls []) → AreLines ls [] → begins_with tab (spell ls next) ≡ false → is_tabbed (indicator_of h.style ∷ (line ++ put k (spell ls []))) next ≡ false
+    no_tab [] fits are e = ap (λ (s : Split). is_single s.complete && begins_with tab next) (cut_of [] fits are) ∙ e
+    no_tab (l ∷ ls) fits are e = ap (λ (s : Split). is_single s.complete && begins_with tab next) (cut_of (l ∷ ls) fits are)
+
+    text_here : (t : Bool) → begins_with tab (spell ls next) ≡ t → IsRead indent p (record { style = h.style; column = column_here; text = value_before_text h z.rows }) (indicator_of h.style ∷ (line ++ put k (spell ls []))) next (block (is_literal h.style) indent (indicator_of h.style ∷ (line ++ put k (spell ls next))) p)
+    text_here true e = tabbed (first_tab ls fits are z.tabless e) (tab_fails h line k indent p is digit inner (spell ls next) (fits_more k ls next free fits) e)
+      where
+        first_tab : (ls : List Line) → Fits k (spell ls []) → AreLines ls [] → starts_with_tab (texts ls) ≡ false → begins_with tab (spell ls next) ≡ true → is_tabbed (indicator_of h.style ∷ (line ++ put k (spell ls []))) next ≡ true
+        first_tab [] fits are f g = ap (λ (s : Split). is_single s.complete && begins_with tab next) (cut_of [] fits are) ∙ g
+        first_tab (l ∷ ls) fits are f g = let no : false ≡ true = sym f ∙ sym (tab_line l.text (spell ls next) l.by (texts ls)) ∙ g in cc
+    text_here false e = by (lined next)
+      where
+        by : Lined next → IsRead indent p (record { style = h.style; column = column_here; text = value_before_text h z.rows }) (indicator_of h.style ∷ (line ++ put k (spell ls []))) next (block (is_literal h.style) indent (indicator_of h.style ∷ (line ++ put k (spell ls next))) p)
+        by y =
+            let same : spell (ls ++ y.lines) y.last ≡ spell ls next = spell_append ls y.lines y.last ∙ ap (spell ls) (sym y.is) in
+            let fits_next : Fits k (spell ls next) = fits_more k ls next free fits in
+            let are_next : AreLines ls next = are_more ls next free are in
+            let are_first : AreLines ls (spell y.lines y.last) = rw (← y.is) are_next in
+            let found : block (is_literal h.style) indent (indicator_of h.style ∷ (line ++ put k (spell ls next))) p ≡ _ =
+            ap (λ a. block (is_literal h.style) indent (indicator_of h.style ∷ (line ++ put k a)) p) (sym same)
+            ∙ block_is h line k indent p is digit inner (ls ++ y.lines) y.last column_here (whole_column h.digit indent ls y.lines y.last column_here refl (rw (← y.is) (z.further))) (are_append ls y.lines y.last are_first y.are) y.inner (rw same fits_next) (rw same e)
+            ∙ ap (λ a. behind h line k indent p is digit inner (indent_from column_here a (at (start h line k indent p is digit inner) []))) same in
+            before_further h line k indent p is digit inner column_here ls next z.rows are_next fits_next are fits z.are_rows not_end (no_tab ls fits are e) found
+            (further_outside column_here next (behind_lines ls (start h line k indent p is digit inner)) (lines_col ls) z.further)
+          where
+            lines_col : (ls : List Line) → (behind_lines ls (start h line k indent p is digit inner)).col ≡ 0
+            lines_col ls = col_of ls (start h line k indent p is digit inner) refl
+              where
+                col_of : (ls : List Line) (q : Place) → q.col ≡ 0 → (behind_lines ls q).col ≡ 0
+                col_of [] q e = e
+                col_of (l ∷ ls) q e = col_of ls (behind_line l q) refl
+
+    further_read : IsRead indent p b (indicator_of h.style ∷ (line ++ put k (spell ls []))) next (block (is_literal b.style) indent ((indicator_of h.style ∷ (line ++ put k (spell ls []))) ++ next) p)
+    further_read =
+        let cut : (indicator_of h.style ∷ (line ++ put k (spell ls []))) ++ next ≡ indicator_of h.style ∷ (line ++ put k (spell ls next)) = spell_more (record { text = indicator_of h.style ∷ line; by = k } ∷ ls) [] next in
+        rw (cut, ← z.value) (text_here (begins_with tab (spell ls next)) refl)
+
+-- ---- at the end of the text
+
+module _ (indent : ℕ) (p : Place) where
+  record AtEnd (h : defs.Header) (ls : List Line) (last : List ℕ) (b : BlockRead) : Type 0 where
+    rows : List Row
+    row : Row
+    tabless : starts_with_tab (texts ls ++ last ∷ []) ≡ false
+    are_rows : rows_of (column_by h.digit (collection_by indent) (texts ls ++ last ∷ [])) (texts ls) ≡ Some rows
+    last_row : row_of (column_by h.digit (collection_by indent) (texts ls ++ last ∷ [])) last ≡ Some row
+    value : record { style = h.style; column = column_by h.digit (collection_by indent) (texts ls ++ last ∷ []); text = value_before_end h (column_by h.digit (collection_by indent) (texts ls ++ last ∷ [])) rows last row } ≡ b
+
+  at_the_end : (h : defs.Header) (ls : List Line) (last : List ℕ) (b : BlockRead) → read_body (Some h) (collection_by indent) (body (texts ls) (unbroken last)) [] ≡ Some b → AtEnd h ls last b
+  at_the_end h ls last b e = by (starts_with_tab (texts ls ++ last ∷ [])) (rows_of K (texts ls)) (row_of K last) refl refl refl
+    where
+      K : ℕ
+      K = column_by h.digit (collection_by indent) (texts ls ++ last ∷ [])
+
+      by : (t : Bool) (o : Option (List Row)) (u : Option Row) → starts_with_tab (texts ls ++ last ∷ []) ≡ t → rows_of K (texts ls) ≡ o → row_of K last ≡ u → AtEnd h ls last b
+      by true o u x y z = let no : None ≡ Some b = rw x at e in cc
+      by false None u x y z = let no : None ≡ Some b = rw (x, y) at e in cc
+      by false (Some rs) None x y z = let no : None ≡ Some b = rw (x, y, z) at e in cc
+      by false (Some rs) (Some r) x y z =
+          let one : Some (record { style = h.style; column = K; text = value_before_end h K rs last r }) ≡ Some b = rw (x, y, z) at e in
+          record { rows = rs; row = r; tabless = x; are_rows = y; last_row = z; value = cc }
+
+  end_read : (h : defs.Header) (line : List ℕ) (k : Break) (ls : List Line) (last : List ℕ) (b : BlockRead) → header_of (indicator_of h.style ∷ line) ≡ Some h → digit_by (digit_or_zero h.digit) ≡ h.digit → is_in_line line ≡ true
+      → Fits k (spell ls last) → AreLines ls last → is_in_line last ≡ true → AtEnd h ls last b
+      → IsRead indent p b (indicator_of h.style ∷ (line ++ put k (spell ls last))) [] (block (is_literal b.style) indent ((indicator_of h.style ∷ (line ++ put k (spell ls last))) ++ []) p)
+  end_read h line k ls last b is digit inner fits are last_inner z =
+      let K = column_by h.digit (collection_by indent) (texts ls ++ last ∷ []) in
+      let found = block_is h line k indent p is digit inner ls last K refl are last_inner fits (tab_whole ls last ∙ z.tabless) in
+      rw (append-nil, ← z.value) (before_the_end h line k indent p is digit inner K ls last z.rows are last_inner fits z.are_rows found z.row (row_is K last z.row z.last_row))
+
+-- ---- each piece
+
+none_some : {A : Type 0} (x : A) → None ≡ Some x → ⊥
+none_some x e = cc
+
+pub some_next : (d : ℕ) (n : List ℕ) → list_all is_some (d ∷ n) ≡ true → is_at_end (d ∷ n) ≡ false
+unfolding classes.is_nul
+some_next d n h = not-true _ ((and_parts (not (d == 0)) (list_all is_some n) h).0)
+
+module _ (indent : ℕ) (p : Place) (b : BlockRead) where
+  abbrev pub Read_as : List ℕ → List ℕ → Type 0
+  Read_as piece next = IsRead indent p b piece next (block (is_literal b.style) indent (piece ++ next) p)
+
+  alone : (w : List ℕ) → is_in_line w ≡ true → read_body (header_of w) (collection_by indent) input_ends [] ≡ Some b → Read_as w []
+  alone [] inner e = absurd (none_some b e)
+  alone (c ∷ line) inner e = by (header_of (c ∷ line)) refl
+    where
+      read_here : (h : defs.Header) → header_of (c ∷ line) ≡ Some h → record { style = h.style; column = 0; text = [] } ≡ b → Said c h → Read_as (c ∷ line) []
+      read_here h f same z =
+          let is : header_of (indicator_of h.style ∷ line) ≡ Some h = rw (← z.begins) f in
+          rw (append-nil, z.begins, ← same) (header_alone_is_read h line indent p is ((first_inner c line inner).1))
+
+      by : (o : Option defs.Header) → header_of (c ∷ line) ≡ o → Read_as (c ∷ line) []
+      by None f = let no : None ≡ Some b = rw f at e in absurd (none_some b no)
+      by (Some h) f =
+          let one : Some (record { style = h.style; column = 0; text = [] }) ≡ Some b = rw f at e in
+          let same : record { style = h.style; column = 0; text = [] } ≡ b = cc in
+          read_here h f same (said c line h f)
+
+  pub to_end : (w : List ℕ) (k : Break) (ls : List Line) (last : List ℕ) → is_in_line w ≡ true → Fits k (spell ls last) → AreLines ls last → is_in_line last ≡ true
+      → read_body (header_of w) (collection_by indent) (body (texts ls) (unbroken last)) [] ≡ Some b → Read_as (w ++ put k (spell ls last)) []
+  to_end [] k ls last inner fits are last_inner e = absurd (none_some b e)
+  to_end (c ∷ line) k ls last inner fits are last_inner e = by (header_of (c ∷ line)) refl
+    where
+      read_here : (h : defs.Header) → header_of (c ∷ line) ≡ Some h → AtEnd indent p h ls last b → Said c h → Read_as (c ∷ (line ++ put k (spell ls last))) []
+      read_here h f y z =
+          let is : header_of (indicator_of h.style ∷ line) ≡ Some h = rw (← z.begins) f in
+          rw (z.begins) (end_read indent p h line k ls last b is z.digit_is ((first_inner c line inner).1) fits are last_inner y)
+
+      by : (o : Option defs.Header) → header_of (c ∷ line) ≡ o → Read_as (c ∷ (line ++ put k (spell ls last))) []
+      by None f = let no : None ≡ Some b = rw f at e in absurd (none_some b no)
+      by (Some h) f = read_here h f (at_the_end indent p h ls last b (rw f at e)) (said c line h f)
+
+  pub to_text : (w : List ℕ) (k : Break) (ls : List Line) (next : List ℕ) → is_in_line w ≡ true → Fits k (spell ls []) → AreLines ls [] → is_at_end next ≡ false
+      → read_body (header_of w) (collection_by indent) (body (texts ls) further_text) next ≡ Some b → Read_as (w ++ put k (spell ls [])) next
+  to_text [] k ls next inner fits are some e = absurd (none_some b e)
+  to_text (c ∷ line) k ls next inner fits are some e = by (header_of (c ∷ line)) refl
+    where
+      read_here : (h : defs.Header) → header_of (c ∷ line) ≡ Some h → Before indent p next h ls b → Said c h → Read_as (c ∷ (line ++ put k (spell ls []))) next
+      read_here h f y z =
+          let is : header_of (indicator_of h.style ∷ line) ≡ Some h = rw (← z.begins) f in
+          rw (z.begins) (further_read indent p next h line k ls b is z.digit_is ((first_inner c line inner).1) fits are some y)
+
+      by : (o : Option defs.Header) → header_of (c ∷ line) ≡ o → Read_as (c ∷ (line ++ put k (spell ls []))) next
+      by None f = let no : None ≡ Some b = rw f at e in absurd (none_some b no)
+      by (Some h) f = read_here h f (before indent p next h ls b some (rw f at e)) (said c line h f)
+
+  of_lines : (ls : List Line) (last next : List ℕ) → AreLines ls last → is_in_line last ≡ true → list_all is_some next ≡ true → (t : Bool) → is_at_end next ≡ t
+      → read_lines (collection_by indent) (texts ls) last next t ≡ Some b → Read_as (spell ls last) next
+  of_lines [] last [] are inner some true x e = alone last inner e
+  of_lines (l ∷ ls) last [] are inner some true x e = to_end l.text l.by ls last are.0 are.1 are.2 inner e
+  of_lines ls last [] are inner some false x e = let no : true ≡ false = x in cc
+  of_lines ls last (d ∷ n) are inner some true x e = let no : false ≡ true = sym (some_next d n some) ∙ x in cc
+  of_lines [] last (d ∷ n) are inner some false x e = absurd (none_some b e)
+  of_lines (l ∷ ls) [] (d ∷ n) are inner some false x e = to_text l.text l.by ls (d ∷ n) are.0 are.1 are.2 x e
+  of_lines (l ∷ ls) (c ∷ last) (d ∷ n) are inner some false x e = absurd (none_some b e)
+
+pub pieces_are_read : BlockPiecesAreRead
+pieces_are_read indent piece next p b some e = by (lined piece)
+  where
+    by : Lined piece → IsRead indent p b piece next (block (is_literal b.style) indent (piece ++ next) p)
+    by z =
+        let cut : split piece ≡ record { complete = texts z.lines; last = z.last } = ap split z.is ∙ split_spell z.lines z.last z.are z.inner in
+        let lines : read_lines (collection_by indent) (texts z.lines) z.last next (is_at_end next) ≡ Some b = ap (λ s. read_split (collection_by indent) s next) (sym cut) ∙ e in
+        rw (z.is) (of_lines indent p b z.lines z.last next z.are z.inner some (is_at_end next) refl lines)

@@ -1,0 +1,213 @@
+-- The lines of a block scalar are read row by row.
+use Rattle.std.proofs.Common.{◌≡◌, ◌≤◌, ℕ, zero, suc, ◌+◌, List, [], ◌∷◌, ◌++◌, Bool, true, false, ◌&&◌, not, ◌==◌, nat_lt, nat_le, length, drop, Option, Some, None, Result, Ok, refl, ap, sym, ◌∙◌, append-nil, append_assoc, arith}
+use Rattle.std.proofs.lemmas.Bool.{and_parts, eq-eqb, lt-ltb, le-ltb, not-true}
+use Rattle.std.proofs.lemmas.Bool.Decides.{nat_tests}
+use Rattle.defs_text.specs.Position.{Place}
+use Rattle.yaml_chars.specs.Class.{is_break, is_blank}
+use Rattle.yaml_tokens.specs.declared.problem.Fault.{Fault}
+use Rattle.defs_text.specs.Classes as classes
+use Rattle.defs_text.specs.Classes.{is_document_marker}
+use Rattle.defs_scalar.specs.BlockScalar.{Row, empty_row, content_row, is_spaces, leading_spaces, is_empty_line, is_content_line, row_of, rows_of, put_row}
+use Rattle.model_lexers.specs.Machine.{Read, past, at_marker}
+use Rattle.model_lexers.specs.Block.{Column, indent_from, Lines, State, margin, line, lines_from, between, begins, begun, with_char}
+use Rattle.proof_lexers.proofs.Bridges.{same_break, and_false}
+use Rattle.proof_lexers.specs.HeaderEnds.{is_in_line, ends_line, along}
+use Rattle.proof_lexers.proofs.Blocks.InLine.{first_inner}
+use Rattle.proof_lexers.proofs.Blocks.Written.{Break, feed, carriage, both, Line, put, spell, texts, Fits, AreLines}
+use Rattle.proof_lexers.proofs.Blocks.Margins.{behind_break, behind_line, behind_lines, at, before, margin_passes, empty_passes, last_passes}
+use Rattle.proof_lexers.proofs.Blocks.Markers.{marker_in_line}
+use Rattle.proof_lexers.proofs.Blocks.Places.{first_space}
+use Rattle.defs_token.specs.BlockPiece.{first_content}
+
+-- ---- what is known behind rows
+
+-- behind a row: an empty line's break waits, content takes what waits
+abbrev pub behind_row : (literal : Bool) → Row → Lines → Lines
+behind_row literal empty_row l = record l { breaks = l.breaks ++ 10 ∷ [] }
+behind_row literal (content_row []) l = record l { broken = true }
+behind_row literal (content_row (c ∷ w)) l = record { text = (l.text ++ between literal l (is_blank c)) ++ c ∷ w; breaks = []; broken = true; blank = is_blank c }
+
+abbrev pub behind_rows : (literal : Bool) → List Row → Lines → Lines
+behind_rows literal [] l = l
+behind_rows literal (r ∷ rs) l = behind_rows literal rs (behind_row literal r l)
+
+-- before a line
+abbrev pub front : Place → Lines → State
+front p l = record { mode = margin; place = p; lines = l }
+
+-- within a content line
+abbrev pub inside : Place → Lines → State
+inside p l = record { mode = line; place = p; lines = l }
+
+pub break_ends : (k : Break) (a : List ℕ) → ends_line (put k a) ≡ true
+unfolding classes.is_break
+break_ends feed a = refl
+break_ends carriage a = refl
+break_ends both a = refl
+
+module _ (literal : Bool) (column : ℕ) where
+  abbrev pub scan : List ℕ → State → Result (Read Lines) Fault
+  scan a s = lines_from literal column a s
+
+  chars : (w a : List ℕ) (p : Place) (l : Lines) → is_in_line w ≡ true → scan (w ++ a) (inside p l) ≡ scan a (inside (along w p) (record l { text = l.text ++ w }))
+  chars [] a p l h = rw append-nil refl
+  chars (c ∷ w) a p l h =
+      let q = first_inner c w h in
+      rw (q.0) (chars w a (past p) (with_char c l) q.1 ∙ ap (λ t. scan a (inside (along w (past p)) (record l { text = t }))) (append_assoc l.text (c ∷ []) w))
+
+  line_ends : (k : Break) (a : List ℕ) (p : Place) (l : Lines) → Fits k a → scan (put k a) (inside p l) ≡ scan a (front (behind_break k p) (record l { broken = true }))
+  unfolding is_break
+  line_ends feed a p l fits = refl
+  line_ends carriage a p l fits = rw fits refl
+  line_ends both a p l fits = refl
+
+  -- what the search for content passes
+  pub through : (a r : List ℕ) (p q : Place) (l : Lines) (b : List ℕ) → indent_from column a (at p l.breaks) ≡ indent_from column r (at q b) → scan a (front p l) ≡ scan r (front q (record l { breaks = b }))
+  through a r p q l b e =
+      margin_passes literal column a p l l.breaks ∙ ap (λ (x : Read Column). scan x.rest (before x.place l x.value.breaks)) e ∙ sym (margin_passes literal column r q l b)
+
+  -- ---- empty lines
+
+  empty_goes : (l : Line) (a : List ℕ) (p : Place) (x : Lines) → is_spaces l.text ≡ true → p.col + length l.text ≤ column → Fits l.by a
+      → scan (l.text ++ put l.by a) (front p x) ≡ scan a (front (behind_line l p) (behind_row literal empty_row x))
+  empty_goes l a p x h le fits = through (l.text ++ put l.by a) a p (behind_line l p) x (x.breaks ++ 10 ∷ []) (empty_passes column l a p x.breaks h le fits)
+
+  -- ---- content lines
+
+  -- Content begins at the column.
+  pub record Starts (w a : List ℕ) (p : Place) (b : List ℕ) (n : ℕ) : Type 0 where
+    pub char : ℕ
+    pub rest : List ℕ
+    pub place : Place
+    pub is : drop n w ≡ char ∷ rest
+    pub in_column : place.col ≡ column
+    pub inner : is_in_line (char ∷ rest) ≡ true
+    pub ends : along rest (past place) ≡ along w p
+    pub first : (y : List ℕ) → first_content column false p (w ++ y) ≡ Some place
+    pub found : indent_from column (w ++ a) (at p b) ≡ record { rest = char ∷ (rest ++ a); place = place; value = record { column = column; breaks = b } }
+
+  space_then : (c : ℕ) (w a : List ℕ) (p : Place) (b : List ℕ) (n : ℕ) → (c == 32) ≡ true → nat_lt p.col column ≡ true → Starts w a (past p) b n → Starts (c ∷ w) a p b (suc n)
+  space_then c w a p b n e deep z = record { char = z.char; rest = z.rest; place = z.place; is = z.is; in_column = z.in_column; inner = z.inner; ends = z.ends; first = λ y. first_space column c (w ++ y) p e deep ∙ z.first y; found = rw (e, deep) (z.found) }
+
+  pub starts : (n : ℕ) (w a : List ℕ) (p : Place) (b : List ℕ) → p.col + n ≡ column → n ≤ leading_spaces w → suc n ≤ length w → is_in_line w ≡ true → Starts w a p b n
+  starts zero [] a p b col lead long inner = absurd (omega (arith, long))
+  starts zero (c ∷ w) a p b col lead long inner =
+      let q = first_inner c w inner in
+      let deep : nat_lt p.col column ≡ false = le-ltb p.col column (omega (arith, col)) in
+      record { char = c; rest = w; place = p; is = refl; in_column = omega (arith, col); inner = inner; ends = refl; first = λ y. rw (same_break c, q.0, deep, and_false (c == 32)) refl; found = rw (deep, and_false (c == 32), q.0) refl }
+  starts (suc n) [] a p b col lead long inner = absurd (omega (arith, long))
+  starts (suc n) (c ∷ w) a p b col lead long inner = by (c == 32) refl (λ x. starts n w a (past p) b (omega (arith, col)) x (omega (arith, long)) ((first_inner c w inner).1))
+    where
+      by : (s : Bool) → (c == 32) ≡ s → (n ≤ leading_spaces w → Starts w a (past p) b n) → Starts (c ∷ w) a p b (suc n)
+      by true e go =
+          let more : suc n ≤ suc (leading_spaces w) = rw e at lead in
+          space_then c w a p b n e (lt-ltb p.col column (omega (arith, col))) (go (omega (arith, more)))
+      by false e go = let no : suc n ≤ 0 = rw e at lead in absurd (omega (arith, no))
+
+  suc_off : (k : ℕ) → (suc k == 0) ≡ false
+  suc_off k = grind (arith, nat_tests)
+
+  begins_free : (k : ℕ) (w a rest : List ℕ) (char : ℕ) (p : Place) → k ≡ column → drop k w ≡ char ∷ rest → p.col ≡ column → ends_line a ≡ true → ((column == 0) && is_document_marker w) ≡ false → begins column p.col (char ∷ (rest ++ a)) ≡ true
+  unfolding begins
+  begins_free zero w a rest char p k is col ends free =
+      let here : at_marker p.col (char ∷ (rest ++ a)) ≡ ((p.col == 0) && is_document_marker (char ∷ rest)) = marker_in_line p.col (char ∷ rest) a ends in
+      let none : ((p.col == 0) && is_document_marker (char ∷ rest)) ≡ false = rw col (ap (λ (x : List ℕ). (column == 0) && is_document_marker x) (sym is) ∙ free) in
+      let same = eq-eqb p.col column col in
+      rw (here, none, same) refl
+  begins_free (suc n) w a rest char p k is col ends free =
+      let here : at_marker p.col (char ∷ (rest ++ a)) ≡ ((p.col == 0) && is_document_marker (char ∷ rest)) = marker_in_line p.col (char ∷ rest) a ends in
+      let off : (p.col == 0) ≡ false = rw (col, ← k) (suc_off n) in
+      let same = eq-eqb p.col column col in
+      rw (here, off, same) refl
+
+  -- behind a content line's characters
+  abbrev pub written : Row → Lines → Lines
+  written r l = record (behind_row literal r l) { broken = false }
+
+  content_chars : (w a : List ℕ) (p : Place) (x : Lines) → p.col ≡ 0 → is_in_line w ≡ true → ends_line a ≡ true → column ≤ leading_spaces w → suc column ≤ length w → ((column == 0) && is_document_marker w) ≡ false
+      → scan (w ++ a) (front p x) ≡ scan a (inside (along w p) (written (content_row (drop column w)) x))
+  content_chars w a p x col inner ends lead long free = by (starts column w a p x.breaks (omega (arith, col)) lead long inner)
+    where
+      by : Starts w a p x.breaks column → scan (w ++ a) (front p x) ≡ scan a (inside (along w p) (written (content_row (drop column w)) x))
+      by z =
+          let q = first_inner z.char z.rest z.inner in
+          let deep : nat_lt z.place.col column ≡ false = le-ltb z.place.col column (let e = z.in_column in omega (arith, e)) in
+          let stops : indent_from column (z.char ∷ (z.rest ++ a)) (at z.place x.breaks) ≡ record { rest = z.char ∷ (z.rest ++ a); place = z.place; value = record { column = column; breaks = x.breaks } } = rw (deep, and_false (z.char == 32), q.0) refl in
+          let first = begins_free column w a z.rest z.char z.place refl z.is z.in_column ends free in
+          through (w ++ a) (z.char ∷ (z.rest ++ a)) p z.place x x.breaks (z.found ∙ sym stops)
+          ∙ begin z.char (z.rest ++ a) z.place x deep q.0 first
+          ∙ chars z.rest a (past z.place) (with_char z.char (begun literal z.char x)) q.1
+          ∙ ap (λ t. scan a (inside (along z.rest (past z.place)) (record { text = t; breaks = []; broken = false; blank = is_blank z.char }))) (append_assoc (x.text ++ between literal x (is_blank z.char)) (z.char ∷ []) z.rest)
+          ∙ ap (λ q. scan a (inside q (written (content_row (z.char ∷ z.rest)) x))) z.ends
+          ∙ ap (λ m. scan a (inside (along w p) (written (content_row m) x))) (sym z.is)
+        where
+          begin : (c : ℕ) (r : List ℕ) (q : Place) (y : Lines) → nat_lt q.col column ≡ false → is_break c ≡ false → begins column q.col (c ∷ r) ≡ true → scan (c ∷ r) (front q y) ≡ scan r (inside (past q) (with_char c (begun literal c y)))
+          begin c r q y deep b e = rw (deep, and_false (c == 32), b, e) refl
+
+-- ---- rows
+
+-- what a line is
+pub data IsRow (column : ℕ) (w : List ℕ) : Row → Type 0 where
+  is_empty : is_spaces w ≡ true → length w ≤ column → IsRow column w empty_row
+  is_content : column ≤ leading_spaces w → suc column ≤ length w → ((column == 0) && is_document_marker w) ≡ false → IsRow column w (content_row (drop column w))
+
+within : (n m : ℕ) → nat_le n m ≡ true → n ≤ m
+within n m h = grind (arith, nat_tests)
+
+pub row_is : (column : ℕ) (w : List ℕ) (r : Row) → row_of column w ≡ Some r → IsRow column w r
+unfolding row_of is_empty_line is_content_line
+row_is column w r h = by (is_spaces w && nat_le (length w) column) ((nat_le column (leading_spaces w) && nat_le (suc column) (length w)) && not ((column == 0) && is_document_marker w)) refl refl
+  where
+    by : (e c : Bool) → (is_spaces w && nat_le (length w) column) ≡ e → ((nat_le column (leading_spaces w) && nat_le (suc column) (length w)) && not ((column == 0) && is_document_marker w)) ≡ c → IsRow column w r
+    by true c f g =
+        let q = and_parts (is_spaces w) (nat_le (length w) column) f in
+        let one : Some empty_row ≡ Some r = rw f at h in
+        let same : empty_row ≡ r = cc in
+        rw (← same) (is_empty q.0 (within (length w) column q.1))
+    by false true f g =
+        let q = and_parts (nat_le column (leading_spaces w) && nat_le (suc column) (length w)) _ g in
+        let s = and_parts (nat_le column (leading_spaces w)) (nat_le (suc column) (length w)) q.0 in
+        let one : Some (content_row (drop column w)) ≡ Some r = rw (f, g) at h in
+        let same : content_row (drop column w) ≡ r = cc in
+        rw (← same) (is_content (within column (leading_spaces w) s.0) (within (suc column) (length w) s.1) (not-true _ q.1))
+    by false false f g = let no : None ≡ Some r = rw (f, g) at h in cc
+
+module _ (literal : Bool) (column : ℕ) where
+  row_goes : (l : Line) (a : List ℕ) (p : Place) (x : Lines) (r : Row) → p.col ≡ 0 → is_in_line l.text ≡ true → Fits l.by a → IsRow column l.text r
+      → scan literal column (l.text ++ put l.by a) (front p x) ≡ scan literal column a (front (behind_line l p) (behind_row literal r x))
+  row_goes l a p x empty_row col inner fits (is_empty h le) = empty_goes literal column l a p x h (omega (arith, le, col)) fits
+  row_goes l a p x (content_row m) col inner fits (is_content lead long free) =
+      content_chars literal column l.text (put l.by a) p x col inner (break_ends l.by a) lead long free
+      ∙ line_ends literal column l.by a (along l.text p) (written literal column (content_row (drop column l.text)) x) fits
+      ∙ broken_again (drop column l.text)
+    where
+      -- content is never empty here
+      broken_again : (m : List ℕ) → scan literal column a (front (behind_line l p) (record (written literal column (content_row m) x) { broken = true })) ≡ scan literal column a (front (behind_line l p) (behind_row literal (content_row m) x))
+      broken_again [] = refl
+      broken_again (c ∷ m) = refl
+
+  pub rows_go : (ls : List Line) (a : List ℕ) (p : Place) (x : Lines) (rs : List Row) → p.col ≡ 0 → AreLines ls a → rows_of column (texts ls) ≡ Some rs
+      → scan literal column (spell ls a) (front p x) ≡ scan literal column a (front (behind_lines ls p) (behind_rows literal rs x))
+  rows_go [] a p x rs col are h = let none : [] ≡ rs = cc in ap (λ r. scan literal column a (front p (behind_rows literal r x))) none
+  rows_go (l ∷ ls) a p x rs col are h = by (row_of column l.text) (rows_of column (texts ls)) refl refl h (λ more e y. rows_go ls a (behind_line l p) y more refl are.2 e)
+    where
+      by : (o : Option Row) (os : Option (List Row)) → row_of column l.text ≡ o → rows_of column (texts ls) ≡ os → put_row o os ≡ Some rs
+          → ((more : List Row) → rows_of column (texts ls) ≡ Some more → (y : Lines) → scan literal column (spell ls a) (front (behind_line l p) y) ≡ scan literal column a (front (behind_lines ls (behind_line l p)) (behind_rows literal more y)))
+          → scan literal column (spell (l ∷ ls) a) (front p x) ≡ scan literal column a (front (behind_lines (l ∷ ls) p) (behind_rows literal rs x))
+      by None os e f g go = cc
+      by (Some r) None e f g go = cc
+      by (Some r) (Some more) e f g go =
+          let same : r ∷ more ≡ rs = cc in
+          row_goes l (spell ls a) p x r col are.0 are.1 (row_is column l.text r e) ∙ go more f (behind_row literal r x)
+          ∙ ap (λ y. scan literal column a (front (behind_lines (l ∷ ls) p) (behind_rows literal y x))) same
+
+  -- ---- a last line without a break
+
+  pub last_empty : (w : List ℕ) (p : Place) (x : Lines) → p.col ≡ 0 → is_spaces w ≡ true → length w ≤ column → scan literal column w (front p x) ≡ Ok (record { rest = []; place = along w p; value = x })
+  last_empty w p x col h le = through literal column w [] p (along w p) x x.breaks (last_passes column w p x.breaks h (omega (arith, le, col)))
+
+  pub last_content : (w : List ℕ) (p : Place) (x : Lines) → p.col ≡ 0 → is_in_line w ≡ true → column ≤ leading_spaces w → suc column ≤ length w → ((column == 0) && is_document_marker w) ≡ false
+      → scan literal column w (front p x) ≡ Ok (record { rest = []; place = along w p; value = written literal column (content_row (drop column w)) x })
+  last_content w p x col inner lead long free =
+      let z = content_chars literal column w [] p x col inner refl lead long free in
+      ap (λ a. scan literal column a (front p x)) (sym (append-nil w)) ∙ z

@@ -1,0 +1,147 @@
+-- Where content is found behind rows, and how far rows go in a text.
+use Rattle.std.proofs.Common.{◌≡◌, ◌≤◌, ℕ, zero, suc, ◌+◌, List, [], ◌∷◌, ◌++◌, true, false, length, drop, Option, Some, None, refl, ap, sym, ◌∙◌, append-nil, arith}
+use Rattle.std.specs.List.{list_all}
+use Rattle.defs_text.specs.Position.{Place}
+use Rattle.defs_scalar.specs.BlockScalar.{Row, empty_row, content_row, is_spaces, breaks, row_of, rows_of, put_row, has_content, is_further_text}
+use Rattle.defs_token.specs.BlockPiece.{first_content}
+use Rattle.model_lexers.specs.Block.{indent_from}
+use Rattle.proof_lexers.specs.HeaderEnds.{is_in_line}
+use Rattle.proof_lexers.specs.BlockScan.{is_some}
+use Rattle.proof_lexers.proofs.Blocks.Written.{Line, put, spell, texts, Fits, AreLines}
+use Rattle.proof_lexers.proofs.Blocks.Margins.{behind_line, behind_lines, at, empty_passes}
+use Rattle.proof_lexers.proofs.Blocks.Places.{first_empty}
+use Rattle.proof_lexers.proofs.Blocks.Rows.{IsRow, is_empty, is_content, row_is, break_ends, Starts, starts}
+use Rattle.proof_lexers.proofs.Blocks.Values.{AreFull}
+use Rattle.proof_lexers.proofs.Blocks.Columns.{none_further}
+
+-- ---- content is never empty
+
+drop_some : (n : ℕ) (w : List ℕ) (rs : List Row) → suc n ≤ length w → AreFull rs → AreFull (content_row (drop n w) ∷ rs)
+drop_some n [] rs long full = absurd (omega (arith, long))
+drop_some zero (c ∷ w) rs long full = full
+drop_some (suc n) (c ∷ w) rs long full = drop_some n w rs (omega (arith, long)) full
+
+row_full : (column : ℕ) (w : List ℕ) (r : Row) (rs : List Row) → IsRow column w r → AreFull rs → AreFull (r ∷ rs)
+row_full column w empty_row rs (is_empty h le) full = full
+row_full column w (content_row m) rs (is_content lead long free) full = drop_some column w rs long full
+
+-- a list of rows by its first
+data First (column : ℕ) (w : List ℕ) (ws : List (List ℕ)) (rs : List Row) : Type 0 where
+  first_row : (r : Row) (more : List Row) → rs ≡ r ∷ more → IsRow column w r → rows_of column ws ≡ Some more → First column w ws rs
+
+first_of : (column : ℕ) (w : List ℕ) (ws : List (List ℕ)) (rs : List Row) → rows_of column (w ∷ ws) ≡ Some rs → First column w ws rs
+first_of column w ws rs h = by (row_of column w) (rows_of column ws) refl refl h
+  where
+    by : (o : Option Row) (os : Option (List Row)) → row_of column w ≡ o → rows_of column ws ≡ os → put_row o os ≡ Some rs → First column w ws rs
+    by None os e f g = cc
+    by (Some r) None e f g = cc
+    by (Some r) (Some more) e f g = let same : r ∷ more ≡ rs = cc in first_row r more (sym same) (row_is column w r e) f
+
+pub are_full : (column : ℕ) (ws : List (List ℕ)) (rs : List Row) → rows_of column ws ≡ Some rs → AreFull rs
+are_full column [] rs h = let none : [] ≡ rs = cc in rw (← none) tt
+are_full column (w ∷ ws) rs h = by (first_of column w ws rs h) (are_full column ws)
+  where
+    by : First column w ws rs → ((more : List Row) → rows_of column ws ≡ Some more → AreFull more) → AreFull rs
+    by (first_row r more e is f) go = rw e (row_full column w r more is (go more f))
+
+-- ---- the first content
+
+-- Content was found behind rows.
+pub record Found (column : ℕ) (a : List ℕ) (p : Place) (b : List ℕ) : Type 0 where
+  pub char : ℕ
+  pub rest : List ℕ
+  pub place : Place
+  pub breaks_before : List ℕ
+  pub in_column : place.col ≡ column
+  pub found : indent_from column a (at p b) ≡ record { rest = char ∷ rest; place = place; value = record { column = column; breaks = breaks_before } }
+
+module _ (column : ℕ) where
+  pub record FoundIn (ls : List Line) (a : List ℕ) (p : Place) (b : List ℕ) : Type 0 where
+    pub here : Found column (spell ls a) p b
+    pub first : (y : List ℕ) → AreLines ls y → first_content column false p (spell ls y) ≡ Some (here.place)
+
+  content_found : (l : Line) (ls : List Line) (a : List ℕ) (p : Place) (b : List ℕ) → Starts true column l.text (put l.by (spell ls a)) p b column → FoundIn (l ∷ ls) a p b
+  content_found l ls a p b z = record {
+    here = record { char = z.char; rest = z.rest ++ put l.by (spell ls a); place = z.place; breaks_before = b; in_column = z.in_column; found = z.found };
+    first = λ y are. z.first (put l.by (spell ls y));
+  }
+
+  later_found : (l : Line) (ls : List Line) (a : List ℕ) (p : Place) (b : List ℕ) → is_spaces l.text ≡ true → p.col + length l.text ≤ column → Fits l.by (spell ls a) → FoundIn ls a (behind_line l p) (b ++ 10 ∷ []) → FoundIn (l ∷ ls) a p b
+  later_found l ls a p b h le fits z = record {
+    here = record {
+      char = z.here.char;
+      rest = z.here.rest;
+      place = z.here.place;
+      breaks_before = z.here.breaks_before;
+      in_column = z.here.in_column;
+      found = empty_passes column l (spell ls a) p b h le fits ∙ z.here.found;
+    };
+    first = λ y are. first_empty column l (spell ls y) p h le are.1 ∙ z.first y are.2;
+  }
+
+  found_by : (l : Line) (ls : List Line) (a : List ℕ) (p : Place) (b : List ℕ) (r : Row) (more : List Row) → p.col ≡ 0 → AreLines (l ∷ ls) a → has_content (r ∷ more) ≡ true → IsRow column l.text r
+      → (has_content more ≡ true → FoundIn ls a (behind_line l p) (b ++ 10 ∷ [])) → FoundIn (l ∷ ls) a p b
+  found_by l ls a p b empty_row more col are some (is_empty h le) go = later_found l ls a p b h (omega (arith, le, col)) are.1 (go some)
+  found_by l ls a p b (content_row m) more col are some (is_content lead long free) go = content_found l ls a p b (starts true column column l.text (put l.by (spell ls a)) p b (omega (arith, col)) lead long are.0)
+
+  pub found_in : (ls : List Line) (a : List ℕ) (p : Place) (b : List ℕ) (rs : List Row) → p.col ≡ 0 → AreLines ls a → rows_of column (texts ls) ≡ Some rs → has_content rs ≡ true → FoundIn ls a p b
+  found_in [] a p b rs col are h some = let none : [] ≡ rs = cc in let no : false ≡ true = rw (← none) at some in cc
+  found_in (l ∷ ls) a p b rs col are h some = by (first_of column l.text (texts ls) rs h) (λ more e x. found_in ls a (behind_line l p) (b ++ 10 ∷ []) more refl are.2 e x)
+    where
+      by : First column l.text (texts ls) rs → ((more : List Row) → rows_of column (texts ls) ≡ Some more → has_content more ≡ true → FoundIn ls a (behind_line l p) (b ++ 10 ∷ [])) → FoundIn (l ∷ ls) a p b
+      by (first_row r more e is f) go = found_by l ls a p b r more col are (ap has_content (sym e) ∙ some) is (go more f)
+
+  -- ---- empty lines alone
+
+  pub record Empty (ls : List Line) (a : List ℕ) (p : Place) (b : List ℕ) (n : ℕ) : Type 0 where
+    pub passes : indent_from column (spell ls a) (at p b) ≡ indent_from column a (at (behind_lines ls p) (b ++ breaks n))
+    pub first : (y : List ℕ) → AreLines ls y → first_content column false p (spell ls y) ≡ first_content column false (behind_lines ls p) y
+
+  one_empty : (l : Line) (ls : List Line) (a : List ℕ) (p : Place) (b : List ℕ) (n : ℕ) → is_spaces l.text ≡ true → p.col + length l.text ≤ column → Fits l.by (spell ls a)
+      → Empty ls a (behind_line l p) (b ++ 10 ∷ []) n → Empty (l ∷ ls) a p b (suc n)
+  one_empty l ls a p b n h le fits z = record {
+    passes = empty_passes column l (spell ls a) p b h le fits ∙ z.passes ∙ ap (λ x. indent_from column a (at (behind_lines ls (behind_line l p)) x)) (one_more b n);
+    first = λ y are. first_empty column l (spell ls y) p h le are.1 ∙ z.first y are.2;
+  }
+    where
+      one_more : (b : List ℕ) (n : ℕ) → (b ++ 10 ∷ []) ++ breaks n ≡ b ++ breaks (suc n)
+      one_more [] n = refl
+      one_more (c ∷ b) n = ap (λ x. c ∷ x) (one_more b n)
+
+  empty_by : (l : Line) (ls : List Line) (a : List ℕ) (p : Place) (b : List ℕ) (r : Row) (more : List Row) → p.col ≡ 0 → AreLines (l ∷ ls) a → has_content (r ∷ more) ≡ false → IsRow column l.text r
+      → (has_content more ≡ false → Empty ls a (behind_line l p) (b ++ 10 ∷ []) (length more)) → Empty (l ∷ ls) a p b (length (r ∷ more))
+  empty_by l ls a p b empty_row more col are none (is_empty h le) go = one_empty l ls a p b (length more) h (omega (arith, le, col)) are.1 (go none)
+  empty_by l ls a p b (content_row m) more col are none (is_content lead long free) go = let no : true ≡ false = none in cc
+
+  pub all_empty : (ls : List Line) (a : List ℕ) (p : Place) (b : List ℕ) (rs : List Row) → p.col ≡ 0 → AreLines ls a → rows_of column (texts ls) ≡ Some rs → has_content rs ≡ false → Empty ls a p b (length rs)
+  all_empty [] a p b rs col are h none =
+      let same : [] ≡ rs = cc in
+      rw (← same) (record { passes = ap (λ x. indent_from column a (at p x)) (sym (append-nil b)); first = λ y are. refl })
+  all_empty (l ∷ ls) a p b rs col are h none = by (first_of column l.text (texts ls) rs h) (λ more e x. all_empty ls a (behind_line l p) (b ++ 10 ∷ []) more refl are.2 e x)
+    where
+      by : First column l.text (texts ls) rs → ((more : List Row) → rows_of column (texts ls) ≡ Some more → has_content more ≡ false → Empty ls a (behind_line l p) (b ++ 10 ∷ []) (length more)) → Empty (l ∷ ls) a p b (length rs)
+      by (first_row r more e is f) go = rw e (empty_by l ls a p b r more col are (ap has_content (sym e) ∙ none) is (go more f))
+
+  -- ---- how far rows go
+
+  -- Rows go up to further text, or to the text's end.
+  pub data Walked (ms : List Line) (e : List ℕ) : Type 0 where
+    stops : (ls ns : List Line) (rs : List Row) → ms ≡ ls ++ ns → rows_of column (texts ls) ≡ Some rs → is_further_text column (spell ns e) ≡ true → Walked ms e
+    ends : (rs : List Row) (r : Row) → rows_of column (texts ms) ≡ Some rs → row_of column e ≡ Some r → Walked ms e
+
+  abbrev pub HaveNoNul : List Line → Type 0
+  HaveNoNul [] = Unit {0}
+  HaveNoNul (l ∷ ls) = (list_all is_some l.text ≡ true) × HaveNoNul ls
+
+  last_walked : (e : List ℕ) (o : Option Row) → row_of column e ≡ o → is_in_line e ≡ true → list_all is_some e ≡ true → Walked [] e
+  last_walked e None f inner some = stops [] [] [] refl refl (let z = none_further column e [] f inner some refl in rw append-nil at z)
+  last_walked e (Some r) f inner some = ends [] r refl f
+
+  line_walked : (l : Line) (ms : List Line) (e : List ℕ) (o : Option Row) → row_of column l.text ≡ o → is_in_line l.text ≡ true → list_all is_some l.text ≡ true → Walked ms e → Walked (l ∷ ms) e
+  line_walked l ms e None f inner some z = stops [] (l ∷ ms) [] refl refl (none_further column l.text (put l.by (spell ms e)) f inner some (break_ends l.by (spell ms e)))
+  line_walked l ms e (Some r) f inner some (stops ls ns rs cut rows further) = stops (l ∷ ls) ns (r ∷ rs) (ap (λ x. l ∷ x) cut) (rw (f, rows) refl) further
+  line_walked l ms e (Some r) f inner some (ends rs s rows last) = ends (r ∷ rs) s (rw (f, rows) refl) last
+
+  pub walked : (ms : List Line) (e : List ℕ) → AreLines ms e → is_in_line e ≡ true → HaveNoNul ms → list_all is_some e ≡ true → Walked ms e
+  walked [] e are inner none some = last_walked e (row_of column e) refl inner some
+  walked (l ∷ ms) e are inner none some = line_walked l ms e (row_of column l.text) refl are.0 none.0 (walked ms e are.2 inner none.1 some)

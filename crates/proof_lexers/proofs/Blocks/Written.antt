@@ -1,0 +1,124 @@
+-- Each text is lines, each with its break as written, and a last line without one.
+use Rattle.std.proofs.Common.{◌≡◌, ℕ, List, [], ◌∷◌, ◌++◌, Bool, true, false, ◌&&◌, ◌==◌, slice_index, refl, ap, ◌∙◌}
+use Rattle.std.proofs.lemmas.Bool.{and_parts, eqb-true}
+use Rattle.yaml_chars.specs.Class.{is_break}
+use Rattle.defs_text.specs.Classes as classes
+use Rattle.defs_text.specs.Breaks.{Split, split, with_empty_line}
+use Rattle.proof_lexers.proofs.Bridges.{same_break}
+use Rattle.proof_lexers.specs.HeaderEnds.{is_in_line}
+use Rattle.proof_lexers.proofs.Blocks.InLine.{first_inner}
+
+-- a break as written: LF, CR, or CR LF
+pub data Break : Type 0 where
+  feed : Break
+  carriage : Break
+  both : Break
+
+-- a line and its break
+pub record Line : Type 0 where
+  pub text : List ℕ
+  pub by : Break
+
+-- a break before a text
+abbrev pub put : Break → List ℕ → List ℕ
+put feed a = 10 ∷ a
+put carriage a = 13 ∷ a
+put both a = 13 ∷ 10 ∷ a
+
+-- lines before a text
+abbrev pub spell : List Line → List ℕ → List ℕ
+spell [] a = a
+spell (l ∷ ls) a = l.text ++ put l.by (spell ls a)
+
+abbrev pub texts : List Line → List (List ℕ)
+texts [] = []
+texts (l ∷ ls) = l.text ∷ texts ls
+
+-- a CR before a LF is no break of its own
+abbrev pub Fits : Break → List ℕ → Type 0
+Fits feed a = Unit {0}
+Fits carriage a = (slice_index a 0 == 10) ≡ false
+Fits both a = Unit {0}
+
+abbrev pub AreLines : List Line → List ℕ → Type 0
+AreLines [] a = Unit {0}
+AreLines (l ∷ ls) a = (is_in_line l.text ≡ true) × Fits l.by (spell ls a) × AreLines ls a
+
+-- a text by its lines
+pub record Lined (a : List ℕ) : Type 0 where
+  pub lines : List Line
+  pub last : List ℕ
+  pub is : a ≡ spell lines last
+  pub are : AreLines lines last
+  pub inner : is_in_line last ≡ true
+
+-- ---- each text has its lines
+
+module _ (c : ℕ) (a : List ℕ) (z : Lined a) where
+  char_line : (ls : List Line) → a ≡ spell ls z.last → AreLines ls z.last → is_break c ≡ false → Lined (c ∷ a)
+  char_line [] is are h = record { lines = []; last = c ∷ z.last; is = ap (λ r. c ∷ r) is; are = tt; inner = rw (same_break c, h) z.inner }
+  char_line (l ∷ ls) is are h = record { lines = record { text = c ∷ l.text; by = l.by } ∷ ls; last = z.last; is = ap (λ r. c ∷ r) is; are = (rw (same_break c, h) (are.0), are.1, are.2); inner = z.inner }
+
+  lone_break : is_break c ≡ true → ((c == 13) && (slice_index a 0 == 10)) ≡ false → Lined (c ∷ a)
+  unfolding is_break
+  lone_break h e = by (c == 10) (c == 13) refl refl
+    where
+      by : (f r : Bool) → (c == 10) ≡ f → (c == 13) ≡ r → Lined (c ∷ a)
+      by true r g k = let so = eqb-true c 10 g in record { lines = record { text = []; by = feed } ∷ z.lines; last = z.last; is = rw so (ap (λ r. 10 ∷ r) z.is); are = (refl, tt, z.are); inner = z.inner }
+      by false true g k =
+          let so = eqb-true c 13 k in
+          let no : (slice_index a 0 == 10) ≡ false = rw k at e in
+          let fits : (slice_index (spell z.lines z.last) 0 == 10) ≡ false = rw (z.is) at no in
+          record { lines = record { text = []; by = carriage } ∷ z.lines; last = z.last; is = rw so (ap (λ r. 13 ∷ r) z.is); are = (refl, fits, z.are); inner = z.inner }
+      by false false g k = let no : false ≡ true = rw (g, k) at h in cc
+
+two_breaks : (a : List ℕ) → Lined a → Lined (13 ∷ 10 ∷ a)
+two_breaks a z = record { lines = record { text = []; by = both } ∷ z.lines; last = z.last; is = ap (λ r. 13 ∷ 10 ∷ r) z.is; are = (refl, tt, z.are); inner = z.inner }
+
+step_by : (c d : ℕ) (a : List ℕ) (b f : Bool) → is_break c ≡ b → ((c == 13) && (d == 10)) ≡ f → Lined (d ∷ a) → Lined a → Lined (c ∷ d ∷ a)
+step_by c d a false f e g z y = char_line c (d ∷ a) z z.lines z.is z.are e
+step_by c d a true true e g z y = let q = and_parts (c == 13) (d == 10) g in let x = eqb-true c 13 q.0 in let u = eqb-true d 10 q.1 in rw (x, u) (two_breaks a y)
+step_by c d a true false e g z y = lone_break c (d ∷ a) z e g
+
+one_by : (c : ℕ) (b : Bool) → is_break c ≡ b → Lined [] → Lined (c ∷ [])
+one_by c false e z = char_line c [] z z.lines z.is z.are e
+one_by c true e z = lone_break c [] z e (no (c == 13))
+  where
+    no : (b : Bool) → (b && false) ≡ false
+    no true = refl
+    no false = refl
+
+pub lined : (a : List ℕ) → Lined a
+lined [] = record { lines = []; last = []; is = refl; are = tt; inner = refl }
+lined (c ∷ []) = one_by c (is_break c) refl (lined [])
+lined (c ∷ d ∷ a) = step_by c d a (is_break c) ((c == 13) && (d == 10)) refl refl (lined (d ∷ a)) (lined a)
+
+-- ---- the lines of the text are these
+
+abbrev of_lines : List (List ℕ) → List ℕ → Split
+of_lines ls w = record { complete = ls; last = w }
+
+split_last : (w : List ℕ) → is_in_line w ≡ true → split w ≡ of_lines [] w
+split_last [] h = refl
+split_last (c ∷ w) h = let q = first_inner c w h in rw (same_break c, q.0, split_last w q.1) refl
+
+split_line : (w a : List ℕ) (ls : List (List ℕ)) (r : List ℕ) → is_in_line w ≡ true → split a ≡ of_lines ([] ∷ ls) r → split (w ++ a) ≡ of_lines (w ∷ ls) r
+split_line [] a ls r h e = e
+split_line (c ∷ w) a ls r h e = let q = first_inner c w h in rw (same_break c, q.0, split_line w a ls r q.1 e) refl
+
+split_feed : (a : List ℕ) → split (10 ∷ a) ≡ with_empty_line (split a)
+unfolding classes.is_break
+split_feed [] = refl
+split_feed (c ∷ a) = refl
+
+split_break : (b : Break) (a : List ℕ) → Fits b a → split (put b a) ≡ with_empty_line (split a)
+unfolding classes.is_break
+split_break feed a fits = split_feed a
+split_break carriage [] fits = refl
+split_break carriage (c ∷ a) fits = rw fits refl
+split_break both a fits = split_feed a
+
+pub split_spell : (ls : List Line) (r : List ℕ) → AreLines ls r → is_in_line r ≡ true → split (spell ls r) ≡ of_lines (texts ls) r
+split_spell [] r are h = split_last r h
+split_spell (l ∷ ls) r are h =
+    split_line l.text (put l.by (spell ls r)) (texts ls) r are.0 (split_break l.by (spell ls r) are.1 ∙ ap with_empty_line (split_spell ls r are.2 h))

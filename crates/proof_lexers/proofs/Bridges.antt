@@ -1,0 +1,141 @@
+-- Classes and tables of the model and of the definitions tell the same characters apart.
+use Rattle.std.proofs.Common.{◌≡◌, ℕ, suc, List, [], ◌∷◌, Bool, true, false, ◌||◌, ◌&&◌, ◌==◌, Option, Some, None, refl, sym, arith}
+use Rattle.std.specs.Char.{is_digit}
+use Rattle.std.proofs.lemmas.Bool.{eqb-true}
+use Rattle.std.proofs.lemmas.Bool.Decides.{nat_tests}
+use Rattle.yaml_chars.specs.Class.{is_break, is_blank, is_blank_or_breakz, is_flow, is_hex, is_alphanumeric, is_alpha, is_uri_mark, is_uri, is_tag}
+use Rattle.defs_text.specs.Classes as classes
+use Rattle.defs_scalar.specs.FlowScalar.{lookup, escapes, numeric_escapes, is_character_code}
+use Rattle.model_lexers.specs.Machine.{is_marker, at_marker}
+use Rattle.model_lexers.specs.Quoted.{Escape, escape_of, is_scalar}
+
+pub same_break : (c : ℕ) → classes.is_break c ≡ is_break c
+unfolding classes.is_break is_break
+same_break c = refl
+
+pub same_blank : (c : ℕ) → classes.is_blank c ≡ is_blank c
+unfolding classes.is_blank is_blank
+same_blank c = refl
+
+-- ---- document markers
+
+no_third : (x y : Bool) → ((x && false) || (y && false)) ≡ false
+no_third true true = refl
+no_third true false = refl
+no_third false true = refl
+no_third false false = refl
+
+pub and_false : (b : Bool) → (b && false) ≡ false
+and_false true = refl
+and_false false = refl
+
+no_second : (x y u v : Bool) → ((x && u && false) || (y && v && false)) ≡ false
+no_second x y u v = rw (and_false (x && u), and_false (y && v)) refl
+
+or_first : (a b c : Bool) → ((a || b) || c) ≡ (a || (b || c))
+or_first true b c = refl
+or_first false b c = refl
+
+pub same_gap : (c : ℕ) → classes.is_blank_or_end c ≡ is_blank_or_breakz c
+unfolding classes.is_blank_or_end classes.is_blank classes.is_break classes.is_nul is_blank is_break
+same_gap c = or_first (is_blank c) (is_break c) (c == 0)
+
+pub same_marker : (col : ℕ) (a : List ℕ) → at_marker col a ≡ ((col == 0) && classes.is_document_marker a)
+unfolding at_marker is_marker classes.are_marks is_blank is_break
+same_marker col [] = refl
+same_marker col (c ∷ []) = rw no_third refl
+same_marker col (c ∷ d ∷ []) = rw no_second refl
+same_marker col (c ∷ d ∷ e ∷ []) = refl
+same_marker col (c ∷ d ∷ e ∷ f ∷ a) = rw (same_gap f) refl
+
+-- ---- codes
+
+pub both : (b c : Bool) → (b ≡ true → c ≡ true) → (c ≡ true → b ≡ true) → b ≡ c
+both true c f g = sym (f refl)
+both false true f g = g refl
+both false false f g = refl
+
+pub same_digit : (c : ℕ) → is_hex c ≡ is_digit c 16
+unfolding is_hex
+same_digit c = both _ _ (λ h. grind (arith, nat_tests)) (λ h. grind (arith, nat_tests))
+
+pub same_code : (n : ℕ) → is_scalar n ≡ is_character_code n
+unfolding is_scalar is_character_code
+same_code n = both _ _ (λ h. grind (arith, nat_tests)) (λ h. grind (arith, nat_tests))
+
+-- ---- escapes
+
+-- what the model makes of the rows of the tables
+abbrev pub escape_by_rows : Option ℕ → Option ℕ → Escape
+escape_by_rows (Some code) digits = Escape.char code
+escape_by_rows None (Some (suc more)) = Escape.code more
+escape_by_rows None _ = Escape.unknown
+
+abbrev Same : ℕ → Type 0
+Same c = escape_of c ≡ escape_by_rows (lookup c escapes) (lookup c numeric_escapes)
+
+-- what holds of a number, and of each other one, holds
+pub row : (c k : ℕ) (P : ℕ → Type 0) → P k → ((c == k) ≡ false → P c) → P c
+row c k P at other = by (c == k) refl
+  where
+    by : (b : Bool) → (c == k) ≡ b → P c
+    by true e = rw (eqb-true c k e) at
+    by false e = other e
+
+pub same_escape : (c : ℕ) → escape_of c ≡ escape_by_rows (lookup c escapes) (lookup c numeric_escapes)
+unfolding escape_of
+same_escape c =
+    row c 48 Same refl (λ e48.
+    row c 97 Same refl (λ e97.
+    row c 98 Same refl (λ e98.
+    row c 116 Same refl (λ e116.
+    row c 9 Same refl (λ e9.
+    row c 110 Same refl (λ e110.
+    row c 118 Same refl (λ e118.
+    row c 102 Same refl (λ e102.
+    row c 114 Same refl (λ e114.
+    row c 101 Same refl (λ e101.
+    row c 32 Same refl (λ e32.
+    row c 34 Same refl (λ e34.
+    row c 47 Same refl (λ e47.
+    row c 92 Same refl (λ e92.
+    row c 78 Same refl (λ e78.
+    row c 95 Same refl (λ e95.
+    row c 76 Same refl (λ e76.
+    row c 80 Same refl (λ e80.
+    row c 120 Same refl (λ e120.
+    row c 117 Same refl (λ e117.
+    row c 85 Same refl (λ e85.
+    rw (e48, e97, e98, e116, e9, e110, e118, e102, e114, e101, e32, e34, e47, e92, e78, e95, e76, e80, e120, e117, e85) refl)))))))))))))))))))))
+
+-- ---- classes of flow scalars
+
+or_five : (a b c d e : Bool) → (a || (b || (c || (d || (e || false))))) ≡ ((((a || b) || c) || d) || e)
+or_five true b c d e = refl
+or_five false true c d e = refl
+or_five false false true d e = refl
+or_five false false false true e = refl
+or_five false false false false true = refl
+or_five false false false false false = refl
+
+pub same_flow : (c : ℕ) → classes.is_flow c ≡ is_flow c
+unfolding classes.is_flow is_flow
+same_flow c = or_five (c == 44) (c == 91) (c == 93) (c == 123) (c == 125)
+
+-- ---- classes of tags
+
+pub or_false : (b : Bool) → (b || false) ≡ b
+or_false true = refl
+or_false false = refl
+
+pub same_alpha : (c : ℕ) → classes.is_alpha c ≡ is_alpha c
+unfolding classes.is_alpha classes.is_decimal_digit classes.is_letter is_alpha is_alphanumeric
+same_alpha c = simp (or_first, or_false) refl
+
+pub same_uri : (c : ℕ) → classes.is_uri c ≡ is_uri c
+unfolding classes.is_uri classes.is_decimal_digit classes.is_letter is_uri is_alphanumeric is_uri_mark
+same_uri c = simp (or_first, or_false) refl
+
+pub same_tag : (c : ℕ) → classes.is_tag c ≡ is_tag c
+unfolding classes.is_tag is_tag
+same_tag c = rw (same_uri c, same_flow c, or_false (c == 33)) refl

@@ -1,0 +1,138 @@
+-- The numbers of a version, and the handle and the prefix of a declaration, as the model reads them in a line.
+use Rattle.std.proofs.Common.{◌≡◌, ℕ, suc, ◌+◌, List, [], ◌∷◌, ◌++◌, Bool, true, false, ◌==◌, nat_le, if◌then◌else◌, length, slice_index, Some, None, Result, Ok, Err, refl, ap, sym, ◌∙◌, arith, append_assoc, length-append}
+use Rattle.std.proofs.lemmas.Bool.{and_parts, eqb-true}
+use Rattle.defs_text.specs.Position.{Place}
+use Rattle.defs_text.specs.Text.{is_nil}
+use Rattle.yaml_tokens.specs.declared.problem.Fault.{Fault}
+use Rattle.yaml_tokens.specs.declared.problem.Fault.TheVariants.{At}
+use Rattle.yaml_tokens.specs.declared.problem.Problem.TheVariants as problem
+use Rattle.defs_text.specs.Classes as classes
+use Rattle.defs_scalar.specs.Tags.{all_of, leading, behind, is_same, begins_with_mark, is_marked_name, is_handle}
+use Rattle.defs_scalar.specs.Directives.{decimal_value, number_of, name_and_mark, handle_and_rest}
+use Rattle.model_lexers.specs.Machine.{Read, past}
+use Rattle.model_lexers.specs.Tag.{handle_end, handle}
+use Rattle.model_lexers.specs.Directive.{number}
+use Rattle.proof_lexers.specs.NameEnds.{further}
+use Rattle.proof_lexers.specs.DirectiveEnds.{ends_line}
+use Rattle.proof_lexers.proofs.Properties.Tags.{begins_in, span_cut, all_leading, word}
+use Rattle.proof_lexers.proofs.Directives.Parts.{none_at_end, before_end, number_is_read, spells_name}
+
+-- ---- a version's number
+
+-- What the scan of a number sees in a line: no digit; more than nine; or the number that it is.
+pub data NumberSees (start p : Place) (b n : List ℕ) (x : Result (Read ℕ) Fault) : Type 0 where
+  missing : leading classes.is_decimal_digit b ≡ [] → number_of (leading classes.is_decimal_digit b) ≡ None → x ≡ Err (At problem.VersionNumber start) → NumberSees start p b n x
+  long : nat_le (length (leading classes.is_decimal_digit b)) 9 ≡ false → number_of (leading classes.is_decimal_digit b) ≡ None → x ≡ Err (At problem.VersionTooLong start) → NumberSees start p b n x
+  found : (value : ℕ) → number_of (leading classes.is_decimal_digit b) ≡ Some value
+      → x ≡ Ok (record { rest = behind classes.is_decimal_digit b ++ n; place = further (length (leading classes.is_decimal_digit b)) p; value = value }) → NumberSees start p b n x
+
+digit_by : (start p : Place) (b n w r : List ℕ) → leading classes.is_decimal_digit b ≡ w
+    → NumberSees start p b n (if is_nil w then Err (At problem.VersionNumber start) else (if nat_le (length w) 9 then Ok (record { rest = behind classes.is_decimal_digit b ++ n; place = further (length w) p; value = decimal_value 0 w }) else Err (At problem.VersionTooLong start)))
+digit_by start p b n [] r e = missing e (rw e refl) refl
+digit_by start p b n (c ∷ w) r e = by (nat_le (length (c ∷ w)) 9) refl
+  where
+    by : (few : Bool) → nat_le (length (c ∷ w)) 9 ≡ few
+        → NumberSees start p b n (if few then Ok (record { rest = behind classes.is_decimal_digit b ++ n; place = further (length (c ∷ w)) p; value = decimal_value 0 (c ∷ w) }) else Err (At problem.VersionTooLong start))
+    by true f = found (decimal_value 0 (c ∷ w)) (rw e (rw f refl)) (rw e refl)
+    by false f = long (rw e f) (rw e (rw f refl)) refl
+
+pub number_sees : (start p : Place) (b n : List ℕ) → ends_line n ≡ true → NumberSees start p b n (number start (b ++ n) p)
+unfolding classes.is_decimal_digit
+number_sees start p b n h =
+    let none : begins_in classes.is_decimal_digit n ≡ false = none_at_end classes.is_decimal_digit refl refl n h in
+    let q = before_end classes.is_decimal_digit b n none in
+    rw (number_is_read start (b ++ n) p, q.0, q.1) (digit_by start p b n (leading classes.is_decimal_digit b) [] refl)
+
+-- ---- a handle
+
+-- What the scan of a handle sees in a line: no mark; a name without a second mark; or the handle that stands there.
+pub data HandleSees (start p : Place) (t n : List ℕ) (x : Result (Read (List ℕ)) Fault) : Type 0 where
+  no_mark : begins_with_mark t ≡ false → is_handle (handle_and_rest t).0 ≡ false → x ≡ Err (At problem.TagStart start) → HandleSees start p t n x
+  open_name : (c : ℕ) (name rest : List ℕ) → t ≡ 33 ∷ rest → leading classes.is_alpha rest ≡ c ∷ name → begins_with_mark (behind classes.is_alpha rest) ≡ false → is_handle (handle_and_rest t).0 ≡ false
+      → x ≡ Err (At problem.TagDirectiveHandle start) → HandleSees start p t n x
+  found : is_handle (handle_and_rest t).0 ≡ true → t ≡ (handle_and_rest t).0 ++ (handle_and_rest t).1
+      → x ≡ Ok (record { rest = (handle_and_rest t).1 ++ n; place = further (length (handle_and_rest t).0) p; value = (handle_and_rest t).0 }) → HandleSees start p t n x
+
+mark_is_no_alpha : classes.is_alpha 33 ≡ false
+unfolding classes.is_alpha classes.is_decimal_digit classes.is_letter
+mark_is_no_alpha = refl
+
+alpha_is_no_mark : (c : ℕ) → classes.is_alpha c ≡ true → (c == 33) ≡ false
+alpha_is_no_mark c h = by (c == 33) refl
+  where
+    by : (b : Bool) → (c == 33) ≡ b → (c == 33) ≡ false
+    by true e = let same : c ≡ 33 = eqb-true c 33 e in absurd (cc (rw same at h, mark_is_no_alpha))
+    by false e = e
+
+-- a name alone is no handle, and one with a mark behind it is
+marked : (c : ℕ) (w : List ℕ) → all_of classes.is_alpha (c ∷ w) ≡ true → (is_marked_name (c ∷ w) ≡ false) × (is_marked_name ((c ∷ w) ++ 33 ∷ []) ≡ true)
+marked c [] h = let q = and_parts (classes.is_alpha c) true h in (alpha_is_no_mark c q.0, rw q.0 refl)
+marked c (d ∷ w) h =
+    let q = and_parts (classes.is_alpha c) (all_of classes.is_alpha (d ∷ w)) h in
+    let r = marked d w q.1 in
+    (rw q.0 (r.0), rw q.0 (r.1))
+
+handle_of : (w : List ℕ) → all_of classes.is_alpha w ≡ true → is_handle (33 ∷ (w ++ 33 ∷ [])) ≡ true
+handle_of [] h = refl
+handle_of (c ∷ w) h = (marked c w h).1
+
+-- what stands at a line's end is another character
+pub not_at_end : (k : ℕ) → (0 == k) ≡ false → (10 == k) ≡ false → (13 == k) ≡ false → (n : List ℕ) → ends_line n ≡ true → (slice_index n 0 == k) ≡ false
+not_at_end k nul lf cr [] h = nul
+not_at_end k nul lf cr (c ∷ n) h = none_at_end (λ d. d == k) lf cr (c ∷ n) h
+
+no_second_mark : (w s : List ℕ) → begins_with_mark s ≡ false → name_and_mark (33 ∷ []) w s ≡ (33 ∷ w, s)
+no_second_mark w [] h = refl
+no_second_mark w (d ∷ s) h = rw h refl
+
+bare_place : (p : Place) → further 0 (past p) ≡ further 1 p
+bare_place p = let i : (p.index + 1) + 0 ≡ p.index + 1 = omega arith in let j : (p.col + 1) + 0 ≡ p.col + 1 = omega arith in rw (i, j) refl
+
+marked_place : (p : Place) (k m : ℕ) → m ≡ k + 1 → past (further k (past p)) ≡ further (suc m) p
+marked_place p k m e =
+    let i : (p.index + 1) + k + 1 ≡ p.index + suc m = omega (arith, e) in
+    let j : (p.col + 1) + k + 1 ≡ p.col + suc m = omega (arith, e) in
+    rw (i, j) refl
+
+module _ (start p : Place) (r n : List ℕ) (ends : ends_line n ≡ true) where
+  -- behind a name a second mark stands
+  with_mark : (w s : List ℕ) → leading classes.is_alpha r ≡ w → behind classes.is_alpha r ≡ 33 ∷ s → r ≡ w ++ 33 ∷ s → all_of classes.is_alpha w ≡ true
+      → HandleSees start p (33 ∷ r) n (Ok (record { rest = s ++ n; place = past (further (length w) (past p)); value = (33 ∷ w) ++ 33 ∷ [] }))
+  with_mark w s lead rest cut all =
+      found (rw (lead, rest) (handle_of w all)) (rw (lead, rest) (ap (λ k. 33 ∷ k) (cut ∙ sym (append_assoc w (33 ∷ []) s))))
+      (rw (lead, rest) (ap (λ q. Ok (record { rest = s ++ n; place = q; value = 33 ∷ (w ++ 33 ∷ []) })) (marked_place p (length w) (length (w ++ 33 ∷ [])) (length-append w (33 ∷ [])))))
+
+  -- none stands there
+  without_mark : (w s : List ℕ) → leading classes.is_alpha r ≡ w → behind classes.is_alpha r ≡ s → r ≡ w ++ s → all_of classes.is_alpha w ≡ true → begins_with_mark s ≡ false
+      → HandleSees start p (33 ∷ r) n (if is_same w [] then Ok (record { rest = s ++ n; place = further (length w) (past p); value = 33 ∷ w }) else Err (At problem.TagDirectiveHandle start))
+  without_mark [] s lead rest cut all none =
+      let is : handle_and_rest (33 ∷ r) ≡ (33 ∷ [], s) = rw (lead, rest) (no_second_mark [] s none) in
+      found (rw is refl) (rw is (ap (λ k. 33 ∷ k) cut)) (rw is (ap (λ q. Ok (record { rest = s ++ n; place = q; value = 33 ∷ [] })) (bare_place p)))
+  without_mark (c ∷ w) s lead rest cut all none =
+      let is : handle_and_rest (33 ∷ r) ≡ (33 ∷ c ∷ w, s) = rw (lead, rest) (no_second_mark (c ∷ w) s none) in
+      open_name c w r refl lead (ap begins_with_mark rest ∙ none) (rw is ((marked c w all).0)) refl
+
+  behind_name : (w s : List ℕ) → leading classes.is_alpha r ≡ w → behind classes.is_alpha r ≡ s → r ≡ w ++ s → all_of classes.is_alpha w ≡ true
+      → HandleSees start p (33 ∷ r) n (handle_end start (is_same w []) (33 ∷ w) (s ++ n) (further (length w) (past p)))
+  behind_name w [] lead rest cut all = let none = not_at_end 33 refl refl refl n ends in rw none (without_mark w [] lead rest cut all refl)
+  behind_name w (d ∷ s) lead rest cut all = by (d == 33) refl
+    where
+      by : (b : Bool) → (d == 33) ≡ b → HandleSees start p (33 ∷ r) n (handle_end start (is_same w []) (33 ∷ w) ((d ∷ s) ++ n) (further (length w) (past p)))
+      by true e = let same : d ≡ 33 = eqb-true d 33 e in rw same (with_mark w s lead (rest ∙ ap (λ k. k ∷ s) same) (cut ∙ ap (λ k. w ++ k ∷ s) same) all)
+      by false e = rw e (without_mark w (d ∷ s) lead rest cut all e)
+
+  marked_handle : HandleSees start p (33 ∷ r) n (handle start (33 ∷ (r ++ n)) p)
+  unfolding handle classes.is_alpha classes.is_decimal_digit classes.is_letter
+  marked_handle =
+      let q = before_end classes.is_alpha r n (none_at_end classes.is_alpha refl refl n ends) in
+      rw (spells_name [] r n refl ends, word (r ++ n) (past p) (33 ∷ []), q.0, q.1)
+      (behind_name (leading classes.is_alpha r) (behind classes.is_alpha r) refl refl (span_cut classes.is_alpha r) (all_leading classes.is_alpha r))
+
+pub handle_sees : (start p : Place) (t n : List ℕ) → ends_line n ≡ true → HandleSees start p t n (handle start (t ++ n) p)
+unfolding handle
+handle_sees start p [] n h = let none = not_at_end 33 refl refl refl n h in no_mark refl refl (rw none refl)
+handle_sees start p (c ∷ r) n h = by (c == 33) refl
+  where
+    by : (b : Bool) → (c == 33) ≡ b → HandleSees start p (c ∷ r) n (handle start ((c ∷ r) ++ n) p)
+    by true e = let same : c ≡ 33 = eqb-true c 33 e in rw same (marked_handle start p r n h)
+    by false e = no_mark e (rw e refl) (rw e refl)

@@ -1,0 +1,41 @@
+-- Plain scalars as texts: what the laws say of some.
+use Rattle.std.proofs.Common.{[], true, false, codes, refl}
+use Rattle.defs_text.specs.Position.{Place}
+use Rattle.yaml_tokens.specs.declared.problem.Problem.TheVariants as problem
+use Rattle.yaml_tokens.specs.declared.problem.Fault.TheVariants.{At}
+use Rattle.defs_text.specs.Classes.{is_blank, is_break, is_nul, is_blank_or_end, is_flow, are_marks}
+use Rattle.defs_scalar.specs.FlowScalar.{plain_element, begins_with_marker, plain_value}
+use Rattle.model_lexers.specs.declared.context.Context.{Context}
+use Rattle.model_lexers.specs.Plain.{plain}
+use Rattle.proof_lexers.specs.PlainEnds.{IsRead, IsRefusal, by_dash, by_tab}
+use Rattle.proof_lexers.proofs.Plain.Scalars.{scalars_read}
+
+-- as the value of a key in column 0
+abbrev block : Context
+block = record { flow = false; indent = 1 }
+
+abbrev flow : Context
+flow = record { flow = true; indent = 1 }
+
+abbrev here : Place
+here = record { index = 3; line = 1; col = 3 }
+
+-- lines that are folded, up to a line that is no deeper
+lines : IsRead block here (codes "a b\n\n  c") (codes " \nk: v") (codes "a b\nc") (plain block (codes "a b\n\n  c \nk: v") here)
+unfolding is_blank is_break is_nul is_blank_or_end is_flow are_marks plain_element begins_with_marker plain_value
+lines = scalars_read block (codes "a b\n\n  c") (codes " \nk: v") (codes "a b\nc") here refl refl refl refl refl
+
+-- up to a colon before a comma
+before_comma : IsRead flow here (codes "a:b") (codes ":,") (codes "a:b") (plain flow (codes "a:b:,") here)
+unfolding is_blank is_break is_nul is_blank_or_end is_flow are_marks plain_element begins_with_marker plain_value
+before_comma = scalars_read flow (codes "a:b") (codes ":,") (codes "a:b") here refl refl refl refl refl
+
+-- a dash before a comma, behind a blank
+dashed : IsRefusal flow here (codes "a -,") (At problem.PlainDashInFlow (record { index = 5; line = 1; col = 5 }))
+unfolding is_blank is_break is_nul is_blank_or_end is_flow
+dashed = by_dash (codes "a ") (codes ",") refl refl refl refl refl
+
+-- a TAB at the start of a line of it
+tabbed : IsRefusal block here (codes "a\n\tb") (At problem.PlainTab here)
+unfolding is_blank is_break is_nul is_blank_or_end is_flow are_marks
+tabbed = by_tab (codes "a\n") [] (codes "b") 0 refl refl refl refl refl refl

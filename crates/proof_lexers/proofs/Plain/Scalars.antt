@@ -1,0 +1,189 @@
+-- Plain scalars are read as their values, and no other text is.
+use Rattle.std.proofs.Common.{◌≡◌, ℕ, suc, ◌+◌, List, [], ◌∷◌, ◌++◌, Bool, true, false, ◌||◌, ◌&&◌, not, Option, Some, Result, refl, ap, sym, ◌∙◌, arith, nat_lt, nat_le}
+use Rattle.std.proofs.lemmas.Bool.{and_parts}
+use Rattle.std.proofs.lemmas.Bool.Decides.{nat_tests}
+use Rattle.defs_text.specs.Position.{Place}
+use Rattle.yaml_tokens.specs.declared.problem.Fault.{Fault}
+use Rattle.yaml_tokens.specs.declared.problem.Fault.TheVariants.{At}
+use Rattle.yaml_tokens.specs.declared.problem.Problem.TheVariants as problem
+use Rattle.defs_text.specs.Classes.{is_blank, is_break}
+use Rattle.defs_scalar.specs.FlowScalar.{has_document_marker, plain_value}
+use Rattle.defs_token.specs.Text.{place_behind}
+use Rattle.defs_token.specs.Plain.{Stand, past, begins_flow, ends_plain, goes_on, stops, ends_with_content, is_whole_plain}
+use Rattle.defs_token.specs.Plain as defs
+use Rattle.model_lexers.specs.declared.context.Context.{Context}
+use Rattle.model_lexers.specs.Machine as machine
+use Rattle.model_lexers.specs.Machine.{Read}
+use Rattle.model_lexers.specs.Folding.{Folded, nothing, with_char, joined}
+use Rattle.model_lexers.specs.Plain.{inside, first, is_shallow, at_dash, plain_from, plain, starts, Plain}
+use Rattle.proof_lexers.specs.PlainEnds.{has_no_nul, collection_of, is_white, begins_solid, is_indented, IsRefusal, by_column, by_dash, by_tab, EndsAs, reads, refuses, IsRead, read, refused}
+use Rattle.proof_lexers.specs.ScalarLaws.{PlainScalarsAreRead, PlainScansEndAsTheirTextSays}
+use Rattle.proof_lexers.proofs.Plain.Found.{behind_text, behind_more, Fails, dash, tab, behind_tab, Found, found, fails, same_left, no_lead, content_char, solid_first, past_content}
+use Rattle.proof_lexers.proofs.Plain.Turns.{off_margin, in_line_place, in_line, dash_parts}
+use Rattle.proof_lexers.proofs.Plain.Scans.{scans}
+use Rattle.proof_lexers.proofs.Plain.Values.{no_markers, value_is}
+
+not_true : (b : Bool) → not b ≡ true → b ≡ false
+not_true true h = cc
+not_true false h = refl
+
+solid_parts : (c : ℕ) → is_white c ≡ false → (is_blank c ≡ false) × (is_break c ≡ false)
+solid_parts c h = by (is_blank c) (is_break c) refl refl h
+  where
+    by : (b d : Bool) → is_blank c ≡ b → is_break c ≡ d → (b || d) ≡ false → (is_blank c ≡ false) × (is_break c ≡ false)
+    by true d e f h = cc
+    by false true e f h = cc
+    by false false e f h = (e, f)
+
+deep : (ctx : Context) (p : Place) → is_indented ctx p ≡ true → is_shallow ctx (p.col + 1) ≡ false
+unfolding is_shallow
+deep ctx p h = by ctx.flow h
+  where
+    by : (flow : Bool) → (flow || nat_le ctx.indent (suc p.col)) ≡ true → (not flow && nat_lt (p.col + 1) ctx.indent) ≡ false
+    by true h = refl
+    by false h = grind (arith, nat_tests)
+
+-- ---- each text
+
+module _ (ctx : Context) (start : Place) (c : ℕ) (a : List ℕ) (white : is_white c ≡ false) where
+  blank : is_blank c ≡ false
+  blank = (solid_parts c white).0
+
+  break : is_break c ≡ false
+  break = (solid_parts c white).1
+
+  abbrev read_first : Folded
+  read_first = with_char c (joined nothing)
+
+  no_marker : (more next : List ℕ) → goes_on ctx.flow (collection_of ctx.indent) defs.inside more next ≡ true → has_document_marker (c ∷ more) ≡ false
+  no_marker more next h = rw (break, no_markers ctx.flow (collection_of ctx.indent) defs.inside more next h) refl
+
+  place_is : (more gap rest : List ℕ) → place_behind (machine.past start) (more ++ gap) rest ≡ place_behind start (c ∷ (more ++ gap)) rest
+  place_is more gap rest = ap (λ q. place_behind q (more ++ gap) rest) (sym (in_line_place c ((more ++ gap) ++ rest) start (rw break refl)))
+
+  dash_place : (before rest : List ℕ) → place_behind (machine.past start) before (45 ∷ rest) ≡ place_behind start (c ∷ before) (45 ∷ rest)
+  dash_place before rest = ap (λ q. place_behind q before (45 ∷ rest)) (sym (in_line_place c (before ++ 45 ∷ rest) start (rw break refl)))
+
+  refusal : (f : Fault) → Fails ctx start false defs.inside (machine.past start) a f → IsRefusal ctx start (c ∷ a) f
+  refusal f (dash before rest flow cut begins goes apart) =
+      rw (dash_place before rest) (by_dash (c ∷ before) rest flow (ap (λ r. c ∷ r) cut) begins goes (rw (past_content ctx start c defs.behind_blank break blank) apart))
+  refusal f (tab before blanks rest column cut goes line less are solid) =
+      by_tab (c ∷ before) blanks rest column (ap (λ r. c ∷ r) cut) goes (rw (past_content ctx start c defs.behind_blank break blank) line) less are solid
+  refusal f (behind_tab blanks rest no_tab cut are solid) = cc
+
+  ended : (x : Result (Read Plain) Fault) → Found ctx start false defs.inside (machine.past start) read_first a x → EndsAs ctx start (c ∷ a) x
+  ended x (found more gap rest cut goes solid stop gaps ends is) =
+      let content = solid_first ctx start c more white solid in
+      let stopping : stops ctx.flow (collection_of ctx.indent) defs.inside (gap ++ rest) ≡ true = inside_too more stop in
+      reads (c ∷ more) gap rest _ (ap (λ r. c ∷ r) cut) (rw (goes, content, stopping) refl) gaps ends (value_is c more (no_marker more (gap ++ rest) goes) content)
+      (is ∙ same_left ctx start rest _ _ _ _ _ _ (place_is more gap rest) (ap (λ u. (behind_text more u).text) (content_char ctx start c more nothing break blank)) (no_lead ctx start c more gap nothing))
+    where
+      inside_too : (more : List ℕ) → stops ctx.flow (collection_of ctx.indent) (behind_more defs.inside more) (gap ++ rest) ≡ true → stops ctx.flow (collection_of ctx.indent) defs.inside (gap ++ rest) ≡ true
+      inside_too [] h = h
+      inside_too (d ∷ more) h = h
+  ended x (fails f why is) = refuses f (refusal f why) is
+
+  begun : has_no_nul a ≡ true → is_indented ctx start ≡ true → EndsAs ctx start (c ∷ a) (plain_from ctx start (c ∷ a) (record { mode = first; place = start; folded = nothing }))
+  begun full indented = ended _ (scans ctx start a full inside defs.inside (machine.past start) read_first (in_line (c ∷ []) refl (off_margin start.col) (deep ctx start indented)))
+
+  started : (column at : Bool) → (ctx.flow && nat_lt start.col ctx.indent) ≡ column → at_dash ctx.flow (c ∷ a) ≡ at → has_no_nul a ≡ true → is_indented ctx start ≡ true → EndsAs ctx start (c ∷ a) (plain ctx (c ∷ a) start)
+  unfolding plain starts
+  started true at e f full indented = let q = and_parts ctx.flow (nat_lt start.col ctx.indent) e in refuses (At problem.FlowIndentation start) (by_column q.0 q.1) (rw e refl)
+  started false true e f full indented =
+      let q = dash_parts ctx start ctx.flow c a f in
+      refuses (At problem.PlainDashInFlow start) (by_dash [] a q.0 (ap (λ d. d ∷ a) q.1) q.2 refl refl) (rw (e, f) refl)
+  started false false e f full indented = rw (e, f) (begun full indented)
+
+pub scans_end : PlainScansEndAsTheirTextSays
+scans_end ctx [] p full solid indented = cc
+scans_end ctx (c ∷ a) p full solid indented =
+    started ctx p c a (not_true (is_white c) solid) (ctx.flow && nat_lt p.col ctx.indent) (at_dash ctx.flow (c ∷ a)) refl refl ((and_parts _ (has_no_nul a) full).1) indented
+
+-- ---- a text begins with the whole of one plain scalar alone
+
+module _ (flow : Bool) (collection : Option ℕ) where
+  further_on : (s : Stand) (d : ℕ) (q next : List ℕ) → goes_on flow collection s (d ∷ q) next ≡ true → ((is_white d || not (ends_plain flow collection s (d ∷ (q ++ next)))) ≡ true) × (goes_on flow collection (past s d) q next ≡ true)
+  further_on s d q next goes = and_parts (is_white d || not (ends_plain flow collection s (d ∷ (q ++ next)))) (goes_on flow collection (past s d) q next) goes
+
+  stop_or_go : (s : Stand) (d : ℕ) (q next : List ℕ) → is_white d ≡ false → stops flow collection s (d ∷ (q ++ next)) ≡ true → goes_on flow collection s (d ∷ q) next ≡ true → ⊥
+  stop_or_go s d q next e stop goes =
+      let ends : ends_plain flow collection s (d ∷ (q ++ next)) ≡ true = rw e at stop in
+      let here = (further_on s d q next goes).0 in
+      let no_way : false ≡ true = rw (e, ends) at here in
+      cc
+
+  content_solid : (d : ℕ) → ends_with_content d [] ≡ true → is_white d ≡ false
+  content_solid d h = let q = and_parts (not (is_blank d)) (not (is_break d)) h in rw (not_true (is_blank d) q.0, not_true (is_break d) q.1) refl
+
+  behind_content : (s : Stand) (c : ℕ) → ends_with_content c [] ≡ true → past s c ≡ defs.inside
+  behind_content s c h = let q = and_parts (not (is_blank c)) (not (is_break c)) h in rw (not_true (is_blank c) q.0, not_true (is_break c) q.1) refl
+
+  no_more : (s : Stand) (d : ℕ) (q next : List ℕ) → stops flow collection s (d ∷ (q ++ next)) ≡ true → goes_on flow collection s (d ∷ q) next ≡ true → ends_with_content d q ≡ true → ⊥
+  no_more s d [] next stop goes content = stop_or_go s d [] next (content_solid d content) stop goes
+  no_more s d (e ∷ q) next stop goes content = by (is_white d) refl (λ h. no_more (past s d) e q next h (further_on s d (e ∷ q) next goes).1 content) stop
+    where
+      by : (white : Bool) → is_white d ≡ white → (stops flow collection (past s d) (e ∷ (q ++ next)) ≡ true → ⊥) → stops flow collection s (d ∷ e ∷ (q ++ next)) ≡ true → ⊥
+      by true f others h = others (rw f at h)
+      by false f others h = stop_or_go s d (e ∷ q) next f h goes
+
+  one : (s : Stand) (c : ℕ) (r u next after : List ℕ) → r ++ next ≡ u ++ after → goes_on flow collection (past s c) r next ≡ true → goes_on flow collection (past s c) u after ≡ true → ends_with_content c r ≡ true → ends_with_content c u ≡ true
+      → stops flow collection defs.inside next ≡ true → stops flow collection defs.inside after ≡ true → (r ≡ u) × (next ≡ after)
+  one s c [] [] next after cut goes goes' content content' stop stop' = (refl, cut)
+  one s c [] (d ∷ u) next after cut goes goes' content content' stop stop' =
+      absurd (no_more defs.inside d u after (rw cut at stop) (rw (behind_content s c content) at goes') content')
+  one s c (d ∷ r) [] next after cut goes goes' content content' stop stop' =
+      absurd (no_more defs.inside d r next (rw (sym cut) at stop') (rw (behind_content s c content') at goes) content)
+  one s c (d ∷ r) (e ∷ u) next after cut goes goes' content content' stop stop' =
+      let same : e ≡ d = cc in
+      let tail : r ++ next ≡ u ++ after = cc in
+      let q = (further_on (past s c) d r next goes).1 in
+      let v = (further_on (past s c) e u after goes').1 in
+      let here : goes_on flow collection (past (past s c) d) u after ≡ true = rw same at v in
+      let last : ends_with_content d u ≡ true = rw same at content' in
+      let z = one (past s c) d r u next after tail q here content last stop stop' in
+      (rw (same, z.0) refl, z.1)
+
+record Whole (flow : Bool) (collection : Option ℕ) (c : ℕ) (r next : List ℕ) : Type 0 where
+  goes : goes_on flow collection defs.inside r next ≡ true
+  content : ends_with_content c r ≡ true
+  stop : stops flow collection defs.inside next ≡ true
+
+whole : (flow : Bool) (collection : Option ℕ) (c : ℕ) (r next : List ℕ) → is_whole_plain flow collection (c ∷ r) next ≡ true → Whole flow collection c r next
+whole flow collection c r next h =
+    let q = and_parts (goes_on flow collection defs.inside r next && ends_with_content c r) (stops flow collection defs.inside next) h in
+    let z = and_parts (goes_on flow collection defs.inside r next) (ends_with_content c r) q.0 in
+    record { goes = z.0; content = z.1; stop = q.1 }
+
+behind_solid : (c : ℕ) → is_white c ≡ false → past defs.inside c ≡ defs.inside
+behind_solid c h = let q = solid_parts c h in rw (q.0, q.1) refl
+
+-- the only piece
+pub same_piece : (flow : Bool) (collection : Option ℕ) (piece u next after : List ℕ) → begins_solid piece ≡ true → piece ++ next ≡ u ++ after → is_whole_plain flow collection piece next ≡ true → is_whole_plain flow collection u after ≡ true
+    → (piece ≡ u) × (next ≡ after)
+same_piece flow collection [] u next after solid cut h k = cc
+same_piece flow collection (c ∷ r) [] next after solid cut h k = cc
+same_piece flow collection (c ∷ r) (d ∷ u) next after solid cut h k =
+    let same : d ≡ c = cc in
+    let tail : r ++ next ≡ u ++ after = cc in
+    let here : is_whole_plain flow collection (c ∷ u) after ≡ true = rw same at k in
+    let w = whole flow collection c r next h in
+    let v = whole flow collection c u after here in
+    let still = behind_solid c (not_true (is_white c) solid) in
+    let z = one flow collection defs.inside c r u next after tail (rw still w.goes) (rw still v.goes) w.content v.content w.stop v.stop in
+    (rw (same, z.0) refl, z.1)
+
+from_end : (ctx : Context) (piece next value : List ℕ) (p : Place) (x : Result (Read Plain) Fault) → begins_solid piece ≡ true → is_whole_plain ctx.flow (collection_of ctx.indent) piece next ≡ true → plain_value piece ≡ Some value
+    → EndsAs ctx p (piece ++ next) x → IsRead ctx p piece next value x
+from_end ctx piece next value p x solid whole is (reads u gap rest text cut full gaps ends has e) =
+    let z = same_piece ctx.flow (collection_of ctx.indent) piece u next (gap ++ rest) solid cut whole full in
+    let same : Some text ≡ Some value = sym has ∙ ap plain_value (sym z.0) ∙ is in
+    let value_is : text ≡ value = cc in
+    read gap rest z.1 gaps ends (e ∙ rw (sym z.0, value_is) refl)
+from_end ctx piece next value p x solid whole is (refuses f why e) = refused f why e
+
+pub scalars_read : PlainScalarsAreRead
+scalars_read ctx piece next value p full solid indented whole is = from_end ctx piece next value p _ solid whole is (scans_end ctx (piece ++ next) p full (begins piece solid) indented)
+  where
+    begins : (piece : List ℕ) → begins_solid piece ≡ true → begins_solid (piece ++ next) ≡ true
+    begins [] h = cc
+    begins (c ∷ r) h = h

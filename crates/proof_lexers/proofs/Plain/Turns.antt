@@ -1,0 +1,292 @@
+-- What the model does at each character of a plain scalar, in the definitions' words.
+use Rattle.std.proofs.Common.{◌≡◌, ℕ, zero, suc, ◌+◌, List, [], ◌∷◌, ◌++◌, Bool, true, false, ◌||◌, ◌&&◌, not, ◌==◌, if◌then◌else◌, Result, Ok, Err, refl, ap, sym, ◌∙◌, arith, nat_lt, slice_index}
+use Rattle.std.proofs.lemmas.Bool.{and_parts, eqb-true}
+use Rattle.std.proofs.lemmas.Bool.Decides.{nat_tests}
+use Rattle.defs_text.specs.Position.{Place}
+use Rattle.yaml_chars.specs.Class.{is_break, is_blank, is_blank_or_breakz, is_flow}
+use Rattle.yaml_tokens.specs.declared.problem.Fault.{Fault}
+use Rattle.yaml_tokens.specs.declared.problem.Fault.TheVariants.{At}
+use Rattle.yaml_tokens.specs.declared.problem.Problem.TheVariants as problem
+use Rattle.defs_text.specs.Classes as classes
+use Rattle.defs_text.specs.Classes.{is_document_marker}
+use Rattle.defs_text.specs.Breaks.{is_before_line_feed}
+use Rattle.defs_token.specs.Text.{place_past}
+use Rattle.defs_token.specs.Filler.{is_blanks}
+use Rattle.defs_token.specs.Plain.{Stand, on_line, behind_blank, begins_flow, is_value_indicator, ends_at_colon, ends_at_comment, is_deeper, ends_at_line, ends_plain, stops}
+use Rattle.defs_token.specs.Plain as defs
+use Rattle.model_lexers.specs.declared.context.Context.{Context}
+use Rattle.model_lexers.specs.Machine.{Read, past, past_break, is_cr_lf, at_marker}
+use Rattle.model_lexers.specs.Folding.{Folded, with_char, with_blank, with_break, joined}
+use Rattle.model_lexers.specs.Plain.{Mode, inside, between, tabs, at_break, can_be_plain, is_shallow, at_dash, at_plain, goes_on, plain_from, Plain}
+use Rattle.proof_lexers.proofs.Bridges.{both, same_break, same_blank, same_gap, same_flow, same_marker}
+use Rattle.proof_lexers.specs.PlainEnds.{collection_of, is_white, begins_white, begins_solid}
+use Rattle.proof_lexers.proofs.Plain.Found.{behind_char, Fails, Found, found, found_on, further, after_gap, after_content}
+
+pub or_true : (b : Bool) → (b || true) ≡ true
+or_true true = refl
+or_true false = refl
+
+pub or_false : (b : Bool) → (b || false) ≡ b
+or_false true = refl
+or_false false = refl
+
+and_false : (b : Bool) → (b && false) ≡ false
+and_false true = refl
+and_false false = refl
+
+-- ---- what the tests of both say
+
+colon_is_no_flow : (flow : Bool) → (flow && classes.is_flow 58) ≡ false
+unfolding classes.is_flow
+colon_is_no_flow true = refl
+colon_is_no_flow false = refl
+
+end_is_a_gap : is_blank_or_breakz 0 ≡ true
+unfolding is_blank is_break
+end_is_a_gap = refl
+
+colon_by : (flow : Bool) (a : List ℕ) → not (is_blank_or_breakz (slice_index a 0) || (flow && is_flow (slice_index a 0))) ≡ not (is_value_indicator flow false a)
+colon_by flow [] = rw end_is_a_gap refl
+colon_by flow (d ∷ a) = rw (same_gap d, same_flow d, or_false (is_flow d)) refl
+
+pub can_be : (flow : Bool) (c : ℕ) (a : List ℕ) → can_be_plain flow c (slice_index a 0) ≡ not (ends_at_colon flow (c ∷ a) || (flow && classes.is_flow c))
+unfolding can_be_plain
+can_be flow c a = by (c == 58) refl
+  where
+    by : (colon : Bool) → (c == 58) ≡ colon
+        → (if colon then not (is_blank_or_breakz (slice_index a 0) || (flow && is_flow (slice_index a 0))) else not (flow && is_flow c)) ≡ not ((colon && is_value_indicator flow false a) || (flow && classes.is_flow c))
+    by true e = let same : c ≡ 58 = eqb-true c 58 e in rw (same, colon_is_no_flow flow, or_false) (colon_by flow a)
+    by false e = rw (same_flow c) refl
+
+solid_plain : (flow : Bool) (c : ℕ) (a : List ℕ) → is_white c ≡ false → (c == 0) ≡ false → at_plain flow (c ∷ a) ≡ not (ends_at_colon flow (c ∷ a) || (flow && classes.is_flow c))
+unfolding at_plain
+solid_plain flow c a white nul = rw (solid, can_be flow c a) refl
+  where
+    solid : is_blank_or_breakz c ≡ false
+    solid = by (is_blank c) (is_break c) (rw (same_blank c, same_break c) at white)
+      where
+        by : (b d : Bool) → (b || d) ≡ false → (b || (d || (c == 0))) ≡ false
+        by true d h = cc
+        by false true h = cc
+        by false false h = nul
+
+shallow_by : (indent column : ℕ) → not (is_deeper (collection_of indent) column) ≡ nat_lt column indent
+shallow_by zero column = grind (arith, nat_tests)
+shallow_by (suc n) column = both _ _ (λ h. grind (arith, nat_tests)) (λ h. grind (arith, nat_tests))
+
+pub line_is : (ctx : Context) (c column : ℕ) (a : List ℕ) → ends_at_line ctx.flow (collection_of ctx.indent) (on_line column) (c ∷ a) ≡ (at_marker column (c ∷ a) || is_shallow ctx column)
+unfolding is_shallow
+line_is ctx c column a = rw (same_marker column (c ∷ a), shallow_by ctx.indent column) refl
+
+pub no_line : (ctx : Context) (c : ℕ) (a : List ℕ) (p : Place) → (p.col == 0) ≡ false → is_shallow ctx p.col ≡ false → false ≡ (at_marker p.col (c ∷ a) || is_shallow ctx p.col)
+no_line ctx c a p e f = rw (same_marker p.col (c ∷ a), e, f) refl
+
+pub same_feed : (c : ℕ) (a : List ℕ) → is_cr_lf c a ≡ is_before_line_feed c a
+same_feed c [] = and_false (c == 13)
+same_feed c (d ∷ a) = refl
+
+pub not_nul : (c : ℕ) → (c == 0) ≡ false → classes.is_nul c ≡ false
+unfolding classes.is_nul
+not_nul c h = h
+
+pub by_line_true : (f g h k : Bool) → ((((f || g) || h) || true) || k) ≡ true
+by_line_true f g h k = rw (or_true ((f || g) || h)) refl
+
+-- ---- places
+
+pub in_line_place : (c : ℕ) (a : List ℕ) (p : Place) → (classes.is_break c && not (is_before_line_feed c a)) ≡ false → place_past p c a ≡ past p
+in_line_place c a p e = let i : suc p.index ≡ p.index + 1 = omega arith in let j : suc p.col ≡ p.col + 1 = omega arith in rw (e, i, j) refl
+
+pub line_place : (c : ℕ) (a : List ℕ) (p : Place) → (classes.is_break c && not (is_before_line_feed c a)) ≡ true → place_past p c a ≡ past_break p
+line_place c a p e = let i : suc p.index ≡ p.index + 1 = omega arith in let j : suc p.line ≡ p.line + 1 = omega arith in rw (e, i, j) refl
+
+pub off_margin : (n : ℕ) → (n + 1 == 0) ≡ false
+off_margin n = grind (arith, nat_tests)
+
+pub as_deep : (ctx : Context) (n : ℕ) → is_shallow ctx n ≡ false → is_shallow ctx (n + 1) ≡ false
+unfolding is_shallow
+as_deep ctx n h = by ctx.flow h
+  where
+    by : (flow : Bool) → (not flow && nat_lt n ctx.indent) ≡ false → (not flow && nat_lt (n + 1) ctx.indent) ≡ false
+    by true h = refl
+    by false h = grind (arith, nat_tests)
+
+-- whether content behind a TAB is refused
+abbrev pub is_tabs : Mode → Bool
+is_tabs tabs = true
+is_tabs _ = false
+
+-- within a line, no gap before the next character
+abbrev pub in_text : List ℕ → Folded
+in_text text = record { text = text; gap = []; leading = false; escaped = false }
+
+module _ (ctx : Context) (start : Place) where
+  abbrev pub scan : List ℕ → Mode → Place → Folded → Result (Read Plain) Fault
+  scan a m p t = plain_from ctx start a (record { mode = m; place = p; folded = t })
+
+  -- Where a scan stands before a text: within a line; behind blanks in it; behind a break; behind a TAB at a line's start; or between CR and LF.
+  pub data Stands (a : List ℕ) (p : Place) (t : Folded) : Mode → Stand → Type 0 where
+    in_line : (text : List ℕ) → t ≡ in_text text → (p.col == 0) ≡ false → is_shallow ctx p.col ≡ false → Stands a p t inside defs.inside
+    behind_blanks : t.leading ≡ false → (p.col == 0) ≡ false → is_shallow ctx p.col ≡ false → Stands a p t between behind_blank
+    at_line : (column : ℕ) → column ≡ p.col → t.leading ≡ true → Stands a p t between (on_line column)
+    at_tabs : (column : ℕ) → t.leading ≡ true → Stands a p t tabs (on_line column)
+    at_feed : (column : ℕ) (b : List ℕ) → a ≡ 10 ∷ b → Stands a p t between (on_line column)
+
+  -- from each such place a scan finds the scalar's end, or is refused
+  abbrev pub Scans : List ℕ → Type 0
+  Scans a = (m : Mode) (s : Stand) (p : Place) (t : Folded) → Stands a p t m s → Found ctx start (is_tabs m) s p t a (scan a m p t)
+
+  found_at : (u : Bool) (s n : Stand) (p q : Place) (t v : Folded) (a : List ℕ) (x : Result (Read Plain) Fault) → s ≡ n → p ≡ q → t ≡ v → Found ctx start u n q v a x → Found ctx start u s p t a x
+  found_at u s n p q t v a x e f g z = rw (e, f, g) z
+
+  pub found_here : (u : Bool) (s : Stand) (p : Place) (t : Folded) (a : List ℕ) (x : Result (Read Plain) Fault) → stops ctx.flow (collection_of ctx.indent) s a ≡ true → begins_white a ≡ false
+      → x ≡ Ok (record { rest = a; place = p; value = record { text = t.text; leading = t.leading } }) → Found ctx start u s p t a x
+  found_here u s p t a x e ends is = found [] [] a refl refl refl e refl ends (is ∙ ap (λ b. Ok (record { rest = a; place = p; value = record { text = t.text; leading = b } })) (sym (or_false t.leading)))
+
+  -- ---- breaks
+
+  broken_leads : (t : Folded) → (with_break t).leading ≡ true
+  broken_leads t = by t.leading refl
+    where
+      by : (b : Bool) → t.leading ≡ b → (if b then record t { gap = t.gap ++ 10 ∷ [] } else record t { gap = []; leading = true }).leading ≡ true
+      by true e = e
+      by false e = refl
+
+  pub break_step : (c : ℕ) (a : List ℕ) (u : Bool) (m : Mode) (s : Stand) (p : Place) (t : Folded) (x : Result (Read Plain) Fault) → is_break c ≡ true → Scans a
+      → x ≡ plain_from ctx start a (at_break c a (record { mode = m; place = p; folded = t })) → Found ctx start u s p t (c ∷ a) x
+  break_step c a u m s p t x e ih is = by (is_cr_lf c a) refl is
+    where
+      breaks : classes.is_break c ≡ true
+      breaks = same_break c ∙ e
+
+      white : is_white c ≡ true
+      white = rw breaks (or_true (classes.is_blank c))
+
+      feeds : (b : List ℕ) → is_cr_lf c b ≡ true → (d : List ℕ) × (b ≡ 10 ∷ d)
+      feeds [] h = let no : false ≡ true = sym (and_false (c == 13)) ∙ h in cc
+      feeds (d ∷ b) h = let q = and_parts (c == 13) (d == 10) h in (b, ap (λ k. k ∷ b) (eqb-true d 10 q.1))
+
+      grow : (f : Fault) → Fails ctx start false (defs.past s c) (place_past p c a) a f → Fails ctx start u s p (c ∷ a) f
+      grow f why = further ctx start c a u false s (defs.past s c) p f refl (rw white refl) (λ b r k. cc) why
+
+      by : (feed : Bool) → is_cr_lf c a ≡ feed → x ≡ plain_from ctx start a (if feed then record { mode = between; place = past p; folded = t } else record { mode = between; place = past_break p; folded = with_break t })
+          → Found ctx start u s p t (c ∷ a) x
+      by true f k =
+          let z = feeds a f in
+          let g : is_before_line_feed c a ≡ true = sym (same_feed c a) ∙ f in
+          let here : classes.is_break c && not (is_before_line_feed c a) ≡ false = rw g (and_false (classes.is_break c)) in
+          found_on ctx start u s p t (c ∷ a) x _ k
+          (after_gap ctx start c a u false s p t _ white grow
+          (found_at false (defs.past s c) (on_line 0) (place_past p c a) (past p) (behind_char c a t) t a _ (rw breaks refl) (in_line_place c a p here) (rw (breaks, g) refl)
+          (ih between (on_line 0) (past p) t (at_feed 0 z.0 z.1))))
+      by false f k =
+          let g : is_before_line_feed c a ≡ false = sym (same_feed c a) ∙ f in
+          found_on ctx start u s p t (c ∷ a) x _ k
+          (after_gap ctx start c a u false s p t _ white grow
+          (found_at false (defs.past s c) (on_line 0) (place_past p c a) (past_break p) (behind_char c a t) (with_break t) a _ (rw breaks refl) (line_place c a p (rw (breaks, g) refl)) (rw (breaks, g) refl)
+          (ih between (on_line 0) (past_break p) (with_break t) (at_line 0 refl (broken_leads t)))))
+
+  -- ---- blanks
+
+  blank_white : (c : ℕ) → is_blank c ≡ true → is_white c ≡ true
+  blank_white c e = rw (same_blank c, e) refl
+
+  pub blank_step : (c : ℕ) (a : List ℕ) (u : Bool) (m n : Mode) (s next : Stand) (p : Place) (t : Folded) (x : Result (Read Plain) Fault) → is_break c ≡ false → is_blank c ≡ true → defs.past_blank s ≡ next
+      → ((blanks rest : List ℕ) → is_tabs n ≡ true → a ≡ blanks ++ rest → is_blanks blanks ≡ true → begins_solid rest ≡ true → Fails ctx start u s p (c ∷ a) (At problem.PlainTab start))
+      → Scans a → Stands a (past p) (with_blank c t) n next → x ≡ scan a n (past p) (with_blank c t) → Found ctx start u s p t (c ∷ a) x
+  blank_step c a u m n s next p t x e f g tabbed ih stands is =
+      found_on ctx start u s p t (c ∷ a) x _ is
+      (after_gap ctx start c a u (is_tabs n) s p t _ (blank_white c f) grow
+      (found_at (is_tabs n) (defs.past s c) next (place_past p c a) (past p) (behind_char c a t) (with_blank c t) a _ (rw (no_break, blank) g) (in_line_place c a p (rw no_break refl)) (rw (no_break, blank) refl)
+      (ih n next (past p) (with_blank c t) stands)))
+    where
+      no_break : classes.is_break c ≡ false
+      no_break = same_break c ∙ e
+
+      blank : classes.is_blank c ≡ true
+      blank = same_blank c ∙ f
+
+      grow : (k : Fault) → Fails ctx start (is_tabs n) (defs.past s c) (place_past p c a) a k → Fails ctx start u s p (c ∷ a) k
+      grow k why = further ctx start c a u (is_tabs n) s (defs.past s c) p k refl (rw (blank_white c f) refl) tabbed why
+
+  pub no_tabs : {A : Type 0} → false ≡ true → A
+  no_tabs e = cc
+
+  pub still_leads : (c : ℕ) (t : Folded) → t.leading ≡ true → with_blank c t ≡ t
+  still_leads c t e = rw e refl
+
+  pub still_inside : (c : ℕ) (t : Folded) → t.leading ≡ false → (with_blank c t).leading ≡ false
+  still_inside c t e = rw e refl
+
+  -- ---- content
+
+  pub content_step : (c : ℕ) (a : List ℕ) (m : Mode) (s : Stand) (p : Place) (t : Folded) (x : Result (Read Plain) Fault) → is_white c ≡ false → ends_plain ctx.flow (collection_of ctx.indent) s (c ∷ a) ≡ false → is_shallow ctx p.col ≡ false
+      → Scans a → x ≡ scan a inside (past p) (with_char c (joined t)) → Found ctx start false s p t (c ∷ a) x
+  content_step c a m s p t x white on deep ih is =
+      let q = parts (classes.is_blank c) (classes.is_break c) white in
+      found_on ctx start false s p t (c ∷ a) x _ is
+      (after_content ctx start c a s p t _ q.1 q.0 on
+      (found_at false defs.inside defs.inside (place_past p c a) (past p) _ _ a _ refl (in_line_place c a p (rw q.1 refl)) refl
+      (ih inside defs.inside (past p) (with_char c (joined t)) (in_line ((joined t).text ++ c ∷ []) refl (off_margin p.col) (as_deep ctx p.col deep)))))
+    where
+      parts : (b d : Bool) → (b || d) ≡ false → (b ≡ false) × (d ≡ false)
+      parts true d h = cc
+      parts false true h = cc
+      parts false false h = (refl, refl)
+
+  -- what a scan does at a character of content behind a gap
+  pub data Outcome (c : ℕ) (a : List ℕ) (s : Stand) (p : Place) (t : Folded) (x : Result (Read Plain) Fault) : Type 0 where
+    stopped : ends_plain ctx.flow (collection_of ctx.indent) s (c ∷ a) ≡ true → x ≡ Ok (record { rest = c ∷ a; place = p; value = record { text = t.text; leading = t.leading } }) → Outcome c a s p t x
+    went : ends_plain ctx.flow (collection_of ctx.indent) s (c ∷ a) ≡ false → is_shallow ctx p.col ≡ false → x ≡ scan a inside (past p) (with_char c (joined t)) → Outcome c a s p t x
+    dashed : ctx.flow ≡ true → c ≡ 45 → begins_flow a ≡ true → x ≡ Err (At problem.PlainDashInFlow p) → Outcome c a s p t x
+
+  by_comment : (f g l k : Bool) → ((((f || g) || true) || l) || k) ≡ true
+  by_comment f g l k = rw (or_true (f || g)) refl
+
+  by_over : (g k b : Bool) → (g || k) ≡ b → ((((false || g) || false) || false) || k) ≡ b
+  by_over true k b h = h
+  by_over false k b h = h
+
+  ends_line : (c : ℕ) (a : List ℕ) (s : Stand) → ends_at_line ctx.flow (collection_of ctx.indent) s (c ∷ a) ≡ true → ends_plain ctx.flow (collection_of ctx.indent) s (c ∷ a) ≡ true
+  ends_line c a s h = rw h (by_line_true (classes.is_nul c) (ends_at_colon ctx.flow (c ∷ a)) (ends_at_comment s (c ∷ a)) (ctx.flow && begins_flow (c ∷ a)))
+
+  pub ends_comment : (c : ℕ) (a : List ℕ) (s : Stand) → ends_at_comment s (c ∷ a) ≡ true → ends_plain ctx.flow (collection_of ctx.indent) s (c ∷ a) ≡ true
+  ends_comment c a s h = rw h (by_comment (classes.is_nul c) (ends_at_colon ctx.flow (c ∷ a)) (ends_at_line ctx.flow (collection_of ctx.indent) s (c ∷ a)) (ctx.flow && begins_flow (c ∷ a)))
+
+  pub ends_over : (c : ℕ) (a : List ℕ) (s : Stand) (b : Bool) → (c == 0) ≡ false → ends_at_comment s (c ∷ a) ≡ false → ends_at_line ctx.flow (collection_of ctx.indent) s (c ∷ a) ≡ false
+      → (ends_at_colon ctx.flow (c ∷ a) || (ctx.flow && classes.is_flow c)) ≡ b → ends_plain ctx.flow (collection_of ctx.indent) s (c ∷ a) ≡ b
+  ends_over c a s b nul f g h = rw (not_nul c nul, f, g) (by_over (ends_at_colon ctx.flow (c ∷ a)) (ctx.flow && classes.is_flow c) b h)
+
+  pub dash_parts : (flow : Bool) (c : ℕ) (a : List ℕ) → at_dash flow (c ∷ a) ≡ true → (flow ≡ true) × (c ≡ 45) × (begins_flow a ≡ true)
+  unfolding at_dash is_flow
+  dash_parts flow c [] h = let q = and_parts (flow && (c == 45)) false h in let no : false ≡ true = q.1 in cc
+  dash_parts flow c (d ∷ a) h = let q = and_parts (flow && (c == 45)) (is_flow d) h in let r = and_parts flow (c == 45) q.0 in (r.0, eqb-true c 45 r.1, same_flow d ∙ q.1)
+
+  pub solid_too : (c : ℕ) → is_white c ≡ false → (is_break c || is_blank c) ≡ false
+  solid_too c white = swap (is_blank c) (is_break c) (rw (same_blank c, same_break c) at white)
+    where
+      swap : (b d : Bool) → (b || d) ≡ false → (d || b) ≡ false
+      swap true d h = cc
+      swap false d h = rw h refl
+
+  outcome_by : (c : ℕ) (a : List ℕ) (s : Stand) (p : Place) (t : Folded) → is_white c ≡ false → (c == 0) ≡ false → ends_at_comment s (c ∷ a) ≡ (c == 35)
+      → ends_at_line ctx.flow (collection_of ctx.indent) s (c ∷ a) ≡ (at_marker p.col (c ∷ a) || is_shallow ctx p.col)
+      → (is_break c || is_blank c) ≡ false → (shallow hash mark at over : Bool) → is_shallow ctx p.col ≡ shallow → (c == 35) ≡ hash → at_marker p.col (c ∷ a) ≡ mark → at_dash ctx.flow (c ∷ a) ≡ at
+      → (ends_at_colon ctx.flow (c ∷ a) || (ctx.flow && classes.is_flow c)) ≡ over → Outcome c a s p t (scan (c ∷ a) between p t)
+  unfolding goes_on
+  outcome_by c a s p t white nul comment line solid true hash mark at over e f g h k = stopped (ends_line c a s (line ∙ rw e (or_true (at_marker p.col (c ∷ a))))) (rw (solid, e) refl)
+  outcome_by c a s p t white nul comment line solid false true mark at over e f g h k = stopped (ends_comment c a s (comment ∙ f)) (rw (solid, e, f) refl)
+  outcome_by c a s p t white nul comment line solid false false true at over e f g h k = stopped (ends_line c a s (line ∙ rw g refl)) (rw (solid, e, f, g) refl)
+  outcome_by c a s p t white nul comment line solid false false false true over e f g h k = let q = dash_parts ctx.flow c a h in dashed q.0 q.1 q.2 (rw (solid, e, f, g, h) refl)
+  outcome_by c a s p t white nul comment line solid false false false false true e f g h k =
+      let plain : at_plain ctx.flow (c ∷ a) ≡ false = solid_plain ctx.flow c a white nul ∙ ap not k in
+      stopped (ends_over c a s true nul (comment ∙ f) (line ∙ rw (e, g) refl) k) (rw (solid, e, f, g, h, plain) refl)
+  outcome_by c a s p t white nul comment line solid false false false false false e f g h k =
+      let plain : at_plain ctx.flow (c ∷ a) ≡ true = solid_plain ctx.flow c a white nul ∙ ap not k in
+      went (ends_over c a s false nul (comment ∙ f) (line ∙ rw (e, g) refl) k) e (rw (solid, e, f, g, h, plain) refl)
+
+  pub outcome : (c : ℕ) (a : List ℕ) (s : Stand) (p : Place) (t : Folded) → is_white c ≡ false → (c == 0) ≡ false → ends_at_comment s (c ∷ a) ≡ (c == 35)
+      → ends_at_line ctx.flow (collection_of ctx.indent) s (c ∷ a) ≡ (at_marker p.col (c ∷ a) || is_shallow ctx p.col) → Outcome c a s p t (scan (c ∷ a) between p t)
+  outcome c a s p t white nul comment line =
+      outcome_by c a s p t white nul comment line (solid_too c white) (is_shallow ctx p.col) (c == 35) (at_marker p.col (c ∷ a)) (at_dash ctx.flow (c ∷ a)) (ends_at_colon ctx.flow (c ∷ a) || (ctx.flow && classes.is_flow c))
+      refl refl refl refl refl

@@ -1,0 +1,4 @@
+pub mod Names
+pub mod TagReads
+pub mod Tags
+pub mod Uris

@@ -1,0 +1,353 @@
+-- Tags are read as what is written, and no other text is.
+use Rattle.std.proofs.Common.{◌≡◌, ℕ, suc, ◌+◌, List, [], ◌∷◌, ◌++◌, Bool, true, false, ◌||◌, ◌==◌, if◌then◌else◌, Some, Result, Ok, Err, refl, ap, sym, ◌∙◌, arith, append_assoc, append-nil, length, length-append, slice_index, codes}
+use Rattle.std.proofs.lemmas.Bool.{and_parts, eqb-true}
+use Rattle.std.proofs.lemmas.Bool.Decides.{nat_tests}
+use Rattle.defs_text.specs.Position.{Place}
+use Rattle.yaml_chars.specs.Class.{is_alphanumeric, is_alpha, is_blank, is_break, is_blank_or_breakz, is_flow, is_uri, is_uri_mark, is_tag}
+use Rattle.defs_text.specs.Text.{is_nil}
+use Rattle.yaml_tokens.specs.declared.problem.Fault.{Fault}
+use Rattle.yaml_tokens.specs.declared.problem.Fault.TheVariants.{At}
+use Rattle.yaml_tokens.specs.declared.problem.Problem.TheVariants as problem
+use Rattle.defs_text.specs.Classes as classes
+use Rattle.defs_text.specs.Classes.{is_at_gap}
+use Rattle.defs_scalar.specs.Tags as defs
+use Rattle.defs_scalar.specs.Tags.{UriFault, all_of, leading, behind, is_same, decoded, decoded_behind, uri_character, put_code, tag_by, tag_of_class, written_tag}
+use Rattle.model_lexers.specs.Machine.{Read, past, after, take_while}
+use Rattle.model_lexers.specs.Uri.{uri}
+use Rattle.model_lexers.specs.Tag.{Tag, read_tag, verbatim_end, verbatim, some_suffix, named, local, behind_name, shorthand, ends_tag, tag_end, tag}
+use Rattle.proof_lexers.proofs.Bridges.{same_gap, same_flow, same_alpha, same_tag}
+use Rattle.proof_lexers.specs.NameEnds.{further}
+use Rattle.proof_lexers.specs.UriEnds.{problem_of, behind_class}
+use Rattle.proof_lexers.specs.TagEnds.{may_follow, by_octets, unclosed, no_suffix, goes_on, EndsAs, reads, refuses}
+use Rattle.proof_lexers.specs.ScalarLaws.{TagsEndAsTheirTextSays}
+use Rattle.proof_lexers.proofs.Properties.Names.{one_further, none_further}
+use Rattle.proof_lexers.proofs.Properties.Uris.{uris_are_read}
+
+-- ---- characters of a class at a text's start
+
+abbrev pub begins_in : (ℕ → Bool) → List ℕ → Bool
+begins_in class [] = false
+begins_in class (c ∷ r) = class c
+
+module _ (class : ℕ → Bool) where
+  pub span_cut : (a : List ℕ) → a ≡ leading class a ++ behind class a
+  span_cut [] = refl
+  span_cut (c ∷ a) = by (class c) (span_cut a)
+    where
+      by : (b : Bool) → a ≡ leading class a ++ behind class a → c ∷ a ≡ (if b then c ∷ leading class a else []) ++ (if b then behind class a else c ∷ a)
+      by true e = ap (λ r. c ∷ r) e
+      by false e = refl
+
+  pub all_leading : (a : List ℕ) → all_of class (leading class a) ≡ true
+  all_leading [] = refl
+  all_leading (c ∷ a) = by (class c) refl (all_leading a)
+    where
+      by : (b : Bool) → class c ≡ b → all_of class (leading class a) ≡ true → all_of class (if b then c ∷ leading class a else []) ≡ true
+      by true e h = rw e h
+      by false e h = refl
+
+  pub ends_behind : (a : List ℕ) → begins_in class (behind class a) ≡ false
+  ends_behind [] = refl
+  ends_behind (c ∷ a) = by (class c) refl (ends_behind a)
+    where
+      by : (b : Bool) → class c ≡ b → begins_in class (behind class a) ≡ false → begins_in class (if b then behind class a else c ∷ a) ≡ false
+      by true e h = h
+      by false e h = e
+
+  pub leading_none : (r : List ℕ) → begins_in class r ≡ false → (leading class r ≡ []) × (behind class r ≡ r)
+  leading_none [] h = (refl, refl)
+  leading_none (c ∷ r) h = (rw h refl, rw h refl)
+
+  pub leading_all : (l r : List ℕ) → all_of class l ≡ true → begins_in class r ≡ false → (leading class (l ++ r) ≡ l) × (behind class (l ++ r) ≡ r)
+  leading_all [] r h e = leading_none r e
+  leading_all (c ∷ l) r h e =
+      let q = and_parts (class c) (all_of class l) h in
+      let z = leading_all l r q.1 e in
+      (rw q.0 (ap (λ k. c ∷ k) z.0), rw q.0 z.1)
+
+pub word : (a : List ℕ) (p : Place) (t : List ℕ) → take_while is_alpha a p t ≡ record { rest = behind classes.is_alpha a; place = further (length (leading classes.is_alpha a)) p; value = t ++ leading classes.is_alpha a }
+word [] p t = rw (none_further p, append-nil) refl
+word (c ∷ a) p t = by (is_alpha c) refl (word a (past p) (t ++ c ∷ []))
+  where
+    by : (b : Bool) → is_alpha c ≡ b → take_while is_alpha a (past p) (t ++ c ∷ []) ≡ record { rest = behind classes.is_alpha a; place = further (length (leading classes.is_alpha a)) (past p); value = (t ++ c ∷ []) ++ leading classes.is_alpha a }
+        → take_while is_alpha (c ∷ a) p t ≡ record { rest = behind classes.is_alpha (c ∷ a); place = further (length (leading classes.is_alpha (c ∷ a))) p; value = t ++ leading classes.is_alpha (c ∷ a) }
+    by true e h = let of_word : classes.is_alpha c ≡ true = same_alpha c ∙ e in rw (e, of_word) (h ∙ rw (one_further p (length (leading classes.is_alpha a)), append_assoc) refl)
+    by false e h = let no_word : classes.is_alpha c ≡ false = same_alpha c ∙ e in rw (e, no_word) (rw (none_further p, append-nil) refl)
+
+-- ---- what may stand behind a tag
+
+end_is_a_gap : is_blank_or_breakz 0 ≡ true
+unfolding is_blank is_break
+end_is_a_gap = refl
+
+pub same_end : (flow : Bool) (r : List ℕ) → ends_tag flow (slice_index r 0) ≡ may_follow flow r
+unfolding ends_tag
+same_end flow [] = rw end_is_a_gap refl
+same_end flow (d ∷ r) = rw (same_gap d, same_flow d) refl
+
+module _ (flow : Bool) (start : Place) (text : List ℕ) where
+  ends_on : (x y : Result (Read Tag) Fault) → x ≡ y → EndsAs flow start text y → EndsAs flow start text x
+  ends_on x y e (reads piece rest handle suffix cut is follows k) = reads piece rest handle suffix cut is follows (e ∙ k)
+  ends_on x y e (refuses why reason k) = refuses why reason (e ∙ k)
+
+  -- a tag that stands there
+  ended : (piece rest handle suffix : List ℕ) (p : Place) → text ≡ piece ++ rest → written_tag (33 ∷ piece) ≡ Some (record { handle = handle; suffix = suffix }) → p ≡ further (length (33 ∷ piece)) start
+      → EndsAs flow start text (tag_end flow start (read_tag rest p handle suffix))
+  ended piece rest handle suffix p cut is place = by (may_follow flow rest) refl
+    where
+      by : (b : Bool) → may_follow flow rest ≡ b → EndsAs flow start text (tag_end flow start (read_tag rest p handle suffix))
+      by true e = reads piece rest handle suffix cut is e (rw (same_end flow rest, e, place) refl)
+      by false e = refuses problem.TagEnd (goes_on piece rest handle suffix cut is e) (rw (same_end flow rest, e) refl)
+
+  -- octets that are no characters
+  bad_octets : (before uri rest : List ℕ) (f : UriFault) (x : Result (Read Tag) Fault) → text ≡ before ++ (uri ++ rest) → decoded uri ≡ Err f → x ≡ Err (At (problem_of f) start) → EndsAs flow start text x
+  bad_octets before uri rest f x cut bad is = refuses (problem_of f) (by_octets before uri rest f cut bad) is
+
+-- ---- a verbatim tag
+
+pub close_is_no_uri : classes.is_uri 62 ≡ false
+unfolding classes.is_uri classes.is_decimal_digit classes.is_letter
+close_is_no_uri = refl
+
+verbatim_written : (l cs : List ℕ) → all_of classes.is_uri l ≡ true → decoded l ≡ Ok cs → written_tag (33 ∷ 60 ∷ (l ++ 62 ∷ [])) ≡ Some (record { handle = []; suffix = cs })
+verbatim_written l cs all is = let z = leading_all classes.is_uri l (62 ∷ []) all close_is_no_uri in rw (z.1, z.0, all, is) refl
+
+pub closed_place : (p : Place) (n m : ℕ) → m ≡ n + 1 → past (further n (past (past p))) ≡ further (suc (suc m)) p
+closed_place p n m e =
+    let i : ((p.index + 1) + 1) + n + 1 ≡ p.index + suc (suc m) = omega (arith, e) in
+    let j : ((p.col + 1) + 1) + n + 1 ≡ p.col + suc (suc m) = omega (arith, e) in
+    rw (i, j) refl
+
+module _ (flow : Bool) (start : Place) (b : List ℕ) where
+  abbrev written : List ℕ
+  written = leading classes.is_uri b
+
+  closing : (cs : List ℕ) (r : List ℕ) → decoded written ≡ Ok cs → behind classes.is_uri b ≡ r
+      → EndsAs flow start (60 ∷ b) (after (verbatim_end start cs r (further (length written) (past (past start)))) (λ t. tag_end flow start t))
+  closing cs [] is e = refuses problem.VerbatimTagEnd (unclosed written [] (ap (λ k. 60 ∷ k) (span_cut classes.is_uri b ∙ ap (λ k. written ++ k) e)) (all_leading classes.is_uri b) refl) refl
+  closing cs (c ∷ r) is e = by (c == 62) refl
+    where
+      by : (closes : Bool) → (c == 62) ≡ closes → EndsAs flow start (60 ∷ b) (after (verbatim_end start cs (c ∷ r) (further (length written) (past (past start)))) (λ t. tag_end flow start t))
+      by true f =
+          let same : c ≡ 62 = eqb-true c 62 f in
+          let cut : b ≡ (written ++ 62 ∷ []) ++ r = span_cut classes.is_uri b ∙ ap (λ k. written ++ k) (e ∙ ap (λ d. d ∷ r) same) ∙ sym (append_assoc written (62 ∷ []) r) in
+          rw f (ended flow start (60 ∷ b) (60 ∷ (written ++ 62 ∷ [])) r [] cs _ (ap (λ k. 60 ∷ k) cut) (verbatim_written written cs (all_leading classes.is_uri b) is) (closed_place start (length written) _ (length-append written (62 ∷ []))))
+      by false f = refuses problem.VerbatimTagEnd (unclosed written (c ∷ r) (ap (λ k. 60 ∷ k) (span_cut classes.is_uri b ∙ ap (λ k. written ++ k) e)) (all_leading classes.is_uri b) f) (rw f refl)
+
+  verbatim_by : (d : Result (List ℕ) UriFault) → decoded written ≡ d
+      → EndsAs flow start (60 ∷ b) (after (after (behind_class classes.is_uri start (past (past start)) b [] d) (λ (r : Read (List ℕ)). verbatim_end start r.value r.rest r.place)) (λ t. tag_end flow start t))
+  verbatim_by (Err f) e = bad_octets flow start (60 ∷ b) (60 ∷ []) written (behind classes.is_uri b) f _ (ap (λ k. 60 ∷ k) (span_cut classes.is_uri b)) e refl
+  verbatim_by (Ok cs) e = closing cs (behind classes.is_uri b) e refl
+
+  verbatims : EndsAs flow start (60 ∷ b) (tag flow (33 ∷ 60 ∷ b) start)
+  unfolding tag verbatim
+  verbatims = rw ((uris_are_read start b (past (past start)) []).0) (verbatim_by (decoded written) refl)
+
+-- ---- a shorthand
+
+pub decoded_some : (c : ℕ) (r cs : List ℕ) → decoded (c ∷ r) ≡ Ok cs → is_nil cs ≡ false
+decoded_some c r cs h = by (uri_character c r) h
+  where
+    then_by : (code : ℕ) (o : Result (List ℕ) UriFault) → put_code code o ≡ Ok cs → is_nil cs ≡ false
+    then_by code (Err f) h = cc
+    then_by code (Ok ds) h = let same : code ∷ ds ≡ cs = cc in rw (← same) refl
+
+    by : (o : Result defs.Escaped UriFault) → defs.code_followed o (λ n. decoded_behind n r) ≡ Ok cs → is_nil cs ≡ false
+    by (Err f) h = cc
+    by (Ok e) h = then_by e.code (decoded_behind e.further r) h
+
+absent : (class : ℕ → Bool) (c k : ℕ) → class c ≡ true → class k ≡ false → (c == k) ≡ false
+absent class c k h no_k = by (c == k) refl
+  where
+    by : (b : Bool) → (c == k) ≡ b → b ≡ false
+    by true e = let same : c ≡ k = eqb-true c k e in let both : true ≡ false = sym h ∙ ap class same ∙ no_k in cc
+    by false e = refl
+
+underscore : is_uri 95 ≡ true
+unfolding is_uri is_alphanumeric is_uri_mark
+underscore = refl
+
+word_is_uri : (c : ℕ) → is_alpha c ≡ true → is_uri c ≡ true
+unfolding is_alpha is_uri is_uri_mark
+word_is_uri c h = by (is_alphanumeric c) (c == 95) (c == 45) refl refl refl h
+  where
+    by : (a b d : Bool) → is_alphanumeric c ≡ a → (c == 95) ≡ b → (c == 45) ≡ d → ((a || b) || d) ≡ true → is_uri c ≡ true
+    by true b d e f g h = rw e refl
+    by false true d e f g h = let same : c ≡ 95 = eqb-true c 95 f in rw same underscore
+    by false false true e f g h = rw (e, g) refl
+    by false false false e f g h = cc
+
+word_is_no_flow : (c : ℕ) → is_alpha c ≡ true → (is_flow c ≡ false) × ((c == 33) ≡ false)
+unfolding is_alpha is_alphanumeric is_flow
+word_is_no_flow c h = (grind (arith, nat_tests), grind (arith, nat_tests))
+
+word_is_tag : (c : ℕ) → is_alpha c ≡ true → is_tag c ≡ true
+unfolding is_tag
+word_is_tag c h = let no_flow = word_is_no_flow c h in let of_uri : is_uri c ≡ true = word_is_uri c h in rw (of_uri, no_flow.0, no_flow.1) refl
+
+no_words : (classes.is_alpha 60 ≡ false) × (classes.is_alpha 37 ≡ false)
+unfolding classes.is_alpha classes.is_decimal_digit classes.is_letter
+no_words = (refl, refl)
+
+no_tags : (classes.is_tag 60 ≡ false) × (classes.is_tag 33 ≡ false)
+unfolding classes.is_tag classes.is_uri classes.is_decimal_digit classes.is_letter classes.is_flow
+no_tags = (refl, refl)
+
+pub alpha_starts : (c : ℕ) → classes.is_alpha c ≡ true → ((c == 60) ≡ false) × ((c == 37) ≡ false) × (classes.is_tag c ≡ true)
+alpha_starts c h = (absent classes.is_alpha c 60 h no_words.0, absent classes.is_alpha c 37 h no_words.1, same_tag c ∙ word_is_tag c (sym (same_alpha c) ∙ h))
+
+tag_starts : (c : ℕ) → classes.is_tag c ≡ true → ((c == 60) ≡ false) × ((c == 33) ≡ false)
+tag_starts c h = (absent classes.is_tag c 60 h no_tags.0, absent classes.is_tag c 33 h no_tags.1)
+
+mark_is_no_word : classes.is_alpha 33 ≡ false
+unfolding classes.is_alpha classes.is_decimal_digit classes.is_letter
+mark_is_no_word = refl
+
+-- a text that begins with a word or a mark is no verbatim tag
+is_shorthand : (name r : List ℕ) → all_of classes.is_alpha name ≡ true → (begins_in (λ c. c == 60) r) ≡ false → defs.behind_mark (name ++ r) ≡ defs.shorthand (name ++ r)
+is_shorthand [] [] h e = refl
+is_shorthand [] (c ∷ r) h e = rw e refl
+is_shorthand (c ∷ name) r h e = let q = and_parts (classes.is_alpha c) (all_of classes.is_alpha name) h in rw ((alpha_starts c q.0).0) refl
+
+-- one that is not empty
+shorthand_by : (name r : List ℕ) → is_nil (name ++ r) ≡ false
+    → defs.shorthand (name ++ r) ≡ (if defs.begins_with_mark (behind classes.is_alpha (name ++ r)) then defs.named (leading classes.is_alpha (name ++ r)) (behind classes.is_alpha (name ++ r)) else tag_of_class classes.is_tag (codes "!") (name ++ r))
+shorthand_by [] [] h = cc
+shorthand_by [] (c ∷ r) h = refl
+shorthand_by (c ∷ name) r h = refl
+
+some_text : (name r : List ℕ) (c : ℕ) → is_nil (name ++ c ∷ r) ≡ false
+some_text [] r c = refl
+some_text (d ∷ name) r c = refl
+
+named_written : (name : List ℕ) (c : ℕ) (r cs : List ℕ) → all_of classes.is_alpha name ≡ true → all_of classes.is_tag (c ∷ r) ≡ true → decoded (c ∷ r) ≡ Ok cs
+    → written_tag (33 ∷ (name ++ 33 ∷ c ∷ r)) ≡ Some (record { handle = (33 ∷ name) ++ 33 ∷ []; suffix = cs })
+named_written name c r cs all tags is =
+    let z = leading_all classes.is_alpha name (33 ∷ c ∷ r) all mark_is_no_word in
+    is_shorthand name (33 ∷ c ∷ r) all refl ∙ shorthand_by name (33 ∷ c ∷ r) (some_text name (c ∷ r) 33) ∙ rw (z.1, z.0, tags, is) refl
+
+pub decoded_word : (name r cs : List ℕ) → all_of classes.is_alpha name ≡ true → decoded r ≡ Ok cs → decoded (name ++ r) ≡ Ok (name ++ cs)
+unfolding uri_character
+decoded_word [] r cs h e = e
+decoded_word (c ∷ name) r cs h e =
+    let q = and_parts (classes.is_alpha c) (all_of classes.is_alpha name) h in
+    rw ((alpha_starts c q.0).1, decoded_word name r cs q.1 e) refl
+
+all_tag : (name r : List ℕ) → all_of classes.is_alpha name ≡ true → all_of classes.is_tag r ≡ true → all_of classes.is_tag (name ++ r) ≡ true
+all_tag [] r h e = e
+all_tag (c ∷ name) r h e = let q = and_parts (classes.is_alpha c) (all_of classes.is_alpha name) h in rw ((alpha_starts c q.0).2) (all_tag name r q.1 e)
+
+no_mark : (r : List ℕ) → all_of classes.is_tag r ≡ true → (defs.begins_with_mark r ≡ false) × (begins_in (λ c. c == 60) r ≡ false)
+no_mark [] h = (refl, refl)
+no_mark (c ∷ r) h = let q = and_parts (classes.is_tag c) (all_of classes.is_tag r) h in ((tag_starts c q.0).1, (tag_starts c q.0).0)
+
+local_written : (name r cs : List ℕ) → all_of classes.is_alpha name ≡ true → all_of classes.is_tag r ≡ true → begins_in classes.is_alpha r ≡ false → decoded r ≡ Ok cs → is_nil (name ++ r) ≡ false
+    → written_tag (33 ∷ (name ++ r)) ≡ Some (record { handle = 33 ∷ []; suffix = name ++ cs })
+local_written name r cs all tags begins is some =
+    let z = leading_all classes.is_alpha name r all begins in
+    let m = no_mark r tags in
+    is_shorthand name r all m.1 ∙ shorthand_by name r some ∙ rw (z.1, m.0, all_tag name r all tags, decoded_word name r cs all is) refl
+
+nil_parts : (a b : List ℕ) → is_nil (a ++ b) ≡ true → (a ≡ []) × (b ≡ [])
+nil_parts [] [] h = (refl, refl)
+nil_parts [] (c ∷ b) h = cc
+nil_parts (c ∷ a) b h = cc
+
+still_none : (name l cs : List ℕ) → is_nil (name ++ l) ≡ true → decoded l ≡ Ok cs → is_nil (name ++ cs) ≡ true
+still_none [] [] cs h e = let none : [] ≡ cs = cc in rw (← none) refl
+still_none [] (c ∷ l) cs h e = cc
+still_none (d ∷ name) l cs h e = cc
+
+pub still_some : (name l cs : List ℕ) → is_nil (name ++ l) ≡ false → decoded l ≡ Ok cs → is_nil (name ++ cs) ≡ false
+still_some [] [] cs h e = cc
+still_some [] (c ∷ l) cs h e = decoded_some c l cs e
+still_some (d ∷ name) l cs h e = refl
+
+still_no_word : (m : List ℕ) → begins_in classes.is_alpha m ≡ false → begins_in classes.is_alpha (leading classes.is_tag m) ≡ false
+still_no_word [] h = refl
+still_no_word (c ∷ m) h = by (classes.is_tag c)
+  where
+    by : (b : Bool) → begins_in classes.is_alpha (if b then c ∷ leading classes.is_tag m else []) ≡ false
+    by true = h
+    by false = refl
+
+pub local_place : (p : Place) (n m k : ℕ) → k ≡ n + m → further m (further n (past p)) ≡ further (suc k) p
+local_place p n m k e =
+    let i : ((p.index + 1) + n) + m ≡ p.index + suc k = omega (arith, e) in
+    let j : ((p.col + 1) + n) + m ≡ p.col + suc k = omega (arith, e) in
+    rw (i, j) refl
+
+pub named_place : (p : Place) (n m k : ℕ) → k ≡ n + suc m → further m (past (further n (past p))) ≡ further (suc k) p
+named_place p n m k e =
+    let i : (((p.index + 1) + n) + 1) + m ≡ p.index + suc k = omega (arith, e) in
+    let j : (((p.col + 1) + n) + 1) + m ≡ p.col + suc k = omega (arith, e) in
+    rw (i, j) refl
+
+module _ (flow : Bool) (start : Place) (text name : List ℕ) (all : all_of classes.is_alpha name ≡ true) where
+  -- behind a name and a second mark
+  suffix_by : (s l rest : List ℕ) (d : Result (List ℕ) UriFault) → text ≡ name ++ 33 ∷ (l ++ rest) → leading classes.is_tag s ≡ l → s ≡ l ++ rest → behind classes.is_tag s ≡ rest → decoded l ≡ d
+      → EndsAs flow start text (after (after (behind_class classes.is_tag start (past (further (length name) (past start))) s [] d) (λ r. some_suffix start name r)) (λ t. tag_end flow start t))
+  suffix_by s l rest (Err f) cut lead same b e =
+      bad_octets flow start text (name ++ 33 ∷ []) l rest f _ (cut ∙ sym (append_assoc name (33 ∷ []) (l ++ rest))) e refl
+  suffix_by s [] rest (Ok cs) cut lead same b e =
+      let none : [] ≡ cs = cc in
+      rw (← none) (refuses problem.TagUri (no_suffix name rest cut all (ap (leading classes.is_tag) (sym same) ∙ lead)) refl)
+  suffix_by s (c ∷ l) rest (Ok cs) cut lead same b e =
+      let some : is_nil cs ≡ false = decoded_some c l cs e in
+      let tags : all_of classes.is_tag (c ∷ l) ≡ true = ap (all_of classes.is_tag) (sym lead) ∙ all_leading classes.is_tag s in
+      rw (some, b, lead) (ended flow start text (name ++ 33 ∷ c ∷ l) rest ((33 ∷ name) ++ 33 ∷ []) cs _ (cut ∙ sym (append_assoc name (33 ∷ c ∷ l) rest)) (named_written name c l cs all tags e)
+      (named_place start (length name) (length (c ∷ l)) (length (name ++ 33 ∷ c ∷ l)) (length-append name (33 ∷ c ∷ l))))
+
+  -- behind a word and no mark
+  local_by : (m l rest : List ℕ) (d : Result (List ℕ) UriFault) → text ≡ name ++ (l ++ rest) → begins_in classes.is_alpha l ≡ false → leading classes.is_tag m ≡ l → behind classes.is_tag m ≡ rest → decoded l ≡ d
+      → EndsAs flow start text (after (after (behind_class classes.is_tag start (further (length name) (past start)) m name d) (λ r. Ok (local r))) (λ t. tag_end flow start t))
+  local_by m l rest (Err f) cut begins lead b e = bad_octets flow start text name l rest f _ cut e refl
+  local_by m l rest (Ok cs) cut begins lead b e = by (is_nil (name ++ l)) refl
+    where
+      by : (none : Bool) → is_nil (name ++ l) ≡ none → EndsAs flow start text (tag_end flow start (local (record { rest = behind classes.is_tag m; place = further (length (leading classes.is_tag m)) (further (length name) (past start)); value = name ++ cs })))
+      by true f =
+          let parts = nil_parts name l f in
+          let zeros : 0 ≡ length name + length l = rw (parts.0, parts.1) refl in
+          let here : text ≡ rest = cut ∙ rw (parts.0, parts.1) refl in
+          let none : is_nil (name ++ cs) ≡ true = still_none name l cs f e in
+          rw (none, b, lead) (ended flow start text [] rest [] (33 ∷ []) _ here refl (local_place start (length name) (length l) 0 zeros))
+      by false f =
+          let some : is_nil (name ++ cs) ≡ false = still_some name l cs f e in
+          let tags : all_of classes.is_tag l ≡ true = ap (all_of classes.is_tag) (sym lead) ∙ all_leading classes.is_tag m in
+          rw (some, b, lead) (ended flow start text (name ++ l) rest (33 ∷ []) (name ++ cs) _ (cut ∙ sym (append_assoc name l rest)) (local_written name l cs all tags begins e f)
+          (local_place start (length name) (length l) (length (name ++ l)) (length-append name l)))
+
+  from_mark : (s : List ℕ) → text ≡ name ++ 33 ∷ s → EndsAs flow start text (after (behind_name start name (33 ∷ s) (further (length name) (past start))) (λ t. tag_end flow start t))
+  unfolding named
+  from_mark s cut =
+      rw ((uris_are_read start s (past (further (length name) (past start))) []).1)
+      (suffix_by s (leading classes.is_tag s) (behind classes.is_tag s) (decoded (leading classes.is_tag s)) (cut ∙ ap (λ r. name ++ 33 ∷ r) (span_cut classes.is_tag s)) refl (span_cut classes.is_tag s) refl refl)
+
+  from_word : (m : List ℕ) → text ≡ name ++ m → begins_in classes.is_alpha m ≡ false → (slice_index m 0 == 33) ≡ false → EndsAs flow start text (after (behind_name start name m (further (length name) (past start))) (λ t. tag_end flow start t))
+  from_word m cut begins unmarked =
+      rw (unmarked, (uris_are_read start m (further (length name) (past start)) name).1)
+      (local_by m (leading classes.is_tag m) (behind classes.is_tag m) (decoded (leading classes.is_tag m)) (cut ∙ ap (λ r. name ++ r) (span_cut classes.is_tag m)) (still_no_word m begins) refl refl refl)
+
+shorthand_from : (flow : Bool) (start : Place) (a m : List ℕ) → behind classes.is_alpha a ≡ m
+    → EndsAs flow start a (after (behind_name start (leading classes.is_alpha a) m (further (length (leading classes.is_alpha a)) (past start))) (λ t. tag_end flow start t))
+shorthand_from flow start a [] e = from_word flow start a (leading classes.is_alpha a) (all_leading classes.is_alpha a) [] (span_cut classes.is_alpha a ∙ ap (λ r. leading classes.is_alpha a ++ r) e) refl refl
+shorthand_from flow start a (c ∷ s) e = by (c == 33) refl
+  where
+    cut : a ≡ leading classes.is_alpha a ++ c ∷ s
+    cut = span_cut classes.is_alpha a ∙ ap (λ r. leading classes.is_alpha a ++ r) e
+
+    by : (marked : Bool) → (c == 33) ≡ marked → EndsAs flow start a (after (behind_name start (leading classes.is_alpha a) (c ∷ s) (further (length (leading classes.is_alpha a)) (past start))) (λ t. tag_end flow start t))
+    by true f = let same : c ≡ 33 = eqb-true c 33 f in rw same (from_mark flow start a (leading classes.is_alpha a) (all_leading classes.is_alpha a) s (cut ∙ ap (λ d. leading classes.is_alpha a ++ d ∷ s) same))
+    by false f = from_word flow start a (leading classes.is_alpha a) (all_leading classes.is_alpha a) (c ∷ s) cut (ap (begins_in classes.is_alpha) (sym e) ∙ ends_behind classes.is_alpha a) f
+
+shorthands : (flow : Bool) (start : Place) (a : List ℕ) → (slice_index a 0 == 60) ≡ false → EndsAs flow start a (tag flow (33 ∷ a) start)
+unfolding tag shorthand
+shorthands flow start a e = rw (e, word a (past start) []) (shorthand_from flow start a (behind classes.is_alpha a) refl)
+
+tags_by : (flow : Bool) (start : Place) (c : ℕ) (b : List ℕ) (opens : Bool) → (c == 60) ≡ opens → EndsAs flow start (c ∷ b) (tag flow (33 ∷ c ∷ b) start)
+tags_by flow start c b true e = let same : c ≡ 60 = eqb-true c 60 e in rw same (verbatims flow start b)
+tags_by flow start c b false e = shorthands flow start (c ∷ b) e
+
+pub tags_end : TagsEndAsTheirTextSays
+tags_end flow [] p = shorthands flow p [] refl
+tags_end flow (c ∷ b) p = tags_by flow p c b (c == 60) refl

@@ -1,0 +1,298 @@
+-- A URI's characters are read as what they mean.
+use Rattle.std.proofs.Common.{◌≡◌, ℕ, zero, suc, ◌+◌, ◌-◌, ◌*◌, List, [], ◌∷◌, ◌++◌, Bool, true, false, ◌&&◌, ◌==◌, if◌then◌else◌, Option, Some, None, Result, Ok, Err, refl, ap, sym, subst, ◌∙◌, arith, append_assoc, append-nil, length, drop, nat_lt, nat_le}
+use Rattle.std.specs.Char.{digit_value, is_digit}
+use Rattle.std.proofs.lemmas.Bool.{eqb-true}
+use Rattle.std.proofs.lemmas.Bool.Decides.{nat_tests}
+use Rattle.defs_text.specs.Position.{Place}
+use Rattle.yaml_chars.specs.Class.{is_hex, is_flow, is_alphanumeric, is_uri_mark, is_uri, is_tag}
+use Rattle.yaml_tokens.specs.declared.problem.Fault.{Fault}
+use Rattle.yaml_tokens.specs.declared.problem.Fault.TheVariants.{At}
+use Rattle.yaml_tokens.specs.declared.problem.Problem.TheVariants as problem
+use Rattle.defs_text.specs.Classes as classes
+use Rattle.defs_text.specs.Classes.{is_between}
+use Rattle.defs_scalar.specs.FlowScalar.{is_character_code}
+use Rattle.defs_scalar.specs.Tags.{leading, behind, UriFault, wrong_trail, no_character, octet_at, Lead, lead_of, is_trail, trail_by, trails, checked, led_by, escaped_character, uri_character, put_code, code_followed, decoded_behind, decoded}
+use Rattle.model_lexers.specs.Machine.{Read, past, after}
+use Rattle.model_lexers.specs.Uri.{Octet, lead, trail, plain, high, State, at_trail, at_octet, uri_from, octet_from, trails_from}
+use Rattle.model_lexers.proofs.UriLemmas.{low_turn}
+use Rattle.proof_lexers.proofs.Bridges.{same_digit, same_code, same_uri, same_tag, both}
+use Rattle.proof_lexers.specs.NameEnds.{further}
+use Rattle.proof_lexers.specs.ScalarLaws.{UrisAreRead}
+use Rattle.proof_lexers.specs.UriEnds.{behind_class}
+use Rattle.proof_lexers.proofs.Properties.Names.{one_further, none_further}
+
+-- ---- octets
+
+-- where a first octet leads
+abbrev lead_to : Place → Place → List ℕ → Option Lead → Result State Fault
+lead_to start p t None = Err (At problem.TagLeadingOctet start)
+lead_to start p t (Some l) = at_trail start l.further l.bits l.least p t
+
+same_one : (n : ℕ) → nat_lt n 128 ≡ is_between 0x00 0x7F n
+same_one n = both _ _ (λ h. grind (arith, nat_tests)) (λ h. grind (arith, nat_tests))
+
+same_two : (n : ℕ) → (nat_le 192 n && nat_lt n 224) ≡ is_between 0xC0 0xDF n
+same_two n = both _ _ (λ h. grind (arith, nat_tests)) (λ h. grind (arith, nat_tests))
+
+same_three : (n : ℕ) → (nat_le 224 n && nat_lt n 240) ≡ is_between 0xE0 0xEF n
+same_three n = both _ _ (λ h. grind (arith, nat_tests)) (λ h. grind (arith, nat_tests))
+
+same_four : (n : ℕ) → (nat_le 240 n && nat_lt n 248) ≡ is_between 0xF0 0xF7 n
+same_four n = both _ _ (λ h. grind (arith, nat_tests)) (λ h. grind (arith, nat_tests))
+
+same_trail : (n : ℕ) → (nat_le 128 n && nat_lt n 192) ≡ is_trail n
+unfolding is_trail
+same_trail n = both _ _ (λ h. grind (arith, nat_tests)) (λ h. grind (arith, nat_tests))
+
+same_lead : (start p : Place) (n : ℕ) (t : List ℕ) → at_octet start lead n p t ≡ lead_to start p t (lead_of n)
+unfolding lead_of
+same_lead start p n t = rw (same_one n, same_two n, same_three n, same_four n) (by (is_between 0x00 0x7F n) (is_between 0xC0 0xDF n) (is_between 0xE0 0xEF n) (is_between 0xF0 0xF7 n))
+  where
+    by : (a b c d : Bool) →
+        (if a then at_trail start 0 n 0 p t else (if b then at_trail start 1 (n - 192) 128 p t else (if c then at_trail start 2 (n - 224) 2048 p t else (if d then at_trail start 3 (n - 240) 65536 p t else Err (At problem.TagLeadingOctet start)))))
+        ≡ lead_to start p t (if a then Some (record { further = 0; bits = n; least = 0 }) else (if b then Some (record { further = 1; bits = n - 0xC0; least = 0x80 }) else
+        (if c then Some (record { further = 2; bits = n - 0xE0; least = 0x800 }) else (if d then Some (record { further = 3; bits = n - 0xF0; least = 0x10000 }) else None))))
+    by true b c d = refl
+    by false true c d = refl
+    by false false true d = refl
+    by false false false true = refl
+    by false false false false = refl
+
+-- ---- what an escape means
+
+behind_some : (n : ℕ) (r : List ℕ) → decoded_behind n r ≡ decoded_behind 0 (drop n r)
+behind_some zero r = refl
+behind_some (suc n) [] = refl
+behind_some (suc n) (c ∷ r) = behind_some n r
+
+-- a code that is completed, and what the text behind it means
+abbrev completed : (least : ℕ) → Result ℕ UriFault → Result (List ℕ) UriFault → Result (List ℕ) UriFault
+completed least (Err f) others = Err f
+completed least (Ok code) others = (if nat_le least code && is_character_code code then put_code code others else Err no_character)
+
+two_more : (m x y : ℕ) (r : List ℕ) → decoded_behind (2 + m) (x ∷ y ∷ r) ≡ decoded_behind 0 (drop m r)
+two_more m x y r = let e : 2 + m ≡ suc (suc m) = omega arith in rw e (behind_some m r)
+
+is_completed : (l : Lead) (o : Result ℕ UriFault) (x y : ℕ) (r : List ℕ) → code_followed (checked l o) (λ n. decoded_behind n (x ∷ y ∷ r)) ≡ completed l.least o (decoded_behind 0 (drop (3 * l.further) r))
+is_completed l (Err f) x y r = refl
+is_completed l (Ok code) x y r = by (nat_le l.least code && is_character_code code)
+  where
+    by : (b : Bool) → code_followed (if b then Ok (record { code = code; further = 2 + 3 * l.further }) else Err no_character) (λ n. decoded_behind n (x ∷ y ∷ r))
+        ≡ (if b then put_code code (decoded_behind 0 (drop (3 * l.further) r)) else Err no_character)
+    by true = ap (put_code code) (two_more (3 * l.further) x y r)
+    by false = refl
+
+-- ---- the scan
+
+module _ (test class : ℕ → Bool) (start : Place) (same : (c : ℕ) → class c ≡ test c) (percents : test 37 ≡ true) (digits : (c : ℕ) → is_digit c 16 ≡ true → test c ≡ true) where
+  abbrev scan : List ℕ → Place → List ℕ → Result (Read (List ℕ)) Fault
+  scan a p t = uri_from test start a (record { mode = plain; place = p; text = t })
+
+  abbrev answer : List ℕ → Place → List ℕ → Result (List ℕ) UriFault → Result (Read (List ℕ)) Fault
+  answer a p t d = behind_class class start p a t d
+
+  -- one character of the class more
+  more : (c : ℕ) (a : List ℕ) (p : Place) (t : List ℕ) (d : Result (List ℕ) UriFault) → class c ≡ true → answer a (past p) t d ≡ answer (c ∷ a) p t d
+  more c a p t (Ok cs) e = rw e (ap (λ q. Ok (record { rest = behind class a; place = q; value = t ++ cs })) (one_further p (length (leading class a))))
+  more c a p t (Err f) e = refl
+
+  with_code : (c : ℕ) (a : List ℕ) (p : Place) (t : List ℕ) (d : Result (List ℕ) UriFault) → answer a p (t ++ c ∷ []) d ≡ answer a p t (put_code c d)
+  with_code c a p t (Ok cs) = rw (append_assoc) refl
+  with_code c a p t (Err f) = refl
+
+  -- Behind a percent sign two digits are an octet, or the text is refused.
+  data Octets (o : Octet) (a : List ℕ) (p : Place) (t : List ℕ) : Type 0 where
+    octet : (x y n : ℕ) (b : List ℕ) → a ≡ x ∷ y ∷ b → class x ≡ true → class y ≡ true → octet_at (37 ∷ leading class a) ≡ Some n
+        → uri_from test start a (record { mode = high o; place = p; text = t }) ≡ octet_from test start o n b (past (past p)) t → Octets o a p t
+    no_octets : octet_at (37 ∷ leading class a) ≡ None → uri_from test start a (record { mode = high o; place = p; text = t }) ≡ Err (At problem.TagOctet start) → Octets o a p t
+
+  of_class : (c : ℕ) → is_digit c 16 ≡ true → class c ≡ true
+  of_class c h = same c ∙ digits c h
+
+  none_by : (b : Bool) (x : ℕ) (l : List ℕ) → is_digit x 16 ≡ false → octet_at (37 ∷ (if b then x ∷ l else [])) ≡ None
+  unfolding octet_at
+  none_by false x l e = refl
+  none_by true x [] e = refl
+  none_by true x (y ∷ l) e = rw e refl
+
+  second_by : (b : Bool) (x y : ℕ) (l : List ℕ) → is_digit x 16 ≡ true → is_digit y 16 ≡ false → octet_at (37 ∷ x ∷ (if b then y ∷ l else [])) ≡ None
+  unfolding octet_at
+  second_by false x y l e f = refl
+  second_by true x y l e f = rw (e, f) refl
+
+  some_by : (x y : ℕ) (l : List ℕ) → is_digit x 16 ≡ true → is_digit y 16 ≡ true → octet_at (37 ∷ x ∷ y ∷ l) ≡ Some (digit_value x * 16 + digit_value y)
+  unfolding octet_at
+  some_by x y l e f = rw (e, f) refl
+
+  lone : (x : ℕ) → octet_at (37 ∷ x ∷ []) ≡ None
+  unfolding octet_at
+  lone x = refl
+
+  nothing : octet_at (37 ∷ []) ≡ None
+  unfolding octet_at
+  nothing = refl
+
+  second_octet : (o : Octet) (x : ℕ) (r : List ℕ) (p : Place) (t : List ℕ) → is_digit x 16 ≡ true → class x ≡ true → is_hex x ≡ true → Octets o (x ∷ r) p t
+  second_octet o x [] p t e f g = no_octets (rw f (lone x)) (rw g refl)
+  second_octet o x (y ∷ b) p t e f g = by (is_digit y 16) refl
+    where
+      by : (d : Bool) → is_digit y 16 ≡ d → Octets o (x ∷ y ∷ b) p t
+      by true h =
+          let of_y = of_class y h in
+          let hex : is_hex y ≡ true = same_digit y ∙ h in
+          octet x y (digit_value x * 16 + digit_value y) b refl f of_y (rw (f, of_y) (some_by x y (leading class b) e h)) (rw g (low_turn test start o (digit_value x) y (y ∷ b) b (past p) t hex refl))
+      by false h =
+          let no_hex : is_hex y ≡ false = same_digit y ∙ h in
+          no_octets (rw f (second_by (class y) x y (leading class b) e h)) (rw (g, no_hex) refl)
+
+  octets_at : (o : Octet) (a : List ℕ) (p : Place) (t : List ℕ) → Octets o a p t
+  octets_at o [] p t = no_octets nothing refl
+  octets_at o (x ∷ r) p t = by (is_digit x 16) refl
+    where
+      by : (d : Bool) → is_digit x 16 ≡ d → Octets o (x ∷ r) p t
+      by true e = second_octet o x r p t e (of_class x e) (same_digit x ∙ e)
+      by false e = let no_hex : is_hex x ≡ false = same_digit x ∙ e in no_octets (none_by (class x) x (leading class r) e) (rw no_hex refl)
+
+  abbrev Plain : List ℕ → Type 0
+  Plain a = (p : Place) (t : List ℕ) → scan a p t ≡ answer a p t (decoded (leading class a))
+
+  -- three characters of the class more
+  three_more : (x y : ℕ) (b : List ℕ) (p : Place) (t : List ℕ) (d : Result (List ℕ) UriFault) → class x ≡ true → class y ≡ true → answer b (past (past (past p))) t d ≡ answer (37 ∷ x ∷ y ∷ b) p t d
+  three_more x y b p t d e f = more y b (past (past p)) t d f ∙ more x (y ∷ b) (past p) t d e ∙ more 37 (x ∷ y ∷ b) p t d (same 37 ∙ percents)
+
+  abbrev Trails : ℕ → Type 0
+  Trails left = (code least : ℕ) (a : List ℕ) (p : Place) (t : List ℕ) → ((n : ℕ) → Plain (drop n a))
+      → trails_from test start left code least a p t ≡ answer a p t (completed least (trails left code (leading class a)) (decoded_behind 0 (drop (3 * left) (leading class a))))
+
+  -- a code that is completed
+  whole_code : (code least : ℕ) (a : List ℕ) (p : Place) (t : List ℕ) → Plain a → trails_from test start 0 code least a p t ≡ answer a p t (completed least (Ok code) (decoded (leading class a)))
+  whole_code code least a p t here = rw (same_code code) (by (nat_le least code && is_character_code code))
+    where
+      by : (b : Bool) → after (if b then Ok (record { mode = plain; place = p; text = t ++ code ∷ [] }) else Err (At problem.TagCodepoint start)) (λ s. uri_from test start a s)
+          ≡ answer a p t (if b then put_code code (decoded (leading class a)) else Err no_character)
+      by true = here p (t ++ code ∷ []) ∙ with_code code a p t (decoded (leading class a))
+      by false = refl
+
+  three_off : (left x y z : ℕ) (l : List ℕ) → drop (3 * suc left) (x ∷ y ∷ z ∷ l) ≡ drop (3 * left) l
+  three_off left x y z l = let e : 3 * suc left ≡ suc (suc (suc (3 * left))) = omega arith in rw e refl
+
+  -- an octet more of a code
+  next_octet : (left code least x y n : ℕ) (b : List ℕ) (p : Place) (t : List ℕ) → Trails left → ((k : ℕ) → Plain (drop k b)) → class x ≡ true → class y ≡ true → octet_at (37 ∷ x ∷ y ∷ leading class b) ≡ Some n
+      → octet_from test start (trail left code least) n b (past (past (past p))) t
+      ≡ answer (37 ∷ x ∷ y ∷ b) p t (completed least (trail_by (octet_at (37 ∷ x ∷ y ∷ leading class b)) code (λ k. trails left k (leading class b))) (decoded_behind 0 (drop (3 * left) (leading class b))))
+  next_octet left code least x y n b p t others plains e f oc = rw (oc, same_trail n) (by (is_trail n))
+    where
+      by : (trails_on : Bool) → after (if trails_on then at_trail start left (code * 64 + (n - 128)) least (past (past (past p))) t else Err (At problem.TagTrailingOctet start)) (λ s. uri_from test start b s)
+          ≡ answer (37 ∷ x ∷ y ∷ b) p t (completed least (if trails_on then trails left (code * 64 + (n - 128)) (leading class b) else Err wrong_trail) (decoded_behind 0 (drop (3 * left) (leading class b))))
+      by true = others (code * 64 + (n - 128)) least b (past (past (past p))) t plains ∙ three_more x y b p t _ e f
+      by false = refl
+
+  leads : class 37 ≡ true
+  leads = same 37 ∙ percents
+
+  behind_two : (a b : List ℕ) (x y : ℕ) → a ≡ x ∷ y ∷ b → ((k : ℕ) → Plain (drop k (37 ∷ a))) → (k : ℕ) → Plain (drop k b)
+  behind_two a b x y cut plains k = subst (λ (l : List ℕ). Plain (drop (suc (suc k)) l)) cut (plains (suc (suc (suc k))))
+
+  behind_percent : (left code least : ℕ) (a : List ℕ) (p : Place) (t : List ℕ) → Trails left → ((k : ℕ) → Plain (drop k (37 ∷ a))) → Octets (trail left code least) a (past p) t
+      → trails_from test start (suc left) code least (37 ∷ a) p t ≡ answer (37 ∷ a) p t (completed least (trails (suc left) code (37 ∷ leading class a)) (decoded_behind 0 (drop (3 * suc left) (37 ∷ leading class a))))
+  behind_percent left code least a p t others plains (octet x y n b cut e f oc is) =
+      let here = rw cut at is in
+      let known = rw (cut, e, f) at oc in
+      rw (cut, e, f, three_off left 37 x y (leading class b)) (here ∙ next_octet left code least x y n b p t others (behind_two a b x y cut plains) e f known)
+  behind_percent left code least a p t others plains (no_octets oc is) = is ∙ rw oc refl
+
+  no_percent : (c : ℕ) (l : List ℕ) (b : Bool) → (c == 37) ≡ false → octet_at (if b then c ∷ l else []) ≡ None
+  unfolding octet_at
+  no_percent c l false e = refl
+  no_percent c [] true e = refl
+  no_percent c (x ∷ []) true e = refl
+  no_percent c (x ∷ y ∷ l) true e = rw e refl
+
+  empty : octet_at [] ≡ None
+  unfolding octet_at
+  empty = refl
+
+  trailing : (left : ℕ) → Trails left
+  trailing zero code least a p t plains = whole_code code least a p t (plains 0)
+  trailing (suc left) code least [] p t plains = rw empty refl
+  trailing (suc left) code least (c ∷ a) p t plains = by (trailing left) (c == 37) refl
+    where
+      by : Trails left → (percents : Bool) → (c == 37) ≡ percents
+          → trails_from test start (suc left) code least (c ∷ a) p t ≡ answer (c ∷ a) p t (completed least (trails (suc left) code (leading class (c ∷ a))) (decoded_behind 0 (drop (3 * suc left) (leading class (c ∷ a)))))
+      by others true e =
+          let is_percent : c ≡ 37 = eqb-true c 37 e in
+          rw (is_percent, leads) (behind_percent left code least a p t others (subst (λ (d : ℕ). (k : ℕ) → Plain (drop k (d ∷ a))) is_percent plains) (octets_at (trail left code least) a (past p) t))
+      by others false e = rw (e, no_percent c (leading class a) (class c) e) refl
+
+  -- ---- the whole text
+
+  -- behind the first octet of a character
+  led : (x y n : ℕ) (b : List ℕ) (p : Place) (t : List ℕ) → ((k : ℕ) → Plain (drop k b)) → class x ≡ true → class y ≡ true → octet_at (37 ∷ x ∷ y ∷ leading class b) ≡ Some n
+      → octet_from test start lead n b (past (past (past p))) t ≡ answer (37 ∷ x ∷ y ∷ b) p t (decoded (37 ∷ x ∷ y ∷ leading class b))
+  unfolding uri_character escaped_character
+  led x y n b p t plains e f oc = rw (oc, same_lead start (past (past (past p))) n t) (by (lead_of n))
+    where
+      by : (o : Option Lead) → after (lead_to start (past (past (past p))) t o) (λ s. uri_from test start b s)
+          ≡ answer (37 ∷ x ∷ y ∷ b) p t (code_followed (led_by o (37 ∷ x ∷ y ∷ leading class b)) (λ n. decoded_behind n (x ∷ y ∷ leading class b)))
+      by None = refl
+      by (Some l) =
+          trailing l.further l.bits l.least b (past (past (past p))) t plains
+          ∙ three_more x y b p t _ e f
+          ∙ ap (answer (37 ∷ x ∷ y ∷ b) p t) (sym (is_completed l (trails l.further l.bits (leading class b)) x y (leading class b)))
+
+  behind_digits : (a b : List ℕ) (x y : ℕ) → a ≡ x ∷ y ∷ b → ((k : ℕ) → Plain (drop k a)) → (k : ℕ) → Plain (drop k b)
+  behind_digits a b x y cut plains k = subst (λ (l : List ℕ). Plain (drop (suc (suc k)) l)) cut (plains (suc (suc k)))
+
+  at_percent : (a : List ℕ) (p : Place) (t : List ℕ) → ((k : ℕ) → Plain (drop k a)) → Octets lead a (past p) t → scan (37 ∷ a) p t ≡ answer (37 ∷ a) p t (decoded (37 ∷ leading class a))
+  unfolding uri_character escaped_character
+  at_percent a p t plains (octet x y n b cut e f oc is) =
+      let here = rw cut at is in
+      let known = rw (cut, e, f) at oc in
+      let span : leading class (x ∷ y ∷ b) ≡ x ∷ y ∷ leading class b = rw (e, f) refl in
+      rw (percents, cut) (here ∙ led x y n b p t (behind_digits a b x y cut plains) e f known ∙ ap (λ l. answer (37 ∷ x ∷ y ∷ b) p t (decoded (37 ∷ l))) (sym span))
+  at_percent a p t plains (no_octets oc is) = rw percents (is ∙ rw oc refl)
+
+  -- where no character of the class stands
+  nothing_read : (a : List ℕ) (p : Place) (t : List ℕ) → ◌≡◌ {A = Result (Read (List ℕ)) Fault} (Ok (record { rest = a; place = p; value = t })) (Ok (record { rest = a; place = further 0 p; value = t ++ [] }))
+  nothing_read a p t = rw (none_further p, append-nil) refl
+
+  first_by : (c : ℕ) (a : List ℕ) → ((k : ℕ) → Plain (drop k a)) → (in_class is_escape : Bool) → class c ≡ in_class → (c == 37) ≡ is_escape → (p : Place) (t : List ℕ) → scan (c ∷ a) p t ≡ answer (c ∷ a) p t (decoded (leading class (c ∷ a)))
+  unfolding uri_character
+  first_by c a plains true true e f p t =
+      let is_percent : c ≡ 37 = eqb-true c 37 f in
+      rw (is_percent, leads) (at_percent a p t plains (octets_at lead a (past p) t))
+  first_by c a plains true false e f p t =
+      let tested : test c ≡ true = sym (same c) ∙ e in
+      let one : decoded (leading class (c ∷ a)) ≡ put_code c (decoded (leading class a)) = rw (e, f) refl in
+      let on : scan (c ∷ a) p t ≡ scan a (past p) (t ++ c ∷ []) = rw (tested, f) refl in
+      on ∙ plains 0 (past p) (t ++ c ∷ []) ∙ with_code c a (past p) t (decoded (leading class a)) ∙ more c a p t (put_code c (decoded (leading class a))) e ∙ ap (answer (c ∷ a) p t) (sym one)
+  first_by c a plains false is_escape e f p t =
+      let tested : test c ≡ false = sym (same c) ∙ e in
+      rw (tested, e, e) (nothing_read (c ∷ a) p t)
+
+  all_read : (n : ℕ) (a : List ℕ) (p : Place) (t : List ℕ) → scan (drop n a) p t ≡ answer (drop n a) p t (decoded (leading class (drop n a)))
+  all_read zero [] p t = nothing_read [] p t
+  all_read (suc n) [] p t = nothing_read [] p t
+  all_read (suc n) (c ∷ a) p t = all_read n a p t
+  all_read zero (c ∷ a) p t = first_by c a (λ n. all_read n a) (class c) (c == 37) refl refl p t
+
+hex_is_word : (c : ℕ) → is_hex c ≡ true → is_alphanumeric c ≡ true
+unfolding is_hex is_alphanumeric
+hex_is_word c h = grind (arith, nat_tests)
+
+hex_is_no_flow : (c : ℕ) → is_hex c ≡ true → (is_flow c ≡ false) × ((c == 33) ≡ false)
+unfolding is_hex is_flow
+hex_is_no_flow c h = (grind (arith, nat_tests), grind (arith, nat_tests))
+
+hex_is_uri : (c : ℕ) → is_digit c 16 ≡ true → is_uri c ≡ true
+unfolding is_uri
+hex_is_uri c h = let word : is_alphanumeric c ≡ true = hex_is_word c (same_digit c ∙ h) in rw word refl
+
+hex_is_tag : (c : ℕ) → is_digit c 16 ≡ true → is_tag c ≡ true
+unfolding is_tag
+hex_is_tag c h = let no_flow = hex_is_no_flow c (same_digit c ∙ h) in let uri : is_uri c ≡ true = hex_is_uri c h in rw (uri, no_flow.0, no_flow.1) refl
+
+pub uris_are_read : UrisAreRead
+unfolding is_uri is_alphanumeric is_uri_mark is_flow is_tag
+uris_are_read start text p before =
+    (all_read is_uri classes.is_uri start same_uri refl hex_is_uri 0 text p before, all_read is_tag classes.is_tag start same_tag refl hex_is_tag 0 text p before)

@@ -1,0 +1,10 @@
+pub mod Bodies
+pub mod Elements
+pub mod Faults
+pub mod Lines
+pub mod Local
+pub mod NoNul
+pub mod ScanEnds
+pub mod Shapes
+pub mod Turns
+pub mod Values

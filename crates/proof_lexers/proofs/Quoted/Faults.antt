@@ -1,0 +1,134 @@
+-- Escapes that are none are refused.
+use Rattle.std.proofs.Common.{◌≡◌, ℕ, zero, suc, ◌+◌, ◌*◌, List, [], ◌∷◌, Bool, true, false, ◌==◌, if◌then◌else◌, Option, Some, None, Err, refl, ap, sym, ◌∙◌, arith, take, length}
+use Rattle.std.specs.Char.{digit_value, is_digit}
+use Rattle.std.proofs.lemmas.Bool.Decides.{nat_tests}
+use Rattle.defs_text.specs.Position.{Place}
+use Rattle.yaml_chars.specs.Class.{is_break, is_blank}
+use Rattle.yaml_tokens.specs.declared.problem.Fault.TheVariants.{At}
+use Rattle.yaml_tokens.specs.declared.problem.Problem.{Problem}
+use Rattle.yaml_tokens.specs.declared.problem.Problem.TheVariants as problem
+use Rattle.defs_text.specs.Classes as classes
+use Rattle.defs_scalar.specs.FlowScalar.{content, escaped_break, break_further, lookup, escapes, numeric_escapes, hexadecimal, is_character_code, numbered, numeric_escape, escape_by, escape}
+use Rattle.model_lexers.specs.declared.context.Context.{Context}
+use Rattle.model_lexers.specs.Machine.{past}
+use Rattle.model_lexers.specs.Folding.{Folded}
+use Rattle.model_lexers.specs.Quoted.{inside, named, digits_from}
+use Rattle.model_lexers.proofs.QuotedLemmas.{named_code, named_unknown, digit_turn, digit_fails, coded_fails}
+use Rattle.proof_lexers.specs.QuotedEnds.{number_at, IsBadEscape, ends, unknown, no_digit, no_character}
+use Rattle.proof_lexers.proofs.Bridges.{same_break, same_digit, same_code, same_escape}
+use Rattle.proof_lexers.proofs.Quoted.Turns.{scan, spelled}
+use Rattle.proof_lexers.proofs.Quoted.Elements.{has_digits}
+
+same_length : (n m : ℕ) → (suc n == suc m) ≡ (n == m)
+same_length n m = by (suc n == suc m) (n == m) refl refl
+  where
+    by : (b c : Bool) → (suc n == suc m) ≡ b → (n == m) ≡ c → b ≡ c
+    by true true e f = refl
+    by true false e f = grind (arith, nat_tests)
+    by false true e f = grind (arith, nat_tests)
+    by false false e f = refl
+
+too_short : (n : ℕ) → (zero == suc n) ≡ false
+too_short n = grind (arith, nat_tests)
+
+-- the number of so many digits behind a value, if they are there
+abbrev number_behind : ℕ → ℕ → List ℕ → Option ℕ
+number_behind n value b = (if length (take n b) == n then hexadecimal value (take n b) else None)
+
+module _ (ctx : Context) (start : Place) where
+  -- Digits are missing.
+  digits_fail : (n value : ℕ) (b : List ℕ) (p : Place) (u : Folded) → number_behind n value b ≡ None → digits_from false ctx start n value b p u ≡ Err (At problem.HexadecimalDigit start)
+  digits_fail zero value b p u h = cc
+  digits_fail (suc n) value [] p u h = refl
+  digits_fail (suc n) value (c ∷ b) p u h = by (is_digit c 16) refl (λ more. digits_fail n (value * 16 + digit_value c) b (past p) u more) h
+    where
+      by : (digit : Bool) → is_digit c 16 ≡ digit
+          → (number_behind n (value * 16 + digit_value c) b ≡ None → digits_from false ctx start n (value * 16 + digit_value c) b (past p) u ≡ Err (At problem.HexadecimalDigit start))
+          → number_behind (suc n) value (c ∷ b) ≡ None → digits_from false ctx start (suc n) value (c ∷ b) p u ≡ Err (At problem.HexadecimalDigit start)
+      by true e others none =
+          let same = same_length (length (take n b)) n in
+          let fewer : number_behind n (value * 16 + digit_value c) b ≡ None = rw (same, e) at none in
+          digit_turn false ctx start n value c (c ∷ b) b p u (rw (same_digit c) e) refl ∙ others fewer
+      by false e others none = digit_fails false ctx start n value c (c ∷ b) p u (rw (same_digit c) e) refl
+
+  -- A code is no character's.
+  code_fails : (n value code : ℕ) (b : List ℕ) (p : Place) (u : Folded) → number_behind n value b ≡ Some code → is_character_code code ≡ false → digits_from false ctx start n value b p u ≡ Err (At problem.EscapedCode start)
+  code_fails zero value code b p u h bad = let same : value ≡ code = cc in coded_fails false ctx start value b p u (same_code value ∙ ap is_character_code same ∙ bad)
+  code_fails (suc n) value code [] p u h bad = let short = too_short n in let none : None ≡ Some code = rw short at h in cc
+  code_fails (suc n) value code (c ∷ b) p u h bad = by (is_digit c 16) refl (λ more. code_fails n (value * 16 + digit_value c) code b (past p) u more bad) h
+    where
+      by : (digit : Bool) → is_digit c 16 ≡ digit
+          → (number_behind n (value * 16 + digit_value c) b ≡ Some code → digits_from false ctx start n (value * 16 + digit_value c) b (past p) u ≡ Err (At problem.EscapedCode start))
+          → number_behind (suc n) value (c ∷ b) ≡ Some code → digits_from false ctx start (suc n) value (c ∷ b) p u ≡ Err (At problem.EscapedCode start)
+      by true e others some =
+          let same = same_length (length (take n b)) n in
+          let fewer : number_behind n (value * 16 + digit_value c) b ≡ Some code = rw (same, e) at some in
+          digit_turn false ctx start n value c (c ∷ b) b p u (rw (same_digit c) e) refl ∙ others fewer
+      by false e others some = none_more (length (c ∷ take n b) == suc n) e some
+        where
+          none_more : (many : Bool) → is_digit c 16 ≡ false → (if many then (if is_digit c 16 then hexadecimal (value * 16 + digit_value c) (take n b) else None) else None) ≡ Some code
+              → digits_from false ctx start (suc n) value (c ∷ b) p u ≡ Err (At problem.EscapedCode start)
+          none_more true f h = let none : None ≡ Some code = rw f at h in cc
+          none_more false f h = cc
+
+  -- ---- an escape
+
+  pub record Fails (b : List ℕ) (p : Place) (u : Folded) : Type 0 where
+    pub why : Problem
+    pub bad : IsBadEscape b why
+    pub is : scan false ctx start (92 ∷ b) inside p u ≡ Err (At why start)
+
+  to_named : (d : ℕ) (b : List ℕ) (p : Place) (u : Folded) → is_break d ≡ false → scan false ctx start (92 ∷ d ∷ b) inside p u ≡ scan false ctx start (d ∷ b) named (past p) u
+  unfolding is_break is_blank
+  to_named d b p u e = rw e refl
+
+  unknown_fails : (d : ℕ) (b : List ℕ) (p : Place) (u : Folded) → is_break d ≡ false → lookup d escapes ≡ None → lookup d numeric_escapes ≡ None → Fails (d ∷ b) p u
+  unknown_fails d b p u e f g = record {
+    why = problem.UnknownEscape;
+    bad = unknown d b (same_break d ∙ e) f g;
+    is = to_named d b p u e ∙ named_unknown false ctx start d (d ∷ b) (past p) u (same_escape d ∙ rw (f, g) refl) refl;
+  }
+
+  to_digits : (d n m : ℕ) (b : List ℕ) (p : Place) (u : Folded) → is_break d ≡ false → lookup d escapes ≡ None → lookup d numeric_escapes ≡ Some n → n ≡ suc m → scan false ctx start (92 ∷ d ∷ b) inside p u ≡ digits_from false ctx start (suc m) 0 b (past (past p)) u
+  to_digits d n m b p u e f g same = to_named d b p u e ∙ named_code false ctx start d m (d ∷ b) b (past p) u (same_escape d ∙ rw (f, g, same) refl) refl
+
+  code_fails_by : (d n : ℕ) (b : List ℕ) (p : Place) (u : Folded) (o : Option ℕ) → is_break d ≡ false → lookup d escapes ≡ None → lookup d numeric_escapes ≡ Some n → number_at n b ≡ o → numbered n o ≡ None → Fails (d ∷ b) p u
+  code_fails_by d n b p u None e f g number h =
+      let z = has_digits d n g in
+      let none : number_behind (suc z.0) 0 b ≡ None = rw (← z.1) number in
+      record { why = problem.HexadecimalDigit; bad = no_digit d n b f g number; is = to_digits d n z.0 b p u e f g z.1 ∙ digits_fail (suc z.0) 0 b (past (past p)) u none }
+  code_fails_by d n b p u (Some code) e f g number h =
+      let z = has_digits d n g in
+      let some : number_behind (suc z.0) 0 b ≡ Some code = rw (← z.1) number in
+      let invalid = no_character_of n code (is_character_code code) refl h in
+      record { why = problem.EscapedCode; bad = no_character d n code b f g number invalid; is = to_digits d n z.0 b p u e f g z.1 ∙ code_fails (suc z.0) 0 code b (past (past p)) u some invalid }
+    where
+      no_character_of : (n code : ℕ) (valid : Bool) → is_character_code code ≡ valid → (if valid then Some (spelled (content code) (suc n)) else None) ≡ None → is_character_code code ≡ false
+      no_character_of n code true e h = cc
+      no_character_of n code false e h = e
+
+  numbers_are : (n : ℕ) (b : List ℕ) → numeric_escape n b ≡ None → numbered n (number_at n b) ≡ None
+  unfolding numeric_escape
+  numbers_are n b h = by (length (take n b) == n) h
+    where
+      by : (many : Bool) → (if many then numbered n (hexadecimal 0 (take n b)) else None) ≡ None → numbered n (if many then hexadecimal 0 (take n b) else None) ≡ None
+      by true h = h
+      by false h = refl
+
+  rows_fail : (d : ℕ) (b : List ℕ) (p : Place) (u : Folded) (o n : Option ℕ) → is_break d ≡ false → lookup d escapes ≡ o → lookup d numeric_escapes ≡ n → escape_by o n b ≡ None → Fails (d ∷ b) p u
+  rows_fail d b p u (Some code) n e f g h = cc
+  rows_fail d b p u None (Some n) e f g h = code_fails_by d n b p u (number_at n b) e f g refl (numbers_are n b h)
+  rows_fail d b p u None None e f g h = unknown_fails d b p u e f g
+
+  pub escape_fails : (b : List ℕ) (p : Place) (u : Folded) → escape b ≡ None → Fails b p u
+  unfolding escape is_break is_blank
+  escape_fails [] p u h = record { why = problem.UnknownEscape; bad = ends; is = refl }
+  escape_fails (d ∷ b) p u h = by (classes.is_break d) refl h (λ e more. rows_fail d b p u (lookup d escapes) (lookup d numeric_escapes) (same_break' d e) refl refl more)
+    where
+      same_break' : (c : ℕ) → classes.is_break c ≡ false → is_break c ≡ false
+      same_break' c e = sym (same_break c) ∙ e
+
+      by : (breaks : Bool) → classes.is_break d ≡ breaks → (if breaks then Some (spelled escaped_break (suc (break_further d b))) else escape_by (lookup d escapes) (lookup d numeric_escapes) b) ≡ None
+          → (classes.is_break d ≡ false → escape_by (lookup d escapes) (lookup d numeric_escapes) b ≡ None → Fails (d ∷ b) p u) → Fails (d ∷ b) p u
+      by true e h others = cc
+      by false e h others = others e h

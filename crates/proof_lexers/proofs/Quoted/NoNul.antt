@@ -1,0 +1,84 @@
+-- A body that has elements has no NUL, and a line of it begins with a marker before the closing quote just where it does in the body.
+use Rattle.std.proofs.Common.{◌≡◌, ℕ, zero, suc, ◌+◌, List, [], ◌∷◌, ◌++◌, Bool, true, false, ◌||◌, ◌&&◌, ◌==◌, Option, Some, None, refl, ap, ◌∙◌, drop}
+use Rattle.std.specs.List.{list_all}
+use Rattle.std.proofs.lemmas.Bool.{and_parts, not-true}
+use Rattle.defs_text.specs.Position.{Place}
+use Rattle.defs_text.specs.Classes as classes
+use Rattle.defs_text.specs.Classes.{is_document_marker}
+use Rattle.defs_scalar.specs.FlowScalar.{Element, Spelled, elements, followed, put_before, begins_with_marker, has_document_marker}
+use Rattle.model_lexers.specs.declared.context.Context.{Context}
+use Rattle.model_lexers.specs.Folding.{nothing}
+use Rattle.model_lexers.specs.Quoted.{quote_of}
+use Rattle.proof_lexers.proofs.Bridges.{and_false, or_false}
+use Rattle.proof_layout_tokens.proofs.Json.Levels.{no_less}
+use Rattle.proof_lexers.specs.QuotedScan.{element_of, is_some, has_marker, by_line, by_tab}
+use Rattle.proof_lexers.proofs.Quoted.Turns.{no_marker, Step, steps, is_marked, is_shallow, StepOf}
+use Rattle.proof_lexers.proofs.Quoted.Elements.{step}
+
+-- outside all collections, behind a line's first character
+abbrev outside : Context
+outside = record { flow = false; indent = 0 }
+
+abbrev second : Place
+second = record { index = 1; line = 1; col = 1 }
+
+module _ (single : Bool) where
+  same_some : (c : ℕ) (b : List ℕ) (s : Spelled) → Step single outside second c b [] second nothing s → list_all is_some (c ∷ b) ≡ list_all is_some (drop s.further b)
+  same_some c b s (steps m q ready full none marks is) = full
+  same_some c b s (is_marked e f) = cc
+  same_some c b s (is_shallow (by_line p e f)) = let none = no_less (p.col + 1) in cc
+  same_some c b s (is_shallow (by_tab p e f)) = let none = no_less (p.col + 1) in cc
+
+  abbrev HasNone : ℕ → List ℕ → Type 0
+  HasNone n a = (es : List Element) → elements (element_of single) n a ≡ Some es → list_all is_some (drop n a) ≡ true
+
+  by_elements : (c : ℕ) (b : List ℕ) (s : Spelled) (o : Option (List Element)) (es : List Element) → elements (element_of single) s.further b ≡ o → put_before s.element o ≡ Some es → HasNone s.further b
+      → Step single outside second c b [] second nothing s → list_all is_some (c ∷ b) ≡ true
+  by_elements c b s None es k e others z = cc
+  by_elements c b s (Some fs) es k e others z = same_some c b s z ∙ others fs k
+
+  by_element : (c : ℕ) (b : List ℕ) (o : Option Spelled) (es : List Element) → followed o (λ n. elements (element_of single) n b) ≡ Some es → ((n : ℕ) → HasNone n b) → StepOf single outside second c b [] second nothing o
+      → list_all is_some (c ∷ b) ≡ true
+  by_element c b None es e others z = cc
+  by_element c b (Some s) es e others z = by_elements c b s (elements (element_of single) s.further b) es refl e (others s.further) z
+
+  pub has_none : (n : ℕ) (a : List ℕ) → HasNone n a
+  has_none zero [] es h = refl
+  has_none (suc n) [] es h = refl
+  has_none (suc n) (c ∷ b) es h = has_none n b es h
+  has_none zero (c ∷ b) es h = by_element c b (element_of single c b) es h (λ n. has_none n b) (step single outside second c b [] second nothing refl)
+
+-- ---- document markers
+
+two_parts : (b c : Bool) → ((b && c) && false) ≡ false
+two_parts true c = and_false c
+two_parts false c = refl
+
+fourth : (m b k n : Bool) → n ≡ false → (m && ((b || k) || n)) ≡ (m && (b || k))
+fourth m b k n h = rw h (ap (λ x. m && x) (or_false (b || k)))
+
+some_fourth : (c d e f : ℕ) (a : List ℕ) → list_all is_some (c ∷ d ∷ e ∷ f ∷ a) ≡ true → (f == 0) ≡ false
+some_fourth c d e f a h =
+    let one = and_parts (is_some c) (list_all is_some (d ∷ e ∷ f ∷ a)) h in
+    let two = and_parts (is_some d) (list_all is_some (e ∷ f ∷ a)) one.1 in
+    let three = and_parts (is_some e) (list_all is_some (f ∷ a)) two.1 in
+    not-true (f == 0) ((and_parts (is_some f) (list_all is_some a) three.1).0)
+
+-- with the closing quote behind it a body begins with a marker just where it does alone
+marker_here : (single : Bool) (a r : List ℕ) → list_all is_some a ≡ true → is_document_marker (a ++ quote_of single ∷ r) ≡ begins_with_marker a
+unfolding begins_with_marker classes.are_marks classes.is_blank_or_end classes.is_blank classes.is_break classes.is_nul
+marker_here true [] r h = no_marker 39 r refl refl
+marker_here false [] r h = no_marker 34 r refl refl
+marker_here true (c ∷ []) [] h = refl
+marker_here false (c ∷ []) [] h = refl
+marker_here true (c ∷ []) (d ∷ r) h = rw (and_false (c == 45), and_false (c == 46)) refl
+marker_here false (c ∷ []) (d ∷ r) h = rw (and_false (c == 45), and_false (c == 46)) refl
+marker_here true (c ∷ d ∷ []) r h = rw (two_parts (c == 45) (d == 45), two_parts (c == 46) (d == 46)) refl
+marker_here false (c ∷ d ∷ []) r h = rw (two_parts (c == 45) (d == 45), two_parts (c == 46) (d == 46)) refl
+marker_here true (c ∷ d ∷ e ∷ []) r h = and_false _
+marker_here false (c ∷ d ∷ e ∷ []) r h = and_false _
+marker_here single (c ∷ d ∷ e ∷ f ∷ a) r h = fourth (classes.are_marks c d e) (classes.is_blank f) (classes.is_break f) (f == 0) (some_fourth c d e f a h)
+
+pub same_marks : (single : Bool) (a r : List ℕ) → list_all is_some a ≡ true → has_marker a (quote_of single ∷ r) ≡ has_document_marker a
+same_marks single [] r h = refl
+same_marks single (c ∷ a) r h = let q = and_parts (is_some c) (list_all is_some a) h in rw (marker_here single a r q.1, same_marks single a r q.1) refl

@@ -1,0 +1,88 @@
+-- Each text behind an opening quote is a body and its closing quote, or has none, or an escape in it is none.
+use Rattle.std.proofs.Common.{◌≡◌, ℕ, zero, suc, List, [], ◌∷◌, ◌++◌, Bool, true, false, ◌==◌, if◌then◌else◌, Option, Some, None, refl, ap, sym, ◌∙◌, take, drop, append_assoc}
+use Rattle.std.specs.List.{list_all}
+use Rattle.std.proofs.lemmas.Bool.{and_parts, eqb-true, not-true}
+use Rattle.std.proofs.lemmas.List.{take-append-drop}
+use Rattle.defs_text.specs.Classes as classes
+use Rattle.defs_scalar.specs.FlowScalar.{content, blank, line_break, Spelled, begins_with, break_further, plain_element, single_quoted_element, double_quoted_element, escape, elements}
+use Rattle.model_lexers.specs.Quoted.{quote_of}
+use Rattle.proof_lexers.specs.QuotedScan.{element_of, ends_before, is_some}
+use Rattle.proof_lexers.specs.QuotedEnds.{HasElements}
+use Rattle.proof_lexers.proofs.Quoted.Turns.{spelled}
+use Rattle.proof_lexers.proofs.Quoted.Local.{Local, LocalOf, local, behind_some, behind_own}
+
+-- a text behind an opening quote
+pub data Shape (single : Bool) (text : List ℕ) : Type 0 where
+  closed : (body rest : List ℕ) → text ≡ body ++ quote_of single ∷ rest → HasElements single body → ends_before single rest ≡ true → Shape single text
+  unclosed : HasElements single text → Shape single text
+  badly_escaped : (body rest : List ℕ) → single ≡ false → text ≡ body ++ 92 ∷ rest → HasElements single body → escape rest ≡ None → Shape single text
+
+-- ---- one element more
+
+module _ (single : Bool) (c : ℕ) (b : List ℕ) (s : Spelled) (is : element_of single c b ≡ Some s) (own : Local (element_of single c) b s) where
+  abbrev before : List ℕ → List ℕ
+  before body = c ∷ (take s.further b ++ body)
+
+  cut : (body rest : List ℕ) → drop s.further b ≡ body ++ rest → c ∷ b ≡ before body ++ rest
+  cut body rest e = ap (λ r. c ∷ r) (sym (take-append-drop s.further b) ∙ ap (λ r. take s.further b ++ r) e ∙ sym (append_assoc (take s.further b) body rest))
+
+  behind_taken : (body : List ℕ) → elements (element_of single) s.further (take s.further b ++ body) ≡ elements (element_of single) 0 body
+  behind_taken body = ap (λ n. elements (element_of single) n (take s.further b ++ body)) (sym own.fits) ∙ behind_own (element_of single) (take s.further b) body
+
+  more : (body rest : List ℕ) → drop s.further b ≡ body ++ rest → HasElements single body → HasElements single (before body)
+  more body rest e (es, h) = (s.element ∷ es, rw (own.same body rest e, behind_taken body, h) refl)
+
+  more_unclosed : HasElements single (drop s.further b) → HasElements single (c ∷ b)
+  more_unclosed (es, h) = (s.element ∷ es, rw (is, behind_some (element_of single) s.further b, h) refl)
+
+  grown : Shape single (drop s.further b) → Shape single (c ∷ b)
+  grown (closed body rest e has ends) = closed (before body) rest (cut body (quote_of single ∷ rest) e) (more body (quote_of single ∷ rest) e has) ends
+  grown (unclosed has) = unclosed (more_unclosed has)
+  grown (badly_escaped body rest double e has bad) = badly_escaped (before body) rest double (cut body (92 ∷ rest) e) (more body (92 ∷ rest) e has) bad
+
+-- ---- no element
+
+plain_some : (c : ℕ) (b : List ℕ) → plain_element c b ≡ None → ⊥
+unfolding plain_element
+plain_some c b h = by (classes.is_break c) (classes.is_blank c) h
+  where
+    by : (x y : Bool) → (if x then Some (spelled line_break (break_further c b)) else (if y then Some (spelled (blank c) 0) else Some (spelled (content c) 0))) ≡ None → ⊥
+    by true y h = cc
+    by false true h = cc
+    by false false h = cc
+
+quote_shape : (b : List ℕ) (two : Bool) → begins_with 39 b ≡ two → (if two then Some (spelled (content 39) 1) else None) ≡ None → Shape true (39 ∷ b)
+quote_shape b true e h = cc
+quote_shape b false e h = closed [] b refl ([], refl) (rw e refl)
+
+single_shape : (c : ℕ) (b : List ℕ) (quote : Bool) → (c == 0) ≡ false → (c == 39) ≡ quote → single_quoted_element c b ≡ None → Shape true (c ∷ b)
+unfolding single_quoted_element classes.is_nul
+single_shape c b true nul e h = let q : c ≡ 39 = eqb-true c 39 e in rw q (quote_shape b (begins_with 39 b) refl (rw (nul, e) at h))
+single_shape c b false nul e h = absurd (plain_some c b (rw (nul, e) at h))
+
+double_shape : (c : ℕ) (b : List ℕ) (quote slash : Bool) → (c == 0) ≡ false → (c == 34) ≡ quote → (c == 92) ≡ slash → double_quoted_element c b ≡ None → Shape false (c ∷ b)
+unfolding double_quoted_element classes.is_nul
+double_shape c b true slash nul e f h = let q : c ≡ 34 = eqb-true c 34 e in rw q (closed [] b refl ([], refl) refl)
+double_shape c b false true nul e f h = let q : c ≡ 92 = eqb-true c 92 f in rw q (badly_escaped [] b refl refl ([], refl) (rw (nul, e, f) at h))
+double_shape c b false false nul e f h = absurd (plain_some c b (rw (nul, e, f) at h))
+
+no_element : (single : Bool) (c : ℕ) (b : List ℕ) → (c == 0) ≡ false → element_of single c b ≡ None → Shape single (c ∷ b)
+no_element true c b nul h = single_shape c b (c == 39) nul refl h
+no_element false c b nul h = double_shape c b (c == 34) (c == 92) nul refl refl h
+
+-- ---- every text
+
+shape_by : (single : Bool) (c : ℕ) (b : List ℕ) (o : Option Spelled) → (c == 0) ≡ false → element_of single c b ≡ o → LocalOf (element_of single c) b o → ((n : ℕ) → Shape single (drop n b)) → Shape single (c ∷ b)
+shape_by single c b None nul e z others = no_element single c b nul e
+shape_by single c b (Some s) nul e z others = grown single c b s e z (others s.further)
+
+shape_from : (single : Bool) (n : ℕ) (a : List ℕ) → list_all is_some a ≡ true → Shape single (drop n a)
+shape_from single zero [] h = unclosed ([], refl)
+shape_from single (suc n) [] h = unclosed ([], refl)
+shape_from single (suc n) (c ∷ b) h = shape_from single n b ((and_parts (is_some c) (list_all is_some b) h).1)
+shape_from single zero (c ∷ b) h =
+    let q = and_parts (is_some c) (list_all is_some b) h in
+    shape_by single c b (element_of single c b) (not-true (c == 0) q.0) refl (local single c b) (λ n. shape_from single n b q.1)
+
+pub shape_of : (single : Bool) (a : List ℕ) → list_all is_some a ≡ true → Shape single a
+shape_of single a h = shape_from single 0 a h

@@ -1,0 +1,170 @@
+-- What the model does at an element of a body.
+use Rattle.std.proofs.Common.{◌≡◌, ℕ, ◌+◌, List, [], ◌∷◌, ◌++◌, Bool, true, false, ◌||◌, ◌&&◌, not, ◌==◌, if◌then◌else◌, Option, Some, None, Result, Ok, Err, refl, sym, ◌∙◌, append-nil, arith, nat_lt, slice_index, drop}
+use Rattle.std.specs.List.{list_all}
+use Rattle.std.proofs.lemmas.Bool.{and_parts, eqb-true}
+use Rattle.std.proofs.lemmas.Bool.Decides.{nat_tests}
+use Rattle.defs_text.specs.Position.{Place}
+use Rattle.yaml_chars.specs.Class.{is_break, is_blank}
+use Rattle.yaml_tokens.specs.declared.problem.Fault.{Fault}
+use Rattle.yaml_tokens.specs.declared.problem.Fault.TheVariants.{At}
+use Rattle.yaml_tokens.specs.declared.problem.Problem.TheVariants as problem
+use Rattle.defs_text.specs.Classes as classes
+use Rattle.defs_text.specs.Classes.{is_document_marker}
+use Rattle.defs_scalar.specs.FlowScalar.{Element, content, blank, line_break, Spelled, break_further, plain_element}
+use Rattle.model_lexers.specs.declared.context.Context.{Context}
+use Rattle.model_lexers.specs.Machine.{Read, past, past_break, at_marker}
+use Rattle.model_lexers.specs.Folding.{Folded, with_char, joined}
+use Rattle.model_lexers.specs.Quoted.{Mode, inside, gap, behind, quoted_from, quote_of, refused}
+use Rattle.proof_lexers.specs.Buffers.{behind_element}
+use Rattle.proof_lexers.specs.QuotedScan.{is_some, has_marker, IsShallow, by_line, by_tab}
+use Rattle.proof_lexers.proofs.Bridges.{same_break, same_blank, same_marker, and_false}
+
+-- behind so many characters of a line
+pub off_margin : (n k : ℕ) → (n + (k + 1) == 0) ≡ false
+off_margin n k = grind (arith, nat_tests)
+
+as_deep : (n k i : ℕ) → nat_lt (n + 1) i ≡ false → nat_lt ((n + (k + 1)) + 1) i ≡ false
+as_deep n k i h = grind (arith, nat_tests)
+
+pub no_marker : (c : ℕ) (a : List ℕ) → (c == 45) ≡ false → (c == 46) ≡ false → is_document_marker (c ∷ a) ≡ false
+unfolding classes.are_marks
+no_marker c [] e f = refl
+no_marker c (d ∷ []) e f = refl
+no_marker c (d ∷ g ∷ a) e f = rw (e, f) refl
+
+pub feed_is_no_marker : (a : List ℕ) → is_document_marker (10 ∷ a) ≡ false
+feed_is_no_marker a = no_marker 10 a refl refl
+
+record White (c : ℕ) : Type 0 where
+  dash : (c == 45) ≡ false
+  point : (c == 46) ≡ false
+
+white : (c : ℕ) → (is_break c || is_blank c) ≡ true → White c
+unfolding is_break is_blank
+white c h = record { dash = grind (arith, nat_tests); point = grind (arith, nat_tests) }
+
+-- within a line, no gap before the next character
+abbrev pub plain : List ℕ → Folded
+plain text = record { text = text; gap = []; leading = false; escaped = false }
+
+-- Where an element may begin: behind an escaped break a closing quote is not checked for its column.
+pub data Ready (single : Bool) (t : Folded) : Mode → Type 0 where
+  in_gap : Ready single t gap
+  behind_escaped : single ≡ false → t.gap ≡ [] → t.escaped ≡ true → Ready single t behind
+
+-- an element, and how many characters behind its first one belong to it
+abbrev pub spelled : Element → ℕ → Spelled
+spelled e k = record { element = e; further = k }
+
+module _ (single : Bool) (ctx : Context) (start : Place) where
+  abbrev pub scan : List ℕ → Mode → Place → Folded → Result (Read (List ℕ)) Fault
+  scan a m p t = quoted_from single ctx start a (record { mode = m; place = p; folded = t })
+
+  -- A character that is neither blank nor break begins a line or goes on in one, or is refused.
+  pub data Begun (a : List ℕ) (p : Place) (t : Folded) : Type 0 where
+    begun : ((p.col == 0) && is_document_marker a) ≡ false → nat_lt (p.col + 1) ctx.indent ≡ false → scan a gap p t ≡ scan a inside p (joined t) → Begun a p t
+    marked : ((p.col == 0) && is_document_marker a) ≡ true → scan a gap p t ≡ Err (At problem.QuotedDocumentMarker start) → Begun a p t
+    shallow : nat_lt (p.col + 1) ctx.indent ≡ true → scan a gap p t ≡ Err (At problem.QuotedIndentation start) → Begun a p t
+
+  begun_by : (c : ℕ) (a : List ℕ) (p : Place) (t : Folded) (m s : Bool) → at_marker p.col (c ∷ a) ≡ m → nat_lt (p.col + 1) ctx.indent ≡ s → (is_break c || is_blank c) ≡ false → Begun (c ∷ a) p t
+  unfolding refused
+  begun_by c a p t true s e f g = marked (sym (same_marker p.col (c ∷ a)) ∙ e) (rw (g, e) refl)
+  begun_by c a p t false true e f g = shallow f (rw (g, e, f) refl)
+  begun_by c a p t false false e f g = begun (sym (same_marker p.col (c ∷ a)) ∙ e) f (rw (g, e, f) refl)
+
+  pub begins : (c : ℕ) (a : List ℕ) (p : Place) (t : Folded) → (is_break c || is_blank c) ≡ false → Begun (c ∷ a) p t
+  begins c a p t g = begun_by c a p t (at_marker p.col (c ∷ a)) (nat_lt (p.col + 1) ctx.indent) refl refl g
+
+  pub may_stand : (a : List ℕ) (p : Place) → (p.col == 0) ≡ false → nat_lt (p.col + 1) ctx.indent ≡ false → refused ctx start a p ≡ Ok tt
+  unfolding refused at_marker
+  may_stand a p e f = rw (e, f) refl
+
+  inside_by : (c : ℕ) (a : List ℕ) (p : Place) (text : List ℕ) (b : Bool) → (is_break c || is_blank c) ≡ b → (p.col == 0) ≡ false → nat_lt (p.col + 1) ctx.indent ≡ false
+      → scan (c ∷ a) inside p (plain text) ≡ scan (c ∷ a) gap p (plain text)
+  inside_by c a p text true g e f = rw g refl
+  inside_by c a p text false g e f = rw (g, may_stand (c ∷ a) p e f, append-nil) refl
+
+  -- within a line that may stand there a gap may begin at any place
+  pub inside_is_gap : (a : List ℕ) (p : Place) (text : List ℕ) → (p.col == 0) ≡ false → nat_lt (p.col + 1) ctx.indent ≡ false → scan a inside p (plain text) ≡ scan a gap p (plain text)
+  inside_is_gap [] p text e f = refl
+  inside_is_gap (c ∷ a) p text e f = inside_by c a p text (is_break c || is_blank c) refl e f
+
+  -- One character of the text was taken, of so many and one more written.
+  pub record Taken (x : Result (Read (List ℕ)) Fault) (a : List ℕ) (col : ℕ) (u : Folded) (code : ℕ) : Type 0 where
+    pub place : Place
+    pub more : ℕ
+    pub col_is : place.col ≡ col + (more + 1)
+    pub is : x ≡ scan a inside place (with_char code u)
+
+  char_taken : (c : ℕ) (a : List ℕ) (p : Place) (u : Folded) → (is_break c || is_blank c) ≡ false → ((c == 92) && not single) ≡ false → (c == quote_of single) ≡ false
+      → Taken (scan (c ∷ a) inside p u) a p.col u c
+  char_taken c a p u g e f = record { place = past p; more = 0; col_is = refl; is = rw (g, e, f) refl }
+
+  -- The scan at an element of a body, before the body's rest b and the text r behind it.
+  pub data Step (c : ℕ) (b r : List ℕ) (p : Place) (t : Folded) (s : Spelled) : Type 0 where
+    steps : (m : Mode) (q : Place) → Ready single (behind_element s.element t) m → list_all is_some (c ∷ b) ≡ list_all is_some (drop s.further b) → ((p.col == 0) && is_document_marker (c ∷ (b ++ r))) ≡ false
+        → has_marker (c ∷ b) r ≡ (((q.col == 0) && is_document_marker (drop s.further b ++ r)) || has_marker (drop s.further b) r)
+        → scan (c ∷ (b ++ r)) gap p t ≡ scan (drop s.further b ++ r) m q (behind_element s.element t) → Step c b r p t s
+    is_marked : ((p.col == 0) && is_document_marker (c ∷ (b ++ r))) ≡ true → scan (c ∷ (b ++ r)) gap p t ≡ Err (At problem.QuotedDocumentMarker start) → Step c b r p t s
+    is_shallow : IsShallow ctx start (scan (c ∷ (b ++ r)) gap p t) → Step c b r p t s
+
+  abbrev pub StepOf : ℕ → List ℕ → List ℕ → Place → Folded → Option Spelled → Type 0
+  StepOf c b r p t None = Unit {0}
+  StepOf c b r p t (Some s) = Step c b r p t s
+
+  -- an element that is content
+  content_by : (c : ℕ) (b r : List ℕ) (k code : ℕ) (p : Place) (t : Folded) → Taken (scan (c ∷ (b ++ r)) inside p (joined t)) (drop k b ++ r) p.col (joined t) code → has_marker (c ∷ b) r ≡ has_marker (drop k b) r → list_all is_some (c ∷ b) ≡ list_all is_some (drop k b)
+      → Begun (c ∷ (b ++ r)) p t → Step c b r p t (spelled (content code) k)
+  content_by c b r k code p t z same full (begun none deep is) =
+      let off : (z.place.col == 0) ≡ false = rw z.col_is (off_margin p.col z.more) in
+      let still_deep : nat_lt (z.place.col + 1) ctx.indent ≡ false = rw z.col_is (as_deep p.col z.more ctx.indent deep) in
+      steps gap z.place in_gap full none (same ∙ rw off refl) (is ∙ z.is ∙ inside_is_gap (drop k b ++ r) z.place ((joined t).text ++ code ∷ []) off still_deep)
+  content_by c b r k code p t z same full (marked e is) = is_marked e is
+  content_by c b r k code p t z same full (shallow e is) = is_shallow (by_line p e is)
+
+  pub content_step : (c : ℕ) (b r : List ℕ) (k code : ℕ) (p : Place) (t : Folded) → (is_break c || is_blank c) ≡ false → Taken (scan (c ∷ (b ++ r)) inside p (joined t)) (drop k b ++ r) p.col (joined t) code
+      → has_marker (c ∷ b) r ≡ has_marker (drop k b) r → list_all is_some (c ∷ b) ≡ list_all is_some (drop k b) → Step c b r p t (spelled (content code) k)
+  content_step c b r k code p t g z same full = content_by c b r k code p t z same full (begins c (b ++ r) p t g)
+
+  white_stands : (c : ℕ) (a : List ℕ) (col : ℕ) → (is_break c || is_blank c) ≡ true → ((col == 0) && is_document_marker (c ∷ a)) ≡ false
+  white_stands c a col g = let w = white c g in rw (no_marker c a w.dash w.point) (and_false (col == 0))
+
+  blank_by : (c : ℕ) (b r : List ℕ) (p : Place) (t : Folded) (tab : Bool) → (t.leading && (c == 9) && nat_lt (p.col + 1) ctx.indent) ≡ tab → is_break c ≡ false → is_blank c ≡ true → (c == 0) ≡ false
+      → Step c b r p t (spelled (blank c) 0)
+  blank_by c b r p t true e f g nul = is_shallow (by_tab p ((and_parts (t.leading && (c == 9)) (nat_lt (p.col + 1) ctx.indent) e).1) (rw (f, g, e) refl))
+  blank_by c b r p t false e f g nul =
+      let off : (p.col + 1 == 0) ≡ false = off_margin p.col 0 in
+      steps gap (past p) in_gap (rw nul refl) (white_stands c (b ++ r) p.col (rw (f, g) refl)) (rw (same_break c, f, off) refl) (rw (f, g, e) refl)
+
+  lone_break : (c : ℕ) (b r : List ℕ) (p : Place) (t : Folded) → is_break c ≡ true → (c == 0) ≡ false → ((c == 13) && (slice_index (b ++ r) 0 == 10)) ≡ false → Step c b r p t (spelled line_break 0)
+  lone_break c b r p t e nul f =
+      steps gap (past_break p) in_gap (rw nul refl) (white_stands c (b ++ r) p.col (rw e refl)) (rw (same_break c, e) refl) (rw (e, f) refl)
+
+  two_breaks : (b r : List ℕ) (p : Place) (t : Folded) → Step 13 (10 ∷ b) r p t (spelled line_break 1)
+  unfolding is_break is_blank classes.is_break
+  two_breaks b r p t = steps gap (past_break (past p)) in_gap refl (white_stands 13 (10 ∷ (b ++ r)) p.col refl) (rw (feed_is_no_marker (b ++ r)) refl) refl
+
+  break_by : (c d : ℕ) (b r : List ℕ) (p : Place) (t : Folded) (two : Bool) → ((c == 13) && (d == 10)) ≡ two → is_break c ≡ true → (c == 0) ≡ false → Step c (d ∷ b) r p t (spelled line_break (if two then 1 else 0))
+  break_by c d b r p t true e f nul =
+      let both = and_parts (c == 13) (d == 10) e in
+      let first : c ≡ 13 = eqb-true c 13 both.0 in
+      let second : d ≡ 10 = eqb-true d 10 both.1 in
+      rw (first, second) (two_breaks b r p t)
+  break_by c d b r p t false e f nul = lone_break c (d ∷ b) r p t f nul e
+
+  break_step : (c : ℕ) (b r : List ℕ) (p : Place) (t : Folded) → (slice_index r 0 == 10) ≡ false → is_break c ≡ true → (c == 0) ≡ false → Step c b r p t (spelled line_break (break_further c b))
+  break_step c [] r p t no_feed e nul = lone_break c [] r p t e nul (rw no_feed (and_false (c == 13)))
+  break_step c (d ∷ b) r p t no_feed e nul = break_by c d b r p t ((c == 13) && (d == 10)) refl e nul
+
+  -- a character that means itself
+  itself_by : (c : ℕ) (b r : List ℕ) (p : Place) (t : Folded) (breaks blanks : Bool) → is_break c ≡ breaks → is_blank c ≡ blanks → (slice_index r 0 == 10) ≡ false → ((c == 92) && not single) ≡ false → (c == quote_of single) ≡ false → (c == 0) ≡ false
+      → StepOf c b r p t (plain_element c b)
+  unfolding plain_element
+  itself_by c b r p t true blanks e f no_feed slash quote nul = rw (same_break c, e) (break_step c b r p t no_feed e nul)
+  itself_by c b r p t false true e f no_feed slash quote nul = rw (same_break c, same_blank c, e, f) (blank_by c b r p t (t.leading && (c == 9) && nat_lt (p.col + 1) ctx.indent) refl e f nul)
+  itself_by c b r p t false false e f no_feed slash quote nul =
+      let g : (is_break c || is_blank c) ≡ false = rw (e, f) refl in
+      rw (same_break c, same_blank c, e, f) (content_step c b r 0 c p t g (char_taken c (b ++ r) p (joined t) g slash quote) (rw (same_break c, e) refl) (rw nul refl))
+
+  pub itself_step : (c : ℕ) (b r : List ℕ) (p : Place) (t : Folded) → (slice_index r 0 == 10) ≡ false → ((c == 92) && not single) ≡ false → (c == quote_of single) ≡ false → (c == 0) ≡ false → StepOf c b r p t (plain_element c b)
+  itself_step c b r p t no_feed slash quote nul = itself_by c b r p t (is_break c) (is_blank c) refl refl no_feed slash quote nul

@@ -1,0 +1,78 @@
+-- Bodies with a value are read as it.
+use Rattle.std.proofs.Common.{◌≡◌, ℕ, ◌+◌, List, ◌∷◌, ◌++◌, Bool, true, false, ◌||◌, ◌&&◌, ◌==◌, if◌then◌else◌, Option, Some, None, Result, refl, ◌∙◌}
+use Rattle.defs_text.specs.Position.{Place}
+use Rattle.yaml_tokens.specs.declared.problem.Fault.{Fault}
+use Rattle.defs_scalar.specs.FlowScalar.{Element, elements, folded_elements, has_document_marker, single_quoted_value, double_quoted_value, lines_of, trimmed, folded}
+use Rattle.model_lexers.specs.declared.context.Context.{Context}
+use Rattle.model_lexers.specs.Machine.{Read, past}
+use Rattle.model_lexers.specs.Folding.{nothing, joined}
+use Rattle.model_lexers.specs.Quoted.{first, gap, quote_of, quoted}
+use Rattle.proof_lexers.specs.Buffers.{behind_elements}
+use Rattle.proof_lexers.specs.QuotedScan.{element_of, value_of, has_marker, ends_before, by_line, by_tab, IsRead, read, shallow}
+use Rattle.proof_lexers.specs.QuotedLaws.{QuotedBodiesAreRead}
+use Rattle.proof_lexers.proofs.Fold.{buffers_join}
+use Rattle.proof_lexers.proofs.Quoted.Turns.{off_margin, in_gap, scan}
+use Rattle.proof_lexers.proofs.Quoted.NoNul.{has_none, same_marks}
+use Rattle.proof_lexers.proofs.Quoted.Bodies.{Passed, passed, met_marker, was_shallow, passes, quote_still, quote_feed, Opened, opened, not_opened, opens, close}
+
+read_on : (ctx : Context) (start : Place) (text rest : List ℕ) (x y : Result (Read (List ℕ)) Fault) → x ≡ y → IsRead ctx start text rest y → IsRead ctx start text rest x
+read_on ctx start text rest x y e (read place is) = read place (e ∙ is)
+read_on ctx start text rest x y e (shallow (by_line p h is)) = shallow (by_line p h (e ∙ is))
+read_on ctx start text rest x y e (shallow (by_tab p h is)) = shallow (by_tab p h (e ∙ is))
+
+module _ (single : Bool) (ctx : Context) (body r : List ℕ) (es : List Element) (p : Place) (is : elements (element_of single) 0 body ≡ Some es) (ends : ends_before single r ≡ true) (none : has_marker body (quote_of single ∷ r) ≡ false) where
+  abbrev text : List ℕ
+  text = (joined (behind_elements es nothing)).text
+
+  off : (p.col + 1 == 0) ≡ false
+  off = off_margin p.col 0
+
+  no_margin : (x y : Bool) → x ≡ false → y ≡ false → ((x && false) || y) ≡ false
+  no_margin x y e f = rw (e, f) refl
+
+  behind_body : Passed single ctx p (scan single ctx p (body ++ quote_of single ∷ r) gap (past p) nothing) body (quote_of single ∷ r) (p.col + 1) (behind_elements es nothing)
+      → IsRead ctx p text r (scan single ctx p (body ++ quote_of single ∷ r) gap (past p) nothing)
+  behind_body (passed m q ready unmarked e) = read_on ctx p text r _ _ e (close single ctx p r ends m q (behind_elements es nothing) ready)
+  behind_body (met_marker meets e) = let no : false ≡ true = rw (off, none) at meets in cc
+  behind_body (was_shallow s) = shallow s
+
+  from_gap : IsRead ctx p text r (scan single ctx p (body ++ quote_of single ∷ r) gap (past p) nothing)
+  from_gap = behind_body (passes single ctx p 0 body (quote_of single ∷ r) (quote_feed single r) (quote_still single r) es gap (past p) nothing is in_gap)
+
+  first_here : Opened single ctx p (body ++ quote_of single ∷ r) (past p) → IsRead ctx p text r (scan single ctx p (body ++ quote_of single ∷ r) first (past p) nothing)
+  first_here (opened e) = read_on ctx p text r _ _ e from_gap
+  first_here (not_opened s) = shallow s
+
+  pub body_read : IsRead ctx p text r (quoted single ctx (quote_of single ∷ (body ++ quote_of single ∷ r)) p)
+  unfolding quoted
+  body_read = first_here (opens single ctx p (body ++ quote_of single ∷ r) (past p) off)
+
+-- a body with a value has elements, and no line of it begins with a marker
+pub record HasElements (single : Bool) (body value : List ℕ) : Type 0 where
+  pub all : List Element
+  pub are : elements (element_of single) 0 body ≡ Some all
+  pub unmarked : has_document_marker body ≡ false
+  pub value_is : folded (trimmed (lines_of all)) ≡ value
+
+parts_by : (single marked : Bool) (o : Option (List Element)) (body value : List ℕ) → has_document_marker body ≡ marked → elements (element_of single) 0 body ≡ o → (if marked then None else folded_elements o) ≡ Some value → HasElements single body value
+parts_by single true o body value e f h = cc
+parts_by single false None body value e f h = cc
+parts_by single false (Some es) body value e f h = record { all = es; are = f; unmarked = e; value_is = cc }
+
+pub parts : (single : Bool) (body value : List ℕ) → value_of single body ≡ Some value → HasElements single body value
+unfolding single_quoted_value double_quoted_value
+parts true body value h = parts_by true (has_document_marker body) (elements (element_of true) 0 body) body value refl refl h
+parts false body value h = parts_by false (has_document_marker body) (elements (element_of false) 0 body) body value refl refl h
+
+-- the value of a body of elements, of which no line begins with a marker
+pub value_is : (single : Bool) (body : List ℕ) (es : List Element) → elements (element_of single) 0 body ≡ Some es → has_document_marker body ≡ false → value_of single body ≡ Some (folded (trimmed (lines_of es)))
+unfolding single_quoted_value double_quoted_value
+value_is true body es e f = rw (e, f) refl
+value_is false body es e f = rw (e, f) refl
+
+pub bodies_are_read : QuotedBodiesAreRead
+bodies_are_read single ctx body r value p h ends =
+    let z = parts single body value h in
+    let full = has_none single 0 body z.all z.are in
+    let none = same_marks single body r full ∙ z.unmarked in
+    rw (← buffers_join z.all ∙ z.value_is) (body_read single ctx body r z.all p z.are ends none)

@@ -1,0 +1,153 @@
+-- The blanks and the comment that the model passes in a line are a filler.
+use Rattle.std.proofs.Common.{◌≡◌, ℕ, List, [], ◌∷◌, ◌++◌, Bool, true, false, ◌||◌, ◌&&◌, ◌==◌, if◌then◌else◌, Result, Ok, Err, refl, ap, sym, ◌∙◌, arith}
+use Rattle.std.proofs.lemmas.Bool.{eqb-true}
+use Rattle.std.proofs.lemmas.Bool.Decides.{nat_tests}
+use Rattle.defs_text.specs.Position.{Place}
+use Rattle.yaml_chars.specs.Class.{is_break, is_blank}
+use Rattle.yaml_tokens.specs.declared.problem.Fault.{Fault}
+use Rattle.yaml_tokens.specs.declared.problem.Fault.TheVariants.{At}
+use Rattle.yaml_tokens.specs.declared.problem.Problem.TheVariants as problem
+use Rattle.defs_text.specs.Classes as classes
+use Rattle.defs_scalar.specs.FlowScalar.{begins_with}
+use Rattle.defs_token.specs.Text.{place_past, place_behind}
+use Rattle.defs_token.specs.Filler.{is_filler}
+use Rattle.model_lexers.specs.declared.context.SkipTabs.{SkipTabs}
+use Rattle.model_lexers.specs.declared.context.Whitespace.{Whitespace}
+use Rattle.model_lexers.specs.Machine.{Read, past, skip_while}
+use Rattle.model_lexers.specs.Space.{is_line, are_skipped, with_found, comment_behind, space_from, space}
+use Rattle.proof_lexers.proofs.Bridges.{same_break, same_blank}
+use Rattle.proof_lexers.specs.PlainEnds.{has_break}
+use Rattle.proof_lexers.specs.ScalarLaws.{SpacesArePassed}
+use Rattle.proof_lexers.specs.Fillers.{behind_space, has, are_spaces, ends_spaces, SpacesAs, spaces, glued}
+use Rattle.proof_lexers.proofs.Plain.Turns.{in_line_place, or_true, or_false}
+use Rattle.proof_lexers.proofs.Separation.Fillers.{no_hash}
+
+-- whether a text begins with a break, or there is none
+abbrev is_line_end : List ℕ → Bool
+is_line_end [] = true
+is_line_end (c ∷ r) = is_break c
+
+break_ends : (tabs : SkipTabs) (c : ℕ) → is_break c ≡ true → ((c == 32) ≡ false) × ((c == 9) ≡ false) × ((c == 35) ≡ false)
+unfolding is_break
+break_ends tabs c h = (grind (arith, nat_tests), grind (arith, nat_tests), grind (arith, nat_tests))
+
+line_ends : (tabs : SkipTabs) (r : List ℕ) → is_line_end r ≡ true → ends_spaces tabs r ≡ true
+line_ends tabs [] h = refl
+line_ends tabs (c ∷ r) h = let q = break_ends tabs c h in rw (q.0, q.1, q.2) refl
+
+-- the rest of a line
+record Line (a : List ℕ) (p : Place) : Type 0 where
+  line : List ℕ
+  rest : List ℕ
+  cut : a ≡ line ++ rest
+  fills : is_filler true line rest ≡ true
+  breaks : has_break line ≡ false
+  ends : is_line_end rest ≡ true
+  is : skip_while is_line a p ≡ record { rest = rest; place = place_behind p line rest; value = tt }
+
+line_of : (a : List ℕ) (p : Place) → Line a p
+line_of [] p = record { line = []; rest = []; cut = refl; fills = refl; breaks = refl; ends = refl; is = refl }
+line_of (c ∷ a) p = by (is_break c) refl (line_of a (past p))
+  where
+    by : (b : Bool) → is_break c ≡ b → Line a (past p) → Line (c ∷ a) p
+    by true e z =
+        let breaks : classes.is_break c ≡ true = same_break c ∙ e in
+        record { line = []; rest = c ∷ a; cut = refl; fills = rw breaks refl; breaks = refl; ends = e; is = rw e refl }
+    by false e z =
+        let no_break : classes.is_break c ≡ false = same_break c ∙ e in
+        let place : past p ≡ place_past p c (z.line ++ z.rest) = sym (in_line_place c (z.line ++ z.rest) p (rw no_break refl)) in
+        record {
+          line = c ∷ z.line;
+          rest = z.rest;
+          cut = ap (λ r. c ∷ r) z.cut;
+          fills = rw no_break (z.fills);
+          breaks = rw no_break (z.breaks);
+          ends = z.ends;
+          is = rw e (z.is ∙ ap (λ q. record { rest = z.rest; place = place_behind q z.line z.rest; value = tt }) place);
+        }
+
+-- from a place behind some blanks on
+data Passes (tabs : SkipTabs) (w : Whitespace) (p : Place) (a : List ℕ) (x : Result (Read Whitespace) Fault) : Type 0 where
+  passed : (blanks comment rest : List ℕ) → a ≡ blanks ++ (comment ++ rest) → are_spaces tabs blanks ≡ true → is_filler false (blanks ++ comment) rest ≡ true → has_break (blanks ++ comment) ≡ false → ends_spaces tabs rest ≡ true
+      → x ≡ Ok (behind_space p (blanks ++ comment) rest (record { found_tabs = w.found_tabs || has 9 blanks; has_valid_yaml_ws = w.has_valid_yaml_ws || has 32 blanks })) → Passes tabs w p a x
+  stuck : begins_with 35 a ≡ true → (w.found_tabs || w.has_valid_yaml_ws) ≡ false → x ≡ Err (At problem.CommentNotSeparated p) → Passes tabs w p a x
+
+passes_on : (tabs : SkipTabs) (w : Whitespace) (p : Place) (a : List ℕ) (x y : Result (Read Whitespace) Fault) → x ≡ y → Passes tabs w p a y → Passes tabs w p a x
+passes_on tabs w p a x y e (passed blanks comment rest cut are is breaks ends k) = passed blanks comment rest cut are is breaks ends (e ∙ k)
+passes_on tabs w p a x y e (stuck begins none k) = stuck begins none (e ∙ k)
+
+or_both : (a b : Bool) → (a || (true || b)) ≡ true
+or_both true b = refl
+or_both false b = refl
+
+same_space : (p q : Place) (rest : List ℕ) (a b c d : Bool) → p ≡ q → a ≡ b → c ≡ d
+    → ◌≡◌ {A = Result (Read Whitespace) Fault} (Ok (record { rest = rest; place = p; value = record { found_tabs = a; has_valid_yaml_ws = c } })) (Ok (record { rest = rest; place = q; value = record { found_tabs = b; has_valid_yaml_ws = d } }))
+same_space p q rest a b c d e f g = rw (e, f, g) refl
+
+-- One blank more is passed.
+one_more : (tabs : SkipTabs) (w v : Whitespace) (p : Place) (c : ℕ) (a : List ℕ) (x : Result (Read Whitespace) Fault) → is_blank c ≡ true → is_break c ≡ false → ((c == 32) || ((c == 9) && are_skipped tabs)) ≡ true
+    → ((b : List ℕ) → (v.found_tabs || has 9 b) ≡ (w.found_tabs || has 9 (c ∷ b))) → ((b : List ℕ) → (v.has_valid_yaml_ws || has 32 b) ≡ (w.has_valid_yaml_ws || has 32 (c ∷ b))) → (v.found_tabs || v.has_valid_yaml_ws) ≡ true
+    → Passes tabs v (past p) a x → Passes tabs w p (c ∷ a) x
+one_more tabs w v p c a x blank break of tab space some (passed blanks comment rest cut are is breaks ends e) =
+    let is_blank_here : classes.is_blank c ≡ true = same_blank c ∙ blank in
+    let no_break : classes.is_break c ≡ false = same_break c ∙ break in
+    let place : past p ≡ place_past p c ((blanks ++ comment) ++ rest) = sym (in_line_place c ((blanks ++ comment) ++ rest) p (rw no_break refl)) in
+    passed (c ∷ blanks) comment rest (ap (λ r. c ∷ r) cut) (rw of are) (rw (is_blank_here, no_hash c blank) is) (rw no_break breaks) ends
+    (e ∙ same_space _ _ rest _ _ _ _ (ap (λ q. place_behind q (blanks ++ comment) rest) place) (tab blanks) (space blanks))
+one_more tabs w v p c a x blank break of tab space some (stuck begins none e) = let both : true ≡ false = sym some ∙ none in cc
+
+module _ (tabs : SkipTabs) where
+  abbrev Passed : List ℕ → Type 0
+  Passed a = (w : Whitespace) (p : Place) → Passes tabs w p a (space_from tabs a (record { place = p; found = w }))
+
+  space_more : (a : List ℕ) (w : Whitespace) (p : Place) → Passed a → Passes tabs w p (32 ∷ a) (space_from tabs (32 ∷ a) (record { place = p; found = w }))
+  unfolding is_blank is_break
+  space_more a w p ih =
+      one_more tabs w (record w { has_valid_yaml_ws = true }) p 32 a _ refl refl refl (λ b. refl) (λ b. sym (or_both w.has_valid_yaml_ws (has 32 b))) (or_true w.found_tabs) (ih (record w { has_valid_yaml_ws = true }) (past p))
+
+  tab_more : (a : List ℕ) (w : Whitespace) (p : Place) → are_skipped tabs ≡ true → Passed a → Passes tabs w p (9 ∷ a) (space_from tabs (9 ∷ a) (record { place = p; found = w }))
+  unfolding is_blank is_break
+  tab_more a w p skipped ih =
+      one_more tabs w (record w { found_tabs = true }) p 9 a _ refl refl (rw skipped refl) (λ b. sym (or_both w.found_tabs (has 9 b))) (λ b. refl) refl
+      (passes_on tabs (record w { found_tabs = true }) (past p) a _ _ (rw skipped refl) (ih (record w { found_tabs = true }) (past p)))
+
+  hash_place : (p : Place) (l rest : List ℕ) → place_behind (past p) l rest ≡ place_behind p (35 ∷ l) rest
+  unfolding classes.is_break
+  hash_place p l rest = ap (λ q. place_behind q l rest) (sym (in_line_place 35 (l ++ rest) p refl))
+
+  comment_here : (a : List ℕ) (w : Whitespace) (p : Place) → Passes tabs w p (35 ∷ a) (comment_behind w (35 ∷ a) p)
+  unfolding is_break classes.is_break classes.is_blank
+  comment_here a w p = by (w.found_tabs || w.has_valid_yaml_ws) refl (line_of a (past p))
+    where
+      by : (b : Bool) → (w.found_tabs || w.has_valid_yaml_ws) ≡ b → Line a (past p)
+          → Passes tabs w p (35 ∷ a) (if b then Ok (with_found w (skip_while is_line a (past p))) else Err (At problem.CommentNotSeparated p))
+      by true e z =
+          passed [] (35 ∷ z.line) z.rest (ap (λ r. 35 ∷ r) z.cut) refl z.fills z.breaks (line_ends tabs z.rest z.ends)
+          (ap (λ r. Ok (with_found w r)) z.is ∙ same_space _ _ z.rest _ _ _ _ (hash_place p z.line z.rest) (sym (or_false w.found_tabs)) (sym (or_false w.has_valid_yaml_ws)))
+      by false e z = stuck refl e refl
+
+  stop_here : (c : ℕ) (a : List ℕ) (w : Whitespace) (p : Place) (hash : Bool) → (c == 35) ≡ hash → (c == 32) ≡ false → ((c == 9) && are_skipped tabs) ≡ false → Passes tabs w p (c ∷ a) (space_from tabs (c ∷ a) (record { place = p; found = w }))
+  stop_here c a w p true h e f =
+      let same : c ≡ 35 = eqb-true c 35 h in
+      passes_on tabs w p (c ∷ a) _ (comment_behind w (c ∷ a) p) (rw (e, f, h) refl) (rw same (comment_here a w p))
+  stop_here c a w p false h e f =
+      passed [] [] (c ∷ a) refl refl refl refl (rw (e, f, h) refl) (rw (e, f, h) (same_space p p (c ∷ a) _ _ _ _ refl (sym (or_false w.found_tabs)) (sym (or_false w.has_valid_yaml_ws))))
+
+  step : (c : ℕ) (a : List ℕ) (w : Whitespace) (p : Place) (space tab skipped : Bool) → (c == 32) ≡ space → (c == 9) ≡ tab → are_skipped tabs ≡ skipped → Passed a → Passes tabs w p (c ∷ a) (space_from tabs (c ∷ a) (record { place = p; found = w }))
+  step c a w p true tab skipped e f g ih = let same : c ≡ 32 = eqb-true c 32 e in rw same (space_more a w p ih)
+  step c a w p false true true e f g ih = let same : c ≡ 9 = eqb-true c 9 f in rw same (tab_more a w p g ih)
+  step c a w p false true false e f g ih = stop_here c a w p (c == 35) refl e (rw (f, g) refl)
+  step c a w p false false skipped e f g ih = stop_here c a w p (c == 35) refl e (rw f refl)
+
+  all_passed : (a : List ℕ) → Passed a
+  all_passed [] w p = passed [] [] [] refl refl refl refl refl (same_space p p [] _ _ _ _ refl (sym (or_false w.found_tabs)) (sym (or_false w.has_valid_yaml_ws)))
+  all_passed (c ∷ a) w p = step c a w p (c == 32) (c == 9) (are_skipped tabs) refl refl refl (all_passed a)
+
+pub spaces_are_passed : SpacesArePassed
+unfolding space
+spaces_are_passed tabs text p = told (all_passed tabs text (record { found_tabs = false; has_valid_yaml_ws = false }) p)
+  where
+    told : Passes tabs (record { found_tabs = false; has_valid_yaml_ws = false }) p text (space_from tabs text (record { place = p; found = record { found_tabs = false; has_valid_yaml_ws = false } }))
+        → SpacesAs tabs p text (space_from tabs text (record { place = p; found = record { found_tabs = false; has_valid_yaml_ws = false } }))
+    told (passed blanks comment rest cut are is breaks ends e) = spaces blanks comment rest cut are is breaks ends e
+    told (stuck begins none e) = glued begins e

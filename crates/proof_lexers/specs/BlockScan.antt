@@ -1,0 +1,76 @@
+-- What the model of a block scalar's scan is told and what it answers, in the definitions' words.
+use Rattle.std.specs.Prelude.{◌≡◌, ℕ, zero, suc, List, [], ◌∷◌, Bool, true, false, ◌&&◌, not, ◌==◌, nat_lt, nat_le, if◌then◌else◌, Option, Some, None, Result, Ok, Err}
+use Rattle.defs_text.specs.Position.{Place}
+use Rattle.defs_text.specs.Classes.{space, tab, is_at_end}
+use Rattle.defs_text.specs.Breaks.{split}
+use Rattle.defs_scalar.specs.FlowScalar.{begins_with}
+use Rattle.defs_scalar.specs.BlockScalar.{BlockStyle, literal, folded}
+use Rattle.defs_token.specs.Text.{place_behind}
+use Rattle.defs_token.specs.BlockPiece.{BlockRead, first_content, past_spaces, block_place}
+use Rattle.yaml_tokens.specs.declared.problem.Fault.{Fault}
+use Rattle.yaml_tokens.specs.declared.problem.Fault.TheVariants.{At}
+use Rattle.yaml_tokens.specs.declared.problem.Problem.TheVariants as problem
+use Rattle.model_lexers.specs.Machine.{Read}
+use Rattle.model_lexers.specs.Block.{Block}
+
+-- the column of the innermost open block collection; the scanner keeps one more, and 0 where none is open
+abbrev pub collection_by : (indent : ℕ) → Option ℕ
+collection_by zero = None
+collection_by (suc n) = Some n
+
+-- a header's digit; the scanner keeps 0 where there is none
+abbrev pub digit_by : (increment : ℕ) → Option ℕ
+digit_by zero = None
+digit_by (suc n) = Some (suc n)
+
+-- a text from its first character on that is no space
+abbrev pub without_spaces : List ℕ → List ℕ
+without_spaces [] = []
+without_spaces (c ∷ r) = (if c == space then without_spaces r else c ∷ r)
+
+-- whether a block scalar is written with `|`
+abbrev pub is_literal : BlockStyle → Bool
+is_literal literal = true
+is_literal folded = false
+
+-- a character other than NUL, with which a text ends
+abbrev pub is_some : ℕ → Bool
+is_some c = not (c == 0)
+
+-- the place of the first character that is no space after a piece
+abbrev pub further_place : Place → (piece next : List ℕ) → Place
+further_place p piece next = past_spaces (place_behind p piece next) next
+
+-- a block scalar read from its piece: the spaces after the piece are passed too
+abbrev pub read_block : Place → BlockRead → (piece next : List ℕ) → Read Block
+read_block p b piece next = record {
+  rest = without_spaces next;
+  place = further_place p piece next;
+  value = record { place = block_place b.column p piece next; text = b.text };
+}
+
+-- whether there is no place
+abbrev pub is_none : Option Place → Bool
+is_none None = true
+is_none (Some q) = false
+
+-- whether a list has one member
+abbrev pub is_single : {A : Type 0} → List A → Bool
+is_single [] = false
+is_single (x ∷ []) = true
+is_single (x ∷ y ∷ xs) = false
+
+-- whether a TAB stands after a piece that is a header alone
+abbrev pub is_tabbed : (piece next : List ℕ) → Bool
+is_tabbed piece next = is_single (split piece).complete && begins_with tab next
+
+-- Whether the text after a scalar without content is indented as content of the innermost block collection, but not as deep as the empty lines before it.
+abbrev pub is_shallow : (indent : ℕ) → Place → BlockRead → (piece next : List ℕ) → Bool
+is_shallow indent p b piece next =
+    ((not (is_at_end next) && is_none (first_content b.column true p piece)) && nat_le indent (further_place p piece next).col) && nat_lt (further_place p piece next).col b.column
+
+-- The scan at a place read this block scalar from its piece, or refused what stands after it: a TAB, or text that is neither content nor outside the block collection.
+pub data IsRead (indent : ℕ) (p : Place) (b : BlockRead) (piece next : List ℕ) (x : Result (Read Block) Fault) : Type 0 where
+  read : is_tabbed piece next ≡ false → is_shallow indent p b piece next ≡ false → x ≡ Ok (read_block p b piece next) → IsRead indent p b piece next x
+  shallow : is_tabbed piece next ≡ false → is_shallow indent p b piece next ≡ true → x ≡ Err (At problem.BlockScalarIndentation (further_place p piece next)) → IsRead indent p b piece next x
+  tabbed : is_tabbed piece next ≡ true → x ≡ Err (At problem.BlockScalarTab p) → IsRead indent p b piece next x

@@ -1,0 +1,16 @@
+-- What the scan of a flow scalar does with its body's elements, one by one.
+use Rattle.std.specs.Prelude.{List, [], ◌∷◌}
+use Rattle.defs_scalar.specs.FlowScalar.{Element, content, blank, line_break, escaped_break}
+use Rattle.model_lexers.specs.Folding.{Folded, with_char, with_blank, with_break, with_escaped_break, joined}
+
+-- after an element: content and an escaped break take the gap before them into the text
+abbrev pub behind_element : Element → Folded → Folded
+behind_element (content c) t = with_char c (joined t)
+behind_element (blank c) t = with_blank c t
+behind_element line_break t = with_break t
+behind_element escaped_break t = with_escaped_break (joined t)
+
+-- after elements
+abbrev pub behind_elements : List Element → Folded → Folded
+behind_elements [] t = t
+behind_elements (e ∷ es) t = behind_elements es (behind_element e t)

@@ -1,0 +1,76 @@
+-- How the scan of a block scalar's header ends, told by the rest of its line after `|` or `>`. YAML 1.2, section 8.1.1.
+use Rattle.std.specs.Prelude.{◌≡◌, ℕ, List, [], ◌∷◌, ◌++◌, Bool, true, false, ◌&&◌, ◌||◌, ◌==◌, not, Option, Some, None, Result, Ok, Err}
+use Rattle.std.specs.List.{list_all}
+use Rattle.defs_text.specs.Position.{Place}
+use Rattle.defs_text.specs.Text.{is_nil}
+use Rattle.defs_text.specs.Classes.{tab, is_break}
+use Rattle.defs_scalar.specs.FlowScalar.{begins_with}
+use Rattle.defs_scalar.specs.BlockScalar as defs
+use Rattle.defs_scalar.specs.BlockScalar.{BlockStyle, literal, folded, strip, clip, keep, sign_of, digit_of, header_of}
+use Rattle.yaml_tokens.specs.declared.problem.Fault.{Fault}
+use Rattle.yaml_tokens.specs.declared.problem.Fault.TheVariants.{At}
+use Rattle.yaml_tokens.specs.declared.problem.Problem.TheVariants as problem
+use Rattle.yaml_tokens.specs.declared.token.Chomping.{Chomping}
+use Rattle.yaml_tokens.specs.declared.token.Chomping.TheVariants.{Strip, Clip, Keep}
+use Rattle.model_lexers.specs.Machine.{Read, past}
+use Rattle.model_lexers.specs.Space.{linebreak}
+use Rattle.model_lexers.specs.Block.{Indicators, Header}
+
+-- the character that begins a block scalar
+abbrev pub indicator_of : BlockStyle → ℕ
+indicator_of literal = 124
+indicator_of folded = 62
+
+-- a chomping as the scanner names it
+abbrev pub chomping_of : defs.Chomping → Chomping
+chomping_of strip = Strip
+chomping_of clip = Clip
+chomping_of keep = Keep
+
+-- a header's digit; 0 where it has none
+abbrev pub digit_or_zero : Option ℕ → ℕ
+digit_or_zero None = 0
+digit_or_zero (Some d) = d
+
+-- a header's indicators as the scanner keeps them
+abbrev pub indicators_of : defs.Header → Indicators
+indicators_of h = record { chomping = chomping_of h.chomping; increment = digit_or_zero h.digit }
+
+-- whether no character of a text is a break
+abbrev pub is_in_line : List ℕ → Bool
+is_in_line w = list_all (λ c. not (is_break c)) w
+
+-- whether a text is at its end or begins with a break
+abbrev pub ends_line : List ℕ → Bool
+ends_line [] = true
+ends_line (c ∷ r) = is_break c
+
+-- the place after characters of a line
+abbrev pub along : List ℕ → Place → Place
+along [] p = p
+along (c ∷ w) p = along w (past p)
+
+-- a header read at a line's end: before the next line, or at the end of the text
+abbrev pub read_header : defs.Header → (behind : List ℕ) → Place → Read Header
+read_header h r p = record { rest = (linebreak r p).rest; place = (linebreak r p).place; value = record { indicators = indicators_of h; broken = not (is_nil r) } }
+
+-- whether a character is a sign of chomping
+abbrev pub is_sign : ℕ → Bool
+is_sign c = (c == 43) || (c == 45)
+
+-- whether `0` stands where a header's digit may
+abbrev pub has_zero : List ℕ → Bool
+has_zero [] = false
+has_zero (c ∷ r) = (c == 48) || (is_sign c && begins_with 48 r)
+
+-- How the scan of a header ends: `start` is the place of its `|` or `>`, and `line` the rest of its line, after which the line's end stands.
+-- It read the header that the line is, if no TAB begins the next line; or the line is none, for a digit 0, a comment right after a header, or other text.
+pub data EndsAs (start : Place) (style : BlockStyle) (line behind : List ℕ) (x : Result (Read Header) Fault) : Type 0 where
+  reads : (h : defs.Header) → header_of (indicator_of style ∷ line) ≡ Some h → begins_with tab (linebreak behind start).rest ≡ false
+      → x ≡ Ok (read_header h behind (along line (past start))) → EndsAs start style line behind x
+  tabbed : (h : defs.Header) → header_of (indicator_of style ∷ line) ≡ Some h → begins_with tab (linebreak behind start).rest ≡ true
+      → x ≡ Err (At problem.BlockScalarTab start) → EndsAs start style line behind x
+  zero_digit : header_of (indicator_of style ∷ line) ≡ None → has_zero line ≡ true → x ≡ Err (At problem.BlockScalarZero start) → EndsAs start style line behind x
+  comment : (h : defs.Header) (before text : List ℕ) → header_of (indicator_of style ∷ line) ≡ None → header_of (indicator_of style ∷ before) ≡ Some h → line ≡ before ++ 35 ∷ text
+      → x ≡ Err (At problem.CommentNotSeparated (along before (past start))) → EndsAs start style line behind x
+  no_header : header_of (indicator_of style ∷ line) ≡ None → x ≡ Err (At problem.BlockScalarHeader start) → EndsAs start style line behind x

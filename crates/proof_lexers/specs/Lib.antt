@@ -1,0 +1,16 @@
+pub mod BlockEnds
+pub mod BlockLaws
+pub mod BlockScan
+pub mod BufferLaws
+pub mod Buffers
+pub mod DirectiveEnds
+pub mod Fillers
+pub mod HeaderEnds
+pub mod NameEnds
+pub mod PlainEnds
+pub mod QuotedEnds
+pub mod QuotedLaws
+pub mod QuotedScan
+pub mod ScalarLaws
+pub mod TagEnds
+pub mod UriEnds

@@ -1,0 +1,91 @@
+-- How the scan of a plain scalar ends, told by its text and by what stands around it. YAML 1.2, section 7.3.3.
+use Rattle.std.specs.Prelude.{◌≡◌, ℕ, zero, suc, List, [], ◌∷◌, ◌++◌, Bool, true, false, ◌&&◌, ◌||◌, not, nat_lt, nat_le, Option, Some, None, Result, Ok, Err}
+use Rattle.defs_text.specs.Position.{Place}
+use Rattle.defs_text.specs.Classes.{is_blank, is_break, is_nul}
+use Rattle.defs_scalar.specs.FlowScalar.{plain_value}
+use Rattle.defs_token.specs.Text.{place_behind}
+use Rattle.defs_token.specs.Filler.{is_blanks}
+use Rattle.defs_token.specs.Plain.{Stand, inside, behind_blank, on_line, past, begins_flow, goes_on, is_whole_plain}
+use Rattle.yaml_tokens.specs.declared.problem.Fault.{Fault}
+use Rattle.yaml_tokens.specs.declared.problem.Fault.TheVariants.{At}
+use Rattle.yaml_tokens.specs.declared.problem.Problem.TheVariants as problem
+use Rattle.model_lexers.specs.declared.context.Context.{Context}
+use Rattle.model_lexers.specs.Machine.{Read}
+use Rattle.model_lexers.specs.Plain.{Plain}
+
+-- whether a text has no NUL, with which it would end
+abbrev pub has_no_nul : List ℕ → Bool
+has_no_nul [] = true
+has_no_nul (c ∷ r) = not (is_nul c) && has_no_nul r
+
+-- the column of the innermost block collection, from one that is counted from 1
+abbrev pub collection_of : ℕ → Option ℕ
+collection_of zero = None
+collection_of (suc n) = Some n
+
+-- whether a character is a blank or a break
+abbrev pub is_white : ℕ → Bool
+is_white c = is_blank c || is_break c
+
+-- whether a text is blanks and breaks
+abbrev pub is_gap : List ℕ → Bool
+is_gap [] = true
+is_gap (c ∷ r) = is_white c && is_gap r
+
+-- whether a text begins with a blank or a break
+abbrev pub begins_white : List ℕ → Bool
+begins_white [] = false
+begins_white (c ∷ r) = is_white c
+
+-- whether a text begins with a character that is neither a blank nor a break
+abbrev pub begins_solid : List ℕ → Bool
+begins_solid [] = false
+begins_solid (c ∷ r) = not (is_white c)
+
+-- whether a break stands in a text
+abbrev pub has_break : List ℕ → Bool
+has_break [] = false
+has_break (c ∷ r) = is_break c || has_break r
+
+-- what stands before the place after a text
+abbrev pub stand_behind : Stand → List ℕ → Stand
+stand_behind s [] = s
+stand_behind s (c ∷ r) = stand_behind (past s c) r
+
+-- whether a blank or a break stands directly before a place
+abbrev pub is_apart : Stand → Bool
+is_apart inside = false
+is_apart _ = true
+
+-- Whether a line may begin in this column: outside flow not left of the innermost block collection, which may stand one further right for the first line.
+abbrev pub is_indented : Context → Place → Bool
+is_indented ctx p = ctx.flow || nat_le ctx.indent (suc p.col)
+
+-- whether a plain scalar that begins with a text's first character goes on over all of the text
+abbrev pub goes_over : Context → (text next : List ℕ) → Bool
+goes_over ctx [] next = true
+goes_over ctx (c ∷ r) next = goes_on ctx.flow (collection_of ctx.indent) inside r next
+
+-- Why a plain scalar at a place is refused: in a flow collection it begins left of the innermost block collection, or at its start or after blanks or breaks in it a dash stands before a
+-- flow indicator; or a later line of it begins with a TAB left of the innermost block collection.
+pub data IsRefusal (ctx : Context) (start : Place) (text : List ℕ) : Fault → Type 0 where
+  by_column : ctx.flow ≡ true → nat_lt start.col ctx.indent ≡ true → IsRefusal ctx start text (At problem.FlowIndentation start)
+  by_dash : (before rest : List ℕ) → ctx.flow ≡ true → text ≡ before ++ 45 ∷ rest → begins_flow rest ≡ true → goes_over ctx before (45 ∷ rest) ≡ true → is_apart (stand_behind behind_blank before) ≡ true
+      → IsRefusal ctx start text (At problem.PlainDashInFlow (place_behind start before (45 ∷ rest)))
+  by_tab : (before blanks rest : List ℕ) (column : ℕ) → text ≡ before ++ 9 ∷ (blanks ++ rest) → goes_over ctx before (9 ∷ (blanks ++ rest)) ≡ true → stand_behind behind_blank before ≡ on_line column
+      → nat_lt column ctx.indent ≡ true → is_blanks blanks ≡ true → begins_solid rest ≡ true → IsRefusal ctx start text (At problem.PlainTab start)
+
+-- what is left after a plain scalar at a place, its gap, and what stands after that; its value, and whether a break stands in the gap
+abbrev pub behind_plain : Place → (piece gap rest value : List ℕ) → Read Plain
+behind_plain p piece gap rest value = record { rest = rest; place = place_behind p (piece ++ gap) rest; value = record { text = value; leading = has_break gap } }
+
+-- How a scan ends: it read the whole of a plain scalar as its value, and the blanks and breaks after it; or it has a fault of which the text is the reason.
+pub data EndsAs (ctx : Context) (start : Place) (text : List ℕ) (x : Result (Read Plain) Fault) : Type 0 where
+  reads : (piece gap rest value : List ℕ) → text ≡ piece ++ (gap ++ rest) → is_whole_plain ctx.flow (collection_of ctx.indent) piece (gap ++ rest) ≡ true → is_gap gap ≡ true → begins_white rest ≡ false
+      → plain_value piece ≡ Some value → x ≡ Ok (behind_plain start piece gap rest value) → EndsAs ctx start text x
+  refuses : (f : Fault) → IsRefusal ctx start text f → x ≡ Err f → EndsAs ctx start text x
+
+-- The scan read just this piece, and the blanks and breaks that the text after it begins with, or it refused the text.
+pub data IsRead (ctx : Context) (start : Place) (piece next value : List ℕ) (x : Result (Read Plain) Fault) : Type 0 where
+  read : (gap rest : List ℕ) → next ≡ gap ++ rest → is_gap gap ≡ true → begins_white rest ≡ false → x ≡ Ok (behind_plain start piece gap rest value) → IsRead ctx start piece next value x
+  refused : (f : Fault) → IsRefusal ctx start (piece ++ next) f → x ≡ Err f → IsRead ctx start piece next value x

@@ -1,0 +1,44 @@
+-- How the scan of a quoted scalar ends, told by the text after the opening quote.
+use Rattle.std.specs.Prelude.{◌≡◌, ℕ, ◌+◌, List, [], ◌∷◌, ◌++◌, Bool, true, false, ◌==◌, nat_lt, if◌then◌else◌, take, length, Option, Some, None, Result, Ok, Err}
+use Rattle.defs_text.specs.Position.{Place}
+use Rattle.defs_text.specs.Classes.{is_break}
+use Rattle.defs_scalar.specs.FlowScalar.{Element, elements, lookup, escapes, numeric_escapes, hexadecimal, is_character_code}
+use Rattle.yaml_tokens.specs.declared.problem.Fault.{Fault}
+use Rattle.yaml_tokens.specs.declared.problem.Fault.TheVariants.{At}
+use Rattle.yaml_tokens.specs.declared.problem.Problem.{Problem}
+use Rattle.yaml_tokens.specs.declared.problem.Problem.TheVariants as problem
+use Rattle.model_lexers.specs.declared.context.Context.{Context}
+use Rattle.model_lexers.specs.Machine.{Read}
+use Rattle.model_lexers.specs.Quoted.{quote_of}
+use Rattle.proof_lexers.specs.QuotedScan.{element_of, value_of, has_marker, ends_before}
+
+-- a text between quotes is made of elements
+abbrev pub HasElements : Bool → List ℕ → Type 0
+HasElements single body = (es : List Element) × (elements (element_of single) 0 body ≡ Some es)
+
+-- the number that so many hexadecimal digits write at a text's start, if they are there
+abbrev pub number_at : (digits : ℕ) → List ℕ → Option ℕ
+number_at digits r = (if length (take digits r) == digits then hexadecimal 0 (take digits r) else None)
+
+-- What is wrong with an escape, by the text after its backslash: no character is known there; too few hexadecimal digits; or a code that is no character's.
+pub data IsBadEscape : List ℕ → Problem → Type 0 where
+  ends : IsBadEscape [] problem.UnknownEscape
+  unknown : (c : ℕ) (r : List ℕ) → is_break c ≡ false → lookup c escapes ≡ None → lookup c numeric_escapes ≡ None → IsBadEscape (c ∷ r) problem.UnknownEscape
+  no_digit : (c digits : ℕ) (r : List ℕ) → lookup c escapes ≡ None → lookup c numeric_escapes ≡ Some digits → number_at digits r ≡ None → IsBadEscape (c ∷ r) problem.HexadecimalDigit
+  no_character : (c digits code : ℕ) (r : List ℕ) → lookup c escapes ≡ None → lookup c numeric_escapes ≡ Some digits → number_at digits r ≡ Some code → is_character_code code ≡ false
+      → IsBadEscape (c ∷ r) problem.EscapedCode
+
+-- Why the text after an opening quote at a place is refused: a line after the first begins with a document marker; the text ends before the scalar; an escape is none; or a place
+-- of it stands left of the innermost block collection, where a TAB is refused for itself.
+pub data IsRefusal (single : Bool) (ctx : Context) (start : Place) (text : List ℕ) : Fault → Type 0 where
+  by_marker : (body rest : List ℕ) → text ≡ body ++ rest → HasElements single body → has_marker body rest ≡ true → IsRefusal single ctx start text (At problem.QuotedDocumentMarker start)
+  by_end : HasElements single text → IsRefusal single ctx start text (At problem.QuotedEnd start)
+  by_escape : (body rest : List ℕ) (p : Problem) → single ≡ false → text ≡ body ++ 92 ∷ rest → HasElements single body → IsBadEscape rest p → IsRefusal single ctx start text (At p start)
+  by_column : (p : Place) → nat_lt (p.col + 1) ctx.indent ≡ true → IsRefusal single ctx start text (At problem.QuotedIndentation start)
+  by_tab : (p : Place) → nat_lt (p.col + 1) ctx.indent ≡ true → IsRefusal single ctx start text (At problem.TabAsIndentation p)
+
+-- How a scan ends: it read a body with a value as that, up to its closing quote; or it has a fault of which the text is the reason.
+pub data EndsAs (single : Bool) (ctx : Context) (start : Place) (text : List ℕ) (x : Result (Read (List ℕ)) Fault) : Type 0 where
+  reads : (body rest value : List ℕ) (place : Place) → text ≡ body ++ quote_of single ∷ rest → value_of single body ≡ Some value → ends_before single rest ≡ true
+      → x ≡ Ok (record { rest = rest; place = place; value = value }) → EndsAs single ctx start text x
+  refuses : (f : Fault) → IsRefusal single ctx start text f → x ≡ Err f → EndsAs single ctx start text x

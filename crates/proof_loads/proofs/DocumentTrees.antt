@@ -1,0 +1,35 @@
+-- The documents of a text are valid trees, so those that can be written come back.
+use Rattle.std.proofs.Common.{◌≡◌, List, [], Ok, subst}
+use Rattle.std.specs.Prelude.{All, map}
+use Rattle.defs_text.specs.Position.{Place}
+use Rattle.defs_tree.specs.Tree.{Tree}
+use Rattle.defs_tree.specs.Valid.{IsDistinct, FitsI64}
+use Rattle.defs_event.specs.Event.{Ev}
+use Rattle.defs_event.specs.Laws.{HasRead}
+use Rattle.defs_event.specs.Nested.{NestedDocument, nested_stream}
+use Rattle.defs_event.specs.Reading.{reading}
+use Rattle.defs_event.specs.Unfinished.{Loader, at_work, noted, refused, new_loader, with_events, documents_of}
+use Rattle.defs_event.proofs.Kept.{loaded_kept, distinct_kept, fits_kept}
+use Rattle.defs_event.proofs.OneByOne.{one_by_one}
+use Rattle.proof_loads.specs.Documents.{ReadDocumentsComeBack}
+use Rattle.proof_loads.proofs.Dumps.{dumps_are_read}
+use Rattle.proof_loads.proofs.OneReading.{somewhere, with_somewhere}
+
+documents_read : (trees : List Tree) (l : Loader) → HasRead (Ok trees) l → documents_of l ≡ trees
+documents_read trees (at_work u) h = h.0
+documents_read trees (noted d k p) h = absurd h
+documents_read trees (refused d p) h = absurd h
+
+-- what every loaded tree has, all documents of the reading have
+kept_by_reading : (P : Tree → Type 0) (ds : List NestedDocument) (trees : List Tree) → reading ds ≡ Ok trees
+    → ((es : List (Ev × Place)) → All P (documents_of (with_events new_loader es))) → All P trees
+kept_by_reading P ds trees e h =
+    let es = map somewhere (nested_stream ds) in
+    let read = subst (λ r. HasRead r (with_events new_loader es)) e (one_by_one ds es (with_somewhere [] (nested_stream ds))) in
+    subst (All P) (documents_read trees (with_events new_loader es) read) (h es)
+
+pub documents_come_back : ReadDocumentsComeBack
+documents_come_back keep_tags again compact multiline text trees is k d within writable =
+    let distinct = kept_by_reading IsDistinct is.read.documents trees is.read.trees_are (loaded_kept _ distinct_kept) in
+    let fits = kept_by_reading FitsI64 is.read.documents trees is.read.trees_are (loaded_kept _ fits_kept) in
+    dumps_are_read again compact multiline _ (distinct k d within, fits k d within, writable)

@@ -1,0 +1,265 @@
+-- Behind the first events of a stream, no open node's anchor is finished: anchors are numbered as they come.
+use Rattle.std.proofs.Common.{◌≡◌, ℕ, zero, suc, ◌+◌, ◌≤◌, ◌<◌, Bool, true, false, List, [], ◌∷◌, ◌++◌, Some, None, refl, sym, ap, subst, ◌∙◌, inl, inr, arith}
+use Rattle.std.specs.Prelude.{Option, option_map, if◌then◌else◌}
+use Rattle.std.proofs.lemmas.Bool.{ne_eqb}
+use Rattle.defs_text.specs.Position.{Place}
+use Rattle.defs_token.specs.Token.{Style}
+use Rattle.defs_tree.specs.Tree.{Tree, array, hash, bad_value, items_of, pairs_of}
+use Rattle.defs_tree.specs.Pairs.{has_key, insert}
+use Rattle.defs_event.specs.Event.{Ev}
+use Rattle.defs_event.specs.Raw.{Raw}
+use Rattle.defs_event.specs.Names.{Names, no_names, named, both, behind, resolved_event, perhaps_resolved, under_name, number, with_anchor, are_allowed}
+use Rattle.defs_event.specs.Scalar.{scalar_tree}
+use Rattle.defs_event.specs.Anchors.{Anchors, aliased, finished}
+use Rattle.defs_event.specs.Unfinished.{Opened, opened_sequence, opened_mapping, Unfinished, Step, reads, repeats, out_of_nesting, with_root, with_tree, with_node, with_start, with_sequence_end, with_mapping_end, with_document_end, with_event, Loader, at_work, noted, refused, new_loader, loader_behind, with_event_at, with_events}
+use Rattle.defs_event.specs.Grammar.{stream_events}
+use Rattle.defs_event.specs.Stream.{events_of}
+use Rattle.proof_loads.specs.Documents.{IsOpen, AliasesInsideTheirNodeAreBadValues}
+
+-- ---- finished anchors, numbered from 1 to m
+
+abbrev Low : ℕ → Anchors → Type 0
+Low m [] = Unit {0}
+Low m (a ∷ anchors) = (0 < a.0) × (a.0 ≤ m) × Low m anchors
+
+low_more : (m n : ℕ) (anchors : Anchors) → m ≤ n → Low m anchors → Low n anchors
+low_more m n [] le l = tt
+low_more m n (a ∷ anchors) le l = (l.0, omega (arith, l.1, le), low_more m n anchors le l.2)
+
+low_finished : (m a : ℕ) (t : Tree) (anchors : Anchors) → a ≤ m → Low m anchors → Low m (finished a t anchors)
+low_finished m zero t anchors le l = l
+low_finished m (suc a) t anchors le l = (omega arith, le, l)
+
+not_at : (n : ℕ) (a : ℕ × Tree) (anchors : Anchors) → (n ≡ a.0 → ⊥) → aliased n (a ∷ anchors) ≡ aliased n anchors
+not_at n a anchors ne = ap (λ b. if b then a.1 else aliased n anchors) (ne_eqb n a.0 ne)
+
+above_all : (m n : ℕ) (anchors : Anchors) → m < n → Low m anchors → aliased n anchors ≡ bad_value
+above_all m n [] lt l = refl
+above_all m n (a ∷ anchors) lt l = not_at n a anchors (λ e. omega (arith, e, lt, l.1)) ∙ above_all m n anchors lt l.2
+
+no_zero : (m : ℕ) (anchors : Anchors) → Low m anchors → aliased 0 anchors ≡ bad_value
+no_zero m [] l = refl
+no_zero m (a ∷ anchors) l = not_at 0 a anchors (λ e. omega (arith, e, l.0)) ∙ no_zero m anchors l.2
+
+-- ---- open collections, whose anchors are not finished, and each greater than those around it
+
+abbrev anchor_of : Opened → ℕ
+anchor_of (opened_sequence a ts) = a
+anchor_of (opened_mapping a ps waiting) = a
+
+abbrev under : ℕ → ℕ → ℕ
+under zero m = m
+under (suc a) m = a
+
+abbrev Held : ℕ → Anchors → List Opened → Type 0
+Held m anchors [] = Unit {0}
+Held m anchors (c ∷ outer) = (anchor_of c ≤ m) × (aliased (anchor_of c) anchors ≡ bad_value) × Held (under (anchor_of c) m) anchors outer
+
+under_more : (a m n : ℕ) → m ≤ n → under a m ≤ under a n
+under_more zero m n le = le
+under_more (suc a) m n le = omega arith
+
+held_more : (m n : ℕ) (anchors : Anchors) (opened : List Opened) → m ≤ n → Held m anchors opened → Held n anchors opened
+held_more m n anchors [] le h = tt
+held_more m n anchors (c ∷ outer) le h = (omega (arith, h.0, le), h.1, held_more (under (anchor_of c) m) (under (anchor_of c) n) anchors outer (under_more (anchor_of c) m n le) h.2)
+
+under_less : (a m : ℕ) → a ≤ m → under a m ≤ m
+under_less zero m le = omega arith
+under_less (suc a) m le = omega (arith, le)
+
+held_finished : (m a : ℕ) (t : Tree) (anchors : Anchors) (opened : List Opened) → m ≤ a → Held m anchors opened → Held m (finished (suc a) t anchors) opened
+held_finished m a t anchors [] le h = tt
+held_finished m a t anchors (c ∷ outer) le h =
+    let less = under_less (anchor_of c) m h.0 in (
+      h.0,
+      not_at (anchor_of c) (suc a, t) anchors (λ e. omega (arith, e, h.0, le)) ∙ h.1,
+      held_finished (under (anchor_of c) m) a t anchors outer (omega (arith, less, le)) h.2,
+    )
+
+-- ---- unfinished readings behind m anchors
+
+record Stands (m : ℕ) (u : Unfinished) : Type 0 where
+  low : Low m u.anchors
+  held : Held m u.anchors u.opened
+
+abbrev OfStep : ℕ → Step → Type 0
+OfStep m (reads u) = Stands m u
+OfStep m (repeats key) = Unit {0}
+OfStep m out_of_nesting = Unit {0}
+
+repeats_or : (m : ℕ) (b : Bool) (key : Tree) (u : Unfinished) → Stands m u → OfStep m (if b then repeats key else reads u)
+repeats_or m true key u h = tt
+repeats_or m false key u h = h
+
+of_root : (m : ℕ) (t : Tree) (u : Unfinished) (root : Option Tree) → Low m u.anchors → OfStep m (with_root t u root)
+of_root m t u None l = record { low = l; held = tt }
+of_root m t u (Some r) l = tt
+
+of_tree : (m : ℕ) (t : Tree) (u : Unfinished) (outer : List Opened) → Low m u.anchors → Held m u.anchors outer → OfStep m (with_tree t u outer)
+of_tree m t u [] l h = of_root m t u u.root l
+of_tree m t u (opened_sequence a ts ∷ outer) l h = record { low = l; held = h }
+of_tree m t u (opened_mapping a ps None ∷ outer) l h = record { low = l; held = h }
+of_tree m t u (opened_mapping a ps (Some k) ∷ outer) l h =
+    repeats_or m (has_key k ps) k (record u { opened = opened_mapping a (insert k t ps) None ∷ outer }) (record { low = l; held = h })
+
+-- a finished node, where the open collections' anchors are less than its own
+of_node : (m a : ℕ) (t : Tree) (u : Unfinished) (outer : List Opened) → a ≤ m → Low m u.anchors → Held (under a m) u.anchors outer → OfStep m (with_node a t u outer)
+of_node m zero t u outer le l h = of_tree m t u outer l h
+of_node m (suc a) t u outer le l h =
+    of_tree m t (record u { anchors = (suc a, t) ∷ u.anchors }) outer (low_finished m (suc a) t u.anchors le l)
+    (held_more a m ((suc a, t) ∷ u.anchors) outer (omega (arith, le)) (held_finished a a t u.anchors outer (omega arith) h))
+
+of_sequence_end : (m : ℕ) (u : Unfinished) (opened : List Opened) → Low m u.anchors → Held m u.anchors opened → OfStep m (with_sequence_end u opened)
+of_sequence_end m u [] l h = tt
+of_sequence_end m u (opened_sequence a ts ∷ outer) l h = of_node m a (array (items_of ts)) u outer h.0 l h.2
+of_sequence_end m u (opened_mapping a ps w ∷ outer) l h = tt
+
+of_mapping_end : (m : ℕ) (u : Unfinished) (opened : List Opened) → Low m u.anchors → Held m u.anchors opened → OfStep m (with_mapping_end u opened)
+of_mapping_end m u [] l h = tt
+of_mapping_end m u (opened_sequence a ts ∷ outer) l h = tt
+of_mapping_end m u (opened_mapping a ps None ∷ outer) l h = of_node m a (hash (pairs_of ps)) u outer h.0 l h.2
+of_mapping_end m u (opened_mapping a ps (Some k) ∷ outer) l h = tt
+
+of_document_end : (m : ℕ) (u : Unfinished) (opened : List Opened) → u.opened ≡ opened → Stands m u → OfStep m (with_document_end u opened)
+of_document_end m u [] e s = record { low = s.low; held = s.held }
+of_document_end m u (c ∷ outer) e s = tt
+
+-- a node's start or scalar has no anchor, or the next number
+data IsNext (m : ℕ) : ℕ → ℕ → Type 0 where
+  none : IsNext m 0 m
+  next : IsNext m (m + 1) (m + 1)
+
+next_low : {m a n : ℕ} → IsNext m a n → a ≤ n
+next_low none = omega arith
+next_low next = omega arith
+
+next_more : {m a n : ℕ} → IsNext m a n → m ≤ n
+next_more none = omega arith
+next_more next = omega arith
+
+next_unfinished : {m a n : ℕ} (anchors : Anchors) → IsNext m a n → Low m anchors → aliased a anchors ≡ bad_value
+next_unfinished {m = m} anchors none l = no_zero m anchors l
+next_unfinished {m = m} anchors next l = above_all m (m + 1) anchors (omega arith) l
+
+under_next : (m : ℕ) → under (m + 1) (m + 1) ≡ m
+under_next m = ap (λ k. under k k) (plus_one m)
+  where
+    plus_one : (k : ℕ) → k + 1 ≡ suc k
+    plus_one k = omega arith
+
+next_under : {m a n : ℕ} (anchors : Anchors) (opened : List Opened) → IsNext m a n → Held m anchors opened → Held (under a n) anchors opened
+next_under anchors opened none h = h
+next_under {m = m} anchors opened next h = subst (λ k. Held k anchors opened) (sym (under_next m)) h
+
+of_start : {m n : ℕ} (c : Opened) (u : Unfinished) (opened : List Opened) (root : Option Tree) → IsNext m (anchor_of c) n → Low m u.anchors → Held m u.anchors opened → OfStep n (with_start c u opened root)
+of_start c u [] (Some r) i l h = tt
+of_start {m = m} {n} c u [] None i l h = record { low = low_more m n u.anchors (next_more i) l; held = (next_low i, next_unfinished u.anchors i l, tt) }
+of_start {m = m} {n} c u (d ∷ outer) root i l h =
+    record { low = low_more m n u.anchors (next_more i) l; held = (next_low i, next_unfinished u.anchors i l, next_under u.anchors (d ∷ outer) i h) }
+
+of_scalar : {m a n : ℕ} (t : Tree) (u : Unfinished) → IsNext m a n → Stands m u → OfStep n (with_node a t u u.opened)
+of_scalar {m = m} {a} {n} t u i s = of_node n a t u u.opened (next_low i) (low_more m n u.anchors (next_more i) s.low) (next_under u.anchors u.opened i s.held)
+
+-- ---- events by their names
+
+abbrev Follows : ℕ → ℕ → Ev → Type 0
+Follows m n (Ev.scalar text style a tag) = IsNext m a n
+Follows m n (Ev.sequence_start a tag) = IsNext m a n
+Follows m n (Ev.mapping_start a tag) = IsNext m a n
+Follows m n _ = m ≡ n
+
+of_event : (m n : ℕ) (u : Unfinished) (e : Ev) → Follows m n e → Stands m u → OfStep n (with_event u e)
+of_event m n u Ev.nothing f s = subst (λ k. Stands k u) f s
+of_event m n u Ev.stream_start f s = subst (λ k. Stands k u) f s
+of_event m n u Ev.stream_end f s = subst (λ k. Stands k u) f s
+of_event m n u Ev.document_start f s = subst (λ k. Stands k u) f s
+of_event m n u Ev.document_end f s = of_document_end n u u.opened refl (subst (λ k. Stands k u) f s)
+of_event m n u (Ev.alias k) f s = let v = subst (λ j. Stands j u) f s in of_tree n (aliased k u.anchors) u u.opened v.low v.held
+of_event m n u (Ev.scalar text style a tag) f s = of_scalar (scalar_tree text style tag) u f s
+of_event m n u (Ev.sequence_start a tag) f s = of_start (opened_sequence a []) u u.opened u.root f s.low s.held
+of_event m n u Ev.sequence_end f s = let v = subst (λ j. Stands j u) f s in of_sequence_end n u u.opened v.low v.held
+of_event m n u (Ev.mapping_start a tag) f s = of_start (opened_mapping a [] None) u u.opened u.root f s.low s.held
+of_event m n u Ev.mapping_end f s = let v = subst (λ j. Stands j u) f s in of_mapping_end n u u.opened v.low v.held
+
+is_next : (s : Names) (a : Option (List ℕ)) → IsNext s.count (number s a) (with_anchor s a).count
+is_next s None = none
+is_next s (Some name) = next
+
+abbrev OfSome : {A : Type 0} → (A → Type 0) → Option A → Type 0
+OfSome P None = Unit {0}
+OfSome P (Some x) = P x
+
+mapped : {A B : Type 0} (P : B → Type 0) (f : A → B) (o : Option A) → ((x : A) → P (f x)) → OfSome P (option_map f o)
+mapped P f None h = tt
+mapped P f (Some x) h = h x
+
+allowed : (P : Ev → Type 0) (b : Bool) (e : Ev) → P e → OfSome P (if b then Some e else None)
+allowed P true e h = h
+allowed P false e h = tt
+
+numbered : (keep_tags : Bool) (s : Names) (r : Raw) → OfSome (Follows s.count (behind keep_tags s r).count) (resolved_event s r)
+numbered k s Raw.stream_start = refl
+numbered k s Raw.stream_end = refl
+numbered k s (Raw.document_start ds) = allowed (Follows s.count s.count) (are_allowed ds) Ev.document_start refl
+numbered k s Raw.document_end = refl
+numbered k s (Raw.alias name) = mapped (Follows s.count s.count) Ev.alias (under_name name s.anchors) (λ n. refl)
+numbered k s (Raw.scalar text style a t) = mapped (Follows s.count (with_anchor s a).count) (λ u. Ev.scalar text style (number s a) u) (perhaps_resolved s.handles t) (λ u. is_next s a)
+numbered k s (Raw.empty_scalar a t) = mapped (Follows s.count (with_anchor s a).count) (λ u. Ev.scalar [] Style.plain (number s a) u) (perhaps_resolved s.handles t) (λ u. is_next s a)
+numbered k s (Raw.flow_sequence_start a t) = mapped (Follows s.count (with_anchor s a).count) (λ u. Ev.sequence_start (number s a) u) (perhaps_resolved s.handles t) (λ u. is_next s a)
+numbered k s (Raw.sequence_start a t) = mapped (Follows s.count (with_anchor s a).count) (λ u. Ev.sequence_start (number s a) u) (perhaps_resolved s.handles t) (λ u. is_next s a)
+numbered k s Raw.sequence_end = refl
+numbered k s (Raw.flow_mapping_start a t) = mapped (Follows s.count (with_anchor s a).count) (λ u. Ev.mapping_start (number s a) u) (perhaps_resolved s.handles t) (λ u. is_next s a)
+numbered k s (Raw.mapping_start a t) = mapped (Follows s.count (with_anchor s a).count) (λ u. Ev.mapping_start (number s a) u) (perhaps_resolved s.handles t) (λ u. is_next s a)
+numbered k s Raw.mapping_end = refl
+
+-- ---- loaders
+
+abbrev OfLoader : ℕ → Loader → Type 0
+OfLoader m (at_work u) = Stands m u
+OfLoader m (noted documents key p) = Unit {0}
+OfLoader m (refused documents p) = Unit {0}
+
+of_behind : (m : ℕ) (x : Step) (documents : List Tree) (p : Place) → OfStep m x → OfLoader m (loader_behind x documents p)
+of_behind m (reads u) documents p h = h
+of_behind m (repeats key) documents p h = tt
+of_behind m out_of_nesting documents p h = tt
+
+of_event_at : (m n : ℕ) (l : Loader) (e : Ev) (p : Place) → Follows m n e → OfLoader m l → OfLoader n (with_event_at l e p)
+of_event_at m n (at_work u) e p f h = of_behind n (with_event u e) u.documents p (of_event m n u e f h)
+of_event_at m n (noted documents key q) e p f h = tt
+of_event_at m n (refused documents q) e p f h = tt
+
+record FirstNamed (keep_tags : Bool) (s : Names) (r : Raw) (rs : List Raw) (e : Ev) (es : List Ev) : Type 0 where
+  follows : Follows s.count (behind keep_tags s r).count e
+  rest : named keep_tags (behind keep_tags s r) rs ≡ Some es
+
+both_named : (keep_tags : Bool) (s : Names) (r : Raw) (rs : List Raw) (e : Ev) (es : List Ev) (o : Option Ev) (os : Option (List Ev))
+    → OfSome (Follows s.count (behind keep_tags s r).count) o → named keep_tags (behind keep_tags s r) rs ≡ os → both o os ≡ Some (e ∷ es) → FirstNamed keep_tags s r rs e es
+both_named k s r rs e es None os f n q = cc
+both_named k s r rs e es (Some v) None f n q = cc
+both_named k s r rs e es (Some v) (Some vs) f n q =
+    let same : v ≡ e = cc in
+    let more : vs ≡ es = cc in
+    record { follows = subst (Follows s.count (behind k s r).count) same f; rest = n ∙ ap Some more }
+
+stands_behind : (keep_tags : Bool) (s : Names) (rs : List Raw) (l : Loader) (before : List (Ev × Place)) (more : List Ev)
+    → named keep_tags s rs ≡ Some (events_of before ++ more) → OfLoader s.count l → (m : ℕ) × OfLoader m (with_events l before)
+stands_behind k s rs l [] more q h = (s.count, h)
+stands_behind k s [] l (e ∷ before) more q h = cc
+stands_behind k s (r ∷ rs) l (e ∷ before) more q h =
+    let first = both_named k s r rs e.0 (events_of before ++ more) (resolved_event s r) (named k (behind k s r) rs) (numbered k s r) refl q in
+    stands_behind k (behind k s r) rs (with_event_at l e.0 e.1) before more first.rest
+    (of_event_at s.count (behind k s r).count l e.0 e.1 first.follows h)
+
+open_unfinished : (m n : ℕ) (anchors : Anchors) (opened : List Opened) → Held m anchors opened → IsOpen n opened → aliased n anchors ≡ bad_value
+open_unfinished m n anchors [] h o = absurd o
+open_unfinished m n anchors (opened_sequence a ts ∷ outer) h (inl e) = ap (λ k. aliased k anchors) (sym e) ∙ h.1
+open_unfinished m n anchors (opened_sequence a ts ∷ outer) h (inr o) = open_unfinished (under a m) n anchors outer h.2 o
+open_unfinished m n anchors (opened_mapping a ps w ∷ outer) h (inl e) = ap (λ k. aliased k anchors) (sym e) ∙ h.1
+open_unfinished m n anchors (opened_mapping a ps w ∷ outer) h (inr o) = open_unfinished (under a m) n anchors outer h.2 o
+
+pub aliases_are_bad : AliasesInsideTheirNodeAreBadValues
+aliases_are_bad keep_tags tokens before n more u stream work is_open =
+    let behind = stands_behind keep_tags no_names (stream_events stream.documents) new_loader before (Ev.alias n ∷ more) stream.has_events (record { low = tt; held = tt }) in
+    let stands : Stands behind.0 u = subst (OfLoader behind.0) work behind.1 in
+    ap (λ t. with_tree t u u.opened) (open_unfinished behind.0 n u.anchors u.opened stands.held is_open)

@@ -1,0 +1,19 @@
+-- Texts without NUL: what is put in front of one.
+use Rattle.std.proofs.Common.{◌≡◌, ◌≢◌, ℕ, Bool, List, [], ◌∷◌, ◌++◌, true, false, ap, sym, ◌∙◌, arith}
+use Rattle.std.specs.List.{list_all}
+use Rattle.std.proofs.lemmas.Bool.{and_parts}
+use Rattle.proof_loads.specs.Spelled.{IsWithoutNul}
+
+pub character : (c : ℕ) (r : List ℕ) → c ≢ 0 → IsWithoutNul r → IsWithoutNul (c ∷ r)
+character c r n h = grind (arith, h)
+
+-- a character of a class without NUL
+pub not_nul : (is_one : ℕ → Bool) → is_one 0 ≡ false → (c : ℕ) → is_one c ≡ true → c ≢ 0
+not_nul is_one none c h e = let x : false ≡ true = sym none ∙ ap is_one (sym e) ∙ h in cc
+
+-- characters of such a class
+pub characters : (is_one : ℕ → Bool) → is_one 0 ≡ false → (w r : List ℕ) → list_all is_one w ≡ true → IsWithoutNul r → IsWithoutNul (w ++ r)
+characters is_one none [] r h n = n
+characters is_one none (c ∷ w) r h n =
+    let q = and_parts (is_one c) (list_all is_one w) h in
+    character c (w ++ r) (not_nul is_one none c q.0) (characters is_one none w r q.1 n)

@@ -1,0 +1,22 @@
+-- Texts as their iterators give them, and as they are read.
+use Rattle.yaml_chars.proofs.SpelledLemmas.{Begins-spelled, Chars-spelled}
+use Rattle.std.specs.Prelude.{ℕ, Option}
+use Rattle.std.specs.Str.{chars}
+use Rattle.std.specs.Str.Iter.{chars_steps}
+use Rattle.yaml_scanner.specs.Scanned.{MayBe}
+use Rattle.proof_layout_tokens.proofs.Json.Texts.{json_text_has_its_tokens}
+use Rattle.defs_layout.specs.JsonTokens.{json_text_tokens}
+use Rattle.proof_layout_trees.proofs.JsonReading as json
+use Rattle.proof_loads.specs.Laws.{JsonTextsAreReadAsTheirTree, CharactersAreTheText, StringsAreTheText}
+
+pub characters_are_the_text : {S : Type 0} (steps : S → Option ℕ → S → Type 0) → CharactersAreTheText steps
+characters_are_the_text steps start all s always came no_nul =
+    Begins-spelled steps {P = λ a. MayBe s a} all start always
+    (record { taken = s.taken; done = s.done; came = came; no_nul = no_nul; holds = λ a begins ends. record { begins = begins; ends = ends } })
+
+pub json_texts_are_read : JsonTextsAreReadAsTheirTree
+json_texts_are_read keep_tags w is = record { tokens = json_text_tokens w; has = json_text_has_its_tokens w is; read = json.tokens_read_as_their_tree keep_tags w is }
+
+pub strings_are_the_text : StringsAreTheText
+strings_are_the_text start bytes s utf8 rest came no_nul scans =
+    scans.scans _ (characters_are_the_text chars_steps start (chars bytes) s (Chars-spelled start bytes utf8 rest) came no_nul)

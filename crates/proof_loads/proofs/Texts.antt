@@ -1,0 +1,71 @@
+-- A parser somewhere in a text that is read as trees.
+use Rattle.std.proofs.Common.{◌≡◌, ℕ, true, Bool, List, ◌++◌, Some, sym, ap, ◌∙◌, subst, append_assoc, inl, inr}
+use Rattle.std.specs.Prelude.{IfSome, Option}
+use Rattle.std.proofs.lemmas.List.{map-append}
+use Rattle.defs_text.specs.Position.{Place}
+use Rattle.defs_token.specs.Token.{Tok, Token}
+use Rattle.defs_tree.specs.Tree.{Tree}
+use Rattle.yaml_tokens.specs.Fault.{Fault}
+use Rattle.defs_event.specs.Event.{Ev}
+use Rattle.defs_token.specs.Toks.{toks}
+use Rattle.defs_event.specs.Stream.{IsStream, Foretells, events_of}
+use Rattle.defs_event.specs.Unfinished.{new_loader, with_events}
+use Rattle.yaml_scanner.specs.Scanned.{Scanned, ScansIn}
+use Rattle.yaml_parser.specs.Parsed.{read}
+use Rattle.defs_event.specs.ReadAs.{ReadAs, IsAtWork}
+use Rattle.proof_layout_trees.proofs.Loads.{streams_are_loaded, foretold_are_not_refused, streams_are_not_cut}
+use Rattle.proof_loads.specs.TextReadAs.{IsReadAs}
+use Rattle.proof_loads.specs.TextEvents.{AreFirst}
+use Rattle.proof_loads.specs.Laws.{ReadTextsAreNotRefused, ReadTextsHaveNoFaultButMemory, EventsOfReadTextsAreRead, ReadTextsHaveTheirTrees}
+
+-- The tokens handed out, with some more, are read as the trees.
+pub record GoesOn (keep_tags : Bool) (given : List Token) (trees : List Tree) : Type 0 where
+  pub more : List Tok
+  pub reads : ReadAs keep_tags (toks given ++ more) trees
+
+pub goes_on : (keep_tags : Bool) (text : List ℕ) (trees : List Tree) (given : List Token) → IsReadAs keep_tags text trees → AreFirst text given → GoesOn keep_tags given trees
+goes_on keep_tags text trees given x first =
+    let b = first.begins x.has.0 x.has.1 in
+    let same : x.tokens ≡ toks given ++ toks b.more = sym x.has.2 ∙ ap toks b.whole ∙ map-append (λ (t : Token). t.tok) given b.more in
+    record { more = toks b.more; reads = subst (λ ts. ReadAs keep_tags ts trees) same x.read }
+
+pub first_tokens : (text : List ℕ) (s : Scanned) → ScansIn text s → AreFirst text s.given
+first_tokens text s scans = record { reached = scans.reached; begins = scans.begins }
+
+pub texts_are_not_refused : ReadTextsAreNotRefused
+texts_are_not_refused p text trees x scans r =
+    let y = goes_on p.keep_tags text trees p.scanner.given x (first_tokens text p.scanner scans) in
+    streams_are_not_cut p.keep_tags (toks p.scanner.given) y.more trees y.reads r.none
+
+scanner_wants_memory : (o : Option Fault) (f : Fault) → o ≡ Some f → IfSome o (λ g. g.memory ≡ true) → f.memory ≡ true
+scanner_wants_memory o f e h = rw e at h
+
+pub only_memory_is_wanted : ReadTextsHaveNoFaultButMemory
+only_memory_is_wanted p f text trees x scans steady why =
+    elim why [
+      | inl kept ↦ scanner_wants_memory p.scanner.fault f kept (scans.sound x.has.0 x.has.1)
+      | inr other ↦ elim other [ inl wants ↦ wants.memory | inr cut ↦ absurd (texts_are_not_refused p text trees x scans (cut.refused steady)) ]
+    ]
+
+-- What foretells events foretells their beginnings.
+pub foretells_beginning : (keep_tags : Bool) (tokens : List Tok) (all es more : List (Ev × Place)) → all ≡ es ++ more → Foretells keep_tags tokens (events_of all) → Foretells keep_tags tokens (events_of es)
+foretells_beginning keep_tags tokens all es more e foretold ts vs stream =
+    let f = foretold ts vs stream in
+    let parts : events_of all ≡ events_of es ++ events_of more = ap events_of e ∙ map-append (λ (v : Ev × Place). v.0) es more in
+    (events_of more ++ f.0, f.1 ∙ ap (λ xs. xs ++ f.0) parts ∙ append_assoc (events_of es) (events_of more) f.0)
+
+pub foretold_are_at_work : (keep_tags : Bool) (tokens more : List Tok) (trees : List Tree) (es : List (Ev × Place)) → ReadAs keep_tags (tokens ++ more) trees → Foretells keep_tags tokens (events_of es) → IsAtWork (with_events new_loader es)
+foretold_are_at_work keep_tags tokens more trees es reads foretold = foretold_are_not_refused keep_tags tokens more trees es reads foretold
+
+pub events_are_read : EventsOfReadTextsAreRead
+events_are_read p text trees es more x scans follows e =
+    let y = goes_on p.keep_tags text trees p.scanner.given x (first_tokens text p.scanner scans) in
+    foretold_are_not_refused p.keep_tags (toks p.scanner.given) y.more trees es y.reads
+    (foretells_beginning p.keep_tags (toks p.scanner.given) (read p) es more e follows.only)
+
+pub texts_have_their_trees : ReadTextsHaveTheirTrees
+texts_have_their_trees p text trees x scans whole =
+    let y = goes_on p.keep_tags text trees p.scanner.given x (first_tokens text p.scanner scans) in
+    let all = toks p.scanner.given ++ y.more in
+    let stream : IsStream p.keep_tags all (events_of (read p)) = subst (IsStream p.keep_tags all) (whole.only y.more _ y.reads.stream).1 y.reads.stream in
+    streams_are_loaded p.keep_tags all trees (read p) y.reads stream

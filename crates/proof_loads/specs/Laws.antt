@@ -1,0 +1,105 @@
+-- Laws of texts that are read as trees: each is the contract of the function of `src/laws.rt` that its comment names.
+use Rattle.std.specs.Prelude.{◌≡◌, ℕ, Bool, true, Option, List, [], ◌∷◌, ◌++◌, Result, Ok}
+use Rattle.std.specs.Iterator.{AlwaysYields}
+use Rattle.std.specs.Str.{chars, IsUtf8}
+use Rattle.std.specs.Str.Iter.{chars_steps, chars_rest}
+use Rattle.std.specs.declared.str.Chars.{Chars}
+use Rattle.defs_text.specs.Position.{Place}
+use Rattle.yaml_chars.specs.Source.{CameFrom}
+use Rattle.yaml_chars.specs.Reading.{HasNoNul, up_to_nul}
+use Rattle.defs_tree.specs.Tree.{Tree}
+use Rattle.defs_tree.specs.DumpText.{dump_text}
+use Rattle.defs_layout.specs.Json.{JsonText, IsWellFormed, spell_text, tree_of}
+use Rattle.defs_layout.specs.DumpIsInjective.{CanBeWritten}
+use Rattle.yaml_tokens.specs.Fault.{Fault}
+use Rattle.defs_event.specs.Event.{Ev}
+use Rattle.defs_event.specs.Unfinished.{new_loader, with_events}
+use Rattle.defs_event.specs.Laws.{HasRead}
+use Rattle.yaml_scanner.specs.Scanned.{Scanned, MayBe, ScansIn, Scans}
+use Rattle.yaml_parser.specs.Parsed.{Parsed, read}
+use Rattle.yaml_parser.specs.Follows.{Follows, Refused, IsWhole, Explains}
+use Rattle.yaml_parser.specs.Loads.{Loads}
+use Rattle.defs_event.specs.ReadAs.{IsAtWork}
+use Rattle.proof_loads.specs.TextReadAs.{IsReadAs, IsAtStart}
+use Rattle.proof_loads.specs.TextEvents.{AnswersText}
+use Rattle.proof_loads.specs.LoadsAs.{LoadsAs}
+use Rattle.proof_loads.specs.Spelled.{IsWithoutNul}
+
+-- ---- texts that are read as trees
+
+-- `texts_are_read_in_one_way`
+abbrev pub TextsAreReadInOneWay : Type 0
+TextsAreReadInOneWay = (keep_tags : Bool) (text : List ℕ) (trees others : List Tree) → IsReadAs keep_tags text trees → IsReadAs keep_tags text others → trees ≡ others
+
+-- ---- a parser somewhere in a text
+
+-- `read_texts_are_not_refused`
+abbrev pub ReadTextsAreNotRefused : Type 0
+ReadTextsAreNotRefused = (p : Parsed) (text : List ℕ) (trees : List Tree) → IsReadAs p.keep_tags text trees → ScansIn text p.scanner → Refused p → ⊥
+
+-- `read_texts_have_no_fault_but_memory`
+abbrev pub ReadTextsHaveNoFaultButMemory : Type 0
+ReadTextsHaveNoFaultButMemory =
+    (p : Parsed) (f : Fault) (text : List ℕ) (trees : List Tree) → IsReadAs p.keep_tags text trees → ScansIn text p.scanner → p.steady ≡ true → Explains f p
+    → f.memory ≡ true
+
+-- `events_of_read_texts_are_read`; `es` are a beginning of the events
+abbrev pub EventsOfReadTextsAreRead : Type 0
+EventsOfReadTextsAreRead =
+    (p : Parsed) (text : List ℕ) (trees : List Tree) (es more : List (Ev × Place)) → IsReadAs p.keep_tags text trees → ScansIn text p.scanner → Follows p
+    → read p ≡ es ++ more → IsAtWork (with_events new_loader es)
+
+-- `read_texts_have_their_trees`
+abbrev pub ReadTextsHaveTheirTrees : Type 0
+ReadTextsHaveTheirTrees =
+    (p : Parsed) (text : List ℕ) (trees : List Tree) → IsReadAs p.keep_tags text trees → ScansIn text p.scanner → IsWhole p
+    → HasRead (Ok trees) (with_events new_loader (read p))
+
+-- ---- a load
+
+-- `texts_are_answered`, for each kind of receiver
+abbrev pub TextsAreAnswered : {R : Type 0} → (R → Ev → Place → Result (Unit {0}) Fault → R → Type 0) → Type 0
+TextsAreAnswered {R} takes =
+    (old new : Parsed) (r s : R) (result : Result (Unit {0}) Fault) (text : List ℕ) → IsAtStart old → ScansIn text new.scanner → Loads takes true old r result new s
+    → AnswersText takes old.keep_tags text r result s
+
+-- `read_texts_are_loaded`, for each kind of receiver
+abbrev pub ReadTextsAreLoaded : {R : Type 0} → (R → Ev → Place → Result (Unit {0}) Fault → R → Type 0) → Type 0
+ReadTextsAreLoaded {R} takes =
+    (old new : Parsed) (r s : R) (result : Result (Unit {0}) Fault) (text : List ℕ) (trees : List Tree)
+    → IsAtStart old → IsReadAs old.keep_tags text trees → ScansIn text new.scanner → Loads takes true old r result new s → LoadsAs takes trees r result s
+
+-- ---- JSON texts
+
+-- `json_texts_are_read_as_their_tree`
+abbrev pub JsonTextsAreReadAsTheirTree : Type 0
+JsonTextsAreReadAsTheirTree = (keep_tags : Bool) (w : JsonText) → IsWellFormed w → IsReadAs keep_tags (spell_text w) (tree_of w.value ∷ [])
+
+-- `json_texts_are_loaded`, for each kind of receiver
+abbrev pub JsonTextsAreLoaded : {R : Type 0} → (R → Ev → Place → Result (Unit {0}) Fault → R → Type 0) → Type 0
+JsonTextsAreLoaded {R} takes =
+    (old new : Parsed) (r s : R) (result : Result (Unit {0}) Fault) (w : JsonText)
+    → IsAtStart old → IsWellFormed w → ScansIn (spell_text w) new.scanner → Loads takes true old r result new s → LoadsAs takes (tree_of w.value ∷ []) r result s
+
+-- `json_texts_are_without_nul`
+abbrev pub JsonTextsAreWithoutNul : Type 0
+JsonTextsAreWithoutNul = (w : JsonText) → IsWellFormed w → IsWithoutNul (spell_text w)
+
+-- ---- dumps
+
+-- `dumps_are_read_as_their_tree`, in each setting
+abbrev pub DumpsAreReadAsTheirTree : Type 0
+DumpsAreReadAsTheirTree = (keep_tags compact multiline : Bool) (t : Tree) → CanBeWritten t → IsReadAs keep_tags (dump_text compact multiline t) (t ∷ [])
+
+-- ---- the text after an iterator
+
+-- `characters_are_the_text`, for each kind of iterator; `all` are the characters that it always gives
+abbrev pub CharactersAreTheText : {S : Type 0} → (S → Option ℕ → S → Type 0) → Type 0
+CharactersAreTheText {S} steps =
+    (start : S) (all : List ℕ) (s : Scanned) → AlwaysYields steps (λ c. c) start all → CameFrom steps start s.taken s.done → HasNoNul s.taken → MayBe s (up_to_nul all)
+
+-- `strings_are_the_text`; `bytes` are the string's
+abbrev pub StringsAreTheText : Type 0
+StringsAreTheText =
+    (start : Chars) (bytes : List ℕ) (s : Scanned) → IsUtf8 bytes → chars_rest start ≡ bytes → CameFrom chars_steps start s.taken s.done → HasNoNul s.taken → Scans s
+    → ScansIn (up_to_nul (chars bytes)) s

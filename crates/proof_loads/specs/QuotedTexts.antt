@@ -1,0 +1,14 @@
+-- Laws of texts that are one quoted scalar: each is the contract of the function of `src/quoted.rt` that its comment names.
+use Rattle.std.specs.Prelude.{ℕ, Bool, List, [], ◌∷◌}
+use Rattle.defs_tree.specs.Tree.{Tree}
+use Rattle.defs_layout.specs.QuotedText.{IsQuoted}
+use Rattle.proof_loads.specs.TextReadAs.{IsReadAs}
+use Rattle.proof_loads.specs.Spelled.{IsWithoutNul}
+
+-- `quoted_texts_are_read_as_their_string`
+abbrev pub QuotedTextsAreReadAsTheirString : Type 0
+QuotedTextsAreReadAsTheirString = (keep_tags : Bool) (text value : List ℕ) → IsQuoted value text → IsReadAs keep_tags text (Tree.string value ∷ [])
+
+-- `quoted_texts_are_without_nul`
+abbrev pub QuotedTextsAreWithoutNul : Type 0
+QuotedTextsAreWithoutNul = (text value : List ℕ) → IsQuoted value text → IsWithoutNul text

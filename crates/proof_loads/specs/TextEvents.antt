@@ -1,0 +1,55 @@
+-- Any text against what a parser that is at its start pushes of it.
+use Rattle.std.specs.Prelude.{◌≡◌, ℕ, Bool, List, [], ◌∷◌, ◌++◌, Option, Result, Ok, Err}
+use Rattle.defs_text.specs.Position.{Place}
+use Rattle.defs_token.specs.Token.{Token}
+use Rattle.yaml_tokens.specs.Fault.{Fault}
+use Rattle.defs_event.specs.Event.{Ev}
+use Rattle.defs_event.specs.Nested.{NestedDocument, nested_stream}
+use Rattle.defs_token.specs.Toks.{toks}
+use Rattle.defs_event.specs.Stream.{IsPlacedStream, BeginsPlaced, Foretells, NoneBegins, events_of}
+use Rattle.model_scanner.specs.Run.{HasTokens}
+use Rattle.yaml_scanner.specs.Follows as scan
+use Rattle.yaml_scanner.specs.Follows.{IsReached}
+use Rattle.yaml_scanner.specs.Scanned.{IsRefusal}
+use Rattle.yaml_parser.specs.Blames.{Blames, WantsMemory}
+use Rattle.yaml_parser.specs.Follows.{listed}
+use Rattle.yaml_parser.specs.Loads.{Receives}
+
+-- The text has tokens, these are a stream's, and these are its events: scalars, aliases and flow starts stand at their tokens'
+-- places, the other places are the parser's own. The events are nested.
+pub record HasEvents (keep_tags : Bool) (text : List ℕ) (events : List (Ev × Place)) : Type 0 where
+  pub tokens : List Token
+  pub has : HasTokens text tokens
+  pub stream : IsPlacedStream keep_tags tokens events
+  pub documents : List NestedDocument
+  pub events_are : events_of events ≡ nested_stream documents
+
+-- These are the text's first tokens: those that it has first at some point of a run, and in the end.
+pub record AreFirst (text : List ℕ) (given : List Token) : Type 0 where
+  pub reached : IsReached text given
+  pub begins : (ts : List Token) → HasTokens text ts → scan.Begins given ts
+
+-- The text's events begin with these, as far as its first tokens tell: a stream begins with these tokens but for the last, and with
+-- these events at their places, and each stream that begins with these tokens begins with these events.
+pub record BeginsEvents (keep_tags : Bool) (text : List ℕ) (events : List (Ev × Place)) : Type 0 where
+  pub before : List Token
+  pub last : Option Token
+  pub first : AreFirst text (before ++ listed last)
+  pub begins : BeginsPlaced keep_tags before events
+  pub only : Foretells keep_tags (toks (before ++ listed last)) (events_of events)
+
+-- Why a parser has this fault: memory was refused; or the scanner refuses the text so; or a stream begins with the text's
+-- first tokens, and none with these and the next, which the fault blames.
+pub data IsFaultOf (keep_tags : Bool) (text : List ℕ) (f : Fault) : Type 0 where
+  wants_memory : WantsMemory f → IsFaultOf keep_tags text f
+  no_token : IsRefusal text f → IsFaultOf keep_tags text f
+  no_stream : (before : List Token) (last : Token) (events : List (Ev × Place)) → AreFirst text (before ++ last ∷ []) → Blames f (before ++ last ∷ [])
+      → BeginsPlaced keep_tags before events → NoneBegins keep_tags (toks (before ++ last ∷ [])) → IsFaultOf keep_tags text f
+
+-- How a load of the text ends: the receiver took all its events; or the parser has a fault; or the receiver refused an event
+-- that is the next of the text.
+pub data AnswersText {R : Type 0} (takes : R → Ev → Place → Result (Unit {0}) Fault → R → Type 0) (keep_tags : Bool) (text : List ℕ) (r : R) : Result (Unit {0}) Fault → R → Type 0 where
+  whole : {s : R} (es : List (Ev × Place)) → HasEvents keep_tags text es → Receives takes r es s → AnswersText takes keep_tags text r (Ok tt) s
+  faulted : {s : R} {f : Fault} (es : List (Ev × Place)) → IsFaultOf keep_tags text f → Receives takes r es s → AnswersText takes keep_tags text r (Err f) s
+  refused : {s t : R} {f : Fault} (es : List (Ev × Place)) (e : Ev) (p : Place) → BeginsEvents keep_tags text (es ++ (e, p) ∷ []) → Receives takes r es s → takes s e p (Err f) t
+      → AnswersText takes keep_tags text r (Err f) t

@@ -1,0 +1,18 @@
+//! Laws of texts of several documents, each the contract of an empty function.
+
+ghost use Rattle.proof_loads.specs.InTurn.{LayoutsInTurnAreReadAsTheirTrees, LayoutsInTurnAreWithoutNul, DumpsInTurnAreReadAsTheirTrees};
+
+/// The text of several basic layouts, each followed by an LF, is read as their trees, in order.
+pub fn layouts_in_turn_are_read_as_their_trees()
+    ensures { LayoutsInTurnAreReadAsTheirTrees }
+{}
+
+/// The text of several basic layouts has no NUL.
+pub fn layouts_in_turn_are_without_nul()
+    ensures { LayoutsInTurnAreWithoutNul }
+{}
+
+/// In each setting, the dumps of trees that can be written, each followed by an LF, are read as those trees.
+pub fn dumps_in_turn_are_read_as_their_trees()
+    ensures { DumpsInTurnAreReadAsTheirTrees }
+{}

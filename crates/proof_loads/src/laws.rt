@@ -1,0 +1,83 @@
+//! Laws of texts that are read as trees, each the contract of an empty function.
+
+ghost use Rattle.proof_loads.specs.Laws.{ReadTextsAreNotRefused, ReadTextsHaveNoFaultButMemory, EventsOfReadTextsAreRead, ReadTextsHaveTheirTrees};
+ghost use Rattle.proof_loads.specs.Laws.{JsonTextsAreReadAsTheirTree, JsonTextsAreWithoutNul, ReadTextsAreLoaded, JsonTextsAreLoaded};
+ghost use Rattle.proof_loads.specs.Laws.{TextsAreReadInOneWay, DumpsAreReadAsTheirTree};
+ghost use Rattle.defs_layout.specs.DumpIsInjective.{DumpIsInjective};
+ghost use Rattle.proof_loads.specs.Laws.{TextsAreAnswered, CharactersAreTheText, StringsAreTheText};
+
+use yaml_parser::MarkedEventReceiver;
+
+/// A text is read as at most one list of trees.
+pub fn texts_are_read_in_one_way()
+    ensures { TextsAreReadInOneWay }
+{}
+
+/// If a text is read as trees, no parser refuses one of its tokens.
+pub fn read_texts_are_not_refused()
+    ensures { ReadTextsAreNotRefused }
+{}
+
+/// If a text is read as trees, the only fault of its scanner and its parser is refused memory.
+pub fn read_texts_have_no_fault_but_memory()
+    ensures { ReadTextsHaveNoFaultButMemory }
+{}
+
+/// If a text is read as trees, a loader is at work after every beginning of its events: no key came twice, and no
+/// event stood out of nesting.
+pub fn events_of_read_texts_are_read()
+    ensures { EventsOfReadTextsAreRead }
+{}
+
+/// If a text is read as trees, a loader that took all of its events has just these trees as documents.
+pub fn read_texts_have_their_trees()
+    ensures { ReadTextsHaveTheirTrees }
+{}
+
+/// Each JSON text is read as its tree.
+pub fn json_texts_are_read_as_their_tree()
+    ensures { JsonTextsAreReadAsTheirTree }
+{}
+
+/// No JSON text has a NUL.
+pub fn json_texts_are_without_nul()
+    ensures { JsonTextsAreWithoutNul }
+{}
+
+/// If a tree can be written, its dump is read as that one tree, in each setting.
+pub fn dumps_are_read_as_their_tree()
+    ensures { DumpsAreReadAsTheirTree }
+{}
+
+/// In each setting, no two trees that can be written have the same text.
+pub fn dumps_are_injective()
+    ensures { DumpIsInjective }
+{}
+
+/// A load by a parser at its start has one of three results. It pushes all events of its text; or it has a fault
+/// whose reason is in the text, or refused memory; or the receiver refused an event that is the text's next.
+pub fn texts_are_answered<R: MarkedEventReceiver>()
+    ensures { TextsAreAnswered R.takes }
+{}
+
+/// A load of a text that is read as trees, by a parser at its start, has these trees as documents; or memory was
+/// refused; or the receiver refused an event after which a loader is at work.
+pub fn read_texts_are_loaded<R: MarkedEventReceiver>()
+    ensures { ReadTextsAreLoaded R.takes }
+{}
+
+/// A load of a JSON text, by a parser at its start, has its tree as document; or memory was refused; or the receiver
+/// refused an event.
+pub fn json_texts_are_loaded<R: MarkedEventReceiver>()
+    ensures { JsonTextsAreLoaded R.takes }
+{}
+
+/// The text that a scanner may have is the characters that its iterator gives, up to a NUL.
+pub fn characters_are_the_text<T: Iterator<Item = char>>()
+    ensures { CharactersAreTheText T.next_gives }
+{}
+
+/// Everything that a scanner of a `&str` promises of its text holds of that `&str` up to its first NUL.
+pub fn strings_are_the_text()
+    ensures { StringsAreTheText }
+{}

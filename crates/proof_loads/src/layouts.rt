@@ -1,0 +1,13 @@
+//! Laws of layouts. Each law is the contract of an empty function.
+
+ghost use Rattle.proof_loads.specs.LayoutTexts.{LayoutsAreReadAsTheirTrees, LayoutsAreWithoutNul};
+
+/// A layout is read as its trees, one for each document, in order.
+pub fn layouts_are_read_as_their_trees()
+    ensures { LayoutsAreReadAsTheirTrees }
+{}
+
+/// No layout has a NUL.
+pub fn layouts_are_without_nul()
+    ensures { LayoutsAreWithoutNul }
+{}

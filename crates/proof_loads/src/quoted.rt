@@ -1,0 +1,14 @@
+//! Laws of texts that are one quoted scalar, each the contract of an empty function.
+
+ghost use Rattle.proof_loads.specs.QuotedTexts.{QuotedTextsAreReadAsTheirString, QuotedTextsAreWithoutNul};
+
+/// Each text of one quoted scalar, followed by nothing but line feeds, is read as that one string, also if the text
+/// without quotes would be another scalar.
+pub fn quoted_texts_are_read_as_their_string()
+    ensures { QuotedTextsAreReadAsTheirString }
+{}
+
+/// No text of one quoted scalar has a NUL.
+pub fn quoted_texts_are_without_nul()
+    ensures { QuotedTextsAreWithoutNul }
+{}

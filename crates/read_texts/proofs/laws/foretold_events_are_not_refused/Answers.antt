@@ -1,5 +1,0 @@
-use Rattle.read_texts.proofs.Loads.{foretold_are_not_refused}
-use Rattle.read_texts.proofs.laws.foretold_events_are_not_refused.Goals as goal
-
-pub returns : goal.returns
-returns c = foretold_are_not_refused

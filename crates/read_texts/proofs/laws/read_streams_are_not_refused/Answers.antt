@@ -1,5 +1,0 @@
-use Rattle.read_texts.proofs.Loads.{streams_are_not_refused}
-use Rattle.read_texts.proofs.laws.read_streams_are_not_refused.Goals as goal
-
-pub returns : goal.returns
-returns c = streams_are_not_refused

@@ -1,6 +1,0 @@
-pub mod BlockScalar
-pub mod Breaks
-pub mod Classes
-pub mod Directives
-pub mod FlowScalar
-pub mod Tags

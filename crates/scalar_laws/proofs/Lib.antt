@@ -1,2 +1,0 @@
-pub mod Fold
-pub mod Bridges

@@ -1,4 +1,0 @@
-pub mod BlockEnds
-pub mod BlockScan
-pub mod HeaderEnds
-pub mod Laws

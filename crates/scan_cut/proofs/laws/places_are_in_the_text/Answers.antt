@@ -1,5 +1,0 @@
-use Rattle.scan_cut.proofs.Reached.{run_is_where}
-use Rattle.scan_cut.proofs.laws.places_are_in_the_text.Goals as goal
-
-pub returns : goal.returns
-returns c = λ text last nul run. run_is_where text last nul run

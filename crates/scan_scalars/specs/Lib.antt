@@ -1,7 +1,0 @@
-pub mod Laws
-pub mod NameEnds
-pub mod PlainEnds
-pub mod Fillers
-pub mod UriEnds
-pub mod TagEnds
-pub mod DirectiveEnds

@@ -1,4 +1,0 @@
-//! What the scanner's model reads as the text of a token is what the definitions say of it: theorems about the model.
-#![tactic(auto)]
-
-pub mod laws;

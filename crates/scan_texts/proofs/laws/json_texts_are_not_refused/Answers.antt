@@ -1,5 +1,0 @@
-use Rattle.scan_texts.proofs.JsonTexts.{json_text_is_not_refused}
-use Rattle.scan_texts.proofs.laws.json_texts_are_not_refused.Goals as goal
-
-pub returns : goal.returns
-returns c = json_text_is_not_refused

@@ -1,7 +1,0 @@
--- Tokens without their places.
-use Rattle.std.specs.Prelude.{List, map}
-use Rattle.token_defs.specs.Token.{Tok, Token}
-
--- what stands at each of the places
-abbrev pub toks : List Token → List Tok
-toks ts = map (λ t. t.tok) ts

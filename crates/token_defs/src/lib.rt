@@ -1,2 +1,0 @@
-//! Definitions of the kinds of token. There is no code.
-#![tactic(auto)]

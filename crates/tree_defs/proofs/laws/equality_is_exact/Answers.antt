@@ -1,5 +1,0 @@
-use Rattle.tree_defs.proofs.OrderLaws.{tree_eq_decides}
-use Rattle.tree_defs.proofs.laws.equality_is_exact.Goals as goal
-
-pub returns : goal.returns
-returns c = tree_eq_decides

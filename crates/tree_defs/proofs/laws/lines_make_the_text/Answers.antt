@@ -1,5 +1,0 @@
-use Rattle.tree_defs.proofs.LinesLaws.{lines_of-ended}
-use Rattle.tree_defs.proofs.laws.lines_make_the_text.Goals as goal
-
-pub returns : goal.returns
-returns c = lines_of-ended

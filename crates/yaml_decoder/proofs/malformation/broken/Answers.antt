@@ -1,7 +1,0 @@
-use Rattle.std.proofs.Common.{arith}
-use Rattle.std.proofs.lemmas.Grind.{common_steps}
-use Rattle.yaml_decoder.proofs.MalformationLemmas.{stopped_without}
-use Rattle.yaml_decoder.proofs.malformation.broken.Goals as goal
-
-pub returns-then-is_empty : goal.returns-then-is_empty
-returns-then-is_empty c = stopped_without c.stop.result c.args.message _ _ _ (grind (arith, common_steps)) c.stop.ensures

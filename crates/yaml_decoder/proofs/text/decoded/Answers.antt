@@ -1,9 +1,0 @@
-use Rattle.yaml_chars.proofs.TextLemmas.{string_chars_nil}
-use Rattle.yaml_decoder.proofs.ReadLemmas.{read_start, read_end}
-use Rattle.yaml_decoder.proofs.text.decoded.Goals as goal
-
-pub parts-init : goal.parts-init
-parts-init g c = read_start _ _ _ _ _ c.chosen_encoding-chosen.ensures.value (string_chars_nil _ c.in_ok-text.ensures.bytes)
-
-pub returns : goal.returns
-returns g c = read_end _ _ _ _ _ c.parts.invariant c.parts-test.false

@@ -1,8 +1,0 @@
-use Rattle.yaml_decoder.specs.Trails.{Trails}
-use Rattle.yaml_decoder.proofs.utf_8.utf_8_sequence.Given as goal
-
-abbrev pub invariant-trails : goal.invariant-trails
-invariant-trails l = Trails l.input l.bytes l.start.bits l.start.low l.start.high l.start.behind
-
-abbrev pub decreases-trails : goal.decreases-trails
-decreases-trails l = l.start.behind

@@ -1,0 +1,33 @@
+-- Lemmas about messages.
+use Rattle.std.proofs.Common.{◌≡◌, ℕ, ◌<◌, List, [], ◌∷◌, ◌++◌, sym, refl, append_assoc, append-nil, add-one, length, get_or, drop, suc, ◌+◌}
+use Rattle.std.proofs.Math.Seq.{drop-cons}
+use Rattle.std.specs.Prelude.{codes, decimal}
+use Rattle.std.specs.Str.{chars}
+use Rattle.yaml_encoding.specs.Decoding.{listed}
+use Rattle.yaml_encoding.specs.Messages.{after}
+
+listed_by_first : (n : ℕ) (ns : List ℕ) → listed (n ∷ ns) ≡ decimal n ++ after ns
+listed_by_first n [] = sym (append-nil (decimal n))
+listed_by_first n (m ∷ ns) =
+    rw (listed_by_first m ns) (append_assoc (decimal n) (codes ", ") (decimal m ++ after ns))
+
+-- a list of one number and others behind it
+pub list_pushed : (bytes others t u v : List ℕ) (n : ℕ) → bytes ≡ n ∷ others → u ≡ t ++ decimal n → v ≡ u ++ after others → v ≡ t ++ listed bytes
+list_pushed bytes others t u v n e f g =
+    rw (e, listed_by_first n others, ← append_assoc t (decimal n) (after others), ← f) g
+
+-- a list of none
+pub nothing_pushed : (bytes t : List ℕ) → bytes ≡ [] → t ≡ t ++ listed bytes
+nothing_pushed bytes t e = rw (e, append-nil t) refl
+
+-- one more of the numbers behind the first
+pub others_step : (bytes t u v : List ℕ) (i : ℕ) → i < length bytes → u ≡ t ++ chars (codes ", ") → v ≡ u ++ decimal (get_or bytes i 0) → v ++ after (drop (i + 1) bytes) ≡ t ++ after (drop i bytes)
+unfolding chars
+others_step bytes t u v i in_range e f =
+    rw (f, e, drop-cons bytes i 0 in_range, add-one i, append_assoc (t ++ codes ", ") (decimal (get_or bytes i 0)) (after (drop (suc i) bytes)), append_assoc t (codes ", ") (decimal (get_or bytes i 0) ++ after (drop (suc i) bytes))) refl
+
+-- the whole message
+pub message_whole : (t u v w x y bytes : List ℕ) (place : ℕ) → t ≡ [] → u ≡ t ++ chars (codes "Invalid character sequence at ") → v ≡ u ++ decimal place → w ≡ v ++ chars (codes ": [") → x ≡ w ++ listed bytes → y ≡ x ++ chars (codes "]")
+    → y ≡ codes "Invalid character sequence at " ++ decimal place ++ codes ": [" ++ listed bytes ++ codes "]"
+unfolding chars
+message_whole t u v w x y bytes place e f g h i j = rw (j, i, h, g, f, e) refl

@@ -1,0 +1,75 @@
+-- Lemmas about the parts of an input.
+use Rattle.std.proofs.Common.{◌≡◌, ℕ, zero, suc, ◌+◌, ◌-◌, ◌*◌, ◌≤◌, ◌<◌, pred, Bool, true, false, cond, List, [], ◌∷◌, Option, Some, None, length, drop, refl, ap, ◌∙◌, arith, add-zero}
+use Rattle.yaml_encoding.specs.Decoding.{Encoding, utf_8, utf_16_little, utf_16_big, Sequence, Range, Start, start_of, malformed, is_between, sequence_from, sequence_by, is_lead, is_trail, led, pair_by, utf_16_sequence, little, big, reading, part_of, parts_from}
+use Rattle.yaml_encoding.specs.Front.{front}
+
+-- a sequence takes some bytes, and no more than there are
+abbrev Takes : Sequence → List ℕ → Type 0
+Takes s r = (1 ≤ s.bytes) × (s.bytes ≤ suc (length r))
+
+by_test : (t : Bool) (x y : Sequence) (r : List ℕ) → Takes x r → Takes y r → Takes (cond t x y) r
+by_test true x y r f g = f
+by_test false x y r f g = g
+
+trails_take : (n bits : ℕ) (ranges : List Range) (r : List ℕ) → 1 ≤ n → (1 ≤ (sequence_from n bits ranges r).bytes) × ((sequence_from n bits ranges r).bytes ≤ n + length r)
+trails_take n bits [] r some = (some, omega arith)
+trails_take n bits (range ∷ ranges) [] some = (some, omega arith)
+trails_take n bits (range ∷ ranges) (b ∷ r) some = by_between (is_between (range.low) (range.high) b) (trails_take (suc n) (bits * 64 + (b - 0x80)) ranges r (omega arith))
+  where
+    by_between : (t : Bool) → (1 ≤ (sequence_from (suc n) (bits * 64 + (b - 0x80)) ranges r).bytes) × ((sequence_from (suc n) (bits * 64 + (b - 0x80)) ranges r).bytes ≤ suc n + length r)
+        → (1 ≤ (cond t (sequence_from (suc n) (bits * 64 + (b - 0x80)) ranges r) (malformed n 0)).bytes) × ((cond t (sequence_from (suc n) (bits * 64 + (b - 0x80)) ranges r) (malformed n 0)).bytes ≤ n + suc (length r))
+    by_between true h = (h.0, omega arith)
+    by_between false h = (some, omega arith)
+
+utf_8_takes : (s : Option Start) (r : List ℕ) → Takes (sequence_by s r) r
+utf_8_takes None r = (omega arith, omega arith)
+utf_8_takes (Some s) r = let h = trails_take 1 (s.bits) (s.behind) r (omega arith) in (h.0, omega arith)
+
+pair_takes : (t : Bool) (u v a b c : ℕ) (r : List ℕ) → Takes (pair_by t u v) (a ∷ b ∷ c ∷ r)
+pair_takes true u v a b c r = (omega arith, omega arith)
+pair_takes false u v a b c r = (omega arith, omega arith)
+
+led_takes : (unit : ℕ → ℕ → ℕ) (u b : ℕ) (r : List ℕ) → Takes (led unit u r) (b ∷ r)
+led_takes unit u b [] = (omega arith, omega arith)
+led_takes unit u b (c ∷ []) = (omega arith, omega arith)
+led_takes unit u b (c ∷ d ∷ r) = pair_takes (is_trail (unit c d)) u (unit c d) b c d r
+
+utf_16_takes : (unit : ℕ → ℕ → ℕ) (a : ℕ) (r : List ℕ) → Takes (utf_16_sequence unit a r) r
+utf_16_takes unit a [] = (omega arith, omega arith)
+utf_16_takes unit a (b ∷ r) =
+    by_test (is_lead (unit a b)) _ _ (b ∷ r) (led_takes unit (unit a b) b r) (by_test (is_trail (unit a b)) _ _ (b ∷ r) (omega arith, omega arith) (omega arith, omega arith))
+
+reading_takes : (e : Encoding) (b : ℕ) (r : List ℕ) → Takes (reading e b r) r
+reading_takes utf_8 b r = utf_8_takes (start_of b) r
+reading_takes utf_16_little b r = utf_16_takes little b r
+reading_takes utf_16_big b r = utf_16_takes big b r
+
+-- bytes that belong to the part before
+parts_from-behind : (at : ℕ → List ℕ → Sequence) (n place : ℕ) (r : List ℕ) → n ≤ length r → parts_from at n place r ≡ parts_from at 0 (place + n) (drop n r)
+parts_from-behind at zero place [] h = refl
+parts_from-behind at zero place (b ∷ r) h = rw (add-zero place) refl
+parts_from-behind at (suc n) place [] h = absurd (omega arith)
+parts_from-behind at (suc n) place (b ∷ r) h =
+    let p : suc place + n ≡ place + suc n = omega arith in
+    parts_from-behind at n (suc place) r (omega arith) ∙ ap (λ x. parts_from at 0 x (drop n r)) p
+
+-- the first part, and those behind it
+parts_from-first : (e : Encoding) (place b : ℕ) (r : List ℕ) → parts_from (reading e) 0 place (b ∷ r)
+    ≡ part_of place (b ∷ r) (reading e b r) ∷ parts_from (reading e) 0 (place + (reading e b r).bytes) (drop ((reading e b r).bytes) (b ∷ r))
+parts_from-first e place b r = first ((reading e b r).bytes) (reading_takes e b r)
+  where
+    first : (n : ℕ) → (1 ≤ n) × (n ≤ suc (length r)) → part_of place (b ∷ r) (reading e b r) ∷ parts_from (reading e) (pred n) (suc place) r
+        ≡ part_of place (b ∷ r) (reading e b r) ∷ parts_from (reading e) 0 (place + n) (drop n (b ∷ r))
+    first zero h = absurd (omega arith)
+    first (suc n) h =
+        let p : suc place + n ≡ place + suc n = omega arith in
+        ap (λ ps. part_of place (b ∷ r) (reading e b r) ∷ ps) (parts_from-behind (reading e) n (suc place) r (omega arith) ∙ ap (λ x. parts_from (reading e) 0 x (drop n r)) p)
+
+pub parts_from-front : (e : Encoding) (place : ℕ) (input : List ℕ) (s : Sequence) → 0 < length input → s ≡ front (reading e) input
+    → parts_from (reading e) 0 place input ≡ part_of place input s ∷ parts_from (reading e) 0 (place + s.bytes) (drop (s.bytes) input)
+parts_from-front e place [] s some eq = absurd (omega arith)
+parts_from-front e place (b ∷ r) s some eq = rw eq (parts_from-first e place b r)
+
+pub front-bytes : (e : Encoding) (input : List ℕ) (s : Sequence) → 0 < length input → s ≡ front (reading e) input → (1 ≤ s.bytes) × (s.bytes ≤ length input)
+front-bytes e [] s some eq = absurd (omega arith)
+front-bytes e (b ∷ r) s some eq = rw eq (reading_takes e b r)

@@ -1,0 +1,96 @@
+//! The text of an input.
+ghost use Rattle.std.specs.Prelude.{◌≡◌, ◌<◌, length};
+ghost use Rattle.defs_text.specs.Text.{string_chars};
+ghost use Rattle.yaml_encoding.specs.Decoding.{text, parts, ignored, replaced, strict, IsDecodedByCalls};
+ghost use Rattle.yaml_encoding.specs.Encodings.{encoding_of};
+ghost use Rattle.yaml_encoding.specs.Outcomes.{OutcomeIs, Passes};
+ghost use Rattle.yaml_encoding.specs.Steps.{IsStep, steps_by};
+
+use crate::ascii::read_run;
+use crate::encoding::{Encoding, chosen_encoding};
+use crate::growing::push;
+use crate::malformation::{Malformation, trapped};
+use crate::stop::Stop;
+use crate::trap::YAMLDecodingTrap;
+use std::alloc::Global;
+
+/// Reads the part of an input at a place, and returns the place after it.
+fn read_part(
+    encoding: Encoding,
+    trap: YAMLDecodingTrap,
+    input: &[u8],
+    place: usize,
+    text: &mut String,
+) -> Result<usize, Stop>
+    requires { place < length input.now }
+    ensures { Passes (steps_by (λ f. IsStep (post f.function)) trap) (encoding_of encoding) input.now place (string_chars text.old) (string_chars text.new) result }
+{
+    let rest = &input[place..];
+    let sequence = encoding.sequence(rest);
+    let behind = place + usize::from(sequence.bytes);
+    let Some(c) = sequence.character else {
+        let malformation = Malformation {
+            place,
+            bytes: sequence.bytes,
+            ahead: sequence.ahead,
+        };
+        return match trapped(trap, malformation, rest, text) {
+            Ok(()) => Ok(behind),
+            Err(stop) => Err(stop),
+        };
+    };
+    push(text, c)?;
+    Ok(behind)
+}
+
+/// Reads some of an input at a place, and returns the place after it: in UTF-8 a run of ASCII bytes if one begins
+/// there, else one part.
+fn read_some(
+    encoding: Encoding,
+    trap: YAMLDecodingTrap,
+    input: &[u8],
+    place: usize,
+    text: &mut String,
+) -> Result<usize, Stop>
+    requires { place < length input.now }
+    ensures { Passes (steps_by (λ f. IsStep (post f.function)) trap) (encoding_of encoding) input.now place (string_chars text.old) (string_chars text.new) result }
+{
+    match encoding {
+        Encoding::Utf8 if input[place] < 128 => {
+            let count = read_run(&input[place..], text)?;
+            Ok(place + count)
+        }
+        _ => read_part(encoding, trap, input, place, text),
+    }
+}
+
+/// The text of an input: by calls of the trap at each malformation.
+fn decoded(alloc: Global, input: &[u8], trap: YAMLDecodingTrap) -> Result<String, Stop>
+    ensures { OutcomeIs result (IsDecodedByCalls (steps_by (λ f. IsStep (post f.function)) trap) input.now) }
+{
+    let chosen = chosen_encoding(input);
+    let mut text = String::with_capacity(alloc, input.len())?;
+    let mut place = chosen.mark;
+    'parts: while place < input.len() {
+        place = read_some(chosen.encoding, trap, input, place, &mut text)?;
+    }
+    Ok(text)
+}
+
+/// The text of an input. The encoding is that of the byte order mark, which is no part of the text. Without a mark it
+/// is UTF-16 if just one of the first two bytes is NUL: big endian if it is the first, little endian if it is the
+/// second. Else it is UTF-8 (YAML 1.2, section 5.2). Malformations are those of the WHATWG Encoding standard,
+/// sections 8.1.1 and 14.4, and the trap says what becomes of each.
+///
+/// # Errors
+///
+/// [`Stop::Message`] if the trap stops at a malformation: `Strict` at the first, `Call` when its function breaks, the
+/// others never. [`Stop::OutOfMemory`] if memory was refused; no clause says when it is not.
+pub fn text_of(alloc: Global, input: &[u8], trap: YAMLDecodingTrap) -> Result<String, Stop>
+    ensures ignore { trap ≡ YAMLDecodingTrap.Ignore → OutcomeIs result (λ o. o ≡ text (ignored (parts input.now))) }
+    ensures replace { trap ≡ YAMLDecodingTrap.Replace → OutcomeIs result (λ o. o ≡ text (replaced (parts input.now))) }
+    ensures strict { trap ≡ YAMLDecodingTrap.Strict → OutcomeIs result (λ o. o ≡ strict (parts input.now)) }
+    ensures call { (f : _) → trap ≡ YAMLDecodingTrap.Call f → OutcomeIs result (IsDecodedByCalls (IsStep (post f.function)) input.now) }
+{
+    decoded(alloc, input, trap)
+}

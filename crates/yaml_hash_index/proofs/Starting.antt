@@ -1,0 +1,276 @@
+-- Starts of blocks: what a change of the blocks makes of them.
+use Rattle.std.proofs.Common.{◌≡◌, ℕ, zero, suc, ◌+◌, ◌*◌, ◌/◌, ◌^◌, ◌<◌, ◌≤◌, ◌⊎◌, List, [], ◌∷◌, ◌++◌, length, get_or, set, take, drop, map, refl, ap, inl, inr, ◌∙◌, length-append, length-set, length-take, length-drop, arith}
+use Rattle.std.specs.List.{insert, remove}
+use Rattle.std.proofs.lemmas.List.{length-map, get_or_append_left, get_or_push, take-append-drop}
+use Rattle.std.proofs.lemmas.List.Edits.{length-remove}
+use Rattle.std.proofs.lemmas.Bool.{cases_lt}
+use Rattle.yaml_hash_index.specs.declared.entry.Entry.{Entry}
+use Rattle.yaml_hash_index.specs.Blocks.{joined, start, halved, AreFilled}
+use Rattle.yaml_hash_index.specs.Starts.{AreStarts, AreApart, AreCounted, head_length}
+use Rattle.yaml_hash_index.proofs.Joining.{start_zero, start_all, start_within, start_next, start_rises, filled_map, length-halved, joined_halved, joined_map}
+
+-- ---- before a change and behind it
+
+pub start_set_before : (bs : List (List Entry)) (i n : ℕ) (b : List Entry) → n ≤ i → start (set bs i b) n ≡ start bs n
+start_set_before [] i n b h = refl
+start_set_before (c ∷ bs) i zero b h = start_zero (set (c ∷ bs) i b)
+start_set_before (c ∷ bs) zero (suc n) b h = absurd (omega arith)
+start_set_before (c ∷ bs) (suc i) (suc n) b h = ap (λ m. length c + m) (start_set_before bs i n b (omega arith))
+
+pub start_set_behind : (bs : List (List Entry)) (i n : ℕ) (b : List Entry) → i < length bs → i < n → start (set bs i b) n + length (get_or bs i []) ≡ start bs n + length b
+start_set_behind [] i n b h g = absurd (omega arith)
+start_set_behind (c ∷ bs) i zero b h g = absurd (omega arith)
+start_set_behind (c ∷ bs) zero (suc n) b h g = omega arith
+start_set_behind (c ∷ bs) (suc i) (suc n) b h g = omega (arith, start_set_behind bs i n b (omega arith) (omega arith))
+
+pub start_push_before : (bs : List (List Entry)) (b : List Entry) (n : ℕ) → n ≤ length bs → start (bs ++ b ∷ []) n ≡ start bs n
+start_push_before [] b zero h = refl
+start_push_before [] b (suc n) h = absurd (omega arith)
+start_push_before (c ∷ bs) b zero h = refl
+start_push_before (c ∷ bs) b (suc n) h = ap (λ m. length c + m) (start_push_before bs b n (omega arith))
+
+pub start_push_behind : (bs : List (List Entry)) (b : List Entry) (n : ℕ) → length bs < n → start (bs ++ b ∷ []) n ≡ start bs n + length b
+start_push_behind bs b zero h = absurd (omega arith)
+start_push_behind [] b (suc n) h = omega arith
+start_push_behind (c ∷ bs) b (suc n) h = omega (arith, start_push_behind bs b n (omega arith))
+
+pub start_remove_before : (bs : List (List Entry)) (i n : ℕ) → n ≤ i → start (remove bs i) n ≡ start bs n
+start_remove_before [] zero n h = refl
+start_remove_before [] (suc i) n h = refl
+start_remove_before (c ∷ bs) zero zero h = start_zero bs
+start_remove_before (c ∷ bs) zero (suc n) h = absurd (omega arith)
+start_remove_before (c ∷ bs) (suc i) zero h = refl
+start_remove_before (c ∷ bs) (suc i) (suc n) h = ap (λ m. length c + m) (start_remove_before bs i n (omega arith))
+
+pub start_remove_behind : (bs : List (List Entry)) (i n : ℕ) → i < length bs → i ≤ n → start (remove bs i) n + length (get_or bs i []) ≡ start bs (suc n)
+start_remove_behind [] i n h g = absurd (omega arith)
+start_remove_behind (c ∷ bs) zero n h g = omega arith
+start_remove_behind (c ∷ bs) (suc i) zero h g = absurd (omega arith)
+start_remove_behind (c ∷ bs) (suc i) (suc n) h g = omega (arith, start_remove_behind bs i n (omega arith) (omega arith))
+
+pub start_halved_before : (bs : List (List Entry)) (i n h k : ℕ) → n ≡ suc i → i < length bs → k ≤ i → start (halved bs i n h) k ≡ start bs k
+start_halved_before [] i n h k e g l = absurd (omega arith)
+start_halved_before (b ∷ bs) i zero h k e g l = absurd (omega arith)
+start_halved_before (b ∷ bs) zero (suc n) h zero e g l = refl
+start_halved_before (b ∷ bs) zero (suc n) h (suc k) e g l = absurd (omega arith)
+start_halved_before (b ∷ bs) (suc i) (suc n) h zero e g l = refl
+start_halved_before (b ∷ bs) (suc i) (suc n) h (suc k) e g l = ap (λ m. length b + m) (start_halved_before bs i n h k (omega arith) (omega arith) (omega arith))
+
+-- a block that was behind is one place on
+pub start_halved_behind : (bs : List (List Entry)) (i n h k : ℕ) → n ≡ suc i → i < length bs → i < k → start (halved bs i n h) (suc k) ≡ start bs k
+start_halved_behind [] i n h k e g l = absurd (omega arith)
+start_halved_behind (b ∷ bs) i zero h k e g l = absurd (omega arith)
+start_halved_behind (b ∷ bs) i (suc n) h zero e g l = absurd (omega arith)
+start_halved_behind (b ∷ bs) zero (suc zero) h (suc k) e g l = omega (arith, ap length (take-append-drop h b), length-append (take h b) (drop h b))
+start_halved_behind (b ∷ bs) zero (suc (suc n)) h (suc k) e g l = absurd (omega arith)
+start_halved_behind (b ∷ bs) (suc i) (suc n) h (suc k) e g l = ap (λ m. length b + m) (start_halved_behind bs i n h k (omega arith) (omega arith) (omega arith))
+
+pub start_map : (f : Entry → Entry) (bs : List (List Entry)) (n : ℕ) → start (map (map f) bs) n ≡ start bs n
+start_map f [] n = refl
+start_map f (b ∷ bs) zero = refl
+start_map f (b ∷ bs) (suc n) = omega (arith, length-map b f, start_map f bs n)
+
+-- ---- all entries
+
+pub all_set : (bs : List (List Entry)) (i : ℕ) (b : List Entry) → i < length bs → length (joined (set bs i b)) + length (get_or bs i []) ≡ length (joined bs) + length b
+all_set bs i b h = omega (arith, start_set_behind bs i (length bs) b h h, start_all bs (length bs) (omega arith), start_all (set bs i b) (length bs) (omega (arith, length-set bs i b)))
+
+pub all_push : (bs : List (List Entry)) (b : List Entry) → length (joined (bs ++ b ∷ [])) ≡ length (joined bs) + length b
+all_push bs b =
+    let n = suc (length bs) in
+    omega (arith, start_push_behind bs b n (omega arith), start_all bs n (omega arith), start_all (bs ++ b ∷ []) n (omega (arith, length-append bs (b ∷ []))))
+
+pub all_remove : (bs : List (List Entry)) (i : ℕ) → i < length bs → length (joined (remove bs i)) + length (get_or bs i []) ≡ length (joined bs)
+all_remove bs i h =
+    let n = length bs in
+    omega (arith, start_remove_behind bs i n h (omega (arith, h)), start_all bs (suc n) (omega arith), start_all (remove bs i) n (omega (arith, length-remove bs i h)))
+
+-- ---- no block is empty
+
+pub filled_set : (bs : List (List Entry)) (i : ℕ) (b : List Entry) → AreFilled bs → 0 < length b → AreFilled (set bs i b)
+filled_set [] i b a h j g = absurd (omega arith)
+filled_set (c ∷ bs) zero b a h zero g = h
+filled_set (c ∷ bs) zero b a h (suc j) g = a (suc j) (omega arith)
+filled_set (c ∷ bs) (suc i) b a h zero g = a 0 (omega arith)
+filled_set (c ∷ bs) (suc i) b a h (suc j) g = filled_set bs i b (λ k l. a (suc k) (omega arith)) h j (omega arith)
+
+pub filled_insert : (bs : List (List Entry)) (i : ℕ) (b : List Entry) → AreFilled bs → 0 < length b → i ≤ length bs → AreFilled (insert bs i b)
+filled_insert [] zero b a h e zero g = h
+filled_insert [] zero b a h e (suc j) g = absurd (omega arith)
+filled_insert [] (suc i) b a h e j g = absurd (omega arith)
+filled_insert (c ∷ bs) zero b a h e zero g = h
+filled_insert (c ∷ bs) zero b a h e (suc j) g = a j (omega arith)
+filled_insert (c ∷ bs) (suc i) b a h e zero g = a 0 (omega arith)
+filled_insert (c ∷ bs) (suc i) b a h e (suc j) g = filled_insert bs i b (λ k l. a (suc k) (omega arith)) h (omega arith) j (omega arith)
+
+pub filled_push : (bs : List (List Entry)) (b : List Entry) → AreFilled bs → 0 < length b → AreFilled (bs ++ b ∷ [])
+filled_push [] b a h zero g = h
+filled_push [] b a h (suc j) g = absurd (omega arith)
+filled_push (c ∷ bs) b a h zero g = a 0 (omega arith)
+filled_push (c ∷ bs) b a h (suc j) g = filled_push bs b (λ k l. a (suc k) (omega arith)) h j (omega arith)
+
+pub filled_remove : (bs : List (List Entry)) (i : ℕ) → AreFilled bs → AreFilled (remove bs i)
+filled_remove [] zero a j g = absurd (omega arith)
+filled_remove [] (suc i) a j g = absurd (omega arith)
+filled_remove (c ∷ bs) zero a j g = a (suc j) (omega arith)
+filled_remove (c ∷ bs) (suc i) a zero g = a 0 (omega arith)
+filled_remove (c ∷ bs) (suc i) a (suc j) g = filled_remove bs i (λ k l. a (suc k) (omega arith)) j (omega arith)
+
+-- ---- the starts that are kept
+
+pub starts_some : (bs : List (List Entry)) (starts : List ℕ) → AreStarts bs starts → 0 < length starts
+starts_some bs starts a = omega (arith, a.enough)
+
+-- the last start counts all entries
+pub starts_all : (bs : List (List Entry)) (starts : List ℕ) (g : ℕ) → AreStarts bs starts → suc g ≡ length starts → get_or starts g 0 ≡ length (joined bs)
+starts_all bs starts g a e = a.each g (omega (arith, e)) ∙ start_all bs (16 * g) (omega (arith, a.enough, e))
+
+-- a start and its block are within all entries
+pub start_head : (bs : List (List Entry)) (starts : List ℕ) (g : ℕ) → AreStarts bs starts → g < length starts → get_or starts g 0 + head_length bs g ≤ length (joined bs)
+start_head bs starts g a h = omega (arith, a.each g h, start_next bs (16 * g) (suc (16 * g)) refl, start_within bs (suc (16 * g)))
+
+pub starts_pushed : (bs : List (List Entry)) (starts : List ℕ) (last n : ℕ) → AreStarts bs starts → suc n ≡ length starts → last ≡ get_or starts n 0 → AreStarts bs (starts ++ last ∷ [])
+starts_pushed bs starts last n a e l = record {
+  enough = omega (arith, a.enough, length-append starts (last ∷ []));
+  each = λ g h. by g (cases_lt g (length starts)) (omega (arith, h, length-append starts (last ∷ [])));
+}
+  where
+    by : (g : ℕ) → (g < length starts) ⊎ (length starts ≤ g) → g < length starts + 1 → get_or (starts ++ last ∷ []) g 0 ≡ start bs (16 * g)
+    by g (inl k) h = get_or_append_left starts (last ∷ []) 0 g k ∙ a.each g k
+    by g (inr k) h =
+        let pushed : get_or (starts ++ last ∷ []) g 0 ≡ last = get_or_push starts last 0 g (omega arith) in
+        let whole = start_all bs (16 * g) (omega (arith, a.enough)) in
+        omega (arith, pushed, l, starts_all bs starts n a e, whole)
+
+-- the starts of other blocks, which are higher from the first on
+pub starts_up : (more : ℕ → ℕ) (bs cs : List (List Entry)) (olds news : List ℕ) (first n : ℕ) → AreStarts bs olds → n ≡ length olds → AreApart more first n olds news → length cs + 16 ≤ 16 * length olds
+    → ((g : ℕ) → g < first → start cs (16 * g) ≡ start bs (16 * g))
+    → ((g : ℕ) → first ≤ g → start cs (16 * g) ≡ start bs (16 * g) + more g)
+    → AreStarts cs news
+starts_up more bs cs olds news first n a e d enough before behind = record {
+  enough = omega (arith, enough, d.count);
+  each = λ g h. by g (omega (arith, h, d.count)) (cases_lt g first);
+}
+  where
+    by : (g : ℕ) → g < length olds → (g < first) ⊎ (first ≤ g) → get_or news g 0 ≡ start cs (16 * g)
+    by g h (inl k) = omega (arith, d.before g k, a.each g h, before g k)
+    by g h (inr k) = omega (arith, d.inside g k (omega (arith, h, e)), a.each g h, behind g k)
+
+-- which are lower from the first on
+pub starts_down : (more : ℕ → ℕ) (bs cs : List (List Entry)) (olds news : List ℕ) (first n : ℕ) → AreStarts bs olds → n ≡ length olds → AreApart more first n news olds → length cs + 16 ≤ 16 * length olds
+    → ((g : ℕ) → g < first → start cs (16 * g) ≡ start bs (16 * g))
+    → ((g : ℕ) → first ≤ g → start cs (16 * g) + more g ≡ start bs (16 * g))
+    → AreStarts cs news
+starts_down more bs cs olds news first n a e d enough before behind = record {
+  enough = omega (arith, enough, d.count);
+  each = λ g h. by g (omega (arith, h, d.count)) (cases_lt g first);
+}
+  where
+    by : (g : ℕ) → g < length olds → (g < first) ⊎ (first ≤ g) → get_or news g 0 ≡ start cs (16 * g)
+    by g h (inl k) = omega (arith, d.before g k, a.each g h, before g k)
+    by g h (inr k) = omega (arith, d.inside g k (omega (arith, h, e)), a.each g h, behind g k)
+
+-- ---- one change of the blocks, and that of the starts which goes with it
+
+-- block i has an entry more
+pub counted_inserted : (bs : List (List Entry)) (olds news : List ℕ) (i first n : ℕ) (b : List Entry) → AreCounted bs olds → n ≡ length olds → AreApart (λ _. 1) first n olds news
+    → first ≡ i / 16 + 1 → i < length bs → length b ≡ length (get_or bs i []) + 1 → length (joined bs) + 1 < 2 ^ 64 → AreCounted (set bs i b) news
+counted_inserted bs olds news i first n b a e d f h l r = record {
+  filled = filled_set bs i b a.filled (omega (arith, l));
+  right = starts_up (λ _. 1) bs (set bs i b) olds news first n a.right e d (omega (arith, a.right.enough, length-set bs i b))
+      (λ g k. start_set_before bs i (16 * g) b (omega (arith, f)))
+      (λ g k. omega (arith, start_set_behind bs i (16 * g) b h (omega (arith, f)), l));
+  fits = omega (arith, all_set bs i b h, l, r);
+}
+
+-- a block of one entry comes behind all
+pub counted_pushed : (bs : List (List Entry)) (olds news : List ℕ) (first n : ℕ) (b : List Entry) → AreFilled bs → AreStarts bs olds → n ≡ length olds → AreApart (λ _. 1) first n olds news
+    → first ≡ length bs / 16 + 1 → length bs + 1 + 16 ≤ 16 * length olds → length b ≡ 1 → length (joined bs) + 1 < 2 ^ 64 → AreCounted (bs ++ b ∷ []) news
+counted_pushed bs olds news first n b filled a e d f enough l r = record {
+  filled = filled_push bs b filled (omega (arith, l));
+  right = starts_up (λ _. 1) bs (bs ++ b ∷ []) olds news first n a e d (omega (arith, enough, length-append bs (b ∷ [])))
+      (λ g k. start_push_before bs b (16 * g) (omega (arith, f)))
+      (λ g k. omega (arith, start_push_behind bs b (16 * g) (omega (arith, f)), l));
+  fits = omega (arith, all_push bs b, l, r);
+}
+
+-- block i has an entry less
+pub counted_removed : (bs : List (List Entry)) (olds news : List ℕ) (i first n : ℕ) (b : List Entry) → AreCounted bs olds → n ≡ length olds → AreApart (λ _. 1) first n news olds
+    → first ≡ i / 16 + 1 → i < length bs → 0 < length b → length b + 1 ≡ length (get_or bs i []) → AreCounted (set bs i b) news
+counted_removed bs olds news i first n b a e d f h some l = record {
+  filled = filled_set bs i b a.filled some;
+  right = starts_down (λ _. 1) bs (set bs i b) olds news first n a.right e d (omega (arith, a.right.enough, length-set bs i b))
+      (λ g k. start_set_before bs i (16 * g) b (omega (arith, f)))
+      (λ g k. omega (arith, start_set_behind bs i (16 * g) b h (omega (arith, f)), l));
+  fits = omega (arith, all_set bs i b h, l, a.fits);
+}
+
+-- block i becomes two
+pub counted_halved : (bs : List (List Entry)) (olds news : List ℕ) (i next h first n : ℕ) → AreFilled bs → AreStarts bs olds → length (joined bs) < 2 ^ 64 → n ≡ length olds → AreApart (head_length (halved bs i next h)) first n news olds
+    → first ≡ i / 16 + 1 → next ≡ suc i → i < length bs → 0 < h → h < length (get_or bs i []) → length bs + 1 + 16 ≤ 16 * length olds → AreCounted (halved bs i next h) news
+counted_halved bs olds news i next h first n filled a r e d f s l some more enough = record {
+  filled = filled_insert (set bs i (take h b)) next (drop h b) (filled_set bs i (take h b) filled (omega (arith, some, more, length-take h b)))
+      (omega (arith, more, length-drop h b)) (omega (arith, s, l, length-set bs i (take h b)));
+  right = starts_down (head_length cs) bs cs olds news first n a e d (omega (arith, enough, length-halved bs i next h s l))
+      (λ g k. start_halved_before bs i next h (16 * g) s l (omega (arith, f)))
+      (λ g k. omega (arith, start_next cs (16 * g) (suc (16 * g)) refl, start_halved_behind bs i next h (16 * g) s l (omega (arith, f))));
+  fits = omega (arith, ap length (joined_halved bs i next h s l), r);
+}
+  where
+    b : List Entry
+    b = get_or bs i []
+
+    cs : List (List Entry)
+    cs = halved bs i next h
+
+-- block i, of one entry, goes
+pub counted_without : (bs : List (List Entry)) (olds mids news : List ℕ) (i first n m : ℕ) → AreCounted bs olds → n ≡ length olds → AreApart (head_length bs) first n olds mids → m ≡ length mids → AreApart (λ _. 1) first m news mids
+    → first ≡ i / 16 + 1 → i < length bs → length (get_or bs i []) ≡ 1 → AreCounted (remove bs i) news
+counted_without bs olds mids news i first n m a e up k down f h one = record {
+  filled = filled_remove bs i a.filled;
+  right = record {
+    enough = omega (arith, a.right.enough, up.count, down.count, length-remove bs i h);
+    each = λ g l. by g (omega (arith, l, up.count, down.count)) (cases_lt g first);
+  };
+  fits = omega (arith, all_remove bs i h, a.fits);
+}
+  where
+    by : (g : ℕ) → g < length olds → (g < first) ⊎ (first ≤ g) → get_or news g 0 ≡ start (remove bs i) (16 * g)
+    by g l (inl b) = omega (arith, up.before g b, down.before g b, a.right.each g l, start_remove_before bs i (16 * g) (omega (arith, f, b)))
+    by g l (inr b) =
+        omega (
+          arith,
+          up.inside g b (omega (arith, l, e)),
+          down.inside g b (omega (arith, l, k, up.count)),
+          a.right.each g l,
+          start_remove_behind bs i (16 * g) h (omega (arith, f, b)),
+          start_next bs (16 * g) (suc (16 * g)) refl,
+          one,
+        )
+
+-- the entries are others, and as many
+pub counted_map : (f : Entry → Entry) (bs : List (List Entry)) (starts : List ℕ) → AreCounted bs starts → AreCounted (map (map f) bs) starts
+counted_map f bs starts a = record {
+  filled = filled_map f bs a.filled;
+  right = record {
+    enough = omega (arith, a.right.enough, length-map bs (map f));
+    each = λ g h. omega (arith, a.right.each g h, start_map f bs (16 * g));
+  };
+  fits = omega (arith, ap length (joined_map f bs), length-map (joined bs) f, a.fits);
+}
+
+-- ---- what the calls on starts ask
+
+-- no start is so high that it can't count one more
+pub can_rise : (bs : List (List Entry)) (starts : List ℕ) (n : ℕ) → AreStarts bs starts → length (joined bs) + 1 < n → (g : ℕ) → g < length starts → get_or starts g 0 + 1 < n
+can_rise bs starts n a h g k = omega (arith, h, start_head bs starts g a k)
+
+-- behind a block that isn't empty no start is 0
+pub can_fall : (bs : List (List Entry)) (starts : List ℕ) (i first : ℕ) → AreStarts bs starts → first ≡ i / 16 + 1 → 0 < length (get_or bs i []) → (g : ℕ) → first ≤ g → g < length starts → 0 < get_or starts g 0
+can_fall bs starts i first a f some g k l = omega (arith, a.each g l, start_next bs i (suc i) refl, start_rises bs (suc i) (16 * g) (omega (arith, f)), some)
+
+-- behind two halves a start is at least the length of its block
+pub can_subtract : (bs : List (List Entry)) (starts : List ℕ) (i next h first : ℕ) → AreStarts bs starts → first ≡ i / 16 + 1 → next ≡ suc i → i < length bs
+    → (g : ℕ) → first ≤ g → g < length starts → head_length (halved bs i next h) g ≤ get_or starts g 0
+can_subtract bs starts i next h first a f s l g k m =
+    omega (arith, a.each g m, start_next (halved bs i next h) (16 * g) (suc (16 * g)) refl, start_halved_behind bs i next h (16 * g) s l (omega (arith, f)))

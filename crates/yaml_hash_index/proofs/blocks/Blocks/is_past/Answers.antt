@@ -1,0 +1,48 @@
+use Rattle.std.proofs.Common.{◌≡◌, ◌<◌, ◌+◌, suc, [], get_or, ap, length, subst, ◌∙◌, arith}
+use Rattle.std.proofs.lemmas.Bool.Decides.{nat_tests}
+use Rattle.yaml_hash_index.specs.Edges.{mark_at}
+use Rattle.yaml_hash_index.specs.Blocks.{joined, start, rank_of, AreFilled}
+use Rattle.yaml_hash_index.proofs.Joining.{block_read, mark_in, start_all, start_next}
+use Rattle.yaml_hash_index.proofs.blocks.Blocks.is_past.Goals as goal
+
+pub returns-then-len-spot : goal.returns-then-len-spot
+returns-then-len-spot c =
+    let all = start_all c.args.self.now c.args.spot.block (omega (arith, c.if-len-spot.true, c.len.ensures, ap length c.self.view_is, c.self.inside.blocks.ok.0)) in
+    λ t h. absurd (omega (arith, all, h))
+
+pub returns-then-spot-len : goal.returns-then-spot-len
+returns-then-spot-len c =
+    let bs = c.args.self.now in
+    let s = c.args.spot in
+    let inside : s.block < length bs = omega (arith, c.if-len-spot.false, c.len.ensures, ap length c.self.view_is, c.self.inside.blocks.ok.0) in
+    let read = block_read c.self.inside.blocks.items bs s.block _ c.self.view_is inside c.index-block.ensures in
+    let within : s.offset < length (get_or bs s.block []) = omega (arith, ap length read, c.len-2.ensures, c.if-spot-len.true) in
+    let mark = c.mark.ensures ∙ ap (λ b. mark_at b s.offset) read in
+    let there = mark_in bs s.block s.offset inside within in
+    λ t h. let less : c.args.mark < c.mark.result = grind (arith, nat_tests, t) in omega (arith, less, mark, there)
+
+pub returns-then-len-spot-2 : goal.returns-then-len-spot-2
+returns-then-len-spot-2 c =
+    let bs = c.args.self.now in
+    let s = c.args.spot in
+    let inside : s.block < length bs = omega (arith, c.if-len-spot.false, c.len.ensures, ap length c.self.view_is, c.self.inside.blocks.ok.0) in
+    let read = block_read c.self.inside.blocks.items bs s.block _ c.self.view_is inside c.index-block.ensures in
+    let last : length bs ≡ suc s.block = omega (arith, c.if-len-spot-2.true, c.len-3.ensures, ap length c.self.view_is, c.self.inside.blocks.ok.0) in
+    let all = start_all bs (suc s.block) (omega (arith, last)) in
+    let next = start_next bs s.block (suc s.block) (omega arith) in
+    λ t h. absurd (omega (arith, all, next, h, ap length read, c.len-2.ensures, c.if-spot-len.false))
+
+pub returns : goal.returns
+returns c =
+    let bs = c.args.self.now in
+    let s = c.args.spot in
+    let inside : s.block < length bs = omega (arith, c.if-len-spot.false, c.len.ensures, ap length c.self.view_is, c.self.inside.blocks.ok.0) in
+    let behind : s.block + 1 < length bs = omega (arith, c.if-len-spot-2.false, c.len-3.ensures, ap length c.self.view_is, c.self.inside.blocks.ok.0) in
+    let read = block_read c.self.inside.blocks.items bs s.block _ c.self.view_is inside c.index-block.ensures in
+    let there = block_read c.self.inside.blocks.items bs (s.block + 1) _ c.self.view_is behind c.index.ensures in
+    let filled = subst AreFilled c.self.view_is c.self.invariant.filled in
+    let mark = c.mark-2.ensures ∙ ap (λ b. mark_at b 0) there in
+    let first = mark_in bs (s.block + 1) 0 behind (filled (s.block + 1) behind) in
+    let next = start_next bs s.block (s.block + 1) (omega arith) in
+    let at : rank_of bs s ≡ start bs (s.block + 1) + 0 = omega (arith, next, ap length read, c.len-2.ensures, c.if-spot-len.false, c.requires.1) in
+    λ t h. let less : c.args.mark < c.mark-2.result = grind (arith, nat_tests, t) in omega (arith, less, mark, first, ap (mark_at (joined bs)) at)

@@ -1,0 +1,6 @@
+use Rattle.std.proofs.Common.{◌≡◌, ◌++◌, take, drop, map}
+use Rattle.yaml_hash_index.specs.Moves.{entry_closed_up}
+use Rattle.yaml_hash_index.proofs.blocks.Blocks.remove.Given as goal
+
+abbrev pub invariant-loop-block : goal.invariant-loop-block
+invariant-loop-block l = l.block-items ≡ map (map (entry_closed_up l.gone)) (take l.block-index l.initial.block-items) ++ drop l.block-index l.initial.block-items

@@ -1,0 +1,374 @@
+//! Entries in blocks.
+ghost use Rattle.std.specs.Prelude.{◌≡◌, ◌<◌, ◌≤◌, ◌+◌, ◌^◌, ◌∷◌, [], length, map, take, drop, get_or, set, IsTrue, IsFalse, IfOk, OnOk, OnErr};
+ghost use Rattle.std.specs.List.{insert, remove};
+ghost use Rattle.yaml_hash_index.specs.Blocks.{joined, start, rank_of, head_at, halved, IsSpot, IsTaken, AreFilled, IsNarrowed};
+ghost use Rattle.yaml_hash_index.specs.Edges.{mark_at, place_at, IsEdge, AreRising};
+ghost use Rattle.yaml_hash_index.specs.Moves.{entry_closed_up, entry_moved_up};
+
+use crate::block::Block;
+use crate::entry::{Entry, Spot};
+use crate::starts::{STRIDE, add_blocks, group_of, grow, lower, raise, subtract_blocks};
+use std::alloc::{AllocError, Global};
+use std::marker::Model;
+
+// How many entries a block has at most.
+const ROOM: usize = 256;
+
+/// Entries in the order of their marks, in blocks.
+#[derive(Drop)]
+pub struct Blocks {
+    blocks: Vec<Block>,
+    // How many entries stand before every sixteenth block.
+    starts: Vec<usize>,
+}
+
+impl Model for Blocks {
+    ghost use Rattle.std.specs.Prelude.{List};
+    ghost use Rattle.yaml_hash_index.specs.declared.entry.Entry.{Entry};
+    ghost use Rattle.yaml_hash_index.specs.Starts.{AreCounted};
+
+    ghost Value = { List (List Entry) };
+
+    ghost view = { λ b. b.blocks.items };
+
+    ghost invariant = { λ b. AreCounted b.blocks.items b.starts.items };
+}
+
+// Where the first marks of the blocks reach this one.
+fn edge_of_heads(blocks: &[Block], mark: u64) -> usize
+    requires { AreFilled blocks.now }
+    ensures { IsEdge (head_at blocks.now) (length blocks.now) mark result }
+{
+    let mut low = 0;
+    let mut high = blocks.len();
+    while low < high {
+        let middle = low + (high - low) / 2;
+        if blocks[middle].mark(0) < mark {
+            low = middle + 1;
+        } else {
+            high = middle;
+        }
+    }
+    low
+}
+
+impl Blocks {
+    /// No entries.
+    pub fn new(alloc: Global) -> Result<Blocks, AllocError>
+        ensures { IfOk result (λ b. b ≡ []) }
+    {
+        let mut starts = Vec::with_capacity(alloc, 2)?;
+        starts.push(0)?;
+        Ok(Blocks {
+            blocks: Vec::new(alloc),
+            starts,
+        })
+    }
+
+    /// The place at a spot.
+    pub fn place(&self, spot: Spot) -> usize
+        requires { IsTaken self.now spot }
+        ensures { result ≡ place_at (joined self.now) (rank_of self.now spot) }
+    {
+        self.blocks[spot.block].place(spot.offset)
+    }
+
+    // The first spot whose mark is at least this one.
+    fn edge(&self, mark: u64) -> Spot
+        ensures spot { IsSpot self.now result }
+        ensures edge { IsEdge (mark_at (joined self.now)) (length (joined self.now)) mark (rank_of self.now result) }
+    {
+        let before = edge_of_heads(self.blocks.as_slice(), mark);
+        match before.checked_sub(1) {
+            Some(block) => Spot {
+                block,
+                offset: self.blocks[block].edge(mark),
+            },
+            None => Spot {
+                block: 0,
+                offset: 0,
+            },
+        }
+    }
+
+    // Whether the next entry from the spot on, if there is one, has a higher mark.
+    fn is_past(&self, spot: Spot, mark: u64) -> bool
+        requires { IsSpot self.now spot }
+        ensures { IsTrue result → rank_of self.now spot < length (joined self.now) → mark < mark_at (joined self.now) (rank_of self.now spot) }
+    {
+        if self.blocks.len() <= spot.block {
+            return true;
+        }
+        let block = &self.blocks[spot.block];
+        if spot.offset < block.len() {
+            return mark < block.mark(spot.offset);
+        }
+        if self.blocks.len() <= spot.block + 1 {
+            return true;
+        }
+        mark < self.blocks[spot.block + 1].mark(0)
+    }
+
+    // How many entries stand between two spots.
+    fn between(&self, low: Spot, high: Spot) -> usize
+        requires low { IsSpot self.now low }
+        requires high { IsSpot self.now high }
+        requires ordered { rank_of self.now low ≤ rank_of self.now high }
+        requires fits { length (joined self.now) < 2 ^ 63 }
+        ensures { rank_of self.now low + result ≡ rank_of self.now high }
+    {
+        if low.block == high.block {
+            return high.offset - low.offset;
+        }
+        let before = self.start(low.block) + low.offset;
+        self.start(high.block) + high.offset - before
+    }
+
+    // How many entries stand before a block.
+    fn start(&self, block: usize) -> usize
+        requires within { block ≤ length self.now }
+        requires fits { length (joined self.now) < 2 ^ 63 }
+        ensures { result ≡ start self.now block }
+    {
+        let group = block / STRIDE;
+        let mut count = self.starts[group];
+        for i in group * STRIDE..block {
+            count += self.blocks[i].len();
+        }
+        count
+    }
+
+    /// The first spot whose mark is at least this one, and how many entries from there on have this mark.
+    pub fn narrowed(&self, mark: u64) -> (Spot, usize)
+        requires rising { AreRising (joined self.now) }
+        requires fits { length (joined self.now) < 2 ^ 63 }
+        requires next { mark + 1 < 2 ^ 64 }
+        ensures spot { IsSpot self.now result.0 }
+        ensures narrowed { IsNarrowed (joined self.now) mark (rank_of self.now result.0) result.1 }
+    {
+        let low = self.edge(mark);
+        if self.is_past(low, mark) {
+            return (low, 0);
+        }
+        let high = self.edge(mark + 1);
+        (low, self.between(low, high))
+    }
+
+    /// The spot so many entries on.
+    pub fn advanced(&self, spot: Spot, by: usize) -> Spot
+        requires spot { IsSpot self.now spot }
+        requires within { rank_of self.now spot + by < length (joined self.now) }
+        requires fits { length (joined self.now) < 2 ^ 63 }
+        ensures taken { IsTaken self.now result }
+        ensures rank { rank_of self.now result ≡ rank_of self.now spot + by }
+    {
+        let offset = spot.offset + by;
+        if offset < self.blocks[spot.block].len() {
+            return Spot {
+                block: spot.block,
+                offset,
+            };
+        }
+        let rank = self.start(spot.block) + offset;
+        let group = group_of(self.starts.as_slice(), rank);
+        let first = Spot {
+            block: group * STRIDE,
+            offset: 0,
+        };
+        self.walked(first, rank - self.starts[group])
+    }
+
+    // The spot so many entries on, by way of each block between.
+    fn walked(&self, spot: Spot, by: usize) -> Spot
+        requires spot { IsSpot self.now spot }
+        requires within { rank_of self.now spot + by < length (joined self.now) }
+        requires fits { length (joined self.now) < 2 ^ 63 }
+        ensures taken { IsTaken self.now result }
+        ensures rank { rank_of self.now result ≡ rank_of self.now spot + by }
+    {
+        let mut block = spot.block;
+        let mut offset = spot.offset + by;
+        while self.blocks[block].len() <= offset {
+            offset -= self.blocks[block].len();
+            block += 1;
+        }
+        Spot { block, offset }
+    }
+
+    /// Puts an entry at a spot. An `Err` comes only where memory was refused, or there are as many entries as can be
+    /// counted, and then all is as it was.
+    pub fn insert(&mut self, spot: Spot, entry: Entry) -> Result<(), AllocError>
+        requires { IsSpot self.old spot }
+        ensures ok { OnOk result (joined self.new ≡ insert (joined self.old) (rank_of self.old spot) entry) }
+        ensures err { OnErr result (joined self.new ≡ joined self.old) }
+    {
+        if self.is_full() {
+            return Err(AllocError);
+        }
+        let spot = self.with_room(spot)?;
+        if spot.block == self.blocks.len() {
+            self.push(entry)?;
+            Ok(())
+        } else {
+            self.insert_inside(spot, entry)?;
+            Ok(())
+        }
+    }
+
+    // Whether there are as many entries as can be counted. Memory ends long before.
+    fn is_full(&self) -> bool
+        ensures full { IsTrue result → 2 ^ 64 ≤ length (joined self.now) + 1 }
+        ensures room { IsFalse result → length (joined self.now) + 1 < 2 ^ 64 }
+    {
+        self.starts[self.starts.len() - 1] == usize::MAX
+    }
+
+    // Puts an entry behind all, in a block of its own.
+    fn push(&mut self, entry: Entry) -> Result<(), AllocError>
+        requires { length (joined self.old) + 1 < 2 ^ 64 }
+        ensures ok { OnOk result (joined self.new ≡ insert (joined self.old) (length (joined self.old)) entry) }
+        ensures err { OnErr result (self.new ≡ self.old) }
+    {
+        let count = self.blocks.len();
+        let block = Block::of(*self.blocks.allocator(), entry)?;
+        grow(&mut self.starts, self.blocks.as_slice())?;
+        self.blocks.push(block)?;
+        raise(self.starts.as_mut_slice(), count / STRIDE + 1);
+        Ok(())
+    }
+
+    // Puts an entry into a block.
+    fn insert_inside(&mut self, spot: Spot, entry: Entry) -> Result<(), AllocError>
+        requires block { spot.block < length self.old }
+        requires spot { IsSpot self.old spot }
+        requires fits { length (joined self.old) + 1 < 2 ^ 64 }
+        ensures ok { OnOk result (joined self.new ≡ insert (joined self.old) (rank_of self.old spot) entry) }
+        ensures err { OnErr result (self.new ≡ self.old) }
+    {
+        self.blocks[spot.block].insert(spot.offset, entry)?;
+        raise(self.starts.as_mut_slice(), spot.block / STRIDE + 1);
+        Ok(())
+    }
+
+    // The same spot, where its block has room for an entry; if need be, the block is made two.
+    fn with_room(&mut self, spot: Spot) -> Result<Spot, AllocError>
+        requires { IsSpot self.old spot }
+        ensures joined { joined self.new ≡ joined self.old }
+        ensures spot { IfOk result (λ s. IsSpot self.new s) }
+        ensures rank { IfOk result (λ s. rank_of self.new s ≡ rank_of self.old spot) }
+    {
+        if spot.block == self.blocks.len() {
+            return Ok(spot);
+        }
+        let count = self.blocks[spot.block].len();
+        if count < ROOM {
+            return Ok(spot);
+        }
+        if spot.offset == count && spot.block + 1 == self.blocks.len() {
+            return Ok(Spot {
+                block: spot.block + 1,
+                offset: 0,
+            });
+        }
+        let half = count / 2;
+        self.split(spot.block, half)?;
+        if spot.offset <= half {
+            Ok(spot)
+        } else {
+            Ok(Spot {
+                block: spot.block + 1,
+                offset: spot.offset - half,
+            })
+        }
+    }
+
+    // Makes a block two.
+    fn split(&mut self, block: usize, half: usize) -> Result<(), AllocError>
+        requires block { block < length self.old }
+        requires first { 0 < half }
+        requires second { half < length (get_or self.old block []) }
+        ensures ok { OnOk result (self.new ≡ halved self.old block (block + 1) half) }
+        ensures joined { joined self.new ≡ joined self.old }
+        ensures err { OnErr result (self.new ≡ self.old) }
+    {
+        let upper = self.blocks[block].from(*self.blocks.allocator(), half, ROOM)?;
+        grow(&mut self.starts, self.blocks.as_slice())?;
+        self.blocks.insert(block + 1, upper)?;
+        self.blocks[block].truncate(half);
+        subtract_blocks(
+            self.starts.as_mut_slice(),
+            self.blocks.as_slice(),
+            block / STRIDE + 1,
+        );
+        Ok(())
+    }
+
+    /// Takes the entry at a spot out, and lowers the places behind its own.
+    pub fn remove(&mut self, spot: Spot)
+        requires { IsTaken self.old spot }
+        ensures { joined self.new ≡ map (entry_closed_up (place_at (joined self.old) (rank_of self.old spot))) (remove (joined self.old) (rank_of self.old spot)) }
+    {
+        let gone = self.place(spot);
+        self.take(spot);
+        for block in self.blocks.iter_mut() {
+            block.close_up(gone);
+        }
+    }
+
+    // Takes the entry at a spot out, and the block if nothing is left of it.
+    fn take(&mut self, spot: Spot)
+        requires { IsTaken self.old spot }
+        ensures { joined self.new ≡ remove (joined self.old) (rank_of self.old spot) }
+    {
+        if self.blocks[spot.block].len() == 1 {
+            self.remove_block(spot.block);
+        } else {
+            self.remove_inside(spot);
+        }
+    }
+
+    // Takes a block of one entry out.
+    fn remove_block(&mut self, block: usize)
+        requires block { block < length self.old }
+        requires one { length (get_or self.old block []) ≡ 1 }
+        ensures { joined self.new ≡ remove (joined self.old) (start self.old block) }
+    {
+        let behind = block / STRIDE + 1;
+        add_blocks(self.starts.as_mut_slice(), self.blocks.as_slice(), behind);
+        lower(self.starts.as_mut_slice(), behind);
+        drop(self.blocks.remove(block));
+    }
+
+    // Takes an entry out of a block of more.
+    fn remove_inside(&mut self, spot: Spot)
+        requires taken { IsTaken self.old spot }
+        requires more { 1 < length (get_or self.old spot.block []) }
+        ensures { joined self.new ≡ remove (joined self.old) (rank_of self.old spot) }
+    {
+        self.blocks[spot.block].remove(spot.offset);
+        lower(self.starts.as_mut_slice(), spot.block / STRIDE + 1);
+    }
+
+    /// Makes a place the last of so many, and lowers those behind it.
+    pub fn move_up(&mut self, gone: usize, count: usize)
+        requires { 0 < count }
+        ensures { joined self.new ≡ map (entry_moved_up gone count) (joined self.old) }
+    {
+        for block in self.blocks.iter_mut() {
+            block.move_up(gone, count);
+        }
+    }
+
+    /// A copy.
+    pub fn copied(&self, alloc: Global) -> Result<Blocks, AllocError>
+        ensures { IfOk result (λ b. b ≡ self.now) }
+    {
+        let mut starts = Vec::with_capacity(alloc, self.starts.len())?;
+        starts.extend_from_slice(self.starts.as_slice())?;
+        let mut blocks = Vec::with_capacity(alloc, self.blocks.len())?;
+        for block in &self.blocks {
+            blocks.push(block.from(alloc, 0, block.len())?)?;
+        }
+        Ok(Blocks { blocks, starts })
+    }
+}

@@ -1,0 +1,31 @@
+-- Lemmas about the octets of a URI's escaped characters.
+use Rattle.std.proofs.Common.{◌≡◌, ◌≤◌, ◌<◌, ◌+◌, ◌*◌, ◌-◌, ◌^◌, ◌∙◌, ℕ, zero, suc, Bool, List, refl, sym, arith, ap, lit<}
+use Rattle.std.proofs.Math.Nat.{pow-succ', pow-le-pow_right, mul-le-mul_left, mul-le-mul_right, mul_assoc, le_trans}
+use Rattle.defs_text.specs.Position.{Place}
+use Rattle.model_lexers.specs.Uri.{trails_from}
+
+-- one octet fewer is left of a character
+pub one_trail_fewer : (test : ℕ → Bool) (start : Place) (left code least : ℕ) (a : List ℕ) (p : Place) (t : List ℕ) → 0 < left
+    → trails_from test start left code least a p t ≡ trails_from test start (suc (left - 1)) code least a p t
+one_trail_fewer test start left code least a p t some =
+    let e : left ≡ suc (left - 1) = omega (arith, some) in ap (λ k. trails_from test start k code least a p t) e
+
+-- the bits before an octet leave room for its six
+pub bits_fit : (code left : ℕ) → (code + 1) * 64 ^ left ≤ 2 ^ 21 → 0 < left → code < 2 ^ 20
+bits_fit code left fits some =
+    let positive : 0 < 64 = lit< tt in
+    let one : 1 ≤ left = omega (arith, some) in
+    let power : 64 ^ 1 ≤ 64 ^ left = pow-le-pow_right {n = 64} positive one in
+    let more : (code + 1) * 64 ^ 1 ≤ (code + 1) * 64 ^ left = mul-le-mul_left (code + 1) power in
+    let first : 64 ^ 1 ≡ 64 = refl in
+    let room : (code + 1) * 64 ≤ 2 ^ 21 = rw first at (le_trans more fits) in
+    omega (arith, room)
+
+pub more_bits_fit : (code more left : ℕ) → (code + 1) * 64 ^ left ≤ 2 ^ 21 → 0 < left → more < (code + 1) * 64 → (more + 1) * 64 ^ (left - 1) ≤ 2 ^ 21
+more_bits_fit code more left fits some small =
+    let e : left ≡ suc (left - 1) = omega (arith, some) in
+    let power : 64 ^ left ≡ 64 * 64 ^ (left - 1) = ap (λ k. 64 ^ k) e ∙ pow-succ' 64 (left - 1) in
+    let next : more + 1 ≤ (code + 1) * 64 = omega (arith, small) in
+    let grown : (more + 1) * 64 ^ (left - 1) ≤ (code + 1) * 64 * 64 ^ (left - 1) = mul-le-mul_right (64 ^ (left - 1)) next in
+    let all : (code + 1) * 64 * 64 ^ (left - 1) ≡ (code + 1) * 64 ^ left = mul_assoc (code + 1) 64 (64 ^ (left - 1)) ∙ sym (ap (λ k. (code + 1) * k) power) in
+    le_trans (rw all at grown) fits

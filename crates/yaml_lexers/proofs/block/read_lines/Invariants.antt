@@ -1,0 +1,11 @@
+use Rattle.std.proofs.Common.{◌≡◌}
+use Rattle.yaml_chars.specs.Reading.{Reads}
+use Rattle.model_lexers.specs.Block.{margin, lines_from}
+use Rattle.yaml_lexers.specs.ShownBlock.{at}
+use Rattle.yaml_lexers.proofs.block.read_lines.Given as goal
+
+abbrev pub invariant-lines : goal.invariant-lines
+invariant-lines g l = Reads l.fn.window l.window (λ a b. lines_from l.fn.literal l.fn.column a (at margin l.fn.window l.fn.block) ≡ lines_from l.fn.literal l.fn.column b (at margin l.window l.block))
+
+abbrev pub decreases-lines : goal.decreases-lines
+decreases-lines g l = l.window.left

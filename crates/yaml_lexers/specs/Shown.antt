@@ -1,0 +1,37 @@
+-- What the code of flow scalars holds, as the model's states.
+use Rattle.std.specs.Prelude.{◌≡◌, ◌≢◌, ℕ, List, Result, Ok, Err}
+use Rattle.defs_text.specs.Position.{Place}
+use Rattle.yaml_chars.specs.Reading.{Reading, Reads, place_of}
+use Rattle.defs_text.specs.Text.{string_chars}
+use Rattle.yaml_tokens.specs.declared.problem.Fault.{Fault}
+use Rattle.yaml_tokens.specs.declared.problem.Fault.TheVariants.{OutOfMemory}
+use Rattle.yaml_lexers.specs.declared.folding.Folding.{Folding}
+use Rattle.yaml_lexers.specs.declared.plain.Plain as code
+use Rattle.model_lexers.specs.Machine.{Read}
+use Rattle.model_lexers.specs.Folding.{Folded}
+use Rattle.model_lexers.specs.Plain.{Mode, State, Plain}
+
+abbrev pub folded : Folding → Folded
+folded p = record { text = p.text; gap = p.gap; leading = p.leading; escaped = p.escaped }
+
+-- what was read of a plain scalar in front of a window's next characters
+abbrev pub at_folded : {T : Type 0} → Mode → Reading T → Folded → State
+at_folded mode w t = record { mode = mode; place = place_of w; folded = t }
+
+abbrev pub at : {T : Type 0} → Mode → Reading T → Folding → State
+at mode w p = at_folded mode w (folded p)
+
+abbrev pub plain_shown : code.Plain → Plain
+plain_shown s = record { text = string_chars s.text; leading = s.leading }
+
+-- what is left behind a function
+abbrev pub read : {T A : Type 0} → List ℕ → Reading T → A → Read A
+read b w x = record { rest = b; place = place_of w; value = x }
+
+-- what is left is read as the model reads it
+abbrev pub Lexes : {T A : Type 0} → (List ℕ → Place → Result (Read A) Fault) → Reading T → Reading T → A → Type 0
+Lexes f old new x = Reads old new (λ a b. f a (place_of old) ≡ Ok (read b new x))
+
+-- the model refuses what is left with this fault, unless memory was refused
+abbrev pub Refuses : {T A : Type 0} → (List ℕ → Place → Result (Read A) Fault) → Reading T → Reading T → Fault → Type 0
+Refuses f old new fault = Reads old new (λ a b. fault ≢ OutOfMemory → f a (place_of old) ≡ Err fault)

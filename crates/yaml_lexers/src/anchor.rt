@@ -1,0 +1,54 @@
+//! Anchors and aliases (YAML 1.2, sections 6.9.2 and 7.1).
+ghost use Rattle.std.specs.Prelude.{◌≡◌, ◌<◌, Ok, Err, OnOk, OnErr, IfOk, IfErr};
+ghost use Rattle.yaml_chars.specs.Class.{is_anchor};
+ghost use Rattle.yaml_chars.specs.Reading.{Reads, HasChar, place_of};
+ghost use Rattle.defs_text.specs.Text.{string_chars};
+ghost use Rattle.model_lexers.specs.Machine.{take_while};
+ghost use Rattle.model_lexers.specs.Anchor.{anchor_name};
+ghost use Rattle.yaml_lexers.specs.Shown.{Lexes, Refuses, read};
+
+use std::alloc::{AllocError, Global};
+use yaml_chars::class::is_anchor;
+use yaml_chars::{Text, Window};
+use yaml_tokens::{Fault, Problem};
+
+/// Reads the characters of a name.
+#[tactic(auto, using(model_lexers::proofs::SpaceLemmas::take_end))]
+fn read_name<T: Iterator<Item = char>>(
+    window: &mut Window<T>,
+    name: &mut Text,
+) -> Result<(), AllocError>
+    ensures ok { OnOk result (Reads window.old window.new (λ a b. take_while is_anchor a (place_of window.old) name.old ≡ read b window.new name.new)) }
+    ensures err { OnErr result (Reads window.old window.new (λ _ _. Unit {0})) }
+{
+    'name: loop {
+        let c = window.look_ch();
+        if !is_anchor(c) {
+            return Ok(());
+        }
+        name.push(c)?;
+        window.skip();
+    }
+}
+
+/// Reads the name of an anchor or an alias, from the `&` or `*` on.
+#[tactic(auto, unfolding(model_lexers::specs::Anchor::anchor_name))]
+pub fn read_anchor_name<T: Iterator<Item = char>>(
+    alloc: Global,
+    window: &mut Window<T>,
+) -> Result<String, Fault>
+    requires has { HasChar window.old }
+    requires ahead { 0 < window.old.ahead }
+    ensures ok { IfOk result (λ s. Lexes anchor_name window.old window.new (string_chars s)) }
+    ensures err { IfErr result (λ e. Refuses anchor_name window.old window.new e) }
+    ensures less { OnOk result (window.new.left < window.old.left) }
+{
+    let start = window.mark();
+    window.skip();
+    let mut name = Text::new(alloc);
+    read_name(window, &mut name)?;
+    if name.is_empty() {
+        return Err(Fault::At(Problem::AnchorName, start));
+    }
+    Ok(name.into_string())
+}

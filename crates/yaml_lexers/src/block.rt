@@ -1,0 +1,379 @@
+//! Block scalars (YAML 1.2, section 8.1).
+ghost use Rattle.std.specs.Prelude.{◌≡◌, ◌≢◌, ◌≤◌, ◌<◌, ◌^◌, ◌++◌, ◌&&◌, not, [], ℕ, Bool, true, false, Ok, Err, OnOk, OnErr, IfOk, IfErr};
+ghost use Rattle.yaml_chars.specs.Reading.{Reads, Sees, HasChar, place_of};
+ghost use Rattle.defs_text.specs.Text.{string_chars};
+ghost use Rattle.model_lexers.specs.Block.{margin, line, lines_from, begins, begun, with_char, tail, ends_indent, indent_from, first_indent, content, empty_text, body, behind_header, block};
+ghost use Rattle.yaml_lexers.specs.Shown.{Lexes, Refuses, read};
+ghost use Rattle.yaml_lexers.specs.ShownBlock.{lines, at, column_shown, header_shown};
+
+use crate::header::{Header, read_header};
+use crate::plain::at_marker;
+use std::alloc::{AllocError, Global};
+use yaml_chars::class::{is_blank, is_break};
+use yaml_chars::{Marker, Run, Text, Window};
+use yaml_tokens::{Chomping, Fault, Problem};
+
+/// The lines of a block scalar so far: the text up to the last content line, the breaks behind
+/// that line's own, whether it has one, and whether it starts with a blank.
+#[derive(Drop)]
+struct Lines {
+    text: Text,
+    breaks: Text,
+    broken: bool,
+    blank: bool,
+}
+
+impl Lines {
+    fn new(alloc: Global) -> Self
+        ensures { lines result ≡ record { text = []; breaks = []; broken = false; blank = false } }
+    {
+        Lines {
+            text: Text::new(alloc),
+            breaks: Text::new(alloc),
+            broken: false,
+            blank: false,
+        }
+    }
+
+    /// Whether line folding applies to the break before a content line: it stands behind another
+    /// content line, and neither of the two begins with a blank (YAML 1.2, section 8.1.3).
+    fn folds_before(&self, blank: bool) -> bool
+        ensures { result ≡ ((lines self.now).broken && not (lines self.now).blank && not blank) }
+    {
+        self.broken && !self.blank && !blank
+    }
+
+    /// Begins a content line with `c`, behind what stands between it and the last one.
+    #[tactic(auto, unfolding(model_lexers::specs::Block::between))]
+    fn begin(&mut self, literal: bool, c: char) -> Result<(), AllocError>
+        ensures { OnOk result (lines self.new ≡ with_char c (begun literal c (lines self.old))) }
+    {
+        let blank = is_blank(c);
+        if !literal && self.folds_before(blank) {
+            if self.breaks.is_empty() {
+                self.text.push(' ')?;
+            } else {
+                self.text.append(&self.breaks)?;
+            }
+        } else {
+            if self.broken {
+                self.text.push('\n')?;
+            }
+            self.text.append(&self.breaks)?;
+        }
+        self.breaks.clear();
+        self.broken = false;
+        self.blank = blank;
+        self.text.push(c)?;
+        Ok(())
+    }
+}
+
+/// Steps over the spaces and empty lines before the first content line. The answer is the most
+/// spaces that a line of these begins with.
+#[tactic(auto, using(model_lexers::proofs::BlockLemmas::first_stop))]
+fn read_first_indent<T: Iterator<Item = char>>(
+    window: &mut Window<T>,
+    block: &mut Lines,
+) -> Result<usize, AllocError>
+    ensures ok { IfOk result (λ n. Reads window.old window.new (λ a b.
+        first_indent a (record { most = 0; spaces = 0; place = place_of window.old; breaks = (lines block.old).breaks }) ≡ read b window.new (column_shown n (lines block.new).breaks))) }
+    ensures same { OnOk result (lines block.new ≡ record (lines block.old) { breaks = (lines block.new).breaks }) }
+    ensures err { OnErr result (Reads window.old window.new (λ _ _. Unit {0})) }
+    ensures ahead { OnOk result (0 < window.new.ahead) }
+{
+    let mut most = 0usize;
+    let mut spaces = 0usize;
+    'indent: loop {
+        window.lookahead(2);
+        let c = window.ch();
+        if c == ' ' {
+            window.skip();
+            spaces = window.mark().col();
+        } else if !is_break(c) {
+            return Ok(most.max(spaces));
+        } else if window.at_cr_lf() {
+            window.skip();
+        } else {
+            window.skip_break();
+            block.breaks.push('\n')?;
+            most = most.max(spaces);
+            spaces = 0;
+        }
+    }
+}
+
+/// Steps over indentation and empty lines.
+#[tactic(auto, using(model_lexers::proofs::BlockLemmas::indent_stop), unfolding(model_lexers::specs::Block::ends_indent))]
+fn read_indent<T: Iterator<Item = char>>(
+    window: &mut Window<T>,
+    column: usize,
+    block: &mut Lines,
+) -> Result<(), AllocError>
+    ensures ok { OnOk result (Reads window.old window.new (λ a b.
+        (indent_from column a (record { place = place_of window.old; breaks = (lines block.old).breaks }) ≡ read b window.new (column_shown column (lines block.new).breaks))
+        × ((literal : Bool) → lines_from literal column a (at margin window.old block.old) ≡ lines_from literal column b (at margin window.new block.new)) × (ends_indent column window.new.col b ≡ true))) }
+    ensures same { OnOk result (lines block.new ≡ record (lines block.old) { breaks = (lines block.new).breaks }) }
+    ensures err { OnErr result (Reads window.old window.new (λ _ _. Unit {0})) }
+    ensures ahead { OnOk result (0 < window.new.ahead) }
+{
+    'indent: loop {
+        window.lookahead(2);
+        let c = window.ch();
+        if c == ' ' && window.mark().col() < column {
+            window.skip();
+        } else if !is_break(c) {
+            return Ok(());
+        } else if window.at_cr_lf() {
+            window.skip();
+        } else {
+            window.skip_break();
+            block.breaks.push('\n')?;
+        }
+    }
+}
+
+/// Reads the characters up to a break or the end.
+fn read_run<T: Iterator<Item = char>>(
+    window: &mut Window<T>,
+    block: &mut Lines,
+) -> Result<(), AllocError>
+    ensures ok { OnOk result (Reads window.old window.new (λ a b. (literal : Bool) (column : ℕ) →
+        lines_from literal column a (at line window.old block.old) ≡ lines_from literal column b (at line window.new block.new))) }
+    ensures err { OnErr result (Reads window.old window.new (λ _ _. Unit {0})) }
+{
+    window.take_run(Run::Line, &mut block.text)?;
+    Ok(())
+}
+
+/// Reads a content line and its break.
+fn read_line<T: Iterator<Item = char>>(
+    window: &mut Window<T>,
+    block: &mut Lines,
+) -> Result<(), AllocError>
+    ensures ok { OnOk result (Reads window.old window.new (λ a b. (literal : Bool) (column : ℕ) →
+        lines_from literal column a (at line window.old block.old) ≡ lines_from literal column b (at margin window.new block.new))) }
+    ensures err { OnErr result (Reads window.old window.new (λ _ _. Unit {0})) }
+{
+    'line: loop {
+        read_run(window, block)?;
+        window.lookahead(2);
+        let c = window.ch();
+        if is_break(c) {
+            if window.at_cr_lf() {
+                window.skip();
+            } else {
+                window.skip_break();
+                block.broken = true;
+                return Ok(());
+            }
+        } else if c == '\0' {
+            return Ok(());
+        } else {
+            window.skip();
+            block.text.push(c)?;
+        }
+    }
+}
+
+/// Whether a content line begins here.
+#[tactic(auto, unfolding(model_lexers::specs::Block::begins))]
+fn begins<T: Iterator<Item = char>>(window: &Window<T>, column: usize) -> bool
+    requires { 4 ≤ window.now.ahead }
+    ensures sees { Sees window.now (λ a. result ≡ begins column window.now.col a) }
+    ensures has { result ≡ true → HasChar window.now }
+{
+    if window.ch() == '\0' {
+        return false;
+    }
+    window.mark().col() == column && !at_marker(window)
+}
+
+/// Reads the content line that begins here.
+#[tactic(auto, using(model_lexers::proofs::BlockLemmas::begin_lines))]
+fn read_content<T: Iterator<Item = char>>(
+    window: &mut Window<T>,
+    literal: bool,
+    column: usize,
+    block: &mut Lines,
+) -> Result<(), AllocError>
+    requires has { HasChar window.old }
+    requires ahead { 0 < window.old.ahead }
+    ensures ok { OnOk result (Reads window.old window.new (λ a b. ends_indent column window.old.col a ≡ true → begins column window.old.col a ≡ true →
+        lines_from literal column a (at margin window.old block.old) ≡ lines_from literal column b (at margin window.new block.new))) }
+    ensures err { OnErr result (Reads window.old window.new (λ _ _. Unit {0})) }
+    ensures less { OnOk result (window.new.left < window.old.left) }
+{
+    let c = window.ch();
+    block.begin(literal, c)?;
+    window.skip();
+    read_line(window, block)?;
+    Ok(())
+}
+
+/// Reads the lines of a block scalar whose content stands at a column, from the first one on.
+#[tactic(auto, using(model_lexers::proofs::BlockLemmas::stop_lines))]
+fn read_lines<T: Iterator<Item = char>>(
+    window: &mut Window<T>,
+    literal: bool,
+    column: usize,
+    block: &mut Lines,
+) -> Result<(), AllocError>
+    ensures ok { OnOk result (Reads window.old window.new (λ a b. lines_from literal column a (at margin window.old block.old) ≡ Ok (read b window.new (lines block.new)))) }
+    ensures err { OnErr result (Reads window.old window.new (λ _ _. Unit {0})) }
+    ensures ahead { OnOk result (0 < window.new.ahead) }
+{
+    'lines: loop {
+        read_indent(window, column, block)?;
+        window.lookahead(4);
+        if !begins(window, column) {
+            return Ok(());
+        }
+        read_content(window, literal, column, block)?;
+    }
+}
+
+/// Puts what the chomping leaves of the tail.
+#[tactic(auto, unfolding(model_lexers::specs::Block::tail))]
+fn chomp(block: &mut Lines, chomping: Chomping, unbroken: bool) -> Result<(), AllocError>
+    ensures { OnOk result (block.new.text ≡ block.old.text ++ tail chomping unbroken (lines block.old)) }
+{
+    if let Chomping::Strip = chomping {
+        return Ok(());
+    }
+    if block.broken {
+        block.text.push('\n')?;
+    }
+    if unbroken {
+        block.text.push('\n')?;
+    }
+    if let Chomping::Keep = chomping {
+        block.text.append(&block.breaks)?;
+    }
+    Ok(())
+}
+
+/// The text of a scalar without a content line at the end of the text.
+#[tactic(auto, unfolding(model_lexers::specs::Block::empty_text))]
+fn take_empty(chomping: Chomping, broken: bool, block: Lines) -> Result<Text, AllocError>
+    requires { (lines block).text ≡ [] }
+    ensures { IfOk result (λ t. t ≡ empty_text chomping broken (lines block).breaks) }
+{
+    let Lines {
+        mut text,
+        breaks,
+        broken: _,
+        blank: _,
+    } = block;
+    if !broken {
+        return Ok(text);
+    }
+    match chomping {
+        Chomping::Strip => Ok(text),
+        Chomping::Keep if !breaks.is_empty() => Ok(breaks),
+        Chomping::Clip | Chomping::Keep => {
+            text.push('\n')?;
+            Ok(text)
+        }
+    }
+}
+
+/// Steps to the first content line, and answers the column where content stands.
+#[tactic(auto, unfolding(model_lexers::specs::Block::content))]
+fn read_column<T: Iterator<Item = char>>(
+    window: &mut Window<T>,
+    indent: usize,
+    increment: usize,
+    block: &mut Lines,
+) -> Result<usize, AllocError>
+    requires indented { indent ≤ 2 ^ 63 }
+    requires increment { increment < 10 }
+    requires fresh { lines block.old ≡ record { text = []; breaks = []; broken = false; blank = false } }
+    ensures ok { IfOk result (λ n. Reads window.old window.new (λ a b. content indent increment a (place_of window.old) ≡ read b window.new (column_shown n (lines block.new).breaks))) }
+    ensures same { OnOk result (lines block.new ≡ record { text = []; breaks = (lines block.new).breaks; broken = false; blank = false }) }
+    ensures err { OnErr result (Reads window.old window.new (λ _ _. Unit {0})) }
+    ensures ahead { OnOk result (0 < window.new.ahead) }
+{
+    if increment == 0 {
+        let most = read_first_indent(window, block)?;
+        return Ok(most.max(indent));
+    }
+    let column = indent.saturating_sub(1) + increment;
+    read_indent(window, column, block)?;
+    Ok(column)
+}
+
+/// Reads the lines from the first content line on, and what the chomping leaves of their tail. The
+/// answer is the token's place.
+fn read_body<T: Iterator<Item = char>>(
+    window: &mut Window<T>,
+    literal: bool,
+    indent: usize,
+    column: usize,
+    chomping: Chomping,
+    block: &mut Lines,
+) -> Result<Marker, Fault>
+    requires fresh { lines block.old ≡ record { text = []; breaks = (lines block.old).breaks; broken = false; blank = false } }
+    ensures ok { IfOk result (λ place. Reads window.old window.new (λ a b.
+        body literal indent chomping (read a window.old (column_shown column (lines block.old).breaks)) ≡ Ok (read b window.new (record { place = place; text = (lines block.new).text })))) }
+    ensures err { IfErr result (λ e. Reads window.old window.new (λ a b. e ≢ Fault.OutOfMemory →
+        body literal indent chomping (read a window.old (column_shown column (lines block.old).breaks)) ≡ Err e)) }
+{
+    let place = window.mark();
+    if place.col() < column && indent <= place.col() {
+        return Err(Fault::At(Problem::BlockScalarIndentation, place));
+    }
+    read_lines(window, literal, column, block)?;
+    let col = window.mark().col();
+    let unbroken = window.look_ch() == '\0' && column <= col && 0 < col;
+    chomp(block, chomping, unbroken)?;
+    Ok(place)
+}
+
+/// Reads what comes behind a header. The answer is the token's place and the text.
+fn read_behind<T: Iterator<Item = char>>(
+    alloc: Global,
+    window: &mut Window<T>,
+    literal: bool,
+    indent: usize,
+    start: Marker,
+    header: Header,
+) -> Result<(Marker, String), Fault>
+    requires indented { indent ≤ 2 ^ 63 }
+    requires increment { header.increment < 10 }
+    ensures ok { IfOk result (λ s. Reads window.old window.new (λ a b.
+        behind_header literal indent start (header_shown header) (content indent header.increment a (place_of window.old)) ≡ Ok (read b window.new (record { place = s.0; text = string_chars s.1 })))) }
+    ensures err { IfErr result (λ e. Reads window.old window.new (λ a b. e ≢ Fault.OutOfMemory →
+        behind_header literal indent start (header_shown header) (content indent header.increment a (place_of window.old)) ≡ Err e)) }
+{
+    let mut block = Lines::new(alloc);
+    let column = read_column(window, indent, header.increment, &mut block)?;
+    if window.ch() == '\0' {
+        let text = take_empty(header.chomping, header.broken, block)?;
+        return Ok((start, text.into_string()));
+    }
+    let place = read_body(window, literal, indent, column, header.chomping, &mut block)?;
+    Ok((place, block.text.into_string()))
+}
+
+/// Reads a block scalar, from its `|` or `>` on. `indent` is the innermost block collection's
+/// column counted from 1, 0 where none is open. The answer is the token's place and the text.
+#[tactic(auto, unfolding(model_lexers::specs::Block::block))]
+pub fn read_block_scalar<T: Iterator<Item = char>>(
+    alloc: Global,
+    window: &mut Window<T>,
+    literal: bool,
+    indent: usize,
+) -> Result<(Marker, String), Fault>
+    requires indented { indent ≤ 2 ^ 63 }
+    requires has { HasChar window.old }
+    requires ahead { 0 < window.old.ahead }
+    ensures ok { IfOk result (λ s. Lexes (block literal indent) window.old window.new (record { place = s.0; text = string_chars s.1 })) }
+    ensures err { IfErr result (λ e. Refuses (block literal indent) window.old window.new e) }
+    ensures less { OnOk result (window.new.left < window.old.left) }
+{
+    let start = window.mark();
+    window.skip();
+    let header = read_header(window, start)?;
+    read_behind(alloc, window, literal, indent, start, header)
+}

@@ -1,0 +1,198 @@
+//! Escapes of double-quoted scalars (YAML 1.2, section 5.7).
+ghost use Rattle.std.specs.Prelude.{◌≡◌, ◌≢◌, ◌≤◌, ◌<◌, ◌+◌, ◌*◌, ℕ, zero, suc, Bool, true, false, Ok, Err, OnOk, IfOk, IfErr, slice_index, MatchOption, if◌then◌else◌};
+ghost use Rattle.defs_text.specs.Position.{Place};
+ghost use Rattle.yaml_chars.specs.Reading.{Reads, Sees, HasChar, place_of};
+ghost use Rattle.model_lexers.specs.declared.context.Context.{Context};
+ghost use Rattle.model_lexers.specs.Folding.{Folded};
+ghost use Rattle.model_lexers.specs.Quoted.{escape_of, is_scalar, digits_from, quoted_from, inside, breaking, named};
+ghost use Rattle.yaml_lexers.specs.ShownQuoted.{at, at_folded, mode_of, escape_shown, count_of, ReadsOn, Shows};
+ghost use Rattle.yaml_lexers.specs.Shown.{folded};
+
+use crate::folding::Folding;
+use crate::quoted::{Part, Quote};
+use yaml_chars::class::{hex_value, is_break, is_hex};
+use yaml_chars::{Marker, Window};
+use yaml_tokens::{Fault, Problem};
+
+/// How many hexadecimal digits a code has.
+#[derive(Clone, Copy)]
+enum Digits {
+    Two,
+    Four,
+    Eight,
+}
+
+impl Digits {
+    fn count(self) -> usize
+        ensures { result ≡ count_of self }
+    {
+        match self {
+            Digits::Two => 2,
+            Digits::Four => 4,
+            Digits::Eight => 8,
+        }
+    }
+}
+
+/// What stands behind a backslash: a character's name, or what begins its code.
+#[derive(Clone, Copy)]
+enum Escape {
+    Char(char),
+    Code(Digits),
+    Unknown,
+}
+
+#[tactic(auto, unfolding(model_lexers::specs::Quoted::escape_of))]
+fn escape_of(c: char) -> Escape
+    ensures value { escape_shown result ≡ escape_of c }
+    ensures some { result ≢ Escape.Unknown → c ≢ 0 }
+{
+    match c {
+        '0' => Escape::Char('\0'),
+        'a' => Escape::Char('\x07'),
+        'b' => Escape::Char('\x08'),
+        't' | '\t' => Escape::Char('\t'),
+        'n' => Escape::Char('\n'),
+        'v' => Escape::Char('\x0b'),
+        'f' => Escape::Char('\x0c'),
+        'r' => Escape::Char('\r'),
+        'e' => Escape::Char('\x1b'),
+        ' ' | '"' | '/' | '\\' => Escape::Char(c),
+        'N' => Escape::Char('\u{85}'),
+        '_' => Escape::Char('\u{A0}'),
+        'L' => Escape::Char('\u{2028}'),
+        'P' => Escape::Char('\u{2029}'),
+        'x' => Escape::Code(Digits::Two),
+        'u' => Escape::Code(Digits::Four),
+        'U' => Escape::Code(Digits::Eight),
+        _ => Escape::Unknown,
+    }
+}
+
+/// Reads a hexadecimal digit.
+#[inline(always)]
+#[tactic(auto, using(model_lexers::proofs::QuotedLemmas::digit_turn, model_lexers::proofs::QuotedLemmas::digit_fails))]
+fn read_digit<T: Iterator<Item = char>>(window: &mut Window<T>, start: Marker) -> Result<u32, Fault>
+    ensures ok { IfOk result (λ n. Reads window.old window.new (λ a b. (single : Bool) (context : Context) (more value : ℕ) (t : Folded) →
+        digits_from single context start (suc more) value a (place_of window.old) t ≡ digits_from single context start more (value * 16 + n) b (place_of window.new) t)) }
+    ensures err { IfErr result (λ e. Reads window.old window.new (λ a b. (single : Bool) (context : Context) (more value : ℕ) (t : Folded) →
+        digits_from single context start (suc more) value a (place_of window.old) t ≡ Err e)) }
+    ensures small { IfOk result (λ n. n < 16) }
+{
+    let c = window.look_ch();
+    if !is_hex(c) {
+        return Err(Fault::At(Problem::HexadecimalDigit, start));
+    }
+    window.skip();
+    Ok(hex_value(c))
+}
+
+/// The character of a code, if it is one's.
+#[tactic(auto, unfolding(model_lexers::specs::Quoted::is_scalar))]
+fn char_of(code: u32) -> Option<char>
+    ensures { MatchOption result (is_scalar code ≡ false) (λ c. (c ≡ code) × (is_scalar code ≡ true)) }
+{
+    char::from_u32(code)
+}
+
+/// Reads a code's digits.
+fn read_code<T: Iterator<Item = char>>(
+    window: &mut Window<T>,
+    start: Marker,
+    digits: Digits,
+) -> Result<u32, Fault>
+    ensures ok { IfOk result (λ n. Reads window.old window.new (λ a b. (single : Bool) (context : Context) (t : Folded) →
+        digits_from single context start (count_of digits) 0 a (place_of window.old) t ≡ digits_from single context start zero n b (place_of window.new) t)) }
+    ensures err { IfErr result (λ e. Reads window.old window.new (λ a b. (single : Bool) (context : Context) (t : Folded) →
+        digits_from single context start (count_of digits) 0 a (place_of window.old) t ≡ Err e)) }
+{
+    let mut code = 0;
+    let mut left = digits.count();
+    'digits: while left > 0 {
+        let digit = read_digit(window, start)?;
+        code = code * 16 + digit;
+        left -= 1;
+    }
+    Ok(code)
+}
+
+/// Reads a code's digits. The code has to be a character's.
+#[tactic(auto, using(model_lexers::proofs::QuotedLemmas::coded, model_lexers::proofs::QuotedLemmas::coded_fails))]
+fn read_coded<T: Iterator<Item = char>>(
+    window: &mut Window<T>,
+    quote: &Quote,
+    digits: Digits,
+    scalar: &mut Folding,
+) -> Result<(), Fault>
+    ensures ok { OnOk result (Reads window.old window.new (λ a b.
+        digits_from quote.now.single quote.now.context quote.now.start (count_of digits) 0 a (place_of window.old) (folded scalar.old) ≡ quoted_from quote.now.single quote.now.context quote.now.start b (at inside window.new scalar.new))) }
+    ensures err { IfErr result (λ e. Reads window.old window.new (λ a b. e ≢ Fault.OutOfMemory →
+        digits_from quote.now.single quote.now.context quote.now.start (count_of digits) 0 a (place_of window.old) (folded scalar.old) ≡ Err e)) }
+{
+    let code = read_code(window, quote.start, digits)?;
+    let Some(c) = char_of(code) else {
+        return Err(Fault::At(Problem::EscapedCode, quote.start));
+    };
+    scalar.push(c)?;
+    Ok(())
+}
+
+/// Reads what a backslash names.
+#[inline(always)]
+#[tactic(auto, using(model_lexers::proofs::QuotedLemmas::named_char, model_lexers::proofs::QuotedLemmas::named_code, model_lexers::proofs::QuotedLemmas::named_unknown))]
+fn read_named<T: Iterator<Item = char>>(
+    window: &mut Window<T>,
+    quote: &Quote,
+    scalar: &mut Folding,
+) -> Result<(), Fault>
+    ensures { ReadsOn quote.now named window.old scalar.old result (λ _. inside) window.new scalar.new }
+{
+    let c = window.look_ch();
+    match escape_of(c) {
+        Escape::Char(d) => {
+            scalar.push(d)?;
+            window.skip();
+            Ok(())
+        }
+        Escape::Unknown => Err(Fault::At(Problem::UnknownEscape, quote.start)),
+        Escape::Code(digits) => {
+            window.skip();
+            read_coded(window, quote, digits, scalar)
+        }
+    }
+}
+
+/// Steps over a backslash, and says whether a break stands behind it.
+#[inline(always)]
+fn skip_backslash<T: Iterator<Item = char>>(window: &mut Window<T>) -> bool
+    requires here { Shows window.old 2 92 }
+    ensures reads { Reads window.old window.new (λ a b. (context : Context) (start : Place) (t : Folded) →
+        quoted_from false context start a (at_folded inside window.old t) ≡ quoted_from false context start b (at_folded (if result then breaking else named) window.new t)) }
+    ensures less { window.new.left < window.old.left }
+{
+    let breaks = is_break(window.peek(1));
+    window.skip();
+    breaks
+}
+
+/// Reads an escape, and those right behind it.
+pub(crate) fn read_escapes<T: Iterator<Item = char>>(
+    window: &mut Window<T>,
+    quote: &Quote,
+    scalar: &mut Folding,
+) -> Result<Part, Fault>
+    requires double { quote.now.single ≡ false }
+    requires here { Shows window.old 2 92 }
+    ensures { ReadsOn quote.now inside window.old scalar.old result mode_of window.new scalar.new }
+{
+    'escapes: loop {
+        if skip_backslash(window) {
+            return Ok(Part::Breaking);
+        }
+        read_named(window, quote, scalar)?;
+        window.lookahead(2);
+        if window.ch() != '\\' {
+            return Ok(Part::Inside);
+        }
+    }
+}

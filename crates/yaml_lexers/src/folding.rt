@@ -1,0 +1,84 @@
+//! Lines of a flow scalar, folded.
+ghost use Rattle.std.specs.Prelude.{◌≡◌, OnOk};
+ghost use Rattle.model_lexers.specs.Folding.{nothing, with_char, with_blank, with_break, with_escaped_break, joined};
+ghost use Rattle.yaml_lexers.specs.Shown.{folded};
+
+use std::alloc::{AllocError, Global};
+use yaml_chars::Text;
+
+/// A text that is being folded, and what stands between it and the next character: blanks, or
+/// behind a break the breaks behind that.
+#[derive(Drop)]
+pub(crate) struct Folding {
+    pub text: Text,
+    pub gap: Text,
+    // Whether a break stands in the gap, and whether that was an escaped one.
+    pub leading: bool,
+    pub escaped: bool,
+}
+
+impl Folding {
+    pub(crate) fn new(alloc: Global) -> Self
+        ensures { folded result ≡ nothing }
+    {
+        Folding {
+            text: Text::new(alloc),
+            gap: Text::new(alloc),
+            leading: false,
+            escaped: false,
+        }
+    }
+
+    #[inline(always)]
+    pub(crate) fn push(&mut self, c: char) -> Result<(), AllocError>
+        ensures { OnOk result (folded self.new ≡ with_char c (folded self.old)) }
+    {
+        self.text.push(c)?;
+        Ok(())
+    }
+
+    pub(crate) fn add_blank(&mut self, c: char) -> Result<(), AllocError>
+        ensures { OnOk result (folded self.new ≡ with_blank c (folded self.old)) }
+    {
+        if !self.leading {
+            self.gap.push(c)?;
+        }
+        Ok(())
+    }
+
+    pub(crate) fn add_break(&mut self) -> Result<(), AllocError>
+        ensures { OnOk result (folded self.new ≡ with_break (folded self.old)) }
+    {
+        if self.leading {
+            self.gap.push('\n')?;
+        } else {
+            self.gap.clear();
+            self.leading = true;
+        }
+        Ok(())
+    }
+
+    /// A break that the text does not have.
+    pub(crate) fn escape_break(&mut self)
+        ensures { folded self.new ≡ with_escaped_break (folded self.old) }
+    {
+        self.leading = true;
+        self.escaped = true;
+    }
+
+    /// The gap becomes text. A lone break is a space.
+    #[inline(always)]
+    pub(crate) fn join(&mut self) -> Result<(), AllocError>
+        ensures { OnOk result (folded self.new ≡ joined (folded self.old)) }
+    {
+        if self.leading && !self.escaped && self.gap.is_empty() {
+            self.text.push(' ')?;
+        } else {
+            self.text.append(&self.gap)?;
+            self.gap.clear();
+        }
+        self.leading = false;
+        self.escaped = false;
+        Ok(())
+    }
+}

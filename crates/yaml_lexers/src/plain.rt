@@ -1,0 +1,272 @@
+//! Plain scalars (YAML 1.2, section 7.3.3).
+ghost use Rattle.std.specs.Prelude.{◌≡◌, ◌≢◌, ◌≤◌, ◌<◌, true, false, Ok, Err, OnOk, OnErr, IfOk, IfErr, slice_index};
+ghost use Rattle.defs_text.specs.Position.{Place};
+ghost use Rattle.yaml_chars.specs.Reading.{Reads, Sees, HasChar, SamePlace, place_of};
+ghost use Rattle.model_lexers.specs.declared.context.Context.{Context};
+ghost use Rattle.model_lexers.specs.Folding.{Folded};
+ghost use Rattle.model_lexers.specs.Machine.{is_marker, at_marker};
+ghost use Rattle.model_lexers.specs.Plain.{can_be_plain, is_shallow, at_dash, at_plain, goes_on, starts, plain, plain_from, first, inside, between, ends_gap};
+ghost use Rattle.yaml_lexers.specs.Shown.{Lexes, Refuses, at, at_folded, plain_shown};
+
+use crate::folding::Folding;
+use model_lexers::Context;
+use std::alloc::{AllocError, Global};
+use yaml_chars::class::{is_blank, is_blank_or_breakz, is_break, is_breakz, is_flow};
+use yaml_chars::{Marker, Run, Window};
+use yaml_tokens::{Fault, Problem};
+
+/// A plain scalar's text, and whether it ended behind a break, where a key may follow.
+#[derive(Drop)]
+pub struct Plain {
+    pub text: String,
+    pub leading: bool,
+}
+
+#[tactic(auto, unfolding(model_lexers::specs::Plain::can_be_plain))]
+fn can_be_plain(flow: bool, c: char, next: char) -> bool
+    ensures { result ≡ can_be_plain flow c next }
+{
+    match c {
+        ':' => !(is_blank_or_breakz(next) || flow && is_flow(next)),
+        _ => !(flow && is_flow(c)),
+    }
+}
+
+/// Reads the characters up to a blank, a break, the end, a colon or what ends a plain scalar in flow.
+#[tactic(auto, using(model_lexers::proofs::RunLemmas::plain_run))]
+fn read_word<T: Iterator<Item = char>>(
+    window: &mut Window<T>,
+    context: Context,
+    scalar: &mut Folding,
+) -> Result<(), AllocError>
+    ensures ok { OnOk result (Reads window.old window.new (λ a b. (start : Place) →
+        plain_from context start a (at inside window.old scalar.old) ≡ plain_from context start b (at inside window.new scalar.new))) }
+    ensures err { OnErr result (Reads window.old window.new (λ _ _. Unit {0})) }
+{
+    'run: while let Some(c) = window.take(Run::Plain(context.flow)) {
+        scalar.push(c)?;
+    }
+    Ok(())
+}
+
+/// Reads the characters up to a blank, a break, the end, or what ends a plain scalar.
+#[tactic(auto, using(model_lexers::proofs::PlainLemmas::run_end))]
+fn read_run<T: Iterator<Item = char>>(
+    window: &mut Window<T>,
+    context: Context,
+    scalar: &mut Folding,
+) -> Result<(), AllocError>
+    ensures ok { OnOk result (Reads window.old window.new (λ a b. (start : Place) →
+        plain_from context start a (at inside window.old scalar.old) ≡ plain_from context start b (at between window.new scalar.new))) }
+    ensures err { OnErr result (Reads window.old window.new (λ _ _. Unit {0})) }
+{
+    'run: loop {
+        read_word(window, context, scalar)?;
+        window.lookahead(2);
+        let c = window.ch();
+        if is_blank_or_breakz(c) || !can_be_plain(context.flow, c, window.peek(1)) {
+            return Ok(());
+        }
+        scalar.push(c)?;
+        window.skip();
+    }
+}
+
+#[tactic(auto, unfolding(model_lexers::specs::Machine::is_marker))]
+fn is_marker(c: char, d: char, e: char, f: char) -> bool
+    ensures { result ≡ is_marker c d e f }
+{
+    (c == '-' && d == '-' && e == '-' || c == '.' && d == '.' && e == '.') && is_blank_or_breakz(f)
+}
+
+/// Whether a document marker stands here.
+#[tactic(auto, unfolding(model_lexers::specs::Machine::at_marker))]
+pub(crate) fn at_marker<T: Iterator<Item = char>>(window: &Window<T>) -> bool
+    requires { 4 ≤ window.now.ahead }
+    ensures { Sees window.now (λ a. result ≡ at_marker window.now.col a) }
+{
+    let is_marker = is_marker(
+        window.peek(0),
+        window.peek(1),
+        window.peek(2),
+        window.peek(3),
+    );
+    window.mark().col() == 0 && is_marker
+}
+
+/// Whether a dash stands here that no plain scalar may begin with.
+#[tactic(auto, unfolding(model_lexers::specs::Plain::at_dash))]
+fn at_dash<T: Iterator<Item = char>>(window: &Window<T>, flow: bool) -> bool
+    requires { 2 ≤ window.now.ahead }
+    ensures { Sees window.now (λ a. result ≡ at_dash flow a) }
+{
+    flow && window.peek(0) == '-' && is_flow(window.peek(1))
+}
+
+/// Whether a character stands here that may be one of a plain scalar.
+#[tactic(auto, unfolding(model_lexers::specs::Plain::at_plain))]
+fn at_plain<T: Iterator<Item = char>>(window: &Window<T>, flow: bool) -> bool
+    requires { 2 ≤ window.now.ahead }
+    ensures sees { Sees window.now (λ a. result ≡ at_plain flow a) }
+    ensures has { result ≡ true → HasChar window.now }
+{
+    let c = window.peek(0);
+    !is_blank_or_breakz(c) && can_be_plain(flow, c, window.peek(1))
+}
+
+#[tactic(auto, unfolding(model_lexers::specs::Plain::is_shallow))]
+fn is_shallow(context: Context, col: usize) -> bool
+    ensures { result ≡ is_shallow context col }
+{
+    !context.flow && col < context.indent
+}
+
+/// Whether a scalar goes on at a character behind a gap.
+#[tactic(auto, unfolding(model_lexers::specs::Plain::goes_on))]
+fn goes_on<T: Iterator<Item = char>>(
+    window: &mut Window<T>,
+    context: Context,
+) -> Result<bool, Fault>
+    ensures reads { Reads window.old window.new (λ a b. (b ≡ a) × (result ≡ goes_on context a (place_of window.old))) }
+    ensures place { SamePlace window.old window.new }
+    ensures ahead { 0 < window.new.ahead }
+    ensures has { result ≡ Ok true → HasChar window.new }
+{
+    window.lookahead(4);
+    let mark = window.mark();
+    if is_shallow(context, mark.col()) {
+        return Ok(false);
+    }
+    if window.ch() == '#' || at_marker(window) {
+        return Ok(false);
+    }
+    if at_dash(window, context.flow) {
+        return Err(Fault::At(Problem::PlainDashInFlow, mark));
+    }
+    Ok(at_plain(window, context.flow))
+}
+
+/// Steps over a TAB at the indentation's place and the blanks behind it, up to the end of the
+/// line or a comment.
+#[tactic(auto, using(model_lexers::proofs::PlainLemmas::tabs_end))]
+fn skip_tabs<T: Iterator<Item = char>>(window: &mut Window<T>, start: Marker) -> Result<(), Fault>
+    requires tab { Sees window.old (λ a. slice_index a 0 ≡ 9) }
+    requires has { HasChar window.old }
+    requires ahead { 0 < window.old.ahead }
+    ensures ok { OnOk result (Reads window.old window.new (λ a b. (context : Context) (t : Folded) → t.leading ≡ true → window.old.col < context.indent →
+        plain_from context start a (at_folded between window.old t) ≡ plain_from context start b (at_folded between window.new t))) }
+    ensures err { IfErr result (λ e. Reads window.old window.new (λ a b. (context : Context) (t : Folded) → t.leading ≡ true → window.old.col < context.indent →
+        plain_from context start a (at_folded between window.old t) ≡ Err e)) }
+    ensures less { window.new.left < window.old.left }
+{
+    window.skip();
+    'tabs: loop {
+        let c = window.look_ch();
+        if is_breakz(c) || c == '#' {
+            return Ok(());
+        }
+        if !is_blank(c) {
+            return Err(Fault::At(Problem::PlainTab, start));
+        }
+        window.skip();
+    }
+}
+
+/// Reads blanks and breaks.
+fn read_gap<T: Iterator<Item = char>>(
+    window: &mut Window<T>,
+    context: Context,
+    start: Marker,
+    scalar: &mut Folding,
+) -> Result<(), Fault>
+    ensures ok { OnOk result (Reads window.old window.new (λ a b.
+        (plain_from context start a (at between window.old scalar.old) ≡ plain_from context start b (at between window.new scalar.new)) × (ends_gap b ≡ true))) }
+    ensures err { IfErr result (λ e. Reads window.old window.new (λ a b. e ≢ Fault.OutOfMemory →
+        plain_from context start a (at between window.old scalar.old) ≡ Err e)) }
+{
+    'gap: loop {
+        window.lookahead(2);
+        let c = window.ch();
+        if is_break(c) {
+            if window.at_cr_lf() {
+                window.skip();
+            } else {
+                window.skip_break();
+                scalar.add_break()?;
+            }
+        } else if !is_blank(c) {
+            return Ok(());
+        } else if scalar.leading && c == '\t' && window.mark().col() < context.indent {
+            skip_tabs(window, start)?;
+        } else {
+            window.skip();
+            scalar.add_blank(c)?;
+        }
+    }
+}
+
+/// Whether a plain scalar may begin here.
+#[tactic(auto, unfolding(model_lexers::specs::Plain::starts))]
+fn check_start<T: Iterator<Item = char>>(window: &Window<T>, context: Context) -> Result<(), Fault>
+    requires { 2 ≤ window.now.ahead }
+    ensures { Sees window.now (λ a. result ≡ starts context a (place_of window.now)) }
+{
+    let start = window.mark();
+    if context.flow && start.col() < context.indent {
+        return Err(Fault::At(Problem::FlowIndentation, start));
+    }
+    if at_dash(window, context.flow) {
+        return Err(Fault::At(Problem::PlainDashInFlow, start));
+    }
+    Ok(())
+}
+
+/// Reads the character that stands here and the rest of its line, and the gap behind it.
+fn read_line<T: Iterator<Item = char>>(
+    window: &mut Window<T>,
+    context: Context,
+    start: Marker,
+    scalar: &mut Folding,
+) -> Result<(), Fault>
+    requires has { HasChar window.old }
+    requires ahead { 0 < window.old.ahead }
+    ensures ok { OnOk result (Reads window.old window.new (λ a b.
+        (plain_from context start a (at first window.old scalar.old) ≡ plain_from context start b (at between window.new scalar.new)) × (ends_gap b ≡ true))) }
+    ensures err { IfErr result (λ e. Reads window.old window.new (λ a b. e ≢ Fault.OutOfMemory →
+        plain_from context start a (at first window.old scalar.old) ≡ Err e)) }
+    ensures less { OnOk result (window.new.left < window.old.left) }
+{
+    let c = window.ch();
+    scalar.join()?;
+    scalar.push(c)?;
+    window.skip();
+    read_run(window, context, scalar)?;
+    read_gap(window, context, start, scalar)
+}
+
+/// Reads a plain scalar, which may go on over lines, from its first character on.
+#[tactic(auto, using(model_lexers::proofs::PlainLemmas::go_on, model_lexers::proofs::PlainLemmas::stop_here, model_lexers::proofs::PlainLemmas::fail_here), unfolding(model_lexers::specs::Plain::plain))]
+pub fn read_plain<T: Iterator<Item = char>>(
+    alloc: Global,
+    window: &mut Window<T>,
+    context: Context,
+) -> Result<Plain, Fault>
+    requires { HasChar window.old }
+    ensures ok { IfOk result (λ s. Lexes (plain context) window.old window.new (plain_shown s)) }
+    ensures err { IfErr result (λ e. Refuses (plain context) window.old window.new e) }
+    ensures less { OnOk result (window.new.left < window.old.left) }
+{
+    window.lookahead(2);
+    let start = window.mark();
+    check_start(window, context)?;
+    let mut scalar = Folding::new(alloc);
+    'lines: loop {
+        read_line(window, context, start, &mut scalar)?;
+        if !goes_on(window, context)? {
+            return Ok(Plain {
+                leading: scalar.leading,
+                text: scalar.text.into_string(),
+            });
+        }
+    }
+}

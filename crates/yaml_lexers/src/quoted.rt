@@ -1,0 +1,310 @@
+//! Quoted scalars (YAML 1.2, sections 7.3.1 and 7.3.2).
+ghost use Rattle.std.specs.Prelude.{◌≡◌, ◌≢◌, ◌≤◌, ◌<◌, ◌==◌, ◌||◌, true, false, Ok, Err, OnOk, OnErr, IfOk, IfErr};
+ghost use Rattle.yaml_chars.specs.Class.{is_blank, is_break};
+ghost use Rattle.yaml_chars.specs.Reading.{Reads, Sees, HasChar, place_of};
+ghost use Rattle.defs_text.specs.Text.{string_chars};
+ghost use Rattle.model_lexers.specs.Quoted.{quote_of, refused, quoted, first, inside, gap, breaking, behind, doubled, closed};
+ghost use Rattle.yaml_lexers.specs.Shown.{Lexes, Refuses};
+ghost use Rattle.yaml_lexers.specs.ShownQuoted.{mode_of, GoesOn, AllGoOn, IsRefused, ReadsOn, Shows};
+
+use crate::escape::read_escapes;
+use crate::folding::Folding;
+use crate::plain::at_marker;
+use model_lexers::Context;
+use std::alloc::{AllocError, Global};
+use yaml_chars::class::{is_blank, is_break};
+use yaml_chars::{Marker, Run, Window};
+use yaml_tokens::{Fault, Problem};
+
+/// What stands next in a quoted scalar: its first character, the next one of a line, what comes in
+/// or behind a gap of blanks and breaks, an escaped break, what comes behind that, a second quote,
+/// what a backslash names, or what comes behind the closing quote.
+#[derive(Clone, Copy, PartialEq, Eq)]
+pub(crate) enum Part {
+    First,
+    Inside,
+    Gap,
+    Breaking,
+    Behind,
+    Doubled,
+    Closed,
+}
+
+/// A quoted scalar that is being read: whether its quotes are single, what surrounds it, and the place of its first quote.
+#[derive(Clone, Copy)]
+pub(crate) struct Quote {
+    pub single: bool,
+    pub context: Context,
+    pub start: Marker,
+}
+
+fn quote_of(single: bool) -> char
+    ensures value { result ≡ quote_of single }
+    ensures some { result ≢ 0 }
+{
+    if single { '\'' } else { '"' }
+}
+
+/// Refuses a document marker and a line that stands too far left.
+#[tactic(auto, unfolding(model_lexers::specs::Quoted::refused))]
+fn check_line<T: Iterator<Item = char>>(window: &Window<T>, quote: &Quote) -> Result<(), Fault>
+    requires { 4 ≤ window.now.ahead }
+    ensures { Sees window.now (λ a. result ≡ refused quote.now.context quote.now.start a (place_of window.now)) }
+{
+    if at_marker(window) {
+        return Err(Fault::At(Problem::QuotedDocumentMarker, quote.start));
+    }
+    if window.mark().col() + 1 < quote.context.indent {
+        return Err(Fault::At(Problem::QuotedIndentation, quote.start));
+    }
+    Ok(())
+}
+
+/// Reads a blank or a break.
+#[inline(always)]
+fn read_gap<T: Iterator<Item = char>>(
+    window: &mut Window<T>,
+    quote: &Quote,
+    c: char,
+    scalar: &mut Folding,
+) -> Result<(), Fault>
+    requires blank { (is_break c || is_blank c) ≡ true }
+    requires here { Shows window.old 2 c }
+    ensures { ReadsOn quote.now gap window.old scalar.old result (λ _. gap) window.new scalar.new }
+{
+    if is_break(c) {
+        if window.at_cr_lf() {
+            window.skip();
+        } else {
+            window.skip_break();
+            scalar.add_break()?;
+        }
+    } else if scalar.leading && c == '\t' && window.mark().col() + 1 < quote.context.indent {
+        return Err(Fault::At(Problem::TabAsIndentation, window.mark()));
+    } else {
+        window.skip();
+        scalar.add_blank(c)?;
+    }
+    Ok(())
+}
+
+/// Reads a character that is no blank and no break.
+#[inline(always)]
+fn read_inside<T: Iterator<Item = char>>(
+    window: &mut Window<T>,
+    quote: &Quote,
+    c: char,
+    scalar: &mut Folding,
+) -> Result<Part, Fault>
+    requires other { (is_break c || is_blank c) ≡ false }
+    requires here { Shows window.old 2 c }
+    ensures { ReadsOn quote.now inside window.old scalar.old result mode_of window.new scalar.new }
+{
+    if c == '\\' && !quote.single {
+        return read_escapes(window, quote, scalar);
+    }
+    if c == quote_of(quote.single) {
+        let doubled = quote.single && window.peek(1) == '\'';
+        window.skip();
+        return Ok(if doubled { Part::Doubled } else { Part::Closed });
+    }
+    scalar.push(c)?;
+    window.skip();
+    Ok(Part::Inside)
+}
+
+/// Reads a character of a line.
+#[inline(always)]
+#[tactic(auto, using(model_lexers::proofs::QuotedLemmas::inside_gap))]
+fn read_in_line<T: Iterator<Item = char>>(
+    window: &mut Window<T>,
+    quote: &Quote,
+    c: char,
+    scalar: &mut Folding,
+) -> Result<Part, Fault>
+    requires here { Shows window.old 2 c }
+    ensures { ReadsOn quote.now inside window.old scalar.old result mode_of window.new scalar.new }
+{
+    if is_break(c) || is_blank(c) {
+        read_gap(window, quote, c, scalar)?;
+        return Ok(Part::Gap);
+    }
+    read_inside(window, quote, c, scalar)
+}
+
+/// Reads the first character of a line, or one behind a gap.
+#[inline(always)]
+#[tactic(auto, using(model_lexers::proofs::QuotedLemmas::line_inside, model_lexers::proofs::QuotedLemmas::line_fails))]
+fn read_line<T: Iterator<Item = char>>(
+    window: &mut Window<T>,
+    quote: &Quote,
+    c: char,
+    scalar: &mut Folding,
+) -> Result<Part, Fault>
+    requires some { c ≢ 0 }
+    requires here { Shows window.old 4 c }
+    ensures { ReadsOn quote.now first window.old scalar.old result mode_of window.new scalar.new }
+{
+    check_line(window, quote)?;
+    scalar.join()?;
+    read_in_line(window, quote, c, scalar)
+}
+
+/// Reads a character in a gap, or the one behind it.
+#[tactic(auto, using(model_lexers::proofs::QuotedLemmas::gap_line))]
+fn read_in_gap<T: Iterator<Item = char>>(
+    window: &mut Window<T>,
+    quote: &Quote,
+    c: char,
+    scalar: &mut Folding,
+) -> Result<Part, Fault>
+    requires some { c ≢ 0 }
+    requires here { Shows window.old 4 c }
+    ensures { ReadsOn quote.now gap window.old scalar.old result mode_of window.new scalar.new }
+{
+    if is_break(c) || is_blank(c) {
+        read_gap(window, quote, c, scalar)?;
+        return Ok(Part::Gap);
+    }
+    read_line(window, quote, c, scalar)
+}
+
+/// Reads a character behind an escaped break.
+#[tactic(auto, using(model_lexers::proofs::QuotedLemmas::behind_quote, model_lexers::proofs::QuotedLemmas::behind_gap))]
+fn read_behind<T: Iterator<Item = char>>(
+    window: &mut Window<T>,
+    quote: &Quote,
+    c: char,
+    scalar: &mut Folding,
+) -> Result<Part, Fault>
+    requires some { c ≢ 0 }
+    requires here { Shows window.old 4 c }
+    ensures { ReadsOn quote.now behind window.old scalar.old result mode_of window.new scalar.new }
+{
+    if c == quote_of(quote.single) {
+        return read_in_line(window, quote, c, scalar);
+    }
+    read_in_gap(window, quote, c, scalar)
+}
+
+/// Reads an escaped break.
+fn read_escaped_break<T: Iterator<Item = char>>(
+    window: &mut Window<T>,
+    scalar: &mut Folding,
+) -> Part
+    requires has { HasChar window.old }
+    requires ahead { 2 ≤ window.old.ahead }
+    ensures reads { AllGoOn breaking window.old scalar.old (mode_of result) window.new scalar.new }
+    ensures less { window.new.left < window.old.left }
+{
+    if window.at_cr_lf() {
+        window.skip();
+        return Part::Breaking;
+    }
+    window.skip_break();
+    scalar.escape_break();
+    Part::Behind
+}
+
+/// Reads the second one of two quotes.
+fn read_doubled<T: Iterator<Item = char>>(
+    window: &mut Window<T>,
+    c: char,
+    scalar: &mut Folding,
+) -> Result<Part, AllocError>
+    requires here { Shows window.old 1 c }
+    ensures ok { IfOk result (λ next. AllGoOn doubled window.old scalar.old (mode_of next) window.new scalar.new) }
+    ensures err { OnErr result (Reads window.old window.new (λ _ _. Unit {0})) }
+    ensures less { OnOk result (window.new.left < window.old.left) }
+{
+    scalar.push(c)?;
+    window.skip();
+    Ok(Part::Inside)
+}
+
+/// Reads what stands here.
+fn read_part<T: Iterator<Item = char>>(
+    window: &mut Window<T>,
+    quote: &Quote,
+    part: Part,
+    scalar: &mut Folding,
+) -> Result<Part, Fault>
+    requires { part ≢ Part.Closed }
+    ensures { ReadsOn quote.now (mode_of part) window.old scalar.old result mode_of window.new scalar.new }
+{
+    window.lookahead(4);
+    let c = window.ch();
+    if c == '\0' {
+        return Err(Fault::At(Problem::QuotedEnd, quote.start));
+    }
+    match part {
+        Part::First => read_line(window, quote, c, scalar),
+        Part::Inside => read_in_line(window, quote, c, scalar),
+        Part::Gap => read_in_gap(window, quote, c, scalar),
+        Part::Breaking => Ok(read_escaped_break(window, scalar)),
+        Part::Behind => read_behind(window, quote, c, scalar),
+        Part::Doubled => Ok(read_doubled(window, c, scalar)?),
+        Part::Closed => unreachable!(),
+    }
+}
+
+/// Reads the characters up to a blank, a break, the end, a quote or a backslash.
+#[tactic(auto, using(model_lexers::proofs::RunLemmas::quoted_run))]
+fn read_run<T: Iterator<Item = char>>(
+    window: &mut Window<T>,
+    quote: &Quote,
+    scalar: &mut Folding,
+) -> Result<(), AllocError>
+    ensures ok { OnOk result (GoesOn quote.now inside window.old scalar.old inside window.new scalar.new) }
+    ensures err { OnErr result (Reads window.old window.new (λ _ _. Unit {0})) }
+{
+    'run: while let Some(c) = window.take(Run::Quoted(quote_of(quote.single))) {
+        scalar.push(c)?;
+    }
+    Ok(())
+}
+
+/// Reads what stands between the quotes, and the closing one.
+fn read_parts<T: Iterator<Item = char>>(
+    window: &mut Window<T>,
+    quote: &Quote,
+    scalar: &mut Folding,
+) -> Result<(), Fault>
+    ensures ok { OnOk result (GoesOn quote.now first window.old scalar.old closed window.new scalar.new) }
+    ensures err { IfErr result (λ e. IsRefused quote.now first window.old scalar.old window.new e) }
+    ensures left { OnOk result (window.new.left ≤ window.old.left) }
+{
+    let mut part = Part::First;
+    'parts: while part != Part::Closed {
+        part = read_part(window, quote, part, scalar)?;
+        if part == Part::Inside {
+            read_run(window, quote, scalar)?;
+        }
+    }
+    Ok(())
+}
+
+/// Reads a quoted scalar, from the opening quote to behind the closing one.
+#[tactic(auto, using(model_lexers::proofs::QuotedLemmas::quoted_starts, model_lexers::proofs::QuotedLemmas::closed_end), unfolding(model_lexers::specs::Quoted::quoted))]
+pub fn read_quoted<T: Iterator<Item = char>>(
+    alloc: Global,
+    window: &mut Window<T>,
+    single: bool,
+    context: Context,
+) -> Result<String, Fault>
+    requires has { HasChar window.old }
+    requires ahead { 0 < window.old.ahead }
+    ensures ok { IfOk result (λ s. Lexes (quoted single context) window.old window.new (string_chars s)) }
+    ensures err { IfErr result (λ e. Refuses (quoted single context) window.old window.new e) }
+    ensures less { OnOk result (window.new.left < window.old.left) }
+{
+    let quote = Quote {
+        single,
+        context,
+        start: window.mark(),
+    };
+    window.skip();
+    let mut scalar = Folding::new(alloc);
+    read_parts(window, &quote, &mut scalar)?;
+    Ok(scalar.text.into_string())
+}

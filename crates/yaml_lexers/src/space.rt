@@ -1,0 +1,87 @@
+//! Spaces, comments and line breaks.
+ghost use Rattle.std.specs.Prelude.{◌≡◌, ◌<◌, true, false, Ok, Err, IfOk, IfErr};
+ghost use Rattle.yaml_chars.specs.Reading.{Reads, HasChar, place_of};
+ghost use Rattle.model_lexers.specs.Space.{linebreak, comment, blanks, space};
+ghost use Rattle.yaml_lexers.specs.Shown.{read};
+
+use model_lexers::{SkipTabs, Whitespace};
+use yaml_chars::Window;
+use yaml_chars::class::{is_blank, is_breakz};
+use yaml_tokens::{Fault, Problem};
+
+/// Steps over the line break that stands here, CR LF as one.
+pub fn skip_linebreak<T: Iterator<Item = char>>(window: &mut Window<T>)
+    requires { HasChar window.old }
+    ensures reads { Reads window.old window.new (λ a b. linebreak a (place_of window.old) ≡ read b window.new tt) }
+    ensures less { window.new.left < window.old.left }
+{
+    window.lookahead(2);
+    if window.at_cr_lf() {
+        window.skip();
+        window.skip_break();
+    } else {
+        window.skip_break();
+    }
+}
+
+/// Steps to the end of the line. What stands there is then in the window.
+#[tactic(auto, using(model_lexers::proofs::SpaceLemmas::skip_end))]
+pub fn skip_comment<T: Iterator<Item = char>>(window: &mut Window<T>)
+    ensures reads { Reads window.old window.new (λ a b. comment a (place_of window.old) ≡ read b window.new tt) }
+    ensures ahead { 0 < window.new.ahead }
+{
+    'comment: loop {
+        if is_breakz(window.look_ch()) {
+            return;
+        }
+        window.skip();
+    }
+}
+
+/// Steps over spaces, TABs where these are to be skipped, and a comment, up to the end of the
+/// line. What stands behind them is then in the window.
+#[tactic(auto, using(model_lexers::proofs::SpaceLemmas::spaces_stop, model_lexers::proofs::SpaceLemmas::at_comment), unfolding(model_lexers::specs::Space::space))]
+pub fn skip_ws_to_eol<T: Iterator<Item = char>>(
+    window: &mut Window<T>,
+    tabs: SkipTabs,
+) -> Result<Whitespace, Fault>
+    ensures ok { IfOk result (λ w. Reads window.old window.new (λ a b. space tabs a (place_of window.old) ≡ Ok (read b window.new w))) }
+    ensures err { IfErr result (λ e. Reads window.old window.new (λ a b. space tabs a (place_of window.old) ≡ Err e)) }
+    ensures ahead { 0 < window.new.ahead }
+{
+    let mut found = Whitespace {
+        found_tabs: false,
+        has_valid_yaml_ws: false,
+    };
+    'space: loop {
+        let c = window.look_ch();
+        if c == ' ' {
+            found.has_valid_yaml_ws = true;
+            window.skip();
+        } else if c == '\t' && tabs == SkipTabs::Yes {
+            found.found_tabs = true;
+            window.skip();
+        } else if c != '#' {
+            return Ok(found);
+        } else if found.found_tabs || found.has_valid_yaml_ws {
+            skip_comment(window);
+            return Ok(found);
+        } else {
+            return Err(Fault::At(Problem::CommentNotSeparated, window.mark()));
+        }
+    }
+}
+
+/// Steps over spaces and TABs.
+#[tactic(auto, using(model_lexers::proofs::SpaceLemmas::skip_end))]
+pub(crate) fn skip_blanks<T: Iterator<Item = char>>(window: &mut Window<T>)
+    ensures reads { Reads window.old window.new (λ a b. blanks a (place_of window.old) ≡ read b window.new tt) }
+    ensures ahead { 0 < window.new.ahead }
+{
+    'blanks: loop {
+        if !is_blank(window.look_ch()) {
+            return;
+        }
+        window.skip();
+    }
+}

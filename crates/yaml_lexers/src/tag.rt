@@ -1,0 +1,222 @@
+//! Tags (YAML 1.2, sections 6.8.2 and 6.9.1).
+ghost use Rattle.std.specs.Prelude.{◌≡◌, ◌<◌, Ok, Err, OnOk, OnErr, IfOk, IfErr};
+ghost use Rattle.yaml_chars.specs.Class.{is_alpha};
+ghost use Rattle.yaml_chars.specs.Reading.{Reads, HasChar, place_of};
+ghost use Rattle.defs_text.specs.Text.{string_chars};
+ghost use Rattle.model_lexers.specs.Machine.{take_while};
+ghost use Rattle.model_lexers.specs.Tag.{verbatim, named, local_tag, shorthand, tag_here, ends_tag, tag, handle_end, handle, prefix};
+ghost use Rattle.yaml_lexers.specs.Shown.{Lexes, Refuses, read};
+ghost use Rattle.yaml_lexers.specs.ShownTag.{tag_shown};
+
+use crate::uri::{read_suffix, read_uri};
+use std::alloc::{AllocError, Global};
+use yaml_chars::class::{is_alpha, is_blank_or_breakz, is_flow, is_tag};
+use yaml_chars::{Marker, Text, Window};
+use yaml_tokens::{Fault, Problem};
+
+/// Reads ASCII letters, digits, `_` and `-`.
+#[tactic(auto, using(model_lexers::proofs::SpaceLemmas::take_end))]
+fn read_word<T: Iterator<Item = char>>(
+    window: &mut Window<T>,
+    text: &mut Text,
+) -> Result<(), AllocError>
+    ensures ok { OnOk result (Reads window.old window.new (λ a b. take_while is_alpha a (place_of window.old) text.old ≡ read b window.new text.new)) }
+    ensures err { OnErr result (Reads window.old window.new (λ _ _. Unit {0})) }
+    ensures ahead { OnOk result (0 < window.new.ahead) }
+{
+    'word: loop {
+        let c = window.look_ch();
+        if !is_alpha(c) {
+            return Ok(());
+        }
+        text.push(c)?;
+        window.skip();
+    }
+}
+
+/// Reads a tag behind its `!<`.
+#[tactic(auto, using(model_lexers::proofs::TagLemmas::verbatim_closes, model_lexers::proofs::TagLemmas::verbatim_fails), unfolding(model_lexers::specs::Tag::verbatim))]
+fn read_verbatim<T: Iterator<Item = char>>(
+    alloc: Global,
+    window: &mut Window<T>,
+    start: Marker,
+) -> Result<(String, String), Fault>
+    ensures ok { IfOk result (λ s. Lexes (verbatim start) window.old window.new (tag_shown (string_chars s.0) (string_chars s.1))) }
+    ensures err { IfErr result (λ e. Refuses (verbatim start) window.old window.new e) }
+{
+    let handle = Text::new(alloc);
+    let mut uri = Text::new(alloc);
+    read_uri(window, start, &mut uri)?;
+    if window.look_ch() != '>' {
+        return Err(Fault::At(Problem::VerbatimTagEnd, start));
+    }
+    window.skip();
+    Ok((handle.into_string(), uri.into_string()))
+}
+
+/// Reads the suffix behind a handle `!name!`.
+#[tactic(auto, unfolding(model_lexers::specs::Tag::named))]
+fn read_named<T: Iterator<Item = char>>(
+    alloc: Global,
+    window: &mut Window<T>,
+    start: Marker,
+    name: Text,
+) -> Result<(String, String), Fault>
+    ensures ok { IfOk result (λ s. Lexes (named start name) window.old window.new (tag_shown (string_chars s.0) (string_chars s.1))) }
+    ensures err { IfErr result (λ e. Refuses (named start name) window.old window.new e) }
+{
+    let mut handle = Text::new(alloc);
+    handle.push('!')?;
+    handle.append(&name)?;
+    handle.push('!')?;
+    let mut suffix = Text::new(alloc);
+    read_suffix(window, start, &mut suffix)?;
+    if suffix.is_empty() {
+        return Err(Fault::At(Problem::TagUri, start));
+    }
+    Ok((handle.into_string(), suffix.into_string()))
+}
+
+/// Reads a suffix without a handle, which begins with a name.
+fn read_local<T: Iterator<Item = char>>(
+    alloc: Global,
+    window: &mut Window<T>,
+    start: Marker,
+    mut name: Text,
+) -> Result<(String, String), Fault>
+    ensures ok { IfOk result (λ s. Lexes (local_tag start name) window.old window.new (tag_shown (string_chars s.0) (string_chars s.1))) }
+    ensures err { IfErr result (λ e. Refuses (local_tag start name) window.old window.new e) }
+{
+    read_suffix(window, start, &mut name)?;
+    let mut exclamation = Text::new(alloc);
+    exclamation.push('!')?;
+    if name.is_empty() {
+        return Ok((name.into_string(), exclamation.into_string()));
+    }
+    Ok((exclamation.into_string(), name.into_string()))
+}
+
+/// Reads a tag `!`, `!suffix`, `!!suffix` or `!name!suffix` behind its first `!`.
+#[tactic(auto, unfolding(model_lexers::specs::Tag::shorthand))]
+fn read_shorthand<T: Iterator<Item = char>>(
+    alloc: Global,
+    window: &mut Window<T>,
+    start: Marker,
+) -> Result<(String, String), Fault>
+    ensures ok { IfOk result (λ s. Lexes (shorthand start) window.old window.new (tag_shown (string_chars s.0) (string_chars s.1))) }
+    ensures err { IfErr result (λ e. Refuses (shorthand start) window.old window.new e) }
+{
+    let mut name = Text::new(alloc);
+    read_word(window, &mut name)?;
+    if window.look_ch() == '!' {
+        window.skip();
+        return read_named(alloc, window, start, name);
+    }
+    read_local(alloc, window, start, name)
+}
+
+/// Reads a tag behind its first `!`.
+fn read_here<T: Iterator<Item = char>>(
+    alloc: Global,
+    window: &mut Window<T>,
+    start: Marker,
+) -> Result<(String, String), Fault>
+    ensures ok { IfOk result (λ s. Lexes (tag_here start) window.old window.new (tag_shown (string_chars s.0) (string_chars s.1))) }
+    ensures err { IfErr result (λ e. Refuses (tag_here start) window.old window.new e) }
+{
+    if window.look_ch() == '<' {
+        window.skip();
+        return read_verbatim(alloc, window, start);
+    }
+    read_shorthand(alloc, window, start)
+}
+
+#[tactic(auto, unfolding(model_lexers::specs::Tag::ends_tag))]
+fn ends_tag(flow: bool, c: char) -> bool
+    ensures { result ≡ ends_tag flow c }
+{
+    is_blank_or_breakz(c) || flow && is_flow(c)
+}
+
+/// Reads a tag from its `!` on: its handle and its suffix.
+#[tactic(auto, unfolding(model_lexers::specs::Tag::tag))]
+pub fn read_tag<T: Iterator<Item = char>>(
+    alloc: Global,
+    window: &mut Window<T>,
+    in_flow: bool,
+) -> Result<(String, String), Fault>
+    requires has { HasChar window.old }
+    requires ahead { 0 < window.old.ahead }
+    ensures ok { IfOk result (λ s. Lexes (tag in_flow) window.old window.new (tag_shown (string_chars s.0) (string_chars s.1))) }
+    ensures err { IfErr result (λ e. Refuses (tag in_flow) window.old window.new e) }
+    ensures less { OnOk result (window.new.left < window.old.left) }
+{
+    let start = window.mark();
+    window.skip();
+    let tag = read_here(alloc, window, start)?;
+    if !ends_tag(in_flow, window.look_ch()) {
+        return Err(Fault::At(Problem::TagEnd, start));
+    }
+    Ok(tag)
+}
+
+/// Reads the end of a tag directive's handle behind its name.
+fn end_handle<T: Iterator<Item = char>>(
+    window: &mut Window<T>,
+    start: Marker,
+    bare: bool,
+    mut handle: Text,
+) -> Result<Text, Fault>
+    ensures ok { IfOk result (λ h. Lexes (handle_end start bare handle) window.old window.new h) }
+    ensures err { IfErr result (λ e. Refuses (handle_end start bare handle) window.old window.new e) }
+{
+    if window.look_ch() == '!' {
+        window.skip();
+        handle.push('!')?;
+        return Ok(handle);
+    }
+    if !bare {
+        return Err(Fault::At(Problem::TagDirectiveHandle, start));
+    }
+    Ok(handle)
+}
+
+/// Reads the handle of a tag directive: `!`, `!!` or `!name!`.
+#[tactic(auto, unfolding(model_lexers::specs::Tag::handle))]
+pub(crate) fn read_handle<T: Iterator<Item = char>>(
+    alloc: Global,
+    window: &mut Window<T>,
+    start: Marker,
+) -> Result<Text, Fault>
+    ensures ok { IfOk result (λ h. Lexes (handle start) window.old window.new h) }
+    ensures err { IfErr result (λ e. Refuses (handle start) window.old window.new e) }
+{
+    if window.look_ch() != '!' {
+        return Err(Fault::At(Problem::TagStart, start));
+    }
+    window.skip();
+    let mut handle = Text::new(alloc);
+    handle.push('!')?;
+    let bare = !is_alpha(window.look_ch());
+    read_word(window, &mut handle)?;
+    end_handle(window, start, bare, handle)
+}
+
+/// Reads the prefix of a tag directive: a `!` or a character of a tag, and characters of a URI.
+#[tactic(auto, unfolding(model_lexers::specs::Tag::prefix))]
+pub(crate) fn read_prefix<T: Iterator<Item = char>>(
+    alloc: Global,
+    window: &mut Window<T>,
+    start: Marker,
+) -> Result<Text, Fault>
+    ensures ok { IfOk result (λ h. Lexes (prefix start) window.old window.new h) }
+    ensures err { IfErr result (λ e. Refuses (prefix start) window.old window.new e) }
+{
+    let c = window.look_ch();
+    let mut prefix = Text::new(alloc);
+    if c != '!' && !is_tag(c) {
+        return Err(Fault::At(Problem::GlobalTagCharacter, start));
+    }
+    read_uri(window, start, &mut prefix)?;
+    Ok(prefix)
+}

@@ -1,0 +1,235 @@
+//! Characters of a URI, escaped ones too (YAML 1.2, section 5.6).
+ghost use Rattle.std.specs.Prelude.{◌≡◌, ◌≢◌, ◌≤◌, ◌<◌, ◌+◌, ◌*◌, ◌^◌, ◌++◌, ℕ, zero, suc, List, [], ◌∷◌, Bool, true, Ok, Err, OnOk, IfOk, IfErr, slice_index, IfSome, IfNone};
+ghost use Rattle.yaml_chars.specs.Class.{is_uri, is_tag};
+ghost use Rattle.defs_text.specs.Position.{Place};
+ghost use Rattle.yaml_chars.specs.Reading.{Reads, Sees, HasChar, place_of};
+ghost use Rattle.model_lexers.specs.Quoted.{is_scalar};
+ghost use Rattle.model_lexers.specs.Uri.{Octet, lead, plain, percent, low, uri, uri_from, octet_from, trails_from, at_octet, at_trail};
+ghost use Rattle.yaml_lexers.specs.Shown.{read};
+ghost use Rattle.yaml_lexers.specs.ShownTag.{at};
+
+use yaml_chars::class::{hex_value, is_hex, is_tag, is_uri};
+use yaml_chars::{Marker, Text, Window};
+use yaml_tokens::{Fault, Problem};
+
+/// Reads a `%` and a hexadecimal digit.
+#[tactic(auto, using(model_lexers::proofs::UriLemmas::percent_fails, model_lexers::proofs::UriLemmas::high_fails))]
+fn read_high<T: Iterator<Item = char>>(window: &mut Window<T>, start: Marker) -> Result<u32, Fault>
+    ensures ok { IfOk result (λ n. Reads window.old window.new (λ a b. (test : ℕ → Bool) (o : Octet) (t : List ℕ) →
+        uri_from test start a (at (percent o) window.old t) ≡ uri_from test start b (at (low o n) window.new t))) }
+    ensures err { IfErr result (λ e. Reads window.old window.new (λ a b. (test : ℕ → Bool) (o : Octet) (t : List ℕ) →
+        uri_from test start a (at (percent o) window.old t) ≡ Err e)) }
+    ensures less { OnOk result (window.new.left < window.old.left) }
+    ensures small { IfOk result (λ n. n < 16) }
+{
+    if window.look_ch() != '%' {
+        return Err(Fault::At(Problem::TagOctet, start));
+    }
+    window.skip();
+    let c = window.look_ch();
+    if !is_hex(c) {
+        return Err(Fault::At(Problem::TagOctet, start));
+    }
+    window.skip();
+    Ok(hex_value(c))
+}
+
+/// Reads a `%` and two hexadecimal digits.
+#[tactic(auto, using(model_lexers::proofs::UriLemmas::low_fails, model_lexers::proofs::UriLemmas::low_turn))]
+fn read_octet<T: Iterator<Item = char>>(window: &mut Window<T>, start: Marker) -> Result<u32, Fault>
+    ensures ok { IfOk result (λ n. Reads window.old window.new (λ a b. (test : ℕ → Bool) (o : Octet) (t : List ℕ) →
+        uri_from test start a (at (percent o) window.old t) ≡ octet_from test start o n b (place_of window.new) t)) }
+    ensures err { IfErr result (λ e. Reads window.old window.new (λ a b. (test : ℕ → Bool) (o : Octet) (t : List ℕ) →
+        uri_from test start a (at (percent o) window.old t) ≡ Err e)) }
+    ensures less { OnOk result (window.new.left < window.old.left) }
+    ensures small { IfOk result (λ n. n < 256) }
+{
+    let high = read_high(window, start)?;
+    let c = window.look_ch();
+    if !is_hex(c) {
+        return Err(Fault::At(Problem::TagOctet, start));
+    }
+    window.skip();
+    Ok(high * 16 + hex_value(c))
+}
+
+/// What a character's first octet says in UTF-8: how many octets come behind it, the first bits of
+/// the character's code, and the least code that has so many octets.
+#[derive(Clone, Copy)]
+struct Lead {
+    trails: usize,
+    bits: u32,
+    least: u32,
+}
+
+fn lead_of(octet: u32) -> Option<Lead>
+    ensures some { IfSome result (λ l. (start p : Place) (t : List ℕ) → at_octet start lead octet p t ≡ at_trail start l.trails l.bits l.least p t) }
+    ensures none { IfNone result ((start p : Place) (t : List ℕ) → at_octet start lead octet p t ≡ Err (Fault.At Problem.TagLeadingOctet start)) }
+    ensures small { IfSome result (λ l. (l.bits + 1) * 64 ^ l.trails ≤ 2 ^ 21) }
+{
+    match octet {
+        0x00..=0x7F => Some(Lead {
+            trails: 0,
+            bits: octet,
+            least: 0,
+        }),
+        0xC0..=0xDF => Some(Lead {
+            trails: 1,
+            bits: octet - 0xC0,
+            least: 0x80,
+        }),
+        0xE0..=0xEF => Some(Lead {
+            trails: 2,
+            bits: octet - 0xE0,
+            least: 0x800,
+        }),
+        0xF0..=0xF7 => Some(Lead {
+            trails: 3,
+            bits: octet - 0xF0,
+            least: 0x10000,
+        }),
+        _ => None,
+    }
+}
+
+/// Reads an octet that goes on with a character whose first bits are `code`.
+fn read_trail<T: Iterator<Item = char>>(
+    window: &mut Window<T>,
+    start: Marker,
+    code: u32,
+) -> Result<u32, Fault>
+    requires { code < 2 ^ 20 }
+    ensures ok { IfOk result (λ n. Reads window.old window.new (λ a b. (test : ℕ → Bool) (more least : ℕ) (t : List ℕ) →
+        trails_from test start (suc more) code least a (place_of window.old) t ≡ trails_from test start more n least b (place_of window.new) t)) }
+    ensures err { IfErr result (λ e. Reads window.old window.new (λ a b. (test : ℕ → Bool) (more least : ℕ) (t : List ℕ) →
+        trails_from test start (suc more) code least a (place_of window.old) t ≡ Err e)) }
+    ensures small { IfOk result (λ n. n < (code + 1) * 64) }
+{
+    let octet = read_octet(window, start)?;
+    match octet {
+        0x80..=0xBF => Ok(code * 64 + (octet - 0x80)),
+        _ => Err(Fault::At(Problem::TagTrailingOctet, start)),
+    }
+}
+
+/// Reads the octets behind the first one. The answer is the character's code.
+fn read_trails<T: Iterator<Item = char>>(
+    window: &mut Window<T>,
+    start: Marker,
+    lead: Lead,
+) -> Result<u32, Fault>
+    requires { (lead.bits + 1) * 64 ^ lead.trails ≤ 2 ^ 21 }
+    ensures ok { IfOk result (λ n. Reads window.old window.new (λ a b. (test : ℕ → Bool) (t : List ℕ) →
+        trails_from test start lead.trails lead.bits lead.least a (place_of window.old) t ≡ trails_from test start zero n lead.least b (place_of window.new) t)) }
+    ensures err { IfErr result (λ e. Reads window.old window.new (λ a b. (test : ℕ → Bool) (t : List ℕ) →
+        trails_from test start lead.trails lead.bits lead.least a (place_of window.old) t ≡ Err e)) }
+{
+    let mut code = lead.bits;
+    let mut left = lead.trails;
+    'trails: while left > 0 {
+        code = read_trail(window, start, code)?;
+        left -= 1;
+    }
+    Ok(code)
+}
+
+/// The character of a code of at least `least`: a smaller one is overlong.
+#[tactic(auto, unfolding(model_lexers::specs::Quoted::is_scalar))]
+fn decoded(code: u32, least: u32, start: Marker) -> Result<char, Fault>
+    ensures ok { IfOk result (λ c. (p : Place) (t : List ℕ) → at_trail start zero code least p t ≡ Ok (record { mode = plain; place = p; text = t ++ c ∷ [] })) }
+    ensures err { IfErr result (λ e. (p : Place) (t : List ℕ) → at_trail start zero code least p t ≡ Err e) }
+{
+    if code < least {
+        return Err(Fault::At(Problem::TagCodepoint, start));
+    }
+    match char::from_u32(code) {
+        Some(c) => Ok(c),
+        None => Err(Fault::At(Problem::TagCodepoint, start)),
+    }
+}
+
+/// Reads the octets of a character in UTF-8, each a `%` and two hexadecimal digits.
+fn read_uri_escape<T: Iterator<Item = char>>(
+    window: &mut Window<T>,
+    start: Marker,
+) -> Result<char, Fault>
+    ensures ok { IfOk result (λ c. Reads window.old window.new (λ a b. (test : ℕ → Bool) (t : List ℕ) →
+        uri_from test start a (at (percent lead) window.old t) ≡ uri_from test start b (at plain window.new (t ++ c ∷ [])))) }
+    ensures err { IfErr result (λ e. Reads window.old window.new (λ a b. (test : ℕ → Bool) (t : List ℕ) →
+        uri_from test start a (at (percent lead) window.old t) ≡ Err e)) }
+    ensures less { OnOk result (window.new.left < window.old.left) }
+{
+    let octet = read_octet(window, start)?;
+    let Some(lead) = lead_of(octet) else {
+        return Err(Fault::At(Problem::TagLeadingOctet, start));
+    };
+    let code = read_trails(window, start, lead)?;
+    decoded(code, lead.least, start)
+}
+
+/// Reads a character of a URI, which may be an escaped one.
+#[tactic(auto, using(model_lexers::proofs::UriLemmas::percent_lead))]
+fn read_uri_char<T: Iterator<Item = char>>(
+    window: &mut Window<T>,
+    start: Marker,
+    c: char,
+    text: &mut Text,
+) -> Result<(), Fault>
+    requires here { Sees window.old (λ a. c ≡ slice_index a 0) }
+    requires has { HasChar window.old }
+    requires ahead { 0 < window.old.ahead }
+    ensures ok { OnOk result (Reads window.old window.new (λ a b. (test : ℕ → Bool) → test c ≡ true →
+        uri_from test start a (at plain window.old text.old) ≡ uri_from test start b (at plain window.new text.new))) }
+    ensures err { IfErr result (λ e. Reads window.old window.new (λ a b. (test : ℕ → Bool) → test c ≡ true → e ≢ Fault.OutOfMemory →
+        uri_from test start a (at plain window.old text.old) ≡ Err e)) }
+    ensures less { OnOk result (window.new.left < window.old.left) }
+{
+    if c != '%' {
+        window.skip();
+        text.push(c)?;
+        return Ok(());
+    }
+    let c = read_uri_escape(window, start)?;
+    text.push(c)?;
+    Ok(())
+}
+
+/// Reads the characters of a URI.
+#[tactic(auto, using(model_lexers::proofs::UriLemmas::uri_end))]
+pub(crate) fn read_uri<T: Iterator<Item = char>>(
+    window: &mut Window<T>,
+    start: Marker,
+    text: &mut Text,
+) -> Result<(), Fault>
+    ensures ok { OnOk result (Reads window.old window.new (λ a b. uri is_uri start a (place_of window.old) text.old ≡ Ok (read b window.new text.new))) }
+    ensures err { IfErr result (λ e. Reads window.old window.new (λ a b. e ≢ Fault.OutOfMemory → uri is_uri start a (place_of window.old) text.old ≡ Err e)) }
+    ensures ahead { OnOk result (0 < window.new.ahead) }
+{
+    'uri: loop {
+        let c = window.look_ch();
+        if !is_uri(c) {
+            return Ok(());
+        }
+        read_uri_char(window, start, c, text)?;
+    }
+}
+
+/// Reads the characters of a tag's suffix.
+#[tactic(auto, using(model_lexers::proofs::UriLemmas::uri_end))]
+pub(crate) fn read_suffix<T: Iterator<Item = char>>(
+    window: &mut Window<T>,
+    start: Marker,
+    text: &mut Text,
+) -> Result<(), Fault>
+    ensures ok { OnOk result (Reads window.old window.new (λ a b. uri is_tag start a (place_of window.old) text.old ≡ Ok (read b window.new text.new))) }
+    ensures err { IfErr result (λ e. Reads window.old window.new (λ a b. e ≢ Fault.OutOfMemory → uri is_tag start a (place_of window.old) text.old ≡ Err e)) }
+    ensures ahead { OnOk result (0 < window.new.ahead) }
+{
+    'suffix: loop {
+        let c = window.look_ch();
+        if !is_tag(c) {
+            return Ok(());
+        }
+        read_uri_char(window, start, c, text)?;
+    }
+}

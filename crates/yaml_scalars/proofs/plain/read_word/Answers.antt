@@ -1,9 +1,0 @@
-use Rattle.std.proofs.Common.{◌∙◌}
-use Rattle.yaml_chars.proofs.ReadingLemmas.{Reads-then}
-use Rattle.scalar_model.proofs.RunLemmas.{plain_run}
-use Rattle.yaml_scalars.proofs.plain.read_word.Goals as goal
-
-pub run-preserved : goal.run-preserved
-run-preserved g c =
-    let on = c.in-Some.ensures.on in
-    Reads-then _ _ _ c.run.invariant c.in-Some.ensures.taken.1 (λ a b d e f start. e start ∙ (rw (f, on.at, on.line, on.col, c.in_ok-push.ensures) (plain_run _ start _ d _ _ c.in-Some.ensures.taken.0)))
