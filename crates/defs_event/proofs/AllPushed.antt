@@ -1,6 +1,6 @@
 -- With `multi`, a call of `load` pushes all events of a finished run, each once and in order.
 use Rattle.std.proofs.Common.{◌≡◌, ℕ, zero, suc, ◌+◌, true, false, List, [], ◌∷◌, length, refl, sym, ap, ◌∙◌, subst, arith}
-use Rattle.defs_text.specs.Position.{Place}
+use Rattle.defs_text.specs.Position.{Position}
 use Rattle.defs_event.specs.Event.{Ev}
 use Rattle.defs_event.specs.Stream.{events_of}
 use Rattle.defs_event.specs.Nested.{Nest, nested_alias, nested_scalar, nested_sequence, nested_mapping, Nests, no_nests, nest, NestPairs, no_nest_pairs, nest_pair, NestedDocument, without_node, with_node, nest_events, nests_events, nest_pairs_events, nested_documents_events, nested_stream}
@@ -8,34 +8,34 @@ use Rattle.defs_event.specs.PulledList.{given}
 use Rattle.defs_event.specs.Push.{Standing, before_stream, between, inside, well, Loaded, push, load_from, load}
 
 -- events at places that a function gives
-abbrev placed : (ℕ → Place) → List Ev → List (Ev × Place)
+abbrev placed : (ℕ → Position) → List Ev → List (Ev × Position)
 placed at [] = []
 placed at (e ∷ es) = (e, at 0) ∷ placed (λ k. at (suc k)) es
 
-abbrev place_at : List (Ev × Place) → ℕ → Place
+abbrev place_at : List (Ev × Position) → ℕ → Position
 place_at [] n = record { index = 0; line = 1; col = 0 }
 place_at (e ∷ es) zero = e.1
 place_at (e ∷ es) (suc n) = place_at es n
 
-as_placed : (es : List (Ev × Place)) → es ≡ placed (place_at es) (events_of es)
+as_placed : (es : List (Ev × Position)) → es ≡ placed (place_at es) (events_of es)
 as_placed [] = refl
 as_placed (e ∷ es) = ap (λ xs. e ∷ xs) (as_placed es)
 
 -- all were pushed and taken
-abbrev Whole : {Fault : Type 0} → Loaded Fault → List (Ev × Place) → Type 0
+abbrev Whole : {Fault : Type 0} → Loaded Fault → List (Ev × Position) → Type 0
 Whole l es = l ≡ record { pushed = es; ending = well; taken = length es }
 
-pushed_too : {Fault : Type 0} (l : Loaded Fault) (e : Ev) (p : Place) (es : List (Ev × Place)) → Whole l es → Whole (push e p l) ((e, p) ∷ es)
+pushed_too : {Fault : Type 0} (l : Loaded Fault) (e : Ev) (p : Position) (es : List (Ev × Position)) → Whole l es → Whole (push e p l) ((e, p) ∷ es)
 pushed_too l e p es h = ap (push e p) h ∙ ap (λ n. record { pushed = (e, p) ∷ es; ending = well; taken = n }) (one_more (length es))
   where
     one_more : (n : ℕ) → n + 1 ≡ suc n
     one_more n = omega arith
 
-abbrev from : (Fault : Type 0) → Standing → (ℕ → Place) → List Ev → Loaded Fault
+abbrev from : (Fault : Type 0) → Standing → (ℕ → Position) → List Ev → Loaded Fault
 from Fault s at es = load_from s true (given Fault (placed at es))
 
 abbrev AllPushed : (Fault : Type 0) → Standing → List Ev → Type 0
-AllPushed Fault s es = (at : ℕ → Place) → Whole (from Fault s at es) (placed at es)
+AllPushed Fault s es = (at : ℕ → Position) → Whole (from Fault s at es) (placed at es)
 
 mutual
   node_pushed : (F : Type 0) (n : Nest) (r : List Ev) → AllPushed F inside r → AllPushed F inside (nest_events n r)
@@ -64,7 +64,7 @@ documents_pushed : (F : Type 0) (ds : List NestedDocument) → AllPushed F betwe
 documents_pushed F [] at = refl
 documents_pushed F (without_node ∷ ds) at =
     let r = nested_documents_events ds (Ev.stream_end ∷ []) in
-    let g : ℕ → Place = λ k. at (suc (suc k)) in
+    let g : ℕ → Position = λ k. at (suc (suc k)) in
     pushed_too (push Ev.document_end (at 1) (from F between g r)) Ev.document_start (at 0) ((Ev.document_end, at 1) ∷ placed g r)
     (pushed_too (from F between g r) Ev.document_end (at 1) (placed g r) (documents_pushed F ds g))
 documents_pushed F (with_node n ∷ ds) at =
@@ -79,7 +79,7 @@ stream_pushed F ds at =
     let r = nested_documents_events ds (Ev.stream_end ∷ []) in
     pushed_too (from F between (λ k. at (suc k)) r) Ev.stream_start (at 0) (placed (λ k. at (suc k)) r) (documents_pushed F ds (λ k. at (suc k)))
 
-pub all_pushed : (F : Type 0) (ds : List NestedDocument) (es : List (Ev × Place)) → events_of es ≡ nested_stream ds
+pub all_pushed : (F : Type 0) (ds : List NestedDocument) (es : List (Ev × Position)) → events_of es ≡ nested_stream ds
     → load false true (given F es) ≡ record { pushed = es; ending = well; taken = length es }
 all_pushed F ds es h =
     let at = place_at es in

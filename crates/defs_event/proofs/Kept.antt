@@ -2,7 +2,7 @@
 use Rattle.std.proofs.Common.{◌≡◌, ℕ, zero, suc, Bool, true, false, cond, List, [], ◌∷◌, ◌++◌, Option, Some, None, refl, ap, subst}
 use Rattle.std.specs.Prelude.{ℤ, IsTrue, ◌||◌, unwrap_or, option_map, if◌then◌else◌, nat_eq, bytes_eq, codes, All}
 use Rattle.std.proofs.lemmas.List.Elements.{All-nil, All-cons}
-use Rattle.defs_text.specs.Position.{Place}
+use Rattle.defs_text.specs.Position.{Position}
 use Rattle.defs_tree.specs.Tree.{Tree, real, integer, string, boolean, array, hash, alias, null, bad_value, items_of, pairs_of, pair_list_of}
 use Rattle.defs_tree.specs.Grammar.{is_among}
 use Rattle.defs_tree.specs.Typing.{typing, fits_i64, signed_decimal, is_decimal, is_real_text, true_words, false_words}
@@ -202,12 +202,12 @@ OfLoader P (at_work u) = OfUnfinished P u
 OfLoader P (noted docs key p) = Each P docs
 OfLoader P (refused docs p) = Each P docs
 
-of_loader_behind : (P : Tree → Type 0) (s : Step) (docs : List Tree) (p : Place) → OfStep P s → Each P docs → OfLoader P (loader_behind s docs p)
+of_loader_behind : (P : Tree → Type 0) (s : Step) (docs : List Tree) (p : Position) → OfStep P s → Each P docs → OfLoader P (loader_behind s docs p)
 of_loader_behind P (reads u) docs p h d = h
 of_loader_behind P (repeats key) docs p h d = d
 of_loader_behind P out_of_nesting docs p h d = d
 
-of_events : (P : Tree → Type 0) → IsKept P → (es : List (Ev × Place)) (l : Loader) → OfLoader P l → OfLoader P (with_events l es)
+of_events : (P : Tree → Type 0) → IsKept P → (es : List (Ev × Position)) (l : Loader) → OfLoader P l → OfLoader P (with_events l es)
 of_events P k [] l h = h
 of_events P k (e ∷ es) (at_work u) h = of_events P k es (with_event_at (at_work u) e.0 e.1) (of_loader_behind P (with_event u e.0) u.documents e.1 (of_event P k u e.0 h) h.documents)
 of_events P k (e ∷ es) (noted docs key p) h = of_events P k es (noted docs key p) h
@@ -218,7 +218,7 @@ of_documents P (at_work u) h = h.documents
 of_documents P (noted docs key p) h = h
 of_documents P (refused docs p) h = h
 
-pub loaded_kept : (P : Tree → Type 0) → IsKept P → (es : List (Ev × Place)) → All P (documents_of (with_events new_loader es))
+pub loaded_kept : (P : Tree → Type 0) → IsKept P → (es : List (Ev × Position)) → All P (documents_of (with_events new_loader es))
 loaded_kept P k es =
     each_all P (documents_of (with_events new_loader es))
     (of_documents P (with_events new_loader es) (of_events P k es new_loader (record { documents = tt; opened = tt; root = tt; anchors = tt })))

@@ -2,14 +2,14 @@
 use Rattle.std.proofs.Common.{◌≡◌, Bool, List, [], ◌∷◌, ◌++◌, Option, Some, None, refl, sym, ap, ◌∙◌}
 use Rattle.defs_event.specs.Event.{Ev}
 use Rattle.defs_event.specs.Raw.{Raw}
-use Rattle.defs_event.specs.Names.{Names, named, both, behind, behind_all, resolved_event}
+use Rattle.defs_event.specs.Names.{Names, named, both, names_after, names_after_all, resolved_event}
 
 -- The events of both parts, the second one's with the names behind the first.
 pub record NamedParts (keep_tags : Bool) (s : Names) (xs ys : List Raw) (es : List Ev) : Type 0 where
   pub before : List Ev
   pub after : List Ev
   pub of_before : named keep_tags s xs ≡ Some before
-  pub of_after : named keep_tags (behind_all keep_tags s xs) ys ≡ Some after
+  pub of_after : named keep_tags (names_after_all keep_tags s xs) ys ≡ Some after
   pub whole : es ≡ before ++ after
 
 -- the first event and the rest
@@ -31,7 +31,7 @@ both_of o os v vs h k = ap (λ z. both z os) h ∙ ap (λ z. both (Some v) z) k
 pub named_append : (keep_tags : Bool) (s : Names) (xs ys : List Raw) (es : List Ev) → named keep_tags s (xs ++ ys) ≡ Some es → NamedParts keep_tags s xs ys es
 named_append keep_tags s [] ys es h = record { before = []; after = es; of_before = refl; of_after = h; whole = refl }
 named_append keep_tags s (x ∷ xs) ys es h =
-    let s' = behind keep_tags s x in
+    let s' = names_after keep_tags s x in
     let f = both_some (resolved_event s x) (named keep_tags s' (xs ++ ys)) es h in
     let p = named_append keep_tags s' xs ys f.more f.are_more in
     record {
@@ -44,17 +44,17 @@ named_append keep_tags s (x ∷ xs) ys es h =
 
 -- and the other way round
 pub append_named : (keep_tags : Bool) (s : Names) (xs ys : List Raw) (es fs : List Ev) → named keep_tags s xs ≡ Some es
-    → named keep_tags (behind_all keep_tags s xs) ys ≡ Some fs → named keep_tags s (xs ++ ys) ≡ Some (es ++ fs)
+    → named keep_tags (names_after_all keep_tags s xs) ys ≡ Some fs → named keep_tags s (xs ++ ys) ≡ Some (es ++ fs)
 append_named keep_tags s [] ys es fs h k = k ∙ ap (λ (vs : List Ev). Some (vs ++ fs)) (nil h)
   where
     nil : Some [] ≡ Some es → [] ≡ es
     nil e = cc
 append_named keep_tags s (x ∷ xs) ys es fs h k =
-    let s' = behind keep_tags s x in
+    let s' = names_after keep_tags s x in
     let f = both_some (resolved_event s x) (named keep_tags s' xs) es h in
     both_of (resolved_event s x) (named keep_tags s' (xs ++ ys)) f.event (f.more ++ fs) f.is_first (append_named keep_tags s' xs ys f.more fs f.are_more k)
     ∙ ap (λ (vs : List Ev). Some (vs ++ fs)) (sym f.whole)
 
-pub behind_append : (keep_tags : Bool) (s : Names) (xs ys : List Raw) → behind_all keep_tags s (xs ++ ys) ≡ behind_all keep_tags (behind_all keep_tags s xs) ys
+pub behind_append : (keep_tags : Bool) (s : Names) (xs ys : List Raw) → names_after_all keep_tags s (xs ++ ys) ≡ names_after_all keep_tags (names_after_all keep_tags s xs) ys
 behind_append keep_tags s [] ys = refl
-behind_append keep_tags s (x ∷ xs) ys = behind_append keep_tags (behind keep_tags s x) xs ys
+behind_append keep_tags s (x ∷ xs) ys = behind_append keep_tags (names_after keep_tags s x) xs ys

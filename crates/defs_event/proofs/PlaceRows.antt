@@ -1,7 +1,7 @@
 -- The places that events have: tokens and events of `[1, &a ]`, with those places that are promised and others.
 use Rattle.std.specs.Prelude.{◌≡◌, ℕ, false, List, [], ◌∷◌, None, codes, refl}
 use Rattle.std.proofs.Common.{ap, arith}
-use Rattle.defs_text.specs.Position.{Place}
+use Rattle.defs_text.specs.Position.{Position}
 use Rattle.defs_token.specs.Token.{Style, Tok, Token}
 use Rattle.defs_event.specs.Event.{Ev}
 use Rattle.defs_event.specs.Raw.{Raw}
@@ -10,7 +10,7 @@ use Rattle.defs_event.specs.Stream.{IsPlacedStream, BeginsPlaced, given_places, 
 use Rattle.defs_event.proofs.Texts.{plain_event}
 
 -- in the first line
-abbrev col : ℕ → Place
+abbrev col : ℕ → Position
 col n = record { index = n; line = 1; col = n }
 
 abbrev token_at : ℕ → Tok → Token
@@ -40,11 +40,11 @@ begun = record {
   stream = placed;
 }
 
-abbrev first_col : List Place → ℕ
+abbrev first_col : List Position → ℕ
 first_col [] = 0
 first_col (p ∷ ps) = p.col
 
-abbrev second_col : List Place → ℕ
+abbrev second_col : List Position → ℕ
 second_col [] = 0
 second_col (p ∷ ps) = first_col ps
 

@@ -4,7 +4,7 @@ use Rattle.std.specs.Prelude.{option_map, if◌then◌else◌}
 use Rattle.defs_token.specs.Token.{Style}
 use Rattle.defs_event.specs.Event.{Tag, Ev}
 use Rattle.defs_event.specs.Raw.{Raw}
-use Rattle.defs_event.specs.Names.{Names, named, both, behind, number, perhaps_resolved, are_allowed, under_name}
+use Rattle.defs_event.specs.Names.{Names, named, both, names_after, number, perhaps_resolved, are_allowed, under_name}
 
 abbrev pub Shaped : List Raw → List Ev → Type 0
 Shaped [] es = es ≡ []
@@ -67,7 +67,7 @@ named_shaped k s [] es h = cc
 named_shaped k s (Raw.stream_start ∷ r) es h = fixed Ev.stream_start k s r es h (named_shaped k s r)
 named_shaped k s (Raw.stream_end ∷ r) es h = fixed Ev.stream_end k s r es h (named_shaped k s r)
 named_shaped k s (Raw.document_start ds ∷ r) es h =
-    let s' = behind k s (Raw.document_start ds) in
+    let s' = names_after k s (Raw.document_start ds) in
     let f = first_of_all (if are_allowed ds then Some Ev.document_start else None) (named k s' r) es h in
     (f.more, f.is_whole ∙ ap (λ v. v ∷ f.more) (of_allowed (are_allowed ds) f.event f.is_first), named_shaped k s' r f.more f.are_more)
 named_shaped k s (Raw.document_end ∷ r) es h = fixed Ev.document_end k s r es h (named_shaped k s r)
@@ -76,22 +76,22 @@ named_shaped k s (Raw.alias name ∷ r) es h =
     let m = of_map Ev.alias (under_name name s.anchors) f.event f.is_first in
     (m.0, f.more, f.is_whole ∙ ap (λ v. v ∷ f.more) m.1, named_shaped k s r f.more f.are_more)
 named_shaped k s (Raw.scalar x y a t ∷ r) es h =
-    let s' = behind k s (Raw.scalar x y a t) in
+    let s' = names_after k s (Raw.scalar x y a t) in
     valued (number s a) (λ n u. Ev.scalar x y n u) (perhaps_resolved s.handles t) k s' r es h (named_shaped k s' r)
 named_shaped k s (Raw.empty_scalar a t ∷ r) es h =
-    let s' = behind k s (Raw.empty_scalar a t) in
+    let s' = names_after k s (Raw.empty_scalar a t) in
     valued (number s a) (λ n u. Ev.scalar [] Style.plain n u) (perhaps_resolved s.handles t) k s' r es h (named_shaped k s' r)
 named_shaped k s (Raw.flow_sequence_start a t ∷ r) es h =
-    let s' = behind k s (Raw.flow_sequence_start a t) in
+    let s' = names_after k s (Raw.flow_sequence_start a t) in
     valued (number s a) (λ n u. Ev.sequence_start n u) (perhaps_resolved s.handles t) k s' r es h (named_shaped k s' r)
 named_shaped k s (Raw.sequence_start a t ∷ r) es h =
-    let s' = behind k s (Raw.sequence_start a t) in
+    let s' = names_after k s (Raw.sequence_start a t) in
     valued (number s a) (λ n u. Ev.sequence_start n u) (perhaps_resolved s.handles t) k s' r es h (named_shaped k s' r)
 named_shaped k s (Raw.sequence_end ∷ r) es h = fixed Ev.sequence_end k s r es h (named_shaped k s r)
 named_shaped k s (Raw.flow_mapping_start a t ∷ r) es h =
-    let s' = behind k s (Raw.flow_mapping_start a t) in
+    let s' = names_after k s (Raw.flow_mapping_start a t) in
     valued (number s a) (λ n u. Ev.mapping_start n u) (perhaps_resolved s.handles t) k s' r es h (named_shaped k s' r)
 named_shaped k s (Raw.mapping_start a t ∷ r) es h =
-    let s' = behind k s (Raw.mapping_start a t) in
+    let s' = names_after k s (Raw.mapping_start a t) in
     valued (number s a) (λ n u. Ev.mapping_start n u) (perhaps_resolved s.handles t) k s' r es h (named_shaped k s' r)
 named_shaped k s (Raw.mapping_end ∷ r) es h = fixed Ev.mapping_end k s r es h (named_shaped k s r)

@@ -1,6 +1,6 @@
 -- Statements over the definitions, each the contract of the function with its name in `laws`.
 use Rattle.std.specs.Prelude.{◌≡◌, ℕ, Bool, true, false, List, length, [], None, Result, Ok, Err, All, IsTrue, ◌↔◌}
-use Rattle.defs_text.specs.Position.{Place}
+use Rattle.defs_text.specs.Position.{Position}
 use Rattle.defs_tree.specs.Tree.{Tree}
 use Rattle.defs_tree.specs.Valid.{IsDistinct, FitsI64}
 use Rattle.defs_token.specs.Token.{Tok}
@@ -34,15 +34,15 @@ NestingTestIsExact = (events : List Ev) → IsTrue (is_nested events) ↔ IsNest
 
 -- `loaded_trees_have_no_alias`
 abbrev pub LoadedTreesHaveNoAlias : Type 0
-LoadedTreesHaveNoAlias = (events : List (Ev × Place)) → All HasNoAlias (documents_of (with_events new_loader events))
+LoadedTreesHaveNoAlias = (events : List (Ev × Position)) → All HasNoAlias (documents_of (with_events new_loader events))
 
 -- `loaded_trees_have_distinct_keys`
 abbrev pub LoadedTreesHaveDistinctKeys : Type 0
-LoadedTreesHaveDistinctKeys = (events : List (Ev × Place)) → All IsDistinct (documents_of (with_events new_loader events))
+LoadedTreesHaveDistinctKeys = (events : List (Ev × Position)) → All IsDistinct (documents_of (with_events new_loader events))
 
 -- `loaded_integers_have_64_bits`
 abbrev pub LoadedIntegersHave64Bits : Type 0
-LoadedIntegersHave64Bits = (events : List (Ev × Place)) → All FitsI64 (documents_of (with_events new_loader events))
+LoadedIntegersHave64Bits = (events : List (Ev × Position)) → All FitsI64 (documents_of (with_events new_loader events))
 
 -- the loader that a reading leaves: all its documents are finished and nothing is open, or the key that came twice is noted
 abbrev pub HasRead : Result (List Tree) Tree → Loader → Type 0
@@ -53,11 +53,11 @@ HasRead _ _ = ⊥
 -- `nested_events_are_read_one_by_one`
 abbrev pub NestedEventsAreReadOneByOne : Type 0
 NestedEventsAreReadOneByOne =
-    (documents : List NestedDocument) (events : List (Ev × Place)) → events_of events ≡ nested_stream documents
+    (documents : List NestedDocument) (events : List (Ev × Position)) → events_of events ≡ nested_stream documents
     → HasRead (reading documents) (with_events new_loader events)
 
 -- `multi_load_pushes_all_events`; faults are numbers here, and there is none
 abbrev pub MultiLoadPushesAllEvents : Type 0
 MultiLoadPushesAllEvents =
-    (documents : List NestedDocument) (events : List (Ev × Place)) → events_of events ≡ nested_stream documents
+    (documents : List NestedDocument) (events : List (Ev × Position)) → events_of events ≡ nested_stream documents
     → load false true (given ℕ events) ≡ record { pushed = events; ending = well; taken = length events }

@@ -96,15 +96,15 @@ abbrev pub at_document : Bool → Names → List Directive → Names
 at_document keep_tags s ds = record s { anchors = []; handles = declared ds ++ (if keep_tags then s.handles else []) }
 
 -- the names after an event
-abbrev pub behind : Bool → Names → Raw → Names
-behind keep_tags s (Raw.document_start ds) = at_document keep_tags s ds
-behind keep_tags s (Raw.scalar text style a t) = with_anchor s a
-behind keep_tags s (Raw.empty_scalar a t) = with_anchor s a
-behind keep_tags s (Raw.flow_sequence_start a t) = with_anchor s a
-behind keep_tags s (Raw.sequence_start a t) = with_anchor s a
-behind keep_tags s (Raw.flow_mapping_start a t) = with_anchor s a
-behind keep_tags s (Raw.mapping_start a t) = with_anchor s a
-behind keep_tags s _ = s
+abbrev pub names_after : Bool → Names → Raw → Names
+names_after keep_tags s (Raw.document_start ds) = at_document keep_tags s ds
+names_after keep_tags s (Raw.scalar text style a t) = with_anchor s a
+names_after keep_tags s (Raw.empty_scalar a t) = with_anchor s a
+names_after keep_tags s (Raw.flow_sequence_start a t) = with_anchor s a
+names_after keep_tags s (Raw.sequence_start a t) = with_anchor s a
+names_after keep_tags s (Raw.flow_mapping_start a t) = with_anchor s a
+names_after keep_tags s (Raw.mapping_start a t) = with_anchor s a
+names_after keep_tags s _ = s
 
 -- The event with its names resolved, or nothing: for an alias whose name no anchor before it in its document has, for a
 -- handle that was not declared, and for directives that are not allowed.
@@ -131,9 +131,9 @@ both (Some v) (Some vs) = Some (v ∷ vs)
 -- All events with their names resolved, or nothing where one of them has none.
 abbrev pub named : Bool → Names → List Raw → Option (List Ev)
 named keep_tags s [] = Some []
-named keep_tags s (e ∷ es) = both (resolved_event s e) (named keep_tags (behind keep_tags s e) es)
+named keep_tags s (e ∷ es) = both (resolved_event s e) (named keep_tags (names_after keep_tags s e) es)
 
 -- the names after all these events
-abbrev pub behind_all : Bool → Names → List Raw → Names
-behind_all keep_tags s [] = s
-behind_all keep_tags s (e ∷ es) = behind_all keep_tags (behind keep_tags s e) es
+abbrev pub names_after_all : Bool → Names → List Raw → Names
+names_after_all keep_tags s [] = s
+names_after_all keep_tags s (e ∷ es) = names_after_all keep_tags (names_after keep_tags s e) es

@@ -1,10 +1,10 @@
 -- What a parser returns, call by call: an event with its place, or a fault.
 use Rattle.std.specs.Prelude.{◌≡◌, List, [], ◌∷◌}
-use Rattle.defs_text.specs.Position.{Place}
+use Rattle.defs_text.specs.Position.{Position}
 use Rattle.defs_event.specs.Event.{Ev}
 
 pub data Answer (Fault : Type 0) : Type 0 where
-  event : Ev → Place → Answer Fault
+  event : Ev → Position → Answer Fault
   fault : Fault → Answer Fault
 
 abbrev pub IsStreamEnd : {Fault : Type 0} → Answer Fault → Type 0
@@ -24,12 +24,12 @@ IsSettled (a ∷ []) = Unit {0}
 IsSettled (a ∷ b ∷ answers) = MayFollow a b × IsSettled (b ∷ answers)
 
 -- the events up to the first fault, with their places
-abbrev pub pulled_events : {Fault : Type 0} → List (Answer Fault) → List (Ev × Place)
+abbrev pub pulled_events : {Fault : Type 0} → List (Answer Fault) → List (Ev × Position)
 pulled_events [] = []
 pulled_events (event e p ∷ answers) = (e, p) ∷ pulled_events answers
 pulled_events (fault f ∷ answers) = []
 
 -- the answers of a run without a fault
-abbrev pub given : (Fault : Type 0) → List (Ev × Place) → List (Answer Fault)
+abbrev pub given : (Fault : Type 0) → List (Ev × Position) → List (Answer Fault)
 given Fault [] = []
 given Fault (e ∷ events) = event e.0 e.1 ∷ given Fault events

@@ -4,7 +4,7 @@
 -- are pushed up to its end; then with `multi` the work goes on at (2), else the call ends well.
 -- A fault is returned and not pushed.
 use Rattle.std.specs.Prelude.{ℕ, ◌+◌, Bool, List, [], ◌∷◌, take, if◌then◌else◌}
-use Rattle.defs_text.specs.Position.{Place}
+use Rattle.defs_text.specs.Position.{Position}
 use Rattle.defs_event.specs.Event.{Ev}
 use Rattle.defs_event.specs.PulledList.{Answer, event, fault}
 
@@ -23,7 +23,7 @@ pub data Ending (Fault : Type 0) : Type 0 where
   -- the parser's fault, which is returned
   faulted : Fault → Ending Fault
   -- an event where a document must start: the fault of rule (3), at that event's place
-  no_document : Place → Ending Fault
+  no_document : Position → Ending Fault
   -- the receiver refused the last event that was pushed
   refused : Ending Fault
   -- these answers are not all that the call takes
@@ -31,14 +31,14 @@ pub data Ending (Fault : Type 0) : Type 0 where
 
 -- what a call pushes, how it ends, and how many answers it took
 pub record Loaded (Fault : Type 0) : Type 0 where
-  pub pushed : List (Ev × Place)
+  pub pushed : List (Ev × Position)
   pub ending : Ending Fault
   pub taken : ℕ
 
 abbrev pub ends : {Fault : Type 0} → Ending Fault → ℕ → Loaded Fault
 ends how n = record { pushed = []; ending = how; taken = n }
 
-abbrev pub push : {Fault : Type 0} → Ev → Place → Loaded Fault → Loaded Fault
+abbrev pub push : {Fault : Type 0} → Ev → Position → Loaded Fault → Loaded Fault
 push e p l = record { pushed = (e, p) ∷ l.pushed; ending = l.ending; taken = l.taken + 1 }
 
 -- What comes of a call that stands here, over the answers to come.

@@ -1,6 +1,6 @@
 -- Which tokens are a stream's, and which events it has.
 use Rattle.std.specs.Prelude.{◌≡◌, Bool, true, false, List, [], ◌∷◌, ◌++◌, Some, map}
-use Rattle.defs_text.specs.Position.{Place}
+use Rattle.defs_text.specs.Position.{Position}
 use Rattle.defs_token.specs.Token.{Tok, Token}
 use Rattle.defs_token.specs.Toks.{toks}
 use Rattle.defs_event.specs.Event.{Ev}
@@ -51,36 +51,36 @@ has_place (Raw.flow_sequence_start anchor tag) = true
 has_place (Raw.flow_mapping_start anchor tag) = true
 has_place _ = false
 
-abbrev pub place_if : Bool → Place → List Place → List Place
+abbrev pub place_if : Bool → Position → List Position → List Position
 place_if true p ps = p ∷ ps
 place_if false p ps = ps
 
 -- the places of the tokens that give theirs to an event
-abbrev pub given_places : List Token → List Place
+abbrev pub given_places : List Token → List Position
 given_places [] = []
 given_places (t ∷ ts) = place_if (gives_place t.tok) t.place (given_places ts)
 
 -- the places, out of one for each event, of the events that have their token's
-abbrev pub taken_places : List Raw → List Place → List Place
+abbrev pub taken_places : List Raw → List Position → List Position
 taken_places [] ps = []
 taken_places (e ∷ es) [] = []
 taken_places (e ∷ es) (p ∷ ps) = place_if (has_place e) p (taken_places es ps)
 
-abbrev pub events_of : List (Ev × Place) → List Ev
+abbrev pub events_of : List (Ev × Position) → List Ev
 events_of es = map (λ e. e.0) es
 
-abbrev pub places_of : List (Ev × Place) → List Place
+abbrev pub places_of : List (Ev × Position) → List Position
 places_of es = map (λ e. e.1) es
 
 -- These are the tokens of a stream and its events, with their places.
-pub record IsPlacedStream (keep_tags : Bool) (tokens : List Token) (events : List (Ev × Place)) : Type 0 where
+pub record IsPlacedStream (keep_tags : Bool) (tokens : List Token) (events : List (Ev × Position)) : Type 0 where
   pub documents : Documents
   pub has_tokens : stream_tokens documents ≡ toks tokens
   pub has_events : named keep_tags no_names (stream_events documents) ≡ Some (events_of events)
   pub has_places : taken_places (stream_events documents) (places_of events) ≡ given_places tokens
 
 -- A stream begins with these tokens and events, at these places.
-pub record BeginsPlaced (keep_tags : Bool) (tokens : List Token) (events : List (Ev × Place)) : Type 0 where
+pub record BeginsPlaced (keep_tags : Bool) (tokens : List Token) (events : List (Ev × Position)) : Type 0 where
   pub more_tokens : List Token
-  pub more_events : List (Ev × Place)
+  pub more_events : List (Ev × Position)
   pub stream : IsPlacedStream keep_tags (tokens ++ more_tokens) (events ++ more_events)

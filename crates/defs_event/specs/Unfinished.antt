@@ -1,7 +1,7 @@
 -- A reading that is not at its end, and what one more event makes of it. It takes events in any order, and refuses those out of
 -- nesting. YAML 1.2, section 3.1 (construction from the serialization's events).
 use Rattle.std.specs.Prelude.{ℕ, if◌then◌else◌, List, [], ◌∷◌, ◌++◌, Option, Some, None, unwrap_or}
-use Rattle.defs_text.specs.Position.{Place}
+use Rattle.defs_text.specs.Position.{Position}
 use Rattle.defs_tree.specs.Tree.{Tree, array, hash, bad_value, items_of, pairs_of}
 use Rattle.defs_tree.specs.Pairs.{has_key, insert}
 use Rattle.defs_event.specs.Event.{Ev}
@@ -89,26 +89,26 @@ with_event u Ev.mapping_end = with_mapping_end u u.opened
 pub data Loader : Type 0 where
   at_work : Unfinished → Loader
   -- A key that came twice was noted, with the place of its value's event; from then on events are ignored.
-  noted : (documents : List Tree) → (key : Tree) → Place → Loader
+  noted : (documents : List Tree) → (key : Tree) → Position → Loader
   -- An event out of nesting was refused at this place. Every later event is refused with the same fault.
-  refused : (documents : List Tree) → Place → Loader
+  refused : (documents : List Tree) → Position → Loader
 
 abbrev pub new_loader : Loader
 new_loader = at_work nothing_read
 
-abbrev pub loader_behind : Step → List Tree → Place → Loader
+abbrev pub loader_behind : Step → List Tree → Position → Loader
 loader_behind (reads u) documents p = at_work u
 loader_behind (repeats key) documents p = noted documents key p
 loader_behind out_of_nesting documents p = refused documents p
 
 -- the loader after an event
-abbrev pub with_event_at : Loader → Ev → Place → Loader
+abbrev pub with_event_at : Loader → Ev → Position → Loader
 with_event_at (at_work u) e p = loader_behind (with_event u e) u.documents p
 with_event_at (noted documents key at) e p = noted documents key at
 with_event_at (refused documents at) e p = refused documents at
 
 -- after all these events
-abbrev pub with_events : Loader → List (Ev × Place) → Loader
+abbrev pub with_events : Loader → List (Ev × Position) → Loader
 with_events l [] = l
 with_events l (e ∷ es) = with_events (with_event_at l e.0 e.1) es
 
@@ -119,7 +119,7 @@ documents_of (noted documents key p) = documents
 documents_of (refused documents p) = documents
 
 -- the place of the fault that is returned, if there is one
-abbrev pub refused_at : Loader → Option Place
+abbrev pub refused_at : Loader → Option Position
 refused_at (at_work u) = None
 refused_at (noted documents key p) = None
 refused_at (refused documents p) = Some p

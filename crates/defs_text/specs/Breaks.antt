@@ -1,6 +1,6 @@
 -- The lines of a text: LF, CR, and CR LF are one break each (YAML 1.2, section 5.4); and what may stand at a line's end (section 6.6, comments).
-use Rattle.std.specs.Prelude.{ℕ, List, [], ◌∷◌, Bool, true, false, ◌&&◌, ◌||◌, ◌==◌}
-use Rattle.defs_text.specs.Classes.{line_feed, carriage_return, is_blank, is_break}
+use Rattle.std.specs.Prelude.{ℕ, List, [], ◌∷◌, Bool, true, false, ◌&&◌, ◌||◌, not, ◌==◌}
+use Rattle.defs_text.specs.Classes.{line_feed, carriage_return, is_blank, is_break, is_nul}
 
 -- A text's lines, without their breaks: those with a break, and what stands after the last break.
 pub record Split : Type 0 where
@@ -45,3 +45,18 @@ is_blanks_and_comment (c ∷ r) = (c == 35) || (is_blank c && is_blanks_and_comm
 abbrev pub is_rest_of_line : List ℕ → Bool
 is_rest_of_line [] = true
 is_rest_of_line (c ∷ r) = is_blank c && is_blanks_and_comment r
+
+-- whether a line ends with this character: a break, but not the carriage return of CR LF
+abbrev pub ends_line : ℕ → (next : List ℕ) → Bool
+ends_line c next = is_break c && not (is_before_line_feed c next)
+
+-- whether a text begins with a break, or is at its end
+abbrev pub is_at_line_end : List ℕ → Bool
+is_at_line_end [] = true
+is_at_line_end (c ∷ r) = is_break c || is_nul c
+
+-- whether a text is part of one line
+abbrev pub has_no_break : List ℕ → Bool
+has_no_break [] = true
+has_no_break (c ∷ r) = not (is_break c) && has_no_break r
+

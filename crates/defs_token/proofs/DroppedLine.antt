@@ -4,9 +4,9 @@ use Rattle.std.specs.Prelude.{codes}
 use Rattle.std.proofs.Math.Seq.{take-append_seam, drop-append_seam}
 use Rattle.defs_text.specs.Classes.{is_blank, is_break, is_nul, is_blank_or_end, is_flow, are_marks}
 use Rattle.defs_scalar.specs.FlowScalar.{plain_element, begins_with_marker, plain_value}
-use Rattle.defs_text.specs.Position.{Place}
+use Rattle.defs_text.specs.Position.{Position}
 use Rattle.defs_token.specs.Token.{Tok, Token, stream_end, scalar, plain}
-use Rattle.defs_token.specs.Text.{up_to_end}
+use Rattle.defs_text.specs.Text.{up_to_end}
 use Rattle.defs_token.specs.Filler.{is_filler}
 use Rattle.defs_token.specs.Plain.{is_whole_plain}
 use Rattle.defs_token.specs.Account.{Account, first_account, blocks_at, innermost_column}
@@ -26,7 +26,7 @@ first_tok (t ∷ ts) = t.tok
 abbrev text : List ℕ
 text = codes "a\n b"
 
-abbrev first_line : Place → Token
+abbrev first_line : Position → Token
 first_line p = record { place = p; tok = scalar plain (codes "a") }
 
 -- the text has no end before its last character
@@ -92,12 +92,12 @@ not_alone [] a b c e = cc e
 not_alone (u ∷ us) a b c e = cc e
 
 -- the rows of the tokens of the first line alone
-no_rows : (ws : List Written) (f : List ℕ) (end : Token) (p : Place) (last : Token) →
+no_rows : (ws : List Written) (f : List ℕ) (end : Token) (p : Position) (last : Token) →
     tokens_of ws ++ (end ∷ []) ≡ first_line p ∷ (last ∷ []) → spelled ws f ≡ text → IsRow first_account ws f (Some stream_end) → ⊥
 no_rows [] f end p last e t r = cc e
 no_rows (w ∷ []) f end p last e t r = no_row w.filler w.piece f w.token (Some stream_end) (ap first_tok e) t r.0
 no_rows (w ∷ (v ∷ vs)) f end p last e t r = not_alone (tokens_of vs) v.token end last (ap rest_of e)
 
 -- the first line of a plain scalar of two lines, its second dropped, is no cut
-pub second_line_dropped : (begin p end : Place) → IsCut (start_token begin ∷ (first_line p ∷ (end_token end ∷ []))) text → ⊥
+pub second_line_dropped : (begin p end : Position) → IsCut (start_token begin ∷ (first_line p ∷ (end_token end ∷ []))) text → ⊥
 second_line_dropped begin p end c = no_rows c.row c.filler (end_token c.end) p (end_token end) (ap rest_of (sym c.are_tokens)) (c.is_text ∙ whole_text) c.is_row

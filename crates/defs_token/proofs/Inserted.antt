@@ -1,9 +1,9 @@
 -- A simple key is known to be one only at its colon: what a row stays when its key, and the start of its mapping, come before it late.
 use Rattle.std.proofs.Common.{◌≡◌, ℕ, List, [], ◌∷◌, ◌++◌, Bool, true, false, not, ◌&&◌, ◌||◌, if◌then◌else◌, Option, Some, None, sym, ap, subst, ◌∙◌, inr, refl}
 use Rattle.defs_text.specs.Classes.{is_blank, is_break}
-use Rattle.defs_text.specs.Position.{Place}
+use Rattle.defs_text.specs.Position.{Position}
 use Rattle.defs_token.specs.Token.{Tok, Token, stream_start, stream_end, version_directive, tag_directive, document_start, document_end, block_sequence_start, block_mapping_start, block_end, flow_sequence_start, flow_sequence_end, flow_mapping_start, flow_mapping_end, block_entry, flow_entry, key, value, alias, anchor, tag, scalar, plain, single_quoted, double_quoted, literal, folded}
-use Rattle.defs_token.specs.Text.{has_no_break}
+use Rattle.defs_text.specs.Breaks.{has_no_break}
 use Rattle.defs_token.specs.Plain.{Stand, inside, behind_blank, on_line, past, past_blank, ends_plain, goes_on, stops, ends_with_content, is_whole_plain}
 use Rattle.defs_token.specs.Account.{Account, Before, quoted, collection, other, before_past, is_in_flow, collection_column, blocks_at, blocks_past, account_past_filler, account_past_token}
 use Rattle.defs_token.specs.Piece.{IsPiece, Holds, begins_node}
@@ -25,15 +25,15 @@ before_again collection = refl
 before_again other = refl
 
 -- a key, at a place
-abbrev pub key_at : Place → Token
+abbrev pub key_at : Position → Token
 key_at p = record { place = p; tok = key }
 
-same_account : (a : Account) (w : Written) (p : Place) (next : List ℕ) →
+same_account : (a : Account) (w : Written) (p : Position) (next : List ℕ) →
     account_at (account_past a (empty_token w.filler (key_at p)) (w.piece ++ next)) (bare w) next ≡ account_at a w next
 same_account a w p next = ap (λ b. record (account_at a w next) { before = b }) (before_again (before_past a.before w.filler))
 
 -- A key may be put before a token that begins a node.
-pub key_inserted : (a : Account) (w : Written) (ws : List Written) (f : List ℕ) (last : Option Tok) (p : Place) →
+pub key_inserted : (a : Account) (w : Written) (ws : List Written) (f : List ℕ) (last : Option Tok) (p : Position) →
     begins_node (Some (w.token.tok)) ≡ true → IsRow a (w ∷ ws) f last →
     IsRow a (empty_token w.filler (key_at p) ∷ bare w ∷ ws) f last
 key_inserted a w ws f last p n r =
@@ -127,7 +127,7 @@ abbrev pub with_blocks : List (Option ℕ) → Account → Account
 with_blocks bs a = record a { blocks = bs }
 
 -- a piece of a simple key belongs to its token whatever block collections are open
-pub piece_with_blocks : (bs : List (Option ℕ)) (a : Account) (p n : List ℕ) (o : Option Tok) (at : Place) (t : Tok) →
+pub piece_with_blocks : (bs : List (Option ℕ)) (a : Account) (p n : List ℕ) (o : Option Tok) (at : Position) (t : Tok) →
     is_of_key t ≡ true → has_no_break p ≡ true → is_in_line n ≡ true → IsPiece a p n o at t → IsPiece (with_blocks bs a) p n o at t
 piece_with_blocks bs a p n o at (alias x) k h i q = q
 piece_with_blocks bs a p n o at (anchor x) k h i q = q
@@ -190,11 +190,11 @@ bare_row a w ws f last r =
     ((refl, subst P e r.0.1), subst Q e r.1)
 
 -- a mapping's start, at a place
-abbrev pub mapping_at : Place → Token
+abbrev pub mapping_at : Position → Token
 mapping_at p = record { place = p; tok = block_mapping_start }
 
 -- Outside flow the start of a block mapping and its key may be put before a node on one line.
-pub mapping_inserted : (a : Account) (w : Written) (ws : List Written) (f : List ℕ) (last : Option Tok) (p q : Place) →
+pub mapping_inserted : (a : Account) (w : Written) (ws : List Written) (f : List ℕ) (last : Option Tok) (p q : Position) →
     is_in_flow a ≡ false → begins_node (Some (w.token.tok)) ≡ true → AreOnLine (w ∷ ws) f → IsRow a (w ∷ ws) f last →
     IsRow a (empty_token w.filler (mapping_at p) ∷ empty_token [] (key_at q) ∷ bare w ∷ ws) f last
 mapping_inserted a w ws f last p q o n k r =

@@ -4,7 +4,7 @@ use Rattle.std.specs.Prelude.{codes}
 use Rattle.std.proofs.lemmas.Bool.{eqb-true}
 use Rattle.defs_text.specs.Classes.{is_one_of, is_blank, is_break, is_nul, is_blank_or_end, is_flow, is_at_gap, is_document_marker}
 use Rattle.defs_scalar.specs.Tags.{Tag, written_tag, behind_mark}
-use Rattle.defs_text.specs.Position.{Place}
+use Rattle.defs_text.specs.Position.{Position}
 use Rattle.defs_token.specs.Token.{Tok, Token, flow_sequence_start, flow_sequence_end, flow_mapping_start, flow_mapping_end, flow_entry, key, value, alias, anchor, tag, scalar, plain, single_quoted, double_quoted}
 use Rattle.defs_token.specs.Filler.{past_filler}
 use Rattle.defs_token.specs.Plain.{begins_flow, is_value_indicator, may_begin, begins_plain}
@@ -47,7 +47,7 @@ room : (x y : ℕ) → x ≡ y → Holds (nat_lt x 255) → Holds (nat_lt y 255)
 room x y e h = subst (λ n. Holds (nat_lt n 255)) e h
 
 -- a piece of a key belongs to its token whether or not the level outside has a pair open
-piece_in_level : (ns ms : List Level) (b c : Bool) (k : FlowKind) (ls : List Level) (a : Account) (p n : List ℕ) (o : Option Tok) (at : Place) (t : Tok) →
+piece_in_level : (ns ms : List Level) (b c : Bool) (k : FlowKind) (ls : List Level) (a : Account) (p n : List ℕ) (o : Option Tok) (at : Position) (t : Tok) →
     Steps ns p t ms → IsPiece (with_levels (above ns b k ls) a) p n o at t → IsPiece (with_levels (above ns c k ls) a) p n o at t
 piece_in_level ns ms b c k ls a p n o at t (opens_sequence us v) q = ((q.0.0, room _ _ (length_alike us b c k ls) q.0.1), q.1)
 piece_in_level ns ms b c k ls a p n o at t (opens_mapping us x v) (inl q) = inl ((q.0.0, room _ _ (length_alike us b c k ls) q.0.1), q.1)
@@ -176,7 +176,7 @@ tag_begins_no_key (c ∷ r) n t h = by (c == 33) refl h
     by false e h = cc
 
 -- the first token of a key does not begin with the indicator of one
-node_begins_no_key : (ms : List Level) (a : Account) (p n : List ℕ) (o : Option Tok) (at : Place) (t : Tok) →
+node_begins_no_key : (ms : List Level) (a : Account) (p n : List ℕ) (o : Option Tok) (at : Position) (t : Tok) →
     Steps [] p t ms → begins_node (Some t) ≡ true → IsPiece a p n o at t → begins_with_key_indicator (past_filler false (p ++ n)) ≡ false
 unfolding is_blank is_break
 node_begins_no_key ms a p n o at t (opens_sequence us v) b q = rw q.0.0 refl
@@ -192,11 +192,11 @@ node_begins_no_key ms a p n o at t (is_single_quoted us v x) b q = rw q.0.1 refl
 node_begins_no_key ms a p n o at t (is_double_quoted us v x) b q = rw q.0.1 refl
 
 -- the start of a pair without braces, at a place
-abbrev pub pair_at : Place → Token
+abbrev pub pair_at : Position → Token
 pair_at p = record { place = p; tok = flow_mapping_start }
 
 -- In a flow sequence in which no pair is open, the start of one and its key may be put before a node of the sequence.
-pub pair_inserted : (ls : List Level) (a : Account) (w : Written) (ws : List Written) (f : List ℕ) (last : Option Tok) (p q : Place) →
+pub pair_inserted : (ls : List Level) (a : Account) (w : Written) (ws : List Written) (f : List ℕ) (last : Option Tok) (p q : Position) →
     begins_node (Some (w.token.tok)) ≡ true → IsInside [] (w ∷ ws) → IsRow (with_levels (above [] false sequence ls) a) (w ∷ ws) f last →
     IsRow (with_levels (above [] false sequence ls) a) (empty_token w.filler (pair_at p) ∷ empty_token [] (key_at q) ∷ bare w ∷ ws) f last
 pair_inserted ls a w ws f last p q n i r =

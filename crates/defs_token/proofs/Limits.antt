@@ -4,7 +4,8 @@ use Rattle.std.specs.Prelude.{codes}
 use Rattle.defs_text.specs.Classes.{is_blank, is_break, is_nul, is_blank_or_end, is_flow, is_anchor_name, are_marks}
 use Rattle.defs_scalar.specs.BlockScalar.{BlockStyle, sign_of, digit_of, is_empty_line, is_content_line, row_of}
 use Rattle.defs_token.specs.Token.{flow_entry, flow_sequence_end, stream_end, value, anchor}
-use Rattle.defs_token.specs.Text.{up_to_end, place_behind}
+use Rattle.defs_text.specs.Text.{up_to_end}
+use Rattle.defs_text.specs.Position.{position_after}
 use Rattle.defs_token.specs.Filler.{is_filler}
 use Rattle.defs_token.specs.Plain.{is_value_indicator, begins_plain, is_whole_plain}
 use Rattle.defs_token.specs.BlockPiece.{block_read, block_place}
@@ -18,17 +19,17 @@ unfolding is_blank is_break is_nul is_blank_or_end is_flow is_anchor_name are_ma
 ends_at_nul = refl
 
 -- CR LF ends one line, CR and LF one each
-places : place_behind first (codes "a\r\nb\rc\nd") [] ≡ place 8 4 1
+places : position_after first (codes "a\r\nb\rc\nd") [] ≡ place 8 4 1
 unfolding is_blank is_break is_nul is_blank_or_end is_flow is_anchor_name are_marks sign_of digit_of is_empty_line is_content_line row_of
 places = refl
 
 -- also where it is split
-split_break : place_behind first (codes "\r") (codes "\n") ≡ place 1 1 1
+split_break : position_after first (codes "\r") (codes "\n") ≡ place 1 1 1
 unfolding is_blank is_break is_nul is_blank_or_end is_flow is_anchor_name are_marks sign_of digit_of is_empty_line is_content_line row_of
 split_break = refl
 
 -- U+2028 ends no line
-line_separator : place_behind first (0x2028 ∷ []) [] ≡ place 1 1 1
+line_separator : position_after first (0x2028 ∷ []) [] ≡ place 1 1 1
 unfolding is_blank is_break is_nul is_blank_or_end is_flow is_anchor_name are_marks sign_of digit_of is_empty_line is_content_line row_of
 line_separator = refl
 

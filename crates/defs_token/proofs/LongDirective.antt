@@ -3,16 +3,17 @@ use Rattle.std.proofs.Common.{◌≡◌, ℕ, zero, suc, List, [], ◌∷◌, �
 use Rattle.std.specs.Prelude.{codes}
 use Rattle.std.proofs.Math.Seq.{take-append_seam, drop-append_seam}
 use Rattle.defs_text.specs.Classes.{is_blank, is_break, is_nul}
-use Rattle.defs_text.specs.Position.{Place}
+use Rattle.defs_text.specs.Position.{Position}
 use Rattle.defs_token.specs.Token.{Tok, Token, stream_end, tag_directive}
-use Rattle.defs_token.specs.Text.{up_to_end, is_at_line_end, has_no_break}
+use Rattle.defs_text.specs.Text.{up_to_end}
+use Rattle.defs_text.specs.Breaks.{is_at_line_end, has_no_break}
 use Rattle.defs_token.specs.Filler.{is_filler}
 use Rattle.defs_token.specs.Account.{Account, first_account}
 use Rattle.defs_token.specs.Piece.{Holds, IsPiece, IsTagLine}
 use Rattle.defs_token.specs.Cut.{Written, IsCut, IsWritten, IsRow, tokens_of, spelled, account_at, start_token, end_token}
 use Rattle.defs_token.proofs.DroppedLine.{rest_of, first_tok, head, not_alone}
 
-abbrev both_lines : Place → Token
+abbrev both_lines : Position → Token
 both_lines p = record { place = p; tok = tag_directive [] [] }
 
 -- a directive of another name, and a next line that is no filler
@@ -58,21 +59,21 @@ module _ (r : List ℕ) (more : is_filler false r [] ≡ false) where
       let h : P (tag_directive [] []) = subst P t w.1 in
       no_tag_line a p f e l h.0
 
-  no_rows : (ws : List Written) (f : List ℕ) (end : Token) (p : Place) (last : Token) →
+  no_rows : (ws : List Written) (f : List ℕ) (end : Token) (p : Position) (last : Token) →
       tokens_of ws ++ (end ∷ []) ≡ both_lines p ∷ (last ∷ []) → spelled ws f ≡ text → Holds (is_filler false f []) → IsRow first_account ws f (Some stream_end) → ⊥
   no_rows [] f end p last e t l r = cc e
   no_rows (w ∷ []) f end p last e t l r = no_row w.filler w.piece f w.token (Some stream_end) (ap first_tok e) t l r.0
   no_rows (w ∷ (v ∷ vs)) f end p last e t l r = not_alone (tokens_of vs) v.token end last (ap rest_of e)
 
-  taken : (begin p end : Place) → up_to_end text ≡ text → IsCut (start_token begin ∷ (both_lines p ∷ (end_token end ∷ []))) text → ⊥
+  taken : (begin p end : Position) → up_to_end text ≡ text → IsCut (start_token begin ∷ (both_lines p ∷ (end_token end ∷ []))) text → ⊥
   taken begin p end whole c = no_rows c.row c.filler (end_token c.end) p (end_token end) (ap rest_of (sym c.are_tokens)) (c.is_text ∙ whole) c.is_filled c.is_row
 
 -- a directive that takes the next line is no cut
-pub next_line_taken : (begin p end : Place) → IsCut (start_token begin ∷ (both_lines p ∷ (end_token end ∷ []))) (codes "%FOO\na: b") → ⊥
+pub next_line_taken : (begin p end : Position) → IsCut (start_token begin ∷ (both_lines p ∷ (end_token end ∷ []))) (codes "%FOO\na: b") → ⊥
 unfolding is_blank is_break is_nul
 next_line_taken begin p end c = taken (codes "a: b") refl begin p end refl c
 
 -- nor is one that takes a quoted scalar with a wrong escape
-pub quote_taken : (begin p end : Place) → IsCut (start_token begin ∷ (both_lines p ∷ (end_token end ∷ []))) (codes "%FOO\n\"bad \\q") → ⊥
+pub quote_taken : (begin p end : Position) → IsCut (start_token begin ∷ (both_lines p ∷ (end_token end ∷ []))) (codes "%FOO\n\"bad \\q") → ⊥
 unfolding is_blank is_break is_nul
 quote_taken begin p end c = taken (codes "\"bad \\q") refl begin p end refl c

@@ -1,21 +1,21 @@
 -- Short words for rows of tokens.
 use Rattle.std.proofs.Common.{ℕ, List, [], ◌∷◌, ◌++◌}
-use Rattle.defs_text.specs.Position.{Place}
+use Rattle.defs_text.specs.Position.{Position}
 use Rattle.defs_token.specs.Token.{Tok, Token}
 use Rattle.defs_token.specs.Cut.{Written, tokens_of, start_token, end_token}
 
 -- a place
-abbrev pub place : (index line col : ℕ) → Place
+abbrev pub place : (index line col : ℕ) → Position
 place i l c = record { index = i; line = l; col = c }
 
 -- a token with the filler before its piece, and its piece
-abbrev pub written : (filler piece : List ℕ) → Place → Tok → Written
+abbrev pub written : (filler piece : List ℕ) → Position → Tok → Written
 written f p at t = record { filler = f; piece = p; token = record { place = at; tok = t } }
 
 -- the place where a stream begins
-abbrev pub first : Place
+abbrev pub first : Position
 first = place 0 1 0
 
 -- the tokens of a row between a stream's start and its end
-abbrev pub tokens_between : List Written → (end : Place) → List Token
+abbrev pub tokens_between : List Written → (end : Position) → List Token
 tokens_between ws end = start_token first ∷ (tokens_of ws ++ (end_token end ∷ []))

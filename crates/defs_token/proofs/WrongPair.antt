@@ -3,9 +3,9 @@ use Rattle.std.proofs.Common.{◌≡◌, ℕ, zero, suc, List, [], ◌∷◌, �
 use Rattle.std.specs.Prelude.{codes}
 use Rattle.defs_text.specs.Classes.{is_nul}
 use Rattle.defs_scalar.specs.Tags.{all_of}
-use Rattle.defs_text.specs.Position.{Place}
+use Rattle.defs_text.specs.Position.{Position}
 use Rattle.defs_token.specs.Token.{Tok, Token, stream_end, flow_sequence_start, flow_sequence_end, flow_mapping_start, flow_mapping_end, flow_entry, key, value, scalar, plain}
-use Rattle.defs_token.specs.Text.{up_to_end}
+use Rattle.defs_text.specs.Text.{up_to_end}
 use Rattle.defs_token.specs.Account.{first_account}
 use Rattle.defs_token.specs.Cut.{Written, IsCut, IsRow, tokens_of, spelled, start_token, end_token}
 use Rattle.defs_token.proofs.Shown.{place, first}
@@ -17,7 +17,7 @@ abbrev at : ℕ → Tok → Token
 at i t = record { place = place i 1 i; tok = t }
 
 -- the pair of the outer level ends before the comma of the inner one
-abbrev pub wrong : (end : Place) → List Token
+abbrev pub wrong : (end : Position) → List Token
 wrong end =
     start_token first ∷
     at 0 flow_sequence_start ∷
@@ -101,7 +101,7 @@ no_brace_in (suc n) (w ∷ ws) f h = no_brace_in n ws f (all_behind is_no_brace 
 -- ---- the tokens are no cut
 
 -- the end of the pair stands where the innermost level has none open
-no_row : (ws : List Written) (f : List ℕ) (end : Place) → all_of is_no_brace (piece_of (dropped 7 ws)) ≡ true →
+no_row : (ws : List Written) (f : List ℕ) (end : Position) → all_of is_no_brace (piece_of (dropped 7 ws)) ≡ true →
     IsRow first_account (with_tokens ws (but_last (rest_of (wrong end)))) f (Some stream_end) → ⊥
 no_row ws f end none r =
     let ends = r.1.1.1.1.1.1.1.0.1 in
@@ -113,7 +113,7 @@ no_row ws f end none r =
     no_brace : all_of is_no_brace (codes "}") ≡ true → ⊥
     no_brace e = cc e
 
-pub one_flag : (end : Place) → IsCut (wrong end) text → ⊥
+pub one_flag : (end : Position) → IsCut (wrong end) text → ⊥
 unfolding is_nul
 one_flag end c =
     let e : tokens_of c.row ≡ but_last (rest_of (wrong end)) = sym (but_last_append (tokens_of c.row) (end_token c.end)) ∙ ap (λ l. but_last (rest_of l)) (sym c.are_tokens) in

@@ -2,9 +2,9 @@
 use Rattle.std.proofs.Common.{◌≡◌, ℕ, List, [], ◌∷◌, ◌++◌, false, ◌&&◌, ◌||◌, ◌==◌, Option, Some, sym, ap, subst, ◌∙◌, inl, inr, refl}
 use Rattle.std.specs.Prelude.{codes}
 use Rattle.defs_text.specs.Classes.{is_blank, is_break, is_nul}
-use Rattle.defs_text.specs.Position.{Place}
+use Rattle.defs_text.specs.Position.{Position}
 use Rattle.defs_token.specs.Token.{Tok, Token, stream_end, flow_sequence_start, flow_sequence_end, flow_mapping_start, flow_mapping_end, key, scalar, plain}
-use Rattle.defs_token.specs.Text.{up_to_end}
+use Rattle.defs_text.specs.Text.{up_to_end}
 use Rattle.defs_token.specs.Filler.{is_filler, past_filler}
 use Rattle.defs_token.specs.Account.{Account, first_account}
 use Rattle.defs_token.specs.Piece.{Holds, IsPiece, begins_pair, begins_with_key_indicator}
@@ -57,11 +57,11 @@ pair_here a w c t next o s brace k e is =
 -- ---- the tokens are no cut
 
 -- tokens that begin with a bracket and the start of a pair, and their last one
-abbrev tokens : List Token → (end : Place) → List Token
+abbrev tokens : List Token → (end : Position) → List Token
 tokens behind end = start_token first ∷ token_at 0 flow_sequence_start ∷ token_at 1 flow_mapping_start ∷ (behind ++ (end_token end ∷ []))
 
 -- A row of these tokens in a text that begins with a bracket, and then with neither filler nor brace: what is known of the pair's start.
-what_start_says : (k : Token) (ks : List Token) (text : List ℕ) (c : ℕ) (t : List ℕ) (end : Place) → (is_blank c || is_break c || (c == 35)) ≡ false → (c == 123) ≡ false → up_to_end text ≡ 91 ∷ (c ∷ t) →
+what_start_says : (k : Token) (ks : List Token) (text : List ℕ) (c : ℕ) (t : List ℕ) (end : Position) → (is_blank c || is_break c || (c == 35)) ≡ false → (c == 123) ≡ false → up_to_end text ≡ 91 ∷ (c ∷ t) →
     IsCut (tokens (k ∷ ks) end) text → Holds (begins_pair (Some (k.tok))) × (begins_with_key_indicator (past_filler false (c ∷ t)) ≡ false)
 what_start_says k ks text c t end s brace whole cut =
     let mine : List Token = token_at 0 flow_sequence_start ∷ token_at 1 flow_mapping_start ∷ k ∷ ks in
@@ -78,11 +78,11 @@ what_start_says k ks text c t end s brace whole cut =
     pair_here (account_past first_account w next) v c t (spelled ws cut.filler) (Some (k.tok)) s brace refl on r.1.0
 
 -- a pair that begins with `?` has no start
-pub start_before_indicator : (end : Place) → IsCut (tokens (token_at 1 key ∷ token_at 3 flow_mapping_end ∷ token_at 3 flow_sequence_end ∷ []) end) (codes "[? ]") → ⊥
+pub start_before_indicator : (end : Position) → IsCut (tokens (token_at 1 key ∷ token_at 3 flow_mapping_end ∷ token_at 3 flow_sequence_end ∷ []) end) (codes "[? ]") → ⊥
 unfolding is_blank is_break is_nul
 start_before_indicator end cut = cc (what_start_says (token_at 1 key) (token_at 3 flow_mapping_end ∷ token_at 3 flow_sequence_end ∷ []) (codes "[? ]") 63 (codes " ]") end refl refl refl cut).1
 
 -- a node that is no key has no start before it
-pub start_before_node : (end : Place) → IsCut (tokens (token_at 1 (scalar plain (codes "a")) ∷ token_at 2 flow_mapping_end ∷ token_at 2 flow_sequence_end ∷ []) end) (codes "[a]") → ⊥
+pub start_before_node : (end : Position) → IsCut (tokens (token_at 1 (scalar plain (codes "a")) ∷ token_at 2 flow_mapping_end ∷ token_at 2 flow_sequence_end ∷ []) end) (codes "[a]") → ⊥
 unfolding is_blank is_break is_nul
 start_before_node end cut = cc (what_start_says (token_at 1 (scalar plain (codes "a"))) (token_at 2 flow_mapping_end ∷ token_at 2 flow_sequence_end ∷ []) (codes "[a]") 97 (codes "]") end refl refl refl cut).0

@@ -1,9 +1,9 @@
 -- What is open after the tokens so far: block collections, flow collections and flow pairs.
 -- It is computed from tokens and their pieces of text alone. YAML 1.2, sections 7.4 (flow collections), 8.2 (block collections).
 use Rattle.std.specs.Prelude.{ℕ, List, [], ◌∷◌, Bool, true, false, ◌&&◌, not, nat_lt, if◌then◌else◌, length, drop, Option, Some, None}
-use Rattle.defs_text.specs.Position.{Place}
+use Rattle.defs_text.specs.Position.{Position}
 use Rattle.defs_token.specs.Token.{Tok, block_sequence_start, block_mapping_start, block_end, flow_sequence_start, flow_sequence_end, flow_mapping_start, flow_mapping_end, scalar, single_quoted, double_quoted}
-use Rattle.defs_token.specs.Text.{first_place, place_behind}
+use Rattle.defs_text.specs.Position.{first_position, position_after}
 use Rattle.defs_token.specs.Filler.{is_blanks}
 
 -- an open flow collection
@@ -24,14 +24,14 @@ pub data Before : Type 0 where
 
 -- The account at a place of the text: the place; the open block collections, each with its column once its first piece has come; the open flow levels; and what stands before. Both lists have the innermost first.
 pub record Account : Type 0 where
-  pub place : Place
+  pub place : Position
   pub blocks : List (Option ℕ)
   pub levels : List Level
   pub before : Before
 
 -- the account where a text begins
 abbrev pub first_account : Account
-first_account = record { place = first_place; blocks = []; levels = []; before = other }
+first_account = record { place = first_position; blocks = []; levels = []; before = other }
 
 -- ---- what an account says
 
@@ -105,7 +105,7 @@ before_past other f = other
 
 -- the account after a filler; the text after it
 abbrev pub account_past_filler : Account → (filler next : List ℕ) → Account
-account_past_filler a f next = record a { place = place_behind a.place f next; before = before_past a.before f }
+account_past_filler a f next = record a { place = position_after a.place f next; before = before_past a.before f }
 
 -- ---- the account after a token
 
@@ -162,7 +162,7 @@ before_past_token b (c ∷ r) t = before_by t
 -- the account after a token, from that at its piece; the text after it
 abbrev pub account_past_token : Account → (piece next : List ℕ) → Tok → Account
 account_past_token a piece next t = record {
-  place = place_behind a.place piece next;
+  place = position_after a.place piece next;
   blocks = blocks_past a.blocks t;
   levels = levels_past a.levels piece t;
   before = before_past_token a.before piece t;

@@ -3,8 +3,9 @@ use Rattle.std.specs.Prelude.{ℕ, List, [], ◌∷◌, Bool, true, false, ◌&&
 use Rattle.defs_text.specs.Classes.{space, is_break, is_at_end}
 use Rattle.defs_text.specs.Breaks.{Split, split}
 use Rattle.defs_scalar.specs.BlockScalar.{BlockStyle, Header, header_of, Body, body, input_ends, further_text, unbroken, content_column, block_value, is_further_text}
-use Rattle.defs_text.specs.Position.{Place}
-use Rattle.defs_token.specs.Text.{ends_line, place_past, place_behind}
+use Rattle.defs_text.specs.Position.{Position}
+use Rattle.defs_text.specs.Breaks.{ends_line}
+use Rattle.defs_text.specs.Position.{position_past, position_after}
 
 -- a block scalar as read: its style, its content column, and its value
 pub record BlockRead : Type 0 where
@@ -49,21 +50,21 @@ block_read collection piece next = read_split collection (split piece) next
 -- ---- where the content begins
 
 -- The place of the content column in the first content line, if there is one; the header's line is passed over.
-abbrev pub first_content : (column : ℕ) → (in_header : Bool) → Place → List ℕ → Option Place
+abbrev pub first_content : (column : ℕ) → (in_header : Bool) → Position → List ℕ → Option Position
 first_content column in_header p [] = None
-first_content column true p (c ∷ r) = first_content column (not (ends_line c r)) (place_past p c r) r
-first_content column false p (c ∷ r) = (if is_break c || ((c == space) && nat_lt p.col column) then first_content column false (place_past p c r) r else Some p)
+first_content column true p (c ∷ r) = first_content column (not (ends_line c r)) (position_past p c r) r
+first_content column false p (c ∷ r) = (if is_break c || ((c == space) && nat_lt p.col column) then first_content column false (position_past p c r) r else Some p)
 
 -- the place of the first character that is no space
-abbrev pub past_spaces : Place → List ℕ → Place
+abbrev pub past_spaces : Position → List ℕ → Position
 past_spaces p [] = p
-past_spaces p (c ∷ r) = (if c == space then past_spaces (place_past p c r) r else p)
+past_spaces p (c ∷ r) = (if c == space then past_spaces (position_past p c r) r else p)
 
 -- the first place, where there is one
-abbrev pub place_or : Option Place → Place → Place
+abbrev pub place_or : Option Position → Position → Position
 place_or (Some p) other = p
 place_or None other = other
 
 -- The place of a block scalar's token: where its content begins. Without content it is the place of the further text, or of the header if the text ends.
-abbrev pub block_place : (column : ℕ) → Place → (piece next : List ℕ) → Place
-block_place column p piece next = place_or (first_content column true p piece) (if is_at_end next then p else past_spaces (place_behind p piece next) next)
+abbrev pub block_place : (column : ℕ) → Position → (piece next : List ℕ) → Position
+block_place column p piece next = place_or (first_content column true p piece) (if is_at_end next then p else past_spaces (position_after p piece next) next)

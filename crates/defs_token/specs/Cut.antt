@@ -1,9 +1,9 @@
 -- When a list of tokens is a cut of a text: the text up to its end is a row of fillers (blanks, breaks and comments) and pieces in order, and each piece belongs to one token.
 -- YAML 1.2, chapters 6 to 9. The definition says which tokens stand where. It does not say that a text has a cut, or only one.
 use Rattle.std.specs.Prelude.{◌≡◌, ℕ, ◌⊎◌, List, [], ◌∷◌, ◌++◌, false, Option, Some, None}
-use Rattle.defs_text.specs.Position.{Place}
+use Rattle.defs_text.specs.Position.{Position}
 use Rattle.defs_token.specs.Token.{Tok, Token, stream_start, stream_end}
-use Rattle.defs_token.specs.Text.{up_to_end}
+use Rattle.defs_text.specs.Text.{up_to_end}
 use Rattle.defs_token.specs.Filler.{is_filler}
 use Rattle.defs_token.specs.Account.{Account, first_account, is_closed, account_past_filler, account_at_piece, account_past_token}
 use Rattle.defs_token.specs.Piece.{Holds, IsPiece}
@@ -54,17 +54,17 @@ account_past_row a [] behind = a
 account_past_row a (w ∷ ws) behind = account_past_row (account_past a w (spelled ws behind)) ws behind
 
 -- the start of a stream
-abbrev pub start_token : Place → Token
+abbrev pub start_token : Position → Token
 start_token p = record { place = p; tok = stream_start }
 
 -- the end of a stream
-abbrev pub end_token : Place → Token
+abbrev pub end_token : Position → Token
 end_token p = record { place = p; tok = stream_end }
 
 -- Whether tokens are a cut of a text. They are the stream's start, a row of tokens, and the stream's end. The row and the filler after it are the text up to its end. Outside flow no block collection is left open.
 pub record IsCut (tokens : List Token) (text : List ℕ) : Type 0 where
-  pub begin : Place
-  pub end : Place
+  pub begin : Position
+  pub end : Position
   pub row : List Written
   pub filler : List ℕ
   pub are_tokens : tokens ≡ start_token begin ∷ (tokens_of row ++ (end_token end ∷ []))
@@ -75,7 +75,7 @@ pub record IsCut (tokens : List Token) (text : List ℕ) : Type 0 where
 
 -- Whether tokens are the stream's start and a row of tokens whose text begins the text. What characters follow is known, but not what token.
 pub record IsBegun (tokens : List Token) (text : List ℕ) : Type 0 where
-  pub begin : Place
+  pub begin : Position
   pub row : List Written
   pub behind : List ℕ
   pub are_tokens : tokens ≡ start_token begin ∷ tokens_of row

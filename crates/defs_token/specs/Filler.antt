@@ -1,7 +1,7 @@
 -- What stands between the pieces of tokens: blanks, breaks and comments. YAML 1.2, sections 6.1 to 6.7.
 use Rattle.std.specs.Prelude.{ℕ, List, [], ◌∷◌, Bool, true, false, ◌&&◌, ◌||◌, ◌==◌, not, if◌then◌else◌}
 use Rattle.defs_text.specs.Classes.{is_blank, is_break}
-use Rattle.defs_token.specs.Text.{is_at_line_end}
+use Rattle.defs_text.specs.Breaks.{is_at_line_end}
 
 -- Whether a text is blanks, breaks and comments; a comment goes from `#` up to a break or the text's end.
 abbrev pub is_filler : (in_comment : Bool) → List ℕ → (next : List ℕ) → Bool

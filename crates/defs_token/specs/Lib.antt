@@ -4,6 +4,5 @@ pub mod Cut
 pub mod Filler
 pub mod Piece
 pub mod Plain
-pub mod Text
 pub mod Token
 pub mod Toks

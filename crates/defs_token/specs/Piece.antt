@@ -6,9 +6,9 @@ use Rattle.defs_scalar.specs.FlowScalar.{begins_with, plain_value, single_quoted
 use Rattle.defs_scalar.specs.BlockScalar.{BlockStyle}
 use Rattle.defs_scalar.specs.Tags.{all_of, written_tag}
 use Rattle.defs_scalar.specs.Directives.{Directive, version, tag_declaration, reserved, directive_of}
-use Rattle.defs_text.specs.Position.{Place}
+use Rattle.defs_text.specs.Position.{Position}
 use Rattle.defs_token.specs.Token.{Tok, stream_start, stream_end, version_directive, tag_directive, document_start, document_end, block_sequence_start, block_mapping_start, block_end, flow_sequence_start, flow_sequence_end, flow_mapping_start, flow_mapping_end, block_entry, flow_entry, key, value, alias, anchor, tag, scalar, plain, single_quoted, double_quoted, literal, folded}
-use Rattle.defs_token.specs.Text.{is_at_line_end, has_no_break}
+use Rattle.defs_text.specs.Breaks.{is_at_line_end, has_no_break}
 use Rattle.defs_token.specs.Filler.{past_filler}
 use Rattle.defs_token.specs.Plain.{begins_flow, is_value_indicator, begins_plain, is_whole_plain}
 use Rattle.defs_token.specs.BlockPiece.{block_read, block_place}
@@ -164,7 +164,7 @@ abbrev pub IsDoubleQuoted : (piece next text : List ℕ) → Type 0
 IsDoubleQuoted piece next text = (body : List ℕ) × (piece ≡ double_quote ∷ (body ++ (double_quote ∷ []))) × (double_quoted_value body ≡ Some text)
 
 -- A block scalar outside flow, of this style and value; its token's place is where its content begins.
-abbrev pub IsBlockScalar : Account → (piece next : List ℕ) → BlockStyle → (text : List ℕ) → (place : Place) → Type 0
+abbrev pub IsBlockScalar : Account → (piece next : List ℕ) → BlockStyle → (text : List ℕ) → (place : Position) → Type 0
 IsBlockScalar a piece next style text place =
     IsOutsideFlow a ×
     ((column : ℕ) × (block_read (collection_column a) piece next ≡ Some (record { style = style; column = column; text = text })) × (place ≡ block_place column a.place piece next))
@@ -172,7 +172,7 @@ IsBlockScalar a piece next style text place =
 -- ---- tokens
 
 -- Whether a piece of text belongs to a token. The arguments are what is open before it, the piece, the text after it, the token after it if one is known, and the token's place. The stream's own two tokens stand only at its ends.
-abbrev pub IsPiece : Account → (piece next : List ℕ) → (following : Option Tok) → (place : Place) → Tok → Type 0
+abbrev pub IsPiece : Account → (piece next : List ℕ) → (following : Option Tok) → (place : Position) → Tok → Type 0
 IsPiece a piece next following place stream_start = ⊥
 IsPiece a piece next following place stream_end = ⊥
 IsPiece a piece next following place (version_directive major minor) = IsDirective a piece next (version major minor) × (place ≡ a.place)

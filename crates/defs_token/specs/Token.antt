@@ -1,6 +1,6 @@
 -- The tokens of a YAML stream, as clauses see them: a place, and what stands there.
 use Rattle.std.specs.Prelude.{ℕ, List}
-use Rattle.defs_text.specs.Position.{Place}
+use Rattle.defs_text.specs.Position.{Position}
 
 -- How a scalar is written (YAML 1.2, sections 7.3 and 8.1).
 pub data Style : Type 0 where
@@ -34,5 +34,5 @@ pub data Tok : Type 0 where
   scalar : Style → (text : List ℕ) → Tok
 
 pub record Token : Type 0 where
-  pub place : Place
+  pub place : Position
   pub tok : Tok

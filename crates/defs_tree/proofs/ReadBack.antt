@@ -10,7 +10,7 @@ use Rattle.std.proofs.lemmas.Str.Parse.{digit_from_value}
 use Rattle.std.proofs.lemmas.Bool.{ltb-true, lt-ltb, ne_eqb, and_left, or_from, or_parts, and_parts, not-false, not-true, cond-false}
 use Rattle.defs_tree.specs.Tree.{Tree, real, integer, string, boolean, array, hash, alias, null, bad_value}
 use Rattle.defs_tree.specs.Grammar.{is_among}
-use Rattle.defs_tree.specs.Typing.{typing, number, signed_decimal, behind, fits_i64, is_digit, is_string, is_decimal, null_words, true_words, false_words}
+use Rattle.defs_tree.specs.Typing.{typing, number, signed_decimal, after_prefix, fits_i64, is_digit, is_string, is_decimal, null_words, true_words, false_words}
 use Rattle.defs_tree.specs.Quoting.{is_quoted}
 use Rattle.defs_tree.specs.Spelling.{spelling}
 use Rattle.defs_tree.specs.Laws.{IsSpeltPlain}
@@ -42,10 +42,10 @@ abbrev SecondIsEarly : List ℕ → Type 0
 SecondIsEarly [] = Unit {0}
 SecondIsEarly (c ∷ cs) = c < 58
 
-behind_letter : (x : ℕ) (c : ℕ) (cs : List ℕ) → 57 < x → SecondIsEarly cs → behind (48 ∷ x ∷ []) (c ∷ cs) ≡ None
+behind_letter : (x : ℕ) (c : ℕ) (cs : List ℕ) → 57 < x → SecondIsEarly cs → after_prefix (48 ∷ x ∷ []) (c ∷ cs) ≡ None
 behind_letter x c [] h s = by (48 == c)
   where
-    by : (b : Bool) → (if b then behind (x ∷ []) [] else None) ≡ None
+    by : (b : Bool) → (if b then after_prefix (x ∷ []) [] else None) ≡ None
     by true = refl
     by false = refl
 behind_letter x c (d ∷ ds) h s = by (48 == c) (ne_eqb x d (λ e. omega arith))
@@ -54,7 +54,7 @@ behind_letter x c (d ∷ ds) h s = by (48 == c) (ne_eqb x d (λ e. omega arith))
     by true e = ap (λ b. if b then Some ds else None) e
     by false e = refl
 
-behind_plus : (c : ℕ) (cs : List ℕ) → c ≢ 43 → behind (43 ∷ []) (c ∷ cs) ≡ None
+behind_plus : (c : ℕ) (cs : List ℕ) → c ≢ 43 → after_prefix (43 ∷ []) (c ∷ cs) ≡ None
 behind_plus c cs n = ap (λ b. if b then Some cs else None) (ne_eqb 43 c (λ e. n (sym e)))
 
 -- such a text stands for the integer that it writes

@@ -5,7 +5,7 @@ use Rattle.std.specs.List.{list_all}
 use Rattle.std.proofs.lemmas.Bool.{true≢false, and_parts}
 use Rattle.defs_tree.specs.Tree.{Tree, real, integer, string, boolean, array, hash, alias, null, bad_value}
 use Rattle.defs_tree.specs.Grammar.{is_among}
-use Rattle.defs_tree.specs.Typing.{typing, rows, by_rows, where_true, with_sign, signed_number, signed_decimal, behind, fits_i64, is_string, is_real, is_real_text, is_decimal, null_words, true_words, false_words, special_words}
+use Rattle.defs_tree.specs.Typing.{typing, rows, by_rows, where_true, with_sign, signed_number, signed_decimal, after_prefix, fits_i64, is_string, is_real, is_real_text, is_decimal, null_words, true_words, false_words, special_words}
 use Rattle.defs_tree.specs.Laws.{MayStandFor}
 
 -- a fact of what a row gives, where it gives something
@@ -60,11 +60,11 @@ by_rows-sound P (row ∷ rest) text h r = or_else (P text) (row text) (by_rows r
 pub typing-plain : (text : List ℕ) → MayStandFor text (typing text)
 unfolding typing AllSound
 typing-plain text = by_rows-sound MayStandFor rows text (
-  behind_row text 16 (behind (codes "0x") text),
+  behind_row text 16 (after_prefix (codes "0x") text),
   (
-    behind_row text 8 (behind (codes "0o") text),
+    behind_row text 8 (after_prefix (codes "0o") text),
     (
-      behind_row text 10 (behind (codes "+") text),
+      behind_row text 10 (after_prefix (codes "+") text),
       (
         OfSome-where_true (MayStandFor text) (is_among null_words text) null tt,
         (
@@ -144,11 +144,11 @@ pub strings_exactly : (text : List ℕ) → (typing text ≡ string text → lis
 unfolding typing AllSound
 strings_exactly text = (
   string-no_row rows text (
-    option_map-integer (option_and_then (signed_number 16) (behind (codes "0x") text)) text,
+    option_map-integer (option_and_then (signed_number 16) (after_prefix (codes "0x") text)) text,
     (
-      option_map-integer (option_and_then (signed_number 8) (behind (codes "0o") text)) text,
+      option_map-integer (option_and_then (signed_number 8) (after_prefix (codes "0o") text)) text,
       (
-        option_map-integer (option_and_then signed_decimal (behind (codes "+") text)) text,
+        option_map-integer (option_and_then signed_decimal (after_prefix (codes "+") text)) text,
         (
           OfSome-where_true (NotString text) (is_among null_words text) null refl,
           (
@@ -191,11 +191,11 @@ option_map-no_real (Some z) text = λ e. cc
 pub real_text-cases : (text : List ℕ) → is_real_text text ≡ true → (is_among special_words text ≡ true) ⊎ (is_decimal text ≡ true)
 unfolding typing AllSound
 real_text-cases text = by_rows-sound FromRealRow rows text (
-  option_map-no_real (option_and_then (signed_number 16) (behind (codes "0x") text)) text,
+  option_map-no_real (option_and_then (signed_number 16) (after_prefix (codes "0x") text)) text,
   (
-    option_map-no_real (option_and_then (signed_number 8) (behind (codes "0o") text)) text,
+    option_map-no_real (option_and_then (signed_number 8) (after_prefix (codes "0o") text)) text,
     (
-      option_map-no_real (option_and_then signed_decimal (behind (codes "+") text)) text,
+      option_map-no_real (option_and_then signed_decimal (after_prefix (codes "+") text)) text,
       (
         OfSome-where (FromRealRow text) (is_among null_words text) null (λ b e. cc),
         (

@@ -46,10 +46,10 @@ abbrev pub signed_decimal : List ℕ → Option ℤ
 signed_decimal text = signed_number 10 text
 
 -- what stands after a beginning, where the text begins so
-abbrev pub behind : List ℕ → List ℕ → Option (List ℕ)
-behind [] text = Some text
-behind (p ∷ ps) [] = None
-behind (p ∷ ps) (c ∷ cs) = if p == c then behind ps cs else None
+abbrev pub after_prefix : List ℕ → List ℕ → Option (List ℕ)
+after_prefix [] text = Some text
+after_prefix (p ∷ ps) [] = None
+after_prefix (p ∷ ps) (c ∷ cs) = if p == c then after_prefix ps cs else None
 
 -- ---- reals
 
@@ -113,11 +113,11 @@ where_true b t = if b then Some t else None
 abbrev pub rows : List (List ℕ → Option Tree)
 rows =
     -- `0x` and a signed number in base 16
-    (λ text. option_map integer (option_and_then (signed_number 16) (behind (codes "0x") text)))
+    (λ text. option_map integer (option_and_then (signed_number 16) (after_prefix (codes "0x") text)))
     -- `0o` and a signed number in base 8
-    ∷ (λ text. option_map integer (option_and_then (signed_number 8) (behind (codes "0o") text)))
+    ∷ (λ text. option_map integer (option_and_then (signed_number 8) (after_prefix (codes "0o") text)))
     -- `+` and a signed number in base 10
-    ∷ (λ text. option_map integer (option_and_then signed_decimal (behind (codes "+") text)))
+    ∷ (λ text. option_map integer (option_and_then signed_decimal (after_prefix (codes "+") text)))
     -- words
     ∷ (λ text. where_true (is_among null_words text) null)
     ∷ (λ text. where_true (is_among true_words text) (boolean true))

@@ -1,7 +1,7 @@
 -- Lemmas about the scan of a directive.
 use Rattle.std.proofs.Common.{◌≡◌, ◌≢◌, ℕ, ◌+◌, ◌*◌, ◌^◌, ◌<◌, ◌≤◌, List, [], ◌∷◌, true, false, Ok, Err, refl, slice_index, arith, add-one, lit<}
 use Rattle.std.proofs.Math.Nat.{pow-succ', pow-le-pow_right}
-use Rattle.defs_text.specs.Position.{Place}
+use Rattle.defs_text.specs.Position.{Position}
 use Rattle.yaml_chars.specs.Class.{is_break, is_digit}
 use Rattle.yaml_tokens.specs.declared.problem.Fault.TheVariants.{At}
 use Rattle.yaml_tokens.specs.declared.problem.Problem.TheVariants as problem
@@ -22,13 +22,13 @@ nine_digits v n h few other =
     omega arith
 
 -- where no digit stands
-pub digits_stop : (start : Place) (c : ℕ) (a : List ℕ) (s : Digits) → c ≡ slice_index a 0 → is_digit c ≡ false
+pub digits_stop : (start : Position) (c : ℕ) (a : List ℕ) (s : Digits) → c ≡ slice_index a 0 → is_digit c ≡ false
     → number_from start a s ≡ digits_end start (Ok (record { rest = a; state = s }))
 digits_stop start c [] s e h = refl
 digits_stop start c (d ∷ a) s e h = let g : is_digit d ≡ false = rw e at h in rw g refl
 
 -- where a tenth digit stands
-pub too_long : (start : Place) (c : ℕ) (a : List ℕ) (s : Digits) → c ≡ slice_index a 0 → c ≢ 0 → is_digit c ≡ true → s.length ≡ 9
+pub too_long : (start : Position) (c : ℕ) (a : List ℕ) (s : Digits) → c ≡ slice_index a 0 → c ≢ 0 → is_digit c ≡ true → s.length ≡ 9
     → number_from start a s ≡ Err (At problem.VersionTooLong start)
 too_long start c [] s e some h nine = absurd (some e)
 too_long start c (d ∷ a) s e some h nine = let g : is_digit d ≡ true = rw e at h in rw (g, nine) refl
@@ -38,12 +38,12 @@ unfolding is_break
 no_break_here c [] e h = let z : is_break 0 ≡ true = rw e at h in cc
 no_break_here c (d ∷ a) e h = λ n. cc
 
-pub break_stands : (start : Place) (c : ℕ) (a : List ℕ) (p : Place) → c ≡ slice_index a 0 → is_break c ≡ true → directive_break start a p ≡ Ok (linebreak a p)
+pub break_stands : (start : Position) (c : ℕ) (a : List ℕ) (p : Position) → c ≡ slice_index a 0 → is_break c ≡ true → directive_break start a p ≡ Ok (linebreak a p)
 unfolding directive_break
 break_stands start c [] p e h = absurd (no_break_here c [] e h refl)
 break_stands start c (d ∷ a) p e h = let g : is_break d ≡ true = rw e at h in rw g refl
 
-pub break_fails : (start : Place) (c : ℕ) (a : List ℕ) (p : Place) → c ≡ slice_index a 0 → c ≢ 0 → is_break c ≡ false → directive_break start a p ≡ Err (At problem.DirectiveEnd start)
+pub break_fails : (start : Position) (c : ℕ) (a : List ℕ) (p : Position) → c ≡ slice_index a 0 → c ≢ 0 → is_break c ≡ false → directive_break start a p ≡ Err (At problem.DirectiveEnd start)
 unfolding directive_break
 break_fails start c [] p e some h = absurd (some e)
 break_fails start c (d ∷ a) p e some h = let g : is_break d ≡ false = rw e at h in rw g refl

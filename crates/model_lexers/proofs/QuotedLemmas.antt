@@ -1,7 +1,7 @@
 -- Lemmas about the scan of a quoted scalar.
 use Rattle.std.proofs.Common.{◌≡◌, ◌≢◌, ℕ, zero, suc, ◌+◌, ◌*◌, List, [], ◌∷◌, Bool, true, false, ◌||◌, ◌&&◌, not, ◌==◌, refl, slice_index, ap, sym, ◌∙◌, Ok, Err}
 use Rattle.std.specs.Char.{digit_value}
-use Rattle.defs_text.specs.Position.{Place}
+use Rattle.defs_text.specs.Position.{Position}
 use Rattle.yaml_chars.specs.Class.{is_break, is_blank, is_hex}
 use Rattle.yaml_tokens.specs.declared.problem.Fault.{Fault}
 use Rattle.yaml_tokens.specs.declared.problem.Fault.TheVariants.{At}
@@ -11,50 +11,50 @@ use Rattle.model_lexers.specs.Machine.{past}
 use Rattle.model_lexers.specs.Folding.{Folded, nothing, with_char, joined}
 use Rattle.model_lexers.specs.Quoted.{quoted, quoted_from, digits_from, quote_of, Escape, escape_of, is_scalar, refused, first, inside, gap, behind, named, digits, closed}
 
-module _ (single : Bool) (ctx : Context) (start : Place) where
+module _ (single : Bool) (ctx : Context) (start : Position) where
   -- a blank or a break of a line begins a gap
-  pub inside_gap : (c : ℕ) (a : List ℕ) (p : Place) (t : Folded) → c ≡ slice_index a 0 → (is_break c || is_blank c) ≡ true
+  pub inside_gap : (c : ℕ) (a : List ℕ) (p : Position) (t : Folded) → c ≡ slice_index a 0 → (is_break c || is_blank c) ≡ true
       → quoted_from single ctx start a (record { mode = inside; place = p; folded = t }) ≡ quoted_from single ctx start a (record { mode = gap; place = p; folded = t })
   inside_gap c [] p t e h = refl
   inside_gap c (d ∷ a) p t e h = let g : (is_break d || is_blank d) ≡ true = rw e at h in rw g refl
 
   -- a line begins behind a gap
-  pub gap_line : (c : ℕ) (a : List ℕ) (p : Place) (t : Folded) → c ≡ slice_index a 0 → (is_break c || is_blank c) ≡ false
+  pub gap_line : (c : ℕ) (a : List ℕ) (p : Position) (t : Folded) → c ≡ slice_index a 0 → (is_break c || is_blank c) ≡ false
       → quoted_from single ctx start a (record { mode = gap; place = p; folded = t }) ≡ quoted_from single ctx start a (record { mode = first; place = p; folded = t })
   gap_line c [] p t e h = refl
   gap_line c (d ∷ a) p t e h = let g : (is_break d || is_blank d) ≡ false = rw e at h in rw g refl
 
   -- a line that may stand here goes on
-  pub line_inside : (a : List ℕ) (p : Place) (t : Folded) → refused ctx start a p ≡ Ok tt
+  pub line_inside : (a : List ℕ) (p : Position) (t : Folded) → refused ctx start a p ≡ Ok tt
       → quoted_from single ctx start a (record { mode = first; place = p; folded = t }) ≡ quoted_from single ctx start a (record { mode = inside; place = p; folded = joined t })
   line_inside [] p t h = refl
   line_inside (d ∷ a) p t h = rw h refl
 
-  pub line_fails : (c : ℕ) (a : List ℕ) (p : Place) (t : Folded) (f : Fault) → c ≡ slice_index a 0 → c ≢ 0 → refused ctx start a p ≡ Err f
+  pub line_fails : (c : ℕ) (a : List ℕ) (p : Position) (t : Folded) (f : Fault) → c ≡ slice_index a 0 → c ≢ 0 → refused ctx start a p ≡ Err f
       → quoted_from single ctx start a (record { mode = first; place = p; folded = t }) ≡ Err f
   line_fails c [] p t f e some h = absurd (some e)
   line_fails c (d ∷ a) p t f e some h = rw h refl
 
   -- behind an escaped break the closing quote may stand anywhere, and else a gap goes on
-  pub behind_gap : (c : ℕ) (a : List ℕ) (p : Place) (t : Folded) → c ≡ slice_index a 0 → (c == quote_of single) ≡ false
+  pub behind_gap : (c : ℕ) (a : List ℕ) (p : Position) (t : Folded) → c ≡ slice_index a 0 → (c == quote_of single) ≡ false
       → quoted_from single ctx start a (record { mode = behind; place = p; folded = t }) ≡ quoted_from single ctx start a (record { mode = gap; place = p; folded = t })
   behind_gap c [] p t e h = refl
   behind_gap c (d ∷ a) p t e h = let g : (d == quote_of single) ≡ false = rw e at h in rw g refl
 
-  pub named_char : (c d : ℕ) (a b : List ℕ) (p : Place) (t : Folded) → escape_of c ≡ Escape.char d → a ≡ c ∷ b
+  pub named_char : (c d : ℕ) (a b : List ℕ) (p : Position) (t : Folded) → escape_of c ≡ Escape.char d → a ≡ c ∷ b
       → quoted_from single ctx start a (record { mode = named; place = p; folded = t }) ≡ quoted_from single ctx start b (record { mode = inside; place = past p; folded = with_char d t })
   named_char c d a b p t h e = rw (e, h) refl
 
-  pub named_code : (c more : ℕ) (a b : List ℕ) (p : Place) (t : Folded) → escape_of c ≡ Escape.code more → a ≡ c ∷ b
+  pub named_code : (c more : ℕ) (a b : List ℕ) (p : Position) (t : Folded) → escape_of c ≡ Escape.code more → a ≡ c ∷ b
       → quoted_from single ctx start a (record { mode = named; place = p; folded = t }) ≡ digits_from single ctx start (suc more) 0 b (past p) t
   named_code c more a b p t h e = rw (e, h) refl
 
-  pub named_unknown : (c : ℕ) (a : List ℕ) (p : Place) (t : Folded) → escape_of c ≡ Escape.unknown → c ≡ slice_index a 0
+  pub named_unknown : (c : ℕ) (a : List ℕ) (p : Position) (t : Folded) → escape_of c ≡ Escape.unknown → c ≡ slice_index a 0
       → quoted_from single ctx start a (record { mode = named; place = p; folded = t }) ≡ Err (At problem.UnknownEscape start)
   named_unknown c [] p t h e = refl
   named_unknown c (d ∷ a) p t h e = let g : escape_of d ≡ Escape.unknown = rw e at h in rw g refl
 
-  pub digit_turn : (more value c : ℕ) (a b : List ℕ) (p : Place) (t : Folded) → is_hex c ≡ true → a ≡ c ∷ b
+  pub digit_turn : (more value c : ℕ) (a b : List ℕ) (p : Position) (t : Folded) → is_hex c ≡ true → a ≡ c ∷ b
       → digits_from single ctx start (suc more) value a p t ≡ digits_from single ctx start more (value * 16 + digit_value c) b (past p) t
   digit_turn zero value c a b p t h e = ap (λ x. digits_from single ctx start (suc zero) value x p t) e ∙ last (is_scalar (value * 16 + digit_value c)) refl
     where
@@ -64,21 +64,21 @@ module _ (single : Bool) (ctx : Context) (start : Place) where
       last false ok = rw (h, ok) refl
   digit_turn (suc more) value c a b p t h e = rw (e, h) refl
 
-  pub digit_fails : (more value c : ℕ) (a : List ℕ) (p : Place) (t : Folded) → is_hex c ≡ false → c ≡ slice_index a 0
+  pub digit_fails : (more value c : ℕ) (a : List ℕ) (p : Position) (t : Folded) → is_hex c ≡ false → c ≡ slice_index a 0
       → digits_from single ctx start (suc more) value a p t ≡ Err (At problem.HexadecimalDigit start)
   digit_fails more value c [] p t h e = refl
   digit_fails more value c (d ∷ a) p t h e = let g : is_hex d ≡ false = rw e at h in rw g refl
 
-  pub coded : (value : ℕ) (a : List ℕ) (p : Place) (t : Folded) → is_scalar value ≡ true
+  pub coded : (value : ℕ) (a : List ℕ) (p : Position) (t : Folded) → is_scalar value ≡ true
       → digits_from single ctx start zero value a p t ≡ quoted_from single ctx start a (record { mode = inside; place = p; folded = with_char value t })
   coded value a p t h = rw h refl
 
-  pub coded_fails : (value : ℕ) (a : List ℕ) (p : Place) (t : Folded) → is_scalar value ≡ false
+  pub coded_fails : (value : ℕ) (a : List ℕ) (p : Position) (t : Folded) → is_scalar value ≡ false
       → digits_from single ctx start zero value a p t ≡ Err (At problem.EscapedCode start)
   coded_fails value a p t h = rw h refl
 
 -- behind the closing quote the scan is over
-pub closed_end : (single : Bool) (ctx : Context) (start : Place) (a : List ℕ) (p : Place) (t : Folded)
+pub closed_end : (single : Bool) (ctx : Context) (start : Position) (a : List ℕ) (p : Position) (t : Folded)
     → quoted_from single ctx start a (record { mode = closed; place = p; folded = t }) ≡ Ok (record { rest = a; place = p; value = t.text })
 closed_end single ctx start [] p t = refl
 closed_end single ctx start (c ∷ a) p t = refl
@@ -96,16 +96,16 @@ quote_self : (single : Bool) → (quote_of single == quote_of single) ≡ true
 quote_self true = refl
 quote_self false = refl
 
-behind_quote_at : (single : Bool) (ctx : Context) (start : Place) (d : ℕ) (a : List ℕ) (p : Place) (t : Folded) → d ≡ quote_of single
+behind_quote_at : (single : Bool) (ctx : Context) (start : Position) (d : ℕ) (a : List ℕ) (p : Position) (t : Folded) → d ≡ quote_of single
     → quoted_from single ctx start (d ∷ a) (record { mode = behind; place = p; folded = t }) ≡ quoted_from single ctx start (d ∷ a) (record { mode = inside; place = p; folded = t })
 behind_quote_at single ctx start d a p t h = rw (h, quote_no_blank single, quote_no_backslash single, quote_self single) refl
 
-pub behind_quote : (single : Bool) (ctx : Context) (start : Place) (c : ℕ) (a : List ℕ) (p : Place) (t : Folded) → c ≡ slice_index a 0 → c ≡ quote_of single
+pub behind_quote : (single : Bool) (ctx : Context) (start : Position) (c : ℕ) (a : List ℕ) (p : Position) (t : Folded) → c ≡ slice_index a 0 → c ≡ quote_of single
     → quoted_from single ctx start a (record { mode = behind; place = p; folded = t }) ≡ quoted_from single ctx start a (record { mode = inside; place = p; folded = t })
 behind_quote single ctx start c [] p t e h = refl
 behind_quote single ctx start c (d ∷ a) p t e h = behind_quote_at single ctx start d a p t (sym e ∙ h)
 
-pub quoted_starts : (single : Bool) (ctx : Context) (a b : List ℕ) (p : Place) → a ≡ slice_index a 0 ∷ b
+pub quoted_starts : (single : Bool) (ctx : Context) (a b : List ℕ) (p : Position) → a ≡ slice_index a 0 ∷ b
     → quoted single ctx a p ≡ quoted_from single ctx p b (record { mode = first; place = past p; folded = nothing })
 unfolding quoted
 quoted_starts single ctx a b p e = rw e refl

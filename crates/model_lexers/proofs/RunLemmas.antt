@@ -1,6 +1,6 @@
 -- A run of ordinary characters of one line belongs to a scalar's text as it stands.
 use Rattle.std.proofs.Common.{◌≡◌, ℕ, List, [], ◌∷◌, ◌++◌, ◌∙◌, ap, Bool, true, false, ◌||◌, ◌&&◌, not, ◌==◌, refl, slice_index}
-use Rattle.defs_text.specs.Position.{Place}
+use Rattle.defs_text.specs.Position.{Position}
 use Rattle.yaml_chars.specs.Class.{is_break, is_blank, is_breakz, is_flow}
 use Rattle.yaml_chars.specs.Run.{Ran, stops, ran}
 use Rattle.yaml_chars.specs.declared.run.Run.{Run}
@@ -27,14 +27,14 @@ no_gap : (c : ℕ) → (is_blank c || is_breakz c) ≡ false → (is_break c || 
 no_gap c h = let b = first_of (is_blank c) _ h in let d = no_break c (second_of (is_blank c) _ h) in rw (d, b) refl
 
 -- of a line of a block scalar
-pub block_run : (literal : Bool) (column c : ℕ) (a : List ℕ) (p : Place) (t : block.Lines) → stops kind.Line c ≡ false
+pub block_run : (literal : Bool) (column c : ℕ) (a : List ℕ) (p : Position) (t : block.Lines) → stops kind.Line c ≡ false
     → block.lines_from literal column (c ∷ a) (record { mode = block.line; place = p; lines = t })
     ≡ block.lines_from literal column a (record { mode = block.line; place = past p; lines = block.with_char c t })
 unfolding stops
 block_run literal column c a p t h = let b = no_break c h in rw b refl
 
 -- of a quoted scalar
-pub quoted_run : (single : Bool) (ctx : Context) (start : Place) (c : ℕ) (a : List ℕ) (p : Place) (t : folding.Folded) → stops (kind.Quoted (quoted.quote_of single)) c ≡ false
+pub quoted_run : (single : Bool) (ctx : Context) (start : Position) (c : ℕ) (a : List ℕ) (p : Position) (t : folding.Folded) → stops (kind.Quoted (quoted.quote_of single)) c ≡ false
     → quoted.quoted_from single ctx start (c ∷ a) (record { mode = quoted.inside; place = p; folded = t })
     ≡ quoted.quoted_from single ctx start a (record { mode = quoted.inside; place = past p; folded = folding.with_char c t })
 unfolding stops
@@ -50,7 +50,7 @@ unfolding plain.can_be_plain
 plain_char flow c d colon indicator = rw (colon, indicator) refl
 
 -- of a plain scalar
-pub plain_run : (ctx : Context) (start : Place) (c : ℕ) (a : List ℕ) (p : Place) (t : folding.Folded) → stops (kind.Plain ctx.flow) c ≡ false
+pub plain_run : (ctx : Context) (start : Position) (c : ℕ) (a : List ℕ) (p : Position) (t : folding.Folded) → stops (kind.Plain ctx.flow) c ≡ false
     → plain.plain_from ctx start (c ∷ a) (record { mode = plain.inside; place = p; folded = t })
     ≡ plain.plain_from ctx start a (record { mode = plain.inside; place = past p; folded = folding.with_char c t })
 unfolding stops
@@ -61,9 +61,9 @@ plain_run ctx start c a p t h =
     rw (gap, goes) refl
 
 -- what takes a run's characters one by one takes the whole run
-pub through_run : {A : Type 0} (run : Run) (f : List ℕ → Place → List ℕ → A)
-    → ((c : ℕ) (a : List ℕ) (p : Place) (t : List ℕ) → stops run c ≡ false → f (c ∷ a) p t ≡ f a (past p) (t ++ c ∷ []))
-    → (a b : List ℕ) (p q : Place) (t u : List ℕ) → ran run a p t ≡ record { rest = b; place = q; text = u } → f a p t ≡ f b q u
+pub through_run : {A : Type 0} (run : Run) (f : List ℕ → Position → List ℕ → A)
+    → ((c : ℕ) (a : List ℕ) (p : Position) (t : List ℕ) → stops run c ≡ false → f (c ∷ a) p t ≡ f a (past p) (t ++ c ∷ []))
+    → (a b : List ℕ) (p q : Position) (t u : List ℕ) → ran run a p t ≡ record { rest = b; place = q; text = u } → f a p t ≡ f b q u
 through_run run f step [] b p q t u h = ap (λ (r : Ran). f r.rest r.place r.text) h
 through_run run f step (c ∷ a) b p q t u h = turn (stops run c) refl (through_run run f step a b (past p) q (t ++ c ∷ []) u)
   where
@@ -71,7 +71,7 @@ through_run run f step (c ∷ a) b p q t u h = turn (stops run c) refl (through_
     turn true e more = let here : record { rest = c ∷ a; place = p; text = t } ≡ record { rest = b; place = q; text = u } = rw e at h in ap (λ (r : Ran). f r.rest r.place r.text) here
     turn false e more = step c a p t e ∙ more (rw e at h)
 
-pub block_ran : (literal : Bool) (column : ℕ) (a b : List ℕ) (p q : Place) (l : block.Lines) (u : List ℕ) → ran kind.Line a p l.text ≡ record { rest = b; place = q; text = u }
+pub block_ran : (literal : Bool) (column : ℕ) (a b : List ℕ) (p q : Position) (l : block.Lines) (u : List ℕ) → ran kind.Line a p l.text ≡ record { rest = b; place = q; text = u }
     → block.lines_from literal column a (record { mode = block.line; place = p; lines = l })
     ≡ block.lines_from literal column b (record { mode = block.line; place = q; lines = record l { text = u } })
 block_ran literal column a b p q l u h =

@@ -1,6 +1,6 @@
 -- Block scalars (YAML 1.2, section 8.1): the exact model.
 use Rattle.std.specs.Prelude.{ℕ, zero, suc, ◌+◌, ◌-◌, max, Bool, true, false, List, [], ◌∷◌, ◌++◌, ◌==◌, ◌&&◌, not, nat_lt, nat_le, if◌then◌else◌, slice_index, Option, Some, None, Result, Ok, Err}
-use Rattle.defs_text.specs.Position.{Place}
+use Rattle.defs_text.specs.Position.{Position}
 use Rattle.yaml_chars.specs.Class.{is_break, is_blank, is_digit}
 use Rattle.defs_text.specs.Text.{is_nil}
 use Rattle.yaml_tokens.specs.declared.problem.Fault.{Fault}
@@ -10,7 +10,7 @@ use Rattle.yaml_tokens.specs.declared.token.Chomping.{Chomping}
 use Rattle.yaml_tokens.specs.declared.token.Chomping.TheVariants.{Strip, Clip, Keep}
 use Rattle.model_lexers.specs.declared.context.SkipTabs.TheVariants.{Yes}
 use Rattle.model_lexers.specs.declared.context.Whitespace.{Whitespace}
-use Rattle.model_lexers.specs.Machine.{Turn, stop, on, Stop, run, walk, Read, after, past, past_break, is_cr_lf, at_marker}
+use Rattle.model_lexers.specs.Machine.{Turn, stop, on, Stop, run, walk, Read, and_then, past, past_break, is_cr_lf, at_marker}
 use Rattle.model_lexers.specs.Space.{space, linebreak}
 
 -- the chomping and the indentation indicator, which is 0 where there is none
@@ -24,12 +24,12 @@ pub record Header : Type 0 where
   pub broken : Bool
 
 -- a chomping indicator, if one stands here
-unfoldable pub chomping : List ℕ → Place → Read Chomping
+unfoldable pub chomping : List ℕ → Position → Read Chomping
 chomping [] p = record { rest = []; place = p; value = Clip }
 chomping (c ∷ a) p = (if c == 43 then record { rest = a; place = past p; value = Keep } else (if c == 45 then record { rest = a; place = past p; value = Strip } else record { rest = c ∷ a; place = p; value = Clip }))
 
 -- an indentation indicator, if one stands here
-unfoldable pub increment : Place → List ℕ → Place → Result (Read ℕ) Fault
+unfoldable pub increment : Position → List ℕ → Position → Result (Read ℕ) Fault
 increment start [] p = Ok (record { rest = []; place = p; value = 0 })
 increment start (c ∷ a) p = (if is_digit c then (if c == 48 then Err (At problem.BlockScalarZero start) else Ok (record { rest = a; place = past p; value = c - 48 })) else Ok (record { rest = c ∷ a; place = p; value = 0 }))
 
@@ -42,30 +42,30 @@ late_chomping Clip n = with_chomping n.value (chomping n.rest n.place)
 late_chomping Strip n = record { rest = n.rest; place = n.place; value = record { chomping = Strip; increment = n.value } }
 late_chomping Keep n = record { rest = n.rest; place = n.place; value = record { chomping = Keep; increment = n.value } }
 
-abbrev pub behind_chomping : Place → Read Chomping → Result (Read Indicators) Fault
-behind_chomping start r = after (increment start r.rest r.place) (λ n. Ok (late_chomping r.value n))
+abbrev pub behind_chomping : Position → Read Chomping → Result (Read Indicators) Fault
+behind_chomping start r = and_then (increment start r.rest r.place) (λ n. Ok (late_chomping r.value n))
 
-unfoldable pub indicators : Place → List ℕ → Place → Result (Read Indicators) Fault
+unfoldable pub indicators : Position → List ℕ → Position → Result (Read Indicators) Fault
 indicators start a p = behind_chomping start (chomping a p)
 
-abbrev pub no_tab : Place → Read (Unit {0}) → Result (Read Bool) Fault
+abbrev pub no_tab : Position → Read (Unit {0}) → Result (Read Bool) Fault
 no_tab start r = (if slice_index r.rest 0 == 9 then Err (At problem.BlockScalarTab start) else Ok (record { rest = r.rest; place = r.place; value = true }))
 
 -- the break after a header, or the end
-unfoldable pub header_break : Place → List ℕ → Place → Result (Read Bool) Fault
+unfoldable pub header_break : Position → List ℕ → Position → Result (Read Bool) Fault
 header_break start [] p = Ok (record { rest = []; place = p; value = false })
 header_break start (c ∷ a) p = (if is_break c then no_tab start (linebreak (c ∷ a) p) else Err (At problem.BlockScalarHeader start))
 
 -- the rest of a header's line
-unfoldable pub header_end : Place → List ℕ → Place → Result (Read Bool) Fault
-header_end start a p = after (space Yes a p) (λ (w : Read Whitespace). header_break start w.rest w.place)
+unfoldable pub header_end : Position → List ℕ → Position → Result (Read Bool) Fault
+header_end start a p = and_then (space Yes a p) (λ (w : Read Whitespace). header_break start w.rest w.place)
 
 abbrev pub with_indicators : Indicators → Read Bool → Read Header
 with_indicators i r = record { rest = r.rest; place = r.place; value = record { indicators = i; broken = r.value } }
 
 -- the header after the `|` or `>`
-unfoldable pub header : Place → List ℕ → Place → Result (Read Header) Fault
-header start a p = after (indicators start a p) (λ (i : Read Indicators). after (header_end start i.rest i.place) (λ r. Ok (with_indicators i.value r)))
+unfoldable pub header : Position → List ℕ → Position → Result (Read Header) Fault
+header start a p = and_then (indicators start a p) (λ (i : Read Indicators). and_then (header_end start i.rest i.place) (λ r. Ok (with_indicators i.value r)))
 
 -- where content stands, and the breaks of the empty lines before it
 pub record Column : Type 0 where
@@ -76,7 +76,7 @@ pub record Column : Type 0 where
 pub record First : Type 0 where
   pub most : ℕ
   pub spaces : ℕ
-  pub place : Place
+  pub place : Position
   pub breaks : List ℕ
 
 -- a space or a break before the first line that is not empty
@@ -94,7 +94,7 @@ first_indent a s = first_column (walk first_step a s)
 
 -- the place in front of a content line, and the breaks of the empty lines
 pub record Margin : Type 0 where
-  pub place : Place
+  pub place : Position
   pub breaks : List ℕ
 
 -- a space before a column, or a break
@@ -114,7 +114,7 @@ abbrev pub at_least : ℕ → Read Column → Read Column
 at_least indent r = record { rest = r.rest; place = r.place; value = record { column = max r.value.column indent; breaks = r.value.breaks } }
 
 -- the first line that is not empty, and the column where content stands: at least one more than that of the innermost block collection
-unfoldable pub content : (indent increment : ℕ) → List ℕ → Place → Read Column
+unfoldable pub content : (indent increment : ℕ) → List ℕ → Position → Read Column
 content indent zero a p = at_least indent (first_indent a (record { most = 0; spaces = 0; place = p; breaks = [] }))
 content indent (suc n) a p = indent_from ((indent - 1) + suc n) a (record { place = p; breaks = [] })
 
@@ -132,7 +132,7 @@ pub data Mode : Type 0 where
 
 pub record State : Type 0 where
   pub mode : Mode
-  pub place : Place
+  pub place : Position
   pub lines : Lines
 
 abbrev pub lf_if : Bool → List ℕ
@@ -196,23 +196,23 @@ empty_text Keep broken t = (if broken then (if is_nil t then 10 ∷ [] else t) e
 
 -- a block scalar: its token's place and its text
 pub record Block : Type 0 where
-  pub place : Place
+  pub place : Position
   pub text : List ℕ
 
-abbrev pub chomped : Chomping → ℕ → Place → Read Lines → Read Block
+abbrev pub chomped : Chomping → ℕ → Position → Read Lines → Read Block
 chomped c column start r = record { rest = r.rest; place = r.place; value = record { place = start; text = r.value.text ++ tail c (is_open column r.rest r.place.col) r.value } }
 
 abbrev pub body : Bool → ℕ → Chomping → Read Column → Result (Read Block) Fault
 body literal indent c r =
     (if nat_lt r.place.col r.value.column && nat_le indent r.place.col then Err (At problem.BlockScalarIndentation r.place) else
-    after (lines_from literal r.value.column r.rest (record { mode = margin; place = r.place; lines = record { text = []; breaks = r.value.breaks; broken = false; blank = false } }))
+    and_then (lines_from literal r.value.column r.rest (record { mode = margin; place = r.place; lines = record { text = []; breaks = r.value.breaks; broken = false; blank = false } }))
     (λ l. Ok (chomped c r.value.column r.place l)))
 
-abbrev pub behind_header : Bool → ℕ → Place → Header → Read Column → Result (Read Block) Fault
+abbrev pub behind_header : Bool → ℕ → Position → Header → Read Column → Result (Read Block) Fault
 behind_header literal indent start h r =
     (if is_nil r.rest then Ok (record { rest = r.rest; place = r.place; value = record { place = start; text = empty_text h.indicators.chomping h.broken r.value.breaks } }) else body literal indent h.indicators.chomping r)
 
 -- the whole scan, from the `|` or `>` on
-unfoldable pub block : Bool → ℕ → List ℕ → Place → Result (Read Block) Fault
+unfoldable pub block : Bool → ℕ → List ℕ → Position → Result (Read Block) Fault
 block literal indent [] p = Err (At problem.BlockScalarHeader p)
-block literal indent (c ∷ a) p = after (header p a (past p)) (λ (h : Read Header). behind_header literal indent p h.value (content indent h.value.indicators.increment h.rest h.place))
+block literal indent (c ∷ a) p = and_then (header p a (past p)) (λ (h : Read Header). behind_header literal indent p h.value (content indent h.value.indicators.increment h.rest h.place))

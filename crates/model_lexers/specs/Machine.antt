@@ -1,6 +1,6 @@
 -- Machines that read a text character by character, and what lexing functions leave. A turn sees the text after its character too.
 use Rattle.std.specs.Prelude.{ℕ, ◌+◌, List, [], ◌∷◌, ◌==◌, ◌&&◌, ◌||◌, ◌++◌, Bool, true, not, if◌then◌else◌, Option, Some, None, Result, Ok, Err, slice_index}
-use Rattle.defs_text.specs.Position.{Place}
+use Rattle.defs_text.specs.Position.{Position}
 use Rattle.yaml_chars.specs.Class.{is_blank_or_breakz}
 
 -- what a turn does: it stops before its character, fails, or goes on after it
@@ -37,24 +37,24 @@ walk step (c ∷ a) s = went (step s c a) (c ∷ a) s (λ t. walk step a t)
 -- what a lexing function leaves: the text from there on, where it stands, and what was read
 pub record Read (A : Type 0) : Type 0 where
   pub rest : List ℕ
-  pub place : Place
+  pub place : Position
   pub value : A
 
 -- the place after a character of a line
-abbrev pub past : Place → Place
+abbrev pub past : Position → Position
 past p = record { index = p.index + 1; line = p.line; col = p.col + 1 }
 
 -- the place after a line break's last character
-abbrev pub past_break : Place → Place
+abbrev pub past_break : Position → Position
 past_break p = record { index = p.index + 1; line = p.line + 1; col = 0 }
 
 -- after the characters of a kind
-abbrev pub skip_while : (ℕ → Bool) → List ℕ → Place → Read (Unit {0})
+abbrev pub skip_while : (ℕ → Bool) → List ℕ → Position → Read (Unit {0})
 skip_while test [] p = record { rest = []; place = p; value = tt }
 skip_while test (c ∷ a) p = (if test c then skip_while test a (past p) else record { rest = c ∷ a; place = p; value = tt })
 
 -- the characters of a kind, after a text
-abbrev pub take_while : (ℕ → Bool) → List ℕ → Place → List ℕ → Read (List ℕ)
+abbrev pub take_while : (ℕ → Bool) → List ℕ → Position → List ℕ → Read (List ℕ)
 take_while test [] p t = record { rest = []; place = p; value = t }
 take_while test (c ∷ a) p t = (if test c then take_while test a (past p) (t ++ c ∷ []) else record { rest = c ∷ a; place = p; value = t })
 
@@ -64,9 +64,9 @@ ends_while test [] = true
 ends_while test (c ∷ a) = not (test c)
 
 -- one lexing function after another
-abbrev pub after : {A B F : Type 0} → Result A F → (A → Result B F) → Result B F
-after (Ok x) go = go x
-after (Err f) go = Err f
+abbrev pub and_then : {A B F : Type 0} → Result A F → (A → Result B F) → Result B F
+and_then (Ok x) go = go x
+and_then (Err f) go = Err f
 
 -- whether a CR stands here that a LF follows: both are one break
 abbrev pub is_cr_lf : ℕ → List ℕ → Bool

@@ -1,12 +1,12 @@
 -- Plain scalars (YAML 1.2, section 7.3.3): the exact model of their scan.
 use Rattle.std.specs.Prelude.{ℕ, Bool, true, false, List, [], ◌∷◌, ◌==◌, ◌||◌, ◌&&◌, not, nat_lt, if◌then◌else◌, slice_index, Result, Ok, Err}
-use Rattle.defs_text.specs.Position.{Place}
+use Rattle.defs_text.specs.Position.{Position}
 use Rattle.yaml_chars.specs.Class.{is_break, is_blank, is_blank_or_breakz, is_flow}
 use Rattle.yaml_tokens.specs.declared.problem.Fault.{Fault}
 use Rattle.yaml_tokens.specs.declared.problem.Fault.TheVariants.{At}
 use Rattle.yaml_tokens.specs.declared.problem.Problem.TheVariants as problem
 use Rattle.model_lexers.specs.declared.context.Context.{Context}
-use Rattle.model_lexers.specs.Machine.{Turn, stop, fail, on, Stop, run, Read, after, past, past_break, is_cr_lf, at_marker}
+use Rattle.model_lexers.specs.Machine.{Turn, stop, fail, on, Stop, run, Read, and_then, past, past_break, is_cr_lf, at_marker}
 use Rattle.model_lexers.specs.Folding.{Folded, nothing, with_char, with_blank, with_break, joined}
 
 -- what stands next: a character of the text, one more of its line, a gap of blanks and breaks or what stands after one, or what stands after a TAB at the indentation's place
@@ -18,7 +18,7 @@ pub data Mode : Type 0 where
 
 pub record State : Type 0 where
   pub mode : Mode
-  pub place : Place
+  pub place : Position
   pub folded : Folded
 
 unfoldable pub can_be_plain : Bool → ℕ → ℕ → Bool
@@ -34,7 +34,7 @@ at_gap ctx c a s =
     (if s.folded.leading && (c == 9) && nat_lt s.place.col ctx.indent then record { mode = tabs; place = past s.place; folded = s.folded } else
     record { mode = between; place = past s.place; folded = with_blank c s.folded }))
 
-abbrev pub at_char : ℕ → Place → Folded → State
+abbrev pub at_char : ℕ → Position → Folded → State
 at_char c p t = record { mode = inside; place = past p; folded = with_char c t }
 
 -- whether a later line stands too far left
@@ -50,7 +50,7 @@ unfoldable pub at_plain : Bool → List ℕ → Bool
 at_plain flow a = not (is_blank_or_breakz (slice_index a 0)) && can_be_plain flow (slice_index a 0) (slice_index a 1)
 
 -- whether a scalar goes on at a character after a gap
-unfoldable pub goes_on : Context → List ℕ → Place → Result Bool Fault
+unfoldable pub goes_on : Context → List ℕ → Position → Result Bool Fault
 goes_on ctx a p =
     (if is_shallow ctx p.col then Ok false else
     (if (slice_index a 0 == 35) || at_marker p.col a then Ok false else
@@ -61,7 +61,7 @@ begun (Ok true) c s = on (at_char c s.place (joined s.folded))
 begun (Ok false) c s = stop s
 begun (Err f) c s = fail f
 
-abbrev pub turn_in : Context → Place → Mode → State → ℕ → List ℕ → Turn State Fault
+abbrev pub turn_in : Context → Position → Mode → State → ℕ → List ℕ → Turn State Fault
 turn_in ctx start first s c a = on (at_char c s.place (joined s.folded))
 turn_in ctx start inside s c a = (if is_break c || is_blank c then on (at_gap ctx c a s) else (if can_be_plain ctx.flow c (slice_index a 0) then on (at_char c s.place s.folded) else stop s))
 turn_in ctx start between s c a = (if is_break c || is_blank c then on (at_gap ctx c a s) else begun (goes_on ctx (c ∷ a) s.place) c s)
@@ -70,7 +70,7 @@ turn_in ctx start tabs s c a =
     (if c == 35 then stop s else
     (if is_blank c then on (record { mode = tabs; place = past s.place; folded = s.folded }) else fail (At problem.PlainTab start))))
 
-abbrev pub turn : Context → Place → State → ℕ → List ℕ → Turn State Fault
+abbrev pub turn : Context → Position → State → ℕ → List ℕ → Turn State Fault
 turn ctx start s c a = turn_in ctx start s.mode s c a
 
 -- what a plain scalar is: its text, and whether it ended after a break
@@ -83,18 +83,18 @@ ended (Ok t) = Ok (record { rest = t.rest; place = t.state.place; value = record
 ended (Err f) = Err f
 
 -- the scan from a state on
-abbrev pub plain_from : Context → Place → List ℕ → State → Result (Read Plain) Fault
+abbrev pub plain_from : Context → Position → List ℕ → State → Result (Read Plain) Fault
 plain_from ctx start a s = ended (run (turn ctx start) a s)
 
 -- whether a plain scalar may begin here
-unfoldable pub starts : Context → List ℕ → Place → Result (Unit {0}) Fault
+unfoldable pub starts : Context → List ℕ → Position → Result (Unit {0}) Fault
 starts ctx a p =
     (if ctx.flow && nat_lt p.col ctx.indent then Err (At problem.FlowIndentation p) else
     (if at_dash ctx.flow a then Err (At problem.PlainDashInFlow p) else Ok tt))
 
 -- the whole scan
-unfoldable pub plain : Context → List ℕ → Place → Result (Read Plain) Fault
-plain ctx a p = after (starts ctx a p) (λ _. plain_from ctx p a (record { mode = first; place = p; folded = nothing }))
+unfoldable pub plain : Context → List ℕ → Position → Result (Read Plain) Fault
+plain ctx a p = and_then (starts ctx a p) (λ _. plain_from ctx p a (record { mode = first; place = p; folded = nothing }))
 
 -- whether a run of characters ends here
 abbrev pub ends_run : Context → List ℕ → Bool

@@ -1,7 +1,7 @@
 -- Quoted scalars (YAML 1.2, sections 7.3.1 and 7.3.2): the exact model of their scan.
 use Rattle.std.specs.Prelude.{ℕ, zero, suc, ◌+◌, ◌*◌, Bool, List, [], ◌∷◌, ◌==◌, ◌||◌, ◌&&◌, not, nat_lt, nat_le, if◌then◌else◌, slice_index, Result, Ok, Err}
 use Rattle.std.specs.Char.{digit_value}
-use Rattle.defs_text.specs.Position.{Place}
+use Rattle.defs_text.specs.Position.{Position}
 use Rattle.yaml_chars.specs.Class.{is_break, is_blank, is_hex}
 use Rattle.yaml_tokens.specs.declared.problem.Fault.{Fault}
 use Rattle.yaml_tokens.specs.declared.problem.Fault.TheVariants.{At}
@@ -24,7 +24,7 @@ pub data Mode : Type 0 where
 
 pub record State : Type 0 where
   pub mode : Mode
-  pub place : Place
+  pub place : Position
   pub folded : Folded
 
 abbrev pub quote_of : Bool → ℕ
@@ -89,18 +89,18 @@ at_inside single c a s =
     (if (c == 92) && not single then at_backslash a s else
     (if c == quote_of single then at_quote single a s else at_char c s))
 
-abbrev pub at_named : Place → Escape → State → Turn State Fault
+abbrev pub at_named : Position → Escape → State → Turn State Fault
 at_named start (Escape.char d) s = at_char d s
 at_named start (Escape.code more) s = on (record { mode = digits more 0; place = past s.place; folded = s.folded })
 at_named start Escape.unknown s = fail (At problem.UnknownEscape start)
 
 -- a code's digit: after the last one the code has to be a character's
-abbrev pub at_digit : Place → ℕ → ℕ → State → Turn State Fault
+abbrev pub at_digit : Position → ℕ → ℕ → State → Turn State Fault
 at_digit start zero value s = (if is_scalar value then at_char value s else fail (At problem.EscapedCode start))
 at_digit start (suc more) value s = on (record { mode = digits more value; place = past s.place; folded = s.folded })
 
 -- what may not stand where a line begins or goes on
-unfoldable pub refused : Context → Place → List ℕ → Place → Result (Unit {0}) Fault
+unfoldable pub refused : Context → Position → List ℕ → Position → Result (Unit {0}) Fault
 refused ctx start a p =
     (if at_marker p.col a then Err (At problem.QuotedDocumentMarker start) else
     (if nat_lt (p.col + 1) ctx.indent then Err (At problem.QuotedIndentation start) else Ok tt))
@@ -114,10 +114,10 @@ abbrev pub in_line : Bool → Context → ℕ → List ℕ → State → Turn St
 in_line single ctx c a s = (if is_break c || is_blank c then at_gap ctx c a s else at_inside single c a s)
 
 -- what stands where a line begins or goes on
-abbrev pub at_line : Bool → Context → Place → ℕ → List ℕ → State → Turn State Fault
+abbrev pub at_line : Bool → Context → Position → ℕ → List ℕ → State → Turn State Fault
 at_line single ctx start c a s = unless (refused ctx start (c ∷ a) s.place) (in_line single ctx c a (record s { folded = joined s.folded }))
 
-abbrev pub turn_in : Bool → Context → Place → Mode → State → ℕ → List ℕ → Turn State Fault
+abbrev pub turn_in : Bool → Context → Position → Mode → State → ℕ → List ℕ → Turn State Fault
 turn_in single ctx start first s c a = at_line single ctx start c a s
 turn_in single ctx start inside s c a = in_line single ctx c a s
 turn_in single ctx start gap s c a = (if is_break c || is_blank c then at_gap ctx c a s else at_line single ctx start c a s)
@@ -130,30 +130,30 @@ turn_in single ctx start named s c a = at_named start (escape_of c) s
 turn_in single ctx start (digits more value) s c a = (if is_hex c then at_digit start more (value * 16 + digit_value c) s else fail (At problem.HexadecimalDigit start))
 turn_in single ctx start closed s c a = stop s
 
-abbrev pub turn : Bool → Context → Place → State → ℕ → List ℕ → Turn State Fault
+abbrev pub turn : Bool → Context → Position → State → ℕ → List ℕ → Turn State Fault
 turn single ctx start s c a = turn_in single ctx start s.mode s c a
 
 -- where the text ends inside a scalar
-abbrev pub end_in : Place → Mode → List ℕ → Place → List ℕ → Result (Read (List ℕ)) Fault
+abbrev pub end_in : Position → Mode → List ℕ → Position → List ℕ → Result (Read (List ℕ)) Fault
 end_in start closed rest place text = Ok (record { rest = rest; place = place; value = text })
 end_in start named rest place text = Err (At problem.UnknownEscape start)
 end_in start (digits more value) rest place text = Err (At problem.HexadecimalDigit start)
 end_in start _ rest place text = Err (At problem.QuotedEnd start)
 
-abbrev pub ended : Place → Result (Stop State) Fault → Result (Read (List ℕ)) Fault
+abbrev pub ended : Position → Result (Stop State) Fault → Result (Read (List ℕ)) Fault
 ended start (Ok t) = end_in start t.state.mode t.rest t.state.place t.state.folded.text
 ended start (Err f) = Err f
 
 -- the scan from a state on
-abbrev pub quoted_from : Bool → Context → Place → List ℕ → State → Result (Read (List ℕ)) Fault
+abbrev pub quoted_from : Bool → Context → Position → List ℕ → State → Result (Read (List ℕ)) Fault
 quoted_from single ctx start a s = ended start (run (turn single ctx start) a s)
 
 -- the scan where so many digits of a code are left, and those before have a value
-abbrev pub digits_from : Bool → Context → Place → (left value : ℕ) → List ℕ → Place → Folded → Result (Read (List ℕ)) Fault
+abbrev pub digits_from : Bool → Context → Position → (left value : ℕ) → List ℕ → Position → Folded → Result (Read (List ℕ)) Fault
 digits_from single ctx start zero value a p t = (if is_scalar value then quoted_from single ctx start a (record { mode = inside; place = p; folded = with_char value t }) else Err (At problem.EscapedCode start))
 digits_from single ctx start (suc more) value a p t = quoted_from single ctx start a (record { mode = digits more value; place = p; folded = t })
 
 -- the scan from the opening quote on
-unfoldable pub quoted : Bool → Context → List ℕ → Place → Result (Read (List ℕ)) Fault
+unfoldable pub quoted : Bool → Context → List ℕ → Position → Result (Read (List ℕ)) Fault
 quoted single ctx [] p = Err (At problem.QuotedEnd p)
 quoted single ctx (c ∷ a) p = quoted_from single ctx p a (record { mode = first; place = past p; folded = nothing })

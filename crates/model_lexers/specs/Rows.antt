@@ -1,6 +1,6 @@
 -- Rows that the models compute.
 use Rattle.std.specs.Prelude.{[], ◌∷◌, true, false, Ok, Err, ◌≡◌, refl, codes}
-use Rattle.defs_text.specs.Position.{Place}
+use Rattle.defs_text.specs.Position.{Position}
 use Rattle.yaml_chars.specs.Class.{is_break, is_blank, is_flow, is_hex, is_digit, is_anchor, is_alpha, is_alphanumeric, is_uri, is_uri_mark, is_tag}
 use Rattle.yaml_tokens.specs.declared.problem.Fault.TheVariants.{At}
 use Rattle.yaml_tokens.specs.declared.problem.Problem.TheVariants as problem
@@ -14,7 +14,7 @@ use Rattle.model_lexers.specs.Tag.{tag, named, shorthand, ends_tag, handle, pref
 use Rattle.model_lexers.specs.Directive.{directive, kind, name, number, version_value, tag_value, directive_break, line_end}
 use Rattle.model_lexers.specs.Quoted.{quoted, escape_of, is_scalar, refused}
 
-abbrev start : Place
+abbrev start : Position
 start = record { index = 0; line = 1; col = 0 }
 
 -- a lone break is a space, and of two one stays

@@ -1,6 +1,6 @@
 -- Spaces, comments and line breaks before a token (YAML 1.2, sections 6.1 and 6.6): the exact model.
 use Rattle.std.specs.Prelude.{ℕ, Bool, true, false, List, [], ◌∷◌, ◌==◌, ◌&&◌, ◌||◌, not, if◌then◌else◌, drop, Option, Some, None, Result, Ok, Err}
-use Rattle.defs_text.specs.Position.{Place}
+use Rattle.defs_text.specs.Position.{Position}
 use Rattle.yaml_chars.specs.Class.{is_break, is_blank}
 use Rattle.yaml_tokens.specs.declared.problem.Fault.{Fault}
 use Rattle.yaml_tokens.specs.declared.problem.Fault.TheVariants.{At}
@@ -10,11 +10,11 @@ use Rattle.model_lexers.specs.declared.context.SkipTabs.TheVariants.{Yes, No}
 use Rattle.model_lexers.specs.declared.context.Whitespace.{Whitespace}
 use Rattle.model_lexers.specs.Machine.{Stop, walk, Read, past, past_break, is_cr_lf, skip_while}
 
-abbrev pub linebreak_at : ℕ → List ℕ → Place → Read (Unit {0})
+abbrev pub linebreak_at : ℕ → List ℕ → Position → Read (Unit {0})
 linebreak_at c a p = (if is_cr_lf c a then record { rest = drop 1 a; place = past_break (past p); value = tt } else record { rest = a; place = past_break p; value = tt })
 
 -- after the line break that stands here
-abbrev pub linebreak : List ℕ → Place → Read (Unit {0})
+abbrev pub linebreak : List ℕ → Position → Read (Unit {0})
 linebreak [] p = record { rest = []; place = p; value = tt }
 linebreak (c ∷ a) p = linebreak_at c a p
 
@@ -22,11 +22,11 @@ abbrev pub is_line : ℕ → Bool
 is_line c = not (is_break c)
 
 -- at the end of the line
-abbrev pub comment : List ℕ → Place → Read (Unit {0})
+abbrev pub comment : List ℕ → Position → Read (Unit {0})
 comment a p = skip_while is_line a p
 
 -- after blanks
-abbrev pub blanks : List ℕ → Place → Read (Unit {0})
+abbrev pub blanks : List ℕ → Position → Read (Unit {0})
 blanks a p = skip_while is_blank a p
 
 abbrev pub are_skipped : SkipTabs → Bool
@@ -37,12 +37,12 @@ abbrev pub with_found : Whitespace → Read (Unit {0}) → Read Whitespace
 with_found w r = record { rest = r.rest; place = r.place; value = w }
 
 -- a comment has to stand after a space or a TAB
-abbrev pub comment_behind : Whitespace → List ℕ → Place → Result (Read Whitespace) Fault
+abbrev pub comment_behind : Whitespace → List ℕ → Position → Result (Read Whitespace) Fault
 comment_behind w a p = (if w.found_tabs || w.has_valid_yaml_ws then Ok (with_found w (comment a p)) else Err (At problem.CommentNotSeparated p))
 
 -- where a walk over spaces stands, and what it found
 pub record Spaces : Type 0 where
-  pub place : Place
+  pub place : Position
   pub found : Whitespace
 
 -- a space, or a TAB where these are skipped
@@ -62,5 +62,5 @@ spaces_end t = behind_spaces t.rest t.state
 abbrev pub space_from : SkipTabs → List ℕ → Spaces → Result (Read Whitespace) Fault
 space_from tabs a s = spaces_end (walk (space_step tabs) a s)
 
-unfoldable pub space : SkipTabs → List ℕ → Place → Result (Read Whitespace) Fault
+unfoldable pub space : SkipTabs → List ℕ → Position → Result (Read Whitespace) Fault
 space tabs a p = space_from tabs a (record { place = p; found = record { found_tabs = false; has_valid_yaml_ws = false } })

@@ -10,7 +10,7 @@ use Rattle.model_parser.specs.declared.state.State.{State}
 use Rattle.model_parser.specs.declared.state.State.TheVariants as state
 use Rattle.model_parser.specs.Kinds.{kind_of, begins_content, begins_node, ends_part, ends_document, ends_item, ends_item_key, ends_flow_pair, ends_flow_key, tok_of_kind, has_no_text}
 use Rattle.model_parser.specs.Goal.{NodeAt, ContentAt, part_node, part_sequence, part_content, part_dashes, node_at_tokens, content_at_tokens}
-use Rattle.model_parser.specs.Rest.{Rest, rest_tokens, first_is, BeginsNoNode, EndsPart, Behind}
+use Rattle.model_parser.specs.Rest.{Rest, rest_tokens, first_is, BeginsNoNode, EndsPart, EndsNode}
 use Rattle.model_parser.specs.Stands.{Begins}
 
 pub true_is_not_false : {b : Bool} → b ≡ true → b ≡ false → ⊥
@@ -222,7 +222,7 @@ block_begins_fewer kind.FlowMappingStart h = h
 block_begins_fewer _ h = refl
 
 -- what stands under a node begins none
-pub behind_begins_none : (p : Place) (ss : List State) → Behind p ss → BeginsNoNode p ss
+pub behind_begins_none : (p : Place) (ss : List State) → EndsNode p ss → BeginsNoNode p ss
 behind_begins_none place.Part ss b = ends_part_begins_none place.Part ss b
 behind_begins_none place.Block ss b = b
 behind_begins_none place.Flow ss b = b

@@ -202,12 +202,12 @@ flow_pair_key_goes ss (flow_single n, m) r ts h = absurd (clash_cons (begins_nod
 pub flow_pair_key : (ss : List State) → Takes at.flow_pair ss Tok.key None at.flow_key ss
 flow_pair_key ss = record { nested = λ n f. (n, f); comes = λ x' r'. ((flow_keyed x'.0 x'.1, x'.2), r', refl, refl); goes = λ n f. flow_pair_key_goes ss }
 
-flow_pair_value_goes : (ss : List State) (colon : chars.Place) (x : FlowPair × MoreFlowPairs) → Goes at.flow_pair ss Tok.value (Some nothing_written) at.done (state.FlowMappingPart colon ∷ ss) x
+flow_pair_value_goes : (ss : List State) (colon : chars.Position) (x : FlowPair × MoreFlowPairs) → Goes at.flow_pair ss Tok.value (Some nothing_written) at.done (state.FlowMappingPart colon ∷ ss) x
 flow_pair_value_goes ss colon (flow_keyed k v, m) r ts h = cc
 flow_pair_value_goes ss colon (flow_keyless v, m) r ts h = (tt, ((v, m), r), tail_eq h, refl)
 flow_pair_value_goes ss colon (flow_single n, m) r ts h = absurd (clash_cons (begins_node place.Flow) _ Tok.value ts (flow_node_first n _) refl h)
 
-pub flow_pair_value : (ss : List State) (colon : chars.Place) → Takes at.flow_pair ss Tok.value (Some nothing_written) at.done (state.FlowMappingPart colon ∷ ss)
+pub flow_pair_value : (ss : List State) (colon : chars.Position) → Takes at.flow_pair ss Tok.value (Some nothing_written) at.done (state.FlowMappingPart colon ∷ ss)
 flow_pair_value ss colon = record { nested = λ n f. ((f, n), tt); comes = λ x' r'. ((flow_keyless r'.0.0, r'.0.1), r'.1, refl, refl); goes = λ n f. flow_pair_value_goes ss colon }
 
 flow_pair_node_goes : (ss : List State) (t : Tok) → kind_of t ≢ kind.Key → kind_of t ≢ kind.Value → (x : FlowPair × MoreFlowPairs) → Stays at.flow_pair ss (Some t) None (at.node place.Flow) (state.FlowMappingEmptyValue ∷ ss) x

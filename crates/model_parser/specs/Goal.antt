@@ -25,7 +25,7 @@ pub data Goal : Type 0 where
   -- after a node's anchor, its tag, its properties
   behind_anchor : Place → List ℕ → Goal
   behind_tag : Place → Tag → Goal
-  behind : Place → Option Properties → Goal
+  after_properties : Place → Option Properties → Goal
   entries : Goal
   -- after `-`
   entry : Goal
@@ -154,7 +154,7 @@ Awaits after = After
 Awaits (node p) = NodeAt p
 Awaits (behind_anchor p a) = Option Tag × Option (ContentAt p)
 Awaits (behind_tag p t) = Option (List ℕ) × Option (ContentAt p)
-Awaits (behind p o) = (c : Option (ContentAt p)) × IsThere o c
+Awaits (after_properties p o) = (c : Option (ContentAt p)) × IsThere o c
 Awaits entries = Entries
 Awaits entry = Perhaps × Entries
 Awaits dashes = Dashes
@@ -193,7 +193,7 @@ goal_tokens after x r = after_tokens x r
 goal_tokens (node p) x r = node_at_tokens p x r
 goal_tokens (behind_anchor p a) x r = perhaps_tag_tokens x.0 (perhaps_content_tokens p x.1 r)
 goal_tokens (behind_tag p t) x r = perhaps_anchor_tokens x.0 (perhaps_content_tokens p x.1 r)
-goal_tokens (behind p o) x r = perhaps_content_tokens p x.0 r
+goal_tokens (after_properties p o) x r = perhaps_content_tokens p x.0 r
 goal_tokens entries x r = entries_tokens x r
 goal_tokens entry x r = perhaps_tokens x.0 (entries_tokens x.1 r)
 goal_tokens dashes x r = dashes_tokens x r
@@ -234,7 +234,7 @@ goal_events after x r = after_events x r
 goal_events (node p) x r = node_at_events p x r
 goal_events (behind_anchor p a) x r = perhaps_content_events p (Some (anchor_and a x.0)) x.1 r
 goal_events (behind_tag p t) x r = perhaps_content_events p (Some (tag_and t x.0)) x.1 r
-goal_events (behind p o) x r = perhaps_content_events p o x.0 r
+goal_events (after_properties p o) x r = perhaps_content_events p o x.0 r
 goal_events entries x r = entries_events x r
 goal_events entry x r = perhaps_events x.0 (entries_events x.1 r)
 goal_events dashes x r = dashes_events x r

@@ -71,9 +71,9 @@ abbrev pub EndsPart : List State → Type 0
 EndsPart ss = (r : Rest ss) → first_is ends_part (rest_tokens ss r) ≡ true
 
 -- what stands under a node of that place
-abbrev pub Behind : Place → List State → Type 0
-Behind place.Part ss = EndsPart ss
-Behind p ss = BeginsNoNode p ss
+abbrev pub EndsNode : Place → List State → Type 0
+EndsNode place.Part ss = EndsPart ss
+EndsNode p ss = BeginsNoNode p ss
 
 abbrev pub IsBottom : List State → Type 0
 IsBottom [] = Unit {0}
@@ -92,10 +92,10 @@ IsFor at.explicit ss = IsBottom ss
 IsFor (at.directed ds) ss = IsBottom ss
 IsFor at.content ss = IsBottom ss
 IsFor at.after ss = IsBottom ss
-IsFor (at.node p) ss = Behind p ss × IsUnder ss
-IsFor (at.behind_anchor p a) ss = Behind p ss × IsUnder ss
-IsFor (at.behind_tag p t) ss = Behind p ss × IsUnder ss
-IsFor (at.behind p o) ss = Behind p ss × IsUnder ss
+IsFor (at.node p) ss = EndsNode p ss × IsUnder ss
+IsFor (at.behind_anchor p a) ss = EndsNode p ss × IsUnder ss
+IsFor (at.behind_tag p t) ss = EndsNode p ss × IsUnder ss
+IsFor (at.after_properties p o) ss = EndsNode p ss × IsUnder ss
 IsFor at.dashes ss = EndsPart ss × IsUnder ss
 IsFor at.dashed ss = EndsPart ss × IsUnder ss
 IsFor at.part ss = EndsPart ss × IsUnder ss

@@ -1,10 +1,10 @@
 -- Tokens that are not the stream's end.
 use Rattle.std.proofs.Common.{ℕ, List, [], ◌∷◌, Bool, true, false, ◌==◌, slice_index, Result, Ok, Err, drop}
-use Rattle.defs_text.specs.Position.{Place}
+use Rattle.defs_text.specs.Position.{Position}
 use Rattle.yaml_chars.specs.Class.{is_blank_or_breakz}
 use Rattle.defs_token.specs.Token.{Tok}
 use Rattle.yaml_tokens.specs.declared.problem.Fault.{Fault}
-use Rattle.model_lexers.specs.Machine.{Read, after, past}
+use Rattle.model_lexers.specs.Machine.{Read, and_then, past}
 use Rattle.model_lexers.specs.Space.{blanks}
 use Rattle.model_lexers.specs.Tag.{handle, prefix}
 use Rattle.model_lexers.specs.Directive.{Kind, version, unknown, name, number, with_minor, behind_major, version_value, with_prefix, prefix_behind, tag_value, value, line_end, with_end, behind_value, behind_name, directive}
@@ -25,31 +25,31 @@ anchor_is_no_end false name = tt
 abbrev IsRead : Result (Read Tok) Fault → Type 0
 IsRead r = Holds (λ x. IsNoEnd x.value) r
 
-went_on : {A B : Type 0} {P : Read B → Type 0} (r : Result (Read A) Fault) (k : Read A → Result (Read B) Fault) → ((x : Read A) → Holds P (k x)) → Holds P (after r k)
+went_on : {A B : Type 0} {P : Read B → Type 0} (r : Result (Read A) Fault) (k : Read A → Result (Read B) Fault) → ((x : Read A) → Holds P (k x)) → Holds P (and_then r k)
 went_on (Ok x) k f = f x
 went_on (Err e) k f = refused
 
-version_read : (start : Place) (a : List ℕ) (p : Place) → IsRead (version_value start a p)
+version_read : (start : Position) (a : List ℕ) (p : Position) → IsRead (version_value start a p)
 unfolding version_value
 version_read start a p = let b = blanks a p in went_on (number start b.rest b.place) (λ n. behind_major start n) (λ r. choice (slice_index r.rest 0 == 46) (went_on (number start (drop 1 r.rest) (past r.place)) (λ n. Ok (with_minor r.value n)) (λ n. went tt)) refused)
 
-tag_read : (start : Place) (a : List ℕ) (p : Place) → IsRead (tag_value start a p)
+tag_read : (start : Position) (a : List ℕ) (p : Position) → IsRead (tag_value start a p)
 unfolding tag_value
 tag_read start a p = let b = blanks a p in went_on (handle start b.rest b.place) (λ (h : Read (List ℕ)). prefix_behind start h.value (blanks h.rest h.place)) (λ h.
     let c = blanks h.rest h.place in
     went_on (prefix start c.rest c.place) (λ q. with_prefix start h.value q) (λ q. choice (is_blank_or_breakz (slice_index q.rest 0)) (went tt) refused))
 
-value_read : (start : Place) (k : Kind) (a : List ℕ) (p : Place) → IsRead (value start k a p)
+value_read : (start : Position) (k : Kind) (a : List ℕ) (p : Position) → IsRead (value start k a p)
 value_read start version a p = version_read start a p
 value_read start kind.tag a p = tag_read start a p
 value_read start unknown a p = went tt
 
 -- the rest of the line changes no token
-line_read : (start : Place) (r : Result (Read Tok) Fault) → IsRead r → IsRead (after r (λ v. behind_value start v))
+line_read : (start : Position) (r : Result (Read Tok) Fault) → IsRead r → IsRead (and_then r (λ v. behind_value start v))
 line_read start (Ok v) (went q) = went_on (line_end start v.rest v.place) (λ r. Ok (with_end v r)) (λ r. went q)
 line_read start (Err e) refused = refused
 
-pub directive_is_no_end : (a : List ℕ) (p : Place) → Holds (λ r. IsNoEnd r.value) (directive a p)
+pub directive_is_no_end : (a : List ℕ) (p : Position) → Holds (λ r. IsNoEnd r.value) (directive a p)
 unfolding directive
 directive_is_no_end [] p = refused
 directive_is_no_end (c ∷ a) p = went_on (name a (past p)) (λ n. behind_name p n) (λ n. line_read p (value p n.value n.rest n.place) (value_read p n.value n.rest n.place))

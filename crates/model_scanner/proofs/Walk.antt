@@ -1,7 +1,7 @@
 -- One walk over all functions of the model: a fetch keeps whatever each of its steps keeps.
 use Rattle.std.proofs.Common.{◌≡◌, ℕ, ◌+◌, List, [], ◌∷◌, ◌++◌, Bool, true, false, not, ◌||◌, ◌==◌, nat_lt, if◌then◌else◌, Option, Some, None, Result, Ok, Err, length, map, refl}
 use Rattle.std.specs.List.{insert}
-use Rattle.defs_text.specs.Position.{Place}
+use Rattle.defs_text.specs.Position.{Position}
 use Rattle.defs_token.specs.Token.{Tok, Token}
 use Rattle.yaml_tokens.specs.declared.problem.Fault.{Fault}
 use Rattle.yaml_tokens.specs.declared.problem.Fault.TheVariants.{At}
@@ -123,7 +123,7 @@ popped : (p : ℕ → Type 0) (ks : List (Option Key)) → KeysAre p ks → Keys
 popped p [] h = h
 popped p (x ∷ ks) h = h.1
 
-all_still : (p : ℕ → Type 0) (place : Place) (ks : List (Option Key)) → KeysAre p ks → KeysAre p (map (still place) ks)
+all_still : (p : ℕ → Type 0) (place : Position) (ks : List (Option Key)) → KeysAre p ks → KeysAre p (map (still place) ks)
 all_still p place [] h = tt
 all_still p place (None ∷ ks) h = (tt, all_still p place ks h.1)
 all_still p place (Some k ∷ ks) h = (by (is_far k.place place), all_still p place ks h.1)
@@ -143,7 +143,7 @@ top_is p (k ∷ ks) h = h.0
 rekeyed : {w : Watched} {ts : List Token} {ks ls : List (Option Key)} {b o : Bool} → KeysAre w.number ls → Stood w ts ks b o → Stood w ts ls b o
 rekeyed h s = record { tokens = s.tokens; keys = h; going = s.going }
 
-dropped : (p : ℕ → Type 0) (place : Place) (ks : List (Option Key)) → KeysAre p ks → Holds (KeysAre p) (drop_stale place ks)
+dropped : (p : ℕ → Type 0) (place : Position) (ks : List (Option Key)) → KeysAre p ks → Holds (KeysAre p) (drop_stale place ks)
 unfolding drop_stale
 dropped p place ks h = passes _ _ (went (all_still p place ks h))
 
@@ -173,10 +173,10 @@ module _ (w : Watched) (kept : IsKept w) where
   inserted ts ks b o n t q l s = record { tokens = kept.inserted ts b n t q l s.tokens; keys = s.keys; going = s.going }
 
   -- a token more
-  more : (p : Place) (t : Tok) (h : Held) → IsNoEnd t → Stands w h → Stands w (push p t h)
+  more : (p : Position) (t : Tok) (h : Held) → IsNoEnd t → Stands w h → Stands w (push p t h)
   more p t h q s = record { stood = pushed _ _ _ _ _ q s.stood }
 
-  put_in : (n : ℕ) (p : Place) (t : Tok) (h : Held) → IsNoEnd t → w.number n → Stands w h → Stands w (put n p t h)
+  put_in : (n : ℕ) (p : Position) (t : Tok) (h : Held) → IsNoEnd t → w.number n → Stands w h → Stands w (put n p t h)
   put_in n p t h q l s = record { stood = inserted _ _ _ _ n _ q l s.stood }
 
   -- ---- levels of indentation
@@ -201,7 +201,7 @@ module _ (w : Watched) (kept : IsKept w) where
   unfolding deepen
   deepened col n t h q l s = held_choice (nat_lt h.indent (col + 1)) (record { stood = placed_stood h.tokens h.keys h.started h.ended n t q l s.stood }) s
 
-  rolled : (col : ℕ) (n : Option ℕ) (t : Tok) (p : Place) (h : Held) → IsNoEnd t → NumberIs n → Stands w h → Stands w (roll_indent col n t p h)
+  rolled : (col : ℕ) (n : Option ℕ) (t : Tok) (p : Position) (h : Held) → IsNoEnd t → NumberIs n → Stands w h → Stands w (roll_indent col n t p h)
   unfolding roll_indent
   rolled col n t p h q l s = held_choice (in_flow h) s (deepened col n (token p t) (drop_open_level col h) q l (level_dropped col h s))
 
@@ -209,7 +209,7 @@ module _ (w : Watched) (kept : IsKept w) where
   unfolding roll_one_col_indent
   rolled_one h s = held_choice (in_block h) (record { stood = s.stood }) s
 
-  ended : (ends : Bool) (p : Place) (ts : List Token) (ks : List (Option Key)) (b o : Bool) → Stood w ts ks b o → Stood w (end_level ends p ts) ks b o
+  ended : (ends : Bool) (p : Position) (ts : List Token) (ks : List (Option Key)) (b o : Bool) → Stood w ts ks b o → Stood w (end_level ends p ts) ks b o
   ended true p ts ks b o s = pushed ts ks b o _ tt s
   ended false p ts ks b o s = s
 
@@ -220,7 +220,7 @@ module _ (w : Watched) (kept : IsKept w) where
   levels_choice true s t = s
   levels_choice false s t = t
 
-  unrolled_stood : (ks : List (Option Key)) (b o : Bool) (limit : ℕ) (p : Place) (i : ℕ) (ds : List Indent) (ts : List Token) → Stood w ts ks b o → StoodLevels ks b o (unrolled limit p i ds ts)
+  unrolled_stood : (ks : List (Option Key)) (b o : Bool) (limit : ℕ) (p : Position) (i : ℕ) (ds : List Indent) (ts : List Token) → Stood w ts ks b o → StoodLevels ks b o (unrolled limit p i ds ts)
   unfolding unrolled
   unrolled_stood ks b o limit p i [] ts s = record { stood = s }
   unrolled_stood ks b o limit p i (d ∷ ds) ts s = levels_choice (nat_lt limit i) (unrolled_stood ks b o limit p d.indent ds _ (ended d.needs_block_end p ts ks b o s)) (record { stood = s })
@@ -344,7 +344,7 @@ module _ (w : Watched) (kept : IsKept w) where
 
   -- ---- block collections
 
-  margin_checked : (q : Option Place) (p : Place) (h : Held) → Stands w h → Holds (Stands w) (at_margin q p h)
+  margin_checked : (q : Option Position) (p : Position) (h : Held) → Stands w h → Holds (Stands w) (at_margin q p h)
   margin_checked None p h s = went s
   margin_checked (Some q) p h s = passes _ _ (went s)
 
@@ -393,11 +393,11 @@ module _ (w : Watched) (kept : IsKept w) where
   unfolding check_value_space
   value_spaced t s = choice (peek t.rest == 9) (read t.held (space Yes t.rest t.held.place) check_behind_tab s (λ x u k. behind_tab_checked x u k)) (went s)
 
-  pair_begun : (k : Key) (p : Place) (pair : Bool) (h : Held) → w.number k.number → Stands w h → Holds (Stands w) (begin_pair k p pair h)
+  pair_begun : (k : Key) (p : Position) (pair : Bool) (h : Held) → w.number k.number → Stands w h → Holds (Stands w) (begin_pair k p pair h)
   unfolding begin_pair
   pair_begun k p pair h l s = choice pair (passes _ _ (went (put_in k.number h.place _ h tt l s))) (went s)
 
-  key_inserted : (k : Key) (p : Place) (pair : Bool) (h : Held) → w.number k.number → Stands w h → Holds (Stands w) (insert_key k p pair h)
+  key_inserted : (k : Key) (p : Position) (pair : Bool) (h : Held) → w.number k.number → Stands w h → Holds (Stands w) (insert_key k p pair h)
   unfolding insert_key
   key_inserted k p pair h l s = chained (pair_begun k p pair _ l (put_in k.number k.place Tok.key h tt l s)) (λ u m.
       let v = rolled_one _ (rolled k.place.col (Some k.number) Tok.block_mapping_start p u tt l m) in
@@ -406,15 +406,15 @@ module _ (w : Watched) (kept : IsKept w) where
   keyless_paired : (pair : Bool) (h : Held) → Stands w h → Stands w (begin_keyless_pair pair h)
   keyless_paired pair h s = held_choice pair (more h.place Tok.flow_mapping_start h tt s) s
 
-  keyless_mapped : (p : Place) (h : Held) → Stands w h → Holds (Stands w) (begin_keyless_mapping p h)
+  keyless_mapped : (p : Position) (h : Held) → Stands w h → Holds (Stands w) (begin_keyless_mapping p h)
   unfolding begin_keyless_mapping
   keyless_mapped p h s = choice _ (went s) (passes _ _ (went (rolled p.col None _ p h tt tt s)))
 
-  keyless_begun : (p : Place) (pair : Bool) (h : Held) → Stands w h → Holds (Stands w) (begin_keyless_value p pair h)
+  keyless_begun : (p : Position) (pair : Bool) (h : Held) → Stands w h → Holds (Stands w) (begin_keyless_value p pair h)
   unfolding begin_keyless_value
   keyless_begun p pair h s = chained (keyless_mapped p _ (keyless_paired pair h s)) (λ u k. went (let l = rolled_one u k in record { stood = l.stood }))
 
-  value_begun : (k : Option Key) (p : Place) (pair : Bool) (h : Held) → KeyIs w.number k → Stands w h → Holds (Stands w) (value_of k p pair h)
+  value_begun : (k : Option Key) (p : Position) (pair : Bool) (h : Held) → KeyIs w.number k → Stands w h → Holds (Stands w) (value_of k p pair h)
   value_begun None p pair h l s = keyless_begun p pair h s
   value_begun (Some k) p pair h l s = key_inserted k p pair h l s
 

@@ -1,6 +1,6 @@
 -- Block collections (YAML 1.2, section 8.2), keys and values.
 use Rattle.std.specs.Prelude.{ℕ, ◌+◌, List, [], ◌∷◌, Bool, true, false, not, ◌==◌, ◌&&◌, ◌||◌, nat_lt, if◌then◌else◌, slice_index, Option, Some, None, Result, Ok, Err}
-use Rattle.defs_text.specs.Position.{Place}
+use Rattle.defs_text.specs.Position.{Position}
 use Rattle.yaml_chars.specs.Class.{is_alpha, is_blank_or_breakz, is_break, is_flow}
 use Rattle.defs_token.specs.Token.{Tok, Token}
 use Rattle.yaml_tokens.specs.declared.problem.Fault.{Fault}
@@ -17,19 +17,19 @@ use Rattle.model_scanner.specs.Indents.{roll_indent, roll_one_col_indent}
 use Rattle.model_scanner.specs.Space.{skip_spaces, skip_yaml_whitespace}
 use Rattle.model_scanner.specs.Flow.{allow_key}
 
-abbrev pub property_place : Tok → Place → Option Place
+abbrev pub property_place : Tok → Position → Option Position
 property_place (Tok.anchor name) p = Some p
 property_place (Tok.tag handle suffix) p = Some p
 property_place _ p = None
 
 -- the place of the last token, where that is an anchor or a tag
-abbrev pub last_property : List Token → Option Place
+abbrev pub last_property : List Token → Option Position
 last_property [] = None
 last_property (t ∷ []) = property_place t.tok t.place
 last_property (t ∷ u ∷ ts) = last_property (u ∷ ts)
 
 -- an anchor or a tag at the first column, which must not belong to an entry there
-abbrev pub at_margin : Option Place → Place → Held → Result Held Fault
+abbrev pub at_margin : Option Position → Position → Held → Result Held Fault
 at_margin None p s = Ok s
 at_margin (Some q) p s = (if (p.col == 0) && (q.col == 0) && nat_lt 0 s.indent then Err (At problem.AnchorIndentation q) else Ok s)
 
@@ -96,12 +96,12 @@ paired (Entry ∷ fs) = Pair ∷ fs
 paired fs = fs
 
 -- In a pair of a flow sequence the key stands on the line of its `:`, and the pair begins before the key.
-unfoldable pub begin_pair : Key → Place → Bool → Held → Result Held Fault
+unfoldable pub begin_pair : Key → Position → Bool → Held → Result Held Fault
 begin_pair k p pair s =
     (if pair then (if nat_lt k.place.line p.line then Err (At problem.ColonMisplaced p) else Ok (put k.number s.place Tok.flow_mapping_start s)) else Ok s)
 
 -- The key that began without `?` gets its token, and its mapping a start where it is the first.
-unfoldable pub insert_key : Key → Place → Bool → Held → Result Held Fault
+unfoldable pub insert_key : Key → Position → Bool → Held → Result Held Fault
 insert_key k p pair s =
     begin_pair k p pair (put k.number k.place Tok.key s) >>= λ u.
     let v = roll_one_col_indent (roll_indent k.place.col (Some k.number) Tok.block_mapping_start p u) in
@@ -110,19 +110,19 @@ insert_key k p pair s =
 abbrev pub begin_keyless_pair : Bool → Held → Held
 begin_keyless_pair pair s = (if pair then push s.place Tok.flow_mapping_start s else s)
 
-unfoldable pub begin_keyless_mapping : Place → Held → Result Held Fault
+unfoldable pub begin_keyless_mapping : Position → Held → Result Held Fault
 begin_keyless_mapping p s =
     (if in_flow s then Ok s else
     (if not s.key_allowed then Err (At problem.ValueNotAllowed p) else Ok (roll_indent p.col None Tok.block_mapping_start p s)))
 
 -- A `:` after a key that began with `?`, or without a key.
-unfoldable pub begin_keyless_value : Place → Bool → Held → Result Held Fault
+unfoldable pub begin_keyless_value : Position → Bool → Held → Result Held Fault
 begin_keyless_value p pair s =
     begin_keyless_mapping p (begin_keyless_pair pair s) >>= λ u.
     let v = roll_one_col_indent u in
     Ok (allow_key (not (in_flow v)) v)
 
-abbrev pub value_of : Option Key → Place → Bool → Held → Result Held Fault
+abbrev pub value_of : Option Key → Position → Bool → Held → Result Held Fault
 value_of (Some k) p pair s = insert_key k p pair s
 value_of None p pair s = begin_keyless_value p pair s
 

@@ -1,6 +1,6 @@
 -- Streams and documents (YAML 1.2, chapter 9), and the tokens of nodes.
 use Rattle.std.specs.Prelude.{ℕ, ◌+◌, List, [], ◌∷◌, Bool, true, false, not, ◌==◌, ◌&&◌, ◌||◌, if◌then◌else◌, Option, Some, None, Result, Ok, Err}
-use Rattle.defs_text.specs.Position.{Place}
+use Rattle.defs_text.specs.Position.{Position}
 use Rattle.yaml_chars.specs.Class.{is_breakz}
 use Rattle.defs_token.specs.Token.{Style, Tok}
 use Rattle.yaml_tokens.specs.declared.problem.Fault.{Fault}
@@ -29,7 +29,7 @@ unfoldable pub fetch_stream_start : State → State
 fetch_stream_start t = on_held begin_stream t
 
 -- the beginning of the next line, where the text ended within a line
-abbrev pub next_line : Place → Place
+abbrev pub next_line : Position → Position
 next_line p = (if p.col == 0 then p else record p { line = p.line + 1; col = 0 })
 
 abbrev pub ended_at : Held → Held

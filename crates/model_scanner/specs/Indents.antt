@@ -1,7 +1,7 @@
 -- Levels of indentation (YAML 1.2, sections 6.1 and 8.2). Columns count from 1, and 0 is outside all collections.
 use Rattle.std.specs.Prelude.{ℕ, ◌+◌, List, [], ◌∷◌, ◌++◌, Bool, true, false, not, ◌&&◌, nat_lt, nat_le, if◌then◌else◌, Option, Some, None}
 use Rattle.std.specs.List.{insert}
-use Rattle.defs_text.specs.Position.{Place}
+use Rattle.defs_text.specs.Position.{Position}
 use Rattle.defs_token.specs.Token.{Tok, Token}
 use Rattle.model_scanner.specs.declared.level.Indent.{Indent}
 use Rattle.model_scanner.specs.State.{Held, in_flow, token}
@@ -27,7 +27,7 @@ unfoldable pub deepen : ℕ → Option ℕ → Token → Held → Held
 deepen col number t s = (if nat_lt s.indent (col + 1) then record s { indents = level s.indent true ∷ s.indents; indent = col + 1; tokens = placed number t s.tokens } else s)
 
 -- A collection begins at a column, unless one stands there or the place is inside flow. Its start goes in before the tokens of a number, or after all.
-unfoldable pub roll_indent : ℕ → Option ℕ → Tok → Place → Held → Held
+unfoldable pub roll_indent : ℕ → Option ℕ → Tok → Position → Held → Held
 roll_indent col number t p s = (if in_flow s then s else deepen col number (token p t) (drop_open_level col s))
 
 -- whether the innermost level is a block collection, and the place is outside flow
@@ -47,10 +47,10 @@ pub record Levels : Type 0 where
 abbrev pub with_levels : Held → Levels → Held
 with_levels s u = record s { indent = u.indent; indents = u.indents; tokens = u.tokens }
 
-abbrev pub end_level : Bool → Place → List Token → List Token
+abbrev pub end_level : Bool → Position → List Token → List Token
 end_level ends p ts = (if ends then ts ++ token p Tok.block_end ∷ [] else ts)
 
-unfoldable pub unrolled : ℕ → Place → ℕ → List Indent → List Token → Levels
+unfoldable pub unrolled : ℕ → Position → ℕ → List Indent → List Token → Levels
 unrolled limit p i [] ts = record { indent = i; indents = []; tokens = ts }
 unrolled limit p i (d ∷ ds) ts = (if nat_lt limit i then unrolled limit p d.indent ds (end_level d.needs_block_end p ts) else record { indent = i; indents = d ∷ ds; tokens = ts })
 

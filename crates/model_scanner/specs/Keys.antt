@@ -1,7 +1,7 @@
 -- Tokens that may turn out to be keys (YAML 1.2, sections 7.4.2 and 8.2.2).
 use Rattle.std.specs.Prelude.{ℕ, ◌+◌, List, [], ◌∷◌, Bool, true, false, ◌||◌, ◌&&◌, ◌==◌, nat_lt, not, if◌then◌else◌, Option, Some, None, Result, Ok, Err, length, map}
 use Rattle.std.specs.List.{list_any}
-use Rattle.defs_text.specs.Position.{Place}
+use Rattle.defs_text.specs.Position.{Position}
 use Rattle.yaml_tokens.specs.declared.problem.Fault.{Fault}
 use Rattle.yaml_tokens.specs.declared.problem.Fault.TheVariants.{At}
 use Rattle.yaml_tokens.specs.declared.problem.Problem.TheVariants as problem
@@ -9,20 +9,20 @@ use Rattle.model_scanner.specs.State.{Key, Held, in_flow, with_top, top}
 use Rattle.model_scanner.specs.declared.level.Indent.{Indent}
 
 -- whether a place lies on a later line than another, or more than 1024 characters after it
-unfoldable pub is_far : Place → Place → Bool
+unfoldable pub is_far : Position → Position → Bool
 is_far from to = nat_lt from.line to.line || nat_lt (from.index + 1024) to.index
 
-abbrev pub is_overdue : Place → Option Key → Bool
+abbrev pub is_overdue : Position → Option Key → Bool
 is_overdue p None = false
 is_overdue p (Some k) = is_far k.place p && k.required
 
 -- what may still be a key at a place
-abbrev pub still : Place → Option Key → Option Key
+abbrev pub still : Position → Option Key → Option Key
 still p None = None
 still p (Some k) = (if is_far k.place p then None else Some k)
 
 -- Keys that are too far back are none, and must not be required.
-unfoldable pub drop_stale : Place → List (Option Key) → Result (List (Option Key)) Fault
+unfoldable pub drop_stale : Position → List (Option Key) → Result (List (Option Key)) Fault
 drop_stale p ks = (if list_any (is_overdue p) ks then Err (At problem.KeyWithoutColon p) else Ok (map (still p) ks))
 
 abbrev pub with_keys : Held → Result (List (Option Key)) Fault → Result Held Fault

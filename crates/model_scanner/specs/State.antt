@@ -1,7 +1,7 @@
 -- What the scanner holds: where it stands, and what it knows of the text before that place.
 use Rattle.std.specs.Prelude.{ℕ, ◌+◌, List, [], ◌∷◌, ◌++◌, Bool, true, false, not, Option, Some, None, Result, Ok, Err, cond, nat_le}
 use Rattle.std.specs.List.{insert}
-use Rattle.defs_text.specs.Position.{Place}
+use Rattle.defs_text.specs.Position.{Position}
 use Rattle.defs_text.specs.Text.{is_nil}
 use Rattle.defs_token.specs.Token.{Tok, Token}
 use Rattle.yaml_tokens.specs.declared.problem.Fault.{Fault}
@@ -13,11 +13,11 @@ use Rattle.model_lexers.specs.Machine.{Read, past, past_break}
 pub record Key : Type 0 where
   pub required : Bool
   pub number : ℕ
-  pub place : Place
+  pub place : Position
 
 -- What the scanner knows of the text before its place.
 pub record Held : Type 0 where
-  pub place : Place
+  pub place : Position
   -- all tokens so far, those handed out among them
   pub tokens : List Token
   -- what may still turn out to be a simple key: one for each flow level and one outside flow, the innermost first
@@ -73,15 +73,15 @@ abbrev pub with_top : {A : Type 0} → A → List A → List A
 with_top y [] = []
 with_top y (x ∷ xs) = y ∷ xs
 
-abbrev pub token : Place → Tok → Token
+abbrev pub token : Position → Tok → Token
 token p t = record { place = p; tok = t }
 
 -- a token more
-abbrev pub push : Place → Tok → Held → Held
+abbrev pub push : Position → Tok → Held → Held
 push p t s = record s { tokens = s.tokens ++ token p t ∷ [] }
 
 -- a token that goes in before those of a number
-abbrev pub put : ℕ → Place → Tok → Held → Held
+abbrev pub put : ℕ → Position → Tok → Held → Held
 put n p t s = record s { tokens = insert s.tokens n (token p t) }
 
 abbrev pub in_flow : Held → Bool

@@ -1,8 +1,8 @@
 -- The first of a text's tokens are a cut of a beginning of it.
 use Rattle.std.proofs.Common.{◌≡◌, ℕ, List, [], ◌∷◌, ◌++◌, true, Option, Some, None, refl, ap, sym, ◌∙◌, subst, inl, inr, ◌⊎◌}
-use Rattle.defs_text.specs.Position.{Place}
+use Rattle.defs_text.specs.Position.{Position}
 use Rattle.defs_token.specs.Token.{Tok, Token, stream_start, stream_end, version_directive, tag_directive, document_start, document_end, block_sequence_start, block_mapping_start, block_end, flow_sequence_start, flow_sequence_end, flow_mapping_start, flow_mapping_end, block_entry, flow_entry, key, value, alias, anchor, tag, scalar, plain, single_quoted, double_quoted, literal, folded}
-use Rattle.defs_token.specs.Text.{up_to_end}
+use Rattle.defs_text.specs.Text.{up_to_end}
 use Rattle.defs_token.specs.Account.{Account, first_account}
 use Rattle.defs_token.specs.Piece.{IsPiece}
 use Rattle.defs_token.specs.Cut.{Written, IsWritten, IsRow, IsCut, IsCutOfBeginning, spelled, tokens_of, first_token, start_token, end_token, account_past}
@@ -23,7 +23,7 @@ rest_of [] = []
 rest_of (x ∷ xs) = xs
 
 -- which token follows may be forgotten
-piece_forgotten : (a : Account) (p n : List ℕ) (o : Option Tok) (at : Place) (t : Tok) → IsPiece a p n o at t → IsPiece a p n None at t
+piece_forgotten : (a : Account) (p n : List ℕ) (o : Option Tok) (at : Position) (t : Tok) → IsPiece a p n o at t → IsPiece a p n None at t
 piece_forgotten a p n o at (alias x) q = q
 piece_forgotten a p n o at (anchor x) q = q
 piece_forgotten a p n o at (tag x s) q = q
@@ -79,7 +79,7 @@ parted (w ∷ ws) (t ∷ given) more e =
     record { first = w ∷ p.first; second = p.second; are_both = ap (λ vs. w ∷ vs) p.are_both; are_given = ap (λ x. x ∷ tokens_of p.first) i.0 ∙ ap (λ ts. t ∷ ts) p.are_given; are_more = p.are_more }
 
 -- the tokens of a row's beginning behind the stream's start
-begun_by : (text : List ℕ) (begin : Place) (ws : List Written) (behind : List ℕ) (last : Option Tok) (given more : List Token) → spelled ws behind ≡ up_to_end text → IsRow first_account ws behind last → start_token begin ∷ tokens_of ws ≡ given ++ more → IsCutOfBeginning given text
+begun_by : (text : List ℕ) (begin : Position) (ws : List Written) (behind : List ℕ) (last : Option Tok) (given more : List Token) → spelled ws behind ≡ up_to_end text → IsRow first_account ws behind last → start_token begin ∷ tokens_of ws ≡ given ++ more → IsCutOfBeginning given text
 begun_by text begin ws behind last [] more is_text row e = inl refl
 begun_by text begin ws behind last (t ∷ given) more is_text row e =
     let p : Parted ws given more = parted ws given more (ap rest_of e) in

@@ -1,13 +1,13 @@
 -- The functions of the model that read the indicators of block collections keep what holds between fetches.
 use Rattle.std.proofs.Common.{◌≡◌, ℕ, suc, ◌≤◌, ◌<◌, List, [], ◌∷◌, ◌++◌, Bool, true, false, not, ◌||◌, length, if◌then◌else◌, Option, Some, None, Result, Ok, refl, ap, sym, ◌∙◌, subst, arith}
-use Rattle.defs_text.specs.Position.{Place}
+use Rattle.defs_text.specs.Position.{Position}
 use Rattle.defs_text.specs.Text.{is_nil}
 use Rattle.yaml_tokens.specs.declared.problem.Fault.{Fault}
 use Rattle.yaml_tokens.specs.declared.problem.Fault.TheVariants.{At}
 use Rattle.yaml_tokens.specs.declared.problem.Problem.TheVariants as problem
 use Rattle.defs_token.specs.Token.{Tok, Token}
 use Rattle.defs_text.specs.Classes.{is_break, is_at_gap}
-use Rattle.defs_token.specs.Text.{place_behind}
+use Rattle.defs_text.specs.Position.{position_after}
 use Rattle.defs_token.specs.Account.{Level, Account, Before, other, before_past, before_by, settled, blocks_past, levels_past, is_in_flow, is_empty, innermost_column}
 use Rattle.defs_token.specs.Piece.{IsPiece}
 use Rattle.defs_token.specs.Cut.{Written}
@@ -43,18 +43,18 @@ pub nil_length : (fs : List FlowLevel) → is_nil fs ≡ true → length fs ≡ 
 nil_length [] e = refl
 nil_length (f ∷ fs) e = absurd (cc e)
 
-pub none_open : (depth : ℕ) (row : List Written) (behind : List ℕ) (p : Place) (rest : List ℕ) (column : Option ℕ) (keys : List (Option Key)) → length keys ≡ 1 → AreOpen depth row behind p rest column (with_top None keys)
+pub none_open : (depth : ℕ) (row : List Written) (behind : List ℕ) (p : Position) (rest : List ℕ) (column : Option ℕ) (keys : List (Option Key)) → length keys ≡ 1 → AreOpen depth row behind p rest column (with_top None keys)
 none_open depth row behind p rest column [] e = tt
 none_open depth row behind p rest column (x ∷ []) e = tt
 none_open depth row behind p rest column (x ∷ y ∷ ks) e = absurd (omega (arith, e))
 
-pub outside_fares : (text rest : List ℕ) (p : Place) (tokens : List Token) (keys : List (Option Key)) (indents : List Indent) (indent : ℕ) (flow : List FlowLevel) (before : Before) (adj : ℕ) → is_nil flow ≡ true → adj ≤ p.index →
+pub outside_fares : (text rest : List ℕ) (p : Position) (tokens : List Token) (keys : List (Option Key)) (indents : List Indent) (indent : ℕ) (flow : List FlowLevel) (before : Before) (adj : ℕ) → is_nil flow ≡ true → adj ≤ p.index →
     Stood text rest p tokens keys indents indent flow before → Fares text rest p tokens keys indents indent flow adj
 outside_fares text rest p tokens keys indents indent flow before adj out was s = record { before = before; stood = s; was_adjacent = was; is_adjacent_here = λ h. absurd (cc (out, h)) }
 
 -- what is said of the start of a block collection
 pub record IsStart (tok : Tok) : Type 0 where
-  pub piece : (a : Account) (next : List ℕ) (last : Option Tok) (at : Place) → is_in_flow a ≡ false → IsPiece a [] next last at tok
+  pub piece : (a : Account) (next : List ℕ) (last : Option Tok) (at : Position) → is_in_flow a ≡ false → IsPiece a [] next last at tok
   pub blocks : (bs : List (Option ℕ)) → blocks_past bs tok ≡ None ∷ bs
   pub levels : (ls : List Level) → levels_past ls [] tok ≡ ls
 
@@ -67,7 +67,7 @@ mapping_start = record { piece = λ a next last at h. (refl, h); blocks = λ bs.
 -- what is said of an indicator outside flow
 pub record IsMark (tok : Tok) (c : ℕ) (more : List ℕ) : Type 0 where
   pub in_line : is_break c ≡ false
-  pub piece : (a : Account) (next : List ℕ) (last : Option Tok) (at : Place) → is_in_flow a ≡ false → more ≡ next → IsPiece a (c ∷ []) next last at tok
+  pub piece : (a : Account) (next : List ℕ) (last : Option Tok) (at : Position) → is_in_flow a ≡ false → more ≡ next → IsPiece a (c ∷ []) next last at tok
   pub blocks : (bs : List (Option ℕ)) → blocks_past bs tok ≡ bs
   pub levels : (ls : List Level) → levels_past ls (c ∷ []) tok ≡ ls
   pub before : before_by tok ≡ other
@@ -76,7 +76,7 @@ pub is_outside : (flow : List FlowLevel) → is_nil flow ≡ true → not (is_em
 is_outside flow out = same_flow flow ∙ ap not out
 
 -- An indicator outside flow, and before it the start of a collection that begins at its column.
-pub roll_stood : (text : List ℕ) (c : ℕ) (more : List ℕ) (start mark : Tok) → IsStart start → IsMark mark c more → (h u : Held) (before : Before) → is_nil h.flow ≡ true → (p at at2 : Place) (v : State) →
+pub roll_stood : (text : List ℕ) (c : ℕ) (more : List ℕ) (start mark : Tok) → IsStart start → IsMark mark c more → (h u : Held) (before : Before) → is_nil h.flow ≡ true → (p at at2 : Position) (v : State) →
     (g : Filled more (past p) v) → Rolls p.col None (token at start) h u →
     Stood text (c ∷ more) p h.tokens h.keys h.indents h.indent h.flow before →
     Stood text v.rest v.held.place (u.tokens ++ token at2 mark ∷ []) (with_top None h.keys) u.indents u.indent h.flow other
@@ -119,7 +119,7 @@ entry_checked : (s : Held) → Holds (λ u. (u ≡ s) × (in_flow s ≡ false)) 
 unfolding check_block_entry
 entry_checked s = checked (in_flow s) (At problem.BlockEntryInFlow s.place) (λ e. passes (not s.key_allowed) (At problem.BlockEntryNotAllowed s.place) (by (last_property s.tokens) e))
   where
-    by : (q : Option Place) → in_flow s ≡ false → Holds (λ u. (u ≡ s) × (in_flow s ≡ false)) (at_margin q s.place s)
+    by : (q : Option Position) → in_flow s ≡ false → Holds (λ u. (u ≡ s) × (in_flow s ≡ false)) (at_margin q s.place s)
     by None e = went (refl, e)
     by (Some q) e = passes _ _ (went (refl, e))
 
@@ -167,10 +167,10 @@ entry_fares : (text more : List ℕ) (t w x : State) → t.rest ≡ 45 ∷ more 
 entry_fares text more t w x e gap s out u r a b =
     let h : Held = (skip_indicator t).held in
     let v : State = record { rest = behind t.rest; held = u } in
-    let p : Place = t.held.place in
+    let p : Position = t.held.place in
     let same : (u.place ≡ h.place) × (u.keys ≡ h.keys) × (u.flow ≡ h.flow) × (u.adjacent_value_at ≡ h.adjacent_value_at) = rolls_place p.col None (token p Tok.block_sequence_start) h u r in
     let c : Passed v x = passed_both v w x (passed_spaces Yes v w a) (passed_spaces No w x b) in
-    let g : Filled more (past p) x = record { filler = c.filler; is_rest = ap behind (sym e) ∙ c.is_rest; is_filled = c.is_filled; is_place = ap (λ y. y.place) c.is_held ∙ ap (λ q. place_behind q c.filler x.rest) same.0 } in
+    let g : Filled more (past p) x = record { filler = c.filler; is_rest = ap behind (sym e) ∙ c.is_rest; is_filled = c.is_filled; is_place = ap (λ y. y.place) c.is_held ∙ ap (λ q. position_after q c.filler x.rest) same.0 } in
     let y : Stood text (45 ∷ more) p t.held.tokens t.held.keys t.held.indents t.held.indent t.held.flow s.before = subst (λ z. Stood text z p t.held.tokens t.held.keys t.held.indents t.held.indent t.held.flow s.before) e s.stood in
     let k : Stood text x.rest x.held.place (u.tokens ++ token x.held.place Tok.block_entry ∷ []) (with_top None t.held.keys) u.indents u.indent t.held.flow other =
     roll_stood text 45 more Tok.block_sequence_start Tok.block_entry sequence_start (dash more gap) h u s.before (not_nil t.held.flow out) p p x.held.place x g r y in

@@ -1,14 +1,15 @@
 -- The functions of the model that read directives and document markers, and the stream's start and end.
 use Rattle.std.proofs.Common.{◌≡◌, ℕ, suc, ◌+◌, ◌<◌, ◌≤◌, List, [], ◌∷◌, ◌++◌, Bool, true, false, not, length, if◌then◌else◌, Option, Some, None, Result, Ok, Err, refl, ap, sym, ◌∙◌, subst, arith, append-nil}
 use Rattle.std.proofs.lemmas.Bool.{and_parts}
-use Rattle.defs_text.specs.Position.{Place}
+use Rattle.defs_text.specs.Position.{Position}
 use Rattle.defs_text.specs.Text.{is_nil}
 use Rattle.yaml_tokens.specs.declared.problem.Fault.{Fault}
 use Rattle.yaml_tokens.specs.declared.problem.Fault.TheVariants.{At}
 use Rattle.yaml_tokens.specs.declared.problem.Problem.TheVariants as problem
 use Rattle.defs_token.specs.Token.{Tok, Token, stream_end}
 use Rattle.defs_text.specs.Classes.{is_break, is_nul, is_at_gap}
-use Rattle.defs_token.specs.Text.{up_to_end, place_past, place_behind}
+use Rattle.defs_text.specs.Text.{up_to_end}
+use Rattle.defs_text.specs.Position.{position_past, position_after}
 use Rattle.defs_token.specs.Account.{Level, Account, first_account, Before, other, before_past, before_by, is_empty, is_closed, blocks_past, levels_past, innermost_column}
 use Rattle.defs_token.specs.Piece.{IsPiece, IsDocumentMarker}
 use Rattle.defs_token.specs.Cut.{Written, IsCut, IsRow, spelled, account_past_row}
@@ -50,7 +51,7 @@ same_length (k ∷ ks) = refl
 -- ---- column 0
 
 -- no key is live on a line on which nothing stands before a place
-margin_dead : (p : Place) (rest : List ℕ) (row : List Written) (behind : List ℕ) (column : Option ℕ) (keys : List (Option Key)) → p.col ≡ 0 → length keys ≡ 1 → AreOpen 0 row behind p rest column keys → AreDead p rest keys
+margin_dead : (p : Position) (rest : List ℕ) (row : List Written) (behind : List ℕ) (column : Option ℕ) (keys : List (Option Key)) → p.col ≡ 0 → length keys ≡ 1 → AreOpen 0 row behind p rest column keys → AreDead p rest keys
 margin_dead p rest row behind column [] col one o = tt
 margin_dead p rest row behind column (None ∷ []) col one o = tt
 margin_dead p rest row behind column (x ∷ y ∷ ks) col one o = absurd (omega (arith, one))
@@ -60,7 +61,7 @@ margin_dead p rest row behind column (Some k ∷ []) col one o = ((λ l. none l)
     none l = let left_of : suc k.place.col ≤ p.col = o.0.is_earlier.1 l.0 in omega (arith, left_of, col)
 
 -- so whatever stands there leads anywhere
-margin_leads : (i j : ℕ) (p q : Place) (rest2 : List ℕ) (vs : List Written) → p.col ≡ 0 → Behind p q → Leads i j p q rest2 vs
+margin_leads : (i j : ℕ) (p q : Position) (rest2 : List ℕ) (vs : List Written) → p.col ≡ 0 → Behind p q → Leads i j p q rest2 vs
 margin_leads i j p q rest2 vs col further k n ns b v e =
     let line : p.line ≤ k.place.line = omega (arith, further.0, v.0) in
     let left_of : suc k.place.col ≤ p.col = b.1 line in
@@ -108,8 +109,8 @@ line_begun text t col s = by (is_required (top_key (unroll_indent 0 t.held).keys
     })
 
 -- a token of such a line
-margin_fares : (text rest : List ℕ) (p : Place) (tokens : List Token) (keys : List (Option Key)) (indents : List Indent) (indent : ℕ) (flow : List FlowLevel) (adj : ℕ) (s : Fares text rest p tokens keys indents indent flow adj) → p.col ≡ 0 →
-    (tok : Tok) (rest2 : List ℕ) (end : Place) (r : ReadAs (account_of p indent indents flow s.before) rest tok p rest2 end) → blocks_past (columns indent indents) tok ≡ columns indent indents →
+margin_fares : (text rest : List ℕ) (p : Position) (tokens : List Token) (keys : List (Option Key)) (indents : List Indent) (indent : ℕ) (flow : List FlowLevel) (adj : ℕ) (s : Fares text rest p tokens keys indents indent flow adj) → p.col ≡ 0 →
+    (tok : Tok) (rest2 : List ℕ) (end : Position) (r : ReadAs (account_of p indent indents flow s.before) rest tok p rest2 end) → blocks_past (columns indent indents) tok ≡ columns indent indents →
     levels_past (levels_of flow) (r.first ∷ r.more) tok ≡ levels_of flow → before_by tok ≡ other → Fares text rest2 end (tokens ++ token p tok ∷ []) (with_top None keys) indents indent flow adj
 margin_fares text rest p tokens keys indents indent flow adj s col tok rest2 end r blocks levels none =
     let a : Account = account_of p indent indents flow s.before in
@@ -128,7 +129,7 @@ margin_fares text rest p tokens keys indents indent flow adj s col tok rest2 end
       is_adjacent_here = λ _. subst (λ b. IsAdjacent (before_past b r.filler) end adj rest2) (sym none) (adjacent_other end adj rest2 (omega (arith, s.was_adjacent, further)));
     }
 
-closed_account : (p : Place) (indent : ℕ) (indents : List Indent) (flow : List FlowLevel) (before : Before) → (is_nil flow ≡ true → columns indent indents ≡ []) → is_closed (account_of p indent indents flow before) ≡ true
+closed_account : (p : Position) (indent : ℕ) (indents : List Indent) (flow : List FlowLevel) (before : Before) → (is_nil flow ≡ true → columns indent indents ≡ []) → is_closed (account_of p indent indents flow before) ≡ true
 closed_account p indent indents flow before h = by (is_nil flow) refl
   where
     by : (b : Bool) → is_nil flow ≡ b → is_closed (account_of p indent indents flow before) ≡ true
@@ -163,7 +164,7 @@ directive_is (Tok.anchor name) h = absurd (cc h)
 directive_is (Tok.tag handle suffix) h = absurd (cc h)
 directive_is (Tok.scalar style text) h = absurd (cc h)
 
-clean_of : (text rest : List ℕ) (p : Place) (tokens : List Token) (keys : List (Option Key)) (indents : List Indent) (indent : ℕ) (flow : List FlowLevel) (adj : ℕ) (c : ℕ) (more : List ℕ) → rest ≡ c ∷ more → Fares text rest p tokens keys indents indent flow adj → has_no_nul more ≡ true
+clean_of : (text rest : List ℕ) (p : Position) (tokens : List Token) (keys : List (Option Key)) (indents : List Indent) (indent : ℕ) (flow : List FlowLevel) (adj : ℕ) (c : ℕ) (more : List ℕ) → rest ≡ c ∷ more → Fares text rest p tokens keys indents indent flow adj → has_no_nul more ≡ true
 clean_of text rest p tokens keys indents indent flow adj c more e s = (and_parts (not (is_nul c)) (has_no_nul more) (rw e at s.stood.here.is_clean)).1
 
 directive_fares : (text more : List ℕ) (t : State) (u : Held) → t.rest ≡ 37 ∷ more → t.held.place.col ≡ 0 → (b : Begun text t u) → (x : Read Tok) → directive t.rest u.place ≡ Ok x →
@@ -186,11 +187,11 @@ directive_fetched text more t e col s =
 
 -- ---- document markers
 
-three_past : (p : Place) (c : ℕ) (next : List ℕ) → is_break c ≡ false → past (past (past p)) ≡ place_behind p (c ∷ c ∷ c ∷ []) next
+three_past : (p : Position) (c : ℕ) (next : List ℕ) → is_break c ≡ false → past (past (past p)) ≡ position_after p (c ∷ c ∷ c ∷ []) next
 three_past p c next e =
-    let first : place_past p c (c ∷ c ∷ next) ≡ past p = past_indicator p c (c ∷ c ∷ next) e in
-    let second : place_past (past p) c (c ∷ next) ≡ past (past p) = past_indicator (past p) c (c ∷ next) e in
-    sym (past_indicator (past (past p)) c next e) ∙ ap (λ q. place_past q c next) (sym second) ∙ ap (λ q. place_past (place_past q c (c ∷ next)) c next) (sym first)
+    let first : position_past p c (c ∷ c ∷ next) ≡ past p = past_indicator p c (c ∷ c ∷ next) e in
+    let second : position_past (past p) c (c ∷ next) ≡ past (past p) = past_indicator (past p) c (c ∷ next) e in
+    sym (past_indicator (past (past p)) c next e) ∙ ap (λ q. position_past q c next) (sym second) ∙ ap (λ q. position_past (position_past q c (c ∷ next)) c next) (sym first)
 
 -- what is said of a document marker
 record IsMarker (tok : Tok) (c : ℕ) : Type 0 where
@@ -211,7 +212,7 @@ marks_end = record { in_line = refl; piece = λ a next last h. (h, refl); blocks
 marker_fares : (text : List ℕ) (tok : Tok) (c : ℕ) (more : List ℕ) → IsMarker tok c → (t : State) (u : Held) → t.rest ≡ c ∷ c ∷ c ∷ more → is_at_gap more ≡ true → t.held.place.col ≡ 0 → (b : Begun text t u) →
     Fares text more (past (past (past u.place))) (u.tokens ++ token t.held.place tok ∷ []) u.keys u.indents u.indent u.flow u.adjacent_value_at
 marker_fares text tok c more m t u e gap col b =
-    let p : Place = t.held.place in
+    let p : Position = t.held.place in
     let a : Account = account_of p b.indent b.indents t.held.flow b.stands.before in
     let closes : is_closed a ≡ true = closed_account p b.indent b.indents t.held.flow b.stands.before b.closed in
     let r : ReadAs a t.rest tok p more (past (past (past p))) = record {
@@ -240,7 +241,7 @@ start_marked text more t e gap col s = marked text Tok.document_start 45 more ma
 -- what stands behind a filler
 pub passed_stands : (text : List ℕ) (t u : State) → Passed t u → Stands text t → Stands text u
 passed_stands text t u a s =
-    let end : Place = place_behind t.held.place a.filler u.rest in
+    let end : Position = position_after t.held.place a.filler u.rest in
     let further : end.index ≡ t.held.place.index + length a.filler = index_behind t.held.place a.filler u.rest in
     subst (λ (h : Held). Fares text u.rest h.place h.tokens h.keys h.indents h.indent h.flow h.adjacent_value_at) (sym a.is_held) (record {
       before = before_past s.before a.filler;
@@ -287,7 +288,7 @@ whole_text (c ∷ r) h =
     by false n e = ap (λ l. c ∷ l) e
 
 -- at the text's end the tokens are a cut
-cut_of : (text : List ℕ) (p q : Place) (tokens : List Token) (keys : List (Option Key)) (indents : List Indent) (indent : ℕ) (flow : List FlowLevel) (before : Before) → has_no_nul text ≡ true →
+cut_of : (text : List ℕ) (p q : Position) (tokens : List Token) (keys : List (Option Key)) (indents : List Indent) (indent : ℕ) (flow : List FlowLevel) (before : Before) → has_no_nul text ≡ true →
     is_closed (account_of p indent indents flow before) ≡ true → Stood text [] p tokens keys indents indent flow before → IsCut (tokens ++ token q stream_end ∷ []) text
 cut_of text p q tokens keys indents indent flow before nul closed s =
     let same : s.behind ≡ s.here.filler = s.here.is_behind ∙ rw append-nil refl in
@@ -304,11 +305,11 @@ cut_of text p q tokens keys indents indent flow before nul closed s =
     }
 
 -- no key is open any more
-none_open : (depth : ℕ) (row : List Written) (behind : List ℕ) (p : Place) (rest : List ℕ) (column : Option ℕ) (keys : List (Option Key)) → AreOpen depth row behind p rest column (cleared keys)
+none_open : (depth : ℕ) (row : List Written) (behind : List ℕ) (p : Position) (rest : List ℕ) (column : Option ℕ) (keys : List (Option Key)) → AreOpen depth row behind p rest column (cleared keys)
 none_open depth row behind p rest column [] = tt
 none_open depth row behind p rest column (k ∷ ks) = none_open (suc depth) row behind p rest column ks
 
-none_live : (p : Place) (rest : List ℕ) (keys : List (Option Key)) → AreDead p rest (cleared keys)
+none_live : (p : Position) (rest : List ℕ) (keys : List (Option Key)) → AreDead p rest (cleared keys)
 none_live p rest [] = tt
 none_live p rest (k ∷ ks) = none_live p rest ks
 
@@ -316,7 +317,7 @@ cleared_length : (keys : List (Option Key)) → length (cleared keys) ≡ length
 cleared_length [] = refl
 cleared_length (k ∷ ks) = ap suc (cleared_length ks)
 
-cleared_stood : (text rest : List ℕ) (p : Place) (tokens : List Token) (keys : List (Option Key)) (indents : List Indent) (indent : ℕ) (flow : List FlowLevel) (before : Before) →
+cleared_stood : (text rest : List ℕ) (p : Position) (tokens : List Token) (keys : List (Option Key)) (indents : List Indent) (indent : ℕ) (flow : List FlowLevel) (before : Before) →
     Stood text rest p tokens keys indents indent flow before → Stood text rest p tokens (cleared keys) indents indent flow before
 cleared_stood text rest p tokens keys indents indent flow before s = record {
   begin = s.begin;
@@ -329,7 +330,7 @@ cleared_stood text rest p tokens keys indents indent flow before s = record {
   are_open = none_open 0 s.row s.behind p rest (innermost_column (columns indent indents)) keys;
 }
 
-stream_cut : (text : List ℕ) (t : State) → has_no_nul text ≡ true → t.rest ≡ [] → (s : Stands text t) → (q : Place) →
+stream_cut : (text : List ℕ) (t : State) → has_no_nul text ≡ true → t.rest ≡ [] → (s : Stands text t) → (q : Position) →
     IsCut ((unroll_indent 0 (record t.held { place = q; keys = cleared t.held.keys })).tokens ++ token (unroll_indent 0 (record t.held { place = q; keys = cleared t.held.keys })).place stream_end ∷ []) text
 stream_cut text t nul none s q = by (is_nil t.held.flow) refl
   where

@@ -3,7 +3,7 @@ use Rattle.std.proofs.Common.{◌≡◌, ℕ, suc, ◌+◌, ◌≤◌, List, [],
 use Rattle.std.proofs.lemmas.Bool.{and_parts, eqb-true}
 use Rattle.std.proofs.lemmas.Bool.Decides.{nat_tests}
 use Rattle.std.specs.List.{list_any}
-use Rattle.defs_text.specs.Position.{Place}
+use Rattle.defs_text.specs.Position.{Position}
 use Rattle.defs_text.specs.Text.{is_nil}
 use Rattle.yaml_chars.specs.Class.{is_blank, is_break, is_blank_or_breakz}
 use Rattle.yaml_tokens.specs.declared.problem.Fault.{Fault}
@@ -44,11 +44,11 @@ pub record Fresh (text : List ℕ) (u : State) (h : Held) : Type 0 where
   pub same : h ≡ record u.held { keys = h.keys }
   pub near : is_nil u.held.flow ≡ true → AreNear u.held.place h.keys
 
-length_still : (p : Place) (ks : List (Option Key)) → length (map (still p) ks) ≡ length ks
+length_still : (p : Position) (ks : List (Option Key)) → length (map (still p) ks) ≡ length ks
 length_still p [] = refl
 length_still p (k ∷ ks) = ap suc (length_still p ks)
 
-still_open : (row : List Written) (behind : List ℕ) (p : Place) (rest : List ℕ) (column : Option ℕ) (ks : List (Option Key)) → length ks ≡ 1 → AreOpen 0 row behind p rest column ks → AreOpen 0 row behind p rest column (map (still p) ks)
+still_open : (row : List Written) (behind : List ℕ) (p : Position) (rest : List ℕ) (column : Option ℕ) (ks : List (Option Key)) → length ks ≡ 1 → AreOpen 0 row behind p rest column ks → AreOpen 0 row behind p rest column (map (still p) ks)
 still_open row behind p rest column [] one o = tt
 still_open row behind p rest column (x ∷ y ∷ ks) one o = absurd (omega (arith, one))
 still_open row behind p rest column (None ∷ []) one o = o
@@ -58,7 +58,7 @@ still_open row behind p rest column (Some k ∷ []) one o = by (is_far k.place p
     by true = open_given_up 0 row behind p rest column (Some k ∷ []) o
     by false = o
 
-is_near : (k p : Place) → is_far k p ≡ false → p.line ≤ k.line
+is_near : (k p : Position) → is_far k p ≡ false → p.line ≤ k.line
 unfolding is_far
 is_near k p h = by (nat_lt k.line p.line) refl h
   where
@@ -66,7 +66,7 @@ is_near k p h = by (nat_lt k.line p.line) refl h
     by true e h = absurd (cc h)
     by false e h = grind (arith, nat_tests, e)
 
-are_near : (p : Place) (ks : List (Option Key)) → AreNear p (map (still p) ks)
+are_near : (p : Position) (ks : List (Option Key)) → AreNear p (map (still p) ks)
 are_near p [] = tt
 are_near p (None ∷ ks) = are_near p ks
 are_near p (Some k ∷ ks) = by (is_far k.place p) refl (are_near p ks)

@@ -1,13 +1,13 @@
 -- The functions of the model that read closing brackets and commas keep what holds between fetches.
 use Rattle.std.proofs.Common.{◌≡◌, ℕ, suc, drop, ◌+◌, ◌≤◌, ◌<◌, List, [], ◌∷◌, ◌++◌, Bool, true, false, not, ◌==◌, ◌&&◌, ◌||◌, length, if◌then◌else◌, Option, Some, None, Ok, Err, refl, ap, sym, ◌∙◌, subst, arith, inl, inr, ◌⊎◌}
 use Rattle.std.proofs.lemmas.Bool.{and_parts}
-use Rattle.defs_text.specs.Position.{Place}
+use Rattle.defs_text.specs.Position.{Position}
 use Rattle.defs_text.specs.Text.{is_nil}
 use Rattle.yaml_tokens.specs.declared.problem.Fault.{Fault}
 use Rattle.defs_token.specs.Token.{Tok, Token}
 use Rattle.defs_text.specs.Classes.{is_break}
 use Rattle.defs_text.specs.Classes.{is_blank, is_nul}
-use Rattle.defs_token.specs.Text.{is_at_line_end}
+use Rattle.defs_text.specs.Breaks.{is_at_line_end}
 use Rattle.defs_token.specs.Filler.{is_filler, is_blanks}
 use Rattle.proof_lexers.proofs.Bridges.{same_blank}
 use Rattle.proof_lexers.specs.PlainEnds.{has_break, has_no_nul}
@@ -42,7 +42,7 @@ use Rattle.proof_cut.proofs.Indicators.{indicated}
 -- ---- what the model leaves
 
 -- the tokens with the end of a pair without braces, where one is open
-abbrev pub closed_tokens : List FlowLevel → Place → List Token → List Token
+abbrev pub closed_tokens : List FlowLevel → Position → List Token → List Token
 closed_tokens (Pair ∷ fs) p ts = ts ++ token p Tok.flow_mapping_end ∷ []
 closed_tokens _ p ts = ts
 
@@ -119,14 +119,14 @@ ends_by_comma = record { in_line = refl; piece = λ a next last h. ((refl, h), r
 abbrev pub LeadsOut : (many : ℕ) → List Written → Type 0
 LeadsOut many vs = (m : Level) (ns : List Level) → Goes (m ∷ ns) vs (many + length ns)
 
-leads_out : (many : ℕ) (p q : Place) (rest2 : List ℕ) (vs : List Written) → LeadsOut many vs → Leads 1 many p q rest2 vs
+leads_out : (many : ℕ) (p q : Position) (rest2 : List ℕ) (vs : List Written) → LeadsOut many vs → Leads 1 many p q rest2 vs
 leads_out many p q rest2 vs o k n [] b l e = absurd (omega (arith, e))
 leads_out many p q rest2 vs o k n (m ∷ ns) b l e = let g : Goes (m ∷ ns) vs (many + length ns) = o m ns in record { levels = g.levels; is_inside = g.is_inside; are_many = omega (arith, g.are_many, e) }
 
 no_length : {A : Type 0} (n : ℕ) → 0 ≡ suc n → A
 no_length n e = absurd (omega (arith, e))
 
-close_open : (row vs : List Written) (behind behind2 : List ℕ) (p q : Place) (rest rest2 : List ℕ) (column : Option ℕ) (fs : List FlowLevel) (keys : List (Option Key)) → length keys ≡ suc (length fs) → behind ≡ spelled vs behind2 → NotBefore p q → GoesOn rest2 rest →
+close_open : (row vs : List Written) (behind behind2 : List ℕ) (p q : Position) (rest rest2 : List ℕ) (column : Option ℕ) (fs : List FlowLevel) (keys : List (Option Key)) → length keys ≡ suc (length fs) → behind ≡ spelled vs behind2 → NotBefore p q → GoesOn rest2 rest →
     LeadsOut 0 vs → AreOpen 0 row behind p rest column keys → AreOpen 0 (row ++ vs) behind2 q rest2 column (higher_keys fs keys)
 close_open row vs behind behind2 p q rest rest2 column [] [] e cut n g l o = tt
 close_open row vs behind behind2 p q rest rest2 column [] (x ∷ []) e cut n g l o = tt
@@ -135,7 +135,7 @@ close_open row vs behind behind2 p q rest rest2 column (f ∷ fs) [] e cut n g l
 close_open row vs behind behind2 p q rest rest2 column (f ∷ fs) (x ∷ ks) e cut n g l o =
     open_more 1 0 row vs behind behind2 p q rest rest2 column ks cut n g (leads_out 0 p q rest2 vs l) (open_given_up 0 row behind p rest column (x ∷ ks) o)
 
-pub entry_open : (row vs : List Written) (behind behind2 : List ℕ) (p q : Place) (rest rest2 : List ℕ) (column : Option ℕ) (fs : List FlowLevel) (keys : List (Option Key)) → length keys ≡ suc (length fs) → behind ≡ spelled vs behind2 → NotBefore p q → GoesOn rest2 rest →
+pub entry_open : (row vs : List Written) (behind behind2 : List ℕ) (p q : Position) (rest rest2 : List ℕ) (column : Option ℕ) (fs : List FlowLevel) (keys : List (Option Key)) → length keys ≡ suc (length fs) → behind ≡ spelled vs behind2 → NotBefore p q → GoesOn rest2 rest →
     LeadsOut 1 vs → AreOpen 0 row behind p rest column keys → AreOpen 0 (row ++ vs) behind2 q rest2 column (with_top None keys)
 entry_open row vs behind behind2 p q rest rest2 column fs [] e cut n g l o = tt
 entry_open row vs behind behind2 p q rest rest2 column fs (x ∷ ks) e cut n g l o =
@@ -167,12 +167,12 @@ pub record Ends (tok : Tok) (c : ℕ) (many : ℕ) (new : List FlowLevel → Lis
   pub levels : (fs : List FlowLevel) → is_pair_at (levels_of fs) ≡ false → levels_past (levels_of fs) (c ∷ []) tok ≡ levels_of (new fs)
   pub paired : (fs : List FlowLevel) → levels_past (levels_of (Entry ∷ fs)) (c ∷ []) tok ≡ levels_of (new (Pair ∷ fs))
 
-leads_one : (tok : Tok) (c many : ℕ) (new : List FlowLevel → List FlowLevel) (by : Before) → Ends tok c many new by → (f : List ℕ) (at : Place) → LeadsOut many (led f (with_piece (c ∷ []) at tok) ∷ [])
+leads_one : (tok : Tok) (c many : ℕ) (new : List FlowLevel → List FlowLevel) (by : Before) → Ends tok c many new by → (f : List ℕ) (at : Position) → LeadsOut many (led f (with_piece (c ∷ []) at tok) ∷ [])
 leads_one tok c many new by d f at m ns =
     let x : (ms : List Level) × (step_inside (m ∷ ns) (c ∷ []) tok ≡ Some ms) × (length ms ≡ many + length ns) = d.step m ns in
     record { levels = x.0; is_inside = ap (λ o. levels_then o (λ ms. Some ms)) x.1; are_many = x.2 }
 
-leads_two : (tok : Tok) (c many : ℕ) (new : List FlowLevel → List FlowLevel) (by : Before) → Ends tok c many new by → (f : List ℕ) (at at2 : Place) →
+leads_two : (tok : Tok) (c many : ℕ) (new : List FlowLevel → List FlowLevel) (by : Before) → Ends tok c many new by → (f : List ℕ) (at at2 : Position) →
     LeadsOut many (led f (with_piece [] at Tok.flow_mapping_end) ∷ with_piece (c ∷ []) at2 tok ∷ [])
 leads_two tok c many new by d f at at2 m ns =
     let x : (ms : List Level) × (step_inside (record m { pair = false } ∷ ns) (c ∷ []) tok ≡ Some ms) × (length ms ≡ many + length ns) = d.step (record m { pair = false }) ns in
@@ -180,10 +180,10 @@ leads_two tok c many new by d f at at2 m ns =
 
 -- the keys behind it
 abbrev Closes : (many : ℕ) → (List FlowLevel → List (Option Key) → List (Option Key)) → Type 0
-Closes many keys_of = (row vs : List Written) (behind behind2 : List ℕ) (p q : Place) (rest rest2 : List ℕ) (column : Option ℕ) (fs : List FlowLevel) (keys : List (Option Key)) → length keys ≡ suc (length fs) → behind ≡ spelled vs behind2 → NotBefore p q → GoesOn rest2 rest →
+Closes many keys_of = (row vs : List Written) (behind behind2 : List ℕ) (p q : Position) (rest rest2 : List ℕ) (column : Option ℕ) (fs : List FlowLevel) (keys : List (Option Key)) → length keys ≡ suc (length fs) → behind ≡ spelled vs behind2 → NotBefore p q → GoesOn rest2 rest →
     LeadsOut many vs → AreOpen 0 row behind p rest column keys → AreOpen 0 (row ++ vs) behind2 q rest2 column (keys_of fs keys)
 
-end_alone : (text : List ℕ) (p : Place) (tokens : List Token) (keys : List (Option Key)) (indents : List Indent) (indent : ℕ) (flow : List FlowLevel) (before : Before) (tok : Tok) (c : ℕ) (more : List ℕ) (many : ℕ) (new : List FlowLevel → List FlowLevel) (by : Before) →
+end_alone : (text : List ℕ) (p : Position) (tokens : List Token) (keys : List (Option Key)) (indents : List Indent) (indent : ℕ) (flow : List FlowLevel) (before : Before) (tok : Tok) (c : ℕ) (more : List ℕ) (many : ℕ) (new : List FlowLevel → List FlowLevel) (by : Before) →
     Ends tok c many new by → (keys_of : List FlowLevel → List (Option Key) → List (Option Key)) → Closes many keys_of → length (keys_of flow keys) ≡ suc (length (new flow)) → (t v : State) → t.rest ≡ c ∷ more → t.held.place ≡ p → (g : Passed (skip_indicator t) v) →
     is_pair_at (levels_of flow) ≡ false → Stood text (c ∷ more) p tokens keys indents indent flow before → Stood text v.rest v.held.place (tokens ++ token p tok ∷ []) (keys_of flow keys) indents indent (new flow) (before_past by g.filler)
 end_alone text p tokens keys indents indent flow before tok c more many new by d keys_of closes each t v e place g none s =
@@ -196,7 +196,7 @@ end_alone text p tokens keys indents indent flow before tok c more many new by d
     (spelled_led s.behind s.here.filler (c ∷ more) (with_piece (c ∷ []) p tok) [] (g.filler ++ v.rest) s.here.is_behind r.is_text) (weaker p v.held.place (read_later a (c ∷ more) tok p v.rest v.held.place r)) (λ _. refl)
     (leads_one tok c many new by d s.here.filler p) s.are_open))
 
-end_pair_too : (text : List ℕ) (p : Place) (tokens : List Token) (keys : List (Option Key)) (indents : List Indent) (indent : ℕ) (fs : List FlowLevel) (before : Before) (tok : Tok) (c : ℕ) (more : List ℕ) (many : ℕ) (new : List FlowLevel → List FlowLevel) (by : Before) →
+end_pair_too : (text : List ℕ) (p : Position) (tokens : List Token) (keys : List (Option Key)) (indents : List Indent) (indent : ℕ) (fs : List FlowLevel) (before : Before) (tok : Tok) (c : ℕ) (more : List ℕ) (many : ℕ) (new : List FlowLevel → List FlowLevel) (by : Before) →
     Ends tok c many new by → (keys_of : List FlowLevel → List (Option Key) → List (Option Key)) → Closes many keys_of → length (keys_of (Pair ∷ fs) keys) ≡ suc (length (new (Pair ∷ fs))) → (t v : State) → t.rest ≡ c ∷ more → t.held.place ≡ p → (g : Passed (skip_indicator t) v) →
     Stood text (c ∷ more) p tokens keys indents indent (Pair ∷ fs) before →
     Stood text v.rest v.held.place ((tokens ++ token p Tok.flow_mapping_end ∷ []) ++ token p tok ∷ []) (keys_of (Pair ∷ fs) keys) indents indent (new (Pair ∷ fs)) (before_past by g.filler)
@@ -213,7 +213,7 @@ end_pair_too text p tokens keys indents indent fs before tok c more many new by 
     (spelled_led s.behind s.here.filler (c ∷ more) (with_piece [] p Tok.flow_mapping_end) (with_piece (c ∷ []) p tok ∷ []) (g.filler ++ v.rest) s.here.is_behind r.is_text)
     (weaker p v.held.place (read_later b (c ∷ more) tok p v.rest v.held.place r)) (λ _. refl) (leads_two tok c many new by d s.here.filler p p) s.are_open))
 
-end_stood : (text : List ℕ) (p : Place) (tokens : List Token) (keys : List (Option Key)) (indents : List Indent) (indent : ℕ) (flow : List FlowLevel) (before : Before) (tok : Tok) (c : ℕ) (more : List ℕ) (many : ℕ) (new : List FlowLevel → List FlowLevel) (by : Before) →
+end_stood : (text : List ℕ) (p : Position) (tokens : List Token) (keys : List (Option Key)) (indents : List Indent) (indent : ℕ) (flow : List FlowLevel) (before : Before) (tok : Tok) (c : ℕ) (more : List ℕ) (many : ℕ) (new : List FlowLevel → List FlowLevel) (by : Before) →
     Ends tok c many new by → (keys_of : List FlowLevel → List (Option Key) → List (Option Key)) → Closes many keys_of → length (keys_of flow keys) ≡ suc (length (new flow)) → (t v : State) → t.rest ≡ c ∷ more → t.held.place ≡ p → (g : Passed (skip_indicator t) v) →
     Stood text (c ∷ more) p tokens keys indents indent flow before → Stood text v.rest v.held.place (closed_tokens flow p tokens ++ token p tok ∷ []) (keys_of flow keys) indents indent (new flow) (before_past by g.filler)
 end_stood text p tokens keys indents indent [] before tok c more many new by d keys_of closes each t v e place g s = end_alone text p tokens keys indents indent [] before tok c more many new by d keys_of closes each t v e place g refl s
@@ -318,7 +318,7 @@ no_blank c h = by (c == 32) (c == 9) h
     by false false h = refl
 
 -- behind a flow collection and blanks
-adjacent_collection : (p : Place) (f rest : List ℕ) → is_filler false f rest ≡ true → has_break f ≡ false → ends_spaces Yes rest ≡ true → has_no_nul rest ≡ true → IsAdjacent (before_past collection f) p p.index rest
+adjacent_collection : (p : Position) (f rest : List ℕ) → is_filler false f rest ≡ true → has_break f ≡ false → ends_spaces Yes rest ≡ true → has_no_nul rest ≡ true → IsAdjacent (before_past collection f) p p.index rest
 adjacent_collection p f rest fills line ends clean = λ filler r e k t. by filler r e k t
   where
     blanks_first : (b : Bool) (c : ℕ) (g : List ℕ) → is_blank c ≡ false → is_adjacent (before_past (if b then collection else other) (c ∷ g)) ≡ false
@@ -395,7 +395,7 @@ close_fares text tok c more o t v e s sp =
     before_index [] old new h = h
     before_index (f ∷ fs) old new h = omega arith
 
-    here_adjacent : (fs : List FlowLevel) (old : ℕ) (p : Place) (rest : List ℕ) (b : Before) → IsAdjacent b p p.index rest → is_nil fs ≡ false → IsAdjacent b p (adjacent_at fs old p.index) rest
+    here_adjacent : (fs : List FlowLevel) (old : ℕ) (p : Position) (rest : List ℕ) (b : Before) → IsAdjacent b p p.index rest → is_nil fs ≡ false → IsAdjacent b p (adjacent_at fs old p.index) rest
     here_adjacent [] old p rest b i h = absurd (cc h)
     here_adjacent (f ∷ fs) old p rest b i h = i
 

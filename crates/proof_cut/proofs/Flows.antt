@@ -1,7 +1,7 @@
 -- The functions of the model that read the brackets and commas of flow collections keep what holds between fetches.
 use Rattle.std.proofs.Common.{◌≡◌, ℕ, suc, ◌<◌, List, [], ◌∷◌, ◌++◌, Bool, true, false, length, nat_lt, nat_le, if◌then◌else◌, Option, Some, None, Ok, Err, refl, ap, sym, ◌∙◌, subst, arith, inl}
 use Rattle.std.proofs.lemmas.Bool.Decides.{nat_tests}
-use Rattle.defs_text.specs.Position.{Place}
+use Rattle.defs_text.specs.Position.{Position}
 use Rattle.yaml_tokens.specs.declared.problem.Fault.TheVariants.{At}
 use Rattle.yaml_tokens.specs.declared.problem.Problem.TheVariants as problem
 use Rattle.defs_token.specs.Token.{Tok}
@@ -88,7 +88,7 @@ flow_begun kind s = subst (λ h. Holds (Deeper kind s) (deepened_flow (if nat_le
     by true e = refused
     by false e = went (record { is_held = refl; has = e })
 
-opens_level : (p q : Place) (rest2 f : List ℕ) (c : ℕ) (at : Place) (tok : Tok) (l : Level) → ((ns : List Level) → step_inside ns (c ∷ []) tok ≡ Some (l ∷ ns)) → Opens 1 p q rest2 (led f (with_piece (c ∷ []) at tok) ∷ [])
+opens_level : (p q : Position) (rest2 f : List ℕ) (c : ℕ) (at : Position) (tok : Tok) (l : Level) → ((ns : List Level) → step_inside ns (c ∷ []) tok ≡ Some (l ∷ ns)) → Opens 1 p q rest2 (led f (with_piece (c ∷ []) at tok) ∷ [])
 opens_level p q rest2 f c at tok l step = λ k n v ns. record { levels = l ∷ ns; is_inside = ap (λ o. levels_then o (λ ms. Some ms)) (step ns); are_many = omega arith }
 
 start_fares : (text : List ℕ) (kind : FlowLevel) (tok : Tok) (c : ℕ) (more : List ℕ) → IsOpeningOf kind tok c → (t v : State) → t.rest ≡ c ∷ more → (s : Stands text t) → IsDeep t.held →
@@ -98,7 +98,7 @@ start_fares text kind tok c more o t v e s deep few sp =
     let h : Held = record t.held { keys = saved_keys t.held } in
     let ds : List Indent = one_indents h in
     let i : ℕ = one_indent h in
-    let p : Place = t.held.place in
+    let p : Position = t.held.place in
     let x : Stood text (c ∷ more) p t.held.tokens t.held.keys ds i t.held.flow s.before =
     subst (λ y. Stood text y p t.held.tokens t.held.keys ds i t.held.flow s.before) e
     (stood_levels text t.rest p t.held.tokens t.held.keys t.held.indents t.held.indent t.held.flow s.before ds i (one_columns h) (one_levels h s.stood.are_levels) s.stood) in

@@ -2,7 +2,7 @@
 use Rattle.std.proofs.Common.{◌≡◌, ℕ, List, [], ◌∷◌, ◌++◌, Bool, true, false, ◌&&◌, Option, refl, ap, sym, ◌∙◌, subst, append_assoc}
 use Rattle.defs_token.specs.Token.{Tok}
 use Rattle.defs_text.specs.Classes.{is_blank}
-use Rattle.defs_token.specs.Text.{place_behind}
+use Rattle.defs_text.specs.Position.{position_after}
 use Rattle.defs_token.specs.Filler.{is_filler, is_blanks}
 use Rattle.defs_token.specs.Account.{Account, Before, quoted, collection, other, before_past, first_account, account_past_filler, account_at_piece, account_past_token}
 use Rattle.defs_token.specs.Piece.{IsPiece}
@@ -42,7 +42,7 @@ before_again other = refl
 pub filler_both : (a : Account) (f g rest : List ℕ) → account_past_filler (account_past_filler a f (g ++ rest)) g rest ≡ account_past_filler a (f ++ g) rest
 filler_both a f g rest =
     ap (λ p. record a { place = p; before = before_past (before_past a.before f) g }) (sym (place_append a.place f g rest)) ∙
-    ap (λ b. record a { place = place_behind a.place (f ++ g) rest; before = b }) (before_both a.before f g)
+    ap (λ b. record a { place = position_after a.place (f ++ g) rest; before = b }) (before_both a.before f g)
 
 -- ---- a filler more
 
@@ -72,7 +72,7 @@ led_account : (a : Account) (f : List ℕ) (w : Written) (next : List ℕ) → w
     account_at (account_past_filler a f (w.piece ++ next)) w next ≡ account_at a (led f w) next
 led_account a f w next e =
     ap (λ x. account_at_piece (account_past_filler (account_past_filler a f (w.piece ++ next)) x (w.piece ++ next)) w.piece) e ∙
-    ap (λ b. account_at_piece (record a { place = place_behind a.place f (w.piece ++ next); before = b }) w.piece) (before_again (before_past a.before f))
+    ap (λ b. account_at_piece (record a { place = position_after a.place f (w.piece ++ next); before = b }) w.piece) (before_again (before_past a.before f))
 
 led_row : (a : Account) (f : List ℕ) (w : Written) (ws : List Written) (rest : List ℕ) (last : Option Tok) → w.filler ≡ [] → is_filler false f (w.piece ++ spelled ws rest) ≡ true →
     IsRow (account_past_filler a f (w.piece ++ spelled ws rest)) (w ∷ ws) rest last → IsRow a (led f w ∷ ws) rest last

@@ -1,10 +1,10 @@
 -- An indicator, and the blanks and the comment behind it.
 use Rattle.std.proofs.Common.{◌≡◌, ℕ, List, [], ◌∷◌, ◌++◌, false, not, ◌&&◌, Option, ap, sym, ◌∙◌}
-use Rattle.defs_text.specs.Position.{Place}
+use Rattle.defs_text.specs.Position.{Position}
 use Rattle.defs_token.specs.Token.{Tok}
 use Rattle.defs_text.specs.Classes.{is_break}
 use Rattle.defs_text.specs.Breaks.{is_before_line_feed}
-use Rattle.defs_token.specs.Text.{place_past, place_behind}
+use Rattle.defs_text.specs.Position.{position_past, position_after}
 use Rattle.defs_token.specs.Account.{Account}
 use Rattle.defs_token.specs.Piece.{IsPiece}
 use Rattle.model_lexers.specs.Machine.{past}
@@ -14,15 +14,15 @@ use Rattle.proof_cut.specs.PiecesRead.{ReadAs}
 use Rattle.proof_cut.proofs.Passes.{Passed, Filled}
 
 -- the place behind an indicator
-pub past_indicator : (p : Place) (c : ℕ) (next : List ℕ) → is_break c ≡ false → place_past p c next ≡ past p
+pub past_indicator : (p : Position) (c : ℕ) (next : List ℕ) → is_break c ≡ false → position_past p c next ≡ past p
 past_indicator p c next e = in_line_place c next p (ap (λ b. b && not (is_before_line_feed c next)) e)
 
 -- what is left behind an indicator and a filler is read as the indicator's token
-abbrev pub indicated : (a : Account) (c : ℕ) (more : List ℕ) (tok : Tok) (at : Place) (t v : State) → t.rest ≡ c ∷ more → t.held.place ≡ a.place → is_break c ≡ false → (s : Passed (skip_indicator t) v) →
+abbrev pub indicated : (a : Account) (c : ℕ) (more : List ℕ) (tok : Tok) (at : Position) (t v : State) → t.rest ≡ c ∷ more → t.held.place ≡ a.place → is_break c ≡ false → (s : Passed (skip_indicator t) v) →
     ((next : List ℕ) (last : Option Tok) → more ≡ next → IsPiece a (c ∷ []) next last at tok) → ReadAs a (c ∷ more) tok at v.rest v.held.place
 indicated a c more tok at t v e place in_line s piece =
     let cut : more ≡ s.filler ++ v.rest = ap behind (sym e) ∙ s.is_rest in
-    let q : place_past a.place c (s.filler ++ v.rest) ≡ past t.held.place = past_indicator a.place c (s.filler ++ v.rest) in_line ∙ ap past (sym place) in
+    let q : position_past a.place c (s.filler ++ v.rest) ≡ past t.held.place = past_indicator a.place c (s.filler ++ v.rest) in_line ∙ ap past (sym place) in
     record {
       first = c;
       more = [];
@@ -30,11 +30,11 @@ indicated a c more tok at t v e place in_line s piece =
       is_text = ap (λ r. c ∷ r) cut;
       is_filled = s.is_filled;
       is_piece = λ last. piece (s.filler ++ v.rest) last cut;
-      is_end = ap (λ h. h.place) s.is_held ∙ ap (λ x. place_behind x s.filler v.rest) (sym q);
+      is_end = ap (λ h. h.place) s.is_held ∙ ap (λ x. position_after x s.filler v.rest) (sym q);
     }
 
 -- the same, from the place behind it
-abbrev pub indicated_by : (a : Account) (c : ℕ) (more : List ℕ) (tok : Tok) (at : Place) (v : State) → is_break c ≡ false → (s : Filled more (past a.place) v) →
+abbrev pub indicated_by : (a : Account) (c : ℕ) (more : List ℕ) (tok : Tok) (at : Position) (v : State) → is_break c ≡ false → (s : Filled more (past a.place) v) →
     ((next : List ℕ) (last : Option Tok) → more ≡ next → IsPiece a (c ∷ []) next last at tok) → ReadAs a (c ∷ more) tok at v.rest v.held.place
 indicated_by a c more tok at v in_line s piece = record {
   first = c;
@@ -43,5 +43,5 @@ indicated_by a c more tok at v in_line s piece = record {
   is_text = ap (λ r. c ∷ r) s.is_rest;
   is_filled = s.is_filled;
   is_piece = λ last. piece (s.filler ++ v.rest) last s.is_rest;
-  is_end = s.is_place ∙ ap (λ x. place_behind x s.filler v.rest) (sym (past_indicator a.place c (s.filler ++ v.rest) in_line));
+  is_end = s.is_place ∙ ap (λ x. position_after x s.filler v.rest) (sym (past_indicator a.place c (s.filler ++ v.rest) in_line));
 }

@@ -1,9 +1,9 @@
 -- The function of the model that reads a `:` behind a simple key keeps what holds between fetches.
 use Rattle.std.proofs.Common.{◌≡◌, ℕ, suc, ◌+◌, ◌≤◌, List, [], ◌∷◌, ◌++◌, true, false, not, length, Option, Some, None, refl, ap, sym, ◌∙◌, subst, arith}
 use Rattle.std.specs.List.{insert}
-use Rattle.defs_text.specs.Position.{Place}
+use Rattle.defs_text.specs.Position.{Position}
 use Rattle.defs_token.specs.Token.{Tok, Token}
-use Rattle.defs_token.specs.Text.{place_behind}
+use Rattle.defs_text.specs.Position.{position_after}
 use Rattle.defs_token.specs.Account.{Level, Account, Before, sequence, is_empty, with_pair, innermost_column, first_account, account_past_filler}
 use Rattle.defs_token.specs.Cut.{Written, IsRow, spelled, tokens_of, first_token, start_token, account_at, account_past_row}
 use Rattle.defs_token.proofs.Append.{spelled_append, tokens_append, account_append, row_append}
@@ -25,19 +25,19 @@ use Rattle.proof_cut.proofs.Blocks.{none_open}
 use Rattle.proof_cut.proofs.Pieces.Inserted.{key_behind, mapping_behind, pair_behind, pair_row, levels_behind, on_line, row_second, insert_tokens}
 
 -- the row behind a key's number, with tokens more
-abbrev Late : (text more : List ℕ) (p : Place) (tokens : List Token) (k : Key) (ks : List (Option Key)) (indents : List Indent) (indent : ℕ) (flow : List FlowLevel) (before : Before) → Type 0
+abbrev Late : (text more : List ℕ) (p : Position) (tokens : List Token) (k : Key) (ks : List (Option Key)) (indents : List Indent) (indent : ℕ) (flow : List FlowLevel) (before : Before) → Type 0
 Late text more p tokens k ks indents indent flow before = Stood text (58 ∷ more) p tokens (Some k ∷ ks) indents indent flow before
 
 -- Tokens go in before a key's own.
-pub inserted_stood : (text more : List ℕ) (p : Place) (tokens : List Token) (k : Key) (ks : List (Option Key)) (indents : List Indent) (indent : ℕ) (flow : List FlowLevel) (before : Before) (s : Stood text (58 ∷ more) p tokens (Some k ∷ ks) indents indent flow before) →
-    (vs : List Written) → let o : IsOpen k 0 s.row s.behind p (58 ∷ more) (innermost_column (columns indent indents)) = s.are_open.0 in let acc : Account = account_past_row first_account o.before (spelled (o.own ∷ o.after) s.behind) in
-    spelled vs s.behind ≡ spelled (o.own ∷ o.after) s.behind → ((last : Option Tok) → IsRow acc vs s.behind last) → (indents2 : List Indent) (indent2 : ℕ) → AreLevels indent2 indents2 → (flow2 : List FlowLevel) → length flow2 ≡ length flow →
+pub inserted_stood : (text more : List ℕ) (p : Position) (tokens : List Token) (k : Key) (ks : List (Option Key)) (indents : List Indent) (indent : ℕ) (flow : List FlowLevel) (before : Before) (s : Stood text (58 ∷ more) p tokens (Some k ∷ ks) indents indent flow before) →
+    (vs : List Written) → let o : IsOpen k 0 s.row s.behind p (58 ∷ more) (innermost_column (columns indent indents)) = s.are_open.0 in let acc : Account = account_past_row first_account o.before (spelled (o.own ∷ o.later) s.behind) in
+    spelled vs s.behind ≡ spelled (o.own ∷ o.later) s.behind → ((last : Option Tok) → IsRow acc vs s.behind last) → (indents2 : List Indent) (indent2 : ℕ) → AreLevels indent2 indents2 → (flow2 : List FlowLevel) → length flow2 ≡ length flow →
     account_past_filler (account_past_row acc vs s.behind) s.here.filler (58 ∷ more) ≡ account_of p indent2 indents2 flow2 before →
     AreOpen 0 (o.before ++ vs) s.behind p (58 ∷ more) (innermost_column (columns indent2 indents2)) (None ∷ ks) →
     Stood text (58 ∷ more) p (start_token s.begin ∷ tokens_of (o.before ++ vs)) (None ∷ ks) indents2 indent2 flow2 before
 inserted_stood text more p tokens k ks indents indent flow before s vs same row indents2 indent2 are flow2 many here opened =
     let o : IsOpen k 0 s.row s.behind p (58 ∷ more) (innermost_column (columns indent indents)) = s.are_open.0 in
-    let old : List Written = o.own ∷ o.after in
+    let old : List Written = o.own ∷ o.later in
     let acc : Account = account_past_row first_account o.before (spelled old s.behind) in
     record {
       begin = s.begin;
@@ -62,17 +62,17 @@ inserted_stood text more p tokens k ks indents indent flow before s vs same row 
 -- ---- what is known of an open key at its colon
 
 -- the row from a key on, and the account behind it
-pub record AtColon (text more : List ℕ) (p : Place) (tokens : List Token) (k : Key) (ks : List (Option Key)) (indents : List Indent) (indent : ℕ) (flow : List FlowLevel) (before : Before) (s : Stood text (58 ∷ more) p tokens (Some k ∷ ks) indents indent flow before) : Type 0 where
-  pub row : (last : Option Tok) → IsRow (account_past_row first_account s.are_open.0.before (spelled (s.are_open.0.own ∷ s.are_open.0.after) s.behind)) (s.are_open.0.own ∷ s.are_open.0.after) s.behind last
-  pub here : account_past_filler (account_past_row (account_past_row first_account s.are_open.0.before (spelled (s.are_open.0.own ∷ s.are_open.0.after) s.behind)) (s.are_open.0.own ∷ s.are_open.0.after) s.behind) s.here.filler (58 ∷ more) ≡ account_of p indent indents flow before
-  pub tokens_are : tokens ≡ start_token s.begin ∷ (tokens_of s.are_open.0.before ++ tokens_of (s.are_open.0.own ∷ s.are_open.0.after))
+pub record AtColon (text more : List ℕ) (p : Position) (tokens : List Token) (k : Key) (ks : List (Option Key)) (indents : List Indent) (indent : ℕ) (flow : List FlowLevel) (before : Before) (s : Stood text (58 ∷ more) p tokens (Some k ∷ ks) indents indent flow before) : Type 0 where
+  pub row : (last : Option Tok) → IsRow (account_past_row first_account s.are_open.0.before (spelled (s.are_open.0.own ∷ s.are_open.0.later) s.behind)) (s.are_open.0.own ∷ s.are_open.0.later) s.behind last
+  pub here : account_past_filler (account_past_row (account_past_row first_account s.are_open.0.before (spelled (s.are_open.0.own ∷ s.are_open.0.later) s.behind)) (s.are_open.0.own ∷ s.are_open.0.later) s.behind) s.here.filler (58 ∷ more) ≡ account_of p indent indents flow before
+  pub tokens_are : tokens ≡ start_token s.begin ∷ (tokens_of s.are_open.0.before ++ tokens_of (s.are_open.0.own ∷ s.are_open.0.later))
   pub number : k.number ≡ suc (length (tokens_of s.are_open.0.before))
 
-pub at_colon : (text more : List ℕ) (p : Place) (tokens : List Token) (k : Key) (ks : List (Option Key)) (indents : List Indent) (indent : ℕ) (flow : List FlowLevel) (before : Before) (s : Stood text (58 ∷ more) p tokens (Some k ∷ ks) indents indent flow before) →
+pub at_colon : (text more : List ℕ) (p : Position) (tokens : List Token) (k : Key) (ks : List (Option Key)) (indents : List Indent) (indent : ℕ) (flow : List FlowLevel) (before : Before) (s : Stood text (58 ∷ more) p tokens (Some k ∷ ks) indents indent flow before) →
     AtColon text more p tokens k ks indents indent flow before s
 at_colon text more p tokens k ks indents indent flow before s =
     let o : IsOpen k 0 s.row s.behind p (58 ∷ more) (innermost_column (columns indent indents)) = s.are_open.0 in
-    let old : List Written = o.own ∷ o.after in
+    let old : List Written = o.own ∷ o.later in
     record {
       row = λ last. row_second first_account o.before old s.behind last (subst (λ r. IsRow first_account r s.behind last) o.is_split (s.here.is_row last));
       here = ap (λ a. account_past_filler a s.here.filler (58 ∷ more)) (sym (account_append first_account o.before old s.behind) ∙ ap (λ r. account_past_row first_account r s.behind) (sym o.is_split)) ∙ s.here.is_here;
@@ -93,40 +93,40 @@ inside_none k ws column i = i.is_inside ∙ ap (λ ms. Some ms) (no_levels i.lev
 abbrev Inserts : (many : List Level → List Level) → (old vs : List Written) → Type 0
 Inserts new old vs = (m : Level) (ns : List Level) → inside [] old ≡ Some [] → (length (new (m ∷ ns)) ≡ suc (length ns)) × (inside (m ∷ ns) vs ≡ Some (new (m ∷ ns)))
 
-outer_open : (text more : List ℕ) (p : Place) (tokens : List Token) (k : Key) (ks : List (Option Key)) (indents : List Indent) (indent : ℕ) (flow : List FlowLevel) (before : Before) (s : Stood text (58 ∷ more) p tokens (Some k ∷ ks) indents indent flow before) →
-    (vs : List Written) (new : List Level → List Level) → Inserts new (s.are_open.0.own ∷ s.are_open.0.after) vs → spelled vs s.behind ≡ spelled (s.are_open.0.own ∷ s.are_open.0.after) s.behind →
+outer_open : (text more : List ℕ) (p : Position) (tokens : List Token) (k : Key) (ks : List (Option Key)) (indents : List Indent) (indent : ℕ) (flow : List FlowLevel) (before : Before) (s : Stood text (58 ∷ more) p tokens (Some k ∷ ks) indents indent flow before) →
+    (vs : List Written) (new : List Level → List Level) → Inserts new (s.are_open.0.own ∷ s.are_open.0.later) vs → spelled vs s.behind ≡ spelled (s.are_open.0.own ∷ s.are_open.0.later) s.behind →
     AreOpen 1 (s.are_open.0.before ++ vs) s.behind p (58 ∷ more) (innermost_column (columns indent indents)) ks
 outer_open text more p tokens k ks indents indent flow before s vs new inserts same =
     let column : Option ℕ = innermost_column (columns indent indents) in
     let o : IsOpen k 0 s.row s.behind p (58 ∷ more) column = s.are_open.0 in
-    let old : List Written = o.own ∷ o.after in
-    open_more 1 1 o.before vs (spelled old s.behind) s.behind k.place p (o.own.piece ++ spelled o.after s.behind) (58 ∷ more) column ks (sym same) (weaker k.place p o.is_earlier) (λ _. same_nil o.own (spelled o.after s.behind) o.is_solid)
+    let old : List Written = o.own ∷ o.later in
+    open_more 1 1 o.before vs (spelled old s.behind) s.behind k.place p (o.own.piece ++ spelled o.later s.behind) (58 ∷ more) column ks (sym same) (weaker k.place p o.is_earlier) (λ _. same_nil o.own (spelled o.later s.behind) o.is_solid)
     (λ k2 n ns b l e. by k2 n ns b l e) s.are_open.1
   where
     by : (k2 : Key) (n : ℕ) (ns : List Level) → Behind k2.place k.place → IsLive k2 p (58 ∷ more) → length ns ≡ 1 + n → Goes ns vs (1 + n)
     by k2 n [] b l e = absurd (omega (arith, e))
     by k2 n (m ∷ ns) b l e =
-        let i : inside [] (s.are_open.0.own ∷ s.are_open.0.after) ≡ Some [] = inside_none k (s.are_open.0.own ∷ s.are_open.0.after) (innermost_column (columns indent indents)) (s.are_open.0.live (omega (arith, l.0, b.0), refl)) in
+        let i : inside [] (s.are_open.0.own ∷ s.are_open.0.later) ≡ Some [] = inside_none k (s.are_open.0.own ∷ s.are_open.0.later) (innermost_column (columns indent indents)) (s.are_open.0.live (omega (arith, l.0, b.0), refl)) in
         let x : (length (new (m ∷ ns)) ≡ suc (length ns)) × (inside (m ∷ ns) vs ≡ Some (new (m ∷ ns))) = inserts m ns i in
         record { levels = new (m ∷ ns); is_inside = x.1; are_many = omega (arith, x.0, e) }
 
 -- ---- a key alone
 
-pub key_stood : (text more : List ℕ) (p : Place) (tokens : List Token) (k : Key) (ks : List (Option Key)) (indents : List Indent) (indent : ℕ) (flow : List FlowLevel) (before : Before) → Stood text (58 ∷ more) p tokens (Some k ∷ ks) indents indent flow before →
+pub key_stood : (text more : List ℕ) (p : Position) (tokens : List Token) (k : Key) (ks : List (Option Key)) (indents : List Indent) (indent : ℕ) (flow : List FlowLevel) (before : Before) → Stood text (58 ∷ more) p tokens (Some k ∷ ks) indents indent flow before →
     Stood text (58 ∷ more) p (insert tokens k.number (token k.place Tok.key)) (None ∷ ks) indents indent flow before
 key_stood text more p tokens k ks indents indent flow before s =
     let o : IsOpen k 0 s.row s.behind p (58 ∷ more) (innermost_column (columns indent indents)) = s.are_open.0 in
-    let old : List Written = o.own ∷ o.after in
+    let old : List Written = o.own ∷ o.later in
     let acc : Account = account_past_row first_account o.before (spelled old s.behind) in
-    let vs : List Written = empty_token o.own.filler (key_at k.place) ∷ bare o.own ∷ o.after in
+    let vs : List Written = empty_token o.own.filler (key_at k.place) ∷ bare o.own ∷ o.later in
     let c : AtColon text more p tokens k ks indents indent flow before s = at_colon text more p tokens k ks indents indent flow before s in
     let t : Token = token k.place Tok.key in
     let same : start_token s.begin ∷ tokens_of (o.before ++ vs) ≡ insert tokens k.number t =
     sym (ap (λ ts. insert ts k.number t) c.tokens_are ∙ ap (λ n. insert (start_token s.begin ∷ (tokens_of o.before ++ tokens_of old)) n t) c.number ∙ insert_tokens (start_token s.begin) (tokens_of o.before) (tokens_of old) t ∙
     ap (λ ts. start_token s.begin ∷ ts) (sym (tokens_append o.before vs))) in
     subst (λ ts. Stood text (58 ∷ more) p ts (None ∷ ks) indents indent flow before) same
-    (inserted_stood text more p tokens k ks indents indent flow before s vs refl (λ last. key_inserted acc o.own o.after s.behind last k.place o.is_node (c.row last)) indents indent s.are_levels flow refl
-    (ap (λ a. account_past_filler a s.here.filler (58 ∷ more)) (key_behind acc o.own o.after s.behind k.place) ∙ c.here)
+    (inserted_stood text more p tokens k ks indents indent flow before s vs refl (λ last. key_inserted acc o.own o.later s.behind last k.place o.is_node (c.row last)) indents indent s.are_levels flow refl
+    (ap (λ a. account_past_filler a s.here.filler (58 ∷ more)) (key_behind acc o.own o.later s.behind k.place) ∙ c.here)
     (outer_open text more p tokens k ks indents indent flow before s vs (λ ns. ns) (λ m ns i. (refl, inside_framed [] old [] (m ∷ ns) i)) refl))
 
 -- two tokens go in before those of a number
@@ -136,14 +136,14 @@ two_in start ts us all n t u e f =
 
 -- ---- the start of a pair without braces, and its key
 
-pub pair_key_stood : (text more : List ℕ) (p q : Place) (tokens : List Token) (k : Key) (ks : List (Option Key)) (indents : List Indent) (indent : ℕ) (gs : List FlowLevel) (before : Before) → p.line ≤ k.place.line → Stood text (58 ∷ more) p tokens (Some k ∷ ks) indents indent (Entry ∷ gs) before →
+pub pair_key_stood : (text more : List ℕ) (p q : Position) (tokens : List Token) (k : Key) (ks : List (Option Key)) (indents : List Indent) (indent : ℕ) (gs : List FlowLevel) (before : Before) → p.line ≤ k.place.line → Stood text (58 ∷ more) p tokens (Some k ∷ ks) indents indent (Entry ∷ gs) before →
     Stood text (58 ∷ more) p (insert (insert tokens k.number (token k.place Tok.key)) k.number (token q Tok.flow_mapping_start)) (None ∷ ks) indents indent (Pair ∷ gs) before
 pair_key_stood text more p q tokens k ks indents indent gs before on s =
     let column : Option ℕ = innermost_column (columns indent indents) in
     let o : IsOpen k 0 s.row s.behind p (58 ∷ more) column = s.are_open.0 in
-    let old : List Written = o.own ∷ o.after in
+    let old : List Written = o.own ∷ o.later in
     let acc : Account = account_past_row first_account o.before (spelled old s.behind) in
-    let vs : List Written = empty_token o.own.filler (pair_at q) ∷ empty_token [] (key_at k.place) ∷ bare o.own ∷ o.after in
+    let vs : List Written = empty_token o.own.filler (pair_at q) ∷ empty_token [] (key_at k.place) ∷ bare o.own ∷ o.later in
     let c : AtColon text more p tokens k ks indents indent (Entry ∷ gs) before s = at_colon text more p tokens k ks indents indent (Entry ∷ gs) before s in
     let i : inside [] old ≡ Some [] = inside_none k old column (o.live (on, refl)) in
     let ls : List Level = levels_of gs in
@@ -151,34 +151,34 @@ pair_key_stood text more p q tokens k ks indents indent gs before on s =
     let same : start_token s.begin ∷ tokens_of (o.before ++ vs) ≡ insert (insert tokens k.number (token k.place Tok.key)) k.number (token q Tok.flow_mapping_start) =
     ap (λ ts. start_token s.begin ∷ ts) (tokens_append o.before vs) ∙ sym (two_in (start_token s.begin) (tokens_of o.before) (tokens_of old) tokens k.number (token k.place Tok.key) (token q Tok.flow_mapping_start) c.tokens_are c.number) in
     subst (λ ts. Stood text (58 ∷ more) p ts (None ∷ ks) indents indent (Pair ∷ gs) before) same
-    (inserted_stood text more p tokens k ks indents indent (Entry ∷ gs) before s vs refl (λ last. pair_row acc o.own o.after s.behind last q k.place ls [] o.is_node i levels (c.row last)) indents indent s.are_levels (Pair ∷ gs) refl
-    (ap (λ a. account_past_filler a s.here.filler (58 ∷ more)) (pair_behind acc o.own o.after s.behind q k.place ls i levels) ∙ ap (λ (a : Account). record a { levels = record { kind = sequence; pair = true } ∷ ls }) c.here)
+    (inserted_stood text more p tokens k ks indents indent (Entry ∷ gs) before s vs refl (λ last. pair_row acc o.own o.later s.behind last q k.place ls [] o.is_node i levels (c.row last)) indents indent s.are_levels (Pair ∷ gs) refl
+    (ap (λ a. account_past_filler a s.here.filler (58 ∷ more)) (pair_behind acc o.own o.later s.behind q k.place ls i levels) ∙ ap (λ (a : Account). record a { levels = record { kind = sequence; pair = true } ∷ ls }) c.here)
     (outer_open text more p tokens k ks indents indent (Entry ∷ gs) before s vs (with_pair true) (λ m ns j. (refl, inside_framed [] old [] (record m { pair = true } ∷ ns) j)) refl))
 
 -- ---- the start of a mapping, and its key
 
-pub mapping_key_stood : (text more : List ℕ) (p q : Place) (tokens : List Token) (k : Key) (ks : List (Option Key)) (indents : List Indent) (indent : ℕ) (before : Before) (indents2 : List Indent) (indent2 : ℕ) → p.line ≤ k.place.line → AreLevels indent2 indents2 →
+pub mapping_key_stood : (text more : List ℕ) (p q : Position) (tokens : List Token) (k : Key) (ks : List (Option Key)) (indents : List Indent) (indent : ℕ) (before : Before) (indents2 : List Indent) (indent2 : ℕ) → p.line ≤ k.place.line → AreLevels indent2 indents2 →
     columns indent2 indents2 ≡ Some k.place.col ∷ columns indent indents → Stood text (58 ∷ more) p tokens (Some k ∷ ks) indents indent [] before →
     Stood text (58 ∷ more) p (insert (insert tokens k.number (token k.place Tok.key)) k.number (token q Tok.block_mapping_start)) (None ∷ ks) indents2 indent2 [] before
 mapping_key_stood text more p q tokens k ks indents indent before indents2 indent2 on are cols s =
     let column : Option ℕ = innermost_column (columns indent indents) in
     let o : IsOpen k 0 s.row s.behind p (58 ∷ more) column = s.are_open.0 in
-    let old : List Written = o.own ∷ o.after in
+    let old : List Written = o.own ∷ o.later in
     let acc : Account = account_past_row first_account o.before (spelled old s.behind) in
-    let own : Account = account_at acc o.own (spelled o.after s.behind) in
-    let vs : List Written = empty_token o.own.filler (mapping_at q) ∷ empty_token [] (key_at k.place) ∷ bare o.own ∷ o.after in
+    let own : Account = account_at acc o.own (spelled o.later s.behind) in
+    let vs : List Written = empty_token o.own.filler (mapping_at q) ∷ empty_token [] (key_at k.place) ∷ bare o.own ∷ o.later in
     let c : AtColon text more p tokens k ks indents indent [] before s = at_colon text more p tokens k ks indents indent [] before s in
     let i : inside [] old ≡ Some [] = inside_none k old column (o.live (on, refl)) in
     let levels : acc.levels ≡ [] = sym (levels_behind acc [] [] acc.levels old s.behind i refl) ∙ ap (λ a. a.levels) c.here in
     let outside : not (is_empty acc.levels) ≡ false = ap (λ ls. not (is_empty ls)) levels in
-    let end_line : (place_behind (account_past_row acc old s.behind).place s.here.filler (58 ∷ more)).line ≡ p.line = ap (λ a. a.place.line) c.here in
+    let end_line : (position_after (account_past_row acc old s.behind).place s.here.filler (58 ∷ more)).line ≡ p.line = ap (λ a. a.place.line) c.here in
     let key_line : k.place.line ≡ own.place.line = ap (λ x. x.line) o.place_is in
-    let line : AreOnLine old s.behind = on_line acc o.own o.after s.behind s.here.filler more [] i s.here.is_behind (omega (arith, end_line, key_line, on)) in
+    let line : AreOnLine old s.behind = on_line acc o.own o.later s.behind s.here.filler more [] i s.here.is_behind (omega (arith, end_line, key_line, on)) in
     let same : start_token s.begin ∷ tokens_of (o.before ++ vs) ≡ insert (insert tokens k.number (token k.place Tok.key)) k.number (token q Tok.block_mapping_start) =
     ap (λ ts. start_token s.begin ∷ ts) (tokens_append o.before vs) ∙ sym (two_in (start_token s.begin) (tokens_of o.before) (tokens_of old) tokens k.number (token k.place Tok.key) (token q Tok.block_mapping_start) c.tokens_are c.number) in
     let blocks : Some own.place.col ∷ columns indent indents ≡ columns indent2 indents2 = ap (λ n. Some n ∷ columns indent indents) (sym (ap (λ x. x.col) o.place_is)) ∙ sym cols in
     subst (λ ts. Stood text (58 ∷ more) p ts (None ∷ ks) indents2 indent2 [] before) same
-    (inserted_stood text more p tokens k ks indents indent [] before s vs refl (λ last. mapping_inserted acc o.own o.after s.behind last q k.place outside o.is_node line (c.row last)) indents2 indent2 are [] refl
-    (ap (λ a. account_past_filler a s.here.filler (58 ∷ more)) (mapping_behind acc o.own o.after s.behind q k.place [] i o.is_solid o.is_settled) ∙ ap (λ (a : Account). record a { blocks = Some own.place.col ∷ a.blocks }) c.here ∙
+    (inserted_stood text more p tokens k ks indents indent [] before s vs refl (λ last. mapping_inserted acc o.own o.later s.behind last q k.place outside o.is_node line (c.row last)) indents2 indent2 are [] refl
+    (ap (λ a. account_past_filler a s.here.filler (58 ∷ more)) (mapping_behind acc o.own o.later s.behind q k.place [] i o.is_solid o.is_settled) ∙ ap (λ (a : Account). record a { blocks = Some own.place.col ∷ a.blocks }) c.here ∙
     ap {B = Account} (λ bs. record { place = p; blocks = bs; levels = []; before = before }) blocks)
     (none_open 0 (o.before ++ vs) s.behind p (58 ∷ more) (innermost_column (columns indent2 indents2)) (Some k ∷ ks) s.one_each))

@@ -1,12 +1,12 @@
 -- The function of the model that reads a `?` keeps what holds between fetches.
 use Rattle.std.proofs.Common.{◌≡◌, ℕ, suc, ◌<◌, List, [], ◌∷◌, ◌++◌, Bool, true, false, not, ◌==◌, length, if◌then◌else◌, Option, None, Result, Ok, Err, refl, ap, sym, ◌∙◌, subst, arith, inl}
 use Rattle.std.proofs.lemmas.Bool.{eqb-true}
-use Rattle.defs_text.specs.Position.{Place}
+use Rattle.defs_text.specs.Position.{Position}
 use Rattle.yaml_chars.specs.Class as class
 use Rattle.yaml_tokens.specs.declared.problem.Fault.{Fault}
 use Rattle.defs_token.specs.Token.{Tok}
 use Rattle.defs_text.specs.Classes.{is_break, is_blank, is_nul, is_blank_or_end, is_at_gap}
-use Rattle.defs_token.specs.Text.{place_behind}
+use Rattle.defs_text.specs.Position.{position_after}
 use Rattle.defs_token.specs.Account.{Account, other, innermost_column}
 use Rattle.defs_token.specs.Piece.{begins_with_space_or_break}
 use Rattle.model_lexers.specs.Machine.{past}
@@ -93,7 +93,7 @@ keyed_many (Entry ∷ fs) = refl
 keyed_many (Keyed ∷ fs) = refl
 keyed_many (Pair ∷ fs) = refl
 
-pub leads_key : (f : List ℕ) (piece : List ℕ) (at : Place) → LeadsOut 1 (led f (with_piece piece at Tok.key) ∷ [])
+pub leads_key : (f : List ℕ) (piece : List ℕ) (at : Position) → LeadsOut 1 (led f (with_piece piece at Tok.key) ∷ [])
 leads_key f piece at m ns = record { levels = m ∷ ns; is_inside = refl; are_many = omega arith }
 
 -- the state behind the `?`
@@ -103,9 +103,9 @@ behind_question t u = skip_indicator (on_held (λ s. allow_key (not (in_flow s))
 key_fares : (text more : List ℕ) (t w : State) → t.rest ≡ 63 ∷ more → (s : Stands text t) → (u : Held) → KeyBegins t.held u → begins_with_space_or_break more ≡ true → Passed (behind_question t u) w →
     Stands text (on_held (push t.held.place Tok.key) w)
 key_fares text more t w e s u (in_flow_here inner d) gap c =
-    let p : Place = t.held.place in
+    let p : Position = t.held.place in
     let bs : List (Option ℕ) = columns t.held.indent t.held.indents in
-    let g : Filled more (past p) w = record { filler = c.filler; is_rest = ap behind (sym e) ∙ c.is_rest; is_filled = c.is_filled; is_place = ap (λ y. y.place) c.is_held ∙ ap (λ y. place_behind (past y.place) c.filler w.rest) d } in
+    let g : Filled more (past p) w = record { filler = c.filler; is_rest = ap behind (sym e) ∙ c.is_rest; is_filled = c.is_filled; is_place = ap (λ y. y.place) c.is_held ∙ ap (λ y. position_after (past y.place) c.filler w.rest) d } in
     let y : Stood text (63 ∷ more) p t.held.tokens t.held.keys t.held.indents t.held.indent t.held.flow s.before = subst (λ z. Stood text z p t.held.tokens t.held.keys t.held.indents t.held.indent t.held.flow s.before) e s.stood in
     let a : Account = account_of p t.held.indent t.held.indents t.held.flow s.before in
     let r : ReadAs a (63 ∷ more) Tok.key p w.rest w.held.place = indicated_by a 63 more Tok.key p w (question more gap).in_line g (λ next last n. inl (refl, rw n at gap)) in
@@ -125,9 +125,9 @@ key_fares text more t w e s u (in_flow_here inner d) gap c =
     subst (λ z. Fares text w.rest z.place (z.tokens ++ token p Tok.key ∷ []) z.keys z.indents z.indent z.flow z.adjacent_value_at) (sym (at_place (behind_question t u) w c))
     (subst (λ z. Fares text w.rest w.held.place (z.tokens ++ token p Tok.key ∷ []) (with_top None z.keys) z.indents z.indent z.flow z.adjacent_value_at) (sym d) ends)
 key_fares text more t w e s u (in_block_here outer r) gap c =
-    let p : Place = t.held.place in
+    let p : Position = t.held.place in
     let same : (u.place ≡ p) × (u.keys ≡ t.held.keys) × (u.flow ≡ t.held.flow) × (u.adjacent_value_at ≡ t.held.adjacent_value_at) = rolls_place p.col None (token p Tok.block_mapping_start) t.held u r in
-    let g : Filled more (past p) w = record { filler = c.filler; is_rest = ap behind (sym e) ∙ c.is_rest; is_filled = c.is_filled; is_place = ap (λ y. y.place) c.is_held ∙ ap (λ q. place_behind (past q) c.filler w.rest) same.0 } in
+    let g : Filled more (past p) w = record { filler = c.filler; is_rest = ap behind (sym e) ∙ c.is_rest; is_filled = c.is_filled; is_place = ap (λ y. y.place) c.is_held ∙ ap (λ q. position_after (past q) c.filler w.rest) same.0 } in
     let y : Stood text (63 ∷ more) p t.held.tokens t.held.keys t.held.indents t.held.indent t.held.flow s.before = subst (λ z. Stood text z p t.held.tokens t.held.keys t.held.indents t.held.indent t.held.flow s.before) e s.stood in
     let k : Stood text w.rest w.held.place (u.tokens ++ token p Tok.key ∷ []) (with_top None t.held.keys) u.indents u.indent t.held.flow other =
     roll_stood text 63 more Tok.block_mapping_start Tok.key mapping_start (question more gap) t.held u s.before (not_nil t.held.flow outer) p p p w g r y in

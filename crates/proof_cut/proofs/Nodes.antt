@@ -3,10 +3,10 @@ use Rattle.std.proofs.Common.{◌≡◌, ℕ, suc, ◌+◌, ◌≤◌, ◌<◌, 
 use Rattle.std.proofs.lemmas.Bool.{and_parts}
 use Rattle.std.proofs.lemmas.Bool.Decides.{nat_tests}
 use Rattle.defs_text.specs.Classes.{is_nul}
-use Rattle.defs_text.specs.Position.{Place}
+use Rattle.defs_text.specs.Position.{Position}
 use Rattle.defs_text.specs.Text.{is_nil}
 use Rattle.defs_token.specs.Token.{Style, Tok, Token}
-use Rattle.defs_token.specs.Text.{place_behind}
+use Rattle.defs_text.specs.Position.{position_after}
 use Rattle.defs_token.specs.Account.{Level, Account, Before, other, before_past, before_by, is_adjacent, is_empty, blocks_past, levels_past}
 use Rattle.defs_token.specs.Piece.{begins_node}
 use Rattle.model_scanner.specs.declared.level.Indent.{Indent}
@@ -38,7 +38,7 @@ use Rattle.proof_cut.proofs.Stoods.{with_saved, node_stood, stood_levels}
 use Rattle.proof_cut.proofs.Levels.{WithoutOpen, without_is}
 
 -- what may still be a key outside flow stands on the line
-abbrev pub AreNear : Place → List (Option Key) → Type 0
+abbrev pub AreNear : Position → List (Option Key) → Type 0
 AreNear p [] = Unit {0}
 AreNear p (None ∷ ks) = AreNear p ks
 AreNear p (Some k ∷ ks) = (p.line ≤ k.place.line) × AreNear p ks
@@ -59,25 +59,25 @@ IsDeep s = s.indent ≤ s.place.col + 1
 pub not_same : (x y : ℕ) → y < x → (x == y) ≡ false
 not_same x y h = grind (arith, nat_tests)
 
-pub adjacent_other : (p : Place) (adj : ℕ) (rest : List ℕ) → adj < p.index → IsAdjacent other p adj rest
+pub adjacent_other : (p : Position) (adj : ℕ) (rest : List ℕ) → adj < p.index → IsAdjacent other p adj rest
 adjacent_other p adj rest h = λ filler r e k t. sym (not_same (p.index + length filler) adj (omega (arith, h)))
 
-pub further_read : (a : Account) (rest : List ℕ) (tok : Tok) (at : Place) (rest2 : List ℕ) (end : Place) → ReadAs a rest tok at rest2 end → a.place.index < end.index
+pub further_read : (a : Account) (rest : List ℕ) (tok : Tok) (at : Position) (rest2 : List ℕ) (end : Position) → ReadAs a rest tok at rest2 end → a.place.index < end.index
 further_read a rest tok at rest2 end r =
-    let q : Place = place_behind a.place (r.first ∷ r.more) (r.filler ++ rest2) in
+    let q : Position = position_after a.place (r.first ∷ r.more) (r.filler ++ rest2) in
     let i : q.index ≡ a.place.index + length (r.first ∷ r.more) = index_behind a.place (r.first ∷ r.more) (r.filler ++ rest2) in
-    let j : (place_behind q r.filler rest2).index ≡ q.index + length r.filler = index_behind q r.filler rest2 in
-    let e : end.index ≡ (place_behind q r.filler rest2).index = ap (λ x. x.index) r.is_end in
+    let j : (position_after q r.filler rest2).index ≡ q.index + length r.filler = index_behind q r.filler rest2 in
+    let e : end.index ≡ (position_after q r.filler rest2).index = ap (λ x. x.index) r.is_end in
     omega (arith, i, j, e)
 
 -- ---- neutral tokens
 
-pub opens_none : (p q : Place) (rest2 f piece : List ℕ) (at : Place) (tok : Tok) → ((ns : List Level) → step_inside ns piece tok ≡ Some ns) → Opens 0 p q rest2 (led f (with_piece piece at tok) ∷ [])
+pub opens_none : (p q : Position) (rest2 f piece : List ℕ) (at : Position) (tok : Tok) → ((ns : List Level) → step_inside ns piece tok ≡ Some ns) → Opens 0 p q rest2 (led f (with_piece piece at tok) ∷ [])
 opens_none p q rest2 f piece at tok step = λ k n l ns. record { levels = ns; is_inside = ap (λ o. levels_then o (λ ms. Some ms)) (step ns); are_many = omega arith }
 
 -- a node's token that no colon may stand next to
-pub node_fares : (text rest : List ℕ) (p : Place) (tokens : List Token) (keys : List (Option Key)) (indents : List Indent) (indent : ℕ) (flow : List FlowLevel) (before : Before) (adj : ℕ)
-    (s : Stood text rest p tokens keys indents indent flow before) → adj ≤ p.index → (tok : Tok) (at : Place) (rest2 : List ℕ) (end : Place) (r : ReadAs (account_of p indent indents flow before) rest tok at rest2 end) →
+pub node_fares : (text rest : List ℕ) (p : Position) (tokens : List Token) (keys : List (Option Key)) (indents : List Indent) (indent : ℕ) (flow : List FlowLevel) (before : Before) (adj : ℕ)
+    (s : Stood text rest p tokens keys indents indent flow before) → adj ≤ p.index → (tok : Tok) (at : Position) (rest2 : List ℕ) (end : Position) (r : ReadAs (account_of p indent indents flow before) rest tok at rest2 end) →
     begins_node (Some tok) ≡ true → indent ≤ p.col + 1 → blocks_past (columns indent indents) tok ≡ columns indent indents → levels_past (levels_of flow) (r.first ∷ r.more) tok ≡ levels_of flow → before_by tok ≡ other →
     Opens 0 p end rest2 (led s.here.filler (with_piece (r.first ∷ r.more) at tok) ∷ []) → (allowed required : Bool) →
     Fares text rest2 end (tokens ++ token at tok ∷ []) (with_saved allowed required (length tokens) p keys) indents indent flow adj
@@ -119,7 +119,7 @@ neutral_double x = record { node = refl; blocks = λ bs. refl; levels = λ ls c 
 abbrev pub account_now : (text : List ℕ) (t : State) → Stands text t → Account
 account_now text t s = account_of t.held.place t.held.indent t.held.indents t.held.flow s.before
 
-pub neutral_fares : (text : List ℕ) (t : State) (s : Stands text t) → IsDeep t.held → (tok : Tok) (at : Place) (rest2 : List ℕ) (end : Place) → ReadAs (account_now text t s) t.rest tok at rest2 end → IsNeutral tok → before_by tok ≡ other →
+pub neutral_fares : (text : List ℕ) (t : State) (s : Stands text t) → IsDeep t.held → (tok : Tok) (at : Position) (rest2 : List ℕ) (end : Position) → ReadAs (account_now text t s) t.rest tok at rest2 end → IsNeutral tok → before_by tok ≡ other →
     Fares text rest2 end (t.held.tokens ++ token at tok ∷ []) (saved_keys t.held) t.held.indents t.held.indent t.held.flow t.held.adjacent_value_at
 neutral_fares text t s deep tok at rest2 end r n none =
     node_fares text t.rest t.held.place t.held.tokens t.held.keys t.held.indents t.held.indent t.held.flow s.before t.held.adjacent_value_at s.stood s.was_adjacent tok at rest2 end r

@@ -1,9 +1,9 @@
 -- What the model passes between tokens.
 use Rattle.std.proofs.Common.{◌≡◌, ℕ, List, ◌++◌, Bool, true, false, Result, refl, ap, sym, ◌∙◌, subst, append_assoc}
-use Rattle.defs_text.specs.Position.{Place}
+use Rattle.defs_text.specs.Position.{Position}
 use Rattle.defs_token.specs.Token.{Token}
 use Rattle.yaml_tokens.specs.declared.problem.Fault.{Fault}
-use Rattle.defs_token.specs.Text.{place_behind}
+use Rattle.defs_text.specs.Position.{position_after}
 use Rattle.defs_token.specs.Filler.{is_filler}
 use Rattle.defs_token.specs.Account.{Before, before_past}
 use Rattle.model_scanner.specs.declared.level.Indent.{Indent}
@@ -26,7 +26,7 @@ use Rattle.proof_cut.proofs.Pieces.Fillers.{filler_append}
 use Rattle.proof_cut.proofs.Stoods.{stood_filled}
 
 -- a held state at another place
-abbrev pub placed_at : Held → Place → (leading allowed : Bool) → Held
+abbrev pub placed_at : Held → Position → (leading allowed : Bool) → Held
 placed_at s p leading allowed = record s { place = p; leading = leading; key_allowed = allowed }
 
 -- From one state to another a filler was passed.
@@ -36,14 +36,14 @@ pub record Passed (t u : State) : Type 0 where
   pub allowed : Bool
   pub is_rest : t.rest ≡ filler ++ u.rest
   pub is_filled : is_filler false filler u.rest ≡ true
-  pub is_held : u.held ≡ placed_at t.held (place_behind t.held.place filler u.rest) leading allowed
+  pub is_held : u.held ≡ placed_at t.held (position_after t.held.place filler u.rest) leading allowed
 
 -- a filler was passed, from a place on
-pub record Filled (rest : List ℕ) (p : Place) (u : State) : Type 0 where
+pub record Filled (rest : List ℕ) (p : Position) (u : State) : Type 0 where
   pub filler : List ℕ
   pub is_rest : rest ≡ filler ++ u.rest
   pub is_filled : is_filler false filler u.rest ≡ true
-  pub is_place : u.held.place ≡ place_behind p filler u.rest
+  pub is_place : u.held.place ≡ position_after p filler u.rest
 
 abbrev pub filled_of : (t u : State) → Passed t u → Filled t.rest t.held.place u
 filled_of t u a = record { filler = a.filler; is_rest = a.is_rest; is_filled = a.is_filled; is_place = ap (λ h. h.place) a.is_held }
@@ -78,7 +78,7 @@ pub record Spaced (tabs : SkipTabs) (t u : State) : Type 0 where
   pub is_filled : is_filler false (blanks ++ comment) u.rest ≡ true
   pub no_break : has_break (blanks ++ comment) ≡ false
   pub ends : ends_spaces tabs u.rest ≡ true
-  pub is_held : u.held ≡ record t.held { place = place_behind t.held.place (blanks ++ comment) u.rest }
+  pub is_held : u.held ≡ record t.held { place = position_after t.held.place (blanks ++ comment) u.rest }
 
 pub spaced : (tabs : SkipTabs) (t : State) (go : Whitespace → State → Result State Fault) (P : State → Type 0) → ((w : Whitespace) (u : State) → Spaced tabs t u → Holds P (go w u)) → Holds P (lexed (space tabs t.rest t.held.place) t.held go)
 spaced tabs t go P f = by (space tabs t.rest t.held.place) (spaces_are_passed tabs t.rest t.held.place)
@@ -105,15 +105,15 @@ passed_spaces tabs t u s = record {
 pub passed_both : (t u v : State) → Passed t u → Passed u v → Passed t v
 passed_both t u v a b =
     let cut : t.rest ≡ (a.filler ++ b.filler) ++ v.rest = a.is_rest ∙ ap (λ r. a.filler ++ r) b.is_rest ∙ sym (append_assoc a.filler b.filler v.rest) in
-    let place : place_behind u.held.place b.filler v.rest ≡ place_behind t.held.place (a.filler ++ b.filler) v.rest =
-    ap (λ h. place_behind h.place b.filler v.rest) a.is_held ∙ ap (λ r. place_behind (place_behind t.held.place a.filler r) b.filler v.rest) b.is_rest ∙ sym (place_append t.held.place a.filler b.filler v.rest) in
+    let place : position_after u.held.place b.filler v.rest ≡ position_after t.held.place (a.filler ++ b.filler) v.rest =
+    ap (λ h. position_after h.place b.filler v.rest) a.is_held ∙ ap (λ r. position_after (position_after t.held.place a.filler r) b.filler v.rest) b.is_rest ∙ sym (place_append t.held.place a.filler b.filler v.rest) in
     record {
       filler = a.filler ++ b.filler;
       leading = b.leading;
       allowed = b.allowed;
       is_rest = cut;
       is_filled = filler_append false a.filler b.filler v.rest (rw b.is_rest at a.is_filled) b.is_filled;
-      is_held = b.is_held ∙ ap (λ h. placed_at h (place_behind u.held.place b.filler v.rest) b.leading b.allowed) a.is_held ∙ ap (λ p. placed_at t.held p b.leading b.allowed) place;
+      is_held = b.is_held ∙ ap (λ h. placed_at h (position_after u.held.place b.filler v.rest) b.leading b.allowed) a.is_held ∙ ap (λ p. placed_at t.held p b.leading b.allowed) place;
     }
 
 -- what was passed of a text is passed behind a filler too

@@ -1,47 +1,48 @@
 -- Places behind texts.
 use Rattle.std.proofs.Common.{◌≡◌, ℕ, suc, ◌+◌, List, [], ◌∷◌, ◌++◌, Bool, true, false, if◌then◌else◌, length, refl, arith}
-use Rattle.defs_text.specs.Position.{Place}
-use Rattle.defs_token.specs.Text.{ends_line, place_past, place_behind}
+use Rattle.defs_text.specs.Position.{Position}
+use Rattle.defs_text.specs.Breaks.{ends_line}
+use Rattle.defs_text.specs.Position.{position_past, position_after}
 use Rattle.proof_cut.specs.Order.{NotBefore, Behind}
 
-pub not_before_same : (p : Place) → NotBefore p p
+pub not_before_same : (p : Position) → NotBefore p p
 not_before_same p = (omega arith, λ h. omega arith)
 
-pub not_before_then : (p q r : Place) → NotBefore p q → NotBefore q r → NotBefore p r
+pub not_before_then : (p q r : Position) → NotBefore p q → NotBefore q r → NotBefore p r
 not_before_then p q r a b = (omega (arith, a.0, b.0), λ h. omega (arith, a.1 (omega (arith, h, b.0)), b.1 (omega (arith, h, a.0))))
 
-pub behind_then : (p q r : Place) → Behind p q → NotBefore q r → Behind p r
+pub behind_then : (p q r : Position) → Behind p q → NotBefore q r → Behind p r
 behind_then p q r a b = (omega (arith, a.0, b.0), λ h. omega (arith, a.1 (omega (arith, h, b.0)), b.1 (omega (arith, h, a.0))))
 
-past_behind : (p : Place) (c : ℕ) (next : List ℕ) → Behind p (place_past p c next)
+past_behind : (p : Position) (c : ℕ) (next : List ℕ) → Behind p (position_past p c next)
 past_behind p c next = by (ends_line c next)
   where
     by : (b : Bool) → Behind p (if b then record { index = suc p.index; line = suc p.line; col = 0 } else record { index = suc p.index; line = p.line; col = suc p.col })
     by true = (omega arith, λ h. omega (arith, h))
     by false = (omega arith, λ h. omega arith)
 
-pub weaker : (p q : Place) → Behind p q → NotBefore p q
+pub weaker : (p q : Position) → Behind p q → NotBefore p q
 weaker p q a = (a.0, λ h. omega (arith, a.1 h))
 
-pub not_before_behind : (p : Place) (a next : List ℕ) → NotBefore p (place_behind p a next)
+pub not_before_behind : (p : Position) (a next : List ℕ) → NotBefore p (position_after p a next)
 not_before_behind p [] next = not_before_same p
 not_before_behind p (c ∷ a) next =
-    let q : Place = place_past p c (a ++ next) in
-    not_before_then p q (place_behind q a next) (weaker p q (past_behind p c (a ++ next))) (not_before_behind q a next)
+    let q : Position = position_past p c (a ++ next) in
+    not_before_then p q (position_after q a next) (weaker p q (past_behind p c (a ++ next))) (not_before_behind q a next)
 
-pub is_behind : (p : Place) (c : ℕ) (a next : List ℕ) → Behind p (place_behind p (c ∷ a) next)
+pub is_behind : (p : Position) (c : ℕ) (a next : List ℕ) → Behind p (position_after p (c ∷ a) next)
 is_behind p c a next =
-    let q : Place = place_past p c (a ++ next) in
-    behind_then p q (place_behind q a next) (past_behind p c (a ++ next)) (not_before_behind q a next)
+    let q : Position = position_past p c (a ++ next) in
+    behind_then p q (position_after q a next) (past_behind p c (a ++ next)) (not_before_behind q a next)
 
-index_past : (p : Place) (c : ℕ) (next : List ℕ) → (place_past p c next).index ≡ suc p.index
+index_past : (p : Position) (c : ℕ) (next : List ℕ) → (position_past p c next).index ≡ suc p.index
 index_past p c next = by (ends_line c next)
   where
-    by : (b : Bool) → (let q : Place = (if b then record { index = suc p.index; line = suc p.line; col = 0 } else record { index = suc p.index; line = p.line; col = suc p.col }) in q.index) ≡ suc p.index
+    by : (b : Bool) → (let q : Position = (if b then record { index = suc p.index; line = suc p.line; col = 0 } else record { index = suc p.index; line = p.line; col = suc p.col }) in q.index) ≡ suc p.index
     by true = refl
     by false = refl
 
 -- the index counts characters
-pub index_behind : (p : Place) (a next : List ℕ) → (place_behind p a next).index ≡ p.index + length a
+pub index_behind : (p : Position) (a next : List ℕ) → (position_after p a next).index ≡ p.index + length a
 index_behind p [] next = omega arith
-index_behind p (c ∷ a) next = omega (arith, index_behind (place_past p c (a ++ next)) a next, index_past p c (a ++ next))
+index_behind p (c ∷ a) next = omega (arith, index_behind (position_past p c (a ++ next)) a next, index_past p c (a ++ next))

@@ -1,6 +1,6 @@
 -- One token more, with its piece and the filler behind it.
 use Rattle.std.proofs.Common.{◌≡◌, ℕ, ◌-◌, List, [], ◌∷◌, ◌++◌, Bool, true, false, if◌then◌else◌, Option, Some, refl, ap, sym, ◌∙◌, subst}
-use Rattle.defs_text.specs.Position.{Place}
+use Rattle.defs_text.specs.Position.{Position}
 use Rattle.defs_token.specs.Token.{Tok}
 use Rattle.defs_token.specs.Filler.{is_filler}
 use Rattle.defs_token.specs.Account.{Level, Account, Before, settled, blocks_past, levels_past, account_past_filler, account_at_piece, account_past_token}
@@ -13,7 +13,7 @@ use Rattle.proof_cut.proofs.Heres.{before_again, here_more, here_filled, led}
 
 -- ---- accounts
 
-pub same_account : (p q : Place) (bs cs : List (Option ℕ)) (ls ms : List Level) (b c : Before) → p ≡ q → bs ≡ cs → ls ≡ ms → b ≡ c →
+pub same_account : (p q : Position) (bs cs : List (Option ℕ)) (ls ms : List Level) (b c : Before) → p ≡ q → bs ≡ cs → ls ≡ ms → b ≡ c →
     ◌≡◌ {A = Account} (record { place = p; blocks = bs; levels = ls; before = b }) (record { place = q; blocks = cs; levels = ms; before = c })
 same_account p q bs cs ls ms b c e f g h =
     ap (λ x. record { place = x; blocks = bs; levels = ls; before = b }) e ∙
@@ -36,25 +36,25 @@ again a rest = ap (λ b. record a { before = b }) (before_again a.before)
 -- ---- one token
 
 -- a token with its piece
-abbrev pub with_piece : (piece : List ℕ) → Place → Tok → Written
+abbrev pub with_piece : (piece : List ℕ) → Position → Tok → Written
 with_piece piece at t = record { filler = []; piece = piece; token = record { place = at; tok = t } }
 
 -- the account at a piece, where the block collections are known
 abbrev pub with_blocks : List (Option ℕ) → Account → Account
 with_blocks bs a = record a { blocks = bs }
 
-at_piece : (a : Account) (bs : List (Option ℕ)) (c : ℕ) (more next : List ℕ) (at : Place) (t : Tok) → settled a.place.col a.blocks ≡ bs → account_at a (with_piece (c ∷ more) at t) next ≡ with_blocks bs a
+at_piece : (a : Account) (bs : List (Option ℕ)) (c : ℕ) (more next : List ℕ) (at : Position) (t : Tok) → settled a.place.col a.blocks ≡ bs → account_at a (with_piece (c ∷ more) at t) next ≡ with_blocks bs a
 at_piece a bs c more next at t e = ap (λ b. account_at_piece b (c ∷ more)) (again a ((c ∷ more) ++ next)) ∙ ap (λ x. with_blocks x a) e
 
-row_of_one : (a : Account) (bs : List (Option ℕ)) (c : ℕ) (more next : List ℕ) (at : Place) (t : Tok) (last : Option Tok) → settled a.place.col a.blocks ≡ bs → IsPiece (with_blocks bs a) (c ∷ more) next last at t →
+row_of_one : (a : Account) (bs : List (Option ℕ)) (c : ℕ) (more next : List ℕ) (at : Position) (t : Tok) (last : Option Tok) → settled a.place.col a.blocks ≡ bs → IsPiece (with_blocks bs a) (c ∷ more) next last at t →
     IsRow a (with_piece (c ∷ more) at t ∷ []) next last
 row_of_one a bs c more next at t last e q = ((refl, subst (λ b. IsPiece b (c ∷ more) next last at t) (sym (at_piece a bs c more next at t e)) q), tt)
 
-past_one : (a : Account) (bs : List (Option ℕ)) (c : ℕ) (more next : List ℕ) (at : Place) (t : Tok) → settled a.place.col a.blocks ≡ bs →
+past_one : (a : Account) (bs : List (Option ℕ)) (c : ℕ) (more next : List ℕ) (at : Position) (t : Tok) → settled a.place.col a.blocks ≡ bs →
     account_past_row a (with_piece (c ∷ more) at t ∷ []) next ≡ account_past_token (with_blocks bs a) (c ∷ more) next t
 past_one a bs c more next at t e = ap (λ b. account_past_token b (c ∷ more) next t) (at_piece a bs c more next at t e)
 
-pub here_token : (text : List ℕ) (row : List Written) (behind rest : List ℕ) (a : Account) (bs : List (Option ℕ)) (c : ℕ) (more g rest2 : List ℕ) (at : Place) (t : Tok) →
+pub here_token : (text : List ℕ) (row : List Written) (behind rest : List ℕ) (a : Account) (bs : List (Option ℕ)) (c : ℕ) (more g rest2 : List ℕ) (at : Position) (t : Tok) →
     rest ≡ (c ∷ more) ++ (g ++ rest2) → is_filler false g rest2 ≡ true → settled a.place.col a.blocks ≡ bs → ((last : Option Tok) → IsPiece (with_blocks bs a) (c ∷ more) (g ++ rest2) last at t) →
     (h : Here text row behind rest a) →
     Here text (row ++ (led h.filler (with_piece (c ∷ more) at t) ∷ [])) (g ++ rest2) rest2 (account_past_filler (account_past_token (with_blocks bs a) (c ∷ more) (g ++ rest2) t) g rest2)
@@ -72,10 +72,10 @@ here_token text row behind rest a bs c more g rest2 at t cut f e q h =
 abbrev pub past_empty : Account → Tok → Account
 past_empty a t = record { place = a.place; blocks = blocks_past a.blocks t; levels = levels_past a.levels [] t; before = a.before }
 
-at_empty : (a : Account) (next : List ℕ) (at : Place) (t : Tok) → account_at a (with_piece [] at t) next ≡ a
+at_empty : (a : Account) (next : List ℕ) (at : Position) (t : Tok) → account_at a (with_piece [] at t) next ≡ a
 at_empty a next at t = again a next
 
-pub here_empty : (text : List ℕ) (row : List Written) (behind rest : List ℕ) (a : Account) (at : Place) (t : Tok) → ((last : Option Tok) → IsPiece a [] rest last at t) →
+pub here_empty : (text : List ℕ) (row : List Written) (behind rest : List ℕ) (a : Account) (at : Position) (t : Tok) → ((last : Option Tok) → IsPiece a [] rest last at t) →
     (h : Here text row behind rest a) → Here text (row ++ (led h.filler (with_piece [] at t) ∷ [])) rest rest (past_empty a t)
 here_empty text row behind rest a at t q h =
     subst (λ b. Here text (row ++ (led h.filler (with_piece [] at t) ∷ [])) rest rest b) (ap (λ b. account_past_token b [] rest t) (at_empty a rest at t))
@@ -83,7 +83,7 @@ here_empty text row behind rest a at t q h =
 
 -- ---- a token without a piece, and one with its piece
 
-row_of_two : (a : Account) (bs : List (Option ℕ)) (c : ℕ) (more next : List ℕ) (at at2 : Place) (t t2 : Tok) (last : Option Tok) → settled a.place.col (blocks_past a.blocks t) ≡ bs →
+row_of_two : (a : Account) (bs : List (Option ℕ)) (c : ℕ) (more next : List ℕ) (at at2 : Position) (t t2 : Tok) (last : Option Tok) → settled a.place.col (blocks_past a.blocks t) ≡ bs →
     IsPiece a [] ((c ∷ more) ++ next) (Some t2) at t → IsPiece (with_blocks bs (past_empty a t)) (c ∷ more) next last at2 t2 →
     IsRow a (with_piece [] at t ∷ with_piece (c ∷ more) at2 t2 ∷ []) next last
 row_of_two a bs c more next at at2 t t2 last e q r =
@@ -93,13 +93,13 @@ row_of_two a bs c more next at at2 t t2 last e q r =
       subst (λ b. IsRow (account_past_token b [] rest t) (with_piece (c ∷ more) at2 t2 ∷ []) next last) (sym same) (row_of_one (past_empty a t) bs c more next at2 t2 last e r),
     )
 
-past_two : (a : Account) (bs : List (Option ℕ)) (c : ℕ) (more next : List ℕ) (at at2 : Place) (t t2 : Tok) → settled a.place.col (blocks_past a.blocks t) ≡ bs →
+past_two : (a : Account) (bs : List (Option ℕ)) (c : ℕ) (more next : List ℕ) (at at2 : Position) (t t2 : Tok) → settled a.place.col (blocks_past a.blocks t) ≡ bs →
     account_past_row a (with_piece [] at t ∷ with_piece (c ∷ more) at2 t2 ∷ []) next ≡ account_past_token (with_blocks bs (past_empty a t)) (c ∷ more) next t2
 past_two a bs c more next at at2 t t2 e =
     let rest : List ℕ = (c ∷ more) ++ next in
     ap (λ b. account_past_row (account_past_token b [] rest t) (with_piece (c ∷ more) at2 t2 ∷ []) next) (at_empty a rest at t) ∙ past_one (past_empty a t) bs c more next at2 t2 e
 
-pub here_two : (text : List ℕ) (row : List Written) (behind rest : List ℕ) (a : Account) (bs : List (Option ℕ)) (c : ℕ) (more g rest2 : List ℕ) (at at2 : Place) (t t2 : Tok) →
+pub here_two : (text : List ℕ) (row : List Written) (behind rest : List ℕ) (a : Account) (bs : List (Option ℕ)) (c : ℕ) (more g rest2 : List ℕ) (at at2 : Position) (t t2 : Tok) →
     rest ≡ (c ∷ more) ++ (g ++ rest2) → is_filler false g rest2 ≡ true → settled a.place.col (blocks_past a.blocks t) ≡ bs → IsPiece a [] ((c ∷ more) ++ (g ++ rest2)) (Some t2) at t →
     ((last : Option Tok) → IsPiece (with_blocks bs (past_empty a t)) (c ∷ more) (g ++ rest2) last at2 t2) → (h : Here text row behind rest a) →
     Here text (row ++ (led h.filler (with_piece [] at t) ∷ with_piece (c ∷ more) at2 t2 ∷ [])) (g ++ rest2) rest2 (account_past_filler (account_past_token (with_blocks bs (past_empty a t)) (c ∷ more) (g ++ rest2) t2) g rest2)

@@ -1,6 +1,6 @@
 -- Where a block collection begins: the levels of indentation, and the columns of block collections.
 use Rattle.std.proofs.Common.{◌≡◌, ℕ, ◌+◌, ◌-◌, List, [], ◌∷◌, Bool, true, false, nat_le, nat_lt, if◌then◌else◌, Option, Some, refl, ap, sym, ◌∙◌, subst, arith}
-use Rattle.defs_text.specs.Position.{Place}
+use Rattle.defs_text.specs.Position.{Position}
 use Rattle.defs_token.specs.Token.{Tok, Token}
 use Rattle.model_scanner.specs.declared.level.Indent.{Indent}
 use Rattle.model_scanner.specs.State.{Held, in_flow, token}
@@ -43,7 +43,7 @@ pub data Rolls (col : ℕ) (number : Option ℕ) (t : Token) (s u : Held) : Type
   begins : (indents : List Indent) → (indent : ℕ) → u ≡ record s { indents = indents; indent = indent; tokens = placed number t s.tokens } → columns indent indents ≡ Some col ∷ columns s.indent s.indents → AreLevels indent indents → Rolls col number t s u
   goes_on : SameBlocks s u → Rolls col number t s u
 
-pub rolled_is : (col : ℕ) (number : Option ℕ) (t : Tok) (p : Place) (s : Held) → in_flow s ≡ false → AreLevels s.indent s.indents → Rolls col number (token p t) s (roll_indent col number t p s)
+pub rolled_is : (col : ℕ) (number : Option ℕ) (t : Tok) (p : Position) (s : Held) → in_flow s ≡ false → AreLevels s.indent s.indents → Rolls col number (token p t) s (roll_indent col number t p s)
 unfolding roll_indent deepen
 rolled_is col number t p s out l = by (in_flow s) out
   where

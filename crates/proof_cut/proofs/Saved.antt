@@ -1,8 +1,8 @@
 -- A node's token, which may turn out to be a key: what the open keys are behind it.
 use Rattle.std.proofs.Common.{◌≡◌, ℕ, suc, ◌+◌, List, [], ◌∷◌, ◌++◌, Bool, true, false, length, if◌then◌else◌, Option, Some, refl, ap, sym, ◌∙◌, subst, arith}
-use Rattle.defs_text.specs.Position.{Place}
+use Rattle.defs_text.specs.Position.{Position}
 use Rattle.defs_token.specs.Token.{Tok}
-use Rattle.defs_token.specs.Text.{place_behind}
+use Rattle.defs_text.specs.Position.{position_after}
 use Rattle.defs_token.specs.Account.{Level, Account, first_account, settled}
 use Rattle.defs_token.specs.Piece.{begins_node}
 use Rattle.defs_token.specs.Cut.{Written, IsRow, spelled, tokens_of, account_past_row}
@@ -33,10 +33,10 @@ length_tokens [] = refl
 length_tokens (w ∷ ws) = ap suc (length_tokens ws)
 
 -- what a token leads to, inside each key that is live behind it
-abbrev pub Opens : (many : ℕ) → Place → Place → (rest2 : List ℕ) → List Written → Type 0
+abbrev pub Opens : (many : ℕ) → Position → Position → (rest2 : List ℕ) → List Written → Type 0
 Opens many p q rest2 vs = (k : Key) → NotBefore k.place p → IsLive k q rest2 → (ns : List Level) → Goes ns vs (many + length ns)
 
-pub leads_by : (many i : ℕ) (p q : Place) (rest2 : List ℕ) (vs : List Written) → Opens many p q rest2 vs → Leads i (many + i) p q rest2 vs
+pub leads_by : (many i : ℕ) (p q : Position) (rest2 : List ℕ) (vs : List Written) → Opens many p q rest2 vs → Leads i (many + i) p q rest2 vs
 leads_by many i p q rest2 vs o k n ns b v e =
     let g : Goes ns vs (many + length ns) = o k (weaker k.place p b) v ns in
     record { levels = g.levels; is_inside = g.is_inside; are_many = omega (arith, g.are_many, e) }
@@ -47,7 +47,7 @@ goes_first c more next rest2 e = refl
 add_none : (n : ℕ) → n + 0 ≡ n
 add_none n = omega arith
 
-pub open_saved : (text : List ℕ) (row : List Written) (behind rest : List ℕ) (a : Account) (keys : List (Option Key)) (column : Option ℕ) (c : ℕ) (more behind2 rest2 : List ℕ) (q at : Place) (t : Tok) (many : ℕ) (b : Bool) (k : Key) →
+pub open_saved : (text : List ℕ) (row : List Written) (behind rest : List ℕ) (a : Account) (keys : List (Option Key)) (column : Option ℕ) (c : ℕ) (more behind2 rest2 : List ℕ) (q at : Position) (t : Tok) (many : ℕ) (b : Bool) (k : Key) →
     (h : Here text row behind rest a) → ((n : ℕ) → settled n a.blocks ≡ a.blocks) → AreOpen 0 row behind a.place rest column keys → rest ≡ (c ∷ more) ++ behind2 → Behind a.place q → begins_node (Some t) ≡ true → IsNotRight column a.place.col →
     k.number ≡ suc (length row) → k.place ≡ a.place → Opens many a.place q rest2 (led h.filler (with_piece (c ∷ more) at t) ∷ []) →
     AreOpen many (row ++ (led h.filler (with_piece (c ∷ more) at t) ∷ [])) behind2 q rest2 column (if b then with_top (Some k) keys else keys)
@@ -67,8 +67,8 @@ open_saved text row behind rest a keys column c more behind2 rest2 q at t many b
 
     same_place : a.place ≡ (account_in row own [] behind2).place
     same_place =
-        ap (λ x. x.place) (sym h.is_here) ∙ ap (λ r. place_behind (account_past_row first_account row behind).place h.filler r) cut ∙
-        ap (λ y. place_behind (account_past_row first_account row y).place h.filler ((c ∷ more) ++ behind2)) on
+        ap (λ x. x.place) (sym h.is_here) ∙ ap (λ r. position_after (account_past_row first_account row behind).place h.filler r) cut ∙
+        ap (λ y. position_after (account_past_row first_account row y).place h.filler ((c ∷ more) ++ behind2)) on
 
     same_blocks : a.blocks ≡ (account_past_row first_account row (spelled (own ∷ []) behind2)).blocks
     same_blocks = ap (λ x. x.blocks) (sym h.is_here) ∙ ap (λ y. (account_past_row first_account row y).blocks) on
@@ -80,7 +80,7 @@ open_saved text row behind rest a keys column c more behind2 rest2 q at t many b
       record {
         before = row;
         own = own;
-        after = [];
+        later = [];
         is_split = refl;
         number_is = number;
         is_node = node;

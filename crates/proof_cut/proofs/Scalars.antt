@@ -2,7 +2,7 @@
 use Rattle.std.proofs.Common.{◌≡◌, ℕ, ◌+◌, ◌≤◌, List, [], ◌∷◌, ◌++◌, Bool, true, false, not, ◌==◌, ◌||◌, length, nat_lt, if◌then◌else◌, Option, Some, Result, Ok, refl, ap, sym, ◌∙◌, subst, arith, inl, inr, ◌⊎◌}
 use Rattle.std.proofs.lemmas.Bool.{and_parts}
 use Rattle.std.proofs.lemmas.Bool.Decides.{nat_tests}
-use Rattle.defs_text.specs.Position.{Place}
+use Rattle.defs_text.specs.Position.{Position}
 use Rattle.defs_text.specs.Text.{is_nil}
 use Rattle.yaml_tokens.specs.declared.problem.Fault.{Fault}
 use Rattle.defs_token.specs.Token.{Tok, Token}
@@ -44,7 +44,7 @@ pub same_number : (n : ℕ) → (n + 0 == n) ≡ true
 same_number n = grind (arith, nat_tests)
 
 -- right behind a quoted scalar, at a token
-adjacent_quoted : (p : Place) (rest filler2 : List ℕ) → begins_filler rest ≡ false → IsAdjacent (before_past quoted filler2) p p.index rest
+adjacent_quoted : (p : Position) (rest filler2 : List ℕ) → begins_filler rest ≡ false → IsAdjacent (before_past quoted filler2) p p.index rest
 adjacent_quoted p rest filler2 solid = λ filler r e k t. by filler r e k
   where
     by : (filler r : List ℕ) → rest ≡ filler ++ r → is_filler false filler r ≡ true → is_adjacent (before_past (before_past quoted filler2) filler) ≡ ((p.index + length filler) == p.index)
@@ -109,7 +109,7 @@ flow_scalar_fetched text single t more e s deep =
 -- ---- block scalars
 
 -- no key is live behind a block scalar
-block_opens : (p q : Place) (rest2 f piece : List ℕ) (at : Place) (tok : Tok) → (rest2 ≡ []) ⊎ (nat_lt p.line q.line ≡ true) → Opens 0 p q rest2 (led f (with_piece piece at tok) ∷ [])
+block_opens : (p q : Position) (rest2 f piece : List ℕ) (at : Position) (tok : Tok) → (rest2 ≡ []) ⊎ (nat_lt p.line q.line ≡ true) → Opens 0 p q rest2 (led f (with_piece piece at tok) ∷ [])
 block_opens p q rest2 f piece at tok (inl e) = λ k n l ns. absurd (cc (ap is_nil e, l.1))
 block_opens p q rest2 f piece at tok (inr e) = λ k n l ns. absurd (later (k.place.line) p.line q.line n.0 l.0 e)
   where

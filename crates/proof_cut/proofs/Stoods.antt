@@ -1,9 +1,9 @@
 -- What was passed of a text, as the place, the levels and the keys change.
 use Rattle.std.proofs.Common.{◌≡◌, ℕ, suc, ◌+◌, ◌-◌, ◌≤◌, List, [], ◌∷◌, ◌++◌, Bool, true, false, ◌==◌, length, if◌then◌else◌, Option, Some, refl, ap, sym, ◌∙◌, subst, arith, append_assoc, length-append}
-use Rattle.defs_text.specs.Position.{Place}
+use Rattle.defs_text.specs.Position.{Position}
 use Rattle.defs_text.specs.Text.{is_nil}
 use Rattle.defs_token.specs.Token.{Tok, Token}
-use Rattle.defs_token.specs.Text.{place_behind}
+use Rattle.defs_text.specs.Position.{position_after}
 use Rattle.defs_token.specs.Filler.{is_filler}
 use Rattle.defs_token.specs.Account.{Level, Account, Before, before_past, before_by, is_adjacent, settled, blocks_past, levels_past, innermost_column}
 use Rattle.defs_token.specs.Piece.{IsPiece, begins_node}
@@ -32,8 +32,8 @@ goes_behind g rest rest2 e h = rw e (by g)
     by [] = h
     by (c ∷ g) = refl
 
-pub stood_filled : (text rest : List ℕ) (p : Place) (tokens : List Token) (keys : List (Option Key)) (indents : List Indent) (indent : ℕ) (flow : List FlowLevel) (before : Before) (g rest2 : List ℕ) →
-    rest ≡ g ++ rest2 → is_filler false g rest2 ≡ true → Stood text rest p tokens keys indents indent flow before → Stood text rest2 (place_behind p g rest2) tokens keys indents indent flow (before_past before g)
+pub stood_filled : (text rest : List ℕ) (p : Position) (tokens : List Token) (keys : List (Option Key)) (indents : List Indent) (indent : ℕ) (flow : List FlowLevel) (before : Before) (g rest2 : List ℕ) →
+    rest ≡ g ++ rest2 → is_filler false g rest2 ≡ true → Stood text rest p tokens keys indents indent flow before → Stood text rest2 (position_after p g rest2) tokens keys indents indent flow (before_past before g)
 stood_filled text rest p tokens keys indents indent flow before g rest2 cut f s = record {
   begin = s.begin;
   row = s.row;
@@ -42,19 +42,19 @@ stood_filled text rest p tokens keys indents indent flow before g rest2 cut f s 
   here = here_filled text s.row s.behind rest (account_of p indent indents flow before) g rest2 cut f s.here;
   are_levels = s.are_levels;
   one_each = s.one_each;
-  are_open = open_moved 0 s.row s.behind p (place_behind p g rest2) rest rest2 (innermost_column (columns indent indents)) keys (not_before_behind p g rest2) (goes_behind g rest rest2 cut) s.are_open;
+  are_open = open_moved 0 s.row s.behind p (position_after p g rest2) rest rest2 (innermost_column (columns indent indents)) keys (not_before_behind p g rest2) (goes_behind g rest rest2 cut) s.are_open;
 }
 
-pub adjacent_filled : (before : Before) (p : Place) (adj : ℕ) (rest g rest2 : List ℕ) → rest ≡ g ++ rest2 → is_filler false g rest2 ≡ true → IsAdjacent before p adj rest → IsAdjacent (before_past before g) (place_behind p g rest2) adj rest2
+pub adjacent_filled : (before : Before) (p : Position) (adj : ℕ) (rest g rest2 : List ℕ) → rest ≡ g ++ rest2 → is_filler false g rest2 ≡ true → IsAdjacent before p adj rest → IsAdjacent (before_past before g) (position_after p g rest2) adj rest2
 adjacent_filled before p adj rest g rest2 cut f a = λ filler r e k t.
     let fills : is_filler false g (filler ++ r) ≡ true = rw e at f in
     let known : is_adjacent (before_past before (g ++ filler)) ≡ ((p.index + length (g ++ filler)) == adj) = a (g ++ filler) r (cut ∙ ap (λ x. g ++ x) e ∙ sym (append_assoc g filler r)) (filler_append false g filler r fills k) t in
-    let many : p.index + length (g ++ filler) ≡ (place_behind p g rest2).index + length filler = rw (length-append g filler, index_behind p g rest2) (omega arith) in
+    let many : p.index + length (g ++ filler) ≡ (position_after p g rest2).index + length filler = rw (length-append g filler, index_behind p g rest2) (omega arith) in
     ap is_adjacent (before_both before g filler) ∙ known ∙ ap (λ x. x == adj) many
 
 -- ---- levels of indentation
 
-pub stood_levels : (text rest : List ℕ) (p : Place) (tokens : List Token) (keys : List (Option Key)) (indents : List Indent) (indent : ℕ) (flow : List FlowLevel) (before : Before) (indents2 : List Indent) (indent2 : ℕ) →
+pub stood_levels : (text rest : List ℕ) (p : Position) (tokens : List Token) (keys : List (Option Key)) (indents : List Indent) (indent : ℕ) (flow : List FlowLevel) (before : Before) (indents2 : List Indent) (indent2 : ℕ) →
     columns indent indents ≡ columns indent2 indents2 → AreLevels indent2 indents2 → Stood text rest p tokens keys indents indent flow before → Stood text rest p tokens keys indents2 indent2 flow before
 stood_levels text rest p tokens keys indents indent flow before indents2 indent2 e l s = record {
   begin = s.begin;
@@ -78,32 +78,32 @@ not_right col i (d ∷ ds) l e = by d.needs_block_end l.0 (λ u. not_right col d
 -- ---- a node's token
 
 -- the keys behind a node's start that may be a key or not
-abbrev pub with_saved : (allowed required : Bool) → (number : ℕ) → Place → List (Option Key) → List (Option Key)
+abbrev pub with_saved : (allowed required : Bool) → (number : ℕ) → Position → List (Option Key) → List (Option Key)
 with_saved allowed required number p keys = (if allowed then with_top (Some (record { required = required; number = number; place = p })) keys else keys)
 
 length_top : (k : Option Key) (ks : List (Option Key)) → length (with_top k ks) ≡ length ks
 length_top k [] = refl
 length_top k (x ∷ ks) = refl
 
-pub length_saved : (allowed required : Bool) (number : ℕ) (p : Place) (keys : List (Option Key)) → length (with_saved allowed required number p keys) ≡ length keys
+pub length_saved : (allowed required : Bool) (number : ℕ) (p : Position) (keys : List (Option Key)) → length (with_saved allowed required number p keys) ≡ length keys
 length_saved true required number p keys = length_top _ keys
 length_saved false required number p keys = refl
 
-pub tokens_more : (begin : Place) (row : List Written) (w : Written) (tokens : List Token) → tokens ≡ start_token begin ∷ tokens_of row → tokens ++ w.token ∷ [] ≡ start_token begin ∷ tokens_of (row ++ (w ∷ []))
+pub tokens_more : (begin : Position) (row : List Written) (w : Written) (tokens : List Token) → tokens ≡ start_token begin ∷ tokens_of row → tokens ++ w.token ∷ [] ≡ start_token begin ∷ tokens_of (row ++ (w ∷ []))
 tokens_more begin row w tokens e = ap (λ ts. ts ++ w.token ∷ []) e ∙ ap (λ ts. start_token begin ∷ ts) (sym (tokens_append row (w ∷ [])))
 
-pub number_of : (begin : Place) (row : List Written) (tokens : List Token) → tokens ≡ start_token begin ∷ tokens_of row → length tokens ≡ suc (length row)
+pub number_of : (begin : Position) (row : List Written) (tokens : List Token) → tokens ≡ start_token begin ∷ tokens_of row → length tokens ≡ suc (length row)
 number_of begin row tokens e = ap length e ∙ ap suc (length_tokens row)
 
-pub read_later : (a : Account) (rest : List ℕ) (tok : Tok) (at : Place) (rest2 : List ℕ) (end : Place) → ReadAs a rest tok at rest2 end → Behind a.place end
+pub read_later : (a : Account) (rest : List ℕ) (tok : Tok) (at : Position) (rest2 : List ℕ) (end : Position) → ReadAs a rest tok at rest2 end → Behind a.place end
 read_later a rest tok at rest2 end r =
-    let q : Place = place_behind a.place (r.first ∷ r.more) (r.filler ++ rest2) in
+    let q : Position = position_after a.place (r.first ∷ r.more) (r.filler ++ rest2) in
     subst (λ x. Behind a.place x) (sym r.is_end)
-    (behind_then a.place q (place_behind q r.filler rest2) (is_behind a.place r.first r.more (r.filler ++ rest2)) (not_before_behind q r.filler rest2))
+    (behind_then a.place q (position_after q r.filler rest2) (is_behind a.place r.first r.more (r.filler ++ rest2)) (not_before_behind q r.filler rest2))
 
 -- A token with its piece, whatever it opens and closes of flow.
-pub piece_stood : (text rest : List ℕ) (p : Place) (tokens : List Token) (keys : List (Option Key)) (indents : List Indent) (indent : ℕ) (flow : List FlowLevel) (before : Before)
-    (s : Stood text rest p tokens keys indents indent flow before) (tok : Tok) (at : Place) (rest2 : List ℕ) (end : Place) (r : ReadAs (account_of p indent indents flow before) rest tok at rest2 end) →
+pub piece_stood : (text rest : List ℕ) (p : Position) (tokens : List Token) (keys : List (Option Key)) (indents : List Indent) (indent : ℕ) (flow : List FlowLevel) (before : Before)
+    (s : Stood text rest p tokens keys indents indent flow before) (tok : Tok) (at : Position) (rest2 : List ℕ) (end : Position) (r : ReadAs (account_of p indent indents flow before) rest tok at rest2 end) →
     blocks_past (columns indent indents) tok ≡ columns indent indents → (flow2 : List FlowLevel) → levels_past (levels_of flow) (r.first ∷ r.more) tok ≡ levels_of flow2 →
     (keys2 : List (Option Key)) → length keys2 ≡ suc (length flow2) →
     AreOpen 0 (s.row ++ (led s.here.filler (with_piece (r.first ∷ r.more) at tok) ∷ [])) (r.filler ++ rest2) end rest2 (innermost_column (columns indent indents)) keys2 →
@@ -113,7 +113,7 @@ piece_stood text rest p tokens keys indents indent flow before s tok at rest2 en
     let bs : List (Option ℕ) = columns indent indents in
     let w : Written = led s.here.filler (with_piece (r.first ∷ r.more) at tok) in
     let b : Before = before_past (before_by tok) r.filler in
-    let q : Place = place_behind (place_behind p (r.first ∷ r.more) (r.filler ++ rest2)) r.filler rest2 in
+    let q : Position = position_after (position_after p (r.first ∷ r.more) (r.filler ++ rest2)) r.filler rest2 in
     let same : ◌≡◌ {A = Account} (record { place = q; blocks = blocks_past bs tok; levels = levels_past (levels_of flow) (r.first ∷ r.more) tok; before = b }) (account_of end indent indents flow2 b) =
     same_account q end (blocks_past bs tok) bs (levels_past (levels_of flow) (r.first ∷ r.more) tok) (levels_of flow2) b b (sym r.is_end) blocks levels refl in
     record {
@@ -129,8 +129,8 @@ piece_stood text rest p tokens keys indents indent flow before s tok at rest2 en
     }
 
 -- A token that begins a node.
-pub node_stood : (text rest : List ℕ) (p : Place) (tokens : List Token) (keys : List (Option Key)) (indents : List Indent) (indent : ℕ) (flow : List FlowLevel) (before : Before)
-    (s : Stood text rest p tokens keys indents indent flow before) (tok : Tok) (at : Place) (rest2 : List ℕ) (end : Place) (r : ReadAs (account_of p indent indents flow before) rest tok at rest2 end) →
+pub node_stood : (text rest : List ℕ) (p : Position) (tokens : List Token) (keys : List (Option Key)) (indents : List Indent) (indent : ℕ) (flow : List FlowLevel) (before : Before)
+    (s : Stood text rest p tokens keys indents indent flow before) (tok : Tok) (at : Position) (rest2 : List ℕ) (end : Position) (r : ReadAs (account_of p indent indents flow before) rest tok at rest2 end) →
     begins_node (Some tok) ≡ true → indent ≤ p.col + 1 → blocks_past (columns indent indents) tok ≡ columns indent indents → levels_past (levels_of flow) (r.first ∷ r.more) tok ≡ levels_of flow →
     Opens 0 p end rest2 (led s.here.filler (with_piece (r.first ∷ r.more) at tok) ∷ []) → (allowed required : Bool) →
     Stood text rest2 end (tokens ++ token at tok ∷ []) (with_saved allowed required (length tokens) p keys) indents indent flow (before_past (before_by tok) r.filler)
@@ -141,14 +141,14 @@ node_stood text rest p tokens keys indents indent flow before s tok at rest2 end
     (open_saved text s.row s.behind rest a keys (innermost_column (columns indent indents)) r.first r.more (r.filler ++ rest2) rest2 end at tok 0 allowed (record { required = required; number = length tokens; place = p })
     s.here (λ n. columns_settled n indent indents) s.are_open r.is_text (read_later a rest tok at rest2 end r) node (not_right p.col indent indents s.are_levels deep) (number_of s.begin s.row tokens s.tokens_are) refl opens)
 
-tokens_two : (begin : Place) (row : List Written) (v w : Written) (tokens : List Token) → tokens ≡ start_token begin ∷ tokens_of row → (tokens ++ v.token ∷ []) ++ w.token ∷ [] ≡ start_token begin ∷ tokens_of (row ++ (v ∷ w ∷ []))
+tokens_two : (begin : Position) (row : List Written) (v w : Written) (tokens : List Token) → tokens ≡ start_token begin ∷ tokens_of row → (tokens ++ v.token ∷ []) ++ w.token ∷ [] ≡ start_token begin ∷ tokens_of (row ++ (v ∷ w ∷ []))
 tokens_two begin row v w tokens e =
     append_assoc tokens (v.token ∷ []) (w.token ∷ []) ∙ ap (λ ts. ts ++ (v.token ∷ w.token ∷ [])) e ∙ ap (λ ts. start_token begin ∷ ts) (sym (tokens_append row (v ∷ w ∷ [])))
 
 -- A token without a piece, and an indicator with its own.
-pub two_stood : (text : List ℕ) (c : ℕ) (more : List ℕ) (p : Place) (tokens : List Token) (keys : List (Option Key)) (indents : List Indent) (indent : ℕ) (flow : List FlowLevel) (before : Before)
-    (s : Stood text (c ∷ more) p tokens keys indents indent flow before) (tok tok2 : Tok) (at at2 : Place) (g rest2 : List ℕ) (end : Place) → more ≡ g ++ rest2 → is_filler false g rest2 ≡ true →
-    end ≡ place_behind (place_behind p (c ∷ []) (g ++ rest2)) g rest2 → (indents2 : List Indent) (indent2 : ℕ) → AreLevels indent2 indents2 → settled p.col (blocks_past (columns indent indents) tok) ≡ columns indent2 indents2 →
+pub two_stood : (text : List ℕ) (c : ℕ) (more : List ℕ) (p : Position) (tokens : List Token) (keys : List (Option Key)) (indents : List Indent) (indent : ℕ) (flow : List FlowLevel) (before : Before)
+    (s : Stood text (c ∷ more) p tokens keys indents indent flow before) (tok tok2 : Tok) (at at2 : Position) (g rest2 : List ℕ) (end : Position) → more ≡ g ++ rest2 → is_filler false g rest2 ≡ true →
+    end ≡ position_after (position_after p (c ∷ []) (g ++ rest2)) g rest2 → (indents2 : List Indent) (indent2 : ℕ) → AreLevels indent2 indents2 → settled p.col (blocks_past (columns indent indents) tok) ≡ columns indent2 indents2 →
     IsPiece (account_of p indent indents flow before) [] (c ∷ (g ++ rest2)) (Some tok2) at tok →
     ((last : Option Tok) → IsPiece (with_blocks (columns indent2 indents2) (past_empty (account_of p indent indents flow before) tok)) (c ∷ []) (g ++ rest2) last at2 tok2) →
     blocks_past (columns indent2 indents2) tok2 ≡ columns indent2 indents2 → (flow2 : List FlowLevel) → levels_past (levels_past (levels_of flow) [] tok) (c ∷ []) tok2 ≡ levels_of flow2 →
@@ -161,7 +161,7 @@ two_stood text c more p tokens keys indents indent flow before s tok tok2 at at2
     let v : Written = led s.here.filler (with_piece [] at tok) in
     let w : Written = with_piece (c ∷ []) at2 tok2 in
     let b : Before = before_past (before_by tok2) g in
-    let q : Place = place_behind (place_behind p (c ∷ []) (g ++ rest2)) g rest2 in
+    let q : Position = position_after (position_after p (c ∷ []) (g ++ rest2)) g rest2 in
     let ls : List Level = levels_past (levels_past (levels_of flow) [] tok) (c ∷ []) tok2 in
     let same : ◌≡◌ {A = Account} (record { place = q; blocks = blocks_past bs tok2; levels = ls; before = b }) (account_of end indent2 indents2 flow2 b) =
     same_account q end (blocks_past bs tok2) bs ls (levels_of flow2) b b (sym is_end) blocks levels refl in

@@ -1,7 +1,7 @@
 -- The ends of block collections: what holds between fetches holds behind them.
 use Rattle.std.proofs.Common.{◌≡◌, ℕ, suc, ◌+◌, ◌-◌, ◌<◌, ◌≤◌, List, [], ◌∷◌, ◌++◌, Bool, true, false, not, length, drop, nat_lt, if◌then◌else◌, Option, Some, None, refl, ap, sym, ◌∙◌, subst, arith}
 use Rattle.std.proofs.lemmas.Bool.Decides.{nat_tests}
-use Rattle.defs_text.specs.Position.{Place}
+use Rattle.defs_text.specs.Position.{Position}
 use Rattle.defs_text.specs.Text.{is_nil}
 use Rattle.defs_token.specs.Token.{Tok, Token}
 use Rattle.defs_token.specs.Account.{Account, Before, is_empty, innermost_column}
@@ -22,17 +22,17 @@ use Rattle.proof_cut.proofs.Blocks.{nil_length, outside_fares}
 -- ---- keys that no longer count
 
 -- no key is on the line of a place where the text goes on
-abbrev pub AreDead : Place → (rest : List ℕ) → List (Option Key) → Type 0
+abbrev pub AreDead : Position → (rest : List ℕ) → List (Option Key) → Type 0
 AreDead p rest [] = Unit {0}
 AreDead p rest (None ∷ ks) = AreDead p rest ks
 AreDead p rest (Some k ∷ ks) = (IsLive k p rest → ⊥) × AreDead p rest ks
 
 -- keys count no more where a block collection is deeper than a limit
-abbrev pub Dies : (rest : List ℕ) → Place → List (Option Key) → (limit : ℕ) → (column : Option ℕ) → Type 0
+abbrev pub Dies : (rest : List ℕ) → Position → List (Option Key) → (limit : ℕ) → (column : Option ℕ) → Type 0
 Dies rest p keys limit column = (n : ℕ) → column ≡ Some n → limit < n + 1 → AreDead p rest keys
 
 -- a row goes on by any tokens, and other block collections may be open
-dead_more : (row vs : List Written) (behind behind2 : List ℕ) (p : Place) (rest : List ℕ) (column column2 : Option ℕ) (keys : List (Option Key)) → length keys ≡ 1 → behind ≡ spelled vs behind2 → AreDead p rest keys →
+dead_more : (row vs : List Written) (behind behind2 : List ℕ) (p : Position) (rest : List ℕ) (column column2 : Option ℕ) (keys : List (Option Key)) → length keys ≡ 1 → behind ≡ spelled vs behind2 → AreDead p rest keys →
     AreOpen 0 row behind p rest column keys → AreOpen 0 (row ++ vs) behind2 p rest column2 keys
 dead_more row vs behind behind2 p rest column column2 [] one cut dead o = tt
 dead_more row vs behind behind2 p rest column column2 (x ∷ y ∷ ks) one cut dead o = absurd (omega (arith, one))
@@ -46,7 +46,7 @@ pub outside_now : (flow : List FlowLevel) → is_nil flow ≡ true → not (is_e
 outside_now flow out = same_flow flow ∙ ap not out
 
 -- the tokens of the ends have a place of their own
-module _ (text rest : List ℕ) (p at : Place) (keys : List (Option Key)) (flow : List FlowLevel) (before : Before) (out : is_nil flow ≡ true) where
+module _ (text rest : List ℕ) (p at : Position) (keys : List (Option Key)) (flow : List FlowLevel) (before : Before) (out : is_nil flow ≡ true) where
   columns_now : (i : ℕ) (d : Indent) (ds : List Indent) → d.needs_block_end ≡ true → columns i (d ∷ ds) ≡ Some (i - 1) ∷ columns d.indent ds
   columns_now i d ds e = rw e refl
 
@@ -143,7 +143,7 @@ unrolled_to text t limit s dies = by (is_nil t.held.flow) refl
         }
 
 -- a key that is live is not left by a block collection
-key_stays : (p : Place) (rest : List ℕ) (row : List Written) (behind : List ℕ) (column : Option ℕ) (keys : List (Option Key)) → length keys ≡ 1 → AreOpen 0 row behind p rest column keys → Dies rest p keys (p.col + 1) column
+key_stays : (p : Position) (rest : List ℕ) (row : List Written) (behind : List ℕ) (column : Option ℕ) (keys : List (Option Key)) → length keys ≡ 1 → AreOpen 0 row behind p rest column keys → Dies rest p keys (p.col + 1) column
 key_stays p rest row behind column [] one o n e h = tt
 key_stays p rest row behind column (None ∷ []) one o n e h = tt
 key_stays p rest row behind column (x ∷ y ∷ ks) one o n e h = absurd (omega (arith, one))

@@ -1,12 +1,12 @@
 -- The function of the model that reads a `:` without a key before it keeps what holds between fetches.
 use Rattle.std.proofs.Common.{◌≡◌, ℕ, suc, ◌+◌, ◌<◌, List, [], ◌∷◌, ◌++◌, Bool, true, false, not, ◌==◌, ◌||◌, length, Option, Some, None, Ok, refl, ap, sym, ◌∙◌, subst, arith, inr}
-use Rattle.defs_text.specs.Position.{Place}
+use Rattle.defs_text.specs.Position.{Position}
 use Rattle.defs_text.specs.Text.{is_nil}
 use Rattle.yaml_tokens.specs.declared.problem.Fault.TheVariants.{At}
 use Rattle.yaml_tokens.specs.declared.problem.Problem.TheVariants as problem
 use Rattle.defs_token.specs.Token.{Tok, Token}
 use Rattle.defs_text.specs.Classes.{is_break, is_blank, is_at_gap}
-use Rattle.defs_token.specs.Text.{place_behind}
+use Rattle.defs_text.specs.Position.{position_after}
 use Rattle.defs_token.specs.Plain.{is_value_indicator}
 use Rattle.defs_token.specs.Account.{Account, Before, other, is_adjacent, is_empty, takes_pair, innermost_column}
 use Rattle.defs_token.specs.Piece.{IsPiece}
@@ -47,12 +47,12 @@ value_spaced t = choice (peek t.rest == 9) (spaced Yes t check_behind_tab (Passe
     (went (record { filler = []; leading = t.held.leading; allowed = t.held.key_allowed; is_rest = refl; is_filled = refl; is_held = refl }))
 
 -- what the model holds where a value begins without a key
-pub data Keyless (p : Place) (fs : List FlowLevel) (h u : Held) : Type 0 where
+pub data Keyless (p : Position) (fs : List FlowLevel) (h u : Held) : Type 0 where
   pair : (gs : List FlowLevel) (allowed : Bool) (m : Held) → fs ≡ Entry ∷ gs → SameBlocks (record h { flow = Pair ∷ gs; tokens = h.tokens ++ token h.place Tok.flow_mapping_start ∷ [] }) m → u ≡ allow_key allowed m → Keyless p fs h u
   no_pair : (allowed : Bool) (m : Held) → is_nil fs ≡ false → levels_of (paired fs) ≡ levels_of fs → length (paired fs) ≡ length fs → SameBlocks (record h { flow = paired fs }) m → u ≡ allow_key allowed m → Keyless p fs h u
   block : (allowed : Bool) (l m : Held) → fs ≡ [] → Rolls p.col None (token p Tok.block_mapping_start) (record h { flow = [] }) l → SameBlocks l m → u ≡ allow_key allowed m → Keyless p fs h u
 
-pub keyless_begun : (p : Place) (fs : List FlowLevel) (h : Held) → AreLevels h.indent h.indents → Holds (Keyless p fs h) (begin_keyless_value p (opens_pair fs) (record h { flow = paired fs }))
+pub keyless_begun : (p : Position) (fs : List FlowLevel) (h : Held) → AreLevels h.indent h.indents → Holds (Keyless p fs h) (begin_keyless_value p (opens_pair fs) (record h { flow = paired fs }))
 unfolding begin_keyless_value begin_keyless_mapping
 keyless_begun p [] h l =
     chained {P = λ m. m ≡ rolled} (passes (not h.key_allowed) (At problem.ValueNotAllowed p) (went refl)) (λ m e.
@@ -73,10 +73,10 @@ keyless_begun p (Pair ∷ gs) h l = went (no_pair _ _ refl refl refl (rolled_one
 
 -- ---- in flow
 
-leads_value : (f piece : List ℕ) (at : Place) → LeadsOut 1 (led f (with_piece piece at Tok.value) ∷ [])
+leads_value : (f piece : List ℕ) (at : Position) → LeadsOut 1 (led f (with_piece piece at Tok.value) ∷ [])
 leads_value f piece at m ns = record { levels = m ∷ ns; is_inside = refl; are_many = omega arith }
 
-leads_pair : (f : List ℕ) (at at2 : Place) → LeadsOut 1 (led f (with_piece [] at Tok.flow_mapping_start) ∷ with_piece (58 ∷ []) at2 Tok.value ∷ [])
+leads_pair : (f : List ℕ) (at at2 : Position) → LeadsOut 1 (led f (with_piece [] at Tok.flow_mapping_start) ∷ with_piece (58 ∷ []) at2 Tok.value ∷ [])
 leads_pair f at at2 m ns = record { levels = record m { pair = true } ∷ ns; is_inside = refl; are_many = omega arith }
 
 no_break_colon : is_break 58 ≡ false
@@ -84,7 +84,7 @@ unfolding is_break
 no_break_colon = refl
 
 -- a value's token
-pub value_stood : (text more : List ℕ) (p : Place) (tokens : List Token) (keys : List (Option Key)) (indents : List Indent) (indent : ℕ) (flow flow2 : List FlowLevel) (before : Before) (v : State) → Filled more (past p) v →
+pub value_stood : (text more : List ℕ) (p : Position) (tokens : List Token) (keys : List (Option Key)) (indents : List Indent) (indent : ℕ) (flow flow2 : List FlowLevel) (before : Before) (v : State) → Filled more (past p) v →
     is_value_indicator (not (is_empty (levels_of flow))) (is_adjacent before) more ≡ true → levels_of flow ≡ levels_of flow2 → length flow2 ≡ length flow → Stood text (58 ∷ more) p tokens keys indents indent flow before →
     Stood text v.rest v.held.place (tokens ++ token p Tok.value ∷ []) (with_top None keys) indents indent flow2 other
 value_stood text more p tokens keys indents indent flow flow2 before v g ind same many s =
@@ -95,12 +95,12 @@ value_stood text more p tokens keys indents indent flow flow2 before v g ind sam
     (spelled_led s.behind s.here.filler (58 ∷ more) (with_piece (58 ∷ []) p Tok.value) [] (g.filler ++ v.rest) s.here.is_behind r.is_text) (weaker p v.held.place (read_later a (58 ∷ more) Tok.value p v.rest v.held.place r)) (λ _. refl)
     (leads_value s.here.filler (58 ∷ []) p) s.are_open)
 
-is_pair_here : (a : Account) (next : List ℕ) (at : Place) → takes_pair a ≡ true → IsPiece a [] (58 ∷ next) (Some Tok.value) at Tok.flow_mapping_start
+is_pair_here : (a : Account) (next : List ℕ) (at : Position) → takes_pair a ≡ true → IsPiece a [] (58 ∷ next) (Some Tok.value) at Tok.flow_mapping_start
 unfolding is_blank is_break
 is_pair_here a next at t = inr (refl, t, refl, refl)
 
 -- the start of a pair without a key, and its value
-pair_stood : (text more : List ℕ) (p q : Place) (tokens : List Token) (keys : List (Option Key)) (indents : List Indent) (indent : ℕ) (gs : List FlowLevel) (before : Before) (v : State) → Filled more (past p) v →
+pair_stood : (text more : List ℕ) (p q : Position) (tokens : List Token) (keys : List (Option Key)) (indents : List Indent) (indent : ℕ) (gs : List FlowLevel) (before : Before) (v : State) → Filled more (past p) v →
     is_value_indicator true (is_adjacent before) more ≡ true → Stood text (58 ∷ more) p tokens keys indents indent (Entry ∷ gs) before →
     Stood text v.rest v.held.place ((tokens ++ token q Tok.flow_mapping_start ∷ []) ++ token p Tok.value ∷ []) (with_top None keys) indents indent (Pair ∷ gs) other
 pair_stood text more p q tokens keys indents indent gs before v g ind s =
@@ -124,8 +124,8 @@ top_none (k ∷ ks) e = ap (λ x. x ∷ ks) (sym e)
 pub value_fares : (text more : List ℕ) (t v : State) (s : Stands text t) → Filled more (past t.held.place) v → (tokens : List Token) (keys : List (Option Key)) (indents : List Indent) (indent : ℕ) (flow : List FlowLevel) →
     Stood text v.rest v.held.place tokens keys indents indent flow other → Fares text v.rest v.held.place tokens keys indents indent flow t.held.adjacent_value_at
 value_fares text more t v s g tokens keys indents indent flow z =
-    let i : (place_behind (past t.held.place) g.filler v.rest).index ≡ (past t.held.place).index + length g.filler = index_behind (past t.held.place) g.filler v.rest in
-    let e : v.held.place.index ≡ (place_behind (past t.held.place) g.filler v.rest).index = ap (λ x. x.index) g.is_place in
+    let i : (position_after (past t.held.place) g.filler v.rest).index ≡ (past t.held.place).index + length g.filler = index_behind (past t.held.place) g.filler v.rest in
+    let e : v.held.place.index ≡ (position_after (past t.held.place) g.filler v.rest).index = ap (λ x. x.index) g.is_place in
     let further : t.held.place.index < v.held.place.index = omega (arith, i, e) in
     record { before = other; stood = z; was_adjacent = omega (arith, s.was_adjacent, further); is_adjacent_here = λ _. adjacent_other v.held.place t.held.adjacent_value_at v.rest (omega (arith, s.was_adjacent, further)) }
 
@@ -138,8 +138,8 @@ pub keyless_fares : (text more : List ℕ) (t v : State) (leading allowed : Bool
     Filled more (past t.held.place) v → (u : Held) → Keyless t.held.place t.held.flow (placed_at t.held v.held.place leading allowed) u →
     Fares text v.rest u.place (u.tokens ++ token t.held.place Tok.value ∷ []) u.keys u.indents u.indent u.flow u.adjacent_value_at
 keyless_fares text more t v leading allowed e s none ind g u (pair gs al m f d w) =
-    let p : Place = t.held.place in
-    let q : Place = v.held.place in
+    let p : Position = t.held.place in
+    let q : Position = v.held.place in
     let tokens : List Token = (t.held.tokens ++ token q Tok.flow_mapping_start ∷ []) ++ token p Tok.value ∷ [] in
     let y : Stood text (58 ∷ more) p t.held.tokens t.held.keys t.held.indents t.held.indent (Entry ∷ gs) s.before =
     subst (λ fs. Stood text (58 ∷ more) p t.held.tokens t.held.keys t.held.indents t.held.indent fs s.before) f (subst (λ z. Stood text z p t.held.tokens t.held.keys t.held.indents t.held.indent t.held.flow s.before) e s.stood) in
@@ -151,8 +151,8 @@ keyless_fares text more t v leading allowed e s none ind g u (pair gs al m f d w
     subst (λ h. Fares text v.rest h.place (h.tokens ++ token p Tok.value ∷ []) h.keys h.indents h.indent h.flow h.adjacent_value_at) (sym (w ∙ ap (allow_key al) d.is_held))
     (value_fares text more t v s g tokens t.held.keys d.indents d.indent (Pair ∷ gs) k)
 keyless_fares text more t v leading allowed e s none ind g u (no_pair al m f same many d w) =
-    let p : Place = t.held.place in
-    let q : Place = v.held.place in
+    let p : Position = t.held.place in
+    let q : Position = v.held.place in
     let tokens : List Token = t.held.tokens ++ token p Tok.value ∷ [] in
     let fs : List FlowLevel = paired t.held.flow in
     let y : Stood text (58 ∷ more) p t.held.tokens t.held.keys t.held.indents t.held.indent t.held.flow s.before = subst (λ z. Stood text z p t.held.tokens t.held.keys t.held.indents t.held.indent t.held.flow s.before) e s.stood in
@@ -164,8 +164,8 @@ keyless_fares text more t v leading allowed e s none ind g u (no_pair al m f sam
     subst (λ h. Fares text v.rest h.place (h.tokens ++ token p Tok.value ∷ []) h.keys h.indents h.indent h.flow h.adjacent_value_at) (sym (w ∙ ap (allow_key al) d.is_held))
     (value_fares text more t v s g tokens t.held.keys d.indents d.indent fs k)
 keyless_fares text more t v leading allowed e s none ind g u (block al l m f r d w) =
-    let p : Place = t.held.place in
-    let q : Place = v.held.place in
+    let p : Position = t.held.place in
+    let q : Position = v.held.place in
     let outer : Held = record (placed_at t.held q leading allowed) { flow = [] } in
     let tokens : List Token = l.tokens ++ token p Tok.value ∷ [] in
     let y : Stood text (58 ∷ more) p t.held.tokens t.held.keys t.held.indents t.held.indent [] s.before =

@@ -2,7 +2,7 @@
 use Rattle.std.proofs.Common.{◌≡◌, ℕ, ◌≤◌, List, [], ◌∷◌, ◌++◌, Bool, true, false, not, length, nat_lt, Option, Some, None, Result, Ok, refl, ap, sym, ◌∙◌, subst, arith}
 use Rattle.std.specs.List.{insert}
 use Rattle.std.proofs.lemmas.Bool.Decides.{nat_tests}
-use Rattle.defs_text.specs.Position.{Place}
+use Rattle.defs_text.specs.Position.{Position}
 use Rattle.defs_text.specs.Text.{is_nil}
 use Rattle.yaml_tokens.specs.declared.problem.Fault.{Fault}
 use Rattle.yaml_tokens.specs.declared.problem.Fault.TheVariants.{At}
@@ -36,11 +36,11 @@ closed m = record m { keys = with_top None m.keys; key_allowed = false }
 abbrev with_key : Key → List Token → List Token
 with_key k ts = insert ts k.number (token k.place Tok.key)
 
-abbrev with_start : Key → Place → Tok → List Token → List Token
+abbrev with_start : Key → Position → Tok → List Token → List Token
 with_start k p t ts = insert (with_key k ts) k.number (token p t)
 
 -- what the model holds where a value begins behind a key
-data KeyedAs (k : Key) (p : Place) (fs : List FlowLevel) (h u : Held) : Type 0 where
+data KeyedAs (k : Key) (p : Position) (fs : List FlowLevel) (h u : Held) : Type 0 where
   pair : (gs : List FlowLevel) (m : Held) → fs ≡ Entry ∷ gs → p.line ≤ k.place.line → SameBlocks (record h { flow = Pair ∷ gs; tokens = with_start k h.place Tok.flow_mapping_start h.tokens }) m → u ≡ closed m → KeyedAs k p fs h u
   no_pair : (m : Held) → is_nil fs ≡ false → levels_of (paired fs) ≡ levels_of fs → length (paired fs) ≡ length fs → SameBlocks (record h { flow = paired fs; tokens = with_key k h.tokens }) m → u ≡ closed m → KeyedAs k p fs h u
   block : (l m : Held) → fs ≡ [] → Rolls k.place.col (Some k.number) (token p Tok.block_mapping_start) (record h { flow = []; tokens = with_key k h.tokens }) l → SameBlocks l m → u ≡ closed m → KeyedAs k p fs h u
@@ -49,11 +49,11 @@ not_later : (x y : ℕ) → nat_lt x y ≡ false → y ≤ x
 not_later x y h = grind (arith, nat_tests)
 
 -- in flow no mapping begins
-in_level : (k : Key) (p : Place) (s : Held) → in_flow s ≡ true → AreLevels s.indent s.indents → SameBlocks s (roll_one_col_indent (roll_indent k.place.col (Some k.number) Tok.block_mapping_start p s))
+in_level : (k : Key) (p : Position) (s : Held) → in_flow s ≡ true → AreLevels s.indent s.indents → SameBlocks s (roll_one_col_indent (roll_indent k.place.col (Some k.number) Tok.block_mapping_start p s))
 unfolding roll_indent
 in_level k p s e l = rw e (rolled_one s l)
 
-keyed_begun : (k : Key) (p : Place) (fs : List FlowLevel) (h : Held) → AreLevels h.indent h.indents → Holds (KeyedAs k p fs h) (insert_key k p (opens_pair fs) (record h { flow = paired fs }))
+keyed_begun : (k : Key) (p : Position) (fs : List FlowLevel) (h : Held) → AreLevels h.indent h.indents → Holds (KeyedAs k p fs h) (insert_key k p (opens_pair fs) (record h { flow = paired fs }))
 unfolding insert_key begin_pair
 keyed_begun k p [] h l = went (block rolled (roll_one_col_indent rolled) refl rolls (rolled_one rolled (rolls_levels k.place.col (Some k.number) (token p Tok.block_mapping_start) outer rolled rolls)) refl)
   where
@@ -77,7 +77,7 @@ keyed_begun k p (Keyed ∷ gs) h l = went (no_pair _ refl refl refl (in_level k 
 keyed_begun k p (Pair ∷ gs) h l = went (no_pair _ refl refl refl (in_level k p (record h { flow = Pair ∷ gs; tokens = with_key k h.tokens }) refl l) refl)
 
 -- behind the key of a block mapping
-block_key : (text more : List ℕ) (p : Place) (k : Key) (ks : List (Option Key)) (before : Before) (h l : Held) → p.line ≤ k.place.line → Rolls k.place.col (Some k.number) (token p Tok.block_mapping_start) (record h { flow = []; tokens = with_key k h.tokens }) l →
+block_key : (text more : List ℕ) (p : Position) (k : Key) (ks : List (Option Key)) (before : Before) (h l : Held) → p.line ≤ k.place.line → Rolls k.place.col (Some k.number) (token p Tok.block_mapping_start) (record h { flow = []; tokens = with_key k h.tokens }) l →
     Stood text (58 ∷ more) p h.tokens (Some k ∷ ks) h.indents h.indent [] before → Stood text (58 ∷ more) p l.tokens (None ∷ ks) l.indents l.indent [] before
 block_key text more p k ks before h l on (begins ds i w cols are) s =
     subst (λ z. Stood text (58 ∷ more) p z.tokens (None ∷ ks) z.indents z.indent [] before) (sym w) (mapping_key_stood text more p p h.tokens k ks h.indents h.indent before ds i on are cols s)
@@ -91,10 +91,10 @@ keyed_fares : (text more : List ℕ) (t v : State) (leading allowed : Bool) (k :
     Fares text v.rest u.place (u.tokens ++ token t.held.place Tok.value ∷ []) u.keys u.indents u.indent u.flow u.adjacent_value_at
 keyed_fares text more t v leading allowed k ks e s keys ind near g u r = by r
   where
-    p : Place
+    p : Position
     p = t.held.place
 
-    q : Place
+    q : Position
     q = v.held.place
 
     now : (fs : List FlowLevel) → t.held.flow ≡ fs → Stood text (58 ∷ more) t.held.place t.held.tokens (Some k ∷ ks) t.held.indents t.held.indent fs s.before

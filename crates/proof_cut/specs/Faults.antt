@@ -5,7 +5,8 @@ use Rattle.yaml_tokens.specs.declared.problem.Fault.TheVariants.{At}
 use Rattle.yaml_tokens.specs.declared.problem.Problem.{Problem}
 use Rattle.yaml_tokens.specs.declared.problem.Problem.TheVariants as problem
 use Rattle.defs_text.specs.Classes.{is_at_gap}
-use Rattle.defs_token.specs.Text.{up_to_end, place_behind}
+use Rattle.defs_text.specs.Text.{up_to_end}
+use Rattle.defs_text.specs.Position.{position_after}
 use Rattle.defs_token.specs.Filler.{is_filler}
 use Rattle.defs_token.specs.Plain.{begins_flow, behind_blank}
 use Rattle.defs_token.specs.Account.{Account, first_account, is_in_flow, has_room, account_past_filler}
@@ -34,7 +35,7 @@ pub data IsThere (text : List ℕ) : Fault → Type 0 where
   too_deep : (a : Account) (c : ℕ) (rest : List ℕ) → IsSpot text (c ∷ rest) a → ((c == 91) || (c == 123)) ≡ true → has_room a ≡ false → IsThere text (At problem.FlowTooDeep a.place)
   entry_in_flow : (a : Account) (rest : List ℕ) → IsSpot text (45 ∷ rest) a → is_at_gap rest ≡ true → is_in_flow a ≡ true → IsThere text (At problem.BlockEntryInFlow a.place)
   dash_in_flow : (a : Account) (before rest : List ℕ) → IsSpot text (before ++ 45 ∷ rest) a → begins_flow rest ≡ true → is_in_flow a ≡ true → is_apart (stand_behind behind_blank before) ≡ true
-      → IsThere text (At problem.PlainDashInFlow (place_behind a.place before (45 ∷ rest)))
+      → IsThere text (At problem.PlainDashInFlow (position_after a.place before (45 ∷ rest)))
 
 -- whether a fault is of these
 abbrev pub is_shown : Fault → Bool

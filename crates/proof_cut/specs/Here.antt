@@ -1,6 +1,6 @@
 -- Where a row of pieces has come to in a text, and what is open there.
 use Rattle.std.specs.Prelude.{◌≡◌, ℕ, suc, ◌≤◌, List, [], ◌∷◌, ◌++◌, true, false, length, Option, Some, None}
-use Rattle.defs_text.specs.Position.{Place}
+use Rattle.defs_text.specs.Position.{Position}
 use Rattle.defs_text.specs.Text.{is_nil}
 use Rattle.defs_token.specs.Token.{Tok}
 use Rattle.defs_token.specs.Filler.{is_filler}
@@ -23,7 +23,7 @@ pub record Here (text : List ℕ) (row : List Written) (behind rest : List ℕ) 
   pub is_clean : has_no_nul rest ≡ true
 
 -- whether a place is on a key's line, and the text goes on there
-abbrev pub IsLive : Key → Place → (rest : List ℕ) → Type 0
+abbrev pub IsLive : Key → Position → (rest : List ℕ) → Type 0
 IsLive k p rest = (p.line ≤ k.place.line) × (is_nil rest ≡ false)
 
 -- a column is not right of a key
@@ -39,27 +39,27 @@ pub record IsInside (k : Key) (depth : ℕ) (ws : List Written) (column : Option
   pub column_is : IsNotRight column k.place.col
 
 -- the account at a piece of a row
-abbrev pub account_in : (before : List Written) → Written → (after : List Written) → (behind : List ℕ) → Account
-account_in before own after behind = account_at (account_past_row first_account before (spelled (own ∷ after) behind)) own (spelled after behind)
+abbrev pub account_in : (before : List Written) → Written → (later : List Written) → (behind : List ℕ) → Account
+account_in before own later behind = account_at (account_past_row first_account before (spelled (own ∷ later) behind)) own (spelled later behind)
 
 -- An open key splits a row at its number, where a node begins; the rows before and from there on; and the place now.
-pub record IsOpen (k : Key) (depth : ℕ) (row : List Written) (behind : List ℕ) (p : Place) (rest : List ℕ) (column : Option ℕ) : Type 0 where
+pub record IsOpen (k : Key) (depth : ℕ) (row : List Written) (behind : List ℕ) (p : Position) (rest : List ℕ) (column : Option ℕ) : Type 0 where
   pub before : List Written
   pub own : Written
-  pub after : List Written
-  pub is_split : row ≡ before ++ (own ∷ after)
+  pub later : List Written
+  pub is_split : row ≡ before ++ (own ∷ later)
   pub number_is : k.number ≡ suc (length before)
   pub is_node : begins_node (Some (own.token.tok)) ≡ true
   pub is_solid : is_nil own.piece ≡ false
-  pub is_free : (last : Option Tok) → IsRow first_account before (spelled (own ∷ after) behind) last
-  pub is_settled : (column : ℕ) → settled column (account_past_row first_account before (spelled (own ∷ after) behind)).blocks ≡ (account_past_row first_account before (spelled (own ∷ after) behind)).blocks
-  pub place_is : k.place ≡ (account_in before own after behind).place
+  pub is_free : (last : Option Tok) → IsRow first_account before (spelled (own ∷ later) behind) last
+  pub is_settled : (column : ℕ) → settled column (account_past_row first_account before (spelled (own ∷ later) behind)).blocks ≡ (account_past_row first_account before (spelled (own ∷ later) behind)).blocks
+  pub place_is : k.place ≡ (account_in before own later behind).place
   pub is_earlier : Behind k.place p
-  pub live : IsLive k p rest → IsInside k depth (own ∷ after) column
+  pub live : IsLive k p rest → IsInside k depth (own ∷ later) column
 
 -- The open keys, the innermost first; each outer one is open in the row before the inner one.
-abbrev pub AreOpen : (depth : ℕ) → List Written → (behind : List ℕ) → Place → (rest : List ℕ) → (column : Option ℕ) → List (Option Key) → Type 0
+abbrev pub AreOpen : (depth : ℕ) → List Written → (behind : List ℕ) → Position → (rest : List ℕ) → (column : Option ℕ) → List (Option Key) → Type 0
 AreOpen depth row behind p rest column [] = Unit {0}
 AreOpen depth row behind p rest column (None ∷ ks) = AreOpen (suc depth) row behind p rest column ks
 AreOpen depth row behind p rest column (Some k ∷ ks) =
-    (o : IsOpen k depth row behind p rest column) × AreOpen 1 o.before (spelled (o.own ∷ o.after) behind) k.place (o.own.piece ++ spelled o.after behind) column ks
+    (o : IsOpen k depth row behind p rest column) × AreOpen 1 o.before (spelled (o.own ∷ o.later) behind) k.place (o.own.piece ++ spelled o.later behind) column ks

@@ -1,26 +1,26 @@
 -- Where the scanner's model stands in a text.
 use Rattle.std.specs.Prelude.{◌≡◌, ℕ, List, [], ◌++◌, true, false}
-use Rattle.defs_text.specs.Position.{Place}
+use Rattle.defs_text.specs.Position.{Position}
 use Rattle.defs_text.specs.Text.{is_nil}
-use Rattle.defs_token.specs.Text.{first_place, place_behind}
+use Rattle.defs_text.specs.Position.{first_position, position_after}
 use Rattle.model_scanner.specs.State.{Held, State}
 use Rattle.model_scanner.specs.Document.{next_line}
 
 -- a place in a text, before the rest of it
-pub record IsPlaceIn (text rest : List ℕ) (p : Place) : Type 0 where
+pub record IsPlaceIn (text rest : List ℕ) (p : Position) : Type 0 where
   pub before : List ℕ
   pub is_text : text ≡ before ++ rest
-  pub is_place : p ≡ place_behind first_place before rest
+  pub is_place : p ≡ position_after first_position before rest
 
 -- After the stream's end: its start was met, and the place is where a line begins, after the whole text.
 pub record IsAtEnd (text : List ℕ) (h : Held) : Type 0 where
   pub began : h.started ≡ true
-  pub place : h.place ≡ next_line (place_behind first_place text [])
+  pub place : h.place ≡ next_line (position_after first_position text [])
 
 -- where a run has come to in a text
 pub record IsWhere (text : List ℕ) (t : State) : Type 0 where
   pub going : t.held.ended ≡ false → IsPlaceIn text t.rest t.held.place
-  pub over : t.held.ended ≡ true → t.held.place ≡ next_line (place_behind first_place text [])
+  pub over : t.held.ended ≡ true → t.held.place ≡ next_line (position_after first_position text [])
   -- the stream's start was met just where there are tokens
   pub none : t.held.started ≡ false → t.held.tokens ≡ []
   pub some : t.held.started ≡ true → is_nil t.held.tokens ≡ false

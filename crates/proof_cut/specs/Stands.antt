@@ -1,6 +1,6 @@
 -- What holds of the scanner's model between two fetches: its tokens are a cut of the text before its place, and what it holds is what the cut says.
 use Rattle.std.specs.Prelude.{◌≡◌, ℕ, suc, ◌+◌, ◌-◌, ◌≤◌, List, [], ◌∷◌, ◌++◌, Bool, true, false, ◌==◌, length, if◌then◌else◌, Option, Some}
-use Rattle.defs_text.specs.Position.{Place}
+use Rattle.defs_text.specs.Position.{Position}
 use Rattle.defs_text.specs.Text.{is_nil}
 use Rattle.defs_token.specs.Token.{Token}
 use Rattle.defs_token.specs.Filler.{is_filler}
@@ -39,18 +39,18 @@ AreLevels i [] = i ≡ 0
 AreLevels i (d ∷ ds) = IsLevel i d.needs_block_end d.indent × AreLevels d.indent ds
 
 -- what is open at a place, as the scanner holds it; what stands before
-abbrev pub account_of : Place → (indent : ℕ) → List Indent → List FlowLevel → Before → Account
+abbrev pub account_of : Position → (indent : ℕ) → List Indent → List FlowLevel → Before → Account
 account_of p indent indents flow before = record { place = p; blocks = columns indent indents; levels = levels_of flow; before = before }
 
 -- Inside flow a colon may stand next to what stands before the next token, just where the scanner says it.
-abbrev pub IsAdjacent : Before → Place → (adjacent_value_at : ℕ) → (rest : List ℕ) → Type 0
+abbrev pub IsAdjacent : Before → Position → (adjacent_value_at : ℕ) → (rest : List ℕ) → Type 0
 IsAdjacent before p adjacent_value_at rest =
     (filler r : List ℕ) → rest ≡ filler ++ r → is_filler false filler r ≡ true → begins_token r ≡ true
     → is_adjacent (before_past before filler) ≡ ((p.index + length filler) == adjacent_value_at)
 
 -- What was passed of a text: the tokens are a row's, and what the scanner holds is what the row says.
-pub record Stood (text rest : List ℕ) (p : Place) (tokens : List Token) (keys : List (Option Key)) (indents : List Indent) (indent : ℕ) (flow : List FlowLevel) (before : Before) : Type 0 where
-  pub begin : Place
+pub record Stood (text rest : List ℕ) (p : Position) (tokens : List Token) (keys : List (Option Key)) (indents : List Indent) (indent : ℕ) (flow : List FlowLevel) (before : Before) : Type 0 where
+  pub begin : Position
   pub row : List Written
   pub behind : List ℕ
   pub tokens_are : tokens ≡ start_token begin ∷ tokens_of row
@@ -60,7 +60,7 @@ pub record Stood (text rest : List ℕ) (p : Place) (tokens : List Token) (keys 
   pub are_open : AreOpen 0 row behind p rest (innermost_column (columns indent indents)) keys
 
 -- The same, and what may stand before a colon in flow.
-pub record Fares (text rest : List ℕ) (p : Place) (tokens : List Token) (keys : List (Option Key)) (indents : List Indent) (indent : ℕ) (flow : List FlowLevel) (adjacent_value_at : ℕ) : Type 0 where
+pub record Fares (text rest : List ℕ) (p : Position) (tokens : List Token) (keys : List (Option Key)) (indents : List Indent) (indent : ℕ) (flow : List FlowLevel) (adjacent_value_at : ℕ) : Type 0 where
   pub before : Before
   pub stood : Stood text rest p tokens keys indents indent flow before
   pub was_adjacent : adjacent_value_at ≤ p.index

@@ -4,7 +4,7 @@ use Rattle.std.specs.Char.{is_ascii_alphanumeric}
 use Rattle.std.specs.List.{list_all}
 use Rattle.std.proofs.lemmas.Bool.{and_parts, le-ltb, ne_eqb}
 use Rattle.std.proofs.lemmas.Bool.Decides.{nat_tests}
-use Rattle.defs_text.specs.Position.{Place}
+use Rattle.defs_text.specs.Position.{Position}
 use Rattle.yaml_chars.specs.Class.{is_anchor, is_blank, is_break, is_flow}
 use Rattle.defs_token.specs.Token.{Tok}
 use Rattle.defs_layout.specs.Anchored.{is_name}
@@ -22,7 +22,9 @@ use Rattle.model_scanner.specs.Document.{anchor_token, fetch_anchor}
 use Rattle.model_scanner.specs.Fetch.{token_by, comes_marker}
 use Rattle.model_scanner.specs.Run.{Reaches}
 use Rattle.proof_layout_tokens.proofs.LayoutStates.{Parts, stands, is_solid, Opens, opened, opened_indent, Trail, next, marker, end, trail_text, rest_of, limit_of, IsTrail, IsOld, Tells, Before, After}
-use Rattle.proof_layout_tokens.proofs.Whites.{line_feed, spell_white, along, along_line, along_more, beyond, passed, next_token, blanks, blanks_col, blanks_white, gap_white, gap_are_white, gap_allows}
+use Rattle.proof_layout_tokens.proofs.Whites.{line_feed, spell_white, beyond, passed, next_token, blanks, blanks_col, blanks_white, gap_white, gap_are_white, gap_allows}
+use Rattle.proof_lexers.specs.HeaderEnds.{along}
+use Rattle.proof_lexers.proofs.Along.{along_line, along_more}
 use Rattle.proof_layout_tokens.proofs.Comments.{comment_place, comment_are_white, beyond_comment, allowed_comment, blanks_line, comment_line}
 use Rattle.proof_layout_tokens.proofs.Levels
 use Rattle.proof_layout_tokens.proofs.Joins.{trail_white, trail_is, trail_are_white, gap_col, gap_line, old, IsLoose, leaf_after, saved, fetched, left_open, Ahead}
@@ -43,14 +45,14 @@ ends_name test c h = by (test c) h
     by true e = cc
     by false e = refl
 
-name_goes : (name r : List ℕ) (p : Place) (t : List ℕ) → list_all is_ascii_alphanumeric name ≡ true → ends_while is_anchor r ≡ true → take_while is_anchor (name ++ r) p t ≡ record { rest = r; place = along name p; value = t ++ name }
+name_goes : (name r : List ℕ) (p : Position) (t : List ℕ) → list_all is_ascii_alphanumeric name ≡ true → ends_while is_anchor r ≡ true → take_while is_anchor (name ++ r) p t ≡ record { rest = r; place = along name p; value = t ++ name }
 name_goes [] [] p t h e = rw append-nil refl
 name_goes [] (c ∷ r) p t h e = rw (ends_name is_anchor c e, append-nil) refl
 name_goes (c ∷ name) r p t h e =
     let q = and_parts (is_ascii_alphanumeric c) (list_all is_ascii_alphanumeric name) h in
     rw (name_character c q.0) (name_goes name r (past p) (t ++ c ∷ []) q.1 e ∙ ap (λ v. record { rest = r; place = along name (past p); value = v }) (append_assoc t (c ∷ []) name))
 
-name_read : (m : ℕ) (name r : List ℕ) (p : Place) → is_name name ≡ true → ends_while is_anchor r ≡ true → anchor_name (m ∷ (name ++ r)) p ≡ Ok (record { rest = r; place = along name (past p); value = name })
+name_read : (m : ℕ) (name r : List ℕ) (p : Position) → is_name name ≡ true → ends_while is_anchor r ≡ true → anchor_name (m ∷ (name ++ r)) p ≡ Ok (record { rest = r; place = along name (past p); value = name })
 unfolding anchor_name
 name_read m [] r p h e = cc
 name_read m (c ∷ name) r p h e = rw (name_goes (c ∷ name) r (past p) [] h e) refl
@@ -84,7 +86,7 @@ named_at is_alias name r i is p k name_is ends save = rw (name_read (sign_of is_
 -- The scanner is behind an anchor or an alias, whose token is the last.
 pub record Named (is_alias : Bool) (name : List ℕ) (from : State) (x : List ℕ) (b : Bool) (i : ℕ) (is : List Indent) (want : List Tok → List Tok) : Type 0 where
   pub parts : Parts
-  pub start : Place
+  pub start : Position
   pub run : Reaches from (stands x (opened_indent b i) (opened b i is) parts)
   pub loose : IsLoose parts
   pub not_allowed : parts.allowed ≡ false

@@ -3,13 +3,13 @@ use Rattle.std.proofs.Common.{◌≡◌, ◌≢◌, ℕ, zero, suc, ◌+◌, ◌
 use Rattle.std.specs.List.{list_all}
 use Rattle.std.proofs.lemmas.Bool.{and_parts}
 use Rattle.std.proofs.lemmas.Bool.Decides.{nat_tests}
-use Rattle.defs_text.specs.Position.{Place}
+use Rattle.defs_text.specs.Position.{Position}
 use Rattle.yaml_tokens.specs.declared.problem.Fault.{Fault}
 use Rattle.defs_text.specs.Classes as classes
 use Rattle.defs_text.specs.Classes.{is_at_end, is_document_marker, tab}
 use Rattle.defs_scalar.specs.FlowScalar.{begins_with}
 use Rattle.defs_scalar.specs.BlockScalar.{BlockStyle, literal, folded, Row, body, further_text, unbroken, header_of, sign_of, digit_of, row_of, rows_of, column_by, least_column, starts_with_tab, has_content, value_before_text, value_before_end, block_value, is_outside, is_further_text}
-use Rattle.defs_token.specs.Text.{place_behind}
+use Rattle.defs_text.specs.Position.{position_after}
 use Rattle.defs_token.specs.BlockPiece as cut
 use Rattle.defs_token.specs.BlockPiece.{read_body, past_spaces, block_place}
 use Rattle.defs_layout.specs.Gap.{GapLine, empty_line, comment_line, spaces, IsGap, AreEmptyLines, IsLineText, is_line_character}
@@ -27,16 +27,17 @@ use Rattle.proof_lexers.proofs.Blocks.Places.{space_past, behind_chars, behind_s
 use Rattle.proof_lexers.proofs.Blocks.Columns.{texts_append, spell_append}
 use Rattle.proof_lexers.proofs.Blocks.Pieces.{Read_as, to_end, to_text}
 use Rattle.proof_layout_tokens.proofs.LayoutStates.{is_solid, Trail, next, marker, end, marker_text, rest_of, limit_of, IsTrail}
-use Rattle.proof_layout_tokens.proofs.Whites.{White, line_feed, remark, spell_white, along_line, beyond, AreWhite, blanks, blanks_col, blanks_white, spaces_are, gap_white, gap_are_white, line_white, ending_white, ending_are_white}
+use Rattle.proof_layout_tokens.proofs.Whites.{White, line_feed, remark, spell_white, beyond, AreWhite, blanks, blanks_col, blanks_white, spaces_are, gap_white, gap_are_white, line_white, ending_white, ending_are_white}
+use Rattle.proof_lexers.proofs.Along.{along_line}
 use Rattle.proof_layout_tokens.proofs.Joins.{trail_white}
 use Rattle.proof_layout_tokens.proofs.BlockTexts.{header_by, line_of, lines_at, empties, texts_are, line_more, spelt, Last, last_of, deepest, empty_rows, rows_append, rows_split, rows_empty, row_spaces, row_full, content_append, text_value, spaces_value, last_value}
 
 -- The scan is behind the block, or within the white space behind it.
-pub record BlockRead (t : Result (Read Block) Fault) (text : List ℕ) (g : List White) (r : List ℕ) (p : Place) : Type 0 where
-  pub place : Place
+pub record BlockRead (t : Result (Read Block) Fault) (text : List ℕ) (g : List White) (r : List ℕ) (p : Position) : Type 0 where
+  pub place : Position
   pub white : List White
-  pub start : Place
-  pub end_place : Place
+  pub start : Position
+  pub end_place : Position
   pub same : beyond white place ≡ beyond g end_place
   pub are : AreWhite white r
   pub up : p.line ≤ end_place.line
@@ -188,7 +189,7 @@ pub record Behind (i : ℕ) (w : List White) (r : List ℕ) : Type 0 where
   pub are : AreWhite white r
   pub starts : Starts i (spell_white white r)
   pub is : spell_white w r ≡ spell (empties count) (spaces width (spell_white white r))
-  pub same : (p : Place) → beyond w p ≡ beyond white (beyond (blanks width) (behind_lines (empties count) p))
+  pub same : (p : Position) → beyond w p ≡ beyond white (beyond (blanks width) (behind_lines (empties count) p))
 
 solid_starts : (c : ℕ) (r : List ℕ) → is_solid r ≡ true → Starts (suc c) r
 solid_starts c [] h = tt
@@ -289,7 +290,7 @@ mid_false : (a b c : Bool) → b ≡ false → ((a && b) && c) ≡ false
 mid_false a b c h = rw (h, and_false a) refl
 
 -- it stands left of the collection, or at no column less than that of the lines
-not_shallow : (i n : ℕ) (p : Place) (b : cut.BlockRead) (piece behind : List ℕ) → IsInside i b.column → n < max i 1 → (further_place p piece behind).col ≡ n → is_shallow i p b piece behind ≡ false
+not_shallow : (i n : ℕ) (p : Position) (b : cut.BlockRead) (piece behind : List ℕ) → IsInside i b.column → n < max i 1 → (further_place p piece behind).col ≡ n → is_shallow i p b piece behind ≡ false
 not_shallow zero n p b piece behind inside low e = let no : nat_lt (further_place p piece behind).col b.column ≡ false = grind (arith, nat_tests) in rw no (and_false _)
 not_shallow (suc c) n p b piece behind inside low e = let no : nat_le (suc c) (further_place p piece behind).col ≡ false = grind (arith, nat_tests) in mid_false _ _ _ no
 
@@ -297,7 +298,7 @@ no_space : (n c : ℕ) (a : List ℕ) → is_further c ≡ true → without_spac
 no_space zero c a h = let no : (c == 32) ≡ false = grind (arith, nat_tests) in rw no refl
 no_space (suc n) c a h = no_space n c a h
 
-spaces_past : (n c : ℕ) (a : List ℕ) (p : Place) → is_further c ≡ true → past_spaces p (spaces n (c ∷ a)) ≡ beyond (blanks n) p
+spaces_past : (n c : ℕ) (a : List ℕ) (p : Position) → is_further c ≡ true → past_spaces p (spaces n (c ∷ a)) ≡ beyond (blanks n) p
 spaces_past zero c a p h = let no : (c == 32) ≡ false = grind (arith, nat_tests) in rw no refl
 spaces_past (suc n) c a p h = ap (λ q. past_spaces q (spaces n (c ∷ a))) (space_past p (spaces n (c ∷ a))) ∙ spaces_past n c a (past p) h
 
@@ -331,35 +332,35 @@ spelt_feeds column [] r = refl
 spelt_feeds column (l ∷ ls) r = ap (λ x. 10 ∷ spell_line column l x) (spelt_feeds column ls r) ∙ ap (λ x. 10 ∷ x) (sym (line_more column l (10 ∷ spell (lines_at column ls) r)))
 
 -- the place behind the last line's break
-behind_last : (column : ℕ) (init : List Line) (w : List ℕ) (p : Place) → behind_lines (lines_at column (init ++ full w ∷ [])) p ≡ past_break (along (spell_line column (full w) []) (behind_lines (lines_at column init) p))
+behind_last : (column : ℕ) (init : List Line) (w : List ℕ) (p : Position) → behind_lines (lines_at column (init ++ full w ∷ [])) p ≡ past_break (along (spell_line column (full w) []) (behind_lines (lines_at column init) p))
 behind_last column [] w p = refl
 behind_last column (l ∷ init) w p = behind_last column init w (behind_line (line_of column l) p)
 
-spaces_behind : (n : ℕ) (p : Place) → place_behind p (spaces n []) [] ≡ beyond (blanks n) p
+spaces_behind : (n : ℕ) (p : Position) → position_after p (spaces n []) [] ≡ beyond (blanks n) p
 spaces_behind zero p = refl
-spaces_behind (suc n) p = ap (λ q. place_behind q (spaces n []) []) (space_past p (spaces n [] ++ [])) ∙ spaces_behind n (past p)
+spaces_behind (suc n) p = ap (λ q. position_after q (spaces n []) []) (space_past p (spaces n [] ++ [])) ∙ spaces_behind n (past p)
 
-up_break : (k : written.Break) (p : Place) → p.line ≤ (behind_break k p).line
+up_break : (k : written.Break) (p : Position) → p.line ≤ (behind_break k p).line
 up_break feed p = omega arith
 up_break carriage p = omega arith
 up_break both p = omega arith
 
-up_lines : (ls : List written.Line) (p : Place) → p.line ≤ (behind_lines ls p).line
+up_lines : (ls : List written.Line) (p : Position) → p.line ≤ (behind_lines ls p).line
 up_lines [] p = omega arith
 up_lines (l ∷ ls) p = let a = up_lines ls (behind_line l p) in let b = up_break l.by (along l.text p) in let e = along_line l.text p in omega (arith, a, b, e)
 
 -- a line begins behind lines
-front_col : (l : written.Line) (ls : List written.Line) (p : Place) → (behind_lines (l ∷ ls) p).col ≡ 0
+front_col : (l : written.Line) (ls : List written.Line) (p : Position) → (behind_lines (l ∷ ls) p).col ≡ 0
 front_col l [] p = refl
 front_col l (m ∷ ls) p = front_col m ls (behind_line l p)
 
-behind_more : (a b : List written.Line) (p : Place) → behind_lines (a ++ b) p ≡ behind_lines b (behind_lines a p)
+behind_more : (a b : List written.Line) (p : Position) → behind_lines (a ++ b) p ≡ behind_lines b (behind_lines a p)
 behind_more [] b p = refl
 behind_more (l ∷ a) b p = behind_more a b (behind_line l p)
 
 -- ---- the scan
 
-was_read : (i : ℕ) (p : Place) (b : cut.BlockRead) (piece behind : List ℕ) (x : Result (Read Block) Fault) → IsRead i p b piece behind x → is_tabbed piece behind ≡ false → is_shallow i p b piece behind ≡ false → x ≡ Ok (read_block p b piece behind)
+was_read : (i : ℕ) (p : Position) (b : cut.BlockRead) (piece behind : List ℕ) (x : Result (Read Block) Fault) → IsRead i p b piece behind x → is_tabbed piece behind ≡ false → is_shallow i p b piece behind ≡ false → x ≡ Ok (read_block p b piece behind)
 was_read i p b piece behind x (read f g e) tabless deep = e
 was_read i p b piece behind x (shallow f g e) tabless deep = let false_true : false ≡ true = sym deep ∙ g in cc
 was_read i p b piece behind x (tabbed f e) tabless deep = let false_true : false ≡ true = sym tabless ∙ f in cc
@@ -368,7 +369,7 @@ no_tab : (piece behind : List ℕ) → begins_with tab behind ≡ false → is_t
 no_tab piece behind h = rw h (and_false _)
 
 -- what was read, where the rest and its place are known
-read_at : (p : Place) (b : cut.BlockRead) (piece behind y : List ℕ) (q : Place) (x : Result (Read Block) Fault) → x ≡ Ok (read_block p b piece behind) → without_spaces behind ≡ y → further_place p piece behind ≡ q
+read_at : (p : Position) (b : cut.BlockRead) (piece behind y : List ℕ) (q : Position) (x : Result (Read Block) Fault) → x ≡ Ok (read_block p b piece behind) → without_spaces behind ≡ y → further_place p piece behind ≡ q
     → x ≡ Ok (record { rest = y; place = q; value = record { place = block_place b.column p piece behind; text = b.text } })
 read_at p b piece behind y q x e f g = e ∙ rw (f, g) refl
 
@@ -385,10 +386,10 @@ module _ (s : BlockStyle) (i column : ℕ) (strips : Bool) where
   end_body ts l rs r col tabless rows last = rw (header_is s strips, col, tabless, rows, last) refl
 
   -- its scan, from its header on
-  abbrev pub scan : List ℕ → Place → Result (Read Block) Fault
+  abbrev pub scan : List ℕ → Position → Result (Read Block) Fault
   scan a p = block (is_literal s) i (block_text s strips a) p
 
-module _ (s : BlockStyle) (i column : ℕ) (strips : Bool) (text : List ℕ) (ls : List Line) (inside : IsInside i column) (h : AreBlockLines s i column strips text ls) (w : List White) (r : List ℕ) (k : Behind i w r) (p : Place) where
+module _ (s : BlockStyle) (i column : ℕ) (strips : Bool) (text : List ℕ) (ls : List Line) (inside : IsInside i column) (h : AreBlockLines s i column strips text ls) (w : List White) (r : List ℕ) (k : Behind i w r) (p : Position) where
   z : Lines s i column strips text ls
   z = lines_are s i column strips text ls inside h
 
@@ -418,10 +419,10 @@ module _ (s : BlockStyle) (i column : ℕ) (strips : Bool) (text : List ℕ) (ls
   spelt_all = ap (λ x. block_text s strips x) (spelt_feeds column ls (spell_white w r) ∙ ap (λ x. 10 ∷ spell (lines_at column ls) x) k.is ∙ ap (λ x. 10 ∷ x) (sym (spell_append (lines_at column ls) (empties k.count) (spaces k.width (spell_white k.white r)))))
 
   -- the place behind its last line, and that of what stands behind it
-  abbrev last_place : Place
+  abbrev last_place : Position
   last_place = along (spell_line column (full z.last) []) (behind_lines (header ∷ lines_at column z.init) p)
 
-  abbrev lines_place : Place
+  abbrev lines_place : Position
   lines_place = behind_lines (header ∷ all_lines) p
 
   lines_end : lines_place ≡ behind_lines (empties k.count) (past_break last_place)
@@ -430,7 +431,7 @@ module _ (s : BlockStyle) (i column : ℕ) (strips : Bool) (text : List ℕ) (ls
   abbrev ReadHere : Type 0
   ReadHere = BlockRead (scan s i column strips (spell_lines column ls (10 ∷ spell_white w r)) p) text (line_feed ∷ w) r p
 
-  reads_so : (start : Place) → scan s i column strips (spell_lines column ls (10 ∷ spell_white w r)) p ≡ Ok (record { rest = spell_white k.white r; place = beyond (blanks k.width) lines_place; value = record { place = start; text = text } }) → ReadHere
+  reads_so : (start : Position) → scan s i column strips (spell_lines column ls (10 ∷ spell_white w r)) p ≡ Ok (record { rest = spell_white k.white r; place = beyond (blanks k.width) lines_place; value = record { place = start; text = text } }) → ReadHere
   reads_so start e = record {
     place = beyond (blanks k.width) lines_place;
     white = k.white;
@@ -495,7 +496,7 @@ texts_split [] w h = (tt, h.0)
 texts_split (full v ∷ init) w h = let q = texts_split init w h.1 in ((h.0, q.0), q.1)
 texts_split (blank n ∷ init) w h = texts_split init w h
 
-module _ (s : BlockStyle) (i column : ℕ) (strips : Bool) (text : List ℕ) (ls : List Line) (inside : IsInside i column) (h : AreBlockLines s i column strips text ls) (p : Place) where
+module _ (s : BlockStyle) (i column : ℕ) (strips : Bool) (text : List ℕ) (ls : List Line) (inside : IsInside i column) (h : AreBlockLines s i column strips text ls) (p : Position) where
   pub block_ends : BlockRead (scan s i column strips (spell_lines column ls []) p) text [] [] p
   block_ends =
       let z = lines_are s i column strips text ls inside h in
@@ -513,7 +514,7 @@ module _ (s : BlockStyle) (i column : ℕ) (strips : Bool) (text : List ℕ) (ls
       let it : Read_as i p b piece [] = to_end i p b (indicator_of s ∷ header_line strips) feed before last (header_inner s strips) tt (are last).2 inner body_is in
       let now = was_read i p b piece [] _ it (no_tab piece [] refl) refl in
       let front = behind_lines (header ∷ before) p in
-      let where_is : further_place p piece [] ≡ along last front = behind_spell (header ∷ before) last [] p (are (last ++ [])) ∙ ap (λ x. place_behind front x []) (sym (append-nil last)) ∙ behind_chars last [] [] front inner in
+      let where_is : further_place p piece [] ≡ along last front = behind_spell (header ∷ before) last [] p (are (last ++ [])) ∙ ap (λ x. position_after front x []) (sym (append-nil last)) ∙ behind_chars last [] [] front inner in
       let here : block_text s strips (spell_lines column ls []) ≡ piece ++ [] =
       ap (λ x. block_text s strips x) (ap (λ l. spell_lines column l []) z.is ∙ spelt column z.init z.last [] ∙ ap (λ x. 10 ∷ spell before x) (append-nil last)) ∙ sym (append-nil piece) in
       let up = up_lines (header ∷ before) p in

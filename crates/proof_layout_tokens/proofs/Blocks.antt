@@ -1,6 +1,6 @@
 -- What a fetch does at a literal or folded block.
 use Rattle.std.proofs.Common.{◌≡◌, ℕ, suc, ◌+◌, ◌<◌, ◌≤◌, List, [], ◌∷◌, ◌++◌, Bool, true, false, Option, Some, None, Ok, refl, ◌∙◌, arith}
-use Rattle.defs_text.specs.Position.{Place}
+use Rattle.defs_text.specs.Position.{Position}
 use Rattle.defs_token.specs.Token.{Tok, Style}
 use Rattle.defs_tree.specs.Literal.{is_literal as may_be_literal, is_root_literal}
 use Rattle.defs_scalar.specs.BlockScalar.{BlockStyle, literal, folded}
@@ -40,10 +40,10 @@ abbrev token_style : BlockStyle → Style
 token_style s = block_style (is_literal s)
 
 -- behind a block
-abbrev block_parts : Parts → BlockStyle → (text : List ℕ) → Place → Place → Option Key → Parts
+abbrev block_parts : Parts → BlockStyle → (text : List ℕ) → Position → Position → Option Key → Parts
 block_parts p s text start place key = record { place = place; tokens = p.tokens ++ token start (Tok.scalar (token_style s) text) ∷ []; key = key; allowed = true; leading = true; adjacent = p.adjacent }
 
-block_at : (s : BlockStyle) (x : List ℕ) (b : Bool) (i : ℕ) (is : List Indent) (p : Parts) (k : Option Key) (text r : List ℕ) (start place : Place) → IsClosed i is
+block_at : (s : BlockStyle) (x : List ℕ) (b : Bool) (i : ℕ) (is : List Indent) (p : Parts) (k : Option Key) (text r : List ℕ) (start place : Position) → IsClosed i is
     → save_simple_key ((stands x (opened_indent b i) (opened b i is) p).held) ≡ (stands x (opened_indent b i) (opened b i is) (record p { key = k })).held
     → block (is_literal s) i x p.place ≡ Ok (record { rest = r; place = place; value = record { place = start; text = text } })
     → fetch_block_scalar (is_literal s) (stands x (opened_indent b i) (opened b i is) p) ≡ Ok (stands r i is (block_parts p s text start place k))

@@ -2,7 +2,7 @@
 use Rattle.std.proofs.Common.{◌≡◌, ℕ, zero, suc, List, [], ◌∷◌, ◌++◌, Bool, true, false, Ok, refl, ap, ◌∙◌}
 use Rattle.std.specs.List.{list_all}
 use Rattle.std.proofs.lemmas.Bool.{and_parts}
-use Rattle.defs_text.specs.Position.{Place}
+use Rattle.defs_text.specs.Position.{Position}
 use Rattle.yaml_chars.specs.Class.{is_break}
 use Rattle.defs_layout.specs.Gap.{spaces, IsLineText, is_line_character}
 use Rattle.defs_layout.specs.Layout.{Comment, no_comment, comment, spell_comment, IsComment}
@@ -10,7 +10,9 @@ use Rattle.model_lexers.specs.declared.context.SkipTabs.TheVariants.{Yes}
 use Rattle.model_lexers.specs.declared.context.Whitespace.{Whitespace}
 use Rattle.model_lexers.specs.Machine.{past}
 use Rattle.model_lexers.specs.Space as scalar_space
-use Rattle.proof_layout_tokens.proofs.Whites.{White, space, remark, spell_white, along, along_line, beyond, allowed_beyond, EndsLine, AreWhite, in_line, blanks}
+use Rattle.proof_layout_tokens.proofs.Whites.{White, space, remark, spell_white, beyond, allowed_beyond, EndsLine, AreWhite, in_line, blanks}
+use Rattle.proof_lexers.specs.HeaderEnds.{along}
+use Rattle.proof_lexers.proofs.Along.{along_line}
 
 -- so many spaces before other white space
 abbrev pub spaced : ℕ → List White → List White
@@ -23,7 +25,7 @@ comment_white no_comment w = w
 comment_white (comment more text) w = space ∷ spaced more (remark text ∷ w)
 
 -- where its line ends
-abbrev pub comment_place : Comment → Place → Place
+abbrev pub comment_place : Comment → Position → Position
 comment_place no_comment p = p
 comment_place (comment more text) p = along text (past (beyond (blanks more) (past p)))
 
@@ -49,11 +51,11 @@ comment_are_white (comment more text) w r is ends h = spaced_are_white more (rem
 
 -- ---- behind it
 
-beyond_spaced : (n : ℕ) (w : List White) (p : Place) → beyond (spaced n w) p ≡ beyond w (beyond (blanks n) p)
+beyond_spaced : (n : ℕ) (w : List White) (p : Position) → beyond (spaced n w) p ≡ beyond w (beyond (blanks n) p)
 beyond_spaced zero w p = refl
 beyond_spaced (suc n) w p = beyond_spaced n w (past p)
 
-pub beyond_comment : (k : Comment) (w : List White) (p : Place) → beyond (comment_white k w) p ≡ beyond w (comment_place k p)
+pub beyond_comment : (k : Comment) (w : List White) (p : Position) → beyond (comment_white k w) p ≡ beyond w (comment_place k p)
 beyond_comment no_comment w p = refl
 beyond_comment (comment more text) w p = beyond_spaced more (remark text ∷ w) (past p)
 
@@ -65,11 +67,11 @@ pub allowed_comment : (k : Comment) (w : List White) (b : Bool) → allowed_beyo
 allowed_comment no_comment w b = refl
 allowed_comment (comment more text) w b = allowed_spaced more (remark text ∷ w) b
 
-pub blanks_line : (n : ℕ) (p : Place) → (beyond (blanks n) p).line ≡ p.line
+pub blanks_line : (n : ℕ) (p : Position) → (beyond (blanks n) p).line ≡ p.line
 blanks_line zero p = refl
 blanks_line (suc n) p = blanks_line n (past p)
 
-pub comment_line : (k : Comment) (p : Place) → (comment_place k p).line ≡ p.line
+pub comment_line : (k : Comment) (p : Position) → (comment_place k p).line ≡ p.line
 comment_line no_comment p = refl
 comment_line (comment more text) p = along_line text (past (beyond (blanks more) (past p))) ∙ blanks_line more (past p)
 
@@ -80,7 +82,7 @@ pub data Stops : List ℕ → Type 0 where
   at_end : Stops []
   at_feed : {a : List ℕ} → Stops (10 ∷ a)
 
-text_passes : (text a : List ℕ) (p : Place) → IsLineText text → Stops a → scalar_space.comment (text ++ a) p ≡ record { rest = a; place = along text p; value = tt }
+text_passes : (text a : List ℕ) (p : Position) → IsLineText text → Stops a → scalar_space.comment (text ++ a) p ≡ record { rest = a; place = along text p; value = tt }
 unfolding is_break
 text_passes [] [] p h at_end = refl
 text_passes [] (c ∷ a) p h at_feed = refl
@@ -91,13 +93,13 @@ text_passes (c ∷ text) a p h stop =
 abbrev spaced_space : Whitespace
 spaced_space = record { found_tabs = false; has_valid_yaml_ws = true }
 
-remark_passes : (n : ℕ) (text a : List ℕ) (w : List White) (r : List ℕ) (p : Place) → IsLineText text → spell_white w r ≡ a → Stops a
+remark_passes : (n : ℕ) (text a : List ℕ) (w : List White) (r : List ℕ) (p : Position) → IsLineText text → spell_white w r ≡ a → Stops a
     → scalar_space.space_from Yes (spell_white (spaced n (remark text ∷ w)) r) (record { place = p; found = spaced_space }) ≡ Ok (record { rest = a; place = along text (past (beyond (blanks n) p)); value = spaced_space })
 unfolding is_break
 remark_passes zero text a w r p h e stop = rw (e, text_passes text a (past p) h stop) refl
 remark_passes (suc n) text a w r p h e stop = remark_passes n text a w r (past p) h e stop
 
-pub comment_passes : (more : ℕ) (text a : List ℕ) (w : List White) (r : List ℕ) (p : Place) → IsLineText text → spell_white w r ≡ a → Stops a
+pub comment_passes : (more : ℕ) (text a : List ℕ) (w : List White) (r : List ℕ) (p : Position) → IsLineText text → spell_white w r ≡ a → Stops a
     → scalar_space.space Yes (spell_white (comment_white (comment more text) w) r) p ≡ Ok (record { rest = a; place = comment_place (comment more text) p; value = spaced_space })
 unfolding scalar_space.space
 comment_passes more text a w r p h e stop = remark_passes more text a w r (past p) h e stop

@@ -1,7 +1,7 @@
 -- The starts of documents, and the end of the last.
 use Rattle.std.proofs.Common.{◌≡◌, ℕ, ◌+◌, List, [], ◌∷◌, ◌++◌, true, false, ◌==◌, None, Ok, refl, sym, ◌∙◌, append-nil}
 use Rattle.std.proofs.lemmas.Bool.{eq-eqb}
-use Rattle.defs_text.specs.Position.{Place}
+use Rattle.defs_text.specs.Position.{Position}
 use Rattle.yaml_chars.specs.Class.{is_break, is_blank}
 use Rattle.defs_token.specs.Token.{Tok, Token}
 use Rattle.defs_layout.specs.Gap.{GapLine}
@@ -23,7 +23,7 @@ use Rattle.proof_layout_tokens.proofs.Levels
 use Rattle.proof_layout_tokens.proofs.Whites.{next_token}
 
 -- behind the stream's start
-abbrev pub origin : Place
+abbrev pub origin : Position
 origin = record { index = 0; line = 1; col = 0 }
 
 abbrev pub begun : Parts
@@ -37,7 +37,7 @@ pub stream_begins : (a : List ℕ) → Reaches (start a) (stands a 0 [] begun)
 stream_begins a = there refl (begins a) here
 
 -- behind a document's marker
-abbrev pub opened : Place → List Token → (adjacent : ℕ) → Parts
+abbrev pub opened : Position → List Token → (adjacent : ℕ) → Parts
 opened p ts adjacent = record { place = past (past (past p)); tokens = ts ++ token p Tok.document_start ∷ []; key = None; allowed = false; leading = false; adjacent = adjacent }
 
 marks : (a : List ℕ) (i : ℕ) (is : List Indent) (p : Parts) (ts : List Token) → (p.place.col == 0) ≡ true → is_required p.key ≡ false
@@ -54,7 +54,7 @@ pub record Opened (from : State) (a : List ℕ) (want : List Tok → List Tok) :
   pub no_property : last_property parts.tokens ≡ None
   pub told : Tells parts.tokens want
 
-opened_at : (from : State) (a : List ℕ) (p : Place) (ts : List Token) (adjacent : ℕ) (want : List Tok → List Tok) → Tells ts want → Reaches from (stands (10 ∷ a) 0 [] (opened p ts adjacent))
+opened_at : (from : State) (a : List ℕ) (p : Position) (ts : List Token) (adjacent : ℕ) (want : List Tok → List Tok) → Tells ts want → Reaches from (stands (10 ∷ a) 0 [] (opened p ts adjacent))
     → Opened from a (λ o. want (Tok.document_start ∷ o))
 opened_at from a p ts adjacent want told run = record {
   parts = opened p ts adjacent;

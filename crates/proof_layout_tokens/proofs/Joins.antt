@@ -1,7 +1,7 @@
 -- How runs of nodes are put together: what stands behind one node, and in front of the next.
 use Rattle.std.proofs.Common.{◌≡◌, ℕ, ◌+◌, ◌<◌, ◌≤◌, List, [], ◌∷◌, ◌++◌, Bool, true, false, ◌==◌, nat_lt, Option, Some, None, Ok, refl, ap, ◌∙◌, arith, length}
 use Rattle.std.proofs.lemmas.Bool.{ne_eqb, lt-ltb, le-ltb}
-use Rattle.defs_text.specs.Position.{Place}
+use Rattle.defs_text.specs.Position.{Position}
 use Rattle.defs_token.specs.Token.{Tok}
 use Rattle.defs_layout.specs.Gap.{GapLine, empty_line, comment_line}
 use Rattle.model_lexers.specs.Machine.{past, past_break}
@@ -16,7 +16,9 @@ use Rattle.model_scanner.proofs.Runs.{reaches_then}
 use Rattle.defs_token.specs.Toks.{toks}
 use Rattle.proof_lexers.proofs.Bridges.{and_false}
 use Rattle.proof_layout_tokens.proofs.LayoutStates.{Parts, stands, opened, opened_indent, ends, left, Trail, next, marker, end, marker_text, trail_text, rest_of, limit_of, IsTrail, IsOld, Tells, Before, Settles, After}
-use Rattle.proof_layout_tokens.proofs.Whites.{White, line_feed, spell_white, along, along_line, beyond, passed, allowed_beyond, EndsLine, AreWhite, next_token, blanks, blanks_col, blanks_white, gap_white, ending_white, next_line_is, ending_is, gap_are_white, ending_are_white}
+use Rattle.proof_layout_tokens.proofs.Whites.{White, line_feed, spell_white, beyond, passed, allowed_beyond, EndsLine, AreWhite, next_token, blanks, blanks_col, blanks_white, gap_white, ending_white, next_line_is, ending_is, gap_are_white, ending_are_white}
+use Rattle.proof_lexers.specs.HeaderEnds.{along}
+use Rattle.proof_lexers.proofs.Along.{along_line}
 use Rattle.proof_layout_tokens.proofs.Comments.{Stops, at_end, at_feed, blanks_line}
 use Rattle.proof_layout_tokens.proofs.Levels
 
@@ -75,12 +77,12 @@ trail_stops (marker g r) = at_feed
 trail_stops (end []) = at_end
 trail_stops (end (l ∷ g)) = at_feed
 
-pub gap_col : (g : List GapLine) (d : ℕ) (p : Place) → p.col ≡ 0 → (beyond (gap_white g (blanks d)) p).col ≡ d
+pub gap_col : (g : List GapLine) (d : ℕ) (p : Position) → p.col ≡ 0 → (beyond (gap_white g (blanks d)) p).col ≡ d
 gap_col [] d p h = blanks_col d p ∙ omega (arith, h)
 gap_col (empty_line ∷ g) d p h = gap_col g d (past_break p) refl
 gap_col (comment_line text ∷ g) d p h = gap_col g d (past_break (along text (past p))) refl
 
-pub gap_line : (g : List GapLine) (d : ℕ) (p : Place) → p.line ≤ (beyond (gap_white g (blanks d)) p).line
+pub gap_line : (g : List GapLine) (d : ℕ) (p : Position) → p.line ≤ (beyond (gap_white g (blanks d)) p).line
 gap_line [] d p = let e = blanks_line d p in omega (arith, e)
 gap_line (empty_line ∷ g) d p = let h = gap_line g d (past_break p) in omega (arith, h)
 gap_line (comment_line text ∷ g) d p = let h = gap_line g d (past_break (along text (past p))) in let e = along_line text (past p) in omega (arith, h, e)
@@ -98,12 +100,12 @@ Allows (next g d r) b = b ≡ true
 Allows (marker g r) b = Unit {0}
 Allows (end g) b = Unit {0}
 
-pub old : (k : Option Key) (line : ℕ) (p : Place) → is_required k ≡ false → Lies k line → line < p.line → IsOld k p
+pub old : (k : Option Key) (line : ℕ) (p : Position) → is_required k ≡ false → Lies k line → line < p.line → IsOld k p
 unfolding is_far
 old None line p loose lies later = record { loose = refl; gone = refl }
 old (Some k) line p loose lies later = let h : nat_lt k.place.line p.line ≡ true = lt-ltb k.place.line p.line (omega (arith, lies, later)) in record { loose = loose; gone = rw h refl }
 
-settled : (t : Trail) (p : Parts) (e : Place) → p.place ≡ beyond (trail_white t) e → Allows t p.allowed → is_required p.key ≡ false → Lies p.key e.line → Settles t p
+settled : (t : Trail) (p : Parts) (e : Position) → p.place ≡ beyond (trail_white t) e → Allows t p.allowed → is_required p.key ≡ false → Lies p.key e.line → Settles t p
 settled (next g d r) p e place allows loose lies =
     let later = gap_line g d (past_break e) in
     let same : p.place.line ≡ (beyond (gap_white g (blanks d)) (past_break e)).line = ap (λ x. x.line) place in
@@ -112,7 +114,7 @@ settled (marker g r) p e place allows loose lies = (ap (λ x. x.col) place ∙ g
 settled (end g) p e place allows loose lies = loose
 
 -- The scanner is behind a leaf that ends at e, or within the white space behind it.
-pub leaf_after : (t : Trail) (from : State) (g : List White) (i : ℕ) (is : List Indent) (q : Parts) (e : Place) (want : List Tok → List Tok) → Reaches from (stands (spell_white g (rest_of t)) i is q) → AreWhite g (rest_of t)
+pub leaf_after : (t : Trail) (from : State) (g : List White) (i : ℕ) (is : List Indent) (q : Parts) (e : Position) (want : List Tok → List Tok) → Reaches from (stands (spell_white g (rest_of t)) i is q) → AreWhite g (rest_of t)
     → beyond g q.place ≡ beyond (trail_white t) e → Allows t (allowed_beyond g q.allowed) → is_required q.key ≡ false → Lies q.key e.line → last_property q.tokens ≡ None → Tells q.tokens want
     → After from t i is want
 leaf_after t from g i is q e want run white place allows loose lies no_property told = record {

@@ -3,7 +3,7 @@ use Rattle.std.proofs.Common.{◌≡◌, ℕ, ◌+◌, ◌≤◌, List, [], ◌�
 use Rattle.std.specs.List.{insert}
 use Rattle.std.proofs.lemmas.Bool.{le-ltb, eq-eqb}
 use Rattle.std.proofs.lemmas.List.Edits.{insert-append_left, insert_end}
-use Rattle.defs_text.specs.Position.{Place}
+use Rattle.defs_text.specs.Position.{Position}
 use Rattle.yaml_chars.specs.Class.{is_break, is_blank}
 use Rattle.defs_token.specs.Token.{Tok, Style, Token}
 use Rattle.defs_layout.specs.Gap.{GapLine, IsGap}
@@ -23,7 +23,9 @@ use Rattle.model_scanner.specs.Run.{Reaches, here, there}
 use Rattle.model_scanner.proofs.Runs.{reaches_then}
 use Rattle.defs_token.specs.Toks.{toks}
 use Rattle.proof_layout_tokens.proofs.LayoutStates.{Parts, stands, is_solid, IsClosed, Tells, Before}
-use Rattle.proof_layout_tokens.proofs.Whites.{line_feed, remark, spell_white, along, along_line, along_more, beyond, allowed_beyond, next_token, blanks, blanks_white, gap_white, gap_are_white, gap_allows}
+use Rattle.proof_layout_tokens.proofs.Whites.{line_feed, remark, spell_white, beyond, allowed_beyond, next_token, blanks, blanks_white, gap_white, gap_are_white, gap_allows}
+use Rattle.proof_lexers.specs.HeaderEnds.{along}
+use Rattle.proof_lexers.proofs.Along.{along_line, along_more}
 use Rattle.proof_layout_tokens.proofs.Levels
 use Rattle.proof_layout_tokens.proofs.Joins.{fetched, gap_col, before_entry}
 use Rattle.proof_layout_tokens.proofs.Marks.{Way, beside, below, way_white, way_column, IsWay, way_are_white, way_ends, Stand, later, first, indent_at, indents_at, starts, started, started_tells, drop_stand, rolled_at, opens, marked, solid_spaces, opens_mark, stand_low, arrived, Marked, marked_before, by_colon, value_space}
@@ -45,11 +47,11 @@ keyed_tokens (first b) ts n m k t e =
 
 -- ---- behind the scalar
 
-along_index : (a : List ℕ) (p : Place) → (along a p).index ≡ p.index + length a
+along_index : (a : List ℕ) (p : Position) → (along a p).index ≡ p.index + length a
 along_index [] p = omega arith
 along_index (c ∷ a) p = along_index a (past p) ∙ omega arith
 
-not_far : (a : List ℕ) (p : Place) → length a ≤ 1024 → is_far p (along a p) ≡ false
+not_far : (a : List ℕ) (p : Position) → length a ≤ 1024 → is_far p (along a p) ≡ false
 unfolding is_far
 not_far a p h = rw (along_line a p, along_index a p, le-ltb p.line p.line (omega arith), le-ltb (p.index + 1024) (p.index + length a) (omega (arith, h))) refl
 
@@ -57,7 +59,7 @@ not_far a p h = rw (along_line a p, along_index a p, le-ltb p.line p.line (omega
 record Keyed (from : State) (x : List ℕ) (s : Stand) (c i : ℕ) (is : List Indent) (tok : Tok) (ts : List Token) : Type 0 where
   parts : Parts
   key : Key
-  at : Place
+  at : Position
   run : Reaches from (stands x (indent_at s c i) (indents_at s i is) parts)
   has : parts.key ≡ Some key
   column : key.place.col ≡ c
@@ -99,7 +101,7 @@ value_deep (below k g d) c m way h = let low = way.0 in omega (arith, low)
 
 -- The scanner is behind the `:` of a key, whose entries stand at the column c.
 pub record Taken (from : State) (x : List ℕ) (c i : ℕ) (is : List Indent) (want : List Tok → List Tok) : Type 0 where
-  pub colon : Place
+  pub colon : Position
   pub off : c + 1 ≤ colon.col
   pub parts : Parts
   pub behind : parts.place ≡ past colon
@@ -184,7 +186,7 @@ saves x i is p h = if_true p.allowed _ _ h
     if_true false s t e = cc
 
 -- what follows a key: its `:`, and a space or a line feed
-colon_key : (i : ℕ) (p : Place) (c : ℕ) (v : List ℕ) (w : Way) (y : List ℕ) → are_plain v ≡ true → closes false v ≡ true → is_first c ≡ true → i ≤ p.col + 1
+colon_key : (i : ℕ) (p : Position) (c : ℕ) (v : List ℕ) (w : Way) (y : List ℕ) → are_plain v ≡ true → closes false v ≡ true → is_first c ≡ true → i ≤ p.col + 1
     → plain (outside i) (c ∷ (v ++ 58 ∷ spell_white (way_white w) y)) p ≡ Ok (record { rest = 58 ∷ spell_white (way_white w) y; place = along (c ∷ v) p; value = record { text = c ∷ v; leading = false } })
 unfolding is_blank is_break
 colon_key i p c v (beside more) y chars close one deep = let solid = first_space c one in plain_key i p c v 32 (spell_white (blanks more) y) chars (rw solid close) deep solid refl

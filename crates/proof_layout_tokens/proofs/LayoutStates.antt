@@ -1,6 +1,6 @@
 -- The states of the scanner outside flow collections, and what stands behind a node.
 use Rattle.std.proofs.Common.{◌≡◌, ℕ, ◌+◌, List, [], ◌∷◌, ◌++◌, Bool, true, false, not, ◌||◌, ◌==◌, nat_lt, if◌then◌else◌, Option, None, Ok, codes}
-use Rattle.defs_text.specs.Position.{Place}
+use Rattle.defs_text.specs.Position.{Position}
 use Rattle.defs_token.specs.Token.{Tok, Token}
 use Rattle.defs_layout.specs.Gap.{GapLine, IsGap, next_line, spell_gap, spell_ending}
 use Rattle.model_scanner.specs.declared.level.Indent.{Indent}
@@ -16,7 +16,7 @@ pub use Rattle.proof_layout_tokens.proofs.TextTokens.{Tells}
 
 -- what changes from token to token, but for the levels of indentation
 pub record Parts : Type 0 where
-  pub place : Place
+  pub place : Position
   pub tokens : List Token
   pub key : Option Key
   pub allowed : Bool
@@ -131,7 +131,7 @@ pub record Before (from : State) (x : List ℕ) (c : ℕ) (i : ℕ) (is : List I
   pub told : Tells parts.tokens want
 
 -- a key that is none at this place
-pub record IsOld (k : Option Key) (p : Place) : Type 0 where
+pub record IsOld (k : Option Key) (p : Position) : Type 0 where
   pub loose : is_required k ≡ false
   pub gone : still p k ≡ None
 

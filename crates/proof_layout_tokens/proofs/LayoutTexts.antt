@@ -125,9 +125,9 @@ documents_run a (last_document d behind) want are u =
     all_tokens a behind (λ o. want (root_tokens d.root o)) (root_runs d.root (end behind) (start a) want are.1 (ends_text d.root behind are.2) u)
 documents_run a (document d g ds) want are u =
     let r = spell_documents ds [] in
-    let after = root_runs d.root (marker g r) (start a) want are.1 (ends_before_marker d.root g r are.2) u in
+    let later = root_runs d.root (marker g r) (start a) want are.1 (ends_before_marker d.root g r are.2) u in
     let next : Opened (start a) (spell_gap (first_of ds).gap (spell_root (first_of ds).root (trail_text (trail_of ds)))) (λ o. want (root_tokens d.root (Tok.document_start ∷ o))) =
-    rw (← documents_text ds) (next_document (start a) g r (λ o. want (root_tokens d.root o)) after) in
+    rw (← documents_text ds) (next_document (start a) g r (λ o. want (root_tokens d.root o)) later) in
     documents_run a ds (λ o. want (root_tokens d.root (Tok.document_start ∷ o))) are.3 (root_opens (start a) (first_of ds) (trail_text (trail_of ds)) _ (first_gap ds are.3) (first_root ds are.3) next)
 
 -- ---- the whole text

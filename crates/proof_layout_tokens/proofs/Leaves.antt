@@ -1,7 +1,7 @@
 -- What a fetch does at a scalar that is a value, and two of them at `[]` and `{}`.
 use Rattle.std.proofs.Common.{◌≡◌, ℕ, ◌≤◌, List, [], ◌∷◌, ◌++◌, Bool, true, false, ◌==◌, if◌then◌else◌, Option, Some, None, Result, Ok, refl, ap, sym, ◌∙◌, arith, slice_index, inl, inr}
 use Rattle.std.proofs.lemmas.Bool.{lt-ltb}
-use Rattle.defs_text.specs.Position.{Place}
+use Rattle.defs_text.specs.Position.{Position}
 use Rattle.yaml_chars.specs.Class.{is_break, is_blank}
 use Rattle.defs_token.specs.Token.{Tok, Style}
 use Rattle.yaml_tokens.specs.declared.problem.Fault.{Fault}
@@ -21,7 +21,9 @@ use Rattle.proof_layout_tokens.proofs.LayoutStates.{Parts, stands, is_solid, Ope
 use Rattle.defs_layout.specs.Gap.{IsLineText}
 use Rattle.defs_layout.specs.Layout.{Comment, no_comment, comment, spell_comment, IsComment}
 use Rattle.proof_layout_tokens.proofs.Comments.{comment_white, comment_place, comment_is, beyond_comment, comment_line, comment_passes}
-use Rattle.proof_layout_tokens.proofs.Whites.{White, line_feed, remark, spell_white, along, along_line, beyond, allowed_beyond, AreWhite, next_token, gap_white, blanks, gap_allows, stays_allowed, line_white, ending_white, leading_beyond}
+use Rattle.proof_layout_tokens.proofs.Whites.{White, line_feed, remark, spell_white, beyond, allowed_beyond, AreWhite, next_token, gap_white, blanks, gap_allows, stays_allowed, line_white, ending_white, leading_beyond}
+use Rattle.proof_lexers.specs.HeaderEnds.{along}
+use Rattle.proof_lexers.proofs.Along.{along_line}
 use Rattle.proof_layout_tokens.proofs.Levels
 use Rattle.proof_layout_tokens.proofs.Joins.{trail_white, trail_is, trail_are_white, trail_ends_line, trail_stops, gap_col, Lies, Allows, leaf_after, IsLoose, saved_behind, Ahead, ahead, fetched_ahead, left_open}
 use Rattle.proof_layout_tokens.proofs.Json.Levels.{low_enough}
@@ -39,7 +41,7 @@ non_block x false i [] p h = refl
 non_block x true i (d ∷ ds) p h = rw h refl
 non_block x false i (d ∷ ds) p h = rw h refl
 
-pub still_lies : (p : Place) (k : Option Key) (line : ℕ) → Lies k line → Lies (still p k) line
+pub still_lies : (p : Position) (k : Option Key) (line : ℕ) → Lies k line → Lies (still p k) line
 still_lies p None line h = tt
 still_lies p (Some k) line h = by (is_far k.place p)
   where
@@ -53,7 +55,7 @@ unfolding at_marker is_marker is_break is_blank
 marker_stands r = refl
 
 -- What comes behind a leaf stands left of its levels, or is a document's marker.
-is_left : (t : Trail) (i : ℕ) (start : Place) (g : List White) (p : Place) → limit_of t ≤ i → trail_white t ≡ line_feed ∷ g → (e : Place) → p ≡ beyond (trail_white t) e → IsLeft i start (rest_of t) p.col
+is_left : (t : Trail) (i : ℕ) (start : Position) (g : List White) (p : Position) → limit_of t ≤ i → trail_white t ≡ line_feed ∷ g → (e : Position) → p ≡ beyond (trail_white t) e → IsLeft i start (rest_of t) p.col
 is_left (next g d []) i start w p low is e at = tt
 is_left (next g d (c ∷ a)) i start w p low is e at = let col : p.col ≡ d = ap (λ x. x.col) at ∙ gap_col g d (past_break e) refl in inl (lt-ltb p.col i (omega (arith, col, low)))
 is_left (marker g r) i start w p low is e at = let col : p.col ≡ 0 = ap (λ x. x.col) at ∙ gap_col g 0 (past_break e) refl in inr (rw col (marker_stands r))
@@ -62,7 +64,7 @@ is_left (end g) i start w p low is e at = tt
 -- ---- a plain scalar
 
 -- behind a plain scalar
-abbrev plain_parts : Parts → (c : ℕ) → (w : List ℕ) → Place → Option Key → Bool → Parts
+abbrev plain_parts : Parts → (c : ℕ) → (w : List ℕ) → Position → Option Key → Bool → Parts
 plain_parts p c w place key leading = record { place = place; tokens = p.tokens ++ token p.place (Tok.scalar Style.plain (c ∷ w)) ∷ []; key = key; allowed = leading; leading = leading; adjacent = p.adjacent }
 
 pub trail_allows : (t : Trail) → Allows t (allowed_beyond (trail_white t) false)
@@ -76,7 +78,7 @@ leads (marker h r) g = tt
 leads (end h) g = tt
 
 record PlainAt (x : Result State Fault) (t : Trail) (c : ℕ) (w : List ℕ) (g : List White) (r : List ℕ) (i : ℕ) (is : List Indent) (p : Parts) : Type 0 where
-  place : Place
+  place : Position
   white : List White
   key : Option Key
   loose : is_required key ≡ false
@@ -257,7 +259,7 @@ follows (end []) same_line = refl
 follows (end (l ∷ g)) same_line = refl
 
 -- behind a text in quotes
-abbrev pub quoted_parts : Bool → Parts → (w : List ℕ) → Place → Option Key → Bool → Bool → Parts
+abbrev pub quoted_parts : Bool → Parts → (w : List ℕ) → Position → Option Key → Bool → Bool → Parts
 quoted_parts single p w place key allowed leading = record { place = place; tokens = p.tokens ++ token p.place (Tok.scalar (quoted_style single) w) ∷ []; key = key; allowed = allowed; leading = leading; adjacent = place.index }
 
 -- no quote stands behind it

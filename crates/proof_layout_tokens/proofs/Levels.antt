@@ -2,7 +2,7 @@
 use Rattle.std.proofs.Common.{◌≡◌, ℕ, ◌+◌, ◌≤◌, List, [], ◌∷◌, ◌++◌, Bool, true, false, ◌==◌, nat_lt, if◌then◌else◌, Option, Some, None, Ok, refl, ap, ◌∙◌, arith}
 use Rattle.std.proofs.lemmas.Bool.{le-ltb}
 use Rattle.std.proofs.lemmas.Bool.Decides.{nat_tests}
-use Rattle.defs_text.specs.Position.{Place}
+use Rattle.defs_text.specs.Position.{Position}
 use Rattle.defs_token.specs.Token.{Tok, Token}
 use Rattle.model_scanner.specs.declared.level.Indent.{Indent}
 use Rattle.model_scanner.specs.State.{Key, ◌>>=◌, token, try_held}
@@ -28,13 +28,13 @@ last_pushed (u ∷ v ∷ ts) t = last_pushed (v ∷ ts) t
 -- ---- unrolling
 
 -- the levels that stay, and the ends of the others behind the tokens
-pub record Unrolled (limit : ℕ) (p : Place) (i : ℕ) (is : List Indent) (ts : List Token) : Type 0 where
+pub record Unrolled (limit : ℕ) (p : Position) (i : ℕ) (is : List Indent) (ts : List Token) : Type 0 where
   pub tokens : List Token
   pub now : unrolled limit p i is ts ≡ record { indent = (left limit i is).indent; indents = (left limit i is).indents; tokens = tokens }
   pub no_property : last_property ts ≡ None → last_property tokens ≡ None
   pub told : (o : List Tok) → toks tokens ++ o ≡ toks ts ++ ends limit i is o
 
-unroll_by : (limit : ℕ) (p : Place) (i : ℕ) (d : Indent) (ds : List Indent) (ts : List Token) (b e : Bool) → nat_lt limit i ≡ b → d.needs_block_end ≡ e
+unroll_by : (limit : ℕ) (p : Position) (i : ℕ) (d : Indent) (ds : List Indent) (ts : List Token) (b e : Bool) → nat_lt limit i ≡ b → d.needs_block_end ≡ e
     → ((us : List Token) → Unrolled limit p d.indent ds us) → Unrolled limit p i (d ∷ ds) ts
 unfolding unrolled
 unroll_by limit p i d ds ts false e h f go = record {
@@ -60,7 +60,7 @@ unroll_by limit p i d ds ts true true h f go =
       told = λ o. rw (h, f) (z.told o ∙ toks_push ts (token p Tok.block_end) (ends limit d.indent ds o));
     }
 
-pub unroll : (limit : ℕ) (p : Place) (i : ℕ) (is : List Indent) (ts : List Token) → Unrolled limit p i is ts
+pub unroll : (limit : ℕ) (p : Position) (i : ℕ) (is : List Indent) (ts : List Token) → Unrolled limit p i is ts
 unfolding unrolled
 unroll limit p i [] ts = record { tokens = ts; now = refl; no_property = λ n. n; told = λ o. refl }
 unroll limit p i (d ∷ ds) ts = unroll_by limit p i d ds ts (nat_lt limit i) d.needs_block_end refl refl (λ us. unroll limit p d.indent ds us)
@@ -108,7 +108,7 @@ left_twice limit i [] = refl
 left_twice limit i (d ∷ ds) = twice_by (nat_lt limit i) limit i d ds refl (deeper limit i) (left_twice limit d.indent ds)
 
 -- unrolled in two steps, at two places, the tokens end as in one
-pub unrolls_twice : (limit i : ℕ) (is : List Indent) (p q : Place) (ts : List Token) (want : List Tok → List Tok) → ((o : List Tok) → toks ts ++ ends 0 i is o ≡ want o)
+pub unrolls_twice : (limit i : ℕ) (is : List Indent) (p q : Position) (ts : List Token) (want : List Tok → List Tok) → ((o : List Tok) → toks ts ++ ends 0 i is o ≡ want o)
     → Tells (unroll 0 q (left limit i is).indent (left limit i is).indents (unroll limit p i is ts).tokens).tokens want
 unrolls_twice limit i is p q ts want told =
     let l = left limit i is in
@@ -126,7 +126,7 @@ pub near : (x : List ℕ) (i : ℕ) (is : List Indent) (p : Parts) (k : Key) →
 unfolding stale drop_stale
 near x i is p k key h = rw (key, h) refl
 
-not_overdue : (place : Place) (k : Option Key) → is_required k ≡ false → is_overdue place k ≡ false
+not_overdue : (place : Position) (k : Option Key) → is_required k ≡ false → is_overdue place k ≡ false
 not_overdue place None h = refl
 not_overdue place (Some k) h = rw h (and_false (is_far k.place place))
 
@@ -134,7 +134,7 @@ pub aged : (x : List ℕ) (i : ℕ) (is : List Indent) (p : Parts) → is_requir
 unfolding stale drop_stale
 aged x i is p h = rw (not_overdue p.place p.key h) refl
 
-pub still_loose : (place : Place) (k : Option Key) → is_required k ≡ false → is_required (still place k) ≡ false
+pub still_loose : (place : Position) (k : Option Key) → is_required k ≡ false → is_required (still place k) ≡ false
 still_loose place None h = refl
 still_loose place (Some k) h = by (is_far k.place place)
   where

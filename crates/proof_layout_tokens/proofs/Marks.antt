@@ -2,7 +2,7 @@
 use Rattle.std.proofs.Common.{◌≡◌, ℕ, zero, suc, ◌+◌, ◌<◌, ◌≤◌, List, [], ◌∷◌, ◌++◌, Bool, true, false, ◌==◌, Option, Some, None, Result, Ok, refl, ap, ◌∙◌, arith}
 use Rattle.std.specs.List.{list_all}
 use Rattle.std.proofs.lemmas.Bool.{and_parts, le-ltb, lt-ltb, le-leb}
-use Rattle.defs_text.specs.Position.{Place}
+use Rattle.defs_text.specs.Position.{Position}
 use Rattle.yaml_chars.specs.Class.{is_break, is_blank, is_flow}
 use Rattle.defs_token.specs.Token.{Tok, Token}
 use Rattle.yaml_tokens.specs.declared.problem.Fault.{Fault}
@@ -25,7 +25,8 @@ use Rattle.model_scanner.specs.Block.{last_property, at_margin, check_block_entr
 use Rattle.model_scanner.specs.Flow.{allow_key}
 use Rattle.model_scanner.specs.Fetch.{token_by, fetch_here, is_value, comes_marker}
 use Rattle.proof_layout_tokens.proofs.LayoutStates.{Parts, stands, is_content, is_solid, Opens, opened, opened_indent, IsClosed, Tells, HasNoProperty, Before}
-use Rattle.proof_layout_tokens.proofs.Whites.{White, space, line_feed, remark, spell_white, along, beyond, allowed_beyond, EndsLine, AreWhite, content, in_line, blanks, blanks_col, blanks_white, gap_white, gap_are_white, blanks_allow, gap_allows}
+use Rattle.proof_layout_tokens.proofs.Whites.{White, space, line_feed, remark, spell_white, beyond, allowed_beyond, EndsLine, AreWhite, content, in_line, blanks, blanks_col, blanks_white, gap_white, gap_are_white, blanks_allow, gap_allows}
+use Rattle.proof_lexers.specs.HeaderEnds.{along}
 use Rattle.proof_layout_tokens.proofs.Levels
 use Rattle.model_scanner.specs.Run.{Reaches}
 use Rattle.proof_layout_tokens.proofs.Joins.{fetched, before_white, gap_col}
@@ -54,7 +55,7 @@ pub way_are_white : (c : ℕ) (w : Way) (y : List ℕ) → IsWay c w → is_soli
 way_are_white c (beside more) y h solid = blanks_white more y solid
 way_are_white c (below k g d) y h solid = comment_are_white k (line_feed ∷ gap_white g (blanks d)) y h.1 tt (gap_are_white g (blanks d) y h.2 (blanks_white d y solid))
 
-pub way_ends : (w : Way) (c : ℕ) (p : Place) → p.col ≡ c → (beyond (way_white w) (past p)).col ≡ way_column c w
+pub way_ends : (w : Way) (c : ℕ) (p : Position) → p.col ≡ c → (beyond (way_white w) (past p)).col ≡ way_column c w
 way_ends (beside more) c p h = blanks_col more (past (past p)) ∙ omega (arith, h)
 way_ends (below k g d) c p h = ap (λ x. x.col) (beyond_comment k (line_feed ∷ gap_white g (blanks d)) (past p)) ∙ gap_col g d (past_break (comment_place k (past p))) refl
 
@@ -86,7 +87,7 @@ abbrev pub started : Stand → Option ℕ → Token → List Token → List Toke
 started later n t ts = ts
 started (first b) n t ts = placed n t ts
 
-pub started_tells : (s : Stand) (ts : List Token) (p : Place) (t : Tok) (want : List Tok → List Tok) → Tells ts want → Tells (started s None (token p t) ts) (λ o. want (starts s t o))
+pub started_tells : (s : Stand) (ts : List Token) (p : Position) (t : Tok) (want : List Tok → List Tok) → Tells ts want → Tells (started s None (token p t) ts) (λ o. want (starts s t o))
 started_tells later ts p t want told = told
 started_tells (first b) ts p t want told = Levels.push_tells ts p t want told
 
@@ -109,13 +110,13 @@ deepens x later c i is p n t low = rw (le-ltb (c + 1) (c + 1) (omega arith)) ref
 deepens x (first b) c i is p n t low = rw (lt-ltb i (c + 1) (omega (arith, low))) refl
 
 -- The collection of an entry begins, unless it began before.
-pub rolled : (x : List ℕ) (s : Stand) (c i : ℕ) (is : List Indent) (p : Parts) (n : Option ℕ) (tok : Tok) (q : Place) → i ≤ c → IsClosed i is
+pub rolled : (x : List ℕ) (s : Stand) (c i : ℕ) (is : List Indent) (p : Parts) (n : Option ℕ) (tok : Tok) (q : Position) → i ≤ c → IsClosed i is
     → roll_indent c n tok q (stands x (indent_at s c i) (indents_at s i is) p).held ≡ (stands x (c + 1) (level i true ∷ is) (record p { tokens = started s n (token q tok) p.tokens })).held
 unfolding roll_indent
 rolled x s c i is p n tok q low closed = rw (drops x s c i is p low closed) (deepens x s c i is p n (token q tok) low)
 
 -- the same at a place on the column
-pub rolled_at : (x : List ℕ) (s : Stand) (c i : ℕ) (is : List Indent) (p : Parts) (n : Option ℕ) (tok : Tok) (q : Place) (col : ℕ) → col ≡ c → i ≤ c → IsClosed i is
+pub rolled_at : (x : List ℕ) (s : Stand) (c i : ℕ) (is : List Indent) (p : Parts) (n : Option ℕ) (tok : Tok) (q : Position) (col : ℕ) → col ≡ c → i ≤ c → IsClosed i is
     → roll_indent col n tok q (stands x (indent_at s c i) (indents_at s i is) p).held ≡ (stands x (c + 1) (level i true ∷ is) (record p { tokens = started s n (token q tok) p.tokens })).held
 rolled_at x s c i is p n tok q col e low closed = ap (λ k. roll_indent k n tok q (stands x (indent_at s c i) (indents_at s i is) p).held) e ∙ rolled x s c i is p n tok q low closed
 
@@ -133,11 +134,11 @@ same_tabs : (n : ℕ) (w : Whitespace) → (found_after n w).found_tabs ≡ w.fo
 same_tabs zero w = refl
 same_tabs (suc n) w = same_tabs n (record w { has_valid_yaml_ws = true })
 
-solid_stops : (tabs : SkipTabs) (y : List ℕ) (p : Place) (w : Whitespace) → is_solid y ≡ true → scalar_space.space_from tabs y (record { place = p; found = w }) ≡ Ok (record { rest = y; place = p; value = w })
+solid_stops : (tabs : SkipTabs) (y : List ℕ) (p : Position) (w : Whitespace) → is_solid y ≡ true → scalar_space.space_from tabs y (record { place = p; found = w }) ≡ Ok (record { rest = y; place = p; value = w })
 solid_stops tabs [] p w h = refl
 solid_stops tabs (c ∷ a) p w h = let z = content c h in rw (z.space, z.tab, z.hash) refl
 
-blanks_pass : (tabs : SkipTabs) (n : ℕ) (y : List ℕ) (p : Place) (w : Whitespace) → is_solid y ≡ true
+blanks_pass : (tabs : SkipTabs) (n : ℕ) (y : List ℕ) (p : Position) (w : Whitespace) → is_solid y ≡ true
     → scalar_space.space_from tabs (spell_white (blanks n) y) (record { place = p; found = w }) ≡ Ok (record { rest = y; place = beyond (blanks n) p; value = found_after n w })
 blanks_pass tabs zero y p w h = solid_stops tabs y p w h
 blanks_pass tabs (suc n) y p w h = blanks_pass tabs n y (past p) (record w { has_valid_yaml_ws = true }) h
@@ -148,7 +149,7 @@ solid_spaces tabs y i is p h = rw (solid_stops tabs y p.place (record { found_ta
 
 -- ---- `-`
 
-at_margin_goes : (b : Bool) (q : Option Place) (p : Place) (s : Held) → (p.col == 0) ≡ b → (b ≡ true → q ≡ None) → at_margin q p s ≡ Ok s
+at_margin_goes : (b : Bool) (q : Option Position) (p : Position) (s : Held) → (p.col == 0) ≡ b → (b ≡ true → q ≡ None) → at_margin q p s ≡ Ok s
 at_margin_goes b None p s e none = refl
 at_margin_goes true (Some q) p s e none = let no : Some q ≡ None = none refl in cc
 at_margin_goes false (Some q) p s e none = rw e refl
@@ -166,7 +167,7 @@ behind_dash v =
     Ok (on_held (λ s. push s.place Tok.block_entry (allow_key true s)) y)
 
 -- behind a mark
-abbrev pub marked : Place → List Token → Bool → Bool → ℕ → Parts
+abbrev pub marked : Position → List Token → Bool → Bool → ℕ → Parts
 marked place tokens allowed leading adjacent = record { place = place; tokens = tokens; key = None; allowed = allowed; leading = leading; adjacent = adjacent }
 
 abbrev begins_flow : List ℕ → Bool

@@ -2,7 +2,7 @@
 use Rattle.std.proofs.Common.{◌≡◌, ℕ, zero, suc, ◌+◌, ◌≤◌, List, [], ◌∷◌, ◌++◌, Bool, true, false, ◌||◌, ◌&&◌, not, ◌==◌, Result, Ok, refl, ap, ◌∙◌, append_assoc, append-nil, nat_lt, arith, ◌⊎◌, inl, inr}
 use Rattle.std.proofs.lemmas.Bool.{le-ltb, ne_eqb, and_parts, eqb-true}
 use Rattle.std.proofs.lemmas.Bool.Decides.{nat_tests}
-use Rattle.defs_text.specs.Position.{Place}
+use Rattle.defs_text.specs.Position.{Position}
 use Rattle.yaml_chars.specs.Class.{is_break, is_blank, is_blank_or_breakz}
 use Rattle.yaml_tokens.specs.declared.problem.Fault.{Fault}
 use Rattle.model_lexers.specs.declared.context.Context.{Context}
@@ -10,7 +10,8 @@ use Rattle.model_lexers.specs.Machine.{Read, past, past_break, at_marker}
 use Rattle.model_lexers.specs.Plain.{State, Plain, inside, between, plain, plain_from, can_be_plain, starts, at_dash, at_plain, goes_on, is_shallow}
 use Rattle.proof_layout_tokens.proofs.LayoutStates.{is_content}
 use Rattle.defs_layout.specs.Layout.{comment}
-use Rattle.proof_layout_tokens.proofs.Whites.{White, space, line_feed, remark, spell_white, along, beyond, AreWhite, blanks, content}
+use Rattle.proof_layout_tokens.proofs.Whites.{White, space, line_feed, remark, spell_white, beyond, AreWhite, blanks, content}
+use Rattle.proof_lexers.specs.HeaderEnds.{along}
 use Rattle.proof_layout_tokens.proofs.Comments.{spaced, comment_white}
 
 -- a character that may stand in a plain scalar of a line
@@ -46,12 +47,12 @@ plain_char c h = record {
 abbrev pub outside : ℕ → Context
 outside i = record { flow = false; indent = i }
 
-module _ (i : ℕ) (start : Place) where
+module _ (i : ℕ) (start : Position) where
   abbrev scan : List ℕ → State → Result (Read Plain) Fault
   scan a s = plain_from (outside i) start a s
 
   -- behind a character of the text, or behind blanks
-  abbrev at : Bool → Place → List ℕ → List ℕ → State
+  abbrev at : Bool → Position → List ℕ → List ℕ → State
   at false p text gap = record { mode = inside; place = p; folded = record { text = text; gap = []; leading = false; escaped = false } }
   at true p text gap = record { mode = between; place = p; folded = record { text = text; gap = gap; leading = false; escaped = false } }
 
@@ -59,11 +60,11 @@ module _ (i : ℕ) (start : Place) where
   total false text gap = text
   total true text gap = text ++ gap
 
-  goes : (c : ℕ) (a : List ℕ) (p : Place) → PlainChar c → is_blank c ≡ false → i ≤ p.col → 1 ≤ p.col → goes_on (outside i) (c ∷ a) p ≡ Ok true
+  goes : (c : ℕ) (a : List ℕ) (p : Position) → PlainChar c → is_blank c ≡ false → i ≤ p.col → 1 ≤ p.col → goes_on (outside i) (c ∷ a) p ≡ Ok true
   unfolding goes_on is_shallow at_marker at_dash at_plain can_be_plain
   goes c a p z blank deep off = rw (le-ltb p.col i deep, z.hash, ne_eqb p.col 0 (λ e. omega arith), blank, z.break, z.nul, z.colon) refl
 
-  one_char : (b : Bool) (c : ℕ) (a : List ℕ) (p : Place) (text gap : List ℕ) → PlainChar c → is_blank c ≡ false → i ≤ p.col → 1 ≤ p.col
+  one_char : (b : Bool) (c : ℕ) (a : List ℕ) (p : Position) (text gap : List ℕ) → PlainChar c → is_blank c ≡ false → i ≤ p.col → 1 ≤ p.col
       → scan (c ∷ a) (at b p text gap) ≡ scan a (at false (past p) (total b text gap ++ c ∷ []) [])
   unfolding can_be_plain
   one_char false c a p text gap z blank deep off = rw (z.break, blank, z.colon) refl
@@ -74,7 +75,7 @@ module _ (i : ℕ) (start : Place) where
   more false gap = 32 ∷ []
   more true gap = gap ++ 32 ∷ []
 
-  one_blank : (b : Bool) (a : List ℕ) (p : Place) (text gap : List ℕ) → scan (32 ∷ a) (at b p text gap) ≡ scan a (at true (past p) text (more b gap))
+  one_blank : (b : Bool) (a : List ℕ) (p : Position) (text gap : List ℕ) → scan (32 ∷ a) (at b p text gap) ≡ scan a (at true (past p) text (more b gap))
   unfolding is_break is_blank
   one_blank false a p text gap = refl
   one_blank true a p text gap = refl
@@ -84,9 +85,9 @@ module _ (i : ℕ) (start : Place) where
   more_total true text gap w = append_assoc text (gap ++ 32 ∷ []) w ∙ ap (λ l. text ++ l) (append_assoc gap (32 ∷ []) w) ∙ rw append_assoc refl
 
   abbrev Goes : List ℕ → List ℕ → Type 0
-  Goes w r = (b : Bool) (p : Place) (text gap : List ℕ) → are_plain w ≡ true → closes b w ≡ true → i ≤ p.col → 1 ≤ p.col → scan (w ++ r) (at b p text gap) ≡ scan r (at false (along w p) (total b text gap ++ w) [])
+  Goes w r = (b : Bool) (p : Position) (text gap : List ℕ) → are_plain w ≡ true → closes b w ≡ true → i ≤ p.col → 1 ≤ p.col → scan (w ++ r) (at b p text gap) ≡ scan r (at false (along w p) (total b text gap ++ w) [])
 
-  char_goes : (b d : Bool) (c : ℕ) (w r : List ℕ) (p : Place) (text gap : List ℕ) → (c == 32) ≡ d → is_plain_char c ≡ true → are_plain w ≡ true → closes d w ≡ true → i ≤ p.col → 1 ≤ p.col → Goes w r
+  char_goes : (b d : Bool) (c : ℕ) (w r : List ℕ) (p : Position) (text gap : List ℕ) → (c == 32) ≡ d → is_plain_char c ≡ true → are_plain w ≡ true → closes d w ≡ true → i ≤ p.col → 1 ≤ p.col → Goes w r
       → scan (c ∷ (w ++ r)) (at b p text gap) ≡ scan r (at false (along w (past p)) (total b text gap ++ c ∷ w) [])
   char_goes b true c w r p text gap e one all close deep off go =
       let is : c ≡ 32 = eqb-true c 32 e in
@@ -110,7 +111,7 @@ module _ (i : ℕ) (start : Place) where
   unfolding plain starts at_dash
   begins_scan c w r all close deep solid = text_goes w r false (past start) (c ∷ []) [] all (rw solid at close) deep (omega arith)
 
-  at_colon : (text : List ℕ) (d : ℕ) (a : List ℕ) (p : Place) → is_blank_or_breakz d ≡ true → scan (58 ∷ d ∷ a) (at false p text []) ≡ Ok (record { rest = 58 ∷ d ∷ a; place = p; value = record { text = text; leading = false } })
+  at_colon : (text : List ℕ) (d : ℕ) (a : List ℕ) (p : Position) → is_blank_or_breakz d ≡ true → scan (58 ∷ d ∷ a) (at false p text []) ≡ Ok (record { rest = 58 ∷ d ∷ a; place = p; value = record { text = text; leading = false } })
   unfolding is_break is_blank can_be_plain
   at_colon text d a p end = rw end refl
 
@@ -127,17 +128,17 @@ module _ (i : ℕ) (start : Place) where
   IsLeft (c ∷ a) col = (nat_lt col i ≡ true) ⊎ (at_marker col (c ∷ a) ≡ true)
 
   -- The scan is over, within the white space.
-  pub record Stopped (t : Result (Read Plain) Fault) (text : List ℕ) (leading : Bool) (g : List White) (r : List ℕ) (p : Place) : Type 0 where
-    pub place : Place
+  pub record Stopped (t : Result (Read Plain) Fault) (text : List ℕ) (leading : Bool) (g : List White) (r : List ℕ) (p : Position) : Type 0 where
+    pub place : Position
     pub white : List White
     pub same : beyond white place ≡ beyond g p
     pub are : AreWhite white r
     pub now : t ≡ Ok (record { rest = spell_white white r; place = place; value = record { text = text; leading = leading } })
 
-  abbrev below : Place → List ℕ → List ℕ → State
+  abbrev below : Position → List ℕ → List ℕ → State
   below p text gap = record { mode = between; place = p; folded = record { text = text; gap = gap; leading = true; escaped = false } }
 
-  at_remark : (a : List ℕ) (p : Place) (text gap : List ℕ) → scan (35 ∷ a) (below p text gap) ≡ Ok (record { rest = 35 ∷ a; place = p; value = record { text = text; leading = true } })
+  at_remark : (a : List ℕ) (p : Position) (text gap : List ℕ) → scan (35 ∷ a) (below p text gap) ≡ Ok (record { rest = 35 ∷ a; place = p; value = record { text = text; leading = true } })
   unfolding is_break is_blank goes_on is_shallow
   at_remark a p text gap = by (nat_lt p.col i) refl
     where
@@ -145,7 +146,7 @@ module _ (i : ℕ) (start : Place) where
       by true h = rw h refl
       by false h = rw h refl
 
-  at_left : (c : ℕ) (a : List ℕ) (p : Place) (text gap : List ℕ) → is_content c ≡ true → (nat_lt p.col i ≡ true) ⊎ (at_marker p.col (c ∷ a) ≡ true)
+  at_left : (c : ℕ) (a : List ℕ) (p : Position) (text gap : List ℕ) → is_content c ≡ true → (nat_lt p.col i ≡ true) ⊎ (at_marker p.col (c ∷ a) ≡ true)
       → scan (c ∷ a) (below p text gap) ≡ Ok (record { rest = c ∷ a; place = p; value = record { text = text; leading = true } })
   unfolding goes_on is_shallow
   at_left c a p text gap solid (inl h) = let z = content c solid in rw (z.break, z.blank, h) refl
@@ -155,7 +156,7 @@ module _ (i : ℕ) (start : Place) where
       by true e = let z = content c solid in rw (z.break, z.blank, e) refl
       by false e = let z = content c solid in rw (z.break, z.blank, e, z.hash, h) refl
 
-  over_white : (g : List White) (r : List ℕ) (p : Place) (text gap : List ℕ) → AreWhite g r → IsLeft r (beyond g p).col → Stopped (scan (spell_white g r) (below p text gap)) text true g r p
+  over_white : (g : List White) (r : List ℕ) (p : Position) (text gap : List ℕ) → AreWhite g r → IsLeft r (beyond g p).col → Stopped (scan (spell_white g r) (below p text gap)) text true g r p
   unfolding is_break is_blank
   over_white [] [] p text gap are low = record { place = p; white = []; same = refl; are = are; now = refl }
   over_white [] (c ∷ a) p text gap are low = record { place = p; white = []; same = refl; are = are; now = at_left c a p text gap are low }
@@ -173,7 +174,7 @@ module _ (i : ℕ) (start : Place) where
       let z = over_white g r (past_break (along (c ∷ w) start)) (c ∷ w) [] are low in
       record { place = z.place; white = z.white; same = z.same; are = z.are; now = begins_scan c w (10 ∷ spell_white g r) all close deep solid ∙ z.now }
 
-  comment_stops : (n : ℕ) (text : List ℕ) (w : List White) (r : List ℕ) (p : Place) (t gap : List ℕ)
+  comment_stops : (n : ℕ) (text : List ℕ) (w : List White) (r : List ℕ) (p : Position) (t gap : List ℕ)
       → scan (spell_white (spaced n (remark text ∷ w)) r) (at true p t gap) ≡ Ok (record { rest = spell_white (remark text ∷ w) r; place = beyond (blanks n) p; value = record { text = t; leading = false } })
   unfolding is_break is_blank goes_on is_shallow
   comment_stops zero text w r p t gap = by (nat_lt p.col i) refl

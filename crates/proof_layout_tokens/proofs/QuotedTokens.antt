@@ -1,6 +1,6 @@
 -- The tokens of a text that is one quoted scalar with line feeds alone behind it.
 use Rattle.std.proofs.Common.{◌≡◌, ℕ, zero, suc, ◌+◌, List, [], ◌∷◌, ◌++◌, Bool, true, false, Some, Result, refl, ap, replicate}
-use Rattle.defs_text.specs.Position.{Place}
+use Rattle.defs_text.specs.Position.{Position}
 use Rattle.defs_token.specs.Token.{Tok}
 use Rattle.yaml_tokens.specs.declared.problem.Fault.{Fault}
 use Rattle.defs_layout.specs.JsonGap.{line_feed, spell_gap}
@@ -11,7 +11,7 @@ use Rattle.model_lexers.specs.Quoted.{quote_of}
 use Rattle.model_scanner.specs.State.{token}
 use Rattle.model_scanner.specs.Run.{start, here, there}
 use Rattle.model_scanner.specs.TextTokens.{HasToks}
-use Rattle.proof_layout_tokens.proofs.Json.Levels.{no_less}
+use Rattle.proof_lexers.proofs.Quoted.NoNul.{no_less}
 use Rattle.proof_layout_tokens.proofs.Json.Words.{context_of}
 use Rattle.proof_layout_tokens.proofs.Json.Strings.{Closed}
 use Rattle.proof_layout_tokens.proofs.Json.States.{nothing, After, at_end}
@@ -22,7 +22,7 @@ use Rattle.proof_layout_tokens.specs.Laws.{QuotedTextsHaveTheirTokens}
 use Rattle.proof_lexers.proofs.Quoted.Values.{bodies_are_read}
 
 -- outside all collections nothing is refused for its indentation
-closed_outside : (start : Place) (text rest : List ℕ) (x : Result (Read (List ℕ)) Fault) → IsRead (context_of nothing false []) start text rest x → Closed nothing x text rest
+closed_outside : (start : Position) (text rest : List ℕ) (x : Result (Read (List ℕ)) Fault) → IsRead (context_of nothing false []) start text rest x → Closed nothing x text rest
 closed_outside start text rest x (read place is) = record { place = place; fits = tt; is = is }
 closed_outside start text rest x (shallow (by_line p h is)) = let none = no_less (p.col + 1) in cc
 closed_outside start text rest x (shallow (by_tab p h is)) = let none = no_less (p.col + 1) in cc

@@ -4,7 +4,7 @@ use Rattle.std.specs.Char.{digit_value}
 use Rattle.std.specs.List.{list_all}
 use Rattle.std.proofs.lemmas.Bool.{and_parts, eqb-true}
 use Rattle.std.proofs.lemmas.Bool.Decides.{nat_tests}
-use Rattle.defs_text.specs.Position.{Place}
+use Rattle.defs_text.specs.Position.{Position}
 use Rattle.yaml_chars.specs.Class.{is_break, is_blank, is_hex}
 use Rattle.defs_tree.specs.Escapes.{hexadecimal_digit, escaped_code, written_character, written_escapes}
 use Rattle.defs_layout.specs.Gap.{IsLineText, is_line_character}
@@ -12,7 +12,8 @@ use Rattle.defs_layout.specs.Layout.{doubled}
 use Rattle.model_lexers.specs.Quoted.{quote_of, quoted, escape_of, is_scalar}
 use Rattle.model_lexers.specs.Quoted
 use Rattle.proof_lexers.proofs.Bridges.{and_false}
-use Rattle.proof_layout_tokens.proofs.Whites.{along, in_line}
+use Rattle.proof_layout_tokens.proofs.Whites.{in_line}
+use Rattle.proof_lexers.specs.HeaderEnds.{along}
 use Rattle.proof_layout_tokens.proofs.Plains.{outside}
 use Rattle.proof_lexers.proofs.Quoted.Lines.{IsWritten, AreWritten, blank_goes, char_goes, named_goes, code_goes, quote_goes, line_read}
 
@@ -40,7 +41,7 @@ is_code c h = grind (arith, nat_tests)
 low_code : (c : ℕ) → (nat_lt c 32 || (c == 127)) ≡ true → c < 128
 low_code c h = grind (arith, nat_tests)
 
-module _ (i : ℕ) (start : Place) where
+module _ (i : ℕ) (start : Position) where
   abbrev IsDouble : List ℕ → ℕ → Type 0
   IsDouble w c = IsWritten false (outside i) start w c
 
@@ -84,7 +85,7 @@ module _ (i : ℕ) (start : Place) where
 
 -- ---- in single quotes
 
-module _ (i : ℕ) (start : Place) where
+module _ (i : ℕ) (start : Position) where
   abbrev IsSingle : List ℕ → ℕ → Type 0
   IsSingle w c = IsWritten true (outside i) start w c
 
@@ -114,7 +115,7 @@ same_map (c ∷ w) = ap (λ v. c ∷ v) (same_map w)
 
 -- Behind the opening quote stands this, with its closing quote: the scalar is read as the text, whatever stands behind it but a quote.
 pub record IsQuoted (single : Bool) (body w : List ℕ) : Type 0 where
-  pub reads : (i : ℕ) (r : List ℕ) (p : Place) → i ≤ p.col + 1 → (slice_index r 0 == 39) ≡ false
+  pub reads : (i : ℕ) (r : List ℕ) (p : Position) → i ≤ p.col + 1 → (slice_index r 0 == 39) ≡ false
       → quoted single (outside i) (quote_of single ∷ (body ++ r)) p ≡ Ok (record { rest = r; place = along (quote_of single ∷ body) p; value = w })
 
 pub double_is : (w : List ℕ) → IsQuoted false (written_escapes w ++ 34 ∷ []) w

@@ -1,7 +1,7 @@
 -- Tokens told one behind the other; and a text that has tokens has no others, and is not refused.
 use Rattle.std.proofs.Common.{◌≡◌, ℕ, List, [], ◌∷◌, ◌++◌, ap, ◌∙◌, append_assoc}
 use Rattle.std.proofs.lemmas.List.{map-append}
-use Rattle.defs_text.specs.Position.{Place}
+use Rattle.defs_text.specs.Position.{Position}
 use Rattle.defs_token.specs.Token.{Tok, Token}
 use Rattle.defs_token.specs.Toks.{toks}
 use Rattle.yaml_tokens.specs.declared.problem.Fault.{Fault}
@@ -17,7 +17,7 @@ Tells ts want = (o : List Tok) → toks ts ++ o ≡ want o
 pub toks_push : (ts : List Token) (t : Token) (o : List Tok) → toks (ts ++ t ∷ []) ++ o ≡ toks ts ++ t.tok ∷ o
 toks_push ts t o = rw map-append (append_assoc (toks ts) (t.tok ∷ []) o)
 
-pub push_tells : (ts : List Token) (place : Place) (k : Tok) (want : List Tok → List Tok) → Tells ts want → Tells (ts ++ token place k ∷ []) (λ o. want (k ∷ o))
+pub push_tells : (ts : List Token) (place : Position) (k : Tok) (want : List Tok → List Tok) → Tells ts want → Tells (ts ++ token place k ∷ []) (λ o. want (k ∷ o))
 push_tells ts place k want told = λ o. toks_push ts (token place k) o ∙ told (k ∷ o)
 
 -- ---- texts

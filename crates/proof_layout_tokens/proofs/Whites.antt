@@ -3,14 +3,14 @@ use Rattle.std.proofs.Common.{◌≡◌, ℕ, zero, suc, ◌+◌, ◌≤◌, Lis
 use Rattle.std.specs.List.{list_all}
 use Rattle.std.proofs.lemmas.Bool.{and_parts}
 use Rattle.std.proofs.lemmas.Bool.Decides.{nat_tests}
-use Rattle.defs_text.specs.Position.{Place}
+use Rattle.defs_text.specs.Position.{Position}
 use Rattle.yaml_chars.specs.Class.{is_break, is_blank}
 use Rattle.defs_layout.specs.Gap.{spaces, GapLine, empty_line, comment_line, spell_gap, next_line, spell_ending, IsGap, IsLineText, is_line_character}
 use Rattle.model_lexers.specs.Machine.{past, past_break}
 use Rattle.model_scanner.specs.declared.level.Indent.{Indent}
 use Rattle.model_scanner.specs.State.{Held}
 use Rattle.model_scanner.specs.Space.{between, comment, skip, skip_to_next_token}
-pub use Rattle.proof_lexers.specs.HeaderEnds.{along}
+use Rattle.proof_lexers.specs.HeaderEnds.{along}
 use Rattle.proof_layout_tokens.proofs.LayoutStates.{Parts, stands, is_content, is_solid}
 
 pub data White : Type 0 where
@@ -24,7 +24,7 @@ spell_white (space ∷ g) r = 32 ∷ spell_white g r
 spell_white (line_feed ∷ g) r = 10 ∷ spell_white g r
 spell_white (remark text ∷ g) r = 35 ∷ (text ++ spell_white g r)
 
-abbrev pub beyond : List White → Place → Place
+abbrev pub beyond : List White → Position → Position
 beyond [] p = p
 beyond (space ∷ g) p = beyond g (past p)
 beyond (line_feed ∷ g) p = beyond g (past_break p)
@@ -181,19 +181,7 @@ ending_are_white (comment_line text ∷ g) h = (h.0, ending_ends g, ending_are_w
 
 -- ---- places
 
-pub along_append : (a b : List ℕ) (p : Place) → along (a ++ b) p ≡ along b (along a p)
-along_append [] b p = refl
-along_append (c ∷ a) b p = along_append a b (past p)
-
-pub along_more : (a : List ℕ) (p : Place) → p.col ≤ (along a p).col
-along_more [] p = omega arith
-along_more (c ∷ a) p = let h = along_more a (past p) in omega (arith, h)
-
-pub along_line : (a : List ℕ) (p : Place) → (along a p).line ≡ p.line
-along_line [] p = refl
-along_line (c ∷ a) p = along_line a (past p)
-
-pub blanks_col : (n : ℕ) (p : Place) → (beyond (blanks n) p).col ≡ p.col + n
+pub blanks_col : (n : ℕ) (p : Position) → (beyond (blanks n) p).col ≡ p.col + n
 blanks_col zero p = omega arith
 blanks_col (suc n) p = blanks_col n (past p) ∙ omega arith
 

@@ -1,7 +1,7 @@
 -- Laws of the scanner's model and whole texts, and of quoted scalars: each is the contract of the function of `src/laws.rt` that its comment names.
 use Rattle.std.specs.Prelude.{◌≡◌, ℕ, List, [], ◌∷◌, ◌++◌, Bool, true, Some}
 use Rattle.std.specs.List.{list_all}
-use Rattle.defs_text.specs.Position.{Place}
+use Rattle.defs_text.specs.Position.{Position}
 use Rattle.defs_token.specs.Token.{Tok, Token}
 use Rattle.defs_token.specs.Toks.{toks}
 use Rattle.yaml_tokens.specs.declared.problem.Fault.{Fault}

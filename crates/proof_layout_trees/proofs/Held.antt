@@ -29,10 +29,10 @@ before_lacks (q ∷ before) after p h = (λ e. lacks_there q.0 before after p h.
 -- ---- reading
 
 -- a pair of a new key
-pub pair_read : (k v : Tree) (key value : Nest) (ns : NestPairs) (held after : List (Tree × Tree)) (before between behind : Anchors)
-    → read_node key before ≡ Ok (k, between) → read_node value between ≡ Ok (v, behind) → AreDistinct (held ++ (k, v) ∷ after)
-    → read_pairs (nest_pair key value ns) held before ≡ read_pairs ns (held ++ (k, v) ∷ []) behind
-pair_read k v key value ns held after before between behind first second distinct =
+pub pair_read : (k v : Tree) (key value : Nest) (ns : NestPairs) (held after : List (Tree × Tree)) (before between later : Anchors)
+    → read_node key before ≡ Ok (k, between) → read_node value between ≡ Ok (v, later) → AreDistinct (held ++ (k, v) ∷ after)
+    → read_pairs (nest_pair key value ns) held before ≡ read_pairs ns (held ++ (k, v) ∷ []) later
+pair_read k v key value ns held after before between later first second distinct =
     let new : Lacks k held = before_lacks held after (k, v) distinct in
     rw (first, second, lookup_lacking k held new, without_lacking k held new) refl
 

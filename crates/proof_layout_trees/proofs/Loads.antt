@@ -1,7 +1,7 @@
 -- Events that are read as trees, handed to a loader one by one.
 use Rattle.std.proofs.Common.{◌≡◌, Bool, List, [], ◌∷◌, ◌++◌, Result, Ok, Err, refl, sym, ap, ◌∙◌}
 use Rattle.std.specs.Prelude.{map}
-use Rattle.defs_text.specs.Position.{Place}
+use Rattle.defs_text.specs.Position.{Position}
 use Rattle.defs_token.specs.Token.{Tok}
 use Rattle.defs_tree.specs.Tree.{Tree}
 use Rattle.defs_event.specs.Event.{Ev}
@@ -15,13 +15,13 @@ use Rattle.defs_event.proofs.OneReading.{one_list}
 use Rattle.defs_event.specs.ReadAs.{ReadAs, IsAtWork}
 use Rattle.proof_layout_trees.specs.Laws.{ReadStreamsAreLoaded, ReadStreamsAreNotRefused, ForetoldEventsAreNotRefused, ReadStreamsAreNotCut}
 
-loaded : (ds : List NestedDocument) (trees : List Tree) (events : List (Ev × Place)) → reading ds ≡ Ok trees → events_of events ≡ nested_stream ds
+loaded : (ds : List NestedDocument) (trees : List Tree) (events : List (Ev × Position)) → reading ds ≡ Ok trees → events_of events ≡ nested_stream ds
     → HasRead (Ok trees) (with_events new_loader events)
 loaded ds trees events reads same = rw reads at (one_by_one ds events same)
 
 -- ---- beginnings
 
-work_on : (l : Loader) (events : List (Ev × Place)) → IsAtWork (with_events l events) → IsAtWork l
+work_on : (l : Loader) (events : List (Ev × Position)) → IsAtWork (with_events l events) → IsAtWork l
 work_on l [] h = h
 work_on l (e ∷ es) h = by l (work_on (with_event_at l e.0 e.1) es h)
   where
@@ -30,7 +30,7 @@ work_on l (e ∷ es) h = by l (work_on (with_event_at l e.0 e.1) es h)
     by (noted documents key place) h = h
     by (refused documents place) h = h
 
-with_more : (l : Loader) (es fs : List (Ev × Place)) → with_events l (es ++ fs) ≡ with_events (with_events l es) fs
+with_more : (l : Loader) (es fs : List (Ev × Position)) → with_events l (es ++ fs) ≡ with_events (with_events l es) fs
 with_more l [] fs = refl
 with_more l (e ∷ es) fs = with_more (with_event_at l e.0 e.1) es fs
 
@@ -40,15 +40,15 @@ at_work_behind trees (noted documents key place) h = h
 at_work_behind trees (refused documents place) h = h
 
 -- events at a place that does not count
-abbrev somewhere : Ev → Ev × Place
+abbrev somewhere : Ev → Ev × Position
 somewhere e = (e, record { index = 0; line = 1; col = 0 })
 
-with_somewhere : (es : List (Ev × Place)) (fs : List Ev) → events_of (es ++ map somewhere fs) ≡ events_of es ++ fs
+with_somewhere : (es : List (Ev × Position)) (fs : List Ev) → events_of (es ++ map somewhere fs) ≡ events_of es ++ fs
 with_somewhere [] [] = refl
 with_somewhere [] (f ∷ fs) = ap (λ vs. f ∷ vs) (with_somewhere [] fs)
 with_somewhere (e ∷ es) fs = ap (λ vs. e.0 ∷ vs) (with_somewhere es fs)
 
-not_refused : (ds : List NestedDocument) (trees : List Tree) (events : List (Ev × Place)) (more : List Ev) → reading ds ≡ Ok trees → events_of events ++ more ≡ nested_stream ds
+not_refused : (ds : List NestedDocument) (trees : List Tree) (events : List (Ev × Position)) (more : List Ev) → reading ds ≡ Ok trees → events_of events ++ more ≡ nested_stream ds
     → IsAtWork (with_events new_loader events)
 not_refused ds trees events more reads same =
     let whole = loaded ds trees (events ++ map somewhere more) reads (with_somewhere events more ∙ same) in

@@ -11,7 +11,7 @@ use Rattle.std.proofs.lemmas.Bool.{and_parts, and_from, ltb-true, ne_eqb}
 use Rattle.std.proofs.lemmas.Bool.Decides.{nat_tests}
 use Rattle.defs_tree.specs.Tree.{Tree, real, integer}
 use Rattle.defs_tree.specs.Grammar.{at_least_one, is_among}
-use Rattle.defs_tree.specs.Typing.{typing, signed_decimal, behind, fits_i64, is_digit, is_sign, is_decimal, null_words, true_words, false_words, special_words, where_true}
+use Rattle.defs_tree.specs.Typing.{typing, signed_decimal, after_prefix, fits_i64, is_digit, is_sign, is_decimal, null_words, true_words, false_words, special_words, where_true}
 use Rattle.defs_tree.proofs.GrammarLaws.{behind_all, behind_one}
 use Rattle.defs_tree.proofs.DecimalReading.{begins_in, reads_exponent, reads_on, reads_unsigned, is_decimal-read}
 use Rattle.defs_tree.proofs.ReadBack.{integer_back}
@@ -216,11 +216,11 @@ neither : (b : Bool) (o : Option (List ℕ)) → o ≡ None → (if b then o els
 neither true o h = h
 neither false o h = refl
 
-no_prefix : (x c : ℕ) (t : List ℕ) → is_real_character x ≡ false → list_all is_real_character t ≡ true → behind (48 ∷ x ∷ []) (c ∷ t) ≡ None
-no_prefix x c [] h are = neither (48 == c) (behind (x ∷ []) []) refl
+no_prefix : (x c : ℕ) (t : List ℕ) → is_real_character x ≡ false → list_all is_real_character t ≡ true → after_prefix (48 ∷ x ∷ []) (c ∷ t) ≡ None
+no_prefix x c [] h are = neither (48 == c) (after_prefix (x ∷ []) []) refl
 no_prefix x c (d ∷ t) h are =
     let first = (and_parts (is_real_character d) (list_all is_real_character t) are).0 in
-    neither (48 == c) (behind (x ∷ []) (d ∷ t)) (rw (other_letter x d h first) refl)
+    neither (48 == c) (after_prefix (x ∷ []) (d ∷ t)) (rw (other_letter x d h first) refl)
 
 either : (b : Bool) (t : Tree) → unwrap_or (where_true b t) t ≡ t
 either true t = refl
@@ -228,9 +228,9 @@ either false t = refl
 
 -- the rows above the reals' do not fit
 record IsUnfit (c : ℕ) (t : List ℕ) : Type 0 where
-  hexadecimal : behind (codes "0x") (c ∷ t) ≡ None
-  octal : behind (codes "0o") (c ∷ t) ≡ None
-  plus : behind (codes "+") (c ∷ t) ≡ None
+  hexadecimal : after_prefix (codes "0x") (c ∷ t) ≡ None
+  octal : after_prefix (codes "0o") (c ∷ t) ≡ None
+  plus : after_prefix (codes "+") (c ∷ t) ≡ None
   null : is_among null_words (c ∷ t) ≡ false
   yes : is_among true_words (c ∷ t) ≡ false
   no : is_among false_words (c ∷ t) ≡ false

@@ -1,7 +1,7 @@
 -- Laws of streams that are read, and of JSON texts, layouts and quoted texts: each is the contract of the function of
 -- `src/laws.rt` that its comment names.
 use Rattle.std.specs.Prelude.{◌≡◌, ℕ, Bool, true, List, [], ◌∷◌, ◌++◌, Ok}
-use Rattle.defs_text.specs.Position.{Place}
+use Rattle.defs_text.specs.Position.{Position}
 use Rattle.defs_token.specs.Token.{Tok}
 use Rattle.defs_tree.specs.Tree.{Tree}
 use Rattle.defs_tree.specs.Typing.{typing}
@@ -28,19 +28,19 @@ use Rattle.proof_layout_trees.specs.BasicNest.{basic_documents}
 -- `read_streams_are_loaded`
 abbrev pub ReadStreamsAreLoaded : Type 0
 ReadStreamsAreLoaded =
-    (keep_tags : Bool) (tokens : List Tok) (trees : List Tree) (events : List (Ev × Place)) → ReadAs keep_tags tokens trees → IsStream keep_tags tokens (events_of events)
+    (keep_tags : Bool) (tokens : List Tok) (trees : List Tree) (events : List (Ev × Position)) → ReadAs keep_tags tokens trees → IsStream keep_tags tokens (events_of events)
     → HasRead (Ok trees) (with_events new_loader events)
 
 -- `read_streams_are_not_refused`; `more` are the events after the beginning
 abbrev pub ReadStreamsAreNotRefused : Type 0
 ReadStreamsAreNotRefused =
-    (keep_tags : Bool) (tokens : List Tok) (trees : List Tree) (events : List (Ev × Place)) (more : List Ev) → ReadAs keep_tags tokens trees
+    (keep_tags : Bool) (tokens : List Tok) (trees : List Tree) (events : List (Ev × Position)) (more : List Ev) → ReadAs keep_tags tokens trees
     → IsStream keep_tags tokens (events_of events ++ more) → IsAtWork (with_events new_loader events)
 
 -- `foretold_events_are_not_refused`; `after` are the tokens after the beginning
 abbrev pub ForetoldEventsAreNotRefused : Type 0
 ForetoldEventsAreNotRefused =
-    (keep_tags : Bool) (before after : List Tok) (trees : List Tree) (events : List (Ev × Place)) → ReadAs keep_tags (before ++ after) trees
+    (keep_tags : Bool) (before after : List Tok) (trees : List Tree) (events : List (Ev × Position)) → ReadAs keep_tags (before ++ after) trees
     → Foretells keep_tags before (events_of events) → IsAtWork (with_events new_loader events)
 
 -- `read_streams_are_not_cut`
@@ -68,7 +68,7 @@ JsonTokensReadAsTheirTree = (keep_tags : Bool) (w : JsonText) → IsWellFormed w
 -- `json_events_are_loaded`
 abbrev pub JsonEventsAreLoaded : Type 0
 JsonEventsAreLoaded =
-    (keep_tags : Bool) (w : JsonText) (events : List (Ev × Place)) → IsWellFormed w → IsStream keep_tags (json_text_tokens w) (events_of events)
+    (keep_tags : Bool) (w : JsonText) (events : List (Ev × Position)) → IsWellFormed w → IsStream keep_tags (json_text_tokens w) (events_of events)
     → HasRead (Ok (json.tree_of w.value ∷ [])) (with_events new_loader events)
 
 -- ---- layouts
@@ -80,7 +80,7 @@ LayoutTokensReadAsTheirTrees = (keep_tags : Bool) (w : Layout) → IsLayout w �
 -- `layout_events_are_loaded`
 abbrev pub LayoutEventsAreLoaded : Type 0
 LayoutEventsAreLoaded =
-    (keep_tags : Bool) (w : Layout) (events : List (Ev × Place)) → IsLayout w → IsStream keep_tags (layout_tokens w) (events_of events)
+    (keep_tags : Bool) (w : Layout) (events : List (Ev × Position)) → IsLayout w → IsStream keep_tags (layout_tokens w) (events_of events)
     → HasRead (Ok (trees_of w.documents)) (with_events new_loader events)
 
 -- `basic_tokens_are_a_stream`

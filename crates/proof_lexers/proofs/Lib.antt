@@ -1,3 +1,4 @@
+pub mod Along
 pub mod Blocks
 pub mod Bridges
 pub mod Directives

@@ -1,6 +1,6 @@
 -- How the scan of a block scalar ends, told by the text after its `|` or `>`.
 use Rattle.std.specs.Prelude.{◌≡◌, ℕ, List, ◌∷◌, ◌++◌, true, Some, Result, Err}
-use Rattle.defs_text.specs.Position.{Place}
+use Rattle.defs_text.specs.Position.{Position}
 use Rattle.defs_scalar.specs.BlockScalar.{BlockStyle}
 use Rattle.defs_token.specs.BlockPiece.{BlockRead, block_read}
 use Rattle.yaml_tokens.specs.declared.problem.Fault.{Fault}
@@ -11,6 +11,6 @@ use Rattle.proof_lexers.specs.HeaderEnds.{indicator_of, is_in_line, ends_line}
 use Rattle.proof_lexers.specs.BlockScan.{collection_by, IsRead}
 
 -- The scan at a place ended in one of two ways. The text begins with a piece that is a block scalar, and the scan read it, or refused what stands after it; or the scan refused the header.
-pub data EndsAs (style : BlockStyle) (indent : ℕ) (p : Place) (text : List ℕ) (x : Result (Read Block) Fault) : Type 0 where
+pub data EndsAs (style : BlockStyle) (indent : ℕ) (p : Position) (text : List ℕ) (x : Result (Read Block) Fault) : Type 0 where
   scalar : (piece next : List ℕ) (b : BlockRead) → indicator_of style ∷ text ≡ piece ++ next → block_read (collection_by indent) piece next ≡ Some b → b.style ≡ style → IsRead indent p b piece next x → EndsAs style indent p text x
   bad_header : (line behind : List ℕ) (f : Fault) → text ≡ line ++ behind → is_in_line line ≡ true → ends_line behind ≡ true → header_ends.EndsAs p style line behind (Err f) → x ≡ Err f → EndsAs style indent p text x

@@ -1,6 +1,6 @@
 -- How the scan of a directive ends, told by its line. YAML 1.2, section 6.8.
 use Rattle.std.specs.Prelude.{◌≡◌, ℕ, suc, List, [], ◌∷◌, ◌++◌, Bool, true, false, nat_le, if◌then◌else◌, take, drop, length, Some, None, Result, Ok, Err, codes}
-use Rattle.defs_text.specs.Position.{Place}
+use Rattle.defs_text.specs.Position.{Position}
 use Rattle.defs_token.specs.Token.{Tok}
 use Rattle.yaml_tokens.specs.declared.problem.Fault.{Fault}
 use Rattle.yaml_tokens.specs.declared.problem.Fault.TheVariants.{At}
@@ -11,7 +11,8 @@ use Rattle.defs_text.specs.Breaks.{is_before_line_feed, is_rest_of_line}
 use Rattle.defs_scalar.specs.FlowScalar.{begins_with}
 use Rattle.defs_scalar.specs.Tags.{UriFault, leading, behind, begins_with_mark, decoded}
 use Rattle.defs_scalar.specs.Directives.{Directive, version, tag_declaration, reserved, begins_prefix, handle_and_rest, directive_of}
-use Rattle.defs_token.specs.Text.{place_behind, has_no_break}
+use Rattle.defs_text.specs.Position.{position_after}
+use Rattle.defs_text.specs.Breaks.{has_no_break}
 use Rattle.model_lexers.specs.Machine.{Read}
 use Rattle.proof_lexers.specs.NameEnds.{further}
 use Rattle.proof_lexers.specs.UriEnds.{problem_of}
@@ -38,8 +39,8 @@ next_line [] = []
 next_line (c ∷ r) = (if is_before_line_feed c r then drop 1 r else r)
 
 -- what is left after a directive's line and its break
-abbrev pub behind_line : Place → (line next : List ℕ) → Tok → Read Tok
-behind_line p line next tok = record { rest = next_line next; place = place_behind p (line ++ first_break next) (next_line next); value = tok }
+abbrev pub behind_line : Position → (line next : List ℕ) → Tok → Read Tok
+behind_line p line next tok = record { rest = next_line next; place = position_after p (line ++ first_break next) (next_line next); value = tok }
 
 -- Why a text after `%YAML` and blanks is no version: a number is missing, has more than nine digits, or no point stands after the first one.
 pub data IsNoVersion (text : List ℕ) : Problem → Type 0 where
@@ -58,7 +59,7 @@ pub data IsNoDeclaration (text : List ℕ) : Problem → Type 0 where
   goes_on : is_at_gap (behind is_uri (behind is_blank (handle_and_rest text).1)) ≡ false → IsNoDeclaration text problem.TagDirectiveEnd
 
 -- Why a line after a `%` at a place is refused: it begins with no name; the name goes on with another character; a version or a declaration is none; or after one stands a comment without a blank, or other text.
-pub data IsRefusal (start : Place) (line : List ℕ) : Fault → Type 0 where
+pub data IsRefusal (start : Position) (line : List ℕ) : Fault → Type 0 where
   no_name : leading is_alpha line ≡ [] → IsRefusal start line (At problem.DirectiveName (further 1 start))
   by_name : is_at_gap (behind is_alpha line) ≡ false → IsRefusal start line (At problem.DirectiveNameEnd (further 1 start))
   by_version : (why : Problem) → leading is_alpha line ≡ codes "YAML" → IsNoVersion (behind is_blank (behind is_alpha line)) why → IsRefusal start line (At why start)
@@ -67,7 +68,7 @@ pub data IsRefusal (start : Place) (line : List ℕ) : Fault → Type 0 where
   by_text : (before rest : List ℕ) → line ≡ before ++ rest → is_rest_of_line rest ≡ false → IsRefusal start line (At problem.DirectiveEnd start)
 
 -- The scan of a text after a `%`: it read the directive that its first line is, and the break after that; or the line is none, and the scan has a fault of which it is the reason.
-pub data EndsAs (start : Place) (text : List ℕ) (x : Result (Read Tok) Fault) : Type 0 where
+pub data EndsAs (start : Position) (text : List ℕ) (x : Result (Read Tok) Fault) : Type 0 where
   reads : (line next : List ℕ) (d : Directive) → text ≡ line ++ next → has_no_break line ≡ true → ends_line next ≡ true → directive_of (37 ∷ line) ≡ Some d
       → x ≡ Ok (behind_line start (37 ∷ line) next (token_of d)) → EndsAs start text x
   refuses : (line next : List ℕ) (f : Fault) → text ≡ line ++ next → has_no_break line ≡ true → ends_line next ≡ true → directive_of (37 ∷ line) ≡ None → IsRefusal start line f → x ≡ Err f → EndsAs start text x

@@ -1,7 +1,7 @@
 -- How the scan of a block scalar's header ends, told by the rest of its line after `|` or `>`. YAML 1.2, section 8.1.1.
 use Rattle.std.specs.Prelude.{◌≡◌, ℕ, List, [], ◌∷◌, ◌++◌, Bool, true, false, ◌&&◌, ◌||◌, ◌==◌, not, Option, Some, None, Result, Ok, Err}
 use Rattle.std.specs.List.{list_all}
-use Rattle.defs_text.specs.Position.{Place}
+use Rattle.defs_text.specs.Position.{Position}
 use Rattle.defs_text.specs.Text.{is_nil}
 use Rattle.defs_text.specs.Classes.{tab, is_break}
 use Rattle.defs_scalar.specs.FlowScalar.{begins_with}
@@ -46,12 +46,12 @@ ends_line [] = true
 ends_line (c ∷ r) = is_break c
 
 -- the place after characters of a line
-abbrev pub along : List ℕ → Place → Place
+abbrev pub along : List ℕ → Position → Position
 along [] p = p
 along (c ∷ w) p = along w (past p)
 
 -- a header read at a line's end: before the next line, or at the end of the text
-abbrev pub read_header : defs.Header → (behind : List ℕ) → Place → Read Header
+abbrev pub read_header : defs.Header → (behind : List ℕ) → Position → Read Header
 read_header h r p = record { rest = (linebreak r p).rest; place = (linebreak r p).place; value = record { indicators = indicators_of h; broken = not (is_nil r) } }
 
 -- whether a character is a sign of chomping
@@ -65,7 +65,7 @@ has_zero (c ∷ r) = (c == 48) || (is_sign c && begins_with 48 r)
 
 -- How the scan of a header ends: `start` is the place of its `|` or `>`, and `line` the rest of its line, after which the line's end stands.
 -- It read the header that the line is, if no TAB begins the next line; or the line is none, for a digit 0, a comment right after a header, or other text.
-pub data EndsAs (start : Place) (style : BlockStyle) (line behind : List ℕ) (x : Result (Read Header) Fault) : Type 0 where
+pub data EndsAs (start : Position) (style : BlockStyle) (line behind : List ℕ) (x : Result (Read Header) Fault) : Type 0 where
   reads : (h : defs.Header) → header_of (indicator_of style ∷ line) ≡ Some h → begins_with tab (linebreak behind start).rest ≡ false
       → x ≡ Ok (read_header h behind (along line (past start))) → EndsAs start style line behind x
   tabbed : (h : defs.Header) → header_of (indicator_of style ∷ line) ≡ Some h → begins_with tab (linebreak behind start).rest ≡ true

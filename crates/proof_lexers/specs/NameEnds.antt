@@ -1,6 +1,6 @@
 -- How the scan of the name of an anchor or an alias ends, told by the text after its indicator. YAML 1.2, section 6.9.2.
 use Rattle.std.specs.Prelude.{◌≡◌, ℕ, ◌+◌, List, ◌++◌, true, false, length, Result, Ok, Err}
-use Rattle.defs_text.specs.Position.{Place}
+use Rattle.defs_text.specs.Position.{Position}
 use Rattle.yaml_tokens.specs.declared.problem.Fault.{Fault}
 use Rattle.yaml_tokens.specs.declared.problem.Fault.TheVariants.{At}
 use Rattle.yaml_tokens.specs.declared.problem.Problem.TheVariants as problem
@@ -8,14 +8,14 @@ use Rattle.model_lexers.specs.Machine.{Read}
 use Rattle.defs_token.specs.Piece.{is_name, goes_on_with_name}
 
 -- the place so many characters further in a line
-abbrev pub further : ℕ → Place → Place
+abbrev pub further : ℕ → Position → Position
 further n p = record { index = p.index + n; line = p.line; col = p.col + n }
 
 -- what is left after an indicator at a place and a name
-abbrev pub behind_name : Place → (name rest : List ℕ) → Read (List ℕ)
+abbrev pub behind_name : Position → (name rest : List ℕ) → Read (List ℕ)
 behind_name p name rest = record { rest = rest; place = further (1 + length name) p; value = name }
 
 -- The scan of a text after an indicator at a place: it read the name that the text begins with, or the text begins with none.
-pub data EndsAs (p : Place) (text : List ℕ) (x : Result (Read (List ℕ)) Fault) : Type 0 where
+pub data EndsAs (p : Position) (text : List ℕ) (x : Result (Read (List ℕ)) Fault) : Type 0 where
   named : (name rest : List ℕ) → text ≡ name ++ rest → is_name name ≡ true → goes_on_with_name rest ≡ false → x ≡ Ok (behind_name p name rest) → EndsAs p text x
   nameless : goes_on_with_name text ≡ false → x ≡ Err (At problem.AnchorName p) → EndsAs p text x

@@ -1,7 +1,7 @@
 -- Laws of the exact model and quoted scalars: each is the contract of the function of `src/laws.rt` that its comment names.
 use Rattle.std.specs.Prelude.{◌≡◌, ℕ, List, [], ◌∷◌, ◌++◌, Bool, true, Some}
 use Rattle.std.specs.List.{list_all}
-use Rattle.defs_text.specs.Position.{Place}
+use Rattle.defs_text.specs.Position.{Position}
 use Rattle.yaml_tokens.specs.declared.problem.Fault.{Fault}
 use Rattle.model_lexers.specs.declared.context.Context.{Context}
 use Rattle.model_lexers.specs.Quoted.{quote_of, quoted}
@@ -11,10 +11,10 @@ use Rattle.proof_lexers.specs.QuotedEnds.{EndsAs}
 -- `quoted_bodies_are_read`; `rest` is what stands after the closing quote
 abbrev pub QuotedBodiesAreRead : Type 0
 QuotedBodiesAreRead =
-    (single : Bool) (ctx : Context) (body rest value : List ℕ) (p : Place) → value_of single body ≡ Some value → ends_before single rest ≡ true
+    (single : Bool) (ctx : Context) (body rest value : List ℕ) (p : Position) → value_of single body ≡ Some value → ends_before single rest ≡ true
     → IsRead ctx p value rest (quoted single ctx (quote_of single ∷ (body ++ quote_of single ∷ rest)) p)
 
 -- `quoted_scans_end_as_their_text_says`; `text` is what stands after the opening quote
 abbrev pub QuotedScansEndAsTheirTextSays : Type 0
 QuotedScansEndAsTheirTextSays =
-    (single : Bool) (ctx : Context) (text : List ℕ) (p : Place) → list_all is_some text ≡ true → EndsAs single ctx p text (quoted single ctx (quote_of single ∷ text) p)
+    (single : Bool) (ctx : Context) (text : List ℕ) (p : Position) → list_all is_some text ≡ true → EndsAs single ctx p text (quoted single ctx (quote_of single ∷ text) p)

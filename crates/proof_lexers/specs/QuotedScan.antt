@@ -1,6 +1,6 @@
 -- What the model of a quoted scalar's scan answers of a text, in the definitions' words.
 use Rattle.std.specs.Prelude.{◌≡◌, ℕ, ◌+◌, List, [], ◌∷◌, ◌++◌, Bool, true, false, ◌&&◌, ◌||◌, ◌==◌, not, nat_lt, Option, Result, Ok, Err}
-use Rattle.defs_text.specs.Position.{Place}
+use Rattle.defs_text.specs.Position.{Position}
 use Rattle.defs_text.specs.Classes.{is_break, is_document_marker}
 use Rattle.defs_scalar.specs.FlowScalar.{Spelled, single_quoted_element, double_quoted_element, single_quoted_value, double_quoted_value, begins_with}
 use Rattle.yaml_tokens.specs.declared.problem.Fault.{Fault}
@@ -33,11 +33,11 @@ abbrev pub is_some : ℕ → Bool
 is_some c = not (c == 0)
 
 -- Why a scan refuses a body all the same: a line of it stands left of the innermost block collection, or a TAB stands there for indentation.
-pub data IsShallow (ctx : Context) (start : Place) (x : Result (Read (List ℕ)) Fault) : Type 0 where
-  by_line : (p : Place) → nat_lt (p.col + 1) ctx.indent ≡ true → x ≡ Err (At problem.QuotedIndentation start) → IsShallow ctx start x
-  by_tab : (p : Place) → nat_lt (p.col + 1) ctx.indent ≡ true → x ≡ Err (At problem.TabAsIndentation p) → IsShallow ctx start x
+pub data IsShallow (ctx : Context) (start : Position) (x : Result (Read (List ℕ)) Fault) : Type 0 where
+  by_line : (p : Position) → nat_lt (p.col + 1) ctx.indent ≡ true → x ≡ Err (At problem.QuotedIndentation start) → IsShallow ctx start x
+  by_tab : (p : Position) → nat_lt (p.col + 1) ctx.indent ≡ true → x ≡ Err (At problem.TabAsIndentation p) → IsShallow ctx start x
 
 -- The scan read just this text, up to the rest, or refused it for its indentation.
-pub data IsRead (ctx : Context) (start : Place) (text rest : List ℕ) (x : Result (Read (List ℕ)) Fault) : Type 0 where
-  read : (place : Place) → x ≡ Ok (record { rest = rest; place = place; value = text }) → IsRead ctx start text rest x
+pub data IsRead (ctx : Context) (start : Position) (text rest : List ℕ) (x : Result (Read (List ℕ)) Fault) : Type 0 where
+  read : (place : Position) → x ≡ Ok (record { rest = rest; place = place; value = text }) → IsRead ctx start text rest x
   shallow : IsShallow ctx start x → IsRead ctx start text rest x

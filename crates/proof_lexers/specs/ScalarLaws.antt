@@ -1,6 +1,6 @@
 -- Laws of the scanner's model and the texts of single tokens: each is the contract of the function of `src/laws.rt` that its comment names.
 use Rattle.std.specs.Prelude.{◌≡◌, ℕ, List, ◌∷◌, ◌++◌, Bool, true, false, Some, Ok}
-use Rattle.defs_text.specs.Position.{Place}
+use Rattle.defs_text.specs.Position.{Position}
 use Rattle.defs_scalar.specs.FlowScalar.{plain_value}
 use Rattle.model_lexers.specs.declared.context.Context.{Context}
 use Rattle.model_lexers.specs.Anchor.{anchor_name}
@@ -22,7 +22,7 @@ use Rattle.proof_lexers.specs.UriEnds.{uri_read}
 use Rattle.proof_lexers.specs.TagEnds as tags
 use Rattle.defs_scalar.specs.Tags.{written_tag}
 use Rattle.defs_scalar.specs.Directives.{Directive, directive_of}
-use Rattle.defs_token.specs.Text.{has_no_break}
+use Rattle.defs_text.specs.Breaks.{has_no_break}
 use Rattle.model_lexers.specs.Directive.{directive}
 use Rattle.proof_lexers.specs.DirectiveEnds as directives
 use Rattle.proof_lexers.specs.PlainEnds.{has_no_nul, collection_of, begins_solid, is_indented, IsRead}
@@ -30,22 +30,22 @@ use Rattle.proof_lexers.specs.PlainEnds as plains
 
 -- `names_are_read`; `c` is the indicator
 abbrev pub NamesAreRead : Type 0
-NamesAreRead = (c : ℕ) (name rest : List ℕ) (p : Place) → is_name name ≡ true → goes_on_with_name rest ≡ false → anchor_name (c ∷ (name ++ rest)) p ≡ Ok (behind_name p name rest)
+NamesAreRead = (c : ℕ) (name rest : List ℕ) (p : Position) → is_name name ≡ true → goes_on_with_name rest ≡ false → anchor_name (c ∷ (name ++ rest)) p ≡ Ok (behind_name p name rest)
 
 -- `names_end_as_their_text_says`
 abbrev pub NamesEndAsTheirTextSays : Type 0
-NamesEndAsTheirTextSays = (c : ℕ) (text : List ℕ) (p : Place) → EndsAs p text (anchor_name (c ∷ text) p)
+NamesEndAsTheirTextSays = (c : ℕ) (text : List ℕ) (p : Position) → EndsAs p text (anchor_name (c ∷ text) p)
 
 -- `plain_scalars_are_read`
 abbrev pub PlainScalarsAreRead : Type 0
 PlainScalarsAreRead =
-    (ctx : Context) (piece next value : List ℕ) (p : Place) → has_no_nul (piece ++ next) ≡ true → begins_solid piece ≡ true → is_indented ctx p ≡ true
+    (ctx : Context) (piece next value : List ℕ) (p : Position) → has_no_nul (piece ++ next) ≡ true → begins_solid piece ≡ true → is_indented ctx p ≡ true
     → is_whole_plain ctx.flow (collection_of ctx.indent) piece next ≡ true → plain_value piece ≡ Some value → IsRead ctx p piece next value (plain ctx (piece ++ next) p)
 
 -- `plain_scans_end_as_their_text_says`
 abbrev pub PlainScansEndAsTheirTextSays : Type 0
 PlainScansEndAsTheirTextSays =
-    (ctx : Context) (text : List ℕ) (p : Place) → has_no_nul text ≡ true → begins_solid text ≡ true → is_indented ctx p ≡ true → plains.EndsAs ctx p text (plain ctx text p)
+    (ctx : Context) (text : List ℕ) (p : Position) → has_no_nul text ≡ true → begins_solid text ≡ true → is_indented ctx p ≡ true → plains.EndsAs ctx p text (plain ctx text p)
 
 -- `fillers_are_passed`
 abbrev pub FillersArePassed : Type 0
@@ -58,17 +58,17 @@ EachFillerIsPassed = (s : Held) (filler rest : List ℕ) → has_no_nul (filler 
 -- `uris_are_read`; of URIs, and of the suffixes of tags
 abbrev pub UrisAreRead : Type 0
 UrisAreRead =
-    (start : Place) (text : List ℕ) (p : Place) (before : List ℕ) →
+    (start : Position) (text : List ℕ) (p : Position) (before : List ℕ) →
     (uri is_uri start text p before ≡ uri_read classes.is_uri start p text before) × (uri is_tag start text p before ≡ uri_read classes.is_tag start p text before)
 
 -- `tags_end_as_their_text_says`; `text` is what stands after the `!`
 abbrev pub TagsEndAsTheirTextSays : Type 0
-TagsEndAsTheirTextSays = (in_flow : Bool) (text : List ℕ) (p : Place) → tags.EndsAs in_flow p text (tag in_flow (33 ∷ text) p)
+TagsEndAsTheirTextSays = (in_flow : Bool) (text : List ℕ) (p : Position) → tags.EndsAs in_flow p text (tag in_flow (33 ∷ text) p)
 
 -- `tags_are_read`; `piece` is what stands after the `!`
 abbrev pub TagsAreRead : Type 0
 TagsAreRead =
-    (in_flow : Bool) (piece rest handle suffix : List ℕ) (p : Place) → written_tag (33 ∷ piece) ≡ Some (record { handle = handle; suffix = suffix }) → tags.may_follow in_flow rest ≡ true
+    (in_flow : Bool) (piece rest handle suffix : List ℕ) (p : Position) → written_tag (33 ∷ piece) ≡ Some (record { handle = handle; suffix = suffix }) → tags.may_follow in_flow rest ≡ true
     → tag in_flow (33 ∷ (piece ++ rest)) p ≡ Ok (tags.behind_tag p (33 ∷ piece) rest handle suffix)
 
 -- `white_space_is_passed`; what must stand after a `?`
@@ -77,14 +77,14 @@ WhiteSpaceIsPassed = (s : Held) (text : List ℕ) → GoesOverAs s text (white f
 
 -- `spaces_are_passed`; within a line
 abbrev pub SpacesArePassed : Type 0
-SpacesArePassed = (tabs : SkipTabs) (text : List ℕ) (p : Place) → SpacesAs tabs p text (space tabs text p)
+SpacesArePassed = (tabs : SkipTabs) (text : List ℕ) (p : Position) → SpacesAs tabs p text (space tabs text p)
 
 -- `directives_are_read`; `line` is what stands after the `%`, up to the line's end
 abbrev pub DirectivesAreRead : Type 0
 DirectivesAreRead =
-    (line next : List ℕ) (d : Directive) (p : Place) → has_no_break line ≡ true → directives.ends_line next ≡ true → directive_of (37 ∷ line) ≡ Some d
+    (line next : List ℕ) (d : Directive) (p : Position) → has_no_break line ≡ true → directives.ends_line next ≡ true → directive_of (37 ∷ line) ≡ Some d
     → directive (37 ∷ (line ++ next)) p ≡ Ok (directives.behind_line p (37 ∷ line) next (directives.token_of d))
 
 -- `directives_end_as_their_text_says`; `text` is what stands after the `%`
 abbrev pub DirectivesEndAsTheirTextSays : Type 0
-DirectivesEndAsTheirTextSays = (text : List ℕ) (p : Place) → directives.EndsAs p text (directive (37 ∷ text) p)
+DirectivesEndAsTheirTextSays = (text : List ℕ) (p : Position) → directives.EndsAs p text (directive (37 ∷ text) p)

@@ -1,6 +1,6 @@
 -- How the scan of a tag ends, told by the text after its `!`. YAML 1.2, sections 5.6 and 6.9.1.
 use Rattle.std.specs.Prelude.{◌≡◌, ℕ, List, [], ◌∷◌, ◌++◌, Bool, true, false, ◌&&◌, ◌||◌, length, Some, Result, Ok, Err}
-use Rattle.defs_text.specs.Position.{Place}
+use Rattle.defs_text.specs.Position.{Position}
 use Rattle.defs_text.specs.Classes.{is_alpha, is_uri, is_tag, is_at_gap}
 use Rattle.defs_scalar.specs.FlowScalar.{begins_with}
 use Rattle.defs_scalar.specs.Tags.{UriFault, all_of, leading, decoded, written_tag}
@@ -19,7 +19,7 @@ abbrev pub may_follow : (in_flow : Bool) → List ℕ → Bool
 may_follow in_flow r = is_at_gap r || (in_flow && begins_flow r)
 
 -- what is left after a tag at a place
-abbrev pub behind_tag : Place → (piece rest handle suffix : List ℕ) → Read Tag
+abbrev pub behind_tag : Position → (piece rest handle suffix : List ℕ) → Read Tag
 behind_tag p piece rest handle suffix = record { rest = rest; place = further (length piece) p; value = record { handle = handle; suffix = suffix } }
 
 -- Why the text after a `!` is refused: octets of it are no characters; a verbatim tag is not closed; a handle of two marks has no suffix; or a tag stands there, and the text goes on.
@@ -30,7 +30,7 @@ pub data IsRefusal (in_flow : Bool) (text : List ℕ) : Problem → Type 0 where
   goes_on : (piece rest handle suffix : List ℕ) → text ≡ piece ++ rest → written_tag (33 ∷ piece) ≡ Some (record { handle = handle; suffix = suffix }) → may_follow in_flow rest ≡ false → IsRefusal in_flow text problem.TagEnd
 
 -- How a scan ends: it read a tag that stands there as what it is; or it has a fault of which the text is the reason.
-pub data EndsAs (in_flow : Bool) (start : Place) (text : List ℕ) (x : Result (Read Tag) Fault) : Type 0 where
+pub data EndsAs (in_flow : Bool) (start : Position) (text : List ℕ) (x : Result (Read Tag) Fault) : Type 0 where
   reads : (piece rest handle suffix : List ℕ) → text ≡ piece ++ rest → written_tag (33 ∷ piece) ≡ Some (record { handle = handle; suffix = suffix }) → may_follow in_flow rest ≡ true
       → x ≡ Ok (behind_tag start (33 ∷ piece) rest handle suffix) → EndsAs in_flow start text x
   refuses : (why : Problem) → IsRefusal in_flow text why → x ≡ Err (At why start) → EndsAs in_flow start text x

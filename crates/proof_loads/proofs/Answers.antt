@@ -1,7 +1,7 @@
 -- What a load answers of any text, by a parser that is at its start.
 use Rattle.std.proofs.Common.{◌≡◌, ℕ, true, false, Bool, List, [], ◌∷◌, ◌++◌, length, Some, None, Ok, refl, sym, ap, ◌∙◌, subst, append_assoc, append-nil, inl, inr}
 use Rattle.std.specs.Prelude.{Option, IfSome, Result, ◌||◌, codes}
-use Rattle.defs_text.specs.Position.{Place}
+use Rattle.defs_text.specs.Position.{Position}
 use Rattle.defs_token.specs.Token.{Tok, Token}
 use Rattle.yaml_tokens.specs.Fault.{Fault}
 use Rattle.defs_event.specs.Event.{Ev}
@@ -65,22 +65,22 @@ followed start (one_call {r = r} (event e pl) calls gives) clear steady =
 followed start (one_call (fault f) calls gives) clear steady = let kept = gives.fault in cc
 
 -- The events of a stream are all pushed.
-all_are_pushed : (keep_tags : Bool) (tokens : List Tok) (es : List (Ev × Place)) → IsStream keep_tags tokens (events_of es) → PushesAll (so (given Fault es)) es
+all_are_pushed : (keep_tags : Bool) (tokens : List Tok) (es : List (Ev × Position)) → IsStream keep_tags tokens (events_of es) → PushesAll (so (given Fault es)) es
 all_are_pushed keep_tags tokens es stream =
     let nested = stream_nests keep_tags tokens (events_of es) stream in
     let w = all_pushed Fault nested.0 es (sym nested.1) in
     (ap (λ l. l.pushed) w, ap (λ l. l.ending) w)
 
 -- the same without places
-pub placed_stream : (keep_tags : Bool) (tokens : List Token) (es : List (Ev × Place)) → IsPlacedStream keep_tags tokens es → IsStream keep_tags (toks tokens) (events_of es)
+pub placed_stream : (keep_tags : Bool) (tokens : List Token) (es : List (Ev × Position)) → IsPlacedStream keep_tags tokens es → IsStream keep_tags (toks tokens) (events_of es)
 placed_stream keep_tags tokens es s = record { documents = s.documents; has_tokens = s.has_tokens; has_events = s.has_events }
 
 -- The text's tokens are a stream, with its nested events.
-pub nested_is_stream : {keep_tags : Bool} {text : List ℕ} {es : List (Ev × Place)} (h : HasEvents keep_tags text es) → IsStream keep_tags (toks h.tokens) (nested_stream h.documents)
+pub nested_is_stream : {keep_tags : Bool} {text : List ℕ} {es : List (Ev × Position)} (h : HasEvents keep_tags text es) → IsStream keep_tags (toks h.tokens) (nested_stream h.documents)
 nested_is_stream {keep_tags} {text} {es} h = subst (IsStream keep_tags (toks h.tokens)) h.events_are (placed_stream keep_tags h.tokens es h.stream)
 
 -- Events of which more stand behind these begin a stream too.
-begins_too : (keep_tags : Bool) (tokens : List Token) (es fs : List (Ev × Place)) → BeginsPlaced keep_tags tokens (es ++ fs) → BeginsPlaced keep_tags tokens es
+begins_too : (keep_tags : Bool) (tokens : List Token) (es fs : List (Ev × Position)) → BeginsPlaced keep_tags tokens (es ++ fs) → BeginsPlaced keep_tags tokens es
 begins_too keep_tags tokens es fs b = record {
   more_tokens = b.more_tokens;
   more_events = fs ++ b.more_events;
@@ -108,7 +108,7 @@ ended_all answers p n (some same follows is) ended =
 
 -- What was pushed, and what was given besides.
 record Pushed (answers : List (Answer Fault)) (p : Parsed) : Type 0 where
-  left : List (Ev × Place)
+  left : List (Ev × Position)
   given_are : p.given ≡ (so answers).pushed ++ left
 
 pushed_first : (answers : List (Answer Fault)) (p : Parsed) → Noted answers p → Followed answers p → Pushed answers p
@@ -145,9 +145,9 @@ record Behind (text : List ℕ) (answers : List (Answer Fault)) (p : Parsed) : T
   scans : ScansIn text p.scanner
   steady : p.steady ≡ true
   explained : (f : Fault) → p.fault ≡ Some f → Explains f p
-  clear : (es : List (Ev × Place)) → answers ≡ given Fault es → p.fault ≡ None
+  clear : (es : List (Ev × Position)) → answers ≡ given Fault es → p.fault ≡ None
 
-ends_whole : {R : Type 0} {takes : R → Ev → Place → Result (Unit {0}) Fault → R → Type 0} {r s : R} {text : List ℕ} (answers : List (Answer Fault)) (p : Parsed) → Behind text answers p → p.fault ≡ None
+ends_whole : {R : Type 0} {takes : R → Ev → Position → Result (Unit {0}) Fault → R → Type 0} {r s : R} {text : List ℕ} (answers : List (Answer Fault)) (p : Parsed) → Behind text answers p → p.fault ≡ None
     → has_end (so answers).pushed ≡ true → Receives takes r (so answers).pushed s → AnswersText takes p.keep_tags text r (Ok tt) s
 ends_whole {takes = takes} {r = r} {s = s} {text = text} answers p b clear h received =
     let all = ended_all answers p (b.noted clear) (b.followed clear) (end_was_given answers p (b.noted clear) (b.followed clear) h) in
@@ -177,10 +177,10 @@ fault_of text answers p f b why = elim why [
         (subst (λ ts. NoneBegins p.keep_tags (toks ts)) r.tokens r.none)
 
 -- An event that is no document's start never stands between documents.
-not_misplaced : (text : List ℕ) (answers : List (Answer Fault)) (p : Parsed) (q : Place) → Behind text answers p → (so answers).ending ≡ run.no_document q → (so answers).taken ≡ length answers → ⊥
+not_misplaced : (text : List ℕ) (answers : List (Answer Fault)) (p : Parsed) (q : Position) → Behind text answers p → (so answers).ending ≡ run.no_document q → (so answers).taken ≡ length answers → ⊥
 not_misplaced text answers p q b e taken = by (b.followed clear)
   where
-    only_events : (es : List (Ev × Place)) × (answers ≡ given Fault es)
+    only_events : (es : List (Ev × Position)) × (answers ≡ given Fault es)
     only_events = misplaced_events Fault before_stream answers q e taken
 
     clear : p.fault ≡ None
@@ -204,11 +204,11 @@ not_misplaced text answers p q b e taken = by (b.followed clear)
             given_append Fault (read p) more ∙ ap (λ es. given Fault es ++ given Fault more) same ∙ ap (λ bs. bs ++ given Fault more) (sym (given_alone answers p (b.noted clear) going)) in
             well_is_not (ended_within Fault all answers (given Fault more) pushed are (subst (λ x. IsOver x) (sym e) tt)).1
 
-begins_text : (text : List ℕ) (answers : List (Answer Fault)) (p : Parsed) (es : List (Ev × Place)) (e : Ev × Place) → Behind text answers p → p.fault ≡ None → (so answers).pushed ≡ es ++ e ∷ []
+begins_text : (text : List ℕ) (answers : List (Answer Fault)) (p : Parsed) (es : List (Ev × Position)) (e : Ev × Position) → Behind text answers p → p.fault ≡ None → (so answers).pushed ≡ es ++ e ∷ []
     → BeginsEvents p.keep_tags text (es ++ e ∷ [])
 begins_text text answers p es e b clear pushed = by (b.followed clear)
   where
-    not_empty : (xs : List (Ev × Place)) → [] ≡ xs ++ e ∷ [] → ⊥
+    not_empty : (xs : List (Ev × Position)) → [] ≡ xs ++ e ∷ [] → ⊥
     not_empty [] h = cc
     not_empty (x ∷ xs) h = cc
 
@@ -226,14 +226,14 @@ begins_text text answers p es e b clear pushed = by (b.followed clear)
               (foretells_beginning p.keep_tags (toks p.scanner.given) (read p) (es ++ e ∷ []) first.left are follows.only);
         }
 
-ends_so : {R : Type 0} {takes : R → Ev → Place → Result (Unit {0}) Fault → R → Type 0} {r s : R} {text : List ℕ} {result : Result (Unit {0}) Fault} {new : Parsed} (answers : List (Answer Fault)) (p : Parsed)
+ends_so : {R : Type 0} {takes : R → Ev → Position → Result (Unit {0}) Fault → R → Type 0} {r s : R} {text : List ℕ} {result : Result (Unit {0}) Fault} {new : Parsed} (answers : List (Answer Fault)) (p : Parsed)
     → Behind text answers p → (so answers).taken ≡ length answers → EndsSo takes r (so answers) p result new s → AnswersText takes p.keep_tags text r result s
 ends_so answers p b taken (loads.well e clear received) = ends_whole answers p b clear (end_was_pushed before_stream answers e) received
 ends_so {text = text} answers p b taken (loads.faulted {f = f} e kept received) = faulted (so answers).pushed (fault_of text answers p f b (b.explained f kept)) received
 ends_so {text = text} answers p b taken (loads.misplaced q e received) = absurd (not_misplaced text answers p q b e taken)
 ends_so {text = text} answers p b taken (loads.refused {es = es} e q pushed clear received takes) = refused es e q (begins_text text answers p es (e, q) b clear pushed) received takes
 
-scanner_stays : {R : Type 0} {takes : R → Ev → Place → Result (Unit {0}) Fault → R → Type 0} {r s : R} {l : run.Loaded Fault} {p new : Parsed} {result : Result (Unit {0}) Fault}
+scanner_stays : {R : Type 0} {takes : R → Ev → Position → Result (Unit {0}) Fault → R → Type 0} {r s : R} {l : run.Loaded Fault} {p new : Parsed} {result : Result (Unit {0}) Fault}
     → EndsSo takes r l p result new s → new.scanner ≡ p.scanner
 scanner_stays (loads.well e clear received) = refl
 scanner_stays (loads.faulted e kept received) = refl
@@ -252,7 +252,7 @@ known {old} {p} {answers} text start scans calls =
       clear = λ es e. events_are_clear es start.fault calls e;
     }
 
-pub texts_are_answered : {R : Type 0} (takes : R → Ev → Place → Result (Unit {0}) Fault → R → Type 0) → TextsAreAnswered takes
+pub texts_are_answered : {R : Type 0} (takes : R → Ev → Position → Result (Unit {0}) Fault → R → Type 0) → TextsAreAnswered takes
 texts_are_answered takes old new r s result text start scans l =
     let from_start : (load old.started true l.answers) ≡ so l.answers = rw start.started refl in
     let p = l.behind in

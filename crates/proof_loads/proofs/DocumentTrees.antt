@@ -1,7 +1,7 @@
 -- The documents of a text are valid trees, so those that can be written come back.
 use Rattle.std.proofs.Common.{◌≡◌, List, [], Ok, subst}
 use Rattle.std.specs.Prelude.{All, map}
-use Rattle.defs_text.specs.Position.{Place}
+use Rattle.defs_text.specs.Position.{Position}
 use Rattle.defs_tree.specs.Tree.{Tree}
 use Rattle.defs_tree.specs.Valid.{IsDistinct, FitsI64}
 use Rattle.defs_event.specs.Event.{Ev}
@@ -22,7 +22,7 @@ documents_read trees (refused d p) h = absurd h
 
 -- what every loaded tree has, all documents of the reading have
 kept_by_reading : (P : Tree → Type 0) (ds : List NestedDocument) (trees : List Tree) → reading ds ≡ Ok trees
-    → ((es : List (Ev × Place)) → All P (documents_of (with_events new_loader es))) → All P trees
+    → ((es : List (Ev × Position)) → All P (documents_of (with_events new_loader es))) → All P trees
 kept_by_reading P ds trees e h =
     let es = map somewhere (nested_stream ds) in
     let read = subst (λ r. HasRead r (with_events new_loader es)) e (one_by_one ds es (with_somewhere [] (nested_stream ds))) in

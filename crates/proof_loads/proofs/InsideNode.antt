@@ -2,13 +2,13 @@
 use Rattle.std.proofs.Common.{◌≡◌, ℕ, zero, suc, ◌+◌, ◌≤◌, ◌<◌, Bool, true, false, List, [], ◌∷◌, ◌++◌, Some, None, refl, sym, ap, subst, ◌∙◌, inl, inr, arith}
 use Rattle.std.specs.Prelude.{Option, option_map, if◌then◌else◌}
 use Rattle.std.proofs.lemmas.Bool.{ne_eqb}
-use Rattle.defs_text.specs.Position.{Place}
+use Rattle.defs_text.specs.Position.{Position}
 use Rattle.defs_token.specs.Token.{Style}
 use Rattle.defs_tree.specs.Tree.{Tree, array, hash, bad_value, items_of, pairs_of}
 use Rattle.defs_tree.specs.Pairs.{has_key, insert}
 use Rattle.defs_event.specs.Event.{Ev}
 use Rattle.defs_event.specs.Raw.{Raw}
-use Rattle.defs_event.specs.Names.{Names, no_names, named, both, behind, resolved_event, perhaps_resolved, under_name, number, with_anchor, are_allowed}
+use Rattle.defs_event.specs.Names.{Names, no_names, named, both, names_after, resolved_event, perhaps_resolved, under_name, number, with_anchor, are_allowed}
 use Rattle.defs_event.specs.Scalar.{scalar_tree}
 use Rattle.defs_event.specs.Anchors.{Anchors, aliased, finished}
 use Rattle.defs_event.specs.Unfinished.{Opened, opened_sequence, opened_mapping, Unfinished, Step, reads, repeats, out_of_nesting, with_root, with_tree, with_node, with_start, with_sequence_end, with_mapping_end, with_document_end, with_event, Loader, at_work, noted, refused, new_loader, loader_behind, with_event_at, with_events}
@@ -197,7 +197,7 @@ allowed : (P : Ev → Type 0) (b : Bool) (e : Ev) → P e → OfSome P (if b the
 allowed P true e h = h
 allowed P false e h = tt
 
-numbered : (keep_tags : Bool) (s : Names) (r : Raw) → OfSome (Follows s.count (behind keep_tags s r).count) (resolved_event s r)
+numbered : (keep_tags : Bool) (s : Names) (r : Raw) → OfSome (Follows s.count (names_after keep_tags s r).count) (resolved_event s r)
 numbered k s Raw.stream_start = refl
 numbered k s Raw.stream_end = refl
 numbered k s (Raw.document_start ds) = allowed (Follows s.count s.count) (are_allowed ds) Ev.document_start refl
@@ -219,37 +219,37 @@ OfLoader m (at_work u) = Stands m u
 OfLoader m (noted documents key p) = Unit {0}
 OfLoader m (refused documents p) = Unit {0}
 
-of_behind : (m : ℕ) (x : Step) (documents : List Tree) (p : Place) → OfStep m x → OfLoader m (loader_behind x documents p)
+of_behind : (m : ℕ) (x : Step) (documents : List Tree) (p : Position) → OfStep m x → OfLoader m (loader_behind x documents p)
 of_behind m (reads u) documents p h = h
 of_behind m (repeats key) documents p h = tt
 of_behind m out_of_nesting documents p h = tt
 
-of_event_at : (m n : ℕ) (l : Loader) (e : Ev) (p : Place) → Follows m n e → OfLoader m l → OfLoader n (with_event_at l e p)
+of_event_at : (m n : ℕ) (l : Loader) (e : Ev) (p : Position) → Follows m n e → OfLoader m l → OfLoader n (with_event_at l e p)
 of_event_at m n (at_work u) e p f h = of_behind n (with_event u e) u.documents p (of_event m n u e f h)
 of_event_at m n (noted documents key q) e p f h = tt
 of_event_at m n (refused documents q) e p f h = tt
 
 record FirstNamed (keep_tags : Bool) (s : Names) (r : Raw) (rs : List Raw) (e : Ev) (es : List Ev) : Type 0 where
-  follows : Follows s.count (behind keep_tags s r).count e
-  rest : named keep_tags (behind keep_tags s r) rs ≡ Some es
+  follows : Follows s.count (names_after keep_tags s r).count e
+  rest : named keep_tags (names_after keep_tags s r) rs ≡ Some es
 
 both_named : (keep_tags : Bool) (s : Names) (r : Raw) (rs : List Raw) (e : Ev) (es : List Ev) (o : Option Ev) (os : Option (List Ev))
-    → OfSome (Follows s.count (behind keep_tags s r).count) o → named keep_tags (behind keep_tags s r) rs ≡ os → both o os ≡ Some (e ∷ es) → FirstNamed keep_tags s r rs e es
+    → OfSome (Follows s.count (names_after keep_tags s r).count) o → named keep_tags (names_after keep_tags s r) rs ≡ os → both o os ≡ Some (e ∷ es) → FirstNamed keep_tags s r rs e es
 both_named k s r rs e es None os f n q = cc
 both_named k s r rs e es (Some v) None f n q = cc
 both_named k s r rs e es (Some v) (Some vs) f n q =
     let same : v ≡ e = cc in
     let more : vs ≡ es = cc in
-    record { follows = subst (Follows s.count (behind k s r).count) same f; rest = n ∙ ap Some more }
+    record { follows = subst (Follows s.count (names_after k s r).count) same f; rest = n ∙ ap Some more }
 
-stands_behind : (keep_tags : Bool) (s : Names) (rs : List Raw) (l : Loader) (before : List (Ev × Place)) (more : List Ev)
+stands_behind : (keep_tags : Bool) (s : Names) (rs : List Raw) (l : Loader) (before : List (Ev × Position)) (more : List Ev)
     → named keep_tags s rs ≡ Some (events_of before ++ more) → OfLoader s.count l → (m : ℕ) × OfLoader m (with_events l before)
 stands_behind k s rs l [] more q h = (s.count, h)
 stands_behind k s [] l (e ∷ before) more q h = cc
 stands_behind k s (r ∷ rs) l (e ∷ before) more q h =
-    let first = both_named k s r rs e.0 (events_of before ++ more) (resolved_event s r) (named k (behind k s r) rs) (numbered k s r) refl q in
-    stands_behind k (behind k s r) rs (with_event_at l e.0 e.1) before more first.rest
-    (of_event_at s.count (behind k s r).count l e.0 e.1 first.follows h)
+    let first = both_named k s r rs e.0 (events_of before ++ more) (resolved_event s r) (named k (names_after k s r) rs) (numbered k s r) refl q in
+    stands_behind k (names_after k s r) rs (with_event_at l e.0 e.1) before more first.rest
+    (of_event_at s.count (names_after k s r).count l e.0 e.1 first.follows h)
 
 open_unfinished : (m n : ℕ) (anchors : Anchors) (opened : List Opened) → Held m anchors opened → IsOpen n opened → aliased n anchors ≡ bad_value
 open_unfinished m n anchors [] h o = absurd o
@@ -260,6 +260,6 @@ open_unfinished m n anchors (opened_mapping a ps w ∷ outer) h (inr o) = open_u
 
 pub aliases_are_bad : AliasesInsideTheirNodeAreBadValues
 aliases_are_bad keep_tags tokens before n more u stream work is_open =
-    let behind = stands_behind keep_tags no_names (stream_events stream.documents) new_loader before (Ev.alias n ∷ more) stream.has_events (record { low = tt; held = tt }) in
-    let stands : Stands behind.0 u = subst (OfLoader behind.0) work behind.1 in
-    ap (λ t. with_tree t u u.opened) (open_unfinished behind.0 n u.anchors u.opened stands.held is_open)
+    let names_after = stands_behind keep_tags no_names (stream_events stream.documents) new_loader before (Ev.alias n ∷ more) stream.has_events (record { low = tt; held = tt }) in
+    let stands : Stands names_after.0 u = subst (OfLoader names_after.0) work names_after.1 in
+    ap (λ t. with_tree t u u.opened) (open_unfinished names_after.0 n u.anchors u.opened stands.held is_open)

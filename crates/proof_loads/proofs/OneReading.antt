@@ -1,7 +1,7 @@
 -- A text is read in one way.
 use Rattle.std.proofs.Common.{◌≡◌, ℕ, Bool, List, [], ◌∷◌, refl, sym, ap, ◌∙◌, subst}
 use Rattle.std.specs.Prelude.{Result, Ok, Err, map, ◌++◌}
-use Rattle.defs_text.specs.Position.{Place}
+use Rattle.defs_text.specs.Position.{Position}
 use Rattle.defs_token.specs.Token.{Tok}
 use Rattle.defs_tree.specs.Tree.{Tree}
 use Rattle.defs_event.specs.Event.{Ev}
@@ -20,10 +20,10 @@ use Rattle.proof_loads.specs.TextReadAs.{IsReadAs}
 use Rattle.proof_loads.specs.Laws.{TextsAreReadInOneWay}
 
 -- an event at a place that does not count
-abbrev pub somewhere : Ev → Ev × Place
+abbrev pub somewhere : Ev → Ev × Position
 somewhere e = (e, record { index = 0; line = 1; col = 0 })
 
-pub with_somewhere : (es : List (Ev × Place)) (fs : List Ev) → events_of (es ++ map somewhere fs) ≡ events_of es ++ fs
+pub with_somewhere : (es : List (Ev × Position)) (fs : List Ev) → events_of (es ++ map somewhere fs) ≡ events_of es ++ fs
 with_somewhere [] [] = refl
 with_somewhere [] (f ∷ fs) = ap (λ vs. f ∷ vs) (with_somewhere [] fs)
 with_somewhere (e ∷ es) fs = ap (λ vs. e.0 ∷ vs) (with_somewhere es fs)

@@ -1,7 +1,7 @@
 -- What a parser at its start was asked for, and what it has given.
 use Rattle.std.proofs.Common.{◌≡◌, true, false, Bool, List, [], ◌∷◌, ◌++◌, Some, None, refl, sym, ap, ◌∙◌, subst, append_assoc, append-nil}
 use Rattle.std.specs.Prelude.{Option, IfSome, ◌||◌}
-use Rattle.defs_text.specs.Position.{Place}
+use Rattle.defs_text.specs.Position.{Position}
 use Rattle.yaml_tokens.specs.Fault.{Fault}
 use Rattle.defs_event.specs.Event.{Ev}
 use Rattle.defs_event.specs.PulledList.{Answer, event, fault, given}
@@ -37,12 +37,12 @@ explained f clear (one_call {q = q} {r = r} (fault g) calls gives) h = by q.faul
 
 -- ---- behind an event
 
-pub read_given : (es : List (Ev × Place)) (ended : Bool) (ahead : Option (Ev × Place)) → ahead ≡ None → read_so es ended ahead ≡ es
+pub read_given : (es : List (Ev × Position)) (ended : Bool) (ahead : Option (Ev × Position)) → ahead ≡ None → read_so es ended ahead ≡ es
 read_given es true ahead h = refl
 read_given es false None h = refl
 read_given es false (Some e) h = cc
 
-pub has_end_append : (es fs : List (Ev × Place)) → has_end (es ++ fs) ≡ has_end es || has_end fs
+pub has_end_append : (es fs : List (Ev × Position)) → has_end (es ++ fs) ≡ has_end es || has_end fs
 has_end_append [] fs = refl
 has_end_append (e ∷ es) fs = by (is_stream_end e.0) (has_end_append es fs)
   where
@@ -61,7 +61,7 @@ pub record Noted (answers : List (Answer Fault)) (p : Parsed) : Type 0 where
   pub ended : p.ended ≡ has_end p.given
   pub none : p.ended ≡ false → rest ≡ []
 
-note : (q p : Parsed) (answers : List (Answer Fault)) (e : Ev) (pl : Place) → Noted answers q → GivesEvent q (e, pl) p → Noted (answers ++ event e pl ∷ []) p
+note : (q p : Parsed) (answers : List (Answer Fault)) (e : Ev) (pl : Position) → Noted answers q → GivesEvent q (e, pl) p → Noted (answers ++ event e pl ∷ []) p
 note q p answers e pl n gives = by q.ended refl
   where
     over : q.ended ≡ true → Noted (answers ++ event e pl ∷ []) p
@@ -101,13 +101,13 @@ noted {p} start no_call clear =
 noted start (one_call {q = q} {r = r} {answers = answers} (event e pl) calls gives) clear = note q r answers e pl (noted start calls gives.clear) gives
 noted start (one_call (fault f) calls gives) clear = let kept = gives.fault in cc
 
-last_is_event : (xs : List (Answer Fault)) (f : Fault) (es : List (Ev × Place)) → xs ++ fault f ∷ [] ≡ given Fault es → ⊥
+last_is_event : (xs : List (Answer Fault)) (f : Fault) (es : List (Ev × Position)) → xs ++ fault f ∷ [] ≡ given Fault es → ⊥
 last_is_event [] f [] h = cc
 last_is_event [] f (e ∷ es) h = cc
 last_is_event (x ∷ xs) f [] h = cc
 last_is_event (x ∷ xs) f (e ∷ es) h = let rest : xs ++ fault f ∷ [] ≡ given Fault es = cc in last_is_event xs f es rest
 
-pub events_are_clear : {p q : Parsed} {answers : List (Answer Fault)} (es : List (Ev × Place)) → p.fault ≡ None → PullsAll p answers q → answers ≡ given Fault es → q.fault ≡ None
+pub events_are_clear : {p q : Parsed} {answers : List (Answer Fault)} (es : List (Ev × Position)) → p.fault ≡ None → PullsAll p answers q → answers ≡ given Fault es → q.fault ≡ None
 events_are_clear es clear no_call h = clear
 events_are_clear es clear (one_call (event e p) calls gives) h = gives.sound.fault
 events_are_clear es clear (one_call {answers = answers} (fault f) calls gives) h = absurd (last_is_event answers f es h)

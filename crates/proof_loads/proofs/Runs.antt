@@ -1,6 +1,6 @@
 -- Runs of `load` with `multi` over answers, whatever they are.
 use Rattle.std.proofs.Common.{◌≡◌, ◌+◌, true, List, [], ◌∷◌, ◌++◌, length, refl, sym, ap, ◌∙◌, subst, append_assoc, arith}
-use Rattle.defs_text.specs.Position.{Place}
+use Rattle.defs_text.specs.Position.{Position}
 use Rattle.defs_event.specs.Event.{Ev}
 use Rattle.defs_event.specs.PulledList.{Answer, event, fault, given}
 use Rattle.defs_event.specs.Push.{Standing, before_stream, between, inside, Ending, well, no_document, unfinished, Loaded, ends, push, load_from}
@@ -11,12 +11,12 @@ IsOver unfinished = ⊥
 IsOver _ = Unit {0}
 
 -- What an event does, whatever comes behind it: it is pushed and the call goes on, or the call ends.
-data Turn (F : Type 0) (s : Standing) (e : Ev) (p : Place) : Type 0 where
+data Turn (F : Type 0) (s : Standing) (e : Ev) (p : Position) : Type 0 where
   goes : (t : Standing) → ((bs : List (Answer F)) → load_from s true (event e p ∷ bs) ≡ push e p (load_from t true bs)) → Turn F s e p
-  stops : (l : Loaded F) → IsOver l.ending → l.taken ≡ 1 → (left : List (Ev × Place)) → l.pushed ++ left ≡ (e, p) ∷ []
+  stops : (l : Loaded F) → IsOver l.ending → l.taken ≡ 1 → (left : List (Ev × Position)) → l.pushed ++ left ≡ (e, p) ∷ []
       → ((bs : List (Answer F)) → load_from s true (event e p ∷ bs) ≡ l) → Turn F s e p
 
-turn : (F : Type 0) (s : Standing) (e : Ev) (p : Place) → Turn F s e p
+turn : (F : Type 0) (s : Standing) (e : Ev) (p : Position) → Turn F s e p
 turn F before_stream e p = goes between (λ bs. refl)
 turn F between Ev.document_start p = goes inside (λ bs. refl)
 turn F between Ev.stream_end p = stops (push Ev.stream_end p (ends well 0)) tt refl [] refl (λ bs. refl)
@@ -35,11 +35,11 @@ over_is_over F s (event e p ∷ xs) ys h = by (turn F s e p) (λ t. over_is_over
     by (stops l over one left pushed same) rest = same (xs ++ ys) ∙ sym (same xs)
 
 -- Of these events some are pushed, and then some are left.
-pub record Pushes {F : Type 0} (l : Loaded F) (es : List (Ev × Place)) : Type 0 where
-  pub left : List (Ev × Place)
+pub record Pushes {F : Type 0} (l : Loaded F) (es : List (Ev × Position)) : Type 0 where
+  pub left : List (Ev × Position)
   pub whole : es ≡ l.pushed ++ left
 
-pub pushes : (F : Type 0) (s : Standing) (es : List (Ev × Place)) → Pushes (load_from s true (given F es)) es
+pub pushes : (F : Type 0) (s : Standing) (es : List (Ev × Position)) → Pushes (load_from s true (given F es)) es
 pushes F s [] = record { left = []; whole = refl }
 pushes F s (e ∷ es) = by (turn F s e.0 e.1) (λ t. pushes F t es)
   where
@@ -56,9 +56,9 @@ none_left (x ∷ xs) h = absurd (omega (arith, h))
 
 -- A call that took all answers and found no document took events alone.
 abbrev AreEvents : (F : Type 0) → List (Answer F) → Type 0
-AreEvents F answers = (es : List (Ev × Place)) × (answers ≡ given F es)
+AreEvents F answers = (es : List (Ev × Position)) × (answers ≡ given F es)
 
-pub misplaced_events : (F : Type 0) (s : Standing) (answers : List (Answer F)) (p : Place) → (load_from s true answers).ending ≡ no_document p
+pub misplaced_events : (F : Type 0) (s : Standing) (answers : List (Answer F)) (p : Position) → (load_from s true answers).ending ≡ no_document p
     → (load_from s true answers).taken ≡ length answers → AreEvents F answers
 misplaced_events F s [] p h n = cc
 misplaced_events F s (fault f ∷ answers) p h n = cc
@@ -80,21 +80,21 @@ misplaced_events F s (event e q ∷ answers) p h n = by (turn F s e q) (λ t. mi
 abbrev pub run : {F : Type 0} → List (Answer F) → Loaded F
 run answers = load_from before_stream true answers
 
-abbrev pub PushesAll : {F : Type 0} → Loaded F → List (Ev × Place) → Type 0
+abbrev pub PushesAll : {F : Type 0} → Loaded F → List (Ev × Position) → Type 0
 PushesAll l es = (l.pushed ≡ es) × (l.ending ≡ well)
 
 -- a call that has ended within the stream
-pub ended_within : (F : Type 0) (es : List (Ev × Place)) (answers more : List (Answer F)) → PushesAll (run (given F es)) es → given F es ≡ answers ++ more → IsOver (run answers).ending
+pub ended_within : (F : Type 0) (es : List (Ev × Position)) (answers more : List (Answer F)) → PushesAll (run (given F es)) es → given F es ≡ answers ++ more → IsOver (run answers).ending
     → PushesAll (run answers) es
 ended_within F es answers more all e over =
     subst (λ l. PushesAll l es) (ap (λ bs. load_from before_stream true bs) e ∙ over_is_over F before_stream answers more over) all
 
 -- a call over all of the stream
-pub ended_behind : (F : Type 0) (es : List (Ev × Place)) (answers rest : List (Answer F)) → PushesAll (run (given F es)) es → answers ≡ given F es ++ rest → PushesAll (run answers) es
+pub ended_behind : (F : Type 0) (es : List (Ev × Position)) (answers rest : List (Answer F)) → PushesAll (run (given F es)) es → answers ≡ given F es ++ rest → PushesAll (run answers) es
 ended_behind F es answers rest all e =
     let over : IsOver (run (given F es)).ending = subst (λ x. IsOver x) (sym all.1) tt in
     subst (λ l. PushesAll l es) (sym (ap (λ bs. load_from before_stream true bs) e ∙ over_is_over F before_stream (given F es) rest over)) all
 
-pub given_append : (F : Type 0) (es fs : List (Ev × Place)) → given F (es ++ fs) ≡ given F es ++ given F fs
+pub given_append : (F : Type 0) (es fs : List (Ev × Position)) → given F (es ++ fs) ≡ given F es ++ given F fs
 given_append F [] fs = refl
 given_append F (e ∷ es) fs = ap (λ bs. event e.0 e.1 ∷ bs) (given_append F es fs)

@@ -2,7 +2,7 @@
 use Rattle.std.proofs.Common.{◌≡◌, ℕ, true, Bool, List, ◌++◌, Some, sym, ap, ◌∙◌, subst, append_assoc, inl, inr}
 use Rattle.std.specs.Prelude.{IfSome, Option}
 use Rattle.std.proofs.lemmas.List.{map-append}
-use Rattle.defs_text.specs.Position.{Place}
+use Rattle.defs_text.specs.Position.{Position}
 use Rattle.defs_token.specs.Token.{Tok, Token}
 use Rattle.defs_tree.specs.Tree.{Tree}
 use Rattle.yaml_tokens.specs.Fault.{Fault}
@@ -48,13 +48,13 @@ only_memory_is_wanted p f text trees x scans steady why =
     ]
 
 -- What foretells events foretells their beginnings.
-pub foretells_beginning : (keep_tags : Bool) (tokens : List Tok) (all es more : List (Ev × Place)) → all ≡ es ++ more → Foretells keep_tags tokens (events_of all) → Foretells keep_tags tokens (events_of es)
+pub foretells_beginning : (keep_tags : Bool) (tokens : List Tok) (all es more : List (Ev × Position)) → all ≡ es ++ more → Foretells keep_tags tokens (events_of all) → Foretells keep_tags tokens (events_of es)
 foretells_beginning keep_tags tokens all es more e foretold ts vs stream =
     let f = foretold ts vs stream in
-    let parts : events_of all ≡ events_of es ++ events_of more = ap events_of e ∙ map-append (λ (v : Ev × Place). v.0) es more in
+    let parts : events_of all ≡ events_of es ++ events_of more = ap events_of e ∙ map-append (λ (v : Ev × Position). v.0) es more in
     (events_of more ++ f.0, f.1 ∙ ap (λ xs. xs ++ f.0) parts ∙ append_assoc (events_of es) (events_of more) f.0)
 
-pub foretold_are_at_work : (keep_tags : Bool) (tokens more : List Tok) (trees : List Tree) (es : List (Ev × Place)) → ReadAs keep_tags (tokens ++ more) trees → Foretells keep_tags tokens (events_of es) → IsAtWork (with_events new_loader es)
+pub foretold_are_at_work : (keep_tags : Bool) (tokens more : List Tok) (trees : List Tree) (es : List (Ev × Position)) → ReadAs keep_tags (tokens ++ more) trees → Foretells keep_tags tokens (events_of es) → IsAtWork (with_events new_loader es)
 foretold_are_at_work keep_tags tokens more trees es reads foretold = foretold_are_not_refused keep_tags tokens more trees es reads foretold
 
 pub events_are_read : EventsOfReadTextsAreRead

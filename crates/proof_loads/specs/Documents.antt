@@ -1,6 +1,6 @@
 -- Laws of documents, whatever text they were read from: each is the contract of the function of `src/documents.rt` that its comment names.
 use Rattle.std.specs.Prelude.{ℕ, ◌≡◌, ◌⊎◌, Bool, List, [], ◌∷◌, ◌++◌, All}
-use Rattle.defs_text.specs.Position.{Place}
+use Rattle.defs_text.specs.Position.{Position}
 use Rattle.defs_token.specs.Token.{Tok}
 use Rattle.defs_tree.specs.Tree.{Tree, bad_value}
 use Rattle.defs_tree.specs.DumpText.{dump_text}
@@ -26,6 +26,6 @@ IsOpen n (opened_mapping a ps waiting ∷ outer) = (a ≡ n) ⊎ IsOpen n outer
 -- alias means, is still open after them
 abbrev pub AliasesInsideTheirNodeAreBadValues : Type 0
 AliasesInsideTheirNodeAreBadValues =
-    (keep_tags : Bool) (tokens : List Tok) (before : List (Ev × Place)) (n : ℕ) (more : List Ev) (u : Unfinished)
+    (keep_tags : Bool) (tokens : List Tok) (before : List (Ev × Position)) (n : ℕ) (more : List Ev) (u : Unfinished)
     → IsStream keep_tags tokens (events_of before ++ Ev.alias n ∷ more) → with_events new_loader before ≡ at_work u → IsOpen n u.opened
     → with_event u (Ev.alias n) ≡ with_tree bad_value u u.opened

@@ -4,7 +4,7 @@ use Rattle.std.specs.Iterator.{AlwaysYields}
 use Rattle.std.specs.Str.{chars, IsUtf8}
 use Rattle.std.specs.Str.Iter.{chars_steps, chars_rest}
 use Rattle.std.specs.declared.str.Chars.{Chars}
-use Rattle.defs_text.specs.Position.{Place}
+use Rattle.defs_text.specs.Position.{Position}
 use Rattle.yaml_chars.specs.Source.{CameFrom}
 use Rattle.yaml_chars.specs.Reading.{HasNoNul, up_to_nul}
 use Rattle.defs_tree.specs.Tree.{Tree}
@@ -46,7 +46,7 @@ ReadTextsHaveNoFaultButMemory =
 -- `events_of_read_texts_are_read`; `es` are a beginning of the events
 abbrev pub EventsOfReadTextsAreRead : Type 0
 EventsOfReadTextsAreRead =
-    (p : Parsed) (text : List ℕ) (trees : List Tree) (es more : List (Ev × Place)) → IsReadAs p.keep_tags text trees → ScansIn text p.scanner → Follows p
+    (p : Parsed) (text : List ℕ) (trees : List Tree) (es more : List (Ev × Position)) → IsReadAs p.keep_tags text trees → ScansIn text p.scanner → Follows p
     → read p ≡ es ++ more → IsAtWork (with_events new_loader es)
 
 -- `read_texts_have_their_trees`
@@ -58,13 +58,13 @@ ReadTextsHaveTheirTrees =
 -- ---- a load
 
 -- `texts_are_answered`, for each kind of receiver
-abbrev pub TextsAreAnswered : {R : Type 0} → (R → Ev → Place → Result (Unit {0}) Fault → R → Type 0) → Type 0
+abbrev pub TextsAreAnswered : {R : Type 0} → (R → Ev → Position → Result (Unit {0}) Fault → R → Type 0) → Type 0
 TextsAreAnswered {R} takes =
     (old new : Parsed) (r s : R) (result : Result (Unit {0}) Fault) (text : List ℕ) → IsAtStart old → ScansIn text new.scanner → Loads takes true old r result new s
     → AnswersText takes old.keep_tags text r result s
 
 -- `read_texts_are_loaded`, for each kind of receiver
-abbrev pub ReadTextsAreLoaded : {R : Type 0} → (R → Ev → Place → Result (Unit {0}) Fault → R → Type 0) → Type 0
+abbrev pub ReadTextsAreLoaded : {R : Type 0} → (R → Ev → Position → Result (Unit {0}) Fault → R → Type 0) → Type 0
 ReadTextsAreLoaded {R} takes =
     (old new : Parsed) (r s : R) (result : Result (Unit {0}) Fault) (text : List ℕ) (trees : List Tree)
     → IsAtStart old → IsReadAs old.keep_tags text trees → ScansIn text new.scanner → Loads takes true old r result new s → LoadsAs takes trees r result s
@@ -76,7 +76,7 @@ abbrev pub JsonTextsAreReadAsTheirTree : Type 0
 JsonTextsAreReadAsTheirTree = (keep_tags : Bool) (w : JsonText) → IsWellFormed w → IsReadAs keep_tags (spell_text w) (tree_of w.value ∷ [])
 
 -- `json_texts_are_loaded`, for each kind of receiver
-abbrev pub JsonTextsAreLoaded : {R : Type 0} → (R → Ev → Place → Result (Unit {0}) Fault → R → Type 0) → Type 0
+abbrev pub JsonTextsAreLoaded : {R : Type 0} → (R → Ev → Position → Result (Unit {0}) Fault → R → Type 0) → Type 0
 JsonTextsAreLoaded {R} takes =
     (old new : Parsed) (r s : R) (result : Result (Unit {0}) Fault) (w : JsonText)
     → IsAtStart old → IsWellFormed w → ScansIn (spell_text w) new.scanner → Loads takes true old r result new s → LoadsAs takes (tree_of w.value ∷ []) r result s

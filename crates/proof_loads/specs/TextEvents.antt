@@ -1,6 +1,6 @@
 -- Any text against what a parser that is at its start pushes of it.
 use Rattle.std.specs.Prelude.{◌≡◌, ℕ, Bool, List, [], ◌∷◌, ◌++◌, Option, Result, Ok, Err}
-use Rattle.defs_text.specs.Position.{Place}
+use Rattle.defs_text.specs.Position.{Position}
 use Rattle.defs_token.specs.Token.{Token}
 use Rattle.yaml_tokens.specs.Fault.{Fault}
 use Rattle.defs_event.specs.Event.{Ev}
@@ -17,7 +17,7 @@ use Rattle.yaml_parser.specs.Loads.{Receives}
 
 -- The text has tokens, these are a stream's, and these are its events: scalars, aliases and flow starts stand at their tokens'
 -- places, the other places are the parser's own. The events are nested.
-pub record HasEvents (keep_tags : Bool) (text : List ℕ) (events : List (Ev × Place)) : Type 0 where
+pub record HasEvents (keep_tags : Bool) (text : List ℕ) (events : List (Ev × Position)) : Type 0 where
   pub tokens : List Token
   pub has : HasTokens text tokens
   pub stream : IsPlacedStream keep_tags tokens events
@@ -31,7 +31,7 @@ pub record AreFirst (text : List ℕ) (given : List Token) : Type 0 where
 
 -- The text's events begin with these, as far as its first tokens tell: a stream begins with these tokens but for the last, and with
 -- these events at their places, and each stream that begins with these tokens begins with these events.
-pub record BeginsEvents (keep_tags : Bool) (text : List ℕ) (events : List (Ev × Place)) : Type 0 where
+pub record BeginsEvents (keep_tags : Bool) (text : List ℕ) (events : List (Ev × Position)) : Type 0 where
   pub before : List Token
   pub last : Option Token
   pub first : AreFirst text (before ++ listed last)
@@ -43,13 +43,13 @@ pub record BeginsEvents (keep_tags : Bool) (text : List ℕ) (events : List (Ev 
 pub data IsFaultOf (keep_tags : Bool) (text : List ℕ) (f : Fault) : Type 0 where
   wants_memory : WantsMemory f → IsFaultOf keep_tags text f
   no_token : IsRefusal text f → IsFaultOf keep_tags text f
-  no_stream : (before : List Token) (last : Token) (events : List (Ev × Place)) → AreFirst text (before ++ last ∷ []) → Blames f (before ++ last ∷ [])
+  no_stream : (before : List Token) (last : Token) (events : List (Ev × Position)) → AreFirst text (before ++ last ∷ []) → Blames f (before ++ last ∷ [])
       → BeginsPlaced keep_tags before events → NoneBegins keep_tags (toks (before ++ last ∷ [])) → IsFaultOf keep_tags text f
 
 -- How a load of the text ends: the receiver took all its events; or the parser has a fault; or the receiver refused an event
 -- that is the next of the text.
-pub data AnswersText {R : Type 0} (takes : R → Ev → Place → Result (Unit {0}) Fault → R → Type 0) (keep_tags : Bool) (text : List ℕ) (r : R) : Result (Unit {0}) Fault → R → Type 0 where
-  whole : {s : R} (es : List (Ev × Place)) → HasEvents keep_tags text es → Receives takes r es s → AnswersText takes keep_tags text r (Ok tt) s
-  faulted : {s : R} {f : Fault} (es : List (Ev × Place)) → IsFaultOf keep_tags text f → Receives takes r es s → AnswersText takes keep_tags text r (Err f) s
-  refused : {s t : R} {f : Fault} (es : List (Ev × Place)) (e : Ev) (p : Place) → BeginsEvents keep_tags text (es ++ (e, p) ∷ []) → Receives takes r es s → takes s e p (Err f) t
+pub data AnswersText {R : Type 0} (takes : R → Ev → Position → Result (Unit {0}) Fault → R → Type 0) (keep_tags : Bool) (text : List ℕ) (r : R) : Result (Unit {0}) Fault → R → Type 0 where
+  whole : {s : R} (es : List (Ev × Position)) → HasEvents keep_tags text es → Receives takes r es s → AnswersText takes keep_tags text r (Ok tt) s
+  faulted : {s : R} {f : Fault} (es : List (Ev × Position)) → IsFaultOf keep_tags text f → Receives takes r es s → AnswersText takes keep_tags text r (Err f) s
+  refused : {s t : R} {f : Fault} (es : List (Ev × Position)) (e : Ev) (p : Position) → BeginsEvents keep_tags text (es ++ (e, p) ∷ []) → Receives takes r es s → takes s e p (Err f) t
       → AnswersText takes keep_tags text r (Err f) t

@@ -29,9 +29,9 @@ unfolding string_chars
 line_ended s t feed e is =
     ap chars e ∙ ap (λ f. chars (string_bytes s ++ f)) is ∙ chars-append (string_bytes s) (10 ∷ []) (IsUtf8-string_bytes s) ∙ ap (λ f. chars (string_bytes s) ++ f) one_feed
 
--- a text was written behind what a writer held
-pub behind : (start before after : List ℕ) (c d m n : Bool) (t : Tree) → after ≡ before ++ dump_text d n t → before ≡ start → d ≡ c → n ≡ m → after ≡ start ++ dump_text c m t
-behind start before after c d m n t w e p q = w ∙ ap (λ b. b ++ dump_text d n t) e ∙ ap (λ x. start ++ dump_text x n t) p ∙ ap (λ x. start ++ dump_text c x t) q
+-- a text was written appended what a writer held
+pub appended : (start before after : List ℕ) (c d m n : Bool) (t : Tree) → after ≡ before ++ dump_text d n t → before ≡ start → d ≡ c → n ≡ m → after ≡ start ++ dump_text c m t
+appended start before after c d m n t w e p q = w ∙ ap (λ b. b ++ dump_text d n t) e ∙ ap (λ x. start ++ dump_text x n t) p ∙ ap (λ x. start ++ dump_text c x t) q
 
 pub held_at : {A : Type 0} (x y : String A) (all : List ℕ) → string_chars y ≡ all → x ≡ y → string_chars x ≡ all
 held_at x y all t e = ap string_chars e ∙ t
@@ -49,7 +49,7 @@ module _ {Y : Type 0} (v : Y → Tree) (c m : Bool) where
       ap (λ l. d ++ 10 ∷ l) (one_more ys i x (omega (arith, h)) e) ∙ sym (append_assoc d (10 ∷ (more ++ dump_text c m (v x))) (10 ∷ []))
       ∙ ap (λ l. l ++ 10 ∷ []) (sym (append_assoc d (10 ∷ more) (dump_text c m (v x))))
 
-  -- behind one more
+  -- appended one more
   pub grown : (xs : List Y) (i j : ℕ) (x : Y) (before after : List ℕ) → j ≡ suc i → i < length xs → x ≡ get_or xs i x → before ≡ dump_texts c m (map v (take i xs))
       → after ≡ (before ++ dump_text c m (v x)) ++ 10 ∷ [] → after ≡ dump_texts c m (map v (take j xs))
   grown xs i j x before after n h e was now =

@@ -18,15 +18,15 @@ begins-back (x ∷ xs) c (y ∷ w) h =
     let back = begins-back xs c w tails in
     cc
 
--- a text that begins with xs and c has c behind xs
+-- a text that begins with xs and c has c later xs
 pub begins-front : (xs : List ℕ) (c : ℕ) (w : List ℕ) → take (length (xs ++ c ∷ [])) w ≡ xs ++ c ∷ [] → drop (length xs) w ≡ c ∷ drop (length xs + 1) w
 begins-front [] c [] h = cc
 begins-front [] c (y ∷ w) h = cc
 begins-front (x ∷ xs) c [] h = cc
 begins-front (x ∷ xs) c (y ∷ w) h =
     let tails : take (length (xs ++ c ∷ [])) w ≡ xs ++ c ∷ [] = cc in
-    let behind = begins-front xs c w tails in
-    simp unary_clauses (simp unary_clauses at behind)
+    let later = begins-front xs c w tails in
+    simp unary_clauses (simp unary_clauses at later)
 
 -- what may be the whole text after a character came might have been it before
 pub Possible-back : {T : Type 0} (old new : Reading T) (c : ℕ) (w : List ℕ)

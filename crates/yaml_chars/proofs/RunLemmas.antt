@@ -1,6 +1,6 @@
 -- Lemmas about runs that are taken from a source.
 use Rattle.std.proofs.Common.{◌≡◌, ◌≢◌, ℕ, ◌+◌, ◌<◌, ◌≤◌, Bool, false, true, List, [], ◌∷◌, ◌++◌, length, drop, slice_index, arith, refl, ◌∙◌, length-append}
-use Rattle.defs_text.specs.Position.{Place}
+use Rattle.defs_text.specs.Position.{Position}
 use Rattle.yaml_chars.specs.Reading.{Reading, Reads, Fills}
 use Rattle.yaml_chars.specs.Source.{Pulled, Pulls}
 use Rattle.yaml_chars.specs.Run.{stops, ran, bare, GoesOn, GoesOver}
@@ -35,7 +35,7 @@ module _ {T : Type 0} (s : Pulled T) (at line col c : ℕ) (next : Pulled T) (fi
     reads = λ w p. front-pulls s [] at line col c next fills refl pulls _ w refl some p;
   }
 
-pub ran_on : (run : Run) (c : ℕ) (a b : List ℕ) (p : Place) (t : List ℕ) → a ≡ c ∷ b → stops run c ≡ false
+pub ran_on : (run : Run) (c : ℕ) (a b : List ℕ) (p : Position) (t : List ℕ) → a ≡ c ∷ b → stops run c ≡ false
     → ran run a p t ≡ ran run b (record { index = p.index + 1; line = p.line; col = p.col + 1 }) (t ++ c ∷ [])
 ran_on run c a b p t e goes = rw (e, goes) refl
 
@@ -72,7 +72,7 @@ nil_of [] e = refl
 nil_of (x ∷ xs) e = absurd (omega arith)
 
 -- a run stops before what ends it
-pub ran_stops : (run : Run) (b : List ℕ) (p : Place) (t : List ℕ) → stops run (slice_index b 0) ≡ true → ran run b p t ≡ record { rest = b; place = p; text = t }
+pub ran_stops : (run : Run) (b : List ℕ) (p : Position) (t : List ℕ) → stops run (slice_index b 0) ≡ true → ran run b p t ≡ record { rest = b; place = p; text = t }
 ran_stops run [] p t h = refl
 ran_stops run (c ∷ b) p t h = rw h refl
 
@@ -86,7 +86,7 @@ module _ {T : Type 0} (run : Run) (s : Pulled T) (ring : List ℕ) (at line col 
 
   -- what ended the run is in the window, where that was empty
   pub Fills-over : Fills new (ring ++ c ∷ []) (at + n) line (col + n)
-  Fills-over = rw (nil_of ring none) (Fills-more over.last [] (at + n) line (col + n) c new last_fills over.behind)
+  Fills-over = rw (nil_of ring none) (Fills-more over.last [] (at + n) line (col + n) c new last_fills over.later)
 
   pub Reads-over : (h k : ℕ) → Reads (record (bare s at line col) { ahead = h }) (record (bare new (at + n) line (col + n)) { ahead = k }) (λ a b.
       (ran run a (record { index = at; line = line; col = col }) before ≡ ran run b (record { index = at + n; line = line; col = col + n }) after) × (slice_index b 0 ≡ c))
@@ -95,13 +95,13 @@ module _ {T : Type 0} (run : Run) (s : Pulled T) (ring : List ℕ) (at line col 
       let mid = bare over.last (at + n) line (col + n) in
       let end = record (bare new (at + n) line (col + n)) { ahead = k } in
       record {
-        start = over.behind.start ∙ r.start;
+        start = over.later.start ∙ r.start;
         at = r.at;
-        left = omega (arith, r.left, left-pulls over.last c new over.behind (at + n));
-        back = λ w p. let q = r.back w (Possible-pulls over.last c new over.behind mid end w refl refl refl refl p) in record { begins = q.begins; ends = q.ends };
+        left = omega (arith, r.left, left-pulls over.last c new over.later (at + n));
+        back = λ w p. let q = r.back w (Possible-pulls over.last c new over.later mid end w refl refl refl refl p) in record { begins = q.begins; ends = q.ends };
         reads = λ w p. (
-          r.reads w (Possible-pulls over.last c new over.behind mid end w refl refl refl refl p),
-          next-pulls over.last [] (at + n) line (col + n) c new last_fills refl over.behind end w refl refl p,
+          r.reads w (Possible-pulls over.last c new over.later mid end w refl refl refl refl p),
+          next-pulls over.last [] (at + n) line (col + n) c new last_fills refl over.later end w refl refl p,
         );
       }
 

@@ -2,7 +2,7 @@
 use Rattle.std.specs.Prelude.{◌≡◌, ◌≢◌, ℕ, ◌+◌, ◌-◌, ◌^◌, ◌<◌, ◌≤◌, Bool, true, false, List, [], ◌∷◌, length, take, drop, slice_index}
 use Rattle.std.specs.Prelude.{Option, ◌==◌, if◌then◌else◌}
 use Rattle.std.specs.Iterator.{YieldsThen}
-use Rattle.defs_text.specs.Position.{Place}
+use Rattle.defs_text.specs.Position.{Position}
 use Rattle.yaml_chars.specs.Source.{Pulled, CameFrom, IsEnd}
 
 -- the iterator as it was, the characters that were taken from it and whether they are all; how many of these were read, and how many places are in the window; the mark; and how many characters may still be read
@@ -17,7 +17,7 @@ pub record Reading (T : Type 0) : Type 0 where
   pub col : ℕ
 
 -- where it stands
-abbrev pub place_of : {T : Type 0} → Reading T → Place
+abbrev pub place_of : {T : Type 0} → Reading T → Position
 place_of s = record { index = s.at; line = s.line; col = s.col }
 
 -- w may be the whole text

@@ -1,6 +1,6 @@
 -- Where a run of ordinary characters of one line ends, and what it leaves.
 use Rattle.std.specs.Prelude.{◌≡◌, ℕ, ◌+◌, ◌-◌, ◌≤◌, List, [], ◌∷◌, ◌++◌, length, Bool, true, false, ◌==◌, ◌||◌, ◌&&◌, if◌then◌else◌}
-use Rattle.defs_text.specs.Position.{Place}
+use Rattle.defs_text.specs.Position.{Position}
 use Rattle.yaml_chars.specs.Reading.{Reading, Reads, Fills}
 use Rattle.yaml_chars.specs.Source.{Pulled, Pulls}
 use Rattle.yaml_chars.specs.Class.{is_breakz, is_blank_or_breakz, is_flow}
@@ -15,10 +15,10 @@ stops (Plain flow) c = is_blank_or_breakz c || (c == 58) || (flow && is_flow c)
 -- the text behind a run, where it stands, and the run's characters behind a text
 pub record Ran : Type 0 where
   pub rest : List ℕ
-  pub place : Place
+  pub place : Position
   pub text : List ℕ
 
-abbrev pub ran : Run → List ℕ → Place → List ℕ → Ran
+abbrev pub ran : Run → List ℕ → Position → List ℕ → Ran
 ran run [] p t = record { rest = []; place = p; text = t }
 ran run (c ∷ a) p t =
     (if stops run c then record { rest = c ∷ a; place = p; text = t }
@@ -39,5 +39,5 @@ pub record GoesOn {T : Type 0} (run : Run) (old new : Pulled T) (n : ℕ) (befor
 pub record GoesOver {T : Type 0} (run : Run) (old new : Pulled T) (n c : ℕ) (refused : Bool) (before after : List ℕ) : Type 0 where
   pub last : Pulled T
   pub goes : GoesOn run old last n before after
-  pub behind : Pulls last c new
+  pub later : Pulls last c new
   pub stops : refused ≡ false → stops run c ≡ true

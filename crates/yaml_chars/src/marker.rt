@@ -12,9 +12,9 @@ pub struct Marker {
 }
 
 impl Model for Marker {
-    ghost use Rattle.defs_text.specs.Position.{Place, IsSmall};
+    ghost use Rattle.defs_text.specs.Position.{Position, IsSmall};
 
-    ghost Value = { Place };
+    ghost Value = { Position };
 
     ghost view = { λ m. record { index = m.index; line = m.line; col = m.col } };
 

@@ -214,13 +214,13 @@ impl<T: Iterator<Item = char>> Window<T> {
         let Ran {
             text: after,
             count,
-            behind,
+            following,
             refused,
         } = ran;
         *text = after;
         self.index += count;
         self.col += count;
-        self.ring.push(behind);
+        self.ring.push(following);
         if refused {
             return Err(AllocError);
         }

@@ -2,13 +2,13 @@
 use Rattle.std.proofs.Common.{◌≡◌, refl}
 use Rattle.std.specs.Prelude.{ℕ, Some, None, codes}
 use Rattle.std.specs.Fmt.{digits}
-use Rattle.defs_text.specs.Position.{Place}
+use Rattle.defs_text.specs.Position.{Position}
 use Rattle.defs_tree.specs.Escapes.{written_character}
 use Rattle.defs_token.specs.Token.{Style}
 use Rattle.defs_event.specs.Event.{Ev}
 use Rattle.yaml_event_lines.specs.Lines.{event_line}
 
-abbrev at : ℕ → ℕ → Place
+abbrev at : ℕ → ℕ → Position
 at line col = record { index = 0; line = line; col = col }
 
 start : event_line Ev.stream_start (at 1 0) ≡ codes "StreamStart 1:0\n"

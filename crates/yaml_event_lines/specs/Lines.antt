@@ -2,7 +2,7 @@
 use Rattle.std.specs.Prelude.{ℕ, List, [], ◌++◌, Option, Some, None, if◌then◌else◌, nat_lt, codes}
 use Rattle.std.specs.Fmt.{decimal}
 use Rattle.std.specs.Str.{encode_utf8_all}
-use Rattle.defs_text.specs.Position.{Place}
+use Rattle.defs_text.specs.Position.{Position}
 use Rattle.defs_tree.specs.Escapes.{double_quoted}
 use Rattle.defs_token.specs.Token.{Style}
 use Rattle.defs_event.specs.Event.{Ev, Tag}
@@ -56,9 +56,9 @@ details (Ev.mapping_start a t) = properties_text a t
 details _ = []
 
 -- an event's name, and its line and column
-abbrev pub head : Ev → Place → List ℕ
+abbrev pub head : Ev → Position → List ℕ
 head e p = event_name e ++ codes " " ++ decimal p.line ++ codes ":" ++ decimal p.col
 
 -- the line
-abbrev pub event_line : Ev → Place → List ℕ
+abbrev pub event_line : Ev → Position → List ℕ
 event_line e p = head e p ++ details e ++ codes "\n"

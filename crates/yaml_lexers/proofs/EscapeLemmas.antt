@@ -1,7 +1,7 @@
 -- Lemmas about escapes.
 use Rattle.std.proofs.Common.{◌≡◌, ◌≤◌, ◌<◌, ◌+◌, ◌*◌, ◌-◌, ◌^◌, ◌∙◌, ℕ, suc, List, ◌∷◌, Bool, false, refl, slice_index, ap, sym, arith, add-one, lit<, if◌then◌else◌}
 use Rattle.std.proofs.Math.Nat.{pow-succ', pow-le-pow_right}
-use Rattle.defs_text.specs.Position.{Place}
+use Rattle.defs_text.specs.Position.{Position}
 use Rattle.yaml_chars.specs.Class.{is_break, is_blank}
 use Rattle.yaml_chars.specs.Reading.{Reading, Reads, Sees, place_of, after_char}
 use Rattle.yaml_chars.proofs.ReadingLemmas.{Reads-saw, Sees-both}
@@ -11,7 +11,7 @@ use Rattle.model_lexers.specs.Folding.{Folded}
 use Rattle.model_lexers.specs.Quoted.{quoted_from, digits_from, inside, breaking, named}
 use Rattle.yaml_lexers.specs.ShownQuoted.{at_folded}
 
-backslash : (ctx : Context) (start : Place) (a : List ℕ) (p : Place) (t : Folded)
+backslash : (ctx : Context) (start : Position) (a : List ℕ) (p : Position) (t : Folded)
     → quoted_from false ctx start (92 ∷ a) (record { mode = inside; place = p; folded = t })
     ≡ quoted_from false ctx start a (record { mode = (if is_break (slice_index a 0) then breaking else named); place = past p; folded = t })
 unfolding is_break is_blank
@@ -21,7 +21,7 @@ backslash ctx start a p t = refl
 pub backslash_read : {T : Type 0} (old new : Reading T) (d : ℕ) (breaks : Bool)
     → Sees old (λ a. 92 ≡ slice_index a 0) → Sees old (λ a. d ≡ slice_index a 1) → breaks ≡ is_break d
     → new ≡ after_char old → Reads old new (λ a b. a ≡ slice_index a 0 ∷ b)
-    → Reads old new (λ a b. (context : Context) (start : Place) (t : Folded) →
+    → Reads old new (λ a b. (context : Context) (start : Position) (t : Folded) →
     quoted_from false context start a (at_folded inside old t) ≡ quoted_from false context start b (at_folded (if breaks then breaking else named) new t))
 backslash_read old new d breaks here next is state reads =
     Reads-saw old new (Sees-both old here next) reads (λ a b w e context start t.
@@ -30,7 +30,7 @@ backslash_read old new d breaks here next is state reads =
     rw (state, h, f) (backslash context start b (place_of old) t))
 
 -- one digit fewer is left of a code
-pub one_fewer : (single : Bool) (ctx : Context) (start : Place) (left code : ℕ) (a : List ℕ) (p : Place) (t : Folded) → 0 < left
+pub one_fewer : (single : Bool) (ctx : Context) (start : Position) (left code : ℕ) (a : List ℕ) (p : Position) (t : Folded) → 0 < left
     → digits_from single ctx start left code a p t ≡ digits_from single ctx start (suc (left - 1)) code a p t
 one_fewer single ctx start left code a p t some =
     let e : left ≡ suc (left - 1) = omega (arith, some) in ap (λ k. digits_from single ctx start k code a p t) e

@@ -1,11 +1,11 @@
 -- Lemmas about the octets of a URI's escaped characters.
 use Rattle.std.proofs.Common.{◌≡◌, ◌≤◌, ◌<◌, ◌+◌, ◌*◌, ◌-◌, ◌^◌, ◌∙◌, ℕ, zero, suc, Bool, List, refl, sym, arith, ap, lit<}
 use Rattle.std.proofs.Math.Nat.{pow-succ', pow-le-pow_right, mul-le-mul_left, mul-le-mul_right, mul_assoc, le_trans}
-use Rattle.defs_text.specs.Position.{Place}
+use Rattle.defs_text.specs.Position.{Position}
 use Rattle.model_lexers.specs.Uri.{trails_from}
 
 -- one octet fewer is left of a character
-pub one_trail_fewer : (test : ℕ → Bool) (start : Place) (left code least : ℕ) (a : List ℕ) (p : Place) (t : List ℕ) → 0 < left
+pub one_trail_fewer : (test : ℕ → Bool) (start : Position) (left code least : ℕ) (a : List ℕ) (p : Position) (t : List ℕ) → 0 < left
     → trails_from test start left code least a p t ≡ trails_from test start (suc (left - 1)) code least a p t
 one_trail_fewer test start left code least a p t some =
     let e : left ≡ suc (left - 1) = omega (arith, some) in ap (λ k. trails_from test start k code least a p t) e

@@ -1,6 +1,6 @@
 -- What the code of flow scalars holds, as the model's states.
 use Rattle.std.specs.Prelude.{◌≡◌, ◌≢◌, ℕ, List, Result, Ok, Err}
-use Rattle.defs_text.specs.Position.{Place}
+use Rattle.defs_text.specs.Position.{Position}
 use Rattle.yaml_chars.specs.Reading.{Reading, Reads, place_of}
 use Rattle.defs_text.specs.Text.{string_chars}
 use Rattle.yaml_tokens.specs.declared.problem.Fault.{Fault}
@@ -29,9 +29,9 @@ abbrev pub read : {T A : Type 0} → List ℕ → Reading T → A → Read A
 read b w x = record { rest = b; place = place_of w; value = x }
 
 -- what is left is read as the model reads it
-abbrev pub Lexes : {T A : Type 0} → (List ℕ → Place → Result (Read A) Fault) → Reading T → Reading T → A → Type 0
+abbrev pub Lexes : {T A : Type 0} → (List ℕ → Position → Result (Read A) Fault) → Reading T → Reading T → A → Type 0
 Lexes f old new x = Reads old new (λ a b. f a (place_of old) ≡ Ok (read b new x))
 
 -- the model refuses what is left with this fault, unless memory was refused
-abbrev pub Refuses : {T A : Type 0} → (List ℕ → Place → Result (Read A) Fault) → Reading T → Reading T → Fault → Type 0
+abbrev pub Refuses : {T A : Type 0} → (List ℕ → Position → Result (Read A) Fault) → Reading T → Reading T → Fault → Type 0
 Refuses f old new fault = Reads old new (λ a b. fault ≢ OutOfMemory → f a (place_of old) ≡ Err fault)

@@ -1,6 +1,6 @@
 -- What the code of quoted scalars holds, as the model's states.
 use Rattle.std.specs.Prelude.{◌≡◌, ◌≢◌, ◌≤◌, ◌<◌, ℕ, Bool, Result, Err, OnOk, IfOk, IfErr, slice_index}
-use Rattle.defs_text.specs.Position.{Place}
+use Rattle.defs_text.specs.Position.{Position}
 use Rattle.yaml_chars.specs.Reading.{Reading, Reads, Sees, HasChar, place_of}
 use Rattle.yaml_tokens.specs.declared.problem.Fault.{Fault}
 use Rattle.yaml_tokens.specs.declared.problem.Fault.TheVariants.{OutOfMemory}
@@ -41,7 +41,7 @@ GoesOn q from old before to new so_far =
 -- the same of every scalar, whatever its quotes are and what surrounds it
 abbrev pub AllGoOn : {T : Type 0} → (from : Mode) → Reading T → Folding → (to : Mode) → Reading T → Folding → Type 0
 AllGoOn from old before to new so_far =
-    Reads old new (λ a b. (single : Bool) (context : Context) (start : Place) → quoted_from single context start a (at from old before) ≡ quoted_from single context start b (at to new so_far))
+    Reads old new (λ a b. (single : Bool) (context : Context) (start : Position) → quoted_from single context start a (at from old before) ≡ quoted_from single context start b (at to new so_far))
 
 -- what is left at a place of a scalar is refused with this fault, unless memory was refused
 abbrev pub IsRefused : {T : Type 0} → Quote → (from : Mode) → Reading T → Folding → Reading T → Fault → Type 0

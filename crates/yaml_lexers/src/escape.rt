@@ -1,6 +1,6 @@
 //! Escapes of double-quoted scalars (YAML 1.2, section 5.7).
 ghost use Rattle.std.specs.Prelude.{◌≡◌, ◌≢◌, ◌≤◌, ◌<◌, ◌+◌, ◌*◌, ℕ, zero, suc, Bool, true, false, Ok, Err, OnOk, IfOk, IfErr, slice_index, MatchOption, if◌then◌else◌};
-ghost use Rattle.defs_text.specs.Position.{Place};
+ghost use Rattle.defs_text.specs.Position.{Position};
 ghost use Rattle.yaml_chars.specs.Reading.{Reads, Sees, HasChar, place_of};
 ghost use Rattle.model_lexers.specs.declared.context.Context.{Context};
 ghost use Rattle.model_lexers.specs.Folding.{Folded};
@@ -166,7 +166,7 @@ fn read_named<T: Iterator<Item = char>>(
 #[inline(always)]
 fn skip_backslash<T: Iterator<Item = char>>(window: &mut Window<T>) -> bool
     requires here { Shows window.old 2 92 }
-    ensures reads { Reads window.old window.new (λ a b. (context : Context) (start : Place) (t : Folded) →
+    ensures reads { Reads window.old window.new (λ a b. (context : Context) (start : Position) (t : Folded) →
         quoted_from false context start a (at_folded inside window.old t) ≡ quoted_from false context start b (at_folded (if result then breaking else named) window.new t)) }
     ensures less { window.new.left < window.old.left }
 {

@@ -1,6 +1,6 @@
 //! Plain scalars (YAML 1.2, section 7.3.3).
 ghost use Rattle.std.specs.Prelude.{◌≡◌, ◌≢◌, ◌≤◌, ◌<◌, true, false, Ok, Err, OnOk, OnErr, IfOk, IfErr, slice_index};
-ghost use Rattle.defs_text.specs.Position.{Place};
+ghost use Rattle.defs_text.specs.Position.{Position};
 ghost use Rattle.yaml_chars.specs.Reading.{Reads, Sees, HasChar, SamePlace, place_of};
 ghost use Rattle.model_lexers.specs.declared.context.Context.{Context};
 ghost use Rattle.model_lexers.specs.Folding.{Folded};
@@ -39,7 +39,7 @@ fn read_word<T: Iterator<Item = char>>(
     context: Context,
     scalar: &mut Folding,
 ) -> Result<(), AllocError>
-    ensures ok { OnOk result (Reads window.old window.new (λ a b. (start : Place) →
+    ensures ok { OnOk result (Reads window.old window.new (λ a b. (start : Position) →
         plain_from context start a (at inside window.old scalar.old) ≡ plain_from context start b (at inside window.new scalar.new))) }
     ensures err { OnErr result (Reads window.old window.new (λ _ _. Unit {0})) }
 {
@@ -56,7 +56,7 @@ fn read_run<T: Iterator<Item = char>>(
     context: Context,
     scalar: &mut Folding,
 ) -> Result<(), AllocError>
-    ensures ok { OnOk result (Reads window.old window.new (λ a b. (start : Place) →
+    ensures ok { OnOk result (Reads window.old window.new (λ a b. (start : Position) →
         plain_from context start a (at inside window.old scalar.old) ≡ plain_from context start b (at between window.new scalar.new))) }
     ensures err { OnErr result (Reads window.old window.new (λ _ _. Unit {0})) }
 {

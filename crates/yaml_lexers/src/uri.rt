@@ -1,7 +1,7 @@
 //! Characters of a URI, escaped ones too (YAML 1.2, section 5.6).
 ghost use Rattle.std.specs.Prelude.{◌≡◌, ◌≢◌, ◌≤◌, ◌<◌, ◌+◌, ◌*◌, ◌^◌, ◌++◌, ℕ, zero, suc, List, [], ◌∷◌, Bool, true, Ok, Err, OnOk, IfOk, IfErr, slice_index, IfSome, IfNone};
 ghost use Rattle.yaml_chars.specs.Class.{is_uri, is_tag};
-ghost use Rattle.defs_text.specs.Position.{Place};
+ghost use Rattle.defs_text.specs.Position.{Position};
 ghost use Rattle.yaml_chars.specs.Reading.{Reads, Sees, HasChar, place_of};
 ghost use Rattle.model_lexers.specs.Quoted.{is_scalar};
 ghost use Rattle.model_lexers.specs.Uri.{Octet, lead, plain, percent, low, uri, uri_from, octet_from, trails_from, at_octet, at_trail};
@@ -63,8 +63,8 @@ struct Lead {
 }
 
 fn lead_of(octet: u32) -> Option<Lead>
-    ensures some { IfSome result (λ l. (start p : Place) (t : List ℕ) → at_octet start lead octet p t ≡ at_trail start l.trails l.bits l.least p t) }
-    ensures none { IfNone result ((start p : Place) (t : List ℕ) → at_octet start lead octet p t ≡ Err (Fault.At Problem.TagLeadingOctet start)) }
+    ensures some { IfSome result (λ l. (start p : Position) (t : List ℕ) → at_octet start lead octet p t ≡ at_trail start l.trails l.bits l.least p t) }
+    ensures none { IfNone result ((start p : Position) (t : List ℕ) → at_octet start lead octet p t ≡ Err (Fault.At Problem.TagLeadingOctet start)) }
     ensures small { IfSome result (λ l. (l.bits + 1) * 64 ^ l.trails ≤ 2 ^ 21) }
 {
     match octet {
@@ -136,8 +136,8 @@ fn read_trails<T: Iterator<Item = char>>(
 /// The character of a code of at least `least`: a smaller one is overlong.
 #[tactic(auto, unfolding(model_lexers::specs::Quoted::is_scalar))]
 fn decoded(code: u32, least: u32, start: Marker) -> Result<char, Fault>
-    ensures ok { IfOk result (λ c. (p : Place) (t : List ℕ) → at_trail start zero code least p t ≡ Ok (record { mode = plain; place = p; text = t ++ c ∷ [] })) }
-    ensures err { IfErr result (λ e. (p : Place) (t : List ℕ) → at_trail start zero code least p t ≡ Err e) }
+    ensures ok { IfOk result (λ c. (p : Position) (t : List ℕ) → at_trail start zero code least p t ≡ Ok (record { mode = plain; place = p; text = t ++ c ∷ [] })) }
+    ensures err { IfErr result (λ e. (p : Position) (t : List ℕ) → at_trail start zero code least p t ≡ Err e) }
 {
     if code < least {
         return Err(Fault::At(Problem::TagCodepoint, start));

@@ -2,7 +2,7 @@
 use Rattle.std.proofs.Common.{◌≡◌, ℕ, Bool, false, List, [], ◌∷◌, ◌++◌, true, false, refl, sym, ap, ◌∙◌, subst, inl, inr}
 use Rattle.std.specs.Prelude.{Some, None, Result, Ok, Err, String, string_bytes}
 use Rattle.std.specs.declared.alloc.Global.{Global}
-use Rattle.defs_text.specs.Position.{Place}
+use Rattle.defs_text.specs.Position.{Position}
 use Rattle.defs_token.specs.Token.{Token}
 use Rattle.defs_tree.specs.Tree.{Tree}
 use Rattle.defs_event.specs.Event.{Ev}
@@ -36,22 +36,22 @@ use Rattle.yaml_loader.proofs.LoadLemmas.{with_last, StandsBehind, stands, new_f
 
 -- ---- events with which a stream's begin are not refused
 
-events_append : (x : Loader) (es fs : List (Ev × Place)) → with_events x (es ++ fs) ≡ with_events (with_events x es) fs
+events_append : (x : Loader) (es fs : List (Ev × Position)) → with_events x (es ++ fs) ≡ with_events (with_events x es) fs
 events_append x [] fs = refl
 events_append x (e ∷ es) fs = events_append (with_event_at x e.0 e.1) es fs
 
-refused_stays : (documents : List Tree) (p : Place) (es : List (Ev × Place)) → with_events (unfinished.refused documents p) es ≡ unfinished.refused documents p
+refused_stays : (documents : List Tree) (p : Position) (es : List (Ev × Position)) → with_events (unfinished.refused documents p) es ≡ unfinished.refused documents p
 refused_stays documents p [] = refl
 refused_stays documents p (e ∷ es) = refused_stays documents p es
 
-nothing_read_refused : (r : Result (List Tree) Tree) (documents : List Tree) (p : Place) → HasRead r (unfinished.refused documents p) → ⊥
+nothing_read_refused : (r : Result (List Tree) Tree) (documents : List Tree) (p : Position) → HasRead r (unfinished.refused documents p) → ⊥
 nothing_read_refused (Ok trees) documents p h = h
 nothing_read_refused (Err key) documents p h = h
 
-not_refused : (keep_tags : Bool) (tokens : List Token) (es : List (Ev × Place)) (p : Place) → BeginsPlaced keep_tags tokens es → refused_at (with_events new_loader es) ≡ Some p → ⊥
+not_refused : (keep_tags : Bool) (tokens : List Token) (es : List (Ev × Position)) (p : Position) → BeginsPlaced keep_tags tokens es → refused_at (with_events new_loader es) ≡ Some p → ⊥
 not_refused keep_tags tokens es p b = by (with_events new_loader es) refl
   where
-    all : List (Ev × Place)
+    all : List (Ev × Position)
     all = es ++ b.more_events
 
     by : (x : Loader) → with_events new_loader es ≡ x → refused_at x ≡ Some p → ⊥
@@ -68,10 +68,10 @@ not_refused keep_tags tokens es p b = by (with_events new_loader es) refl
 
 -- It stands behind all events of the text; or the fault is the parser's.
 abbrev pub LeftBy : Bool → List ℕ → Result (Unit {0}) Fault → YamlLoader → Type 0
-LeftBy keep_tags text (Ok u) n = (es : List (Ev × Place)) × HasEvents keep_tags text es × StandsBehind es n
+LeftBy keep_tags text (Ok u) n = (es : List (Ev × Position)) × HasEvents keep_tags text es × StandsBehind es n
 LeftBy keep_tags text (Err f) n = IsFaultOf keep_tags text f
 
-refuses_for_memory : {keep_tags : Bool} {text : List ℕ} (es : List (Ev × Place)) (e : Ev) (p : Place) (f : Fault) → IsNewFault f p (with_event_at (with_events new_loader es) e p) → BeginsEvents keep_tags text (es ++ (e, p) ∷ [])
+refuses_for_memory : {keep_tags : Bool} {text : List ℕ} (es : List (Ev × Position)) (e : Ev) (p : Position) (f : Fault) → IsNewFault f p (with_event_at (with_events new_loader es) e p) → BeginsEvents keep_tags text (es ++ (e, p) ∷ [])
     → WantsMemory f
 refuses_for_memory {keep_tags} es e p f why b = elim why [
   | inl wants ↦ record { memory = ap (λ g. g.memory) wants; text = ap (λ g. g.text) wants }
@@ -113,7 +113,7 @@ documents_are_read n (es, h, r) e =
     }
 
 -- a reading that notes a key
-noted_key : (r : Result (List Tree) Tree) (x : Loader) (documents : List Tree) (k : Tree) (p : Place) → HasRead r x → StandAlike x (noted documents k p) → r ≡ Err k
+noted_key : (r : Result (List Tree) Tree) (x : Loader) (documents : List Tree) (k : Tree) (p : Position) → HasRead r x → StandAlike x (noted documents k p) → r ≡ Err k
 noted_key (Ok trees) (at_work u) documents k p h alike = absurd alike
 noted_key (Ok trees) (noted d key q) documents k p h alike = absurd h
 noted_key (Ok trees) (unfinished.refused d q) documents k p h alike = absurd h
@@ -121,7 +121,7 @@ noted_key (Err key) (at_work u) documents k p h alike = absurd h
 noted_key (Err key) (noted d k' q) documents k p h alike = cc
 noted_key (Err key) (unfinished.refused d q) documents k p h alike = absurd h
 
-pub key_came_twice : {keep_tags : Bool} {text : List ℕ} (n : YamlLoader) (p : Place) (message : String Global) (f : Fault) → LeftBy keep_tags text (Ok tt) n → n.course ≡ course.RepeatedKey p message
+pub key_came_twice : {keep_tags : Bool} {text : List ℕ} (n : YamlLoader) (p : Position) (message : String Global) (f : Fault) → LeftBy keep_tags text (Ok tt) n → n.course ≡ course.RepeatedKey p message
     → f ≡ record { place = p; text = string_bytes message; memory = false } → IsUnread keep_tags text f
 key_came_twice n p message f (es, h, r) e is =
     let u = unfinished_of n.reading in

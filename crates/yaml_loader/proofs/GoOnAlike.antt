@@ -1,7 +1,7 @@
 -- Loaders that stand alike stand alike behind each event.
 use Rattle.std.proofs.Common.{◌≡◌, ℕ, zero, suc, List, [], ◌∷◌, Bool, true, false, refl, sym, ap, ◌∙◌, subst, nat_eq}
 use Rattle.std.specs.Prelude.{Option, Some, None, if◌then◌else◌}
-use Rattle.defs_text.specs.Position.{Place}
+use Rattle.defs_text.specs.Position.{Position}
 use Rattle.defs_tree.specs.Tree.{Tree, array, hash, items_of, pairs_of}
 use Rattle.defs_event.specs.Event.{Ev}
 use Rattle.defs_event.specs.Scalar.{scalar_tree}
@@ -88,14 +88,14 @@ event_alike u v e h =
     let same : record u { anchors = v.anchors } ≡ v = λ i. record { documents = h.documents i; opened = h.opened i; root = h.root i; anchors = v.anchors } in
     subst (λ w. StepAlike (with_event u e) (with_event w e)) same (event_over u e u.anchors v.anchors h.aliases)
 
-behind_alike : (s r : Step) (u v : Unfinished) (p : Place) → u.documents ≡ v.documents → StepAlike s r → StandAlike (loader_behind s u.documents p) (loader_behind r v.documents p)
+behind_alike : (s r : Step) (u v : Unfinished) (p : Position) → u.documents ≡ v.documents → StepAlike s r → StandAlike (loader_behind s u.documents p) (loader_behind r v.documents p)
 behind_alike (reads x) (reads y) u v p e h = h
 behind_alike (reads x) (repeats k) u v p e h = absurd h
 behind_alike (reads x) out_of_nesting u v p e h = absurd h
 behind_alike (repeats k) r u v p e h = λ i. loader_behind (h i) (e i) p
 behind_alike out_of_nesting r u v p e h = λ i. loader_behind (h i) (e i) p
 
-pub event_at_alike : (l m : Loader) (e : Ev) (p : Place) → StandAlike l m → StandAlike (with_event_at l e p) (with_event_at m e p)
+pub event_at_alike : (l m : Loader) (e : Ev) (p : Position) → StandAlike l m → StandAlike (with_event_at l e p) (with_event_at m e p)
 event_at_alike (at_work u) (at_work v) e p h = behind_alike (with_event u e) (with_event v e) u v p h.documents (event_alike u v e h)
 event_at_alike (at_work u) (noted documents key at) e p h = absurd h
 event_at_alike (at_work u) (refused documents at) e p h = absurd h
@@ -113,7 +113,7 @@ alike_trans (noted documents key at) m n h k = subst (λ x. StandAlike x n) (sym
 alike_trans (refused documents at) m n h k = subst (λ x. StandAlike x n) (sym h) k
 
 -- a loader that is reached stands as the definitions say
-pub reached : {l n : YamlLoader} {es : List (Ev × Place)} → (x : Loader) → StandAlike x (loader_of l) → Reaches l es n → StandAlike (with_events x es) (loader_of n)
+pub reached : {l n : YamlLoader} {es : List (Ev × Position)} → (x : Loader) → StandAlike x (loader_of l) → Reaches l es n → StandAlike (with_events x es) (loader_of n)
 reached x h (here l) = h
 reached x h (behind {l} {m} {n} {e} {p} {es} takes rest) =
     reached (with_event_at x e p)
@@ -126,7 +126,7 @@ show_the_same (at_work u) (refused documents at) h = absurd h
 show_the_same (noted documents key at) m h = (ap documents_of h, ap refused_at h)
 show_the_same (refused documents at) m h = (ap documents_of h, ap refused_at h)
 
-pub read_as_defined : (empty loader : YamlLoader) (events : List (Ev × Place)) → loader_of empty ≡ new_loader → Reaches empty events loader
+pub read_as_defined : (empty loader : YamlLoader) (events : List (Ev × Position)) → loader_of empty ≡ new_loader → Reaches empty events loader
     → StandAlike (with_events new_loader events) (loader_of loader)
 read_as_defined empty loader events e h =
     reached new_loader (subst (λ x. StandAlike new_loader x) (sym e) (record { documents = refl; opened = refl; root = refl; aliases = λ n. refl })) h

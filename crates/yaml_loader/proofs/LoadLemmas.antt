@@ -2,7 +2,7 @@
 use Rattle.std.proofs.Common.{◌≡◌, List, [], ◌∷◌, ◌++◌, length, true, refl, sym, ap, ◌∙◌, subst, inl, inr}
 use Rattle.std.specs.Prelude.{None, Result, Ok, Err, All, String, false, string_bytes}
 use Rattle.std.specs.declared.alloc.Global.{Global}
-use Rattle.defs_text.specs.Position.{Place}
+use Rattle.defs_text.specs.Position.{Position}
 use Rattle.defs_tree.specs.Tree.{Tree}
 use Rattle.defs_event.specs.Event.{Ev}
 use Rattle.defs_event.specs.PulledList.{Answer}
@@ -26,12 +26,12 @@ use Rattle.yaml_loader.specs.Loads as ends
 use Rattle.yaml_loader.specs.Loads.{HasDocuments, HasNoted, Notes, Pushes, AreLoaded, IsLoadFault}
 use Rattle.yaml_loader.proofs.GoOnAlike.{event_at_alike, alike_trans, show_the_same}
 
-pub with_last : (l : Loader) (es : List (Ev × Place)) (e : Ev) (p : Place) → with_events l (es ++ (e, p) ∷ []) ≡ with_event_at (with_events l es) e p
+pub with_last : (l : Loader) (es : List (Ev × Position)) (e : Ev) (p : Position) → with_events l (es ++ (e, p) ∷ []) ≡ with_event_at (with_events l es) e p
 with_last l [] e p = refl
 with_last l (x ∷ es) e p = with_last (with_event_at l x.0 x.1) es e p
 
 -- A loader stands as the definitions say behind these events, and keeps no fault. If it noted a key, it keeps the text that tells it.
-pub record StandsBehind (es : List (Ev × Place)) (l : YamlLoader) : Type 0 where
+pub record StandsBehind (es : List (Ev × Position)) (l : YamlLoader) : Type 0 where
   pub alike : StandAlike (with_events new_loader es) (loader_of l)
   pub clear : kept_fault l ≡ None
   pub tells : TellsNotedKey l
@@ -45,19 +45,19 @@ nothing_noted l (course.OutOfMemory place) e = tt
 
 -- what stands behind a load that went well
 abbrev pub Went : Parsed → Parsed → YamlLoader → Type 0
-Went old new l = (es : List (Ev × Place)) × Pushes old es (Ok tt) new × (new.fault ≡ None) × StandsBehind es l
+Went old new l = (es : List (Ev × Position)) × Pushes old es (Ok tt) new × (new.fault ≡ None) × StandsBehind es l
 
 -- A receiver that only notes would have these events.
-notes : {l n : YamlLoader} {es : List (Ev × Place)} → Receives Takes l es n → Receives Notes [] es es
+notes : {l n : YamlLoader} {es : List (Ev × Position)} → Receives Takes l es n → Receives Notes [] es es
 notes no_event = no_event
 notes (one_event e p h takes) = one_event e p (notes h) refl
 
-pushes : {old behind new : Parsed} {answers : List (Answer Fault)} {events : List (Ev × Place)} {result : Result (Unit {0}) Fault}
+pushes : {old behind new : Parsed} {answers : List (Answer Fault)} {events : List (Ev × Position)} {result : Result (Unit {0}) Fault}
     → PullsAll old answers behind → (load old.started true answers).taken ≡ length answers → EndsSo Notes [] (load old.started true answers) behind result new events → Pushes old events result new
 pushes {old} {behind} {new} {answers} pulled taken ends = record { answers = answers; behind = behind; pulled = pulled; taken = taken; ends = ends }
 
 module _ (l : YamlLoader) (empty : loader_of l ≡ new_loader) (clear : kept_fault l ≡ None) where
-  pub stands : {n : YamlLoader} {es : List (Ev × Place)} → Receives Takes l es n → StandsBehind es n
+  pub stands : {n : YamlLoader} {es : List (Ev × Position)} → Receives Takes l es n → StandsBehind es n
   stands no_event = record { alike = subst (λ x. StandAlike new_loader x) (sym empty) (record { documents = refl; opened = refl; root = refl; aliases = λ n. refl }); clear = clear; tells = nothing_noted l l.course empty }
   stands (one_event {r} {s} {t} {es} e p h takes) =
       let before = stands h in
@@ -69,7 +69,7 @@ module _ (l : YamlLoader) (empty : loader_of l ≡ new_loader) (clear : kept_fau
         tells = takes.tells before.tells;
       }
 
-  pub new_fault : {s t : YamlLoader} {es : List (Ev × Place)} {f : Fault} (e : Ev) (p : Place) → Receives Takes l es s → Takes s e p (Err f) t → IsNewFault f p (with_event_at (with_events new_loader es) e p)
+  pub new_fault : {s t : YamlLoader} {es : List (Ev × Position)} {f : Fault} (e : Ev) (p : Position) → Receives Takes l es s → Takes s e p (Err f) t → IsNewFault f p (with_event_at (with_events new_loader es) e p)
   new_fault {s} {t} {es} {f} e p h takes =
       let before = stands h in
       let x = with_event_at (with_events new_loader es) e p in
@@ -105,7 +105,7 @@ documents_loaded u (at_work v) h = h.documents
 documents_loaded u (noted documents key place) h = cc
 documents_loaded u (unfinished.refused documents place) h = cc
 
-pub key_noted : (documents : List Tree) (key : Tree) (p : Place) (x : Loader) → StandAlike x (noted documents key p) → HasNoted x key p
+pub key_noted : (documents : List Tree) (key : Tree) (p : Position) (x : Loader) → StandAlike x (noted documents key p) → HasNoted x key p
 key_noted documents key p (at_work v) h = absurd h
 key_noted documents key p (noted d k q) h = (cc, cc)
 key_noted documents key p (unfinished.refused d q) h = cc
@@ -119,22 +119,22 @@ was_reading l (es, all, clear, behind) e =
     (es, all, documents_loaded u (with_events new_loader es) (subst (λ x. StandAlike (with_events new_loader es) x) (with_course l course.Reading e) behind.alike))
 
 -- the text that is kept tells the key
-pub kept_text : (l : YamlLoader) (p : Place) (text : String Global) (f : Fault) → TellsNotedKey l → l.course ≡ course.RepeatedKey p text → f ≡ record { place = p; text = string_bytes text; memory = false }
+pub kept_text : (l : YamlLoader) (p : Position) (text : String Global) (f : Fault) → TellsNotedKey l → l.course ≡ course.RepeatedKey p text → f ≡ record { place = p; text = string_bytes text; memory = false }
     → TellsKey (repeated_key (unfinished_of l.reading).opened) f.text
 kept_text l p text f tells e is =
     subst (TellsKey (repeated_key (unfinished_of l.reading).opened)) (sym (ap (λ x. x.text) is)) (subst (λ d. TellsBy d (unfinished_of l.reading).opened) e tells)
 
-pub had_noted : {old new : Parsed} (l : YamlLoader) (p : Place) (text : String Global) (f : Fault) → Went old new l → l.course ≡ course.RepeatedKey p text → f ≡ record { place = p; text = string_bytes text; memory = false } → IsLoadFault old f new
+pub had_noted : {old new : Parsed} (l : YamlLoader) (p : Position) (text : String Global) (f : Fault) → Went old new l → l.course ≡ course.RepeatedKey p text → f ≡ record { place = p; text = string_bytes text; memory = false } → IsLoadFault old f new
 had_noted l p text f (es, all, clear, behind) e is =
     let u = unfinished_of l.reading in
     let d = course.RepeatedKey p text in
     let n = key_noted u.documents (repeated_key u.opened) p (with_events new_loader es) (subst (λ x. StandAlike (with_events new_loader es) x) (with_course l d e) behind.alike) in
     ends.repeated_key es (repeated_key u.opened) all clear (subst (HasNoted (with_events new_loader es) (repeated_key u.opened)) (sym (ap (λ x. x.place) is)) n) (kept_text l p text f behind.tells e is) (ap (λ x. x.memory) is)
 
-pub not_out_of_nesting : {old new : Parsed} (l : YamlLoader) (p : Place) → Went old new l → l.course ≡ course.OutOfNesting p → ⊥
+pub not_out_of_nesting : {old new : Parsed} (l : YamlLoader) (p : Position) → Went old new l → l.course ≡ course.OutOfNesting p → ⊥
 not_out_of_nesting l p w e = let f = sym (ap kept_by e) ∙ w.3.clear in cc
 
-pub not_out_of_memory : {old new : Parsed} (l : YamlLoader) (p : Place) → Went old new l → l.course ≡ course.OutOfMemory p → ⊥
+pub not_out_of_memory : {old new : Parsed} (l : YamlLoader) (p : Position) → Went old new l → l.course ≡ course.OutOfMemory p → ⊥
 not_out_of_memory l p w e = let f = sym (ap kept_by e) ∙ w.3.clear in cc
 
 pub no_alias : {old new : Parsed} (documents : List Tree) → LoadedTreesHaveNoAlias → AreLoaded old documents new → All HasNoAlias documents

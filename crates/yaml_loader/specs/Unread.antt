@@ -1,6 +1,6 @@
 -- Why a load answers a fault, of a text.
 use Rattle.std.specs.Prelude.{◌≡◌, ℕ, Bool, false, List, Err}
-use Rattle.defs_text.specs.Position.{Place}
+use Rattle.defs_text.specs.Position.{Position}
 use Rattle.defs_tree.specs.Tree.{Tree}
 use Rattle.yaml_tokens.specs.Fault.{Fault}
 use Rattle.defs_event.specs.Event.{Ev}
@@ -16,5 +16,5 @@ pub data IsUnread (keep_tags : Bool) (text : List ℕ) (f : Fault) : Type 0 wher
   of_parser : IsFaultOf keep_tags text f → IsUnread keep_tags text f
   -- The text has events in which a key comes twice. The fault has the place of the event that ends the key's second value. If that value
   -- is a scalar or an alias, this is the place of its token. The fault's text tells the key.
-  repeated_key : (es : List (Ev × Place)) (h : HasEvents keep_tags text es) (key : Tree) → reading h.documents ≡ Err key
+  repeated_key : (es : List (Ev × Position)) (h : HasEvents keep_tags text es) (key : Tree) → reading h.documents ≡ Err key
       → HasNoted (with_events new_loader es) key f.place → TellsKey key f.text → f.memory ≡ false → IsUnread keep_tags text f

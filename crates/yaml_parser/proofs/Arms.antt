@@ -2,14 +2,14 @@
 use Rattle.std.proofs.Common.{◌≡◌, ◌≢◌, List, [], ◌∷◌, ◌++◌, Some, None, option_map, Bool, true, false, ◌||◌, Result, Ok, Err, refl, sym, ap, ◌∙◌, subst, ◌⊎◌, inl, inr}
 use Rattle.std.specs.Result.{IsErrAnd, IfErr}
 use Rattle.std.proofs.lemmas.Bool.{or_parts, or_from, both_ways}
-use Rattle.defs_text.specs.Position.{Place}
+use Rattle.defs_text.specs.Position.{Position}
 use Rattle.defs_token.specs.Token.{Tok}
 use Rattle.yaml_tokens.specs.declared.token.Token.{Token}
 use Rattle.yaml_tokens.specs.Shown.{tok_of}
 use Rattle.yaml_scanner.specs.Tokens.{is_end}
 use Rattle.defs_event.specs.Event.{Ev}
 use Rattle.defs_event.specs.Raw.{Raw}
-use Rattle.defs_event.specs.Names.{Names, behind, resolved_event}
+use Rattle.defs_event.specs.Names.{Names, names_after, resolved_event}
 use Rattle.defs_event.specs.Stream.{has_place, gives_place}
 use Rattle.model_parser.specs.declared.kind.Kind.{Kind}
 use Rattle.model_parser.specs.declared.state.State.{State}
@@ -26,7 +26,7 @@ use Rattle.yaml_parser.specs.Handed.{peeked_tok}
 use Rattle.yaml_parser.specs.Kinds.{IsOfKind}
 use Rattle.yaml_parser.specs.Named.{IsNamed}
 use Rattle.yaml_parser.specs.Shown.{placed}
-use Rattle.yaml_parser.specs.At.{At, Answers, Took, Stayed, Faulted, goal_behind, is_over, names_at, IsPending}
+use Rattle.yaml_parser.specs.At.{At, Answers, Took, Stayed, Faulted, goal_after_event, is_over, names_at, IsPending}
 use Rattle.yaml_parser.proofs.Places.{IsPlaced}
 use Rattle.yaml_parser.proofs.Steps.{looked, took, took_on, left, left_on, Named}
 
@@ -51,11 +51,11 @@ stay {T} {p} = record { tokens = refl; stack = refl; names = refl }
 
 pub record Plain {T : Type 0} (g : Goal) (p : Reader T) (names : Names) (e : Raw) (v : Ev) : Type 0 where
   pub resolves : resolved_event names e ≡ Some v
-  pub behind_it : behind p.names.keeping.tags names e ≡ names
+  pub behind_it : names_after p.names.keeping.tags names e ≡ names
   pub seen : names_at p.names.keeping.tags g names ≡ names
   pub no_place : has_place e ≡ false
 
-plain_named : {T : Type 0} {g : Goal} {p r : Reader T} {names : Names} {e : Raw} {v : Ev} {given : List (Ev × Place)} → Plain g p names e v → r.names ≡ p.names → At g p names given → Named p r at.done names e v names
+plain_named : {T : Type 0} {g : Goal} {p r : Reader T} {names : Names} {e : Raw} {v : Ev} {given : List (Ev × Position)} → Plain g p names e v → r.names ≡ p.names → At g p names given → Named p r at.done names e v names
 plain_named {T} {g} {p} {r} {names} {e} {v} {given} y same a = record {
   resolves = y.resolves;
   behind_it = y.behind_it;
@@ -64,11 +64,11 @@ plain_named {T} {g} {p} {r} {names} {e} {v} {given} y same a = record {
   pending = tt;
 }
 
-pub no_places : {e : Raw} {t : Token} (m : Place) → has_place e ≡ false → gives_place (tok_of t.1) ≡ false → IsPlaced e t m
+pub no_places : {e : Raw} {t : Token} (m : Position) → has_place e ≡ false → gives_place (tok_of t.1) ≡ false → IsPlaced e t m
 no_places {e} {t} m h k = record { alike = h ∙ sym k; here = λ y. absurd (both_ways (gives_place (tok_of t.1)) k y) }
 
 -- The token is taken, and an event is given.
-pub gives : {T : Type 0} (m : Place) {g : Goal} {p r : Reader T} {k k' : Kind} {ss : List State} {e : Raw} {v : Ev} {names : Names} {given : List (Ev × Place)}
+pub gives : {T : Type 0} (m : Position) {g : Goal} {p r : Reader T} {k k' : Kind} {ss : List State} {e : Raw} {v : Ev} {names : Names} {given : List (Ev × Position)}
     → IsOfKind k' p.tokens.peeked → k' ≡ k → has_no_text k ≡ true → Skipped p r ss → Takes g p.stack (tok_of_kind k) (Some e) at.done ss
     → Plain g p names e v → is_over g ≡ false → (is_end (tok_of_kind k) || gives_place (tok_of_kind k)) ≡ false → At g p names given → (names' : Names) × At at.done r names' (given ++ (v, m) ∷ [])
 gives {T} m {g} {p} {r} {k} {k'} {ss} {e} {v} {names} {given} o h plain s turn y over end a =
@@ -82,7 +82,7 @@ gives {T} m {g} {p} {r} {k} {k'} {ss} {e} {v} {names} {given} o h plain s turn y
     )
 
 -- The token is taken, and it goes on.
-pub goes : {T : Type 0} {g g' : Goal} {p r : Reader T} {k k' : Kind} {ss : List State} {names : Names} {given : List (Ev × Place)}
+pub goes : {T : Type 0} {g g' : Goal} {p r : Reader T} {k k' : Kind} {ss : List State} {names : Names} {given : List (Ev × Position)}
     → IsOfKind k' p.tokens.peeked → k' ≡ k → has_no_text k ≡ true → Skipped p r ss → Takes g p.stack (tok_of_kind k) None g' ss
     → names_at p.names.keeping.tags g' names ≡ names_at p.names.keeping.tags g names → IsPending names g' → is_over g ≡ false → (is_end (tok_of_kind k) || gives_place (tok_of_kind k)) ≡ false → At g p names given → At g' r names given
 goes {T} {g} {g'} {p} {r} {k} {k'} {ss} {names} {given} o h plain s turn seen pending over end a =
@@ -95,7 +95,7 @@ goes {T} {g} {g'} {p} {r} {k} {k'} {ss} {names} {given} o h plain s turn seen pe
     (ap gives_place same ∙ (or_parts (is_end (tok_of_kind k)) (gives_place (tok_of_kind k)) end).1) a
 
 -- The token stays, and an event is given.
-pub leaves : {T : Type 0} (m : Place) {g : Goal} {p r : Reader T} {k : Kind} {ss : List State} {e : Raw} {v : Ev} {names : Names} {given : List (Ev × Place)}
+pub leaves : {T : Type 0} (m : Position) {g : Goal} {p r : Reader T} {k : Kind} {ss : List State} {e : Raw} {v : Ev} {names : Names} {given : List (Ev × Position)}
     → IsOfKind k p.tokens.peeked → Stayed p r ss → ((t : Tok) → kind_of t ≡ k → Leaves g p.stack (Some t) (Some e) at.done ss)
     → Plain g p names e v → is_over g ≡ false → At g p names given → (names' : Names) × At at.done r names' (given ++ (v, m) ∷ [])
 leaves {T} m {g} {p} {r} {k} {ss} {e} {v} {names} {given} o s turn y over a =
@@ -103,7 +103,7 @@ leaves {T} m {g} {p} {r} {k} {ss} {e} {v} {names} {given} o s turn y over a =
     (names, left m (ap (option_map (λ (x : Token). tok_of x.1)) l.1) s.tokens s.stack (turn (tok_of l.0.1) l.2) (plain_named y s.names a) (or_from (is_over g) false over refl) y.no_place a)
 
 -- The token stays, and it goes on.
-pub stays : {T : Type 0} {g g' : Goal} {p r : Reader T} {k : Kind} {ss : List State} {names : Names} {given : List (Ev × Place)}
+pub stays : {T : Type 0} {g g' : Goal} {p r : Reader T} {k : Kind} {ss : List State} {names : Names} {given : List (Ev × Position)}
     → IsOfKind k p.tokens.peeked → Stayed p r ss → ((t : Tok) → kind_of t ≡ k → Leaves g p.stack (Some t) None g' ss)
     → names_at p.names.keeping.tags g' names ≡ names_at p.names.keeping.tags g names → IsPending names g' → (is_over g || is_over g') ≡ false → At g p names given → At g' r names given
 stays {T} {g} {g'} {p} {r} {k} {ss} {names} {given} o s turn seen pending over a =
@@ -111,7 +111,7 @@ stays {T} {g} {g'} {p} {r} {k} {ss} {names} {given} o s turn seen pending over a
     left_on (ap (option_map (λ (x : Token). tok_of x.1)) l.1) s.tokens s.stack (turn (tok_of l.0.1) l.2) s.names seen pending over a
 
 -- No token is looked at, and an event is given.
-pub went : {T : Type 0} (m : Place) {g : Goal} {p r : Reader T} {ss : List State} {e : Raw} {v : Ev} {names : Names} {given : List (Ev × Place)}
+pub went : {T : Type 0} (m : Position) {g : Goal} {p r : Reader T} {ss : List State} {e : Raw} {v : Ev} {names : Names} {given : List (Ev × Position)}
     → Stayed p r ss → Leaves g p.stack (peeked_tok p.tokens) (Some e) at.done ss → Plain g p names e v → is_over g ≡ false → At g p names given → (names' : Names) × At at.done r names' (given ++ (v, m) ∷ [])
 went {T} m {g} {p} {r} {ss} {e} {v} {names} {given} s turn y over a =
     (names, left m refl s.tokens s.stack turn (plain_named y s.names a) (or_from (is_over g) false over refl) y.no_place a)
@@ -122,18 +122,18 @@ pub if_err_as : {A : Type 0} (P : Stop → Type 0) (r : Result A Stop) {x : Stop
 if_err_as P (Ok e) h f = tt
 if_err_as P (Err s) h f = subst P (sym h) f
 
-pub answers_err : {T : Type 0} (p : Reader T) (given : List (Ev × Place)) (r : Result (Event × Place) Stop) (x : Stop) → IsErrAnd r (λ e. e ≡ x) → Faulted p given x → Answers p given r
+pub answers_err : {T : Type 0} (p : Reader T) (given : List (Ev × Position)) (r : Result (Event × Position) Stop) (x : Stop) → IsErrAnd r (λ e. e ≡ x) → Faulted p given x → Answers p given r
 answers_err {T} p given (Ok e) x h f = absurd h
 answers_err {T} p given (Err s) x h f = subst (Faulted p given) (sym h) f
 
-pub answers_written : {T : Type 0} (p : Reader T) (given : List (Ev × Place)) (r : Event × Place) {x : Ev × Place} → placed r ≡ x
-    → ((names : Names) × At (goal_behind x.0) p names (given ++ x ∷ [])) → Answers p given (Ok r)
-answers_written {T} p given r {x} h a = subst (λ y. (names : Names) × At (goal_behind y.0) p names (given ++ y ∷ [])) (sym h) a
+pub answers_written : {T : Type 0} (p : Reader T) (given : List (Ev × Position)) (r : Event × Position) {x : Ev × Position} → placed r ≡ x
+    → ((names : Names) × At (goal_after_event x.0) p names (given ++ x ∷ [])) → Answers p given (Ok r)
+answers_written {T} p given r {x} h a = subst (λ y. (names : Names) × At (goal_after_event y.0) p names (given ++ y ∷ [])) (sym h) a
 
-pub answers_stop : {T : Type 0} (p : Reader T) (given : List (Ev × Place)) (r : Result (Event × Place) Stop) {s : Stop} → r ≡ Err s → Faulted p given s → Answers p given r
+pub answers_stop : {T : Type 0} (p : Reader T) (given : List (Ev × Position)) (r : Result (Event × Position) Stop) {s : Stop} → r ≡ Err s → Faulted p given s → Answers p given r
 answers_stop p given r {s} h f = subst (Answers p given) (sym h) f
 
-pub faulted_as : {T : Type 0} (p : Reader T) (given : List (Ev × Place)) {s u : Stop} → s ≡ u → Faulted p given u → Faulted p given s
+pub faulted_as : {T : Type 0} (p : Reader T) (given : List (Ev × Position)) {s u : Stop} → s ≡ u → Faulted p given u → Faulted p given s
 faulted_as {T} p given h f = subst (Faulted p given) (sym h) f
 
 -- ---- one of several kinds
@@ -160,5 +160,5 @@ as_kind test e h = ap test h ∙ e
 pub not_as : {k k' x : Kind} → k ≢ x → k' ≡ k → k' ≢ x
 not_as a h e = a (sym h ∙ e)
 
-pub plain : {T : Type 0} {g : Goal} {p : Reader T} {names : Names} {e : Raw} {v : Ev} → resolved_event names e ≡ Some v → behind p.names.keeping.tags names e ≡ names → names_at p.names.keeping.tags g names ≡ names → has_place e ≡ false → Plain g p names e v
+pub plain : {T : Type 0} {g : Goal} {p : Reader T} {names : Names} {e : Raw} {v : Ev} → resolved_event names e ≡ Some v → names_after p.names.keeping.tags names e ≡ names → names_at p.names.keeping.tags g names ≡ names → has_place e ≡ false → Plain g p names e v
 plain a b c d = record { resolves = a; behind_it = b; seen = c; no_place = d }

@@ -3,7 +3,7 @@ use Rattle.std.proofs.Common.{◌≡◌, ◌≢◌, ℕ, ◌+◌, ◌<◌, List,
 use Rattle.std.proofs.lemmas.Bool.{and_parts, and_from, and_left, and_right, lt-leb}
 use Rattle.std.specs.Option.{IfSome}
 use Rattle.std.specs.Result.{IsErrAnd}
-use Rattle.defs_text.specs.Position.{Place}
+use Rattle.defs_text.specs.Position.{Position}
 use Rattle.defs_token.specs.Token.{Tok}
 use Rattle.yaml_tokens.specs.declared.token.Token.{Token}
 use Rattle.yaml_tokens.specs.declared.problem.Fault.TheVariants.{OutOfMemory}
@@ -52,7 +52,7 @@ abbrev pub Starts : Names → Names → Type 0
 Starts old new = (names : defs.Names) → IsNamed old names → IsNamed new (at_document old.keeping.tags names [])
 
 -- A document that does without `---` begins at a token that stays.
-pub bare_begins : {T : Type 0} (m : Place) {p q r : Reader T} {k : Kind} {names : defs.Names} {given : List (Ev × Place)}
+pub bare_begins : {T : Type 0} (m : Position) {p q r : Reader T} {k : Kind} {names : defs.Names} {given : List (Ev × Position)}
     → IsOfKind k p.tokens.peeked → ((t : Tok) → kind_of t ≡ k → Leaves at.documents p.stack (Some t) (Some (Raw.document_start [])) at.done (state.BlockNode ∷ state.DocumentEnd ∷ p.stack))
     → q.tokens ≡ p.tokens → q.names.keeping ≡ p.names.keeping → Starts p.names q.names → Stayed q r (state.BlockNode ∷ state.DocumentEnd ∷ p.stack)
     → At at.documents p names given → (names' : defs.Names) × At at.done r names' (given ++ (Ev.document_start, m) ∷ [])
@@ -65,7 +65,7 @@ bare_begins {T} m {p} {q} {r} {k} {names} {given} here turn tokens keep starts s
     )
 
 -- A document begins with `---`.
-pub explicit_begins : {T : Type 0} (m : Place) {p q r : Reader T} {k : Kind} {names : defs.Names} {given : List (Ev × Place)}
+pub explicit_begins : {T : Type 0} (m : Position) {p q r : Reader T} {k : Kind} {names : defs.Names} {given : List (Ev × Position)}
     → IsOfKind k p.tokens.peeked → k ≡ kind.DocumentStart → q.tokens ≡ p.tokens → q.stack ≡ p.stack → q.names.keeping ≡ p.names.keeping → Starts p.names q.names → Skipped q r (state.DocumentContent ∷ q.stack)
     → At at.explicit p names given → (names' : defs.Names) × At at.done r names' (given ++ (Ev.document_start, m) ∷ [])
 explicit_begins {T} m {p} {q} {r} {k} {names} {given} here h tokens stack keep starts skip a =
@@ -81,7 +81,7 @@ explicit_begins {T} m {p} {q} {r} {k} {names} {given} here h tokens stack keep s
     )
 
 -- The stream ends.
-pub stream_ends : {T : Type 0} (m : Place) {p r : Reader T} {k : Kind} {names : defs.Names} {given : List (Ev × Place)}
+pub stream_ends : {T : Type 0} (m : Position) {p r : Reader T} {k : Kind} {names : defs.Names} {given : List (Ev × Position)}
     → IsOfKind k p.tokens.peeked → k ≡ kind.StreamEnd → Skipped p r p.stack → At at.explicit p names given → (names' : defs.Names) × At at.ended r names' (given ++ (Ev.stream_end, m) ∷ [])
 stream_ends {T} m {p} {r} {k} {names} {given} here h skip a =
     let l = looked k p.tokens.peeked here in
@@ -95,7 +95,7 @@ stream_ends {T} m {p} {r} {k} {names} {given} here h skip a =
     )
 
 -- The start of a document stands behind its directives.
-pub directed_begins : {T : Type 0} (m : Place) {p r : Reader T} {k : Kind} {read : List Directive} {names : defs.Names} {given : List (Ev × Place)}
+pub directed_begins : {T : Type 0} (m : Position) {p r : Reader T} {k : Kind} {read : List Directive} {names : defs.Names} {given : List (Ev × Position)}
     → IsOfKind k p.tokens.peeked → k ≡ kind.DocumentStart → Skipped p r (state.DocumentContent ∷ p.stack)
     → At (at.directed read) p names given → (names' : defs.Names) × At at.done r names' (given ++ (Ev.document_start, m) ∷ [])
 directed_begins {T} m {p} {r} {k} {read} {names} {given} here h skip a =
@@ -127,7 +127,7 @@ not_directive kind.VersionDirective a b = absurd (a refl)
 not_directive kind.TagDirective a b = absurd (b refl)
 not_directive _ a b = refl
 
-pub directives_begin : {T : Type 0} {p q : Reader T} (k : Kind) {names : defs.Names} {given : List (Ev × Place)}
+pub directives_begin : {T : Type 0} {p q : Reader T} (k : Kind) {names : defs.Names} {given : List (Ev × Position)}
     → IsOfKind k p.tokens.peeked → is_directive k ≡ true → q.tokens ≡ p.tokens → q.stack ≡ p.stack → q.names.keeping ≡ p.names.keeping → Starts p.names q.names → ((ns : defs.Names) → IsNamed p.names ns → IsOwn q.names [])
     → At at.documents p names given → Directing q names given false
 directives_begin {T} {p} {q} k {names} {given} here h tokens stack keep starts own a =
@@ -162,7 +162,7 @@ allowed_tag read h p a e =
     and_from (nat_le (versions (read ++ raw.tag h p ∷ [])) 1) (is_each_once (declared (read ++ raw.tag h p ∷ []))) (ap (λ x. nat_le x 1) (tag_snoc read h p) ∙ parts.0) (e ∙ parts.1)
 
 -- A version is taken, the first one.
-pub version_taken : {T : Type 0} {p r : Reader T} {names : defs.Names} {given : List (Ev × Place)}
+pub version_taken : {T : Type 0} {p r : Reader T} {names : defs.Names} {given : List (Ev × Position)}
     → IsOfKind kind.VersionDirective p.tokens.peeked → Skipped p r p.stack → Directing p names given false → Directing r names given true
 version_taken {T} {p} {r} {names} {given} here skip d =
     let l = looked kind.VersionDirective p.tokens.peeked here in
@@ -186,7 +186,7 @@ handle_is_other : RepeatedHandle ≡ UndeclaredHandle → ⊥
 handle_is_other e = cc
 
 -- Directives that are not allowed are refused with the last one.
-refused_directive : {T : Type 0} {p r : Reader T} {t : Token} {m : Place} (q : Problem) (read : List Directive) (d : Directive) {names : defs.Names} {given : List (Ev × Place)}
+refused_directive : {T : Type 0} {p r : Reader T} {t : Token} {m : Position} (q : Problem) (read : List Directive) (d : Directive) {names : defs.Names} {given : List (Ev × Position)}
     → fits q (kind_of (directive_token d)) ≡ true → is_of_names q ≡ true → (q ≡ UndeclaredHandle → ⊥) → t.0 ≡ m → p.tokens.peeked ≡ Some t → Skips p.tokens t r.tokens → r.names.keeping ≡ p.names.keeping → tok_of t.1 ≡ directive_token d → ((more : List Directive) → are_allowed ((read ++ d ∷ []) ++ more) ≡ false)
     → At (at.directed read) p names given → Faulted r given (stop.Own (fault.At q m))
 refused_directive {T} {p} {r} {t} {m} q read d {names} {given} fit of_names other mark here skips keep tok bad a =
@@ -194,7 +194,7 @@ refused_directive {T} {p} {r} {t} {m} q read d {names} {given} fit of_names othe
     (λ x y. unnameable_first p.names.keeping.tags names (Raw.document_start ((read ++ d ∷ []) ++ x.0)) (perhaps_events x.1 (after_events x.2 (rest_events p.stack y))) (ap (λ b. if b then Some Ev.document_start else None) (bad x.0))) a
 
 -- A second version is refused.
-pub version_refused : {T : Type 0} {p r : Reader T} {m : Place} {names : defs.Names} {given : List (Ev × Place)}
+pub version_refused : {T : Type 0} {p r : Reader T} {m : Position} {names : defs.Names} {given : List (Ev × Position)}
     → IsOfKind kind.VersionDirective p.tokens.peeked → IfSome p.tokens.peeked (λ t. t.0 ≡ m) → Skipped p r p.stack → Directing p names given true
     → Faulted r given (stop.Own (fault.At SecondVersion m))
 version_refused {T} {p} {r} {m} {names} {given} here mark skip d =
@@ -204,7 +204,7 @@ version_refused {T} {p} {r} {m} {names} {given} here mark skip d =
     refused_directive SecondVersion d.read (raw.version v.0 v.1) refl refl version_is_other (if_some_at (λ (t : Token). t.0 ≡ m) mark l.1) l.1 x.tokens (ap (λ n. n.keeping) x.names) v.2 (λ more. second_version d.read v.0 v.1 more d.version) d.here
 
 -- What declares a handle is taken.
-pub tag_directive_taken : {T : Type 0} {p : Reader T} (r : Reader T) {t : Token} (m : Place) {h x : List ℕ} {versioned : Bool} {names : defs.Names} {given : List (Ev × Place)} (res : Result (Unit {0}) Stop)
+pub tag_directive_taken : {T : Type 0} {p : Reader T} (r : Reader T) {t : Token} (m : Position) {h x : List ℕ} {versioned : Bool} {names : defs.Names} {given : List (Ev × Position)} (res : Result (Unit {0}) Stop)
     → t.0 ≡ m → p.tokens.peeked ≡ Some t → Skips p.tokens t r.tokens → r.stack ≡ p.stack → r.names.keeping ≡ p.names.keeping → tok_of t.1 ≡ Tok.tag_directive h x
     → ((keep : Bool) (names : defs.Names) (read : List Directive) → HasRead p.names keep names read → Declares m r.names keep names read h x res)
     → Directing p names given versioned → DirectsTo r names given versioned res
@@ -226,12 +226,12 @@ tag_directive_taken {T} {p} r {t} m {h} {x} {versioned} {names} {given} (Err (st
 tag_directive_taken {T} {p} r {t} m {h} {x} {versioned} {names} {given} (Err stop.Scan) mark here skips stack keep tok declares d = absurd (declares p.names.keeping.tags names d.read (record { named = d.here.code; own = d.own }))
 tag_directive_taken {T} {p} r {t} m {h} {x} {versioned} {names} {given} (Err stop.Ended) mark here skips stack keep tok declares d = absurd (declares p.names.keeping.tags names d.read (record { named = d.here.code; own = d.own }))
 
-pub directs_err : {T : Type 0} (r : Reader T) (names : defs.Names) (given : List (Ev × Place)) (versioned : Bool) (res : Result (Unit {0}) Stop) (x : Stop) → IsErrAnd res (λ e. e ≡ x) → DirectsTo r names given versioned (Err x) → DirectsTo r names given versioned res
+pub directs_err : {T : Type 0} (r : Reader T) (names : defs.Names) (given : List (Ev × Position)) (versioned : Bool) (res : Result (Unit {0}) Stop) (x : Stop) → IsErrAnd res (λ e. e ≡ x) → DirectsTo r names given versioned (Err x) → DirectsTo r names given versioned res
 directs_err {T} r names given versioned (Ok u) x h f = absurd h
 directs_err {T} r names given versioned (Err s) x h f = subst (Faulted r given) (sym h) f
 
 -- a look at the next token
-pub directing_on : {T : Type 0} {p r : Reader T} {versioned : Bool} {names : defs.Names} {given : List (Ev × Place)} → ((g : at.Goal) → is_over g ≡ false → Carries g p r) → r.names ≡ p.names → Directing p names given versioned → Directing r names given versioned
+pub directing_on : {T : Type 0} {p r : Reader T} {versioned : Bool} {names : defs.Names} {given : List (Ev × Position)} → ((g : at.Goal) → is_over g ≡ false → Carries g p r) → r.names ≡ p.names → Directing p names given versioned → Directing r names given versioned
 directing_on {T} {p} {r} {versioned} {names} {given} carries same d = record {
   read = d.read;
   here = carries (at.directed d.read) refl names given d.here;

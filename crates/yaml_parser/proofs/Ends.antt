@@ -3,12 +3,12 @@ use Rattle.std.proofs.Common.{◌≡◌, List, [], ◌∷◌, ◌++◌, Option, 
 use Rattle.std.proofs.lemmas.Bool.{both_ways}
 use Rattle.std.proofs.lemmas.List.{map-append}
 use Rattle.std.specs.Option.{IsSome, IfSome}
-use Rattle.defs_text.specs.Position.{Place}
+use Rattle.defs_text.specs.Position.{Position}
 use Rattle.defs_token.specs.Token.{Style}
 use Rattle.defs_event.specs.Event.{Ev}
 use Rattle.defs_event.specs.Raw.{Raw}
 use Rattle.defs_event.specs.Grammar.{scalar, flow_content, no_flow, end_items, no_items, single, no_flow_value, no_flow_pairs, end_flow_pairs, flow_keyless, block_content, flow, no_node, end_entries, plain, end_dashes, keyed, end_pairs, no_value, others, end_stream, unmarked, anchor_of, tag_of}
-use Rattle.defs_event.specs.Names.{Names, number, named, both, behind, behind_all, resolved_event, resolved, perhaps_resolved, are_allowed, no_names}
+use Rattle.defs_event.specs.Names.{Names, number, named, both, names_after, names_after_all, resolved_event, resolved, perhaps_resolved, are_allowed, no_names}
 use Rattle.defs_event.specs.Stream.{BeginsPlaced, events_of, places_of, taken_places, given_places}
 use Rattle.model_parser.specs.declared.place.Place.TheVariants as place
 use Rattle.model_parser.specs.declared.state.State.{State}
@@ -53,10 +53,10 @@ shortest (at.node place.Block) = block_content None (flow (scalar Style.plain []
 shortest (at.node place.Part) = part_node (block_content None (flow (scalar Style.plain [])))
 shortest (at.behind_anchor p a) = (None, None)
 shortest (at.behind_tag p t) = (None, None)
-shortest (at.behind p (Some o)) = (None, tt)
-shortest (at.behind place.Flow None) = (Some (scalar Style.plain []), tt)
-shortest (at.behind place.Block None) = (Some (flow (scalar Style.plain [])), tt)
-shortest (at.behind place.Part None) = (Some (part_content (flow (scalar Style.plain []))), tt)
+shortest (at.after_properties p (Some o)) = (None, tt)
+shortest (at.after_properties place.Flow None) = (Some (scalar Style.plain []), tt)
+shortest (at.after_properties place.Block None) = (Some (flow (scalar Style.plain [])), tt)
+shortest (at.after_properties place.Part None) = (Some (part_content (flow (scalar Style.plain []))), tt)
 shortest at.entries = end_entries
 shortest at.entry = (no_node, end_entries)
 shortest at.dashes = end_dashes
@@ -95,7 +95,7 @@ abbrev pub AnyNameable : Bool → List Raw → Type 0
 AnyNameable keep es = (s : Names) → Nameable keep s es
 
 name_one : (keep : Bool) (s : Names) (e : Raw) (es : List Raw) {v : Ev} → resolved_event s e ≡ Some v → AnyNameable keep es → Nameable keep s (e ∷ es)
-name_one keep s e es {v} h f = let n = f (behind keep s e) in (v ∷ n.0, ap (λ o. both o (named keep (behind keep s e) es)) h ∙ ap (λ o. both (Some v) o) n.1)
+name_one keep s e es {v} h f = let n = f (names_after keep s e) in (v ∷ n.0, ap (λ o. both o (named keep (names_after keep s e) es)) h ∙ ap (λ o. both (Some v) o) n.1)
 
 nothing : (keep : Bool) (s : Names) (es : List Raw) → AnyNameable keep es → Nameable keep s (Raw.empty_scalar None None ∷ es)
 nothing keep s es f = name_one keep s (Raw.empty_scalar None None) es refl f
@@ -141,12 +141,12 @@ completes (at.behind_anchor q a) keep s r p f = name_one keep s (Raw.empty_scala
 completes (at.behind_tag q t) keep s r p f =
     let u = is_some_value (resolved s.handles t) p in
     name_one keep s (Raw.empty_scalar None (Some t)) r (ap (λ o. option_map (λ x. Ev.scalar [] Style.plain 0 x) (option_map Some o)) u.1) f
-completes (at.behind q (Some o)) keep s r p f =
+completes (at.after_properties q (Some o)) keep s r p f =
     let u = is_some_value (perhaps_resolved s.handles (tag_of o)) p in
     name_one keep s (Raw.empty_scalar (anchor_of o) (tag_of o)) r (ap (λ x. option_map (λ y. Ev.scalar [] Style.plain (number s (anchor_of o)) y) x) u.1) f
-completes (at.behind place.Flow None) keep s r p f = word keep s r f
-completes (at.behind place.Block None) keep s r p f = word keep s r f
-completes (at.behind place.Part None) keep s r p f = word keep s r f
+completes (at.after_properties place.Flow None) keep s r p f = word keep s r f
+completes (at.after_properties place.Block None) keep s r p f = word keep s r f
+completes (at.after_properties place.Part None) keep s r p f = word keep s r f
 completes at.entries keep s r p f = sequence_end keep s r f
 completes at.entry keep s r p f = nothing keep s (Raw.sequence_end ∷ r) (λ s1. sequence_end keep s1 r f)
 completes at.dashes keep s r p f = sequence_end keep s r f
@@ -206,12 +206,12 @@ both_parts None p vs h = cc
 both_parts (Some v) None vs h = cc
 both_parts (Some v) (Some ws) vs h = (v, ws, refl, refl, cc)
 
-named_append : (keep : Bool) (s : Names) (es fs : List Raw) (vs ws : List Ev) → named keep s es ≡ Some vs → named keep (behind_all keep s es) fs ≡ Some ws → named keep s (es ++ fs) ≡ Some (vs ++ ws)
+named_append : (keep : Bool) (s : Names) (es fs : List Raw) (vs ws : List Ev) → named keep s es ≡ Some vs → named keep (names_after_all keep s es) fs ≡ Some ws → named keep s (es ++ fs) ≡ Some (vs ++ ws)
 named_append keep s [] fs vs ws h k = let x : vs ≡ [] = cc in k ∙ ap (λ xs. Some (xs ++ ws)) (sym x)
 named_append keep s (e ∷ es) fs vs ws h k =
-    let b = both_parts (resolved_event s e) (named keep (behind keep s e) es) vs h in
-    let i = named_append keep (behind keep s e) es fs b.1 ws b.3 k in
-    ap (λ o. both o (named keep (behind keep s e) (es ++ fs))) b.2 ∙ ap (λ o. both (Some b.0) o) i ∙ ap (λ xs. Some (xs ++ ws)) (sym b.4)
+    let b = both_parts (resolved_event s e) (named keep (names_after keep s e) es) vs h in
+    let i = named_append keep (names_after keep s e) es fs b.1 ws b.3 k in
+    ap (λ o. both o (named keep (names_after keep s e) (es ++ fs))) b.2 ∙ ap (λ o. both (Some b.0) o) i ∙ ap (λ xs. Some (xs ++ ws)) (sym b.4)
 
 -- ---- and placed
 
@@ -219,10 +219,10 @@ named_append keep s (e ∷ es) fs vs ws h k =
 abbrev pub token_nowhere : Tok → defs.Token
 token_nowhere t = record { place = record { index = 0; line = 1; col = 0 }; tok = t }
 
-abbrev pub event_nowhere : Ev → Ev × Place
+abbrev pub event_nowhere : Ev → Ev × Position
 event_nowhere v = (v, record { index = 0; line = 1; col = 0 })
 
-abbrev pub place_nowhere : Raw → Place
+abbrev pub place_nowhere : Raw → Position
 place_nowhere e = record { index = 0; line = 1; col = 0 }
 
 -- as many events with a place as tokens
@@ -243,7 +243,7 @@ even at.content es ts h = h
 even at.after es ts h = h
 even (at.behind_anchor q a) es ts h = h
 even (at.behind_tag q t) es ts h = h
-even (at.behind q (Some o)) es ts h = h
+even (at.after_properties q (Some o)) es ts h = h
 even at.entries es ts h = h
 even at.entry es ts h = h
 even at.dashes es ts h = h
@@ -270,9 +270,9 @@ even at.flow_empty es ts h = h
 even (at.node place.Flow) es ts h = one_each es ts h
 even (at.node place.Block) es ts h = one_each es ts h
 even (at.node place.Part) es ts h = one_each es ts h
-even (at.behind place.Flow None) es ts h = one_each es ts h
-even (at.behind place.Block None) es ts h = one_each es ts h
-even (at.behind place.Part None) es ts h = one_each es ts h
+even (at.after_properties place.Flow None) es ts h = one_each es ts h
+even (at.after_properties place.Block None) es ts h = one_each es ts h
+even (at.after_properties place.Part None) es ts h = one_each es ts h
 even at.item es ts h = one_each es ts h
 
 rest_even : (ss : List State) → AreEven (rest_events ss (ending ss)) (rest_tokens ss (ending ss))
@@ -282,8 +282,8 @@ rest_even (s ∷ ss) = even (goal_of s) (rest_events ss (ending ss)) (rest_token
 named_length : (keep : Bool) (s : Names) (es : List Raw) (vs : List Ev) → named keep s es ≡ Some vs → places_of (map event_nowhere vs) ≡ map place_nowhere es
 named_length keep s [] vs h = let x : vs ≡ [] = cc in ap (λ ws. places_of (map event_nowhere ws)) x
 named_length keep s (e ∷ es) vs h =
-    let b = both_parts (resolved_event s e) (named keep (behind keep s e) es) vs h in
-    ap (λ ws. places_of (map event_nowhere ws)) b.4 ∙ ap (λ ps. place_nowhere e ∷ ps) (named_length keep (behind keep s e) es b.1 b.3)
+    let b = both_parts (resolved_event s e) (named keep (names_after keep s e) es) vs h in
+    ap (λ ws. places_of (map event_nowhere ws)) b.4 ∙ ap (λ ps. place_nowhere e ∷ ps) (named_length keep (names_after keep s e) es b.1 b.3)
 
 events_nowhere : (vs : List Ev) → events_of (map event_nowhere vs) ≡ vs
 events_nowhere [] = refl
@@ -294,7 +294,7 @@ toks_nowhere [] = refl
 toks_nowhere (t ∷ ts) = ap (λ us. t ∷ us) (toks_nowhere ts)
 
 -- A stream begins with what was taken, and with the events that were given.
-pub at_begins : {T : Type 0} (g : Goal) (p : Reader T) (names : Names) (given : List (Ev × Place)) → At g p names given → p.names.keeping.steady ≡ true → BeginsPlaced p.names.keeping.tags (all_shown p.tokens.taken.items) given
+pub at_begins : {T : Type 0} (g : Goal) (p : Reader T) (names : Names) (given : List (Ev × Position)) → At g p names given → p.names.keeping.steady ≡ true → BeginsPlaced p.names.keeping.tags (all_shown p.tokens.taken.items) given
 at_begins {T} g p names given a steady =
     let keep = p.names.keeping.tags in
     let es = still_events g p.stack (shortest g) (ending p.stack) in
@@ -309,9 +309,9 @@ at_begins {T} g p names given a steady =
         documents = d.0;
         has_tokens = d.1 ∙ ap (λ us. taken_toks p.tokens ++ us) (sym (toks_nowhere ts)) ∙ sym (map-append (λ (t : defs.Token). t.tok) (all_shown p.tokens.taken.items) (map token_nowhere ts));
         has_events = ap (named keep no_names) d.2 ∙ all
-            ∙ ap (λ vs. Some (events_of given ++ vs)) (sym (events_nowhere n.0)) ∙ ap Some (sym (map-append (λ (e : Ev × Place). e.0) given (map event_nowhere n.0)));
+            ∙ ap (λ vs. Some (events_of given ++ vs)) (sym (events_nowhere n.0)) ∙ ap Some (sym (map-append (λ (e : Ev × Position). e.0) given (map event_nowhere n.0)));
         has_places = ap (λ xs. taken_places xs (places_of (given ++ map event_nowhere n.0))) d.2
-            ∙ ap (taken_places (a.raw ++ es)) (map-append (λ (e : Ev × Place). e.1) given (map event_nowhere n.0))
+            ∙ ap (taken_places (a.raw ++ es)) (map-append (λ (e : Ev × Position). e.1) given (map event_nowhere n.0))
             ∙ taken_places_append a.raw es (places_of given) (places_of (map event_nowhere n.0)) (a.count ∙ sym (places_length given))
             ∙ ap (λ ps. ps ++ taken_places es (places_of (map event_nowhere n.0))) a.places
             ∙ ap (λ ps. given_places (all_shown p.tokens.taken.items) ++ ps) (ap (taken_places es) (named_length keep names es n.0 n.1) ∙ even g (rest_events p.stack (ending p.stack)) (rest_tokens p.stack (ending p.stack)) (rest_even p.stack))
@@ -320,7 +320,7 @@ at_begins {T} g p names given a steady =
     }
 
 -- What was given comes of what was taken.
-pub at_derived : {T : Type 0} {g : Goal} {p : Reader T} {names : Names} {given : List (Ev × Place)} → (a : At g p names given)
+pub at_derived : {T : Type 0} {g : Goal} {p : Reader T} {names : Names} {given : List (Ev × Position)} → (a : At g p names given)
     → IsDerived p.names.keeping.steady p.names.keeping.tags (all_shown p.tokens.taken.items) a.raw given
 at_derived {T} {g} {p} a =
     let d = a.stands.sound (shortest g) (ending p.stack) in
@@ -339,12 +339,12 @@ at_derived {T} {g} {p} a =
 
 -- ---- a refused token
 
-handed_with : {T : Type 0} {g : Goal} {p : Reader T} {t : Token} {names : Names} {given : List (Ev × Place)}
+handed_with : {T : Type 0} {g : Goal} {p : Reader T} {t : Token} {names : Names} {given : List (Ev × Position)}
     → p.tokens.peeked ≡ Some t → At g p names given → (scanned p.tokens.scanner).given ≡ all_shown p.tokens.taken.items ++ shown t ∷ []
 handed_with {T} {g} {p} here a = a.handed ∙ ap (λ o. all_shown p.tokens.taken.items ++ shown_list o) here
 
 -- No stream begins with the tokens up to it.
-cut : {T : Type 0} {g : Goal} {p : Reader T} {t : Token} {names : Names} {given : List (Ev × Place)}
+cut : {T : Type 0} {g : Goal} {p : Reader T} {t : Token} {names : Names} {given : List (Ev × Position)}
     → p.tokens.peeked ≡ Some t → Refuses g p.stack (tok_of t.1) → At g p names given
     → (d : Documents) (ts : List Tok) → stream_tokens d ≡ toks (scanned p.tokens.scanner).given ++ ts → ⊥
 cut {T} {g} {p} {t} {names} {given} here turn a d ts has =
@@ -354,7 +354,7 @@ cut {T} {g} {p} {t} {names} {given} here turn a d ts has =
     let o = a.stands.exact d (tok_of t.1 ∷ ts) h b in
     turn a.stands.nested a.stands.fits o.0 o.1 (subst (Begins1 (Some (tok_of t.1))) (sym o.2) refl)
 
-refused : {T : Type 0} {g : Goal} {p : Reader T} {t : Token} {names : Names} {given : List (Ev × Place)}
+refused : {T : Type 0} {g : Goal} {p : Reader T} {t : Token} {names : Names} {given : List (Ev × Position)}
     → p.tokens.peeked ≡ Some t → Refuses g p.stack (tok_of t.1) → At g p names given → IsStuck p given
 refused {T} {g} {p} {t} {names} {given} here turn a =
     record {
@@ -368,7 +368,7 @@ refused {T} {g} {p} {t} {names} {given} here turn a =
     }
 
 -- A token of this kind is refused, for a problem that fits it and is not of names, at its place.
-pub refuses : {T : Type 0} {g : Goal} {p : Reader T} {k : Kind} {m : Place} {names : Names} {given : List (Ev × Place)} (q : Problem)
+pub refuses : {T : Type 0} {g : Goal} {p : Reader T} {k : Kind} {m : Position} {names : Names} {given : List (Ev × Position)} (q : Problem)
     → is_of_names q ≡ false → fits q k ≡ true → IfSome p.tokens.peeked (λ t. t.0 ≡ m) → IsOfKind k p.tokens.peeked → ((t : Tok) → kind_of t ≡ k → Refuses g p.stack t) → At g p names given
     → Faulted p given (stop.Own (fault.At q m))
 refuses {T} {g} {p} {k} {m} {names} {given} q free fit mark o turn a =

@@ -3,7 +3,7 @@ use Rattle.std.proofs.Common.{◌≡◌, inl, inr, ◌+◌, ◌<◌, List, [], �
 use Rattle.std.specs.Option.{IsSome, IfSome}
 use Rattle.std.proofs.lemmas.Bool.{both_ways}
 use Rattle.std.proofs.lemmas.List.{map-append}
-use Rattle.defs_text.specs.Position.{Place}
+use Rattle.defs_text.specs.Position.{Position}
 use Rattle.defs_token.specs.Token as defs
 use Rattle.defs_token.specs.Token.{Tok}
 use Rattle.yaml_tokens.specs.declared.token.Token.{Token}
@@ -43,7 +43,7 @@ use Rattle.yaml_parser.specs.Derived.{IsDerived}
 use Rattle.yaml_parser.specs.Follows.{Follows, Derives, Refused, IsWhole, Explains, listed}
 use Rattle.yaml_parser.specs.Pulls.{IsSound}
 use Rattle.yaml_parser.specs.View.{fault_kept}
-use Rattle.yaml_parser.specs.At.{At, Answers, Reads, Faulted, IsStuck, is_over, names_at, goal_behind}
+use Rattle.yaml_parser.specs.At.{At, Answers, Reads, Faulted, IsStuck, is_over, names_at, goal_after_event}
 use Rattle.yaml_parser.specs.Held.{IsHeld, goal_after}
 use Rattle.yaml_parser.specs.Nests.{BeginsNested, AreResolved}
 use Rattle.yaml_parser.proofs.Ends.{state_pending, at_begins, at_derived}
@@ -109,7 +109,7 @@ popped_stands s ss taken p given h = record {
   exact = λ d ts e b. let o = h.exact d ts e b in (o.1.0, o.1.1, o.2, o.3);
 }
 
-popped : {T : Type 0} (p : Reader T) (s : State) (ss : List State) {names : Names} {given : List (Ev × Place)} → p.stack ≡ s ∷ ss → At at.done p names given → At (goal_of s) (record p { stack = ss }) names given
+popped : {T : Type 0} (p : Reader T) (s : State) (ss : List State) {names : Names} {given : List (Ev × Position)} → p.stack ≡ s ∷ ss → At at.done p names given → At (goal_of s) (record p { stack = ss }) names given
 popped {T} p s ss {names} {given} h a = record {
   raw = a.raw;
   stands = popped_stands s ss (taken_toks p.tokens) (peeked_tok p.tokens) a.raw (subst (λ x. Stands at.done x (taken_toks p.tokens) (peeked_tok p.tokens) a.raw) h a.stands);
@@ -130,7 +130,7 @@ popped_work {T} p s ss h = let e : weights p.stack ≡ weight s + weights ss = a
 
 -- ---- events, and their end
 
-behind_event : (v : Ev) → goal_behind v ≡ goal_after (is_stream_end v)
+behind_event : (v : Ev) → goal_after_event v ≡ goal_after (is_stream_end v)
 behind_event Ev.nothing = refl
 behind_event Ev.stream_start = refl
 behind_event Ev.stream_end = refl
@@ -151,47 +151,47 @@ or_assoc : (a b c : Bool) → (a || (b || c)) ≡ ((a || b) || c)
 or_assoc true b c = refl
 or_assoc false b c = refl
 
-pub has_end_snoc : (es : List (Ev × Place)) (e : Ev × Place) → has_end (es ++ e ∷ []) ≡ has_end es || is_stream_end e.0
+pub has_end_snoc : (es : List (Ev × Position)) (e : Ev × Position) → has_end (es ++ e ∷ []) ≡ has_end es || is_stream_end e.0
 has_end_snoc [] e = or_none (is_stream_end e.0)
 has_end_snoc (x ∷ es) e = ap (λ b. is_stream_end x.0 || b) (has_end_snoc es e) ∙ or_assoc (is_stream_end x.0) (has_end es) (is_stream_end e.0)
 
-answered_held : {T : Type 0} (r : Reader T) (es : List (Ev × Place)) (e : Event × Place) → has_end es ≡ false → Answers r es (Ok e) → IsHeld r (es ++ placed e ∷ []) None
+answered_held : {T : Type 0} (r : Reader T) (es : List (Ev × Position)) (e : Event × Position) → has_end es ≡ false → Answers r es (Ok e) → IsHeld r (es ++ placed e ∷ []) None
 answered_held {T} r es e h a = (
   a.0,
   subst (λ g. At g r a.0 (es ++ placed e ∷ [])) (behind_event (ev_of e.0) ∙ ap goal_after (sym (has_end_snoc es (placed e) ∙ ap (λ b. b || is_stream_end (ev_of e.0)) h))) a.1,
 )
 
-open_at : {T : Type 0} (b : Bool) (p : Reader T) (s : State) (ss : List State) {names : Names} {es : List (Ev × Place)} → p.stack ≡ s ∷ ss → At (goal_after b) p names es → (b ≡ false) × At at.done p names es
+open_at : {T : Type 0} (b : Bool) (p : Reader T) (s : State) (ss : List State) {names : Names} {es : List (Ev × Position)} → p.stack ≡ s ∷ ss → At (goal_after b) p names es → (b ≡ false) × At at.done p names es
 open_at {T} true p s ss h a = absurd (subst IsBottom h a.stands.fits)
 open_at {T} false p s ss h a = (refl, a)
 
-closed_at : {T : Type 0} (b : Bool) (p : Reader T) {names : Names} {es : List (Ev × Place)} → p.stack ≡ [] → At (goal_after b) p names es → b ≡ true
+closed_at : {T : Type 0} (b : Bool) (p : Reader T) {names : Names} {es : List (Ev × Position)} → p.stack ≡ [] → At (goal_after b) p names es → b ≡ true
 closed_at {T} true p h a = refl
 closed_at {T} false p h a = absurd (subst IsUnder h a.stands.fits)
 
 -- ---- one call
 
 -- where nothing is awaited, the stream's end was read
-pub closed : {T : Type 0} (p : Reader T) (es : List (Ev × Place)) → p.stack ≡ [] → IsHeld p es None → has_end es ≡ true
+pub closed : {T : Type 0} (p : Reader T) (es : List (Ev × Position)) → p.stack ≡ [] → IsHeld p es None → has_end es ≡ true
 closed {T} p es h x = closed_at (has_end es) p h x.1
 
-pub pulled : {T : Type 0} (p r : Reader T) (s : State) (ss : List State) (es : List (Ev × Place)) (e : Event × Place)
+pub pulled : {T : Type 0} (p r : Reader T) (s : State) (ss : List State) (es : List (Ev × Position)) (e : Event × Position)
     → p.stack ≡ s ∷ ss → IsHeld p es None → Reads (goal_of s) (record p { stack = ss }) r (Ok e) → work r < work (record p { stack = ss }) + weight s
     → (has_end es ≡ false) × (work r < work p) × IsHeld r (es ++ placed e ∷ []) None
 pulled {T} p r s ss es e h x reads less =
     let o = open_at (has_end es) p s ss h x.1 in
     (o.0, subst (λ n. work r < n) (popped_work p s ss h) less, answered_held r es e o.0 (reads x.0 es (popped p s ss h o.1)))
 
-pub failed : {T : Type 0} (p r : Reader T) (s : State) (ss : List State) (es : List (Ev × Place)) (u : Stop)
+pub failed : {T : Type 0} (p r : Reader T) (s : State) (ss : List State) (es : List (Ev × Position)) (u : Stop)
     → p.stack ≡ s ∷ ss → IsHeld p es None → Reads (goal_of s) (record p { stack = ss }) r (Err u) → (has_end es ≡ false) × Faulted r es u
 failed {T} p r s ss es u h x reads =
     let o = open_at (has_end es) p s ss h x.1 in
     (o.0, reads x.0 es (popped p s ss h o.1))
 
-pub keeps : {T : Type 0} (p : Pull T) (es : List (Ev × Place)) (u : Stop) {f : Fault} → fault_kept p ≡ Some f → IfSome p.kept (λ k. k.stop ≡ u) → (has_end es ≡ false) × Faulted p.reader es u → IsHeld p.reader es p.kept
+pub keeps : {T : Type 0} (p : Pull T) (es : List (Ev × Position)) (u : Stop) {f : Fault} → fault_kept p ≡ Some f → IfSome p.kept (λ k. k.stop ≡ u) → (has_end es ≡ false) × Faulted p.reader es u → IsHeld p.reader es p.kept
 keeps {T} p es u {f} h k x = kept_at p.reader es u p.kept is_kept k x
   where
-    kept_at : (r : Reader T) (es : List (Ev × Place)) (u : Stop) (o : Option Kept) → IsSome o → IfSome o (λ k. k.stop ≡ u) → (has_end es ≡ false) × Faulted r es u → IsHeld r es o
+    kept_at : (r : Reader T) (es : List (Ev × Position)) (u : Stop) (o : Option Kept) → IsSome o → IfSome o (λ k. k.stop ≡ u) → (has_end es ≡ false) × Faulted r es u → IsHeld r es o
     kept_at r es u None i k x = cc
     kept_at r es u (Some z) i k x = (x.0, subst (Faulted r es) (sym k) x.1)
 
@@ -202,7 +202,7 @@ keeps {T} p es u {f} h k x = kept_at p.reader es u p.kept is_kept k x
     is_kept : IsSome p.kept
     is_kept = some_map (λ z. fault_seen z.stop z.mark (scanned p.reader.tokens.scanner).fault) p.kept h
 
-pub failed_as : {T : Type 0} {p q : Reader T} (es : List (Ev × Place)) (u : Stop) → p ≡ q → (has_end es ≡ false) × Faulted q es u → (has_end es ≡ false) × Faulted p es u
+pub failed_as : {T : Type 0} {p q : Reader T} (es : List (Ev × Position)) (u : Stop) → p ≡ q → (has_end es ≡ false) × Faulted q es u → (has_end es ≡ false) × Faulted p es u
 failed_as {T} {p} {q} es u h x = (x.0, subst (λ r. Faulted r es u) (sym h) x.1)
 
 -- ---- at the beginning
@@ -235,7 +235,7 @@ begun {T} p stack peeked taken given ended code = (
 -- ---- what is said of the events
 
 -- This is what clauses see of the reader and of the events that were read.
-pub record Shows {T : Type 0} (p : Reader T) (es : List (Ev × Place)) (v : Parsed) : Type 0 where
+pub record Shows {T : Type 0} (p : Reader T) (es : List (Ev × Position)) (v : Parsed) : Type 0 where
   pub scanner : v.scanner ≡ scanned p.tokens.scanner
   pub keep_tags : v.keep_tags ≡ p.names.keeping.tags
   pub steady : v.steady ≡ p.names.keeping.steady
@@ -250,7 +250,7 @@ begins_peeked None ts = tt
 begins_peeked (Some t) ts = refl
 
 -- a stream that begins with the tokens handed out, from behind those that were taken
-handed_on : {T : Type 0} (p : Reader T) {g : Goal} {names : Names} {es : List (Ev × Place)} (ts us : List Tok) → At g p names es → us ≡ toks (scanned p.tokens.scanner).given ++ ts → us ≡ taken_toks p.tokens ++ (toks (shown_list p.tokens.peeked) ++ ts)
+handed_on : {T : Type 0} (p : Reader T) {g : Goal} {names : Names} {es : List (Ev × Position)} (ts us : List Tok) → At g p names es → us ≡ toks (scanned p.tokens.scanner).given ++ ts → us ≡ taken_toks p.tokens ++ (toks (shown_list p.tokens.peeked) ++ ts)
 handed_on {T} p {g} {names} {es} ts us a h =
     h ∙ ap (λ xs. toks xs ++ ts) a.handed ∙ ap (λ xs. xs ++ ts) (map-append (λ (x : defs.Token). x.tok) (all_shown p.tokens.taken.items) (shown_list p.tokens.peeked))
     ∙ append_assoc (taken_toks p.tokens) (toks (shown_list p.tokens.peeked)) ts
@@ -258,7 +258,7 @@ handed_on {T} p {g} {names} {es} ts us a h =
 same_before : (o : Option (List Ev)) {es fs : List Ev} → o ≡ Some es → o ≡ Some fs → fs ≡ es
 same_before o h k = cc
 
-at_follows : {T : Type 0} {g : Goal} (p : Reader T) (names : Names) (es : List (Ev × Place)) → At g p names es → p.names.keeping.steady ≡ true → (v : Parsed) → Shows p es v → Follows v
+at_follows : {T : Type 0} {g : Goal} (p : Reader T) (names : Names) (es : List (Ev × Position)) → At g p names es → p.names.keeping.steady ≡ true → (v : Parsed) → Shows p es v → Follows v
 at_follows {T} {g} p names es a steady v s =
     let keep = p.names.keeping.tags in
     record {
@@ -282,7 +282,7 @@ ended_stands [] taken raw s =
     ((d.0, d.1 ∙ append-nil taken, d.2 ∙ append-nil raw), λ e ts h. let o = s.exact e ts h tt in (sym o.2, o.3 ∙ append-nil raw))
 ended_stands (x ∷ ss) taken raw s = absurd s.fits
 
-at_whole : {T : Type 0} (p : Reader T) (names : Names) (es : List (Ev × Place)) → At at.ended p names es → p.names.keeping.steady ≡ true → (v : Parsed) → Shows p es v → IsWhole v
+at_whole : {T : Type 0} (p : Reader T) (names : Names) (es : List (Ev × Position)) → At at.ended p names es → p.names.keeping.steady ≡ true → (v : Parsed) → Shows p es v → IsWhole v
 at_whole {T} p names es a steady v s =
     let keep = p.names.keeping.tags in
     let taken : v.scanner.given ≡ all_shown p.tokens.taken.items = ap (λ x. x.given) s.scanner ∙ a.handed ∙ ap (λ o. all_shown p.tokens.taken.items ++ shown_list o) (a.over refl) ∙ append-nil (all_shown p.tokens.taken.items) in
@@ -302,15 +302,15 @@ at_whole {T} p names es a steady v s =
 
 -- ---- between two calls
 
-held_follows_at : {T : Type 0} (b : Bool) (p : Reader T) (names : Names) (es : List (Ev × Place)) → At (goal_after b) p names es → p.names.keeping.steady ≡ true → (v : Parsed) → Shows p es v → Follows v
+held_follows_at : {T : Type 0} (b : Bool) (p : Reader T) (names : Names) (es : List (Ev × Position)) → At (goal_after b) p names es → p.names.keeping.steady ≡ true → (v : Parsed) → Shows p es v → Follows v
 held_follows_at {T} b p names es a steady v s = at_follows p names es a steady v s
 
-held_whole_at : {T : Type 0} (b : Bool) (p : Reader T) (names : Names) (es : List (Ev × Place)) → b ≡ true → At (goal_after b) p names es → p.names.keeping.steady ≡ true → (v : Parsed) → Shows p es v → IsWhole v
+held_whole_at : {T : Type 0} (b : Bool) (p : Reader T) (names : Names) (es : List (Ev × Position)) → b ≡ true → At (goal_after b) p names es → p.names.keeping.steady ≡ true → (v : Parsed) → Shows p es v → IsWhole v
 held_whole_at {T} true p names es h a steady v s = at_whole p names es a steady v s
 held_whole_at {T} false p names es h a steady v s = cc
 
 -- the same of what the reader shows
-shown_derived : {T : Type 0} (p : Reader T) (es : List (Ev × Place)) (before : List defs.Token) (raw : List Raw) (v : Parsed) → Shows p es v
+shown_derived : {T : Type 0} (p : Reader T) (es : List (Ev × Position)) (before : List defs.Token) (raw : List Raw) (v : Parsed) → Shows p es v
     → IsDerived p.names.keeping.steady p.names.keeping.tags before raw es → IsDerived v.steady v.keep_tags before raw (read v)
 shown_derived {T} p es before raw v s d = record {
   begins = d.begins;
@@ -319,7 +319,7 @@ shown_derived {T} p es before raw v s d = record {
   named = λ b. ap (λ k. named k no_names raw) s.keep_tags ∙ d.named (sym s.steady ∙ b) ∙ ap (λ xs. Some (events_of xs)) (sym s.events);
 }
 
-at_derives : {T : Type 0} {g : Goal} (p : Reader T) (names : Names) (es : List (Ev × Place)) → At g p names es → (v : Parsed) → Shows p es v → Derives v
+at_derives : {T : Type 0} {g : Goal} (p : Reader T) (names : Names) (es : List (Ev × Position)) → At g p names es → (v : Parsed) → Shows p es v → Derives v
 at_derives {T} {g} p names es a v s = record {
   before = all_shown p.tokens.taken.items;
   last = option_map shown p.tokens.peeked;
@@ -332,7 +332,7 @@ at_derives {T} {g} p names es a v s = record {
       (still_events g p.stack o.0 o.1, o.3);
 }
 
-pub held_sound : {T : Type 0} (p : Reader T) (es : List (Ev × Place)) → IsHeld p es None → (v : Parsed) → v.fault ≡ None → Shows p es v → IsSound v
+pub held_sound : {T : Type 0} (p : Reader T) (es : List (Ev × Position)) → IsHeld p es None → (v : Parsed) → v.fault ≡ None → Shows p es v → IsSound v
 held_sound {T} p es x v none s = record {
   fault = none;
   nested = subst (λ xs. BeginsNested (events_of xs)) (sym s.events) (at_begins_nested (goal_after (has_end es)) p x.0 es x.1);
@@ -341,7 +341,7 @@ held_sound {T} p es x v none s = record {
   whole = λ steady end. held_whole_at (has_end es) p x.0 es (ap has_end (sym s.events) ∙ end) x.1 (sym s.steady ∙ steady) v s;
 }
 
-stuck_refused : {T : Type 0} (p : Reader T) (es : List (Ev × Place)) → IsStuck p es → p.names.keeping.steady ≡ true → (v : Parsed) → Shows p es v → Refused v
+stuck_refused : {T : Type 0} (p : Reader T) (es : List (Ev × Position)) → IsStuck p es → p.names.keeping.steady ≡ true → (v : Parsed) → Shows p es v → Refused v
 stuck_refused {T} p es x steady v s = record {
   before = x.before;
   last = x.last;
@@ -350,7 +350,7 @@ stuck_refused {T} p es x steady v s = record {
   none = λ ts fs y. x.none steady ts fs (subst (λ k. IsStream k (toks (scanned p.tokens.scanner).given ++ ts) fs) s.keep_tags (subst (λ z. IsStream v.keep_tags (toks z.given ++ ts) fs) s.scanner y));
 }
 
-explained : {T : Type 0} (p : Reader T) (es : List (Ev × Place)) (u : Stop) (m : Place) (f : Fault) → fault_seen u m (scanned p.tokens.scanner).fault ≡ f → Faulted p es u → (v : Parsed) → Shows p es v → Explains f v
+explained : {T : Type 0} (p : Reader T) (es : List (Ev × Position)) (u : Stop) (m : Position) (f : Fault) → fault_seen u m (scanned p.tokens.scanner).fault ≡ f → Faulted p es u → (v : Parsed) → Shows p es v → Explains f v
 explained {T} p es (stop.Own OutOfMemory) m f h x v s = inr (inl (record { memory = ap (λ z. z.memory) (sym h); text = ap (λ z. z.text) (sym h) }))
 explained {T} p es (stop.Own (fault.At q n)) m f h x v s =
     inr (inr (record {
@@ -371,6 +371,6 @@ explained {T} p es stop.Scan m f h x v s = inl (ap (λ z. z.fault) s.scanner ∙
     kept_some (Some y) d i e = ap Some e
 explained {T} p es stop.Ended m f h x v s = absurd x
 
-pub held_explained : {T : Type 0} (p : Reader T) (es : List (Ev × Place)) (o : Option Kept) (f : Fault) → option_map (λ k. fault_seen k.stop k.mark (scanned p.tokens.scanner).fault) o ≡ Some f → IsHeld p es o → (v : Parsed) → Shows p es v → Explains f v
+pub held_explained : {T : Type 0} (p : Reader T) (es : List (Ev × Position)) (o : Option Kept) (f : Fault) → option_map (λ k. fault_seen k.stop k.mark (scanned p.tokens.scanner).fault) o ≡ Some f → IsHeld p es o → (v : Parsed) → Shows p es v → Explains f v
 held_explained {T} p es None f h x v s = cc
 held_explained {T} p es (Some k) f h x v s = let e : fault_seen k.stop k.mark (scanned p.tokens.scanner).fault ≡ f = cc in explained p es k.stop k.mark f e x.1 v s

@@ -3,7 +3,7 @@ use Rattle.std.proofs.Common.{◌≡◌, ◌≢◌, ◌+◌, ◌||◌, ◌&&◌,
 use Rattle.std.specs.Result.{IsErrAnd}
 use Rattle.std.proofs.lemmas.Bool.{or_from}
 use Rattle.std.proofs.lemmas.List.{length-append}
-use Rattle.defs_text.specs.Position.{Place}
+use Rattle.defs_text.specs.Position.{Position}
 use Rattle.yaml_tokens.specs.Fault.{Fault}
 use Rattle.defs_event.specs.Event.{Ev}
 use Rattle.defs_event.specs.PulledList.{Answer, event, fault, given}
@@ -20,31 +20,31 @@ use Rattle.yaml_parser.proofs.Nesting.{no_end_inside, open_more}
 
 -- ---- the run
 
-given_snoc : (es : List (Ev × Place)) (e : Ev) (p : Place) → given Fault (es ++ (e, p) ∷ []) ≡ given Fault es ++ event e p ∷ []
+given_snoc : (es : List (Ev × Position)) (e : Ev) (p : Position) → given Fault (es ++ (e, p) ∷ []) ≡ given Fault es ++ event e p ∷ []
 given_snoc [] e p = refl
 given_snoc (x ∷ es) e p = ap (λ zs. event x.0 x.1 ∷ zs) (given_snoc es e p)
 
-given_length : (es : List (Ev × Place)) → length (given Fault es) ≡ length es
+given_length : (es : List (Ev × Position)) → length (given Fault es) ≡ length es
 given_length [] = refl
 given_length (e ∷ es) = omega (arith, given_length es)
 
-pushing_snoc : (es : List (Ev × Place)) (e : Ev) (p : Place) (l : Loaded Fault) → pushing (es ++ (e, p) ∷ []) l ≡ pushing es (push e p l)
+pushing_snoc : (es : List (Ev × Position)) (e : Ev) (p : Position) (l : Loaded Fault) → pushing (es ++ (e, p) ∷ []) l ≡ pushing es (push e p l)
 pushing_snoc [] e p l = refl
 pushing_snoc (x ∷ es) e p l = ap (push x.0 x.1) (pushing_snoc es e p l)
 
-pushed_all : (es : List (Ev × Place)) (l : Loaded Fault) → (pushing es l).pushed ≡ es ++ l.pushed
+pushed_all : (es : List (Ev × Position)) (l : Loaded Fault) → (pushing es l).pushed ≡ es ++ l.pushed
 pushed_all [] l = refl
 pushed_all (e ∷ es) l = ap (λ xs. e ∷ xs) (pushed_all es l)
 
-ending_all : (es : List (Ev × Place)) (l : Loaded Fault) → (pushing es l).ending ≡ l.ending
+ending_all : (es : List (Ev × Position)) (l : Loaded Fault) → (pushing es l).ending ≡ l.ending
 ending_all [] l = refl
 ending_all (e ∷ es) l = ending_all es l
 
-taken_all : (es : List (Ev × Place)) (l : Loaded Fault) → (pushing es l).taken ≡ length es + l.taken
+taken_all : (es : List (Ev × Position)) (l : Loaded Fault) → (pushing es l).taken ≡ length es + l.taken
 taken_all [] l = omega arith
 taken_all (e ∷ es) l = omega (arith, taken_all es l)
 
-pub misplaced_run : (e : Ev) (p : Place) (multi : Bool) (rest : List (Answer Fault)) → is_stream_end e ≡ false → is_document_start e ≡ false → load_from run.between multi (event e p ∷ rest) ≡ ends (run.no_document p) 1
+pub misplaced_run : (e : Ev) (p : Position) (multi : Bool) (rest : List (Answer Fault)) → is_stream_end e ≡ false → is_document_start e ≡ false → load_from run.between multi (event e p ∷ rest) ≡ ends (run.no_document p) 1
 misplaced_run Ev.nothing p multi rest h k = refl
 misplaced_run Ev.stream_start p multi rest h k = refl
 misplaced_run Ev.stream_end p multi rest h k = cc
@@ -57,7 +57,7 @@ misplaced_run Ev.sequence_end p multi rest h k = refl
 misplaced_run (Ev.mapping_start a t) p multi rest h k = refl
 misplaced_run Ev.mapping_end p multi rest h k = refl
 
-pub end_run : (e : Ev) (p : Place) (multi : Bool) (rest : List (Answer Fault)) → is_stream_end e ≡ true → load_from run.between multi (event e p ∷ rest) ≡ push e p (ends run.well 0)
+pub end_run : (e : Ev) (p : Position) (multi : Bool) (rest : List (Answer Fault)) → is_stream_end e ≡ true → load_from run.between multi (event e p ∷ rest) ≡ push e p (ends run.well 0)
 end_run Ev.nothing p multi rest h = cc
 end_run Ev.stream_start p multi rest h = cc
 end_run Ev.stream_end p multi rest h = refl
@@ -70,7 +70,7 @@ end_run Ev.sequence_end p multi rest h = cc
 end_run (Ev.mapping_start a t) p multi rest h = cc
 end_run Ev.mapping_end p multi rest h = cc
 
-pub start_run : (e : Ev) (p : Place) (multi : Bool) (rest : List (Answer Fault)) → is_document_start e ≡ true → load_from run.between multi (event e p ∷ rest) ≡ push e p (load_from run.inside multi rest)
+pub start_run : (e : Ev) (p : Position) (multi : Bool) (rest : List (Answer Fault)) → is_document_start e ≡ true → load_from run.between multi (event e p ∷ rest) ≡ push e p (load_from run.inside multi rest)
 start_run Ev.nothing p multi rest h = cc
 start_run Ev.stream_start p multi rest h = cc
 start_run Ev.stream_end p multi rest h = cc
@@ -83,7 +83,7 @@ start_run Ev.sequence_end p multi rest h = cc
 start_run (Ev.mapping_start a t) p multi rest h = cc
 start_run Ev.mapping_end p multi rest h = cc
 
-pub inside_run : (e : Ev) (p : Place) (multi : Bool) (rest : List (Answer Fault)) → is_document_end e ≡ false → load_from run.inside multi (event e p ∷ rest) ≡ push e p (load_from run.inside multi rest)
+pub inside_run : (e : Ev) (p : Position) (multi : Bool) (rest : List (Answer Fault)) → is_document_end e ≡ false → load_from run.inside multi (event e p ∷ rest) ≡ push e p (load_from run.inside multi rest)
 inside_run Ev.nothing p multi rest h = refl
 inside_run Ev.stream_start p multi rest h = refl
 inside_run Ev.stream_end p multi rest h = refl
@@ -96,7 +96,7 @@ inside_run Ev.sequence_end p multi rest h = refl
 inside_run (Ev.mapping_start a t) p multi rest h = refl
 inside_run Ev.mapping_end p multi rest h = refl
 
-pub last_run : (e : Ev) (p : Place) (multi : Bool) (rest : List (Answer Fault)) → is_document_end e ≡ true → load_from run.inside multi (event e p ∷ rest) ≡ push e p (behind_document multi rest)
+pub last_run : (e : Ev) (p : Position) (multi : Bool) (rest : List (Answer Fault)) → is_document_end e ≡ true → load_from run.inside multi (event e p ∷ rest) ≡ push e p (behind_document multi rest)
 last_run Ev.nothing p multi rest h = cc
 last_run Ev.stream_start p multi rest h = cc
 last_run Ev.stream_end p multi rest h = cc
@@ -126,7 +126,7 @@ pub end_is_not : (e : Ev) → is_stream_end e ≡ false → e ≢ Ev.stream_end
 end_is_not e h k = let no : true ≡ false = sym (ap is_stream_end k) ∙ h in cc
 
 -- a run inside a document that stops behind an event
-pub inside_stops : (e : Ev) (p : Place) (multi : Bool) → (l : Loaded Fault) × (load_from run.inside multi (event e p ∷ []) ≡ push e p l) × (l.pushed ≡ []) × (l.taken ≡ 0)
+pub inside_stops : (e : Ev) (p : Position) (multi : Bool) → (l : Loaded Fault) × (load_from run.inside multi (event e p ∷ []) ≡ push e p l) × (l.pushed ≡ []) × (l.taken ≡ 0)
 inside_stops Ev.nothing p multi = (ends run.unfinished 0, refl, refl, refl)
 inside_stops Ev.stream_start p multi = (ends run.unfinished 0, refl, refl, refl)
 inside_stops Ev.stream_end p multi = (ends run.unfinished 0, refl, refl, refl)
@@ -140,7 +140,7 @@ inside_stops Ev.sequence_end p multi = (ends run.unfinished 0, refl, refl, refl)
 inside_stops (Ev.mapping_start a t) p multi = (ends run.unfinished 0, refl, refl, refl)
 inside_stops Ev.mapping_end p multi = (ends run.unfinished 0, refl, refl, refl)
 
-going_before : {old new : Parsed} {e : Ev × Place} → GivesEvent old e new → is_stream_end e.0 ≡ false → old.ended ≡ false
+going_before : {old new : Parsed} {e : Ev × Position} → GivesEvent old e new → is_stream_end e.0 ≡ false → old.ended ≡ false
 going_before {old} {new} {e} g h = not_over old.ended g.over
   where
     not_over : (b : Bool) → (b ≡ true → e.0 ≡ Ev.stream_end) → b ≡ false
@@ -148,21 +148,21 @@ going_before {old} {new} {e} g h = not_over old.ended g.over
     not_over false f = refl
 
 -- Behind an event that is no end, the end was not given.
-pub not_ended : {old new : Parsed} {e : Ev × Place} → GivesEvent old e new → is_stream_end e.0 ≡ false → new.ended ≡ false
+pub not_ended : {old new : Parsed} {e : Ev × Position} → GivesEvent old e new → is_stream_end e.0 ≡ false → new.ended ≡ false
 not_ended {old} {new} {e} g h = g.ended ∙ or_from old.ended (is_stream_end e.0) (going_before g h) h
 
 -- ---- inside a document
 
-given_more : {old new : Parsed} {e : Ev × Place} → GivesEvent old e new → old.ended ≡ false → new.given ≡ old.given ++ e ∷ []
+given_more : {old new : Parsed} {e : Ev × Position} → GivesEvent old e new → old.ended ≡ false → new.given ≡ old.given ++ e ∷ []
 given_more {old} {new} {e} g h = g.given ∙ ap (λ b. old.given ++ (if b then [] else e ∷ [])) h
 
-read_given : (es : List (Ev × Place)) (ended : Bool) (ahead : Option (Ev × Place)) → ahead ≡ None → read_so es ended ahead ≡ es
+read_given : (es : List (Ev × Position)) (ended : Bool) (ahead : Option (Ev × Position)) → ahead ≡ None → read_so es ended ahead ≡ es
 read_given es true ahead h = refl
 read_given es false None h = refl
 read_given es false (Some e) h = cc
 
 -- The stream's end does not come there.
-pub no_end : {now new : Parsed} {e : Ev} {p : Place} → IsInside now → GivesEvent now (e, p) new → is_stream_end e ≡ false
+pub no_end : {now new : Parsed} {e : Ev} {p : Position} → IsInside now → GivesEvent now (e, p) new → is_stream_end e ≡ false
 no_end {now} {new} {e} {p} i g = by (is_stream_end e) refl
   where
     by : (b : Bool) → is_stream_end e ≡ b → b ≡ false
@@ -171,13 +171,13 @@ no_end {now} {new} {e} {p} i g = by (is_stream_end e) refl
         let all : read new ≡ now.given ++ (Ev.stream_end, p) ∷ [] = read_given new.given new.ended new.ahead g.ahead ∙ given_more g i.0 ∙ ap (λ v. now.given ++ (v, p) ∷ []) (end_is e h) in
         absurd (no_end_inside now.given p i.1 (subst (λ es. BeginsNested (events_of es)) all g.sound.nested))
 
-pub starts_inside : {now new : Parsed} {e : Ev} {p : Place} → GivesEvent now (e, p) new → is_stream_end e ≡ false → is_document_start e ≡ true → IsInside new
+pub starts_inside : {now new : Parsed} {e : Ev} {p : Position} → GivesEvent now (e, p) new → is_stream_end e ≡ false → is_document_start e ≡ true → IsInside new
 starts_inside {now} {new} {e} {p} g end start = (
   not_ended g end,
   ap (λ es. is_open false (events_of es)) (given_more g (going_before g end)) ∙ open_more false now.given e p ∙ ap (λ b. b || (is_open false (events_of now.given) && not (is_document_end e))) start,
 )
 
-pub stays_inside : {now new : Parsed} {e : Ev} {p : Place} → IsInside now → GivesEvent now (e, p) new → is_document_end e ≡ false → IsInside new
+pub stays_inside : {now new : Parsed} {e : Ev} {p : Position} → IsInside now → GivesEvent now (e, p) new → is_document_end e ≡ false → IsInside new
 stays_inside {now} {new} {e} {p} i g last = (
   not_ended g (no_end i g),
   ap (λ es. is_open false (events_of es)) (given_more g i.0) ∙ open_more false now.given e p ∙ ap (opened e) i.1 ∙ ap (λ b. is_document_start e || not b) last ∙ or_true (is_document_start e),
@@ -189,7 +189,7 @@ stays_inside {now} {new} {e} {p} i g last = (
 
 -- ---- the steps
 
-module _ {R : Type 0} (takes : R → Ev → Place → Result (Unit {0}) Fault → R → Type 0) (multi : Bool) (old : Parsed) (r : R) where
+module _ {R : Type 0} (takes : R → Ev → Position → Result (Unit {0}) Fault → R → Type 0) (multi : Bool) (old : Parsed) (r : R) where
   pub begins : (at : run.Standing) (s : Bool) → old.started ≡ s → (if s then run.between else run.before_stream) ≡ at → Stands takes multi old r at old r
   begins at s h k = record {
     events = [];
@@ -199,7 +199,7 @@ module _ {R : Type 0} (takes : R → Ev → Place → Result (Unit {0}) Fault �
   }
 
   -- An event is pulled and taken.
-  pub goes_on : {on on' : List (Answer Fault) → Loaded Fault} {now now' : Parsed} {s s' : R} (e : Ev) (p : Place)
+  pub goes_on : {on on' : List (Answer Fault) → Loaded Fault} {now now' : Parsed} {s s' : R} (e : Ev) (p : Position)
       → Going takes multi old r on now s → ((rest : List (Answer Fault)) → on (event e p ∷ rest) ≡ push e p (on' rest)) → Pulls now (event e p) now' → takes s e p (Ok tt) s' → Going takes multi old r on' now' s'
   goes_on {on} {on'} {now} {now'} {s} {s'} e p g steps pulls took = record {
     events = g.events ++ (e, p) ∷ [];
@@ -215,7 +215,7 @@ module _ {R : Type 0} (takes : R → Ev → Place → Result (Unit {0}) Fault �
   whole_run : {on : List (Answer Fault) → Loaded Fault} {now : Parsed} {s : R} (a : Answer Fault) (l : Loaded Fault) → (g : Going takes multi old r on now s) → on (a ∷ []) ≡ l → load old.started multi (given Fault g.events ++ a ∷ []) ≡ pushing g.events l
   whole_run {on} {now} {s} a l g h = g.runs (a ∷ []) ∙ ap (pushing g.events) h
 
-  whole_taken : (es : List (Ev × Place)) (a : Answer Fault) (l m : Loaded Fault) → m ≡ pushing es l → l.taken ≡ 1 → m.taken ≡ length (given Fault es ++ a ∷ [])
+  whole_taken : (es : List (Ev × Position)) (a : Answer Fault) (l m : Loaded Fault) → m ≡ pushing es l → l.taken ≡ 1 → m.taken ≡ length (given Fault es ++ a ∷ [])
   whole_taken es a l m h t = ap (λ x. x.taken) h ∙ taken_all es l ∙ ap (λ n. length es + n) t ∙ sym (length-append (given Fault es) (a ∷ []) ∙ ap (λ n. n + 1) (given_length es))
 
   pub faults : {on : List (Answer Fault) → Loaded Fault} {now now' : Parsed} {s : R} (f : Fault) → Going takes multi old r on now s → on (fault f ∷ []) ≡ ends (run.faulted f) 1 → Pulls now (fault f) now' → Loads takes multi old r (Err f) now' s
@@ -230,7 +230,7 @@ module _ {R : Type 0} (takes : R → Ev → Place → Result (Unit {0}) Fault �
         ends = loads.faulted (ap (λ x. x.ending) w ∙ ending_all g.events l) pulls.fault (subst (λ xs. Receives takes r xs s) (sym (ap (λ x. x.pushed) w ∙ pushed_all g.events l ∙ append-nil g.events)) g.received);
       }
 
-  pub misplaces : {on : List (Answer Fault) → Loaded Fault} {now now' : Parsed} {s : R} (e : Ev) (p : Place) → Going takes multi old r on now s → on (event e p ∷ []) ≡ ends (run.no_document p) 1 → Pulls now (event e p) now'
+  pub misplaces : {on : List (Answer Fault) → Loaded Fault} {now now' : Parsed} {s : R} (e : Ev) (p : Position) → Going takes multi old r on now s → on (event e p ∷ []) ≡ ends (run.no_document p) 1 → Pulls now (event e p) now'
       → Loads takes multi old r (Err (no_document p)) (record now' { fault = Some (no_document p) }) s
   misplaces {on} {now} {now'} {s} e p g h pulls =
       let l = ends (run.no_document p) 1 in
@@ -244,7 +244,7 @@ module _ {R : Type 0} (takes : R → Ev → Place → Result (Unit {0}) Fault �
       }
 
   -- The receiver refuses an event.
-  pub refuses : {on : List (Answer Fault) → Loaded Fault} {now now' : Parsed} {s s' : R} (e : Ev) (p : Place) (f : Fault) (l : Loaded Fault) → Going takes multi old r on now s → on (event e p ∷ []) ≡ push e p l → l.pushed ≡ [] → l.taken ≡ 0
+  pub refuses : {on : List (Answer Fault) → Loaded Fault} {now now' : Parsed} {s s' : R} (e : Ev) (p : Position) (f : Fault) (l : Loaded Fault) → Going takes multi old r on now s → on (event e p ∷ []) ≡ push e p l → l.pushed ≡ [] → l.taken ≡ 0
       → Pulls now (event e p) now' → takes s e p (Err f) s' → Loads takes multi old r (Err f) now' s'
   refuses {on} {now} {now'} {s} {s'} e p f l g h none nil pulls took =
       let w = whole_run (event e p) (push e p l) g h in
@@ -257,7 +257,7 @@ module _ {R : Type 0} (takes : R → Ev → Place → Result (Unit {0}) Fault �
       }
 
   -- An event is taken, and the call ends well.
-  pub ends_well : {on : List (Answer Fault) → Loaded Fault} {now now' : Parsed} {s s' : R} (e : Ev) (p : Place) → Going takes multi old r on now s → on (event e p ∷ []) ≡ push e p (ends run.well 0)
+  pub ends_well : {on : List (Answer Fault) → Loaded Fault} {now now' : Parsed} {s s' : R} (e : Ev) (p : Position) → Going takes multi old r on now s → on (event e p ∷ []) ≡ push e p (ends run.well 0)
       → Pulls now (event e p) now' → takes s e p (Ok tt) s' → Loads takes multi old r (Ok tt) now' s'
   ends_well {on} {now} {now'} {s} {s'} e p g h pulls took =
       let l = push {Fault = Fault} e p (ends run.well 0) in

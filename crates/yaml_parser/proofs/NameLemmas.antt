@@ -20,7 +20,7 @@ use Rattle.yaml_parser.specs.declared.event.Tag.{Tag}
 use Rattle.yaml_parser.specs.declared.tokens.Stop.{Stop}
 use Rattle.yaml_parser.specs.declared.tokens.Stop.TheVariants as stop
 use Rattle.yaml_parser.specs.Shown.{tag_of}
-use Rattle.defs_text.specs.Position.{Place}
+use Rattle.defs_text.specs.Position.{Position}
 use Rattle.yaml_parser.specs.Resolves.{Resolves, IsUndeclared}
 
 nil_of : (xs : List ℕ) → is_nil xs ≡ true → xs ≡ []
@@ -94,7 +94,7 @@ pub core_is : (s : String Global) → string_bytes s ≡ codes "tag:yaml.org,200
 unfolding string_chars
 core_is s h = ap chars h ∙ core_chars
 
-pub undeclared_resolves : (mark : Place) (names : Names) (h x : List ℕ) (r : Result Tag Stop) → h ≢ [] → under_name h names.handles ≡ None → IsUndeclared mark h x r → Resolves mark names (record { handle = h; suffix = x }) r
+pub undeclared_resolves : (mark : Position) (names : Names) (h x : List ℕ) (r : Result Tag Stop) → h ≢ [] → under_name h names.handles ≡ None → IsUndeclared mark h x r → Resolves mark names (record { handle = h; suffix = x }) r
 undeclared_resolves mark names h x (Ok t) a e u = resolved_nonempty names.handles h x None a e ∙ ap (option_map (λ p. record { handle = p; suffix = x })) u.0 ∙ ap (λ y. Some (record { handle = (tag_of t).handle; suffix = y })) (sym u.1)
 undeclared_resolves mark names h x (Err (stop.Own OutOfMemory)) a e u = tt
 undeclared_resolves mark names h x (Err (stop.Own (fault.At q m))) a e u = (resolved_nonempty names.handles h x None a e ∙ ap (option_map (λ p. record { handle = p; suffix = x })) u.0, u.1, u.2)

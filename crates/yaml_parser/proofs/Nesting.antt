@@ -1,6 +1,6 @@
 -- The events that a parser gives are a beginning of nested events, so the stream's end comes in no document.
 use Rattle.std.proofs.Common.{◌≡◌, List, [], ◌∷◌, ◌++◌, Option, Some, None, Bool, true, false, refl, sym, ap, subst}
-use Rattle.defs_text.specs.Position.{Place}
+use Rattle.defs_text.specs.Position.{Position}
 use Rattle.defs_event.specs.Event.{Ev}
 use Rattle.defs_event.specs.Nested.{Open, in_stream, before_node, behind_node, in_sequence, at_key, at_value, open_behind, there_and, closes, is_nested}
 use Rattle.defs_event.specs.Stream.{events_of}
@@ -17,7 +17,7 @@ use Rattle.yaml_parser.proofs.Ends.{shortest, ending, completes, rest_nameable}
 use Rattle.yaml_parser.proofs.Resolved.{resolved_shaped}
 
 -- The shortest way to the end completes them.
-pub at_begins_nested : {T : Type 0} (g : Goal) (p : Reader T) (names : Names) (given : List (Ev × Place)) → At g p names given → BeginsNested (events_of given)
+pub at_begins_nested : {T : Type 0} (g : Goal) (p : Reader T) (names : Names) (given : List (Ev × Position)) → At g p names given → BeginsNested (events_of given)
 at_begins_nested {T} g p names given a =
     let keep = p.names.keeping.tags in
     let es = still_events g p.stack (shortest g) (ending p.stack) in
@@ -85,16 +85,16 @@ never_nested (e ∷ es) more o h =
     let f = from_start e (es ++ Ev.stream_end ∷ more) h in
     never_closes es more false (in_stream ∷ []) (λ no. cc) (subst (λ x. is_open (opened x false) es ≡ true) f.0 o) f.1
 
-end_behind : (es : List (Ev × Place)) (p : Place) (more : List Ev) → events_of (es ++ (Ev.stream_end, p) ∷ []) ++ more ≡ events_of es ++ Ev.stream_end ∷ more
+end_behind : (es : List (Ev × Position)) (p : Position) (more : List Ev) → events_of (es ++ (Ev.stream_end, p) ∷ []) ++ more ≡ events_of es ++ Ev.stream_end ∷ more
 end_behind [] p more = refl
 end_behind (e ∷ es) p more = ap (λ vs. e.0 ∷ vs) (end_behind es p more)
 
 -- The stream's end comes in no document.
-pub no_end_inside : (es : List (Ev × Place)) (p : Place) → is_open false (events_of es) ≡ true → BeginsNested (events_of (es ++ (Ev.stream_end, p) ∷ [])) → ⊥
+pub no_end_inside : (es : List (Ev × Position)) (p : Position) → is_open false (events_of es) ≡ true → BeginsNested (events_of (es ++ (Ev.stream_end, p) ∷ [])) → ⊥
 no_end_inside es p o n =
     let all = (test_is_exact (events_of (es ++ (Ev.stream_end, p) ∷ []) ++ n.0)).1 n.1 in
     never_nested (events_of es) n.0 o (subst (λ vs. is_nested vs ≡ true) (end_behind es p n.0) all)
 
-pub open_more : (b : Bool) (es : List (Ev × Place)) (e : Ev) (p : Place) → is_open b (events_of (es ++ (e, p) ∷ [])) ≡ opened e (is_open b (events_of es))
+pub open_more : (b : Bool) (es : List (Ev × Position)) (e : Ev) (p : Position) → is_open b (events_of (es ++ (e, p) ∷ [])) ≡ opened e (is_open b (events_of es))
 open_more b [] e p = refl
 open_more b (x ∷ es) e p = open_more (opened x.0 b) es e p

@@ -3,7 +3,7 @@ use Rattle.std.proofs.Common.{◌≡◌, ◌≢◌, ℕ, List, [], ◌∷◌, �
 use Rattle.std.specs.Result.{IfOk, IfErr}
 use Rattle.std.specs.Option.{IsSome, IfSome}
 use Rattle.std.proofs.lemmas.Bool.{both_ways}
-use Rattle.defs_text.specs.Position.{Place}
+use Rattle.defs_text.specs.Position.{Position}
 use Rattle.defs_token.specs.Token as defs
 use Rattle.defs_token.specs.Token.{Tok, Style}
 use Rattle.yaml_tokens.specs.declared.token.Token.{Token}
@@ -19,7 +19,7 @@ use Rattle.defs_event.specs.Event.{Ev}
 use Rattle.defs_event.specs.Raw.{Raw}
 use Rattle.defs_event.specs.Grammar as written
 use Rattle.defs_event.specs.Grammar.{perhaps_anchor_of, perhaps_tag_of, stream_tokens, stream_events}
-use Rattle.defs_event.specs.Names.{Names, number, with_anchor, behind, behind_all, both, named, no_names, resolved_event, perhaps_resolved, resolved, under_name}
+use Rattle.defs_event.specs.Names.{Names, number, with_anchor, names_after, names_after_all, both, named, no_names, resolved_event, perhaps_resolved, resolved, under_name}
 use Rattle.defs_token.specs.Toks.{toks}
 use Rattle.defs_event.specs.Stream.{has_place, gives_place, BeginsPlaced as Opens}
 use Rattle.model_parser.specs.declared.kind.Kind.{Kind}
@@ -52,20 +52,20 @@ use Rattle.yaml_parser.specs.Kinds.{IsOfKind}
 use Rattle.yaml_parser.specs.Named.{IsNamed}
 use Rattle.yaml_parser.specs.Properties.{Has, Registers, name_of, kept_tag}
 use Rattle.yaml_parser.specs.Shown.{placed}
-use Rattle.yaml_parser.specs.At.{At, Answers, Faulted, IsStuck, goal_behind, IsPending}
+use Rattle.yaml_parser.specs.At.{At, Answers, Faulted, IsStuck, goal_after_event, IsPending}
 use Rattle.yaml_parser.proofs.Steps.{looked, took, took_on, left, Named, map_snoc, if_some_at}
 use Rattle.yaml_parser.proofs.Arms.{Skipped, stays, stay, not_as, faulted_as}
 use Rattle.yaml_parser.proofs.Ends.{at_begins, at_derived, ending}
 
 -- ---- an event with properties
 
-pub two_values : (f : ℕ → Option event.Tag → Ev × Place) {n a : ℕ} {t u : Option event.Tag} → n ≡ a → t ≡ u → f n t ≡ f a u
+pub two_values : (f : ℕ → Option event.Tag → Ev × Position) {n a : ℕ} {t u : Option event.Tag} → n ≡ a → t ≡ u → f n t ≡ f a u
 two_values f {n} {a} {t} {u} h k = ap (λ x. f x t) h ∙ ap (f a) k
 
 -- how an event is made of an anchor and a tag, before and behind the resolution of names
 pub record Makes (mk : Option (List ℕ) → Option event.Tag → Raw) (f : ℕ → Option event.Tag → Ev) : Type 0 where
   pub resolves : (s : Names) (a : Option (List ℕ)) (t : Option event.Tag) → resolved_event s (mk a t) ≡ option_map (λ u. f (number s a) u) (perhaps_resolved s.handles t)
-  pub behind_it : (keep : Bool) (s : Names) (a : Option (List ℕ)) (t : Option event.Tag) → behind keep s (mk a t) ≡ with_anchor s a
+  pub behind_it : (keep : Bool) (s : Names) (a : Option (List ℕ)) (t : Option event.Tag) → names_after keep s (mk a t) ≡ with_anchor s a
 
 made_resolves : {mk : Option (List ℕ) → Option event.Tag → Raw} {f : ℕ → Option event.Tag → Ev} {s : Names} {o : Option written.Properties} {p : Option Properties} → Makes mk f → Has s o p
     → resolved_event s (mk (perhaps_anchor_of o) (perhaps_tag_of o)) ≡ Some (f (number s (name_of p)) (kept_tag p))
@@ -84,13 +84,13 @@ made_named {T} {p} {r} {mk} {f} {s} {o} {x} k h keep code = record {
 }
 
 -- The start of a collection is taken, and its properties are registered.
-pub starts : {T : Type 0} (m : Place) {p q : Reader T} (r : Reader T) {k k' : Kind} {w : places.Place} {o : Option written.Properties} {x : Option Properties} {ss : List State} (mk : Option (List ℕ) → Option event.Tag → Raw) (f : ℕ → Option event.Tag → Ev) {s : Names} {given : List (Ev × Place)} (res : Result (Event × Place) Stop)
+pub starts : {T : Type 0} (m : Position) {p q : Reader T} (r : Reader T) {k k' : Kind} {w : places.Place} {o : Option written.Properties} {x : Option Properties} {ss : List State} (mk : Option (List ℕ) → Option event.Tag → Raw) (f : ℕ → Option event.Tag → Ev) {s : Names} {given : List (Ev × Position)} (res : Result (Event × Position) Stop)
     → Makes mk f → IsOfKind k' p.tokens.peeked → k' ≡ k → has_no_text k ≡ true → is_end (tok_of_kind k) ≡ false
     → ((a : Option (List ℕ)) (t : Option event.Tag) → has_place (mk a t) ≡ gives_place (tok_of_kind k)) → IfSome p.tokens.peeked (λ t. t.0 ≡ m) → Skipped p q ss
-    → Takes (at.behind w o) p.stack (tok_of_kind k) (Some (mk (perhaps_anchor_of o) (perhaps_tag_of o))) at.done ss
+    → Takes (at.after_properties w o) p.stack (tok_of_kind k) (Some (mk (perhaps_anchor_of o) (perhaps_tag_of o))) at.done ss
     → ((names : Names) → IsNamed q.names names → IfOk res (λ e. Registers q x names (λ a t. placed e ≡ (f a t, m)) r)) → IfErr res (λ u. u ≡ stop.Own OutOfMemory)
-    → ((a : ℕ) (t : Option event.Tag) → goal_behind (f a t) ≡ at.done)
-    → Has s o x → At (at.behind w o) p s given → Answers r given res
+    → ((a : ℕ) (t : Option event.Tag) → goal_after_event (f a t) ≡ at.done)
+    → Has s o x → At (at.after_properties w o) p s given → Answers r given res
 starts {T} m {p} {q} r {k} {k'} {w} {o} {x} {ss} mk f {s} {given} (Err u) makes here h plain end alike mark skip turn registers err no_end has a = subst (Faulted r given) (sym err) tt
 starts {T} m {p} {q} r {k} {k'} {w} {o} {x} {ss} mk f {s} {given} (Ok e) makes here h plain end alike mark skip turn registers err no_end has a =
     let l = looked k' p.tokens.peeked here in
@@ -98,36 +98,36 @@ starts {T} m {p} {q} r {k} {k'} {w} {o} {x} {ss} mk f {s} {given} (Ok e) makes h
     let y = skip t l.1 in
     let g = registers s (subst (λ n. IsNamed n s) (sym y.names) a.code) in
     let same : tok_of t.1 ≡ tok_of_kind k = tok_is (l.2 ∙ h) plain in
-    let v : Ev × Place = (f (number s (name_of x)) (kept_tag x), m) in
+    let v : Ev × Position = (f (number s (name_of x)) (kept_tag x), m) in
     let one : At at.done r (with_anchor s (name_of x)) (given ++ v ∷ []) =
-    took m l.1 (subst (λ u. Skips p.tokens t u) (sym g.tokens) y.tokens) (g.stack ∙ y.stack) (subst (λ u. Takes (at.behind w o) p.stack u (Some (mk (perhaps_anchor_of o) (perhaps_tag_of o))) at.done ss) (sym same) turn)
+    took m l.1 (subst (λ u. Skips p.tokens t u) (sym g.tokens) y.tokens) (g.stack ∙ y.stack) (subst (λ u. Takes (at.after_properties w o) p.stack u (Some (mk (perhaps_anchor_of o) (perhaps_tag_of o))) at.done ss) (sym same) turn)
     (made_named makes has (g.keep ∙ ap (λ n. n.keeping) y.names) g.code) (λ b. (refl, ap is_end same ∙ end))
     (record { alike = alike _ _ ∙ sym (ap gives_place same); here = λ b. sym (if_some_at (λ (z : Token). z.0 ≡ m) mark l.1) }) a in
-    let two : (names : Names) × At (goal_behind v.0) r names (given ++ v ∷ []) = (with_anchor s (name_of x), subst (λ g. At g r (with_anchor s (name_of x)) (given ++ v ∷ [])) (sym (no_end _ _)) one) in
-    subst (λ z. (names : Names) × At (goal_behind z.0) r names (given ++ z ∷ [])) (sym g.value) two
+    let two : (names : Names) × At (goal_after_event v.0) r names (given ++ v ∷ []) = (with_anchor s (name_of x), subst (λ g. At g r (with_anchor s (name_of x)) (given ++ v ∷ [])) (sym (no_end _ _)) one) in
+    subst (λ z. (names : Names) × At (goal_after_event z.0) r names (given ++ z ∷ [])) (sym g.value) two
 
 -- A scalar is taken, and its properties are registered.
-pub scalar_taken : {T : Type 0} (m : Place) {p q r : Reader T} {y : Style} {v : List ℕ} {n : ℕ} {u : Option event.Tag} {w : places.Place} {o : Option written.Properties} {x : Option Properties} {ss : List State} {s : Names} {given : List (Ev × Place)}
+pub scalar_taken : {T : Type 0} (m : Position) {p q r : Reader T} {y : Style} {v : List ℕ} {n : ℕ} {u : Option event.Tag} {w : places.Place} {o : Option written.Properties} {x : Option Properties} {ss : List State} {s : Names} {given : List (Ev × Position)}
     → {t : Token} → p.tokens.peeked ≡ Some t → t.0 ≡ m → Skips p.tokens t q.tokens → q.stack ≡ ss → q.names ≡ p.names → tok_of t.1 ≡ Tok.scalar y v
-    → Takes (at.behind w o) p.stack (Tok.scalar y v) (Some (Raw.scalar v y (perhaps_anchor_of o) (perhaps_tag_of o))) at.done ss
+    → Takes (at.after_properties w o) p.stack (Tok.scalar y v) (Some (Raw.scalar v y (perhaps_anchor_of o) (perhaps_tag_of o))) at.done ss
     → ((names : Names) → IsNamed q.names names → Registers q x names (λ a b. (n ≡ a) × (u ≡ b)) r)
-    → Has s o x → At (at.behind w o) p s given → (names : Names) × At at.done r names (given ++ (Ev.scalar v y n u, m) ∷ [])
+    → Has s o x → At (at.after_properties w o) p s given → (names : Names) × At at.done r names (given ++ (Ev.scalar v y n u, m) ∷ [])
 scalar_taken {T} m {p} {q} {r} {y} {v} {n} {u} {w} {o} {x} {ss} {s} {given} {t} here mark skips stack names_same tok turn registers has a =
     let g = registers s (subst (λ z. IsNamed z s) (sym names_same) a.code) in
     let e : Ev.scalar v y (number s (name_of x)) (kept_tag x) ≡ Ev.scalar v y n u = ap (λ z. Ev.scalar v y z (kept_tag x)) (sym g.value.0) ∙ ap (λ z. Ev.scalar v y n z) (sym g.value.1) in
     let makes : Makes (λ a b. Raw.scalar v y a b) (λ a b. Ev.scalar v y a b) = record { resolves = λ s a b. refl; behind_it = λ k s a b. refl } in (
       with_anchor s (name_of x),
       subst (λ z. At at.done r (with_anchor s (name_of x)) (given ++ (z, m) ∷ [])) e
-          (took m here (subst (λ z. Skips p.tokens t z) (sym g.tokens) skips) (g.stack ∙ stack) (subst (λ z. Takes (at.behind w o) p.stack z (Some (Raw.scalar v y (perhaps_anchor_of o) (perhaps_tag_of o))) at.done ss) (sym tok) turn)
+          (took m here (subst (λ z. Skips p.tokens t z) (sym g.tokens) skips) (g.stack ∙ stack) (subst (λ z. Takes (at.after_properties w o) p.stack z (Some (Raw.scalar v y (perhaps_anchor_of o) (perhaps_tag_of o))) at.done ss) (sym tok) turn)
           (made_named makes has (g.keep ∙ ap (λ z. z.keeping) names_same) g.code) (λ b. (refl, ap is_end tok))
           (record { alike = sym (ap gives_place tok); here = λ b. sym mark }) a),
     )
 
 -- Properties alone are registered, and the token stays.
-pub properties_left : {T : Type 0} (m : Place) {p r : Reader T} {k : Kind} {n : ℕ} {u : Option event.Tag} (o : Option written.Properties) {x : Properties} {s : Names} {given : List (Ev × Place)}
-    → IsOfKind k p.tokens.peeked → ((o' : written.Properties) (t : Tok) → kind_of t ≡ k → Leaves (at.behind place.Flow (Some o')) p.stack (Some t) (Some (Raw.empty_scalar (written.anchor_of o') (written.tag_of o'))) at.done p.stack)
+pub properties_left : {T : Type 0} (m : Position) {p r : Reader T} {k : Kind} {n : ℕ} {u : Option event.Tag} (o : Option written.Properties) {x : Properties} {s : Names} {given : List (Ev × Position)}
+    → IsOfKind k p.tokens.peeked → ((o' : written.Properties) (t : Tok) → kind_of t ≡ k → Leaves (at.after_properties place.Flow (Some o')) p.stack (Some t) (Some (Raw.empty_scalar (written.anchor_of o') (written.tag_of o'))) at.done p.stack)
     → ((names : Names) → IsNamed p.names names → Registers p (Some x) names (λ a b. (n ≡ a) × (u ≡ b)) r)
-    → Has s o (Some x) → At (at.behind place.Flow o) p s given → (names : Names) × At at.done r names (given ++ (Ev.scalar [] Style.plain n u, m) ∷ [])
+    → Has s o (Some x) → At (at.after_properties place.Flow o) p s given → (names : Names) × At at.done r names (given ++ (Ev.scalar [] Style.plain n u, m) ∷ [])
 properties_left {T} m {p} {r} {k} {n} {u} None {x} {s} {given} here turn registers has a = let b : false ≡ true = has.both in cc
 properties_left {T} m {p} {r} {k} {n} {u} (Some o) {x} {s} {given} here turn registers has a =
     let l = looked k p.tokens.peeked here in
@@ -145,18 +145,18 @@ abbrev pub Unnameable : Bool → Names → List Raw → Type 0
 Unnameable keep s es = named keep s es ≡ None
 
 pub unnameable_first : (keep : Bool) (s : Names) (e : Raw) (es : List Raw) → resolved_event s e ≡ None → Unnameable keep s (e ∷ es)
-unnameable_first keep s e es h = ap (λ o. both o (named keep (behind keep s e) es)) h
+unnameable_first keep s e es h = ap (λ o. both o (named keep (names_after keep s e) es)) h
 
 both_none : (o : Option Ev) → both o None ≡ None
 both_none None = refl
 both_none (Some v) = refl
 
-named_stops : (keep : Bool) (s : Names) (es fs : List Raw) → named keep (behind_all keep s es) fs ≡ None → named keep s (es ++ fs) ≡ None
+named_stops : (keep : Bool) (s : Names) (es fs : List Raw) → named keep (names_after_all keep s es) fs ≡ None → named keep s (es ++ fs) ≡ None
 named_stops keep s [] fs h = h
-named_stops keep s (e ∷ es) fs h = ap (both (resolved_event s e)) (named_stops keep (behind keep s e) es fs h) ∙ both_none (resolved_event s e)
+named_stops keep s (e ∷ es) fs h = ap (both (resolved_event s e)) (named_stops keep (names_after keep s e) es fs h) ∙ both_none (resolved_event s e)
 
 -- The token was taken, and nothing that goes on behind it can be named.
-unnamed : {T : Type 0} {g g' : Goal} {p r : Reader T} {t : Token} {ss : List State} {e : Option Raw} {names : Names} {given : List (Ev × Place)}
+unnamed : {T : Type 0} {g g' : Goal} {p r : Reader T} {t : Token} {ss : List State} {e : Option Raw} {names : Names} {given : List (Ev × Position)}
     → p.tokens.peeked ≡ Some t → Skips p.tokens t r.tokens → r.names.keeping ≡ p.names.keeping → Takes g p.stack (tok_of t.1) e g' ss
     → ((x : Awaits g') (y : Rest ss) → Unnameable p.names.keeping.tags names (event_then e (still_events g' ss x y)))
     → At g p names given → IsStuck r given
@@ -187,7 +187,7 @@ unnamed {T} {g} {g'} {p} {r} {t} {ss} {e} {names} {given} here skips keep turn b
     }
 
 -- So it is refused, for a problem of names that fits it.
-pub unnamed_at : {T : Type 0} {g g' : Goal} {p r : Reader T} {t : Token} {m : Place} {ss : List State} {e : Option Raw} {names : Names} {given : List (Ev × Place)} (q : Problem)
+pub unnamed_at : {T : Type 0} {g g' : Goal} {p r : Reader T} {t : Token} {m : Position} {ss : List State} {e : Option Raw} {names : Names} {given : List (Ev × Position)} (q : Problem)
     → fits q (kind_of (tok_of t.1)) ≡ true → is_of_names q ≡ true → StandsAt q m (all_shown p.tokens.taken.items) (shown t)
     → p.tokens.peeked ≡ Some t → Skips p.tokens t r.tokens → r.names.keeping ≡ p.names.keeping → Takes g p.stack (tok_of t.1) e g' ss
     → ((x : Awaits g') (y : Rest ss) → Unnameable p.names.keeping.tags names (event_then e (still_events g' ss x y)))
@@ -209,7 +209,7 @@ unnamed_at {T} {p = p} {r = r} {t = t} q fit of_names stands here skips keep tur
 -- ---- small steps
 
 -- what is pending does not depend on the place
-pub pending_same : (w u : places.Place) (names : Names) (o : Option written.Properties) → IsPending names (at.behind w o) → IsPending names (at.behind u o)
+pub pending_same : (w u : places.Place) (names : Names) (o : Option written.Properties) → IsPending names (at.after_properties w o) → IsPending names (at.after_properties u o)
 pending_same w u names None h = tt
 pending_same w u names (Some o) h = h
 
@@ -229,8 +229,8 @@ pub block_mapping_alone : HasNoProperties kind.BlockMappingStart
 block_mapping_alone = record { alias = λ e. cc; anchor = λ e. cc; tag = λ e. cc }
 
 -- a node without properties
-pub bare : {T : Type 0} {p : Reader T} {k : Kind} (w : places.Place) {names : Names} {given : List (Ev × Place)} → IsOfKind k p.tokens.peeked → HasNoProperties k
-    → At (at.node w) p names given → At (at.behind w None) p names given
+pub bare : {T : Type 0} {p : Reader T} {k : Kind} (w : places.Place) {names : Names} {given : List (Ev × Position)} → IsOfKind k p.tokens.peeked → HasNoProperties k
+    → At (at.node w) p names given → At (at.after_properties w None) p names given
 bare w here plain a = stays here stay (λ t h. turn.node_content _ _ t (not_as plain.alias h) (not_as plain.anchor h) (not_as plain.tag h)) refl tt refl a
 
 -- what begins no block collection
@@ -239,13 +239,13 @@ pub record BeginsNoBlock (k : Kind) : Type 0 where
   pub sequence : k ≢ kind.BlockSequenceStart
   pub mapping : k ≢ kind.BlockMappingStart
 
-block_in_flow : {T : Type 0} {p : Reader T} {k : Kind} (o : Option written.Properties) {names : Names} {given : List (Ev × Place)} → IsOfKind k p.tokens.peeked → BeginsNoBlock k
-    → At (at.behind place.Block o) p names given → At (at.behind place.Flow o) p names given
+block_in_flow : {T : Type 0} {p : Reader T} {k : Kind} (o : Option written.Properties) {names : Names} {given : List (Ev × Position)} → IsOfKind k p.tokens.peeked → BeginsNoBlock k
+    → At (at.after_properties place.Block o) p names given → At (at.after_properties place.Flow o) p names given
 block_in_flow o {names} here none a = stays here stay (λ t e. turn.block_flow _ o t (not_as none.sequence e) (not_as none.mapping e)) refl (pending_same place.Block place.Flow names o a.pending) refl a
 
 -- What begins no block collection is flow content, wherever it stands.
-pub in_flow : {T : Type 0} {p : Reader T} {k : Kind} (w : places.Place) (o : Option written.Properties) {names : Names} {given : List (Ev × Place)} → IsOfKind k p.tokens.peeked → BeginsNoBlock k
-    → At (at.behind w o) p names given → At (at.behind place.Flow o) p names given
+pub in_flow : {T : Type 0} {p : Reader T} {k : Kind} (w : places.Place) (o : Option written.Properties) {names : Names} {given : List (Ev × Position)} → IsOfKind k p.tokens.peeked → BeginsNoBlock k
+    → At (at.after_properties w o) p names given → At (at.after_properties place.Flow o) p names given
 in_flow place.Flow o here none a = a
 in_flow place.Block o here none a = block_in_flow o here none a
 in_flow place.Part o {names} here none a = block_in_flow o here none (stays here stay (λ t e. turn.part_block _ o t (not_as none.entry e)) refl (pending_same place.Part place.Block names o a.pending) refl a)
@@ -270,7 +270,7 @@ pub alias_text : {t : Tok} {x : List ℕ} → kind_of t ≡ kind.Alias → (t �
 alias_text {t} {x} h (inl e) = e
 alias_text {t} {x} h (inr e) = let f : kind.Anchor ≡ kind.Alias = sym (ap kind_of e) ∙ h in cc
 
-pub alias_taken : {T : Type 0} (m : Place) {p r : Reader T} {t : Token} {w : places.Place} {x : List ℕ} {n : ℕ} {names : Names} {given : List (Ev × Place)}
+pub alias_taken : {T : Type 0} (m : Position) {p r : Reader T} {t : Token} {w : places.Place} {x : List ℕ} {n : ℕ} {names : Names} {given : List (Ev × Position)}
     → p.tokens.peeked ≡ Some t → t.0 ≡ m → Skips p.tokens t r.tokens → r.stack ≡ p.stack → r.names ≡ p.names → tok_of t.1 ≡ Tok.alias x → under_name x names.anchors ≡ Some n
     → At (at.node w) p names given → (names' : Names) × At at.done r names' (given ++ (Ev.alias n, m) ∷ [])
 alias_taken {T} m {p} {r} {t} {w} {x} {n} {names} {given} here mark skips stack same tok found a = (
@@ -283,34 +283,34 @@ alias_taken {T} m {p} {r} {t} {w} {x} {n} {names} {given} here mark skips stack 
 unknown_is_other : UnknownAnchor ≡ UndeclaredHandle → ⊥
 unknown_is_other e = cc
 
-pub alias_unknown : {T : Type 0} {p r : Reader T} {t : Token} {m : Place} {w : places.Place} {x : List ℕ} {names : Names} {given : List (Ev × Place)}
+pub alias_unknown : {T : Type 0} {p r : Reader T} {t : Token} {m : Position} {w : places.Place} {x : List ℕ} {names : Names} {given : List (Ev × Position)}
     → p.tokens.peeked ≡ Some t → t.0 ≡ m → Skips p.tokens t r.tokens → r.names ≡ p.names → tok_of t.1 ≡ Tok.alias x → under_name x names.anchors ≡ None → At (at.node w) p names given → Faulted r given (stop.Own (fault.At UnknownAnchor m))
 alias_unknown {T} {p} {r} {t} {m} {w} {x} {names} {given} here mark skips same tok missing a =
     unnamed_at UnknownAnchor (ap (λ u. fits UnknownAnchor (kind_of u)) tok) refl (inl (sym mark, λ e. absurd (unknown_is_other e))) here skips (ap (λ z. z.keeping) same) (subst (λ u. Takes (at.node w) p.stack u (Some (Raw.alias x)) at.done p.stack) (sym tok) (turn.node_alias w p.stack x))
     (λ y z. unnameable_first p.names.keeping.tags names (Raw.alias x) (still_events at.done p.stack y z) (ap (option_map Ev.alias) missing)) a
 
-pub anchor_taken : {T : Type 0} {p r : Reader T} {t : Token} {w : places.Place} {x : List ℕ} {names : Names} {given : List (Ev × Place)}
+pub anchor_taken : {T : Type 0} {p r : Reader T} {t : Token} {w : places.Place} {x : List ℕ} {names : Names} {given : List (Ev × Position)}
     → p.tokens.peeked ≡ Some t → Skips p.tokens t r.tokens → r.stack ≡ p.stack → r.names ≡ p.names → tok_of t.1 ≡ Tok.anchor x → At (at.node w) p names given → At (at.behind_anchor w x) r names given
 anchor_taken {T} {p} {r} {t} {w} {x} {names} {given} here skips stack same tok a =
     took_on here skips stack (subst (λ u. Takes (at.node w) p.stack u None (at.behind_anchor w x) p.stack) (sym tok) (turn.node_anchor w p.stack x))
     (ap (λ z. z.keeping) same) (subst (λ z. IsNamed z names) (sym same) a.code) tt (λ b. (refl, ap is_end tok)) (ap gives_place tok) a
 
-pub tag_taken : {T : Type 0} {p r : Reader T} {t : Token} {w : places.Place} {x : event.Tag} {u : event.Tag} {names : Names} {given : List (Ev × Place)}
+pub tag_taken : {T : Type 0} {p r : Reader T} {t : Token} {w : places.Place} {x : event.Tag} {u : event.Tag} {names : Names} {given : List (Ev × Position)}
     → p.tokens.peeked ≡ Some t → Skips p.tokens t r.tokens → r.stack ≡ p.stack → r.names ≡ p.names → tok_of t.1 ≡ written.tag_token x → resolved names.handles x ≡ Some u → At (at.node w) p names given → At (at.behind_tag w x) r names given
 tag_taken {T} {p} {r} {t} {w} {x} {u} {names} {given} here skips stack same tok known a =
     took_on here skips stack (subst (λ z. Takes (at.node w) p.stack z None (at.behind_tag w x) p.stack) (sym tok) (turn.node_tag w p.stack x))
     (ap (λ z. z.keeping) same) (subst (λ z. IsNamed z names) (sym same) a.code) (is_some_of known) (λ b. (refl, ap is_end tok)) (ap gives_place tok) a
 
-pub tag_behind_anchor : {T : Type 0} {p r : Reader T} {t : Token} {w : places.Place} {y : List ℕ} {x : event.Tag} {u : event.Tag} {names : Names} {given : List (Ev × Place)}
-    → p.tokens.peeked ≡ Some t → Skips p.tokens t r.tokens → r.stack ≡ p.stack → r.names ≡ p.names → tok_of t.1 ≡ written.tag_token x → resolved names.handles x ≡ Some u → At (at.behind_anchor w y) p names given → At (at.behind w (Some (written.anchored_tagged y x))) r names given
+pub tag_behind_anchor : {T : Type 0} {p r : Reader T} {t : Token} {w : places.Place} {y : List ℕ} {x : event.Tag} {u : event.Tag} {names : Names} {given : List (Ev × Position)}
+    → p.tokens.peeked ≡ Some t → Skips p.tokens t r.tokens → r.stack ≡ p.stack → r.names ≡ p.names → tok_of t.1 ≡ written.tag_token x → resolved names.handles x ≡ Some u → At (at.behind_anchor w y) p names given → At (at.after_properties w (Some (written.anchored_tagged y x))) r names given
 tag_behind_anchor {T} {p} {r} {t} {w} {y} {x} {u} {names} {given} here skips stack same tok known a =
-    took_on here skips stack (subst (λ z. Takes (at.behind_anchor w y) p.stack z None (at.behind w (Some (written.anchored_tagged y x))) p.stack) (sym tok) (turn.anchor_tag w p.stack y x))
+    took_on here skips stack (subst (λ z. Takes (at.behind_anchor w y) p.stack z None (at.after_properties w (Some (written.anchored_tagged y x))) p.stack) (sym tok) (turn.anchor_tag w p.stack y x))
     (ap (λ z. z.keeping) same) (subst (λ z. IsNamed z names) (sym same) a.code) (is_some_of (ap (option_map Some) known)) (λ b. (refl, ap is_end tok)) (ap gives_place tok) a
 
-pub anchor_behind_tag : {T : Type 0} {p r : Reader T} {t : Token} {w : places.Place} {y : List ℕ} {x : event.Tag} {u : event.Tag} {names : Names} {given : List (Ev × Place)}
-    → p.tokens.peeked ≡ Some t → Skips p.tokens t r.tokens → r.stack ≡ p.stack → r.names ≡ p.names → tok_of t.1 ≡ Tok.anchor y → resolved names.handles x ≡ Some u → At (at.behind_tag w x) p names given → At (at.behind w (Some (written.tagged_anchored x y))) r names given
+pub anchor_behind_tag : {T : Type 0} {p r : Reader T} {t : Token} {w : places.Place} {y : List ℕ} {x : event.Tag} {u : event.Tag} {names : Names} {given : List (Ev × Position)}
+    → p.tokens.peeked ≡ Some t → Skips p.tokens t r.tokens → r.stack ≡ p.stack → r.names ≡ p.names → tok_of t.1 ≡ Tok.anchor y → resolved names.handles x ≡ Some u → At (at.behind_tag w x) p names given → At (at.after_properties w (Some (written.tagged_anchored x y))) r names given
 anchor_behind_tag {T} {p} {r} {t} {w} {y} {x} {u} {names} {given} here skips stack same tok known a =
-    took_on here skips stack (subst (λ z. Takes (at.behind_tag w x) p.stack z None (at.behind w (Some (written.tagged_anchored x y))) p.stack) (sym tok) (turn.tag_anchor w p.stack x y))
+    took_on here skips stack (subst (λ z. Takes (at.behind_tag w x) p.stack z None (at.after_properties w (Some (written.tagged_anchored x y))) p.stack) (sym tok) (turn.tag_anchor w p.stack x y))
     (ap (λ z. z.keeping) same) (subst (λ z. IsNamed z names) (sym same) a.code) (is_some_of (ap (option_map Some) known)) (λ b. (refl, ap is_end tok)) (ap gives_place tok) a
 
 content_unnameable : (keep : Bool) (s : Names) (w : places.Place) (o : Option written.Properties) (c : Option (ContentAt w)) (r : List Raw) → perhaps_resolved s.handles (perhaps_tag_of o) ≡ None → Unnameable keep s (perhaps_content_events w o c r)
@@ -349,7 +349,7 @@ anchor_named (Tok.anchor n) h = (n, refl)
 anchor_named _ h = cc
 
 -- Where a node is to be read, no anchor was taken last.
-no_anchor_before : {T : Type 0} {p : Reader T} {m : Place} (w : places.Place) {names : Names} {given : List (Ev × Place)}
+no_anchor_before : {T : Type 0} {p : Reader T} {m : Position} (w : places.Place) {names : Names} {given : List (Ev × Position)}
     → At (at.node w) p names given → EndsInAnchor (all_shown p.tokens.taken.items) m → ⊥
 no_anchor_before {T} {p} {m} w a e =
     let d = a.stands.sound (node_with_anchor w) (ending p.stack) in
@@ -360,20 +360,20 @@ no_anchor_before {T} {p} {m} w a e =
     no_two_anchors d.0 (toks e.before) n.0 [] rest
     (d.1 ∙ ap (λ xs. taken_toks p.tokens ++ xs) (begins_with_anchor w rest) ∙ ap (λ xs. xs ++ Tok.anchor [] ∷ rest) taken ∙ append_assoc (toks e.before) (Tok.anchor n.0 ∷ []) (Tok.anchor [] ∷ rest))
 
-pub tag_unknown : {T : Type 0} {p r : Reader T} {t : Token} {m : Place} {w : places.Place} {x : event.Tag} {names : Names} {given : List (Ev × Place)}
+pub tag_unknown : {T : Type 0} {p r : Reader T} {t : Token} {m : Position} {w : places.Place} {x : event.Tag} {names : Names} {given : List (Ev × Position)}
     → p.tokens.peeked ≡ Some t → t.0 ≡ m → Skips p.tokens t r.tokens → r.names ≡ p.names → tok_of t.1 ≡ written.tag_token x → resolved names.handles x ≡ None → At (at.node w) p names given → Faulted r given (stop.Own (fault.At UndeclaredHandle m))
 tag_unknown {T} {p} {r} {t} {m} {w} {x} {names} {given} here mark skips same tok missing a =
     unnamed_at UndeclaredHandle (ap (λ u. fits UndeclaredHandle (kind_of u)) tok) refl (inl (sym mark, λ e q before. no_anchor_before w a before)) here skips (ap (λ z. z.keeping) same) (subst (λ z. Takes (at.node w) p.stack z None (at.behind_tag w x) p.stack) (sym tok) (turn.node_tag w p.stack x))
     (λ y z. content_unnameable p.names.keeping.tags names w (Some (tag_and x y.0)) y.1 (rest_events p.stack z) (ap (perhaps_resolved names.handles) (tag_and_tag x y.0) ∙ ap (option_map Some) missing)) a
 
-pub tag_unknown_behind : {T : Type 0} {p r : Reader T} {t : Token} {m : Place} {w : places.Place} {v : List ℕ} {x : event.Tag} {names : Names} {given : List (Ev × Place)}
+pub tag_unknown_behind : {T : Type 0} {p r : Reader T} {t : Token} {m : Position} {w : places.Place} {v : List ℕ} {x : event.Tag} {names : Names} {given : List (Ev × Position)}
     → p.tokens.peeked ≡ Some t → EndsInAnchor (all_shown p.tokens.taken.items) m → Skips p.tokens t r.tokens → r.names ≡ p.names → tok_of t.1 ≡ written.tag_token x → resolved names.handles x ≡ None → At (at.behind_anchor w v) p names given → Faulted r given (stop.Own (fault.At UndeclaredHandle m))
 tag_unknown_behind {T} {p} {r} {t} {m} {w} {v} {x} {names} {given} here anchored skips same tok missing a =
-    unnamed_at UndeclaredHandle (ap (λ u. fits UndeclaredHandle (kind_of u)) tok) refl (inr (refl, anchored)) here skips (ap (λ z. z.keeping) same) (subst (λ z. Takes (at.behind_anchor w v) p.stack z None (at.behind w (Some (written.anchored_tagged v x))) p.stack) (sym tok) (turn.anchor_tag w p.stack v x))
+    unnamed_at UndeclaredHandle (ap (λ u. fits UndeclaredHandle (kind_of u)) tok) refl (inr (refl, anchored)) here skips (ap (λ z. z.keeping) same) (subst (λ z. Takes (at.behind_anchor w v) p.stack z None (at.after_properties w (Some (written.anchored_tagged v x))) p.stack) (sym tok) (turn.anchor_tag w p.stack v x))
     (λ y z. content_unnameable p.names.keeping.tags names w (Some (written.anchored_tagged v x)) y.0 (rest_events p.stack z) (ap (option_map Some) missing)) a
 
 -- An anchor was taken, and then a token was looked at.
-pub anchor_before : {T : Type 0} {p q : Tokens T} (r : Tokens T) {t : Token} {m : Place} → Skips p t q → r.taken ≡ q.taken → kind_of (tok_of t.1) ≡ kind.Anchor → t.0 ≡ m → EndsInAnchor (all_shown r.taken.items) m
+pub anchor_before : {T : Type 0} {p q : Tokens T} (r : Tokens T) {t : Token} {m : Position} → Skips p t q → r.taken ≡ q.taken → kind_of (tok_of t.1) ≡ kind.Anchor → t.0 ≡ m → EndsInAnchor (all_shown r.taken.items) m
 anchor_before {T} {p} {q} r {t} {m} skips taken is mark = record {
   before = all_shown p.taken.items;
   anchor = shown t;
@@ -382,7 +382,7 @@ anchor_before {T} {p} {q} r {t} {m} skips taken is mark = record {
   at = sym mark;
 }
 
-pub resolve_fails : {T : Type 0} (r : Reader T) (given : List (Ev × Place)) (m : Place) (names : Names) (t : event.Tag) (s : Stop) → Resolves m names t (Err s)
+pub resolve_fails : {T : Type 0} (r : Reader T) (given : List (Ev × Position)) (m : Position) (names : Names) (t : event.Tag) (s : Stop) → Resolves m names t (Err s)
     → (resolved names.handles t ≡ None → Faulted r given (stop.Own (fault.At UndeclaredHandle m))) → Faulted r given s
 resolve_fails r given m names t (stop.Own OutOfMemory) h f = tt
 resolve_fails r given m names t (stop.Own (fault.At q n)) h f = faulted_as r given (ap (λ x. stop.Own (fault.At x n)) h.1 ∙ ap (λ x. stop.Own (fault.At UndeclaredHandle x)) h.2) (f h.0)

@@ -5,7 +5,7 @@ use Rattle.std.specs.Option.{IfSome}
 use Rattle.std.specs.Result.{IsErrAnd}
 use Rattle.std.proofs.lemmas.Bool.{both_ways, and_parts, not-true}
 use Rattle.std.proofs.lemmas.List.{map-append}
-use Rattle.defs_text.specs.Position.{Place}
+use Rattle.defs_text.specs.Position.{Position}
 use Rattle.yaml_tokens.specs.Fault.{Fault}
 use Rattle.yaml_tokens.specs.declared.problem.Fault.TheVariants.{OutOfMemory}
 use Rattle.yaml_tokens.specs.declared.problem.Fault.TheVariants as fault
@@ -13,7 +13,7 @@ use Rattle.yaml_scanner.specs.Scanned.{scanned}
 use Rattle.defs_event.specs.Event.{Ev}
 use Rattle.defs_event.specs.Raw.{Raw}
 use Rattle.defs_event.specs.Names as defs
-use Rattle.defs_event.specs.Names.{named, both, no_names, behind_all, resolved_event, behind}
+use Rattle.defs_event.specs.Names.{named, both, no_names, names_after_all, resolved_event, names_after}
 use Rattle.defs_token.specs.Toks.{toks}
 use Rattle.defs_event.specs.Stream.{events_of, BeginsPlaced, NoneBegins}
 use Rattle.yaml_parser.specs.declared.event.Event.{Event}
@@ -37,7 +37,7 @@ use Rattle.yaml_parser.proofs.Holding.{Shows, held_sound, held_explained, has_en
 -- ---- what clauses see
 
 -- as the parser's view is made of its parts
-abbrev pub seen : {T : Type 0} → Pull T → List (Ev × Place) → Option (Event × Place) → Bool → Bool → Option Place → Parsed
+abbrev pub seen : {T : Type 0} → Pull T → List (Ev × Position) → Option (Event × Position) → Bool → Bool → Option Position → Parsed
 seen pull given current started ended misplaced = record {
   scanner = scanned pull.reader.tokens.scanner;
   given = given;
@@ -50,29 +50,29 @@ seen pull given current started ended misplaced = record {
   left = events_left pull.reader current;
 }
 
-pub read_none : (given : List (Ev × Place)) (b : Bool) → read_so given b None ≡ given
+pub read_none : (given : List (Ev × Position)) (b : Bool) → read_so given b None ≡ given
 read_none given true = refl
 read_none given false = refl
 
-read_next : (given : List (Ev × Place)) (b : Bool) (e : Ev × Place) → read_so given b (Some e) ≡ given ++ (if b then [] else e ∷ [])
+read_next : (given : List (Ev × Position)) (b : Bool) (e : Ev × Position) → read_so given b (Some e) ≡ given ++ (if b then [] else e ∷ [])
 read_next given true e = sym (append-nil given)
 read_next given false e = refl
 
-no_fault : {T : Type 0} (pull : Pull T) (misplaced : Option Place) → pull.kept ≡ None → misplaced ≡ None → fault_of_all misplaced pull ≡ None
+no_fault : {T : Type 0} (pull : Pull T) (misplaced : Option Position) → pull.kept ≡ None → misplaced ≡ None → fault_of_all misplaced pull ≡ None
 no_fault {T} pull misplaced h k = ap (λ m. fault_of_all m pull) k ∙ ap (option_map (λ x. fault_seen x.stop x.mark (scanned pull.reader.tokens.scanner).fault)) h
 
-shows : {T : Type 0} (pull : Pull T) (given : List (Ev × Place)) (current : Option (Event × Place)) (started ended : Bool) (misplaced : Option Place) (es : List (Ev × Place))
+shows : {T : Type 0} (pull : Pull T) (given : List (Ev × Position)) (current : Option (Event × Position)) (started ended : Bool) (misplaced : Option Position) (es : List (Ev × Position))
     → read_so given ended (option_map placed current) ≡ es → Shows pull.reader es (seen pull given current started ended misplaced)
 shows {T} pull given current started ended misplaced es h = record { scanner = refl; keep_tags = refl; steady = refl; events = h }
 
-sound : {T : Type 0} (pull : Pull T) (given : List (Ev × Place)) (current : Option (Event × Place)) (started ended : Bool) (misplaced : Option Place)
+sound : {T : Type 0} (pull : Pull T) (given : List (Ev × Position)) (current : Option (Event × Position)) (started ended : Bool) (misplaced : Option Position)
     → pull.kept ≡ None → misplaced ≡ None → IsHeld pull.reader (read_so given ended (option_map placed current)) pull.kept → IsSound (seen pull given current started ended misplaced)
 sound {T} pull given current started ended misplaced h k x =
     held_sound pull.reader (read_so given ended (option_map placed current)) (subst (IsHeld pull.reader (read_so given ended (option_map placed current))) h x) (seen pull given current started ended misplaced) (no_fault pull misplaced h k) (shows pull given current started ended misplaced (read_so given ended (option_map placed current)) refl)
 
 -- ---- at the beginning
 
-pub fresh_holds : {T : Type 0} (pull : Pull T) (given : List (Ev × Place)) → IsHeld pull.reader [] None → pull.kept ≡ None → given ≡ [] → Holds pull given None false false None
+pub fresh_holds : {T : Type 0} (pull : Pull T) (given : List (Ev × Position)) → IsHeld pull.reader [] None → pull.kept ≡ None → given ≡ [] → Holds pull given None false false None
 fresh_holds {T} pull given x kept h = record {
   held = subst (λ o. IsHeld pull.reader given o) (sym kept) (subst (λ es. IsHeld pull.reader es None) (sym h) x);
   first = λ b. h;
@@ -88,7 +88,7 @@ some_map f None h = cc
 some_map f (Some x) h = refl
 
 -- One waits already.
-pub waits_still : {T : Type 0} (pull : Pull T) (given : List (Ev × Place)) (current : Option (Event × Place)) (started ended : Bool) (misplaced : Option Place)
+pub waits_still : {T : Type 0} (pull : Pull T) (given : List (Ev × Position)) (current : Option (Event × Position)) (started ended : Bool) (misplaced : Option Position)
     → Holds pull given (option_map placed current) started ended misplaced → is_some current ≡ true → Waits (seen pull given current started ended misplaced) (seen pull given current started ended misplaced)
 waits_still {T} pull given current started ended misplaced h some =
     let there = some_map placed current some in
@@ -115,7 +115,7 @@ none_if None h = refl
 none_if (Some x) h = cc
 
 -- `load` met another event than a document's start.
-pub fault_misplaced : {T : Type 0} (pull : Pull T) (given : List (Ev × Place)) (current : Option (Event × Place)) (started ended : Bool) (misplaced : Option Place) (p : Place)
+pub fault_misplaced : {T : Type 0} (pull : Pull T) (given : List (Ev × Position)) (current : Option (Event × Position)) (started ended : Bool) (misplaced : Option Position) (p : Position)
     → Holds pull given (option_map placed current) started ended misplaced → is_some current ≡ false → misplaced ≡ Some p
     → GivesFault (seen pull given current started ended misplaced) (no_document p) (seen pull given current started ended misplaced)
 fault_misplaced {T} pull given current started ended misplaced p h none m =
@@ -140,20 +140,20 @@ fault_misplaced {T} pull given current started ended misplaced p h none m =
 -- ---- where nothing waited
 
 -- whether the end was read is whether it was given
-end_known : (given : List (Ev × Place)) (current : Option (Event × Place)) (ended : Bool) → ended ≡ has_end given → is_some current ≡ false → has_end (read_so given ended (option_map placed current)) ≡ ended
+end_known : (given : List (Ev × Position)) (current : Option (Event × Position)) (ended : Bool) → ended ≡ has_end given → is_some current ≡ false → has_end (read_so given ended (option_map placed current)) ≡ ended
 end_known given None ended h n = ap has_end (read_none given ended) ∙ sym h
 end_known given (Some e) ended h n = cc
 
-reads_given : (given : List (Ev × Place)) (current : Option (Event × Place)) (ended : Bool) → is_some current ≡ false → read_so given ended (option_map placed current) ≡ given
+reads_given : (given : List (Ev × Position)) (current : Option (Event × Position)) (ended : Bool) → is_some current ≡ false → read_so given ended (option_map placed current) ≡ given
 reads_given given None ended n = read_none given ended
 reads_given given (Some e) ended n = cc
 
-fault_open : {T : Type 0} (p : Reader T) (es : List (Ev × Place)) (o : Option Kept) {f : Fault} → option_map (λ k. fault_seen k.stop k.mark (scanned p.tokens.scanner).fault) o ≡ Some f → IsHeld p es o → has_end es ≡ false
+fault_open : {T : Type 0} (p : Reader T) (es : List (Ev × Position)) (o : Option Kept) {f : Fault} → option_map (λ k. fault_seen k.stop k.mark (scanned p.tokens.scanner).fault) o ≡ Some f → IsHeld p es o → has_end es ≡ false
 fault_open {T} p es None h x = cc
 fault_open {T} p es (Some k) h x = x.0
 
 -- A fault is met.
-pub fault_holds : {T : Type 0} (pull new : Pull T) (given : List (Ev × Place)) (current : Option (Event × Place)) (started ended : Bool) (misplaced : Option Place) {f : Fault}
+pub fault_holds : {T : Type 0} (pull new : Pull T) (given : List (Ev × Position)) (current : Option (Event × Position)) (started ended : Bool) (misplaced : Option Position) {f : Fault}
     → Holds pull given (option_map placed current) started ended misplaced → is_some current ≡ false
     → Continues pull (read_so given ended (option_map placed current)) (Err f) new → fault_kept new ≡ Some f → Holds new given (option_map placed current) started ended misplaced
 fault_holds {T} pull new given current started ended misplaced {f} h none x kept =
@@ -166,13 +166,13 @@ fault_holds {T} pull new given current started ended misplaced {f} h none x kept
       over = λ b. absurd (both_ways ended going b);
     }
 
-err_same : {x y : Fault} → ◌≡◌ {A = Result (Event × Place) Fault} (Err x) (Err y) → x ≡ y
+err_same : {x y : Fault} → ◌≡◌ {A = Result (Event × Position) Fault} (Err x) (Err y) → x ≡ y
 err_same {x} {y} h = cc
 
-pub fault_given : {T : Type 0} (pull new : Pull T) (given : List (Ev × Place)) (current : Option (Event × Place)) (started ended : Bool) (misplaced : Option Place) (f : Fault)
+pub fault_given : {T : Type 0} (pull new : Pull T) (given : List (Ev × Position)) (current : Option (Event × Position)) (started ended : Bool) (misplaced : Option Position) (f : Fault)
     → Holds pull given (option_map placed current) started ended misplaced → is_some current ≡ false → misplaced ≡ None
     → Continues pull (read_so given ended (option_map placed current)) (Err f) new → fault_kept new ≡ Some f
-    → IfSome (fault_kept pull) (λ g. (◌≡◌ {A = Result (Event × Place) Fault} (Err f) (Err g)) × (new ≡ pull)) → new.reader.names.keeping ≡ pull.reader.names.keeping
+    → IfSome (fault_kept pull) (λ g. (◌≡◌ {A = Result (Event × Position) Fault} (Err f) (Err g)) × (new ≡ pull)) → new.reader.names.keeping ≡ pull.reader.names.keeping
     → GivesFault (seen pull given current started ended misplaced) f (seen new given current started ended misplaced)
 fault_given {T} pull new given current started ended misplaced f h none clear x kept again keeping =
     let es = read_so given ended (option_map placed current) in
@@ -189,7 +189,7 @@ fault_given {T} pull new given current started ended misplaced f h none clear x 
       why = λ b. held_explained new.reader es new.kept f kept x (seen new given current started ended misplaced) (shows new given current started ended misplaced es refl);
     }
   where
-    again_seen : (o : Option Fault) → IfSome o (λ g. (◌≡◌ {A = Result (Event × Place) Fault} (Err f) (Err g)) × (new ≡ pull)) → IfSome o (λ g. (f ≡ g) × (seen new given current started ended misplaced ≡ seen pull given current started ended misplaced))
+    again_seen : (o : Option Fault) → IfSome o (λ g. (◌≡◌ {A = Result (Event × Position) Fault} (Err f) (Err g)) × (new ≡ pull)) → IfSome o (λ g. (f ≡ g) × (seen new given current started ended misplaced ≡ seen pull given current started ended misplaced))
     again_seen None a = tt
     again_seen (Some g) a = (err_same a.0, ap (λ p. seen p given current started ended misplaced) a.1)
 
@@ -198,14 +198,14 @@ looks_err old new (Ok u) f h x = absurd h
 looks_err old new (Err e) f h x = subst (λ y. GivesFault old y new) (sym h) x
 
 -- An event is read.
-record Next {T : Type 0} (pull new : Pull T) (given : List (Ev × Place)) (started ended : Bool) (e : Event × Place) : Type 0 where
+record Next {T : Type 0} (pull new : Pull T) (given : List (Ev × Position)) (started ended : Bool) (e : Event × Position) : Type 0 where
   pub held : IsHeld new.reader (read_so given ended (Some (placed e))) new.kept
   pub over : ended ≡ true → ev_of e.0 ≡ Ev.stream_end
   pub less : ev_of e.0 ≢ Ev.stream_end → work new.reader < work pull.reader
   pub before : pull.kept ≡ None
-  pub behind : new.kept ≡ None
+  pub names_after : new.kept ≡ None
 
-next_held : {T : Type 0} (pull new : Pull T) (given : List (Ev × Place)) (current : Option (Event × Place)) (started ended : Bool) (e : Event × Place)
+next_held : {T : Type 0} (pull new : Pull T) (given : List (Ev × Position)) (current : Option (Event × Position)) (started ended : Bool) (e : Event × Position)
     → ended ≡ has_end given → IsHeld pull.reader (read_so given ended (option_map placed current)) pull.kept → is_some current ≡ false
     → Continues pull (read_so given ended (option_map placed current)) (Ok e) new → Next pull new given started ended e
 next_held {T} pull new given current started ended e end held none (k, l, inl a) =
@@ -217,7 +217,7 @@ next_held {T} pull new given current started ended e end held none (k, l, inl a)
       over = λ b. a.2;
       less = λ n. absurd (n a.2);
       before = k;
-      behind = l;
+      names_after = l;
     }
 next_held {T} pull new given current started ended e end held none (k, l, inr b) =
     let es = read_so given ended (option_map placed current) in
@@ -228,10 +228,10 @@ next_held {T} pull new given current started ended e end held none (k, l, inr b)
       over = λ c. absurd (both_ways ended going c);
       less = λ n. b.1;
       before = k;
-      behind = l;
+      names_after = l;
     }
 
-pub next_holds : {T : Type 0} (pull new : Pull T) (given : List (Ev × Place)) (current : Option (Event × Place)) (started ended : Bool) (misplaced : Option Place) (e : Event × Place)
+pub next_holds : {T : Type 0} (pull new : Pull T) (given : List (Ev × Position)) (current : Option (Event × Position)) (started ended : Bool) (misplaced : Option Position) (e : Event × Position)
     → Holds pull given (option_map placed current) started ended misplaced → is_some current ≡ false → misplaced ≡ None
     → Continues pull (read_so given ended (option_map placed current)) (Ok e) new → Holds new given (Some (placed e)) started ended misplaced
 next_holds {T} pull new given current started ended misplaced e h none clear x =
@@ -244,7 +244,7 @@ next_holds {T} pull new given current started ended misplaced e h none clear x =
       over = λ b. (n.behind, clear, n.over b);
     }
 
-pub next_waits : {T : Type 0} (pull new : Pull T) (given : List (Ev × Place)) (current : Option (Event × Place)) (started ended : Bool) (misplaced : Option Place) (e : Event × Place)
+pub next_waits : {T : Type 0} (pull new : Pull T) (given : List (Ev × Position)) (current : Option (Event × Position)) (started ended : Bool) (misplaced : Option Position) (e : Event × Position)
     → Holds pull given (option_map placed current) started ended misplaced → is_some current ≡ false → misplaced ≡ None
     → Continues pull (read_so given ended (option_map placed current)) (Ok e) new → new.reader.names.keeping ≡ pull.reader.names.keeping
     → Waits (seen pull given current started ended misplaced) (seen new given (Some e) started ended misplaced)
@@ -266,7 +266,7 @@ next_waits {T} pull new given current started ended misplaced e h none clear x k
 
 -- ---- an event is given
 
-pub given_holds : {T : Type 0} (pull : Pull T) (given new : List (Ev × Place)) (e : Ev × Place) (started ended ended' : Bool) (misplaced : Option Place)
+pub given_holds : {T : Type 0} (pull : Pull T) (given new : List (Ev × Position)) (e : Ev × Position) (started ended ended' : Bool) (misplaced : Option Position)
     → Holds pull given (Some e) started ended misplaced → new ≡ given ++ (if ended then [] else e ∷ []) → ended' ≡ ended || is_stream_end e.0
     → Holds pull new None true ended' misplaced
 given_holds {T} pull given new e started ended ended' misplaced h more end =
@@ -283,7 +283,7 @@ given_holds {T} pull given new e started ended ended' misplaced h more end =
     ends_alike true k = k ∙ ap has_end (sym (append-nil given))
     ends_alike false k = ap (λ b. b || is_stream_end e.0) k ∙ sym (has_end_snoc given e)
 
-pub event_given : {T : Type 0} (pull : Pull T) (given new : List (Ev × Place)) (e : Event × Place) (started ended ended' : Bool) (misplaced : Option Place)
+pub event_given : {T : Type 0} (pull : Pull T) (given new : List (Ev × Position)) (e : Event × Position) (started ended ended' : Bool) (misplaced : Option Position)
     → Holds pull given (Some (placed e)) started ended misplaced → new ≡ given ++ (if ended then [] else placed e ∷ []) → ended' ≡ ended || is_stream_end (ev_of e.0)
     → GivesEvent (seen pull given (Some e) started ended misplaced) (placed e) (seen pull new None true ended' misplaced)
 event_given {T} pull given new e started ended ended' misplaced h more end =
@@ -302,12 +302,12 @@ event_given {T} pull given new e started ended ended' misplaced h more end =
       sound = sound pull new None true ended' misplaced c.0 c.1 n.held;
     }
 
-pub none_waits : (current : Option (Event × Place)) → is_some (option_map placed current) ≡ false → is_some current ≡ false
+pub none_waits : (current : Option (Event × Position)) → is_some (option_map placed current) ≡ false → is_some current ≡ false
 none_waits None h = h
 none_waits (Some e) h = h
 
 -- An event is read, and given at once.
-pub given_at_once : {T : Type 0} (pull new : Pull T) (given more : List (Ev × Place)) (current : Option (Event × Place)) (started ended ended' : Bool) (misplaced : Option Place) (e : Event × Place)
+pub given_at_once : {T : Type 0} (pull new : Pull T) (given more : List (Ev × Position)) (current : Option (Event × Position)) (started ended ended' : Bool) (misplaced : Option Position) (e : Event × Position)
     → Holds pull given (option_map placed current) started ended misplaced → is_some current ≡ false → misplaced ≡ None
     → Continues pull (read_so given ended (option_map placed current)) (Ok e) new → new.reader.names.keeping ≡ pull.reader.names.keeping
     → more ≡ given ++ (if ended then [] else placed e ∷ []) → ended' ≡ ended || is_stream_end (ev_of e.0)
@@ -333,7 +333,7 @@ given_at_once {T} pull new given more current started ended ended' misplaced e h
       },
     )
 
-pub all_noted : (xs ys : List (Event × Place)) (x : Event × Place) (b : Bool) → ys ≡ xs ++ (if b then [] else x ∷ []) → all_placed ys ≡ all_placed xs ++ (if b then [] else placed x ∷ [])
+pub all_noted : (xs ys : List (Event × Position)) (x : Event × Position) (b : Bool) → ys ≡ xs ++ (if b then [] else x ∷ []) → all_placed ys ≡ all_placed xs ++ (if b then [] else placed x ∷ [])
 all_noted xs ys x true h = ap all_placed h ∙ map-append placed xs []
 all_noted xs ys x false h = ap all_placed h ∙ map-append placed xs (x ∷ [])
 
@@ -341,7 +341,7 @@ all_noted xs ys x false h = ap all_placed h ∙ map-append placed xs (x ∷ [])
 
 named_nothing : (keep : Bool) (raw : List Raw) → named keep no_names raw ≡ Some [] → raw ≡ []
 named_nothing keep [] h = refl
-named_nothing keep (e ∷ es) h = not_nothing (resolved_event no_names e) (named keep (behind keep no_names e) es) h
+named_nothing keep (e ∷ es) h = not_nothing (resolved_event no_names e) (named keep (names_after keep no_names e) es) h
   where
     not_nothing : (o : Option Ev) (p : Option (List Ev)) → both o p ≡ Some [] → e ∷ es ≡ []
     not_nothing None p k = cc
@@ -352,7 +352,7 @@ goal_seen : (b : Bool) (keep : Bool) (names : defs.Names) → names_at keep (goa
 goal_seen true keep names = refl
 goal_seen false keep names = refl
 
-at_keeping : {T : Type 0} (b : Bool) (p : Reader T) (k : Keeping) (names : defs.Names) (es : List (Ev × Place)) → (k.steady ≡ true → (p.names.keeping.steady ≡ true) × ((es ≡ []) ⊎ (k.tags ≡ p.names.keeping.tags)))
+at_keeping : {T : Type 0} (b : Bool) (p : Reader T) (k : Keeping) (names : defs.Names) (es : List (Ev × Position)) → (k.steady ≡ true → (p.names.keeping.steady ≡ true) × ((es ≡ []) ⊎ (k.tags ≡ p.names.keeping.tags)))
     → At (goal_after b) p names es → At (goal_after b) (record p { names = record (p.names) { keeping = k } }) names es
 at_keeping {T} b p k names es f a =
     record {
@@ -369,8 +369,8 @@ at_keeping {T} b p k names es f a =
         | inr same ↦ ap (λ t. named t no_names a.raw) same ∙ a.events (f s).0
       ];
       names_are = λ s. elim (f s).1 [
-        | inl none ↦ ap (behind_all k.tags no_names) (nothing (f s).0 none) ∙ sym (ap (behind_all p.names.keeping.tags no_names) (nothing (f s).0 none)) ∙ a.names_are (f s).0
-        | inr same ↦ ap (λ t. behind_all t no_names a.raw) same ∙ a.names_are (f s).0
+        | inl none ↦ ap (names_after_all k.tags no_names) (nothing (f s).0 none) ∙ sym (ap (names_after_all p.names.keeping.tags no_names) (nothing (f s).0 none)) ∙ a.names_are (f s).0
+        | inr same ↦ ap (λ t. names_after_all t no_names a.raw) same ∙ a.names_are (f s).0
       ];
       code = subst (IsNamed (record (p.names) { keeping = k })) (sym (goal_seen b k.tags names)) (same_code (subst (IsNamed p.names) (goal_seen b p.names.keeping.tags names) a.code));
       pending = a.pending;
@@ -382,7 +382,7 @@ at_keeping {T} b p k names es f a =
     same_code : IsNamed p.names names → IsNamed (record (p.names) { keeping = k }) names
     same_code c = record { count = c.count; anchors = c.anchors; handles = c.handles; numbers = c.numbers }
 
-held_keeping : {T : Type 0} (p : Reader T) (k : Keeping) (es : List (Ev × Place)) (o : Option Kept)
+held_keeping : {T : Type 0} (p : Reader T) (k : Keeping) (es : List (Ev × Position)) (o : Option Kept)
     → (k.steady ≡ true → (p.names.keeping.steady ≡ true) × (((es ≡ []) × (o ≡ None)) ⊎ (k.tags ≡ p.names.keeping.tags)))
     → IsHeld p es o → IsHeld (record p { names = record (p.names) { keeping = k } }) es o
 held_keeping {T} p k es None f x = (x.0, at_keeping (has_end es) p k x.0 es (λ s. ((f s).0, elim (f s).1 [ inl none ↦ inl none.0 | inr same ↦ inr same ])) x.1)
@@ -419,7 +419,7 @@ same_bool true false h = cc
 same_bool false true h = cc
 
 -- A setting that counts from the start on was made where nothing was read, or is what it was.
-pub settings_hold : {T : Type 0} (pull : Pull T) (given : List (Ev × Place)) (current : Option (Event × Place)) (started ended : Bool) (misplaced : Option Place) (k : Keeping)
+pub settings_hold : {T : Type 0} (pull : Pull T) (given : List (Ev × Position)) (current : Option (Event × Position)) (started ended : Bool) (misplaced : Option Position) (k : Keeping)
     → Holds pull given (option_map placed current) started ended misplaced
     → k.steady ≡ stays_steady (seen pull given current started ended misplaced) k.tags
     → Holds (record pull { reader = record (pull.reader) { names = record (pull.reader.names) { keeping = k } } }) given (option_map placed current) started ended misplaced
@@ -435,7 +435,7 @@ settings_hold {T} pull given current started ended misplaced k h steady = record
     none_of f None e = refl
     none_of f (Some x) e = cc
 
-    none_of_all : (m : Option Place) → is_some (fault_of_all m pull) ≡ false → pull.kept ≡ None
+    none_of_all : (m : Option Position) → is_some (fault_of_all m pull) ≡ false → pull.kept ≡ None
     none_of_all None e = none_of (λ x. fault_seen x.stop x.mark (scanned pull.reader.tokens.scanner).fault) pull.kept e
     none_of_all (Some q) e = cc
 
@@ -454,7 +454,7 @@ settings_hold {T} pull given current started ended misplaced k h steady = record
 
 -- ---- an event stands where a document must start
 
-pub misplaced_holds : {T : Type 0} (pull : Pull T) (given : List (Ev × Place)) (ahead : Option (Ev × Place)) (started ended : Bool) (misplaced : Option Place) (p : Place)
+pub misplaced_holds : {T : Type 0} (pull : Pull T) (given : List (Ev × Position)) (ahead : Option (Ev × Position)) (started ended : Bool) (misplaced : Option Position) (p : Position)
     → Holds pull given ahead started ended misplaced → ahead ≡ None → ended ≡ false → Holds pull given ahead started ended (Some p)
 misplaced_holds {T} pull given ahead started ended misplaced p h none going = record {
   held = h.held;

@@ -1,6 +1,6 @@
 -- Events and the raw ones that they come of, side by side.
 use Rattle.std.proofs.Common.{◌≡◌, List, [], ◌∷◌, ◌++◌, Some, true, ap}
-use Rattle.defs_text.specs.Position.{Place}
+use Rattle.defs_text.specs.Position.{Position}
 use Rattle.defs_event.specs.Event.{Ev}
 use Rattle.defs_event.specs.Raw.{Raw}
 use Rattle.defs_event.specs.Names.{Names, both, resolved_event}
@@ -9,7 +9,7 @@ use Rattle.defs_event.proofs.Shaped.{Shaped, named_shaped}
 use Rattle.yaml_parser.specs.Nests.{AreResolved}
 
 -- One more is resolved.
-pub resolved_more : (m : Place) (rs : List Raw) (given : List (Ev × Place)) → AreResolved rs (events_of given) → (names : Names) (r : Raw) (v : Ev) → resolved_event names r ≡ Some v → AreResolved (rs ++ r ∷ []) (events_of (given ++ (v, m) ∷ []))
+pub resolved_more : (m : Position) (rs : List Raw) (given : List (Ev × Position)) → AreResolved rs (events_of given) → (names : Names) (r : Raw) (v : Ev) → resolved_event names r ≡ Some v → AreResolved (rs ++ r ∷ []) (events_of (given ++ (v, m) ∷ []))
 resolved_more m [] [] a names r v h = ((names, h), tt)
 resolved_more m [] (e ∷ es) a names r v h = absurd a
 resolved_more m (x ∷ rs) [] a names r v h = absurd a

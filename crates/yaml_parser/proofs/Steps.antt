@@ -1,7 +1,7 @@
 -- The turns over the code's state.
 use Rattle.std.proofs.Common.{◌≡◌, List, [], ◌∷◌, ◌++◌, Option, Some, None, option_map, Bool, true, false, ◌||◌, Result, Ok, Err, refl, sym, ap, ◌∙◌, subst, append-nil, map}
 use Rattle.std.proofs.lemmas.Bool.{or_parts, both_ways}
-use Rattle.defs_text.specs.Position.{Place}
+use Rattle.defs_text.specs.Position.{Position}
 use Rattle.defs_token.specs.Token as defs
 use Rattle.defs_token.specs.Token.{Tok, Style}
 use Rattle.yaml_tokens.specs.declared.token.Token.{Token}
@@ -10,7 +10,7 @@ use Rattle.yaml_scanner.specs.Scanned.{scanned}
 use Rattle.yaml_scanner.specs.Tokens.{is_end}
 use Rattle.defs_event.specs.Event.{Ev}
 use Rattle.defs_event.specs.Raw.{Raw}
-use Rattle.defs_event.specs.Names.{Names, no_names, named, both, behind, behind_all, resolved_event}
+use Rattle.defs_event.specs.Names.{Names, no_names, named, both, names_after, names_after_all, resolved_event}
 use Rattle.defs_token.specs.Toks.{toks}
 use Rattle.defs_event.specs.Stream.{events_of, given_places, has_place, gives_place}
 use Rattle.model_parser.specs.declared.kind.Kind.{Kind}
@@ -44,23 +44,23 @@ map_snoc f (y ∷ xs) x = ap (λ zs. f y ∷ zs) (map_snoc f xs x)
 taken_snoc : (ts : List Token) (t : Token) → toks (all_shown (ts ++ t ∷ [])) ≡ toks (all_shown ts) ++ tok_of t.1 ∷ []
 taken_snoc ts t = ap toks (map_snoc shown ts t) ∙ map_snoc (λ (x : defs.Token). x.tok) (all_shown ts) (shown t)
 
-pub behind_snoc : (keep : Bool) (s : Names) (es : List Raw) (e : Raw) → behind_all keep s (es ++ e ∷ []) ≡ behind keep (behind_all keep s es) e
+pub behind_snoc : (keep : Bool) (s : Names) (es : List Raw) (e : Raw) → names_after_all keep s (es ++ e ∷ []) ≡ names_after keep (names_after_all keep s es) e
 behind_snoc keep s [] e = refl
-behind_snoc keep s (x ∷ es) e = behind_snoc keep (behind keep s x) es e
+behind_snoc keep s (x ∷ es) e = behind_snoc keep (names_after keep s x) es e
 
 both_some : (o : Option Ev) (p : Option (List Ev)) (vs : List Ev) → both o p ≡ Some vs → (v : Ev) × (ws : List Ev) × (o ≡ Some v) × (p ≡ Some ws) × (vs ≡ v ∷ ws)
 both_some None p vs h = cc
 both_some (Some v) None vs h = cc
 both_some (Some v) (Some ws) vs h = (v, ws, refl, refl, cc)
 
-pub named_snoc : (keep : Bool) (s : Names) (es : List Raw) (e : Raw) (vs : List Ev) (v : Ev) → named keep s es ≡ Some vs → resolved_event (behind_all keep s es) e ≡ Some v → named keep s (es ++ e ∷ []) ≡ Some (vs ++ v ∷ [])
+pub named_snoc : (keep : Bool) (s : Names) (es : List Raw) (e : Raw) (vs : List Ev) (v : Ev) → named keep s es ≡ Some vs → resolved_event (names_after_all keep s es) e ≡ Some v → named keep s (es ++ e ∷ []) ≡ Some (vs ++ v ∷ [])
 named_snoc keep s [] e vs v h r =
     let x : vs ≡ [] = cc in
     ap (λ o. both o (Some [])) r ∙ ap (λ ws. Some (ws ++ v ∷ [])) (sym x)
 named_snoc keep s (x ∷ es) e vs v h r =
-    let b = both_some (resolved_event s x) (named keep (behind keep s x) es) vs h in
-    let i = named_snoc keep (behind keep s x) es e b.1 v b.3 r in
-    ap (λ o. both o (named keep (behind keep s x) (es ++ e ∷ []))) b.2 ∙ ap (λ p. both (Some b.0) p) i ∙ ap (λ ws. Some (ws ++ v ∷ [])) (sym b.4)
+    let b = both_some (resolved_event s x) (named keep (names_after keep s x) es) vs h in
+    let i = named_snoc keep (names_after keep s x) es e b.1 v b.3 r in
+    ap (λ o. both o (named keep (names_after keep s x) (es ++ e ∷ []))) b.2 ∙ ap (λ p. both (Some b.0) p) i ∙ ap (λ ws. Some (ws ++ v ∷ [])) (sym b.4)
 
 -- ---- tokens
 
@@ -94,25 +94,25 @@ skipped_stands {T} {p} {r} {t} {g} {g'} {ss} {ss'} {raw} {raw'} here s f h =
 -- An event is given, and these names are behind it.
 pub record Named {T : Type 0} (p r : Reader T) (g' : Goal) (names : Names) (e : Raw) (v : Ev) (names' : Names) : Type 0 where
   pub resolves : resolved_event names e ≡ Some v
-  pub behind_it : behind p.names.keeping.tags names e ≡ names'
+  pub behind_it : names_after p.names.keeping.tags names e ≡ names'
   pub keep : r.names.keeping ≡ p.names.keeping
   pub code : IsNamed r.names (names_at r.names.keeping.tags g' names')
   pub pending : IsPending names' g'
 
-events_more : {T : Type 0} (m : Place) {p r : Reader T} {g g' : Goal} {names names' : Names} {e : Raw} {v : Ev} {given : List (Ev × Place)}
+events_more : {T : Type 0} (m : Position) {p r : Reader T} {g g' : Goal} {names names' : Names} {e : Raw} {v : Ev} {given : List (Ev × Position)}
     → Named p r g' names e v names' → (a : At g p names given) → r.names.keeping.steady ≡ true
-    → (named r.names.keeping.tags no_names (a.raw ++ e ∷ []) ≡ Some (events_of (given ++ (v, m) ∷ []))) × (behind_all r.names.keeping.tags no_names (a.raw ++ e ∷ []) ≡ names')
+    → (named r.names.keeping.tags no_names (a.raw ++ e ∷ []) ≡ Some (events_of (given ++ (v, m) ∷ []))) × (names_after_all r.names.keeping.tags no_names (a.raw ++ e ∷ []) ≡ names')
 events_more {T} m {p} {r} {g} {g'} {names} {names'} {e} {v} {given} n a steady =
     let keep = p.names.keeping.tags in
     let before : p.names.keeping.steady ≡ true = ap (λ k. k.steady) (sym n.keep) ∙ steady in
     let one : named keep no_names (a.raw ++ e ∷ []) ≡ Some (events_of given ++ v ∷ []) = named_snoc keep no_names a.raw e (events_of given) v (a.events before) (ap (λ s. resolved_event s e) (a.names_are before) ∙ n.resolves) in
-    let two : behind_all keep no_names (a.raw ++ e ∷ []) ≡ names' = behind_snoc keep no_names a.raw e ∙ ap (λ s. behind keep s e) (a.names_are before) ∙ n.behind_it in (
-      ap (λ k. named k.tags no_names (a.raw ++ e ∷ [])) n.keep ∙ one ∙ ap Some (sym (map_snoc (λ (x : Ev × Place). x.0) given (v, m))),
-      ap (λ k. behind_all k.tags no_names (a.raw ++ e ∷ [])) n.keep ∙ two,
+    let two : names_after_all keep no_names (a.raw ++ e ∷ []) ≡ names' = behind_snoc keep no_names a.raw e ∙ ap (λ s. names_after keep s e) (a.names_are before) ∙ n.behind_it in (
+      ap (λ k. named k.tags no_names (a.raw ++ e ∷ [])) n.keep ∙ one ∙ ap Some (sym (map_snoc (λ (x : Ev × Position). x.0) given (v, m))),
+      ap (λ k. names_after_all k.tags no_names (a.raw ++ e ∷ [])) n.keep ∙ two,
     )
 
 -- The token is taken, and an event is given.
-pub took : {T : Type 0} (m : Place) {g g' : Goal} {p r : Reader T} {t : Token} {ss' : List State} {e : Raw} {v : Ev} {names names' : Names} {given : List (Ev × Place)}
+pub took : {T : Type 0} (m : Position) {g g' : Goal} {p r : Reader T} {t : Token} {ss' : List State} {e : Raw} {v : Ev} {names names' : Names} {given : List (Ev × Position)}
     → p.tokens.peeked ≡ Some t → Skips p.tokens t r.tokens → r.stack ≡ ss' → Takes g p.stack (tok_of t.1) (Some e) g' ss'
     → Named p r g' names e v names' → (is_over g' ≡ false → (is_over g ≡ false) × (is_end (tok_of t.1) ≡ false)) → IsPlaced e t m
     → At g p names given → At g' r names' (given ++ (v, m) ∷ [])
@@ -134,7 +134,7 @@ took {T} m {g} {g'} {p} {r} {t} {ss'} {e} {v} {names} {names'} {given} here s to
     }
 
 -- The token is taken, and no event is given.
-pub took_on : {T : Type 0} {g g' : Goal} {p r : Reader T} {t : Token} {ss' : List State} {names : Names} {given : List (Ev × Place)}
+pub took_on : {T : Type 0} {g g' : Goal} {p r : Reader T} {t : Token} {ss' : List State} {names : Names} {given : List (Ev × Position)}
     → p.tokens.peeked ≡ Some t → Skips p.tokens t r.tokens → r.stack ≡ ss' → Takes g p.stack (tok_of t.1) None g' ss'
     → r.names.keeping ≡ p.names.keeping → IsNamed r.names (names_at r.names.keeping.tags g' names) → IsPending names g' → (is_over g' ≡ false → (is_over g ≡ false) × (is_end (tok_of t.1) ≡ false)) → gives_place (tok_of t.1) ≡ false
     → At g p names given → At g' r names given
@@ -150,13 +150,13 @@ took_on {T} {g} {g'} {p} {r} {t} {ss'} {names} {given} here s to turn keep code 
       resolved = a.resolved;
       places = places_took_on a.raw given p.tokens.taken.items t r.tokens.taken.items s.taken spot a.places;
       events = λ b. ap (λ k. named k.tags no_names a.raw) keep ∙ a.events (ap (λ k. k.steady) (sym keep) ∙ b);
-      names_are = λ b. ap (λ k. behind_all k.tags no_names a.raw) keep ∙ a.names_are (ap (λ k. k.steady) (sym keep) ∙ b);
+      names_are = λ b. ap (λ k. names_after_all k.tags no_names a.raw) keep ∙ a.names_are (ap (λ k. k.steady) (sym keep) ∙ b);
       code = code;
       pending = pending;
     }
 
 -- The token stays, and an event is given.
-pub left : {T : Type 0} (m : Place) {g g' : Goal} {p r : Reader T} {o : Option Tok} {ss' : List State} {e : Raw} {v : Ev} {names names' : Names} {given : List (Ev × Place)}
+pub left : {T : Type 0} (m : Position) {g g' : Goal} {p r : Reader T} {o : Option Tok} {ss' : List State} {e : Raw} {v : Ev} {names names' : Names} {given : List (Ev × Position)}
     → peeked_tok p.tokens ≡ o → r.tokens ≡ p.tokens → r.stack ≡ ss' → Leaves g p.stack o (Some e) g' ss'
     → Named p r g' names e v names' → (is_over g || is_over g') ≡ false → has_place e ≡ false
     → At g p names given → At g' r names' (given ++ (v, m) ∷ [])
@@ -180,7 +180,7 @@ left {T} m {g} {g'} {p} {r} {o} {ss'} {e} {v} {names} {names'} {given} here same
     }
 
 -- The token stays, and no event is given; the code's names may change.
-pub left_as : {T : Type 0} {g g' : Goal} {p r : Reader T} {o : Option Tok} {ss' : List State} {names : Names} {given : List (Ev × Place)}
+pub left_as : {T : Type 0} {g g' : Goal} {p r : Reader T} {o : Option Tok} {ss' : List State} {names : Names} {given : List (Ev × Position)}
     → peeked_tok p.tokens ≡ o → r.tokens ≡ p.tokens → r.stack ≡ ss' → Leaves g p.stack o None g' ss'
     → r.names.keeping ≡ p.names.keeping → IsNamed r.names (names_at r.names.keeping.tags g' names) → IsPending names g' → (is_over g || is_over g') ≡ false
     → At g p names given → At g' r names given
@@ -198,13 +198,13 @@ left_as {T} {g} {g'} {p} {r} {o} {ss'} {names} {given} here same to turn keep co
       resolved = a.resolved;
       places = a.places ∙ sym (ap (λ x. given_places (all_shown x.taken.items)) same);
       events = λ b. ap (λ k. named k.tags no_names a.raw) keep ∙ a.events (ap (λ k. k.steady) (sym keep) ∙ b);
-      names_are = λ b. ap (λ k. behind_all k.tags no_names a.raw) keep ∙ a.names_are (ap (λ k. k.steady) (sym keep) ∙ b);
+      names_are = λ b. ap (λ k. names_after_all k.tags no_names a.raw) keep ∙ a.names_are (ap (λ k. k.steady) (sym keep) ∙ b);
       code = code;
       pending = pending;
     }
 
 -- The token stays, no event is given, and the code's names stay.
-pub left_on : {T : Type 0} {g g' : Goal} {p r : Reader T} {o : Option Tok} {ss' : List State} {names : Names} {given : List (Ev × Place)}
+pub left_on : {T : Type 0} {g g' : Goal} {p r : Reader T} {o : Option Tok} {ss' : List State} {names : Names} {given : List (Ev × Position)}
     → peeked_tok p.tokens ≡ o → r.tokens ≡ p.tokens → r.stack ≡ ss' → Leaves g p.stack o None g' ss'
     → r.names ≡ p.names → names_at p.names.keeping.tags g' names ≡ names_at p.names.keeping.tags g names → IsPending names g' → (is_over g || is_over g') ≡ false
     → At g p names given → At g' r names given
@@ -220,7 +220,7 @@ look_peeked g ss taken None q raw f s = stands_look g ss taken _ raw s
 look_peeked g ss taken (Some t) q raw f s = subst (λ x. Stands g ss taken (option_map (λ (y : Token). tok_of y.1) x) raw) (sym (f t refl)) s
 
 pub looks_on : {T : Type 0} {p r : Reader T} → r.tokens.taken ≡ p.tokens.taken → ((t : Token) → p.tokens.peeked ≡ Some t → r.tokens.peeked ≡ Some t) → (IsHanded p.tokens → IsHanded r.tokens) → (IsAwake p.tokens → IsAwake r.tokens)
-    → r.stack ≡ p.stack → r.names ≡ p.names → {g : Goal} {names : Names} {given : List (Ev × Place)} → is_over g ≡ false → At g p names given → At g r names given
+    → r.stack ≡ p.stack → r.names ≡ p.names → {g : Goal} {names : Names} {given : List (Ev × Position)} → is_over g ≡ false → At g p names given → At g r names given
 looks_on {T} {p} {r} taken same handed awake stack names_same {g} {names} {given} going a =
     let one : Stands g p.stack (taken_toks r.tokens) (peeked_tok p.tokens) a.raw = subst (λ ts. Stands g p.stack (toks (all_shown ts)) (peeked_tok p.tokens) a.raw) (ap (λ x. x.items) (sym taken)) a.stands in
     record {
@@ -233,7 +233,7 @@ looks_on {T} {p} {r} taken same handed awake stack names_same {g} {names} {given
       resolved = a.resolved;
       places = a.places ∙ sym (ap (λ x. given_places (all_shown x.items)) taken);
       events = λ b. ap (λ n. named n.keeping.tags no_names a.raw) names_same ∙ a.events (ap (λ n. n.keeping.steady) (sym names_same) ∙ b);
-      names_are = λ b. ap (λ n. behind_all n.keeping.tags no_names a.raw) names_same ∙ a.names_are (ap (λ n. n.keeping.steady) (sym names_same) ∙ b);
+      names_are = λ b. ap (λ n. names_after_all n.keeping.tags no_names a.raw) names_same ∙ a.names_are (ap (λ n. n.keeping.steady) (sym names_same) ∙ b);
       code = subst (λ n. IsNamed n (names_at n.keeping.tags g names)) (sym names_same) a.code;
       pending = a.pending;
     }

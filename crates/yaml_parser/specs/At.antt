@@ -1,6 +1,6 @@
 -- Where the productions stand.
 use Rattle.std.specs.Prelude.{◌≡◌, length, List, [], ◌∷◌, ◌++◌, Bool, true, false, Some, None, IsSome, Result, Ok, Err}
-use Rattle.defs_text.specs.Position.{Place}
+use Rattle.defs_text.specs.Position.{Position}
 use Rattle.defs_token.specs.Token as defs
 use Rattle.defs_token.specs.Token.{Tok}
 use Rattle.yaml_tokens.specs.declared.token.Token.{Token}
@@ -12,7 +12,7 @@ use Rattle.yaml_scanner.specs.Scanned.{scanned}
 use Rattle.defs_event.specs.Event.{Ev}
 use Rattle.defs_event.specs.Raw.{Raw}
 use Rattle.defs_event.specs.Grammar.{tag_of}
-use Rattle.defs_event.specs.Names.{Names, no_names, named, behind_all, at_document, are_allowed, resolved, perhaps_resolved}
+use Rattle.defs_event.specs.Names.{Names, no_names, named, names_after_all, at_document, are_allowed, resolved, perhaps_resolved}
 use Rattle.defs_token.specs.Toks.{toks}
 use Rattle.defs_event.specs.Stream.{BeginsPlaced, NoneBegins, events_of, places_of, taken_places, given_places}
 use Rattle.model_parser.specs.Goal as at
@@ -46,13 +46,13 @@ names_at keep g names = names
 abbrev pub IsPending : Names → Goal → Type 0
 IsPending names (at.directed ds) = are_allowed ds ≡ true
 IsPending names (at.behind_tag p t) = IsSome (resolved names.handles t)
-IsPending names (at.behind p (Some o)) = IsSome (perhaps_resolved names.handles (tag_of o))
+IsPending names (at.after_properties p (Some o)) = IsSome (perhaps_resolved names.handles (tag_of o))
 IsPending names g = Unit {0}
 
 -- ---- productions
 
 -- It reads this production; these events were given, and these are the names after them.
-pub record At {T : Type 0} (g : Goal) (p : Reader T) (names : Names) (given : List (Ev × Place)) : Type 0 where
+pub record At {T : Type 0} (g : Goal) (p : Reader T) (names : Names) (given : List (Ev × Position)) : Type 0 where
   pub raw : List Raw
   pub stands : Stands g p.stack (taken_toks p.tokens) (peeked_tok p.tokens) raw
   pub handed : IsHanded p.tokens
@@ -62,12 +62,12 @@ pub record At {T : Type 0} (g : Goal) (p : Reader T) (names : Names) (given : Li
   pub resolved : AreResolved raw (events_of given)
   pub places : taken_places raw (places_of given) ≡ given_places (all_shown p.tokens.taken.items)
   pub events : p.names.keeping.steady ≡ true → named p.names.keeping.tags no_names raw ≡ Some (events_of given)
-  pub names_are : p.names.keeping.steady ≡ true → behind_all p.names.keeping.tags no_names raw ≡ names
+  pub names_are : p.names.keeping.steady ≡ true → names_after_all p.names.keeping.tags no_names raw ≡ names
   pub code : IsNamed p.names (names_at p.names.keeping.tags g names)
   pub pending : IsPending names g
 
 -- The last token was refused.
-pub record IsStuck {T : Type 0} (p : Reader T) (given : List (Ev × Place)) : Type 0 where
+pub record IsStuck {T : Type 0} (p : Reader T) (given : List (Ev × Position)) : Type 0 where
   pub before : List defs.Token
   pub last : defs.Token
   pub handed : (scanned p.tokens.scanner).given ≡ before ++ last ∷ []
@@ -76,30 +76,30 @@ pub record IsStuck {T : Type 0} (p : Reader T) (given : List (Ev × Place)) : Ty
   pub begins : p.names.keeping.steady ≡ true → BeginsPlaced p.names.keeping.tags before given
   pub none : p.names.keeping.steady ≡ true → NoneBegins p.names.keeping.tags (toks (scanned p.tokens.scanner).given)
 
-abbrev pub Faulted : {T : Type 0} → Reader T → List (Ev × Place) → Stop → Type 0
+abbrev pub Faulted : {T : Type 0} → Reader T → List (Ev × Position) → Stop → Type 0
 Faulted p given (stop.Own OutOfMemory) = Unit {0}
 Faulted p given (stop.Own (fault.At problem mark)) = IsStuck p given × Blames (fault_of (fault.At problem mark) mark) (scanned p.tokens.scanner).given
 Faulted p given stop.Scan = IsSome (scanned p.tokens.scanner).fault
 Faulted p given stop.Ended = ⊥
 
-abbrev pub goal_behind : Ev → Goal
-goal_behind Ev.stream_end = at.ended
-goal_behind _ = at.done
+abbrev pub goal_after_event : Ev → Goal
+goal_after_event Ev.stream_end = at.ended
+goal_after_event _ = at.done
 
 -- An event more, or a fault.
-abbrev pub Answers : {T : Type 0} → Reader T → List (Ev × Place) → Result (Event × Place) Stop → Type 0
-Answers p given (Ok e) = (names : Names) × At (goal_behind (ev_of e.0)) p names (given ++ placed e ∷ [])
+abbrev pub Answers : {T : Type 0} → Reader T → List (Ev × Position) → Result (Event × Position) Stop → Type 0
+Answers p given (Ok e) = (names : Names) × At (goal_after_event (ev_of e.0)) p names (given ++ placed e ∷ [])
 Answers p given (Err s) = Faulted p given s
 
 -- what a production comes to
-abbrev pub Reads : {T : Type 0} → Goal → Reader T → Reader T → Result (Event × Place) Stop → Type 0
-Reads g old new result = (names : Names) (given : List (Ev × Place)) → At g old names given → Answers new given result
+abbrev pub Reads : {T : Type 0} → Goal → Reader T → Reader T → Result (Event × Position) Stop → Type 0
+Reads g old new result = (names : Names) (given : List (Ev × Position)) → At g old names given → Answers new given result
 
 abbrev pub Carries : {T : Type 0} → Goal → Reader T → Reader T → Type 0
-Carries g old new = (names : Names) (given : List (Ev × Place)) → At g old names given → At g new names given
+Carries g old new = (names : Names) (given : List (Ev × Position)) → At g old names given → At g new names given
 
 abbrev pub Fails : {T : Type 0} → Goal → Reader T → Reader T → Stop → Type 0
-Fails g old new s = (names : Names) (given : List (Ev × Place)) → At g old names given → Faulted new given s
+Fails g old new s = (names : Names) (given : List (Ev × Position)) → At g old names given → Faulted new given s
 
 -- ---- steps
 

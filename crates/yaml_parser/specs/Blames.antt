@@ -1,6 +1,6 @@
 -- The parser's own fault: what it says of the token that is refused.
 use Rattle.std.specs.Prelude.{◌≡◌, ◌⊎◌, List, [], ◌∷◌, ◌++◌, Bool, true, false, not, codes}
-use Rattle.defs_text.specs.Position.{Place}
+use Rattle.defs_text.specs.Position.{Position}
 use Rattle.defs_token.specs.Token.{Tok, Token}
 use Rattle.yaml_tokens.specs.Fault.{Fault}
 use Rattle.yaml_tokens.specs.Problem.{fault_of}
@@ -50,7 +50,7 @@ is_of_names problem.UndeclaredHandle = true
 is_of_names _ = false
 
 -- The last of these tokens is an anchor, at this place.
-pub record EndsInAnchor (tokens : List Token) (place : Place) : Type 0 where
+pub record EndsInAnchor (tokens : List Token) (place : Position) : Type 0 where
   pub before : List Token
   pub anchor : Token
   pub whole : tokens ≡ before ++ anchor ∷ []
@@ -59,9 +59,9 @@ pub record EndsInAnchor (tokens : List Token) (place : Place) : Type 0 where
 
 -- The place is that of the token. An undeclared handle's is that of the node's first property: the anchor's, where it stands
 -- right before the tag.
-abbrev pub StandsAt : Problem → Place → List Token → Token → Type 0
+abbrev pub StandsAt : Problem → Position → List Token → Token → Type 0
 StandsAt p place before last =
-    ((place ≡ last.place) × (p ≡ problem.UndeclaredHandle → (q : Place) → EndsInAnchor before q → ⊥))
+    ((place ≡ last.place) × (p ≡ problem.UndeclaredHandle → (q : Position) → EndsInAnchor before q → ⊥))
     ⊎ ((p ≡ problem.UndeclaredHandle) × EndsInAnchor before place)
 
 -- The fault refuses the last of these tokens: it has a text of the parser's that fits the token, and stands at it.

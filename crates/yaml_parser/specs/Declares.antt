@@ -1,6 +1,6 @@
 -- What one more directive comes to, after those that were read.
 use Rattle.std.specs.Prelude.{◌≡◌, ℕ, List, [], ◌∷◌, ◌++◌, Bool, false, Result, Ok, Err}
-use Rattle.defs_text.specs.Position.{Place}
+use Rattle.defs_text.specs.Position.{Position}
 use Rattle.yaml_tokens.specs.declared.problem.Fault.TheVariants.{OutOfMemory}
 use Rattle.yaml_tokens.specs.declared.problem.Fault.TheVariants as fault
 use Rattle.yaml_tokens.specs.declared.problem.Problem.TheVariants.{RepeatedHandle}
@@ -20,7 +20,7 @@ pub record HasRead (code : Names) (keep : Bool) (names : defs.Names) (read : Lis
 
 -- A handle more is declared; or it was declared before, and so whatever may stand after it has it
 -- twice. The fault's place is the mark.
-abbrev pub Declares : Place → Names → Bool → defs.Names → List Directive → (handle prefix : List ℕ) → Result (Unit {0}) Stop → Type 0
+abbrev pub Declares : Position → Names → Bool → defs.Names → List Directive → (handle prefix : List ℕ) → Result (Unit {0}) Stop → Type 0
 Declares mark code keep names read h p (Ok u) =
     HasRead code keep names (read ++ raw.tag h p ∷ []) × (is_each_once (declared (read ++ raw.tag h p ∷ [])) ≡ is_each_once (declared read))
 Declares mark code keep names read h p (Err (stop.Own OutOfMemory)) = Unit {0}

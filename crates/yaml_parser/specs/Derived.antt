@@ -1,6 +1,6 @@
 -- Events against tokens, whatever the setting of `keep_tags` was.
 use Rattle.std.specs.Prelude.{◌≡◌, List, ◌++◌, Bool, true, Some}
-use Rattle.defs_text.specs.Position.{Place}
+use Rattle.defs_text.specs.Position.{Position}
 use Rattle.defs_token.specs.Token.{Tok, Token}
 use Rattle.defs_event.specs.Event.{Ev}
 use Rattle.defs_event.specs.Raw.{Raw}
@@ -24,7 +24,7 @@ ForetellsRaw tokens raw = (d : Documents) (ts : List Tok) → stream_tokens d �
 
 -- The events come of the tokens: they are these of the token grammar, each resolved; the scalars, aliases and flow starts
 -- among them are those of these tokens, in order, each at its token's place.
-pub record IsDerived (steady keep_tags : Bool) (tokens : List Token) (raw : List Raw) (events : List (Ev × Place)) : Type 0 where
+pub record IsDerived (steady keep_tags : Bool) (tokens : List Token) (raw : List Raw) (events : List (Ev × Position)) : Type 0 where
   pub begins : BeginsRaw (toks tokens) raw
   pub resolved : AreResolved raw (events_of events)
   pub places : taken_places raw (places_of events) ≡ given_places tokens

@@ -1,6 +1,6 @@
 -- Where directives are read.
 use Rattle.std.specs.Prelude.{◌≡◌, List, Bool, false, if◌then◌else◌, Result, Ok, Err}
-use Rattle.defs_text.specs.Position.{Place}
+use Rattle.defs_text.specs.Position.{Position}
 use Rattle.defs_event.specs.Event.{Ev}
 use Rattle.defs_event.specs.Raw.{Directive}
 use Rattle.defs_event.specs.Names.{Names, versions}
@@ -11,23 +11,23 @@ use Rattle.yaml_parser.specs.Named.{IsOwn}
 use Rattle.yaml_parser.specs.At.{At, Faulted}
 
 -- Some directives were read, a version among them or none.
-pub record Directing {T : Type 0} (p : Reader T) (names : Names) (given : List (Ev × Place)) (versioned : Bool) : Type 0 where
+pub record Directing {T : Type 0} (p : Reader T) (names : Names) (given : List (Ev × Position)) (versioned : Bool) : Type 0 where
   pub read : List Directive
   pub here : At (at.directed read) p names given
   pub own : IsOwn p.names read
   pub version : versions read ≡ (if versioned then 1 else 0)
 
 -- The directives go on, or one is refused.
-abbrev pub DirectsTo : {T : Type 0} → Reader T → Names → List (Ev × Place) → Bool → Result (Unit {0}) Stop → Type 0
+abbrev pub DirectsTo : {T : Type 0} → Reader T → Names → List (Ev × Position) → Bool → Result (Unit {0}) Stop → Type 0
 DirectsTo p names given versioned (Ok u) = Directing p names given versioned
 DirectsTo p names given versioned (Err s) = Faulted p given s
 
 abbrev pub Directs : {T : Type 0} → Bool → Bool → Reader T → Reader T → Result (Unit {0}) Stop → Type 0
-Directs before after old new result = (names : Names) (given : List (Ev × Place)) → Directing old names given before → DirectsTo new names given after result
+Directs before after old new result = (names : Names) (given : List (Ev × Position)) → Directing old names given before → DirectsTo new names given after result
 
 -- All directives of a document are read.
 abbrev pub AreRead : {T : Type 0} → Reader T → Reader T → Type 0
-AreRead old new = (names : Names) (given : List (Ev × Place)) → Directing old names given false → (read : List Directive) × At (at.directed read) new names given
+AreRead old new = (names : Names) (given : List (Ev × Position)) → Directing old names given false → (read : List Directive) × At (at.directed read) new names given
 
 abbrev pub DirectivesFail : {T : Type 0} → Reader T → Reader T → Stop → Type 0
-DirectivesFail old new s = (names : Names) (given : List (Ev × Place)) → Directing old names given false → Faulted new given s
+DirectivesFail old new s = (names : Names) (given : List (Ev × Position)) → Directing old names given false → Faulted new given s

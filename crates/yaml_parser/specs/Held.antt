@@ -1,6 +1,6 @@
 -- What is known between two calls.
 use Rattle.std.specs.Prelude.{◌≡◌, ◌⊎◌, ◌<◌, List, [], ◌∷◌, ◌++◌, Bool, true, false, Option, Some, None, IsSome, IfSome, Result, Ok, Err}
-use Rattle.defs_text.specs.Position.{Place}
+use Rattle.defs_text.specs.Position.{Position}
 use Rattle.yaml_tokens.specs.Fault.{Fault}
 use Rattle.defs_event.specs.Event.{Ev}
 use Rattle.defs_event.specs.Names.{Names}
@@ -20,12 +20,12 @@ goal_after true = at.ended
 goal_after false = at.done
 
 -- These events were read, and the reader stands after them; or a fault was met there.
-abbrev pub IsHeld : {T : Type 0} → Reader T → List (Ev × Place) → Option Kept → Type 0
+abbrev pub IsHeld : {T : Type 0} → Reader T → List (Ev × Position) → Option Kept → Type 0
 IsHeld p read None = (names : Names) × At (goal_after (has_end read)) p names read
 IsHeld p read (Some k) = (has_end read ≡ false) × Faulted p read k.stop
 
 -- An event more is read; the stream's end comes again, and nothing changes; or a fault is met.
-abbrev pub Continues : {T : Type 0} → Pull T → List (Ev × Place) → Result (Event × Place) Fault → Pull T → Type 0
+abbrev pub Continues : {T : Type 0} → Pull T → List (Ev × Position) → Result (Event × Position) Fault → Pull T → Type 0
 Continues old read (Ok e) new =
     (old.kept ≡ None) × (new.kept ≡ None)
     × (((has_end read ≡ true) × (new ≡ old) × (ev_of e.0 ≡ Ev.stream_end))
@@ -33,7 +33,7 @@ Continues old read (Ok e) new =
 Continues old read (Err f) new = IsHeld new.reader read new.kept
 
 -- What is known of a parser.
-pub record Holds {T : Type 0} (pull : Pull T) (given : List (Ev × Place)) (ahead : Option (Ev × Place)) (started ended : Bool) (misplaced : Option Place) : Type 0 where
+pub record Holds {T : Type 0} (pull : Pull T) (given : List (Ev × Position)) (ahead : Option (Ev × Position)) (started ended : Bool) (misplaced : Option Position) : Type 0 where
   pub held : IsHeld pull.reader (read_so given ended ahead) pull.kept
   pub first : started ≡ false → given ≡ []
   pub end : ended ≡ has_end given

@@ -1,7 +1,7 @@
 -- What clauses see of a parser.
 use Rattle.std.specs.Prelude.{◌||◌, ◌&&◌, not, is_some, ℕ, List, [], ◌∷◌, ◌++◌, Bool, true, false, Option, Some, None}
 use Rattle.std.specs.Bool.{beq}
-use Rattle.defs_text.specs.Position.{Place}
+use Rattle.defs_text.specs.Position.{Position}
 use Rattle.yaml_tokens.specs.Fault.{Fault}
 use Rattle.yaml_scanner.specs.Scanned.{Scanned}
 use Rattle.defs_event.specs.Event.{Ev}
@@ -10,9 +10,9 @@ pub record Parsed : Type 0 where
   -- its scanner: the tokens that it handed out are those that the parser took from it
   pub scanner : Scanned
   -- the events that were given, with their places; the stream's end once
-  pub given : List (Ev × Place)
+  pub given : List (Ev × Position)
   -- the event that was looked at and waits
-  pub ahead : Option (Ev × Place)
+  pub ahead : Option (Ev × Position)
   -- the fault that is kept
   pub fault : Option Fault
   -- whether an event was given, and so the stream's start
@@ -47,17 +47,17 @@ is_document_end Ev.document_end = true
 is_document_end _ = false
 
 -- whether the stream's end is among these
-abbrev pub has_end : List (Ev × Place) → Bool
+abbrev pub has_end : List (Ev × Position) → Bool
 has_end [] = false
 has_end (e ∷ es) = is_stream_end e.0 || has_end es
 
 -- The events that were read: those given, and the one that waits. After the stream's end nothing more is noted.
-abbrev pub read_so : (given : List (Ev × Place)) → (ended : Bool) → (ahead : Option (Ev × Place)) → List (Ev × Place)
+abbrev pub read_so : (given : List (Ev × Position)) → (ended : Bool) → (ahead : Option (Ev × Position)) → List (Ev × Position)
 read_so given true ahead = given
 read_so given false None = given
 read_so given false (Some e) = given ++ e ∷ []
 
-abbrev pub read : Parsed → List (Ev × Place)
+abbrev pub read : Parsed → List (Ev × Position)
 read p = read_so p.given p.ended p.ahead
 
 -- Nothing was asked for.

@@ -33,9 +33,9 @@ pub record Has (names : Names) (o : Option written.Properties) (p : Option Prope
   pub tag : perhaps_resolved names.handles (written.perhaps_tag_of o) ≡ Some (kept_tag p)
 
 -- what a content comes to, after these properties
-abbrev pub ReadsBehind : {T : Type 0} → Place → Option Properties → Reader T → Reader T → Result (Event × chars.Place) Stop → Type 0
+abbrev pub ReadsBehind : {T : Type 0} → Place → Option Properties → Reader T → Reader T → Result (Event × chars.Position) Stop → Type 0
 ReadsBehind p properties old new result =
-    (o : Option written.Properties) (names : Names) (given : List (Ev × chars.Place)) → Has names o properties → At (at.behind p o) old names given → Answers new given result
+    (o : Option written.Properties) (names : Names) (given : List (Ev × chars.Position)) → Has names o properties → At (at.after_properties p o) old names given → Answers new given result
 
 -- The anchor of these properties is numbered, and nothing else changes.
 pub record Registers {T : Type 0} (old : Reader T) (properties : Option Properties) (names : Names) (gives : ℕ → Option defs.Tag → Type 0) (new : Reader T) : Type 0 where

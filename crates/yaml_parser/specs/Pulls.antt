@@ -1,7 +1,7 @@
 -- What the calls of a parser answer, and what they change.
 use Rattle.std.specs.Prelude.{◌≡◌, ◌≢◌, ◌||◌, ◌<◌, ◌≤◌, if◌then◌else◌, [], ◌∷◌, ◌++◌, true, false, Some, None, IsSome, IfSome, Result, Ok, Err}
 use Rattle.std.specs.Borrow.{Bor}
-use Rattle.defs_text.specs.Position.{Place}
+use Rattle.defs_text.specs.Position.{Position}
 use Rattle.yaml_tokens.specs.Fault.{Fault}
 use Rattle.defs_event.specs.Event.{Ev}
 use Rattle.defs_event.specs.PulledList.{Answer}
@@ -27,7 +27,7 @@ pub record IsSound (p : Parsed) : Type 0 where
   pub whole : p.steady ≡ true → has_end (read p) ≡ true → IsWhole p
 
 -- An event is given, the one that waited if one did. After the stream's end that end comes again, and is not noted.
-pub record GivesEvent (old : Parsed) (e : Ev × Place) (new : Parsed) : Type 0 where
+pub record GivesEvent (old : Parsed) (e : Ev × Position) (new : Parsed) : Type 0 where
   pub given : new.given ≡ old.given ++ (if old.ended then [] else e ∷ [])
   pub ended : new.ended ≡ old.ended || is_stream_end e.0
   pub started : new.started ≡ true
@@ -55,7 +55,7 @@ abbrev pub Pulls : Parsed → Answer Fault → Parsed → Type 0
 Pulls old (answer.event e p) new = GivesEvent old (e, p) new
 Pulls old (answer.fault f) new = GivesFault old f new
 
-abbrev pub answer_of : Result (Event × Place) Fault → Answer Fault
+abbrev pub answer_of : Result (Event × Position) Fault → Answer Fault
 answer_of (Ok e) = answer.event (ev_of e.0) e.1
 answer_of (Err f) = answer.fault f
 
@@ -78,7 +78,7 @@ Looks old (Ok u) new = Waits old new
 Looks old (Err f) new = GivesFault old f new
 
 -- This event waits after a look.
-abbrev pub ShowsNext : Parsed → Ev × Place → Type 0
+abbrev pub ShowsNext : Parsed → Ev × Position → Type 0
 ShowsNext old e = (new : Parsed) × Waits old new × (new.ahead ≡ Some e)
 
 -- A look meets this fault.
@@ -86,16 +86,16 @@ abbrev pub MeetsFault : Parsed → Fault → Type 0
 MeetsFault old f = (new : Parsed) × GivesFault old f new
 
 -- What `look` answered, as `peek` passes it on: the event that waits, or the fault.
-abbrev pub ShowsLooked : Result (Unit {0}) Fault → Parsed → Result (Bor (Event × Place)) Fault → Type 0
+abbrev pub ShowsLooked : Result (Unit {0}) Fault → Parsed → Result (Bor (Event × Position)) Fault → Type 0
 ShowsLooked looked new (Ok e) = (looked ≡ Ok tt) × (new.ahead ≡ Some (placed e.now))
 ShowsLooked looked new (Err f) = looked ≡ Err f
 
 -- one peek at the next event
-abbrev pub Peeks : Parsed → Result (Bor (Event × Place)) Fault → Parsed → Type 0
+abbrev pub Peeks : Parsed → Result (Bor (Event × Position)) Fault → Parsed → Type 0
 Peeks old (Ok e) new = Waits old new × (new.ahead ≡ Some (placed e.now))
 Peeks old (Err f) new = GivesFault old f new
 
 -- What a peek leaves of the parser, once the event that it showed is let go.
-pub record PeekLeaves {T : Type 0} (old : Parse T) (shown : Result (Bor (Event × Place)) Fault) (new : Parse T) : Type 0 where
+pub record PeekLeaves {T : Type 0} (old : Parse T) (shown : Result (Bor (Event × Position)) Fault) (new : Parse T) : Type 0 where
   pub start : new.start ≡ old.start
   pub peeks : Peeks (parsed old) shown (parsed new)

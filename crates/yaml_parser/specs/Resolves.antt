@@ -1,6 +1,6 @@
 -- What the resolution of a tag comes to. A fault's place is the mark.
 use Rattle.std.specs.Prelude.{◌≡◌, ℕ, List, Some, None, Result, Ok, Err}
-use Rattle.defs_text.specs.Position.{Place}
+use Rattle.defs_text.specs.Position.{Position}
 use Rattle.yaml_tokens.specs.declared.problem.Fault.TheVariants.{OutOfMemory}
 use Rattle.yaml_tokens.specs.declared.problem.Fault.TheVariants as fault
 use Rattle.yaml_tokens.specs.declared.problem.Problem.TheVariants.{UndeclaredHandle}
@@ -11,7 +11,7 @@ use Rattle.yaml_parser.specs.declared.tokens.Stop.{Stop}
 use Rattle.yaml_parser.specs.declared.tokens.Stop.TheVariants as stop
 use Rattle.yaml_parser.specs.Shown.{tag_of}
 
-abbrev pub Resolves : Place → Names → defs.Tag → Result Tag Stop → Type 0
+abbrev pub Resolves : Position → Names → defs.Tag → Result Tag Stop → Type 0
 Resolves mark names t (Ok x) = resolved names.handles t ≡ Some (tag_of x)
 Resolves mark names t (Err (stop.Own OutOfMemory)) = Unit {0}
 Resolves mark names t (Err (stop.Own (fault.At p m))) = (resolved names.handles t ≡ None) × (p ≡ UndeclaredHandle) × (m ≡ mark)
@@ -19,7 +19,7 @@ Resolves mark names t (Err stop.Scan) = ⊥
 Resolves mark names t (Err stop.Ended) = ⊥
 
 -- the same of a handle that was not declared
-abbrev pub IsUndeclared : Place → (handle suffix : List ℕ) → Result Tag Stop → Type 0
+abbrev pub IsUndeclared : Position → (handle suffix : List ℕ) → Result Tag Stop → Type 0
 IsUndeclared mark h x (Ok t) = (undeclared h ≡ Some (tag_of t).handle) × ((tag_of t).suffix ≡ x)
 IsUndeclared mark h x (Err (stop.Own OutOfMemory)) = Unit {0}
 IsUndeclared mark h x (Err (stop.Own (fault.At p m))) = (undeclared h ≡ None) × (p ≡ UndeclaredHandle) × (m ≡ mark)

@@ -1,6 +1,6 @@
 -- The events of the code, as clauses see them.
 use Rattle.std.specs.Prelude.{List, Bool, true, false, Option, option_map, is_some, map}
-use Rattle.defs_text.specs.Position.{Place}
+use Rattle.defs_text.specs.Position.{Position}
 use Rattle.defs_text.specs.Text.{string_chars}
 use Rattle.yaml_tokens.specs.Shown.{style_of}
 use Rattle.defs_event.specs.Event as defs
@@ -36,8 +36,8 @@ keeps_text (Ev.sequence_start a t) = is_some t
 keeps_text (Ev.mapping_start a t) = is_some t
 keeps_text _ = false
 
-abbrev pub placed : Event × Place → Ev × Place
+abbrev pub placed : Event × Position → Ev × Position
 placed e = (ev_of e.0, e.1)
 
-abbrev pub all_placed : List (Event × Place) → List (Ev × Place)
+abbrev pub all_placed : List (Event × Position) → List (Ev × Position)
 all_placed = map placed

@@ -1,6 +1,6 @@
 -- How a parser's fields are seen.
 use Rattle.std.specs.Prelude.{ℕ, ◌+◌, Option, Some, None, option_map}
-use Rattle.defs_text.specs.Position.{Place}
+use Rattle.defs_text.specs.Position.{Position}
 use Rattle.yaml_tokens.specs.Fault.{Fault}
 use Rattle.yaml_tokens.specs.Problem.{fault_of}
 use Rattle.yaml_tokens.specs.declared.problem.Fault.TheVariants as fault
@@ -22,10 +22,10 @@ abbrev pub events_left : {T A : Type 0} → Reader T → Option A → ℕ
 events_left r current = work r + one_if_some current
 
 -- the fault where no document starts
-abbrev pub no_document : Place → Fault
+abbrev pub no_document : Position → Fault
 no_document p = fault_of (fault.At DocumentStartEvent p) p
 
 -- the fault that is kept: that of `load` where no document started, or that of the pulls
-abbrev pub fault_of_all : {T : Type 0} → Option Place → Pull T → Option Fault
+abbrev pub fault_of_all : {T : Type 0} → Option Position → Pull T → Option Fault
 fault_of_all (Some p) pull = Some (no_document p)
 fault_of_all None pull = fault_kept pull

@@ -3,7 +3,7 @@ ghost use Rattle.std.specs.Iterator.{IsFinite, size};
 ghost use Rattle.yaml_scanner.specs.Scanned.{scanned};
 ghost use Rattle.model_parser.specs.declared.state.State.TheVariants.{StreamStart};
 ghost use Rattle.yaml_parser.specs.Shown.{placed, ev_of};
-ghost use Rattle.defs_text.specs.Position.{Place};
+ghost use Rattle.defs_text.specs.Position.{Position};
 ghost use Rattle.defs_event.specs.Event.{Ev};
 ghost use Rattle.yaml_parser.specs.Held.{IsHeld, Continues};
 ghost use Rattle.yaml_parser.specs.View.{fault_kept};
@@ -51,7 +51,7 @@ impl<T: Iterator<Item = char>> Pull<T> {
     /// The next event. After the stream's end comes that end again.
     #[inline(always)]
     pub fn next(&mut self) -> ParseResult
-        ensures continues { (read : List (Ev × Place)) → IsHeld self.old.reader read self.old.kept → Continues self.old read result self.new }
+        ensures continues { (read : List (Ev × Position)) → IsHeld self.old.reader read self.old.kept → Continues self.old read result self.new }
         ensures keeping { self.new.reader.names.keeping ≡ self.old.reader.names.keeping }
         ensures start { self.new.reader.tokens.scanner.start ≡ self.old.reader.tokens.scanner.start }
         ensures err { IfErr result (λ f. fault_kept self.new ≡ Some f) }

@@ -20,10 +20,10 @@ pub trait EventReceiver {
 /// Takes the events that a parser pushes by [`load`](crate::Parser::load), with their places. Every [`EventReceiver`]
 /// is a `MarkedEventReceiver`.
 pub trait MarkedEventReceiver {
-    ghost use Rattle.defs_text.specs.Position.{Place};
+    ghost use Rattle.defs_text.specs.Position.{Position};
 
     // What one call does: the receiver before it, the event and its place, the result, and the receiver after it.
-    ghost takes: { Self → Ev → Place → Result (Unit {0}) Fault → Self → Type 0 } = { λ _ _ _ _ _. Unit {0} };
+    ghost takes: { Self → Ev → Position → Result (Unit {0}) Fault → Self → Type 0 } = { λ _ _ _ _ _. Unit {0} };
 
     /// Takes an event and its place. An `Err` stops the call of `load`, which returns it.
     fn on_event(&mut self, ev: Event, mark: Marker) -> Result<(), ScanError>

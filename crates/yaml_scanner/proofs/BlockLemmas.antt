@@ -1,7 +1,7 @@
 -- Lemmas about block collections, keys and values.
 use Rattle.std.proofs.Common.{◌≡◌, ◌≢◌, ℕ, List, [], ◌∷◌, Bool, true, false, not, ◌&&◌, ◌||◌, ◌==◌, refl, ap, ◌∙◌, Option, Some, None, Result, Ok, Err, slice_index}
 use Rattle.std.proofs.lemmas.Bool.{ne_eqb}
-use Rattle.defs_text.specs.Position.{Place}
+use Rattle.defs_text.specs.Position.{Position}
 use Rattle.yaml_chars.specs.Reading.{Reading, Reads, SamePlace, place_of, after_char}
 use Rattle.yaml_chars.proofs.ReadingLemmas.{Reads-then}
 use Rattle.yaml_tokens.specs.declared.problem.Fault.{Fault}
@@ -77,7 +77,7 @@ pub key_spaced : (a : List ℕ) (c : ℕ) (h : Held) → c ≡ slice_index a 0 �
 unfolding check_key_space
 key_spaced a c h e n = let t : (peek a == 9) ≡ false = rw (← peek_is a, ← e) (ne_eqb c 9 n) in rw t refl
 
-pub key_not_spaced : (a : List ℕ) (c : ℕ) (h : Held) (p : Place) → c ≡ slice_index a 0 → c ≡ 9 → p ≡ h.place → check_key_space (record { rest = a; held = h }) ≡ Err (At problem.TabAfterKey p)
+pub key_not_spaced : (a : List ℕ) (c : ℕ) (h : Held) (p : Position) → c ≡ slice_index a 0 → c ≡ 9 → p ≡ h.place → check_key_space (record { rest = a; held = h }) ≡ Err (At problem.TabAfterKey p)
 unfolding check_key_space
 key_not_spaced a c h p e n q = let t : (peek a == 9) ≡ true = rw (← peek_is a, ← e, n) refl in rw (t, q) refl
 
@@ -85,7 +85,7 @@ pub word_apart : (w : Whitespace) (a : List ℕ) (b : Bool) (h : Held) → b ≡
 unfolding check_behind_tab
 word_apart w a b h e n = let t = rw (e, peek_is a) at n in rw t refl
 
-pub word_behind : (w : Whitespace) (a : List ℕ) (b : Bool) (h : Held) (p : Place) → b ≡ not w.has_valid_yaml_ws && ((slice_index a 0 == 45) || is_alpha (slice_index a 0)) → b ≡ true → p ≡ h.place → check_behind_tab w (record { rest = a; held = h }) ≡ Err (At problem.TabAfterColon p)
+pub word_behind : (w : Whitespace) (a : List ℕ) (b : Bool) (h : Held) (p : Position) → b ≡ not w.has_valid_yaml_ws && ((slice_index a 0 == 45) || is_alpha (slice_index a 0)) → b ≡ true → p ≡ h.place → check_behind_tab w (record { rest = a; held = h }) ≡ Err (At problem.TabAfterColon p)
 unfolding check_behind_tab
 word_behind w a b h p e n q = let t = rw (e, peek_is a) at n in rw (t, q) refl
 
@@ -93,7 +93,7 @@ pub dash_apart : (w : Whitespace) (a : List ℕ) (b : Bool) (h : Held) → b ≡
 unfolding check_dash
 dash_apart w a b h e n = let t = rw e at n in rw t refl
 
-pub dash_behind : (w : Whitespace) (a : List ℕ) (b : Bool) (h : Held) (p : Place) → b ≡ w.found_tabs && (slice_index a 0 == 45) && is_blank_or_breakz (slice_index a 1) → b ≡ true → p ≡ h.place → check_dash w (record { rest = a; held = h }) ≡ Err (At problem.TabAfterDash p)
+pub dash_behind : (w : Whitespace) (a : List ℕ) (b : Bool) (h : Held) (p : Position) → b ≡ w.found_tabs && (slice_index a 0 == 45) && is_blank_or_breakz (slice_index a 1) → b ≡ true → p ≡ h.place → check_dash w (record { rest = a; held = h }) ≡ Err (At problem.TabAfterDash p)
 unfolding check_dash
 dash_behind w a b h p e n q = let t = rw e at n in rw (t, q) refl
 
@@ -125,19 +125,19 @@ before_look f a b h r i p = rw (← i) p
 
 -- ---- keys and values
 
-pub key_inserted : (k l : Key) (p : Place) (pair : Bool) (n col : ℕ) (h u v w z : Held) (ks : List (Option Key)) → u ≡ put k.number k.place Tok.key h → l ≡ k → begin_pair l p pair u ≡ Ok v → n ≡ k.number → col ≡ k.place.col
+pub key_inserted : (k l : Key) (p : Position) (pair : Bool) (n col : ℕ) (h u v w z : Held) (ks : List (Option Key)) → u ≡ put k.number k.place Tok.key h → l ≡ k → begin_pair l p pair u ≡ Ok v → n ≡ k.number → col ≡ k.place.col
     → w ≡ roll_indent col (Some n) Tok.block_mapping_start p v → z ≡ roll_one_col_indent w → ks ≡ with_top None z.keys → insert_key k p pair h ≡ Ok (record z { keys = ks; key_allowed = false })
 unfolding insert_key
 key_inserted k l p pair n col h u v w z ks e d f m q i j t = let f' = rw (d, e) at f in let i' = rw (m, q) at i in let j' = rw i' at j in rw (f', t, j') refl
 
-pub key_refused : (k l : Key) (p : Place) (pair : Bool) (h u : Held) (x : Fault) → u ≡ put k.number k.place Tok.key h → l ≡ k → begin_pair l p pair u ≡ Err x → insert_key k p pair h ≡ Err x
+pub key_refused : (k l : Key) (p : Position) (pair : Bool) (h u : Held) (x : Fault) → u ≡ put k.number k.place Tok.key h → l ≡ k → begin_pair l p pair u ≡ Err x → insert_key k p pair h ≡ Err x
 unfolding insert_key
 key_refused k l p pair h u x e d f = let f' = rw (d, e) at f in rw f' refl
 
-pub keyless_begun : (p : Place) (pair : Bool) (h u v w : Held) (b : Bool) → u ≡ begin_keyless_pair pair h → begin_keyless_mapping p u ≡ Ok v → w ≡ roll_one_col_indent v → b ≡ in_flow w → begin_keyless_value p pair h ≡ Ok (record w { key_allowed = not b })
+pub keyless_begun : (p : Position) (pair : Bool) (h u v w : Held) (b : Bool) → u ≡ begin_keyless_pair pair h → begin_keyless_mapping p u ≡ Ok v → w ≡ roll_one_col_indent v → b ≡ in_flow w → begin_keyless_value p pair h ≡ Ok (record w { key_allowed = not b })
 unfolding begin_keyless_value
 keyless_begun p pair h u v w b e f i j = let f' = rw e at f in let j' = rw i at j in rw (f', j', i) refl
 
-pub keyless_refused : (p : Place) (pair : Bool) (h u : Held) (x : Fault) → u ≡ begin_keyless_pair pair h → begin_keyless_mapping p u ≡ Err x → begin_keyless_value p pair h ≡ Err x
+pub keyless_refused : (p : Position) (pair : Bool) (h u : Held) (x : Fault) → u ≡ begin_keyless_pair pair h → begin_keyless_mapping p u ≡ Err x → begin_keyless_value p pair h ≡ Err x
 unfolding begin_keyless_value
 keyless_refused p pair h u x e f = let f' = rw e at f in rw f' refl

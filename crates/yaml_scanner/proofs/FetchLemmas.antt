@@ -1,7 +1,7 @@
 -- Lemmas about the choice of the next token.
 use Rattle.std.proofs.Common.{◌≡◌, ℕ, List, [], ◌∷◌, Bool, true, false, ◌==◌, ◌&&◌, refl, ap, sym, ◌∙◌, Result, Ok, Err, slice_index}
 use Rattle.std.specs.Prelude.{OnOk, IfErr}
-use Rattle.defs_text.specs.Position.{Place}
+use Rattle.defs_text.specs.Position.{Position}
 use Rattle.yaml_chars.specs.Reading.{Reading, Reads, Sees, SamePlace}
 use Rattle.yaml_chars.proofs.ReadingLemmas.{Reads-then, Reads-see, Reads-saw}
 use Rattle.yaml_tokens.specs.declared.problem.Fault.{Fault}
@@ -51,23 +51,23 @@ pub fails_after : {T X : Type 0} (f : State → Result State Fault) (x0 x1 y : F
 fails_after f x0 x1 y (Ok v) look e d = tt
 fails_after f x0 x1 y (Err x) look e d = record { runs = Reads-then _ _ _ look d.runs (λ a b d p q n. rw (← p, ← e) (q n)) }
 
-pub spaces_passed : (tabs : SkipTabs) (a b : List ℕ) (h u : Held) (p q : Place) (w : Whitespace) → p ≡ h.place → space tabs a p ≡ Ok (record { rest = b; place = q; value = w }) → u ≡ record h { place = q }
+pub spaces_passed : (tabs : SkipTabs) (a b : List ℕ) (h u : Held) (p q : Position) (w : Whitespace) → p ≡ h.place → space tabs a p ≡ Ok (record { rest = b; place = q; value = w }) → u ≡ record h { place = q }
     → skip_spaces tabs (record { rest = a; held = h }) ≡ Ok (record { rest = b; held = u })
 unfolding skip_spaces
 spaces_passed tabs a b h u p q w e f g = let f' = rw e at f in rw (f', g) refl
 
-pub spaces_failed : (tabs : SkipTabs) (a : List ℕ) (h : Held) (p : Place) (x : Fault) → p ≡ h.place → space tabs a p ≡ Err x → skip_spaces tabs (record { rest = a; held = h }) ≡ Err x
+pub spaces_failed : (tabs : SkipTabs) (a : List ℕ) (h : Held) (p : Position) (x : Fault) → p ≡ h.place → space tabs a p ≡ Err x → skip_spaces tabs (record { rest = a; held = h }) ≡ Err x
 unfolding skip_spaces
 spaces_failed tabs a h p x e f = let f' = rw e at f in rw f' refl
 
-pub may_follow : (line : ℕ) (a b : List ℕ) (h u : Held) (m : Place) (c : ℕ) (flow same fits : Bool) → skip_spaces Yes (record { rest = a; held = h }) ≡ Ok (record { rest = b; held = u }) → c ≡ slice_index b 0 → m ≡ u.place → same ≡ (line == m.line) → flow ≡ in_flow u
+pub may_follow : (line : ℕ) (a b : List ℕ) (h u : Held) (m : Position) (c : ℕ) (flow same fits : Bool) → skip_spaces Yes (record { rest = a; held = h }) ≡ Ok (record { rest = b; held = u }) → c ≡ slice_index b 0 → m ≡ u.place → same ≡ (line == m.line) → flow ≡ in_flow u
     → fits ≡ may_follow_quoted flow same c → fits ≡ true → check_behind_quoted line (record { rest = a; held = h }) ≡ Ok (record { rest = b; held = u })
 unfolding check_behind_quoted
 may_follow line a b h u m c flow same fits e f g i j k l =
     let at : may_follow_quoted (in_flow u) (line == u.place.line) (peek b) ≡ true = rw (peek_first b, ← f, ← j, ← g, ← i, ← k) l in
     rw (e, at) refl
 
-pub may_not_follow : (line : ℕ) (a b : List ℕ) (h u : Held) (m : Place) (c : ℕ) (flow same fits : Bool) → skip_spaces Yes (record { rest = a; held = h }) ≡ Ok (record { rest = b; held = u }) → c ≡ slice_index b 0 → m ≡ u.place → same ≡ (line == m.line) → flow ≡ in_flow u
+pub may_not_follow : (line : ℕ) (a b : List ℕ) (h u : Held) (m : Position) (c : ℕ) (flow same fits : Bool) → skip_spaces Yes (record { rest = a; held = h }) ≡ Ok (record { rest = b; held = u }) → c ≡ slice_index b 0 → m ≡ u.place → same ≡ (line == m.line) → flow ≡ in_flow u
     → fits ≡ may_follow_quoted flow same c → fits ≡ false → check_behind_quoted line (record { rest = a; held = h }) ≡ Err (At problem.ContentAfterQuoted m)
 unfolding check_behind_quoted
 may_not_follow line a b h u m c flow same fits e f g i j k l =
@@ -148,7 +148,7 @@ tail_err (Ok u) k f g x h = last (k u) h
     last (Err e) h = cc
     last (Ok v) h = absurd cc
 
-pub flow_read : (single : Bool) (a b d : List ℕ) (h u v w : Held) (x : Context) (p q m : Place) (n : ℕ) (text : List ℕ) (y : Style) → u ≡ save_simple_key h → x ≡ context (record u { key_allowed = false }) → q ≡ h.place
+pub flow_read : (single : Bool) (a b d : List ℕ) (h u v w : Held) (x : Context) (p q m : Position) (n : ℕ) (text : List ℕ) (y : Style) → u ≡ save_simple_key h → x ≡ context (record u { key_allowed = false }) → q ≡ h.place
     → quoted single x a q ≡ Ok (record { rest = b; place = p; value = text }) → m ≡ h.place → n ≡ m.line → end_quoted n (record { rest = b; held = record u { place = p; key_allowed = false; leading = false } }) ≡ Ok (record { rest = d; held = v })
     → y ≡ quoted_style single → w ≡ push m (Tok.scalar y text) v → fetch_flow_scalar single (record { rest = a; held = h }) ≡ Ok (record { rest = d; held = w })
 unfolding fetch_flow_scalar end_quoted
@@ -158,12 +158,12 @@ flow_read single a b d h u v w x p q m n text y e i k l f o r j g =
     let t = tail_ok _ skip_to_next_token adjacent_here (λ s. push h.place (Tok.scalar (quoted_style single) text) s) _ r' in
     rw (l', g, j, f) t
 
-pub flow_not_read : (single : Bool) (a : List ℕ) (h u : Held) (x : Context) (q : Place) (z : Fault) → u ≡ save_simple_key h → x ≡ context (record u { key_allowed = false }) → q ≡ h.place → quoted single x a q ≡ Err z
+pub flow_not_read : (single : Bool) (a : List ℕ) (h u : Held) (x : Context) (q : Position) (z : Fault) → u ≡ save_simple_key h → x ≡ context (record u { key_allowed = false }) → q ≡ h.place → quoted single x a q ≡ Err z
     → fetch_flow_scalar single (record { rest = a; held = h }) ≡ Err z
 unfolding fetch_flow_scalar
 flow_not_read single a h u x q z e i k l = let l' = rw (i, k, e) at l in rw l' refl
 
-pub flow_not_ended : (single : Bool) (a b : List ℕ) (h u : Held) (x : Context) (p q m : Place) (n : ℕ) (text : List ℕ) (z : Fault) → u ≡ save_simple_key h → x ≡ context (record u { key_allowed = false }) → q ≡ h.place
+pub flow_not_ended : (single : Bool) (a b : List ℕ) (h u : Held) (x : Context) (p q m : Position) (n : ℕ) (text : List ℕ) (z : Fault) → u ≡ save_simple_key h → x ≡ context (record u { key_allowed = false }) → q ≡ h.place
     → quoted single x a q ≡ Ok (record { rest = b; place = p; value = text }) → m ≡ h.place → n ≡ m.line → end_quoted n (record { rest = b; held = record u { place = p; key_allowed = false; leading = false } }) ≡ Err z
     → fetch_flow_scalar single (record { rest = a; held = h }) ≡ Err z
 unfolding fetch_flow_scalar end_quoted
@@ -180,7 +180,7 @@ pub document_ended : (a b d : List ℕ) (h u v : Held) (c : ℕ) (t : Bool) → 
 unfolding fetch_document_end check_document_end
 document_ended a b d h u v c t e f g i j = let k : is_breakz (peek d) ≡ true = rw (peek_first d, ← g, ← i) j in rw (e, f, k) refl
 
-pub content_behind : (a b d : List ℕ) (h u v : Held) (c : ℕ) (t : Bool) (m : Place) → fetch_document_marker Tok.document_end (record { rest = a; held = h }) ≡ Ok (record { rest = b; held = u }) → skip_spaces Yes (record { rest = b; held = u }) ≡ Ok (record { rest = d; held = v })
+pub content_behind : (a b d : List ℕ) (h u v : Held) (c : ℕ) (t : Bool) (m : Position) → fetch_document_marker Tok.document_end (record { rest = a; held = h }) ≡ Ok (record { rest = b; held = u }) → skip_spaces Yes (record { rest = b; held = u }) ≡ Ok (record { rest = d; held = v })
     → c ≡ slice_index d 0 → t ≡ is_breakz c → t ≡ false → m ≡ v.place → fetch_document_end (record { rest = a; held = h }) ≡ Err (At problem.ContentAfterDocumentEnd m)
 unfolding fetch_document_end check_document_end
 content_behind a b d h u v c t m e f g i j n = let k : is_breakz (peek d) ≡ false = rw (peek_first d, ← g, ← i) j in rw (e, f, k, n) refl

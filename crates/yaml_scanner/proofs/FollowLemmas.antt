@@ -6,7 +6,7 @@ use Rattle.std.proofs.lemmas.Bool.{eqb-true}
 use Rattle.std.proofs.lemmas.List.{take-append-drop, length-take}
 use Rattle.yaml_chars.proofs.ReadingLemmas.{Possible-taken}
 use Rattle.defs_token.specs.Token.{Tok, Token}
-use Rattle.defs_text.specs.Position.{Place}
+use Rattle.defs_text.specs.Position.{Position}
 use Rattle.yaml_tokens.specs.Problem.{fault_of}
 use Rattle.yaml_tokens.specs.declared.problem.Fault.{Fault}
 use Rattle.yaml_tokens.specs.declared.problem.Fault.TheVariants.{At, OutOfMemory}
@@ -235,7 +235,7 @@ memory_sound : (f : Option Kept) (a : List ℕ) → IfSome f (λ k. k.fault ≢ 
 memory_sound None a r ts h = tt
 memory_sound (Some k) a r ts h = by k.fault k.mark r
   where
-    by : (e : Fault) (m : Place) → (e ≢ OutOfMemory → IsRefused a e) → (fault_of e m).memory ≡ true
+    by : (e : Fault) (m : Position) → (e ≢ OutOfMemory → IsRefused a e) → (fault_of e m).memory ≡ true
     by OutOfMemory m r = refl
     by (At q p) m r = absurd (not_refused a ts (At q p) h (r (λ e. absurd cc)))
 
@@ -243,7 +243,7 @@ memory_says : (f : Option Kept) → IfSome (option_map kept_fault f) (λ x. x.me
 memory_says None = tt
 memory_says (Some k) = by k.fault k.mark
   where
-    by : (e : Fault) (m : Place) → (fault_of e m).memory ≡ true → (fault_of e m).text ≡ codes "out of memory"
+    by : (e : Fault) (m : Position) → (fault_of e m).memory ≡ true → (fault_of e m).text ≡ codes "out of memory"
     by OutOfMemory m h = refl
     by (At q p) m h = absurd cc
 
@@ -251,15 +251,15 @@ is_refusal : (f : Option Kept) (a : List ℕ) → IfSome f (λ k. k.fault ≢ Ou
 is_refusal None a r = tt
 is_refusal (Some k) a r = by k.fault k.mark r
   where
-    by : (e : Fault) (m : Place) → (e ≢ OutOfMemory → IsRefused a e) → (fault_of e m).memory ≡ false → IsRefusal a (fault_of e m)
+    by : (e : Fault) (m : Position) → (e ≢ OutOfMemory → IsRefused a e) → (fault_of e m).memory ≡ false → IsRefusal a (fault_of e m)
     by OutOfMemory m r n = absurd cc
     by (At q p) m r n = record { fault = At q p; place = m; refused = r (λ e. absurd cc); shown = refl; stands = λ n s. faults_stand a (At q p) (no_nul a n) (r (λ e. absurd cc)) s }
 
-one_refusal : (f : Option Kept) (a : List ℕ) → IfSome f (λ k. k.fault ≢ OutOfMemory → IsRefused a k.fault) → (e : Fault) → IsRefused a e → IfSome (option_map kept_fault f) (λ x. x.memory ≡ false → (p : Place) × (x ≡ fault_of e p))
+one_refusal : (f : Option Kept) (a : List ℕ) → IfSome f (λ k. k.fault ≢ OutOfMemory → IsRefused a k.fault) → (e : Fault) → IsRefused a e → IfSome (option_map kept_fault f) (λ x. x.memory ≡ false → (p : Position) × (x ≡ fault_of e p))
 one_refusal None a r e i = tt
 one_refusal (Some k) a r e i = by k.fault k.mark r
   where
-    by : (d : Fault) (m : Place) → (d ≢ OutOfMemory → IsRefused a d) → (fault_of d m).memory ≡ false → (p : Place) × (fault_of d m ≡ fault_of e p)
+    by : (d : Fault) (m : Position) → (d ≢ OutOfMemory → IsRefused a d) → (fault_of d m).memory ≡ false → (p : Position) × (fault_of d m ≡ fault_of e p)
     by OutOfMemory m r n = absurd cc
     by (At q p) m r n = (m, ap (λ d. fault_of d m) (one_fault a (At q p) e (r (λ e. absurd cc)) i))
 

@@ -2,7 +2,7 @@
 use Rattle.std.proofs.Common.{◌≡◌, ℕ, ◌+◌, ◌<◌, ◌≤◌, List, [], ◌∷◌, Bool, true, false, not, nat_lt, nat_le, refl, ap, sym, ◌∙◌, arith, if◌then◌else◌, Option, Some, None, Ok, Err, length}
 use Rattle.std.proofs.lemmas.Bool.Decides.{nat_tests}
 use Rattle.std.specs.Prelude.{MatchOption}
-use Rattle.defs_text.specs.Position.{Place}
+use Rattle.defs_text.specs.Position.{Position}
 use Rattle.defs_token.specs.Token.{Token, Tok}
 use Rattle.yaml_tokens.specs.declared.problem.Fault.{Fault}
 use Rattle.yaml_tokens.specs.declared.problem.Fault.TheVariants.{At}
@@ -42,7 +42,7 @@ pub removed : (h : Held) (ks : List (Option Key)) (b : Bool) → b ≡ is_requir
 unfolding remove_simple_key
 removed h ks b e f k = let g : is_required (top_key h.keys) ≡ false = sym e ∙ f in rw (g, k) refl
 
-pub not_removed : (h : Held) (b : Bool) (p : Place) → b ≡ is_required (top_key h.keys) → b ≡ true → p ≡ h.place → remove_simple_key h ≡ Err (At problem.KeyExpected p)
+pub not_removed : (h : Held) (b : Bool) (p : Position) → b ≡ is_required (top_key h.keys) → b ≡ true → p ≡ h.place → remove_simple_key h ≡ Err (At problem.KeyExpected p)
 unfolding remove_simple_key
 not_removed h b p e f k = let g : is_required (top_key h.keys) ≡ true = sym e ∙ f in rw (g, k) refl
 
@@ -50,19 +50,19 @@ pub stale_in_flow : (h : Held) (b : Bool) → b ≡ in_flow h → b ≡ true →
 unfolding stale
 stale_in_flow h b e f = let g : in_flow h ≡ true = sym e ∙ f in rw g refl
 
-pub stale_dropped : (h : Held) (ks : List (Option Key)) (b : Bool) (p : Place) → b ≡ in_flow h → b ≡ false → p ≡ h.place → drop_stale p h.keys ≡ Ok ks → stale h ≡ Ok (record h { keys = ks })
+pub stale_dropped : (h : Held) (ks : List (Option Key)) (b : Bool) (p : Position) → b ≡ in_flow h → b ≡ false → p ≡ h.place → drop_stale p h.keys ≡ Ok ks → stale h ≡ Ok (record h { keys = ks })
 unfolding stale
 stale_dropped h ks b p e f k d = let g : in_flow h ≡ false = sym e ∙ f in let d' = rw k at d in rw (g, d') refl
 
-pub stale_failed : (h : Held) (x : Fault) (b : Bool) (p : Place) → b ≡ in_flow h → b ≡ false → p ≡ h.place → drop_stale p h.keys ≡ Err x → stale h ≡ Err x
+pub stale_failed : (h : Held) (x : Fault) (b : Bool) (p : Position) → b ≡ in_flow h → b ≡ false → p ≡ h.place → drop_stale p h.keys ≡ Err x → stale h ≡ Err x
 unfolding stale
 stale_failed h x b p e f k d = let g : in_flow h ≡ false = sym e ∙ f in let d' = rw k at d in rw (g, d') refl
 
-pub rolled_in_flow : (col : ℕ) (n : Option ℕ) (t : Tok) (p : Place) (h : Held) (b : Bool) → b ≡ in_flow h → b ≡ true → h ≡ roll_indent col n t p h
+pub rolled_in_flow : (col : ℕ) (n : Option ℕ) (t : Tok) (p : Position) (h : Held) (b : Bool) → b ≡ in_flow h → b ≡ true → h ≡ roll_indent col n t p h
 unfolding roll_indent
 rolled_in_flow col n t p h b e f = let g : in_flow h ≡ true = sym e ∙ f in rw g refl
 
-pub rolled : (col : ℕ) (n : Option ℕ) (t : Tok) (p : Place) (h u v : Held) (b : Bool) → b ≡ in_flow h → b ≡ false → u ≡ drop_open_level col h → v ≡ deepen col n (token p t) u → v ≡ roll_indent col n t p h
+pub rolled : (col : ℕ) (n : Option ℕ) (t : Tok) (p : Position) (h u v : Held) (b : Bool) → b ≡ in_flow h → b ≡ false → u ≡ drop_open_level col h → v ≡ deepen col n (token p t) u → v ≡ roll_indent col n t p h
 unfolding roll_indent
 rolled col n t p h u v b e f d r = let g : in_flow h ≡ false = sym e ∙ f in let r' = rw d at r in rw g r'
 
@@ -116,16 +116,16 @@ pub not_deeper : (h : Held) (b : Bool) → b ≡ in_block h → b ≡ false → 
 unfolding roll_one_col_indent
 not_deeper h b e f = let g : in_block h ≡ false = sym e ∙ f in rw g refl
 
-pub unrolled_done : (limit : ℕ) (p : Place) (i : ℕ) (ds : List Indent) (ts : List Token) → i ≤ limit → unrolled limit p i ds ts ≡ record { indent = i; indents = ds; tokens = ts }
+pub unrolled_done : (limit : ℕ) (p : Position) (i : ℕ) (ds : List Indent) (ts : List Token) → i ≤ limit → unrolled limit p i ds ts ≡ record { indent = i; indents = ds; tokens = ts }
 unfolding unrolled
 unrolled_done limit p i [] ts h = refl
 unrolled_done limit p i (d ∷ ds) ts h = rw (not_less limit i h) refl
 
-pub unrolled_none : (limit : ℕ) (p : Place) (i : ℕ) (ds : List Indent) (ts : List Token) → ds ≡ [] → unrolled limit p i ds ts ≡ record { indent = i; indents = ds; tokens = ts }
+pub unrolled_none : (limit : ℕ) (p : Position) (i : ℕ) (ds : List Indent) (ts : List Token) → ds ≡ [] → unrolled limit p i ds ts ≡ record { indent = i; indents = ds; tokens = ts }
 unfolding unrolled
 unrolled_none limit p i ds ts h = rw h refl
 
-pub unrolled_more : (limit : ℕ) (p : Place) (i : ℕ) (ds : List Indent) (ts : List Token) (d : Indent) (es : List Indent) → ds ≡ d ∷ es → limit < i
+pub unrolled_more : (limit : ℕ) (p : Position) (i : ℕ) (ds : List Indent) (ts : List Token) (d : Indent) (es : List Indent) → ds ≡ d ∷ es → limit < i
     → unrolled limit p i ds ts ≡ unrolled limit p d.indent es (end_level d.needs_block_end p ts)
 unfolding unrolled
 unrolled_more limit p i ds ts d es e h = rw (e, less limit i h) refl

@@ -3,7 +3,7 @@ use Rattle.std.proofs.Common.{◌≡◌, ℕ, List, [], ◌∷◌, ◌++◌, rev
 use Rattle.std.specs.List.{list_any}
 use Rattle.std.proofs.lemmas.List.{reverse-append, map-append}
 use Rattle.std.proofs.Common.{Ok, Err, if◌then◌else◌}
-use Rattle.defs_text.specs.Position.{Place}
+use Rattle.defs_text.specs.Position.{Position}
 use Rattle.yaml_tokens.specs.declared.problem.Fault.TheVariants.{At}
 use Rattle.yaml_tokens.specs.declared.problem.Problem.TheVariants as problem
 use Rattle.model_scanner.specs.State.{pop, with_top}
@@ -41,11 +41,11 @@ pub map_reversed : {A B : Type 0} (f : A → B) (xs : List A) → map f (reverse
 map_reversed f [] = refl
 map_reversed f (x ∷ xs) = ap (map f) (reverse-append (x ∷ []) xs) ∙ map-append f (reverse xs) (x ∷ []) ∙ ap (λ ys. ys ++ f x ∷ []) (map_reversed f xs) ∙ sym (reverse-append (f x ∷ []) (map f xs))
 
-overdue_of : (p : Place) (g : ℕ) (k : Option SimpleKey) → is_overdue p (key_of g k) ≡ is_overdue p (key_of 0 k)
+overdue_of : (p : Position) (g : ℕ) (k : Option SimpleKey) → is_overdue p (key_of g k) ≡ is_overdue p (key_of 0 k)
 overdue_of p g None = refl
 overdue_of p g (Some k) = refl
 
-overdue_all : (p : Place) (g : ℕ) (ks : List (Option SimpleKey)) → list_any (is_overdue p) (map (key_of g) ks) ≡ list_any (λ k. is_overdue p (key_of 0 k)) ks
+overdue_all : (p : Position) (g : ℕ) (ks : List (Option SimpleKey)) → list_any (is_overdue p) (map (key_of g) ks) ≡ list_any (λ k. is_overdue p (key_of 0 k)) ks
 overdue_all p g [] = refl
 overdue_all p g (k ∷ ks) = rw (overdue_of p g k, overdue_all p g ks) refl
 
@@ -53,21 +53,21 @@ still_pick : (b : Bool) (g : ℕ) (k : SimpleKey) → key_of g (if b then None e
 still_pick true g k = refl
 still_pick false g k = refl
 
-still_of : (p : Place) (g : ℕ) (k : Option SimpleKey) → key_of g (still_simple p k) ≡ still p (key_of g k)
+still_of : (p : Position) (g : ℕ) (k : Option SimpleKey) → key_of g (still_simple p k) ≡ still p (key_of g k)
 still_of p g None = refl
 still_of p g (Some k) = still_pick (is_far k.mark p) g k
 
-still_all : (p : Place) (g : ℕ) (ks : List (Option SimpleKey)) → map (key_of g) (map (still_simple p) ks) ≡ map (still p) (map (key_of g) ks)
+still_all : (p : Position) (g : ℕ) (ks : List (Option SimpleKey)) → map (key_of g) (map (still_simple p) ks) ≡ map (still p) (map (key_of g) ks)
 still_all p g [] = refl
 still_all p g (k ∷ ks) = rw (still_of p g k, still_all p g ks) refl
 
-pub overdue_seen : (p : Place) (g : ℕ) (ks : List (Option SimpleKey)) → list_any (λ k. is_overdue p (key_of 0 k)) ks ≡ true → drop_stale p (seen g (reverse ks)) ≡ Err (At problem.KeyWithoutColon p)
+pub overdue_seen : (p : Position) (g : ℕ) (ks : List (Option SimpleKey)) → list_any (λ k. is_overdue p (key_of 0 k)) ks ≡ true → drop_stale p (seen g (reverse ks)) ≡ Err (At problem.KeyWithoutColon p)
 unfolding drop_stale
 overdue_seen p g ks h =
     let e : list_any (is_overdue p) (map (key_of g) (reverse ks)) ≡ true = overdue_all p g (reverse ks) ∙ any_reversed (λ k. is_overdue p (key_of 0 k)) ks ∙ h in
     rw e refl
 
-pub still_seen : (p : Place) (g : ℕ) (ks ls : List (Option SimpleKey)) → list_any (λ k. is_overdue p (key_of 0 k)) ks ≡ false → ls ≡ map (still_simple p) ks → drop_stale p (seen g (reverse ks)) ≡ Ok (seen g (reverse ls))
+pub still_seen : (p : Position) (g : ℕ) (ks ls : List (Option SimpleKey)) → list_any (λ k. is_overdue p (key_of 0 k)) ks ≡ false → ls ≡ map (still_simple p) ks → drop_stale p (seen g (reverse ks)) ≡ Ok (seen g (reverse ls))
 unfolding drop_stale
 still_seen p g ks ls h f =
     let e : list_any (is_overdue p) (map (key_of g) (reverse ks)) ≡ false = overdue_all p g (reverse ks) ∙ any_reversed (λ k. is_overdue p (key_of 0 k)) ks ∙ h in

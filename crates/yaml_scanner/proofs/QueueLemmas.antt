@@ -7,7 +7,7 @@ use Rattle.std.proofs.lemmas.Bool.{cases_lt}
 use Rattle.yaml_tokens.specs.declared.token.Token.{Token}
 use Rattle.yaml_tokens.specs.Shown.{shown, tok_of}
 use Rattle.yaml_scanner.specs.Tokens.{is_end, has_end, end_at}
-use Rattle.defs_text.specs.Position.{Place}
+use Rattle.defs_text.specs.Position.{Position}
 use Rattle.defs_token.specs.Token as seen
 use Rattle.std.proofs.Common.{Option, None}
 use Rattle.model_scanner.specs.Block.{property_place, last_property}
@@ -79,7 +79,7 @@ insert_keeps w v i t e h =
     between false false c h = h
 
 -- the end waits once it was pushed
-pub end_waits : (w v : List Token) (t : Token) (p : Place) → shown t ≡ end_at p → v ≡ w ++ t ∷ [] → has_end (map shown v) ≡ true
+pub end_waits : (w v : List Token) (t : Token) (p : Position) → shown t ≡ end_at p → v ≡ w ++ t ∷ [] → has_end (map shown v) ≡ true
 end_waits w v t p end e =
     let last : is_end (tok_of t.1) ≡ true = ap (λ (s : seen.Token). is_end s.tok) end in
     rw (e, map-append shown w (t ∷ []), has_end_append (map shown w) (map shown (t ∷ [])), last) (or_true (has_end (map shown w)))
@@ -113,7 +113,7 @@ insert_last g w v i t e h =
 pub give_last : (g h w v : List Token) (t : Token) → w ≡ t ∷ v → h ≡ g ++ t ∷ [] → last_property (map shown g ++ map shown w) ≡ last_property (map shown h ++ map shown v)
 give_last g h w v t e f = ap last_property (sym (give_shown g h w v t e f))
 
-pub end_last : (g w v : List Token) (t : Token) (p : Place) → shown t ≡ end_at p → v ≡ w ++ t ∷ [] → ◌≡◌ {A = Option Place} None (last_property (map shown g ++ map shown v))
+pub end_last : (g w v : List Token) (t : Token) (p : Position) → shown t ≡ end_at p → v ≡ w ++ t ∷ [] → ◌≡◌ {A = Option Position} None (last_property (map shown g ++ map shown v))
 end_last g w v t p end e = ap (λ (s : seen.Token). property_place s.tok s.place) (sym end) ∙ push_last g w v t e
 
 -- a place behind all is the end

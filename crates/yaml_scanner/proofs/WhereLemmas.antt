@@ -4,7 +4,7 @@ use Rattle.std.proofs.lemmas.List.{length-take}
 use Rattle.defs_token.specs.Token.{Token}
 use Rattle.yaml_chars.specs.Reading.{place_of}
 use Rattle.defs_text.specs.Text.{is_nil}
-use Rattle.defs_token.specs.Text.{first_place, place_behind}
+use Rattle.defs_text.specs.Position.{first_position, position_after}
 use Rattle.model_scanner.specs.Document.{next_line}
 use Rattle.proof_lexers.specs.PlainEnds.{has_no_nul}
 use Rattle.proof_cut.specs.Places.{IsPlaceIn}
@@ -30,7 +30,7 @@ module _ {T : Type 0} (x : Fetcher T) (a : List ℕ) (old : FollowsIn a x) (kept
   pub in_text : x.tokens.ended ≡ false → IsPlaceIn a (drop x.window.at a) (place_of x.window)
   in_text e = (run_is_where a (state (drop x.window.at a) x) nul (old.run kept e)).going e
 
-  pub at_end : x.tokens.ended ≡ true → place_of x.window ≡ next_line (place_behind first_place a [])
+  pub at_end : x.tokens.ended ≡ true → place_of x.window ≡ next_line (position_after first_position a [])
   at_end e = let z = old.all kept e in sym z.place ∙ (run_is_where a z.whole.end nul z.whole.run).over z.whole.ended
 
   pub not_started : x.started ≡ false → (handed x.tokens ≡ []) × (waiting x.tokens ≡ 0)

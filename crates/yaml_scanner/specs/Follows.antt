@@ -1,6 +1,6 @@
 -- What was fetched and handed out, against the model's runs over each text that is still possible.
 use Rattle.std.specs.Prelude.{◌≡◌, ◌≢◌, ℕ, List, ◌++◌, drop, Bool, true, false, None, IfSome}
-use Rattle.defs_text.specs.Position.{Place}
+use Rattle.defs_text.specs.Position.{Position}
 use Rattle.yaml_chars.specs.Reading.{Possible, place_of}
 use Rattle.defs_token.specs.Token.{Token}
 use Rattle.yaml_tokens.specs.declared.problem.Fault.TheVariants.{OutOfMemory}
@@ -22,7 +22,7 @@ pub record IsReached (a : List ℕ) (given : List Token) : Type 0 where
   pub begins : Begins given last.held.tokens
 
 -- these are all tokens of a text, and the run that met them ended at a place
-pub record HasEnded (a : List ℕ) (ts : List Token) (p : Place) (started : Bool) : Type 0 where
+pub record HasEnded (a : List ℕ) (ts : List Token) (p : Position) (started : Bool) : Type 0 where
   pub whole : HasTokens a ts
   pub place : whole.end.held.place ≡ p
   pub began : whole.end.held.started ≡ started

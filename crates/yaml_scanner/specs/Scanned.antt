@@ -1,13 +1,13 @@
 -- What clauses see of a scanner.
 use Rattle.std.specs.Prelude.{◌≡◌, ℕ, ◌+◌, ◌<◌, List, [], ◌∷◌, ◌++◌, length, take, drop, Bool, true, false, Option, Some, None, IfSome, option_map, codes}
-use Rattle.defs_text.specs.Position.{Place}
+use Rattle.defs_text.specs.Position.{Position}
 use Rattle.yaml_chars.specs.Reading.{place_of, HasNoNul}
 use Rattle.defs_token.specs.Token.{Token}
 use Rattle.yaml_tokens.specs.Fault.{Fault}
 use Rattle.yaml_tokens.specs.Problem.{fault_of}
 use Rattle.yaml_tokens.specs.declared.problem.Fault as code
 use Rattle.defs_token.specs.Cut.{IsCut, IsCutOfBeginning}
-use Rattle.defs_token.specs.Text.{first_place, place_behind}
+use Rattle.defs_text.specs.Position.{first_position, position_after}
 use Rattle.model_scanner.specs.Document.{next_line}
 use Rattle.model_scanner.specs.Run.{HasTokens, IsRefused}
 use Rattle.proof_cut.specs.Faults.{IsThere, is_shown}
@@ -29,7 +29,7 @@ pub record Scanned : Type 0 where
   pub stopped : Bool
   -- whether the stream's end was handed out
   pub ended : Bool
-  pub place : Place
+  pub place : Position
   -- a bound on the tokens that may still be handed out
   pub left : ℕ
   -- the characters taken from the iterator, and whether they are all
@@ -72,7 +72,7 @@ pub record MayBe (s : Scanned) (a : List ℕ) : Type 0 where
 -- a fault is the refusal of a text
 pub record IsRefusal (a : List ℕ) (f : Fault) : Type 0 where
   pub fault : code.Fault
-  pub place : Place
+  pub place : Position
   pub refused : IsRefused a fault
   pub shown : f ≡ fault_of fault place
   -- a fault that stands in a text by itself stands in this one: a bad escape, the end or a document marker inside a quoted scalar, a flow collection too deep, a dash in flow
@@ -91,7 +91,7 @@ pub record ScansIn (a : List ℕ) (s : Scanned) : Type 0 where
   pub cut : s.ended ≡ true → HasNoNul a → IsCut s.given a
   -- where no fault is kept, the place is that after so many characters; after the stream's end, it is where a line begins after the text
   pub place : s.fault ≡ None → s.stopped ≡ false → HasNoNul a → IsPlaceIn a (drop s.place.index a) s.place
-  pub end : s.fault ≡ None → s.stopped ≡ true → HasNoNul a → s.place ≡ next_line (place_behind first_place a [])
+  pub end : s.fault ≡ None → s.stopped ≡ true → HasNoNul a → s.place ≡ next_line (position_after first_position a [])
   -- where no fault is kept, the stream's start was fetched just where some token was
   pub none : s.fault ≡ None → HasNoNul a → s.started ≡ false → (s.given ≡ []) × (s.waiting ≡ 0)
   pub some : s.fault ≡ None → HasNoNul a → s.started ≡ true → 0 < length s.given + s.waiting
@@ -101,7 +101,7 @@ pub record ScansIn (a : List ℕ) (s : Scanned) : Type 0 where
   pub wants : IfSome s.fault (λ f. f.memory ≡ true → f.text ≡ codes "out of memory")
   -- a fault other than out of memory is the text's refusal, of which there is one
   pub refused : IfSome s.fault (λ f. f.memory ≡ false → IsRefusal a f)
-  pub same : (e : code.Fault) → IsRefused a e → IfSome s.fault (λ f. f.memory ≡ false → (p : Place) × (f ≡ fault_of e p))
+  pub same : (e : code.Fault) → IsRefused a e → IfSome s.fault (λ f. f.memory ≡ false → (p : Position) × (f ≡ fault_of e p))
 
 -- What was handed out, and the fault, whatever the text is.
 pub record Scans (s : Scanned) : Type 0 where

@@ -1,6 +1,6 @@
 -- What may be a key, as the model sees it. In the code a place counts from the first token that waits.
 use Rattle.std.specs.Prelude.{ℕ, ◌+◌, ◌-◌, List, [], ◌∷◌, Bool, false, ◌==◌, Option, Some, None, map, if◌then◌else◌}
-use Rattle.defs_text.specs.Position.{Place}
+use Rattle.defs_text.specs.Position.{Position}
 use Rattle.model_scanner.specs.State.{Key}
 use Rattle.model_scanner.specs.Keys.{is_far}
 use Rattle.yaml_scanner.specs.declared.keys.SimpleKey.{SimpleKey}
@@ -31,7 +31,7 @@ top_simple [] = None
 top_simple (k ∷ ks) = k
 
 -- what may still be a key at a place
-abbrev pub still_simple : Place → Option SimpleKey → Option SimpleKey
+abbrev pub still_simple : Position → Option SimpleKey → Option SimpleKey
 still_simple p None = None
 still_simple p (Some k) = (if is_far k.mark p then None else Some k)
 

@@ -1,6 +1,6 @@
 -- All tokens so far, how many of them were handed out, and whether the stream's end is among all and among those.
 use Rattle.std.specs.Prelude.{ℕ, ◌-◌, List, [], ◌∷◌, length, take, Bool, true, false, ◌||◌}
-use Rattle.defs_text.specs.Position.{Place}
+use Rattle.defs_text.specs.Position.{Position}
 use Rattle.defs_token.specs.Token.{Token, Tok}
 
 pub record Tokens : Type 0 where
@@ -26,5 +26,5 @@ has_end [] = false
 has_end (t ∷ ts) = is_end t.tok || has_end ts
 
 -- the end of the stream, at a place
-abbrev pub end_at : Place → Token
+abbrev pub end_at : Position → Token
 end_at p = record { place = p; tok = Tok.stream_end }

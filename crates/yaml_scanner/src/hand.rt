@@ -1,7 +1,7 @@
 //! Fetching as far as the next token needs, and handing it out.
 ghost use Rattle.std.specs.Prelude.{◌≡◌, ◌≤◌, ◌<◌, ◌+◌, ◌||◌, OnOk, IfErr, IfSome, IsSome, Ok, Some, None, true, false, ◌++◌, ◌∷◌, []};
 ghost use Rattle.std.specs.List.{list_any};
-ghost use Rattle.defs_text.specs.Position.{Place};
+ghost use Rattle.defs_text.specs.Position.{Position};
 ghost use Rattle.yaml_tokens.specs.Shown.{shown};
 ghost use Rattle.yaml_scanner.specs.Follows.{Follows};
 ghost use Rattle.yaml_scanner.specs.SimpleKeys.{is_front};
@@ -23,7 +23,7 @@ impl Kept {
 impl<T: Iterator<Item = char>> Fetcher<T> {
     /// Keeps a fault.
     pub(crate) fn keep(&mut self, fault: Fault) -> ScanError
-        requires follows { (mark : Place) → Follows (record self.old { kept = Some (record { fault = fault; mark = mark }) }) }
+        requires follows { (mark : Position) → Follows (record self.old { kept = Some (record { fault = fault; mark = mark }) }) }
         ensures kept { (inside self.new).fault ≡ Some result }
         ensures same { inside self.new ≡ record (inside self.old) { fault = Some result } }
         ensures follows { Follows self.new }
@@ -45,7 +45,7 @@ impl<T: Iterator<Item = char>> Fetcher<T> {
         ensures start { self.new.window.start ≡ self.old.window.start }
         ensures less { OnOk result (work self.new < work self.old) }
         ensures ok { OnOk result (Follows self.new) }
-        ensures err { IfErr result (λ e. (mark : Place) → Follows (record self.new { kept = Some (record { fault = e; mark = mark }) })) }
+        ensures err { IfErr result (λ e. (mark : Position) → Follows (record self.new { kept = Some (record { fault = e; mark = mark }) })) }
     {
         self.fetch()?;
         Ok(())
@@ -62,7 +62,7 @@ impl<T: Iterator<Item = char>> Fetcher<T> {
         ensures front { OnOk result (self.new.tokens.ended ≡ false → list_any is_front self.new.keys ≡ false) }
         ensures behind { self.old.tokens.ended ≡ true → (result ≡ Ok tt) × (self.new ≡ self.old) }
         ensures ok { OnOk result (Follows self.new) }
-        ensures err { IfErr result (λ e. (mark : Place) → Follows (record self.new { kept = Some (record { fault = e; mark = mark }) })) }
+        ensures err { IfErr result (λ e. (mark : Position) → Follows (record self.new { kept = Some (record { fault = e; mark = mark }) })) }
     {
         'tokens: while !self.tokens.has_ended() && self.needs_more() {
             self.fetch_one()?;

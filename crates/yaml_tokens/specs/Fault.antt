@@ -1,10 +1,10 @@
 -- What clauses see of a fault: its place, the bytes of its text, and whether memory was refused.
 use Rattle.std.specs.Prelude.{ℕ, ◌+◌, List, ◌++◌, Bool, false, codes}
 use Rattle.std.specs.Fmt.{decimal}
-use Rattle.defs_text.specs.Position.{Place}
+use Rattle.defs_text.specs.Position.{Position}
 
 pub record Fault : Type 0 where
-  pub place : Place
+  pub place : Position
   pub text : List ℕ
   pub memory : Bool
 
@@ -13,5 +13,5 @@ abbrev pub printed : Fault → List ℕ
 printed f = f.text ++ codes " at byte " ++ decimal f.place.index ++ codes " line " ++ decimal f.place.line ++ codes " column " ++ decimal (f.place.col + 1)
 
 -- a fault of this text, which does not say that memory was refused
-abbrev pub fault_at : Place → List ℕ → Fault
+abbrev pub fault_at : Position → List ℕ → Fault
 fault_at p t = record { place = p; text = t; memory = false }

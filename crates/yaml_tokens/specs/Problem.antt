@@ -1,6 +1,6 @@
 -- The texts of the problems, and what a fault shows.
 use Rattle.std.specs.Prelude.{ℕ, List, Bool, true, false, codes}
-use Rattle.defs_text.specs.Position.{Place}
+use Rattle.defs_text.specs.Position.{Position}
 use Rattle.yaml_tokens.specs.declared.problem.Problem.{Problem}
 use Rattle.yaml_tokens.specs.declared.problem.Problem.TheVariants as problem
 use Rattle.yaml_tokens.specs.declared.problem.Fault as code
@@ -76,6 +76,6 @@ text_of_problem problem.UndeclaredHandle = codes "the handle wasn't declared"
 text_of_problem problem.EventOutOfNesting = codes "event out of nesting"
 
 -- what callers see of a fault that came while the text was read up to a place
-abbrev pub fault_of : code.Fault → Place → Fault
+abbrev pub fault_of : code.Fault → Position → Fault
 fault_of OutOfMemory here = record { place = here; text = codes "out of memory"; memory = true }
 fault_of (At p place) here = record { place = place; text = text_of_problem p; memory = false }

@@ -11,7 +11,7 @@ use Rattle.std.proofs.lemmas.Slice.Eq.{bytes_eq-Decides}
 use Rattle.std.proofs.lemmas.Str.{chars-nil, chars-IsAscii}
 use Rattle.defs_tree.specs.Grammar.{is_among}
 use Rattle.defs_tree.specs.Tree.{Tree, string, integer, real, boolean, null}
-use Rattle.defs_tree.specs.Typing.{typing, rows, where_true, is_digit, is_sign, is_point, is_plus, is_minus, number, signed_number, fits_i64, behind, is_decimal, null_words, true_words, false_words, special_words}
+use Rattle.defs_tree.specs.Typing.{typing, rows, where_true, is_digit, is_sign, is_point, is_plus, is_minus, number, signed_number, fits_i64, after_prefix, is_decimal, null_words, true_words, false_words, special_words}
 use Rattle.defs_tree.proofs.DecimalReading.{begins_in, reads_exponent, reads_on, reads_unsigned, is_decimal-read}
 use Rattle.defs_tree.proofs.GrammarLaws.{behind_all}
 use Rattle.defs_tree.proofs.TypingLaws.{strings_exactly}
@@ -49,8 +49,8 @@ module _ (c : ℕ) (cs : List ℕ) (plain : begins_value c ≡ false) where
   not_among [] h = refl
   not_among (w ∷ ws) h = let parts = and_parts (tells w) (list_all tells ws) h in (λ i. not_word w parts.0 i || not_among ws parts.1 i)
 
-  no_behind : (base d : ℕ) (ds : List ℕ) → begins_value d ≡ true → option_map integer (option_and_then (signed_number base) (behind (d ∷ ds) (c ∷ cs))) ≡ None
-  no_behind base d ds e = ap (λ b. option_map integer (option_and_then (signed_number base) (if b then behind ds cs else None))) (other d e)
+  no_behind : (base d : ℕ) (ds : List ℕ) → begins_value d ≡ true → option_map integer (option_and_then (signed_number base) (after_prefix (d ∷ ds) (c ∷ cs))) ≡ None
+  no_behind base d ds e = ap (λ b. option_map integer (option_and_then (signed_number base) (if b then after_prefix ds cs else None))) (other d e)
 
   no_digit : is_ascii_digit c ≡ false → is_digit 10 c ≡ false
   no_digit e = grind (arith, nat_tests)

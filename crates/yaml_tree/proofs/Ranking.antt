@@ -163,7 +163,7 @@ module _ {m : Tree → ℕ} (rs : List ℕ) (ps : Pairs) (a : AreRanked m rs ps)
       by (inr (inl e)) = absurd (n e)
       by (inr (inr l)) = λ e. rising_apart r s l g (sym e)
 
-  -- a key above that of a rank is above all before; one below it is below all behind
+  -- a key above that of a rank is above all before; one below it is below all beyond
   pub above_up_to : (k : Tree) (l : ℕ) → l < length rs → key_cmp m k (key_of_rank rs ps l) ≡ Greater → (s : ℕ) → s < l + 1 → key_cmp m k (key_of_rank rs ps s) ≡ Greater
   above_up_to k l h e s below = by (cases_lt s l)
     where
@@ -328,14 +328,14 @@ ranked_added {m} rs ps r k v a gap = record {
     here : (s : ℕ) → s ≡ r → get_or (insert rs r (length rs)) s 0 ≡ length rs
     here s e = ap (λ i. get_or (insert rs r (length rs)) i 0) e ∙ get_or-insert_at rs r (length rs) 0 gap.within
 
-    behind : (s : ℕ) → r ≤ s → get_or (insert rs r (length rs)) (suc s) 0 ≡ get_or rs s 0
-    behind s l = ap (λ i. get_or (insert rs r (length rs)) i 0) (omega arith) ∙ get_or-insert_above rs r (length rs) 0 s l gap.within
+    beyond : (s : ℕ) → r ≤ s → get_or (insert rs r (length rs)) (suc s) 0 ≡ get_or rs s 0
+    beyond s l = ap (λ i. get_or (insert rs r (length rs)) i 0) (omega arith) ∙ get_or-insert_above rs r (length rs) 0 s l gap.within
 
     low : (s : ℕ) → s < length (insert rs r (length rs)) → (s < r) ⊎ ((s ≡ r) ⊎ (r < s)) → get_or (insert rs r (length rs)) s 0 < length (ps ++ (k, v) ∷ [])
     low s h (inl l) = omega (arith, before s l, a.within s (omega (arith, gap.within)), length-append_one ps (k, v))
     low s h (inr (inl e)) = omega (arith, here s e, a.counted, length-append_one ps (k, v))
     low zero h (inr (inr l)) = absurd (omega arith)
-    low (suc s) h (inr (inr l)) = omega (arith, behind s (omega arith), a.within s (omega (arith, more)), length-append_one ps (k, v))
+    low (suc s) h (inr (inr l)) = omega (arith, beyond s (omega arith), a.within s (omega (arith, more)), length-append_one ps (k, v))
 
     key_before : (s : ℕ) → s < r → key_of_rank (insert rs r (length rs)) (ps ++ (k, v) ∷ []) s ≡ key_of_rank rs ps s
     key_before s l =
@@ -345,7 +345,7 @@ ranked_added {m} rs ps r k v a gap = record {
     key_here s e = ap (key_at (ps ++ (k, v) ∷ [])) (here s e) ∙ key_append_end ps k v (length rs) a.counted
 
     key_behind : (s : ℕ) → r ≤ s → s < length rs → key_of_rank (insert rs r (length rs)) (ps ++ (k, v) ∷ []) (suc s) ≡ key_of_rank rs ps s
-    key_behind s l h = ap (key_at (ps ++ (k, v) ∷ [])) (behind s l) ∙ key_append_left ps ((k, v) ∷ []) (get_or rs s 0) (a.within s h)
+    key_behind s l h = ap (key_at (ps ++ (k, v) ∷ [])) (beyond s l) ∙ key_append_left ps ((k, v) ∷ []) (get_or rs s 0) (a.within s h)
 
     rises : (s t : ℕ) → s < t → t < length (insert rs r (length rs)) → (s < r) ⊎ ((s ≡ r) ⊎ (r < s)) → (t < r) ⊎ ((t ≡ r) ⊎ (r < t))
         → key_cmp m (key_of_rank (insert rs r (length rs)) (ps ++ (k, v) ∷ []) s) (key_of_rank (insert rs r (length rs)) (ps ++ (k, v) ∷ []) t) ≡ Less

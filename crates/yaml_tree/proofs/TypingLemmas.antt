@@ -16,7 +16,7 @@ use Rattle.yaml_tree.specs.Values.{first_row, value_row}
 use Rattle.std.specs.Option.{option_or}
 use Rattle.std.specs.Str.{chars, IsAscii}
 use Rattle.std.proofs.lemmas.Str.{chars-IsAscii}
-use Rattle.defs_tree.specs.Typing.{is_digit, is_plus, is_minus, number, signed_number, fits_i64, behind, is_decimal, typing, rows, by_rows, where_true, special_words}
+use Rattle.defs_tree.specs.Typing.{is_digit, is_plus, is_minus, number, signed_number, fits_i64, after_prefix, is_decimal, typing, rows, by_rows, where_true, special_words}
 use Rattle.defs_tree.proofs.GrammarLaws.{behind_all}
 use Rattle.defs_tree.proofs.DecimalReading.{begins_in, reads_decimal, is_decimal-read}
 
@@ -123,30 +123,30 @@ parsed_signed base (c ∷ cs) r h = by_sign base c cs r (is_plus c) (is_minus c)
 
 -- ---- what stands behind a beginning
 
-pub behind_it : (p t : List ℕ) → behind p (p ++ t) ≡ Some t
+pub behind_it : (p t : List ℕ) → after_prefix p (p ++ t) ≡ Some t
 behind_it [] t = refl
-behind_it (x ∷ p) t = ap (λ b. if b then behind p (p ++ t) else None) (same x) ∙ behind_it p t
+behind_it (x ∷ p) t = ap (λ b. if b then after_prefix p (p ++ t) else None) (same x) ∙ behind_it p t
   where
     same : (x : ℕ) → (x == x) ≡ true
     same x = grind (arith, nat_tests)
 
-behind_none : (p t : List ℕ) → ((rest : List ℕ) → t ≢ p ++ rest) → behind p t ≡ None
+behind_none : (p t : List ℕ) → ((rest : List ℕ) → t ≢ p ++ rest) → after_prefix p t ≡ None
 behind_none [] t h = absurd (h t refl)
 behind_none (x ∷ p) [] h = refl
 behind_none (x ∷ p) (c ∷ cs) h = by (x == c) refl (λ e. behind_none p cs (λ rest f. h rest (λ i. e i ∷ f i)))
   where
-    by : (b : Bool) → (x == c) ≡ b → (c ≡ x → behind p cs ≡ None) → (if b then behind p cs else None) ≡ None
+    by : (b : Bool) → (x == c) ≡ b → (c ≡ x → after_prefix p cs ≡ None) → (if b then after_prefix p cs else None) ≡ None
     by true e f = f (grind (arith, nat_tests))
     by false e f = refl
 
-pub lacks_behind : (p t : List ℕ) → LacksTextAt p t 0 → behind p t ≡ None
+pub lacks_behind : (p t : List ℕ) → LacksTextAt p t 0 → after_prefix p t ≡ None
 lacks_behind p t h = behind_none p t (λ rest e. h rest (drop_none t ∙ e))
   where
     drop_none : (t : List ℕ) → drop 0 t ≡ t
     drop_none t = refl
 
-pub strips_behind : (p t x : List ℕ) → StripsPrefix (FindsTextPrefix p) t x → behind p t ≡ Some x
-strips_behind p t x h = ap (behind p) (h.1.1 ∙ ap (λ u. p ++ u) (sym h.2)) ∙ behind_it p x
+pub strips_behind : (p t x : List ℕ) → StripsPrefix (FindsTextPrefix p) t x → after_prefix p t ≡ Some x
+strips_behind p t x h = ap (after_prefix p) (h.1.1 ∙ ap (λ u. p ++ u) (sym h.2)) ∙ behind_it p x
 
 -- ---- the table in two parts: what keeps no text, and what does
 

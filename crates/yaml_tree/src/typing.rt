@@ -1,7 +1,7 @@
 //! What a plain text stands for.
 ghost use Rattle.std.specs.Prelude.{◌≡◌, ◌≤◌, ◌||◌, true, IfOk, OnErr, option_map, option_and_then, map, chars};
 ghost use Rattle.defs_tree.specs.Grammar.{is_among, at_least_one};
-ghost use Rattle.defs_tree.specs.Typing.{behind, signed_number, typing, is_string, is_sign, is_decimal, special_words, null_words, true_words, false_words};
+ghost use Rattle.defs_tree.specs.Typing.{after_prefix, signed_number, typing, is_string, is_sign, is_decimal, special_words, null_words, true_words, false_words};
 ghost use Rattle.defs_tree.proofs.GrammarLaws.{behind_all, behind_one};
 ghost use Rattle.defs_tree.proofs.DecimalReading.{begins_in, reads_exponent, reads_on, reads_decimal};
 ghost use Rattle.std.specs.Char.{is_ascii_digit};
@@ -166,7 +166,7 @@ fn is_among(words: &[&str], text: &str) -> bool
 fn number_behind(prefix: &str, text: &str, base: u32) -> Option<i64>
     requires at_least { 2 ≤ base }
     requires at_most { base ≤ 36 }
-    ensures { result ≡ option_and_then (signed_number base) (behind prefix.now text.now) }
+    ensures { result ≡ option_and_then (signed_number base) (after_prefix prefix.now text.now) }
 {
     number_in(text.strip_prefix(prefix)?, base)
 }

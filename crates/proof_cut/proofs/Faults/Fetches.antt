@@ -1,6 +1,6 @@
 -- A refusal for a fault that stands in a text by itself comes only where that fault stands.
 use Rattle.std.proofs.Common.{◌≡◌, ℕ, ◌+◌, List, [], ◌∷◌, Bool, true, false, ◌==◌, nat_lt, if◌then◌else◌, slice_index, Result, Err, refl, ap, sym, ◌∙◌, subst}
-use Rattle.defs_text.specs.Position.{Place}
+use Rattle.defs_text.specs.Position.{Position}
 use Rattle.defs_text.specs.Text.{is_nil}
 use Rattle.yaml_chars.specs.Class.{is_blank_or_breakz}
 use Rattle.defs_token.specs.Token.{Tok}
@@ -47,17 +47,17 @@ use Rattle.proof_cut.proofs.Faults.Tokens.{flow_start_told, block_entry_told, fl
 same_fault : {A : Type 0} {g h : Fault} → ◌≡◌ {A = Result A Fault} (Err g) (Err h) → g ≡ h
 same_fault e = cc
 
-other_by : (f : Fault) (p : Place) (why : Fault) → IsOther why → ◌≡◌ {A = Result (Read Header) Fault} (Err f) (Err why) → IsOther f
+other_by : (f : Fault) (p : Position) (why : Fault) → IsOther why → ◌≡◌ {A = Result (Read Header) Fault} (Err f) (Err why) → IsOther f
 other_by f p why is e = ap is_shown (same_fault e) ∙ is
 
-header_other : (p : Place) (style : BlockStyle) (line behind : List ℕ) (f : Fault) → headers.EndsAs p style line behind (Err f) → IsOther f
+header_other : (p : Position) (style : BlockStyle) (line behind : List ℕ) (f : Fault) → headers.EndsAs p style line behind (Err f) → IsOther f
 header_other p style line behind f (headers.reads h is no_tab e) = absurd (cc e)
 header_other p style line behind f (headers.tabbed h is tab e) = other_by f p _ refl e
 header_other p style line behind f (headers.zero_digit is zero e) = other_by f p _ refl e
 header_other p style line behind f (headers.comment h before text is was cut e) = other_by f p _ refl e
 header_other p style line behind f (headers.no_header is e) = other_by f p _ refl e
 
-block_other : (style : BlockStyle) (indent : ℕ) (more : List ℕ) (p : Place) → has_no_nul more ≡ true → Refuses IsOther (block (is_literal style) indent (indicator_of style ∷ more) p)
+block_other : (style : BlockStyle) (indent : ℕ) (more : List ℕ) (p : Position) → has_no_nul more ≡ true → Refuses IsOther (block (is_literal style) indent (indicator_of style ∷ more) p)
 block_other style indent more p clean = by (block (is_literal style) indent (indicator_of style ∷ more) p) (block_laws.scans_end style indent more p (some_chars more clean))
   where
     by : (x : Result (Read Block) Fault) → block_ends.EndsAs style indent p more x → Refuses IsOther x

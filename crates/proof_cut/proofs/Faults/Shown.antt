@@ -1,6 +1,6 @@
 -- Rules for what is said of a refusal, and the steps of the model whose refusals show nothing of the faults above.
 use Rattle.std.proofs.Common.{◌≡◌, ℕ, List, Bool, true, false, if◌then◌else◌, map, Result, Ok, Err, refl, subst}
-use Rattle.defs_text.specs.Position.{Place}
+use Rattle.defs_text.specs.Position.{Position}
 use Rattle.yaml_tokens.specs.declared.problem.Fault.{Fault}
 use Rattle.yaml_tokens.specs.declared.problem.Fault.TheVariants.{At}
 use Rattle.yaml_tokens.specs.declared.problem.Problem.TheVariants as problem
@@ -77,7 +77,7 @@ white_other t = by (white false false t.rest t.held) (white_space_is_passed t.he
     by x (goes leading filler rest cut fills ends e) = rw e none
     by x (misses filler rest cut fills no_space break ends e) = rw e (this refl)
 
-space_other : (tabs : SkipTabs) (text : List ℕ) (p : Place) → Refuses IsOther (space tabs text p)
+space_other : (tabs : SkipTabs) (text : List ℕ) (p : Position) → Refuses IsOther (space tabs text p)
 space_other tabs text p = by (space tabs text p) (spaces_are_passed tabs text p)
   where
     by : (x : Result (Read Whitespace) Fault) → SpacesAs tabs p text x → Refuses IsOther x

@@ -1,6 +1,6 @@
 -- Functions of the model whose refusals show nothing of the faults that stand in a text by themselves.
 use Rattle.std.proofs.Common.{◌≡◌, ℕ, List, ◌∷◌, Bool, ◌&&◌, ◌||◌, ◌==◌, not, nat_lt, slice_index, Option, Some, None, Result, Ok, Err, refl, ap, sym, ◌∙◌, subst}
-use Rattle.defs_text.specs.Position.{Place}
+use Rattle.defs_text.specs.Position.{Position}
 use Rattle.yaml_chars.specs.Class.{is_alpha, is_blank_or_breakz, is_breakz}
 use Rattle.defs_token.specs.Token.{Tok}
 use Rattle.yaml_tokens.specs.declared.problem.Fault.{Fault}
@@ -31,27 +31,27 @@ use Rattle.proof_cut.proofs.Faults.Shown.{Refuses, none, this, IsOther, bound, c
 
 -- ---- lexing functions
 
-octets_other : (f : UriFault) (p : Place) → IsOther (At (problem_of f) p)
+octets_other : (f : UriFault) (p : Position) → IsOther (At (problem_of f) p)
 octets_other no_octet p = refl
 octets_other wrong_lead p = refl
 octets_other wrong_trail p = refl
 octets_other no_character p = refl
 
-version_other : (t : List ℕ) (why : Problem) (p : Place) → directives.IsNoVersion t why → IsOther (At why p)
+version_other : (t : List ℕ) (why : Problem) (p : Position) → directives.IsNoVersion t why → IsOther (At why p)
 version_other t why p (directives.no_major e) = refl
 version_other t why p (directives.long_major e) = refl
 version_other t why p (directives.no_point e) = refl
 version_other t why p (directives.no_minor r e k) = refl
 version_other t why p (directives.long_minor r e k) = refl
 
-declaration_other : (t : List ℕ) (why : Problem) (p : Place) → directives.IsNoDeclaration t why → IsOther (At why p)
+declaration_other : (t : List ℕ) (why : Problem) (p : Position) → directives.IsNoDeclaration t why → IsOther (At why p)
 declaration_other t why p (directives.no_mark e) = refl
 declaration_other t why p (directives.open_name c name rest e k l) = refl
 declaration_other t why p (directives.no_prefix e) = refl
 declaration_other t why p (directives.by_octets f e) = octets_other f p
 declaration_other t why p (directives.goes_on e) = refl
 
-line_other : (start : Place) (line : List ℕ) (f : Fault) → directives.IsRefusal start line f → IsOther f
+line_other : (start : Position) (line : List ℕ) (f : Fault) → directives.IsRefusal start line f → IsOther f
 line_other start line f (directives.no_name e) = refl
 line_other start line f (directives.by_name e) = refl
 line_other start line f (directives.by_version why e k) = version_other _ why start k
@@ -59,27 +59,27 @@ line_other start line f (directives.by_declaration why e k) = declaration_other 
 line_other start line f (directives.by_comment before rest e) = refl
 line_other start line f (directives.by_text before rest e k) = refl
 
-directive_other : (more : List ℕ) (p : Place) → Refuses IsOther (directive (37 ∷ more) p)
+directive_other : (more : List ℕ) (p : Position) → Refuses IsOther (directive (37 ∷ more) p)
 directive_other more p = by (directive (37 ∷ more) p) (directives_end more p)
   where
     by : (x : Result (Read Tok) Fault) → directives.EndsAs p more x → Refuses IsOther x
     by x (directives.reads line next d cut in_line ends is e) = rw e none
     by x (directives.refuses line next f cut in_line ends is why e) = rw e (this (line_other p line f why))
 
-name_other : (c : ℕ) (more : List ℕ) (p : Place) → Refuses IsOther (anchor_name (c ∷ more) p)
+name_other : (c : ℕ) (more : List ℕ) (p : Position) → Refuses IsOther (anchor_name (c ∷ more) p)
 name_other c more p = by (anchor_name (c ∷ more) p) (names_end c more p)
   where
     by : (x : Result (Read (List ℕ)) Fault) → names.EndsAs p more x → Refuses IsOther x
     by x (names.named name rest cut is ends e) = rw e none
     by x (names.nameless is e) = rw e (this refl)
 
-tag_why_other : (flow : Bool) (t : List ℕ) (why : Problem) (p : Place) → tag_ends.IsRefusal flow t why → IsOther (At why p)
+tag_why_other : (flow : Bool) (t : List ℕ) (why : Problem) (p : Position) → tag_ends.IsRefusal flow t why → IsOther (At why p)
 tag_why_other flow t why p (tag_ends.by_octets before uri rest f e k) = octets_other f p
 tag_why_other flow t why p (tag_ends.unclosed uri rest e k l) = refl
 tag_why_other flow t why p (tag_ends.no_suffix name rest e k l) = refl
 tag_why_other flow t why p (tag_ends.goes_on piece rest handle suffix e k l) = refl
 
-tag_other : (flow : Bool) (more : List ℕ) (p : Place) → Refuses IsOther (tags.tag flow (33 ∷ more) p)
+tag_other : (flow : Bool) (more : List ℕ) (p : Position) → Refuses IsOther (tags.tag flow (33 ∷ more) p)
 tag_other flow more p = by (tags.tag flow (33 ∷ more) p) (tags_end flow more p)
   where
     by : (x : Result (Read tags.Tag) Fault) → tag_ends.EndsAs flow p more x → Refuses IsOther x
@@ -160,15 +160,15 @@ key_other t =
     bound (white_other _) (λ w m.
     bound (chosen (peek w.rest == 9) (λ e. this refl) (λ e. none)) (λ x o. none))))
 
-pair_other : (k : Key) (p : Place) (pair : Bool) (s : Held) → Refuses IsOther (begin_pair k p pair s)
+pair_other : (k : Key) (p : Position) (pair : Bool) (s : Held) → Refuses IsOther (begin_pair k p pair s)
 unfolding begin_pair
 pair_other k p pair s = chosen pair (λ e. chosen (nat_lt k.place.line p.line) (λ l. this refl) (λ l. none)) (λ e. none)
 
-keyless_other : (p : Place) (s : Held) → Refuses IsOther (begin_keyless_mapping p s)
+keyless_other : (p : Position) (s : Held) → Refuses IsOther (begin_keyless_mapping p s)
 unfolding begin_keyless_mapping
 keyless_other p s = chosen (in_flow s) (λ e. none) (λ e. chosen (not s.key_allowed) (λ l. this refl) (λ l. none))
 
-value_of_other : (o : Option Key) (p : Place) (pair : Bool) (s : Held) → Refuses IsOther (value_of o p pair s)
+value_of_other : (o : Option Key) (p : Position) (pair : Bool) (s : Held) → Refuses IsOther (value_of o p pair s)
 unfolding insert_key begin_keyless_value
 value_of_other (Some k) p pair s = bound (pair_other k p pair _) (λ u e. none)
 value_of_other None p pair s = bound (keyless_other p _) (λ u e. none)
@@ -189,7 +189,7 @@ dash_other : (w : Whitespace) (t : State) → Refuses IsOther (check_dash w t)
 unfolding check_dash
 dash_other w t = chosen (w.found_tabs && (slice_index t.rest 0 == 45) && is_blank_or_breakz (slice_index t.rest 1)) (λ e. this refl) (λ e. none)
 
-pub margin_other : (o : Option Place) (p : Place) (s : Held) → Refuses IsOther (at_margin o p s)
+pub margin_other : (o : Option Position) (p : Position) (s : Held) → Refuses IsOther (at_margin o p s)
 margin_other None p s = none
 margin_other (Some q) p s = chosen ((p.col == 0) && (q.col == 0) && nat_lt 0 s.indent) (λ e. this refl) (λ e. none)
 

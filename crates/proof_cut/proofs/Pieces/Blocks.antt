@@ -2,7 +2,7 @@
 use Rattle.std.proofs.Common.{◌≡◌, ℕ, zero, suc, ◌<◌, ◌≤◌, List, [], ◌∷◌, ◌++◌, Bool, true, false, ◌&&◌, ◌==◌, ◌⊎◌, inl, inr, not, nat_lt, if◌then◌else◌, Option, Some, None, Result, Ok, refl, ap, subst, ◌∙◌, arith}
 use Rattle.std.proofs.lemmas.Bool.{and_parts, eqb-true}
 use Rattle.std.proofs.lemmas.Bool.Decides.{nat_tests}
-use Rattle.defs_text.specs.Position.{Place}
+use Rattle.defs_text.specs.Position.{Position}
 use Rattle.defs_text.specs.Text.{is_nil}
 use Rattle.defs_token.specs.Token.{Tok, Style, scalar}
 use Rattle.yaml_tokens.specs.declared.problem.Fault.{Fault}
@@ -10,7 +10,8 @@ use Rattle.defs_text.specs.Classes.{space, is_blank, is_break, is_nul, is_at_end
 use Rattle.defs_text.specs.Breaks.{split, split_by, put_first, is_before_line_feed}
 use Rattle.defs_scalar.specs.FlowScalar.{begins_with}
 use Rattle.defs_scalar.specs.BlockScalar.{BlockStyle, literal, folded, Header, header_of, body, further_text, block_value, is_outside, is_further_text}
-use Rattle.defs_token.specs.Text.{ends_line, place_past, place_behind}
+use Rattle.defs_text.specs.Breaks.{ends_line}
+use Rattle.defs_text.specs.Position.{position_past, position_after}
 use Rattle.defs_token.specs.Filler.{is_filler}
 use Rattle.defs_token.specs.BlockPiece.{BlockRead, column_of, with_value, is_past, read_body, read_lines, block_read, past_spaces, block_place}
 use Rattle.defs_token.specs.Account.{Account, is_in_flow, collection_column}
@@ -51,35 +52,35 @@ spaces_fill (c ∷ r) rest = by (c == space) refl (spaces_fill r rest)
     by true e h = let same : c ≡ 32 = eqb-true c 32 e in rw same h
     by false e h = refl
 
-spaces_place : (p : Place) (t : List ℕ) → past_spaces p t ≡ place_behind p (spaces_of t) (without_spaces t)
+spaces_place : (p : Position) (t : List ℕ) → past_spaces p t ≡ position_after p (spaces_of t) (without_spaces t)
 unfolding spaces_of
 spaces_place p [] = refl
-spaces_place p (c ∷ r) = by (c == space) (spaces_place (place_past p c r) r)
+spaces_place p (c ∷ r) = by (c == space) (spaces_place (position_past p c r) r)
   where
-    by : (b : Bool) → past_spaces (place_past p c r) r ≡ place_behind (place_past p c r) (spaces_of r) (without_spaces r)
-        → (if b then past_spaces (place_past p c r) r else p) ≡ place_behind p (if b then c ∷ spaces_of r else []) (if b then without_spaces r else c ∷ r)
-    by true e = e ∙ ap (λ l. place_behind (place_past p c l) (spaces_of r) (without_spaces r)) (spaces_cut r)
+    by : (b : Bool) → past_spaces (position_past p c r) r ≡ position_after (position_past p c r) (spaces_of r) (without_spaces r)
+        → (if b then past_spaces (position_past p c r) r else p) ≡ position_after p (if b then c ∷ spaces_of r else []) (if b then without_spaces r else c ∷ r)
+    by true e = e ∙ ap (λ l. position_after (position_past p c l) (spaces_of r) (without_spaces r)) (spaces_cut r)
     by false e = refl
 
 -- ---- lines
 
-step_up : (p : Place) (c : ℕ) (r : List ℕ) → p.line ≤ (place_past p c r).line
+step_up : (p : Position) (c : ℕ) (r : List ℕ) → p.line ≤ (position_past p c r).line
 step_up p c r = by (ends_line c r)
   where
-    line_of : Place → ℕ
+    line_of : Position → ℕ
     line_of q = q.line
 
     by : (b : Bool) → p.line ≤ line_of (if b then record { index = suc p.index; line = suc p.line; col = 0 } else record { index = suc p.index; line = p.line; col = suc p.col })
     by true = omega arith
     by false = omega arith
 
-line_up : (p : Place) (t next : List ℕ) → p.line ≤ (place_behind p t next).line
+line_up : (p : Position) (t next : List ℕ) → p.line ≤ (position_after p t next).line
 line_up p [] next = omega arith
 line_up p (c ∷ t) next =
     let h = step_up p c (t ++ next) in
-    let k = line_up (place_past p c (t ++ next)) t next in omega (arith, h, k)
+    let k = line_up (position_past p c (t ++ next)) t next in omega (arith, h, k)
 
-break_up : (p : Place) (c : ℕ) (r : List ℕ) → ends_line c r ≡ true → (place_past p c r).line ≡ suc p.line
+break_up : (p : Position) (c : ℕ) (r : List ℕ) → ends_line c r ≡ true → (position_past p c r).line ≡ suc p.line
 break_up p c r h = rw h refl
 
 no_feed : (c : ℕ) (r : List ℕ) → begins_with 10 r ≡ false → is_before_line_feed c r ≡ false
@@ -91,20 +92,20 @@ no_feed c (d ∷ r) h = rw h (by (c == 13))
     by false = refl
 
 -- a text with a whole line ends on a later one
-lines_up : (p : Place) (t next : List ℕ) → is_nil (split t).complete ≡ false → begins_with 10 next ≡ false → p.line < (place_behind p t next).line
+lines_up : (p : Position) (t next : List ℕ) → is_nil (split t).complete ≡ false → begins_with 10 next ≡ false → p.line < (position_after p t next).line
 lines_up p [] next h f = cc
-lines_up p (c ∷ t) next h f = by (is_break c) (is_before_line_feed c t) refl refl h (λ k. lines_up (place_past p c (t ++ next)) t next k f)
+lines_up p (c ∷ t) next h f = by (is_break c) (is_before_line_feed c t) refl refl h (λ k. lines_up (position_past p c (t ++ next)) t next k f)
   where
     feed_next : (r : List ℕ) → is_before_line_feed c r ≡ false → is_before_line_feed c (r ++ next) ≡ false
     feed_next [] e = no_feed c next f
     feed_next (d ∷ r) e = e
 
     by : (b l : Bool) → is_break c ≡ b → is_before_line_feed c t ≡ l → is_nil (split_by b l c (split t)).complete ≡ false
-        → (is_nil (split t).complete ≡ false → (place_past p c (t ++ next)).line < (place_behind (place_past p c (t ++ next)) t next).line) → p.line < (place_behind (place_past p c (t ++ next)) t next).line
+        → (is_nil (split t).complete ≡ false → (position_past p c (t ++ next)).line < (position_after (position_past p c (t ++ next)) t next).line) → p.line < (position_after (position_past p c (t ++ next)) t next).line
     by true true e g h ih = let k = step_up p c (t ++ next) in let j = ih h in omega (arith, k, j)
     by true false e g h ih =
         let here = break_up p c (t ++ next) (rw (e, feed_next t g) refl) in
-        let k = line_up (place_past p c (t ++ next)) t next in omega (arith, here, k)
+        let k = line_up (position_past p c (t ++ next)) t next in omega (arith, here, k)
     by false l e g h ih = let k = step_up p c (t ++ next) in let j = ih (still (split t).complete h) in omega (arith, k, j)
       where
         still : (ls : List (List ℕ)) → is_nil (put_first c ls (split t).last).complete ≡ false → is_nil ls ≡ false
@@ -179,12 +180,12 @@ abbrev token_of : BlockStyle → List ℕ → Tok
 token_of literal text = scalar Style.literal text
 token_of folded text = scalar Style.folded text
 
-piece_of : (a : Account) (style : BlockStyle) (piece next text : List ℕ) (p : Place) (following : Option Tok) → IsBlockScalar a piece next style text p → IsPiece a piece next following p (token_of style text)
+piece_of : (a : Account) (style : BlockStyle) (piece next text : List ℕ) (p : Position) (following : Option Tok) → IsBlockScalar a piece next style text p → IsPiece a piece next following p (token_of style text)
 piece_of a literal piece next text p following h = h
 piece_of a folded piece next text p following h = h
 
 -- the scan ended on a later line, or at the text's end
-abbrev IsBelow : (start end : Place) → (rest : List ℕ) → Type 0
+abbrev IsBelow : (start end : Position) → (rest : List ℕ) → Type 0
 IsBelow start end rest = (rest ≡ []) ⊎ (nat_lt start.line end.line ≡ true)
 
 end_no_text : (t : List ℕ) → has_no_nul t ≡ true → is_at_end t ≡ true → t ≡ []
@@ -203,8 +204,8 @@ module _ (a : Account) (indent : ℕ) (outside : is_in_flow a ≡ false) (column
       by false e =
           let q = piece_has_line (collection_by indent) (c ∷ piece) next b e is in
           let up = lines_up a.place (c ∷ piece) next q.0 q.1 in
-          let stays = line_up (place_behind a.place (c ∷ piece) next) (spaces_of next) (without_spaces next) in
-          let here = ap (λ (z : Place). z.line) (spaces_place (place_behind a.place (c ∷ piece) next) next) in
+          let stays = line_up (position_after a.place (c ∷ piece) next) (spaces_of next) (without_spaces next) in
+          let here = ap (λ (z : Position). z.line) (spaces_place (position_after a.place (c ∷ piece) next) next) in
           inr (grind (arith, nat_tests, up, stays, here))
 
   found : (style : BlockStyle) (text piece next : List ℕ) (b : BlockRead) → has_no_nul next ≡ true → text ≡ piece ++ next → block_read (collection_by indent) piece next ≡ Some b → b.style ≡ style
@@ -219,7 +220,7 @@ module _ (a : Account) (indent : ℕ) (outside : is_in_flow a ≡ false) (column
       is_filled = spaces_fill next (without_spaces next);
       is_piece = λ following. subst (λ l. IsPiece a (c ∷ piece) l following (block_place b.column a.place (c ∷ piece) next) (token_of style b.text)) (spaces_cut next)
           (piece_of a style (c ∷ piece) next b.text (block_place b.column a.place (c ∷ piece) next) following (outside, (b.column, read_is, refl)));
-      is_end = spaces_place (place_behind a.place (c ∷ piece) next) next ∙ ap (λ l. place_behind (place_behind a.place (c ∷ piece) l) (spaces_of next) (without_spaces next)) (spaces_cut next);
+      is_end = spaces_place (position_after a.place (c ∷ piece) next) next ∙ ap (λ l. position_after (position_after a.place (c ∷ piece) l) (spaces_of next) (without_spaces next)) (spaces_cut next);
     },
     below c piece next b nul is,
   )

@@ -6,7 +6,7 @@ use Rattle.yaml_tokens.specs.declared.problem.Fault.{Fault}
 use Rattle.defs_text.specs.Classes.{is_blank, is_break}
 use Rattle.defs_text.specs.Breaks.{is_before_line_feed}
 use Rattle.defs_scalar.specs.Directives.{Directive, version, tag_declaration, reserved}
-use Rattle.defs_token.specs.Text.{is_at_line_end, has_no_break}
+use Rattle.defs_text.specs.Breaks.{is_at_line_end, has_no_break}
 use Rattle.defs_token.specs.Filler.{is_filler}
 use Rattle.defs_token.specs.Account.{Account}
 use Rattle.defs_token.specs.Piece.{IsPiece, IsDirective}

@@ -2,7 +2,7 @@
 use Rattle.std.proofs.Common.{◌≡◌, ℕ, List, [], ◌∷◌, ◌++◌, Bool, true, false, ◌||◌, ◌==◌, not, refl}
 use Rattle.std.proofs.lemmas.Bool.{and_parts, eqb-true}
 use Rattle.defs_text.specs.Classes.{is_blank, is_break, is_nul}
-use Rattle.defs_token.specs.Text.{has_no_break}
+use Rattle.defs_text.specs.Breaks.{has_no_break}
 use Rattle.defs_token.specs.Filler.{is_filler}
 use Rattle.proof_lexers.specs.PlainEnds.{is_white, is_gap}
 

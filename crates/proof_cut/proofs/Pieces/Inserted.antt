@@ -2,12 +2,13 @@
 use Rattle.std.proofs.Common.{◌≡◌, ℕ, suc, ◌≤◌, List, [], ◌∷◌, ◌++◌, Bool, true, false, ◌&&◌, ◌||◌, ◌==◌, not, length, Option, Some, None, refl, ap, sym, subst, ◌∙◌, arith, append_assoc}
 use Rattle.std.specs.List.{insert}
 use Rattle.std.proofs.lemmas.Bool.{and_parts, eqb-true}
-use Rattle.defs_text.specs.Position.{Place}
+use Rattle.defs_text.specs.Position.{Position}
 use Rattle.defs_text.specs.Text.{is_nil}
 use Rattle.defs_token.specs.Token.{Tok, Token, stream_start, stream_end, version_directive, tag_directive, document_start, document_end, block_sequence_start, block_mapping_start, block_end, flow_sequence_start, flow_sequence_end, flow_mapping_start, flow_mapping_end, block_entry, flow_entry, key, value, alias, anchor, tag, scalar}
 use Rattle.defs_text.specs.Classes.{is_blank, is_break}
 use Rattle.defs_text.specs.Breaks.{is_before_line_feed}
-use Rattle.defs_token.specs.Text.{ends_line, place_past, place_behind, has_no_break}
+use Rattle.defs_text.specs.Breaks.{ends_line, has_no_break}
+use Rattle.defs_text.specs.Position.{position_past, position_after}
 use Rattle.defs_token.specs.Account.{sequence, Level, Account, before_past, settled, blocks_at, blocks_past, levels_past, account_past_filler, account_past_token}
 use Rattle.defs_token.specs.Piece.{begins_node}
 use Rattle.defs_token.specs.Cut.{Written, IsRow, spelled, account_at, account_past, account_past_row}
@@ -30,7 +31,7 @@ pub bare_behind : (a : Account) (w : Written) (ws : List Written) (f : List ℕ)
 bare_behind a w ws f = ap (λ b. account_past_row (account_past_token b w.piece (spelled ws f) w.token.tok) ws f) (bare_at a w (spelled ws f))
 
 -- the account behind a row with a key before it
-pub key_behind : (a : Account) (w : Written) (ws : List Written) (f : List ℕ) (p : Place) → account_past_row a (empty_token w.filler (key_at p) ∷ bare w ∷ ws) f ≡ account_past_row a (w ∷ ws) f
+pub key_behind : (a : Account) (w : Written) (ws : List Written) (f : List ℕ) (p : Position) → account_past_row a (empty_token w.filler (key_at p) ∷ bare w ∷ ws) f ≡ account_past_row a (w ∷ ws) f
 key_behind a w ws f p = bare_behind a w ws f
 
 -- ---- other block collections
@@ -88,7 +89,7 @@ one_more_settled : (bs : List (Option ℕ)) (n : ℕ) → AreSettled bs → AreS
 one_more_settled bs n s column = ap (λ l. Some n ∷ l) (s column)
 
 -- The account behind a row with a mapping's start and a key before it: the mapping is open besides, in the column of the key.
-pub mapping_behind : (a : Account) (w : Written) (ws : List Written) (f : List ℕ) (p q : Place) (ms : List Level) → inside [] (w ∷ ws) ≡ Some ms → is_nil w.piece ≡ false → ((column : ℕ) → settled column a.blocks ≡ a.blocks) →
+pub mapping_behind : (a : Account) (w : Written) (ws : List Written) (f : List ℕ) (p q : Position) (ms : List Level) → inside [] (w ∷ ws) ≡ Some ms → is_nil w.piece ≡ false → ((column : ℕ) → settled column a.blocks ≡ a.blocks) →
     account_past_row a (empty_token w.filler (mapping_at p) ∷ empty_token [] (key_at q) ∷ bare w ∷ ws) f
     ≡ (let b : Account = account_past_row a (w ∷ ws) f in record b { blocks = Some ((account_at a w (spelled ws f)).place.col) ∷ b.blocks })
 mapping_behind a w ws f p q ms i solid s =
@@ -121,7 +122,7 @@ pub levels_behind : (a : Account) (ns ms os : List Level) (ws : List Written) (f
 levels_behind a ns ms os ws f i e = ap (λ l. (account_past_row (with_levels l a) ws f).levels) e ∙ ap (λ (b : Account). b.levels) (row_past_with_levels ns ms os a ws f i)
 
 -- The account behind a row with a pair's start and a key before it: the pair is open besides.
-pub pair_behind : (a : Account) (w : Written) (ws : List Written) (f : List ℕ) (p q : Place) (ls : List Level) → inside [] (w ∷ ws) ≡ Some [] → a.levels ≡ record { kind = sequence; pair = false } ∷ ls →
+pub pair_behind : (a : Account) (w : Written) (ws : List Written) (f : List ℕ) (p q : Position) (ls : List Level) → inside [] (w ∷ ws) ≡ Some [] → a.levels ≡ record { kind = sequence; pair = false } ∷ ls →
     account_past_row a (empty_token w.filler (pair_at p) ∷ empty_token [] (key_at q) ∷ bare w ∷ ws) f ≡ record (account_past_row a (w ∷ ws) f) { levels = record { kind = sequence; pair = true } ∷ ls }
 pair_behind a w ws f p q ls i e =
     let next : List ℕ = spelled ws f in
@@ -133,7 +134,7 @@ pair_behind a w ws f p q ls i e =
     ∙ ap (with_levels paired) (bare_behind a w ws f)
 
 -- and it is a row
-pub pair_row : (a : Account) (w : Written) (ws : List Written) (f : List ℕ) (last : Option Tok) (p q : Place) (ls ms : List Level) → begins_node (Some (w.token.tok)) ≡ true → inside [] (w ∷ ws) ≡ Some ms →
+pub pair_row : (a : Account) (w : Written) (ws : List Written) (f : List ℕ) (last : Option Tok) (p q : Position) (ls ms : List Level) → begins_node (Some (w.token.tok)) ≡ true → inside [] (w ∷ ws) ≡ Some ms →
     a.levels ≡ record { kind = sequence; pair = false } ∷ ls → IsRow a (w ∷ ws) f last → IsRow a (empty_token w.filler (pair_at p) ∷ empty_token [] (key_at q) ∷ bare w ∷ ws) f last
 pair_row a w ws f last p q ls ms n i e r =
     let same : a ≡ with_levels (above [] false sequence ls) a = ap (λ l. with_levels l a) e in
@@ -142,13 +143,13 @@ pair_row a w ws f last p q ls ms n i e r =
 
 -- ---- texts and rows
 
-pub mapping_spelled : (w : Written) (ws : List Written) (f : List ℕ) (p q : Place) → spelled (empty_token w.filler (mapping_at p) ∷ empty_token [] (key_at q) ∷ bare w ∷ ws) f ≡ spelled (w ∷ ws) f
+pub mapping_spelled : (w : Written) (ws : List Written) (f : List ℕ) (p q : Position) → spelled (empty_token w.filler (mapping_at p) ∷ empty_token [] (key_at q) ∷ bare w ∷ ws) f ≡ spelled (w ∷ ws) f
 mapping_spelled w ws f p q = refl
 
-pub pair_spelled : (w : Written) (ws : List Written) (f : List ℕ) (p q : Place) → spelled (empty_token w.filler (pair_at p) ∷ empty_token [] (key_at q) ∷ bare w ∷ ws) f ≡ spelled (w ∷ ws) f
+pub pair_spelled : (w : Written) (ws : List Written) (f : List ℕ) (p q : Position) → spelled (empty_token w.filler (pair_at p) ∷ empty_token [] (key_at q) ∷ bare w ∷ ws) f ≡ spelled (w ∷ ws) f
 pair_spelled w ws f p q = refl
 
-pub key_spelled : (w : Written) (ws : List Written) (f : List ℕ) (q : Place) → spelled (empty_token w.filler (key_at q) ∷ bare w ∷ ws) f ≡ spelled (w ∷ ws) f
+pub key_spelled : (w : Written) (ws : List Written) (f : List ℕ) (q : Position) → spelled (empty_token w.filler (key_at q) ∷ bare w ∷ ws) f ≡ spelled (w ∷ ws) f
 key_spelled w ws f q = refl
 
 -- the second part of a row
@@ -167,10 +168,10 @@ insert_tokens begin ts us t = ap (λ l. begin ∷ l) (between ts)
 
 -- ---- lines
 
-line_ended : (p : Place) (d : ℕ) (r : List ℕ) → ends_line d r ≡ true → (place_past p d r).line ≡ suc p.line
+line_ended : (p : Position) (d : ℕ) (r : List ℕ) → ends_line d r ≡ true → (position_past p d r).line ≡ suc p.line
 line_ended p d r h = rw h refl
 
-line_stays : (p : Place) (d : ℕ) (r : List ℕ) → ends_line d r ≡ false → (place_past p d r).line ≡ p.line
+line_stays : (p : Position) (d : ℕ) (r : List ℕ) → ends_line d r ≡ false → (position_past p d r).line ≡ p.line
 line_stays p d r h = rw h refl
 
 feed_ends : (e : ℕ) (r : List ℕ) → (e == 10) ≡ true → ends_line e r ≡ true
@@ -182,31 +183,31 @@ feed_ends e r h = let same : e ≡ 10 = eqb-true e 10 h in rw same (by r)
     by (d ∷ r) = refl
 
 -- CR LF ends a line
-two_end : (p : Place) (d : ℕ) (t : List ℕ) (c : ℕ) (r : List ℕ) → (c == 10) ≡ false → is_before_line_feed d (t ++ (c ∷ r)) ≡ true → suc p.line ≤ (place_behind (place_past p d (t ++ (c ∷ r))) t (c ∷ r)).line
+two_end : (p : Position) (d : ℕ) (t : List ℕ) (c : ℕ) (r : List ℕ) → (c == 10) ≡ false → is_before_line_feed d (t ++ (c ∷ r)) ≡ true → suc p.line ≤ (position_after (position_past p d (t ++ (c ∷ r))) t (c ∷ r)).line
 two_end p d [] c r n l = let q = and_parts (d == 13) (c == 10) l in absurd (cc (q.1, n))
 two_end p d (e ∷ t) c r n l =
     let q = and_parts (d == 13) (e == 10) l in
-    let next : Place = place_past p d (e ∷ (t ++ (c ∷ r))) in
+    let next : Position = position_past p d (e ∷ (t ++ (c ∷ r))) in
     let up : p.line ≤ next.line = (not_before_behind p (d ∷ []) (e ∷ (t ++ (c ∷ r)))).0 in
     let ended = line_ended next e (t ++ (c ∷ r)) (feed_ends e (t ++ (c ∷ r)) q.1) in
-    let on = (not_before_behind (place_past next e (t ++ (c ∷ r))) t (c ∷ r)).0 in
+    let on = (not_before_behind (position_past next e (t ++ (c ∷ r))) t (c ∷ r)).0 in
     omega (arith, up, ended, on)
 
 -- a text behind which the line is still the same has no break
-pub no_break_on_line : (p : Place) (t : List ℕ) (c : ℕ) (r : List ℕ) → (c == 10) ≡ false → (place_behind p t (c ∷ r)).line ≤ p.line → has_no_break t ≡ true
+pub no_break_on_line : (p : Position) (t : List ℕ) (c : ℕ) (r : List ℕ) → (c == 10) ≡ false → (position_after p t (c ∷ r)).line ≤ p.line → has_no_break t ≡ true
 no_break_on_line p [] c r n h = refl
-no_break_on_line p (d ∷ t) c r n h = by (is_break d) (is_before_line_feed d (t ++ (c ∷ r))) refl refl (λ k. no_break_on_line (place_past p d (t ++ (c ∷ r))) t c r n k)
+no_break_on_line p (d ∷ t) c r n h = by (is_break d) (is_before_line_feed d (t ++ (c ∷ r))) refl refl (λ k. no_break_on_line (position_past p d (t ++ (c ∷ r))) t c r n k)
   where
-    next : Place
-    next = place_past p d (t ++ (c ∷ r))
+    next : Position
+    next = position_past p d (t ++ (c ∷ r))
 
-    on : next.line ≤ (place_behind next t (c ∷ r)).line
+    on : next.line ≤ (position_after next t (c ∷ r)).line
     on = (not_before_behind next t (c ∷ r)).0
 
-    none : {A : Type 0} → suc p.line ≤ (place_behind next t (c ∷ r)).line → A
+    none : {A : Type 0} → suc p.line ≤ (position_after next t (c ∷ r)).line → A
     none k = absurd (omega (arith, h, k))
 
-    by : (b l : Bool) → is_break d ≡ b → is_before_line_feed d (t ++ (c ∷ r)) ≡ l → ((place_behind next t (c ∷ r)).line ≤ next.line → has_no_break t ≡ true) → (not b && has_no_break t) ≡ true
+    by : (b l : Bool) → is_break d ≡ b → is_before_line_feed d (t ++ (c ∷ r)) ≡ l → ((position_after next t (c ∷ r)).line ≤ next.line → has_no_break t ≡ true) → (not b && has_no_break t) ≡ true
     by false l e g ih = let same = line_stays p d (t ++ (c ∷ r)) (rw e refl) in ih (omega (arith, h, same))
     by true false e g ih = let ended = line_ended p d (t ++ (c ∷ r)) (rw (e, g) refl) in none (omega (arith, ended, on))
     by true true e g ih = none (two_end p d t c r n g)
@@ -218,15 +219,15 @@ spelled_before (w ∷ ws) f =
     ap (λ t. w.filler ++ (w.piece ++ t)) (spelled_before ws f) ∙ ap (λ t. w.filler ++ t) (sym (append_assoc w.piece (spelled ws []) f)) ∙ sym (append_assoc w.filler (w.piece ++ spelled ws []) f)
 
 -- the place behind a row
-pub place_of_row : (a : Account) (ws : List Written) (f : List ℕ) → (account_past_row a ws f).place ≡ place_behind a.place (spelled ws []) f
+pub place_of_row : (a : Account) (ws : List Written) (f : List ℕ) → (account_past_row a ws f).place ≡ position_after a.place (spelled ws []) f
 place_of_row a [] f = refl
 place_of_row a (w ∷ ws) f =
     let next : List ℕ = spelled ws f in
-    let at : Place = place_behind a.place w.filler (w.piece ++ next) in
+    let at : Position = position_after a.place w.filler (w.piece ++ next) in
     place_of_row (account_past a w next) ws f
-    ∙ ap (λ t. place_behind (place_behind (place_behind a.place w.filler (w.piece ++ t)) w.piece t) (spelled ws []) f) (spelled_before ws f)
-    ∙ ap (λ p. place_behind p (spelled ws []) f) (sym (place_append a.place w.filler w.piece (spelled ws [] ++ f)))
-    ∙ sym (place_append a.place (w.filler ++ w.piece) (spelled ws []) f) ∙ ap (λ t. place_behind a.place t f) (append_assoc w.filler w.piece (spelled ws []))
+    ∙ ap (λ t. position_after (position_after (position_after a.place w.filler (w.piece ++ t)) w.piece t) (spelled ws []) f) (spelled_before ws f)
+    ∙ ap (λ p. position_after p (spelled ws []) f) (sym (place_append a.place w.filler w.piece (spelled ws [] ++ f)))
+    ∙ sym (place_append a.place (w.filler ++ w.piece) (spelled ws []) f) ∙ ap (λ t. position_after a.place t f) (append_assoc w.filler w.piece (spelled ws []))
 
 colon_breaks : is_break 58 ≡ false
 unfolding is_break
@@ -268,13 +269,13 @@ are_on_line ns ms (w ∷ ws) g r i h =
 
 -- A row of a key's tokens stands on one line with its colon, where the colon's line is not behind that of the first token.
 pub on_line : (a : Account) (w : Written) (ws : List Written) (f g r : List ℕ) (ms : List Level) → inside [] (w ∷ ws) ≡ Some ms → f ≡ g ++ (58 ∷ r)
-    → (place_behind (account_past_row a (w ∷ ws) f).place g (58 ∷ r)).line ≤ (account_at a w (spelled ws f)).place.line → AreOnLine (w ∷ ws) f
+    → (position_after (account_past_row a (w ∷ ws) f).place g (58 ∷ r)).line ≤ (account_at a w (spelled ws f)).place.line → AreOnLine (w ∷ ws) f
 on_line a w ws f g r ms i cut h =
     let start : Account = account_past_filler a w.filler (w.piece ++ spelled ws f) in
     let row : List ℕ = w.piece ++ spelled ws [] in
-    let end : (account_past_row a (w ∷ ws) f).place ≡ place_behind start.place row f = ap (λ (b : Account). b.place) (sym (bare_behind a w ws f)) ∙ place_of_row start (bare w ∷ ws) f in
-    let here : place_behind (account_past_row a (w ∷ ws) f).place g (58 ∷ r) ≡ place_behind start.place (row ++ g) (58 ∷ r) =
-    ap (λ p. place_behind p g (58 ∷ r)) (end ∙ ap (place_behind start.place row) cut) ∙ sym (place_append start.place row g (58 ∷ r)) in
-    let still : (place_behind start.place (row ++ g) (58 ∷ r)).line ≤ start.place.line = subst (λ (p : Place). p.line ≤ start.place.line) here h in
+    let end : (account_past_row a (w ∷ ws) f).place ≡ position_after start.place row f = ap (λ (b : Account). b.place) (sym (bare_behind a w ws f)) ∙ place_of_row start (bare w ∷ ws) f in
+    let here : position_after (account_past_row a (w ∷ ws) f).place g (58 ∷ r) ≡ position_after start.place (row ++ g) (58 ∷ r) =
+    ap (λ p. position_after p g (58 ∷ r)) (end ∙ ap (position_after start.place row) cut) ∙ sym (place_append start.place row g (58 ∷ r)) in
+    let still : (position_after start.place (row ++ g) (58 ∷ r)).line ≤ start.place.line = subst (λ (p : Position). p.line ≤ start.place.line) here h in
     let clean : has_no_break (row ++ g) ≡ true = no_break_on_line start.place (row ++ g) 58 r refl still in
     subst (AreOnLine (w ∷ ws)) (sym cut) (are_on_line [] ms (bare w ∷ ws) g r i clean)

@@ -5,7 +5,8 @@ use Rattle.defs_token.specs.Token.{Tok}
 use Rattle.yaml_tokens.specs.declared.problem.Fault.{Fault}
 use Rattle.defs_text.specs.Classes.{is_blank, is_break, is_nul, is_blank_or_end, is_flow, is_anchor_name}
 use Rattle.defs_scalar.specs.Tags.{all_of}
-use Rattle.defs_token.specs.Text.{place_behind, has_no_break}
+use Rattle.defs_text.specs.Position.{position_after}
+use Rattle.defs_text.specs.Breaks.{has_no_break}
 use Rattle.defs_token.specs.Account.{Account}
 use Rattle.defs_token.specs.Piece.{IsPiece, is_name, goes_on_with_name}
 use Rattle.model_lexers.specs.Machine.{Read}
@@ -50,7 +51,7 @@ module _ (a : Account) (more name rest : List ℕ) (is : is_name name ≡ true) 
   is_of_token true following = ((refl, is, ends), refl)
   is_of_token false following = ((refl, is, ends), refl)
 
-  place_of : (b : Bool) → further (1 + length name) a.place ≡ place_behind a.place (mark b ∷ name) rest
+  place_of : (b : Bool) → further (1 + length name) a.place ≡ position_after a.place (mark b ∷ name) rest
   place_of b =
       let more_by_one : 1 + length name ≡ length (mark b ∷ name) = omega arith in
       rw more_by_one (place_in_line a.place (mark b ∷ name) rest (rw (mark_in_line b) (name_in_line name is)))

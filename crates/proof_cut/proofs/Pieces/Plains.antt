@@ -2,13 +2,13 @@
 use Rattle.std.proofs.Common.{◌≡◌, ℕ, List, [], ◌∷◌, ◌++◌, Bool, true, false, ◌&&◌, ◌||◌, ◌==◌, not, nat_lt, if◌then◌else◌, Some, Result, Ok, slice_index, refl, ap, sym, subst, ◌∙◌}
 use Rattle.std.specs.Prelude.{codes}
 use Rattle.std.proofs.lemmas.Bool.{and_parts, eqb-true}
-use Rattle.defs_text.specs.Position.{Place}
+use Rattle.defs_text.specs.Position.{Position}
 use Rattle.yaml_chars.specs.Class as model_classes
 use Rattle.defs_token.specs.Token.{scalar, plain}
 use Rattle.yaml_tokens.specs.declared.problem.Fault.{Fault}
 use Rattle.defs_text.specs.Classes.{is_one_of, is_blank, is_break, is_nul, is_blank_or_end, is_flow, is_at_gap, is_document_marker}
 use Rattle.defs_scalar.specs.FlowScalar.{plain_value}
-use Rattle.defs_token.specs.Text.{place_behind}
+use Rattle.defs_text.specs.Position.{position_after}
 use Rattle.defs_token.specs.Filler.{is_filler}
 use Rattle.defs_token.specs.Plain.{is_value_indicator, begins_flow, may_begin, begins_plain, is_whole_plain}
 use Rattle.defs_token.specs.Account.{Account, is_in_flow, is_adjacent, collection_column}
@@ -63,7 +63,7 @@ unfolding model_classes.is_flow
 same_flow_start [] = refl
 same_flow_start (d ∷ r) = sym (same_flow d)
 
-dash_refused : (ctx : Context) (text : List ℕ) (p : Place) (r : Read Plain) → at_dash ctx.flow text ≡ true → models.plain ctx text p ≡ Ok r → ⊥
+dash_refused : (ctx : Context) (text : List ℕ) (p : Position) (r : Read Plain) → at_dash ctx.flow text ≡ true → models.plain ctx text p ≡ Ok r → ⊥
 unfolding models.plain starts
 dash_refused ctx text p r d e = by (ctx.flow && nat_lt p.col ctx.indent) refl
   where
@@ -76,7 +76,7 @@ between true y h = h
 between false y h = cc
 
 -- what is read began as a plain scalar may
-begins_as_read : (ctx : Context) (adjacent : Bool) (text : List ℕ) (p : Place) (r : Read Plain) → comes_plain ctx.flow adjacent p.col text ≡ true → models.plain ctx text p ≡ Ok r → begins_plain ctx.flow adjacent p.col text ≡ true
+begins_as_read : (ctx : Context) (adjacent : Bool) (text : List ℕ) (p : Position) (r : Read Plain) → comes_plain ctx.flow adjacent p.col text ≡ true → models.plain ctx text p ≡ Ok r → begins_plain ctx.flow adjacent p.col text ≡ true
 unfolding at_dash
 begins_as_read ctx adjacent [] p r h e = cc
 begins_as_read ctx adjacent (c ∷ t) p r h e = by_dash (c == 45) refl
@@ -96,7 +96,7 @@ begins_as_read ctx adjacent (c ∷ t) p r h e = by_dash (c == 45) refl
 module _ (a : Account) (ctx : Context) (text : List ℕ) (r : Read Plain) (flows : is_in_flow a ≡ ctx.flow) (column : collection_column a ≡ collection_of ctx.indent)
     (begins : begins_plain (is_in_flow a) (is_adjacent a.before) a.place.col text ≡ true) where
   found : (piece gap rest value : List ℕ) → text ≡ piece ++ (gap ++ rest) → is_whole_plain (is_in_flow a) (collection_column a) piece (gap ++ rest) ≡ true → is_filler false gap rest ≡ true
-      → plain_value piece ≡ Some value → ReadAs a text (scalar plain value) a.place rest (place_behind a.place (piece ++ gap) rest)
+      → plain_value piece ≡ Some value → ReadAs a text (scalar plain value) a.place rest (position_after a.place (piece ++ gap) rest)
   found [] gap rest value cut whole filled is = absurd (cc whole)
   found (c ∷ piece) gap rest value cut whole filled is = record {
     first = c;

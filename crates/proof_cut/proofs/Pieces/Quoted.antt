@@ -4,7 +4,7 @@ use Rattle.std.specs.List.{list_all}
 use Rattle.std.specs.Char.{digit_value}
 use Rattle.std.proofs.lemmas.Bool.{and_parts, eqb-true}
 use Rattle.std.proofs.lemmas.List.{append_cancel_right}
-use Rattle.defs_text.specs.Position.{Place}
+use Rattle.defs_text.specs.Position.{Position}
 use Rattle.yaml_chars.specs.Class.{is_break, is_blank, is_hex}
 use Rattle.defs_token.specs.Token.{Tok, scalar}
 use Rattle.yaml_tokens.specs.declared.problem.Fault.{Fault}
@@ -13,7 +13,7 @@ use Rattle.yaml_tokens.specs.declared.problem.Problem.TheVariants as problem
 use Rattle.defs_text.specs.Classes as classes
 use Rattle.defs_text.specs.Breaks.{is_before_line_feed}
 use Rattle.defs_scalar.specs.FlowScalar.{begins_with}
-use Rattle.defs_token.specs.Text.{place_past, place_behind}
+use Rattle.defs_text.specs.Position.{position_past, position_after}
 use Rattle.defs_token.specs.Account.{Account}
 use Rattle.defs_token.specs.Piece.{IsPiece}
 use Rattle.model_lexers.specs.declared.context.Context.{Context}
@@ -39,21 +39,21 @@ fits doubled a = (slice_index a 0 == 39) ≡ true
 fits _ a = Unit {0}
 
 -- what a turn does at a character: it stays before it, fails, or is behind it
-data Goes (p : Place) (c : ℕ) (a : List ℕ) : Turn State Fault → Type 0 where
+data Goes (p : Position) (c : ℕ) (a : List ℕ) : Turn State Fault → Type 0 where
   stays : (t : State) → t.place ≡ p → Goes p c a (stop t)
   fails : (f : Fault) → Goes p c a (fail f)
-  goes : (t : State) → t.place ≡ place_past p c a → fits t.mode a → Goes p c a (on t)
+  goes : (t : State) → t.place ≡ position_past p c a → fits t.mode a → Goes p c a (on t)
 
-past_char : (p : Place) (c : ℕ) (a : List ℕ) → is_break c ≡ false → past p ≡ place_past p c a
+past_char : (p : Position) (c : ℕ) (a : List ℕ) → is_break c ≡ false → past p ≡ position_past p c a
 past_char p c a h = let no_break : classes.is_break c ≡ false = same_break c ∙ h in sym (in_line_place c a p (rw no_break refl))
 
-past_first : (p : Place) (c : ℕ) (a : List ℕ) → is_break c ≡ true → is_cr_lf c a ≡ true → past p ≡ place_past p c a
+past_first : (p : Position) (c : ℕ) (a : List ℕ) → is_break c ≡ true → is_cr_lf c a ≡ true → past p ≡ position_past p c a
 past_first p c a h e =
     let breaks : classes.is_break c ≡ true = same_break c ∙ h in
     let feeds : is_before_line_feed c a ≡ true = sym (same_feed c a) ∙ e in
     sym (in_line_place c a p (rw (breaks, feeds) refl))
 
-past_line : (p : Place) (c : ℕ) (a : List ℕ) → is_break c ≡ true → is_cr_lf c a ≡ false → past_break p ≡ place_past p c a
+past_line : (p : Position) (c : ℕ) (a : List ℕ) → is_break c ≡ true → is_cr_lf c a ≡ false → past_break p ≡ position_past p c a
 past_line p c a h e =
     let breaks : classes.is_break c ≡ true = same_break c ∙ h in
     let feeds : is_before_line_feed c a ≡ false = sym (same_feed c a) ∙ e in
@@ -78,7 +78,7 @@ hex_is_no_break c h = by (c == 10) (c == 13) refl refl
     by false true e f = let same : c ≡ 13 = eqb-true c 13 f in absurd (cc (rw same at h))
     by false false e f = refl
 
-module _ (single : Bool) (ctx : Context) (start : Place) (c : ℕ) (a : List ℕ) where
+module _ (single : Bool) (ctx : Context) (start : Position) (c : ℕ) (a : List ℕ) where
   char_goes : (s : State) → is_break c ≡ false → Goes s.place c a (at_char c s)
   char_goes s h = goes _ (past_char s.place c a h) tt
 
@@ -184,17 +184,17 @@ module _ (single : Bool) (ctx : Context) (start : Place) (c : ℕ) (a : List ℕ
   turn_goes closed s f = stays s refl
 
 -- What a run passed, and the place behind it.
-record Went (p : Place) (text rest : List ℕ) (q : Place) : Type 0 where
+record Went (p : Position) (text rest : List ℕ) (q : Position) : Type 0 where
   passed : List ℕ
   cut : text ≡ passed ++ rest
-  is_place : q ≡ place_behind p passed rest
+  is_place : q ≡ position_after p passed rest
 
-module _ (single : Bool) (ctx : Context) (start : Place) where
-  one_more : (c : ℕ) (a : List ℕ) (p q : Place) (rest : List ℕ) (there : Place) → q ≡ place_past p c a → Went q a rest there → Went p (c ∷ a) rest there
+module _ (single : Bool) (ctx : Context) (start : Position) where
+  one_more : (c : ℕ) (a : List ℕ) (p q : Position) (rest : List ℕ) (there : Position) → q ≡ position_past p c a → Went q a rest there → Went p (c ∷ a) rest there
   one_more c a p q rest there e w = record {
     passed = c ∷ w.passed;
     cut = ap (λ r. c ∷ r) w.cut;
-    is_place = w.is_place ∙ ap (λ z. place_behind z w.passed rest) (e ∙ ap (place_past p c) w.cut);
+    is_place = w.is_place ∙ ap (λ z. position_after z w.passed rest) (e ∙ ap (position_past p c) w.cut);
   }
 
   went : (a : List ℕ) (s : State) → fits s.mode a → (t : Stop State) → run (turn single ctx start) a s ≡ Ok t → Went s.place a t.rest t.state.place
@@ -207,7 +207,7 @@ module _ (single : Bool) (ctx : Context) (start : Place) where
       by others (fail u) (fails v) e = cc
       by others (on u) (goes v place fit) e = one_more c a s.place u.place t.rest t.state.place place (others u fit e)
 
-  closed_at : (m : Mode) (rest : List ℕ) (p : Place) (text : List ℕ) (r : Read (List ℕ)) → end_in start m rest p text ≡ Ok r → (r.rest ≡ rest) × (r.place ≡ p)
+  closed_at : (m : Mode) (rest : List ℕ) (p : Position) (text : List ℕ) (r : Read (List ℕ)) → end_in start m rest p text ≡ Ok r → (r.rest ≡ rest) × (r.place ≡ p)
   closed_at closed rest p text r e = let same : record { rest = rest; place = p; value = text } ≡ r = cc in rw (← same) (refl, refl)
   closed_at first rest p text r e = cc
   closed_at inside rest p text r e = cc
@@ -234,7 +234,7 @@ unfolding classes.is_nul
 some_chars [] h = refl
 some_chars (c ∷ r) h = let q = and_parts (not (c == 0)) (has_no_nul r) h in rw q.0 (some_chars r q.1)
 
-quoted_passes : (single : Bool) (ctx : Context) (more : List ℕ) (p : Place) (r : Read (List ℕ)) → quoted single ctx (quote_of single ∷ more) p ≡ Ok r → Went (past p) more r.rest r.place
+quoted_passes : (single : Bool) (ctx : Context) (more : List ℕ) (p : Position) (r : Read (List ℕ)) → quoted single ctx (quote_of single ∷ more) p ≡ Ok r → Went (past p) more r.rest r.place
 unfolding quoted
 quoted_passes single ctx more p r e = read_to single ctx p more (record { mode = first; place = past p; folded = nothing }) tt r e
 
@@ -255,13 +255,13 @@ module _ (a : Account) (more body rest value : List ℕ) where
   is_of_token true is ends following = ((body, refl, is, no_quote (begins_with 39 rest) ends), refl)
   is_of_token false is ends following = ((body, refl, is), refl)
 
-  place_of : (single : Bool) (place : Place) → more ≡ body ++ quote_of single ∷ rest → Went (past a.place) more rest place → place ≡ place_behind a.place (piece single) rest
+  place_of : (single : Bool) (place : Position) → more ≡ body ++ quote_of single ∷ rest → Went (past a.place) more rest place → place ≡ position_after a.place (piece single) rest
   place_of single place cut w =
       let all : more ≡ (body ++ quote_of single ∷ []) ++ rest = cut ∙ sym (append_assoc body (quote_of single ∷ []) rest) in
       let same : w.passed ≡ body ++ quote_of single ∷ [] = append_cancel_right w.passed (body ++ quote_of single ∷ []) rest (sym w.cut ∙ all) in
-      w.is_place ∙ ap (λ l. place_behind (past a.place) l rest) same ∙ ap (λ q. place_behind q (body ++ quote_of single ∷ []) rest) (past_char a.place (quote_of single) ((body ++ quote_of single ∷ []) ++ rest) (no_break_quote single))
+      w.is_place ∙ ap (λ l. position_after (past a.place) l rest) same ∙ ap (λ q. position_after q (body ++ quote_of single ∷ []) rest) (past_char a.place (quote_of single) ((body ++ quote_of single ∷ []) ++ rest) (no_break_quote single))
 
-  found : (single : Bool) (place : Place) → more ≡ body ++ quote_of single ∷ rest → value_of single body ≡ Some value → ends_before single rest ≡ true → Went (past a.place) more rest place
+  found : (single : Bool) (place : Position) → more ≡ body ++ quote_of single ∷ rest → value_of single body ≡ Some value → ends_before single rest ≡ true → Went (past a.place) more rest place
       → ReadAs a (quote_of single ∷ more) (scalar (quoted_style single) value) a.place rest place
   found single place cut is ends w = record {
     first = quote_of single;

@@ -5,7 +5,7 @@ use Rattle.defs_token.specs.Token.{Tok}
 use Rattle.yaml_tokens.specs.declared.problem.Fault.{Fault}
 use Rattle.defs_text.specs.Classes.{is_break, is_alpha, is_uri, is_tag, is_decimal_digit, is_letter}
 use Rattle.defs_scalar.specs.Tags.{Tag, all_of, leading, behind, is_same, decoded, tag_by, tag_of_class, verbatim, begins_with_mark, named, shorthand, written_tag}
-use Rattle.defs_token.specs.Text.{has_no_break}
+use Rattle.defs_text.specs.Breaks.{has_no_break}
 use Rattle.defs_token.specs.Account.{is_in_flow}
 use Rattle.model_lexers.specs.Machine.{Read}
 use Rattle.model_lexers.specs.Tag as models

@@ -1,6 +1,6 @@
 -- One fetch: white space is passed over, and then the first character decides.
 use Rattle.std.proofs.Common.{◌≡◌, ℕ, ◌+◌, List, [], ◌∷◌, Bool, true, false, ◌==◌, if◌then◌else◌, Option, Some, None, Result, Ok, refl, ◌∙◌}
-use Rattle.defs_text.specs.Position.{Place}
+use Rattle.defs_text.specs.Position.{Position}
 use Rattle.defs_text.specs.Text.{is_nil}
 use Rattle.yaml_tokens.specs.declared.problem.Fault.{Fault}
 use Rattle.defs_layout.specs.JsonGap.{Blank, spell_gap}
@@ -22,7 +22,7 @@ pub record Staled {d : Around} (r : List ℕ) (fs : List FlowLevel) (ks : List (
   pub same : is_nil fs ≡ false → key ≡ p.key
   pub is : try_held stale (stands r fs ks p) ≡ Ok (stands r fs ks (record p { key = key }))
 
-still_loose : (place : Place) (k : Key) (b : Bool) → k.required ≡ false → is_required (if b then None else Some k) ≡ false
+still_loose : (place : Position) (k : Key) (b : Bool) → k.required ≡ false → is_required (if b then None else Some k) ≡ false
 still_loose place k true h = refl
 still_loose place k false h = h
 
@@ -55,7 +55,7 @@ module _ {d : Around} (c : ℕ) (a : List ℕ) (ks : List (Option Key)) (solid :
 
 -- The first character of a token decides. Inside flow the key is the one before, and whether one may begin.
 pub record Fetched {d : Around} (from : State) (c : ℕ) (a : List ℕ) (fs : List FlowLevel) (ks : List (Option Key)) (p : Parts d) : Type 0 where
-  pub place : Place
+  pub place : Position
   pub fits : Fits d place
   pub allowed : Bool
   pub leading : Bool

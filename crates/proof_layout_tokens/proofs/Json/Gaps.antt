@@ -1,7 +1,7 @@
 -- White space between tokens is passed over.
 use Rattle.std.proofs.Common.{◌≡◌, ℕ, List, [], ◌∷◌, Bool, true, false, ◌||◌, not, ◌==◌, if◌then◌else◌, Option, Result, Ok, refl, slice_index, ◌∙◌, arith}
 use Rattle.std.proofs.lemmas.Bool.Decides.{nat_tests}
-use Rattle.defs_text.specs.Position.{Place}
+use Rattle.defs_text.specs.Position.{Position}
 use Rattle.yaml_chars.specs.Class.{is_break, is_blank}
 use Rattle.defs_text.specs.Text.{is_nil}
 use Rattle.yaml_tokens.specs.declared.problem.Fault.{Fault}
@@ -39,7 +39,7 @@ not_before (block i is l shut) fs ks r p broken = absurd (broken tt)
 
 -- The state is at r, with another place; outside flow a key may have become possible.
 pub record Skipped {d : Around} (t : Result State Fault) (r : List ℕ) (fs : List FlowLevel) (ks : List (Option Key)) (p : Parts d) : Type 0 where
-  pub place : Place
+  pub place : Position
   pub fits : Fits d place
   pub allowed : Bool
   pub leading : Bool
@@ -95,8 +95,8 @@ starts_break (line_feed ∷ g) = true
 starts_break (carriage_return ∷ g) = true
 
 -- Blanks are passed over, up to a break or to r.
-record Passed (d : Around) (a r : List ℕ) (p : Place) (w : Whitespace) : Type 0 where
-  place : Place
+record Passed (d : Around) (a r : List ℕ) (p : Position) (w : Whitespace) : Type 0 where
+  place : Position
   fits : Fits d place
   gap : List Blank
   may : MayStand d gap
@@ -104,15 +104,15 @@ record Passed (d : Around) (a r : List ℕ) (p : Place) (w : Whitespace) : Type 
   edge : starts_break gap ≡ true
   is : scalar_space.space_from Yes a (record { place = p; found = w }) ≡ Ok (record { rest = spell_gap gap r; place = place; value = found })
 
-solid_passed : (d : Around) (r : List ℕ) (p : Place) (w : Whitespace) → Fits d p → is_solid r ≡ true → Passed d r r p w
+solid_passed : (d : Around) (r : List ℕ) (p : Position) (w : Whitespace) → Fits d p → is_solid r ≡ true → Passed d r r p w
 solid_passed d [] p w fits h = record { place = p; fits = fits; gap = []; may = λ _. tt; found = w; edge = refl; is = refl }
 solid_passed d (c ∷ a) p w fits h = let z = (content c h).common in record { place = p; fits = fits; gap = []; may = λ _. tt; found = w; edge = refl; is = rw (z.space, z.tab, z.hash) refl }
 
-on : (d : Around) (a b r : List ℕ) (p q : Place) (w x : Whitespace) → scalar_space.space_from Yes a (record { place = p; found = w }) ≡ scalar_space.space_from Yes b (record { place = q; found = x })
+on : (d : Around) (a b r : List ℕ) (p q : Position) (w x : Whitespace) → scalar_space.space_from Yes a (record { place = p; found = w }) ≡ scalar_space.space_from Yes b (record { place = q; found = x })
     → Passed d b r q x → Passed d a r p w
 on d a b r p q w x e z = record { place = z.place; fits = z.fits; gap = z.gap; may = z.may; found = z.found; edge = z.edge; is = e ∙ z.is }
 
-passed : (d : Around) (g : List Blank) (r : List ℕ) (p : Place) (w : Whitespace) → MayStand d g → Fits d p → is_solid r ≡ true → Passed d (spell_gap g r) r p w
+passed : (d : Around) (g : List Blank) (r : List ℕ) (p : Position) (w : Whitespace) → MayStand d g → Fits d p → is_solid r ≡ true → Passed d (spell_gap g r) r p w
 passed d [] r p w may fits h = solid_passed d r p w fits h
 passed d (space ∷ g) r p w may fits h = on d _ _ r p (past p) w (record w { has_valid_yaml_ws = true }) refl (passed d g r (past p) (record w { has_valid_yaml_ws = true }) may (fits_past d p fits) h)
 passed d (tab ∷ g) r p w may fits h = on d _ _ r p (past p) w (record w { found_tabs = true }) refl (passed d g r (past p) (record w { found_tabs = true }) (λ l. absurd (may l)) (fits_past d p fits) h)
@@ -121,7 +121,7 @@ passed d (carriage_return ∷ g) r p w may fits h = record { place = p; fits = f
 
 -- The state is behind a part of the white space, at a break or at r.
 pub record Trimmed {d : Around} (t : Result State Fault) (r : List ℕ) (fs : List FlowLevel) (ks : List (Option Key)) (p : Parts d) : Type 0 where
-  pub place : Place
+  pub place : Position
   pub fits : Fits d place
   pub gap : List Blank
   pub may : MayStand d gap

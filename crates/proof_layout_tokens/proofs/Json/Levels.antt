@@ -1,20 +1,18 @@
 -- Places in a JSON value and the levels of indentation around it.
 use Rattle.std.proofs.Common.{◌≡◌, ℕ, ◌+◌, ◌≤◌, Bool, true, false, nat_lt, arith}
 use Rattle.std.proofs.lemmas.Bool.{le-ltb}
-use Rattle.defs_text.specs.Position.{Place}
+use Rattle.defs_text.specs.Position.{Position}
 use Rattle.model_lexers.specs.Machine.{past, past_break}
+use Rattle.proof_lexers.proofs.Quoted.NoNul.{no_less}
 use Rattle.proof_layout_tokens.proofs.Json.States.{Around, nothing, block, opened_indent, indent_of, IsLine, Fits}
-
-pub no_less : (n : ℕ) → nat_lt n 0 ≡ false
-no_less n = le-ltb n 0 (omega arith)
 
 -- ---- places
 
-pub fits_past : (d : Around) (p : Place) → Fits d p → Fits d (past p)
+pub fits_past : (d : Around) (p : Position) → Fits d p → Fits d (past p)
 fits_past nothing p fits = tt
 fits_past (block i is l shut) p fits = let deep = fits.0 in (omega (arith, deep), fits.1)
 
-pub fits_break : (d : Around) (p : Place) → (IsLine d → ⊥) → Fits d (past_break p)
+pub fits_break : (d : Around) (p : Position) → (IsLine d → ⊥) → Fits d (past_break p)
 fits_break nothing p broken = tt
 fits_break (block i is l shut) p broken = absurd (broken tt)
 
@@ -25,11 +23,11 @@ low_enough true i col h = omega (arith, h)
 low_enough false i col h = omega (arith, h)
 
 -- no level ends at a place of the value
-pub no_end_at : (d : Around) (b : Bool) (p : Place) → Fits d p → nat_lt (p.col + 1) (indent_of d b) ≡ false
+pub no_end_at : (d : Around) (b : Bool) (p : Position) → Fits d p → nat_lt (p.col + 1) (indent_of d b) ≡ false
 no_end_at nothing b p fits = no_less (p.col + 1)
 no_end_at (block i is l shut) b p fits = le-ltb (p.col + 1) (opened_indent b i) (low_enough b i p.col fits.0)
 
-pub less : (d : Around) (p : Place) → Fits d p → nat_lt p.col (indent_of d false) ≡ false
+pub less : (d : Around) (p : Position) → Fits d p → nat_lt p.col (indent_of d false) ≡ false
 less nothing p fits = no_less p.col
 less (block i is l shut) p fits = le-ltb p.col i fits.0
 

@@ -1,6 +1,6 @@
 -- What fetches do at a JSON array or object on one line, and at `[]` and `{}`.
 use Rattle.std.proofs.Common.{◌≡◌, ℕ, ◌≤◌, List, [], ◌∷◌, ◌++◌, Bool, true, false, not, Option, None, Result, Ok, refl, ◌∙◌, arith}
-use Rattle.defs_text.specs.Position.{Place}
+use Rattle.defs_text.specs.Position.{Position}
 use Rattle.defs_text.specs.Text.{is_nil}
 use Rattle.defs_token.specs.Token.{Tok}
 use Rattle.yaml_tokens.specs.declared.problem.Fault.{Fault}
@@ -49,9 +49,9 @@ rolls x true i is p h = refl
 rolls x false i [] p h = refl
 rolls x false i (d ∷ ds) p h = rw h refl
 
--- The result is behind the bracket, up to spaces.
+-- The result is later the bracket, up to spaces.
 record OpenedAt (t : Result State Fault) (h : Bool) (r : List ℕ) (b : Bool) (i : ℕ) (is : List Indent) (shut : IsClosed i is) (p : Parts) (k : Option Key) : Type 0 where
-  place : Place
+  place : Position
   fits : Fits (block i is p.place.line shut) place
   gap : List Blank
   may : MayStand (block i is p.place.line shut) gap
@@ -81,7 +81,7 @@ not_stale : {d : Around} (r : List ℕ) (f : FlowLevel) (ks : List (Option Key))
 unfolding stale
 not_stale r f ks p = refl
 
--- The scanner stands behind the bracket, which may be a key.
+-- The scanner stands later the bracket, which may be a key.
 record Inside (h : Bool) (from : State) (r : List ℕ) (i : ℕ) (is : List Indent) (shut : IsClosed i is) (want : List Tok → List Tok) : Type 0 where
   line : ℕ
   outer : Option Key
@@ -116,7 +116,7 @@ begins h g r from col b i is shut allowed want spaces solid deep u =
 
 -- ---- the closing bracket
 
--- behind it, and behind a comment
+-- later it, and later a comment
 abbrev closed_parts : {d : Around} → Bool → Comment → Option Key → json.Parts d → Parts
 closed_parts h n k q = record { place = comment_place n (past q.place); tokens = q.tokens ++ token q.place (closing h) ∷ []; key = k; allowed = false; leading = false; adjacent = q.adjacent }
 
@@ -138,7 +138,7 @@ unfolding class_of
 by_closing true t = refl
 by_closing false t = refl
 
-no_property : (h : Bool) (p : Place) → property_place (closing h) p ≡ None
+no_property : (h : Bool) (p : Position) → property_place (closing h) p ≡ None
 no_property true p = refl
 no_property false p = refl
 
@@ -152,12 +152,12 @@ ends : (h : Bool) (n : Comment) (t : Trail) (from : State) (i : ℕ) (is : List 
     → json.After (block i is line shut) from (level_of h ∷ []) (k ∷ []) (closing_bracket h ∷ spell_white (comment_white n (trail_white t)) (rest_of t)) want → After from t i is (λ o. want (closing h ∷ o))
 ends h n t from i is line shut k want remark trail low loose lies u =
     let white = spell_white (comment_white n (trail_white t)) (rest_of t) in
-    let behind = spell_white (trail_white t) (rest_of t) in
+    let later = spell_white (trail_white t) (rest_of t) in
     let z = closing_fetched h u.gap white (k ∷ []) u.parts u.may u.fits u.loose in
     let q : json.Parts (block i is line shut) = record (u.parts) { place = z.place; allowed = z.allowed; leading = z.leading; key = z.key } in
     let o = q.is_open in
     let r = closed_parts h n k q in
-    let e = z.is ∙ rw (by_closing h (json.stands (closing_bracket h ∷ white) (level_of h ∷ []) (k ∷ []) q), closed_at h n t i is line shut k q remark z.loose) (Levels.aged behind (opened_indent o i) (opened o i is) r loose) in
+    let e = z.is ∙ rw (by_closing h (json.stands (closing_bracket h ∷ white) (level_of h ∷ []) (k ∷ []) q), closed_at h n t i is line shut k q remark z.loose) (Levels.aged later (opened_indent o i) (opened o i is) r loose) in
     let same : r.place.line ≡ line = comment_line n (past q.place) ∙ z.fits.1 in
     let on_line : Lies (still r.place k) r.place.line = still_lies r.place k r.place.line (rw same lies) in
     left_open t from o i is (λ o. want (closing h ∷ o)) low

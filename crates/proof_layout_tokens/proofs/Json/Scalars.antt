@@ -2,7 +2,7 @@
 use Rattle.std.proofs.Common.{◌≡◌, ℕ, List, [], ◌∷◌, ◌++◌, Bool, true, false, ◌||◌, ◌&&◌, not, ◌==◌, Option, Some, None, Result, Ok, refl, ◌∙◌, length, slice_index}
 use Rattle.std.specs.List.{insert}
 use Rattle.std.proofs.lemmas.Bool.{eq-eqb, eqb-true, and_parts, not-true}
-use Rattle.defs_text.specs.Position.{Place}
+use Rattle.defs_text.specs.Position.{Position}
 use Rattle.yaml_chars.specs.Class.{is_break, is_flow, is_blank_or_breakz}
 use Rattle.defs_text.specs.Text.{is_nil}
 use Rattle.defs_token.specs.Token.{Tok, Style, Token}
@@ -47,11 +47,11 @@ abbrev pub quoted_tok : Bool → List ℕ → Tok
 quoted_tok single text = Tok.scalar (quoted_style single) text
 
 -- behind a quoted scalar
-abbrev pub quoted_at : (d : Around) → Place → List Token → Option Key → Bool → Bool → (is_open : Bool) → Parts d
+abbrev pub quoted_at : (d : Around) → Position → List Token → Option Key → Bool → Bool → (is_open : Bool) → Parts d
 quoted_at d place tokens key allowed leading is_open = record { place = place; tokens = tokens; key = key; allowed = allowed; leading = leading; adjacent = place.index; is_open = is_open }
 
 record QuotedAt {d : Around} (t : Result State Fault) (tok : Tok) (r : List ℕ) (fs : List FlowLevel) (ks : List (Option Key)) (p : Parts d) : Type 0 where
-  place : Place
+  place : Position
   fits : Fits d place
   key : Option Key
   loose : is_required key ≡ false
@@ -73,9 +73,9 @@ scalar_at single text a b r fs ks p bottom stand loose solid may z =
 
 -- A fetch took a quoted scalar. Inside flow, where a key may begin, it may be one.
 pub record Quoted {d : Around} (tok : Tok) (from : State) (r : List ℕ) (fs : List FlowLevel) (ks : List (Option Key)) (p : Parts d) : Type 0 where
-  pub place : Place
+  pub place : Position
   pub fits : Fits d place
-  pub at : Place
+  pub at : Position
   pub key : Option Key
   pub loose : is_required key ≡ false
   pub new : is_nil fs ≡ false → p.allowed ≡ true → key ≡ Some (record { required = false; number = length p.tokens; place = at })
@@ -85,7 +85,7 @@ pub record Quoted {d : Around} (tok : Tok) (from : State) (r : List ℕ) (fs : L
 
 -- the scan reads a text from a quote on, at each place, up to white space
 abbrev pub ReadsQuoted : Around → (is_open : Bool) → Bool → List FlowLevel → List ℕ → List ℕ → List ℕ → Type 0
-ReadsQuoted d o single fs a text r = (at : Place) → Fits d at → Closed d (quoted single (context_of d o fs) a at) text r
+ReadsQuoted d o single fs a text r = (at : Position) → Fits d at → Closed d (quoted single (context_of d o fs) a at) text r
 
 fetched_by : {d : Around} (single : Bool) (text : List ℕ) (from : State) (c : ℕ) (a : List ℕ) (b : List Blank) (r : List ℕ) (fs : List FlowLevel) (ks : List (Option Key)) (p : Parts d) → IsBottom d fs ks → MayStand d b → is_solid r ≡ true → MayFollow fs r
     → ReadsQuoted d p.is_open single fs (c ∷ a) text (spell_gap b r) → ((t : State) → token_by (class_of c) t ≡ fetch_flow_scalar single t) → Fetched from c a fs ks p → Quoted (quoted_tok single text) from r fs ks p
@@ -141,11 +141,11 @@ no_levels (block i (d ∷ ds) l shut) r fs ks p true = rw shut refl
 no_levels (block i (d ∷ ds) l shut) r fs ks p false = rw shut refl
 
 -- behind a word or a number
-abbrev pub worded : (d : Around) → Place → List Token → Option Key → Bool → ℕ → Parts d
+abbrev pub worded : (d : Around) → Position → List Token → Option Key → Bool → ℕ → Parts d
 worded d place tokens key leading adjacent = record { place = place; tokens = tokens; key = key; allowed = leading; leading = leading; adjacent = adjacent; is_open = false }
 
 record WordedAt {d : Around} (t : Result State Fault) (w : List ℕ) (r : List ℕ) (fs : List FlowLevel) (ks : List (Option Key)) (p : Parts d) : Type 0 where
-  place : Place
+  place : Position
   fits : Fits d place
   key : Option Key
   loose : is_required key ≡ false
@@ -198,9 +198,9 @@ word_start c w word = (start_of c w [] word).content
 
 -- A fetch took a word or a number.
 pub record Worded (d : Around) (w : List ℕ) (from : State) (r : List ℕ) (fs : List FlowLevel) (ks : List (Option Key)) (ts : List Token) : Type 0 where
-  pub place : Place
+  pub place : Position
   pub fits : Fits d place
-  pub at : Place
+  pub at : Position
   pub adjacent : ℕ
   pub key : Option Key
   pub loose : is_required key ≡ false

@@ -1,6 +1,6 @@
 -- The states of the scanner in a JSON value: outside all block collections, or on one line within some. Of the keys only the innermost changes.
 use Rattle.std.proofs.Common.{◌≡◌, ℕ, ◌+◌, ◌≤◌, List, [], ◌∷◌, Bool, true, false, not, ◌||◌, ◌==◌, Option}
-use Rattle.defs_text.specs.Position.{Place}
+use Rattle.defs_text.specs.Position.{Position}
 use Rattle.defs_token.specs.Token.{Tok, Token}
 use Rattle.defs_layout.specs.JsonGap.{Blank, space, tab, line_feed, carriage_return, spell_gap}
 use Rattle.model_scanner.specs.declared.level.FlowLevel.{FlowLevel}
@@ -46,7 +46,7 @@ IsLine nothing = ⊥
 IsLine (block i is l shut) = Unit {0}
 
 -- a place where the scanner may stand
-abbrev pub Fits : Around → Place → Type 0
+abbrev pub Fits : Around → Position → Type 0
 Fits nothing p = Unit {0}
 Fits (block i is l shut) p = (i ≤ p.col) × (p.line ≡ l)
 
@@ -66,7 +66,7 @@ MayStand d g = IsLine d → AreSpaces g
 
 -- what changes from token to token: the place, the tokens so far, the innermost key, and what the scanner knows of the place
 pub record Parts (d : Around) : Type 0 where
-  pub place : Place
+  pub place : Position
   pub tokens : List Token
   pub key : Option Key
   pub allowed : Bool

@@ -1,7 +1,7 @@
 -- What a fetch does at each token of JSON.
 use Rattle.std.proofs.Common.{◌≡◌, ℕ, ◌+◌, ◌<◌, List, [], ◌∷◌, ◌++◌, Bool, true, false, ◌==◌, Option, Some, None, Result, Ok, refl, ◌∙◌, length, arith, nat_le}
 use Rattle.std.proofs.lemmas.Bool.Decides.{nat_tests}
-use Rattle.defs_text.specs.Position.{Place}
+use Rattle.defs_text.specs.Position.{Position}
 use Rattle.defs_token.specs.Token.{Tok, Token}
 use Rattle.yaml_tokens.specs.declared.problem.Fault.{Fault}
 use Rattle.defs_layout.specs.JsonGap.{Blank, spell_gap}
@@ -56,12 +56,12 @@ no_level (block i is l shut) r [] ks p bottom = absurd bottom.0
 no_level d r (f ∷ fs) ks p bottom = refl
 
 -- behind an opening bracket a key may begin
-abbrev pub inside : (d : Around) → Place → List Token → ℕ → (is_open : Bool) → Parts d
+abbrev pub inside : (d : Around) → Position → List Token → ℕ → (is_open : Bool) → Parts d
 inside d place tokens adjacent is_open = record { place = place; tokens = tokens; key = None; allowed = true; leading = false; adjacent = adjacent; is_open = is_open }
 
 -- The result is behind an opening bracket.
 record OpenedAt {d : Around} (t : Result State Fault) (kind : FlowLevel) (tok : Tok) (r : List ℕ) (fs : List FlowLevel) (ks : List (Option Key)) (p : Parts d) : Type 0 where
-  place : Place
+  place : Position
   fits : Fits d place
   outer : Option Key
   loose : is_required outer ≡ false
@@ -81,9 +81,9 @@ open_at {d} kind tok c a r fs ks p bottom may fits loose solid deep =
 
 -- A fetch took an opening bracket.
 pub record Opened (d : Around) (kind : FlowLevel) (tok : Tok) (from : State) (r : List ℕ) (fs : List FlowLevel) (ks : List (Option Key)) (ts : List Token) : Type 0 where
-  pub place : Place
+  pub place : Position
   pub fits : Fits d place
-  pub at : Place
+  pub at : Position
   pub adjacent : ℕ
   pub is_open : Bool
   pub outer : Option Key
@@ -155,11 +155,11 @@ adjacent_is r [] ks p = refl
 adjacent_is r (f ∷ fs) ks p = refl
 
 -- behind a closing bracket
-abbrev pub outside : (d : Around) → Place → List Token → Option Key → ℕ → (is_open : Bool) → Parts d
+abbrev pub outside : (d : Around) → Position → List Token → Option Key → ℕ → (is_open : Bool) → Parts d
 outside d place tokens key adjacent is_open = record { place = place; tokens = tokens; key = key; allowed = false; leading = false; adjacent = adjacent; is_open = is_open }
 
 record ClosedAt {d : Around} (t : Result State Fault) (tok : Tok) (r : List ℕ) (fs : List FlowLevel) (outer : Option Key) (ks : List (Option Key)) (p : Parts d) : Type 0 where
-  place : Place
+  place : Position
   fits : Fits d place
   adjacent : ℕ
   gap : List Blank
@@ -185,9 +185,9 @@ close_at {d} mapping tok c b r fs outer ks p may fits loose solid =
 
 -- A fetch took a closing bracket.
 pub record Closed (d : Around) (tok : Tok) (from : State) (r : List ℕ) (fs : List FlowLevel) (ks : List (Option Key)) (ts : List Token) : Type 0 where
-  pub place : Place
+  pub place : Position
   pub fits : Fits d place
-  pub at : Place
+  pub at : Position
   pub adjacent : ℕ
   pub is_open : Bool
   pub key : Option Key
@@ -214,7 +214,7 @@ close_run false g b r fs outer ks p may follows fits loose loose_outer solid bot
     close_by false Tok.flow_sequence_end _ 93 b r fs outer ks _ follows z.fits z.loose loose_outer solid bottom z.is
 
 record EnteredAt {d : Around} (t : Result State Fault) (r : List ℕ) (fs : List FlowLevel) (ks : List (Option Key)) (p : Parts d) : Type 0 where
-  place : Place
+  place : Position
   fits : Fits d place
   gap : List Blank
   may : MayStand d gap
@@ -236,9 +236,9 @@ entry_at {d} mapping a r fs ks p may fits loose solid =
 
 -- A fetch took a comma.
 pub record Entered (d : Around) (from : State) (r : List ℕ) (fs : List FlowLevel) (ks : List (Option Key)) (ts : List Token) : Type 0 where
-  pub place : Place
+  pub place : Position
   pub fits : Fits d place
-  pub at : Place
+  pub at : Position
   pub adjacent : ℕ
   pub is_open : Bool
   pub gap : List Blank

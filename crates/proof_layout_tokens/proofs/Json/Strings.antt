@@ -3,7 +3,7 @@ use Rattle.std.proofs.Common.{◌≡◌, ℕ, ◌+◌, ◌*◌, ◌<◌, ◌≤�
 use Rattle.std.specs.Char.{digit_value, is_digit}
 use Rattle.std.proofs.lemmas.Bool.{and_parts, ltb-true, eqb-true}
 use Rattle.std.proofs.lemmas.Bool.Decides.{nat_tests}
-use Rattle.defs_text.specs.Position.{Place}
+use Rattle.defs_text.specs.Position.{Position}
 use Rattle.yaml_chars.specs.Class.{is_break, is_blank, is_hex}
 use Rattle.yaml_tokens.specs.declared.problem.Fault.{Fault}
 use Rattle.defs_layout.specs.JsonString.{Piece, itself, short, unicode, Short, letter_of, character_of, spell_pieces, value_of, unescaped, four_digits, is_unescaped, is_hex_digit, is_surrogate, is_piece, are_pieces}
@@ -15,7 +15,7 @@ use Rattle.model_scanner.specs.declared.level.FlowLevel.{FlowLevel}
 use Rattle.proof_layout_tokens.proofs.Json.States.{Around, nothing, block, indent_of, Fits}
 use Rattle.proof_layout_tokens.proofs.Json.Levels.{fits_past, low_enough}
 use Rattle.proof_layout_tokens.proofs.Json.Words.{context_of}
-use Rattle.proof_layout_tokens.proofs.Whites.{along}
+use Rattle.proof_lexers.specs.HeaderEnds.{along}
 use Rattle.proof_lexers.proofs.Quoted.Lines.{IsWritten, AreWritten, blank_goes, char_goes, named_goes, code_goes, line_read}
 
 -- ---- pieces
@@ -90,7 +90,7 @@ code a b c d h =
 value_is : (a b c d : ℕ) → (((0 * 16 + a) * 16 + b) * 16 + c) * 16 + d ≡ a * 4096 + b * 256 + c * 16 + d
 value_is a b c d = omega arith
 
-module _ (ctx : Context) (start : Place) where
+module _ (ctx : Context) (start : Position) where
   itself_is : (c : ℕ) (b : Bool) → (c == 32) ≡ b → is_unescaped c ≡ true → IsWritten false ctx start (c ∷ []) c
   unfolding is_break is_blank
   itself_is c true e h = let s : c ≡ 32 = eqb-true c 32 e in rw s (blank_goes false ctx start 32 refl refl)
@@ -125,19 +125,19 @@ module _ (ctx : Context) (start : Place) where
 
 -- The scan stands behind a text, at r.
 pub record Closed (d : Around) (t : Result (Read (List ℕ)) Fault) (text r : List ℕ) : Type 0 where
-  pub place : Place
+  pub place : Position
   pub fits : Fits d place
   pub is : t ≡ Ok (record { rest = r; place = place; value = text })
 
-fits_along : (d : Around) (w : List ℕ) (p : Place) → Fits d p → Fits d (along w p)
+fits_along : (d : Around) (w : List ℕ) (p : Position) → Fits d p → Fits d (along w p)
 fits_along d [] p fits = fits
 fits_along d (c ∷ w) p fits = fits_along d w (past p) (fits_past d p fits)
 
-deep : (d : Around) (b : Bool) (p : Place) → Fits d p → indent_of d b ≤ p.col + 2
+deep : (d : Around) (b : Bool) (p : Position) → Fits d p → indent_of d b ≤ p.col + 2
 deep nothing b p fits = omega arith
 deep (block i is l shut) b p fits = let h = low_enough b i p.col fits.0 in omega (arith, h)
 
-pub string_read : (d : Around) (o : Bool) (fs : List FlowLevel) (ps : List Piece) (r : List ℕ) (p : Place) → Fits d p → are_pieces ps ≡ true
+pub string_read : (d : Around) (o : Bool) (fs : List FlowLevel) (ps : List Piece) (r : List ℕ) (p : Position) → Fits d p → are_pieces ps ≡ true
     → Closed d (quoted false (context_of d o fs) (34 ∷ spell_pieces ps (34 ∷ r)) p) (unescaped ps) r
 string_read d o fs ps r p fits h = record {
   place = along (34 ∷ (flat_map piece_text ps ++ 34 ∷ [])) p;

@@ -1,6 +1,6 @@
 -- The tokens of a whole JSON text.
 use Rattle.std.proofs.Common.{◌≡◌, ℕ, ◌+◌, ◌≤◌, List, [], ◌∷◌, ◌++◌, true, false, None, Ok, refl, sym, ◌∙◌, arith, append-nil}
-use Rattle.defs_text.specs.Position.{Place}
+use Rattle.defs_text.specs.Position.{Position}
 use Rattle.defs_token.specs.Token.{Tok, Token}
 use Rattle.defs_layout.specs.JsonGap.{Blank, spell_gap}
 use Rattle.defs_layout.specs.Json.{levels, spell, spell_text}
@@ -22,7 +22,7 @@ use Rattle.proof_layout_tokens.proofs.Json.Fetches.{staled}
 use Rattle.proof_layout_tokens.proofs.Json.Values.{value_runs}
 
 -- behind the stream's start
-abbrev origin : Place
+abbrev origin : Position
 origin = record { index = 0; line = 1; col = 0 }
 
 abbrev pub begun : Parts nothing

@@ -2,7 +2,7 @@
 use Rattle.std.proofs.Common.{◌≡◌, ℕ, ◌+◌, ◌<◌, ◌≤◌, List, [], ◌∷◌, ◌++◌, Bool, true, false, ◌==◌, Option, refl, ◌∙◌, length, arith, codes}
 use Rattle.std.specs.List.{insert}
 use Rattle.std.proofs.lemmas.List.Edits.{insert-append_left, insert_end}
-use Rattle.defs_text.specs.Position.{Place}
+use Rattle.defs_text.specs.Position.{Position}
 use Rattle.yaml_chars.specs.Class.{is_break}
 use Rattle.defs_token.specs.Token.{Tok, Style, Token}
 use Rattle.defs_layout.specs.JsonGap.{Blank, space, tab, line_feed, carriage_return, spell_gap}
@@ -33,7 +33,7 @@ key_first : (ts : List Token) (n : ℕ) (key t : Token) → n ≡ length ts → 
 key_first ts n key t e = let low : n ≤ length ts = omega arith in insert-append_left ts (t ∷ []) n key low ∙ rw (e, insert_end) refl
 
 -- the tokens of a key and its colon
-pub key_tells : (ts : List Token) (n : ℕ) (at key_at value_at : Place) (t : Tok) (want : List Tok → List Tok) → n ≡ length ts → Tells ts want
+pub key_tells : (ts : List Token) (n : ℕ) (at key_at value_at : Position) (t : Tok) (want : List Tok → List Tok) → n ≡ length ts → Tells ts want
     → Tells (insert (ts ++ token at t ∷ []) n (token key_at Tok.key) ++ token value_at Tok.value ∷ []) (λ o. want (Tok.key ∷ t ∷ Tok.value ∷ o))
 key_tells ts n at key_at value_at t want e told =
     rw (key_first ts n (token key_at Tok.key) (token at t) e)
@@ -41,7 +41,7 @@ key_tells ts n at key_at value_at t want e told =
 
 -- ---- brackets and commas
 
--- The scanner stands behind an opening bracket.
+-- The scanner stands later an opening bracket.
 record Inside (d : Around) (mapping : Bool) (from : State) (fs : List FlowLevel) (ks : List (Option Key)) (r : List ℕ) (want : List Tok → List Tok) : Type 0 where
   outer : Option Key
   loose : is_required outer ≡ false
@@ -171,7 +171,7 @@ colon_follows fs a = λ same_line. refl
 
 key_after : (d : Around) (ps : List Piece) (from : State) (g h : List Blank) (r : List ℕ) (fs : List FlowLevel) (ks : List (Option Key)) (want : List Tok → List Tok) → are_pieces ps ≡ true → IsGap h → MayStand d g → MayStand d h → is_solid r ≡ true
     → Ahead d from (Mapping ∷ fs) ks (spell_string ps (spell_gap g (58 ∷ spell_gap h r))) want → After d from (Mapping ∷ fs) ks r (λ o. want (Tok.key ∷ string_token ps ∷ Tok.value ∷ o))
-key_after d ps from g h r fs ks want pieces gap before behind solid u =
+key_after d ps from g h r fs ks want pieces gap before later solid u =
     let p = u.after.parts in
     let z = string_run ps u.after.gap g (58 ∷ spell_gap h r) (Mapping ∷ fs) ks p pieces tt u.after.may before u.after.fits u.after.loose refl (colon_follows fs (spell_gap h r)) in
     let q = quoted_at d z.place (p.tokens ++ token z.at (string_token ps) ∷ []) z.key z.allowed z.leading p.is_open in
@@ -181,7 +181,7 @@ key_after d ps from g h r fs ks want pieces gap before behind solid u =
       parts = valued k q;
       gap = h;
       fits = fits_past d z.place z.fits;
-      may = behind;
+      may = later;
       loose = refl;
       told = key_tells p.tokens (length p.tokens) z.at z.at z.place (string_token ps) want refl u.after.told;
       run = reaches_then u.after.run (there refl z.is (there refl y here));
@@ -231,12 +231,12 @@ inner : (d : Around) (v : Json) (f : FlowLevel) (from : State) (b : List Blank) 
 inner d v f from b r fs ks want one may ends deep u = let few : length (f ∷ fs) + levels v ≤ 255 = omega arith in one from b r (f ∷ fs) ks want tt may ends few u
 
 last_element_runs : (d : Around) (v : Json) (a : List Blank) → MayStand d a → Runs d v → RunsElements d (last_element v a)
-last_element_runs d v a behind one from r fs ks want deep u = inner d v Entry from a (93 ∷ r) fs ks want one behind at_bracket deep u
+last_element_runs d v a later one from r fs ks want deep u = inner d v Entry from a (93 ∷ r) fs ks want one later at_bracket deep u
 
 element_runs : (d : Around) (v : Json) (a b : List Blank) (es : Elements) → MayStand d a → MayStand d b → AreElements es → Runs d v → RunsElements d es → RunsElements d (element v a b es)
-element_runs d v a b es before behind are one all from r fs ks want deep u =
+element_runs d v a b es before later are one all from r fs ks want deep u =
     let z = inner d v Entry from a (44 ∷ spell_gap b (spell_elements es (93 ∷ r))) fs ks want one before at_comma (omega arith) u in
-    let y = comma d false from b (spell_elements es (93 ∷ r)) fs ks _ behind (elements_solid es _ are) z in
+    let y = comma d false from b (spell_elements es (93 ∷ r)) fs ks _ later (elements_solid es _ are) z in
     all from r fs ks _ (omega arith) y.after
 
 last_member_runs : (d : Around) (k : List Piece) (g h : List Blank) (v : Json) (a : List Blank) → are_pieces k ≡ true → IsGap h → IsJson v → (IsLine d → MembersHaveSpaces (last_member k g h v a)) → Runs d v → RunsMembers d (last_member k g h v a)

@@ -2,7 +2,7 @@
 use Rattle.std.proofs.Common.{◌≡◌, ℕ, List, [], ◌∷◌, ◌++◌, Bool, true, false, ◌||◌, ◌&&◌, not, ◌==◌, if◌then◌else◌, Result, Ok, refl, ◌∙◌, slice_index, append_assoc, append-nil, nat_le, arith}
 use Rattle.std.proofs.lemmas.Bool.{and_parts, not-true}
 use Rattle.std.proofs.lemmas.Bool.Decides.{nat_tests}
-use Rattle.defs_text.specs.Position.{Place}
+use Rattle.defs_text.specs.Position.{Position}
 use Rattle.yaml_chars.specs.Class.{is_break, is_blank, is_flow}
 use Rattle.defs_text.specs.Text.{is_nil}
 use Rattle.yaml_tokens.specs.declared.problem.Fault.{Fault}
@@ -68,12 +68,12 @@ context_of d b fs = record { flow = not (is_nil fs); indent = indent_of d b }
 
 -- The scan stands behind a text, at r.
 pub record Ended (d : Around) (t : Result (Read Plain) Fault) (text r : List ℕ) : Type 0 where
-  pub place : Place
+  pub place : Position
   pub fits : Fits d place
   pub leading : Bool
   pub is : t ≡ Ok (record { rest = r; place = place; value = record { text = text; leading = leading } })
 
-stop : (d : Around) (fs : List FlowLevel) (r : List ℕ) (start p : Place) (t : Folded) → Ends fs r
+stop : (d : Around) (fs : List FlowLevel) (r : List ℕ) (start p : Position) (t : Folded) → Ends fs r
     → plain_from (context_of d false fs) start r (record { mode = between; place = p; folded = t }) ≡ Ok (record { rest = r; place = p; value = record { text = t.text; leading = t.leading } })
 unfolding is_break is_blank is_flow goes_on is_shallow at_marker is_marker at_dash at_plain can_be_plain
 stop d fs r start p t at_end = refl
@@ -81,17 +81,17 @@ stop d fs r start p t at_comma = rw (and_false (p.col == 0)) refl
 stop d fs r start p t at_bracket = rw (and_false (p.col == 0)) refl
 stop d fs r start p t at_brace = rw (and_false (p.col == 0)) refl
 
-either : (d : Around) (ctx : Context) (start : Place) (a text r : List ℕ) (b : Bool) (s u : State) → Ended d (plain_from ctx start a s) text r → Ended d (plain_from ctx start a u) text r
+either : (d : Around) (ctx : Context) (start : Position) (a text r : List ℕ) (b : Bool) (s u : State) → Ended d (plain_from ctx start a s) text r → Ended d (plain_from ctx start a u) text r
     → Ended d (plain_from ctx start a (if b then s else u)) text r
 either d ctx start a text r true s u y z = y
 either d ctx start a text r false s u y z = z
 
 -- where white space is passed over, in a new line or not
-module _ (d : Around) (fs : List FlowLevel) (r : List ℕ) (start : Place) (ends : Ends fs r) where
-  abbrev at : Place → List ℕ → List ℕ → Bool → Bool → State
+module _ (d : Around) (fs : List FlowLevel) (r : List ℕ) (start : Position) (ends : Ends fs r) where
+  abbrev at : Position → List ℕ → List ℕ → Bool → Bool → State
   at p text gap leading escaped = record { mode = between; place = p; folded = record { text = text; gap = gap; leading = leading; escaped = escaped } }
 
-  gap_end : (b : List Blank) (p : Place) (text gap : List ℕ) (leading escaped : Bool) → MayStand d b → Fits d p → Ended d (plain_from (context_of d false fs) start (spell_gap b r) (at p text gap leading escaped)) text r
+  gap_end : (b : List Blank) (p : Position) (text gap : List ℕ) (leading escaped : Bool) → MayStand d b → Fits d p → Ended d (plain_from (context_of d false fs) start (spell_gap b r) (at p text gap leading escaped)) text r
   unfolding is_break is_blank
   gap_end [] p text gap leading escaped may fits = record { place = p; fits = fits; leading = leading; is = stop d fs r start p (record { text = text; gap = gap; leading = leading; escaped = escaped }) ends }
   gap_end (space ∷ b) p text gap true escaped may fits = gap_end b (past p) text gap true escaped may (fits_past d p fits)
@@ -119,15 +119,15 @@ run_ends d fs (tab ∷ b) r e = refl
 run_ends d fs (line_feed ∷ b) r e = refl
 run_ends d fs (carriage_return ∷ b) r e = refl
 
-abbrev reading : Place → List ℕ → State
+abbrev reading : Position → List ℕ → State
 reading p text = record { mode = inside; place = p; folded = record { text = text; gap = []; leading = false; escaped = false } }
 
-one_char : (d : Around) (fs : List FlowLevel) (start : Place) (c : ℕ) (a : List ℕ) (p : Place) (text : List ℕ) → WordChar c
+one_char : (d : Around) (fs : List FlowLevel) (start : Position) (c : ℕ) (a : List ℕ) (p : Position) (text : List ℕ) → WordChar c
     → plain_from (context_of d false fs) start (c ∷ a) (reading p text) ≡ plain_from (context_of d false fs) start a (reading (past p) (text ++ c ∷ []))
 unfolding can_be_plain
 one_char d fs start c a p text z = rw (z.break, z.blank, z.colon, z.flow, and_false (not (is_nil fs))) refl
 
-chars : (d : Around) (fs : List FlowLevel) (b : List Blank) (r : List ℕ) (start : Place) → Ends fs r → MayStand d b → (w : List ℕ) (p : Place) (text : List ℕ) → Fits d p → are_words w ≡ true
+chars : (d : Around) (fs : List FlowLevel) (b : List Blank) (r : List ℕ) (start : Position) → Ends fs r → MayStand d b → (w : List ℕ) (p : Position) (text : List ℕ) → Fits d p → are_words w ≡ true
     → Ended d (plain_from (context_of d false fs) start (w ++ spell_gap b r) (reading p text)) (text ++ w) r
 chars d fs b r start ends may [] p text fits h =
     let z = gap_end d fs r start ends b p text [] false false may fits in
@@ -146,7 +146,7 @@ no_dash flow c (d ∷ w) a h e =
     let z = word_char d r.0 in
     rw z.flow (and_false (flow && (c == 45)))
 
-pub word_read : (d : Around) (fs : List FlowLevel) (w : List ℕ) (b : List Blank) (r : List ℕ) (p : Place) → Ends fs r → IsWord w → MayStand d b → Fits d p
+pub word_read : (d : Around) (fs : List FlowLevel) (w : List ℕ) (b : List Blank) (r : List ℕ) (p : Position) → Ends fs r → IsWord w → MayStand d b → Fits d p
     → Ended d (plain (context_of d false fs) (w ++ spell_gap b r) p) w r
 unfolding plain starts
 word_read d fs [] b r p ends word may fits = cc (word.begins)

@@ -2,7 +2,7 @@
 use Rattle.std.proofs.Common.{◌≡◌, ℕ, zero, suc, List, [], ◌∷◌, ◌++◌, Bool, true, false, not, ◌==◌, max, Option, Some, None, Err, refl, ap, sym, ◌∙◌, append-nil, append_assoc, subst}
 use Rattle.std.specs.List.{list_all}
 use Rattle.std.proofs.lemmas.Bool.{and_parts}
-use Rattle.defs_text.specs.Position.{Place}
+use Rattle.defs_text.specs.Position.{Position}
 use Rattle.yaml_tokens.specs.declared.problem.Fault.{Fault}
 use Rattle.yaml_tokens.specs.declared.problem.Fault.TheVariants.{At}
 use Rattle.yaml_tokens.specs.declared.problem.Problem.TheVariants as problem
@@ -93,11 +93,11 @@ style_same defs.literal defs.folded e = let no : true ≡ false = ap (λ n. n ==
 style_same defs.folded defs.literal e = let no : false ≡ true = ap (λ n. n == 124) e in absurd (true_false (sym no))
 style_same defs.folded defs.folded e = refl
 
-header_fails : (literal : Bool) (indent c : ℕ) (text : List ℕ) (p : Place) (f : Fault) → header p text (past p) ≡ Err f → block literal indent (c ∷ text) p ≡ Err f
+header_fails : (literal : Bool) (indent c : ℕ) (text : List ℕ) (p : Position) (f : Fault) → header p text (past p) ≡ Err f → block literal indent (c ∷ text) p ≡ Err f
 unfolding block
 header_fails literal indent c text p f e = rw e refl
 
-module _ (style : BlockStyle) (indent : ℕ) (p : Place) where
+module _ (style : BlockStyle) (indent : ℕ) (p : Position) where
   abbrev Ends : List ℕ → Type 0
   Ends text = EndsAs style indent p text (block (is_literal style) indent (indicator_of style ∷ text) p)
 

@@ -1,12 +1,12 @@
 -- Rows: what is read of a piece, and which text behind it is refused.
 use Rattle.std.specs.Prelude.{◌≡◌, refl, [], true, false, Some, codes}
-use Rattle.defs_text.specs.Position.{Place}
+use Rattle.defs_text.specs.Position.{Position}
 use Rattle.defs_text.specs.Classes.{is_blank, is_break, is_nul, is_blank_or_end, are_marks}
 use Rattle.defs_scalar.specs.BlockScalar.{literal, folded, sign_of, digit_of, is_empty_line, is_content_line, row_of}
 use Rattle.defs_token.specs.BlockPiece.{block_read}
 use Rattle.proof_lexers.specs.BlockScan.{is_tabbed, is_shallow, read_block}
 
-abbrev start : Place
+abbrev start : Position
 start = record { index = 2; line = 1; col = 2 }
 
 -- a folded scalar in a mapping, before the mapping's next key

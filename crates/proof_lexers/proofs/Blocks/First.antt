@@ -1,7 +1,7 @@
 -- The first lines give the content column.
 use Rattle.std.proofs.Common.{◌≡◌, ◌≤◌, ℕ, zero, suc, ◌+◌, ◌-◌, List, [], ◌∷◌, ◌++◌, Bool, true, false, ◌==◌, max, nat_lt, length, refl, ap, sym, ◌∙◌, append-nil, arith}
 use Rattle.std.proofs.lemmas.Bool.{and_parts, lt-ltb}
-use Rattle.defs_text.specs.Position.{Place}
+use Rattle.defs_text.specs.Position.{Position}
 use Rattle.yaml_chars.specs.Class.{is_break}
 use Rattle.defs_text.specs.Breaks.{split, Split}
 use Rattle.defs_scalar.specs.BlockScalar.{is_spaces, leading_spaces, deepest_start, column_by, least_column, digit_base, unbroken, all_lines}
@@ -15,18 +15,18 @@ use Rattle.proof_lexers.proofs.Blocks.Written.{Break, feed, carriage, both, Line
 use Rattle.proof_lexers.proofs.Blocks.Margins.{behind_break, behind_line, at, col_along, empty_passes, last_passes}
 
 -- within the spaces of a first line
-abbrev looking : ℕ → Place → List ℕ → First
+abbrev looking : ℕ → Position → List ℕ → First
 looking most p b = record { most = most; spaces = p.col; place = p; breaks = b }
 
-first_spaces : (w a : List ℕ) (most : ℕ) (p : Place) (b : List ℕ) → is_spaces w ≡ true → first_indent (w ++ a) (looking most p b) ≡ first_indent a (looking most (along w p) b)
+first_spaces : (w a : List ℕ) (most : ℕ) (p : Position) (b : List ℕ) → is_spaces w ≡ true → first_indent (w ++ a) (looking most p b) ≡ first_indent a (looking most (along w p) b)
 first_spaces [] a most p b h = refl
 first_spaces (c ∷ w) a most p b h = let q = and_parts (c == 32) (is_spaces w) h in rw (q.0) (first_spaces w a most (past p) b q.1)
 
-first_last : (w : List ℕ) (most : ℕ) (p : Place) (b : List ℕ) → is_spaces w ≡ true → first_indent w (looking most p b) ≡ record { rest = []; place = along w p; value = record { column = max most (along w p).col; breaks = b } }
+first_last : (w : List ℕ) (most : ℕ) (p : Position) (b : List ℕ) → is_spaces w ≡ true → first_indent w (looking most p b) ≡ record { rest = []; place = along w p; value = record { column = max most (along w p).col; breaks = b } }
 first_last [] most p b h = refl
 first_last (c ∷ w) most p b h = let q = and_parts (c == 32) (is_spaces w) h in rw (q.0) (first_last w most (past p) b q.1)
 
-first_break : (k : Break) (a : List ℕ) (most : ℕ) (p : Place) (b : List ℕ) → Fits k a → first_indent (put k a) (looking most p b) ≡ first_indent a (looking (max most p.col) (behind_break k p) (b ++ 10 ∷ []))
+first_break : (k : Break) (a : List ℕ) (most : ℕ) (p : Position) (b : List ℕ) → Fits k a → first_indent (put k a) (looking most p b) ≡ first_indent a (looking (max most p.col) (behind_break k p) (b ++ 10 ∷ []))
 unfolding is_break
 first_break feed a most p b fits = refl
 first_break carriage a most p b fits = rw fits refl
@@ -40,7 +40,7 @@ abbrev with_column : ℕ → Read Column → Read Column
 with_column n r = record { rest = r.rest; place = r.place; value = record { column = n; breaks = r.value.breaks } }
 
 -- a line that isn't of spaces alone ends the search
-first_other : (column : ℕ) (w a : List ℕ) (most : ℕ) (p : Place) (b : List ℕ) → is_spaces w ≡ false → is_in_line w ≡ true → p.col + leading_spaces w ≤ column
+first_other : (column : ℕ) (w a : List ℕ) (most : ℕ) (p : Position) (b : List ℕ) → is_spaces w ≡ false → is_in_line w ≡ true → p.col + leading_spaces w ≤ column
     → first_indent (w ++ a) (looking most p b) ≡ with_column (max most (p.col + leading_spaces w)) (indent_from column (w ++ a) (at p b))
 first_other column [] a most p b h inner le = cc
 first_other column (c ∷ w) a most p b h inner le = by (c == 32) refl (λ x y. first_other column w a most (past p) b x ((first_inner c w inner).1) y)
@@ -60,7 +60,7 @@ first_other column (c ∷ w) a most p b h inner le = by (c == 32) refl (λ x y. 
         rw (e, b') (ap (λ n. record { rest = c ∷ (w ++ a); place = p; value = record { column = max most n; breaks = b } }) same)
 
 -- The search passes what a search up to a column passes that is at least the one it finds.
-first_is_indent : (column : ℕ) (ls : List Line) (last : List ℕ) (most : ℕ) (p : Place) (b : List ℕ) → p.col ≡ 0 → AreLines ls last → is_in_line last ≡ true → max most (deepest_start (texts ls ++ last ∷ [])) ≤ column
+first_is_indent : (column : ℕ) (ls : List Line) (last : List ℕ) (most : ℕ) (p : Position) (b : List ℕ) → p.col ≡ 0 → AreLines ls last → is_in_line last ≡ true → max most (deepest_start (texts ls ++ last ∷ [])) ≤ column
     → first_indent (spell ls last) (looking most p b) ≡ with_column (max most (deepest_start (texts ls ++ last ∷ []))) (indent_from column (spell ls last) (at p b))
 first_is_indent column [] last most p b col are inner le = by (is_spaces last) refl
   where
@@ -121,7 +121,7 @@ base_is zero = refl
 base_is (suc n) = omega arith
 
 -- The lines before content are passed up to the content column.
-pub content_is : (indent increment : ℕ) (ls : List Line) (last : List ℕ) (p : Place) → p.col ≡ 0 → AreLines ls last → is_in_line last ≡ true
+pub content_is : (indent increment : ℕ) (ls : List Line) (last : List ℕ) (p : Position) → p.col ≡ 0 → AreLines ls last → is_in_line last ≡ true
     → content indent increment (spell ls last) p ≡ indent_from (column_for indent increment ls last) (spell ls last) (at p [])
 unfolding content
 content_is indent zero ls last p col are inner =

@@ -2,12 +2,12 @@
 use Rattle.std.proofs.Common.{◌≡◌, ◌≤◌, ◌<◌, ℕ, zero, suc, ◌+◌, List, [], ◌∷◌, Bool, true, false, ◌&&◌, not, ◌==◌, nat_lt, Ok, refl, ap, sym, ◌∙◌, arith}
 use Rattle.std.proofs.lemmas.Bool.{and_parts, eqb-true, ne_eqb, lt-ltb, not-true}
 use Rattle.std.proofs.lemmas.Bool.Decides.{nat_tests}
-use Rattle.defs_text.specs.Position.{Place}
+use Rattle.defs_text.specs.Position.{Position}
 use Rattle.yaml_chars.specs.Class.{is_break}
 use Rattle.defs_text.specs.Classes as classes
 use Rattle.defs_text.specs.Classes.{is_document_marker}
 use Rattle.defs_scalar.specs.BlockScalar.{is_outside, is_further_text}
-use Rattle.defs_token.specs.Text.{place_past}
+use Rattle.defs_text.specs.Position.{position_past}
 use Rattle.defs_token.specs.BlockPiece.{past_spaces}
 use Rattle.model_lexers.specs.Machine.{past}
 use Rattle.model_lexers.specs.Block.{indent_from, Lines, begins}
@@ -21,10 +21,10 @@ use Rattle.proof_lexers.proofs.Blocks.Rows.{front, scan, through}
 -- ---- text outside
 
 -- Where a scalar's lines end: behind spaces, before a character that is none of its lines'.
-pub record Outside (column : ℕ) (next : List ℕ) (p : Place) : Type 0 where
+pub record Outside (column : ℕ) (next : List ℕ) (p : Position) : Type 0 where
   pub char : ℕ
   pub rest : List ℕ
-  pub place : Place
+  pub place : Position
   pub is : without_spaces next ≡ char ∷ rest
   pub at_place : past_spaces p next ≡ place
   pub solid : is_break char ≡ false
@@ -36,7 +36,7 @@ pub record Outside (column : ℕ) (next : List ℕ) (p : Place) : Type 0 where
 off_column : (n m : ℕ) → n + suc m ≡ suc (n + m)
 off_column n m = omega arith
 
-space_outside : (column c : ℕ) (r : List ℕ) (p : Place) → (c == 32) ≡ true → nat_lt p.col column ≡ true → Outside column r (past p) → Outside column (c ∷ r) p
+space_outside : (column c : ℕ) (r : List ℕ) (p : Position) → (c == 32) ≡ true → nat_lt p.col column ≡ true → Outside column r (past p) → Outside column (c ∷ r) p
 space_outside column c r p e deep z =
     let is : c ≡ 32 = eqb-true c 32 e in
     record {
@@ -44,7 +44,7 @@ space_outside column c r p e deep z =
       rest = z.rest;
       place = z.place;
       is = rw e (z.is);
-      at_place = rw e (ap (λ x. past_spaces (place_past p x r) r) is ∙ ap (λ q. past_spaces q r) (space_past p r) ∙ z.at_place);
+      at_place = rw e (ap (λ x. past_spaces (position_past p x r) r) is ∙ ap (λ q. past_spaces q r) (space_past p r) ∙ z.at_place);
       solid = z.solid;
       shallow = z.shallow;
       margin = z.margin;
@@ -52,7 +52,7 @@ space_outside column c r p e deep z =
       found = λ b. rw (e, deep) (z.found b);
     }
 
-here_outside : (column c : ℕ) (r : List ℕ) (p : Place) → (c == 32) ≡ false → is_break c ≡ false → p.col ≤ column → begins column p.col (c ∷ r) ≡ false → Outside column (c ∷ r) p
+here_outside : (column c : ℕ) (r : List ℕ) (p : Position) → (c == 32) ≡ false → is_break c ≡ false → p.col ≤ column → begins column p.col (c ∷ r) ≡ false → Outside column (c ∷ r) p
 here_outside column c r p e b le none =
     record {
       char = c;
@@ -72,7 +72,7 @@ unfolding begins
 before_column column [] col h = refl
 before_column column (c ∷ a) col h = rw (ne_eqb col column (λ e. omega (arith, e, h))) refl
 
-pub outside : (n column : ℕ) (r : List ℕ) (p : Place) → p.col + n ≡ column → is_outside n r ≡ true → Outside column r p
+pub outside : (n column : ℕ) (r : List ℕ) (p : Position) → p.col + n ≡ column → is_outside n r ≡ true → Outside column r p
 outside zero column r p col h = cc
 outside (suc n) column [] p col h = cc
 outside (suc n) column (c ∷ r) p col h = by (c == 32) refl (λ x. outside n column r (past p) (omega (arith, col)) x)
@@ -93,7 +93,7 @@ mark : (c d e : ℕ) (r : List ℕ) → is_document_marker (c ∷ d ∷ e ∷ r)
 unfolding classes.are_marks is_break
 mark c d e r h = record { solid = grind (arith, nat_tests); space = grind (arith, nat_tests) }
 
-marked : (r : List ℕ) (p : Place) → p.col ≡ 0 → is_document_marker r ≡ true → Outside 0 r p
+marked : (r : List ℕ) (p : Position) → p.col ≡ 0 → is_document_marker r ≡ true → Outside 0 r p
 unfolding begins
 marked [] p col h = cc
 marked (c ∷ []) p col h = cc
@@ -104,11 +104,11 @@ marked (c ∷ d ∷ e ∷ r) p col h =
     let none : begins 0 p.col (c ∷ d ∷ e ∷ r) ≡ false = rw (here, h, col) refl in
     here_outside 0 c (d ∷ e ∷ r) p m.space m.solid (omega (arith, col)) none
 
-pub further_outside : (column : ℕ) (r : List ℕ) (p : Place) → p.col ≡ 0 → is_further_text column r ≡ true → Outside column r p
+pub further_outside : (column : ℕ) (r : List ℕ) (p : Position) → p.col ≡ 0 → is_further_text column r ≡ true → Outside column r p
 further_outside zero r p col h = marked r p col h
 further_outside (suc n) r p col h = outside (suc n) (suc n) r p (omega (arith, col)) h
 
-pub further_stops : (literal : Bool) (column : ℕ) (r : List ℕ) (p : Place) (x : Lines) → Outside column r p → scan literal column r (front p x) ≡ Ok (record { rest = without_spaces r; place = past_spaces p r; value = x })
+pub further_stops : (literal : Bool) (column : ℕ) (r : List ℕ) (p : Position) (x : Lines) → Outside column r p → scan literal column r (front p x) ≡ Ok (record { rest = without_spaces r; place = past_spaces p r; value = x })
 further_stops literal column r p x z =
     let stops : indent_from column (z.char ∷ z.rest) (at z.place x.breaks) ≡ record { rest = z.char ∷ z.rest; place = z.place; value = record { column = column; breaks = x.breaks } } = rw (z.margin, z.solid) refl in
     through literal column r (z.char ∷ z.rest) p z.place x x.breaks (z.found x.breaks ∙ sym stops)
@@ -116,5 +116,5 @@ further_stops literal column r p x z =
     ∙ ap (λ a. Ok (record { rest = a; place = z.place; value = x })) (sym z.is)
     ∙ ap (λ q. Ok (record { rest = without_spaces r; place = q; value = x })) (sym z.at_place)
   where
-    stop : (c : ℕ) (a : List ℕ) (q : Place) → ((c == 32) && nat_lt q.col column) ≡ false → is_break c ≡ false → begins column q.col (c ∷ a) ≡ false → scan literal column (c ∷ a) (front q x) ≡ Ok (record { rest = c ∷ a; place = q; value = x })
+    stop : (c : ℕ) (a : List ℕ) (q : Position) → ((c == 32) && nat_lt q.col column) ≡ false → is_break c ≡ false → begins column q.col (c ∷ a) ≡ false → scan literal column (c ∷ a) (front q x) ≡ Ok (record { rest = c ∷ a; place = q; value = x })
     stop c a q m b n = rw (m, b, n) refl

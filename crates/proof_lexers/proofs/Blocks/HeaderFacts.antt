@@ -2,7 +2,7 @@
 use Rattle.std.proofs.Common.{◌≡◌, ℕ, suc, ◌-◌, ◌≤◌, List, [], ◌∷◌, ◌++◌, Bool, true, false, ◌==◌, if◌then◌else◌, Option, Some, None, Ok, Err, refl, ap, sym, ◌∙◌, arith}
 use Rattle.std.proofs.lemmas.Bool.{eqb-true}
 use Rattle.std.proofs.lemmas.Bool.Decides.{nat_tests}
-use Rattle.defs_text.specs.Position.{Place}
+use Rattle.defs_text.specs.Position.{Position}
 use Rattle.yaml_tokens.specs.declared.problem.Fault.TheVariants.{At}
 use Rattle.yaml_tokens.specs.declared.problem.Problem.TheVariants as problem
 use Rattle.defs_text.specs.Classes as classes
@@ -95,7 +95,7 @@ said c l h e = by (c == 124) (c == 62) refl refl e
 
 -- ---- the model reads it
 
-module _ (h : defs.Header) (line behind : List ℕ) (p : Place) (is : header_of (indicator_of h.style ∷ line) ≡ Some h) where
+module _ (h : defs.Header) (line behind : List ℕ) (p : Position) (is : header_of (indicator_of h.style ∷ line) ≡ Some h) where
   pub header_reads : is_in_line line ≡ true → ends_line behind ≡ true → begins_with tab (linebreak behind p).rest ≡ false → header p (line ++ behind) (past p) ≡ Ok (read_header h behind (along line (past p)))
   header_reads inner ends still = by (headers_end h.style line behind p inner ends)
     where
@@ -116,7 +116,7 @@ module _ (h : defs.Header) (line behind : List ℕ) (p : Place) (is : header_of 
       by (comment g b t f w c e) = let no : None ≡ Some h = sym f ∙ is in cc
       by (no_header f e) = let no : None ≡ Some h = sym f ∙ is in cc
 
-pub linebreak_put : (k : Break) (a : List ℕ) (q : Place) → Fits k a → linebreak (put k a) q ≡ record { rest = a; place = behind_break k q; value = tt }
+pub linebreak_put : (k : Break) (a : List ℕ) (q : Position) → Fits k a → linebreak (put k a) q ≡ record { rest = a; place = behind_break k q; value = tt }
 linebreak_put feed a q fits = refl
 linebreak_put carriage a q fits = rw fits refl
 linebreak_put both a q fits = refl

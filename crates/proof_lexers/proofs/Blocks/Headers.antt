@@ -2,7 +2,7 @@
 use Rattle.std.proofs.Common.{◌≡◌, ℕ, ◌-◌, List, [], ◌∷◌, ◌++◌, Bool, true, false, ◌||◌, ◌==◌, if◌then◌else◌, slice_index, Option, Some, None, Result, Ok, Err, refl, ap, sym, ◌∙◌, arith}
 use Rattle.std.proofs.lemmas.Bool.{and_parts, or_parts, eqb-true}
 use Rattle.std.proofs.lemmas.Bool.Decides.{nat_tests}
-use Rattle.defs_text.specs.Position.{Place}
+use Rattle.defs_text.specs.Position.{Position}
 use Rattle.yaml_chars.specs.Class.{is_break, is_blank, is_digit}
 use Rattle.yaml_tokens.specs.declared.problem.Fault.{Fault}
 use Rattle.yaml_tokens.specs.declared.problem.Fault.TheVariants.{At}
@@ -16,7 +16,7 @@ use Rattle.defs_scalar.specs.BlockScalar as defs
 use Rattle.defs_scalar.specs.BlockScalar.{BlockStyle, literal, folded, strip, clip, keep, sign_of, digit_of, header_of, behind_style, first_indicator, behind_sign, digit_or_end, behind_digit, sign_or_end}
 use Rattle.model_lexers.specs.declared.context.SkipTabs.TheVariants.{Yes}
 use Rattle.model_lexers.specs.declared.context.Whitespace.{Whitespace}
-use Rattle.model_lexers.specs.Machine.{Read, past, after, skip_while}
+use Rattle.model_lexers.specs.Machine.{Read, past, and_then, skip_while}
 use Rattle.model_lexers.specs.Space.{space_from, space, linebreak, is_line}
 use Rattle.model_lexers.specs.Block.{chomping, increment, indicators, late_chomping, with_chomping, header_break, header_end, header, with_indicators}
 use Rattle.proof_lexers.proofs.Bridges.{same_break, same_blank}
@@ -39,29 +39,29 @@ still : (c : ℕ) → is_break c ≡ true → Still c
 unfolding is_break is_digit
 still c h = record { space = grind (arith, nat_tests); tab = grind (arith, nat_tests); hash = grind (arith, nat_tests); plus = grind (arith, nat_tests); minus = grind (arith, nat_tests); digit = grind (arith, nat_tests) }
 
-skip_line : (w r : List ℕ) (p : Place) → is_in_line w ≡ true → ends_line r ≡ true → skip_while is_line (w ++ r) p ≡ record { rest = r; place = along w p; value = tt }
+skip_line : (w r : List ℕ) (p : Position) → is_in_line w ≡ true → ends_line r ≡ true → skip_while is_line (w ++ r) p ≡ record { rest = r; place = along w p; value = tt }
 skip_line [] [] p h e = refl
 skip_line [] (c ∷ r) p h e = let b = sym (same_break c) ∙ e in rw b refl
 skip_line (c ∷ w) r p h e = let q = first_inner c w h in rw (q.0) (skip_line w r (past p) q.1 e)
 
-module _ (start : Place) where
+module _ (start : Position) where
   -- behind blanks and a comment, from what was found before
-  abbrev rest_from : List ℕ → Place → Bool → Bool → Result (Read Bool) Fault
-  rest_from a p tabs spaces = after (space_from Yes a (record { place = p; found = record { found_tabs = tabs; has_valid_yaml_ws = spaces } })) (λ (w : Read Whitespace). header_break start w.rest w.place)
+  abbrev rest_from : List ℕ → Position → Bool → Bool → Result (Read Bool) Fault
+  rest_from a p tabs spaces = and_then (space_from Yes a (record { place = p; found = record { found_tabs = tabs; has_valid_yaml_ws = spaces } })) (λ (w : Read Whitespace). header_break start w.rest w.place)
 
-  at_end : (r : List ℕ) (p : Place) (tabs spaces : Bool) → ends_line r ≡ true → rest_from r p tabs spaces ≡ header_break start r p
+  at_end : (r : List ℕ) (p : Position) (tabs spaces : Bool) → ends_line r ≡ true → rest_from r p tabs spaces ≡ header_break start r p
   at_end [] p tabs spaces e = refl
   at_end (c ∷ r) p tabs spaces e = let s = still c (sym (same_break c) ∙ e) in rw (s.space, s.tab, s.hash) refl
 
-  at_hash : (w r : List ℕ) (p : Place) (tabs spaces : Bool) → is_in_line w ≡ true → ends_line r ≡ true → (tabs || spaces) ≡ true → rest_from (35 ∷ (w ++ r)) p tabs spaces ≡ header_break start r (along w (past p))
+  at_hash : (w r : List ℕ) (p : Position) (tabs spaces : Bool) → is_in_line w ≡ true → ends_line r ≡ true → (tabs || spaces) ≡ true → rest_from (35 ∷ (w ++ r)) p tabs spaces ≡ header_break start r (along w (past p))
   unfolding is_break
   at_hash w r p tabs spaces h e some = rw some (rw (skip_line w r (past p) h e) refl)
 
-  hash_goes : (c : ℕ) (w r : List ℕ) (p : Place) (tabs spaces : Bool) → (c == 35) ≡ true → is_in_line w ≡ true → ends_line r ≡ true → (tabs || spaces) ≡ true → rest_from (c ∷ (w ++ r)) p tabs spaces ≡ header_break start r (along w (past p))
+  hash_goes : (c : ℕ) (w r : List ℕ) (p : Position) (tabs spaces : Bool) → (c == 35) ≡ true → is_in_line w ≡ true → ends_line r ≡ true → (tabs || spaces) ≡ true → rest_from (c ∷ (w ++ r)) p tabs spaces ≡ header_break start r (along w (past p))
   hash_goes c w r p tabs spaces h e f some = let is = eqb-true c 35 h in rw is (at_hash w r p tabs spaces e f some)
 
   -- a blank is passed
-  blank_goes : (c : ℕ) (a : List ℕ) (p : Place) (tabs spaces : Bool) → is_blank c ≡ true → rest_from (c ∷ a) p tabs spaces ≡ rest_from a (past p) (tabs || (c == 9)) (spaces || (c == 32))
+  blank_goes : (c : ℕ) (a : List ℕ) (p : Position) (tabs spaces : Bool) → is_blank c ≡ true → rest_from (c ∷ a) p tabs spaces ≡ rest_from a (past p) (tabs || (c == 9)) (spaces || (c == 32))
   unfolding is_blank
   blank_goes c a p tabs spaces h = by (c == 32) (c == 9) refl refl
     where
@@ -96,11 +96,11 @@ module _ (start : Place) where
       by false false false false h = h
 
   -- a character that is neither a blank nor a comment's ends it
-  other_fails : (c : ℕ) (a : List ℕ) (p : Place) (tabs spaces : Bool) → is_break c ≡ false → is_blank c ≡ false → (c == 35) ≡ false → rest_from (c ∷ a) p tabs spaces ≡ Err (At problem.BlockScalarHeader start)
+  other_fails : (c : ℕ) (a : List ℕ) (p : Position) (tabs spaces : Bool) → is_break c ≡ false → is_blank c ≡ false → (c == 35) ≡ false → rest_from (c ∷ a) p tabs spaces ≡ Err (At problem.BlockScalarHeader start)
   unfolding is_blank header_break
   other_fails c a p tabs spaces b h e = let q = or_parts (c == 32) (c == 9) h in rw (q.0, q.1, e, b) refl
 
-  blanks_goes : (w r : List ℕ) (p : Place) (tabs spaces : Bool) → is_in_line w ≡ true → ends_line r ≡ true → (tabs || spaces) ≡ true → is_blanks_and_comment w ≡ true → rest_from (w ++ r) p tabs spaces ≡ header_break start r (along w p)
+  blanks_goes : (w r : List ℕ) (p : Position) (tabs spaces : Bool) → is_in_line w ≡ true → ends_line r ≡ true → (tabs || spaces) ≡ true → is_blanks_and_comment w ≡ true → rest_from (w ++ r) p tabs spaces ≡ header_break start r (along w p)
   blanks_goes [] r p tabs spaces h e some is = at_end r p tabs spaces e
   blanks_goes (c ∷ w) r p tabs spaces h e some is = by (c == 35) (is_blank c) refl refl (λ g more. blanks_goes w r (past p) (tabs || (c == 9)) (spaces || (c == 32)) ((first_inner c w h).1) e (still_some c tabs spaces g) more)
     where
@@ -113,7 +113,7 @@ module _ (start : Place) where
           blank_goes c (w ++ r) p tabs spaces g ∙ go g more
       by false false f g go = let no : false ≡ true = rw (f, same_blank c, g) at is in cc
 
-  blanks_fail : (w r : List ℕ) (p : Place) (tabs spaces : Bool) → is_in_line w ≡ true → is_blanks_and_comment w ≡ false → rest_from (w ++ r) p tabs spaces ≡ Err (At problem.BlockScalarHeader start)
+  blanks_fail : (w r : List ℕ) (p : Position) (tabs spaces : Bool) → is_in_line w ≡ true → is_blanks_and_comment w ≡ false → rest_from (w ++ r) p tabs spaces ≡ Err (At problem.BlockScalarHeader start)
   blanks_fail [] r p tabs spaces h is = cc
   blanks_fail (c ∷ w) r p tabs spaces h is = by (c == 35) (is_blank c) refl refl (λ more. blanks_fail w r (past p) (tabs || (c == 9)) (spaces || (c == 32)) ((first_inner c w h).1) more)
     where
@@ -126,7 +126,7 @@ module _ (start : Place) where
           blank_goes c (w ++ r) p tabs spaces g ∙ go more
       by false false f g go = other_fails c (w ++ r) p tabs spaces ((first_inner c w h).0) g f
 
-  rest_goes : (w r : List ℕ) (p : Place) → is_in_line w ≡ true → ends_line r ≡ true → is_rest_of_line w ≡ true → header_end start (w ++ r) p ≡ header_break start r (along w p)
+  rest_goes : (w r : List ℕ) (p : Position) → is_in_line w ≡ true → ends_line r ≡ true → is_rest_of_line w ≡ true → header_end start (w ++ r) p ≡ header_break start r (along w p)
   unfolding header_end space
   rest_goes [] r p h e is = at_end r p false false e
   rest_goes (c ∷ w) r p h e is =
@@ -136,14 +136,14 @@ module _ (start : Place) where
       blank_goes c (w ++ r) p false false blank ∙ blanks_goes w r (past p) (c == 9) (c == 32) inner.1 e (still_some c false false blank) q.1
 
   -- why a line is no rest of a header
-  data Fails (w : List ℕ) (p : Place) (x : Result (Read Bool) Fault) : Type 0 where
+  data Fails (w : List ℕ) (p : Position) (x : Result (Read Bool) Fault) : Type 0 where
     at_comment : (text : List ℕ) → w ≡ 35 ∷ text → x ≡ Err (At problem.CommentNotSeparated p) → Fails w p x
     at_other : x ≡ Err (At problem.BlockScalarHeader start) → Fails w p x
 
-  hash_fails : (a : List ℕ) (p : Place) → rest_from (35 ∷ a) p false false ≡ Err (At problem.CommentNotSeparated p)
+  hash_fails : (a : List ℕ) (p : Position) → rest_from (35 ∷ a) p false false ≡ Err (At problem.CommentNotSeparated p)
   hash_fails a p = refl
 
-  rest_fails : (w r : List ℕ) (p : Place) → is_in_line w ≡ true → is_rest_of_line w ≡ false → Fails w p (header_end start (w ++ r) p)
+  rest_fails : (w r : List ℕ) (p : Position) → is_in_line w ≡ true → is_rest_of_line w ≡ false → Fails w p (header_end start (w ++ r) p)
   unfolding header_end space
   rest_fails [] r p h is = cc
   rest_fails (c ∷ w) r p h is = by (c == 35) (is_blank c) refl refl
@@ -160,7 +160,7 @@ module _ (start : Place) where
 
 -- ---- behind a header's line
 
-same_rest : (r : List ℕ) (p q : Place) → (linebreak r p).rest ≡ (linebreak r q).rest
+same_rest : (r : List ℕ) (p q : Position) → (linebreak r p).rest ≡ (linebreak r q).rest
 same_rest [] p q = refl
 same_rest (c ∷ a) p q = by (c == 13) (slice_index a 0 == 10) refl refl
   where
@@ -173,12 +173,12 @@ same_tab : (a : List ℕ) → (slice_index a 0 == 9) ≡ begins_with tab a
 same_tab [] = refl
 same_tab (c ∷ a) = refl
 
-module _ (start : Place) (style : BlockStyle) (line r : List ℕ) (h : defs.Header) (is : header_of (indicator_of style ∷ line) ≡ Some h) (q : Place) (along_it : along line (past start) ≡ q) where
-  at_line_end : ends_line r ≡ true → EndsAs start style line r (after (header_break start r q) (λ (b : Read Bool). Ok (with_indicators (indicators_of h) b)))
+module _ (start : Position) (style : BlockStyle) (line r : List ℕ) (h : defs.Header) (is : header_of (indicator_of style ∷ line) ≡ Some h) (q : Position) (along_it : along line (past start) ≡ q) where
+  at_line_end : ends_line r ≡ true → EndsAs start style line r (and_then (header_break start r q) (λ (b : Read Bool). Ok (with_indicators (indicators_of h) b)))
   unfolding header_break
   at_line_end e = by r e (begins_with tab (linebreak r start).rest) refl
     where
-      by : (a : List ℕ) → ends_line a ≡ true → (t : Bool) → begins_with tab (linebreak a start).rest ≡ t → EndsAs start style line a (after (header_break start a q) (λ (b : Read Bool). Ok (with_indicators (indicators_of h) b)))
+      by : (a : List ℕ) → ends_line a ≡ true → (t : Bool) → begins_with tab (linebreak a start).rest ≡ t → EndsAs start style line a (and_then (header_break start a q) (λ (b : Read Bool). Ok (with_indicators (indicators_of h) b)))
       by [] e t f = reads h is refl (rw along_it refl)
       by (c ∷ a) e true f =
           let b = sym (same_break c) ∙ e in
@@ -210,37 +210,37 @@ kind_of c = by (c == 45) (c == 43) (c == 48) (classes.is_between 49 57 c) refl r
     by false false false true e f g h = is_count f e (grind (arith, nat_tests)) g h
     by false false false false e f g h = is_other f e (grind (arith, nat_tests)) g h
 
-along_more : (v w : List ℕ) (p : Place) → along w (along v p) ≡ along (v ++ w) p
+along_more : (v w : List ℕ) (p : Position) → along w (along v p) ≡ along (v ++ w) p
 along_more [] w p = refl
 along_more (c ∷ v) w p = along_more v w (past p)
 
-end_chomping : (r : List ℕ) (p : Place) → ends_line r ≡ true → chomping r p ≡ record { rest = r; place = p; value = Clip }
+end_chomping : (r : List ℕ) (p : Position) → ends_line r ≡ true → chomping r p ≡ record { rest = r; place = p; value = Clip }
 unfolding chomping
 end_chomping [] p e = refl
 end_chomping (c ∷ r) p e = let s = still c (sym (same_break c) ∙ e) in rw (s.plus, s.minus) refl
 
-end_increment : (start : Place) (r : List ℕ) (p : Place) → ends_line r ≡ true → increment start r p ≡ Ok (record { rest = r; place = p; value = 0 })
+end_increment : (start : Position) (r : List ℕ) (p : Position) → ends_line r ≡ true → increment start r p ≡ Ok (record { rest = r; place = p; value = 0 })
 unfolding increment
 end_increment start [] p e = refl
 end_increment start (c ∷ r) p e = let s = still c (sym (same_break c) ∙ e) in rw (s.digit) refl
 
-no_chomping : (c : ℕ) (a : List ℕ) (p : Place) → (c == 43) ≡ false → (c == 45) ≡ false → chomping (c ∷ a) p ≡ record { rest = c ∷ a; place = p; value = Clip }
+no_chomping : (c : ℕ) (a : List ℕ) (p : Position) → (c == 43) ≡ false → (c == 45) ≡ false → chomping (c ∷ a) p ≡ record { rest = c ∷ a; place = p; value = Clip }
 unfolding chomping
 no_chomping c a p e f = rw (e, f) refl
 
-no_increment : (start : Place) (c : ℕ) (a : List ℕ) (p : Place) → is_digit c ≡ false → increment start (c ∷ a) p ≡ Ok (record { rest = c ∷ a; place = p; value = 0 })
+no_increment : (start : Position) (c : ℕ) (a : List ℕ) (p : Position) → is_digit c ≡ false → increment start (c ∷ a) p ≡ Ok (record { rest = c ∷ a; place = p; value = 0 })
 unfolding increment
 no_increment start c a p e = rw e refl
 
-some_increment : (start : Place) (c : ℕ) (a : List ℕ) (p : Place) → is_digit c ≡ true → (c == 48) ≡ false → increment start (c ∷ a) p ≡ Ok (record { rest = a; place = past p; value = c - 48 })
+some_increment : (start : Position) (c : ℕ) (a : List ℕ) (p : Position) → is_digit c ≡ true → (c == 48) ≡ false → increment start (c ∷ a) p ≡ Ok (record { rest = a; place = past p; value = c - 48 })
 unfolding increment
 some_increment start c a p e f = rw (e, f) refl
 
-zero_increment : (start : Place) (a : List ℕ) (p : Place) → increment start (48 ∷ a) p ≡ Err (At problem.BlockScalarZero start)
+zero_increment : (start : Position) (a : List ℕ) (p : Position) → increment start (48 ∷ a) p ≡ Err (At problem.BlockScalarZero start)
 unfolding increment is_digit
 zero_increment start a p = refl
 
-module _ (start : Place) (style : BlockStyle) (r : List ℕ) (ends : ends_line r ≡ true) where
+module _ (start : Position) (style : BlockStyle) (r : List ℕ) (ends : ends_line r ≡ true) where
   abbrev Ends : List ℕ → Type 0
   Ends line = EndsAs start style line r (header start (line ++ r) (past start))
 
@@ -250,7 +250,7 @@ module _ (start : Place) (style : BlockStyle) (r : List ℕ) (ends : ends_line r
   unfolding header
   finish line before w h cut inner is own reads_it = by (is_rest_of_line w) refl
     where
-      q : Place
+      q : Position
       q = along before (past start)
 
       refused : Fails start w q (header_end start (w ++ r) q) → header_of (indicator_of style ∷ line) ≡ None → Ends line
@@ -284,7 +284,7 @@ module _ (start : Place) (style : BlockStyle) (r : List ℕ) (ends : ends_line r
 
   -- what a sign is to both
   record IsSign (c : ℕ) (ch : defs.Chomping) : Type 0 where
-    reads_it : (a : List ℕ) (p : Place) → chomping (c ∷ a) p ≡ record { rest = a; place = past p; value = chomping_of ch }
+    reads_it : (a : List ℕ) (p : Position) → chomping (c ∷ a) p ≡ record { rest = a; place = past p; value = chomping_of ch }
     late : (n : Read ℕ) → late_chomping (chomping_of ch) n ≡ record { rest = n.rest; place = n.place; value = record { chomping = chomping_of ch; increment = n.value } }
     said_so : sign_of c ≡ Some ch
     is : is_sign c ≡ true
@@ -293,7 +293,7 @@ module _ (start : Place) (style : BlockStyle) (r : List ℕ) (ends : ends_line r
     sign_said : (l : List ℕ) → header_of (indicator_of style ∷ c ∷ l) ≡ behind_sign style ch l
     sign_said l = said (c ∷ l) ∙ rw (sign.said_so) refl
 
-    with_digit : (l a : List ℕ) (n : ℕ) (p : Place) → increment start (l ++ r) (past (past start)) ≡ Ok (record { rest = a; place = p; value = n })
+    with_digit : (l a : List ℕ) (n : ℕ) (p : Position) → increment start (l ++ r) (past (past start)) ≡ Ok (record { rest = a; place = p; value = n })
         → indicators start (c ∷ (l ++ r)) (past start) ≡ Ok (record { rest = a; place = p; value = record { chomping = chomping_of ch; increment = n } })
     unfolding indicators
     with_digit l a n p e = rw (sign.reads_it, e) (ap Ok (sign.late (record { rest = a; place = p; value = n })))
@@ -347,7 +347,7 @@ module _ (start : Place) (style : BlockStyle) (r : List ℕ) (ends : ends_line r
     unfolding sign_of digit_of
     digit_said l = said (c ∷ l) ∙ rw (no_minus, no_plus, counts) refl
 
-    with_sign : (l a : List ℕ) (ch : defs.Chomping) (p : Place) → chomping (l ++ r) (past (past start)) ≡ record { rest = a; place = p; value = chomping_of ch }
+    with_sign : (l a : List ℕ) (ch : defs.Chomping) (p : Position) → chomping (l ++ r) (past (past start)) ≡ record { rest = a; place = p; value = chomping_of ch }
         → indicators start (c ∷ (l ++ r)) (past start) ≡ Ok (record { rest = a; place = p; value = record { chomping = chomping_of ch; increment = c - 48 } })
     unfolding indicators
     with_sign l a ch p e = rw (no_chomping c (l ++ r) (past start) no_plus no_minus, some_increment start c (l ++ r) (past start) is_count_digit no_zero, e) refl

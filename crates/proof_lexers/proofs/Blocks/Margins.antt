@@ -1,7 +1,7 @@
 -- What the model does before content: spaces and breaks.
 use Rattle.std.proofs.Common.{◌≡◌, ◌≤◌, ℕ, suc, ◌+◌, List, [], ◌∷◌, ◌++◌, Bool, true, false, ◌&&◌, ◌==◌, nat_lt, length, refl, ap, sym, ◌∙◌, arith}
 use Rattle.std.proofs.lemmas.Bool.{and_parts, lt-ltb}
-use Rattle.defs_text.specs.Position.{Place}
+use Rattle.defs_text.specs.Position.{Position}
 use Rattle.yaml_chars.specs.Class.{is_break}
 use Rattle.defs_scalar.specs.BlockScalar.{is_spaces}
 use Rattle.model_lexers.specs.Machine.{Read, past, past_break, is_cr_lf}
@@ -10,39 +10,39 @@ use Rattle.proof_lexers.specs.HeaderEnds.{along}
 use Rattle.proof_lexers.proofs.Blocks.Written.{Break, feed, carriage, both, Line, put, Fits}
 
 -- the place behind a break
-abbrev pub before_break : Break → Place → Place
+abbrev pub before_break : Break → Position → Position
 before_break feed p = p
 before_break carriage p = p
 before_break both p = past p
 
-abbrev pub behind_break : Break → Place → Place
+abbrev pub behind_break : Break → Position → Position
 behind_break b p = past_break (before_break b p)
 
 -- the place behind a line, and behind lines
-abbrev pub behind_line : Line → Place → Place
+abbrev pub behind_line : Line → Position → Position
 behind_line l p = behind_break l.by (along l.text p)
 
-abbrev pub behind_lines : List Line → Place → Place
+abbrev pub behind_lines : List Line → Position → Position
 behind_lines [] p = p
 behind_lines (l ∷ ls) p = behind_lines ls (behind_line l p)
 
 -- ---- looking for content in a column
 
-abbrev pub at : Place → List ℕ → Margin
+abbrev pub at : Position → List ℕ → Margin
 at p b = record { place = p; breaks = b }
 
 -- within a line's indentation
-abbrev pub before : Place → Lines → List ℕ → State
+abbrev pub before : Position → Lines → List ℕ → State
 before p l b = record { mode = margin; place = p; lines = record l { breaks = b } }
 
 -- The scan of the lines passes what the search for content passes.
-pub margin_passes : (literal : Bool) (column : ℕ) (a : List ℕ) (p : Place) (l : Lines) (b : List ℕ)
+pub margin_passes : (literal : Bool) (column : ℕ) (a : List ℕ) (p : Position) (l : Lines) (b : List ℕ)
     → lines_from literal column a (before p l b) ≡ lines_from literal column (indent_from column a (at p b)).rest (before (indent_from column a (at p b)).place l (indent_from column a (at p b)).value.breaks)
 margin_passes literal column [] p l b = refl
 margin_passes literal column (c ∷ a) p l b = by ((c == 32) && nat_lt p.col column) (is_break c) (is_cr_lf c a) refl refl refl (λ q x. margin_passes literal column a q l x)
   where
     by : (s k f : Bool) → ((c == 32) && nat_lt p.col column) ≡ s → is_break c ≡ k → is_cr_lf c a ≡ f
-        → ((q : Place) (x : List ℕ) → lines_from literal column a (before q l x) ≡ lines_from literal column (indent_from column a (at q x)).rest (before (indent_from column a (at q x)).place l (indent_from column a (at q x)).value.breaks))
+        → ((q : Position) (x : List ℕ) → lines_from literal column a (before q l x) ≡ lines_from literal column (indent_from column a (at q x)).rest (before (indent_from column a (at q x)).place l (indent_from column a (at q x)).value.breaks))
         → lines_from literal column (c ∷ a) (before p l b) ≡ lines_from literal column (indent_from column (c ∷ a) (at p b)).rest (before (indent_from column (c ∷ a) (at p b)).place l (indent_from column (c ∷ a) (at p b)).value.breaks)
     by true k f e g h go = rw e (go (past p) b)
     by false true true e g h go = rw (e, g, h) (go (past p) b)
@@ -56,29 +56,29 @@ margin_passes literal column (c ∷ a) p l b = by ((c == 32) && nat_lt p.col col
 no_less : (n m : ℕ) → n + suc m ≤ 0 → ⊥
 no_less n m h = omega (arith, h)
 
-along_spaces : (column : ℕ) (w a : List ℕ) (p : Place) (b : List ℕ) → is_spaces w ≡ true → p.col + length w ≤ column → indent_from column (w ++ a) (at p b) ≡ indent_from column a (at (along w p) b)
+along_spaces : (column : ℕ) (w a : List ℕ) (p : Position) (b : List ℕ) → is_spaces w ≡ true → p.col + length w ≤ column → indent_from column (w ++ a) (at p b) ≡ indent_from column a (at (along w p) b)
 along_spaces column [] a p b h le = refl
 along_spaces column (c ∷ w) a p b h le =
     let q = and_parts (c == 32) (is_spaces w) h in
     let deep : nat_lt p.col column ≡ true = lt-ltb p.col column (omega (arith, le)) in
     rw (q.0, deep) (along_spaces column w a (past p) b q.1 (omega (arith, le)))
 
-pub col_along : (w : List ℕ) (p : Place) → (along w p).col ≡ p.col + length w
+pub col_along : (w : List ℕ) (p : Position) → (along w p).col ≡ p.col + length w
 col_along [] p = omega arith
 col_along (c ∷ w) p = col_along w (past p) ∙ omega arith
 
-at_break : (column : ℕ) (k : Break) (a : List ℕ) (p : Place) (b : List ℕ) → Fits k a → indent_from column (put k a) (at p b) ≡ indent_from column a (at (behind_break k p) (b ++ 10 ∷ []))
+at_break : (column : ℕ) (k : Break) (a : List ℕ) (p : Position) (b : List ℕ) → Fits k a → indent_from column (put k a) (at p b) ≡ indent_from column a (at (behind_break k p) (b ++ 10 ∷ []))
 unfolding is_break
 at_break column feed a p b fits = refl
 at_break column carriage a p b fits = rw fits refl
 at_break column both a p b fits = refl
 
 -- a line of spaces that ends at the column or before it
-pub empty_passes : (column : ℕ) (l : Line) (a : List ℕ) (p : Place) (b : List ℕ) → is_spaces l.text ≡ true → p.col + length l.text ≤ column → Fits l.by a
+pub empty_passes : (column : ℕ) (l : Line) (a : List ℕ) (p : Position) (b : List ℕ) → is_spaces l.text ≡ true → p.col + length l.text ≤ column → Fits l.by a
     → indent_from column (l.text ++ put l.by a) (at p b) ≡ indent_from column a (at (behind_line l p) (b ++ 10 ∷ []))
 empty_passes column l a p b h le fits = along_spaces column l.text (put l.by a) p b h le ∙ at_break column l.by a (along l.text p) b fits
 
-pub last_passes : (column : ℕ) (w : List ℕ) (p : Place) (b : List ℕ) → is_spaces w ≡ true → p.col + length w ≤ column → indent_from column w (at p b) ≡ record { rest = []; place = along w p; value = record { column = column; breaks = b } }
+pub last_passes : (column : ℕ) (w : List ℕ) (p : Position) (b : List ℕ) → is_spaces w ≡ true → p.col + length w ≤ column → indent_from column w (at p b) ≡ record { rest = []; place = along w p; value = record { column = column; breaks = b } }
 last_passes column [] p b h le = refl
 last_passes column (c ∷ w) p b h le =
     let q = and_parts (c == 32) (is_spaces w) h in

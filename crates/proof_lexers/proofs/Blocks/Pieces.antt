@@ -3,7 +3,7 @@ use Rattle.std.proofs.Common.{◌≡◌, ℕ, zero, suc, List, [], ◌∷◌, �
 use Rattle.std.specs.List.{list_all}
 use Rattle.std.proofs.lemmas.Bool.{and_parts, not-true}
 use Rattle.std.proofs.lemmas.Bool.Decides.{nat_tests}
-use Rattle.defs_text.specs.Position.{Place}
+use Rattle.defs_text.specs.Position.{Position}
 use Rattle.defs_text.specs.Classes as classes
 use Rattle.defs_text.specs.Classes.{tab, is_at_end, is_document_marker}
 use Rattle.defs_text.specs.Breaks.{split, Split}
@@ -103,7 +103,7 @@ whole_column None indent ls ns e column same further =
 
 -- ---- before further text
 
-module _ (indent : ℕ) (p : Place) (next : List ℕ) where
+module _ (indent : ℕ) (p : Position) (next : List ℕ) where
   -- what a piece before further text is
   record Before (h : defs.Header) (ls : List Line) (b : BlockRead) : Type 0 where
     rows : List Row
@@ -165,7 +165,7 @@ module _ (indent : ℕ) (p : Place) (next : List ℕ) where
             lines_col : (ls : List Line) → (behind_lines ls (start h line k indent p is digit inner)).col ≡ 0
             lines_col ls = col_of ls (start h line k indent p is digit inner) refl
               where
-                col_of : (ls : List Line) (q : Place) → q.col ≡ 0 → (behind_lines ls q).col ≡ 0
+                col_of : (ls : List Line) (q : Position) → q.col ≡ 0 → (behind_lines ls q).col ≡ 0
                 col_of [] q e = e
                 col_of (l ∷ ls) q e = col_of ls (behind_line l q) refl
 
@@ -176,7 +176,7 @@ module _ (indent : ℕ) (p : Place) (next : List ℕ) where
 
 -- ---- at the end of the text
 
-module _ (indent : ℕ) (p : Place) where
+module _ (indent : ℕ) (p : Position) where
   record AtEnd (h : defs.Header) (ls : List Line) (last : List ℕ) (b : BlockRead) : Type 0 where
     rows : List Row
     row : Row
@@ -216,7 +216,7 @@ pub some_next : (d : ℕ) (n : List ℕ) → list_all is_some (d ∷ n) ≡ true
 unfolding classes.is_nul
 some_next d n h = not-true _ ((and_parts (not (d == 0)) (list_all is_some n) h).0)
 
-module _ (indent : ℕ) (p : Place) (b : BlockRead) where
+module _ (indent : ℕ) (p : Position) (b : BlockRead) where
   abbrev pub Read_as : List ℕ → List ℕ → Type 0
   Read_as piece next = IsRead indent p b piece next (block (is_literal b.style) indent (piece ++ next) p)
 

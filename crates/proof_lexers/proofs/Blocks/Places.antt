@@ -1,12 +1,12 @@
 -- The definitions' places are the model's.
 use Rattle.std.proofs.Common.{◌≡◌, ◌≤◌, ℕ, suc, ◌+◌, List, [], ◌∷◌, ◌++◌, true, false, not, ◌==◌, nat_lt, length, slice_index, None, refl, ap, sym, ◌∙◌, append-nil, append_assoc, arith}
 use Rattle.std.proofs.lemmas.Bool.{and_parts, eqb-true, lt-ltb}
-use Rattle.defs_text.specs.Position.{Place}
+use Rattle.defs_text.specs.Position.{Position}
 use Rattle.yaml_chars.specs.Class.{is_break}
 use Rattle.defs_text.specs.Classes as classes
 use Rattle.defs_scalar.specs.BlockScalar.{is_spaces}
 use Rattle.defs_token.specs.Text as cut
-use Rattle.defs_token.specs.Text.{place_past, place_behind}
+use Rattle.defs_text.specs.Position.{position_past, position_after}
 use Rattle.defs_token.specs.BlockPiece.{first_content}
 use Rattle.model_lexers.specs.Machine.{past, past_break}
 use Rattle.proof_lexers.proofs.Bridges.{same_break}
@@ -16,33 +16,33 @@ use Rattle.proof_lexers.proofs.Blocks.Written.{Break, feed, carriage, both, Line
 use Rattle.proof_lexers.proofs.Blocks.Margins.{behind_break, behind_line, behind_lines}
 
 -- behind a character of a line
-pub past_is : (p : Place) (c : ℕ) (r : List ℕ) → is_break c ≡ false → place_past p c r ≡ past p
+pub past_is : (p : Position) (c : ℕ) (r : List ℕ) → is_break c ≡ false → position_past p c r ≡ past p
 past_is p c r h =
     let index : suc p.index ≡ p.index + 1 = omega arith in
     let col : suc p.col ≡ p.col + 1 = omega arith in
     rw (same_break c, h, index, col) refl
 
-pub space_past : (p : Place) (r : List ℕ) → place_past p 32 r ≡ past p
+pub space_past : (p : Position) (r : List ℕ) → position_past p 32 r ≡ past p
 unfolding is_break
 space_past p r = past_is p 32 r refl
 
-past_break_is : (p : Place) → record { index = suc p.index; line = suc p.line; col = 0 } ≡ past_break p
+past_break_is : (p : Position) → record { index = suc p.index; line = suc p.line; col = 0 } ≡ past_break p
 past_break_is p =
     let index : suc p.index ≡ p.index + 1 = omega arith in
     let line : suc p.line ≡ p.line + 1 = omega arith in
     rw (index, line) refl
 
-feed_past : (p : Place) (r : List ℕ) → place_past p 10 r ≡ past_break p
+feed_past : (p : Position) (r : List ℕ) → position_past p 10 r ≡ past_break p
 unfolding classes.is_break
 feed_past p [] = past_break_is p
 feed_past p (c ∷ r) = past_break_is p
 
-carriage_past : (p : Place) (r : List ℕ) → (slice_index r 0 == 10) ≡ false → place_past p 13 r ≡ past_break p
+carriage_past : (p : Position) (r : List ℕ) → (slice_index r 0 == 10) ≡ false → position_past p 13 r ≡ past_break p
 unfolding classes.is_break
 carriage_past p [] h = past_break_is p
 carriage_past p (c ∷ r) h = rw h (past_break_is p)
 
-both_past : (p : Place) (r : List ℕ) → place_past p 13 (10 ∷ r) ≡ past p
+both_past : (p : Position) (r : List ℕ) → position_past p 13 (10 ∷ r) ≡ past p
 unfolding classes.is_break
 both_past p r =
     let index : suc p.index ≡ p.index + 1 = omega arith in
@@ -51,16 +51,16 @@ both_past p r =
 
 -- ---- the place behind a piece
 
-pub behind_chars : (w y next : List ℕ) (p : Place) → is_in_line w ≡ true → place_behind p (w ++ y) next ≡ place_behind (along w p) y next
+pub behind_chars : (w y next : List ℕ) (p : Position) → is_in_line w ≡ true → position_after p (w ++ y) next ≡ position_after (along w p) y next
 behind_chars [] y next p h = refl
 behind_chars (c ∷ w) y next p h =
     let q = first_inner c w h in
-    ap (λ x. place_behind x (w ++ y) next) (past_is p c ((w ++ y) ++ next) q.0) ∙ behind_chars w y next (past p) q.1
+    ap (λ x. position_after x (w ++ y) next) (past_is p c ((w ++ y) ++ next) q.0) ∙ behind_chars w y next (past p) q.1
 
-pub behind_put : (k : Break) (y next : List ℕ) (p : Place) → Fits k (y ++ next) → place_behind p (put k y) next ≡ place_behind (behind_break k p) y next
-behind_put feed y next p fits = ap (λ x. place_behind x y next) (feed_past p (y ++ next))
-behind_put carriage y next p fits = ap (λ x. place_behind x y next) (carriage_past p (y ++ next) fits)
-behind_put both y next p fits = ap (λ x. place_behind x (10 ∷ y) next) (both_past p (y ++ next)) ∙ ap (λ x. place_behind x y next) (feed_past (past p) (y ++ next))
+pub behind_put : (k : Break) (y next : List ℕ) (p : Position) → Fits k (y ++ next) → position_after p (put k y) next ≡ position_after (behind_break k p) y next
+behind_put feed y next p fits = ap (λ x. position_after x y next) (feed_past p (y ++ next))
+behind_put carriage y next p fits = ap (λ x. position_after x y next) (carriage_past p (y ++ next) fits)
+behind_put both y next p fits = ap (λ x. position_after x (10 ∷ y) next) (both_past p (y ++ next)) ∙ ap (λ x. position_after x y next) (feed_past (past p) (y ++ next))
 
 pub spell_more : (ls : List Line) (a b : List ℕ) → spell ls a ++ b ≡ spell ls (a ++ b)
 spell_more [] a b = refl
@@ -71,7 +71,7 @@ spell_more (l ∷ ls) a b = append_assoc l.text (put l.by (spell ls a)) b ∙ ap
     put_more carriage x y = refl
     put_more both x y = refl
 
-pub behind_spell : (ls : List Line) (y next : List ℕ) (p : Place) → AreLines ls (y ++ next) → place_behind p (spell ls y) next ≡ place_behind (behind_lines ls p) y next
+pub behind_spell : (ls : List Line) (y next : List ℕ) (p : Position) → AreLines ls (y ++ next) → position_after p (spell ls y) next ≡ position_after (behind_lines ls p) y next
 behind_spell [] y next p are = refl
 behind_spell (l ∷ ls) y next p are =
     let fits : Fits l.by (spell ls y ++ next) = rw (spell_more ls y next) (are.1) in
@@ -79,50 +79,50 @@ behind_spell (l ∷ ls) y next p are =
 
 -- ---- the place of the first content
 
-pub first_space : (column c : ℕ) (r : List ℕ) (p : Place) → (c == 32) ≡ true → nat_lt p.col column ≡ true → first_content column false p (c ∷ r) ≡ first_content column false (past p) r
+pub first_space : (column c : ℕ) (r : List ℕ) (p : Position) → (c == 32) ≡ true → nat_lt p.col column ≡ true → first_content column false p (c ∷ r) ≡ first_content column false (past p) r
 unfolding classes.is_break
 first_space column c r p e deep = let is : c ≡ 32 = eqb-true c 32 e in rw is (rw deep (ap (λ x. first_content column false x r) (space_past p r)))
 
-first_spaces : (column : ℕ) (w y : List ℕ) (p : Place) → is_spaces w ≡ true → p.col + length w ≤ column → first_content column false p (w ++ y) ≡ first_content column false (along w p) y
+first_spaces : (column : ℕ) (w y : List ℕ) (p : Position) → is_spaces w ≡ true → p.col + length w ≤ column → first_content column false p (w ++ y) ≡ first_content column false (along w p) y
 first_spaces column [] y p h le = refl
 first_spaces column (c ∷ w) y p h le =
     let q = and_parts (c == 32) (is_spaces w) h in
     first_space column c (w ++ y) p q.0 (lt-ltb p.col column (omega (arith, le))) ∙ first_spaces column w y (past p) q.1 (omega (arith, le))
 
-first_put : (column : ℕ) (k : Break) (y : List ℕ) (p : Place) → Fits k y → first_content column false p (put k y) ≡ first_content column false (behind_break k p) y
+first_put : (column : ℕ) (k : Break) (y : List ℕ) (p : Position) → Fits k y → first_content column false p (put k y) ≡ first_content column false (behind_break k p) y
 unfolding classes.is_break
 first_put column feed y p fits = ap (λ x. first_content column false x y) (feed_past p y)
 first_put column carriage y p fits = ap (λ x. first_content column false x y) (carriage_past p y fits)
 first_put column both y p fits = ap (λ x. first_content column false x (10 ∷ y)) (both_past p y) ∙ ap (λ x. first_content column false x y) (feed_past (past p) y)
 
-pub first_empty : (column : ℕ) (l : Line) (y : List ℕ) (p : Place) → is_spaces l.text ≡ true → p.col + length l.text ≤ column → Fits l.by y
+pub first_empty : (column : ℕ) (l : Line) (y : List ℕ) (p : Position) → is_spaces l.text ≡ true → p.col + length l.text ≤ column → Fits l.by y
     → first_content column false p (l.text ++ put l.by y) ≡ first_content column false (behind_line l p) y
 first_empty column l y p h le fits = first_spaces column l.text (put l.by y) p h le ∙ first_put column l.by y (along l.text p) fits
 
-pub first_last : (column : ℕ) (w : List ℕ) (p : Place) → is_spaces w ≡ true → p.col + length w ≤ column → first_content column false p w ≡ None
+pub first_last : (column : ℕ) (w : List ℕ) (p : Position) → is_spaces w ≡ true → p.col + length w ≤ column → first_content column false p w ≡ None
 first_last column w p h le = ap (λ x. first_content column false p x) (sym (append-nil w)) ∙ first_spaces column w [] p h le
 
 -- the header's line is passed over
-header_put : (column : ℕ) (k : Break) (y : List ℕ) (p : Place) → Fits k y → first_content column true p (put k y) ≡ first_content column false (behind_break k p) y
+header_put : (column : ℕ) (k : Break) (y : List ℕ) (p : Position) → Fits k y → first_content column true p (put k y) ≡ first_content column false (behind_break k p) y
 unfolding classes.is_break
 header_put column feed [] p fits = ap (λ x. first_content column false x []) (feed_past p [])
 header_put column feed (c ∷ y) p fits = ap (λ x. first_content column false x (c ∷ y)) (feed_past p (c ∷ y))
 header_put column carriage [] p fits = ap (λ x. first_content column false x []) (carriage_past p [] fits)
 header_put column carriage (c ∷ y) p fits =
     let ends : cut.ends_line 13 (c ∷ y) ≡ true = rw fits refl in
-    ap (λ b. first_content column (not b) (place_past p 13 (c ∷ y)) (c ∷ y)) ends ∙ ap (λ x. first_content column false x (c ∷ y)) (carriage_past p (c ∷ y) fits)
+    ap (λ b. first_content column (not b) (position_past p 13 (c ∷ y)) (c ∷ y)) ends ∙ ap (λ x. first_content column false x (c ∷ y)) (carriage_past p (c ∷ y) fits)
 header_put column both [] p fits = ap (λ x. first_content column true x (10 ∷ [])) (both_past p []) ∙ ap (λ x. first_content column false x []) (feed_past (past p) [])
 header_put column both (c ∷ y) p fits = ap (λ x. first_content column true x (10 ∷ c ∷ y)) (both_past p (c ∷ y)) ∙ ap (λ x. first_content column false x (c ∷ y)) (feed_past (past p) (c ∷ y))
 
-header_chars : (column : ℕ) (w y : List ℕ) (p : Place) → is_in_line w ≡ true → first_content column true p (w ++ y) ≡ first_content column true (along w p) y
+header_chars : (column : ℕ) (w y : List ℕ) (p : Position) → is_in_line w ≡ true → first_content column true p (w ++ y) ≡ first_content column true (along w p) y
 header_chars column [] y p h = refl
 header_chars column (c ∷ w) y p h =
     let q = first_inner c w h in
     let ends : cut.ends_line c (w ++ y) ≡ false = rw (same_break c, q.0) refl in
-    ap (λ b. first_content column (not b) (place_past p c (w ++ y)) (w ++ y)) ends ∙ ap (λ x. first_content column true x (w ++ y)) (past_is p c (w ++ y) q.0) ∙ header_chars column w y (past p) q.1
+    ap (λ b. first_content column (not b) (position_past p c (w ++ y)) (w ++ y)) ends ∙ ap (λ x. first_content column true x (w ++ y)) (past_is p c (w ++ y) q.0) ∙ header_chars column w y (past p) q.1
 
-pub first_header : (column : ℕ) (w : List ℕ) (k : Break) (y : List ℕ) (p : Place) → is_in_line w ≡ true → Fits k y → first_content column true p (w ++ put k y) ≡ first_content column false (behind_break k (along w p)) y
+pub first_header : (column : ℕ) (w : List ℕ) (k : Break) (y : List ℕ) (p : Position) → is_in_line w ≡ true → Fits k y → first_content column true p (w ++ put k y) ≡ first_content column false (behind_break k (along w p)) y
 first_header column w k y p h fits = header_chars column w (put k y) p h ∙ header_put column k y (along w p) fits
 
-pub header_alone : (column : ℕ) (w : List ℕ) (p : Place) → is_in_line w ≡ true → first_content column true p w ≡ None
+pub header_alone : (column : ℕ) (w : List ℕ) (p : Position) → is_in_line w ≡ true → first_content column true p w ≡ None
 header_alone column w p h = ap (λ x. first_content column true p x) (sym (append-nil w)) ∙ header_chars column w [] p h

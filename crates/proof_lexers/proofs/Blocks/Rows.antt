@@ -2,7 +2,7 @@
 use Rattle.std.proofs.Common.{◌≡◌, ◌≤◌, ℕ, zero, suc, ◌+◌, List, [], ◌∷◌, ◌++◌, Bool, true, false, ◌&&◌, not, ◌==◌, nat_lt, nat_le, length, drop, Option, Some, None, Result, Ok, refl, ap, sym, ◌∙◌, append-nil, append_assoc, arith}
 use Rattle.std.proofs.lemmas.Bool.{and_parts, eq-eqb, lt-ltb, le-ltb, not-true}
 use Rattle.std.proofs.lemmas.Bool.Decides.{nat_tests}
-use Rattle.defs_text.specs.Position.{Place}
+use Rattle.defs_text.specs.Position.{Position}
 use Rattle.yaml_chars.specs.Class.{is_break, is_blank}
 use Rattle.yaml_tokens.specs.declared.problem.Fault.{Fault}
 use Rattle.defs_text.specs.Classes as classes
@@ -32,11 +32,11 @@ behind_rows literal [] l = l
 behind_rows literal (r ∷ rs) l = behind_rows literal rs (behind_row literal r l)
 
 -- before a line
-abbrev pub front : Place → Lines → State
+abbrev pub front : Position → Lines → State
 front p l = record { mode = margin; place = p; lines = l }
 
 -- within a content line
-abbrev pub inside : Place → Lines → State
+abbrev pub inside : Position → Lines → State
 inside p l = record { mode = line; place = p; lines = l }
 
 pub break_ends : (k : Break) (a : List ℕ) → ends_line (put k a) ≡ true
@@ -49,36 +49,36 @@ module _ (literal : Bool) (column : ℕ) where
   abbrev pub scan : List ℕ → State → Result (Read Lines) Fault
   scan a s = lines_from literal column a s
 
-  chars : (w a : List ℕ) (p : Place) (l : Lines) → is_in_line w ≡ true → scan (w ++ a) (inside p l) ≡ scan a (inside (along w p) (record l { text = l.text ++ w }))
+  chars : (w a : List ℕ) (p : Position) (l : Lines) → is_in_line w ≡ true → scan (w ++ a) (inside p l) ≡ scan a (inside (along w p) (record l { text = l.text ++ w }))
   chars [] a p l h = rw append-nil refl
   chars (c ∷ w) a p l h =
       let q = first_inner c w h in
       rw (q.0) (chars w a (past p) (with_char c l) q.1 ∙ ap (λ t. scan a (inside (along w (past p)) (record l { text = t }))) (append_assoc l.text (c ∷ []) w))
 
-  line_ends : (k : Break) (a : List ℕ) (p : Place) (l : Lines) → Fits k a → scan (put k a) (inside p l) ≡ scan a (front (behind_break k p) (record l { broken = true }))
+  line_ends : (k : Break) (a : List ℕ) (p : Position) (l : Lines) → Fits k a → scan (put k a) (inside p l) ≡ scan a (front (behind_break k p) (record l { broken = true }))
   unfolding is_break
   line_ends feed a p l fits = refl
   line_ends carriage a p l fits = rw fits refl
   line_ends both a p l fits = refl
 
   -- what the search for content passes
-  pub through : (a r : List ℕ) (p q : Place) (l : Lines) (b : List ℕ) → indent_from column a (at p l.breaks) ≡ indent_from column r (at q b) → scan a (front p l) ≡ scan r (front q (record l { breaks = b }))
+  pub through : (a r : List ℕ) (p q : Position) (l : Lines) (b : List ℕ) → indent_from column a (at p l.breaks) ≡ indent_from column r (at q b) → scan a (front p l) ≡ scan r (front q (record l { breaks = b }))
   through a r p q l b e =
       margin_passes literal column a p l l.breaks ∙ ap (λ (x : Read Column). scan x.rest (before x.place l x.value.breaks)) e ∙ sym (margin_passes literal column r q l b)
 
   -- ---- empty lines
 
-  empty_goes : (l : Line) (a : List ℕ) (p : Place) (x : Lines) → is_spaces l.text ≡ true → p.col + length l.text ≤ column → Fits l.by a
+  empty_goes : (l : Line) (a : List ℕ) (p : Position) (x : Lines) → is_spaces l.text ≡ true → p.col + length l.text ≤ column → Fits l.by a
       → scan (l.text ++ put l.by a) (front p x) ≡ scan a (front (behind_line l p) (behind_row literal empty_row x))
   empty_goes l a p x h le fits = through (l.text ++ put l.by a) a p (behind_line l p) x (x.breaks ++ 10 ∷ []) (empty_passes column l a p x.breaks h le fits)
 
   -- ---- content lines
 
   -- Content begins at the column.
-  pub record Starts (w a : List ℕ) (p : Place) (b : List ℕ) (n : ℕ) : Type 0 where
+  pub record Starts (w a : List ℕ) (p : Position) (b : List ℕ) (n : ℕ) : Type 0 where
     pub char : ℕ
     pub rest : List ℕ
-    pub place : Place
+    pub place : Position
     pub is : drop n w ≡ char ∷ rest
     pub in_column : place.col ≡ column
     pub inner : is_in_line (char ∷ rest) ≡ true
@@ -86,10 +86,10 @@ module _ (literal : Bool) (column : ℕ) where
     pub first : (y : List ℕ) → first_content column false p (w ++ y) ≡ Some place
     pub found : indent_from column (w ++ a) (at p b) ≡ record { rest = char ∷ (rest ++ a); place = place; value = record { column = column; breaks = b } }
 
-  space_then : (c : ℕ) (w a : List ℕ) (p : Place) (b : List ℕ) (n : ℕ) → (c == 32) ≡ true → nat_lt p.col column ≡ true → Starts w a (past p) b n → Starts (c ∷ w) a p b (suc n)
+  space_then : (c : ℕ) (w a : List ℕ) (p : Position) (b : List ℕ) (n : ℕ) → (c == 32) ≡ true → nat_lt p.col column ≡ true → Starts w a (past p) b n → Starts (c ∷ w) a p b (suc n)
   space_then c w a p b n e deep z = record { char = z.char; rest = z.rest; place = z.place; is = z.is; in_column = z.in_column; inner = z.inner; ends = z.ends; first = λ y. first_space column c (w ++ y) p e deep ∙ z.first y; found = rw (e, deep) (z.found) }
 
-  pub starts : (n : ℕ) (w a : List ℕ) (p : Place) (b : List ℕ) → p.col + n ≡ column → n ≤ leading_spaces w → suc n ≤ length w → is_in_line w ≡ true → Starts w a p b n
+  pub starts : (n : ℕ) (w a : List ℕ) (p : Position) (b : List ℕ) → p.col + n ≡ column → n ≤ leading_spaces w → suc n ≤ length w → is_in_line w ≡ true → Starts w a p b n
   starts zero [] a p b col lead long inner = absurd (omega (arith, long))
   starts zero (c ∷ w) a p b col lead long inner =
       let q = first_inner c w inner in
@@ -107,7 +107,7 @@ module _ (literal : Bool) (column : ℕ) where
   suc_off : (k : ℕ) → (suc k == 0) ≡ false
   suc_off k = grind (arith, nat_tests)
 
-  begins_free : (k : ℕ) (w a rest : List ℕ) (char : ℕ) (p : Place) → k ≡ column → drop k w ≡ char ∷ rest → p.col ≡ column → ends_line a ≡ true → ((column == 0) && is_document_marker w) ≡ false → begins column p.col (char ∷ (rest ++ a)) ≡ true
+  begins_free : (k : ℕ) (w a rest : List ℕ) (char : ℕ) (p : Position) → k ≡ column → drop k w ≡ char ∷ rest → p.col ≡ column → ends_line a ≡ true → ((column == 0) && is_document_marker w) ≡ false → begins column p.col (char ∷ (rest ++ a)) ≡ true
   unfolding begins
   begins_free zero w a rest char p k is col ends free =
       let here : at_marker p.col (char ∷ (rest ++ a)) ≡ ((p.col == 0) && is_document_marker (char ∷ rest)) = marker_in_line p.col (char ∷ rest) a ends in
@@ -124,7 +124,7 @@ module _ (literal : Bool) (column : ℕ) where
   abbrev pub written : Row → Lines → Lines
   written r l = record (behind_row literal r l) { broken = false }
 
-  content_chars : (w a : List ℕ) (p : Place) (x : Lines) → p.col ≡ 0 → is_in_line w ≡ true → ends_line a ≡ true → column ≤ leading_spaces w → suc column ≤ length w → ((column == 0) && is_document_marker w) ≡ false
+  content_chars : (w a : List ℕ) (p : Position) (x : Lines) → p.col ≡ 0 → is_in_line w ≡ true → ends_line a ≡ true → column ≤ leading_spaces w → suc column ≤ length w → ((column == 0) && is_document_marker w) ≡ false
       → scan (w ++ a) (front p x) ≡ scan a (inside (along w p) (written (content_row (drop column w)) x))
   content_chars w a p x col inner ends lead long free = by (starts column w a p x.breaks (omega (arith, col)) lead long inner)
     where
@@ -141,7 +141,7 @@ module _ (literal : Bool) (column : ℕ) where
           ∙ ap (λ q. scan a (inside q (written (content_row (z.char ∷ z.rest)) x))) z.ends
           ∙ ap (λ m. scan a (inside (along w p) (written (content_row m) x))) (sym z.is)
         where
-          begin : (c : ℕ) (r : List ℕ) (q : Place) (y : Lines) → nat_lt q.col column ≡ false → is_break c ≡ false → begins column q.col (c ∷ r) ≡ true → scan (c ∷ r) (front q y) ≡ scan r (inside (past q) (with_char c (begun literal c y)))
+          begin : (c : ℕ) (r : List ℕ) (q : Position) (y : Lines) → nat_lt q.col column ≡ false → is_break c ≡ false → begins column q.col (c ∷ r) ≡ true → scan (c ∷ r) (front q y) ≡ scan r (inside (past q) (with_char c (begun literal c y)))
           begin c r q y deep b e = rw (deep, and_false (c == 32), b, e) refl
 
 -- ---- rows
@@ -173,7 +173,7 @@ row_is column w r h = by (is_spaces w && nat_le (length w) column) ((nat_le colu
     by false false f g = let no : None ≡ Some r = rw (f, g) at h in cc
 
 module _ (literal : Bool) (column : ℕ) where
-  row_goes : (l : Line) (a : List ℕ) (p : Place) (x : Lines) (r : Row) → p.col ≡ 0 → is_in_line l.text ≡ true → Fits l.by a → IsRow column l.text r
+  row_goes : (l : Line) (a : List ℕ) (p : Position) (x : Lines) (r : Row) → p.col ≡ 0 → is_in_line l.text ≡ true → Fits l.by a → IsRow column l.text r
       → scan literal column (l.text ++ put l.by a) (front p x) ≡ scan literal column a (front (behind_line l p) (behind_row literal r x))
   row_goes l a p x empty_row col inner fits (is_empty h le) = empty_goes literal column l a p x h (omega (arith, le, col)) fits
   row_goes l a p x (content_row m) col inner fits (is_content lead long free) =
@@ -186,7 +186,7 @@ module _ (literal : Bool) (column : ℕ) where
       broken_again [] = refl
       broken_again (c ∷ m) = refl
 
-  pub rows_go : (ls : List Line) (a : List ℕ) (p : Place) (x : Lines) (rs : List Row) → p.col ≡ 0 → AreLines ls a → rows_of column (texts ls) ≡ Some rs
+  pub rows_go : (ls : List Line) (a : List ℕ) (p : Position) (x : Lines) (rs : List Row) → p.col ≡ 0 → AreLines ls a → rows_of column (texts ls) ≡ Some rs
       → scan literal column (spell ls a) (front p x) ≡ scan literal column a (front (behind_lines ls p) (behind_rows literal rs x))
   rows_go [] a p x rs col are h = let none : [] ≡ rs = cc in ap (λ r. scan literal column a (front p (behind_rows literal r x))) none
   rows_go (l ∷ ls) a p x rs col are h = by (row_of column l.text) (rows_of column (texts ls)) refl refl h (λ more e y. rows_go ls a (behind_line l p) y more refl are.2 e)
@@ -203,10 +203,10 @@ module _ (literal : Bool) (column : ℕ) where
 
   -- ---- a last line without a break
 
-  pub last_empty : (w : List ℕ) (p : Place) (x : Lines) → p.col ≡ 0 → is_spaces w ≡ true → length w ≤ column → scan literal column w (front p x) ≡ Ok (record { rest = []; place = along w p; value = x })
+  pub last_empty : (w : List ℕ) (p : Position) (x : Lines) → p.col ≡ 0 → is_spaces w ≡ true → length w ≤ column → scan literal column w (front p x) ≡ Ok (record { rest = []; place = along w p; value = x })
   last_empty w p x col h le = through literal column w [] p (along w p) x x.breaks (last_passes column w p x.breaks h (omega (arith, le, col)))
 
-  pub last_content : (w : List ℕ) (p : Place) (x : Lines) → p.col ≡ 0 → is_in_line w ≡ true → column ≤ leading_spaces w → suc column ≤ length w → ((column == 0) && is_document_marker w) ≡ false
+  pub last_content : (w : List ℕ) (p : Position) (x : Lines) → p.col ≡ 0 → is_in_line w ≡ true → column ≤ leading_spaces w → suc column ≤ length w → ((column == 0) && is_document_marker w) ≡ false
       → scan literal column w (front p x) ≡ Ok (record { rest = []; place = along w p; value = written literal column (content_row (drop column w)) x })
   last_content w p x col inner lead long free =
       let z = content_chars literal column w [] p x col inner refl lead long free in

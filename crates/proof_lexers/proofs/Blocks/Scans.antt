@@ -2,7 +2,7 @@
 use Rattle.std.proofs.Common.{◌≡◌, ◌≤◌, ℕ, zero, suc, ◌+◌, List, [], ◌∷◌, ◌++◌, Bool, true, false, ◌&&◌, not, if◌then◌else◌, max, nat_lt, nat_le, length, drop, Some, None, Result, Ok, Err, refl, ap, sym, ◌∙◌, append-nil, arith}
 use Rattle.std.proofs.lemmas.Bool.{le-ltb}
 use Rattle.std.proofs.lemmas.Bool.Decides.{nat_tests}
-use Rattle.defs_text.specs.Position.{Place}
+use Rattle.defs_text.specs.Position.{Position}
 use Rattle.defs_text.specs.Text.{is_nil}
 use Rattle.yaml_tokens.specs.declared.problem.Fault.{Fault}
 use Rattle.yaml_tokens.specs.declared.problem.Fault.TheVariants.{At}
@@ -12,9 +12,9 @@ use Rattle.defs_text.specs.Classes.{tab, is_at_end}
 use Rattle.defs_scalar.specs.FlowScalar.{begins_with}
 use Rattle.defs_scalar.specs.BlockScalar as defs
 use Rattle.defs_scalar.specs.BlockScalar.{Row, empty_row, content_row, breaks, is_spaces, rows_of, row_of, has_content, column_by, header_of, starts_with_tab, is_further_text, value_before_text, value_before_end, with_content}
-use Rattle.defs_token.specs.Text.{place_behind}
+use Rattle.defs_text.specs.Position.{position_after}
 use Rattle.defs_token.specs.BlockPiece.{BlockRead, first_content, past_spaces, place_or, block_place}
-use Rattle.model_lexers.specs.Machine.{Read, past, after}
+use Rattle.model_lexers.specs.Machine.{Read, past, and_then}
 use Rattle.model_lexers.specs.Space.{linebreak}
 use Rattle.model_lexers.specs.Block.{Header, Column, Lines, lines_from, indent_from, content, header, Block, block, behind_header, is_open, tail, empty_text}
 use Rattle.proof_lexers.proofs.Bridges.{and_false}
@@ -35,9 +35,9 @@ not_nil feed a = refl
 not_nil carriage a = refl
 not_nil both a = refl
 
-module _ (h : defs.Header) (line : List ℕ) (k : Break) (indent : ℕ) (p : Place) (is : header_of (indicator_of h.style ∷ line) ≡ Some h) (digit : digit_by (digit_or_zero h.digit) ≡ h.digit) (inner : is_in_line line ≡ true) where
+module _ (h : defs.Header) (line : List ℕ) (k : Break) (indent : ℕ) (p : Position) (is : header_of (indicator_of h.style ∷ line) ≡ Some h) (digit : digit_by (digit_or_zero h.digit) ≡ h.digit) (inner : is_in_line line ≡ true) where
   -- the place behind the header's break
-  abbrev pub start : Place
+  abbrev pub start : Position
   start = behind_break k (along line (past p))
 
   abbrev pub head : Header
@@ -60,7 +60,7 @@ module _ (h : defs.Header) (line : List ℕ) (k : Break) (indent : ℕ) (p : Pla
       → scanned (spell ms e) ≡ behind (indent_from column (spell ms e) (at start []))
   unfolding block
   block_is ms e column same are last fits still =
-      ap (λ x. after x (λ (r : Read Header). behind_header (is_literal h.style) indent p r.value (content indent r.value.indicators.increment r.rest r.place))) (header_is (spell ms e) fits still)
+      ap (λ x. and_then x (λ (r : Read Header). behind_header (is_literal h.style) indent p r.value (content indent r.value.indicators.increment r.rest r.place))) (header_is (spell ms e) fits still)
       ∙ ap behind (content_is indent (digit_or_zero h.digit) ms e start refl are last)
       ∙ ap (λ d. behind (indent_from (column_by d (collection_by indent) (texts ms ++ e ∷ [])) (spell ms e) (at start []))) digit
       ∙ ap (λ c. behind (indent_from c (spell ms e) (at start []))) same
@@ -69,14 +69,14 @@ module _ (h : defs.Header) (line : List ℕ) (k : Break) (indent : ℕ) (p : Pla
   unfolding block
   tab_fails a fits tab_here =
       let there : begins_with tab (linebreak (put k a) p).rest ≡ true = ap (λ (r : Read (Unit {0})). begins_with tab r.rest) (linebreak_put k a p fits) ∙ tab_here in
-      ap (λ x. after x (λ (r : Read Header). behind_header (is_literal h.style) indent p r.value (content indent r.value.indicators.increment r.rest r.place))) (header_tabs h line (put k a) p is inner (break_ends k a) there)
+      ap (λ x. and_then x (λ (r : Read Header). behind_header (is_literal h.style) indent p r.value (content indent r.value.indicators.increment r.rest r.place))) (header_tabs h line (put k a) p is inner (break_ends k a) there)
 
   module _ (column : ℕ) where
     abbrev search : List ℕ → Read Column
     search a = indent_from column a (at start [])
 
     -- from where content was looked for up to the lines' end
-    finish : (a rest more : List ℕ) (char : ℕ) (place q : Place) (b : List ℕ) (x : Lines) → search a ≡ record { rest = char ∷ rest; place = place; value = record { column = column; breaks = b } }
+    finish : (a rest more : List ℕ) (char : ℕ) (place q : Position) (b : List ℕ) (x : Lines) → search a ≡ record { rest = char ∷ rest; place = place; value = record { column = column; breaks = b } }
         → (nat_lt place.col column && nat_le indent place.col) ≡ false → lines_from (is_literal h.style) column a (front start (behind_empty 0)) ≡ Ok (record { rest = more; place = q; value = x })
         → behind (search a) ≡ Ok (record { rest = more; place = q; value = record { place = place; text = x.text ++ tail (chomping_of h.chomping) (is_open column more q.col) x } })
     finish a rest more char place q b x found deep reads =
@@ -84,7 +84,7 @@ module _ (h : defs.Header) (line : List ℕ) (k : Break) (indent : ℕ) (p : Pla
         ap (λ (r : Read Column). lines_from (is_literal h.style) column r.rest (before r.place (behind_empty 0) r.value.breaks)) (sym found) ∙ sym (margin_passes (is_literal h.style) column a start (behind_empty 0) []) ∙ reads in
         ap behind found ∙ rw (deep, same) refl
 
-    refuse : (a rest : List ℕ) (char : ℕ) (place : Place) (b : List ℕ) → search a ≡ record { rest = char ∷ rest; place = place; value = record { column = column; breaks = b } }
+    refuse : (a rest : List ℕ) (char : ℕ) (place : Position) (b : List ℕ) → search a ≡ record { rest = char ∷ rest; place = place; value = record { column = column; breaks = b } }
         → (nat_lt place.col column && nat_le indent place.col) ≡ true → behind (search a) ≡ Err (At problem.BlockScalarIndentation place)
     refuse a rest char place b found shallow_there = ap behind found ∙ rw shallow_there refl
 
@@ -93,10 +93,10 @@ module _ (h : defs.Header) (line : List ℕ) (k : Break) (indent : ℕ) (p : Pla
 
 -- ---- what was answered
 
-abbrev result : List ℕ → Place → Place → List ℕ → Result (Read Block) Fault
+abbrev result : List ℕ → Position → Position → List ℕ → Result (Read Block) Fault
 result rest q place t = Ok (record { rest = rest; place = q; value = record { place = place; text = t } })
 
-answer : (rest : List ℕ) (q r place at_place : Place) (t u : List ℕ) → q ≡ r → place ≡ at_place → t ≡ u → result rest q place t ≡ result rest r at_place u
+answer : (rest : List ℕ) (q r place at_place : Position) (t u : List ℕ) → q ≡ r → place ≡ at_place → t ≡ u → result rest q place t ≡ result rest r at_place u
 answer rest q r place at_place t u e f g = rw (e, f, g) refl
 
 second_false : (a b c : Bool) → (((a && false) && b) && c) ≡ false
@@ -108,8 +108,8 @@ unfolding classes.is_break
 style_inner defs.literal line h = h
 style_inner defs.folded line h = h
 
-module _ (h : defs.Header) (line : List ℕ) (k : Break) (indent : ℕ) (p : Place) (is : header_of (indicator_of h.style ∷ line) ≡ Some h) (digit : digit_by (digit_or_zero h.digit) ≡ h.digit) (inner : is_in_line line ≡ true) where
-  abbrev first_place : Place
+module _ (h : defs.Header) (line : List ℕ) (k : Break) (indent : ℕ) (p : Position) (is : header_of (indicator_of h.style ∷ line) ≡ Some h) (digit : digit_by (digit_or_zero h.digit) ≡ h.digit) (inner : is_in_line line ≡ true) where
+  abbrev first_place : Position
   first_place = start h line k indent p is digit inner
 
   abbrev scan_of : List ℕ → Result (Read Block) Fault
@@ -119,17 +119,17 @@ module _ (h : defs.Header) (line : List ℕ) (k : Break) (indent : ℕ) (p : Pla
   abbrev pub with_header : List ℕ → List ℕ
   with_header a = indicator_of h.style ∷ (line ++ put k a)
 
-  piece_place : (ls : List Line) (next : List ℕ) → AreLines ls next → Fits k (spell ls next) → place_behind p (with_header (spell ls [])) next ≡ behind_lines ls first_place
+  piece_place : (ls : List Line) (next : List ℕ) → AreLines ls next → Fits k (spell ls next) → position_after p (with_header (spell ls [])) next ≡ behind_lines ls first_place
   piece_place ls next are fits =
       let more : Fits k (spell ls [] ++ next) = rw (spell_more ls [] next) fits in
       behind_chars (indicator_of h.style ∷ line) (put k (spell ls [])) next p (style_inner h.style line inner) ∙ behind_put k (spell ls []) next (along line (past p)) more ∙ behind_spell ls [] next first_place are
 
-  end_place : (ls : List Line) (last : List ℕ) → AreLines ls last → is_in_line last ≡ true → Fits k (spell ls last) → place_behind p (with_header (spell ls last)) [] ≡ along last (behind_lines ls first_place)
+  end_place : (ls : List Line) (last : List ℕ) → AreLines ls last → is_in_line last ≡ true → Fits k (spell ls last) → position_after p (with_header (spell ls last)) [] ≡ along last (behind_lines ls first_place)
   end_place ls last are last_inner fits =
       let more : Fits k (spell ls last ++ []) = rw append-nil fits in
       let are' : AreLines ls (last ++ []) = rw append-nil are in
       behind_chars (indicator_of h.style ∷ line) (put k (spell ls last)) [] p (style_inner h.style line inner) ∙ behind_put k (spell ls last) [] (along line (past p)) more ∙ behind_spell ls last [] first_place are'
-      ∙ ap (λ x. place_behind (behind_lines ls first_place) x []) (sym (append-nil last)) ∙ behind_chars last [] [] (behind_lines ls first_place) last_inner
+      ∙ ap (λ x. position_after (behind_lines ls first_place) x []) (sym (append-nil last)) ∙ behind_chars last [] [] (behind_lines ls first_place) last_inner
 
   piece_first : (column : ℕ) (a : List ℕ) → Fits k a → first_content column true p (with_header a) ≡ first_content column false first_place a
   piece_first column a fits = first_header column (indicator_of h.style ∷ line) k a p (style_inner h.style line inner) fits
@@ -157,7 +157,7 @@ module _ (h : defs.Header) (line : List ℕ) (k : Break) (indent : ℕ) (p : Pla
     place_is : past_spaces (behind_lines ls first_place) next ≡ further_place p piece next
     place_is = ap (λ q. past_spaces q next) (sym (piece_place ls next are fits))
 
-    content_there : {q : Place} → first_content column true p piece ≡ Some q → is_shallow indent p before_text piece next ≡ false
+    content_there : {q : Position} → first_content column true p piece ≡ Some q → is_shallow indent p before_text piece next ≡ false
     content_there e =
         ap (λ o. ((not (is_at_end next) && is_none o) && nat_le indent (further_place p piece next).col) && nat_lt (further_place p piece next).col column) e
         ∙ second_false (not (is_at_end next)) (nat_le indent (further_place p piece next).col) (nat_lt (further_place p piece next).col column)
@@ -165,7 +165,7 @@ module _ (h : defs.Header) (line : List ℕ) (k : Break) (indent : ℕ) (p : Pla
     with_rows : has_content rs ≡ true → Outside column next (behind_lines ls first_place) → FoundIn column ls next first_place [] → IsRead indent p before_text piece next (scan_of (spell ls next))
     with_rows some z f =
         let c = f.here in
-        let where_is : block_place column p piece next ≡ c.place = ap (λ o. place_or o (if is_at_end next then p else past_spaces (place_behind p piece next) next)) (piece_first column (spell ls []) fits_alone ∙ f.first [] are_alone) in
+        let where_is : block_place column p piece next ≡ c.place = ap (λ o. place_or o (if is_at_end next then p else past_spaces (position_after p piece next) next)) (piece_first column (spell ls []) fits_alone ∙ f.first [] are_alone) in
         let text_is : lines_read.text ++ tail (chomping_of h.chomping) (is_open column (without_spaces next) (past_spaces (behind_lines ls first_place) next).col) lines_read ≡ value_before_text h rs =
         ap (λ b. lines_read.text ++ tail (chomping_of h.chomping) b lines_read) (closed z _) ∙ content_value h false rs (are_full column (texts ls) rs rows) some ∙ rw some refl in
         read free (content_there (piece_first column (spell ls []) fits_alone ∙ f.first [] are_alone)) (found_by ∙ finish h line k indent p is digit inner column (spell ls next) c.rest (without_spaces next) c.char c.place _ c.breaks_before lines_read c.found (in_place h line k indent p is digit inner column c.place.col c.in_column) (read_to z)
@@ -181,8 +181,8 @@ module _ (h : defs.Header) (line : List ℕ) (k : Break) (indent : ℕ) (p : Pla
         here = sym z.at_place ∙ place_is
 
         where_is : block_place column p piece next ≡ z.place
-        where_is = ap (λ o. place_or o (if is_at_end next then p else past_spaces (place_behind p piece next) next)) (none_place n f)
-            ∙ ap (λ b. (if b then p else past_spaces (place_behind p piece next) next)) text ∙ sym here
+        where_is = ap (λ o. place_or o (if is_at_end next then p else past_spaces (position_after p piece next) next)) (none_place n f)
+            ∙ ap (λ b. (if b then p else past_spaces (position_after p piece next) next)) text ∙ sym here
 
         text_is : lines_read.text ++ tail (chomping_of h.chomping) (is_open column (without_spaces next) (past_spaces (behind_lines ls first_place) next).col) lines_read ≡ value_before_text h rs
         text_is = ap (λ b. lines_read.text ++ tail (chomping_of h.chomping) b lines_read) (closed z _) ∙ empty_value h rs none ∙ rw none refl
@@ -193,7 +193,7 @@ module _ (h : defs.Header) (line : List ℕ) (k : Break) (indent : ℕ) (p : Pla
         is_here : is_shallow indent p before_text piece next ≡ (nat_le indent z.place.col && nat_lt z.place.col column)
         is_here = ap (λ b. ((not b && is_none (first_content column true p piece)) && nat_le indent (further_place p piece next).col) && nat_lt (further_place p piece next).col column) text
             ∙ ap (λ o. (is_none o && nat_le indent (further_place p piece next).col) && nat_lt (further_place p piece next).col column) (none_place n f)
-            ∙ ap (λ (q : Place). nat_le indent q.col && nat_lt q.col column) (sym here)
+            ∙ ap (λ (q : Position). nat_le indent q.col && nat_lt q.col column) (sym here)
 
         go : (nat_lt z.place.col column && nat_le indent z.place.col) ≡ false → is_shallow indent p before_text piece next ≡ false → IsRead indent p before_text piece next (scan_of (spell ls next))
         go deep not_shallow =
@@ -228,7 +228,7 @@ module _ (h : defs.Header) (line : List ℕ) (k : Break) (indent : ℕ) (p : Pla
     abbrev whole : List ℕ
     whole = with_header (spell ls last)
 
-    abbrev last_place : Place
+    abbrev last_place : Position
     last_place = behind_lines ls first_place
 
     whole_place : along last last_place ≡ further_place p whole []
@@ -237,7 +237,7 @@ module _ (h : defs.Header) (line : List ℕ) (k : Break) (indent : ℕ) (p : Pla
     whole_first : first_content column true p whole ≡ first_content column false first_place (spell ls last)
     whole_first = piece_first column (spell ls last) fits
 
-    at_content : (q : Place) → first_content column false first_place (spell ls last) ≡ Some q → block_place column p whole [] ≡ q
+    at_content : (q : Position) → first_content column false first_place (spell ls last) ≡ Some q → block_place column p whole [] ≡ q
     at_content q e = ap (λ o. place_or o p) (whole_first ∙ e)
 
     reaches : (n : ℕ) → (nat_le column n && nat_lt 0 n) ≡ nat_le (max column 1) n
@@ -254,7 +254,7 @@ module _ (h : defs.Header) (line : List ℕ) (k : Break) (indent : ℕ) (p : Pla
     at_front : last_place.col ≡ 0
     at_front = front_of ls first_place refl
       where
-        front_of : (ls : List Line) (q : Place) → q.col ≡ 0 → (behind_lines ls q).col ≡ 0
+        front_of : (ls : List Line) (q : Position) → q.col ≡ 0 → (behind_lines ls q).col ≡ 0
         front_of [] q e = e
         front_of (l ∷ ls) q e = front_of ls (behind_line l q) refl
 
@@ -350,12 +350,12 @@ module _ (h : defs.Header) (line : List ℕ) (k : Break) (indent : ℕ) (p : Pla
 
 -- ---- a header at the end of the text
 
-no_lines : (indent increment : ℕ) (q : Place) → (content indent increment [] q).rest ≡ []
+no_lines : (indent increment : ℕ) (q : Position) → (content indent increment [] q).rest ≡ []
 unfolding content
 no_lines indent zero q = refl
 no_lines indent (suc n) q = refl
 
-same_end : (indent increment : ℕ) (q : Place) → (content indent increment [] q).place ≡ q
+same_end : (indent increment : ℕ) (q : Position) → (content indent increment [] q).place ≡ q
 unfolding content
 same_end indent zero q = refl
 same_end indent (suc n) q = refl
@@ -366,7 +366,7 @@ nothing_there defs.strip b = refl
 nothing_there defs.clip b = refl
 nothing_there defs.keep b = refl
 
-pub header_alone_is_read : (h : defs.Header) (line : List ℕ) (indent : ℕ) (p : Place) → header_of (indicator_of h.style ∷ line) ≡ Some h → is_in_line line ≡ true
+pub header_alone_is_read : (h : defs.Header) (line : List ℕ) (indent : ℕ) (p : Position) → header_of (indicator_of h.style ∷ line) ≡ Some h → is_in_line line ≡ true
     → IsRead indent p (record { style = h.style; column = 0; text = [] }) (indicator_of h.style ∷ line) [] (block (is_literal h.style) indent (indicator_of h.style ∷ line) p)
 unfolding block
 header_alone_is_read h line indent p is inner =
@@ -376,7 +376,7 @@ header_alone_is_read h line indent p is inner =
     let ends : behind_header (is_literal h.style) indent p (record { indicators = indicators_of h; broken = false }) (content indent i [] q) ≡ result [] q p [] =
     rw (no_lines indent i q, same_end indent i q, nothing_there h.chomping (content indent i [] q).value.breaks) refl in
     let place : q ≡ further_place p (indicator_of h.style ∷ line) [] =
-    sym (ap (λ x. place_behind p x []) (sym (append-nil (indicator_of h.style ∷ line))) ∙ behind_chars (indicator_of h.style ∷ line) [] [] p (style_inner h.style line inner)) in
+    sym (ap (λ x. position_after p x []) (sym (append-nil (indicator_of h.style ∷ line))) ∙ behind_chars (indicator_of h.style ∷ line) [] [] p (style_inner h.style line inner)) in
     let where_is : block_place 0 p (indicator_of h.style ∷ line) [] ≡ p = ap (λ o. place_or o p) (header_alone 0 (indicator_of h.style ∷ line) p (style_inner h.style line inner)) in
-    read (and_false _) refl (ap (λ x. after x (λ (r : Read Header). behind_header (is_literal h.style) indent p r.value (content indent r.value.indicators.increment r.rest r.place))) header_reads_it
+    read (and_false _) refl (ap (λ x. and_then x (λ (r : Read Header). behind_header (is_literal h.style) indent p r.value (content indent r.value.indicators.increment r.rest r.place))) header_reads_it
     ∙ ends ∙ answer [] q (further_place p (indicator_of h.style ∷ line) []) p (block_place 0 p (indicator_of h.style ∷ line) []) [] [] place (sym where_is) refl)

@@ -1,7 +1,7 @@
 -- Directives are read as their lines say, and no other text is.
 use Rattle.std.proofs.Common.{◌≡◌, ℕ, suc, ◌+◌, List, [], ◌∷◌, ◌++◌, Bool, true, false, ◌&&◌, ◌||◌, ◌==◌, not, if◌then◌else◌, length, slice_index, Option, Some, None, Result, Ok, Err, codes, refl, ap, sym, subst, ◌∙◌, arith, append_assoc, append-nil, length-append}
 use Rattle.std.proofs.lemmas.Bool.{and_parts, eqb-true}
-use Rattle.defs_text.specs.Position.{Place}
+use Rattle.defs_text.specs.Position.{Position}
 use Rattle.yaml_chars.specs.Class.{is_alphanumeric, is_uri_mark, is_flow, is_uri, is_tag, is_alpha, is_blank}
 use Rattle.defs_token.specs.Token.{Tok}
 use Rattle.yaml_tokens.specs.declared.problem.Fault.{Fault}
@@ -15,8 +15,9 @@ use Rattle.defs_scalar.specs.FlowScalar.{begins_with}
 use Rattle.defs_scalar.specs.Tags.{UriFault, leading, behind, is_same, decoded, is_handle}
 use Rattle.defs_scalar.specs.Directives as defs
 use Rattle.defs_scalar.specs.Directives.{Directive, tag_declaration, reserved, number_of, version_by, minor_of, version_of, prefix_by, begins_prefix, prefix_of, handle_and_rest, declaration_by, declaration_of, directive_by, directive_of}
-use Rattle.defs_token.specs.Text.{place_behind, has_no_break}
-use Rattle.model_lexers.specs.Machine.{Read, past, after, skip_while}
+use Rattle.defs_text.specs.Position.{position_after}
+use Rattle.defs_text.specs.Breaks.{has_no_break}
+use Rattle.model_lexers.specs.Machine.{Read, past, and_then, skip_while}
 use Rattle.model_lexers.specs.Space.{blanks}
 use Rattle.model_lexers.specs.Tag.{handle, prefix}
 use Rattle.model_lexers.specs.Directive.{version, tag, unknown, kind, name, number, with_minor, behind_major, version_value, with_prefix, prefix_behind, tag_value, value, line_end, with_end, behind_value, behind_name, directive}
@@ -41,7 +42,7 @@ same_text (c ∷ a) (d ∷ b) h =
     let first : c ≡ d = eqb-true c d q.0 in
     rw first (ap (λ r. d ∷ r) (same_text a b q.1))
 
-further_more : (p : Place) (k m j : ℕ) → j ≡ k + m → further m (further (suc k) p) ≡ further (suc j) p
+further_more : (p : Position) (k m j : ℕ) → j ≡ k + m → further m (further (suc k) p) ≡ further (suc j) p
 further_more p k m j e =
     let x : (p.index + suc k) + m ≡ p.index + suc j = omega (arith, e) in
     let y : (p.col + suc k) + m ≡ p.col + suc j = omega (arith, e) in
@@ -61,7 +62,7 @@ five_texts : (a b c d e r : List ℕ) → a ++ (b ++ (c ++ (d ++ (e ++ r)))) ≡
 five_texts a b c d e r =
     sym (append_assoc a (b ++ (c ++ (d ++ e))) r ∙ ap (λ k. a ++ k) (append_assoc b (c ++ (d ++ e)) r ∙ ap (λ k. b ++ k) (append_assoc c (d ++ e) r ∙ ap (λ k. c ++ k) (append_assoc d e r))))
 
-four_places : (p : Place) (a b c d : List ℕ) → further (length d) (past (further (length c) (further (length b) (further (length a) (past p))))) ≡ further (suc (length (a ++ (b ++ (c ++ 46 ∷ d))))) p
+four_places : (p : Position) (a b c d : List ℕ) → further (length d) (past (further (length c) (further (length b) (further (length a) (past p))))) ≡ further (suc (length (a ++ (b ++ (c ++ 46 ∷ d))))) p
 four_places p a b c d =
     let all = length-append a (b ++ (c ++ 46 ∷ d)) in
     let more = length-append b (c ++ 46 ∷ d) in
@@ -70,7 +71,7 @@ four_places p a b c d =
     let y : (((((p.col + 1) + length a) + length b) + length c) + 1) + length d ≡ p.col + suc (length (a ++ (b ++ (c ++ 46 ∷ d)))) = omega (arith, all, more, last) in
     rw (x, y) refl
 
-five_places : (p : Place) (a b c d e : List ℕ) → further (length e) (further (length d) (further (length c) (further (length b) (further (length a) (past p))))) ≡ further (suc (length (a ++ (b ++ (c ++ (d ++ e)))))) p
+five_places : (p : Position) (a b c d e : List ℕ) → further (length e) (further (length d) (further (length c) (further (length b) (further (length a) (past p))))) ≡ further (suc (length (a ++ (b ++ (c ++ (d ++ e)))))) p
 five_places p a b c d e =
     let all = length-append a (b ++ (c ++ (d ++ e))) in
     let more = length-append b (c ++ (d ++ e)) in
@@ -98,25 +99,25 @@ no_tag_at_end [] h = refl
 no_tag_at_end (c ∷ n) h = sym (same_tag c) ∙ none_at_end classes.is_tag refl refl (c ∷ n) h
 
 -- How the scan of a line ends, which stands behind a `%` and before the line's end: it is a directive, and read as it; or it is none, and refused.
-data Told (start : Place) (l n : List ℕ) (x : Result (Read Tok) Fault) : Type 0 where
+data Told (start : Position) (l n : List ℕ) (x : Result (Read Tok) Fault) : Type 0 where
   is_directive : (d : Directive) → directive_of (37 ∷ l) ≡ Some d → x ≡ Ok (behind_line start (37 ∷ l) n (token_of d)) → Told start l n x
   fails : (f : Fault) → directive_of (37 ∷ l) ≡ None → IsRefusal start l f → x ≡ Err f → Told start l n x
 
-module _ (start : Place) (l n : List ℕ) (line : has_no_break l ≡ true) (ends : ends_line n ≡ true) where
+module _ (start : Position) (l n : List ℕ) (line : has_no_break l ≡ true) (ends : ends_line n ≡ true) where
   refused : (f : Fault) (x : Result (Read Tok) Fault) → directive_of (37 ∷ l) ≡ None → IsRefusal start l f → x ≡ Err f → Told start l n x
   refused f x none why e = fails f none why e
 
   -- ---- the line's end
 
-  last_place : (before m : List ℕ) (p : Place) → l ≡ before ++ m → p ≡ further (suc (length before)) start
-      → place_behind (further (length m) p) (first_break n) (next_line n) ≡ place_behind start ((37 ∷ l) ++ first_break n) (next_line n)
+  last_place : (before m : List ℕ) (p : Position) → l ≡ before ++ m → p ≡ further (suc (length before)) start
+      → position_after (further (length m) p) (first_break n) (next_line n) ≡ position_after start ((37 ∷ l) ++ first_break n) (next_line n)
   last_place before m p cut place =
       let so_long : length l ≡ length before + length m = ap length cut ∙ length-append before m in
-      let here : further (length m) p ≡ place_behind start (37 ∷ l) (first_break n ++ next_line n) =
+      let here : further (length m) p ≡ position_after start (37 ∷ l) (first_break n ++ next_line n) =
       ap (further (length m)) place ∙ further_more start (length before) (length m) (length l) so_long ∙ place_in_line start (37 ∷ l) (first_break n ++ next_line n) (no_percent_break l line) in
-      ap (λ q. place_behind q (first_break n) (next_line n)) here ∙ sym (place_append start (37 ∷ l) (first_break n) (next_line n))
+      ap (λ q. position_after q (first_break n) (next_line n)) here ∙ sym (place_append start (37 ∷ l) (first_break n) (next_line n))
 
-  finish : (before m : List ℕ) (d : Directive) (p : Place) → l ≡ before ++ m → p ≡ further (suc (length before)) start → directive_of (37 ∷ l) ≡ (if is_rest_of_line m then Some d else None)
+  finish : (before m : List ℕ) (d : Directive) (p : Position) → l ≡ before ++ m → p ≡ further (suc (length before)) start → directive_of (37 ∷ l) ≡ (if is_rest_of_line m then Some d else None)
       → Told start l n (behind_value start (record { rest = m ++ n; place = p; value = token_of d }))
   finish before m d p cut place says = by (line_end start (m ++ n) p) (line_ends start p m n (no_break_behind before m (ap has_no_break (sym cut) ∙ line)) ends)
     where
@@ -124,7 +125,7 @@ module _ (start : Place) (l n : List ℕ) (line : has_no_break l ≡ true) (ends
       v = record { rest = m ++ n; place = p; value = token_of d }
 
       go : Result (Read (Unit {0})) Fault → Result (Read Tok) Fault
-      go x = after x (λ r. Ok (with_end v r))
+      go x = and_then x (λ r. Ok (with_end v r))
 
       glued : (k : List ℕ) → l ≡ before ++ k → begins_with 35 k ≡ true → IsRefusal start l (At problem.CommentNotSeparated (further (suc (length before)) start))
       glued [] e b = cc
@@ -144,13 +145,13 @@ module _ (start : Place) (l n : List ℕ) (line : has_no_break l ≡ true) (ends
   abbrev said : List ℕ
   said = behind classes.is_blank behind_word
 
-  abbrev word_place : Place
+  abbrev word_place : Position
   word_place = further (length (leading classes.is_alpha l)) (past start)
 
-  abbrev said_place : Place
+  abbrev said_place : Position
   said_place = further (length (leading classes.is_blank behind_word)) word_place
 
-  blanks_skipped : (m : List ℕ) (p : Place) → skip_while is_blank (m ++ n) p ≡ record { rest = behind classes.is_blank m ++ n; place = further (length (leading classes.is_blank m)) p; value = tt }
+  blanks_skipped : (m : List ℕ) (p : Position) → skip_while is_blank (m ++ n) p ≡ record { rest = behind classes.is_blank m ++ n; place = further (length (leading classes.is_blank m)) p; value = tt }
   unfolding classes.is_blank
   blanks_skipped m p = let q = before_end classes.is_blank m n (none_at_end classes.is_blank refl refl n ends) in skipped classes.is_blank is_blank same_blank (m ++ n) p ∙ rw (q.0, q.1) refl
 
@@ -191,11 +192,11 @@ module _ (start : Place) (l n : List ℕ) (line : has_no_break l ≡ true) (ends
         place = four_places start (leading classes.is_alpha l) (leading classes.is_blank behind_word) major minor
 
     minor_read : (s : List ℕ) (v : ℕ) → behind classes.is_decimal_digit said ≡ 46 ∷ s → number_of major ≡ Some v
-        → Told start l n (after (after (number start (s ++ n) (past (further (length major) said_place))) (λ k. Ok (with_minor v k))) (λ t. behind_value start t))
+        → Told start l n (and_then (and_then (number start (s ++ n) (past (further (length major) said_place))) (λ k. Ok (with_minor v k))) (λ t. behind_value start t))
     minor_read s v point is = told (number start (s ++ n) (past (further (length major) said_place))) (number_sees start (past (further (length major) said_place)) s n ends)
       where
         go : Result (Read ℕ) Fault → Result (Read Tok) Fault
-        go x = after (after x (λ k. Ok (with_minor v k))) (λ t. behind_value start t)
+        go x = and_then (and_then x (λ k. Ok (with_minor v k))) (λ t. behind_value start t)
 
         no_version : number_of (leading classes.is_decimal_digit s) ≡ None → version_of said ≡ None
         no_version without = rw (point, is, without) (none_by (is_rest_of_line (behind classes.is_decimal_digit s)))
@@ -206,22 +207,22 @@ module _ (start : Place) (l n : List ℕ) (line : has_no_break l ≡ true) (ends
         told x (found w is_w e) = subst (λ y. Told start l n (go y)) (sym e) (version_end s (leading classes.is_decimal_digit s) v w point refl is is_w)
 
     point_read : (r : List ℕ) (v : ℕ) → behind classes.is_decimal_digit said ≡ r → number_of major ≡ Some v
-        → Told start l n (after (behind_major start (record { rest = r ++ n; place = further (length major) said_place; value = v })) (λ t. behind_value start t))
+        → Told start l n (and_then (behind_major start (record { rest = r ++ n; place = further (length major) said_place; value = v })) (λ t. behind_value start t))
     point_read [] v rest is =
         let none = not_at_end 46 refl refl refl n ends in
         version_refused problem.VersionDot _ (rw rest refl) (no_point (rw rest refl)) (rw none refl)
     point_read (c ∷ s) v rest is = by (c == 46) refl
       where
-        by : (b : Bool) → (c == 46) ≡ b → Told start l n (after (behind_major start (record { rest = (c ∷ s) ++ n; place = further (length major) said_place; value = v })) (λ t. behind_value start t))
+        by : (b : Bool) → (c == 46) ≡ b → Told start l n (and_then (behind_major start (record { rest = (c ∷ s) ++ n; place = further (length major) said_place; value = v })) (λ t. behind_value start t))
         by true e = let same : c ≡ 46 = eqb-true c 46 e in rw e (minor_read s v (rest ∙ ap (λ k. k ∷ s) same) is)
         by false e = version_refused problem.VersionDot _ (rw (rest, e) refl) (no_point (rw (rest, e) refl)) (rw e refl)
 
-    versions : Told start l n (after (value start version (behind_word ++ n) word_place) (λ t. behind_value start t))
+    versions : Told start l n (and_then (value start version (behind_word ++ n) word_place) (λ t. behind_value start t))
     unfolding version_value
     versions = rw (blanks_skipped behind_word word_place) (told (number start (said ++ n) said_place) (number_sees start said_place said n ends))
       where
         go : Result (Read ℕ) Fault → Result (Read Tok) Fault
-        go x = after (after x (λ k. behind_major start k)) (λ t. behind_value start t)
+        go x = and_then (and_then x (λ k. behind_major start k)) (λ t. behind_value start t)
 
         told : (x : Result (Read ℕ) Fault) → NumberSees start said_place said n x → Told start l n (go x)
         told x (missing none without e) = version_refused problem.VersionNumber (go x) (rw without (no_minor_of (behind classes.is_decimal_digit said))) (no_major none) (ap go e)
@@ -251,10 +252,10 @@ module _ (start : Place) (l n : List ℕ) (line : has_no_break l ≡ true) (ends
     abbrev behind_prefix : List ℕ
     behind_prefix = behind classes.is_uri from_prefix
 
-    abbrev handle_place : Place
+    abbrev handle_place : Position
     handle_place = further (length handle_is) said_place
 
-    abbrev prefix_place : Place
+    abbrev prefix_place : Position
     prefix_place = further (length (leading classes.is_blank behind_handle)) handle_place
 
     says_declaration : directive_of (37 ∷ l) ≡ declaration_by (handle_and_rest said)
@@ -316,27 +317,27 @@ module _ (start : Place) (l n : List ℕ) (line : has_no_break l ≡ true) (ends
 
       -- behind the characters of the prefix
       characters_read : (d : Result (List ℕ) UriFault) → begins_prefix from_prefix ≡ true → decoded prefix_text ≡ d
-          → Told start l n (after (after (prefix_result d) (λ q. with_prefix start handle_is q)) (λ t. behind_value start t))
+          → Told start l n (and_then (and_then (prefix_result d) (λ q. with_prefix start handle_is q)) (λ t. behind_value start t))
       characters_read (Err f) begins means = declaration_refused (problem_of f) _ (rw (is, begins, means) refl) (by_octets f means) refl
       characters_read (Ok cs) begins means = by (is_at_gap behind_prefix) refl
         where
-          by : (b : Bool) → is_at_gap behind_prefix ≡ b → Told start l n (after (after (prefix_result (Ok cs)) (λ q. with_prefix start handle_is q)) (λ t. behind_value start t))
+          by : (b : Bool) → is_at_gap behind_prefix ≡ b → Told start l n (and_then (and_then (prefix_result (Ok cs)) (λ q. with_prefix start handle_is q)) (λ t. behind_value start t))
           by true e = rw (gap_is behind_prefix n ends, e) (declaration_end cs begins means)
           by false e = declaration_refused problem.TagDirectiveEnd _ (declares cs begins means ∙ rw (gap_missing behind_prefix e) refl) (goes_on e) (rw (gap_is behind_prefix n ends, e) refl)
 
-      prefix_read : Told start l n (after (prefix_behind start handle_is (blanks (behind_handle ++ n) handle_place)) (λ t. behind_value start t))
+      prefix_read : Told start l n (and_then (prefix_behind start handle_is (blanks (behind_handle ++ n) handle_place)) (λ t. behind_value start t))
       prefix_read = rw (blanks_skipped behind_handle handle_place) (by (begins_prefix from_prefix) refl)
         where
-          by : (b : Bool) → begins_prefix from_prefix ≡ b → Told start l n (after (after (prefix start (from_prefix ++ n) prefix_place) (λ q. with_prefix start handle_is q)) (λ t. behind_value start t))
+          by : (b : Bool) → begins_prefix from_prefix ≡ b → Told start l n (and_then (and_then (prefix start (from_prefix ++ n) prefix_place) (λ q. with_prefix start handle_is q)) (λ t. behind_value start t))
           by true e = rw (prefix_is (begins_with_prefix from_prefix ∙ e)) (characters_read (decoded prefix_text) e refl)
-          by false e = declaration_refused problem.GlobalTagCharacter _ (rw (is, e) refl) (no_prefix e) (ap (λ x. after (after x (λ q. with_prefix start handle_is q)) (λ t. behind_value start t)) (prefix_fails (begins_with_prefix from_prefix ∙ e)))
+          by false e = declaration_refused problem.GlobalTagCharacter _ (rw (is, e) refl) (no_prefix e) (ap (λ x. and_then (and_then x (λ q. with_prefix start handle_is q)) (λ t. behind_value start t)) (prefix_fails (begins_with_prefix from_prefix ∙ e)))
 
-    declarations : Told start l n (after (value start tag (behind_word ++ n) word_place) (λ t. behind_value start t))
+    declarations : Told start l n (and_then (value start tag (behind_word ++ n) word_place) (λ t. behind_value start t))
     unfolding tag_value
     declarations = rw (blanks_skipped behind_word word_place) (told (handle start (said ++ n) said_place) (handle_sees start said_place said n ends))
       where
         go : Result (Read (List ℕ)) Fault → Result (Read Tok) Fault
-        go x = after (after x (λ (h : Read (List ℕ)). prefix_behind start h.value (blanks h.rest h.place))) (λ t. behind_value start t)
+        go x = and_then (and_then x (λ (h : Read (List ℕ)). prefix_behind start h.value (blanks h.rest h.place))) (λ t. behind_value start t)
 
         told : (x : Result (Read (List ℕ)) Fault) → HandleSees start said_place said n x → Told start l n (go x)
         told x (values.no_mark none without e) = declaration_refused problem.TagStart (go x) (rw without refl) (no_mark none) (ap go e)
@@ -353,7 +354,7 @@ module _ (start : Place) (l n : List ℕ) (line : has_no_break l ≡ true) (ends
       rw (x, y) refl
 
   ignored : (c : ℕ) (w : List ℕ) → leading classes.is_alpha l ≡ c ∷ w → is_same (c ∷ w) (codes "YAML") ≡ false → is_same (c ∷ w) (codes "TAG") ≡ false → is_at_gap behind_word ≡ true
-      → Told start l n (after (value start unknown (behind_word ++ n) word_place) (λ t. behind_value start t))
+      → Told start l n (and_then (value start unknown (behind_word ++ n) word_place) (λ t. behind_value start t))
   unfolding directive_of
   ignored c w lead no_version no_tag gap =
       let in_line : has_no_break behind_word ≡ true = no_break_behind (leading classes.is_alpha l) behind_word (ap has_no_break (sym (span_cut classes.is_alpha l)) ∙ line) in
@@ -391,13 +392,13 @@ module _ (start : Place) (l n : List ℕ) (line : has_no_break l ≡ true) (ends
       letter false h = cc
 
       by : (gap : Bool) → is_at_gap behind_word ≡ gap
-          → Told start l n (after (if gap then Ok (record { rest = behind_word ++ n; place = word_place; value = kind (l ++ n) }) else Err (At problem.DirectiveNameEnd (past start))) (λ k. behind_name start k))
+          → Told start l n (and_then (if gap then Ok (record { rest = behind_word ++ n; place = word_place; value = kind (l ++ n) }) else Err (At problem.DirectiveNameEnd (past start))) (λ k. behind_name start k))
       by true e = by_kind c w lead e
       by false e = refused (At problem.DirectiveNameEnd (past start)) _ (rw (lead, e) refl) (by_name e) refl
 
 -- ---- the laws
 
-told : (start : Place) (l n : List ℕ) → has_no_break l ≡ true → ends_line n ≡ true → Told start l n (directive (37 ∷ (l ++ n)) start)
+told : (start : Position) (l n : List ℕ) → has_no_break l ≡ true → ends_line n ≡ true → Told start l n (directive (37 ∷ (l ++ n)) start)
 told start l n line ends = by_word start l n line ends (leading classes.is_alpha l) refl
 
 in_line : ℕ → Bool

@@ -2,7 +2,7 @@
 use Rattle.std.proofs.Common.{◌≡◌, ℕ, suc, ◌+◌, ◌-◌, ◌*◌, ◌≤◌, List, [], ◌∷◌, ◌++◌, Bool, true, false, ◌&&◌, ◌||◌, ◌==◌, not, nat_le, if◌then◌else◌, take, drop, length, slice_index, Result, Ok, Err, codes, refl, ap, sym, ◌∙◌, arith}
 use Rattle.std.proofs.lemmas.Bool.{and_parts, eqb-true}
 use Rattle.std.proofs.lemmas.Bool.Decides.{nat_tests}
-use Rattle.defs_text.specs.Position.{Place}
+use Rattle.defs_text.specs.Position.{Position}
 use Rattle.yaml_chars.specs.Class.{is_break, is_blank, is_blank_or_breakz, is_digit, is_alphanumeric, is_alpha}
 use Rattle.defs_text.specs.Text.{is_nil}
 use Rattle.yaml_tokens.specs.declared.problem.Fault.{Fault}
@@ -14,10 +14,11 @@ use Rattle.defs_text.specs.Breaks.{is_before_line_feed, is_blanks_and_comment, i
 use Rattle.defs_scalar.specs.FlowScalar.{begins_with}
 use Rattle.defs_scalar.specs.Tags.{all_of, leading, behind, is_same}
 use Rattle.defs_scalar.specs.Directives.{decimal_value}
-use Rattle.defs_token.specs.Text.{place_past, place_behind, has_no_break}
+use Rattle.defs_text.specs.Position.{position_past, position_after}
+use Rattle.defs_text.specs.Breaks.{has_no_break}
 use Rattle.model_lexers.specs.declared.context.SkipTabs.TheVariants.{Yes}
 use Rattle.model_lexers.specs.declared.context.Whitespace.{Whitespace}
-use Rattle.model_lexers.specs.Machine.{Stop, run, walk, Read, after, past, past_break, is_cr_lf, skip_while}
+use Rattle.model_lexers.specs.Machine.{Stop, run, walk, Read, and_then, past, past_break, is_cr_lf, skip_while}
 use Rattle.model_lexers.specs.Space.{is_line, Spaces, space_step, spaces_end, with_found, space}
 use Rattle.model_lexers.specs.Directive.{version, tag, unknown, kind, Digits, digit_turn, digits_end, number, directive_break, line_end}
 use Rattle.proof_lexers.proofs.Bridges.{same_break, same_gap, same_alpha}
@@ -58,7 +59,7 @@ no_break_behind [] b h = h
 no_break_behind (c ∷ a) b h = no_break_behind a b (and_parts (not (classes.is_break c)) (has_no_break (a ++ b)) h).1
 
 -- characters of a class are skipped
-pub skipped : (class test : ℕ → Bool) → ((c : ℕ) → class c ≡ test c) → (a : List ℕ) (p : Place) → skip_while test a p ≡ record { rest = behind class a; place = further (length (leading class a)) p; value = tt }
+pub skipped : (class test : ℕ → Bool) → ((c : ℕ) → class c ≡ test c) → (a : List ℕ) (p : Position) → skip_while test a p ≡ record { rest = behind class a; place = further (length (leading class a)) p; value = tt }
 skipped class test same [] p = ap (λ q. record { rest = []; place = q; value = tt }) (sym (none_further p))
 skipped class test same (c ∷ a) p = by (test c) refl (skipped class test same a (past p))
   where
@@ -70,7 +71,7 @@ skipped class test same (c ∷ a) p = by (test c) refl (skipped class test same 
 -- ---- the rest of a line
 
 -- all of a line without a break is skipped
-pub line_skipped : (m n : List ℕ) (p : Place) → has_no_break m ≡ true → ends_line n ≡ true → skip_while is_line (m ++ n) p ≡ record { rest = n; place = further (length m) p; value = tt }
+pub line_skipped : (m n : List ℕ) (p : Position) → has_no_break m ≡ true → ends_line n ≡ true → skip_while is_line (m ++ n) p ≡ record { rest = n; place = further (length m) p; value = tt }
 line_skipped [] [] p h e = ap (λ q. record { rest = []; place = q; value = tt }) (sym (none_further p))
 line_skipped [] (c ∷ n) p h e = let breaks : is_break c ≡ true = sym (same_break c) ∙ e in rw breaks (ap (λ q. record { rest = c ∷ n; place = q; value = tt }) (sym (none_further p)))
 line_skipped (c ∷ m) n p h e =
@@ -82,7 +83,7 @@ line_skipped (c ∷ m) n p h e =
 data TailEnds (m n : List ℕ) (s : Spaces) (x : Result (Read Whitespace) Fault) : Type 0 where
   passes : (w : Whitespace) → is_blanks_and_comment m ≡ true → (begins_with 35 m && not (s.found.found_tabs || s.found.has_valid_yaml_ws)) ≡ false → x ≡ Ok (record { rest = n; place = further (length m) s.place; value = w }) → TailEnds m n s x
   glued : begins_with 35 m ≡ true → (s.found.found_tabs || s.found.has_valid_yaml_ws) ≡ false → x ≡ Err (At problem.CommentNotSeparated s.place) → TailEnds m n s x
-  more : (c : ℕ) (after : List ℕ) (p : Place) (w : Whitespace) → is_break c ≡ false → is_blanks_and_comment m ≡ false → begins_with 35 m ≡ false → x ≡ Ok (record { rest = c ∷ (after ++ n); place = p; value = w }) → TailEnds m n s x
+  more : (c : ℕ) (and_then : List ℕ) (p : Position) (w : Whitespace) → is_break c ≡ false → is_blanks_and_comment m ≡ false → begins_with 35 m ≡ false → x ≡ Ok (record { rest = c ∷ (and_then ++ n); place = p; value = w }) → TailEnds m n s x
 
 abbrev goes_to_end : List ℕ → Spaces → Result (Read Whitespace) Fault
 goes_to_end a s = spaces_end (walk (space_step Yes) a s)
@@ -95,7 +96,7 @@ blank_more : (c : ℕ) (m n : List ℕ) (s t : Spaces) (x : Result (Read Whitesp
     → TailEnds m n t x → TailEnds (c ∷ m) n s x
 blank_more c m n s t x blank hash place some (passes w is lone e) = passes w (rw (hash, blank) is) (rw hash refl) (e ∙ ap (λ q. Ok (record { rest = n; place = q; value = w })) (ap (further (length m)) place ∙ one_further s.place (length m)))
 blank_more c m n s t x blank hash place some (glued is none e) = absurd (cc (some, none))
-blank_more c m n s t x blank hash place some (more d after p w solid is begins e) = more d after p w solid (rw (hash, blank) is) hash e
+blank_more c m n s t x blank hash place some (more d and_then p w solid is begins e) = more d and_then p w solid (rw (hash, blank) is) hash e
 
 or_true : (b : Bool) → (b || true) ≡ true
 or_true true = refl
@@ -133,12 +134,12 @@ tail_ends [] (c ∷ n) h k s =
 tail_ends (c ∷ m) n h k s = tail_by c m n s (c == 32) (c == 9) (c == 35) refl refl refl h k (tail_ends m n (and_parts (not (classes.is_break c)) (has_no_break m) h).1 k)
 
 -- How the end of a directive's line is read: the rest of it is blanks and maybe a comment behind one; a comment stands there without a blank; or other text.
-pub data LineEnds (start p : Place) (m n : List ℕ) (x : Result (Read (Unit {0})) Fault) : Type 0 where
-  ended : is_rest_of_line m ≡ true → x ≡ Ok (record { rest = next_line n; place = place_behind (further (length m) p) (first_break n) (next_line n); value = tt }) → LineEnds start p m n x
+pub data LineEnds (start p : Position) (m n : List ℕ) (x : Result (Read (Unit {0})) Fault) : Type 0 where
+  ended : is_rest_of_line m ≡ true → x ≡ Ok (record { rest = next_line n; place = position_after (further (length m) p) (first_break n) (next_line n); value = tt }) → LineEnds start p m n x
   comment : begins_with 35 m ≡ true → is_rest_of_line m ≡ false → x ≡ Err (At problem.CommentNotSeparated p) → LineEnds start p m n x
   text : is_rest_of_line m ≡ false → x ≡ Err (At problem.DirectiveEnd start) → LineEnds start p m n x
 
-feed_is_line : (d : ℕ) (r : List ℕ) (p : Place) → (d == 10) ≡ true → place_past p d r ≡ past_break p
+feed_is_line : (d : ℕ) (r : List ℕ) (p : Position) → (d == 10) ≡ true → position_past p d r ≡ past_break p
 unfolding classes.is_break
 feed_is_line d r p h = let same : d ≡ 10 = eqb-true d 10 h in rw same (line_place 10 r p (by r))
   where
@@ -146,14 +147,14 @@ feed_is_line d r p h = let same : d ≡ 10 = eqb-true d 10 h in rw same (line_pl
     by [] = refl
     by (e ∷ r) = refl
 
-passed_feed : (c : ℕ) (n : List ℕ) (p : Place) → classes.is_break c ≡ true → is_cr_lf c n ≡ true → past_break (past p) ≡ place_behind p (c ∷ take 1 n) (drop 1 n)
+passed_feed : (c : ℕ) (n : List ℕ) (p : Position) → classes.is_break c ≡ true → is_cr_lf c n ≡ true → past_break (past p) ≡ position_after p (c ∷ take 1 n) (drop 1 n)
 passed_feed c [] p h e = let q = and_parts (c == 13) (0 == 10) e in cc
 passed_feed c (d ∷ r) p h e =
     let q = and_parts (c == 13) (d == 10) e in
     let feeds : is_before_line_feed c (d ∷ r) ≡ true = sym (same_feed c (d ∷ r)) ∙ e in
-    sym (feed_is_line d r (past p) q.1) ∙ ap (λ z. place_past z d r) (sym (in_line_place c (d ∷ r) p (rw (h, feeds) refl)))
+    sym (feed_is_line d r (past p) q.1) ∙ ap (λ z. position_past z d r) (sym (in_line_place c (d ∷ r) p (rw (h, feeds) refl)))
 
-break_passed : (start p : Place) (n : List ℕ) → ends_line n ≡ true → directive_break start n p ≡ Ok (record { rest = next_line n; place = place_behind p (first_break n) (next_line n); value = tt })
+break_passed : (start p : Position) (n : List ℕ) → ends_line n ≡ true → directive_break start n p ≡ Ok (record { rest = next_line n; place = position_after p (first_break n) (next_line n); value = tt })
 unfolding directive_break
 break_passed start p [] h = refl
 break_passed start p (c ∷ n) h = by (is_cr_lf c n) refl
@@ -161,7 +162,7 @@ break_passed start p (c ∷ n) h = by (is_cr_lf c n) refl
     breaks : is_break c ≡ true
     breaks = sym (same_break c) ∙ h
 
-    by : (b : Bool) → is_cr_lf c n ≡ b → directive_break start (c ∷ n) p ≡ Ok (record { rest = next_line (c ∷ n); place = place_behind p (first_break (c ∷ n)) (next_line (c ∷ n)); value = tt })
+    by : (b : Bool) → is_cr_lf c n ≡ b → directive_break start (c ∷ n) p ≡ Ok (record { rest = next_line (c ∷ n); place = position_after p (first_break (c ∷ n)) (next_line (c ∷ n)); value = tt })
     by true e =
         let feeds : is_before_line_feed c n ≡ true = sym (same_feed c n) ∙ e in
         rw (breaks, e, feeds) (ap (λ q. Ok (record { rest = drop 1 n; place = q; value = tt })) (passed_feed c n p h e))
@@ -187,12 +188,12 @@ passed_is_rest : (m : List ℕ) → is_blanks_and_comment m ≡ true → begins_
 passed_is_rest [] h e = refl
 passed_is_rest (c ∷ m) h e = rw e at h
 
-text_fails : (start : Place) (c : ℕ) (a : List ℕ) (q : Place) → is_break c ≡ false → directive_break start (c ∷ a) q ≡ Err (At problem.DirectiveEnd start)
+text_fails : (start : Position) (c : ℕ) (a : List ℕ) (q : Position) → is_break c ≡ false → directive_break start (c ∷ a) q ≡ Err (At problem.DirectiveEnd start)
 unfolding directive_break
 text_fails start c a q e = rw e refl
 
 -- how the end of a directive's line is read
-pub line_ends : (start p : Place) (m n : List ℕ) → has_no_break m ≡ true → ends_line n ≡ true → LineEnds start p m n (line_end start (m ++ n) p)
+pub line_ends : (start p : Position) (m n : List ℕ) → has_no_break m ≡ true → ends_line n ≡ true → LineEnds start p m n (line_end start (m ++ n) p)
 unfolding line_end space
 line_ends start p m n h k = told (goes_to_end (m ++ n) from) (tail_ends m n h k from)
   where
@@ -200,7 +201,7 @@ line_ends start p m n h k = told (goes_to_end (m ++ n) from) (tail_ends m n h k 
     from = record { place = p; found = record { found_tabs = false; has_valid_yaml_ws = false } }
 
     go : Result (Read Whitespace) Fault → Result (Read (Unit {0})) Fault
-    go x = after x (λ (w : Read Whitespace). directive_break start w.rest w.place)
+    go x = and_then x (λ (w : Read Whitespace). directive_break start w.rest w.place)
 
     alone : (b : Bool) → (b && true) ≡ false → b ≡ false
     alone false e = refl
@@ -218,20 +219,20 @@ unfolding classes.is_decimal_digit is_digit
 digit_is c = refl
 
 -- what a version's number leaves, by its digits and how many were read before them
-abbrev digits_read : (start p : Place) (v k : ℕ) → (a : List ℕ) → Result (Stop Digits) Fault
+abbrev digits_read : (start p : Position) (v k : ℕ) → (a : List ℕ) → Result (Stop Digits) Fault
 digits_read start p v k a =
     (if nat_le (k + length (leading classes.is_decimal_digit a)) 9
     then Ok (record { rest = behind classes.is_decimal_digit a; state = record { place = further (length (leading classes.is_decimal_digit a)) p; value = decimal_value v (leading classes.is_decimal_digit a); length = k + length (leading classes.is_decimal_digit a) } })
     else Err (At problem.VersionTooLong start))
 
-stopped_here : (start p : Place) (v k : ℕ) (a : List ℕ) → k ≤ 9 → leading classes.is_decimal_digit a ≡ [] → behind classes.is_decimal_digit a ≡ a
+stopped_here : (start p : Position) (v k : ℕ) (a : List ℕ) → k ≤ 9 → leading classes.is_decimal_digit a ≡ [] → behind classes.is_decimal_digit a ≡ a
     → Ok (record { rest = a; state = record { place = p; value = v; length = k } }) ≡ digits_read start p v k a
 stopped_here start p v k a few none same =
     let few_still : nat_le (k + 0) 9 ≡ true = grind (arith, nat_tests, few) in
     let so_many : k + 0 ≡ k = omega arith in
     rw (none, same, few_still, so_many, none_further p) refl
 
-digits_run : (start : Place) (a : List ℕ) (p : Place) (v k : ℕ) → k ≤ 9 → run (digit_turn start) a (record { place = p; value = v; length = k }) ≡ digits_read start p v k a
+digits_run : (start : Position) (a : List ℕ) (p : Position) (v k : ℕ) → k ≤ 9 → run (digit_turn start) a (record { place = p; value = v; length = k }) ≡ digits_read start p v k a
 digits_run start [] p v k few = stopped_here start p v k [] few refl refl
 digits_run start (c ∷ a) p v k few = by (is_digit c) refl (k == 9) refl (λ h. digits_run start a (past p) (v * 10 + (c - 48)) (k + 1) h)
   where
@@ -252,14 +253,14 @@ digits_run start (c ∷ a) p v k few = by (is_digit c) refl (k == 9) refl (λ h.
         rw (e, f, digit) (ih fewer ∙ rw (so_many, one_further p (length (leading classes.is_decimal_digit a))) refl)
 
 -- what the scan of a version's number leaves
-abbrev pub number_read : (start p : Place) → (a : List ℕ) → Result (Read ℕ) Fault
+abbrev pub number_read : (start p : Position) → (a : List ℕ) → Result (Read ℕ) Fault
 number_read start p a =
     (if is_nil (leading classes.is_decimal_digit a) then Err (At problem.VersionNumber start) else
     (if nat_le (length (leading classes.is_decimal_digit a)) 9
     then Ok (record { rest = behind classes.is_decimal_digit a; place = further (length (leading classes.is_decimal_digit a)) p; value = decimal_value 0 (leading classes.is_decimal_digit a) })
     else Err (At problem.VersionTooLong start)))
 
-pub number_is_read : (start : Place) (a : List ℕ) (p : Place) → number start a p ≡ number_read start p a
+pub number_is_read : (start : Position) (a : List ℕ) (p : Position) → number start a p ≡ number_read start p a
 unfolding number
 number_is_read start a p = ap (digits_end start) (digits_run start a p 0 0 (omega arith)) ∙ by (leading classes.is_decimal_digit a)
   where

@@ -1,7 +1,7 @@
 -- The numbers of a version, and the handle and the prefix of a declaration, as the model reads them in a line.
 use Rattle.std.proofs.Common.{◌≡◌, ℕ, suc, ◌+◌, List, [], ◌∷◌, ◌++◌, Bool, true, false, ◌==◌, nat_le, if◌then◌else◌, length, slice_index, Some, None, Result, Ok, Err, refl, ap, sym, ◌∙◌, arith, append_assoc, length-append}
 use Rattle.std.proofs.lemmas.Bool.{and_parts, eqb-true}
-use Rattle.defs_text.specs.Position.{Place}
+use Rattle.defs_text.specs.Position.{Position}
 use Rattle.defs_text.specs.Text.{is_nil}
 use Rattle.yaml_tokens.specs.declared.problem.Fault.{Fault}
 use Rattle.yaml_tokens.specs.declared.problem.Fault.TheVariants.{At}
@@ -20,13 +20,13 @@ use Rattle.proof_lexers.proofs.Directives.Parts.{none_at_end, before_end, number
 -- ---- a version's number
 
 -- What the scan of a number sees in a line: no digit; more than nine; or the number that it is.
-pub data NumberSees (start p : Place) (b n : List ℕ) (x : Result (Read ℕ) Fault) : Type 0 where
+pub data NumberSees (start p : Position) (b n : List ℕ) (x : Result (Read ℕ) Fault) : Type 0 where
   missing : leading classes.is_decimal_digit b ≡ [] → number_of (leading classes.is_decimal_digit b) ≡ None → x ≡ Err (At problem.VersionNumber start) → NumberSees start p b n x
   long : nat_le (length (leading classes.is_decimal_digit b)) 9 ≡ false → number_of (leading classes.is_decimal_digit b) ≡ None → x ≡ Err (At problem.VersionTooLong start) → NumberSees start p b n x
   found : (value : ℕ) → number_of (leading classes.is_decimal_digit b) ≡ Some value
       → x ≡ Ok (record { rest = behind classes.is_decimal_digit b ++ n; place = further (length (leading classes.is_decimal_digit b)) p; value = value }) → NumberSees start p b n x
 
-digit_by : (start p : Place) (b n w r : List ℕ) → leading classes.is_decimal_digit b ≡ w
+digit_by : (start p : Position) (b n w r : List ℕ) → leading classes.is_decimal_digit b ≡ w
     → NumberSees start p b n (if is_nil w then Err (At problem.VersionNumber start) else (if nat_le (length w) 9 then Ok (record { rest = behind classes.is_decimal_digit b ++ n; place = further (length w) p; value = decimal_value 0 w }) else Err (At problem.VersionTooLong start)))
 digit_by start p b n [] r e = missing e (rw e refl) refl
 digit_by start p b n (c ∷ w) r e = by (nat_le (length (c ∷ w)) 9) refl
@@ -36,7 +36,7 @@ digit_by start p b n (c ∷ w) r e = by (nat_le (length (c ∷ w)) 9) refl
     by true f = found (decimal_value 0 (c ∷ w)) (rw e (rw f refl)) (rw e refl)
     by false f = long (rw e f) (rw e (rw f refl)) refl
 
-pub number_sees : (start p : Place) (b n : List ℕ) → ends_line n ≡ true → NumberSees start p b n (number start (b ++ n) p)
+pub number_sees : (start p : Position) (b n : List ℕ) → ends_line n ≡ true → NumberSees start p b n (number start (b ++ n) p)
 unfolding classes.is_decimal_digit
 number_sees start p b n h =
     let none : begins_in classes.is_decimal_digit n ≡ false = none_at_end classes.is_decimal_digit refl refl n h in
@@ -46,7 +46,7 @@ number_sees start p b n h =
 -- ---- a handle
 
 -- What the scan of a handle sees in a line: no mark; a name without a second mark; or the handle that stands there.
-pub data HandleSees (start p : Place) (t n : List ℕ) (x : Result (Read (List ℕ)) Fault) : Type 0 where
+pub data HandleSees (start p : Position) (t n : List ℕ) (x : Result (Read (List ℕ)) Fault) : Type 0 where
   no_mark : begins_with_mark t ≡ false → is_handle (handle_and_rest t).0 ≡ false → x ≡ Err (At problem.TagStart start) → HandleSees start p t n x
   open_name : (c : ℕ) (name rest : List ℕ) → t ≡ 33 ∷ rest → leading classes.is_alpha rest ≡ c ∷ name → begins_with_mark (behind classes.is_alpha rest) ≡ false → is_handle (handle_and_rest t).0 ≡ false
       → x ≡ Err (At problem.TagDirectiveHandle start) → HandleSees start p t n x
@@ -85,16 +85,16 @@ no_second_mark : (w s : List ℕ) → begins_with_mark s ≡ false → name_and_
 no_second_mark w [] h = refl
 no_second_mark w (d ∷ s) h = rw h refl
 
-bare_place : (p : Place) → further 0 (past p) ≡ further 1 p
+bare_place : (p : Position) → further 0 (past p) ≡ further 1 p
 bare_place p = let i : (p.index + 1) + 0 ≡ p.index + 1 = omega arith in let j : (p.col + 1) + 0 ≡ p.col + 1 = omega arith in rw (i, j) refl
 
-marked_place : (p : Place) (k m : ℕ) → m ≡ k + 1 → past (further k (past p)) ≡ further (suc m) p
+marked_place : (p : Position) (k m : ℕ) → m ≡ k + 1 → past (further k (past p)) ≡ further (suc m) p
 marked_place p k m e =
     let i : (p.index + 1) + k + 1 ≡ p.index + suc m = omega (arith, e) in
     let j : (p.col + 1) + k + 1 ≡ p.col + suc m = omega (arith, e) in
     rw (i, j) refl
 
-module _ (start p : Place) (r n : List ℕ) (ends : ends_line n ≡ true) where
+module _ (start p : Position) (r n : List ℕ) (ends : ends_line n ≡ true) where
   -- behind a name a second mark stands
   with_mark : (w s : List ℕ) → leading classes.is_alpha r ≡ w → behind classes.is_alpha r ≡ 33 ∷ s → r ≡ w ++ 33 ∷ s → all_of classes.is_alpha w ≡ true
       → HandleSees start p (33 ∷ r) n (Ok (record { rest = s ++ n; place = past (further (length w) (past p)); value = (33 ∷ w) ++ 33 ∷ [] }))
@@ -128,7 +128,7 @@ module _ (start p : Place) (r n : List ℕ) (ends : ends_line n ≡ true) where
       rw (spells_name [] r n refl ends, word (r ++ n) (past p) (33 ∷ []), q.0, q.1)
       (behind_name (leading classes.is_alpha r) (behind classes.is_alpha r) refl refl (span_cut classes.is_alpha r) (all_leading classes.is_alpha r))
 
-pub handle_sees : (start p : Place) (t n : List ℕ) → ends_line n ≡ true → HandleSees start p t n (handle start (t ++ n) p)
+pub handle_sees : (start p : Position) (t n : List ℕ) → ends_line n ≡ true → HandleSees start p t n (handle start (t ++ n) p)
 unfolding handle
 handle_sees start p [] n h = let none = not_at_end 33 refl refl refl n h in no_mark refl refl (rw none refl)
 handle_sees start p (c ∷ r) n h = by (c == 33) refl

@@ -1,13 +1,13 @@
 -- What a plain scalar's scan finds from a place in it on, and what one character before that adds.
 use Rattle.std.proofs.Common.{◌≡◌, ℕ, List, [], ◌∷◌, ◌++◌, Bool, true, false, ◌||◌, ◌&&◌, not, ◌==◌, if◌then◌else◌, Result, Ok, Err, refl, ap, sym, ◌∙◌, append_assoc, nat_lt}
 use Rattle.std.proofs.lemmas.Bool.{and_parts}
-use Rattle.defs_text.specs.Position.{Place}
+use Rattle.defs_text.specs.Position.{Position}
 use Rattle.yaml_tokens.specs.declared.problem.Fault.{Fault}
 use Rattle.yaml_tokens.specs.declared.problem.Fault.TheVariants.{At}
 use Rattle.yaml_tokens.specs.declared.problem.Problem.TheVariants as problem
 use Rattle.defs_text.specs.Classes.{is_blank, is_break}
 use Rattle.defs_text.specs.Breaks.{is_before_line_feed}
-use Rattle.defs_token.specs.Text.{place_past, place_behind}
+use Rattle.defs_text.specs.Position.{position_past, position_after}
 use Rattle.defs_token.specs.Filler.{is_blanks}
 use Rattle.defs_token.specs.Plain.{Stand, inside, on_line, past, begins_flow, ends_plain, goes_on, stops, ends_with_content}
 use Rattle.model_lexers.specs.declared.context.Context.{Context}
@@ -42,39 +42,39 @@ abbrev pub is_solid_end : List ℕ → Bool
 is_solid_end [] = true
 is_solid_end (c ∷ r) = ends_with_content c r
 
-module _ (ctx : Context) (start : Place) where
+module _ (ctx : Context) (start : Position) where
   -- Why the text behind a place in a scalar is refused: a dash before a flow indicator; a TAB at a line's start and content behind it; or, behind such a TAB, content.
-  pub data Fails (tabs : Bool) (s : Stand) (p : Place) (a : List ℕ) : Fault → Type 0 where
+  pub data Fails (tabs : Bool) (s : Stand) (p : Position) (a : List ℕ) : Fault → Type 0 where
     dash : (before rest : List ℕ) → ctx.flow ≡ true → a ≡ before ++ 45 ∷ rest → begins_flow rest ≡ true → goes_on ctx.flow (collection_of ctx.indent) s before (45 ∷ rest) ≡ true → is_apart (stand_behind s before) ≡ true
-        → Fails tabs s p a (At problem.PlainDashInFlow (place_behind p before (45 ∷ rest)))
+        → Fails tabs s p a (At problem.PlainDashInFlow (position_after p before (45 ∷ rest)))
     tab : (before blanks rest : List ℕ) (column : ℕ) → a ≡ before ++ 9 ∷ (blanks ++ rest) → goes_on ctx.flow (collection_of ctx.indent) s before (9 ∷ (blanks ++ rest)) ≡ true → stand_behind s before ≡ on_line column
         → nat_lt column ctx.indent ≡ true → is_blanks blanks ≡ true → begins_solid rest ≡ true → Fails tabs s p a (At problem.PlainTab start)
     behind_tab : (blanks rest : List ℕ) → tabs ≡ true → a ≡ blanks ++ rest → is_blanks blanks ≡ true → begins_solid rest ≡ true → Fails tabs s p a (At problem.PlainTab start)
 
-  abbrev pub left : Place → Folded → (more gap rest : List ℕ) → Read Plain
-  left p t more gap rest = record { rest = rest; place = place_behind p (more ++ gap) rest; value = record { text = (behind_text more t).text; leading = leads more t gap } }
+  abbrev pub left : Position → Folded → (more gap rest : List ℕ) → Read Plain
+  left p t more gap rest = record { rest = rest; place = position_after p (more ++ gap) rest; value = record { text = (behind_text more t).text; leading = leads more t gap } }
 
   -- What a scan finds: the scalar goes on over more of the text, a gap is behind that, and there it ends; or the text is refused.
-  pub data Found (tabs : Bool) (s : Stand) (p : Place) (t : Folded) (a : List ℕ) (x : Result (Read Plain) Fault) : Type 0 where
+  pub data Found (tabs : Bool) (s : Stand) (p : Position) (t : Folded) (a : List ℕ) (x : Result (Read Plain) Fault) : Type 0 where
     found : (more gap rest : List ℕ) → a ≡ more ++ (gap ++ rest) → goes_on ctx.flow (collection_of ctx.indent) s more (gap ++ rest) ≡ true → is_solid_end more ≡ true
         → stops ctx.flow (collection_of ctx.indent) (behind_more s more) (gap ++ rest) ≡ true → is_gap gap ≡ true → begins_white rest ≡ false → x ≡ Ok (left p t more gap rest) → Found tabs s p t a x
     fails : (f : Fault) → Fails tabs s p a f → x ≡ Err f → Found tabs s p t a x
 
-  pub found_on : (tabs : Bool) (s : Stand) (p : Place) (t : Folded) (a : List ℕ) (x y : Result (Read Plain) Fault) → x ≡ y → Found tabs s p t a y → Found tabs s p t a x
+  pub found_on : (tabs : Bool) (s : Stand) (p : Position) (t : Folded) (a : List ℕ) (x y : Result (Read Plain) Fault) → x ≡ y → Found tabs s p t a y → Found tabs s p t a x
   found_on tabs s p t a x y e (found more gap rest cut goes solid stop white ends is) = found more gap rest cut goes solid stop white ends (e ∙ is)
   found_on tabs s p t a x y e (fails f why is) = fails f why (e ∙ is)
 
-  pub same_left : (rest u v : List ℕ) (p q : Place) (b d : Bool) → p ≡ q → u ≡ v → b ≡ d
+  pub same_left : (rest u v : List ℕ) (p q : Position) (b d : Bool) → p ≡ q → u ≡ v → b ≡ d
       → ◌≡◌ {A = Result (Read Plain) Fault} (Ok (record { rest = rest; place = p; value = record { text = u; leading = b } })) (Ok (record { rest = rest; place = q; value = record { text = v; leading = d } }))
   same_left rest u v p q b d e f g = rw (e, f, g) refl
 
-  same_place : (c : ℕ) (a more gap rest : List ℕ) (p : Place) → a ≡ more ++ (gap ++ rest) → place_behind (place_past p c a) (more ++ gap) rest ≡ place_behind p (c ∷ (more ++ gap)) rest
-  same_place c a more gap rest p cut = ap (λ b. place_behind (place_past p c b) (more ++ gap) rest) (cut ∙ sym (append_assoc more gap rest))
+  same_place : (c : ℕ) (a more gap rest : List ℕ) (p : Position) → a ≡ more ++ (gap ++ rest) → position_after (position_past p c a) (more ++ gap) rest ≡ position_after p (c ∷ (more ++ gap)) rest
+  same_place c a more gap rest p cut = ap (λ b. position_after (position_past p c b) (more ++ gap) rest) (cut ∙ sym (append_assoc more gap rest))
 
   -- the same refusal, told from one character before; that one is no end of the scalar
-  pub further : (c : ℕ) (a : List ℕ) (tabs u : Bool) (s next : Stand) (p : Place) (f : Fault) → past s c ≡ next → (is_white c || not (ends_plain ctx.flow (collection_of ctx.indent) s (c ∷ a))) ≡ true
+  pub further : (c : ℕ) (a : List ℕ) (tabs u : Bool) (s next : Stand) (p : Position) (f : Fault) → past s c ≡ next → (is_white c || not (ends_plain ctx.flow (collection_of ctx.indent) s (c ∷ a))) ≡ true
       → ((blanks rest : List ℕ) → u ≡ true → a ≡ blanks ++ rest → is_blanks blanks ≡ true → begins_solid rest ≡ true → Fails tabs s p (c ∷ a) (At problem.PlainTab start))
-      → Fails u next (place_past p c a) a f → Fails tabs s p (c ∷ a) f
+      → Fails u next (position_past p c a) a f → Fails tabs s p (c ∷ a) f
   further c a tabs u s next p f e on behind (dash before rest flow cut begins goes apart) =
       let here : (is_white c || not (ends_plain ctx.flow (collection_of ctx.indent) s (c ∷ (before ++ 45 ∷ rest)))) ≡ true = rw cut at on in
       rw cut (dash (c ∷ before) rest flow refl begins (rw (here, e) goes) (rw e apart))
@@ -132,9 +132,9 @@ module _ (ctx : Context) (start : Place) where
   same_first : (c d : ℕ) (r s : List ℕ) (t : Folded) → behind_char c (d ∷ r) t ≡ behind_char c (d ∷ s) t
   same_first c d r s t = refl
 
-  pub after_gap : (c : ℕ) (a : List ℕ) (tabs u : Bool) (s : Stand) (p : Place) (t : Folded) (x : Result (Read Plain) Fault) → is_white c ≡ true
-      → ((f : Fault) → Fails u (past s c) (place_past p c a) a f → Fails tabs s p (c ∷ a) f)
-      → Found u (past s c) (place_past p c a) (behind_char c a t) a x → Found tabs s p t (c ∷ a) x
+  pub after_gap : (c : ℕ) (a : List ℕ) (tabs u : Bool) (s : Stand) (p : Position) (t : Folded) (x : Result (Read Plain) Fault) → is_white c ≡ true
+      → ((f : Fault) → Fails u (past s c) (position_past p c a) a f → Fails tabs s p (c ∷ a) f)
+      → Found u (past s c) (position_past p c a) (behind_char c a t) a x → Found tabs s p t (c ∷ a) x
   after_gap c a tabs u s p t x white grow (found [] gap rest cut goes solid stop gaps ends is) =
       found [] (c ∷ gap) rest (ap (λ r. c ∷ r) cut) refl refl (rw white stop) (rw white gaps) ends
       (is ∙ same_left rest _ _ _ _ _ _ (same_place c a [] gap rest p cut) (gap_text c a t white) (ap (λ b. (behind_char c b t).leading || has_break gap) cut ∙ gap_leads c gap rest t white ends))
@@ -168,8 +168,8 @@ module _ (ctx : Context) (start : Place) where
   pub past_content : (c : ℕ) (s : Stand) → is_break c ≡ false → is_blank c ≡ false → past s c ≡ inside
   past_content c s e f = rw (e, f) refl
 
-  pub after_content : (c : ℕ) (a : List ℕ) (s : Stand) (p : Place) (t : Folded) (x : Result (Read Plain) Fault) → is_break c ≡ false → is_blank c ≡ false → ends_plain ctx.flow (collection_of ctx.indent) s (c ∷ a) ≡ false
-      → Found false inside (place_past p c a) (with_char c (joined t)) a x → Found false s p t (c ∷ a) x
+  pub after_content : (c : ℕ) (a : List ℕ) (s : Stand) (p : Position) (t : Folded) (x : Result (Read Plain) Fault) → is_break c ≡ false → is_blank c ≡ false → ends_plain ctx.flow (collection_of ctx.indent) s (c ∷ a) ≡ false
+      → Found false inside (position_past p c a) (with_char c (joined t)) a x → Found false s p t (c ∷ a) x
   after_content c a s p t x breaks blanks on (found more gap rest cut goes solid stop gaps ends is) =
       let here : ends_plain ctx.flow (collection_of ctx.indent) s (c ∷ (more ++ (gap ++ rest))) ≡ false = rw cut at on in
       found (c ∷ more) gap rest (ap (λ r. c ∷ r) cut) (rw (here, breaks, blanks) goes) (solid_first c more (rw (breaks, blanks) refl) solid) (rw (← behind_inside more) stop) gaps ends

@@ -1,6 +1,6 @@
 -- Plain scalars as texts: what the laws say of some.
 use Rattle.std.proofs.Common.{[], true, false, codes, refl}
-use Rattle.defs_text.specs.Position.{Place}
+use Rattle.defs_text.specs.Position.{Position}
 use Rattle.yaml_tokens.specs.declared.problem.Problem.TheVariants as problem
 use Rattle.yaml_tokens.specs.declared.problem.Fault.TheVariants.{At}
 use Rattle.defs_text.specs.Classes.{is_blank, is_break, is_nul, is_blank_or_end, is_flow, are_marks}
@@ -17,7 +17,7 @@ block = record { flow = false; indent = 1 }
 abbrev flow : Context
 flow = record { flow = true; indent = 1 }
 
-abbrev here : Place
+abbrev here : Position
 here = record { index = 3; line = 1; col = 3 }
 
 -- lines that are folded, up to a line that is no deeper

@@ -2,13 +2,13 @@
 use Rattle.std.proofs.Common.{◌≡◌, ℕ, suc, ◌+◌, List, [], ◌∷◌, ◌++◌, Bool, true, false, ◌||◌, ◌&&◌, not, Option, Some, Result, refl, ap, sym, ◌∙◌, arith, nat_lt, nat_le}
 use Rattle.std.proofs.lemmas.Bool.{and_parts}
 use Rattle.std.proofs.lemmas.Bool.Decides.{nat_tests}
-use Rattle.defs_text.specs.Position.{Place}
+use Rattle.defs_text.specs.Position.{Position}
 use Rattle.yaml_tokens.specs.declared.problem.Fault.{Fault}
 use Rattle.yaml_tokens.specs.declared.problem.Fault.TheVariants.{At}
 use Rattle.yaml_tokens.specs.declared.problem.Problem.TheVariants as problem
 use Rattle.defs_text.specs.Classes.{is_blank, is_break}
 use Rattle.defs_scalar.specs.FlowScalar.{has_document_marker, plain_value}
-use Rattle.defs_token.specs.Text.{place_behind}
+use Rattle.defs_text.specs.Position.{position_after}
 use Rattle.defs_token.specs.Plain.{Stand, past, begins_flow, ends_plain, goes_on, stops, ends_with_content, is_whole_plain}
 use Rattle.defs_token.specs.Plain as defs
 use Rattle.model_lexers.specs.declared.context.Context.{Context}
@@ -35,7 +35,7 @@ solid_parts c h = by (is_blank c) (is_break c) refl refl h
     by false true e f h = cc
     by false false e f h = (e, f)
 
-deep : (ctx : Context) (p : Place) → is_indented ctx p ≡ true → is_shallow ctx (p.col + 1) ≡ false
+deep : (ctx : Context) (p : Position) → is_indented ctx p ≡ true → is_shallow ctx (p.col + 1) ≡ false
 unfolding is_shallow
 deep ctx p h = by ctx.flow h
   where
@@ -45,7 +45,7 @@ deep ctx p h = by ctx.flow h
 
 -- ---- each text
 
-module _ (ctx : Context) (start : Place) (c : ℕ) (a : List ℕ) (white : is_white c ≡ false) where
+module _ (ctx : Context) (start : Position) (c : ℕ) (a : List ℕ) (white : is_white c ≡ false) where
   blank : is_blank c ≡ false
   blank = (solid_parts c white).0
 
@@ -58,11 +58,11 @@ module _ (ctx : Context) (start : Place) (c : ℕ) (a : List ℕ) (white : is_wh
   no_marker : (more next : List ℕ) → goes_on ctx.flow (collection_of ctx.indent) defs.inside more next ≡ true → has_document_marker (c ∷ more) ≡ false
   no_marker more next h = rw (break, no_markers ctx.flow (collection_of ctx.indent) defs.inside more next h) refl
 
-  place_is : (more gap rest : List ℕ) → place_behind (machine.past start) (more ++ gap) rest ≡ place_behind start (c ∷ (more ++ gap)) rest
-  place_is more gap rest = ap (λ q. place_behind q (more ++ gap) rest) (sym (in_line_place c ((more ++ gap) ++ rest) start (rw break refl)))
+  place_is : (more gap rest : List ℕ) → position_after (machine.past start) (more ++ gap) rest ≡ position_after start (c ∷ (more ++ gap)) rest
+  place_is more gap rest = ap (λ q. position_after q (more ++ gap) rest) (sym (in_line_place c ((more ++ gap) ++ rest) start (rw break refl)))
 
-  dash_place : (before rest : List ℕ) → place_behind (machine.past start) before (45 ∷ rest) ≡ place_behind start (c ∷ before) (45 ∷ rest)
-  dash_place before rest = ap (λ q. place_behind q before (45 ∷ rest)) (sym (in_line_place c (before ++ 45 ∷ rest) start (rw break refl)))
+  dash_place : (before rest : List ℕ) → position_after (machine.past start) before (45 ∷ rest) ≡ position_after start (c ∷ before) (45 ∷ rest)
+  dash_place before rest = ap (λ q. position_after q before (45 ∷ rest)) (sym (in_line_place c (before ++ 45 ∷ rest) start (rw break refl)))
 
   refusal : (f : Fault) → Fails ctx start false defs.inside (machine.past start) a f → IsRefusal ctx start (c ∷ a) f
   refusal f (dash before rest flow cut begins goes apart) =
@@ -172,7 +172,7 @@ same_piece flow collection (c ∷ r) (d ∷ u) next after solid cut h k =
     let z = one flow collection defs.inside c r u next after tail (rw still w.goes) (rw still v.goes) w.content v.content w.stop v.stop in
     (rw (same, z.0) refl, z.1)
 
-from_end : (ctx : Context) (piece next value : List ℕ) (p : Place) (x : Result (Read Plain) Fault) → begins_solid piece ≡ true → is_whole_plain ctx.flow (collection_of ctx.indent) piece next ≡ true → plain_value piece ≡ Some value
+from_end : (ctx : Context) (piece next value : List ℕ) (p : Position) (x : Result (Read Plain) Fault) → begins_solid piece ≡ true → is_whole_plain ctx.flow (collection_of ctx.indent) piece next ≡ true → plain_value piece ≡ Some value
     → EndsAs ctx p (piece ++ next) x → IsRead ctx p piece next value x
 from_end ctx piece next value p x solid whole is (reads u gap rest text cut full gaps ends has e) =
     let z = same_piece ctx.flow (collection_of ctx.indent) piece u next (gap ++ rest) solid cut whole full in

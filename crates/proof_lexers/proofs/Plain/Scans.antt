@@ -2,7 +2,7 @@
 use Rattle.std.proofs.Common.{◌≡◌, ℕ, suc, ◌+◌, List, [], ◌∷◌, Bool, true, false, ◌||◌, ◌&&◌, not, ◌==◌, Result, Ok, refl, ap, ◌∙◌, append-nil, arith, nat_lt, slice_index}
 use Rattle.std.proofs.lemmas.Bool.{and_parts, eqb-true}
 use Rattle.std.proofs.lemmas.Bool.Decides.{nat_tests}
-use Rattle.defs_text.specs.Position.{Place}
+use Rattle.defs_text.specs.Position.{Position}
 use Rattle.yaml_chars.specs.Class.{is_break, is_blank}
 use Rattle.yaml_tokens.specs.declared.problem.Fault.{Fault}
 use Rattle.yaml_tokens.specs.declared.problem.Fault.TheVariants.{At}
@@ -66,21 +66,21 @@ feed_breaks c h = rw h refl
 one_right : (m n : ℕ) → m ≡ n → suc m ≡ n + 1
 one_right m n h = omega (arith, h)
 
-module _ (ctx : Context) (start : Place) where
+module _ (ctx : Context) (start : Position) where
   -- where a scan stops before content
-  stop_here : (u : Bool) (c : ℕ) (a : List ℕ) (s : Stand) (p : Place) (t : Folded) (x : Result (Read Plain) Fault) → is_white c ≡ false → ends_plain ctx.flow (collection_of ctx.indent) s (c ∷ a) ≡ true
+  stop_here : (u : Bool) (c : ℕ) (a : List ℕ) (s : Stand) (p : Position) (t : Folded) (x : Result (Read Plain) Fault) → is_white c ≡ false → ends_plain ctx.flow (collection_of ctx.indent) s (c ∷ a) ≡ true
       → x ≡ Ok (record { rest = c ∷ a; place = p; value = record { text = t.text; leading = t.leading } }) → Found ctx start u s p t (c ∷ a) x
   stop_here u c a s p t x white ends is = found_here ctx start u s p t (c ∷ a) x (rw white ends) white is
 
   -- ---- behind a gap
 
-  by_outcome : (c : ℕ) (a : List ℕ) (s : Stand) (p : Place) (t : Folded) → is_white c ≡ false → is_apart s ≡ true → Scans ctx start a → Outcome ctx start c a s p t (scan ctx start (c ∷ a) between p t)
+  by_outcome : (c : ℕ) (a : List ℕ) (s : Stand) (p : Position) (t : Folded) → is_white c ≡ false → is_apart s ≡ true → Scans ctx start a → Outcome ctx start c a s p t (scan ctx start (c ∷ a) between p t)
       → Found ctx start false s p t (c ∷ a) (scan ctx start (c ∷ a) between p t)
   by_outcome c a s p t white apart ih (stopped ends is) = stop_here false c a s p t _ white ends is
   by_outcome c a s p t white apart ih (went on deep is) = content_step ctx start c a between s p t _ white on deep ih is
   by_outcome c a s p t white apart ih (dashed flow is_dash begins is) = fails (At problem.PlainDashInFlow p) (dash [] a flow (ap (λ k. k ∷ a) is_dash) begins refl apart) is
 
-  blanks_by : (c : ℕ) (a : List ℕ) (p : Place) (t : Folded) → (c == 0) ≡ false → t.leading ≡ false → (p.col == 0) ≡ false → is_shallow ctx p.col ≡ false → Scans ctx start a → Kind c
+  blanks_by : (c : ℕ) (a : List ℕ) (p : Position) (t : Folded) → (c == 0) ≡ false → t.leading ≡ false → (p.col == 0) ≡ false → is_shallow ctx p.col ≡ false → Scans ctx start a → Kind c
       → Found ctx start false behind_blank p t (c ∷ a) (scan ctx start (c ∷ a) between p t)
   blanks_by c a p t nul lead off deep ih (breaks e) = break_step ctx start c a false between behind_blank p t _ e ih (rw e refl)
   blanks_by c a p t nul lead off deep ih (blanks e f) =
@@ -91,7 +91,7 @@ module _ (ctx : Context) (start : Place) where
 
   -- ---- at a line's start
 
-  line_blank : (c column : ℕ) (a : List ℕ) (p : Place) (t : Folded) (tabbed : Bool) → ((c == 9) && nat_lt p.col ctx.indent) ≡ tabbed → column ≡ p.col → t.leading ≡ true → is_break c ≡ false → is_blank c ≡ true → Scans ctx start a
+  line_blank : (c column : ℕ) (a : List ℕ) (p : Position) (t : Folded) (tabbed : Bool) → ((c == 9) && nat_lt p.col ctx.indent) ≡ tabbed → column ≡ p.col → t.leading ≡ true → is_break c ≡ false → is_blank c ≡ true → Scans ctx start a
       → Found ctx start false (on_line column) p t (c ∷ a) (scan ctx start (c ∷ a) between p t)
   line_blank c column a p t true h is lead e f ih =
       let q = and_parts (c == 9) (nat_lt p.col ctx.indent) h in
@@ -102,7 +102,7 @@ module _ (ctx : Context) (start : Place) where
       blank_step ctx start c a false between between (on_line column) (on_line (suc column)) p t _ e f refl (λ b r k. no_tabs ctx start k) ih
       (at_line (suc column) (one_right column p.col is) (rw lead refl)) (rw (e, f, lead, h) refl)
 
-  line_by : (c column : ℕ) (a : List ℕ) (p : Place) (t : Folded) → (c == 0) ≡ false → column ≡ p.col → t.leading ≡ true → Scans ctx start a → Kind c
+  line_by : (c column : ℕ) (a : List ℕ) (p : Position) (t : Folded) → (c == 0) ≡ false → column ≡ p.col → t.leading ≡ true → Scans ctx start a → Kind c
       → Found ctx start false (on_line column) p t (c ∷ a) (scan ctx start (c ∷ a) between p t)
   line_by c column a p t nul is lead ih (breaks e) = break_step ctx start c a false between (on_line column) p t _ e ih (rw e refl)
   line_by c column a p t nul is lead ih (blanks e f) = line_blank c column a p t ((c == 9) && nat_lt p.col ctx.indent) refl is lead e f ih
@@ -111,7 +111,7 @@ module _ (ctx : Context) (start : Place) where
 
   -- ---- behind a TAB at a line's start
 
-  tabs_solid : (c column : ℕ) (a : List ℕ) (p : Place) (t : Folded) (hash : Bool) → (c == 35) ≡ hash → is_white c ≡ false → (is_break c || is_blank c) ≡ false
+  tabs_solid : (c column : ℕ) (a : List ℕ) (p : Position) (t : Folded) (hash : Bool) → (c == 35) ≡ hash → is_white c ≡ false → (is_break c || is_blank c) ≡ false
       → Found ctx start true (on_line column) p t (c ∷ a) (scan ctx start (c ∷ a) tabs p t)
   tabs_solid c column a p t true h white plain =
       let break : is_break c ≡ false = not_break c white in
@@ -121,7 +121,7 @@ module _ (ctx : Context) (start : Place) where
       let blank : is_blank c ≡ false = not_blank c white in
       fails (At problem.PlainTab start) (behind_tab [] (c ∷ a) refl refl refl (rw white refl)) (rw (break, h, blank) refl)
 
-  tabs_by : (c column : ℕ) (a : List ℕ) (p : Place) (t : Folded) → t.leading ≡ true → Scans ctx start a → Kind c → Found ctx start true (on_line column) p t (c ∷ a) (scan ctx start (c ∷ a) tabs p t)
+  tabs_by : (c column : ℕ) (a : List ℕ) (p : Position) (t : Folded) → t.leading ≡ true → Scans ctx start a → Kind c → Found ctx start true (on_line column) p t (c ∷ a) (scan ctx start (c ∷ a) tabs p t)
   tabs_by c column a p t lead ih (breaks e) = break_step ctx start c a true tabs (on_line column) p t _ e ih (rw e refl)
   tabs_by c column a p t lead ih (blanks e f) =
       let hash : (c == 35) ≡ false = no_hash c f in
@@ -132,7 +132,7 @@ module _ (ctx : Context) (start : Place) where
 
   -- ---- within a line
 
-  inside_by : (c : ℕ) (a : List ℕ) (p : Place) (text : List ℕ) → (c == 0) ≡ false → (p.col == 0) ≡ false → is_shallow ctx p.col ≡ false → Scans ctx start a → Kind c
+  inside_by : (c : ℕ) (a : List ℕ) (p : Position) (text : List ℕ) → (c == 0) ≡ false → (p.col == 0) ≡ false → is_shallow ctx p.col ≡ false → Scans ctx start a → Kind c
       → Found ctx start false defs.inside p (in_text text) (c ∷ a) (scan ctx start (c ∷ a) inside p (in_text text))
   inside_by c a p text nul off deep ih (breaks e) = break_step ctx start c a false inside defs.inside p (in_text text) _ e ih (rw e refl)
   inside_by c a p text nul off deep ih (blanks e f) =

@@ -2,7 +2,7 @@
 use Rattle.std.proofs.Common.{◌≡◌, ℕ, zero, suc, ◌+◌, List, [], ◌∷◌, ◌++◌, Bool, true, false, ◌||◌, ◌&&◌, not, ◌==◌, if◌then◌else◌, Result, Ok, Err, refl, ap, sym, ◌∙◌, arith, nat_lt, slice_index}
 use Rattle.std.proofs.lemmas.Bool.{and_parts, eqb-true}
 use Rattle.std.proofs.lemmas.Bool.Decides.{nat_tests}
-use Rattle.defs_text.specs.Position.{Place}
+use Rattle.defs_text.specs.Position.{Position}
 use Rattle.yaml_chars.specs.Class.{is_break, is_blank, is_blank_or_breakz, is_flow}
 use Rattle.yaml_tokens.specs.declared.problem.Fault.{Fault}
 use Rattle.yaml_tokens.specs.declared.problem.Fault.TheVariants.{At}
@@ -10,7 +10,7 @@ use Rattle.yaml_tokens.specs.declared.problem.Problem.TheVariants as problem
 use Rattle.defs_text.specs.Classes as classes
 use Rattle.defs_text.specs.Classes.{is_document_marker}
 use Rattle.defs_text.specs.Breaks.{is_before_line_feed}
-use Rattle.defs_token.specs.Text.{place_past}
+use Rattle.defs_text.specs.Position.{position_past}
 use Rattle.defs_token.specs.Filler.{is_blanks}
 use Rattle.defs_token.specs.Plain.{Stand, on_line, behind_blank, begins_flow, is_value_indicator, ends_at_colon, ends_at_comment, is_deeper, ends_at_line, ends_plain, stops}
 use Rattle.defs_token.specs.Plain as defs
@@ -78,7 +78,7 @@ pub line_is : (ctx : Context) (c column : ℕ) (a : List ℕ) → ends_at_line c
 unfolding is_shallow
 line_is ctx c column a = rw (same_marker column (c ∷ a), shallow_by ctx.indent column) refl
 
-pub no_line : (ctx : Context) (c : ℕ) (a : List ℕ) (p : Place) → (p.col == 0) ≡ false → is_shallow ctx p.col ≡ false → false ≡ (at_marker p.col (c ∷ a) || is_shallow ctx p.col)
+pub no_line : (ctx : Context) (c : ℕ) (a : List ℕ) (p : Position) → (p.col == 0) ≡ false → is_shallow ctx p.col ≡ false → false ≡ (at_marker p.col (c ∷ a) || is_shallow ctx p.col)
 no_line ctx c a p e f = rw (same_marker p.col (c ∷ a), e, f) refl
 
 pub same_feed : (c : ℕ) (a : List ℕ) → is_cr_lf c a ≡ is_before_line_feed c a
@@ -94,10 +94,10 @@ by_line_true f g h k = rw (or_true ((f || g) || h)) refl
 
 -- ---- places
 
-pub in_line_place : (c : ℕ) (a : List ℕ) (p : Place) → (classes.is_break c && not (is_before_line_feed c a)) ≡ false → place_past p c a ≡ past p
+pub in_line_place : (c : ℕ) (a : List ℕ) (p : Position) → (classes.is_break c && not (is_before_line_feed c a)) ≡ false → position_past p c a ≡ past p
 in_line_place c a p e = let i : suc p.index ≡ p.index + 1 = omega arith in let j : suc p.col ≡ p.col + 1 = omega arith in rw (e, i, j) refl
 
-pub line_place : (c : ℕ) (a : List ℕ) (p : Place) → (classes.is_break c && not (is_before_line_feed c a)) ≡ true → place_past p c a ≡ past_break p
+pub line_place : (c : ℕ) (a : List ℕ) (p : Position) → (classes.is_break c && not (is_before_line_feed c a)) ≡ true → position_past p c a ≡ past_break p
 line_place c a p e = let i : suc p.index ≡ p.index + 1 = omega arith in let j : suc p.line ≡ p.line + 1 = omega arith in rw (e, i, j) refl
 
 pub off_margin : (n : ℕ) → (n + 1 == 0) ≡ false
@@ -120,12 +120,12 @@ is_tabs _ = false
 abbrev pub in_text : List ℕ → Folded
 in_text text = record { text = text; gap = []; leading = false; escaped = false }
 
-module _ (ctx : Context) (start : Place) where
-  abbrev pub scan : List ℕ → Mode → Place → Folded → Result (Read Plain) Fault
+module _ (ctx : Context) (start : Position) where
+  abbrev pub scan : List ℕ → Mode → Position → Folded → Result (Read Plain) Fault
   scan a m p t = plain_from ctx start a (record { mode = m; place = p; folded = t })
 
   -- Where a scan stands before a text: within a line; behind blanks in it; behind a break; behind a TAB at a line's start; or between CR and LF.
-  pub data Stands (a : List ℕ) (p : Place) (t : Folded) : Mode → Stand → Type 0 where
+  pub data Stands (a : List ℕ) (p : Position) (t : Folded) : Mode → Stand → Type 0 where
     in_line : (text : List ℕ) → t ≡ in_text text → (p.col == 0) ≡ false → is_shallow ctx p.col ≡ false → Stands a p t inside defs.inside
     behind_blanks : t.leading ≡ false → (p.col == 0) ≡ false → is_shallow ctx p.col ≡ false → Stands a p t between behind_blank
     at_line : (column : ℕ) → column ≡ p.col → t.leading ≡ true → Stands a p t between (on_line column)
@@ -134,12 +134,12 @@ module _ (ctx : Context) (start : Place) where
 
   -- from each such place a scan finds the scalar's end, or is refused
   abbrev pub Scans : List ℕ → Type 0
-  Scans a = (m : Mode) (s : Stand) (p : Place) (t : Folded) → Stands a p t m s → Found ctx start (is_tabs m) s p t a (scan a m p t)
+  Scans a = (m : Mode) (s : Stand) (p : Position) (t : Folded) → Stands a p t m s → Found ctx start (is_tabs m) s p t a (scan a m p t)
 
-  found_at : (u : Bool) (s n : Stand) (p q : Place) (t v : Folded) (a : List ℕ) (x : Result (Read Plain) Fault) → s ≡ n → p ≡ q → t ≡ v → Found ctx start u n q v a x → Found ctx start u s p t a x
+  found_at : (u : Bool) (s n : Stand) (p q : Position) (t v : Folded) (a : List ℕ) (x : Result (Read Plain) Fault) → s ≡ n → p ≡ q → t ≡ v → Found ctx start u n q v a x → Found ctx start u s p t a x
   found_at u s n p q t v a x e f g z = rw (e, f, g) z
 
-  pub found_here : (u : Bool) (s : Stand) (p : Place) (t : Folded) (a : List ℕ) (x : Result (Read Plain) Fault) → stops ctx.flow (collection_of ctx.indent) s a ≡ true → begins_white a ≡ false
+  pub found_here : (u : Bool) (s : Stand) (p : Position) (t : Folded) (a : List ℕ) (x : Result (Read Plain) Fault) → stops ctx.flow (collection_of ctx.indent) s a ≡ true → begins_white a ≡ false
       → x ≡ Ok (record { rest = a; place = p; value = record { text = t.text; leading = t.leading } }) → Found ctx start u s p t a x
   found_here u s p t a x e ends is = found [] [] a refl refl refl e refl ends (is ∙ ap (λ b. Ok (record { rest = a; place = p; value = record { text = t.text; leading = b } })) (sym (or_false t.leading)))
 
@@ -152,7 +152,7 @@ module _ (ctx : Context) (start : Place) where
       by true e = e
       by false e = refl
 
-  pub break_step : (c : ℕ) (a : List ℕ) (u : Bool) (m : Mode) (s : Stand) (p : Place) (t : Folded) (x : Result (Read Plain) Fault) → is_break c ≡ true → Scans a
+  pub break_step : (c : ℕ) (a : List ℕ) (u : Bool) (m : Mode) (s : Stand) (p : Position) (t : Folded) (x : Result (Read Plain) Fault) → is_break c ≡ true → Scans a
       → x ≡ plain_from ctx start a (at_break c a (record { mode = m; place = p; folded = t })) → Found ctx start u s p t (c ∷ a) x
   break_step c a u m s p t x e ih is = by (is_cr_lf c a) refl is
     where
@@ -166,7 +166,7 @@ module _ (ctx : Context) (start : Place) where
       feeds [] h = let no : false ≡ true = sym (and_false (c == 13)) ∙ h in cc
       feeds (d ∷ b) h = let q = and_parts (c == 13) (d == 10) h in (b, ap (λ k. k ∷ b) (eqb-true d 10 q.1))
 
-      grow : (f : Fault) → Fails ctx start false (defs.past s c) (place_past p c a) a f → Fails ctx start u s p (c ∷ a) f
+      grow : (f : Fault) → Fails ctx start false (defs.past s c) (position_past p c a) a f → Fails ctx start u s p (c ∷ a) f
       grow f why = further ctx start c a u false s (defs.past s c) p f refl (rw white refl) (λ b r k. cc) why
 
       by : (feed : Bool) → is_cr_lf c a ≡ feed → x ≡ plain_from ctx start a (if feed then record { mode = between; place = past p; folded = t } else record { mode = between; place = past_break p; folded = with_break t })
@@ -177,13 +177,13 @@ module _ (ctx : Context) (start : Place) where
           let here : classes.is_break c && not (is_before_line_feed c a) ≡ false = rw g (and_false (classes.is_break c)) in
           found_on ctx start u s p t (c ∷ a) x _ k
           (after_gap ctx start c a u false s p t _ white grow
-          (found_at false (defs.past s c) (on_line 0) (place_past p c a) (past p) (behind_char c a t) t a _ (rw breaks refl) (in_line_place c a p here) (rw (breaks, g) refl)
+          (found_at false (defs.past s c) (on_line 0) (position_past p c a) (past p) (behind_char c a t) t a _ (rw breaks refl) (in_line_place c a p here) (rw (breaks, g) refl)
           (ih between (on_line 0) (past p) t (at_feed 0 z.0 z.1))))
       by false f k =
           let g : is_before_line_feed c a ≡ false = sym (same_feed c a) ∙ f in
           found_on ctx start u s p t (c ∷ a) x _ k
           (after_gap ctx start c a u false s p t _ white grow
-          (found_at false (defs.past s c) (on_line 0) (place_past p c a) (past_break p) (behind_char c a t) (with_break t) a _ (rw breaks refl) (line_place c a p (rw (breaks, g) refl)) (rw (breaks, g) refl)
+          (found_at false (defs.past s c) (on_line 0) (position_past p c a) (past_break p) (behind_char c a t) (with_break t) a _ (rw breaks refl) (line_place c a p (rw (breaks, g) refl)) (rw (breaks, g) refl)
           (ih between (on_line 0) (past_break p) (with_break t) (at_line 0 refl (broken_leads t)))))
 
   -- ---- blanks
@@ -191,13 +191,13 @@ module _ (ctx : Context) (start : Place) where
   blank_white : (c : ℕ) → is_blank c ≡ true → is_white c ≡ true
   blank_white c e = rw (same_blank c, e) refl
 
-  pub blank_step : (c : ℕ) (a : List ℕ) (u : Bool) (m n : Mode) (s next : Stand) (p : Place) (t : Folded) (x : Result (Read Plain) Fault) → is_break c ≡ false → is_blank c ≡ true → defs.past_blank s ≡ next
+  pub blank_step : (c : ℕ) (a : List ℕ) (u : Bool) (m n : Mode) (s next : Stand) (p : Position) (t : Folded) (x : Result (Read Plain) Fault) → is_break c ≡ false → is_blank c ≡ true → defs.past_blank s ≡ next
       → ((blanks rest : List ℕ) → is_tabs n ≡ true → a ≡ blanks ++ rest → is_blanks blanks ≡ true → begins_solid rest ≡ true → Fails ctx start u s p (c ∷ a) (At problem.PlainTab start))
       → Scans a → Stands a (past p) (with_blank c t) n next → x ≡ scan a n (past p) (with_blank c t) → Found ctx start u s p t (c ∷ a) x
   blank_step c a u m n s next p t x e f g tabbed ih stands is =
       found_on ctx start u s p t (c ∷ a) x _ is
       (after_gap ctx start c a u (is_tabs n) s p t _ (blank_white c f) grow
-      (found_at (is_tabs n) (defs.past s c) next (place_past p c a) (past p) (behind_char c a t) (with_blank c t) a _ (rw (no_break, blank) g) (in_line_place c a p (rw no_break refl)) (rw (no_break, blank) refl)
+      (found_at (is_tabs n) (defs.past s c) next (position_past p c a) (past p) (behind_char c a t) (with_blank c t) a _ (rw (no_break, blank) g) (in_line_place c a p (rw no_break refl)) (rw (no_break, blank) refl)
       (ih n next (past p) (with_blank c t) stands)))
     where
       no_break : classes.is_break c ≡ false
@@ -206,7 +206,7 @@ module _ (ctx : Context) (start : Place) where
       blank : classes.is_blank c ≡ true
       blank = same_blank c ∙ f
 
-      grow : (k : Fault) → Fails ctx start (is_tabs n) (defs.past s c) (place_past p c a) a k → Fails ctx start u s p (c ∷ a) k
+      grow : (k : Fault) → Fails ctx start (is_tabs n) (defs.past s c) (position_past p c a) a k → Fails ctx start u s p (c ∷ a) k
       grow k why = further ctx start c a u (is_tabs n) s (defs.past s c) p k refl (rw (blank_white c f) refl) tabbed why
 
   pub no_tabs : {A : Type 0} → false ≡ true → A
@@ -220,13 +220,13 @@ module _ (ctx : Context) (start : Place) where
 
   -- ---- content
 
-  pub content_step : (c : ℕ) (a : List ℕ) (m : Mode) (s : Stand) (p : Place) (t : Folded) (x : Result (Read Plain) Fault) → is_white c ≡ false → ends_plain ctx.flow (collection_of ctx.indent) s (c ∷ a) ≡ false → is_shallow ctx p.col ≡ false
+  pub content_step : (c : ℕ) (a : List ℕ) (m : Mode) (s : Stand) (p : Position) (t : Folded) (x : Result (Read Plain) Fault) → is_white c ≡ false → ends_plain ctx.flow (collection_of ctx.indent) s (c ∷ a) ≡ false → is_shallow ctx p.col ≡ false
       → Scans a → x ≡ scan a inside (past p) (with_char c (joined t)) → Found ctx start false s p t (c ∷ a) x
   content_step c a m s p t x white on deep ih is =
       let q = parts (classes.is_blank c) (classes.is_break c) white in
       found_on ctx start false s p t (c ∷ a) x _ is
       (after_content ctx start c a s p t _ q.1 q.0 on
-      (found_at false defs.inside defs.inside (place_past p c a) (past p) _ _ a _ refl (in_line_place c a p (rw q.1 refl)) refl
+      (found_at false defs.inside defs.inside (position_past p c a) (past p) _ _ a _ refl (in_line_place c a p (rw q.1 refl)) refl
       (ih inside defs.inside (past p) (with_char c (joined t)) (in_line ((joined t).text ++ c ∷ []) refl (off_margin p.col) (as_deep ctx p.col deep)))))
     where
       parts : (b d : Bool) → (b || d) ≡ false → (b ≡ false) × (d ≡ false)
@@ -235,7 +235,7 @@ module _ (ctx : Context) (start : Place) where
       parts false false h = (refl, refl)
 
   -- what a scan does at a character of content behind a gap
-  pub data Outcome (c : ℕ) (a : List ℕ) (s : Stand) (p : Place) (t : Folded) (x : Result (Read Plain) Fault) : Type 0 where
+  pub data Outcome (c : ℕ) (a : List ℕ) (s : Stand) (p : Position) (t : Folded) (x : Result (Read Plain) Fault) : Type 0 where
     stopped : ends_plain ctx.flow (collection_of ctx.indent) s (c ∷ a) ≡ true → x ≡ Ok (record { rest = c ∷ a; place = p; value = record { text = t.text; leading = t.leading } }) → Outcome c a s p t x
     went : ends_plain ctx.flow (collection_of ctx.indent) s (c ∷ a) ≡ false → is_shallow ctx p.col ≡ false → x ≡ scan a inside (past p) (with_char c (joined t)) → Outcome c a s p t x
     dashed : ctx.flow ≡ true → c ≡ 45 → begins_flow a ≡ true → x ≡ Err (At problem.PlainDashInFlow p) → Outcome c a s p t x
@@ -269,7 +269,7 @@ module _ (ctx : Context) (start : Place) where
       swap true d h = cc
       swap false d h = rw h refl
 
-  outcome_by : (c : ℕ) (a : List ℕ) (s : Stand) (p : Place) (t : Folded) → is_white c ≡ false → (c == 0) ≡ false → ends_at_comment s (c ∷ a) ≡ (c == 35)
+  outcome_by : (c : ℕ) (a : List ℕ) (s : Stand) (p : Position) (t : Folded) → is_white c ≡ false → (c == 0) ≡ false → ends_at_comment s (c ∷ a) ≡ (c == 35)
       → ends_at_line ctx.flow (collection_of ctx.indent) s (c ∷ a) ≡ (at_marker p.col (c ∷ a) || is_shallow ctx p.col)
       → (is_break c || is_blank c) ≡ false → (shallow hash mark at over : Bool) → is_shallow ctx p.col ≡ shallow → (c == 35) ≡ hash → at_marker p.col (c ∷ a) ≡ mark → at_dash ctx.flow (c ∷ a) ≡ at
       → (ends_at_colon ctx.flow (c ∷ a) || (ctx.flow && classes.is_flow c)) ≡ over → Outcome c a s p t (scan (c ∷ a) between p t)
@@ -285,7 +285,7 @@ module _ (ctx : Context) (start : Place) where
       let plain : at_plain ctx.flow (c ∷ a) ≡ true = solid_plain ctx.flow c a white nul ∙ ap not k in
       went (ends_over c a s false nul (comment ∙ f) (line ∙ rw (e, g) refl) k) e (rw (solid, e, f, g, h, plain) refl)
 
-  pub outcome : (c : ℕ) (a : List ℕ) (s : Stand) (p : Place) (t : Folded) → is_white c ≡ false → (c == 0) ≡ false → ends_at_comment s (c ∷ a) ≡ (c == 35)
+  pub outcome : (c : ℕ) (a : List ℕ) (s : Stand) (p : Position) (t : Folded) → is_white c ≡ false → (c == 0) ≡ false → ends_at_comment s (c ∷ a) ≡ (c == 35)
       → ends_at_line ctx.flow (collection_of ctx.indent) s (c ∷ a) ≡ (at_marker p.col (c ∷ a) || is_shallow ctx p.col) → Outcome c a s p t (scan (c ∷ a) between p t)
   outcome c a s p t white nul comment line =
       outcome_by c a s p t white nul comment line (solid_too c white) (is_shallow ctx p.col) (c == 35) (at_marker p.col (c ∷ a)) (at_dash ctx.flow (c ∷ a)) (ends_at_colon ctx.flow (c ∷ a) || (ctx.flow && classes.is_flow c))

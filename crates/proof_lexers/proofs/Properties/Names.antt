@@ -1,7 +1,7 @@
 -- The names of anchors and aliases are read as they stand.
 use Rattle.std.proofs.Common.{◌≡◌, ℕ, suc, ◌+◌, List, [], ◌∷◌, ◌++◌, Bool, true, false, not, Ok, refl, ap, sym, ◌∙◌, append_assoc, append-nil, length, arith}
 use Rattle.std.proofs.lemmas.Bool.{and_parts}
-use Rattle.defs_text.specs.Position.{Place}
+use Rattle.defs_text.specs.Position.{Position}
 use Rattle.yaml_chars.specs.Class.{is_anchor}
 use Rattle.defs_text.specs.Classes.{is_anchor_name}
 use Rattle.defs_scalar.specs.Tags.{all_of}
@@ -29,13 +29,13 @@ abbrev stops : (ℕ → Bool) → List ℕ → Bool
 stops test [] = true
 stops test (c ∷ r) = not (test c)
 
-pub one_further : (p : Place) (n : ℕ) → further n (past p) ≡ further (suc n) p
+pub one_further : (p : Position) (n : ℕ) → further n (past p) ≡ further (suc n) p
 one_further p n = let index : (p.index + 1) + n ≡ p.index + suc n = omega arith in let col : (p.col + 1) + n ≡ p.col + suc n = omega arith in rw (index, col) refl
 
-pub none_further : (p : Place) → further 0 p ≡ p
+pub none_further : (p : Position) → further 0 p ≡ p
 none_further p = let index : p.index + 0 ≡ p.index = omega arith in let col : p.col + 0 ≡ p.col = omega arith in rw (index, col) refl
 
-taken : (test : ℕ → Bool) (name rest : List ℕ) (p : Place) (t : List ℕ) → all_of test name ≡ true → stops test rest ≡ true
+taken : (test : ℕ → Bool) (name rest : List ℕ) (p : Position) (t : List ℕ) → all_of test name ≡ true → stops test rest ≡ true
     → take_while test (name ++ rest) p t ≡ record { rest = rest; place = further (length name) p; value = t ++ name }
 taken test [] [] p t h e = rw append-nil (ap (λ q. record { rest = []; place = q; value = t }) (sym (none_further p)))
 taken test [] (c ∷ r) p t h e = rw (not_true (test c) e, append-nil) (ap (λ q. record { rest = c ∷ r; place = q; value = t }) (sym (none_further p)))
@@ -69,11 +69,11 @@ same_stop : (rest : List ℕ) → stops is_anchor rest ≡ not (goes_on_with_nam
 same_stop [] = refl
 same_stop (c ∷ r) = ap not (sym (same_name c))
 
-read_by : (c : ℕ) (name rest : List ℕ) (p : Place) → all_of is_anchor name ≡ true → stops is_anchor rest ≡ true → anchor_name (c ∷ (name ++ rest)) p ≡ some_name p (record { rest = rest; place = further (length name) (past p); value = name })
+read_by : (c : ℕ) (name rest : List ℕ) (p : Position) → all_of is_anchor name ≡ true → stops is_anchor rest ≡ true → anchor_name (c ∷ (name ++ rest)) p ≡ some_name p (record { rest = rest; place = further (length name) (past p); value = name })
 unfolding anchor_name
 read_by c name rest p h e = ap (some_name p) (taken is_anchor name rest (past p) [] h e)
 
-more_further : (p : Place) (n : ℕ) → further n (past p) ≡ further (1 + n) p
+more_further : (p : Position) (n : ℕ) → further n (past p) ≡ further (1 + n) p
 more_further p n = let index : (p.index + 1) + n ≡ p.index + (1 + n) = omega arith in let col : (p.col + 1) + n ≡ p.col + (1 + n) = omega arith in rw (index, col) refl
 
 pub names_are_read : NamesAreRead
@@ -82,7 +82,7 @@ names_are_read c (d ∷ name) rest p h e =
     read_by c (d ∷ name) rest p (sym (same_all (d ∷ name)) ∙ h) (same_stop rest ∙ ap not e)
     ∙ ap (λ q. Ok (record { rest = rest; place = q; value = d ∷ name })) (more_further p (length (d ∷ name)))
 
-ended : (c : ℕ) (p : Place) (name rest : List ℕ) → all_of is_anchor name ≡ true → stops is_anchor rest ≡ true → EndsAs p (name ++ rest) (anchor_name (c ∷ (name ++ rest)) p)
+ended : (c : ℕ) (p : Position) (name rest : List ℕ) → all_of is_anchor name ≡ true → stops is_anchor rest ≡ true → EndsAs p (name ++ rest) (anchor_name (c ∷ (name ++ rest)) p)
 ended c p [] rest h e = nameless (not_true (goes_on_with_name rest) (sym (same_stop rest) ∙ e)) (read_by c [] rest p h e)
 ended c p (d ∷ name) rest h e =
     let goes = not_true (goes_on_with_name rest) (sym (same_stop rest) ∙ e) in

@@ -1,7 +1,7 @@
 -- Each tag is read as it is written.
 use Rattle.std.proofs.Common.{◌≡◌, ℕ, suc, ◌+◌, List, [], ◌∷◌, ◌++◌, Bool, true, false, ◌&&◌, ◌||◌, ◌==◌, if◌then◌else◌, Option, Some, None, Result, Ok, Err, codes, refl, ap, sym, ◌∙◌, append_assoc, length, length-append, slice_index}
 use Rattle.std.proofs.lemmas.Bool.{and_parts, eqb-true}
-use Rattle.defs_text.specs.Position.{Place}
+use Rattle.defs_text.specs.Position.{Position}
 use Rattle.yaml_chars.specs.Class.{is_uri, is_tag}
 use Rattle.defs_text.specs.Text.{is_nil}
 use Rattle.model_lexers.specs.Uri.{uri}
@@ -10,7 +10,7 @@ use Rattle.defs_text.specs.Classes as classes
 use Rattle.defs_text.specs.Classes.{is_at_gap}
 use Rattle.defs_scalar.specs.Tags as defs
 use Rattle.defs_scalar.specs.Tags.{UriFault, all_of, leading, behind, is_same, uri_character, decoded, tag_by, tag_of_class, written_tag}
-use Rattle.model_lexers.specs.Machine.{Read, past, after}
+use Rattle.model_lexers.specs.Machine.{Read, past, and_then}
 use Rattle.model_lexers.specs.Tag.{Tag, read_tag, verbatim_end, verbatim, some_suffix, named, local, behind_name, shorthand, tag_end, tag}
 use Rattle.proof_lexers.specs.NameEnds.{further}
 use Rattle.proof_lexers.specs.UriEnds.{behind_class}
@@ -115,10 +115,10 @@ of_class class t handle suffix h e = by (all_of class t) refl (decoded t) refl e
         let same : record { handle = h; suffix = cs } ≡ record { handle = handle; suffix = suffix } = some_tag e in
         record { all = a; means = k ∙ ap (λ (g : defs.Tag). Ok g.suffix) same; same = ap (λ (g : defs.Tag). g.handle) (sym same) }
 
-uri_of : (start q : Place) (l r before cs : List ℕ) → all_of classes.is_uri l ≡ true → begins_in classes.is_uri r ≡ false → decoded l ≡ Ok cs → uri is_uri start (l ++ r) q before ≡ Ok (record { rest = r; place = further (length l) q; value = before ++ cs })
+uri_of : (start q : Position) (l r before cs : List ℕ) → all_of classes.is_uri l ≡ true → begins_in classes.is_uri r ≡ false → decoded l ≡ Ok cs → uri is_uri start (l ++ r) q before ≡ Ok (record { rest = r; place = further (length l) q; value = before ++ cs })
 uri_of start q l r before cs all ends means = let z = leading_all classes.is_uri l r all ends in (uris_are_read start (l ++ r) q before).0 ∙ ap (behind_class classes.is_uri start q (l ++ r) before) (ap decoded z.0 ∙ means) ∙ rw (z.0, z.1) refl
 
-suffix_of : (start q : Place) (l r before cs : List ℕ) → all_of classes.is_tag l ≡ true → begins_in classes.is_tag r ≡ false → decoded l ≡ Ok cs → uri is_tag start (l ++ r) q before ≡ Ok (record { rest = r; place = further (length l) q; value = before ++ cs })
+suffix_of : (start q : Position) (l r before cs : List ℕ) → all_of classes.is_tag l ≡ true → begins_in classes.is_tag r ≡ false → decoded l ≡ Ok cs → uri is_tag start (l ++ r) q before ≡ Ok (record { rest = r; place = further (length l) q; value = before ++ cs })
 suffix_of start q l r before cs all ends means = let z = leading_all classes.is_tag l r all ends in (uris_are_read start (l ++ r) q before).1 ∙ ap (behind_class classes.is_tag start q (l ++ r) before) (ap decoded z.0 ∙ means) ∙ rw (z.0, z.1) refl
 
 some_text : {a b : List ℕ} → ◌≡◌ {A = Result (List ℕ) UriFault} (Ok a) (Ok b) → a ≡ b
@@ -130,10 +130,10 @@ word_fails [] r f h e = e
 word_fails (c ∷ name) r f h e = let q = and_parts (classes.is_alpha c) (all_of classes.is_alpha name) h in rw ((alpha_starts c q.0).1, word_fails name r f q.1 e) refl
 
 -- a tag before what may follow it
-ends_here : (flow : Bool) (start q : Place) (rest handle suffix : List ℕ) → may_follow flow rest ≡ true → tag_end flow start (read_tag rest q handle suffix) ≡ Ok (read_tag rest q handle suffix)
+ends_here : (flow : Bool) (start q : Position) (rest handle suffix : List ℕ) → may_follow flow rest ≡ true → tag_end flow start (read_tag rest q handle suffix) ≡ Ok (read_tag rest q handle suffix)
 ends_here flow start q rest handle suffix h = rw (same_end flow rest, h) refl
 
-module _ (flow : Bool) (rest handle suffix : List ℕ) (p : Place) (follows : may_follow flow rest ≡ true) where
+module _ (flow : Bool) (rest handle suffix : List ℕ) (p : Position) (follows : may_follow flow rest ≡ true) where
   -- ---- verbatim tags
 
   verbatim_read : (b : List ℕ) → defs.verbatim b ≡ Some (record { handle = handle; suffix = suffix }) → tag flow (33 ∷ 60 ∷ (b ++ rest)) p ≡ Ok (behind_tag p (33 ∷ 60 ∷ b) rest handle suffix)
@@ -152,7 +152,7 @@ module _ (flow : Bool) (rest handle suffix : List ℕ) (p : Place) (follows : ma
           let cut : b ++ rest ≡ u ++ 62 ∷ rest = ap (λ l. l ++ rest) closes ∙ append_assoc u (62 ∷ []) rest in
           let many : length b ≡ length u + 1 = ap length closes ∙ length-append u (62 ∷ []) in
           ap (λ l. tag flow (33 ∷ 60 ∷ l) p) cut
-          ∙ ap (λ x. after (after x (λ (r : Read (List ℕ)). verbatim_end p r.value r.rest r.place)) (λ r. tag_end flow p r)) (uri_of p (past (past p)) u (62 ∷ rest) [] suffix c.all close_is_no_uri c.means)
+          ∙ ap (λ x. and_then (and_then x (λ (r : Read (List ℕ)). verbatim_end p r.value r.rest r.place)) (λ r. tag_end flow p r)) (uri_of p (past (past p)) u (62 ∷ rest) [] suffix c.all close_is_no_uri c.means)
           ∙ ends_here flow p (past (further (length u) (past (past p)))) rest [] suffix follows
           ∙ ap (λ q. Ok (read_tag rest q [] suffix)) (closed_place p (length u) (length b) many)
           ∙ ap (λ k. Ok (read_tag rest (further (suc (suc (length b))) p) k suffix)) (sym c.same)
@@ -161,21 +161,21 @@ module _ (flow : Bool) (rest handle suffix : List ℕ) (p : Place) (follows : ma
 
   -- behind a name and a second mark
   named_read : (name : List ℕ) (c : ℕ) (t : List ℕ) → tag_of_class classes.is_tag (codes "!" ++ name ++ codes "!") (c ∷ t) ≡ Some (record { handle = handle; suffix = suffix })
-      → after (behind_name p name (33 ∷ c ∷ (t ++ rest)) (further (length name) (past p))) (λ r. tag_end flow p r) ≡ Ok (behind_tag p (33 ∷ (name ++ 33 ∷ c ∷ t)) rest handle suffix)
+      → and_then (behind_name p name (33 ∷ c ∷ (t ++ rest)) (further (length name) (past p))) (λ r. tag_end flow p r) ≡ Ok (behind_tag p (33 ∷ (name ++ 33 ∷ c ∷ t)) rest handle suffix)
   unfolding named
   named_read name c t h =
       let k : OfClass classes.is_tag (c ∷ t) handle suffix (codes "!" ++ name ++ codes "!") = of_class classes.is_tag (c ∷ t) handle suffix (codes "!" ++ name ++ codes "!") h in
       let ends : begins_in classes.is_tag rest ≡ false = inner_ends classes.is_tag tag_inner flow rest follows in
       let some : is_nil suffix ≡ false = decoded_some c t suffix k.means in
-      let q : Place = further (length (c ∷ t)) (past (further (length name) (past p))) in
-      ap (λ x. after (after x (λ r. some_suffix p name r)) (λ r. tag_end flow p r)) (suffix_of p (past (further (length name) (past p))) (c ∷ t) rest [] suffix k.all ends k.means)
+      let q : Position = further (length (c ∷ t)) (past (further (length name) (past p))) in
+      ap (λ x. and_then (and_then x (λ r. some_suffix p name r)) (λ r. tag_end flow p r)) (suffix_of p (past (further (length name) (past p))) (c ∷ t) rest [] suffix k.all ends k.means)
       ∙ rw some (ends_here flow p q rest ((33 ∷ name) ++ 33 ∷ []) suffix follows)
       ∙ ap (λ z. Ok (read_tag rest z ((33 ∷ name) ++ 33 ∷ []) suffix)) (named_place p (length name) (length (c ∷ t)) (length (name ++ 33 ∷ c ∷ t)) (length-append name (33 ∷ c ∷ t)))
       ∙ ap (λ z. Ok (read_tag rest (further (suc (length (name ++ 33 ∷ c ∷ t))) p) z suffix)) (sym k.same)
 
   -- behind a name and no mark
   local_read : (name m : List ℕ) → all_of classes.is_alpha name ≡ true → defs.begins_with_mark m ≡ false → is_nil (name ++ m) ≡ false → tag_of_class classes.is_tag (codes "!") (name ++ m) ≡ Some (record { handle = handle; suffix = suffix })
-      → after (behind_name p name (m ++ rest) (further (length name) (past p))) (λ r. tag_end flow p r) ≡ Ok (behind_tag p (33 ∷ (name ++ m)) rest handle suffix)
+      → and_then (behind_name p name (m ++ rest) (further (length name) (past p))) (λ r. tag_end flow p r) ≡ Ok (behind_tag p (33 ∷ (name ++ m)) rest handle suffix)
   local_read name m all unmarked some h =
       let k : OfClass classes.is_tag (name ++ m) handle suffix (codes "!") = of_class classes.is_tag (name ++ m) handle suffix (codes "!") h in
       let ends : begins_in classes.is_tag rest ≡ false = inner_ends classes.is_tag tag_inner flow rest follows in
@@ -190,14 +190,14 @@ module _ (flow : Bool) (rest handle suffix : List ℕ) (p : Place) (follows : ma
       tags_behind (c ∷ a) b h = tags_behind a b (and_parts (classes.is_tag c) (all_of classes.is_tag (a ++ b)) h).1
 
       by : OfClass classes.is_tag (name ++ m) handle suffix (codes "!") → begins_in classes.is_tag rest ≡ false → (d : Result (List ℕ) UriFault) → decoded m ≡ d
-          → after (behind_name p name (m ++ rest) (further (length name) (past p))) (λ r. tag_end flow p r) ≡ Ok (behind_tag p (33 ∷ (name ++ m)) rest handle suffix)
+          → and_then (behind_name p name (m ++ rest) (further (length name) (past p))) (λ r. tag_end flow p r) ≡ Ok (behind_tag p (33 ∷ (name ++ m)) rest handle suffix)
       by k ends (Err f) e = absurd (cc (k.means, word_fails name m f all e))
       by k ends (Ok cs) e =
           let whole : name ++ cs ≡ suffix = some_text (sym (decoded_word name m cs all e) ∙ k.means) in
           let full : is_nil (name ++ cs) ≡ false = still_some name m cs some e in
-          let q : Place = further (length m) (further (length name) (past p)) in
+          let q : Position = further (length m) (further (length name) (past p)) in
           rw (no_mark_here m unmarked) (
-          ap (λ x. after (after x (λ r. Ok (local r))) (λ r. tag_end flow p r)) (suffix_of p (further (length name) (past p)) m rest name cs (tags_behind name m k.all) ends e)
+          ap (λ x. and_then (and_then x (λ r. Ok (local r))) (λ r. tag_end flow p r)) (suffix_of p (further (length name) (past p)) m rest name cs (tags_behind name m k.all) ends e)
           ∙ rw full (ends_here flow p q rest (33 ∷ []) (name ++ cs) follows)
           ∙ ap (λ z. Ok (read_tag rest z (33 ∷ []) (name ++ cs))) (local_place p (length name) (length m) (length (name ++ m)) (length-append name m))
           ∙ ap (λ z. Ok (read_tag rest (further (suc (length (name ++ m))) p) (33 ∷ []) z)) whole
@@ -205,7 +205,7 @@ module _ (flow : Bool) (rest handle suffix : List ℕ) (p : Place) (follows : ma
 
   -- a text that begins no verbatim tag
   shorthand_here : (a : List ℕ) → (slice_index (a ++ rest) 0 == 60) ≡ false → tag flow (33 ∷ (a ++ rest)) p
-      ≡ after (behind_name p (leading classes.is_alpha a) (behind classes.is_alpha a ++ rest) (further (length (leading classes.is_alpha a)) (past p))) (λ r. tag_end flow p r)
+      ≡ and_then (behind_name p (leading classes.is_alpha a) (behind classes.is_alpha a ++ rest) (further (length (leading classes.is_alpha a)) (past p))) (λ r. tag_end flow p r)
   unfolding tag shorthand
   shorthand_here a e =
       let z = before_end classes.is_alpha a rest (inner_ends classes.is_alpha alpha_inner flow rest follows) in
@@ -221,7 +221,7 @@ module _ (flow : Bool) (rest handle suffix : List ℕ) (p : Place) (follows : ma
       whole m e = span_cut classes.is_alpha (c ∷ t) ∙ ap (λ r. name ++ r) e
 
       read_on : List ℕ → Result (Read Tag) Fault
-      read_on m = after (behind_name p name (m ++ rest) (further (length name) (past p))) (λ r. tag_end flow p r)
+      read_on m = and_then (behind_name p name (m ++ rest) (further (length name) (past p))) (λ r. tag_end flow p r)
 
       in_piece : (m : List ℕ) → behind classes.is_alpha (c ∷ t) ≡ m → read_on m ≡ Ok (behind_tag p (33 ∷ (name ++ m)) rest handle suffix) → read_on m ≡ Ok (behind_tag p (33 ∷ c ∷ t) rest handle suffix)
       in_piece m e k = k ∙ ap (λ l. Ok (behind_tag p (33 ∷ l) rest handle suffix)) (sym (whole m e))
@@ -253,12 +253,12 @@ empty_tag handle suffix e =
     (ap (λ (g : defs.Tag). g.handle) same, ap (λ (g : defs.Tag). g.suffix) same)
 
 -- the mark alone
-mark_read : (flow : Bool) (rest : List ℕ) (p : Place) → may_follow flow rest ≡ true → tag flow (33 ∷ rest) p ≡ Ok (behind_tag p (33 ∷ []) rest [] (codes "!"))
+mark_read : (flow : Bool) (rest : List ℕ) (p : Position) → may_follow flow rest ≡ true → tag flow (33 ∷ rest) p ≡ Ok (behind_tag p (33 ∷ []) rest [] (codes "!"))
 mark_read flow rest p follows =
-    let q : Place = further 0 (past p) in
+    let q : Position = further 0 (past p) in
     shorthand_here flow rest [] (codes "!") p follows [] (mark_inner 60 angle_inner flow rest follows refl)
     ∙ rw (mark_inner 33 exclamation_inner flow rest follows refl) (
-    ap (λ x. after (after x (λ r. Ok (local r))) (λ r. tag_end flow p r)) (suffix_of p q [] rest [] [] refl (inner_ends classes.is_tag tag_inner flow rest follows) refl)
+    ap (λ x. and_then (and_then x (λ r. Ok (local r))) (λ r. tag_end flow p r)) (suffix_of p q [] rest [] [] refl (inner_ends classes.is_tag tag_inner flow rest follows) refl)
     ∙ ends_here flow p (further 0 q) rest [] (codes "!") follows ∙ ap (λ z. Ok (read_tag rest z [] (codes "!"))) (local_place p 0 0 0 refl))
 
 pub tags_are_read : TagsAreRead

@@ -2,7 +2,7 @@
 use Rattle.std.proofs.Common.{◌≡◌, ℕ, suc, ◌+◌, List, [], ◌∷◌, ◌++◌, Bool, true, false, ◌||◌, ◌==◌, if◌then◌else◌, Some, Result, Ok, Err, refl, ap, sym, ◌∙◌, arith, append_assoc, append-nil, length, length-append, slice_index, codes}
 use Rattle.std.proofs.lemmas.Bool.{and_parts, eqb-true}
 use Rattle.std.proofs.lemmas.Bool.Decides.{nat_tests}
-use Rattle.defs_text.specs.Position.{Place}
+use Rattle.defs_text.specs.Position.{Position}
 use Rattle.yaml_chars.specs.Class.{is_alphanumeric, is_alpha, is_blank, is_break, is_blank_or_breakz, is_flow, is_uri, is_uri_mark, is_tag}
 use Rattle.defs_text.specs.Text.{is_nil}
 use Rattle.yaml_tokens.specs.declared.problem.Fault.{Fault}
@@ -12,7 +12,7 @@ use Rattle.defs_text.specs.Classes as classes
 use Rattle.defs_text.specs.Classes.{is_at_gap}
 use Rattle.defs_scalar.specs.Tags as defs
 use Rattle.defs_scalar.specs.Tags.{UriFault, all_of, leading, behind, is_same, decoded, decoded_behind, uri_character, put_code, tag_by, tag_of_class, written_tag}
-use Rattle.model_lexers.specs.Machine.{Read, past, after, take_while}
+use Rattle.model_lexers.specs.Machine.{Read, past, and_then, take_while}
 use Rattle.model_lexers.specs.Uri.{uri}
 use Rattle.model_lexers.specs.Tag.{Tag, read_tag, verbatim_end, verbatim, some_suffix, named, local, behind_name, shorthand, ends_tag, tag_end, tag}
 use Rattle.proof_lexers.proofs.Bridges.{same_gap, same_flow, same_alpha, same_tag}
@@ -65,7 +65,7 @@ module _ (class : ℕ → Bool) where
       let z = leading_all l r q.1 e in
       (rw q.0 (ap (λ k. c ∷ k) z.0), rw q.0 z.1)
 
-pub word : (a : List ℕ) (p : Place) (t : List ℕ) → take_while is_alpha a p t ≡ record { rest = behind classes.is_alpha a; place = further (length (leading classes.is_alpha a)) p; value = t ++ leading classes.is_alpha a }
+pub word : (a : List ℕ) (p : Position) (t : List ℕ) → take_while is_alpha a p t ≡ record { rest = behind classes.is_alpha a; place = further (length (leading classes.is_alpha a)) p; value = t ++ leading classes.is_alpha a }
 word [] p t = rw (none_further p, append-nil) refl
 word (c ∷ a) p t = by (is_alpha c) refl (word a (past p) (t ++ c ∷ []))
   where
@@ -85,13 +85,13 @@ unfolding ends_tag
 same_end flow [] = rw end_is_a_gap refl
 same_end flow (d ∷ r) = rw (same_gap d, same_flow d) refl
 
-module _ (flow : Bool) (start : Place) (text : List ℕ) where
+module _ (flow : Bool) (start : Position) (text : List ℕ) where
   ends_on : (x y : Result (Read Tag) Fault) → x ≡ y → EndsAs flow start text y → EndsAs flow start text x
   ends_on x y e (reads piece rest handle suffix cut is follows k) = reads piece rest handle suffix cut is follows (e ∙ k)
   ends_on x y e (refuses why reason k) = refuses why reason (e ∙ k)
 
   -- a tag that stands there
-  ended : (piece rest handle suffix : List ℕ) (p : Place) → text ≡ piece ++ rest → written_tag (33 ∷ piece) ≡ Some (record { handle = handle; suffix = suffix }) → p ≡ further (length (33 ∷ piece)) start
+  ended : (piece rest handle suffix : List ℕ) (p : Position) → text ≡ piece ++ rest → written_tag (33 ∷ piece) ≡ Some (record { handle = handle; suffix = suffix }) → p ≡ further (length (33 ∷ piece)) start
       → EndsAs flow start text (tag_end flow start (read_tag rest p handle suffix))
   ended piece rest handle suffix p cut is place = by (may_follow flow rest) refl
     where
@@ -112,22 +112,22 @@ close_is_no_uri = refl
 verbatim_written : (l cs : List ℕ) → all_of classes.is_uri l ≡ true → decoded l ≡ Ok cs → written_tag (33 ∷ 60 ∷ (l ++ 62 ∷ [])) ≡ Some (record { handle = []; suffix = cs })
 verbatim_written l cs all is = let z = leading_all classes.is_uri l (62 ∷ []) all close_is_no_uri in rw (z.1, z.0, all, is) refl
 
-pub closed_place : (p : Place) (n m : ℕ) → m ≡ n + 1 → past (further n (past (past p))) ≡ further (suc (suc m)) p
+pub closed_place : (p : Position) (n m : ℕ) → m ≡ n + 1 → past (further n (past (past p))) ≡ further (suc (suc m)) p
 closed_place p n m e =
     let i : ((p.index + 1) + 1) + n + 1 ≡ p.index + suc (suc m) = omega (arith, e) in
     let j : ((p.col + 1) + 1) + n + 1 ≡ p.col + suc (suc m) = omega (arith, e) in
     rw (i, j) refl
 
-module _ (flow : Bool) (start : Place) (b : List ℕ) where
+module _ (flow : Bool) (start : Position) (b : List ℕ) where
   abbrev written : List ℕ
   written = leading classes.is_uri b
 
   closing : (cs : List ℕ) (r : List ℕ) → decoded written ≡ Ok cs → behind classes.is_uri b ≡ r
-      → EndsAs flow start (60 ∷ b) (after (verbatim_end start cs r (further (length written) (past (past start)))) (λ t. tag_end flow start t))
+      → EndsAs flow start (60 ∷ b) (and_then (verbatim_end start cs r (further (length written) (past (past start)))) (λ t. tag_end flow start t))
   closing cs [] is e = refuses problem.VerbatimTagEnd (unclosed written [] (ap (λ k. 60 ∷ k) (span_cut classes.is_uri b ∙ ap (λ k. written ++ k) e)) (all_leading classes.is_uri b) refl) refl
   closing cs (c ∷ r) is e = by (c == 62) refl
     where
-      by : (closes : Bool) → (c == 62) ≡ closes → EndsAs flow start (60 ∷ b) (after (verbatim_end start cs (c ∷ r) (further (length written) (past (past start)))) (λ t. tag_end flow start t))
+      by : (closes : Bool) → (c == 62) ≡ closes → EndsAs flow start (60 ∷ b) (and_then (verbatim_end start cs (c ∷ r) (further (length written) (past (past start)))) (λ t. tag_end flow start t))
       by true f =
           let same : c ≡ 62 = eqb-true c 62 f in
           let cut : b ≡ (written ++ 62 ∷ []) ++ r = span_cut classes.is_uri b ∙ ap (λ k. written ++ k) (e ∙ ap (λ d. d ∷ r) same) ∙ sym (append_assoc written (62 ∷ []) r) in
@@ -135,7 +135,7 @@ module _ (flow : Bool) (start : Place) (b : List ℕ) where
       by false f = refuses problem.VerbatimTagEnd (unclosed written (c ∷ r) (ap (λ k. 60 ∷ k) (span_cut classes.is_uri b ∙ ap (λ k. written ++ k) e)) (all_leading classes.is_uri b) f) (rw f refl)
 
   verbatim_by : (d : Result (List ℕ) UriFault) → decoded written ≡ d
-      → EndsAs flow start (60 ∷ b) (after (after (behind_class classes.is_uri start (past (past start)) b [] d) (λ (r : Read (List ℕ)). verbatim_end start r.value r.rest r.place)) (λ t. tag_end flow start t))
+      → EndsAs flow start (60 ∷ b) (and_then (and_then (behind_class classes.is_uri start (past (past start)) b [] d) (λ (r : Read (List ℕ)). verbatim_end start r.value r.rest r.place)) (λ t. tag_end flow start t))
   verbatim_by (Err f) e = bad_octets flow start (60 ∷ b) (60 ∷ []) written (behind classes.is_uri b) f _ (ap (λ k. 60 ∷ k) (span_cut classes.is_uri b)) e refl
   verbatim_by (Ok cs) e = closing cs (behind classes.is_uri b) e refl
 
@@ -271,22 +271,22 @@ still_no_word (c ∷ m) h = by (classes.is_tag c)
     by true = h
     by false = refl
 
-pub local_place : (p : Place) (n m k : ℕ) → k ≡ n + m → further m (further n (past p)) ≡ further (suc k) p
+pub local_place : (p : Position) (n m k : ℕ) → k ≡ n + m → further m (further n (past p)) ≡ further (suc k) p
 local_place p n m k e =
     let i : ((p.index + 1) + n) + m ≡ p.index + suc k = omega (arith, e) in
     let j : ((p.col + 1) + n) + m ≡ p.col + suc k = omega (arith, e) in
     rw (i, j) refl
 
-pub named_place : (p : Place) (n m k : ℕ) → k ≡ n + suc m → further m (past (further n (past p))) ≡ further (suc k) p
+pub named_place : (p : Position) (n m k : ℕ) → k ≡ n + suc m → further m (past (further n (past p))) ≡ further (suc k) p
 named_place p n m k e =
     let i : (((p.index + 1) + n) + 1) + m ≡ p.index + suc k = omega (arith, e) in
     let j : (((p.col + 1) + n) + 1) + m ≡ p.col + suc k = omega (arith, e) in
     rw (i, j) refl
 
-module _ (flow : Bool) (start : Place) (text name : List ℕ) (all : all_of classes.is_alpha name ≡ true) where
+module _ (flow : Bool) (start : Position) (text name : List ℕ) (all : all_of classes.is_alpha name ≡ true) where
   -- behind a name and a second mark
   suffix_by : (s l rest : List ℕ) (d : Result (List ℕ) UriFault) → text ≡ name ++ 33 ∷ (l ++ rest) → leading classes.is_tag s ≡ l → s ≡ l ++ rest → behind classes.is_tag s ≡ rest → decoded l ≡ d
-      → EndsAs flow start text (after (after (behind_class classes.is_tag start (past (further (length name) (past start))) s [] d) (λ r. some_suffix start name r)) (λ t. tag_end flow start t))
+      → EndsAs flow start text (and_then (and_then (behind_class classes.is_tag start (past (further (length name) (past start))) s [] d) (λ r. some_suffix start name r)) (λ t. tag_end flow start t))
   suffix_by s l rest (Err f) cut lead same b e =
       bad_octets flow start text (name ++ 33 ∷ []) l rest f _ (cut ∙ sym (append_assoc name (33 ∷ []) (l ++ rest))) e refl
   suffix_by s [] rest (Ok cs) cut lead same b e =
@@ -300,7 +300,7 @@ module _ (flow : Bool) (start : Place) (text name : List ℕ) (all : all_of clas
 
   -- behind a word and no mark
   local_by : (m l rest : List ℕ) (d : Result (List ℕ) UriFault) → text ≡ name ++ (l ++ rest) → begins_in classes.is_alpha l ≡ false → leading classes.is_tag m ≡ l → behind classes.is_tag m ≡ rest → decoded l ≡ d
-      → EndsAs flow start text (after (after (behind_class classes.is_tag start (further (length name) (past start)) m name d) (λ r. Ok (local r))) (λ t. tag_end flow start t))
+      → EndsAs flow start text (and_then (and_then (behind_class classes.is_tag start (further (length name) (past start)) m name d) (λ r. Ok (local r))) (λ t. tag_end flow start t))
   local_by m l rest (Err f) cut begins lead b e = bad_octets flow start text name l rest f _ cut e refl
   local_by m l rest (Ok cs) cut begins lead b e = by (is_nil (name ++ l)) refl
     where
@@ -317,34 +317,34 @@ module _ (flow : Bool) (start : Place) (text name : List ℕ) (all : all_of clas
           rw (some, b, lead) (ended flow start text (name ++ l) rest (33 ∷ []) (name ++ cs) _ (cut ∙ sym (append_assoc name l rest)) (local_written name l cs all tags begins e f)
           (local_place start (length name) (length l) (length (name ++ l)) (length-append name l)))
 
-  from_mark : (s : List ℕ) → text ≡ name ++ 33 ∷ s → EndsAs flow start text (after (behind_name start name (33 ∷ s) (further (length name) (past start))) (λ t. tag_end flow start t))
+  from_mark : (s : List ℕ) → text ≡ name ++ 33 ∷ s → EndsAs flow start text (and_then (behind_name start name (33 ∷ s) (further (length name) (past start))) (λ t. tag_end flow start t))
   unfolding named
   from_mark s cut =
       rw ((uris_are_read start s (past (further (length name) (past start))) []).1)
       (suffix_by s (leading classes.is_tag s) (behind classes.is_tag s) (decoded (leading classes.is_tag s)) (cut ∙ ap (λ r. name ++ 33 ∷ r) (span_cut classes.is_tag s)) refl (span_cut classes.is_tag s) refl refl)
 
-  from_word : (m : List ℕ) → text ≡ name ++ m → begins_in classes.is_alpha m ≡ false → (slice_index m 0 == 33) ≡ false → EndsAs flow start text (after (behind_name start name m (further (length name) (past start))) (λ t. tag_end flow start t))
+  from_word : (m : List ℕ) → text ≡ name ++ m → begins_in classes.is_alpha m ≡ false → (slice_index m 0 == 33) ≡ false → EndsAs flow start text (and_then (behind_name start name m (further (length name) (past start))) (λ t. tag_end flow start t))
   from_word m cut begins unmarked =
       rw (unmarked, (uris_are_read start m (further (length name) (past start)) name).1)
       (local_by m (leading classes.is_tag m) (behind classes.is_tag m) (decoded (leading classes.is_tag m)) (cut ∙ ap (λ r. name ++ r) (span_cut classes.is_tag m)) (still_no_word m begins) refl refl refl)
 
-shorthand_from : (flow : Bool) (start : Place) (a m : List ℕ) → behind classes.is_alpha a ≡ m
-    → EndsAs flow start a (after (behind_name start (leading classes.is_alpha a) m (further (length (leading classes.is_alpha a)) (past start))) (λ t. tag_end flow start t))
+shorthand_from : (flow : Bool) (start : Position) (a m : List ℕ) → behind classes.is_alpha a ≡ m
+    → EndsAs flow start a (and_then (behind_name start (leading classes.is_alpha a) m (further (length (leading classes.is_alpha a)) (past start))) (λ t. tag_end flow start t))
 shorthand_from flow start a [] e = from_word flow start a (leading classes.is_alpha a) (all_leading classes.is_alpha a) [] (span_cut classes.is_alpha a ∙ ap (λ r. leading classes.is_alpha a ++ r) e) refl refl
 shorthand_from flow start a (c ∷ s) e = by (c == 33) refl
   where
     cut : a ≡ leading classes.is_alpha a ++ c ∷ s
     cut = span_cut classes.is_alpha a ∙ ap (λ r. leading classes.is_alpha a ++ r) e
 
-    by : (marked : Bool) → (c == 33) ≡ marked → EndsAs flow start a (after (behind_name start (leading classes.is_alpha a) (c ∷ s) (further (length (leading classes.is_alpha a)) (past start))) (λ t. tag_end flow start t))
+    by : (marked : Bool) → (c == 33) ≡ marked → EndsAs flow start a (and_then (behind_name start (leading classes.is_alpha a) (c ∷ s) (further (length (leading classes.is_alpha a)) (past start))) (λ t. tag_end flow start t))
     by true f = let same : c ≡ 33 = eqb-true c 33 f in rw same (from_mark flow start a (leading classes.is_alpha a) (all_leading classes.is_alpha a) s (cut ∙ ap (λ d. leading classes.is_alpha a ++ d ∷ s) same))
     by false f = from_word flow start a (leading classes.is_alpha a) (all_leading classes.is_alpha a) (c ∷ s) cut (ap (begins_in classes.is_alpha) (sym e) ∙ ends_behind classes.is_alpha a) f
 
-shorthands : (flow : Bool) (start : Place) (a : List ℕ) → (slice_index a 0 == 60) ≡ false → EndsAs flow start a (tag flow (33 ∷ a) start)
+shorthands : (flow : Bool) (start : Position) (a : List ℕ) → (slice_index a 0 == 60) ≡ false → EndsAs flow start a (tag flow (33 ∷ a) start)
 unfolding tag shorthand
 shorthands flow start a e = rw (e, word a (past start) []) (shorthand_from flow start a (behind classes.is_alpha a) refl)
 
-tags_by : (flow : Bool) (start : Place) (c : ℕ) (b : List ℕ) (opens : Bool) → (c == 60) ≡ opens → EndsAs flow start (c ∷ b) (tag flow (33 ∷ c ∷ b) start)
+tags_by : (flow : Bool) (start : Position) (c : ℕ) (b : List ℕ) (opens : Bool) → (c == 60) ≡ opens → EndsAs flow start (c ∷ b) (tag flow (33 ∷ c ∷ b) start)
 tags_by flow start c b true e = let same : c ≡ 60 = eqb-true c 60 e in rw same (verbatims flow start b)
 tags_by flow start c b false e = shorthands flow start (c ∷ b) e
 

@@ -3,7 +3,7 @@ use Rattle.std.proofs.Common.{◌≡◌, ℕ, zero, suc, ◌+◌, ◌-◌, ◌*�
 use Rattle.std.specs.Char.{digit_value, is_digit}
 use Rattle.std.proofs.lemmas.Bool.{eqb-true}
 use Rattle.std.proofs.lemmas.Bool.Decides.{nat_tests}
-use Rattle.defs_text.specs.Position.{Place}
+use Rattle.defs_text.specs.Position.{Position}
 use Rattle.yaml_chars.specs.Class.{is_hex, is_flow, is_alphanumeric, is_uri_mark, is_uri, is_tag}
 use Rattle.yaml_tokens.specs.declared.problem.Fault.{Fault}
 use Rattle.yaml_tokens.specs.declared.problem.Fault.TheVariants.{At}
@@ -12,7 +12,7 @@ use Rattle.defs_text.specs.Classes as classes
 use Rattle.defs_text.specs.Classes.{is_between}
 use Rattle.defs_scalar.specs.FlowScalar.{is_character_code}
 use Rattle.defs_scalar.specs.Tags.{leading, behind, UriFault, wrong_trail, no_character, octet_at, Lead, lead_of, is_trail, trail_by, trails, checked, led_by, escaped_character, uri_character, put_code, code_followed, decoded_behind, decoded}
-use Rattle.model_lexers.specs.Machine.{Read, past, after}
+use Rattle.model_lexers.specs.Machine.{Read, past, and_then}
 use Rattle.model_lexers.specs.Uri.{Octet, lead, trail, plain, high, State, at_trail, at_octet, uri_from, octet_from, trails_from}
 use Rattle.model_lexers.proofs.UriLemmas.{low_turn}
 use Rattle.proof_lexers.proofs.Bridges.{same_digit, same_code, same_uri, same_tag, both}
@@ -24,7 +24,7 @@ use Rattle.proof_lexers.proofs.Properties.Names.{one_further, none_further}
 -- ---- octets
 
 -- where a first octet leads
-abbrev lead_to : Place → Place → List ℕ → Option Lead → Result State Fault
+abbrev lead_to : Position → Position → List ℕ → Option Lead → Result State Fault
 lead_to start p t None = Err (At problem.TagLeadingOctet start)
 lead_to start p t (Some l) = at_trail start l.further l.bits l.least p t
 
@@ -44,7 +44,7 @@ same_trail : (n : ℕ) → (nat_le 128 n && nat_lt n 192) ≡ is_trail n
 unfolding is_trail
 same_trail n = both _ _ (λ h. grind (arith, nat_tests)) (λ h. grind (arith, nat_tests))
 
-same_lead : (start p : Place) (n : ℕ) (t : List ℕ) → at_octet start lead n p t ≡ lead_to start p t (lead_of n)
+same_lead : (start p : Position) (n : ℕ) (t : List ℕ) → at_octet start lead n p t ≡ lead_to start p t (lead_of n)
 unfolding lead_of
 same_lead start p n t = rw (same_one n, same_two n, same_three n, same_four n) (by (is_between 0x00 0x7F n) (is_between 0xC0 0xDF n) (is_between 0xE0 0xEF n) (is_between 0xF0 0xF7 n))
   where
@@ -84,24 +84,24 @@ is_completed l (Ok code) x y r = by (nat_le l.least code && is_character_code co
 
 -- ---- the scan
 
-module _ (test class : ℕ → Bool) (start : Place) (same : (c : ℕ) → class c ≡ test c) (percents : test 37 ≡ true) (digits : (c : ℕ) → is_digit c 16 ≡ true → test c ≡ true) where
-  abbrev scan : List ℕ → Place → List ℕ → Result (Read (List ℕ)) Fault
+module _ (test class : ℕ → Bool) (start : Position) (same : (c : ℕ) → class c ≡ test c) (percents : test 37 ≡ true) (digits : (c : ℕ) → is_digit c 16 ≡ true → test c ≡ true) where
+  abbrev scan : List ℕ → Position → List ℕ → Result (Read (List ℕ)) Fault
   scan a p t = uri_from test start a (record { mode = plain; place = p; text = t })
 
-  abbrev answer : List ℕ → Place → List ℕ → Result (List ℕ) UriFault → Result (Read (List ℕ)) Fault
+  abbrev answer : List ℕ → Position → List ℕ → Result (List ℕ) UriFault → Result (Read (List ℕ)) Fault
   answer a p t d = behind_class class start p a t d
 
   -- one character of the class more
-  more : (c : ℕ) (a : List ℕ) (p : Place) (t : List ℕ) (d : Result (List ℕ) UriFault) → class c ≡ true → answer a (past p) t d ≡ answer (c ∷ a) p t d
+  more : (c : ℕ) (a : List ℕ) (p : Position) (t : List ℕ) (d : Result (List ℕ) UriFault) → class c ≡ true → answer a (past p) t d ≡ answer (c ∷ a) p t d
   more c a p t (Ok cs) e = rw e (ap (λ q. Ok (record { rest = behind class a; place = q; value = t ++ cs })) (one_further p (length (leading class a))))
   more c a p t (Err f) e = refl
 
-  with_code : (c : ℕ) (a : List ℕ) (p : Place) (t : List ℕ) (d : Result (List ℕ) UriFault) → answer a p (t ++ c ∷ []) d ≡ answer a p t (put_code c d)
+  with_code : (c : ℕ) (a : List ℕ) (p : Position) (t : List ℕ) (d : Result (List ℕ) UriFault) → answer a p (t ++ c ∷ []) d ≡ answer a p t (put_code c d)
   with_code c a p t (Ok cs) = rw (append_assoc) refl
   with_code c a p t (Err f) = refl
 
   -- Behind a percent sign two digits are an octet, or the text is refused.
-  data Octets (o : Octet) (a : List ℕ) (p : Place) (t : List ℕ) : Type 0 where
+  data Octets (o : Octet) (a : List ℕ) (p : Position) (t : List ℕ) : Type 0 where
     octet : (x y n : ℕ) (b : List ℕ) → a ≡ x ∷ y ∷ b → class x ≡ true → class y ≡ true → octet_at (37 ∷ leading class a) ≡ Some n
         → uri_from test start a (record { mode = high o; place = p; text = t }) ≡ octet_from test start o n b (past (past p)) t → Octets o a p t
     no_octets : octet_at (37 ∷ leading class a) ≡ None → uri_from test start a (record { mode = high o; place = p; text = t }) ≡ Err (At problem.TagOctet start) → Octets o a p t
@@ -132,7 +132,7 @@ module _ (test class : ℕ → Bool) (start : Place) (same : (c : ℕ) → class
   unfolding octet_at
   nothing = refl
 
-  second_octet : (o : Octet) (x : ℕ) (r : List ℕ) (p : Place) (t : List ℕ) → is_digit x 16 ≡ true → class x ≡ true → is_hex x ≡ true → Octets o (x ∷ r) p t
+  second_octet : (o : Octet) (x : ℕ) (r : List ℕ) (p : Position) (t : List ℕ) → is_digit x 16 ≡ true → class x ≡ true → is_hex x ≡ true → Octets o (x ∷ r) p t
   second_octet o x [] p t e f g = no_octets (rw f (lone x)) (rw g refl)
   second_octet o x (y ∷ b) p t e f g = by (is_digit y 16) refl
     where
@@ -145,7 +145,7 @@ module _ (test class : ℕ → Bool) (start : Place) (same : (c : ℕ) → class
           let no_hex : is_hex y ≡ false = same_digit y ∙ h in
           no_octets (rw f (second_by (class y) x y (leading class b) e h)) (rw (g, no_hex) refl)
 
-  octets_at : (o : Octet) (a : List ℕ) (p : Place) (t : List ℕ) → Octets o a p t
+  octets_at : (o : Octet) (a : List ℕ) (p : Position) (t : List ℕ) → Octets o a p t
   octets_at o [] p t = no_octets nothing refl
   octets_at o (x ∷ r) p t = by (is_digit x 16) refl
     where
@@ -154,21 +154,21 @@ module _ (test class : ℕ → Bool) (start : Place) (same : (c : ℕ) → class
       by false e = let no_hex : is_hex x ≡ false = same_digit x ∙ e in no_octets (none_by (class x) x (leading class r) e) (rw no_hex refl)
 
   abbrev Plain : List ℕ → Type 0
-  Plain a = (p : Place) (t : List ℕ) → scan a p t ≡ answer a p t (decoded (leading class a))
+  Plain a = (p : Position) (t : List ℕ) → scan a p t ≡ answer a p t (decoded (leading class a))
 
   -- three characters of the class more
-  three_more : (x y : ℕ) (b : List ℕ) (p : Place) (t : List ℕ) (d : Result (List ℕ) UriFault) → class x ≡ true → class y ≡ true → answer b (past (past (past p))) t d ≡ answer (37 ∷ x ∷ y ∷ b) p t d
+  three_more : (x y : ℕ) (b : List ℕ) (p : Position) (t : List ℕ) (d : Result (List ℕ) UriFault) → class x ≡ true → class y ≡ true → answer b (past (past (past p))) t d ≡ answer (37 ∷ x ∷ y ∷ b) p t d
   three_more x y b p t d e f = more y b (past (past p)) t d f ∙ more x (y ∷ b) (past p) t d e ∙ more 37 (x ∷ y ∷ b) p t d (same 37 ∙ percents)
 
   abbrev Trails : ℕ → Type 0
-  Trails left = (code least : ℕ) (a : List ℕ) (p : Place) (t : List ℕ) → ((n : ℕ) → Plain (drop n a))
+  Trails left = (code least : ℕ) (a : List ℕ) (p : Position) (t : List ℕ) → ((n : ℕ) → Plain (drop n a))
       → trails_from test start left code least a p t ≡ answer a p t (completed least (trails left code (leading class a)) (decoded_behind 0 (drop (3 * left) (leading class a))))
 
   -- a code that is completed
-  whole_code : (code least : ℕ) (a : List ℕ) (p : Place) (t : List ℕ) → Plain a → trails_from test start 0 code least a p t ≡ answer a p t (completed least (Ok code) (decoded (leading class a)))
+  whole_code : (code least : ℕ) (a : List ℕ) (p : Position) (t : List ℕ) → Plain a → trails_from test start 0 code least a p t ≡ answer a p t (completed least (Ok code) (decoded (leading class a)))
   whole_code code least a p t here = rw (same_code code) (by (nat_le least code && is_character_code code))
     where
-      by : (b : Bool) → after (if b then Ok (record { mode = plain; place = p; text = t ++ code ∷ [] }) else Err (At problem.TagCodepoint start)) (λ s. uri_from test start a s)
+      by : (b : Bool) → and_then (if b then Ok (record { mode = plain; place = p; text = t ++ code ∷ [] }) else Err (At problem.TagCodepoint start)) (λ s. uri_from test start a s)
           ≡ answer a p t (if b then put_code code (decoded (leading class a)) else Err no_character)
       by true = here p (t ++ code ∷ []) ∙ with_code code a p t (decoded (leading class a))
       by false = refl
@@ -177,12 +177,12 @@ module _ (test class : ℕ → Bool) (start : Place) (same : (c : ℕ) → class
   three_off left x y z l = let e : 3 * suc left ≡ suc (suc (suc (3 * left))) = omega arith in rw e refl
 
   -- an octet more of a code
-  next_octet : (left code least x y n : ℕ) (b : List ℕ) (p : Place) (t : List ℕ) → Trails left → ((k : ℕ) → Plain (drop k b)) → class x ≡ true → class y ≡ true → octet_at (37 ∷ x ∷ y ∷ leading class b) ≡ Some n
+  next_octet : (left code least x y n : ℕ) (b : List ℕ) (p : Position) (t : List ℕ) → Trails left → ((k : ℕ) → Plain (drop k b)) → class x ≡ true → class y ≡ true → octet_at (37 ∷ x ∷ y ∷ leading class b) ≡ Some n
       → octet_from test start (trail left code least) n b (past (past (past p))) t
       ≡ answer (37 ∷ x ∷ y ∷ b) p t (completed least (trail_by (octet_at (37 ∷ x ∷ y ∷ leading class b)) code (λ k. trails left k (leading class b))) (decoded_behind 0 (drop (3 * left) (leading class b))))
   next_octet left code least x y n b p t others plains e f oc = rw (oc, same_trail n) (by (is_trail n))
     where
-      by : (trails_on : Bool) → after (if trails_on then at_trail start left (code * 64 + (n - 128)) least (past (past (past p))) t else Err (At problem.TagTrailingOctet start)) (λ s. uri_from test start b s)
+      by : (trails_on : Bool) → and_then (if trails_on then at_trail start left (code * 64 + (n - 128)) least (past (past (past p))) t else Err (At problem.TagTrailingOctet start)) (λ s. uri_from test start b s)
           ≡ answer (37 ∷ x ∷ y ∷ b) p t (completed least (if trails_on then trails left (code * 64 + (n - 128)) (leading class b) else Err wrong_trail) (decoded_behind 0 (drop (3 * left) (leading class b))))
       by true = others (code * 64 + (n - 128)) least b (past (past (past p))) t plains ∙ three_more x y b p t _ e f
       by false = refl
@@ -193,7 +193,7 @@ module _ (test class : ℕ → Bool) (start : Place) (same : (c : ℕ) → class
   behind_two : (a b : List ℕ) (x y : ℕ) → a ≡ x ∷ y ∷ b → ((k : ℕ) → Plain (drop k (37 ∷ a))) → (k : ℕ) → Plain (drop k b)
   behind_two a b x y cut plains k = subst (λ (l : List ℕ). Plain (drop (suc (suc k)) l)) cut (plains (suc (suc (suc k))))
 
-  behind_percent : (left code least : ℕ) (a : List ℕ) (p : Place) (t : List ℕ) → Trails left → ((k : ℕ) → Plain (drop k (37 ∷ a))) → Octets (trail left code least) a (past p) t
+  behind_percent : (left code least : ℕ) (a : List ℕ) (p : Position) (t : List ℕ) → Trails left → ((k : ℕ) → Plain (drop k (37 ∷ a))) → Octets (trail left code least) a (past p) t
       → trails_from test start (suc left) code least (37 ∷ a) p t ≡ answer (37 ∷ a) p t (completed least (trails (suc left) code (37 ∷ leading class a)) (decoded_behind 0 (drop (3 * suc left) (37 ∷ leading class a))))
   behind_percent left code least a p t others plains (octet x y n b cut e f oc is) =
       let here = rw cut at is in
@@ -227,12 +227,12 @@ module _ (test class : ℕ → Bool) (start : Place) (same : (c : ℕ) → class
   -- ---- the whole text
 
   -- behind the first octet of a character
-  led : (x y n : ℕ) (b : List ℕ) (p : Place) (t : List ℕ) → ((k : ℕ) → Plain (drop k b)) → class x ≡ true → class y ≡ true → octet_at (37 ∷ x ∷ y ∷ leading class b) ≡ Some n
+  led : (x y n : ℕ) (b : List ℕ) (p : Position) (t : List ℕ) → ((k : ℕ) → Plain (drop k b)) → class x ≡ true → class y ≡ true → octet_at (37 ∷ x ∷ y ∷ leading class b) ≡ Some n
       → octet_from test start lead n b (past (past (past p))) t ≡ answer (37 ∷ x ∷ y ∷ b) p t (decoded (37 ∷ x ∷ y ∷ leading class b))
   unfolding uri_character escaped_character
   led x y n b p t plains e f oc = rw (oc, same_lead start (past (past (past p))) n t) (by (lead_of n))
     where
-      by : (o : Option Lead) → after (lead_to start (past (past (past p))) t o) (λ s. uri_from test start b s)
+      by : (o : Option Lead) → and_then (lead_to start (past (past (past p))) t o) (λ s. uri_from test start b s)
           ≡ answer (37 ∷ x ∷ y ∷ b) p t (code_followed (led_by o (37 ∷ x ∷ y ∷ leading class b)) (λ n. decoded_behind n (x ∷ y ∷ leading class b)))
       by None = refl
       by (Some l) =
@@ -243,7 +243,7 @@ module _ (test class : ℕ → Bool) (start : Place) (same : (c : ℕ) → class
   behind_digits : (a b : List ℕ) (x y : ℕ) → a ≡ x ∷ y ∷ b → ((k : ℕ) → Plain (drop k a)) → (k : ℕ) → Plain (drop k b)
   behind_digits a b x y cut plains k = subst (λ (l : List ℕ). Plain (drop (suc (suc k)) l)) cut (plains (suc (suc k)))
 
-  at_percent : (a : List ℕ) (p : Place) (t : List ℕ) → ((k : ℕ) → Plain (drop k a)) → Octets lead a (past p) t → scan (37 ∷ a) p t ≡ answer (37 ∷ a) p t (decoded (37 ∷ leading class a))
+  at_percent : (a : List ℕ) (p : Position) (t : List ℕ) → ((k : ℕ) → Plain (drop k a)) → Octets lead a (past p) t → scan (37 ∷ a) p t ≡ answer (37 ∷ a) p t (decoded (37 ∷ leading class a))
   unfolding uri_character escaped_character
   at_percent a p t plains (octet x y n b cut e f oc is) =
       let here = rw cut at is in
@@ -253,10 +253,10 @@ module _ (test class : ℕ → Bool) (start : Place) (same : (c : ℕ) → class
   at_percent a p t plains (no_octets oc is) = rw percents (is ∙ rw oc refl)
 
   -- where no character of the class stands
-  nothing_read : (a : List ℕ) (p : Place) (t : List ℕ) → ◌≡◌ {A = Result (Read (List ℕ)) Fault} (Ok (record { rest = a; place = p; value = t })) (Ok (record { rest = a; place = further 0 p; value = t ++ [] }))
+  nothing_read : (a : List ℕ) (p : Position) (t : List ℕ) → ◌≡◌ {A = Result (Read (List ℕ)) Fault} (Ok (record { rest = a; place = p; value = t })) (Ok (record { rest = a; place = further 0 p; value = t ++ [] }))
   nothing_read a p t = rw (none_further p, append-nil) refl
 
-  first_by : (c : ℕ) (a : List ℕ) → ((k : ℕ) → Plain (drop k a)) → (in_class is_escape : Bool) → class c ≡ in_class → (c == 37) ≡ is_escape → (p : Place) (t : List ℕ) → scan (c ∷ a) p t ≡ answer (c ∷ a) p t (decoded (leading class (c ∷ a)))
+  first_by : (c : ℕ) (a : List ℕ) → ((k : ℕ) → Plain (drop k a)) → (in_class is_escape : Bool) → class c ≡ in_class → (c == 37) ≡ is_escape → (p : Position) (t : List ℕ) → scan (c ∷ a) p t ≡ answer (c ∷ a) p t (decoded (leading class (c ∷ a)))
   unfolding uri_character
   first_by c a plains true true e f p t =
       let is_percent : c ≡ 37 = eqb-true c 37 f in
@@ -270,7 +270,7 @@ module _ (test class : ℕ → Bool) (start : Place) (same : (c : ℕ) → class
       let tested : test c ≡ false = sym (same c) ∙ e in
       rw (tested, e, e) (nothing_read (c ∷ a) p t)
 
-  all_read : (n : ℕ) (a : List ℕ) (p : Place) (t : List ℕ) → scan (drop n a) p t ≡ answer (drop n a) p t (decoded (leading class (drop n a)))
+  all_read : (n : ℕ) (a : List ℕ) (p : Position) (t : List ℕ) → scan (drop n a) p t ≡ answer (drop n a) p t (decoded (leading class (drop n a)))
   all_read zero [] p t = nothing_read [] p t
   all_read (suc n) [] p t = nothing_read [] p t
   all_read (suc n) (c ∷ a) p t = all_read n a p t

@@ -1,7 +1,7 @@
 -- The model over the elements of a body, up to its closing quote.
 use Rattle.std.proofs.Common.{◌≡◌, ℕ, zero, suc, ◌+◌, List, [], ◌∷◌, ◌++◌, Bool, true, false, ◌||◌, ◌&&◌, not, ◌==◌, if◌then◌else◌, Option, Some, None, Result, Ok, Err, refl, ap, sym, ◌∙◌, append-nil, nat_lt, slice_index, drop}
 use Rattle.std.proofs.lemmas.Bool.{not-true}
-use Rattle.defs_text.specs.Position.{Place}
+use Rattle.defs_text.specs.Position.{Position}
 use Rattle.yaml_chars.specs.Class.{is_break, is_blank}
 use Rattle.defs_text.specs.Text.{is_nil}
 use Rattle.yaml_tokens.specs.declared.problem.Fault.{Fault}
@@ -26,16 +26,16 @@ abbrev pub marked_from : ℕ → List ℕ → List ℕ → Bool
 marked_from col a r = ((col == 0) && is_document_marker (a ++ r)) || has_marker a r
 
 -- Behind a body's elements: before the text behind it, or refused on the way.
-pub data Passed (single : Bool) (ctx : Context) (start : Place) (x : Result (Read (List ℕ)) Fault) (a r : List ℕ) (col : ℕ) (t : Folded) : Type 0 where
-  passed : (m : Mode) (q : Place) → Ready single t m → marked_from col a r ≡ false → x ≡ scan single ctx start r m q t → Passed single ctx start x a r col t
+pub data Passed (single : Bool) (ctx : Context) (start : Position) (x : Result (Read (List ℕ)) Fault) (a r : List ℕ) (col : ℕ) (t : Folded) : Type 0 where
+  passed : (m : Mode) (q : Position) → Ready single t m → marked_from col a r ≡ false → x ≡ scan single ctx start r m q t → Passed single ctx start x a r col t
   met_marker : marked_from col a r ≡ true → x ≡ Err (At problem.QuotedDocumentMarker start) → Passed single ctx start x a r col t
   was_shallow : IsShallow ctx start x → Passed single ctx start x a r col t
 
-shallow_on : (ctx : Context) (start : Place) (x y : Result (Read (List ℕ)) Fault) → x ≡ y → IsShallow ctx start y → IsShallow ctx start x
+shallow_on : (ctx : Context) (start : Position) (x y : Result (Read (List ℕ)) Fault) → x ≡ y → IsShallow ctx start y → IsShallow ctx start x
 shallow_on ctx start x y e (by_line p h f) = by_line p h (e ∙ f)
 shallow_on ctx start x y e (by_tab p h f) = by_tab p h (e ∙ f)
 
-passed_on : (single : Bool) (ctx : Context) (start : Place) (x y : Result (Read (List ℕ)) Fault) (a b r : List ℕ) (col n : ℕ) (t : Folded) → x ≡ y → marked_from col a r ≡ marked_from n b r
+passed_on : (single : Bool) (ctx : Context) (start : Position) (x y : Result (Read (List ℕ)) Fault) (a b r : List ℕ) (col n : ℕ) (t : Folded) → x ≡ y → marked_from col a r ≡ marked_from n b r
     → Passed single ctx start y b r n t → Passed single ctx start x a r col t
 passed_on single ctx start x y a b r col n t e same (passed m q ready none is) = passed m q ready (same ∙ none) (e ∙ is)
 passed_on single ctx start x y a b r col n t e same (met_marker meets is) = met_marker (same ∙ meets) (e ∙ is)
@@ -65,29 +65,29 @@ no_quote c b s h = by (classes.is_nul c) (c == 34) refl refl
     by false true e f = let x : None ≡ Some s = rw (e, f) at h in cc
     by false false e f = f
 
-module _ (single : Bool) (ctx : Context) (start : Place) where
+module _ (single : Bool) (ctx : Context) (start : Position) where
   -- an element may begin behind an escaped break as in a gap
-  from_gap : (c : ℕ) (b a : List ℕ) (s : Spelled) (m : Mode) (p : Place) (t : Folded) → element_of single c b ≡ Some s → Ready single t m → scan single ctx start (c ∷ a) m p t ≡ scan single ctx start (c ∷ a) gap p t
+  from_gap : (c : ℕ) (b a : List ℕ) (s : Spelled) (m : Mode) (p : Position) (t : Folded) → element_of single c b ≡ Some s → Ready single t m → scan single ctx start (c ∷ a) m p t ≡ scan single ctx start (c ∷ a) gap p t
   from_gap c b a s m p t h in_gap = refl
   from_gap c b a s m p t h (behind_escaped double e f) = behind_gap single ctx start c (c ∷ a) p t refl (rw double (let g : double_quoted_element c b ≡ Some s = rw double at h in no_quote c b s g))
 
   abbrev Passes : ℕ → List ℕ → List ℕ → Type 0
-  Passes n a r = (es : List Element) (m : Mode) (p : Place) (t : Folded) → elements (element_of single) n a ≡ Some es → Ready single t m
+  Passes n a r = (es : List Element) (m : Mode) (p : Position) (t : Folded) → elements (element_of single) n a ≡ Some es → Ready single t m
       → Passed single ctx start (scan single ctx start (drop n a ++ r) m p t) (drop n a) r p.col (behind_elements es t)
 
-  by_step : (c : ℕ) (b r : List ℕ) (s : Spelled) (es : List Element) (m : Mode) (p : Place) (t : Folded) → element_of single c b ≡ Some s → elements (element_of single) s.further b ≡ Some es → Ready single t m
+  by_step : (c : ℕ) (b r : List ℕ) (s : Spelled) (es : List Element) (m : Mode) (p : Position) (t : Folded) → element_of single c b ≡ Some s → elements (element_of single) s.further b ≡ Some es → Ready single t m
       → Passes s.further b r → Step single ctx start c b r p t s → Passed single ctx start (scan single ctx start (c ∷ (b ++ r)) m p t) (c ∷ b) r p.col (behind_elements (s.element ∷ es) t)
   by_step c b r s es m p t h k ready others (steps n q after full none marks is) =
       passed_on single ctx start _ _ (c ∷ b) (drop s.further b) r p.col q.col _ (from_gap c b (b ++ r) s m p t h ready ∙ is) (rw none marks) (others es n q (behind_element s.element t) k after)
   by_step c b r s es m p t h k ready others (is_marked e f) = met_marker (rw e refl) (from_gap c b (b ++ r) s m p t h ready ∙ f)
   by_step c b r s es m p t h k ready others (is_shallow e) = was_shallow (shallow_on ctx start _ _ (from_gap c b (b ++ r) s m p t h ready) e)
 
-  by_elements : (c : ℕ) (b r : List ℕ) (s : Spelled) (o : Option (List Element)) (es : List Element) (m : Mode) (p : Place) (t : Folded) → element_of single c b ≡ Some s → elements (element_of single) s.further b ≡ o → put_before s.element o ≡ Some es
+  by_elements : (c : ℕ) (b r : List ℕ) (s : Spelled) (o : Option (List Element)) (es : List Element) (m : Mode) (p : Position) (t : Folded) → element_of single c b ≡ Some s → elements (element_of single) s.further b ≡ o → put_before s.element o ≡ Some es
       → Ready single t m → Passes s.further b r → Step single ctx start c b r p t s → Passed single ctx start (scan single ctx start (c ∷ (b ++ r)) m p t) (c ∷ b) r p.col (behind_elements es t)
   by_elements c b r s None es m p t h k e ready others z = cc
   by_elements c b r s (Some fs) es m p t h k e ready others z = let same : s.element ∷ fs ≡ es = cc in rw (← same) (by_step c b r s fs m p t h k ready others z)
 
-  by_element : (c : ℕ) (b r : List ℕ) (o : Option Spelled) (es : List Element) (m : Mode) (p : Place) (t : Folded) → element_of single c b ≡ o → followed o (λ n. elements (element_of single) n b) ≡ Some es
+  by_element : (c : ℕ) (b r : List ℕ) (o : Option Spelled) (es : List Element) (m : Mode) (p : Position) (t : Folded) → element_of single c b ≡ o → followed o (λ n. elements (element_of single) n b) ≡ Some es
       → Ready single t m → ((n : ℕ) → Passes n b r) → StepOf single ctx start c b r p t o → Passed single ctx start (scan single ctx start (c ∷ (b ++ r)) m p t) (c ∷ b) r p.col (behind_elements es t)
   by_element c b r None es m p t h e ready others z = cc
   by_element c b r (Some s) es m p t h e ready others z = by_elements c b r s (elements (element_of single) s.further b) es m p t h refl e ready (others s.further) z
@@ -96,7 +96,7 @@ module _ (single : Bool) (ctx : Context) (start : Place) where
   none_marked true y h = rw h refl
   none_marked false y h = refl
 
-  no_elements : (r : List ℕ) (es : List Element) (m : Mode) (p : Place) (t : Folded) → is_document_marker r ≡ false → Some [] ≡ Some es → Ready single t m
+  no_elements : (r : List ℕ) (es : List Element) (m : Mode) (p : Position) (t : Folded) → is_document_marker r ≡ false → Some [] ≡ Some es → Ready single t m
       → Passed single ctx start (scan single ctx start r m p t) [] r p.col (behind_elements es t)
   no_elements r es m p t still h ready = let none : es ≡ [] = cc in rw none (passed m p ready (none_marked (p.col == 0) (is_document_marker r) still) refl)
 
@@ -110,35 +110,35 @@ module _ (single : Bool) (ctx : Context) (start : Place) where
 
   -- ---- the opening quote
 
-  first_by : (c : ℕ) (a : List ℕ) (p : Place) (white : Bool) → (is_break c || is_blank c) ≡ white → (p.col == 0) ≡ false → nat_lt (p.col + 1) ctx.indent ≡ false
+  first_by : (c : ℕ) (a : List ℕ) (p : Position) (white : Bool) → (is_break c || is_blank c) ≡ white → (p.col == 0) ≡ false → nat_lt (p.col + 1) ctx.indent ≡ false
       → scan single ctx start (c ∷ a) first p nothing ≡ scan single ctx start (c ∷ a) gap p nothing
   first_by c a p true g e f = rw (may_stand single ctx start (c ∷ a) p e f, g) refl
   first_by c a p false g e f = rw g refl
 
-  pub first_is_gap : (a : List ℕ) (p : Place) → (p.col == 0) ≡ false → nat_lt (p.col + 1) ctx.indent ≡ false → scan single ctx start a first p nothing ≡ scan single ctx start a gap p nothing
+  pub first_is_gap : (a : List ℕ) (p : Position) → (p.col == 0) ≡ false → nat_lt (p.col + 1) ctx.indent ≡ false → scan single ctx start a first p nothing ≡ scan single ctx start a gap p nothing
   first_is_gap [] p e f = refl
   first_is_gap (c ∷ a) p e f = first_by c a p (is_break c || is_blank c) refl e f
 
-  pub first_fails : (c : ℕ) (a : List ℕ) (p : Place) → (p.col == 0) ≡ false → nat_lt (p.col + 1) ctx.indent ≡ true → scan single ctx start (c ∷ a) first p nothing ≡ Err (At problem.QuotedIndentation start)
+  pub first_fails : (c : ℕ) (a : List ℕ) (p : Position) → (p.col == 0) ≡ false → nat_lt (p.col + 1) ctx.indent ≡ true → scan single ctx start (c ∷ a) first p nothing ≡ Err (At problem.QuotedIndentation start)
   unfolding refused at_marker
   first_fails c a p e f = rw (e, f) refl
 
   -- Behind the opening quote the scan goes on as in a gap, or the place behind it is refused.
-  pub data Opened (a : List ℕ) (p : Place) : Type 0 where
+  pub data Opened (a : List ℕ) (p : Position) : Type 0 where
     opened : scan single ctx start a first p nothing ≡ scan single ctx start a gap p nothing → Opened a p
     not_opened : IsShallow ctx start (scan single ctx start a first p nothing) → Opened a p
 
-  open_by : (a : List ℕ) (p : Place) (deep : Bool) → nat_lt (p.col + 1) ctx.indent ≡ deep → (p.col == 0) ≡ false → Opened a p
+  open_by : (a : List ℕ) (p : Position) (deep : Bool) → nat_lt (p.col + 1) ctx.indent ≡ deep → (p.col == 0) ≡ false → Opened a p
   open_by a p false f e = opened (first_is_gap a p e f)
   open_by [] p true f e = opened refl
   open_by (c ∷ a) p true f e = not_opened (by_line p f (first_fails c a p e f))
 
-  pub opens : (a : List ℕ) (p : Place) → (p.col == 0) ≡ false → Opened a p
+  pub opens : (a : List ℕ) (p : Position) → (p.col == 0) ≡ false → Opened a p
   opens a p e = open_by a p (nat_lt (p.col + 1) ctx.indent) refl e
 
   -- ---- the closing quote
 
-  closes_text : (r : List ℕ) (p : Place) (u : Folded) → scan single ctx start r closed p u ≡ Ok (record { rest = r; place = p; value = u.text })
+  closes_text : (r : List ℕ) (p : Position) (u : Folded) → scan single ctx start r closed p u ≡ Ok (record { rest = r; place = p; value = u.text })
   closes_text r p u = closed_end single ctx start r p u
 
   open_gap : (t : Folded) → t.gap ≡ [] → t.escaped ≡ true → t.text ≡ (joined t).text
@@ -148,7 +148,7 @@ module _ (single : Bool) (ctx : Context) (start : Place) where
       by true = rw (f, e) (sym (append-nil t.text))
       by false = rw e (sym (append-nil t.text))
 
-closes : (single : Bool) (ctx : Context) (start : Place) (r : List ℕ) (p : Place) (u : Folded) → ends_before single r ≡ true → scan single ctx start (quote_of single ∷ r) inside p u ≡ Ok (record { rest = r; place = past p; value = u.text })
+closes : (single : Bool) (ctx : Context) (start : Position) (r : List ℕ) (p : Position) (u : Folded) → ends_before single r ≡ true → scan single ctx start (quote_of single ∷ r) inside p u ≡ Ok (record { rest = r; place = past p; value = u.text })
 unfolding is_break is_blank
 closes true ctx start [] p u e = refl
 closes true ctx start (d ∷ r) p u e = let one : (d == 39) ≡ false = not-true (d == 39) e in rw one refl
@@ -158,13 +158,13 @@ no_mark : (x y : Bool) → y ≡ false → (x && y) ≡ true → ⊥
 no_mark true y e f = cc
 no_mark false y e f = cc
 
-module _ (single : Bool) (ctx : Context) (start : Place) (r : List ℕ) (ends : ends_before single r ≡ true) where
-  in_line : (p : Place) (t : Folded) → Begun single ctx start (quote_of single ∷ r) p t → IsRead ctx start (joined t).text r (scan single ctx start (quote_of single ∷ r) gap p t)
+module _ (single : Bool) (ctx : Context) (start : Position) (r : List ℕ) (ends : ends_before single r ≡ true) where
+  in_line : (p : Position) (t : Folded) → Begun single ctx start (quote_of single ∷ r) p t → IsRead ctx start (joined t).text r (scan single ctx start (quote_of single ∷ r) gap p t)
   in_line p t (begun none deep is) = read (past p) (is ∙ closes single ctx start r p (joined t) ends)
   in_line p t (marked e f) = absurd (no_mark (p.col == 0) (is_document_marker (quote_of single ∷ r)) (quote_still single r) e)
   in_line p t (turns.shallow e f) = shallow (by_line p e f)
 
-  pub close : (m : Mode) (p : Place) (t : Folded) → Ready single t m → IsRead ctx start (joined t).text r (scan single ctx start (quote_of single ∷ r) m p t)
+  pub close : (m : Mode) (p : Position) (t : Folded) → Ready single t m → IsRead ctx start (joined t).text r (scan single ctx start (quote_of single ∷ r) m p t)
   close m p t in_gap = in_line p t (begins single ctx start (quote_of single) r p t (quote_solid single))
   close m p t (behind_escaped double e f) =
       read (past p) (behind_quote single ctx start (quote_of single) (quote_of single ∷ r) p t refl refl ∙ closes single ctx start r p t ends ∙ ap (λ text. Ok (record { rest = r; place = past p; value = text })) (open_gap single ctx start t e f))

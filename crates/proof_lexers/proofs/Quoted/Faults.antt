@@ -2,7 +2,7 @@
 use Rattle.std.proofs.Common.{◌≡◌, ℕ, zero, suc, ◌+◌, ◌*◌, List, [], ◌∷◌, Bool, true, false, ◌==◌, if◌then◌else◌, Option, Some, None, Err, refl, ap, sym, ◌∙◌, arith, take, length}
 use Rattle.std.specs.Char.{digit_value, is_digit}
 use Rattle.std.proofs.lemmas.Bool.Decides.{nat_tests}
-use Rattle.defs_text.specs.Position.{Place}
+use Rattle.defs_text.specs.Position.{Position}
 use Rattle.yaml_chars.specs.Class.{is_break, is_blank}
 use Rattle.yaml_tokens.specs.declared.problem.Fault.TheVariants.{At}
 use Rattle.yaml_tokens.specs.declared.problem.Problem.{Problem}
@@ -35,9 +35,9 @@ too_short n = grind (arith, nat_tests)
 abbrev number_behind : ℕ → ℕ → List ℕ → Option ℕ
 number_behind n value b = (if length (take n b) == n then hexadecimal value (take n b) else None)
 
-module _ (ctx : Context) (start : Place) where
+module _ (ctx : Context) (start : Position) where
   -- Digits are missing.
-  digits_fail : (n value : ℕ) (b : List ℕ) (p : Place) (u : Folded) → number_behind n value b ≡ None → digits_from false ctx start n value b p u ≡ Err (At problem.HexadecimalDigit start)
+  digits_fail : (n value : ℕ) (b : List ℕ) (p : Position) (u : Folded) → number_behind n value b ≡ None → digits_from false ctx start n value b p u ≡ Err (At problem.HexadecimalDigit start)
   digits_fail zero value b p u h = cc
   digits_fail (suc n) value [] p u h = refl
   digits_fail (suc n) value (c ∷ b) p u h = by (is_digit c 16) refl (λ more. digits_fail n (value * 16 + digit_value c) b (past p) u more) h
@@ -52,7 +52,7 @@ module _ (ctx : Context) (start : Place) where
       by false e others none = digit_fails false ctx start n value c (c ∷ b) p u (rw (same_digit c) e) refl
 
   -- A code is no character's.
-  code_fails : (n value code : ℕ) (b : List ℕ) (p : Place) (u : Folded) → number_behind n value b ≡ Some code → is_character_code code ≡ false → digits_from false ctx start n value b p u ≡ Err (At problem.EscapedCode start)
+  code_fails : (n value code : ℕ) (b : List ℕ) (p : Position) (u : Folded) → number_behind n value b ≡ Some code → is_character_code code ≡ false → digits_from false ctx start n value b p u ≡ Err (At problem.EscapedCode start)
   code_fails zero value code b p u h bad = let same : value ≡ code = cc in coded_fails false ctx start value b p u (same_code value ∙ ap is_character_code same ∙ bad)
   code_fails (suc n) value code [] p u h bad = let short = too_short n in let none : None ≡ Some code = rw short at h in cc
   code_fails (suc n) value code (c ∷ b) p u h bad = by (is_digit c 16) refl (λ more. code_fails n (value * 16 + digit_value c) code b (past p) u more bad) h
@@ -73,26 +73,26 @@ module _ (ctx : Context) (start : Place) where
 
   -- ---- an escape
 
-  pub record Fails (b : List ℕ) (p : Place) (u : Folded) : Type 0 where
+  pub record Fails (b : List ℕ) (p : Position) (u : Folded) : Type 0 where
     pub why : Problem
     pub bad : IsBadEscape b why
     pub is : scan false ctx start (92 ∷ b) inside p u ≡ Err (At why start)
 
-  to_named : (d : ℕ) (b : List ℕ) (p : Place) (u : Folded) → is_break d ≡ false → scan false ctx start (92 ∷ d ∷ b) inside p u ≡ scan false ctx start (d ∷ b) named (past p) u
+  to_named : (d : ℕ) (b : List ℕ) (p : Position) (u : Folded) → is_break d ≡ false → scan false ctx start (92 ∷ d ∷ b) inside p u ≡ scan false ctx start (d ∷ b) named (past p) u
   unfolding is_break is_blank
   to_named d b p u e = rw e refl
 
-  unknown_fails : (d : ℕ) (b : List ℕ) (p : Place) (u : Folded) → is_break d ≡ false → lookup d escapes ≡ None → lookup d numeric_escapes ≡ None → Fails (d ∷ b) p u
+  unknown_fails : (d : ℕ) (b : List ℕ) (p : Position) (u : Folded) → is_break d ≡ false → lookup d escapes ≡ None → lookup d numeric_escapes ≡ None → Fails (d ∷ b) p u
   unknown_fails d b p u e f g = record {
     why = problem.UnknownEscape;
     bad = unknown d b (same_break d ∙ e) f g;
     is = to_named d b p u e ∙ named_unknown false ctx start d (d ∷ b) (past p) u (same_escape d ∙ rw (f, g) refl) refl;
   }
 
-  to_digits : (d n m : ℕ) (b : List ℕ) (p : Place) (u : Folded) → is_break d ≡ false → lookup d escapes ≡ None → lookup d numeric_escapes ≡ Some n → n ≡ suc m → scan false ctx start (92 ∷ d ∷ b) inside p u ≡ digits_from false ctx start (suc m) 0 b (past (past p)) u
+  to_digits : (d n m : ℕ) (b : List ℕ) (p : Position) (u : Folded) → is_break d ≡ false → lookup d escapes ≡ None → lookup d numeric_escapes ≡ Some n → n ≡ suc m → scan false ctx start (92 ∷ d ∷ b) inside p u ≡ digits_from false ctx start (suc m) 0 b (past (past p)) u
   to_digits d n m b p u e f g same = to_named d b p u e ∙ named_code false ctx start d m (d ∷ b) b (past p) u (same_escape d ∙ rw (f, g, same) refl) refl
 
-  code_fails_by : (d n : ℕ) (b : List ℕ) (p : Place) (u : Folded) (o : Option ℕ) → is_break d ≡ false → lookup d escapes ≡ None → lookup d numeric_escapes ≡ Some n → number_at n b ≡ o → numbered n o ≡ None → Fails (d ∷ b) p u
+  code_fails_by : (d n : ℕ) (b : List ℕ) (p : Position) (u : Folded) (o : Option ℕ) → is_break d ≡ false → lookup d escapes ≡ None → lookup d numeric_escapes ≡ Some n → number_at n b ≡ o → numbered n o ≡ None → Fails (d ∷ b) p u
   code_fails_by d n b p u None e f g number h =
       let z = has_digits d n g in
       let none : number_behind (suc z.0) 0 b ≡ None = rw (← z.1) number in
@@ -115,12 +115,12 @@ module _ (ctx : Context) (start : Place) where
       by true h = h
       by false h = refl
 
-  rows_fail : (d : ℕ) (b : List ℕ) (p : Place) (u : Folded) (o n : Option ℕ) → is_break d ≡ false → lookup d escapes ≡ o → lookup d numeric_escapes ≡ n → escape_by o n b ≡ None → Fails (d ∷ b) p u
+  rows_fail : (d : ℕ) (b : List ℕ) (p : Position) (u : Folded) (o n : Option ℕ) → is_break d ≡ false → lookup d escapes ≡ o → lookup d numeric_escapes ≡ n → escape_by o n b ≡ None → Fails (d ∷ b) p u
   rows_fail d b p u (Some code) n e f g h = cc
   rows_fail d b p u None (Some n) e f g h = code_fails_by d n b p u (number_at n b) e f g refl (numbers_are n b h)
   rows_fail d b p u None None e f g h = unknown_fails d b p u e f g
 
-  pub escape_fails : (b : List ℕ) (p : Place) (u : Folded) → escape b ≡ None → Fails b p u
+  pub escape_fails : (b : List ℕ) (p : Position) (u : Folded) → escape b ≡ None → Fails b p u
   unfolding escape is_break is_blank
   escape_fails [] p u h = record { why = problem.UnknownEscape; bad = ends; is = refl }
   escape_fails (d ∷ b) p u h = by (classes.is_break d) refl h (λ e more. rows_fail d b p u (lookup d escapes) (lookup d numeric_escapes) (same_break' d e) refl refl more)

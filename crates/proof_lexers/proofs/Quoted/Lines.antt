@@ -2,7 +2,7 @@
 use Rattle.std.proofs.Common.{◌≡◌, ℕ, suc, ◌+◌, ◌*◌, ◌≤◌, List, [], ◌∷◌, ◌++◌, Bool, true, false, not, ◌||◌, ◌&&◌, ◌==◌, slice_index, flat_map, map, Result, Ok, refl, ap, ◌∙◌, append_assoc, append-nil, arith}
 use Rattle.std.specs.Char.{digit_value}
 use Rattle.std.proofs.lemmas.Bool.{ne_eqb, le-ltb}
-use Rattle.defs_text.specs.Position.{Place}
+use Rattle.defs_text.specs.Position.{Position}
 use Rattle.yaml_chars.specs.Class.{is_break, is_blank, is_hex}
 use Rattle.yaml_tokens.specs.declared.problem.Fault.{Fault}
 use Rattle.model_lexers.specs.declared.context.Context.{Context}
@@ -11,17 +11,18 @@ use Rattle.model_lexers.specs.Folding.{Folded, nothing}
 use Rattle.model_lexers.specs.Quoted.{State, inside, gap, quote_of, quoted, quoted_from, digits_from, refused, escape_of, is_scalar}
 use Rattle.model_lexers.specs.Quoted
 use Rattle.model_lexers.proofs.QuotedLemmas.{digit_turn, closed_end, coded}
-use Rattle.proof_layout_tokens.proofs.Whites.{along, along_append, along_more}
+use Rattle.proof_lexers.specs.HeaderEnds.{along}
+use Rattle.proof_lexers.proofs.Along.{along_append, along_more}
 
 -- where the text of a line may stand
-abbrev pub IsIn : Context → Place → Type 0
+abbrev pub IsIn : Context → Position → Type 0
 IsIn ctx p = (1 ≤ p.col) × (ctx.indent ≤ p.col + 1)
 
-pub moves : (ctx : Context) (w : List ℕ) (p : Place) → IsIn ctx p → IsIn ctx (along w p)
+pub moves : (ctx : Context) (w : List ℕ) (p : Position) → IsIn ctx p → IsIn ctx (along w p)
 moves ctx w p h = let k = h.0 in let l = h.1 in let m = along_more w p in (omega (arith, k, m), omega (arith, l, m))
 
-module _ (single : Bool) (ctx : Context) (start : Place) where
-  may_stand : (a : List ℕ) (p : Place) → IsIn ctx p → refused ctx start a p ≡ Ok tt
+module _ (single : Bool) (ctx : Context) (start : Position) where
+  may_stand : (a : List ℕ) (p : Position) → IsIn ctx p → refused ctx start a p ≡ Ok tt
   unfolding refused at_marker
   may_stand a p h = let k = h.0 in let l = h.1 in rw (ne_eqb p.col 0 (λ e. omega (arith, k)), le-ltb (p.col + 1) ctx.indent (omega (arith, l))) refl
 
@@ -29,29 +30,29 @@ module _ (single : Bool) (ctx : Context) (start : Place) where
   folded text blanks = record { text = text; gap = blanks; leading = false; escaped = false }
 
   -- in a line, behind blanks or none
-  abbrev pub at : Place → List ℕ → List ℕ → State
+  abbrev pub at : Position → List ℕ → List ℕ → State
   at p text blanks = record { mode = gap; place = p; folded = folded text blanks }
 
-  abbrev within : Place → List ℕ → State
+  abbrev within : Position → List ℕ → State
   within p text = record { mode = inside; place = p; folded = folded text [] }
 
   abbrev pub scan : List ℕ → State → Result (Read (List ℕ)) Fault
   scan a s = quoted_from single ctx start a s
 
-  same_by : (c : ℕ) (a : List ℕ) (p : Place) (text : List ℕ) (b : Bool) → (is_break c || is_blank c) ≡ b → IsIn ctx p → scan (c ∷ a) (within p text) ≡ scan (c ∷ a) (at p text [])
+  same_by : (c : ℕ) (a : List ℕ) (p : Position) (text : List ℕ) (b : Bool) → (is_break c || is_blank c) ≡ b → IsIn ctx p → scan (c ∷ a) (within p text) ≡ scan (c ∷ a) (at p text [])
   same_by c a p text true e h = rw e refl
   same_by c a p text false e h = rw (e, may_stand (c ∷ a) p h, append-nil) refl
 
-  same : (a : List ℕ) (p : Place) (text : List ℕ) → IsIn ctx p → scan a (within p text) ≡ scan a (at p text [])
+  same : (a : List ℕ) (p : Position) (text : List ℕ) → IsIn ctx p → scan a (within p text) ≡ scan a (at p text [])
   same [] p text h = refl
   same (c ∷ a) p text h = same_by c a p text (is_break c || is_blank c) refl h
 
   -- what is no blank is read as within the line
-  joins : (c : ℕ) (a : List ℕ) (p : Place) (text blanks : List ℕ) → (is_break c || is_blank c) ≡ false → IsIn ctx p → scan (c ∷ a) (at p text blanks) ≡ scan (c ∷ a) (within p (text ++ blanks))
+  joins : (c : ℕ) (a : List ℕ) (p : Position) (text blanks : List ℕ) → (is_break c || is_blank c) ≡ false → IsIn ctx p → scan (c ∷ a) (at p text blanks) ≡ scan (c ∷ a) (within p (text ++ blanks))
   joins c a p text blanks e h = rw (e, may_stand (c ∷ a) p h) refl
 
   -- A character was read, that was written so.
-  pub record Went (w a text blanks : List ℕ) (p : Place) (c : ℕ) : Type 0 where
+  pub record Went (w a text blanks : List ℕ) (p : Position) (c : ℕ) : Type 0 where
     pub text_now : List ℕ
     pub blanks_now : List ℕ
     pub told : text_now ++ blanks_now ≡ (text ++ blanks) ++ c ∷ []
@@ -59,9 +60,9 @@ module _ (single : Bool) (ctx : Context) (start : Place) where
 
   -- The written text is read as the character, wherever it may stand.
   abbrev pub IsWritten : (w : List ℕ) → (c : ℕ) → Type 0
-  IsWritten w c = (a text blanks : List ℕ) (p : Place) → IsIn ctx p → Went w a text blanks p c
+  IsWritten w c = (a text blanks : List ℕ) (p : Position) → IsIn ctx p → Went w a text blanks p c
 
-  went : (w a text blanks : List ℕ) (p : Place) (c : ℕ) → IsIn ctx p → scan (w ++ a) (at p text blanks) ≡ scan a (within (along w p) ((text ++ blanks) ++ c ∷ [])) → Went w a text blanks p c
+  went : (w a text blanks : List ℕ) (p : Position) (c : ℕ) → IsIn ctx p → scan (w ++ a) (at p text blanks) ≡ scan a (within (along w p) ((text ++ blanks) ++ c ∷ [])) → Went w a text blanks p c
   went w a text blanks p c h e = record {
     text_now = (text ++ blanks) ++ c ∷ [];
     blanks_now = [];
@@ -75,7 +76,7 @@ module _ (single : Bool) (ctx : Context) (start : Place) where
   pub char_goes : (c : ℕ) → (is_break c || is_blank c) ≡ false → ((c == 92) && not single) ≡ false → (c == quote_of single) ≡ false → IsWritten (c ∷ []) c
   char_goes c e f g a text blanks p h = went (c ∷ []) a text blanks p c h (joins c a p text blanks e h ∙ rw (e, f, g) refl)
 
-  quote_ends : (r text blanks : List ℕ) (p : Place) → IsIn ctx p → (single && (slice_index r 0 == 39)) ≡ false → scan (quote_of single ∷ r) (at p text blanks) ≡ Ok (record { rest = r; place = past p; value = text ++ blanks })
+  quote_ends : (r text blanks : List ℕ) (p : Position) → IsIn ctx p → (single && (slice_index r 0 == 39)) ≡ false → scan (quote_of single ∷ r) (at p text blanks) ≡ Ok (record { rest = r; place = past p; value = text ++ blanks })
   unfolding is_break is_blank
   quote_ends r text blanks p h e = joins (quote_of single) r p text blanks (no_blank single) h ∙ ends single e
     where
@@ -87,7 +88,7 @@ module _ (single : Bool) (ctx : Context) (start : Place) where
       ends true f = rw f (closed_end true ctx start r (past p) (folded (text ++ blanks) []))
       ends false f = closed_end false ctx start r (past p) (folded (text ++ blanks) [])
 
-  any_turn : (a : List ℕ) (p : Place) → IsIn ctx p → quoted_from single ctx start a (record { mode = Quoted.first; place = p; folded = nothing }) ≡ scan a (within p [])
+  any_turn : (a : List ℕ) (p : Position) → IsIn ctx p → quoted_from single ctx start a (record { mode = Quoted.first; place = p; folded = nothing }) ≡ scan a (within p [])
   any_turn [] p h = refl
   any_turn (c ∷ a) p h = rw (may_stand (c ∷ a) p h) refl
 
@@ -97,7 +98,7 @@ module _ (single : Bool) (ctx : Context) (start : Place) where
     AreWritten [] = Unit {0}
     AreWritten (x ∷ xs) = IsWritten (written x) (char x) × AreWritten xs
 
-    line_goes : (xs : List X) (r text blanks : List ℕ) (p : Place) → AreWritten xs → IsIn ctx p → (single && (slice_index r 0 == 39)) ≡ false
+    line_goes : (xs : List X) (r text blanks : List ℕ) (p : Position) → AreWritten xs → IsIn ctx p → (single && (slice_index r 0 == 39)) ≡ false
         → scan (flat_map written xs ++ quote_of single ∷ r) (at p text blanks) ≡ Ok (record { rest = r; place = past (along (flat_map written xs) p); value = (text ++ blanks) ++ map char xs })
     line_goes [] r text blanks p are h e = quote_ends r text blanks p h e ∙ rw append-nil refl
     line_goes (x ∷ xs) r text blanks p are h e =
@@ -108,14 +109,14 @@ module _ (single : Bool) (ctx : Context) (start : Place) where
 
 -- ---- two single quotes are one
 
-pub quote_goes : (ctx : Context) (start : Place) → IsWritten true ctx start (39 ∷ 39 ∷ []) 39
+pub quote_goes : (ctx : Context) (start : Position) → IsWritten true ctx start (39 ∷ 39 ∷ []) 39
 unfolding is_break is_blank
 quote_goes ctx start a text blanks p h = went true ctx start (39 ∷ 39 ∷ []) a text blanks p 39 h (joins true ctx start 39 (39 ∷ a) p text blanks refl h)
 
 -- ---- escapes
 
-module _ (ctx : Context) (start : Place) where
-  backslash_joins : (a text blanks : List ℕ) (p : Place) → IsIn ctx p → scan false ctx start (92 ∷ a) (at false ctx start p text blanks) ≡ scan false ctx start (92 ∷ a) (within false ctx start p (text ++ blanks))
+module _ (ctx : Context) (start : Position) where
+  backslash_joins : (a text blanks : List ℕ) (p : Position) → IsIn ctx p → scan false ctx start (92 ∷ a) (at false ctx start p text blanks) ≡ scan false ctx start (92 ∷ a) (within false ctx start p (text ++ blanks))
   unfolding is_break is_blank
   backslash_joins a text blanks p h = joins false ctx start 92 a p text blanks refl h
 
@@ -124,7 +125,7 @@ module _ (ctx : Context) (start : Place) where
   unfolding is_break is_blank
   named_goes l c e f a text blanks p h = went false ctx start (92 ∷ l ∷ []) a text blanks p c h (backslash_joins (l ∷ a) text blanks p h ∙ rw (e, f) refl)
 
-  code_begins : (a : List ℕ) (p : Place) (text : List ℕ) → scan false ctx start (92 ∷ 117 ∷ a) (within false ctx start p text) ≡ digits_from false ctx start (suc 3) 0 a (past (past p)) (folded false ctx start text [])
+  code_begins : (a : List ℕ) (p : Position) (text : List ℕ) → scan false ctx start (92 ∷ 117 ∷ a) (within false ctx start p text) ≡ digits_from false ctx start (suc 3) 0 a (past (past p)) (folded false ctx start text [])
   unfolding is_break is_blank escape_of
   code_begins a p text = refl
 
@@ -144,11 +145,11 @@ module _ (ctx : Context) (start : Place) where
 
 -- ---- the whole scalar
 
-last_along : (c : ℕ) (w : List ℕ) (p : Place) → along (w ++ c ∷ []) p ≡ past (along w p)
+last_along : (c : ℕ) (w : List ℕ) (p : Position) → along (w ++ c ∷ []) p ≡ past (along w p)
 last_along c w p = along_append w (c ∷ []) p
 
 -- from its opening quote on, before what is no second quote
-pub line_read : (single : Bool) (ctx : Context) (X : Type 0) (written : X → List ℕ) (char : X → ℕ) (xs : List X) (r : List ℕ) (p : Place) → AreWritten single ctx p X written char xs → ctx.indent ≤ p.col + 2 → (single && (slice_index r 0 == 39)) ≡ false
+pub line_read : (single : Bool) (ctx : Context) (X : Type 0) (written : X → List ℕ) (char : X → ℕ) (xs : List X) (r : List ℕ) (p : Position) → AreWritten single ctx p X written char xs → ctx.indent ≤ p.col + 2 → (single && (slice_index r 0 == 39)) ≡ false
     → quoted single ctx (quote_of single ∷ (flat_map written xs ++ quote_of single ∷ r)) p ≡ Ok (record { rest = r; place = along (quote_of single ∷ (flat_map written xs ++ quote_of single ∷ [])) p; value = map char xs })
 unfolding quoted
 line_read single ctx X written char xs r p are deep e =

@@ -2,7 +2,7 @@
 use Rattle.std.proofs.Common.{◌≡◌, ℕ, zero, suc, ◌+◌, List, [], ◌∷◌, ◌++◌, Bool, true, false, ◌||◌, ◌&&◌, ◌==◌, Option, Some, None, refl, ap, ◌∙◌, drop}
 use Rattle.std.specs.List.{list_all}
 use Rattle.std.proofs.lemmas.Bool.{and_parts, not-true}
-use Rattle.defs_text.specs.Position.{Place}
+use Rattle.defs_text.specs.Position.{Position}
 use Rattle.defs_text.specs.Classes as classes
 use Rattle.defs_text.specs.Classes.{is_document_marker}
 use Rattle.defs_scalar.specs.FlowScalar.{Element, Spelled, elements, followed, put_before, begins_with_marker, has_document_marker}
@@ -10,16 +10,18 @@ use Rattle.model_lexers.specs.declared.context.Context.{Context}
 use Rattle.model_lexers.specs.Folding.{nothing}
 use Rattle.model_lexers.specs.Quoted.{quote_of}
 use Rattle.proof_lexers.proofs.Bridges.{and_false, or_false}
-use Rattle.proof_layout_tokens.proofs.Json.Levels.{no_less}
 use Rattle.proof_lexers.specs.QuotedScan.{element_of, is_some, has_marker, by_line, by_tab}
 use Rattle.proof_lexers.proofs.Quoted.Turns.{no_marker, Step, steps, is_marked, is_shallow, StepOf}
 use Rattle.proof_lexers.proofs.Quoted.Elements.{step}
+
+pub no_less : (n : ℕ) → nat_lt n 0 ≡ false
+no_less n = le-ltb n 0 (omega arith)
 
 -- outside all collections, behind a line's first character
 abbrev outside : Context
 outside = record { flow = false; indent = 0 }
 
-abbrev second : Place
+abbrev second : Position
 second = record { index = 1; line = 1; col = 1 }
 
 module _ (single : Bool) where

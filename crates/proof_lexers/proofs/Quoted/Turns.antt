@@ -3,7 +3,7 @@ use Rattle.std.proofs.Common.{◌≡◌, ℕ, ◌+◌, List, [], ◌∷◌, ◌+
 use Rattle.std.specs.List.{list_all}
 use Rattle.std.proofs.lemmas.Bool.{and_parts, eqb-true}
 use Rattle.std.proofs.lemmas.Bool.Decides.{nat_tests}
-use Rattle.defs_text.specs.Position.{Place}
+use Rattle.defs_text.specs.Position.{Position}
 use Rattle.yaml_chars.specs.Class.{is_break, is_blank}
 use Rattle.yaml_tokens.specs.declared.problem.Fault.{Fault}
 use Rattle.yaml_tokens.specs.declared.problem.Fault.TheVariants.{At}
@@ -56,64 +56,64 @@ pub data Ready (single : Bool) (t : Folded) : Mode → Type 0 where
 abbrev pub spelled : Element → ℕ → Spelled
 spelled e k = record { element = e; further = k }
 
-module _ (single : Bool) (ctx : Context) (start : Place) where
-  abbrev pub scan : List ℕ → Mode → Place → Folded → Result (Read (List ℕ)) Fault
+module _ (single : Bool) (ctx : Context) (start : Position) where
+  abbrev pub scan : List ℕ → Mode → Position → Folded → Result (Read (List ℕ)) Fault
   scan a m p t = quoted_from single ctx start a (record { mode = m; place = p; folded = t })
 
   -- A character that is neither blank nor break begins a line or goes on in one, or is refused.
-  pub data Begun (a : List ℕ) (p : Place) (t : Folded) : Type 0 where
+  pub data Begun (a : List ℕ) (p : Position) (t : Folded) : Type 0 where
     begun : ((p.col == 0) && is_document_marker a) ≡ false → nat_lt (p.col + 1) ctx.indent ≡ false → scan a gap p t ≡ scan a inside p (joined t) → Begun a p t
     marked : ((p.col == 0) && is_document_marker a) ≡ true → scan a gap p t ≡ Err (At problem.QuotedDocumentMarker start) → Begun a p t
     shallow : nat_lt (p.col + 1) ctx.indent ≡ true → scan a gap p t ≡ Err (At problem.QuotedIndentation start) → Begun a p t
 
-  begun_by : (c : ℕ) (a : List ℕ) (p : Place) (t : Folded) (m s : Bool) → at_marker p.col (c ∷ a) ≡ m → nat_lt (p.col + 1) ctx.indent ≡ s → (is_break c || is_blank c) ≡ false → Begun (c ∷ a) p t
+  begun_by : (c : ℕ) (a : List ℕ) (p : Position) (t : Folded) (m s : Bool) → at_marker p.col (c ∷ a) ≡ m → nat_lt (p.col + 1) ctx.indent ≡ s → (is_break c || is_blank c) ≡ false → Begun (c ∷ a) p t
   unfolding refused
   begun_by c a p t true s e f g = marked (sym (same_marker p.col (c ∷ a)) ∙ e) (rw (g, e) refl)
   begun_by c a p t false true e f g = shallow f (rw (g, e, f) refl)
   begun_by c a p t false false e f g = begun (sym (same_marker p.col (c ∷ a)) ∙ e) f (rw (g, e, f) refl)
 
-  pub begins : (c : ℕ) (a : List ℕ) (p : Place) (t : Folded) → (is_break c || is_blank c) ≡ false → Begun (c ∷ a) p t
+  pub begins : (c : ℕ) (a : List ℕ) (p : Position) (t : Folded) → (is_break c || is_blank c) ≡ false → Begun (c ∷ a) p t
   begins c a p t g = begun_by c a p t (at_marker p.col (c ∷ a)) (nat_lt (p.col + 1) ctx.indent) refl refl g
 
-  pub may_stand : (a : List ℕ) (p : Place) → (p.col == 0) ≡ false → nat_lt (p.col + 1) ctx.indent ≡ false → refused ctx start a p ≡ Ok tt
+  pub may_stand : (a : List ℕ) (p : Position) → (p.col == 0) ≡ false → nat_lt (p.col + 1) ctx.indent ≡ false → refused ctx start a p ≡ Ok tt
   unfolding refused at_marker
   may_stand a p e f = rw (e, f) refl
 
-  inside_by : (c : ℕ) (a : List ℕ) (p : Place) (text : List ℕ) (b : Bool) → (is_break c || is_blank c) ≡ b → (p.col == 0) ≡ false → nat_lt (p.col + 1) ctx.indent ≡ false
+  inside_by : (c : ℕ) (a : List ℕ) (p : Position) (text : List ℕ) (b : Bool) → (is_break c || is_blank c) ≡ b → (p.col == 0) ≡ false → nat_lt (p.col + 1) ctx.indent ≡ false
       → scan (c ∷ a) inside p (plain text) ≡ scan (c ∷ a) gap p (plain text)
   inside_by c a p text true g e f = rw g refl
   inside_by c a p text false g e f = rw (g, may_stand (c ∷ a) p e f, append-nil) refl
 
   -- within a line that may stand there a gap may begin at any place
-  pub inside_is_gap : (a : List ℕ) (p : Place) (text : List ℕ) → (p.col == 0) ≡ false → nat_lt (p.col + 1) ctx.indent ≡ false → scan a inside p (plain text) ≡ scan a gap p (plain text)
+  pub inside_is_gap : (a : List ℕ) (p : Position) (text : List ℕ) → (p.col == 0) ≡ false → nat_lt (p.col + 1) ctx.indent ≡ false → scan a inside p (plain text) ≡ scan a gap p (plain text)
   inside_is_gap [] p text e f = refl
   inside_is_gap (c ∷ a) p text e f = inside_by c a p text (is_break c || is_blank c) refl e f
 
   -- One character of the text was taken, of so many and one more written.
   pub record Taken (x : Result (Read (List ℕ)) Fault) (a : List ℕ) (col : ℕ) (u : Folded) (code : ℕ) : Type 0 where
-    pub place : Place
+    pub place : Position
     pub more : ℕ
     pub col_is : place.col ≡ col + (more + 1)
     pub is : x ≡ scan a inside place (with_char code u)
 
-  char_taken : (c : ℕ) (a : List ℕ) (p : Place) (u : Folded) → (is_break c || is_blank c) ≡ false → ((c == 92) && not single) ≡ false → (c == quote_of single) ≡ false
+  char_taken : (c : ℕ) (a : List ℕ) (p : Position) (u : Folded) → (is_break c || is_blank c) ≡ false → ((c == 92) && not single) ≡ false → (c == quote_of single) ≡ false
       → Taken (scan (c ∷ a) inside p u) a p.col u c
   char_taken c a p u g e f = record { place = past p; more = 0; col_is = refl; is = rw (g, e, f) refl }
 
   -- The scan at an element of a body, before the body's rest b and the text r behind it.
-  pub data Step (c : ℕ) (b r : List ℕ) (p : Place) (t : Folded) (s : Spelled) : Type 0 where
-    steps : (m : Mode) (q : Place) → Ready single (behind_element s.element t) m → list_all is_some (c ∷ b) ≡ list_all is_some (drop s.further b) → ((p.col == 0) && is_document_marker (c ∷ (b ++ r))) ≡ false
+  pub data Step (c : ℕ) (b r : List ℕ) (p : Position) (t : Folded) (s : Spelled) : Type 0 where
+    steps : (m : Mode) (q : Position) → Ready single (behind_element s.element t) m → list_all is_some (c ∷ b) ≡ list_all is_some (drop s.further b) → ((p.col == 0) && is_document_marker (c ∷ (b ++ r))) ≡ false
         → has_marker (c ∷ b) r ≡ (((q.col == 0) && is_document_marker (drop s.further b ++ r)) || has_marker (drop s.further b) r)
         → scan (c ∷ (b ++ r)) gap p t ≡ scan (drop s.further b ++ r) m q (behind_element s.element t) → Step c b r p t s
     is_marked : ((p.col == 0) && is_document_marker (c ∷ (b ++ r))) ≡ true → scan (c ∷ (b ++ r)) gap p t ≡ Err (At problem.QuotedDocumentMarker start) → Step c b r p t s
     is_shallow : IsShallow ctx start (scan (c ∷ (b ++ r)) gap p t) → Step c b r p t s
 
-  abbrev pub StepOf : ℕ → List ℕ → List ℕ → Place → Folded → Option Spelled → Type 0
+  abbrev pub StepOf : ℕ → List ℕ → List ℕ → Position → Folded → Option Spelled → Type 0
   StepOf c b r p t None = Unit {0}
   StepOf c b r p t (Some s) = Step c b r p t s
 
   -- an element that is content
-  content_by : (c : ℕ) (b r : List ℕ) (k code : ℕ) (p : Place) (t : Folded) → Taken (scan (c ∷ (b ++ r)) inside p (joined t)) (drop k b ++ r) p.col (joined t) code → has_marker (c ∷ b) r ≡ has_marker (drop k b) r → list_all is_some (c ∷ b) ≡ list_all is_some (drop k b)
+  content_by : (c : ℕ) (b r : List ℕ) (k code : ℕ) (p : Position) (t : Folded) → Taken (scan (c ∷ (b ++ r)) inside p (joined t)) (drop k b ++ r) p.col (joined t) code → has_marker (c ∷ b) r ≡ has_marker (drop k b) r → list_all is_some (c ∷ b) ≡ list_all is_some (drop k b)
       → Begun (c ∷ (b ++ r)) p t → Step c b r p t (spelled (content code) k)
   content_by c b r k code p t z same full (begun none deep is) =
       let off : (z.place.col == 0) ≡ false = rw z.col_is (off_margin p.col z.more) in
@@ -122,29 +122,29 @@ module _ (single : Bool) (ctx : Context) (start : Place) where
   content_by c b r k code p t z same full (marked e is) = is_marked e is
   content_by c b r k code p t z same full (shallow e is) = is_shallow (by_line p e is)
 
-  pub content_step : (c : ℕ) (b r : List ℕ) (k code : ℕ) (p : Place) (t : Folded) → (is_break c || is_blank c) ≡ false → Taken (scan (c ∷ (b ++ r)) inside p (joined t)) (drop k b ++ r) p.col (joined t) code
+  pub content_step : (c : ℕ) (b r : List ℕ) (k code : ℕ) (p : Position) (t : Folded) → (is_break c || is_blank c) ≡ false → Taken (scan (c ∷ (b ++ r)) inside p (joined t)) (drop k b ++ r) p.col (joined t) code
       → has_marker (c ∷ b) r ≡ has_marker (drop k b) r → list_all is_some (c ∷ b) ≡ list_all is_some (drop k b) → Step c b r p t (spelled (content code) k)
   content_step c b r k code p t g z same full = content_by c b r k code p t z same full (begins c (b ++ r) p t g)
 
   white_stands : (c : ℕ) (a : List ℕ) (col : ℕ) → (is_break c || is_blank c) ≡ true → ((col == 0) && is_document_marker (c ∷ a)) ≡ false
   white_stands c a col g = let w = white c g in rw (no_marker c a w.dash w.point) (and_false (col == 0))
 
-  blank_by : (c : ℕ) (b r : List ℕ) (p : Place) (t : Folded) (tab : Bool) → (t.leading && (c == 9) && nat_lt (p.col + 1) ctx.indent) ≡ tab → is_break c ≡ false → is_blank c ≡ true → (c == 0) ≡ false
+  blank_by : (c : ℕ) (b r : List ℕ) (p : Position) (t : Folded) (tab : Bool) → (t.leading && (c == 9) && nat_lt (p.col + 1) ctx.indent) ≡ tab → is_break c ≡ false → is_blank c ≡ true → (c == 0) ≡ false
       → Step c b r p t (spelled (blank c) 0)
   blank_by c b r p t true e f g nul = is_shallow (by_tab p ((and_parts (t.leading && (c == 9)) (nat_lt (p.col + 1) ctx.indent) e).1) (rw (f, g, e) refl))
   blank_by c b r p t false e f g nul =
       let off : (p.col + 1 == 0) ≡ false = off_margin p.col 0 in
       steps gap (past p) in_gap (rw nul refl) (white_stands c (b ++ r) p.col (rw (f, g) refl)) (rw (same_break c, f, off) refl) (rw (f, g, e) refl)
 
-  lone_break : (c : ℕ) (b r : List ℕ) (p : Place) (t : Folded) → is_break c ≡ true → (c == 0) ≡ false → ((c == 13) && (slice_index (b ++ r) 0 == 10)) ≡ false → Step c b r p t (spelled line_break 0)
+  lone_break : (c : ℕ) (b r : List ℕ) (p : Position) (t : Folded) → is_break c ≡ true → (c == 0) ≡ false → ((c == 13) && (slice_index (b ++ r) 0 == 10)) ≡ false → Step c b r p t (spelled line_break 0)
   lone_break c b r p t e nul f =
       steps gap (past_break p) in_gap (rw nul refl) (white_stands c (b ++ r) p.col (rw e refl)) (rw (same_break c, e) refl) (rw (e, f) refl)
 
-  two_breaks : (b r : List ℕ) (p : Place) (t : Folded) → Step 13 (10 ∷ b) r p t (spelled line_break 1)
+  two_breaks : (b r : List ℕ) (p : Position) (t : Folded) → Step 13 (10 ∷ b) r p t (spelled line_break 1)
   unfolding is_break is_blank classes.is_break
   two_breaks b r p t = steps gap (past_break (past p)) in_gap refl (white_stands 13 (10 ∷ (b ++ r)) p.col refl) (rw (feed_is_no_marker (b ++ r)) refl) refl
 
-  break_by : (c d : ℕ) (b r : List ℕ) (p : Place) (t : Folded) (two : Bool) → ((c == 13) && (d == 10)) ≡ two → is_break c ≡ true → (c == 0) ≡ false → Step c (d ∷ b) r p t (spelled line_break (if two then 1 else 0))
+  break_by : (c d : ℕ) (b r : List ℕ) (p : Position) (t : Folded) (two : Bool) → ((c == 13) && (d == 10)) ≡ two → is_break c ≡ true → (c == 0) ≡ false → Step c (d ∷ b) r p t (spelled line_break (if two then 1 else 0))
   break_by c d b r p t true e f nul =
       let both = and_parts (c == 13) (d == 10) e in
       let first : c ≡ 13 = eqb-true c 13 both.0 in
@@ -152,12 +152,12 @@ module _ (single : Bool) (ctx : Context) (start : Place) where
       rw (first, second) (two_breaks b r p t)
   break_by c d b r p t false e f nul = lone_break c (d ∷ b) r p t f nul e
 
-  break_step : (c : ℕ) (b r : List ℕ) (p : Place) (t : Folded) → (slice_index r 0 == 10) ≡ false → is_break c ≡ true → (c == 0) ≡ false → Step c b r p t (spelled line_break (break_further c b))
+  break_step : (c : ℕ) (b r : List ℕ) (p : Position) (t : Folded) → (slice_index r 0 == 10) ≡ false → is_break c ≡ true → (c == 0) ≡ false → Step c b r p t (spelled line_break (break_further c b))
   break_step c [] r p t no_feed e nul = lone_break c [] r p t e nul (rw no_feed (and_false (c == 13)))
   break_step c (d ∷ b) r p t no_feed e nul = break_by c d b r p t ((c == 13) && (d == 10)) refl e nul
 
   -- a character that means itself
-  itself_by : (c : ℕ) (b r : List ℕ) (p : Place) (t : Folded) (breaks blanks : Bool) → is_break c ≡ breaks → is_blank c ≡ blanks → (slice_index r 0 == 10) ≡ false → ((c == 92) && not single) ≡ false → (c == quote_of single) ≡ false → (c == 0) ≡ false
+  itself_by : (c : ℕ) (b r : List ℕ) (p : Position) (t : Folded) (breaks blanks : Bool) → is_break c ≡ breaks → is_blank c ≡ blanks → (slice_index r 0 == 10) ≡ false → ((c == 92) && not single) ≡ false → (c == quote_of single) ≡ false → (c == 0) ≡ false
       → StepOf c b r p t (plain_element c b)
   unfolding plain_element
   itself_by c b r p t true blanks e f no_feed slash quote nul = rw (same_break c, e) (break_step c b r p t no_feed e nul)
@@ -166,5 +166,5 @@ module _ (single : Bool) (ctx : Context) (start : Place) where
       let g : (is_break c || is_blank c) ≡ false = rw (e, f) refl in
       rw (same_break c, same_blank c, e, f) (content_step c b r 0 c p t g (char_taken c (b ++ r) p (joined t) g slash quote) (rw (same_break c, e) refl) (rw nul refl))
 
-  pub itself_step : (c : ℕ) (b r : List ℕ) (p : Place) (t : Folded) → (slice_index r 0 == 10) ≡ false → ((c == 92) && not single) ≡ false → (c == quote_of single) ≡ false → (c == 0) ≡ false → StepOf c b r p t (plain_element c b)
+  pub itself_step : (c : ℕ) (b r : List ℕ) (p : Position) (t : Folded) → (slice_index r 0 == 10) ≡ false → ((c == 92) && not single) ≡ false → (c == quote_of single) ≡ false → (c == 0) ≡ false → StepOf c b r p t (plain_element c b)
   itself_step c b r p t no_feed slash quote nul = itself_by c b r p t (is_break c) (is_blank c) refl refl no_feed slash quote nul

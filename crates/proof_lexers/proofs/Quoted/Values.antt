@@ -1,6 +1,6 @@
 -- Bodies with a value are read as it.
 use Rattle.std.proofs.Common.{◌≡◌, ℕ, ◌+◌, List, ◌∷◌, ◌++◌, Bool, true, false, ◌||◌, ◌&&◌, ◌==◌, if◌then◌else◌, Option, Some, None, Result, refl, ◌∙◌}
-use Rattle.defs_text.specs.Position.{Place}
+use Rattle.defs_text.specs.Position.{Position}
 use Rattle.yaml_tokens.specs.declared.problem.Fault.{Fault}
 use Rattle.defs_scalar.specs.FlowScalar.{Element, elements, folded_elements, has_document_marker, single_quoted_value, double_quoted_value, lines_of, trimmed, folded}
 use Rattle.model_lexers.specs.declared.context.Context.{Context}
@@ -15,12 +15,12 @@ use Rattle.proof_lexers.proofs.Quoted.Turns.{off_margin, in_gap, scan}
 use Rattle.proof_lexers.proofs.Quoted.NoNul.{has_none, same_marks}
 use Rattle.proof_lexers.proofs.Quoted.Bodies.{Passed, passed, met_marker, was_shallow, passes, quote_still, quote_feed, Opened, opened, not_opened, opens, close}
 
-read_on : (ctx : Context) (start : Place) (text rest : List ℕ) (x y : Result (Read (List ℕ)) Fault) → x ≡ y → IsRead ctx start text rest y → IsRead ctx start text rest x
+read_on : (ctx : Context) (start : Position) (text rest : List ℕ) (x y : Result (Read (List ℕ)) Fault) → x ≡ y → IsRead ctx start text rest y → IsRead ctx start text rest x
 read_on ctx start text rest x y e (read place is) = read place (e ∙ is)
 read_on ctx start text rest x y e (shallow (by_line p h is)) = shallow (by_line p h (e ∙ is))
 read_on ctx start text rest x y e (shallow (by_tab p h is)) = shallow (by_tab p h (e ∙ is))
 
-module _ (single : Bool) (ctx : Context) (body r : List ℕ) (es : List Element) (p : Place) (is : elements (element_of single) 0 body ≡ Some es) (ends : ends_before single r ≡ true) (none : has_marker body (quote_of single ∷ r) ≡ false) where
+module _ (single : Bool) (ctx : Context) (body r : List ℕ) (es : List Element) (p : Position) (is : elements (element_of single) 0 body ≡ Some es) (ends : ends_before single r ≡ true) (none : has_marker body (quote_of single ∷ r) ≡ false) where
   abbrev text : List ℕ
   text = (joined (behind_elements es nothing)).text
 

@@ -2,7 +2,7 @@
 use Rattle.std.proofs.Common.{◌≡◌, ℕ, suc, ◌+◌, List, [], ◌∷◌, ◌++◌, Bool, true, false, ◌||◌, ◌&&◌, not, ◌==◌, Result, Ok, Err, refl, ap, sym, ◌∙◌, arith, append_assoc, nat_lt}
 use Rattle.std.proofs.lemmas.Bool.{and_parts, eqb-true}
 use Rattle.std.proofs.lemmas.Bool.Decides.{nat_tests}
-use Rattle.defs_text.specs.Position.{Place}
+use Rattle.defs_text.specs.Position.{Position}
 use Rattle.defs_text.specs.Text.{is_nil}
 use Rattle.yaml_chars.specs.Class.{is_break, is_blank}
 use Rattle.yaml_tokens.specs.declared.problem.Fault.{Fault}
@@ -10,7 +10,7 @@ use Rattle.yaml_tokens.specs.declared.problem.Fault.TheVariants.{At}
 use Rattle.yaml_tokens.specs.declared.problem.Problem.TheVariants as problem
 use Rattle.defs_text.specs.Classes as classes
 use Rattle.defs_text.specs.Breaks.{is_before_line_feed}
-use Rattle.defs_token.specs.Text.{place_past, place_behind}
+use Rattle.defs_text.specs.Position.{position_past, position_after}
 use Rattle.defs_token.specs.Filler.{is_filler, is_blanks}
 use Rattle.model_lexers.specs.Machine.{past, past_break, is_cr_lf}
 use Rattle.model_scanner.specs.State.{Held, State, in_flow, moved}
@@ -32,12 +32,12 @@ is_tab_line _ = false
 -- from a place between tokens, in a comment, or in a line that begins with a TAB
 data Skips (m : Gap) (s : Held) (a : List ℕ) (x : Result State Fault) : Type 0 where
   skips : (leading : Bool) (filler rest : List ℕ) → a ≡ filler ++ rest → is_filler (is_comment m) filler rest ≡ true → begins_filler rest ≡ false → x ≡ Ok (behind_filler s leading filler rest) → Skips m s a x
-  fails : (before blanks rest : List ℕ) → a ≡ before ++ 9 ∷ (blanks ++ rest) → is_filler (is_comment m) before (9 ∷ (blanks ++ rest)) ≡ true → is_left s (place_behind s.place before (9 ∷ (blanks ++ rest))) ≡ true
-      → is_blanks blanks ≡ true → begins_token rest ≡ true → x ≡ Err (At problem.TabInBlockIndentation (place_behind s.place (before ++ 9 ∷ blanks) rest)) → Skips m s a x
-  fails_here : (blanks rest : List ℕ) → is_tab_line m ≡ true → a ≡ blanks ++ rest → is_blanks blanks ≡ true → begins_token rest ≡ true → x ≡ Err (At problem.TabInBlockIndentation (place_behind s.place blanks rest)) → Skips m s a x
+  fails : (before blanks rest : List ℕ) → a ≡ before ++ 9 ∷ (blanks ++ rest) → is_filler (is_comment m) before (9 ∷ (blanks ++ rest)) ≡ true → is_left s (position_after s.place before (9 ∷ (blanks ++ rest))) ≡ true
+      → is_blanks blanks ≡ true → begins_token rest ≡ true → x ≡ Err (At problem.TabInBlockIndentation (position_after s.place (before ++ 9 ∷ blanks) rest)) → Skips m s a x
+  fails_here : (blanks rest : List ℕ) → is_tab_line m ≡ true → a ≡ blanks ++ rest → is_blanks blanks ≡ true → begins_token rest ≡ true → x ≡ Err (At problem.TabInBlockIndentation (position_after s.place blanks rest)) → Skips m s a x
 
 -- the same levels, at another place
-abbrev pub at : Held → Place → (leading key_allowed : Bool) → Held
+abbrev pub at : Held → Position → (leading key_allowed : Bool) → Held
 at s p leading allowed = record s { place = p; leading = leading; key_allowed = allowed }
 
 skips_on : (m : Gap) (s : Held) (a : List ℕ) (x y : Result State Fault) → x ≡ y → Skips m s a y → Skips m s a x
@@ -63,7 +63,7 @@ no_break_at (c ∷ r) h = by (classes.is_blank c) (classes.is_break c) h
 abbrev pub Allows : Held → ℕ → Bool → List ℕ → Type 0
 Allows s c allowed a = (filler rest : List ℕ) → a ≡ filler ++ rest → begins_break rest ≡ false → ((not (in_flow s) && has_break filler) || allowed) ≡ ((not (in_flow s) && has_break (c ∷ filler)) || s.key_allowed)
 
-same_behind : (s : Held) (rest : List ℕ) (leading : Bool) (p q : Place) (k l : Bool) → p ≡ q → k ≡ l
+same_behind : (s : Held) (rest : List ℕ) (leading : Bool) (p q : Position) (k l : Bool) → p ≡ q → k ≡ l
     → ◌≡◌ {A = Result State Fault} (Ok (record { rest = rest; held = at s p leading k })) (Ok (record { rest = rest; held = at s q leading l }))
 same_behind s rest leading p q k l e f = rw (e, f) refl
 
@@ -81,26 +81,26 @@ is_feed d h = rw h refl
 
 -- behind one character more
 pub passes_more : (s : Held) (c : ℕ) (a : List ℕ) (b k leading : Bool) (filler rest : List ℕ) (x : Result State Fault) → Allows s c k a → a ≡ filler ++ rest → begins_break rest ≡ false
-    → x ≡ Ok (behind_filler (at s (place_past s.place c a) b k) leading filler rest) → x ≡ Ok (behind_filler s leading (c ∷ filler) rest)
+    → x ≡ Ok (behind_filler (at s (position_past s.place c a) b k) leading filler rest) → x ≡ Ok (behind_filler s leading (c ∷ filler) rest)
 passes_more s c a b k leading filler rest x allows cut ends e =
-    e ∙ same_behind s rest leading _ _ _ _ (ap (λ r. place_behind (place_past s.place c r) filler rest) cut) (allows filler rest cut ends)
+    e ∙ same_behind s rest leading _ _ _ _ (ap (λ r. position_after (position_past s.place c r) filler rest) cut) (allows filler rest cut ends)
 
 -- One character more is passed.
 one_more : (m n : Gap) (s : Held) (c : ℕ) (a : List ℕ) (b k : Bool) (x : Result State Fault) → ((filler rest : List ℕ) → is_filler (is_comment n) filler rest ≡ true → is_filler (is_comment m) (c ∷ filler) rest ≡ true) → Allows s c k a
-    → ((blanks rest : List ℕ) → is_tab_line n ≡ true → a ≡ blanks ++ rest → is_blanks blanks ≡ true → begins_token rest ≡ true → x ≡ Err (At problem.TabInBlockIndentation (place_behind (place_past s.place c a) blanks rest)) → Skips m s (c ∷ a) x)
-    → Skips n (at s (place_past s.place c a) b k) a x → Skips m s (c ∷ a) x
+    → ((blanks rest : List ℕ) → is_tab_line n ≡ true → a ≡ blanks ++ rest → is_blanks blanks ≡ true → begins_token rest ≡ true → x ≡ Err (At problem.TabInBlockIndentation (position_after (position_past s.place c a) blanks rest)) → Skips m s (c ∷ a) x)
+    → Skips n (at s (position_past s.place c a) b k) a x → Skips m s (c ∷ a) x
 one_more m n s c a b k x fills allows lines (skips leading filler rest cut is ends e) =
     skips leading (c ∷ filler) rest (ap (λ r. c ∷ r) cut) (fills filler rest is) ends
     (passes_more s c a b k leading filler rest x allows cut (no_break_at rest ends) e)
 one_more m n s c a b k x fills allows lines (fails before blanks rest cut is left are token e) =
-    let here : is_left s (place_behind (place_past s.place c (before ++ 9 ∷ (blanks ++ rest))) before (9 ∷ (blanks ++ rest))) ≡ true = rw cut at left in
+    let here : is_left s (position_after (position_past s.place c (before ++ 9 ∷ (blanks ++ rest))) before (9 ∷ (blanks ++ rest))) ≡ true = rw cut at left in
     fails (c ∷ before) blanks rest (ap (λ r. c ∷ r) cut) (fills before (9 ∷ (blanks ++ rest)) is) here are token
-    (e ∙ ap (λ r. Err (At problem.TabInBlockIndentation (place_behind (place_past s.place c r) (before ++ 9 ∷ blanks) rest))) (cut ∙ sym (append_assoc before (9 ∷ blanks) rest)))
+    (e ∙ ap (λ r. Err (At problem.TabInBlockIndentation (position_after (position_past s.place c r) (before ++ 9 ∷ blanks) rest))) (cut ∙ sym (append_assoc before (9 ∷ blanks) rest)))
 one_more m n s c a b k x fills allows lines (fails_here blanks rest line cut are token e) = lines blanks rest line cut are token e
 
 -- ---- what a character adds
 
-pub moved_in_line : (s : Held) (c : ℕ) (a : List ℕ) → (classes.is_break c && not (is_before_line_feed c a)) ≡ false → moved s ≡ at s (place_past s.place c a) s.leading s.key_allowed
+pub moved_in_line : (s : Held) (c : ℕ) (a : List ℕ) → (classes.is_break c && not (is_before_line_feed c a)) ≡ false → moved s ≡ at s (position_past s.place c a) s.leading s.key_allowed
 moved_in_line s c a e = ap (λ p. at s p s.leading s.key_allowed) (sym (in_line_place c a s.place e))
 
 pub same_allowed : (s : Held) (c : ℕ) (a : List ℕ) → classes.is_break c ≡ false → Allows s c s.key_allowed a
@@ -160,18 +160,18 @@ fills_comment c filler rest e h = let no_break : classes.is_break c ≡ false = 
 -- a character that is no break moves the place by one
 on_line : (m n : Gap) (s : Held) (c : ℕ) (a : List ℕ) (b : Bool) → is_break c ≡ false → ((filler rest : List ℕ) → is_filler (is_comment n) filler rest ≡ true → is_filler (is_comment m) (c ∷ filler) rest ≡ true)
     → ((blanks rest : List ℕ) → is_tab_line n ≡ true → a ≡ blanks ++ rest → is_blanks blanks ≡ true → begins_token rest ≡ true
-    → skip m (c ∷ a) s ≡ Err (At problem.TabInBlockIndentation (place_behind (place_past s.place c a) blanks rest)) → Skips m s (c ∷ a) (skip m (c ∷ a) s))
+    → skip m (c ∷ a) s ≡ Err (At problem.TabInBlockIndentation (position_after (position_past s.place c a) blanks rest)) → Skips m s (c ∷ a) (skip m (c ∷ a) s))
     → Passed a → skip m (c ∷ a) s ≡ skip n a (at s (past s.place) b s.key_allowed) → Skips m s (c ∷ a) (skip m (c ∷ a) s)
 on_line m n s c a b e fills lines ih is =
     let no_break : classes.is_break c ≡ false = same_break c ∙ e in
-    let place : past s.place ≡ place_past s.place c a = sym (in_line_place c a s.place (rw no_break refl)) in
-    let here = at s (place_past s.place c a) b s.key_allowed in
+    let place : past s.place ≡ position_past s.place c a = sym (in_line_place c a s.place (rw no_break refl)) in
+    let here = at s (position_past s.place c a) b s.key_allowed in
     one_more m n s c a b s.key_allowed (skip m (c ∷ a) s) fills (same_allowed s c a no_break) lines
     (skips_on n here a (skip m (c ∷ a) s) (skip n a here) (is ∙ ap (λ p. skip n a (at s p b s.key_allowed)) place) (ih n here))
 
-broken_to : (m : Gap) (s : Held) (c : ℕ) (a : List ℕ) (p : Place) (b k : Bool) → is_break c ≡ true → Allows s c k a → p ≡ place_past s.place c a → Passed a → skip m (c ∷ a) s ≡ skip between a (at s p b k) → Skips m s (c ∷ a) (skip m (c ∷ a) s)
+broken_to : (m : Gap) (s : Held) (c : ℕ) (a : List ℕ) (p : Position) (b k : Bool) → is_break c ≡ true → Allows s c k a → p ≡ position_past s.place c a → Passed a → skip m (c ∷ a) s ≡ skip between a (at s p b k) → Skips m s (c ∷ a) (skip m (c ∷ a) s)
 broken_to m s c a p b k e allows place ih is =
-    let here = at s (place_past s.place c a) b k in
+    let here = at s (position_past s.place c a) b k in
     one_more m between s c a b k (skip m (c ∷ a) s) (λ filler rest h. fills_break m c filler rest e h) allows (λ blanks rest no. cc)
     (skips_on between here a (skip m (c ∷ a) s) (skip between a here) (is ∙ ap (λ q. skip between a (at s q b k)) place) (ih between here))
 
@@ -221,11 +221,11 @@ left_here s h =
 
 -- behind a TAB left of the innermost level
 tab_fails : (s : Held) (c : ℕ) (a blanks rest : List ℕ) → (c == 9) ≡ true → is_before_indent s ≡ true → a ≡ blanks ++ rest → is_blanks blanks ≡ true → begins_token rest ≡ true
-    → skip between (c ∷ a) s ≡ Err (At problem.TabInBlockIndentation (place_behind (place_past s.place c a) blanks rest)) → Skips between s (c ∷ a) (skip between (c ∷ a) s)
+    → skip between (c ∷ a) s ≡ Err (At problem.TabInBlockIndentation (position_after (position_past s.place c a) blanks rest)) → Skips between s (c ∷ a) (skip between (c ∷ a) s)
 tab_fails s c a blanks rest tab left cut are ends is =
     let same : c ≡ 9 = eqb-true c 9 tab in
     fails [] blanks rest (ap (λ d. d ∷ a) same ∙ ap (λ r. 9 ∷ r) cut) refl (left_here s left) are ends
-    (is ∙ ap (λ d. Err (At problem.TabInBlockIndentation (place_behind (place_past s.place d a) blanks rest))) same ∙ ap (λ r. Err (At problem.TabInBlockIndentation (place_behind (place_past s.place 9 r) blanks rest))) cut)
+    (is ∙ ap (λ d. Err (At problem.TabInBlockIndentation (position_after (position_past s.place d a) blanks rest))) same ∙ ap (λ r. Err (At problem.TabInBlockIndentation (position_after (position_past s.place 9 r) blanks rest))) cut)
 
 between_by : (s : Held) (c : ℕ) (a : List ℕ) (tab : Bool) → ((c == 9) && is_before_indent s) ≡ tab → is_break c ≡ false → Passed a → Kind c → Skips between s (c ∷ a) (skip between (c ∷ a) s)
 unfolding skip
@@ -246,7 +246,7 @@ tab_by : (s : Held) (c : ℕ) (a : List ℕ) → is_break c ≡ false → Passed
 unfolding skip
 tab_by s c a e ih (blank g) =
     on_line tab_line tab_line s c a s.leading e (λ filler rest h. fills_blank c filler rest g h)
-    (λ blanks rest line cut are ends is. fails_here (c ∷ blanks) rest refl (ap (λ r. c ∷ r) cut) (rw (same_blank c, g) are) ends (is ∙ ap (λ r. Err (At problem.TabInBlockIndentation (place_behind (place_past s.place c r) blanks rest))) cut))
+    (λ blanks rest line cut are ends is. fails_here (c ∷ blanks) rest refl (ap (λ r. c ∷ r) cut) (rw (same_blank c, g) are) ends (is ∙ ap (λ r. Err (At problem.TabInBlockIndentation (position_after (position_past s.place c r) blanks rest))) cut))
     ih (rw (e, g) refl)
 tab_by s c a e ih (hash g h) = on_line tab_line comment s c a s.leading e (λ filler rest k. fills_hash c filler rest h k) (λ blanks rest no. cc) ih (rw (e, g, h) refl)
 tab_by s c a e ih (token g h) = fails_here [] (c ∷ a) refl refl refl (rw (no_filler c e g h) refl) (rw (e, g, h) refl)

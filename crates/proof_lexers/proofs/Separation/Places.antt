@@ -1,28 +1,29 @@
 -- The place behind two texts, and behind a text of one line.
 use Rattle.std.proofs.Common.{◌≡◌, ℕ, List, [], ◌∷◌, ◌++◌, Bool, true, false, not, length, refl, ap, sym, ◌∙◌, append_assoc}
 use Rattle.std.proofs.lemmas.Bool.{and_parts}
-use Rattle.defs_text.specs.Position.{Place}
+use Rattle.defs_text.specs.Position.{Position}
 use Rattle.defs_text.specs.Classes.{is_break}
-use Rattle.defs_token.specs.Text.{place_past, place_behind, has_no_break}
+use Rattle.defs_text.specs.Position.{position_past, position_after}
+use Rattle.defs_text.specs.Breaks.{has_no_break}
 use Rattle.model_lexers.specs.Machine.{past}
 use Rattle.proof_lexers.specs.NameEnds.{further}
 use Rattle.proof_lexers.proofs.Plain.Turns.{in_line_place}
 use Rattle.proof_lexers.proofs.Properties.Names.{one_further, none_further}
 
 -- the place behind two texts
-pub place_append : (p : Place) (a b next : List ℕ) → place_behind p (a ++ b) next ≡ place_behind (place_behind p a (b ++ next)) b next
+pub place_append : (p : Position) (a b next : List ℕ) → position_after p (a ++ b) next ≡ position_after (position_after p a (b ++ next)) b next
 place_append p [] b next = refl
-place_append p (c ∷ a) b next = ap (λ r. place_behind (place_past p c r) (a ++ b) next) (append_assoc a b next) ∙ place_append (place_past p c (a ++ (b ++ next))) a b next
+place_append p (c ∷ a) b next = ap (λ r. position_after (position_past p c r) (a ++ b) next) (append_assoc a b next) ∙ place_append (position_past p c (a ++ (b ++ next))) a b next
 
 not_true : (b : Bool) → not b ≡ true → b ≡ false
 not_true false h = refl
 not_true true h = cc
 
 -- the place behind a text without a break
-pub place_in_line : (p : Place) (a next : List ℕ) → has_no_break a ≡ true → further (length a) p ≡ place_behind p a next
+pub place_in_line : (p : Position) (a next : List ℕ) → has_no_break a ≡ true → further (length a) p ≡ position_after p a next
 place_in_line p [] next h = none_further p
 place_in_line p (c ∷ a) next h =
     let q = and_parts (not (is_break c)) (has_no_break a) h in
     let no_break : is_break c ≡ false = not_true (is_break c) q.0 in
-    let here : place_past p c (a ++ next) ≡ past p = in_line_place c (a ++ next) p (rw no_break refl) in
-    sym (one_further p (length a)) ∙ place_in_line (past p) a next q.1 ∙ ap (λ q. place_behind q a next) (sym here)
+    let here : position_past p c (a ++ next) ≡ past p = in_line_place c (a ++ next) p (rw no_break refl) in
+    sym (one_further p (length a)) ∙ place_in_line (past p) a next q.1 ∙ ap (λ q. position_after q a next) (sym here)

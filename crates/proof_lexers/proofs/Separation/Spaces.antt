@@ -2,14 +2,14 @@
 use Rattle.std.proofs.Common.{◌≡◌, ℕ, List, [], ◌∷◌, ◌++◌, Bool, true, false, ◌||◌, ◌&&◌, ◌==◌, if◌then◌else◌, Result, Ok, Err, refl, ap, sym, ◌∙◌, arith}
 use Rattle.std.proofs.lemmas.Bool.{eqb-true}
 use Rattle.std.proofs.lemmas.Bool.Decides.{nat_tests}
-use Rattle.defs_text.specs.Position.{Place}
+use Rattle.defs_text.specs.Position.{Position}
 use Rattle.yaml_chars.specs.Class.{is_break, is_blank}
 use Rattle.yaml_tokens.specs.declared.problem.Fault.{Fault}
 use Rattle.yaml_tokens.specs.declared.problem.Fault.TheVariants.{At}
 use Rattle.yaml_tokens.specs.declared.problem.Problem.TheVariants as problem
 use Rattle.defs_text.specs.Classes as classes
 use Rattle.defs_scalar.specs.FlowScalar.{begins_with}
-use Rattle.defs_token.specs.Text.{place_past, place_behind}
+use Rattle.defs_text.specs.Position.{position_past, position_after}
 use Rattle.defs_token.specs.Filler.{is_filler}
 use Rattle.model_lexers.specs.declared.context.SkipTabs.{SkipTabs}
 use Rattle.model_lexers.specs.declared.context.Whitespace.{Whitespace}
@@ -36,16 +36,16 @@ line_ends tabs [] h = refl
 line_ends tabs (c ∷ r) h = let q = break_ends tabs c h in rw (q.0, q.1, q.2) refl
 
 -- the rest of a line
-record Line (a : List ℕ) (p : Place) : Type 0 where
+record Line (a : List ℕ) (p : Position) : Type 0 where
   line : List ℕ
   rest : List ℕ
   cut : a ≡ line ++ rest
   fills : is_filler true line rest ≡ true
   breaks : has_break line ≡ false
   ends : is_line_end rest ≡ true
-  is : skip_while is_line a p ≡ record { rest = rest; place = place_behind p line rest; value = tt }
+  is : skip_while is_line a p ≡ record { rest = rest; place = position_after p line rest; value = tt }
 
-line_of : (a : List ℕ) (p : Place) → Line a p
+line_of : (a : List ℕ) (p : Position) → Line a p
 line_of [] p = record { line = []; rest = []; cut = refl; fills = refl; breaks = refl; ends = refl; is = refl }
 line_of (c ∷ a) p = by (is_break c) refl (line_of a (past p))
   where
@@ -55,7 +55,7 @@ line_of (c ∷ a) p = by (is_break c) refl (line_of a (past p))
         record { line = []; rest = c ∷ a; cut = refl; fills = rw breaks refl; breaks = refl; ends = e; is = rw e refl }
     by false e z =
         let no_break : classes.is_break c ≡ false = same_break c ∙ e in
-        let place : past p ≡ place_past p c (z.line ++ z.rest) = sym (in_line_place c (z.line ++ z.rest) p (rw no_break refl)) in
+        let place : past p ≡ position_past p c (z.line ++ z.rest) = sym (in_line_place c (z.line ++ z.rest) p (rw no_break refl)) in
         record {
           line = c ∷ z.line;
           rest = z.rest;
@@ -63,16 +63,16 @@ line_of (c ∷ a) p = by (is_break c) refl (line_of a (past p))
           fills = rw no_break (z.fills);
           breaks = rw no_break (z.breaks);
           ends = z.ends;
-          is = rw e (z.is ∙ ap (λ q. record { rest = z.rest; place = place_behind q z.line z.rest; value = tt }) place);
+          is = rw e (z.is ∙ ap (λ q. record { rest = z.rest; place = position_after q z.line z.rest; value = tt }) place);
         }
 
 -- from a place behind some blanks on
-data Passes (tabs : SkipTabs) (w : Whitespace) (p : Place) (a : List ℕ) (x : Result (Read Whitespace) Fault) : Type 0 where
+data Passes (tabs : SkipTabs) (w : Whitespace) (p : Position) (a : List ℕ) (x : Result (Read Whitespace) Fault) : Type 0 where
   passed : (blanks comment rest : List ℕ) → a ≡ blanks ++ (comment ++ rest) → are_spaces tabs blanks ≡ true → is_filler false (blanks ++ comment) rest ≡ true → has_break (blanks ++ comment) ≡ false → ends_spaces tabs rest ≡ true
       → x ≡ Ok (behind_space p (blanks ++ comment) rest (record { found_tabs = w.found_tabs || has 9 blanks; has_valid_yaml_ws = w.has_valid_yaml_ws || has 32 blanks })) → Passes tabs w p a x
   stuck : begins_with 35 a ≡ true → (w.found_tabs || w.has_valid_yaml_ws) ≡ false → x ≡ Err (At problem.CommentNotSeparated p) → Passes tabs w p a x
 
-passes_on : (tabs : SkipTabs) (w : Whitespace) (p : Place) (a : List ℕ) (x y : Result (Read Whitespace) Fault) → x ≡ y → Passes tabs w p a y → Passes tabs w p a x
+passes_on : (tabs : SkipTabs) (w : Whitespace) (p : Position) (a : List ℕ) (x y : Result (Read Whitespace) Fault) → x ≡ y → Passes tabs w p a y → Passes tabs w p a x
 passes_on tabs w p a x y e (passed blanks comment rest cut are is breaks ends k) = passed blanks comment rest cut are is breaks ends (e ∙ k)
 passes_on tabs w p a x y e (stuck begins none k) = stuck begins none (e ∙ k)
 
@@ -80,42 +80,42 @@ or_both : (a b : Bool) → (a || (true || b)) ≡ true
 or_both true b = refl
 or_both false b = refl
 
-same_space : (p q : Place) (rest : List ℕ) (a b c d : Bool) → p ≡ q → a ≡ b → c ≡ d
+same_space : (p q : Position) (rest : List ℕ) (a b c d : Bool) → p ≡ q → a ≡ b → c ≡ d
     → ◌≡◌ {A = Result (Read Whitespace) Fault} (Ok (record { rest = rest; place = p; value = record { found_tabs = a; has_valid_yaml_ws = c } })) (Ok (record { rest = rest; place = q; value = record { found_tabs = b; has_valid_yaml_ws = d } }))
 same_space p q rest a b c d e f g = rw (e, f, g) refl
 
 -- One blank more is passed.
-one_more : (tabs : SkipTabs) (w v : Whitespace) (p : Place) (c : ℕ) (a : List ℕ) (x : Result (Read Whitespace) Fault) → is_blank c ≡ true → is_break c ≡ false → ((c == 32) || ((c == 9) && are_skipped tabs)) ≡ true
+one_more : (tabs : SkipTabs) (w v : Whitespace) (p : Position) (c : ℕ) (a : List ℕ) (x : Result (Read Whitespace) Fault) → is_blank c ≡ true → is_break c ≡ false → ((c == 32) || ((c == 9) && are_skipped tabs)) ≡ true
     → ((b : List ℕ) → (v.found_tabs || has 9 b) ≡ (w.found_tabs || has 9 (c ∷ b))) → ((b : List ℕ) → (v.has_valid_yaml_ws || has 32 b) ≡ (w.has_valid_yaml_ws || has 32 (c ∷ b))) → (v.found_tabs || v.has_valid_yaml_ws) ≡ true
     → Passes tabs v (past p) a x → Passes tabs w p (c ∷ a) x
 one_more tabs w v p c a x blank break of tab space some (passed blanks comment rest cut are is breaks ends e) =
     let is_blank_here : classes.is_blank c ≡ true = same_blank c ∙ blank in
     let no_break : classes.is_break c ≡ false = same_break c ∙ break in
-    let place : past p ≡ place_past p c ((blanks ++ comment) ++ rest) = sym (in_line_place c ((blanks ++ comment) ++ rest) p (rw no_break refl)) in
+    let place : past p ≡ position_past p c ((blanks ++ comment) ++ rest) = sym (in_line_place c ((blanks ++ comment) ++ rest) p (rw no_break refl)) in
     passed (c ∷ blanks) comment rest (ap (λ r. c ∷ r) cut) (rw of are) (rw (is_blank_here, no_hash c blank) is) (rw no_break breaks) ends
-    (e ∙ same_space _ _ rest _ _ _ _ (ap (λ q. place_behind q (blanks ++ comment) rest) place) (tab blanks) (space blanks))
+    (e ∙ same_space _ _ rest _ _ _ _ (ap (λ q. position_after q (blanks ++ comment) rest) place) (tab blanks) (space blanks))
 one_more tabs w v p c a x blank break of tab space some (stuck begins none e) = let both : true ≡ false = sym some ∙ none in cc
 
 module _ (tabs : SkipTabs) where
   abbrev Passed : List ℕ → Type 0
-  Passed a = (w : Whitespace) (p : Place) → Passes tabs w p a (space_from tabs a (record { place = p; found = w }))
+  Passed a = (w : Whitespace) (p : Position) → Passes tabs w p a (space_from tabs a (record { place = p; found = w }))
 
-  space_more : (a : List ℕ) (w : Whitespace) (p : Place) → Passed a → Passes tabs w p (32 ∷ a) (space_from tabs (32 ∷ a) (record { place = p; found = w }))
+  space_more : (a : List ℕ) (w : Whitespace) (p : Position) → Passed a → Passes tabs w p (32 ∷ a) (space_from tabs (32 ∷ a) (record { place = p; found = w }))
   unfolding is_blank is_break
   space_more a w p ih =
       one_more tabs w (record w { has_valid_yaml_ws = true }) p 32 a _ refl refl refl (λ b. refl) (λ b. sym (or_both w.has_valid_yaml_ws (has 32 b))) (or_true w.found_tabs) (ih (record w { has_valid_yaml_ws = true }) (past p))
 
-  tab_more : (a : List ℕ) (w : Whitespace) (p : Place) → are_skipped tabs ≡ true → Passed a → Passes tabs w p (9 ∷ a) (space_from tabs (9 ∷ a) (record { place = p; found = w }))
+  tab_more : (a : List ℕ) (w : Whitespace) (p : Position) → are_skipped tabs ≡ true → Passed a → Passes tabs w p (9 ∷ a) (space_from tabs (9 ∷ a) (record { place = p; found = w }))
   unfolding is_blank is_break
   tab_more a w p skipped ih =
       one_more tabs w (record w { found_tabs = true }) p 9 a _ refl refl (rw skipped refl) (λ b. sym (or_both w.found_tabs (has 9 b))) (λ b. refl) refl
       (passes_on tabs (record w { found_tabs = true }) (past p) a _ _ (rw skipped refl) (ih (record w { found_tabs = true }) (past p)))
 
-  hash_place : (p : Place) (l rest : List ℕ) → place_behind (past p) l rest ≡ place_behind p (35 ∷ l) rest
+  hash_place : (p : Position) (l rest : List ℕ) → position_after (past p) l rest ≡ position_after p (35 ∷ l) rest
   unfolding classes.is_break
-  hash_place p l rest = ap (λ q. place_behind q l rest) (sym (in_line_place 35 (l ++ rest) p refl))
+  hash_place p l rest = ap (λ q. position_after q l rest) (sym (in_line_place 35 (l ++ rest) p refl))
 
-  comment_here : (a : List ℕ) (w : Whitespace) (p : Place) → Passes tabs w p (35 ∷ a) (comment_behind w (35 ∷ a) p)
+  comment_here : (a : List ℕ) (w : Whitespace) (p : Position) → Passes tabs w p (35 ∷ a) (comment_behind w (35 ∷ a) p)
   unfolding is_break classes.is_break classes.is_blank
   comment_here a w p = by (w.found_tabs || w.has_valid_yaml_ws) refl (line_of a (past p))
     where
@@ -126,14 +126,14 @@ module _ (tabs : SkipTabs) where
           (ap (λ r. Ok (with_found w r)) z.is ∙ same_space _ _ z.rest _ _ _ _ (hash_place p z.line z.rest) (sym (or_false w.found_tabs)) (sym (or_false w.has_valid_yaml_ws)))
       by false e z = stuck refl e refl
 
-  stop_here : (c : ℕ) (a : List ℕ) (w : Whitespace) (p : Place) (hash : Bool) → (c == 35) ≡ hash → (c == 32) ≡ false → ((c == 9) && are_skipped tabs) ≡ false → Passes tabs w p (c ∷ a) (space_from tabs (c ∷ a) (record { place = p; found = w }))
+  stop_here : (c : ℕ) (a : List ℕ) (w : Whitespace) (p : Position) (hash : Bool) → (c == 35) ≡ hash → (c == 32) ≡ false → ((c == 9) && are_skipped tabs) ≡ false → Passes tabs w p (c ∷ a) (space_from tabs (c ∷ a) (record { place = p; found = w }))
   stop_here c a w p true h e f =
       let same : c ≡ 35 = eqb-true c 35 h in
       passes_on tabs w p (c ∷ a) _ (comment_behind w (c ∷ a) p) (rw (e, f, h) refl) (rw same (comment_here a w p))
   stop_here c a w p false h e f =
       passed [] [] (c ∷ a) refl refl refl refl (rw (e, f, h) refl) (rw (e, f, h) (same_space p p (c ∷ a) _ _ _ _ refl (sym (or_false w.found_tabs)) (sym (or_false w.has_valid_yaml_ws))))
 
-  step : (c : ℕ) (a : List ℕ) (w : Whitespace) (p : Place) (space tab skipped : Bool) → (c == 32) ≡ space → (c == 9) ≡ tab → are_skipped tabs ≡ skipped → Passed a → Passes tabs w p (c ∷ a) (space_from tabs (c ∷ a) (record { place = p; found = w }))
+  step : (c : ℕ) (a : List ℕ) (w : Whitespace) (p : Position) (space tab skipped : Bool) → (c == 32) ≡ space → (c == 9) ≡ tab → are_skipped tabs ≡ skipped → Passed a → Passes tabs w p (c ∷ a) (space_from tabs (c ∷ a) (record { place = p; found = w }))
   step c a w p true tab skipped e f g ih = let same : c ≡ 32 = eqb-true c 32 e in rw same (space_more a w p ih)
   step c a w p false true true e f g ih = let same : c ≡ 9 = eqb-true c 9 f in rw same (tab_more a w p g ih)
   step c a w p false true false e f g ih = stop_here c a w p (c == 35) refl e (rw (f, g) refl)

@@ -1,7 +1,7 @@
 -- What the model passes behind a `?` is a filler.
 use Rattle.std.proofs.Common.{◌≡◌, ℕ, List, [], ◌∷◌, ◌++◌, Bool, true, false, ◌||◌, not, ◌==◌, Result, Ok, Err, refl, ap, sym, ◌∙◌}
 use Rattle.std.proofs.lemmas.Bool.{eqb-true}
-use Rattle.defs_text.specs.Position.{Place}
+use Rattle.defs_text.specs.Position.{Position}
 use Rattle.yaml_chars.specs.Class.{is_break, is_blank}
 use Rattle.yaml_tokens.specs.declared.problem.Fault.{Fault}
 use Rattle.yaml_tokens.specs.declared.problem.Fault.TheVariants.{At}
@@ -9,7 +9,7 @@ use Rattle.yaml_tokens.specs.declared.problem.Problem.TheVariants as problem
 use Rattle.defs_text.specs.Classes as classes
 use Rattle.defs_text.specs.Breaks.{is_before_line_feed}
 use Rattle.defs_scalar.specs.FlowScalar.{begins_with}
-use Rattle.defs_token.specs.Text.{place_past, place_behind}
+use Rattle.defs_text.specs.Position.{position_past, position_after}
 use Rattle.defs_token.specs.Filler.{is_filler}
 use Rattle.model_lexers.specs.Machine.{past, past_break, is_cr_lf}
 use Rattle.model_scanner.specs.State.{Held, State, in_flow, moved}
@@ -25,7 +25,7 @@ use Rattle.proof_lexers.proofs.Separation.Fillers.{at, Allows, begins_break, sta
 data Goes (in_comment found : Bool) (s : Held) (a : List ℕ) (x : Result State Fault) : Type 0 where
   gone : (leading : Bool) (filler rest : List ℕ) → a ≡ filler ++ rest → is_filler in_comment filler rest ≡ true → begins_white_space rest ≡ false → x ≡ Ok (behind_filler s leading filler rest) → Goes in_comment found s a x
   missed : (filler rest : List ℕ) → found ≡ false → a ≡ filler ++ rest → is_filler in_comment filler rest ≡ true → (in_comment || not (begins_with 32 a)) ≡ true → has_break filler ≡ false → begins_white_space rest ≡ false
-      → x ≡ Err (At problem.WhitespaceExpected (place_behind s.place filler rest)) → Goes in_comment found s a x
+      → x ≡ Err (At problem.WhitespaceExpected (position_after s.place filler rest)) → Goes in_comment found s a x
 
 goes_on : (i f : Bool) (s : Held) (a : List ℕ) (x y : Result State Fault) → x ≡ y → Goes i f s a y → Goes i f s a x
 goes_on i f s a x y e (gone leading filler rest cut is ends k) = gone leading filler rest cut is ends (e ∙ k)
@@ -42,12 +42,12 @@ no_break_at (c ∷ r) h = by (c == 32) (classes.is_break c) h
 
 -- One character more is passed; a space or a break is found there, or it begins or continues a comment.
 one_more : (i j f g : Bool) (s : Held) (c : ℕ) (a : List ℕ) (b k : Bool) (x : Result State Fault) → ((filler rest : List ℕ) → is_filler j filler rest ≡ true → is_filler i (c ∷ filler) rest ≡ true) → Allows s c k a
-    → (g ≡ false → (f ≡ false) × (classes.is_break c ≡ false) × ((i || not (c == 32)) ≡ true)) → Goes j g (at s (place_past s.place c a) b k) a x → Goes i f s (c ∷ a) x
+    → (g ≡ false → (f ≡ false) × (classes.is_break c ≡ false) × ((i || not (c == 32)) ≡ true)) → Goes j g (at s (position_past s.place c a) b k) a x → Goes i f s (c ∷ a) x
 one_more i j f g s c a b k x fills allows founds (gone leading filler rest cut is ends e) =
     gone leading (c ∷ filler) rest (ap (λ r. c ∷ r) cut) (fills filler rest is) ends (passes_more s c a b k leading filler rest x allows cut (no_break_at rest ends) e)
 one_more i j f g s c a b k x fills allows founds (missed filler rest none cut is here breaks ends e) =
     let z = founds none in
-    missed (c ∷ filler) rest z.0 (ap (λ r. c ∷ r) cut) (fills filler rest is) z.2 (rw z.1 breaks) ends (e ∙ ap (λ r. Err (At problem.WhitespaceExpected (place_behind (place_past s.place c r) filler rest))) cut)
+    missed (c ∷ filler) rest z.0 (ap (λ r. c ∷ r) cut) (fills filler rest is) z.2 (rw z.1 breaks) ends (e ∙ ap (λ r. Err (At problem.WhitespaceExpected (position_after (position_past s.place c r) filler rest))) cut)
 
 abbrev Passed : List ℕ → Type 0
 Passed a = (i f : Bool) (s : Held) → Goes i f s a (white i f a s)
@@ -56,9 +56,9 @@ fills_break : (i : Bool) (c : ℕ) (filler rest : List ℕ) → is_break c ≡ t
 fills_break true c filler rest e h = rw (same_break c, e) h
 fills_break false c filler rest e h = let breaks : classes.is_break c ≡ true = same_break c ∙ e in rw (breaks, or_true (classes.is_blank c), no_break_hash c e) h
 
-broken_to : (i f : Bool) (s : Held) (c : ℕ) (a : List ℕ) (p : Place) (b k : Bool) → is_break c ≡ true → Allows s c k a → p ≡ place_past s.place c a → Passed a → white i f (c ∷ a) s ≡ white false true a (at s p b k) → Goes i f s (c ∷ a) (white i f (c ∷ a) s)
+broken_to : (i f : Bool) (s : Held) (c : ℕ) (a : List ℕ) (p : Position) (b k : Bool) → is_break c ≡ true → Allows s c k a → p ≡ position_past s.place c a → Passed a → white i f (c ∷ a) s ≡ white false true a (at s p b k) → Goes i f s (c ∷ a) (white i f (c ∷ a) s)
 broken_to i f s c a p b k e allows place ih is =
-    let here = at s (place_past s.place c a) b k in
+    let here = at s (position_past s.place c a) b k in
     one_more i false f true s c a b k (white i f (c ∷ a) s) (λ filler rest h. fills_break i c filler rest e h) allows (λ none. cc)
     (goes_on false true here a (white i f (c ∷ a) s) (white false true a here) (is ∙ ap (λ q. white false true a (at s q b k)) place) (ih false true here))
 
@@ -77,8 +77,8 @@ on_line : (i j f g : Bool) (s : Held) (c : ℕ) (a : List ℕ) → is_break c �
     → (g ≡ false → (f ≡ false) × ((i || not (c == 32)) ≡ true)) → Passed a → white i f (c ∷ a) s ≡ white j g a (moved s) → Goes i f s (c ∷ a) (white i f (c ∷ a) s)
 on_line i j f g s c a e fills founds ih is =
     let no_break : classes.is_break c ≡ false = same_break c ∙ e in
-    let place : past s.place ≡ place_past s.place c a = sym (in_line_place c a s.place (rw no_break refl)) in
-    let here = at s (place_past s.place c a) s.leading s.key_allowed in
+    let place : past s.place ≡ position_past s.place c a = sym (in_line_place c a s.place (rw no_break refl)) in
+    let here = at s (position_past s.place c a) s.leading s.key_allowed in
     one_more i j f g s c a s.leading s.key_allowed (white i f (c ∷ a) s) fills (same_allowed s c a no_break) (λ none. let z = founds none in (z.0, no_break, z.1))
     (goes_on j g here a (white i f (c ∷ a) s) (white j g a here) (is ∙ ap (λ p. white j g a (at s p s.leading s.key_allowed)) place) (ih j g here))
 

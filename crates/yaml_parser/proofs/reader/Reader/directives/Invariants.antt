@@ -1,5 +1,5 @@
 use Rattle.std.proofs.Common.{◌≡◌, ◌≤◌, List, false}
-use Rattle.defs_text.specs.Position.{Place}
+use Rattle.defs_text.specs.Position.{Position}
 use Rattle.defs_event.specs.Event.{Ev}
 use Rattle.defs_event.specs.Names.{Names}
 use Rattle.yaml_parser.specs.Directing.{Directing}
@@ -11,7 +11,7 @@ invariant-directives g l = record {
   work : work l.self ≤ work l.fn.self;
   keeping : l.self.names.keeping ≡ l.fn.self.names.keeping;
   start : l.self.tokens.scanner.start ≡ l.fn.self.tokens.scanner.start;
-  at : (names : Names) (given : List (Ev × Place)) → Directing l.fn.self names given false → Directing l.self names given l.versioned;
+  at : (names : Names) (given : List (Ev × Position)) → Directing l.fn.self names given false → Directing l.self names given l.versioned;
 }
 
 abbrev pub decreases-directives : goal.decreases-directives

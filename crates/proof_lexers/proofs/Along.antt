@@ -1,0 +1,17 @@
+-- The position after characters of a line.
+use Rattle.std.proofs.Common.{◌≡◌, ℕ, ◌≤◌, List, [], ◌∷◌, ◌++◌, refl, arith}
+use Rattle.defs_text.specs.Position.{Position}
+use Rattle.model_lexers.specs.Machine.{past}
+use Rattle.proof_lexers.specs.HeaderEnds.{along}
+
+pub along_append : (a b : List ℕ) (p : Position) → along (a ++ b) p ≡ along b (along a p)
+along_append [] b p = refl
+along_append (c ∷ a) b p = along_append a b (past p)
+
+pub along_more : (a : List ℕ) (p : Position) → p.col ≤ (along a p).col
+along_more [] p = omega arith
+along_more (c ∷ a) p = let h = along_more a (past p) in omega (arith, h)
+
+pub along_line : (a : List ℕ) (p : Position) → (along a p).line ≡ p.line
+along_line [] p = refl
+along_line (c ∷ a) p = along_line a (past p)
