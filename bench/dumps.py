@@ -51,7 +51,7 @@ class Programs:
 
     def instructions_of_original(self, path, settings):
         number, dump = counted([self.original, "dump", *settings, path], "--toggle-collect=" + EMITTER)
-        # It prints a line feed behind each dump.
+        # It prints a line feed after each dump.
         return number, len(dump) - 1
 
     def seconds(self, path, settings, turns):

@@ -29,7 +29,7 @@ KINDS = [compare.short, compare.mutated, compare.longer, compare.mutated, compar
 
 
 def grown(r):
-    """A piece repeated, behind another one and before a third."""
+    """A piece repeated, after another one and before a third."""
     piece = compare.short(r)
     return r.choice(["", "", compare.short(r)]) + piece * (GROWN // len(piece)) + r.choice(["", "", compare.short(r)])
 

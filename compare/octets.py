@@ -18,7 +18,7 @@ def exhaustive(length):
 
 
 def seeded(r):
-    """A mark or none, then whole characters in its encoding, each behind some bytes of the alphabet now and then."""
+    """A mark or none, then whole characters in its encoding, each after some bytes of the alphabet now and then."""
     mark = r.choice(MARKS)
     encoding = {b"\xff\xfe": "utf-16-le", b"\xfe\xff": "utf-16-be", b"\x00a": "utf-16-be", b"a\x00": "utf-16-le"}.get(mark, "utf-8")
     out = [mark]

@@ -43,7 +43,7 @@ def first_difference(ours, theirs):
 # ---- pairs without braces in flow sequences
 
 def is_braced(tokens, i):
-    """Whether the start of a flow mapping is a `{`: a pair's start has a token of an earlier place behind it."""
+    """Whether the start of a flow mapping is a `{`: a pair's start has a token of an earlier place after it."""
     return i + 1 >= len(tokens) or tokens[i + 1].index >= tokens[i].index and tokens[i + 1].what not in ("Key", "Value") or tokens[i + 1].index > tokens[i].index
 
 
@@ -84,7 +84,7 @@ def key_before(out):
     return None
 
 
-def behind_colon(text, t):
+def after_colon(text, t):
     i = t.index + 1
     if text[i:i + 1] == "\t":
         while text[i:i + 1] in (" ", "\t") and text[i:i + 1]:
@@ -112,7 +112,7 @@ def with_one_flag(text, tokens):
             implicit = level > 0 and not started
             colons[t.index] = implicit
             if implicit:
-                step = behind_colon(text, t)
+                step = after_colon(text, t)
                 start = Token(t.text()); start.what = "FlowMappingStart"; start.index += step; start.col += step
                 j = key_before(out)
                 if j is not None and not (text[out[j].index:out[j].index + 1] == "?" and (text[out[j].index + 1:out[j].index + 2] or "\0") in BLANKS):
@@ -149,9 +149,9 @@ def characters(text, ours, theirs):
     if any(ord(c) > 127 for c in text) and ("|" in text or ">" in text) and len(ours) == len(theirs):
         if all(COLUMNS.sub("", a) == COLUMNS.sub("", b) for a, b in zip(ours, theirs)):
             i, a, _ = first_difference(ours, theirs)
-            is_behind = any("Scalar(Literal" in l or "Scalar(Folded" in l for l in ours[:i + 1])
+            is_after = any("Scalar(Literal" in l or "Scalar(Folded" in l for l in ours[:i + 1])
             # Tokens that waited when a fault was met aren't handed out.
-            if is_behind or a.startswith("ERR") and re.search(r"[|>][^\n\r]*[\n\r].*[^\x00-\x7f]", text, re.S):
+            if is_after or a.startswith("ERR") and re.search(r"[|>][^\n\r]*[\n\r].*[^\x00-\x7f]", text, re.S):
                 return "bytes past the window"
     return None
 
@@ -178,12 +178,12 @@ def tab_before_comment(text, ours, theirs):
     if re.search(r"[\n\r][ \t]*\t[ \t]*#", text) and "Scalar(Plain" in b:
         m, n = re.search(r'Scalar\(Plain, "(.*)"', a), re.search(r'Scalar\(Plain, "(.*)"', b)
         if m and n and n[1].startswith(m[1]):
-            return "a comment behind a TAB"
+            return "a comment after a TAB"
     return None
 
 
 def pairs_and_characters(text, ours, theirs):
-    """One flag, and columns and indices that count bytes behind a block scalar."""
+    """One flag, and columns and indices that count bytes after a block scalar."""
     if not any(ord(c) > 127 for c in text) or not ("|" in text or ">" in text):
         return None
     def plain(lines): return [COLUMNS.sub("", l) for l in lines if l]
@@ -215,7 +215,7 @@ def tab_before_comment_in_a_key(text, ours, theirs):
 
     def plain(these): return [COLUMNS.sub("", t if isinstance(t, str) else t.text()) for t in these]
     if is_there and plain(other) in (plain(tokens), plain(with_one_flag(text, tokens)[0])):
-        return "a comment behind a TAB"
+        return "a comment after a TAB"
     return None
 
 
@@ -239,7 +239,7 @@ def explain_events(text, ours, theirs, tokens):
         return None
     i, a, b = difference
     whats = [t.what for t in tokens]
-    # An empty key behind `?` in a flow sequence.
+    # An empty key after `?` in a flow sequence.
     levels = []
     for j, what in enumerate(whats):
         if what in ("FlowSequenceStart", "FlowMappingStart"):
@@ -248,7 +248,7 @@ def explain_events(text, ours, theirs, tokens):
             levels.pop()
         elif what == "Key" and levels and levels[-1] == "FlowSequenceStart":
             if whats[j + 1:j + 2] and whats[j + 1] in ("Value", "FlowEntry", "FlowSequenceEnd"):
-                return "an empty key behind `?`"
+                return "an empty key after `?`"
     if len(ours) == len(theirs) and all(PLACE.sub("", x) == PLACE.sub("", y) for x, y in zip(ours, theirs)):
         if all(x == y or x.startswith("MappingEnd") for x, y in zip(ours, theirs)) and "?" in text:
             return "the end of a pair that began with `?`"

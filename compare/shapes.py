@@ -1,6 +1,6 @@
 """Documents in the shapes of real files: settings, CI and compose files, API descriptions, charts, front matter.
 
-Each is made of a word list by a grammar of shapes, and then disturbed a little: CR LF for the line feeds, TABs behind dashes and colons,
+Each is made of a word list by a grammar of shapes, and then disturbed a little: CR LF for the line feeds, TABs after dashes and colons,
 comments, blank lines, blanks at ends of lines, now and then a character that is dropped or doubled.
 """
 
@@ -63,13 +63,13 @@ def scalar(r, n):
     return block_text(r, n)
 
 
-def value(r, depth, step, behind):
-    """What stands behind a key's colon or a dash: its first line's rest, and lines that are already indented."""
+def value(r, depth, step, after):
+    """What stands after a key's colon or a dash: its first line's rest, and lines that are already indented."""
     k = r.random()
     props = r.choice(["", "", "", "", "", "", "", "", "", "&anchor ", "!tag ", "!!map ", "&a1 "]) if k > 0.5 else ""
     if depth == 0 or k < 0.5: return scalar(r, step)
     if k < 0.75: return props.rstrip(), indented(mapping(r, depth - 1), step)
-    if k < 0.95: return props.rstrip(), indented(sequence(r, depth - 1), 0 if behind == ":" and r.random() < 0.5 else step)
+    if k < 0.95: return props.rstrip(), indented(sequence(r, depth - 1), 0 if after == ":" and r.random() < 0.5 else step)
     return props + r.choice(["# why", ""]), []
 
 

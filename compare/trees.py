@@ -243,7 +243,7 @@ def explain(trees, spread, multiline, ours, theirs):
 
 
 def with_lost_keys(tree):
-    """The tree as it is where a key that is a bad value counts as no key: what comes behind it is taken as the key."""
+    """The tree as it is where a key that is a bad value counts as no key: what comes after it is taken as the key."""
     kind, it = tree
     if kind == "array":
         return kind, [with_lost_keys(x) for x in it]

@@ -1,4 +1,4 @@
-// Loads each text of standard input, which stands behind its length in four bytes, and prints how many load, and the most time a byte.
+// Loads each text of standard input, which stands after its length in four bytes, and prints how many load, and the most time a byte.
 #include <stdint.h>
 #include <stdio.h>
 #include <stdlib.h>

@@ -1,5 +1,5 @@
 // Refuses requests for memory of a program that it is loaded into, and counts them: REFUSE_AT is the first that is refused (0: none),
-// REFUSE_ALL whether all behind it are refused too, REFUSE_COUNT the file that the count goes into.
+// REFUSE_ALL whether all after it are refused too, REFUSE_COUNT the file that the count goes into.
 #define _GNU_SOURCE
 #include <dlfcn.h>
 #include <stdio.h>

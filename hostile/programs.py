@@ -48,7 +48,7 @@ class Refuser:
                 refused += 1
                 why = is_well(whole, ran)
                 if why:
-                    print("%s, request %d%s: %s" % (" ".join(command), at, " and all behind it" if for_good else "", why))
+                    print("%s, request %d%s: %s" % (" ".join(command), at, " and all after it" if for_good else "", why))
                 at += 1
         return refused
 

@@ -17,7 +17,7 @@ use Rattle.defs_event.specs.Event.{Tag, Ev}
 use Rattle.defs_event.specs.Scalar.{by_name, scalar_tree}
 use Rattle.defs_event.specs.Names.{core_prefix}
 use Rattle.defs_event.specs.Anchors.{Anchors, aliased, finished}
-use Rattle.defs_event.specs.Unfinished.{Opened, opened_sequence, opened_mapping, Unfinished, Step, reads, repeats, out_of_nesting, with_root, with_tree, with_node, with_start, with_sequence_end, with_mapping_end, with_document_end, with_event, Loader, at_work, noted, refused, new_loader, loader_behind, with_event_at, with_events, documents_of}
+use Rattle.defs_event.specs.Unfinished.{Opened, opened_sequence, opened_mapping, Unfinished, Step, reads, repeats, out_of_nesting, with_root, with_tree, with_node, with_start, with_sequence_end, with_mapping_end, with_document_end, with_event, Loader, at_work, noted, refused, new_loader, loader_after, with_event_at, with_events, documents_of}
 use Rattle.defs_event.specs.NoAlias.{HasNoAlias}
 
 -- each of a list has it
@@ -202,14 +202,14 @@ OfLoader P (at_work u) = OfUnfinished P u
 OfLoader P (noted docs key p) = Each P docs
 OfLoader P (refused docs p) = Each P docs
 
-of_loader_behind : (P : Tree → Type 0) (s : Step) (docs : List Tree) (p : Position) → OfStep P s → Each P docs → OfLoader P (loader_behind s docs p)
-of_loader_behind P (reads u) docs p h d = h
-of_loader_behind P (repeats key) docs p h d = d
-of_loader_behind P out_of_nesting docs p h d = d
+of_loader_after : (P : Tree → Type 0) (s : Step) (docs : List Tree) (p : Position) → OfStep P s → Each P docs → OfLoader P (loader_after s docs p)
+of_loader_after P (reads u) docs p h d = h
+of_loader_after P (repeats key) docs p h d = d
+of_loader_after P out_of_nesting docs p h d = d
 
 of_events : (P : Tree → Type 0) → IsKept P → (es : List (Ev × Position)) (l : Loader) → OfLoader P l → OfLoader P (with_events l es)
 of_events P k [] l h = h
-of_events P k (e ∷ es) (at_work u) h = of_events P k es (with_event_at (at_work u) e.0 e.1) (of_loader_behind P (with_event u e.0) u.documents e.1 (of_event P k u e.0 h) h.documents)
+of_events P k (e ∷ es) (at_work u) h = of_events P k es (with_event_at (at_work u) e.0 e.1) (of_loader_after P (with_event u e.0) u.documents e.1 (of_event P k u e.0 h) h.documents)
 of_events P k (e ∷ es) (noted docs key p) h = of_events P k es (noted docs key p) h
 of_events P k (e ∷ es) (refused docs p) h = of_events P k es (refused docs p) h
 

@@ -4,7 +4,7 @@ use Rattle.defs_event.specs.Event.{Ev}
 use Rattle.defs_event.specs.Raw.{Raw}
 use Rattle.defs_event.specs.Names.{Names, named, both, names_after, names_after_all, resolved_event}
 
--- The events of both parts, the second one's with the names behind the first.
+-- The events of both parts, the second one's with the names after the first.
 pub record NamedParts (keep_tags : Bool) (s : Names) (xs ys : List Raw) (es : List Ev) : Type 0 where
   pub before : List Ev
   pub after : List Ev
@@ -55,6 +55,6 @@ append_named keep_tags s (x ∷ xs) ys es fs h k =
     both_of (resolved_event s x) (named keep_tags s' (xs ++ ys)) f.event (f.more ++ fs) f.is_first (append_named keep_tags s' xs ys f.more fs f.are_more k)
     ∙ ap (λ (vs : List Ev). Some (vs ++ fs)) (sym f.whole)
 
-pub behind_append : (keep_tags : Bool) (s : Names) (xs ys : List Raw) → names_after_all keep_tags s (xs ++ ys) ≡ names_after_all keep_tags (names_after_all keep_tags s xs) ys
-behind_append keep_tags s [] ys = refl
-behind_append keep_tags s (x ∷ xs) ys = behind_append keep_tags (names_after keep_tags s x) xs ys
+pub after_append : (keep_tags : Bool) (s : Names) (xs ys : List Raw) → names_after_all keep_tags s (xs ++ ys) ≡ names_after_all keep_tags (names_after_all keep_tags s xs) ys
+after_append keep_tags s [] ys = refl
+after_append keep_tags s (x ∷ xs) ys = after_append keep_tags (names_after keep_tags s x) xs ys

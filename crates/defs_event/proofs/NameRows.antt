@@ -35,7 +35,7 @@ alias_where_tags_are_kept :
     (raw_document [] (Raw.alias (codes "a") ∷ []) []))) ≡ None
 alias_where_tags_are_kept = refl
 
--- `[*a, &a 1]`: the anchor stands behind
+-- `[*a, &a 1]`: the anchor stands after
 alias_before_its_anchor :
     named false no_names (raw_stream (raw_document []
     (Raw.flow_sequence_start None None ∷ Raw.alias (codes "a") ∷ anchored_raw (codes "a") (codes "1") ∷ Raw.sequence_end ∷ []) [])) ≡ None
@@ -56,7 +56,7 @@ abbrev twice_used : List Raw
 twice_used = raw_stream (raw_document (Directive.tag (codes "!q!") (codes "p") ∷ []) (tagged_raw (codes "!q!") (codes "s") ∷ [])
     (raw_document [] (tagged_raw (codes "!q!") (codes "t") ∷ []) []))
 
--- a handle in the document behind its own
+-- a handle in the document after its own
 handle_of_an_earlier_document : named false no_names twice_used ≡ None
 handle_of_an_earlier_document = refl
 

@@ -52,8 +52,8 @@ no_end_fails = refl
 no_start_fails : is_nested (Ev.stream_end ∷ []) ≡ false
 no_start_fails = refl
 
-behind_the_end_fails : is_nested (Ev.stream_start ∷ Ev.stream_end ∷ Ev.stream_end ∷ []) ≡ false
-behind_the_end_fails = refl
+after_the_end_fails : is_nested (Ev.stream_start ∷ Ev.stream_end ∷ Ev.stream_end ∷ []) ≡ false
+after_the_end_fails = refl
 
 outside_a_document_fails : is_nested (Ev.stream_start ∷ plain_event (codes "a") ∷ Ev.stream_end ∷ []) ≡ false
 outside_a_document_fails = refl

@@ -2,7 +2,7 @@
 use Rattle.std.proofs.Common.{◌≡◌, ℕ, true, List, [], ◌∷◌, Option, Some, refl, sym, ap, ◌∙◌, subst, ◌↔◌}
 use Rattle.std.specs.Prelude.{IsTrue}
 use Rattle.defs_event.specs.Event.{Tag, Ev}
-use Rattle.defs_event.specs.Nested.{Nest, nested_alias, nested_scalar, nested_sequence, nested_mapping, Nests, no_nests, nest, NestPairs, no_nest_pairs, nest_pair, NestedDocument, without_node, with_node, nest_events, nests_events, nest_pairs_events, nested_document_events, nested_documents_events, nested_stream, IsNested, Open, in_stream, before_node, behind_node, in_sequence, at_key, at_value, with_child, child_then, there_and, closes, is_nested}
+use Rattle.defs_event.specs.Nested.{Nest, nested_alias, nested_scalar, nested_sequence, nested_mapping, Nests, no_nests, nest, NestPairs, no_nest_pairs, nest_pair, NestedDocument, without_node, with_node, nest_events, nests_events, nest_pairs_events, nested_document_events, nested_documents_events, nested_stream, IsNested, Open, in_stream, before_node, after_node, in_sequence, at_key, at_value, with_child, child_then, there_and, closes, is_nested}
 
 -- ---- nested events pass
 
@@ -29,7 +29,7 @@ mutual
 
 document_passes : (d : NestedDocument) (os : List Open) (r : List Ev) → closes (nested_document_events d r) (in_stream ∷ os) ≡ closes r (in_stream ∷ os)
 document_passes without_node os r = refl
-document_passes (with_node n) os r = node_passes n before_node behind_node (in_stream ∷ os) (Ev.document_end ∷ r) refl
+document_passes (with_node n) os r = node_passes n before_node after_node (in_stream ∷ os) (Ev.document_end ∷ r) refl
 
 documents_pass : (ds : List NestedDocument) (r : List Ev) → closes (nested_documents_events ds r) (in_stream ∷ []) ≡ closes r (in_stream ∷ [])
 documents_pass [] r = refl
@@ -46,13 +46,13 @@ abbrev Fills : List Open → List Ev → Type 0
 Fills [] es = es ≡ []
 Fills (in_stream ∷ os) es = (ds : List NestedDocument) × (vs : List Ev) × (es ≡ nested_documents_events ds (Ev.stream_end ∷ vs)) × Fills os vs
 Fills (before_node ∷ os) es = (d : NestedDocument) × (vs : List Ev) × (Ev.document_start ∷ es ≡ nested_document_events d vs) × Fills os vs
-Fills (behind_node ∷ os) es = (vs : List Ev) × (es ≡ Ev.document_end ∷ vs) × Fills os vs
+Fills (after_node ∷ os) es = (vs : List Ev) × (es ≡ Ev.document_end ∷ vs) × Fills os vs
 Fills (in_sequence ∷ os) es = (ns : Nests) × (vs : List Ev) × (es ≡ nests_events ns (Ev.sequence_end ∷ vs)) × Fills os vs
 Fills (at_key ∷ os) es = (ps : NestPairs) × (vs : List Ev) × (es ≡ nest_pairs_events ps (Ev.mapping_end ∷ vs)) × Fills os vs
 Fills (at_value ∷ os) es = (v : Nest) × (ps : NestPairs) × (vs : List Ev) × (es ≡ nest_events v (nest_pairs_events ps (Ev.mapping_end ∷ vs))) × Fills os vs
 
 -- A node there, and what fills the rest.
-in_document : (n : Nest) (os : List Open) (es vs : List Ev) → es ≡ nest_events n vs → Fills (behind_node ∷ os) vs → Fills (before_node ∷ os) es
+in_document : (n : Nest) (os : List Open) (es vs : List Ev) → es ≡ nest_events n vs → Fills (after_node ∷ os) vs → Fills (before_node ∷ os) es
 in_document n os es vs e f = (with_node n, f.0, ap (λ ws. Ev.document_start ∷ ws) (e ∙ ap (nest_events n) f.1), f.2)
 
 as_item : (n : Nest) (os : List Open) (es vs : List Ev) → es ≡ nest_events n vs → Fills (in_sequence ∷ os) vs → Fills (in_sequence ∷ os) es
@@ -64,7 +64,7 @@ as_key n os es vs e f = (nest_pair n f.0 f.1, f.2, e ∙ ap (nest_events n) f.3,
 as_value : (n : Nest) (os : List Open) (es vs : List Ev) → es ≡ nest_events n vs → Fills (at_key ∷ os) vs → Fills (at_value ∷ os) es
 as_value n os es vs e f = (n, f.0, f.1, e ∙ ap (nest_events n) f.2, f.3)
 
--- a sequence, and what stands behind it
+-- a sequence, and what stands after it
 abbrev sequence_then : ℕ → Option Tag → List Open → List Ev → Type 0
 sequence_then a t os es = (n : Nest) × (vs : List Ev) × (Ev.sequence_start a t ∷ es ≡ nest_events n vs) × Fills os vs
 
@@ -85,19 +85,19 @@ fills (Ev.document_start ∷ es) (in_stream ∷ os) h =
     (f.0 ∷ f.3.0, f.3.1, f.2 ∙ ap (nested_document_events f.0) f.3.2, f.3.3)
 fills (Ev.stream_end ∷ es) (in_stream ∷ os) h = ([], es, refl, fills es os h)
 fills (Ev.document_end ∷ es) (before_node ∷ os) h = (without_node, es, refl, fills es os h)
-fills (Ev.document_end ∷ es) (behind_node ∷ os) h = (es, refl, fills es os h)
+fills (Ev.document_end ∷ es) (after_node ∷ os) h = (es, refl, fills es os h)
 fills (Ev.sequence_end ∷ es) (in_sequence ∷ os) h = (no_nests, es, refl, fills es os h)
 fills (Ev.mapping_end ∷ es) (at_key ∷ os) h = (no_nest_pairs, es, refl, fills es os h)
-fills (Ev.alias n ∷ es) (before_node ∷ os) h = in_document (nested_alias n) os (Ev.alias n ∷ es) es refl (fills es (behind_node ∷ os) h)
+fills (Ev.alias n ∷ es) (before_node ∷ os) h = in_document (nested_alias n) os (Ev.alias n ∷ es) es refl (fills es (after_node ∷ os) h)
 fills (Ev.alias n ∷ es) (in_sequence ∷ os) h = as_item (nested_alias n) os (Ev.alias n ∷ es) es refl (fills es (in_sequence ∷ os) h)
 fills (Ev.alias n ∷ es) (at_key ∷ os) h = as_key (nested_alias n) os (Ev.alias n ∷ es) es refl (fills es (at_value ∷ os) h)
 fills (Ev.alias n ∷ es) (at_value ∷ os) h = as_value (nested_alias n) os (Ev.alias n ∷ es) es refl (fills es (at_key ∷ os) h)
-fills (Ev.scalar x s a t ∷ es) (before_node ∷ os) h = in_document (nested_scalar x s a t) os (Ev.scalar x s a t ∷ es) es refl (fills es (behind_node ∷ os) h)
+fills (Ev.scalar x s a t ∷ es) (before_node ∷ os) h = in_document (nested_scalar x s a t) os (Ev.scalar x s a t ∷ es) es refl (fills es (after_node ∷ os) h)
 fills (Ev.scalar x s a t ∷ es) (in_sequence ∷ os) h = as_item (nested_scalar x s a t) os (Ev.scalar x s a t ∷ es) es refl (fills es (in_sequence ∷ os) h)
 fills (Ev.scalar x s a t ∷ es) (at_key ∷ os) h = as_key (nested_scalar x s a t) os (Ev.scalar x s a t ∷ es) es refl (fills es (at_value ∷ os) h)
 fills (Ev.scalar x s a t ∷ es) (at_value ∷ os) h = as_value (nested_scalar x s a t) os (Ev.scalar x s a t ∷ es) es refl (fills es (at_key ∷ os) h)
 fills (Ev.sequence_start a t ∷ es) (before_node ∷ os) h =
-    let y = a_sequence a t (behind_node ∷ os) es (fills es (in_sequence ∷ behind_node ∷ os) h) in in_document y.0 os (Ev.sequence_start a t ∷ es) y.1 y.2 y.3
+    let y = a_sequence a t (after_node ∷ os) es (fills es (in_sequence ∷ after_node ∷ os) h) in in_document y.0 os (Ev.sequence_start a t ∷ es) y.1 y.2 y.3
 fills (Ev.sequence_start a t ∷ es) (in_sequence ∷ os) h =
     let y = a_sequence a t (in_sequence ∷ os) es (fills es (in_sequence ∷ in_sequence ∷ os) h) in as_item y.0 os (Ev.sequence_start a t ∷ es) y.1 y.2 y.3
 fills (Ev.sequence_start a t ∷ es) (at_key ∷ os) h =
@@ -105,7 +105,7 @@ fills (Ev.sequence_start a t ∷ es) (at_key ∷ os) h =
 fills (Ev.sequence_start a t ∷ es) (at_value ∷ os) h =
     let y = a_sequence a t (at_key ∷ os) es (fills es (in_sequence ∷ at_key ∷ os) h) in as_value y.0 os (Ev.sequence_start a t ∷ es) y.1 y.2 y.3
 fills (Ev.mapping_start a t ∷ es) (before_node ∷ os) h =
-    let y = a_mapping a t (behind_node ∷ os) es (fills es (at_key ∷ behind_node ∷ os) h) in in_document y.0 os (Ev.mapping_start a t ∷ es) y.1 y.2 y.3
+    let y = a_mapping a t (after_node ∷ os) es (fills es (at_key ∷ after_node ∷ os) h) in in_document y.0 os (Ev.mapping_start a t ∷ es) y.1 y.2 y.3
 fills (Ev.mapping_start a t ∷ es) (in_sequence ∷ os) h =
     let y = a_mapping a t (in_sequence ∷ os) es (fills es (at_key ∷ in_sequence ∷ os) h) in as_item y.0 os (Ev.mapping_start a t ∷ es) y.1 y.2 y.3
 fills (Ev.mapping_start a t ∷ es) (at_key ∷ os) h =

@@ -68,7 +68,7 @@ handle_of_an_earlier_document : (es : List Ev) → IsStream false
     es → ⊥
 handle_of_an_earlier_document = no_reading false (directed (Directive.tag (codes "!prefix!") (codes "tag:example.com,2011:")) ([]) (some_node (block_content (Some (tagged (tag_of_text (codes "!prefix!") (codes "A")))) (block_mapping (keyed (key (plain (some_node (block_content None (flow (scalar Style.plain (codes "a")))))) (value (plain (some_node (block_content None (flow (scalar Style.plain (codes "b")))))) (keyed end_pairs))))))) (unmarked (explicit (some_node (block_content (Some (tagged (tag_of_text (codes "!prefix!") (codes "B")))) (block_mapping (keyed (key (plain (some_node (block_content None (flow (scalar Style.plain (codes "c")))))) (value (plain (some_node (block_content None (flow (scalar Style.plain (codes "d")))))) (keyed end_pairs))))))) (unmarked (explicit (some_node (block_content (Some (tagged (tag_of_text (codes "!prefix!") (codes "C")))) (block_mapping (keyed (key (plain (some_node (block_content None (flow (scalar Style.plain (codes "e")))))) (value (plain (some_node (block_content None (flow (scalar Style.plain (codes "f")))))) (keyed end_pairs))))))) (unmarked end_stream)))))) refl
 
--- the same behind a version
+-- the same after a version
 version_and_handle_of_an_earlier_document : (es : List Ev) → IsStream false
     (Tok.stream_start ∷ Tok.version_directive 1 1 ∷ Tok.tag_directive (codes "!t!") (codes "tag:test,2024:") ∷
     Tok.document_start ∷ Tok.tag (codes "!t!") (codes "1") ∷ Tok.anchor (codes "1") ∷ Tok.block_mapping_start ∷

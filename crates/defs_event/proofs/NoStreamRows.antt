@@ -48,7 +48,7 @@ node_scalar (block_properties (tagged_anchored t a)) r ts h = cc
 
 -- ---- what a bare document's first token is
 
--- the rest behind a first document that is one token and then that rest
+-- the rest after a first document that is one token and then that rest
 record Bare (t : Tok) (ts : List Tok) : Type 0 where
   node : Node
   after : After
@@ -77,21 +77,21 @@ bare_document (others (explicit p a)) t ts b h = absurd (subst HeadBeginsNode (s
 
 -- ---- streams and documents
 
--- behind the end
-behind_the_end : NoneWith (Tok.stream_start ∷ Tok.stream_end ∷ Tok.stream_end ∷ [])
-behind_the_end (marker d) ts h = cc
-behind_the_end (bare n a) ts h = let f = node_first n (after_tokens a []) in omega (arith, f, ap (λ z. first (tail_of z)) h)
-behind_the_end (directed d ds p a) ts h = let f = directive_first d in omega (arith, f, ap (λ z. first (tail_of z)) h)
-behind_the_end (others end_stream) ts h = cc
-behind_the_end (others (explicit p a)) ts h = cc
+-- after the end
+after_the_end : NoneWith (Tok.stream_start ∷ Tok.stream_end ∷ Tok.stream_end ∷ [])
+after_the_end (marker d) ts h = cc
+after_the_end (bare n a) ts h = let f = node_first n (after_tokens a []) in omega (arith, f, ap (λ z. first (tail_of z)) h)
+after_the_end (directed d ds p a) ts h = let f = directive_first d in omega (arith, f, ap (λ z. first (tail_of z)) h)
+after_the_end (others end_stream) ts h = cc
+after_the_end (others (explicit p a)) ts h = cc
 
--- what stands behind a document of one scalar
+-- what stands after a document of one scalar
 after_scalar : (t : Tok) (ts : List Tok) (d : Documents) → stream_tokens d ≡ Tok.stream_start ∷ x ∷ t ∷ ts → (a : After) × (after_tokens a [] ≡ t ∷ ts)
 after_scalar t ts d h =
     let b = bare_document d x (t ∷ ts) tt h in
     (b.after, node_scalar b.node (after_tokens b.after []) (t ∷ ts) b.are_its)
 
--- `x` LF `%YAML 1.2`: a directive behind a document without `...`
+-- `x` LF `%YAML 1.2`: a directive after a document without `...`
 directive_without_marker : NoneWith (Tok.stream_start ∷ x ∷ Tok.version_directive 1 2 ∷ [])
 directive_without_marker d ts h = by (after_scalar (Tok.version_directive 1 2) ts d h)
   where
@@ -100,7 +100,7 @@ directive_without_marker d ts h = by (after_scalar (Tok.version_directive 1 2) t
     by (unmarked end_stream, e) = cc
     by (unmarked (explicit p a), e) = cc
 
--- two scalars: a document without `---` behind one without `...`
+-- two scalars: a document without `---` after one without `...`
 two_bare_documents : NoneWith (Tok.stream_start ∷ x ∷ x ∷ [])
 two_bare_documents d ts h = by (after_scalar x ts d h)
   where
@@ -109,7 +109,7 @@ two_bare_documents d ts h = by (after_scalar x ts d h)
     by (unmarked end_stream, e) = cc
     by (unmarked (explicit p a), e) = cc
 
--- `%YAML 1.2` LF `x`: no `---` behind a directive
+-- `%YAML 1.2` LF `x`: no `---` after a directive
 directive_alone : NoneWith (Tok.stream_start ∷ Tok.version_directive 1 2 ∷ x ∷ [])
 directive_alone (marker d) ts h = cc
 directive_alone (bare n a) ts h = let f = node_first n (after_tokens a []) in omega (arith, f, ap (λ z. first (tail_of z)) h)
@@ -191,7 +191,7 @@ pairs_of (flow (flow_mapping i)) r ts h = cc
 pairs_of (block_sequence i) r ts h = cc
 pairs_of (block_mapping i) r ts h = (i, ap tail_of h)
 
--- no flow sequence goes on with these behind `[`
+-- no flow sequence goes on with these after `[`
 abbrev NoItems : List Tok → Type 0
 NoItems before = (i : Items) (r ts : List Tok) → items_tokens i r ≡ before ++ ts → ⊥
 
@@ -274,7 +274,7 @@ comma_first_in_mapping (flow_pairs p m) r ts h = let f = flow_pair_first p (more
 comma_first_in_mapping_stream : NoneWith (Tok.stream_start ∷ Tok.flow_mapping_start ∷ Tok.flow_entry ∷ [])
 comma_first_in_mapping_stream = none_with_flow_pairs (Tok.flow_entry ∷ []) comma_first_in_mapping
 
--- a `:` behind a single node
+-- a `:` after a single node
 value_of_a_single : NoFlowPairs (x ∷ Tok.value ∷ [])
 value_of_a_single no_flow_pairs r ts h = cc
 value_of_a_single (flow_pairs (flow_keyed k v) m) r ts h = cc
@@ -311,18 +311,18 @@ part_scalar (indentless None p d) r ts f h = cc
 part_scalar (indentless (Some o) p d) r ts f h =
     let g = properties_first o (Tok.block_entry ∷ perhaps_tokens p (dashes_tokens d r)) in absurd (omega (arith, g.1, ap first h))
 
--- `x: x` LF `- ..`: a `-` behind a pair
-entry_behind_a_pair : NoPairs (Tok.key ∷ x ∷ Tok.value ∷ x ∷ Tok.block_entry ∷ [])
-entry_behind_a_pair (keyed end_pairs) r ts h = cc
-entry_behind_a_pair (keyed (key p (value v y))) r ts h =
+-- `x: x` LF `- ..`: a `-` after a pair
+entry_after_a_pair : NoPairs (Tok.key ∷ x ∷ Tok.value ∷ x ∷ Tok.block_entry ∷ [])
+entry_after_a_pair (keyed end_pairs) r ts h = cc
+entry_after_a_pair (keyed (key p (value v y))) r ts h =
     let a = part_scalar p (after_key_tokens (value v y) r) (Tok.value ∷ x ∷ Tok.block_entry ∷ ts) (omega arith) (ap tail_of h) in
     let b = part_scalar v (pairs_tokens y r) (Tok.block_entry ∷ ts) (pairs_first y r) (ap tail_of a) in
     let f = pairs_first y r in omega (arith, f, ap first b)
-entry_behind_a_pair (keyed (key p (no_value end_pairs))) r ts h =
+entry_after_a_pair (keyed (key p (no_value end_pairs))) r ts h =
     let a = part_scalar p (after_key_tokens (no_value end_pairs) r) (Tok.value ∷ x ∷ Tok.block_entry ∷ ts) (omega arith) (ap tail_of h) in cc
-entry_behind_a_pair (keyed (key p (no_value (key q b)))) r ts h =
+entry_after_a_pair (keyed (key p (no_value (key q b)))) r ts h =
     let a = part_scalar p (after_key_tokens (no_value (key q b)) r) (Tok.value ∷ x ∷ Tok.block_entry ∷ ts) (omega arith) (ap tail_of h) in cc
-entry_behind_a_pair (keyless v y) r ts h = cc
+entry_after_a_pair (keyless v y) r ts h = cc
 
-entry_behind_a_pair_stream : NoneWith (Tok.stream_start ∷ Tok.block_mapping_start ∷ Tok.key ∷ x ∷ Tok.value ∷ x ∷ Tok.block_entry ∷ [])
-entry_behind_a_pair_stream = none_with_pairs (Tok.key ∷ x ∷ Tok.value ∷ x ∷ Tok.block_entry ∷ []) entry_behind_a_pair
+entry_after_a_pair_stream : NoneWith (Tok.stream_start ∷ Tok.block_mapping_start ∷ Tok.key ∷ x ∷ Tok.value ∷ x ∷ Tok.block_entry ∷ [])
+entry_after_a_pair_stream = none_with_pairs (Tok.key ∷ x ∷ Tok.value ∷ x ∷ Tok.block_entry ∷ []) entry_after_a_pair

@@ -9,7 +9,7 @@ use Rattle.defs_event.specs.Stream.{events_of}
 use Rattle.defs_event.specs.Nested.{Nest, nested_alias, nested_scalar, nested_sequence, nested_mapping, Nests, no_nests, nest, NestPairs, no_nest_pairs, nest_pair, NestedDocument, without_node, with_node, nest_events, nests_events, nest_pairs_events, nested_document_events, nested_documents_events, nested_stream}
 use Rattle.defs_event.specs.Anchors.{Anchors, finished}
 use Rattle.defs_event.specs.Reading.{Read, then_read, node_read, read_node, read_items, read_pairs, read_document, read_documents, documents_or_key, reading}
-use Rattle.defs_event.specs.Unfinished.{Opened, opened_sequence, opened_mapping, Unfinished, reads, repeats, with_tree, with_start, Loader, at_work, noted, new_loader, loader_behind, with_event_at, with_events}
+use Rattle.defs_event.specs.Unfinished.{Opened, opened_sequence, opened_mapping, Unfinished, reads, repeats, with_tree, with_start, Loader, at_work, noted, new_loader, loader_after, with_event_at, with_events}
 use Rattle.defs_event.specs.Laws.{HasRead}
 
 -- ---- events at places that a function gives
@@ -67,27 +67,27 @@ ended t docs opened (opened_sequence a ts ∷ outer) root anchors = refl
 ended t docs opened (opened_mapping a ps None ∷ outer) root anchors = refl
 ended t docs opened (opened_mapping a ps (Some k) ∷ outer) root anchors = refl
 
--- behind a node
+-- after a node
 abbrev node_goal : List Tree → List Opened → Option Tree → List Ev → Tree → Anchors → Position → (ℕ → Position) → Loader
-node_goal docs outer root r t anchors p at = run (loader_behind (with_tree t (state docs outer root anchors) outer) docs p) at r
+node_goal docs outer root r t anchors p at = run (loader_after (with_tree t (state docs outer root anchors) outer) docs p) at r
 
--- behind items
+-- after items
 abbrev items_goal : List Tree → List Opened → Option Tree → ℕ → List Ev → List Tree → Anchors → Position → (ℕ → Position) → Loader
 items_goal docs outer root a r ts anchors p at = run (at_work (state docs (opened_sequence a ts ∷ outer) root anchors)) at r
 
--- behind pairs
+-- after pairs
 abbrev pairs_goal : List Tree → List Opened → Option Tree → ℕ → List Ev → List (Tree × Tree) → Anchors → Position → (ℕ → Position) → Loader
 pairs_goal docs outer root a r ps anchors p at = run (at_work (state docs (opened_mapping a ps None ∷ outer) root anchors)) at r
 
 -- a collection ends
 node_ends : (docs : List Tree) (opened outer : List Opened) (root : Option Tree) (a : ℕ) (t : Tree) (anchors : Anchors) (p : Position) (at : ℕ → Position) (r : List Ev)
-    → Comes (node_read a t anchors) (node_goal docs outer root r) (run (loader_behind (with_tree t (state docs opened root (finished a t anchors)) outer) docs p) at r)
+    → Comes (node_read a t anchors) (node_goal docs outer root r) (run (loader_after (with_tree t (state docs opened root (finished a t anchors)) outer) docs p) at r)
 node_ends docs opened outer root a t anchors p at r =
-    (p, at, ap (λ s. run (loader_behind s docs p) at r) (ended t docs opened outer root (finished a t anchors)))
+    (p, at, ap (λ s. run (loader_after s docs p) at r) (ended t docs opened outer root (finished a t anchors)))
 
 -- a pair is inserted, or its key was there
 pair_ends : {A : Type 0} (b : Bool) (key : Tree) (z : Read A) (goal : A → Anchors → Position → (ℕ → Position) → Loader) (u : Unfinished) (docs : List Tree) (p : Position) (at : ℕ → Position) (r : List Ev)
-    → Comes z goal (run (at_work u) at r) → Comes (if b then Err key else z) goal (run (loader_behind (if b then repeats key else reads u) docs p) at r)
+    → Comes z goal (run (at_work u) at r) → Comes (if b then Err key else z) goal (run (loader_after (if b then repeats key else reads u) docs p) at r)
 pair_ends true key z goal u docs p at r h = (docs, p, run_noted r docs key p at)
 pair_ends false key z goal u docs p at r h = h
 
@@ -98,7 +98,7 @@ mutual
   node_comes (nested_scalar x s a t) docs outer root anchors at r h = (at 0, (λ k. at (suc k)), refl)
   node_comes (nested_sequence a t ns) docs outer root anchors at r h =
       let next : ℕ → Position = λ k. at (suc k) in
-      let e = ap (λ s. run (loader_behind s docs (at 0)) next (nests_events ns (Ev.sequence_end ∷ r))) (starts (opened_sequence a []) (state docs outer root anchors) outer root h) in
+      let e = ap (λ s. run (loader_after s docs (at 0)) next (nests_events ns (Ev.sequence_end ∷ r))) (starts (opened_sequence a []) (state docs outer root anchors) outer root h) in
       let all = comes_then (read_items ns [] anchors) (λ ts more. node_read a (array (items_of ts)) more)
       (items_goal docs outer root a (Ev.sequence_end ∷ r)) (node_goal docs outer root r)
       (run (at_work (state docs (opened_sequence a [] ∷ outer) root anchors)) next (nests_events ns (Ev.sequence_end ∷ r)))
@@ -107,7 +107,7 @@ mutual
       subst (λ l. Comes (read_node (nested_sequence a t ns) anchors) (node_goal docs outer root r) l) (sym e) all
   node_comes (nested_mapping a t ps) docs outer root anchors at r h =
       let next : ℕ → Position = λ k. at (suc k) in
-      let e = ap (λ s. run (loader_behind s docs (at 0)) next (nest_pairs_events ps (Ev.mapping_end ∷ r))) (starts (opened_mapping a [] None) (state docs outer root anchors) outer root h) in
+      let e = ap (λ s. run (loader_after s docs (at 0)) next (nest_pairs_events ps (Ev.mapping_end ∷ r))) (starts (opened_mapping a [] None) (state docs outer root anchors) outer root h) in
       let all = comes_then (read_pairs ps [] anchors) (λ held more. node_read a (hash (pairs_of held)) more)
       (pairs_goal docs outer root a (Ev.mapping_end ∷ r)) (node_goal docs outer root r)
       (run (at_work (state docs (opened_mapping a [] None ∷ outer) root anchors)) next (nest_pairs_events ps (Ev.mapping_end ∷ r)))

@@ -7,7 +7,7 @@ use Rattle.defs_event.specs.Names.{named, no_names}
 use Rattle.defs_event.specs.Stream.{IsStream}
 use Rattle.defs_event.specs.Grammar.{Properties, anchored, tagged, anchored_tagged, tagged_anchored, FlowNode, flow_alias, flow_content, flow_properties, FlowContent, scalar, flow_sequence, flow_mapping, PerhapsFlow, no_flow, some_flow, Items, no_items, items, MoreItems, end_items, comma_end_items, comma_item, Item, single, single_pair, FlowValue, no_flow_value, flow_value, FlowPairs, no_flow_pairs, flow_pairs, MoreFlowPairs, end_flow_pairs, comma_end_flow_pairs, comma_flow_pair, FlowPair, flow_keyed, flow_keyless, flow_single, Node, block_alias, block_content, block_properties, Content, flow, block_sequence, block_mapping, Perhaps, no_node, some_node, Entries, end_entries, entry, Part, plain, indentless, Dashes, end_dashes, dash, Pairs, keyed, keyless, KeyPairs, end_pairs, key, AfterKey, value, no_value, Documents, marker, bare, directed, others, Explicit, end_stream, explicit, After, marked, unmarked, properties_tokens, perhaps_properties_tokens, flow_node_tokens, flow_content_tokens, perhaps_flow_tokens, items_tokens, more_items_tokens, item_tokens, flow_value_tokens, flow_pairs_tokens, more_flow_pairs_tokens, flow_pair_tokens, node_tokens, content_tokens, perhaps_tokens, entries_tokens, part_tokens, dashes_tokens, pairs_tokens, key_pairs_tokens, after_key_tokens, directive_token, directives_tokens, documents_tokens, explicit_tokens, after_tokens, stream_tokens, stream_events}
 
--- ---- the first token, by a number: what begins a node is below 8, what stands behind one is not
+-- ---- the first token, by a number: what begins a node is below 8, what stands after one is not
 
 abbrev pub rank : Tok → ℕ
 rank (Tok.alias n) = 0
@@ -90,7 +90,7 @@ properties_one (Some (tagged_anchored u n)) (Some (anchored_tagged m t)) c d a b
 properties_one (Some (tagged_anchored u n)) (Some (tagged_anchored t m)) c d a b h =
     (ap (λ x. Some (tagged_anchored (tag_back x) (name_back (tail_of x)))) h, ap (λ x. tail_of (tail_of x)) h)
 
--- properties begin with 1 or 2, else what stands behind them is first
+-- properties begin with 1 or 2, else what stands after them is first
 pub properties_first : (p : Properties) (r : List Tok) → (1 ≤ first (properties_tokens p r)) × (first (properties_tokens p r) ≤ 2)
 properties_first (anchored n) r = (omega arith, omega arith)
 properties_first (tagged t) r = (omega arith, omega arith)

@@ -13,7 +13,7 @@ answers_of (e ∷ es) = event e here ∷ answers_of es
 abbrev broken : ℕ → Answer ℕ
 broken n = fault n
 
--- the answers on `--- 1` LF `--- 2`, asked on behind the end
+-- the answers on `--- 1` LF `--- 2`, asked on after the end
 abbrev two_documents : List (Answer ℕ)
 two_documents = answers_of
     (Ev.stream_start ∷ Ev.document_start ∷ plain_event (codes "1") ∷ Ev.document_end
@@ -57,7 +57,7 @@ empty_stream : load false false (answers_of (Ev.stream_start ∷ Ev.stream_end �
     ≡ record { pushed = all_here (Ev.stream_start ∷ Ev.stream_end ∷ []); ending = well; taken = 2 }
 empty_stream = refl
 
--- on `[1, 2]`, behind two pulls
+-- on `[1, 2]`, after two pulls
 abbrev in_a_document : List (Answer ℕ)
 in_a_document = event (Ev.sequence_start 0 None) there ∷ answers_of (plain_event (codes "1") ∷ plain_event (codes "2") ∷ [])
 
@@ -81,9 +81,9 @@ fault_in_the_second : load false true (answers_of (Ev.stream_start ∷ Ev.docume
 fault_in_the_second = refl
 
 -- without `multi` it is not met
-fault_behind : load false false (answers_of (Ev.stream_start ∷ Ev.document_start ∷ plain_event (codes "1") ∷ Ev.document_end ∷ []) ++ broken 5 ∷ [])
+fault_after : load false false (answers_of (Ev.stream_start ∷ Ev.document_start ∷ plain_event (codes "1") ∷ Ev.document_end ∷ []) ++ broken 5 ∷ [])
     ≡ record { pushed = all_here (Ev.stream_start ∷ Ev.document_start ∷ plain_event (codes "1") ∷ Ev.document_end ∷ []); ending = well; taken = 4 }
-fault_behind = refl
+fault_after = refl
 
 -- a receiver that refuses the third event of `[1, 2]`
 refused_at_the_third : stopped 2 (load false true (answers_of (Ev.stream_start ∷ Ev.document_start ∷ Ev.sequence_start 0 None
@@ -99,15 +99,15 @@ end_again = (tt, (tt, (tt, (tt, (tt, (tt, (tt, (tt, (tt, tt)))))))))
 fault_again : IsSettled (event Ev.stream_start here ∷ broken 5 ∷ broken 5 ∷ [])
 fault_again = (tt, (refl, tt))
 
--- behind the end nothing else comes
-nothing_behind_the_end : IsSettled (event Ev.stream_end here ∷ broken 5 ∷ []) → ⊥
-nothing_behind_the_end h = h.0
+-- after the end nothing else comes
+nothing_after_the_end : IsSettled (event Ev.stream_end here ∷ broken 5 ∷ []) → ⊥
+nothing_after_the_end h = h.0
 
 another_fault : IsSettled (broken 5 ∷ broken 6 ∷ []) → ⊥
 another_fault h = let e : broken 6 ≡ broken 5 = h.0 in cc
 
-event_behind_a_fault : IsSettled (broken 5 ∷ event Ev.stream_end here ∷ []) → ⊥
-event_behind_a_fault h = cc
+event_after_a_fault : IsSettled (broken 5 ∷ event Ev.stream_end here ∷ []) → ⊥
+event_after_a_fault h = cc
 
 up_to_the_fault : pulled_events (event Ev.stream_start here ∷ broken 5 ∷ broken 5 ∷ []) ≡ all_here (Ev.stream_start ∷ [])
 up_to_the_fault = refl

@@ -37,7 +37,7 @@ anchor_alone = record {
   has_events = refl;
 }
 
--- `--- |` LF `a` LF `---` LF `b`: a document behind another without `...`
+-- `--- |` LF `a` LF `---` LF `b`: a document after another without `...`
 two_dashed_documents : IsStream false
     (Tok.stream_start ∷ Tok.document_start ∷ Tok.scalar Style.literal (97 ∷ 10 ∷ []) ∷ Tok.document_start ∷
     Tok.scalar Style.plain (codes "b") ∷ Tok.stream_end ∷ [])
@@ -49,7 +49,7 @@ two_dashed_documents = record {
   has_events = refl;
 }
 
--- `a` LF `...` LF `...` LF `b` LF `...`: documents without `---` behind `...`
+-- `a` LF `...` LF `...` LF `b` LF `...`: documents without `---` after `...`
 ended_documents : IsStream false
     (Tok.stream_start ∷ Tok.scalar Style.plain (codes "a") ∷ Tok.document_end ∷ Tok.document_end ∷
     Tok.scalar Style.plain (codes "b") ∷ Tok.document_end ∷ Tok.stream_end ∷ [])
@@ -105,7 +105,7 @@ pair_in_sequence = record {
   has_events = refl;
 }
 
--- `[? : x]`: an empty key behind `?`
+-- `[? : x]`: an empty key after `?`
 asked_pair : IsStream false
     (Tok.stream_start ∷ Tok.flow_sequence_start ∷ Tok.key ∷ Tok.value ∷ Tok.scalar Style.plain (codes "x") ∷
     Tok.flow_sequence_end ∷ Tok.stream_end ∷ [])
@@ -447,7 +447,7 @@ sequence_as_key = record {
   has_events = refl;
 }
 
--- `k: !t &x` LF `- &y` LF `- b`: a `-` behind properties begins a sequence, but in that sequence an entry
+-- `k: !t &x` LF `- &y` LF `- b`: a `-` after properties begins a sequence, but in that sequence an entry
 indentless_of_properties : IsStream false
     (Tok.stream_start ∷ Tok.block_mapping_start ∷ Tok.key ∷ Tok.scalar Style.plain (codes "k") ∷ Tok.value ∷
     Tok.tag (codes "!") (codes "t") ∷ Tok.anchor (codes "x") ∷ Tok.block_entry ∷ Tok.anchor (codes "y") ∷
@@ -618,7 +618,7 @@ tags_kept = record {
   has_events = refl;
 }
 
--- the same behind a version, with anchors
+-- the same after a version, with anchors
 version_and_tags_kept : IsStream true
     (Tok.stream_start ∷ Tok.version_directive 1 1 ∷ Tok.tag_directive (codes "!t!") (codes "tag:test,2024:") ∷
     Tok.document_start ∷ Tok.tag (codes "!t!") (codes "1") ∷ Tok.anchor (codes "1") ∷ Tok.block_mapping_start ∷

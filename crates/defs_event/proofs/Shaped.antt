@@ -22,7 +22,7 @@ Shaped (Raw.flow_mapping_start a t ∷ r) es = (n : ℕ) × (u : Option Tag) × 
 Shaped (Raw.mapping_start a t ∷ r) es = (n : ℕ) × (u : Option Tag) × (vs : List Ev) × (es ≡ Ev.mapping_start n u ∷ vs) × Shaped r vs
 Shaped (Raw.mapping_end ∷ r) es = (vs : List Ev) × (es ≡ Ev.mapping_end ∷ vs) × Shaped r vs
 
--- the first event and those behind it
+-- the first event and those after it
 record First (o : Option Ev) (os : Option (List Ev)) (es : List Ev) : Type 0 where
   event : Ev
   more : List Ev

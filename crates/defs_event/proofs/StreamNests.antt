@@ -26,7 +26,7 @@ items_end ns vs = nests_events ns (Ev.sequence_end ∷ vs)
 abbrev pairs_end : NestPairs → List Ev → List Ev
 pairs_end ps vs = nest_pairs_events ps (Ev.mapping_end ∷ vs)
 
--- a value and the pairs behind it
+-- a value and the pairs after it
 abbrev value_end : Nest × NestPairs → List Ev → List Ev
 value_end p vs = nest_events p.0 (pairs_end p.1 vs)
 
@@ -189,7 +189,7 @@ stream_ends ds vs = nested_documents_events ds (Ev.stream_end ∷ vs)
 abbrev document_ends : List NestedDocument → List Ev → List Ev
 document_ends ds vs = Ev.document_end ∷ stream_ends ds vs
 
--- a document of this node, and those behind it
+-- a document of this node, and those after it
 one_document : (r : List Raw) (r' : List Raw) (es vs : List Ev) → es ≡ Ev.document_start ∷ vs → (y : Yields nest_events r' vs) → Yields document_ends r y.more → Yields stream_ends r es
 one_document r r' es vs e y z =
     record { it = with_node y.it ∷ z.it; more = z.more; whole = e ∙ ap (λ ws. Ev.document_start ∷ ws) (y.whole ∙ ap (nest_events y.it) z.whole); rest = z.rest }

@@ -64,14 +64,14 @@ IsNested events = (ds : List NestedDocument) × (nested_stream ds ≡ events)
 pub data Open : Type 0 where
   in_stream : Open
   before_node : Open
-  behind_node : Open
+  after_node : Open
   in_sequence : Open
   at_key : Open
   at_value : Open
 
 -- after a node that stands there, or nothing where none may stand
 abbrev pub with_child : Open → Option Open
-with_child before_node = Some behind_node
+with_child before_node = Some after_node
 with_child in_sequence = Some in_sequence
 with_child at_key = Some at_value
 with_child at_value = Some at_key
@@ -83,18 +83,18 @@ child_then (Some o) [] outer = Some (o ∷ outer)
 child_then (Some o) (i ∷ inner) outer = Some (i ∷ o ∷ outer)
 
 -- what is open after an event, or nothing where it is out of order
-abbrev pub open_behind : Ev → List Open → Option (List Open)
-open_behind Ev.document_start (in_stream ∷ os) = Some (before_node ∷ in_stream ∷ os)
-open_behind Ev.document_end (before_node ∷ os) = Some os
-open_behind Ev.document_end (behind_node ∷ os) = Some os
-open_behind Ev.stream_end (in_stream ∷ os) = Some os
-open_behind Ev.sequence_end (in_sequence ∷ os) = Some os
-open_behind Ev.mapping_end (at_key ∷ os) = Some os
-open_behind (Ev.alias n) (o ∷ os) = child_then (with_child o) [] os
-open_behind (Ev.scalar x s a t) (o ∷ os) = child_then (with_child o) [] os
-open_behind (Ev.sequence_start a t) (o ∷ os) = child_then (with_child o) (in_sequence ∷ []) os
-open_behind (Ev.mapping_start a t) (o ∷ os) = child_then (with_child o) (at_key ∷ []) os
-open_behind _ _ = None
+abbrev pub open_after : Ev → List Open → Option (List Open)
+open_after Ev.document_start (in_stream ∷ os) = Some (before_node ∷ in_stream ∷ os)
+open_after Ev.document_end (before_node ∷ os) = Some os
+open_after Ev.document_end (after_node ∷ os) = Some os
+open_after Ev.stream_end (in_stream ∷ os) = Some os
+open_after Ev.sequence_end (in_sequence ∷ os) = Some os
+open_after Ev.mapping_end (at_key ∷ os) = Some os
+open_after (Ev.alias n) (o ∷ os) = child_then (with_child o) [] os
+open_after (Ev.scalar x s a t) (o ∷ os) = child_then (with_child o) [] os
+open_after (Ev.sequence_start a t) (o ∷ os) = child_then (with_child o) (in_sequence ∷ []) os
+open_after (Ev.mapping_start a t) (o ∷ os) = child_then (with_child o) (at_key ∷ []) os
+open_after _ _ = None
 
 -- whether the test holds of what there is, and there is something
 abbrev pub there_and : (List Open → Bool) → Option (List Open) → Bool
@@ -108,7 +108,7 @@ is_nothing_open (o ∷ os) = false
 -- Each event is in order, and the last one closes all that is open.
 abbrev pub closes : List Ev → List Open → Bool
 closes [] os = is_nothing_open os
-closes (e ∷ es) os = there_and (closes es) (open_behind e os)
+closes (e ∷ es) os = there_and (closes es) (open_after e os)
 
 abbrev pub is_nested : List Ev → Bool
 is_nested (Ev.stream_start ∷ es) = closes es (in_stream ∷ [])

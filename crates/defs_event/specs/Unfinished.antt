@@ -96,14 +96,14 @@ pub data Loader : Type 0 where
 abbrev pub new_loader : Loader
 new_loader = at_work nothing_read
 
-abbrev pub loader_behind : Step → List Tree → Position → Loader
-loader_behind (reads u) documents p = at_work u
-loader_behind (repeats key) documents p = noted documents key p
-loader_behind out_of_nesting documents p = refused documents p
+abbrev pub loader_after : Step → List Tree → Position → Loader
+loader_after (reads u) documents p = at_work u
+loader_after (repeats key) documents p = noted documents key p
+loader_after out_of_nesting documents p = refused documents p
 
 -- the loader after an event
 abbrev pub with_event_at : Loader → Ev → Position → Loader
-with_event_at (at_work u) e p = loader_behind (with_event u e) u.documents p
+with_event_at (at_work u) e p = loader_after (with_event u e) u.documents p
 with_event_at (noted documents key at) e p = noted documents key at
 with_event_at (refused documents at) e p = refused documents at
 

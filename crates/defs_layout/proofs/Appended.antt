@@ -1,4 +1,4 @@
--- What stands behind a basic layout is appended to its text.
+-- What stands after a basic layout is appended to its text.
 use Rattle.std.proofs.Common.{◌≡◌, refl, sym, ap, ◌∙◌, ℕ, zero, suc, ◌+◌, List, [], ◌∷◌, ◌++◌, append_assoc, flat_map}
 use Rattle.std.specs.Prelude.{codes}
 use Rattle.defs_tree.specs.Escapes.{double_quoted}
@@ -9,7 +9,7 @@ use Rattle.defs_layout.specs.BlockLines.{Line, full, blank, spell_line, spell_li
 use Rattle.defs_layout.specs.Layout.{Scalar, plain, quoted, single_quoted, Inline, scalar, empty_array, empty_hash, no_comment, comment, Block, array, hash, Value, Entries, last_entry, entry, Field, implicit, explicit, Fields, last_field, field, Root, Document, doubled, spell_scalar, spell_inline, spell_literal, spell_block, spell_value, spell_entries, spell_field, spell_fields, spell_root, spell_document}
 use Rattle.defs_layout.specs.Basic.{IsBasicBlock, IsBasicValue, AreBasicEntries, IsBasicField, AreBasicFields, IsBasicRoot}
 
--- the text of f goes before what stands behind it
+-- the text of f goes before what stands after it
 abbrev Appends : (List ℕ → List ℕ) → Type 0
 Appends f = (a b : List ℕ) → f (a ++ b) ≡ f a ++ b
 
@@ -58,8 +58,8 @@ literal_append : (column : ℕ) (text : List ℕ) (ls : List Line) → Appends (
 literal_append column text ls a b =
     ap (λ x. literal_header text ++ x) (lines_append column ls a b) ∙ sym (append_assoc (literal_header text) (spell_lines column ls a) b)
 
-behind_spaces : (more : ℕ) (f : List ℕ → List ℕ) → Appends f → Appends (λ r. 32 ∷ spaces more (f r))
-behind_spaces more f h a b = ap (λ x. 32 ∷ spaces more x) (h a b) ∙ ap (λ x. 32 ∷ x) (spaces_append more (f a) b)
+after_spaces : (more : ℕ) (f : List ℕ → List ℕ) → Appends f → Appends (λ r. 32 ∷ spaces more (f r))
+after_spaces more f h a b = ap (λ x. 32 ∷ spaces more x) (h a b) ∙ ap (λ x. 32 ∷ x) (spaces_append more (f a) b)
 
 mutual
   block_append : (c : ℕ) (k : Block) → IsBasicBlock k → Appends (spell_block c k)
@@ -67,15 +67,15 @@ mutual
   block_append c (hash fs) h a b = fields_append c fs h a b
 
   value_append : (c : ℕ) (v : Value) → IsBasicValue v → Appends (spell_value c v)
-  value_append c (Value.beside more i no_comment) h a b = behind_spaces more (spell_inline i) (inline_append i) a b
-  value_append c (Value.literal more column text ls) h a b = behind_spaces more (spell_literal column text ls) (literal_append column text ls) a b
-  value_append c (Value.compact more k) h a b = behind_spaces more (spell_block (c + 2 + more) k) (block_append (c + 2 + more) k h) a b
+  value_append c (Value.beside more i no_comment) h a b = after_spaces more (spell_inline i) (inline_append i) a b
+  value_append c (Value.literal more column text ls) h a b = after_spaces more (spell_literal column text ls) (literal_append column text ls) a b
+  value_append c (Value.compact more k) h a b = after_spaces more (spell_block (c + 2 + more) k) (block_append (c + 2 + more) k h) a b
   value_append c (Value.below no_comment g column k) h a b = ap (next_line column g) (block_append column k h.1 a b) ∙ next_line_append column g (spell_block column k a) b
   value_append c (Value.beside more i (comment n text)) h a b = absurd h.1
   value_append c (Value.below (comment n text) g column k) h a b = absurd h.0
   value_append c (Value.folded more column strips text ls) h a b = absurd h
   value_append c (Value.json more v) h a b = absurd h
-  value_append c (Value.at_key behind g es) h a b = absurd h
+  value_append c (Value.at_key after g es) h a b = absurd h
   value_append c (Value.anchored more name v) h a b = absurd h
   value_append c (Value.alias more name t) h a b = absurd h
 
@@ -103,10 +103,10 @@ root_append (Root.block column k) h a b = ap (spaces column) (block_append colum
 root_append (Root.inline i) h a b = inline_append i a b
 root_append (Root.literal text ls) h a b = literal_append 0 text ls a b
 
--- ---- a document behind its `---`
+-- ---- a document after its `---`
 
-pub document_append : (d : Document) (behind : List GapLine) → IsBasicRoot d.root → Appends (λ r. codes "---\n" ++ spell_document d (spell_ending behind r))
-document_append d behind h a b =
-    ap (λ x. codes "---\n" ++ spell_document d x) (ending_append behind a b)
-    ∙ ap (λ x. codes "---\n" ++ spell_gap d.gap x) (root_append d.root h (spell_ending behind a) b)
-    ∙ ap (λ x. codes "---\n" ++ x) (gap_append d.gap (spell_root d.root (spell_ending behind a)) b)
+pub document_append : (d : Document) (after : List GapLine) → IsBasicRoot d.root → Appends (λ r. codes "---\n" ++ spell_document d (spell_ending after r))
+document_append d after h a b =
+    ap (λ x. codes "---\n" ++ spell_document d x) (ending_append after a b)
+    ∙ ap (λ x. codes "---\n" ++ spell_gap d.gap x) (root_append d.root h (spell_ending after a) b)
+    ∙ ap (λ x. codes "---\n" ++ x) (gap_append d.gap (spell_root d.root (spell_ending after a)) b)

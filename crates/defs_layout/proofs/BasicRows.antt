@@ -23,7 +23,7 @@ word w = plain (Tree.string w)
 abbrev integer : ℕ → Scalar
 integer n = plain (Tree.integer (pos n))
 
--- what stands on one line, behind some spaces, and a scalar behind one
+-- what stands on one line, after some spaces, and a scalar after one
 abbrev beside : (more : ℕ) → layout.Inline → Value
 beside more i = Value.beside more i no_comment
 
@@ -33,9 +33,9 @@ one s = beside 0 (scalar s)
 abbrev compact : (more : ℕ) → Block → Value
 compact more b = Value.compact more b
 
--- one document behind its `---`, and what stands behind it
+-- one document after its `---`, and what stands after it
 abbrev marked : Document → List GapLine → Layout
-marked d behind = record { is_marked = true; documents = last_document d behind }
+marked d after = record { is_marked = true; documents = last_document d after }
 
 -- a document without gaps, whose root is a block at column 0
 abbrev plainly : Block → Layout
@@ -103,7 +103,7 @@ array_below_key = (
   refl,
 )
 
--- a literal block without a last break, and an entry behind it
+-- a literal block without a last break, and an entry after it
 literal_value : IsBasicLayout
     (Tree.hash (pairs_of ((Tree.string (codes "foo"), Tree.string (codes "bar!\nbar!")) ∷ (Tree.string (codes "baz"), Tree.integer (pos 42)) ∷ [])))
     (codes "---\nfoo: |-\n  bar!\n  bar!\nbaz: 42")
@@ -130,7 +130,7 @@ literal_with_empty_lines = (
   refl,
 )
 
--- a block behind `-` on its line, and one on the next line
+-- a block after `-` on its line, and one on the next line
 compact_array : IsBasicLayout
     (Tree.array (items_of (Tree.array (items_of (Tree.integer (pos 1) ∷ Tree.integer (pos 2) ∷ [])) ∷ Tree.array Items.no_items ∷ [])))
     (codes "---\n- - 1\n  - 2\n- []")
@@ -176,7 +176,7 @@ hash_as_key = (
   refl,
 )
 
--- an empty array as key, behind two spaces, and a key and a value on lines of their own
+-- an empty array as key, after two spaces, and a key and a value on lines of their own
 other_keys : IsBasicLayout
     (Tree.hash (pairs_of ((Tree.array Items.no_items, Tree.integer (pos 1)) ∷ (Tree.array (items_of (Tree.null ∷ [])), Tree.array (items_of (Tree.null ∷ []))) ∷ [])))
     (codes "---\n?  []\n: 1\n?\n - ~\n:\n  - ~")
@@ -190,7 +190,7 @@ other_keys = (
   refl,
 )
 
--- a root on one line, behind a gap, with a comment at the end that no break ends
+-- a root on one line, after a gap, with a comment at the end that no break ends
 scalar_root : IsBasicLayout (Tree.string (codes "a")) (codes "---\n\n#\na\n# end")
 unfolding is_quoted is_unfit_for_plain typing is_decimal is_literal is_literal_character is_line_character digits
 scalar_root = (
@@ -201,7 +201,7 @@ scalar_root = (
   refl,
 )
 
--- a literal block as root, and line feeds behind it
+-- a literal block as root, and line feeds after it
 literal_root : IsBasicLayout (Tree.string (codes "a\n\n b\n")) (codes "---\n|\na\n\n b\n\n")
 unfolding is_quoted is_unfit_for_plain typing is_decimal is_literal is_literal_character is_line_character digits is_root_literal
 literal_root = (
@@ -256,7 +256,7 @@ without_break h = true≢false (sym h.1)
 deeper_empty_line : ¬ IsValue 0 [] (Value.literal 0 2 (codes "a\n\nb") (full (codes "a") ∷ blank 3 ∷ full (codes "b") ∷ []))
 deeper_empty_line h = let at_most : 3 ≤ 2 = h.2.1.1.0 in omega arith
 
--- at the root, a first line that begins with a tab, a line that is a document marker, and a comment behind the block
+-- at the root, a first line that begins with a tab, a line that is a document marker, and a comment after the block
 root_begins_with_tab : ¬ IsRoot (Root.literal (codes "\ta\nb") (full (codes "\ta") ∷ full (codes "b") ∷ []))
 unfolding is_literal is_literal_character is_root_literal
 root_begins_with_tab h = true≢false (sym h.0)
@@ -265,8 +265,8 @@ root_holds_marker : ¬ IsRoot (Root.literal (codes "a\n---\nb") (full (codes "a"
 unfolding is_literal is_literal_character is_root_literal
 root_holds_marker h = true≢false (sym h.0)
 
-comment_behind_literal_root : ¬ AreDocuments (last_document (record { gap = []; root = Root.literal (codes "a\nb") (full (codes "a") ∷ full (codes "b") ∷ []) }) (comment_line [] ∷ []))
-comment_behind_literal_root h = h.2.0
+comment_after_literal_root : ¬ AreDocuments (last_document (record { gap = []; root = Root.literal (codes "a\nb") (full (codes "a") ∷ full (codes "b") ∷ []) }) (comment_line [] ∷ []))
+comment_after_literal_root h = h.2.0
 
 -- a comment line that holds CR, and one that holds NUL
 comment_with_return : ¬ IsGap (comment_line (codes "a\r") ∷ [])
@@ -277,12 +277,12 @@ comment_with_nul : ¬ IsGap (comment_line (0 ∷ []) ∷ [])
 unfolding is_line_character
 comment_with_nul h = true≢false (sym h.0)
 
--- a block on the line of its scalar key; a scalar behind `?`
+-- a block on the line of its scalar key; a scalar after `?`
 block_beside_key : ¬ IsField 0 [] (implicit (quoted (codes "a")) (compact 0 (array (last_entry (beside 0 empty_array)))))
 block_beside_key h = h.1
 
-scalar_behind_question_mark : ¬ IsField 0 [] (explicit (one (quoted (codes "a"))) [] (beside 0 empty_array))
-scalar_behind_question_mark h = h.0
+scalar_after_question_mark : ¬ IsField 0 [] (explicit (one (quoted (codes "a"))) [] (beside 0 empty_array))
+scalar_after_question_mark h = h.0
 
 -- a key twice, as it stands and in quotes
 repeated_key : ¬ IsBlock 0 [] (hash (field (implicit (word (codes "a")) (beside 0 empty_array)) []

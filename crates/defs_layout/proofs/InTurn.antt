@@ -1,10 +1,10 @@
--- A basic layout is a layout of its one tree, and basic layouts one after another, an LF behind each, are a layout of their trees.
+-- A basic layout is a layout of its one tree, and basic layouts one after another, an LF after each, are a layout of their trees.
 use Rattle.std.proofs.Common.{◌≡◌, refl, sym, ap, ◌∙◌, ℕ, List, [], ◌∷◌, ◌++◌, Bool, true, false, true≢false}
 use Rattle.std.specs.Prelude.{codes}
 use Rattle.defs_tree.specs.Tree.{Tree}
 use Rattle.defs_layout.specs.Gap.{GapLine, empty_line, comment_line, spell_gap, spell_ending, IsGap, AreEmptyLines}
 use Rattle.defs_layout.specs.Basic.{IsBasicRoot, AreBasicDocuments, IsBasicLayout}
-use Rattle.defs_layout.specs.Layout.{Root, Document, Documents, last_document, document, spell_document, spell_documents, spell_mark, root_tree, trees_of, IsBehindRoot, AreDocuments}
+use Rattle.defs_layout.specs.Layout.{Root, Document, Documents, last_document, document, spell_document, spell_documents, spell_mark, root_tree, trees_of, IsAfterRoot, AreDocuments}
 use Rattle.defs_layout.specs.InTurn.{AreLaidOutInTurn}
 use Rattle.defs_layout.specs.Laws.{BasicLayoutsAreLayouts, LayoutsInTurnAreLayouts}
 use Rattle.defs_layout.proofs.Appended.{document_append}
@@ -16,10 +16,10 @@ is_layout t text (w, is, basic, spelt, trees) = (w, is, spelt, trees)
 
 record One (t : Tree) (text : List ℕ) : Type 0 where
   written : Document
-  behind : List GapLine
-  is : AreDocuments (last_document written behind)
+  after : List GapLine
+  is : AreDocuments (last_document written after)
   basic : IsBasicRoot written.root
-  spelt : codes "---\n" ++ spell_document written (spell_ending behind []) ≡ text
+  spelt : codes "---\n" ++ spell_document written (spell_ending after []) ≡ text
   tree : root_tree written.root ≡ t
 
 first_tree : {t u : Tree} → t ∷ [] ≡ u ∷ [] → t ≡ u
@@ -29,13 +29,13 @@ one_of : (is_marked : Bool) (ds : Documents) (t : Tree) (text : List ℕ) → is
     → spell_mark is_marked (spell_documents ds []) ≡ text → trees_of ds ≡ t ∷ [] → One t text
 one_of false ds t text marked basic are spelt trees = absurd (true≢false (sym marked))
 one_of true (document d g ds) t text marked basic are spelt trees = absurd basic
-one_of true (last_document d behind) t text marked basic are spelt trees =
-    record { written = d; behind = behind; is = are; basic = basic; spelt = spelt; tree = first_tree trees }
+one_of true (last_document d after) t text marked basic are spelt trees =
+    record { written = d; after = after; is = are; basic = basic; spelt = spelt; tree = first_tree trees }
 
 one : (t : Tree) (text : List ℕ) → IsBasicLayout t text → One t text
 one t text (w, is, basic, spelt, trees) = one_of w.is_marked w.documents t text basic.0 basic.1 is spelt trees
 
--- ---- an LF behind it
+-- ---- an LF after it
 
 -- it ends the last line of what ends the document
 feed_ends : (g : List GapLine) (r : List ℕ) → spell_ending g (10 ∷ r) ≡ 10 ∷ spell_gap g r
@@ -57,14 +57,14 @@ ended_lines : (g : List GapLine) → AreEmptyLines g → AreEmptyLines (g ++ emp
 ended_lines [] h = (tt, tt)
 ended_lines (l ∷ g) h = (h.0, ended_lines g h.1)
 
-ended_behind : (x : Root) (g : List GapLine) → IsBehindRoot x g → IsBehindRoot x (g ++ empty_line ∷ [])
-ended_behind (Root.block column b) g h = ended_gap g h
-ended_behind (Root.inline i) g h = ended_gap g h
-ended_behind (Root.literal text ls) g h = ended_lines g h
+ended_after : (x : Root) (g : List GapLine) → IsAfterRoot x g → IsAfterRoot x (g ++ empty_line ∷ [])
+ended_after (Root.block column b) g h = ended_gap g h
+ended_after (Root.inline i) g h = ended_gap g h
+ended_after (Root.literal text ls) g h = ended_lines g h
 
 -- ---- all of them
 
--- documents, the first behind its `---`
+-- documents, the first after its `---`
 record AllInTurn (trees : List Tree) (text : List ℕ) : Type 0 where
   written : Documents
   are : AreDocuments written
@@ -75,10 +75,10 @@ in_turn : (t : Tree) (ts : List Tree) (text : List ℕ) → AreLaidOutInTurn (t 
 in_turn t [] text (first, others, laid, none, whole) =
     let o = one t first laid in
     record {
-      written = last_document o.written (o.behind ++ empty_line ∷ []);
-      are = (o.is.0, o.is.1, ended_behind o.written.root o.behind o.is.2);
+      written = last_document o.written (o.after ++ empty_line ∷ []);
+      are = (o.is.0, o.is.1, ended_after o.written.root o.after o.is.2);
       spelt =
-          ap (λ x. codes "---\n" ++ spell_document o.written x) (ending_text o.behind) ∙ document_append o.written o.behind o.basic [] (10 ∷ [])
+          ap (λ x. codes "---\n" ++ spell_document o.written x) (ending_text o.after) ∙ document_append o.written o.after o.basic [] (10 ∷ [])
           ∙ ap (λ x. x ++ 10 ∷ []) o.spelt ∙ ap (λ x. first ++ 10 ∷ x) (sym none) ∙ whole;
       stand = ap (λ x. x ∷ []) o.tree;
     }
@@ -86,11 +86,11 @@ in_turn t (u ∷ us) text (first, others, laid, more, whole) =
     let o = one t first laid in
     let z = in_turn u us others more in
     record {
-      written = document o.written o.behind z.written;
+      written = document o.written o.after z.written;
       are = (o.is.0, o.is.1, o.is.2, z.are);
       spelt =
-          ap (λ x. codes "---\n" ++ spell_document o.written x) (ap (λ x. 10 ∷ spell_gap o.behind x) z.spelt ∙ sym (feed_ends o.behind others))
-          ∙ document_append o.written o.behind o.basic [] (10 ∷ others) ∙ ap (λ x. x ++ 10 ∷ others) o.spelt ∙ whole;
+          ap (λ x. codes "---\n" ++ spell_document o.written x) (ap (λ x. 10 ∷ spell_gap o.after x) z.spelt ∙ sym (feed_ends o.after others))
+          ∙ document_append o.written o.after o.basic [] (10 ∷ others) ∙ ap (λ x. x ++ 10 ∷ others) o.spelt ∙ whole;
       stand = ap (λ x. x ∷ trees_of z.written) o.tree ∙ ap (λ ts. t ∷ ts) z.stand;
     }
 

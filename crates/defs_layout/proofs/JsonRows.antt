@@ -75,7 +75,7 @@ indented_by_tabs = (
   refl,
 )
 
--- white space around the value, with a tab at the text's start and one behind CR LF
+-- white space around the value, with a tab at the text's start and one after CR LF
 around_the_value : IsJsonText (Tree.boolean false) (codes "\t false \r\n\t\n")
 around_the_value = (
   record { before = tab ∷ space ∷ []; value = Json.false_word; after = space ∷ carriage_return ∷ line_feed ∷ tab ∷ line_feed ∷ [] },
@@ -177,7 +177,7 @@ with_fraction = refl
 with_both : number_tree (number true (codes "12") (fraction (codes "50")) (exponent true plus (codes "07"))) ≡ Tree.real (codes "-12.50E+07")
 with_both = refl
 
--- a zero before another digit, no digit behind a point, no digit at all, no digit behind `e`
+-- a zero before another digit, no digit after a point, no digit at all, no digit after `e`
 leading_zero : is_number (number false (codes "01") no_fraction no_exponent) ≡ false
 leading_zero = refl
 
@@ -192,12 +192,12 @@ empty_exponent = refl
 
 -- ---- written things that are not JSON
 
--- a tab behind a value, and one behind a space there; behind a break it may stand
-tab_behind_value : ¬ IsJson (Json.array [] (last_element Json.null_word (tab ∷ [])))
-tab_behind_value h = true≢false (sym h.1.1.0)
+-- a tab after a value, and one after a space there; after a break it may stand
+tab_after_value : ¬ IsJson (Json.array [] (last_element Json.null_word (tab ∷ [])))
+tab_after_value h = true≢false (sym h.1.1.0)
 
-tab_behind_space : ¬ IsWellFormed (record { before = []; value = Json.null_word; after = space ∷ tab ∷ [] })
-tab_behind_space h = true≢false (sym h.after.0)
+tab_after_space : ¬ IsWellFormed (record { before = []; value = Json.null_word; after = space ∷ tab ∷ [] })
+tab_after_space h = true≢false (sym h.after.0)
 
 -- a tab as it stands in a string
 raw_tab : are_pieces (raw (codes "\t")) ≡ false
@@ -290,21 +290,21 @@ objects_256 h = let d : 256 ≤ 255 = rw (levels_around 254 (Json.object [] (las
 
 -- ---- a text that no written thing has
 
-not_empty_behind : (v : Json) (r : List ℕ) → IsJson v → is_empty (spell v r) ≡ false
-not_empty_behind Json.false_word r h = refl
-not_empty_behind Json.null_word r h = refl
-not_empty_behind Json.true_word r h = refl
-not_empty_behind (Json.number (number true w f e)) r h = refl
-not_empty_behind (Json.number (number false [] f e)) r h = absurd (true≢false (sym h))
-not_empty_behind (Json.number (number false (c ∷ w) f e)) r h = refl
-not_empty_behind (Json.string ps) r h = refl
-not_empty_behind (Json.empty_array g) r h = refl
-not_empty_behind (Json.array g es) r h = refl
-not_empty_behind (Json.empty_object g) r h = refl
-not_empty_behind (Json.object g ms) r h = refl
+not_empty_after : (v : Json) (r : List ℕ) → IsJson v → is_empty (spell v r) ≡ false
+not_empty_after Json.false_word r h = refl
+not_empty_after Json.null_word r h = refl
+not_empty_after Json.true_word r h = refl
+not_empty_after (Json.number (number true w f e)) r h = refl
+not_empty_after (Json.number (number false [] f e)) r h = absurd (true≢false (sym h))
+not_empty_after (Json.number (number false (c ∷ w) f e)) r h = refl
+not_empty_after (Json.string ps) r h = refl
+not_empty_after (Json.empty_array g) r h = refl
+not_empty_after (Json.array g es) r h = refl
+not_empty_after (Json.empty_object g) r h = refl
+not_empty_after (Json.object g ms) r h = refl
 
 not_empty : (g : List Blank) (v : Json) (r : List ℕ) → IsJson v → is_empty (spell_gap g (spell v r)) ≡ false
-not_empty [] v r h = not_empty_behind v r h
+not_empty [] v r h = not_empty_after v r h
 not_empty (b ∷ g) v r h = refl
 
 -- the empty text is no JSON

@@ -15,7 +15,7 @@ use Rattle.defs_layout.specs.JsonString.{itself, is_unescaped}
 use Rattle.defs_layout.specs.JsonGap.{space, tab, line_feed}
 use Rattle.defs_layout.specs.Json.{Json, last_element, element, last_member}
 use Rattle.defs_layout.specs.Anchored.{last_tree}
-use Rattle.defs_layout.specs.Layout.{Scalar, plain, single_quoted, scalar, empty_array, no_comment, comment, Block, array, hash, Value, beside, folded, compact, below, at_key, anchored, last_entry, entry, implicit, explicit, last_field, field, Root, block, inline, Document, last_document, document, Layout, IsImplicitKey, IsValue, IsField, AreEntries, AreDocuments, AreLaidOut, anchors_behind, is_on_one_line}
+use Rattle.defs_layout.specs.Layout.{Scalar, plain, single_quoted, scalar, empty_array, no_comment, comment, Block, array, hash, Value, beside, folded, compact, below, at_key, anchored, last_entry, entry, implicit, explicit, last_field, field, Root, block, inline, Document, last_document, document, Layout, IsImplicitKey, IsValue, IsField, AreEntries, AreDocuments, AreLaidOut, anchors_after, is_on_one_line}
 use Rattle.defs_tree.specs.Order.{tree_eq}
 use Rattle.defs_layout.proofs.Differ.{differ}
 
@@ -28,7 +28,7 @@ word w = plain (Tree.string w)
 abbrev integer : ℕ → Scalar
 integer n = plain (Tree.integer (pos n))
 
--- a scalar behind one space
+-- a scalar after one space
 abbrev one : Scalar → Value
 one s = beside 0 (scalar s) no_comment
 
@@ -36,7 +36,7 @@ one s = beside 0 (scalar s) no_comment
 abbrev plainly : Block → Document
 plainly b = record { gap = []; root = block 0 b }
 
--- one document behind its `---`
+-- one document after its `---`
 abbrev alone : Block → Layout
 alone b = record { is_marked = true; documents = last_document (plainly b) [] }
 
@@ -93,7 +93,7 @@ json_key = (
   refl,
 )
 
--- no `---`, comments behind a key and behind a scalar, an array at its key's column
+-- no `---`, comments after a key and after a scalar, an array at its key's column
 array_at_key : AreLaidOut
     (Tree.hash (pairs_of ((Tree.string (codes "k"), Tree.array (items_of (Tree.string (codes "a") ∷ Tree.string (codes "x") ∷ []))) ∷ (Tree.string (codes "m"), Tree.integer (pos 1)) ∷ [])) ∷ [])
     (codes "# top\nk: # why\n- 'a' # b\n- x\nm: 1")
@@ -178,7 +178,7 @@ blocks_as_items = (
   refl,
 )
 
--- a folded block, a gap behind it, and further text
+-- a folded block, a gap after it, and further text
 folded_before_gap : AreLaidOut (Tree.array (items_of (Tree.string (codes "a") ∷ Tree.string (codes "b") ∷ [])) ∷ []) (codes "---\n- >-\n a\n\n# c\n- b")
 unfolding is_literal is_literal_character is_line_character row_of is_empty_line is_content_line is_blank is_quoted is_unfit_for_plain typing is_decimal
 folded_before_gap = (
@@ -190,9 +190,9 @@ folded_before_gap = (
   refl,
 )
 
--- an anchor inside the node of the same anchor: behind that node the alias means the inner one, which stands later
+-- an anchor inside the node of the same anchor: after that node the alias means the inner one, which stands later
 inner_anchor : last_tree (codes "a")
-    (anchors_behind (anchored 0 (codes "a") (below no_comment [] 2 (array (last_entry (anchored 0 (codes "a") (one (integer 1))))))) [])
+    (anchors_after (anchored 0 (codes "a") (below no_comment [] 2 (array (last_entry (anchored 0 (codes "a") (one (integer 1))))))) [])
     ≡ Some (Tree.integer (pos 1))
 inner_anchor = refl
 
@@ -266,7 +266,7 @@ json_with_tab h = true≢false (sym h.1.0)
 json_scalar : ¬ IsValue 0 [] (Value.json 0 Json.null_word)
 json_scalar h = h.0
 
--- an array at the column of the dash that it is an item of, and at the column of the `:` behind an array as key
+-- an array at the column of the dash that it is an item of, and at the column of the `:` after an array as key
 at_dash : ¬ AreEntries 0 [] (last_entry (at_key no_comment [] (last_entry (beside 0 empty_array no_comment))))
 at_dash h = h.0
 
@@ -286,8 +286,8 @@ comment_with_nul : ¬ IsValue 0 [] (beside 0 empty_array (comment 0 (97 ∷ 0 �
 unfolding is_line_character
 comment_with_nul h = true≢false (sym h.1)
 
--- a comment behind a literal block at column 0, where the next document begins
-comment_behind_literal_root : ¬ AreDocuments
+-- a comment after a literal block at column 0, where the next document begins
+comment_after_literal_root : ¬ AreDocuments
     (document (record { gap = []; root = Root.literal (codes "a\nb") (full (codes "a") ∷ full (codes "b") ∷ []) }) (comment_line [] ∷ [])
     (last_document (record { gap = []; root = inline empty_array }) []))
-comment_behind_literal_root h = h.2.0
+comment_after_literal_root h = h.2.0

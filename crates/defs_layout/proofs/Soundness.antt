@@ -146,23 +146,23 @@ inline_sound Layout.empty_array h = array_sound Items.no_items no_items_sound
 inline_sound Layout.empty_hash h = empty_hash_sound
 
 mutual
-  block_sound : (c : ℕ) (a : List Anchor) (b : Layout.Block) → Layout.IsBlock c a b → AreAnchorsSound a → IsSound (Layout.block_tree b) × AreAnchorsSound (Layout.anchors_behind_block b a)
+  block_sound : (c : ℕ) (a : List Anchor) (b : Layout.Block) → Layout.IsBlock c a b → AreAnchorsSound a → IsSound (Layout.block_tree b) × AreAnchorsSound (Layout.anchors_after_block b a)
   block_sound c a (Layout.array es) h hs = let k = entries_sound c a es h hs in (array_sound _ k.0, k.1)
   block_sound c a (Layout.hash fs) h hs = let k = fields_sound c a fs h.0 hs in (hash_sound (Layout.pair_list fs) h.1 k.0, k.1)
 
-  value_sound : (c : ℕ) (a : List Anchor) (v : Layout.Value) → Layout.IsValue c a v → AreAnchorsSound a → IsSound (Layout.value_tree v) × AreAnchorsSound (Layout.anchors_behind v a)
-  value_sound c a (Layout.beside more i behind) h hs = (inline_sound i h.0, hs)
+  value_sound : (c : ℕ) (a : List Anchor) (v : Layout.Value) → Layout.IsValue c a v → AreAnchorsSound a → IsSound (Layout.value_tree v) × AreAnchorsSound (Layout.anchors_after v a)
+  value_sound c a (Layout.beside more i after) h hs = (inline_sound i h.0, hs)
   value_sound c a (Layout.Value.literal more column text ls) h hs = (string_sound text, hs)
   value_sound c a (Layout.folded more column strips text ls) h hs = (string_sound text, hs)
   value_sound c a (Layout.Value.json more v) h hs = (json_sound v h.1, hs)
   value_sound c a (Layout.compact more b) h hs = block_sound _ a b h hs
-  value_sound c a (Layout.below behind g column b) h hs = block_sound column a b h.3 hs
-  value_sound c a (Layout.at_key behind g es) h hs = let k = entries_sound c a es h.2 hs in (array_sound _ k.0, k.1)
+  value_sound c a (Layout.below after g column b) h hs = block_sound column a b h.3 hs
+  value_sound c a (Layout.at_key after g es) h hs = let k = entries_sound c a es h.2 hs in (array_sound _ k.0, k.1)
   value_sound c a (Layout.anchored more name v) h hs =
       let k = value_sound c (begun name ∷ a) v h.2 hs in (k.0, with_end_sound _ _ k.0 k.1)
   value_sound c a (Layout.Value.alias more name t) h hs = (last_tree_sound name a t hs h.1, hs)
 
-  entries_sound : (c : ℕ) (a : List Anchor) (es : Layout.Entries) → Layout.AreEntries c a es → AreAnchorsSound a → AreSound (Layout.items es) × AreAnchorsSound (Layout.anchors_behind_entries es a)
+  entries_sound : (c : ℕ) (a : List Anchor) (es : Layout.Entries) → Layout.AreEntries c a es → AreAnchorsSound a → AreSound (Layout.items es) × AreAnchorsSound (Layout.anchors_after_entries es a)
   entries_sound c a (Layout.last_entry v) h hs = let k = value_sound c a v h.1 hs in (item_sound _ Items.no_items k.0 no_items_sound, k.1)
   entries_sound c a (Layout.entry v g es) h hs =
       let k = value_sound c a v h.1 hs in
@@ -170,14 +170,14 @@ mutual
       (item_sound _ _ k.0 l.0, l.1)
 
   field_sound : (c : ℕ) (a : List Anchor) (f : Layout.Field) → Layout.IsField c a f → AreAnchorsSound a
-      → (IsSound (Layout.pair_of f).0 × IsSound (Layout.pair_of f).1) × AreAnchorsSound (Layout.anchors_behind_field f a)
+      → (IsSound (Layout.pair_of f).0 × IsSound (Layout.pair_of f).1) × AreAnchorsSound (Layout.anchors_after_field f a)
   field_sound c a (Layout.implicit k v) h hs = let l = value_sound c a v h.2 hs in ((scalar_sound k h.0.0, l.0), l.1)
   field_sound c a (Layout.explicit k g v) h hs =
       let m = value_sound c a k h.1 hs in
       let l = value_sound c _ v h.4 m.1 in
       ((m.0, l.0), l.1)
 
-  fields_sound : (c : ℕ) (a : List Anchor) (fs : Layout.Fields) → Layout.AreFields c a fs → AreAnchorsSound a → ArePairsSound (pairs_of (Layout.pair_list fs)) × AreAnchorsSound (Layout.anchors_behind_fields fs a)
+  fields_sound : (c : ℕ) (a : List Anchor) (fs : Layout.Fields) → Layout.AreFields c a fs → AreAnchorsSound a → ArePairsSound (pairs_of (Layout.pair_list fs)) × AreAnchorsSound (Layout.anchors_after_fields fs a)
   fields_sound c a (Layout.last_field f) h hs =
       let k = field_sound c a f h hs in (pair_sound _ _ Pairs.no_pairs k.0.0 k.0.1 no_pairs_sound, k.1)
   fields_sound c a (Layout.field f g fs) h hs =
@@ -191,7 +191,7 @@ root_sound (Layout.Root.inline i) h = inline_sound i h
 root_sound (Layout.Root.literal text ls) h = string_sound text
 
 documents_sound : (ds : Layout.Documents) → Layout.AreDocuments ds → AreAllSound (Layout.trees_of ds)
-documents_sound (Layout.last_document d behind) h = (root_sound d.root h.1, tt)
+documents_sound (Layout.last_document d after) h = (root_sound d.root h.1, tt)
 documents_sound (Layout.document d g ds) h = (root_sound d.root h.1, documents_sound ds h.3)
 
 pub laid_out_sound : (ts : List Tree) (text : List ℕ) → Layout.AreLaidOut ts text → AreAllSound ts

@@ -28,7 +28,7 @@ object = refl
 abbrev document : Layout.Root → Layout.Document
 document x = record { gap = []; root = x }
 
--- a value behind one space
+-- a value after one space
 abbrev beside : Layout.Inline → Layout.Value
 beside i = Layout.Value.beside 0 i Layout.Comment.no_comment
 

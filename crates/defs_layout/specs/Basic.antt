@@ -28,10 +28,10 @@ abbrev mutual
 
   -- a value
   pub IsBasicValue : Value → Type 0
-  IsBasicValue (Value.beside more i behind) = IsBasicInline i × IsNoComment behind
+  IsBasicValue (Value.beside more i after) = IsBasicInline i × IsNoComment after
   IsBasicValue (Value.literal more column text ls) = Unit {0}
   IsBasicValue (Value.compact more b) = IsBasicBlock b
-  IsBasicValue (Value.below behind g column b) = IsNoComment behind × IsBasicBlock b
+  IsBasicValue (Value.below after g column b) = IsNoComment after × IsBasicBlock b
   IsBasicValue _ = ⊥
 
   -- the entries of an array
@@ -57,7 +57,7 @@ IsBasicRoot (Root.literal text ls) = Unit {0}
 
 -- one document
 abbrev pub AreBasicDocuments : Documents → Type 0
-AreBasicDocuments (last_document d behind) = IsBasicRoot d.root
+AreBasicDocuments (last_document d after) = IsBasicRoot d.root
 AreBasicDocuments (document d g ds) = ⊥
 
 -- the whole text

@@ -29,8 +29,8 @@ mutual
 
   -- a key, white space, a colon, white space, a value and white space; then nothing, or a comma, white space and more
   pub data Members : Type 0 where
-    last_member : (key : List Piece) → (behind_key behind_colon : List Blank) → Json → (after : List Blank) → Members
-    member : (key : List Piece) → (behind_key behind_colon : List Blank) → Json → (after before : List Blank) → Members → Members
+    last_member : (key : List Piece) → (after_key after_colon : List Blank) → Json → (after : List Blank) → Members
+    member : (key : List Piece) → (after_key after_colon : List Blank) → Json → (after before : List Blank) → Members → Members
 
 -- a text: one value, and white space around it
 pub record JsonText : Type 0 where

@@ -95,7 +95,7 @@ pub record Document : Type 0 where
 
 -- one document or more; after each but the last an LF and a gap, and then the `---` of the next
 pub data Documents : Type 0 where
-  last_document : Document → (behind : List GapLine) → Documents
+  last_document : Document → (after : List GapLine) → Documents
   document : Document → List GapLine → Documents → Documents
 
 -- a whole text; its first `---` may be missing
@@ -143,13 +143,13 @@ abbrev mutual
 
   -- a value after a mark at the column c: a compact block begins after the mark and the spaces
   pub spell_value : (c : ℕ) → Value → List ℕ → List ℕ
-  spell_value c (beside more i behind) r = space ∷ spaces more (spell_inline i (spell_comment behind r))
+  spell_value c (beside more i after) r = space ∷ spaces more (spell_inline i (spell_comment after r))
   spell_value c (literal more column text ls) r = space ∷ spaces more (spell_literal column text ls r)
   spell_value c (folded more column strips text ls) r = space ∷ spaces more (folded_header strips ++ spell_lines column ls r)
   spell_value c (json more v) r = space ∷ spaces more (Json.spell v r)
   spell_value c (compact more b) r = space ∷ spaces more (spell_block (c + 2 + more) b r)
-  spell_value c (below behind g column b) r = spell_comment behind (next_line column g (spell_block column b r))
-  spell_value c (at_key behind g es) r = spell_comment behind (next_line c g (spell_entries c es r))
+  spell_value c (below after g column b) r = spell_comment after (next_line column g (spell_block column b r))
+  spell_value c (at_key after g es) r = spell_comment after (next_line c g (spell_entries c es r))
   spell_value c (anchored more name v) r = space ∷ spaces more (ampersand ∷ (name ++ spell_value c v r))
   spell_value c (alias more name t) r = space ∷ spaces more (asterisk ∷ (name ++ r))
 
@@ -180,7 +180,7 @@ spell_document d r = spell_gap d.gap (spell_root d.root r)
 
 -- each document but the first after an LF, a gap and its `---`
 abbrev pub spell_documents : Documents → List ℕ → List ℕ
-spell_documents (last_document d behind) r = spell_document d (spell_ending behind r)
+spell_documents (last_document d after) r = spell_document d (spell_ending after r)
 spell_documents (document d g ds) r = spell_document d (line_feed ∷ spell_gap g (codes "---\n" ++ spell_documents ds r))
 
 -- the first `---`, where it is written
@@ -214,13 +214,13 @@ abbrev mutual
 
   -- of a value; of an alias the tree that it keeps
   pub value_tree : Value → Tree
-  value_tree (beside more i behind) = inline_tree i
+  value_tree (beside more i after) = inline_tree i
   value_tree (literal more column text ls) = Tree.string text
   value_tree (folded more column strips text ls) = Tree.string text
   value_tree (json more v) = Json.tree_of v
   value_tree (compact more b) = block_tree b
-  value_tree (below behind g column b) = block_tree b
-  value_tree (at_key behind g es) = Tree.array (items es)
+  value_tree (below after g column b) = block_tree b
+  value_tree (at_key after g es) = Tree.array (items es)
   value_tree (anchored more name v) = value_tree v
   value_tree (alias more name t) = t
 
@@ -247,43 +247,43 @@ root_tree (literal text ls) = Tree.string text
 
 -- of each document
 abbrev pub trees_of : Documents → List Tree
-trees_of (last_document d behind) = root_tree d.root ∷ []
+trees_of (last_document d after) = root_tree d.root ∷ []
 trees_of (document d g ds) = root_tree d.root ∷ trees_of ds
 
 -- ---- the anchors after a part, from those before it
 
 abbrev mutual
   -- after a block
-  pub anchors_behind_block : Block → List Anchor → List Anchor
-  anchors_behind_block (array es) a = anchors_behind_entries es a
-  anchors_behind_block (hash fs) a = anchors_behind_fields fs a
+  pub anchors_after_block : Block → List Anchor → List Anchor
+  anchors_after_block (array es) a = anchors_after_entries es a
+  anchors_after_block (hash fs) a = anchors_after_fields fs a
 
   -- after a value; an anchor begins before its node, and ends with the tree of the node
-  pub anchors_behind : Value → List Anchor → List Anchor
-  anchors_behind (beside more i behind) a = a
-  anchors_behind (literal more column text ls) a = a
-  anchors_behind (folded more column strips text ls) a = a
-  anchors_behind (json more v) a = a
-  anchors_behind (compact more b) a = anchors_behind_block b a
-  anchors_behind (below behind g column b) a = anchors_behind_block b a
-  anchors_behind (at_key behind g es) a = anchors_behind_entries es a
-  anchors_behind (anchored more name v) a = with_end (value_tree v) (anchors_behind v (begun name ∷ a))
-  anchors_behind (alias more name t) a = a
+  pub anchors_after : Value → List Anchor → List Anchor
+  anchors_after (beside more i after) a = a
+  anchors_after (literal more column text ls) a = a
+  anchors_after (folded more column strips text ls) a = a
+  anchors_after (json more v) a = a
+  anchors_after (compact more b) a = anchors_after_block b a
+  anchors_after (below after g column b) a = anchors_after_block b a
+  anchors_after (at_key after g es) a = anchors_after_entries es a
+  anchors_after (anchored more name v) a = with_end (value_tree v) (anchors_after v (begun name ∷ a))
+  anchors_after (alias more name t) a = a
 
   -- after the entries of an array
-  pub anchors_behind_entries : Entries → List Anchor → List Anchor
-  anchors_behind_entries (last_entry v) a = anchors_behind v a
-  anchors_behind_entries (entry v g es) a = anchors_behind_entries es (anchors_behind v a)
+  pub anchors_after_entries : Entries → List Anchor → List Anchor
+  anchors_after_entries (last_entry v) a = anchors_after v a
+  anchors_after_entries (entry v g es) a = anchors_after_entries es (anchors_after v a)
 
   -- after an entry of a hash: its key comes before its value
-  pub anchors_behind_field : Field → List Anchor → List Anchor
-  anchors_behind_field (implicit k v) a = anchors_behind v a
-  anchors_behind_field (explicit k g v) a = anchors_behind v (anchors_behind k a)
+  pub anchors_after_field : Field → List Anchor → List Anchor
+  anchors_after_field (implicit k v) a = anchors_after v a
+  anchors_after_field (explicit k g v) a = anchors_after v (anchors_after k a)
 
   -- after the entries of a hash
-  pub anchors_behind_fields : Fields → List Anchor → List Anchor
-  anchors_behind_fields (last_field f) a = anchors_behind_field f a
-  anchors_behind_fields (field f g fs) a = anchors_behind_fields fs (anchors_behind_field f a)
+  pub anchors_after_fields : Fields → List Anchor → List Anchor
+  anchors_after_fields (last_field f) a = anchors_after_field f a
+  anchors_after_fields (field f g fs) a = anchors_after_fields fs (anchors_after_field f a)
 
 -- ---- what makes it valid
 
@@ -322,15 +322,15 @@ IsImplicitKey s = IsScalar s × (length (spell_scalar s []) ≤ 1024)
 
 -- a key that may stand after `?`: an array or a hash, without anchor and no alias
 abbrev pub IsExplicitKey : Value → Type 0
-IsExplicitKey (beside more (scalar s) behind) = ⊥
-IsExplicitKey (beside more empty_array behind) = Unit {0}
-IsExplicitKey (beside more empty_hash behind) = Unit {0}
+IsExplicitKey (beside more (scalar s) after) = ⊥
+IsExplicitKey (beside more empty_array after) = Unit {0}
+IsExplicitKey (beside more empty_hash after) = Unit {0}
 IsExplicitKey (literal more column text ls) = ⊥
 IsExplicitKey (folded more column strips text ls) = ⊥
 IsExplicitKey (json more v) = Unit {0}
 IsExplicitKey (compact more b) = Unit {0}
-IsExplicitKey (below behind g column b) = Unit {0}
-IsExplicitKey (at_key behind g es) = ⊥
+IsExplicitKey (below after g column b) = Unit {0}
+IsExplicitKey (at_key after g es) = ⊥
 IsExplicitKey (anchored more name v) = ⊥
 IsExplicitKey (alias more name t) = ⊥
 
@@ -341,20 +341,20 @@ MayFollowScalarKey _ = Unit {0}
 
 -- an array at the column of its mark may be the value of a scalar key alone
 abbrev pub MayFollowMark : Value → Type 0
-MayFollowMark (at_key behind g es) = ⊥
+MayFollowMark (at_key after g es) = ⊥
 MayFollowMark _ = Unit {0}
 
 -- an anchor may stand before a scalar on its line, a literal block, and a block on the next line
 abbrev pub MayBeAnchored : Value → Type 0
-MayBeAnchored (beside more (scalar s) behind) = Unit {0}
-MayBeAnchored (beside more empty_array behind) = ⊥
-MayBeAnchored (beside more empty_hash behind) = ⊥
+MayBeAnchored (beside more (scalar s) after) = Unit {0}
+MayBeAnchored (beside more empty_array after) = ⊥
+MayBeAnchored (beside more empty_hash after) = ⊥
 MayBeAnchored (literal more column text ls) = Unit {0}
 MayBeAnchored (folded more column strips text ls) = ⊥
 MayBeAnchored (json more v) = ⊥
 MayBeAnchored (compact more b) = ⊥
-MayBeAnchored (below behind g column b) = Unit {0}
-MayBeAnchored (at_key behind g es) = ⊥
+MayBeAnchored (below after g column b) = Unit {0}
+MayBeAnchored (at_key after g es) = ⊥
 MayBeAnchored (anchored more name v) = ⊥
 MayBeAnchored (alias more name t) = ⊥
 
@@ -420,30 +420,30 @@ abbrev mutual
 
   -- Below a mark at the column c, what is nested stands at a deeper column; a are the anchors before.
   pub IsValue : (c : ℕ) → List Anchor → Value → Type 0
-  IsValue c a (beside more i behind) = IsInline i × IsComment behind
+  IsValue c a (beside more i after) = IsInline i × IsComment after
   IsValue c a (literal more column text ls) = (c < column) × (is_literal text ≡ true) × AreLinesOf text column ls
   IsValue c a (folded more column strips text ls) = (c < column) × AreFoldedLines c column strips text ls
   IsValue c a (json more v) = IsJsonOnOneLine v
   IsValue c a (compact more b) = IsBlock (c + 2 + more) a b
-  IsValue c a (below behind g column b) = IsComment behind × IsGap g × (c < column) × IsBlock column a b
-  IsValue c a (at_key behind g es) = IsComment behind × IsGap g × AreEntries c a es
+  IsValue c a (below after g column b) = IsComment after × IsGap g × (c < column) × IsBlock column a b
+  IsValue c a (at_key after g es) = IsComment after × IsGap g × AreEntries c a es
   IsValue c a (anchored more name v) = (is_name name ≡ true) × MayBeAnchored v × IsValue c (begun name ∷ a) v
   IsValue c a (alias more name t) = (is_name name ≡ true) × (last_tree name a ≡ Some t)
 
   -- Each value and each gap is valid. A value sees the anchors of the values before it.
   pub AreEntries : (c : ℕ) → List Anchor → Entries → Type 0
   AreEntries c a (last_entry v) = MayFollowMark v × IsValue c a v
-  AreEntries c a (entry v g es) = MayFollowMark v × IsValue c a v × IsGap g × AreEntries c (anchors_behind v a) es
+  AreEntries c a (entry v g es) = MayFollowMark v × IsValue c a v × IsGap g × AreEntries c (anchors_after v a) es
 
   -- a key of its kind, and a value that may stand after it
   pub IsField : (c : ℕ) → List Anchor → Field → Type 0
   IsField c a (implicit k v) = IsImplicitKey k × MayFollowScalarKey v × IsValue c a v
-  IsField c a (explicit k g v) = IsExplicitKey k × IsValue c a k × IsGap g × MayFollowMark v × IsValue c (anchors_behind k a) v
+  IsField c a (explicit k g v) = IsExplicitKey k × IsValue c a k × IsGap g × MayFollowMark v × IsValue c (anchors_after k a) v
 
   -- Each entry is valid. It sees the anchors of the entries before it.
   pub AreFields : (c : ℕ) → List Anchor → Fields → Type 0
   AreFields c a (last_field f) = IsField c a f
-  AreFields c a (field f g fs) = IsField c a f × IsGap g × AreFields c (anchors_behind_field f a) fs
+  AreFields c a (field f g fs) = IsField c a f × IsGap g × AreFields c (anchors_after_field f a) fs
 
 -- a document's anchors are its own
 abbrev pub IsRoot : Root → Type 0
@@ -452,15 +452,15 @@ IsRoot (inline i) = IsInline i
 IsRoot (literal text ls) = (is_root_literal text ≡ true) × AreLinesOf text 0 ls
 
 -- after a literal block at column 0 a comment would be a line of its text
-abbrev pub IsBehindRoot : Root → List GapLine → Type 0
-IsBehindRoot (block column b) g = IsGap g
-IsBehindRoot (inline i) g = IsGap g
-IsBehindRoot (literal text ls) g = AreEmptyLines g
+abbrev pub IsAfterRoot : Root → List GapLine → Type 0
+IsAfterRoot (block column b) g = IsGap g
+IsAfterRoot (inline i) g = IsGap g
+IsAfterRoot (literal text ls) g = AreEmptyLines g
 
 -- each document is valid
 abbrev pub AreDocuments : Documents → Type 0
-AreDocuments (last_document d behind) = IsGap d.gap × IsRoot d.root × IsBehindRoot d.root behind
-AreDocuments (document d g ds) = IsGap d.gap × IsRoot d.root × IsBehindRoot d.root g × AreDocuments ds
+AreDocuments (last_document d after) = IsGap d.gap × IsRoot d.root × IsAfterRoot d.root after
+AreDocuments (document d g ds) = IsGap d.gap × IsRoot d.root × IsAfterRoot d.root g × AreDocuments ds
 
 -- what makes a written text a layout
 abbrev pub IsLayout : Layout → Type 0

@@ -27,13 +27,13 @@ abbrev mutual
   block_tokens (Block.hash fs) r = Tok.block_mapping_start ∷ all_field_tokens fs (Tok.block_end ∷ r)
 
   pub value_tokens : Value → List Tok → List Tok
-  value_tokens (Value.beside more i behind) r = inline_tokens i r
+  value_tokens (Value.beside more i after) r = inline_tokens i r
   value_tokens (Value.literal more column text ls) r = Tok.scalar Style.literal text ∷ r
   value_tokens (Value.folded more column strips text ls) r = Tok.scalar Style.folded text ∷ r
   value_tokens (Value.json more v) r = json_tokens v r
   value_tokens (Value.compact more b) r = block_tokens b r
-  value_tokens (Value.below behind g column b) r = block_tokens b r
-  value_tokens (Value.at_key behind g es) r = entry_tokens es r
+  value_tokens (Value.below after g column b) r = block_tokens b r
+  value_tokens (Value.at_key after g es) r = entry_tokens es r
   value_tokens (Value.anchored more name v) r = Tok.anchor name ∷ value_tokens v r
   value_tokens (Value.alias more name t) r = Tok.alias name ∷ r
 
@@ -60,7 +60,7 @@ root_tokens (Root.literal text ls) r = Tok.scalar Style.literal text ∷ r
 
 -- the documents, with a marker before each but the first
 abbrev pub documents_tokens : Documents → List Tok
-documents_tokens (Documents.last_document d behind) = root_tokens d.root (Tok.stream_end ∷ [])
+documents_tokens (Documents.last_document d after) = root_tokens d.root (Tok.stream_end ∷ [])
 documents_tokens (Documents.document d g ds) = root_tokens d.root (Tok.document_start ∷ documents_tokens ds)
 
 -- a marker, where it is written

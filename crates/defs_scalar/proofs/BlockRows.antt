@@ -5,12 +5,12 @@ use Rattle.defs_text.specs.Classes.{is_blank, is_break, is_nul, are_marks, is_bl
 use Rattle.defs_text.specs.Breaks.{split}
 use Rattle.defs_scalar.specs.BlockScalar.{BlockStyle, Chomping, further_text, unbroken, body, input_ends, sign_of, digit_of, header_of, is_empty_line, is_content_line, row_of, block_value, is_further_text}
 
--- the scalar of a header and the text behind its break: the lines of that text, before the end of input
+-- the scalar of a header and the text after its break: the lines of that text, before the end of input
 abbrev scalar_to_end : (header text : List ℕ) → (collection : Option ℕ) → Option (List ℕ)
 scalar_to_end header text collection =
     elim (header_of header) [ None ↦ None | Some h ↦ block_value h collection (body ((split text).complete) (unbroken ((split text).last))) ]
 
--- the scalar of a header and the text behind its break, before further text
+-- the scalar of a header and the text after its break, before further text
 abbrev scalar_before_text : (header text : List ℕ) → (collection : Option ℕ) → Option (List ℕ)
 scalar_before_text header text collection =
     elim (header_of header) [ None ↦ None | Some h ↦ block_value h collection (body ((split text).complete) further_text) ]
@@ -115,7 +115,7 @@ deeper_spaces : scalar_to_end (codes "|") (codes "   \n a\n") (Some 0) ≡ None
 unfolding is_blank is_break is_nul is_blank_or_end are_marks sign_of digit_of is_empty_line is_content_line row_of
 deeper_spaces = refl
 
--- behind the first content line more spaces than the column are content
+-- after the first content line more spaces than the column are content
 spaces_are_content : scalar_to_end (codes "|") (codes " a\n   \n b\n") None ≡ Some (codes "a\n  \nb\n")
 unfolding is_blank is_break is_nul is_blank_or_end are_marks sign_of digit_of is_empty_line is_content_line row_of
 spaces_are_content = refl
@@ -190,7 +190,7 @@ header_hash : header_of (codes "|#c") ≡ None
 unfolding is_blank is_break is_nul is_blank_or_end are_marks sign_of digit_of is_empty_line is_content_line row_of
 header_hash = refl
 
--- text behind the header
+-- text after the header
 header_text : header_of (codes "|- a") ≡ None
 unfolding is_blank is_break is_nul is_blank_or_end are_marks sign_of digit_of is_empty_line is_content_line row_of
 header_text = refl

@@ -94,7 +94,7 @@ other_separators : plain_value (97 ∷ 0x85 ∷ 0x2028 ∷ 98 ∷ []) ≡ Some (
 unfolding is_blank is_break are_marks plain_element begins_with_marker plain_value
 other_separators = refl
 
--- an escaped blank is content and stays before a break, the blank behind it goes
+-- an escaped blank is content and stays before a break, the blank after it goes
 escaped_blank : double_quoted_value (codes "a\\  \n b") ≡ Some (codes "a  b")
 unfolding is_blank is_break is_nul are_marks plain_element double_quoted_element is_character_code numeric_escape escape begins_with_marker double_quoted_value
 escaped_blank = refl
@@ -104,10 +104,10 @@ blanks_before_escaped_break : double_quoted_value (codes "a \\\n b") ≡ Some (c
 unfolding is_blank is_break is_nul are_marks plain_element double_quoted_element is_character_code numeric_escape escape begins_with_marker double_quoted_value
 blanks_before_escaped_break = refl
 
--- an empty line behind an escaped break is one line feed each
-empty_behind_escaped : double_quoted_value (codes "a\\\n\n\n b") ≡ Some (codes "a\n\nb")
+-- an empty line after an escaped break is one line feed each
+empty_after_escaped : double_quoted_value (codes "a\\\n\n\n b") ≡ Some (codes "a\n\nb")
 unfolding is_blank is_break is_nul are_marks plain_element double_quoted_element is_character_code numeric_escape escape begins_with_marker double_quoted_value
-empty_behind_escaped = refl
+empty_after_escaped = refl
 
 -- an escaped backslash does not escape the break
 backslash_then_break : double_quoted_value (codes "\\\\\na") ≡ Some (codes "\\ a")
@@ -139,10 +139,10 @@ marker_inside : double_quoted_value (codes "a\n---\nb") ≡ None
 unfolding is_blank is_break is_nul are_marks plain_element double_quoted_element is_character_code numeric_escape escape begins_with_marker double_quoted_value
 marker_inside = refl
 
--- also behind an escaped break
-marker_behind_escaped : double_quoted_value (codes "a\\\n... b") ≡ None
+-- also after an escaped break
+marker_after_escaped : double_quoted_value (codes "a\\\n... b") ≡ None
 unfolding is_blank is_break is_nul are_marks plain_element double_quoted_element is_character_code numeric_escape escape begins_with_marker double_quoted_value
-marker_behind_escaped = refl
+marker_after_escaped = refl
 
 -- no marker where a blank stands before it
 marker_indented : double_quoted_value (codes "a\n ---\nb") ≡ Some (codes "a --- b")

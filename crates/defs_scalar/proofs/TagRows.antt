@@ -136,7 +136,7 @@ flow_in_suffix : written_tag (codes "!a,b") ≡ None
 unfolding is_flow is_decimal_digit is_letter is_alpha is_uri is_tag octet_at lead_of is_trail is_character_code escaped_character uri_character
 flow_in_suffix = refl
 
--- a second mark behind a character that is no name's
+-- a second mark after a character that is no name's
 name_not_alpha : written_tag (codes "!a:b!c") ≡ None
 unfolding is_flow is_decimal_digit is_letter is_alpha is_uri is_tag octet_at lead_of is_trail is_character_code escaped_character uri_character
 name_not_alpha = refl
@@ -201,7 +201,7 @@ yaml : directive_of (codes "%YAML 1.2") ≡ Some (version 1 2)
 unfolding is_blank is_break is_nul is_blank_or_end is_flow is_decimal_digit is_letter is_alpha is_uri is_tag octet_at lead_of is_trail is_character_code escaped_character uri_character directive_of
 yaml = refl
 
--- with a comment behind it
+-- with a comment after it
 yaml_comment : directive_of (codes "%YAML\t10.03 # c") ≡ Some (version 10 3)
 unfolding is_blank is_break is_nul is_blank_or_end is_flow is_decimal_digit is_letter is_alpha is_uri is_tag octet_at lead_of is_trail is_character_code escaped_character uri_character directive_of
 yaml_comment = refl
@@ -216,7 +216,7 @@ yaml_nine : directive_of (codes "%YAML 1.123456789") ≡ Some (version 1 1234567
 unfolding is_blank is_break is_nul is_blank_or_end is_flow is_decimal_digit is_letter is_alpha is_uri is_tag octet_at lead_of is_trail is_character_code escaped_character uri_character directive_of
 yaml_nine = refl
 
--- text behind the version
+-- text after the version
 yaml_word : directive_of (codes "%YAML 1.2 a") ≡ None
 unfolding is_blank is_break is_nul is_blank_or_end is_flow is_decimal_digit is_letter is_alpha is_uri is_tag octet_at lead_of is_trail is_character_code escaped_character uri_character directive_of
 yaml_word = refl

@@ -43,9 +43,9 @@ digit_or_end s ch (Some d) c r = ended (record { style = s; chomping = ch; digit
 digit_or_end s ch None c r = ended (record { style = s; chomping = ch; digit = None }) (c ∷ r)
 
 -- after a sign: a digit or none
-abbrev pub behind_sign : BlockStyle → Chomping → List ℕ → Option Header
-behind_sign s ch [] = Some (record { style = s; chomping = ch; digit = None })
-behind_sign s ch (c ∷ r) = digit_or_end s ch (digit_of c) c r
+abbrev pub after_sign : BlockStyle → Chomping → List ℕ → Option Header
+after_sign s ch [] = Some (record { style = s; chomping = ch; digit = None })
+after_sign s ch (c ∷ r) = digit_or_end s ch (digit_of c) c r
 
 -- after a digit: what a character is that is a sign, or none
 abbrev pub sign_or_end : BlockStyle → ℕ → Option Chomping → ℕ → List ℕ → Option Header
@@ -53,25 +53,25 @@ sign_or_end s d (Some ch) c r = ended (record { style = s; chomping = ch; digit 
 sign_or_end s d None c r = ended (record { style = s; chomping = clip; digit = Some d }) (c ∷ r)
 
 -- after a digit: a sign or none
-abbrev pub behind_digit : BlockStyle → ℕ → List ℕ → Option Header
-behind_digit s d [] = Some (record { style = s; chomping = clip; digit = Some d })
-behind_digit s d (c ∷ r) = sign_or_end s d (sign_of c) c r
+abbrev pub after_digit : BlockStyle → ℕ → List ℕ → Option Header
+after_digit s d [] = Some (record { style = s; chomping = clip; digit = Some d })
+after_digit s d (c ∷ r) = sign_or_end s d (sign_of c) c r
 
 -- the first character after the style, by what it is: a sign, a digit, or neither
 abbrev pub first_indicator : BlockStyle → Option Chomping → Option ℕ → ℕ → List ℕ → Option Header
-first_indicator s (Some ch) _ c r = behind_sign s ch r
-first_indicator s None (Some d) c r = behind_digit s d r
+first_indicator s (Some ch) _ c r = after_sign s ch r
+first_indicator s None (Some d) c r = after_digit s d r
 first_indicator s None None c r = ended (record { style = s; chomping = clip; digit = None }) (c ∷ r)
 
 -- after the style: the indicators
-abbrev pub behind_style : BlockStyle → List ℕ → Option Header
-behind_style s [] = Some (record { style = s; chomping = clip; digit = None })
-behind_style s (c ∷ r) = first_indicator s (sign_of c) (digit_of c) c r
+abbrev pub after_style : BlockStyle → List ℕ → Option Header
+after_style s [] = Some (record { style = s; chomping = clip; digit = None })
+after_style s (c ∷ r) = first_indicator s (sign_of c) (digit_of c) c r
 
 -- The header that a text is, up to its line's end: `|` or `>`, a sign and a digit in either order, blanks and a comment.
 abbrev pub header_of : List ℕ → Option Header
 header_of [] = None
-header_of (c ∷ r) = (if c == 124 then behind_style literal r else (if c == 62 then behind_style folded r else None))
+header_of (c ∷ r) = (if c == 124 then after_style literal r else (if c == 62 then after_style folded r else None))
 
 -- ---- the lines after a header
 
@@ -178,16 +178,16 @@ between_lines folded n true = breaks (suc n)
 between_lines folded n false = folded_break n
 
 -- the text after a content line and so many empty ones, up to the last content line
-abbrev pub text_behind : BlockStyle → (line : List ℕ) → (empty_lines : ℕ) → List Row → List ℕ
-text_behind s l n [] = []
-text_behind s l n (empty_row ∷ rs) = text_behind s l (suc n) rs
-text_behind s l n (content_row m ∷ rs) = between_lines s n (starts_blank l || starts_blank m) ++ m ++ text_behind s m 0 rs
+abbrev pub text_after : BlockStyle → (line : List ℕ) → (empty_lines : ℕ) → List Row → List ℕ
+text_after s l n [] = []
+text_after s l n (empty_row ∷ rs) = text_after s l (suc n) rs
+text_after s l n (content_row m ∷ rs) = between_lines s n (starts_blank l || starts_blank m) ++ m ++ text_after s m 0 rs
 
 -- The text up to the last content line; an empty line before the first one is a line feed.
 abbrev pub text_of : BlockStyle → List Row → List ℕ
 text_of s [] = []
 text_of s (empty_row ∷ rs) = line_feed ∷ text_of s rs
-text_of s (content_row l ∷ rs) = l ++ text_behind s l 0 rs
+text_of s (content_row l ∷ rs) = l ++ text_after s l 0 rs
 
 -- ---- chomping (section 8.1.1.2)
 
@@ -198,10 +198,10 @@ has_content (empty_row ∷ rs) = has_content rs
 has_content (content_row l ∷ rs) = true
 
 -- how many empty lines stand after so many others and the last content line
-abbrev pub empty_behind : (before : ℕ) → List Row → ℕ
-empty_behind n [] = n
-empty_behind n (empty_row ∷ rs) = empty_behind (suc n) rs
-empty_behind n (content_row l ∷ rs) = empty_behind 0 rs
+abbrev pub empty_after : (before : ℕ) → List Row → ℕ
+empty_after n [] = n
+empty_after n (empty_row ∷ rs) = empty_after (suc n) rs
+empty_after n (content_row l ∷ rs) = empty_after 0 rs
 
 -- What stands after the last content line: nothing; its break and the one that the end of input adds; or these and the empty lines' breaks.
 abbrev pub tail : Chomping → (added : ℕ) → (empty_lines : ℕ) → List ℕ
@@ -225,7 +225,7 @@ nothing_before_end keep n = breaks (max n 1)
 
 -- the value of lines with content: their text, and what chomping leaves after it
 abbrev pub with_content : Header → (added : ℕ) → List Row → List ℕ
-with_content h added rows = text_of h.style rows ++ tail h.chomping added (empty_behind 0 rows)
+with_content h added rows = text_of h.style rows ++ tail h.chomping added (empty_after 0 rows)
 
 -- the value of lines before further text
 abbrev pub value_before_text : Header → List Row → List ℕ

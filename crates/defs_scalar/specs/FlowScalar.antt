@@ -185,14 +185,14 @@ before_break true l = l
 before_break false l = without_trailing_blanks l
 
 -- the lines after the first, without the blanks around their breaks
-abbrev pub trimmed_behind : Lines → Lines
-trimmed_behind (last_line l) = last_line (without_leading_blanks l)
-trimmed_behind (line l escaped ls) = line (before_break escaped (without_leading_blanks l)) escaped (trimmed_behind ls)
+abbrev pub trimmed_after : Lines → Lines
+trimmed_after (last_line l) = last_line (without_leading_blanks l)
+trimmed_after (line l escaped ls) = line (before_break escaped (without_leading_blanks l)) escaped (trimmed_after ls)
 
 -- a body's lines without the blanks around their breaks; the body's own start and end stay
 abbrev pub trimmed : Lines → Lines
 trimmed (last_line l) = last_line l
-trimmed (line l escaped ls) = line (before_break escaped l) escaped (trimmed_behind ls)
+trimmed (line l escaped ls) = line (before_break escaped l) escaped (trimmed_after ls)
 
 -- ---- folding
 
@@ -211,15 +211,15 @@ folded_break true zero = []
 folded_break _ (suc n) = replicate (suc n) line_feed
 
 -- the text of the lines after a break, of which so many empty ones are already counted; a line is empty if nothing stands before its own break
-abbrev pub folded_behind : (escaped : Bool) → (empty_lines : ℕ) → Lines → List ℕ
-folded_behind escaped n (last_line l) = folded_break escaped n ++ text_of l
-folded_behind escaped n (line [] false ls) = folded_behind escaped (suc n) ls
-folded_behind escaped n (line l escaped' ls) = folded_break escaped n ++ text_of l ++ folded_behind escaped' 0 ls
+abbrev pub folded_after : (escaped : Bool) → (empty_lines : ℕ) → Lines → List ℕ
+folded_after escaped n (last_line l) = folded_break escaped n ++ text_of l
+folded_after escaped n (line [] false ls) = folded_after escaped (suc n) ls
+folded_after escaped n (line l escaped' ls) = folded_break escaped n ++ text_of l ++ folded_after escaped' 0 ls
 
 -- the text of lines
 abbrev pub folded : Lines → List ℕ
 folded (last_line l) = text_of l
-folded (line l escaped ls) = text_of l ++ folded_behind escaped 0 ls
+folded (line l escaped ls) = text_of l ++ folded_after escaped 0 ls
 
 -- ---- document markers
 

@@ -18,9 +18,9 @@ leading p [] = []
 leading p (c ∷ r) = (if p c then c ∷ leading p r else [])
 
 -- what stands after them
-abbrev pub behind : (ℕ → Bool) → List ℕ → List ℕ
-behind p [] = []
-behind p (c ∷ r) = (if p c then behind p r else c ∷ r)
+abbrev pub after : (ℕ → Bool) → List ℕ → List ℕ
+after p [] = []
+after p (c ∷ r) = (if p c then after p r else c ∷ r)
 
 -- whether two texts are equal
 abbrev pub is_same : List ℕ → List ℕ → Bool
@@ -122,14 +122,14 @@ code_followed (Err f) others = Err f
 code_followed (Ok e) others = put_code e.code (others e.further)
 
 -- The characters that a URI's text means, after so many characters that belong to the one before; each escape is one octet, and octets are read as UTF-8.
-abbrev pub decoded_behind : (belonging : ℕ) → List ℕ → Result (List ℕ) UriFault
-decoded_behind n [] = Ok []
-decoded_behind (suc n) (c ∷ r) = decoded_behind n r
-decoded_behind zero (c ∷ r) = code_followed (uri_character c r) (λ n. decoded_behind n r)
+abbrev pub decoded_after : (belonging : ℕ) → List ℕ → Result (List ℕ) UriFault
+decoded_after n [] = Ok []
+decoded_after (suc n) (c ∷ r) = decoded_after n r
+decoded_after zero (c ∷ r) = code_followed (uri_character c r) (λ n. decoded_after n r)
 
 -- the characters that a URI's text means
 abbrev pub decoded : List ℕ → Result (List ℕ) UriFault
-decoded uri = decoded_behind 0 uri
+decoded uri = decoded_after 0 uri
 
 -- ---- handles
 
@@ -167,7 +167,7 @@ tag_of_class p handle text = (if all_of p text then tag_by handle (decoded text)
 
 -- A verbatim tag: the text after `!<`, a URI and `>`; the handle is empty.
 abbrev pub verbatim : List ℕ → Option Tag
-verbatim text = (if is_same (behind is_uri text) (codes ">") then tag_of_class is_uri [] (leading is_uri text) else None)
+verbatim text = (if is_same (after is_uri text) (codes ">") then tag_of_class is_uri [] (leading is_uri text) else None)
 
 -- whether a text begins with the mark of a tag
 abbrev pub begins_with_mark : List ℕ → Bool
@@ -183,17 +183,17 @@ named name (c ∷ suffix) = tag_of_class is_tag (codes "!" ++ name ++ codes "!")
 -- a shorthand, from the text after its first mark: `!!s` and `!h!s` have the handle up to the second mark, `!s` has the handle `!`
 abbrev pub shorthand : List ℕ → Option Tag
 shorthand [] = Some (record { handle = []; suffix = codes "!" })
-shorthand text = (if begins_with_mark (behind is_alpha text) then named (leading is_alpha text) (behind is_alpha text) else tag_of_class is_tag (codes "!") text)
+shorthand text = (if begins_with_mark (after is_alpha text) then named (leading is_alpha text) (after is_alpha text) else tag_of_class is_tag (codes "!") text)
 
 -- the tag that the text after its first mark is
-abbrev pub behind_mark : List ℕ → Option Tag
-behind_mark [] = shorthand []
-behind_mark (c ∷ r) = (if c == 60 then verbatim r else shorthand (c ∷ r))
+abbrev pub after_mark : List ℕ → Option Tag
+after_mark [] = shorthand []
+after_mark (c ∷ r) = (if c == 60 then verbatim r else shorthand (c ∷ r))
 
 -- The tag that a text is, with its handle as written: `!<uri>` and `!` alone have the empty handle.
 abbrev pub written_tag : List ℕ → Option Tag
 written_tag [] = None
-written_tag (c ∷ r) = (if is_tag_mark c then behind_mark r else None)
+written_tag (c ∷ r) = (if is_tag_mark c then after_mark r else None)
 
 -- ---- what a handle stands for
 

@@ -1,4 +1,4 @@
--- Rows one behind the other: what a proof along the steps of a scanner wants.
+-- Rows one after the other: what a proof along the steps of a scanner wants.
 use Rattle.std.proofs.Common.{◌≡◌, ℕ, List, [], ◌∷◌, ◌++◌, Option, sym, ap, subst, ◌∙◌, refl}
 use Rattle.defs_token.specs.Token.{Tok}
 use Rattle.defs_token.specs.Account.{Account}
@@ -18,14 +18,14 @@ first_append : (ws vs : List Written) (last : Option Tok) → first_token (ws ++
 first_append [] vs last = refl
 first_append (w ∷ ws) vs last = refl
 
--- the account behind two rows
+-- the account after two rows
 pub account_append : (a : Account) (ws vs : List Written) (f : List ℕ) → account_past_row a (ws ++ vs) f ≡ account_past_row (account_past_row a ws (spelled vs f)) vs f
 account_append a [] vs f = refl
 account_append a (w ∷ ws) vs f =
     ap (λ t. account_past_row (account_past a w t) (ws ++ vs) f) (spelled_append ws vs f) ∙
     account_append (account_past a w (spelled ws (spelled vs f))) ws vs f
 
--- A row, and another from the account and before the text and token behind it, are one row.
+-- A row, and another from the account and before the text and token after it, are one row.
 pub row_append : (a : Account) (ws vs : List Written) (f : List ℕ) (last : Option Tok) →
     IsRow a ws (spelled vs f) (first_token vs last) → IsRow (account_past_row a ws (spelled vs f)) vs f last → IsRow a (ws ++ vs) f last
 row_append a [] vs f last r s = s

@@ -33,9 +33,9 @@ two_lines = record {
   closes = refl;
 }
 
--- a plain scalar ends at a comment behind a blank
-abbrev comment_behind_row : List Written
-comment_behind_row =
+-- a plain scalar ends at a comment after a blank
+abbrev comment_after_row : List Written
+comment_after_row =
     written [] [] (place 0 1 0) block_sequence_start ∷
     written [] (codes "-") (place 2 1 2) block_entry ∷
     written (codes " ") (codes "a") (place 2 1 2) (scalar plain (codes "a")) ∷
@@ -44,12 +44,12 @@ comment_behind_row =
     written [] [] (place 13 3 0) block_end ∷
     []
 
-comment_behind : IsCut (tokens_between comment_behind_row (place 13 3 0)) (codes "- a # b\n- a#b")
+comment_after : IsCut (tokens_between comment_after_row (place 13 3 0)) (codes "- a # b\n- a#b")
 unfolding is_blank is_break is_nul is_blank_or_end is_flow is_decimal_digit is_letter is_alpha is_uri is_tag is_anchor_name are_marks plain_element single_quoted_element double_quoted_element is_character_code numeric_escape escape begins_with_marker plain_value single_quoted_value double_quoted_value sign_of digit_of is_empty_line is_content_line row_of octet_at lead_of is_trail escaped_character uri_character directive_of
-comment_behind = record {
+comment_after = record {
   begin = first;
   end = place 13 3 0;
-  row = comment_behind_row;
+  row = comment_after_row;
   filler = [];
   are_tokens = refl;
   is_text = refl;
@@ -359,7 +359,7 @@ value_colon = record {
   closes = refl;
 }
 
--- a key behind its indicator in a flow mapping
+-- a key after its indicator in a flow mapping
 abbrev key_indicator_row : List Written
 key_indicator_row =
     written [] (codes "{") (place 0 1 0) flow_mapping_start ∷
@@ -485,7 +485,7 @@ adjacent = record {
   closes = refl;
 }
 
--- a key behind its indicator in a flow sequence opens no pair
+-- a key after its indicator in a flow sequence opens no pair
 abbrev no_pair_row : List Written
 no_pair_row =
     written [] (codes "[") (place 0 1 0) flow_sequence_start ∷

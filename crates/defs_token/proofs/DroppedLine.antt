@@ -86,7 +86,7 @@ no_row [] p f k following t e w =
     let Q : Option ℕ → Type 0 = λ b. Holds (is_whole_plain false b p f) in
     no_piece p f e (subst Q (ap innermost_column (no_collection 0 p)) h.0.1) h.0.2
 
--- a token behind others is not the only one
+-- a token after others is not the only one
 pub not_alone : (us : List Token) (a b c : Token) → a ∷ (us ++ (b ∷ [])) ≡ c ∷ [] → ⊥
 not_alone [] a b c e = cc e
 not_alone (u ∷ us) a b c e = cc e

@@ -4,7 +4,7 @@ use Rattle.defs_text.specs.Classes.{is_blank, is_break}
 use Rattle.defs_text.specs.Position.{Position}
 use Rattle.defs_token.specs.Token.{Tok, Token, stream_start, stream_end, version_directive, tag_directive, document_start, document_end, block_sequence_start, block_mapping_start, block_end, flow_sequence_start, flow_sequence_end, flow_mapping_start, flow_mapping_end, block_entry, flow_entry, key, value, alias, anchor, tag, scalar, plain, single_quoted, double_quoted, literal, folded}
 use Rattle.defs_text.specs.Breaks.{has_no_break}
-use Rattle.defs_token.specs.Plain.{Stand, inside, behind_blank, on_line, past, past_blank, ends_plain, goes_on, stops, ends_with_content, is_whole_plain}
+use Rattle.defs_token.specs.Plain.{Stand, inside, after_blank, on_line, past, past_blank, ends_plain, goes_on, stops, ends_with_content, is_whole_plain}
 use Rattle.defs_token.specs.Account.{Account, Before, quoted, collection, other, before_past, is_in_flow, collection_column, blocks_at, blocks_past, account_past_filler, account_past_token}
 use Rattle.defs_token.specs.Piece.{IsPiece, Holds, begins_node}
 use Rattle.defs_token.specs.Cut.{Written, IsRow, spelled, first_token, account_at, account_past}
@@ -15,7 +15,7 @@ use Rattle.defs_token.specs.Cut.{Written, IsRow, spelled, first_token, account_a
 abbrev pub bare : Written → Written
 bare w = record { filler = []; piece = w.piece; token = w.token }
 
--- a token without a piece, behind a filler
+-- a token without a piece, after a filler
 abbrev pub empty_token : (filler : List ℕ) → Token → Written
 empty_token g t = record { filler = g; piece = []; token = t }
 
@@ -52,7 +52,7 @@ is_in_line (c ∷ r) = not (is_break c) && (not (is_blank c) || is_in_line r)
 
 abbrev IsInLine : Stand → Type 0
 IsInLine inside = Unit {0}
-IsInLine behind_blank = Unit {0}
+IsInLine after_blank = Unit {0}
 IsInLine (on_line k) = ⊥
 
 both : (x y : Bool) → (x && y) ≡ true → (x ≡ true) × (y ≡ true)
@@ -71,12 +71,12 @@ past_in_line s c h i =
   where
     past_blanks : (t : Stand) → IsInLine t → IsInLine (past_blank t)
     past_blanks inside j = tt
-    past_blanks behind_blank j = tt
+    past_blanks after_blank j = tt
     past_blanks (on_line k) j = absurd j
 
 ends_alike : (fl : Bool) (c d : Option ℕ) (s : Stand) (r : List ℕ) → IsInLine s → ends_plain fl c s r ≡ ends_plain fl d s r
 ends_alike fl c d inside r i = refl
-ends_alike fl c d behind_blank r i = refl
+ends_alike fl c d after_blank r i = refl
 ends_alike fl c d (on_line k) r i = absurd i
 
 goes_on_alike : (fl : Bool) (c d : Option ℕ) (s : Stand) (p n : List ℕ) → has_no_break p ≡ true → IsInLine s → goes_on fl c s p n ≡ goes_on fl d s p n
@@ -162,7 +162,7 @@ piece_with_blocks bs a p n o at (scalar folded x) k h i q = absurd (cc k)
 -- ---- a mapping's start before a simple key
 
 -- whether the tokens of a row may belong to a simple key, and stand on one line with what follows
-abbrev pub AreOnLine : List Written → (behind : List ℕ) → Type 0
+abbrev pub AreOnLine : List Written → (after : List ℕ) → Type 0
 AreOnLine [] f = Unit {0}
 AreOnLine (w ∷ ws) f = (is_of_key (w.token.tok) ≡ true) × (has_no_break w.piece ≡ true) × (is_in_line (spelled ws f) ≡ true) × AreOnLine ws f
 
@@ -178,13 +178,13 @@ row_with_blocks bs a (w ∷ ws) f last k r =
       row_with_blocks (blocks_past own (w.token.tok)) (account_past a w next) ws f last k.3 r.1,
     )
 
--- a row without its first filler, behind that filler
+-- a row without its first filler, after that filler
 pub bare_row : (a : Account) (w : Written) (ws : List Written) (f : List ℕ) (last : Option Tok) →
     IsRow a (w ∷ ws) f last → IsRow (account_past_filler a w.filler (w.piece ++ spelled ws f)) (bare w ∷ ws) f last
 bare_row a w ws f last r =
     let next : List ℕ = spelled ws f in
-    let behind : Account = account_past_filler a w.filler (w.piece ++ next) in
-    let e : account_at a w next ≡ account_at behind (bare w) next = ap (λ b. record (account_at a w next) { before = b }) (sym (before_again (before_past a.before w.filler))) in
+    let after : Account = account_past_filler a w.filler (w.piece ++ next) in
+    let e : account_at a w next ≡ account_at after (bare w) next = ap (λ b. record (account_at a w next) { before = b }) (sym (before_again (before_past a.before w.filler))) in
     let P : Account → Type 0 = λ b. IsPiece b w.piece next (first_token ws last) (w.token.place) (w.token.tok) in
     let Q : Account → Type 0 = λ b. IsRow (account_past_token b w.piece next (w.token.tok)) ws f last in
     ((refl, subst P e r.0.1), subst Q e r.1)
@@ -198,5 +198,5 @@ pub mapping_inserted : (a : Account) (w : Written) (ws : List Written) (f : List
     is_in_flow a ≡ false → begins_node (Some (w.token.tok)) ≡ true → AreOnLine (w ∷ ws) f → IsRow a (w ∷ ws) f last →
     IsRow a (empty_token w.filler (mapping_at p) ∷ empty_token [] (key_at q) ∷ bare w ∷ ws) f last
 mapping_inserted a w ws f last p q o n k r =
-    let behind : Account = account_past_filler a w.filler (w.piece ++ spelled ws f) in
-    ((r.0.0, (refl, o)), key_inserted (with_blocks (None ∷ a.blocks) behind) (bare w) ws f last q n (row_with_blocks (None ∷ a.blocks) behind (bare w ∷ ws) f last k (bare_row a w ws f last r)))
+    let after : Account = account_past_filler a w.filler (w.piece ++ spelled ws f) in
+    ((r.0.0, (refl, o)), key_inserted (with_blocks (None ∷ a.blocks) after) (bare w) ws f last q n (row_with_blocks (None ∷ a.blocks) after (bare w ∷ ws) f last k (bare_row a w ws f last r)))

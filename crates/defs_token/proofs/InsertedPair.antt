@@ -3,7 +3,7 @@ use Rattle.std.proofs.Common.{◌≡◌, ℕ, suc, List, [], ◌∷◌, ◌++◌
 use Rattle.std.specs.Prelude.{codes}
 use Rattle.std.proofs.lemmas.Bool.{eqb-true}
 use Rattle.defs_text.specs.Classes.{is_one_of, is_blank, is_break, is_nul, is_blank_or_end, is_flow, is_at_gap, is_document_marker}
-use Rattle.defs_scalar.specs.Tags.{Tag, written_tag, behind_mark}
+use Rattle.defs_scalar.specs.Tags.{Tag, written_tag, after_mark}
 use Rattle.defs_text.specs.Position.{Position}
 use Rattle.defs_token.specs.Token.{Tok, Token, flow_sequence_start, flow_sequence_end, flow_mapping_start, flow_mapping_end, flow_entry, key, value, alias, anchor, tag, scalar, plain, single_quoted, double_quoted}
 use Rattle.defs_token.specs.Filler.{past_filler}
@@ -70,7 +70,7 @@ piece_in_level ns ms b c k ls a p n o at t (is_plain (m ∷ us) v x) q = q
 piece_in_level ns ms b c k ls a p n o at t (is_single_quoted us v x) q = q
 piece_in_level ns ms b c k ls a p n o at t (is_double_quoted us v x) q = q
 
--- the levels behind a token of a key
+-- the levels after a token of a key
 levels_step : (ns ms : List Level) (b : Bool) (k : FlowKind) (ls : List Level) (p : List ℕ) (t : Tok) → Steps ns p t ms → levels_past (above ns b k ls) p t ≡ above ms b k ls
 levels_step ns ms b k ls p t (opens_sequence us v) = refl
 levels_step ns ms b k ls p t (opens_mapping us x v) = refl
@@ -171,7 +171,7 @@ unfolding is_blank is_break
 tag_begins_no_key [] n t h = cc
 tag_begins_no_key (c ∷ r) n t h = by (c == 33) refl h
   where
-    by : (b : Bool) → (c == 33) ≡ b → (if b then behind_mark r else None) ≡ Some t → begins_with_key_indicator (past_filler false (c ∷ (r ++ n))) ≡ false
+    by : (b : Bool) → (c == 33) ≡ b → (if b then after_mark r else None) ≡ Some t → begins_with_key_indicator (past_filler false (c ∷ (r ++ n))) ≡ false
     by true e h = let same : c ≡ 33 = eqb-true c 33 e in rw same refl
     by false e h = cc
 
@@ -200,8 +200,8 @@ pub pair_inserted : (ls : List Level) (a : Account) (w : Written) (ws : List Wri
     begins_node (Some (w.token.tok)) ≡ true → IsInside [] (w ∷ ws) → IsRow (with_levels (above [] false sequence ls) a) (w ∷ ws) f last →
     IsRow (with_levels (above [] false sequence ls) a) (empty_token w.filler (pair_at p) ∷ empty_token [] (key_at q) ∷ bare w ∷ ws) f last
 pair_inserted ls a w ws f last p q n i r =
-    let behind : Account = account_past_filler a w.filler (w.piece ++ spelled ws f) in (
+    let after : Account = account_past_filler a w.filler (w.piece ++ spelled ws f) in (
       (r.0.0, inr (refl, refl, refl, node_begins_no_key i.0 (account_at (with_levels (above [] false sequence ls) a) w (spelled ws f)) w.piece (spelled ws f) (first_token ws last) (w.token.place) (w.token.tok) i.1 n r.0.1)),
-      key_inserted (with_levels (above [] true sequence ls) behind) (bare w) ws f last q n
-          (row_in_level [] false true sequence ls behind (bare w ∷ ws) f last i (bare_row (with_levels (above [] false sequence ls) a) w ws f last r)),
+      key_inserted (with_levels (above [] true sequence ls) after) (bare w) ws f last q n
+          (row_in_level [] false true sequence ls after (bare w ∷ ws) f last i (bare_row (with_levels (above [] false sequence ls) a) w ws f last r)),
     )

@@ -253,12 +253,12 @@ comment : is_whole_plain false None (codes "a") (codes " # b") ≡ true
 unfolding is_blank is_break is_nul is_blank_or_end is_flow is_anchor_name are_marks sign_of digit_of is_empty_line is_content_line row_of
 comment = refl
 
--- over a `#` behind a letter
+-- over a `#` after a letter
 inner_hash : is_whole_plain false None (codes "a#b") (codes "") ≡ true
 unfolding is_blank is_break is_nul is_blank_or_end is_flow is_anchor_name are_marks sign_of digit_of is_empty_line is_content_line row_of
 inner_hash = refl
 
--- up to a comment on a later line behind a TAB
+-- up to a comment on a later line after a TAB
 comment_line : is_whole_plain false (Some 0) (codes "a") (codes "\n\t# b") ≡ true
 unfolding is_blank is_break is_nul is_blank_or_end is_flow is_anchor_name are_marks sign_of digit_of is_empty_line is_content_line row_of
 comment_line = refl
@@ -438,7 +438,7 @@ block_short : block_read (Some 0) (codes "|\n  a\n") (codes "  b\n") ≡ None
 unfolding is_blank is_break is_nul is_blank_or_end is_flow is_anchor_name are_marks sign_of digit_of is_empty_line is_content_line row_of
 block_short = refl
 
--- nor an empty line left behind
+-- nor an empty line left after
 block_empty_left : block_read (Some 0) (codes "|\n  a\n") (codes "\nb") ≡ None
 unfolding is_blank is_break is_nul is_blank_or_end is_flow is_anchor_name are_marks sign_of digit_of is_empty_line is_content_line row_of
 block_empty_left = refl
@@ -453,7 +453,7 @@ block_too_long : block_read (Some 0) (codes "|\n  a\nb\n") (codes "") ≡ None
 unfolding is_blank is_break is_nul is_blank_or_end is_flow is_anchor_name are_marks sign_of digit_of is_empty_line is_content_line row_of
 block_too_long = refl
 
--- a document marker behind one in column 0
+-- a document marker after one in column 0
 block_marker : block_read None (codes ">\na\n") (codes "---") ≡ Some (record { style = BlockStyle.folded; column = 0; text = codes "a\n" })
 unfolding is_blank is_break is_nul is_blank_or_end is_flow is_anchor_name are_marks sign_of digit_of is_empty_line is_content_line row_of
 block_marker = refl

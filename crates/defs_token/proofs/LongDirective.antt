@@ -21,7 +21,7 @@ module _ (r : List ℕ) (more : is_filler false r [] ≡ false) where
   abbrev text : List ℕ
   text = codes "%FOO\n" ++ r
 
-  -- no beginning of the text is a line with a filler alone behind it
+  -- no beginning of the text is a line with a filler alone after it
   no_beginning : (n : ℕ) → Holds (has_no_break (take n text)) → Holds (is_at_line_end (drop n text)) → Holds (is_filler false (drop n text) []) → ⊥
   unfolding is_blank is_break is_nul
   no_beginning zero h e f = cc e

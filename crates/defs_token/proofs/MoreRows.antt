@@ -352,7 +352,7 @@ unfolding is_blank is_break is_nul is_blank_or_end is_flow is_decimal_digit is_l
 begun = inr (record {
   begin = first;
   row = begun_row;
-  behind = codes " b\nc";
+  after = codes " b\nc";
   are_tokens = refl;
   is_text = refl;
   is_row = (
@@ -382,7 +382,7 @@ unfolding is_blank is_break is_nul is_blank_or_end is_flow is_decimal_digit is_l
 begun_at_key = inr (record {
   begin = first;
   row = begun_at_key_row;
-  behind = codes "a: b";
+  after = codes "a: b";
   are_tokens = refl;
   is_text = refl;
   is_row = (
@@ -527,7 +527,7 @@ quoted_in_flow = record {
   closes = refl;
 }
 
--- a quoted scalar over lines, with blank lines behind it
+-- a quoted scalar over lines, with blank lines after it
 abbrev quoted_lines_row : List Written
 quoted_lines_row =
     written [] (codes "\"a  \n  b\n\n c\\\n   d\"") (place 0 1 0) (scalar double_quoted (codes "a b\ncd")) ∷

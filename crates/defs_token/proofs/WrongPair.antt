@@ -78,9 +78,9 @@ both : (x y : Bool) → (x && y) ≡ true → (x ≡ true) × (y ≡ true)
 both true y h = (refl, h)
 both false y h = absurd (cc h)
 
-all_behind : (p : ℕ → Bool) (a b : List ℕ) → all_of p (a ++ b) ≡ true → all_of p b ≡ true
-all_behind p [] b h = h
-all_behind p (c ∷ a) b h = all_behind p a b (both (p c) (all_of p (a ++ b)) h).1
+all_after : (p : ℕ → Bool) (a b : List ℕ) → all_of p (a ++ b) ≡ true → all_of p b ≡ true
+all_after p [] b h = h
+all_after p (c ∷ a) b h = all_after p a b (both (p c) (all_of p (a ++ b)) h).1
 
 all_before : (p : ℕ → Bool) (a b : List ℕ) → all_of p (a ++ b) ≡ true → all_of p a ≡ true
 all_before p [] b h = refl
@@ -94,9 +94,9 @@ dropped (suc n) ws = dropped n (rest_of ws)
 
 no_brace_in : (n : ℕ) (ws : List Written) (f : List ℕ) → all_of is_no_brace (spelled ws f) ≡ true → all_of is_no_brace (piece_of (dropped n ws)) ≡ true
 no_brace_in zero [] f h = refl
-no_brace_in zero (w ∷ ws) f h = all_before is_no_brace w.piece (spelled ws f) (all_behind is_no_brace w.filler (w.piece ++ spelled ws f) h)
+no_brace_in zero (w ∷ ws) f h = all_before is_no_brace w.piece (spelled ws f) (all_after is_no_brace w.filler (w.piece ++ spelled ws f) h)
 no_brace_in (suc n) [] f h = no_brace_in n [] f h
-no_brace_in (suc n) (w ∷ ws) f h = no_brace_in n ws f (all_behind is_no_brace w.piece (spelled ws f) (all_behind is_no_brace w.filler (w.piece ++ spelled ws f) h))
+no_brace_in (suc n) (w ∷ ws) f h = no_brace_in n ws f (all_after is_no_brace w.piece (spelled ws f) (all_after is_no_brace w.filler (w.piece ++ spelled ws f) h))
 
 -- ---- the tokens are no cut
 

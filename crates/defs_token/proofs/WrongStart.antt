@@ -16,9 +16,9 @@ use Rattle.defs_token.proofs.Shown.{place, first}
 abbrev token_at : ℕ → Tok → Token
 token_at i t = record { place = place i 1 i; tok = t }
 
-abbrev behind_head : List ℕ → List ℕ
-behind_head [] = []
-behind_head (c ∷ r) = r
+abbrev after_head : List ℕ → List ℕ
+after_head [] = []
+after_head (c ∷ r) = r
 
 -- no filler stands before a text that begins with another character
 text_at_piece : (c : ℕ) (t g n : List ℕ) → (is_blank c || is_break c || (c == 35)) ≡ false → Holds (is_filler false g n) → g ++ n ≡ c ∷ t → n ≡ c ∷ t
@@ -29,14 +29,14 @@ text_at_piece c t (d ∷ g) n s h e =
     let z : Holds false = subst (λ b. Holds (b && is_filler (c == 35) g n)) s k in
     absurd (cc z)
 
--- what stands behind the bracket that a text begins with
-text_behind : (w : Written) (t next : List ℕ) (o : Option Tok) → w.token.tok ≡ flow_sequence_start → w.filler ++ (w.piece ++ next) ≡ 91 ∷ t → IsWritten first_account w next o → next ≡ t
+-- what stands after the bracket that a text begins with
+text_after : (w : Written) (t next : List ℕ) (o : Option Tok) → w.token.tok ≡ flow_sequence_start → w.filler ++ (w.piece ++ next) ≡ 91 ∷ t → IsWritten first_account w next o → next ≡ t
 unfolding is_blank is_break
-text_behind w t next o k e is =
+text_after w t next o k e is =
     let a : Account = account_at first_account w next in
     let opens : IsPiece a w.piece next o (w.token.place) flow_sequence_start = subst (λ x. IsPiece a w.piece next o (w.token.place) x) k is.1 in
     let here : w.piece ++ next ≡ 91 ∷ t = text_at_piece 91 t w.filler (w.piece ++ next) refl is.0 e in
-    ap behind_head (subst (λ p. p ++ next ≡ 91 ∷ t) opens.0.0 here)
+    ap after_head (subst (λ p. p ++ next ≡ 91 ∷ t) opens.0.0 here)
 
 -- the start of a pair before a text that begins with neither filler nor brace
 pair_here : (a : Account) (w : Written) (c : ℕ) (t next : List ℕ) (o : Option Tok) → (is_blank c || is_break c || (c == 35)) ≡ false → (c == 123) ≡ false →
@@ -58,7 +58,7 @@ pair_here a w c t next o s brace k e is =
 
 -- tokens that begin with a bracket and the start of a pair, and their last one
 abbrev tokens : List Token → (end : Position) → List Token
-tokens behind end = start_token first ∷ token_at 0 flow_sequence_start ∷ token_at 1 flow_mapping_start ∷ (behind ++ (end_token end ∷ []))
+tokens after end = start_token first ∷ token_at 0 flow_sequence_start ∷ token_at 1 flow_mapping_start ∷ (after ++ (end_token end ∷ []))
 
 -- A row of these tokens in a text that begins with a bracket, and then with neither filler nor brace: what is known of the pair's start.
 what_start_says : (k : Token) (ks : List Token) (text : List ℕ) (c : ℕ) (t : List ℕ) (end : Position) → (is_blank c || is_break c || (c == 35)) ≡ false → (c == 123) ≡ false → up_to_end text ≡ 91 ∷ (c ∷ t) →
@@ -74,7 +74,7 @@ what_start_says k ks text c t end s brace whole cut =
     let w : Written = record { filler = filler_of cut.row; piece = piece_of cut.row; token = token_at 0 flow_sequence_start } in
     let v : Written = record { filler = filler_of (rest_of cut.row); piece = piece_of (rest_of cut.row); token = token_at 1 flow_mapping_start } in
     let next : List ℕ = spelled (v ∷ ws) cut.filler in
-    let on : next ≡ c ∷ t = text_behind w (c ∷ t) next (Some flow_mapping_start) refl is r.0 in
+    let on : next ≡ c ∷ t = text_after w (c ∷ t) next (Some flow_mapping_start) refl is r.0 in
     pair_here (account_past first_account w next) v c t (spelled ws cut.filler) (Some (k.tok)) s brace refl on r.1.0
 
 -- a pair that begins with `?` has no start

@@ -15,9 +15,9 @@ pub record Written : Type 0 where
   pub token : Token
 
 -- the text of a row of tokens, before the text after it
-abbrev pub spelled : List Written → (behind : List ℕ) → List ℕ
-spelled [] behind = behind
-spelled (w ∷ ws) behind = w.filler ++ (w.piece ++ spelled ws behind)
+abbrev pub spelled : List Written → (after : List ℕ) → List ℕ
+spelled [] after = after
+spelled (w ∷ ws) after = w.filler ++ (w.piece ++ spelled ws after)
 
 -- the tokens of a row
 abbrev pub tokens_of : List Written → List Token
@@ -44,14 +44,14 @@ IsWritten a w next following =
     IsPiece (account_at a w next) w.piece next following (w.token.place) (w.token.tok)
 
 -- Whether each token of a row is written so, before the text after the row and the token that is known to stand there.
-abbrev pub IsRow : Account → List Written → (behind : List ℕ) → (last : Option Tok) → Type 0
-IsRow a [] behind last = Unit {0}
-IsRow a (w ∷ ws) behind last = IsWritten a w (spelled ws behind) (first_token ws last) × IsRow (account_past a w (spelled ws behind)) ws behind last
+abbrev pub IsRow : Account → List Written → (after : List ℕ) → (last : Option Tok) → Type 0
+IsRow a [] after last = Unit {0}
+IsRow a (w ∷ ws) after last = IsWritten a w (spelled ws after) (first_token ws last) × IsRow (account_past a w (spelled ws after)) ws after last
 
 -- the account after a row
-abbrev pub account_past_row : Account → List Written → (behind : List ℕ) → Account
-account_past_row a [] behind = a
-account_past_row a (w ∷ ws) behind = account_past_row (account_past a w (spelled ws behind)) ws behind
+abbrev pub account_past_row : Account → List Written → (after : List ℕ) → Account
+account_past_row a [] after = a
+account_past_row a (w ∷ ws) after = account_past_row (account_past a w (spelled ws after)) ws after
 
 -- the start of a stream
 abbrev pub start_token : Position → Token
@@ -77,10 +77,10 @@ pub record IsCut (tokens : List Token) (text : List ℕ) : Type 0 where
 pub record IsBegun (tokens : List Token) (text : List ℕ) : Type 0 where
   pub begin : Position
   pub row : List Written
-  pub behind : List ℕ
+  pub after : List ℕ
   pub are_tokens : tokens ≡ start_token begin ∷ tokens_of row
-  pub is_text : spelled row behind ≡ up_to_end text
-  pub is_row : IsRow first_account row behind None
+  pub is_text : spelled row after ≡ up_to_end text
+  pub is_row : IsRow first_account row after None
 
 -- Whether tokens are a cut of a beginning of a text, without the stream's end.
 abbrev pub IsCutOfBeginning : List Token → (text : List ℕ) → Type 0

@@ -8,7 +8,7 @@ begins_flow [] = false
 begins_flow (c ∷ r) = is_flow c
 
 -- Whether a colon before this text is an indicator: before a blank, a break or the end; in flow also before a flow indicator, or next to a quoted scalar or a flow collection that ended.
-abbrev pub is_value_indicator : (in_flow adjacent : Bool) → (behind_colon : List ℕ) → Bool
+abbrev pub is_value_indicator : (in_flow adjacent : Bool) → (after_colon : List ℕ) → Bool
 is_value_indicator in_flow adjacent r = is_at_gap r || (in_flow && (begins_flow r || adjacent))
 
 -- ---- where one begins
@@ -32,13 +32,13 @@ begins_plain in_flow adjacent column (c ∷ r) = may_begin in_flow adjacent c r 
 -- What stands directly before a place: a character of content, a blank after content, or a break and a number of blanks.
 pub data Stand : Type 0 where
   inside : Stand
-  behind_blank : Stand
+  after_blank : Stand
   on_line : (column : ℕ) → Stand
 
 -- what stands before the place after a blank
 abbrev pub past_blank : Stand → Stand
-past_blank inside = behind_blank
-past_blank behind_blank = behind_blank
+past_blank inside = after_blank
+past_blank after_blank = after_blank
 past_blank (on_line k) = on_line (suc k)
 
 -- what stands before the place after a character

@@ -96,9 +96,9 @@ hashes_and_arrays_in_one_another : dump_text true false (hash (pair (string (cod
 unfolding is_quoted is_unfit_for_plain typing is_decimal written_character digits is_literal is_root_literal is_literal_character
 hashes_and_arrays_in_one_another = refl
 
-literal_block_behind_a_colon_of_an_array_key : dump_text true true (hash (pair (array (item (integer (pos 1)) no_items)) (string (codes "p\n\nq\n")) no_pairs)) ≡ codes "---\n? - 1\n: |\n  p\n  \n  q"
+literal_block_after_a_colon_of_an_array_key : dump_text true true (hash (pair (array (item (integer (pos 1)) no_items)) (string (codes "p\n\nq\n")) no_pairs)) ≡ codes "---\n? - 1\n: |\n  p\n  \n  q"
 unfolding is_quoted is_unfit_for_plain typing is_decimal written_character digits is_literal is_root_literal is_literal_character
-literal_block_behind_a_colon_of_an_array_key = refl
+literal_block_after_a_colon_of_an_array_key = refl
 
 key_is_never_a_literal_block : dump_text true true (hash (pair (string (codes "a\nb")) (integer (pos 1)) no_pairs)) ≡ codes "---\n\"a\\nb\": 1"
 unfolding is_quoted is_unfit_for_plain typing is_decimal written_character digits is_literal is_root_literal is_literal_character

@@ -5,7 +5,7 @@ use Rattle.std.specs.Char.{is_ascii_digit}
 use Rattle.std.proofs.lemmas.Bool.Decides.{nat_tests}
 use Rattle.defs_tree.specs.Grammar.{one, any_number, at_least_one, optional, followed_by, in_order}
 use Rattle.defs_tree.specs.Typing.{is_sign, is_point, is_exponent_mark, is_exponent, is_mantissa, is_decimal}
-use Rattle.defs_tree.proofs.GrammarLaws.{Rejects, behind_all, behind_one, one-then, at_least-behind, any-behind, optional_one-behind, followed_by-or, followed_by-assoc, followed_by-empty, or-false}
+use Rattle.defs_tree.proofs.GrammarLaws.{Rejects, after_all, after_one, one-then, at_least-after, any-after, optional_one-after, followed_by-or, followed_by-assoc, followed_by-empty, or-false}
 
 -- the first character is of a class
 abbrev pub begins_in : (ℕ → Bool) → List ℕ → Bool
@@ -15,21 +15,21 @@ begins_in class (c ∷ cs) = class c
 -- an exponent or nothing, up to the end
 abbrev pub reads_exponent : List ℕ → Bool
 reads_exponent [] = true
-reads_exponent (c ∷ cs) = is_exponent_mark c && at_least_one is_ascii_digit (behind_one is_sign cs)
+reads_exponent (c ∷ cs) = is_exponent_mark c && at_least_one is_ascii_digit (after_one is_sign cs)
 
--- what follows the first digits: a point, digits and an exponent; at least one digit must stand before or behind the point
+-- what follows the first digits: a point, digits and an exponent; at least one digit must stand before or after the point
 abbrev pub reads_on : Bool → List ℕ → Bool
 reads_on had_digits [] = had_digits
 reads_on had_digits (c ∷ cs) =
-    if is_point c then (had_digits || begins_in is_ascii_digit cs) && reads_exponent (behind_all is_ascii_digit cs)
+    if is_point c then (had_digits || begins_in is_ascii_digit cs) && reads_exponent (after_all is_ascii_digit cs)
     else had_digits && reads_exponent (c ∷ cs)
 
 abbrev pub reads_unsigned : List ℕ → Bool
-reads_unsigned t = reads_on (begins_in is_ascii_digit t) (behind_all is_ascii_digit t)
+reads_unsigned t = reads_on (begins_in is_ascii_digit t) (after_all is_ascii_digit t)
 
 -- the whole decimal grammar
 abbrev pub reads_decimal : List ℕ → Bool
-reads_decimal t = reads_unsigned (behind_one is_sign t)
+reads_decimal t = reads_unsigned (after_one is_sign t)
 
 -- ---- classes
 
@@ -67,25 +67,25 @@ exponent_read [] = refl
 exponent_read (c ∷ cs) =
     followed_by-empty (optional is_exponent) (c ∷ cs)
     ∙ one-then is_exponent_mark (λ b. in_order (optional (one is_sign) ∷ at_least_one is_ascii_digit ∷ []) b) c cs
-    ∙ ap (λ b. is_exponent_mark c && b) (optional_one-behind is_sign digits_part digits_reject_sign cs ∙ digits_part-is (behind_one is_sign cs))
+    ∙ ap (λ b. is_exponent_mark c && b) (optional_one-after is_sign digits_part digits_reject_sign cs ∙ digits_part-is (after_one is_sign cs))
 
 exponent_rejects_digit : Rejects is_ascii_digit reads_exponent
-exponent_rejects_digit c cs h = ap (λ b. b && at_least_one is_ascii_digit (behind_one is_sign cs)) (digit_no_mark c h)
+exponent_rejects_digit c cs h = ap (λ b. b && at_least_one is_ascii_digit (after_one is_sign cs)) (digit_no_mark c h)
 
 -- ---- the mantissa and the exponent
 
--- the three forms of a mantissa, each with the exponent behind it
+-- the three forms of a mantissa, each with the exponent after it
 whole_form : List ℕ → Bool
 whole_form t = followed_by (at_least_one is_ascii_digit) reads_exponent t
 
-behind_point : (List ℕ → Bool) → List ℕ → Bool
-behind_point g t = followed_by (one is_point) g t
+after_point : (List ℕ → Bool) → List ℕ → Bool
+after_point g t = followed_by (one is_point) g t
 
 first_point : List ℕ → Bool
-first_point t = followed_by (at_least_one is_ascii_digit) (behind_point (λ b. followed_by (any_number is_ascii_digit) reads_exponent b)) t
+first_point t = followed_by (at_least_one is_ascii_digit) (after_point (λ b. followed_by (any_number is_ascii_digit) reads_exponent b)) t
 
 late_point : List ℕ → Bool
-late_point t = followed_by (any_number is_ascii_digit) (behind_point (λ b. followed_by (at_least_one is_ascii_digit) reads_exponent b)) t
+late_point t = followed_by (any_number is_ascii_digit) (after_point (λ b. followed_by (at_least_one is_ascii_digit) reads_exponent b)) t
 
 -- three languages in order, and then a fourth
 in_order-then : (l m n g : List ℕ → Bool) (t : List ℕ)
@@ -102,7 +102,7 @@ abbrev late_mantissa : List ℕ → Bool
 late_mantissa b = in_order (any_number is_ascii_digit ∷ one is_point ∷ at_least_one is_ascii_digit ∷ []) b
 
 forms : (t : List ℕ) → followed_by is_mantissa exponent_part t ≡ (whole_form t || (first_point t || late_point t))
-unfolding whole_form first_point late_point behind_point
+unfolding whole_form first_point late_point after_point
 forms t =
     (λ i. followed_by is_mantissa (λ b. exponent_read b i) t)
     ∙ followed_by-or (at_least_one is_ascii_digit) (λ b. first_mantissa b || (late_mantissa b || false)) reads_exponent t
@@ -112,25 +112,25 @@ forms t =
     || (followed_by (λ b. or-false (late_mantissa b) i) reads_exponent t))
     ∙ ap (λ x. first_point t || x) (in_order-then (any_number is_ascii_digit) (one is_point) (at_least_one is_ascii_digit) reads_exponent t))
 
--- what stands behind a point
+-- what stands after a point
 fraction : List ℕ → Bool
 fraction t = followed_by (any_number is_ascii_digit) reads_exponent t
 
-fraction_read : (t : List ℕ) → fraction t ≡ reads_exponent (behind_all is_ascii_digit t)
+fraction_read : (t : List ℕ) → fraction t ≡ reads_exponent (after_all is_ascii_digit t)
 unfolding fraction
-fraction_read t = any-behind is_ascii_digit reads_exponent exponent_rejects_digit t
+fraction_read t = any-after is_ascii_digit reads_exponent exponent_rejects_digit t
 
-whole_read : (t : List ℕ) → whole_form t ≡ (begins_in is_ascii_digit t && reads_exponent (behind_all is_ascii_digit t))
+whole_read : (t : List ℕ) → whole_form t ≡ (begins_in is_ascii_digit t && reads_exponent (after_all is_ascii_digit t))
 unfolding whole_form
 whole_read [] = refl
-whole_read (c ∷ cs) = at_least-behind is_ascii_digit reads_exponent exponent_rejects_digit c cs ∙ by (is_ascii_digit c)
+whole_read (c ∷ cs) = at_least-after is_ascii_digit reads_exponent exponent_rejects_digit c cs ∙ by (is_ascii_digit c)
   where
-    by : (b : Bool) → (b && reads_exponent (behind_all is_ascii_digit cs)) ≡ (b && reads_exponent (if b then behind_all is_ascii_digit cs else c ∷ cs))
+    by : (b : Bool) → (b && reads_exponent (after_all is_ascii_digit cs)) ≡ (b && reads_exponent (if b then after_all is_ascii_digit cs else c ∷ cs))
     by true = refl
     by false = refl
 
-point_then : (g : List ℕ → Bool) (t : List ℕ) → behind_point g t ≡ (begins_in is_point t && g (behind_one is_point t))
-unfolding behind_point
+point_then : (g : List ℕ → Bool) (t : List ℕ) → after_point g t ≡ (begins_in is_point t && g (after_one is_point t))
+unfolding after_point
 point_then g [] = refl
 point_then g (c ∷ cs) = one-then is_point g c cs ∙ by (is_point c)
   where
@@ -138,12 +138,12 @@ point_then g (c ∷ cs) = one-then is_point g c cs ∙ by (is_point c)
     by true = refl
     by false = refl
 
-point_rejects_digit : (g : List ℕ → Bool) → Rejects is_ascii_digit (behind_point g)
-unfolding behind_point
+point_rejects_digit : (g : List ℕ → Bool) → Rejects is_ascii_digit (after_point g)
+unfolding after_point
 point_rejects_digit g c cs h = one-then is_point g c cs ∙ ap (λ b. b && g cs) (digit_no_point c h)
 
--- a text that begins with a digit, seen behind its first digits
-with_digits : (r : List ℕ) → (reads_exponent r || (behind_point fraction r || behind_point whole_form r)) ≡ reads_on true r
+-- a text that begins with a digit, seen after its first digits
+with_digits : (r : List ℕ) → (reads_exponent r || (after_point fraction r || after_point whole_form r)) ≡ reads_on true r
 with_digits [] = refl
 with_digits (d ∷ ds) =
     (λ i. reads_exponent (d ∷ ds) || (point_then fraction (d ∷ ds) i || point_then whole_form (d ∷ ds) i))
@@ -157,44 +157,44 @@ with_digits (d ∷ ds) =
 
     by : (b : Bool) → is_point d ≡ b
         → (reads_exponent (d ∷ ds) || ((b && fraction (if b then ds else d ∷ ds)) || (b && whole_form (if b then ds else d ∷ ds))))
-        ≡ (if b then (true || begins_in is_ascii_digit ds) && reads_exponent (behind_all is_ascii_digit ds) else true && reads_exponent (d ∷ ds))
+        ≡ (if b then (true || begins_in is_ascii_digit ds) && reads_exponent (after_all is_ascii_digit ds) else true && reads_exponent (d ∷ ds))
     by true e =
-        ap (λ x. (x && at_least_one is_ascii_digit (behind_one is_sign ds)) || (fraction ds || whole_form ds)) (point_no_mark d e)
+        ap (λ x. (x && at_least_one is_ascii_digit (after_one is_sign ds)) || (fraction ds || whole_form ds)) (point_no_mark d e)
         ∙ (λ i. fraction_read ds i || whole_read ds i)
-        ∙ more (begins_in is_ascii_digit ds) (reads_exponent (behind_all is_ascii_digit ds))
+        ∙ more (begins_in is_ascii_digit ds) (reads_exponent (after_all is_ascii_digit ds))
     by false e = or-false (reads_exponent (d ∷ ds))
 
 -- one that doesn't
-without_digits : (r : List ℕ) → behind_point whole_form r ≡ reads_on false r
+without_digits : (r : List ℕ) → after_point whole_form r ≡ reads_on false r
 without_digits [] = point_then whole_form []
 without_digits (d ∷ ds) = point_then whole_form (d ∷ ds) ∙ by (is_point d)
   where
     by : (b : Bool) → (b && whole_form (if b then ds else d ∷ ds))
-        ≡ (if b then (false || begins_in is_ascii_digit ds) && reads_exponent (behind_all is_ascii_digit ds) else false && reads_exponent (d ∷ ds))
+        ≡ (if b then (false || begins_in is_ascii_digit ds) && reads_exponent (after_all is_ascii_digit ds) else false && reads_exponent (d ∷ ds))
     by true = whole_read ds
     by false = refl
 
-first_read : (t : List ℕ) → first_point t ≡ (begins_in is_ascii_digit t && behind_point fraction (behind_all is_ascii_digit t))
+first_read : (t : List ℕ) → first_point t ≡ (begins_in is_ascii_digit t && after_point fraction (after_all is_ascii_digit t))
 unfolding first_point fraction
 first_read [] = refl
-first_read (c ∷ cs) = at_least-behind is_ascii_digit (behind_point fraction) (point_rejects_digit fraction) c cs ∙ by (is_ascii_digit c)
+first_read (c ∷ cs) = at_least-after is_ascii_digit (after_point fraction) (point_rejects_digit fraction) c cs ∙ by (is_ascii_digit c)
   where
-    by : (b : Bool) → (b && behind_point fraction (behind_all is_ascii_digit cs)) ≡ (b && behind_point fraction (if b then behind_all is_ascii_digit cs else c ∷ cs))
+    by : (b : Bool) → (b && after_point fraction (after_all is_ascii_digit cs)) ≡ (b && after_point fraction (if b then after_all is_ascii_digit cs else c ∷ cs))
     by true = refl
     by false = refl
 
-late_read : (t : List ℕ) → late_point t ≡ behind_point whole_form (behind_all is_ascii_digit t)
+late_read : (t : List ℕ) → late_point t ≡ after_point whole_form (after_all is_ascii_digit t)
 unfolding late_point whole_form
-late_read t = any-behind is_ascii_digit (behind_point whole_form) (point_rejects_digit whole_form) t
+late_read t = any-after is_ascii_digit (after_point whole_form) (point_rejects_digit whole_form) t
 
 pub unsigned_read : (t : List ℕ) → followed_by is_mantissa exponent_part t ≡ reads_unsigned t
 unsigned_read t =
     forms t ∙ (λ i. whole_read t i || (first_read t i || late_read t i)) ∙ by (begins_in is_ascii_digit t)
   where
-    by : (b : Bool) → ((b && reads_exponent (behind_all is_ascii_digit t)) || ((b && behind_point fraction (behind_all is_ascii_digit t)) || behind_point whole_form (behind_all is_ascii_digit t)))
-        ≡ reads_on b (behind_all is_ascii_digit t)
-    by true = with_digits (behind_all is_ascii_digit t)
-    by false = without_digits (behind_all is_ascii_digit t)
+    by : (b : Bool) → ((b && reads_exponent (after_all is_ascii_digit t)) || ((b && after_point fraction (after_all is_ascii_digit t)) || after_point whole_form (after_all is_ascii_digit t)))
+        ≡ reads_on b (after_all is_ascii_digit t)
+    by true = with_digits (after_all is_ascii_digit t)
+    by false = without_digits (after_all is_ascii_digit t)
 
 unsigned_rejects_sign : Rejects is_sign (λ t. followed_by is_mantissa exponent_part t)
 unsigned_rejects_sign c cs h = unsigned_read (c ∷ cs) ∙ rw (sign_no_digit c h, sign_no_point c h) refl
@@ -203,4 +203,4 @@ unsigned_rejects_sign c cs h = unsigned_read (c ∷ cs) ∙ rw (sign_no_digit c 
 pub is_decimal-read : (t : List ℕ) → is_decimal t ≡ reads_decimal t
 unfolding is_decimal
 is_decimal-read t =
-    optional_one-behind is_sign (λ b. in_order (is_mantissa ∷ optional is_exponent ∷ []) b) unsigned_rejects_sign t ∙ unsigned_read (behind_one is_sign t)
+    optional_one-after is_sign (λ b. in_order (is_mantissa ∷ optional is_exponent ∷ []) b) unsigned_rejects_sign t ∙ unsigned_read (after_one is_sign t)

@@ -83,15 +83,15 @@ followed_by-assoc f g h (c ∷ cs) =
 abbrev pub Rejects : (ℕ → Bool) → (List ℕ → Bool) → Type 0
 Rejects class g = (c : ℕ) (cs : List ℕ) → class c ≡ true → g (c ∷ cs) ≡ false
 
--- what stands behind the characters of a class at the beginning
-abbrev pub behind_all : (ℕ → Bool) → List ℕ → List ℕ
-behind_all class [] = []
-behind_all class (c ∷ cs) = if class c then behind_all class cs else c ∷ cs
+-- what stands after the characters of a class at the beginning
+abbrev pub after_all : (ℕ → Bool) → List ℕ → List ℕ
+after_all class [] = []
+after_all class (c ∷ cs) = if class c then after_all class cs else c ∷ cs
 
--- what stands behind one character of a class at the beginning, if there is one
-abbrev pub behind_one : (ℕ → Bool) → List ℕ → List ℕ
-behind_one class [] = []
-behind_one class (c ∷ cs) = if class c then cs else c ∷ cs
+-- what stands after one character of a class at the beginning, if there is one
+abbrev pub after_one : (ℕ → Bool) → List ℕ → List ℕ
+after_one class [] = []
+after_one class (c ∷ cs) = if class c then cs else c ∷ cs
 
 pub one-then : (p : ℕ → Bool) (g : List ℕ → Bool) (c : ℕ) (cs : List ℕ) → followed_by (one p) g (c ∷ cs) ≡ (p c && g cs)
 one-then p g c cs = followed_by-and (p c) is_empty g cs ∙ ap (λ x. p c && x) (empty-followed_by g cs)
@@ -106,21 +106,21 @@ pub at_least-then : (p : ℕ → Bool) (g : List ℕ → Bool) (c : ℕ) (cs : L
 at_least-then p g c cs = followed_by-and (p c) (any_number p) g cs
 
 -- a class is read as far as it goes, where what follows doesn't begin in it
-pub any-behind : (p : ℕ → Bool) (g : List ℕ → Bool) → Rejects p g → (t : List ℕ) → followed_by (any_number p) g t ≡ g (behind_all p t)
-any-behind p g r [] = refl
-any-behind p g r (c ∷ cs) = any-then p g c cs ∙ by (p c) refl (any-behind p g r cs)
+pub any-after : (p : ℕ → Bool) (g : List ℕ → Bool) → Rejects p g → (t : List ℕ) → followed_by (any_number p) g t ≡ g (after_all p t)
+any-after p g r [] = refl
+any-after p g r (c ∷ cs) = any-then p g c cs ∙ by (p c) refl (any-after p g r cs)
   where
-    by : (b : Bool) → p c ≡ b → followed_by (any_number p) g cs ≡ g (behind_all p cs)
-        → (g (c ∷ cs) || (b && followed_by (any_number p) g cs)) ≡ g (if b then behind_all p cs else c ∷ cs)
+    by : (b : Bool) → p c ≡ b → followed_by (any_number p) g cs ≡ g (after_all p cs)
+        → (g (c ∷ cs) || (b && followed_by (any_number p) g cs)) ≡ g (if b then after_all p cs else c ∷ cs)
     by true e h = ap (λ x. x || followed_by (any_number p) g cs) (r c cs e) ∙ h
     by false e h = or-false (g (c ∷ cs))
 
-pub at_least-behind : (p : ℕ → Bool) (g : List ℕ → Bool) → Rejects p g → (c : ℕ) (cs : List ℕ) → followed_by (at_least_one p) g (c ∷ cs) ≡ (p c && g (behind_all p cs))
-at_least-behind p g r c cs = at_least-then p g c cs ∙ ap (λ x. p c && x) (any-behind p g r cs)
+pub at_least-after : (p : ℕ → Bool) (g : List ℕ → Bool) → Rejects p g → (c : ℕ) (cs : List ℕ) → followed_by (at_least_one p) g (c ∷ cs) ≡ (p c && g (after_all p cs))
+at_least-after p g r c cs = at_least-then p g c cs ∙ ap (λ x. p c && x) (any-after p g r cs)
 
-pub optional_one-behind : (p : ℕ → Bool) (g : List ℕ → Bool) → Rejects p g → (t : List ℕ) → followed_by (optional (one p)) g t ≡ g (behind_one p t)
-optional_one-behind p g r [] = optional-then (one p) g [] ∙ or-false (g [])
-optional_one-behind p g r (c ∷ cs) = optional-then (one p) g (c ∷ cs) ∙ ap (λ x. g (c ∷ cs) || x) (one-then p g c cs) ∙ by (p c) refl
+pub optional_one-after : (p : ℕ → Bool) (g : List ℕ → Bool) → Rejects p g → (t : List ℕ) → followed_by (optional (one p)) g t ≡ g (after_one p t)
+optional_one-after p g r [] = optional-then (one p) g [] ∙ or-false (g [])
+optional_one-after p g r (c ∷ cs) = optional-then (one p) g (c ∷ cs) ∙ ap (λ x. g (c ∷ cs) || x) (one-then p g c cs) ∙ by (p c) refl
   where
     by : (b : Bool) → p c ≡ b → (g (c ∷ cs) || (b && g cs)) ≡ g (if b then cs else c ∷ cs)
     by true e = ap (λ x. x || g cs) (r c cs e)

@@ -11,7 +11,7 @@ use Rattle.defs_tree.specs.Typing.{typing, is_sign}
 use Rattle.defs_tree.specs.Quoting.{is_quoted, is_unfit_for_plain, is_float_word}
 use Rattle.defs_tree.specs.Spelling.{spelling}
 use Rattle.defs_tree.proofs.DecimalReading.{is_decimal-read}
-use Rattle.defs_tree.proofs.GrammarLaws.{optional_one-behind, followed_by-empty, Rejects}
+use Rattle.defs_tree.proofs.GrammarLaws.{optional_one-after, followed_by-empty, Rejects}
 use Rattle.defs_tree.proofs.LinesLaws.{ends_with-step}
 
 no_space_at_end : (n : ℕ) → ends_with nat_eq (replicate (suc n) 97) (codes " ") ≡ false
@@ -39,7 +39,7 @@ words_reject_sign : Rejects is_sign float_words
 words_reject_sign c cs h = float_words-is (c ∷ cs) ∙ rw (sign_no_i c h, sign_no_n c h) refl
 
 no_float_word : (cs : List ℕ) → is_float_word (97 ∷ cs) ≡ false
-no_float_word cs = optional_one-behind is_sign float_words words_reject_sign (97 ∷ str_to_ascii_lowercase cs) ∙ float_words-is (97 ∷ str_to_ascii_lowercase cs)
+no_float_word cs = optional_one-after is_sign float_words words_reject_sign (97 ∷ str_to_ascii_lowercase cs) ∙ float_words-is (97 ∷ str_to_ascii_lowercase cs)
 
 letter_first : (cs : List ℕ) → typing (97 ∷ cs) ≡ string (97 ∷ cs)
 unfolding typing

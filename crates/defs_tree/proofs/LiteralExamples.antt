@@ -110,9 +110,9 @@ last_surrogate : is_literal (97 ∷ 10 ∷ 57343 ∷ []) ≡ false
 unfolding is_literal is_root_literal is_literal_character
 last_surrogate = refl
 
-first_behind_the_surrogates : is_literal (97 ∷ 10 ∷ 57344 ∷ []) ≡ true
+first_after_the_surrogates : is_literal (97 ∷ 10 ∷ 57344 ∷ []) ≡ true
 unfolding is_literal is_root_literal is_literal_character
-first_behind_the_surrogates = refl
+first_after_the_surrogates = refl
 
 byte_order_mark : is_literal (97 ∷ 10 ∷ 65279 ∷ []) ≡ false
 unfolding is_literal is_root_literal is_literal_character
@@ -158,9 +158,9 @@ tab_on_a_later_line_at_the_root : is_root_literal (codes "a\n\tb") ≡ true
 unfolding is_literal is_root_literal is_literal_character
 tab_on_a_later_line_at_the_root = refl
 
-tab_behind_an_empty_line_at_the_root : is_root_literal (codes "\n\ta") ≡ true
+tab_after_an_empty_line_at_the_root : is_root_literal (codes "\n\ta") ≡ true
 unfolding is_literal is_root_literal is_literal_character
-tab_behind_an_empty_line_at_the_root = refl
+tab_after_an_empty_line_at_the_root = refl
 
 dashes_at_the_root : is_root_literal (codes "a\n---\nb") ≡ false
 unfolding is_literal is_root_literal is_literal_character
@@ -186,9 +186,9 @@ two_dashes_at_the_root : is_root_literal (codes "a\n--") ≡ true
 unfolding is_literal is_root_literal is_literal_character
 two_dashes_at_the_root = refl
 
-dashes_behind_a_space_at_the_root : is_root_literal (codes "a\n ---") ≡ true
+dashes_after_a_space_at_the_root : is_root_literal (codes "a\n ---") ≡ true
 unfolding is_literal is_root_literal is_literal_character
-dashes_behind_a_space_at_the_root = refl
+dashes_after_a_space_at_the_root = refl
 
 dashes_below_the_root : is_literal (codes "a\n---\nb") ≡ true
 unfolding is_literal is_root_literal is_literal_character

@@ -10,9 +10,9 @@ decimal_grammar_decimal_with_point : is_decimal (codes "1.5") ≡ true
 unfolding typing is_decimal
 decimal_grammar_decimal_with_point = refl
 
-decimal_grammar_point_behind : is_decimal (codes "5.") ≡ true
+decimal_grammar_point_after : is_decimal (codes "5.") ≡ true
 unfolding typing is_decimal
-decimal_grammar_point_behind = refl
+decimal_grammar_point_after = refl
 
 decimal_grammar_point_before : is_decimal (codes ".5") ≡ true
 unfolding typing is_decimal

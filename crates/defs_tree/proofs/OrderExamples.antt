@@ -28,8 +28,8 @@ alias_before_null = refl
 null_before_bad_value : tree_cmp (null) (bad_value) ≡ Less
 null_before_bad_value = refl
 
-bad_value_behind_real : tree_cmp (bad_value) (real (codes "z")) ≡ Greater
-bad_value_behind_real = refl
+bad_value_after_real : tree_cmp (bad_value) (real (codes "z")) ≡ Greater
+bad_value_after_real = refl
 
 letters : tree_cmp (string (codes "a")) (string (codes "b")) ≡ Less
 letters = refl
@@ -46,8 +46,8 @@ capitals_before_small_letters = refl
 same_text : tree_cmp (string (codes "ab")) (string (codes "ab")) ≡ Equal
 same_text = refl
 
-code_above_16_bits_behind_one_below : tree_cmp (string (65536 ∷ [])) (string (65533 ∷ [])) ≡ Greater
-code_above_16_bits_behind_one_below = refl
+code_above_16_bits_after_one_below : tree_cmp (string (65536 ∷ [])) (string (65533 ∷ [])) ≡ Greater
+code_above_16_bits_after_one_below = refl
 
 integers : tree_cmp (integer (negsuc 0)) (integer (pos 0)) ≡ Less
 integers = refl

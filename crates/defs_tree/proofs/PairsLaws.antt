@@ -52,7 +52,7 @@ AreDistinct-append k v (p ∷ ps) h n = (Lacks-append p.0 k v ps h.0 (λ e. n.0 
 pub AreDistinct-insert : (k v : Tree) (ps : List (Tree × Tree)) → AreDistinct ps → AreDistinct (insert k v ps)
 AreDistinct-insert k v ps h = AreDistinct-append k v (without k ps) (AreDistinct-without k ps h) (Lacks-itself k ps h)
 
--- a key that no pair has is found in what is put behind
+-- a key that no pair has is found in what is put after
 pub lookup-append : (k v : Tree) (ps : List (Tree × Tree)) → Lacks k ps → lookup k (ps ++ (k, v) ∷ []) ≡ Some v
 lookup-append k v [] h = ap (λ b. cond b (Some v) None) (tree_eq-itself k)
 lookup-append k v (p ∷ ps) h = ap (λ b. cond b (Some p.1) (lookup k (ps ++ (k, v) ∷ []))) (tree_eq-other k p.0 h.0) ∙ lookup-append k v ps h.1

@@ -11,9 +11,9 @@ space_before : is_quoted (codes " a") ≡ true
 unfolding is_quoted is_unfit_for_plain typing is_decimal
 space_before = refl
 
-space_behind : is_quoted (codes "a ") ≡ true
+space_after : is_quoted (codes "a ") ≡ true
 unfolding is_quoted is_unfit_for_plain typing is_decimal
-space_behind = refl
+space_after = refl
 
 space_alone : is_quoted (codes " ") ≡ true
 unfolding is_quoted is_unfit_for_plain typing is_decimal

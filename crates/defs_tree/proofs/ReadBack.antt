@@ -42,29 +42,29 @@ abbrev SecondIsEarly : List ℕ → Type 0
 SecondIsEarly [] = Unit {0}
 SecondIsEarly (c ∷ cs) = c < 58
 
-behind_letter : (x : ℕ) (c : ℕ) (cs : List ℕ) → 57 < x → SecondIsEarly cs → after_prefix (48 ∷ x ∷ []) (c ∷ cs) ≡ None
-behind_letter x c [] h s = by (48 == c)
+after_letter : (x : ℕ) (c : ℕ) (cs : List ℕ) → 57 < x → SecondIsEarly cs → after_prefix (48 ∷ x ∷ []) (c ∷ cs) ≡ None
+after_letter x c [] h s = by (48 == c)
   where
     by : (b : Bool) → (if b then after_prefix (x ∷ []) [] else None) ≡ None
     by true = refl
     by false = refl
-behind_letter x c (d ∷ ds) h s = by (48 == c) (ne_eqb x d (λ e. omega arith))
+after_letter x c (d ∷ ds) h s = by (48 == c) (ne_eqb x d (λ e. omega arith))
   where
     by : (b : Bool) → (x == d) ≡ false → (if b then (if x == d then Some ds else None) else None) ≡ None
     by true e = ap (λ b. if b then Some ds else None) e
     by false e = refl
 
-behind_plus : (c : ℕ) (cs : List ℕ) → c ≢ 43 → after_prefix (43 ∷ []) (c ∷ cs) ≡ None
-behind_plus c cs n = ap (λ b. if b then Some cs else None) (ne_eqb 43 c (λ e. n (sym e)))
+after_plus : (c : ℕ) (cs : List ℕ) → c ≢ 43 → after_prefix (43 ∷ []) (c ∷ cs) ≡ None
+after_plus c cs n = ap (λ b. if b then Some cs else None) (ne_eqb 43 c (λ e. n (sym e)))
 
 -- such a text stands for the integer that it writes
 integer_text : (c : ℕ) (cs : List ℕ) (z : ℤ) → c < 58 → c ≢ 43 → SecondIsEarly cs → signed_decimal (c ∷ cs) ≡ Some z → typing (c ∷ cs) ≡ integer z
 unfolding typing
 integer_text c cs z early n second e =
     rw (
-      behind_letter 120 c cs (omega arith) second,
-      behind_letter 111 c cs (omega arith) second,
-      behind_plus c cs n,
+      after_letter 120 c cs (omega arith) second,
+      after_letter 111 c cs (omega arith) second,
+      after_plus c cs n,
       no_late_word null_words c cs refl early,
       no_late_word true_words c cs refl early,
       no_late_word false_words c cs refl early,

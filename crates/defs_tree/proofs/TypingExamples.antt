@@ -19,13 +19,13 @@ decimal_is_read : typing (codes "42") ≡ integer (pos 42)
 unfolding typing is_decimal
 decimal_is_read = refl
 
-sign_behind_the_octal_mark : typing (codes "0o-7") ≡ integer (negsuc 6)
+sign_after_the_octal_mark : typing (codes "0o-7") ≡ integer (negsuc 6)
 unfolding typing is_decimal
-sign_behind_the_octal_mark = refl
+sign_after_the_octal_mark = refl
 
-sign_behind_the_hexadecimal_mark : typing (codes "0x+f") ≡ integer (pos 15)
+sign_after_the_hexadecimal_mark : typing (codes "0x+f") ≡ integer (pos 15)
 unfolding typing is_decimal
-sign_behind_the_hexadecimal_mark = refl
+sign_after_the_hexadecimal_mark = refl
 
 two_pluses : typing (codes "++5") ≡ integer (pos 5)
 unfolding typing is_decimal
@@ -79,9 +79,9 @@ no_digits_before_the_point : typing (codes ".5") ≡ real (codes ".5")
 unfolding typing is_decimal
 no_digits_before_the_point = refl
 
-no_digits_behind_the_point : typing (codes "5.") ≡ real (codes "5.")
+no_digits_after_the_point : typing (codes "5.") ≡ real (codes "5.")
 unfolding typing is_decimal
-no_digits_behind_the_point = refl
+no_digits_after_the_point = refl
 
 point_and_exponent : typing (codes "1.e5") ≡ real (codes "1.e5")
 unfolding typing is_decimal

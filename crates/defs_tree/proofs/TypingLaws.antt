@@ -41,9 +41,9 @@ integer_row : (text : List ℕ) (o : Option ℤ) → OfSome (λ z. IsTrue (fits_
 integer_row text None h = tt
 integer_row text (Some z) h = h
 
-behind_row : (text : List ℕ) (base : ℕ) (o : Option (List ℕ)) → OfSome (MayStandFor text) (option_map integer (option_and_then (signed_number base) o))
-behind_row text base None = tt
-behind_row text base (Some rest) = integer_row text (signed_number base rest) (signed_number-fits base rest)
+after_row : (text : List ℕ) (base : ℕ) (o : Option (List ℕ)) → OfSome (MayStandFor text) (option_map integer (option_and_then (signed_number base) o))
+after_row text base None = tt
+after_row text base (Some rest) = integer_row text (signed_number base rest) (signed_number-fits base rest)
 
 -- ---- what typing gives
 
@@ -60,11 +60,11 @@ by_rows-sound P (row ∷ rest) text h r = or_else (P text) (row text) (by_rows r
 pub typing-plain : (text : List ℕ) → MayStandFor text (typing text)
 unfolding typing AllSound
 typing-plain text = by_rows-sound MayStandFor rows text (
-  behind_row text 16 (after_prefix (codes "0x") text),
+  after_row text 16 (after_prefix (codes "0x") text),
   (
-    behind_row text 8 (after_prefix (codes "0o") text),
+    after_row text 8 (after_prefix (codes "0o") text),
     (
-      behind_row text 10 (after_prefix (codes "+") text),
+      after_row text 10 (after_prefix (codes "+") text),
       (
         OfSome-where_true (MayStandFor text) (is_among null_words text) null tt,
         (

@@ -10,7 +10,7 @@ use Rattle.model_lexers.specs.Machine.{past, at_marker}
 use Rattle.model_lexers.specs.Folding.{Folded, nothing}
 use Rattle.model_lexers.specs.Plain.{plain_from, first, inside, between, tabs, ends_run, ends_gap, ends_tabs, goes_on, is_shallow, at_dash, at_plain, can_be_plain, starts, plain}
 
--- at a comment and at a line's end blanks behind a TAB are a gap
+-- at a comment and at a line's end blanks after a TAB are a gap
 at_hash : is_break 35 ≡ false
 unfolding is_break
 at_hash = refl

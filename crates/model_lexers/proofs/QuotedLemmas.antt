@@ -9,7 +9,7 @@ use Rattle.yaml_tokens.specs.declared.problem.Problem.TheVariants as problem
 use Rattle.model_lexers.specs.declared.context.Context.{Context}
 use Rattle.model_lexers.specs.Machine.{past}
 use Rattle.model_lexers.specs.Folding.{Folded, nothing, with_char, joined}
-use Rattle.model_lexers.specs.Quoted.{quoted, quoted_from, digits_from, quote_of, Escape, escape_of, is_scalar, refused, first, inside, gap, behind, named, digits, closed}
+use Rattle.model_lexers.specs.Quoted.{quoted, quoted_from, digits_from, quote_of, Escape, escape_of, is_scalar, refused, first, inside, gap, after, named, digits, closed}
 
 module _ (single : Bool) (ctx : Context) (start : Position) where
   -- a blank or a break of a line begins a gap
@@ -18,7 +18,7 @@ module _ (single : Bool) (ctx : Context) (start : Position) where
   inside_gap c [] p t e h = refl
   inside_gap c (d ∷ a) p t e h = let g : (is_break d || is_blank d) ≡ true = rw e at h in rw g refl
 
-  -- a line begins behind a gap
+  -- a line begins after a gap
   pub gap_line : (c : ℕ) (a : List ℕ) (p : Position) (t : Folded) → c ≡ slice_index a 0 → (is_break c || is_blank c) ≡ false
       → quoted_from single ctx start a (record { mode = gap; place = p; folded = t }) ≡ quoted_from single ctx start a (record { mode = first; place = p; folded = t })
   gap_line c [] p t e h = refl
@@ -35,11 +35,11 @@ module _ (single : Bool) (ctx : Context) (start : Position) where
   line_fails c [] p t f e some h = absurd (some e)
   line_fails c (d ∷ a) p t f e some h = rw h refl
 
-  -- behind an escaped break the closing quote may stand anywhere, and else a gap goes on
-  pub behind_gap : (c : ℕ) (a : List ℕ) (p : Position) (t : Folded) → c ≡ slice_index a 0 → (c == quote_of single) ≡ false
-      → quoted_from single ctx start a (record { mode = behind; place = p; folded = t }) ≡ quoted_from single ctx start a (record { mode = gap; place = p; folded = t })
-  behind_gap c [] p t e h = refl
-  behind_gap c (d ∷ a) p t e h = let g : (d == quote_of single) ≡ false = rw e at h in rw g refl
+  -- after an escaped break the closing quote may stand anywhere, and else a gap goes on
+  pub after_gap : (c : ℕ) (a : List ℕ) (p : Position) (t : Folded) → c ≡ slice_index a 0 → (c == quote_of single) ≡ false
+      → quoted_from single ctx start a (record { mode = after; place = p; folded = t }) ≡ quoted_from single ctx start a (record { mode = gap; place = p; folded = t })
+  after_gap c [] p t e h = refl
+  after_gap c (d ∷ a) p t e h = let g : (d == quote_of single) ≡ false = rw e at h in rw g refl
 
   pub named_char : (c d : ℕ) (a b : List ℕ) (p : Position) (t : Folded) → escape_of c ≡ Escape.char d → a ≡ c ∷ b
       → quoted_from single ctx start a (record { mode = named; place = p; folded = t }) ≡ quoted_from single ctx start b (record { mode = inside; place = past p; folded = with_char d t })
@@ -77,7 +77,7 @@ module _ (single : Bool) (ctx : Context) (start : Position) where
       → digits_from single ctx start zero value a p t ≡ Err (At problem.EscapedCode start)
   coded_fails value a p t h = rw h refl
 
--- behind the closing quote the scan is over
+-- after the closing quote the scan is over
 pub closed_end : (single : Bool) (ctx : Context) (start : Position) (a : List ℕ) (p : Position) (t : Folded)
     → quoted_from single ctx start a (record { mode = closed; place = p; folded = t }) ≡ Ok (record { rest = a; place = p; value = t.text })
 closed_end single ctx start [] p t = refl
@@ -96,14 +96,14 @@ quote_self : (single : Bool) → (quote_of single == quote_of single) ≡ true
 quote_self true = refl
 quote_self false = refl
 
-behind_quote_at : (single : Bool) (ctx : Context) (start : Position) (d : ℕ) (a : List ℕ) (p : Position) (t : Folded) → d ≡ quote_of single
-    → quoted_from single ctx start (d ∷ a) (record { mode = behind; place = p; folded = t }) ≡ quoted_from single ctx start (d ∷ a) (record { mode = inside; place = p; folded = t })
-behind_quote_at single ctx start d a p t h = rw (h, quote_no_blank single, quote_no_backslash single, quote_self single) refl
+after_quote_at : (single : Bool) (ctx : Context) (start : Position) (d : ℕ) (a : List ℕ) (p : Position) (t : Folded) → d ≡ quote_of single
+    → quoted_from single ctx start (d ∷ a) (record { mode = after; place = p; folded = t }) ≡ quoted_from single ctx start (d ∷ a) (record { mode = inside; place = p; folded = t })
+after_quote_at single ctx start d a p t h = rw (h, quote_no_blank single, quote_no_backslash single, quote_self single) refl
 
-pub behind_quote : (single : Bool) (ctx : Context) (start : Position) (c : ℕ) (a : List ℕ) (p : Position) (t : Folded) → c ≡ slice_index a 0 → c ≡ quote_of single
-    → quoted_from single ctx start a (record { mode = behind; place = p; folded = t }) ≡ quoted_from single ctx start a (record { mode = inside; place = p; folded = t })
-behind_quote single ctx start c [] p t e h = refl
-behind_quote single ctx start c (d ∷ a) p t e h = behind_quote_at single ctx start d a p t (sym e ∙ h)
+pub after_quote : (single : Bool) (ctx : Context) (start : Position) (c : ℕ) (a : List ℕ) (p : Position) (t : Folded) → c ≡ slice_index a 0 → c ≡ quote_of single
+    → quoted_from single ctx start a (record { mode = after; place = p; folded = t }) ≡ quoted_from single ctx start a (record { mode = inside; place = p; folded = t })
+after_quote single ctx start c [] p t e h = refl
+after_quote single ctx start c (d ∷ a) p t e h = after_quote_at single ctx start d a p t (sym e ∙ h)
 
 pub quoted_starts : (single : Bool) (ctx : Context) (a b : List ℕ) (p : Position) → a ≡ slice_index a 0 ∷ b
     → quoted single ctx a p ≡ quoted_from single ctx p b (record { mode = first; place = past p; folded = nothing })

@@ -4,7 +4,7 @@ use Rattle.defs_text.specs.Position.{Position}
 use Rattle.model_lexers.specs.declared.context.SkipTabs.{SkipTabs}
 use Rattle.model_lexers.specs.declared.context.Whitespace.{Whitespace}
 use Rattle.model_lexers.specs.Machine.{skip_while, take_while, ends_while}
-use Rattle.model_lexers.specs.Space.{space_from, comment_behind, are_skipped}
+use Rattle.model_lexers.specs.Space.{space_from, comment_after, are_skipped}
 
 is_false : (b : Bool) → not b ≡ true → b ≡ false
 is_false true h = sym h
@@ -31,6 +31,6 @@ spaces_stop tabs c (d ∷ a) p w e space tab hash =
 
 -- at a comment
 pub at_comment : (tabs : SkipTabs) (a : List ℕ) (p : Position) (w : Whitespace) → 35 ≡ slice_index a 0
-    → space_from tabs a (record { place = p; found = w }) ≡ comment_behind w a p
+    → space_from tabs a (record { place = p; found = w }) ≡ comment_after w a p
 at_comment tabs [] p w e = cc
 at_comment tabs (d ∷ a) p w e = rw (sym e) refl

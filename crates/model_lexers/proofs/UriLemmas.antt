@@ -36,7 +36,7 @@ module _ (test : ℕ → Bool) (start : Position) where
   goes_on (Ok s) a go = refl
   goes_on (Err f) a go = refl
 
-  -- behind the last digit of an octet
+  -- after the last digit of an octet
   pub low_turn : (o : Octet) (v c : ℕ) (a b : List ℕ) (p : Position) (t : List ℕ) → is_hex c ≡ true → a ≡ c ∷ b
       → uri_from test start a (record { mode = low o v; place = p; text = t }) ≡ octet_from test start o (v * 16 + digit_value c) b (past p) t
   low_turn o v c a b p t h e = rw (e, h) (goes_on (at_octet start o (v * 16 + digit_value c) (past p) t) (c ∷ b) _)

@@ -42,11 +42,11 @@ late_chomping Clip n = with_chomping n.value (chomping n.rest n.place)
 late_chomping Strip n = record { rest = n.rest; place = n.place; value = record { chomping = Strip; increment = n.value } }
 late_chomping Keep n = record { rest = n.rest; place = n.place; value = record { chomping = Keep; increment = n.value } }
 
-abbrev pub behind_chomping : Position → Read Chomping → Result (Read Indicators) Fault
-behind_chomping start r = and_then (increment start r.rest r.place) (λ n. Ok (late_chomping r.value n))
+abbrev pub after_chomping : Position → Read Chomping → Result (Read Indicators) Fault
+after_chomping start r = and_then (increment start r.rest r.place) (λ n. Ok (late_chomping r.value n))
 
 unfoldable pub indicators : Position → List ℕ → Position → Result (Read Indicators) Fault
-indicators start a p = behind_chomping start (chomping a p)
+indicators start a p = after_chomping start (chomping a p)
 
 abbrev pub no_tab : Position → Read (Unit {0}) → Result (Read Bool) Fault
 no_tab start r = (if slice_index r.rest 0 == 9 then Err (At problem.BlockScalarTab start) else Ok (record { rest = r.rest; place = r.place; value = true }))
@@ -208,11 +208,11 @@ body literal indent c r =
     and_then (lines_from literal r.value.column r.rest (record { mode = margin; place = r.place; lines = record { text = []; breaks = r.value.breaks; broken = false; blank = false } }))
     (λ l. Ok (chomped c r.value.column r.place l)))
 
-abbrev pub behind_header : Bool → ℕ → Position → Header → Read Column → Result (Read Block) Fault
-behind_header literal indent start h r =
+abbrev pub after_header : Bool → ℕ → Position → Header → Read Column → Result (Read Block) Fault
+after_header literal indent start h r =
     (if is_nil r.rest then Ok (record { rest = r.rest; place = r.place; value = record { place = start; text = empty_text h.indicators.chomping h.broken r.value.breaks } }) else body literal indent h.indicators.chomping r)
 
 -- the whole scan, from the `|` or `>` on
 unfoldable pub block : Bool → ℕ → List ℕ → Position → Result (Read Block) Fault
 block literal indent [] p = Err (At problem.BlockScalarHeader p)
-block literal indent (c ∷ a) p = and_then (header p a (past p)) (λ (h : Read Header). behind_header literal indent p h.value (content indent h.value.indicators.increment h.rest h.place))
+block literal indent (c ∷ a) p = and_then (header p a (past p)) (λ (h : Read Header). after_header literal indent p h.value (content indent h.value.indicators.increment h.rest h.place))

@@ -54,28 +54,28 @@ number start a p = number_from start a (record { place = p; value = 0; length = 
 abbrev pub with_minor : ℕ → Read ℕ → Read Tok
 with_minor major r = record { rest = r.rest; place = r.place; value = Tok.version_directive major r.value }
 
-abbrev pub behind_major : Position → Read ℕ → Result (Read Tok) Fault
-behind_major start r = (if slice_index r.rest 0 == 46 then and_then (number start (drop 1 r.rest) (past r.place)) (λ n. Ok (with_minor r.value n)) else Err (At problem.VersionDot start))
+abbrev pub after_major : Position → Read ℕ → Result (Read Tok) Fault
+after_major start r = (if slice_index r.rest 0 == 46 then and_then (number start (drop 1 r.rest) (past r.place)) (λ n. Ok (with_minor r.value n)) else Err (At problem.VersionDot start))
 
-abbrev pub version_behind : Position → Read (Unit {0}) → Result (Read Tok) Fault
-version_behind start r = and_then (number start r.rest r.place) (λ n. behind_major start n)
+abbrev pub version_after : Position → Read (Unit {0}) → Result (Read Tok) Fault
+version_after start r = and_then (number start r.rest r.place) (λ n. after_major start n)
 
 -- the two numbers of a version
 unfoldable pub version_value : Position → List ℕ → Position → Result (Read Tok) Fault
-version_value start a p = version_behind start (blanks a p)
+version_value start a p = version_after start (blanks a p)
 
 abbrev pub with_prefix : Position → List ℕ → Read (List ℕ) → Result (Read Tok) Fault
 with_prefix start h r = (if is_blank_or_breakz (slice_index r.rest 0) then Ok (record { rest = r.rest; place = r.place; value = Tok.tag_directive h r.value }) else Err (At problem.TagDirectiveEnd start))
 
-abbrev pub prefix_behind : Position → List ℕ → Read (Unit {0}) → Result (Read Tok) Fault
-prefix_behind start h r = and_then (prefix start r.rest r.place) (λ q. with_prefix start h q)
+abbrev pub prefix_after : Position → List ℕ → Read (Unit {0}) → Result (Read Tok) Fault
+prefix_after start h r = and_then (prefix start r.rest r.place) (λ q. with_prefix start h q)
 
-abbrev pub handle_behind : Position → Read (Unit {0}) → Result (Read Tok) Fault
-handle_behind start r = and_then (handle start r.rest r.place) (λ (h : Read (List ℕ)). prefix_behind start h.value (blanks h.rest h.place))
+abbrev pub handle_after : Position → Read (Unit {0}) → Result (Read Tok) Fault
+handle_after start r = and_then (handle start r.rest r.place) (λ (h : Read (List ℕ)). prefix_after start h.value (blanks h.rest h.place))
 
 -- a handle and its prefix
 unfoldable pub tag_value : Position → List ℕ → Position → Result (Read Tok) Fault
-tag_value start a p = handle_behind start (blanks a p)
+tag_value start a p = handle_after start (blanks a p)
 
 abbrev pub empty_tag : Read (Unit {0}) → Read Tok
 empty_tag r = record { rest = r.rest; place = r.place; value = Tok.tag_directive [] [] }
@@ -98,14 +98,14 @@ line_end start a p = and_then (space Yes a p) (λ (w : Read Whitespace). directi
 abbrev pub with_end : Read Tok → Read (Unit {0}) → Read Tok
 with_end v r = record { rest = r.rest; place = r.place; value = v.value }
 
-abbrev pub behind_value : Position → Read Tok → Result (Read Tok) Fault
-behind_value start v = and_then (line_end start v.rest v.place) (λ r. Ok (with_end v r))
+abbrev pub after_value : Position → Read Tok → Result (Read Tok) Fault
+after_value start v = and_then (line_end start v.rest v.place) (λ r. Ok (with_end v r))
 
 -- the directive after its `%`
-abbrev pub behind_name : Position → Read Kind → Result (Read Tok) Fault
-behind_name start n = and_then (value start n.value n.rest n.place) (λ v. behind_value start v)
+abbrev pub after_name : Position → Read Kind → Result (Read Tok) Fault
+after_name start n = and_then (value start n.value n.rest n.place) (λ v. after_value start v)
 
 -- the directive that stands here, with its `%`
 unfoldable pub directive : List ℕ → Position → Result (Read Tok) Fault
 directive [] p = Err (At problem.DirectiveName p)
-directive (c ∷ a) p = and_then (name a (past p)) (λ n. behind_name p n)
+directive (c ∷ a) p = and_then (name a (past p)) (λ n. after_name p n)

@@ -16,7 +16,7 @@ pub data Mode : Type 0 where
   inside : Mode
   gap : Mode
   breaking : Mode
-  behind : Mode
+  after : Mode
   doubled : Mode
   named : Mode
   digits : (more value : ℕ) → Mode
@@ -75,7 +75,7 @@ at_gap ctx c a s =
 
 -- an escaped break
 abbrev pub at_escaped_break : ℕ → List ℕ → State → Turn State Fault
-at_escaped_break c a s = (if is_cr_lf c a then on (record { mode = breaking; place = past s.place; folded = s.folded }) else on (record { mode = behind; place = past_break s.place; folded = with_escaped_break s.folded }))
+at_escaped_break c a s = (if is_cr_lf c a then on (record { mode = breaking; place = past s.place; folded = s.folded }) else on (record { mode = after; place = past_break s.place; folded = with_escaped_break s.folded }))
 
 abbrev pub at_quote : Bool → List ℕ → State → Turn State Fault
 at_quote single a s = on (record { mode = (if single && (slice_index a 0 == 39) then doubled else closed); place = past s.place; folded = s.folded })
@@ -122,7 +122,7 @@ turn_in single ctx start first s c a = at_line single ctx start c a s
 turn_in single ctx start inside s c a = in_line single ctx c a s
 turn_in single ctx start gap s c a = (if is_break c || is_blank c then at_gap ctx c a s else at_line single ctx start c a s)
 turn_in single ctx start breaking s c a = at_escaped_break c a s
-turn_in single ctx start behind s c a =
+turn_in single ctx start after s c a =
     (if is_break c || is_blank c then at_gap ctx c a s else
     (if c == quote_of single then at_quote single a s else at_line single ctx start c a s))
 turn_in single ctx start doubled s c a = at_char c s

@@ -37,8 +37,8 @@ abbrev pub with_found : Whitespace → Read (Unit {0}) → Read Whitespace
 with_found w r = record { rest = r.rest; place = r.place; value = w }
 
 -- a comment has to stand after a space or a TAB
-abbrev pub comment_behind : Whitespace → List ℕ → Position → Result (Read Whitespace) Fault
-comment_behind w a p = (if w.found_tabs || w.has_valid_yaml_ws then Ok (with_found w (comment a p)) else Err (At problem.CommentNotSeparated p))
+abbrev pub comment_after : Whitespace → List ℕ → Position → Result (Read Whitespace) Fault
+comment_after w a p = (if w.found_tabs || w.has_valid_yaml_ws then Ok (with_found w (comment a p)) else Err (At problem.CommentNotSeparated p))
 
 -- where a walk over spaces stands, and what it found
 pub record Spaces : Type 0 where
@@ -51,12 +51,12 @@ space_step tabs s c a =
     (if c == 32 then Some (record { place = past s.place; found = record (s.found) { has_valid_yaml_ws = true } }) else
     (if (c == 9) && are_skipped tabs then Some (record { place = past s.place; found = record (s.found) { found_tabs = true } }) else None))
 
-abbrev pub behind_spaces : List ℕ → Spaces → Result (Read Whitespace) Fault
-behind_spaces [] s = Ok (record { rest = []; place = s.place; value = s.found })
-behind_spaces (c ∷ a) s = (if c == 35 then comment_behind s.found (c ∷ a) s.place else Ok (record { rest = c ∷ a; place = s.place; value = s.found }))
+abbrev pub after_spaces : List ℕ → Spaces → Result (Read Whitespace) Fault
+after_spaces [] s = Ok (record { rest = []; place = s.place; value = s.found })
+after_spaces (c ∷ a) s = (if c == 35 then comment_after s.found (c ∷ a) s.place else Ok (record { rest = c ∷ a; place = s.place; value = s.found }))
 
 abbrev pub spaces_end : Stop Spaces → Result (Read Whitespace) Fault
-spaces_end t = behind_spaces t.rest t.state
+spaces_end t = after_spaces t.rest t.state
 
 -- after spaces, TABs where these are skipped, and a comment, from what was found before on
 abbrev pub space_from : SkipTabs → List ℕ → Spaces → Result (Read Whitespace) Fault

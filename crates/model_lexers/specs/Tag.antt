@@ -39,15 +39,15 @@ local r = (if is_nil r.value then read_tag r.rest r.place [] (33 ∷ []) else re
 abbrev pub local_tag : Position → List ℕ → List ℕ → Position → Result (Read Tag) Fault
 local_tag start name a p = and_then (uri is_tag start a p name) (λ r. Ok (local r))
 
-abbrev pub behind_name : Position → List ℕ → List ℕ → Position → Result (Read Tag) Fault
-behind_name start name a p = (if slice_index a 0 == 33 then named start name (drop 1 a) (past p) else local_tag start name a p)
+abbrev pub after_name : Position → List ℕ → List ℕ → Position → Result (Read Tag) Fault
+after_name start name a p = (if slice_index a 0 == 33 then named start name (drop 1 a) (past p) else local_tag start name a p)
 
-abbrev pub behind_word : Position → Read (List ℕ) → Result (Read Tag) Fault
-behind_word start r = behind_name start r.value r.rest r.place
+abbrev pub after_word : Position → Read (List ℕ) → Result (Read Tag) Fault
+after_word start r = after_name start r.value r.rest r.place
 
 -- a tag after its first `!`
 unfoldable pub shorthand : Position → List ℕ → Position → Result (Read Tag) Fault
-shorthand start a p = behind_word start (take_while is_alpha a p [])
+shorthand start a p = after_word start (take_while is_alpha a p [])
 
 -- what may stand after a tag
 unfoldable pub ends_tag : Bool → ℕ → Bool

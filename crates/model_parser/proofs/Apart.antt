@@ -1,4 +1,4 @@
--- No anchor stands right behind another in a stream: each node has one at most, and no node stands right behind another.
+-- No anchor stands right after another in a stream: each node has one at most, and no node stands right after another.
 use Rattle.std.proofs.Common.{◌≡◌, ℕ, List, [], ◌∷◌, ◌++◌, Option, Some, None, Bool, true, false, not, ◌&&◌, refl, sym, ap, ◌∙◌}
 use Rattle.defs_token.specs.Token.{Tok}
 use Rattle.defs_event.specs.Raw.{Directive}
@@ -7,18 +7,18 @@ use Rattle.defs_event.specs.Grammar.{Properties, anchored, tagged, anchored_tagg
 use Rattle.defs_event.specs.Grammar.{Node, block_alias, block_content, block_properties, Content, flow, block_sequence, block_mapping, Perhaps, no_node, some_node, Entries, end_entries, entry, Part, plain, indentless, Dashes, end_dashes, dash, Pairs, keyed, keyless, KeyPairs, end_pairs, key, AfterKey, value, no_value, Documents, marker, bare, directed, others, Explicit, end_stream, explicit, After, marked, unmarked}
 use Rattle.defs_event.specs.Grammar.{properties_tokens, perhaps_properties_tokens, flow_node_tokens, flow_content_tokens, perhaps_flow_tokens, items_tokens, more_items_tokens, item_tokens, flow_value_tokens, flow_pairs_tokens, more_flow_pairs_tokens, flow_pair_tokens, node_tokens, content_tokens, perhaps_tokens, entries_tokens, part_tokens, dashes_tokens, pairs_tokens, key_pairs_tokens, after_key_tokens, directives_tokens, documents_tokens, explicit_tokens, after_tokens, stream_tokens}
 
--- ---- no anchor behind an anchor
+-- ---- no anchor after an anchor
 
 abbrev pub is_anchor : Tok → Bool
 is_anchor (Tok.anchor n) = true
 is_anchor _ = false
 
--- of these tokens, behind an anchor or not
-abbrev pub are_apart : (behind_anchor : Bool) → List Tok → Bool
+-- of these tokens, after an anchor or not
+abbrev pub are_apart : (after_anchor : Bool) → List Tok → Bool
 are_apart b [] = true
 are_apart b (t ∷ ts) = not (b && is_anchor t) && are_apart (is_anchor t) ts
 
--- They may stand behind an anchor.
+-- They may stand after an anchor.
 abbrev Clear : List Tok → Type 0
 Clear ts = are_apart true ts ≡ true
 
@@ -150,7 +150,7 @@ and_false : (b : Bool) → (b && false) ≡ false
 and_false true = refl
 and_false false = refl
 
--- two anchors, one right behind the other
+-- two anchors, one right after the other
 two_anchors : (b : Bool) (xs : List Tok) (m n : List ℕ) (ys : List Tok) → are_apart b (xs ++ Tok.anchor m ∷ Tok.anchor n ∷ ys) ≡ false
 two_anchors b [] m n ys = and_false (not (b && true))
 two_anchors b (x ∷ xs) m n ys = ap (λ c. not (b && is_anchor x) && c) (two_anchors (is_anchor x) xs m n ys) ∙ and_false (not (b && is_anchor x))

@@ -10,7 +10,7 @@ use Rattle.model_parser.specs.declared.state.State.TheVariants as state
 use Rattle.model_parser.specs.Kinds.{kind_of, begins_node, ends_document, is_directive}
 use Rattle.model_parser.specs.Goal as at
 use Rattle.model_parser.specs.Turn.{Comes, Goes, Stays, Takes, Leaves, Refuses}
-use Rattle.model_parser.proofs.First.{clash, clash_cons, other, node_first, after_first, behind_after, true_is_not_false}
+use Rattle.model_parser.proofs.First.{clash, clash_cons, other, node_first, after_first, after_after, true_is_not_false}
 
 with_directives : {a b : List Directive} {es : List Raw} → a ≡ b → Raw.document_start a ∷ es ≡ Raw.document_start b ∷ es
 with_directives {a} {b} {es} h = ap (λ ds. Raw.document_start ds ∷ es) h
@@ -56,7 +56,7 @@ documents_bare_goes ss t e a (others end_stream) r h = absurd (other ends_docume
 documents_bare_goes ss t e a (others (explicit p x)) r h = absurd (other ends_document h refl e)
 
 pub documents_bare : (ss : List State) (t : Tok) → ends_document (kind_of t) ≡ false → is_directive (kind_of t) ≡ false → Leaves at.documents ss (Some t) (Some (Raw.document_start [])) at.done (state.BlockNode ∷ state.DocumentEnd ∷ ss)
-documents_bare ss t e a = record { nested = λ n f. (((behind_after ss, tt), (f, n)), tt); comes = λ x' r'. (bare r'.0 r'.1.0, r'.1.1, refl, refl); goes = λ n f. documents_bare_goes ss t e a }
+documents_bare ss t e a = record { nested = λ n f. (((after_after ss, tt), (f, n)), tt); comes = λ x' r'. (bare r'.0 r'.1.0, r'.1.1, refl, refl); goes = λ n f. documents_bare_goes ss t e a }
 
 -- ---- directives
 
@@ -122,7 +122,7 @@ pub explicit_refuses : (ss : List State) (t : Tok) → kind_of t ≢ kind.Stream
 explicit_refuses ss t a b n f end_stream r h = a (ap kind_of (sym h))
 explicit_refuses ss t a b n f (explicit p x) r h = b (ap kind_of (sym h))
 
--- ---- behind `---`
+-- ---- after `---`
 
 content_empty_goes : (ss : List State) (t : Tok) → begins_node place.Block (kind_of t) ≡ false → (x : Perhaps × After) → Stays at.content ss (Some t) (Some nothing_written) at.done (state.DocumentEnd ∷ ss) x
 content_empty_goes ss t a (no_node, x) r h = (tt, (x, r), refl, refl)
@@ -136,9 +136,9 @@ content_node_goes ss t a (no_node, x) r h = absurd (clash ends_document _ t (aft
 content_node_goes ss t a (some_node n, x) r h = (n, (x, r), refl, refl)
 
 pub content_node : (ss : List State) (t : Tok) → ends_document (kind_of t) ≡ false → Leaves at.content ss (Some t) None (at.node place.Block) (state.DocumentEnd ∷ ss)
-content_node ss t a = record { nested = λ n f. ((f, n), (behind_after ss, tt)); comes = λ x' r'. ((some_node x', r'.0), r'.1, refl, refl); goes = λ n f. content_node_goes ss t a }
+content_node ss t a = record { nested = λ n f. ((f, n), (after_after ss, tt)); comes = λ x' r'. ((some_node x', r'.0), r'.1, refl, refl); goes = λ n f. content_node_goes ss t a }
 
--- ---- behind a document's node
+-- ---- after a document's node
 
 after_marked_goes : (ss : List State) (x : After) → Goes at.after ss Tok.document_end (Some Raw.document_end) at.done (state.ImplicitDocumentStart ∷ ss) x
 after_marked_goes ss (marked d) r ts h = (tt, (d, r), cc, refl)

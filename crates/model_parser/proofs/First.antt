@@ -126,7 +126,7 @@ node_at_first place.Part (part_node n) r = part_node_first n r
 node_at_first place.Part (part_sequence None p d) r = refl
 node_at_first place.Part (part_sequence (Some o) p d) r = properties_first place.Part o _
 
--- ---- what stands behind nodes
+-- ---- what stands after nodes
 
 pub after_first : (a : After) (r : List Tok) → first_is ends_document (after_tokens a r) ≡ true
 after_first (marked d) r = refl
@@ -222,53 +222,53 @@ block_begins_fewer kind.FlowMappingStart h = h
 block_begins_fewer _ h = refl
 
 -- what stands under a node begins none
-pub behind_begins_none : (p : Place) (ss : List State) → EndsNode p ss → BeginsNoNode p ss
-behind_begins_none place.Part ss b = ends_part_begins_none place.Part ss b
-behind_begins_none place.Block ss b = b
-behind_begins_none place.Flow ss b = b
+pub after_begins_none : (p : Place) (ss : List State) → EndsNode p ss → BeginsNoNode p ss
+after_begins_none place.Part ss b = ends_part_begins_none place.Part ss b
+after_begins_none place.Block ss b = b
+after_begins_none place.Flow ss b = b
 
 -- ---- what may be pushed below a node
 
-pub behind_after : (ss : List State) → BeginsNoNode place.Block (state.DocumentEnd ∷ ss)
-behind_after ss r = first_more ends_document (λ k. not (begins_node place.Block k)) (document_no_node place.Block) _ (after_first r.0 _)
+pub after_after : (ss : List State) → BeginsNoNode place.Block (state.DocumentEnd ∷ ss)
+after_after ss r = first_more ends_document (λ k. not (begins_node place.Block k)) (document_no_node place.Block) _ (after_first r.0 _)
 
 entries_first : (x : Entries) (r : List Tok) → first_is (λ k. not (begins_node place.Block k)) (entries_tokens x r) ≡ true
 entries_first end_entries r = refl
 entries_first (entry p x) r = refl
 
-pub behind_entries : (ss : List State) → BeginsNoNode place.Block (state.BlockSequenceEntry ∷ ss)
-behind_entries ss r = entries_first r.0 _
+pub after_entries : (ss : List State) → BeginsNoNode place.Block (state.BlockSequenceEntry ∷ ss)
+after_entries ss r = entries_first r.0 _
 
 dashes_first : (d : Dashes) (ss : List State) → EndsPart ss → (r : Rest ss) → first_is (λ k. not (begins_node place.Block k)) (dashes_tokens d (rest_tokens ss r)) ≡ true
 dashes_first end_dashes ss e r = ends_part_begins_none place.Block ss e r
 dashes_first (dash p d) ss e r = refl
 
-pub behind_dashes : (ss : List State) → EndsPart ss → BeginsNoNode place.Block (state.IndentlessSequenceEntry ∷ ss)
-behind_dashes ss e r = dashes_first r.0 ss e r.1
+pub after_dashes : (ss : List State) → EndsPart ss → BeginsNoNode place.Block (state.IndentlessSequenceEntry ∷ ss)
+after_dashes ss e r = dashes_first r.0 ss e r.1
 
-pub behind_pairs : (ss : List State) → EndsPart (state.BlockMappingKey ∷ ss)
-behind_pairs ss r = pairs_first r.0 _
+pub after_pairs : (ss : List State) → EndsPart (state.BlockMappingKey ∷ ss)
+after_pairs ss r = pairs_first r.0 _
 
-pub behind_after_key : (ss : List State) → EndsPart (state.BlockMappingValue ∷ ss)
-behind_after_key ss r = after_key_first r.0 _
+pub after_after_key : (ss : List State) → EndsPart (state.BlockMappingValue ∷ ss)
+after_after_key ss r = after_key_first r.0 _
 
-pub behind_more_items : (ss : List State) → BeginsNoNode place.Flow (state.FlowSequenceEntry ∷ ss)
-behind_more_items ss r = first_more ends_item (λ k. not (begins_node place.Flow k)) (λ k h. item_no_node place.Flow k (item_is_key k h)) _ (more_items_first r.0 _)
+pub after_more_items : (ss : List State) → BeginsNoNode place.Flow (state.FlowSequenceEntry ∷ ss)
+after_more_items ss r = first_more ends_item (λ k. not (begins_node place.Flow k)) (λ k h. item_no_node place.Flow k (item_is_key k h)) _ (more_items_first r.0 _)
 
-pub behind_pair_value : (ss : List State) → BeginsNoNode place.Flow (state.FlowSequenceEntryMappingValue ∷ ss)
-behind_pair_value ss r = first_more ends_item_key (λ k. not (begins_node place.Flow k)) (item_no_node place.Flow) _ (item_key_first r.0.0 r.0.1 _)
+pub after_pair_value : (ss : List State) → BeginsNoNode place.Flow (state.FlowSequenceEntryMappingValue ∷ ss)
+after_pair_value ss r = first_more ends_item_key (λ k. not (begins_node place.Flow k)) (item_no_node place.Flow) _ (item_key_first r.0.0 r.0.1 _)
 
-pub behind_pair_end : (ss : List State) → BeginsNoNode place.Flow (state.FlowSequenceEntryMappingEnd ∷ ss)
-behind_pair_end ss r = first_more ends_item (λ k. not (begins_node place.Flow k)) (λ k h. item_no_node place.Flow k (item_is_key k h)) _ (more_items_first r.0 _)
+pub after_pair_end : (ss : List State) → BeginsNoNode place.Flow (state.FlowSequenceEntryMappingEnd ∷ ss)
+after_pair_end ss r = first_more ends_item (λ k. not (begins_node place.Flow k)) (λ k h. item_no_node place.Flow k (item_is_key k h)) _ (more_items_first r.0 _)
 
-pub behind_more_flow : (ss : List State) → BeginsNoNode place.Flow (state.FlowMappingKey ∷ ss)
-behind_more_flow ss r = first_more ends_flow_pair (λ k. not (begins_node place.Flow k)) (λ k h. flow_pair_no_node place.Flow k (pair_is_key k h)) _ (more_pairs_first r.0 _)
+pub after_more_flow : (ss : List State) → BeginsNoNode place.Flow (state.FlowMappingKey ∷ ss)
+after_more_flow ss r = first_more ends_flow_pair (λ k. not (begins_node place.Flow k)) (λ k h. flow_pair_no_node place.Flow k (pair_is_key k h)) _ (more_pairs_first r.0 _)
 
-pub behind_flow_value : (ss : List State) → BeginsNoNode place.Flow (state.FlowMappingValue ∷ ss)
-behind_flow_value ss r = first_more ends_flow_key (λ k. not (begins_node place.Flow k)) (flow_pair_no_node place.Flow) _ (flow_key_first r.0.0 r.0.1 _)
+pub after_flow_value : (ss : List State) → BeginsNoNode place.Flow (state.FlowMappingValue ∷ ss)
+after_flow_value ss r = first_more ends_flow_key (λ k. not (begins_node place.Flow k)) (flow_pair_no_node place.Flow) _ (flow_key_first r.0.0 r.0.1 _)
 
-pub behind_flow_empty : (ss : List State) → BeginsNoNode place.Flow (state.FlowMappingEmptyValue ∷ ss)
-behind_flow_empty ss r = first_more ends_flow_pair (λ k. not (begins_node place.Flow k)) (λ k h. flow_pair_no_node place.Flow k (pair_is_key k h)) _ (more_pairs_first r.0 _)
+pub after_flow_empty : (ss : List State) → BeginsNoNode place.Flow (state.FlowMappingEmptyValue ∷ ss)
+after_flow_empty ss r = first_more ends_flow_pair (λ k. not (begins_node place.Flow k)) (λ k h. flow_pair_no_node place.Flow k (pair_is_key k h)) _ (more_pairs_first r.0 _)
 
 -- ---- a kind that is none of several
 

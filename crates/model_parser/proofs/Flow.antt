@@ -12,7 +12,7 @@ use Rattle.model_parser.specs.Kinds.{kind_of, begins_node, ends_item, ends_item_
 use Rattle.model_parser.specs.Goal as at
 use Rattle.model_parser.specs.Goal.{Comma, last, another, FlowComma, last_pair, another_pair}
 use Rattle.model_parser.specs.Turn.{Goes, Comes, Stays, Takes, Leaves, Refuses}
-use Rattle.model_parser.proofs.First.{clash, clash_cons, flow_node_first, more_items_first, item_key_first, more_pairs_first, flow_key_first, behind_more_items, behind_pair_value, behind_pair_end, behind_more_flow, behind_flow_value, behind_flow_empty}
+use Rattle.model_parser.proofs.First.{clash, clash_cons, flow_node_first, more_items_first, item_key_first, more_pairs_first, flow_key_first, after_more_items, after_pair_value, after_pair_end, after_more_flow, after_flow_value, after_flow_empty}
 use Rattle.model_parser.proofs.Nodes.{tail_eq}
 
 -- ---- a flow sequence
@@ -84,7 +84,7 @@ item_node_goes ss t a (single n, m) r h = (n, (m, r), refl, refl)
 item_node_goes ss t a (single_pair k v, m) r h = absurd (a (ap kind_of (sym h)))
 
 pub item_node : (ss : List State) (t : Tok) → kind_of t ≢ kind.Key → Leaves at.item ss (Some t) None (at.node place.Flow) (state.FlowSequenceEntry ∷ ss)
-item_node ss t a = record { nested = λ n f. ((f, n), (behind_more_items ss, tt)); comes = λ x' r'. ((single x', r'.0), r'.1, refl, refl); goes = λ n f. item_node_goes ss t a }
+item_node ss t a = record { nested = λ n f. ((f, n), (after_more_items ss, tt)); comes = λ x' r'. ((single x', r'.0), r'.1, refl, refl); goes = λ n f. item_node_goes ss t a }
 
 -- ---- a pair that is an item
 
@@ -100,7 +100,7 @@ pair_key_node_goes ss t a (no_flow, v, m) r h = absurd (clash ends_item_key _ t 
 pair_key_node_goes ss t a (some_flow n, v, m) r h = (n, ((v, m), r), refl, refl)
 
 pub pair_key_node : (ss : List State) (t : Tok) → ends_item_key (kind_of t) ≡ false → Leaves at.pair_key ss (Some t) None (at.node place.Flow) (state.FlowSequenceEntryMappingValue ∷ ss)
-pair_key_node ss t a = record { nested = λ n f. ((f, n), (behind_pair_value ss, tt)); comes = λ x' r'. ((some_flow x', r'.0.0, r'.0.1), r'.1, refl, refl); goes = λ n f. pair_key_node_goes ss t a }
+pair_key_node ss t a = record { nested = λ n f. ((f, n), (after_pair_value ss, tt)); comes = λ x' r'. ((some_flow x', r'.0.0, r'.0.1), r'.1, refl, refl); goes = λ n f. pair_key_node_goes ss t a }
 
 pair_value_value_goes : (ss : List State) (x : FlowValue × MoreItems) → Goes at.pair_value ss Tok.value None at.pair_valued ss x
 pair_value_value_goes ss (no_flow_value, end_items) r ts h = cc
@@ -130,7 +130,7 @@ pair_valued_node_goes ss t a (no_flow, m) r h = absurd (clash ends_item _ t (mor
 pair_valued_node_goes ss t a (some_flow n, m) r h = (n, (m, r), refl, refl)
 
 pub pair_valued_node : (ss : List State) (t : Tok) → ends_item (kind_of t) ≡ false → Leaves at.pair_valued ss (Some t) None (at.node place.Flow) (state.FlowSequenceEntryMappingEnd ∷ ss)
-pair_valued_node ss t a = record { nested = λ n f. ((f, n), (behind_pair_end ss, tt)); comes = λ x' r'. ((some_flow x', r'.0), r'.1, refl, refl); goes = λ n f. pair_valued_node_goes ss t a }
+pair_valued_node ss t a = record { nested = λ n f. ((f, n), (after_pair_end ss, tt)); comes = λ x' r'. ((some_flow x', r'.0), r'.1, refl, refl); goes = λ n f. pair_valued_node_goes ss t a }
 
 pub pair_ends : (ss : List State) (p : Option Tok) → Leaves at.pair_end ss p (Some Raw.mapping_end) at.done (state.FlowSequenceEntry ∷ ss)
 pair_ends ss p = record { nested = λ n f. ((f, n), tt); comes = λ x' r'. (r'.0, r'.1, refl, refl); goes = λ n f x r h. (tt, (x, r), refl, refl) }
@@ -216,7 +216,7 @@ flow_pair_node_goes ss t a b (flow_keyless v, m) r h = absurd (b (ap kind_of (sy
 flow_pair_node_goes ss t a b (flow_single n, m) r h = (n, (m, r), refl, refl)
 
 pub flow_pair_node : (ss : List State) (t : Tok) → kind_of t ≢ kind.Key → kind_of t ≢ kind.Value → Leaves at.flow_pair ss (Some t) None (at.node place.Flow) (state.FlowMappingEmptyValue ∷ ss)
-flow_pair_node ss t a b = record { nested = λ n f. ((f, n), (behind_flow_empty ss, tt)); comes = λ x' r'. ((flow_single x', r'.0), r'.1, refl, refl); goes = λ n f. flow_pair_node_goes ss t a b }
+flow_pair_node ss t a b = record { nested = λ n f. ((f, n), (after_flow_empty ss, tt)); comes = λ x' r'. ((flow_single x', r'.0), r'.1, refl, refl); goes = λ n f. flow_pair_node_goes ss t a b }
 
 flow_key_empty_goes : (ss : List State) (t : Tok) → begins_node place.Flow (kind_of t) ≡ false → (x : PerhapsFlow × FlowValue × MoreFlowPairs) → Stays at.flow_key ss (Some t) (Some nothing_written) at.done (state.FlowMappingValue ∷ ss) x
 flow_key_empty_goes ss t a (no_flow, v, m) r h = (tt, ((v, m), r), refl, refl)
@@ -230,7 +230,7 @@ flow_key_node_goes ss t a (no_flow, v, m) r h = absurd (clash ends_flow_key _ t 
 flow_key_node_goes ss t a (some_flow n, v, m) r h = (n, ((v, m), r), refl, refl)
 
 pub flow_key_node : (ss : List State) (t : Tok) → ends_flow_key (kind_of t) ≡ false → Leaves at.flow_key ss (Some t) None (at.node place.Flow) (state.FlowMappingValue ∷ ss)
-flow_key_node ss t a = record { nested = λ n f. ((f, n), (behind_flow_value ss, tt)); comes = λ x' r'. ((some_flow x', r'.0.0, r'.0.1), r'.1, refl, refl); goes = λ n f. flow_key_node_goes ss t a }
+flow_key_node ss t a = record { nested = λ n f. ((f, n), (after_flow_value ss, tt)); comes = λ x' r'. ((some_flow x', r'.0.0, r'.0.1), r'.1, refl, refl); goes = λ n f. flow_key_node_goes ss t a }
 
 flow_after_value_goes : (ss : List State) (x : FlowValue × MoreFlowPairs) → Goes at.flow_after_key ss Tok.value None at.flow_valued ss x
 flow_after_value_goes ss (no_flow_value, end_flow_pairs) r ts h = cc
@@ -260,7 +260,7 @@ flow_valued_node_goes ss t a (no_flow, m) r h = absurd (clash ends_flow_pair _ t
 flow_valued_node_goes ss t a (some_flow n, m) r h = (n, (m, r), refl, refl)
 
 pub flow_valued_node : (ss : List State) (t : Tok) → ends_flow_pair (kind_of t) ≡ false → Leaves at.flow_valued ss (Some t) None (at.node place.Flow) (state.FlowMappingKey ∷ ss)
-flow_valued_node ss t a = record { nested = λ n f. ((f, n), (behind_more_flow ss, tt)); comes = λ x' r'. ((some_flow x', r'.0), r'.1, refl, refl); goes = λ n f. flow_valued_node_goes ss t a }
+flow_valued_node ss t a = record { nested = λ n f. ((f, n), (after_more_flow ss, tt)); comes = λ x' r'. ((some_flow x', r'.0), r'.1, refl, refl); goes = λ n f. flow_valued_node_goes ss t a }
 
 pub flow_empties : (ss : List State) (p : Option Tok) → Leaves at.flow_empty ss p (Some nothing_written) at.done (state.FlowMappingKey ∷ ss)
 flow_empties ss p = record { nested = λ n f. ((f, n), tt); comes = λ x' r'. (r'.0, r'.1, refl, refl); goes = λ n f x r h. (tt, (x, r), refl, refl) }

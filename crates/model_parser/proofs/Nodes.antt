@@ -16,7 +16,7 @@ use Rattle.model_parser.specs.Goal.{NodeAt, ContentAt, part_node, part_sequence,
 use Rattle.model_parser.specs.Rest.{Rest, rest_tokens, rest_events, EndsNode}
 use Rattle.model_parser.specs.Turn.{Goes, Comes, Stays, Takes, Leaves, Refuses}
 use Rattle.model_parser.specs.Stands.{Begins}
-use Rattle.model_parser.proofs.First.{clash, clash_cons, begins_some, content_first, flow_content_first, content_at_first, behind_begins_none, ends_part_begins_none, block_begins_fewer, first_more, first_token}
+use Rattle.model_parser.proofs.First.{clash, clash_cons, begins_some, content_first, flow_content_first, content_at_first, after_begins_none, ends_part_begins_none, block_begins_fewer, first_more, first_token}
 
 -- ---- a node is an alias, or properties and a content of which one at least is there
 
@@ -78,9 +78,9 @@ alias_node place.Part name = (part_node (block_alias name), record { tokens = λ
 
 -- ---- what may come where a content may stand
 
--- nothing there, and then what stands behind the node
+-- nothing there, and then what stands after the node
 none_begins : (p : Place) (ss : List State) → EndsNode p ss → (r : Rest ss) (t : Tok) → Begins (Some t) (rest_tokens ss r) → begins_node p (kind_of t) ≡ true → ⊥
-none_begins p ss b r t h e = let f : not (begins_node p (kind_of t)) ≡ true = first_token (λ k. not (begins_node p k)) _ t (behind_begins_none p ss b r) h in
+none_begins p ss b r t h e = let f : not (begins_node p (kind_of t)) ≡ true = first_token (λ k. not (begins_node p k)) _ t (after_begins_none p ss b r) h in
     let g : not true ≡ true = ap not (sym e) ∙ f in cc
 
 alias_no_content : (p : Place) → begins_content p kind.Alias ≡ false
@@ -164,7 +164,7 @@ anchor_split p ss b (Some (tagged t)) c r a ts h = cc
 anchor_split p ss b (Some (anchored_tagged a' t)) c r a ts h = let e : a' ≡ a = cc in record { other_tag = Some t; are = ap (λ x. Some (anchored_tagged x t)) e; tokens = tail_eq h }
 anchor_split p ss b (Some (tagged_anchored t a')) c r a ts h = cc
 
-node_anchor_goes : (p : Place) (ss : List State) (a : List ℕ) (n : NodeAt p) → EndsNode p ss → Case p n → Goes (at.node p) ss (Tok.anchor a) None (at.behind_anchor p a) ss n
+node_anchor_goes : (p : Place) (ss : List State) (a : List ℕ) (n : NodeAt p) → EndsNode p ss → Case p n → Goes (at.node p) ss (Tok.anchor a) None (at.after_anchor p a) ss n
 node_anchor_goes p ss a n b (is_alias m i) r ts h = let e : Tok.alias m ∷ rest_tokens ss r ≡ Tok.anchor a ∷ ts = sym (i.tokens _) ∙ h in cc
 node_anchor_goes p ss a n b (is_written w) r ts h =
     let s = anchor_split p ss b w.properties w.inner r a ts (sym (w.tokens _) ∙ h) in
@@ -174,10 +174,10 @@ node_anchor_tokens : (a : List ℕ) (t : Option Tag) (us : List Tok) → perhaps
 node_anchor_tokens a None us = refl
 node_anchor_tokens a (Some t) us = refl
 
-node_anchor_comes : (p : Place) (ss : List State) (a : List ℕ) (x : Option Tag × Option (ContentAt p)) → Made p (Some (anchor_and a x.0)) x.1 → Comes (at.node p) ss (Tok.anchor a ∷ []) None (at.behind_anchor p a) ss x
+node_anchor_comes : (p : Place) (ss : List State) (a : List ℕ) (x : Option Tag × Option (ContentAt p)) → Made p (Some (anchor_and a x.0)) x.1 → Comes (at.node p) ss (Tok.anchor a ∷ []) None (at.after_anchor p a) ss x
 node_anchor_comes p ss a x m r' = (m.made, r', m.tokens _ ∙ node_anchor_tokens a x.0 _, m.events _)
 
-pub node_anchor : (p : Place) (ss : List State) (a : List ℕ) → Takes (at.node p) ss (Tok.anchor a) None (at.behind_anchor p a) ss
+pub node_anchor : (p : Place) (ss : List State) (a : List ℕ) → Takes (at.node p) ss (Tok.anchor a) None (at.after_anchor p a) ss
 node_anchor p ss a = record { nested = λ n f. (n, f); comes = λ x'. node_anchor_comes p ss a x' (make p (Some (anchor_and a x'.0)) x'.1 tt); goes = λ n f x. node_anchor_goes p ss a x f.0 (case_of p x) }
 
 -- ---- a tag
@@ -195,7 +195,7 @@ tag_split p ss b (Some (tagged t')) c r t ts h = record { other_anchor = None; a
 tag_split p ss b (Some (anchored_tagged a t')) c r t ts h = cc
 tag_split p ss b (Some (tagged_anchored t' a)) c r t ts h = record { other_anchor = Some a; are = ap (λ x. Some (tagged_anchored x a)) (tag_eq t' t (head_eq h)); tokens = tail_eq h }
 
-node_tag_goes : (p : Place) (ss : List State) (t : Tag) (n : NodeAt p) → EndsNode p ss → Case p n → Goes (at.node p) ss (tag_token t) None (at.behind_tag p t) ss n
+node_tag_goes : (p : Place) (ss : List State) (t : Tag) (n : NodeAt p) → EndsNode p ss → Case p n → Goes (at.node p) ss (tag_token t) None (at.after_tag p t) ss n
 node_tag_goes p ss t n b (is_alias m i) r ts h = let e : Tok.alias m ∷ rest_tokens ss r ≡ tag_token t ∷ ts = sym (i.tokens _) ∙ h in cc
 node_tag_goes p ss t n b (is_written w) r ts h =
     let s = tag_split p ss b w.properties w.inner r t ts (sym (w.tokens _) ∙ h) in
@@ -205,10 +205,10 @@ node_tag_tokens : (t : Tag) (a : Option (List ℕ)) (us : List Tok) → perhaps_
 node_tag_tokens t None us = refl
 node_tag_tokens t (Some a) us = refl
 
-node_tag_comes : (p : Place) (ss : List State) (t : Tag) (x : Option (List ℕ) × Option (ContentAt p)) → Made p (Some (tag_and t x.0)) x.1 → Comes (at.node p) ss (tag_token t ∷ []) None (at.behind_tag p t) ss x
+node_tag_comes : (p : Place) (ss : List State) (t : Tag) (x : Option (List ℕ) × Option (ContentAt p)) → Made p (Some (tag_and t x.0)) x.1 → Comes (at.node p) ss (tag_token t ∷ []) None (at.after_tag p t) ss x
 node_tag_comes p ss t x m r' = (m.made, r', m.tokens _ ∙ node_tag_tokens t x.0 _, m.events _)
 
-pub node_tag : (p : Place) (ss : List State) (t : Tag) → Takes (at.node p) ss (tag_token t) None (at.behind_tag p t) ss
+pub node_tag : (p : Place) (ss : List State) (t : Tag) → Takes (at.node p) ss (tag_token t) None (at.after_tag p t) ss
 node_tag p ss t = record { nested = λ n f. (n, f); comes = λ x'. node_tag_comes p ss t x' (make p (Some (tag_and t x'.0)) x'.1 tt); goes = λ n f x. node_tag_goes p ss t x f.0 (case_of p x) }
 
 -- ---- no properties
@@ -232,45 +232,45 @@ node_content_comes p ss x m r' = (m.made, r', m.tokens _, m.events _)
 pub node_content : (p : Place) (ss : List State) (t : Tok) → kind_of t ≢ kind.Alias → kind_of t ≢ kind.Anchor → kind_of t ≢ kind.Tag → Leaves (at.node p) ss (Some t) None (at.after_properties p None) ss
 node_content p ss t a b d = record { nested = λ n f. (n, f); comes = λ x'. node_content_comes p ss x' (make p None x'.0 x'.1); goes = λ n f x. node_content_goes p ss t a b d x (case_of p x) }
 
--- ---- behind an anchor, or a tag
+-- ---- after an anchor, or a tag
 
-anchor_tag_goes : (p : Place) (ss : List State) (a : List ℕ) (t : Tag) → EndsNode p ss → (x : Option Tag × Option (ContentAt p)) → Goes (at.behind_anchor p a) ss (tag_token t) None (at.after_properties p (Some (anchored_tagged a t))) ss x
+anchor_tag_goes : (p : Place) (ss : List State) (a : List ℕ) (t : Tag) → EndsNode p ss → (x : Option Tag × Option (ContentAt p)) → Goes (at.after_anchor p a) ss (tag_token t) None (at.after_properties p (Some (anchored_tagged a t))) ss x
 anchor_tag_goes p ss a t b (None, c) r ts h = absurd (no_property p ss b c r (tag_token t) (begins_some (tag_token t) ts _ h) refl (tag_no_content p))
 anchor_tag_goes p ss a t b (Some t', c) r ts h = ((c, tt), r, tail_eq h, ap (λ x. perhaps_content_events p (Some (anchored_tagged a x)) c (rest_events ss r)) (tag_eq t' t (head_eq h)))
 
-pub anchor_tag : (p : Place) (ss : List State) (a : List ℕ) (t : Tag) → Takes (at.behind_anchor p a) ss (tag_token t) None (at.after_properties p (Some (anchored_tagged a t))) ss
+pub anchor_tag : (p : Place) (ss : List State) (a : List ℕ) (t : Tag) → Takes (at.after_anchor p a) ss (tag_token t) None (at.after_properties p (Some (anchored_tagged a t))) ss
 anchor_tag p ss a t = record { nested = λ n f. (n, f); comes = λ x' r'. ((Some t, x'.0), r', refl, refl); goes = λ n f. anchor_tag_goes p ss a t f.0 }
 
-anchor_alone_goes : (p : Place) (ss : List State) (a : List ℕ) (t : Tok) → kind_of t ≢ kind.Tag → (x : Option Tag × Option (ContentAt p)) → Stays (at.behind_anchor p a) ss (Some t) None (at.after_properties p (Some (anchored a))) ss x
+anchor_alone_goes : (p : Place) (ss : List State) (a : List ℕ) (t : Tok) → kind_of t ≢ kind.Tag → (x : Option Tag × Option (ContentAt p)) → Stays (at.after_anchor p a) ss (Some t) None (at.after_properties p (Some (anchored a))) ss x
 anchor_alone_goes p ss a t d (None, c) r h = ((c, tt), r, refl, refl)
 anchor_alone_goes p ss a t d (Some t', c) r h = absurd (d (ap kind_of (sym h)))
 
-pub anchor_alone : (p : Place) (ss : List State) (a : List ℕ) (t : Tok) → kind_of t ≢ kind.Tag → Leaves (at.behind_anchor p a) ss (Some t) None (at.after_properties p (Some (anchored a))) ss
+pub anchor_alone : (p : Place) (ss : List State) (a : List ℕ) (t : Tok) → kind_of t ≢ kind.Tag → Leaves (at.after_anchor p a) ss (Some t) None (at.after_properties p (Some (anchored a))) ss
 anchor_alone p ss a t d = record { nested = λ n f. (n, f); comes = λ x' r'. ((None, x'.0), r', refl, refl); goes = λ n f. anchor_alone_goes p ss a t d }
 
-tag_anchor_goes : (p : Place) (ss : List State) (t : Tag) (a : List ℕ) → EndsNode p ss → (x : Option (List ℕ) × Option (ContentAt p)) → Goes (at.behind_tag p t) ss (Tok.anchor a) None (at.after_properties p (Some (tagged_anchored t a))) ss x
+tag_anchor_goes : (p : Place) (ss : List State) (t : Tag) (a : List ℕ) → EndsNode p ss → (x : Option (List ℕ) × Option (ContentAt p)) → Goes (at.after_tag p t) ss (Tok.anchor a) None (at.after_properties p (Some (tagged_anchored t a))) ss x
 tag_anchor_goes p ss t a b (None, c) r ts h = absurd (no_property p ss b c r (Tok.anchor a) (begins_some (Tok.anchor a) ts _ h) refl (anchor_no_content p))
 tag_anchor_goes p ss t a b (Some a', c) r ts h = let e : a' ≡ a = cc in ((c, tt), r, tail_eq h, ap (λ x. perhaps_content_events p (Some (tagged_anchored t x)) c (rest_events ss r)) e)
 
-pub tag_anchor : (p : Place) (ss : List State) (t : Tag) (a : List ℕ) → Takes (at.behind_tag p t) ss (Tok.anchor a) None (at.after_properties p (Some (tagged_anchored t a))) ss
+pub tag_anchor : (p : Place) (ss : List State) (t : Tag) (a : List ℕ) → Takes (at.after_tag p t) ss (Tok.anchor a) None (at.after_properties p (Some (tagged_anchored t a))) ss
 tag_anchor p ss t a = record { nested = λ n f. (n, f); comes = λ x' r'. ((Some a, x'.0), r', refl, refl); goes = λ n f. tag_anchor_goes p ss t a f.0 }
 
-tag_alone_goes : (p : Place) (ss : List State) (t : Tag) (u : Tok) → kind_of u ≢ kind.Anchor → (x : Option (List ℕ) × Option (ContentAt p)) → Stays (at.behind_tag p t) ss (Some u) None (at.after_properties p (Some (tagged t))) ss x
+tag_alone_goes : (p : Place) (ss : List State) (t : Tag) (u : Tok) → kind_of u ≢ kind.Anchor → (x : Option (List ℕ) × Option (ContentAt p)) → Stays (at.after_tag p t) ss (Some u) None (at.after_properties p (Some (tagged t))) ss x
 tag_alone_goes p ss t u d (None, c) r h = ((c, tt), r, refl, refl)
 tag_alone_goes p ss t u d (Some a, c) r h = absurd (d (ap kind_of (sym h)))
 
-pub tag_alone : (p : Place) (ss : List State) (t : Tag) (u : Tok) → kind_of u ≢ kind.Anchor → Leaves (at.behind_tag p t) ss (Some u) None (at.after_properties p (Some (tagged t))) ss
+pub tag_alone : (p : Place) (ss : List State) (t : Tag) (u : Tok) → kind_of u ≢ kind.Anchor → Leaves (at.after_tag p t) ss (Some u) None (at.after_properties p (Some (tagged t))) ss
 tag_alone p ss t u d = record { nested = λ n f. (n, f); comes = λ x' r'. ((None, x'.0), r', refl, refl); goes = λ n f. tag_alone_goes p ss t u d }
 
 -- ---- a content
 
-behind_dash_goes : (ss : List State) (o : Option Properties) → EndsNode place.Part ss → (x : Awaits (at.after_properties place.Part o)) → Goes (at.after_properties place.Part o) ss Tok.block_entry (Some (Raw.sequence_start (perhaps_anchor_of o) (perhaps_tag_of o))) at.done (state.IndentlessSequenceItem ∷ ss) x
-behind_dash_goes ss o b (None, i) r ts h = absurd (none_begins place.Part ss b r Tok.block_entry (begins_some Tok.block_entry ts _ h) refl)
-behind_dash_goes ss o b (Some (part_content c), i) r ts h = absurd (clash_cons (begins_content place.Block) _ Tok.block_entry ts (content_first c _) refl h)
-behind_dash_goes ss o b (Some (part_dashes q d), i) r ts h = (tt, ((q, d), r), tail_eq h, refl)
+after_dash_goes : (ss : List State) (o : Option Properties) → EndsNode place.Part ss → (x : Awaits (at.after_properties place.Part o)) → Goes (at.after_properties place.Part o) ss Tok.block_entry (Some (Raw.sequence_start (perhaps_anchor_of o) (perhaps_tag_of o))) at.done (state.IndentlessSequenceItem ∷ ss) x
+after_dash_goes ss o b (None, i) r ts h = absurd (none_begins place.Part ss b r Tok.block_entry (begins_some Tok.block_entry ts _ h) refl)
+after_dash_goes ss o b (Some (part_content c), i) r ts h = absurd (clash_cons (begins_content place.Block) _ Tok.block_entry ts (content_first c _) refl h)
+after_dash_goes ss o b (Some (part_dashes q d), i) r ts h = (tt, ((q, d), r), tail_eq h, refl)
 
-pub behind_dash : (ss : List State) (o : Option Properties) → Takes (at.after_properties place.Part o) ss Tok.block_entry (Some (Raw.sequence_start (perhaps_anchor_of o) (perhaps_tag_of o))) at.done (state.IndentlessSequenceItem ∷ ss)
-behind_dash ss o = record { nested = λ n f. ((f, n), tt); comes = λ x' r'. ((Some (part_dashes r'.0.0 r'.0.1), there_some o _), r'.1, refl, refl); goes = λ n f. behind_dash_goes ss o f.0 }
+pub after_dash : (ss : List State) (o : Option Properties) → Takes (at.after_properties place.Part o) ss Tok.block_entry (Some (Raw.sequence_start (perhaps_anchor_of o) (perhaps_tag_of o))) at.done (state.IndentlessSequenceItem ∷ ss)
+after_dash ss o = record { nested = λ n f. ((f, n), tt); comes = λ x' r'. ((Some (part_dashes r'.0.0 r'.0.1), there_some o _), r'.1, refl, refl); goes = λ n f. after_dash_goes ss o f.0 }
 
 part_block_goes : (ss : List State) (o : Option Properties) (t : Tok) → kind_of t ≢ kind.BlockEntry → (x : Awaits (at.after_properties place.Part o)) → Stays (at.after_properties place.Part o) ss (Some t) None (at.after_properties place.Block o) ss x
 part_block_goes ss o t a (None, i) r h = ((None, there_none (ContentAt place.Part) (ContentAt place.Block) o i), r, refl, refl)
@@ -284,27 +284,27 @@ part_block_comes ss o (Some c, i) r' = ((Some (part_content c), there_some o _),
 pub part_block : (ss : List State) (o : Option Properties) (t : Tok) → kind_of t ≢ kind.BlockEntry → Leaves (at.after_properties place.Part o) ss (Some t) None (at.after_properties place.Block o) ss
 part_block ss o t a = record { nested = λ n f. (n, (ends_part_begins_none place.Block ss f.0, f.1)); comes = part_block_comes ss o; goes = λ n f. part_block_goes ss o t a }
 
-behind_sequence_goes : (ss : List State) (o : Option Properties) → EndsNode place.Block ss → (x : Awaits (at.after_properties place.Block o)) → Goes (at.after_properties place.Block o) ss Tok.block_sequence_start (Some (Raw.sequence_start (perhaps_anchor_of o) (perhaps_tag_of o))) at.done (state.BlockSequenceEntry ∷ ss) x
-behind_sequence_goes ss o b (None, i) r ts h = absurd (none_begins place.Block ss b r Tok.block_sequence_start (begins_some Tok.block_sequence_start ts _ h) refl)
-behind_sequence_goes ss o b (Some (block_sequence x), i) r ts h = (tt, (x, r), tail_eq h, refl)
-behind_sequence_goes ss o b (Some (block_mapping x), i) r ts h = cc
-behind_sequence_goes ss o b (Some (flow (scalar y x)), i) r ts h = cc
-behind_sequence_goes ss o b (Some (flow (flow_sequence x)), i) r ts h = cc
-behind_sequence_goes ss o b (Some (flow (flow_mapping x)), i) r ts h = cc
+after_sequence_goes : (ss : List State) (o : Option Properties) → EndsNode place.Block ss → (x : Awaits (at.after_properties place.Block o)) → Goes (at.after_properties place.Block o) ss Tok.block_sequence_start (Some (Raw.sequence_start (perhaps_anchor_of o) (perhaps_tag_of o))) at.done (state.BlockSequenceEntry ∷ ss) x
+after_sequence_goes ss o b (None, i) r ts h = absurd (none_begins place.Block ss b r Tok.block_sequence_start (begins_some Tok.block_sequence_start ts _ h) refl)
+after_sequence_goes ss o b (Some (block_sequence x), i) r ts h = (tt, (x, r), tail_eq h, refl)
+after_sequence_goes ss o b (Some (block_mapping x), i) r ts h = cc
+after_sequence_goes ss o b (Some (flow (scalar y x)), i) r ts h = cc
+after_sequence_goes ss o b (Some (flow (flow_sequence x)), i) r ts h = cc
+after_sequence_goes ss o b (Some (flow (flow_mapping x)), i) r ts h = cc
 
-pub behind_sequence : (ss : List State) (o : Option Properties) → Takes (at.after_properties place.Block o) ss Tok.block_sequence_start (Some (Raw.sequence_start (perhaps_anchor_of o) (perhaps_tag_of o))) at.done (state.BlockSequenceEntry ∷ ss)
-behind_sequence ss o = record { nested = λ n f. ((f.1, n), tt); comes = λ x' r'. ((Some (block_sequence r'.0), there_some o _), r'.1, refl, refl); goes = λ n f. behind_sequence_goes ss o f.0 }
+pub after_sequence : (ss : List State) (o : Option Properties) → Takes (at.after_properties place.Block o) ss Tok.block_sequence_start (Some (Raw.sequence_start (perhaps_anchor_of o) (perhaps_tag_of o))) at.done (state.BlockSequenceEntry ∷ ss)
+after_sequence ss o = record { nested = λ n f. ((f.1, n), tt); comes = λ x' r'. ((Some (block_sequence r'.0), there_some o _), r'.1, refl, refl); goes = λ n f. after_sequence_goes ss o f.0 }
 
-behind_mapping_goes : (ss : List State) (o : Option Properties) → EndsNode place.Block ss → (x : Awaits (at.after_properties place.Block o)) → Goes (at.after_properties place.Block o) ss Tok.block_mapping_start (Some (Raw.mapping_start (perhaps_anchor_of o) (perhaps_tag_of o))) at.done (state.BlockMappingKey ∷ ss) x
-behind_mapping_goes ss o b (None, i) r ts h = absurd (none_begins place.Block ss b r Tok.block_mapping_start (begins_some Tok.block_mapping_start ts _ h) refl)
-behind_mapping_goes ss o b (Some (block_mapping x), i) r ts h = (tt, (x, r), tail_eq h, refl)
-behind_mapping_goes ss o b (Some (block_sequence x), i) r ts h = cc
-behind_mapping_goes ss o b (Some (flow (scalar y x)), i) r ts h = cc
-behind_mapping_goes ss o b (Some (flow (flow_sequence x)), i) r ts h = cc
-behind_mapping_goes ss o b (Some (flow (flow_mapping x)), i) r ts h = cc
+after_mapping_goes : (ss : List State) (o : Option Properties) → EndsNode place.Block ss → (x : Awaits (at.after_properties place.Block o)) → Goes (at.after_properties place.Block o) ss Tok.block_mapping_start (Some (Raw.mapping_start (perhaps_anchor_of o) (perhaps_tag_of o))) at.done (state.BlockMappingKey ∷ ss) x
+after_mapping_goes ss o b (None, i) r ts h = absurd (none_begins place.Block ss b r Tok.block_mapping_start (begins_some Tok.block_mapping_start ts _ h) refl)
+after_mapping_goes ss o b (Some (block_mapping x), i) r ts h = (tt, (x, r), tail_eq h, refl)
+after_mapping_goes ss o b (Some (block_sequence x), i) r ts h = cc
+after_mapping_goes ss o b (Some (flow (scalar y x)), i) r ts h = cc
+after_mapping_goes ss o b (Some (flow (flow_sequence x)), i) r ts h = cc
+after_mapping_goes ss o b (Some (flow (flow_mapping x)), i) r ts h = cc
 
-pub behind_mapping : (ss : List State) (o : Option Properties) → Takes (at.after_properties place.Block o) ss Tok.block_mapping_start (Some (Raw.mapping_start (perhaps_anchor_of o) (perhaps_tag_of o))) at.done (state.BlockMappingKey ∷ ss)
-behind_mapping ss o = record { nested = λ n f. ((f.1, n), tt); comes = λ x' r'. ((Some (block_mapping r'.0), there_some o _), r'.1, refl, refl); goes = λ n f. behind_mapping_goes ss o f.0 }
+pub after_mapping : (ss : List State) (o : Option Properties) → Takes (at.after_properties place.Block o) ss Tok.block_mapping_start (Some (Raw.mapping_start (perhaps_anchor_of o) (perhaps_tag_of o))) at.done (state.BlockMappingKey ∷ ss)
+after_mapping ss o = record { nested = λ n f. ((f.1, n), tt); comes = λ x' r'. ((Some (block_mapping r'.0), there_some o _), r'.1, refl, refl); goes = λ n f. after_mapping_goes ss o f.0 }
 
 block_flow_goes : (ss : List State) (o : Option Properties) (t : Tok) → kind_of t ≢ kind.BlockSequenceStart → kind_of t ≢ kind.BlockMappingStart → (x : Awaits (at.after_properties place.Block o)) → Stays (at.after_properties place.Block o) ss (Some t) None (at.after_properties place.Flow o) ss x
 block_flow_goes ss o t a b (None, i) r h = ((None, there_none (ContentAt place.Block) (ContentAt place.Flow) o i), r, refl, refl)
@@ -316,38 +316,38 @@ block_flow_comes : (ss : List State) (o : Option Properties) (x : Awaits (at.aft
 block_flow_comes ss o (None, i) r' = ((None, there_none (ContentAt place.Flow) (ContentAt place.Block) o i), r', refl, refl)
 block_flow_comes ss o (Some c, i) r' = ((Some (flow c), there_some o _), r', refl, refl)
 
-block_flow_behind : (ss : List State) → EndsNode place.Block ss → EndsNode place.Flow ss
-block_flow_behind ss b r = first_more (λ k. not (begins_node place.Block k)) (λ k. not (begins_node place.Flow k)) block_begins_fewer (rest_tokens ss r) (b r)
+block_flow_after : (ss : List State) → EndsNode place.Block ss → EndsNode place.Flow ss
+block_flow_after ss b r = first_more (λ k. not (begins_node place.Block k)) (λ k. not (begins_node place.Flow k)) block_begins_fewer (rest_tokens ss r) (b r)
 
 pub block_flow : (ss : List State) (o : Option Properties) (t : Tok) → kind_of t ≢ kind.BlockSequenceStart → kind_of t ≢ kind.BlockMappingStart → Leaves (at.after_properties place.Block o) ss (Some t) None (at.after_properties place.Flow o) ss
-block_flow ss o t a b = record { nested = λ n f. (n, (block_flow_behind ss f.0, f.1)); comes = block_flow_comes ss o; goes = λ n f. block_flow_goes ss o t a b }
+block_flow ss o t a b = record { nested = λ n f. (n, (block_flow_after ss f.0, f.1)); comes = block_flow_comes ss o; goes = λ n f. block_flow_goes ss o t a b }
 
-behind_scalar_goes : (ss : List State) (o : Option Properties) (y : Style) (v : List ℕ) → EndsNode place.Flow ss → (x : Awaits (at.after_properties place.Flow o)) → Goes (at.after_properties place.Flow o) ss (Tok.scalar y v) (Some (Raw.scalar v y (perhaps_anchor_of o) (perhaps_tag_of o))) at.done ss x
-behind_scalar_goes ss o y v b (None, i) r ts h = absurd (none_begins place.Flow ss b r (Tok.scalar y v) (begins_some (Tok.scalar y v) ts _ h) refl)
-behind_scalar_goes ss o y v b (Some (scalar y' v'), i) r ts h = (tt, r, cc, cc)
-behind_scalar_goes ss o y v b (Some (flow_sequence x), i) r ts h = cc
-behind_scalar_goes ss o y v b (Some (flow_mapping x), i) r ts h = cc
+after_scalar_goes : (ss : List State) (o : Option Properties) (y : Style) (v : List ℕ) → EndsNode place.Flow ss → (x : Awaits (at.after_properties place.Flow o)) → Goes (at.after_properties place.Flow o) ss (Tok.scalar y v) (Some (Raw.scalar v y (perhaps_anchor_of o) (perhaps_tag_of o))) at.done ss x
+after_scalar_goes ss o y v b (None, i) r ts h = absurd (none_begins place.Flow ss b r (Tok.scalar y v) (begins_some (Tok.scalar y v) ts _ h) refl)
+after_scalar_goes ss o y v b (Some (scalar y' v'), i) r ts h = (tt, r, cc, cc)
+after_scalar_goes ss o y v b (Some (flow_sequence x), i) r ts h = cc
+after_scalar_goes ss o y v b (Some (flow_mapping x), i) r ts h = cc
 
-pub behind_scalar : (ss : List State) (o : Option Properties) (y : Style) (v : List ℕ) → Takes (at.after_properties place.Flow o) ss (Tok.scalar y v) (Some (Raw.scalar v y (perhaps_anchor_of o) (perhaps_tag_of o))) at.done ss
-behind_scalar ss o y v = record { nested = λ n f. (n, f.1); comes = λ x' r'. ((Some (scalar y v), there_some o _), r', refl, refl); goes = λ n f. behind_scalar_goes ss o y v f.0 }
+pub after_scalar : (ss : List State) (o : Option Properties) (y : Style) (v : List ℕ) → Takes (at.after_properties place.Flow o) ss (Tok.scalar y v) (Some (Raw.scalar v y (perhaps_anchor_of o) (perhaps_tag_of o))) at.done ss
+after_scalar ss o y v = record { nested = λ n f. (n, f.1); comes = λ x' r'. ((Some (scalar y v), there_some o _), r', refl, refl); goes = λ n f. after_scalar_goes ss o y v f.0 }
 
-behind_brackets_goes : (ss : List State) (o : Option Properties) → EndsNode place.Flow ss → (x : Awaits (at.after_properties place.Flow o)) → Goes (at.after_properties place.Flow o) ss Tok.flow_sequence_start (Some (Raw.flow_sequence_start (perhaps_anchor_of o) (perhaps_tag_of o))) at.done (state.FlowSequenceFirstEntry ∷ ss) x
-behind_brackets_goes ss o b (None, i) r ts h = absurd (none_begins place.Flow ss b r Tok.flow_sequence_start (begins_some Tok.flow_sequence_start ts _ h) refl)
-behind_brackets_goes ss o b (Some (scalar y v), i) r ts h = cc
-behind_brackets_goes ss o b (Some (flow_sequence x), i) r ts h = (tt, (x, r), tail_eq h, refl)
-behind_brackets_goes ss o b (Some (flow_mapping x), i) r ts h = cc
+after_brackets_goes : (ss : List State) (o : Option Properties) → EndsNode place.Flow ss → (x : Awaits (at.after_properties place.Flow o)) → Goes (at.after_properties place.Flow o) ss Tok.flow_sequence_start (Some (Raw.flow_sequence_start (perhaps_anchor_of o) (perhaps_tag_of o))) at.done (state.FlowSequenceFirstEntry ∷ ss) x
+after_brackets_goes ss o b (None, i) r ts h = absurd (none_begins place.Flow ss b r Tok.flow_sequence_start (begins_some Tok.flow_sequence_start ts _ h) refl)
+after_brackets_goes ss o b (Some (scalar y v), i) r ts h = cc
+after_brackets_goes ss o b (Some (flow_sequence x), i) r ts h = (tt, (x, r), tail_eq h, refl)
+after_brackets_goes ss o b (Some (flow_mapping x), i) r ts h = cc
 
-pub behind_brackets : (ss : List State) (o : Option Properties) → Takes (at.after_properties place.Flow o) ss Tok.flow_sequence_start (Some (Raw.flow_sequence_start (perhaps_anchor_of o) (perhaps_tag_of o))) at.done (state.FlowSequenceFirstEntry ∷ ss)
-behind_brackets ss o = record { nested = λ n f. ((f.1, n), tt); comes = λ x' r'. ((Some (flow_sequence r'.0), there_some o _), r'.1, refl, refl); goes = λ n f. behind_brackets_goes ss o f.0 }
+pub after_brackets : (ss : List State) (o : Option Properties) → Takes (at.after_properties place.Flow o) ss Tok.flow_sequence_start (Some (Raw.flow_sequence_start (perhaps_anchor_of o) (perhaps_tag_of o))) at.done (state.FlowSequenceFirstEntry ∷ ss)
+after_brackets ss o = record { nested = λ n f. ((f.1, n), tt); comes = λ x' r'. ((Some (flow_sequence r'.0), there_some o _), r'.1, refl, refl); goes = λ n f. after_brackets_goes ss o f.0 }
 
-behind_braces_goes : (ss : List State) (o : Option Properties) → EndsNode place.Flow ss → (x : Awaits (at.after_properties place.Flow o)) → Goes (at.after_properties place.Flow o) ss Tok.flow_mapping_start (Some (Raw.flow_mapping_start (perhaps_anchor_of o) (perhaps_tag_of o))) at.done (state.FlowMappingFirstKey ∷ ss) x
-behind_braces_goes ss o b (None, i) r ts h = absurd (none_begins place.Flow ss b r Tok.flow_mapping_start (begins_some Tok.flow_mapping_start ts _ h) refl)
-behind_braces_goes ss o b (Some (scalar y v), i) r ts h = cc
-behind_braces_goes ss o b (Some (flow_sequence x), i) r ts h = cc
-behind_braces_goes ss o b (Some (flow_mapping x), i) r ts h = (tt, (x, r), tail_eq h, refl)
+after_braces_goes : (ss : List State) (o : Option Properties) → EndsNode place.Flow ss → (x : Awaits (at.after_properties place.Flow o)) → Goes (at.after_properties place.Flow o) ss Tok.flow_mapping_start (Some (Raw.flow_mapping_start (perhaps_anchor_of o) (perhaps_tag_of o))) at.done (state.FlowMappingFirstKey ∷ ss) x
+after_braces_goes ss o b (None, i) r ts h = absurd (none_begins place.Flow ss b r Tok.flow_mapping_start (begins_some Tok.flow_mapping_start ts _ h) refl)
+after_braces_goes ss o b (Some (scalar y v), i) r ts h = cc
+after_braces_goes ss o b (Some (flow_sequence x), i) r ts h = cc
+after_braces_goes ss o b (Some (flow_mapping x), i) r ts h = (tt, (x, r), tail_eq h, refl)
 
-pub behind_braces : (ss : List State) (o : Option Properties) → Takes (at.after_properties place.Flow o) ss Tok.flow_mapping_start (Some (Raw.flow_mapping_start (perhaps_anchor_of o) (perhaps_tag_of o))) at.done (state.FlowMappingFirstKey ∷ ss)
-behind_braces ss o = record { nested = λ n f. ((f.1, n), tt); comes = λ x' r'. ((Some (flow_mapping r'.0), there_some o _), r'.1, refl, refl); goes = λ n f. behind_braces_goes ss o f.0 }
+pub after_braces : (ss : List State) (o : Option Properties) → Takes (at.after_properties place.Flow o) ss Tok.flow_mapping_start (Some (Raw.flow_mapping_start (perhaps_anchor_of o) (perhaps_tag_of o))) at.done (state.FlowMappingFirstKey ∷ ss)
+after_braces ss o = record { nested = λ n f. ((f.1, n), tt); comes = λ x' r'. ((Some (flow_mapping r'.0), there_some o _), r'.1, refl, refl); goes = λ n f. after_braces_goes ss o f.0 }
 
 properties_only_goes : (ss : List State) (o : Properties) (t : Tok) → begins_content place.Flow (kind_of t) ≡ false → (x : Awaits (at.after_properties place.Flow (Some o))) → Stays (at.after_properties place.Flow (Some o)) ss (Some t) (Some (Raw.empty_scalar (anchor_of o) (tag_of o))) at.done ss x
 properties_only_goes ss o t a (None, i) r h = (tt, r, refl, refl)

@@ -23,8 +23,8 @@ pub data Goal : Type 0 where
   after : Goal
   node : Place → Goal
   -- after a node's anchor, its tag, its properties
-  behind_anchor : Place → List ℕ → Goal
-  behind_tag : Place → Tag → Goal
+  after_anchor : Place → List ℕ → Goal
+  after_tag : Place → Tag → Goal
   after_properties : Place → Option Properties → Goal
   entries : Goal
   -- after `-`
@@ -152,8 +152,8 @@ Awaits (directed ds) = List Directive × Perhaps × After
 Awaits content = Perhaps × After
 Awaits after = After
 Awaits (node p) = NodeAt p
-Awaits (behind_anchor p a) = Option Tag × Option (ContentAt p)
-Awaits (behind_tag p t) = Option (List ℕ) × Option (ContentAt p)
+Awaits (after_anchor p a) = Option Tag × Option (ContentAt p)
+Awaits (after_tag p t) = Option (List ℕ) × Option (ContentAt p)
 Awaits (after_properties p o) = (c : Option (ContentAt p)) × IsThere o c
 Awaits entries = Entries
 Awaits entry = Perhaps × Entries
@@ -191,8 +191,8 @@ goal_tokens (directed ds) x r = directives_tokens x.0 (Tok.document_start ∷ pe
 goal_tokens content x r = perhaps_tokens x.0 (after_tokens x.1 r)
 goal_tokens after x r = after_tokens x r
 goal_tokens (node p) x r = node_at_tokens p x r
-goal_tokens (behind_anchor p a) x r = perhaps_tag_tokens x.0 (perhaps_content_tokens p x.1 r)
-goal_tokens (behind_tag p t) x r = perhaps_anchor_tokens x.0 (perhaps_content_tokens p x.1 r)
+goal_tokens (after_anchor p a) x r = perhaps_tag_tokens x.0 (perhaps_content_tokens p x.1 r)
+goal_tokens (after_tag p t) x r = perhaps_anchor_tokens x.0 (perhaps_content_tokens p x.1 r)
 goal_tokens (after_properties p o) x r = perhaps_content_tokens p x.0 r
 goal_tokens entries x r = entries_tokens x r
 goal_tokens entry x r = perhaps_tokens x.0 (entries_tokens x.1 r)
@@ -232,8 +232,8 @@ goal_events (directed ds) x r = Raw.document_start (ds ++ x.0) ∷ perhaps_event
 goal_events content x r = perhaps_events x.0 (after_events x.1 r)
 goal_events after x r = after_events x r
 goal_events (node p) x r = node_at_events p x r
-goal_events (behind_anchor p a) x r = perhaps_content_events p (Some (anchor_and a x.0)) x.1 r
-goal_events (behind_tag p t) x r = perhaps_content_events p (Some (tag_and t x.0)) x.1 r
+goal_events (after_anchor p a) x r = perhaps_content_events p (Some (anchor_and a x.0)) x.1 r
+goal_events (after_tag p t) x r = perhaps_content_events p (Some (tag_and t x.0)) x.1 r
 goal_events (after_properties p o) x r = perhaps_content_events p o x.0 r
 goal_events entries x r = entries_events x r
 goal_events entry x r = perhaps_events x.0 (entries_events x.1 r)

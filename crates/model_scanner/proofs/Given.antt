@@ -8,7 +8,7 @@ use Rattle.model_scanner.specs.Run.{Reaches, here, there}
 use Rattle.model_scanner.proofs.Walk as walk
 use Rattle.model_scanner.proofs.Walk.{Watched, IsKept, KeysAre, goes, over, fares}
 
--- every open key stands behind so many tokens
+-- every open key stands after so many tokens
 abbrev pub KeysFrom : ℕ → List (Option Key) → Type 0
 KeysFrom n ks = KeysAre (λ m. n ≤ m) ks
 
@@ -17,7 +17,7 @@ pub record Begins (given ts : List Token) : Type 0 where
   pub more : List Token
   pub tokens : ts ≡ given ++ more
 
--- and every open key stands behind these
+-- and every open key stands after these
 pub record Stood (given ts : List Token) (ks : List (Option Key)) : Type 0 where
   pub more : List Token
   pub tokens : ts ≡ given ++ more

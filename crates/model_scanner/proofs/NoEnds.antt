@@ -7,7 +7,7 @@ use Rattle.yaml_tokens.specs.declared.problem.Fault.{Fault}
 use Rattle.model_lexers.specs.Machine.{Read, and_then, past}
 use Rattle.model_lexers.specs.Space.{blanks}
 use Rattle.model_lexers.specs.Tag.{handle, prefix}
-use Rattle.model_lexers.specs.Directive.{Kind, version, unknown, name, number, with_minor, behind_major, version_value, with_prefix, prefix_behind, tag_value, value, line_end, with_end, behind_value, behind_name, directive}
+use Rattle.model_lexers.specs.Directive.{Kind, version, unknown, name, number, with_minor, after_major, version_value, with_prefix, prefix_after, tag_value, value, line_end, with_end, after_value, after_name, directive}
 use Rattle.model_lexers.specs.Directive as kind
 use Rattle.model_scanner.specs.Document.{anchor_token}
 use Rattle.model_scanner.proofs.Holds.{Holds, went, refused, choice}
@@ -31,11 +31,11 @@ went_on (Err e) k f = refused
 
 version_read : (start : Position) (a : List ℕ) (p : Position) → IsRead (version_value start a p)
 unfolding version_value
-version_read start a p = let b = blanks a p in went_on (number start b.rest b.place) (λ n. behind_major start n) (λ r. choice (slice_index r.rest 0 == 46) (went_on (number start (drop 1 r.rest) (past r.place)) (λ n. Ok (with_minor r.value n)) (λ n. went tt)) refused)
+version_read start a p = let b = blanks a p in went_on (number start b.rest b.place) (λ n. after_major start n) (λ r. choice (slice_index r.rest 0 == 46) (went_on (number start (drop 1 r.rest) (past r.place)) (λ n. Ok (with_minor r.value n)) (λ n. went tt)) refused)
 
 tag_read : (start : Position) (a : List ℕ) (p : Position) → IsRead (tag_value start a p)
 unfolding tag_value
-tag_read start a p = let b = blanks a p in went_on (handle start b.rest b.place) (λ (h : Read (List ℕ)). prefix_behind start h.value (blanks h.rest h.place)) (λ h.
+tag_read start a p = let b = blanks a p in went_on (handle start b.rest b.place) (λ (h : Read (List ℕ)). prefix_after start h.value (blanks h.rest h.place)) (λ h.
     let c = blanks h.rest h.place in
     went_on (prefix start c.rest c.place) (λ q. with_prefix start h.value q) (λ q. choice (is_blank_or_breakz (slice_index q.rest 0)) (went tt) refused))
 
@@ -45,11 +45,11 @@ value_read start kind.tag a p = tag_read start a p
 value_read start unknown a p = went tt
 
 -- the rest of the line changes no token
-line_read : (start : Position) (r : Result (Read Tok) Fault) → IsRead r → IsRead (and_then r (λ v. behind_value start v))
+line_read : (start : Position) (r : Result (Read Tok) Fault) → IsRead r → IsRead (and_then r (λ v. after_value start v))
 line_read start (Ok v) (went q) = went_on (line_end start v.rest v.place) (λ r. Ok (with_end v r)) (λ r. went q)
 line_read start (Err e) refused = refused
 
 pub directive_is_no_end : (a : List ℕ) (p : Position) → Holds (λ r. IsNoEnd r.value) (directive a p)
 unfolding directive
 directive_is_no_end [] p = refused
-directive_is_no_end (c ∷ a) p = went_on (name a (past p)) (λ n. behind_name p n) (λ n. line_read p (value p n.value n.rest n.place) (value_read p n.value n.rest n.place))
+directive_is_no_end (c ∷ a) p = went_on (name a (past p)) (λ n. after_name p n) (λ n. line_read p (value p n.value n.rest n.place) (value_read p n.value n.rest n.place))

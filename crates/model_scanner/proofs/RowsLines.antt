@@ -35,7 +35,7 @@ record Rows : Type 0 where
   zero : scan 4 (codes "|0") ≡ fails problem.BlockScalarZero 0 1 0
   -- a TAB where content begins
   tab : scan 4 (codes "|\n\ta") ≡ fails problem.BlockScalarTab 0 1 0
-  -- a key behind a block scalar
+  -- a key after a block scalar
   next : scan 15 (codes "a: |\n  xx\nb: 1") ≡ Ok (at 0 1 0 Tok.stream_start ∷ at 1 1 1 Tok.block_mapping_start ∷ at 0 1 0 Tok.key ∷ at 0 1 0 (Tok.scalar Style.plain (codes "a")) ∷ at 1 1 1 Tok.value ∷ at 7 2 2 (Tok.scalar Style.literal (codes "xx\n")) ∷ at 10 3 0 Tok.key ∷ at 10 3 0 (Tok.scalar Style.plain (codes "b")) ∷ at 11 3 1 Tok.value ∷ at 13 3 3 (Tok.scalar Style.plain (codes "1")) ∷ at 14 4 0 Tok.block_end ∷ at 14 4 0 Tok.stream_end ∷ [])
   -- the end of the text in a line that reaches the content column
   end : scan 11 (codes "a: |\n  x\n  ") ≡ Ok (at 0 1 0 Tok.stream_start ∷ at 1 1 1 Tok.block_mapping_start ∷ at 0 1 0 Tok.key ∷ at 0 1 0 (Tok.scalar Style.plain (codes "a")) ∷ at 1 1 1 Tok.value ∷ at 7 2 2 (Tok.scalar Style.literal (codes "x\n\n")) ∷ at 11 4 0 Tok.block_end ∷ at 11 4 0 Tok.stream_end ∷ [])

@@ -32,18 +32,18 @@ record Rows : Type 0 where
   backtick : scan 4 (codes "`a") ≡ fails problem.UnexpectedBacktick 0 1 0
   -- a comment that touches a token
   comment : scan 4 (codes "[a]#b") ≡ fails problem.CommentNotSeparated 3 1 3
-  -- a TAB behind a `?`
-  tab_behind_key : scan 4 (codes "?\ta") ≡ fails problem.WhitespaceExpected 1 1 1
-  -- a `?` behind a `:`
+  -- a TAB after a `?`
+  tab_after_key : scan 4 (codes "?\ta") ≡ fails problem.WhitespaceExpected 1 1 1
+  -- a `?` after a `:`
   key_in_value : scan 8 (codes "a: ? b") ≡ fails problem.KeyNotAllowed 3 1 3
-  -- a dash behind a `:`
+  -- a dash after a `:`
   entry_in_value : scan 8 (codes "a: - b") ≡ fails problem.BlockEntryNotAllowed 3 1 3
   -- a quoted scalar that is not closed
   open_quote : scan 4 (codes "\"abc") ≡ fails problem.QuotedEnd 0 1 0
-  -- content behind a quoted scalar
-  behind_quote : scan 4 (codes "\"foo\" l") ≡ fails problem.ContentAfterQuoted 6 1 6
-  -- content behind a document's end
-  behind_end : scan 6 (codes "--- a\n... b") ≡ fails problem.ContentAfterDocumentEnd 10 2 4
+  -- content after a quoted scalar
+  after_quote : scan 4 (codes "\"foo\" l") ≡ fails problem.ContentAfterQuoted 6 1 6
+  -- content after a document's end
+  after_end : scan 6 (codes "--- a\n... b") ≡ fails problem.ContentAfterDocumentEnd 10 2 4
   -- flow content left of its block collection
   flow_left : scan 13 (codes "a:\n  b: [\nc]") ≡ fails problem.InvalidIndentation 10 3 0
 
@@ -58,11 +58,11 @@ rows = record {
   at_sign = refl;
   backtick = refl;
   comment = refl;
-  tab_behind_key = refl;
+  tab_after_key = refl;
   key_in_value = refl;
   entry_in_value = refl;
   open_quote = refl;
-  behind_quote = refl;
-  behind_end = refl;
+  after_quote = refl;
+  after_end = refl;
   flow_left = refl;
 }

@@ -13,7 +13,7 @@ record Rows : Type 0 where
   marker : scan 6 (codes "---") ≡ Ok (at 0 1 0 Tok.stream_start ∷ at 0 1 0 Tok.document_start ∷ at 3 2 0 Tok.stream_end ∷ [])
   -- four dashes are a word
   dashes : scan 6 (codes "----") ≡ Ok (at 0 1 0 Tok.stream_start ∷ at 0 1 0 (Tok.scalar Style.plain (codes "----")) ∷ at 4 2 0 Tok.stream_end ∷ [])
-  -- a comment behind a marker
+  -- a comment after a marker
   comment : scan 6 (codes "--- #here goes a comment") ≡ Ok (at 0 1 0 Tok.stream_start ∷ at 0 1 0 Tok.document_start ∷ at 24 2 0 Tok.stream_end ∷ [])
   -- quoted scalars in three documents
   documents : scan 10 (codes "\n'a scalar'\n---\n'a scalar'\n---\n'a scalar'\n") ≡ Ok (at 0 1 0 Tok.stream_start ∷ at 1 2 0 (Tok.scalar Style.single_quoted (codes "a scalar")) ∷ at 12 3 0 Tok.document_start ∷ at 16 4 0 (Tok.scalar Style.single_quoted (codes "a scalar")) ∷ at 27 5 0 Tok.document_start ∷ at 31 6 0 (Tok.scalar Style.single_quoted (codes "a scalar")) ∷ at 42 7 0 Tok.stream_end ∷ [])
@@ -33,7 +33,7 @@ record Rows : Type 0 where
   colon_first : scan 6 (codes ":,b") ≡ Ok (at 0 1 0 Tok.stream_start ∷ at 0 1 0 (Tok.scalar Style.plain (codes ":,b")) ∷ at 3 2 0 Tok.stream_end ∷ [])
   -- a `?` that begins a word
   question_first : scan 6 (codes "?a") ≡ Ok (at 0 1 0 Tok.stream_start ∷ at 0 1 0 (Tok.scalar Style.plain (codes "?a")) ∷ at 2 2 0 Tok.stream_end ∷ [])
-  -- a comment behind a TAB in the indentation
+  -- a comment after a TAB in the indentation
   tab_comment : scan 20 (codes "a:\n  b: c\n\t# x\n  d: e\n") ≡ Ok (at 0 1 0 Tok.stream_start ∷ at 1 1 1 Tok.block_mapping_start ∷ at 0 1 0 Tok.key ∷ at 0 1 0 (Tok.scalar Style.plain (codes "a")) ∷ at 1 1 1 Tok.value ∷ at 6 2 3 Tok.block_mapping_start ∷ at 5 2 2 Tok.key ∷ at 5 2 2 (Tok.scalar Style.plain (codes "b")) ∷ at 6 2 3 Tok.value ∷ at 8 2 5 (Tok.scalar Style.plain (codes "c")) ∷ at 17 4 2 Tok.key ∷ at 17 4 2 (Tok.scalar Style.plain (codes "d")) ∷ at 18 4 3 Tok.value ∷ at 20 4 5 (Tok.scalar Style.plain (codes "e")) ∷ at 22 5 0 Tok.block_end ∷ at 22 5 0 Tok.block_end ∷ at 22 5 0 Tok.stream_end ∷ [])
   -- a document's end, and a second document
   end : scan 8 (codes "a\n...\nb\n") ≡ Ok (at 0 1 0 Tok.stream_start ∷ at 0 1 0 (Tok.scalar Style.plain (codes "a")) ∷ at 2 2 0 Tok.document_end ∷ at 6 3 0 (Tok.scalar Style.plain (codes "b")) ∷ at 8 4 0 Tok.stream_end ∷ [])

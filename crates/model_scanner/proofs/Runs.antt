@@ -23,7 +23,7 @@ one_run here q = inl q
 one_run (there e f p) here = inr (there e f p)
 one_run (there {t = t} {u = u} e f p) (there {u = w} g h q) = one_run p (rw (one_step t w u h f) at q)
 
--- No run goes on behind the stream's end, or behind a refusal.
+-- No run goes on after the stream's end, or after a refusal.
 stays : {t u : State} → Reaches t u → t.held.ended ≡ true → t ≡ u
 stays here e = refl
 stays (there f g p) e = cc

@@ -29,8 +29,8 @@ use Rattle.model_lexers.specs.Tag.{tag}
 use Rattle.model_scanner.specs.declared.class.Class.{Class}
 use Rattle.model_scanner.specs.declared.class.Class.TheVariants as class
 use Rattle.model_scanner.specs.Class.{class_of}
-use Rattle.model_scanner.specs.Block.{last_property, at_margin, check_block_entry, check_dash, roll_entry, fetch_block_entry, begin_key, check_key_space, fetch_key, check_behind_tab, check_value_space, opens_pair, paired, begin_pair, insert_key, begin_keyless_pair, begin_keyless_mapping, begin_keyless_value, value_of, fetch_value}
-use Rattle.model_scanner.specs.Document.{begin_stream, fetch_stream_start, next_line, end_stream, fetch_stream_end, closed_key, begin_line, fetch_directive, fetch_document_marker, check_document_end, fetch_document_end, node_start, fetch_anchor, fetch_tag, fetch_block_scalar, context, check_behind_quoted, unled, fetch_flow_scalar, fetch_plain_scalar}
+use Rattle.model_scanner.specs.Block.{last_property, at_margin, check_block_entry, check_dash, roll_entry, fetch_block_entry, begin_key, check_key_space, fetch_key, check_after_tab, check_value_space, opens_pair, paired, begin_pair, insert_key, begin_keyless_pair, begin_keyless_mapping, begin_keyless_value, value_of, fetch_value}
+use Rattle.model_scanner.specs.Document.{begin_stream, fetch_stream_start, next_line, end_stream, fetch_stream_end, closed_key, begin_line, fetch_directive, fetch_document_marker, check_document_end, fetch_document_end, node_start, fetch_anchor, fetch_tag, fetch_block_scalar, context, check_after_quoted, unled, fetch_flow_scalar, fetch_plain_scalar}
 use Rattle.model_scanner.specs.Fetch.{token_by, fetch_token, fetch_indented, fetch_first_column, fetch_content, fetch_here, fetch_next, fetch}
 use Rattle.model_scanner.specs.Run.{Reaches, here, there}
 use Rattle.model_scanner.specs.Indents.{placed, drop_open, drop_open_level, deepen, roll_indent, in_block, roll_one_col_indent, Levels, end_level, unrolled, unroll_indent, without_open, unroll_non_block_indents}
@@ -46,15 +46,15 @@ pub record Watched : Type 1 where
 
 -- What is watched is kept by each step that changes the tokens, the open keys or whether the stream's start or end was met.
 pub record IsKept (w : Watched) : Type 0 where
-  -- a token comes behind the others
+  -- a token comes after the others
   pub pushed : (ts : List Token) (started : Bool) (t : Token) → IsNoEnd t.tok → w.tokens ts started → w.tokens (ts ++ t ∷ []) started
   -- a token goes in before those of an open key's number
   pub inserted : (ts : List Token) (started : Bool) (n : ℕ) (t : Token) → IsNoEnd t.tok → w.number n → w.tokens ts started → w.tokens (insert ts n t) started
-  -- a key opens behind all tokens
+  -- a key opens after all tokens
   pub opened : (ts : List Token) (started : Bool) → w.tokens ts started → w.number (length ts)
   -- the stream's start was met
   pub begun : (ts : List Token) (started : Bool) → w.tokens ts started → w.tokens ts true
-  -- the stream's end comes behind all tokens
+  -- the stream's end comes after all tokens
   pub closed : (ts : List Token) (started : Bool) (t : Token) → w.tokens ts started → w.all (ts ++ t ∷ [])
 
 -- p holds of an open key's number
@@ -76,7 +76,7 @@ pub record Stood (w : Watched) (ts : List Token) (ks : List (Option Key)) (start
 pub record Stands (w : Watched) (h : Held) : Type 0 where
   pub stood : Stood w h.tokens h.keys h.started h.ended
 
--- behind the stream's end
+-- after the stream's end
 pub record IsOver (w : Watched) (h : Held) : Type 0 where
   pub all : w.all h.tokens
   pub keys : KeysAre w.number h.keys
@@ -385,13 +385,13 @@ module _ (w : Watched) (kept : IsKept w) where
 
   -- ---- values
 
-  behind_tab_checked : (x : Whitespace) (t : State) → Stands w t.held → Holds (StandsAt w) (check_behind_tab x t)
-  unfolding check_behind_tab
-  behind_tab_checked x t s = passes _ _ (went s)
+  after_tab_checked : (x : Whitespace) (t : State) → Stands w t.held → Holds (StandsAt w) (check_after_tab x t)
+  unfolding check_after_tab
+  after_tab_checked x t s = passes _ _ (went s)
 
   value_spaced : (t : State) → Stands w t.held → Holds (StandsAt w) (check_value_space t)
   unfolding check_value_space
-  value_spaced t s = choice (peek t.rest == 9) (read t.held (space Yes t.rest t.held.place) check_behind_tab s (λ x u k. behind_tab_checked x u k)) (went s)
+  value_spaced t s = choice (peek t.rest == 9) (read t.held (space Yes t.rest t.held.place) check_after_tab s (λ x u k. after_tab_checked x u k)) (went s)
 
   pair_begun : (k : Key) (p : Position) (pair : Bool) (h : Held) → w.number k.number → Stands w h → Holds (Stands w) (begin_pair k p pair h)
   unfolding begin_pair
@@ -483,8 +483,8 @@ module _ (w : Watched) (kept : IsKept w) where
       let l = saved t.held s in
       read h (block literal h.indent t.rest t.held.place) _ (unrolled_open _ (record { stood = l.stood })) (λ b u k. went (record { stood = pushed _ _ _ _ _ tt k.stood }))
 
-  quoted_checked : (line : ℕ) (t : State) → Stands w t.held → Holds (StandsAt w) (check_behind_quoted line t)
-  unfolding check_behind_quoted
+  quoted_checked : (line : ℕ) (t : State) → Stands w t.held → Holds (StandsAt w) (check_after_quoted line t)
+  unfolding check_after_quoted
   quoted_checked line t s = chained (spaces_skipped Yes t s) (λ u k. choice _ (went k) refused)
 
   flow_scalar_fetched : (single : Bool) (t : State) → Stands w t.held → Holds (StandsAt w) (fetch_flow_scalar single t)

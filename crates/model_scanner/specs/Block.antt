@@ -80,12 +80,12 @@ fetch_key t =
     Ok (on_held (push t.held.place Tok.key) x)
 
 -- after a `:`, a TAB and more blanks
-unfoldable pub check_behind_tab : Whitespace → State → Result State Fault
-check_behind_tab w t = (if not w.has_valid_yaml_ws && ((peek t.rest == 45) || is_alpha (peek t.rest)) then Err (At problem.TabAfterColon t.held.place) else Ok t)
+unfoldable pub check_after_tab : Whitespace → State → Result State Fault
+check_after_tab w t = (if not w.has_valid_yaml_ws && ((peek t.rest == 45) || is_alpha (peek t.rest)) then Err (At problem.TabAfterColon t.held.place) else Ok t)
 
 -- What must not follow a `:` and a TAB.
 unfoldable pub check_value_space : State → Result State Fault
-check_value_space t = (if peek t.rest == 9 then lexed (space Yes t.rest t.held.place) t.held check_behind_tab else Ok t)
+check_value_space t = (if peek t.rest == 9 then lexed (space Yes t.rest t.held.place) t.held check_after_tab else Ok t)
 
 abbrev pub opens_pair : List FlowLevel → Bool
 opens_pair (Entry ∷ fs) = true

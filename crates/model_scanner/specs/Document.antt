@@ -102,8 +102,8 @@ context s = record { flow = in_flow s; indent = s.indent }
 unfoldable pub may_follow_quoted : Bool → Bool → ℕ → Bool
 may_follow_quoted flow same_line c = is_breakz c || (if flow then (c == 44) || (c == 125) || (c == 93) || (c == 58) else (c == 58) && same_line)
 
-unfoldable pub check_behind_quoted : ℕ → State → Result State Fault
-check_behind_quoted line t =
+unfoldable pub check_after_quoted : ℕ → State → Result State Fault
+check_after_quoted line t =
     skip_spaces Yes t >>= λ u.
     (if may_follow_quoted (in_flow u.held) (line == u.held.place.line) (peek u.rest) then Ok u else Err (At problem.ContentAfterQuoted u.held.place))
 
@@ -119,14 +119,14 @@ unfoldable pub fetch_flow_scalar : Bool → State → Result State Fault
 fetch_flow_scalar single t =
     let h = node_start t.held in
     lexed (quoted single (context h) t.rest t.held.place) h (λ text u.
-    check_behind_quoted t.held.place.line (on_held unled u) >>= λ v.
+    check_after_quoted t.held.place.line (on_held unled u) >>= λ v.
     skip_to_next_token v >>= λ w.
     Ok (on_held (λ s. push t.held.place (Tok.scalar (quoted_style single) text) (adjacent_here s)) w))
 
-abbrev pub behind_plain : Bool → Held → Held
-behind_plain leading s = record s { leading = leading; key_allowed = leading }
+abbrev pub after_plain : Bool → Held → Held
+after_plain leading s = record s { leading = leading; key_allowed = leading }
 
 unfoldable pub fetch_plain_scalar : State → Result State Fault
 fetch_plain_scalar t =
     let h = unroll_non_block_indents (node_start t.held) in
-    lexed (plain (context h) t.rest t.held.place) h (λ r u. Ok (on_held (λ s. push t.held.place (Tok.scalar Style.plain r.text) (behind_plain r.leading s)) u))
+    lexed (plain (context h) t.rest t.held.place) h (λ r u. Ok (on_held (λ s. push t.held.place (Tok.scalar Style.plain r.text) (after_plain r.leading s)) u))

@@ -56,9 +56,9 @@ peek [] = 0
 peek (c ∷ a) = c
 
 -- what stands after the next character
-abbrev pub behind : List ℕ → List ℕ
-behind [] = []
-behind (c ∷ a) = a
+abbrev pub after : List ℕ → List ℕ
+after [] = []
+after (c ∷ a) = a
 
 abbrev pub pop : {A : Type 0} → List A → List A
 pop [] = []
@@ -114,4 +114,4 @@ moved s = record s { place = past s.place }
 
 -- after an indicator
 abbrev pub skip_indicator : State → State
-skip_indicator t = record { rest = behind t.rest; held = record t.held { place = past t.held.place; leading = false } }
+skip_indicator t = record { rest = after t.rest; held = record t.held { place = past t.held.place; leading = false } }

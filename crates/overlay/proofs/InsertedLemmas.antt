@@ -1,4 +1,4 @@
--- Pairs of new keys, put into a hash one after the other, stand behind its pairs.
+-- Pairs of new keys, put into a hash one after the other, stand after its pairs.
 use Rattle.std.proofs.Common.{◌≡◌, List, [], ◌∷◌, ◌++◌, Bool, cond, refl, sym, ap, ◌∙◌, subst, append_assoc, append-nil}
 use Rattle.defs_tree.specs.Tree.{Tree, Pairs, pair_list_of, pairs_of, hash}
 use Rattle.defs_tree.specs.Overlay.{overlay, pairs_under, new_pairs}
@@ -16,17 +16,17 @@ lacks_here : (l : Tree) (ps qs : List (Tree × Tree)) (q : Tree × Tree) → Lac
 lacks_here l [] qs q h e = h.0 e
 lacks_here l (p ∷ ps) qs q h e = lacks_here l ps qs q h.1 e
 
--- a key behind others isn't among them
+-- a key after others isn't among them
 key_is_new : (ps qs : List (Tree × Tree)) (q : Tree × Tree) → AreDistinct (ps ++ q ∷ qs) → Lacks q.0 ps
 key_is_new [] qs q h = tt
 key_is_new (p ∷ ps) qs q h = ((λ e. lacks_here p.0 ps qs q h.0 (sym e)), key_is_new ps qs q h.1)
 
-pub inserted_behind : (ps qs : List (Tree × Tree)) → AreDistinct (ps ++ qs) → inserted ps qs ≡ ps ++ qs
-inserted_behind ps [] h = sym (append-nil ps)
-inserted_behind ps (q ∷ qs) h =
+pub inserted_after : (ps qs : List (Tree × Tree)) → AreDistinct (ps ++ qs) → inserted ps qs ≡ ps ++ qs
+inserted_after ps [] h = sym (append-nil ps)
+inserted_after ps (q ∷ qs) h =
     let e : insert q.0 q.1 ps ≡ ps ++ q ∷ [] = ap (λ rs. rs ++ q ∷ []) (without_none q.0 ps (key_is_new ps qs q h)) in
     let f : (ps ++ q ∷ []) ++ qs ≡ ps ++ q ∷ qs = append_assoc ps (q ∷ []) qs in
-    ap (λ rs. inserted rs qs) e ∙ inserted_behind (ps ++ q ∷ []) qs (subst AreDistinct (sym f) h) ∙ f
+    ap (λ rs. inserted rs qs) e ∙ inserted_after (ps ++ q ∷ []) qs (subst AreDistinct (sym f) h) ∙ f
 
 inserted_both : (ps qs rs : List (Tree × Tree)) → inserted (inserted ps qs) rs ≡ inserted ps (qs ++ rs)
 inserted_both ps [] rs = refl
@@ -40,7 +40,7 @@ laid_pairs ps qs h g =
     let e = list_of_pairs ps in
     let d : AreDistinct (under ++ new_pairs ps qs) =
     subst (λ ts. AreDistinct (under ++ new_pairs ts qs)) e (laid_distinct (pairs_of ps) qs (subst AreDistinct (sym e) h) g) in
-    inserted_both [] under (new_pairs ps qs) ∙ inserted_behind [] (under ++ new_pairs ps qs) d
+    inserted_both [] under (new_pairs ps qs) ∙ inserted_after [] (under ++ new_pairs ps qs) d
 
 -- the tree of the pairs that the two loops make
 pub laid_tree : (t u : Tree) (ps qs under laid : List (Tree × Tree)) → t ≡ hash (pairs_of ps) → u ≡ hash (pairs_of qs) → AreDistinct ps → AreDistinct qs

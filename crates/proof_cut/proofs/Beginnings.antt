@@ -62,7 +62,7 @@ row_first a (w ∷ v ∷ ws) vs f last r =
     subst (λ t. IsWritten a w t (Some v.token.tok) × IsRow (account_past a w t) (v ∷ ws) (spelled vs f) None) same
     (r.0, row_first (account_past a w (spelled ((v ∷ ws) ++ vs) f)) (v ∷ ws) vs f last r.1)
 
--- a row whose tokens are two lists one behind the other
+-- a row whose tokens are two lists one after the other
 record Parted (ws : List Written) (given more : List Token) : Type 0 where
   pub first : List Written
   pub second : List Written
@@ -78,19 +78,19 @@ parted (w ∷ ws) (t ∷ given) more e =
     let p : Parted ws given more = parted ws given more i.1 in
     record { first = w ∷ p.first; second = p.second; are_both = ap (λ vs. w ∷ vs) p.are_both; are_given = ap (λ x. x ∷ tokens_of p.first) i.0 ∙ ap (λ ts. t ∷ ts) p.are_given; are_more = p.are_more }
 
--- the tokens of a row's beginning behind the stream's start
-begun_by : (text : List ℕ) (begin : Position) (ws : List Written) (behind : List ℕ) (last : Option Tok) (given more : List Token) → spelled ws behind ≡ up_to_end text → IsRow first_account ws behind last → start_token begin ∷ tokens_of ws ≡ given ++ more → IsCutOfBeginning given text
-begun_by text begin ws behind last [] more is_text row e = inl refl
-begun_by text begin ws behind last (t ∷ given) more is_text row e =
+-- the tokens of a row's beginning after the stream's start
+begun_by : (text : List ℕ) (begin : Position) (ws : List Written) (after : List ℕ) (last : Option Tok) (given more : List Token) → spelled ws after ≡ up_to_end text → IsRow first_account ws after last → start_token begin ∷ tokens_of ws ≡ given ++ more → IsCutOfBeginning given text
+begun_by text begin ws after last [] more is_text row e = inl refl
+begun_by text begin ws after last (t ∷ given) more is_text row e =
     let p : Parted ws given more = parted ws given more (ap rest_of e) in
-    let same : spelled ws behind ≡ spelled p.first (spelled p.second behind) = ap (λ vs. spelled vs behind) p.are_both ∙ spelled_append p.first p.second behind in
+    let same : spelled ws after ≡ spelled p.first (spelled p.second after) = ap (λ vs. spelled vs after) p.are_both ∙ spelled_append p.first p.second after in
     inr (record {
       begin = begin;
       row = p.first;
-      behind = spelled p.second behind;
+      after = spelled p.second after;
       are_tokens = ap (λ x. x ∷ given) (sym (ap (first_or t) e)) ∙ ap (λ ts. start_token begin ∷ ts) (sym p.are_given);
       is_text = sym same ∙ is_text;
-      is_row = row_first first_account p.first p.second behind last (subst (λ vs. IsRow first_account vs behind last) p.are_both row);
+      is_row = row_first first_account p.first p.second after last (subst (λ vs. IsRow first_account vs after last) p.are_both row);
     })
 
 -- what comes before the last of a list, or all of it
@@ -122,7 +122,7 @@ first_tokens_are_cut text given more t nul run e = by (came text nul (start text
     by : Came text t → IsCut given text ⊎ IsCutOfBeginning given text
     by (starts f) = inr (nothing given (sym (ap (λ y. y.held.tokens) f) ∙ e))
     by (fares (goes s g)) =
-        inr (begun_by text s.stood.begin s.stood.row s.stood.behind None given more (s.stood.here.is_text ∙ sym (whole_text text nul)) (s.stood.here.is_row None) (sym s.stood.tokens_are ∙ e))
+        inr (begun_by text s.stood.begin s.stood.row s.stood.after None given more (s.stood.here.is_text ∙ sym (whole_text text nul)) (s.stood.here.is_row None) (sym s.stood.tokens_are ∙ e))
     by (fares (over c f n)) = elim (before_last (end_token c.end) (start_token c.begin ∷ tokens_of c.row) given more (sym c.are_tokens ∙ e)) [
       | all k ↦ inl (subst (λ ts. IsCut ts text) (c.are_tokens ∙ sym k) c)
       | some others k ↦ inr (begun_by text c.begin c.row c.filler (Some stream_end) given others c.is_text c.is_row k)

@@ -16,7 +16,7 @@ use Rattle.model_lexers.specs.declared.context.Whitespace.{Whitespace}
 use Rattle.yaml_chars.specs.Class.{is_break as is_break_here, is_flow as yaml_flow}
 use Rattle.model_scanner.specs.declared.level.Indent.{Indent}
 use Rattle.model_scanner.specs.declared.level.FlowLevel.{FlowLevel}
-use Rattle.model_scanner.specs.State.{Key, Held, State, ◌>>=◌, peek, in_flow, push, with_top, token, behind, on_held, try_held, lexed, skip_indicator}
+use Rattle.model_scanner.specs.State.{Key, Held, State, ◌>>=◌, peek, in_flow, push, with_top, token, after, on_held, try_held, lexed, skip_indicator}
 use Rattle.model_scanner.specs.Keys.{remove_simple_key}
 use Rattle.model_scanner.specs.Space.{skip_spaces}
 use Rattle.model_lexers.specs.Space.{space}
@@ -43,10 +43,10 @@ pub nil_length : (fs : List FlowLevel) → is_nil fs ≡ true → length fs ≡ 
 nil_length [] e = refl
 nil_length (f ∷ fs) e = absurd (cc e)
 
-pub none_open : (depth : ℕ) (row : List Written) (behind : List ℕ) (p : Position) (rest : List ℕ) (column : Option ℕ) (keys : List (Option Key)) → length keys ≡ 1 → AreOpen depth row behind p rest column (with_top None keys)
-none_open depth row behind p rest column [] e = tt
-none_open depth row behind p rest column (x ∷ []) e = tt
-none_open depth row behind p rest column (x ∷ y ∷ ks) e = absurd (omega (arith, e))
+pub none_open : (depth : ℕ) (row : List Written) (after : List ℕ) (p : Position) (rest : List ℕ) (column : Option ℕ) (keys : List (Option Key)) → length keys ≡ 1 → AreOpen depth row after p rest column (with_top None keys)
+none_open depth row after p rest column [] e = tt
+none_open depth row after p rest column (x ∷ []) e = tt
+none_open depth row after p rest column (x ∷ y ∷ ks) e = absurd (omega (arith, e))
 
 pub outside_fares : (text rest : List ℕ) (p : Position) (tokens : List Token) (keys : List (Option Key)) (indents : List Indent) (indent : ℕ) (flow : List FlowLevel) (before : Before) (adj : ℕ) → is_nil flow ≡ true → adj ≤ p.index →
     Stood text rest p tokens keys indents indent flow before → Fares text rest p tokens keys indents indent flow adj
@@ -147,7 +147,7 @@ pub not_nil : (flow : List FlowLevel) → not (is_nil flow) ≡ false → is_nil
 not_nil [] e = refl
 not_nil (f ∷ fs) e = absurd (cc e)
 
--- what the model does behind the dash
+-- what the model does after the dash
 abbrev pub entry_from : State → State → Result State Fault
 entry_from t u =
     let v = on_held (roll_indent t.held.place.col None Tok.block_sequence_start t.held.place) (skip_indicator u) in
@@ -156,21 +156,21 @@ entry_from t u =
     try_held remove_simple_key (roll_entry x) >>= λ y.
     Ok (on_held (λ s. push s.place Tok.block_entry (allow_key true s)) y)
 
--- the place behind the rolled level is the old one
+-- the place after the rolled level is the old one
 pub rolls_place : (col : ℕ) (n : Option ℕ) (k : Token) (h u : Held) → Rolls col n k h u → (u.place ≡ h.place) × (u.keys ≡ h.keys) × (u.flow ≡ h.flow) × (u.adjacent_value_at ≡ h.adjacent_value_at)
 rolls_place col n k h u (begins ds i w cols are) = (ap (λ x. x.place) w, ap (λ x. x.keys) w, ap (λ x. x.flow) w, ap (λ x. x.adjacent_value_at) w)
 rolls_place col n k h u (goes_on d) = (ap (λ x. x.place) d.is_held, ap (λ x. x.keys) d.is_held, ap (λ x. x.flow) d.is_held, ap (λ x. x.adjacent_value_at) d.is_held)
 
 entry_fares : (text more : List ℕ) (t w x : State) → t.rest ≡ 45 ∷ more → is_at_gap more ≡ true → (s : Stands text t) → in_flow t.held ≡ false →
-    (u : Held) → Rolls t.held.place.col None (token t.held.place Tok.block_sequence_start) (skip_indicator t).held u → Spaced Yes (record { rest = behind t.rest; held = u }) w → Spaced No w x →
+    (u : Held) → Rolls t.held.place.col None (token t.held.place Tok.block_sequence_start) (skip_indicator t).held u → Spaced Yes (record { rest = after t.rest; held = u }) w → Spaced No w x →
     Stands text (record { rest = (roll_entry x).rest; held = push (roll_entry x).held.place Tok.block_entry (allow_key true (record (roll_entry x).held { keys = with_top None (roll_entry x).held.keys })) })
 entry_fares text more t w x e gap s out u r a b =
     let h : Held = (skip_indicator t).held in
-    let v : State = record { rest = behind t.rest; held = u } in
+    let v : State = record { rest = after t.rest; held = u } in
     let p : Position = t.held.place in
     let same : (u.place ≡ h.place) × (u.keys ≡ h.keys) × (u.flow ≡ h.flow) × (u.adjacent_value_at ≡ h.adjacent_value_at) = rolls_place p.col None (token p Tok.block_sequence_start) h u r in
     let c : Passed v x = passed_both v w x (passed_spaces Yes v w a) (passed_spaces No w x b) in
-    let g : Filled more (past p) x = record { filler = c.filler; is_rest = ap behind (sym e) ∙ c.is_rest; is_filled = c.is_filled; is_place = ap (λ y. y.place) c.is_held ∙ ap (λ q. position_after q c.filler x.rest) same.0 } in
+    let g : Filled more (past p) x = record { filler = c.filler; is_rest = ap after (sym e) ∙ c.is_rest; is_filled = c.is_filled; is_place = ap (λ y. y.place) c.is_held ∙ ap (λ q. position_after q c.filler x.rest) same.0 } in
     let y : Stood text (45 ∷ more) p t.held.tokens t.held.keys t.held.indents t.held.indent t.held.flow s.before = subst (λ z. Stood text z p t.held.tokens t.held.keys t.held.indents t.held.indent t.held.flow s.before) e s.stood in
     let k : Stood text x.rest x.held.place (u.tokens ++ token x.held.place Tok.block_entry ∷ []) (with_top None t.held.keys) u.indents u.indent t.held.flow other =
     roll_stood text 45 more Tok.block_sequence_start Tok.block_entry sequence_start (dash more gap) h u s.before (not_nil t.held.flow out) p p x.held.place x g r y in

@@ -1,4 +1,4 @@
--- The next token by its first characters: what holds between fetches holds behind it.
+-- The next token by its first characters: what holds between fetches holds after it.
 use Rattle.std.proofs.Common.{◌≡◌, ℕ, ◌+◌, List, [], ◌∷◌, Bool, true, false, not, ◌==◌, ◌&&◌, ◌||◌, if◌then◌else◌, slice_index, refl, ap, sym, ◌∙◌, arith}
 use Rattle.yaml_chars.specs.Class.{is_blank, is_break, is_blank_or_breakz, is_flow}
 use Rattle.defs_text.specs.Text.{is_nil}
@@ -71,24 +71,24 @@ module _ (text : List ℕ) (t : State) (r : Ready text t) (deep : IsDeep t.held)
 
   -- ---- indicators
 
-  gap_behind : (c : ℕ) (more : List ℕ) (gap : Bool) → t.rest ≡ c ∷ more → is_at_gap more ≡ gap → is_blank_or_breakz (slice_index t.rest 1) ≡ gap
-  gap_behind c more gap e g = ap (λ l. is_blank_or_breakz (slice_index l 1)) e ∙ gap_here more ∙ g
+  gap_after : (c : ℕ) (more : List ℕ) (gap : Bool) → t.rest ≡ c ∷ more → is_at_gap more ≡ gap → is_blank_or_breakz (slice_index t.rest 1) ≡ gap
+  gap_after c more gap e g = ap (λ l. is_blank_or_breakz (slice_index l 1)) e ∙ gap_here more ∙ g
 
   dash : Reads 45
   unfolding class_of
   dash more e = by (is_at_gap more) refl
     where
       by : (gap : Bool) → is_at_gap more ≡ gap → Holds (Stands text) (if is_blank_or_breakz (slice_index t.rest 1) then fetch_block_entry t else fetch_plain_scalar t)
-      by true g = rw (gap_behind 45 more true e g) (block_entry text more t e g r.stands)
-      by false g = rw (gap_behind 45 more false e g) (plain_here 45 more e (rw g refl))
+      by true g = rw (gap_after 45 more true e g) (block_entry text more t e g r.stands)
+      by false g = rw (gap_after 45 more false e g) (plain_here 45 more e (rw g refl))
 
   question : Reads 63
   unfolding class_of
   question more e = by (is_at_gap more) refl
     where
       by : (gap : Bool) → is_at_gap more ≡ gap → Holds (Stands text) (if is_blank_or_breakz (slice_index t.rest 1) then fetch_key t else fetch_plain_scalar t)
-      by true g = rw (gap_behind 63 more true e g) (key_fetched text more t e g r.stands)
-      by false g = rw (gap_behind 63 more false e g) (plain_here 63 more e (rw g refl))
+      by true g = rw (gap_after 63 more true e g) (key_fetched text more t e g r.stands)
+      by false g = rw (gap_after 63 more false e g) (plain_here 63 more e (rw g refl))
 
   -- in flow, whether a colon may stand here is what the account says
   adjacent_now : (c : ℕ) (more : List ℕ) → t.rest ≡ c ∷ more → is_nil t.held.flow ≡ false → (t.held.place.index == t.held.adjacent_value_at) ≡ is_adjacent r.stands.before
@@ -102,7 +102,7 @@ module _ (text : List ℕ) (t : State) (r : Ready text t) (deep : IsDeep t.held)
   value_is more e = by (is_nil t.held.flow) refl
     where
       gap : is_blank_or_breakz (slice_index t.rest 1) ≡ is_at_gap more
-      gap = gap_behind 58 more (is_at_gap more) e refl
+      gap = gap_after 58 more (is_at_gap more) e refl
 
       flows : is_flow (slice_index t.rest 1) ≡ begins_flow more
       flows = ap (λ l. is_flow (slice_index l 1)) e ∙ flow_here more

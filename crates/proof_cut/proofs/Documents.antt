@@ -27,12 +27,12 @@ use Rattle.model_scanner.specs.Document.{closed_key, begin_line, fetch_directive
 use Rattle.model_scanner.proofs.Holds.{Holds, went, refused, chained, tried, choice, read}
 use Rattle.proof_lexers.specs.PlainEnds.{has_no_nul}
 use Rattle.proof_cut.specs.PiecesRead.{ReadAs, is_directive_token}
-use Rattle.proof_cut.specs.Order.{Behind}
+use Rattle.proof_cut.specs.Order.{After}
 use Rattle.proof_cut.specs.Places.{IsAtEnd}
 use Rattle.proof_cut.specs.Here.{IsLive, AreOpen}
 use Rattle.proof_cut.specs.Stands.{columns, levels_of, account_of, AreLevels, IsLevel, IsAdjacent, Stood, Fares, Stands}
 use Rattle.proof_cut.proofs.Pieces.Directives.{directive_is_read}
-use Rattle.proof_cut.proofs.Places.{weaker, index_behind}
+use Rattle.proof_cut.proofs.Places.{weaker, index_after}
 use Rattle.proof_cut.proofs.RowPlaces.{end_place}
 use Rattle.proof_cut.proofs.Heres.{led, spelled_led}
 use Rattle.proof_cut.proofs.Pushed.{with_piece}
@@ -51,23 +51,23 @@ same_length (k ∷ ks) = refl
 -- ---- column 0
 
 -- no key is live on a line on which nothing stands before a place
-margin_dead : (p : Position) (rest : List ℕ) (row : List Written) (behind : List ℕ) (column : Option ℕ) (keys : List (Option Key)) → p.col ≡ 0 → length keys ≡ 1 → AreOpen 0 row behind p rest column keys → AreDead p rest keys
-margin_dead p rest row behind column [] col one o = tt
-margin_dead p rest row behind column (None ∷ []) col one o = tt
-margin_dead p rest row behind column (x ∷ y ∷ ks) col one o = absurd (omega (arith, one))
-margin_dead p rest row behind column (Some k ∷ []) col one o = ((λ l. none l), tt)
+margin_dead : (p : Position) (rest : List ℕ) (row : List Written) (after : List ℕ) (column : Option ℕ) (keys : List (Option Key)) → p.col ≡ 0 → length keys ≡ 1 → AreOpen 0 row after p rest column keys → AreDead p rest keys
+margin_dead p rest row after column [] col one o = tt
+margin_dead p rest row after column (None ∷ []) col one o = tt
+margin_dead p rest row after column (x ∷ y ∷ ks) col one o = absurd (omega (arith, one))
+margin_dead p rest row after column (Some k ∷ []) col one o = ((λ l. none l), tt)
   where
     none : IsLive k p rest → ⊥
     none l = let left_of : suc k.place.col ≤ p.col = o.0.is_earlier.1 l.0 in omega (arith, left_of, col)
 
 -- so whatever stands there leads anywhere
-margin_leads : (i j : ℕ) (p q : Position) (rest2 : List ℕ) (vs : List Written) → p.col ≡ 0 → Behind p q → Leads i j p q rest2 vs
+margin_leads : (i j : ℕ) (p q : Position) (rest2 : List ℕ) (vs : List Written) → p.col ≡ 0 → After p q → Leads i j p q rest2 vs
 margin_leads i j p q rest2 vs col further k n ns b v e =
     let line : p.line ≤ k.place.line = omega (arith, further.0, v.0) in
     let left_of : suc k.place.col ≤ p.col = b.1 line in
     absurd (omega (arith, left_of, col))
 
--- no block collection is deeper than column 0 behind the ends of all
+-- no block collection is deeper than column 0 after the ends of all
 none_left : (i : ℕ) (ds : List Indent) → AreLevels i ds → i ≤ 0 → columns i ds ≡ []
 none_left i [] l h = refl
 none_left i (d ∷ ds) l h = by d.needs_block_end l.0
@@ -92,7 +92,7 @@ unfolding begin_line remove_simple_key
 line_begun text t col s = by (is_required (top_key (unroll_indent 0 t.held).keys))
   where
     z : UnrolledTo text t 0
-    z = unrolled_to text t 0 s (λ out n e h. margin_dead t.held.place t.rest s.stood.row s.stood.behind (innermost_column (columns t.held.indent t.held.indents)) t.held.keys col (s.stood.one_each ∙ ap suc (nil_length t.held.flow out)) s.stood.are_open)
+    z = unrolled_to text t 0 s (λ out n e h. margin_dead t.held.place t.rest s.stood.row s.stood.after (innermost_column (columns t.held.indent t.held.indents)) t.held.keys col (s.stood.one_each ∙ ap suc (nil_length t.held.flow out)) s.stood.are_open)
 
     stands : Fares text t.rest t.held.place z.tokens t.held.keys z.indents z.indent t.held.flow t.held.adjacent_value_at
     stands = subst (λ (h : Held). Fares text t.rest h.place h.tokens h.keys h.indents h.indent h.flow h.adjacent_value_at) z.is_held z.stands
@@ -115,15 +115,15 @@ margin_fares : (text rest : List ℕ) (p : Position) (tokens : List Token) (keys
 margin_fares text rest p tokens keys indents indent flow adj s col tok rest2 end r blocks levels none =
     let a : Account = account_of p indent indents flow s.before in
     let further : p.index < end.index = further_read a rest tok p rest2 end r in
-    let later : Behind p end = read_later a rest tok p rest2 end r in
+    let later : After p end = read_later a rest tok p rest2 end r in
     let w : Written = with_piece (r.first ∷ r.more) p tok in
     let column : Option ℕ = innermost_column (columns indent indents) in
-    let given : AreOpen 0 s.stood.row s.stood.behind p rest column (with_top None keys) = open_given_up 0 s.stood.row s.stood.behind p rest column keys s.stood.are_open in
-    let cut : s.stood.behind ≡ spelled (led s.stood.here.filler w ∷ []) (r.filler ++ rest2) = spelled_led s.stood.behind s.stood.here.filler rest w [] (r.filler ++ rest2) s.stood.here.is_behind r.is_text in
+    let given : AreOpen 0 s.stood.row s.stood.after p rest column (with_top None keys) = open_given_up 0 s.stood.row s.stood.after p rest column keys s.stood.are_open in
+    let cut : s.stood.after ≡ spelled (led s.stood.here.filler w ∷ []) (r.filler ++ rest2) = spelled_led s.stood.after s.stood.here.filler rest w [] (r.filler ++ rest2) s.stood.here.is_after r.is_text in
     record {
       before = before_past (before_by tok) r.filler;
       stood = piece_stood text rest p tokens keys indents indent flow s.before s.stood tok p rest2 end r blocks flow levels (with_top None keys) (same_length keys ∙ s.stood.one_each)
-          (open_more 0 0 s.stood.row (led s.stood.here.filler w ∷ []) s.stood.behind (r.filler ++ rest2) p end rest rest2 column (with_top None keys) cut (weaker p end later)
+          (open_more 0 0 s.stood.row (led s.stood.here.filler w ∷ []) s.stood.after (r.filler ++ rest2) p end rest rest2 column (with_top None keys) cut (weaker p end later)
           (λ _. ap is_nil r.is_text) (margin_leads 0 0 p end rest2 (led s.stood.here.filler w ∷ []) col later) given);
       was_adjacent = omega (arith, s.was_adjacent, further);
       is_adjacent_here = λ _. subst (λ b. IsAdjacent (before_past b r.filler) end adj rest2) (sym none) (adjacent_other end adj rest2 (omega (arith, s.was_adjacent, further)));
@@ -238,11 +238,11 @@ marked text tok c more m t e gap col s =
 pub start_marked : (text more : List ℕ) (t : State) → t.rest ≡ 45 ∷ 45 ∷ 45 ∷ more → is_at_gap more ≡ true → t.held.place.col ≡ 0 → Stands text t → Holds (Stands text) (fetch_document_marker Tok.document_start t)
 start_marked text more t e gap col s = marked text Tok.document_start 45 more marks_start t e gap col s
 
--- what stands behind a filler
+-- what stands after a filler
 pub passed_stands : (text : List ℕ) (t u : State) → Passed t u → Stands text t → Stands text u
 passed_stands text t u a s =
     let end : Position = position_after t.held.place a.filler u.rest in
-    let further : end.index ≡ t.held.place.index + length a.filler = index_behind t.held.place a.filler u.rest in
+    let further : end.index ≡ t.held.place.index + length a.filler = index_after t.held.place a.filler u.rest in
     subst (λ (h : Held). Fares text u.rest h.place h.tokens h.keys h.indents h.indent h.flow h.adjacent_value_at) (sym a.is_held) (record {
       before = before_past s.before a.filler;
       stood = stood_filled text t.rest t.held.place t.held.tokens t.held.keys t.held.indents t.held.indent t.held.flow s.before a.filler u.rest a.is_rest a.is_filled s.stood;
@@ -266,9 +266,9 @@ stream_begun text nul = record {
   stood = record {
     begin = (start text).held.place;
     row = [];
-    behind = text;
+    after = text;
     tokens_are = refl;
-    here = record { filler = []; is_behind = refl; is_text = refl; is_row = λ last. tt; is_filled = refl; is_here = refl; is_clean = nul };
+    here = record { filler = []; is_after = refl; is_text = refl; is_row = λ last. tt; is_filled = refl; is_here = refl; is_clean = nul };
     are_levels = refl;
     one_each = refl;
     are_open = tt;
@@ -291,7 +291,7 @@ whole_text (c ∷ r) h =
 cut_of : (text : List ℕ) (p q : Position) (tokens : List Token) (keys : List (Option Key)) (indents : List Indent) (indent : ℕ) (flow : List FlowLevel) (before : Before) → has_no_nul text ≡ true →
     is_closed (account_of p indent indents flow before) ≡ true → Stood text [] p tokens keys indents indent flow before → IsCut (tokens ++ token q stream_end ∷ []) text
 cut_of text p q tokens keys indents indent flow before nul closed s =
-    let same : s.behind ≡ s.here.filler = s.here.is_behind ∙ rw append-nil refl in
+    let same : s.after ≡ s.here.filler = s.here.is_after ∙ rw append-nil refl in
     record {
       begin = s.begin;
       end = q;
@@ -305,9 +305,9 @@ cut_of text p q tokens keys indents indent flow before nul closed s =
     }
 
 -- no key is open any more
-none_open : (depth : ℕ) (row : List Written) (behind : List ℕ) (p : Position) (rest : List ℕ) (column : Option ℕ) (keys : List (Option Key)) → AreOpen depth row behind p rest column (cleared keys)
-none_open depth row behind p rest column [] = tt
-none_open depth row behind p rest column (k ∷ ks) = none_open (suc depth) row behind p rest column ks
+none_open : (depth : ℕ) (row : List Written) (after : List ℕ) (p : Position) (rest : List ℕ) (column : Option ℕ) (keys : List (Option Key)) → AreOpen depth row after p rest column (cleared keys)
+none_open depth row after p rest column [] = tt
+none_open depth row after p rest column (k ∷ ks) = none_open (suc depth) row after p rest column ks
 
 none_live : (p : Position) (rest : List ℕ) (keys : List (Option Key)) → AreDead p rest (cleared keys)
 none_live p rest [] = tt
@@ -322,12 +322,12 @@ cleared_stood : (text rest : List ℕ) (p : Position) (tokens : List Token) (key
 cleared_stood text rest p tokens keys indents indent flow before s = record {
   begin = s.begin;
   row = s.row;
-  behind = s.behind;
+  after = s.after;
   tokens_are = s.tokens_are;
   here = s.here;
   are_levels = s.are_levels;
   one_each = cleared_length keys ∙ s.one_each;
-  are_open = none_open 0 s.row s.behind p rest (innermost_column (columns indent indents)) keys;
+  are_open = none_open 0 s.row s.after p rest (innermost_column (columns indent indents)) keys;
 }
 
 stream_cut : (text : List ℕ) (t : State) → has_no_nul text ≡ true → t.rest ≡ [] → (s : Stands text t) → (q : Position) →

@@ -13,7 +13,7 @@ use Rattle.defs_token.specs.Token.{Token}
 use Rattle.defs_text.specs.Classes.{is_nul, is_at_gap, are_marks, is_document_marker}
 use Rattle.defs_token.specs.Account.{innermost_column}
 use Rattle.defs_token.specs.Cut.{Written, IsCut}
-use Rattle.model_scanner.specs.State.{Key, Held, State, peek, behind, in_flow, on_held, try_held}
+use Rattle.model_scanner.specs.State.{Key, Held, State, peek, after, in_flow, on_held, try_held}
 use Rattle.model_scanner.specs.Keys.{is_far, is_overdue, still, drop_stale, with_keys, stale}
 use Rattle.model_scanner.specs.Indents.{unroll_indent}
 use Rattle.model_scanner.specs.Document.{fetch_stream_start}
@@ -48,14 +48,14 @@ length_still : (p : Position) (ks : List (Option Key)) → length (map (still p)
 length_still p [] = refl
 length_still p (k ∷ ks) = ap suc (length_still p ks)
 
-still_open : (row : List Written) (behind : List ℕ) (p : Position) (rest : List ℕ) (column : Option ℕ) (ks : List (Option Key)) → length ks ≡ 1 → AreOpen 0 row behind p rest column ks → AreOpen 0 row behind p rest column (map (still p) ks)
-still_open row behind p rest column [] one o = tt
-still_open row behind p rest column (x ∷ y ∷ ks) one o = absurd (omega (arith, one))
-still_open row behind p rest column (None ∷ []) one o = o
-still_open row behind p rest column (Some k ∷ []) one o = by (is_far k.place p)
+still_open : (row : List Written) (after : List ℕ) (p : Position) (rest : List ℕ) (column : Option ℕ) (ks : List (Option Key)) → length ks ≡ 1 → AreOpen 0 row after p rest column ks → AreOpen 0 row after p rest column (map (still p) ks)
+still_open row after p rest column [] one o = tt
+still_open row after p rest column (x ∷ y ∷ ks) one o = absurd (omega (arith, one))
+still_open row after p rest column (None ∷ []) one o = o
+still_open row after p rest column (Some k ∷ []) one o = by (is_far k.place p)
   where
-    by : (b : Bool) → AreOpen 0 row behind p rest column ((if b then None else Some k) ∷ [])
-    by true = open_given_up 0 row behind p rest column (Some k ∷ []) o
+    by : (b : Bool) → AreOpen 0 row after p rest column ((if b then None else Some k) ∷ [])
+    by true = open_given_up 0 row after p rest column (Some k ∷ []) o
     by false = o
 
 is_near : (k p : Position) → is_far k p ≡ false → p.line ≤ k.line
@@ -92,12 +92,12 @@ stale_stands text u s = either (in_flow u.held) (λ e. went (record { stands = s
             stood = record {
               begin = x.begin;
               row = x.row;
-              behind = x.behind;
+              after = x.after;
               tokens_are = x.tokens_are;
               here = x.here;
               are_levels = x.are_levels;
               one_each = length_still u.held.place u.held.keys ∙ x.one_each;
-              are_open = still_open x.row x.behind u.held.place u.rest (innermost_column (columns u.held.indent u.held.indents)) u.held.keys (x.one_each ∙ ap suc (nil_length u.held.flow out)) x.are_open;
+              are_open = still_open x.row x.after u.held.place u.rest (innermost_column (columns u.held.indent u.held.indents)) u.held.keys (x.one_each ∙ ap suc (nil_length u.held.flow out)) x.are_open;
             };
             was_adjacent = s.was_adjacent;
             is_adjacent_here = s.is_adjacent_here;
@@ -119,19 +119,19 @@ pub data Fared (text : List ℕ) (u : State) : Type 0 where
 
 -- ---- markers
 
-first_is : (r : List ℕ) → is_nil r ≡ false → r ≡ peek r ∷ behind r
+first_is : (r : List ℕ) → is_nil r ≡ false → r ≡ peek r ∷ after r
 first_is [] h = absurd (cc h)
 first_is (c ∷ r) h = refl
 
-pub begins_with_this : (r : List ℕ) (c : ℕ) → is_nil r ≡ false → (peek r == c) ≡ true → r ≡ c ∷ behind r
-begins_with_this r c some h = first_is r some ∙ ap (λ d. d ∷ behind r) (eqb-true (peek r) c h)
+pub begins_with_this : (r : List ℕ) (c : ℕ) → is_nil r ≡ false → (peek r == c) ≡ true → r ≡ c ∷ after r
+begins_with_this r c some h = first_is r some ∙ ap (λ d. d ∷ after r) (eqb-true (peek r) c h)
 
-is_gap_behind : (more : List ℕ) → is_at_gap more ≡ is_blank_or_breakz (slice_index more 0)
+is_gap_after : (more : List ℕ) → is_at_gap more ≡ is_blank_or_breakz (slice_index more 0)
 unfolding is_blank is_break
-is_gap_behind [] = refl
-is_gap_behind (c ∷ r) = same_gap c
+is_gap_after [] = refl
+is_gap_after (c ∷ r) = same_gap c
 
--- the text behind a document marker of a character
+-- the text after a document marker of a character
 record Marked (c : ℕ) (a : List ℕ) : Type 0 where
   pub more : List ℕ
   pub is_text : a ≡ c ∷ c ∷ c ∷ more
@@ -164,7 +164,7 @@ marked c (x ∷ y ∷ z ∷ more) n h =
     record {
       more = more;
       is_text = ap (λ u. u ∷ y ∷ z ∷ more) (eqb-true x c d.0) ∙ ap (λ u. c ∷ u ∷ z ∷ more) (eqb-true y c d.1) ∙ ap (λ u. c ∷ c ∷ u ∷ more) (eqb-true z c b.1);
-      gap = is_gap_behind more ∙ a.1;
+      gap = is_gap_after more ∙ a.1;
     }
 
 no_marker : (a : List ℕ) → comes_marker 45 a ≡ false → comes_marker 46 a ≡ false → is_document_marker a ≡ false
@@ -172,7 +172,7 @@ unfolding comes_marker are_marks
 no_marker [] h k = refl
 no_marker (x ∷ []) h k = refl
 no_marker (x ∷ y ∷ []) h k = refl
-no_marker (x ∷ y ∷ z ∷ more) h k = ap (λ g. (((x == 45) && (y == 45) && (z == 45)) || ((x == 46) && (y == 46) && (z == 46))) && g) (is_gap_behind more) ∙
+no_marker (x ∷ y ∷ z ∷ more) h k = ap (λ g. (((x == 45) && (y == 45) && (z == 45)) || ((x == 46) && (y == 46) && (z == 46))) && g) (is_gap_after more) ∙
     by ((x == 45) && (y == 45) && (z == 45)) ((x == 46) && (y == 46) && (z == 46)) (is_blank_or_breakz (slice_index more 0)) h k
   where
     by : (a b g : Bool) → (a && g) ≡ false → (b && g) ≡ false → ((a || b) && g) ≡ false
@@ -200,7 +200,7 @@ indented_fetched text t some h none =
 first_fetched : (text : List ℕ) (t : State) → is_nil t.rest ≡ false → Here text t → t.held.place.col ≡ 0 → Holds (Stands text) (fetch_first_column t)
 unfolding fetch_first_column
 first_fetched text t some h col =
-    either (peek t.rest == 37) (λ e. directive_fetched text (behind t.rest) t (begins_with_this t.rest 37 some e) col h.stands) (λ _.
+    either (peek t.rest == 37) (λ e. directive_fetched text (after t.rest) t (begins_with_this t.rest 37 some e) col h.stands) (λ _.
     either (comes_marker 45 t.rest) (λ e. let m : Marked 45 t.rest = marked 45 t.rest refl e in start_marked text m.more t m.is_text m.gap col h.stands) (λ a.
     either (comes_marker 46 t.rest) (λ e. let m : Marked 46 t.rest = marked 46 t.rest refl e in document_ended text m.more t m.is_text m.gap col h.stands) (λ b.
     indented_fetched text t some h (by (t.held.place.col == 0) (no_marker t.rest a b)))))
@@ -239,12 +239,12 @@ keys_only s = either (in_flow s) (λ _. went refl) (λ _. by (drop_stale s.place
     by (Ok ks) = went refl
     by (Err f) = refused
 
--- the keys that are dropped behind a token change nothing of the rest
+-- the keys that are dropped after a token change nothing of the rest
 fared_stale : (text : List ℕ) (t : State) → Fared text t → Holds (Fared text) (try_held stale t)
 fared_stale text t (goes s g) = tried t (stale t.held) (both_hold (stale_stands text t s) (walk.stale_dropped started started_is_kept t.held g)) (λ h d. goes d.0.stands d.1)
 fared_stale text t (over c e n) = tried t (stale t.held) (keys_only t.held) (λ h d. over (subst (λ y. IsCut y.tokens text) (sym d) c) (ap (λ y. y.ended) d ∙ e) (record { began = ap (λ y. y.started) d ∙ n.began; place = ap (λ y. y.place) d ∙ n.place }))
 
--- a state whose keys are near, behind the ends of block collections
+-- a state whose keys are near, after the ends of block collections
 pub here_now : (text : List ℕ) (u v : State) → begins_filler u.rest ≡ false → v ≡ record u { held = v.held } → Fresh text u v.held → walk.Stands started v.held → Here text (on_held (λ s. unroll_indent (s.place.col + 1) s) v)
 here_now text u v solid e f g =
     let stands : Stands text v = subst (λ y. Stands text y) (sym e) f.stands in
@@ -274,7 +274,7 @@ fetched text nul t s g = either t.held.started (λ _. next_fetched text nul t s 
 
 -- ---- runs
 
--- where a run has come to: before the stream's start, within the stream, or behind its end
+-- where a run has come to: before the stream's start, within the stream, or after its end
 pub data Came (text : List ℕ) (u : State) : Type 0 where
   starts : u ≡ start text → Came text u
   fares : Fared text u → Came text u

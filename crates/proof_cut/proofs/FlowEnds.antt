@@ -20,7 +20,7 @@ use Rattle.model_lexers.specs.declared.context.SkipTabs.TheVariants.{Yes}
 use Rattle.model_scanner.specs.declared.level.Indent.{Indent}
 use Rattle.model_scanner.specs.declared.level.FlowLevel.{FlowLevel}
 use Rattle.model_scanner.specs.declared.level.FlowLevel.TheVariants.{Mapping, Entry, Keyed, Pair}
-use Rattle.model_scanner.specs.State.{Key, Held, State, push, pop, with_top, token, behind, on_held, skip_indicator}
+use Rattle.model_scanner.specs.State.{Key, Held, State, push, pop, with_top, token, after, on_held, skip_indicator}
 use Rattle.model_scanner.specs.Keys.{remove_simple_key}
 use Rattle.model_scanner.specs.Flow.{allow_key, pass_indicator, end_flow_pair, decrease_flow_level, adjacent_in_flow, ended_flow, end_flow, next_entry, end_entry, fetch_flow_collection_end, fetch_flow_entry}
 use Rattle.model_scanner.proofs.Holds.{Holds, went, refused, chained, tried}
@@ -126,20 +126,20 @@ leads_out many p q rest2 vs o k n (m ∷ ns) b l e = let g : Goes (m ∷ ns) vs 
 no_length : {A : Type 0} (n : ℕ) → 0 ≡ suc n → A
 no_length n e = absurd (omega (arith, e))
 
-close_open : (row vs : List Written) (behind behind2 : List ℕ) (p q : Position) (rest rest2 : List ℕ) (column : Option ℕ) (fs : List FlowLevel) (keys : List (Option Key)) → length keys ≡ suc (length fs) → behind ≡ spelled vs behind2 → NotBefore p q → GoesOn rest2 rest →
-    LeadsOut 0 vs → AreOpen 0 row behind p rest column keys → AreOpen 0 (row ++ vs) behind2 q rest2 column (higher_keys fs keys)
-close_open row vs behind behind2 p q rest rest2 column [] [] e cut n g l o = tt
-close_open row vs behind behind2 p q rest rest2 column [] (x ∷ []) e cut n g l o = tt
-close_open row vs behind behind2 p q rest rest2 column [] (x ∷ y ∷ ks) e cut n g l o = absurd (omega (arith, e))
-close_open row vs behind behind2 p q rest rest2 column (f ∷ fs) [] e cut n g l o = no_length _ e
-close_open row vs behind behind2 p q rest rest2 column (f ∷ fs) (x ∷ ks) e cut n g l o =
-    open_more 1 0 row vs behind behind2 p q rest rest2 column ks cut n g (leads_out 0 p q rest2 vs l) (open_given_up 0 row behind p rest column (x ∷ ks) o)
+close_open : (row vs : List Written) (after after2 : List ℕ) (p q : Position) (rest rest2 : List ℕ) (column : Option ℕ) (fs : List FlowLevel) (keys : List (Option Key)) → length keys ≡ suc (length fs) → after ≡ spelled vs after2 → NotBefore p q → GoesOn rest2 rest →
+    LeadsOut 0 vs → AreOpen 0 row after p rest column keys → AreOpen 0 (row ++ vs) after2 q rest2 column (higher_keys fs keys)
+close_open row vs after after2 p q rest rest2 column [] [] e cut n g l o = tt
+close_open row vs after after2 p q rest rest2 column [] (x ∷ []) e cut n g l o = tt
+close_open row vs after after2 p q rest rest2 column [] (x ∷ y ∷ ks) e cut n g l o = absurd (omega (arith, e))
+close_open row vs after after2 p q rest rest2 column (f ∷ fs) [] e cut n g l o = no_length _ e
+close_open row vs after after2 p q rest rest2 column (f ∷ fs) (x ∷ ks) e cut n g l o =
+    open_more 1 0 row vs after after2 p q rest rest2 column ks cut n g (leads_out 0 p q rest2 vs l) (open_given_up 0 row after p rest column (x ∷ ks) o)
 
-pub entry_open : (row vs : List Written) (behind behind2 : List ℕ) (p q : Position) (rest rest2 : List ℕ) (column : Option ℕ) (fs : List FlowLevel) (keys : List (Option Key)) → length keys ≡ suc (length fs) → behind ≡ spelled vs behind2 → NotBefore p q → GoesOn rest2 rest →
-    LeadsOut 1 vs → AreOpen 0 row behind p rest column keys → AreOpen 0 (row ++ vs) behind2 q rest2 column (with_top None keys)
-entry_open row vs behind behind2 p q rest rest2 column fs [] e cut n g l o = tt
-entry_open row vs behind behind2 p q rest rest2 column fs (x ∷ ks) e cut n g l o =
-    open_more 1 1 row vs behind behind2 p q rest rest2 column ks cut n g (leads_out 1 p q rest2 vs l) (open_given_up 0 row behind p rest column (x ∷ ks) o)
+pub entry_open : (row vs : List Written) (after after2 : List ℕ) (p q : Position) (rest rest2 : List ℕ) (column : Option ℕ) (fs : List FlowLevel) (keys : List (Option Key)) → length keys ≡ suc (length fs) → after ≡ spelled vs after2 → NotBefore p q → GoesOn rest2 rest →
+    LeadsOut 1 vs → AreOpen 0 row after p rest column keys → AreOpen 0 (row ++ vs) after2 q rest2 column (with_top None keys)
+entry_open row vs after after2 p q rest rest2 column fs [] e cut n g l o = tt
+entry_open row vs after after2 p q rest rest2 column fs (x ∷ ks) e cut n g l o =
+    open_more 1 1 row vs after after2 p q rest rest2 column ks cut n g (leads_out 1 p q rest2 vs l) (open_given_up 0 row after p rest column (x ∷ ks) o)
 
 pub length_top : (ks : List (Option Key)) → length (with_top None ks) ≡ length ks
 length_top [] = refl
@@ -157,7 +157,7 @@ entered_many (Keyed ∷ fs) = refl
 entered_many (Mapping ∷ fs) = refl
 entered_many (Entry ∷ fs) = refl
 
--- ---- what was passed behind the end of an entry
+-- ---- what was passed after the end of an entry
 
 -- What an end does to the levels: it closes one, or none.
 pub record Ends (tok : Tok) (c : ℕ) (many : ℕ) (new : List FlowLevel → List FlowLevel) (by : Before) : Type 0 where
@@ -178,10 +178,10 @@ leads_two tok c many new by d f at at2 m ns =
     let x : (ms : List Level) × (step_inside (record m { pair = false } ∷ ns) (c ∷ []) tok ≡ Some ms) × (length ms ≡ many + length ns) = d.step (record m { pair = false }) ns in
     record { levels = x.0; is_inside = ap (λ o. levels_then o (λ ms. Some ms)) x.1; are_many = x.2 }
 
--- the keys behind it
+-- the keys after it
 abbrev Closes : (many : ℕ) → (List FlowLevel → List (Option Key) → List (Option Key)) → Type 0
-Closes many keys_of = (row vs : List Written) (behind behind2 : List ℕ) (p q : Position) (rest rest2 : List ℕ) (column : Option ℕ) (fs : List FlowLevel) (keys : List (Option Key)) → length keys ≡ suc (length fs) → behind ≡ spelled vs behind2 → NotBefore p q → GoesOn rest2 rest →
-    LeadsOut many vs → AreOpen 0 row behind p rest column keys → AreOpen 0 (row ++ vs) behind2 q rest2 column (keys_of fs keys)
+Closes many keys_of = (row vs : List Written) (after after2 : List ℕ) (p q : Position) (rest rest2 : List ℕ) (column : Option ℕ) (fs : List FlowLevel) (keys : List (Option Key)) → length keys ≡ suc (length fs) → after ≡ spelled vs after2 → NotBefore p q → GoesOn rest2 rest →
+    LeadsOut many vs → AreOpen 0 row after p rest column keys → AreOpen 0 (row ++ vs) after2 q rest2 column (keys_of fs keys)
 
 end_alone : (text : List ℕ) (p : Position) (tokens : List Token) (keys : List (Option Key)) (indents : List Indent) (indent : ℕ) (flow : List FlowLevel) (before : Before) (tok : Tok) (c : ℕ) (more : List ℕ) (many : ℕ) (new : List FlowLevel → List FlowLevel) (by : Before) →
     Ends tok c many new by → (keys_of : List FlowLevel → List (Option Key) → List (Option Key)) → Closes many keys_of → length (keys_of flow keys) ≡ suc (length (new flow)) → (t v : State) → t.rest ≡ c ∷ more → t.held.place ≡ p → (g : Passed (skip_indicator t) v) →
@@ -192,8 +192,8 @@ end_alone text p tokens keys indents indent flow before tok c more many new by d
     let w : Written = led s.here.filler (with_piece (c ∷ []) p tok) in
     subst (λ b. Stood text v.rest v.held.place (tokens ++ token p tok ∷ []) (keys_of flow keys) indents indent (new flow) (before_past b g.filler)) d.before
     (piece_stood text (c ∷ more) p tokens keys indents indent flow before s tok p v.rest v.held.place r (d.is_end.blocks (columns indent indents)) (new flow) (d.levels flow none) (keys_of flow keys) each
-    (closes s.row (w ∷ []) s.behind (g.filler ++ v.rest) p v.held.place (c ∷ more) v.rest (innermost_column (columns indent indents)) flow keys s.one_each
-    (spelled_led s.behind s.here.filler (c ∷ more) (with_piece (c ∷ []) p tok) [] (g.filler ++ v.rest) s.here.is_behind r.is_text) (weaker p v.held.place (read_later a (c ∷ more) tok p v.rest v.held.place r)) (λ _. refl)
+    (closes s.row (w ∷ []) s.after (g.filler ++ v.rest) p v.held.place (c ∷ more) v.rest (innermost_column (columns indent indents)) flow keys s.one_each
+    (spelled_led s.after s.here.filler (c ∷ more) (with_piece (c ∷ []) p tok) [] (g.filler ++ v.rest) s.here.is_after r.is_text) (weaker p v.held.place (read_later a (c ∷ more) tok p v.rest v.held.place r)) (λ _. refl)
     (leads_one tok c many new by d s.here.filler p) s.are_open))
 
 end_pair_too : (text : List ℕ) (p : Position) (tokens : List Token) (keys : List (Option Key)) (indents : List Indent) (indent : ℕ) (fs : List FlowLevel) (before : Before) (tok : Tok) (c : ℕ) (more : List ℕ) (many : ℕ) (new : List FlowLevel → List FlowLevel) (by : Before) →
@@ -205,12 +205,12 @@ end_pair_too text p tokens keys indents indent fs before tok c more many new by 
     let bs : List (Option ℕ) = columns indent indents in
     let r : ReadAs b (c ∷ more) tok p v.rest v.held.place = indicated b c more tok p t v e place d.is_end.in_line g (λ next last _. d.is_end.piece b next last refl) in
     let vs : List Written = led s.here.filler (with_piece [] p Tok.flow_mapping_end) ∷ with_piece (c ∷ []) p tok ∷ [] in
-    let cut : more ≡ g.filler ++ v.rest = ap behind r.is_text in
+    let cut : more ≡ g.filler ++ v.rest = ap after r.is_text in
     subst (λ y. Stood text v.rest v.held.place ((tokens ++ token p Tok.flow_mapping_end ∷ []) ++ token p tok ∷ []) (keys_of (Pair ∷ fs) keys) indents indent (new (Pair ∷ fs)) (before_past y g.filler)) d.before
     (two_stood text c more p tokens keys indents indent (Pair ∷ fs) before s Tok.flow_mapping_end tok p p g.filler v.rest v.held.place cut r.is_filled r.is_end indents indent s.are_levels (columns_settled p.col indent indents)
     (inr (refl, refl, d.is_end.ends)) r.is_piece (d.is_end.blocks bs) (new (Pair ∷ fs)) (d.paired fs) (keys_of (Pair ∷ fs) keys) each
-    (closes s.row vs s.behind (g.filler ++ v.rest) p v.held.place (c ∷ more) v.rest (innermost_column bs) (Pair ∷ fs) keys s.one_each
-    (spelled_led s.behind s.here.filler (c ∷ more) (with_piece [] p Tok.flow_mapping_end) (with_piece (c ∷ []) p tok ∷ []) (g.filler ++ v.rest) s.here.is_behind r.is_text)
+    (closes s.row vs s.after (g.filler ++ v.rest) p v.held.place (c ∷ more) v.rest (innermost_column bs) (Pair ∷ fs) keys s.one_each
+    (spelled_led s.after s.here.filler (c ∷ more) (with_piece [] p Tok.flow_mapping_end) (with_piece (c ∷ []) p tok ∷ []) (g.filler ++ v.rest) s.here.is_after r.is_text)
     (weaker p v.held.place (read_later b (c ∷ more) tok p v.rest v.held.place r)) (λ _. refl) (leads_two tok c many new by d s.here.filler p p) s.are_open))
 
 end_stood : (text : List ℕ) (p : Position) (tokens : List Token) (keys : List (Option Key)) (indents : List Indent) (indent : ℕ) (flow : List FlowLevel) (before : Before) (tok : Tok) (c : ℕ) (more : List ℕ) (many : ℕ) (new : List FlowLevel → List FlowLevel) (by : Before) →
@@ -282,9 +282,9 @@ one_line : (f rest : List ℕ) → is_filler false f rest ≡ true → has_break
 one_line [] rest h n = inl refl
 one_line (c ∷ f) rest h n = by (is_blank c) (is_break c) refl h n (one_line f rest)
   where
-    behind_comment : (f : List ℕ) → is_filler true f rest ≡ true → has_break f ≡ false → is_at_line_end rest ≡ true
-    behind_comment [] h n = h
-    behind_comment (d ∷ f) h n = of (is_break d) h n (behind_comment f)
+    after_comment : (f : List ℕ) → is_filler true f rest ≡ true → has_break f ≡ false → is_at_line_end rest ≡ true
+    after_comment [] h n = h
+    after_comment (d ∷ f) h n = of (is_break d) h n (after_comment f)
       where
         of : (b : Bool) → is_filler (not b) f rest ≡ true → (b || has_break f) ≡ false → (is_filler true f rest ≡ true → has_break f ≡ false → is_at_line_end rest ≡ true) → is_at_line_end rest ≡ true
         of true h n k = absurd (cc n)
@@ -296,7 +296,7 @@ one_line (c ∷ f) rest h n = by (is_blank c) (is_break c) refl h n (one_line f 
     by true false e h n k = k (rw (no_hash c (sym (same_blank c) ∙ e)) at h) n
     by false false e h n k =
         let a : ((c == 35) ≡ true) × (is_filler (c == 35) f rest ≡ true) = and_parts (c == 35) (is_filler (c == 35) f rest) h in
-        inr (behind_comment f (rw (a.0) at (a.1)) n)
+        inr (after_comment f (rw (a.0) at (a.1)) n)
 
 no_token : (r : List ℕ) → has_no_nul r ≡ true → is_at_line_end r ≡ true → begins_token r ≡ true → ⊥
 no_token [] n l t = cc t
@@ -317,7 +317,7 @@ no_blank c h = by (c == 32) (c == 9) h
     by false true h = absurd (cc h)
     by false false h = refl
 
--- behind a flow collection and blanks
+-- after a flow collection and blanks
 adjacent_collection : (p : Position) (f rest : List ℕ) → is_filler false f rest ≡ true → has_break f ≡ false → ends_spaces Yes rest ≡ true → has_no_nul rest ≡ true → IsAdjacent (before_past collection f) p p.index rest
 adjacent_collection p f rest fills line ends clean = λ filler r e k t. by filler r e k t
   where

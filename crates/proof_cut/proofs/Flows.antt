@@ -30,7 +30,7 @@ use Rattle.proof_cut.proofs.Passes.{Passed, Spaced, spaces_skipped, passed_space
 use Rattle.proof_cut.proofs.Nodes.{IsDeep, adjacent_other, further_read}
 use Rattle.proof_cut.proofs.Indicators.{indicated}
 
--- behind an indicator
+-- after an indicator
 indicator_passed : (t : State) → Holds (Spaced Yes (skip_indicator t)) (pass_indicator t)
 unfolding pass_indicator
 indicator_passed t = spaces_skipped Yes (skip_indicator t)
@@ -113,7 +113,7 @@ start_fares text kind tok c more o t v e s deep few sp =
       before = before_past (before_by tok) g.filler;
       stood = piece_stood text (c ∷ more) p t.held.tokens t.held.keys ds i t.held.flow s.before x tok p v.rest v.held.place r (o.blocks (columns i ds)) (kind ∷ t.held.flow) (o.levels (levels_of t.held.flow))
           (None ∷ saved_keys t.held) (ap suc (length_saved t.held.key_allowed (must_be_key t.held) (length t.held.tokens) p t.held.keys ∙ s.stood.one_each))
-          (open_saved text x.row x.behind (c ∷ more) a t.held.keys (innermost_column (columns i ds)) c [] (g.filler ++ v.rest) v.rest v.held.place p tok 1 t.held.key_allowed
+          (open_saved text x.row x.after (c ∷ more) a t.held.keys (innermost_column (columns i ds)) c [] (g.filler ++ v.rest) v.rest v.held.place p tok 1 t.held.key_allowed
           (record { required = must_be_key t.held; number = length t.held.tokens; place = p }) x.here (λ n. columns_settled n i ds) x.are_open r.is_text (read_later a (c ∷ more) tok p v.rest v.held.place r) o.node right
           (number_of x.begin x.row t.held.tokens x.tokens_are) refl (opens_level p v.held.place v.rest x.here.filler c p tok (level_of kind) o.steps));
       was_adjacent = omega (arith, s.was_adjacent, further);

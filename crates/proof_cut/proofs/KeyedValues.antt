@@ -1,4 +1,4 @@
--- The function of the model that reads a `:` behind a simple key keeps what holds between fetches.
+-- The function of the model that reads a `:` after a simple key keeps what holds between fetches.
 use Rattle.std.proofs.Common.{◌≡◌, ℕ, suc, ◌+◌, ◌≤◌, List, [], ◌∷◌, ◌++◌, true, false, not, length, Option, Some, None, refl, ap, sym, ◌∙◌, subst, arith}
 use Rattle.std.specs.List.{insert}
 use Rattle.defs_text.specs.Position.{Position}
@@ -13,7 +13,7 @@ use Rattle.model_scanner.specs.declared.level.Indent.{Indent}
 use Rattle.model_scanner.specs.declared.level.FlowLevel.{FlowLevel}
 use Rattle.model_scanner.specs.declared.level.FlowLevel.TheVariants.{Entry, Pair}
 use Rattle.model_scanner.specs.State.{Key, token}
-use Rattle.proof_cut.specs.Order.{Behind}
+use Rattle.proof_cut.specs.Order.{After}
 use Rattle.proof_cut.specs.Inside.{inside}
 use Rattle.proof_cut.specs.Here.{IsLive, IsInside, IsOpen, AreOpen}
 use Rattle.proof_cut.specs.Stands.{columns, AreLevels, levels_of, account_of, Stood}
@@ -22,36 +22,36 @@ use Rattle.proof_cut.proofs.Insides.{inside_framed}
 use Rattle.proof_cut.proofs.Opens.{Goes, same_nil, open_more}
 use Rattle.proof_cut.proofs.Saved.{length_tokens}
 use Rattle.proof_cut.proofs.Blocks.{none_open}
-use Rattle.proof_cut.proofs.Pieces.Inserted.{key_behind, mapping_behind, pair_behind, pair_row, levels_behind, on_line, row_second, insert_tokens}
+use Rattle.proof_cut.proofs.Pieces.Inserted.{key_after, mapping_after, pair_after, pair_row, levels_after, on_line, row_second, insert_tokens}
 
--- the row behind a key's number, with tokens more
+-- the row after a key's number, with tokens more
 abbrev Late : (text more : List ℕ) (p : Position) (tokens : List Token) (k : Key) (ks : List (Option Key)) (indents : List Indent) (indent : ℕ) (flow : List FlowLevel) (before : Before) → Type 0
 Late text more p tokens k ks indents indent flow before = Stood text (58 ∷ more) p tokens (Some k ∷ ks) indents indent flow before
 
 -- Tokens go in before a key's own.
 pub inserted_stood : (text more : List ℕ) (p : Position) (tokens : List Token) (k : Key) (ks : List (Option Key)) (indents : List Indent) (indent : ℕ) (flow : List FlowLevel) (before : Before) (s : Stood text (58 ∷ more) p tokens (Some k ∷ ks) indents indent flow before) →
-    (vs : List Written) → let o : IsOpen k 0 s.row s.behind p (58 ∷ more) (innermost_column (columns indent indents)) = s.are_open.0 in let acc : Account = account_past_row first_account o.before (spelled (o.own ∷ o.later) s.behind) in
-    spelled vs s.behind ≡ spelled (o.own ∷ o.later) s.behind → ((last : Option Tok) → IsRow acc vs s.behind last) → (indents2 : List Indent) (indent2 : ℕ) → AreLevels indent2 indents2 → (flow2 : List FlowLevel) → length flow2 ≡ length flow →
-    account_past_filler (account_past_row acc vs s.behind) s.here.filler (58 ∷ more) ≡ account_of p indent2 indents2 flow2 before →
-    AreOpen 0 (o.before ++ vs) s.behind p (58 ∷ more) (innermost_column (columns indent2 indents2)) (None ∷ ks) →
+    (vs : List Written) → let o : IsOpen k 0 s.row s.after p (58 ∷ more) (innermost_column (columns indent indents)) = s.are_open.0 in let acc : Account = account_past_row first_account o.before (spelled (o.own ∷ o.later) s.after) in
+    spelled vs s.after ≡ spelled (o.own ∷ o.later) s.after → ((last : Option Tok) → IsRow acc vs s.after last) → (indents2 : List Indent) (indent2 : ℕ) → AreLevels indent2 indents2 → (flow2 : List FlowLevel) → length flow2 ≡ length flow →
+    account_past_filler (account_past_row acc vs s.after) s.here.filler (58 ∷ more) ≡ account_of p indent2 indents2 flow2 before →
+    AreOpen 0 (o.before ++ vs) s.after p (58 ∷ more) (innermost_column (columns indent2 indents2)) (None ∷ ks) →
     Stood text (58 ∷ more) p (start_token s.begin ∷ tokens_of (o.before ++ vs)) (None ∷ ks) indents2 indent2 flow2 before
 inserted_stood text more p tokens k ks indents indent flow before s vs same row indents2 indent2 are flow2 many here opened =
-    let o : IsOpen k 0 s.row s.behind p (58 ∷ more) (innermost_column (columns indent indents)) = s.are_open.0 in
+    let o : IsOpen k 0 s.row s.after p (58 ∷ more) (innermost_column (columns indent indents)) = s.are_open.0 in
     let old : List Written = o.own ∷ o.later in
-    let acc : Account = account_past_row first_account o.before (spelled old s.behind) in
+    let acc : Account = account_past_row first_account o.before (spelled old s.after) in
     record {
       begin = s.begin;
       row = o.before ++ vs;
-      behind = s.behind;
+      after = s.after;
       tokens_are = refl;
       here = record {
         filler = s.here.filler;
-        is_behind = s.here.is_behind;
-        is_text = spelled_append o.before vs s.behind ∙ ap (λ t. spelled o.before t) same ∙ sym (spelled_append o.before old s.behind) ∙ ap (λ r. spelled r s.behind) (sym o.is_split) ∙ s.here.is_text;
-        is_row = λ last. row_append first_account o.before vs s.behind last (subst (λ t. IsRow first_account o.before t (first_token vs last)) (sym same) (o.is_free (first_token vs last)))
-            (subst (λ t. IsRow (account_past_row first_account o.before t) vs s.behind last) (sym same) (row last));
+        is_after = s.here.is_after;
+        is_text = spelled_append o.before vs s.after ∙ ap (λ t. spelled o.before t) same ∙ sym (spelled_append o.before old s.after) ∙ ap (λ r. spelled r s.after) (sym o.is_split) ∙ s.here.is_text;
+        is_row = λ last. row_append first_account o.before vs s.after last (subst (λ t. IsRow first_account o.before t (first_token vs last)) (sym same) (o.is_free (first_token vs last)))
+            (subst (λ t. IsRow (account_past_row first_account o.before t) vs s.after last) (sym same) (row last));
         is_filled = s.here.is_filled;
-        is_here = ap (λ a. account_past_filler a s.here.filler (58 ∷ more)) (account_append first_account o.before vs s.behind ∙ ap (λ t. account_past_row (account_past_row first_account o.before t) vs s.behind) same) ∙ here;
+        is_here = ap (λ a. account_past_filler a s.here.filler (58 ∷ more)) (account_append first_account o.before vs s.after ∙ ap (λ t. account_past_row (account_past_row first_account o.before t) vs s.after) same) ∙ here;
         is_clean = s.here.is_clean;
       };
       are_levels = are;
@@ -61,21 +61,21 @@ inserted_stood text more p tokens k ks indents indent flow before s vs same row 
 
 -- ---- what is known of an open key at its colon
 
--- the row from a key on, and the account behind it
+-- the row from a key on, and the account after it
 pub record AtColon (text more : List ℕ) (p : Position) (tokens : List Token) (k : Key) (ks : List (Option Key)) (indents : List Indent) (indent : ℕ) (flow : List FlowLevel) (before : Before) (s : Stood text (58 ∷ more) p tokens (Some k ∷ ks) indents indent flow before) : Type 0 where
-  pub row : (last : Option Tok) → IsRow (account_past_row first_account s.are_open.0.before (spelled (s.are_open.0.own ∷ s.are_open.0.later) s.behind)) (s.are_open.0.own ∷ s.are_open.0.later) s.behind last
-  pub here : account_past_filler (account_past_row (account_past_row first_account s.are_open.0.before (spelled (s.are_open.0.own ∷ s.are_open.0.later) s.behind)) (s.are_open.0.own ∷ s.are_open.0.later) s.behind) s.here.filler (58 ∷ more) ≡ account_of p indent indents flow before
+  pub row : (last : Option Tok) → IsRow (account_past_row first_account s.are_open.0.before (spelled (s.are_open.0.own ∷ s.are_open.0.later) s.after)) (s.are_open.0.own ∷ s.are_open.0.later) s.after last
+  pub here : account_past_filler (account_past_row (account_past_row first_account s.are_open.0.before (spelled (s.are_open.0.own ∷ s.are_open.0.later) s.after)) (s.are_open.0.own ∷ s.are_open.0.later) s.after) s.here.filler (58 ∷ more) ≡ account_of p indent indents flow before
   pub tokens_are : tokens ≡ start_token s.begin ∷ (tokens_of s.are_open.0.before ++ tokens_of (s.are_open.0.own ∷ s.are_open.0.later))
   pub number : k.number ≡ suc (length (tokens_of s.are_open.0.before))
 
 pub at_colon : (text more : List ℕ) (p : Position) (tokens : List Token) (k : Key) (ks : List (Option Key)) (indents : List Indent) (indent : ℕ) (flow : List FlowLevel) (before : Before) (s : Stood text (58 ∷ more) p tokens (Some k ∷ ks) indents indent flow before) →
     AtColon text more p tokens k ks indents indent flow before s
 at_colon text more p tokens k ks indents indent flow before s =
-    let o : IsOpen k 0 s.row s.behind p (58 ∷ more) (innermost_column (columns indent indents)) = s.are_open.0 in
+    let o : IsOpen k 0 s.row s.after p (58 ∷ more) (innermost_column (columns indent indents)) = s.are_open.0 in
     let old : List Written = o.own ∷ o.later in
     record {
-      row = λ last. row_second first_account o.before old s.behind last (subst (λ r. IsRow first_account r s.behind last) o.is_split (s.here.is_row last));
-      here = ap (λ a. account_past_filler a s.here.filler (58 ∷ more)) (sym (account_append first_account o.before old s.behind) ∙ ap (λ r. account_past_row first_account r s.behind) (sym o.is_split)) ∙ s.here.is_here;
+      row = λ last. row_second first_account o.before old s.after last (subst (λ r. IsRow first_account r s.after last) o.is_split (s.here.is_row last));
+      here = ap (λ a. account_past_filler a s.here.filler (58 ∷ more)) (sym (account_append first_account o.before old s.after) ∙ ap (λ r. account_past_row first_account r s.after) (sym o.is_split)) ∙ s.here.is_here;
       tokens_are = s.tokens_are ∙ ap (λ r. start_token s.begin ∷ tokens_of r) o.is_split ∙ ap (λ ts. start_token s.begin ∷ ts) (tokens_append o.before old);
       number = o.number_is ∙ ap suc (sym (length_tokens o.before));
     }
@@ -94,16 +94,16 @@ abbrev Inserts : (many : List Level → List Level) → (old vs : List Written) 
 Inserts new old vs = (m : Level) (ns : List Level) → inside [] old ≡ Some [] → (length (new (m ∷ ns)) ≡ suc (length ns)) × (inside (m ∷ ns) vs ≡ Some (new (m ∷ ns)))
 
 outer_open : (text more : List ℕ) (p : Position) (tokens : List Token) (k : Key) (ks : List (Option Key)) (indents : List Indent) (indent : ℕ) (flow : List FlowLevel) (before : Before) (s : Stood text (58 ∷ more) p tokens (Some k ∷ ks) indents indent flow before) →
-    (vs : List Written) (new : List Level → List Level) → Inserts new (s.are_open.0.own ∷ s.are_open.0.later) vs → spelled vs s.behind ≡ spelled (s.are_open.0.own ∷ s.are_open.0.later) s.behind →
-    AreOpen 1 (s.are_open.0.before ++ vs) s.behind p (58 ∷ more) (innermost_column (columns indent indents)) ks
+    (vs : List Written) (new : List Level → List Level) → Inserts new (s.are_open.0.own ∷ s.are_open.0.later) vs → spelled vs s.after ≡ spelled (s.are_open.0.own ∷ s.are_open.0.later) s.after →
+    AreOpen 1 (s.are_open.0.before ++ vs) s.after p (58 ∷ more) (innermost_column (columns indent indents)) ks
 outer_open text more p tokens k ks indents indent flow before s vs new inserts same =
     let column : Option ℕ = innermost_column (columns indent indents) in
-    let o : IsOpen k 0 s.row s.behind p (58 ∷ more) column = s.are_open.0 in
+    let o : IsOpen k 0 s.row s.after p (58 ∷ more) column = s.are_open.0 in
     let old : List Written = o.own ∷ o.later in
-    open_more 1 1 o.before vs (spelled old s.behind) s.behind k.place p (o.own.piece ++ spelled o.later s.behind) (58 ∷ more) column ks (sym same) (weaker k.place p o.is_earlier) (λ _. same_nil o.own (spelled o.later s.behind) o.is_solid)
+    open_more 1 1 o.before vs (spelled old s.after) s.after k.place p (o.own.piece ++ spelled o.later s.after) (58 ∷ more) column ks (sym same) (weaker k.place p o.is_earlier) (λ _. same_nil o.own (spelled o.later s.after) o.is_solid)
     (λ k2 n ns b l e. by k2 n ns b l e) s.are_open.1
   where
-    by : (k2 : Key) (n : ℕ) (ns : List Level) → Behind k2.place k.place → IsLive k2 p (58 ∷ more) → length ns ≡ 1 + n → Goes ns vs (1 + n)
+    by : (k2 : Key) (n : ℕ) (ns : List Level) → After k2.place k.place → IsLive k2 p (58 ∷ more) → length ns ≡ 1 + n → Goes ns vs (1 + n)
     by k2 n [] b l e = absurd (omega (arith, e))
     by k2 n (m ∷ ns) b l e =
         let i : inside [] (s.are_open.0.own ∷ s.are_open.0.later) ≡ Some [] = inside_none k (s.are_open.0.own ∷ s.are_open.0.later) (innermost_column (columns indent indents)) (s.are_open.0.live (omega (arith, l.0, b.0), refl)) in
@@ -115,9 +115,9 @@ outer_open text more p tokens k ks indents indent flow before s vs new inserts s
 pub key_stood : (text more : List ℕ) (p : Position) (tokens : List Token) (k : Key) (ks : List (Option Key)) (indents : List Indent) (indent : ℕ) (flow : List FlowLevel) (before : Before) → Stood text (58 ∷ more) p tokens (Some k ∷ ks) indents indent flow before →
     Stood text (58 ∷ more) p (insert tokens k.number (token k.place Tok.key)) (None ∷ ks) indents indent flow before
 key_stood text more p tokens k ks indents indent flow before s =
-    let o : IsOpen k 0 s.row s.behind p (58 ∷ more) (innermost_column (columns indent indents)) = s.are_open.0 in
+    let o : IsOpen k 0 s.row s.after p (58 ∷ more) (innermost_column (columns indent indents)) = s.are_open.0 in
     let old : List Written = o.own ∷ o.later in
-    let acc : Account = account_past_row first_account o.before (spelled old s.behind) in
+    let acc : Account = account_past_row first_account o.before (spelled old s.after) in
     let vs : List Written = empty_token o.own.filler (key_at k.place) ∷ bare o.own ∷ o.later in
     let c : AtColon text more p tokens k ks indents indent flow before s = at_colon text more p tokens k ks indents indent flow before s in
     let t : Token = token k.place Tok.key in
@@ -125,8 +125,8 @@ key_stood text more p tokens k ks indents indent flow before s =
     sym (ap (λ ts. insert ts k.number t) c.tokens_are ∙ ap (λ n. insert (start_token s.begin ∷ (tokens_of o.before ++ tokens_of old)) n t) c.number ∙ insert_tokens (start_token s.begin) (tokens_of o.before) (tokens_of old) t ∙
     ap (λ ts. start_token s.begin ∷ ts) (sym (tokens_append o.before vs))) in
     subst (λ ts. Stood text (58 ∷ more) p ts (None ∷ ks) indents indent flow before) same
-    (inserted_stood text more p tokens k ks indents indent flow before s vs refl (λ last. key_inserted acc o.own o.later s.behind last k.place o.is_node (c.row last)) indents indent s.are_levels flow refl
-    (ap (λ a. account_past_filler a s.here.filler (58 ∷ more)) (key_behind acc o.own o.later s.behind k.place) ∙ c.here)
+    (inserted_stood text more p tokens k ks indents indent flow before s vs refl (λ last. key_inserted acc o.own o.later s.after last k.place o.is_node (c.row last)) indents indent s.are_levels flow refl
+    (ap (λ a. account_past_filler a s.here.filler (58 ∷ more)) (key_after acc o.own o.later s.after k.place) ∙ c.here)
     (outer_open text more p tokens k ks indents indent flow before s vs (λ ns. ns) (λ m ns i. (refl, inside_framed [] old [] (m ∷ ns) i)) refl))
 
 -- two tokens go in before those of a number
@@ -140,19 +140,19 @@ pub pair_key_stood : (text more : List ℕ) (p q : Position) (tokens : List Toke
     Stood text (58 ∷ more) p (insert (insert tokens k.number (token k.place Tok.key)) k.number (token q Tok.flow_mapping_start)) (None ∷ ks) indents indent (Pair ∷ gs) before
 pair_key_stood text more p q tokens k ks indents indent gs before on s =
     let column : Option ℕ = innermost_column (columns indent indents) in
-    let o : IsOpen k 0 s.row s.behind p (58 ∷ more) column = s.are_open.0 in
+    let o : IsOpen k 0 s.row s.after p (58 ∷ more) column = s.are_open.0 in
     let old : List Written = o.own ∷ o.later in
-    let acc : Account = account_past_row first_account o.before (spelled old s.behind) in
+    let acc : Account = account_past_row first_account o.before (spelled old s.after) in
     let vs : List Written = empty_token o.own.filler (pair_at q) ∷ empty_token [] (key_at k.place) ∷ bare o.own ∷ o.later in
     let c : AtColon text more p tokens k ks indents indent (Entry ∷ gs) before s = at_colon text more p tokens k ks indents indent (Entry ∷ gs) before s in
     let i : inside [] old ≡ Some [] = inside_none k old column (o.live (on, refl)) in
     let ls : List Level = levels_of gs in
-    let levels : acc.levels ≡ record { kind = sequence; pair = false } ∷ ls = sym (levels_behind acc [] [] acc.levels old s.behind i refl) ∙ ap (λ a. a.levels) c.here in
+    let levels : acc.levels ≡ record { kind = sequence; pair = false } ∷ ls = sym (levels_after acc [] [] acc.levels old s.after i refl) ∙ ap (λ a. a.levels) c.here in
     let same : start_token s.begin ∷ tokens_of (o.before ++ vs) ≡ insert (insert tokens k.number (token k.place Tok.key)) k.number (token q Tok.flow_mapping_start) =
     ap (λ ts. start_token s.begin ∷ ts) (tokens_append o.before vs) ∙ sym (two_in (start_token s.begin) (tokens_of o.before) (tokens_of old) tokens k.number (token k.place Tok.key) (token q Tok.flow_mapping_start) c.tokens_are c.number) in
     subst (λ ts. Stood text (58 ∷ more) p ts (None ∷ ks) indents indent (Pair ∷ gs) before) same
-    (inserted_stood text more p tokens k ks indents indent (Entry ∷ gs) before s vs refl (λ last. pair_row acc o.own o.later s.behind last q k.place ls [] o.is_node i levels (c.row last)) indents indent s.are_levels (Pair ∷ gs) refl
-    (ap (λ a. account_past_filler a s.here.filler (58 ∷ more)) (pair_behind acc o.own o.later s.behind q k.place ls i levels) ∙ ap (λ (a : Account). record a { levels = record { kind = sequence; pair = true } ∷ ls }) c.here)
+    (inserted_stood text more p tokens k ks indents indent (Entry ∷ gs) before s vs refl (λ last. pair_row acc o.own o.later s.after last q k.place ls [] o.is_node i levels (c.row last)) indents indent s.are_levels (Pair ∷ gs) refl
+    (ap (λ a. account_past_filler a s.here.filler (58 ∷ more)) (pair_after acc o.own o.later s.after q k.place ls i levels) ∙ ap (λ (a : Account). record a { levels = record { kind = sequence; pair = true } ∷ ls }) c.here)
     (outer_open text more p tokens k ks indents indent (Entry ∷ gs) before s vs (with_pair true) (λ m ns j. (refl, inside_framed [] old [] (record m { pair = true } ∷ ns) j)) refl))
 
 -- ---- the start of a mapping, and its key
@@ -162,23 +162,23 @@ pub mapping_key_stood : (text more : List ℕ) (p q : Position) (tokens : List T
     Stood text (58 ∷ more) p (insert (insert tokens k.number (token k.place Tok.key)) k.number (token q Tok.block_mapping_start)) (None ∷ ks) indents2 indent2 [] before
 mapping_key_stood text more p q tokens k ks indents indent before indents2 indent2 on are cols s =
     let column : Option ℕ = innermost_column (columns indent indents) in
-    let o : IsOpen k 0 s.row s.behind p (58 ∷ more) column = s.are_open.0 in
+    let o : IsOpen k 0 s.row s.after p (58 ∷ more) column = s.are_open.0 in
     let old : List Written = o.own ∷ o.later in
-    let acc : Account = account_past_row first_account o.before (spelled old s.behind) in
-    let own : Account = account_at acc o.own (spelled o.later s.behind) in
+    let acc : Account = account_past_row first_account o.before (spelled old s.after) in
+    let own : Account = account_at acc o.own (spelled o.later s.after) in
     let vs : List Written = empty_token o.own.filler (mapping_at q) ∷ empty_token [] (key_at k.place) ∷ bare o.own ∷ o.later in
     let c : AtColon text more p tokens k ks indents indent [] before s = at_colon text more p tokens k ks indents indent [] before s in
     let i : inside [] old ≡ Some [] = inside_none k old column (o.live (on, refl)) in
-    let levels : acc.levels ≡ [] = sym (levels_behind acc [] [] acc.levels old s.behind i refl) ∙ ap (λ a. a.levels) c.here in
+    let levels : acc.levels ≡ [] = sym (levels_after acc [] [] acc.levels old s.after i refl) ∙ ap (λ a. a.levels) c.here in
     let outside : not (is_empty acc.levels) ≡ false = ap (λ ls. not (is_empty ls)) levels in
-    let end_line : (position_after (account_past_row acc old s.behind).place s.here.filler (58 ∷ more)).line ≡ p.line = ap (λ a. a.place.line) c.here in
+    let end_line : (position_after (account_past_row acc old s.after).place s.here.filler (58 ∷ more)).line ≡ p.line = ap (λ a. a.place.line) c.here in
     let key_line : k.place.line ≡ own.place.line = ap (λ x. x.line) o.place_is in
-    let line : AreOnLine old s.behind = on_line acc o.own o.later s.behind s.here.filler more [] i s.here.is_behind (omega (arith, end_line, key_line, on)) in
+    let line : AreOnLine old s.after = on_line acc o.own o.later s.after s.here.filler more [] i s.here.is_after (omega (arith, end_line, key_line, on)) in
     let same : start_token s.begin ∷ tokens_of (o.before ++ vs) ≡ insert (insert tokens k.number (token k.place Tok.key)) k.number (token q Tok.block_mapping_start) =
     ap (λ ts. start_token s.begin ∷ ts) (tokens_append o.before vs) ∙ sym (two_in (start_token s.begin) (tokens_of o.before) (tokens_of old) tokens k.number (token k.place Tok.key) (token q Tok.block_mapping_start) c.tokens_are c.number) in
     let blocks : Some own.place.col ∷ columns indent indents ≡ columns indent2 indents2 = ap (λ n. Some n ∷ columns indent indents) (sym (ap (λ x. x.col) o.place_is)) ∙ sym cols in
     subst (λ ts. Stood text (58 ∷ more) p ts (None ∷ ks) indents2 indent2 [] before) same
-    (inserted_stood text more p tokens k ks indents indent [] before s vs refl (λ last. mapping_inserted acc o.own o.later s.behind last q k.place outside o.is_node line (c.row last)) indents2 indent2 are [] refl
-    (ap (λ a. account_past_filler a s.here.filler (58 ∷ more)) (mapping_behind acc o.own o.later s.behind q k.place [] i o.is_solid o.is_settled) ∙ ap (λ (a : Account). record a { blocks = Some own.place.col ∷ a.blocks }) c.here ∙
+    (inserted_stood text more p tokens k ks indents indent [] before s vs refl (λ last. mapping_inserted acc o.own o.later s.after last q k.place outside o.is_node line (c.row last)) indents2 indent2 are [] refl
+    (ap (λ a. account_past_filler a s.here.filler (58 ∷ more)) (mapping_after acc o.own o.later s.after q k.place [] i o.is_solid o.is_settled) ∙ ap (λ (a : Account). record a { blocks = Some own.place.col ∷ a.blocks }) c.here ∙
     ap {B = Account} (λ bs. record { place = p; blocks = bs; levels = []; before = before }) blocks)
-    (none_open 0 (o.before ++ vs) s.behind p (58 ∷ more) (innermost_column (columns indent2 indents2)) (Some k ∷ ks) s.one_each))
+    (none_open 0 (o.before ++ vs) s.after p (58 ∷ more) (innermost_column (columns indent2 indents2)) (Some k ∷ ks) s.one_each))

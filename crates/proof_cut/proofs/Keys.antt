@@ -12,7 +12,7 @@ use Rattle.defs_token.specs.Piece.{begins_with_space_or_break}
 use Rattle.model_lexers.specs.Machine.{past}
 use Rattle.model_scanner.specs.declared.level.FlowLevel.{FlowLevel}
 use Rattle.model_scanner.specs.declared.level.FlowLevel.TheVariants.{Mapping, Entry, Keyed, Pair}
-use Rattle.model_scanner.specs.State.{Held, State, ◌>>=◌, in_flow, push, with_top, token, behind, moved, on_held, skip_indicator}
+use Rattle.model_scanner.specs.State.{Held, State, ◌>>=◌, in_flow, push, with_top, token, after, moved, on_held, skip_indicator}
 use Rattle.model_scanner.specs.Keys.{remove_simple_key}
 use Rattle.model_scanner.specs.Space.{at_break, white_end, white, skip_yaml_whitespace}
 use Rattle.model_scanner.specs.Flow.{allow_key}
@@ -38,7 +38,7 @@ no_hash_gap : is_blank_or_end 35 ≡ true → ⊥
 unfolding is_blank_or_end is_blank is_break is_nul
 no_hash_gap h = cc h
 
--- what stands behind a `?` is a space or a break
+-- what stands after a `?` is a space or a break
 white_begins : (more : List ℕ) (s : Held) → is_at_gap more ≡ true → has_no_nul more ≡ true → Holds (λ u. begins_with_space_or_break more ≡ true) (white false false more s)
 unfolding white
 white_begins [] s gap clean = refused
@@ -96,16 +96,16 @@ keyed_many (Pair ∷ fs) = refl
 pub leads_key : (f : List ℕ) (piece : List ℕ) (at : Position) → LeadsOut 1 (led f (with_piece piece at Tok.key) ∷ [])
 leads_key f piece at m ns = record { levels = m ∷ ns; is_inside = refl; are_many = omega arith }
 
--- the state behind the `?`
-abbrev behind_question : State → Held → State
-behind_question t u = skip_indicator (on_held (λ s. allow_key (not (in_flow s)) s) (record t { held = record u { keys = with_top None u.keys } }))
+-- the state after the `?`
+abbrev after_question : State → Held → State
+after_question t u = skip_indicator (on_held (λ s. allow_key (not (in_flow s)) s) (record t { held = record u { keys = with_top None u.keys } }))
 
-key_fares : (text more : List ℕ) (t w : State) → t.rest ≡ 63 ∷ more → (s : Stands text t) → (u : Held) → KeyBegins t.held u → begins_with_space_or_break more ≡ true → Passed (behind_question t u) w →
+key_fares : (text more : List ℕ) (t w : State) → t.rest ≡ 63 ∷ more → (s : Stands text t) → (u : Held) → KeyBegins t.held u → begins_with_space_or_break more ≡ true → Passed (after_question t u) w →
     Stands text (on_held (push t.held.place Tok.key) w)
 key_fares text more t w e s u (in_flow_here inner d) gap c =
     let p : Position = t.held.place in
     let bs : List (Option ℕ) = columns t.held.indent t.held.indents in
-    let g : Filled more (past p) w = record { filler = c.filler; is_rest = ap behind (sym e) ∙ c.is_rest; is_filled = c.is_filled; is_place = ap (λ y. y.place) c.is_held ∙ ap (λ y. position_after (past y.place) c.filler w.rest) d } in
+    let g : Filled more (past p) w = record { filler = c.filler; is_rest = ap after (sym e) ∙ c.is_rest; is_filled = c.is_filled; is_place = ap (λ y. y.place) c.is_held ∙ ap (λ y. position_after (past y.place) c.filler w.rest) d } in
     let y : Stood text (63 ∷ more) p t.held.tokens t.held.keys t.held.indents t.held.indent t.held.flow s.before = subst (λ z. Stood text z p t.held.tokens t.held.keys t.held.indents t.held.indent t.held.flow s.before) e s.stood in
     let a : Account = account_of p t.held.indent t.held.indents t.held.flow s.before in
     let r : ReadAs a (63 ∷ more) Tok.key p w.rest w.held.place = indicated_by a 63 more Tok.key p w (question more gap).in_line g (λ next last n. inl (refl, rw n at gap)) in
@@ -113,8 +113,8 @@ key_fares text more t w e s u (in_flow_here inner d) gap c =
     let k : Stood text w.rest w.held.place (t.held.tokens ++ token p Tok.key ∷ []) (with_top None t.held.keys) t.held.indents t.held.indent (keyed t.held.flow) other =
     piece_stood text (63 ∷ more) p t.held.tokens t.held.keys t.held.indents t.held.indent t.held.flow s.before y Tok.key p w.rest w.held.place r refl (keyed t.held.flow) (keyed_levels t.held.flow) (with_top None t.held.keys)
     (length_top t.held.keys ∙ s.stood.one_each ∙ ap suc (sym (keyed_many t.held.flow)))
-    (entry_open y.row (led y.here.filler (with_piece (63 ∷ []) p Tok.key) ∷ []) y.behind (c.filler ++ w.rest) p w.held.place (63 ∷ more) w.rest (innermost_column bs) t.held.flow t.held.keys y.one_each
-    (spelled_led y.behind y.here.filler (63 ∷ more) (with_piece (63 ∷ []) p Tok.key) [] (c.filler ++ w.rest) y.here.is_behind r.is_text) (weaker p w.held.place (read_later a (63 ∷ more) Tok.key p w.rest w.held.place r)) (λ _. refl)
+    (entry_open y.row (led y.here.filler (with_piece (63 ∷ []) p Tok.key) ∷ []) y.after (c.filler ++ w.rest) p w.held.place (63 ∷ more) w.rest (innermost_column bs) t.held.flow t.held.keys y.one_each
+    (spelled_led y.after y.here.filler (63 ∷ more) (with_piece (63 ∷ []) p Tok.key) [] (c.filler ++ w.rest) y.here.is_after r.is_text) (weaker p w.held.place (read_later a (63 ∷ more) Tok.key p w.rest w.held.place r)) (λ _. refl)
     (leads_key y.here.filler (63 ∷ []) p) y.are_open) in
     let ends : Fares text w.rest w.held.place (t.held.tokens ++ token p Tok.key ∷ []) (with_top None t.held.keys) t.held.indents t.held.indent (keyed t.held.flow) t.held.adjacent_value_at = record {
       before = other;
@@ -122,12 +122,12 @@ key_fares text more t w e s u (in_flow_here inner d) gap c =
       was_adjacent = omega (arith, s.was_adjacent, further);
       is_adjacent_here = λ _. adjacent_other w.held.place t.held.adjacent_value_at w.rest (omega (arith, s.was_adjacent, further));
     } in
-    subst (λ z. Fares text w.rest z.place (z.tokens ++ token p Tok.key ∷ []) z.keys z.indents z.indent z.flow z.adjacent_value_at) (sym (at_place (behind_question t u) w c))
+    subst (λ z. Fares text w.rest z.place (z.tokens ++ token p Tok.key ∷ []) z.keys z.indents z.indent z.flow z.adjacent_value_at) (sym (at_place (after_question t u) w c))
     (subst (λ z. Fares text w.rest w.held.place (z.tokens ++ token p Tok.key ∷ []) (with_top None z.keys) z.indents z.indent z.flow z.adjacent_value_at) (sym d) ends)
 key_fares text more t w e s u (in_block_here outer r) gap c =
     let p : Position = t.held.place in
     let same : (u.place ≡ p) × (u.keys ≡ t.held.keys) × (u.flow ≡ t.held.flow) × (u.adjacent_value_at ≡ t.held.adjacent_value_at) = rolls_place p.col None (token p Tok.block_mapping_start) t.held u r in
-    let g : Filled more (past p) w = record { filler = c.filler; is_rest = ap behind (sym e) ∙ c.is_rest; is_filled = c.is_filled; is_place = ap (λ y. y.place) c.is_held ∙ ap (λ q. position_after (past q) c.filler w.rest) same.0 } in
+    let g : Filled more (past p) w = record { filler = c.filler; is_rest = ap after (sym e) ∙ c.is_rest; is_filled = c.is_filled; is_place = ap (λ y. y.place) c.is_held ∙ ap (λ q. position_after (past q) c.filler w.rest) same.0 } in
     let y : Stood text (63 ∷ more) p t.held.tokens t.held.keys t.held.indents t.held.indent t.held.flow s.before = subst (λ z. Stood text z p t.held.tokens t.held.keys t.held.indents t.held.indent t.held.flow s.before) e s.stood in
     let k : Stood text w.rest w.held.place (u.tokens ++ token p Tok.key ∷ []) (with_top None t.held.keys) u.indents u.indent t.held.flow other =
     roll_stood text 63 more Tok.block_mapping_start Tok.key mapping_start (question more gap) t.held u s.before (not_nil t.held.flow outer) p p p w g r y in
@@ -139,9 +139,9 @@ key_fares text more t w e s u (in_block_here outer r) gap c =
     subst (λ n. Fares text w.rest w.held.place (u.tokens ++ token p Tok.key ∷ []) (with_top None u.keys) u.indents u.indent u.flow n) (sym same.3)
     (subst (λ fs. Fares text w.rest w.held.place (u.tokens ++ token p Tok.key ∷ []) (with_top None u.keys) u.indents u.indent fs t.held.adjacent_value_at) (sym same.2)
     (subst (λ ks. Fares text w.rest w.held.place (u.tokens ++ token p Tok.key ∷ []) (with_top None ks) u.indents u.indent t.held.flow t.held.adjacent_value_at) (sym same.1) ends)) in
-    subst (λ z. Fares text w.rest z.place (z.tokens ++ token p Tok.key ∷ []) z.keys z.indents z.indent z.flow z.adjacent_value_at) (sym (at_place (behind_question t u) w c)) as_held
+    subst (λ z. Fares text w.rest z.place (z.tokens ++ token p Tok.key ∷ []) z.keys z.indents z.indent z.flow z.adjacent_value_at) (sym (at_place (after_question t u) w c)) as_held
 
--- what the model does behind the `?`
+-- what the model does after the `?`
 abbrev key_from : State → State → Result State Fault
 key_from t v =
     skip_yaml_whitespace (skip_indicator (on_held (λ s. allow_key (not (in_flow s)) s) v)) >>= λ w.
@@ -151,11 +151,11 @@ key_from t v =
 key_passed : (text more : List ℕ) (t : State) → t.rest ≡ 63 ∷ more → is_at_gap more ≡ true → Stands text t → (u : Held) → KeyBegins t.held u → Holds (Stands text) (key_from t (record t { held = record u { keys = with_top None u.keys } }))
 unfolding skip_yaml_whitespace
 key_passed text more t e gap s u d =
-    chained {P = λ w. Passed v w × (begins_with_space_or_break more ≡ true)} (both_hold (white_passed v) (subst (λ r. Holds (λ _. begins_with_space_or_break more ≡ true) (white false false r v.held)) (ap behind (sym e)) (white_begins more v.held gap (clean_more text t 63 more e s)))) (λ w a.
+    chained {P = λ w. Passed v w × (begins_with_space_or_break more ≡ true)} (both_hold (white_passed v) (subst (λ r. Holds (λ _. begins_with_space_or_break more ≡ true) (white false false r v.held)) (ap after (sym e)) (white_begins more v.held gap (clean_more text t 63 more e s)))) (λ w a.
     chained (key_spaced w) (λ x b. went (subst (λ y. Stands text (on_held (push t.held.place Tok.key) y)) (sym b) (key_fares text more t w e s u d a.1 a.0))))
   where
     v : State
-    v = behind_question t u
+    v = after_question t u
 
 pub key_fetched : (text more : List ℕ) (t : State) → t.rest ≡ 63 ∷ more → is_at_gap more ≡ true → Stands text t → Holds (Stands text) (fetch_key t)
 unfolding fetch_key

@@ -20,7 +20,7 @@ use Rattle.model_scanner.specs.Indents.{Levels, without_open, unroll_non_block_i
 use Rattle.model_scanner.specs.State.{Key, Held, State, in_flow, push, token, on_held, go_on, lexed}
 use Rattle.model_scanner.specs.Keys.{must_be_key}
 use Rattle.model_scanner.specs.Flow.{allow_key}
-use Rattle.model_scanner.specs.Document.{anchor_token, unled, node_start, fetch_anchor, fetch_tag, context, behind_plain, fetch_plain_scalar}
+use Rattle.model_scanner.specs.Document.{anchor_token, unled, node_start, fetch_anchor, fetch_tag, context, after_plain, fetch_plain_scalar}
 use Rattle.model_scanner.proofs.Holds.{Holds, went, read}
 use Rattle.proof_lexers.specs.Fillers.{begins_filler}
 use Rattle.proof_lexers.specs.PlainEnds.{has_no_nul}
@@ -30,7 +30,7 @@ use Rattle.proof_cut.specs.Stands.{columns, levels_of, account_of, IsAdjacent, S
 use Rattle.proof_cut.proofs.Pieces.Names.{name_is_read}
 use Rattle.proof_cut.proofs.Pieces.Plains.{plain_is_read}
 use Rattle.proof_cut.proofs.Pieces.Tags.{tag_is_read}
-use Rattle.proof_cut.proofs.Places.{index_behind}
+use Rattle.proof_cut.proofs.Places.{index_after}
 use Rattle.proof_cut.proofs.Heres.{led}
 use Rattle.proof_cut.proofs.Pushed.{with_piece}
 use Rattle.proof_cut.proofs.Saved.{Opens, saved_keys, saved_is}
@@ -65,8 +65,8 @@ adjacent_other p adj rest h = λ filler r e k t. sym (not_same (p.index + length
 pub further_read : (a : Account) (rest : List ℕ) (tok : Tok) (at : Position) (rest2 : List ℕ) (end : Position) → ReadAs a rest tok at rest2 end → a.place.index < end.index
 further_read a rest tok at rest2 end r =
     let q : Position = position_after a.place (r.first ∷ r.more) (r.filler ++ rest2) in
-    let i : q.index ≡ a.place.index + length (r.first ∷ r.more) = index_behind a.place (r.first ∷ r.more) (r.filler ++ rest2) in
-    let j : (position_after q r.filler rest2).index ≡ q.index + length r.filler = index_behind q r.filler rest2 in
+    let i : q.index ≡ a.place.index + length (r.first ∷ r.more) = index_after a.place (r.first ∷ r.more) (r.filler ++ rest2) in
+    let j : (position_after q r.filler rest2).index ≡ q.index + length r.filler = index_after q r.filler rest2 in
     let e : end.index ≡ (position_after q r.filler rest2).index = ap (λ x. x.index) r.is_end in
     omega (arith, i, j, e)
 
@@ -206,5 +206,5 @@ pub plain_fetched : (text : List ℕ) (t : State) (s : Stands text t) → IsDeep
 unfolding fetch_plain_scalar unroll_non_block_indents levels_gone
 plain_fetched text t s deep comes =
     subst (λ h. Holds (Stands text) (lexed (plains.plain (context (unroll_non_block_indents (allow_key false h))) t.rest t.held.place) (unroll_non_block_indents (allow_key false h))
-    (λ r u. Ok (on_held (λ v. push t.held.place (Tok.scalar Style.plain r.text) (behind_plain r.leading v)) u)))) (sym (saved_is t.held))
+    (λ r u. Ok (on_held (λ v. push t.held.place (Tok.scalar Style.plain r.text) (after_plain r.leading v)) u)))) (sym (saved_is t.held))
     (read (unroll_non_block_indents (allow_key false (record t.held { keys = saved_keys t.held }))) (plains.plain (plain_context t.held) t.rest t.held.place) _ (λ x k. went (plain_fares text t s deep comes x k)))

@@ -6,10 +6,10 @@ use Rattle.defs_token.specs.Account.{Level, Account, first_account, settled}
 use Rattle.defs_token.specs.Cut.{Written, IsRow, spelled, account_at, account_past_row}
 use Rattle.defs_token.proofs.Append.{spelled_append}
 use Rattle.model_scanner.specs.State.{Key, with_top}
-use Rattle.proof_cut.specs.Order.{NotBefore, Behind}
+use Rattle.proof_cut.specs.Order.{NotBefore, After}
 use Rattle.proof_cut.specs.Inside.{inside}
 use Rattle.proof_cut.specs.Here.{IsLive, IsInside, IsOpen, AreOpen}
-use Rattle.proof_cut.proofs.Places.{behind_then}
+use Rattle.proof_cut.proofs.Places.{after_then}
 use Rattle.proof_cut.proofs.Insides.{inside_framed, inside_both}
 
 -- a row inside a key leads to so many levels
@@ -27,11 +27,11 @@ live_before k p q rest rest2 n g l = (omega (arith, n.0, l.0), g l.1)
 
 -- ---- the place moves on
 
-pub open_moved : (depth : ℕ) (row : List Written) (behind : List ℕ) (p q : Position) (rest rest2 : List ℕ) (column : Option ℕ) (ks : List (Option Key)) → NotBefore p q → GoesOn rest2 rest →
-    AreOpen depth row behind p rest column ks → AreOpen depth row behind q rest2 column ks
-open_moved depth row behind p q rest rest2 column [] n g o = tt
-open_moved depth row behind p q rest rest2 column (None ∷ ks) n g o = open_moved (suc depth) row behind p q rest rest2 column ks n g o
-open_moved depth row behind p q rest rest2 column (Some k ∷ ks) n g o = (
+pub open_moved : (depth : ℕ) (row : List Written) (after : List ℕ) (p q : Position) (rest rest2 : List ℕ) (column : Option ℕ) (ks : List (Option Key)) → NotBefore p q → GoesOn rest2 rest →
+    AreOpen depth row after p rest column ks → AreOpen depth row after q rest2 column ks
+open_moved depth row after p q rest rest2 column [] n g o = tt
+open_moved depth row after p q rest rest2 column (None ∷ ks) n g o = open_moved (suc depth) row after p q rest rest2 column ks n g o
+open_moved depth row after p q rest rest2 column (Some k ∷ ks) n g o = (
   record {
     before = o.0.before;
     own = o.0.own;
@@ -43,7 +43,7 @@ open_moved depth row behind p q rest rest2 column (Some k ∷ ks) n g o = (
     is_free = o.0.is_free;
     is_settled = o.0.is_settled;
     place_is = o.0.place_is;
-    is_earlier = behind_then k.place p q o.0.is_earlier n;
+    is_earlier = after_then k.place p q o.0.is_earlier n;
     live = λ l. o.0.live (live_before k p q rest rest2 n g l);
   },
   o.1,
@@ -51,32 +51,32 @@ open_moved depth row behind p q rest rest2 column (Some k ∷ ks) n g o = (
 
 -- ---- tokens more
 
--- what tokens lead to inside each key that is still live behind them: from so many levels to so many
+-- what tokens lead to inside each key that is still live after them: from so many levels to so many
 abbrev pub Leads : (i j : ℕ) → Position → Position → (rest2 : List ℕ) → List Written → Type 0
-Leads i j p q rest2 vs = (k : Key) (n : ℕ) (ns : List Level) → Behind k.place p → IsLive k q rest2 → length ns ≡ i + n → Goes ns vs (j + n)
+Leads i j p q rest2 vs = (k : Key) (n : ℕ) (ns : List Level) → After k.place p → IsLive k q rest2 → length ns ≡ i + n → Goes ns vs (j + n)
 
 leads_outer : (i j : ℕ) (p q : Position) (rest2 : List ℕ) (vs : List Written) → Leads i j p q rest2 vs → Leads (suc i) (suc j) p q rest2 vs
 leads_outer i j p q rest2 vs l k n ns b v e =
     let g : Goes ns vs (j + suc n) = l k (suc n) ns b v (omega (arith, e)) in
     record { levels = g.levels; is_inside = g.is_inside; are_many = omega (arith, g.are_many) }
 
--- the account at a key's piece, and the keys outside it, by the text behind the piece
+-- the account at a key's piece, and the keys outside it, by the text after the piece
 abbrev account_by : (before : List Written) → Written → (next : List ℕ) → Account
 account_by before own next = account_at (account_past_row first_account before (own.filler ++ (own.piece ++ next))) own next
 
 abbrev outer_open : Key → (before : List Written) → Written → Option ℕ → List (Option Key) → (next : List ℕ) → Type 0
 outer_open k before own column ks next = AreOpen 1 before (own.filler ++ (own.piece ++ next)) k.place (own.piece ++ next) column ks
 
--- the text behind a row that goes on
-pub spelled_more : (ws vs : List Written) (behind behind2 : List ℕ) → behind ≡ spelled vs behind2 → spelled ws behind ≡ spelled (ws ++ vs) behind2
-spelled_more ws vs behind behind2 cut = ap (λ t. spelled ws t) cut ∙ sym (spelled_append ws vs behind2)
+-- the text after a row that goes on
+pub spelled_more : (ws vs : List Written) (after after2 : List ℕ) → after ≡ spelled vs after2 → spelled ws after ≡ spelled (ws ++ vs) after2
+spelled_more ws vs after after2 cut = ap (λ t. spelled ws t) cut ∙ sym (spelled_append ws vs after2)
 
 -- an open key, as its row and its place go on
-abbrev pub is_open_more : (k : Key) (i j : ℕ) (row vs : List Written) (behind behind2 : List ℕ) (p q : Position) (rest rest2 : List ℕ) (column column2 : Option ℕ) → behind ≡ spelled vs behind2 → Behind k.place q →
-    (o : IsOpen k i row behind p rest column) → (IsLive k q rest2 → IsInside k j (o.own ∷ (o.later ++ vs)) column2) → IsOpen k j (row ++ vs) behind2 q rest2 column2
-is_open_more k i j row vs behind behind2 p q rest rest2 column column2 cut earlier o lives =
+abbrev pub is_open_more : (k : Key) (i j : ℕ) (row vs : List Written) (after after2 : List ℕ) (p q : Position) (rest rest2 : List ℕ) (column column2 : Option ℕ) → after ≡ spelled vs after2 → After k.place q →
+    (o : IsOpen k i row after p rest column) → (IsLive k q rest2 → IsInside k j (o.own ∷ (o.later ++ vs)) column2) → IsOpen k j (row ++ vs) after2 q rest2 column2
+is_open_more k i j row vs after after2 p q rest rest2 column column2 cut earlier o lives =
     let own : Written = o.own in
-    let next : spelled o.later behind ≡ spelled (o.later ++ vs) behind2 = spelled_more o.later vs behind behind2 cut in
+    let next : spelled o.later after ≡ spelled (o.later ++ vs) after2 = spelled_more o.later vs after after2 cut in
     record {
       before = o.before;
       own = own;
@@ -92,19 +92,19 @@ is_open_more k i j row vs behind behind2 p q rest rest2 column column2 cut earli
       live = lives;
     }
 
-pub open_more : (i j : ℕ) (row vs : List Written) (behind behind2 : List ℕ) (p q : Position) (rest rest2 : List ℕ) (column : Option ℕ) (ks : List (Option Key)) → behind ≡ spelled vs behind2 → NotBefore p q → GoesOn rest2 rest →
-    Leads i j p q rest2 vs → AreOpen i row behind p rest column ks → AreOpen j (row ++ vs) behind2 q rest2 column ks
-open_more i j row vs behind behind2 p q rest rest2 column [] cut n g l o = tt
-open_more i j row vs behind behind2 p q rest rest2 column (None ∷ ks) cut n g l o =
-    open_more (suc i) (suc j) row vs behind behind2 p q rest rest2 column ks cut n g (leads_outer i j p q rest2 vs l) o
-open_more i j row vs behind behind2 p q rest rest2 column (Some k ∷ ks) cut n g l o =
+pub open_more : (i j : ℕ) (row vs : List Written) (after after2 : List ℕ) (p q : Position) (rest rest2 : List ℕ) (column : Option ℕ) (ks : List (Option Key)) → after ≡ spelled vs after2 → NotBefore p q → GoesOn rest2 rest →
+    Leads i j p q rest2 vs → AreOpen i row after p rest column ks → AreOpen j (row ++ vs) after2 q rest2 column ks
+open_more i j row vs after after2 p q rest rest2 column [] cut n g l o = tt
+open_more i j row vs after after2 p q rest rest2 column (None ∷ ks) cut n g l o =
+    open_more (suc i) (suc j) row vs after after2 p q rest rest2 column ks cut n g (leads_outer i j p q rest2 vs l) o
+open_more i j row vs after after2 p q rest rest2 column (Some k ∷ ks) cut n g l o =
     let own : Written = o.0.own in
     let lives : IsLive k q rest2 → IsInside k j (own ∷ (o.0.later ++ vs)) column = λ v.
     let a : IsInside k i (own ∷ o.0.later) column = o.0.live (live_before k p q rest rest2 n g v) in
     let b : Goes a.levels vs (j + 0) = l k 0 a.levels o.0.is_earlier v (omega (arith, a.many)) in
     record { levels = b.levels; is_inside = inside_both [] (own ∷ o.0.later) vs a.levels a.is_inside ∙ b.is_inside; many = omega (arith, b.are_many); column_is = a.column_is } in (
-      is_open_more k i j row vs behind behind2 p q rest rest2 column column cut (behind_then k.place p q o.0.is_earlier n) o.0 lives,
-      subst (outer_open k o.0.before own column ks) (spelled_more o.0.later vs behind behind2 cut) o.1,
+      is_open_more k i j row vs after after2 p q rest rest2 column column cut (after_then k.place p q o.0.is_earlier n) o.0 lives,
+      subst (outer_open k o.0.before own column ks) (spelled_more o.0.later vs after after2 cut) o.1,
     )
 
 -- ---- keys that are given up
@@ -116,20 +116,20 @@ same_nil c t e = by c.piece e
     by [] h = absurd (cc h)
     by (x ∷ s) h = refl
 
-pub open_given_up : (depth : ℕ) (row : List Written) (behind : List ℕ) (p : Position) (rest : List ℕ) (column : Option ℕ) (ks : List (Option Key)) →
-    AreOpen depth row behind p rest column ks → AreOpen depth row behind p rest column (with_top None ks)
-open_given_up depth row behind p rest column [] o = tt
-open_given_up depth row behind p rest column (None ∷ ks) o = o
-open_given_up depth row behind p rest column (Some k ∷ ks) o =
+pub open_given_up : (depth : ℕ) (row : List Written) (after : List ℕ) (p : Position) (rest : List ℕ) (column : Option ℕ) (ks : List (Option Key)) →
+    AreOpen depth row after p rest column ks → AreOpen depth row after p rest column (with_top None ks)
+open_given_up depth row after p rest column [] o = tt
+open_given_up depth row after p rest column (None ∷ ks) o = o
+open_given_up depth row after p rest column (Some k ∷ ks) o =
     let vs : List Written = o.0.own ∷ o.0.later in
     let leads : Leads 1 (suc depth) k.place p rest vs = λ k2 n ns b v e.
     let a : IsInside k depth vs column = o.0.live (omega (arith, b.0, v.0), v.1) in
     record { levels = a.levels ++ ns; is_inside = inside_framed [] vs a.levels ns a.is_inside; are_many = rw (length-append a.levels ns) (omega (arith, a.many, e)) } in
-    subst (λ r. AreOpen (suc depth) r behind p rest column ks) (sym o.0.is_split)
-    (open_more 1 (suc depth) o.0.before vs (spelled vs behind) behind k.place p (o.0.own.piece ++ spelled o.0.later behind) rest column ks refl
-    (o.0.is_earlier.0, λ h. omega (arith, o.0.is_earlier.1 h)) (λ _. same_nil o.0.own (spelled o.0.later behind) o.0.is_solid) leads o.1)
+    subst (λ r. AreOpen (suc depth) r after p rest column ks) (sym o.0.is_split)
+    (open_more 1 (suc depth) o.0.before vs (spelled vs after) after k.place p (o.0.own.piece ++ spelled o.0.later after) rest column ks refl
+    (o.0.is_earlier.0, λ h. omega (arith, o.0.is_earlier.1 h)) (λ _. same_nil o.0.own (spelled o.0.later after) o.0.is_solid) leads o.1)
 
 -- the keys outside the innermost
-pub open_outer : (depth : ℕ) (row : List Written) (behind : List ℕ) (p : Position) (rest : List ℕ) (column : Option ℕ) (k : Option Key) (ks : List (Option Key)) →
-    AreOpen depth row behind p rest column (k ∷ ks) → AreOpen (suc depth) row behind p rest column ks
-open_outer depth row behind p rest column k ks o = open_given_up depth row behind p rest column (k ∷ ks) o
+pub open_outer : (depth : ℕ) (row : List Written) (after : List ℕ) (p : Position) (rest : List ℕ) (column : Option ℕ) (k : Option Key) (ks : List (Option Key)) →
+    AreOpen depth row after p rest column (k ∷ ks) → AreOpen (suc depth) row after p rest column ks
+open_outer depth row after p rest column k ks o = open_given_up depth row after p rest column (k ∷ ks) o

@@ -116,7 +116,7 @@ passed_both t u v a b =
       is_held = b.is_held ∙ ap (λ h. placed_at h (position_after u.held.place b.filler v.rest) b.leading b.allowed) a.is_held ∙ ap (λ p. placed_at t.held p b.leading b.allowed) place;
     }
 
--- what was passed of a text is passed behind a filler too
+-- what was passed of a text is passed after a filler too
 pub stood_passed : (text : List ℕ) (t u : State) (tokens : List Token) (keys : List _) (indents : List Indent) (indent : ℕ) (flow : List FlowLevel) (before : Before) → (a : Passed t u) →
     Stood text t.rest t.held.place tokens keys indents indent flow before → Stood text u.rest u.held.place tokens keys indents indent flow (before_past before a.filler)
 stood_passed text t u tokens keys indents indent flow before a s =

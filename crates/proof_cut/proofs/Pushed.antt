@@ -1,4 +1,4 @@
--- One token more, with its piece and the filler behind it.
+-- One token more, with its piece and the filler after it.
 use Rattle.std.proofs.Common.{◌≡◌, ℕ, ◌-◌, List, [], ◌∷◌, ◌++◌, Bool, true, false, if◌then◌else◌, Option, Some, refl, ap, sym, ◌∙◌, subst}
 use Rattle.defs_text.specs.Position.{Position}
 use Rattle.defs_token.specs.Token.{Tok}
@@ -54,32 +54,32 @@ past_one : (a : Account) (bs : List (Option ℕ)) (c : ℕ) (more next : List �
     account_past_row a (with_piece (c ∷ more) at t ∷ []) next ≡ account_past_token (with_blocks bs a) (c ∷ more) next t
 past_one a bs c more next at t e = ap (λ b. account_past_token b (c ∷ more) next t) (at_piece a bs c more next at t e)
 
-pub here_token : (text : List ℕ) (row : List Written) (behind rest : List ℕ) (a : Account) (bs : List (Option ℕ)) (c : ℕ) (more g rest2 : List ℕ) (at : Position) (t : Tok) →
+pub here_token : (text : List ℕ) (row : List Written) (after rest : List ℕ) (a : Account) (bs : List (Option ℕ)) (c : ℕ) (more g rest2 : List ℕ) (at : Position) (t : Tok) →
     rest ≡ (c ∷ more) ++ (g ++ rest2) → is_filler false g rest2 ≡ true → settled a.place.col a.blocks ≡ bs → ((last : Option Tok) → IsPiece (with_blocks bs a) (c ∷ more) (g ++ rest2) last at t) →
-    (h : Here text row behind rest a) →
+    (h : Here text row after rest a) →
     Here text (row ++ (led h.filler (with_piece (c ∷ more) at t) ∷ [])) (g ++ rest2) rest2 (account_past_filler (account_past_token (with_blocks bs a) (c ∷ more) (g ++ rest2) t) g rest2)
-here_token text row behind rest a bs c more g rest2 at t cut f e q h =
+here_token text row after rest a bs c more g rest2 at t cut f e q h =
     let w : Written = with_piece (c ∷ more) at t in
     let x : Account = account_past_token (with_blocks bs a) (c ∷ more) (g ++ rest2) t in
     let k : Here text (row ++ (led h.filler w ∷ [])) (g ++ rest2) (g ++ rest2) x =
     subst (λ b. Here text (row ++ (led h.filler w ∷ [])) (g ++ rest2) (g ++ rest2) b) (past_one a bs c more (g ++ rest2) at t e)
-    (here_more text row behind rest a w [] (g ++ rest2) refl cut (λ last. row_of_one a bs c more (g ++ rest2) at t last e (q last)) h) in
+    (here_more text row after rest a w [] (g ++ rest2) refl cut (λ last. row_of_one a bs c more (g ++ rest2) at t last e (q last)) h) in
     here_filled text (row ++ (led h.filler w ∷ [])) (g ++ rest2) (g ++ rest2) x g rest2 refl f k
 
 -- ---- a token without a piece
 
--- the account behind a token without a piece
+-- the account after a token without a piece
 abbrev pub past_empty : Account → Tok → Account
 past_empty a t = record { place = a.place; blocks = blocks_past a.blocks t; levels = levels_past a.levels [] t; before = a.before }
 
 at_empty : (a : Account) (next : List ℕ) (at : Position) (t : Tok) → account_at a (with_piece [] at t) next ≡ a
 at_empty a next at t = again a next
 
-pub here_empty : (text : List ℕ) (row : List Written) (behind rest : List ℕ) (a : Account) (at : Position) (t : Tok) → ((last : Option Tok) → IsPiece a [] rest last at t) →
-    (h : Here text row behind rest a) → Here text (row ++ (led h.filler (with_piece [] at t) ∷ [])) rest rest (past_empty a t)
-here_empty text row behind rest a at t q h =
+pub here_empty : (text : List ℕ) (row : List Written) (after rest : List ℕ) (a : Account) (at : Position) (t : Tok) → ((last : Option Tok) → IsPiece a [] rest last at t) →
+    (h : Here text row after rest a) → Here text (row ++ (led h.filler (with_piece [] at t) ∷ [])) rest rest (past_empty a t)
+here_empty text row after rest a at t q h =
     subst (λ b. Here text (row ++ (led h.filler (with_piece [] at t) ∷ [])) rest rest b) (ap (λ b. account_past_token b [] rest t) (at_empty a rest at t))
-    (here_more text row behind rest a (with_piece [] at t) [] rest refl refl (λ last. ((refl, subst (λ b. IsPiece b [] rest last at t) (sym (at_empty a rest at t)) (q last)), tt)) h)
+    (here_more text row after rest a (with_piece [] at t) [] rest refl refl (λ last. ((refl, subst (λ b. IsPiece b [] rest last at t) (sym (at_empty a rest at t)) (q last)), tt)) h)
 
 -- ---- a token without a piece, and one with its piece
 
@@ -99,16 +99,16 @@ past_two a bs c more next at at2 t t2 e =
     let rest : List ℕ = (c ∷ more) ++ next in
     ap (λ b. account_past_row (account_past_token b [] rest t) (with_piece (c ∷ more) at2 t2 ∷ []) next) (at_empty a rest at t) ∙ past_one (past_empty a t) bs c more next at2 t2 e
 
-pub here_two : (text : List ℕ) (row : List Written) (behind rest : List ℕ) (a : Account) (bs : List (Option ℕ)) (c : ℕ) (more g rest2 : List ℕ) (at at2 : Position) (t t2 : Tok) →
+pub here_two : (text : List ℕ) (row : List Written) (after rest : List ℕ) (a : Account) (bs : List (Option ℕ)) (c : ℕ) (more g rest2 : List ℕ) (at at2 : Position) (t t2 : Tok) →
     rest ≡ (c ∷ more) ++ (g ++ rest2) → is_filler false g rest2 ≡ true → settled a.place.col (blocks_past a.blocks t) ≡ bs → IsPiece a [] ((c ∷ more) ++ (g ++ rest2)) (Some t2) at t →
-    ((last : Option Tok) → IsPiece (with_blocks bs (past_empty a t)) (c ∷ more) (g ++ rest2) last at2 t2) → (h : Here text row behind rest a) →
+    ((last : Option Tok) → IsPiece (with_blocks bs (past_empty a t)) (c ∷ more) (g ++ rest2) last at2 t2) → (h : Here text row after rest a) →
     Here text (row ++ (led h.filler (with_piece [] at t) ∷ with_piece (c ∷ more) at2 t2 ∷ [])) (g ++ rest2) rest2 (account_past_filler (account_past_token (with_blocks bs (past_empty a t)) (c ∷ more) (g ++ rest2) t2) g rest2)
-here_two text row behind rest a bs c more g rest2 at at2 t t2 cut f e q r h =
+here_two text row after rest a bs c more g rest2 at at2 t t2 cut f e q r h =
     let w : Written = with_piece [] at t in
     let v : Written = with_piece (c ∷ more) at2 t2 in
     let x : Account = account_past_token (with_blocks bs (past_empty a t)) (c ∷ more) (g ++ rest2) t2 in
     let row2 : List Written = row ++ (led h.filler w ∷ v ∷ []) in
     let k : Here text row2 (g ++ rest2) (g ++ rest2) x =
     subst (λ b. Here text row2 (g ++ rest2) (g ++ rest2) b) (past_two a bs c more (g ++ rest2) at at2 t t2 e)
-    (here_more text row behind rest a w (v ∷ []) (g ++ rest2) refl cut (λ last. row_of_two a bs c more (g ++ rest2) at at2 t t2 last e q (r last)) h) in
+    (here_more text row after rest a w (v ∷ []) (g ++ rest2) refl cut (λ last. row_of_two a bs c more (g ++ rest2) at at2 t t2 last e q (r last)) h) in
     here_filled text row2 (g ++ rest2) (g ++ rest2) x g rest2 refl f k

@@ -1,4 +1,4 @@
--- A node's token, which may turn out to be a key: what the open keys are behind it.
+-- A node's token, which may turn out to be a key: what the open keys are after it.
 use Rattle.std.proofs.Common.{◌≡◌, ℕ, suc, ◌+◌, List, [], ◌∷◌, ◌++◌, Bool, true, false, length, if◌then◌else◌, Option, Some, refl, ap, sym, ◌∙◌, subst, arith}
 use Rattle.defs_text.specs.Position.{Position}
 use Rattle.defs_token.specs.Token.{Tok}
@@ -8,14 +8,14 @@ use Rattle.defs_token.specs.Piece.{begins_node}
 use Rattle.defs_token.specs.Cut.{Written, IsRow, spelled, tokens_of, account_past_row}
 use Rattle.model_scanner.specs.State.{Key, Held, with_top}
 use Rattle.model_scanner.specs.Keys.{save_simple_key, must_be_key}
-use Rattle.proof_cut.specs.Order.{NotBefore, Behind}
+use Rattle.proof_cut.specs.Order.{NotBefore, After}
 use Rattle.proof_cut.specs.Here.{Here, IsLive, IsNotRight, account_in, AreOpen}
 use Rattle.proof_cut.proofs.Places.{not_before_same, weaker}
 use Rattle.proof_cut.proofs.Heres.{led, spelled_led}
 use Rattle.proof_cut.proofs.Pushed.{with_piece}
 use Rattle.proof_cut.proofs.Opens.{Goes, GoesOn, Leads, open_more, open_outer}
 
--- what may be a key behind a node's start
+-- what may be a key after a node's start
 abbrev pub saved_keys : Held → List (Option Key)
 saved_keys s = (if s.key_allowed then with_top (Some (record { required = must_be_key s; number = length s.tokens; place = s.place })) s.keys else s.keys)
 
@@ -32,7 +32,7 @@ pub length_tokens : (ws : List Written) → length (tokens_of ws) ≡ length ws
 length_tokens [] = refl
 length_tokens (w ∷ ws) = ap suc (length_tokens ws)
 
--- what a token leads to, inside each key that is live behind it
+-- what a token leads to, inside each key that is live after it
 abbrev pub Opens : (many : ℕ) → Position → Position → (rest2 : List ℕ) → List Written → Type 0
 Opens many p q rest2 vs = (k : Key) → NotBefore k.place p → IsLive k q rest2 → (ns : List Level) → Goes ns vs (many + length ns)
 
@@ -47,34 +47,34 @@ goes_first c more next rest2 e = refl
 add_none : (n : ℕ) → n + 0 ≡ n
 add_none n = omega arith
 
-pub open_saved : (text : List ℕ) (row : List Written) (behind rest : List ℕ) (a : Account) (keys : List (Option Key)) (column : Option ℕ) (c : ℕ) (more behind2 rest2 : List ℕ) (q at : Position) (t : Tok) (many : ℕ) (b : Bool) (k : Key) →
-    (h : Here text row behind rest a) → ((n : ℕ) → settled n a.blocks ≡ a.blocks) → AreOpen 0 row behind a.place rest column keys → rest ≡ (c ∷ more) ++ behind2 → Behind a.place q → begins_node (Some t) ≡ true → IsNotRight column a.place.col →
+pub open_saved : (text : List ℕ) (row : List Written) (after rest : List ℕ) (a : Account) (keys : List (Option Key)) (column : Option ℕ) (c : ℕ) (more after2 rest2 : List ℕ) (q at : Position) (t : Tok) (many : ℕ) (b : Bool) (k : Key) →
+    (h : Here text row after rest a) → ((n : ℕ) → settled n a.blocks ≡ a.blocks) → AreOpen 0 row after a.place rest column keys → rest ≡ (c ∷ more) ++ after2 → After a.place q → begins_node (Some t) ≡ true → IsNotRight column a.place.col →
     k.number ≡ suc (length row) → k.place ≡ a.place → Opens many a.place q rest2 (led h.filler (with_piece (c ∷ more) at t) ∷ []) →
-    AreOpen many (row ++ (led h.filler (with_piece (c ∷ more) at t) ∷ [])) behind2 q rest2 column (if b then with_top (Some k) keys else keys)
-open_saved text row behind rest a keys column c more behind2 rest2 q at t many b k h settles o cut later node right number place opens = by b keys o
+    AreOpen many (row ++ (led h.filler (with_piece (c ∷ more) at t) ∷ [])) after2 q rest2 column (if b then with_top (Some k) keys else keys)
+open_saved text row after rest a keys column c more after2 rest2 q at t many b k h settles o cut later node right number place opens = by b keys o
   where
     own : Written
     own = led h.filler (with_piece (c ∷ more) at t)
 
-    on : behind ≡ spelled (own ∷ []) behind2
-    on = spelled_led behind h.filler rest (with_piece (c ∷ more) at t) [] behind2 h.is_behind cut
+    on : after ≡ spelled (own ∷ []) after2
+    on = spelled_led after h.filler rest (with_piece (c ∷ more) at t) [] after2 h.is_after cut
 
     goes : GoesOn rest2 rest
-    goes e = rw cut (goes_first c more behind2 rest2 e)
+    goes e = rw cut (goes_first c more after2 rest2 e)
 
     later2 : NotBefore a.place q
     later2 = weaker a.place q later
 
-    same_place : a.place ≡ (account_in row own [] behind2).place
+    same_place : a.place ≡ (account_in row own [] after2).place
     same_place =
-        ap (λ x. x.place) (sym h.is_here) ∙ ap (λ r. position_after (account_past_row first_account row behind).place h.filler r) cut ∙
-        ap (λ y. position_after (account_past_row first_account row y).place h.filler ((c ∷ more) ++ behind2)) on
+        ap (λ x. x.place) (sym h.is_here) ∙ ap (λ r. position_after (account_past_row first_account row after).place h.filler r) cut ∙
+        ap (λ y. position_after (account_past_row first_account row y).place h.filler ((c ∷ more) ++ after2)) on
 
-    same_blocks : a.blocks ≡ (account_past_row first_account row (spelled (own ∷ []) behind2)).blocks
+    same_blocks : a.blocks ≡ (account_past_row first_account row (spelled (own ∷ []) after2)).blocks
     same_blocks = ap (λ x. x.blocks) (sym h.is_here) ∙ ap (λ y. (account_past_row first_account row y).blocks) on
 
-    by : (b : Bool) (ks : List (Option Key)) → AreOpen 0 row behind a.place rest column ks → AreOpen many (row ++ (own ∷ [])) behind2 q rest2 column (if b then with_top (Some k) ks else ks)
-    by false ks o = subst (λ m. AreOpen m (row ++ (own ∷ [])) behind2 q rest2 column ks) (add_none many) (open_more 0 (many + 0) row (own ∷ []) behind behind2 a.place q rest rest2 column ks on later2 goes (leads_by many 0 a.place q rest2 (own ∷ []) opens) o)
+    by : (b : Bool) (ks : List (Option Key)) → AreOpen 0 row after a.place rest column ks → AreOpen many (row ++ (own ∷ [])) after2 q rest2 column (if b then with_top (Some k) ks else ks)
+    by false ks o = subst (λ m. AreOpen m (row ++ (own ∷ [])) after2 q rest2 column ks) (add_none many) (open_more 0 (many + 0) row (own ∷ []) after after2 a.place q rest rest2 column ks on later2 goes (leads_by many 0 a.place q rest2 (own ∷ []) opens) o)
     by true [] o = tt
     by true (x ∷ ks) o = (
       record {
@@ -88,15 +88,15 @@ open_saved text row behind rest a keys column c more behind2 rest2 q at t many b
         is_free = λ last. subst (λ y. IsRow first_account row y last) on (h.is_row last);
         is_settled = λ n. subst (λ bs. settled n bs ≡ bs) same_blocks (settles n);
         place_is = place ∙ same_place;
-        is_earlier = subst (λ x. Behind x q) (sym place) later;
+        is_earlier = subst (λ x. After x q) (sym place) later;
         live = λ l.
             let g : Goes [] (own ∷ []) (many + 0) = opens k (subst (λ x. NotBefore x a.place) (sym place) (not_before_same a.place)) l [] in
             record { levels = g.levels; is_inside = g.is_inside; many = omega (arith, g.are_many); column_is = subst (λ x. IsNotRight column x.col) (sym place) right };
       },
-      outer (open_outer 0 row behind a.place rest column x ks o),
+      outer (open_outer 0 row after a.place rest column x ks o),
     )
       where
-        outer : AreOpen 1 row behind a.place rest column ks → AreOpen 1 row (spelled (own ∷ []) behind2) k.place ((c ∷ more) ++ behind2) column ks
+        outer : AreOpen 1 row after a.place rest column ks → AreOpen 1 row (spelled (own ∷ []) after2) k.place ((c ∷ more) ++ after2) column ks
         outer u =
-            subst (λ y. AreOpen 1 row y k.place ((c ∷ more) ++ behind2) column ks) on
-            (subst (λ y. AreOpen 1 row behind y ((c ∷ more) ++ behind2) column ks) (sym place) (subst (λ y. AreOpen 1 row behind a.place y column ks) cut u))
+            subst (λ y. AreOpen 1 row y k.place ((c ∷ more) ++ after2) column ks) on
+            (subst (λ y. AreOpen 1 row after y ((c ∷ more) ++ after2) column ks) (sym place) (subst (λ y. AreOpen 1 row after a.place y column ks) cut u))

@@ -19,7 +19,7 @@ use Rattle.model_scanner.specs.State.{Held, State, ◌>>=◌, push, token, on_he
 use Rattle.model_scanner.specs.Keys.{must_be_key}
 use Rattle.model_scanner.specs.Space.{skip_to_next_token}
 use Rattle.model_scanner.specs.Flow.{allow_key}
-use Rattle.model_scanner.specs.Document.{unled, context, quoted_style, block_style, check_behind_quoted, adjacent_here, fetch_flow_scalar, fetch_block_scalar}
+use Rattle.model_scanner.specs.Document.{unled, context, quoted_style, block_style, check_after_quoted, adjacent_here, fetch_flow_scalar, fetch_block_scalar}
 use Rattle.model_scanner.proofs.Holds.{Holds, went, refused, read, chained, choice}
 use Rattle.proof_lexers.specs.Fillers.{begins_filler}
 use Rattle.proof_cut.specs.PiecesRead.{ReadAs}
@@ -36,14 +36,14 @@ use Rattle.proof_cut.proofs.Nodes.{IsDeep, IsNeutral, neutral_single, neutral_do
 
 -- ---- quoted scalars
 
-quoted_checked : (line : ℕ) (t : State) → Holds (Passed t) (check_behind_quoted line t)
-unfolding check_behind_quoted
+quoted_checked : (line : ℕ) (t : State) → Holds (Passed t) (check_after_quoted line t)
+unfolding check_after_quoted
 quoted_checked line t = chained (spaces_skipped Yes t) (λ u s. choice _ (went (passed_spaces Yes t u s)) refused)
 
 pub same_number : (n : ℕ) → (n + 0 == n) ≡ true
 same_number n = grind (arith, nat_tests)
 
--- right behind a quoted scalar, at a token
+-- right after a quoted scalar, at a token
 adjacent_quoted : (p : Position) (rest filler2 : List ℕ) → begins_filler rest ≡ false → IsAdjacent (before_past quoted filler2) p p.index rest
 adjacent_quoted p rest filler2 solid = λ filler r e k t. by filler r e k
   where
@@ -73,42 +73,42 @@ quoted_stood text single t more e s deep x k =
           (opens_none t.held.place x.place x.rest s.stood.here.filler (r.first ∷ r.more) t.held.place tok (λ ns. m.0.steps ns r.first r.more)) t.held.key_allowed (must_be_key t.held)),
     )
 
--- what the model does behind the closing quote
-abbrev behind_body : Bool → State → List ℕ → State → Result State Fault
-behind_body single t x u =
-    check_behind_quoted t.held.place.line (on_held unled u) >>= λ v.
+-- what the model does after the closing quote
+abbrev after_body : Bool → State → List ℕ → State → Result State Fault
+after_body single t x u =
+    check_after_quoted t.held.place.line (on_held unled u) >>= λ v.
     skip_to_next_token v >>= λ w.
     Ok (on_held (λ s. push t.held.place (Tok.scalar (quoted_style single) x) (adjacent_here s)) w)
 
 pub flow_scalar_fetched : (text : List ℕ) (single : Bool) (t : State) (more : List ℕ) → t.rest ≡ quotes.quote_of single ∷ more → Stands text t → IsDeep t.held → Holds (Stands text) (fetch_flow_scalar single t)
 unfolding fetch_flow_scalar
 flow_scalar_fetched text single t more e s deep =
-    subst (λ h. Holds (Stands text) (lexed (quotes.quoted single (context (allow_key false h)) t.rest t.held.place) (allow_key false h) (behind_body single t))) (sym (saved_is t.held))
-    (read (allow_key false now) (quotes.quoted single (context t.held) t.rest t.held.place) (behind_body single t) (λ x k.
-    chained (quoted_checked t.held.place.line (behind x)) (λ v a.
+    subst (λ h. Holds (Stands text) (lexed (quotes.quoted single (context (allow_key false h)) t.rest t.held.place) (allow_key false h) (after_body single t))) (sym (saved_is t.held))
+    (read (allow_key false now) (quotes.quoted single (context t.held) t.rest t.held.place) (after_body single t) (λ x k.
+    chained (quoted_checked t.held.place.line (after x)) (λ v a.
     chained (to_token v) (λ w b. went (fares x k v w a b)))))
   where
     now : Held
     now = record t.held { keys = saved_keys t.held }
 
-    behind : Read (List ℕ) → State
-    behind x = on_held unled (go_on x (allow_key false now))
+    after : Read (List ℕ) → State
+    after x = on_held unled (go_on x (allow_key false now))
 
-    fares : (x : Read (List ℕ)) → quotes.quoted single (context t.held) t.rest t.held.place ≡ Ok x → (v w : State) → Passed (behind x) v → PassedAll v w →
+    fares : (x : Read (List ℕ)) → quotes.quoted single (context t.held) t.rest t.held.place ≡ Ok x → (v w : State) → Passed (after x) v → PassedAll v w →
         Stands text (on_held (λ s. push t.held.place (Tok.scalar (quoted_style single) x.value) (adjacent_here s)) w)
     fares x k v w a b =
         let tok : Token = token t.held.place (Tok.scalar (quoted_style single) x.value) in
         let tokens : List Token = t.held.tokens ++ tok ∷ [] in
         let q : (filler : List ℕ) × Stood text x.rest x.place tokens (saved_keys t.held) t.held.indents t.held.indent t.held.flow (before_past quoted filler) = quoted_stood text single t more e s deep x k in
-        let c : Passed (behind x) w = passed_both (behind x) v w a b.passed in
+        let c : Passed (after x) w = passed_both (after x) v w a b.passed in
         let at_w : Stood text w.rest w.held.place tokens (saved_keys t.held) t.held.indents t.held.indent t.held.flow quoted =
-        stood_passed text (behind x) w tokens (saved_keys t.held) t.held.indents t.held.indent t.held.flow (before_past quoted q.0) c q.1 in
+        stood_passed text (after x) w tokens (saved_keys t.held) t.held.indents t.held.indent t.held.flow (before_past quoted q.0) c q.1 in
         subst (λ h. Fares text w.rest w.held.place (h.tokens ++ tok ∷ []) h.keys h.indents h.indent h.flow w.held.place.index) (sym c.is_held)
         (record { before = quoted; stood = at_w; was_adjacent = omega arith; is_adjacent_here = λ _. adjacent_quoted w.held.place w.rest [] b.solid })
 
 -- ---- block scalars
 
--- no key is live behind a block scalar
+-- no key is live after a block scalar
 block_opens : (p q : Position) (rest2 f piece : List ℕ) (at : Position) (tok : Tok) → (rest2 ≡ []) ⊎ (nat_lt p.line q.line ≡ true) → Opens 0 p q rest2 (led f (with_piece piece at tok) ∷ [])
 block_opens p q rest2 f piece at tok (inl e) = λ k n l ns. absurd (cc (ap is_nil e, l.1))
 block_opens p q rest2 f piece at tok (inr e) = λ k n l ns. absurd (later (k.place.line) p.line q.line n.0 l.0 e)

@@ -13,10 +13,10 @@ use Rattle.model_scanner.specs.declared.level.Indent.{Indent}
 use Rattle.model_scanner.specs.declared.level.FlowLevel.{FlowLevel}
 use Rattle.model_scanner.specs.State.{Key, with_top, token}
 use Rattle.proof_cut.specs.PiecesRead.{ReadAs}
-use Rattle.proof_cut.specs.Order.{Behind}
+use Rattle.proof_cut.specs.Order.{After}
 use Rattle.proof_cut.specs.Here.{Here, IsNotRight, AreOpen}
 use Rattle.proof_cut.specs.Stands.{columns, AreLevels, IsLevel, levels_of, account_of, IsAdjacent, Stood}
-use Rattle.proof_cut.proofs.Places.{not_before_behind, index_behind, is_behind, behind_then}
+use Rattle.proof_cut.proofs.Places.{not_before_after, index_after, is_after, after_then}
 use Rattle.proof_cut.proofs.Pieces.Fillers.{filler_append}
 use Rattle.proof_cut.proofs.Heres.{here_filled, led, before_both}
 use Rattle.proof_cut.proofs.Pushed.{with_piece, same_account, columns_settled, here_token, here_two, with_blocks, past_empty}
@@ -25,8 +25,8 @@ use Rattle.proof_cut.proofs.Saved.{Opens, open_saved, length_tokens}
 
 -- ---- fillers
 
-goes_behind : (g rest rest2 : List ℕ) → rest ≡ g ++ rest2 → GoesOn rest2 rest
-goes_behind g rest rest2 e h = rw e (by g)
+goes_after : (g rest rest2 : List ℕ) → rest ≡ g ++ rest2 → GoesOn rest2 rest
+goes_after g rest rest2 e h = rw e (by g)
   where
     by : (g : List ℕ) → is_nil (g ++ rest2) ≡ false
     by [] = h
@@ -37,19 +37,19 @@ pub stood_filled : (text rest : List ℕ) (p : Position) (tokens : List Token) (
 stood_filled text rest p tokens keys indents indent flow before g rest2 cut f s = record {
   begin = s.begin;
   row = s.row;
-  behind = s.behind;
+  after = s.after;
   tokens_are = s.tokens_are;
-  here = here_filled text s.row s.behind rest (account_of p indent indents flow before) g rest2 cut f s.here;
+  here = here_filled text s.row s.after rest (account_of p indent indents flow before) g rest2 cut f s.here;
   are_levels = s.are_levels;
   one_each = s.one_each;
-  are_open = open_moved 0 s.row s.behind p (position_after p g rest2) rest rest2 (innermost_column (columns indent indents)) keys (not_before_behind p g rest2) (goes_behind g rest rest2 cut) s.are_open;
+  are_open = open_moved 0 s.row s.after p (position_after p g rest2) rest rest2 (innermost_column (columns indent indents)) keys (not_before_after p g rest2) (goes_after g rest rest2 cut) s.are_open;
 }
 
 pub adjacent_filled : (before : Before) (p : Position) (adj : ℕ) (rest g rest2 : List ℕ) → rest ≡ g ++ rest2 → is_filler false g rest2 ≡ true → IsAdjacent before p adj rest → IsAdjacent (before_past before g) (position_after p g rest2) adj rest2
 adjacent_filled before p adj rest g rest2 cut f a = λ filler r e k t.
     let fills : is_filler false g (filler ++ r) ≡ true = rw e at f in
     let known : is_adjacent (before_past before (g ++ filler)) ≡ ((p.index + length (g ++ filler)) == adj) = a (g ++ filler) r (cut ∙ ap (λ x. g ++ x) e ∙ sym (append_assoc g filler r)) (filler_append false g filler r fills k) t in
-    let many : p.index + length (g ++ filler) ≡ (position_after p g rest2).index + length filler = rw (length-append g filler, index_behind p g rest2) (omega arith) in
+    let many : p.index + length (g ++ filler) ≡ (position_after p g rest2).index + length filler = rw (length-append g filler, index_after p g rest2) (omega arith) in
     ap is_adjacent (before_both before g filler) ∙ known ∙ ap (λ x. x == adj) many
 
 -- ---- levels of indentation
@@ -59,12 +59,12 @@ pub stood_levels : (text rest : List ℕ) (p : Position) (tokens : List Token) (
 stood_levels text rest p tokens keys indents indent flow before indents2 indent2 e l s = record {
   begin = s.begin;
   row = s.row;
-  behind = s.behind;
+  after = s.after;
   tokens_are = s.tokens_are;
-  here = subst (λ bs. Here text s.row s.behind rest (record { place = p; blocks = bs; levels = levels_of flow; before = before })) e s.here;
+  here = subst (λ bs. Here text s.row s.after rest (record { place = p; blocks = bs; levels = levels_of flow; before = before })) e s.here;
   are_levels = l;
   one_each = s.one_each;
-  are_open = subst (λ bs. AreOpen 0 s.row s.behind p rest (innermost_column bs) keys) e s.are_open;
+  are_open = subst (λ bs. AreOpen 0 s.row s.after p rest (innermost_column bs) keys) e s.are_open;
 }
 
 pub not_right : (col indent : ℕ) (indents : List Indent) → AreLevels indent indents → indent ≤ col + 1 → IsNotRight (innermost_column (columns indent indents)) col
@@ -77,7 +77,7 @@ not_right col i (d ∷ ds) l e = by d.needs_block_end l.0 (λ u. not_right col d
 
 -- ---- a node's token
 
--- the keys behind a node's start that may be a key or not
+-- the keys after a node's start that may be a key or not
 abbrev pub with_saved : (allowed required : Bool) → (number : ℕ) → Position → List (Option Key) → List (Option Key)
 with_saved allowed required number p keys = (if allowed then with_top (Some (record { required = required; number = number; place = p })) keys else keys)
 
@@ -95,11 +95,11 @@ tokens_more begin row w tokens e = ap (λ ts. ts ++ w.token ∷ []) e ∙ ap (λ
 pub number_of : (begin : Position) (row : List Written) (tokens : List Token) → tokens ≡ start_token begin ∷ tokens_of row → length tokens ≡ suc (length row)
 number_of begin row tokens e = ap length e ∙ ap suc (length_tokens row)
 
-pub read_later : (a : Account) (rest : List ℕ) (tok : Tok) (at : Position) (rest2 : List ℕ) (end : Position) → ReadAs a rest tok at rest2 end → Behind a.place end
+pub read_later : (a : Account) (rest : List ℕ) (tok : Tok) (at : Position) (rest2 : List ℕ) (end : Position) → ReadAs a rest tok at rest2 end → After a.place end
 read_later a rest tok at rest2 end r =
     let q : Position = position_after a.place (r.first ∷ r.more) (r.filler ++ rest2) in
-    subst (λ x. Behind a.place x) (sym r.is_end)
-    (behind_then a.place q (position_after q r.filler rest2) (is_behind a.place r.first r.more (r.filler ++ rest2)) (not_before_behind q r.filler rest2))
+    subst (λ x. After a.place x) (sym r.is_end)
+    (after_then a.place q (position_after q r.filler rest2) (is_after a.place r.first r.more (r.filler ++ rest2)) (not_before_after q r.filler rest2))
 
 -- A token with its piece, whatever it opens and closes of flow.
 pub piece_stood : (text rest : List ℕ) (p : Position) (tokens : List Token) (keys : List (Option Key)) (indents : List Indent) (indent : ℕ) (flow : List FlowLevel) (before : Before)
@@ -119,10 +119,10 @@ piece_stood text rest p tokens keys indents indent flow before s tok at rest2 en
     record {
       begin = s.begin;
       row = s.row ++ (w ∷ []);
-      behind = r.filler ++ rest2;
+      after = r.filler ++ rest2;
       tokens_are = tokens_more s.begin s.row w tokens s.tokens_are;
       here = subst (λ x. Here text (s.row ++ (w ∷ [])) (r.filler ++ rest2) rest2 x) same
-          (here_token text s.row s.behind rest a bs r.first r.more r.filler rest2 at tok r.is_text r.is_filled (columns_settled p.col indent indents) r.is_piece s.here);
+          (here_token text s.row s.after rest a bs r.first r.more r.filler rest2 at tok r.is_text r.is_filled (columns_settled p.col indent indents) r.is_piece s.here);
       are_levels = s.are_levels;
       one_each = many;
       are_open = opened;
@@ -138,7 +138,7 @@ node_stood text rest p tokens keys indents indent flow before s tok at rest2 end
     let a : Account = account_of p indent indents flow before in
     let q : List (Option Key) = with_saved allowed required (length tokens) p keys in
     piece_stood text rest p tokens keys indents indent flow before s tok at rest2 end r blocks flow levels q (length_saved allowed required (length tokens) p keys ∙ s.one_each)
-    (open_saved text s.row s.behind rest a keys (innermost_column (columns indent indents)) r.first r.more (r.filler ++ rest2) rest2 end at tok 0 allowed (record { required = required; number = length tokens; place = p })
+    (open_saved text s.row s.after rest a keys (innermost_column (columns indent indents)) r.first r.more (r.filler ++ rest2) rest2 end at tok 0 allowed (record { required = required; number = length tokens; place = p })
     s.here (λ n. columns_settled n indent indents) s.are_open r.is_text (read_later a rest tok at rest2 end r) node (not_right p.col indent indents s.are_levels deep) (number_of s.begin s.row tokens s.tokens_are) refl opens)
 
 tokens_two : (begin : Position) (row : List Written) (v w : Written) (tokens : List Token) → tokens ≡ start_token begin ∷ tokens_of row → (tokens ++ v.token ∷ []) ++ w.token ∷ [] ≡ start_token begin ∷ tokens_of (row ++ (v ∷ w ∷ []))
@@ -168,10 +168,10 @@ two_stood text c more p tokens keys indents indent flow before s tok tok2 at at2
     record {
       begin = s.begin;
       row = s.row ++ (v ∷ w ∷ []);
-      behind = g ++ rest2;
+      after = g ++ rest2;
       tokens_are = tokens_two s.begin s.row v w tokens s.tokens_are;
       here = subst (λ x. Here text (s.row ++ (v ∷ w ∷ [])) (g ++ rest2) rest2 x) same
-          (here_two text s.row s.behind (c ∷ more) a bs c [] g rest2 at at2 tok tok2 (ap (λ r. c ∷ r) cut) f settles first second s.here);
+          (here_two text s.row s.after (c ∷ more) a bs c [] g rest2 at at2 tok tok2 (ap (λ r. c ∷ r) cut) f settles first second s.here);
       are_levels = are;
       one_each = many;
       are_open = opened;

@@ -1,4 +1,4 @@
--- The ends of block collections: what holds between fetches holds behind them.
+-- The ends of block collections: what holds between fetches holds after them.
 use Rattle.std.proofs.Common.{◌≡◌, ℕ, suc, ◌+◌, ◌-◌, ◌<◌, ◌≤◌, List, [], ◌∷◌, ◌++◌, Bool, true, false, not, length, drop, nat_lt, if◌then◌else◌, Option, Some, None, refl, ap, sym, ◌∙◌, subst, arith}
 use Rattle.std.proofs.lemmas.Bool.Decides.{nat_tests}
 use Rattle.defs_text.specs.Position.{Position}
@@ -32,13 +32,13 @@ abbrev pub Dies : (rest : List ℕ) → Position → List (Option Key) → (limi
 Dies rest p keys limit column = (n : ℕ) → column ≡ Some n → limit < n + 1 → AreDead p rest keys
 
 -- a row goes on by any tokens, and other block collections may be open
-dead_more : (row vs : List Written) (behind behind2 : List ℕ) (p : Position) (rest : List ℕ) (column column2 : Option ℕ) (keys : List (Option Key)) → length keys ≡ 1 → behind ≡ spelled vs behind2 → AreDead p rest keys →
-    AreOpen 0 row behind p rest column keys → AreOpen 0 (row ++ vs) behind2 p rest column2 keys
-dead_more row vs behind behind2 p rest column column2 [] one cut dead o = tt
-dead_more row vs behind behind2 p rest column column2 (x ∷ y ∷ ks) one cut dead o = absurd (omega (arith, one))
-dead_more row vs behind behind2 p rest column column2 (None ∷ []) one cut dead o = tt
-dead_more row vs behind behind2 p rest column column2 (Some k ∷ []) one cut dead o =
-    (is_open_more k 0 0 row vs behind behind2 p p rest rest column column2 cut o.0.is_earlier o.0 (λ l. absurd (dead.0 l)), tt)
+dead_more : (row vs : List Written) (after after2 : List ℕ) (p : Position) (rest : List ℕ) (column column2 : Option ℕ) (keys : List (Option Key)) → length keys ≡ 1 → after ≡ spelled vs after2 → AreDead p rest keys →
+    AreOpen 0 row after p rest column keys → AreOpen 0 (row ++ vs) after2 p rest column2 keys
+dead_more row vs after after2 p rest column column2 [] one cut dead o = tt
+dead_more row vs after after2 p rest column column2 (x ∷ y ∷ ks) one cut dead o = absurd (omega (arith, one))
+dead_more row vs after after2 p rest column column2 (None ∷ []) one cut dead o = tt
+dead_more row vs after after2 p rest column column2 (Some k ∷ []) one cut dead o =
+    (is_open_more k 0 0 row vs after after2 p p rest rest column column2 cut o.0.is_earlier o.0 (λ l. absurd (dead.0 l)), tt)
 
 -- ---- one end
 
@@ -60,13 +60,13 @@ module _ (text rest : List ℕ) (p at : Position) (keys : List (Option Key)) (fl
       record {
         begin = s.begin;
         row = s.row ++ (led s.here.filler w ∷ []);
-        behind = rest;
+        after = rest;
         tokens_are = tokens_more s.begin s.row (led s.here.filler w) tokens s.tokens_are;
         here = subst (λ b. Here text (s.row ++ (led s.here.filler w ∷ [])) rest rest b) same
-            (here_empty text s.row s.behind rest a at Tok.block_end (λ last. (refl, outside_now flow out, ap (λ bs. not (is_empty bs)) cols)) s.here);
+            (here_empty text s.row s.after rest a at Tok.block_end (λ last. (refl, outside_now flow out, ap (λ bs. not (is_empty bs)) cols)) s.here);
         are_levels = s.are_levels.1;
         one_each = s.one_each;
-        are_open = dead_more s.row (led s.here.filler w ∷ []) s.behind rest p rest (innermost_column (columns i (d ∷ ds))) (innermost_column (columns d.indent ds)) keys (s.one_each ∙ ap suc (nil_length flow out)) s.here.is_behind dead s.are_open;
+        are_open = dead_more s.row (led s.here.filler w ∷ []) s.after rest p rest (innermost_column (columns i (d ∷ ds))) (innermost_column (columns d.indent ds)) keys (s.one_each ∙ ap suc (nil_length flow out)) s.here.is_after dead s.are_open;
       }
 
   -- a level that opens no collection
@@ -95,7 +95,7 @@ module _ (text rest : List ℕ) (p at : Position) (keys : List (Option Key)) (fl
           let dead : AreDead p rest keys = dies (i - 1) (rw f refl) (omega (arith, deep, high)) in
           go (tokens ++ token at Tok.block_end ∷ []) (λ n c h. dead) (ended i d ds tokens f dead s)
 
--- ---- behind the ends
+-- ---- after the ends
 
 pub unrolled_in_flow : (limit : ℕ) (s : Held) → is_nil s.flow ≡ false → unroll_indent limit s ≡ s
 unfolding unroll_indent
@@ -105,7 +105,7 @@ pub unrolled_outside : (limit : ℕ) (s : Held) → is_nil s.flow ≡ true → u
 unfolding unroll_indent
 unrolled_outside limit s e = rw e refl
 
--- behind the ends the account is one that is held, and outside flow no level is deeper than the limit
+-- after the ends the account is one that is held, and outside flow no level is deeper than the limit
 pub record UnrolledTo (text : List ℕ) (t : State) (limit : ℕ) : Type 0 where
   pub stands : Stands text (on_held (unroll_indent limit) t)
   pub indents : List Indent
@@ -143,11 +143,11 @@ unrolled_to text t limit s dies = by (is_nil t.held.flow) refl
         }
 
 -- a key that is live is not left by a block collection
-key_stays : (p : Position) (rest : List ℕ) (row : List Written) (behind : List ℕ) (column : Option ℕ) (keys : List (Option Key)) → length keys ≡ 1 → AreOpen 0 row behind p rest column keys → Dies rest p keys (p.col + 1) column
-key_stays p rest row behind column [] one o n e h = tt
-key_stays p rest row behind column (None ∷ []) one o n e h = tt
-key_stays p rest row behind column (x ∷ y ∷ ks) one o n e h = absurd (omega (arith, one))
-key_stays p rest row behind column (Some k ∷ []) one o n e h = (λ l. no_live l, tt)
+key_stays : (p : Position) (rest : List ℕ) (row : List Written) (after : List ℕ) (column : Option ℕ) (keys : List (Option Key)) → length keys ≡ 1 → AreOpen 0 row after p rest column keys → Dies rest p keys (p.col + 1) column
+key_stays p rest row after column [] one o n e h = tt
+key_stays p rest row after column (None ∷ []) one o n e h = tt
+key_stays p rest row after column (x ∷ y ∷ ks) one o n e h = absurd (omega (arith, one))
+key_stays p rest row after column (Some k ∷ []) one o n e h = (λ l. no_live l, tt)
   where
     no_live : IsLive k p rest → ⊥
     no_live l =
@@ -158,4 +158,4 @@ key_stays p rest row behind column (Some k ∷ []) one o n e h = (λ l. no_live 
 -- Where a token begins, the block collections that are deeper end.
 pub unrolled_here : (text : List ℕ) (t : State) → Stands text t → UnrolledTo text t (t.held.place.col + 1)
 unrolled_here text t s = unrolled_to text t (t.held.place.col + 1) s
-    (λ out. key_stays t.held.place t.rest s.stood.row s.stood.behind (innermost_column (columns t.held.indent t.held.indents)) t.held.keys (s.stood.one_each ∙ ap suc (nil_length t.held.flow out)) s.stood.are_open)
+    (λ out. key_stays t.held.place t.rest s.stood.row s.stood.after (innermost_column (columns t.held.indent t.held.indents)) t.held.keys (s.stood.one_each ∙ ap suc (nil_length t.held.flow out)) s.stood.are_open)

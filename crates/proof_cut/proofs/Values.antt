@@ -21,11 +21,11 @@ use Rattle.model_scanner.specs.State.{Key, Held, State, peek, in_flow, with_top,
 use Rattle.model_scanner.specs.Keys.{top_key}
 use Rattle.model_scanner.specs.Indents.{roll_indent, roll_one_col_indent}
 use Rattle.model_scanner.specs.Flow.{allow_key}
-use Rattle.model_scanner.specs.Block.{check_behind_tab, check_value_space, opens_pair, paired, begin_keyless_mapping, begin_keyless_value}
+use Rattle.model_scanner.specs.Block.{check_after_tab, check_value_space, opens_pair, paired, begin_keyless_mapping, begin_keyless_value}
 use Rattle.model_scanner.proofs.Holds.{Holds, went, chained, choice, passes, weakened}
 use Rattle.proof_cut.specs.PiecesRead.{ReadAs}
 use Rattle.proof_cut.specs.Stands.{columns, AreLevels, levels_of, account_of, Stood, Fares, Stands}
-use Rattle.proof_cut.proofs.Places.{weaker, index_behind}
+use Rattle.proof_cut.proofs.Places.{weaker, index_after}
 use Rattle.proof_cut.proofs.Heres.{led, spelled_led}
 use Rattle.proof_cut.proofs.Pushed.{with_piece, columns_settled}
 use Rattle.proof_cut.proofs.Stoods.{piece_stood, two_stood, read_later, stood_levels}
@@ -36,14 +36,14 @@ use Rattle.proof_cut.proofs.FlowEnds.{LeadsOut, entry_open, length_top}
 use Rattle.proof_cut.proofs.Rolls.{SameBlocks, rolled_one, Rolls, rolled_is, rolls_levels}
 use Rattle.proof_cut.proofs.Blocks.{IsMark, mapping_start, roll_stood, rolls_place}
 
-tab_checked : (w : Whitespace) (u : State) → Holds (λ y. y ≡ u) (check_behind_tab w u)
-unfolding check_behind_tab
+tab_checked : (w : Whitespace) (u : State) → Holds (λ y. y ≡ u) (check_after_tab w u)
+unfolding check_after_tab
 tab_checked w u = passes _ _ (went refl)
 
--- behind the `:`
+-- after the `:`
 pub value_spaced : (t : State) → Holds (Passed t) (check_value_space t)
 unfolding check_value_space
-value_spaced t = choice (peek t.rest == 9) (spaced Yes t check_behind_tab (Passed t) (λ found u a. weakened (λ y d. subst (λ z. Passed t z) (sym d) (passed_spaces Yes t u a)) (tab_checked found u)))
+value_spaced t = choice (peek t.rest == 9) (spaced Yes t check_after_tab (Passed t) (λ found u a. weakened (λ y d. subst (λ z. Passed t z) (sym d) (passed_spaces Yes t u a)) (tab_checked found u)))
     (went (record { filler = []; leading = t.held.leading; allowed = t.held.key_allowed; is_rest = refl; is_filled = refl; is_held = refl }))
 
 -- what the model holds where a value begins without a key
@@ -91,8 +91,8 @@ value_stood text more p tokens keys indents indent flow flow2 before v g ind sam
     let a : Account = account_of p indent indents flow before in
     let r : ReadAs a (58 ∷ more) Tok.value p v.rest v.held.place = indicated_by a 58 more Tok.value p v no_break_colon g (λ next last n. (refl, rw n at ind)) in
     piece_stood text (58 ∷ more) p tokens keys indents indent flow before s Tok.value p v.rest v.held.place r refl flow2 same (with_top None keys) (length_top keys ∙ s.one_each ∙ ap suc (sym many))
-    (entry_open s.row (led s.here.filler (with_piece (58 ∷ []) p Tok.value) ∷ []) s.behind (g.filler ++ v.rest) p v.held.place (58 ∷ more) v.rest (innermost_column (columns indent indents)) flow keys s.one_each
-    (spelled_led s.behind s.here.filler (58 ∷ more) (with_piece (58 ∷ []) p Tok.value) [] (g.filler ++ v.rest) s.here.is_behind r.is_text) (weaker p v.held.place (read_later a (58 ∷ more) Tok.value p v.rest v.held.place r)) (λ _. refl)
+    (entry_open s.row (led s.here.filler (with_piece (58 ∷ []) p Tok.value) ∷ []) s.after (g.filler ++ v.rest) p v.held.place (58 ∷ more) v.rest (innermost_column (columns indent indents)) flow keys s.one_each
+    (spelled_led s.after s.here.filler (58 ∷ more) (with_piece (58 ∷ []) p Tok.value) [] (g.filler ++ v.rest) s.here.is_after r.is_text) (weaker p v.held.place (read_later a (58 ∷ more) Tok.value p v.rest v.held.place r)) (λ _. refl)
     (leads_value s.here.filler (58 ∷ []) p) s.are_open)
 
 is_pair_here : (a : Account) (next : List ℕ) (at : Position) → takes_pair a ≡ true → IsPiece a [] (58 ∷ next) (Some Tok.value) at Tok.flow_mapping_start
@@ -109,8 +109,8 @@ pair_stood text more p q tokens keys indents indent gs before v g ind s =
     let vs : List Written = led s.here.filler (with_piece [] q Tok.flow_mapping_start) ∷ with_piece (58 ∷ []) p Tok.value ∷ [] in
     two_stood text 58 more p tokens keys indents indent (Entry ∷ gs) before s Tok.flow_mapping_start Tok.value q p g.filler v.rest v.held.place g.is_rest g.is_filled r.is_end indents indent s.are_levels (columns_settled p.col indent indents)
     (is_pair_here (account_of p indent indents (Entry ∷ gs) before) (g.filler ++ v.rest) q refl) r.is_piece refl (Pair ∷ gs) refl (with_top None keys) (length_top keys ∙ s.one_each)
-    (entry_open s.row vs s.behind (g.filler ++ v.rest) p v.held.place (58 ∷ more) v.rest (innermost_column (columns indent indents)) (Entry ∷ gs) keys s.one_each
-    (spelled_led s.behind s.here.filler (58 ∷ more) (with_piece [] q Tok.flow_mapping_start) (with_piece (58 ∷ []) p Tok.value ∷ []) (g.filler ++ v.rest) s.here.is_behind r.is_text)
+    (entry_open s.row vs s.after (g.filler ++ v.rest) p v.held.place (58 ∷ more) v.rest (innermost_column (columns indent indents)) (Entry ∷ gs) keys s.one_each
+    (spelled_led s.after s.here.filler (58 ∷ more) (with_piece [] q Tok.flow_mapping_start) (with_piece (58 ∷ []) p Tok.value ∷ []) (g.filler ++ v.rest) s.here.is_after r.is_text)
     (weaker p v.held.place (read_later a (58 ∷ more) Tok.value p v.rest v.held.place r)) (λ _. refl) (leads_pair s.here.filler q p) s.are_open)
 
 colon : (more : List ℕ) → is_at_gap more ≡ true → IsMark Tok.value 58 more
@@ -120,11 +120,11 @@ top_none : (ks : List (Option Key)) → top_key ks ≡ None → with_top None ks
 top_none [] e = refl
 top_none (k ∷ ks) e = ap (λ x. x ∷ ks) (sym e)
 
--- behind the `:` no colon may stand next
+-- after the `:` no colon may stand next
 pub value_fares : (text more : List ℕ) (t v : State) (s : Stands text t) → Filled more (past t.held.place) v → (tokens : List Token) (keys : List (Option Key)) (indents : List Indent) (indent : ℕ) (flow : List FlowLevel) →
     Stood text v.rest v.held.place tokens keys indents indent flow other → Fares text v.rest v.held.place tokens keys indents indent flow t.held.adjacent_value_at
 value_fares text more t v s g tokens keys indents indent flow z =
-    let i : (position_after (past t.held.place) g.filler v.rest).index ≡ (past t.held.place).index + length g.filler = index_behind (past t.held.place) g.filler v.rest in
+    let i : (position_after (past t.held.place) g.filler v.rest).index ≡ (past t.held.place).index + length g.filler = index_after (past t.held.place) g.filler v.rest in
     let e : v.held.place.index ≡ (position_after (past t.held.place) g.filler v.rest).index = ap (λ x. x.index) g.is_place in
     let further : t.held.place.index < v.held.place.index = omega (arith, i, e) in
     record { before = other; stood = z; was_adjacent = omega (arith, s.was_adjacent, further); is_adjacent_here = λ _. adjacent_other v.held.place t.held.adjacent_value_at v.rest (omega (arith, s.was_adjacent, further)) }
@@ -133,7 +133,7 @@ at_gap_of : (b : Bool) → (b || false) ≡ true → b ≡ true
 at_gap_of true h = refl
 at_gap_of false h = h
 
--- what is left behind the `:` without a key, by what the model holds there
+-- what is left after the `:` without a key, by what the model holds there
 pub keyless_fares : (text more : List ℕ) (t v : State) (leading allowed : Bool) → t.rest ≡ 58 ∷ more → (s : Stands text t) → top_key t.held.keys ≡ None → is_value_indicator (not (is_nil t.held.flow)) (is_adjacent s.before) more ≡ true →
     Filled more (past t.held.place) v → (u : Held) → Keyless t.held.place t.held.flow (placed_at t.held v.held.place leading allowed) u →
     Fares text v.rest u.place (u.tokens ++ token t.held.place Tok.value ∷ []) u.keys u.indents u.indent u.flow u.adjacent_value_at

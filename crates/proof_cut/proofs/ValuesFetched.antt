@@ -13,7 +13,7 @@ use Rattle.defs_token.specs.Account.{Before, other, is_adjacent, is_empty}
 use Rattle.model_lexers.specs.Machine.{past}
 use Rattle.model_scanner.specs.declared.level.FlowLevel.{FlowLevel}
 use Rattle.model_scanner.specs.declared.level.FlowLevel.TheVariants.{Mapping, Entry, Keyed, Pair}
-use Rattle.model_scanner.specs.State.{Key, Held, State, ◌>>=◌, in_flow, push, with_top, token, behind, on_held, with_held, try_held, skip_indicator}
+use Rattle.model_scanner.specs.State.{Key, Held, State, ◌>>=◌, in_flow, push, with_top, token, after, on_held, with_held, try_held, skip_indicator}
 use Rattle.model_scanner.specs.Keys.{top_key}
 use Rattle.model_scanner.specs.Indents.{roll_indent, roll_one_col_indent}
 use Rattle.model_scanner.specs.Block.{opens_pair, paired, begin_pair, insert_key, value_of, fetch_value}
@@ -39,7 +39,7 @@ with_key k ts = insert ts k.number (token k.place Tok.key)
 abbrev with_start : Key → Position → Tok → List Token → List Token
 with_start k p t ts = insert (with_key k ts) k.number (token p t)
 
--- what the model holds where a value begins behind a key
+-- what the model holds where a value begins after a key
 data KeyedAs (k : Key) (p : Position) (fs : List FlowLevel) (h u : Held) : Type 0 where
   pair : (gs : List FlowLevel) (m : Held) → fs ≡ Entry ∷ gs → p.line ≤ k.place.line → SameBlocks (record h { flow = Pair ∷ gs; tokens = with_start k h.place Tok.flow_mapping_start h.tokens }) m → u ≡ closed m → KeyedAs k p fs h u
   no_pair : (m : Held) → is_nil fs ≡ false → levels_of (paired fs) ≡ levels_of fs → length (paired fs) ≡ length fs → SameBlocks (record h { flow = paired fs; tokens = with_key k h.tokens }) m → u ≡ closed m → KeyedAs k p fs h u
@@ -76,7 +76,7 @@ keyed_begun k p (Mapping ∷ gs) h l = went (no_pair _ refl refl refl (in_level 
 keyed_begun k p (Keyed ∷ gs) h l = went (no_pair _ refl refl refl (in_level k p (record h { flow = Keyed ∷ gs; tokens = with_key k h.tokens }) refl l) refl)
 keyed_begun k p (Pair ∷ gs) h l = went (no_pair _ refl refl refl (in_level k p (record h { flow = Pair ∷ gs; tokens = with_key k h.tokens }) refl l) refl)
 
--- behind the key of a block mapping
+-- after the key of a block mapping
 block_key : (text more : List ℕ) (p : Position) (k : Key) (ks : List (Option Key)) (before : Before) (h l : Held) → p.line ≤ k.place.line → Rolls k.place.col (Some k.number) (token p Tok.block_mapping_start) (record h { flow = []; tokens = with_key k h.tokens }) l →
     Stood text (58 ∷ more) p h.tokens (Some k ∷ ks) h.indents h.indent [] before → Stood text (58 ∷ more) p l.tokens (None ∷ ks) l.indents l.indent [] before
 block_key text more p k ks before h l on (begins ds i w cols are) s =
@@ -85,7 +85,7 @@ block_key text more p k ks before h l on (goes_on d) s =
     subst (λ z. Stood text (58 ∷ more) p z.tokens (None ∷ ks) z.indents z.indent [] before) (sym d.is_held)
     (stood_levels text (58 ∷ more) p (with_key k h.tokens) (None ∷ ks) h.indents h.indent [] before d.indents d.indent d.same_columns d.are_levels (key_stood text more p h.tokens k ks h.indents h.indent [] before s))
 
--- what is left behind the `:` and its key, by what the model holds there
+-- what is left after the `:` and its key, by what the model holds there
 keyed_fares : (text more : List ℕ) (t v : State) (leading allowed : Bool) (k : Key) (ks : List (Option Key)) → t.rest ≡ 58 ∷ more → (s : Stands text t) → t.held.keys ≡ Some k ∷ ks → is_value_indicator (not (is_nil t.held.flow)) (is_adjacent s.before) more ≡ true →
     (is_nil t.held.flow ≡ true → t.held.place.line ≤ k.place.line) → Filled more (past t.held.place) v → (u : Held) → KeyedAs k t.held.place t.held.flow (placed_at t.held v.held.place leading allowed) u →
     Fares text v.rest u.place (u.tokens ++ token t.held.place Tok.value ∷ []) u.keys u.indents u.indent u.flow u.adjacent_value_at
@@ -145,7 +145,7 @@ keyed_fares text more t v leading allowed k ks e s keys ind near g u r = by r
 
 -- ---- the whole
 
--- what the model does behind the `:` and the blanks there
+-- what the model does after the `:` and the blanks there
 abbrev value_from : State → State → Result State Fault
 value_from t u =
     try_held (λ s. value_of (top_key s.keys) t.held.place (opens_pair t.held.flow) s) u >>= λ v.
@@ -186,7 +186,7 @@ value_fetched text more t e s ind near =
 
     by : (u : State) → Passed start u → Holds (Stands text) (value_from t u)
     by u a =
-        let g : Filled more (past t.held.place) u = record { filler = a.filler; is_rest = ap behind (sym e) ∙ a.is_rest; is_filled = a.is_filled; is_place = ap (λ h. h.place) a.is_held } in
+        let g : Filled more (past t.held.place) u = record { filler = a.filler; is_rest = ap after (sym e) ∙ a.is_rest; is_filled = a.is_filled; is_place = ap (λ h. h.place) a.is_held } in
         let held : u.held ≡ placed_at start.held u.held.place a.leading a.allowed = at_place start u a in
         subst (λ h. Holds (Stands text) (with_held u (value_of (top_key h.keys) t.held.place (opens_pair t.held.flow) h) >>= λ w. Ok (on_held (push t.held.place Tok.value) w))) (sym held)
         (value_passed text more t u a.leading a.allowed e s ind near g t.held.keys refl)

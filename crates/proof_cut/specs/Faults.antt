@@ -8,14 +8,14 @@ use Rattle.defs_text.specs.Classes.{is_at_gap}
 use Rattle.defs_text.specs.Text.{up_to_end}
 use Rattle.defs_text.specs.Position.{position_after}
 use Rattle.defs_token.specs.Filler.{is_filler}
-use Rattle.defs_token.specs.Plain.{begins_flow, behind_blank}
+use Rattle.defs_token.specs.Plain.{begins_flow, after_blank}
 use Rattle.defs_token.specs.Account.{Account, first_account, is_in_flow, has_room, account_past_filler}
 use Rattle.defs_token.specs.Piece.{Holds}
 use Rattle.defs_token.specs.Cut.{Written, IsRow, spelled, account_past_row}
 use Rattle.model_lexers.specs.Quoted.{quote_of}
 use Rattle.proof_lexers.specs.QuotedScan.{has_marker}
 use Rattle.proof_lexers.specs.QuotedEnds.{HasElements, IsBadEscape}
-use Rattle.proof_lexers.specs.PlainEnds.{stand_behind, is_apart}
+use Rattle.proof_lexers.specs.PlainEnds.{stand_after, is_apart}
 
 -- A place of a text after a row of pieces and a filler: the text from there on, and the account.
 pub record IsSpot (text rest : List ℕ) (account : Account) : Type 0 where
@@ -34,7 +34,7 @@ pub data IsThere (text : List ℕ) : Fault → Type 0 where
   marked_quote : (a : Account) (single : Bool) (body rest : List ℕ) → IsSpot text (quote_of single ∷ (body ++ rest)) a → HasElements single body → has_marker body rest ≡ true → IsThere text (At problem.QuotedDocumentMarker a.place)
   too_deep : (a : Account) (c : ℕ) (rest : List ℕ) → IsSpot text (c ∷ rest) a → ((c == 91) || (c == 123)) ≡ true → has_room a ≡ false → IsThere text (At problem.FlowTooDeep a.place)
   entry_in_flow : (a : Account) (rest : List ℕ) → IsSpot text (45 ∷ rest) a → is_at_gap rest ≡ true → is_in_flow a ≡ true → IsThere text (At problem.BlockEntryInFlow a.place)
-  dash_in_flow : (a : Account) (before rest : List ℕ) → IsSpot text (before ++ 45 ∷ rest) a → begins_flow rest ≡ true → is_in_flow a ≡ true → is_apart (stand_behind behind_blank before) ≡ true
+  dash_in_flow : (a : Account) (before rest : List ℕ) → IsSpot text (before ++ 45 ∷ rest) a → begins_flow rest ≡ true → is_in_flow a ≡ true → is_apart (stand_after after_blank before) ≡ true
       → IsThere text (At problem.PlainDashInFlow (position_after a.place before (45 ∷ rest)))
 
 -- whether a fault is of these

@@ -9,17 +9,17 @@ use Rattle.defs_token.specs.Piece.{begins_node}
 use Rattle.defs_token.specs.Cut.{Written, IsRow, spelled, account_at, account_past_row}
 use Rattle.model_scanner.specs.State.{Key}
 use Rattle.proof_lexers.specs.PlainEnds.{has_no_nul}
-use Rattle.proof_cut.specs.Order.{Behind}
+use Rattle.proof_cut.specs.Order.{After}
 use Rattle.proof_cut.specs.Inside.{inside}
 
 -- A row, and a filler after it, are the text up to a place, whatever token follows; the text after the row, the text after the place, and the account there.
-pub record Here (text : List ℕ) (row : List Written) (behind rest : List ℕ) (here : Account) : Type 0 where
+pub record Here (text : List ℕ) (row : List Written) (after rest : List ℕ) (here : Account) : Type 0 where
   pub filler : List ℕ
-  pub is_behind : behind ≡ filler ++ rest
-  pub is_text : spelled row behind ≡ text
-  pub is_row : (last : Option Tok) → IsRow first_account row behind last
+  pub is_after : after ≡ filler ++ rest
+  pub is_text : spelled row after ≡ text
+  pub is_row : (last : Option Tok) → IsRow first_account row after last
   pub is_filled : is_filler false filler rest ≡ true
-  pub is_here : account_past_filler (account_past_row first_account row behind) filler rest ≡ here
+  pub is_here : account_past_filler (account_past_row first_account row after) filler rest ≡ here
   pub is_clean : has_no_nul rest ≡ true
 
 -- whether a place is on a key's line, and the text goes on there
@@ -39,11 +39,11 @@ pub record IsInside (k : Key) (depth : ℕ) (ws : List Written) (column : Option
   pub column_is : IsNotRight column k.place.col
 
 -- the account at a piece of a row
-abbrev pub account_in : (before : List Written) → Written → (later : List Written) → (behind : List ℕ) → Account
-account_in before own later behind = account_at (account_past_row first_account before (spelled (own ∷ later) behind)) own (spelled later behind)
+abbrev pub account_in : (before : List Written) → Written → (later : List Written) → (after : List ℕ) → Account
+account_in before own later after = account_at (account_past_row first_account before (spelled (own ∷ later) after)) own (spelled later after)
 
 -- An open key splits a row at its number, where a node begins; the rows before and from there on; and the place now.
-pub record IsOpen (k : Key) (depth : ℕ) (row : List Written) (behind : List ℕ) (p : Position) (rest : List ℕ) (column : Option ℕ) : Type 0 where
+pub record IsOpen (k : Key) (depth : ℕ) (row : List Written) (after : List ℕ) (p : Position) (rest : List ℕ) (column : Option ℕ) : Type 0 where
   pub before : List Written
   pub own : Written
   pub later : List Written
@@ -51,15 +51,15 @@ pub record IsOpen (k : Key) (depth : ℕ) (row : List Written) (behind : List �
   pub number_is : k.number ≡ suc (length before)
   pub is_node : begins_node (Some (own.token.tok)) ≡ true
   pub is_solid : is_nil own.piece ≡ false
-  pub is_free : (last : Option Tok) → IsRow first_account before (spelled (own ∷ later) behind) last
-  pub is_settled : (column : ℕ) → settled column (account_past_row first_account before (spelled (own ∷ later) behind)).blocks ≡ (account_past_row first_account before (spelled (own ∷ later) behind)).blocks
-  pub place_is : k.place ≡ (account_in before own later behind).place
-  pub is_earlier : Behind k.place p
+  pub is_free : (last : Option Tok) → IsRow first_account before (spelled (own ∷ later) after) last
+  pub is_settled : (column : ℕ) → settled column (account_past_row first_account before (spelled (own ∷ later) after)).blocks ≡ (account_past_row first_account before (spelled (own ∷ later) after)).blocks
+  pub place_is : k.place ≡ (account_in before own later after).place
+  pub is_earlier : After k.place p
   pub live : IsLive k p rest → IsInside k depth (own ∷ later) column
 
 -- The open keys, the innermost first; each outer one is open in the row before the inner one.
-abbrev pub AreOpen : (depth : ℕ) → List Written → (behind : List ℕ) → Position → (rest : List ℕ) → (column : Option ℕ) → List (Option Key) → Type 0
-AreOpen depth row behind p rest column [] = Unit {0}
-AreOpen depth row behind p rest column (None ∷ ks) = AreOpen (suc depth) row behind p rest column ks
-AreOpen depth row behind p rest column (Some k ∷ ks) =
-    (o : IsOpen k depth row behind p rest column) × AreOpen 1 o.before (spelled (o.own ∷ o.later) behind) k.place (o.own.piece ++ spelled o.later behind) column ks
+abbrev pub AreOpen : (depth : ℕ) → List Written → (after : List ℕ) → Position → (rest : List ℕ) → (column : Option ℕ) → List (Option Key) → Type 0
+AreOpen depth row after p rest column [] = Unit {0}
+AreOpen depth row after p rest column (None ∷ ks) = AreOpen (suc depth) row after p rest column ks
+AreOpen depth row after p rest column (Some k ∷ ks) =
+    (o : IsOpen k depth row after p rest column) × AreOpen 1 o.before (spelled (o.own ∷ o.later) after) k.place (o.own.piece ++ spelled o.later after) column ks

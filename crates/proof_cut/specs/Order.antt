@@ -7,5 +7,5 @@ abbrev pub NotBefore : (p q : Position) → Type 0
 NotBefore p q = (p.line ≤ q.line) × (q.line ≤ p.line → p.col ≤ q.col)
 
 -- a place is after another
-abbrev pub Behind : (p q : Position) → Type 0
-Behind p q = (p.line ≤ q.line) × (q.line ≤ p.line → suc p.col ≤ q.col)
+abbrev pub After : (p q : Position) → Type 0
+After p q = (p.line ≤ q.line) × (q.line ≤ p.line → suc p.col ≤ q.col)

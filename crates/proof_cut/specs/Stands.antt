@@ -52,12 +52,12 @@ IsAdjacent before p adjacent_value_at rest =
 pub record Stood (text rest : List ℕ) (p : Position) (tokens : List Token) (keys : List (Option Key)) (indents : List Indent) (indent : ℕ) (flow : List FlowLevel) (before : Before) : Type 0 where
   pub begin : Position
   pub row : List Written
-  pub behind : List ℕ
+  pub after : List ℕ
   pub tokens_are : tokens ≡ start_token begin ∷ tokens_of row
-  pub here : Here text row behind rest (account_of p indent indents flow before)
+  pub here : Here text row after rest (account_of p indent indents flow before)
   pub are_levels : AreLevels indent indents
   pub one_each : length keys ≡ suc (length flow)
-  pub are_open : AreOpen 0 row behind p rest (innermost_column (columns indent indents)) keys
+  pub are_open : AreOpen 0 row after p rest (innermost_column (columns indent indents)) keys
 
 -- The same, and what may stand before a colon in flow.
 pub record Fares (text rest : List ℕ) (p : Position) (tokens : List Token) (keys : List (Option Key)) (indents : List Indent) (indent : ℕ) (flow : List FlowLevel) (adjacent_value_at : ℕ) : Type 0 where

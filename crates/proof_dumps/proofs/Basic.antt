@@ -15,7 +15,7 @@ IsBasicNode (Node.inline i) = IsBasicInline i
 IsBasicNode (Node.literal text) = Unit {0}
 IsBasicNode (Node.block b) = IsBasicBlock b
 
--- So is the value that it is behind a mark.
+-- So is the value that it is after a mark.
 value_of_basic : (lower : Bool) (c : ℕ) (n : Node) → IsBasicNode n → IsBasicValue (value_of lower c n)
 value_of_basic lower c (Node.inline i) h = (h, tt)
 value_of_basic lower c (Node.literal text) h = tt
@@ -66,7 +66,7 @@ hash_node_basic : (fs : List Field) → AreAll IsBasicField fs → IsBasicNode (
 hash_node_basic [] h = tt
 hash_node_basic (f ∷ fs) h = fields_basic f fs h.0 h.1
 
--- An entry of a hash is basic, with a scalar before the colon or a node behind the question mark.
+-- An entry of a hash is basic, with a scalar before the colon or a node after the question mark.
 field_of_basic : (compact : Bool) (c : ℕ) (k : Tree) (key value : Node) → IsBasicNode key → IsBasicNode value → IsBasicField (field_of compact c k key value)
 field_of_basic compact c k key value g h = by (is_scalar k)
   where

@@ -1,4 +1,4 @@
--- The layout in which `dump` writes a tree: without gaps, with one space behind each mark, and with all that stands below a mark
+-- The layout in which `dump` writes a tree: without gaps, with one space after each mark, and with all that stands below a mark
 -- two columns to the right of it.
 -- YAML 1.2, chapter 8 (block styles) and section 9.1 (documents).
 use Rattle.std.proofs.Common.{ℕ, ◌+◌, List, [], ◌∷◌, Bool, true, false, not, ◌&&◌}
@@ -11,7 +11,7 @@ use Rattle.defs_tree.specs.Lines.{lines_of}
 use Rattle.defs_layout.specs.BlockLines.{Line}
 use Rattle.defs_layout.specs.Layout.{Scalar, Inline, no_comment, Block, Value, below, Entries, Field, Fields, Root, last_document, Layout}
 
--- A node before it is placed behind a mark or as root: what stands on one line, the text of a literal block, or a block.
+-- A node before it is placed after a mark or as root: what stands on one line, the text of a literal block, or a block.
 pub data Node : Type 0 where
   inline : Inline → Node
   literal : (text : List ℕ) → Node
@@ -39,7 +39,7 @@ may_be_literal at_root text = if at_root then is_root_literal text else is_liter
 
 -- ---- placing
 
--- A node behind a mark at the column c: a block goes below where the flag says so.
+-- A node after a mark at the column c: a block goes below where the flag says so.
 abbrev pub value_of : (lower : Bool) → (c : ℕ) → Node → Value
 value_of lower c (Node.inline i) = Value.beside 0 i no_comment
 value_of lower c (Node.literal text) = Value.literal 0 (c + 2) text (text_lines (c + 2) text)
@@ -89,7 +89,7 @@ hash_node [] = Node.inline Inline.empty_hash
 hash_node (f ∷ fs) = Node.block (Block.hash (fields_of f fs))
 
 -- An entry of a hash, from the key as tree and as node and the value as node: a scalar key stands before a colon, and a block
--- under it always goes below; an array or hash as key stands behind a question mark.
+-- under it always goes below; an array or hash as key stands after a question mark.
 abbrev pub field_of : (compact : Bool) → (c : ℕ) → Tree → (key value : Node) → Field
 field_of compact c k key value =
     if is_scalar k then Field.implicit (scalar_of k) (value_of true c value)
@@ -105,7 +105,7 @@ abbrev mutual
   node_of compact multiline at_root c (Tree.hash ps) = hash_node (all_fields_of compact multiline c ps)
   node_of compact multiline at_root c t = Node.inline (Inline.scalar (Scalar.plain t))
 
-  -- The items of an array are values behind dashes at the column c.
+  -- The items of an array are values after dashes at the column c.
   pub values_of : (compact multiline : Bool) → (c : ℕ) → Items → List Value
   values_of compact multiline c no_items = []
   values_of compact multiline c (item t ts) =
@@ -118,6 +118,6 @@ abbrev mutual
       field_of compact c k (node_of compact multiline false (c + 2) k) (node_of compact multiline false (c + 2) v)
       ∷ all_fields_of compact multiline c ps
 
--- The whole document has no gap, and nothing stands behind its root.
+-- The whole document has no gap, and nothing stands after its root.
 abbrev pub layout_of : (compact multiline : Bool) → Tree → Layout
 layout_of compact multiline t = record { is_marked = true; documents = last_document (record { gap = []; root = root_of (node_of compact multiline true 0 t) }) [] }

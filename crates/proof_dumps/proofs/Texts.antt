@@ -1,5 +1,5 @@
 -- The text of a dump's layout is the text that is dumped: what is spelt of a node at a column is the node's box, whose lines stand
--- behind the column's spaces.
+-- after the column's spaces.
 use Rattle.std.proofs.Common.{◌≡◌, refl, sym, ap, ◌∙◌, ℕ, zero, suc, ◌+◌, List, [], ◌∷◌, ◌++◌, append_assoc, append-nil, Bool, true, false, not, ◌&&◌, arith}
 use Rattle.std.specs.Prelude.{if◌then◌else◌, codes}
 use Rattle.defs_tree.specs.Tree.{Tree, Items, no_items, item, Pairs, no_pairs, pair}
@@ -17,17 +17,17 @@ use Rattle.proof_dumps.proofs.DumpLayout.{Node, lines_at, text_lines, may_be_lit
 
 -- ---- lines at a column
 
--- Lines at a column are each written behind LF and the column's spaces, before the rest r.
+-- Lines at a column are each written after LF and the column's spaces, before the rest r.
 abbrev spell_box : (column : ℕ) → List (List ℕ) → List ℕ → List ℕ
 spell_box column [] r = r
 spell_box column (l ∷ ls) r = line_feed ∷ spaces column (l ++ spell_box column ls r)
 
--- Lines behind other lines are the others' rest.
+-- Lines after other lines are the others' rest.
 spell_box-append : (column : ℕ) (ls ms : List (List ℕ)) (r : List ℕ) → spell_box column (ls ++ ms) r ≡ spell_box column ls (spell_box column ms r)
 spell_box-append column [] ms r = refl
 spell_box-append column (l ∷ ls) ms r = ap (λ x. line_feed ∷ spaces column (l ++ x)) (spell_box-append column ls ms r)
 
--- Two spaces more are two characters behind the others.
+-- Two spaces more are two characters after the others.
 two_spaces : (n : ℕ) (r : List ℕ) → spaces n (space ∷ space ∷ r) ≡ spaces (n + 2) r
 two_spaces zero r = refl
 two_spaces (suc n) r = let e : suc (n + 2) ≡ suc n + 2 = omega arith in ap (λ x. space ∷ x) (two_spaces n r) ∙ ap (λ m. spaces m r) e
@@ -39,10 +39,10 @@ indented_spelt column (l ∷ ls) r =
     ap (λ x. line_feed ∷ spaces column (space ∷ space ∷ (l ++ x))) (indented_spelt column ls r)
     ∙ ap (λ x. line_feed ∷ x) (two_spaces column (l ++ spell_box (column + 2) ls r))
 
--- What stands behind equally many spaces in equal texts is equal.
-behind_spaces : (n : ℕ) (a b : List ℕ) → spaces n a ≡ spaces n b → a ≡ b
-behind_spaces zero a b e = e
-behind_spaces (suc n) a b e = behind_spaces n a b (cc)
+-- What stands after equally many spaces in equal texts is equal.
+after_spaces : (n : ℕ) (a b : List ℕ) → spaces n a ≡ spaces n b → a ≡ b
+after_spaces zero a b e = e
+after_spaces (suc n) a b e = after_spaces n a b (cc)
 
 -- The lines of a literal block are a box.
 lines_at_spelt : (column : ℕ) (ls : List (List ℕ)) (r : List ℕ) → spell_lines column (lines_at column ls) r ≡ spell_box column ls r
@@ -63,7 +63,7 @@ spell_node c (Node.inline i) r = spell_inline i r
 spell_node c (Node.literal text) r = spell_literal c text (text_lines c text) r
 spell_node c (Node.block b) r = spell_block c b r
 
--- A text behind LF and the column's spaces is a box, whatever the rest is.
+-- A text after LF and the column's spaces is a box, whatever the rest is.
 abbrev IsBox : (c : ℕ) → (List ℕ → List ℕ) → List (List ℕ) → Type 0
 IsBox c text ls = (r : List ℕ) → line_feed ∷ spaces c (text r) ≡ spell_box c ls r
 
@@ -76,11 +76,11 @@ abbrev is_block_node : Node → Bool
 is_block_node (Node.block b) = true
 is_block_node _ = false
 
--- A text that is a box two columns to the right, behind a mark and a space, is the box hung on the mark.
+-- A text that is a box two columns to the right, after a mark and a space, is the box hung on the mark.
 hung_spelt : (c : ℕ) (mark : List ℕ) (text : List ℕ → List ℕ) (ls : List (List ℕ)) → IsBox (c + 2) text ls → IsBox c (λ r. mark ++ space ∷ text r) (hung mark ls)
 hung_spelt c mark text [] h r = let e : line_feed ∷ spaces (c + 2) (text []) ≡ [] = h [] in cc
 hung_spelt c mark text (l ∷ ls) h r =
-    let first : text r ≡ l ++ spell_box (c + 2) ls r = behind_spaces (c + 2) (text r) (l ++ spell_box (c + 2) ls r) (let e = h r in cc) in
+    let first : text r ≡ l ++ spell_box (c + 2) ls r = after_spaces (c + 2) (text r) (l ++ spell_box (c + 2) ls r) (let e = h r in cc) in
     ap (λ x. line_feed ∷ spaces c (mark ++ space ∷ x)) (first ∙ ap (λ x. l ++ x) (sym (indented_spelt c ls r)))
     ∙ ap (λ x. line_feed ∷ spaces c x) (sym (append_assoc mark (space ∷ l) (spell_box c (indented ls) r)))
 
@@ -89,7 +89,7 @@ hung_lower_spelt : (c : ℕ) (mark : List ℕ) (text : List ℕ → List ℕ) (l
     → IsBox c (λ r. mark ++ line_feed ∷ spaces (c + 2) (text r)) (hung_lower mark ls)
 hung_lower_spelt c mark text ls h r = ap (λ x. line_feed ∷ spaces c (mark ++ x)) (h r ∙ sym (indented_spelt c ls r))
 
--- A value behind its mark is the box that is placed there.
+-- A value after its mark is the box that is placed there.
 placed_spelt : (lower : Bool) (c : ℕ) (mark : List ℕ) (t : Tree) (n : Node) (ls : List (List ℕ)) → is_block_node n ≡ is_block t → IsBoxed (c + 2) n ls
     → IsBox c (λ r. mark ++ spell_value c (value_of lower c n) r) (placed lower mark t ls)
 placed_spelt false c mark t (Node.inline i) ls e h = hung_spelt c mark (spell_inline i) ls h
@@ -127,7 +127,7 @@ string_node_flat false s = refl
 
 -- ---- collections
 
--- The texts of all elements of a list are each written behind LF and the column's spaces, before the rest r.
+-- The texts of all elements of a list are each written after LF and the column's spaces, before the rest r.
 abbrev spell_all : {A : Type 0} → (A → List ℕ → List ℕ) → (column : ℕ) → List A → List ℕ → List ℕ
 spell_all text column [] r = r
 spell_all text column (x ∷ xs) r = line_feed ∷ spaces column (text x (spell_all text column xs r))
@@ -155,7 +155,7 @@ if_none_boxed text c brackets node [] (l ∷ ls) none some h = let e : [] ≡ sp
 if_none_boxed text c brackets node (x ∷ xs) [] none some h = let e : spell_all text c (x ∷ xs) [] ≡ [] = h [] in cc
 if_none_boxed text c brackets node (x ∷ xs) (l ∷ ls) none some h = λ r. some x xs r ∙ h r
 
--- The box of one element and the box of those behind it are one box.
+-- The box of one element and the box of those after it are one box.
 one_more : (c : ℕ) (text : List ℕ → List ℕ) (rest : List ℕ → List ℕ) (ls ms : List (List ℕ)) → IsBox c text ls → ((r : List ℕ) → rest r ≡ spell_box c ms r)
     → IsBox c (λ r. text (rest r)) (ls ++ ms)
 one_more c text rest ls ms h e r = h (rest r) ∙ ap (λ x. spell_box c ls x) (e r) ∙ sym (spell_box-append c ls ms r)

@@ -15,7 +15,7 @@ node_tree (Node.block b) = block_tree b
 
 -- ---- placing and scalars
 
--- A node has the same tree behind a mark.
+-- A node has the same tree after a mark.
 value_of_tree : (lower : Bool) (c : ℕ) (n : Node) → value_tree (value_of lower c n) ≡ node_tree n
 value_of_tree lower c (Node.inline i) = refl
 value_of_tree lower c (Node.literal text) = refl

@@ -10,7 +10,7 @@ use Rattle.defs_tree.specs.Valid.{IsDistinct, AllDistinct, AllPairsDistinct, Fit
 use Rattle.defs_tree.specs.Writable.{IsShortKey, HasText, AllHaveText, AllPairsHaveText}
 use Rattle.defs_layout.specs.BlockLines.{contents, IsLine, AreLines}
 use Rattle.defs_layout.specs.Anchored.{Anchor}
-use Rattle.defs_layout.specs.Layout.{Scalar, Inline, Value, Field, IsScalar, IsInline, IsImplicitKey, IsExplicitKey, MayFollowScalarKey, MayFollowMark, AreLinesOf, IsBlock, IsValue, AreEntries, IsField, AreFields, IsRoot, IsBehindRoot, IsLayout, spell_scalar, pair_of, anchors_behind, anchors_behind_field}
+use Rattle.defs_layout.specs.Layout.{Scalar, Inline, Value, Field, IsScalar, IsInline, IsImplicitKey, IsExplicitKey, MayFollowScalarKey, MayFollowMark, AreLinesOf, IsBlock, IsValue, AreEntries, IsField, AreFields, IsRoot, IsAfterRoot, IsLayout, spell_scalar, pair_of, anchors_after, anchors_after_field}
 use Rattle.proof_dumps.proofs.DumpLayout.{Node, line_at, lines_at, text_lines, may_be_literal, value_of, root_of, string_scalar, scalar_of, string_node, entries_of, fields_of, array_node, hash_node, field_of, node_of, values_of, all_fields_of, layout_of}
 use Rattle.proof_dumps.proofs.Texts.{scalar_of_spelt}
 use Rattle.proof_dumps.proofs.Trees.{fields_pairs, all_fields_pairs}
@@ -60,7 +60,7 @@ value_of_valid lower c (Node.literal text) h a = (omega arith, h, text_lines_val
 value_of_valid true c (Node.block b) h a = (tt, tt, omega arith, h a)
 value_of_valid false c (Node.block b) h a = let e : c + 2 + 0 ≡ c + 2 = omega arith in rw e (h a)
 
--- Such a value may stand behind any mark.
+-- Such a value may stand after any mark.
 value_of_follows : (lower : Bool) (c : ℕ) (n : Node) → MayFollowMark (value_of lower c n)
 value_of_follows lower c (Node.inline i) = tt
 value_of_follows lower c (Node.literal text) = tt
@@ -73,7 +73,7 @@ lower_not_compact c (Node.inline i) = tt
 lower_not_compact c (Node.literal text) = tt
 lower_not_compact c (Node.block b) = tt
 
--- A collection may stand behind a question mark.
+-- A collection may stand after a question mark.
 collection_as_key : (lower : Bool) (c : ℕ) (n : Node) → IsCollection n → IsExplicitKey (value_of lower c n)
 collection_as_key lower c (Node.inline (Inline.scalar s)) h = h
 collection_as_key lower c (Node.inline Inline.empty_array) h = tt
@@ -88,8 +88,8 @@ root_of_valid (Node.inline i) h = h
 root_of_valid (Node.literal text) h = (h, text_lines_valid 0 text)
 root_of_valid (Node.block b) h = h []
 
--- Nothing may stand behind any root.
-root_of_ending : (n : Node) → IsBehindRoot (root_of n) []
+-- Nothing may stand after any root.
+root_of_ending : (n : Node) → IsAfterRoot (root_of n) []
 root_of_ending (Node.inline i) = tt
 root_of_ending (Node.literal text) = tt
 root_of_ending (Node.block b) = tt
@@ -140,7 +140,7 @@ abbrev pub AreAll : {A : Type 0} → (A → Type 0) → List A → Type 0
 AreAll P [] = Unit {0}
 AreAll P (x ∷ xs) = P x × AreAll P xs
 
--- A valid value that may stand behind a dash.
+-- A valid value that may stand after a dash.
 abbrev IsItem : (c : ℕ) → Value → Type 0
 IsItem c v = MayFollowMark v × ((a : List Anchor) → IsValue c a v)
 
@@ -151,12 +151,12 @@ IsPair c f = (a : List Anchor) → IsField c a f
 -- Valid values are valid entries.
 entries_valid : (c : ℕ) (v : Value) (vs : List Value) → IsItem c v → AreAll (IsItem c) vs → (a : List Anchor) → AreEntries c a (entries_of v vs)
 entries_valid c v [] h hs a = (h.0, h.1 a)
-entries_valid c v (w ∷ vs) h hs a = (h.0, h.1 a, tt, entries_valid c w vs hs.0 hs.1 (anchors_behind v a))
+entries_valid c v (w ∷ vs) h hs a = (h.0, h.1 a, tt, entries_valid c w vs hs.0 hs.1 (anchors_after v a))
 
 -- Valid entries of a hash are valid together.
 fields_valid : (c : ℕ) (f : Field) (fs : List Field) → IsPair c f → AreAll (IsPair c) fs → (a : List Anchor) → AreFields c a (fields_of f fs)
 fields_valid c f [] h hs a = h a
-fields_valid c f (g ∷ fs) h hs a = (h a, tt, fields_valid c g fs hs.0 hs.1 (anchors_behind_field f a))
+fields_valid c f (g ∷ fs) h hs a = (h a, tt, fields_valid c g fs hs.0 hs.1 (anchors_after_field f a))
 
 -- The node of valid values is valid.
 array_node_valid : (at_root : Bool) (c : ℕ) (vs : List Value) → AreAll (IsItem c) vs → IsNode at_root c (array_node vs)
@@ -184,7 +184,7 @@ node_of_collection compact multiline at_root c (Tree.array ts) k = array_node_co
 node_of_collection compact multiline at_root c (Tree.hash ps) k = hash_node_collection (all_fields_of compact multiline c ps)
 node_of_collection compact multiline at_root c t k = absurd (true≢false k)
 
--- An entry of a hash is valid, with a scalar before the colon or a collection behind the question mark.
+-- An entry of a hash is valid, with a scalar before the colon or a collection after the question mark.
 field_of_valid : (compact : Bool) (c : ℕ) (k : Tree) (key value : Node) → (is_scalar k ≡ true → IsImplicitKey (scalar_of k)) → (is_scalar k ≡ false → IsCollection key)
     → IsNode false (c + 2) key → IsNode false (c + 2) value → IsPair c (field_of compact c k key value)
 field_of_valid compact c k key value s p g h a = by (is_scalar k) refl
@@ -192,7 +192,7 @@ field_of_valid compact c k key value s p g h a = by (is_scalar k) refl
     by : (b : Bool) → is_scalar k ≡ b
         → IsField c a (if b then Field.implicit (scalar_of k) (value_of true c value) else Field.explicit (value_of (not compact) c key) [] (value_of (not compact) c value))
     by true e = (s e, lower_not_compact c value, value_of_valid true c value h a)
-    by false e = (collection_as_key (not compact) c key (p e), value_of_valid (not compact) c key g a, tt, value_of_follows (not compact) c value, value_of_valid (not compact) c value h (anchors_behind (value_of (not compact) c key) a))
+    by false e = (collection_as_key (not compact) c key (p e), value_of_valid (not compact) c key g a, tt, value_of_follows (not compact) c value, value_of_valid (not compact) c value h (anchors_after (value_of (not compact) c key) a))
 
 -- ---- trees
 

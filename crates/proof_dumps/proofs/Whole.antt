@@ -16,7 +16,7 @@ pub dump_is_laid_out : DumpsAreLaidOut
 dump_is_laid_out compact multiline t distinct fits writable =
     (layout_of compact multiline t, layout_of_valid compact multiline t distinct fits writable.has_text, layout_of_basic compact multiline t, layout_of_spelt compact multiline t, layout_of_tree compact multiline t)
 
--- The same of several trees, an LF behind each text.
+-- The same of several trees, an LF after each text.
 pub dumps_are_laid_out_in_turn : DumpsInTurnAreLaidOut
 dumps_are_laid_out_in_turn compact multiline [] can = refl
 dumps_are_laid_out_in_turn compact multiline (t ∷ ts) can =

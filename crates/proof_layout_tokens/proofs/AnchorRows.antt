@@ -23,7 +23,7 @@ text_tok w = Tok.scalar Style.plain w
 differ : (a b : Tree) → tree_eq a a ≡ true → tree_eq a b ≡ false → a ≢ b
 differ a b same other e = true≢false (sym same ∙ ap (tree_eq a) e ∙ other)
 
--- an anchor before a block, a scalar and a literal block; a folded block and an empty line behind it
+-- an anchor before a block, a scalar and a literal block; a folded block and an empty line after it
 each_anchor : HasToks (codes "---\na: &x\n  k: &y 'it''s'\nb: *x\nc: >-\n  p\n  q\n\n  r\n\nd: &z |\n  s\n  t\n")
     (Tok.stream_start ∷ Tok.document_start ∷ Tok.block_mapping_start
     ∷ Tok.key ∷ text_tok (codes "a") ∷ Tok.value ∷ Tok.anchor (codes "x")

@@ -73,7 +73,7 @@ unfolding comes_marker
 sign_opens true a = record { solid = refl; no_directive = refl; no_start = refl; no_end = refl }
 sign_opens false a = record { solid = refl; no_directive = refl; no_start = refl; no_end = refl }
 
--- behind it
+-- after it
 abbrev named_parts : Parts → (is_alias : Bool) (name : List ℕ) → Option Key → Parts
 named_parts p is_alias name key = record { place = along name (past p.place); tokens = p.tokens ++ token p.place (anchor_token is_alias name) ∷ []; key = key; allowed = false; leading = false; adjacent = p.adjacent }
 
@@ -83,7 +83,7 @@ named_at : (is_alias : Bool) (name r : List ℕ) (i : ℕ) (is : List Indent) (p
 unfolding fetch_anchor
 named_at is_alias name r i is p k name_is ends save = rw (name_read (sign_of is_alias) name r p.place name_is ends, save) refl
 
--- The scanner is behind an anchor or an alias, whose token is the last.
+-- The scanner is after an anchor or an alias, whose token is the last.
 pub record Named (is_alias : Bool) (name : List ℕ) (from : State) (x : List ℕ) (b : Bool) (i : ℕ) (is : List Indent) (want : List Tok → List Tok) : Type 0 where
   pub parts : Parts
   pub start : Position
@@ -120,19 +120,19 @@ named is_alias name r from col b i is allowed want name_is ends deep u =
 
 -- ---- an alias
 
-no_name_behind : (t : Trail) → ends_while is_anchor (spell_white (trail_white t) (rest_of t)) ≡ true
+no_name_after : (t : Trail) → ends_while is_anchor (spell_white (trail_white t) (rest_of t)) ≡ true
 unfolding is_anchor is_blank is_break
-no_name_behind (next g d r) = refl
-no_name_behind (marker g r) = refl
-no_name_behind (end []) = refl
-no_name_behind (end (l ∷ g)) = refl
+no_name_after (next g d r) = refl
+no_name_after (marker g r) = refl
+no_name_after (end []) = refl
+no_name_after (end (l ∷ g)) = refl
 
 -- an alias that is a value
 pub alias_after : (t : Trail) (from : State) (name : List ℕ) (col : ℕ) (b : Bool) (i : ℕ) (is : List Indent) (allowed : Bool) (want : List Tok → List Tok) → is_name name ≡ true → IsTrail t → limit_of t ≤ i → i ≤ col
     → Before from (42 ∷ (name ++ trail_text t)) col (opened_indent b i) (opened b i is) allowed want → After from t i is (λ o. want (Tok.alias name ∷ o))
 alias_after t from name col b i is allowed want name_is trail low deep u =
     let v : Before from (42 ∷ (name ++ spell_white (trail_white t) (rest_of t))) col (opened_indent b i) (opened b i is) allowed want = rw (trail_is t) at u in
-    let z = named true name (spell_white (trail_white t) (rest_of t)) from col b i is allowed want name_is (no_name_behind t) deep v in
+    let z = named true name (spell_white (trail_white t) (rest_of t)) from col b i is allowed want name_is (no_name_after t) deep v in
     left_open t from b i is (λ o. want (Tok.alias name ∷ o)) low
     (leaf_after t from (trail_white t) (opened_indent b i) (opened b i is) z.parts z.parts.place _ z.run (trail_are_white t trail) refl (rw (z.not_allowed) (trail_allows t)) z.loose.0 z.loose.1 z.last z.told)
 

@@ -1,4 +1,4 @@
--- A literal or folded block is read as its value, up to what stands behind it.
+-- A literal or folded block is read as its value, up to what stands after it.
 use Rattle.std.proofs.Common.{◌≡◌, ◌≢◌, ℕ, zero, suc, ◌+◌, ◌<◌, ◌≤◌, List, [], ◌∷◌, ◌++◌, Bool, true, false, ◌||◌, ◌&&◌, not, ◌==◌, nat_le, nat_lt, max, Option, Some, None, Result, Ok, refl, ap, sym, ◌∙◌, append-nil, append_assoc, arith}
 use Rattle.std.specs.List.{list_all}
 use Rattle.std.proofs.lemmas.Bool.{and_parts}
@@ -22,8 +22,8 @@ use Rattle.proof_lexers.specs.HeaderEnds.{indicator_of, is_in_line, along}
 use Rattle.proof_lexers.specs.BlockScan.{collection_by, is_literal, IsRead, read, shallow, tabbed, is_tabbed, is_shallow, read_block, without_spaces, further_place}
 use Rattle.proof_lexers.proofs.Blocks.Written as written
 use Rattle.proof_lexers.proofs.Blocks.Written.{feed, carriage, both, texts, spell}
-use Rattle.proof_lexers.proofs.Blocks.Margins.{behind_break, behind_line, behind_lines}
-use Rattle.proof_lexers.proofs.Blocks.Places.{space_past, behind_chars, behind_spell, spell_more}
+use Rattle.proof_lexers.proofs.Blocks.Margins.{after_break, after_line, after_lines}
+use Rattle.proof_lexers.proofs.Blocks.Places.{space_past, after_chars, after_spell, spell_more}
 use Rattle.proof_lexers.proofs.Blocks.Columns.{texts_append, spell_append}
 use Rattle.proof_lexers.proofs.Blocks.Pieces.{Read_as, to_end, to_text}
 use Rattle.proof_layout_tokens.proofs.LayoutStates.{is_solid, Trail, next, marker, end, marker_text, rest_of, limit_of, IsTrail}
@@ -32,7 +32,7 @@ use Rattle.proof_lexers.proofs.Along.{along_line}
 use Rattle.proof_layout_tokens.proofs.Joins.{trail_white}
 use Rattle.proof_layout_tokens.proofs.BlockTexts.{header_by, line_of, lines_at, empties, texts_are, line_more, spelt, Last, last_of, deepest, empty_rows, rows_append, rows_split, rows_empty, row_spaces, row_full, content_append, text_value, spaces_value, last_value}
 
--- The scan is behind the block, or within the white space behind it.
+-- The scan is after the block, or within the white space after it.
 pub record BlockRead (t : Result (Read Block) Fault) (text : List ℕ) (g : List White) (r : List ℕ) (p : Position) : Type 0 where
   pub place : Position
   pub white : List White
@@ -113,7 +113,7 @@ high : (i column : ℕ) → IsInside i column → i ≤ column
 high zero column h = omega arith
 high (suc c) column h = omega (arith, h)
 
--- the lines have their column, whatever lines stand behind them
+-- the lines have their column, whatever lines stand after them
 in_column_with : (i column : ℕ) (ls : List Line) (more : List (List ℕ)) → IsInside i column → BeginsWithText ls → AreLines column ls → column_by None (collection_by i) (indented_lines column ls ++ more) ≡ column
 in_column_with i column ls more inside begins are = let e = deepest column ls more begins are in let f = least i in let g = high i column inside in omega (arith, e, f, g)
 
@@ -164,9 +164,9 @@ lines_are s i column strips text ls inside h = by (starts_with_tab (indented_lin
           tabless = λ more. tab_more (indented_lines column ls) more false (some_lines column ls h.0) e;
         }
 
--- ---- what stands behind its last line feed
+-- ---- what stands after its last line feed
 
--- a character that begins a text behind spaces
+-- a character that begins a text after spaces
 abbrev pub is_further : ℕ → Bool
 is_further c = not ((c == 0) || (c == 9) || (c == 10) || (c == 13) || (c == 32))
 
@@ -181,7 +181,7 @@ Starts i [] = Unit {0}
 Starts i (c ∷ a) = (is_further c ≡ true) × ((is_nested i || is_document_marker (c ∷ a)) ≡ true)
 
 -- Empty lines, spaces left of a column, and white space that begins with a comment or is none; at the root no spaces, and a document marker or the end.
-pub record Behind (i : ℕ) (w : List White) (r : List ℕ) : Type 0 where
+pub record After (i : ℕ) (w : List White) (r : List ℕ) : Type 0 where
   pub count : ℕ
   pub width : ℕ
   pub white : List White
@@ -189,13 +189,13 @@ pub record Behind (i : ℕ) (w : List White) (r : List ℕ) : Type 0 where
   pub are : AreWhite white r
   pub starts : Starts i (spell_white white r)
   pub is : spell_white w r ≡ spell (empties count) (spaces width (spell_white white r))
-  pub same : (p : Position) → beyond w p ≡ beyond white (beyond (blanks width) (behind_lines (empties count) p))
+  pub same : (p : Position) → beyond w p ≡ beyond white (beyond (blanks width) (after_lines (empties count) p))
 
 solid_starts : (c : ℕ) (r : List ℕ) → is_solid r ≡ true → Starts (suc c) r
 solid_starts c [] h = tt
 solid_starts c (d ∷ a) h = (grind (arith, nat_tests), refl)
 
-one_more : (i : ℕ) (w : List White) (r : List ℕ) → Behind i w r → Behind i (line_feed ∷ w) r
+one_more : (i : ℕ) (w : List White) (r : List ℕ) → After i w r → After i (line_feed ∷ w) r
 one_more i w r z = record {
   count = suc z.count;
   width = z.width;
@@ -207,44 +207,44 @@ one_more i w r z = record {
   same = λ p. z.same (past_break p);
 }
 
-at_remark : (c : ℕ) (text : List ℕ) (w : List White) (r : List ℕ) → AreWhite (remark text ∷ w) r → Behind (suc c) (remark text ∷ w) r
+at_remark : (c : ℕ) (text : List ℕ) (w : List White) (r : List ℕ) → AreWhite (remark text ∷ w) r → After (suc c) (remark text ∷ w) r
 at_remark c text w r are = record { count = 0; width = 0; white = remark text ∷ w; low = omega arith; are = are; starts = (refl, refl); is = refl; same = λ p. refl }
 
-gap_behind : (c : ℕ) (g : List GapLine) (d : ℕ) (r : List ℕ) → d < suc c → IsGap g → is_solid r ≡ true → Behind (suc c) (gap_white g (blanks d)) r
-gap_behind c [] d r low gap solid = record { count = 0; width = d; white = []; low = omega (arith, low); are = solid; starts = solid_starts c r solid; is = sym (spaces_are d r); same = λ p. refl }
-gap_behind c (empty_line ∷ g) d r low gap solid = one_more (suc c) (gap_white g (blanks d)) r (gap_behind c g d r low gap.1 solid)
-gap_behind c (comment_line text ∷ g) d r low gap solid = at_remark c text (line_feed ∷ gap_white g (blanks d)) r (gap_are_white (comment_line text ∷ g) (blanks d) r gap (blanks_white d r solid))
+gap_after : (c : ℕ) (g : List GapLine) (d : ℕ) (r : List ℕ) → d < suc c → IsGap g → is_solid r ≡ true → After (suc c) (gap_white g (blanks d)) r
+gap_after c [] d r low gap solid = record { count = 0; width = d; white = []; low = omega (arith, low); are = solid; starts = solid_starts c r solid; is = sym (spaces_are d r); same = λ p. refl }
+gap_after c (empty_line ∷ g) d r low gap solid = one_more (suc c) (gap_white g (blanks d)) r (gap_after c g d r low gap.1 solid)
+gap_after c (comment_line text ∷ g) d r low gap solid = at_remark c text (line_feed ∷ gap_white g (blanks d)) r (gap_are_white (comment_line text ∷ g) (blanks d) r gap (blanks_white d r solid))
 
 -- the end of the text in an empty line
-at_nothing : (i : ℕ) → Behind i [] []
+at_nothing : (i : ℕ) → After i [] []
 at_nothing i = record { count = 0; width = 0; white = []; low = omega arith; are = refl; starts = tt; is = refl; same = λ p. refl }
 
-end_behind : (c : ℕ) (l : GapLine) (g : List GapLine) → IsGap (l ∷ g) → Behind (suc c) (line_white l (ending_white g)) []
-end_behind c empty_line [] gap = at_nothing (suc c)
-end_behind c empty_line (m ∷ g) gap = one_more (suc c) (line_white m (ending_white g)) [] (end_behind c m g gap.1)
-end_behind c (comment_line text) g gap = at_remark c text (ending_white g) [] (ending_are_white (comment_line text ∷ g) gap)
+end_after : (c : ℕ) (l : GapLine) (g : List GapLine) → IsGap (l ∷ g) → After (suc c) (line_white l (ending_white g)) []
+end_after c empty_line [] gap = at_nothing (suc c)
+end_after c empty_line (m ∷ g) gap = one_more (suc c) (line_white m (ending_white g)) [] (end_after c m g gap.1)
+end_after c (comment_line text) g gap = at_remark c text (ending_white g) [] (ending_are_white (comment_line text ∷ g) gap)
 
--- a trail behind the lines of a block
+-- a trail after the lines of a block
 abbrev pub Follows : (indent : ℕ) → Trail → Type 0
-Follows i (next g d r) = Behind i (gap_white g (blanks d)) r
-Follows i (marker g r) = Behind i (gap_white g (blanks 0)) (marker_text r)
+Follows i (next g d r) = After i (gap_white g (blanks d)) r
+Follows i (marker g r) = After i (gap_white g (blanks 0)) (marker_text r)
 Follows i (end []) = Unit {0}
-Follows i (end (l ∷ g)) = Behind i (line_white l (ending_white g)) []
+Follows i (end (l ∷ g)) = After i (line_white l (ending_white g)) []
 
 pub follows : (c : ℕ) (t : Trail) → IsTrail t → limit_of t ≤ suc c → Follows (suc c) t
-follows c (next g d r) trail low = gap_behind c g d r (omega (arith, low)) trail.0 trail.1
-follows c (marker g r) trail low = gap_behind c g 0 (marker_text r) (omega arith) trail refl
+follows c (next g d r) trail low = gap_after c g d r (omega (arith, low)) trail.0 trail.1
+follows c (marker g r) trail low = gap_after c g 0 (marker_text r) (omega arith) trail refl
 follows c (end []) trail low = tt
-follows c (end (l ∷ g)) trail low = end_behind c l g trail
+follows c (end (l ∷ g)) trail low = end_after c l g trail
 
--- ---- behind a block at the root
+-- ---- after a block at the root
 
 pub empty_gap : (g : List GapLine) → AreEmptyLines g → IsGap g
 empty_gap [] h = tt
 empty_gap (empty_line ∷ g) h = (tt, empty_gap g h.1)
 empty_gap (comment_line text ∷ g) h = absurd (h.0)
 
-root_end : (l : GapLine) (g : List GapLine) → AreEmptyLines (l ∷ g) → Behind 0 (line_white l (ending_white g)) []
+root_end : (l : GapLine) (g : List GapLine) → AreEmptyLines (l ∷ g) → After 0 (line_white l (ending_white g)) []
 root_end empty_line [] h = at_nothing 0
 root_end empty_line (m ∷ g) h = one_more 0 (line_white m (ending_white g)) [] (root_end m g h.1)
 root_end (comment_line text) g h = absurd (h.0)
@@ -290,9 +290,9 @@ mid_false : (a b c : Bool) → b ≡ false → ((a && b) && c) ≡ false
 mid_false a b c h = rw (h, and_false a) refl
 
 -- it stands left of the collection, or at no column less than that of the lines
-not_shallow : (i n : ℕ) (p : Position) (b : cut.BlockRead) (piece behind : List ℕ) → IsInside i b.column → n < max i 1 → (further_place p piece behind).col ≡ n → is_shallow i p b piece behind ≡ false
-not_shallow zero n p b piece behind inside low e = let no : nat_lt (further_place p piece behind).col b.column ≡ false = grind (arith, nat_tests) in rw no (and_false _)
-not_shallow (suc c) n p b piece behind inside low e = let no : nat_le (suc c) (further_place p piece behind).col ≡ false = grind (arith, nat_tests) in mid_false _ _ _ no
+not_shallow : (i n : ℕ) (p : Position) (b : cut.BlockRead) (piece after : List ℕ) → IsInside i b.column → n < max i 1 → (further_place p piece after).col ≡ n → is_shallow i p b piece after ≡ false
+not_shallow zero n p b piece after inside low e = let no : nat_lt (further_place p piece after).col b.column ≡ false = grind (arith, nat_tests) in rw no (and_false _)
+not_shallow (suc c) n p b piece after inside low e = let no : nat_le (suc c) (further_place p piece after).col ≡ false = grind (arith, nat_tests) in mid_false _ _ _ no
 
 no_space : (n c : ℕ) (a : List ℕ) → is_further c ≡ true → without_spaces (spaces n (c ∷ a)) ≡ c ∷ a
 no_space zero c a h = let no : (c == 32) ≡ false = grind (arith, nat_tests) in rw no refl
@@ -331,55 +331,55 @@ spelt_feeds : (column : ℕ) (ls : List Line) (r : List ℕ) → spell_lines col
 spelt_feeds column [] r = refl
 spelt_feeds column (l ∷ ls) r = ap (λ x. 10 ∷ spell_line column l x) (spelt_feeds column ls r) ∙ ap (λ x. 10 ∷ x) (sym (line_more column l (10 ∷ spell (lines_at column ls) r)))
 
--- the place behind the last line's break
-behind_last : (column : ℕ) (init : List Line) (w : List ℕ) (p : Position) → behind_lines (lines_at column (init ++ full w ∷ [])) p ≡ past_break (along (spell_line column (full w) []) (behind_lines (lines_at column init) p))
-behind_last column [] w p = refl
-behind_last column (l ∷ init) w p = behind_last column init w (behind_line (line_of column l) p)
+-- the place after the last line's break
+after_last : (column : ℕ) (init : List Line) (w : List ℕ) (p : Position) → after_lines (lines_at column (init ++ full w ∷ [])) p ≡ past_break (along (spell_line column (full w) []) (after_lines (lines_at column init) p))
+after_last column [] w p = refl
+after_last column (l ∷ init) w p = after_last column init w (after_line (line_of column l) p)
 
-spaces_behind : (n : ℕ) (p : Position) → position_after p (spaces n []) [] ≡ beyond (blanks n) p
-spaces_behind zero p = refl
-spaces_behind (suc n) p = ap (λ q. position_after q (spaces n []) []) (space_past p (spaces n [] ++ [])) ∙ spaces_behind n (past p)
+spaces_after : (n : ℕ) (p : Position) → position_after p (spaces n []) [] ≡ beyond (blanks n) p
+spaces_after zero p = refl
+spaces_after (suc n) p = ap (λ q. position_after q (spaces n []) []) (space_past p (spaces n [] ++ [])) ∙ spaces_after n (past p)
 
-up_break : (k : written.Break) (p : Position) → p.line ≤ (behind_break k p).line
+up_break : (k : written.Break) (p : Position) → p.line ≤ (after_break k p).line
 up_break feed p = omega arith
 up_break carriage p = omega arith
 up_break both p = omega arith
 
-up_lines : (ls : List written.Line) (p : Position) → p.line ≤ (behind_lines ls p).line
+up_lines : (ls : List written.Line) (p : Position) → p.line ≤ (after_lines ls p).line
 up_lines [] p = omega arith
-up_lines (l ∷ ls) p = let a = up_lines ls (behind_line l p) in let b = up_break l.by (along l.text p) in let e = along_line l.text p in omega (arith, a, b, e)
+up_lines (l ∷ ls) p = let a = up_lines ls (after_line l p) in let b = up_break l.by (along l.text p) in let e = along_line l.text p in omega (arith, a, b, e)
 
--- a line begins behind lines
-front_col : (l : written.Line) (ls : List written.Line) (p : Position) → (behind_lines (l ∷ ls) p).col ≡ 0
+-- a line begins after lines
+front_col : (l : written.Line) (ls : List written.Line) (p : Position) → (after_lines (l ∷ ls) p).col ≡ 0
 front_col l [] p = refl
-front_col l (m ∷ ls) p = front_col m ls (behind_line l p)
+front_col l (m ∷ ls) p = front_col m ls (after_line l p)
 
-behind_more : (a b : List written.Line) (p : Position) → behind_lines (a ++ b) p ≡ behind_lines b (behind_lines a p)
-behind_more [] b p = refl
-behind_more (l ∷ a) b p = behind_more a b (behind_line l p)
+after_more : (a b : List written.Line) (p : Position) → after_lines (a ++ b) p ≡ after_lines b (after_lines a p)
+after_more [] b p = refl
+after_more (l ∷ a) b p = after_more a b (after_line l p)
 
 -- ---- the scan
 
-was_read : (i : ℕ) (p : Position) (b : cut.BlockRead) (piece behind : List ℕ) (x : Result (Read Block) Fault) → IsRead i p b piece behind x → is_tabbed piece behind ≡ false → is_shallow i p b piece behind ≡ false → x ≡ Ok (read_block p b piece behind)
-was_read i p b piece behind x (read f g e) tabless deep = e
-was_read i p b piece behind x (shallow f g e) tabless deep = let false_true : false ≡ true = sym deep ∙ g in cc
-was_read i p b piece behind x (tabbed f e) tabless deep = let false_true : false ≡ true = sym tabless ∙ f in cc
+was_read : (i : ℕ) (p : Position) (b : cut.BlockRead) (piece after : List ℕ) (x : Result (Read Block) Fault) → IsRead i p b piece after x → is_tabbed piece after ≡ false → is_shallow i p b piece after ≡ false → x ≡ Ok (read_block p b piece after)
+was_read i p b piece after x (read f g e) tabless deep = e
+was_read i p b piece after x (shallow f g e) tabless deep = let false_true : false ≡ true = sym deep ∙ g in cc
+was_read i p b piece after x (tabbed f e) tabless deep = let false_true : false ≡ true = sym tabless ∙ f in cc
 
-no_tab : (piece behind : List ℕ) → begins_with tab behind ≡ false → is_tabbed piece behind ≡ false
-no_tab piece behind h = rw h (and_false _)
+no_tab : (piece after : List ℕ) → begins_with tab after ≡ false → is_tabbed piece after ≡ false
+no_tab piece after h = rw h (and_false _)
 
 -- what was read, where the rest and its place are known
-read_at : (p : Position) (b : cut.BlockRead) (piece behind y : List ℕ) (q : Position) (x : Result (Read Block) Fault) → x ≡ Ok (read_block p b piece behind) → without_spaces behind ≡ y → further_place p piece behind ≡ q
-    → x ≡ Ok (record { rest = y; place = q; value = record { place = block_place b.column p piece behind; text = b.text } })
-read_at p b piece behind y q x e f g = e ∙ rw (f, g) refl
+read_at : (p : Position) (b : cut.BlockRead) (piece after y : List ℕ) (q : Position) (x : Result (Read Block) Fault) → x ≡ Ok (read_block p b piece after) → without_spaces after ≡ y → further_place p piece after ≡ q
+    → x ≡ Ok (record { rest = y; place = q; value = record { place = block_place b.column p piece after; text = b.text } })
+read_at p b piece after y q x e f g = e ∙ rw (f, g) refl
 
 module _ (s : BlockStyle) (i column : ℕ) (strips : Bool) where
   abbrev is_block : List ℕ → cut.BlockRead
   is_block text = record { style = s; column = column; text = text }
 
-  text_body : (ts : List (List ℕ)) (behind : List ℕ) (rs : List Row) → column_by None (collection_by i) ts ≡ column → is_at_end behind ≡ false → is_further_text column behind ≡ true → starts_with_tab ts ≡ false → rows_of column ts ≡ Some rs
-      → read_body (header_of (indicator_of s ∷ header_line strips)) (collection_by i) (body ts further_text) behind ≡ Some (is_block (value_before_text (header_by s strips) rs))
-  text_body ts behind rs col some left tabless rows = rw (header_is s strips, col, some, left, tabless, rows) refl
+  text_body : (ts : List (List ℕ)) (after : List ℕ) (rs : List Row) → column_by None (collection_by i) ts ≡ column → is_at_end after ≡ false → is_further_text column after ≡ true → starts_with_tab ts ≡ false → rows_of column ts ≡ Some rs
+      → read_body (header_of (indicator_of s ∷ header_line strips)) (collection_by i) (body ts further_text) after ≡ Some (is_block (value_before_text (header_by s strips) rs))
+  text_body ts after rs col some left tabless rows = rw (header_is s strips, col, some, left, tabless, rows) refl
 
   end_body : (ts : List (List ℕ)) (l : List ℕ) (rs : List Row) (r : Row) → column_by None (collection_by i) (ts ++ l ∷ []) ≡ column → starts_with_tab (ts ++ l ∷ []) ≡ false → rows_of column ts ≡ Some rs → row_of column l ≡ Some r
       → read_body (header_of (indicator_of s ∷ header_line strips)) (collection_by i) (body ts (unbroken l)) [] ≡ Some (is_block (value_before_end (header_by s strips) column rs l r))
@@ -389,14 +389,14 @@ module _ (s : BlockStyle) (i column : ℕ) (strips : Bool) where
   abbrev pub scan : List ℕ → Position → Result (Read Block) Fault
   scan a p = block (is_literal s) i (block_text s strips a) p
 
-module _ (s : BlockStyle) (i column : ℕ) (strips : Bool) (text : List ℕ) (ls : List Line) (inside : IsInside i column) (h : AreBlockLines s i column strips text ls) (w : List White) (r : List ℕ) (k : Behind i w r) (p : Position) where
+module _ (s : BlockStyle) (i column : ℕ) (strips : Bool) (text : List ℕ) (ls : List Line) (inside : IsInside i column) (h : AreBlockLines s i column strips text ls) (w : List White) (r : List ℕ) (k : After i w r) (p : Position) where
   z : Lines s i column strips text ls
   z = lines_are s i column strips text ls inside h
 
   abbrev header : written.Line
   header = record { text = indicator_of s ∷ header_line strips; by = feed }
 
-  -- its lines, and the empty ones behind it
+  -- its lines, and the empty ones after it
   abbrev all_lines : List written.Line
   all_lines = lines_at column ls ++ empties k.count
 
@@ -418,15 +418,15 @@ module _ (s : BlockStyle) (i column : ℕ) (strips : Bool) (text : List ℕ) (ls
   spelt_all : block_text s strips (spell_lines column ls (10 ∷ spell_white w r)) ≡ spell (header ∷ all_lines) (spaces k.width (spell_white k.white r))
   spelt_all = ap (λ x. block_text s strips x) (spelt_feeds column ls (spell_white w r) ∙ ap (λ x. 10 ∷ spell (lines_at column ls) x) k.is ∙ ap (λ x. 10 ∷ x) (sym (spell_append (lines_at column ls) (empties k.count) (spaces k.width (spell_white k.white r)))))
 
-  -- the place behind its last line, and that of what stands behind it
+  -- the place after its last line, and that of what stands after it
   abbrev last_place : Position
-  last_place = along (spell_line column (full z.last) []) (behind_lines (header ∷ lines_at column z.init) p)
+  last_place = along (spell_line column (full z.last) []) (after_lines (header ∷ lines_at column z.init) p)
 
   abbrev lines_place : Position
-  lines_place = behind_lines (header ∷ all_lines) p
+  lines_place = after_lines (header ∷ all_lines) p
 
-  lines_end : lines_place ≡ behind_lines (empties k.count) (past_break last_place)
-  lines_end = behind_more (lines_at column ls) (empties k.count) (behind_line header p) ∙ ap (behind_lines (empties k.count)) (ap (λ l. behind_lines (lines_at column l) (behind_line header p)) z.is ∙ behind_last column z.init z.last (behind_line header p))
+  lines_end : lines_place ≡ after_lines (empties k.count) (past_break last_place)
+  lines_end = after_more (lines_at column ls) (empties k.count) (after_line header p) ∙ ap (after_lines (empties k.count)) (ap (λ l. after_lines (lines_at column l) (after_line header p)) z.is ∙ after_last column z.init z.last (after_line header p))
 
   abbrev ReadHere : Type 0
   ReadHere = BlockRead (scan s i column strips (spell_lines column ls (10 ∷ spell_white w r)) p) text (line_feed ∷ w) r p
@@ -439,11 +439,11 @@ module _ (s : BlockStyle) (i column : ℕ) (strips : Bool) (text : List ℕ) (ls
     end_place = last_place;
     same = ap (λ q. beyond k.white (beyond (blanks k.width) q)) lines_end ∙ sym (k.same (past_break last_place));
     are = k.are;
-    up = let a = up_lines (header ∷ lines_at column z.init) p in let b = along_line (spell_line column (full z.last) []) (behind_lines (header ∷ lines_at column z.init) p) in omega (arith, a, b);
+    up = let a = up_lines (header ∷ lines_at column z.init) p in let b = along_line (spell_line column (full z.last) []) (after_lines (header ∷ lines_at column z.init) p) in omega (arith, a, b);
     now = e;
   }
 
-  -- what stands behind it begins in no deeper column
+  -- what stands after it begins in no deeper column
   wide : max i 1 ≤ max column 1
   wide = let e = high i column inside in omega (arith, e)
 
@@ -459,7 +459,7 @@ module _ (s : BlockStyle) (i column : ℕ) (strips : Bool) (text : List ℕ) (ls
       let body_is = end_body s i column strips (texts all_lines) e _ _ (ap (column_by None (collection_by i)) same ∙ z.in_column more) (ap starts_with_tab same ∙ z.tabless more) all_rows (row_spaces column k.width (in_margin i column k.width inside low)) ∙ ap (λ t. Some (is_block s i column strips t)) value in
       let it : Read_as i p the_block piece [] = to_end i p the_block (indicator_of s ∷ header_line strips) feed all_lines e (header_inner s strips) tt (are_all e).2 (inner_spaces k.width [] refl) body_is in
       let now = was_read i p the_block piece [] _ it (no_tab piece [] refl) refl in
-      let where_is : further_place p piece [] ≡ beyond (blanks k.width) lines_place = behind_spell (header ∷ all_lines) e [] p (are_all (e ++ [])) ∙ spaces_behind k.width lines_place in
+      let where_is : further_place p piece [] ≡ beyond (blanks k.width) lines_place = after_spell (header ∷ all_lines) e [] p (are_all (e ++ [])) ∙ spaces_after k.width lines_place in
       let here : block_text s strips (spell_lines column ls (10 ∷ spell_white w r)) ≡ piece ++ [] = spelt_all ∙ ap (λ y. spell (header ∷ all_lines) (spaces k.width y)) none ∙ sym (append-nil piece) in
       reads_so (block_place column p piece []) (ap (λ a. block (is_literal s) i a p) here ∙ read_at p the_block piece [] [] _ _ now refl where_is
       ∙ ap (λ y. Ok (record { rest = y; place = beyond (blanks k.width) lines_place; value = record { place = block_place column p piece []; text = text } })) (sym none))
@@ -473,7 +473,7 @@ module _ (s : BlockStyle) (i column : ℕ) (strips : Bool) (text : List ℕ) (ls
       let body_is = text_body s i column strips (texts all_lines) rest _ (ap (column_by None (collection_by i)) all_texts ∙ z.in_column (texts (empties k.count))) (not_at_end k.width d a begins.0) (further i column k.width d a inside k.low begins)
       (ap starts_with_tab all_texts ∙ z.tabless (texts (empties k.count))) all_rows ∙ ap (λ t. Some (is_block s i column strips t)) value in
       let it : Read_as i p the_block piece rest = to_text i p the_block (indicator_of s ∷ header_line strips) feed all_lines rest (header_inner s strips) tt (are_all []).2 (not_at_end k.width d a begins.0) body_is in
-      let where_is : further_place p piece rest ≡ beyond (blanks k.width) lines_place = ap (λ q. past_spaces q rest) (behind_spell (header ∷ all_lines) [] rest p (are_all rest)) ∙ spaces_past k.width d a lines_place begins.0 in
+      let where_is : further_place p piece rest ≡ beyond (blanks k.width) lines_place = ap (λ q. past_spaces q rest) (after_spell (header ∷ all_lines) [] rest p (are_all rest)) ∙ spaces_past k.width d a lines_place begins.0 in
       let front : (further_place p piece rest).col ≡ k.width = ap (λ q. q.col) where_is ∙ blanks_col k.width lines_place ∙ ap (λ n. n + k.width) (front_col header all_lines p) ∙ omega arith in
       let off : is_shallow i p the_block piece rest ≡ false = not_shallow i k.width p the_block piece rest inside k.low front in
       let now = was_read i p the_block piece rest _ it (no_tab piece rest (spaces_tab k.width d a begins.0)) off in
@@ -481,7 +481,7 @@ module _ (s : BlockStyle) (i column : ℕ) (strips : Bool) (text : List ℕ) (ls
       reads_so (block_place column p piece rest) (ap (λ x. block (is_literal s) i x p) here ∙ read_at p the_block piece rest (d ∷ a) _ _ now (no_space k.width d a begins.0) where_is
       ∙ ap (λ y. Ok (record { rest = y; place = beyond (blanks k.width) lines_place; value = record { place = block_place column p piece rest; text = text } })) (sym is))
 
-  -- the block is read up to what stands behind it
+  -- the block is read up to what stands after it
   pub block_lines : ReadHere
   block_lines = by (spell_white k.white r) refl k.starts
     where
@@ -513,8 +513,8 @@ module _ (s : BlockStyle) (i column : ℕ) (strips : Bool) (text : List ℕ) (ls
       ∙ ap (λ t. Some (is_block s i column strips t)) (last_value s strips column z.before z.row last z.content ∙ z.value) in
       let it : Read_as i p b piece [] = to_end i p b (indicator_of s ∷ header_line strips) feed before last (header_inner s strips) tt (are last).2 inner body_is in
       let now = was_read i p b piece [] _ it (no_tab piece [] refl) refl in
-      let front = behind_lines (header ∷ before) p in
-      let where_is : further_place p piece [] ≡ along last front = behind_spell (header ∷ before) last [] p (are (last ++ [])) ∙ ap (λ x. position_after front x []) (sym (append-nil last)) ∙ behind_chars last [] [] front inner in
+      let front = after_lines (header ∷ before) p in
+      let where_is : further_place p piece [] ≡ along last front = after_spell (header ∷ before) last [] p (are (last ++ [])) ∙ ap (λ x. position_after front x []) (sym (append-nil last)) ∙ after_chars last [] [] front inner in
       let here : block_text s strips (spell_lines column ls []) ≡ piece ++ [] =
       ap (λ x. block_text s strips x) (ap (λ l. spell_lines column l []) z.is ∙ spelt column z.init z.last [] ∙ ap (λ x. 10 ∷ spell before x) (append-nil last)) ∙ sym (append-nil piece) in
       let up = up_lines (header ∷ before) p in

@@ -1,9 +1,9 @@
--- The lines of a literal or folded block as the definitions of block scalars read them: empty lines behind them change neither its column nor its value.
+-- The lines of a literal or folded block as the definitions of block scalars read them: empty lines after them change neither its column nor its value.
 use Rattle.std.proofs.Common.{◌≡◌, ◌≢◌, ℕ, zero, suc, ◌+◌, ◌<◌, ◌≤◌, List, [], ◌∷◌, ◌++◌, Bool, true, false, ◌&&◌, ◌==◌, if◌then◌else◌, max, nat_le, drop, length, Option, Some, None, refl, ap, sym, ◌∙◌, append-nil, arith}
 use Rattle.std.proofs.lemmas.Bool.{ne_eqb}
 use Rattle.std.proofs.lemmas.Bool.Decides.{nat_tests}
 use Rattle.defs_text.specs.Classes.{is_document_marker}
-use Rattle.defs_scalar.specs.BlockScalar.{BlockStyle, Chomping, Header, Row, empty_row, content_row, row_of, rows_of, is_empty_line, is_content_line, is_spaces, leading_spaces, deepest_start, has_content, text_of, text_behind, with_content, value_before_text, value_before_end}
+use Rattle.defs_scalar.specs.BlockScalar.{BlockStyle, Chomping, Header, Row, empty_row, content_row, row_of, rows_of, is_empty_line, is_content_line, is_spaces, leading_spaces, deepest_start, has_content, text_of, text_after, with_content, value_before_text, value_before_end}
 use Rattle.defs_layout.specs.Gap.{spaces}
 use Rattle.defs_layout.specs.BlockLines.{Line, full, blank, spell_line, spell_lines, AreLines}
 use Rattle.defs_layout.specs.Layout.{indented_lines, BeginsWithText, EndsInText}
@@ -199,19 +199,19 @@ abbrev pub header_by : BlockStyle → (strips : Bool) → Header
 header_by s strips = record { style = s; chomping = (if strips then Chomping.strip else Chomping.clip); digit = None }
 
 module _ (s : BlockStyle) where
-  no_text : (l : List ℕ) (k n : ℕ) → text_behind s l k (empty_rows n) ≡ []
+  no_text : (l : List ℕ) (k n : ℕ) → text_after s l k (empty_rows n) ≡ []
   no_text l k zero = refl
   no_text l k (suc n) = no_text l (suc k) n
 
-  same_behind : (l : List ℕ) (k : ℕ) (rs : List Row) (n : ℕ) → text_behind s l k (rs ++ empty_rows n) ≡ text_behind s l k rs
-  same_behind l k [] n = no_text l k n
-  same_behind l k (empty_row ∷ rs) n = same_behind l (suc k) rs n
-  same_behind l k (content_row m ∷ rs) n = rw (same_behind m 0 rs n) refl
+  same_after : (l : List ℕ) (k : ℕ) (rs : List Row) (n : ℕ) → text_after s l k (rs ++ empty_rows n) ≡ text_after s l k rs
+  same_after l k [] n = no_text l k n
+  same_after l k (empty_row ∷ rs) n = same_after l (suc k) rs n
+  same_after l k (content_row m ∷ rs) n = rw (same_after m 0 rs n) refl
 
   same_text : (rs : List Row) (n : ℕ) → has_content rs ≡ true → text_of s (rs ++ empty_rows n) ≡ text_of s rs
   same_text [] n h = cc
   same_text (empty_row ∷ rs) n h = ap (λ x. 10 ∷ x) (same_text rs n h)
-  same_text (content_row l ∷ rs) n h = ap (λ x. l ++ x) (same_behind l 0 rs n)
+  same_text (content_row l ∷ rs) n h = ap (λ x. l ++ x) (same_after l 0 rs n)
 
   same_content : (strips : Bool) (rs : List Row) (n : ℕ) → has_content rs ≡ true → with_content (header_by s strips) 0 (rs ++ empty_rows n) ≡ with_content (header_by s strips) 0 rs
   same_content true rs n h = rw (same_text rs n h) refl

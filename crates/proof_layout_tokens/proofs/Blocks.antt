@@ -18,7 +18,7 @@ use Rattle.proof_lexers.specs.BlockScan.{is_literal}
 use Rattle.proof_layout_tokens.proofs.LayoutStates.{Parts, stands, Opens, opened, opened_indent, IsClosed, Trail, next, marker, end, trail_text, rest_of, limit_of, IsTrail, After}
 use Rattle.proof_layout_tokens.proofs.Whites.{White, spell_white, stays_allowed, allowed_beyond}
 use Rattle.proof_layout_tokens.proofs.Levels
-use Rattle.proof_layout_tokens.proofs.Joins.{trail_white, trail_is, Lies, Allows, leaf_after, saved_behind, Ahead, fetched_ahead}
+use Rattle.proof_layout_tokens.proofs.Joins.{trail_white, trail_is, Lies, Allows, leaf_after, saved_after, Ahead, fetched_ahead}
 use Rattle.proof_layout_tokens.proofs.Leaves.{non_block, still_lies, value_ahead}
 use Rattle.proof_layout_tokens.proofs.BlockScans.{BlockRead, header_line, block_text, IsInside, AreBlockLines, Follows, follows, block_before}
 use Rattle.proof_layout_tokens.proofs.LiteralTexts.{strips_of, headed_literal, literal_lines, root_literal_lines}
@@ -39,7 +39,7 @@ mark_opens folded a = record { solid = refl; no_directive = refl; no_start = ref
 abbrev token_style : BlockStyle → Style
 token_style s = block_style (is_literal s)
 
--- behind a block
+-- after a block
 abbrev block_parts : Parts → BlockStyle → (text : List ℕ) → Position → Position → Option Key → Parts
 block_parts p s text start place key = record { place = place; tokens = p.tokens ++ token start (Tok.scalar (token_style s) text) ∷ []; key = key; allowed = true; leading = true; adjacent = p.adjacent }
 
@@ -68,7 +68,7 @@ block_done s t from a text col b i is want deep shut u z =
     let inside : i ≤ p.place.col = omega (arith, deep, column) in
     let y = indicator_of s ∷ a in
     let x = spell_white z.white (rest_of t) in
-    let k = saved_behind y b i is p inside u.loose in
+    let k = saved_after y b i is p inside u.loose in
     let q = block_parts p s text z.start z.place k.key in
     let tok = Tok.scalar (token_style s) text in
     let takes = value_ahead from (indicator_of s) a col b i is want u deep (mark_opens s a) ∙ by_mark s a (opened_indent b i) (opened b i is) p ∙ block_at s y b i is p k.key text x z.start z.place shut k.now z.now in
@@ -83,9 +83,9 @@ block_after : (s : BlockStyle) (t : Trail) (from : State) (column : ℕ) (strips
     → IsInside i column → AreBlockLines s i column strips text ls
     → Ahead from (block_text s strips (spell_lines column ls (trail_text t))) col (opened_indent b i) (opened b i is) want → After from t i is (λ o. want (Tok.scalar (token_style s) text ∷ o))
 block_after s t from column strips text ls col b i is want f deep shut inside h u =
-    let behind = spell_lines column ls (spell_white (trail_white t) (rest_of t)) in
-    let v : Ahead from (block_text s strips behind) col (opened_indent b i) (opened b i is) want = rw (trail_is t) at u in
-    block_done s t from (header_line strips ++ behind) text col b i is want deep shut v (block_before s i column strips text ls inside h v.parts.place t f)
+    let after = spell_lines column ls (spell_white (trail_white t) (rest_of t)) in
+    let v : Ahead from (block_text s strips after) col (opened_indent b i) (opened b i is) want = rw (trail_is t) at u in
+    block_done s t from (header_line strips ++ after) text col b i is want deep shut v (block_before s i column strips text ls inside h v.parts.place t f)
 
 -- a block below a collection at a column
 nested_after : (s : BlockStyle) (t : Trail) (from : State) (c column : ℕ) (strips : Bool) (text : List ℕ) (ls : List Line) (col i : ℕ) (b : Bool) (is : List Indent) (want : List Tok → List Tok) → i ≡ suc c → IsTrail t → limit_of t ≤ i → i ≤ col → IsClosed i is

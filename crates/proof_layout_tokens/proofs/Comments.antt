@@ -1,4 +1,4 @@
--- A comment behind what it explains: spaces, `#` and a text, up to the end of the line.
+-- A comment after what it explains: spaces, `#` and a text, up to the end of the line.
 use Rattle.std.proofs.Common.{◌≡◌, ℕ, zero, suc, List, [], ◌∷◌, ◌++◌, Bool, true, false, Ok, refl, ap, ◌∙◌}
 use Rattle.std.specs.List.{list_all}
 use Rattle.std.proofs.lemmas.Bool.{and_parts}
@@ -49,7 +49,7 @@ pub comment_are_white : (k : Comment) (w : List White) (r : List ℕ) → IsComm
 comment_are_white no_comment w r is ends h = h
 comment_are_white (comment more text) w r is ends h = spaced_are_white more (remark text ∷ w) r (is, ends, h)
 
--- ---- behind it
+-- ---- after it
 
 beyond_spaced : (n : ℕ) (w : List White) (p : Position) → beyond (spaced n w) p ≡ beyond w (beyond (blanks n) p)
 beyond_spaced zero w p = refl
@@ -77,7 +77,7 @@ comment_line (comment more text) p = along_line text (past (beyond (blanks more)
 
 -- ---- it is passed over, from a place on its line
 
--- what stands behind it: the end of the text, or a line feed
+-- what stands after it: the end of the text, or a line feed
 pub data Stops : List ℕ → Type 0 where
   at_end : Stops []
   at_feed : {a : List ℕ} → Stops (10 ∷ a)

@@ -22,7 +22,7 @@ use Rattle.proof_layout_tokens.proofs.Joins.{unrolls_to}
 use Rattle.proof_layout_tokens.proofs.Levels
 use Rattle.proof_layout_tokens.proofs.Whites.{next_token}
 
--- behind the stream's start
+-- after the stream's start
 abbrev pub origin : Position
 origin = record { index = 0; line = 1; col = 0 }
 
@@ -36,7 +36,7 @@ begins a = refl
 pub stream_begins : (a : List ℕ) → Reaches (start a) (stands a 0 [] begun)
 stream_begins a = there refl (begins a) here
 
--- behind a document's marker
+-- after a document's marker
 abbrev pub opened : Position → List Token → (adjacent : ℕ) → Parts
 opened p ts adjacent = record { place = past (past (past p)); tokens = ts ++ token p Tok.document_start ∷ []; key = None; allowed = false; leading = false; adjacent = adjacent }
 
@@ -46,7 +46,7 @@ marks : (a : List ℕ) (i : ℕ) (is : List Indent) (p : Parts) (ts : List Token
 unfolding fetch_here fetch_content fetch_first_column comes_marker is_break is_blank fetch_document_marker begin_line remove_simple_key
 marks a i is p ts col loose u = rw (col, u, loose) refl
 
--- The scanner is behind the marker of a document, in front of its line feed.
+-- The scanner is after the marker of a document, in front of its line feed.
 pub record Opened (from : State) (a : List ℕ) (want : List Tok → List Tok) : Type 0 where
   pub parts : Parts
   pub run : Reaches from (stands (10 ∷ a) 0 [] parts)
@@ -91,7 +91,7 @@ next_document from g a want u =
 
 -- ---- the end
 
--- behind the stream's end
+-- after the stream's end
 abbrev finished : (i : ℕ) → List Indent → Parts → State
 finished i is p = record {
   rest = [];

@@ -1,4 +1,4 @@
--- How runs of nodes are put together: what stands behind one node, and in front of the next.
+-- How runs of nodes are put together: what stands after one node, and in front of the next.
 use Rattle.std.proofs.Common.{◌≡◌, ℕ, ◌+◌, ◌<◌, ◌≤◌, List, [], ◌∷◌, ◌++◌, Bool, true, false, ◌==◌, nat_lt, Option, Some, None, Ok, refl, ap, ◌∙◌, arith, length}
 use Rattle.std.proofs.lemmas.Bool.{ne_eqb, lt-ltb, le-ltb}
 use Rattle.defs_text.specs.Position.{Position}
@@ -87,7 +87,7 @@ gap_line [] d p = let e = blanks_line d p in omega (arith, e)
 gap_line (empty_line ∷ g) d p = let h = gap_line g d (past_break p) in omega (arith, h)
 gap_line (comment_line text ∷ g) d p = let h = gap_line g d (past_break (along text (past p))) in let e = along_line text (past p) in omega (arith, h, e)
 
--- ---- behind a leaf
+-- ---- after a leaf
 
 -- a key, if there is one, that began on a line or before it
 abbrev pub Lies : Option Key → ℕ → Type 0
@@ -113,7 +113,7 @@ settled (next g d r) p e place allows loose lies =
 settled (marker g r) p e place allows loose lies = (ap (λ x. x.col) place ∙ gap_col g 0 (past_break e) refl, loose)
 settled (end g) p e place allows loose lies = loose
 
--- The scanner is behind a leaf that ends at e, or within the white space behind it.
+-- The scanner is after a leaf that ends at e, or within the white space after it.
 pub leaf_after : (t : Trail) (from : State) (g : List White) (i : ℕ) (is : List Indent) (q : Parts) (e : Position) (want : List Tok → List Tok) → Reaches from (stands (spell_white g (rest_of t)) i is q) → AreWhite g (rest_of t)
     → beyond g q.place ≡ beyond (trail_white t) e → Allows t (allowed_beyond g q.allowed) → is_required q.key ≡ false → Lies q.key e.line → last_property q.tokens ≡ None → Tells q.tokens want
     → After from t i is want
@@ -164,11 +164,11 @@ saved_by x b true i is p e h loose = record {
 }
 saved_by x b false i is p e h loose = record { key = p.key; loose = loose.0; lies = loose.1; now = rw e refl }
 
-pub saved_behind : (x : List ℕ) (b : Bool) (i : ℕ) (is : List Indent) (p : Parts) → i ≤ p.place.col → IsLoose p → Saved x (opened_indent b i) (opened b i is) p
-saved_behind x b i is p h loose = saved_by x b p.allowed i is p refl h loose
+pub saved_after : (x : List ℕ) (b : Bool) (i : ℕ) (is : List Indent) (p : Parts) → i ≤ p.place.col → IsLoose p → Saved x (opened_indent b i) (opened b i is) p
+saved_after x b i is p h loose = saved_by x b p.allowed i is p refl h loose
 
 pub saved : (x : List ℕ) (b : Bool) (i : ℕ) (is : List Indent) (p : Parts) → i ≤ p.place.col → p.key ≡ None → Saved x (opened_indent b i) (opened b i is) p
-saved x b i is p h free = saved_behind x b i is p h (free_loose p free)
+saved x b i is p h free = saved_after x b i is p h (free_loose p free)
 
 -- The next fetch finds a text here, on a column; a key that began on its line may be open.
 pub record Ahead (from : State) (x : List ℕ) (c : ℕ) (i : ℕ) (is : List Indent) (want : List Tok → List Tok) : Type 0 where
@@ -259,7 +259,7 @@ before_next from g c i is r want u =
       told = λ o. z.told o ∙ u.told o ∙ ap want (no_ends c i is o);
     }
 
--- The first entry of an array at the column of the key that it is the value of: the level behind the key's `:` ends.
+-- The first entry of an array at the column of the key that it is the value of: the level after the key's `:` ends.
 pub before_entry : (from : State) (g : List White) (c i : ℕ) (is : List Indent) (y : List ℕ) (q : Parts) (want : List Tok → List Tok) → Reaches from (stands (spell_white g y) (c + 1 + 1) (level (c + 1) false ∷ level i true ∷ is) q) → AreWhite g y
     → q.key ≡ None → (beyond g q.place).col ≡ c → allowed_beyond g q.allowed ≡ true → last_property q.tokens ≡ None → Tells q.tokens want → Before from y c (c + 1) (level i true ∷ is) true want
 before_entry from g c i is y q want run white free column allows no_property told =

@@ -18,7 +18,7 @@ use Rattle.model_scanner.specs.Keys.{is_far, save_simple_key, must_be_key}
 use Rattle.model_scanner.specs.Indents.{level, unroll_non_block_indents, without_open}
 use Rattle.model_scanner.specs.Block.{last_property, begin_pair, insert_key, fetch_value}
 use Rattle.model_lexers.specs.Quoted.{quote_of}
-use Rattle.model_scanner.specs.Document.{quoted_style, may_follow_quoted, check_behind_quoted, fetch_flow_scalar, fetch_plain_scalar}
+use Rattle.model_scanner.specs.Document.{quoted_style, may_follow_quoted, check_after_quoted, fetch_flow_scalar, fetch_plain_scalar}
 use Rattle.model_scanner.specs.Run.{Reaches, here, there}
 use Rattle.model_scanner.proofs.Runs.{reaches_then}
 use Rattle.defs_token.specs.Toks.{toks}
@@ -45,7 +45,7 @@ keyed_tokens later ts n m k t e = first_in ts (t ∷ []) n k e
 keyed_tokens (first b) ts n m k t e =
     ap (λ l. insert l n m) (first_in ts (t ∷ []) n k e ∙ append_assoc ts (k ∷ []) (t ∷ [])) ∙ first_in ts (k ∷ t ∷ []) n m e ∙ sym (append_assoc (ts ++ m ∷ []) (k ∷ []) (t ∷ []))
 
--- ---- behind the scalar
+-- ---- after the scalar
 
 along_index : (a : List ℕ) (p : Position) → (along a p).index ≡ p.index + length a
 along_index [] p = omega arith
@@ -55,7 +55,7 @@ not_far : (a : List ℕ) (p : Position) → length a ≤ 1024 → is_far p (alon
 unfolding is_far
 not_far a p h = rw (along_line a p, along_index a p, le-ltb p.line p.line (omega arith), le-ltb (p.index + 1024) (p.index + length a) (omega (arith, h))) refl
 
--- The scanner is behind a scalar that may be a key, whose token is the last.
+-- The scanner is after a scalar that may be a key, whose token is the last.
 record Keyed (from : State) (x : List ℕ) (s : Stand) (c i : ℕ) (is : List Indent) (tok : Tok) (ts : List Token) : Type 0 where
   parts : Parts
   key : Key
@@ -89,7 +89,7 @@ stand_deep later c i col low e = omega (arith, e)
 stand_deep (first true) c i col low e = omega (arith, e, low)
 stand_deep (first false) c i col low e = omega (arith, e, low)
 
--- The next fetch finds the value of a key, behind the `:` at some column.
+-- The next fetch finds the value of a key, after the `:` at some column.
 pub record Valued (from : State) (w : Way) (y : List ℕ) (c i : ℕ) (is : List Indent) (want : List Tok → List Tok) : Type 0 where
   pub at : ℕ
   pub deep : c + 1 ≤ way_column at w
@@ -99,12 +99,12 @@ value_deep : (w : Way) (c m : ℕ) → IsWay c w → c + 1 ≤ m → c + 1 ≤ w
 value_deep (beside more) c m way h = omega (arith, h)
 value_deep (below k g d) c m way h = let low = way.0 in omega (arith, low)
 
--- The scanner is behind the `:` of a key, whose entries stand at the column c.
+-- The scanner is after the `:` of a key, whose entries stand at the column c.
 pub record Taken (from : State) (x : List ℕ) (c i : ℕ) (is : List Indent) (want : List Tok → List Tok) : Type 0 where
   pub colon : Position
   pub off : c + 1 ≤ colon.col
   pub parts : Parts
-  pub behind : parts.place ≡ past colon
+  pub after : parts.place ≡ past colon
   pub run : Reaches from (stands x (c + 1 + 1) (level (c + 1) false ∷ level i true ∷ is) parts)
   pub free : parts.key ≡ None
   pub allows : parts.allowed ≡ false
@@ -119,7 +119,7 @@ valued from w y c i is want way solid z =
       at = z.colon.col;
       deep = deep;
       marked = marked_before from (way_white w) y (way_column z.colon.col w) c i is true z.parts (allowed_beyond (way_white w) false) want z.run (way_are_white c w y way solid) z.free
-          (ap (λ p. (beyond (way_white w) p).col) z.behind ∙ way_ends w z.colon.col z.colon refl) deep (ap (allowed_beyond (way_white w)) z.allows) z.no_property z.told;
+          (ap (λ p. (beyond (way_white w) p).col) z.after ∙ way_ends w z.colon.col z.colon refl) deep (ap (allowed_beyond (way_white w)) z.allows) z.no_property z.told;
     }
 
 -- its value is an array at its column
@@ -130,11 +130,11 @@ at_entry from k g y c i is want line gap solid z =
     before_entry from (comment_white k w) c i is y z.parts want z.run (comment_are_white k w y line tt (gap_are_white g (blanks c) y gap (blanks_white c y solid))) z.free
     (ap (λ p. p.col) (beyond_comment k w z.parts.place) ∙ gap_col g c (past_break (comment_place k z.parts.place)) refl) (allowed_comment k w z.parts.allowed ∙ gap_allows g c) z.no_property z.told
 
--- the `:` behind a key
-colon_behind : (from : State) (w : Way) (y : List ℕ) (s : Stand) (c i : ℕ) (is : List Indent) (tok : Tok) (ts : List Token) (want : List Tok → List Tok) → i ≤ c → IsClosed i is → Tells ts want
+-- the `:` after a key
+colon_after : (from : State) (w : Way) (y : List ℕ) (s : Stand) (c i : ℕ) (is : List Indent) (tok : Tok) (ts : List Token) (want : List Tok → List Tok) → i ≤ c → IsClosed i is → Tells ts want
     → Keyed from (58 ∷ spell_white (way_white w) y) s c i is tok ts
     → Taken from (spell_white (way_white w) y) c i is (λ o. want (starts s Tok.block_mapping_start (Tok.key ∷ tok ∷ Tok.value ∷ o)))
-colon_behind from w y s c i is tok ts want low shut told z =
+colon_after from w y s c i is tok ts want low shut told z =
     let p = z.parts in
     let k = z.key in
     let off = z.off in
@@ -157,7 +157,7 @@ colon_behind from w y s c i is tok ts want low shut told z =
       colon = p.place;
       off = off;
       parts = r;
-      behind = refl;
+      after = refl;
       run = run;
       free = refl;
       allows = refl;
@@ -198,7 +198,7 @@ drop_low : (s : Stand) (c i col : ℕ) → i ≤ c → col ≡ c → indent_at (
 drop_low later c i col low e = omega (arith, e)
 drop_low (first b) c i col low e = omega (arith, e, low)
 
--- behind a plain key
+-- after a plain key
 abbrev plain_parts : Parts → Key → (w : List ℕ) → Parts
 plain_parts p k w = record { place = along w p.place; tokens = p.tokens ++ token p.place (Tok.scalar Style.plain w) ∷ []; key = Some k; allowed = false; leading = false; adjacent = p.adjacent }
 
@@ -251,7 +251,7 @@ key_of_text : (from : State) (text : List ℕ) (w : Way) (y : List ℕ) (s : Sta
 key_of_text from text w y s c i is want t short low shut u =
     let v : Before from (t.head ∷ (t.tail ++ 58 ∷ spell_white (way_white w) y)) c (indent_at s c i) (indents_at s i is) true want = rw (t.whole) at u in
     let few : length (t.head ∷ t.tail) ≤ 1024 = rw (t.whole) at short in
-    rw (t.whole) (colon_behind from w y (drop_stand s) c i is (Tok.scalar Style.plain (t.head ∷ t.tail)) v.parts.tokens want low shut v.told (plain_keyed from t.head t.tail w y s c i is want t.chars t.close t.first t.second few low shut v))
+    rw (t.whole) (colon_after from w y (drop_stand s) c i is (Tok.scalar Style.plain (t.head ∷ t.tail)) v.parts.tokens want low shut v.told (plain_keyed from t.head t.tail w y s c i is want t.chars t.close t.first t.second few low shut v))
 
 pub plain_key_run : (from : State) (text : List ℕ) (w : Way) (y : List ℕ) (s : Stand) (c i : ℕ) (is : List Indent) (want : List Tok → List Tok) → IsPlainText text → length text ≤ 1024 → i ≤ c → IsClosed i is
     → Before from (text ++ 58 ∷ spell_white (way_white w) y) c (indent_at s c i) (indents_at s i is) true want
@@ -265,7 +265,7 @@ colon_follows : (flow same_line : Bool) → same_line ≡ true → flow ≡ fals
 unfolding may_follow_quoted is_break
 colon_follows flow same_line e f = rw (e, f) refl
 
--- behind a key in quotes
+-- after a key in quotes
 abbrev quoted_parts : Bool → Parts → Key → (body w : List ℕ) → Parts
 quoted_parts single p k body w =
     record { place = along (quote_of single ∷ body) p.place; tokens = p.tokens ++ token p.place (Tok.scalar (quoted_style single) w) ∷ []; key = Some k; allowed = false; leading = false; adjacent = (along (quote_of single ∷ body) p.place).index }
@@ -277,7 +277,7 @@ module _ (single : Bool) (body text : List ℕ) (is_quoted : IsQuoted single bod
   quoted_at : (a : List ℕ) (s : Stand) (c i : ℕ) (is : List Indent) (p : Parts) (k : Key) → p.place.col ≡ c → i ≤ c
       → save_simple_key ((stands (whole ++ 58 ∷ a) (indent_at s c i) (indents_at s i is) p).held) ≡ (stands (whole ++ 58 ∷ a) (indent_at s c i) (indents_at s i is) (record p { key = Some k })).held
       → fetch_flow_scalar single (stands (whole ++ 58 ∷ a) (indent_at s c i) (indents_at s i is) p) ≡ Ok (stands (58 ∷ a) (indent_at s c i) (indents_at s i is) (quoted_parts single p k body text))
-  unfolding fetch_flow_scalar check_behind_quoted
+  unfolding fetch_flow_scalar check_after_quoted
   quoted_at a s c i is p k col low save =
       let at = along whole p.place in
       let q : Parts = record p { key = Some k; allowed = false; place = at; leading = false } in
@@ -319,4 +319,4 @@ module _ (single : Bool) (body text : List ℕ) (is_quoted : IsQuoted single bod
       → Before from (whole ++ 58 ∷ spell_white (way_white w) y) c (indent_at s c i) (indents_at s i is) true want
       → Taken from (spell_white (way_white w) y) c i is (λ o. want (starts s Tok.block_mapping_start (Tok.key ∷ Tok.scalar (quoted_style single) text ∷ Tok.value ∷ o)))
   quoted_key_run from w y s c i is want short low shut u =
-      colon_behind from w y s c i is (Tok.scalar (quoted_style single) text) u.parts.tokens want low shut u.told (quoted_keyed from (spell_white (way_white w) y) s c i is want short low u)
+      colon_after from w y s c i is (Tok.scalar (quoted_style single) text) u.parts.tokens want low shut u.told (quoted_keyed from (spell_white (way_white w) y) s c i is want short low u)

@@ -1,4 +1,4 @@
--- JSON arrays and objects behind each mark of a block collection: what the theorem says of a text with them.
+-- JSON arrays and objects after each mark of a block collection: what the theorem says of a text with them.
 use Rattle.std.proofs.Common.{arith, ℕ, List, [], ◌∷◌, true, false, codes}
 use Rattle.std.specs.Fmt.{digits}
 use Rattle.defs_token.specs.Token.{Tok, Style}
@@ -34,8 +34,8 @@ abbrev numbered : Json
 numbered = Json.array [] (Elements.element (Json.number (number true (codes "1") (fraction (codes "5")) (exponent false plus (codes "3")))) [] (gap.space ∷ [])
     (Elements.last_element (Json.empty_object []) []))
 
--- behind `-`, behind `?` and the `:` below it, and behind the `:` of a key at the end of the text
-behind_each_mark : HasToks (codes "- [1, {\"a\": [true, \"x\"]}]\n- ? {\"b\" : null }\n  :  [ ]\n- k: [-1.5e+3, {}]")
+-- after `-`, after `?` and the `:` below it, and after the `:` of a key at the end of the text
+after_each_mark : HasToks (codes "- [1, {\"a\": [true, \"x\"]}]\n- ? {\"b\" : null }\n  :  [ ]\n- k: [-1.5e+3, {}]")
     (Tok.stream_start ∷ Tok.block_sequence_start
     ∷ Tok.block_entry ∷ Tok.flow_sequence_start ∷ plain_tok (codes "1") ∷ Tok.flow_entry ∷ Tok.flow_mapping_start ∷ Tok.key ∷ quoted_tok (codes "a") ∷ Tok.value
     ∷ Tok.flow_sequence_start ∷ plain_tok (codes "true") ∷ Tok.flow_entry ∷ quoted_tok (codes "x") ∷ Tok.flow_sequence_end ∷ Tok.flow_mapping_end ∷ Tok.flow_sequence_end
@@ -45,7 +45,7 @@ behind_each_mark : HasToks (codes "- [1, {\"a\": [true, \"x\"]}]\n- ? {\"b\" : n
     ∷ Tok.flow_mapping_start ∷ Tok.flow_mapping_end ∷ Tok.flow_sequence_end ∷ Tok.block_end
     ∷ Tok.block_end ∷ Tok.stream_end ∷ [])
 unfolding is_quoted is_unfit_for_plain typing is_decimal digits is_unescaped is_on_one_line
-behind_each_mark = layouts_have_their_tokens
+after_each_mark = layouts_have_their_tokens
     (record {
       is_marked = false;
       documents = last_document (record {

@@ -18,7 +18,7 @@ use Rattle.proof_layout_tokens.proofs.LayoutTexts.{layouts_have_their_tokens}
 abbrev word : List ℕ → Scalar
 word w = plain (Tree.string w)
 
--- a value behind one space
+-- a value after one space
 abbrev beside : Inline → Value
 beside i = Value.beside 0 i no_comment
 

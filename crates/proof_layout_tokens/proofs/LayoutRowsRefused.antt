@@ -5,7 +5,7 @@ use Rattle.yaml_tokens.specs.declared.problem.Problem.TheVariants as problem
 use Rattle.model_scanner.specs.Run.{scan}
 use Rattle.model_scanner.proofs.OnLiterals.{scan_on_literals}
 
--- a block behind the `:` of a key, on its line
+-- a block after the `:` of a key, on its line
 compact_value : scan 9 (codes "---\na: - 1") ≡ Err (At problem.BlockEntryNotAllowed (record { index = 7; line = 2; col = 3 }))
 unfolding scan_on_literals
 compact_value = refl

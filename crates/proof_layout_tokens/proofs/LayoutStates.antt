@@ -1,4 +1,4 @@
--- The states of the scanner outside flow collections, and what stands behind a node.
+-- The states of the scanner outside flow collections, and what stands after a node.
 use Rattle.std.proofs.Common.{◌≡◌, ℕ, ◌+◌, List, [], ◌∷◌, ◌++◌, Bool, true, false, not, ◌||◌, ◌==◌, nat_lt, if◌then◌else◌, Option, None, Ok, codes}
 use Rattle.defs_text.specs.Position.{Position}
 use Rattle.defs_token.specs.Token.{Tok, Token}
@@ -78,7 +78,7 @@ abbrev pub left : (limit : ℕ) → ℕ → List Indent → Left
 left limit i [] = record { indent = i; indents = [] }
 left limit i (d ∷ ds) = if nat_lt limit i then left limit d.indent ds else record { indent = i; indents = d ∷ ds }
 
--- ---- what stands behind a node
+-- ---- what stands after a node
 
 -- a gap, and at a column of the next line the rest; a gap, and the `---` of a next document with the rest; or a gap up to the end
 pub data Trail : Type 0 where
@@ -135,13 +135,13 @@ pub record IsOld (k : Option Key) (p : Position) : Type 0 where
   pub loose : is_required k ≡ false
   pub gone : still p k ≡ None
 
--- what the scanner knows when it comes behind a node's trail
+-- what the scanner knows when it comes after a node's trail
 abbrev pub Settles : Trail → Parts → Type 0
 Settles (next g d r) p = (p.place.col ≡ d) × (p.allowed ≡ true) × IsOld p.key p.place
 Settles (marker g r) p = (p.place.col ≡ 0) × (is_required p.key ≡ false)
 Settles (end g) p = is_required p.key ≡ false
 
--- The scanner is behind a node, up to white space: as far as the next line's limit its levels are these.
+-- The scanner is after a node, up to white space: as far as the next line's limit its levels are these.
 pub record After (from : State) (t : Trail) (i : ℕ) (is : List Indent) (want : List Tok → List Tok) : Type 0 where
   pub text : List ℕ
   pub first : Parts

@@ -2,7 +2,7 @@
 use Rattle.std.proofs.Common.{◌≡◌, ℕ, Bool, List, [], ◌∷◌, true, false, refl, ap, ◌∙◌, arith, subst}
 use Rattle.defs_token.specs.Token.{Tok}
 use Rattle.defs_layout.specs.Gap.{GapLine, spell_gap, spaces, IsGap}
-use Rattle.defs_layout.specs.Layout.{no_comment, spell, Root, block, inline, literal, Document, Documents, last_document, document, spell_mark, spell_documents, spell_root, spell_inline, spell_block, IsRoot, IsBehindRoot, AreDocuments, spell_literal}
+use Rattle.defs_layout.specs.Layout.{no_comment, spell, Root, block, inline, literal, Document, Documents, last_document, document, spell_mark, spell_documents, spell_root, spell_inline, spell_block, IsRoot, IsAfterRoot, AreDocuments, spell_literal}
 use Rattle.defs_layout.specs.LayoutTokens.{root_tokens, documents_tokens, marked, layout_tokens}
 use Rattle.model_lexers.specs.Machine.{past_break}
 use Rattle.model_scanner.specs.State.{State}
@@ -31,7 +31,7 @@ body_of (block column b) r = spell_block column b r
 body_of (inline v) r = spell_inline v r
 body_of (literal text ls) r = spell_literal 0 text ls r
 
--- behind a literal block at column 0 no comment
+-- after a literal block at column 0 no comment
 abbrev MayFollow : Root → Trail → Type 0
 MayFollow (block column b) t = Unit {0}
 MayFollow (inline v) t = Unit {0}
@@ -47,7 +47,7 @@ body_solid (block column b) r h = block_solid column [] b r h
 body_solid (inline v) r h = inline_solid v r h
 body_solid (literal text ls) r h = literal_solid 0 text ls r
 
--- a trail that ends a document may stand behind its root
+-- a trail that ends a document may stand after its root
 record Ends (root : Root) (t : Trail) : Type 0 where
   is_trail : IsTrail t
   outside : limit_of t ≡ 0
@@ -59,19 +59,19 @@ root_runs (block column b) t from want h ends u = let out = ends.outside in bloc
 root_runs (inline v) t from want h ends u = let out = ends.outside in inline_after v no_comment t from 0 false 0 [] true want h tt ends.is_trail (omega (arith, out)) (omega arith) refl u
 root_runs (literal text ls) t from want h ends u = root_literal_after t from text ls want ends.follows h.0 h.1 (ahead from (spell_literal 0 text ls (trail_text t)) 0 0 [] true want u)
 
-ends_text : (root : Root) (g : List GapLine) → IsBehindRoot root g → Ends root (end g)
+ends_text : (root : Root) (g : List GapLine) → IsAfterRoot root g → Ends root (end g)
 ends_text (block column b) g h = record { is_trail = h; outside = refl; follows = tt }
 ends_text (inline v) g h = record { is_trail = h; outside = refl; follows = tt }
 ends_text (literal text ls) g h = record { is_trail = empty_gap g h; outside = refl; follows = end_follows g h }
 
-ends_before_marker : (root : Root) (g : List GapLine) (r : List ℕ) → IsBehindRoot root g → Ends root (marker g r)
+ends_before_marker : (root : Root) (g : List GapLine) (r : List ℕ) → IsAfterRoot root g → Ends root (marker g r)
 ends_before_marker (block column b) g r h = record { is_trail = h; outside = refl; follows = tt }
 ends_before_marker (inline v) g r h = record { is_trail = h; outside = refl; follows = tt }
 ends_before_marker (literal text ls) g r h = record { is_trail = empty_gap g h; outside = refl; follows = marker_follows g r h }
 
 -- ---- in front of a root
 
--- behind a marker
+-- after a marker
 root_opens : (from : State) (d : Document) (r : List ℕ) (want : List Tok → List Tok) → IsGap d.gap → IsRoot d.root → Opened from (spell_gap d.gap (spell_root d.root r)) want
     → Before from (body_of d.root r) (column_of d.root) 0 [] true want
 root_opens from d r want gap is o =
@@ -97,32 +97,32 @@ root_begins d r gap is =
 
 -- ---- documents
 
--- what stands behind the first root
+-- what stands after the first root
 abbrev trail_of : Documents → Trail
-trail_of (last_document d behind) = end behind
+trail_of (last_document d after) = end after
 trail_of (document d g ds) = marker g (spell_documents ds [])
 
 abbrev first_of : Documents → Document
-first_of (last_document d behind) = d
+first_of (last_document d after) = d
 first_of (document d g ds) = d
 
 documents_text : (ds : Documents) → spell_documents ds [] ≡ spell_gap (first_of ds).gap (spell_root (first_of ds).root (trail_text (trail_of ds)))
-documents_text (last_document d behind) = refl
+documents_text (last_document d after) = refl
 documents_text (document d g ds) = refl
 
 first_gap : (ds : Documents) → AreDocuments ds → IsGap (first_of ds).gap
-first_gap (last_document d behind) are = are.0
+first_gap (last_document d after) are = are.0
 first_gap (document d g ds) are = are.0
 
 first_root : (ds : Documents) → AreDocuments ds → IsRoot (first_of ds).root
-first_root (last_document d behind) are = are.1
+first_root (last_document d after) are = are.1
 first_root (document d g ds) are = are.1
 
 -- the documents, from the first root on
 documents_run : (a : List ℕ) (ds : Documents) (want : List Tok → List Tok) → AreDocuments ds
     → Before (start a) (body_of (first_of ds).root (trail_text (trail_of ds))) (column_of (first_of ds).root) 0 [] true want → HasToks a (want (documents_tokens ds))
-documents_run a (last_document d behind) want are u =
-    all_tokens a behind (λ o. want (root_tokens d.root o)) (root_runs d.root (end behind) (start a) want are.1 (ends_text d.root behind are.2) u)
+documents_run a (last_document d after) want are u =
+    all_tokens a after (λ o. want (root_tokens d.root o)) (root_runs d.root (end after) (start a) want are.1 (ends_text d.root after are.2) u)
 documents_run a (document d g ds) want are u =
     let r = spell_documents ds [] in
     let later = root_runs d.root (marker g r) (start a) want are.1 (ends_before_marker d.root g r are.2) u in

@@ -12,7 +12,7 @@ use Rattle.defs_layout.specs.BlockLines.{Line, spell_lines}
 use Rattle.defs_layout.specs.Anchored.{Anchor, begun, is_name}
 use Rattle.defs_layout.specs.Json
 use Rattle.defs_layout.specs.Json.{Json}
-use Rattle.defs_layout.specs.Layout.{Scalar, plain, quoted, single_quoted, Inline, scalar, empty_array, empty_hash, Comment, no_comment, Block, array, hash, Value, literal, folded, json, compact, at_key, anchored, alias, Entries, last_entry, entry, Field, implicit, explicit, Fields, last_field, field, doubled, spell_scalar, spell_inline, spell_comment, spell_literal, folded_header, spell_block, spell_value, spell_entries, spell_field, spell_fields, anchors_behind, anchors_behind_field, IsScalar, IsInline, IsComment, IsJsonCollection, IsJsonOnOneLine, AreLinesOf, IsImplicitKey, IsExplicitKey, MayFollowScalarKey, MayFollowMark, MayBeAnchored, IsBlock, IsValue, AreEntries, IsField, AreFields}
+use Rattle.defs_layout.specs.Layout.{Scalar, plain, quoted, single_quoted, Inline, scalar, empty_array, empty_hash, Comment, no_comment, Block, array, hash, Value, literal, folded, json, compact, at_key, anchored, alias, Entries, last_entry, entry, Field, implicit, explicit, Fields, last_field, field, doubled, spell_scalar, spell_inline, spell_comment, spell_literal, folded_header, spell_block, spell_value, spell_entries, spell_field, spell_fields, anchors_after, anchors_after_field, IsScalar, IsInline, IsComment, IsJsonCollection, IsJsonOnOneLine, AreLinesOf, IsImplicitKey, IsExplicitKey, MayFollowScalarKey, MayFollowMark, MayBeAnchored, IsBlock, IsValue, AreEntries, IsField, AreFields}
 use Rattle.defs_layout.specs.Layout as layout
 use Rattle.defs_layout.specs.LayoutTokens.{scalar_token, inline_tokens, block_tokens, value_tokens, entry_tokens, field_tokens, all_field_tokens}
 use Rattle.model_scanner.specs.declared.level.Indent.{Indent}
@@ -35,24 +35,24 @@ use Rattle.proof_layout_tokens.proofs.Anchors.{named, no_name, ahead_beside, mar
 -- ---- a value's text: what stands before it, and what it begins with
 
 abbrev way_of : (c : ℕ) → Value → Way
-way_of c (layout.beside more v behind) = beside more
+way_of c (layout.beside more v after) = beside more
 way_of c (literal more column text ls) = beside more
 way_of c (folded more column strips text ls) = beside more
 way_of c (json more v) = beside more
 way_of c (compact more b) = beside more
-way_of c (layout.below behind g column b) = below behind g column
-way_of c (at_key behind g es) = below behind g c
+way_of c (layout.below after g column b) = below after g column
+way_of c (at_key after g es) = below after g c
 way_of c (anchored more name v) = beside more
 way_of c (alias more name t) = beside more
 
 abbrev body_of : (c : ℕ) → Value → List ℕ → List ℕ
-body_of c (layout.beside more v behind) r = spell_inline v (spell_comment behind r)
+body_of c (layout.beside more v after) r = spell_inline v (spell_comment after r)
 body_of c (literal more column text ls) r = spell_literal column text ls r
 body_of c (folded more column strips text ls) r = folded_header strips ++ spell_lines column ls r
 body_of c (json more v) r = Json.spell v r
 body_of c (compact more b) r = spell_block (c + 2 + more) b r
-body_of c (layout.below behind g column b) r = spell_block column b r
-body_of c (at_key behind g es) r = spell_entries c es r
+body_of c (layout.below after g column b) r = spell_block column b r
+body_of c (at_key after g es) r = spell_entries c es r
 body_of c (anchored more name v) r = 38 ∷ (name ++ spell_value c v r)
 body_of c (alias more name t) r = 42 ∷ (name ++ r)
 
@@ -60,24 +60,24 @@ below_text : (k : Comment) (column : ℕ) (g : List GapLine) (r : List ℕ) → 
 below_text k column g r = ap (spell_comment k) (next_line_is column g r) ∙ comment_is k (line_feed ∷ gap_white g (blanks column)) r
 
 value_text : (c : ℕ) (v : Value) (r : List ℕ) → spell_value c v r ≡ spell_white (way_white (way_of c v)) (body_of c v r)
-value_text c (layout.beside more v behind) r = ap (λ a. 32 ∷ a) (spaces_are more (spell_inline v (spell_comment behind r)))
+value_text c (layout.beside more v after) r = ap (λ a. 32 ∷ a) (spaces_are more (spell_inline v (spell_comment after r)))
 value_text c (literal more column text ls) r = ap (λ a. 32 ∷ a) (spaces_are more (spell_literal column text ls r))
 value_text c (folded more column strips text ls) r = ap (λ a. 32 ∷ a) (spaces_are more (folded_header strips ++ spell_lines column ls r))
 value_text c (json more v) r = ap (λ a. 32 ∷ a) (spaces_are more (Json.spell v r))
 value_text c (compact more b) r = ap (λ a. 32 ∷ a) (spaces_are more (spell_block (c + 2 + more) b r))
-value_text c (layout.below behind g column b) r = below_text behind column g (spell_block column b r)
-value_text c (at_key behind g es) r = below_text behind c g (spell_entries c es r)
+value_text c (layout.below after g column b) r = below_text after column g (spell_block column b r)
+value_text c (at_key after g es) r = below_text after c g (spell_entries c es r)
 value_text c (anchored more name v) r = ap (λ a. 32 ∷ a) (spaces_are more (38 ∷ (name ++ spell_value c v r)))
 value_text c (alias more name t) r = ap (λ a. 32 ∷ a) (spaces_are more (42 ∷ (name ++ r)))
 
 is_way : (c : ℕ) (a : List Anchor) (v : Value) → MayFollowMark v → IsValue c a v → IsWay c (way_of c v)
-is_way c a (layout.beside more v behind) m h = tt
+is_way c a (layout.beside more v after) m h = tt
 is_way c a (literal more column text ls) m h = tt
 is_way c a (folded more column strips text ls) m h = tt
 is_way c a (json more v) m h = tt
 is_way c a (compact more b) m h = tt
-is_way c a (layout.below behind g column b) m h = (h.2, h.0, h.1)
-is_way c a (at_key behind g es) m h = absurd m
+is_way c a (layout.below after g column b) m h = (h.2, h.0, h.1)
+is_way c a (at_key after g es) m h = absurd m
 is_way c a (anchored more name v) m h = tt
 is_way c a (alias more name t) m h = tt
 
@@ -133,13 +133,13 @@ block_solid c a (array es) r h = entries_solid c es r
 block_solid c a (hash fs) r h = fields_solid c a fs r h.0
 
 body_solid : (c : ℕ) (a : List Anchor) (v : Value) (r : List ℕ) → IsValue c a v → is_solid (body_of c v r) ≡ true
-body_solid c a (layout.beside more v behind) r h = inline_solid v (spell_comment behind r) h.0
+body_solid c a (layout.beside more v after) r h = inline_solid v (spell_comment after r) h.0
 body_solid c a (literal more column text ls) r h = literal_solid column text ls r
 body_solid c a (folded more column strips text ls) r h = folded_solid strips (spell_lines column ls r)
 body_solid c a (json more v) r h = json_solid v r h.0
 body_solid c a (compact more b) r h = block_solid (c + 2 + more) a b r h
-body_solid c a (layout.below behind g column b) r h = block_solid column a b r h.3
-body_solid c a (at_key behind g es) r h = entries_solid c es r
+body_solid c a (layout.below after g column b) r h = block_solid column a b r h.3
+body_solid c a (at_key after g es) r h = entries_solid c es r
 body_solid c a (anchored more name v) r h = refl
 body_solid c a (alias more name t) r h = refl
 
@@ -148,7 +148,7 @@ body_solid c a (alias more name t) r h = refl
 -- where a block stands it begins on its column, and a key may begin there
 abbrev Fits : (c m : ℕ) → Bool → Value → Type 0
 Fits c m allowed (compact more b) = (m ≡ c) × (allowed ≡ true)
-Fits c m allowed (layout.below behind g column b) = allowed ≡ true
+Fits c m allowed (layout.below after g column b) = allowed ≡ true
 Fits c m allowed _ = Unit {0}
 
 abbrev RunsValue : ℕ → Value → Type 0
@@ -187,8 +187,8 @@ inline_after (scalar s) k t from col b i is allowed want h line trail low deep s
 inline_after empty_array k t from col b i is allowed want h line trail low deep shut u = json_after (Json.empty_array []) k t from col b i is allowed want tt tt (omega arith) tt line trail low deep shut u
 inline_after empty_hash k t from col b i is allowed want h line trail low deep shut u = json_after (Json.empty_object []) k t from col b i is allowed want tt tt (omega arith) tt line trail low deep shut u
 
-beside_runs : (c more : ℕ) (v : Inline) (behind : Comment) → IsInline v → IsComment behind → RunsValue c (layout.beside more v behind)
-beside_runs c more v behind h line from t m i is allowed want trail low deep fits u = inline_after v behind t from (m + 2 + more) u.is_open (c + 1) (level i true ∷ is) allowed want h line trail low deep refl u.before
+beside_runs : (c more : ℕ) (v : Inline) (after : Comment) → IsInline v → IsComment after → RunsValue c (layout.beside more v after)
+beside_runs c more v after h line from t m i is allowed want trail low deep fits u = inline_after v after t from (m + 2 + more) u.is_open (c + 1) (level i true ∷ is) allowed want h line trail low deep refl u.before
 
 literal_runs : (c more column : ℕ) (a : List Anchor) (text : List ℕ) (ls : List Line) → IsValue c a (literal more column text ls) → RunsValue c (literal more column text ls)
 literal_runs c more column a text ls h from t m i is allowed want trail low deep fits u =
@@ -206,15 +206,15 @@ compact_runs c more b run from t m i is allowed want trail low deep fits u =
     let v = rw (fits.0) at rw (fits.1) at u.before in
     run from t (c + 1) (level i true ∷ is) u.is_open want trail low (omega arith) refl v
 
-below_runs : (c : ℕ) (behind : Comment) (g : List GapLine) (column : ℕ) (b : Block) → RunsBlock column b → RunsValue c (layout.below behind g column b)
-below_runs c behind g column b run from t m i is allowed want trail low deep fits u =
+below_runs : (c : ℕ) (after : Comment) (g : List GapLine) (column : ℕ) (b : Block) → RunsBlock column b → RunsValue c (layout.below after g column b)
+below_runs c after g column b run from t m i is allowed want trail low deep fits u =
     let v = rw fits at u.before in
     run from t (c + 1) (level i true ∷ is) u.is_open want trail low deep refl v
 
 alias_runs : (c more : ℕ) (name : List ℕ) (tree : Tree) → is_name name ≡ true → RunsValue c (alias more name tree)
 alias_runs c more name tree h from t m i is allowed want trail low deep fits u = alias_after t from name (m + 2 + more) u.is_open (c + 1) (level i true ∷ is) allowed want h trail low deep u.before
 
--- behind an anchor
+-- after an anchor
 anchored_scalar_runs : (c more : ℕ) (name : List ℕ) (n : ℕ) (s : Scalar) (k : Comment) → is_name name ≡ true → IsScalar s → IsComment k → RunsValue c (anchored more name (layout.beside n (scalar s) k))
 anchored_scalar_runs c more name n s k name_is h line from t m i is allowed want trail low deep fits u =
     let y = spell_scalar s (spell_comment k (trail_text t)) in
@@ -245,27 +245,27 @@ anchored_below_runs c more a name k g column b name_is line gap higher block_is 
     below_runs c k g column b run from t m i is true (λ o. want (Tok.anchor name ∷ o)) trail low (omega (arith, higher)) refl
     (marked_below name from k g column y u.is_open c i is want line gap higher (block_solid column a b (trail_text t) block_is) z)
 
--- behind a mark on its line, or below it
+-- after a mark on its line, or below it
 fits_mark : (c : ℕ) (v : Value) → Fits c c true v
-fits_mark c (layout.beside more v behind) = tt
+fits_mark c (layout.beside more v after) = tt
 fits_mark c (literal more column text ls) = tt
 fits_mark c (folded more column strips text ls) = tt
 fits_mark c (json more v) = tt
 fits_mark c (compact more b) = (refl, refl)
-fits_mark c (layout.below behind g column b) = refl
-fits_mark c (at_key behind g es) = tt
+fits_mark c (layout.below after g column b) = refl
+fits_mark c (at_key after g es) = tt
 fits_mark c (anchored more name v) = tt
 fits_mark c (alias more name t) = tt
 
--- behind the `:` of a scalar key
+-- after the `:` of a scalar key
 fits_colon : (c m : ℕ) (v : Value) → MayFollowScalarKey v → Fits c m (allowed_beyond (way_white (way_of c v)) false) v
-fits_colon c m (layout.beside more v behind) h = tt
+fits_colon c m (layout.beside more v after) h = tt
 fits_colon c m (literal more column text ls) h = tt
 fits_colon c m (folded more column strips text ls) h = tt
 fits_colon c m (json more v) h = tt
 fits_colon c m (compact more b) h = absurd h
-fits_colon c m (layout.below behind g column b) h = allowed_comment behind (line_feed ∷ gap_white g (blanks column)) false ∙ gap_allows g column
-fits_colon c m (at_key behind g es) h = tt
+fits_colon c m (layout.below after g column b) h = allowed_comment after (line_feed ∷ gap_white g (blanks column)) false ∙ gap_allows g column
+fits_colon c m (at_key after g es) h = tt
 fits_colon c m (anchored more name v) h = tt
 fits_colon c m (alias more name t) h = tt
 
@@ -308,21 +308,21 @@ implicit_runs c a k v may h one from t s i is want trail low deep shut u =
     one from t z.at i is _ _ trail low z.deep (fits_colon c z.at v h.1) z.marked
 
 -- the value is an array at the key's column: the entries of the hash's own level
-at_key_runs : (c : ℕ) (a : List Anchor) (k : Scalar) (behind : Comment) (g : List GapLine) (es : Entries) → IsField c a (implicit k (at_key behind g es)) → RunsEntries c es → RunsField c (implicit k (at_key behind g es))
-at_key_runs c a k behind g es h all from t s i is want trail low deep shut u =
+at_key_runs : (c : ℕ) (a : List Anchor) (k : Scalar) (after : Comment) (g : List GapLine) (es : Entries) → IsField c a (implicit k (at_key after g es)) → RunsEntries c es → RunsField c (implicit k (at_key after g es))
+at_key_runs c a k after g es h all from t s i is want trail low deep shut u =
     let y = spell_entries c es (trail_text t) in
-    let taken = key_taken c k (below behind g c) y from s i is want h.0 deep shut (rw (below_text behind c g y) at u) in
-    all from t later i is _ trail low deep shut (at_entry from behind g y c i is _ h.2.0 h.2.1 (entries_solid c es (trail_text t)) taken)
+    let taken = key_taken c k (below after g c) y from s i is want h.0 deep shut (rw (below_text after c g y) at u) in
+    all from t later i is _ trail low deep shut (at_entry from after g y c i is _ h.2.0 h.2.1 (entries_solid c es (trail_text t)) taken)
 
--- a key behind `?` is no array at its mark's column
+-- a key after `?` is no array at its mark's column
 explicit_follows : (k : Value) → IsExplicitKey k → MayFollowMark k
-explicit_follows (at_key behind g es) h = h
-explicit_follows (layout.beside more i behind) h = tt
+explicit_follows (at_key after g es) h = h
+explicit_follows (layout.beside more i after) h = tt
 explicit_follows (literal more column text ls) h = tt
 explicit_follows (folded more column strips text ls) h = tt
 explicit_follows (json more v) h = tt
 explicit_follows (compact more b) h = tt
-explicit_follows (layout.below behind g column b) h = tt
+explicit_follows (layout.below after g column b) h = tt
 explicit_follows (anchored more name v) h = tt
 explicit_follows (alias more name t) h = tt
 
@@ -334,17 +334,17 @@ explicit_runs c a k g v h first_one one from t s i is want trail low deep shut u
     let y = question_run from (way_of c k) (body_of c k (trail_text n)) s c i is want deep shut way (body_solid c a k (trail_text n) h.1) (rw (value_text c k (trail_text n)) at u) in
     let z = first_one from n c i is true _ (h.2, refl) (omega arith) (way_deep (way_of c k) c way) (fits_mark c k) y in
     let x = before_next from g c i is r _ z in
-    let path = is_way c (anchors_behind k a) v h.3 h.4 in
-    let w = colon_run from (way_of c v) (body_of c v (trail_text t)) c i is _ deep shut path (body_solid c (anchors_behind k a) v (trail_text t) h.4) (rw (value_text c v (trail_text t)) at x) in
+    let path = is_way c (anchors_after k a) v h.3 h.4 in
+    let w = colon_run from (way_of c v) (body_of c v (trail_text t)) c i is _ deep shut path (body_solid c (anchors_after k a) v (trail_text t) h.4) (rw (value_text c v (trail_text t)) at x) in
     one from t c i is true _ trail low (way_deep (way_of c v) c path) (fits_mark c v) w
 
 last_field_runs : (c : ℕ) (f : Field) → RunsField c f → RunsFields c (last_field f)
 last_field_runs c f one = one
 
-field_runs : (c : ℕ) (a : List Anchor) (f : Field) (g : List GapLine) (fs : Fields) → IsGap g → AreFields c (anchors_behind_field f a) fs → RunsField c f → RunsFields c fs → RunsFields c (field f g fs)
+field_runs : (c : ℕ) (a : List Anchor) (f : Field) (g : List GapLine) (fs : Fields) → IsGap g → AreFields c (anchors_after_field f a) fs → RunsField c f → RunsFields c fs → RunsFields c (field f g fs)
 field_runs c a f g fs gap are one more from t s i is want trail low deep shut u =
     let n = next g c (spell_fields c fs (trail_text t)) in
-    let z = one from n s i is want (gap, fields_solid c (anchors_behind_field f a) fs (trail_text t) are) (omega arith) deep shut u in
+    let z = one from n s i is want (gap, fields_solid c (anchors_after_field f a) fs (trail_text t) are) (omega arith) deep shut u in
     more from t later i is _ trail low deep shut (before_next from g c i is (spell_fields c fs (trail_text t)) _ z)
 
 -- ---- blocks
@@ -363,13 +363,13 @@ mutual
   block_runs c a (hash fs) h = hash_runs c fs (fields_run c a fs h.0)
 
   value_runs : (c : ℕ) (a : List Anchor) (v : Value) → MayFollowMark v → IsValue c a v → RunsValue c v
-  value_runs c a (layout.beside more v behind) may h = beside_runs c more v behind h.0 h.1
+  value_runs c a (layout.beside more v after) may h = beside_runs c more v after h.0 h.1
   value_runs c a (literal more column text ls) may h = literal_runs c more column a text ls h
   value_runs c a (folded more column strips text ls) may h = folded_runs c more column a strips text ls h
   value_runs c a (json more v) may h = json_runs c more v h
   value_runs c a (compact more b) may h = compact_runs c more b (block_runs (c + 2 + more) a b h)
-  value_runs c a (layout.below behind g column b) may h = below_runs c behind g column b (block_runs column a b h.3)
-  value_runs c a (at_key behind g es) may h = absurd may
+  value_runs c a (layout.below after g column b) may h = below_runs c after g column b (block_runs column a b h.3)
+  value_runs c a (at_key after g es) may h = absurd may
   value_runs c a (anchored more name v) may h = anchored_runs c a more name v h.0 h.1 h.2
   value_runs c a (alias more name t) may h = alias_runs c more name t h.0
 
@@ -388,20 +388,20 @@ mutual
 
   entries_run : (c : ℕ) (a : List Anchor) (es : Entries) → AreEntries c a es → RunsEntries c es
   entries_run c a (last_entry v) h = last_entry_runs c a v h.0 h.1 (value_runs c a v h.0 h.1)
-  entries_run c a (entry v g es) h = entry_runs c v g es h.2 (last_entry_runs c a v h.0 h.1 (value_runs c a v h.0 h.1)) (entries_run c (anchors_behind v a) es h.3)
+  entries_run c a (entry v g es) h = entry_runs c v g es h.2 (last_entry_runs c a v h.0 h.1 (value_runs c a v h.0 h.1)) (entries_run c (anchors_after v a) es h.3)
 
   field_run : (c : ℕ) (a : List Anchor) (f : Field) → IsField c a f → RunsField c f
-  field_run c a (implicit k (at_key behind g es)) h = at_key_runs c a k behind g es h (entries_run c a es h.2.2)
-  field_run c a (implicit k (layout.beside more v behind)) h = implicit_runs c a k (layout.beside more v behind) tt h (beside_runs c more v behind h.2.0 h.2.1)
+  field_run c a (implicit k (at_key after g es)) h = at_key_runs c a k after g es h (entries_run c a es h.2.2)
+  field_run c a (implicit k (layout.beside more v after)) h = implicit_runs c a k (layout.beside more v after) tt h (beside_runs c more v after h.2.0 h.2.1)
   field_run c a (implicit k (literal more column text ls)) h = implicit_runs c a k (literal more column text ls) tt h (literal_runs c more column a text ls h.2)
   field_run c a (implicit k (folded more column strips text ls)) h = implicit_runs c a k (folded more column strips text ls) tt h (folded_runs c more column a strips text ls h.2)
   field_run c a (implicit k (json more v)) h = implicit_runs c a k (json more v) tt h (json_runs c more v h.2)
   field_run c a (implicit k (compact more b)) h = absurd (h.1)
-  field_run c a (implicit k (layout.below behind g column b)) h = implicit_runs c a k (layout.below behind g column b) tt h (below_runs c behind g column b (block_runs column a b h.2.3))
+  field_run c a (implicit k (layout.below after g column b)) h = implicit_runs c a k (layout.below after g column b) tt h (below_runs c after g column b (block_runs column a b h.2.3))
   field_run c a (implicit k (anchored more name v)) h = implicit_runs c a k (anchored more name v) tt h (anchored_runs c a more name v h.2.0 h.2.1 h.2.2)
   field_run c a (implicit k (alias more name t)) h = implicit_runs c a k (alias more name t) tt h (alias_runs c more name t h.2.0)
-  field_run c a (explicit k g v) h = explicit_runs c a k g v h (value_runs c a k (explicit_follows k h.0) h.1) (value_runs c (anchors_behind k a) v h.3 h.4)
+  field_run c a (explicit k g v) h = explicit_runs c a k g v h (value_runs c a k (explicit_follows k h.0) h.1) (value_runs c (anchors_after k a) v h.3 h.4)
 
   fields_run : (c : ℕ) (a : List Anchor) (fs : Fields) → AreFields c a fs → RunsFields c fs
   fields_run c a (last_field f) h = last_field_runs c f (field_run c a f h)
-  fields_run c a (field f g fs) h = field_runs c a f g fs h.1 h.2 (field_run c a f h.0) (fields_run c (anchors_behind_field f a) fs h.2)
+  fields_run c a (field f g fs) h = field_runs c a f g fs h.1 h.2 (field_run c a f h.0) (fields_run c (anchors_after_field f a) fs h.2)

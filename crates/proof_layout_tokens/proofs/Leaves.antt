@@ -15,7 +15,7 @@ use Rattle.model_scanner.specs.Keys.{still, is_required, is_far, save_simple_key
 use Rattle.model_scanner.specs.Indents.{unroll_non_block_indents, without_open}
 use Rattle.model_scanner.specs.Space.{skip_spaces}
 use Rattle.model_lexers.specs.Quoted.{quote_of}
-use Rattle.model_scanner.specs.Document.{quoted_style, may_follow_quoted, check_behind_quoted, fetch_flow_scalar, fetch_plain_scalar}
+use Rattle.model_scanner.specs.Document.{quoted_style, may_follow_quoted, check_after_quoted, fetch_flow_scalar, fetch_plain_scalar}
 use Rattle.model_scanner.specs.Fetch.{fetch_here, token_by, comes_marker}
 use Rattle.proof_layout_tokens.proofs.LayoutStates.{Parts, stands, is_solid, Opens, opened, opened_indent, IsClosed, Trail, next, marker, end, marker_text, trail_text, rest_of, limit_of, IsTrail, Before, After}
 use Rattle.defs_layout.specs.Gap.{IsLineText}
@@ -25,7 +25,7 @@ use Rattle.proof_layout_tokens.proofs.Whites.{White, line_feed, remark, spell_wh
 use Rattle.proof_lexers.specs.HeaderEnds.{along}
 use Rattle.proof_lexers.proofs.Along.{along_line}
 use Rattle.proof_layout_tokens.proofs.Levels
-use Rattle.proof_layout_tokens.proofs.Joins.{trail_white, trail_is, trail_are_white, trail_ends_line, trail_stops, gap_col, Lies, Allows, leaf_after, IsLoose, saved_behind, Ahead, ahead, fetched_ahead, left_open}
+use Rattle.proof_layout_tokens.proofs.Joins.{trail_white, trail_is, trail_are_white, trail_ends_line, trail_stops, gap_col, Lies, Allows, leaf_after, IsLoose, saved_after, Ahead, ahead, fetched_ahead, left_open}
 use Rattle.proof_layout_tokens.proofs.Json.Levels.{low_enough}
 use Rattle.proof_layout_tokens.proofs.Plains.{are_plain, closes, IsLeft, plain_line, plain_comment, plain_end}
 use Rattle.proof_layout_tokens.proofs.PlainTexts.{IsPlainText, is_first, is_second, at_end, at_break, at_space, plain_opens, plain_by, first_space}
@@ -54,7 +54,7 @@ pub marker_stands : (r : List ℕ) → at_marker 0 (marker_text r) ≡ true
 unfolding at_marker is_marker is_break is_blank
 marker_stands r = refl
 
--- What comes behind a leaf stands left of its levels, or is a document's marker.
+-- What comes after a leaf stands left of its levels, or is a document's marker.
 is_left : (t : Trail) (i : ℕ) (start : Position) (g : List White) (p : Position) → limit_of t ≤ i → trail_white t ≡ line_feed ∷ g → (e : Position) → p ≡ beyond (trail_white t) e → IsLeft i start (rest_of t) p.col
 is_left (next g d []) i start w p low is e at = tt
 is_left (next g d (c ∷ a)) i start w p low is e at = let col : p.col ≡ d = ap (λ x. x.col) at ∙ gap_col g d (past_break e) refl in inl (lt-ltb p.col i (omega (arith, col, low)))
@@ -63,7 +63,7 @@ is_left (end g) i start w p low is e at = tt
 
 -- ---- a plain scalar
 
--- behind a plain scalar
+-- after a plain scalar
 abbrev plain_parts : Parts → (c : ℕ) → (w : List ℕ) → Position → Option Key → Bool → Parts
 plain_parts p c w place key leading = record { place = place; tokens = p.tokens ++ token p.place (Tok.scalar Style.plain (c ∷ w)) ∷ []; key = key; allowed = leading; leading = leading; adjacent = p.adjacent }
 
@@ -95,7 +95,7 @@ plain_line_at : (t : Trail) (c : ℕ) (w : List ℕ) (g : List White) (r : List 
 unfolding fetch_plain_scalar
 plain_line_at t c w g r b i is p chars close solid deep shut free are low =
     let x = c ∷ (w ++ 10 ∷ spell_white g r) in
-    let k = saved_behind x b i is p deep free in
+    let k = saved_after x b i is p deep free in
     let q = record p { key = k.key; allowed = false } in
     let z = plain_line i p.place c w g r chars close (omega (arith, deep)) solid are low in
     record {
@@ -116,7 +116,7 @@ plain_end_at : (c : ℕ) (w : List ℕ) (b : Bool) (i : ℕ) (is : List Indent) 
 unfolding fetch_plain_scalar
 plain_end_at c w b i is p chars close solid deep shut free =
     let x = c ∷ (w ++ []) in
-    let k = saved_behind x b i is p deep free in
+    let k = saved_after x b i is p deep free in
     let q = record p { key = k.key; allowed = false } in
     let z = plain_end i p.place c w chars close (omega (arith, deep)) solid in
     record {
@@ -140,7 +140,7 @@ plain_comment_at t c v more text b i is p chars close solid deep shut free are =
     let w = trail_white t in
     let r = rest_of t in
     let x = c ∷ (v ++ spell_white (comment_white (comment more text) w) r) in
-    let k = saved_behind x b i is p deep free in
+    let k = saved_after x b i is p deep free in
     let q = record p { key = k.key; allowed = false } in
     let z = plain_comment i p.place c v more text w r chars close (omega (arith, deep)) solid in
     record {
@@ -228,15 +228,15 @@ plain_by_comment : (k : Comment) (t : Trail) (from : State) (c : ℕ) (w : List 
 plain_by_comment no_comment t from c w col b i is want line trail low first second chars close deep shut u = plain_by_trail t from c w col b i is want trail low first second chars close deep shut u
 plain_by_comment (comment more text) t from c w col b i is want line trail low first second chars close deep shut u = plain_before_comment more text t from c w col b i is want line trail first second chars close deep shut u
 
--- what stands behind a leaf
-pub behind_is : (k : Comment) (t : Trail) → spell_comment k (trail_text t) ≡ spell_white (comment_white k (trail_white t)) (rest_of t)
-behind_is k t = ap (spell_comment k) (trail_is t) ∙ comment_is k (trail_white t) (rest_of t)
+-- what stands after a leaf
+pub after_is : (k : Comment) (t : Trail) → spell_comment k (trail_text t) ≡ spell_white (comment_white k (trail_white t)) (rest_of t)
+after_is k t = ap (spell_comment k) (trail_is t) ∙ comment_is k (trail_white t) (rest_of t)
 
 -- a plain scalar that is a value
 pub plain_after : (k : Comment) (t : Trail) (from : State) (w : List ℕ) (col : ℕ) (b : Bool) (i : ℕ) (is : List Indent) (want : List Tok → List Tok) → IsComment k → IsTrail t → limit_of t ≤ i → IsPlainText w → i ≤ col → IsClosed i is
     → Ahead from (w ++ spell_comment k (trail_text t)) col (opened_indent b i) (opened b i is) want → After from t i is (λ o. want (Tok.scalar Style.plain w ∷ o))
 plain_after k t from w col b i is want line trail low text deep shut u =
-    let v : Ahead from (text.head ∷ (text.tail ++ spell_white (comment_white k (trail_white t)) (rest_of t))) col (opened_indent b i) (opened b i is) want = rw (text.whole, behind_is k t) at u in
+    let v : Ahead from (text.head ∷ (text.tail ++ spell_white (comment_white k (trail_white t)) (rest_of t))) col (opened_indent b i) (opened b i is) want = rw (text.whole, after_is k t) at u in
     rw (text.whole) (plain_by_comment k t from text.head text.tail col b i is want line trail low text.first text.second text.chars text.close deep shut v)
 
 -- ---- a text in quotes
@@ -258,11 +258,11 @@ follows (marker g r) same_line = refl
 follows (end []) same_line = refl
 follows (end (l ∷ g)) same_line = refl
 
--- behind a text in quotes
+-- after a text in quotes
 abbrev pub quoted_parts : Bool → Parts → (w : List ℕ) → Position → Option Key → Bool → Bool → Parts
 quoted_parts single p w place key allowed leading = record { place = place; tokens = p.tokens ++ token p.place (Tok.scalar (quoted_style single) w) ∷ []; key = key; allowed = allowed; leading = leading; adjacent = place.index }
 
--- no quote stands behind it
+-- no quote stands after it
 no_quote : (k : Comment) (t : Trail) → (slice_index (spell_white (comment_white k (trail_white t)) (rest_of t)) 0 == 39) ≡ false
 no_quote no_comment (next g d r) = refl
 no_quote no_comment (marker g r) = refl
@@ -278,7 +278,7 @@ module _ (single : Bool) (body w : List ℕ) (is_quoted : IsQuoted single body w
       → save_simple_key ((stands (whole ++ spell_white (comment_white n (trail_white t)) (rest_of t)) (opened_indent b i) (opened b i is) p).held) ≡ (stands (whole ++ spell_white (comment_white n (trail_white t)) (rest_of t)) (opened_indent b i) (opened b i is) (record p { key = k })).held
       → fetch_flow_scalar single (stands (whole ++ spell_white (comment_white n (trail_white t)) (rest_of t)) (opened_indent b i) (opened b i is) p)
       ≡ Ok (stands (rest_of t) (opened_indent b i) (opened b i is) (quoted_parts single p w (beyond (trail_white t) (comment_place n (along whole p.place))) k (allowed_beyond (trail_white t) false) (leading_beyond (trail_white t) false)))
-  unfolding fetch_flow_scalar check_behind_quoted
+  unfolding fetch_flow_scalar check_after_quoted
   quoted_at n t b i is p k line trail deep saves =
       let at = along whole p.place in
       let q : Parts = record p { key = k; allowed = false; place = at; leading = false } in
@@ -312,11 +312,11 @@ quoted_after single body w is_quoted n t from col b i is want line trail low dee
     let white = spell_white (comment_white n (trail_white t)) (rest_of t) in
     let x = quote_of single ∷ (body ++ white) in
     let tok = Tok.scalar (quoted_style single) w in
-    let u : Ahead from x col (opened_indent b i) (opened b i is) want = rw (behind_is n t) at v in
+    let u : Ahead from x col (opened_indent b i) (opened b i is) want = rw (after_is n t) at v in
     let p = u.parts in
     let column = u.column in
     let inside : i ≤ p.place.col = omega (arith, deep, column) in
-    let k = saved_behind x b i is p inside u.loose in
+    let k = saved_after x b i is p inside u.loose in
     let at = comment_place n (along (quote_of single ∷ body) p.place) in
     let q = quoted_parts single p w (beyond (trail_white t) at) k.key (allowed_beyond (trail_white t) false) (leading_beyond (trail_white t) false) in
     let e = value_ahead from (quote_of single) (body ++ white) col b i is want u deep (quote_opens single (body ++ white)) ∙ by_quote single (stands x (opened_indent b i) (opened b i is) p) ∙ quoted_at single body w is_quoted n t b i is p k.key line trail inside k.now in

@@ -27,7 +27,7 @@ last_pushed (u ∷ v ∷ ts) t = last_pushed (v ∷ ts) t
 
 -- ---- unrolling
 
--- the levels that stay, and the ends of the others behind the tokens
+-- the levels that stay, and the ends of the others after the tokens
 pub record Unrolled (limit : ℕ) (p : Position) (i : ℕ) (is : List Indent) (ts : List Token) : Type 0 where
   pub tokens : List Token
   pub now : unrolled limit p i is ts ≡ record { indent = (left limit i is).indent; indents = (left limit i is).indents; tokens = tokens }

@@ -12,7 +12,7 @@ use Rattle.defs_tree.specs.Literal.{is_literal, is_root_literal, is_literal_char
 use Rattle.defs_tree.specs.Literal as literal_defs
 use Rattle.defs_tree.proofs.LinesLaws.{lines_of-ended}
 use Rattle.defs_text.specs.Classes.{are_marks, is_blank, is_break, is_nul, is_blank_or_end, is_document_marker}
-use Rattle.defs_scalar.specs.BlockScalar.{BlockStyle, Row, empty_row, content_row, rows_of, starts_with_tab, has_content, breaks, text_behind, text_of, value_before_text}
+use Rattle.defs_scalar.specs.BlockScalar.{BlockStyle, Row, empty_row, content_row, rows_of, starts_with_tab, has_content, breaks, text_after, text_of, value_before_text}
 use Rattle.defs_layout.specs.Gap.{IsLineText, is_line_character}
 use Rattle.defs_layout.specs.BlockLines.{Line, full, blank, content, contents, AreLines}
 use Rattle.defs_layout.specs.Layout.{indented_lines, BeginsWithText, EndsInText, AreLineTexts, AreLinesOf}
@@ -148,23 +148,23 @@ content_last (full w ∷ ls) h = refl
 content_last (blank n ∷ []) h = absurd h
 content_last (blank n ∷ m ∷ ls) h = content_last (m ∷ ls) h
 
--- the text behind a first line
-abbrev behind : List Line → List ℕ
-behind [] = []
-behind (l ∷ ls) = 10 ∷ (content l ++ behind ls)
+-- the text after a first line
+abbrev after : List Line → List ℕ
+after [] = []
+after (l ∷ ls) = 10 ∷ (content l ++ after ls)
 
 one_break : (k : ℕ) (r : List ℕ) → breaks (suc k) ++ r ≡ breaks k ++ 10 ∷ r
 one_break zero r = refl
 one_break (suc k) r = ap (λ x. 10 ∷ x) (one_break k r)
 
-text_from : (w : List ℕ) (k : ℕ) (ls : List Line) → EndsInText ls → text_behind BlockStyle.literal w k (rows ls) ≡ breaks k ++ behind ls
+text_from : (w : List ℕ) (k : ℕ) (ls : List Line) → EndsInText ls → text_after BlockStyle.literal w k (rows ls) ≡ breaks k ++ after ls
 text_from w k [] h = absurd h
 text_from w k (full v ∷ []) h = append_assoc (breaks (suc k)) v [] ∙ one_break k (v ++ [])
-text_from w k (full v ∷ m ∷ ls) h = append_assoc (breaks (suc k)) v (text_behind BlockStyle.literal v 0 (rows (m ∷ ls))) ∙ one_break k (v ++ text_behind BlockStyle.literal v 0 (rows (m ∷ ls))) ∙ ap (λ x. breaks k ++ 10 ∷ (v ++ x)) (text_from v 0 (m ∷ ls) h)
+text_from w k (full v ∷ m ∷ ls) h = append_assoc (breaks (suc k)) v (text_after BlockStyle.literal v 0 (rows (m ∷ ls))) ∙ one_break k (v ++ text_after BlockStyle.literal v 0 (rows (m ∷ ls))) ∙ ap (λ x. breaks k ++ 10 ∷ (v ++ x)) (text_from v 0 (m ∷ ls) h)
 text_from w k (blank n ∷ []) h = absurd h
-text_from w k (blank n ∷ m ∷ ls) h = text_from w (suc k) (m ∷ ls) h ∙ one_break k (behind (m ∷ ls))
+text_from w k (blank n ∷ m ∷ ls) h = text_from w (suc k) (m ∷ ls) h ∙ one_break k (after (m ∷ ls))
 
-text_is : (l : Line) (ls : List Line) → EndsInText (l ∷ ls) → text_of BlockStyle.literal (rows (l ∷ ls)) ≡ content l ++ behind ls
+text_is : (l : Line) (ls : List Line) → EndsInText (l ∷ ls) → text_of BlockStyle.literal (rows (l ∷ ls)) ≡ content l ++ after ls
 text_is (full w) [] h = refl
 text_is (full w) (m ∷ ls) h = ap (λ x. w ++ x) (text_from w 0 (m ∷ ls) h)
 text_is (blank n) [] h = absurd h
@@ -172,9 +172,9 @@ text_is (blank n) (m ∷ ls) h = ap (λ x. 10 ∷ x) (text_is m ls h)
 
 -- ---- the lines make the text
 
-lines_make : (l : Line) (ls : List Line) → (content l ++ behind ls) ++ 10 ∷ [] ≡ ended (contents (l ∷ ls))
+lines_make : (l : Line) (ls : List Line) → (content l ++ after ls) ++ 10 ∷ [] ≡ ended (contents (l ∷ ls))
 lines_make l [] = ap (λ t. t ++ 10 ∷ []) (append-nil (content l)) ∙ sym (append-nil (content l ++ 10 ∷ []))
-lines_make l (m ∷ ls) = append_assoc (content l) (10 ∷ (content m ++ behind ls)) (10 ∷ []) ∙ ap (λ t. content l ++ 10 ∷ t) (lines_make m ls) ∙ sym (append_assoc (content l) (10 ∷ []) (ended (contents (m ∷ ls))))
+lines_make l (m ∷ ls) = append_assoc (content l) (10 ∷ (content m ++ after ls)) (10 ∷ []) ∙ ap (λ t. content l ++ 10 ∷ t) (lines_make m ls) ∙ sym (append_assoc (content l) (10 ∷ []) (ended (contents (m ∷ ls))))
 
 -- whether a text lacks an LF at its end
 abbrev pub strips_of : List ℕ → Bool
@@ -184,19 +184,19 @@ strips_of text = not (ends_with nat_eq text (codes "\n"))
 abbrev last_feed : Bool → List ℕ
 last_feed clips = if clips then 10 ∷ [] else []
 
-make_text : (clips : Bool) (l : Line) (ls : List Line) (text : List ℕ) → contents (l ∷ ls) ≡ lines_of text → is_empty text ≡ false → ends_with nat_eq text (codes "\n") ≡ clips → (content l ++ behind ls) ++ last_feed clips ≡ text
+make_text : (clips : Bool) (l : Line) (ls : List Line) (text : List ℕ) → contents (l ∷ ls) ≡ lines_of text → is_empty text ≡ false → ends_with nat_eq text (codes "\n") ≡ clips → (content l ++ after ls) ++ last_feed clips ≡ text
 make_text true l ls text e some h = lines_make l ls ∙ ap ended e ∙ lines_of-ended text ∙ rw (some, h) refl
-make_text false l ls text e some h = append-nil (content l ++ behind ls) ∙ append_cancel_right (content l ++ behind ls) text (10 ∷ []) (lines_make l ls ∙ ap ended e ∙ lines_of-ended text ∙ rw (some, h) refl)
+make_text false l ls text e some h = append-nil (content l ++ after ls) ∙ append_cancel_right (content l ++ after ls) text (10 ∷ []) (lines_make l ls ∙ ap ended e ∙ lines_of-ended text ∙ rw (some, h) refl)
 
-value_is : (clips : Bool) (l : Line) (ls : List Line) → EndsInText (l ∷ ls) → value_before_text (header_by BlockStyle.literal (not clips)) (rows (l ∷ ls)) ≡ (content l ++ behind ls) ++ last_feed clips
+value_is : (clips : Bool) (l : Line) (ls : List Line) → EndsInText (l ∷ ls) → value_before_text (header_by BlockStyle.literal (not clips)) (rows (l ∷ ls)) ≡ (content l ++ after ls) ++ last_feed clips
 value_is true l ls h = rw (content_last (l ∷ ls) h) (ap (λ x. x ++ 10 ∷ []) (text_is l ls h))
 value_is false l ls h = rw (content_last (l ∷ ls) h) (ap (λ x. x ++ []) (text_is l ls h))
 
 -- no TAB begins the first line
-no_tab : (column : ℕ) (l : Line) (ls : List Line) (feed text : List ℕ) → AreLines column (l ∷ ls) → (content l ++ behind ls) ++ feed ≡ text → (column ≡ 0 → literal_defs.starts_with_tab text ≡ false)
+no_tab : (column : ℕ) (l : Line) (ls : List Line) (feed text : List ℕ) → AreLines column (l ∷ ls) → (content l ++ after ls) ++ feed ≡ text → (column ≡ 0 → literal_defs.starts_with_tab text ≡ false)
     → starts_with_tab (indented_lines column (l ∷ ls)) ≡ false
 no_tab zero (full []) ls feed text are whole free = absurd (are.0 refl)
-no_tab zero (full (c ∷ w)) ls feed text are whole free = let e : literal_defs.starts_with_tab ((c ∷ (w ++ behind ls)) ++ feed) ≡ false = rw (← whole) at (free refl) in grind (arith, nat_tests)
+no_tab zero (full (c ∷ w)) ls feed text are whole free = let e : literal_defs.starts_with_tab ((c ∷ (w ++ after ls)) ++ feed) ≡ false = rw (← whole) at (free refl) in grind (arith, nat_tests)
 no_tab (suc n) (full w) ls feed text are whole free = refl
 no_tab column (blank zero) ls feed text are whole free = refl
 no_tab column (blank (suc n)) ls feed text are whole free = refl

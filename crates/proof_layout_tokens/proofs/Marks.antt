@@ -1,4 +1,4 @@
--- What a fetch does at `-`, at `?`, and at the `:` of a key behind `?`.
+-- What a fetch does at `-`, at `?`, and at the `:` of a key after `?`.
 use Rattle.std.proofs.Common.{◌≡◌, ℕ, zero, suc, ◌+◌, ◌<◌, ◌≤◌, List, [], ◌∷◌, ◌++◌, Bool, true, false, ◌==◌, Option, Some, None, Result, Ok, refl, ap, ◌∙◌, arith}
 use Rattle.std.specs.List.{list_all}
 use Rattle.std.proofs.lemmas.Bool.{and_parts, le-ltb, lt-ltb, le-leb}
@@ -65,7 +65,7 @@ way_deep (below k g d) c h = let low = h.0 in omega (arith, low)
 
 -- ---- levels
 
--- where an entry stands: behind others of its collection, or first, where a level that opens no collection is on top or not
+-- where an entry stands: after others of its collection, or first, where a level that opens no collection is on top or not
 pub data Stand : Type 0 where
   later : Stand
   first : (is_open : Bool) → Stand
@@ -124,7 +124,7 @@ pub opens : (x : List ℕ) (i : ℕ) (is : List Indent) (j : ℕ) (p : Parts) �
 unfolding roll_one_col_indent in_block
 opens x i is j p = refl
 
--- ---- spaces behind a mark
+-- ---- spaces after a mark
 
 abbrev found_after : ℕ → Whitespace → Whitespace
 found_after zero w = w
@@ -158,15 +158,15 @@ may_stand : (x : List ℕ) (i : ℕ) (is : List Indent) (p : Parts) → p.allowe
 unfolding check_block_entry
 may_stand x i is p allowed none = rw (at_margin_goes (p.place.col == 0) (last_property p.tokens) p.place (stands x i is p).held refl none, allowed) refl
 
--- behind the dash, the rest of the fetch
-abbrev behind_dash : State → Result State Fault
-behind_dash v =
+-- after the dash, the rest of the fetch
+abbrev after_dash : State → Result State Fault
+after_dash v =
     lexed (scalar_space.space Yes v.rest v.held.place) v.held check_dash >>= λ w.
     skip_spaces No w >>= λ x.
     try_held remove_simple_key (roll_entry x) >>= λ y.
     Ok (on_held (λ s. push s.place Tok.block_entry (allow_key true s)) y)
 
--- behind a mark
+-- after a mark
 abbrev pub marked : Position → List Token → Bool → Bool → ℕ → Parts
 marked place tokens allowed leading adjacent = record { place = place; tokens = tokens; key = None; allowed = allowed; leading = leading; adjacent = adjacent }
 
@@ -193,7 +193,7 @@ unfolding check_dash
 no_tabs w t h = rw h refl
 
 dash_beside : (n : ℕ) (y : List ℕ) (j i : ℕ) (is : List Indent) (p : Parts) → is_solid y ≡ true → p.key ≡ None
-    → behind_dash (stands (spell_white (blanks n) y) j (level i true ∷ is) p)
+    → after_dash (stands (spell_white (blanks n) y) j (level i true ∷ is) p)
     ≡ Ok (stands y (opened_indent (begins_flow y) j) (opened (begins_flow y) j (level i true ∷ is)) (marked (beyond (blanks n) p.place) (p.tokens ++ token (beyond (blanks n) p.place) Tok.block_entry ∷ []) true p.leading p.adjacent))
 unfolding scalar_space.space
 dash_beside n y j i is p solid free =
@@ -209,7 +209,7 @@ dash_beside n y j i is p solid free =
     ) refl
 
 dash_below : (k : Comment) (w : List White) (y : List ℕ) (j i : ℕ) (is : List Indent) (p : Parts) → IsComment k → p.key ≡ None
-    → behind_dash (stands (spell_white (comment_white k (line_feed ∷ w)) y) j (level i true ∷ is) p)
+    → after_dash (stands (spell_white (comment_white k (line_feed ∷ w)) y) j (level i true ∷ is) p)
     ≡ Ok (stands (spell_white (line_feed ∷ w) y) (j + 1) (level j false ∷ level i true ∷ is) (marked (comment_place k p.place) (p.tokens ++ token (comment_place k p.place) Tok.block_entry ∷ []) true p.leading p.adjacent))
 unfolding scalar_space.space check_dash skip_spaces roll_entry is_break roll_one_col_indent in_block remove_simple_key
 dash_below no_comment w y j i is p line free = rw free refl
@@ -217,7 +217,7 @@ dash_below (comment more text) w y j i is p line free = rw (comment_passes more 
 
 dash_at : (a : List ℕ) (s : Stand) (c i : ℕ) (is : List Indent) (p : Parts) → p.place.col ≡ c → i ≤ c → IsClosed i is → p.allowed ≡ true → HasNoProperty p
     → fetch_block_entry (stands (45 ∷ a) (indent_at s c i) (indents_at s i is) p)
-    ≡ behind_dash (stands a (c + 1) (level i true ∷ is) (record p { place = past p.place; tokens = started s None (token p.place Tok.block_sequence_start) p.tokens; leading = false }))
+    ≡ after_dash (stands a (c + 1) (level i true ∷ is) (record p { place = past p.place; tokens = started s None (token p.place Tok.block_sequence_start) p.tokens; leading = false }))
 unfolding fetch_block_entry
 dash_at a s c i is p col low closed allowed none =
     rw (
@@ -237,9 +237,9 @@ opens_mark m (beside more) y h e = record { solid = h; no_directive = e; no_star
 opens_mark m (below no_comment g d) y h e = record { solid = h; no_directive = e; no_start = rw (and_false (m == 45)) refl; no_end = rw (and_false (m == 46)) refl }
 opens_mark m (below (comment more text) g d) y h e = record { solid = h; no_directive = e; no_start = rw (and_false (m == 45)) refl; no_end = rw (and_false (m == 46)) refl }
 
--- ---- what is known behind a mark
+-- ---- what is known after a mark
 
--- The next fetch finds a value, behind a mark at the column c.
+-- The next fetch finds a value, after a mark at the column c.
 pub record Marked (from : State) (y : List ℕ) (col c i : ℕ) (is : List Indent) (allowed : Bool) (want : List Tok → List Tok) : Type 0 where
   pub is_open : Bool
   pub before : Before from y col (opened_indent is_open (c + 1)) (opened is_open (c + 1) (level i true ∷ is)) allowed want
@@ -301,15 +301,15 @@ dash_run from (below k g d) y s c i is want low closed way solid u =
 
 -- ---- `?`
 
--- whether only blanks stand before the place, behind a `?`
-abbrev leading_behind : List White → Bool → Bool
-leading_behind [] b = b
-leading_behind (space ∷ g) b = leading_behind g b
-leading_behind (line_feed ∷ g) b = leading_behind g true
-leading_behind (remark text ∷ g) b = leading_behind g b
+-- whether only blanks stand before the place, after a `?`
+abbrev leading_after : List White → Bool → Bool
+leading_after [] b = b
+leading_after (space ∷ g) b = leading_after g b
+leading_after (line_feed ∷ g) b = leading_after g true
+leading_after (remark text ∷ g) b = leading_after g b
 
 abbrev led : List White → Parts → Parts
-led g p = record p { place = beyond g p.place; allowed = allowed_beyond g p.allowed; leading = leading_behind g p.leading }
+led g p = record p { place = beyond g p.place; allowed = allowed_beyond g p.allowed; leading = leading_after g p.leading }
 
 module _ (i : ℕ) (is : List Indent) where
   white_solid : (y : List ℕ) (p : Parts) → is_solid y ≡ true → white false true y (stands y i is p).held ≡ Ok (stands y i is p)
@@ -363,7 +363,7 @@ key_begins x s c i is p col low closed allowed = rw (rolled_at x s c i is p None
 
 question_at : (w : Way) (y : List ℕ) (s : Stand) (c i : ℕ) (is : List Indent) (p : Parts) → p.place.col ≡ c → i ≤ c → IsClosed i is → p.allowed ≡ true → p.key ≡ None → AreWhite (way_white w) y → is_solid y ≡ true
     → fetch_key (stands (63 ∷ spell_white (way_white w) y) (indent_at s c i) (indents_at s i is) p)
-    ≡ Ok (stands y (c + 1) (level i true ∷ is) (marked (beyond (way_white w) (past p.place)) (started s None (token p.place Tok.block_mapping_start) p.tokens ++ token p.place Tok.key ∷ []) (allowed_beyond (way_white w) true) (leading_behind (way_white w) false) p.adjacent))
+    ≡ Ok (stands y (c + 1) (level i true ∷ is) (marked (beyond (way_white w) (past p.place)) (started s None (token p.place Tok.block_mapping_start) p.tokens ++ token p.place Tok.key ∷ []) (allowed_beyond (way_white w) true) (leading_after (way_white w) false) p.adjacent))
 unfolding fetch_key
 question_at w y s c i is p col low closed allowed free are solid =
     let q = record p { tokens = started s None (token p.place Tok.block_mapping_start) p.tokens } in
@@ -395,13 +395,13 @@ question_run from w y s c i is want low closed way solid u =
     let x = spell_white (way_white w) y in
     let are = way_are_white c w y way solid in
     let ts = started s None (token p.place Tok.block_mapping_start) p.tokens in
-    let r = marked (beyond (way_white w) (past p.place)) (ts ++ token p.place Tok.key ∷ []) (allowed_beyond (way_white w) true) (leading_behind (way_white w) false) p.adjacent in
+    let r = marked (beyond (way_white w) (past p.place)) (ts ++ token p.place Tok.key ∷ []) (allowed_beyond (way_white w) true) (leading_after (way_white w) false) p.adjacent in
     let e = arrived from 63 x s c i is want low u (opens_mark 63 w y refl refl) ∙ by_question w y (indent_at s c i) (indents_at s i is) p ∙ question_at w y s c i is p u.column low closed u.allows u.free are solid in
     let run = fetched from (63 ∷ x) c (indent_at s c i) (indents_at s i is) true want _ _ u e (Levels.not_stale y (c + 1) (level i true ∷ is) r refl) in
     marked_before from [] y (way_column c w) c i is false r true _ run solid refl (way_ends w c p.place u.column) (way_deep w c way) (way_allows w) (Levels.last_pushed ts (token p.place Tok.key))
     (Levels.push_tells ts p.place Tok.key _ (started_tells s p.tokens p.place Tok.block_mapping_start want u.told))
 
--- ---- the `:` of a key behind `?`
+-- ---- the `:` of a key after `?`
 
 pub by_colon : (w : Way) (y : List ℕ) (i : ℕ) (is : List Indent) (p : Parts) → token_by (class_of 58) (stands (58 ∷ spell_white (way_white w) y) i is p) ≡ fetch_value (stands (58 ∷ spell_white (way_white w) y) i is p)
 unfolding class_of is_value is_blank is_break
@@ -430,7 +430,7 @@ colon_at w y c i is p col low closed allowed free =
       opens x i is (c + 1) (record q { allowed = true }),
     ) refl
 
--- the `:` of a key behind `?`, at its column
+-- the `:` of a key after `?`, at its column
 pub colon_run : (from : State) (w : Way) (y : List ℕ) (c i : ℕ) (is : List Indent) (want : List Tok → List Tok) → i ≤ c → IsClosed i is → IsWay c w → is_solid y ≡ true
     → Before from (58 ∷ spell_white (way_white w) y) c (c + 1) (level i true ∷ is) true want
     → Marked from y (way_column c w) c i is true (λ o. want (Tok.value ∷ o))

@@ -1,4 +1,4 @@
--- Plain scalars on one line are read as they stand, up to a colon or over the white space behind them.
+-- Plain scalars on one line are read as they stand, up to a colon or over the white space after them.
 use Rattle.std.proofs.Common.{◌≡◌, ℕ, zero, suc, ◌+◌, ◌≤◌, List, [], ◌∷◌, ◌++◌, Bool, true, false, ◌||◌, ◌&&◌, not, ◌==◌, Result, Ok, refl, ap, ◌∙◌, append_assoc, append-nil, nat_lt, arith, ◌⊎◌, inl, inr}
 use Rattle.std.proofs.lemmas.Bool.{le-ltb, ne_eqb, and_parts, eqb-true}
 use Rattle.std.proofs.lemmas.Bool.Decides.{nat_tests}
@@ -51,7 +51,7 @@ module _ (i : ℕ) (start : Position) where
   abbrev scan : List ℕ → State → Result (Read Plain) Fault
   scan a s = plain_from (outside i) start a s
 
-  -- behind a character of the text, or behind blanks
+  -- after a character of the text, or after blanks
   abbrev at : Bool → Position → List ℕ → List ℕ → State
   at false p text gap = record { mode = inside; place = p; folded = record { text = text; gap = []; leading = false; escaped = false } }
   at true p text gap = record { mode = between; place = p; folded = record { text = text; gap = gap; leading = false; escaped = false } }
@@ -165,7 +165,7 @@ module _ (i : ℕ) (start : Position) where
       let z = over_white g r (past_break p) text (gap ++ 10 ∷ []) are low in record { place = z.place; white = z.white; same = z.same; are = z.are; now = z.now }
   over_white (remark t ∷ g) r p text gap are low = record { place = p; white = remark t ∷ g; same = refl; are = are; now = at_remark (t ++ spell_white g r) p text gap }
 
-  -- a scalar, and the lines behind it
+  -- a scalar, and the lines after it
   pub plain_line : (c : ℕ) (w : List ℕ) (g : List White) (r : List ℕ) → are_plain w ≡ true → closes (c == 32) w ≡ true → i ≤ start.col + 1 → (c == 32) ≡ false
       → AreWhite g r → IsLeft r (beyond g (past_break (along (c ∷ w) start))).col
       → Stopped (plain (outside i) (c ∷ (w ++ 10 ∷ spell_white g r)) start) (c ∷ w) true g r (past_break (along (c ∷ w) start))
@@ -184,7 +184,7 @@ module _ (i : ℕ) (start : Position) where
       by false h = rw h refl
   comment_stops (suc n) text w r p t gap = comment_stops n text w r (past p) t (gap ++ 32 ∷ [])
 
-  -- a scalar, and a comment behind it
+  -- a scalar, and a comment after it
   pub plain_comment : (c : ℕ) (v : List ℕ) (more : ℕ) (text : List ℕ) (w : List White) (r : List ℕ) → are_plain v ≡ true → closes (c == 32) v ≡ true → i ≤ start.col + 1 → (c == 32) ≡ false
       → plain (outside i) (c ∷ (v ++ spell_white (comment_white (comment more text) w) r)) start
       ≡ Ok (record { rest = spell_white (remark text ∷ w) r; place = beyond (blanks more) (past (along (c ∷ v) start)); value = record { text = c ∷ v; leading = false } })

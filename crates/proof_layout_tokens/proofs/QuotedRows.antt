@@ -9,7 +9,7 @@ use Rattle.model_scanner.specs.TextTokens.{HasToks}
 use Rattle.proof_lexers.specs.QuotedEnds.{IsBadEscape, unknown, no_digit, no_character}
 use Rattle.proof_layout_tokens.proofs.QuotedTokens.{quoted_texts_have_their_tokens}
 
--- a doubled quote, and a line feed behind the scalar
+-- a doubled quote, and a line feed after the scalar
 doubled : HasToks (codes "'it''s'\n") (Tok.stream_start ∷ Tok.scalar Style.single_quoted (codes "it's") ∷ Tok.stream_end ∷ [])
 unfolding is_blank is_break is_nul are_marks plain_element single_quoted_element begins_with_marker single_quoted_value
 doubled = quoted_texts_have_their_tokens _ _ (record { quotes = single; body = codes "it''s"; breaks = 1 }, codes "it's", refl, refl, refl)

@@ -1,4 +1,4 @@
--- The tokens of a text that is one quoted scalar with line feeds alone behind it.
+-- The tokens of a text that is one quoted scalar with line feeds alone after it.
 use Rattle.std.proofs.Common.{◌≡◌, ℕ, zero, suc, ◌+◌, List, [], ◌∷◌, ◌++◌, Bool, true, false, Some, Result, refl, ap, replicate}
 use Rattle.defs_text.specs.Position.{Position}
 use Rattle.defs_token.specs.Token.{Tok}

@@ -113,7 +113,7 @@ same_map : (w : List ℕ) → map (λ c. c) w ≡ w
 same_map [] = refl
 same_map (c ∷ w) = ap (λ v. c ∷ v) (same_map w)
 
--- Behind the opening quote stands this, with its closing quote: the scalar is read as the text, whatever stands behind it but a quote.
+-- After the opening quote stands this, with its closing quote: the scalar is read as the text, whatever stands after it but a quote.
 pub record IsQuoted (single : Bool) (body w : List ℕ) : Type 0 where
   pub reads : (i : ℕ) (r : List ℕ) (p : Position) → i ≤ p.col + 1 → (slice_index r 0 == 39) ≡ false
       → quoted single (outside i) (quote_of single ∷ (body ++ r)) p ≡ Ok (record { rest = r; place = along (quote_of single ∷ body) p; value = w })

@@ -1,4 +1,4 @@
--- Tokens told one behind the other; and a text that has tokens has no others, and is not refused.
+-- Tokens told one after the other; and a text that has tokens has no others, and is not refused.
 use Rattle.std.proofs.Common.{◌≡◌, ℕ, List, [], ◌∷◌, ◌++◌, ap, ◌∙◌, append_assoc}
 use Rattle.std.proofs.lemmas.List.{map-append}
 use Rattle.defs_text.specs.Position.{Position}
@@ -10,7 +10,7 @@ use Rattle.model_scanner.specs.Run.{HasTokens, IsRefused}
 use Rattle.model_scanner.specs.TextTokens.{HasToks}
 use Rattle.model_scanner.proofs.Runs.{one_list, not_refused}
 
--- these tokens are the beginning of some, told by what stands behind them
+-- these tokens are the beginning of some, told by what stands after them
 abbrev pub Tells : List Token → (List Tok → List Tok) → Type 0
 Tells ts want = (o : List Tok) → toks ts ++ o ≡ want o
 

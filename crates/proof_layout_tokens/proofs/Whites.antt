@@ -30,7 +30,7 @@ beyond (space ∷ g) p = beyond g (past p)
 beyond (line_feed ∷ g) p = beyond g (past_break p)
 beyond (remark text ∷ g) p = beyond g (along text (past p))
 
--- a key may begin behind a line feed
+-- a key may begin after a line feed
 abbrev pub allowed_beyond : List White → Bool → Bool
 allowed_beyond [] b = b
 allowed_beyond (space ∷ g) b = allowed_beyond g b

@@ -15,15 +15,15 @@ use Rattle.proof_layout_trees.specs.BasicNest.{scalar_nest, inline_nest, block_n
 use Rattle.proof_layout_trees.specs.Laws.{BasicTokensAreAStream}
 use Rattle.proof_layout_trees.proofs.LayoutDerived.{scalar, inline, whole, block, node, entries, part, field, fields, root, documents, documents_by, scalar_told, inline_told}
 
--- a value behind a key: it is no array at the key's column
+-- a value after a key: it is no array at the key's column
 whole_part : (v : Value) → IsBasicValue v → part v ≡ whole (node None v)
-whole_part (Value.at_key behind g es) h = absurd h
-whole_part (Value.beside more i behind) h = refl
+whole_part (Value.at_key after g es) h = absurd h
+whole_part (Value.beside more i after) h = refl
 whole_part (Value.literal more column text ls) h = refl
 whole_part (Value.folded more column strips text ls) h = refl
 whole_part (Value.json more v) h = refl
 whole_part (Value.compact more b) h = refl
-whole_part (Value.below behind g column b) h = refl
+whole_part (Value.below after g column b) h = refl
 whole_part (Value.anchored more name v) h = refl
 whole_part (Value.alias more name t) h = refl
 
@@ -38,13 +38,13 @@ mutual
   block_told (Block.hash fs) r h = ap (λ ts. Tok.block_mapping_start ∷ ts) (fields_told fs r h)
 
   value_told : (v : Value) (r : List Tok) → IsBasicValue v → node_tokens (node None v) r ≡ value_tokens v r
-  value_told (Value.beside more i behind) r h = inline_told i r
+  value_told (Value.beside more i after) r h = inline_told i r
   value_told (Value.literal more column text ls) r h = refl
   value_told (Value.compact more b) r h = block_told b r h
-  value_told (Value.below behind g column b) r h = block_told b r h.1
+  value_told (Value.below after g column b) r h = block_told b r h.1
   value_told (Value.folded more column strips text ls) r h = absurd h
   value_told (Value.json more v) r h = absurd h
-  value_told (Value.at_key behind g es) r h = absurd h
+  value_told (Value.at_key after g es) r h = absurd h
   value_told (Value.anchored more name v) r h = absurd h
   value_told (Value.alias more name t) r h = absurd h
 
@@ -86,13 +86,13 @@ mutual
   block_named (Block.hash fs) h keep s r es k = and_then _ _ _ (fields_named fs h keep s r es k)
 
   value_named : (v : Value) (h : IsBasicValue v) (keep : Bool) (s : Names) (r : List Raw) (es : List Ev) → named keep s r ≡ Some es → named keep s (node_events (node None v) r) ≡ Some (nest_events (value_nest v h) es)
-  value_named (Value.beside more i behind) h keep s r es k = inline_named i h.0 keep s r es k
+  value_named (Value.beside more i after) h keep s r es k = inline_named i h.0 keep s r es k
   value_named (Value.literal more column text ls) h keep s r es k = and_then _ _ es k
   value_named (Value.compact more b) h keep s r es k = block_named b h keep s r es k
-  value_named (Value.below behind g column b) h keep s r es k = block_named b h.1 keep s r es k
+  value_named (Value.below after g column b) h keep s r es k = block_named b h.1 keep s r es k
   value_named (Value.folded more column strips text ls) h keep s r es k = absurd h
   value_named (Value.json more v) h keep s r es k = absurd h
-  value_named (Value.at_key behind g vs) h keep s r es k = absurd h
+  value_named (Value.at_key after g vs) h keep s r es k = absurd h
   value_named (Value.anchored more name v) h keep s r es k = absurd h
   value_named (Value.alias more name t) h keep s r es k = absurd h
 
@@ -119,11 +119,11 @@ root_named (Root.literal text ls) h keep s r es k = and_then _ _ es k
 -- ---- the one document
 
 tokens_told : (ds : Documents) → AreBasicDocuments ds → stream_tokens (documents_by true ds) ≡ Tok.stream_start ∷ Tok.document_start ∷ documents_tokens ds
-tokens_told (Documents.last_document d behind) h = ap (λ ts. Tok.stream_start ∷ Tok.document_start ∷ ts) (root_told d.root (Tok.stream_end ∷ []) h)
+tokens_told (Documents.last_document d after) h = ap (λ ts. Tok.stream_start ∷ Tok.document_start ∷ ts) (root_told d.root (Tok.stream_end ∷ []) h)
 tokens_told (Documents.document d g ds) h = absurd h
 
 events_named : (keep : Bool) (ds : Documents) (h : AreBasicDocuments ds) → named keep no_names (stream_events (documents_by true ds)) ≡ Some (nested_stream (with_node (document_nest ds h) ∷ []))
-events_named keep (Documents.last_document d behind) h =
+events_named keep (Documents.last_document d after) h =
     and_then Ev.stream_start _ _ (and_then Ev.document_start _ _
     (root_named d.root h keep (at_document keep no_names []) (Raw.document_end ∷ Raw.stream_end ∷ []) (Ev.document_end ∷ Ev.stream_end ∷ []) refl))
 events_named keep (Documents.document d g ds) h = absurd h

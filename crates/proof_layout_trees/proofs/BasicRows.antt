@@ -17,7 +17,7 @@ use Rattle.proof_layout_trees.specs.BasicNest.{basic_documents}
 abbrev text_of : Tree → Inline
 text_of t = Inline.scalar (Scalar.plain t)
 
--- a value behind one space
+-- a value after one space
 abbrev beside : Inline → Value
 beside i = Value.beside 0 i no_comment
 

@@ -3,7 +3,7 @@ use Rattle.std.proofs.Common.{◌≡◌, ℕ, Bool, true, false, List, [], ◌�
 use Rattle.defs_token.specs.Token.{Tok, Style}
 use Rattle.defs_tree.specs.Spelling.{spelling}
 use Rattle.defs_layout.specs.Anchored.{Anchor, begun}
-use Rattle.defs_layout.specs.Layout.{Scalar, Inline, Block, Value, Entries, Field, Fields, Root, Documents, Layout, IsBlock, IsValue, AreEntries, IsField, AreFields, IsRoot, AreDocuments, IsLayout, MayFollowMark, MayBeAnchored, IsExplicitKey, anchors_behind, anchors_behind_field}
+use Rattle.defs_layout.specs.Layout.{Scalar, Inline, Block, Value, Entries, Field, Fields, Root, Documents, Layout, IsBlock, IsValue, AreEntries, IsField, AreFields, IsRoot, AreDocuments, IsLayout, MayFollowMark, MayBeAnchored, IsExplicitKey, anchors_after, anchors_after_field}
 use Rattle.defs_layout.specs.LayoutTokens.{scalar_token, inline_tokens, block_tokens, value_tokens, entry_tokens, field_tokens, all_field_tokens, root_tokens, documents_tokens, marked, layout_tokens}
 use Rattle.defs_event.specs.Grammar as grammar
 use Rattle.defs_event.specs.Grammar.{Properties, Content, Node, Perhaps, Part, Dashes, KeyPairs, After, content_tokens, node_tokens, perhaps_tokens, entries_tokens, part_tokens, dashes_tokens, pairs_tokens, key_pairs_tokens, after_tokens, stream_tokens}
@@ -38,13 +38,13 @@ abbrev mutual
   block (Block.hash fs) = grammar.block_mapping (grammar.keyed (fields fs))
 
   pub node : Option (List ℕ) → Value → Node
-  node o (Value.beside more i behind) = grammar.block_content (properties o) (inline i)
+  node o (Value.beside more i after) = grammar.block_content (properties o) (inline i)
   node o (Value.literal more column text ls) = grammar.block_content (properties o) (leaf Style.literal text)
   node o (Value.folded more column strips text ls) = grammar.block_content (properties o) (leaf Style.folded text)
   node o (Value.json more v) = grammar.block_content (properties o) (grammar.flow (json.content v))
   node o (Value.compact more b) = grammar.block_content (properties o) (block b)
-  node o (Value.below behind g column b) = grammar.block_content (properties o) (block b)
-  node o (Value.at_key behind g es) = grammar.block_content (properties o) (grammar.block_sequence (entries es))
+  node o (Value.below after g column b) = grammar.block_content (properties o) (block b)
+  node o (Value.at_key after g es) = grammar.block_content (properties o) (grammar.block_sequence (entries es))
   node o (Value.anchored more name v) = node (Some name) v
   node o (Value.alias more name t) = grammar.block_alias name
 
@@ -64,13 +64,13 @@ abbrev mutual
 
   -- the value of a key
   pub part : Value → Part
-  part (Value.at_key behind g es) = grammar.indentless None (first_entry es) (later_entries es)
-  part (Value.beside more i behind) = whole (grammar.block_content None (inline i))
+  part (Value.at_key after g es) = grammar.indentless None (first_entry es) (later_entries es)
+  part (Value.beside more i after) = whole (grammar.block_content None (inline i))
   part (Value.literal more column text ls) = whole (grammar.block_content None (leaf Style.literal text))
   part (Value.folded more column strips text ls) = whole (grammar.block_content None (leaf Style.folded text))
   part (Value.json more v) = whole (grammar.block_content None (grammar.flow (json.content v)))
   part (Value.compact more b) = whole (grammar.block_content None (block b))
-  part (Value.below behind g column b) = whole (grammar.block_content None (block b))
+  part (Value.below after g column b) = whole (grammar.block_content None (block b))
   part (Value.anchored more name v) = whole (node (Some name) v)
   part (Value.alias more name t) = whole (grammar.block_alias name)
 
@@ -89,12 +89,12 @@ root (Root.literal text ls) = grammar.block_content None (leaf Style.literal tex
 
 -- the first document's root
 abbrev pub first_root : Documents → Node
-first_root (Documents.last_document d behind) = root d.root
+first_root (Documents.last_document d after) = root d.root
 first_root (Documents.document d g ds) = root d.root
 
--- the documents behind the first, each with its marker
+-- the documents after the first, each with its marker
 abbrev pub later_roots : Documents → After
-later_roots (Documents.last_document d behind) = grammar.unmarked grammar.end_stream
+later_roots (Documents.last_document d after) = grammar.unmarked grammar.end_stream
 later_roots (Documents.document d g ds) = grammar.unmarked (grammar.explicit (grammar.some_node (first_root ds)) (later_roots ds))
 
 abbrev pub documents_by : Bool → Documents → grammar.Documents
@@ -131,24 +131,24 @@ inline_told Inline.empty_array r = refl
 inline_told Inline.empty_hash r = refl
 
 explicit_follows : (k : Value) → IsExplicitKey k → MayFollowMark k
-explicit_follows (Value.at_key behind g es) h = h
-explicit_follows (Value.beside more i behind) h = tt
+explicit_follows (Value.at_key after g es) h = h
+explicit_follows (Value.beside more i after) h = tt
 explicit_follows (Value.literal more column text ls) h = tt
 explicit_follows (Value.folded more column strips text ls) h = tt
 explicit_follows (Value.json more v) h = tt
 explicit_follows (Value.compact more b) h = tt
-explicit_follows (Value.below behind g column b) h = tt
+explicit_follows (Value.below after g column b) h = tt
 explicit_follows (Value.anchored more name v) h = tt
 explicit_follows (Value.alias more name t) h = tt
 
 anchorable_follows : (v : Value) → MayBeAnchored v → MayFollowMark v
-anchorable_follows (Value.at_key behind g es) h = h
-anchorable_follows (Value.beside more i behind) h = tt
+anchorable_follows (Value.at_key after g es) h = h
+anchorable_follows (Value.beside more i after) h = tt
 anchorable_follows (Value.literal more column text ls) h = tt
 anchorable_follows (Value.folded more column strips text ls) h = tt
 anchorable_follows (Value.json more v) h = tt
 anchorable_follows (Value.compact more b) h = tt
-anchorable_follows (Value.below behind g column b) h = tt
+anchorable_follows (Value.below after g column b) h = tt
 anchorable_follows (Value.anchored more name v) h = tt
 anchorable_follows (Value.alias more name t) h = tt
 
@@ -159,13 +159,13 @@ mutual
 
   value_told : (c : ℕ) (a : List Anchor) (o : Option (List ℕ)) (v : Value) (r : List Tok) → IsValue c a v → MayFollowMark v → IsAnchorable o v
       → node_tokens (node o v) r ≡ anchor_tokens o (value_tokens v r)
-  value_told c a o (Value.beside more i behind) r is follows named = content_told o (inline i) r ∙ ap (anchor_tokens o) (inline_told i r)
+  value_told c a o (Value.beside more i after) r is follows named = content_told o (inline i) r ∙ ap (anchor_tokens o) (inline_told i r)
   value_told c a o (Value.literal more column text ls) r is follows named = content_told o (leaf Style.literal text) r
   value_told c a o (Value.folded more column strips text ls) r is follows named = content_told o (leaf Style.folded text) r
   value_told c a o (Value.json more v) r is follows named = content_told o (grammar.flow (json.content v)) r ∙ ap (anchor_tokens o) (json.content_tokens v r)
   value_told c a o (Value.compact more b) r is follows named = content_told o (block b) r ∙ ap (anchor_tokens o) (block_told _ a b r is)
-  value_told c a o (Value.below behind g column b) r is follows named = content_told o (block b) r ∙ ap (anchor_tokens o) (block_told column a b r is.3)
-  value_told c a o (Value.at_key behind g es) r is follows named = absurd follows
+  value_told c a o (Value.below after g column b) r is follows named = content_told o (block b) r ∙ ap (anchor_tokens o) (block_told column a b r is.3)
+  value_told c a o (Value.at_key after g es) r is follows named = absurd follows
   value_told c a None (Value.anchored more name v) r is follows named = value_told c (begun name ∷ a) (Some name) v r is.2 (anchorable_follows v is.1) is.1
   value_told c a (Some n) (Value.anchored more name v) r is follows named = absurd named
   value_told c a None (Value.alias more name t) r is follows named = refl
@@ -175,22 +175,22 @@ mutual
   entries_told c a (Entries.last_entry v) r are = ap (λ ts. Tok.block_entry ∷ ts) (value_told c a None v (Tok.block_end ∷ r) are.1 are.0 tt)
   entries_told c a (Entries.entry v g es) r are =
       ap (λ ts. Tok.block_entry ∷ ts) (value_told c a None v (entries_tokens (entries es) r) are.1 are.0 tt
-      ∙ ap (value_tokens v) (entries_told c (anchors_behind v a) es r are.3))
+      ∙ ap (value_tokens v) (entries_told c (anchors_after v a) es r are.3))
 
   dashes_told : (c : ℕ) (a : List Anchor) (es : Entries) (r : List Tok) → AreEntries c a es
       → Tok.block_entry ∷ perhaps_tokens (first_entry es) (dashes_tokens (later_entries es) r) ≡ entry_tokens es r
   dashes_told c a (Entries.last_entry v) r are = ap (λ ts. Tok.block_entry ∷ ts) (value_told c a None v r are.1 are.0 tt)
   dashes_told c a (Entries.entry v g es) r are =
-      ap (λ ts. Tok.block_entry ∷ ts) (value_told c a None v _ are.1 are.0 tt ∙ ap (value_tokens v) (dashes_told c (anchors_behind v a) es r are.3))
+      ap (λ ts. Tok.block_entry ∷ ts) (value_told c a None v _ are.1 are.0 tt ∙ ap (value_tokens v) (dashes_told c (anchors_after v a) es r are.3))
 
   part_told : (c : ℕ) (a : List Anchor) (v : Value) (r : List Tok) → IsValue c a v → part_tokens (part v) r ≡ value_tokens v r
-  part_told c a (Value.at_key behind g es) r is = dashes_told c a es r is.2
-  part_told c a (Value.beside more i behind) r is = inline_told i r
+  part_told c a (Value.at_key after g es) r is = dashes_told c a es r is.2
+  part_told c a (Value.beside more i after) r is = inline_told i r
   part_told c a (Value.literal more column text ls) r is = refl
   part_told c a (Value.folded more column strips text ls) r is = refl
   part_told c a (Value.json more v) r is = json.content_tokens v r
   part_told c a (Value.compact more b) r is = block_told _ a b r is
-  part_told c a (Value.below behind g column b) r is = block_told column a b r is.3
+  part_told c a (Value.below after g column b) r is = block_told column a b r is.3
   part_told c a (Value.anchored more name v) r is = value_told c (begun name ∷ a) (Some name) v r is.2 (anchorable_follows v is.1) is.1
   part_told c a (Value.alias more name t) r is = refl
 
@@ -200,12 +200,12 @@ mutual
       ∙ ap (λ ts. scalar_token k ∷ Tok.value ∷ ts) (part_told c a v (pairs_tokens ps r) is.2))
   field_told c a (Field.explicit k g v) ps r is =
       ap (λ ts. Tok.key ∷ ts) (value_told c a None k (Tok.value ∷ part_tokens (part v) (pairs_tokens ps r)) is.1 (explicit_follows k is.0) tt
-      ∙ ap (λ ts. value_tokens k (Tok.value ∷ ts)) (part_told c (anchors_behind k a) v (pairs_tokens ps r) is.4))
+      ∙ ap (λ ts. value_tokens k (Tok.value ∷ ts)) (part_told c (anchors_after k a) v (pairs_tokens ps r) is.4))
 
   fields_told : (c : ℕ) (a : List Anchor) (fs : Fields) (r : List Tok) → AreFields c a fs → key_pairs_tokens (fields fs) r ≡ all_field_tokens fs (Tok.block_end ∷ r)
   fields_told c a (Fields.last_field f) r are = field_told c a f (grammar.keyed grammar.end_pairs) r are
   fields_told c a (Fields.field f g fs) r are =
-      field_told c a f (grammar.keyed (fields fs)) r are.0 ∙ ap (field_tokens f) (fields_told c (anchors_behind_field f a) fs r are.2)
+      field_told c a f (grammar.keyed (fields fs)) r are.0 ∙ ap (field_tokens f) (fields_told c (anchors_after_field f a) fs r are.2)
 
 root_told : (x : Root) (r : List Tok) → IsRoot x → node_tokens (root x) r ≡ root_tokens x r
 root_told (Root.block column b) r is = block_told column [] b r is
@@ -213,7 +213,7 @@ root_told (Root.inline i) r is = inline_told i r
 root_told (Root.literal text ls) r is = refl
 
 documents_told : (ds : Documents) → AreDocuments ds → node_tokens (first_root ds) (after_tokens (later_roots ds) []) ≡ documents_tokens ds
-documents_told (Documents.last_document d behind) are = root_told d.root (Tok.stream_end ∷ []) are.1
+documents_told (Documents.last_document d after) are = root_told d.root (Tok.stream_end ∷ []) are.1
 documents_told (Documents.document d g ds) are =
     root_told d.root (Tok.document_start ∷ node_tokens (first_root ds) (after_tokens (later_roots ds) [])) are.1
     ∙ ap (λ ts. root_tokens d.root (Tok.document_start ∷ ts)) (documents_told ds are.3)

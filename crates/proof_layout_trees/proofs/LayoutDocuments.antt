@@ -30,17 +30,17 @@ record ReadsDocuments (keep : Bool) (s : Names) (read : Anchors) (ds : Documents
   reads : (held : List Tree) → read_documents nodes held read ≡ Ok (held ++ trees_of ds, last)
 
 documents_read : (keep : Bool) (s : Names) (read : Anchors) (ds : Documents) → AreDocuments ds → ReadsDocuments keep s read ds
-documents_read keep s read (Documents.last_document d behind) are =
+documents_read keep s read (Documents.last_document d after) are =
     let x = root_reads keep (at_document keep s []) read d.root are.1 tt in
     record {
       nodes = with_node x.node ∷ [];
-      last = x.behind.read;
+      last = x.after.read;
       names = and_then Ev.document_start _ _ (x.names (Raw.document_end ∷ Raw.stream_end ∷ []) (Ev.document_end ∷ Ev.stream_end ∷ []) refl);
       reads = λ held. rw x.reads refl;
     }
 documents_read keep s read (Documents.document d g ds) are =
     let x = root_reads keep (at_document keep s []) read d.root are.1 tt in
-    let y = documents_read keep x.behind.names x.behind.read ds are.3 in
+    let y = documents_read keep x.after.names x.after.read ds are.3 in
     record {
       nodes = with_node x.node ∷ y.nodes;
       last = y.last;

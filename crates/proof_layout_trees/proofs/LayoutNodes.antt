@@ -16,30 +16,30 @@ use Rattle.defs_event.specs.Reading.{read_node, read_items, read_pairs}
 use Rattle.proof_layout_trees.proofs.JsonDerived.{and_then}
 use Rattle.proof_layout_trees.proofs.Held.{pair_read, list_again}
 use Rattle.proof_layout_trees.proofs.LayoutDerived.{properties, leaf}
-use Rattle.proof_layout_trees.proofs.Numbered.{Agrees, Behind, behind_nothing, behind_then, begun_by, ended_by, begun_agrees, behind_node}
+use Rattle.proof_layout_trees.proofs.Numbered.{Agrees, After, after_nothing, after_then, begun_by, ended_by, begun_agrees, after_node}
 
--- ---- before it are the names s, the anchors a and what was read; behind it the anchors b
+-- ---- before it are the names s, the anchors a and what was read; after it the anchors b
 
 -- a node: it is nested, its names can be resolved, and it is read as the tree
 pub record ReadsNode (keep : Bool) (s : Names) (a b : List Anchor) (read : Anchors) (events : List Raw → List Raw) (t : Tree) : Type 0 where
-  pub behind : Behind s a b
+  pub after : After s a b
   pub node : Nest
-  pub names : (r : List Raw) (es : List Ev) → named keep behind.names r ≡ Some es → named keep s (events r) ≡ Some (nest_events node es)
-  pub reads : read_node node read ≡ Ok (t, behind.read)
+  pub names : (r : List Raw) (es : List Ev) → named keep after.names r ≡ Some es → named keep s (events r) ≡ Some (nest_events node es)
+  pub reads : read_node node read ≡ Ok (t, after.read)
 
 -- items, up to the sequence's end
 pub record ReadsItems (keep : Bool) (s : Names) (a b : List Anchor) (read : Anchors) (events : List Raw → List Raw) (ts : List Tree) : Type 0 where
-  pub behind : Behind s a b
+  pub after : After s a b
   pub nodes : Nests
-  pub names : (r : List Raw) (es : List Ev) → named keep behind.names r ≡ Some es → named keep s (events r) ≡ Some (nests_events nodes (Ev.sequence_end ∷ es))
-  pub reads : (held : List Tree) → read_items nodes held read ≡ Ok (held ++ ts, behind.read)
+  pub names : (r : List Raw) (es : List Ev) → named keep after.names r ≡ Some es → named keep s (events r) ≡ Some (nests_events nodes (Ev.sequence_end ∷ es))
+  pub reads : (held : List Tree) → read_items nodes held read ≡ Ok (held ++ ts, after.read)
 
 -- pairs of new keys, up to the mapping's end
 pub record ReadsPairs (keep : Bool) (s : Names) (a b : List Anchor) (read : Anchors) (events : List Raw → List Raw) (ps : List (Tree × Tree)) : Type 0 where
-  pub behind : Behind s a b
+  pub after : After s a b
   pub nodes : NestPairs
-  pub names : (r : List Raw) (es : List Ev) → named keep behind.names r ≡ Some es → named keep s (events r) ≡ Some (nest_pairs_events nodes (Ev.mapping_end ∷ es))
-  pub reads : (held : List (Tree × Tree)) → AreDistinct (held ++ ps) → read_pairs nodes held read ≡ Ok (held ++ ps, behind.read)
+  pub names : (r : List Raw) (es : List Ev) → named keep after.names r ≡ Some es → named keep s (events r) ≡ Some (nest_pairs_events nodes (Ev.mapping_end ∷ es))
+  pub reads : (held : List (Tree × Tree)) → AreDistinct (held ++ ps) → read_pairs nodes held read ≡ Ok (held ++ ps, after.read)
 
 -- ---- nodes
 
@@ -52,7 +52,7 @@ leaf_named (Some name) style text keep s r es h = and_then _ _ es h
 pub leaf_reads : (keep : Bool) (s : Names) (a : List Anchor) (read : Anchors) (o : Option (List ℕ)) (style : Style) (text : List ℕ) (t : Tree) → scalar_tree text style None ≡ t → Agrees s a read
     → ReadsNode keep s a (ended_by o t (begun_by o a)) read (λ r. node_events (grammar.block_content (properties o) (leaf style text)) r) t
 leaf_reads keep s a read o style text t is h = record {
-  behind = behind_node o s a (begun_by o a) t (behind_nothing (with_anchor s o) (begun_by o a) read (begun_agrees o s a read h));
+  after = after_node o s a (begun_by o a) t (after_nothing (with_anchor s o) (begun_by o a) read (begun_agrees o s a read h));
   node = nested_scalar text style (number s o) None;
   names = λ r es k. leaf_named o style text keep s r es k;
   reads = ap (λ u. Ok (u, finished (number s o) u read)) is;
@@ -66,7 +66,7 @@ pub sequence_reads : (keep : Bool) (s : Names) (a b : List Anchor) (read : Ancho
     → Starts keep s o start (Ev.sequence_start (number s o) None) → ReadsItems keep (with_anchor s o) (begun_by o a) b read events (list_of items)
     → ReadsNode keep s a (ended_by o (Tree.array items) b) read (λ r. start ∷ events r) (Tree.array items)
 sequence_reads keep s a b read o start events items starts x = record {
-  behind = behind_node o s a b (Tree.array items) x.behind;
+  after = after_node o s a b (Tree.array items) x.after;
   node = nested_sequence (number s o) None x.nodes;
   names = λ r es k. starts (events r) ∙ and_then _ _ _ (x.names r es k);
   reads = rw (x.reads [], list_again items) refl;
@@ -76,7 +76,7 @@ pub mapping_reads : (keep : Bool) (s : Names) (a b : List Anchor) (read : Anchor
     → Starts keep s o start (Ev.mapping_start (number s o) None) → AreDistinct ps → ReadsPairs keep (with_anchor s o) (begun_by o a) b read events ps
     → ReadsNode keep s a (ended_by o (Tree.hash (pairs_of ps)) b) read (λ r. start ∷ events r) (Tree.hash (pairs_of ps))
 mapping_reads keep s a b read o start events ps starts distinct x = record {
-  behind = behind_node o s a b (Tree.hash (pairs_of ps)) x.behind;
+  after = after_node o s a b (Tree.hash (pairs_of ps)) x.after;
   node = nested_mapping (number s o) None x.nodes;
   names = λ r es k. starts (events r) ∙ and_then _ _ _ (x.names r es k);
   reads = rw (x.reads [] distinct) refl;
@@ -86,16 +86,16 @@ mapping_reads keep s a b read o start events ps starts distinct x = record {
 
 pub no_items : (keep : Bool) (s : Names) (a : List Anchor) (read : Anchors) → Agrees s a read → ReadsItems keep s a a read (λ r. Raw.sequence_end ∷ r) []
 no_items keep s a read h = record {
-  behind = behind_nothing s a read h;
+  after = after_nothing s a read h;
   nodes = no_nests;
   names = λ r es k. and_then _ _ es k;
   reads = λ held. ap (λ ts. Ok (ts, read)) (sym (append-nil held));
 }
 
 pub item_reads : (keep : Bool) (s : Names) (a b c : List Anchor) (read : Anchors) (first others : List Raw → List Raw) (t : Tree) (ts : List Tree)
-    (x : ReadsNode keep s a b read first t) → ReadsItems keep x.behind.names b c x.behind.read others ts → ReadsItems keep s a c read (λ r. first (others r)) (t ∷ ts)
+    (x : ReadsNode keep s a b read first t) → ReadsItems keep x.after.names b c x.after.read others ts → ReadsItems keep s a c read (λ r. first (others r)) (t ∷ ts)
 item_reads keep s a b c read first others t ts x y = record {
-  behind = behind_then s a b c x.behind y.behind;
+  after = after_then s a b c x.after y.after;
   nodes = nest x.node y.nodes;
   names = λ r es k. x.names (others r) _ (y.names r es k);
   reads = λ held. rw (x.reads, y.reads (held ++ t ∷ []), append_assoc) refl;
@@ -103,24 +103,24 @@ item_reads keep s a b c read first others t ts x y = record {
 
 pub no_pairs : (keep : Bool) (s : Names) (a : List Anchor) (read : Anchors) → Agrees s a read → ReadsPairs keep s a a read (λ r. Raw.mapping_end ∷ r) []
 no_pairs keep s a read h = record {
-  behind = behind_nothing s a read h;
+  after = after_nothing s a read h;
   nodes = no_nest_pairs;
   names = λ r es k. and_then _ _ es k;
   reads = λ held distinct. ap (λ ps. Ok (ps, read)) (sym (append-nil held));
 }
 
 pub pair_reads : (keep : Bool) (s : Names) (a b c d : List Anchor) (read : Anchors) (first second others : List Raw → List Raw) (k v : Tree) (ps : List (Tree × Tree))
-    (x : ReadsNode keep s a b read first k) (y : ReadsNode keep x.behind.names b c x.behind.read second v) → ReadsPairs keep y.behind.names c d y.behind.read others ps
+    (x : ReadsNode keep s a b read first k) (y : ReadsNode keep x.after.names b c x.after.read second v) → ReadsPairs keep y.after.names c d y.after.read others ps
     → ReadsPairs keep s a d read (λ r. first (second (others r))) ((k, v) ∷ ps)
 pair_reads keep s a b c d read first second others k v ps x y z =
     let p : Tree × Tree = (k, v) in
     record {
-      behind = behind_then s a b d x.behind (behind_then x.behind.names b c d y.behind z.behind);
+      after = after_then s a b d x.after (after_then x.after.names b c d y.after z.after);
       nodes = nest_pair x.node y.node z.nodes;
       names = λ r es h. x.names (second (others r)) _ (y.names (others r) _ (z.names r es h));
       reads = λ held distinct.
           let same : (held ++ p ∷ []) ++ ps ≡ held ++ p ∷ ps = append_assoc held (p ∷ []) ps in
-          pair_read k v x.node y.node z.nodes held ps read x.behind.read y.behind.read x.reads y.reads distinct
+          pair_read k v x.node y.node z.nodes held ps read x.after.read y.after.read x.reads y.reads distinct
           ∙ z.reads (held ++ p ∷ []) (rw same distinct)
-          ∙ ap (λ qs. Ok (qs, z.behind.read)) same;
+          ∙ ap (λ qs. Ok (qs, z.after.read)) same;
     }

@@ -19,7 +19,7 @@ single text = Inline.scalar (Scalar.single_quoted text)
 abbrev number : Tree → Inline
 number t = Inline.scalar (Scalar.plain t)
 
--- a value behind one space
+-- a value after one space
 abbrev beside : Inline → Value
 beside i = Value.beside 0 i no_comment
 

@@ -34,10 +34,10 @@ with_more : (l : Loader) (es fs : List (Ev × Position)) → with_events l (es +
 with_more l [] fs = refl
 with_more l (e ∷ es) fs = with_more (with_event_at l e.0 e.1) es fs
 
-at_work_behind : (trees : List Tree) (l : Loader) → HasRead (Ok trees) l → IsAtWork l
-at_work_behind trees (at_work u) h = tt
-at_work_behind trees (noted documents key place) h = h
-at_work_behind trees (refused documents place) h = h
+at_work_after : (trees : List Tree) (l : Loader) → HasRead (Ok trees) l → IsAtWork l
+at_work_after trees (at_work u) h = tt
+at_work_after trees (noted documents key place) h = h
+at_work_after trees (refused documents place) h = h
 
 -- events at a place that does not count
 abbrev somewhere : Ev → Ev × Position
@@ -52,7 +52,7 @@ not_refused : (ds : List NestedDocument) (trees : List Tree) (events : List (Ev 
     → IsAtWork (with_events new_loader events)
 not_refused ds trees events more reads same =
     let whole = loaded ds trees (events ++ map somewhere more) reads (with_somewhere events more ∙ same) in
-    work_on (with_events new_loader events) (map somewhere more) (rw with_more at (at_work_behind trees _ whole))
+    work_on (with_events new_loader events) (map somewhere more) (rw with_more at (at_work_after trees _ whole))
 
 -- ---- streams that are read
 

@@ -16,21 +16,21 @@ pub record Ended : Type 0 where
   pub number : ℕ
   pub tree : Tree
 
--- the names behind some ended nodes, the last one first
-abbrev pub names_behind : List Ended → List (List ℕ × ℕ) → List (List ℕ × ℕ)
-names_behind [] names = names
-names_behind (e ∷ es) names = (e.name, e.number) ∷ names_behind es names
+-- the names after some ended nodes, the last one first
+abbrev pub names_after : List Ended → List (List ℕ × ℕ) → List (List ℕ × ℕ)
+names_after [] names = names
+names_after (e ∷ es) names = (e.name, e.number) ∷ names_after es names
 
--- the layout's anchors behind them
-abbrev pub ended_behind : List Ended → List Anchor → List Anchor
-ended_behind [] a = a
-ended_behind (e ∷ es) a = ended e.name e.tree ∷ ended_behind es a
+-- the layout's anchors after them
+abbrev pub ended_after : List Ended → List Anchor → List Anchor
+ended_after [] a = a
+ended_after (e ∷ es) a = ended e.name e.tree ∷ ended_after es a
 
-pub names_append : (es fs : List Ended) (names : List (List ℕ × ℕ)) → names_behind (es ++ fs) names ≡ names_behind es (names_behind fs names)
+pub names_append : (es fs : List Ended) (names : List (List ℕ × ℕ)) → names_after (es ++ fs) names ≡ names_after es (names_after fs names)
 names_append [] fs names = refl
 names_append (e ∷ es) fs names = ap (λ ns. (e.name, e.number) ∷ ns) (names_append es fs names)
 
-pub ended_append : (es fs : List Ended) (a : List Anchor) → ended_behind (es ++ fs) a ≡ ended_behind es (ended_behind fs a)
+pub ended_append : (es fs : List Ended) (a : List Anchor) → ended_after (es ++ fs) a ≡ ended_after es (ended_after fs a)
 ended_append [] fs a = refl
 ended_append (e ∷ es) fs a = ap (λ b. ended e.name e.tree ∷ b) (ended_append es fs a)
 
@@ -92,48 +92,48 @@ older_agree above (p ∷ names) (begun n ∷ a) read k t h low = let less = h.1 
 older_agree above (p ∷ names) (ended n u ∷ a) read k t h low =
     let less = h.1 in (h.0, h.1, other_number p.1 k t read (λ e. omega arith) ∙ h.2, older_agree p.1 names a read k t h.3 (omega arith))
 
--- one that has begun has a lower number than those that ended behind it
+-- one that has begun has a lower number than those that ended after it
 lower : (es : List Ended) (above : ℕ) (name : List ℕ) (k : ℕ) (names : List (List ℕ × ℕ)) (a : List Anchor) (read : Anchors)
-    → Agree above (names_behind es ((name, k) ∷ names)) (ended_behind es (begun name ∷ a)) read → k < above
+    → Agree above (names_after es ((name, k) ∷ names)) (ended_after es (begun name ∷ a)) read → k < above
 lower [] above name k names a read h = h.1
 lower (e ∷ es) above name k names a read h = let less = h.1 in let later = lower es e.number name k names a read h.3 in omega arith
 
 now_ended : (es : List Ended) (above : ℕ) (name : List ℕ) (k : ℕ) (t : Tree) (names : List (List ℕ × ℕ)) (a : List Anchor) (read : Anchors)
-    → Agree above (names_behind es ((name, k) ∷ names)) (ended_behind es (begun name ∷ a)) read
-    → Agree above (names_behind es ((name, k) ∷ names)) (ended_behind es (ended name t ∷ a)) ((k, t) ∷ read)
+    → Agree above (names_after es ((name, k) ∷ names)) (ended_after es (begun name ∷ a)) read
+    → Agree above (names_after es ((name, k) ∷ names)) (ended_after es (ended name t ∷ a)) ((k, t) ∷ read)
 now_ended [] above name k t names a read h = (h.0, h.1, own_number k t read, older_agree k names a read k t h.2 (omega arith))
 now_ended (e ∷ es) above name k t names a read h =
     let less = lower es e.number name k names a read h.3 in
     (h.0, h.1, other_number e.number k t read (λ same. omega arith) ∙ h.2, now_ended es e.number name k t names a read h.3)
 
-with_end_behind : (es : List Ended) (name : List ℕ) (t : Tree) (a : List Anchor) → with_end t (ended_behind es (begun name ∷ a)) ≡ ended_behind es (ended name t ∷ a)
-with_end_behind [] name t a = refl
-with_end_behind (e ∷ es) name t a = ap (λ b. ended e.name e.tree ∷ b) (with_end_behind es name t a)
+with_end_after : (es : List Ended) (name : List ℕ) (t : Tree) (a : List Anchor) → with_end t (ended_after es (begun name ∷ a)) ≡ ended_after es (ended name t ∷ a)
+with_end_after [] name t a = refl
+with_end_after (e ∷ es) name t a = ap (λ b. ended e.name e.tree ∷ b) (with_end_after es name t a)
 
--- ---- a part of a document: from the names and anchors before it to those behind it
+-- ---- a part of a document: from the names and anchors before it to those after it
 
 abbrev pub Agrees : Names → List Anchor → Anchors → Type 0
 Agrees s a read = Agree (s.count + 1) s.anchors a read
 
-pub record Behind (s : Names) (a b : List Anchor) : Type 0 where
+pub record After (s : Names) (a b : List Anchor) : Type 0 where
   pub names : Names
   pub ends : List Ended
   pub read : Anchors
-  pub names_are : names.anchors ≡ names_behind ends s.anchors
-  pub anchors_are : b ≡ ended_behind ends a
+  pub names_are : names.anchors ≡ names_after ends s.anchors
+  pub anchors_are : b ≡ ended_after ends a
   pub agrees : Agrees names b read
 
--- behind nothing
-abbrev pub behind_nothing : (s : Names) (a : List Anchor) (read : Anchors) → Agrees s a read → Behind s a a
-behind_nothing s a read h = record { names = s; ends = []; read = read; names_are = refl; anchors_are = refl; agrees = h }
+-- after nothing
+abbrev pub after_nothing : (s : Names) (a : List Anchor) (read : Anchors) → Agrees s a read → After s a a
+after_nothing s a read h = record { names = s; ends = []; read = read; names_are = refl; anchors_are = refl; agrees = h }
 
-abbrev pub behind_then : (s : Names) (a b c : List Anchor) (x : Behind s a b) → Behind x.names b c → Behind s a c
-behind_then s a b c x y = record {
+abbrev pub after_then : (s : Names) (a b c : List Anchor) (x : After s a b) → After x.names b c → After s a c
+after_then s a b c x y = record {
   names = y.names;
   ends = y.ends ++ x.ends;
   read = y.read;
-  names_are = y.names_are ∙ ap (names_behind y.ends) x.names_are ∙ sym (names_append y.ends x.ends s.anchors);
-  anchors_are = y.anchors_are ∙ ap (ended_behind y.ends) x.anchors_are ∙ sym (ended_append y.ends x.ends a);
+  names_are = y.names_are ∙ ap (names_after y.ends) x.names_are ∙ sym (names_append y.ends x.ends s.anchors);
+  anchors_are = y.anchors_are ∙ ap (ended_after y.ends) x.anchors_are ∙ sym (ended_append y.ends x.ends a);
   agrees = y.agrees;
 }
 
@@ -155,31 +155,31 @@ abbrev pub own : Option (List ℕ) → Names → Tree → List Ended
 own None s t = []
 own (Some name) s t = record { name = name; number = s.count + 1; tree = t } ∷ []
 
-pub own_names : (o : Option (List ℕ)) (s : Names) (t : Tree) → names_behind (own o s t) s.anchors ≡ (with_anchor s o).anchors
+pub own_names : (o : Option (List ℕ)) (s : Names) (t : Tree) → names_after (own o s t) s.anchors ≡ (with_anchor s o).anchors
 own_names None s t = refl
 own_names (Some name) s t = refl
 
-pub own_ended : (o : Option (List ℕ)) (s : Names) (t : Tree) (es : List Ended) (a : List Anchor) → ended_by o t (ended_behind es (begun_by o a)) ≡ ended_behind es (ended_behind (own o s t) a)
+pub own_ended : (o : Option (List ℕ)) (s : Names) (t : Tree) (es : List Ended) (a : List Anchor) → ended_by o t (ended_after es (begun_by o a)) ≡ ended_after es (ended_after (own o s t) a)
 own_ended None s t es a = refl
-own_ended (Some name) s t es a = with_end_behind es name t a
+own_ended (Some name) s t es a = with_end_after es name t a
 
 finished_next : (n : ℕ) (t : Tree) (read : Anchors) → finished (n + 1) t read ≡ (n + 1, t) ∷ read
 finished_next n t read = rw add-one refl
 
-pub own_agrees : (o : Option (List ℕ)) (s : Names) (a b : List Anchor) (t : Tree) (x : Behind (with_anchor s o) (begun_by o a) b) → Agrees x.names (ended_by o t b) (finished (number s o) t x.read)
+pub own_agrees : (o : Option (List ℕ)) (s : Names) (a b : List Anchor) (t : Tree) (x : After (with_anchor s o) (begun_by o a) b) → Agrees x.names (ended_by o t b) (finished (number s o) t x.read)
 own_agrees None s a b t x = x.agrees
 own_agrees (Some name) s a b t x =
     let h = rw (x.names_are, x.anchors_are) at x.agrees in
-    rw (finished_next s.count t x.read, x.names_are, x.anchors_are, with_end_behind x.ends name t a)
+    rw (finished_next s.count t x.read, x.names_are, x.anchors_are, with_end_after x.ends name t a)
     (now_ended x.ends (x.names.count + 1) name (s.count + 1) t s.anchors a x.read h)
 
 -- the node ends
-abbrev pub behind_node : (o : Option (List ℕ)) (s : Names) (a b : List Anchor) (t : Tree) → Behind (with_anchor s o) (begun_by o a) b → Behind s a (ended_by o t b)
-behind_node o s a b t x = record {
+abbrev pub after_node : (o : Option (List ℕ)) (s : Names) (a b : List Anchor) (t : Tree) → After (with_anchor s o) (begun_by o a) b → After s a (ended_by o t b)
+after_node o s a b t x = record {
   names = x.names;
   ends = x.ends ++ own o s t;
   read = finished (number s o) t x.read;
-  names_are = x.names_are ∙ ap (names_behind x.ends) (sym (own_names o s t)) ∙ sym (names_append x.ends (own o s t) s.anchors);
+  names_are = x.names_are ∙ ap (names_after x.ends) (sym (own_names o s t)) ∙ sym (names_append x.ends (own o s t) s.anchors);
   anchors_are = ap (ended_by o t) x.anchors_are ∙ own_ended o s t x.ends a ∙ sym (ended_append x.ends (own o s t) a);
   agrees = own_agrees o s a b t x;
 }

@@ -12,7 +12,7 @@ use Rattle.std.proofs.lemmas.Bool.Decides.{nat_tests}
 use Rattle.defs_tree.specs.Tree.{Tree, real, integer}
 use Rattle.defs_tree.specs.Grammar.{at_least_one, is_among}
 use Rattle.defs_tree.specs.Typing.{typing, signed_decimal, after_prefix, fits_i64, is_digit, is_sign, is_decimal, null_words, true_words, false_words, special_words, where_true}
-use Rattle.defs_tree.proofs.GrammarLaws.{behind_all, behind_one}
+use Rattle.defs_tree.proofs.GrammarLaws.{after_all, after_one}
 use Rattle.defs_tree.proofs.DecimalReading.{begins_in, reads_exponent, reads_on, reads_unsigned, is_decimal-read}
 use Rattle.defs_tree.proofs.ReadBack.{integer_back}
 use Rattle.defs_tree.proofs.RealTexts.{is_real_character, decimal-characters}
@@ -25,7 +25,7 @@ use Rattle.proof_layout_trees.specs.Laws.{JsonNumbersStandForTheirTrees}
 digit_no_sign : (c : ℕ) → is_ascii_digit c ≡ true → is_sign c ≡ false
 digit_no_sign c h = grind (arith, nat_tests)
 
-digits_no_sign : (w r : List ℕ) → are_digits w ≡ true → behind_one is_sign (w ++ r) ≡ w ++ r
+digits_no_sign : (w r : List ℕ) → are_digits w ≡ true → after_one is_sign (w ++ r) ≡ w ++ r
 digits_no_sign [] r h = cc
 digits_no_sign (c ∷ w) r h = rw (digit_no_sign c ((and_parts (is_ascii_digit c) (list_all is_ascii_digit w) h).0)) refl
 
@@ -37,10 +37,10 @@ all_digits : (w : List ℕ) → are_digits w ≡ true → list_all is_ascii_digi
 all_digits [] h = refl
 all_digits (c ∷ w) h = h
 
-behind_digits : (w r : List ℕ) → list_all is_ascii_digit w ≡ true → begins_in is_ascii_digit r ≡ false → behind_all is_ascii_digit (w ++ r) ≡ r
-behind_digits [] [] h stops = refl
-behind_digits [] (c ∷ r) h stops = rw stops refl
-behind_digits (c ∷ w) r h stops = let q = and_parts (is_ascii_digit c) (list_all is_ascii_digit w) h in rw (q.0) (behind_digits w r q.1 stops)
+after_digits : (w r : List ℕ) → list_all is_ascii_digit w ≡ true → begins_in is_ascii_digit r ≡ false → after_all is_ascii_digit (w ++ r) ≡ r
+after_digits [] [] h stops = refl
+after_digits [] (c ∷ r) h stops = rw stops refl
+after_digits (c ∷ w) r h stops = let q = and_parts (is_ascii_digit c) (list_all is_ascii_digit w) h in rw (q.0) (after_digits w r q.1 stops)
 
 whole_digits : (w : List ℕ) → is_whole w ≡ true → are_digits w ≡ true
 whole_digits [] h = h
@@ -49,7 +49,7 @@ whole_digits (c ∷ d ∷ w) h = (and_parts (not (c == 48)) (are_digits (c ∷ d
 
 -- ---- numbers are decimal
 
-signed_digits : (s : Sign) (w : List ℕ) → are_digits w ≡ true → behind_one is_sign (spell_sign s (w ++ [])) ≡ w ++ []
+signed_digits : (s : Sign) (w : List ℕ) → are_digits w ≡ true → after_one is_sign (spell_sign s (w ++ [])) ≡ w ++ []
 signed_digits no_sign w h = digits_no_sign w [] h
 signed_digits plus w h = refl
 signed_digits minus w h = refl
@@ -76,7 +76,7 @@ rest_reads : (f : Fraction) (e : Exponent) → is_fraction f ≡ true → json.i
 rest_reads no_fraction no_exponent h i = refl
 rest_reads no_fraction (exponent true s digits) h i = exponent_reads (exponent true s digits) i
 rest_reads no_fraction (exponent false s digits) h i = exponent_reads (exponent false s digits) i
-rest_reads (fraction digits) e h i = rw (behind_digits digits (spell_exponent e []) (all_digits digits h) (exponent_stops e)) (exponent_reads e i)
+rest_reads (fraction digits) e h i = rw (after_digits digits (spell_exponent e []) (all_digits digits h) (exponent_stops e)) (exponent_reads e i)
 
 -- the parts of a number
 record Parts (m : Bool) (w : List ℕ) (f : Fraction) (e : Exponent) : Type 0 where
@@ -92,7 +92,7 @@ parts m w f e h =
     record { whole = r.0; digits = whole_digits w r.0; fraction = r.1; exponent = q.1 }
 
 unsigned : (w r : List ℕ) → are_digits w ≡ true → begins_in is_ascii_digit r ≡ false → reads_on true r ≡ true → reads_unsigned (w ++ r) ≡ true
-unsigned w r h stops reads = rw (digits_first w r h, behind_digits w r (all_digits w h) stops) reads
+unsigned w r h stops reads = rw (digits_first w r h, after_digits w r (all_digits w h) stops) reads
 
 decimal_number : (m : Bool) (w : List ℕ) (f : Fraction) (e : Exponent) → Parts m w f e → is_decimal (spell_number (json.number m w f e) []) ≡ true
 decimal_number true w f e p = is_decimal-read _ ∙ unsigned w _ p.digits (rest_stops f e) (rest_reads f e p.fraction p.exponent)
@@ -167,7 +167,7 @@ signed_text false (c ∷ t) h =
     let d = digit c h in
     rw (d.plus, d.minus) (ap (λ o. option_and_then (λ y. if fits_i64 y then Some y else None) o) (mapped pos (at_least_one (is_digit 10) (c ∷ t)) (digits_value 10 (c ∷ t))))
 
--- a text with another character behind its digits
+-- a text with another character after its digits
 abbrev IsOther : List ℕ → Type 0
 IsOther [] = ⊥
 IsOther (c ∷ r) = is_digit 10 c ≡ false

@@ -25,13 +25,13 @@ abbrev mutual
   block_nest (Block.hash fs) is = nested_mapping 0 None (all_field_nests fs is)
 
   pub value_nest : (v : Value) → IsBasicValue v → Nest
-  value_nest (Value.beside more i behind) is = inline_nest i is.0
+  value_nest (Value.beside more i after) is = inline_nest i is.0
   value_nest (Value.literal more column text ls) is = nested_scalar text Style.literal 0 None
   value_nest (Value.compact more b) is = block_nest b is
-  value_nest (Value.below behind g column b) is = block_nest b is.1
+  value_nest (Value.below after g column b) is = block_nest b is.1
   value_nest (Value.folded more column strips text ls) is = absurd is
   value_nest (Value.json more v) is = absurd is
-  value_nest (Value.at_key behind g es) is = absurd is
+  value_nest (Value.at_key after g es) is = absurd is
   value_nest (Value.anchored more name v) is = absurd is
   value_nest (Value.alias more name t) is = absurd is
 
@@ -58,7 +58,7 @@ root_nest (Root.literal text ls) is = nested_scalar text Style.literal 0 None
 
 -- the one document
 abbrev pub document_nest : (ds : Documents) → AreBasicDocuments ds → Nest
-document_nest (Documents.last_document d behind) are = root_nest d.root are
+document_nest (Documents.last_document d after) are = root_nest d.root are
 document_nest (Documents.document d g ds) are = absurd are
 
 -- the whole text

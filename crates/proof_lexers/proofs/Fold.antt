@@ -2,9 +2,9 @@
 use Rattle.std.proofs.Common.{◌≡◌, ℕ, zero, suc, List, [], ◌∷◌, ◌++◌, Bool, true, false, not, ◌&&◌, if◌then◌else◌, replicate, refl, ap, sym, ◌∙◌, append_assoc, append-nil}
 use Rattle.defs_text.specs.Text.{is_nil}
 use Rattle.defs_text.specs.Classes.{line_feed, space}
-use Rattle.defs_scalar.specs.FlowScalar.{Element, content, blank, line_break, escaped_break, Lines, last_line, line, lines_of, begun_with, without_trailing_blanks, before_break, trimmed, trimmed_behind, text_of, folded_break, folded_behind, folded}
+use Rattle.defs_scalar.specs.FlowScalar.{Element, content, blank, line_break, escaped_break, Lines, last_line, line, lines_of, begun_with, without_trailing_blanks, before_break, trimmed, trimmed_after, text_of, folded_break, folded_after, folded}
 use Rattle.model_lexers.specs.Folding.{Folded, with_char, with_escaped_break, joined}
-use Rattle.proof_lexers.specs.Buffers.{behind_elements}
+use Rattle.proof_lexers.specs.Buffers.{after_elements}
 use Rattle.proof_lexers.specs.BufferLaws.{BuffersJoinFoldedLines}
 
 -- blanks of a line, as elements before others
@@ -16,9 +16,9 @@ one_more : (g : List ℕ) (c : ℕ) (l : List Element) → blanks (g ++ c ∷ []
 one_more [] c l = refl
 one_more (b ∷ g) c l = ap (λ k. blank b ∷ k) (one_more g c l)
 
-text_behind : (g : List ℕ) (l : List Element) → text_of (blanks g l) ≡ g ++ text_of l
-text_behind [] l = refl
-text_behind (b ∷ g) l = ap (λ k. b ∷ k) (text_behind g l)
+text_after : (g : List ℕ) (l : List Element) → text_of (blanks g l) ≡ g ++ text_of l
+text_after [] l = refl
+text_after (b ∷ g) l = ap (λ k. b ∷ k) (text_after g l)
 
 -- they go before a break that isn't escaped
 all_trailing : (g : List ℕ) → without_trailing_blanks (blanks g []) ≡ []
@@ -26,39 +26,39 @@ all_trailing [] = refl
 all_trailing (b ∷ g) = rw (all_trailing g) refl
 
 -- and stay before content
-some_behind : (b : ℕ) (g : List ℕ) (c : ℕ) (l : List Element) → without_trailing_blanks (blanks g (content c ∷ l)) ≡ blanks g (content c ∷ without_trailing_blanks l)
+some_after : (b : ℕ) (g : List ℕ) (c : ℕ) (l : List Element) → without_trailing_blanks (blanks g (content c ∷ l)) ≡ blanks g (content c ∷ without_trailing_blanks l)
     → without_trailing_blanks (blank b ∷ blanks g (content c ∷ l)) ≡ blank b ∷ blanks g (content c ∷ without_trailing_blanks l)
-some_behind b [] c l e = refl
-some_behind b (d ∷ g) c l e = rw e refl
+some_after b [] c l e = refl
+some_after b (d ∷ g) c l e = rw e refl
 
 none_trailing : (g : List ℕ) (c : ℕ) (l : List Element) → without_trailing_blanks (blanks g (content c ∷ l)) ≡ blanks g (content c ∷ without_trailing_blanks l)
 none_trailing [] c l = refl
-none_trailing (b ∷ g) c l = some_behind b g c l (none_trailing g c l)
+none_trailing (b ∷ g) c l = some_after b g c l (none_trailing g c l)
 
 kept : (escaped : Bool) (g : List ℕ) (c : ℕ) (l : List Element) → text_of (before_break escaped (blanks g (content c ∷ l))) ≡ g ++ c ∷ text_of (before_break escaped l)
-kept true g c l = text_behind g (content c ∷ l)
-kept false g c l = rw (none_trailing g c l) (text_behind g _)
+kept true g c l = text_after g (content c ∷ l)
+kept false g c l = rw (none_trailing g c l) (text_after g _)
 
 -- ---- the text of the lines left
 
--- within a line, behind its trailing blanks
+-- within a line, after its trailing blanks
 abbrev line_text : List ℕ → Lines → List ℕ
 line_text g (last_line l) = text_of (blanks g l)
-line_text g (line l escaped ls) = text_of (before_break escaped (blanks g l)) ++ folded_behind escaped 0 (trimmed_behind ls)
+line_text g (line l escaped ls) = text_of (before_break escaped (blanks g l)) ++ folded_after escaped 0 (trimmed_after ls)
 
 abbrev in_line : List ℕ → List ℕ → Folded
 in_line text g = record { text = text; gap = g; leading = false; escaped = false }
 
--- behind a break and so many empty lines
-abbrev behind_break : Bool → ℕ → List ℕ → Folded
-behind_break escaped n text = record { text = text; gap = replicate n line_feed; leading = true; escaped = escaped }
+-- after a break and so many empty lines
+abbrev after_break : Bool → ℕ → List ℕ → Folded
+after_break escaped n text = record { text = text; gap = replicate n line_feed; leading = true; escaped = escaped }
 
 abbrev joined_text : List Element → Folded → List ℕ
-joined_text es t = (joined (behind_elements es t)).text
+joined_text es t = (joined (after_elements es t)).text
 
 content_line : (g : List ℕ) (c : ℕ) (ls : Lines) → line_text g (begun_with (content c) ls) ≡ g ++ c ∷ line_text [] ls
-content_line g c (last_line l) = text_behind g (content c ∷ l)
-content_line g c (line l escaped ls) = rw (kept escaped g c l) (append_assoc g (c ∷ text_of (before_break escaped l)) (folded_behind escaped 0 (trimmed_behind ls)))
+content_line g c (last_line l) = text_after g (content c ∷ l)
+content_line g c (line l escaped ls) = rw (kept escaped g c l) (append_assoc g (c ∷ text_of (before_break escaped l)) (folded_after escaped 0 (trimmed_after ls)))
 
 blank_line : (g : List ℕ) (c : ℕ) (ls : Lines) → line_text (g ++ c ∷ []) ls ≡ line_text g (begun_with (blank c) ls)
 blank_line g c (last_line l) = rw (one_more g c l) refl
@@ -70,35 +70,35 @@ broken true zero = refl
 broken false (suc n) = refl
 broken true (suc n) = refl
 
-joined_break : (escaped : Bool) (n : ℕ) (text : List ℕ) → joined (behind_break escaped n text) ≡ in_line (text ++ folded_break escaped n) []
+joined_break : (escaped : Bool) (n : ℕ) (text : List ℕ) → joined (after_break escaped n text) ≡ in_line (text ++ folded_break escaped n) []
 joined_break escaped n text = ap (λ g. in_line (text ++ g) []) (broken escaped n)
 
 more_breaks : (n : ℕ) → replicate n line_feed ++ line_feed ∷ [] ≡ replicate (suc n) line_feed
 more_breaks zero = refl
 more_breaks (suc n) = ap (λ r. line_feed ∷ r) (more_breaks n)
 
-leading_blank : (escaped : Bool) (n : ℕ) (c : ℕ) (ls : Lines) → folded_behind escaped n (trimmed_behind (begun_with (blank c) ls)) ≡ folded_behind escaped n (trimmed_behind ls)
+leading_blank : (escaped : Bool) (n : ℕ) (c : ℕ) (ls : Lines) → folded_after escaped n (trimmed_after (begun_with (blank c) ls)) ≡ folded_after escaped n (trimmed_after ls)
 leading_blank escaped n c (last_line l) = refl
 leading_blank escaped n c (line l e ls) = refl
 
-content_behind : (escaped : Bool) (n c : ℕ) (l : List Element) (e : Bool) (ls : Lines) → folded_behind escaped n (line (content c ∷ l) e ls) ≡ folded_break escaped n ++ c ∷ (text_of l ++ folded_behind e 0 ls)
-content_behind escaped n c l true ls = append_assoc (folded_break escaped n) (c ∷ text_of l) (folded_behind true 0 ls)
-content_behind escaped n c l false ls = append_assoc (folded_break escaped n) (c ∷ text_of l) (folded_behind false 0 ls)
+content_after : (escaped : Bool) (n c : ℕ) (l : List Element) (e : Bool) (ls : Lines) → folded_after escaped n (line (content c ∷ l) e ls) ≡ folded_break escaped n ++ c ∷ (text_of l ++ folded_after e 0 ls)
+content_after escaped n c l true ls = append_assoc (folded_break escaped n) (c ∷ text_of l) (folded_after true 0 ls)
+content_after escaped n c l false ls = append_assoc (folded_break escaped n) (c ∷ text_of l) (folded_after false 0 ls)
 
-leading_content : (escaped : Bool) (n : ℕ) (c : ℕ) (ls : Lines) → folded_behind escaped n (trimmed_behind (begun_with (content c) ls)) ≡ folded_break escaped n ++ c ∷ line_text [] ls
+leading_content : (escaped : Bool) (n : ℕ) (c : ℕ) (ls : Lines) → folded_after escaped n (trimmed_after (begun_with (content c) ls)) ≡ folded_break escaped n ++ c ∷ line_text [] ls
 leading_content escaped n c (last_line l) = refl
-leading_content escaped n c (line l true ls) = content_behind escaped n c l true (trimmed_behind ls)
-leading_content escaped n c (line l false ls) = content_behind escaped n c (without_trailing_blanks l) false (trimmed_behind ls)
+leading_content escaped n c (line l true ls) = content_after escaped n c l true (trimmed_after ls)
+leading_content escaped n c (line l false ls) = content_after escaped n c (without_trailing_blanks l) false (trimmed_after ls)
 
 mutual
   line_joins : (es : List Element) (text g : List ℕ) → joined_text es (in_line text g) ≡ text ++ line_text g (lines_of es)
-  line_joins [] text g = rw (text_behind g [], append-nil) refl
+  line_joins [] text g = rw (text_after g [], append-nil) refl
   line_joins (content c ∷ es) text g = line_joins es ((text ++ g) ++ c ∷ []) [] ∙ rw (content_line g c (lines_of es), append_assoc, append_assoc) refl
   line_joins (blank c ∷ es) text g = line_joins es text (g ++ c ∷ []) ∙ ap (λ l. text ++ l) (blank_line g c (lines_of es))
   line_joins (line_break ∷ es) text g = break_joins es false 0 text ∙ rw (all_trailing g) refl
-  line_joins (escaped_break ∷ es) text g = break_joins es true 0 (text ++ g) ∙ rw (text_behind g [], append-nil, append_assoc) refl
+  line_joins (escaped_break ∷ es) text g = break_joins es true 0 (text ++ g) ∙ rw (text_after g [], append-nil, append_assoc) refl
 
-  break_joins : (es : List Element) (escaped : Bool) (n : ℕ) (text : List ℕ) → joined_text es (behind_break escaped n text) ≡ text ++ folded_behind escaped n (trimmed_behind (lines_of es))
+  break_joins : (es : List Element) (escaped : Bool) (n : ℕ) (text : List ℕ) → joined_text es (after_break escaped n text) ≡ text ++ folded_after escaped n (trimmed_after (lines_of es))
   break_joins [] escaped n text = ap (λ t. t.text) (joined_break escaped n text) ∙ rw append-nil refl
   break_joins (content c ∷ es) escaped n text =
       ap (λ t. joined_text es (with_char c t)) (joined_break escaped n text)

@@ -12,11 +12,11 @@ use Rattle.proof_lexers.specs.HeaderEnds.{indicator_of, is_in_line, ends_line}
 use Rattle.proof_lexers.specs.BlockEnds as block_ends
 use Rattle.proof_lexers.specs.BlockScan.{collection_by, digit_by, is_literal, is_some, IsRead}
 
--- `headers_end_as_their_line_says`; `line` is the rest of the header's line, and `behind` the text from the line's end on
+-- `headers_end_as_their_line_says`; `line` is the rest of the header's line, and `after` the text from the line's end on
 abbrev pub HeadersEndAsTheirLineSays : Type 0
 HeadersEndAsTheirLineSays =
-    (style : BlockStyle) (line behind : List ℕ) (p : Position) → is_in_line line ≡ true → ends_line behind ≡ true
-    → header_ends.EndsAs p style line behind (header p (line ++ behind) (past p))
+    (style : BlockStyle) (line after : List ℕ) (p : Position) → is_in_line line ≡ true → ends_line after ≡ true
+    → header_ends.EndsAs p style line after (header p (line ++ after) (past p))
 
 -- `first_lines_give_the_column`; `text` is what stands after the header's break
 abbrev pub FirstLinesGiveTheColumn : Type 0

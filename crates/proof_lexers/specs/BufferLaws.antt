@@ -2,8 +2,8 @@
 use Rattle.std.specs.Prelude.{◌≡◌, List}
 use Rattle.defs_scalar.specs.FlowScalar.{Element, lines_of, trimmed, folded}
 use Rattle.model_lexers.specs.Folding.{nothing, joined}
-use Rattle.proof_lexers.specs.Buffers.{behind_elements}
+use Rattle.proof_lexers.specs.Buffers.{after_elements}
 
 -- `buffers_join_folded_lines`
 abbrev pub BuffersJoinFoldedLines : Type 0
-BuffersJoinFoldedLines = (es : List Element) → (joined (behind_elements es nothing)).text ≡ folded (trimmed (lines_of es))
+BuffersJoinFoldedLines = (es : List Element) → (joined (after_elements es nothing)).text ≡ folded (trimmed (lines_of es))

@@ -4,13 +4,13 @@ use Rattle.defs_scalar.specs.FlowScalar.{Element, content, blank, line_break, es
 use Rattle.model_lexers.specs.Folding.{Folded, with_char, with_blank, with_break, with_escaped_break, joined}
 
 -- after an element: content and an escaped break take the gap before them into the text
-abbrev pub behind_element : Element → Folded → Folded
-behind_element (content c) t = with_char c (joined t)
-behind_element (blank c) t = with_blank c t
-behind_element line_break t = with_break t
-behind_element escaped_break t = with_escaped_break (joined t)
+abbrev pub after_element : Element → Folded → Folded
+after_element (content c) t = with_char c (joined t)
+after_element (blank c) t = with_blank c t
+after_element line_break t = with_break t
+after_element escaped_break t = with_escaped_break (joined t)
 
 -- after elements
-abbrev pub behind_elements : List Element → Folded → Folded
-behind_elements [] t = t
-behind_elements (e ∷ es) t = behind_elements es (behind_element e t)
+abbrev pub after_elements : List Element → Folded → Folded
+after_elements [] t = t
+after_elements (e ∷ es) t = after_elements es (after_element e t)

@@ -9,7 +9,7 @@ use Rattle.yaml_tokens.specs.declared.problem.Problem.TheVariants as problem
 use Rattle.defs_text.specs.Classes.{is_blank, is_break, is_decimal_digit, is_alpha, is_uri, is_at_gap}
 use Rattle.defs_text.specs.Breaks.{is_before_line_feed, is_rest_of_line}
 use Rattle.defs_scalar.specs.FlowScalar.{begins_with}
-use Rattle.defs_scalar.specs.Tags.{UriFault, leading, behind, begins_with_mark, decoded}
+use Rattle.defs_scalar.specs.Tags.{UriFault, leading, after, begins_with_mark, decoded}
 use Rattle.defs_scalar.specs.Directives.{Directive, version, tag_declaration, reserved, begins_prefix, handle_and_rest, directive_of}
 use Rattle.defs_text.specs.Position.{position_after}
 use Rattle.defs_text.specs.Breaks.{has_no_break}
@@ -39,36 +39,36 @@ next_line [] = []
 next_line (c ∷ r) = (if is_before_line_feed c r then drop 1 r else r)
 
 -- what is left after a directive's line and its break
-abbrev pub behind_line : Position → (line next : List ℕ) → Tok → Read Tok
-behind_line p line next tok = record { rest = next_line next; place = position_after p (line ++ first_break next) (next_line next); value = tok }
+abbrev pub after_line : Position → (line next : List ℕ) → Tok → Read Tok
+after_line p line next tok = record { rest = next_line next; place = position_after p (line ++ first_break next) (next_line next); value = tok }
 
 -- Why a text after `%YAML` and blanks is no version: a number is missing, has more than nine digits, or no point stands after the first one.
 pub data IsNoVersion (text : List ℕ) : Problem → Type 0 where
   no_major : leading is_decimal_digit text ≡ [] → IsNoVersion text problem.VersionNumber
   long_major : nat_le (length (leading is_decimal_digit text)) 9 ≡ false → IsNoVersion text problem.VersionTooLong
-  no_point : begins_with 46 (behind is_decimal_digit text) ≡ false → IsNoVersion text problem.VersionDot
-  no_minor : (r : List ℕ) → behind is_decimal_digit text ≡ 46 ∷ r → leading is_decimal_digit r ≡ [] → IsNoVersion text problem.VersionNumber
-  long_minor : (r : List ℕ) → behind is_decimal_digit text ≡ 46 ∷ r → nat_le (length (leading is_decimal_digit r)) 9 ≡ false → IsNoVersion text problem.VersionTooLong
+  no_point : begins_with 46 (after is_decimal_digit text) ≡ false → IsNoVersion text problem.VersionDot
+  no_minor : (r : List ℕ) → after is_decimal_digit text ≡ 46 ∷ r → leading is_decimal_digit r ≡ [] → IsNoVersion text problem.VersionNumber
+  long_minor : (r : List ℕ) → after is_decimal_digit text ≡ 46 ∷ r → nat_le (length (leading is_decimal_digit r)) 9 ≡ false → IsNoVersion text problem.VersionTooLong
 
 -- Why a text after `%TAG` and blanks declares no handle: it begins with no mark; its name has no second mark; no prefix begins after the handle and blanks; octets of the prefix are no characters; or the prefix goes on.
 pub data IsNoDeclaration (text : List ℕ) : Problem → Type 0 where
   no_mark : begins_with_mark text ≡ false → IsNoDeclaration text problem.TagStart
-  open_name : (c : ℕ) (name rest : List ℕ) → text ≡ 33 ∷ rest → leading is_alpha rest ≡ c ∷ name → begins_with_mark (behind is_alpha rest) ≡ false → IsNoDeclaration text problem.TagDirectiveHandle
-  no_prefix : begins_prefix (behind is_blank (handle_and_rest text).1) ≡ false → IsNoDeclaration text problem.GlobalTagCharacter
-  by_octets : (f : UriFault) → decoded (leading is_uri (behind is_blank (handle_and_rest text).1)) ≡ Err f → IsNoDeclaration text (problem_of f)
-  goes_on : is_at_gap (behind is_uri (behind is_blank (handle_and_rest text).1)) ≡ false → IsNoDeclaration text problem.TagDirectiveEnd
+  open_name : (c : ℕ) (name rest : List ℕ) → text ≡ 33 ∷ rest → leading is_alpha rest ≡ c ∷ name → begins_with_mark (after is_alpha rest) ≡ false → IsNoDeclaration text problem.TagDirectiveHandle
+  no_prefix : begins_prefix (after is_blank (handle_and_rest text).1) ≡ false → IsNoDeclaration text problem.GlobalTagCharacter
+  by_octets : (f : UriFault) → decoded (leading is_uri (after is_blank (handle_and_rest text).1)) ≡ Err f → IsNoDeclaration text (problem_of f)
+  goes_on : is_at_gap (after is_uri (after is_blank (handle_and_rest text).1)) ≡ false → IsNoDeclaration text problem.TagDirectiveEnd
 
 -- Why a line after a `%` at a place is refused: it begins with no name; the name goes on with another character; a version or a declaration is none; or after one stands a comment without a blank, or other text.
 pub data IsRefusal (start : Position) (line : List ℕ) : Fault → Type 0 where
   no_name : leading is_alpha line ≡ [] → IsRefusal start line (At problem.DirectiveName (further 1 start))
-  by_name : is_at_gap (behind is_alpha line) ≡ false → IsRefusal start line (At problem.DirectiveNameEnd (further 1 start))
-  by_version : (why : Problem) → leading is_alpha line ≡ codes "YAML" → IsNoVersion (behind is_blank (behind is_alpha line)) why → IsRefusal start line (At why start)
-  by_declaration : (why : Problem) → leading is_alpha line ≡ codes "TAG" → IsNoDeclaration (behind is_blank (behind is_alpha line)) why → IsRefusal start line (At why start)
+  by_name : is_at_gap (after is_alpha line) ≡ false → IsRefusal start line (At problem.DirectiveNameEnd (further 1 start))
+  by_version : (why : Problem) → leading is_alpha line ≡ codes "YAML" → IsNoVersion (after is_blank (after is_alpha line)) why → IsRefusal start line (At why start)
+  by_declaration : (why : Problem) → leading is_alpha line ≡ codes "TAG" → IsNoDeclaration (after is_blank (after is_alpha line)) why → IsRefusal start line (At why start)
   by_comment : (before rest : List ℕ) → line ≡ before ++ 35 ∷ rest → IsRefusal start line (At problem.CommentNotSeparated (further (suc (length before)) start))
   by_text : (before rest : List ℕ) → line ≡ before ++ rest → is_rest_of_line rest ≡ false → IsRefusal start line (At problem.DirectiveEnd start)
 
 -- The scan of a text after a `%`: it read the directive that its first line is, and the break after that; or the line is none, and the scan has a fault of which it is the reason.
 pub data EndsAs (start : Position) (text : List ℕ) (x : Result (Read Tok) Fault) : Type 0 where
   reads : (line next : List ℕ) (d : Directive) → text ≡ line ++ next → has_no_break line ≡ true → ends_line next ≡ true → directive_of (37 ∷ line) ≡ Some d
-      → x ≡ Ok (behind_line start (37 ∷ line) next (token_of d)) → EndsAs start text x
+      → x ≡ Ok (after_line start (37 ∷ line) next (token_of d)) → EndsAs start text x
   refuses : (line next : List ℕ) (f : Fault) → text ≡ line ++ next → has_no_break line ≡ true → ends_line next ≡ true → directive_of (37 ∷ line) ≡ None → IsRefusal start line f → x ≡ Err f → EndsAs start text x

@@ -27,8 +27,8 @@ begins_token [] = false
 begins_token (c ∷ r) = not (is_white c || (c == 35))
 
 -- What is held after a filler: its place, and outside flow a key may begin after a break in it. Whether blanks alone stand before that place on its line is said apart.
-abbrev pub behind_filler : Held → (leading : Bool) → (filler rest : List ℕ) → State
-behind_filler s leading filler rest =
+abbrev pub after_filler : Held → (leading : Bool) → (filler rest : List ℕ) → State
+after_filler s leading filler rest =
     record { rest = rest; held = record s { place = position_after s.place filler rest; leading = leading; key_allowed = (not (in_flow s) && has_break filler) || s.key_allowed } }
 
 -- whether a place is left of the innermost level of indentation
@@ -37,13 +37,13 @@ is_left s p = not (is_nil s.indents) && nat_lt (suc p.col) s.indent
 
 -- How the way to the next token ends: all of a filler was passed; or a TAB left of the innermost level has more blanks after it, and then a token.
 pub data PassesAs (s : Held) (text : List ℕ) (x : Result State Fault) : Type 0 where
-  passes : (leading : Bool) (filler rest : List ℕ) → text ≡ filler ++ rest → is_filler false filler rest ≡ true → begins_filler rest ≡ false → x ≡ Ok (behind_filler s leading filler rest) → PassesAs s text x
+  passes : (leading : Bool) (filler rest : List ℕ) → text ≡ filler ++ rest → is_filler false filler rest ≡ true → begins_filler rest ≡ false → x ≡ Ok (after_filler s leading filler rest) → PassesAs s text x
   refuses : (before blanks rest : List ℕ) → text ≡ before ++ 9 ∷ (blanks ++ rest) → is_filler false before (9 ∷ (blanks ++ rest)) ≡ true → is_left s (position_after s.place before (9 ∷ (blanks ++ rest))) ≡ true
       → is_blanks blanks ≡ true → begins_token rest ≡ true → x ≡ Err (At problem.TabInBlockIndentation (position_after s.place (before ++ 9 ∷ blanks) rest)) → PassesAs s text x
 
 -- A filler before what is none was passed; or a TAB left of the innermost level is refused.
 pub data IsPassed (s : Held) (filler rest : List ℕ) (x : Result State Fault) : Type 0 where
-  passed : (leading : Bool) → x ≡ Ok (behind_filler s leading filler rest) → IsPassed s filler rest x
+  passed : (leading : Bool) → x ≡ Ok (after_filler s leading filler rest) → IsPassed s filler rest x
   refused : (before blanks more : List ℕ) → filler ++ rest ≡ before ++ 9 ∷ (blanks ++ more) → is_filler false before (9 ∷ (blanks ++ more)) ≡ true → is_left s (position_after s.place before (9 ∷ (blanks ++ more))) ≡ true
       → is_blanks blanks ≡ true → begins_token more ≡ true → x ≡ Err (At problem.TabInBlockIndentation (position_after s.place (before ++ 9 ∷ blanks) more)) → IsPassed s filler rest x
 
@@ -54,13 +54,13 @@ begins_white_space (c ∷ r) = (c == 32) || is_break c || (c == 35)
 
 -- How the way over what must stand after a `?` ends: spaces, breaks and comments were passed; or neither a space nor a break stands there, nor after a comment.
 pub data GoesOverAs (s : Held) (text : List ℕ) (x : Result State Fault) : Type 0 where
-  goes : (leading : Bool) (filler rest : List ℕ) → text ≡ filler ++ rest → is_filler false filler rest ≡ true → begins_white_space rest ≡ false → x ≡ Ok (behind_filler s leading filler rest) → GoesOverAs s text x
+  goes : (leading : Bool) (filler rest : List ℕ) → text ≡ filler ++ rest → is_filler false filler rest ≡ true → begins_white_space rest ≡ false → x ≡ Ok (after_filler s leading filler rest) → GoesOverAs s text x
   misses : (filler rest : List ℕ) → text ≡ filler ++ rest → is_filler false filler rest ≡ true → begins_with 32 text ≡ false → has_break filler ≡ false → begins_white_space rest ≡ false
       → x ≡ Err (At problem.WhitespaceExpected (position_after s.place filler rest)) → GoesOverAs s text x
 
 -- what spaces, TABs and a comment leave at a place, and which of the first two stood there
-abbrev pub behind_space : Position → (filler rest : List ℕ) → Whitespace → Read Whitespace
-behind_space p filler rest found = record { rest = rest; place = position_after p filler rest; value = found }
+abbrev pub after_space : Position → (filler rest : List ℕ) → Whitespace → Read Whitespace
+after_space p filler rest found = record { rest = rest; place = position_after p filler rest; value = found }
 
 -- whether a character stands in a text
 abbrev pub has : ℕ → List ℕ → Bool
@@ -80,5 +80,5 @@ ends_spaces tabs (c ∷ r) = not ((c == 32) || ((c == 9) && are_skipped tabs) ||
 -- How the way over blanks and a comment ends: all blanks and maybe a comment after one were passed, which is a filler of one line; or a comment stands after no blank.
 pub data SpacesAs (tabs : SkipTabs) (p : Position) (text : List ℕ) (x : Result (Read Whitespace) Fault) : Type 0 where
   spaces : (blanks comment rest : List ℕ) → text ≡ blanks ++ (comment ++ rest) → are_spaces tabs blanks ≡ true → is_filler false (blanks ++ comment) rest ≡ true → has_break (blanks ++ comment) ≡ false → ends_spaces tabs rest ≡ true
-      → x ≡ Ok (behind_space p (blanks ++ comment) rest (record { found_tabs = has 9 blanks; has_valid_yaml_ws = has 32 blanks })) → SpacesAs tabs p text x
+      → x ≡ Ok (after_space p (blanks ++ comment) rest (record { found_tabs = has 9 blanks; has_valid_yaml_ws = has 32 blanks })) → SpacesAs tabs p text x
   glued : begins_with 35 text ≡ true → x ≡ Err (At problem.CommentNotSeparated p) → SpacesAs tabs p text x

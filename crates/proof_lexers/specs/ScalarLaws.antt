@@ -7,7 +7,7 @@ use Rattle.model_lexers.specs.Anchor.{anchor_name}
 use Rattle.model_lexers.specs.Plain.{plain}
 use Rattle.defs_token.specs.Piece.{is_name, goes_on_with_name}
 use Rattle.defs_token.specs.Plain.{is_whole_plain}
-use Rattle.proof_lexers.specs.NameEnds.{behind_name, EndsAs}
+use Rattle.proof_lexers.specs.NameEnds.{after_name, EndsAs}
 use Rattle.model_lexers.specs.declared.context.SkipTabs.{SkipTabs}
 use Rattle.model_lexers.specs.Space.{space}
 use Rattle.model_scanner.specs.State.{Held}
@@ -30,7 +30,7 @@ use Rattle.proof_lexers.specs.PlainEnds as plains
 
 -- `names_are_read`; `c` is the indicator
 abbrev pub NamesAreRead : Type 0
-NamesAreRead = (c : ℕ) (name rest : List ℕ) (p : Position) → is_name name ≡ true → goes_on_with_name rest ≡ false → anchor_name (c ∷ (name ++ rest)) p ≡ Ok (behind_name p name rest)
+NamesAreRead = (c : ℕ) (name rest : List ℕ) (p : Position) → is_name name ≡ true → goes_on_with_name rest ≡ false → anchor_name (c ∷ (name ++ rest)) p ≡ Ok (after_name p name rest)
 
 -- `names_end_as_their_text_says`
 abbrev pub NamesEndAsTheirTextSays : Type 0
@@ -69,7 +69,7 @@ TagsEndAsTheirTextSays = (in_flow : Bool) (text : List ℕ) (p : Position) → t
 abbrev pub TagsAreRead : Type 0
 TagsAreRead =
     (in_flow : Bool) (piece rest handle suffix : List ℕ) (p : Position) → written_tag (33 ∷ piece) ≡ Some (record { handle = handle; suffix = suffix }) → tags.may_follow in_flow rest ≡ true
-    → tag in_flow (33 ∷ (piece ++ rest)) p ≡ Ok (tags.behind_tag p (33 ∷ piece) rest handle suffix)
+    → tag in_flow (33 ∷ (piece ++ rest)) p ≡ Ok (tags.after_tag p (33 ∷ piece) rest handle suffix)
 
 -- `white_space_is_passed`; what must stand after a `?`
 abbrev pub WhiteSpaceIsPassed : Type 0
@@ -83,7 +83,7 @@ SpacesArePassed = (tabs : SkipTabs) (text : List ℕ) (p : Position) → SpacesA
 abbrev pub DirectivesAreRead : Type 0
 DirectivesAreRead =
     (line next : List ℕ) (d : Directive) (p : Position) → has_no_break line ≡ true → directives.ends_line next ≡ true → directive_of (37 ∷ line) ≡ Some d
-    → directive (37 ∷ (line ++ next)) p ≡ Ok (directives.behind_line p (37 ∷ line) next (directives.token_of d))
+    → directive (37 ∷ (line ++ next)) p ≡ Ok (directives.after_line p (37 ∷ line) next (directives.token_of d))
 
 -- `directives_end_as_their_text_says`; `text` is what stands after the `%`
 abbrev pub DirectivesEndAsTheirTextSays : Type 0

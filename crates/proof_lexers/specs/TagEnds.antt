@@ -19,8 +19,8 @@ abbrev pub may_follow : (in_flow : Bool) → List ℕ → Bool
 may_follow in_flow r = is_at_gap r || (in_flow && begins_flow r)
 
 -- what is left after a tag at a place
-abbrev pub behind_tag : Position → (piece rest handle suffix : List ℕ) → Read Tag
-behind_tag p piece rest handle suffix = record { rest = rest; place = further (length piece) p; value = record { handle = handle; suffix = suffix } }
+abbrev pub after_tag : Position → (piece rest handle suffix : List ℕ) → Read Tag
+after_tag p piece rest handle suffix = record { rest = rest; place = further (length piece) p; value = record { handle = handle; suffix = suffix } }
 
 -- Why the text after a `!` is refused: octets of it are no characters; a verbatim tag is not closed; a handle of two marks has no suffix; or a tag stands there, and the text goes on.
 pub data IsRefusal (in_flow : Bool) (text : List ℕ) : Problem → Type 0 where
@@ -32,5 +32,5 @@ pub data IsRefusal (in_flow : Bool) (text : List ℕ) : Problem → Type 0 where
 -- How a scan ends: it read a tag that stands there as what it is; or it has a fault of which the text is the reason.
 pub data EndsAs (in_flow : Bool) (start : Position) (text : List ℕ) (x : Result (Read Tag) Fault) : Type 0 where
   reads : (piece rest handle suffix : List ℕ) → text ≡ piece ++ rest → written_tag (33 ∷ piece) ≡ Some (record { handle = handle; suffix = suffix }) → may_follow in_flow rest ≡ true
-      → x ≡ Ok (behind_tag start (33 ∷ piece) rest handle suffix) → EndsAs in_flow start text x
+      → x ≡ Ok (after_tag start (33 ∷ piece) rest handle suffix) → EndsAs in_flow start text x
   refuses : (why : Problem) → IsRefusal in_flow text why → x ≡ Err (At why start) → EndsAs in_flow start text x

@@ -24,7 +24,7 @@ use Rattle.proof_loads.specs.TextEvents.{HasEvents, AreFirst, BeginsEvents, IsFa
 use Rattle.proof_loads.specs.Laws.{TextsAreAnswered}
 use Rattle.proof_loads.proofs.Pulled.{Noted, noted, read_given, explained, settings_stay, events_are_clear, has_end_append}
 use Rattle.proof_loads.proofs.Texts.{first_tokens, foretells_beginning}
-use Rattle.proof_loads.proofs.Runs.{IsOver, pushes, misplaced_events, PushesAll, ended_within, ended_behind, given_append}
+use Rattle.proof_loads.proofs.Runs.{IsOver, pushes, misplaced_events, PushesAll, ended_within, ended_after, given_append}
 use Rattle.proof_loads.proofs.StreamEnds.{all_tokens}
 
 -- what a call does with these answers
@@ -50,7 +50,7 @@ end_was_pushed between (event e p ∷ answers) h = cc
 end_was_pushed inside (event Ev.document_end p ∷ answers) h = end_was_pushed between answers h
 end_was_pushed inside (event e p ∷ answers) h = or_right (is_stream_end e) (end_was_pushed inside answers h)
 
--- ---- behind the answers
+-- ---- after the answers
 
 -- Nothing was answered; or the events that were given are those of the tokens, and whole where the stream's end is among them.
 data Followed (answers : List (Answer Fault)) (p : Parsed) : Type 0 where
@@ -79,7 +79,7 @@ placed_stream keep_tags tokens es s = record { documents = s.documents; has_toke
 pub nested_is_stream : {keep_tags : Bool} {text : List ℕ} {es : List (Ev × Position)} (h : HasEvents keep_tags text es) → IsStream keep_tags (toks h.tokens) (nested_stream h.documents)
 nested_is_stream {keep_tags} {text} {es} h = subst (IsStream keep_tags (toks h.tokens)) h.events_are (placed_stream keep_tags h.tokens es h.stream)
 
--- Events of which more stand behind these begin a stream too.
+-- Events of which more stand after these begin a stream too.
 begins_too : (keep_tags : Bool) (tokens : List Token) (es fs : List (Ev × Position)) → BeginsPlaced keep_tags tokens (es ++ fs) → BeginsPlaced keep_tags tokens es
 begins_too keep_tags tokens es fs b = record {
   more_tokens = b.more_tokens;
@@ -103,7 +103,7 @@ ended_all answers p n (some same follows is) ended =
     let placed : IsPlacedStream p.keep_tags p.scanner.given p.given = subst (IsPlacedStream p.keep_tags p.scanner.given) same (is (sym n.ended ∙ ended)).stream in
     record {
       is_whole = placed;
-      pushed = ended_behind Fault p.given answers n.rest (all_are_pushed p.keep_tags (toks p.scanner.given) p.given (placed_stream p.keep_tags p.scanner.given p.given placed)) n.answers_are;
+      pushed = ended_after Fault p.given answers n.rest (all_are_pushed p.keep_tags (toks p.scanner.given) p.given (placed_stream p.keep_tags p.scanner.given p.given placed)) n.answers_are;
     }
 
 -- What was pushed, and what was given besides.
@@ -139,7 +139,7 @@ has_all_events text p scans s =
 
 -- ---- the ends of a call
 
-record Behind (text : List ℕ) (answers : List (Answer Fault)) (p : Parsed) : Type 0 where
+record After (text : List ℕ) (answers : List (Answer Fault)) (p : Parsed) : Type 0 where
   noted : p.fault ≡ None → Noted answers p
   followed : p.fault ≡ None → Followed answers p
   scans : ScansIn text p.scanner
@@ -147,13 +147,13 @@ record Behind (text : List ℕ) (answers : List (Answer Fault)) (p : Parsed) : T
   explained : (f : Fault) → p.fault ≡ Some f → Explains f p
   clear : (es : List (Ev × Position)) → answers ≡ given Fault es → p.fault ≡ None
 
-ends_whole : {R : Type 0} {takes : R → Ev → Position → Result (Unit {0}) Fault → R → Type 0} {r s : R} {text : List ℕ} (answers : List (Answer Fault)) (p : Parsed) → Behind text answers p → p.fault ≡ None
+ends_whole : {R : Type 0} {takes : R → Ev → Position → Result (Unit {0}) Fault → R → Type 0} {r s : R} {text : List ℕ} (answers : List (Answer Fault)) (p : Parsed) → After text answers p → p.fault ≡ None
     → has_end (so answers).pushed ≡ true → Receives takes r (so answers).pushed s → AnswersText takes p.keep_tags text r (Ok tt) s
 ends_whole {takes = takes} {r = r} {s = s} {text = text} answers p b clear h received =
     let all = ended_all answers p (b.noted clear) (b.followed clear) (end_was_given answers p (b.noted clear) (b.followed clear) h) in
     whole p.given (has_all_events text p b.scans all.is_whole) (subst (λ es. Receives takes r es s) all.pushed.0 received)
 
-fault_of : (text : List ℕ) (answers : List (Answer Fault)) (p : Parsed) (f : Fault) → Behind text answers p → Explains f p → IsFaultOf p.keep_tags text f
+fault_of : (text : List ℕ) (answers : List (Answer Fault)) (p : Parsed) (f : Fault) → After text answers p → Explains f p → IsFaultOf p.keep_tags text f
 fault_of text answers p f b why = elim why [
   | inl kept ↦ by_scanner f.memory refl kept
   | inr other ↦ elim other [ inl wants ↦ wants_memory wants | inr cut ↦ by_grammar cut.blames (cut.refused b.steady) ]
@@ -177,7 +177,7 @@ fault_of text answers p f b why = elim why [
         (subst (λ ts. NoneBegins p.keep_tags (toks ts)) r.tokens r.none)
 
 -- An event that is no document's start never stands between documents.
-not_misplaced : (text : List ℕ) (answers : List (Answer Fault)) (p : Parsed) (q : Position) → Behind text answers p → (so answers).ending ≡ run.no_document q → (so answers).taken ≡ length answers → ⊥
+not_misplaced : (text : List ℕ) (answers : List (Answer Fault)) (p : Parsed) (q : Position) → After text answers p → (so answers).ending ≡ run.no_document q → (so answers).taken ≡ length answers → ⊥
 not_misplaced text answers p q b e taken = by (b.followed clear)
   where
     only_events : (es : List (Ev × Position)) × (answers ≡ given Fault es)
@@ -204,7 +204,7 @@ not_misplaced text answers p q b e taken = by (b.followed clear)
             given_append Fault (read p) more ∙ ap (λ es. given Fault es ++ given Fault more) same ∙ ap (λ bs. bs ++ given Fault more) (sym (given_alone answers p (b.noted clear) going)) in
             well_is_not (ended_within Fault all answers (given Fault more) pushed are (subst (λ x. IsOver x) (sym e) tt)).1
 
-begins_text : (text : List ℕ) (answers : List (Answer Fault)) (p : Parsed) (es : List (Ev × Position)) (e : Ev × Position) → Behind text answers p → p.fault ≡ None → (so answers).pushed ≡ es ++ e ∷ []
+begins_text : (text : List ℕ) (answers : List (Answer Fault)) (p : Parsed) (es : List (Ev × Position)) (e : Ev × Position) → After text answers p → p.fault ≡ None → (so answers).pushed ≡ es ++ e ∷ []
     → BeginsEvents p.keep_tags text (es ++ e ∷ [])
 begins_text text answers p es e b clear pushed = by (b.followed clear)
   where
@@ -227,7 +227,7 @@ begins_text text answers p es e b clear pushed = by (b.followed clear)
         }
 
 ends_so : {R : Type 0} {takes : R → Ev → Position → Result (Unit {0}) Fault → R → Type 0} {r s : R} {text : List ℕ} {result : Result (Unit {0}) Fault} {new : Parsed} (answers : List (Answer Fault)) (p : Parsed)
-    → Behind text answers p → (so answers).taken ≡ length answers → EndsSo takes r (so answers) p result new s → AnswersText takes p.keep_tags text r result s
+    → After text answers p → (so answers).taken ≡ length answers → EndsSo takes r (so answers) p result new s → AnswersText takes p.keep_tags text r result s
 ends_so answers p b taken (loads.well e clear received) = ends_whole answers p b clear (end_was_pushed before_stream answers e) received
 ends_so {text = text} answers p b taken (loads.faulted {f = f} e kept received) = faulted (so answers).pushed (fault_of text answers p f b (b.explained f kept)) received
 ends_so {text = text} answers p b taken (loads.misplaced q e received) = absurd (not_misplaced text answers p q b e taken)
@@ -240,7 +240,7 @@ scanner_stays (loads.faulted e kept received) = refl
 scanner_stays (loads.misplaced q e received) = refl
 scanner_stays (loads.refused e q pushed clear received takes) = refl
 
-known : {old p : Parsed} {answers : List (Answer Fault)} (text : List ℕ) → IsAtStart old → ScansIn text p.scanner → PullsAll old answers p → Behind text answers p
+known : {old p : Parsed} {answers : List (Answer Fault)} (text : List ℕ) → IsAtStart old → ScansIn text p.scanner → PullsAll old answers p → After text answers p
 known {old} {p} {answers} text start scans calls =
     let steady : p.steady ≡ true = (settings_stay calls).steady ∙ start.steady in
     record {
@@ -255,7 +255,7 @@ known {old} {p} {answers} text start scans calls =
 pub texts_are_answered : {R : Type 0} (takes : R → Ev → Position → Result (Unit {0}) Fault → R → Type 0) → TextsAreAnswered takes
 texts_are_answered takes old new r s result text start scans l =
     let from_start : (load old.started true l.answers) ≡ so l.answers = rw start.started refl in
-    let p = l.behind in
+    let p = l.after in
     let b = known text start (subst (λ u. ScansIn text u) (scanner_stays l.ends) scans) l.pulled in
     let ends : EndsSo takes r (so l.answers) p result new s = subst (λ u. EndsSo takes r u p result new s) from_start l.ends in
     subst (λ k. AnswersText takes k text r result s) (settings_stay l.pulled).keep_tags (ends_so l.answers p b (sym (ap (λ u. u.taken) from_start) ∙ l.taken) ends)

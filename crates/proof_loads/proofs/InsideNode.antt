@@ -1,4 +1,4 @@
--- Behind the first events of a stream, no open node's anchor is finished: anchors are numbered as they come.
+-- After the first events of a stream, no open node's anchor is finished: anchors are numbered as they come.
 use Rattle.std.proofs.Common.{◌≡◌, ℕ, zero, suc, ◌+◌, ◌≤◌, ◌<◌, Bool, true, false, List, [], ◌∷◌, ◌++◌, Some, None, refl, sym, ap, subst, ◌∙◌, inl, inr, arith}
 use Rattle.std.specs.Prelude.{Option, option_map, if◌then◌else◌}
 use Rattle.std.proofs.lemmas.Bool.{ne_eqb}
@@ -11,7 +11,7 @@ use Rattle.defs_event.specs.Raw.{Raw}
 use Rattle.defs_event.specs.Names.{Names, no_names, named, both, names_after, resolved_event, perhaps_resolved, under_name, number, with_anchor, are_allowed}
 use Rattle.defs_event.specs.Scalar.{scalar_tree}
 use Rattle.defs_event.specs.Anchors.{Anchors, aliased, finished}
-use Rattle.defs_event.specs.Unfinished.{Opened, opened_sequence, opened_mapping, Unfinished, Step, reads, repeats, out_of_nesting, with_root, with_tree, with_node, with_start, with_sequence_end, with_mapping_end, with_document_end, with_event, Loader, at_work, noted, refused, new_loader, loader_behind, with_event_at, with_events}
+use Rattle.defs_event.specs.Unfinished.{Opened, opened_sequence, opened_mapping, Unfinished, Step, reads, repeats, out_of_nesting, with_root, with_tree, with_node, with_start, with_sequence_end, with_mapping_end, with_document_end, with_event, Loader, at_work, noted, refused, new_loader, loader_after, with_event_at, with_events}
 use Rattle.defs_event.specs.Grammar.{stream_events}
 use Rattle.defs_event.specs.Stream.{events_of}
 use Rattle.proof_loads.specs.Documents.{IsOpen, AliasesInsideTheirNodeAreBadValues}
@@ -76,7 +76,7 @@ held_finished m a t anchors (c ∷ outer) le h =
       held_finished (under (anchor_of c) m) a t anchors outer (omega (arith, less, le)) h.2,
     )
 
--- ---- unfinished readings behind m anchors
+-- ---- unfinished readings after m anchors
 
 record Stands (m : ℕ) (u : Unfinished) : Type 0 where
   low : Low m u.anchors
@@ -219,13 +219,13 @@ OfLoader m (at_work u) = Stands m u
 OfLoader m (noted documents key p) = Unit {0}
 OfLoader m (refused documents p) = Unit {0}
 
-of_behind : (m : ℕ) (x : Step) (documents : List Tree) (p : Position) → OfStep m x → OfLoader m (loader_behind x documents p)
-of_behind m (reads u) documents p h = h
-of_behind m (repeats key) documents p h = tt
-of_behind m out_of_nesting documents p h = tt
+of_after : (m : ℕ) (x : Step) (documents : List Tree) (p : Position) → OfStep m x → OfLoader m (loader_after x documents p)
+of_after m (reads u) documents p h = h
+of_after m (repeats key) documents p h = tt
+of_after m out_of_nesting documents p h = tt
 
 of_event_at : (m n : ℕ) (l : Loader) (e : Ev) (p : Position) → Follows m n e → OfLoader m l → OfLoader n (with_event_at l e p)
-of_event_at m n (at_work u) e p f h = of_behind n (with_event u e) u.documents p (of_event m n u e f h)
+of_event_at m n (at_work u) e p f h = of_after n (with_event u e) u.documents p (of_event m n u e f h)
 of_event_at m n (noted documents key q) e p f h = tt
 of_event_at m n (refused documents q) e p f h = tt
 
@@ -242,13 +242,13 @@ both_named k s r rs e es (Some v) (Some vs) f n q =
     let more : vs ≡ es = cc in
     record { follows = subst (Follows s.count (names_after k s r).count) same f; rest = n ∙ ap Some more }
 
-stands_behind : (keep_tags : Bool) (s : Names) (rs : List Raw) (l : Loader) (before : List (Ev × Position)) (more : List Ev)
+stands_after : (keep_tags : Bool) (s : Names) (rs : List Raw) (l : Loader) (before : List (Ev × Position)) (more : List Ev)
     → named keep_tags s rs ≡ Some (events_of before ++ more) → OfLoader s.count l → (m : ℕ) × OfLoader m (with_events l before)
-stands_behind k s rs l [] more q h = (s.count, h)
-stands_behind k s [] l (e ∷ before) more q h = cc
-stands_behind k s (r ∷ rs) l (e ∷ before) more q h =
+stands_after k s rs l [] more q h = (s.count, h)
+stands_after k s [] l (e ∷ before) more q h = cc
+stands_after k s (r ∷ rs) l (e ∷ before) more q h =
     let first = both_named k s r rs e.0 (events_of before ++ more) (resolved_event s r) (named k (names_after k s r) rs) (numbered k s r) refl q in
-    stands_behind k (names_after k s r) rs (with_event_at l e.0 e.1) before more first.rest
+    stands_after k (names_after k s r) rs (with_event_at l e.0 e.1) before more first.rest
     (of_event_at s.count (names_after k s r).count l e.0 e.1 first.follows h)
 
 open_unfinished : (m n : ℕ) (anchors : Anchors) (opened : List Opened) → Held m anchors opened → IsOpen n opened → aliased n anchors ≡ bad_value
@@ -260,6 +260,6 @@ open_unfinished m n anchors (opened_mapping a ps w ∷ outer) h (inr o) = open_u
 
 pub aliases_are_bad : AliasesInsideTheirNodeAreBadValues
 aliases_are_bad keep_tags tokens before n more u stream work is_open =
-    let names_after = stands_behind keep_tags no_names (stream_events stream.documents) new_loader before (Ev.alias n ∷ more) stream.has_events (record { low = tt; held = tt }) in
+    let names_after = stands_after keep_tags no_names (stream_events stream.documents) new_loader before (Ev.alias n ∷ more) stream.has_events (record { low = tt; held = tt }) in
     let stands : Stands names_after.0 u = subst (OfLoader names_after.0) work names_after.1 in
     ap (λ t. with_tree t u u.opened) (open_unfinished names_after.0 n u.anchors u.opened stands.held is_open)

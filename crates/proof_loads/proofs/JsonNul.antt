@@ -70,26 +70,26 @@ whole [] r h n = n
 whole (c ∷ []) r h n = character c r (not_nul is_ascii_digit refl c h) n
 whole (c ∷ d ∷ w) r h n = let q = and_parts _ (are_digits (c ∷ d ∷ w)) h in digits (c ∷ d ∷ w) r q.1 n
 
-behind_point : (f : Fraction) (r : List ℕ) → is_fraction f ≡ true → IsWithoutNul r → IsWithoutNul (spell_fraction f r)
-behind_point no_fraction r h n = n
-behind_point (fraction w) r h n = ap (λ l. 46 ∷ l) (digits w r h n)
+after_point : (f : Fraction) (r : List ℕ) → is_fraction f ≡ true → IsWithoutNul r → IsWithoutNul (spell_fraction f r)
+after_point no_fraction r h n = n
+after_point (fraction w) r h n = ap (λ l. 46 ∷ l) (digits w r h n)
 
-behind_letter : (s : Sign) (w r : List ℕ) → are_digits w ≡ true → IsWithoutNul r → IsWithoutNul (spell_sign s (w ++ r))
-behind_letter no_sign w r h n = digits w r h n
-behind_letter plus w r h n = ap (λ l. 43 ∷ l) (digits w r h n)
-behind_letter minus w r h n = ap (λ l. 45 ∷ l) (digits w r h n)
+after_letter : (s : Sign) (w r : List ℕ) → are_digits w ≡ true → IsWithoutNul r → IsWithoutNul (spell_sign s (w ++ r))
+after_letter no_sign w r h n = digits w r h n
+after_letter plus w r h n = ap (λ l. 43 ∷ l) (digits w r h n)
+after_letter minus w r h n = ap (λ l. 45 ∷ l) (digits w r h n)
 
 power : (e : Exponent) (r : List ℕ) → is_exponent e ≡ true → IsWithoutNul r → IsWithoutNul (spell_exponent e r)
 power no_exponent r h n = n
-power (exponent true s w) r h n = ap (λ l. 69 ∷ l) (behind_letter s w r h n)
-power (exponent false s w) r h n = ap (λ l. 101 ∷ l) (behind_letter s w r h n)
+power (exponent true s w) r h n = ap (λ l. 69 ∷ l) (after_letter s w r h n)
+power (exponent false s w) r h n = ap (λ l. 101 ∷ l) (after_letter s w r h n)
 
 positive : (w : List ℕ) (f : Fraction) (e : Exponent) (r : List ℕ) → (is_whole w && is_fraction f && is_exponent e) ≡ true → IsWithoutNul r
     → IsWithoutNul (w ++ spell_fraction f (spell_exponent e r))
 positive w f e r h n =
     let p = and_parts (is_whole w && is_fraction f) (is_exponent e) h in
     let q = and_parts (is_whole w) (is_fraction f) p.0 in
-    whole w (spell_fraction f (spell_exponent e r)) q.0 (behind_point f (spell_exponent e r) q.1 (power e r p.1 n))
+    whole w (spell_fraction f (spell_exponent e r)) q.0 (after_point f (spell_exponent e r) q.1 (power e r p.1 n))
 
 of_number : (x : Number) (r : List ℕ) → is_number x ≡ true → IsWithoutNul r → IsWithoutNul (spell_number x r)
 of_number (number true w f e) r h n = ap (λ l. 45 ∷ l) (positive w f e r h n)

@@ -8,7 +8,7 @@ use Rattle.defs_layout.specs.Anchored.{Anchor, begun, is_name}
 use Rattle.defs_layout.specs.Gap.{GapLine, spaces, next_line, spell_gap, spell_ending, IsLineText, is_line_character, IsGap}
 use Rattle.defs_layout.specs.BlockLines.{Line, full, blank, spell_lines}
 use Rattle.defs_layout.specs.Json
-use Rattle.defs_layout.specs.Layout.{Scalar, plain, quoted, single_quoted, Inline, scalar, empty_array, empty_hash, Comment, no_comment, comment, Block, Value, Entries, Field, Fields, Root, Document, Documents, last_document, document, doubled, spell_scalar, spell_inline, spell_comment, spell_literal, folded_header, spell_block, spell_value, spell_entries, spell_field, spell_fields, spell_root, spell_document, spell_documents, spell_mark, anchors_behind, anchors_behind_field, IsScalar, IsInline, IsComment, AreLineTexts, IsBlock, IsValue, AreEntries, IsField, AreFields, IsRoot, IsBehindRoot, AreDocuments}
+use Rattle.defs_layout.specs.Layout.{Scalar, plain, quoted, single_quoted, Inline, scalar, empty_array, empty_hash, Comment, no_comment, comment, Block, Value, Entries, Field, Fields, Root, Document, Documents, last_document, document, doubled, spell_scalar, spell_inline, spell_comment, spell_literal, folded_header, spell_block, spell_value, spell_entries, spell_field, spell_fields, spell_root, spell_document, spell_documents, spell_mark, anchors_after, anchors_after_field, IsScalar, IsInline, IsComment, AreLineTexts, IsBlock, IsValue, AreEntries, IsField, AreFields, IsRoot, IsAfterRoot, AreDocuments}
 use Rattle.proof_loads.specs.Spelled.{IsWithoutNul}
 use Rattle.proof_loads.specs.LayoutTexts.{LayoutsAreWithoutNul}
 use Rattle.proof_loads.proofs.Nul.{character, not_nul, characters}
@@ -41,9 +41,9 @@ inline (scalar s) r is n = one_scalar s r is n
 inline empty_array r is n = ap (λ l. codes "[]" ++ l) n
 inline empty_hash r is n = ap (λ l. codes "{}" ++ l) n
 
-behind_it : (k : Comment) (r : List ℕ) → IsComment k → IsWithoutNul r → IsWithoutNul (spell_comment k r)
-behind_it no_comment r is n = n
-behind_it (comment more w) r is n = ap (λ l. 32 ∷ l) (part.indentation more (35 ∷ (w ++ r)) (ap (λ l. 35 ∷ l) (line_text w r is n)))
+after_it : (k : Comment) (r : List ℕ) → IsComment k → IsWithoutNul r → IsWithoutNul (spell_comment k r)
+after_it no_comment r is n = n
+after_it (comment more w) r is n = ap (λ l. 32 ∷ l) (part.indentation more (35 ∷ (w ++ r)) (ap (λ l. 35 ∷ l) (line_text w r is n)))
 
 name_text : (w r : List ℕ) → is_name w ≡ true → IsWithoutNul r → IsWithoutNul (w ++ r)
 name_text [] r h n = n
@@ -72,31 +72,31 @@ mutual
   block c a (Block.hash fs) r is n = fields c a fs r is.0 n
 
   value : (c : ℕ) (a : List Anchor) (v : Value) (r : List ℕ) → IsValue c a v → IsWithoutNul r → IsWithoutNul (spell_value c v r)
-  value c a (Value.beside more i k) r is n = spaced more (spell_inline i (spell_comment k r)) (inline i (spell_comment k r) is.0 (behind_it k r is.1 n))
+  value c a (Value.beside more i k) r is n = spaced more (spell_inline i (spell_comment k r)) (inline i (spell_comment k r) is.0 (after_it k r is.1 n))
   value c a (Value.literal more column w ls) r is n = spaced more (spell_literal column w ls r) (part.literal column w ls r is.1 is.2 n)
   value c a (Value.folded more column strips w ls) r is n = spaced more (folded_header strips ++ spell_lines column ls r) (header strips (spell_lines column ls r) (lines column ls r is.1.2 n))
   value c a (Value.json more v) r is n = spaced more (Json.spell v r) (json.value v r is.1 n)
   value c a (Value.compact more b) r is n = spaced more (spell_block (c + 2 + more) b r) (block (c + 2 + more) a b r is n)
-  value c a (Value.below k g column b) r is n = behind_it k (next_line column g (spell_block column b r)) is.0 (part.line column g (spell_block column b r) is.1 (block column a b r is.3 n))
-  value c a (Value.at_key k g es) r is n = behind_it k (next_line c g (spell_entries c es r)) is.0 (part.line c g (spell_entries c es r) is.1 (entries c a es r is.2 n))
+  value c a (Value.below k g column b) r is n = after_it k (next_line column g (spell_block column b r)) is.0 (part.line column g (spell_block column b r) is.1 (block column a b r is.3 n))
+  value c a (Value.at_key k g es) r is n = after_it k (next_line c g (spell_entries c es r)) is.0 (part.line c g (spell_entries c es r) is.1 (entries c a es r is.2 n))
   value c a (Value.anchored more w v) r is n = spaced more (38 ∷ (w ++ spell_value c v r)) (ap (λ l. 38 ∷ l) (name_text w (spell_value c v r) is.0 (value c (begun w ∷ a) v r is.2 n)))
   value c a (Value.alias more w t) r is n = spaced more (42 ∷ (w ++ r)) (ap (λ l. 42 ∷ l) (name_text w r is.0 n))
 
   entries : (c : ℕ) (a : List Anchor) (es : Entries) (r : List ℕ) → AreEntries c a es → IsWithoutNul r → IsWithoutNul (spell_entries c es r)
   entries c a (Entries.last_entry v) r are n = ap (λ l. 45 ∷ l) (value c a v r are.1 n)
   entries c a (Entries.entry v g es) r are n =
-      ap (λ l. 45 ∷ l) (value c a v (next_line c g (spell_entries c es r)) are.1 (part.line c g (spell_entries c es r) are.2 (entries c (anchors_behind v a) es r are.3 n)))
+      ap (λ l. 45 ∷ l) (value c a v (next_line c g (spell_entries c es r)) are.1 (part.line c g (spell_entries c es r) are.2 (entries c (anchors_after v a) es r are.3 n)))
 
   one_field : (c : ℕ) (a : List Anchor) (f : Field) (r : List ℕ) → IsField c a f → IsWithoutNul r → IsWithoutNul (spell_field c f r)
   one_field c a (Field.implicit k v) r is n = one_scalar k (58 ∷ spell_value c v r) is.0.0 (ap (λ l. 58 ∷ l) (value c a v r is.2 n))
   one_field c a (Field.explicit k g v) r is n =
-      let behind = 58 ∷ spell_value c v r in
-      ap (λ l. 63 ∷ l) (value c a k (next_line c g behind) is.1 (part.line c g behind is.2 (ap (λ l. 58 ∷ l) (value c (anchors_behind k a) v r is.4 n))))
+      let after = 58 ∷ spell_value c v r in
+      ap (λ l. 63 ∷ l) (value c a k (next_line c g after) is.1 (part.line c g after is.2 (ap (λ l. 58 ∷ l) (value c (anchors_after k a) v r is.4 n))))
 
   fields : (c : ℕ) (a : List Anchor) (fs : Fields) (r : List ℕ) → AreFields c a fs → IsWithoutNul r → IsWithoutNul (spell_fields c fs r)
   fields c a (Fields.last_field f) r are n = one_field c a f r are n
   fields c a (Fields.field f g fs) r are n =
-      one_field c a f (next_line c g (spell_fields c fs r)) are.0 (part.line c g (spell_fields c fs r) are.1 (fields c (anchors_behind_field f a) fs r are.2 n))
+      one_field c a f (next_line c g (spell_fields c fs r)) are.0 (part.line c g (spell_fields c fs r) are.1 (fields c (anchors_after_field f a) fs r are.2 n))
 
 -- ---- documents
 
@@ -105,19 +105,19 @@ root (Root.block column b) r is n = part.indentation column (spell_block column 
 root (Root.inline i) r is n = inline i r is n
 root (Root.literal w ls) r is n = part.literal 0 w ls r (part.root_literal w is.0) is.1 n
 
-behind_gap : (x : Root) (g : List GapLine) → IsBehindRoot x g → IsGap g
-behind_gap (Root.block column b) g is = is
-behind_gap (Root.inline i) g is = is
-behind_gap (Root.literal w ls) g is = part.empty_gap g is
+after_gap : (x : Root) (g : List GapLine) → IsAfterRoot x g → IsGap g
+after_gap (Root.block column b) g is = is
+after_gap (Root.inline i) g is = is
+after_gap (Root.literal w ls) g is = part.empty_gap g is
 
 one_document : (d : Document) (r : List ℕ) → IsGap d.gap → IsRoot d.root → IsWithoutNul r → IsWithoutNul (spell_document d r)
 one_document d r gap is n = part.gap d.gap (spell_root d.root r) gap (root d.root r is n)
 
 documents : (ds : Documents) → AreDocuments ds → IsWithoutNul (spell_documents ds [])
-documents (last_document d g) are = one_document d (spell_ending g []) are.0 are.1 (part.ending g (behind_gap d.root g are.2))
+documents (last_document d g) are = one_document d (spell_ending g []) are.0 are.1 (part.ending g (after_gap d.root g are.2))
 documents (document d g ds) are =
     let more = codes "---\n" ++ spell_documents ds [] in
-    one_document d (10 ∷ spell_gap g more) are.0 are.1 (ap (λ l. 10 ∷ l) (part.gap g more (behind_gap d.root g are.2) (ap (λ l. codes "---\n" ++ l) (documents ds are.3))))
+    one_document d (10 ∷ spell_gap g more) are.0 are.1 (ap (λ l. 10 ∷ l) (part.gap g more (after_gap d.root g are.2) (ap (λ l. codes "---\n" ++ l) (documents ds are.3))))
 
 marked : (b : Bool) (r : List ℕ) → IsWithoutNul r → IsWithoutNul (spell_mark b r)
 marked true r n = ap (λ l. codes "---\n" ++ l) n

@@ -19,7 +19,7 @@ settings_stay no_call = record { keep_tags = refl; steady = refl }
 settings_stay (one_call (event e p) calls gives) = let k = settings_stay calls in record { keep_tags = gives.settings.keep_tags ∙ k.keep_tags; steady = gives.settings.steady ∙ k.steady }
 settings_stay (one_call (fault f) calls gives) = let k = settings_stay calls in record { keep_tags = gives.settings.keep_tags ∙ k.keep_tags; steady = gives.settings.steady ∙ k.steady }
 
--- A fault behind a start without one has its reason.
+-- A fault after a start without one has its reason.
 pub explained : {p q : Parsed} {answers : List (Answer Fault)} (f : Fault) → p.fault ≡ None → PullsAll p answers q → q.fault ≡ Some f → Explains f q
 explained f clear no_call h = cc
 explained f clear (one_call (event e p) calls gives) h = let none = gives.sound.fault in cc
@@ -35,7 +35,7 @@ explained f clear (one_call {q = q} {r = r} (fault g) calls gives) h = by q.faul
     by None e before = let is : g ≡ f = cc in subst (λ x. Explains x r) is (gives.why e)
     by (Some k) e before = taken_over k (subst (λ x. IfSome x (λ k. (g ≡ k) × (r ≡ q))) e gives.again) e before
 
--- ---- behind an event
+-- ---- after an event
 
 pub read_given : (es : List (Ev × Position)) (ended : Bool) (ahead : Option (Ev × Position)) → ahead ≡ None → read_so es ended ahead ≡ es
 read_given es true ahead h = refl
@@ -54,7 +54,7 @@ or_false : (b : Bool) → b || false ≡ b
 or_false true = refl
 or_false false = refl
 
--- The events that were given are all that was answered, but for the stream's end again behind that end.
+-- The events that were given are all that was answered, but for the stream's end again after that end.
 pub record Noted (answers : List (Answer Fault)) (p : Parsed) : Type 0 where
   pub rest : List (Answer Fault)
   pub answers_are : answers ≡ given Fault p.given ++ rest

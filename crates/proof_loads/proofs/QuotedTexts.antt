@@ -38,6 +38,6 @@ no_body_nul laid.double body value h = let z = parts false body value h in has_n
 pub quoted_texts_have_no_nul : QuotedTextsAreWithoutNul
 quoted_texts_have_no_nul text value (w, spelt, is) =
     let q = no_quote_nul w.quotes in
-    let behind = character (quote_of w.quotes) (replicate w.breaks 10) q (no_feed_nul w.breaks) in
-    let within = characters is_some refl w.body (quote_of w.quotes ∷ replicate w.breaks 10) (no_body_nul w.quotes w.body value is) behind in
+    let after = character (quote_of w.quotes) (replicate w.breaks 10) q (no_feed_nul w.breaks) in
+    let within = characters is_some refl w.body (quote_of w.quotes ∷ replicate w.breaks 10) (no_body_nul w.quotes w.body value is) after in
     subst IsWithoutNul spelt (character (quote_of w.quotes) (w.body ++ quote_of w.quotes ∷ replicate w.breaks 10) q within)

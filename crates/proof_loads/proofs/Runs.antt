@@ -10,7 +10,7 @@ abbrev pub IsOver : {F : Type 0} → Ending F → Type 0
 IsOver unfinished = ⊥
 IsOver _ = Unit {0}
 
--- What an event does, whatever comes behind it: it is pushed and the call goes on, or the call ends.
+-- What an event does, whatever comes after it: it is pushed and the call goes on, or the call ends.
 data Turn (F : Type 0) (s : Standing) (e : Ev) (p : Position) : Type 0 where
   goes : (t : Standing) → ((bs : List (Answer F)) → load_from s true (event e p ∷ bs) ≡ push e p (load_from t true bs)) → Turn F s e p
   stops : (l : Loaded F) → IsOver l.ending → l.taken ≡ 1 → (left : List (Ev × Position)) → l.pushed ++ left ≡ (e, p) ∷ []
@@ -24,7 +24,7 @@ turn F between e p = stops (ends (no_document p) 1) tt refl ((e, p) ∷ []) refl
 turn F inside Ev.document_end p = goes between (λ bs. refl)
 turn F inside e p = goes inside (λ bs. refl)
 
--- Behind its end a call takes nothing.
+-- After its end a call takes nothing.
 pub over_is_over : (F : Type 0) (s : Standing) (xs ys : List (Answer F)) → IsOver (load_from s true xs).ending → load_from s true (xs ++ ys) ≡ load_from s true xs
 over_is_over F s [] ys h = absurd h
 over_is_over F s (fault f ∷ xs) ys h = refl
@@ -90,8 +90,8 @@ ended_within F es answers more all e over =
     subst (λ l. PushesAll l es) (ap (λ bs. load_from before_stream true bs) e ∙ over_is_over F before_stream answers more over) all
 
 -- a call over all of the stream
-pub ended_behind : (F : Type 0) (es : List (Ev × Position)) (answers rest : List (Answer F)) → PushesAll (run (given F es)) es → answers ≡ given F es ++ rest → PushesAll (run answers) es
-ended_behind F es answers rest all e =
+pub ended_after : (F : Type 0) (es : List (Ev × Position)) (answers rest : List (Answer F)) → PushesAll (run (given F es)) es → answers ≡ given F es ++ rest → PushesAll (run answers) es
+ended_after F es answers rest all e =
     let over : IsOver (run (given F es)).ending = subst (λ x. IsOver x) (sym all.1) tt in
     subst (λ l. PushesAll l es) (sym (ap (λ bs. load_from before_stream true bs) e ∙ over_is_over F before_stream (given F es) rest over)) all
 

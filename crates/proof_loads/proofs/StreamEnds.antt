@@ -14,7 +14,7 @@ data Ends : List Tok → Type 0 where
   here : {ts : List Tok} → Ends (Tok.stream_end ∷ ts)
   there : {t : Tok} {ts : List Tok} → Ends ts → Ends (t ∷ ts)
 
--- what stands behind it holds the end
+-- what stands after it holds the end
 properties : (x : Properties) (r : List Tok) → Ends r → Ends (properties_tokens x r)
 properties (anchored a) r h = there h
 properties (tagged t) r h = there h
@@ -151,9 +151,9 @@ end_among (t ∷ given) (u ∷ ts) (there h) e =
     let among = end_among given ts h rest in
     record { before = t ∷ among.before; end = among.end; more = among.more; whole = ap (λ xs. t ∷ xs) among.whole; is_end = among.is_end }
 
-nothing_behind : (xs ys : List Token) → xs ++ ys ≡ [] → ys ≡ []
-nothing_behind [] ys h = h
-nothing_behind (x ∷ xs) ys h = cc
+nothing_after : (xs ys : List Token) → xs ++ ys ≡ [] → ys ≡ []
+nothing_after [] ys h = h
+nothing_after (x ∷ xs) ys h = cc
 
 -- A text's first tokens that are a stream's are all its tokens.
 pub all_tokens : (text : List ℕ) (given : List Token) (d : Documents) → IsReached text given → stream_tokens d ≡ toks given → HasTokens text given
@@ -167,5 +167,5 @@ all_tokens text given d reached e =
       end = reached.last;
       run = reached.run;
       ended = last.0;
-      tokens = reached.begins.whole ∙ ap (λ xs. given ++ xs) (nothing_behind among.more more last.1) ∙ append-nil given;
+      tokens = reached.begins.whole ∙ ap (λ xs. given ++ xs) (nothing_after among.more more last.1) ∙ append-nil given;
     }

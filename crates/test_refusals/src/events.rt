@@ -85,7 +85,7 @@ fn events_out_of_nesting_are_refused(rt: HostRuntime) -> Result<(), Fail> {
 }
 
 // The place after a number of tokens.
-fn place_behind(alloc: Global, text: &str, count: usize) -> Result<Marker, Fail> {
+fn place_after(alloc: Global, text: &str, count: usize) -> Result<Marker, Fail> {
     let mut scanner = Scanner::new(alloc, text.chars());
     for _ in 0..count {
         let _ = scanner.next_token().map_err(|_| "a fault")?;
@@ -95,7 +95,7 @@ fn place_behind(alloc: Global, text: &str, count: usize) -> Result<Marker, Fail>
 
 #[test]
 fn a_fault_names_its_place_for_good(rt: HostRuntime) -> Result<(), Fail> {
-    let mark = place_behind(rt.alloc(), "\n a", 2)?;
+    let mark = place_after(rt.alloc(), "\n a", 2)?;
     let mut loader = YamlLoader::default(rt.alloc());
     let fault = loader
         .on_event(Event::SequenceEnd, mark)

@@ -153,7 +153,7 @@ fn keys_have_1024_characters(rt: HostRuntime) -> Result<(), Fail> {
         let text = with_letters(alloc, begin, letters, end)?;
         assert!(rt;
             is_loaded(alloc, text.as_str()),
-            "{letters} letters behind {begin:?}"
+            "{letters} letters after {begin:?}"
         );
     }
     for (begin, letters, end, want) in LONGER_KEYS {
@@ -161,7 +161,7 @@ fn keys_have_1024_characters(rt: HostRuntime) -> Result<(), Fail> {
         assert_eq!(rt;
             loaded(alloc, text.as_str())?.as_str(),
             want,
-            "{letters} letters behind {begin:?}"
+            "{letters} letters after {begin:?}"
         );
     }
     Ok(())
@@ -213,7 +213,7 @@ fn aliases_are_copies(rt: HostRuntime) -> Result<(), Fail> {
 }
 
 #[test]
-fn an_iterator_is_left_alone_behind_its_end(rt: HostRuntime) -> Result<(), Fail> {
+fn an_iterator_is_left_alone_after_its_end(rt: HostRuntime) -> Result<(), Fail> {
     let letters = "a-b"
         .chars()
         .map_while(|c: char| if c == '-' { None } else { Some(c) });

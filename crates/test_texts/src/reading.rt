@@ -135,7 +135,7 @@ pub(crate) fn rows_hold(rt: &(impl Abort + AllocGlobal), rows: &[Row]) -> Result
         assert_eq!(rt;
             pulled(alloc, text, true)?.as_str(),
             events.as_str(),
-            "row {text:?}, behind looks"
+            "row {text:?}, after looks"
         );
         assert_eq!(rt;
             pushed(alloc, text)?.as_str(),

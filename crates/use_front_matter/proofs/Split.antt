@@ -54,12 +54,12 @@ no_longer (c ∷ front) (d ∷ before) rest more e le =
     omega (arith, rest_le)
 
 -- The first mark among a text's bytes is the first among its characters.
-pub none_before : (text front rest before behind mark : List ℕ) (i : ℕ) → IsUtf8 text → encode_utf8_all mark ≡ mark → IsUtf8 front → chars text ≡ chars front ++ rest → length front ≡ i
+pub none_before : (text front rest before after mark : List ℕ) (i : ℕ) → IsUtf8 text → encode_utf8_all mark ≡ mark → IsUtf8 front → chars text ≡ chars front ++ rest → length front ≡ i
     → ((n : ℕ) → n < i → (ys : List ℕ) → drop n text ≡ mark ++ ys → ⊥)
-    → chars text ≡ before ++ (mark ++ behind) → length (chars front) ≤ length before
-none_before text front rest before behind mark i u same uf cut at none e =
-    let there : drop (length (encode_utf8_all before)) text ≡ mark ++ encode_utf8_all behind =
-    ap (drop (length (encode_utf8_all before))) (in_bytes text before behind mark u same e) ∙ drop_at (encode_utf8_all before) (mark ++ encode_utf8_all behind) _ refl in
-    let far : length (encode_utf8_all before) < i → ⊥ = λ lt. none (length (encode_utf8_all before)) lt (encode_utf8_all behind) there in
+    → chars text ≡ before ++ (mark ++ after) → length (chars front) ≤ length before
+none_before text front rest before after mark i u same uf cut at none e =
+    let there : drop (length (encode_utf8_all before)) text ≡ mark ++ encode_utf8_all after =
+    ap (drop (length (encode_utf8_all before))) (in_bytes text before after mark u same e) ∙ drop_at (encode_utf8_all before) (mark ++ encode_utf8_all after) _ refl in
+    let far : length (encode_utf8_all before) < i → ⊥ = λ lt. none (length (encode_utf8_all before)) lt (encode_utf8_all after) there in
     let le : length (encode_utf8_all (chars front)) ≤ length (encode_utf8_all before) = omega (arith, ap length (encodes-chars front uf), at, far) in
-    no_longer (chars front) before rest (mark ++ behind) (sym cut ∙ e) le
+    no_longer (chars front) before rest (mark ++ after) (sym cut ∙ e) le

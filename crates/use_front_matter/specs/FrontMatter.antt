@@ -12,9 +12,9 @@ line = codes "\n---\n"
 pub record IsSplitAs (page : List ℕ) (documents : List Tree) (rest : List ℕ) : Type 0 where
   pub front : List ℕ
   pub whole : page ≡ front ++ (line ++ rest)
-  pub first : (before behind : List ℕ) → page ≡ before ++ (line ++ behind) → length front ≤ length before
+  pub first : (before after : List ℕ) → page ≡ before ++ (line ++ after) → length front ≤ length before
   pub read : IsReadAs false (up_to_nul front) documents
 
 -- The page has no such line.
 abbrev pub IsWhole : List ℕ → Type 0
-IsWhole page = (before behind : List ℕ) → page ≡ before ++ (line ++ behind) → ⊥
+IsWhole page = (before after : List ℕ) → page ≡ before ++ (line ++ after) → ⊥

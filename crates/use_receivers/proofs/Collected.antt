@@ -1,4 +1,4 @@
--- What the receiver holds behind the events that it took.
+-- What the receiver holds after the events that it took.
 use Rattle.std.proofs.Common.{◌≡◌, List, [], ◌∷◌, ◌++◌, sym, ap, ◌∙◌, append_assoc, append-nil}
 use Rattle.std.specs.Prelude.{Result, OnOk}
 use Rattle.yaml_rust2.specs.Event.{Ev}

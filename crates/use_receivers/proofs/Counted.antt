@@ -1,4 +1,4 @@
--- How many aliases the receiver still takes behind the events that it took.
+-- How many aliases the receiver still takes after the events that it took.
 use Rattle.std.proofs.Common.{false, ◌≡◌, ◌≤◌, ◌+◌, ℕ, List, [], ◌∷◌, ◌++◌, arith}
 use Rattle.std.specs.Prelude.{Result, OnOk}
 use Rattle.yaml_rust2.specs.Event.{Ev}

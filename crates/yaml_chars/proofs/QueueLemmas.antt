@@ -29,7 +29,7 @@ module _ (N k n : ℕ) (xs : List ℕ) (start_in_range : k < N) (len_fits : n �
 
 -- A second block, since these use the lemmas above at other windows.
 module _ (N k n : ℕ) (xs : List ℕ) (start_in_range : k < N) (len_fits : n ≤ N) (length_xs : length xs ≡ N) where
-  -- a write behind the last item adds it at the end; the two lists are compared item by item
+  -- a write after the last item adds it at the end; the two lists are compared item by item
   pub queue_after_push : (x : ℕ) → n < N → queue k (n + 1) (set xs ((k + n) % N) x) ≡ queue k n xs ++ x ∷ []
   queue_after_push x has_room =
       let ys = set xs ((k + n) % N) x in

@@ -12,7 +12,7 @@ stops Line c = is_breakz c
 stops (Quoted quote) c = is_blank_or_breakz c || (c == quote) || (c == 92)
 stops (Plain flow) c = is_blank_or_breakz c || (c == 58) || (flow && is_flow c)
 
--- the text behind a run, where it stands, and the run's characters behind a text
+-- the text after a run, where it stands, and the run's characters after a text
 pub record Ran : Type 0 where
   pub rest : List ℕ
   pub place : Position
@@ -35,7 +35,7 @@ pub record GoesOn {T : Type 0} (run : Run) (old new : Pulled T) (n : ℕ) (befor
   pub reads : (at line col : ℕ) → Fills old [] at line col → Reads (bare old at line col) (bare new (at + n) line (col + n)) (λ a b.
       ran run a (record { index = at; line = line; col = col }) before ≡ ran run b (record { index = at + n; line = line; col = col + n }) after)
 
--- a run came, and the character behind it; where memory was refused, this may be one more of the run
+-- a run came, and the character after it; where memory was refused, this may be one more of the run
 pub record GoesOver {T : Type 0} (run : Run) (old new : Pulled T) (n c : ℕ) (refused : Bool) (before after : List ℕ) : Type 0 where
   pub last : Pulled T
   pub goes : GoesOn run old last n before after

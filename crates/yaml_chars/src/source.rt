@@ -15,23 +15,23 @@ pub(crate) struct Filling {
     pub text: Text,
 }
 
-/// How many characters of a run went into a text, the one behind them, and whether memory was
+/// How many characters of a run went into a text, the one after them, and whether memory was
 /// refused for that.
 #[derive(Drop)]
 pub(crate) struct Ran {
     pub text: Text,
     pub count: usize,
-    pub behind: char,
+    pub after: char,
     pub refused: bool,
 }
 
-fn ended(text: Text, count: usize, behind: char, refused: bool) -> Ran
-    ensures { result ≡ record { text = text; count = count; behind = behind; refused = refused } }
+fn ended(text: Text, count: usize, after: char, refused: bool) -> Ran
+    ensures { result ≡ record { text = text; count = count; after = after; refused = refused } }
 {
     Ran {
         text,
         count,
-        behind,
+        after,
         refused,
     }
 }
@@ -95,19 +95,19 @@ impl<T: Iterator<Item = char>> Source<T> {
     #[inline(always)]
     pub(crate) fn run_on(self, filling: Filling) -> (Source<T>, Ran)
         requires { self.left < 2 ^ 63 }
-        ensures { GoesOver filling.run self result.0 result.1.count result.1.behind result.1.refused filling.text result.1.text }
+        ensures { GoesOver filling.run self result.0 result.1.count result.1.after result.1.refused filling.text result.1.text }
     {
         let Filling { run, mut text } = filling;
         let mut source = self;
         let mut count = 0;
         'run: loop {
-            let behind = source.next();
-            if run.stops(behind) {
-                return (source, ended(text, count, behind, false));
+            let after = source.next();
+            if run.stops(after) {
+                return (source, ended(text, count, after, false));
             }
-            match text.push(behind) {
+            match text.push(after) {
                 Ok(()) => count += 1,
-                Err(_) => return (source, ended(text, count, behind, true)),
+                Err(_) => return (source, ended(text, count, after, true)),
             }
         }
     }

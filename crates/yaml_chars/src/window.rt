@@ -14,7 +14,7 @@ use core::mem;
 use std::alloc::AllocError;
 use std::marker::Model;
 
-/// The next characters of a text that comes from an iterator, at most 16 at a time. NULs stand behind its end.
+/// The next characters of a text that comes from an iterator, at most 16 at a time. NULs stand after its end.
 #[derive(Drop)]
 pub struct Window<T: Iterator<Item = char>> {
     source: Source<T>,
@@ -91,7 +91,7 @@ impl<T: Iterator<Item = char>> Window<T> {
         self.ring.len()
     }
 
-    /// The character `i` places on, or NUL behind the end.
+    /// The character `i` places on, or NUL after the end.
     pub fn peek(&self, i: usize) -> char
         requires { i < self.now.ahead }
         ensures sees { Sees self.now (λ a. result ≡ slice_index a i) }
@@ -112,7 +112,7 @@ impl<T: Iterator<Item = char>> Window<T> {
         self.peek(0)
     }
 
-    /// Whether a CR stands here with an LF behind it, which are one line break.
+    /// Whether a CR stands here with an LF after it, which are one line break.
     pub fn at_cr_lf(&self) -> bool
         requires { 1 < self.now.ahead }
         ensures sees { Sees self.now (λ a. result ≡ (slice_index a 0 == 13 && slice_index a 1 == 10)) }
@@ -214,7 +214,7 @@ impl<T: Iterator<Item = char>> Window<T> {
         let Ran {
             text: after,
             count,
-            following,
+            after: following,
             refused,
         } = ran;
         *text = after;

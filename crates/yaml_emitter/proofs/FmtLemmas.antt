@@ -1,4 +1,4 @@
--- What a formatter has taken behind calls in a row.
+-- What a formatter has taken after calls in a row.
 use Rattle.std.proofs.Common.{ℕ, List, [], ◌∷◌, sym, ap, subst}
 use Rattle.std.proofs.Output.{has_written_append, has_written_of_eq, writes_in_calls_nil}
 use Rattle.std.proofs.lemmas.Str.{encodes-append}

@@ -37,8 +37,8 @@ deep_blanks n h = let e : n ≡ 32 + (n - 32) = omega arith in ap spaces e ∙ m
 pub deep_line : (n : ℕ) → 32 < n → new_line 32 ++ spaces (n - 32) ≡ new_line n
 deep_line n h = ap (λ t. 10 ∷ t) (sym (deep_blanks n h))
 
-pub behind_break : (text : List ℕ) (n : ℕ) → text ≡ new_line n → drop 1 text ≡ spaces n
-behind_break text n e = ap (drop 1) e
+pub after_break : (text : List ℕ) (n : ℕ) → text ≡ new_line n → drop 1 text ≡ spaces n
+after_break text n e = ap (drop 1) e
 
 pub break_boundary : (text : List ℕ) (n : ℕ) → text ≡ new_line n → IsCharBoundary text 1
 break_boundary text n e = subst (λ t. IsCharBoundary t 1) (sym e) (IsCharBoundary-from_ascii (new_line n) 1 (low_at (new_line n) (low_blanks n)) (omega arith))

@@ -86,8 +86,8 @@ some_last_line level bs r u e f = by (chars bs) (sym (empty_text bs u) ∙ e ∙
 
 -- ---- marks
 
-pub behind_mark : (w line rest : List ℕ) → is_low w ≡ true → length w ≡ 3 → IsUtf8 rest → line ≡ w ++ rest → begins_blank (chars rest) ≡ begins_with_mark w (chars line)
-behind_mark w line rest h n u e =
+pub after_mark : (w line rest : List ℕ) → is_low w ≡ true → length w ≡ 3 → IsUtf8 rest → line ≡ w ++ rest → begins_blank (chars rest) ≡ begins_with_mark w (chars line)
+after_mark w line rest h n u e =
     let f : chars line ≡ w ++ chars rest = ap chars e ∙ chars-append w rest (IsUtf8-from_ascii w (low_at w h)) ∙ ap (λ x. x ++ chars rest) (low_chars w h) in
     by (chars line) (chars rest) f
   where

@@ -1,4 +1,4 @@
--- How a writer stands behind a node.
+-- How a writer stands after a node.
 use Rattle.std.proofs.Common.{append-nil, ◌≡◌, ◌↔◌, ℕ, ◌+◌, ◌≤◌, List, [], ◌∷◌, ◌++◌, Bool, true, false, not, refl, sym, ap, ◌∙◌, subst, arith}
 use Rattle.std.specs.Prelude.{◌^◌, max, Result, IsTrue, if◌then◌else◌, codes}
 use Rattle.defs_tree.specs.Box.{box, item_boxes, pair_boxes, is_block}
@@ -14,7 +14,7 @@ use Rattle.yaml_tree.specs.declared.yaml.Yaml.TheVariants.{Real, Integer, String
 use Rattle.yaml_tree.specs.declared.array.Array as arrays
 use Rattle.yaml_tree.specs.declared.hash.Hash as hashes
 use Rattle.yaml_emitter.specs.At.{below, stacked}
-use Rattle.yaml_emitter.specs.Entries.{before_value, behind_mark, before_entry, item_mark, second_mark, scalar_key, pair_text, entries_text, scalar_box}
+use Rattle.yaml_emitter.specs.Entries.{before_value, after_mark, before_entry, item_mark, second_mark, scalar_key, pair_text, entries_text, scalar_box}
 use Rattle.yaml_emitter.specs.Writing.{Wrote, WritesUnless, IsLeft}
 use Rattle.yaml_emitter.proofs.EntryLemmas.{HasLines, lines, box_lines, block_of_items, block_of_pairs, next_item, next_pair}
 use Rattle.yaml_emitter.proofs.WritingLemmas.{writes_late, left_as}
@@ -31,11 +31,11 @@ scalar_box_is (Alias n) c m r a h = refl
 scalar_box_is Null c m r a h = refl
 scalar_box_is BadValue c m r a h = refl
 
--- a value behind what stands before it
+-- a value after what stands before it
 pub value_writes : {W E : Type 0} {gives leaves : W → List ℕ → W → Type 0} {w v u : W} {r : Result (Unit {0}) E} (lower c m : Bool) (level : ℕ) (t s : Tree)
     → t ≡ s → Wrote gives w (before_value lower level t) v
     → WritesUnless (2 ^ 62 ≤ level + 1 + levels s) gives leaves v r (stacked (level + 1) (box c m false s)) u
-    → WritesUnless (2 ^ 62 ≤ level + 1 + levels t) gives leaves w r (behind_mark lower level t (box c m false t)) u
+    → WritesUnless (2 ^ 62 ≤ level + 1 + levels t) gives leaves w r (after_mark lower level t (box c m false t)) u
 value_writes {gives = gives} {leaves} {v = v} {u} {r} lower c m level t s e p q =
     writes_late p (subst (λ x. WritesUnless (2 ^ 62 ≤ level + 1 + levels x) gives leaves v r (stacked (level + 1) (box c m false x)) u) (sym e) q)
 
@@ -49,7 +49,7 @@ root_writes {gives = gives} {leaves} {w} {v} {r} c m t s e q = subst (λ x. Writ
 module _ {W : Type 0} {gives : W → List ℕ → W → Type 0} {w v : W} {text : List ℕ} where
   pub items_left : (c m first : Bool) (level : ℕ) (ts us : List Tree) (t : Tree) → ts ≡ t ∷ us
       → IsLeft gives w text v (entries_text first level (item_boxes c m (items_of ts)))
-      → IsLeft gives w text v (item_mark first level ++ (behind_mark (not c) level t (box c m false t) ++ entries_text false level (item_boxes c m (items_of us))))
+      → IsLeft gives w text v (item_mark first level ++ (after_mark (not c) level t (box c m false t) ++ entries_text false level (item_boxes c m (items_of us))))
   items_left c m first level ts us t e p = left_as (ap (λ xs. entries_text first level (item_boxes c m (items_of xs))) e ∙ next_item c m first level t (items_of us)) p
 
   pub pairs_left : (c m first : Bool) (level : ℕ) (ps qs : List (Tree × Tree)) (p : Tree × Tree) → ps ≡ p ∷ qs
@@ -90,14 +90,14 @@ no_pair_left true level c m ps e = ap (λ xs. entries_text true level (pair_boxe
 no_pair_left false level c m ps e = ap (λ xs. entries_text false level (pair_boxes c m (pairs_of xs))) e
 
 -- the two forms of a pair
-pub scalar_pair : (c m : Bool) (level : ℕ) (k v : Tree) → true ≡ is_scalar k → scalar_key k ++ behind_mark true level v (box c m false v) ≡ pair_text c m level k v
-scalar_pair c m level k v e = ap (λ b. if b then scalar_key k ++ behind_mark true level v (box c m false v)
-    else codes "?" ++ (behind_mark (not c) level k (box c m false k) ++ (second_mark level ++ behind_mark (not c) level v (box c m false v)))) e
+pub scalar_pair : (c m : Bool) (level : ℕ) (k v : Tree) → true ≡ is_scalar k → scalar_key k ++ after_mark true level v (box c m false v) ≡ pair_text c m level k v
+scalar_pair c m level k v e = ap (λ b. if b then scalar_key k ++ after_mark true level v (box c m false v)
+    else codes "?" ++ (after_mark (not c) level k (box c m false k) ++ (second_mark level ++ after_mark (not c) level v (box c m false v)))) e
 
 pub complex_pair : (c m : Bool) (level : ℕ) (k v : Tree) → false ≡ is_scalar k
-    → codes "?" ++ (behind_mark (not c) level k (box c m false k) ++ (second_mark level ++ behind_mark (not c) level v (box c m false v))) ≡ pair_text c m level k v
-complex_pair c m level k v e = ap (λ b. if b then scalar_key k ++ behind_mark true level v (box c m false v)
-    else codes "?" ++ (behind_mark (not c) level k (box c m false k) ++ (second_mark level ++ behind_mark (not c) level v (box c m false v)))) e
+    → codes "?" ++ (after_mark (not c) level k (box c m false k) ++ (second_mark level ++ after_mark (not c) level v (box c m false v))) ≡ pair_text c m level k v
+complex_pair c m level k v e = ap (λ b. if b then scalar_key k ++ after_mark true level v (box c m false v)
+    else codes "?" ++ (after_mark (not c) level k (box c m false k) ++ (second_mark level ++ after_mark (not c) level v (box c m false v)))) e
 
 -- the document's text, from its root's box
 pub document_text : (c m : Bool) (t : Tree) → codes "---\n" ++ stacked 0 (box c m true t) ≡ dump_text c m t

@@ -40,7 +40,7 @@ front_utf8 bs = IsUtf8-from_ascii _ (low_at _ (front_low bs))
 pub printable_boundary : (bs : List ℕ) → IsUtf8 bs → IsCharBoundary bs (prefix_len printable bs)
 printable_boundary bs u = IsCharBoundary-from_take bs _ u (prefix_len-le-length printable bs) (front_utf8 bs)
 
--- what stands behind them decides
+-- what stands after them decides
 pub rest_printable : (bs : List ℕ) → list_all is_literal_character (chars (drop (prefix_len printable bs) bs)) ≡ list_all is_literal_character (chars bs)
 rest_printable bs =
     let n = prefix_len printable bs in
@@ -51,9 +51,9 @@ rest_printable bs =
 
 -- ---- a line feed
 
-behind_feed : (a b : List ℕ) → list_any is_line_feed (a ++ 10 ∷ b) ≡ true
-behind_feed [] b = refl
-behind_feed (c ∷ a) b = ap (λ x. is_line_feed c || x) (behind_feed a b) ∙ or_true (is_line_feed c)
+after_feed : (a b : List ℕ) → list_any is_line_feed (a ++ 10 ∷ b) ≡ true
+after_feed [] b = refl
+after_feed (c ∷ a) b = ap (λ x. is_line_feed c || x) (after_feed a b) ∙ or_true (is_line_feed c)
   where
     or_true : (b : Bool) → (b || true) ≡ true
     or_true true = refl
@@ -64,5 +64,5 @@ no_feed [] n = refl
 no_feed (c ∷ t) n = (λ i. n.0 i || no_feed t n.1 i)
 
 pub feed_by : (s : List ℕ) (r : Option (Bor (List ℕ) × Bor (List ℕ))) → MatchOption r (IsUnbroken (chars s)) (λ x. IsFirstCut s x.0.now x.1.now) → is_some r ≡ list_any is_line_feed (chars s)
-feed_by s (Some x) m = sym (ap (list_any is_line_feed) m.whole ∙ behind_feed (chars x.0.now) (chars x.1.now))
+feed_by s (Some x) m = sym (ap (list_any is_line_feed) m.whole ∙ after_feed (chars x.0.now) (chars x.1.now))
 feed_by s None m = sym (no_feed (chars s) m)

@@ -61,7 +61,7 @@ all_pass p (b ∷ bs) = by (p b) refl (all_pass p bs)
         let n : 1 + prefix_len p bs ≡ suc (prefix_len p bs) = omega arith in
         ap (λ k. list_all p (take k (b ∷ bs))) n ∙ ap (λ x. x && list_all p (take (prefix_len p bs) bs)) e ∙ h
 
--- the text may be cut behind its first run
+-- the text may be cut after its first run
 pub run_boundary : (bs : List ℕ) → IsCharBoundary bs (prefix_len stands bs)
 run_boundary bs = by (cases_order (prefix_len stands bs) (length bs))
   where
@@ -81,7 +81,7 @@ only_run bs u n = subst (λ x. IsRun (chars x)) (ap (λ x. take (prefix_len stan
     none [] e = refl
     none (x ∷ xs) e = absurd (omega arith)
 
--- where a character stands behind the run
+-- where a character stands after the run
 pub run_cut : (bs run back : List ℕ) (c : ℕ) → IsUtf8 bs → run ≡ take (prefix_len stands bs) bs → drop (prefix_len stands bs) bs ≡ encode_utf8 c ++ back → IsRunCut bs run c back
 run_cut bs run back c u e f =
     let n = prefix_len stands bs in

@@ -11,7 +11,7 @@ use Rattle.std.proofs.lemmas.Str.{chars-nil, encodes-chars}
 use Rattle.defs_tree.specs.Grammar.{is_among, is_empty, followed_by}
 use Rattle.defs_tree.specs.Quoting.{is_quoted, has_outer_space, has_indicator_first, is_unfit_for_plain, reserved_words, is_float_word}
 use Rattle.defs_tree.specs.Typing.{is_sign, typing, is_string}
-use Rattle.defs_tree.proofs.GrammarLaws.{behind_one, Rejects, optional_one-behind, followed_by-empty}
+use Rattle.defs_tree.proofs.GrammarLaws.{after_one, Rejects, optional_one-after, followed_by-empty}
 use Rattle.yaml_tree.proofs.WideTexts.{low, Wide, low_bytes}
 use Rattle.yaml_emitter.specs.Words.{is_unfit, is_word, is_name, float_names}
 use Rattle.yaml_emitter.proofs.TextLemmas.{low_chars}
@@ -59,19 +59,19 @@ lowered c true b e f h = h
 lowered c false true e f h = below_91 c f
 lowered c false false e f h = h
 
-lower_behind : (t : List ℕ) → behind_one is_sign (map to_ascii_lowercase t) ≡ map to_ascii_lowercase (behind_one is_sign t)
-lower_behind [] = refl
-lower_behind (c ∷ cs) = ap (λ b. if b then map to_ascii_lowercase cs else map to_ascii_lowercase (c ∷ cs)) (same_sign c) ∙ by (is_sign c)
+lower_after : (t : List ℕ) → after_one is_sign (map to_ascii_lowercase t) ≡ map to_ascii_lowercase (after_one is_sign t)
+lower_after [] = refl
+lower_after (c ∷ cs) = ap (λ b. if b then map to_ascii_lowercase cs else map to_ascii_lowercase (c ∷ cs)) (same_sign c) ∙ by (is_sign c)
   where
     by : (b : Bool) → (if b then map to_ascii_lowercase cs else map to_ascii_lowercase (c ∷ cs)) ≡ map to_ascii_lowercase (if b then cs else c ∷ cs)
     by true = refl
     by false = refl
 
-pub float_word : (t : List ℕ) → is_float_word t ≡ is_among float_names (map to_ascii_lowercase (behind_one is_sign t))
+pub float_word : (t : List ℕ) → is_float_word t ≡ is_among float_names (map to_ascii_lowercase (after_one is_sign t))
 float_word t =
-    optional_one-behind is_sign (λ x. followed_by (is_among float_names) is_empty x) rejects (map to_ascii_lowercase t)
-    ∙ followed_by-empty (is_among float_names) (behind_one is_sign (map to_ascii_lowercase t))
-    ∙ ap (is_among float_names) (lower_behind t)
+    optional_one-after is_sign (λ x. followed_by (is_among float_names) is_empty x) rejects (map to_ascii_lowercase t)
+    ∙ followed_by-empty (is_among float_names) (after_one is_sign (map to_ascii_lowercase t))
+    ∙ ap (is_among float_names) (lower_after t)
 
 -- ---- texts that aren't ASCII
 
@@ -91,9 +91,9 @@ lower_low (c ∷ cs) h =
     let parts = and_parts (nat_lt (to_ascii_lowercase c) 128) (low (map to_ascii_lowercase cs)) h in
     and_from (nat_lt c 128) (low cs) (lowered c _ _ refl refl parts.0) (lower_low cs parts.1)
 
-behind_low : (t : List ℕ) → low (behind_one is_sign t) ≡ true → low t ≡ true
-behind_low [] h = refl
-behind_low (c ∷ cs) h = by (is_sign c) refl h
+after_low : (t : List ℕ) → low (after_one is_sign t) ≡ true → low t ≡ true
+after_low [] h = refl
+after_low (c ∷ cs) h = by (is_sign c) refl h
   where
     sign_low : (c : ℕ) → is_sign c ≡ true → nat_lt c 128 ≡ true
     sign_low c e = grind (arith, nat_tests)
@@ -103,7 +103,7 @@ behind_low (c ∷ cs) h = by (is_sign c) refl h
     by false e h = h
 
 wide_float : (t : List ℕ) → Wide t → is_float_word t ≡ false
-wide_float t w = float_word t ∙ not_among float_names (map to_ascii_lowercase (behind_one is_sign t)) refl (λ h. w (behind_low t (lower_low (behind_one is_sign t) h)))
+wide_float t w = float_word t ∙ not_among float_names (map to_ascii_lowercase (after_one is_sign t)) refl (λ h. w (after_low t (lower_low (after_one is_sign t) h)))
 
 low_from : (bs : List ℕ) → ((i : ℕ) → i < length bs → get_or bs i 0 < 128) → low bs ≡ true
 low_from [] h = refl

@@ -1,4 +1,4 @@
--- Writes behind writes.
+-- Writes after writes.
 use Rattle.std.proofs.Common.{ℕ, ◌≡◌, inl, inr, List, [], ◌∷◌, ◌++◌, refl, sym, ap, subst, ◌∙◌, append_assoc, append-nil}
 use Rattle.std.specs.Prelude.{Result, Ok, Err, IsOk, IsErr}
 use Rattle.std.specs.List.{FoldsTo, concat}
@@ -55,7 +55,7 @@ stopped_early b p = record {
   end = elim p.end [ inl r ↦ inl (refused_more b r) | inr e ↦ inr e ];
 }
 
--- a stop behind what was written
+-- a stop after what was written
 pub stopped_late : {W : Type 0} {gives leaves : W → List ℕ → W → Type 0} {reason : Type 0} {w v u : W} {a b : List ℕ}
     → Wrote gives w a v → Stopped gives leaves reason v b u → Stopped gives leaves reason w (a ++ b) u
 stopped_late {a = a} p q = record {
@@ -88,7 +88,7 @@ pub stopped_as : {W : Type 0} {gives leaves : W → List ℕ → W → Type 0} {
     → a ≡ b → Stopped gives leaves reason w a v → Stopped gives leaves reason w b v
 stopped_as {gives = gives} {leaves} {reason} {w} {v} e = subst (λ t. Stopped gives leaves reason w t v) e
 
--- a call behind what was written
+-- a call after what was written
 pub writes_late : {W E : Type 0} {gives leaves : W → List ℕ → W → Type 0} {reason : Type 0} {w v u : W} {a b : List ℕ} {r : Result (Unit {0}) E}
     → Wrote gives w a v → WritesUnless reason gives leaves v r b u → WritesUnless reason gives leaves w r (a ++ b) u
 writes_late p q = record { ok = λ k. wrote_then p (q.ok k); err = λ k. stopped_late p (q.err k) }

@@ -15,8 +15,8 @@ abbrev pub before_value : Bool → ℕ → Tree → List ℕ
 before_value blocks_lower level t = if blocks_lower && is_block t then new_line (level + 1) else codes " "
 
 -- what stands after a mark: the value's box, one level deeper
-abbrev pub behind_mark : Bool → ℕ → Tree → List (List ℕ) → List ℕ
-behind_mark blocks_lower level t ls = before_value blocks_lower level t ++ stacked (level + 1) ls
+abbrev pub after_mark : Bool → ℕ → Tree → List (List ℕ) → List ℕ
+after_mark blocks_lower level t ls = before_value blocks_lower level t ++ stacked (level + 1) ls
 
 -- what stands before an entry
 abbrev pub before_entry : Bool → ℕ → List ℕ
@@ -37,9 +37,9 @@ scalar_key k = spelling k ++ codes ":"
 -- a pair
 abbrev pub pair_text : Bool → Bool → ℕ → Tree → Tree → List ℕ
 pair_text compact multiline level k v =
-    if is_scalar k then scalar_key k ++ behind_mark true level v (box compact multiline false v)
-    else codes "?" ++ (behind_mark (not compact) level k (box compact multiline false k)
-    ++ (second_mark level ++ behind_mark (not compact) level v (box compact multiline false v)))
+    if is_scalar k then scalar_key k ++ after_mark true level v (box compact multiline false v)
+    else codes "?" ++ (after_mark (not compact) level k (box compact multiline false k)
+    ++ (second_mark level ++ after_mark (not compact) level v (box compact multiline false v)))
 
 -- the lines of the entries that are left, where none or some were written
 abbrev pub entries_text : Bool → ℕ → List (List ℕ) → List ℕ

@@ -35,22 +35,22 @@ fn write_characters<W: Writer>(out: &mut W, text: &str) -> fmt::Result
     ensures { Writes W.put_gives W.put_leaves out.old result (written_escapes (chars text.now)) out.new }
 {
     let mut rest = text;
-    'runs: while let Some((front, c, behind)) = first_escape(rest) {
+    'runs: while let Some((front, c, after)) = first_escape(rest) {
         out.put(front)?;
         write_character(out, c)?;
-        rest = behind;
+        rest = after;
     }
     out.put(rest)
 }
 
-// The run before the first character that is escaped, that character, and what stands behind it.
+// The run before the first character that is escaped, that character, and what stands after it.
 fn first_escape(text: &str) -> Option<(&str, char, &str)>
     ensures { MatchOption result (IsRun (chars text.now)) (λ x. IsRunCut text.now x.0.now x.1 x.2.now) }
 {
-    let (run, behind) = text.split_at(run_length::<Escaped>(text.as_bytes()));
-    let mut behind = behind.chars();
-    let c = behind.next()?;
-    Some((run, c, behind.as_str()))
+    let (run, after) = text.split_at(run_length::<Escaped>(text.as_bytes()));
+    let mut after = after.chars();
+    let c = after.next()?;
+    Some((run, c, after.as_str()))
 }
 
 // A quote, a backslash and the control characters are escaped.

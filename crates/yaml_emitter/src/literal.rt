@@ -86,11 +86,11 @@ fn has_marker(text: &str) -> bool
     ensures { result ≡ list_any begins_as_marker (lines_of (chars text.now)) }
 {
     let mut rest = text;
-    'lines: while let Some((line, behind)) = first_cut(rest) {
+    'lines: while let Some((line, after)) = first_cut(rest) {
         if begins_as_marker(line) {
             return true;
         }
-        rest = behind;
+        rest = after;
     }
     begins_as_marker(rest)
 }
@@ -150,9 +150,9 @@ fn write_lines<W: Writer>(out: &mut W, level: usize, text: &str) -> fmt::Result
     ensures { Writes W.put_gives W.put_leaves out.old result (below level (lines_of (chars text.now))) out.new }
 {
     let mut rest = text;
-    'lines: while let Some((line, behind)) = first_cut(rest) {
+    'lines: while let Some((line, after)) = first_cut(rest) {
         write_line(out, level, line)?;
-        rest = behind;
+        rest = after;
     }
     write_last_line(out, level, rest)
 }

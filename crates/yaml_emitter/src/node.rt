@@ -8,7 +8,7 @@ ghost use Rattle.defs_tree.specs.Tree.{array, hash, items_of, pairs_of};
 ghost use Rattle.defs_tree.specs.Writable.{levels};
 ghost use Rattle.yaml_tree.specs.View.{view, array_tree, hash_tree};
 ghost use Rattle.yaml_emitter.specs.At.{stacked};
-ghost use Rattle.yaml_emitter.specs.Entries.{before_value, behind_mark, before_entry, item_mark, second_mark, scalar_key, pair_text, scalar_box};
+ghost use Rattle.yaml_emitter.specs.Entries.{before_value, after_mark, before_entry, item_mark, second_mark, scalar_key, pair_text, scalar_box};
 ghost use Rattle.yaml_emitter.specs.ValidTree.{IsValid, IsValidScalar};
 ghost use Rattle.yaml_emitter.specs.Writing.{Writes, WritesUnless};
 
@@ -68,7 +68,7 @@ fn write_value<W: Writer>(
 ) -> fmt::Result
     requires { level + 1 < 2 ^ 62 }
     ensures text { WritesUnless (2 ^ 62 ≤ level + 1 + levels (view node.now)) W.put_gives W.put_leaves out.old result
-        (behind_mark blocks_lower level (view node.now) (box settings.now.compact settings.now.multiline false (view node.now))) out.new }
+        (after_mark blocks_lower level (view node.now) (box settings.now.compact settings.now.multiline false (view node.now))) out.new }
     ensures valid { OnOk result (IsValid (view node.now)) }
 {
     begin_value(out, level, blocks_lower, node)?;

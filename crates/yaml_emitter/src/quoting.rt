@@ -5,7 +5,7 @@ ghost use Rattle.std.specs.List.{list_any};
 ghost use Rattle.defs_tree.specs.Grammar.{is_among, is_empty};
 ghost use Rattle.defs_tree.specs.Quoting.{is_quoted, has_outer_space, has_indicator_first, is_unfit_for_plain, reserved_words, is_float_word};
 ghost use Rattle.defs_tree.specs.Typing.{typing, is_string, is_sign};
-ghost use Rattle.defs_tree.proofs.GrammarLaws.{behind_one};
+ghost use Rattle.defs_tree.proofs.GrammarLaws.{after_one};
 ghost use Rattle.yaml_emitter.specs.Words.{is_unfit, is_word, is_name, float_names};
 
 use crate::ends::{begins_with, ends_with};
@@ -115,7 +115,7 @@ fn is_reserved(text: &[u8]) -> bool
 fn is_float_word(text: &[u8]) -> bool
     ensures { result ≡ is_float_word text.now }
 {
-    is_float_name(behind_sign(text))
+    is_float_name(after_sign(text))
 }
 
 fn is_float_name(word: &[u8]) -> bool
@@ -126,8 +126,8 @@ fn is_float_name(word: &[u8]) -> bool
         || word.eq_ignore_ascii_case(b"nan")
 }
 
-fn behind_sign(text: &[u8]) -> &[u8]
-    ensures { result.now ≡ behind_one is_sign text.now }
+fn after_sign(text: &[u8]) -> &[u8]
+    ensures { result.now ≡ after_one is_sign text.now }
 {
     match text {
         [b'+' | b'-', rest @ ..] => rest,

@@ -11,7 +11,7 @@ use Rattle.yaml_encoding.specs.Outcomes.{IsRead}
 use Rattle.yaml_encoding.proofs.ReadLemmas.{passes_character}
 
 -- an ASCII byte means itself
-ascii_start : (b : ℕ) → b < 128 → start_of b ≡ Some (record { bits = b; behind = [] })
+ascii_start : (b : ℕ) → b < 128 → start_of b ≡ Some (record { bits = b; after = [] })
 unfolding start_of
 ascii_start b h = grind (arith, nat_tests)
 
@@ -46,9 +46,9 @@ read_over step input (suc n) at so_far there below r =
     let m : suc at + n ≡ at + suc n = omega arith in
     rw (e, ← append_assoc so_far (b ∷ []) (take n (drop (suc at) input)), ← m) q
 
-pub passes_run : (step : Steps) (e : Encoding) (input : List ℕ) (at count behind : ℕ) (so_far next rest : List ℕ) → e ≡ utf_8 → rest ≡ drop at input → at < length input → 0 < count → IsAsciiRun rest count → next ≡ so_far ++ take count rest → behind ≡ at + count
-    → (at < behind) × (behind ≤ length input) × (IsRead step e input at so_far → IsRead step e input behind next)
-passes_run step e input at count behind so_far next rest is_utf_8 is_rest in_range some run n b =
+pub passes_run : (step : Steps) (e : Encoding) (input : List ℕ) (at count after : ℕ) (so_far next rest : List ℕ) → e ≡ utf_8 → rest ≡ drop at input → at < length input → 0 < count → IsAsciiRun rest count → next ≡ so_far ++ take count rest → after ≡ at + count
+    → (at < after) × (after ≤ length input) × (IsRead step e input at so_far → IsRead step e input after next)
+passes_run step e input at count after so_far next rest is_utf_8 is_rest in_range some run n b =
     let l : length rest ≡ length input - at = ap (λ r. length r) is_rest ∙ length-drop at input in
     let there = run.there in
     let below = rw is_rest at run.below in

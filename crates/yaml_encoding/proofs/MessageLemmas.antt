@@ -11,7 +11,7 @@ listed_by_first n [] = sym (append-nil (decimal n))
 listed_by_first n (m ∷ ns) =
     rw (listed_by_first m ns) (append_assoc (decimal n) (codes ", ") (decimal m ++ after ns))
 
--- a list of one number and others behind it
+-- a list of one number and others after it
 pub list_pushed : (bytes others t u v : List ℕ) (n : ℕ) → bytes ≡ n ∷ others → u ≡ t ++ decimal n → v ≡ u ++ after others → v ≡ t ++ listed bytes
 list_pushed bytes others t u v n e f g =
     rw (e, listed_by_first n others, ← append_assoc t (decimal n) (after others), ← f) g
@@ -20,7 +20,7 @@ list_pushed bytes others t u v n e f g =
 pub nothing_pushed : (bytes t : List ℕ) → bytes ≡ [] → t ≡ t ++ listed bytes
 nothing_pushed bytes t e = rw (e, append-nil t) refl
 
--- one more of the numbers behind the first
+-- one more of the numbers after the first
 pub others_step : (bytes t u v : List ℕ) (i : ℕ) → i < length bytes → u ≡ t ++ chars (codes ", ") → v ≡ u ++ decimal (get_or bytes i 0) → v ++ after (drop (i + 1) bytes) ≡ t ++ after (drop i bytes)
 unfolding chars
 others_step bytes t u v i in_range e f =

@@ -23,7 +23,7 @@ trails_take n bits (range ∷ ranges) (b ∷ r) some = by_between (is_between (r
 
 utf_8_takes : (s : Option Start) (r : List ℕ) → Takes (sequence_by s r) r
 utf_8_takes None r = (omega arith, omega arith)
-utf_8_takes (Some s) r = let h = trails_take 1 (s.bits) (s.behind) r (omega arith) in (h.0, omega arith)
+utf_8_takes (Some s) r = let h = trails_take 1 (s.bits) (s.after) r (omega arith) in (h.0, omega arith)
 
 pair_takes : (t : Bool) (u v a b c : ℕ) (r : List ℕ) → Takes (pair_by t u v) (a ∷ b ∷ c ∷ r)
 pair_takes true u v a b c r = (omega arith, omega arith)
@@ -45,15 +45,15 @@ reading_takes utf_16_little b r = utf_16_takes little b r
 reading_takes utf_16_big b r = utf_16_takes big b r
 
 -- bytes that belong to the part before
-parts_from-behind : (at : ℕ → List ℕ → Sequence) (n place : ℕ) (r : List ℕ) → n ≤ length r → parts_from at n place r ≡ parts_from at 0 (place + n) (drop n r)
-parts_from-behind at zero place [] h = refl
-parts_from-behind at zero place (b ∷ r) h = rw (add-zero place) refl
-parts_from-behind at (suc n) place [] h = absurd (omega arith)
-parts_from-behind at (suc n) place (b ∷ r) h =
+parts_from-after : (at : ℕ → List ℕ → Sequence) (n place : ℕ) (r : List ℕ) → n ≤ length r → parts_from at n place r ≡ parts_from at 0 (place + n) (drop n r)
+parts_from-after at zero place [] h = refl
+parts_from-after at zero place (b ∷ r) h = rw (add-zero place) refl
+parts_from-after at (suc n) place [] h = absurd (omega arith)
+parts_from-after at (suc n) place (b ∷ r) h =
     let p : suc place + n ≡ place + suc n = omega arith in
-    parts_from-behind at n (suc place) r (omega arith) ∙ ap (λ x. parts_from at 0 x (drop n r)) p
+    parts_from-after at n (suc place) r (omega arith) ∙ ap (λ x. parts_from at 0 x (drop n r)) p
 
--- the first part, and those behind it
+-- the first part, and those after it
 parts_from-first : (e : Encoding) (place b : ℕ) (r : List ℕ) → parts_from (reading e) 0 place (b ∷ r)
     ≡ part_of place (b ∷ r) (reading e b r) ∷ parts_from (reading e) 0 (place + (reading e b r).bytes) (drop ((reading e b r).bytes) (b ∷ r))
 parts_from-first e place b r = first ((reading e b r).bytes) (reading_takes e b r)
@@ -63,7 +63,7 @@ parts_from-first e place b r = first ((reading e b r).bytes) (reading_takes e b 
     first zero h = absurd (omega arith)
     first (suc n) h =
         let p : suc place + n ≡ place + suc n = omega arith in
-        ap (λ ps. part_of place (b ∷ r) (reading e b r) ∷ ps) (parts_from-behind (reading e) n (suc place) r (omega arith) ∙ ap (λ x. parts_from (reading e) 0 x (drop n r)) p)
+        ap (λ ps. part_of place (b ∷ r) (reading e b r) ∷ ps) (parts_from-after (reading e) n (suc place) r (omega arith) ∙ ap (λ x. parts_from (reading e) 0 x (drop n r)) p)
 
 pub parts_from-front : (e : Encoding) (place : ℕ) (input : List ℕ) (s : Sequence) → 0 < length input → s ≡ front (reading e) input
     → parts_from (reading e) 0 place input ≡ part_of place input s ∷ parts_from (reading e) 0 (place + s.bytes) (drop (s.bytes) input)

@@ -14,7 +14,7 @@ use Rattle.yaml_encoding.proofs.PartsLemmas.{parts_from-front, front-bytes}
 pub rest_of : (input : List ℕ) (at : ℕ) → take (length input - at) (drop at input) ≡ drop at input
 rest_of input at = rw (← length-drop at input) (take-length (drop at input))
 
--- behind the mark
+-- after the mark
 pub read_start : (step : Steps) (e : Encoding) (input : List ℕ) (mark : ℕ) (so_far : List ℕ) → chosen input ≡ record { encoding = e; mark = mark } → so_far ≡ [] → IsRead step e input mark so_far
 read_start step e input mark so_far c n = record { goes = λ o h. rw c (rw n at h) }
 
@@ -36,16 +36,16 @@ module _ (step : Steps) (e : Encoding) (input : List ℕ) (at : ℕ) (so_far : L
       let t = front-bytes e rest s (omega arith) is_front in (t.0, t.1, omega arith)
 
   -- over a character
-  pub passes_character : (next : List ℕ) (c behind : ℕ) → s.character ≡ Some c → next ≡ so_far ++ c ∷ [] → behind ≡ at + s.bytes
-      → (at < behind) × (behind ≤ length input) × (IsRead step e input at so_far → IsRead step e input behind next)
-  passes_character next c behind g n b =
+  pub passes_character : (next : List ℕ) (c after : ℕ) → s.character ≡ Some c → next ≡ so_far ++ c ∷ [] → after ≡ at + s.bytes
+      → (at < after) × (after ≤ length input) × (IsRead step e input at so_far → IsRead step e input after next)
+  passes_character next c after g n b =
       let t = takes in
       (omega arith, omega arith, λ r. record { goes = λ o h. r.goes o (rw (parts_at e input at s in_range here) (rw g (rw (n, b) at h))) })
 
   -- over a malformation
-  pub passes_malformation : (next : List ℕ) (behind : ℕ) → s.character ≡ None → step (s.bytes) (s.ahead) rest so_far (go_on next) → behind ≡ at + s.bytes
-      → (at < behind) × (behind ≤ length input) × (IsRead step e input at so_far → IsRead step e input behind next)
-  passes_malformation next behind g taken b =
+  pub passes_malformation : (next : List ℕ) (after : ℕ) → s.character ≡ None → step (s.bytes) (s.ahead) rest so_far (go_on next) → after ≡ at + s.bytes
+      → (at < after) × (after ≤ length input) × (IsRead step e input at so_far → IsRead step e input after next)
+  passes_malformation next after g taken b =
       let t = takes in
       let taken_here = rw is_rest at taken in
       (omega arith, omega arith, λ r. record { goes = λ o h. r.goes o (rw (parts_at e input at s in_range here) (rw g (inl (next, taken_here, rw b at h)))) })

@@ -134,7 +134,7 @@ looked_ahead : parts (0xFF ∷ 0xFE ∷ 0x00 ∷ 0xD8 ∷ 0x61 ∷ 0x00 ∷ []) 
 unfolding unmarked chosen start_of is_lead is_trail digits
 looked_ahead = refl
 
--- a function that adds a question mark and goes on, at one byte with nothing looked at behind it
+-- a function that adds a question mark and goes on, at one byte with nothing looked at after it
 data Asks : (bytes ahead : ℕ) → (input text_so_far : List ℕ) → Answer → Type 0 where
   ask : (so_far : List ℕ) → Asks 1 0 (0xFF ∷ []) so_far (go_on (so_far ++ codes "?"))
 

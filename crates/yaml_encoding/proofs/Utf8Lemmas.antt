@@ -44,7 +44,7 @@ three_trails bits low high few more top = (
 -- what a first byte begins leads to characters, if it begins anything
 abbrev LeadsOn : Option Start → Type 0
 LeadsOn None = Unit {0}
-LeadsOn (Some s) = Leads s.bits s.behind
+LeadsOn (Some s) = Leads s.bits s.after
 
 by_test : (t : Bool) (x y : Option Start) → (t ≡ true → LeadsOn x) → (t ≡ false → LeadsOn y) → LeadsOn (cond t x y)
 by_test true x y f g = f refl
@@ -64,13 +64,13 @@ all_lead b =
     by_test (is_between 0xF4 0xF4 b) _ _ (λ h. let w = within 0xF4 0xF4 b h in three_trails (b - 0xF0) 0x80 0x8F (omega arith) (omega arith) (omega arith)) (λ _. tt)))))))))
 
 -- the bits of a first byte and whatever trails are a character
-pub start_of-leads : (b : ℕ) (s : Start) → start_of b ≡ Some s → Leads s.bits s.behind
+pub start_of-leads : (b : ℕ) (s : Start) → start_of b ≡ Some s → Leads s.bits s.after
 start_of-leads b s e = subst LeadsOn e (all_lead b)
 
 -- the first byte
-pub Trails-start : (input : List ℕ) (bits low high behind : ℕ) → 0 < length input → start_of (get_or input 0 0) ≡ Some (record { bits = bits; behind = bounds low high behind }) → behind ≤ 3 → 0x80 ≤ low → Trails input 1 bits low high behind
-Trails-start [] bits low high behind some e few above = absurd (omega arith)
-Trails-start (b ∷ r) bits low high behind some e few above = record {
+pub Trails-start : (input : List ℕ) (bits low high after : ℕ) → 0 < length input → start_of (get_or input 0 0) ≡ Some (record { bits = bits; after = bounds low high after }) → after ≤ 3 → 0x80 ≤ low → Trails input 1 bits low high after
+Trails-start [] bits low high after some e few above = absurd (omega arith)
+Trails-start (b ∷ r) bits low high after some e few above = record {
   goes = rw e refl;
   leads = start_of-leads b _ e;
   few = omega arith;
@@ -97,27 +97,27 @@ at_byte : (input : List ℕ) (bytes : ℕ) → bytes < length input → drop byt
 at_byte input bytes in_range = drop-cons input bytes 0 in_range
 
 -- a trail
-pub Trails-next : (input : List ℕ) (bytes bits low high behind more : ℕ) → Trails input bytes bits low high behind → 0 < behind → bytes < length input
-    → more + 0x80 ≡ get_or input bytes 0 → low ≤ get_or input bytes 0 → get_or input bytes 0 ≤ high → Trails input (bytes + 1) (bits * 64 + more) 0x80 0xBF (behind - 1)
+pub Trails-next : (input : List ℕ) (bytes bits low high after more : ℕ) → Trails input bytes bits low high after → 0 < after → bytes < length input
+    → more + 0x80 ≡ get_or input bytes 0 → low ≤ get_or input bytes 0 → get_or input bytes 0 ≤ high → Trails input (bytes + 1) (bits * 64 + more) 0x80 0xBF (after - 1)
 Trails-next input bytes bits low high zero more t some in_range e l h = absurd (omega arith)
-Trails-next input bytes bits low high (suc behind) more t some in_range e l h =
+Trails-next input bytes bits low high (suc after) more t some in_range e l h =
     let is = inside low high _ l h in
     let m : get_or input bytes 0 - 0x80 ≡ more = omega arith in
-    let k : suc behind - 1 ≡ behind = omega arith in
+    let k : suc after - 1 ≡ after = omega arith in
     let n : bytes + 1 ≡ suc bytes = omega arith in
-    let goes = rw (at_byte input bytes in_range, stays bytes bits (record { low = low; high = high }) (bounds 0x80 0xBF behind) (get_or input bytes 0) (drop (suc bytes) input) is, m) at t.goes in
-    let P : ℕ → Type 0 = λ x. Leads (bits * 64 + x) (bounds 0x80 0xBF behind) in
+    let goes = rw (at_byte input bytes in_range, stays bytes bits (record { low = low; high = high }) (bounds 0x80 0xBF after) (get_or input bytes 0) (drop (suc bytes) input) is, m) at t.goes in
+    let P : ℕ → Type 0 = λ x. Leads (bits * 64 + x) (bounds 0x80 0xBF after) in
     let leads = subst P m (t.leads.1 (get_or input bytes 0) is) in
     rw (k, n) (record { goes = goes; leads = leads; few = omega arith; above = omega arith })
 
 -- the input's end where a trail should be
-pub Trails-end : (input : List ℕ) (bytes bits low high behind : ℕ) → Trails input bytes bits low high behind → 0 < behind → length input ≤ bytes → malformed bytes 0 ≡ front utf_8_sequence input
+pub Trails-end : (input : List ℕ) (bytes bits low high after : ℕ) → Trails input bytes bits low high after → 0 < after → length input ≤ bytes → malformed bytes 0 ≡ front utf_8_sequence input
 Trails-end input bytes bits low high zero t some end = absurd (omega arith)
-Trails-end input bytes bits low high (suc behind) t some end = rw (drop_all bytes input end) at t.goes
+Trails-end input bytes bits low high (suc after) t some end = rw (drop_all bytes input end) at t.goes
 
 -- another byte where a trail should be
-pub Trails-leave : (input : List ℕ) (bytes bits low high behind : ℕ) → Trails input bytes bits low high behind → 0 < behind → bytes < length input → (get_or input bytes 0 < low) ⊎ (high < get_or input bytes 0)
+pub Trails-leave : (input : List ℕ) (bytes bits low high after : ℕ) → Trails input bytes bits low high after → 0 < after → bytes < length input → (get_or input bytes 0 < low) ⊎ (high < get_or input bytes 0)
     → malformed bytes 0 ≡ front utf_8_sequence input
 Trails-leave input bytes bits low high zero t some in_range o = absurd (omega arith)
-Trails-leave input bytes bits low high (suc behind) t some in_range o =
-    sym (leaves bytes bits (record { low = low; high = high }) (bounds 0x80 0xBF behind) (get_or input bytes 0) (drop (suc bytes) input) (outside low high _ o)) ∙ rw (at_byte input bytes in_range) at t.goes
+Trails-leave input bytes bits low high (suc after) t some in_range o =
+    sym (leaves bytes bits (record { low = low; high = high }) (bounds 0x80 0xBF after) (get_or input bytes 0) (drop (suc bytes) input) (outside low high _ o)) ∙ rw (at_byte input bytes in_range) at t.goes

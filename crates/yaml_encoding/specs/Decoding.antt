@@ -64,7 +64,7 @@ pub record Range : Type 0 where
 -- the bits of a first byte, and the ranges of the bytes after it
 pub record Start : Type 0 where
   pub bits : ℕ
-  pub behind : List Range
+  pub after : List Range
 
 -- 80 to BF
 abbrev pub any_trail : Range
@@ -73,15 +73,15 @@ any_trail = record { low = 0x80; high = 0xBF }
 -- The well-formed sequences, by their first byte; no sequence begins with another.
 unfoldable pub start_of : ℕ → Option Start
 start_of b =
-    (if is_between 0x00 0x7F b then Some (record { bits = b; behind = [] }) else
-    (if is_between 0xC2 0xDF b then Some (record { bits = b - 0xC0; behind = any_trail ∷ [] }) else
-    (if is_between 0xE0 0xE0 b then Some (record { bits = b - 0xE0; behind = record { low = 0xA0; high = 0xBF } ∷ any_trail ∷ [] }) else
-    (if is_between 0xE1 0xEC b then Some (record { bits = b - 0xE0; behind = any_trail ∷ any_trail ∷ [] }) else
-    (if is_between 0xED 0xED b then Some (record { bits = b - 0xE0; behind = record { low = 0x80; high = 0x9F } ∷ any_trail ∷ [] }) else
-    (if is_between 0xEE 0xEF b then Some (record { bits = b - 0xE0; behind = any_trail ∷ any_trail ∷ [] }) else
-    (if is_between 0xF0 0xF0 b then Some (record { bits = b - 0xF0; behind = record { low = 0x90; high = 0xBF } ∷ any_trail ∷ any_trail ∷ [] }) else
-    (if is_between 0xF1 0xF3 b then Some (record { bits = b - 0xF0; behind = any_trail ∷ any_trail ∷ any_trail ∷ [] }) else
-    (if is_between 0xF4 0xF4 b then Some (record { bits = b - 0xF0; behind = record { low = 0x80; high = 0x8F } ∷ any_trail ∷ any_trail ∷ [] }) else None)))))))))
+    (if is_between 0x00 0x7F b then Some (record { bits = b; after = [] }) else
+    (if is_between 0xC2 0xDF b then Some (record { bits = b - 0xC0; after = any_trail ∷ [] }) else
+    (if is_between 0xE0 0xE0 b then Some (record { bits = b - 0xE0; after = record { low = 0xA0; high = 0xBF } ∷ any_trail ∷ [] }) else
+    (if is_between 0xE1 0xEC b then Some (record { bits = b - 0xE0; after = any_trail ∷ any_trail ∷ [] }) else
+    (if is_between 0xED 0xED b then Some (record { bits = b - 0xE0; after = record { low = 0x80; high = 0x9F } ∷ any_trail ∷ [] }) else
+    (if is_between 0xEE 0xEF b then Some (record { bits = b - 0xE0; after = any_trail ∷ any_trail ∷ [] }) else
+    (if is_between 0xF0 0xF0 b then Some (record { bits = b - 0xF0; after = record { low = 0x90; high = 0xBF } ∷ any_trail ∷ any_trail ∷ [] }) else
+    (if is_between 0xF1 0xF3 b then Some (record { bits = b - 0xF0; after = any_trail ∷ any_trail ∷ any_trail ∷ [] }) else
+    (if is_between 0xF4 0xF4 b then Some (record { bits = b - 0xF0; after = record { low = 0x80; high = 0x8F } ∷ any_trail ∷ any_trail ∷ [] }) else None)))))))))
 
 -- The sequence whose bytes so far are so many with these bits: each byte in its range adds six bits; where one is not, the bytes before it are a malformation.
 abbrev pub sequence_from : (bytes bits : ℕ) → List Range → List ℕ → Sequence
@@ -92,7 +92,7 @@ sequence_from n bits (range ∷ ranges) (b ∷ r) = (if is_between (range.low) (
 -- the sequence that a first byte begins
 abbrev pub sequence_by : Option Start → List ℕ → Sequence
 sequence_by None r = malformed 1 0
-sequence_by (Some s) r = sequence_from 1 (s.bits) (s.behind) r
+sequence_by (Some s) r = sequence_from 1 (s.bits) (s.after) r
 
 -- What a byte and those after it begin with in UTF-8. A malformation is the longest beginning of a sequence that is not whole, else one byte.
 abbrev pub utf_8_sequence : ℕ → List ℕ → Sequence

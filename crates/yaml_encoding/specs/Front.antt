@@ -21,7 +21,7 @@ unit_by Little = little
 unit_by Big = big
 
 -- the ranges of so many bytes, of which the first has these bounds
-abbrev pub bounds : (low high behind : ℕ) → List Range
+abbrev pub bounds : (low high after : ℕ) → List Range
 bounds low high zero = []
 bounds low high (suc n) = record { low = low; high = high } ∷ bounds 0x80 0xBF n
 

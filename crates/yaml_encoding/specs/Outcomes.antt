@@ -27,5 +27,5 @@ pub record IsRead (step : Steps) (encoding : Encoding) (input : List ℕ) (at : 
 
 -- A part of an input is read at a place: up to the place after it, or to a stop.
 abbrev pub Passes : (step : Steps) → (encoding : Encoding) → (input : List ℕ) → (at : ℕ) → (so_far next : List ℕ) → Result ℕ Stop → Type 0
-Passes step e input at so_far next (Ok behind) = (at < behind) × (behind ≤ length input) × (IsRead step e input at so_far → IsRead step e input behind next)
+Passes step e input at so_far next (Ok after) = (at < after) × (after ≤ length input) × (IsRead step e input at so_far → IsRead step e input after next)
 Passes step e input at so_far next (Err stop) = IsRead step e input at so_far → StopIs stop (IsDecodedByCalls step input)

@@ -27,7 +27,7 @@ fn read_part(
 {
     let rest = &input[place..];
     let sequence = encoding.sequence(rest);
-    let behind = place + usize::from(sequence.bytes);
+    let after = place + usize::from(sequence.bytes);
     let Some(c) = sequence.character else {
         let malformation = Malformation {
             place,
@@ -35,12 +35,12 @@ fn read_part(
             ahead: sequence.ahead,
         };
         return match trapped(trap, malformation, rest, text) {
-            Ok(()) => Ok(behind),
+            Ok(()) => Ok(after),
             Err(stop) => Err(stop),
         };
     };
     push(text, c)?;
-    Ok(behind)
+    Ok(after)
 }
 
 /// Reads some of an input at a place, and returns the place after it: in UTF-8 a run of ASCII bytes if one begins

@@ -15,17 +15,17 @@ struct Start {
     /// The greatest byte that may stand after it.
     high: u8,
     /// How many bytes stand after it.
-    behind: u8,
+    after: u8,
 }
 
 /// What a first byte begins; none where no sequence begins with it.
 #[tactic(auto, unfolding(crate::specs::Decoding::start_of))]
 fn start_of(first: u8) -> Option<Start>
-    ensures value { MatchOption result (start_of first ≡ None) (λ s. start_of first ≡ Some (record { bits = s.bits; behind = bounds s.low s.high s.behind })) }
-    ensures few { IfSome result (λ s. s.behind ≤ 3) }
+    ensures value { MatchOption result (start_of first ≡ None) (λ s. start_of first ≡ Some (record { bits = s.bits; after = bounds s.low s.high s.after })) }
+    ensures few { IfSome result (λ s. s.after ≤ 3) }
     ensures above { IfSome result (λ s. 0x80 ≤ s.low) }
 {
-    let (bits, low, high, behind) = match first {
+    let (bits, low, high, after) = match first {
         0x00..=0x7F => (first, 0x80, 0xBF, 0),
         0xC2..=0xDF => (first - 0xC0, 0x80, 0xBF, 1),
         0xE0 => (first - 0xE0, 0xA0, 0xBF, 2),
@@ -41,7 +41,7 @@ fn start_of(first: u8) -> Option<Start>
         bits: u32::from(bits),
         low,
         high,
-        behind,
+        after,
     })
 }
 
@@ -55,7 +55,7 @@ pub(crate) fn utf_8_sequence(input: &[u8]) -> Sequence
     };
     let mut start = start;
     let mut bytes = 1;
-    'trails: while start.behind > 0 {
+    'trails: while start.after > 0 {
         let Some(&byte) = input.get(usize::from(bytes)) else {
             return Sequence::malformed(bytes, 0);
         };
@@ -65,7 +65,7 @@ pub(crate) fn utf_8_sequence(input: &[u8]) -> Sequence
         start.bits = start.bits * 64 + u32::from(byte - 0x80);
         start.low = 0x80;
         start.high = 0xBF;
-        start.behind -= 1;
+        start.after -= 1;
         bytes += 1;
     }
     Sequence::means(bytes, start.bits)

@@ -223,7 +223,7 @@ edges_rise es m n j k a d e h = by j d (cases_lt k j)
 -- between the first entry with a mark and the first with a higher one, all have this mark
 pub edges_narrow : (es : List Entry) (m n j k count : ℕ) → AreRising es → IsEdge (mark_at es) (length es) m j → IsEdge (mark_at es) (length es) n k → n ≡ m + 1 → j + count ≡ k
     → IsNarrowed es m j count
-edges_narrow es m n j k count a d e next c = record { within = omega (arith, e.counted); below = d.below; inside = same; above = behind }
+edges_narrow es m n j k count a d e next c = record { within = omega (arith, e.counted); below = d.below; inside = same; above = after }
   where
     last : (i l : ℕ) → i ≤ l → suc l ≡ k → mark_at es i < n
     last i l h f = omega (arith, e.below l f, a i l h (omega (arith, e.counted)))
@@ -231,8 +231,8 @@ edges_narrow es m n j k count a d e next c = record { within = omega (arith, e.c
     same : (i : ℕ) → j ≤ i → i < j + count → mark_at es i ≡ m
     same i h g = omega (arith, d.from (omega (arith, e.counted)), a j i h (omega (arith, e.counted)), last i (k - 1) (omega arith) (omega arith))
 
-    behind : j + count < length es → m < mark_at es (j + count)
-    behind h = omega (arith, ap (mark_at es) c, e.from (omega arith))
+    after : j + count < length es → m < mark_at es (j + count)
+    after h = omega (arith, ap (mark_at es) c, e.from (omega arith))
 
 -- no entry from the first with a mark on has it
 pub edge_past : (es : List Entry) (m j : ℕ) → IsEdge (mark_at es) (length es) m j → (j < length es → m < mark_at es j) → IsNarrowed es m j 0
@@ -264,7 +264,7 @@ get_before (c ∷ bs) i zero u d e h = absurd (omega arith)
 get_before (c ∷ bs) zero (suc n) u d e h = refl
 get_before (c ∷ bs) (suc i) (suc n) u d e h = get_before bs i n u d (omega arith) (omega arith)
 
--- a block's upper half is put behind it, and it keeps the lower one
+-- a block's upper half is put after it, and it keeps the lower one
 pub halved_made : (xs ys : List (List Entry)) (i n h : ℕ) (upper whole lower : List Entry) → n ≡ suc i → i < length xs → ys ≡ insert xs n upper
     → upper ≡ drop h (get_or xs i []) → whole ≡ get_or ys i whole → lower ≡ take h whole → set ys i lower ≡ halved xs i n h
 halved_made xs ys i n h upper whole lower e l put u w low =

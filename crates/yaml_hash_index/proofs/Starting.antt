@@ -9,7 +9,7 @@ use Rattle.yaml_hash_index.specs.Blocks.{joined, start, halved, AreFilled}
 use Rattle.yaml_hash_index.specs.Starts.{AreStarts, AreApart, AreCounted, head_length}
 use Rattle.yaml_hash_index.proofs.Joining.{start_zero, start_all, start_within, start_next, start_rises, filled_map, length-halved, joined_halved, joined_map}
 
--- ---- before a change and behind it
+-- ---- before a change and after it
 
 pub start_set_before : (bs : List (List Entry)) (i n : ℕ) (b : List Entry) → n ≤ i → start (set bs i b) n ≡ start bs n
 start_set_before [] i n b h = refl
@@ -17,11 +17,11 @@ start_set_before (c ∷ bs) i zero b h = start_zero (set (c ∷ bs) i b)
 start_set_before (c ∷ bs) zero (suc n) b h = absurd (omega arith)
 start_set_before (c ∷ bs) (suc i) (suc n) b h = ap (λ m. length c + m) (start_set_before bs i n b (omega arith))
 
-pub start_set_behind : (bs : List (List Entry)) (i n : ℕ) (b : List Entry) → i < length bs → i < n → start (set bs i b) n + length (get_or bs i []) ≡ start bs n + length b
-start_set_behind [] i n b h g = absurd (omega arith)
-start_set_behind (c ∷ bs) i zero b h g = absurd (omega arith)
-start_set_behind (c ∷ bs) zero (suc n) b h g = omega arith
-start_set_behind (c ∷ bs) (suc i) (suc n) b h g = omega (arith, start_set_behind bs i n b (omega arith) (omega arith))
+pub start_set_after : (bs : List (List Entry)) (i n : ℕ) (b : List Entry) → i < length bs → i < n → start (set bs i b) n + length (get_or bs i []) ≡ start bs n + length b
+start_set_after [] i n b h g = absurd (omega arith)
+start_set_after (c ∷ bs) i zero b h g = absurd (omega arith)
+start_set_after (c ∷ bs) zero (suc n) b h g = omega arith
+start_set_after (c ∷ bs) (suc i) (suc n) b h g = omega (arith, start_set_after bs i n b (omega arith) (omega arith))
 
 pub start_push_before : (bs : List (List Entry)) (b : List Entry) (n : ℕ) → n ≤ length bs → start (bs ++ b ∷ []) n ≡ start bs n
 start_push_before [] b zero h = refl
@@ -29,10 +29,10 @@ start_push_before [] b (suc n) h = absurd (omega arith)
 start_push_before (c ∷ bs) b zero h = refl
 start_push_before (c ∷ bs) b (suc n) h = ap (λ m. length c + m) (start_push_before bs b n (omega arith))
 
-pub start_push_behind : (bs : List (List Entry)) (b : List Entry) (n : ℕ) → length bs < n → start (bs ++ b ∷ []) n ≡ start bs n + length b
-start_push_behind bs b zero h = absurd (omega arith)
-start_push_behind [] b (suc n) h = omega arith
-start_push_behind (c ∷ bs) b (suc n) h = omega (arith, start_push_behind bs b n (omega arith))
+pub start_push_after : (bs : List (List Entry)) (b : List Entry) (n : ℕ) → length bs < n → start (bs ++ b ∷ []) n ≡ start bs n + length b
+start_push_after bs b zero h = absurd (omega arith)
+start_push_after [] b (suc n) h = omega arith
+start_push_after (c ∷ bs) b (suc n) h = omega (arith, start_push_after bs b n (omega arith))
 
 pub start_remove_before : (bs : List (List Entry)) (i n : ℕ) → n ≤ i → start (remove bs i) n ≡ start bs n
 start_remove_before [] zero n h = refl
@@ -42,11 +42,11 @@ start_remove_before (c ∷ bs) zero (suc n) h = absurd (omega arith)
 start_remove_before (c ∷ bs) (suc i) zero h = refl
 start_remove_before (c ∷ bs) (suc i) (suc n) h = ap (λ m. length c + m) (start_remove_before bs i n (omega arith))
 
-pub start_remove_behind : (bs : List (List Entry)) (i n : ℕ) → i < length bs → i ≤ n → start (remove bs i) n + length (get_or bs i []) ≡ start bs (suc n)
-start_remove_behind [] i n h g = absurd (omega arith)
-start_remove_behind (c ∷ bs) zero n h g = omega arith
-start_remove_behind (c ∷ bs) (suc i) zero h g = absurd (omega arith)
-start_remove_behind (c ∷ bs) (suc i) (suc n) h g = omega (arith, start_remove_behind bs i n (omega arith) (omega arith))
+pub start_remove_after : (bs : List (List Entry)) (i n : ℕ) → i < length bs → i ≤ n → start (remove bs i) n + length (get_or bs i []) ≡ start bs (suc n)
+start_remove_after [] i n h g = absurd (omega arith)
+start_remove_after (c ∷ bs) zero n h g = omega arith
+start_remove_after (c ∷ bs) (suc i) zero h g = absurd (omega arith)
+start_remove_after (c ∷ bs) (suc i) (suc n) h g = omega (arith, start_remove_after bs i n (omega arith) (omega arith))
 
 pub start_halved_before : (bs : List (List Entry)) (i n h k : ℕ) → n ≡ suc i → i < length bs → k ≤ i → start (halved bs i n h) k ≡ start bs k
 start_halved_before [] i n h k e g l = absurd (omega arith)
@@ -56,14 +56,14 @@ start_halved_before (b ∷ bs) zero (suc n) h (suc k) e g l = absurd (omega arit
 start_halved_before (b ∷ bs) (suc i) (suc n) h zero e g l = refl
 start_halved_before (b ∷ bs) (suc i) (suc n) h (suc k) e g l = ap (λ m. length b + m) (start_halved_before bs i n h k (omega arith) (omega arith) (omega arith))
 
--- a block that was behind is one place on
-pub start_halved_behind : (bs : List (List Entry)) (i n h k : ℕ) → n ≡ suc i → i < length bs → i < k → start (halved bs i n h) (suc k) ≡ start bs k
-start_halved_behind [] i n h k e g l = absurd (omega arith)
-start_halved_behind (b ∷ bs) i zero h k e g l = absurd (omega arith)
-start_halved_behind (b ∷ bs) i (suc n) h zero e g l = absurd (omega arith)
-start_halved_behind (b ∷ bs) zero (suc zero) h (suc k) e g l = omega (arith, ap length (take-append-drop h b), length-append (take h b) (drop h b))
-start_halved_behind (b ∷ bs) zero (suc (suc n)) h (suc k) e g l = absurd (omega arith)
-start_halved_behind (b ∷ bs) (suc i) (suc n) h (suc k) e g l = ap (λ m. length b + m) (start_halved_behind bs i n h k (omega arith) (omega arith) (omega arith))
+-- a block that was after is one place on
+pub start_halved_after : (bs : List (List Entry)) (i n h k : ℕ) → n ≡ suc i → i < length bs → i < k → start (halved bs i n h) (suc k) ≡ start bs k
+start_halved_after [] i n h k e g l = absurd (omega arith)
+start_halved_after (b ∷ bs) i zero h k e g l = absurd (omega arith)
+start_halved_after (b ∷ bs) i (suc n) h zero e g l = absurd (omega arith)
+start_halved_after (b ∷ bs) zero (suc zero) h (suc k) e g l = omega (arith, ap length (take-append-drop h b), length-append (take h b) (drop h b))
+start_halved_after (b ∷ bs) zero (suc (suc n)) h (suc k) e g l = absurd (omega arith)
+start_halved_after (b ∷ bs) (suc i) (suc n) h (suc k) e g l = ap (λ m. length b + m) (start_halved_after bs i n h k (omega arith) (omega arith) (omega arith))
 
 pub start_map : (f : Entry → Entry) (bs : List (List Entry)) (n : ℕ) → start (map (map f) bs) n ≡ start bs n
 start_map f [] n = refl
@@ -73,17 +73,17 @@ start_map f (b ∷ bs) (suc n) = omega (arith, length-map b f, start_map f bs n)
 -- ---- all entries
 
 pub all_set : (bs : List (List Entry)) (i : ℕ) (b : List Entry) → i < length bs → length (joined (set bs i b)) + length (get_or bs i []) ≡ length (joined bs) + length b
-all_set bs i b h = omega (arith, start_set_behind bs i (length bs) b h h, start_all bs (length bs) (omega arith), start_all (set bs i b) (length bs) (omega (arith, length-set bs i b)))
+all_set bs i b h = omega (arith, start_set_after bs i (length bs) b h h, start_all bs (length bs) (omega arith), start_all (set bs i b) (length bs) (omega (arith, length-set bs i b)))
 
 pub all_push : (bs : List (List Entry)) (b : List Entry) → length (joined (bs ++ b ∷ [])) ≡ length (joined bs) + length b
 all_push bs b =
     let n = suc (length bs) in
-    omega (arith, start_push_behind bs b n (omega arith), start_all bs n (omega arith), start_all (bs ++ b ∷ []) n (omega (arith, length-append bs (b ∷ []))))
+    omega (arith, start_push_after bs b n (omega arith), start_all bs n (omega arith), start_all (bs ++ b ∷ []) n (omega (arith, length-append bs (b ∷ []))))
 
 pub all_remove : (bs : List (List Entry)) (i : ℕ) → i < length bs → length (joined (remove bs i)) + length (get_or bs i []) ≡ length (joined bs)
 all_remove bs i h =
     let n = length bs in
-    omega (arith, start_remove_behind bs i n h (omega (arith, h)), start_all bs (suc n) (omega arith), start_all (remove bs i) n (omega (arith, length-remove bs i h)))
+    omega (arith, start_remove_after bs i n h (omega (arith, h)), start_all bs (suc n) (omega arith), start_all (remove bs i) n (omega (arith, length-remove bs i h)))
 
 -- ---- no block is empty
 
@@ -147,28 +147,28 @@ pub starts_up : (more : ℕ → ℕ) (bs cs : List (List Entry)) (olds news : Li
     → ((g : ℕ) → g < first → start cs (16 * g) ≡ start bs (16 * g))
     → ((g : ℕ) → first ≤ g → start cs (16 * g) ≡ start bs (16 * g) + more g)
     → AreStarts cs news
-starts_up more bs cs olds news first n a e d enough before behind = record {
+starts_up more bs cs olds news first n a e d enough before after = record {
   enough = omega (arith, enough, d.count);
   each = λ g h. by g (omega (arith, h, d.count)) (cases_lt g first);
 }
   where
     by : (g : ℕ) → g < length olds → (g < first) ⊎ (first ≤ g) → get_or news g 0 ≡ start cs (16 * g)
     by g h (inl k) = omega (arith, d.before g k, a.each g h, before g k)
-    by g h (inr k) = omega (arith, d.inside g k (omega (arith, h, e)), a.each g h, behind g k)
+    by g h (inr k) = omega (arith, d.inside g k (omega (arith, h, e)), a.each g h, after g k)
 
 -- which are lower from the first on
 pub starts_down : (more : ℕ → ℕ) (bs cs : List (List Entry)) (olds news : List ℕ) (first n : ℕ) → AreStarts bs olds → n ≡ length olds → AreApart more first n news olds → length cs + 16 ≤ 16 * length olds
     → ((g : ℕ) → g < first → start cs (16 * g) ≡ start bs (16 * g))
     → ((g : ℕ) → first ≤ g → start cs (16 * g) + more g ≡ start bs (16 * g))
     → AreStarts cs news
-starts_down more bs cs olds news first n a e d enough before behind = record {
+starts_down more bs cs olds news first n a e d enough before after = record {
   enough = omega (arith, enough, d.count);
   each = λ g h. by g (omega (arith, h, d.count)) (cases_lt g first);
 }
   where
     by : (g : ℕ) → g < length olds → (g < first) ⊎ (first ≤ g) → get_or news g 0 ≡ start cs (16 * g)
     by g h (inl k) = omega (arith, d.before g k, a.each g h, before g k)
-    by g h (inr k) = omega (arith, d.inside g k (omega (arith, h, e)), a.each g h, behind g k)
+    by g h (inr k) = omega (arith, d.inside g k (omega (arith, h, e)), a.each g h, after g k)
 
 -- ---- one change of the blocks, and that of the starts which goes with it
 
@@ -179,18 +179,18 @@ counted_inserted bs olds news i first n b a e d f h l r = record {
   filled = filled_set bs i b a.filled (omega (arith, l));
   right = starts_up (λ _. 1) bs (set bs i b) olds news first n a.right e d (omega (arith, a.right.enough, length-set bs i b))
       (λ g k. start_set_before bs i (16 * g) b (omega (arith, f)))
-      (λ g k. omega (arith, start_set_behind bs i (16 * g) b h (omega (arith, f)), l));
+      (λ g k. omega (arith, start_set_after bs i (16 * g) b h (omega (arith, f)), l));
   fits = omega (arith, all_set bs i b h, l, r);
 }
 
--- a block of one entry comes behind all
+-- a block of one entry comes after all
 pub counted_pushed : (bs : List (List Entry)) (olds news : List ℕ) (first n : ℕ) (b : List Entry) → AreFilled bs → AreStarts bs olds → n ≡ length olds → AreApart (λ _. 1) first n olds news
     → first ≡ length bs / 16 + 1 → length bs + 1 + 16 ≤ 16 * length olds → length b ≡ 1 → length (joined bs) + 1 < 2 ^ 64 → AreCounted (bs ++ b ∷ []) news
 counted_pushed bs olds news first n b filled a e d f enough l r = record {
   filled = filled_push bs b filled (omega (arith, l));
   right = starts_up (λ _. 1) bs (bs ++ b ∷ []) olds news first n a e d (omega (arith, enough, length-append bs (b ∷ [])))
       (λ g k. start_push_before bs b (16 * g) (omega (arith, f)))
-      (λ g k. omega (arith, start_push_behind bs b (16 * g) (omega (arith, f)), l));
+      (λ g k. omega (arith, start_push_after bs b (16 * g) (omega (arith, f)), l));
   fits = omega (arith, all_push bs b, l, r);
 }
 
@@ -201,7 +201,7 @@ counted_removed bs olds news i first n b a e d f h some l = record {
   filled = filled_set bs i b a.filled some;
   right = starts_down (λ _. 1) bs (set bs i b) olds news first n a.right e d (omega (arith, a.right.enough, length-set bs i b))
       (λ g k. start_set_before bs i (16 * g) b (omega (arith, f)))
-      (λ g k. omega (arith, start_set_behind bs i (16 * g) b h (omega (arith, f)), l));
+      (λ g k. omega (arith, start_set_after bs i (16 * g) b h (omega (arith, f)), l));
   fits = omega (arith, all_set bs i b h, l, a.fits);
 }
 
@@ -213,7 +213,7 @@ counted_halved bs olds news i next h first n filled a r e d f s l some more enou
       (omega (arith, more, length-drop h b)) (omega (arith, s, l, length-set bs i (take h b)));
   right = starts_down (head_length cs) bs cs olds news first n a e d (omega (arith, enough, length-halved bs i next h s l))
       (λ g k. start_halved_before bs i next h (16 * g) s l (omega (arith, f)))
-      (λ g k. omega (arith, start_next cs (16 * g) (suc (16 * g)) refl, start_halved_behind bs i next h (16 * g) s l (omega (arith, f))));
+      (λ g k. omega (arith, start_next cs (16 * g) (suc (16 * g)) refl, start_halved_after bs i next h (16 * g) s l (omega (arith, f))));
   fits = omega (arith, ap length (joined_halved bs i next h s l), r);
 }
   where
@@ -243,7 +243,7 @@ counted_without bs olds mids news i first n m a e up k down f h one = record {
           up.inside g b (omega (arith, l, e)),
           down.inside g b (omega (arith, l, k, up.count)),
           a.right.each g l,
-          start_remove_behind bs i (16 * g) h (omega (arith, f, b)),
+          start_remove_after bs i (16 * g) h (omega (arith, f, b)),
           start_next bs (16 * g) (suc (16 * g)) refl,
           one,
         )
@@ -265,12 +265,12 @@ counted_map f bs starts a = record {
 pub can_rise : (bs : List (List Entry)) (starts : List ℕ) (n : ℕ) → AreStarts bs starts → length (joined bs) + 1 < n → (g : ℕ) → g < length starts → get_or starts g 0 + 1 < n
 can_rise bs starts n a h g k = omega (arith, h, start_head bs starts g a k)
 
--- behind a block that isn't empty no start is 0
+-- after a block that isn't empty no start is 0
 pub can_fall : (bs : List (List Entry)) (starts : List ℕ) (i first : ℕ) → AreStarts bs starts → first ≡ i / 16 + 1 → 0 < length (get_or bs i []) → (g : ℕ) → first ≤ g → g < length starts → 0 < get_or starts g 0
 can_fall bs starts i first a f some g k l = omega (arith, a.each g l, start_next bs i (suc i) refl, start_rises bs (suc i) (16 * g) (omega (arith, f)), some)
 
--- behind two halves a start is at least the length of its block
+-- after two halves a start is at least the length of its block
 pub can_subtract : (bs : List (List Entry)) (starts : List ℕ) (i next h first : ℕ) → AreStarts bs starts → first ≡ i / 16 + 1 → next ≡ suc i → i < length bs
     → (g : ℕ) → first ≤ g → g < length starts → head_length (halved bs i next h) g ≤ get_or starts g 0
 can_subtract bs starts i next h first a f s l g k m =
-    omega (arith, a.each g m, start_next (halved bs i next h) (16 * g) (suc (16 * g)) refl, start_halved_behind bs i next h (16 * g) s l (omega (arith, f)))
+    omega (arith, a.each g m, start_next (halved bs i next h) (16 * g) (suc (16 * g)) refl, start_halved_after bs i next h (16 * g) s l (omega (arith, f)))

@@ -36,7 +36,7 @@ AreFilled bs = (i : ℕ) → i < length bs → 0 < length (get_or bs i [])
 abbrev pub head_at : List (List Entry) → ℕ → ℕ
 head_at bs i = mark_at (get_or bs i []) 0
 
--- so many entries from the rank on have the mark; those before have lower ones, those behind higher ones
+-- so many entries from the rank on have the mark; those before have lower ones, those after higher ones
 pub record IsNarrowed (es : List Entry) (m rank count : ℕ) : Type 0 where
   pub within : rank + count ≤ length es
   pub below : (i : ℕ) → suc i ≡ rank → mark_at es i < m

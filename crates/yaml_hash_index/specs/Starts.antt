@@ -3,7 +3,7 @@ use Rattle.std.specs.Prelude.{ℕ, ◌≡◌, ◌+◌, ◌*◌, ◌^◌, ◌<◌
 use Rattle.yaml_hash_index.specs.declared.entry.Entry.{Entry}
 use Rattle.yaml_hash_index.specs.Blocks.{joined, start, AreFilled}
 
--- start g is how many entries stand before block 16 g; the last start is behind all blocks, so it counts all entries
+-- start g is how many entries stand before block 16 g; the last start is after all blocks, so it counts all entries
 pub record AreStarts (bs : List (List Entry)) (starts : List ℕ) : Type 0 where
   pub enough : length bs + 16 ≤ 16 * length starts
   pub each : (g : ℕ) → g < length starts → get_or starts g 0 ≡ start bs (16 * g)
@@ -19,8 +19,8 @@ pub record AreApart (more : ℕ → ℕ) (first end : ℕ) (lower higher : List 
   pub count : length lower ≡ length higher
   pub before : (g : ℕ) → g < first → get_or lower g 0 ≡ get_or higher g 0
   pub inside : (g : ℕ) → first ≤ g → g < end → get_or lower g 0 + more g ≡ get_or higher g 0
-  pub behind : (g : ℕ) → end ≤ g → get_or lower g 0 ≡ get_or higher g 0
+  pub after : (g : ℕ) → end ≤ g → get_or lower g 0 ≡ get_or higher g 0
 
--- how many entries the block of a start has; 0 behind all blocks
+-- how many entries the block of a start has; 0 after all blocks
 abbrev pub head_length : List (List Entry) → ℕ → ℕ
 head_length bs g = length (get_or bs (16 * g) [])

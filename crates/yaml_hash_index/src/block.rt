@@ -112,7 +112,7 @@ impl Block {
         self.entries.truncate(offset);
     }
 
-    /// Lowers the places behind one that is gone.
+    /// Lowers the places after one that is gone.
     pub(crate) fn close_up(&mut self, gone: usize)
         ensures { self.new ≡ map (entry_closed_up gone) self.old }
     {
@@ -124,7 +124,7 @@ impl Block {
         }
     }
 
-    /// Makes a place the last of so many, and lowers those behind it.
+    /// Makes a place the last of so many, and lowers those after it.
     pub(crate) fn move_up(&mut self, gone: usize, count: usize)
         requires { 0 < count }
         ensures { self.new ≡ map (entry_moved_up gone count) self.old }

@@ -223,7 +223,7 @@ impl Blocks {
         self.starts[self.starts.len() - 1] == usize::MAX
     }
 
-    // Puts an entry behind all, in a block of its own.
+    // Puts an entry after all, in a block of its own.
     fn push(&mut self, entry: Entry) -> Result<(), AllocError>
         requires { length (joined self.old) + 1 < 2 ^ 64 }
         ensures ok { OnOk result (joined self.new ≡ insert (joined self.old) (length (joined self.old)) entry) }
@@ -303,7 +303,7 @@ impl Blocks {
         Ok(())
     }
 
-    /// Takes the entry at a spot out, and lowers the places behind its own.
+    /// Takes the entry at a spot out, and lowers the places after its own.
     pub fn remove(&mut self, spot: Spot)
         requires { IsTaken self.old spot }
         ensures { joined self.new ≡ map (entry_closed_up (place_at (joined self.old) (rank_of self.old spot))) (remove (joined self.old) (rank_of self.old spot)) }
@@ -333,9 +333,9 @@ impl Blocks {
         requires one { length (get_or self.old block []) ≡ 1 }
         ensures { joined self.new ≡ remove (joined self.old) (start self.old block) }
     {
-        let behind = block / STRIDE + 1;
-        add_blocks(self.starts.as_mut_slice(), self.blocks.as_slice(), behind);
-        lower(self.starts.as_mut_slice(), behind);
+        let after = block / STRIDE + 1;
+        add_blocks(self.starts.as_mut_slice(), self.blocks.as_slice(), after);
+        lower(self.starts.as_mut_slice(), after);
         drop(self.blocks.remove(block));
     }
 
@@ -349,7 +349,7 @@ impl Blocks {
         lower(self.starts.as_mut_slice(), spot.block / STRIDE + 1);
     }
 
-    /// Makes a place the last of so many, and lowers those behind it.
+    /// Makes a place the last of so many, and lowers those after it.
     pub fn move_up(&mut self, gone: usize, count: usize)
         requires { 0 < count }
         ensures { joined self.new ≡ map (entry_moved_up gone count) (joined self.old) }

@@ -6,7 +6,7 @@ use crate::block::Block;
 use std::alloc::AllocError;
 
 /// A start is kept for every so many blocks: one for each block would make an insertion dear, since it raises those
-/// behind.
+/// after.
 pub(crate) const STRIDE: usize = 16;
 
 /// The number of a start that is not above the rank, where the next one is.
@@ -75,7 +75,7 @@ pub(crate) fn subtract_blocks(starts: &mut [usize], blocks: &[Block], first: usi
     }
 }
 
-/// Keeps the last start twice where one more block would leave no start behind all.
+/// Keeps the last start twice where one more block would leave no start after all.
 pub(crate) fn grow(starts: &mut Vec<usize>, blocks: &[Block]) -> Result<(), AllocError>
     requires { AreStarts blocks.now starts.old.items }
     ensures same { AreStarts blocks.now starts.new.items }

@@ -17,7 +17,7 @@ backslash : (ctx : Context) (start : Position) (a : List ℕ) (p : Position) (t 
 unfolding is_break is_blank
 backslash ctx start a p t = refl
 
--- behind a backslash stands a break or what it names
+-- after a backslash stands a break or what it names
 pub backslash_read : {T : Type 0} (old new : Reading T) (d : ℕ) (breaks : Bool)
     → Sees old (λ a. 92 ≡ slice_index a 0) → Sees old (λ a. d ≡ slice_index a 1) → breaks ≡ is_break d
     → new ≡ after_char old → Reads old new (λ a b. a ≡ slice_index a 0 ∷ b)

@@ -24,7 +24,7 @@ at mode w p = at_folded mode w (folded p)
 abbrev pub plain_shown : code.Plain → Plain
 plain_shown s = record { text = string_chars s.text; leading = s.leading }
 
--- what is left behind a function
+-- what is left after a function
 abbrev pub read : {T A : Type 0} → List ℕ → Reading T → A → Read A
 read b w x = record { rest = b; place = place_of w; value = x }
 

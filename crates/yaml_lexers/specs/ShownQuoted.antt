@@ -15,14 +15,14 @@ use Rattle.yaml_lexers.specs.declared.escape.Digits.TheVariants.{Two, Four, Eigh
 use Rattle.yaml_lexers.specs.Shown.{folded}
 use Rattle.model_lexers.specs.Folding.{Folded}
 use Rattle.model_lexers.specs.declared.context.Context.{Context}
-use Rattle.model_lexers.specs.Quoted.{Mode, State, Escape, quoted_from, first, inside, gap, breaking, behind, doubled, closed}
+use Rattle.model_lexers.specs.Quoted.{Mode, State, Escape, quoted_from, first, inside, gap, breaking, after, doubled, closed}
 
 abbrev pub mode_of : Part → Mode
 mode_of part.First = first
 mode_of part.Inside = inside
 mode_of part.Gap = gap
 mode_of part.Breaking = breaking
-mode_of part.Behind = behind
+mode_of part.After = after
 mode_of part.Doubled = doubled
 mode_of part.Closed = closed
 
@@ -64,7 +64,7 @@ Shows w places c = record {
   ahead : places ≤ w.ahead;
 }
 
--- how many digits a code has behind the first
+-- how many digits a code has after the first
 abbrev pub more_of : Digits → ℕ
 more_of Two = 1
 more_of Four = 3

@@ -2,7 +2,7 @@
 ghost use Rattle.std.specs.Prelude.{◌≡◌, ◌≢◌, ◌≤◌, ◌<◌, ◌^◌, ◌++◌, ◌&&◌, not, [], ℕ, Bool, true, false, Ok, Err, OnOk, OnErr, IfOk, IfErr};
 ghost use Rattle.yaml_chars.specs.Reading.{Reads, Sees, HasChar, place_of};
 ghost use Rattle.defs_text.specs.Text.{string_chars};
-ghost use Rattle.model_lexers.specs.Block.{margin, line, lines_from, begins, begun, with_char, tail, ends_indent, indent_from, first_indent, content, empty_text, body, behind_header, block};
+ghost use Rattle.model_lexers.specs.Block.{margin, line, lines_from, begins, begun, with_char, tail, ends_indent, indent_from, first_indent, content, empty_text, body, after_header, block};
 ghost use Rattle.yaml_lexers.specs.Shown.{Lexes, Refuses, read};
 ghost use Rattle.yaml_lexers.specs.ShownBlock.{lines, at, column_shown, header_shown};
 
@@ -13,7 +13,7 @@ use yaml_chars::class::{is_blank, is_break};
 use yaml_chars::{Marker, Run, Text, Window};
 use yaml_tokens::{Chomping, Fault, Problem};
 
-/// The lines of a block scalar so far: the text up to the last content line, the breaks behind
+/// The lines of a block scalar so far: the text up to the last content line, the breaks after
 /// that line's own, whether it has one, and whether it starts with a blank.
 #[derive(Drop)]
 struct Lines {
@@ -35,7 +35,7 @@ impl Lines {
         }
     }
 
-    /// Whether line folding applies to the break before a content line: it stands behind another
+    /// Whether line folding applies to the break before a content line: it stands after another
     /// content line, and neither of the two begins with a blank (YAML 1.2, section 8.1.3).
     fn folds_before(&self, blank: bool) -> bool
         ensures { result ≡ ((lines self.now).broken && not (lines self.now).blank && not blank) }
@@ -43,7 +43,7 @@ impl Lines {
         self.broken && !self.blank && !blank
     }
 
-    /// Begins a content line with `c`, behind what stands between it and the last one.
+    /// Begins a content line with `c`, after what stands between it and the last one.
     #[tactic(auto, unfolding(model_lexers::specs::Block::between))]
     fn begin(&mut self, literal: bool, c: char) -> Result<(), AllocError>
         ensures { OnOk result (lines self.new ≡ with_char c (begun literal c (lines self.old))) }
@@ -330,8 +330,8 @@ fn read_body<T: Iterator<Item = char>>(
     Ok(place)
 }
 
-/// Reads what comes behind a header. The answer is the token's place and the text.
-fn read_behind<T: Iterator<Item = char>>(
+/// Reads what comes after a header. The answer is the token's place and the text.
+fn read_after<T: Iterator<Item = char>>(
     alloc: Global,
     window: &mut Window<T>,
     literal: bool,
@@ -342,9 +342,9 @@ fn read_behind<T: Iterator<Item = char>>(
     requires indented { indent ≤ 2 ^ 63 }
     requires increment { header.increment < 10 }
     ensures ok { IfOk result (λ s. Reads window.old window.new (λ a b.
-        behind_header literal indent start (header_shown header) (content indent header.increment a (place_of window.old)) ≡ Ok (read b window.new (record { place = s.0; text = string_chars s.1 })))) }
+        after_header literal indent start (header_shown header) (content indent header.increment a (place_of window.old)) ≡ Ok (read b window.new (record { place = s.0; text = string_chars s.1 })))) }
     ensures err { IfErr result (λ e. Reads window.old window.new (λ a b. e ≢ Fault.OutOfMemory →
-        behind_header literal indent start (header_shown header) (content indent header.increment a (place_of window.old)) ≡ Err e)) }
+        after_header literal indent start (header_shown header) (content indent header.increment a (place_of window.old)) ≡ Err e)) }
 {
     let mut block = Lines::new(alloc);
     let column = read_column(window, indent, header.increment, &mut block)?;
@@ -375,5 +375,5 @@ pub fn read_block_scalar<T: Iterator<Item = char>>(
     let start = window.mark();
     window.skip();
     let header = read_header(window, start)?;
-    read_behind(alloc, window, literal, indent, start, header)
+    read_after(alloc, window, literal, indent, start, header)
 }

@@ -5,7 +5,7 @@ ghost use Rattle.yaml_chars.specs.Reading.{Reads, Sees, HasChar, place_of};
 ghost use Rattle.yaml_tokens.specs.Shown.{tok_of};
 ghost use Rattle.model_lexers.specs.Machine.{skip_while};
 ghost use Rattle.model_lexers.specs.Space.{blanks};
-ghost use Rattle.model_lexers.specs.Directive.{kind, name, number, version_value, tag_value, behind_major, prefix_behind, behind_name, value, directive_break, line_end, directive};
+ghost use Rattle.model_lexers.specs.Directive.{kind, name, number, version_value, tag_value, after_major, prefix_after, after_name, value, directive_break, line_end, directive};
 ghost use Rattle.yaml_lexers.specs.Shown.{Lexes, Refuses, read};
 ghost use Rattle.yaml_lexers.specs.ShownTag.{kind_shown};
 
@@ -120,8 +120,8 @@ fn read_minor<T: Iterator<Item = char>>(
     start: Marker,
     major: u32,
 ) -> Result<TokenType, Fault>
-    ensures ok { IfOk result (λ t. Reads window.old window.new (λ a b. behind_major start (read a window.old major) ≡ Ok (read b window.new (tok_of t)))) }
-    ensures err { IfErr result (λ e. Reads window.old window.new (λ a b. e ≢ Fault.OutOfMemory → behind_major start (read a window.old major) ≡ Err e)) }
+    ensures ok { IfOk result (λ t. Reads window.old window.new (λ a b. after_major start (read a window.old major) ≡ Ok (read b window.new (tok_of t)))) }
+    ensures err { IfErr result (λ e. Reads window.old window.new (λ a b. e ≢ Fault.OutOfMemory → after_major start (read a window.old major) ≡ Err e)) }
 {
     if window.look_ch() != '.' {
         return Err(Fault::At(Problem::VersionDot, start));
@@ -152,8 +152,8 @@ fn read_tag_prefix<T: Iterator<Item = char>>(
     start: Marker,
     handle: Text,
 ) -> Result<TokenType, Fault>
-    ensures ok { IfOk result (λ t. Reads window.old window.new (λ a b. prefix_behind start handle (blanks a (place_of window.old)) ≡ Ok (read b window.new (tok_of t)))) }
-    ensures err { IfErr result (λ e. Reads window.old window.new (λ a b. e ≢ Fault.OutOfMemory → prefix_behind start handle (blanks a (place_of window.old)) ≡ Err e)) }
+    ensures ok { IfOk result (λ t. Reads window.old window.new (λ a b. prefix_after start handle (blanks a (place_of window.old)) ≡ Ok (read b window.new (tok_of t)))) }
+    ensures err { IfErr result (λ e. Reads window.old window.new (λ a b. e ≢ Fault.OutOfMemory → prefix_after start handle (blanks a (place_of window.old)) ≡ Err e)) }
 {
     skip_blanks(window);
     let prefix = read_prefix(alloc, window, start)?;
@@ -199,7 +199,7 @@ fn read_value<T: Iterator<Item = char>>(
     }
 }
 
-/// Steps over the break behind a directive, if one stands here.
+/// Steps over the break after a directive, if one stands here.
 #[tactic(auto, using(model_lexers::proofs::DirectiveLemmas::break_stands, model_lexers::proofs::DirectiveLemmas::break_fails), unfolding(model_lexers::specs::Directive::directive_break))]
 fn skip_directive_break<T: Iterator<Item = char>>(
     window: &mut Window<T>,
@@ -219,7 +219,7 @@ fn skip_directive_break<T: Iterator<Item = char>>(
     Ok(())
 }
 
-/// Steps over a directive's line from behind its value on, with its break.
+/// Steps over a directive's line from after its value on, with its break.
 #[tactic(auto, unfolding(model_lexers::specs::Directive::line_end))]
 fn skip_line_end<T: Iterator<Item = char>>(
     window: &mut Window<T>,
@@ -232,22 +232,22 @@ fn skip_line_end<T: Iterator<Item = char>>(
     skip_directive_break(window, start)
 }
 
-/// Reads a directive behind its name.
+/// Reads a directive after its name.
 fn read_named<T: Iterator<Item = char>>(
     alloc: Global,
     window: &mut Window<T>,
     start: Marker,
     directive: Directive,
 ) -> Result<TokenType, Fault>
-    ensures ok { IfOk result (λ t. Reads window.old window.new (λ a b. behind_name start (read a window.old (kind_shown directive)) ≡ Ok (read b window.new (tok_of t)))) }
-    ensures err { IfErr result (λ e. Reads window.old window.new (λ a b. e ≢ Fault.OutOfMemory → behind_name start (read a window.old (kind_shown directive)) ≡ Err e)) }
+    ensures ok { IfOk result (λ t. Reads window.old window.new (λ a b. after_name start (read a window.old (kind_shown directive)) ≡ Ok (read b window.new (tok_of t)))) }
+    ensures err { IfErr result (λ e. Reads window.old window.new (λ a b. e ≢ Fault.OutOfMemory → after_name start (read a window.old (kind_shown directive)) ≡ Err e)) }
 {
     let token = read_value(alloc, window, start, directive)?;
     skip_line_end(window, start)?;
     Ok(token)
 }
 
-/// Reads a directive, from the `%` to behind its line's break. One of an unknown name is a tag
+/// Reads a directive, from the `%` to after its line's break. One of an unknown name is a tag
 /// directive of two empty texts.
 #[tactic(auto, unfolding(model_lexers::specs::Directive::directive))]
 pub fn read_directive<T: Iterator<Item = char>>(

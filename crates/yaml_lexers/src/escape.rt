@@ -34,7 +34,7 @@ impl Digits {
     }
 }
 
-/// What stands behind a backslash: a character's name, or what begins its code.
+/// What stands after a backslash: a character's name, or what begins its code.
 #[derive(Clone, Copy)]
 enum Escape {
     Char(char),
@@ -162,7 +162,7 @@ fn read_named<T: Iterator<Item = char>>(
     }
 }
 
-/// Steps over a backslash, and says whether a break stands behind it.
+/// Steps over a backslash, and says whether a break stands after it.
 #[inline(always)]
 fn skip_backslash<T: Iterator<Item = char>>(window: &mut Window<T>) -> bool
     requires here { Shows window.old 2 92 }
@@ -175,7 +175,7 @@ fn skip_backslash<T: Iterator<Item = char>>(window: &mut Window<T>) -> bool
     breaks
 }
 
-/// Reads an escape, and those right behind it.
+/// Reads an escape, and those right after it.
 pub(crate) fn read_escapes<T: Iterator<Item = char>>(
     window: &mut Window<T>,
     quote: &Quote,

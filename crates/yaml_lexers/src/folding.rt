@@ -7,7 +7,7 @@ use std::alloc::{AllocError, Global};
 use yaml_chars::Text;
 
 /// A text that is being folded, and what stands between it and the next character: blanks, or
-/// behind a break the breaks behind that.
+/// after a break the breaks after that.
 #[derive(Drop)]
 pub(crate) struct Folding {
     pub text: Text,

@@ -78,7 +78,7 @@ fn read_indicators<T: Iterator<Item = char>>(
     }
 }
 
-/// Steps over the break behind a header, if one stands here. The answer is whether it did.
+/// Steps over the break after a header, if one stands here. The answer is whether it did.
 #[tactic(auto, using(model_lexers::proofs::BlockLemmas::break_stands, model_lexers::proofs::BlockLemmas::header_fails), unfolding(model_lexers::specs::Block::header_break))]
 fn end_line<T: Iterator<Item = char>>(window: &mut Window<T>, start: Marker) -> Result<bool, Fault>
     ensures ok { IfOk result (λ broken. Reads window.old window.new (λ a b. header_break start a (place_of window.old) ≡ Ok (read b window.new broken))) }
@@ -111,7 +111,7 @@ fn end_header<T: Iterator<Item = char>>(
     end_line(window, start)
 }
 
-/// Reads a header from behind the `|` or `>` on, with its line's break.
+/// Reads a header from after the `|` or `>` on, with its line's break.
 #[tactic(auto, unfolding(model_lexers::specs::Block::header))]
 pub(crate) fn read_header<T: Iterator<Item = char>>(
     window: &mut Window<T>,

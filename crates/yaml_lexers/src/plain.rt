@@ -15,7 +15,7 @@ use yaml_chars::class::{is_blank, is_blank_or_breakz, is_break, is_breakz, is_fl
 use yaml_chars::{Marker, Run, Window};
 use yaml_tokens::{Fault, Problem};
 
-/// A plain scalar's text, and whether it ended behind a break, where a key may follow.
+/// A plain scalar's text, and whether it ended after a break, where a key may follow.
 #[derive(Drop)]
 pub struct Plain {
     pub text: String,
@@ -121,7 +121,7 @@ fn is_shallow(context: Context, col: usize) -> bool
     !context.flow && col < context.indent
 }
 
-/// Whether a scalar goes on at a character behind a gap.
+/// Whether a scalar goes on at a character after a gap.
 #[tactic(auto, unfolding(model_lexers::specs::Plain::goes_on))]
 fn goes_on<T: Iterator<Item = char>>(
     window: &mut Window<T>,
@@ -146,7 +146,7 @@ fn goes_on<T: Iterator<Item = char>>(
     Ok(at_plain(window, context.flow))
 }
 
-/// Steps over a TAB at the indentation's place and the blanks behind it, up to the end of the
+/// Steps over a TAB at the indentation's place and the blanks after it, up to the end of the
 /// line or a comment.
 #[tactic(auto, using(model_lexers::proofs::PlainLemmas::tabs_end))]
 fn skip_tabs<T: Iterator<Item = char>>(window: &mut Window<T>, start: Marker) -> Result<(), Fault>
@@ -221,7 +221,7 @@ fn check_start<T: Iterator<Item = char>>(window: &Window<T>, context: Context) -
     Ok(())
 }
 
-/// Reads the character that stands here and the rest of its line, and the gap behind it.
+/// Reads the character that stands here and the rest of its line, and the gap after it.
 fn read_line<T: Iterator<Item = char>>(
     window: &mut Window<T>,
     context: Context,

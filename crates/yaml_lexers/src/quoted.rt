@@ -3,7 +3,7 @@ ghost use Rattle.std.specs.Prelude.{◌≡◌, ◌≢◌, ◌≤◌, ◌<◌, �
 ghost use Rattle.yaml_chars.specs.Class.{is_blank, is_break};
 ghost use Rattle.yaml_chars.specs.Reading.{Reads, Sees, HasChar, place_of};
 ghost use Rattle.defs_text.specs.Text.{string_chars};
-ghost use Rattle.model_lexers.specs.Quoted.{quote_of, refused, quoted, first, inside, gap, breaking, behind, doubled, closed};
+ghost use Rattle.model_lexers.specs.Quoted.{quote_of, refused, quoted, first, inside, gap, breaking, after, doubled, closed};
 ghost use Rattle.yaml_lexers.specs.Shown.{Lexes, Refuses};
 ghost use Rattle.yaml_lexers.specs.ShownQuoted.{mode_of, GoesOn, AllGoOn, IsRefused, ReadsOn, Shows};
 
@@ -17,15 +17,15 @@ use yaml_chars::{Marker, Run, Window};
 use yaml_tokens::{Fault, Problem};
 
 /// What stands next in a quoted scalar: its first character, the next one of a line, what comes in
-/// or behind a gap of blanks and breaks, an escaped break, what comes behind that, a second quote,
-/// what a backslash names, or what comes behind the closing quote.
+/// or after a gap of blanks and breaks, an escaped break, what comes after that, a second quote,
+/// what a backslash names, or what comes after the closing quote.
 #[derive(Clone, Copy, PartialEq, Eq)]
 pub(crate) enum Part {
     First,
     Inside,
     Gap,
     Breaking,
-    Behind,
+    After,
     Doubled,
     Closed,
 }
@@ -132,7 +132,7 @@ fn read_in_line<T: Iterator<Item = char>>(
     read_inside(window, quote, c, scalar)
 }
 
-/// Reads the first character of a line, or one behind a gap.
+/// Reads the first character of a line, or one after a gap.
 #[inline(always)]
 #[tactic(auto, using(model_lexers::proofs::QuotedLemmas::line_inside, model_lexers::proofs::QuotedLemmas::line_fails))]
 fn read_line<T: Iterator<Item = char>>(
@@ -150,7 +150,7 @@ fn read_line<T: Iterator<Item = char>>(
     read_in_line(window, quote, c, scalar)
 }
 
-/// Reads a character in a gap, or the one behind it.
+/// Reads a character in a gap, or the one after it.
 #[tactic(auto, using(model_lexers::proofs::QuotedLemmas::gap_line))]
 fn read_in_gap<T: Iterator<Item = char>>(
     window: &mut Window<T>,
@@ -169,9 +169,9 @@ fn read_in_gap<T: Iterator<Item = char>>(
     read_line(window, quote, c, scalar)
 }
 
-/// Reads a character behind an escaped break.
-#[tactic(auto, using(model_lexers::proofs::QuotedLemmas::behind_quote, model_lexers::proofs::QuotedLemmas::behind_gap))]
-fn read_behind<T: Iterator<Item = char>>(
+/// Reads a character after an escaped break.
+#[tactic(auto, using(model_lexers::proofs::QuotedLemmas::after_quote, model_lexers::proofs::QuotedLemmas::after_gap))]
+fn read_after<T: Iterator<Item = char>>(
     window: &mut Window<T>,
     quote: &Quote,
     c: char,
@@ -179,7 +179,7 @@ fn read_behind<T: Iterator<Item = char>>(
 ) -> Result<Part, Fault>
     requires some { c ≢ 0 }
     requires here { Shows window.old 4 c }
-    ensures { ReadsOn quote.now behind window.old scalar.old result mode_of window.new scalar.new }
+    ensures { ReadsOn quote.now after window.old scalar.old result mode_of window.new scalar.new }
 {
     if c == quote_of(quote.single) {
         return read_in_line(window, quote, c, scalar);
@@ -203,7 +203,7 @@ fn read_escaped_break<T: Iterator<Item = char>>(
     }
     window.skip_break();
     scalar.escape_break();
-    Part::Behind
+    Part::After
 }
 
 /// Reads the second one of two quotes.
@@ -242,7 +242,7 @@ fn read_part<T: Iterator<Item = char>>(
         Part::Inside => read_in_line(window, quote, c, scalar),
         Part::Gap => read_in_gap(window, quote, c, scalar),
         Part::Breaking => Ok(read_escaped_break(window, scalar)),
-        Part::Behind => read_behind(window, quote, c, scalar),
+        Part::After => read_after(window, quote, c, scalar),
         Part::Doubled => Ok(read_doubled(window, c, scalar)?),
         Part::Closed => unreachable!(),
     }
@@ -284,7 +284,7 @@ fn read_parts<T: Iterator<Item = char>>(
     Ok(())
 }
 
-/// Reads a quoted scalar, from the opening quote to behind the closing one.
+/// Reads a quoted scalar, from the opening quote to after the closing one.
 #[tactic(auto, using(model_lexers::proofs::QuotedLemmas::quoted_starts, model_lexers::proofs::QuotedLemmas::closed_end), unfolding(model_lexers::specs::Quoted::quoted))]
 pub fn read_quoted<T: Iterator<Item = char>>(
     alloc: Global,

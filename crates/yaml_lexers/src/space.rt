@@ -39,7 +39,7 @@ pub fn skip_comment<T: Iterator<Item = char>>(window: &mut Window<T>)
 }
 
 /// Steps over spaces, TABs where these are to be skipped, and a comment, up to the end of the
-/// line. What stands behind them is then in the window.
+/// line. What stands after them is then in the window.
 #[tactic(auto, using(model_lexers::proofs::SpaceLemmas::spaces_stop, model_lexers::proofs::SpaceLemmas::at_comment), unfolding(model_lexers::specs::Space::space))]
 pub fn skip_ws_to_eol<T: Iterator<Item = char>>(
     window: &mut Window<T>,

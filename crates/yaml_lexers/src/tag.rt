@@ -34,7 +34,7 @@ fn read_word<T: Iterator<Item = char>>(
     }
 }
 
-/// Reads a tag behind its `!<`.
+/// Reads a tag after its `!<`.
 #[tactic(auto, using(model_lexers::proofs::TagLemmas::verbatim_closes, model_lexers::proofs::TagLemmas::verbatim_fails), unfolding(model_lexers::specs::Tag::verbatim))]
 fn read_verbatim<T: Iterator<Item = char>>(
     alloc: Global,
@@ -54,7 +54,7 @@ fn read_verbatim<T: Iterator<Item = char>>(
     Ok((handle.into_string(), uri.into_string()))
 }
 
-/// Reads the suffix behind a handle `!name!`.
+/// Reads the suffix after a handle `!name!`.
 #[tactic(auto, unfolding(model_lexers::specs::Tag::named))]
 fn read_named<T: Iterator<Item = char>>(
     alloc: Global,
@@ -96,7 +96,7 @@ fn read_local<T: Iterator<Item = char>>(
     Ok((exclamation.into_string(), name.into_string()))
 }
 
-/// Reads a tag `!`, `!suffix`, `!!suffix` or `!name!suffix` behind its first `!`.
+/// Reads a tag `!`, `!suffix`, `!!suffix` or `!name!suffix` after its first `!`.
 #[tactic(auto, unfolding(model_lexers::specs::Tag::shorthand))]
 fn read_shorthand<T: Iterator<Item = char>>(
     alloc: Global,
@@ -115,7 +115,7 @@ fn read_shorthand<T: Iterator<Item = char>>(
     read_local(alloc, window, start, name)
 }
 
-/// Reads a tag behind its first `!`.
+/// Reads a tag after its first `!`.
 fn read_here<T: Iterator<Item = char>>(
     alloc: Global,
     window: &mut Window<T>,
@@ -160,7 +160,7 @@ pub fn read_tag<T: Iterator<Item = char>>(
     Ok(tag)
 }
 
-/// Reads the end of a tag directive's handle behind its name.
+/// Reads the end of a tag directive's handle after its name.
 fn end_handle<T: Iterator<Item = char>>(
     window: &mut Window<T>,
     start: Marker,

@@ -53,7 +53,7 @@ fn read_octet<T: Iterator<Item = char>>(window: &mut Window<T>, start: Marker) -
     Ok(high * 16 + hex_value(c))
 }
 
-/// What a character's first octet says in UTF-8: how many octets come behind it, the first bits of
+/// What a character's first octet says in UTF-8: how many octets come after it, the first bits of
 /// the character's code, and the least code that has so many octets.
 #[derive(Clone, Copy)]
 struct Lead {
@@ -112,7 +112,7 @@ fn read_trail<T: Iterator<Item = char>>(
     }
 }
 
-/// Reads the octets behind the first one. The answer is the character's code.
+/// Reads the octets after the first one. The answer is the character's code.
 fn read_trails<T: Iterator<Item = char>>(
     window: &mut Window<T>,
     start: Marker,

@@ -32,7 +32,7 @@ use Rattle.yaml_loader.specs.Loads.{HasNoted}
 use Rattle.yaml_loader.specs.Unread.{IsUnread}
 use Rattle.yaml_loader.specs.Unread as unread
 use Rattle.yaml_loader.specs.TextLoads.{OfTexts}
-use Rattle.yaml_loader.proofs.LoadLemmas.{with_last, StandsBehind, stands, new_fault, key_noted, kept_text}
+use Rattle.yaml_loader.proofs.LoadLemmas.{with_last, StandsAfter, stands, new_fault, key_noted, kept_text}
 
 -- ---- events with which a stream's begin are not refused
 
@@ -66,9 +66,9 @@ not_refused keep_tags tokens es p b = by (with_events new_loader es) refl
 
 -- ---- how the loader is left
 
--- It stands behind all events of the text; or the fault is the parser's.
+-- It stands after all events of the text; or the fault is the parser's.
 abbrev pub LeftBy : Bool → List ℕ → Result (Unit {0}) Fault → YamlLoader → Type 0
-LeftBy keep_tags text (Ok u) n = (es : List (Ev × Position)) × HasEvents keep_tags text es × StandsBehind es n
+LeftBy keep_tags text (Ok u) n = (es : List (Ev × Position)) × HasEvents keep_tags text es × StandsAfter es n
 LeftBy keep_tags text (Err f) n = IsFaultOf keep_tags text f
 
 refuses_for_memory : {keep_tags : Bool} {text : List ℕ} (es : List (Ev × Position)) (e : Ev) (p : Position) (f : Fault) → IsNewFault f p (with_event_at (with_events new_loader es) e p) → BeginsEvents keep_tags text (es ++ (e, p) ∷ [])

@@ -1,4 +1,4 @@
--- Loaders that stand alike stand alike behind each event.
+-- Loaders that stand alike stand alike after each event.
 use Rattle.std.proofs.Common.{◌≡◌, ℕ, zero, suc, List, [], ◌∷◌, Bool, true, false, refl, sym, ap, ◌∙◌, subst, nat_eq}
 use Rattle.std.specs.Prelude.{Option, Some, None, if◌then◌else◌}
 use Rattle.defs_text.specs.Position.{Position}
@@ -6,11 +6,11 @@ use Rattle.defs_tree.specs.Tree.{Tree, array, hash, items_of, pairs_of}
 use Rattle.defs_event.specs.Event.{Ev}
 use Rattle.defs_event.specs.Scalar.{scalar_tree}
 use Rattle.defs_event.specs.Anchors.{Anchors, aliased, finished}
-use Rattle.defs_event.specs.Unfinished.{Opened, opened_sequence, opened_mapping, Unfinished, Step, reads, repeats, out_of_nesting, with_tree, with_node, with_start, with_sequence_end, with_mapping_end, with_document_end, with_event, Loader, at_work, noted, refused, loader_behind, with_event_at, with_events, new_loader, documents_of, refused_at}
+use Rattle.defs_event.specs.Unfinished.{Opened, opened_sequence, opened_mapping, Unfinished, Step, reads, repeats, out_of_nesting, with_tree, with_node, with_start, with_sequence_end, with_mapping_end, with_document_end, with_event, Loader, at_work, noted, refused, loader_after, with_event_at, with_events, new_loader, documents_of, refused_at}
 use Rattle.yaml_loader.specs.declared.loader.YamlLoader.{YamlLoader}
 use Rattle.yaml_loader.specs.Alike.{AreAlike, StandAlike}
 use Rattle.yaml_loader.specs.Loading.{loader_of}
-use Rattle.yaml_loader.specs.Reached.{Reaches, here, behind}
+use Rattle.yaml_loader.specs.Reached.{Reaches, here, after}
 use Rattle.yaml_loader.specs.View.{with_anchors}
 use Rattle.yaml_loader.proofs.AliasLemmas.{with_tree_anchors}
 
@@ -88,15 +88,15 @@ event_alike u v e h =
     let same : record u { anchors = v.anchors } ≡ v = λ i. record { documents = h.documents i; opened = h.opened i; root = h.root i; anchors = v.anchors } in
     subst (λ w. StepAlike (with_event u e) (with_event w e)) same (event_over u e u.anchors v.anchors h.aliases)
 
-behind_alike : (s r : Step) (u v : Unfinished) (p : Position) → u.documents ≡ v.documents → StepAlike s r → StandAlike (loader_behind s u.documents p) (loader_behind r v.documents p)
-behind_alike (reads x) (reads y) u v p e h = h
-behind_alike (reads x) (repeats k) u v p e h = absurd h
-behind_alike (reads x) out_of_nesting u v p e h = absurd h
-behind_alike (repeats k) r u v p e h = λ i. loader_behind (h i) (e i) p
-behind_alike out_of_nesting r u v p e h = λ i. loader_behind (h i) (e i) p
+after_alike : (s r : Step) (u v : Unfinished) (p : Position) → u.documents ≡ v.documents → StepAlike s r → StandAlike (loader_after s u.documents p) (loader_after r v.documents p)
+after_alike (reads x) (reads y) u v p e h = h
+after_alike (reads x) (repeats k) u v p e h = absurd h
+after_alike (reads x) out_of_nesting u v p e h = absurd h
+after_alike (repeats k) r u v p e h = λ i. loader_after (h i) (e i) p
+after_alike out_of_nesting r u v p e h = λ i. loader_after (h i) (e i) p
 
 pub event_at_alike : (l m : Loader) (e : Ev) (p : Position) → StandAlike l m → StandAlike (with_event_at l e p) (with_event_at m e p)
-event_at_alike (at_work u) (at_work v) e p h = behind_alike (with_event u e) (with_event v e) u v p h.documents (event_alike u v e h)
+event_at_alike (at_work u) (at_work v) e p h = after_alike (with_event u e) (with_event v e) u v p h.documents (event_alike u v e h)
 event_at_alike (at_work u) (noted documents key at) e p h = absurd h
 event_at_alike (at_work u) (refused documents at) e p h = absurd h
 event_at_alike (noted documents key at) m e p h = ap (λ l. with_event_at l e p) h
@@ -115,7 +115,7 @@ alike_trans (refused documents at) m n h k = subst (λ x. StandAlike x n) (sym h
 -- a loader that is reached stands as the definitions say
 pub reached : {l n : YamlLoader} {es : List (Ev × Position)} → (x : Loader) → StandAlike x (loader_of l) → Reaches l es n → StandAlike (with_events x es) (loader_of n)
 reached x h (here l) = h
-reached x h (behind {l} {m} {n} {e} {p} {es} takes rest) =
+reached x h (after {l} {m} {n} {e} {p} {es} takes rest) =
     reached (with_event_at x e p)
     (alike_trans (with_event_at x e p) (with_event_at (loader_of l) e p) (loader_of m) (event_at_alike x (loader_of l) e p h) takes.reads) rest
 

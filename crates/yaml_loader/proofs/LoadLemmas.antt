@@ -30,8 +30,8 @@ pub with_last : (l : Loader) (es : List (Ev × Position)) (e : Ev) (p : Position
 with_last l [] e p = refl
 with_last l (x ∷ es) e p = with_last (with_event_at l x.0 x.1) es e p
 
--- A loader stands as the definitions say behind these events, and keeps no fault. If it noted a key, it keeps the text that tells it.
-pub record StandsBehind (es : List (Ev × Position)) (l : YamlLoader) : Type 0 where
+-- A loader stands as the definitions say after these events, and keeps no fault. If it noted a key, it keeps the text that tells it.
+pub record StandsAfter (es : List (Ev × Position)) (l : YamlLoader) : Type 0 where
   pub alike : StandAlike (with_events new_loader es) (loader_of l)
   pub clear : kept_fault l ≡ None
   pub tells : TellsNotedKey l
@@ -43,21 +43,21 @@ nothing_noted l (course.RepeatedKey place text) e = cc
 nothing_noted l (course.OutOfNesting place) e = tt
 nothing_noted l (course.OutOfMemory place) e = tt
 
--- what stands behind a load that went well
+-- what stands after a load that went well
 abbrev pub Went : Parsed → Parsed → YamlLoader → Type 0
-Went old new l = (es : List (Ev × Position)) × Pushes old es (Ok tt) new × (new.fault ≡ None) × StandsBehind es l
+Went old new l = (es : List (Ev × Position)) × Pushes old es (Ok tt) new × (new.fault ≡ None) × StandsAfter es l
 
 -- A receiver that only notes would have these events.
 notes : {l n : YamlLoader} {es : List (Ev × Position)} → Receives Takes l es n → Receives Notes [] es es
 notes no_event = no_event
 notes (one_event e p h takes) = one_event e p (notes h) refl
 
-pushes : {old behind new : Parsed} {answers : List (Answer Fault)} {events : List (Ev × Position)} {result : Result (Unit {0}) Fault}
-    → PullsAll old answers behind → (load old.started true answers).taken ≡ length answers → EndsSo Notes [] (load old.started true answers) behind result new events → Pushes old events result new
-pushes {old} {behind} {new} {answers} pulled taken ends = record { answers = answers; behind = behind; pulled = pulled; taken = taken; ends = ends }
+pushes : {old after new : Parsed} {answers : List (Answer Fault)} {events : List (Ev × Position)} {result : Result (Unit {0}) Fault}
+    → PullsAll old answers after → (load old.started true answers).taken ≡ length answers → EndsSo Notes [] (load old.started true answers) after result new events → Pushes old events result new
+pushes {old} {after} {new} {answers} pulled taken ends = record { answers = answers; after = after; pulled = pulled; taken = taken; ends = ends }
 
 module _ (l : YamlLoader) (empty : loader_of l ≡ new_loader) (clear : kept_fault l ≡ None) where
-  pub stands : {n : YamlLoader} {es : List (Ev × Position)} → Receives Takes l es n → StandsBehind es n
+  pub stands : {n : YamlLoader} {es : List (Ev × Position)} → Receives Takes l es n → StandsAfter es n
   stands no_event = record { alike = subst (λ x. StandAlike new_loader x) (sym empty) (record { documents = refl; opened = refl; root = refl; aliases = λ n. refl }); clear = clear; tells = nothing_noted l l.course empty }
   stands (one_event {r} {s} {t} {es} e p h takes) =
       let before = stands h in
@@ -77,13 +77,13 @@ module _ (l : YamlLoader) (empty : loader_of l ≡ new_loader) (clear : kept_fau
       let same = (show_the_same x y (event_at_alike (with_events new_loader es) (loader_of s) e p before.alike)).1 in
       elim (takes.reason before.clear) [ inl w ↦ inl w | inr w ↦ inr (w.0, same ∙ w.1) ]
 
-  ended_well : {old behind new : Parsed} {n : YamlLoader} (answers : List (Answer Fault)) → PullsAll old answers behind → (load old.started true answers).taken ≡ length answers
-      → EndsSo Takes l (load old.started true answers) behind (Ok tt) new n → Went old new n
+  ended_well : {old after new : Parsed} {n : YamlLoader} (answers : List (Answer Fault)) → PullsAll old answers after → (load old.started true answers).taken ≡ length answers
+      → EndsSo Takes l (load old.started true answers) after (Ok tt) new n → Went old new n
   ended_well {old} answers pulled taken (loads.well ending clear received) =
       ((load old.started true answers).pushed, pushes pulled taken (loads.well ending clear (notes received)), clear, stands received)
 
-  ended_ill : {old behind new : Parsed} {n : YamlLoader} {f : Fault} (answers : List (Answer Fault)) → PullsAll old answers behind → (load old.started true answers).taken ≡ length answers
-      → EndsSo Takes l (load old.started true answers) behind (Err f) new n → IsLoadFault old f new
+  ended_ill : {old after new : Parsed} {n : YamlLoader} {f : Fault} (answers : List (Answer Fault)) → PullsAll old answers after → (load old.started true answers).taken ≡ length answers
+      → EndsSo Takes l (load old.started true answers) after (Err f) new n → IsLoadFault old f new
   ended_ill {old} answers pulled taken (loads.faulted ending kept received) =
       ends.parser_fault (load old.started true answers).pushed (pushes pulled taken (loads.faulted ending kept (notes received))) kept
   ended_ill {old} answers pulled taken (loads.misplaced p ending received) =
@@ -114,9 +114,9 @@ with_course : (l : YamlLoader) (d : Course) → l.course ≡ d → loader_of l �
 with_course l d e = ap (λ d. loader_by d (unfinished_of l.reading)) e
 
 pub was_reading : {old new : Parsed} (l : YamlLoader) → Went old new l → l.course ≡ course.Reading → AreLoaded old (unfinished_of l.reading).documents new
-was_reading l (es, all, clear, behind) e =
+was_reading l (es, all, clear, after) e =
     let u = unfinished_of l.reading in
-    (es, all, documents_loaded u (with_events new_loader es) (subst (λ x. StandAlike (with_events new_loader es) x) (with_course l course.Reading e) behind.alike))
+    (es, all, documents_loaded u (with_events new_loader es) (subst (λ x. StandAlike (with_events new_loader es) x) (with_course l course.Reading e) after.alike))
 
 -- the text that is kept tells the key
 pub kept_text : (l : YamlLoader) (p : Position) (text : String Global) (f : Fault) → TellsNotedKey l → l.course ≡ course.RepeatedKey p text → f ≡ record { place = p; text = string_bytes text; memory = false }
@@ -125,11 +125,11 @@ kept_text l p text f tells e is =
     subst (TellsKey (repeated_key (unfinished_of l.reading).opened)) (sym (ap (λ x. x.text) is)) (subst (λ d. TellsBy d (unfinished_of l.reading).opened) e tells)
 
 pub had_noted : {old new : Parsed} (l : YamlLoader) (p : Position) (text : String Global) (f : Fault) → Went old new l → l.course ≡ course.RepeatedKey p text → f ≡ record { place = p; text = string_bytes text; memory = false } → IsLoadFault old f new
-had_noted l p text f (es, all, clear, behind) e is =
+had_noted l p text f (es, all, clear, after) e is =
     let u = unfinished_of l.reading in
     let d = course.RepeatedKey p text in
-    let n = key_noted u.documents (repeated_key u.opened) p (with_events new_loader es) (subst (λ x. StandAlike (with_events new_loader es) x) (with_course l d e) behind.alike) in
-    ends.repeated_key es (repeated_key u.opened) all clear (subst (HasNoted (with_events new_loader es) (repeated_key u.opened)) (sym (ap (λ x. x.place) is)) n) (kept_text l p text f behind.tells e is) (ap (λ x. x.memory) is)
+    let n = key_noted u.documents (repeated_key u.opened) p (with_events new_loader es) (subst (λ x. StandAlike (with_events new_loader es) x) (with_course l d e) after.alike) in
+    ends.repeated_key es (repeated_key u.opened) all clear (subst (HasNoted (with_events new_loader es) (repeated_key u.opened)) (sym (ap (λ x. x.place) is)) n) (kept_text l p text f after.tells e is) (ap (λ x. x.memory) is)
 
 pub not_out_of_nesting : {old new : Parsed} (l : YamlLoader) (p : Position) → Went old new l → l.course ≡ course.OutOfNesting p → ⊥
 not_out_of_nesting l p w e = let f = sym (ap kept_by e) ∙ w.3.clear in cc

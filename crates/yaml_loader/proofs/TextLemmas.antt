@@ -39,7 +39,7 @@ loads_only (Ok documents) h x = let same = one_reading h.tokens h.read.documents
 loads_only {text} {trees} (Err f) (of_parser why) x = memory_is_wanted false text trees f x why
 loads_only (Err f) (unread.repeated_key es h key twice at tells owned) x = let same = one_reading (toks h.tokens) h.documents (h.tokens, h.has, refl) (nested_is_stream h) x in cc
 
--- ---- the text behind an iterator
+-- ---- the text after an iterator
 
 pub string_may_be : (start : Chars) (bytes : List ℕ) (s : Scanned) → IsUtf8 bytes → chars_rest start ≡ bytes → CameFrom chars_steps start s.taken s.done → HasNoNul s.taken → MayBe s (up_to_nul (chars bytes))
 string_may_be start bytes s utf8 rest came no_nul = characters_are_the_text chars_steps start (chars bytes) s (Chars-spelled start bytes utf8 rest) came no_nul

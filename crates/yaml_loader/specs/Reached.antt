@@ -8,4 +8,4 @@ use Rattle.yaml_loader.specs.Loading.{Takes}
 -- The second loader is the first after these events, each with `Ok`.
 pub data Reaches : YamlLoader → List (Ev × Position) → YamlLoader → Type 0 where
   here : (l : YamlLoader) → Reaches l [] l
-  behind : {l m n : YamlLoader} {e : Ev} {p : Position} {es : List (Ev × Position)} → Takes l e p (Ok tt) m → Reaches m es n → Reaches l ((e, p) ∷ es) n
+  after : {l m n : YamlLoader} {e : Ev} {p : Position} {es : List (Ev × Position)} → Takes l e p (Ok tt) m → Reaches m es n → Reaches l ((e, p) ∷ es) n

@@ -30,12 +30,12 @@ use Rattle.yaml_parser.specs.At.{At, Answers, Took, Stayed, Faulted, goal_after_
 use Rattle.yaml_parser.proofs.Places.{IsPlaced}
 use Rattle.yaml_parser.proofs.Steps.{looked, took, took_on, left, left_on, Named}
 
--- the token at hand is taken, and this is what there is behind it
+-- the token at hand is taken, and this is what there is after it
 abbrev pub Skipped : {T : Type 0} → Reader T → Reader T → List State → Type 0
 Skipped p r ss = (t : Token) → p.tokens.peeked ≡ Some t → Took p t r ss
 
-pub push_behind : {T : Type 0} {p q r : Reader T} {s : State} {ss : List State} → Skipped p q ss → Stayed q r (s ∷ q.stack) → Skipped p r (s ∷ ss)
-push_behind {T} {p} {q} {r} {s} {ss} k y = λ t h. let x = k t h in record {
+pub push_after : {T : Type 0} {p q r : Reader T} {s : State} {ss : List State} → Skipped p q ss → Stayed q r (s ∷ q.stack) → Skipped p r (s ∷ ss)
+push_after {T} {p} {q} {r} {s} {ss} k y = λ t h. let x = k t h in record {
   tokens = subst (λ u. Skips p.tokens t u) (sym y.tokens) x.tokens;
   stack = y.stack ∙ ap (λ zs. s ∷ zs) x.stack;
   names = y.names ∙ x.names;
@@ -51,14 +51,14 @@ stay {T} {p} = record { tokens = refl; stack = refl; names = refl }
 
 pub record Plain {T : Type 0} (g : Goal) (p : Reader T) (names : Names) (e : Raw) (v : Ev) : Type 0 where
   pub resolves : resolved_event names e ≡ Some v
-  pub behind_it : names_after p.names.keeping.tags names e ≡ names
+  pub after_it : names_after p.names.keeping.tags names e ≡ names
   pub seen : names_at p.names.keeping.tags g names ≡ names
   pub no_place : has_place e ≡ false
 
 plain_named : {T : Type 0} {g : Goal} {p r : Reader T} {names : Names} {e : Raw} {v : Ev} {given : List (Ev × Position)} → Plain g p names e v → r.names ≡ p.names → At g p names given → Named p r at.done names e v names
 plain_named {T} {g} {p} {r} {names} {e} {v} {given} y same a = record {
   resolves = y.resolves;
-  behind_it = y.behind_it;
+  after_it = y.after_it;
   keep = ap (λ n. n.keeping) same;
   code = subst (λ n. IsNamed n names) (sym same) (subst (IsNamed p.names) y.seen a.code);
   pending = tt;
@@ -161,4 +161,4 @@ pub not_as : {k k' x : Kind} → k ≢ x → k' ≡ k → k' ≢ x
 not_as a h e = a (sym h ∙ e)
 
 pub plain : {T : Type 0} {g : Goal} {p : Reader T} {names : Names} {e : Raw} {v : Ev} → resolved_event names e ≡ Some v → names_after p.names.keeping.tags names e ≡ names → names_at p.names.keeping.tags g names ≡ names → has_place e ≡ false → Plain g p names e v
-plain a b c d = record { resolves = a; behind_it = b; seen = c; no_place = d }
+plain a b c d = record { resolves = a; after_it = b; seen = c; no_place = d }

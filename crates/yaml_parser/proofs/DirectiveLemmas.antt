@@ -103,7 +103,7 @@ repeated_handle ds h p more a e =
     ap is_each_once (ap declared (append_assoc ds (tag h p ∷ []) more) ∙ declared_append ds (tag h p ∷ more) ∙ ap (λ xs. declared ds ++ xs) (declared_one h p more a))
     ∙ once_twice h p (declared ds) (declared more) e
 
--- ---- the code's names behind one more
+-- ---- the code's names after one more
 
 none_of : {A : Type 0} (o : Option A) → is_some o ≡ false → o ≡ None
 none_of None h = refl
@@ -121,7 +121,7 @@ own_by : (earlier : ℕ) (b : Bool) (d : Declaration) (o : Option Declaration) �
 own_by earlier true d o h = h
 own_by earlier false d o h = refl
 
--- Every declaration is numbered, also behind one more.
+-- Every declaration is numbered, also after one more.
 numbered_by : (b : Bool) (d : Declaration) (o : Option Declaration) (n : ℕ) → d.number ≡ n + 1 → IfSome o (λ e. e.number ≤ n) → IfSome (if b then Some d else o) (λ e. e.number ≤ n + 1)
 numbered_by true d o n e h = omega (arith, e)
 numbered_by false d (Some x) n e h = omega (arith, h)

@@ -60,7 +60,7 @@ bare_begins {T} m {p} {q} {r} {k} {names} {given} here turn tokens keep starts s
     let l = looked k p.tokens.peeked here in (
       at_document p.names.keeping.tags names [],
       left m (ap (option_map (λ (x : Token). tok_of x.1)) l.1) (stayed.tokens ∙ tokens) stayed.stack (turn (tok_of l.0.1) l.2)
-          (record { resolves = refl; behind_it = refl; keep = ap (λ n. n.keeping) stayed.names ∙ keep; code = subst (λ n. IsNamed n (at_document p.names.keeping.tags names [])) (sym stayed.names) (starts names a.code); pending = tt })
+          (record { resolves = refl; after_it = refl; keep = ap (λ n. n.keeping) stayed.names ∙ keep; code = subst (λ n. IsNamed n (at_document p.names.keeping.tags names [])) (sym stayed.names) (starts names a.code); pending = tt })
           refl refl a,
     )
 
@@ -76,7 +76,7 @@ explicit_begins {T} m {p} {q} {r} {k} {names} {given} here h tokens stack keep s
       at_document p.names.keeping.tags names [],
       took m l.1 (subst (λ y. Skips y t r.tokens) tokens x.tokens) (x.stack ∙ ap (λ ss. state.DocumentContent ∷ ss) stack)
           (subst (λ u. Takes at.explicit p.stack u (Some (Raw.document_start [])) at.done (state.DocumentContent ∷ p.stack)) (sym same) (turn.explicit_start p.stack))
-          (record { resolves = refl; behind_it = refl; keep = ap (λ n. n.keeping) x.names ∙ keep; code = subst (λ n. IsNamed n (at_document p.names.keeping.tags names [])) (sym x.names) (starts names a.code); pending = tt })
+          (record { resolves = refl; after_it = refl; keep = ap (λ n. n.keeping) x.names ∙ keep; code = subst (λ n. IsNamed n (at_document p.names.keeping.tags names [])) (sym x.names) (starts names a.code); pending = tt })
           (λ b. (refl, ap is_end same)) (no_places m refl (ap gives_place same)) a,
     )
 
@@ -90,11 +90,11 @@ stream_ends {T} m {p} {r} {k} {names} {given} here h skip a =
     let same : tok_of t.1 ≡ Tok.stream_end = tok_is (l.2 ∙ h) refl in (
       names,
       took m l.1 x.tokens x.stack (subst (λ u. Takes at.explicit p.stack u (Some Raw.stream_end) at.ended p.stack) (sym same) (turn.explicit_end p.stack))
-          (record { resolves = refl; behind_it = refl; keep = ap (λ n. n.keeping) x.names; code = subst (λ n. IsNamed n names) (sym x.names) a.code; pending = tt })
+          (record { resolves = refl; after_it = refl; keep = ap (λ n. n.keeping) x.names; code = subst (λ n. IsNamed n names) (sym x.names) a.code; pending = tt })
           (λ b. let no : true ≡ false = b in cc) (no_places m refl (ap gives_place same)) a,
     )
 
--- The start of a document stands behind its directives.
+-- The start of a document stands after its directives.
 pub directed_begins : {T : Type 0} (m : Position) {p r : Reader T} {k : Kind} {read : List Directive} {names : defs.Names} {given : List (Ev × Position)}
     → IsOfKind k p.tokens.peeked → k ≡ kind.DocumentStart → Skipped p r (state.DocumentContent ∷ p.stack)
     → At (at.directed read) p names given → (names' : defs.Names) × At at.done r names' (given ++ (Ev.document_start, m) ∷ [])
@@ -107,7 +107,7 @@ directed_begins {T} m {p} {r} {k} {read} {names} {given} here h skip a =
       took m l.1 x.tokens x.stack (subst (λ u. Takes (at.directed read) p.stack u (Some (Raw.document_start read)) at.done (state.DocumentContent ∷ p.stack)) (sym same) (turn.directed_start p.stack read))
           (record {
             resolves = ap (λ b. if b then Some Ev.document_start else None) a.pending;
-            behind_it = refl;
+            after_it = refl;
             keep = ap (λ n. n.keeping) x.names;
             code = subst (λ n. IsNamed n (at_document p.names.keeping.tags names read)) (sym x.names) a.code;
             pending = tt;

@@ -130,18 +130,18 @@ popped_work {T} p s ss h = let e : weights p.stack ≡ weight s + weights ss = a
 
 -- ---- events, and their end
 
-behind_event : (v : Ev) → goal_after_event v ≡ goal_after (is_stream_end v)
-behind_event Ev.nothing = refl
-behind_event Ev.stream_start = refl
-behind_event Ev.stream_end = refl
-behind_event Ev.document_start = refl
-behind_event Ev.document_end = refl
-behind_event (Ev.alias n) = refl
-behind_event (Ev.scalar x s a t) = refl
-behind_event (Ev.sequence_start a t) = refl
-behind_event Ev.sequence_end = refl
-behind_event (Ev.mapping_start a t) = refl
-behind_event Ev.mapping_end = refl
+after_event : (v : Ev) → goal_after_event v ≡ goal_after (is_stream_end v)
+after_event Ev.nothing = refl
+after_event Ev.stream_start = refl
+after_event Ev.stream_end = refl
+after_event Ev.document_start = refl
+after_event Ev.document_end = refl
+after_event (Ev.alias n) = refl
+after_event (Ev.scalar x s a t) = refl
+after_event (Ev.sequence_start a t) = refl
+after_event Ev.sequence_end = refl
+after_event (Ev.mapping_start a t) = refl
+after_event Ev.mapping_end = refl
 
 or_none : (b : Bool) → (b || false) ≡ b
 or_none true = refl
@@ -158,7 +158,7 @@ has_end_snoc (x ∷ es) e = ap (λ b. is_stream_end x.0 || b) (has_end_snoc es e
 answered_held : {T : Type 0} (r : Reader T) (es : List (Ev × Position)) (e : Event × Position) → has_end es ≡ false → Answers r es (Ok e) → IsHeld r (es ++ placed e ∷ []) None
 answered_held {T} r es e h a = (
   a.0,
-  subst (λ g. At g r a.0 (es ++ placed e ∷ [])) (behind_event (ev_of e.0) ∙ ap goal_after (sym (has_end_snoc es (placed e) ∙ ap (λ b. b || is_stream_end (ev_of e.0)) h))) a.1,
+  subst (λ g. At g r a.0 (es ++ placed e ∷ [])) (after_event (ev_of e.0) ∙ ap goal_after (sym (has_end_snoc es (placed e) ∙ ap (λ b. b || is_stream_end (ev_of e.0)) h))) a.1,
 )
 
 open_at : {T : Type 0} (b : Bool) (p : Reader T) (s : State) (ss : List State) {names : Names} {es : List (Ev × Position)} → p.stack ≡ s ∷ ss → At (goal_after b) p names es → (b ≡ false) × At at.done p names es
@@ -249,7 +249,7 @@ begins_peeked : (o : Option Token) (ts : List Tok) → Begins (option_map (λ (t
 begins_peeked None ts = tt
 begins_peeked (Some t) ts = refl
 
--- a stream that begins with the tokens handed out, from behind those that were taken
+-- a stream that begins with the tokens handed out, from after those that were taken
 handed_on : {T : Type 0} (p : Reader T) {g : Goal} {names : Names} {es : List (Ev × Position)} (ts us : List Tok) → At g p names es → us ≡ toks (scanned p.tokens.scanner).given ++ ts → us ≡ taken_toks p.tokens ++ (toks (shown_list p.tokens.peeked) ++ ts)
 handed_on {T} p {g} {names} {es} ts us a h =
     h ∙ ap (λ xs. toks xs ++ ts) a.handed ∙ ap (λ xs. xs ++ ts) (map-append (λ (x : defs.Token). x.tok) (all_shown p.tokens.taken.items) (shown_list p.tokens.peeked))

@@ -15,7 +15,7 @@ use Rattle.yaml_parser.specs.Parsed.{Parsed, is_stream_end, is_document_start, i
 use Rattle.yaml_parser.specs.Pulls.{Pulls, GivesEvent}
 use Rattle.yaml_parser.specs.View.{no_document}
 use Rattle.yaml_parser.specs.Loads as loads
-use Rattle.yaml_parser.specs.Loads.{PullsAll, no_call, one_call, Receives, no_event, one_event, EndsSo, Loads, pushing, Going, Stands, StartsSo, behind_document, IsBehind}
+use Rattle.yaml_parser.specs.Loads.{PullsAll, no_call, one_call, Receives, no_event, one_event, EndsSo, Loads, pushing, Going, Stands, StartsSo, after_document, IsAfter}
 use Rattle.yaml_parser.proofs.Nesting.{no_end_inside, open_more}
 
 -- ---- the run
@@ -96,7 +96,7 @@ inside_run Ev.sequence_end p multi rest h = refl
 inside_run (Ev.mapping_start a t) p multi rest h = refl
 inside_run Ev.mapping_end p multi rest h = refl
 
-pub last_run : (e : Ev) (p : Position) (multi : Bool) (rest : List (Answer Fault)) → is_document_end e ≡ true → load_from run.inside multi (event e p ∷ rest) ≡ push e p (behind_document multi rest)
+pub last_run : (e : Ev) (p : Position) (multi : Bool) (rest : List (Answer Fault)) → is_document_end e ≡ true → load_from run.inside multi (event e p ∷ rest) ≡ push e p (after_document multi rest)
 last_run Ev.nothing p multi rest h = cc
 last_run Ev.stream_start p multi rest h = cc
 last_run Ev.stream_end p multi rest h = cc
@@ -125,7 +125,7 @@ end_is Ev.mapping_end h = cc
 pub end_is_not : (e : Ev) → is_stream_end e ≡ false → e ≢ Ev.stream_end
 end_is_not e h k = let no : true ≡ false = sym (ap is_stream_end k) ∙ h in cc
 
--- a run inside a document that stops behind an event
+-- a run inside a document that stops after an event
 pub inside_stops : (e : Ev) (p : Position) (multi : Bool) → (l : Loaded Fault) × (load_from run.inside multi (event e p ∷ []) ≡ push e p l) × (l.pushed ≡ []) × (l.taken ≡ 0)
 inside_stops Ev.nothing p multi = (ends run.unfinished 0, refl, refl, refl)
 inside_stops Ev.stream_start p multi = (ends run.unfinished 0, refl, refl, refl)
@@ -147,7 +147,7 @@ going_before {old} {new} {e} g h = not_over old.ended g.over
     not_over true f = absurd (end_is_not e.0 h (f refl))
     not_over false f = refl
 
--- Behind an event that is no end, the end was not given.
+-- After an event that is no end, the end was not given.
 pub not_ended : {old new : Parsed} {e : Ev × Position} → GivesEvent old e new → is_stream_end e.0 ≡ false → new.ended ≡ false
 not_ended {old} {new} {e} g h = g.ended ∙ or_from old.ended (is_stream_end e.0) (going_before g h) h
 
@@ -211,7 +211,7 @@ module _ {R : Type 0} (takes : R → Ev → Position → Result (Unit {0}) Fault
         ∙ g.runs (event e p ∷ rest) ∙ ap (pushing g.events) (steps rest) ∙ sym (pushing_snoc g.events e p (on' rest));
   }
 
-  -- the run that ends behind one answer more
+  -- the run that ends after one answer more
   whole_run : {on : List (Answer Fault) → Loaded Fault} {now : Parsed} {s : R} (a : Answer Fault) (l : Loaded Fault) → (g : Going takes multi old r on now s) → on (a ∷ []) ≡ l → load old.started multi (given Fault g.events ++ a ∷ []) ≡ pushing g.events l
   whole_run {on} {now} {s} a l g h = g.runs (a ∷ []) ∙ ap (pushing g.events) h
 
@@ -224,7 +224,7 @@ module _ {R : Type 0} (takes : R → Ev → Position → Result (Unit {0}) Fault
       let w = whole_run (fault f) l g h in
       record {
         answers = given Fault g.events ++ fault f ∷ [];
-        behind = now';
+        after = now';
         pulled = one_call (fault f) g.pulled pulls;
         taken = whole_taken g.events (fault f) l _ w refl;
         ends = loads.faulted (ap (λ x. x.ending) w ∙ ending_all g.events l) pulls.fault (subst (λ xs. Receives takes r xs s) (sym (ap (λ x. x.pushed) w ∙ pushed_all g.events l ∙ append-nil g.events)) g.received);
@@ -237,7 +237,7 @@ module _ {R : Type 0} (takes : R → Ev → Position → Result (Unit {0}) Fault
       let w = whole_run (event e p) l g h in
       record {
         answers = given Fault g.events ++ event e p ∷ [];
-        behind = now';
+        after = now';
         pulled = one_call (event e p) g.pulled pulls;
         taken = whole_taken g.events (event e p) l _ w refl;
         ends = loads.misplaced p (ap (λ x. x.ending) w ∙ ending_all g.events l) (subst (λ xs. Receives takes r xs s) (sym (ap (λ x. x.pushed) w ∙ pushed_all g.events l ∙ append-nil g.events)) g.received);
@@ -250,7 +250,7 @@ module _ {R : Type 0} (takes : R → Ev → Position → Result (Unit {0}) Fault
       let w = whole_run (event e p) (push e p l) g h in
       record {
         answers = given Fault g.events ++ event e p ∷ [];
-        behind = now';
+        after = now';
         pulled = one_call (event e p) g.pulled pulls;
         taken = whole_taken g.events (event e p) (push e p l) _ w (ap (λ n. n + 1) nil);
         ends = loads.refused e p (ap (λ x. x.pushed) w ∙ pushed_all g.events (push e p l) ∙ ap (λ xs. g.events ++ (e, p) ∷ xs) none) pulls.sound.fault g.received took;
@@ -264,26 +264,26 @@ module _ {R : Type 0} (takes : R → Ev → Position → Result (Unit {0}) Fault
       let w = whole_run (event e p) l g h in
       record {
         answers = given Fault g.events ++ event e p ∷ [];
-        behind = now';
+        after = now';
         pulled = one_call (event e p) g.pulled pulls;
         taken = whole_taken g.events (event e p) l _ w refl;
         ends = loads.well (ap (λ x. x.ending) w ∙ ending_all g.events l) pulls.sound.fault (subst (λ xs. Receives takes r xs s') (sym (ap (λ x. x.pushed) w ∙ pushed_all g.events l)) (one_event e p g.received took));
       }
 
   -- A document was read, and no more is asked for.
-  pub one_document : {now : Parsed} {s : R} → Going takes multi old r (behind_document multi) now s → now.fault ≡ None → multi ≡ false → Loads takes multi old r (Ok tt) now s
+  pub one_document : {now : Parsed} {s : R} → Going takes multi old r (after_document multi) now s → now.fault ≡ None → multi ≡ false → Loads takes multi old r (Ok tt) now s
   one_document {now} {s} g clear h =
       let w : load old.started multi (given Fault g.events) ≡ pushing g.events (ends run.well 0) = ap (load old.started multi) (sym (append-nil (given Fault g.events))) ∙ g.runs [] ∙ ap (λ b. pushing g.events (if b then load_from run.between multi [] else ends run.well 0)) h in
       record {
         answers = given Fault g.events;
-        behind = now;
+        after = now;
         pulled = g.pulled;
         taken = ap (λ x. x.taken) w ∙ taken_all g.events (ends run.well 0) ∙ omega (arith, given_length g.events);
         ends = loads.well (ap (λ x. x.ending) w ∙ ending_all g.events (ends run.well 0)) clear (subst (λ xs. Receives takes r xs s) (sym (ap (λ x. x.pushed) w ∙ pushed_all g.events (ends run.well 0) ∙ append-nil g.events)) g.received);
       }
 
   -- A document was read, and another may come.
-  pub next_document : {now : Parsed} {s : R} → Going takes multi old r (behind_document multi) now s → multi ≡ true → Stands takes multi old r run.between now s
+  pub next_document : {now : Parsed} {s : R} → Going takes multi old r (after_document multi) now s → multi ≡ true → Stands takes multi old r run.between now s
   next_document {now} {s} g h = record {
     events = g.events;
     pulled = g.pulled;
@@ -295,9 +295,9 @@ module _ {R : Type 0} (takes : R → Ev → Position → Result (Unit {0}) Fault
   loads_err (Ok u) f {now} {s} h y = absurd h
   loads_err (Err e) f {now} {s} h y = subst (λ z. Loads takes multi old r (Err z) now s) (sym h) y
 
-  pub behind_err : (x : Result (Unit {0}) Fault) (f : Fault) {now : Parsed} {s : R} → IsErrAnd x (λ e. e ≡ f) → Loads takes multi old r (Err f) now s → IsBehind takes multi old r x now s
-  behind_err (Ok u) f {now} {s} h y = absurd h
-  behind_err (Err e) f {now} {s} h y = subst (λ z. Loads takes multi old r (Err z) now s) (sym h) y
+  pub after_err : (x : Result (Unit {0}) Fault) (f : Fault) {now : Parsed} {s : R} → IsErrAnd x (λ e. e ≡ f) → Loads takes multi old r (Err f) now s → IsAfter takes multi old r x now s
+  after_err (Ok u) f {now} {s} h y = absurd h
+  after_err (Err e) f {now} {s} h y = subst (λ z. Loads takes multi old r (Err z) now s) (sym h) y
 
   pub starts_err : (x : Result (Unit {0}) Fault) (f : Fault) {now : Parsed} {s : R} → IsErrAnd x (λ e. e ≡ f) → Loads takes multi old r (Err f) now s → StartsSo takes multi old r x now s
   starts_err (Ok u) f {now} {s} h y = absurd h

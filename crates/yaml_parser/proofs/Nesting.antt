@@ -2,7 +2,7 @@
 use Rattle.std.proofs.Common.{◌≡◌, List, [], ◌∷◌, ◌++◌, Option, Some, None, Bool, true, false, refl, sym, ap, subst}
 use Rattle.defs_text.specs.Position.{Position}
 use Rattle.defs_event.specs.Event.{Ev}
-use Rattle.defs_event.specs.Nested.{Open, in_stream, before_node, behind_node, in_sequence, at_key, at_value, open_behind, there_and, closes, is_nested}
+use Rattle.defs_event.specs.Nested.{Open, in_stream, before_node, after_node, in_sequence, at_key, at_value, open_after, there_and, closes, is_nested}
 use Rattle.defs_event.specs.Stream.{events_of}
 use Rattle.defs_event.proofs.NestedTest.{test_is_exact}
 use Rattle.defs_event.proofs.Shaped.{Shaped, named_shaped}
@@ -31,7 +31,7 @@ at_begins_nested {T} g p names given a =
 -- a document is open
 abbrev in_document : List Open → Bool
 in_document (before_node ∷ os) = true
-in_document (behind_node ∷ os) = true
+in_document (after_node ∷ os) = true
 in_document (in_sequence ∷ os) = in_document os
 in_document (at_key ∷ os) = in_document os
 in_document (at_value ∷ os) = in_document os
@@ -40,7 +40,7 @@ in_document _ = false
 is_some : {A : Type 0} {x y : A} → Some x ≡ Some y → x ≡ y
 is_some h = cc
 
-opens : (e : Ev) (os new : List Open) (b : Bool) → open_behind e os ≡ Some new → (b ≡ true → in_document os ≡ true) → opened e b ≡ true → in_document new ≡ true
+opens : (e : Ev) (os new : List Open) (b : Bool) → open_after e os ≡ Some new → (b ≡ true → in_document os ≡ true) → opened e b ≡ true → in_document new ≡ true
 opens Ev.document_start (in_stream ∷ os) new b h k o = subst (λ x. in_document x ≡ true) (is_some h) refl
 opens Ev.document_end os new true h k o = let no : false ≡ true = o in cc
 opens Ev.document_end os new false h k o = let no : false ≡ true = o in cc
@@ -69,7 +69,7 @@ opens e os new b h k o = cc
 never_closes : (es more : List Ev) (b : Bool) (os : List Open) → (b ≡ true → in_document os ≡ true) → is_open b es ≡ true → closes (es ++ Ev.stream_end ∷ more) os ≡ true → ⊥
 never_closes [] more b (in_stream ∷ os) k o h = let no : false ≡ true = k o in cc
 never_closes [] more b os k o h = cc
-never_closes (e ∷ es) more b os k o h = by (open_behind e os) (λ new i. never_closes es more (opened e b) new (opens e os new b i k) o) h
+never_closes (e ∷ es) more b os k o h = by (open_after e os) (λ new i. never_closes es more (opened e b) new (opens e os new b i k) o) h
   where
     by : (x : Option (List Open)) → ((new : List Open) → x ≡ Some new → closes (es ++ Ev.stream_end ∷ more) new ≡ true → ⊥) → there_and (closes (es ++ Ev.stream_end ∷ more)) x ≡ true → ⊥
     by None f c = cc
@@ -85,15 +85,15 @@ never_nested (e ∷ es) more o h =
     let f = from_start e (es ++ Ev.stream_end ∷ more) h in
     never_closes es more false (in_stream ∷ []) (λ no. cc) (subst (λ x. is_open (opened x false) es ≡ true) f.0 o) f.1
 
-end_behind : (es : List (Ev × Position)) (p : Position) (more : List Ev) → events_of (es ++ (Ev.stream_end, p) ∷ []) ++ more ≡ events_of es ++ Ev.stream_end ∷ more
-end_behind [] p more = refl
-end_behind (e ∷ es) p more = ap (λ vs. e.0 ∷ vs) (end_behind es p more)
+end_after : (es : List (Ev × Position)) (p : Position) (more : List Ev) → events_of (es ++ (Ev.stream_end, p) ∷ []) ++ more ≡ events_of es ++ Ev.stream_end ∷ more
+end_after [] p more = refl
+end_after (e ∷ es) p more = ap (λ vs. e.0 ∷ vs) (end_after es p more)
 
 -- The stream's end comes in no document.
 pub no_end_inside : (es : List (Ev × Position)) (p : Position) → is_open false (events_of es) ≡ true → BeginsNested (events_of (es ++ (Ev.stream_end, p) ∷ [])) → ⊥
 no_end_inside es p o n =
     let all = (test_is_exact (events_of (es ++ (Ev.stream_end, p) ∷ []) ++ n.0)).1 n.1 in
-    never_nested (events_of es) n.0 o (subst (λ vs. is_nested vs ≡ true) (end_behind es p n.0) all)
+    never_nested (events_of es) n.0 o (subst (λ vs. is_nested vs ≡ true) (end_after es p n.0) all)
 
 pub open_more : (b : Bool) (es : List (Ev × Position)) (e : Ev) (p : Position) → is_open b (events_of (es ++ (e, p) ∷ [])) ≡ opened e (is_open b (events_of es))
 open_more b [] e p = refl

@@ -62,22 +62,22 @@ use Rattle.yaml_parser.proofs.Ends.{at_begins, at_derived, ending}
 pub two_values : (f : ℕ → Option event.Tag → Ev × Position) {n a : ℕ} {t u : Option event.Tag} → n ≡ a → t ≡ u → f n t ≡ f a u
 two_values f {n} {a} {t} {u} h k = ap (λ x. f x t) h ∙ ap (f a) k
 
--- how an event is made of an anchor and a tag, before and behind the resolution of names
+-- how an event is made of an anchor and a tag, before and after the resolution of names
 pub record Makes (mk : Option (List ℕ) → Option event.Tag → Raw) (f : ℕ → Option event.Tag → Ev) : Type 0 where
   pub resolves : (s : Names) (a : Option (List ℕ)) (t : Option event.Tag) → resolved_event s (mk a t) ≡ option_map (λ u. f (number s a) u) (perhaps_resolved s.handles t)
-  pub behind_it : (keep : Bool) (s : Names) (a : Option (List ℕ)) (t : Option event.Tag) → names_after keep s (mk a t) ≡ with_anchor s a
+  pub after_it : (keep : Bool) (s : Names) (a : Option (List ℕ)) (t : Option event.Tag) → names_after keep s (mk a t) ≡ with_anchor s a
 
 made_resolves : {mk : Option (List ℕ) → Option event.Tag → Raw} {f : ℕ → Option event.Tag → Ev} {s : Names} {o : Option written.Properties} {p : Option Properties} → Makes mk f → Has s o p
     → resolved_event s (mk (perhaps_anchor_of o) (perhaps_tag_of o)) ≡ Some (f (number s (name_of p)) (kept_tag p))
 made_resolves {mk} {f} {s} {o} {p} k h = k.resolves s _ _ ∙ ap (option_map (λ u. f (number s (perhaps_anchor_of o)) u)) h.tag ∙ ap (λ a. Some (f (number s a) (kept_tag p))) h.anchor
 
--- the names behind it
+-- the names after it
 made_named : {T : Type 0} {p r : Reader T} {mk : Option (List ℕ) → Option event.Tag → Raw} {f : ℕ → Option event.Tag → Ev} {s : Names} {o : Option written.Properties} {x : Option Properties}
     → Makes mk f → Has s o x → r.names.keeping ≡ p.names.keeping → IsNamed r.names (with_anchor s (name_of x))
     → Named p r at.done s (mk (perhaps_anchor_of o) (perhaps_tag_of o)) (f (number s (name_of x)) (kept_tag x)) (with_anchor s (name_of x))
 made_named {T} {p} {r} {mk} {f} {s} {o} {x} k h keep code = record {
   resolves = made_resolves k h;
-  behind_it = k.behind_it _ s _ _ ∙ ap (with_anchor s) h.anchor;
+  after_it = k.after_it _ s _ _ ∙ ap (with_anchor s) h.anchor;
   keep = keep;
   code = code;
   pending = tt;
@@ -115,7 +115,7 @@ pub scalar_taken : {T : Type 0} (m : Position) {p q r : Reader T} {y : Style} {v
 scalar_taken {T} m {p} {q} {r} {y} {v} {n} {u} {w} {o} {x} {ss} {s} {given} {t} here mark skips stack names_same tok turn registers has a =
     let g = registers s (subst (λ z. IsNamed z s) (sym names_same) a.code) in
     let e : Ev.scalar v y (number s (name_of x)) (kept_tag x) ≡ Ev.scalar v y n u = ap (λ z. Ev.scalar v y z (kept_tag x)) (sym g.value.0) ∙ ap (λ z. Ev.scalar v y n z) (sym g.value.1) in
-    let makes : Makes (λ a b. Raw.scalar v y a b) (λ a b. Ev.scalar v y a b) = record { resolves = λ s a b. refl; behind_it = λ k s a b. refl } in (
+    let makes : Makes (λ a b. Raw.scalar v y a b) (λ a b. Ev.scalar v y a b) = record { resolves = λ s a b. refl; after_it = λ k s a b. refl } in (
       with_anchor s (name_of x),
       subst (λ z. At at.done r (with_anchor s (name_of x)) (given ++ (z, m) ∷ [])) e
           (took m here (subst (λ z. Skips p.tokens t z) (sym g.tokens) skips) (g.stack ∙ stack) (subst (λ z. Takes (at.after_properties w o) p.stack z (Some (Raw.scalar v y (perhaps_anchor_of o) (perhaps_tag_of o))) at.done ss) (sym tok) turn)
@@ -133,7 +133,7 @@ properties_left {T} m {p} {r} {k} {n} {u} (Some o) {x} {s} {given} here turn reg
     let l = looked k p.tokens.peeked here in
     let g = registers s a.code in
     let e : Ev.scalar [] Style.plain (number s (name_of (Some x))) (kept_tag (Some x)) ≡ Ev.scalar [] Style.plain n u = ap (λ z. Ev.scalar [] Style.plain z (kept_tag (Some x))) (sym g.value.0) ∙ ap (λ z. Ev.scalar [] Style.plain n z) (sym g.value.1) in
-    let makes : Makes (λ a b. Raw.empty_scalar a b) (λ a b. Ev.scalar [] Style.plain a b) = record { resolves = λ s a b. refl; behind_it = λ k s a b. refl } in (
+    let makes : Makes (λ a b. Raw.empty_scalar a b) (λ a b. Ev.scalar [] Style.plain a b) = record { resolves = λ s a b. refl; after_it = λ k s a b. refl } in (
       with_anchor s (name_of (Some x)),
       subst (λ z. At at.done r (with_anchor s (name_of (Some x))) (given ++ (z, m) ∷ [])) e
           (left m (ap (option_map (λ (z : Token). tok_of z.1)) l.1) g.tokens g.stack (turn o (tok_of l.0.1) l.2) (made_named makes has g.keep g.code) refl refl a),
@@ -155,7 +155,7 @@ named_stops : (keep : Bool) (s : Names) (es fs : List Raw) → named keep (names
 named_stops keep s [] fs h = h
 named_stops keep s (e ∷ es) fs h = ap (both (resolved_event s e)) (named_stops keep (names_after keep s e) es fs h) ∙ both_none (resolved_event s e)
 
--- The token was taken, and nothing that goes on behind it can be named.
+-- The token was taken, and nothing that goes on after it can be named.
 unnamed : {T : Type 0} {g g' : Goal} {p r : Reader T} {t : Token} {ss : List State} {e : Option Raw} {names : Names} {given : List (Ev × Position)}
     → p.tokens.peeked ≡ Some t → Skips p.tokens t r.tokens → r.names.keeping ≡ p.names.keeping → Takes g p.stack (tok_of t.1) e g' ss
     → ((x : Awaits g') (y : Rest ss) → Unnameable p.names.keeping.tags names (event_then e (still_events g' ss x y)))
@@ -276,7 +276,7 @@ pub alias_taken : {T : Type 0} (m : Position) {p r : Reader T} {t : Token} {w : 
 alias_taken {T} m {p} {r} {t} {w} {x} {n} {names} {given} here mark skips stack same tok found a = (
   names,
   took m here skips stack (subst (λ u. Takes (at.node w) p.stack u (Some (Raw.alias x)) at.done p.stack) (sym tok) (turn.node_alias w p.stack x))
-      (record { resolves = ap (option_map Ev.alias) found; behind_it = refl; keep = ap (λ z. z.keeping) same; code = subst (λ z. IsNamed z names) (sym same) a.code; pending = tt })
+      (record { resolves = ap (option_map Ev.alias) found; after_it = refl; keep = ap (λ z. z.keeping) same; code = subst (λ z. IsNamed z names) (sym same) a.code; pending = tt })
       (λ b. (refl, ap is_end tok)) (record { alike = sym (ap gives_place tok); here = λ b. sym mark }) a,
 )
 
@@ -290,27 +290,27 @@ alias_unknown {T} {p} {r} {t} {m} {w} {x} {names} {given} here mark skips same t
     (λ y z. unnameable_first p.names.keeping.tags names (Raw.alias x) (still_events at.done p.stack y z) (ap (option_map Ev.alias) missing)) a
 
 pub anchor_taken : {T : Type 0} {p r : Reader T} {t : Token} {w : places.Place} {x : List ℕ} {names : Names} {given : List (Ev × Position)}
-    → p.tokens.peeked ≡ Some t → Skips p.tokens t r.tokens → r.stack ≡ p.stack → r.names ≡ p.names → tok_of t.1 ≡ Tok.anchor x → At (at.node w) p names given → At (at.behind_anchor w x) r names given
+    → p.tokens.peeked ≡ Some t → Skips p.tokens t r.tokens → r.stack ≡ p.stack → r.names ≡ p.names → tok_of t.1 ≡ Tok.anchor x → At (at.node w) p names given → At (at.after_anchor w x) r names given
 anchor_taken {T} {p} {r} {t} {w} {x} {names} {given} here skips stack same tok a =
-    took_on here skips stack (subst (λ u. Takes (at.node w) p.stack u None (at.behind_anchor w x) p.stack) (sym tok) (turn.node_anchor w p.stack x))
+    took_on here skips stack (subst (λ u. Takes (at.node w) p.stack u None (at.after_anchor w x) p.stack) (sym tok) (turn.node_anchor w p.stack x))
     (ap (λ z. z.keeping) same) (subst (λ z. IsNamed z names) (sym same) a.code) tt (λ b. (refl, ap is_end tok)) (ap gives_place tok) a
 
 pub tag_taken : {T : Type 0} {p r : Reader T} {t : Token} {w : places.Place} {x : event.Tag} {u : event.Tag} {names : Names} {given : List (Ev × Position)}
-    → p.tokens.peeked ≡ Some t → Skips p.tokens t r.tokens → r.stack ≡ p.stack → r.names ≡ p.names → tok_of t.1 ≡ written.tag_token x → resolved names.handles x ≡ Some u → At (at.node w) p names given → At (at.behind_tag w x) r names given
+    → p.tokens.peeked ≡ Some t → Skips p.tokens t r.tokens → r.stack ≡ p.stack → r.names ≡ p.names → tok_of t.1 ≡ written.tag_token x → resolved names.handles x ≡ Some u → At (at.node w) p names given → At (at.after_tag w x) r names given
 tag_taken {T} {p} {r} {t} {w} {x} {u} {names} {given} here skips stack same tok known a =
-    took_on here skips stack (subst (λ z. Takes (at.node w) p.stack z None (at.behind_tag w x) p.stack) (sym tok) (turn.node_tag w p.stack x))
+    took_on here skips stack (subst (λ z. Takes (at.node w) p.stack z None (at.after_tag w x) p.stack) (sym tok) (turn.node_tag w p.stack x))
     (ap (λ z. z.keeping) same) (subst (λ z. IsNamed z names) (sym same) a.code) (is_some_of known) (λ b. (refl, ap is_end tok)) (ap gives_place tok) a
 
-pub tag_behind_anchor : {T : Type 0} {p r : Reader T} {t : Token} {w : places.Place} {y : List ℕ} {x : event.Tag} {u : event.Tag} {names : Names} {given : List (Ev × Position)}
-    → p.tokens.peeked ≡ Some t → Skips p.tokens t r.tokens → r.stack ≡ p.stack → r.names ≡ p.names → tok_of t.1 ≡ written.tag_token x → resolved names.handles x ≡ Some u → At (at.behind_anchor w y) p names given → At (at.after_properties w (Some (written.anchored_tagged y x))) r names given
-tag_behind_anchor {T} {p} {r} {t} {w} {y} {x} {u} {names} {given} here skips stack same tok known a =
-    took_on here skips stack (subst (λ z. Takes (at.behind_anchor w y) p.stack z None (at.after_properties w (Some (written.anchored_tagged y x))) p.stack) (sym tok) (turn.anchor_tag w p.stack y x))
+pub tag_after_anchor : {T : Type 0} {p r : Reader T} {t : Token} {w : places.Place} {y : List ℕ} {x : event.Tag} {u : event.Tag} {names : Names} {given : List (Ev × Position)}
+    → p.tokens.peeked ≡ Some t → Skips p.tokens t r.tokens → r.stack ≡ p.stack → r.names ≡ p.names → tok_of t.1 ≡ written.tag_token x → resolved names.handles x ≡ Some u → At (at.after_anchor w y) p names given → At (at.after_properties w (Some (written.anchored_tagged y x))) r names given
+tag_after_anchor {T} {p} {r} {t} {w} {y} {x} {u} {names} {given} here skips stack same tok known a =
+    took_on here skips stack (subst (λ z. Takes (at.after_anchor w y) p.stack z None (at.after_properties w (Some (written.anchored_tagged y x))) p.stack) (sym tok) (turn.anchor_tag w p.stack y x))
     (ap (λ z. z.keeping) same) (subst (λ z. IsNamed z names) (sym same) a.code) (is_some_of (ap (option_map Some) known)) (λ b. (refl, ap is_end tok)) (ap gives_place tok) a
 
-pub anchor_behind_tag : {T : Type 0} {p r : Reader T} {t : Token} {w : places.Place} {y : List ℕ} {x : event.Tag} {u : event.Tag} {names : Names} {given : List (Ev × Position)}
-    → p.tokens.peeked ≡ Some t → Skips p.tokens t r.tokens → r.stack ≡ p.stack → r.names ≡ p.names → tok_of t.1 ≡ Tok.anchor y → resolved names.handles x ≡ Some u → At (at.behind_tag w x) p names given → At (at.after_properties w (Some (written.tagged_anchored x y))) r names given
-anchor_behind_tag {T} {p} {r} {t} {w} {y} {x} {u} {names} {given} here skips stack same tok known a =
-    took_on here skips stack (subst (λ z. Takes (at.behind_tag w x) p.stack z None (at.after_properties w (Some (written.tagged_anchored x y))) p.stack) (sym tok) (turn.tag_anchor w p.stack x y))
+pub anchor_after_tag : {T : Type 0} {p r : Reader T} {t : Token} {w : places.Place} {y : List ℕ} {x : event.Tag} {u : event.Tag} {names : Names} {given : List (Ev × Position)}
+    → p.tokens.peeked ≡ Some t → Skips p.tokens t r.tokens → r.stack ≡ p.stack → r.names ≡ p.names → tok_of t.1 ≡ Tok.anchor y → resolved names.handles x ≡ Some u → At (at.after_tag w x) p names given → At (at.after_properties w (Some (written.tagged_anchored x y))) r names given
+anchor_after_tag {T} {p} {r} {t} {w} {y} {x} {u} {names} {given} here skips stack same tok known a =
+    took_on here skips stack (subst (λ z. Takes (at.after_tag w x) p.stack z None (at.after_properties w (Some (written.tagged_anchored x y))) p.stack) (sym tok) (turn.tag_anchor w p.stack x y))
     (ap (λ z. z.keeping) same) (subst (λ z. IsNamed z names) (sym same) a.code) (is_some_of (ap (option_map Some) known)) (λ b. (refl, ap is_end tok)) (ap gives_place tok) a
 
 content_unnameable : (keep : Bool) (s : Names) (w : places.Place) (o : Option written.Properties) (c : Option (ContentAt w)) (r : List Raw) → perhaps_resolved s.handles (perhaps_tag_of o) ≡ None → Unnameable keep s (perhaps_content_events w o c r)
@@ -363,13 +363,13 @@ no_anchor_before {T} {p} {m} w a e =
 pub tag_unknown : {T : Type 0} {p r : Reader T} {t : Token} {m : Position} {w : places.Place} {x : event.Tag} {names : Names} {given : List (Ev × Position)}
     → p.tokens.peeked ≡ Some t → t.0 ≡ m → Skips p.tokens t r.tokens → r.names ≡ p.names → tok_of t.1 ≡ written.tag_token x → resolved names.handles x ≡ None → At (at.node w) p names given → Faulted r given (stop.Own (fault.At UndeclaredHandle m))
 tag_unknown {T} {p} {r} {t} {m} {w} {x} {names} {given} here mark skips same tok missing a =
-    unnamed_at UndeclaredHandle (ap (λ u. fits UndeclaredHandle (kind_of u)) tok) refl (inl (sym mark, λ e q before. no_anchor_before w a before)) here skips (ap (λ z. z.keeping) same) (subst (λ z. Takes (at.node w) p.stack z None (at.behind_tag w x) p.stack) (sym tok) (turn.node_tag w p.stack x))
+    unnamed_at UndeclaredHandle (ap (λ u. fits UndeclaredHandle (kind_of u)) tok) refl (inl (sym mark, λ e q before. no_anchor_before w a before)) here skips (ap (λ z. z.keeping) same) (subst (λ z. Takes (at.node w) p.stack z None (at.after_tag w x) p.stack) (sym tok) (turn.node_tag w p.stack x))
     (λ y z. content_unnameable p.names.keeping.tags names w (Some (tag_and x y.0)) y.1 (rest_events p.stack z) (ap (perhaps_resolved names.handles) (tag_and_tag x y.0) ∙ ap (option_map Some) missing)) a
 
-pub tag_unknown_behind : {T : Type 0} {p r : Reader T} {t : Token} {m : Position} {w : places.Place} {v : List ℕ} {x : event.Tag} {names : Names} {given : List (Ev × Position)}
-    → p.tokens.peeked ≡ Some t → EndsInAnchor (all_shown p.tokens.taken.items) m → Skips p.tokens t r.tokens → r.names ≡ p.names → tok_of t.1 ≡ written.tag_token x → resolved names.handles x ≡ None → At (at.behind_anchor w v) p names given → Faulted r given (stop.Own (fault.At UndeclaredHandle m))
-tag_unknown_behind {T} {p} {r} {t} {m} {w} {v} {x} {names} {given} here anchored skips same tok missing a =
-    unnamed_at UndeclaredHandle (ap (λ u. fits UndeclaredHandle (kind_of u)) tok) refl (inr (refl, anchored)) here skips (ap (λ z. z.keeping) same) (subst (λ z. Takes (at.behind_anchor w v) p.stack z None (at.after_properties w (Some (written.anchored_tagged v x))) p.stack) (sym tok) (turn.anchor_tag w p.stack v x))
+pub tag_unknown_after : {T : Type 0} {p r : Reader T} {t : Token} {m : Position} {w : places.Place} {v : List ℕ} {x : event.Tag} {names : Names} {given : List (Ev × Position)}
+    → p.tokens.peeked ≡ Some t → EndsInAnchor (all_shown p.tokens.taken.items) m → Skips p.tokens t r.tokens → r.names ≡ p.names → tok_of t.1 ≡ written.tag_token x → resolved names.handles x ≡ None → At (at.after_anchor w v) p names given → Faulted r given (stop.Own (fault.At UndeclaredHandle m))
+tag_unknown_after {T} {p} {r} {t} {m} {w} {v} {x} {names} {given} here anchored skips same tok missing a =
+    unnamed_at UndeclaredHandle (ap (λ u. fits UndeclaredHandle (kind_of u)) tok) refl (inr (refl, anchored)) here skips (ap (λ z. z.keeping) same) (subst (λ z. Takes (at.after_anchor w v) p.stack z None (at.after_properties w (Some (written.anchored_tagged v x))) p.stack) (sym tok) (turn.anchor_tag w p.stack v x))
     (λ y z. content_unnameable p.names.keeping.tags names w (Some (written.anchored_tagged v x)) y.0 (rest_events p.stack z) (ap (option_map Some) missing)) a
 
 -- An anchor was taken, and then a token was looked at.

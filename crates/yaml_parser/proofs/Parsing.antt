@@ -240,8 +240,8 @@ next_holds {T} pull new given current started ended misplaced e h none clear x =
       held = n.held;
       first = h.first;
       end = h.end;
-      clear = λ b. (n.behind, clear);
-      over = λ b. (n.behind, clear, n.over b);
+      clear = λ b. (n.after, clear);
+      over = λ b. (n.after, clear, n.over b);
     }
 
 pub next_waits : {T : Type 0} (pull new : Pull T) (given : List (Ev × Position)) (current : Option (Event × Position)) (started ended : Bool) (misplaced : Option Position) (e : Event × Position)
@@ -261,7 +261,7 @@ next_waits {T} pull new given current started ended misplaced e h none clear x k
       left = λ k. let less = n.less k in omega arith;
       settings = record { keep_tags = ap (λ k. k.tags) keeping; steady = ap (λ k. k.steady) keeping };
       clear = no_fault pull misplaced n.before clear;
-      sound = sound new given (Some e) started ended misplaced n.behind clear n.held;
+      sound = sound new given (Some e) started ended misplaced n.after clear n.held;
     }
 
 -- ---- an event is given

@@ -31,7 +31,7 @@ one_more (Raw.flow_mapping_start a t) v rs vs h k = (h.0, h.1, vs, cc, k)
 one_more (Raw.mapping_start a t) v rs vs h k = (h.0, h.1, vs, cc, k)
 one_more Raw.mapping_end v rs vs h k = (vs, cc, k)
 
--- Resolved events, and others of this shape behind them, have the shape of all.
+-- Resolved events, and others of this shape after them, have the shape of all.
 pub resolved_shaped : (rs more : List Raw) (vs ws : List Ev) → AreResolved rs vs → Shaped more ws → Shaped (rs ++ more) (vs ++ ws)
 resolved_shaped [] more [] ws a h = h
 resolved_shaped [] more (v ∷ vs) ws a h = absurd a

@@ -44,9 +44,9 @@ map_snoc f (y ∷ xs) x = ap (λ zs. f y ∷ zs) (map_snoc f xs x)
 taken_snoc : (ts : List Token) (t : Token) → toks (all_shown (ts ++ t ∷ [])) ≡ toks (all_shown ts) ++ tok_of t.1 ∷ []
 taken_snoc ts t = ap toks (map_snoc shown ts t) ∙ map_snoc (λ (x : defs.Token). x.tok) (all_shown ts) (shown t)
 
-pub behind_snoc : (keep : Bool) (s : Names) (es : List Raw) (e : Raw) → names_after_all keep s (es ++ e ∷ []) ≡ names_after keep (names_after_all keep s es) e
-behind_snoc keep s [] e = refl
-behind_snoc keep s (x ∷ es) e = behind_snoc keep (names_after keep s x) es e
+pub after_snoc : (keep : Bool) (s : Names) (es : List Raw) (e : Raw) → names_after_all keep s (es ++ e ∷ []) ≡ names_after keep (names_after_all keep s es) e
+after_snoc keep s [] e = refl
+after_snoc keep s (x ∷ es) e = after_snoc keep (names_after keep s x) es e
 
 both_some : (o : Option Ev) (p : Option (List Ev)) (vs : List Ev) → both o p ≡ Some vs → (v : Ev) × (ws : List Ev) × (o ≡ Some v) × (p ≡ Some ws) × (vs ≡ v ∷ ws)
 both_some None p vs h = cc
@@ -91,10 +91,10 @@ skipped_stands {T} {p} {r} {t} {g} {g'} {ss} {ss'} {raw} {raw'} here s f h =
 
 -- ---- one turn
 
--- An event is given, and these names are behind it.
+-- An event is given, and these names are after it.
 pub record Named {T : Type 0} (p r : Reader T) (g' : Goal) (names : Names) (e : Raw) (v : Ev) (names' : Names) : Type 0 where
   pub resolves : resolved_event names e ≡ Some v
-  pub behind_it : names_after p.names.keeping.tags names e ≡ names'
+  pub after_it : names_after p.names.keeping.tags names e ≡ names'
   pub keep : r.names.keeping ≡ p.names.keeping
   pub code : IsNamed r.names (names_at r.names.keeping.tags g' names')
   pub pending : IsPending names' g'
@@ -106,7 +106,7 @@ events_more {T} m {p} {r} {g} {g'} {names} {names'} {e} {v} {given} n a steady =
     let keep = p.names.keeping.tags in
     let before : p.names.keeping.steady ≡ true = ap (λ k. k.steady) (sym n.keep) ∙ steady in
     let one : named keep no_names (a.raw ++ e ∷ []) ≡ Some (events_of given ++ v ∷ []) = named_snoc keep no_names a.raw e (events_of given) v (a.events before) (ap (λ s. resolved_event s e) (a.names_are before) ∙ n.resolves) in
-    let two : names_after_all keep no_names (a.raw ++ e ∷ []) ≡ names' = behind_snoc keep no_names a.raw e ∙ ap (λ s. names_after keep s e) (a.names_are before) ∙ n.behind_it in (
+    let two : names_after_all keep no_names (a.raw ++ e ∷ []) ≡ names' = after_snoc keep no_names a.raw e ∙ ap (λ s. names_after keep s e) (a.names_are before) ∙ n.after_it in (
       ap (λ k. named k.tags no_names (a.raw ++ e ∷ [])) n.keep ∙ one ∙ ap Some (sym (map_snoc (λ (x : Ev × Position). x.0) given (v, m))),
       ap (λ k. names_after_all k.tags no_names (a.raw ++ e ∷ [])) n.keep ∙ two,
     )

@@ -45,7 +45,7 @@ names_at keep g names = names
 -- What was read and is not yet given can be resolved.
 abbrev pub IsPending : Names → Goal → Type 0
 IsPending names (at.directed ds) = are_allowed ds ≡ true
-IsPending names (at.behind_tag p t) = IsSome (resolved names.handles t)
+IsPending names (at.after_tag p t) = IsSome (resolved names.handles t)
 IsPending names (at.after_properties p (Some o)) = IsSome (perhaps_resolved names.handles (tag_of o))
 IsPending names g = Unit {0}
 

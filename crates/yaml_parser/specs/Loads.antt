@@ -21,21 +21,21 @@ pub data Receives {R : Type 0} (takes : R → Ev → Position → Result (Unit {
   one_event : {r s t : R} {es : List (Ev × Position)} (e : Ev) (p : Position) → Receives takes r es s → takes s e p (Ok tt) t → Receives takes r (es ++ (e, p) ∷ []) t
 
 -- How a call ends whose run is this, after the parser that gave its answers; and whether that one keeps a fault.
-pub data EndsSo {R : Type 0} (takes : R → Ev → Position → Result (Unit {0}) Fault → R → Type 0) (r : R) (l : Loaded Fault) (behind : Parsed) : Result (Unit {0}) Fault → Parsed → R → Type 0 where
-  well : {s : R} → l.ending ≡ run.well → behind.fault ≡ None → Receives takes r l.pushed s → EndsSo takes r l behind (Ok tt) behind s
-  faulted : {s : R} {f : Fault} → l.ending ≡ run.faulted f → behind.fault ≡ Some f → Receives takes r l.pushed s → EndsSo takes r l behind (Err f) behind s
+pub data EndsSo {R : Type 0} (takes : R → Ev → Position → Result (Unit {0}) Fault → R → Type 0) (r : R) (l : Loaded Fault) (after : Parsed) : Result (Unit {0}) Fault → Parsed → R → Type 0 where
+  well : {s : R} → l.ending ≡ run.well → after.fault ≡ None → Receives takes r l.pushed s → EndsSo takes r l after (Ok tt) after s
+  faulted : {s : R} {f : Fault} → l.ending ≡ run.faulted f → after.fault ≡ Some f → Receives takes r l.pushed s → EndsSo takes r l after (Err f) after s
   -- this fault is kept
-  misplaced : {s : R} (p : Position) → l.ending ≡ run.no_document p → Receives takes r l.pushed s → EndsSo takes r l behind (Err (no_document p)) (record behind { fault = Some (no_document p) }) s
+  misplaced : {s : R} (p : Position) → l.ending ≡ run.no_document p → Receives takes r l.pushed s → EndsSo takes r l after (Err (no_document p)) (record after { fault = Some (no_document p) }) s
   -- the receiver refused the last event, and its fault is not kept
-  refused : {s t : R} {es : List (Ev × Position)} (e : Ev) (p : Position) {f : Fault} → l.pushed ≡ es ++ (e, p) ∷ [] → behind.fault ≡ None → Receives takes r es s → takes s e p (Err f) t → EndsSo takes r l behind (Err f) behind t
+  refused : {s t : R} {es : List (Ev × Position)} (e : Ev) (p : Position) {f : Fault} → l.pushed ≡ es ++ (e, p) ∷ [] → after.fault ≡ None → Receives takes r es s → takes s e p (Err f) t → EndsSo takes r l after (Err f) after t
 
 -- One call of `load`: the answers that it pulled, all of which its run takes, and how it ends.
 pub record Loads {R : Type 0} (takes : R → Ev → Position → Result (Unit {0}) Fault → R → Type 0) (multi : Bool) (old : Parsed) (r : R) (result : Result (Unit {0}) Fault) (new : Parsed) (s : R) : Type 0 where
   pub answers : List (Answer Fault)
-  pub behind : Parsed
-  pub pulled : PullsAll old answers behind
+  pub after : Parsed
+  pub pulled : PullsAll old answers after
   pub taken : (load old.started multi answers).taken ≡ length answers
-  pub ends : EndsSo takes r (load old.started multi answers) behind result new s
+  pub ends : EndsSo takes r (load old.started multi answers) after result new s
 
 -- ---- on the way
 
@@ -60,13 +60,13 @@ StartsSo takes multi old r (Ok u) now s = Stands takes multi old r run.between n
 StartsSo takes multi old r (Err f) now s = Loads takes multi old r (Err f) now s
 
 -- how a run goes on after a document
-abbrev pub behind_document : Bool → List (Answer Fault) → Loaded Fault
-behind_document multi rest = if multi then load_from run.between multi rest else ends run.well 0
+abbrev pub after_document : Bool → List (Answer Fault) → Loaded Fault
+after_document multi rest = if multi then load_from run.between multi rest else ends run.well 0
 
 -- after the document's end
-abbrev pub IsBehind : {R : Type 0} → (R → Ev → Position → Result (Unit {0}) Fault → R → Type 0) → Bool → Parsed → R → Result (Unit {0}) Fault → Parsed → R → Type 0
-IsBehind takes multi old r (Ok u) now s = Going takes multi old r (behind_document multi) now s × (now.fault ≡ None)
-IsBehind takes multi old r (Err f) now s = Loads takes multi old r (Err f) now s
+abbrev pub IsAfter : {R : Type 0} → (R → Ev → Position → Result (Unit {0}) Fault → R → Type 0) → Bool → Parsed → R → Result (Unit {0}) Fault → Parsed → R → Type 0
+IsAfter takes multi old r (Ok u) now s = Going takes multi old r (after_document multi) now s × (now.fault ≡ None)
+IsAfter takes multi old r (Err f) now s = Loads takes multi old r (Err f) now s
 
 abbrev pub ReadsOn : {R : Type 0} → (R → Ev → Position → Result (Unit {0}) Fault → R → Type 0) → Bool → Parsed → R → Parsed → R → Result (Unit {0}) Fault → Parsed → R → Type 0
-ReadsOn takes multi old r now s result now' s' = Stands takes multi old r run.inside now s → IsBehind takes multi old r result now' s'
+ReadsOn takes multi old r now s result now' s' = Stands takes multi old r run.inside now s → IsAfter takes multi old r result now' s'

@@ -33,8 +33,8 @@ pub record Has (names : Names) (o : Option written.Properties) (p : Option Prope
   pub tag : perhaps_resolved names.handles (written.perhaps_tag_of o) ≡ Some (kept_tag p)
 
 -- what a content comes to, after these properties
-abbrev pub ReadsBehind : {T : Type 0} → Place → Option Properties → Reader T → Reader T → Result (Event × chars.Position) Stop → Type 0
-ReadsBehind p properties old new result =
+abbrev pub ReadsAfter : {T : Type 0} → Place → Option Properties → Reader T → Reader T → Result (Event × chars.Position) Stop → Type 0
+ReadsAfter p properties old new result =
     (o : Option written.Properties) (names : Names) (given : List (Ev × chars.Position)) → Has names o properties → At (at.after_properties p o) old names given → Answers new given result
 
 -- The anchor of these properties is numbered, and nothing else changes.

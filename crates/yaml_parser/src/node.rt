@@ -9,7 +9,7 @@ ghost use Rattle.yaml_tokens.specs.declared.problem.Fault.TheVariants.{OutOfMemo
 ghost use Rattle.yaml_parser.specs.declared.tokens.Stop.TheVariants.{Own};
 ghost use Rattle.yaml_parser.specs.Shown.{placed, perhaps_tag_of};
 ghost use Rattle.yaml_parser.specs.Named.{IsNamed};
-ghost use Rattle.yaml_parser.specs.Properties.{ReadsBehind, Registers};
+ghost use Rattle.yaml_parser.specs.Properties.{ReadsAfter, Registers};
 ghost use Rattle.yaml_parser.specs.At.{Reads};
 ghost use Rattle.yaml_parser.specs.Work.{work, owed};
 ghost use Rattle.yaml_parser.specs.Kinds.{IsOfKind, IsName};
@@ -89,7 +89,7 @@ impl<T: Iterator<Item = char>> Reader<T> {
             Kind::Tag => {
                 let (handle, suffix) = self.tokens.take_tag();
                 let tag = self.names.resolve(mark, handle, suffix)?;
-                self.content_behind(place, name, tag)
+                self.content_after(place, name, tag)
             }
             _ => self.content(
                 place,
@@ -117,7 +117,7 @@ impl<T: Iterator<Item = char>> Reader<T> {
         match next {
             Kind::Anchor => {
                 let name = self.tokens.take_name();
-                self.content_behind(place, name, tag)
+                self.content_after(place, name, tag)
             }
             _ => self.content(
                 place,
@@ -132,8 +132,8 @@ impl<T: Iterator<Item = char>> Reader<T> {
 
     /// What stands after an anchor and a tag.
     #[inline(never)]
-    fn content_behind(&mut self, place: Place, anchor: String, tag: Tag) -> Answer
-        ensures answers { ReadsBehind place (Some (record { anchor = Some anchor; tag = Some tag })) self.old self.new result }
+    fn content_after(&mut self, place: Place, anchor: String, tag: Tag) -> Answer
+        ensures answers { ReadsAfter place (Some (record { anchor = Some anchor; tag = Some tag })) self.old self.new result }
         ensures work { OnOk result (work self.new ≤ work self.old) }
         ensures keeping { self.new.names.keeping ≡ self.old.names.keeping }
         ensures start { self.new.tokens.scanner.start ≡ self.old.tokens.scanner.start }
@@ -150,7 +150,7 @@ impl<T: Iterator<Item = char>> Reader<T> {
     #[inline(never)]
     fn content(&mut self, place: Place, properties: Option<Properties>, next: Kind) -> Answer
         requires { IsOfKind next self.old.tokens.peeked }
-        ensures answers { ReadsBehind place properties self.old self.new result }
+        ensures answers { ReadsAfter place properties self.old self.new result }
         ensures work { OnOk result (work self.new + owed properties ≤ work self.old) }
         ensures keeping { self.new.names.keeping ≡ self.old.names.keeping }
         ensures start { self.new.tokens.scanner.start ≡ self.old.tokens.scanner.start }
@@ -165,7 +165,7 @@ impl<T: Iterator<Item = char>> Reader<T> {
     #[inline(always)]
     fn part_content(&mut self, properties: Option<Properties>, next: Kind) -> Answer
         requires { IsOfKind next self.old.tokens.peeked }
-        ensures answers { ReadsBehind place.Part properties self.old self.new result }
+        ensures answers { ReadsAfter place.Part properties self.old self.new result }
         ensures work { OnOk result (work self.new + owed properties ≤ work self.old) }
         ensures keeping { self.new.names.keeping ≡ self.old.names.keeping }
         ensures start { self.new.tokens.scanner.start ≡ self.old.tokens.scanner.start }
@@ -183,7 +183,7 @@ impl<T: Iterator<Item = char>> Reader<T> {
     #[inline(always)]
     fn block_content(&mut self, properties: Option<Properties>, next: Kind) -> Answer
         requires { IsOfKind next self.old.tokens.peeked }
-        ensures answers { ReadsBehind place.Block properties self.old self.new result }
+        ensures answers { ReadsAfter place.Block properties self.old self.new result }
         ensures work { OnOk result (work self.new + owed properties ≤ work self.old) }
         ensures keeping { self.new.names.keeping ≡ self.old.names.keeping }
         ensures start { self.new.tokens.scanner.start ≡ self.old.tokens.scanner.start }
@@ -206,7 +206,7 @@ impl<T: Iterator<Item = char>> Reader<T> {
     #[inline(always)]
     fn flow_content(&mut self, properties: Option<Properties>, next: Kind) -> Answer
         requires { IsOfKind next self.old.tokens.peeked }
-        ensures answers { ReadsBehind place.Flow properties self.old self.new result }
+        ensures answers { ReadsAfter place.Flow properties self.old self.new result }
         ensures work { OnOk result (work self.new + owed properties ≤ work self.old) }
         ensures keeping { self.new.names.keeping ≡ self.old.names.keeping }
         ensures start { self.new.tokens.scanner.start ≡ self.old.tokens.scanner.start }
@@ -237,7 +237,7 @@ impl<T: Iterator<Item = char>> Reader<T> {
     fn no_content(&mut self, properties: Option<Properties>, next: Kind) -> Answer
         requires looks { IsOfKind next self.old.tokens.peeked }
         requires none { begins_content place.Flow next ≡ false }
-        ensures answers { ReadsBehind place.Flow properties self.old self.new result }
+        ensures answers { ReadsAfter place.Flow properties self.old self.new result }
         ensures work { OnOk result (work self.new + owed properties ≤ work self.old) }
         ensures keeping { self.new.names.keeping ≡ self.old.names.keeping }
         ensures start { self.new.tokens.scanner.start ≡ self.old.tokens.scanner.start }

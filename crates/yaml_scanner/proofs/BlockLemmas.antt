@@ -15,7 +15,7 @@ use Rattle.defs_token.specs.Token.{Tok}
 use Rattle.yaml_lexers.specs.Shown.{read}
 use Rattle.model_scanner.specs.State.{Key, Held, State, ◌>>=◌, peek, put, in_flow, with_top, on_held, try_held, lexed, skip_indicator}
 use Rattle.model_scanner.specs.Indents.{roll_indent, roll_one_col_indent}
-use Rattle.model_scanner.specs.Block.{check_dash, roll_entry, check_key_space, check_behind_tab, check_value_space, begin_pair, insert_key, begin_keyless_pair, begin_keyless_mapping, begin_keyless_value}
+use Rattle.model_scanner.specs.Block.{check_dash, roll_entry, check_key_space, check_after_tab, check_value_space, begin_pair, insert_key, begin_keyless_pair, begin_keyless_mapping, begin_keyless_value}
 use Rattle.yaml_scanner.specs.Blocks.{entry_level, pass_tab}
 use Rattle.yaml_scanner.specs.declared.fetcher.Fetcher.{Fetcher}
 use Rattle.yaml_scanner.specs.Shape.{held, state, Does, Fails}
@@ -81,29 +81,29 @@ pub key_not_spaced : (a : List ℕ) (c : ℕ) (h : Held) (p : Position) → c �
 unfolding check_key_space
 key_not_spaced a c h p e n q = let t : (peek a == 9) ≡ true = rw (← peek_is a, ← e, n) refl in rw (t, q) refl
 
-pub word_apart : (w : Whitespace) (a : List ℕ) (b : Bool) (h : Held) → b ≡ not w.has_valid_yaml_ws && ((slice_index a 0 == 45) || is_alpha (slice_index a 0)) → b ≡ false → check_behind_tab w (record { rest = a; held = h }) ≡ Ok (record { rest = a; held = h })
-unfolding check_behind_tab
+pub word_apart : (w : Whitespace) (a : List ℕ) (b : Bool) (h : Held) → b ≡ not w.has_valid_yaml_ws && ((slice_index a 0 == 45) || is_alpha (slice_index a 0)) → b ≡ false → check_after_tab w (record { rest = a; held = h }) ≡ Ok (record { rest = a; held = h })
+unfolding check_after_tab
 word_apart w a b h e n = let t = rw (e, peek_is a) at n in rw t refl
 
-pub word_behind : (w : Whitespace) (a : List ℕ) (b : Bool) (h : Held) (p : Position) → b ≡ not w.has_valid_yaml_ws && ((slice_index a 0 == 45) || is_alpha (slice_index a 0)) → b ≡ true → p ≡ h.place → check_behind_tab w (record { rest = a; held = h }) ≡ Err (At problem.TabAfterColon p)
-unfolding check_behind_tab
-word_behind w a b h p e n q = let t = rw (e, peek_is a) at n in rw (t, q) refl
+pub word_after : (w : Whitespace) (a : List ℕ) (b : Bool) (h : Held) (p : Position) → b ≡ not w.has_valid_yaml_ws && ((slice_index a 0 == 45) || is_alpha (slice_index a 0)) → b ≡ true → p ≡ h.place → check_after_tab w (record { rest = a; held = h }) ≡ Err (At problem.TabAfterColon p)
+unfolding check_after_tab
+word_after w a b h p e n q = let t = rw (e, peek_is a) at n in rw (t, q) refl
 
 pub dash_apart : (w : Whitespace) (a : List ℕ) (b : Bool) (h : Held) → b ≡ w.found_tabs && (slice_index a 0 == 45) && is_blank_or_breakz (slice_index a 1) → b ≡ false → check_dash w (record { rest = a; held = h }) ≡ Ok (record { rest = a; held = h })
 unfolding check_dash
 dash_apart w a b h e n = let t = rw e at n in rw t refl
 
-pub dash_behind : (w : Whitespace) (a : List ℕ) (b : Bool) (h : Held) (p : Position) → b ≡ w.found_tabs && (slice_index a 0 == 45) && is_blank_or_breakz (slice_index a 1) → b ≡ true → p ≡ h.place → check_dash w (record { rest = a; held = h }) ≡ Err (At problem.TabAfterDash p)
+pub dash_after : (w : Whitespace) (a : List ℕ) (b : Bool) (h : Held) (p : Position) → b ≡ w.found_tabs && (slice_index a 0 == 45) && is_blank_or_breakz (slice_index a 1) → b ≡ true → p ≡ h.place → check_dash w (record { rest = a; held = h }) ≡ Err (At problem.TabAfterDash p)
 unfolding check_dash
-dash_behind w a b h p e n q = let t = rw e at n in rw (t, q) refl
+dash_after w a b h p e n q = let t = rw e at n in rw (t, q) refl
 
 pub value_spaced : (a : List ℕ) (c : ℕ) (h : Held) → c ≡ slice_index a 0 → c ≢ 9 → check_value_space (record { rest = a; held = h }) ≡ Ok (record { rest = a; held = h })
 unfolding check_value_space
 value_spaced a c h e n = let t : (peek a == 9) ≡ false = rw (← peek_is a, ← e) (ne_eqb c 9 n) in rw t refl
 
-pub value_behind_tab : (a : List ℕ) (c : ℕ) (h : Held) → c ≡ slice_index a 0 → c ≡ 9 → check_value_space (record { rest = a; held = h }) ≡ pass_tab (record { rest = a; held = h })
+pub value_after_tab : (a : List ℕ) (c : ℕ) (h : Held) → c ≡ slice_index a 0 → c ≡ 9 → check_value_space (record { rest = a; held = h }) ≡ pass_tab (record { rest = a; held = h })
 unfolding check_value_space
-value_behind_tab a c h e n = let t : (peek a == 9) ≡ true = rw (← peek_is a, ← e, n) refl in rw t refl
+value_after_tab a c h e n = let t : (peek a == 9) ≡ true = rw (← peek_is a, ← e, n) refl in rw t refl
 
 pub entry_here : (a : List ℕ) (c : ℕ) (b : Bool) (h : Held) → c ≡ slice_index a 0 → b ≡ is_break c || is_flow c → b ≡ false → entry_level (record { rest = a; held = h }) ≡ Ok (record { rest = a; held = h })
 unfolding roll_entry
@@ -113,12 +113,12 @@ pub entry_apart : (a : List ℕ) (c : ℕ) (b : Bool) (h u : Held) → c ≡ sli
 unfolding roll_entry
 entry_apart a c b h u e f n q = let t : is_break (peek a) || is_flow (peek a) ≡ true = rw (← peek_is a, ← e, ← f) n in rw (t, q) refl
 
--- behind a look at the next character
+-- after a look at the next character
 pub looked : {T : Type 0} (x : Fetcher T) (w : Reading T) → SamePlace x.window w → held (record x { window = w }) ≡ held x
 looked x w same = ap (λ p. record (held x) { place = p }) (same_place _ _ same)
 
-pub behind_look : (f : State → Result State Fault) (a b : List ℕ) (h u : Held) → b ≡ a → u ≡ h → f (record { rest = b; held = h }) ≡ Ok (record { rest = b; held = h }) → f (record { rest = a; held = h }) ≡ Ok (record { rest = b; held = u })
-behind_look f a b h u i e p = rw (← i, e) p
+pub after_look : (f : State → Result State Fault) (a b : List ℕ) (h u : Held) → b ≡ a → u ≡ h → f (record { rest = b; held = h }) ≡ Ok (record { rest = b; held = h }) → f (record { rest = a; held = h }) ≡ Ok (record { rest = b; held = u })
+after_look f a b h u i e p = rw (← i, e) p
 
 pub before_look : (f : State → Result State Fault) (a b : List ℕ) (h : Held) (r : Result State Fault) → b ≡ a → f (record { rest = b; held = h }) ≡ r → f (record { rest = a; held = h }) ≡ r
 before_look f a b h r i p = rw (← i) p

@@ -25,13 +25,13 @@ use Rattle.yaml_scanner.proofs.DoesLemmas.{Reads-along, Reads-map, fails_held}
 use Rattle.yaml_chars.proofs.ReadingLemmas.{Reads-then}
 use Rattle.yaml_scanner.proofs.FetchLemmas.{peek_first, does_as, fails_as, sees_map}
 
--- a refusal behind steps that look at characters
+-- a refusal after steps that look at characters
 pub fails_from : {T : Type 0} {f h : State → Result State Fault} (x0 x1 y : Fetcher T) (e : Fault) → y.window ≡ x1.window → Does f x0 x1 → ((a b : List ℕ) → f (state a x0) ≡ Ok (state b x1) → h (state a x0) ≡ Err e) → Fails h x0 y e
 fails_from x0 x1 y e w d both = record { runs = Reads-along _ _ _ _ refl w (Reads-map _ _ d.runs (λ a b p n. both a b p)) }
 
-pub fails_behind : {T : Type 0} {f k h : State → Result State Fault} (x0 y1 x2 y2 y : Fetcher T) (e : Fault) → x2.window ≡ y1.window → y.window ≡ y2.window → Does f x0 y1 → Does k x2 y2
+pub fails_after : {T : Type 0} {f k h : State → Result State Fault} (x0 y1 x2 y2 y : Fetcher T) (e : Fault) → x2.window ≡ y1.window → y.window ≡ y2.window → Does f x0 y1 → Does k x2 y2
     → ((a b d : List ℕ) → f (state a x0) ≡ Ok (state b y1) → k (state b x2) ≡ Ok (state d y2) → h (state a x0) ≡ Err e) → Fails h x0 y e
-fails_behind x0 y1 x2 y2 y e v w d1 d2 both = record { runs = Reads-along _ _ _ _ refl w (Reads-then _ _ _ d1.runs (Reads-along _ _ _ _ (sym v) refl d2.runs) (λ a b d p q n. both a b d p q)) }
+fails_after x0 y1 x2 y2 y e v w d1 d2 both = record { runs = Reads-along _ _ _ _ refl w (Reads-then _ _ _ d1.runs (Reads-along _ _ _ _ (sym v) refl d2.runs) (λ a b d p q n. both a b d p q)) }
 
 -- a step of a known class
 
@@ -162,9 +162,9 @@ first_held : (a : List ℕ) (h : Held) (m : Position) (col : ℕ) → m ≡ h.pl
 unfolding fetch_content
 first_held a h m col e f g = let t : (h.place.col == 0) ≡ true = rw (← e, ← f, g) refl in rw t refl
 
-behind_held : (a : List ℕ) (h : Held) (m : Position) (col : ℕ) → m ≡ h.place → col ≡ m.col → col ≢ 0 → fetch_content (record { rest = a; held = h }) ≡ fetch_indented (record { rest = a; held = h })
+after_held : (a : List ℕ) (h : Held) (m : Position) (col : ℕ) → m ≡ h.place → col ≡ m.col → col ≢ 0 → fetch_content (record { rest = a; held = h }) ≡ fetch_indented (record { rest = a; held = h })
 unfolding fetch_content
-behind_held a h m col e f g = let t : (h.place.col == 0) ≡ false = rw (← e, ← f) (is_not col 0 g) in rw t refl
+after_held a h m col e f g = let t : (h.place.col == 0) ≡ false = rw (← e, ← f) (is_not col 0 g) in rw t refl
 
 pub left_of_block : {T : Type 0} (x : Fetcher T) (m : Position) (col i : ℕ) → m ≡ (held x).place → col ≡ m.col → i ≡ (held x).indent → col + 1 < i → Fails fetch_indented x x (At problem.InvalidIndentation m)
 left_of_block x m col i e f g h = fails_held x x _ refl (λ a n. left_held a (held x) m col i e f g h)
@@ -175,8 +175,8 @@ in_block x m col i e f g h = record { sees = λ w p. in_held _ (held x) m col i 
 pub at_first : {T : Type 0} (x : Fetcher T) (m : Position) (col : ℕ) → m ≡ (held x).place → col ≡ m.col → col ≡ 0 → Sees x.window (λ a. fetch_content (state a x) ≡ fetch_first_column (state a x))
 at_first x m col e f g = record { sees = λ w p. first_held _ (held x) m col e f g }
 
-pub behind_first : {T : Type 0} (x : Fetcher T) (m : Position) (col : ℕ) → m ≡ (held x).place → col ≡ m.col → col ≢ 0 → Sees x.window (λ a. fetch_content (state a x) ≡ fetch_indented (state a x))
-behind_first x m col e f g = record { sees = λ w p. behind_held _ (held x) m col e f g }
+pub after_first : {T : Type 0} (x : Fetcher T) (m : Position) (col : ℕ) → m ≡ (held x).place → col ≡ m.col → col ≢ 0 → Sees x.window (λ a. fetch_content (state a x) ≡ fetch_indented (state a x))
+after_first x m col e f g = record { sees = λ w p. after_held _ (held x) m col e f g }
 
 pub at_percent : {T : Type 0} (x : Fetcher T) (c : ℕ) → Sees x.window (λ a. c ≡ slice_index a 0) → c ≡ 37 → Sees x.window (λ a. fetch_first_column (state a x) ≡ fetch_directive (state a x))
 unfolding fetch_first_column

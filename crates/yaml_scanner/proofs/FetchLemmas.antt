@@ -13,7 +13,7 @@ use Rattle.model_lexers.specs.declared.context.Whitespace.{Whitespace}
 use Rattle.model_lexers.specs.Space.{space}
 use Rattle.model_scanner.specs.State.{Held, State, peek, in_flow}
 use Rattle.model_scanner.specs.Space.{skip_spaces}
-use Rattle.model_scanner.specs.Document.{fetch_document_marker, check_document_end, fetch_document_end, context, quoted_style, adjacent_here, may_follow_quoted, check_behind_quoted, fetch_flow_scalar}
+use Rattle.model_scanner.specs.Document.{fetch_document_marker, check_document_end, fetch_document_end, context, quoted_style, adjacent_here, may_follow_quoted, check_after_quoted, fetch_flow_scalar}
 use Rattle.yaml_chars.specs.Class.{is_breakz}
 use Rattle.defs_token.specs.Token.{Tok, Style}
 use Rattle.model_lexers.specs.declared.context.Context.{Context}
@@ -42,7 +42,7 @@ pub fails_as : {T X : Type 0} (f h : State → Result State Fault) (x y : Fetche
 fails_as f h x y (Ok v) same d = tt
 fails_as f h x y (Err e) same d = record { runs = Reads-saw _ _ same d.runs (λ a b p q n. p ∙ q n) }
 
--- and also behind a look at what comes
+-- and also after a look at what comes
 pub does_after : {T X : Type 0} (f : State → Result State Fault) (x0 x1 y : Fetcher T) (r : Result X Fault) → Reads x0.window x1.window (λ a b. b ≡ a) → held x1 ≡ held x0 → OnOk r (Does f x1 y) → OnOk r (Does f x0 y)
 does_after f x0 x1 y (Ok v) look e d = record { runs = Reads-then _ _ _ look d.runs (λ a b d p q. rw (← p, ← e) q) }
 does_after f x0 x1 y (Err x) look e d = tt
@@ -61,21 +61,21 @@ unfolding skip_spaces
 spaces_failed tabs a h p x e f = let f' = rw e at f in rw f' refl
 
 pub may_follow : (line : ℕ) (a b : List ℕ) (h u : Held) (m : Position) (c : ℕ) (flow same fits : Bool) → skip_spaces Yes (record { rest = a; held = h }) ≡ Ok (record { rest = b; held = u }) → c ≡ slice_index b 0 → m ≡ u.place → same ≡ (line == m.line) → flow ≡ in_flow u
-    → fits ≡ may_follow_quoted flow same c → fits ≡ true → check_behind_quoted line (record { rest = a; held = h }) ≡ Ok (record { rest = b; held = u })
-unfolding check_behind_quoted
+    → fits ≡ may_follow_quoted flow same c → fits ≡ true → check_after_quoted line (record { rest = a; held = h }) ≡ Ok (record { rest = b; held = u })
+unfolding check_after_quoted
 may_follow line a b h u m c flow same fits e f g i j k l =
     let at : may_follow_quoted (in_flow u) (line == u.place.line) (peek b) ≡ true = rw (peek_first b, ← f, ← j, ← g, ← i, ← k) l in
     rw (e, at) refl
 
 pub may_not_follow : (line : ℕ) (a b : List ℕ) (h u : Held) (m : Position) (c : ℕ) (flow same fits : Bool) → skip_spaces Yes (record { rest = a; held = h }) ≡ Ok (record { rest = b; held = u }) → c ≡ slice_index b 0 → m ≡ u.place → same ≡ (line == m.line) → flow ≡ in_flow u
-    → fits ≡ may_follow_quoted flow same c → fits ≡ false → check_behind_quoted line (record { rest = a; held = h }) ≡ Err (At problem.ContentAfterQuoted m)
-unfolding check_behind_quoted
+    → fits ≡ may_follow_quoted flow same c → fits ≡ false → check_after_quoted line (record { rest = a; held = h }) ≡ Err (At problem.ContentAfterQuoted m)
+unfolding check_after_quoted
 may_not_follow line a b h u m c flow same fits e f g i j k l =
     let at : may_follow_quoted (in_flow u) (line == u.place.line) (peek b) ≡ false = rw (peek_first b, ← f, ← j, ← g, ← i, ← k) l in
     rw (e, at, g) refl
 
-pub nothing_follows : (line : ℕ) (a : List ℕ) (h : Held) (x : Fault) → skip_spaces Yes (record { rest = a; held = h }) ≡ Err x → check_behind_quoted line (record { rest = a; held = h }) ≡ Err x
-unfolding check_behind_quoted
+pub nothing_follows : (line : ℕ) (a : List ℕ) (h : Held) (x : Fault) → skip_spaces Yes (record { rest = a; held = h }) ≡ Err x → check_after_quoted line (record { rest = a; held = h }) ≡ Err x
+unfolding check_after_quoted
 nothing_follows line a h x e = rw e refl
 
 -- `&&` is from the left in the model
@@ -117,16 +117,16 @@ held_same x y w same e = ap held e ∙ ap (λ p. record (held x) { place = p }) 
 
 -- quoted scalars
 
-pub quoted_ended : (line : ℕ) (a b d : List ℕ) (h u v w : Held) (n : ℕ) → check_behind_quoted line (record { rest = a; held = h }) ≡ Ok (record { rest = b; held = u })
+pub quoted_ended : (line : ℕ) (a b d : List ℕ) (h u v w : Held) (n : ℕ) → check_after_quoted line (record { rest = a; held = h }) ≡ Ok (record { rest = b; held = u })
     → skip_to_next_token (record { rest = b; held = u }) ≡ Ok (record { rest = d; held = v }) → n ≡ v.place.index → w ≡ record v { adjacent_value_at = n } → end_quoted line (record { rest = a; held = h }) ≡ Ok (record { rest = d; held = w })
 unfolding end_quoted
 quoted_ended line a b d h u v w n e f g i = rw (e, f, i, g) refl
 
-pub quoted_followed : (line : ℕ) (a : List ℕ) (h : Held) (x : Fault) → check_behind_quoted line (record { rest = a; held = h }) ≡ Err x → end_quoted line (record { rest = a; held = h }) ≡ Err x
+pub quoted_followed : (line : ℕ) (a : List ℕ) (h : Held) (x : Fault) → check_after_quoted line (record { rest = a; held = h }) ≡ Err x → end_quoted line (record { rest = a; held = h }) ≡ Err x
 unfolding end_quoted
 quoted_followed line a h x e = rw e refl
 
-pub quoted_not_ended : (line : ℕ) (a b : List ℕ) (h u : Held) (x : Fault) → check_behind_quoted line (record { rest = a; held = h }) ≡ Ok (record { rest = b; held = u }) → skip_to_next_token (record { rest = b; held = u }) ≡ Err x
+pub quoted_not_ended : (line : ℕ) (a b : List ℕ) (h u : Held) (x : Fault) → check_after_quoted line (record { rest = a; held = h }) ≡ Ok (record { rest = b; held = u }) → skip_to_next_token (record { rest = b; held = u }) ≡ Err x
     → end_quoted line (record { rest = a; held = h }) ≡ Err x
 unfolding end_quoted
 quoted_not_ended line a b h u x e f = rw (e, f) refl
@@ -180,18 +180,18 @@ pub document_ended : (a b d : List ℕ) (h u v : Held) (c : ℕ) (t : Bool) → 
 unfolding fetch_document_end check_document_end
 document_ended a b d h u v c t e f g i j = let k : is_breakz (peek d) ≡ true = rw (peek_first d, ← g, ← i) j in rw (e, f, k) refl
 
-pub content_behind : (a b d : List ℕ) (h u v : Held) (c : ℕ) (t : Bool) (m : Position) → fetch_document_marker Tok.document_end (record { rest = a; held = h }) ≡ Ok (record { rest = b; held = u }) → skip_spaces Yes (record { rest = b; held = u }) ≡ Ok (record { rest = d; held = v })
+pub content_after : (a b d : List ℕ) (h u v : Held) (c : ℕ) (t : Bool) (m : Position) → fetch_document_marker Tok.document_end (record { rest = a; held = h }) ≡ Ok (record { rest = b; held = u }) → skip_spaces Yes (record { rest = b; held = u }) ≡ Ok (record { rest = d; held = v })
     → c ≡ slice_index d 0 → t ≡ is_breakz c → t ≡ false → m ≡ v.place → fetch_document_end (record { rest = a; held = h }) ≡ Err (At problem.ContentAfterDocumentEnd m)
 unfolding fetch_document_end check_document_end
-content_behind a b d h u v c t m e f g i j n = let k : is_breakz (peek d) ≡ false = rw (peek_first d, ← g, ← i) j in rw (e, f, k, n) refl
+content_after a b d h u v c t m e f g i j n = let k : is_breakz (peek d) ≡ false = rw (peek_first d, ← g, ← i) j in rw (e, f, k, n) refl
 
 pub not_marked_end : (a : List ℕ) (h : Held) (x : Fault) → fetch_document_marker Tok.document_end (record { rest = a; held = h }) ≡ Err x → fetch_document_end (record { rest = a; held = h }) ≡ Err x
 unfolding fetch_document_end
 not_marked_end a h x e = rw e refl
 
-pub no_space_behind : (a b : List ℕ) (h u : Held) (x : Fault) → fetch_document_marker Tok.document_end (record { rest = a; held = h }) ≡ Ok (record { rest = b; held = u }) → skip_spaces Yes (record { rest = b; held = u }) ≡ Err x → fetch_document_end (record { rest = a; held = h }) ≡ Err x
+pub no_space_after : (a b : List ℕ) (h u : Held) (x : Fault) → fetch_document_marker Tok.document_end (record { rest = a; held = h }) ≡ Ok (record { rest = b; held = u }) → skip_spaces Yes (record { rest = b; held = u }) ≡ Err x → fetch_document_end (record { rest = a; held = h }) ≡ Err x
 unfolding fetch_document_end
-no_space_behind a b h u x e f = rw (e, f) refl
+no_space_after a b h u x e f = rw (e, f) refl
 
 pub Reads-both : {T : Type 0} {P : List ℕ → List ℕ → Type 0} {Q : List ℕ → Type 0} (old new : Reading T) → Reads old new P → Sees new Q → Reads old new (λ a b. P a b × Q b)
 Reads-both old new run sight = Reads-see old new run sight (λ a b p q. (p, q))

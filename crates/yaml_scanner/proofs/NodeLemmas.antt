@@ -14,7 +14,7 @@ use Rattle.yaml_chars.specs.Reading.{Reading, after_line, place_of}
 use Rattle.yaml_tokens.specs.declared.problem.Fault.TheVariants.{At}
 use Rattle.yaml_tokens.specs.declared.problem.Problem.TheVariants as problem
 use Rattle.model_scanner.specs.Keys.{has_required, cleared}
-use Rattle.model_scanner.specs.State.{Key, Held, in_flow, push, behind}
+use Rattle.model_scanner.specs.State.{Key, Held, in_flow, push, after}
 use Rattle.model_lexers.specs.Machine.{past}
 use Rattle.model_scanner.specs.Keys.{save_simple_key, remove_simple_key}
 use Rattle.model_scanner.specs.Indents.{unroll_indent, unroll_non_block_indents}
@@ -81,7 +81,7 @@ pub block_failed : (literal : Bool) (a : List ℕ) (h u v : Held) (n : ℕ) (q :
 unfolding fetch_block_scalar
 block_failed literal a h u v n q y e i k l f = let i' = rw e at i in let f' = rw (k, i', l) at f in rw f' refl
 
-pub marked : (t : Tok) (a b : List ℕ) (h u v w : Held) (m : Position) → begin_line h ≡ Ok u → behind (behind (behind a)) ≡ b → v ≡ record u { place = past (past (past u.place)); leading = false } → m ≡ h.place → w ≡ push m t v
+pub marked : (t : Tok) (a b : List ℕ) (h u v w : Held) (m : Position) → begin_line h ≡ Ok u → after (after (after a)) ≡ b → v ≡ record u { place = past (past (past u.place)); leading = false } → m ≡ h.place → w ≡ push m t v
     → fetch_document_marker t (record { rest = a; held = h }) ≡ Ok (record { rest = b; held = w })
 unfolding fetch_document_marker
 marked t a b h u v w m e f i n g = let g' = rw (i, n) at g in rw (e, f, g') refl

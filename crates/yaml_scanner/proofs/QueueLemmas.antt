@@ -62,11 +62,11 @@ has_end_append (t ∷ ts) us = or_of (is_end t.tok) (has_end (ts ++ us)) (has_en
     or_of true b c d e = refl
     or_of false b c d e = e
 
--- the end still waits behind a push
+-- the end still waits after a push
 pub push_keeps : (w v : List Token) (t : Token) → v ≡ w ++ t ∷ [] → has_end (map shown w) ≡ true → has_end (map shown v) ≡ true
 push_keeps w v t e h = rw (e, map-append shown w (t ∷ []), has_end_append (map shown w) (map shown (t ∷ [])), h) refl
 
--- and behind an insertion
+-- and after an insertion
 pub insert_keeps : (w v : List Token) (i : ℕ) (t : Token) → v ≡ insert w i t → has_end (map shown w) ≡ true → has_end (map shown v) ≡ true
 insert_keeps w v i t e h =
     let parts : has_end (map shown (take i w)) || has_end (map shown (drop i w)) ≡ true =
@@ -84,21 +84,21 @@ end_waits w v t p end e =
     let last : is_end (tok_of t.1) ≡ true = ap (λ (s : seen.Token). is_end s.tok) end in
     rw (e, map-append shown w (t ∷ []), has_end_append (map shown w) (map shown (t ∷ [])), last) (or_true (has_end (map shown w)))
 
-last_behind : (xs : List seen.Token) (y : seen.Token) (ys : List seen.Token) → last_property (xs ++ y ∷ ys) ≡ last_property (y ∷ ys)
-last_behind [] y ys = refl
-last_behind (x ∷ []) y ys = refl
-last_behind (x ∷ z ∷ xs) y ys = last_behind (z ∷ xs) y ys
+last_after : (xs : List seen.Token) (y : seen.Token) (ys : List seen.Token) → last_property (xs ++ y ∷ ys) ≡ last_property (y ∷ ys)
+last_after [] y ys = refl
+last_after (x ∷ []) y ys = refl
+last_after (x ∷ z ∷ xs) y ys = last_after (z ∷ xs) y ys
 
--- a token behind all is the last
+-- a token after all is the last
 pub push_last : (g w v : List Token) (t : Token) → v ≡ w ++ t ∷ [] → property_place (shown t).tok (shown t).place ≡ last_property (map shown g ++ map shown v)
-push_last g w v t e = sym (ap last_property (push_shown g w v t e) ∙ last_behind (map shown g ++ map shown w) (shown t) [])
+push_last g w v t e = sym (ap last_property (push_shown g w v t e) ∙ last_after (map shown g ++ map shown w) (shown t) [])
 
-behind_last : (xs zs : List seen.Token) (x y : seen.Token) (ys : List seen.Token) → zs ≡ y ∷ ys → last_property (xs ++ x ∷ zs) ≡ last_property (xs ++ zs)
-behind_last xs zs x y ys e = rw e (last_behind xs x (y ∷ ys) ∙ sym (last_behind xs y ys))
+after_last : (xs zs : List seen.Token) (x y : seen.Token) (ys : List seen.Token) → zs ≡ y ∷ ys → last_property (xs ++ x ∷ zs) ≡ last_property (xs ++ zs)
+after_last xs zs x y ys e = rw e (last_after xs x (y ∷ ys) ∙ sym (last_after xs y ys))
 
 insert_by : (xs zs : List seen.Token) (x : seen.Token) → 0 < length zs → last_property (xs ++ x ∷ zs) ≡ last_property (xs ++ zs)
 insert_by xs [] x h = absurd (omega arith)
-insert_by xs (y ∷ ys) x h = behind_last xs (y ∷ ys) x y ys refl
+insert_by xs (y ∷ ys) x h = after_last xs (y ∷ ys) x y ys refl
 
 -- a token before others leaves the last one
 pub insert_last : (g w v : List Token) (i : ℕ) (t : Token) → v ≡ insert w i t → i < length w → last_property (map shown g ++ map shown v) ≡ last_property (map shown g ++ map shown w)
@@ -116,6 +116,6 @@ give_last g h w v t e f = ap last_property (sym (give_shown g h w v t e f))
 pub end_last : (g w v : List Token) (t : Token) (p : Position) → shown t ≡ end_at p → v ≡ w ++ t ∷ [] → ◌≡◌ {A = Option Position} None (last_property (map shown g ++ map shown v))
 end_last g w v t p end e = ap (λ (s : seen.Token). property_place s.tok s.place) (sym end) ∙ push_last g w v t e
 
--- a place behind all is the end
+-- a place after all is the end
 pub insert_end : (w v : List Token) (i : ℕ) (t : Token) → i ≡ length w → v ≡ insert w i t → v ≡ w ++ t ∷ []
 insert_end w v i t e f = f ∙ rw (take_all i w (omega arith), drop_all i w (omega arith)) refl

@@ -10,7 +10,7 @@ use Rattle.model_lexers.specs.Space as lex
 use Rattle.model_scanner.specs.State.{Held, in_flow, moved}
 use Rattle.model_scanner.specs.Space.{between, comment, tab_line, is_before_indent, skip, white}
 
--- behind a line break
+-- after a line break
 abbrev broken : Held → Position → Held
 broken h p = record h { place = p; leading = true; key_allowed = not (in_flow h) || h.key_allowed }
 
@@ -150,7 +150,7 @@ gap_end (d ∷ a) c h e i t k j =
     let j' : (d == 35) ≡ false = rw (← e) j in
     rw (i', t', k', j') refl
 
--- ---- behind a `?`
+-- ---- after a `?`
 
 pub white_cr : (f : Bool) (a b : List ℕ) (c d : ℕ) (h : Held) (p : Position) → (c == 13) && (d == 10) ≡ true → read_to a (past_break (past h.place)) ≡ read_to b p
     → white false f (c ∷ d ∷ a) h ≡ white false true b (broken h p)

@@ -8,7 +8,7 @@ use Rattle.model_scanner.specs.State.{Held, State, ◌>>=◌, push, on_held, try
 use Rattle.model_scanner.specs.Keys.{remove_simple_key}
 use Rattle.model_scanner.specs.Space.{skip_spaces, skip_yaml_whitespace}
 use Rattle.model_scanner.specs.Flow.{allow_key}
-use Rattle.model_scanner.specs.Block.{check_dash, roll_entry, check_behind_tab}
+use Rattle.model_scanner.specs.Block.{check_dash, roll_entry, check_after_tab}
 
 -- after a `-` that was passed
 abbrev pub pass_dash : State → Result State Fault
@@ -33,4 +33,4 @@ pass_key t = skip_yaml_whitespace (skip_indicator t)
 
 -- after the spaces and TABs of a `:`
 abbrev pub pass_tab : State → Result State Fault
-pass_tab t = lexed (space Yes t.rest t.held.place) t.held check_behind_tab
+pass_tab t = lexed (space Yes t.rest t.held.place) t.held check_after_tab

@@ -7,12 +7,12 @@ use Rattle.model_scanner.specs.declared.class.Class.{Class}
 use Rattle.model_scanner.specs.declared.class.Class.TheVariants as class
 use Rattle.model_scanner.specs.State.{State, ◌>>=◌, in_flow, on_held}
 use Rattle.model_scanner.specs.Space.{skip_to_next_token}
-use Rattle.model_scanner.specs.Document.{adjacent_here, check_behind_quoted, fetch_block_scalar, fetch_flow_scalar, fetch_plain_scalar}
+use Rattle.model_scanner.specs.Document.{adjacent_here, check_after_quoted, fetch_block_scalar, fetch_flow_scalar, fetch_plain_scalar}
 
 -- what stands after a quoted scalar that began on a line
 unfoldable pub end_quoted : ℕ → State → Result State Fault
 end_quoted line t =
-    check_behind_quoted line t >>= λ u.
+    check_after_quoted line t >>= λ u.
     skip_to_next_token u >>= λ v.
     Ok (on_held adjacent_here v)
 

@@ -6,7 +6,7 @@ ghost use Rattle.yaml_tokens.specs.Shown.{tok_of};
 ghost use Rattle.model_scanner.specs.State.{put};
 ghost use Rattle.model_scanner.specs.Keys.{top_key};
 ghost use Rattle.model_scanner.specs.Space.{skip_spaces};
-ghost use Rattle.model_scanner.specs.Block.{at_margin, last_property, check_block_entry, check_dash, fetch_block_entry, keyed, begin_key, check_key_space, fetch_key, check_behind_tab, check_value_space, opens_pair, paired, begin_pair, insert_key, begin_keyless_pair, begin_keyless_mapping, begin_keyless_value, value_of, fetch_value};
+ghost use Rattle.model_scanner.specs.Block.{at_margin, last_property, check_block_entry, check_dash, fetch_block_entry, keyed, begin_key, check_key_space, fetch_key, check_after_tab, check_value_space, opens_pair, paired, begin_pair, insert_key, begin_keyless_pair, begin_keyless_mapping, begin_keyless_value, value_of, fetch_value};
 ghost use Rattle.yaml_scanner.specs.Blocks.{pass_dash, entry_level, begin_entry, pass_key, pass_tab};
 ghost use Rattle.yaml_scanner.specs.Shape.{held, Does, Fails};
 ghost use Rattle.yaml_scanner.specs.SimpleKeys.{keyed_by};
@@ -289,24 +289,24 @@ impl<T: Iterator<Item = char>> Fetcher<T> {
         ensures moves { OnOk result (Moves self.old self.new 0 0) }
     {
         let found = self.skip_spaces(SkipTabs::Yes)?;
-        self.check_behind_tab(found)?;
+        self.check_after_tab(found)?;
         Ok(())
     }
 
     /// Refuses TABs alone between a `:` and a word or a `-`.
-    fn check_behind_tab(&self, found: Whitespace) -> Result<(), Fault>
+    fn check_after_tab(&self, found: Whitespace) -> Result<(), Fault>
         requires { 0 < self.now.window.ahead }
-        ensures ok { OnOk result (Does (check_behind_tab found) self.now self.now) }
-        ensures fault { IfErr result (λ e. Fails (check_behind_tab found) self.now self.now e) }
+        ensures ok { OnOk result (Does (check_after_tab found) self.now self.now) }
+        ensures fault { IfErr result (λ e. Fails (check_after_tab found) self.now self.now e) }
     {
-        if self.is_word_behind_tab(found) {
+        if self.is_word_after_tab(found) {
             return Err(Fault::At(Problem::TabAfterColon, self.window.mark()));
         }
         Ok(())
     }
 
     /// Whether no space was found, and a word or a `-` comes.
-    fn is_word_behind_tab(&self, found: Whitespace) -> bool
+    fn is_word_after_tab(&self, found: Whitespace) -> bool
         requires { 0 < self.now.window.ahead }
         ensures { Sees self.now.window (λ a. result ≡ (not found.has_valid_yaml_ws && ((slice_index a 0 == 45) || is_alpha (slice_index a 0)))) }
     {

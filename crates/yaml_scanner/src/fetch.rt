@@ -1,11 +1,11 @@
 //! The next token, by its first characters.
 ghost use Rattle.std.specs.Prelude.{◌≡◌, ◌≢◌, ◌≤◌, ◌<◌, ◌==◌, ◌&&◌, ℕ, List, OnOk, IfErr, Ok, Err, true, false, slice_index};
 ghost use Rattle.yaml_chars.specs.Reading.{HasChar, Reads, Sees};
-ghost use Rattle.model_scanner.specs.State.{behind};
+ghost use Rattle.model_scanner.specs.State.{after};
 ghost use Rattle.model_lexers.specs.Machine.{past};
 ghost use Rattle.yaml_tokens.specs.Shown.{tok_of};
 ghost use Rattle.model_scanner.specs.Space.{skip_spaces};
-ghost use Rattle.model_scanner.specs.Document.{begin_stream, fetch_stream_end, fetch_document_marker, fetch_document_end, begin_line, context, may_follow_quoted, check_behind_quoted, fetch_directive, fetch_anchor, fetch_tag, fetch_block_scalar, fetch_flow_scalar, fetch_plain_scalar};
+ghost use Rattle.model_scanner.specs.Document.{begin_stream, fetch_stream_end, fetch_document_marker, fetch_document_end, begin_line, context, may_follow_quoted, check_after_quoted, fetch_directive, fetch_anchor, fetch_tag, fetch_block_scalar, fetch_flow_scalar, fetch_plain_scalar};
 ghost use Rattle.model_scanner.specs.Fetch.{comes_marker, is_value, token_by, fetch_token, fetch_indented, fetch_first_column, fetch_content, fetch_here, fetch_next, fetch};
 ghost use Rattle.yaml_scanner.specs.Shape.{held, state, Does, Fails};
 ghost use Rattle.yaml_scanner.specs.Steps.{end_quoted, fetch_bar, scalar_by};
@@ -342,7 +342,7 @@ impl<T: Iterator<Item = char>> Fetcher<T> {
         requires ahead { 3 ≤ self.old.window.ahead }
         requires has { HasChars 3 self.old.window }
         ensures held { held self.new ≡ record (held self.old) { place = past (past (past (held self.old).place)); leading = false } }
-        ensures reads { Reads self.old.window self.new.window (λ a b. behind (behind (behind a)) ≡ b) }
+        ensures reads { Reads self.old.window self.new.window (λ a b. after (after (after a)) ≡ b) }
         ensures moves { Moves self.old self.new 0 8 }
     {
         self.window.skip();
@@ -476,7 +476,7 @@ impl<T: Iterator<Item = char>> Fetcher<T> {
         ensures fails { IfErr result (λ e. Fails (end_quoted line) self.old self.new e) }
         ensures moves { Moves self.old self.new 0 0 }
     {
-        self.check_behind_quoted(line)?;
+        self.check_after_quoted(line)?;
         self.skip_to_next_token()?;
         let here = self.window.mark().index();
         self.adjacent_value_at = here;
@@ -484,9 +484,9 @@ impl<T: Iterator<Item = char>> Fetcher<T> {
     }
 
     /// What may stand after a quoted scalar that began on a line.
-    fn check_behind_quoted(&mut self, line: usize) -> Result<(), Fault>
-        ensures does { OnOk result (Does (check_behind_quoted line) self.old self.new) }
-        ensures fails { IfErr result (λ e. Fails (check_behind_quoted line) self.old self.new e) }
+    fn check_after_quoted(&mut self, line: usize) -> Result<(), Fault>
+        ensures does { OnOk result (Does (check_after_quoted line) self.old self.new) }
+        ensures fails { IfErr result (λ e. Fails (check_after_quoted line) self.old self.new e) }
         ensures moves { Moves self.old self.new 0 0 }
     {
         self.pass_spaces(SkipTabs::Yes)?;

@@ -60,7 +60,7 @@ impl<T: Iterator<Item = char>> Fetcher<T> {
         ensures left { OnOk result (work self.new ≤ work self.old) }
         ensures some { OnOk result (self.new.tokens.ended ≡ false → 0 < waiting self.new.tokens) }
         ensures front { OnOk result (self.new.tokens.ended ≡ false → list_any is_front self.new.keys ≡ false) }
-        ensures behind { self.old.tokens.ended ≡ true → (result ≡ Ok tt) × (self.new ≡ self.old) }
+        ensures after { self.old.tokens.ended ≡ true → (result ≡ Ok tt) × (self.new ≡ self.old) }
         ensures ok { OnOk result (Follows self.new) }
         ensures err { IfErr result (λ e. (mark : Position) → Follows (record self.new { kept = Some (record { fault = e; mark = mark }) })) }
     {

@@ -157,7 +157,7 @@ impl<T: Iterator<Item = char>> Fetcher<T> {
         Ok(())
     }
 
-    /// A level that opens no collection goes before one at its column or behind that.
+    /// A level that opens no collection goes before one at its column or after that.
     fn drop_open_level(&mut self, col: usize)
         requires { col < 2 ^ 63 }
         ensures held { held self.new ≡ drop_open_level col (held self.old) }

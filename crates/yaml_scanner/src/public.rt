@@ -81,7 +81,7 @@ impl<T: Iterator<Item = char>> Scanner<T> {
         ensures ok { OnOk result (((scanned self.old).fault ≡ None) × ((scanned self.new).fault ≡ None)) }
         ensures less { OnOk result ((scanned self.old).stopped ≡ false → (scanned self.new).left < (scanned self.old).left) }
         ensures err { IfErr result (λ e. (scanned self.new).fault ≡ Some e) }
-        ensures behind { (scanned self.old).fault ≡ None → (scanned self.old).stopped ≡ true → (result ≡ Ok tt) × (self.new ≡ self.old) }
+        ensures after { (scanned self.old).fault ≡ None → (scanned self.old).stopped ≡ true → (result ≡ Ok tt) × (self.new ≡ self.old) }
         ensures again { IfSome (scanned self.old).fault (λ f. result ≡ Err f) }
         ensures scans { Scans (scanned self.new) }
         ensures start { self.new.start ≡ self.old.start }
@@ -111,7 +111,7 @@ impl<T: Iterator<Item = char>> Scanner<T> {
         ensures ready { OnOk result ((scanned self.new).stopped ≡ false → 0 < (scanned self.new).waiting) }
         ensures ok { OnOk result (((scanned self.old).fault ≡ None) × ((scanned self.new).fault ≡ None)) }
         ensures err { IfErr result (λ e. (scanned self.new).fault ≡ Some e) }
-        ensures behind { (scanned self.old).fault ≡ None → (scanned self.old).stopped ≡ true → (result ≡ Ok tt) × (self.new ≡ self.old) }
+        ensures after { (scanned self.old).fault ≡ None → (scanned self.old).stopped ≡ true → (result ≡ Ok tt) × (self.new ≡ self.old) }
         ensures again { IfSome (scanned self.old).fault (λ f. result ≡ Err f) }
         ensures scans { Scans (scanned self.new) }
         ensures start { self.new.start ≡ self.old.start }

@@ -39,7 +39,7 @@ lefts_push (k ∷ ks) l = omega (arith, lefts_push ks l)
 
 -- ---- a level is opened
 
--- the level before and behind its scalars, the one inside it, and the open ones before and after
+-- the level before and after its scalars, the one inside it, and the open ones before and after
 module _ (l m i : Level) (ls ms : List Level) (v : Tree) (p : ms ≡ ls ++ m ∷ []) where
   pub opened_leads : (t : Tree) → Leads t ls (source_tree l.source) → source_tree m.source ≡ source_tree l.source → IsFilled m (v ∷ []) → source_tree i.source ≡ v
       → Leads t ms (source_tree i.source)

@@ -13,7 +13,7 @@ use Rattle.defs_tree.specs.Grammar.{is_among}
 use Rattle.defs_tree.specs.Tree.{Tree, string, integer, real, boolean, null}
 use Rattle.defs_tree.specs.Typing.{typing, rows, where_true, is_digit, is_sign, is_point, is_plus, is_minus, number, signed_number, fits_i64, after_prefix, is_decimal, null_words, true_words, false_words, special_words}
 use Rattle.defs_tree.proofs.DecimalReading.{begins_in, reads_exponent, reads_on, reads_unsigned, is_decimal-read}
-use Rattle.defs_tree.proofs.GrammarLaws.{behind_all}
+use Rattle.defs_tree.proofs.GrammarLaws.{after_all}
 use Rattle.defs_tree.proofs.TypingLaws.{strings_exactly}
 use Rattle.yaml_tree.specs.Values.{begins_value, begins_word}
 use Rattle.yaml_tree.proofs.WideTexts.{low, low_bytes, typing-wide}
@@ -49,8 +49,8 @@ module _ (c : ℕ) (cs : List ℕ) (plain : begins_value c ≡ false) where
   not_among [] h = refl
   not_among (w ∷ ws) h = let parts = and_parts (tells w) (list_all tells ws) h in (λ i. not_word w parts.0 i || not_among ws parts.1 i)
 
-  no_behind : (base d : ℕ) (ds : List ℕ) → begins_value d ≡ true → option_map integer (option_and_then (signed_number base) (after_prefix (d ∷ ds) (c ∷ cs))) ≡ None
-  no_behind base d ds e = ap (λ b. option_map integer (option_and_then (signed_number base) (if b then after_prefix ds cs else None))) (other d e)
+  no_after : (base d : ℕ) (ds : List ℕ) → begins_value d ≡ true → option_map integer (option_and_then (signed_number base) (after_prefix (d ∷ ds) (c ∷ cs))) ≡ None
+  no_after base d ds e = ap (λ b. option_map integer (option_and_then (signed_number base) (if b then after_prefix ds cs else None))) (other d e)
 
   no_digit : is_ascii_digit c ≡ false → is_digit 10 c ≡ false
   no_digit e = grind (arith, nat_tests)
@@ -66,8 +66,8 @@ module _ (c : ℕ) (cs : List ℕ) (plain : begins_value c ≡ false) where
   no_decimal e s p =
       is_decimal-read (c ∷ cs)
       ∙ ap (λ b. reads_unsigned (if b then cs else c ∷ cs)) s
-      ∙ ap (λ b. reads_on b (if b then behind_all is_ascii_digit cs else c ∷ cs)) e
-      ∙ ap (λ b. if b then begins_in is_ascii_digit cs && reads_exponent (behind_all is_ascii_digit cs) else false) p
+      ∙ ap (λ b. reads_on b (if b then after_all is_ascii_digit cs else c ∷ cs)) e
+      ∙ ap (λ b. if b then begins_in is_ascii_digit cs && reads_exponent (after_all is_ascii_digit cs) else false) p
 
   no_row : (b : Bool) (u : Tree) → b ≡ false → where_true b u ≡ None
   no_row b u e = ap (λ x. where_true x u) e
@@ -77,9 +77,9 @@ module _ (c : ℕ) (cs : List ℕ) (plain : begins_value c ≡ false) where
       let ds = neither (is_ascii_digit c) (is_sign c || (is_point c || begins_word c)) plain in
       let ss = neither (is_sign c) (is_point c || begins_word c) ds.1 in
       let ps = neither (is_point c) (begins_word c) ss.1 in
-      let f = no_behind 16 48 (codes "x") refl in
-      let g = no_behind 8 48 (codes "o") refl in
-      let h = no_behind 10 43 [] refl in
+      let f = no_after 16 48 (codes "x") refl in
+      let g = no_after 8 48 (codes "o") refl in
+      let h = no_after 10 43 [] refl in
       let n = not_among null_words refl in
       let t = not_among true_words refl in
       let u = not_among false_words refl in

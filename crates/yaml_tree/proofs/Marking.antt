@@ -72,7 +72,7 @@ kept_marks_rise (Many b) ps a marked = entries_rise (joined b.value) ps marked a
 
 -- ---- the ranks that marks leave for a key
 
--- keys before these ranks are lower than the key, those behind are higher; those at them have its number
+-- keys before these ranks are lower than the key, those after are higher; those at them have its number
 pub record AreLeft (m : Tree → ℕ) (k : Tree) (rs : List ℕ) (ps : Pairs) (rank count : ℕ) : Type 0 where
   pub within : rank + count ≤ length rs
   pub above : (r : ℕ) → r < rank → key_cmp m k (key_of_rank rs ps r) ≡ Greater

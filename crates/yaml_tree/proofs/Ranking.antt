@@ -344,8 +344,8 @@ ranked_added {m} rs ps r k v a gap = record {
     key_here : (s : ℕ) → s ≡ r → key_of_rank (insert rs r (length rs)) (ps ++ (k, v) ∷ []) s ≡ k
     key_here s e = ap (key_at (ps ++ (k, v) ∷ [])) (here s e) ∙ key_append_end ps k v (length rs) a.counted
 
-    key_behind : (s : ℕ) → r ≤ s → s < length rs → key_of_rank (insert rs r (length rs)) (ps ++ (k, v) ∷ []) (suc s) ≡ key_of_rank rs ps s
-    key_behind s l h = ap (key_at (ps ++ (k, v) ∷ [])) (beyond s l) ∙ key_append_left ps ((k, v) ∷ []) (get_or rs s 0) (a.within s h)
+    key_after : (s : ℕ) → r ≤ s → s < length rs → key_of_rank (insert rs r (length rs)) (ps ++ (k, v) ∷ []) (suc s) ≡ key_of_rank rs ps s
+    key_after s l h = ap (key_at (ps ++ (k, v) ∷ [])) (beyond s l) ∙ key_append_left ps ((k, v) ∷ []) (get_or rs s 0) (a.within s h)
 
     rises : (s t : ℕ) → s < t → t < length (insert rs r (length rs)) → (s < r) ⊎ ((s ≡ r) ⊎ (r < s)) → (t < r) ⊎ ((t ≡ r) ⊎ (r < t))
         → key_cmp m (key_of_rank (insert rs r (length rs)) (ps ++ (k, v) ∷ []) s) (key_of_rank (insert rs r (length rs)) (ps ++ (k, v) ∷ []) t) ≡ Less
@@ -353,16 +353,16 @@ ranked_added {m} rs ps r k v a gap = record {
     rises s t l h (inl f) (inr (inl e)) = both m _ _ _ _ (key_before s f) (key_here t e) (greater_less m k (key_of_rank rs ps s) (gap.above s f))
     rises s zero l h f (inr (inr g)) = absurd (omega arith)
     rises s (suc t) l h (inl f) (inr (inr g)) =
-        both m _ _ _ _ (key_before s f) (key_behind t (omega arith) (omega (arith, more))) (a.ascending s t (omega arith) (omega (arith, more)))
+        both m _ _ _ _ (key_before s f) (key_after t (omega arith) (omega (arith, more))) (a.ascending s t (omega arith) (omega (arith, more)))
     rises s t l h (inr (inl e)) (inl g) = absurd (omega arith)
     rises s t l h (inr (inl e)) (inr (inl f)) = absurd (omega arith)
     rises s (suc t) l h (inr (inl e)) (inr (inr g)) =
-        both m _ _ _ _ (key_here s e) (key_behind t (omega arith) (omega (arith, more))) (gap.below t (omega arith) (omega (arith, more)))
+        both m _ _ _ _ (key_here s e) (key_after t (omega arith) (omega (arith, more))) (gap.below t (omega arith) (omega (arith, more)))
     rises s t l h (inr (inr f)) (inl g) = absurd (omega arith)
     rises s t l h (inr (inr f)) (inr (inl g)) = absurd (omega arith)
     rises zero (suc t) l h (inr (inr f)) (inr (inr g)) = absurd (omega arith)
     rises (suc s) (suc t) l h (inr (inr f)) (inr (inr g)) =
-        both m _ _ _ _ (key_behind s (omega arith) (omega (arith, more))) (key_behind t (omega arith) (omega (arith, more)))
+        both m _ _ _ _ (key_after s (omega arith) (omega (arith, more))) (key_after t (omega arith) (omega (arith, more)))
         (a.ascending s t (omega arith) (omega (arith, more)))
 
 -- ---- a key that has a rank, and one that has none

@@ -17,26 +17,26 @@ use Rattle.std.specs.Option.{option_or}
 use Rattle.std.specs.Str.{chars, IsAscii}
 use Rattle.std.proofs.lemmas.Str.{chars-IsAscii}
 use Rattle.defs_tree.specs.Typing.{is_digit, is_plus, is_minus, number, signed_number, fits_i64, after_prefix, is_decimal, typing, rows, by_rows, where_true, special_words}
-use Rattle.defs_tree.proofs.GrammarLaws.{behind_all}
+use Rattle.defs_tree.proofs.GrammarLaws.{after_all}
 use Rattle.defs_tree.proofs.DecimalReading.{begins_in, reads_decimal, is_decimal-read}
 
 -- ---- digits
 
-all_behind : (p : ℕ → Bool) (t : List ℕ) → list_all p t ≡ is_empty (behind_all p t)
-all_behind p [] = refl
-all_behind p (c ∷ cs) = by (p c) (all_behind p cs)
+all_after : (p : ℕ → Bool) (t : List ℕ) → list_all p t ≡ is_empty (after_all p t)
+all_after p [] = refl
+all_after p (c ∷ cs) = by (p c) (all_after p cs)
   where
-    by : (b : Bool) → list_all p cs ≡ is_empty (behind_all p cs) → (b && list_all p cs) ≡ is_empty (if b then behind_all p cs else c ∷ cs)
+    by : (b : Bool) → list_all p cs ≡ is_empty (after_all p cs) → (b && list_all p cs) ≡ is_empty (if b then after_all p cs else c ∷ cs)
     by true e = e
     by false e = refl
 
--- digits alone, where a digit stands first and nothing stands behind the digits
-pub digits_only : (t : List ℕ) → at_least_one is_ascii_digit t ≡ (begins_in is_ascii_digit t && is_empty (behind_all is_ascii_digit t))
+-- digits alone, where a digit stands first and nothing stands after the digits
+pub digits_only : (t : List ℕ) → at_least_one is_ascii_digit t ≡ (begins_in is_ascii_digit t && is_empty (after_all is_ascii_digit t))
 digits_only [] = refl
-digits_only (c ∷ cs) = by (is_ascii_digit c) (all_behind is_ascii_digit cs)
+digits_only (c ∷ cs) = by (is_ascii_digit c) (all_after is_ascii_digit cs)
   where
-    by : (b : Bool) → list_all is_ascii_digit cs ≡ is_empty (behind_all is_ascii_digit cs)
-        → (b && list_all is_ascii_digit cs) ≡ (b && is_empty (if b then behind_all is_ascii_digit cs else c ∷ cs))
+    by : (b : Bool) → list_all is_ascii_digit cs ≡ is_empty (after_all is_ascii_digit cs)
+        → (b && list_all is_ascii_digit cs) ≡ (b && is_empty (if b then after_all is_ascii_digit cs else c ∷ cs))
     by true e = e
     by false e = refl
 
@@ -121,32 +121,32 @@ pub parsed_signed : {E : Type 0} (base : ℕ) (t : List ℕ) (r : Result ℤ E) 
 parsed_signed base [] r h = parsed base [] (pos 0) r h
 parsed_signed base (c ∷ cs) r h = by_sign base c cs r (is_plus c) (is_minus c) (plus_no_minus c) h
 
--- ---- what stands behind a beginning
+-- ---- what stands after a beginning
 
-pub behind_it : (p t : List ℕ) → after_prefix p (p ++ t) ≡ Some t
-behind_it [] t = refl
-behind_it (x ∷ p) t = ap (λ b. if b then after_prefix p (p ++ t) else None) (same x) ∙ behind_it p t
+pub after_it : (p t : List ℕ) → after_prefix p (p ++ t) ≡ Some t
+after_it [] t = refl
+after_it (x ∷ p) t = ap (λ b. if b then after_prefix p (p ++ t) else None) (same x) ∙ after_it p t
   where
     same : (x : ℕ) → (x == x) ≡ true
     same x = grind (arith, nat_tests)
 
-behind_none : (p t : List ℕ) → ((rest : List ℕ) → t ≢ p ++ rest) → after_prefix p t ≡ None
-behind_none [] t h = absurd (h t refl)
-behind_none (x ∷ p) [] h = refl
-behind_none (x ∷ p) (c ∷ cs) h = by (x == c) refl (λ e. behind_none p cs (λ rest f. h rest (λ i. e i ∷ f i)))
+after_none : (p t : List ℕ) → ((rest : List ℕ) → t ≢ p ++ rest) → after_prefix p t ≡ None
+after_none [] t h = absurd (h t refl)
+after_none (x ∷ p) [] h = refl
+after_none (x ∷ p) (c ∷ cs) h = by (x == c) refl (λ e. after_none p cs (λ rest f. h rest (λ i. e i ∷ f i)))
   where
     by : (b : Bool) → (x == c) ≡ b → (c ≡ x → after_prefix p cs ≡ None) → (if b then after_prefix p cs else None) ≡ None
     by true e f = f (grind (arith, nat_tests))
     by false e f = refl
 
-pub lacks_behind : (p t : List ℕ) → LacksTextAt p t 0 → after_prefix p t ≡ None
-lacks_behind p t h = behind_none p t (λ rest e. h rest (drop_none t ∙ e))
+pub lacks_after : (p t : List ℕ) → LacksTextAt p t 0 → after_prefix p t ≡ None
+lacks_after p t h = after_none p t (λ rest e. h rest (drop_none t ∙ e))
   where
     drop_none : (t : List ℕ) → drop 0 t ≡ t
     drop_none t = refl
 
-pub strips_behind : (p t x : List ℕ) → StripsPrefix (FindsTextPrefix p) t x → after_prefix p t ≡ Some x
-strips_behind p t x h = ap (after_prefix p) (h.1.1 ∙ ap (λ u. p ++ u) (sym h.2)) ∙ behind_it p x
+pub strips_after : (p t x : List ℕ) → StripsPrefix (FindsTextPrefix p) t x → after_prefix p t ≡ Some x
+strips_after p t x h = ap (after_prefix p) (h.1.1 ∙ ap (λ u. p ++ u) (sym h.2)) ∙ after_it p x
 
 -- ---- the table in two parts: what keeps no text, and what does
 

@@ -63,12 +63,12 @@ no_signed base h (c ∷ cs) w = by (is_plus c) (is_minus c) refl refl
 no_integer : (base : ℕ) → base ≤ 36 → (t : List ℕ) → Wide t → signed_number base t ≡ None
 no_integer base h t w = ap (option_and_then (λ z. if fits_i64 z then Some z else None)) (no_signed base h t w)
 
-none_behind : (base : ℕ) → base ≤ 36 → (p t : List ℕ) → low p ≡ true → Wide t → option_and_then (signed_number base) (after_prefix p t) ≡ None
-none_behind base h [] t l w = no_integer base h t w
-none_behind base h (x ∷ p) [] l w = refl
-none_behind base h (x ∷ p) (c ∷ cs) l w =
+none_after : (base : ℕ) → base ≤ 36 → (p t : List ℕ) → low p ≡ true → Wide t → option_and_then (signed_number base) (after_prefix p t) ≡ None
+none_after base h [] t l w = no_integer base h t w
+none_after base h (x ∷ p) [] l w = refl
+none_after base h (x ∷ p) (c ∷ cs) l w =
     let parts = and_parts (nat_lt x 128) (low p) l in
-    by (x == c) refl (λ e. none_behind base h p cs parts.1 (wide_tail c cs (grind (arith, nat_tests)) w))
+    by (x == c) refl (λ e. none_after base h p cs parts.1 (wide_tail c cs (grind (arith, nat_tests)) w))
   where
     by : (b : Bool) → (x == c) ≡ b → (x ≡ c → option_and_then (signed_number base) (after_prefix p cs) ≡ None) → option_and_then (signed_number base) (if b then after_prefix p cs else None) ≡ None
     by true e f = f (grind (arith, nat_tests))
@@ -101,9 +101,9 @@ fits_no_row t w =
     let h16 : 16 ≤ 36 = omega arith in
     let h8 : 8 ≤ 36 = omega arith in
     let h10 : 10 ≤ 36 = omega arith in
-    let a = integer_none (option_and_then (signed_number 16) (after_prefix (codes "0x") t)) (none_behind 16 h16 (codes "0x") t refl w) in
-    let b = integer_none (option_and_then (signed_number 8) (after_prefix (codes "0o") t)) (none_behind 8 h8 (codes "0o") t refl w) in
-    let c = integer_none (option_and_then (signed_number 10) (after_prefix (codes "+") t)) (none_behind 10 h10 (codes "+") t refl w) in
+    let a = integer_none (option_and_then (signed_number 16) (after_prefix (codes "0x") t)) (none_after 16 h16 (codes "0x") t refl w) in
+    let b = integer_none (option_and_then (signed_number 8) (after_prefix (codes "0o") t)) (none_after 8 h8 (codes "0o") t refl w) in
+    let c = integer_none (option_and_then (signed_number 10) (after_prefix (codes "+") t)) (none_after 10 h10 (codes "+") t refl w) in
     let d = not_among null_words t refl w in
     let e = not_among true_words t refl w in
     let f = not_among false_words t refl w in

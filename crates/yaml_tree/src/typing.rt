@@ -2,7 +2,7 @@
 ghost use Rattle.std.specs.Prelude.{◌≡◌, ◌≤◌, ◌||◌, true, IfOk, OnErr, option_map, option_and_then, map, chars};
 ghost use Rattle.defs_tree.specs.Grammar.{is_among, at_least_one};
 ghost use Rattle.defs_tree.specs.Typing.{after_prefix, signed_number, typing, is_string, is_sign, is_decimal, special_words, null_words, true_words, false_words};
-ghost use Rattle.defs_tree.proofs.GrammarLaws.{behind_all, behind_one};
+ghost use Rattle.defs_tree.proofs.GrammarLaws.{after_all, after_one};
 ghost use Rattle.defs_tree.proofs.DecimalReading.{begins_in, reads_exponent, reads_on, reads_decimal};
 ghost use Rattle.std.specs.Char.{is_ascii_digit};
 ghost use Rattle.defs_text.specs.Text.{string_chars};
@@ -105,13 +105,13 @@ fn begins_value(first: u8) -> bool
 fn value_of(text: &str) -> Option<Meaning>
     ensures { option_map (λ m. meant m text.now) result ≡ value_row text.now }
 {
-    if let Some(number) = number_behind("0x", text, 16) {
+    if let Some(number) = number_after("0x", text, 16) {
         return Some(Meaning::Integer(number));
     }
-    if let Some(number) = number_behind("0o", text, 8) {
+    if let Some(number) = number_after("0o", text, 8) {
         return Some(Meaning::Integer(number));
     }
-    if let Some(number) = number_behind("+", text, 10) {
+    if let Some(number) = number_after("+", text, 10) {
         return Some(Meaning::Integer(number));
     }
     if is_null(text) {
@@ -163,7 +163,7 @@ fn is_among(words: &[&str], text: &str) -> bool
     false
 }
 
-fn number_behind(prefix: &str, text: &str, base: u32) -> Option<i64>
+fn number_after(prefix: &str, text: &str, base: u32) -> Option<i64>
     requires at_least { 2 ≤ base }
     requires at_most { base ≤ 36 }
     ensures { result ≡ option_and_then (signed_number base) (after_prefix prefix.now text.now) }
@@ -182,9 +182,9 @@ fn number_in(text: &str, base: u32) -> Option<i64>
 fn is_decimal(text: &[u8]) -> bool
     ensures { result ≡ reads_decimal text.now }
 {
-    let text = behind_sign(text);
+    let text = after_sign(text);
     let has_digits = begins_with_digit(text);
-    is_rest_of_decimal(has_digits, behind_digits(text))
+    is_rest_of_decimal(has_digits, after_digits(text))
 }
 
 // What follows the first digits, where there were any or none.
@@ -194,7 +194,7 @@ fn is_rest_of_decimal(has_digits: bool, text: &[u8]) -> bool
     match text {
         [] => has_digits,
         [b'.', rest @ ..] => (has_digits || begins_with_digit(rest))
-            && is_exponent(behind_digits(rest)),
+            && is_exponent(after_digits(rest)),
         _ => has_digits && is_exponent(text),
     }
 }
@@ -205,7 +205,7 @@ fn is_exponent(text: &[u8]) -> bool
 {
     match text {
         [] => true,
-        [b'e' | b'E', rest @ ..] => are_digits(behind_sign(rest)),
+        [b'e' | b'E', rest @ ..] => are_digits(after_sign(rest)),
         _ => false,
     }
 }
@@ -214,7 +214,7 @@ fn is_exponent(text: &[u8]) -> bool
 fn are_digits(text: &[u8]) -> bool
     ensures { result ≡ at_least_one is_ascii_digit text.now }
 {
-    match behind_digits(text) {
+    match after_digits(text) {
         [] => begins_with_digit(text),
         _ => false,
     }
@@ -229,8 +229,8 @@ fn begins_with_digit(text: &[u8]) -> bool
     }
 }
 
-fn behind_sign(text: &[u8]) -> &[u8]
-    ensures { result.now ≡ behind_one is_sign text.now }
+fn after_sign(text: &[u8]) -> &[u8]
+    ensures { result.now ≡ after_one is_sign text.now }
 {
     match text {
         [b'+' | b'-', rest @ ..] => rest,
@@ -238,8 +238,8 @@ fn behind_sign(text: &[u8]) -> &[u8]
     }
 }
 
-fn behind_digits(text: &[u8]) -> &[u8]
-    ensures { result.now ≡ behind_all is_ascii_digit text.now }
+fn after_digits(text: &[u8]) -> &[u8]
+    ensures { result.now ≡ after_all is_ascii_digit text.now }
 {
     let mut rest = text;
     while let [first, after @ ..] = rest {

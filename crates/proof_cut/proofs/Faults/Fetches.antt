@@ -10,7 +10,7 @@ use Rattle.defs_scalar.specs.BlockScalar.{literal, folded, BlockStyle}
 use Rattle.model_lexers.specs.Machine.{Read}
 use Rattle.model_lexers.specs.Block.{Block, Header, block}
 use Rattle.model_scanner.specs.declared.level.FlowLevel.TheVariants.{Mapping, Entry}
-use Rattle.model_scanner.specs.State.{Held, State, peek, behind, in_flow, on_held}
+use Rattle.model_scanner.specs.State.{Held, State, peek, after, in_flow, on_held}
 use Rattle.model_scanner.specs.Class.{class_of}
 use Rattle.model_scanner.specs.Flow.{allow_key}
 use Rattle.model_scanner.specs.Indents.{unroll_indent, unroll_non_block_indents}
@@ -50,18 +50,18 @@ same_fault e = cc
 other_by : (f : Fault) (p : Position) (why : Fault) → IsOther why → ◌≡◌ {A = Result (Read Header) Fault} (Err f) (Err why) → IsOther f
 other_by f p why is e = ap is_shown (same_fault e) ∙ is
 
-header_other : (p : Position) (style : BlockStyle) (line behind : List ℕ) (f : Fault) → headers.EndsAs p style line behind (Err f) → IsOther f
-header_other p style line behind f (headers.reads h is no_tab e) = absurd (cc e)
-header_other p style line behind f (headers.tabbed h is tab e) = other_by f p _ refl e
-header_other p style line behind f (headers.zero_digit is zero e) = other_by f p _ refl e
-header_other p style line behind f (headers.comment h before text is was cut e) = other_by f p _ refl e
-header_other p style line behind f (headers.no_header is e) = other_by f p _ refl e
+header_other : (p : Position) (style : BlockStyle) (line after : List ℕ) (f : Fault) → headers.EndsAs p style line after (Err f) → IsOther f
+header_other p style line after f (headers.reads h is no_tab e) = absurd (cc e)
+header_other p style line after f (headers.tabbed h is tab e) = other_by f p _ refl e
+header_other p style line after f (headers.zero_digit is zero e) = other_by f p _ refl e
+header_other p style line after f (headers.comment h before text is was cut e) = other_by f p _ refl e
+header_other p style line after f (headers.no_header is e) = other_by f p _ refl e
 
 block_other : (style : BlockStyle) (indent : ℕ) (more : List ℕ) (p : Position) → has_no_nul more ≡ true → Refuses IsOther (block (is_literal style) indent (indicator_of style ∷ more) p)
 block_other style indent more p clean = by (block (is_literal style) indent (indicator_of style ∷ more) p) (block_laws.scans_end style indent more p (some_chars more clean))
   where
     by : (x : Result (Read Block) Fault) → block_ends.EndsAs style indent p more x → Refuses IsOther x
-    by x (block_ends.bad_header line behind f cut in_line ends why e) = rw e (this (header_other p style line behind f why))
+    by x (block_ends.bad_header line after f cut in_line ends why e) = rw e (this (header_other p style line after f why))
     by x (block_ends.scalar piece next b cut is looks (block_scans.read free deep e)) = rw e none
     by x (block_ends.scalar piece next b cut is looks (block_scans.shallow free low e)) = rw e (this refl)
     by x (block_ends.scalar piece next b cut is looks (block_scans.tabbed tab e)) = rw e (this refl)
@@ -84,8 +84,8 @@ module _ (text : List ℕ) (t : State) (nul : has_no_nul text ≡ true) (s : Sta
   plain_told : Refuses (IsTold text) (fetch_plain_scalar t)
   plain_told = plain_scalar_told text t nul s deep some solid
 
-  gap_behind : (c : ℕ) (more : List ℕ) → t.rest ≡ c ∷ more → is_blank_or_breakz (slice_index t.rest 1) ≡ is_at_gap more
-  gap_behind c more e = ap (λ l. is_blank_or_breakz (slice_index l 1)) e ∙ gap_here more
+  gap_after : (c : ℕ) (more : List ℕ) → t.rest ≡ c ∷ more → is_blank_or_breakz (slice_index t.rest 1) ≡ is_at_gap more
+  gap_after c more e = ap (λ l. is_blank_or_breakz (slice_index l 1)) e ∙ gap_here more
 
   block_told : (b : Bool) (more : List ℕ) → t.rest ≡ (if b then 124 else 62) ∷ more → Refuses (IsTold text) (fetch_block_scalar b t)
   block_told b more e = other_told text (block_fetch_other b more t e (clean_more text t (if b then 124 else 62) more e s))
@@ -104,7 +104,7 @@ module _ (text : List ℕ) (t : State) (nul : has_no_nul text ≡ true) (s : Sta
     feed = λ more e. plain_told;
     carriage = λ more e. plain_told;
     hash = λ more e. plain_told;
-    dash = λ more e. chosen (is_blank_or_breakz (slice_index t.rest 1)) (λ g. block_entry_told text t nul s more e (sym (gap_behind 45 more e) ∙ g)) (λ g. plain_told);
+    dash = λ more e. chosen (is_blank_or_breakz (slice_index t.rest 1)) (λ g. block_entry_told text t nul s more e (sym (gap_after 45 more e) ∙ g)) (λ g. plain_told);
     question = λ more e. chosen (is_blank_or_breakz (slice_index t.rest 1)) (λ g. other_told text (key_other t)) (λ g. plain_told);
     colon = λ more e. chosen (is_value t) (λ g. other_told text (value_other t)) (λ g. plain_told);
     comma = λ more e. other_told text (entry_other t);
@@ -142,7 +142,7 @@ content_told : (text : List ℕ) (t : State) → has_no_nul text ≡ true → is
 unfolding fetch_content fetch_first_column
 content_told text t nul some h =
     chosen (t.held.place.col == 0) (λ col.
-    chosen (peek t.rest == 37) (λ e. other_told text (directive_fetch_other t (behind t.rest) (begins_with_this t.rest 37 some e))) (λ _.
+    chosen (peek t.rest == 37) (λ e. other_told text (directive_fetch_other t (after t.rest) (begins_with_this t.rest 37 some e))) (λ _.
     chosen (comes_marker 45 t.rest) (λ e. other_told text (marker_other Tok.document_start t)) (λ _.
     chosen (comes_marker 46 t.rest) (λ e. other_told text (document_end_other t)) (λ _. indented_told text t nul some h)))) (λ _. indented_told text t nul some h)
 

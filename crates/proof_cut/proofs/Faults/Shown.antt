@@ -84,7 +84,7 @@ space_other tabs text p = by (space tabs text p) (spaces_are_passed tabs text p)
     by x (spaces blanks comment rest cut are fills break ends e) = rw e none
     by x (glued begins e) = rw e (this refl)
 
--- spaces, and a step behind them
+-- spaces, and a step after them
 pub spaced_other : (tabs : SkipTabs) (t : State) (go : Whitespace → State → Result State Fault) → ((w : Whitespace) (u : State) → Refuses IsOther (go w u)) → Refuses IsOther (lexed (space tabs t.rest t.held.place) t.held go)
 spaced_other tabs t go h = lexes (space tabs t.rest t.held.place) t.held go (space_other tabs t.rest t.held.place) (λ x e. h x.value (go_on x t.held))
 

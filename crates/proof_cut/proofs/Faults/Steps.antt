@@ -17,7 +17,7 @@ use Rattle.model_scanner.specs.State.{Key, Held, State, peek, in_flow, with_held
 use Rattle.model_scanner.specs.Keys.{has_required, top_key}
 use Rattle.model_scanner.specs.Indents.{unroll_indent, roll_indent}
 use Rattle.model_scanner.specs.Flow.{pass_indicator, ended_flow, end_flow, next_entry, end_entry, fetch_flow_collection_end, fetch_flow_entry}
-use Rattle.model_scanner.specs.Block.{paired, opens_pair, roll_entry, at_margin, check_dash, check_key_space, begin_key, fetch_key, check_behind_tab, check_value_space, begin_pair, insert_key, begin_keyless_mapping, begin_keyless_value, value_of, fetch_value}
+use Rattle.model_scanner.specs.Block.{paired, opens_pair, roll_entry, at_margin, check_dash, check_key_space, begin_key, fetch_key, check_after_tab, check_value_space, begin_pair, insert_key, begin_keyless_mapping, begin_keyless_value, value_of, fetch_value}
 use Rattle.model_scanner.specs.Document.{fetch_stream_end, closed_key, begin_line, fetch_directive, fetch_document_marker, check_document_end, fetch_document_end, node_start, fetch_anchor, fetch_tag}
 use Rattle.proof_lexers.specs.UriEnds.{problem_of}
 use Rattle.proof_lexers.specs.NameEnds as names
@@ -174,8 +174,8 @@ value_of_other (Some k) p pair s = bound (pair_other k p pair _) (λ u e. none)
 value_of_other None p pair s = bound (keyless_other p _) (λ u e. none)
 
 value_space_other : (t : State) → Refuses IsOther (check_value_space t)
-unfolding check_value_space check_behind_tab
-value_space_other t = chosen (peek t.rest == 9) (λ e. spaced_other Yes t check_behind_tab (λ w u. chosen (not w.has_valid_yaml_ws && ((peek u.rest == 45) || is_alpha (peek u.rest))) (λ k. this refl) (λ k. none))) (λ e. none)
+unfolding check_value_space check_after_tab
+value_space_other t = chosen (peek t.rest == 9) (λ e. spaced_other Yes t check_after_tab (λ w u. chosen (not w.has_valid_yaml_ws && ((peek u.rest == 45) || is_alpha (peek u.rest))) (λ k. this refl) (λ k. none))) (λ e. none)
 
 pub value_other : (t : State) → Refuses IsOther (fetch_value t)
 unfolding fetch_value
@@ -193,7 +193,7 @@ pub margin_other : (o : Option Position) (p : Position) (s : Held) → Refuses I
 margin_other None p s = none
 margin_other (Some q) p s = chosen ((p.col == 0) && (q.col == 0) && nat_lt 0 s.indent) (λ e. this refl) (λ e. none)
 
--- behind the check that no flow collection is open
+-- after the check that no flow collection is open
 pub block_entry_other : (t u : State) → Refuses IsOther (entry_from t u)
 block_entry_other t u =
     bound (spaced_other Yes (on_held (roll_indent t.held.place.col None Tok.block_sequence_start t.held.place) (skip_indicator u)) check_dash (λ w v. dash_other w v)) (λ w k.

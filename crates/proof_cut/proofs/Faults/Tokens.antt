@@ -21,7 +21,7 @@ use Rattle.model_scanner.specs.Keys.{save_simple_key}
 use Rattle.model_scanner.specs.Indents.{Levels, without_open, roll_one_col_indent, unroll_non_block_indents}
 use Rattle.model_scanner.specs.Flow.{allow_key, increase_flow_level, deepened_flow, begin_flow, fetch_flow_collection_start}
 use Rattle.model_scanner.specs.Block.{last_property, at_margin, check_block_entry, fetch_block_entry}
-use Rattle.model_scanner.specs.Document.{behind_plain, context, node_start, may_follow_quoted, check_behind_quoted, fetch_flow_scalar, fetch_plain_scalar}
+use Rattle.model_scanner.specs.Document.{after_plain, context, node_start, may_follow_quoted, check_after_quoted, fetch_flow_scalar, fetch_plain_scalar}
 use Rattle.proof_lexers.specs.QuotedEnds as quoted_ends
 use Rattle.proof_lexers.specs.QuotedEnds.{IsBadEscape}
 use Rattle.proof_lexers.proofs.Quoted.ScanEnds.{scans_end}
@@ -39,17 +39,17 @@ use Rattle.proof_cut.proofs.Documents.{whole_text}
 use Rattle.proof_cut.proofs.Faults.Shown.{Refuses, none, this, IsOther, IsTold, bound, chosen, on_holding, lexes, other_told, skip_other, spaces_other}
 use Rattle.proof_cut.proofs.Faults.Steps.{indicator_other, margin_other, block_entry_other}
 
--- where the scanner's model stands is a place behind a row of pieces
+-- where the scanner's model stands is a place after a row of pieces
 pub spot_of : (text : List ℕ) (t : State) → has_no_nul text ≡ true → (s : Stands text t) → IsSpot text t.rest (account_now text t s)
 spot_of text t nul s =
     let x = s.stood in
     record {
       row = x.row;
       filler = x.here.filler;
-      is_text = ap (λ r. spelled x.row r) (sym x.here.is_behind) ∙ x.here.is_text ∙ sym (whole_text text nul);
-      is_row = subst (λ r. IsRow first_account x.row r None) x.here.is_behind (x.here.is_row None);
+      is_text = ap (λ r. spelled x.row r) (sym x.here.is_after) ∙ x.here.is_text ∙ sym (whole_text text nul);
+      is_row = subst (λ r. IsRow first_account x.row r None) x.here.is_after (x.here.is_row None);
       is_filled = x.here.is_filled;
-      is_account = ap (λ r. account_past_filler (account_past_row first_account x.row r) x.here.filler t.rest) (sym x.here.is_behind) ∙ x.here.is_here;
+      is_account = ap (λ r. account_past_filler (account_past_row first_account x.row r) x.here.filler t.rest) (sym x.here.is_after) ∙ x.here.is_here;
     }
 
 module _ (text : List ℕ) (t : State) (nul : has_no_nul text ≡ true) (s : Stands text t) where
@@ -127,15 +127,15 @@ module _ (text : List ℕ) (t : State) (nul : has_no_nul text ≡ true) (s : Sta
       by x (quoted_ends.reads body more value place cut is ends k) = rw k none
       by x (quoted_ends.refuses f why k) = rw k (this (quote_told single ctx rest f e why))
 
-  behind_quote_other : (line : ℕ) (u : State) → Refuses IsOther (check_behind_quoted line u)
-  unfolding check_behind_quoted
-  behind_quote_other line u = bound (spaces_other Yes u) (λ v k. chosen (may_follow_quoted (in_flow v.held) (line == v.held.place.line) (peek v.rest)) (λ l. none) (λ l. this refl))
+  after_quote_other : (line : ℕ) (u : State) → Refuses IsOther (check_after_quoted line u)
+  unfolding check_after_quoted
+  after_quote_other line u = bound (spaces_other Yes u) (λ v k. chosen (may_follow_quoted (in_flow v.held) (line == v.held.place.line) (peek v.rest)) (λ l. none) (λ l. this refl))
 
   pub flow_scalar_told : (single : Bool) (rest : List ℕ) → t.rest ≡ quote_of single ∷ rest → Refuses (IsTold text) (fetch_flow_scalar single t)
   unfolding fetch_flow_scalar
   flow_scalar_told single rest e =
       lexes (quotes.quoted single (context (node_start t.held)) t.rest t.held.place) (node_start t.held) _ (quoted_told single (context (node_start t.held)) rest e) (λ x k.
-      other_told text (bound (behind_quote_other t.held.place.line _) (λ v l. bound (skip_other v) (λ w m. none))))
+      other_told text (bound (after_quote_other t.held.place.line _) (λ v l. bound (skip_other v) (λ w m. none))))
 
   -- ---- plain scalars
 
@@ -180,5 +180,5 @@ module _ (text : List ℕ) (t : State) (nul : has_no_nul text ≡ true) (s : Sta
   unfolding fetch_plain_scalar unroll_non_block_indents
   plain_scalar_told deep some solid =
       subst (λ h. Refuses (IsTold text) (lexed (plains.plain (context (unroll_non_block_indents (allow_key false h))) t.rest t.held.place) (unroll_non_block_indents (allow_key false h))
-      (λ r u. Ok (on_held (λ v. push t.held.place (Tok.scalar Style.plain r.text) (behind_plain r.leading v)) u)))) (sym (saved_is t.held))
+      (λ r u. Ok (on_held (λ v. push t.held.place (Tok.scalar Style.plain r.text) (after_plain r.leading v)) u)))) (sym (saved_is t.held))
       (lexes (plains.plain around t.rest t.held.place) (unroll_non_block_indents (allow_key false (record t.held { keys = saved_keys t.held }))) _ (plain_told deep some solid) (λ x k. none))

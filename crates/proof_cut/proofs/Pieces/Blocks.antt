@@ -24,11 +24,11 @@ use Rattle.proof_lexers.specs.BlockEnds as ends
 use Rattle.proof_lexers.specs.HeaderEnds.{indicator_of}
 use Rattle.proof_lexers.proofs.Blocks.Ends.{scans_end}
 use Rattle.proof_lexers.specs.PlainEnds.{has_no_nul, collection_of}
-use Rattle.proof_lexers.proofs.Separation.EachFiller.{no_nul_behind}
+use Rattle.proof_lexers.proofs.Separation.EachFiller.{no_nul_after}
 use Rattle.proof_cut.specs.PiecesRead.{ReadAs, BlockIsRead}
 use Rattle.proof_cut.proofs.Pieces.Quoted.{some_chars}
 
--- ---- the spaces behind a piece
+-- ---- the spaces after a piece
 
 spaces_of : List ℕ → List ℕ
 spaces_of [] = []
@@ -122,7 +122,7 @@ some_piece collection [] next b h = by (is_at_end next) h
     by false h = cc
 some_piece collection (c ∷ piece) next b h = refl
 
--- behind the last line stands no line feed
+-- after the last line stands no line feed
 outside_no_feed : (n : ℕ) (r : List ℕ) → is_outside n r ≡ true → begins_with 10 r ≡ false
 unfolding is_break
 outside_no_feed zero r h = cc
@@ -233,15 +233,15 @@ module _ (a : Account) (indent : ℕ) (outside : is_in_flow a ≡ false) (column
   by_style style more r all nul e = by (block (is_literal style) indent (indicator_of style ∷ more) a.place) e (scans_end style indent more a.place (some_chars more nul))
     where
       by : (x : Result (Read Block) Fault) → x ≡ Ok r → EndsAs style indent a.place more x → ReadAs a (indicator_of style ∷ more) (token_of style r.value.text) r.value.place r.rest r.place × IsBelow a.place r.place r.rest
-      by x e (bad_header line behind f cut in_line at why k) = absurd (cc (e, k))
+      by x e (bad_header line after f cut in_line at why k) = absurd (cc (e, k))
       by x e (ends.scalar piece next b cut is looks (shallow free low k)) = absurd (cc (e, k))
       by x e (ends.scalar piece next b cut is looks (tabbed tab k)) = absurd (cc (e, k))
       by x e (ends.scalar piece next b cut is looks (read free deep k)) =
           let same : read_block a.place b piece next ≡ r = cc in
-          let none : has_no_nul next ≡ true = no_nul_behind piece next (subst (λ l. has_no_nul l ≡ true) cut all) in
+          let none : has_no_nul next ≡ true = no_nul_after piece next (subst (λ l. has_no_nul l ≡ true) cut all) in
           rw (← same) (found style (indicator_of style ∷ more) piece next b none cut is looks)
 
--- a block scalar that was read is the piece of its token, and behind it spaces were passed
+-- a block scalar that was read is the piece of its token, and after it spaces were passed
 pub block_is_read : BlockIsRead
 unfolding is_nul
 block_is_read a true indent more r nul outside column e = by_style a indent outside column literal more r nul nul e

@@ -12,12 +12,12 @@ use Rattle.defs_token.specs.Account.{Account}
 use Rattle.defs_token.specs.Piece.{IsPiece, IsDirective}
 use Rattle.model_lexers.specs.Machine.{Read}
 use Rattle.model_lexers.specs.Directive.{directive}
-use Rattle.proof_lexers.specs.DirectiveEnds.{token_of, ends_line, first_break, next_line, behind_line, EndsAs, reads, refuses}
+use Rattle.proof_lexers.specs.DirectiveEnds.{token_of, ends_line, first_break, next_line, after_line, EndsAs, reads, refuses}
 use Rattle.proof_lexers.proofs.Directives.Lines.{directives_end}
 use Rattle.proof_lexers.proofs.Separation.Places.{place_append}
 use Rattle.proof_cut.specs.PiecesRead.{ReadAs, is_directive_token, DirectiveIsRead}
 
--- ---- the break behind a directive
+-- ---- the break after a directive
 
 break_cut : (next : List ℕ) → next ≡ first_break next ++ next_line next
 break_cut [] = refl
@@ -70,14 +70,14 @@ percent_in_line : (l : List ℕ) → has_no_break l ≡ true → has_no_break (3
 unfolding is_break
 percent_in_line l h = h
 
--- a directive that was read is the piece of its token, and behind it the break of its line was passed
+-- a directive that was read is the piece of its token, and after it the break of its line was passed
 pub directive_is_read : DirectiveIsRead
 directive_is_read a more r nul column closed e = by (directive (37 ∷ more) a.place) e (directives_end more a.place)
   where
     by : (x : Result (Read Tok) Fault) → x ≡ Ok r → EndsAs a.place more x → ReadAs a (37 ∷ more) r.value a.place r.rest r.place × (is_directive_token r.value ≡ true)
     by x e (refuses line next f cut no_break ends none why k) = absurd (cc (e, k))
     by x e (reads line next d cut no_break ends is k) =
-        let same : behind_line a.place (37 ∷ line) next (token_of d) ≡ r = cc in
+        let same : after_line a.place (37 ∷ line) next (token_of d) ≡ r = cc in
         rw (← same) (
           record {
             first = 37;

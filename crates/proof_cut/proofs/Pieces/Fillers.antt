@@ -1,4 +1,4 @@
--- Fillers, one behind another.
+-- Fillers, one after another.
 use Rattle.std.proofs.Common.{◌≡◌, ℕ, List, [], ◌∷◌, ◌++◌, Bool, true, false, ◌||◌, ◌==◌, not, refl}
 use Rattle.std.proofs.lemmas.Bool.{and_parts, eqb-true}
 use Rattle.defs_text.specs.Classes.{is_blank, is_break, is_nul}

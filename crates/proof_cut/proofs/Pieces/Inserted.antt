@@ -1,4 +1,4 @@
--- What stands behind a row when its key, and the start of its mapping or pair, come before it late.
+-- What stands after a row when its key, and the start of its mapping or pair, come before it late.
 use Rattle.std.proofs.Common.{◌≡◌, ℕ, suc, ◌≤◌, List, [], ◌∷◌, ◌++◌, Bool, true, false, ◌&&◌, ◌||◌, ◌==◌, not, length, Option, Some, None, refl, ap, sym, subst, ◌∙◌, arith, append_assoc}
 use Rattle.std.specs.List.{insert}
 use Rattle.std.proofs.lemmas.Bool.{and_parts, eqb-true}
@@ -17,22 +17,22 @@ use Rattle.defs_token.proofs.Inserted.{bare, empty_token, key_at, mapping_at, wi
 use Rattle.defs_token.proofs.InsertedPair.{with_levels, above, pair_at, pair_inserted}
 use Rattle.proof_lexers.proofs.Separation.Places.{place_append}
 use Rattle.proof_cut.specs.Inside.{inside}
-use Rattle.proof_cut.proofs.Places.{not_before_behind}
+use Rattle.proof_cut.proofs.Places.{not_before_after}
 use Rattle.proof_cut.proofs.Heres.{before_again}
 use Rattle.proof_cut.proofs.Insides.{Stepped, stepped, stays_inside, levels_step, first_of_key}
 
 -- ---- a key
 
--- the account at a token behind its own filler
+-- the account at a token after its own filler
 bare_at : (a : Account) (w : Written) (next : List ℕ) → account_at (account_past_filler a w.filler (w.piece ++ next)) (bare w) next ≡ account_at a w next
 bare_at a w next = ap (λ b. record (account_at a w next) { before = b }) (before_again (before_past a.before w.filler))
 
-pub bare_behind : (a : Account) (w : Written) (ws : List Written) (f : List ℕ) → account_past_row (account_past_filler a w.filler (w.piece ++ spelled ws f)) (bare w ∷ ws) f ≡ account_past_row a (w ∷ ws) f
-bare_behind a w ws f = ap (λ b. account_past_row (account_past_token b w.piece (spelled ws f) w.token.tok) ws f) (bare_at a w (spelled ws f))
+pub bare_after : (a : Account) (w : Written) (ws : List Written) (f : List ℕ) → account_past_row (account_past_filler a w.filler (w.piece ++ spelled ws f)) (bare w ∷ ws) f ≡ account_past_row a (w ∷ ws) f
+bare_after a w ws f = ap (λ b. account_past_row (account_past_token b w.piece (spelled ws f) w.token.tok) ws f) (bare_at a w (spelled ws f))
 
--- the account behind a row with a key before it
-pub key_behind : (a : Account) (w : Written) (ws : List Written) (f : List ℕ) (p : Position) → account_past_row a (empty_token w.filler (key_at p) ∷ bare w ∷ ws) f ≡ account_past_row a (w ∷ ws) f
-key_behind a w ws f p = bare_behind a w ws f
+-- the account after a row with a key before it
+pub key_after : (a : Account) (w : Written) (ws : List Written) (f : List ℕ) (p : Position) → account_past_row a (empty_token w.filler (key_at p) ∷ bare w ∷ ws) f ≡ account_past_row a (w ∷ ws) f
+key_after a w ws f p = bare_after a w ws f
 
 -- ---- other block collections
 
@@ -78,8 +78,8 @@ row_past_with_blocks bs a ns ms (w ∷ ws) f s i =
     ap (λ b. account_past_row b ws f) (past_with_blocks bs a w (spelled ws f) s (first_of_key ns w ws ms i)) ∙ row_past_with_blocks bs (account_past a w (spelled ws f)) z.next ms ws f s z.others
 
 -- block collections with columns stay
-pub blocks_behind : (a : Account) (ns ms : List Level) (ws : List Written) (f : List ℕ) → AreSettled a.blocks → inside ns ws ≡ Some ms → (account_past_row a ws f).blocks ≡ a.blocks
-blocks_behind a ns ms ws f s i = ap (λ (b : Account). b.blocks) (row_past_with_blocks a.blocks a ns ms ws f s i)
+pub blocks_after : (a : Account) (ns ms : List Level) (ws : List Written) (f : List ℕ) → AreSettled a.blocks → inside ns ws ≡ Some ms → (account_past_row a ws f).blocks ≡ a.blocks
+blocks_after a ns ms ws f s i = ap (λ (b : Account). b.blocks) (row_past_with_blocks a.blocks a ns ms ws f s i)
 
 waiting_settled : (bs : List (Option ℕ)) (column : ℕ) (piece : List ℕ) → is_nil piece ≡ false → AreSettled bs → blocks_at (None ∷ bs) column piece ≡ Some column ∷ bs
 waiting_settled bs column [] solid s = cc
@@ -88,11 +88,11 @@ waiting_settled bs column (c ∷ r) solid s = ap (λ l. Some column ∷ l) (s co
 one_more_settled : (bs : List (Option ℕ)) (n : ℕ) → AreSettled bs → AreSettled (Some n ∷ bs)
 one_more_settled bs n s column = ap (λ l. Some n ∷ l) (s column)
 
--- The account behind a row with a mapping's start and a key before it: the mapping is open besides, in the column of the key.
-pub mapping_behind : (a : Account) (w : Written) (ws : List Written) (f : List ℕ) (p q : Position) (ms : List Level) → inside [] (w ∷ ws) ≡ Some ms → is_nil w.piece ≡ false → ((column : ℕ) → settled column a.blocks ≡ a.blocks) →
+-- The account after a row with a mapping's start and a key before it: the mapping is open besides, in the column of the key.
+pub mapping_after : (a : Account) (w : Written) (ws : List Written) (f : List ℕ) (p q : Position) (ms : List Level) → inside [] (w ∷ ws) ≡ Some ms → is_nil w.piece ≡ false → ((column : ℕ) → settled column a.blocks ≡ a.blocks) →
     account_past_row a (empty_token w.filler (mapping_at p) ∷ empty_token [] (key_at q) ∷ bare w ∷ ws) f
     ≡ (let b : Account = account_past_row a (w ∷ ws) f in record b { blocks = Some ((account_at a w (spelled ws f)).place.col) ∷ b.blocks })
-mapping_behind a w ws f p q ms i solid s =
+mapping_after a w ws f p q ms i solid s =
     let next : List ℕ = spelled ws f in
     let before : Account = account_past_filler a w.filler (w.piece ++ next) in
     let bs : List (Option ℕ) = Some before.place.col ∷ a.blocks in
@@ -100,10 +100,10 @@ mapping_behind a w ws f p q ms i solid s =
     let opened : account_past (with_blocks (None ∷ a.blocks) before) (bare w) next ≡ with_blocks bs (account_past before (bare w) next) =
     ap (λ l. record (account_past before (bare w) next) { blocks = blocks_past l w.token.tok }) (waiting_settled a.blocks before.place.col w.piece solid s)
     ∙ ap (λ l. with_blocks l (account_past before (bare w) next)) (key_keeps bs w.token.tok (first_of_key [] w ws ms i)) in
-    key_behind (with_blocks (None ∷ a.blocks) before) (bare w) ws f q ∙ ap (λ b. account_past_row b ws f) opened
+    key_after (with_blocks (None ∷ a.blocks) before) (bare w) ws f q ∙ ap (λ b. account_past_row b ws f) opened
     ∙ row_past_with_blocks bs (account_past before (bare w) next) z.next ms ws f (one_more_settled a.blocks before.place.col s) z.others
-    ∙ ap (with_blocks bs) (bare_behind a w ws f)
-    ∙ ap (λ l. with_blocks (Some before.place.col ∷ l) (account_past_row a (w ∷ ws) f)) (sym (blocks_behind a [] ms (w ∷ ws) f s i))
+    ∙ ap (with_blocks bs) (bare_after a w ws f)
+    ∙ ap (λ l. with_blocks (Some before.place.col ∷ l) (account_past_row a (w ∷ ws) f)) (sym (blocks_after a [] ms (w ∷ ws) f s i))
 
 -- ---- other flow levels
 
@@ -117,21 +117,21 @@ row_past_with_levels ns ms os a (w ∷ ws) f i =
     ap (λ l. account_past_row (with_levels l (account_past a w (spelled ws f))) ws f) (levels_step ns w.piece w.token.tok z.next os z.step)
     ∙ row_past_with_levels z.next ms os (account_past a w (spelled ws f)) ws f z.others
 
--- the levels behind a row in which some are opened
-pub levels_behind : (a : Account) (ns ms os : List Level) (ws : List Written) (f : List ℕ) → inside ns ws ≡ Some ms → a.levels ≡ ns ++ os → (account_past_row a ws f).levels ≡ ms ++ os
-levels_behind a ns ms os ws f i e = ap (λ l. (account_past_row (with_levels l a) ws f).levels) e ∙ ap (λ (b : Account). b.levels) (row_past_with_levels ns ms os a ws f i)
+-- the levels after a row in which some are opened
+pub levels_after : (a : Account) (ns ms os : List Level) (ws : List Written) (f : List ℕ) → inside ns ws ≡ Some ms → a.levels ≡ ns ++ os → (account_past_row a ws f).levels ≡ ms ++ os
+levels_after a ns ms os ws f i e = ap (λ l. (account_past_row (with_levels l a) ws f).levels) e ∙ ap (λ (b : Account). b.levels) (row_past_with_levels ns ms os a ws f i)
 
--- The account behind a row with a pair's start and a key before it: the pair is open besides.
-pub pair_behind : (a : Account) (w : Written) (ws : List Written) (f : List ℕ) (p q : Position) (ls : List Level) → inside [] (w ∷ ws) ≡ Some [] → a.levels ≡ record { kind = sequence; pair = false } ∷ ls →
+-- The account after a row with a pair's start and a key before it: the pair is open besides.
+pub pair_after : (a : Account) (w : Written) (ws : List Written) (f : List ℕ) (p q : Position) (ls : List Level) → inside [] (w ∷ ws) ≡ Some [] → a.levels ≡ record { kind = sequence; pair = false } ∷ ls →
     account_past_row a (empty_token w.filler (pair_at p) ∷ empty_token [] (key_at q) ∷ bare w ∷ ws) f ≡ record (account_past_row a (w ∷ ws) f) { levels = record { kind = sequence; pair = true } ∷ ls }
-pair_behind a w ws f p q ls i e =
+pair_after a w ws f p q ls i e =
     let next : List ℕ = spelled ws f in
     let before : Account = account_past_filler a w.filler (w.piece ++ next) in
     let paired : List Level = record { kind = sequence; pair = true } ∷ ls in
-    key_behind (with_levels (levels_past a.levels [] flow_mapping_start) before) (bare w) ws f q
+    key_after (with_levels (levels_past a.levels [] flow_mapping_start) before) (bare w) ws f q
     ∙ ap (λ l. account_past_row (with_levels (levels_past l [] flow_mapping_start) before) (bare w ∷ ws) f) e
     ∙ row_past_with_levels [] [] paired before (bare w ∷ ws) f i
-    ∙ ap (with_levels paired) (bare_behind a w ws f)
+    ∙ ap (with_levels paired) (bare_after a w ws f)
 
 -- and it is a row
 pub pair_row : (a : Account) (w : Written) (ws : List Written) (f : List ℕ) (last : Option Tok) (p q : Position) (ls ms : List Level) → begins_node (Some (w.token.tok)) ≡ true → inside [] (w ∷ ws) ≡ Some ms →
@@ -188,12 +188,12 @@ two_end p d [] c r n l = let q = and_parts (d == 13) (c == 10) l in absurd (cc (
 two_end p d (e ∷ t) c r n l =
     let q = and_parts (d == 13) (e == 10) l in
     let next : Position = position_past p d (e ∷ (t ++ (c ∷ r))) in
-    let up : p.line ≤ next.line = (not_before_behind p (d ∷ []) (e ∷ (t ++ (c ∷ r)))).0 in
+    let up : p.line ≤ next.line = (not_before_after p (d ∷ []) (e ∷ (t ++ (c ∷ r)))).0 in
     let ended = line_ended next e (t ++ (c ∷ r)) (feed_ends e (t ++ (c ∷ r)) q.1) in
-    let on = (not_before_behind (position_past next e (t ++ (c ∷ r))) t (c ∷ r)).0 in
+    let on = (not_before_after (position_past next e (t ++ (c ∷ r))) t (c ∷ r)).0 in
     omega (arith, up, ended, on)
 
--- a text behind which the line is still the same has no break
+-- a text after which the line is still the same has no break
 pub no_break_on_line : (p : Position) (t : List ℕ) (c : ℕ) (r : List ℕ) → (c == 10) ≡ false → (position_after p t (c ∷ r)).line ≤ p.line → has_no_break t ≡ true
 no_break_on_line p [] c r n h = refl
 no_break_on_line p (d ∷ t) c r n h = by (is_break d) (is_before_line_feed d (t ++ (c ∷ r))) refl refl (λ k. no_break_on_line (position_past p d (t ++ (c ∷ r))) t c r n k)
@@ -202,7 +202,7 @@ no_break_on_line p (d ∷ t) c r n h = by (is_break d) (is_before_line_feed d (t
     next = position_past p d (t ++ (c ∷ r))
 
     on : next.line ≤ (position_after next t (c ∷ r)).line
-    on = (not_before_behind next t (c ∷ r)).0
+    on = (not_before_after next t (c ∷ r)).0
 
     none : {A : Type 0} → suc p.line ≤ (position_after next t (c ∷ r)).line → A
     none k = absurd (omega (arith, h, k))
@@ -212,13 +212,13 @@ no_break_on_line p (d ∷ t) c r n h = by (is_break d) (is_before_line_feed d (t
     by true false e g ih = let ended = line_ended p d (t ++ (c ∷ r)) (rw (e, g) refl) in none (omega (arith, ended, on))
     by true true e g ih = none (two_end p d t c r n g)
 
--- the text of a row, and what stands behind it
+-- the text of a row, and what stands after it
 pub spelled_before : (ws : List Written) (f : List ℕ) → spelled ws f ≡ spelled ws [] ++ f
 spelled_before [] f = refl
 spelled_before (w ∷ ws) f =
     ap (λ t. w.filler ++ (w.piece ++ t)) (spelled_before ws f) ∙ ap (λ t. w.filler ++ t) (sym (append_assoc w.piece (spelled ws []) f)) ∙ sym (append_assoc w.filler (w.piece ++ spelled ws []) f)
 
--- the place behind a row
+-- the place after a row
 pub place_of_row : (a : Account) (ws : List Written) (f : List ℕ) → (account_past_row a ws f).place ≡ position_after a.place (spelled ws []) f
 place_of_row a [] f = refl
 place_of_row a (w ∷ ws) f =
@@ -267,13 +267,13 @@ are_on_line ns ms (w ∷ ws) g r i h =
     colon_line : (t r : List ℕ) → has_no_break t ≡ true → is_in_line (t ++ (58 ∷ r)) ≡ true
     colon_line t r h = in_line_of t 58 r colon_breaks colon_is_solid h
 
--- A row of a key's tokens stands on one line with its colon, where the colon's line is not behind that of the first token.
+-- A row of a key's tokens stands on one line with its colon, where the colon's line is not after that of the first token.
 pub on_line : (a : Account) (w : Written) (ws : List Written) (f g r : List ℕ) (ms : List Level) → inside [] (w ∷ ws) ≡ Some ms → f ≡ g ++ (58 ∷ r)
     → (position_after (account_past_row a (w ∷ ws) f).place g (58 ∷ r)).line ≤ (account_at a w (spelled ws f)).place.line → AreOnLine (w ∷ ws) f
 on_line a w ws f g r ms i cut h =
     let start : Account = account_past_filler a w.filler (w.piece ++ spelled ws f) in
     let row : List ℕ = w.piece ++ spelled ws [] in
-    let end : (account_past_row a (w ∷ ws) f).place ≡ position_after start.place row f = ap (λ (b : Account). b.place) (sym (bare_behind a w ws f)) ∙ place_of_row start (bare w ∷ ws) f in
+    let end : (account_past_row a (w ∷ ws) f).place ≡ position_after start.place row f = ap (λ (b : Account). b.place) (sym (bare_after a w ws f)) ∙ place_of_row start (bare w ∷ ws) f in
     let here : position_after (account_past_row a (w ∷ ws) f).place g (58 ∷ r) ≡ position_after start.place (row ++ g) (58 ∷ r) =
     ap (λ p. position_after p g (58 ∷ r)) (end ∙ ap (position_after start.place row) cut) ∙ sym (place_append start.place row g (58 ∷ r)) in
     let still : (position_after start.place (row ++ g) (58 ∷ r)).line ≤ start.place.line = subst (λ (p : Position). p.line ≤ start.place.line) here h in

@@ -12,7 +12,7 @@ use Rattle.defs_token.specs.Piece.{IsPiece, is_name, goes_on_with_name}
 use Rattle.model_lexers.specs.Machine.{Read}
 use Rattle.model_lexers.specs.Anchor.{anchor_name}
 use Rattle.model_scanner.specs.Document.{anchor_token}
-use Rattle.proof_lexers.specs.NameEnds.{further, behind_name, EndsAs, named, nameless}
+use Rattle.proof_lexers.specs.NameEnds.{further, after_name, EndsAs, named, nameless}
 use Rattle.proof_lexers.proofs.Properties.Names.{names_end}
 use Rattle.proof_lexers.proofs.Separation.Places.{place_in_line}
 use Rattle.proof_cut.specs.PiecesRead.{ReadAs, NameIsRead}
@@ -74,5 +74,5 @@ name_is_read a is_alias more r nul e = by (anchor_name (mark is_alias ∷ more) 
     by : (x : Result (Read (List ℕ)) Fault) → x ≡ Ok r → EndsAs a.place more x → ReadAs a (mark is_alias ∷ more) (anchor_token is_alias r.value) a.place r.rest r.place
     by x e (nameless none k) = absurd (cc (e, k))
     by x e (named name rest cut is ends k) =
-        let same : behind_name a.place name rest ≡ r = cc in
+        let same : after_name a.place name rest ≡ r = cc in
         rw (← same) (found a more name rest is ends is_alias cut)

@@ -17,7 +17,7 @@ use Rattle.model_lexers.specs.Machine.{Read}
 use Rattle.model_lexers.specs.Plain.{Plain, at_dash, starts, plain_from}
 use Rattle.model_lexers.specs.Plain as models
 use Rattle.proof_lexers.proofs.Bridges.{same_flow}
-use Rattle.proof_lexers.specs.PlainEnds.{collection_of, begins_solid, is_white, behind_plain, EndsAs, reads, refuses}
+use Rattle.proof_lexers.specs.PlainEnds.{collection_of, begins_solid, is_white, after_plain, EndsAs, reads, refuses}
 use Rattle.proof_lexers.proofs.Plain.Scalars.{scans_end}
 use Rattle.proof_lexers.proofs.Separation.Places.{place_append}
 use Rattle.proof_cut.specs.PiecesRead.{ReadAs, comes_plain, PlainIsRead}
@@ -114,11 +114,11 @@ module _ (a : Account) (ctx : Context) (text : List ℕ) (r : Read Plain) (flows
   by : (x : Result (Read Plain) Fault) → x ≡ Ok r → EndsAs ctx a.place text x → ReadAs a text (scalar plain r.value.text) a.place r.rest r.place
   by x e (refuses f why is) = absurd (cc (e, is))
   by x e (reads piece gap rest value cut whole white ends is read) =
-      let same : behind_plain a.place piece gap rest value ≡ r = cc in
+      let same : after_plain a.place piece gap rest value ≡ r = cc in
       let here : is_whole_plain (is_in_flow a) (collection_column a) piece (gap ++ rest) ≡ true = rw (flows, column) whole in
       subst (λ (q : Read Plain). ReadAs a text (scalar plain q.value.text) a.place q.rest q.place) same (found piece gap rest value cut here (gap_is_filler gap rest white) is)
 
--- a plain scalar that was read is the piece of its token, and behind it blanks and breaks were passed
+-- a plain scalar that was read is the piece of its token, and after it blanks and breaks were passed
 pub plain_is_read : PlainIsRead
 plain_is_read a ctx text r nul flows column comes indented is =
     let begins : begins_plain (is_in_flow a) (is_adjacent a.before) a.place.col text ≡ true = rw flows (begins_as_read ctx (is_adjacent a.before) text a.place r comes is) in

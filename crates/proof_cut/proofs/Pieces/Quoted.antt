@@ -19,7 +19,7 @@ use Rattle.defs_token.specs.Piece.{IsPiece}
 use Rattle.model_lexers.specs.declared.context.Context.{Context}
 use Rattle.model_lexers.specs.Machine.{Turn, stop, fail, on, turned, Stop, run, Read, past, past_break, is_cr_lf}
 use Rattle.model_lexers.specs.Folding.{nothing, joined}
-use Rattle.model_lexers.specs.Quoted.{Mode, first, inside, gap, breaking, behind, doubled, named, digits, closed, State, Escape, escape_of, is_scalar, quote_of, at_char, at_break, at_gap, at_escaped_break, at_quote, at_backslash, at_inside, at_named, at_digit, refused, unless, in_line, at_line, turn_in, turn, end_in, ended, quoted_from, quoted}
+use Rattle.model_lexers.specs.Quoted.{Mode, first, inside, gap, breaking, after, doubled, named, digits, closed, State, Escape, escape_of, is_scalar, quote_of, at_char, at_break, at_gap, at_escaped_break, at_quote, at_backslash, at_inside, at_named, at_digit, refused, unless, in_line, at_line, turn_in, turn, end_in, ended, quoted_from, quoted}
 use Rattle.model_scanner.specs.Document.{quoted_style}
 use Rattle.proof_lexers.proofs.Bridges.{same_break}
 use Rattle.proof_lexers.specs.QuotedScan.{value_of, ends_before, is_some}
@@ -38,7 +38,7 @@ fits named a = is_break (slice_index a 0) ≡ false
 fits doubled a = (slice_index a 0 == 39) ≡ true
 fits _ a = Unit {0}
 
--- what a turn does at a character: it stays before it, fails, or is behind it
+-- what a turn does at a character: it stays before it, fails, or is after it
 data Goes (p : Position) (c : ℕ) (a : List ℕ) : Turn State Fault → Type 0 where
   stays : (t : State) → t.place ≡ p → Goes p c a (stop t)
   fails : (f : Fault) → Goes p c a (fail f)
@@ -158,8 +158,8 @@ module _ (single : Bool) (ctx : Context) (start : Position) (c : ℕ) (a : List 
       by false e = rw e (fails _)
   digit_goes (suc more) value s h = goes _ (past_char s.place c a h) tt
 
-  behind_goes : (s : State) → is_break c ≡ false → Goes s.place c a (if c == quote_of single then at_quote single a s else at_line single ctx start c a s)
-  behind_goes s h = by (c == quote_of single)
+  after_goes : (s : State) → is_break c ≡ false → Goes s.place c a (if c == quote_of single then at_quote single a s else at_line single ctx start c a s)
+  after_goes s h = by (c == quote_of single)
     where
       by : (quotes : Bool) → Goes s.place c a (if quotes then at_quote single a s else at_line single ctx start c a s)
       by true = quote_goes s h
@@ -177,13 +177,13 @@ module _ (single : Bool) (ctx : Context) (start : Position) (c : ℕ) (a : List 
   turn_goes inside s f = line_goes s
   turn_goes gap s f = gap_or_goes s (at_line single ctx start c a s) (λ e. start_goes s)
   turn_goes breaking s f = escaped_goes s f
-  turn_goes behind s f = gap_or_goes s (if c == quote_of single then at_quote single a s else at_line single ctx start c a s) (λ e. behind_goes s e)
+  turn_goes after s f = gap_or_goes s (if c == quote_of single then at_quote single a s else at_line single ctx start c a s) (λ e. after_goes s e)
   turn_goes doubled s f = char_goes s (quote_is_no_break c f)
   turn_goes named s f = named_goes (escape_of c) s f
   turn_goes (digits more value) s f = hex_goes more value s
   turn_goes closed s f = stays s refl
 
--- What a run passed, and the place behind it.
+-- What a run passed, and the place after it.
 record Went (p : Position) (text rest : List ℕ) (q : Position) : Type 0 where
   passed : List ℕ
   cut : text ≡ passed ++ rest
@@ -213,7 +213,7 @@ module _ (single : Bool) (ctx : Context) (start : Position) where
   closed_at inside rest p text r e = cc
   closed_at gap rest p text r e = cc
   closed_at breaking rest p text r e = cc
-  closed_at behind rest p text r e = cc
+  closed_at after rest p text r e = cc
   closed_at doubled rest p text r e = cc
   closed_at named rest p text r e = cc
   closed_at (digits more value) rest p text r e = cc

@@ -4,12 +4,12 @@ use Rattle.std.proofs.lemmas.Bool.{and_parts, eqb-true}
 use Rattle.defs_token.specs.Token.{Tok}
 use Rattle.yaml_tokens.specs.declared.problem.Fault.{Fault}
 use Rattle.defs_text.specs.Classes.{is_break, is_alpha, is_uri, is_tag, is_decimal_digit, is_letter}
-use Rattle.defs_scalar.specs.Tags.{Tag, all_of, leading, behind, is_same, decoded, tag_by, tag_of_class, verbatim, begins_with_mark, named, shorthand, written_tag}
+use Rattle.defs_scalar.specs.Tags.{Tag, all_of, leading, after, is_same, decoded, tag_by, tag_of_class, verbatim, begins_with_mark, named, shorthand, written_tag}
 use Rattle.defs_text.specs.Breaks.{has_no_break}
 use Rattle.defs_token.specs.Account.{is_in_flow}
 use Rattle.model_lexers.specs.Machine.{Read}
 use Rattle.model_lexers.specs.Tag as models
-use Rattle.proof_lexers.specs.TagEnds.{may_follow, behind_tag, EndsAs, reads, refuses}
+use Rattle.proof_lexers.specs.TagEnds.{may_follow, after_tag, EndsAs, reads, refuses}
 use Rattle.proof_lexers.proofs.Properties.Tags.{span_cut, all_leading, tags_end}
 use Rattle.proof_lexers.proofs.Separation.Places.{place_in_line}
 use Rattle.proof_cut.specs.PiecesRead.{ReadAs, TagIsRead}
@@ -40,9 +40,9 @@ pub alpha_has_none : (c : ℕ) → is_alpha c ≡ true → is_break c ≡ false
 unfolding is_alpha is_decimal_digit is_letter
 alpha_has_none c h = without_breaks is_alpha refl refl c h
 
--- what stands before in the line, and what stands behind it
-spanned : (class : ℕ → Bool) → ((c : ℕ) → class c ≡ true → is_break c ≡ false) → (t : List ℕ) → has_no_break (behind class t) ≡ true → has_no_break t ≡ true
-spanned class none t h = rw (span_cut class t) (no_break_append (leading class t) (behind class t) (all_in_line class none (leading class t) (all_leading class t)) h)
+-- what stands before in the line, and what stands after it
+spanned : (class : ℕ → Bool) → ((c : ℕ) → class c ≡ true → is_break c ≡ false) → (t : List ℕ) → has_no_break (after class t) ≡ true → has_no_break t ≡ true
+spanned class none t h = rw (span_cut class t) (no_break_append (leading class t) (after class t) (all_in_line class none (leading class t) (all_leading class t)) h)
 
 of_class : (class : ℕ → Bool) → ((c : ℕ) → class c ≡ true → is_break c ≡ false) → (handle t : List ℕ) (g : Tag) → tag_of_class class handle t ≡ Some g → has_no_break t ≡ true
 of_class class none handle t g h = by (all_of class t) refl h
@@ -58,10 +58,10 @@ closed_in_line (c ∷ []) h = let q = and_parts (c == 62) true h in let same : c
 closed_in_line (c ∷ d ∷ t) h = let q = and_parts (c == 62) false h in cc
 
 verbatim_in_line : (t : List ℕ) (g : Tag) → verbatim t ≡ Some g → has_no_break t ≡ true
-verbatim_in_line t g h = by (is_same (behind is_uri t) (codes ">")) refl h
+verbatim_in_line t g h = by (is_same (after is_uri t) (codes ">")) refl h
   where
-    by : (b : Bool) → is_same (behind is_uri t) (codes ">") ≡ b → (if b then tag_of_class is_uri [] (leading is_uri t) else None) ≡ Some g → has_no_break t ≡ true
-    by true e h = spanned is_uri uri_has_none t (closed_in_line (behind is_uri t) e)
+    by : (b : Bool) → is_same (after is_uri t) (codes ">") ≡ b → (if b then tag_of_class is_uri [] (leading is_uri t) else None) ≡ Some g → has_no_break t ≡ true
+    by true e h = spanned is_uri uri_has_none t (closed_in_line (after is_uri t) e)
     by false e h = cc
 
 named_in_line : (name from : List ℕ) (g : Tag) → begins_with_mark from ≡ true → named name from ≡ Some g → has_no_break from ≡ true
@@ -74,11 +74,11 @@ named_in_line name (c ∷ d ∷ suffix) g m h =
 
 shorthand_in_line : (t : List ℕ) (g : Tag) → shorthand t ≡ Some g → has_no_break t ≡ true
 shorthand_in_line [] g h = refl
-shorthand_in_line (c ∷ t) g h = by (begins_with_mark (behind is_alpha (c ∷ t))) refl h
+shorthand_in_line (c ∷ t) g h = by (begins_with_mark (after is_alpha (c ∷ t))) refl h
   where
-    by : (b : Bool) → begins_with_mark (behind is_alpha (c ∷ t)) ≡ b
-        → (if b then named (leading is_alpha (c ∷ t)) (behind is_alpha (c ∷ t)) else tag_of_class is_tag (codes "!") (c ∷ t)) ≡ Some g → has_no_break (c ∷ t) ≡ true
-    by true e h = spanned is_alpha alpha_has_none (c ∷ t) (named_in_line (leading is_alpha (c ∷ t)) (behind is_alpha (c ∷ t)) g e h)
+    by : (b : Bool) → begins_with_mark (after is_alpha (c ∷ t)) ≡ b
+        → (if b then named (leading is_alpha (c ∷ t)) (after is_alpha (c ∷ t)) else tag_of_class is_tag (codes "!") (c ∷ t)) ≡ Some g → has_no_break (c ∷ t) ≡ true
+    by true e h = spanned is_alpha alpha_has_none (c ∷ t) (named_in_line (leading is_alpha (c ∷ t)) (after is_alpha (c ∷ t)) g e h)
     by false e h = of_class is_tag tag_has_none (codes "!") (c ∷ t) g h
 
 written_in_line : (t : List ℕ) (g : Tag) → written_tag (33 ∷ t) ≡ Some g → has_no_break (33 ∷ t) ≡ true
@@ -99,7 +99,7 @@ tag_is_read a in_flow more r nul flows e = by (models.tag in_flow (33 ∷ more) 
     by : (x : Result (Read models.Tag) Fault) → x ≡ Ok r → EndsAs in_flow a.place more x → ReadAs a (33 ∷ more) (Tok.tag r.value.handle r.value.suffix) a.place r.rest r.place
     by x e (refuses why reason k) = absurd (cc (e, k))
     by x e (reads piece rest handle suffix cut is follows k) =
-        let same : behind_tag a.place (33 ∷ piece) rest handle suffix ≡ r = cc in
+        let same : after_tag a.place (33 ∷ piece) rest handle suffix ≡ r = cc in
         let may : may_follow (is_in_flow a) rest ≡ true = rw flows follows in
         rw (← same) (record {
           first = 33;

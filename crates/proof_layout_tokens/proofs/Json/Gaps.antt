@@ -58,26 +58,26 @@ module _ {d : Around} (fs : List FlowLevel) (ks : List (Option Key)) where
   abbrev lined : Parts d → Parts d
   lined p = record p { place = past_break p.place; leading = true; allowed = not (not (is_nil fs)) || p.allowed }
 
-  behind_char : (t : Result State Fault) (r : List ℕ) (p : Parts d) → Skipped t r fs ks (record p { place = past p.place }) → Skipped t r fs ks p
-  behind_char t r p z = record { place = z.place; fits = z.fits; allowed = z.allowed; leading = z.leading; same = z.same; is = z.is }
+  after_char : (t : Result State Fault) (r : List ℕ) (p : Parts d) → Skipped t r fs ks (record p { place = past p.place }) → Skipped t r fs ks p
+  after_char t r p z = record { place = z.place; fits = z.fits; allowed = z.allowed; leading = z.leading; same = z.same; is = z.is }
 
-  behind_break : (t : Result State Fault) (r : List ℕ) (p : Parts d) → Skipped t r fs ks (lined p) → Skipped t r fs ks p
-  behind_break t r p z = record { place = z.place; fits = z.fits; allowed = z.allowed; leading = z.leading; same = λ h. z.same h ∙ lined_allowed (is_nil fs) p.allowed h; is = z.is }
+  after_break : (t : Result State Fault) (r : List ℕ) (p : Parts d) → Skipped t r fs ks (lined p) → Skipped t r fs ks p
+  after_break t r p z = record { place = z.place; fits = z.fits; allowed = z.allowed; leading = z.leading; same = λ h. z.same h ∙ lined_allowed (is_nil fs) p.allowed h; is = z.is }
 
-  behind_return : (b : Bool) (a r : List ℕ) (p : Parts d) → Skipped (skip between a (stands a fs ks (record p { place = past p.place })).held) r fs ks (record p { place = past p.place })
+  after_return : (b : Bool) (a r : List ℕ) (p : Parts d) → Skipped (skip between a (stands a fs ks (record p { place = past p.place })).held) r fs ks (record p { place = past p.place })
       → Skipped (skip between a (stands a fs ks (lined p)).held) r fs ks (lined p)
       → Skipped (skip between a (if b then (stands a fs ks (record p { place = past p.place })).held else (stands a fs ks (lined p)).held)) r fs ks p
-  behind_return true a r p y z = behind_char _ r p y
-  behind_return false a r p y z = behind_break _ r p z
+  after_return true a r p y z = after_char _ r p y
+  after_return false a r p y z = after_break _ r p z
 
   pub skip_gap : (g : List Blank) (r : List ℕ) (p : Parts d) → MayStand d g → Fits d p.place → is_solid r ≡ true → Skipped (skip between (spell_gap g r) (stands r fs ks p).held) r fs ks p
   unfolding skip is_break is_blank
   skip_gap [] r p may fits h = record { place = p.place; fits = fits; allowed = p.allowed; leading = p.leading; same = λ _. refl; is = skip_solid r p h }
-  skip_gap (space ∷ g) r p may fits h = behind_char _ r p (skip_gap g r (record p { place = past p.place }) may (fits_past d p.place fits) h)
-  skip_gap (tab ∷ g) r p may fits h = rw (not_before d fs ks r p may) (behind_char _ r p (skip_gap g r (record p { place = past p.place }) (λ l. absurd (may l)) (fits_past d p.place fits) h))
-  skip_gap (line_feed ∷ g) r p may fits h = behind_break _ r p (skip_gap g r (lined p) (λ l. absurd (may l)) (fits_break d p.place may) h)
+  skip_gap (space ∷ g) r p may fits h = after_char _ r p (skip_gap g r (record p { place = past p.place }) may (fits_past d p.place fits) h)
+  skip_gap (tab ∷ g) r p may fits h = rw (not_before d fs ks r p may) (after_char _ r p (skip_gap g r (record p { place = past p.place }) (λ l. absurd (may l)) (fits_past d p.place fits) h))
+  skip_gap (line_feed ∷ g) r p may fits h = after_break _ r p (skip_gap g r (lined p) (λ l. absurd (may l)) (fits_break d p.place may) h)
   skip_gap (carriage_return ∷ g) r p may fits h =
-      behind_return (slice_index (spell_gap g r) 0 == 10) (spell_gap g r) r p (skip_gap g r (record p { place = past p.place }) (λ l. absurd (may l)) (fits_past d p.place fits) h) (skip_gap g r (lined p) (λ l. absurd (may l)) (fits_break d p.place may) h)
+      after_return (slice_index (spell_gap g r) 0 == 10) (spell_gap g r) r p (skip_gap g r (record p { place = past p.place }) (λ l. absurd (may l)) (fits_past d p.place fits) h) (skip_gap g r (lined p) (λ l. absurd (may l)) (fits_break d p.place may) h)
 
   -- as far as the next token
   pub next_token : (g : List Blank) (r : List ℕ) (p : Parts d) → MayStand d g → Fits d p.place → is_solid r ≡ true → Skipped (skip_to_next_token (stands (spell_gap g r) fs ks p)) r fs ks p
@@ -119,7 +119,7 @@ passed d (tab ∷ g) r p w may fits h = on d _ _ r p (past p) w (record w { foun
 passed d (line_feed ∷ g) r p w may fits h = record { place = p; fits = fits; gap = line_feed ∷ g; may = may; found = w; edge = refl; is = refl }
 passed d (carriage_return ∷ g) r p w may fits h = record { place = p; fits = fits; gap = carriage_return ∷ g; may = may; found = w; edge = refl; is = refl }
 
--- The state is behind a part of the white space, at a break or at r.
+-- The state is after a part of the white space, at a break or at r.
 pub record Trimmed {d : Around} (t : Result State Fault) (r : List ℕ) (fs : List FlowLevel) (ks : List (Option Key)) (p : Parts d) : Type 0 where
   pub place : Position
   pub fits : Fits d place

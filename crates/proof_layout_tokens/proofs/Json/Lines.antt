@@ -33,7 +33,7 @@ use Rattle.proof_layout_tokens.proofs.Whites.{spell_white}
 use Rattle.proof_layout_tokens.proofs.Comments.{comment_white, comment_place, comment_line}
 use Rattle.proof_layout_tokens.proofs.Levels
 use Rattle.proof_layout_tokens.proofs.Joins.{fetched, trail_white, trail_are_white, Lies, leaf_after, saved, left_open}
-use Rattle.proof_layout_tokens.proofs.Leaves.{still_lies, value_by, spaces_stop, trail_allows, behind_is}
+use Rattle.proof_layout_tokens.proofs.Leaves.{still_lies, value_by, spaces_stop, trail_allows, after_is}
 
 -- ---- the opening bracket
 
@@ -197,4 +197,4 @@ collection_after (object g ms) n t from col b i is allowed want kind json few sp
 pub json_after : (v : Json) (n : Comment) (t : Trail) (from : State) (col : ℕ) (b : Bool) (i : ℕ) (is : List Indent) (allowed : Bool) (want : List Tok → List Tok) → IsJsonCollection v → IsJson v → levels v ≤ 255 → HasSpaces v
     → IsComment n → IsTrail t → limit_of t ≤ i → i ≤ col → IsClosed i is
     → Before from (spell v (spell_comment n (trail_text t))) col (opened_indent b i) (opened b i is) allowed want → After from t i is (λ o. want (json_tokens v o))
-json_after v n t from col b i is allowed want kind json few spaces remark trail low deep shut u = collection_after v n t from col b i is allowed want kind json few spaces remark trail low deep shut (rw (behind_is n t) at u)
+json_after v n t from col b i is allowed want kind json few spaces remark trail low deep shut u = collection_after v n t from col b i is allowed want kind json few spaces remark trail low deep shut (rw (after_is n t) at u)

@@ -1,4 +1,4 @@
--- What a fetch does at a string, at a word or a number, and at the colon behind a key.
+-- What a fetch does at a string, at a word or a number, and at the colon after a key.
 use Rattle.std.proofs.Common.{◌≡◌, ℕ, List, [], ◌∷◌, ◌++◌, Bool, true, false, ◌||◌, ◌&&◌, not, ◌==◌, Option, Some, None, Result, Ok, refl, ◌∙◌, length, slice_index}
 use Rattle.std.specs.List.{insert}
 use Rattle.std.proofs.lemmas.Bool.{eq-eqb, eqb-true, and_parts, not-true}
@@ -19,7 +19,7 @@ use Rattle.model_scanner.specs.Keys.{stale, is_required}
 use Rattle.model_scanner.specs.Space.{skip_to_next_token}
 use Rattle.model_scanner.specs.Indents.{in_block, roll_one_col_indent, roll_indent, unroll_non_block_indents, without_open}
 use Rattle.model_scanner.specs.Block.{check_value_space, begin_pair, insert_key, fetch_value}
-use Rattle.model_scanner.specs.Document.{may_follow_quoted, quoted_style, check_behind_quoted, fetch_flow_scalar, fetch_plain_scalar}
+use Rattle.model_scanner.specs.Document.{may_follow_quoted, quoted_style, check_after_quoted, fetch_flow_scalar, fetch_plain_scalar}
 use Rattle.model_scanner.specs.Fetch.{token_by, is_value, comes_marker, fetch, fetch_next}
 use Rattle.proof_layout_tokens.proofs.Json.States.{Around, nothing, block, Fits, MayStand, Parts, stands, IsBottom, is_content, is_solid, Ends, at_end, at_comma, at_bracket, at_brace}
 use Rattle.proof_layout_tokens.proofs.Json.Gaps.{trim, starts_break, next_token, skip_solid}
@@ -30,7 +30,7 @@ use Rattle.proof_layout_tokens.proofs.Json.Steps.{saved}
 
 -- ---- a string
 
--- what may stand behind a string and white space, on its line or on a later one
+-- what may stand after a string and white space, on its line or on a later one
 abbrev pub MayFollow : List FlowLevel → List ℕ → Type 0
 MayFollow fs r = (same_line : Bool) → may_follow_quoted (not (is_nil fs)) same_line (peek r) ≡ true
 
@@ -46,7 +46,7 @@ follows fs same_line (carriage_return ∷ g) r edge may = refl
 abbrev pub quoted_tok : Bool → List ℕ → Tok
 quoted_tok single text = Tok.scalar (quoted_style single) text
 
--- behind a quoted scalar
+-- after a quoted scalar
 abbrev pub quoted_at : (d : Around) → Position → List Token → Option Key → Bool → Bool → (is_open : Bool) → Parts d
 quoted_at d place tokens key allowed leading is_open = record { place = place; tokens = tokens; key = key; allowed = allowed; leading = leading; adjacent = place.index; is_open = is_open }
 
@@ -62,7 +62,7 @@ record QuotedAt {d : Around} (t : Result State Fault) (tok : Tok) (r : List ℕ)
 
 scalar_at : {d : Around} (single : Bool) (text a : List ℕ) (b : List Blank) (r : List ℕ) (fs : List FlowLevel) (ks : List (Option Key)) (p : Parts d) → IsBottom d fs ks → MayStand d b → is_required p.key ≡ false → is_solid r ≡ true → MayFollow fs r
     → Closed d (quoted single (context_of d p.is_open fs) a p.place) text (spell_gap b r) → QuotedAt (fetch_flow_scalar single (stands a fs ks p)) (quoted_tok single text) r fs ks p
-unfolding fetch_flow_scalar check_behind_quoted
+unfolding fetch_flow_scalar check_after_quoted
 scalar_at single text a b r fs ks p bottom stand loose solid may z =
     let k = saved a fs ks p bottom loose in
     let q = record p { place = z.place; key = k.key; allowed = false; leading = false } in
@@ -108,13 +108,13 @@ fetched_by {d} single text from c a b r fs ks p bottom stand solid may reads dec
 pub quoted_run : {d : Around} (single : Bool) (text a : List ℕ) (g b : List Blank) (r : List ℕ) (fs : List FlowLevel) (ks : List (Option Key)) (p : Parts d) → IsBottom d fs ks → MayStand d g → MayStand d b → Fits d p.place → is_required p.key ≡ false → is_solid r ≡ true → MayFollow fs r
     → ReadsQuoted d p.is_open single fs (quote_of single ∷ a) text (spell_gap b r) → Quoted (quoted_tok single text) (stands (spell_gap g (quote_of single ∷ a)) fs ks p) r fs ks p
 unfolding class_of comes_marker
-quoted_run true text a g b r fs ks p bottom before behind fits loose solid may reads = fetched_by true text _ 39 a b r fs ks p bottom behind solid may reads (λ t. refl) (fetched g 39 a fs ks p bottom before fits loose refl refl)
-quoted_run false text a g b r fs ks p bottom before behind fits loose solid may reads = fetched_by false text _ 34 a b r fs ks p bottom behind solid may reads (λ t. refl) (fetched g 34 a fs ks p bottom before fits loose refl refl)
+quoted_run true text a g b r fs ks p bottom before after fits loose solid may reads = fetched_by true text _ 39 a b r fs ks p bottom after solid may reads (λ t. refl) (fetched g 39 a fs ks p bottom before fits loose refl refl)
+quoted_run false text a g b r fs ks p bottom before after fits loose solid may reads = fetched_by false text _ 34 a b r fs ks p bottom after solid may reads (λ t. refl) (fetched g 34 a fs ks p bottom before fits loose refl refl)
 
 pub string_run : {d : Around} (ps : List Piece) (g b : List Blank) (r : List ℕ) (fs : List FlowLevel) (ks : List (Option Key)) (p : Parts d) → are_pieces ps ≡ true → IsBottom d fs ks → MayStand d g → MayStand d b → Fits d p.place → is_required p.key ≡ false → is_solid r ≡ true → MayFollow fs r
     → Quoted (quoted_tok false (unescaped ps)) (stands (spell_gap g (spell_string ps (spell_gap b r))) fs ks p) r fs ks p
-string_run {d} ps g b r fs ks p pieces bottom before behind fits loose solid may =
-    quoted_run false (unescaped ps) (spell_pieces ps (34 ∷ spell_gap b r)) g b r fs ks p bottom before behind fits loose solid may (λ at stand. string_read d p.is_open fs ps (spell_gap b r) at stand pieces)
+string_run {d} ps g b r fs ks p pieces bottom before after fits loose solid may =
+    quoted_run false (unescaped ps) (spell_pieces ps (34 ∷ spell_gap b r)) g b r fs ks p bottom before after fits loose solid may (λ at stand. string_read d p.is_open fs ps (spell_gap b r) at stand pieces)
 
 pub ends_solid : (fs : List FlowLevel) (r : List ℕ) → Ends fs r → is_solid r ≡ true
 ends_solid fs r at_end = refl
@@ -140,7 +140,7 @@ no_levels (block i [] l shut) r fs ks p false = refl
 no_levels (block i (d ∷ ds) l shut) r fs ks p true = rw shut refl
 no_levels (block i (d ∷ ds) l shut) r fs ks p false = rw shut refl
 
--- behind a word or a number
+-- after a word or a number
 abbrev pub worded : (d : Around) → Position → List Token → Option Key → Bool → ℕ → Parts d
 worded d place tokens key leading adjacent = record { place = place; tokens = tokens; key = key; allowed = leading; leading = leading; adjacent = adjacent; is_open = false }
 
@@ -155,9 +155,9 @@ record WordedAt {d : Around} (t : Result State Fault) (w : List ℕ) (r : List �
 word_at : {d : Around} (w : List ℕ) (b : List Blank) (r : List ℕ) (fs : List FlowLevel) (ks : List (Option Key)) (p : Parts d) → IsWord w → IsBottom d fs ks → MayStand d b → Fits d p.place → is_required p.key ≡ false → Ends fs r
     → WordedAt (fetch_plain_scalar (stands (w ++ spell_gap b r) fs ks p)) w r fs ks p
 unfolding fetch_plain_scalar
-word_at {d} w b r fs ks p word bottom behind fits loose ends =
+word_at {d} w b r fs ks p word bottom after fits loose ends =
     let k = saved (w ++ spell_gap b r) fs ks p bottom loose in
-    let z = word_read d fs w b r p.place ends word behind fits in
+    let z = word_read d fs w b r p.place ends word after fits in
     record { place = z.place; fits = z.fits; key = k.key; loose = k.loose; leading = z.leading; is = rw (k.is, no_levels d (w ++ spell_gap b r) fs ks (record p { key = k.key; allowed = false }) p.is_open, z.is) refl }
 
 dash_by : (t : State) → is_blank_or_breakz (slice_index t.rest 1) ≡ false → token_by (class_of 45) t ≡ fetch_plain_scalar t
@@ -209,25 +209,25 @@ pub record Worded (d : Around) (w : List ℕ) (from : State) (r : List ℕ) (fs 
 
 pub word_run : {d : Around} (w : List ℕ) (g b : List Blank) (r : List ℕ) (fs : List FlowLevel) (ks : List (Option Key)) (p : Parts d) → IsWord w → IsBottom d fs ks → MayStand d g → MayStand d b → Fits d p.place → is_required p.key ≡ false → Ends fs r
     → Worded d w (stands (spell_gap g (w ++ spell_gap b r)) fs ks p) r fs ks p.tokens
-word_run [] g b r fs ks p word bottom before behind fits loose ends = cc (word.begins)
-word_run {d} (c ∷ w) g b r fs ks p word bottom before behind fits loose ends =
+word_run [] g b r fs ks p word bottom before after fits loose ends = cc (word.begins)
+word_run {d} (c ∷ w) g b r fs ks p word bottom before after fits loose ends =
     let s = start_of c w (spell_gap b r) word in
     let y = fetched g c (w ++ spell_gap b r) fs ks p bottom before fits loose s.content s.no_marker in
     let q = record p { place = y.place; allowed = y.allowed; leading = y.leading; key = y.key } in
     let is_a_word = and_parts (is_word c) (are_words w) word.chars in
     let e = word_by c (w ++ spell_gap b r) fs ks q (c == 45) refl is_a_word.0 s.second in
-    let z = word_at (c ∷ w) b r fs ks q word bottom behind y.fits y.loose ends in
+    let z = word_at (c ∷ w) b r fs ks q word bottom after y.fits y.loose ends in
     let u = stepped _ _ r fs ks (worded d z.place (p.tokens ++ token y.place (Tok.scalar Style.plain (c ∷ w)) ∷ []) z.key z.leading p.adjacent) bottom z.loose y.is (e ∙ z.is) in
     record { place = z.place; fits = z.fits; at = y.place; adjacent = p.adjacent; key = u.key; loose = u.loose; leading = z.leading; is = u.is }
 
--- ---- the colon behind a key
+-- ---- the colon after a key
 
 last_true : (x y z : Bool) → z ≡ true → (x || (y || z)) ≡ true
 last_true true y z h = refl
 last_true false true z h = refl
 last_true false false z h = h
 
--- behind a colon
+-- after a colon
 abbrev pub valued : {d : Around} → Key → Parts d → Parts d
 valued k p = record { place = past p.place; tokens = insert p.tokens k.number (token k.place Tok.key) ++ token p.place Tok.value ∷ []; key = None; allowed = false; leading = false; adjacent = p.adjacent; is_open = p.is_open }
 

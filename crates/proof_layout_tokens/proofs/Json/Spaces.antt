@@ -14,12 +14,12 @@ use Rattle.proof_layout_tokens.proofs.Json.Numbers.{number_then}
 abbrev OnOneLine : List ℕ → Type 0
 OnOneLine a = list_all is_on_one_line a ≡ true
 
-behind_one : (c : ℕ) (a : List ℕ) → OnOneLine (c ∷ a) → OnOneLine a
-behind_one c a h = (and_parts (is_on_one_line c) (list_all is_on_one_line a) h).1
+after_one : (c : ℕ) (a : List ℕ) → OnOneLine (c ∷ a) → OnOneLine a
+after_one c a h = (and_parts (is_on_one_line c) (list_all is_on_one_line a) h).1
 
-behind : (w a : List ℕ) → OnOneLine (w ++ a) → OnOneLine a
-behind [] a h = h
-behind (c ∷ w) a h = behind w a (behind_one c (w ++ a) h)
+after : (w a : List ℕ) → OnOneLine (w ++ a) → OnOneLine a
+after [] a h = h
+after (c ∷ w) a h = after w a (after_one c (w ++ a) h)
 
 gap_spaces : (g : List Blank) (r : List ℕ) → OnOneLine (spell_gap g r) → AreSpaces g × OnOneLine r
 unfolding is_on_one_line
@@ -29,42 +29,42 @@ gap_spaces (tab ∷ g) r h = cc
 gap_spaces (line_feed ∷ g) r h = cc
 gap_spaces (carriage_return ∷ g) r h = cc
 
-behind_number : (n : Number) (r : List ℕ) → OnOneLine (spell_number n r) → OnOneLine r
-behind_number n r h = behind (spell_number n []) r (rw (number_then n r) at h)
+after_number : (n : Number) (r : List ℕ) → OnOneLine (spell_number n r) → OnOneLine r
+after_number n r h = after (spell_number n []) r (rw (number_then n r) at h)
 
-behind_piece : (p : Piece) (r : List ℕ) → OnOneLine (spell_piece p r) → OnOneLine r
-behind_piece (itself c) r h = behind_one c r h
-behind_piece (short s) r h = behind (92 ∷ letter_of s ∷ []) r h
-behind_piece (unicode a b c d) r h = behind (92 ∷ 117 ∷ a ∷ b ∷ c ∷ d ∷ []) r h
+after_piece : (p : Piece) (r : List ℕ) → OnOneLine (spell_piece p r) → OnOneLine r
+after_piece (itself c) r h = after_one c r h
+after_piece (short s) r h = after (92 ∷ letter_of s ∷ []) r h
+after_piece (unicode a b c d) r h = after (92 ∷ 117 ∷ a ∷ b ∷ c ∷ d ∷ []) r h
 
-behind_pieces : (ps : List Piece) (r : List ℕ) → OnOneLine (spell_pieces ps r) → OnOneLine r
-behind_pieces [] r h = h
-behind_pieces (p ∷ ps) r h = behind_pieces ps r (behind_piece p (spell_pieces ps r) h)
+after_pieces : (ps : List Piece) (r : List ℕ) → OnOneLine (spell_pieces ps r) → OnOneLine r
+after_pieces [] r h = h
+after_pieces (p ∷ ps) r h = after_pieces ps r (after_piece p (spell_pieces ps r) h)
 
-behind_string : (ps : List Piece) (r : List ℕ) → OnOneLine (spell_string ps r) → OnOneLine r
-behind_string ps r h = behind_one 34 r (behind_pieces ps (34 ∷ r) (behind_one 34 (spell_pieces ps (34 ∷ r)) h))
+after_string : (ps : List Piece) (r : List ℕ) → OnOneLine (spell_string ps r) → OnOneLine r
+after_string ps r h = after_one 34 r (after_pieces ps (34 ∷ r) (after_one 34 (spell_pieces ps (34 ∷ r)) h))
 
 mutual
   pub json_spaces : (v : Json) (r : List ℕ) → OnOneLine (spell v r) → HasSpaces v × OnOneLine r
-  json_spaces false_word r h = (tt, behind (102 ∷ 97 ∷ 108 ∷ 115 ∷ 101 ∷ []) r h)
-  json_spaces null_word r h = (tt, behind (110 ∷ 117 ∷ 108 ∷ 108 ∷ []) r h)
-  json_spaces true_word r h = (tt, behind (116 ∷ 114 ∷ 117 ∷ 101 ∷ []) r h)
-  json_spaces (number n) r h = (tt, behind_number n r h)
-  json_spaces (string ps) r h = (tt, behind_string ps r h)
+  json_spaces false_word r h = (tt, after (102 ∷ 97 ∷ 108 ∷ 115 ∷ 101 ∷ []) r h)
+  json_spaces null_word r h = (tt, after (110 ∷ 117 ∷ 108 ∷ 108 ∷ []) r h)
+  json_spaces true_word r h = (tt, after (116 ∷ 114 ∷ 117 ∷ 101 ∷ []) r h)
+  json_spaces (number n) r h = (tt, after_number n r h)
+  json_spaces (string ps) r h = (tt, after_string ps r h)
   json_spaces (empty_array g) r h =
-      let x = gap_spaces g (93 ∷ r) (behind_one 91 _ h) in
-      (x.0, behind_one 93 r x.1)
+      let x = gap_spaces g (93 ∷ r) (after_one 91 _ h) in
+      (x.0, after_one 93 r x.1)
   json_spaces (array g es) r h =
-      let x = gap_spaces g (spell_elements es (93 ∷ r)) (behind_one 91 _ h) in
+      let x = gap_spaces g (spell_elements es (93 ∷ r)) (after_one 91 _ h) in
       let y = elements_spaces es (93 ∷ r) x.1 in
-      ((x.0, y.0), behind_one 93 r y.1)
+      ((x.0, y.0), after_one 93 r y.1)
   json_spaces (empty_object g) r h =
-      let x = gap_spaces g (125 ∷ r) (behind_one 123 _ h) in
-      (x.0, behind_one 125 r x.1)
+      let x = gap_spaces g (125 ∷ r) (after_one 123 _ h) in
+      (x.0, after_one 125 r x.1)
   json_spaces (object g ms) r h =
-      let x = gap_spaces g (spell_members ms (125 ∷ r)) (behind_one 123 _ h) in
+      let x = gap_spaces g (spell_members ms (125 ∷ r)) (after_one 123 _ h) in
       let y = members_spaces ms (125 ∷ r) x.1 in
-      ((x.0, y.0), behind_one 125 r y.1)
+      ((x.0, y.0), after_one 125 r y.1)
 
   elements_spaces : (es : Elements) (r : List ℕ) → OnOneLine (spell_elements es r) → HaveSpaces es × OnOneLine r
   elements_spaces (last_element v a) r h =
@@ -74,23 +74,23 @@ mutual
   elements_spaces (element v a b es) r h =
       let x = json_spaces v (spell_gap a (44 ∷ spell_gap b (spell_elements es r))) h in
       let y = gap_spaces a (44 ∷ spell_gap b (spell_elements es r)) x.1 in
-      let z = gap_spaces b (spell_elements es r) (behind_one 44 _ y.1) in
+      let z = gap_spaces b (spell_elements es r) (after_one 44 _ y.1) in
       let u = elements_spaces es r z.1 in
       ((x.0, y.0, z.0, u.0), u.1)
 
   members_spaces : (ms : Members) (r : List ℕ) → OnOneLine (spell_members ms r) → MembersHaveSpaces ms × OnOneLine r
   members_spaces (last_member k g h v a) r line =
-      let x = gap_spaces g (58 ∷ spell_gap h (spell v (spell_gap a r))) (behind_string k _ line) in
-      let y = gap_spaces h (spell v (spell_gap a r)) (behind_one 58 _ x.1) in
+      let x = gap_spaces g (58 ∷ spell_gap h (spell v (spell_gap a r))) (after_string k _ line) in
+      let y = gap_spaces h (spell v (spell_gap a r)) (after_one 58 _ x.1) in
       let z = json_spaces v (spell_gap a r) y.1 in
       let u = gap_spaces a r z.1 in
       ((x.0, y.0, z.0, u.0), u.1)
   members_spaces (member k g h v a b ms) r line =
       let text = spell_gap a (44 ∷ spell_gap b (spell_members ms r)) in
-      let x = gap_spaces g (58 ∷ spell_gap h (spell v text)) (behind_string k _ line) in
-      let y = gap_spaces h (spell v text) (behind_one 58 _ x.1) in
+      let x = gap_spaces g (58 ∷ spell_gap h (spell v text)) (after_string k _ line) in
+      let y = gap_spaces h (spell v text) (after_one 58 _ x.1) in
       let z = json_spaces v text y.1 in
       let u = gap_spaces a (44 ∷ spell_gap b (spell_members ms r)) z.1 in
-      let w = gap_spaces b (spell_members ms r) (behind_one 44 _ u.1) in
+      let w = gap_spaces b (spell_members ms r) (after_one 44 _ u.1) in
       let q = members_spaces ms r w.1 in
       ((x.0, y.0, z.0, u.0, w.0, q.0), q.1)

@@ -27,7 +27,7 @@ abbrev pub IsClosed : ℕ → List Indent → Type 0
 IsClosed i [] = i ≡ 0
 IsClosed i (d ∷ ds) = d.needs_block_end ≡ true
 
--- What is open around a JSON value: no block collection; or some, and then it stands on one line, at the innermost one's column or behind it.
+-- What is open around a JSON value: no block collection; or some, and then it stands on one line, at the innermost one's column or after it.
 pub data Around : Type 0 where
   nothing : Around
   block : (indent : ℕ) → (indents : List Indent) → (line : ℕ) → IsClosed indent indents → Around
@@ -113,7 +113,7 @@ abbrev pub is_solid : List ℕ → Bool
 is_solid [] = true
 is_solid (c ∷ a) = is_content c
 
--- what may stand behind a value and white space: the end of the text, or in flow `,`, `]` or `}`
+-- what may stand after a value and white space: the end of the text, or in flow `,`, `]` or `}`
 pub data Ends : List FlowLevel → List ℕ → Type 0 where
   at_end : Ends [] []
   at_comma : {f : FlowLevel} {fs : List FlowLevel} {a : List ℕ} → Ends (f ∷ fs) (44 ∷ a)

@@ -55,11 +55,11 @@ no_level nothing r [] ks p bottom = refl
 no_level (block i is l shut) r [] ks p bottom = absurd bottom.0
 no_level d r (f ∷ fs) ks p bottom = refl
 
--- behind an opening bracket a key may begin
+-- after an opening bracket a key may begin
 abbrev pub inside : (d : Around) → Position → List Token → ℕ → (is_open : Bool) → Parts d
 inside d place tokens adjacent is_open = record { place = place; tokens = tokens; key = None; allowed = true; leading = false; adjacent = adjacent; is_open = is_open }
 
--- The result is behind an opening bracket.
+-- The result is after an opening bracket.
 record OpenedAt {d : Around} (t : Result State Fault) (kind : FlowLevel) (tok : Tok) (r : List ℕ) (fs : List FlowLevel) (ks : List (Option Key)) (p : Parts d) : Type 0 where
   place : Position
   fits : Fits d place
@@ -144,7 +144,7 @@ unfolding end_flow_pair
 no_pair true r fs ks p = refl
 no_pair false r fs ks p = refl
 
--- where a `:` may stand right behind a flow collection
+-- where a `:` may stand right after a flow collection
 abbrev pub adjacent_of : {d : Around} → List FlowLevel → Parts d → ℕ
 adjacent_of [] p = p.adjacent
 adjacent_of (f ∷ fs) p = p.place.index
@@ -154,7 +154,7 @@ unfolding adjacent_in_flow
 adjacent_is r [] ks p = refl
 adjacent_is r (f ∷ fs) ks p = refl
 
--- behind a closing bracket
+-- after a closing bracket
 abbrev pub outside : (d : Around) → Position → List Token → Option Key → ℕ → (is_open : Bool) → Parts d
 outside d place tokens key adjacent is_open = record { place = place; tokens = tokens; key = key; allowed = false; leading = false; adjacent = adjacent; is_open = is_open }
 

@@ -123,7 +123,7 @@ module _ (ctx : Context) (start : Position) where
 
 -- ---- the string
 
--- The scan stands behind a text, at r.
+-- The scan stands after a text, at r.
 pub record Closed (d : Around) (t : Result (Read (List ℕ)) Fault) (text r : List ℕ) : Type 0 where
   pub place : Position
   pub fits : Fits d place

@@ -25,7 +25,7 @@ array = json_text_has_its_tokens
     })
     (record { before = tt; value = search; after = tt; depth = omega arith })
 
--- a tab behind a colon and a number: `{"k":` TAB `1}`
-tab_behind_colon : scan 4 (codes "{\"k\":\t1}") ≡ Err (At problem.TabAfterColon (record { index = 6; line = 1; col = 6 }))
+-- a tab after a colon and a number: `{"k":` TAB `1}`
+tab_after_colon : scan 4 (codes "{\"k\":\t1}") ≡ Err (At problem.TabAfterColon (record { index = 6; line = 1; col = 6 }))
 unfolding scan_on_literals
-tab_behind_colon = refl
+tab_after_colon = refl

@@ -21,7 +21,7 @@ use Rattle.proof_layout_tokens.proofs.Json.Gaps.{next_token}
 use Rattle.proof_layout_tokens.proofs.Json.Fetches.{staled}
 use Rattle.proof_layout_tokens.proofs.Json.Values.{value_runs}
 
--- behind the stream's start
+-- after the stream's start
 abbrev origin : Position
 origin = record { index = 0; line = 1; col = 0 }
 
@@ -32,7 +32,7 @@ pub begins : (a : List ℕ) → fetch (start a) ≡ Ok (stands a [] [] begun)
 unfolding fetch fetch_stream_start
 begins a = refl
 
--- behind the stream's end
+-- after the stream's end
 abbrev finished : Parts nothing → State
 finished p = record {
   rest = [];

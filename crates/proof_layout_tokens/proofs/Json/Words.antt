@@ -66,7 +66,7 @@ word_class c h e = grind (arith, nat_tests)
 abbrev pub context_of : Around → (is_open : Bool) → List FlowLevel → Context
 context_of d b fs = record { flow = not (is_nil fs); indent = indent_of d b }
 
--- The scan stands behind a text, at r.
+-- The scan stands after a text, at r.
 pub record Ended (d : Around) (t : Result (Read Plain) Fault) (text r : List ℕ) : Type 0 where
   pub place : Position
   pub fits : Fits d place

@@ -1,4 +1,4 @@
--- Which lines a block scalar's text goes up to, and that the lines behind it don't change its content column.
+-- Which lines a block scalar's text goes up to, and that the lines after it don't change its content column.
 use Rattle.std.proofs.Common.{◌≡◌, ◌≤◌, ◌⊎◌, inl, inr, ℕ, zero, suc, List, [], ◌∷◌, ◌++◌, Bool, true, false, ◌&&◌, not, ◌==◌, if◌then◌else◌, max, nat_le, length, Some, None, refl, ap, sym, ◌∙◌, append-nil, arith}
 use Rattle.std.specs.List.{list_all}
 use Rattle.std.proofs.lemmas.Bool.{and_parts, not-false}
@@ -159,7 +159,7 @@ at_margin (c ∷ []) h = cc
 at_margin (c ∷ d ∷ []) h = cc
 at_margin (c ∷ d ∷ e ∷ w) h = let f = mark_no_space c d e w h in record { other = rw f refl; none = rw f refl }
 
--- how deep lines behind a scalar start
+-- how deep lines after a scalar start
 abbrev pub Deep : (column depth : ℕ) → Type 0
 Deep column depth = (suc depth ≤ column) ⊎ (depth ≡ 0)
 
@@ -201,7 +201,7 @@ same_column_back xs ys least deep = by (joined xs ys) deep
     by (inr h) (inl d) = omega (arith, h, d)
     by (inr h) (inr d) = omega (arith, h, d)
 
--- ---- lines one behind another
+-- ---- lines one after another
 
 pub spell_append : (ls ns : List Line) (e : List ℕ) → spell (ls ++ ns) e ≡ spell ls (spell ns e)
 spell_append [] ns e = refl

@@ -101,17 +101,17 @@ module _ (style : BlockStyle) (indent : ℕ) (p : Position) where
   abbrev Ends : List ℕ → Type 0
   Ends text = EndsAs style indent p text (block (is_literal style) indent (indicator_of style ∷ text) p)
 
-  by_header : (line behind : List ℕ) → is_in_line line ≡ true → ends_line behind ≡ true → header_ends.EndsAs p style line behind (header p (line ++ behind) (past p))
-      → ((h : defs.Header) → header_of (indicator_of style ∷ line) ≡ Some h → begins_with tab (linebreak behind p).rest ≡ false → Ends (line ++ behind)) → Ends (line ++ behind)
-  by_header line behind inner at_end (reads h f t e) go = go h f t
-  by_header line behind inner at_end (tabbed h f t e) go =
-      bad_header line behind (At problem.BlockScalarTab p) refl inner at_end (tabbed h f t refl) (header_fails (is_literal style) indent (indicator_of style) (line ++ behind) p (At problem.BlockScalarTab p) e)
-  by_header line behind inner at_end (zero_digit f z e) go =
-      bad_header line behind (At problem.BlockScalarZero p) refl inner at_end (zero_digit f z refl) (header_fails (is_literal style) indent (indicator_of style) (line ++ behind) p (At problem.BlockScalarZero p) e)
-  by_header line behind inner at_end (comment g b t f w c e) go =
-      bad_header line behind (At problem.CommentNotSeparated (along b (past p))) refl inner at_end (comment g b t f w c refl) (header_fails (is_literal style) indent (indicator_of style) (line ++ behind) p (At problem.CommentNotSeparated (along b (past p))) e)
-  by_header line behind inner at_end (no_header f e) go =
-      bad_header line behind (At problem.BlockScalarHeader p) refl inner at_end (no_header f refl) (header_fails (is_literal style) indent (indicator_of style) (line ++ behind) p (At problem.BlockScalarHeader p) e)
+  by_header : (line after : List ℕ) → is_in_line line ≡ true → ends_line after ≡ true → header_ends.EndsAs p style line after (header p (line ++ after) (past p))
+      → ((h : defs.Header) → header_of (indicator_of style ∷ line) ≡ Some h → begins_with tab (linebreak after p).rest ≡ false → Ends (line ++ after)) → Ends (line ++ after)
+  by_header line after inner at_end (reads h f t e) go = go h f t
+  by_header line after inner at_end (tabbed h f t e) go =
+      bad_header line after (At problem.BlockScalarTab p) refl inner at_end (tabbed h f t refl) (header_fails (is_literal style) indent (indicator_of style) (line ++ after) p (At problem.BlockScalarTab p) e)
+  by_header line after inner at_end (zero_digit f z e) go =
+      bad_header line after (At problem.BlockScalarZero p) refl inner at_end (zero_digit f z refl) (header_fails (is_literal style) indent (indicator_of style) (line ++ after) p (At problem.BlockScalarZero p) e)
+  by_header line after inner at_end (comment g b t f w c e) go =
+      bad_header line after (At problem.CommentNotSeparated (along b (past p))) refl inner at_end (comment g b t f w c refl) (header_fails (is_literal style) indent (indicator_of style) (line ++ after) p (At problem.CommentNotSeparated (along b (past p))) e)
+  by_header line after inner at_end (no_header f e) go =
+      bad_header line after (At problem.BlockScalarHeader p) refl inner at_end (no_header f refl) (header_fails (is_literal style) indent (indicator_of style) (line ++ after) p (At problem.BlockScalarHeader p) e)
 
   -- a piece that is a block scalar
   found : (text piece next : List ℕ) (h : defs.Header) (line : List ℕ) (b : BlockRead) → header_of (indicator_of style ∷ line) ≡ Some h → h.style ≡ b.style → indicator_of style ∷ text ≡ piece ++ next → list_all is_some next ≡ true
@@ -136,7 +136,7 @@ module _ (style : BlockStyle) (indent : ℕ) (p : Position) where
       one : (h : defs.Header) → header_of (indicator_of style ∷ line) ≡ Some h → Ends (line ++ [])
       one h is = found (line ++ []) (indicator_of style ∷ line) [] h line (record { style = h.style; column = 0; text = [] }) is refl refl refl (alone_value line h inner is)
 
-  -- ---- lines behind a header
+  -- ---- lines after a header
 
   module _ (line : List ℕ) (k : Break) (ls : List Line) (last : List ℕ) (inner : is_in_line line ≡ true) (fits : Fits k (spell ls last)) (are : AreLines ls last) (last_inner : is_in_line last ≡ true)
       (h : defs.Header) (is : header_of (indicator_of style ∷ line) ≡ Some h) (tabless : begins_with tab (spell ls last) ≡ false) (some : list_all is_some (spell ls last) ≡ true) where

@@ -1,4 +1,4 @@
--- Rows: what is read of a piece, and which text behind it is refused.
+-- Rows: what is read of a piece, and which text after it is refused.
 use Rattle.std.specs.Prelude.{◌≡◌, refl, [], true, false, Some, codes}
 use Rattle.defs_text.specs.Position.{Position}
 use Rattle.defs_text.specs.Classes.{is_blank, is_break, is_nul, is_blank_or_end, are_marks}
@@ -20,7 +20,7 @@ further_spaces : read_block start (record { style = literal; column = 2; text = 
 unfolding is_break is_nul
 further_spaces = refl
 
--- behind a deeper empty line: content of the collection, and text outside it
+-- after a deeper empty line: content of the collection, and text outside it
 shallow_text : is_shallow 1 start (record { style = literal; column = 3; text = [] }) (codes "|\n   \n") (codes "  a") ≡ true
 unfolding is_break is_nul
 shallow_text = refl
@@ -29,10 +29,10 @@ outside_text : is_shallow 1 start (record { style = literal; column = 3; text = 
 unfolding is_break is_nul
 outside_text = refl
 
--- a TAB behind a header alone, and behind an empty line
-tab_behind : is_tabbed (codes "|\n") (codes "\ta") ≡ true
+-- a TAB after a header alone, and after an empty line
+tab_after : is_tabbed (codes "|\n") (codes "\ta") ≡ true
 unfolding is_break
-tab_behind = refl
+tab_after = refl
 
 tab_later : is_tabbed (codes "|\n\n") (codes "\ta") ≡ false
 unfolding is_break

@@ -12,7 +12,7 @@ use Rattle.proof_lexers.specs.BlockScan.{collection_by, digit_by}
 use Rattle.proof_lexers.specs.BlockLaws.{FirstLinesGiveTheColumn}
 use Rattle.proof_lexers.proofs.Blocks.InLine.{first_inner}
 use Rattle.proof_lexers.proofs.Blocks.Written.{Break, feed, carriage, both, Line, put, spell, texts, Fits, AreLines, Lined, lined, split_spell}
-use Rattle.proof_lexers.proofs.Blocks.Margins.{behind_break, behind_line, at, col_along, empty_passes, last_passes}
+use Rattle.proof_lexers.proofs.Blocks.Margins.{after_break, after_line, at, col_along, empty_passes, last_passes}
 
 -- within the spaces of a first line
 abbrev looking : ℕ → Position → List ℕ → First
@@ -26,7 +26,7 @@ first_last : (w : List ℕ) (most : ℕ) (p : Position) (b : List ℕ) → is_sp
 first_last [] most p b h = refl
 first_last (c ∷ w) most p b h = let q = and_parts (c == 32) (is_spaces w) h in rw (q.0) (first_last w most (past p) b q.1)
 
-first_break : (k : Break) (a : List ℕ) (most : ℕ) (p : Position) (b : List ℕ) → Fits k a → first_indent (put k a) (looking most p b) ≡ first_indent a (looking (max most p.col) (behind_break k p) (b ++ 10 ∷ []))
+first_break : (k : Break) (a : List ℕ) (most : ℕ) (p : Position) (b : List ℕ) → Fits k a → first_indent (put k a) (looking most p b) ≡ first_indent a (looking (max most p.col) (after_break k p) (b ++ 10 ∷ []))
 unfolding is_break
 first_break feed a most p b fits = refl
 first_break carriage a most p b fits = rw fits refl
@@ -81,7 +81,7 @@ first_is_indent column [] last most p b col are inner le = by (is_spaces last) r
         let z = first_other column last [] most p b e inner (omega (arith, le, deep, col)) in
         let y : first_indent last (looking most p b) ≡ with_column (max most (p.col + leading_spaces last)) (indent_from column last (at p b)) = rw append-nil at z in
         y ∙ ap (λ n. with_column n (indent_from column last (at p b))) same
-first_is_indent column (l ∷ ls) last most p b col are inner le = by (is_spaces l.text) refl (λ m x. first_is_indent column ls last m (behind_line l p) (b ++ 10 ∷ []) refl are.2 inner x)
+first_is_indent column (l ∷ ls) last most p b col are inner le = by (is_spaces l.text) refl (λ m x. first_is_indent column ls last m (after_line l p) (b ++ 10 ∷ []) refl are.2 inner x)
   where
     N : ℕ
     N = max most (deepest_start (l.text ∷ (texts ls ++ last ∷ [])))
@@ -90,7 +90,7 @@ first_is_indent column (l ∷ ls) last most p b col are inner le = by (is_spaces
     D = deepest_start (texts ls ++ last ∷ [])
 
     by : (s : Bool) → is_spaces l.text ≡ s
-        → ((m : ℕ) → max m D ≤ column → first_indent (spell ls last) (looking m (behind_line l p) (b ++ 10 ∷ [])) ≡ with_column (max m D) (indent_from column (spell ls last) (at (behind_line l p) (b ++ 10 ∷ []))))
+        → ((m : ℕ) → max m D ≤ column → first_indent (spell ls last) (looking m (after_line l p) (b ++ 10 ∷ [])) ≡ with_column (max m D) (indent_from column (spell ls last) (at (after_line l p) (b ++ 10 ∷ []))))
         → first_indent (l.text ++ put l.by (spell ls last)) (looking most p b) ≡ with_column N (indent_from column (l.text ++ put l.by (spell ls last)) (at p b))
     by true e go =
         let lead = all_leading l.text e in
@@ -99,7 +99,7 @@ first_is_indent column (l ∷ ls) last most p b col are inner le = by (is_spaces
         let same : max (max most (along l.text p).col) D ≡ N = omega (arith, deep, lead, far, col) in
         first_spaces l.text (put l.by (spell ls last)) most p b e ∙ first_break l.by (spell ls last) most (along l.text p) b are.1
         ∙ go (max most (along l.text p).col) (omega (arith, le, same))
-        ∙ ap (λ n. with_column n (indent_from column (spell ls last) (at (behind_line l p) (b ++ 10 ∷ [])))) same
+        ∙ ap (λ n. with_column n (indent_from column (spell ls last) (at (after_line l p) (b ++ 10 ∷ [])))) same
         ∙ ap (with_column N) (sym (empty_passes column l (spell ls last) p b e (omega (arith, le, deep, lead, col)) are.1))
     by false e go =
         let deep : deepest_start (l.text ∷ (texts ls ++ last ∷ [])) ≡ leading_spaces l.text = rw e refl in

@@ -20,7 +20,7 @@ use Rattle.proof_lexers.proofs.Blocks.Rows.{front, scan, through}
 
 -- ---- text outside
 
--- Where a scalar's lines end: behind spaces, before a character that is none of its lines'.
+-- Where a scalar's lines end: after spaces, before a character that is none of its lines'.
 pub record Outside (column : ℕ) (next : List ℕ) (p : Position) : Type 0 where
   pub char : ℕ
   pub rest : List ℕ

@@ -10,7 +10,7 @@ use Rattle.defs_text.specs.Classes.{tab}
 use Rattle.defs_text.specs.Breaks.{is_rest_of_line}
 use Rattle.defs_scalar.specs.FlowScalar.{begins_with}
 use Rattle.defs_scalar.specs.BlockScalar as defs
-use Rattle.defs_scalar.specs.BlockScalar.{BlockStyle, literal, folded, clip, sign_of, digit_of, header_of, ended, behind_style, first_indicator, behind_sign, digit_or_end, behind_digit, sign_or_end}
+use Rattle.defs_scalar.specs.BlockScalar.{BlockStyle, literal, folded, clip, sign_of, digit_of, header_of, ended, after_style, first_indicator, after_sign, digit_or_end, after_digit, sign_or_end}
 use Rattle.model_lexers.specs.Machine.{past}
 use Rattle.model_lexers.specs.Space.{linebreak}
 use Rattle.model_lexers.specs.Block.{header}
@@ -18,7 +18,7 @@ use Rattle.proof_lexers.specs.HeaderEnds.{indicator_of, digit_or_zero, is_in_lin
 use Rattle.proof_lexers.specs.BlockScan.{digit_by}
 use Rattle.proof_lexers.proofs.Blocks.Headers.{headers_end}
 use Rattle.proof_lexers.proofs.Blocks.Written.{Break, feed, carriage, both, put, Fits}
-use Rattle.proof_lexers.proofs.Blocks.Margins.{behind_break}
+use Rattle.proof_lexers.proofs.Blocks.Margins.{after_break}
 
 -- A header has the style that it begins with, and no digit 0.
 pub record From (s : BlockStyle) (h : defs.Header) : Type 0 where
@@ -52,7 +52,7 @@ digit_from c d h = by (classes.is_between 49 57 c) refl h
         rw (← same) (counted c least)
     by false e f = cc
 
-from_sign : (s : BlockStyle) (ch : defs.Chomping) (l : List ℕ) (h : defs.Header) → behind_sign s ch l ≡ Some h → From s h
+from_sign : (s : BlockStyle) (ch : defs.Chomping) (l : List ℕ) (h : defs.Header) → after_sign s ch l ≡ Some h → From s h
 from_sign s ch [] h e = from_some s (made s ch None) h (record { style_is = refl; digit_is = refl }) e
 from_sign s ch (c ∷ r) h e = by (digit_of c) refl e
   where
@@ -60,7 +60,7 @@ from_sign s ch (c ∷ r) h e = by (digit_of c) refl e
     by (Some d) f g = from_ended s (made s ch (Some d)) h r (record { style_is = refl; digit_is = digit_from c d f }) g
     by None f g = from_ended s (made s ch None) h (c ∷ r) (record { style_is = refl; digit_is = refl }) g
 
-from_digit : (s : BlockStyle) (d : ℕ) (l : List ℕ) (h : defs.Header) → digit_by d ≡ Some d → behind_digit s d l ≡ Some h → From s h
+from_digit : (s : BlockStyle) (d : ℕ) (l : List ℕ) (h : defs.Header) → digit_by d ≡ Some d → after_digit s d l ≡ Some h → From s h
 from_digit s d [] h k e = from_some s (made s clip (Some d)) h (record { style_is = refl; digit_is = k }) e
 from_digit s d (c ∷ r) h k e = by (sign_of c) e
   where
@@ -68,7 +68,7 @@ from_digit s d (c ∷ r) h k e = by (sign_of c) e
     by (Some ch) g = from_ended s (made s ch (Some d)) h r (record { style_is = refl; digit_is = k }) g
     by None g = from_ended s (made s clip (Some d)) h (c ∷ r) (record { style_is = refl; digit_is = k }) g
 
-from_style : (s : BlockStyle) (l : List ℕ) (h : defs.Header) → behind_style s l ≡ Some h → From s h
+from_style : (s : BlockStyle) (l : List ℕ) (h : defs.Header) → after_style s l ≡ Some h → From s h
 from_style s [] h e = from_some s (made s clip None) h (record { style_is = refl; digit_is = refl }) e
 from_style s (c ∷ r) h e = by (sign_of c) (digit_of c) refl e
   where
@@ -88,35 +88,35 @@ said c l h e = by (c == 124) (c == 62) refl refl e
     by_style : (s : BlockStyle) → c ≡ indicator_of s → From s h → Said c h
     by_style s is z = record { begins = is ∙ ap indicator_of (sym z.style_is); digit_is = z.digit_is }
 
-    by : (b f : Bool) → (c == 124) ≡ b → (c == 62) ≡ f → (if b then behind_style literal l else (if f then behind_style folded l else None)) ≡ Some h → Said c h
+    by : (b f : Bool) → (c == 124) ≡ b → (c == 62) ≡ f → (if b then after_style literal l else (if f then after_style folded l else None)) ≡ Some h → Said c h
     by true f g k x = by_style literal (eqb-true c 124 g) (from_style literal l h x)
     by false true g k x = by_style folded (eqb-true c 62 k) (from_style folded l h x)
     by false false g k x = cc
 
 -- ---- the model reads it
 
-module _ (h : defs.Header) (line behind : List ℕ) (p : Position) (is : header_of (indicator_of h.style ∷ line) ≡ Some h) where
-  pub header_reads : is_in_line line ≡ true → ends_line behind ≡ true → begins_with tab (linebreak behind p).rest ≡ false → header p (line ++ behind) (past p) ≡ Ok (read_header h behind (along line (past p)))
-  header_reads inner ends still = by (headers_end h.style line behind p inner ends)
+module _ (h : defs.Header) (line after : List ℕ) (p : Position) (is : header_of (indicator_of h.style ∷ line) ≡ Some h) where
+  pub header_reads : is_in_line line ≡ true → ends_line after ≡ true → begins_with tab (linebreak after p).rest ≡ false → header p (line ++ after) (past p) ≡ Ok (read_header h after (along line (past p)))
+  header_reads inner ends still = by (headers_end h.style line after p inner ends)
     where
-      by : EndsAs p h.style line behind (header p (line ++ behind) (past p)) → header p (line ++ behind) (past p) ≡ Ok (read_header h behind (along line (past p)))
-      by (reads g f t e) = let same : g ≡ h = (let x : Some g ≡ Some h = sym f ∙ is in cc) in e ∙ ap (λ k. Ok (read_header k behind (along line (past p)))) same
+      by : EndsAs p h.style line after (header p (line ++ after) (past p)) → header p (line ++ after) (past p) ≡ Ok (read_header h after (along line (past p)))
+      by (reads g f t e) = let same : g ≡ h = (let x : Some g ≡ Some h = sym f ∙ is in cc) in e ∙ ap (λ k. Ok (read_header k after (along line (past p)))) same
       by (tabbed g f t e) = let no : true ≡ false = sym t ∙ still in cc
       by (zero_digit f z e) = let no : None ≡ Some h = sym f ∙ is in cc
       by (comment g b t f w c e) = let no : None ≡ Some h = sym f ∙ is in cc
       by (no_header f e) = let no : None ≡ Some h = sym f ∙ is in cc
 
-  pub header_tabs : is_in_line line ≡ true → ends_line behind ≡ true → begins_with tab (linebreak behind p).rest ≡ true → header p (line ++ behind) (past p) ≡ Err (At problem.BlockScalarTab p)
-  header_tabs inner ends still = by (headers_end h.style line behind p inner ends)
+  pub header_tabs : is_in_line line ≡ true → ends_line after ≡ true → begins_with tab (linebreak after p).rest ≡ true → header p (line ++ after) (past p) ≡ Err (At problem.BlockScalarTab p)
+  header_tabs inner ends still = by (headers_end h.style line after p inner ends)
     where
-      by : EndsAs p h.style line behind (header p (line ++ behind) (past p)) → header p (line ++ behind) (past p) ≡ Err (At problem.BlockScalarTab p)
+      by : EndsAs p h.style line after (header p (line ++ after) (past p)) → header p (line ++ after) (past p) ≡ Err (At problem.BlockScalarTab p)
       by (reads g f t e) = let no : false ≡ true = sym t ∙ still in cc
       by (tabbed g f t e) = e
       by (zero_digit f z e) = let no : None ≡ Some h = sym f ∙ is in cc
       by (comment g b t f w c e) = let no : None ≡ Some h = sym f ∙ is in cc
       by (no_header f e) = let no : None ≡ Some h = sym f ∙ is in cc
 
-pub linebreak_put : (k : Break) (a : List ℕ) (q : Position) → Fits k a → linebreak (put k a) q ≡ record { rest = a; place = behind_break k q; value = tt }
+pub linebreak_put : (k : Break) (a : List ℕ) (q : Position) → Fits k a → linebreak (put k a) q ≡ record { rest = a; place = after_break k q; value = tt }
 linebreak_put feed a q fits = refl
 linebreak_put carriage a q fits = rw fits refl
 linebreak_put both a q fits = refl

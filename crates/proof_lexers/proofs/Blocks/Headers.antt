@@ -13,7 +13,7 @@ use Rattle.defs_text.specs.Classes.{tab}
 use Rattle.defs_text.specs.Breaks.{is_blanks_and_comment, is_rest_of_line}
 use Rattle.defs_scalar.specs.FlowScalar.{begins_with}
 use Rattle.defs_scalar.specs.BlockScalar as defs
-use Rattle.defs_scalar.specs.BlockScalar.{BlockStyle, literal, folded, strip, clip, keep, sign_of, digit_of, header_of, behind_style, first_indicator, behind_sign, digit_or_end, behind_digit, sign_or_end}
+use Rattle.defs_scalar.specs.BlockScalar.{BlockStyle, literal, folded, strip, clip, keep, sign_of, digit_of, header_of, after_style, first_indicator, after_sign, digit_or_end, after_digit, sign_or_end}
 use Rattle.model_lexers.specs.declared.context.SkipTabs.TheVariants.{Yes}
 use Rattle.model_lexers.specs.declared.context.Whitespace.{Whitespace}
 use Rattle.model_lexers.specs.Machine.{Read, past, and_then, skip_while}
@@ -45,7 +45,7 @@ skip_line [] (c ∷ r) p h e = let b = sym (same_break c) ∙ e in rw b refl
 skip_line (c ∷ w) r p h e = let q = first_inner c w h in rw (q.0) (skip_line w r (past p) q.1 e)
 
 module _ (start : Position) where
-  -- behind blanks and a comment, from what was found before
+  -- after blanks and a comment, from what was found before
   abbrev rest_from : List ℕ → Position → Bool → Bool → Result (Read Bool) Fault
   rest_from a p tabs spaces = and_then (space_from Yes a (record { place = p; found = record { found_tabs = tabs; has_valid_yaml_ws = spaces } })) (λ (w : Read Whitespace). header_break start w.rest w.place)
 
@@ -158,7 +158,7 @@ module _ (start : Position) where
       by true false f g = let so = eqb-true c 35 f in rw so (at_comment w refl (hash_fails (w ++ r) p))
       by false false f g = at_other (other_fails c (w ++ r) p false false inner.0 g f)
 
--- ---- behind a header's line
+-- ---- after a header's line
 
 same_rest : (r : List ℕ) (p q : Position) → (linebreak r p).rest ≡ (linebreak r q).rest
 same_rest [] p q = refl
@@ -244,7 +244,7 @@ module _ (start : Position) (style : BlockStyle) (r : List ℕ) (ends : ends_lin
   abbrev Ends : List ℕ → Type 0
   Ends line = EndsAs start style line r (header start (line ++ r) (past start))
 
-  -- behind the indicators, before the rest of the line
+  -- after the indicators, before the rest of the line
   finish : (line before w : List ℕ) (h : defs.Header) → line ≡ before ++ w → is_in_line w ≡ true → header_of (indicator_of style ∷ line) ≡ (if is_rest_of_line w then Some h else None)
       → header_of (indicator_of style ∷ before) ≡ Some h → indicators start (line ++ r) (past start) ≡ Ok (record { rest = w ++ r; place = along before (past start); value = indicators_of h }) → Ends line
   unfolding header
@@ -273,10 +273,10 @@ module _ (start : Position) (style : BlockStyle) (r : List ℕ) (ends : ends_lin
   unfolding header
   zero_fails line none zero e = zero_digit none zero (rw e refl)
 
-  said : (l : List ℕ) → header_of (indicator_of style ∷ l) ≡ behind_style style l
+  said : (l : List ℕ) → header_of (indicator_of style ∷ l) ≡ after_style style l
   said l = by style
     where
-      by : (s : BlockStyle) → header_of (indicator_of s ∷ l) ≡ behind_style s l
+      by : (s : BlockStyle) → header_of (indicator_of s ∷ l) ≡ after_style s l
       by literal = refl
       by folded = refl
 
@@ -290,7 +290,7 @@ module _ (start : Position) (style : BlockStyle) (r : List ℕ) (ends : ends_lin
     is : is_sign c ≡ true
 
   module _ (c : ℕ) (ch : defs.Chomping) (sign : IsSign c ch) where
-    sign_said : (l : List ℕ) → header_of (indicator_of style ∷ c ∷ l) ≡ behind_sign style ch l
+    sign_said : (l : List ℕ) → header_of (indicator_of style ∷ c ∷ l) ≡ after_sign style ch l
     sign_said l = said (c ∷ l) ∙ rw (sign.said_so) refl
 
     with_digit : (l a : List ℕ) (n : ℕ) (p : Position) → increment start (l ++ r) (past (past start)) ≡ Ok (record { rest = a; place = p; value = n })
@@ -343,7 +343,7 @@ module _ (start : Position) (style : BlockStyle) (r : List ℕ) (ends : ends_lin
   -- ---- a digit first
 
   module _ (c : ℕ) (no_plus : (c == 43) ≡ false) (no_minus : (c == 45) ≡ false) (is_count_digit : is_digit c ≡ true) (no_zero : (c == 48) ≡ false) (counts : classes.is_between 49 57 c ≡ true) where
-    digit_said : (l : List ℕ) → header_of (indicator_of style ∷ c ∷ l) ≡ behind_digit style (c - 48) l
+    digit_said : (l : List ℕ) → header_of (indicator_of style ∷ c ∷ l) ≡ after_digit style (c - 48) l
     unfolding sign_of digit_of
     digit_said l = said (c ∷ l) ∙ rw (no_minus, no_plus, counts) refl
 
@@ -406,4 +406,4 @@ module _ (start : Position) (style : BlockStyle) (r : List ℕ) (ends : ends_lin
   of_line (c ∷ l) inner = line_by c l inner (kind_of c)
 
 pub headers_end : HeadersEndAsTheirLineSays
-headers_end style line behind p h e = of_line p style behind e line h
+headers_end style line after p h e = of_line p style after e line h

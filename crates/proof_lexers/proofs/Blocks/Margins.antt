@@ -9,22 +9,22 @@ use Rattle.model_lexers.specs.Block.{Column, Margin, indent_from, Lines, State, 
 use Rattle.proof_lexers.specs.HeaderEnds.{along}
 use Rattle.proof_lexers.proofs.Blocks.Written.{Break, feed, carriage, both, Line, put, Fits}
 
--- the place behind a break
+-- the place after a break
 abbrev pub before_break : Break → Position → Position
 before_break feed p = p
 before_break carriage p = p
 before_break both p = past p
 
-abbrev pub behind_break : Break → Position → Position
-behind_break b p = past_break (before_break b p)
+abbrev pub after_break : Break → Position → Position
+after_break b p = past_break (before_break b p)
 
--- the place behind a line, and behind lines
-abbrev pub behind_line : Line → Position → Position
-behind_line l p = behind_break l.by (along l.text p)
+-- the place after a line, and after lines
+abbrev pub after_line : Line → Position → Position
+after_line l p = after_break l.by (along l.text p)
 
-abbrev pub behind_lines : List Line → Position → Position
-behind_lines [] p = p
-behind_lines (l ∷ ls) p = behind_lines ls (behind_line l p)
+abbrev pub after_lines : List Line → Position → Position
+after_lines [] p = p
+after_lines (l ∷ ls) p = after_lines ls (after_line l p)
 
 -- ---- looking for content in a column
 
@@ -67,7 +67,7 @@ pub col_along : (w : List ℕ) (p : Position) → (along w p).col ≡ p.col + le
 col_along [] p = omega arith
 col_along (c ∷ w) p = col_along w (past p) ∙ omega arith
 
-at_break : (column : ℕ) (k : Break) (a : List ℕ) (p : Position) (b : List ℕ) → Fits k a → indent_from column (put k a) (at p b) ≡ indent_from column a (at (behind_break k p) (b ++ 10 ∷ []))
+at_break : (column : ℕ) (k : Break) (a : List ℕ) (p : Position) (b : List ℕ) → Fits k a → indent_from column (put k a) (at p b) ≡ indent_from column a (at (after_break k p) (b ++ 10 ∷ []))
 unfolding is_break
 at_break column feed a p b fits = refl
 at_break column carriage a p b fits = rw fits refl
@@ -75,7 +75,7 @@ at_break column both a p b fits = refl
 
 -- a line of spaces that ends at the column or before it
 pub empty_passes : (column : ℕ) (l : Line) (a : List ℕ) (p : Position) (b : List ℕ) → is_spaces l.text ≡ true → p.col + length l.text ≤ column → Fits l.by a
-    → indent_from column (l.text ++ put l.by a) (at p b) ≡ indent_from column a (at (behind_line l p) (b ++ 10 ∷ []))
+    → indent_from column (l.text ++ put l.by a) (at p b) ≡ indent_from column a (at (after_line l p) (b ++ 10 ∷ []))
 empty_passes column l a p b h le fits = along_spaces column l.text (put l.by a) p b h le ∙ at_break column l.by a (along l.text p) b fits
 
 pub last_passes : (column : ℕ) (w : List ℕ) (p : Position) (b : List ℕ) → is_spaces w ≡ true → p.col + length w ≤ column → indent_from column w (at p b) ≡ record { rest = []; place = along w p; value = record { column = column; breaks = b } }

@@ -8,7 +8,7 @@ use Rattle.model_lexers.specs.Machine.{is_marker, at_marker}
 use Rattle.proof_lexers.proofs.Bridges.{and_false}
 use Rattle.proof_lexers.specs.HeaderEnds.{ends_line}
 
--- the model looks at four characters, and at NUL behind the end
+-- the model looks at four characters, and at NUL after the end
 pub marker_here : (col : ℕ) (a : List ℕ) → at_marker col a ≡ ((col == 0) && is_document_marker a)
 unfolding at_marker is_marker classes.are_marks classes.is_blank_or_end classes.is_blank classes.is_break classes.is_nul is_blank is_break
 marker_here col [] = refl
@@ -21,7 +21,7 @@ marker_here col (c ∷ d ∷ e ∷ f ∷ a) = ap (λ g. (col == 0) && (classes.a
     by true line = refl
     by false line = refl
 
--- ---- a line and what stands behind it
+-- ---- a line and what stands after it
 
 break_is_none : (c : ℕ) → classes.is_break c ≡ true → ((c == 45) ≡ false) × ((c == 46) ≡ false)
 unfolding classes.is_break

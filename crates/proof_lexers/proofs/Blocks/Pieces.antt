@@ -17,15 +17,15 @@ use Rattle.proof_lexers.specs.BlockScan.{collection_by, digit_by, is_literal, is
 use Rattle.proof_lexers.specs.BlockLaws.{BlockPiecesAreRead}
 use Rattle.proof_lexers.proofs.Blocks.InLine.{first_inner}
 use Rattle.proof_lexers.proofs.Blocks.Written.{Break, feed, carriage, both, Line, put, spell, texts, Fits, AreLines, Lined, lined, split_spell}
-use Rattle.proof_lexers.proofs.Blocks.Margins.{at, behind_line, behind_lines}
+use Rattle.proof_lexers.proofs.Blocks.Margins.{at, after_line, after_lines}
 use Rattle.proof_lexers.proofs.Blocks.Places.{spell_more}
 use Rattle.proof_lexers.proofs.Blocks.Rows.{row_is}
 use Rattle.proof_lexers.proofs.Blocks.Further.{further_outside}
 use Rattle.proof_lexers.proofs.Blocks.HeaderFacts.{Said, said}
 use Rattle.proof_lexers.proofs.Blocks.Columns.{Deep, deep_next, same_column, spell_append, texts_append, are_append}
-use Rattle.proof_lexers.proofs.Blocks.Scans.{style_inner, start, behind, block_is, tab_fails, before_further, before_the_end, header_alone_is_read}
+use Rattle.proof_lexers.proofs.Blocks.Scans.{style_inner, start, after, block_is, tab_fails, before_further, before_the_end, header_alone_is_read}
 
--- ---- a TAB behind the header
+-- ---- a TAB after the header
 
 tab_put : (k : Break) (a : List ℕ) → begins_with tab (put k a) ≡ false
 tab_put feed a = refl
@@ -158,16 +158,16 @@ module _ (indent : ℕ) (p : Position) (next : List ℕ) where
             let found : block (is_literal h.style) indent (indicator_of h.style ∷ (line ++ put k (spell ls next))) p ≡ _ =
             ap (λ a. block (is_literal h.style) indent (indicator_of h.style ∷ (line ++ put k a)) p) (sym same)
             ∙ block_is h line k indent p is digit inner (ls ++ y.lines) y.last column_here (whole_column h.digit indent ls y.lines y.last column_here refl (rw (← y.is) (z.further))) (are_append ls y.lines y.last are_first y.are) y.inner (rw same fits_next) (rw same e)
-            ∙ ap (λ a. behind h line k indent p is digit inner (indent_from column_here a (at (start h line k indent p is digit inner) []))) same in
+            ∙ ap (λ a. after h line k indent p is digit inner (indent_from column_here a (at (start h line k indent p is digit inner) []))) same in
             before_further h line k indent p is digit inner column_here ls next z.rows are_next fits_next are fits z.are_rows not_end (no_tab ls fits are e) found
-            (further_outside column_here next (behind_lines ls (start h line k indent p is digit inner)) (lines_col ls) z.further)
+            (further_outside column_here next (after_lines ls (start h line k indent p is digit inner)) (lines_col ls) z.further)
           where
-            lines_col : (ls : List Line) → (behind_lines ls (start h line k indent p is digit inner)).col ≡ 0
+            lines_col : (ls : List Line) → (after_lines ls (start h line k indent p is digit inner)).col ≡ 0
             lines_col ls = col_of ls (start h line k indent p is digit inner) refl
               where
-                col_of : (ls : List Line) (q : Position) → q.col ≡ 0 → (behind_lines ls q).col ≡ 0
+                col_of : (ls : List Line) (q : Position) → q.col ≡ 0 → (after_lines ls q).col ≡ 0
                 col_of [] q e = e
-                col_of (l ∷ ls) q e = col_of ls (behind_line l q) refl
+                col_of (l ∷ ls) q e = col_of ls (after_line l q) refl
 
     further_read : IsRead indent p b (indicator_of h.style ∷ (line ++ put k (spell ls []))) next (block (is_literal b.style) indent ((indicator_of h.style ∷ (line ++ put k (spell ls []))) ++ next) p)
     further_read =

@@ -14,22 +14,22 @@ use Rattle.proof_lexers.proofs.Bridges.{same_break, and_false}
 use Rattle.proof_lexers.specs.HeaderEnds.{is_in_line, ends_line, along}
 use Rattle.proof_lexers.proofs.Blocks.InLine.{first_inner}
 use Rattle.proof_lexers.proofs.Blocks.Written.{Break, feed, carriage, both, Line, put, spell, texts, Fits, AreLines}
-use Rattle.proof_lexers.proofs.Blocks.Margins.{behind_break, behind_line, behind_lines, at, before, margin_passes, empty_passes, last_passes}
+use Rattle.proof_lexers.proofs.Blocks.Margins.{after_break, after_line, after_lines, at, before, margin_passes, empty_passes, last_passes}
 use Rattle.proof_lexers.proofs.Blocks.Markers.{marker_in_line}
 use Rattle.proof_lexers.proofs.Blocks.Places.{first_space}
 use Rattle.defs_token.specs.BlockPiece.{first_content}
 
--- ---- what is known behind rows
+-- ---- what is known after rows
 
--- behind a row: an empty line's break waits, content takes what waits
-abbrev pub behind_row : (literal : Bool) → Row → Lines → Lines
-behind_row literal empty_row l = record l { breaks = l.breaks ++ 10 ∷ [] }
-behind_row literal (content_row []) l = record l { broken = true }
-behind_row literal (content_row (c ∷ w)) l = record { text = (l.text ++ between literal l (is_blank c)) ++ c ∷ w; breaks = []; broken = true; blank = is_blank c }
+-- after a row: an empty line's break waits, content takes what waits
+abbrev pub after_row : (literal : Bool) → Row → Lines → Lines
+after_row literal empty_row l = record l { breaks = l.breaks ++ 10 ∷ [] }
+after_row literal (content_row []) l = record l { broken = true }
+after_row literal (content_row (c ∷ w)) l = record { text = (l.text ++ between literal l (is_blank c)) ++ c ∷ w; breaks = []; broken = true; blank = is_blank c }
 
-abbrev pub behind_rows : (literal : Bool) → List Row → Lines → Lines
-behind_rows literal [] l = l
-behind_rows literal (r ∷ rs) l = behind_rows literal rs (behind_row literal r l)
+abbrev pub after_rows : (literal : Bool) → List Row → Lines → Lines
+after_rows literal [] l = l
+after_rows literal (r ∷ rs) l = after_rows literal rs (after_row literal r l)
 
 -- before a line
 abbrev pub front : Position → Lines → State
@@ -55,7 +55,7 @@ module _ (literal : Bool) (column : ℕ) where
       let q = first_inner c w h in
       rw (q.0) (chars w a (past p) (with_char c l) q.1 ∙ ap (λ t. scan a (inside (along w (past p)) (record l { text = t }))) (append_assoc l.text (c ∷ []) w))
 
-  line_ends : (k : Break) (a : List ℕ) (p : Position) (l : Lines) → Fits k a → scan (put k a) (inside p l) ≡ scan a (front (behind_break k p) (record l { broken = true }))
+  line_ends : (k : Break) (a : List ℕ) (p : Position) (l : Lines) → Fits k a → scan (put k a) (inside p l) ≡ scan a (front (after_break k p) (record l { broken = true }))
   unfolding is_break
   line_ends feed a p l fits = refl
   line_ends carriage a p l fits = rw fits refl
@@ -69,8 +69,8 @@ module _ (literal : Bool) (column : ℕ) where
   -- ---- empty lines
 
   empty_goes : (l : Line) (a : List ℕ) (p : Position) (x : Lines) → is_spaces l.text ≡ true → p.col + length l.text ≤ column → Fits l.by a
-      → scan (l.text ++ put l.by a) (front p x) ≡ scan a (front (behind_line l p) (behind_row literal empty_row x))
-  empty_goes l a p x h le fits = through (l.text ++ put l.by a) a p (behind_line l p) x (x.breaks ++ 10 ∷ []) (empty_passes column l a p x.breaks h le fits)
+      → scan (l.text ++ put l.by a) (front p x) ≡ scan a (front (after_line l p) (after_row literal empty_row x))
+  empty_goes l a p x h le fits = through (l.text ++ put l.by a) a p (after_line l p) x (x.breaks ++ 10 ∷ []) (empty_passes column l a p x.breaks h le fits)
 
   -- ---- content lines
 
@@ -120,9 +120,9 @@ module _ (literal : Bool) (column : ℕ) where
       let same = eq-eqb p.col column col in
       rw (here, off, same) refl
 
-  -- behind a content line's characters
+  -- after a content line's characters
   abbrev pub written : Row → Lines → Lines
-  written r l = record (behind_row literal r l) { broken = false }
+  written r l = record (after_row literal r l) { broken = false }
 
   content_chars : (w a : List ℕ) (p : Position) (x : Lines) → p.col ≡ 0 → is_in_line w ≡ true → ends_line a ≡ true → column ≤ leading_spaces w → suc column ≤ length w → ((column == 0) && is_document_marker w) ≡ false
       → scan (w ++ a) (front p x) ≡ scan a (inside (along w p) (written (content_row (drop column w)) x))
@@ -174,7 +174,7 @@ row_is column w r h = by (is_spaces w && nat_le (length w) column) ((nat_le colu
 
 module _ (literal : Bool) (column : ℕ) where
   row_goes : (l : Line) (a : List ℕ) (p : Position) (x : Lines) (r : Row) → p.col ≡ 0 → is_in_line l.text ≡ true → Fits l.by a → IsRow column l.text r
-      → scan literal column (l.text ++ put l.by a) (front p x) ≡ scan literal column a (front (behind_line l p) (behind_row literal r x))
+      → scan literal column (l.text ++ put l.by a) (front p x) ≡ scan literal column a (front (after_line l p) (after_row literal r x))
   row_goes l a p x empty_row col inner fits (is_empty h le) = empty_goes literal column l a p x h (omega (arith, le, col)) fits
   row_goes l a p x (content_row m) col inner fits (is_content lead long free) =
       content_chars literal column l.text (put l.by a) p x col inner (break_ends l.by a) lead long free
@@ -182,24 +182,24 @@ module _ (literal : Bool) (column : ℕ) where
       ∙ broken_again (drop column l.text)
     where
       -- content is never empty here
-      broken_again : (m : List ℕ) → scan literal column a (front (behind_line l p) (record (written literal column (content_row m) x) { broken = true })) ≡ scan literal column a (front (behind_line l p) (behind_row literal (content_row m) x))
+      broken_again : (m : List ℕ) → scan literal column a (front (after_line l p) (record (written literal column (content_row m) x) { broken = true })) ≡ scan literal column a (front (after_line l p) (after_row literal (content_row m) x))
       broken_again [] = refl
       broken_again (c ∷ m) = refl
 
   pub rows_go : (ls : List Line) (a : List ℕ) (p : Position) (x : Lines) (rs : List Row) → p.col ≡ 0 → AreLines ls a → rows_of column (texts ls) ≡ Some rs
-      → scan literal column (spell ls a) (front p x) ≡ scan literal column a (front (behind_lines ls p) (behind_rows literal rs x))
-  rows_go [] a p x rs col are h = let none : [] ≡ rs = cc in ap (λ r. scan literal column a (front p (behind_rows literal r x))) none
-  rows_go (l ∷ ls) a p x rs col are h = by (row_of column l.text) (rows_of column (texts ls)) refl refl h (λ more e y. rows_go ls a (behind_line l p) y more refl are.2 e)
+      → scan literal column (spell ls a) (front p x) ≡ scan literal column a (front (after_lines ls p) (after_rows literal rs x))
+  rows_go [] a p x rs col are h = let none : [] ≡ rs = cc in ap (λ r. scan literal column a (front p (after_rows literal r x))) none
+  rows_go (l ∷ ls) a p x rs col are h = by (row_of column l.text) (rows_of column (texts ls)) refl refl h (λ more e y. rows_go ls a (after_line l p) y more refl are.2 e)
     where
       by : (o : Option Row) (os : Option (List Row)) → row_of column l.text ≡ o → rows_of column (texts ls) ≡ os → put_row o os ≡ Some rs
-          → ((more : List Row) → rows_of column (texts ls) ≡ Some more → (y : Lines) → scan literal column (spell ls a) (front (behind_line l p) y) ≡ scan literal column a (front (behind_lines ls (behind_line l p)) (behind_rows literal more y)))
-          → scan literal column (spell (l ∷ ls) a) (front p x) ≡ scan literal column a (front (behind_lines (l ∷ ls) p) (behind_rows literal rs x))
+          → ((more : List Row) → rows_of column (texts ls) ≡ Some more → (y : Lines) → scan literal column (spell ls a) (front (after_line l p) y) ≡ scan literal column a (front (after_lines ls (after_line l p)) (after_rows literal more y)))
+          → scan literal column (spell (l ∷ ls) a) (front p x) ≡ scan literal column a (front (after_lines (l ∷ ls) p) (after_rows literal rs x))
       by None os e f g go = cc
       by (Some r) None e f g go = cc
       by (Some r) (Some more) e f g go =
           let same : r ∷ more ≡ rs = cc in
-          row_goes l (spell ls a) p x r col are.0 are.1 (row_is column l.text r e) ∙ go more f (behind_row literal r x)
-          ∙ ap (λ y. scan literal column a (front (behind_lines (l ∷ ls) p) (behind_rows literal y x))) same
+          row_goes l (spell ls a) p x r col are.0 are.1 (row_is column l.text r e) ∙ go more f (after_row literal r x)
+          ∙ ap (λ y. scan literal column a (front (after_lines (l ∷ ls) p) (after_rows literal y x))) same
 
   -- ---- a last line without a break
 

@@ -16,17 +16,17 @@ use Rattle.defs_text.specs.Position.{position_after}
 use Rattle.defs_token.specs.BlockPiece.{BlockRead, first_content, past_spaces, place_or, block_place}
 use Rattle.model_lexers.specs.Machine.{Read, past, and_then}
 use Rattle.model_lexers.specs.Space.{linebreak}
-use Rattle.model_lexers.specs.Block.{Header, Column, Lines, lines_from, indent_from, content, header, Block, block, behind_header, is_open, tail, empty_text}
+use Rattle.model_lexers.specs.Block.{Header, Column, Lines, lines_from, indent_from, content, header, Block, block, after_header, is_open, tail, empty_text}
 use Rattle.proof_lexers.proofs.Bridges.{and_false}
 use Rattle.proof_lexers.specs.HeaderEnds.{indicator_of, chomping_of, digit_or_zero, indicators_of, is_in_line, along, read_header}
 use Rattle.proof_lexers.specs.BlockScan.{collection_by, digit_by, is_literal, without_spaces, further_place, IsRead, read, shallow, is_none, is_tabbed, is_shallow}
 use Rattle.proof_lexers.proofs.Blocks.Written.{Break, feed, carriage, both, Line, put, spell, texts, Fits, AreLines}
-use Rattle.proof_lexers.proofs.Blocks.Margins.{behind_break, behind_line, behind_lines, at, before, margin_passes, last_passes, col_along}
+use Rattle.proof_lexers.proofs.Blocks.Margins.{after_break, after_line, after_lines, at, before, margin_passes, last_passes, col_along}
 use Rattle.proof_lexers.proofs.Blocks.First.{content_is}
-use Rattle.proof_lexers.proofs.Blocks.Places.{spell_more, behind_chars, behind_put, behind_spell, first_header, first_last, header_alone}
-use Rattle.proof_lexers.proofs.Blocks.Rows.{behind_rows, front, written, rows_go, last_empty, last_content, break_ends, IsRow, is_empty, is_content, Starts, starts}
+use Rattle.proof_lexers.proofs.Blocks.Places.{spell_more, after_chars, after_put, after_spell, first_header, first_last, header_alone}
+use Rattle.proof_lexers.proofs.Blocks.Rows.{after_rows, front, written, rows_go, last_empty, last_content, break_ends, IsRow, is_empty, is_content, Starts, starts}
 use Rattle.proof_lexers.proofs.Blocks.Further.{Outside, further_stops}
-use Rattle.proof_lexers.proofs.Blocks.Values.{behind_empty, content_value, empty_value, end_value, last_value}
+use Rattle.proof_lexers.proofs.Blocks.Values.{after_empty, content_value, empty_value, end_value, last_value}
 use Rattle.proof_lexers.proofs.Blocks.HeaderFacts.{header_reads, header_tabs, linebreak_put}
 use Rattle.proof_lexers.proofs.Blocks.Walks.{Found, FoundIn, found_in, Empty, all_empty, are_full}
 
@@ -36,9 +36,9 @@ not_nil carriage a = refl
 not_nil both a = refl
 
 module _ (h : defs.Header) (line : List ℕ) (k : Break) (indent : ℕ) (p : Position) (is : header_of (indicator_of h.style ∷ line) ≡ Some h) (digit : digit_by (digit_or_zero h.digit) ≡ h.digit) (inner : is_in_line line ≡ true) where
-  -- the place behind the header's break
+  -- the place after the header's break
   abbrev pub start : Position
-  start = behind_break k (along line (past p))
+  start = after_break k (along line (past p))
 
   abbrev pub head : Header
   head = record { indicators = indicators_of h; broken = true }
@@ -46,8 +46,8 @@ module _ (h : defs.Header) (line : List ℕ) (k : Break) (indent : ℕ) (p : Pos
   abbrev pub scanned : List ℕ → Result (Read Block) Fault
   scanned a = block (is_literal h.style) indent (indicator_of h.style ∷ (line ++ put k a)) p
 
-  abbrev pub behind : Read Column → Result (Read Block) Fault
-  behind r = behind_header (is_literal h.style) indent p head r
+  abbrev pub after : Read Column → Result (Read Block) Fault
+  after r = after_header (is_literal h.style) indent p head r
 
   header_is : (a : List ℕ) → Fits k a → begins_with tab a ≡ false → header p (line ++ put k a) (past p) ≡ Ok (record { rest = a; place = start; value = head })
   header_is a fits still =
@@ -57,19 +57,19 @@ module _ (h : defs.Header) (line : List ℕ) (k : Break) (indent : ℕ) (p : Pos
       ∙ ap (λ b. Ok (record { rest = a; place = start; value = record { indicators = indicators_of h; broken = not b } })) (not_nil k a)
 
   pub block_is : (ms : List Line) (e : List ℕ) (column : ℕ) → column_by h.digit (collection_by indent) (texts ms ++ e ∷ []) ≡ column → AreLines ms e → is_in_line e ≡ true → Fits k (spell ms e) → begins_with tab (spell ms e) ≡ false
-      → scanned (spell ms e) ≡ behind (indent_from column (spell ms e) (at start []))
+      → scanned (spell ms e) ≡ after (indent_from column (spell ms e) (at start []))
   unfolding block
   block_is ms e column same are last fits still =
-      ap (λ x. and_then x (λ (r : Read Header). behind_header (is_literal h.style) indent p r.value (content indent r.value.indicators.increment r.rest r.place))) (header_is (spell ms e) fits still)
-      ∙ ap behind (content_is indent (digit_or_zero h.digit) ms e start refl are last)
-      ∙ ap (λ d. behind (indent_from (column_by d (collection_by indent) (texts ms ++ e ∷ [])) (spell ms e) (at start []))) digit
-      ∙ ap (λ c. behind (indent_from c (spell ms e) (at start []))) same
+      ap (λ x. and_then x (λ (r : Read Header). after_header (is_literal h.style) indent p r.value (content indent r.value.indicators.increment r.rest r.place))) (header_is (spell ms e) fits still)
+      ∙ ap after (content_is indent (digit_or_zero h.digit) ms e start refl are last)
+      ∙ ap (λ d. after (indent_from (column_by d (collection_by indent) (texts ms ++ e ∷ [])) (spell ms e) (at start []))) digit
+      ∙ ap (λ c. after (indent_from c (spell ms e) (at start []))) same
 
   pub tab_fails : (a : List ℕ) → Fits k a → begins_with tab a ≡ true → scanned a ≡ Err (At problem.BlockScalarTab p)
   unfolding block
   tab_fails a fits tab_here =
       let there : begins_with tab (linebreak (put k a) p).rest ≡ true = ap (λ (r : Read (Unit {0})). begins_with tab r.rest) (linebreak_put k a p fits) ∙ tab_here in
-      ap (λ x. and_then x (λ (r : Read Header). behind_header (is_literal h.style) indent p r.value (content indent r.value.indicators.increment r.rest r.place))) (header_tabs h line (put k a) p is inner (break_ends k a) there)
+      ap (λ x. and_then x (λ (r : Read Header). after_header (is_literal h.style) indent p r.value (content indent r.value.indicators.increment r.rest r.place))) (header_tabs h line (put k a) p is inner (break_ends k a) there)
 
   module _ (column : ℕ) where
     abbrev search : List ℕ → Read Column
@@ -77,16 +77,16 @@ module _ (h : defs.Header) (line : List ℕ) (k : Break) (indent : ℕ) (p : Pos
 
     -- from where content was looked for up to the lines' end
     finish : (a rest more : List ℕ) (char : ℕ) (place q : Position) (b : List ℕ) (x : Lines) → search a ≡ record { rest = char ∷ rest; place = place; value = record { column = column; breaks = b } }
-        → (nat_lt place.col column && nat_le indent place.col) ≡ false → lines_from (is_literal h.style) column a (front start (behind_empty 0)) ≡ Ok (record { rest = more; place = q; value = x })
-        → behind (search a) ≡ Ok (record { rest = more; place = q; value = record { place = place; text = x.text ++ tail (chomping_of h.chomping) (is_open column more q.col) x } })
+        → (nat_lt place.col column && nat_le indent place.col) ≡ false → lines_from (is_literal h.style) column a (front start (after_empty 0)) ≡ Ok (record { rest = more; place = q; value = x })
+        → after (search a) ≡ Ok (record { rest = more; place = q; value = record { place = place; text = x.text ++ tail (chomping_of h.chomping) (is_open column more q.col) x } })
     finish a rest more char place q b x found deep reads =
-        let same : lines_from (is_literal h.style) column (char ∷ rest) (before place (behind_empty 0) b) ≡ Ok (record { rest = more; place = q; value = x }) =
-        ap (λ (r : Read Column). lines_from (is_literal h.style) column r.rest (before r.place (behind_empty 0) r.value.breaks)) (sym found) ∙ sym (margin_passes (is_literal h.style) column a start (behind_empty 0) []) ∙ reads in
-        ap behind found ∙ rw (deep, same) refl
+        let same : lines_from (is_literal h.style) column (char ∷ rest) (before place (after_empty 0) b) ≡ Ok (record { rest = more; place = q; value = x }) =
+        ap (λ (r : Read Column). lines_from (is_literal h.style) column r.rest (before r.place (after_empty 0) r.value.breaks)) (sym found) ∙ sym (margin_passes (is_literal h.style) column a start (after_empty 0) []) ∙ reads in
+        ap after found ∙ rw (deep, same) refl
 
     refuse : (a rest : List ℕ) (char : ℕ) (place : Position) (b : List ℕ) → search a ≡ record { rest = char ∷ rest; place = place; value = record { column = column; breaks = b } }
-        → (nat_lt place.col column && nat_le indent place.col) ≡ true → behind (search a) ≡ Err (At problem.BlockScalarIndentation place)
-    refuse a rest char place b found shallow_there = ap behind found ∙ rw shallow_there refl
+        → (nat_lt place.col column && nat_le indent place.col) ≡ true → after (search a) ≡ Err (At problem.BlockScalarIndentation place)
+    refuse a rest char place b found shallow_there = ap after found ∙ rw shallow_there refl
 
     in_place : (n : ℕ) → n ≡ column → (nat_lt n column && nat_le indent n) ≡ false
     in_place n e = let deep : nat_lt n column ≡ false = le-ltb n column (omega (arith, e)) in rw deep refl
@@ -115,21 +115,21 @@ module _ (h : defs.Header) (line : List ℕ) (k : Break) (indent : ℕ) (p : Pos
   abbrev scan_of : List ℕ → Result (Read Block) Fault
   scan_of a = scanned h line k indent p is digit inner a
 
-  -- the text of a header's line and those behind it
+  -- the text of a header's line and those after it
   abbrev pub with_header : List ℕ → List ℕ
   with_header a = indicator_of h.style ∷ (line ++ put k a)
 
-  piece_place : (ls : List Line) (next : List ℕ) → AreLines ls next → Fits k (spell ls next) → position_after p (with_header (spell ls [])) next ≡ behind_lines ls first_place
+  piece_place : (ls : List Line) (next : List ℕ) → AreLines ls next → Fits k (spell ls next) → position_after p (with_header (spell ls [])) next ≡ after_lines ls first_place
   piece_place ls next are fits =
       let more : Fits k (spell ls [] ++ next) = rw (spell_more ls [] next) fits in
-      behind_chars (indicator_of h.style ∷ line) (put k (spell ls [])) next p (style_inner h.style line inner) ∙ behind_put k (spell ls []) next (along line (past p)) more ∙ behind_spell ls [] next first_place are
+      after_chars (indicator_of h.style ∷ line) (put k (spell ls [])) next p (style_inner h.style line inner) ∙ after_put k (spell ls []) next (along line (past p)) more ∙ after_spell ls [] next first_place are
 
-  end_place : (ls : List Line) (last : List ℕ) → AreLines ls last → is_in_line last ≡ true → Fits k (spell ls last) → position_after p (with_header (spell ls last)) [] ≡ along last (behind_lines ls first_place)
+  end_place : (ls : List Line) (last : List ℕ) → AreLines ls last → is_in_line last ≡ true → Fits k (spell ls last) → position_after p (with_header (spell ls last)) [] ≡ along last (after_lines ls first_place)
   end_place ls last are last_inner fits =
       let more : Fits k (spell ls last ++ []) = rw append-nil fits in
       let are' : AreLines ls (last ++ []) = rw append-nil are in
-      behind_chars (indicator_of h.style ∷ line) (put k (spell ls last)) [] p (style_inner h.style line inner) ∙ behind_put k (spell ls last) [] (along line (past p)) more ∙ behind_spell ls last [] first_place are'
-      ∙ ap (λ x. position_after (behind_lines ls first_place) x []) (sym (append-nil last)) ∙ behind_chars last [] [] (behind_lines ls first_place) last_inner
+      after_chars (indicator_of h.style ∷ line) (put k (spell ls last)) [] p (style_inner h.style line inner) ∙ after_put k (spell ls last) [] (along line (past p)) more ∙ after_spell ls last [] first_place are'
+      ∙ ap (λ x. position_after (after_lines ls first_place) x []) (sym (append-nil last)) ∙ after_chars last [] [] (after_lines ls first_place) last_inner
 
   piece_first : (column : ℕ) (a : List ℕ) → Fits k a → first_content column true p (with_header a) ≡ first_content column false first_place a
   piece_first column a fits = first_header column (indicator_of h.style ∷ line) k a p (style_inner h.style line inner) fits
@@ -138,9 +138,9 @@ module _ (h : defs.Header) (line : List ℕ) (k : Break) (indent : ℕ) (p : Pos
 
   module _ (column : ℕ) (ls : List Line) (next : List ℕ) (rs : List Row) (are : AreLines ls next) (fits : Fits k (spell ls next)) (are_alone : AreLines ls []) (fits_alone : Fits k (spell ls []))
       (rows : rows_of column (texts ls) ≡ Some rs) (text : is_at_end next ≡ false) (free : is_tabbed (with_header (spell ls [])) next ≡ false)
-      (found_by : scan_of (spell ls next) ≡ behind h line k indent p is digit inner (indent_from column (spell ls next) (at first_place []))) where
+      (found_by : scan_of (spell ls next) ≡ after h line k indent p is digit inner (indent_from column (spell ls next) (at first_place []))) where
     abbrev lines_read : Lines
-    lines_read = behind_rows (is_literal h.style) rs (behind_empty 0)
+    lines_read = after_rows (is_literal h.style) rs (after_empty 0)
 
     abbrev before_text : BlockRead
     before_text = record { style = h.style; column = column; text = value_before_text h rs }
@@ -148,13 +148,13 @@ module _ (h : defs.Header) (line : List ℕ) (k : Break) (indent : ℕ) (p : Pos
     abbrev piece : List ℕ
     piece = with_header (spell ls [])
 
-    read_to : Outside column next (behind_lines ls first_place) → lines_from (is_literal h.style) column (spell ls next) (front first_place (behind_empty 0)) ≡ Ok (record { rest = without_spaces next; place = past_spaces (behind_lines ls first_place) next; value = lines_read })
-    read_to z = rows_go (is_literal h.style) column ls next first_place (behind_empty 0) rs refl are rows ∙ further_stops (is_literal h.style) column next (behind_lines ls first_place) lines_read z
+    read_to : Outside column next (after_lines ls first_place) → lines_from (is_literal h.style) column (spell ls next) (front first_place (after_empty 0)) ≡ Ok (record { rest = without_spaces next; place = past_spaces (after_lines ls first_place) next; value = lines_read })
+    read_to z = rows_go (is_literal h.style) column ls next first_place (after_empty 0) rs refl are rows ∙ further_stops (is_literal h.style) column next (after_lines ls first_place) lines_read z
 
-    closed : Outside column next (behind_lines ls first_place) → (n : ℕ) → is_open column (without_spaces next) n ≡ false
+    closed : Outside column next (after_lines ls first_place) → (n : ℕ) → is_open column (without_spaces next) n ≡ false
     closed z n = rw (z.is) refl
 
-    place_is : past_spaces (behind_lines ls first_place) next ≡ further_place p piece next
+    place_is : past_spaces (after_lines ls first_place) next ≡ further_place p piece next
     place_is = ap (λ q. past_spaces q next) (sym (piece_place ls next are fits))
 
     content_there : {q : Position} → first_content column true p piece ≡ Some q → is_shallow indent p before_text piece next ≡ false
@@ -162,11 +162,11 @@ module _ (h : defs.Header) (line : List ℕ) (k : Break) (indent : ℕ) (p : Pos
         ap (λ o. ((not (is_at_end next) && is_none o) && nat_le indent (further_place p piece next).col) && nat_lt (further_place p piece next).col column) e
         ∙ second_false (not (is_at_end next)) (nat_le indent (further_place p piece next).col) (nat_lt (further_place p piece next).col column)
 
-    with_rows : has_content rs ≡ true → Outside column next (behind_lines ls first_place) → FoundIn column ls next first_place [] → IsRead indent p before_text piece next (scan_of (spell ls next))
+    with_rows : has_content rs ≡ true → Outside column next (after_lines ls first_place) → FoundIn column ls next first_place [] → IsRead indent p before_text piece next (scan_of (spell ls next))
     with_rows some z f =
         let c = f.here in
         let where_is : block_place column p piece next ≡ c.place = ap (λ o. place_or o (if is_at_end next then p else past_spaces (position_after p piece next) next)) (piece_first column (spell ls []) fits_alone ∙ f.first [] are_alone) in
-        let text_is : lines_read.text ++ tail (chomping_of h.chomping) (is_open column (without_spaces next) (past_spaces (behind_lines ls first_place) next).col) lines_read ≡ value_before_text h rs =
+        let text_is : lines_read.text ++ tail (chomping_of h.chomping) (is_open column (without_spaces next) (past_spaces (after_lines ls first_place) next).col) lines_read ≡ value_before_text h rs =
         ap (λ b. lines_read.text ++ tail (chomping_of h.chomping) b lines_read) (closed z _) ∙ content_value h false rs (are_full column (texts ls) rs rows) some ∙ rw some refl in
         read free (content_there (piece_first column (spell ls []) fits_alone ∙ f.first [] are_alone)) (found_by ∙ finish h line k indent p is digit inner column (spell ls next) c.rest (without_spaces next) c.char c.place _ c.breaks_before lines_read c.found (in_place h line k indent p is digit inner column c.place.col c.in_column) (read_to z)
         ∙ answer (without_spaces next) _ (further_place p piece next) c.place (block_place column p piece next) _ (value_before_text h rs) place_is (sym where_is) text_is)
@@ -174,7 +174,7 @@ module _ (h : defs.Header) (line : List ℕ) (k : Break) (indent : ℕ) (p : Pos
     none_place : (n : ℕ) → Empty column ls next first_place [] n → first_content column true p piece ≡ None
     none_place n f = piece_first column (spell ls []) fits_alone ∙ f.first [] are_alone
 
-    without_rows : (n : ℕ) → has_content rs ≡ false → Outside column next (behind_lines ls first_place) → Empty column ls next first_place [] n → IsRead indent p before_text piece next (scan_of (spell ls next))
+    without_rows : (n : ℕ) → has_content rs ≡ false → Outside column next (after_lines ls first_place) → Empty column ls next first_place [] n → IsRead indent p before_text piece next (scan_of (spell ls next))
     without_rows n none z f = by (nat_lt z.place.col column) (nat_le indent z.place.col) refl refl
       where
         here : z.place ≡ further_place p piece next
@@ -184,7 +184,7 @@ module _ (h : defs.Header) (line : List ℕ) (k : Break) (indent : ℕ) (p : Pos
         where_is = ap (λ o. place_or o (if is_at_end next then p else past_spaces (position_after p piece next) next)) (none_place n f)
             ∙ ap (λ b. (if b then p else past_spaces (position_after p piece next) next)) text ∙ sym here
 
-        text_is : lines_read.text ++ tail (chomping_of h.chomping) (is_open column (without_spaces next) (past_spaces (behind_lines ls first_place) next).col) lines_read ≡ value_before_text h rs
+        text_is : lines_read.text ++ tail (chomping_of h.chomping) (is_open column (without_spaces next) (past_spaces (after_lines ls first_place) next).col) lines_read ≡ value_before_text h rs
         text_is = ap (λ b. lines_read.text ++ tail (chomping_of h.chomping) b lines_read) (closed z _) ∙ empty_value h rs none ∙ rw none refl
 
         found : indent_from column (spell ls next) (at first_place []) ≡ record { rest = z.char ∷ z.rest; place = z.place; value = record { column = column; breaks = breaks n } }
@@ -207,7 +207,7 @@ module _ (h : defs.Header) (line : List ℕ) (k : Break) (indent : ℕ) (p : Pos
         by true false e g = go (rw (e, g) refl) (is_here ∙ rw g refl)
         by false i e g = go (rw e refl) (is_here ∙ rw e (and_false (nat_le indent z.place.col)))
 
-    pub before_further : Outside column next (behind_lines ls first_place) → IsRead indent p before_text piece next (scan_of (spell ls next))
+    pub before_further : Outside column next (after_lines ls first_place) → IsRead indent p before_text piece next (scan_of (spell ls next))
     before_further z = by (has_content rs) refl
       where
         by : (b : Bool) → has_content rs ≡ b → IsRead indent p before_text piece next (scan_of (spell ls next))
@@ -218,9 +218,9 @@ module _ (h : defs.Header) (line : List ℕ) (k : Break) (indent : ℕ) (p : Pos
 
   module _ (column : ℕ) (ls : List Line) (last : List ℕ) (rs : List Row) (are : AreLines ls last) (last_inner : is_in_line last ≡ true) (fits : Fits k (spell ls last))
       (rows : rows_of column (texts ls) ≡ Some rs)
-      (found_by : scan_of (spell ls last) ≡ behind h line k indent p is digit inner (indent_from column (spell ls last) (at first_place []))) where
+      (found_by : scan_of (spell ls last) ≡ after h line k indent p is digit inner (indent_from column (spell ls last) (at first_place []))) where
     abbrev rows_read : Lines
-    rows_read = behind_rows (is_literal h.style) rs (behind_empty 0)
+    rows_read = after_rows (is_literal h.style) rs (after_empty 0)
 
     abbrev before_end : Row → BlockRead
     before_end r = record { style = h.style; column = column; text = value_before_end h column rs last r }
@@ -229,7 +229,7 @@ module _ (h : defs.Header) (line : List ℕ) (k : Break) (indent : ℕ) (p : Pos
     whole = with_header (spell ls last)
 
     abbrev last_place : Position
-    last_place = behind_lines ls first_place
+    last_place = after_lines ls first_place
 
     whole_place : along last last_place ≡ further_place p whole []
     whole_place = sym (end_place ls last are last_inner fits)
@@ -254,9 +254,9 @@ module _ (h : defs.Header) (line : List ℕ) (k : Break) (indent : ℕ) (p : Pos
     at_front : last_place.col ≡ 0
     at_front = front_of ls first_place refl
       where
-        front_of : (ls : List Line) (q : Position) → q.col ≡ 0 → (behind_lines ls q).col ≡ 0
+        front_of : (ls : List Line) (q : Position) → q.col ≡ 0 → (after_lines ls q).col ≡ 0
         front_of [] q e = e
-        front_of (l ∷ ls) q e = front_of ls (behind_line l q) refl
+        front_of (l ∷ ls) q e = front_of ls (after_line l q) refl
 
     abbrev read_end : Row → Type 0
     read_end r = IsRead indent p (before_end r) whole [] (scan_of (spell ls last))
@@ -265,8 +265,8 @@ module _ (h : defs.Header) (line : List ℕ) (k : Break) (indent : ℕ) (p : Pos
     empty_some : has_content rs ≡ true → is_spaces last ≡ true → length last ≤ column → FoundIn column ls last first_place [] → read_end empty_row
     empty_some some spaces le f =
         let c = f.here in
-        let reads : lines_from (is_literal h.style) column (spell ls last) (front first_place (behind_empty 0)) ≡ Ok (record { rest = []; place = along last last_place; value = rows_read }) =
-        rows_go (is_literal h.style) column ls last first_place (behind_empty 0) rs refl are rows ∙ last_empty (is_literal h.style) column last last_place rows_read at_front spaces le in
+        let reads : lines_from (is_literal h.style) column (spell ls last) (front first_place (after_empty 0)) ≡ Ok (record { rest = []; place = along last last_place; value = rows_read }) =
+        rows_go (is_literal h.style) column ls last first_place (after_empty 0) rs refl are rows ∙ last_empty (is_literal h.style) column last last_place rows_read at_front spaces le in
         let far : (along last last_place).col ≡ length last = (let e = at_front in let g = last_col in omega (arith, e, g)) in
         let open_is : is_open column [] (along last last_place).col ≡ nat_le (max column 1) (length last) = reaches (along last last_place).col ∙ ap (nat_le (max column 1)) far in
         let text_is : rows_read.text ++ tail (chomping_of h.chomping) (is_open column [] (along last last_place).col) rows_read ≡ value_before_end h column rs last empty_row =
@@ -279,7 +279,7 @@ module _ (h : defs.Header) (line : List ℕ) (k : Break) (indent : ℕ) (p : Pos
         let low : last_place.col + length last ≤ column = (let e = at_front in omega (arith, e, le)) in
         let found : indent_from column (spell ls last) (at first_place []) ≡ record { rest = []; place = along last last_place; value = record { column = column; breaks = breaks (length rs) } } = f.passes ∙ last_passes column last last_place (breaks (length rs)) spaces low in
         let where_is : block_place column p whole [] ≡ p = ap (λ o. place_or o p) (whole_first ∙ f.first last are ∙ first_last column last last_place spaces low) in
-        read (and_false _) refl (found_by ∙ ap (behind h line k indent p is digit inner) found
+        read (and_false _) refl (found_by ∙ ap (after h line k indent p is digit inner) found
         ∙ answer [] _ (further_place p whole []) p (block_place column p whole []) _ (value_before_end h column rs last empty_row) whole_place (sym where_is) (end_value h.chomping (length rs) ∙ rw none refl))
 
     -- a last line of content
@@ -306,7 +306,7 @@ module _ (h : defs.Header) (line : List ℕ) (k : Break) (indent : ℕ) (p : Pos
         → lines_from (is_literal h.style) column last (front last_place rows_read) ≡ Ok (record { rest = []; place = along last last_place; value = last_read }) → read_end last_row
     content_by c first z long reads =
         read (and_false _) refl (found_by ∙ finish h line k indent p is digit inner column (spell ls last) c.rest [] c.char c.place _ c.breaks_before last_read c.found (in_place h line k indent p is digit inner column c.place.col c.in_column)
-        (rows_go (is_literal h.style) column ls last first_place (behind_empty 0) rs refl are rows ∙ reads)
+        (rows_go (is_literal h.style) column ls last first_place (after_empty 0) rs refl are rows ∙ reads)
         ∙ answer [] _ (further_place p whole []) c.place (block_place column p whole []) _ (value_before_end h column rs last last_row) whole_place (sym (at_content c.place first)) (content_text z long))
 
     last_found : (n : ℕ) → Empty column ls last first_place [] n → Starts (is_literal h.style) column last [] last_place (breaks n) column → Found column (spell ls last) first_place []
@@ -373,10 +373,10 @@ header_alone_is_read h line indent p is inner =
     let q = along line (past p) in
     let i = digit_or_zero h.digit in
     let header_reads_it : header p line (past p) ≡ Ok (read_header h [] q) = ap (λ a. header p a (past p)) (sym (append-nil line)) ∙ header_reads h line [] p is inner refl refl in
-    let ends : behind_header (is_literal h.style) indent p (record { indicators = indicators_of h; broken = false }) (content indent i [] q) ≡ result [] q p [] =
+    let ends : after_header (is_literal h.style) indent p (record { indicators = indicators_of h; broken = false }) (content indent i [] q) ≡ result [] q p [] =
     rw (no_lines indent i q, same_end indent i q, nothing_there h.chomping (content indent i [] q).value.breaks) refl in
     let place : q ≡ further_place p (indicator_of h.style ∷ line) [] =
-    sym (ap (λ x. position_after p x []) (sym (append-nil (indicator_of h.style ∷ line))) ∙ behind_chars (indicator_of h.style ∷ line) [] [] p (style_inner h.style line inner)) in
+    sym (ap (λ x. position_after p x []) (sym (append-nil (indicator_of h.style ∷ line))) ∙ after_chars (indicator_of h.style ∷ line) [] [] p (style_inner h.style line inner)) in
     let where_is : block_place 0 p (indicator_of h.style ∷ line) [] ≡ p = ap (λ o. place_or o p) (header_alone 0 (indicator_of h.style ∷ line) p (style_inner h.style line inner)) in
-    read (and_false _) refl (ap (λ x. and_then x (λ (r : Read Header). behind_header (is_literal h.style) indent p r.value (content indent r.value.indicators.increment r.rest r.place))) header_reads_it
+    read (and_false _) refl (ap (λ x. and_then x (λ (r : Read Header). after_header (is_literal h.style) indent p r.value (content indent r.value.indicators.increment r.rest r.place))) header_reads_it
     ∙ ends ∙ answer [] q (further_place p (indicator_of h.style ∷ line) []) p (block_place 0 p (indicator_of h.style ∷ line) []) [] [] place (sym where_is) refl)

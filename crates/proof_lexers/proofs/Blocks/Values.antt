@@ -2,12 +2,12 @@
 use Rattle.std.proofs.Common.{◌≡◌, ℕ, zero, suc, ◌+◌, List, [], ◌∷◌, ◌++◌, Bool, true, false, ◌||◌, if◌then◌else◌, length, max, refl, ap, sym, ◌∙◌, append-nil, append_assoc, arith}
 use Rattle.yaml_chars.specs.Class.{is_blank}
 use Rattle.defs_scalar.specs.BlockScalar as defs
-use Rattle.defs_scalar.specs.BlockScalar.{BlockStyle, literal, folded, strip, clip, keep, Row, empty_row, content_row, starts_blank, breaks, between_lines, text_behind, text_of, has_content, empty_behind, with_content, nothing_before_text, nothing_before_end}
+use Rattle.defs_scalar.specs.BlockScalar.{BlockStyle, literal, folded, strip, clip, keep, Row, empty_row, content_row, starts_blank, breaks, between_lines, text_after, text_of, has_content, empty_after, with_content, nothing_before_text, nothing_before_end}
 use Rattle.model_lexers.specs.Block.{Lines, between, tail, empty_text}
 use Rattle.proof_lexers.proofs.Bridges.{same_blank}
 use Rattle.proof_lexers.specs.HeaderEnds.{chomping_of}
 use Rattle.proof_lexers.specs.BlockScan.{is_literal}
-use Rattle.proof_lexers.proofs.Blocks.Rows.{behind_row, behind_rows}
+use Rattle.proof_lexers.proofs.Blocks.Rows.{after_row, after_rows}
 
 -- content is never empty
 abbrev pub AreFull : List Row → Type 0
@@ -24,13 +24,13 @@ break_before : (n : ℕ) (t : List ℕ) → breaks (suc n) ++ t ≡ breaks n ++ 
 break_before zero t = refl
 break_before (suc n) t = ap (λ r. 10 ∷ r) (break_before n t)
 
--- behind content and empty lines
-abbrev behind_content : List ℕ → ℕ → Bool → Lines
-behind_content t n b = record { text = t; breaks = breaks n; broken = true; blank = b }
+-- after content and empty lines
+abbrev after_content : List ℕ → ℕ → Bool → Lines
+after_content t n b = record { text = t; breaks = breaks n; broken = true; blank = b }
 
--- behind empty lines alone
-abbrev pub behind_empty : ℕ → Lines
-behind_empty n = record { text = []; breaks = breaks n; broken = false; blank = false }
+-- after empty lines alone
+abbrev pub after_empty : ℕ → Lines
+after_empty n = record { text = []; breaks = breaks n; broken = false; blank = false }
 
 record Holds (x : Lines) (text : List ℕ) (n : ℕ) : Type 0 where
   text_is : x.text ≡ text
@@ -40,7 +40,7 @@ record Holds (x : Lines) (text : List ℕ) (n : ℕ) : Type 0 where
 holds_on : (x y : Lines) (t u : List ℕ) (n : ℕ) → x ≡ y → t ≡ u → Holds y t n → Holds x u n
 holds_on x y t u n e f z = record { text_is = ap (λ (l : Lines). l.text) e ∙ z.text_is ∙ f; breaks_are = ap (λ (l : Lines). l.breaks) e ∙ z.breaks_are; is_broken = ap (λ (l : Lines). l.broken) e ∙ z.is_broken }
 
-between_is : (s : BlockStyle) (t : List ℕ) (n : ℕ) (b k : Bool) → between (is_literal s) (behind_content t n b) k ≡ between_lines s n (b || k)
+between_is : (s : BlockStyle) (t : List ℕ) (n : ℕ) (b k : Bool) → between (is_literal s) (after_content t n b) k ≡ between_lines s n (b || k)
 unfolding between
 between_is literal t n b k = refl
 between_is folded t n true k = refl
@@ -48,46 +48,46 @@ between_is folded t n false true = refl
 between_is folded t zero false false = refl
 between_is folded t (suc n) false false = refl
 
-between_first : (s : BlockStyle) (n : ℕ) (k : Bool) → between (is_literal s) (behind_empty n) k ≡ breaks n
+between_first : (s : BlockStyle) (n : ℕ) (k : Bool) → between (is_literal s) (after_empty n) k ≡ breaks n
 unfolding between
 between_first literal n k = refl
 between_first folded n k = refl
 
 module _ (s : BlockStyle) where
-  abbrev rows_behind : List Row → Lines → Lines
-  rows_behind rs l = behind_rows (is_literal s) rs l
+  abbrev rows_after : List Row → Lines → Lines
+  rows_after rs l = after_rows (is_literal s) rs l
 
-  text_goes : (rs : List Row) (t l : List ℕ) (n : ℕ) (b : Bool) → AreFull rs → b ≡ starts_blank l → Holds (rows_behind rs (behind_content t n b)) (t ++ text_behind s l n rs) (empty_behind n rs)
+  text_goes : (rs : List Row) (t l : List ℕ) (n : ℕ) (b : Bool) → AreFull rs → b ≡ starts_blank l → Holds (rows_after rs (after_content t n b)) (t ++ text_after s l n rs) (empty_after n rs)
   text_goes [] t l n b full e = record { text_is = sym (append-nil t); breaks_are = refl; is_broken = refl }
   text_goes (empty_row ∷ rs) t l n b full e =
-      holds_on _ _ _ _ _ (ap (λ x. rows_behind rs (record { text = t; breaks = x; broken = true; blank = b })) (more_breaks n)) refl (text_goes rs t l (suc n) b full e)
+      holds_on _ _ _ _ _ (ap (λ x. rows_after rs (record { text = t; breaks = x; broken = true; blank = b })) (more_breaks n)) refl (text_goes rs t l (suc n) b full e)
   text_goes (content_row [] ∷ rs) t l n b full e = absurd full
   text_goes (content_row (c ∷ m) ∷ rs) t l n b full e =
       let gap = between_lines s n (starts_blank l || starts_blank (c ∷ m)) in
-      let same : between (is_literal s) (behind_content t n b) (is_blank c) ≡ gap = between_is s t n b (is_blank c) ∙ ap (λ k. between_lines s n (k || is_blank c)) e ∙ ap (λ k. between_lines s n (starts_blank l || k)) (sym (same_blank c)) in
-      holds_on _ (rows_behind rs (behind_content ((t ++ gap) ++ c ∷ m) 0 (is_blank c))) (((t ++ gap) ++ c ∷ m) ++ text_behind s (c ∷ m) 0 rs) _ _
-      (ap (λ g. rows_behind rs (behind_content ((t ++ g) ++ c ∷ m) 0 (is_blank c))) same)
-      (ap (λ y. y ++ text_behind s (c ∷ m) 0 rs) (append_assoc t gap (c ∷ m)) ∙ append_assoc t (gap ++ c ∷ m) (text_behind s (c ∷ m) 0 rs))
+      let same : between (is_literal s) (after_content t n b) (is_blank c) ≡ gap = between_is s t n b (is_blank c) ∙ ap (λ k. between_lines s n (k || is_blank c)) e ∙ ap (λ k. between_lines s n (starts_blank l || k)) (sym (same_blank c)) in
+      holds_on _ (rows_after rs (after_content ((t ++ gap) ++ c ∷ m) 0 (is_blank c))) (((t ++ gap) ++ c ∷ m) ++ text_after s (c ∷ m) 0 rs) _ _
+      (ap (λ g. rows_after rs (after_content ((t ++ g) ++ c ∷ m) 0 (is_blank c))) same)
+      (ap (λ y. y ++ text_after s (c ∷ m) 0 rs) (append_assoc t gap (c ∷ m)) ∙ append_assoc t (gap ++ c ∷ m) (text_after s (c ∷ m) 0 rs))
       (text_goes rs ((t ++ gap) ++ c ∷ m) (c ∷ m) 0 (is_blank c) full (sym (same_blank c)))
 
-  first_goes : (rs : List Row) (n k : ℕ) → AreFull rs → has_content rs ≡ true → Holds (rows_behind rs (behind_empty n)) (breaks n ++ text_of s rs) (empty_behind k rs)
+  first_goes : (rs : List Row) (n k : ℕ) → AreFull rs → has_content rs ≡ true → Holds (rows_after rs (after_empty n)) (breaks n ++ text_of s rs) (empty_after k rs)
   first_goes [] n k full h = cc
   first_goes (empty_row ∷ rs) n k full h =
-      holds_on _ _ _ _ _ (ap (λ x. rows_behind rs (record { text = []; breaks = x; broken = false; blank = false })) (more_breaks n)) (break_before n (text_of s rs)) (first_goes rs (suc n) (suc k) full h)
+      holds_on _ _ _ _ _ (ap (λ x. rows_after rs (record { text = []; breaks = x; broken = false; blank = false })) (more_breaks n)) (break_before n (text_of s rs)) (first_goes rs (suc n) (suc k) full h)
   first_goes (content_row [] ∷ rs) n k full h = absurd full
   first_goes (content_row (c ∷ m) ∷ rs) n k full h =
-      holds_on _ (rows_behind rs (behind_content (breaks n ++ c ∷ m) 0 (is_blank c))) ((breaks n ++ c ∷ m) ++ text_behind s (c ∷ m) 0 rs) _ _
-      (ap (λ g. rows_behind rs (behind_content (g ++ c ∷ m) 0 (is_blank c))) (between_first s n (is_blank c)))
-      (append_assoc (breaks n) (c ∷ m) (text_behind s (c ∷ m) 0 rs))
+      holds_on _ (rows_after rs (after_content (breaks n ++ c ∷ m) 0 (is_blank c))) ((breaks n ++ c ∷ m) ++ text_after s (c ∷ m) 0 rs) _ _
+      (ap (λ g. rows_after rs (after_content (g ++ c ∷ m) 0 (is_blank c))) (between_first s n (is_blank c)))
+      (append_assoc (breaks n) (c ∷ m) (text_after s (c ∷ m) 0 rs))
       (text_goes rs (breaks n ++ c ∷ m) (c ∷ m) 0 (is_blank c) full (sym (same_blank c)))
 
-  pub none_goes : (rs : List Row) (n : ℕ) → has_content rs ≡ false → rows_behind rs (behind_empty n) ≡ behind_empty (n + length rs)
-  none_goes [] n h = ap behind_empty (zero_more n)
+  pub none_goes : (rs : List Row) (n : ℕ) → has_content rs ≡ false → rows_after rs (after_empty n) ≡ after_empty (n + length rs)
+  none_goes [] n h = ap after_empty (zero_more n)
     where
       zero_more : (n : ℕ) → n ≡ n + 0
       zero_more n = omega arith
   none_goes (empty_row ∷ rs) n h =
-      ap (λ x. rows_behind rs (record { text = []; breaks = x; broken = false; blank = false })) (more_breaks n) ∙ none_goes rs (suc n) h ∙ ap behind_empty (one_more n (length rs))
+      ap (λ x. rows_after rs (record { text = []; breaks = x; broken = false; blank = false })) (more_breaks n) ∙ none_goes rs (suc n) h ∙ ap after_empty (one_more n (length rs))
     where
       one_more : (n m : ℕ) → suc n + m ≡ n + suc m
       one_more n m = omega arith
@@ -114,24 +114,24 @@ tail_is keep false x n e f = rw (f, e) (ap breaks (one_less n))
 
 -- lines with content
 pub content_value : (h : defs.Header) (unbroken : Bool) (rs : List Row) → AreFull rs → has_content rs ≡ true
-    → (behind_rows (is_literal h.style) rs (behind_empty 0)).text ++ tail (chomping_of h.chomping) unbroken (behind_rows (is_literal h.style) rs (behind_empty 0)) ≡ with_content h (added unbroken) rs
+    → (after_rows (is_literal h.style) rs (after_empty 0)).text ++ tail (chomping_of h.chomping) unbroken (after_rows (is_literal h.style) rs (after_empty 0)) ≡ with_content h (added unbroken) rs
 content_value h unbroken rs full some =
     let z = first_goes h.style rs 0 0 full some in
-    ap (λ t. t ++ tail (chomping_of h.chomping) unbroken (behind_rows (is_literal h.style) rs (behind_empty 0))) z.text_is
-    ∙ ap (λ t. text_of h.style rs ++ t) (tail_is h.chomping unbroken _ (empty_behind 0 rs) z.breaks_are z.is_broken)
+    ap (λ t. t ++ tail (chomping_of h.chomping) unbroken (after_rows (is_literal h.style) rs (after_empty 0))) z.text_is
+    ∙ ap (λ t. text_of h.style rs ++ t) (tail_is h.chomping unbroken _ (empty_after 0 rs) z.breaks_are z.is_broken)
 
 -- no line with content, before further text
-nothing_is : (ch : defs.Chomping) (n : ℕ) → tail (chomping_of ch) false (behind_empty n) ≡ nothing_before_text ch n
+nothing_is : (ch : defs.Chomping) (n : ℕ) → tail (chomping_of ch) false (after_empty n) ≡ nothing_before_text ch n
 unfolding tail
 nothing_is strip n = refl
 nothing_is clip n = refl
 nothing_is keep n = refl
 
 pub empty_value : (h : defs.Header) (rs : List Row) → has_content rs ≡ false
-    → (behind_rows (is_literal h.style) rs (behind_empty 0)).text ++ tail (chomping_of h.chomping) false (behind_rows (is_literal h.style) rs (behind_empty 0)) ≡ nothing_before_text h.chomping (length rs)
+    → (after_rows (is_literal h.style) rs (after_empty 0)).text ++ tail (chomping_of h.chomping) false (after_rows (is_literal h.style) rs (after_empty 0)) ≡ nothing_before_text h.chomping (length rs)
 empty_value h rs none =
     let same : (n : ℕ) → 0 + n ≡ n = λ n. omega arith in
-    ap (λ (l : Lines). l.text ++ tail (chomping_of h.chomping) false l) (none_goes h.style rs 0 none ∙ ap behind_empty (same (length rs))) ∙ nothing_is h.chomping (length rs)
+    ap (λ (l : Lines). l.text ++ tail (chomping_of h.chomping) false l) (none_goes h.style rs 0 none ∙ ap after_empty (same (length rs))) ∙ nothing_is h.chomping (length rs)
 
 -- no line with content, at the end of the text
 pub end_value : (ch : defs.Chomping) (n : ℕ) → empty_text (chomping_of ch) true (breaks n) ≡ nothing_before_end ch n
@@ -146,9 +146,9 @@ end_value keep (suc n) = ap breaks (at_least_one n)
 
 -- ---- a last line of content without a break
 
-rows_more : (b : Bool) (rs : List Row) (r : Row) (l : Lines) → behind_rows b (rs ++ r ∷ []) l ≡ behind_row b r (behind_rows b rs l)
+rows_more : (b : Bool) (rs : List Row) (r : Row) (l : Lines) → after_rows b (rs ++ r ∷ []) l ≡ after_row b r (after_rows b rs l)
 rows_more b [] r l = refl
-rows_more b (q ∷ rs) r l = rows_more b rs r (behind_row b q l)
+rows_more b (q ∷ rs) r l = rows_more b rs r (after_row b q l)
 
 full_more : (rs : List Row) (c : ℕ) (m : List ℕ) → AreFull rs → AreFull (rs ++ content_row (c ∷ m) ∷ [])
 full_more [] c m full = tt
@@ -168,14 +168,14 @@ last_tail clip x n e f = refl
 last_tail keep x n e f = rw e (ap (λ t. 10 ∷ t) (sym f) ∙ ap breaks (one_less n))
 
 pub last_value : (h : defs.Header) (rs : List Row) (c : ℕ) (m : List ℕ) → AreFull rs
-    → (behind_row (is_literal h.style) (content_row (c ∷ m)) (behind_rows (is_literal h.style) rs (behind_empty 0))).text
-    ++ tail (chomping_of h.chomping) true (record (behind_row (is_literal h.style) (content_row (c ∷ m)) (behind_rows (is_literal h.style) rs (behind_empty 0))) { broken = false })
+    → (after_row (is_literal h.style) (content_row (c ∷ m)) (after_rows (is_literal h.style) rs (after_empty 0))).text
+    ++ tail (chomping_of h.chomping) true (record (after_row (is_literal h.style) (content_row (c ∷ m)) (after_rows (is_literal h.style) rs (after_empty 0))) { broken = false })
     ≡ with_content h 0 (rs ++ content_row (c ∷ m) ∷ [])
 last_value h rs c m full =
     let all = rs ++ content_row (c ∷ m) ∷ [] in
-    let x = behind_row (is_literal h.style) (content_row (c ∷ m)) (behind_rows (is_literal h.style) rs (behind_empty 0)) in
+    let x = after_row (is_literal h.style) (content_row (c ∷ m)) (after_rows (is_literal h.style) rs (after_empty 0)) in
     let z = first_goes h.style all 0 0 (full_more rs c m full) (some_more rs (c ∷ m)) in
-    let more = rows_more (is_literal h.style) rs (content_row (c ∷ m)) (behind_empty 0) in
+    let more = rows_more (is_literal h.style) rs (content_row (c ∷ m)) (after_empty 0) in
     let text : x.text ≡ text_of h.style all = ap (λ (l : Lines). l.text) (sym more) ∙ z.text_is in
-    let none : breaks (empty_behind 0 all) ≡ [] = sym z.breaks_are ∙ ap (λ (l : Lines). l.breaks) more in
-    ap (λ t. t ++ tail (chomping_of h.chomping) true (record x { broken = false })) text ∙ ap (λ t. text_of h.style all ++ t) (last_tail h.chomping x (empty_behind 0 all) refl none)
+    let none : breaks (empty_after 0 all) ≡ [] = sym z.breaks_are ∙ ap (λ (l : Lines). l.breaks) more in
+    ap (λ t. t ++ tail (chomping_of h.chomping) true (record x { broken = false })) text ∙ ap (λ t. text_of h.style all ++ t) (last_tail h.chomping x (empty_after 0 all) refl none)

@@ -1,4 +1,4 @@
--- Where content is found behind rows, and how far rows go in a text.
+-- Where content is found after rows, and how far rows go in a text.
 use Rattle.std.proofs.Common.{◌≡◌, ◌≤◌, ℕ, zero, suc, ◌+◌, List, [], ◌∷◌, ◌++◌, true, false, length, drop, Option, Some, None, refl, ap, sym, ◌∙◌, append-nil, arith}
 use Rattle.std.specs.List.{list_all}
 use Rattle.defs_text.specs.Position.{Position}
@@ -8,7 +8,7 @@ use Rattle.model_lexers.specs.Block.{indent_from}
 use Rattle.proof_lexers.specs.HeaderEnds.{is_in_line}
 use Rattle.proof_lexers.specs.BlockScan.{is_some}
 use Rattle.proof_lexers.proofs.Blocks.Written.{Line, put, spell, texts, Fits, AreLines}
-use Rattle.proof_lexers.proofs.Blocks.Margins.{behind_line, behind_lines, at, empty_passes}
+use Rattle.proof_lexers.proofs.Blocks.Margins.{after_line, after_lines, at, empty_passes}
 use Rattle.proof_lexers.proofs.Blocks.Places.{first_empty}
 use Rattle.proof_lexers.proofs.Blocks.Rows.{IsRow, is_empty, is_content, row_is, break_ends, Starts, starts}
 use Rattle.proof_lexers.proofs.Blocks.Values.{AreFull}
@@ -46,7 +46,7 @@ are_full column (w ∷ ws) rs h = by (first_of column w ws rs h) (are_full colum
 
 -- ---- the first content
 
--- Content was found behind rows.
+-- Content was found after rows.
 pub record Found (column : ℕ) (a : List ℕ) (p : Position) (b : List ℕ) : Type 0 where
   pub char : ℕ
   pub rest : List ℕ
@@ -66,7 +66,7 @@ module _ (column : ℕ) where
     first = λ y are. z.first (put l.by (spell ls y));
   }
 
-  later_found : (l : Line) (ls : List Line) (a : List ℕ) (p : Position) (b : List ℕ) → is_spaces l.text ≡ true → p.col + length l.text ≤ column → Fits l.by (spell ls a) → FoundIn ls a (behind_line l p) (b ++ 10 ∷ []) → FoundIn (l ∷ ls) a p b
+  later_found : (l : Line) (ls : List Line) (a : List ℕ) (p : Position) (b : List ℕ) → is_spaces l.text ≡ true → p.col + length l.text ≤ column → Fits l.by (spell ls a) → FoundIn ls a (after_line l p) (b ++ 10 ∷ []) → FoundIn (l ∷ ls) a p b
   later_found l ls a p b h le fits z = record {
     here = record {
       char = z.here.char;
@@ -80,27 +80,27 @@ module _ (column : ℕ) where
   }
 
   found_by : (l : Line) (ls : List Line) (a : List ℕ) (p : Position) (b : List ℕ) (r : Row) (more : List Row) → p.col ≡ 0 → AreLines (l ∷ ls) a → has_content (r ∷ more) ≡ true → IsRow column l.text r
-      → (has_content more ≡ true → FoundIn ls a (behind_line l p) (b ++ 10 ∷ [])) → FoundIn (l ∷ ls) a p b
+      → (has_content more ≡ true → FoundIn ls a (after_line l p) (b ++ 10 ∷ [])) → FoundIn (l ∷ ls) a p b
   found_by l ls a p b empty_row more col are some (is_empty h le) go = later_found l ls a p b h (omega (arith, le, col)) are.1 (go some)
   found_by l ls a p b (content_row m) more col are some (is_content lead long free) go = content_found l ls a p b (starts true column column l.text (put l.by (spell ls a)) p b (omega (arith, col)) lead long are.0)
 
   pub found_in : (ls : List Line) (a : List ℕ) (p : Position) (b : List ℕ) (rs : List Row) → p.col ≡ 0 → AreLines ls a → rows_of column (texts ls) ≡ Some rs → has_content rs ≡ true → FoundIn ls a p b
   found_in [] a p b rs col are h some = let none : [] ≡ rs = cc in let no : false ≡ true = rw (← none) at some in cc
-  found_in (l ∷ ls) a p b rs col are h some = by (first_of column l.text (texts ls) rs h) (λ more e x. found_in ls a (behind_line l p) (b ++ 10 ∷ []) more refl are.2 e x)
+  found_in (l ∷ ls) a p b rs col are h some = by (first_of column l.text (texts ls) rs h) (λ more e x. found_in ls a (after_line l p) (b ++ 10 ∷ []) more refl are.2 e x)
     where
-      by : First column l.text (texts ls) rs → ((more : List Row) → rows_of column (texts ls) ≡ Some more → has_content more ≡ true → FoundIn ls a (behind_line l p) (b ++ 10 ∷ [])) → FoundIn (l ∷ ls) a p b
+      by : First column l.text (texts ls) rs → ((more : List Row) → rows_of column (texts ls) ≡ Some more → has_content more ≡ true → FoundIn ls a (after_line l p) (b ++ 10 ∷ [])) → FoundIn (l ∷ ls) a p b
       by (first_row r more e is f) go = found_by l ls a p b r more col are (ap has_content (sym e) ∙ some) is (go more f)
 
   -- ---- empty lines alone
 
   pub record Empty (ls : List Line) (a : List ℕ) (p : Position) (b : List ℕ) (n : ℕ) : Type 0 where
-    pub passes : indent_from column (spell ls a) (at p b) ≡ indent_from column a (at (behind_lines ls p) (b ++ breaks n))
-    pub first : (y : List ℕ) → AreLines ls y → first_content column false p (spell ls y) ≡ first_content column false (behind_lines ls p) y
+    pub passes : indent_from column (spell ls a) (at p b) ≡ indent_from column a (at (after_lines ls p) (b ++ breaks n))
+    pub first : (y : List ℕ) → AreLines ls y → first_content column false p (spell ls y) ≡ first_content column false (after_lines ls p) y
 
   one_empty : (l : Line) (ls : List Line) (a : List ℕ) (p : Position) (b : List ℕ) (n : ℕ) → is_spaces l.text ≡ true → p.col + length l.text ≤ column → Fits l.by (spell ls a)
-      → Empty ls a (behind_line l p) (b ++ 10 ∷ []) n → Empty (l ∷ ls) a p b (suc n)
+      → Empty ls a (after_line l p) (b ++ 10 ∷ []) n → Empty (l ∷ ls) a p b (suc n)
   one_empty l ls a p b n h le fits z = record {
-    passes = empty_passes column l (spell ls a) p b h le fits ∙ z.passes ∙ ap (λ x. indent_from column a (at (behind_lines ls (behind_line l p)) x)) (one_more b n);
+    passes = empty_passes column l (spell ls a) p b h le fits ∙ z.passes ∙ ap (λ x. indent_from column a (at (after_lines ls (after_line l p)) x)) (one_more b n);
     first = λ y are. first_empty column l (spell ls y) p h le are.1 ∙ z.first y are.2;
   }
     where
@@ -109,7 +109,7 @@ module _ (column : ℕ) where
       one_more (c ∷ b) n = ap (λ x. c ∷ x) (one_more b n)
 
   empty_by : (l : Line) (ls : List Line) (a : List ℕ) (p : Position) (b : List ℕ) (r : Row) (more : List Row) → p.col ≡ 0 → AreLines (l ∷ ls) a → has_content (r ∷ more) ≡ false → IsRow column l.text r
-      → (has_content more ≡ false → Empty ls a (behind_line l p) (b ++ 10 ∷ []) (length more)) → Empty (l ∷ ls) a p b (length (r ∷ more))
+      → (has_content more ≡ false → Empty ls a (after_line l p) (b ++ 10 ∷ []) (length more)) → Empty (l ∷ ls) a p b (length (r ∷ more))
   empty_by l ls a p b empty_row more col are none (is_empty h le) go = one_empty l ls a p b (length more) h (omega (arith, le, col)) are.1 (go none)
   empty_by l ls a p b (content_row m) more col are none (is_content lead long free) go = let no : true ≡ false = none in cc
 
@@ -117,9 +117,9 @@ module _ (column : ℕ) where
   all_empty [] a p b rs col are h none =
       let same : [] ≡ rs = cc in
       rw (← same) (record { passes = ap (λ x. indent_from column a (at p x)) (sym (append-nil b)); first = λ y are. refl })
-  all_empty (l ∷ ls) a p b rs col are h none = by (first_of column l.text (texts ls) rs h) (λ more e x. all_empty ls a (behind_line l p) (b ++ 10 ∷ []) more refl are.2 e x)
+  all_empty (l ∷ ls) a p b rs col are h none = by (first_of column l.text (texts ls) rs h) (λ more e x. all_empty ls a (after_line l p) (b ++ 10 ∷ []) more refl are.2 e x)
     where
-      by : First column l.text (texts ls) rs → ((more : List Row) → rows_of column (texts ls) ≡ Some more → has_content more ≡ false → Empty ls a (behind_line l p) (b ++ 10 ∷ []) (length more)) → Empty (l ∷ ls) a p b (length rs)
+      by : First column l.text (texts ls) rs → ((more : List Row) → rows_of column (texts ls) ≡ Some more → has_content more ≡ false → Empty ls a (after_line l p) (b ++ 10 ∷ []) (length more)) → Empty (l ∷ ls) a p b (length rs)
       by (first_row r more e is f) go = rw e (empty_by l ls a p b r more col are (ap has_content (sym e) ∙ none) is (go more f))
 
   -- ---- how far rows go

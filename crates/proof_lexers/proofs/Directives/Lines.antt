@@ -12,7 +12,7 @@ use Rattle.defs_text.specs.Classes as classes
 use Rattle.defs_text.specs.Classes.{is_at_gap}
 use Rattle.defs_text.specs.Breaks.{is_rest_of_line}
 use Rattle.defs_scalar.specs.FlowScalar.{begins_with}
-use Rattle.defs_scalar.specs.Tags.{UriFault, leading, behind, is_same, decoded, is_handle}
+use Rattle.defs_scalar.specs.Tags.{UriFault, leading, after, is_same, decoded, is_handle}
 use Rattle.defs_scalar.specs.Directives as defs
 use Rattle.defs_scalar.specs.Directives.{Directive, tag_declaration, reserved, number_of, version_by, minor_of, version_of, prefix_by, begins_prefix, prefix_of, handle_and_rest, declaration_by, declaration_of, directive_by, directive_of}
 use Rattle.defs_text.specs.Position.{position_after}
@@ -20,16 +20,16 @@ use Rattle.defs_text.specs.Breaks.{has_no_break}
 use Rattle.model_lexers.specs.Machine.{Read, past, and_then, skip_while}
 use Rattle.model_lexers.specs.Space.{blanks}
 use Rattle.model_lexers.specs.Tag.{handle, prefix}
-use Rattle.model_lexers.specs.Directive.{version, tag, unknown, kind, name, number, with_minor, behind_major, version_value, with_prefix, prefix_behind, tag_value, value, line_end, with_end, behind_value, behind_name, directive}
+use Rattle.model_lexers.specs.Directive.{version, tag, unknown, kind, name, number, with_minor, after_major, version_value, with_prefix, prefix_after, tag_value, value, line_end, with_end, after_value, after_name, directive}
 use Rattle.proof_lexers.proofs.Bridges.{same_blank, same_alpha, same_tag}
 use Rattle.proof_lexers.specs.NameEnds.{further}
-use Rattle.proof_lexers.specs.UriEnds.{problem_of, behind_class}
-use Rattle.proof_lexers.specs.DirectiveEnds.{token_of, ends_line, first_break, next_line, behind_line, IsNoVersion, no_major, long_major, no_point, no_minor, long_minor, IsNoDeclaration, no_mark, open_name, no_prefix, by_octets, goes_on, IsRefusal, no_name, by_name, by_version, by_declaration, by_comment, by_text, EndsAs, reads, refuses}
+use Rattle.proof_lexers.specs.UriEnds.{problem_of, after_class}
+use Rattle.proof_lexers.specs.DirectiveEnds.{token_of, ends_line, first_break, next_line, after_line, IsNoVersion, no_major, long_major, no_point, no_minor, long_minor, IsNoDeclaration, no_mark, open_name, no_prefix, by_octets, goes_on, IsRefusal, no_name, by_name, by_version, by_declaration, by_comment, by_text, EndsAs, reads, refuses}
 use Rattle.proof_lexers.specs.ScalarLaws.{DirectivesAreRead, DirectivesEndAsTheirTextSays}
 use Rattle.proof_lexers.proofs.Separation.Places.{place_append, place_in_line}
 use Rattle.proof_lexers.proofs.Properties.Tags.{span_cut}
 use Rattle.proof_lexers.proofs.Properties.Uris.{uris_are_read}
-use Rattle.proof_lexers.proofs.Directives.Parts.{none_at_end, before_end, no_break_behind, skipped, line_skipped, LineEnds, ended, comment, text, line_ends, spells_name, kind_is, gap_is}
+use Rattle.proof_lexers.proofs.Directives.Parts.{none_at_end, before_end, no_break_after, skipped, line_skipped, LineEnds, ended, comment, text, line_ends, spells_name, kind_is, gap_is}
 use Rattle.proof_lexers.proofs.Directives.Values.{NumberSees, missing, long, found, number_sees, not_at_end, HandleSees, handle_sees}
 use Rattle.proof_lexers.proofs.Directives.Values as values
 
@@ -87,7 +87,7 @@ no_percent_break l h = h
 
 no_minor_of : (r : List ℕ) → minor_of None r ≡ None
 no_minor_of [] = refl
-no_minor_of (c ∷ r) = by ((c == 46) && is_rest_of_line (behind classes.is_decimal_digit r))
+no_minor_of (c ∷ r) = by ((c == 46) && is_rest_of_line (after classes.is_decimal_digit r))
   where
     by : (b : Bool) → (if b then version_by None (number_of (leading classes.is_decimal_digit r)) else None) ≡ None
     by true = refl
@@ -98,9 +98,9 @@ unfolding is_tag is_uri is_alphanumeric is_uri_mark is_flow classes.is_tag class
 no_tag_at_end [] h = refl
 no_tag_at_end (c ∷ n) h = sym (same_tag c) ∙ none_at_end classes.is_tag refl refl (c ∷ n) h
 
--- How the scan of a line ends, which stands behind a `%` and before the line's end: it is a directive, and read as it; or it is none, and refused.
+-- How the scan of a line ends, which stands after a `%` and before the line's end: it is a directive, and read as it; or it is none, and refused.
 data Told (start : Position) (l n : List ℕ) (x : Result (Read Tok) Fault) : Type 0 where
-  is_directive : (d : Directive) → directive_of (37 ∷ l) ≡ Some d → x ≡ Ok (behind_line start (37 ∷ l) n (token_of d)) → Told start l n x
+  is_directive : (d : Directive) → directive_of (37 ∷ l) ≡ Some d → x ≡ Ok (after_line start (37 ∷ l) n (token_of d)) → Told start l n x
   fails : (f : Fault) → directive_of (37 ∷ l) ≡ None → IsRefusal start l f → x ≡ Err f → Told start l n x
 
 module _ (start : Position) (l n : List ℕ) (line : has_no_break l ≡ true) (ends : ends_line n ≡ true) where
@@ -118,8 +118,8 @@ module _ (start : Position) (l n : List ℕ) (line : has_no_break l ≡ true) (e
       ap (λ q. position_after q (first_break n) (next_line n)) here ∙ sym (place_append start (37 ∷ l) (first_break n) (next_line n))
 
   finish : (before m : List ℕ) (d : Directive) (p : Position) → l ≡ before ++ m → p ≡ further (suc (length before)) start → directive_of (37 ∷ l) ≡ (if is_rest_of_line m then Some d else None)
-      → Told start l n (behind_value start (record { rest = m ++ n; place = p; value = token_of d }))
-  finish before m d p cut place says = by (line_end start (m ++ n) p) (line_ends start p m n (no_break_behind before m (ap has_no_break (sym cut) ∙ line)) ends)
+      → Told start l n (after_value start (record { rest = m ++ n; place = p; value = token_of d }))
+  finish before m d p cut place says = by (line_end start (m ++ n) p) (line_ends start p m n (no_break_after before m (ap has_no_break (sym cut) ∙ line)) ends)
     where
       v : Read Tok
       v = record { rest = m ++ n; place = p; value = token_of d }
@@ -138,29 +138,29 @@ module _ (start : Position) (l n : List ℕ) (line : has_no_break l ≡ true) (e
 
   -- ---- words
 
-  abbrev behind_word : List ℕ
-  behind_word = behind classes.is_alpha l
+  abbrev after_word : List ℕ
+  after_word = after classes.is_alpha l
 
-  -- what stands behind the name and blanks
+  -- what stands after the name and blanks
   abbrev said : List ℕ
-  said = behind classes.is_blank behind_word
+  said = after classes.is_blank after_word
 
   abbrev word_place : Position
   word_place = further (length (leading classes.is_alpha l)) (past start)
 
   abbrev said_place : Position
-  said_place = further (length (leading classes.is_blank behind_word)) word_place
+  said_place = further (length (leading classes.is_blank after_word)) word_place
 
-  blanks_skipped : (m : List ℕ) (p : Position) → skip_while is_blank (m ++ n) p ≡ record { rest = behind classes.is_blank m ++ n; place = further (length (leading classes.is_blank m)) p; value = tt }
+  blanks_skipped : (m : List ℕ) (p : Position) → skip_while is_blank (m ++ n) p ≡ record { rest = after classes.is_blank m ++ n; place = further (length (leading classes.is_blank m)) p; value = tt }
   unfolding classes.is_blank
   blanks_skipped m p = let q = before_end classes.is_blank m n (none_at_end classes.is_blank refl refl n ends) in skipped classes.is_blank is_blank same_blank (m ++ n) p ∙ rw (q.0, q.1) refl
 
-  from_word : l ≡ leading classes.is_alpha l ++ (leading classes.is_blank behind_word ++ said)
-  from_word = span_cut classes.is_alpha l ∙ ap (λ r. leading classes.is_alpha l ++ r) (span_cut classes.is_blank behind_word)
+  from_word : l ≡ leading classes.is_alpha l ++ (leading classes.is_blank after_word ++ said)
+  from_word = span_cut classes.is_alpha l ∙ ap (λ r. leading classes.is_alpha l ++ r) (span_cut classes.is_blank after_word)
 
   -- ---- versions
 
-  module _ (word : leading classes.is_alpha l ≡ codes "YAML") (gap : is_at_gap behind_word ≡ true) where
+  module _ (word : leading classes.is_alpha l ≡ codes "YAML") (gap : is_at_gap after_word ≡ true) where
     abbrev major : List ℕ
     major = leading classes.is_decimal_digit said
 
@@ -171,63 +171,63 @@ module _ (start : Position) (l n : List ℕ) (line : has_no_break l ≡ true) (e
     version_refused : (why : Problem) (x : Result (Read Tok) Fault) → version_of said ≡ None → IsNoVersion said why → x ≡ Err (At why start) → Told start l n x
     version_refused why x none reason e = refused (At why start) x (says_version ∙ none) (by_version why word reason) e
 
-    -- behind the minor number
-    version_end : (s minor : List ℕ) (v w : ℕ) → behind classes.is_decimal_digit said ≡ 46 ∷ s → leading classes.is_decimal_digit s ≡ minor → number_of major ≡ Some v → number_of minor ≡ Some w
-        → Told start l n (behind_value start (record { rest = behind classes.is_decimal_digit s ++ n; place = further (length minor) (past (further (length major) said_place)); value = Tok.version_directive v w }))
+    -- after the minor number
+    version_end : (s minor : List ℕ) (v w : ℕ) → after classes.is_decimal_digit said ≡ 46 ∷ s → leading classes.is_decimal_digit s ≡ minor → number_of major ≡ Some v → number_of minor ≡ Some w
+        → Told start l n (after_value start (record { rest = after classes.is_decimal_digit s ++ n; place = further (length minor) (past (further (length major) said_place)); value = Tok.version_directive v w }))
     version_end s minor v w point lead is is_w = finish before rest (defs.version v w) _ cut place (says_version ∙ rw (point, lead, is, is_w) refl)
       where
         rest : List ℕ
-        rest = behind classes.is_decimal_digit s
+        rest = after classes.is_decimal_digit s
 
         before : List ℕ
-        before = leading classes.is_alpha l ++ (leading classes.is_blank behind_word ++ (major ++ 46 ∷ minor))
+        before = leading classes.is_alpha l ++ (leading classes.is_blank after_word ++ (major ++ 46 ∷ minor))
 
         tail : said ≡ major ++ (46 ∷ (minor ++ rest))
         tail = span_cut classes.is_decimal_digit said ∙ ap (λ r. major ++ r) (point ∙ ap (λ r. 46 ∷ r) (span_cut classes.is_decimal_digit s ∙ ap (λ r. r ++ rest) lead))
 
         cut : l ≡ before ++ rest
-        cut = from_word ∙ ap (λ r. leading classes.is_alpha l ++ (leading classes.is_blank behind_word ++ r)) tail ∙ four_texts (leading classes.is_alpha l) (leading classes.is_blank behind_word) major minor rest
+        cut = from_word ∙ ap (λ r. leading classes.is_alpha l ++ (leading classes.is_blank after_word ++ r)) tail ∙ four_texts (leading classes.is_alpha l) (leading classes.is_blank after_word) major minor rest
 
         place : further (length minor) (past (further (length major) said_place)) ≡ further (suc (length before)) start
-        place = four_places start (leading classes.is_alpha l) (leading classes.is_blank behind_word) major minor
+        place = four_places start (leading classes.is_alpha l) (leading classes.is_blank after_word) major minor
 
-    minor_read : (s : List ℕ) (v : ℕ) → behind classes.is_decimal_digit said ≡ 46 ∷ s → number_of major ≡ Some v
-        → Told start l n (and_then (and_then (number start (s ++ n) (past (further (length major) said_place))) (λ k. Ok (with_minor v k))) (λ t. behind_value start t))
+    minor_read : (s : List ℕ) (v : ℕ) → after classes.is_decimal_digit said ≡ 46 ∷ s → number_of major ≡ Some v
+        → Told start l n (and_then (and_then (number start (s ++ n) (past (further (length major) said_place))) (λ k. Ok (with_minor v k))) (λ t. after_value start t))
     minor_read s v point is = told (number start (s ++ n) (past (further (length major) said_place))) (number_sees start (past (further (length major) said_place)) s n ends)
       where
         go : Result (Read ℕ) Fault → Result (Read Tok) Fault
-        go x = and_then (and_then x (λ k. Ok (with_minor v k))) (λ t. behind_value start t)
+        go x = and_then (and_then x (λ k. Ok (with_minor v k))) (λ t. after_value start t)
 
         no_version : number_of (leading classes.is_decimal_digit s) ≡ None → version_of said ≡ None
-        no_version without = rw (point, is, without) (none_by (is_rest_of_line (behind classes.is_decimal_digit s)))
+        no_version without = rw (point, is, without) (none_by (is_rest_of_line (after classes.is_decimal_digit s)))
 
         told : (x : Result (Read ℕ) Fault) → NumberSees start (past (further (length major) said_place)) s n x → Told start l n (go x)
         told x (missing none without e) = version_refused problem.VersionNumber (go x) (no_version without) (no_minor s point none) (ap go e)
         told x (long much without e) = version_refused problem.VersionTooLong (go x) (no_version without) (long_minor s point much) (ap go e)
         told x (found w is_w e) = subst (λ y. Told start l n (go y)) (sym e) (version_end s (leading classes.is_decimal_digit s) v w point refl is is_w)
 
-    point_read : (r : List ℕ) (v : ℕ) → behind classes.is_decimal_digit said ≡ r → number_of major ≡ Some v
-        → Told start l n (and_then (behind_major start (record { rest = r ++ n; place = further (length major) said_place; value = v })) (λ t. behind_value start t))
+    point_read : (r : List ℕ) (v : ℕ) → after classes.is_decimal_digit said ≡ r → number_of major ≡ Some v
+        → Told start l n (and_then (after_major start (record { rest = r ++ n; place = further (length major) said_place; value = v })) (λ t. after_value start t))
     point_read [] v rest is =
         let none = not_at_end 46 refl refl refl n ends in
         version_refused problem.VersionDot _ (rw rest refl) (no_point (rw rest refl)) (rw none refl)
     point_read (c ∷ s) v rest is = by (c == 46) refl
       where
-        by : (b : Bool) → (c == 46) ≡ b → Told start l n (and_then (behind_major start (record { rest = (c ∷ s) ++ n; place = further (length major) said_place; value = v })) (λ t. behind_value start t))
+        by : (b : Bool) → (c == 46) ≡ b → Told start l n (and_then (after_major start (record { rest = (c ∷ s) ++ n; place = further (length major) said_place; value = v })) (λ t. after_value start t))
         by true e = let same : c ≡ 46 = eqb-true c 46 e in rw e (minor_read s v (rest ∙ ap (λ k. k ∷ s) same) is)
         by false e = version_refused problem.VersionDot _ (rw (rest, e) refl) (no_point (rw (rest, e) refl)) (rw e refl)
 
-    versions : Told start l n (and_then (value start version (behind_word ++ n) word_place) (λ t. behind_value start t))
+    versions : Told start l n (and_then (value start version (after_word ++ n) word_place) (λ t. after_value start t))
     unfolding version_value
-    versions = rw (blanks_skipped behind_word word_place) (told (number start (said ++ n) said_place) (number_sees start said_place said n ends))
+    versions = rw (blanks_skipped after_word word_place) (told (number start (said ++ n) said_place) (number_sees start said_place said n ends))
       where
         go : Result (Read ℕ) Fault → Result (Read Tok) Fault
-        go x = and_then (and_then x (λ k. behind_major start k)) (λ t. behind_value start t)
+        go x = and_then (and_then x (λ k. after_major start k)) (λ t. after_value start t)
 
         told : (x : Result (Read ℕ) Fault) → NumberSees start said_place said n x → Told start l n (go x)
-        told x (missing none without e) = version_refused problem.VersionNumber (go x) (rw without (no_minor_of (behind classes.is_decimal_digit said))) (no_major none) (ap go e)
-        told x (long much without e) = version_refused problem.VersionTooLong (go x) (rw without (no_minor_of (behind classes.is_decimal_digit said))) (long_major much) (ap go e)
-        told x (found v is e) = subst (λ y. Told start l n (go y)) (sym e) (point_read (behind classes.is_decimal_digit said) v refl is)
+        told x (missing none without e) = version_refused problem.VersionNumber (go x) (rw without (no_minor_of (after classes.is_decimal_digit said))) (no_major none) (ap go e)
+        told x (long much without e) = version_refused problem.VersionTooLong (go x) (rw without (no_minor_of (after classes.is_decimal_digit said))) (long_major much) (ap go e)
+        told x (found v is e) = subst (λ y. Told start l n (go y)) (sym e) (point_read (after classes.is_decimal_digit said) v refl is)
 
   -- ---- declarations
 
@@ -235,28 +235,28 @@ module _ (start : Position) (l n : List ℕ) (line : has_no_break l ≡ true) (e
   begins_with_prefix (c ∷ g) = rw (same_tag c) refl
   begins_with_prefix [] = rw (not_at_end 33 refl refl refl n ends, no_tag_at_end n ends) refl
 
-  module _ (word : leading classes.is_alpha l ≡ codes "TAG") (gap : is_at_gap behind_word ≡ true) where
+  module _ (word : leading classes.is_alpha l ≡ codes "TAG") (gap : is_at_gap after_word ≡ true) where
     abbrev handle_is : List ℕ
     handle_is = (handle_and_rest said).0
 
-    -- what stands behind the handle, and behind blanks
-    abbrev behind_handle : List ℕ
-    behind_handle = (handle_and_rest said).1
+    -- what stands after the handle, and after blanks
+    abbrev after_handle : List ℕ
+    after_handle = (handle_and_rest said).1
 
     abbrev from_prefix : List ℕ
-    from_prefix = behind classes.is_blank behind_handle
+    from_prefix = after classes.is_blank after_handle
 
     abbrev prefix_text : List ℕ
     prefix_text = leading classes.is_uri from_prefix
 
-    abbrev behind_prefix : List ℕ
-    behind_prefix = behind classes.is_uri from_prefix
+    abbrev after_prefix : List ℕ
+    after_prefix = after classes.is_uri from_prefix
 
     abbrev handle_place : Position
     handle_place = further (length handle_is) said_place
 
     abbrev prefix_place : Position
-    prefix_place = further (length (leading classes.is_blank behind_handle)) handle_place
+    prefix_place = further (length (leading classes.is_blank after_handle)) handle_place
 
     says_declaration : directive_of (37 ∷ l) ≡ declaration_by (handle_and_rest said)
     unfolding directive_of
@@ -274,30 +274,30 @@ module _ (start : Position) (l n : List ℕ) (line : has_no_break l ≡ true) (e
         by true e h = cc
         by false e h = rw e refl
 
-    module _ (is : is_handle handle_is ≡ true) (spelled : said ≡ handle_is ++ behind_handle) where
-      declares : (cs : List ℕ) → begins_prefix from_prefix ≡ true → decoded prefix_text ≡ Ok cs → declaration_by (handle_and_rest said) ≡ (if is_rest_of_line behind_prefix then Some (tag_declaration handle_is cs) else None)
+    module _ (is : is_handle handle_is ≡ true) (spelled : said ≡ handle_is ++ after_handle) where
+      declares : (cs : List ℕ) → begins_prefix from_prefix ≡ true → decoded prefix_text ≡ Ok cs → declaration_by (handle_and_rest said) ≡ (if is_rest_of_line after_prefix then Some (tag_declaration handle_is cs) else None)
       declares cs begins means = rw (is, begins, means) refl
 
       declaration_end : (cs : List ℕ) → begins_prefix from_prefix ≡ true → decoded prefix_text ≡ Ok cs
-          → Told start l n (behind_value start (record { rest = behind_prefix ++ n; place = further (length prefix_text) prefix_place; value = Tok.tag_directive handle_is cs }))
-      declaration_end cs begins means = finish before behind_prefix (tag_declaration handle_is cs) _ cut place (says_declaration ∙ declares cs begins means)
+          → Told start l n (after_value start (record { rest = after_prefix ++ n; place = further (length prefix_text) prefix_place; value = Tok.tag_directive handle_is cs }))
+      declaration_end cs begins means = finish before after_prefix (tag_declaration handle_is cs) _ cut place (says_declaration ∙ declares cs begins means)
         where
           before : List ℕ
-          before = leading classes.is_alpha l ++ (leading classes.is_blank behind_word ++ (handle_is ++ (leading classes.is_blank behind_handle ++ prefix_text)))
+          before = leading classes.is_alpha l ++ (leading classes.is_blank after_word ++ (handle_is ++ (leading classes.is_blank after_handle ++ prefix_text)))
 
-          tail : said ≡ handle_is ++ (leading classes.is_blank behind_handle ++ (prefix_text ++ behind_prefix))
-          tail = spelled ∙ ap (λ r. handle_is ++ r) (span_cut classes.is_blank behind_handle ∙ ap (λ r. leading classes.is_blank behind_handle ++ r) (span_cut classes.is_uri from_prefix))
+          tail : said ≡ handle_is ++ (leading classes.is_blank after_handle ++ (prefix_text ++ after_prefix))
+          tail = spelled ∙ ap (λ r. handle_is ++ r) (span_cut classes.is_blank after_handle ∙ ap (λ r. leading classes.is_blank after_handle ++ r) (span_cut classes.is_uri from_prefix))
 
-          cut : l ≡ before ++ behind_prefix
-          cut = from_word ∙ ap (λ r. leading classes.is_alpha l ++ (leading classes.is_blank behind_word ++ r)) tail
-              ∙ five_texts (leading classes.is_alpha l) (leading classes.is_blank behind_word) handle_is (leading classes.is_blank behind_handle) prefix_text behind_prefix
+          cut : l ≡ before ++ after_prefix
+          cut = from_word ∙ ap (λ r. leading classes.is_alpha l ++ (leading classes.is_blank after_word ++ r)) tail
+              ∙ five_texts (leading classes.is_alpha l) (leading classes.is_blank after_word) handle_is (leading classes.is_blank after_handle) prefix_text after_prefix
 
           place : further (length prefix_text) prefix_place ≡ further (suc (length before)) start
-          place = five_places start (leading classes.is_alpha l) (leading classes.is_blank behind_word) handle_is (leading classes.is_blank behind_handle) prefix_text
+          place = five_places start (leading classes.is_alpha l) (leading classes.is_blank after_word) handle_is (leading classes.is_blank after_handle) prefix_text
 
       -- what the scan of the prefix leaves, by what its characters mean
       abbrev prefix_result : Result (List ℕ) UriFault → Result (Read (List ℕ)) Fault
-      prefix_result (Ok cs) = Ok (record { rest = behind_prefix ++ n; place = further (length prefix_text) prefix_place; value = cs })
+      prefix_result (Ok cs) = Ok (record { rest = after_prefix ++ n; place = further (length prefix_text) prefix_place; value = cs })
       prefix_result (Err f) = Err (At (problem_of f) start)
 
       prefix_is : ((slice_index (from_prefix ++ n) 0 == 33) || is_tag (slice_index (from_prefix ++ n) 0)) ≡ true → prefix start (from_prefix ++ n) prefix_place ≡ prefix_result (decoded prefix_text)
@@ -306,8 +306,8 @@ module _ (start : Position) (l n : List ℕ) (line : has_no_break l ≡ true) (e
           let q = before_end classes.is_uri from_prefix n (none_at_end classes.is_uri refl refl n ends) in
           rw (e, (uris_are_read start (from_prefix ++ n) prefix_place []).0, q.0) (by q.0 q.1 (decoded prefix_text))
         where
-          by : leading classes.is_uri (from_prefix ++ n) ≡ prefix_text → behind classes.is_uri (from_prefix ++ n) ≡ behind_prefix ++ n → (d : Result (List ℕ) UriFault)
-              → behind_class classes.is_uri start prefix_place (from_prefix ++ n) [] d ≡ prefix_result d
+          by : leading classes.is_uri (from_prefix ++ n) ≡ prefix_text → after classes.is_uri (from_prefix ++ n) ≡ after_prefix ++ n → (d : Result (List ℕ) UriFault)
+              → after_class classes.is_uri start prefix_place (from_prefix ++ n) [] d ≡ prefix_result d
           by lead rest (Ok cs) = rw (lead, rest) refl
           by lead rest (Err f) = refl
 
@@ -315,29 +315,29 @@ module _ (start : Position) (l n : List ℕ) (line : has_no_break l ≡ true) (e
       unfolding prefix
       prefix_fails e = rw e refl
 
-      -- behind the characters of the prefix
+      -- after the characters of the prefix
       characters_read : (d : Result (List ℕ) UriFault) → begins_prefix from_prefix ≡ true → decoded prefix_text ≡ d
-          → Told start l n (and_then (and_then (prefix_result d) (λ q. with_prefix start handle_is q)) (λ t. behind_value start t))
+          → Told start l n (and_then (and_then (prefix_result d) (λ q. with_prefix start handle_is q)) (λ t. after_value start t))
       characters_read (Err f) begins means = declaration_refused (problem_of f) _ (rw (is, begins, means) refl) (by_octets f means) refl
-      characters_read (Ok cs) begins means = by (is_at_gap behind_prefix) refl
+      characters_read (Ok cs) begins means = by (is_at_gap after_prefix) refl
         where
-          by : (b : Bool) → is_at_gap behind_prefix ≡ b → Told start l n (and_then (and_then (prefix_result (Ok cs)) (λ q. with_prefix start handle_is q)) (λ t. behind_value start t))
-          by true e = rw (gap_is behind_prefix n ends, e) (declaration_end cs begins means)
-          by false e = declaration_refused problem.TagDirectiveEnd _ (declares cs begins means ∙ rw (gap_missing behind_prefix e) refl) (goes_on e) (rw (gap_is behind_prefix n ends, e) refl)
+          by : (b : Bool) → is_at_gap after_prefix ≡ b → Told start l n (and_then (and_then (prefix_result (Ok cs)) (λ q. with_prefix start handle_is q)) (λ t. after_value start t))
+          by true e = rw (gap_is after_prefix n ends, e) (declaration_end cs begins means)
+          by false e = declaration_refused problem.TagDirectiveEnd _ (declares cs begins means ∙ rw (gap_missing after_prefix e) refl) (goes_on e) (rw (gap_is after_prefix n ends, e) refl)
 
-      prefix_read : Told start l n (and_then (prefix_behind start handle_is (blanks (behind_handle ++ n) handle_place)) (λ t. behind_value start t))
-      prefix_read = rw (blanks_skipped behind_handle handle_place) (by (begins_prefix from_prefix) refl)
+      prefix_read : Told start l n (and_then (prefix_after start handle_is (blanks (after_handle ++ n) handle_place)) (λ t. after_value start t))
+      prefix_read = rw (blanks_skipped after_handle handle_place) (by (begins_prefix from_prefix) refl)
         where
-          by : (b : Bool) → begins_prefix from_prefix ≡ b → Told start l n (and_then (and_then (prefix start (from_prefix ++ n) prefix_place) (λ q. with_prefix start handle_is q)) (λ t. behind_value start t))
+          by : (b : Bool) → begins_prefix from_prefix ≡ b → Told start l n (and_then (and_then (prefix start (from_prefix ++ n) prefix_place) (λ q. with_prefix start handle_is q)) (λ t. after_value start t))
           by true e = rw (prefix_is (begins_with_prefix from_prefix ∙ e)) (characters_read (decoded prefix_text) e refl)
-          by false e = declaration_refused problem.GlobalTagCharacter _ (rw (is, e) refl) (no_prefix e) (ap (λ x. and_then (and_then x (λ q. with_prefix start handle_is q)) (λ t. behind_value start t)) (prefix_fails (begins_with_prefix from_prefix ∙ e)))
+          by false e = declaration_refused problem.GlobalTagCharacter _ (rw (is, e) refl) (no_prefix e) (ap (λ x. and_then (and_then x (λ q. with_prefix start handle_is q)) (λ t. after_value start t)) (prefix_fails (begins_with_prefix from_prefix ∙ e)))
 
-    declarations : Told start l n (and_then (value start tag (behind_word ++ n) word_place) (λ t. behind_value start t))
+    declarations : Told start l n (and_then (value start tag (after_word ++ n) word_place) (λ t. after_value start t))
     unfolding tag_value
-    declarations = rw (blanks_skipped behind_word word_place) (told (handle start (said ++ n) said_place) (handle_sees start said_place said n ends))
+    declarations = rw (blanks_skipped after_word word_place) (told (handle start (said ++ n) said_place) (handle_sees start said_place said n ends))
       where
         go : Result (Read (List ℕ)) Fault → Result (Read Tok) Fault
-        go x = and_then (and_then x (λ (h : Read (List ℕ)). prefix_behind start h.value (blanks h.rest h.place))) (λ t. behind_value start t)
+        go x = and_then (and_then x (λ (h : Read (List ℕ)). prefix_after start h.value (blanks h.rest h.place))) (λ t. after_value start t)
 
         told : (x : Result (Read (List ℕ)) Fault) → HandleSees start said_place said n x → Told start l n (go x)
         told x (values.no_mark none without e) = declaration_refused problem.TagStart (go x) (rw without refl) (no_mark none) (ap go e)
@@ -346,33 +346,33 @@ module _ (start : Position) (l n : List ℕ) (line : has_no_break l ≡ true) (e
 
   -- ---- other directives
 
-  ignored_place : further (length behind_word) word_place ≡ further (suc (length l)) start
+  ignored_place : further (length after_word) word_place ≡ further (suc (length l)) start
   ignored_place =
-      let so_long : length l ≡ length (leading classes.is_alpha l) + length behind_word = ap length (span_cut classes.is_alpha l) ∙ length-append (leading classes.is_alpha l) behind_word in
-      let x : ((start.index + 1) + length (leading classes.is_alpha l)) + length behind_word ≡ start.index + suc (length l) = omega (arith, so_long) in
-      let y : ((start.col + 1) + length (leading classes.is_alpha l)) + length behind_word ≡ start.col + suc (length l) = omega (arith, so_long) in
+      let so_long : length l ≡ length (leading classes.is_alpha l) + length after_word = ap length (span_cut classes.is_alpha l) ∙ length-append (leading classes.is_alpha l) after_word in
+      let x : ((start.index + 1) + length (leading classes.is_alpha l)) + length after_word ≡ start.index + suc (length l) = omega (arith, so_long) in
+      let y : ((start.col + 1) + length (leading classes.is_alpha l)) + length after_word ≡ start.col + suc (length l) = omega (arith, so_long) in
       rw (x, y) refl
 
-  ignored : (c : ℕ) (w : List ℕ) → leading classes.is_alpha l ≡ c ∷ w → is_same (c ∷ w) (codes "YAML") ≡ false → is_same (c ∷ w) (codes "TAG") ≡ false → is_at_gap behind_word ≡ true
-      → Told start l n (and_then (value start unknown (behind_word ++ n) word_place) (λ t. behind_value start t))
+  ignored : (c : ℕ) (w : List ℕ) → leading classes.is_alpha l ≡ c ∷ w → is_same (c ∷ w) (codes "YAML") ≡ false → is_same (c ∷ w) (codes "TAG") ≡ false → is_at_gap after_word ≡ true
+      → Told start l n (and_then (value start unknown (after_word ++ n) word_place) (λ t. after_value start t))
   unfolding directive_of
   ignored c w lead no_version no_tag gap =
-      let in_line : has_no_break behind_word ≡ true = no_break_behind (leading classes.is_alpha l) behind_word (ap has_no_break (sym (span_cut classes.is_alpha l)) ∙ line) in
+      let in_line : has_no_break after_word ≡ true = no_break_after (leading classes.is_alpha l) after_word (ap has_no_break (sym (span_cut classes.is_alpha l)) ∙ line) in
       let says : directive_of (37 ∷ l) ≡ Some reserved = rw (lead, gap, no_version, no_tag) refl in
-      rw (line_skipped behind_word n word_place in_line ends) (finish l [] reserved (further (length behind_word) word_place) (rw append-nil refl) ignored_place says)
+      rw (line_skipped after_word n word_place in_line ends) (finish l [] reserved (further (length after_word) word_place) (rw append-nil refl) ignored_place says)
 
   -- ---- the directive
 
-  by_kind : (c : ℕ) (w : List ℕ) → leading classes.is_alpha l ≡ c ∷ w → is_at_gap behind_word ≡ true → Told start l n (behind_name start (record { rest = behind_word ++ n; place = word_place; value = kind (l ++ n) }))
+  by_kind : (c : ℕ) (w : List ℕ) → leading classes.is_alpha l ≡ c ∷ w → is_at_gap after_word ≡ true → Told start l n (after_name start (record { rest = after_word ++ n; place = word_place; value = kind (l ++ n) }))
   by_kind c w lead gap = rw (kind_is l n ends, lead) (by (is_same (c ∷ w) (codes "YAML")) refl (is_same (c ∷ w) (codes "TAG")) refl)
     where
       by : (yaml : Bool) → is_same (c ∷ w) (codes "YAML") ≡ yaml → (tags : Bool) → is_same (c ∷ w) (codes "TAG") ≡ tags
-          → Told start l n (behind_name start (record { rest = behind_word ++ n; place = further (length (c ∷ w)) (past start); value = (if yaml then version else (if tags then tag else unknown)) }))
-      by true e tags f = subst (λ k. Told start l n (behind_name start (record { rest = behind_word ++ n; place = further (length k) (past start); value = version }))) lead (versions (lead ∙ same_text (c ∷ w) (codes "YAML") e) gap)
-      by false e true f = subst (λ k. Told start l n (behind_name start (record { rest = behind_word ++ n; place = further (length k) (past start); value = tag }))) lead (declarations (lead ∙ same_text (c ∷ w) (codes "TAG") f) gap)
-      by false e false f = subst (λ k. Told start l n (behind_name start (record { rest = behind_word ++ n; place = further (length k) (past start); value = unknown }))) lead (ignored c w lead e f gap)
+          → Told start l n (after_name start (record { rest = after_word ++ n; place = further (length (c ∷ w)) (past start); value = (if yaml then version else (if tags then tag else unknown)) }))
+      by true e tags f = subst (λ k. Told start l n (after_name start (record { rest = after_word ++ n; place = further (length k) (past start); value = version }))) lead (versions (lead ∙ same_text (c ∷ w) (codes "YAML") e) gap)
+      by false e true f = subst (λ k. Told start l n (after_name start (record { rest = after_word ++ n; place = further (length k) (past start); value = tag }))) lead (declarations (lead ∙ same_text (c ∷ w) (codes "TAG") f) gap)
+      by false e false f = subst (λ k. Told start l n (after_name start (record { rest = after_word ++ n; place = further (length k) (past start); value = unknown }))) lead (ignored c w lead e f gap)
 
-  word_skipped : skip_while is_alpha (l ++ n) (past start) ≡ record { rest = behind_word ++ n; place = word_place; value = tt }
+  word_skipped : skip_while is_alpha (l ++ n) (past start) ≡ record { rest = after_word ++ n; place = word_place; value = tt }
   unfolding classes.is_alpha classes.is_decimal_digit classes.is_letter
   word_skipped = let q = before_end classes.is_alpha l n (none_at_end classes.is_alpha refl refl n ends) in skipped classes.is_alpha is_alpha same_alpha (l ++ n) (past start) ∙ rw (q.0, q.1) refl
 
@@ -385,14 +385,14 @@ module _ (start : Position) (l n : List ℕ) (line : has_no_break l ≡ true) (e
       not_false : (b : Bool) → not b ≡ true → b ≡ false
       not_false false h = refl
       not_false true h = cc
-  by_word (c ∷ w) lead = rw (letter (is_alpha (slice_index (l ++ n) 0)) (spells_name [] l n refl ends ∙ rw lead refl), word_skipped, gap_is behind_word n ends) (by (is_at_gap behind_word) refl)
+  by_word (c ∷ w) lead = rw (letter (is_alpha (slice_index (l ++ n) 0)) (spells_name [] l n refl ends ∙ rw lead refl), word_skipped, gap_is after_word n ends) (by (is_at_gap after_word) refl)
     where
       letter : (b : Bool) → not b ≡ false → b ≡ true
       letter true h = refl
       letter false h = cc
 
-      by : (gap : Bool) → is_at_gap behind_word ≡ gap
-          → Told start l n (and_then (if gap then Ok (record { rest = behind_word ++ n; place = word_place; value = kind (l ++ n) }) else Err (At problem.DirectiveNameEnd (past start))) (λ k. behind_name start k))
+      by : (gap : Bool) → is_at_gap after_word ≡ gap
+          → Told start l n (and_then (if gap then Ok (record { rest = after_word ++ n; place = word_place; value = kind (l ++ n) }) else Err (At problem.DirectiveNameEnd (past start))) (λ k. after_name start k))
       by true e = by_kind c w lead e
       by false e = refused (At problem.DirectiveNameEnd (past start)) _ (rw (lead, e) refl) (by_name e) refl
 
@@ -404,18 +404,18 @@ told start l n line ends = by_word start l n line ends (leading classes.is_alpha
 in_line : ℕ → Bool
 in_line c = not (classes.is_break c)
 
-first_line : (a : List ℕ) → (has_no_break (leading in_line a) ≡ true) × (ends_line (behind in_line a) ≡ true)
+first_line : (a : List ℕ) → (has_no_break (leading in_line a) ≡ true) × (ends_line (after in_line a) ≡ true)
 unfolding in_line
 first_line [] = (refl, refl)
 first_line (c ∷ a) = by (classes.is_break c) refl (first_line a)
   where
-    by : (b : Bool) → classes.is_break c ≡ b → (has_no_break (leading in_line a) ≡ true) × (ends_line (behind in_line a) ≡ true)
-        → (has_no_break (if not b then c ∷ leading in_line a else []) ≡ true) × (ends_line (if not b then behind in_line a else c ∷ a) ≡ true)
+    by : (b : Bool) → classes.is_break c ≡ b → (has_no_break (leading in_line a) ≡ true) × (ends_line (after in_line a) ≡ true)
+        → (has_no_break (if not b then c ∷ leading in_line a else []) ≡ true) × (ends_line (if not b then after in_line a else c ∷ a) ≡ true)
     by true e q = (refl, e)
     by false e q = (rw e (q.0), q.1)
 
 pub directives_end : DirectivesEndAsTheirTextSays
-directives_end a start = by (leading in_line a) (behind in_line a) (span_cut in_line a) (first_line a).0 (first_line a).1
+directives_end a start = by (leading in_line a) (after in_line a) (span_cut in_line a) (first_line a).0 (first_line a).1
   where
     ends_by : (l n : List ℕ) (x : Result (Read Tok) Fault) → has_no_break l ≡ true → ends_line n ≡ true → Told start l n x → EndsAs start (l ++ n) x
     ends_by l n x line ends (is_directive d is e) = reads l n d refl line ends is e
@@ -427,6 +427,6 @@ directives_end a start = by (leading in_line a) (behind in_line a) (span_cut in_
 pub directives_are_read : DirectivesAreRead
 directives_are_read line next d p no_break ends is = by (directive (37 ∷ (line ++ next)) p) (told p line next no_break ends)
   where
-    by : (x : Result (Read Tok) Fault) → Told p line next x → x ≡ Ok (behind_line p (37 ∷ line) next (token_of d))
+    by : (x : Result (Read Tok) Fault) → Told p line next x → x ≡ Ok (after_line p (37 ∷ line) next (token_of d))
     by x (fails f none why e) = absurd (cc (is, none))
-    by x (is_directive k says e) = let same : k ≡ d = cc in e ∙ ap (λ z. Ok (behind_line p (37 ∷ line) next (token_of z))) same
+    by x (is_directive k says e) = let same : k ≡ d = cc in e ∙ ap (λ z. Ok (after_line p (37 ∷ line) next (token_of z))) same

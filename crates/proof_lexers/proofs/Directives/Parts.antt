@@ -1,4 +1,4 @@
--- Parts of a directive's line: words, numbers, and what may stand behind its value.
+-- Parts of a directive's line: words, numbers, and what may stand after its value.
 use Rattle.std.proofs.Common.{◌≡◌, ℕ, suc, ◌+◌, ◌-◌, ◌*◌, ◌≤◌, List, [], ◌∷◌, ◌++◌, Bool, true, false, ◌&&◌, ◌||◌, ◌==◌, not, nat_le, if◌then◌else◌, take, drop, length, slice_index, Result, Ok, Err, codes, refl, ap, sym, ◌∙◌, arith}
 use Rattle.std.proofs.lemmas.Bool.{and_parts, eqb-true}
 use Rattle.std.proofs.lemmas.Bool.Decides.{nat_tests}
@@ -12,7 +12,7 @@ use Rattle.defs_text.specs.Classes as classes
 use Rattle.defs_text.specs.Classes.{is_at_gap}
 use Rattle.defs_text.specs.Breaks.{is_before_line_feed, is_blanks_and_comment, is_rest_of_line}
 use Rattle.defs_scalar.specs.FlowScalar.{begins_with}
-use Rattle.defs_scalar.specs.Tags.{all_of, leading, behind, is_same}
+use Rattle.defs_scalar.specs.Tags.{all_of, leading, after, is_same}
 use Rattle.defs_scalar.specs.Directives.{decimal_value}
 use Rattle.defs_text.specs.Position.{position_past, position_after}
 use Rattle.defs_text.specs.Breaks.{has_no_break}
@@ -39,33 +39,33 @@ no_class_at class lf cr c h = by (c == 10) (c == 13) refl refl h
     by false true e f h = let same : c ≡ 13 = eqb-true c 13 f in rw same cr
     by false false e f h = cc
 
--- a class without breaks does not go on behind a line
+-- a class without breaks does not go on after a line
 pub none_at_end : (class : ℕ → Bool) → class 10 ≡ false → class 13 ≡ false → (n : List ℕ) → ends_line n ≡ true → begins_in class n ≡ false
 none_at_end class lf cr [] h = refl
 none_at_end class lf cr (c ∷ n) h = no_class_at class lf cr c h
 
--- what a line begins with, and what stands behind that, before a text that does not go on with the class
-pub before_end : (class : ℕ → Bool) (l n : List ℕ) → begins_in class n ≡ false → (leading class (l ++ n) ≡ leading class l) × (behind class (l ++ n) ≡ behind class l ++ n)
+-- what a line begins with, and what stands after that, before a text that does not go on with the class
+pub before_end : (class : ℕ → Bool) (l n : List ℕ) → begins_in class n ≡ false → (leading class (l ++ n) ≡ leading class l) × (after class (l ++ n) ≡ after class l ++ n)
 before_end class [] n h = leading_none class n h
 before_end class (c ∷ l) n h = by (class c) refl (before_end class l n h)
   where
-    by : (b : Bool) → class c ≡ b → (leading class (l ++ n) ≡ leading class l) × (behind class (l ++ n) ≡ behind class l ++ n)
-        → ((if b then c ∷ leading class (l ++ n) else []) ≡ (if b then c ∷ leading class l else [])) × ((if b then behind class (l ++ n) else c ∷ (l ++ n)) ≡ (if b then behind class l else c ∷ l) ++ n)
+    by : (b : Bool) → class c ≡ b → (leading class (l ++ n) ≡ leading class l) × (after class (l ++ n) ≡ after class l ++ n)
+        → ((if b then c ∷ leading class (l ++ n) else []) ≡ (if b then c ∷ leading class l else [])) × ((if b then after class (l ++ n) else c ∷ (l ++ n)) ≡ (if b then after class l else c ∷ l) ++ n)
     by true e z = (ap (λ k. c ∷ k) z.0, z.1)
     by false e z = (refl, refl)
 
-pub no_break_behind : (a b : List ℕ) → has_no_break (a ++ b) ≡ true → has_no_break b ≡ true
-no_break_behind [] b h = h
-no_break_behind (c ∷ a) b h = no_break_behind a b (and_parts (not (classes.is_break c)) (has_no_break (a ++ b)) h).1
+pub no_break_after : (a b : List ℕ) → has_no_break (a ++ b) ≡ true → has_no_break b ≡ true
+no_break_after [] b h = h
+no_break_after (c ∷ a) b h = no_break_after a b (and_parts (not (classes.is_break c)) (has_no_break (a ++ b)) h).1
 
 -- characters of a class are skipped
-pub skipped : (class test : ℕ → Bool) → ((c : ℕ) → class c ≡ test c) → (a : List ℕ) (p : Position) → skip_while test a p ≡ record { rest = behind class a; place = further (length (leading class a)) p; value = tt }
+pub skipped : (class test : ℕ → Bool) → ((c : ℕ) → class c ≡ test c) → (a : List ℕ) (p : Position) → skip_while test a p ≡ record { rest = after class a; place = further (length (leading class a)) p; value = tt }
 skipped class test same [] p = ap (λ q. record { rest = []; place = q; value = tt }) (sym (none_further p))
 skipped class test same (c ∷ a) p = by (test c) refl (skipped class test same a (past p))
   where
-    by : (b : Bool) → test c ≡ b → skip_while test a (past p) ≡ record { rest = behind class a; place = further (length (leading class a)) (past p); value = tt }
-        → (if b then skip_while test a (past p) else record { rest = c ∷ a; place = p; value = tt }) ≡ record { rest = behind class (c ∷ a); place = further (length (leading class (c ∷ a))) p; value = tt }
-    by true e z = let is : class c ≡ true = same c ∙ e in rw is (z ∙ ap (λ q. record { rest = behind class a; place = q; value = tt }) (one_further p (length (leading class a))))
+    by : (b : Bool) → test c ≡ b → skip_while test a (past p) ≡ record { rest = after class a; place = further (length (leading class a)) (past p); value = tt }
+        → (if b then skip_while test a (past p) else record { rest = c ∷ a; place = p; value = tt }) ≡ record { rest = after class (c ∷ a); place = further (length (leading class (c ∷ a))) p; value = tt }
+    by true e z = let is : class c ≡ true = same c ∙ e in rw is (z ∙ ap (λ q. record { rest = after class a; place = q; value = tt }) (one_further p (length (leading class a))))
     by false e z = let is : class c ≡ false = same c ∙ e in rw is (ap (λ q. record { rest = c ∷ a; place = q; value = tt }) (sym (none_further p)))
 
 -- ---- the rest of a line
@@ -79,7 +79,7 @@ line_skipped (c ∷ m) n p h e =
     let no_break : not (is_break c) ≡ true = ap not (sym (same_break c)) ∙ q.0 in
     rw no_break (line_skipped m n (past p) q.1 e ∙ ap (λ z. record { rest = n; place = z; value = tt }) (one_further p (length m)))
 
--- What blanks and a comment at a line's end leave: nothing of the line; a comment that stands behind no blank; or other text.
+-- What blanks and a comment at a line's end leave: nothing of the line; a comment that stands after no blank; or other text.
 data TailEnds (m n : List ℕ) (s : Spaces) (x : Result (Read Whitespace) Fault) : Type 0 where
   passes : (w : Whitespace) → is_blanks_and_comment m ≡ true → (begins_with 35 m && not (s.found.found_tabs || s.found.has_valid_yaml_ws)) ≡ false → x ≡ Ok (record { rest = n; place = further (length m) s.place; value = w }) → TailEnds m n s x
   glued : begins_with 35 m ≡ true → (s.found.found_tabs || s.found.has_valid_yaml_ws) ≡ false → x ≡ Err (At problem.CommentNotSeparated s.place) → TailEnds m n s x
@@ -133,7 +133,7 @@ tail_ends [] (c ∷ n) h k s =
     passes s.found refl refl (rw (q.0, q.1, q.2) (ap (λ z. Ok (record { rest = c ∷ n; place = z; value = s.found })) (sym (none_further s.place))))
 tail_ends (c ∷ m) n h k s = tail_by c m n s (c == 32) (c == 9) (c == 35) refl refl refl h k (tail_ends m n (and_parts (not (classes.is_break c)) (has_no_break m) h).1 k)
 
--- How the end of a directive's line is read: the rest of it is blanks and maybe a comment behind one; a comment stands there without a blank; or other text.
+-- How the end of a directive's line is read: the rest of it is blanks and maybe a comment after one; a comment stands there without a blank; or other text.
 pub data LineEnds (start p : Position) (m n : List ℕ) (x : Result (Read (Unit {0})) Fault) : Type 0 where
   ended : is_rest_of_line m ≡ true → x ≡ Ok (record { rest = next_line n; place = position_after (further (length m) p) (first_break n) (next_line n); value = tt }) → LineEnds start p m n x
   comment : begins_with 35 m ≡ true → is_rest_of_line m ≡ false → x ≡ Err (At problem.CommentNotSeparated p) → LineEnds start p m n x
@@ -222,10 +222,10 @@ digit_is c = refl
 abbrev digits_read : (start p : Position) (v k : ℕ) → (a : List ℕ) → Result (Stop Digits) Fault
 digits_read start p v k a =
     (if nat_le (k + length (leading classes.is_decimal_digit a)) 9
-    then Ok (record { rest = behind classes.is_decimal_digit a; state = record { place = further (length (leading classes.is_decimal_digit a)) p; value = decimal_value v (leading classes.is_decimal_digit a); length = k + length (leading classes.is_decimal_digit a) } })
+    then Ok (record { rest = after classes.is_decimal_digit a; state = record { place = further (length (leading classes.is_decimal_digit a)) p; value = decimal_value v (leading classes.is_decimal_digit a); length = k + length (leading classes.is_decimal_digit a) } })
     else Err (At problem.VersionTooLong start))
 
-stopped_here : (start p : Position) (v k : ℕ) (a : List ℕ) → k ≤ 9 → leading classes.is_decimal_digit a ≡ [] → behind classes.is_decimal_digit a ≡ a
+stopped_here : (start p : Position) (v k : ℕ) (a : List ℕ) → k ≤ 9 → leading classes.is_decimal_digit a ≡ [] → after classes.is_decimal_digit a ≡ a
     → Ok (record { rest = a; state = record { place = p; value = v; length = k } }) ≡ digits_read start p v k a
 stopped_here start p v k a few none same =
     let few_still : nat_le (k + 0) 9 ≡ true = grind (arith, nat_tests, few) in
@@ -257,7 +257,7 @@ abbrev pub number_read : (start p : Position) → (a : List ℕ) → Result (Rea
 number_read start p a =
     (if is_nil (leading classes.is_decimal_digit a) then Err (At problem.VersionNumber start) else
     (if nat_le (length (leading classes.is_decimal_digit a)) 9
-    then Ok (record { rest = behind classes.is_decimal_digit a; place = further (length (leading classes.is_decimal_digit a)) p; value = decimal_value 0 (leading classes.is_decimal_digit a) })
+    then Ok (record { rest = after classes.is_decimal_digit a; place = further (length (leading classes.is_decimal_digit a)) p; value = decimal_value 0 (leading classes.is_decimal_digit a) })
     else Err (At problem.VersionTooLong start)))
 
 pub number_is_read : (start : Position) (a : List ℕ) (p : Position) → number start a p ≡ number_read start p a
@@ -265,15 +265,15 @@ unfolding number
 number_is_read start a p = ap (digits_end start) (digits_run start a p 0 0 (omega arith)) ∙ by (leading classes.is_decimal_digit a)
   where
     by : (w : List ℕ) →
-        digits_end start (if nat_le (0 + length w) 9 then Ok (record { rest = behind classes.is_decimal_digit a; state = record { place = further (length w) p; value = decimal_value 0 w; length = 0 + length w } }) else Err (At problem.VersionTooLong start))
+        digits_end start (if nat_le (0 + length w) 9 then Ok (record { rest = after classes.is_decimal_digit a; state = record { place = further (length w) p; value = decimal_value 0 w; length = 0 + length w } }) else Err (At problem.VersionTooLong start))
         ≡ (if is_nil w then Err (At problem.VersionNumber start) else
-        (if nat_le (length w) 9 then Ok (record { rest = behind classes.is_decimal_digit a; place = further (length w) p; value = decimal_value 0 w }) else Err (At problem.VersionTooLong start)))
+        (if nat_le (length w) 9 then Ok (record { rest = after classes.is_decimal_digit a; place = further (length w) p; value = decimal_value 0 w }) else Err (At problem.VersionTooLong start)))
     by [] = refl
     by (c ∷ w) = let so_many : 0 + suc (length w) ≡ suc (length w) = omega arith in rw so_many (some (nat_le (suc (length w)) 9))
       where
         some : (b : Bool) →
-            digits_end start (if b then Ok (record { rest = behind classes.is_decimal_digit a; state = record { place = further (suc (length w)) p; value = decimal_value 0 (c ∷ w); length = suc (length w) } }) else Err (At problem.VersionTooLong start))
-            ≡ (if b then Ok (record { rest = behind classes.is_decimal_digit a; place = further (suc (length w)) p; value = decimal_value 0 (c ∷ w) }) else Err (At problem.VersionTooLong start))
+            digits_end start (if b then Ok (record { rest = after classes.is_decimal_digit a; state = record { place = further (suc (length w)) p; value = decimal_value 0 (c ∷ w); length = suc (length w) } }) else Err (At problem.VersionTooLong start))
+            ≡ (if b then Ok (record { rest = after classes.is_decimal_digit a; place = further (suc (length w)) p; value = decimal_value 0 (c ∷ w) }) else Err (At problem.VersionTooLong start))
         some true = let some_digit : (suc (length w) == 0) ≡ false = grind (arith, nat_tests) in rw some_digit refl
         some false = refl
 
@@ -349,7 +349,7 @@ kind_is l n h =
     let second = declaration_spelled (l ++ n) ∙ spells_name (codes "TAG") l n refl h in
     rw (first, second) refl
 
--- whether a blank, a break or the end stands behind part of a line
+-- whether a blank, a break or the end stands after part of a line
 pub gap_is : (m n : List ℕ) → ends_line n ≡ true → is_blank_or_breakz (slice_index (m ++ n) 0) ≡ is_at_gap m
 unfolding is_blank is_break classes.is_break
 gap_is [] [] h = refl

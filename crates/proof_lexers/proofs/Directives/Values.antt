@@ -7,7 +7,7 @@ use Rattle.yaml_tokens.specs.declared.problem.Fault.{Fault}
 use Rattle.yaml_tokens.specs.declared.problem.Fault.TheVariants.{At}
 use Rattle.yaml_tokens.specs.declared.problem.Problem.TheVariants as problem
 use Rattle.defs_text.specs.Classes as classes
-use Rattle.defs_scalar.specs.Tags.{all_of, leading, behind, is_same, begins_with_mark, is_marked_name, is_handle}
+use Rattle.defs_scalar.specs.Tags.{all_of, leading, after, is_same, begins_with_mark, is_marked_name, is_handle}
 use Rattle.defs_scalar.specs.Directives.{decimal_value, number_of, name_and_mark, handle_and_rest}
 use Rattle.model_lexers.specs.Machine.{Read, past}
 use Rattle.model_lexers.specs.Tag.{handle_end, handle}
@@ -24,15 +24,15 @@ pub data NumberSees (start p : Position) (b n : List ℕ) (x : Result (Read ℕ)
   missing : leading classes.is_decimal_digit b ≡ [] → number_of (leading classes.is_decimal_digit b) ≡ None → x ≡ Err (At problem.VersionNumber start) → NumberSees start p b n x
   long : nat_le (length (leading classes.is_decimal_digit b)) 9 ≡ false → number_of (leading classes.is_decimal_digit b) ≡ None → x ≡ Err (At problem.VersionTooLong start) → NumberSees start p b n x
   found : (value : ℕ) → number_of (leading classes.is_decimal_digit b) ≡ Some value
-      → x ≡ Ok (record { rest = behind classes.is_decimal_digit b ++ n; place = further (length (leading classes.is_decimal_digit b)) p; value = value }) → NumberSees start p b n x
+      → x ≡ Ok (record { rest = after classes.is_decimal_digit b ++ n; place = further (length (leading classes.is_decimal_digit b)) p; value = value }) → NumberSees start p b n x
 
 digit_by : (start p : Position) (b n w r : List ℕ) → leading classes.is_decimal_digit b ≡ w
-    → NumberSees start p b n (if is_nil w then Err (At problem.VersionNumber start) else (if nat_le (length w) 9 then Ok (record { rest = behind classes.is_decimal_digit b ++ n; place = further (length w) p; value = decimal_value 0 w }) else Err (At problem.VersionTooLong start)))
+    → NumberSees start p b n (if is_nil w then Err (At problem.VersionNumber start) else (if nat_le (length w) 9 then Ok (record { rest = after classes.is_decimal_digit b ++ n; place = further (length w) p; value = decimal_value 0 w }) else Err (At problem.VersionTooLong start)))
 digit_by start p b n [] r e = missing e (rw e refl) refl
 digit_by start p b n (c ∷ w) r e = by (nat_le (length (c ∷ w)) 9) refl
   where
     by : (few : Bool) → nat_le (length (c ∷ w)) 9 ≡ few
-        → NumberSees start p b n (if few then Ok (record { rest = behind classes.is_decimal_digit b ++ n; place = further (length (c ∷ w)) p; value = decimal_value 0 (c ∷ w) }) else Err (At problem.VersionTooLong start))
+        → NumberSees start p b n (if few then Ok (record { rest = after classes.is_decimal_digit b ++ n; place = further (length (c ∷ w)) p; value = decimal_value 0 (c ∷ w) }) else Err (At problem.VersionTooLong start))
     by true f = found (decimal_value 0 (c ∷ w)) (rw e (rw f refl)) (rw e refl)
     by false f = long (rw e f) (rw e (rw f refl)) refl
 
@@ -48,7 +48,7 @@ number_sees start p b n h =
 -- What the scan of a handle sees in a line: no mark; a name without a second mark; or the handle that stands there.
 pub data HandleSees (start p : Position) (t n : List ℕ) (x : Result (Read (List ℕ)) Fault) : Type 0 where
   no_mark : begins_with_mark t ≡ false → is_handle (handle_and_rest t).0 ≡ false → x ≡ Err (At problem.TagStart start) → HandleSees start p t n x
-  open_name : (c : ℕ) (name rest : List ℕ) → t ≡ 33 ∷ rest → leading classes.is_alpha rest ≡ c ∷ name → begins_with_mark (behind classes.is_alpha rest) ≡ false → is_handle (handle_and_rest t).0 ≡ false
+  open_name : (c : ℕ) (name rest : List ℕ) → t ≡ 33 ∷ rest → leading classes.is_alpha rest ≡ c ∷ name → begins_with_mark (after classes.is_alpha rest) ≡ false → is_handle (handle_and_rest t).0 ≡ false
       → x ≡ Err (At problem.TagDirectiveHandle start) → HandleSees start p t n x
   found : is_handle (handle_and_rest t).0 ≡ true → t ≡ (handle_and_rest t).0 ++ (handle_and_rest t).1
       → x ≡ Ok (record { rest = (handle_and_rest t).1 ++ n; place = further (length (handle_and_rest t).0) p; value = (handle_and_rest t).0 }) → HandleSees start p t n x
@@ -64,7 +64,7 @@ alpha_is_no_mark c h = by (c == 33) refl
     by true e = let same : c ≡ 33 = eqb-true c 33 e in absurd (cc (rw same at h, mark_is_no_alpha))
     by false e = e
 
--- a name alone is no handle, and one with a mark behind it is
+-- a name alone is no handle, and one with a mark after it is
 marked : (c : ℕ) (w : List ℕ) → all_of classes.is_alpha (c ∷ w) ≡ true → (is_marked_name (c ∷ w) ≡ false) × (is_marked_name ((c ∷ w) ++ 33 ∷ []) ≡ true)
 marked c [] h = let q = and_parts (classes.is_alpha c) true h in (alpha_is_no_mark c q.0, rw q.0 refl)
 marked c (d ∷ w) h =
@@ -95,15 +95,15 @@ marked_place p k m e =
     rw (i, j) refl
 
 module _ (start p : Position) (r n : List ℕ) (ends : ends_line n ≡ true) where
-  -- behind a name a second mark stands
-  with_mark : (w s : List ℕ) → leading classes.is_alpha r ≡ w → behind classes.is_alpha r ≡ 33 ∷ s → r ≡ w ++ 33 ∷ s → all_of classes.is_alpha w ≡ true
+  -- after a name a second mark stands
+  with_mark : (w s : List ℕ) → leading classes.is_alpha r ≡ w → after classes.is_alpha r ≡ 33 ∷ s → r ≡ w ++ 33 ∷ s → all_of classes.is_alpha w ≡ true
       → HandleSees start p (33 ∷ r) n (Ok (record { rest = s ++ n; place = past (further (length w) (past p)); value = (33 ∷ w) ++ 33 ∷ [] }))
   with_mark w s lead rest cut all =
       found (rw (lead, rest) (handle_of w all)) (rw (lead, rest) (ap (λ k. 33 ∷ k) (cut ∙ sym (append_assoc w (33 ∷ []) s))))
       (rw (lead, rest) (ap (λ q. Ok (record { rest = s ++ n; place = q; value = 33 ∷ (w ++ 33 ∷ []) })) (marked_place p (length w) (length (w ++ 33 ∷ [])) (length-append w (33 ∷ [])))))
 
   -- none stands there
-  without_mark : (w s : List ℕ) → leading classes.is_alpha r ≡ w → behind classes.is_alpha r ≡ s → r ≡ w ++ s → all_of classes.is_alpha w ≡ true → begins_with_mark s ≡ false
+  without_mark : (w s : List ℕ) → leading classes.is_alpha r ≡ w → after classes.is_alpha r ≡ s → r ≡ w ++ s → all_of classes.is_alpha w ≡ true → begins_with_mark s ≡ false
       → HandleSees start p (33 ∷ r) n (if is_same w [] then Ok (record { rest = s ++ n; place = further (length w) (past p); value = 33 ∷ w }) else Err (At problem.TagDirectiveHandle start))
   without_mark [] s lead rest cut all none =
       let is : handle_and_rest (33 ∷ r) ≡ (33 ∷ [], s) = rw (lead, rest) (no_second_mark [] s none) in
@@ -112,10 +112,10 @@ module _ (start p : Position) (r n : List ℕ) (ends : ends_line n ≡ true) whe
       let is : handle_and_rest (33 ∷ r) ≡ (33 ∷ c ∷ w, s) = rw (lead, rest) (no_second_mark (c ∷ w) s none) in
       open_name c w r refl lead (ap begins_with_mark rest ∙ none) (rw is ((marked c w all).0)) refl
 
-  behind_name : (w s : List ℕ) → leading classes.is_alpha r ≡ w → behind classes.is_alpha r ≡ s → r ≡ w ++ s → all_of classes.is_alpha w ≡ true
+  after_name : (w s : List ℕ) → leading classes.is_alpha r ≡ w → after classes.is_alpha r ≡ s → r ≡ w ++ s → all_of classes.is_alpha w ≡ true
       → HandleSees start p (33 ∷ r) n (handle_end start (is_same w []) (33 ∷ w) (s ++ n) (further (length w) (past p)))
-  behind_name w [] lead rest cut all = let none = not_at_end 33 refl refl refl n ends in rw none (without_mark w [] lead rest cut all refl)
-  behind_name w (d ∷ s) lead rest cut all = by (d == 33) refl
+  after_name w [] lead rest cut all = let none = not_at_end 33 refl refl refl n ends in rw none (without_mark w [] lead rest cut all refl)
+  after_name w (d ∷ s) lead rest cut all = by (d == 33) refl
     where
       by : (b : Bool) → (d == 33) ≡ b → HandleSees start p (33 ∷ r) n (handle_end start (is_same w []) (33 ∷ w) ((d ∷ s) ++ n) (further (length w) (past p)))
       by true e = let same : d ≡ 33 = eqb-true d 33 e in rw same (with_mark w s lead (rest ∙ ap (λ k. k ∷ s) same) (cut ∙ ap (λ k. w ++ k ∷ s) same) all)
@@ -126,7 +126,7 @@ module _ (start p : Position) (r n : List ℕ) (ends : ends_line n ≡ true) whe
   marked_handle =
       let q = before_end classes.is_alpha r n (none_at_end classes.is_alpha refl refl n ends) in
       rw (spells_name [] r n refl ends, word (r ++ n) (past p) (33 ∷ []), q.0, q.1)
-      (behind_name (leading classes.is_alpha r) (behind classes.is_alpha r) refl refl (span_cut classes.is_alpha r) (all_leading classes.is_alpha r))
+      (after_name (leading classes.is_alpha r) (after classes.is_alpha r) refl refl (span_cut classes.is_alpha r) (all_leading classes.is_alpha r))
 
 pub handle_sees : (start p : Position) (t n : List ℕ) → ends_line n ≡ true → HandleSees start p t n (handle start (t ++ n) p)
 unfolding handle

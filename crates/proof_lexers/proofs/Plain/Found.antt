@@ -14,28 +14,28 @@ use Rattle.model_lexers.specs.declared.context.Context.{Context}
 use Rattle.model_lexers.specs.Machine.{Read}
 use Rattle.model_lexers.specs.Folding.{Folded, with_char, with_blank, with_break, joined}
 use Rattle.model_lexers.specs.Plain.{Plain}
-use Rattle.proof_lexers.specs.PlainEnds.{collection_of, is_white, is_gap, begins_white, begins_solid, has_break, stand_behind, is_apart}
+use Rattle.proof_lexers.specs.PlainEnds.{collection_of, is_white, is_gap, begins_white, begins_solid, has_break, stand_after, is_apart}
 
 -- ---- the buffers, a character at a time
 
--- behind a character, before the text behind it; of CR LF the CR adds nothing
-abbrev pub behind_char : ℕ → List ℕ → Folded → Folded
-behind_char c r t = (if is_break c then (if is_before_line_feed c r then t else with_break t) else (if is_blank c then with_blank c t else with_char c (joined t)))
+-- after a character, before the text after it; of CR LF the CR adds nothing
+abbrev pub after_char : ℕ → List ℕ → Folded → Folded
+after_char c r t = (if is_break c then (if is_before_line_feed c r then t else with_break t) else (if is_blank c then with_blank c t else with_char c (joined t)))
 
--- behind a text
-abbrev pub behind_text : List ℕ → Folded → Folded
-behind_text [] t = t
-behind_text (c ∷ r) t = behind_text r (behind_char c r t)
+-- after a text
+abbrev pub after_text : List ℕ → Folded → Folded
+after_text [] t = t
+after_text (c ∷ r) t = after_text r (after_char c r t)
 
--- whether a break stands before the gap's end: behind content only in the gap itself
+-- whether a break stands before the gap's end: after content only in the gap itself
 abbrev pub leads : (more : List ℕ) → Folded → (gap : List ℕ) → Bool
 leads [] t gap = t.leading || has_break gap
 leads (c ∷ r) t gap = has_break gap
 
 -- what stands before the gap
-abbrev pub behind_more : Stand → List ℕ → Stand
-behind_more s [] = s
-behind_more s (c ∷ r) = inside
+abbrev pub after_more : Stand → List ℕ → Stand
+after_more s [] = s
+after_more s (c ∷ r) = inside
 
 -- whether a text ends with content, where it isn't empty
 abbrev pub is_solid_end : List ℕ → Bool
@@ -43,21 +43,21 @@ is_solid_end [] = true
 is_solid_end (c ∷ r) = ends_with_content c r
 
 module _ (ctx : Context) (start : Position) where
-  -- Why the text behind a place in a scalar is refused: a dash before a flow indicator; a TAB at a line's start and content behind it; or, behind such a TAB, content.
+  -- Why the text after a place in a scalar is refused: a dash before a flow indicator; a TAB at a line's start and content after it; or, after such a TAB, content.
   pub data Fails (tabs : Bool) (s : Stand) (p : Position) (a : List ℕ) : Fault → Type 0 where
-    dash : (before rest : List ℕ) → ctx.flow ≡ true → a ≡ before ++ 45 ∷ rest → begins_flow rest ≡ true → goes_on ctx.flow (collection_of ctx.indent) s before (45 ∷ rest) ≡ true → is_apart (stand_behind s before) ≡ true
+    dash : (before rest : List ℕ) → ctx.flow ≡ true → a ≡ before ++ 45 ∷ rest → begins_flow rest ≡ true → goes_on ctx.flow (collection_of ctx.indent) s before (45 ∷ rest) ≡ true → is_apart (stand_after s before) ≡ true
         → Fails tabs s p a (At problem.PlainDashInFlow (position_after p before (45 ∷ rest)))
-    tab : (before blanks rest : List ℕ) (column : ℕ) → a ≡ before ++ 9 ∷ (blanks ++ rest) → goes_on ctx.flow (collection_of ctx.indent) s before (9 ∷ (blanks ++ rest)) ≡ true → stand_behind s before ≡ on_line column
+    tab : (before blanks rest : List ℕ) (column : ℕ) → a ≡ before ++ 9 ∷ (blanks ++ rest) → goes_on ctx.flow (collection_of ctx.indent) s before (9 ∷ (blanks ++ rest)) ≡ true → stand_after s before ≡ on_line column
         → nat_lt column ctx.indent ≡ true → is_blanks blanks ≡ true → begins_solid rest ≡ true → Fails tabs s p a (At problem.PlainTab start)
-    behind_tab : (blanks rest : List ℕ) → tabs ≡ true → a ≡ blanks ++ rest → is_blanks blanks ≡ true → begins_solid rest ≡ true → Fails tabs s p a (At problem.PlainTab start)
+    after_tab : (blanks rest : List ℕ) → tabs ≡ true → a ≡ blanks ++ rest → is_blanks blanks ≡ true → begins_solid rest ≡ true → Fails tabs s p a (At problem.PlainTab start)
 
   abbrev pub left : Position → Folded → (more gap rest : List ℕ) → Read Plain
-  left p t more gap rest = record { rest = rest; place = position_after p (more ++ gap) rest; value = record { text = (behind_text more t).text; leading = leads more t gap } }
+  left p t more gap rest = record { rest = rest; place = position_after p (more ++ gap) rest; value = record { text = (after_text more t).text; leading = leads more t gap } }
 
-  -- What a scan finds: the scalar goes on over more of the text, a gap is behind that, and there it ends; or the text is refused.
+  -- What a scan finds: the scalar goes on over more of the text, a gap is after that, and there it ends; or the text is refused.
   pub data Found (tabs : Bool) (s : Stand) (p : Position) (t : Folded) (a : List ℕ) (x : Result (Read Plain) Fault) : Type 0 where
     found : (more gap rest : List ℕ) → a ≡ more ++ (gap ++ rest) → goes_on ctx.flow (collection_of ctx.indent) s more (gap ++ rest) ≡ true → is_solid_end more ≡ true
-        → stops ctx.flow (collection_of ctx.indent) (behind_more s more) (gap ++ rest) ≡ true → is_gap gap ≡ true → begins_white rest ≡ false → x ≡ Ok (left p t more gap rest) → Found tabs s p t a x
+        → stops ctx.flow (collection_of ctx.indent) (after_more s more) (gap ++ rest) ≡ true → is_gap gap ≡ true → begins_white rest ≡ false → x ≡ Ok (left p t more gap rest) → Found tabs s p t a x
     fails : (f : Fault) → Fails tabs s p a f → x ≡ Err f → Found tabs s p t a x
 
   pub found_on : (tabs : Bool) (s : Stand) (p : Position) (t : Folded) (a : List ℕ) (x y : Result (Read Plain) Fault) → x ≡ y → Found tabs s p t a y → Found tabs s p t a x
@@ -75,13 +75,13 @@ module _ (ctx : Context) (start : Position) where
   pub further : (c : ℕ) (a : List ℕ) (tabs u : Bool) (s next : Stand) (p : Position) (f : Fault) → past s c ≡ next → (is_white c || not (ends_plain ctx.flow (collection_of ctx.indent) s (c ∷ a))) ≡ true
       → ((blanks rest : List ℕ) → u ≡ true → a ≡ blanks ++ rest → is_blanks blanks ≡ true → begins_solid rest ≡ true → Fails tabs s p (c ∷ a) (At problem.PlainTab start))
       → Fails u next (position_past p c a) a f → Fails tabs s p (c ∷ a) f
-  further c a tabs u s next p f e on behind (dash before rest flow cut begins goes apart) =
+  further c a tabs u s next p f e on after (dash before rest flow cut begins goes apart) =
       let here : (is_white c || not (ends_plain ctx.flow (collection_of ctx.indent) s (c ∷ (before ++ 45 ∷ rest)))) ≡ true = rw cut at on in
       rw cut (dash (c ∷ before) rest flow refl begins (rw (here, e) goes) (rw e apart))
-  further c a tabs u s next p f e on behind (tab before blanks rest column cut goes line less blank solid) =
+  further c a tabs u s next p f e on after (tab before blanks rest column cut goes line less blank solid) =
       let here : (is_white c || not (ends_plain ctx.flow (collection_of ctx.indent) s (c ∷ (before ++ 9 ∷ (blanks ++ rest))))) ≡ true = rw cut at on in
       rw cut (tab (c ∷ before) blanks rest column refl (rw (here, e) goes) (rw e line) less blank solid)
-  further c a tabs u s next p f e on behind (behind_tab blanks rest are cut blank solid) = behind blanks rest are cut blank solid
+  further c a tabs u s next p f e on after (after_tab blanks rest are cut blank solid) = after blanks rest are cut blank solid
 
   -- ---- a blank or a break before it
 
@@ -93,7 +93,7 @@ module _ (ctx : Context) (start : Position) where
   or_false true = refl
   or_false false = refl
 
-  gap_text : (c : ℕ) (a : List ℕ) (t : Folded) → is_white c ≡ true → (behind_char c a t).text ≡ t.text
+  gap_text : (c : ℕ) (a : List ℕ) (t : Folded) → is_white c ≡ true → (after_char c a t).text ≡ t.text
   gap_text c a t h = by (is_break c) (is_blank c) (is_before_line_feed c a) t.leading refl refl
     where
       by : (breaks blanks feed leading : Bool) → is_break c ≡ breaks → is_blank c ≡ blanks
@@ -114,8 +114,8 @@ module _ (ctx : Context) (start : Position) where
   feed_breaks c [] (d ∷ r) h ends = let q = and_parts (c == 13) (d == 10) h in let no : true ≡ false = rw (feed_is_break d q.1, or_true) at ends in cc
   feed_breaks c (d ∷ gap) rest h ends = let q = and_parts (c == 13) (d == 10) h in rw (feed_is_break d q.1) refl
 
-  -- a break sets that one stands before the gap's end, but for the CR of CR LF, behind which a break follows
-  gap_leads : (c : ℕ) (gap rest : List ℕ) (t : Folded) → is_white c ≡ true → begins_white rest ≡ false → ((behind_char c (gap ++ rest) t).leading || has_break gap) ≡ (t.leading || (is_break c || has_break gap))
+  -- a break sets that one stands before the gap's end, but for the CR of CR LF, after which a break follows
+  gap_leads : (c : ℕ) (gap rest : List ℕ) (t : Folded) → is_white c ≡ true → begins_white rest ≡ false → ((after_char c (gap ++ rest) t).leading || has_break gap) ≡ (t.leading || (is_break c || has_break gap))
   gap_leads c gap rest t h ends = by (is_break c) (is_blank c) (is_before_line_feed c (gap ++ rest)) t.leading refl refl refl refl
     where
       by : (breaks blanks feed leading : Bool) → is_break c ≡ breaks → is_blank c ≡ blanks → is_before_line_feed c (gap ++ rest) ≡ feed → t.leading ≡ leading
@@ -129,25 +129,25 @@ module _ (ctx : Context) (start : Position) where
       by false false feed leading e f g k = let no : false ≡ true = rw (e, f) at h in cc
 
   -- the next character decides
-  same_first : (c d : ℕ) (r s : List ℕ) (t : Folded) → behind_char c (d ∷ r) t ≡ behind_char c (d ∷ s) t
+  same_first : (c d : ℕ) (r s : List ℕ) (t : Folded) → after_char c (d ∷ r) t ≡ after_char c (d ∷ s) t
   same_first c d r s t = refl
 
   pub after_gap : (c : ℕ) (a : List ℕ) (tabs u : Bool) (s : Stand) (p : Position) (t : Folded) (x : Result (Read Plain) Fault) → is_white c ≡ true
       → ((f : Fault) → Fails u (past s c) (position_past p c a) a f → Fails tabs s p (c ∷ a) f)
-      → Found u (past s c) (position_past p c a) (behind_char c a t) a x → Found tabs s p t (c ∷ a) x
+      → Found u (past s c) (position_past p c a) (after_char c a t) a x → Found tabs s p t (c ∷ a) x
   after_gap c a tabs u s p t x white grow (found [] gap rest cut goes solid stop gaps ends is) =
       found [] (c ∷ gap) rest (ap (λ r. c ∷ r) cut) refl refl (rw white stop) (rw white gaps) ends
-      (is ∙ same_left rest _ _ _ _ _ _ (same_place c a [] gap rest p cut) (gap_text c a t white) (ap (λ b. (behind_char c b t).leading || has_break gap) cut ∙ gap_leads c gap rest t white ends))
+      (is ∙ same_left rest _ _ _ _ _ _ (same_place c a [] gap rest p cut) (gap_text c a t white) (ap (λ b. (after_char c b t).leading || has_break gap) cut ∙ gap_leads c gap rest t white ends))
   after_gap c a tabs u s p t x white grow (found (d ∷ more) gap rest cut goes solid stop gaps ends is) =
       found (c ∷ d ∷ more) gap rest (ap (λ r. c ∷ r) cut) (rw white goes) solid stop gaps ends
-      (is ∙ same_left rest _ _ _ _ _ _ (same_place c a (d ∷ more) gap rest p cut) (ap (λ b. (behind_text (d ∷ more) (behind_char c b t)).text) cut) refl)
+      (is ∙ same_left rest _ _ _ _ _ _ (same_place c a (d ∷ more) gap rest p cut) (ap (λ b. (after_text (d ∷ more) (after_char c b t)).text) cut) refl)
   after_gap c a tabs u s p t x white grow (fails f why is) = fails f (grow f why) is
 
   -- ---- a character of content before it
 
-  pub behind_inside : (more : List ℕ) → behind_more inside more ≡ inside
-  behind_inside [] = refl
-  behind_inside (c ∷ more) = refl
+  pub after_inside : (more : List ℕ) → after_more inside more ≡ inside
+  after_inside [] = refl
+  after_inside (c ∷ more) = refl
 
   pub solid_first : (c : ℕ) (more : List ℕ) → is_white c ≡ false → is_solid_end more ≡ true → ends_with_content c more ≡ true
   solid_first c [] h e = by (is_blank c) (is_break c) h
@@ -158,7 +158,7 @@ module _ (ctx : Context) (start : Position) where
       by false false h = refl
   solid_first c (d ∷ more) h e = e
 
-  pub content_char : (c : ℕ) (a : List ℕ) (t : Folded) → is_break c ≡ false → is_blank c ≡ false → with_char c (joined t) ≡ behind_char c a t
+  pub content_char : (c : ℕ) (a : List ℕ) (t : Folded) → is_break c ≡ false → is_blank c ≡ false → with_char c (joined t) ≡ after_char c a t
   content_char c a t e f = rw (e, f) refl
 
   pub no_lead : (c : ℕ) (more gap : List ℕ) (t : Folded) → leads more (with_char c (joined t)) gap ≡ has_break gap
@@ -172,6 +172,6 @@ module _ (ctx : Context) (start : Position) where
       → Found false inside (position_past p c a) (with_char c (joined t)) a x → Found false s p t (c ∷ a) x
   after_content c a s p t x breaks blanks on (found more gap rest cut goes solid stop gaps ends is) =
       let here : ends_plain ctx.flow (collection_of ctx.indent) s (c ∷ (more ++ (gap ++ rest))) ≡ false = rw cut at on in
-      found (c ∷ more) gap rest (ap (λ r. c ∷ r) cut) (rw (here, breaks, blanks) goes) (solid_first c more (rw (breaks, blanks) refl) solid) (rw (← behind_inside more) stop) gaps ends
-      (is ∙ same_left rest _ _ _ _ _ _ (same_place c a more gap rest p cut) (ap (λ u. (behind_text more u).text) (content_char c more t breaks blanks)) (no_lead c more gap t))
+      found (c ∷ more) gap rest (ap (λ r. c ∷ r) cut) (rw (here, breaks, blanks) goes) (solid_first c more (rw (breaks, blanks) refl) solid) (rw (← after_inside more) stop) gaps ends
+      (is ∙ same_left rest _ _ _ _ _ _ (same_place c a more gap rest p cut) (ap (λ u. (after_text more u).text) (content_char c more t breaks blanks)) (no_lead c more gap t))
   after_content c a s p t x breaks blanks on (fails f why is) = fails f (further c a false false s inside p f (past_content c s breaks blanks) (rw (breaks, blanks, on) refl) (λ b r e. cc) why) is

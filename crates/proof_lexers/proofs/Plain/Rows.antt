@@ -30,7 +30,7 @@ before_comma : IsRead flow here (codes "a:b") (codes ":,") (codes "a:b") (plain 
 unfolding is_blank is_break is_nul is_blank_or_end is_flow are_marks plain_element begins_with_marker plain_value
 before_comma = scalars_read flow (codes "a:b") (codes ":,") (codes "a:b") here refl refl refl refl refl
 
--- a dash before a comma, behind a blank
+-- a dash before a comma, after a blank
 dashed : IsRefusal flow here (codes "a -,") (At problem.PlainDashInFlow (record { index = 5; line = 1; col = 5 }))
 unfolding is_blank is_break is_nul is_blank_or_end is_flow
 dashed = by_dash (codes "a ") (codes ",") refl refl refl refl refl

@@ -18,7 +18,7 @@ use Rattle.model_lexers.specs.Folding.{Folded, nothing, with_char, joined}
 use Rattle.model_lexers.specs.Plain.{inside, first, is_shallow, at_dash, plain_from, plain, starts, Plain}
 use Rattle.proof_lexers.specs.PlainEnds.{has_no_nul, collection_of, is_white, begins_solid, is_indented, IsRefusal, by_column, by_dash, by_tab, EndsAs, reads, refuses, IsRead, read, refused}
 use Rattle.proof_lexers.specs.ScalarLaws.{PlainScalarsAreRead, PlainScansEndAsTheirTextSays}
-use Rattle.proof_lexers.proofs.Plain.Found.{behind_text, behind_more, Fails, dash, tab, behind_tab, Found, found, fails, same_left, no_lead, content_char, solid_first, past_content}
+use Rattle.proof_lexers.proofs.Plain.Found.{after_text, after_more, Fails, dash, tab, after_tab, Found, found, fails, same_left, no_lead, content_char, solid_first, past_content}
 use Rattle.proof_lexers.proofs.Plain.Turns.{off_margin, in_line_place, in_line, dash_parts}
 use Rattle.proof_lexers.proofs.Plain.Scans.{scans}
 use Rattle.proof_lexers.proofs.Plain.Values.{no_markers, value_is}
@@ -66,19 +66,19 @@ module _ (ctx : Context) (start : Position) (c : ℕ) (a : List ℕ) (white : is
 
   refusal : (f : Fault) → Fails ctx start false defs.inside (machine.past start) a f → IsRefusal ctx start (c ∷ a) f
   refusal f (dash before rest flow cut begins goes apart) =
-      rw (dash_place before rest) (by_dash (c ∷ before) rest flow (ap (λ r. c ∷ r) cut) begins goes (rw (past_content ctx start c defs.behind_blank break blank) apart))
+      rw (dash_place before rest) (by_dash (c ∷ before) rest flow (ap (λ r. c ∷ r) cut) begins goes (rw (past_content ctx start c defs.after_blank break blank) apart))
   refusal f (tab before blanks rest column cut goes line less are solid) =
-      by_tab (c ∷ before) blanks rest column (ap (λ r. c ∷ r) cut) goes (rw (past_content ctx start c defs.behind_blank break blank) line) less are solid
-  refusal f (behind_tab blanks rest no_tab cut are solid) = cc
+      by_tab (c ∷ before) blanks rest column (ap (λ r. c ∷ r) cut) goes (rw (past_content ctx start c defs.after_blank break blank) line) less are solid
+  refusal f (after_tab blanks rest no_tab cut are solid) = cc
 
   ended : (x : Result (Read Plain) Fault) → Found ctx start false defs.inside (machine.past start) read_first a x → EndsAs ctx start (c ∷ a) x
   ended x (found more gap rest cut goes solid stop gaps ends is) =
       let content = solid_first ctx start c more white solid in
       let stopping : stops ctx.flow (collection_of ctx.indent) defs.inside (gap ++ rest) ≡ true = inside_too more stop in
       reads (c ∷ more) gap rest _ (ap (λ r. c ∷ r) cut) (rw (goes, content, stopping) refl) gaps ends (value_is c more (no_marker more (gap ++ rest) goes) content)
-      (is ∙ same_left ctx start rest _ _ _ _ _ _ (place_is more gap rest) (ap (λ u. (behind_text more u).text) (content_char ctx start c more nothing break blank)) (no_lead ctx start c more gap nothing))
+      (is ∙ same_left ctx start rest _ _ _ _ _ _ (place_is more gap rest) (ap (λ u. (after_text more u).text) (content_char ctx start c more nothing break blank)) (no_lead ctx start c more gap nothing))
     where
-      inside_too : (more : List ℕ) → stops ctx.flow (collection_of ctx.indent) (behind_more defs.inside more) (gap ++ rest) ≡ true → stops ctx.flow (collection_of ctx.indent) defs.inside (gap ++ rest) ≡ true
+      inside_too : (more : List ℕ) → stops ctx.flow (collection_of ctx.indent) (after_more defs.inside more) (gap ++ rest) ≡ true → stops ctx.flow (collection_of ctx.indent) defs.inside (gap ++ rest) ≡ true
       inside_too [] h = h
       inside_too (d ∷ more) h = h
   ended x (fails f why is) = refuses f (refusal f why) is
@@ -115,8 +115,8 @@ module _ (flow : Bool) (collection : Option ℕ) where
   content_solid : (d : ℕ) → ends_with_content d [] ≡ true → is_white d ≡ false
   content_solid d h = let q = and_parts (not (is_blank d)) (not (is_break d)) h in rw (not_true (is_blank d) q.0, not_true (is_break d) q.1) refl
 
-  behind_content : (s : Stand) (c : ℕ) → ends_with_content c [] ≡ true → past s c ≡ defs.inside
-  behind_content s c h = let q = and_parts (not (is_blank c)) (not (is_break c)) h in rw (not_true (is_blank c) q.0, not_true (is_break c) q.1) refl
+  after_content : (s : Stand) (c : ℕ) → ends_with_content c [] ≡ true → past s c ≡ defs.inside
+  after_content s c h = let q = and_parts (not (is_blank c)) (not (is_break c)) h in rw (not_true (is_blank c) q.0, not_true (is_break c) q.1) refl
 
   no_more : (s : Stand) (d : ℕ) (q next : List ℕ) → stops flow collection s (d ∷ (q ++ next)) ≡ true → goes_on flow collection s (d ∷ q) next ≡ true → ends_with_content d q ≡ true → ⊥
   no_more s d [] next stop goes content = stop_or_go s d [] next (content_solid d content) stop goes
@@ -130,9 +130,9 @@ module _ (flow : Bool) (collection : Option ℕ) where
       → stops flow collection defs.inside next ≡ true → stops flow collection defs.inside after ≡ true → (r ≡ u) × (next ≡ after)
   one s c [] [] next after cut goes goes' content content' stop stop' = (refl, cut)
   one s c [] (d ∷ u) next after cut goes goes' content content' stop stop' =
-      absurd (no_more defs.inside d u after (rw cut at stop) (rw (behind_content s c content) at goes') content')
+      absurd (no_more defs.inside d u after (rw cut at stop) (rw (after_content s c content) at goes') content')
   one s c (d ∷ r) [] next after cut goes goes' content content' stop stop' =
-      absurd (no_more defs.inside d r next (rw (sym cut) at stop') (rw (behind_content s c content') at goes) content)
+      absurd (no_more defs.inside d r next (rw (sym cut) at stop') (rw (after_content s c content') at goes) content)
   one s c (d ∷ r) (e ∷ u) next after cut goes goes' content content' stop stop' =
       let same : e ≡ d = cc in
       let tail : r ++ next ≡ u ++ after = cc in
@@ -154,8 +154,8 @@ whole flow collection c r next h =
     let z = and_parts (goes_on flow collection defs.inside r next) (ends_with_content c r) q.0 in
     record { goes = z.0; content = z.1; stop = q.1 }
 
-behind_solid : (c : ℕ) → is_white c ≡ false → past defs.inside c ≡ defs.inside
-behind_solid c h = let q = solid_parts c h in rw (q.0, q.1) refl
+after_solid : (c : ℕ) → is_white c ≡ false → past defs.inside c ≡ defs.inside
+after_solid c h = let q = solid_parts c h in rw (q.0, q.1) refl
 
 -- the only piece
 pub same_piece : (flow : Bool) (collection : Option ℕ) (piece u next after : List ℕ) → begins_solid piece ≡ true → piece ++ next ≡ u ++ after → is_whole_plain flow collection piece next ≡ true → is_whole_plain flow collection u after ≡ true
@@ -168,7 +168,7 @@ same_piece flow collection (c ∷ r) (d ∷ u) next after solid cut h k =
     let here : is_whole_plain flow collection (c ∷ u) after ≡ true = rw same at k in
     let w = whole flow collection c r next h in
     let v = whole flow collection c u after here in
-    let still = behind_solid c (not_true (is_white c) solid) in
+    let still = after_solid c (not_true (is_white c) solid) in
     let z = one flow collection defs.inside c r u next after tail (rw still w.goes) (rw still v.goes) w.content v.content w.stop v.stop in
     (rw (same, z.0) refl, z.1)
 

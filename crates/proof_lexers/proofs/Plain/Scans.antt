@@ -8,7 +8,7 @@ use Rattle.yaml_tokens.specs.declared.problem.Fault.{Fault}
 use Rattle.yaml_tokens.specs.declared.problem.Fault.TheVariants.{At}
 use Rattle.yaml_tokens.specs.declared.problem.Problem.TheVariants as problem
 use Rattle.defs_text.specs.Classes as classes
-use Rattle.defs_token.specs.Plain.{Stand, on_line, behind_blank, begins_flow, ends_at_colon, ends_plain, stops}
+use Rattle.defs_token.specs.Plain.{Stand, on_line, after_blank, begins_flow, ends_at_colon, ends_plain, stops}
 use Rattle.defs_token.specs.Plain as defs
 use Rattle.model_lexers.specs.declared.context.Context.{Context}
 use Rattle.model_lexers.specs.Machine.{Read, at_marker}
@@ -16,8 +16,8 @@ use Rattle.model_lexers.specs.Folding.{Folded}
 use Rattle.model_lexers.specs.Plain.{inside, between, tabs, can_be_plain, is_shallow, Plain}
 use Rattle.proof_lexers.proofs.Bridges.{same_break, same_blank}
 use Rattle.proof_lexers.specs.PlainEnds.{collection_of, is_white, has_no_nul, is_apart}
-use Rattle.proof_lexers.proofs.Plain.Found.{dash, tab, behind_tab, Found, fails}
-use Rattle.proof_lexers.proofs.Plain.Turns.{off_margin, as_deep, can_be, line_is, no_line, in_text, scan, in_line, behind_blanks, at_line, at_tabs, at_feed, Scans, found_here, break_step, blank_step, no_tabs, still_inside, content_step, Outcome, stopped, went, dashed, outcome, ends_over, ends_comment}
+use Rattle.proof_lexers.proofs.Plain.Found.{dash, tab, after_tab, Found, fails}
+use Rattle.proof_lexers.proofs.Plain.Turns.{off_margin, as_deep, can_be, line_is, no_line, in_text, scan, in_line, after_blanks, at_line, at_tabs, at_feed, Scans, found_here, break_step, blank_step, no_tabs, still_inside, content_step, Outcome, stopped, went, dashed, outcome, ends_over, ends_comment}
 
 -- a blank and no break, a break, or content
 data Kind (c : ℕ) : Type 0 where
@@ -72,7 +72,7 @@ module _ (ctx : Context) (start : Position) where
       → x ≡ Ok (record { rest = c ∷ a; place = p; value = record { text = t.text; leading = t.leading } }) → Found ctx start u s p t (c ∷ a) x
   stop_here u c a s p t x white ends is = found_here ctx start u s p t (c ∷ a) x (rw white ends) white is
 
-  -- ---- behind a gap
+  -- ---- after a gap
 
   by_outcome : (c : ℕ) (a : List ℕ) (s : Stand) (p : Position) (t : Folded) → is_white c ≡ false → is_apart s ≡ true → Scans ctx start a → Outcome ctx start c a s p t (scan ctx start (c ∷ a) between p t)
       → Found ctx start false s p t (c ∷ a) (scan ctx start (c ∷ a) between p t)
@@ -81,13 +81,13 @@ module _ (ctx : Context) (start : Position) where
   by_outcome c a s p t white apart ih (dashed flow is_dash begins is) = fails (At problem.PlainDashInFlow p) (dash [] a flow (ap (λ k. k ∷ a) is_dash) begins refl apart) is
 
   blanks_by : (c : ℕ) (a : List ℕ) (p : Position) (t : Folded) → (c == 0) ≡ false → t.leading ≡ false → (p.col == 0) ≡ false → is_shallow ctx p.col ≡ false → Scans ctx start a → Kind c
-      → Found ctx start false behind_blank p t (c ∷ a) (scan ctx start (c ∷ a) between p t)
-  blanks_by c a p t nul lead off deep ih (breaks e) = break_step ctx start c a false between behind_blank p t _ e ih (rw e refl)
+      → Found ctx start false after_blank p t (c ∷ a) (scan ctx start (c ∷ a) between p t)
+  blanks_by c a p t nul lead off deep ih (breaks e) = break_step ctx start c a false between after_blank p t _ e ih (rw e refl)
   blanks_by c a p t nul lead off deep ih (blanks e f) =
-      blank_step ctx start c a false between between behind_blank behind_blank p t _ e f refl (λ b r k. no_tabs ctx start k) ih
-      (behind_blanks (still_inside ctx start c t lead) (off_margin p.col) (as_deep ctx p.col deep)) (rw (e, f, lead) refl)
+      blank_step ctx start c a false between between after_blank after_blank p t _ e f refl (λ b r k. no_tabs ctx start k) ih
+      (after_blanks (still_inside ctx start c t lead) (off_margin p.col) (as_deep ctx p.col deep)) (rw (e, f, lead) refl)
   blanks_by c a p t nul lead off deep ih (solid white plain) =
-      by_outcome c a behind_blank p t white refl ih (outcome ctx start c a behind_blank p t white nul refl (no_line ctx c a p off deep))
+      by_outcome c a after_blank p t white refl ih (outcome ctx start c a after_blank p t white nul refl (no_line ctx c a p off deep))
 
   -- ---- at a line's start
 
@@ -109,7 +109,7 @@ module _ (ctx : Context) (start : Position) where
   line_by c column a p t nul is lead ih (solid white plain) =
       by_outcome c a (on_line column) p t white refl ih (outcome ctx start c a (on_line column) p t white nul refl (line_is ctx c column a ∙ ap (λ k. at_marker k (c ∷ a) || is_shallow ctx k) is))
 
-  -- ---- behind a TAB at a line's start
+  -- ---- after a TAB at a line's start
 
   tabs_solid : (c column : ℕ) (a : List ℕ) (p : Position) (t : Folded) (hash : Bool) → (c == 35) ≡ hash → is_white c ≡ false → (is_break c || is_blank c) ≡ false
       → Found ctx start true (on_line column) p t (c ∷ a) (scan ctx start (c ∷ a) tabs p t)
@@ -119,14 +119,14 @@ module _ (ctx : Context) (start : Position) where
   tabs_solid c column a p t false h white plain =
       let break : is_break c ≡ false = not_break c white in
       let blank : is_blank c ≡ false = not_blank c white in
-      fails (At problem.PlainTab start) (behind_tab [] (c ∷ a) refl refl refl (rw white refl)) (rw (break, h, blank) refl)
+      fails (At problem.PlainTab start) (after_tab [] (c ∷ a) refl refl refl (rw white refl)) (rw (break, h, blank) refl)
 
   tabs_by : (c column : ℕ) (a : List ℕ) (p : Position) (t : Folded) → t.leading ≡ true → Scans ctx start a → Kind c → Found ctx start true (on_line column) p t (c ∷ a) (scan ctx start (c ∷ a) tabs p t)
   tabs_by c column a p t lead ih (breaks e) = break_step ctx start c a true tabs (on_line column) p t _ e ih (rw e refl)
   tabs_by c column a p t lead ih (blanks e f) =
       let hash : (c == 35) ≡ false = no_hash c f in
       blank_step ctx start c a true tabs tabs (on_line column) (on_line (suc column)) p t _ e f refl
-      (λ b r k cut blank content. behind_tab (c ∷ b) r refl (ap (λ d. c ∷ d) cut) (rw (same_blank c, f) blank) content) ih
+      (λ b r k cut blank content. after_tab (c ∷ b) r refl (ap (λ d. c ∷ d) cut) (rw (same_blank c, f) blank) content) ih
       (at_tabs (suc column) (rw lead refl)) (rw (e, hash, f, lead) refl)
   tabs_by c column a p t lead ih (solid white plain) = tabs_solid c column a p t (c == 35) refl white plain
 
@@ -136,8 +136,8 @@ module _ (ctx : Context) (start : Position) where
       → Found ctx start false defs.inside p (in_text text) (c ∷ a) (scan ctx start (c ∷ a) inside p (in_text text))
   inside_by c a p text nul off deep ih (breaks e) = break_step ctx start c a false inside defs.inside p (in_text text) _ e ih (rw e refl)
   inside_by c a p text nul off deep ih (blanks e f) =
-      blank_step ctx start c a false inside between defs.inside behind_blank p (in_text text) _ e f refl (λ b r k. no_tabs ctx start k) ih
-      (behind_blanks refl (off_margin p.col) (as_deep ctx p.col deep)) (rw (e, f) refl)
+      blank_step ctx start c a false inside between defs.inside after_blank p (in_text text) _ e f refl (λ b r k. no_tabs ctx start k) ih
+      (after_blanks refl (off_margin p.col) (as_deep ctx p.col deep)) (rw (e, f) refl)
   inside_by c a p text nul off deep ih (solid white plain) = by (ends_at_colon ctx.flow (c ∷ a) || (ctx.flow && classes.is_flow c)) refl
     where
       by : (over : Bool) → (ends_at_colon ctx.flow (c ∷ a) || (ctx.flow && classes.is_flow c)) ≡ over → Found ctx start false defs.inside p (in_text text) (c ∷ a) (scan ctx start (c ∷ a) inside p (in_text text))
@@ -152,7 +152,7 @@ module _ (ctx : Context) (start : Position) where
 
   step : (c : ℕ) (a : List ℕ) → (c == 0) ≡ false → Scans ctx start a → Scans ctx start (c ∷ a)
   step c a nul ih m s p t (in_line text is off deep) = rw is (inside_by c a p text nul off deep ih (kind c))
-  step c a nul ih m s p t (behind_blanks lead off deep) = blanks_by c a p t nul lead off deep ih (kind c)
+  step c a nul ih m s p t (after_blanks lead off deep) = blanks_by c a p t nul lead off deep ih (kind c)
   step c a nul ih m s p t (at_line column is lead) = line_by c column a p t nul is lead ih (kind c)
   step c a nul ih m s p t (at_tabs column lead) = tabs_by c column a p t lead ih (kind c)
   step c a nul ih m s p t (at_feed column b cut) =
@@ -161,7 +161,7 @@ module _ (ctx : Context) (start : Position) where
 
   none : Scans ctx start []
   none m s p t (in_line text is off deep) = found_here ctx start false defs.inside p t [] _ refl refl refl
-  none m s p t (behind_blanks lead off deep) = found_here ctx start false behind_blank p t [] _ refl refl refl
+  none m s p t (after_blanks lead off deep) = found_here ctx start false after_blank p t [] _ refl refl refl
   none m s p t (at_line column is lead) = found_here ctx start false (on_line column) p t [] _ refl refl refl
   none m s p t (at_tabs column lead) = found_here ctx start true (on_line column) p t [] _ refl refl refl
   none m s p t (at_feed column b cut) = cc

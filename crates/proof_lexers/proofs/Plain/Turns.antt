@@ -12,7 +12,7 @@ use Rattle.defs_text.specs.Classes.{is_document_marker}
 use Rattle.defs_text.specs.Breaks.{is_before_line_feed}
 use Rattle.defs_text.specs.Position.{position_past}
 use Rattle.defs_token.specs.Filler.{is_blanks}
-use Rattle.defs_token.specs.Plain.{Stand, on_line, behind_blank, begins_flow, is_value_indicator, ends_at_colon, ends_at_comment, is_deeper, ends_at_line, ends_plain, stops}
+use Rattle.defs_token.specs.Plain.{Stand, on_line, after_blank, begins_flow, is_value_indicator, ends_at_colon, ends_at_comment, is_deeper, ends_at_line, ends_plain, stops}
 use Rattle.defs_token.specs.Plain as defs
 use Rattle.model_lexers.specs.declared.context.Context.{Context}
 use Rattle.model_lexers.specs.Machine.{Read, past, past_break, is_cr_lf, at_marker}
@@ -20,7 +20,7 @@ use Rattle.model_lexers.specs.Folding.{Folded, with_char, with_blank, with_break
 use Rattle.model_lexers.specs.Plain.{Mode, inside, between, tabs, at_break, can_be_plain, is_shallow, at_dash, at_plain, goes_on, plain_from, Plain}
 use Rattle.proof_lexers.proofs.Bridges.{both, same_break, same_blank, same_gap, same_flow, same_marker}
 use Rattle.proof_lexers.specs.PlainEnds.{collection_of, is_white, begins_white, begins_solid}
-use Rattle.proof_lexers.proofs.Plain.Found.{behind_char, Fails, Found, found, found_on, further, after_gap, after_content}
+use Rattle.proof_lexers.proofs.Plain.Found.{after_char, Fails, Found, found, found_on, further, after_gap, after_content}
 
 pub or_true : (b : Bool) → (b || true) ≡ true
 or_true true = refl
@@ -111,7 +111,7 @@ as_deep ctx n h = by ctx.flow h
     by true h = refl
     by false h = grind (arith, nat_tests)
 
--- whether content behind a TAB is refused
+-- whether content after a TAB is refused
 abbrev pub is_tabs : Mode → Bool
 is_tabs tabs = true
 is_tabs _ = false
@@ -124,10 +124,10 @@ module _ (ctx : Context) (start : Position) where
   abbrev pub scan : List ℕ → Mode → Position → Folded → Result (Read Plain) Fault
   scan a m p t = plain_from ctx start a (record { mode = m; place = p; folded = t })
 
-  -- Where a scan stands before a text: within a line; behind blanks in it; behind a break; behind a TAB at a line's start; or between CR and LF.
+  -- Where a scan stands before a text: within a line; after blanks in it; after a break; after a TAB at a line's start; or between CR and LF.
   pub data Stands (a : List ℕ) (p : Position) (t : Folded) : Mode → Stand → Type 0 where
     in_line : (text : List ℕ) → t ≡ in_text text → (p.col == 0) ≡ false → is_shallow ctx p.col ≡ false → Stands a p t inside defs.inside
-    behind_blanks : t.leading ≡ false → (p.col == 0) ≡ false → is_shallow ctx p.col ≡ false → Stands a p t between behind_blank
+    after_blanks : t.leading ≡ false → (p.col == 0) ≡ false → is_shallow ctx p.col ≡ false → Stands a p t between after_blank
     at_line : (column : ℕ) → column ≡ p.col → t.leading ≡ true → Stands a p t between (on_line column)
     at_tabs : (column : ℕ) → t.leading ≡ true → Stands a p t tabs (on_line column)
     at_feed : (column : ℕ) (b : List ℕ) → a ≡ 10 ∷ b → Stands a p t between (on_line column)
@@ -177,13 +177,13 @@ module _ (ctx : Context) (start : Position) where
           let here : classes.is_break c && not (is_before_line_feed c a) ≡ false = rw g (and_false (classes.is_break c)) in
           found_on ctx start u s p t (c ∷ a) x _ k
           (after_gap ctx start c a u false s p t _ white grow
-          (found_at false (defs.past s c) (on_line 0) (position_past p c a) (past p) (behind_char c a t) t a _ (rw breaks refl) (in_line_place c a p here) (rw (breaks, g) refl)
+          (found_at false (defs.past s c) (on_line 0) (position_past p c a) (past p) (after_char c a t) t a _ (rw breaks refl) (in_line_place c a p here) (rw (breaks, g) refl)
           (ih between (on_line 0) (past p) t (at_feed 0 z.0 z.1))))
       by false f k =
           let g : is_before_line_feed c a ≡ false = sym (same_feed c a) ∙ f in
           found_on ctx start u s p t (c ∷ a) x _ k
           (after_gap ctx start c a u false s p t _ white grow
-          (found_at false (defs.past s c) (on_line 0) (position_past p c a) (past_break p) (behind_char c a t) (with_break t) a _ (rw breaks refl) (line_place c a p (rw (breaks, g) refl)) (rw (breaks, g) refl)
+          (found_at false (defs.past s c) (on_line 0) (position_past p c a) (past_break p) (after_char c a t) (with_break t) a _ (rw breaks refl) (line_place c a p (rw (breaks, g) refl)) (rw (breaks, g) refl)
           (ih between (on_line 0) (past_break p) (with_break t) (at_line 0 refl (broken_leads t)))))
 
   -- ---- blanks
@@ -197,7 +197,7 @@ module _ (ctx : Context) (start : Position) where
   blank_step c a u m n s next p t x e f g tabbed ih stands is =
       found_on ctx start u s p t (c ∷ a) x _ is
       (after_gap ctx start c a u (is_tabs n) s p t _ (blank_white c f) grow
-      (found_at (is_tabs n) (defs.past s c) next (position_past p c a) (past p) (behind_char c a t) (with_blank c t) a _ (rw (no_break, blank) g) (in_line_place c a p (rw no_break refl)) (rw (no_break, blank) refl)
+      (found_at (is_tabs n) (defs.past s c) next (position_past p c a) (past p) (after_char c a t) (with_blank c t) a _ (rw (no_break, blank) g) (in_line_place c a p (rw no_break refl)) (rw (no_break, blank) refl)
       (ih n next (past p) (with_blank c t) stands)))
     where
       no_break : classes.is_break c ≡ false
@@ -234,7 +234,7 @@ module _ (ctx : Context) (start : Position) where
       parts false true h = cc
       parts false false h = (refl, refl)
 
-  -- what a scan does at a character of content behind a gap
+  -- what a scan does at a character of content after a gap
   pub data Outcome (c : ℕ) (a : List ℕ) (s : Stand) (p : Position) (t : Folded) (x : Result (Read Plain) Fault) : Type 0 where
     stopped : ends_plain ctx.flow (collection_of ctx.indent) s (c ∷ a) ≡ true → x ≡ Ok (record { rest = c ∷ a; place = p; value = record { text = t.text; leading = t.leading } }) → Outcome c a s p t x
     went : ends_plain ctx.flow (collection_of ctx.indent) s (c ∷ a) ≡ false → is_shallow ctx p.col ≡ false → x ≡ scan a inside (past p) (with_char c (joined t)) → Outcome c a s p t x

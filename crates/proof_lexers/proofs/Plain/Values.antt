@@ -1,4 +1,4 @@
--- The buffers behind a plain scalar have its value, and no line of it begins with a document marker.
+-- The buffers after a plain scalar have its value, and no line of it begins with a document marker.
 use Rattle.std.proofs.Common.{◌≡◌, ℕ, zero, suc, List, [], ◌∷◌, ◌++◌, Bool, true, false, ◌||◌, ◌&&◌, not, ◌==◌, if◌then◌else◌, Option, Some, refl, ap, sym, ◌∙◌, append-nil, drop}
 use Rattle.std.proofs.lemmas.Bool.{and_parts, eqb-true}
 use Rattle.defs_text.specs.Classes.{is_blank, is_break, is_blank_or_end, is_nul, are_marks, is_document_marker}
@@ -6,25 +6,25 @@ use Rattle.defs_text.specs.Breaks.{is_before_line_feed}
 use Rattle.defs_scalar.specs.FlowScalar.{Element, content, blank, line_break, Spelled, break_further, plain_element, elements, begins_with_marker, has_document_marker, plain_value}
 use Rattle.defs_token.specs.Plain.{Stand, on_line, past, begins_flow, ends_at_colon, goes_on, ends_plain, ends_with_content}
 use Rattle.model_lexers.specs.Folding.{Folded, nothing, with_break, joined}
-use Rattle.proof_lexers.specs.Buffers.{behind_element, behind_elements}
+use Rattle.proof_lexers.specs.Buffers.{after_element, after_elements}
 use Rattle.proof_lexers.proofs.Fold.{buffers_join}
 use Rattle.proof_lexers.specs.PlainEnds.{is_white}
-use Rattle.proof_lexers.proofs.Plain.Found.{behind_char, behind_text}
+use Rattle.proof_lexers.proofs.Plain.Found.{after_char, after_text}
 use Rattle.proof_lexers.proofs.Plain.Turns.{in_text, by_line_true}
 
 -- ---- elements
 
--- the elements of a text behind so many characters, and that the buffers take them as they take the text
+-- the elements of a text after so many characters, and that the buffers take them as they take the text
 record Elements (n : ℕ) (a : List ℕ) : Type 0 where
   all : List Element
   are : elements plain_element n a ≡ Some all
-  same : (t : Folded) → behind_elements all t ≡ behind_text (drop n a) t
+  same : (t : Folded) → after_elements all t ≡ after_text (drop n a) t
 
 abbrev spelled : Element → ℕ → Spelled
 spelled e k = record { element = e; further = k }
 
-one_more : (c : ℕ) (a : List ℕ) (e : Element) (k : ℕ) → plain_element c a ≡ Some (spelled e k) → ((t : Folded) → behind_text (drop k a) (behind_element e t) ≡ behind_text (c ∷ a) t) → Elements k a → Elements 0 (c ∷ a)
-one_more c a e k is same z = record { all = e ∷ z.all; are = rw (is, z.are) refl; same = λ t. z.same (behind_element e t) ∙ same t }
+one_more : (c : ℕ) (a : List ℕ) (e : Element) (k : ℕ) → plain_element c a ≡ Some (spelled e k) → ((t : Folded) → after_text (drop k a) (after_element e t) ≡ after_text (c ∷ a) t) → Elements k a → Elements 0 (c ∷ a)
+one_more c a e k is same z = record { all = e ∷ z.all; are = rw (is, z.are) refl; same = λ t. z.same (after_element e t) ∙ same t }
 
 feed_breaks : is_break 10 ≡ true
 unfolding is_break
@@ -34,10 +34,10 @@ no_feed : (b : List ℕ) → is_before_line_feed 10 b ≡ false
 no_feed [] = refl
 no_feed (d ∷ b) = refl
 
-feed_text : (b : List ℕ) (t : Folded) → behind_text b (with_break t) ≡ behind_text (10 ∷ b) t
+feed_text : (b : List ℕ) (t : Folded) → after_text b (with_break t) ≡ after_text (10 ∷ b) t
 feed_text b t = rw (feed_breaks, no_feed b) refl
 
-broken : (c : ℕ) (a : List ℕ) → is_break c ≡ true → (feed : Bool) → is_before_line_feed c a ≡ feed → (t : Folded) → behind_text (drop (if feed then 1 else 0) a) (with_break t) ≡ behind_text (c ∷ a) t
+broken : (c : ℕ) (a : List ℕ) → is_break c ≡ true → (feed : Bool) → is_before_line_feed c a ≡ feed → (t : Folded) → after_text (drop (if feed then 1 else 0) a) (with_break t) ≡ after_text (c ∷ a) t
 broken c a e false f t = rw (e, f) refl
 broken c [] e true f t = cc
 broken c (d ∷ b) e true f t =
@@ -60,19 +60,19 @@ elements_of (suc n) [] = record { all = []; are = refl; same = λ t. refl }
 elements_of (suc n) (c ∷ a) = let z = elements_of n a in record { all = z.all; are = z.are; same = z.same }
 elements_of zero (c ∷ a) = first_element c a (λ k. elements_of k a)
 
--- ---- behind content
+-- ---- after content
 
-solid_char : (c : ℕ) (t : Folded) → (not (is_blank c) && not (is_break c)) ≡ true → behind_char c [] t ≡ in_text ((joined t).text ++ c ∷ [])
+solid_char : (c : ℕ) (t : Folded) → (not (is_blank c) && not (is_break c)) ≡ true → after_char c [] t ≡ in_text ((joined t).text ++ c ∷ [])
 solid_char c t h = by (is_blank c) (is_break c) refl refl h
   where
-    by : (blanks breaks : Bool) → is_blank c ≡ blanks → is_break c ≡ breaks → (not blanks && not breaks) ≡ true → behind_char c [] t ≡ in_text ((joined t).text ++ c ∷ [])
+    by : (blanks breaks : Bool) → is_blank c ≡ blanks → is_break c ≡ breaks → (not blanks && not breaks) ≡ true → after_char c [] t ≡ in_text ((joined t).text ++ c ∷ [])
     by true breaks e f h = cc
     by false true e f h = cc
     by false false e f h = rw (e, f) refl
 
-joined_solid : (c : ℕ) (r : List ℕ) (t : Folded) → ends_with_content c r ≡ true → (joined (behind_text (c ∷ r) t)).text ≡ (behind_text (c ∷ r) t).text
+joined_solid : (c : ℕ) (r : List ℕ) (t : Folded) → ends_with_content c r ≡ true → (joined (after_text (c ∷ r) t)).text ≡ (after_text (c ∷ r) t).text
 joined_solid c [] t h = ap (λ u. (joined u).text) (solid_char c t h) ∙ append-nil ((joined t).text ++ c ∷ []) ∙ ap (λ u. u.text) (sym (solid_char c t h))
-joined_solid c (d ∷ r) t h = joined_solid d r (behind_char c (d ∷ r) t) h
+joined_solid c (d ∷ r) t h = joined_solid d r (after_char c (d ∷ r) t) h
 
 -- ---- document markers
 
@@ -126,11 +126,11 @@ no_markers flow collection s (c ∷ r) next h =
 
 -- ---- the value
 
-value_by : (piece : List ℕ) → has_document_marker piece ≡ false → (es : List Element) → elements plain_element 0 piece ≡ Some es → plain_value piece ≡ Some ((joined (behind_elements es nothing)).text)
+value_by : (piece : List ℕ) → has_document_marker piece ≡ false → (es : List Element) → elements plain_element 0 piece ≡ Some es → plain_value piece ≡ Some ((joined (after_elements es nothing)).text)
 unfolding plain_value
 value_by piece e es f = rw (e, f) (ap Some (sym (buffers_join es)))
 
-pub value_is : (c : ℕ) (r : List ℕ) → has_document_marker (c ∷ r) ≡ false → ends_with_content c r ≡ true → plain_value (c ∷ r) ≡ Some ((behind_text (c ∷ r) nothing).text)
+pub value_is : (c : ℕ) (r : List ℕ) → has_document_marker (c ∷ r) ≡ false → ends_with_content c r ≡ true → plain_value (c ∷ r) ≡ Some ((after_text (c ∷ r) nothing).text)
 value_is c r e f =
     let z = elements_of 0 (c ∷ r) in
     value_by (c ∷ r) e z.all z.are ∙ ap (λ t. Some ((joined t).text)) (z.same nothing) ∙ ap Some (joined_solid c r nothing f)

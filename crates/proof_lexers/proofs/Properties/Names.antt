@@ -43,7 +43,7 @@ taken test (c ∷ name) rest p t h e =
     let q = and_parts (test c) (all_of test name) h in
     rw q.0 (taken test name rest (past p) (t ++ c ∷ []) q.1 e ∙ rw (one_further p (length name), append_assoc) refl)
 
--- the characters of a kind that a text begins with, and what stands behind them
+-- the characters of a kind that a text begins with, and what stands after them
 record Span (test : ℕ → Bool) (text : List ℕ) : Type 0 where
   name : List ℕ
   rest : List ℕ

@@ -9,12 +9,12 @@ use Rattle.yaml_tokens.specs.declared.problem.Fault.{Fault}
 use Rattle.defs_text.specs.Classes as classes
 use Rattle.defs_text.specs.Classes.{is_at_gap}
 use Rattle.defs_scalar.specs.Tags as defs
-use Rattle.defs_scalar.specs.Tags.{UriFault, all_of, leading, behind, is_same, uri_character, decoded, tag_by, tag_of_class, written_tag}
+use Rattle.defs_scalar.specs.Tags.{UriFault, all_of, leading, after, is_same, uri_character, decoded, tag_by, tag_of_class, written_tag}
 use Rattle.model_lexers.specs.Machine.{Read, past, and_then}
-use Rattle.model_lexers.specs.Tag.{Tag, read_tag, verbatim_end, verbatim, some_suffix, named, local, behind_name, shorthand, tag_end, tag}
+use Rattle.model_lexers.specs.Tag.{Tag, read_tag, verbatim_end, verbatim, some_suffix, named, local, after_name, shorthand, tag_end, tag}
 use Rattle.proof_lexers.specs.NameEnds.{further}
-use Rattle.proof_lexers.specs.UriEnds.{behind_class}
-use Rattle.proof_lexers.specs.TagEnds.{may_follow, behind_tag}
+use Rattle.proof_lexers.specs.UriEnds.{after_class}
+use Rattle.proof_lexers.specs.TagEnds.{may_follow, after_tag}
 use Rattle.proof_lexers.specs.ScalarLaws.{TagsAreRead}
 use Rattle.proof_lexers.proofs.Properties.Uris.{uris_are_read}
 use Rattle.proof_lexers.proofs.Directives.Parts.{before_end}
@@ -116,10 +116,10 @@ of_class class t handle suffix h e = by (all_of class t) refl (decoded t) refl e
         record { all = a; means = k ∙ ap (λ (g : defs.Tag). Ok g.suffix) same; same = ap (λ (g : defs.Tag). g.handle) (sym same) }
 
 uri_of : (start q : Position) (l r before cs : List ℕ) → all_of classes.is_uri l ≡ true → begins_in classes.is_uri r ≡ false → decoded l ≡ Ok cs → uri is_uri start (l ++ r) q before ≡ Ok (record { rest = r; place = further (length l) q; value = before ++ cs })
-uri_of start q l r before cs all ends means = let z = leading_all classes.is_uri l r all ends in (uris_are_read start (l ++ r) q before).0 ∙ ap (behind_class classes.is_uri start q (l ++ r) before) (ap decoded z.0 ∙ means) ∙ rw (z.0, z.1) refl
+uri_of start q l r before cs all ends means = let z = leading_all classes.is_uri l r all ends in (uris_are_read start (l ++ r) q before).0 ∙ ap (after_class classes.is_uri start q (l ++ r) before) (ap decoded z.0 ∙ means) ∙ rw (z.0, z.1) refl
 
 suffix_of : (start q : Position) (l r before cs : List ℕ) → all_of classes.is_tag l ≡ true → begins_in classes.is_tag r ≡ false → decoded l ≡ Ok cs → uri is_tag start (l ++ r) q before ≡ Ok (record { rest = r; place = further (length l) q; value = before ++ cs })
-suffix_of start q l r before cs all ends means = let z = leading_all classes.is_tag l r all ends in (uris_are_read start (l ++ r) q before).1 ∙ ap (behind_class classes.is_tag start q (l ++ r) before) (ap decoded z.0 ∙ means) ∙ rw (z.0, z.1) refl
+suffix_of start q l r before cs all ends means = let z = leading_all classes.is_tag l r all ends in (uris_are_read start (l ++ r) q before).1 ∙ ap (after_class classes.is_tag start q (l ++ r) before) (ap decoded z.0 ∙ means) ∙ rw (z.0, z.1) refl
 
 some_text : {a b : List ℕ} → ◌≡◌ {A = Result (List ℕ) UriFault} (Ok a) (Ok b) → a ≡ b
 some_text e = cc
@@ -136,19 +136,19 @@ ends_here flow start q rest handle suffix h = rw (same_end flow rest, h) refl
 module _ (flow : Bool) (rest handle suffix : List ℕ) (p : Position) (follows : may_follow flow rest ≡ true) where
   -- ---- verbatim tags
 
-  verbatim_read : (b : List ℕ) → defs.verbatim b ≡ Some (record { handle = handle; suffix = suffix }) → tag flow (33 ∷ 60 ∷ (b ++ rest)) p ≡ Ok (behind_tag p (33 ∷ 60 ∷ b) rest handle suffix)
+  verbatim_read : (b : List ℕ) → defs.verbatim b ≡ Some (record { handle = handle; suffix = suffix }) → tag flow (33 ∷ 60 ∷ (b ++ rest)) p ≡ Ok (after_tag p (33 ∷ 60 ∷ b) rest handle suffix)
   unfolding tag verbatim
-  verbatim_read b h = by (is_same (behind classes.is_uri b) (codes ">")) refl h
+  verbatim_read b h = by (is_same (after classes.is_uri b) (codes ">")) refl h
     where
       u : List ℕ
       u = leading classes.is_uri b
 
-      by : (x : Bool) → is_same (behind classes.is_uri b) (codes ">") ≡ x → (if x then tag_of_class classes.is_uri [] (leading classes.is_uri b) else None) ≡ Some (record { handle = handle; suffix = suffix })
-          → tag flow (33 ∷ 60 ∷ (b ++ rest)) p ≡ Ok (behind_tag p (33 ∷ 60 ∷ b) rest handle suffix)
+      by : (x : Bool) → is_same (after classes.is_uri b) (codes ">") ≡ x → (if x then tag_of_class classes.is_uri [] (leading classes.is_uri b) else None) ≡ Some (record { handle = handle; suffix = suffix })
+          → tag flow (33 ∷ 60 ∷ (b ++ rest)) p ≡ Ok (after_tag p (33 ∷ 60 ∷ b) rest handle suffix)
       by false e k = cc
       by true e k =
           let c : OfClass classes.is_uri u handle suffix [] = of_class classes.is_uri u handle suffix [] k in
-          let closes : b ≡ u ++ 62 ∷ [] = span_cut classes.is_uri b ∙ ap (λ r. u ++ r) (same_text (behind classes.is_uri b) (codes ">") e) in
+          let closes : b ≡ u ++ 62 ∷ [] = span_cut classes.is_uri b ∙ ap (λ r. u ++ r) (same_text (after classes.is_uri b) (codes ">") e) in
           let cut : b ++ rest ≡ u ++ 62 ∷ rest = ap (λ l. l ++ rest) closes ∙ append_assoc u (62 ∷ []) rest in
           let many : length b ≡ length u + 1 = ap length closes ∙ length-append u (62 ∷ []) in
           ap (λ l. tag flow (33 ∷ 60 ∷ l) p) cut
@@ -159,9 +159,9 @@ module _ (flow : Bool) (rest handle suffix : List ℕ) (p : Position) (follows :
 
   -- ---- shorthands
 
-  -- behind a name and a second mark
+  -- after a name and a second mark
   named_read : (name : List ℕ) (c : ℕ) (t : List ℕ) → tag_of_class classes.is_tag (codes "!" ++ name ++ codes "!") (c ∷ t) ≡ Some (record { handle = handle; suffix = suffix })
-      → and_then (behind_name p name (33 ∷ c ∷ (t ++ rest)) (further (length name) (past p))) (λ r. tag_end flow p r) ≡ Ok (behind_tag p (33 ∷ (name ++ 33 ∷ c ∷ t)) rest handle suffix)
+      → and_then (after_name p name (33 ∷ c ∷ (t ++ rest)) (further (length name) (past p))) (λ r. tag_end flow p r) ≡ Ok (after_tag p (33 ∷ (name ++ 33 ∷ c ∷ t)) rest handle suffix)
   unfolding named
   named_read name c t h =
       let k : OfClass classes.is_tag (c ∷ t) handle suffix (codes "!" ++ name ++ codes "!") = of_class classes.is_tag (c ∷ t) handle suffix (codes "!" ++ name ++ codes "!") h in
@@ -173,9 +173,9 @@ module _ (flow : Bool) (rest handle suffix : List ℕ) (p : Position) (follows :
       ∙ ap (λ z. Ok (read_tag rest z ((33 ∷ name) ++ 33 ∷ []) suffix)) (named_place p (length name) (length (c ∷ t)) (length (name ++ 33 ∷ c ∷ t)) (length-append name (33 ∷ c ∷ t)))
       ∙ ap (λ z. Ok (read_tag rest (further (suc (length (name ++ 33 ∷ c ∷ t))) p) z suffix)) (sym k.same)
 
-  -- behind a name and no mark
+  -- after a name and no mark
   local_read : (name m : List ℕ) → all_of classes.is_alpha name ≡ true → defs.begins_with_mark m ≡ false → is_nil (name ++ m) ≡ false → tag_of_class classes.is_tag (codes "!") (name ++ m) ≡ Some (record { handle = handle; suffix = suffix })
-      → and_then (behind_name p name (m ++ rest) (further (length name) (past p))) (λ r. tag_end flow p r) ≡ Ok (behind_tag p (33 ∷ (name ++ m)) rest handle suffix)
+      → and_then (after_name p name (m ++ rest) (further (length name) (past p))) (λ r. tag_end flow p r) ≡ Ok (after_tag p (33 ∷ (name ++ m)) rest handle suffix)
   local_read name m all unmarked some h =
       let k : OfClass classes.is_tag (name ++ m) handle suffix (codes "!") = of_class classes.is_tag (name ++ m) handle suffix (codes "!") h in
       let ends : begins_in classes.is_tag rest ≡ false = inner_ends classes.is_tag tag_inner flow rest follows in
@@ -185,19 +185,19 @@ module _ (flow : Bool) (rest handle suffix : List ℕ) (p : Position) (follows :
       no_mark_here [] e = mark_inner 33 exclamation_inner flow rest follows refl
       no_mark_here (c ∷ l) e = e
 
-      tags_behind : (a b : List ℕ) → all_of classes.is_tag (a ++ b) ≡ true → all_of classes.is_tag b ≡ true
-      tags_behind [] b h = h
-      tags_behind (c ∷ a) b h = tags_behind a b (and_parts (classes.is_tag c) (all_of classes.is_tag (a ++ b)) h).1
+      tags_after : (a b : List ℕ) → all_of classes.is_tag (a ++ b) ≡ true → all_of classes.is_tag b ≡ true
+      tags_after [] b h = h
+      tags_after (c ∷ a) b h = tags_after a b (and_parts (classes.is_tag c) (all_of classes.is_tag (a ++ b)) h).1
 
       by : OfClass classes.is_tag (name ++ m) handle suffix (codes "!") → begins_in classes.is_tag rest ≡ false → (d : Result (List ℕ) UriFault) → decoded m ≡ d
-          → and_then (behind_name p name (m ++ rest) (further (length name) (past p))) (λ r. tag_end flow p r) ≡ Ok (behind_tag p (33 ∷ (name ++ m)) rest handle suffix)
+          → and_then (after_name p name (m ++ rest) (further (length name) (past p))) (λ r. tag_end flow p r) ≡ Ok (after_tag p (33 ∷ (name ++ m)) rest handle suffix)
       by k ends (Err f) e = absurd (cc (k.means, word_fails name m f all e))
       by k ends (Ok cs) e =
           let whole : name ++ cs ≡ suffix = some_text (sym (decoded_word name m cs all e) ∙ k.means) in
           let full : is_nil (name ++ cs) ≡ false = still_some name m cs some e in
           let q : Position = further (length m) (further (length name) (past p)) in
           rw (no_mark_here m unmarked) (
-          ap (λ x. and_then (and_then x (λ r. Ok (local r))) (λ r. tag_end flow p r)) (suffix_of p (further (length name) (past p)) m rest name cs (tags_behind name m k.all) ends e)
+          ap (λ x. and_then (and_then x (λ r. Ok (local r))) (λ r. tag_end flow p r)) (suffix_of p (further (length name) (past p)) m rest name cs (tags_after name m k.all) ends e)
           ∙ rw full (ends_here flow p q rest (33 ∷ []) (name ++ cs) follows)
           ∙ ap (λ z. Ok (read_tag rest z (33 ∷ []) (name ++ cs))) (local_place p (length name) (length m) (length (name ++ m)) (length-append name m))
           ∙ ap (λ z. Ok (read_tag rest (further (suc (length (name ++ m))) p) (33 ∷ []) z)) whole
@@ -205,41 +205,41 @@ module _ (flow : Bool) (rest handle suffix : List ℕ) (p : Position) (follows :
 
   -- a text that begins no verbatim tag
   shorthand_here : (a : List ℕ) → (slice_index (a ++ rest) 0 == 60) ≡ false → tag flow (33 ∷ (a ++ rest)) p
-      ≡ and_then (behind_name p (leading classes.is_alpha a) (behind classes.is_alpha a ++ rest) (further (length (leading classes.is_alpha a)) (past p))) (λ r. tag_end flow p r)
+      ≡ and_then (after_name p (leading classes.is_alpha a) (after classes.is_alpha a ++ rest) (further (length (leading classes.is_alpha a)) (past p))) (λ r. tag_end flow p r)
   unfolding tag shorthand
   shorthand_here a e =
       let z = before_end classes.is_alpha a rest (inner_ends classes.is_alpha alpha_inner flow rest follows) in
       rw (e, word (a ++ rest) (past p) [], z.0, z.1) refl
 
-  some_shorthand : (c : ℕ) (t : List ℕ) → (c == 60) ≡ false → defs.shorthand (c ∷ t) ≡ Some (record { handle = handle; suffix = suffix }) → tag flow (33 ∷ c ∷ (t ++ rest)) p ≡ Ok (behind_tag p (33 ∷ c ∷ t) rest handle suffix)
-  some_shorthand c t no_angle h = shorthand_here (c ∷ t) no_angle ∙ by (behind classes.is_alpha (c ∷ t)) refl h
+  some_shorthand : (c : ℕ) (t : List ℕ) → (c == 60) ≡ false → defs.shorthand (c ∷ t) ≡ Some (record { handle = handle; suffix = suffix }) → tag flow (33 ∷ c ∷ (t ++ rest)) p ≡ Ok (after_tag p (33 ∷ c ∷ t) rest handle suffix)
+  some_shorthand c t no_angle h = shorthand_here (c ∷ t) no_angle ∙ by (after classes.is_alpha (c ∷ t)) refl h
     where
       name : List ℕ
       name = leading classes.is_alpha (c ∷ t)
 
-      whole : (m : List ℕ) → behind classes.is_alpha (c ∷ t) ≡ m → c ∷ t ≡ name ++ m
+      whole : (m : List ℕ) → after classes.is_alpha (c ∷ t) ≡ m → c ∷ t ≡ name ++ m
       whole m e = span_cut classes.is_alpha (c ∷ t) ∙ ap (λ r. name ++ r) e
 
       read_on : List ℕ → Result (Read Tag) Fault
-      read_on m = and_then (behind_name p name (m ++ rest) (further (length name) (past p))) (λ r. tag_end flow p r)
+      read_on m = and_then (after_name p name (m ++ rest) (further (length name) (past p))) (λ r. tag_end flow p r)
 
-      in_piece : (m : List ℕ) → behind classes.is_alpha (c ∷ t) ≡ m → read_on m ≡ Ok (behind_tag p (33 ∷ (name ++ m)) rest handle suffix) → read_on m ≡ Ok (behind_tag p (33 ∷ c ∷ t) rest handle suffix)
-      in_piece m e k = k ∙ ap (λ l. Ok (behind_tag p (33 ∷ l) rest handle suffix)) (sym (whole m e))
+      in_piece : (m : List ℕ) → after classes.is_alpha (c ∷ t) ≡ m → read_on m ≡ Ok (after_tag p (33 ∷ (name ++ m)) rest handle suffix) → read_on m ≡ Ok (after_tag p (33 ∷ c ∷ t) rest handle suffix)
+      in_piece m e k = k ∙ ap (λ l. Ok (after_tag p (33 ∷ l) rest handle suffix)) (sym (whole m e))
 
-      marked : (x : ℕ) (m : List ℕ) → behind classes.is_alpha (c ∷ t) ≡ x ∷ m → (x == 33) ≡ true → defs.named name (x ∷ m) ≡ Some (record { handle = handle; suffix = suffix }) → read_on (x ∷ m) ≡ Ok (behind_tag p (33 ∷ c ∷ t) rest handle suffix)
+      marked : (x : ℕ) (m : List ℕ) → after classes.is_alpha (c ∷ t) ≡ x ∷ m → (x == 33) ≡ true → defs.named name (x ∷ m) ≡ Some (record { handle = handle; suffix = suffix }) → read_on (x ∷ m) ≡ Ok (after_tag p (33 ∷ c ∷ t) rest handle suffix)
       marked x [] e h k = cc
       marked x (d ∷ m) e h k =
           let same : x ≡ 33 = eqb-true x 33 h in
-          in_piece (x ∷ d ∷ m) e (ap (λ y. read_on (y ∷ d ∷ m)) same ∙ named_read name d m k ∙ ap (λ y. Ok (behind_tag p (33 ∷ (name ++ y ∷ d ∷ m)) rest handle suffix)) (sym same))
+          in_piece (x ∷ d ∷ m) e (ap (λ y. read_on (y ∷ d ∷ m)) same ∙ named_read name d m k ∙ ap (λ y. Ok (after_tag p (33 ∷ (name ++ y ∷ d ∷ m)) rest handle suffix)) (sym same))
 
-      at_mark : (m : List ℕ) → behind classes.is_alpha (c ∷ t) ≡ m → (b : Bool) → defs.begins_with_mark m ≡ b
-          → (if b then defs.named name m else tag_of_class classes.is_tag (codes "!") (c ∷ t)) ≡ Some (record { handle = handle; suffix = suffix }) → read_on m ≡ Ok (behind_tag p (33 ∷ c ∷ t) rest handle suffix)
+      at_mark : (m : List ℕ) → after classes.is_alpha (c ∷ t) ≡ m → (b : Bool) → defs.begins_with_mark m ≡ b
+          → (if b then defs.named name m else tag_of_class classes.is_tag (codes "!") (c ∷ t)) ≡ Some (record { handle = handle; suffix = suffix }) → read_on m ≡ Ok (after_tag p (33 ∷ c ∷ t) rest handle suffix)
       at_mark [] e true b k = cc
       at_mark (x ∷ m) e true b k = marked x m e b k
       at_mark m e false b k =
           in_piece m e (local_read name m (all_leading classes.is_alpha (c ∷ t)) b (ap is_nil (sym (whole m e))) (ap (tag_of_class classes.is_tag (codes "!")) (sym (whole m e)) ∙ k))
 
-      by : (m : List ℕ) → behind classes.is_alpha (c ∷ t) ≡ m → defs.shorthand (c ∷ t) ≡ Some (record { handle = handle; suffix = suffix }) → read_on (behind classes.is_alpha (c ∷ t)) ≡ Ok (behind_tag p (33 ∷ c ∷ t) rest handle suffix)
+      by : (m : List ℕ) → after classes.is_alpha (c ∷ t) ≡ m → defs.shorthand (c ∷ t) ≡ Some (record { handle = handle; suffix = suffix }) → read_on (after classes.is_alpha (c ∷ t)) ≡ Ok (after_tag p (33 ∷ c ∷ t) rest handle suffix)
       by m e k =
           ap read_on e ∙ at_mark m e (defs.begins_with_mark m) refl
           (ap (λ r. if defs.begins_with_mark r then defs.named name r else tag_of_class classes.is_tag (codes "!") (c ∷ t)) (sym e) ∙ k)
@@ -253,7 +253,7 @@ empty_tag handle suffix e =
     (ap (λ (g : defs.Tag). g.handle) same, ap (λ (g : defs.Tag). g.suffix) same)
 
 -- the mark alone
-mark_read : (flow : Bool) (rest : List ℕ) (p : Position) → may_follow flow rest ≡ true → tag flow (33 ∷ rest) p ≡ Ok (behind_tag p (33 ∷ []) rest [] (codes "!"))
+mark_read : (flow : Bool) (rest : List ℕ) (p : Position) → may_follow flow rest ≡ true → tag flow (33 ∷ rest) p ≡ Ok (after_tag p (33 ∷ []) rest [] (codes "!"))
 mark_read flow rest p follows =
     let q : Position = further 0 (past p) in
     shorthand_here flow rest [] (codes "!") p follows [] (mark_inner 60 angle_inner flow rest follows refl)
@@ -264,9 +264,9 @@ mark_read flow rest p follows =
 pub tags_are_read : TagsAreRead
 tags_are_read flow [] rest handle suffix p h follows =
     let e = empty_tag handle suffix h in
-    mark_read flow rest p follows ∙ ap (λ k. Ok (behind_tag p (33 ∷ []) rest k (codes "!"))) e.0 ∙ ap (λ k. Ok (behind_tag p (33 ∷ []) rest handle k)) e.1
+    mark_read flow rest p follows ∙ ap (λ k. Ok (after_tag p (33 ∷ []) rest k (codes "!"))) e.0 ∙ ap (λ k. Ok (after_tag p (33 ∷ []) rest handle k)) e.1
 tags_are_read flow (c ∷ t) rest handle suffix p h follows = by (c == 60) refl h
   where
-    by : (b : Bool) → (c == 60) ≡ b → (if b then defs.verbatim t else defs.shorthand (c ∷ t)) ≡ Some (record { handle = handle; suffix = suffix }) → tag flow (33 ∷ c ∷ (t ++ rest)) p ≡ Ok (behind_tag p (33 ∷ c ∷ t) rest handle suffix)
+    by : (b : Bool) → (c == 60) ≡ b → (if b then defs.verbatim t else defs.shorthand (c ∷ t)) ≡ Some (record { handle = handle; suffix = suffix }) → tag flow (33 ∷ c ∷ (t ++ rest)) p ≡ Ok (after_tag p (33 ∷ c ∷ t) rest handle suffix)
     by true e k = let same : c ≡ 60 = eqb-true c 60 e in rw same (verbatim_read flow rest handle suffix p follows t k)
     by false e k = some_shorthand flow rest handle suffix p follows c t e k

@@ -11,13 +11,13 @@ use Rattle.yaml_tokens.specs.declared.problem.Problem.TheVariants as problem
 use Rattle.defs_text.specs.Classes as classes
 use Rattle.defs_text.specs.Classes.{is_at_gap}
 use Rattle.defs_scalar.specs.Tags as defs
-use Rattle.defs_scalar.specs.Tags.{UriFault, all_of, leading, behind, is_same, decoded, decoded_behind, uri_character, put_code, tag_by, tag_of_class, written_tag}
+use Rattle.defs_scalar.specs.Tags.{UriFault, all_of, leading, after, is_same, decoded, decoded_after, uri_character, put_code, tag_by, tag_of_class, written_tag}
 use Rattle.model_lexers.specs.Machine.{Read, past, and_then, take_while}
 use Rattle.model_lexers.specs.Uri.{uri}
-use Rattle.model_lexers.specs.Tag.{Tag, read_tag, verbatim_end, verbatim, some_suffix, named, local, behind_name, shorthand, ends_tag, tag_end, tag}
+use Rattle.model_lexers.specs.Tag.{Tag, read_tag, verbatim_end, verbatim, some_suffix, named, local, after_name, shorthand, ends_tag, tag_end, tag}
 use Rattle.proof_lexers.proofs.Bridges.{same_gap, same_flow, same_alpha, same_tag}
 use Rattle.proof_lexers.specs.NameEnds.{further}
-use Rattle.proof_lexers.specs.UriEnds.{problem_of, behind_class}
+use Rattle.proof_lexers.specs.UriEnds.{problem_of, after_class}
 use Rattle.proof_lexers.specs.TagEnds.{may_follow, by_octets, unclosed, no_suffix, goes_on, EndsAs, reads, refuses}
 use Rattle.proof_lexers.specs.ScalarLaws.{TagsEndAsTheirTextSays}
 use Rattle.proof_lexers.proofs.Properties.Names.{one_further, none_further}
@@ -30,11 +30,11 @@ begins_in class [] = false
 begins_in class (c ∷ r) = class c
 
 module _ (class : ℕ → Bool) where
-  pub span_cut : (a : List ℕ) → a ≡ leading class a ++ behind class a
+  pub span_cut : (a : List ℕ) → a ≡ leading class a ++ after class a
   span_cut [] = refl
   span_cut (c ∷ a) = by (class c) (span_cut a)
     where
-      by : (b : Bool) → a ≡ leading class a ++ behind class a → c ∷ a ≡ (if b then c ∷ leading class a else []) ++ (if b then behind class a else c ∷ a)
+      by : (b : Bool) → a ≡ leading class a ++ after class a → c ∷ a ≡ (if b then c ∷ leading class a else []) ++ (if b then after class a else c ∷ a)
       by true e = ap (λ r. c ∷ r) e
       by false e = refl
 
@@ -46,35 +46,35 @@ module _ (class : ℕ → Bool) where
       by true e h = rw e h
       by false e h = refl
 
-  pub ends_behind : (a : List ℕ) → begins_in class (behind class a) ≡ false
-  ends_behind [] = refl
-  ends_behind (c ∷ a) = by (class c) refl (ends_behind a)
+  pub ends_after : (a : List ℕ) → begins_in class (after class a) ≡ false
+  ends_after [] = refl
+  ends_after (c ∷ a) = by (class c) refl (ends_after a)
     where
-      by : (b : Bool) → class c ≡ b → begins_in class (behind class a) ≡ false → begins_in class (if b then behind class a else c ∷ a) ≡ false
+      by : (b : Bool) → class c ≡ b → begins_in class (after class a) ≡ false → begins_in class (if b then after class a else c ∷ a) ≡ false
       by true e h = h
       by false e h = e
 
-  pub leading_none : (r : List ℕ) → begins_in class r ≡ false → (leading class r ≡ []) × (behind class r ≡ r)
+  pub leading_none : (r : List ℕ) → begins_in class r ≡ false → (leading class r ≡ []) × (after class r ≡ r)
   leading_none [] h = (refl, refl)
   leading_none (c ∷ r) h = (rw h refl, rw h refl)
 
-  pub leading_all : (l r : List ℕ) → all_of class l ≡ true → begins_in class r ≡ false → (leading class (l ++ r) ≡ l) × (behind class (l ++ r) ≡ r)
+  pub leading_all : (l r : List ℕ) → all_of class l ≡ true → begins_in class r ≡ false → (leading class (l ++ r) ≡ l) × (after class (l ++ r) ≡ r)
   leading_all [] r h e = leading_none r e
   leading_all (c ∷ l) r h e =
       let q = and_parts (class c) (all_of class l) h in
       let z = leading_all l r q.1 e in
       (rw q.0 (ap (λ k. c ∷ k) z.0), rw q.0 z.1)
 
-pub word : (a : List ℕ) (p : Position) (t : List ℕ) → take_while is_alpha a p t ≡ record { rest = behind classes.is_alpha a; place = further (length (leading classes.is_alpha a)) p; value = t ++ leading classes.is_alpha a }
+pub word : (a : List ℕ) (p : Position) (t : List ℕ) → take_while is_alpha a p t ≡ record { rest = after classes.is_alpha a; place = further (length (leading classes.is_alpha a)) p; value = t ++ leading classes.is_alpha a }
 word [] p t = rw (none_further p, append-nil) refl
 word (c ∷ a) p t = by (is_alpha c) refl (word a (past p) (t ++ c ∷ []))
   where
-    by : (b : Bool) → is_alpha c ≡ b → take_while is_alpha a (past p) (t ++ c ∷ []) ≡ record { rest = behind classes.is_alpha a; place = further (length (leading classes.is_alpha a)) (past p); value = (t ++ c ∷ []) ++ leading classes.is_alpha a }
-        → take_while is_alpha (c ∷ a) p t ≡ record { rest = behind classes.is_alpha (c ∷ a); place = further (length (leading classes.is_alpha (c ∷ a))) p; value = t ++ leading classes.is_alpha (c ∷ a) }
+    by : (b : Bool) → is_alpha c ≡ b → take_while is_alpha a (past p) (t ++ c ∷ []) ≡ record { rest = after classes.is_alpha a; place = further (length (leading classes.is_alpha a)) (past p); value = (t ++ c ∷ []) ++ leading classes.is_alpha a }
+        → take_while is_alpha (c ∷ a) p t ≡ record { rest = after classes.is_alpha (c ∷ a); place = further (length (leading classes.is_alpha (c ∷ a))) p; value = t ++ leading classes.is_alpha (c ∷ a) }
     by true e h = let of_word : classes.is_alpha c ≡ true = same_alpha c ∙ e in rw (e, of_word) (h ∙ rw (one_further p (length (leading classes.is_alpha a)), append_assoc) refl)
     by false e h = let no_word : classes.is_alpha c ≡ false = same_alpha c ∙ e in rw (e, no_word) (rw (none_further p, append-nil) refl)
 
--- ---- what may stand behind a tag
+-- ---- what may stand after a tag
 
 end_is_a_gap : is_blank_or_breakz 0 ≡ true
 unfolding is_blank is_break
@@ -122,7 +122,7 @@ module _ (flow : Bool) (start : Position) (b : List ℕ) where
   abbrev written : List ℕ
   written = leading classes.is_uri b
 
-  closing : (cs : List ℕ) (r : List ℕ) → decoded written ≡ Ok cs → behind classes.is_uri b ≡ r
+  closing : (cs : List ℕ) (r : List ℕ) → decoded written ≡ Ok cs → after classes.is_uri b ≡ r
       → EndsAs flow start (60 ∷ b) (and_then (verbatim_end start cs r (further (length written) (past (past start)))) (λ t. tag_end flow start t))
   closing cs [] is e = refuses problem.VerbatimTagEnd (unclosed written [] (ap (λ k. 60 ∷ k) (span_cut classes.is_uri b ∙ ap (λ k. written ++ k) e)) (all_leading classes.is_uri b) refl) refl
   closing cs (c ∷ r) is e = by (c == 62) refl
@@ -135,9 +135,9 @@ module _ (flow : Bool) (start : Position) (b : List ℕ) where
       by false f = refuses problem.VerbatimTagEnd (unclosed written (c ∷ r) (ap (λ k. 60 ∷ k) (span_cut classes.is_uri b ∙ ap (λ k. written ++ k) e)) (all_leading classes.is_uri b) f) (rw f refl)
 
   verbatim_by : (d : Result (List ℕ) UriFault) → decoded written ≡ d
-      → EndsAs flow start (60 ∷ b) (and_then (and_then (behind_class classes.is_uri start (past (past start)) b [] d) (λ (r : Read (List ℕ)). verbatim_end start r.value r.rest r.place)) (λ t. tag_end flow start t))
-  verbatim_by (Err f) e = bad_octets flow start (60 ∷ b) (60 ∷ []) written (behind classes.is_uri b) f _ (ap (λ k. 60 ∷ k) (span_cut classes.is_uri b)) e refl
-  verbatim_by (Ok cs) e = closing cs (behind classes.is_uri b) e refl
+      → EndsAs flow start (60 ∷ b) (and_then (and_then (after_class classes.is_uri start (past (past start)) b [] d) (λ (r : Read (List ℕ)). verbatim_end start r.value r.rest r.place)) (λ t. tag_end flow start t))
+  verbatim_by (Err f) e = bad_octets flow start (60 ∷ b) (60 ∷ []) written (after classes.is_uri b) f _ (ap (λ k. 60 ∷ k) (span_cut classes.is_uri b)) e refl
+  verbatim_by (Ok cs) e = closing cs (after classes.is_uri b) e refl
 
   verbatims : EndsAs flow start (60 ∷ b) (tag flow (33 ∷ 60 ∷ b) start)
   unfolding tag verbatim
@@ -152,9 +152,9 @@ decoded_some c r cs h = by (uri_character c r) h
     then_by code (Err f) h = cc
     then_by code (Ok ds) h = let same : code ∷ ds ≡ cs = cc in rw (← same) refl
 
-    by : (o : Result defs.Escaped UriFault) → defs.code_followed o (λ n. decoded_behind n r) ≡ Ok cs → is_nil cs ≡ false
+    by : (o : Result defs.Escaped UriFault) → defs.code_followed o (λ n. decoded_after n r) ≡ Ok cs → is_nil cs ≡ false
     by (Err f) h = cc
-    by (Ok e) h = then_by e.code (decoded_behind e.further r) h
+    by (Ok e) h = then_by e.code (decoded_after e.further r) h
 
 absent : (class : ℕ → Bool) (c k : ℕ) → class c ≡ true → class k ≡ false → (c == k) ≡ false
 absent class c k h no_k = by (c == k) refl
@@ -204,14 +204,14 @@ unfolding classes.is_alpha classes.is_decimal_digit classes.is_letter
 mark_is_no_word = refl
 
 -- a text that begins with a word or a mark is no verbatim tag
-is_shorthand : (name r : List ℕ) → all_of classes.is_alpha name ≡ true → (begins_in (λ c. c == 60) r) ≡ false → defs.behind_mark (name ++ r) ≡ defs.shorthand (name ++ r)
+is_shorthand : (name r : List ℕ) → all_of classes.is_alpha name ≡ true → (begins_in (λ c. c == 60) r) ≡ false → defs.after_mark (name ++ r) ≡ defs.shorthand (name ++ r)
 is_shorthand [] [] h e = refl
 is_shorthand [] (c ∷ r) h e = rw e refl
 is_shorthand (c ∷ name) r h e = let q = and_parts (classes.is_alpha c) (all_of classes.is_alpha name) h in rw ((alpha_starts c q.0).0) refl
 
 -- one that is not empty
 shorthand_by : (name r : List ℕ) → is_nil (name ++ r) ≡ false
-    → defs.shorthand (name ++ r) ≡ (if defs.begins_with_mark (behind classes.is_alpha (name ++ r)) then defs.named (leading classes.is_alpha (name ++ r)) (behind classes.is_alpha (name ++ r)) else tag_of_class classes.is_tag (codes "!") (name ++ r))
+    → defs.shorthand (name ++ r) ≡ (if defs.begins_with_mark (after classes.is_alpha (name ++ r)) then defs.named (leading classes.is_alpha (name ++ r)) (after classes.is_alpha (name ++ r)) else tag_of_class classes.is_tag (codes "!") (name ++ r))
 shorthand_by [] [] h = cc
 shorthand_by [] (c ∷ r) h = refl
 shorthand_by (c ∷ name) r h = refl
@@ -284,9 +284,9 @@ named_place p n m k e =
     rw (i, j) refl
 
 module _ (flow : Bool) (start : Position) (text name : List ℕ) (all : all_of classes.is_alpha name ≡ true) where
-  -- behind a name and a second mark
-  suffix_by : (s l rest : List ℕ) (d : Result (List ℕ) UriFault) → text ≡ name ++ 33 ∷ (l ++ rest) → leading classes.is_tag s ≡ l → s ≡ l ++ rest → behind classes.is_tag s ≡ rest → decoded l ≡ d
-      → EndsAs flow start text (and_then (and_then (behind_class classes.is_tag start (past (further (length name) (past start))) s [] d) (λ r. some_suffix start name r)) (λ t. tag_end flow start t))
+  -- after a name and a second mark
+  suffix_by : (s l rest : List ℕ) (d : Result (List ℕ) UriFault) → text ≡ name ++ 33 ∷ (l ++ rest) → leading classes.is_tag s ≡ l → s ≡ l ++ rest → after classes.is_tag s ≡ rest → decoded l ≡ d
+      → EndsAs flow start text (and_then (and_then (after_class classes.is_tag start (past (further (length name) (past start))) s [] d) (λ r. some_suffix start name r)) (λ t. tag_end flow start t))
   suffix_by s l rest (Err f) cut lead same b e =
       bad_octets flow start text (name ++ 33 ∷ []) l rest f _ (cut ∙ sym (append_assoc name (33 ∷ []) (l ++ rest))) e refl
   suffix_by s [] rest (Ok cs) cut lead same b e =
@@ -298,13 +298,13 @@ module _ (flow : Bool) (start : Position) (text name : List ℕ) (all : all_of c
       rw (some, b, lead) (ended flow start text (name ++ 33 ∷ c ∷ l) rest ((33 ∷ name) ++ 33 ∷ []) cs _ (cut ∙ sym (append_assoc name (33 ∷ c ∷ l) rest)) (named_written name c l cs all tags e)
       (named_place start (length name) (length (c ∷ l)) (length (name ++ 33 ∷ c ∷ l)) (length-append name (33 ∷ c ∷ l))))
 
-  -- behind a word and no mark
-  local_by : (m l rest : List ℕ) (d : Result (List ℕ) UriFault) → text ≡ name ++ (l ++ rest) → begins_in classes.is_alpha l ≡ false → leading classes.is_tag m ≡ l → behind classes.is_tag m ≡ rest → decoded l ≡ d
-      → EndsAs flow start text (and_then (and_then (behind_class classes.is_tag start (further (length name) (past start)) m name d) (λ r. Ok (local r))) (λ t. tag_end flow start t))
+  -- after a word and no mark
+  local_by : (m l rest : List ℕ) (d : Result (List ℕ) UriFault) → text ≡ name ++ (l ++ rest) → begins_in classes.is_alpha l ≡ false → leading classes.is_tag m ≡ l → after classes.is_tag m ≡ rest → decoded l ≡ d
+      → EndsAs flow start text (and_then (and_then (after_class classes.is_tag start (further (length name) (past start)) m name d) (λ r. Ok (local r))) (λ t. tag_end flow start t))
   local_by m l rest (Err f) cut begins lead b e = bad_octets flow start text name l rest f _ cut e refl
   local_by m l rest (Ok cs) cut begins lead b e = by (is_nil (name ++ l)) refl
     where
-      by : (none : Bool) → is_nil (name ++ l) ≡ none → EndsAs flow start text (tag_end flow start (local (record { rest = behind classes.is_tag m; place = further (length (leading classes.is_tag m)) (further (length name) (past start)); value = name ++ cs })))
+      by : (none : Bool) → is_nil (name ++ l) ≡ none → EndsAs flow start text (tag_end flow start (local (record { rest = after classes.is_tag m; place = further (length (leading classes.is_tag m)) (further (length name) (past start)); value = name ++ cs })))
       by true f =
           let parts = nil_parts name l f in
           let zeros : 0 ≡ length name + length l = rw (parts.0, parts.1) refl in
@@ -317,32 +317,32 @@ module _ (flow : Bool) (start : Position) (text name : List ℕ) (all : all_of c
           rw (some, b, lead) (ended flow start text (name ++ l) rest (33 ∷ []) (name ++ cs) _ (cut ∙ sym (append_assoc name l rest)) (local_written name l cs all tags begins e f)
           (local_place start (length name) (length l) (length (name ++ l)) (length-append name l)))
 
-  from_mark : (s : List ℕ) → text ≡ name ++ 33 ∷ s → EndsAs flow start text (and_then (behind_name start name (33 ∷ s) (further (length name) (past start))) (λ t. tag_end flow start t))
+  from_mark : (s : List ℕ) → text ≡ name ++ 33 ∷ s → EndsAs flow start text (and_then (after_name start name (33 ∷ s) (further (length name) (past start))) (λ t. tag_end flow start t))
   unfolding named
   from_mark s cut =
       rw ((uris_are_read start s (past (further (length name) (past start))) []).1)
-      (suffix_by s (leading classes.is_tag s) (behind classes.is_tag s) (decoded (leading classes.is_tag s)) (cut ∙ ap (λ r. name ++ 33 ∷ r) (span_cut classes.is_tag s)) refl (span_cut classes.is_tag s) refl refl)
+      (suffix_by s (leading classes.is_tag s) (after classes.is_tag s) (decoded (leading classes.is_tag s)) (cut ∙ ap (λ r. name ++ 33 ∷ r) (span_cut classes.is_tag s)) refl (span_cut classes.is_tag s) refl refl)
 
-  from_word : (m : List ℕ) → text ≡ name ++ m → begins_in classes.is_alpha m ≡ false → (slice_index m 0 == 33) ≡ false → EndsAs flow start text (and_then (behind_name start name m (further (length name) (past start))) (λ t. tag_end flow start t))
+  from_word : (m : List ℕ) → text ≡ name ++ m → begins_in classes.is_alpha m ≡ false → (slice_index m 0 == 33) ≡ false → EndsAs flow start text (and_then (after_name start name m (further (length name) (past start))) (λ t. tag_end flow start t))
   from_word m cut begins unmarked =
       rw (unmarked, (uris_are_read start m (further (length name) (past start)) name).1)
-      (local_by m (leading classes.is_tag m) (behind classes.is_tag m) (decoded (leading classes.is_tag m)) (cut ∙ ap (λ r. name ++ r) (span_cut classes.is_tag m)) (still_no_word m begins) refl refl refl)
+      (local_by m (leading classes.is_tag m) (after classes.is_tag m) (decoded (leading classes.is_tag m)) (cut ∙ ap (λ r. name ++ r) (span_cut classes.is_tag m)) (still_no_word m begins) refl refl refl)
 
-shorthand_from : (flow : Bool) (start : Position) (a m : List ℕ) → behind classes.is_alpha a ≡ m
-    → EndsAs flow start a (and_then (behind_name start (leading classes.is_alpha a) m (further (length (leading classes.is_alpha a)) (past start))) (λ t. tag_end flow start t))
+shorthand_from : (flow : Bool) (start : Position) (a m : List ℕ) → after classes.is_alpha a ≡ m
+    → EndsAs flow start a (and_then (after_name start (leading classes.is_alpha a) m (further (length (leading classes.is_alpha a)) (past start))) (λ t. tag_end flow start t))
 shorthand_from flow start a [] e = from_word flow start a (leading classes.is_alpha a) (all_leading classes.is_alpha a) [] (span_cut classes.is_alpha a ∙ ap (λ r. leading classes.is_alpha a ++ r) e) refl refl
 shorthand_from flow start a (c ∷ s) e = by (c == 33) refl
   where
     cut : a ≡ leading classes.is_alpha a ++ c ∷ s
     cut = span_cut classes.is_alpha a ∙ ap (λ r. leading classes.is_alpha a ++ r) e
 
-    by : (marked : Bool) → (c == 33) ≡ marked → EndsAs flow start a (and_then (behind_name start (leading classes.is_alpha a) (c ∷ s) (further (length (leading classes.is_alpha a)) (past start))) (λ t. tag_end flow start t))
+    by : (marked : Bool) → (c == 33) ≡ marked → EndsAs flow start a (and_then (after_name start (leading classes.is_alpha a) (c ∷ s) (further (length (leading classes.is_alpha a)) (past start))) (λ t. tag_end flow start t))
     by true f = let same : c ≡ 33 = eqb-true c 33 f in rw same (from_mark flow start a (leading classes.is_alpha a) (all_leading classes.is_alpha a) s (cut ∙ ap (λ d. leading classes.is_alpha a ++ d ∷ s) same))
-    by false f = from_word flow start a (leading classes.is_alpha a) (all_leading classes.is_alpha a) (c ∷ s) cut (ap (begins_in classes.is_alpha) (sym e) ∙ ends_behind classes.is_alpha a) f
+    by false f = from_word flow start a (leading classes.is_alpha a) (all_leading classes.is_alpha a) (c ∷ s) cut (ap (begins_in classes.is_alpha) (sym e) ∙ ends_after classes.is_alpha a) f
 
 shorthands : (flow : Bool) (start : Position) (a : List ℕ) → (slice_index a 0 == 60) ≡ false → EndsAs flow start a (tag flow (33 ∷ a) start)
 unfolding tag shorthand
-shorthands flow start a e = rw (e, word a (past start) []) (shorthand_from flow start a (behind classes.is_alpha a) refl)
+shorthands flow start a e = rw (e, word a (past start) []) (shorthand_from flow start a (after classes.is_alpha a) refl)
 
 tags_by : (flow : Bool) (start : Position) (c : ℕ) (b : List ℕ) (opens : Bool) → (c == 60) ≡ opens → EndsAs flow start (c ∷ b) (tag flow (33 ∷ c ∷ b) start)
 tags_by flow start c b true e = let same : c ≡ 60 = eqb-true c 60 e in rw same (verbatims flow start b)

@@ -11,14 +11,14 @@ use Rattle.yaml_tokens.specs.declared.problem.Problem.TheVariants as problem
 use Rattle.defs_text.specs.Classes as classes
 use Rattle.defs_text.specs.Classes.{is_between}
 use Rattle.defs_scalar.specs.FlowScalar.{is_character_code}
-use Rattle.defs_scalar.specs.Tags.{leading, behind, UriFault, wrong_trail, no_character, octet_at, Lead, lead_of, is_trail, trail_by, trails, checked, led_by, escaped_character, uri_character, put_code, code_followed, decoded_behind, decoded}
+use Rattle.defs_scalar.specs.Tags.{leading, after, UriFault, wrong_trail, no_character, octet_at, Lead, lead_of, is_trail, trail_by, trails, checked, led_by, escaped_character, uri_character, put_code, code_followed, decoded_after, decoded}
 use Rattle.model_lexers.specs.Machine.{Read, past, and_then}
 use Rattle.model_lexers.specs.Uri.{Octet, lead, trail, plain, high, State, at_trail, at_octet, uri_from, octet_from, trails_from}
 use Rattle.model_lexers.proofs.UriLemmas.{low_turn}
 use Rattle.proof_lexers.proofs.Bridges.{same_digit, same_code, same_uri, same_tag, both}
 use Rattle.proof_lexers.specs.NameEnds.{further}
 use Rattle.proof_lexers.specs.ScalarLaws.{UrisAreRead}
-use Rattle.proof_lexers.specs.UriEnds.{behind_class}
+use Rattle.proof_lexers.specs.UriEnds.{after_class}
 use Rattle.proof_lexers.proofs.Properties.Names.{one_further, none_further}
 
 -- ---- octets
@@ -60,25 +60,25 @@ same_lead start p n t = rw (same_one n, same_two n, same_three n, same_four n) (
 
 -- ---- what an escape means
 
-behind_some : (n : ℕ) (r : List ℕ) → decoded_behind n r ≡ decoded_behind 0 (drop n r)
-behind_some zero r = refl
-behind_some (suc n) [] = refl
-behind_some (suc n) (c ∷ r) = behind_some n r
+after_some : (n : ℕ) (r : List ℕ) → decoded_after n r ≡ decoded_after 0 (drop n r)
+after_some zero r = refl
+after_some (suc n) [] = refl
+after_some (suc n) (c ∷ r) = after_some n r
 
--- a code that is completed, and what the text behind it means
+-- a code that is completed, and what the text after it means
 abbrev completed : (least : ℕ) → Result ℕ UriFault → Result (List ℕ) UriFault → Result (List ℕ) UriFault
 completed least (Err f) others = Err f
 completed least (Ok code) others = (if nat_le least code && is_character_code code then put_code code others else Err no_character)
 
-two_more : (m x y : ℕ) (r : List ℕ) → decoded_behind (2 + m) (x ∷ y ∷ r) ≡ decoded_behind 0 (drop m r)
-two_more m x y r = let e : 2 + m ≡ suc (suc m) = omega arith in rw e (behind_some m r)
+two_more : (m x y : ℕ) (r : List ℕ) → decoded_after (2 + m) (x ∷ y ∷ r) ≡ decoded_after 0 (drop m r)
+two_more m x y r = let e : 2 + m ≡ suc (suc m) = omega arith in rw e (after_some m r)
 
-is_completed : (l : Lead) (o : Result ℕ UriFault) (x y : ℕ) (r : List ℕ) → code_followed (checked l o) (λ n. decoded_behind n (x ∷ y ∷ r)) ≡ completed l.least o (decoded_behind 0 (drop (3 * l.further) r))
+is_completed : (l : Lead) (o : Result ℕ UriFault) (x y : ℕ) (r : List ℕ) → code_followed (checked l o) (λ n. decoded_after n (x ∷ y ∷ r)) ≡ completed l.least o (decoded_after 0 (drop (3 * l.further) r))
 is_completed l (Err f) x y r = refl
 is_completed l (Ok code) x y r = by (nat_le l.least code && is_character_code code)
   where
-    by : (b : Bool) → code_followed (if b then Ok (record { code = code; further = 2 + 3 * l.further }) else Err no_character) (λ n. decoded_behind n (x ∷ y ∷ r))
-        ≡ (if b then put_code code (decoded_behind 0 (drop (3 * l.further) r)) else Err no_character)
+    by : (b : Bool) → code_followed (if b then Ok (record { code = code; further = 2 + 3 * l.further }) else Err no_character) (λ n. decoded_after n (x ∷ y ∷ r))
+        ≡ (if b then put_code code (decoded_after 0 (drop (3 * l.further) r)) else Err no_character)
     by true = ap (put_code code) (two_more (3 * l.further) x y r)
     by false = refl
 
@@ -89,18 +89,18 @@ module _ (test class : ℕ → Bool) (start : Position) (same : (c : ℕ) → cl
   scan a p t = uri_from test start a (record { mode = plain; place = p; text = t })
 
   abbrev answer : List ℕ → Position → List ℕ → Result (List ℕ) UriFault → Result (Read (List ℕ)) Fault
-  answer a p t d = behind_class class start p a t d
+  answer a p t d = after_class class start p a t d
 
   -- one character of the class more
   more : (c : ℕ) (a : List ℕ) (p : Position) (t : List ℕ) (d : Result (List ℕ) UriFault) → class c ≡ true → answer a (past p) t d ≡ answer (c ∷ a) p t d
-  more c a p t (Ok cs) e = rw e (ap (λ q. Ok (record { rest = behind class a; place = q; value = t ++ cs })) (one_further p (length (leading class a))))
+  more c a p t (Ok cs) e = rw e (ap (λ q. Ok (record { rest = after class a; place = q; value = t ++ cs })) (one_further p (length (leading class a))))
   more c a p t (Err f) e = refl
 
   with_code : (c : ℕ) (a : List ℕ) (p : Position) (t : List ℕ) (d : Result (List ℕ) UriFault) → answer a p (t ++ c ∷ []) d ≡ answer a p t (put_code c d)
   with_code c a p t (Ok cs) = rw (append_assoc) refl
   with_code c a p t (Err f) = refl
 
-  -- Behind a percent sign two digits are an octet, or the text is refused.
+  -- After a percent sign two digits are an octet, or the text is refused.
   data Octets (o : Octet) (a : List ℕ) (p : Position) (t : List ℕ) : Type 0 where
     octet : (x y n : ℕ) (b : List ℕ) → a ≡ x ∷ y ∷ b → class x ≡ true → class y ≡ true → octet_at (37 ∷ leading class a) ≡ Some n
         → uri_from test start a (record { mode = high o; place = p; text = t }) ≡ octet_from test start o n b (past (past p)) t → Octets o a p t
@@ -162,7 +162,7 @@ module _ (test class : ℕ → Bool) (start : Position) (same : (c : ℕ) → cl
 
   abbrev Trails : ℕ → Type 0
   Trails left = (code least : ℕ) (a : List ℕ) (p : Position) (t : List ℕ) → ((n : ℕ) → Plain (drop n a))
-      → trails_from test start left code least a p t ≡ answer a p t (completed least (trails left code (leading class a)) (decoded_behind 0 (drop (3 * left) (leading class a))))
+      → trails_from test start left code least a p t ≡ answer a p t (completed least (trails left code (leading class a)) (decoded_after 0 (drop (3 * left) (leading class a))))
 
   -- a code that is completed
   whole_code : (code least : ℕ) (a : List ℕ) (p : Position) (t : List ℕ) → Plain a → trails_from test start 0 code least a p t ≡ answer a p t (completed least (Ok code) (decoded (leading class a)))
@@ -179,27 +179,27 @@ module _ (test class : ℕ → Bool) (start : Position) (same : (c : ℕ) → cl
   -- an octet more of a code
   next_octet : (left code least x y n : ℕ) (b : List ℕ) (p : Position) (t : List ℕ) → Trails left → ((k : ℕ) → Plain (drop k b)) → class x ≡ true → class y ≡ true → octet_at (37 ∷ x ∷ y ∷ leading class b) ≡ Some n
       → octet_from test start (trail left code least) n b (past (past (past p))) t
-      ≡ answer (37 ∷ x ∷ y ∷ b) p t (completed least (trail_by (octet_at (37 ∷ x ∷ y ∷ leading class b)) code (λ k. trails left k (leading class b))) (decoded_behind 0 (drop (3 * left) (leading class b))))
+      ≡ answer (37 ∷ x ∷ y ∷ b) p t (completed least (trail_by (octet_at (37 ∷ x ∷ y ∷ leading class b)) code (λ k. trails left k (leading class b))) (decoded_after 0 (drop (3 * left) (leading class b))))
   next_octet left code least x y n b p t others plains e f oc = rw (oc, same_trail n) (by (is_trail n))
     where
       by : (trails_on : Bool) → and_then (if trails_on then at_trail start left (code * 64 + (n - 128)) least (past (past (past p))) t else Err (At problem.TagTrailingOctet start)) (λ s. uri_from test start b s)
-          ≡ answer (37 ∷ x ∷ y ∷ b) p t (completed least (if trails_on then trails left (code * 64 + (n - 128)) (leading class b) else Err wrong_trail) (decoded_behind 0 (drop (3 * left) (leading class b))))
+          ≡ answer (37 ∷ x ∷ y ∷ b) p t (completed least (if trails_on then trails left (code * 64 + (n - 128)) (leading class b) else Err wrong_trail) (decoded_after 0 (drop (3 * left) (leading class b))))
       by true = others (code * 64 + (n - 128)) least b (past (past (past p))) t plains ∙ three_more x y b p t _ e f
       by false = refl
 
   leads : class 37 ≡ true
   leads = same 37 ∙ percents
 
-  behind_two : (a b : List ℕ) (x y : ℕ) → a ≡ x ∷ y ∷ b → ((k : ℕ) → Plain (drop k (37 ∷ a))) → (k : ℕ) → Plain (drop k b)
-  behind_two a b x y cut plains k = subst (λ (l : List ℕ). Plain (drop (suc (suc k)) l)) cut (plains (suc (suc (suc k))))
+  after_two : (a b : List ℕ) (x y : ℕ) → a ≡ x ∷ y ∷ b → ((k : ℕ) → Plain (drop k (37 ∷ a))) → (k : ℕ) → Plain (drop k b)
+  after_two a b x y cut plains k = subst (λ (l : List ℕ). Plain (drop (suc (suc k)) l)) cut (plains (suc (suc (suc k))))
 
-  behind_percent : (left code least : ℕ) (a : List ℕ) (p : Position) (t : List ℕ) → Trails left → ((k : ℕ) → Plain (drop k (37 ∷ a))) → Octets (trail left code least) a (past p) t
-      → trails_from test start (suc left) code least (37 ∷ a) p t ≡ answer (37 ∷ a) p t (completed least (trails (suc left) code (37 ∷ leading class a)) (decoded_behind 0 (drop (3 * suc left) (37 ∷ leading class a))))
-  behind_percent left code least a p t others plains (octet x y n b cut e f oc is) =
+  after_percent : (left code least : ℕ) (a : List ℕ) (p : Position) (t : List ℕ) → Trails left → ((k : ℕ) → Plain (drop k (37 ∷ a))) → Octets (trail left code least) a (past p) t
+      → trails_from test start (suc left) code least (37 ∷ a) p t ≡ answer (37 ∷ a) p t (completed least (trails (suc left) code (37 ∷ leading class a)) (decoded_after 0 (drop (3 * suc left) (37 ∷ leading class a))))
+  after_percent left code least a p t others plains (octet x y n b cut e f oc is) =
       let here = rw cut at is in
       let known = rw (cut, e, f) at oc in
-      rw (cut, e, f, three_off left 37 x y (leading class b)) (here ∙ next_octet left code least x y n b p t others (behind_two a b x y cut plains) e f known)
-  behind_percent left code least a p t others plains (no_octets oc is) = is ∙ rw oc refl
+      rw (cut, e, f, three_off left 37 x y (leading class b)) (here ∙ next_octet left code least x y n b p t others (after_two a b x y cut plains) e f known)
+  after_percent left code least a p t others plains (no_octets oc is) = is ∙ rw oc refl
 
   no_percent : (c : ℕ) (l : List ℕ) (b : Bool) → (c == 37) ≡ false → octet_at (if b then c ∷ l else []) ≡ None
   unfolding octet_at
@@ -218,30 +218,30 @@ module _ (test class : ℕ → Bool) (start : Position) (same : (c : ℕ) → cl
   trailing (suc left) code least (c ∷ a) p t plains = by (trailing left) (c == 37) refl
     where
       by : Trails left → (percents : Bool) → (c == 37) ≡ percents
-          → trails_from test start (suc left) code least (c ∷ a) p t ≡ answer (c ∷ a) p t (completed least (trails (suc left) code (leading class (c ∷ a))) (decoded_behind 0 (drop (3 * suc left) (leading class (c ∷ a)))))
+          → trails_from test start (suc left) code least (c ∷ a) p t ≡ answer (c ∷ a) p t (completed least (trails (suc left) code (leading class (c ∷ a))) (decoded_after 0 (drop (3 * suc left) (leading class (c ∷ a)))))
       by others true e =
           let is_percent : c ≡ 37 = eqb-true c 37 e in
-          rw (is_percent, leads) (behind_percent left code least a p t others (subst (λ (d : ℕ). (k : ℕ) → Plain (drop k (d ∷ a))) is_percent plains) (octets_at (trail left code least) a (past p) t))
+          rw (is_percent, leads) (after_percent left code least a p t others (subst (λ (d : ℕ). (k : ℕ) → Plain (drop k (d ∷ a))) is_percent plains) (octets_at (trail left code least) a (past p) t))
       by others false e = rw (e, no_percent c (leading class a) (class c) e) refl
 
   -- ---- the whole text
 
-  -- behind the first octet of a character
+  -- after the first octet of a character
   led : (x y n : ℕ) (b : List ℕ) (p : Position) (t : List ℕ) → ((k : ℕ) → Plain (drop k b)) → class x ≡ true → class y ≡ true → octet_at (37 ∷ x ∷ y ∷ leading class b) ≡ Some n
       → octet_from test start lead n b (past (past (past p))) t ≡ answer (37 ∷ x ∷ y ∷ b) p t (decoded (37 ∷ x ∷ y ∷ leading class b))
   unfolding uri_character escaped_character
   led x y n b p t plains e f oc = rw (oc, same_lead start (past (past (past p))) n t) (by (lead_of n))
     where
       by : (o : Option Lead) → and_then (lead_to start (past (past (past p))) t o) (λ s. uri_from test start b s)
-          ≡ answer (37 ∷ x ∷ y ∷ b) p t (code_followed (led_by o (37 ∷ x ∷ y ∷ leading class b)) (λ n. decoded_behind n (x ∷ y ∷ leading class b)))
+          ≡ answer (37 ∷ x ∷ y ∷ b) p t (code_followed (led_by o (37 ∷ x ∷ y ∷ leading class b)) (λ n. decoded_after n (x ∷ y ∷ leading class b)))
       by None = refl
       by (Some l) =
           trailing l.further l.bits l.least b (past (past (past p))) t plains
           ∙ three_more x y b p t _ e f
           ∙ ap (answer (37 ∷ x ∷ y ∷ b) p t) (sym (is_completed l (trails l.further l.bits (leading class b)) x y (leading class b)))
 
-  behind_digits : (a b : List ℕ) (x y : ℕ) → a ≡ x ∷ y ∷ b → ((k : ℕ) → Plain (drop k a)) → (k : ℕ) → Plain (drop k b)
-  behind_digits a b x y cut plains k = subst (λ (l : List ℕ). Plain (drop (suc (suc k)) l)) cut (plains (suc (suc k)))
+  after_digits : (a b : List ℕ) (x y : ℕ) → a ≡ x ∷ y ∷ b → ((k : ℕ) → Plain (drop k a)) → (k : ℕ) → Plain (drop k b)
+  after_digits a b x y cut plains k = subst (λ (l : List ℕ). Plain (drop (suc (suc k)) l)) cut (plains (suc (suc k)))
 
   at_percent : (a : List ℕ) (p : Position) (t : List ℕ) → ((k : ℕ) → Plain (drop k a)) → Octets lead a (past p) t → scan (37 ∷ a) p t ≡ answer (37 ∷ a) p t (decoded (37 ∷ leading class a))
   unfolding uri_character escaped_character
@@ -249,7 +249,7 @@ module _ (test class : ℕ → Bool) (start : Position) (same : (c : ℕ) → cl
       let here = rw cut at is in
       let known = rw (cut, e, f) at oc in
       let span : leading class (x ∷ y ∷ b) ≡ x ∷ y ∷ leading class b = rw (e, f) refl in
-      rw (percents, cut) (here ∙ led x y n b p t (behind_digits a b x y cut plains) e f known ∙ ap (λ l. answer (37 ∷ x ∷ y ∷ b) p t (decoded (37 ∷ l))) (sym span))
+      rw (percents, cut) (here ∙ led x y n b p t (after_digits a b x y cut plains) e f known ∙ ap (λ l. answer (37 ∷ x ∷ y ∷ b) p t (decoded (37 ∷ l))) (sym span))
   at_percent a p t plains (no_octets oc is) = rw percents (is ∙ rw oc refl)
 
   -- where no character of the class stands

@@ -14,10 +14,10 @@ use Rattle.model_lexers.specs.declared.context.Context.{Context}
 use Rattle.model_lexers.specs.Machine.{Read, past, at_marker}
 use Rattle.model_lexers.specs.Folding.{Folded, nothing, joined}
 use Rattle.model_lexers.specs.Quoted.{Mode, first, gap, inside, closed, quote_of, refused}
-use Rattle.model_lexers.proofs.QuotedLemmas.{behind_gap, behind_quote, closed_end}
-use Rattle.proof_lexers.specs.Buffers.{behind_element, behind_elements}
+use Rattle.model_lexers.proofs.QuotedLemmas.{after_gap, after_quote, closed_end}
+use Rattle.proof_lexers.specs.Buffers.{after_element, after_elements}
 use Rattle.proof_lexers.specs.QuotedScan.{element_of, has_marker, ends_before, IsShallow, by_line, by_tab, IsRead, read, shallow}
-use Rattle.proof_lexers.proofs.Quoted.Turns.{no_marker, off_margin, Ready, in_gap, behind_escaped, scan, Begun, begun, marked, begins, Step, steps, is_marked, is_shallow, StepOf, inside_is_gap, may_stand}
+use Rattle.proof_lexers.proofs.Quoted.Turns.{no_marker, off_margin, Ready, in_gap, after_escaped, scan, Begun, begun, marked, begins, Step, steps, is_marked, is_shallow, StepOf, inside_is_gap, may_stand}
 use Rattle.proof_lexers.proofs.Quoted.Turns as turns
 use Rattle.proof_lexers.proofs.Quoted.Elements.{step}
 
@@ -25,7 +25,7 @@ use Rattle.proof_lexers.proofs.Quoted.Elements.{step}
 abbrev pub marked_from : ℕ → List ℕ → List ℕ → Bool
 marked_from col a r = ((col == 0) && is_document_marker (a ++ r)) || has_marker a r
 
--- Behind a body's elements: before the text behind it, or refused on the way.
+-- After a body's elements: before the text after it, or refused on the way.
 pub data Passed (single : Bool) (ctx : Context) (start : Position) (x : Result (Read (List ℕ)) Fault) (a r : List ℕ) (col : ℕ) (t : Folded) : Type 0 where
   passed : (m : Mode) (q : Position) → Ready single t m → marked_from col a r ≡ false → x ≡ scan single ctx start r m q t → Passed single ctx start x a r col t
   met_marker : marked_from col a r ≡ true → x ≡ Err (At problem.QuotedDocumentMarker start) → Passed single ctx start x a r col t
@@ -66,29 +66,29 @@ no_quote c b s h = by (classes.is_nul c) (c == 34) refl refl
     by false false e f = f
 
 module _ (single : Bool) (ctx : Context) (start : Position) where
-  -- an element may begin behind an escaped break as in a gap
+  -- an element may begin after an escaped break as in a gap
   from_gap : (c : ℕ) (b a : List ℕ) (s : Spelled) (m : Mode) (p : Position) (t : Folded) → element_of single c b ≡ Some s → Ready single t m → scan single ctx start (c ∷ a) m p t ≡ scan single ctx start (c ∷ a) gap p t
   from_gap c b a s m p t h in_gap = refl
-  from_gap c b a s m p t h (behind_escaped double e f) = behind_gap single ctx start c (c ∷ a) p t refl (rw double (let g : double_quoted_element c b ≡ Some s = rw double at h in no_quote c b s g))
+  from_gap c b a s m p t h (after_escaped double e f) = after_gap single ctx start c (c ∷ a) p t refl (rw double (let g : double_quoted_element c b ≡ Some s = rw double at h in no_quote c b s g))
 
   abbrev Passes : ℕ → List ℕ → List ℕ → Type 0
   Passes n a r = (es : List Element) (m : Mode) (p : Position) (t : Folded) → elements (element_of single) n a ≡ Some es → Ready single t m
-      → Passed single ctx start (scan single ctx start (drop n a ++ r) m p t) (drop n a) r p.col (behind_elements es t)
+      → Passed single ctx start (scan single ctx start (drop n a ++ r) m p t) (drop n a) r p.col (after_elements es t)
 
   by_step : (c : ℕ) (b r : List ℕ) (s : Spelled) (es : List Element) (m : Mode) (p : Position) (t : Folded) → element_of single c b ≡ Some s → elements (element_of single) s.further b ≡ Some es → Ready single t m
-      → Passes s.further b r → Step single ctx start c b r p t s → Passed single ctx start (scan single ctx start (c ∷ (b ++ r)) m p t) (c ∷ b) r p.col (behind_elements (s.element ∷ es) t)
+      → Passes s.further b r → Step single ctx start c b r p t s → Passed single ctx start (scan single ctx start (c ∷ (b ++ r)) m p t) (c ∷ b) r p.col (after_elements (s.element ∷ es) t)
   by_step c b r s es m p t h k ready others (steps n q after full none marks is) =
-      passed_on single ctx start _ _ (c ∷ b) (drop s.further b) r p.col q.col _ (from_gap c b (b ++ r) s m p t h ready ∙ is) (rw none marks) (others es n q (behind_element s.element t) k after)
+      passed_on single ctx start _ _ (c ∷ b) (drop s.further b) r p.col q.col _ (from_gap c b (b ++ r) s m p t h ready ∙ is) (rw none marks) (others es n q (after_element s.element t) k after)
   by_step c b r s es m p t h k ready others (is_marked e f) = met_marker (rw e refl) (from_gap c b (b ++ r) s m p t h ready ∙ f)
   by_step c b r s es m p t h k ready others (is_shallow e) = was_shallow (shallow_on ctx start _ _ (from_gap c b (b ++ r) s m p t h ready) e)
 
   by_elements : (c : ℕ) (b r : List ℕ) (s : Spelled) (o : Option (List Element)) (es : List Element) (m : Mode) (p : Position) (t : Folded) → element_of single c b ≡ Some s → elements (element_of single) s.further b ≡ o → put_before s.element o ≡ Some es
-      → Ready single t m → Passes s.further b r → Step single ctx start c b r p t s → Passed single ctx start (scan single ctx start (c ∷ (b ++ r)) m p t) (c ∷ b) r p.col (behind_elements es t)
+      → Ready single t m → Passes s.further b r → Step single ctx start c b r p t s → Passed single ctx start (scan single ctx start (c ∷ (b ++ r)) m p t) (c ∷ b) r p.col (after_elements es t)
   by_elements c b r s None es m p t h k e ready others z = cc
   by_elements c b r s (Some fs) es m p t h k e ready others z = let same : s.element ∷ fs ≡ es = cc in rw (← same) (by_step c b r s fs m p t h k ready others z)
 
   by_element : (c : ℕ) (b r : List ℕ) (o : Option Spelled) (es : List Element) (m : Mode) (p : Position) (t : Folded) → element_of single c b ≡ o → followed o (λ n. elements (element_of single) n b) ≡ Some es
-      → Ready single t m → ((n : ℕ) → Passes n b r) → StepOf single ctx start c b r p t o → Passed single ctx start (scan single ctx start (c ∷ (b ++ r)) m p t) (c ∷ b) r p.col (behind_elements es t)
+      → Ready single t m → ((n : ℕ) → Passes n b r) → StepOf single ctx start c b r p t o → Passed single ctx start (scan single ctx start (c ∷ (b ++ r)) m p t) (c ∷ b) r p.col (after_elements es t)
   by_element c b r None es m p t h e ready others z = cc
   by_element c b r (Some s) es m p t h e ready others z = by_elements c b r s (elements (element_of single) s.further b) es m p t h refl e ready (others s.further) z
 
@@ -97,10 +97,10 @@ module _ (single : Bool) (ctx : Context) (start : Position) where
   none_marked false y h = refl
 
   no_elements : (r : List ℕ) (es : List Element) (m : Mode) (p : Position) (t : Folded) → is_document_marker r ≡ false → Some [] ≡ Some es → Ready single t m
-      → Passed single ctx start (scan single ctx start r m p t) [] r p.col (behind_elements es t)
+      → Passed single ctx start (scan single ctx start r m p t) [] r p.col (after_elements es t)
   no_elements r es m p t still h ready = let none : es ≡ [] = cc in rw none (passed m p ready (none_marked (p.col == 0) (is_document_marker r) still) refl)
 
-  -- what the scan does up to the text behind a body's elements
+  -- what the scan does up to the text after a body's elements
   pub passes : (n : ℕ) (a r : List ℕ) → (slice_index r 0 == 10) ≡ false → is_document_marker r ≡ false → Passes n a r
   passes zero [] r no_feed still es m p t h ready = no_elements r es m p t still h ready
   passes (suc n) [] r no_feed still es m p t h ready = no_elements r es m p t still h ready
@@ -123,7 +123,7 @@ module _ (single : Bool) (ctx : Context) (start : Position) where
   unfolding refused at_marker
   first_fails c a p e f = rw (e, f) refl
 
-  -- Behind the opening quote the scan goes on as in a gap, or the place behind it is refused.
+  -- After the opening quote the scan goes on as in a gap, or the place after it is refused.
   pub data Opened (a : List ℕ) (p : Position) : Type 0 where
     opened : scan single ctx start a first p nothing ≡ scan single ctx start a gap p nothing → Opened a p
     not_opened : IsShallow ctx start (scan single ctx start a first p nothing) → Opened a p
@@ -166,5 +166,5 @@ module _ (single : Bool) (ctx : Context) (start : Position) (r : List ℕ) (ends
 
   pub close : (m : Mode) (p : Position) (t : Folded) → Ready single t m → IsRead ctx start (joined t).text r (scan single ctx start (quote_of single ∷ r) m p t)
   close m p t in_gap = in_line p t (begins single ctx start (quote_of single) r p t (quote_solid single))
-  close m p t (behind_escaped double e f) =
-      read (past p) (behind_quote single ctx start (quote_of single) (quote_of single ∷ r) p t refl refl ∙ closes single ctx start r p t ends ∙ ap (λ text. Ok (record { rest = r; place = past p; value = text })) (open_gap single ctx start t e f))
+  close m p t (after_escaped double e f) =
+      read (past p) (after_quote single ctx start (quote_of single) (quote_of single ∷ r) p t refl refl ∙ closes single ctx start r p t ends ∙ ap (λ text. Ok (record { rest = r; place = past p; value = text })) (open_gap single ctx start t e f))

@@ -13,11 +13,11 @@ use Rattle.defs_scalar.specs.FlowScalar.{content, escaped_break, break_further, 
 use Rattle.model_lexers.specs.declared.context.Context.{Context}
 use Rattle.model_lexers.specs.Machine.{Read, past, past_break}
 use Rattle.model_lexers.specs.Folding.{Folded, with_char, with_escaped_break, joined}
-use Rattle.model_lexers.specs.Quoted.{inside, behind, digits_from, Escape, escape_of}
+use Rattle.model_lexers.specs.Quoted.{inside, after, digits_from, Escape, escape_of}
 use Rattle.model_lexers.proofs.QuotedLemmas.{named_char, named_code, digit_turn, coded}
 use Rattle.proof_lexers.specs.QuotedScan.{element_of, is_some, has_marker, by_line}
 use Rattle.proof_lexers.proofs.Bridges.{same_break, same_digit, same_code, same_escape, and_false}
-use Rattle.proof_lexers.proofs.Quoted.Turns.{feed_is_no_marker, behind_escaped, scan, Begun, begun, marked, shallow, begins, Taken, Step, steps, is_marked, is_shallow, StepOf, spelled, content_step, itself_step}
+use Rattle.proof_lexers.proofs.Quoted.Turns.{feed_is_no_marker, after_escaped, scan, Begun, begun, marked, shallow, begins, Taken, Step, steps, is_marked, is_shallow, StepOf, spelled, content_step, itself_step}
 
 -- ---- single quotes
 
@@ -108,10 +108,10 @@ module _ (ctx : Context) (start : Position) where
   unfolding classes.is_break
   hex_no_break c h = grind (arith, nat_tests)
 
-  marks_behind_digits : (n value code : ℕ) (b r : List ℕ) → hexadecimal value (take n b) ≡ Some code → has_marker b r ≡ has_marker (drop n b) r
-  marks_behind_digits zero value code b r h = refl
-  marks_behind_digits (suc n) value code [] r h = refl
-  marks_behind_digits (suc n) value code (c ∷ b) r h = by (is_digit c 16) refl h (λ more. marks_behind_digits n (value * 16 + digit_value c) code b r more)
+  marks_after_digits : (n value code : ℕ) (b r : List ℕ) → hexadecimal value (take n b) ≡ Some code → has_marker b r ≡ has_marker (drop n b) r
+  marks_after_digits zero value code b r h = refl
+  marks_after_digits (suc n) value code [] r h = refl
+  marks_after_digits (suc n) value code (c ∷ b) r h = by (is_digit c 16) refl h (λ more. marks_after_digits n (value * 16 + digit_value c) code b r more)
     where
       by : (digit : Bool) → is_digit c 16 ≡ digit → (if digit then hexadecimal (value * 16 + digit_value c) (take n b) else None) ≡ Some code
           → (hexadecimal (value * 16 + digit_value c) (take n b) ≡ Some code → has_marker b r ≡ has_marker (drop n b) r) → has_marker (c ∷ b) r ≡ has_marker (drop n b) r
@@ -178,7 +178,7 @@ module _ (ctx : Context) (start : Position) where
   coded_by d n code b r p t e f many digits valid =
       let g : classes.is_break d ≡ false = same_break d ∙ e in
       let z = counted (suc n) 0 code b r (past (past p)) (joined t) many digits valid in
-      content_step false ctx start 92 (d ∷ b) r (suc (suc n)) code p t no_white (coded_taken d n code b r p (joined t) e f z) (rw g (marks_behind_digits (suc n) 0 code b r digits)) (rw (known_some d (Escape.code n) f (λ k. cc)) (some_digits (suc n) 0 code b digits))
+      content_step false ctx start 92 (d ∷ b) r (suc (suc n)) code p t no_white (coded_taken d n code b r p (joined t) e f z) (rw g (marks_after_digits (suc n) 0 code b r digits)) (rw (known_some d (Escape.code n) f (λ k. cc)) (some_digits (suc n) 0 code b digits))
 
   coded_valid : (d n code : ℕ) (b r : List ℕ) (p : Position) (t : Folded) (valid : Bool) → is_break d ≡ false → escape_of d ≡ Escape.code n → (length (take (suc n) b) == suc n) ≡ true → hexadecimal 0 (take (suc n) b) ≡ Some code → is_character_code code ≡ valid
       → StepOf false ctx start 92 (d ∷ b) r p t (if valid then Some (spelled (content code) (suc (suc n))) else None)
@@ -198,20 +198,20 @@ module _ (ctx : Context) (start : Position) where
   -- ---- an escaped break
 
   broken_by : (d : ℕ) (b r : List ℕ) (k : ℕ) (p q : Position) (t : Folded)
-      → scan false ctx start (92 ∷ d ∷ (b ++ r)) inside p (joined t) ≡ scan false ctx start (drop k b ++ r) behind (past_break q) (with_escaped_break (joined t))
+      → scan false ctx start (92 ∷ d ∷ (b ++ r)) inside p (joined t) ≡ scan false ctx start (drop k b ++ r) after (past_break q) (with_escaped_break (joined t))
       → has_marker (d ∷ b) r ≡ (is_document_marker (drop k b ++ r) || has_marker (drop k b) r) → list_all is_some (d ∷ b) ≡ list_all is_some (drop k b)
       → Begun false ctx start (92 ∷ d ∷ (b ++ r)) p t → Step false ctx start 92 (d ∷ b) r p t (spelled escaped_break (suc k))
   unfolding classes.is_break
-  broken_by d b r k p q t is marks full (begun none deep e) = steps behind (past_break q) (behind_escaped refl refl refl) full none marks (e ∙ is)
+  broken_by d b r k p q t is marks full (begun none deep e) = steps after (past_break q) (after_escaped refl refl refl) full none marks (e ∙ is)
   broken_by d b r k p q t is marks full (marked e f) = is_marked e f
   broken_by d b r k p q t is marks full (shallow e f) = is_shallow (by_line p e f)
 
   lone_broken : (d : ℕ) (b r : List ℕ) (p : Position) (u : Folded) → is_break d ≡ true → ((d == 13) && (slice_index (b ++ r) 0 == 10)) ≡ false
-      → scan false ctx start (92 ∷ d ∷ (b ++ r)) inside p u ≡ scan false ctx start (b ++ r) behind (past_break (past p)) (with_escaped_break u)
+      → scan false ctx start (92 ∷ d ∷ (b ++ r)) inside p u ≡ scan false ctx start (b ++ r) after (past_break (past p)) (with_escaped_break u)
   unfolding is_break is_blank
   lone_broken d b r p u e f = rw (e, f) refl
 
-  two_broken : (a : List ℕ) (p : Position) (u : Folded) → scan false ctx start (92 ∷ 13 ∷ 10 ∷ a) inside p u ≡ scan false ctx start a behind (past_break (past (past p))) (with_escaped_break u)
+  two_broken : (a : List ℕ) (p : Position) (u : Folded) → scan false ctx start (92 ∷ 13 ∷ 10 ∷ a) inside p u ≡ scan false ctx start a after (past_break (past (past p))) (with_escaped_break u)
   unfolding is_break is_blank
   two_broken a p u = refl
 

@@ -31,38 +31,38 @@ same_length n m = by (suc n == suc m) (n == m) refl refl
 too_short : (n : ℕ) → (zero == suc n) ≡ false
 too_short n = grind (arith, nat_tests)
 
--- the number of so many digits behind a value, if they are there
-abbrev number_behind : ℕ → ℕ → List ℕ → Option ℕ
-number_behind n value b = (if length (take n b) == n then hexadecimal value (take n b) else None)
+-- the number of so many digits after a value, if they are there
+abbrev number_after : ℕ → ℕ → List ℕ → Option ℕ
+number_after n value b = (if length (take n b) == n then hexadecimal value (take n b) else None)
 
 module _ (ctx : Context) (start : Position) where
   -- Digits are missing.
-  digits_fail : (n value : ℕ) (b : List ℕ) (p : Position) (u : Folded) → number_behind n value b ≡ None → digits_from false ctx start n value b p u ≡ Err (At problem.HexadecimalDigit start)
+  digits_fail : (n value : ℕ) (b : List ℕ) (p : Position) (u : Folded) → number_after n value b ≡ None → digits_from false ctx start n value b p u ≡ Err (At problem.HexadecimalDigit start)
   digits_fail zero value b p u h = cc
   digits_fail (suc n) value [] p u h = refl
   digits_fail (suc n) value (c ∷ b) p u h = by (is_digit c 16) refl (λ more. digits_fail n (value * 16 + digit_value c) b (past p) u more) h
     where
       by : (digit : Bool) → is_digit c 16 ≡ digit
-          → (number_behind n (value * 16 + digit_value c) b ≡ None → digits_from false ctx start n (value * 16 + digit_value c) b (past p) u ≡ Err (At problem.HexadecimalDigit start))
-          → number_behind (suc n) value (c ∷ b) ≡ None → digits_from false ctx start (suc n) value (c ∷ b) p u ≡ Err (At problem.HexadecimalDigit start)
+          → (number_after n (value * 16 + digit_value c) b ≡ None → digits_from false ctx start n (value * 16 + digit_value c) b (past p) u ≡ Err (At problem.HexadecimalDigit start))
+          → number_after (suc n) value (c ∷ b) ≡ None → digits_from false ctx start (suc n) value (c ∷ b) p u ≡ Err (At problem.HexadecimalDigit start)
       by true e others none =
           let same = same_length (length (take n b)) n in
-          let fewer : number_behind n (value * 16 + digit_value c) b ≡ None = rw (same, e) at none in
+          let fewer : number_after n (value * 16 + digit_value c) b ≡ None = rw (same, e) at none in
           digit_turn false ctx start n value c (c ∷ b) b p u (rw (same_digit c) e) refl ∙ others fewer
       by false e others none = digit_fails false ctx start n value c (c ∷ b) p u (rw (same_digit c) e) refl
 
   -- A code is no character's.
-  code_fails : (n value code : ℕ) (b : List ℕ) (p : Position) (u : Folded) → number_behind n value b ≡ Some code → is_character_code code ≡ false → digits_from false ctx start n value b p u ≡ Err (At problem.EscapedCode start)
+  code_fails : (n value code : ℕ) (b : List ℕ) (p : Position) (u : Folded) → number_after n value b ≡ Some code → is_character_code code ≡ false → digits_from false ctx start n value b p u ≡ Err (At problem.EscapedCode start)
   code_fails zero value code b p u h bad = let same : value ≡ code = cc in coded_fails false ctx start value b p u (same_code value ∙ ap is_character_code same ∙ bad)
   code_fails (suc n) value code [] p u h bad = let short = too_short n in let none : None ≡ Some code = rw short at h in cc
   code_fails (suc n) value code (c ∷ b) p u h bad = by (is_digit c 16) refl (λ more. code_fails n (value * 16 + digit_value c) code b (past p) u more bad) h
     where
       by : (digit : Bool) → is_digit c 16 ≡ digit
-          → (number_behind n (value * 16 + digit_value c) b ≡ Some code → digits_from false ctx start n (value * 16 + digit_value c) b (past p) u ≡ Err (At problem.EscapedCode start))
-          → number_behind (suc n) value (c ∷ b) ≡ Some code → digits_from false ctx start (suc n) value (c ∷ b) p u ≡ Err (At problem.EscapedCode start)
+          → (number_after n (value * 16 + digit_value c) b ≡ Some code → digits_from false ctx start n (value * 16 + digit_value c) b (past p) u ≡ Err (At problem.EscapedCode start))
+          → number_after (suc n) value (c ∷ b) ≡ Some code → digits_from false ctx start (suc n) value (c ∷ b) p u ≡ Err (At problem.EscapedCode start)
       by true e others some =
           let same = same_length (length (take n b)) n in
-          let fewer : number_behind n (value * 16 + digit_value c) b ≡ Some code = rw (same, e) at some in
+          let fewer : number_after n (value * 16 + digit_value c) b ≡ Some code = rw (same, e) at some in
           digit_turn false ctx start n value c (c ∷ b) b p u (rw (same_digit c) e) refl ∙ others fewer
       by false e others some = none_more (length (c ∷ take n b) == suc n) e some
         where
@@ -95,11 +95,11 @@ module _ (ctx : Context) (start : Position) where
   code_fails_by : (d n : ℕ) (b : List ℕ) (p : Position) (u : Folded) (o : Option ℕ) → is_break d ≡ false → lookup d escapes ≡ None → lookup d numeric_escapes ≡ Some n → number_at n b ≡ o → numbered n o ≡ None → Fails (d ∷ b) p u
   code_fails_by d n b p u None e f g number h =
       let z = has_digits d n g in
-      let none : number_behind (suc z.0) 0 b ≡ None = rw (← z.1) number in
+      let none : number_after (suc z.0) 0 b ≡ None = rw (← z.1) number in
       record { why = problem.HexadecimalDigit; bad = no_digit d n b f g number; is = to_digits d n z.0 b p u e f g z.1 ∙ digits_fail (suc z.0) 0 b (past (past p)) u none }
   code_fails_by d n b p u (Some code) e f g number h =
       let z = has_digits d n g in
-      let some : number_behind (suc z.0) 0 b ≡ Some code = rw (← z.1) number in
+      let some : number_after (suc z.0) 0 b ≡ Some code = rw (← z.1) number in
       let invalid = no_character_of n code (is_character_code code) refl h in
       record { why = problem.EscapedCode; bad = no_character d n code b f g number invalid; is = to_digits d n z.0 b p u e f g z.1 ∙ code_fails (suc z.0) 0 code b (past (past p)) u some invalid }
     where

@@ -29,7 +29,7 @@ module _ (single : Bool) (ctx : Context) (start : Position) where
   abbrev pub folded : List ℕ → List ℕ → Folded
   folded text blanks = record { text = text; gap = blanks; leading = false; escaped = false }
 
-  -- in a line, behind blanks or none
+  -- in a line, after blanks or none
   abbrev pub at : Position → List ℕ → List ℕ → State
   at p text blanks = record { mode = gap; place = p; folded = folded text blanks }
 

@@ -7,7 +7,7 @@ use Rattle.defs_scalar.specs.FlowScalar.{content, line_break, escaped_break, Spe
 use Rattle.proof_lexers.specs.QuotedScan.{element_of}
 use Rattle.proof_lexers.proofs.Quoted.Turns.{spelled}
 
--- The characters that belong to what a function finds at a text's start are there, and it finds it too where the text is cut behind them.
+-- The characters that belong to what a function finds at a text's start are there, and it finds it too where the text is cut after them.
 pub record Local (at : List ℕ → Option Spelled) (b : List ℕ) (s : Spelled) : Type 0 where
   pub fits : length (take s.further b) ≡ s.further
   pub same : (x y : List ℕ) → drop s.further b ≡ x ++ y → at (take s.further b ++ x) ≡ Some s
@@ -135,12 +135,12 @@ pub local : (single : Bool) (c : ℕ) (b : List ℕ) → LocalOf (element_of sin
 local true c b = single_by c b (classes.is_nul c) (c == 39) refl refl
 local false c b = double_by c b (classes.is_nul c) (c == 34) (c == 92) refl refl refl
 
--- elements behind so many characters are those of the text behind them
-pub behind_some : (at : ℕ → List ℕ → Option Spelled) (n : ℕ) (b : List ℕ) → elements at n b ≡ elements at 0 (drop n b)
-behind_some at zero b = refl
-behind_some at (suc n) [] = refl
-behind_some at (suc n) (c ∷ b) = behind_some at n b
+-- elements after so many characters are those of the text after them
+pub after_some : (at : ℕ → List ℕ → Option Spelled) (n : ℕ) (b : List ℕ) → elements at n b ≡ elements at 0 (drop n b)
+after_some at zero b = refl
+after_some at (suc n) [] = refl
+after_some at (suc n) (c ∷ b) = after_some at n b
 
-pub behind_own : (at : ℕ → List ℕ → Option Spelled) (w x : List ℕ) → elements at (length w) (w ++ x) ≡ elements at 0 x
-behind_own at [] x = refl
-behind_own at (c ∷ w) x = behind_own at w x
+pub after_own : (at : ℕ → List ℕ → Option Spelled) (w x : List ℕ) → elements at (length w) (w ++ x) ≡ elements at 0 x
+after_own at [] x = refl
+after_own at (c ∷ w) x = after_own at w x

@@ -17,7 +17,7 @@ use Rattle.proof_lexers.proofs.Quoted.Elements.{step}
 pub no_less : (n : ℕ) → nat_lt n 0 ≡ false
 no_less n = le-ltb n 0 (omega arith)
 
--- outside all collections, behind a line's first character
+-- outside all collections, after a line's first character
 abbrev outside : Context
 outside = record { flow = false; indent = 0 }
 
@@ -66,7 +66,7 @@ some_fourth c d e f a h =
     let three = and_parts (is_some e) (list_all is_some (f ∷ a)) two.1 in
     not-true (f == 0) ((and_parts (is_some f) (list_all is_some a) three.1).0)
 
--- with the closing quote behind it a body begins with a marker just where it does alone
+-- with the closing quote after it a body begins with a marker just where it does alone
 marker_here : (single : Bool) (a r : List ℕ) → list_all is_some a ≡ true → is_document_marker (a ++ quote_of single ∷ r) ≡ begins_with_marker a
 unfolding begins_with_marker classes.are_marks classes.is_blank_or_end classes.is_blank classes.is_break classes.is_nul
 marker_here true [] r h = no_marker 39 r refl refl

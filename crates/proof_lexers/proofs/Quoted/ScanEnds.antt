@@ -11,14 +11,14 @@ use Rattle.model_lexers.specs.declared.context.Context.{Context}
 use Rattle.model_lexers.specs.Machine.{Read, past}
 use Rattle.model_lexers.specs.Folding.{Folded, nothing, joined}
 use Rattle.model_lexers.specs.Quoted.{Mode, first, gap, quote_of, quoted}
-use Rattle.model_lexers.proofs.QuotedLemmas.{behind_gap}
-use Rattle.proof_lexers.specs.Buffers.{behind_elements}
+use Rattle.model_lexers.proofs.QuotedLemmas.{after_gap}
+use Rattle.proof_lexers.specs.Buffers.{after_elements}
 use Rattle.proof_lexers.specs.QuotedScan.{value_of, has_marker, ends_before, IsShallow, by_line, IsRead, read, shallow}
 use Rattle.proof_lexers.specs.QuotedScan as scans
 use Rattle.proof_lexers.specs.QuotedEnds.{HasElements, by_marker, by_end, by_escape, by_column, by_tab, EndsAs, reads, refuses}
 use Rattle.proof_lexers.specs.QuotedLaws.{QuotedScansEndAsTheirTextSays}
 use Rattle.proof_lexers.proofs.Fold.{buffers_join}
-use Rattle.proof_lexers.proofs.Quoted.Turns.{no_marker, off_margin, Ready, in_gap, behind_escaped, scan, Begun, begun, begins}
+use Rattle.proof_lexers.proofs.Quoted.Turns.{no_marker, off_margin, Ready, in_gap, after_escaped, scan, Begun, begun, begins}
 use Rattle.proof_lexers.proofs.Quoted.Turns as turns
 use Rattle.proof_lexers.proofs.Quoted.NoNul.{has_none, same_marks}
 use Rattle.proof_lexers.proofs.Quoted.Bodies.{marked_from, Passed, passed, met_marker, was_shallow, passes, quote_still, quote_feed, close, Opened, opened, not_opened, opens}
@@ -41,29 +41,29 @@ module _ (single : Bool) (ctx : Context) (start : Position) (text : List ℕ) wh
   marks : (body rest : List ℕ) (b : Bool) → marked_from (start.col + 1) body rest ≡ b → has_marker body rest ≡ b
   marks body rest b h = rw off at h
 
-  -- a body's elements, and what the text behind them is
+  -- a body's elements, and what the text after them is
   through : (body rest : List ℕ) (has : HasElements single body) → text ≡ body ++ rest → (x : Result (Read (List ℕ)) Fault)
-      → ((m : Mode) (q : Position) → Ready single (behind_elements has.0 nothing) m → has_marker body rest ≡ false → EndsAs single ctx start text (scan single ctx start rest m q (behind_elements has.0 nothing)))
-      → Passed single ctx start x body rest (start.col + 1) (behind_elements has.0 nothing) → EndsAs single ctx start text x
+      → ((m : Mode) (q : Position) → Ready single (after_elements has.0 nothing) m → has_marker body rest ≡ false → EndsAs single ctx start text (scan single ctx start rest m q (after_elements has.0 nothing)))
+      → Passed single ctx start x body rest (start.col + 1) (after_elements has.0 nothing) → EndsAs single ctx start text x
   through body rest has cut x goes (passed m q ready none e) = ends_on x _ e (goes m q ready (marks body rest false none))
   through body rest has cut x goes (met_marker meets e) = refuses (At problem.QuotedDocumentMarker start) (by_marker body rest cut has (marks body rest true meets)) e
   through body rest has cut x goes (was_shallow s) = is_shallow x s
 
   from_gap : (body rest : List ℕ) (has : HasElements single body) → text ≡ body ++ rest → (slice_index rest 0 == 10) ≡ false → is_document_marker rest ≡ false
-      → ((m : Mode) (q : Position) → Ready single (behind_elements has.0 nothing) m → has_marker body rest ≡ false → EndsAs single ctx start text (scan single ctx start rest m q (behind_elements has.0 nothing)))
+      → ((m : Mode) (q : Position) → Ready single (after_elements has.0 nothing) m → has_marker body rest ≡ false → EndsAs single ctx start text (scan single ctx start rest m q (after_elements has.0 nothing)))
       → EndsAs single ctx start text (scan single ctx start text gap (past start) nothing)
   from_gap body rest has cut no_feed still goes =
       through body rest has cut _ goes (rw cut (passes single ctx start 0 body rest no_feed still has.0 gap (past start) nothing has.1 in_gap))
 
   -- ---- a closing quote
 
-  value_here : (body rest : List ℕ) (has : HasElements single body) → has_marker body (quote_of single ∷ rest) ≡ false → value_of single body ≡ Some ((joined (behind_elements has.0 nothing)).text)
+  value_here : (body rest : List ℕ) (has : HasElements single body) → has_marker body (quote_of single ∷ rest) ≡ false → value_of single body ≡ Some ((joined (after_elements has.0 nothing)).text)
   value_here body rest has none =
       let unmarked = sym (same_marks single body rest (has_none single 0 body has.0 has.1)) ∙ none in
       value_is single body has.0 has.1 unmarked ∙ ap Some (sym (buffers_join has.0))
 
   closes : (body rest : List ℕ) (has : HasElements single body) → text ≡ body ++ quote_of single ∷ rest → ends_before single rest ≡ true → has_marker body (quote_of single ∷ rest) ≡ false
-      → (x : Result (Read (List ℕ)) Fault) → IsRead ctx start ((joined (behind_elements has.0 nothing)).text) rest x → EndsAs single ctx start text x
+      → (x : Result (Read (List ℕ)) Fault) → IsRead ctx start ((joined (after_elements has.0 nothing)).text) rest x → EndsAs single ctx start text x
   closes body rest has cut ends none x (read place e) = reads body rest _ place cut (value_here body rest has none) ends e
   closes body rest has cut ends none x (shallow s) = is_shallow x s
 
@@ -71,7 +71,7 @@ module _ (single : Bool) (ctx : Context) (start : Position) (text : List ℕ) wh
 
   at_end : (m : Mode) (q : Position) (t : Folded) → Ready single t m → HasElements single text → EndsAs single ctx start text (scan single ctx start [] m q t)
   at_end m q t in_gap has = refuses (At problem.QuotedEnd start) (by_end has) refl
-  at_end m q t (behind_escaped double e f) has = refuses (At problem.QuotedEnd start) (by_end has) refl
+  at_end m q t (after_escaped double e f) has = refuses (At problem.QuotedEnd start) (by_end has) refl
 
 no_mark : (x y : Bool) → y ≡ false → (x && y) ≡ true → ⊥
 no_mark true y e f = cc
@@ -91,22 +91,22 @@ module _ (ctx : Context) (start : Position) (text body rest : List ℕ) (cut : t
 
   at_escape : (m : Mode) (p : Position) (t : Folded) → Ready false t m → EndsAs false ctx start text (scan false ctx start (92 ∷ rest) m p t)
   at_escape m p t in_gap = in_line p t (solid p t)
-  at_escape m p t (behind_escaped double e f) = ends_on false ctx start text _ _ (behind_gap false ctx start 92 (92 ∷ rest) p t refl refl) (in_line p t (solid p t))
+  at_escape m p t (after_escaped double e f) = ends_on false ctx start text _ _ (after_gap false ctx start 92 (92 ∷ rest) p t refl refl) (in_line p t (solid p t))
 
 -- ---- every text
 
 by_shape : (single : Bool) (ctx : Context) (start : Position) (text : List ℕ) → Shape single text → EndsAs single ctx start text (scan single ctx start text gap (past start) nothing)
 by_shape single ctx start text (closed body rest cut has ends) =
     from_gap single ctx start text body (quote_of single ∷ rest) has cut (quote_feed single rest) (quote_still single rest)
-    (λ m q ready none. closes single ctx start text body rest has cut ends none _ (close single ctx start rest ends m q (behind_elements has.0 nothing) ready))
+    (λ m q ready none. closes single ctx start text body rest has cut ends none _ (close single ctx start rest ends m q (after_elements has.0 nothing) ready))
 by_shape single ctx start text (unclosed has) =
-    from_gap single ctx start text text [] has (sym (append-nil text)) refl refl (λ m q ready none. at_end single ctx start text m q (behind_elements has.0 nothing) ready has)
+    from_gap single ctx start text text [] has (sym (append-nil text)) refl refl (λ m q ready none. at_end single ctx start text m q (after_elements has.0 nothing) ready has)
 by_shape single ctx start text (badly_escaped body rest double cut has bad) = of_double single double has
   where
     of_double : (single : Bool) → single ≡ false → HasElements single body → EndsAs single ctx start text (scan single ctx start text gap (past start) nothing)
     of_double true e has = cc
     of_double false e has =
-        from_gap false ctx start text body (92 ∷ rest) has cut refl (no_marker 92 rest refl refl) (λ m q ready none. at_escape ctx start text body rest cut has bad m q (behind_elements has.0 nothing) ready)
+        from_gap false ctx start text body (92 ∷ rest) has cut refl (no_marker 92 rest refl refl) (λ m q ready none. at_escape ctx start text body rest cut has bad m q (after_elements has.0 nothing) ready)
 
 by_opening : (single : Bool) (ctx : Context) (start : Position) (text : List ℕ) → Shape single text → Opened single ctx start text (past start) → EndsAs single ctx start text (scan single ctx start text first (past start) nothing)
 by_opening single ctx start text shape (opened e) = ends_on single ctx start text _ _ e (by_shape single ctx start text shape)

@@ -1,4 +1,4 @@
--- Each text behind an opening quote is a body and its closing quote, or has none, or an escape in it is none.
+-- Each text after an opening quote is a body and its closing quote, or has none, or an escape in it is none.
 use Rattle.std.proofs.Common.{◌≡◌, ℕ, zero, suc, List, [], ◌∷◌, ◌++◌, Bool, true, false, ◌==◌, if◌then◌else◌, Option, Some, None, refl, ap, sym, ◌∙◌, take, drop, append_assoc}
 use Rattle.std.specs.List.{list_all}
 use Rattle.std.proofs.lemmas.Bool.{and_parts, eqb-true, not-true}
@@ -9,9 +9,9 @@ use Rattle.model_lexers.specs.Quoted.{quote_of}
 use Rattle.proof_lexers.specs.QuotedScan.{element_of, ends_before, is_some}
 use Rattle.proof_lexers.specs.QuotedEnds.{HasElements}
 use Rattle.proof_lexers.proofs.Quoted.Turns.{spelled}
-use Rattle.proof_lexers.proofs.Quoted.Local.{Local, LocalOf, local, behind_some, behind_own}
+use Rattle.proof_lexers.proofs.Quoted.Local.{Local, LocalOf, local, after_some, after_own}
 
--- a text behind an opening quote
+-- a text after an opening quote
 pub data Shape (single : Bool) (text : List ℕ) : Type 0 where
   closed : (body rest : List ℕ) → text ≡ body ++ quote_of single ∷ rest → HasElements single body → ends_before single rest ≡ true → Shape single text
   unclosed : HasElements single text → Shape single text
@@ -26,14 +26,14 @@ module _ (single : Bool) (c : ℕ) (b : List ℕ) (s : Spelled) (is : element_of
   cut : (body rest : List ℕ) → drop s.further b ≡ body ++ rest → c ∷ b ≡ before body ++ rest
   cut body rest e = ap (λ r. c ∷ r) (sym (take-append-drop s.further b) ∙ ap (λ r. take s.further b ++ r) e ∙ sym (append_assoc (take s.further b) body rest))
 
-  behind_taken : (body : List ℕ) → elements (element_of single) s.further (take s.further b ++ body) ≡ elements (element_of single) 0 body
-  behind_taken body = ap (λ n. elements (element_of single) n (take s.further b ++ body)) (sym own.fits) ∙ behind_own (element_of single) (take s.further b) body
+  after_taken : (body : List ℕ) → elements (element_of single) s.further (take s.further b ++ body) ≡ elements (element_of single) 0 body
+  after_taken body = ap (λ n. elements (element_of single) n (take s.further b ++ body)) (sym own.fits) ∙ after_own (element_of single) (take s.further b) body
 
   more : (body rest : List ℕ) → drop s.further b ≡ body ++ rest → HasElements single body → HasElements single (before body)
-  more body rest e (es, h) = (s.element ∷ es, rw (own.same body rest e, behind_taken body, h) refl)
+  more body rest e (es, h) = (s.element ∷ es, rw (own.same body rest e, after_taken body, h) refl)
 
   more_unclosed : HasElements single (drop s.further b) → HasElements single (c ∷ b)
-  more_unclosed (es, h) = (s.element ∷ es, rw (is, behind_some (element_of single) s.further b, h) refl)
+  more_unclosed (es, h) = (s.element ∷ es, rw (is, after_some (element_of single) s.further b, h) refl)
 
   grown : Shape single (drop s.further b) → Shape single (c ∷ b)
   grown (closed body rest e has ends) = closed (before body) rest (cut body (quote_of single ∷ rest) e) (more body (quote_of single ∷ rest) e has) ends

@@ -14,12 +14,12 @@ use Rattle.defs_scalar.specs.FlowScalar.{Element, content, blank, line_break, Sp
 use Rattle.model_lexers.specs.declared.context.Context.{Context}
 use Rattle.model_lexers.specs.Machine.{Read, past, past_break, at_marker}
 use Rattle.model_lexers.specs.Folding.{Folded, with_char, joined}
-use Rattle.model_lexers.specs.Quoted.{Mode, inside, gap, behind, quoted_from, quote_of, refused}
-use Rattle.proof_lexers.specs.Buffers.{behind_element}
+use Rattle.model_lexers.specs.Quoted.{Mode, inside, gap, after, quoted_from, quote_of, refused}
+use Rattle.proof_lexers.specs.Buffers.{after_element}
 use Rattle.proof_lexers.specs.QuotedScan.{is_some, has_marker, IsShallow, by_line, by_tab}
 use Rattle.proof_lexers.proofs.Bridges.{same_break, same_blank, same_marker, and_false}
 
--- behind so many characters of a line
+-- after so many characters of a line
 pub off_margin : (n k : ℕ) → (n + (k + 1) == 0) ≡ false
 off_margin n k = grind (arith, nat_tests)
 
@@ -47,12 +47,12 @@ white c h = record { dash = grind (arith, nat_tests); point = grind (arith, nat_
 abbrev pub plain : List ℕ → Folded
 plain text = record { text = text; gap = []; leading = false; escaped = false }
 
--- Where an element may begin: behind an escaped break a closing quote is not checked for its column.
+-- Where an element may begin: after an escaped break a closing quote is not checked for its column.
 pub data Ready (single : Bool) (t : Folded) : Mode → Type 0 where
   in_gap : Ready single t gap
-  behind_escaped : single ≡ false → t.gap ≡ [] → t.escaped ≡ true → Ready single t behind
+  after_escaped : single ≡ false → t.gap ≡ [] → t.escaped ≡ true → Ready single t after
 
--- an element, and how many characters behind its first one belong to it
+-- an element, and how many characters after its first one belong to it
 abbrev pub spelled : Element → ℕ → Spelled
 spelled e k = record { element = e; further = k }
 
@@ -100,11 +100,11 @@ module _ (single : Bool) (ctx : Context) (start : Position) where
       → Taken (scan (c ∷ a) inside p u) a p.col u c
   char_taken c a p u g e f = record { place = past p; more = 0; col_is = refl; is = rw (g, e, f) refl }
 
-  -- The scan at an element of a body, before the body's rest b and the text r behind it.
+  -- The scan at an element of a body, before the body's rest b and the text r after it.
   pub data Step (c : ℕ) (b r : List ℕ) (p : Position) (t : Folded) (s : Spelled) : Type 0 where
-    steps : (m : Mode) (q : Position) → Ready single (behind_element s.element t) m → list_all is_some (c ∷ b) ≡ list_all is_some (drop s.further b) → ((p.col == 0) && is_document_marker (c ∷ (b ++ r))) ≡ false
+    steps : (m : Mode) (q : Position) → Ready single (after_element s.element t) m → list_all is_some (c ∷ b) ≡ list_all is_some (drop s.further b) → ((p.col == 0) && is_document_marker (c ∷ (b ++ r))) ≡ false
         → has_marker (c ∷ b) r ≡ (((q.col == 0) && is_document_marker (drop s.further b ++ r)) || has_marker (drop s.further b) r)
-        → scan (c ∷ (b ++ r)) gap p t ≡ scan (drop s.further b ++ r) m q (behind_element s.element t) → Step c b r p t s
+        → scan (c ∷ (b ++ r)) gap p t ≡ scan (drop s.further b ++ r) m q (after_element s.element t) → Step c b r p t s
     is_marked : ((p.col == 0) && is_document_marker (c ∷ (b ++ r))) ≡ true → scan (c ∷ (b ++ r)) gap p t ≡ Err (At problem.QuotedDocumentMarker start) → Step c b r p t s
     is_shallow : IsShallow ctx start (scan (c ∷ (b ++ r)) gap p t) → Step c b r p t s
 

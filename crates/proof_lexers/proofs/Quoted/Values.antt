@@ -7,7 +7,7 @@ use Rattle.model_lexers.specs.declared.context.Context.{Context}
 use Rattle.model_lexers.specs.Machine.{Read, past}
 use Rattle.model_lexers.specs.Folding.{nothing, joined}
 use Rattle.model_lexers.specs.Quoted.{first, gap, quote_of, quoted}
-use Rattle.proof_lexers.specs.Buffers.{behind_elements}
+use Rattle.proof_lexers.specs.Buffers.{after_elements}
 use Rattle.proof_lexers.specs.QuotedScan.{element_of, value_of, has_marker, ends_before, by_line, by_tab, IsRead, read, shallow}
 use Rattle.proof_lexers.specs.QuotedLaws.{QuotedBodiesAreRead}
 use Rattle.proof_lexers.proofs.Fold.{buffers_join}
@@ -22,7 +22,7 @@ read_on ctx start text rest x y e (shallow (by_tab p h is)) = shallow (by_tab p 
 
 module _ (single : Bool) (ctx : Context) (body r : List ℕ) (es : List Element) (p : Position) (is : elements (element_of single) 0 body ≡ Some es) (ends : ends_before single r ≡ true) (none : has_marker body (quote_of single ∷ r) ≡ false) where
   abbrev text : List ℕ
-  text = (joined (behind_elements es nothing)).text
+  text = (joined (after_elements es nothing)).text
 
   off : (p.col + 1 == 0) ≡ false
   off = off_margin p.col 0
@@ -30,14 +30,14 @@ module _ (single : Bool) (ctx : Context) (body r : List ℕ) (es : List Element)
   no_margin : (x y : Bool) → x ≡ false → y ≡ false → ((x && false) || y) ≡ false
   no_margin x y e f = rw (e, f) refl
 
-  behind_body : Passed single ctx p (scan single ctx p (body ++ quote_of single ∷ r) gap (past p) nothing) body (quote_of single ∷ r) (p.col + 1) (behind_elements es nothing)
+  after_body : Passed single ctx p (scan single ctx p (body ++ quote_of single ∷ r) gap (past p) nothing) body (quote_of single ∷ r) (p.col + 1) (after_elements es nothing)
       → IsRead ctx p text r (scan single ctx p (body ++ quote_of single ∷ r) gap (past p) nothing)
-  behind_body (passed m q ready unmarked e) = read_on ctx p text r _ _ e (close single ctx p r ends m q (behind_elements es nothing) ready)
-  behind_body (met_marker meets e) = let no : false ≡ true = rw (off, none) at meets in cc
-  behind_body (was_shallow s) = shallow s
+  after_body (passed m q ready unmarked e) = read_on ctx p text r _ _ e (close single ctx p r ends m q (after_elements es nothing) ready)
+  after_body (met_marker meets e) = let no : false ≡ true = rw (off, none) at meets in cc
+  after_body (was_shallow s) = shallow s
 
   from_gap : IsRead ctx p text r (scan single ctx p (body ++ quote_of single ∷ r) gap (past p) nothing)
-  from_gap = behind_body (passes single ctx p 0 body (quote_of single ∷ r) (quote_feed single r) (quote_still single r) es gap (past p) nothing is in_gap)
+  from_gap = after_body (passes single ctx p 0 body (quote_of single ∷ r) (quote_feed single r) (quote_still single r) es gap (past p) nothing is in_gap)
 
   first_here : Opened single ctx p (body ++ quote_of single ∷ r) (past p) → IsRead ctx p text r (scan single ctx p (body ++ quote_of single ∷ r) first (past p) nothing)
   first_here (opened e) = read_on ctx p text r _ _ e from_gap

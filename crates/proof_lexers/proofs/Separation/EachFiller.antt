@@ -8,7 +8,7 @@ use Rattle.defs_token.specs.Filler.{is_filler, past_filler}
 use Rattle.model_scanner.specs.State.{State}
 use Rattle.model_scanner.specs.Space.{between, skip}
 use Rattle.proof_lexers.specs.PlainEnds.{has_no_nul}
-use Rattle.proof_lexers.specs.Fillers.{begins_filler, behind_filler, PassesAs, passes, refuses, IsPassed, passed, refused}
+use Rattle.proof_lexers.specs.Fillers.{begins_filler, after_filler, PassesAs, passes, refuses, IsPassed, passed, refused}
 use Rattle.proof_lexers.specs.ScalarLaws.{EachFillerIsPassed}
 use Rattle.proof_lexers.proofs.Separation.Fillers.{fillers_are_passed}
 
@@ -23,15 +23,15 @@ nothing_more true (c ∷ r) n h e = by (is_blank c) (is_break c) (is_nul c) (c =
     by false true false g h e n = cc
     by w false false g h e n = cc
 
--- what stands behind a filler, behind which none goes on
+-- what stands after a filler, after which none goes on
 rest_is : (in_comment : Bool) (f r : List ℕ) → has_no_nul r ≡ true → is_filler in_comment f r ≡ true → begins_filler r ≡ false → past_filler in_comment (f ++ r) ≡ r
 rest_is in_comment [] r n h e = nothing_more in_comment r n h e
 rest_is true (c ∷ f) r n h e = rest_is (not (is_break c)) f r n h e
 rest_is false (c ∷ f) r n h e = let q = and_parts (is_blank c || is_break c || (c == 35)) (is_filler (c == 35) f r) h in rw q.0 (rest_is (c == 35) f r n q.1 e)
 
-pub no_nul_behind : (a b : List ℕ) → has_no_nul (a ++ b) ≡ true → has_no_nul b ≡ true
-no_nul_behind [] b h = h
-no_nul_behind (c ∷ a) b h = no_nul_behind a b (and_parts (not (is_nul c)) (has_no_nul (a ++ b)) h).1
+pub no_nul_after : (a b : List ℕ) → has_no_nul (a ++ b) ≡ true → has_no_nul b ≡ true
+no_nul_after [] b h = h
+no_nul_after (c ∷ a) b h = no_nul_after a b (and_parts (not (is_nul c)) (has_no_nul (a ++ b)) h).1
 
 pub each_filler_is_passed : EachFillerIsPassed
 each_filler_is_passed s filler rest nul is ends = by (skip between (filler ++ rest) s) (fillers_are_passed s (filler ++ rest))
@@ -41,6 +41,6 @@ each_filler_is_passed s filler rest nul is ends = by (skip between (filler ++ re
     by x (passes leading f r cut fills stops e) =
         let here : has_no_nul (f ++ r) ≡ true = ap has_no_nul (sym cut) ∙ nul in
         let same_rest : r ≡ rest =
-        sym (rest_is false f r (no_nul_behind f r here) fills stops) ∙ ap (past_filler false) (sym cut) ∙ rest_is false filler rest (no_nul_behind filler rest nul) is ends in
+        sym (rest_is false f r (no_nul_after f r here) fills stops) ∙ ap (past_filler false) (sym cut) ∙ rest_is false filler rest (no_nul_after filler rest nul) is ends in
         let same_filler : f ≡ filler = append_cancel_right f filler rest (ap (λ k. f ++ k) (sym same_rest) ∙ sym cut) in
-        passed leading (e ∙ ap (λ k. Ok (behind_filler s leading f k)) same_rest ∙ ap (λ k. Ok (behind_filler s leading k rest)) same_filler)
+        passed leading (e ∙ ap (λ k. Ok (after_filler s leading f k)) same_rest ∙ ap (λ k. Ok (after_filler s leading k rest)) same_filler)

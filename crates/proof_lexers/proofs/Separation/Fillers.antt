@@ -18,7 +18,7 @@ use Rattle.model_scanner.specs.Space.{Gap, between, comment, tab_line, is_before
 use Rattle.proof_lexers.proofs.Bridges.{same_break, same_blank}
 use Rattle.proof_lexers.specs.PlainEnds.{is_white, has_break}
 use Rattle.proof_lexers.specs.ScalarLaws.{FillersArePassed}
-use Rattle.proof_lexers.specs.Fillers.{begins_filler, begins_token, behind_filler, is_left, PassesAs, passes, refuses}
+use Rattle.proof_lexers.specs.Fillers.{begins_filler, begins_token, after_filler, is_left, PassesAs, passes, refuses}
 use Rattle.proof_lexers.proofs.Plain.Turns.{same_feed, in_line_place, line_place, or_true}
 
 abbrev is_comment : Gap → Bool
@@ -31,7 +31,7 @@ is_tab_line _ = false
 
 -- from a place between tokens, in a comment, or in a line that begins with a TAB
 data Skips (m : Gap) (s : Held) (a : List ℕ) (x : Result State Fault) : Type 0 where
-  skips : (leading : Bool) (filler rest : List ℕ) → a ≡ filler ++ rest → is_filler (is_comment m) filler rest ≡ true → begins_filler rest ≡ false → x ≡ Ok (behind_filler s leading filler rest) → Skips m s a x
+  skips : (leading : Bool) (filler rest : List ℕ) → a ≡ filler ++ rest → is_filler (is_comment m) filler rest ≡ true → begins_filler rest ≡ false → x ≡ Ok (after_filler s leading filler rest) → Skips m s a x
   fails : (before blanks rest : List ℕ) → a ≡ before ++ 9 ∷ (blanks ++ rest) → is_filler (is_comment m) before (9 ∷ (blanks ++ rest)) ≡ true → is_left s (position_after s.place before (9 ∷ (blanks ++ rest))) ≡ true
       → is_blanks blanks ≡ true → begins_token rest ≡ true → x ≡ Err (At problem.TabInBlockIndentation (position_after s.place (before ++ 9 ∷ blanks) rest)) → Skips m s a x
   fails_here : (blanks rest : List ℕ) → is_tab_line m ≡ true → a ≡ blanks ++ rest → is_blanks blanks ≡ true → begins_token rest ≡ true → x ≡ Err (At problem.TabInBlockIndentation (position_after s.place blanks rest)) → Skips m s a x
@@ -59,17 +59,17 @@ no_break_at (c ∷ r) h = by (classes.is_blank c) (classes.is_break c) h
     by false true h = cc
     by false false h = refl
 
--- whether a key may begin, behind one character and the filler behind it
+-- whether a key may begin, after one character and the filler after it
 abbrev pub Allows : Held → ℕ → Bool → List ℕ → Type 0
 Allows s c allowed a = (filler rest : List ℕ) → a ≡ filler ++ rest → begins_break rest ≡ false → ((not (in_flow s) && has_break filler) || allowed) ≡ ((not (in_flow s) && has_break (c ∷ filler)) || s.key_allowed)
 
-same_behind : (s : Held) (rest : List ℕ) (leading : Bool) (p q : Position) (k l : Bool) → p ≡ q → k ≡ l
+same_after : (s : Held) (rest : List ℕ) (leading : Bool) (p q : Position) (k l : Bool) → p ≡ q → k ≡ l
     → ◌≡◌ {A = Result State Fault} (Ok (record { rest = rest; held = at s p leading k })) (Ok (record { rest = rest; held = at s q leading l }))
-same_behind s rest leading p q k l e f = rw (e, f) refl
+same_after s rest leading p q k l e f = rw (e, f) refl
 
 -- where nothing is passed
-pub stayed : (s : Held) (rest : List ℕ) → ◌≡◌ {A = Result State Fault} (Ok (record { rest = rest; held = s })) (Ok (behind_filler s s.leading [] rest))
-stayed s rest = same_behind s rest s.leading s.place s.place s.key_allowed ((not (in_flow s) && false) || s.key_allowed) refl (by (not (in_flow s)))
+pub stayed : (s : Held) (rest : List ℕ) → ◌≡◌ {A = Result State Fault} (Ok (record { rest = rest; held = s })) (Ok (after_filler s s.leading [] rest))
+stayed s rest = same_after s rest s.leading s.place s.place s.key_allowed ((not (in_flow s) && false) || s.key_allowed) refl (by (not (in_flow s)))
   where
     by : (b : Bool) → s.key_allowed ≡ ((b && false) || s.key_allowed)
     by true = refl
@@ -79,11 +79,11 @@ is_feed : (d : ℕ) → d ≡ 10 → classes.is_break d ≡ true
 unfolding classes.is_break
 is_feed d h = rw h refl
 
--- behind one character more
+-- after one character more
 pub passes_more : (s : Held) (c : ℕ) (a : List ℕ) (b k leading : Bool) (filler rest : List ℕ) (x : Result State Fault) → Allows s c k a → a ≡ filler ++ rest → begins_break rest ≡ false
-    → x ≡ Ok (behind_filler (at s (position_past s.place c a) b k) leading filler rest) → x ≡ Ok (behind_filler s leading (c ∷ filler) rest)
+    → x ≡ Ok (after_filler (at s (position_past s.place c a) b k) leading filler rest) → x ≡ Ok (after_filler s leading (c ∷ filler) rest)
 passes_more s c a b k leading filler rest x allows cut ends e =
-    e ∙ same_behind s rest leading _ _ _ _ (ap (λ r. position_after (position_past s.place c r) filler rest) cut) (allows filler rest cut ends)
+    e ∙ same_after s rest leading _ _ _ _ (ap (λ r. position_after (position_past s.place c r) filler rest) cut) (allows filler rest cut ends)
 
 -- One character more is passed.
 one_more : (m n : Gap) (s : Held) (c : ℕ) (a : List ℕ) (b k : Bool) (x : Result State Fault) → ((filler rest : List ℕ) → is_filler (is_comment n) filler rest ≡ true → is_filler (is_comment m) (c ∷ filler) rest ≡ true) → Allows s c k a
@@ -219,7 +219,7 @@ left_here s h =
     let i : suc s.place.col ≡ s.place.col + 1 = omega arith in
     rw (z.0, i) q.1
 
--- behind a TAB left of the innermost level
+-- after a TAB left of the innermost level
 tab_fails : (s : Held) (c : ℕ) (a blanks rest : List ℕ) → (c == 9) ≡ true → is_before_indent s ≡ true → a ≡ blanks ++ rest → is_blanks blanks ≡ true → begins_token rest ≡ true
     → skip between (c ∷ a) s ≡ Err (At problem.TabInBlockIndentation (position_after (position_past s.place c a) blanks rest)) → Skips between s (c ∷ a) (skip between (c ∷ a) s)
 tab_fails s c a blanks rest tab left cut are ends is =

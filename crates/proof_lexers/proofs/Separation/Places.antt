@@ -1,4 +1,4 @@
--- The place behind two texts, and behind a text of one line.
+-- The place after two texts, and after a text of one line.
 use Rattle.std.proofs.Common.{◌≡◌, ℕ, List, [], ◌∷◌, ◌++◌, Bool, true, false, not, length, refl, ap, sym, ◌∙◌, append_assoc}
 use Rattle.std.proofs.lemmas.Bool.{and_parts}
 use Rattle.defs_text.specs.Position.{Position}
@@ -10,7 +10,7 @@ use Rattle.proof_lexers.specs.NameEnds.{further}
 use Rattle.proof_lexers.proofs.Plain.Turns.{in_line_place}
 use Rattle.proof_lexers.proofs.Properties.Names.{one_further, none_further}
 
--- the place behind two texts
+-- the place after two texts
 pub place_append : (p : Position) (a b next : List ℕ) → position_after p (a ++ b) next ≡ position_after (position_after p a (b ++ next)) b next
 place_append p [] b next = refl
 place_append p (c ∷ a) b next = ap (λ r. position_after (position_past p c r) (a ++ b) next) (append_assoc a b next) ∙ place_append (position_past p c (a ++ (b ++ next))) a b next
@@ -19,7 +19,7 @@ not_true : (b : Bool) → not b ≡ true → b ≡ false
 not_true false h = refl
 not_true true h = cc
 
--- the place behind a text without a break
+-- the place after a text without a break
 pub place_in_line : (p : Position) (a next : List ℕ) → has_no_break a ≡ true → further (length a) p ≡ position_after p a next
 place_in_line p [] next h = none_further p
 place_in_line p (c ∷ a) next h =

@@ -14,11 +14,11 @@ use Rattle.defs_token.specs.Filler.{is_filler}
 use Rattle.model_lexers.specs.declared.context.SkipTabs.{SkipTabs}
 use Rattle.model_lexers.specs.declared.context.Whitespace.{Whitespace}
 use Rattle.model_lexers.specs.Machine.{Read, past, skip_while}
-use Rattle.model_lexers.specs.Space.{is_line, are_skipped, with_found, comment_behind, space_from, space}
+use Rattle.model_lexers.specs.Space.{is_line, are_skipped, with_found, comment_after, space_from, space}
 use Rattle.proof_lexers.proofs.Bridges.{same_break, same_blank}
 use Rattle.proof_lexers.specs.PlainEnds.{has_break}
 use Rattle.proof_lexers.specs.ScalarLaws.{SpacesArePassed}
-use Rattle.proof_lexers.specs.Fillers.{behind_space, has, are_spaces, ends_spaces, SpacesAs, spaces, glued}
+use Rattle.proof_lexers.specs.Fillers.{after_space, has, are_spaces, ends_spaces, SpacesAs, spaces, glued}
 use Rattle.proof_lexers.proofs.Plain.Turns.{in_line_place, or_true, or_false}
 use Rattle.proof_lexers.proofs.Separation.Fillers.{no_hash}
 
@@ -66,10 +66,10 @@ line_of (c ∷ a) p = by (is_break c) refl (line_of a (past p))
           is = rw e (z.is ∙ ap (λ q. record { rest = z.rest; place = position_after q z.line z.rest; value = tt }) place);
         }
 
--- from a place behind some blanks on
+-- from a place after some blanks on
 data Passes (tabs : SkipTabs) (w : Whitespace) (p : Position) (a : List ℕ) (x : Result (Read Whitespace) Fault) : Type 0 where
   passed : (blanks comment rest : List ℕ) → a ≡ blanks ++ (comment ++ rest) → are_spaces tabs blanks ≡ true → is_filler false (blanks ++ comment) rest ≡ true → has_break (blanks ++ comment) ≡ false → ends_spaces tabs rest ≡ true
-      → x ≡ Ok (behind_space p (blanks ++ comment) rest (record { found_tabs = w.found_tabs || has 9 blanks; has_valid_yaml_ws = w.has_valid_yaml_ws || has 32 blanks })) → Passes tabs w p a x
+      → x ≡ Ok (after_space p (blanks ++ comment) rest (record { found_tabs = w.found_tabs || has 9 blanks; has_valid_yaml_ws = w.has_valid_yaml_ws || has 32 blanks })) → Passes tabs w p a x
   stuck : begins_with 35 a ≡ true → (w.found_tabs || w.has_valid_yaml_ws) ≡ false → x ≡ Err (At problem.CommentNotSeparated p) → Passes tabs w p a x
 
 passes_on : (tabs : SkipTabs) (w : Whitespace) (p : Position) (a : List ℕ) (x y : Result (Read Whitespace) Fault) → x ≡ y → Passes tabs w p a y → Passes tabs w p a x
@@ -115,7 +115,7 @@ module _ (tabs : SkipTabs) where
   unfolding classes.is_break
   hash_place p l rest = ap (λ q. position_after q l rest) (sym (in_line_place 35 (l ++ rest) p refl))
 
-  comment_here : (a : List ℕ) (w : Whitespace) (p : Position) → Passes tabs w p (35 ∷ a) (comment_behind w (35 ∷ a) p)
+  comment_here : (a : List ℕ) (w : Whitespace) (p : Position) → Passes tabs w p (35 ∷ a) (comment_after w (35 ∷ a) p)
   unfolding is_break classes.is_break classes.is_blank
   comment_here a w p = by (w.found_tabs || w.has_valid_yaml_ws) refl (line_of a (past p))
     where
@@ -129,7 +129,7 @@ module _ (tabs : SkipTabs) where
   stop_here : (c : ℕ) (a : List ℕ) (w : Whitespace) (p : Position) (hash : Bool) → (c == 35) ≡ hash → (c == 32) ≡ false → ((c == 9) && are_skipped tabs) ≡ false → Passes tabs w p (c ∷ a) (space_from tabs (c ∷ a) (record { place = p; found = w }))
   stop_here c a w p true h e f =
       let same : c ≡ 35 = eqb-true c 35 h in
-      passes_on tabs w p (c ∷ a) _ (comment_behind w (c ∷ a) p) (rw (e, f, h) refl) (rw same (comment_here a w p))
+      passes_on tabs w p (c ∷ a) _ (comment_after w (c ∷ a) p) (rw (e, f, h) refl) (rw same (comment_here a w p))
   stop_here c a w p false h e f =
       passed [] [] (c ∷ a) refl refl refl refl (rw (e, f, h) refl) (rw (e, f, h) (same_space p p (c ∷ a) _ _ _ _ refl (sym (or_false w.found_tabs)) (sym (or_false w.has_valid_yaml_ws))))
 

@@ -1,4 +1,4 @@
--- What the model passes behind a `?` is a filler.
+-- What the model passes after a `?` is a filler.
 use Rattle.std.proofs.Common.{◌≡◌, ℕ, List, [], ◌∷◌, ◌++◌, Bool, true, false, ◌||◌, not, ◌==◌, Result, Ok, Err, refl, ap, sym, ◌∙◌}
 use Rattle.std.proofs.lemmas.Bool.{eqb-true}
 use Rattle.defs_text.specs.Position.{Position}
@@ -17,13 +17,13 @@ use Rattle.model_scanner.specs.Space.{white, white_end}
 use Rattle.proof_lexers.proofs.Bridges.{same_break}
 use Rattle.proof_lexers.specs.PlainEnds.{has_break}
 use Rattle.proof_lexers.specs.ScalarLaws.{WhiteSpaceIsPassed}
-use Rattle.proof_lexers.specs.Fillers.{begins_white_space, behind_filler, GoesOverAs, goes, misses}
+use Rattle.proof_lexers.specs.Fillers.{begins_white_space, after_filler, GoesOverAs, goes, misses}
 use Rattle.proof_lexers.proofs.Plain.Turns.{same_feed, in_line_place, line_place, or_true}
 use Rattle.proof_lexers.proofs.Separation.Fillers.{at, Allows, begins_break, stayed, passes_more, same_allowed, line_allowed, feed_allowed, no_break_hash, fills_comment, fills_hash, fills_blank}
 
--- from a place in a comment or not, behind a space or a break or not
+-- from a place in a comment or not, after a space or a break or not
 data Goes (in_comment found : Bool) (s : Held) (a : List ℕ) (x : Result State Fault) : Type 0 where
-  gone : (leading : Bool) (filler rest : List ℕ) → a ≡ filler ++ rest → is_filler in_comment filler rest ≡ true → begins_white_space rest ≡ false → x ≡ Ok (behind_filler s leading filler rest) → Goes in_comment found s a x
+  gone : (leading : Bool) (filler rest : List ℕ) → a ≡ filler ++ rest → is_filler in_comment filler rest ≡ true → begins_white_space rest ≡ false → x ≡ Ok (after_filler s leading filler rest) → Goes in_comment found s a x
   missed : (filler rest : List ℕ) → found ≡ false → a ≡ filler ++ rest → is_filler in_comment filler rest ≡ true → (in_comment || not (begins_with 32 a)) ≡ true → has_break filler ≡ false → begins_white_space rest ≡ false
       → x ≡ Err (At problem.WhitespaceExpected (position_after s.place filler rest)) → Goes in_comment found s a x
 

@@ -20,13 +20,13 @@ returns-in_ok-front-in-Some-clause-split c =
     record {
       front = chars front;
       whole = whole;
-      first = λ before behind.
-          none_before text front _ before behind (codes "\n---\n") found.0 c.utf8.text its_own_bytes (front_is_utf8 text front _ 10 c.utf8.text (omega arith) parts) whole
+      first = λ before after.
+          none_before text front _ before after (codes "\n---\n") found.0 c.utf8.text its_own_bytes (front_is_utf8 text front _ 10 c.utf8.text (omega arith) parts) whole
           found.6 found.2.0;
       read = c.in_ok-front-in-Some.ensures.reads;
     }
 
 pub returns-in-None-clause-whole : goal.returns-in-None-clause-whole
-returns-in-None-clause-whole c = λ before behind.
-    not_cut c.args.text.now before behind (codes "\n---\n") c.utf8.text its_own_bytes
+returns-in-None-clause-whole c = λ before after.
+    not_cut c.args.text.now before after (codes "\n---\n") c.utf8.text its_own_bytes
     (split_text_parts (codes "\n---\n") c.args.text.now None c.in-None.ensures.cases)

@@ -8,7 +8,7 @@ loop-free-preserved c =
     let at = c.loop-free.free in
     let test : c.args.rank < at = c.loop-free-test.true in
     record {
-      behind = omega arith;
+      after = omega arith;
       within = omega (arith, c.loop-free.invariant.within);
       slots = length-set c.loop-free.slots at _ ∙ c.loop-free.invariant.slots;
       moved = moved_down (take c.args.count c.args.slots.now) c.loop-free.slots c.args.count at _ c.args.place (omega arith) c.loop-free.invariant.within (length-take-le c.args.count c.args.slots.now (omega (arith, c.requires.room))) c.loop-free.invariant.moved;

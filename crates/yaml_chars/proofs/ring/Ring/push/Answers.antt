@@ -2,7 +2,7 @@ use Rattle.std.proofs.Common.{ℕ, List, [], ◌∷◌, ◌++◌, ◌<◌, lengt
 use Rattle.yaml_chars.proofs.QueueLemmas.{length-queue, queue_after_push}
 use Rattle.yaml_chars.proofs.ring.Ring.push.Goals as goal
 
--- the write is behind the last item, since the queue has room
+-- the write is after the last item, since the queue has room
 pub returns : goal.returns
 returns c =
     let q = c.self.inside in

@@ -2,7 +2,7 @@ use Rattle.std.proofs.Common.{◌≡◌, refl, sym, ◌∙◌, true, false, arit
 use Rattle.defs_event.specs.Event.{Ev}
 use Rattle.yaml_parser.specs.Shown.{ev_of}
 use Rattle.yaml_parser.specs.Parsed.{is_document_end}
-use Rattle.yaml_parser.proofs.LoadSteps.{goes_on, faults, refuses, behind_err, inside_run, last_run, inside_stops, end_is_not, no_end, stays_inside}
+use Rattle.yaml_parser.proofs.LoadSteps.{goes_on, faults, refuses, after_err, inside_run, last_run, inside_stops, end_is_not, no_end, stays_inside}
 use Rattle.yaml_parser.proofs.parser.Parser.load_document.Goals as goal
 
 pub events-smaller : goal.events-smaller
@@ -37,12 +37,12 @@ returns-then-last g c =
 
 pub returns-in_err-event-clause-reads : goal.returns-in_err-event-clause-reads
 returns-in_err-event-clause-reads g c = λ multi parser receiver h.
-    behind_err g.R.MarkedEventReceiver.takes multi parser receiver c.from_residual.result c.in_err-event.field-0.0 c.from_residual.ensures.1
+    after_err g.R.MarkedEventReceiver.takes multi parser receiver c.from_residual.result c.in_err-event.field-0.0 c.from_residual.ensures.1
     (faults g.R.MarkedEventReceiver.takes multi parser receiver c.in_err-event.field-0.0 (c.events.invariant.reads multi parser receiver h) refl c.in_err-event.ensures.pulls)
 
 pub returns-in_err-on_event-clause-reads : goal.returns-in_err-on_event-clause-reads
 returns-in_err-on_event-clause-reads g c = λ multi parser receiver h.
     let e : Ev = ev_of c.in_ok-event.event in
     let l = inside_stops e c.in_ok-event.mark multi in
-    behind_err g.R.MarkedEventReceiver.takes multi parser receiver c.from_residual-in_err-on_event.result c.in_err-on_event.field-0.0 c.from_residual-in_err-on_event.ensures.1
+    after_err g.R.MarkedEventReceiver.takes multi parser receiver c.from_residual-in_err-on_event.result c.in_err-on_event.field-0.0 c.from_residual-in_err-on_event.ensures.1
     (refuses g.R.MarkedEventReceiver.takes multi parser receiver e c.in_ok-event.mark c.in_err-on_event.field-0.0 l.0 (c.events.invariant.reads multi parser receiver h) l.1 l.2 l.3 c.in_ok-event.ensures.pulls c.in_err-on_event.ensures)

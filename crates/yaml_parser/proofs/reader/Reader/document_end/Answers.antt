@@ -2,7 +2,7 @@ use Rattle.std.proofs.Common.{◌≡◌, refl, false, true}
 use Rattle.model_parser.specs.Kinds.{ends_document}
 use Rattle.model_parser.specs.Goal as at
 use Rattle.model_parser.proofs.Document as turn
-use Rattle.yaml_parser.proofs.Arms.{gives, leaves, plain, stay, stay_push, push_behind, answers_err, either, as_kind, not_as}
+use Rattle.yaml_parser.proofs.Arms.{gives, leaves, plain, stay, stay_push, push_after, answers_err, either, as_kind, not_as}
 use Rattle.yaml_parser.proofs.Ends.{refuses}
 use Rattle.yaml_parser.specs.Blames.{fits}
 use Rattle.yaml_tokens.specs.declared.problem.Problem.TheVariants.{DirectiveWithoutDocumentEnd}
@@ -12,7 +12,7 @@ pub returns-in_err-next-clause-answers : goal.returns-in_err-next-clause-answers
 returns-in_err-next-clause-answers g c = λ names given h. answers_err c.peek.new.self given c.from_residual.result _ c.from_residual.ensures.1 (c.in_err-next.ensures.err at.after refl names given h)
 
 pub returns-in_ok-push-in-DocumentEnd-clause-answers : goal.returns-in_ok-push-in-DocumentEnd-clause-answers
-returns-in_ok-push-in-DocumentEnd-clause-answers g c = λ names given h. gives _ c.in_ok-next.ensures.peeked c.in-DocumentEnd.is refl (push_behind c.skip-mark.ensures.took c.in_ok-push-in-DocumentEnd.ensures.stayed) (turn.after_marked _) (plain refl refl refl refl) refl refl (c.in_ok-next.ensures.at at.after refl names given h)
+returns-in_ok-push-in-DocumentEnd-clause-answers g c = λ names given h. gives _ c.in_ok-next.ensures.peeked c.in-DocumentEnd.is refl (push_after c.skip-mark.ensures.took c.in_ok-push-in-DocumentEnd.ensures.stayed) (turn.after_marked _) (plain refl refl refl refl) refl refl (c.in_ok-next.ensures.at at.after refl names given h)
 
 pub returns-in-VersionDirective-clause-answers : goal.returns-in-VersionDirective-clause-answers
 returns-in-VersionDirective-clause-answers g c = λ names given h. refuses DirectiveWithoutDocumentEnd refl (either (λ k. fits DirectiveWithoutDocumentEnd k ≡ true) refl refl c.in-VersionDirective.is) c.mark.ensures c.in_ok-next.ensures.peeked (λ t e. turn.after_refuses _ t (as_kind ends_document (either (λ k. ends_document k ≡ false) refl refl c.in-VersionDirective.is) e)) (c.in_ok-next.ensures.at at.after refl names given h)

@@ -1,7 +1,7 @@
 use Rattle.std.proofs.Common.{refl, ap, ◌+◌, ◌∙◌}
 use Rattle.yaml_scanner.specs.Shape.{held}
 use Rattle.yaml_scanner.proofs.DoesLemmas.{exits, fails_in, fails_then, does_then}
-use Rattle.yaml_scanner.proofs.DispatchLemmas.{fails_from, fails_behind, fetched, space_refused, key_refused, here_refused, last_refused}
+use Rattle.yaml_scanner.proofs.DispatchLemmas.{fails_from, fails_after, fetched, space_refused, key_refused, here_refused, last_refused}
 use Rattle.yaml_scanner.proofs.fetcher.Fetcher.fetch_next.Goals as goal
 
 pub returns-in_err-skip_to_next_token-clause-fails : goal.returns-in_err-skip_to_next_token-clause-fails
@@ -19,7 +19,7 @@ returns-in_err-fetch_here-clause-fails g c = exits _ c.from_residual-in_err-fetc
 
 pub returns-in_err-drop_stale-2-clause-fails : goal.returns-in_err-drop_stale-2-clause-fails
 returns-in_err-drop_stale-2-clause-fails g c = exits _ c.from_residual-in_err-drop_stale-2.result _ c.from_residual-in_err-drop_stale-2.ensures.1
-    (fails_behind c.args.self.now c.skip_to_next_token.new.self c.unroll_indent.new.self c.fetch_here.new.self c.drop_stale-2.new.self _ (c.in_ok-unroll_indent.ensures.window ∙ c.in_ok-drop_stale.ensures.window) c.in_err-drop_stale-2.ensures.window c.in_ok-skip_to_next_token.ensures.does c.in_ok-fetch_here.ensures.does
+    (fails_after c.args.self.now c.skip_to_next_token.new.self c.unroll_indent.new.self c.fetch_here.new.self c.drop_stale-2.new.self _ (c.in_ok-unroll_indent.ensures.window ∙ c.in_ok-drop_stale.ensures.window) c.in_err-drop_stale-2.ensures.window c.in_ok-skip_to_next_token.ensures.does c.in_ok-fetch_here.ensures.does
     (λ a b d p q. last_refused a b d (held c.args.self.now) (held c.skip_to_next_token.new.self) (held c.drop_stale.new.self) (held c.unroll_indent.new.self) (held c.fetch_here.new.self) _ _ p c.in_ok-drop_stale.ensures.held (ap (λ n. n + 1) (c.col-limit.ensures.value ∙ ap (λ m. m.col) c.mark.ensures)) c.in_ok-unroll_indent.ensures.held q c.in_err-drop_stale-2.ensures.fault))
 
 pub returns-clause-does : goal.returns-clause-does

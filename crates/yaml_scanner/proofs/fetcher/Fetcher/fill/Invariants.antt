@@ -10,7 +10,7 @@ invariant-tokens g l = record {
   left : work l.self ≤ work l.fn.self;
   kept : l.self.kept ≡ None;
   follows : Follows l.self;
-  behind : l.fn.self.tokens.ended ≡ true → l.self ≡ l.fn.self;
+  after : l.fn.self.tokens.ended ≡ true → l.self ≡ l.fn.self;
 }
 
 abbrev pub decreases-tokens : goal.decreases-tokens

@@ -3,13 +3,13 @@ use Rattle.yaml_scanner.specs.Shape.{held}
 use Rattle.model_scanner.specs.Indents.{roll_one_col_indent}
 use Rattle.yaml_scanner.specs.Blocks.{entry_level}
 use Rattle.yaml_scanner.proofs.DoesLemmas.{Reads-map, Reads-along}
-use Rattle.yaml_scanner.proofs.BlockLemmas.{entry_here, entry_apart, looked, behind_look, before_look}
+use Rattle.yaml_scanner.proofs.BlockLemmas.{entry_here, entry_apart, looked, after_look, before_look}
 use Rattle.yaml_scanner.proofs.fetcher.Fetcher.roll_entry.Goals as goal
 
 pub returns-then-not-begins_apart-clause-does : goal.returns-then-not-begins_apart-clause-does
 returns-then-not-begins_apart-clause-does g c = record {
   runs = Reads-map _ _ c.look_ch-c.ensures.reads (λ a b p.
-      behind_look entry_level a b (held c.args.self.now) _ p.0 (looked c.args.self.now _ c.look_ch-c.ensures.place)
+      after_look entry_level a b (held c.args.self.now) _ p.0 (looked c.args.self.now _ c.look_ch-c.ensures.place)
       (entry_here b _ _ (held c.args.self.now) p.1 c.begins_apart.ensures c.if-not-begins_apart.true));
 }
 

@@ -3,7 +3,7 @@ use Rattle.yaml_chars.proofs.ReadingLemmas.{Reads-see}
 use Rattle.yaml_scanner.specs.Shape.{held}
 use Rattle.yaml_scanner.proofs.DoesLemmas.{exits, fails_in}
 use Rattle.yaml_scanner.proofs.FetchLemmas.{may_follow, may_not_follow, nothing_follows}
-use Rattle.yaml_scanner.proofs.fetcher.Fetcher.check_behind_quoted.Goals as goal
+use Rattle.yaml_scanner.proofs.fetcher.Fetcher.check_after_quoted.Goals as goal
 
 pub returns-in_err-pass_spaces-clause-fails : goal.returns-in_err-pass_spaces-clause-fails
 returns-in_err-pass_spaces-clause-fails g c = exits _ c.from_residual.result _ c.from_residual.ensures.1

@@ -1,7 +1,7 @@
 use Rattle.std.proofs.Common.{refl}
 use Rattle.model_parser.specs.Goal as at
 use Rattle.yaml_parser.proofs.Arms.{answers_err}
-use Rattle.yaml_parser.proofs.reader.Reader.content_behind.Goals as goal
+use Rattle.yaml_parser.proofs.reader.Reader.content_after.Goals as goal
 
 pub returns-in_err-next-clause-answers : goal.returns-in_err-next-clause-answers
 returns-in_err-next-clause-answers g c = λ o names given has h. answers_err c.peek.new.self given c.from_residual.result _ c.from_residual.ensures.1 (c.in_err-next.ensures.err (at.after_properties c.args.place o) refl names given h)
