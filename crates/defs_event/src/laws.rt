@@ -1,8 +1,6 @@
 //! Laws of the definitions, each the contract of an empty function.
 
-ghost use Rattle.defs_event.specs.Laws.{TokensAreDerivedInOneWay, StreamsHaveOneReading, NestingTestIsExact};
-ghost use Rattle.defs_event.specs.Laws.{StreamEventsAreNested, NestedEventsAreReadOneByOne};
-ghost use Rattle.defs_event.specs.Laws.{MultiLoadPushesAllEvents, LoadedTreesHaveNoAlias, LoadedTreesHaveDistinctKeys, LoadedIntegersHave64Bits};
+ghost use Rattle.defs_event.specs.Laws.{TokensAreDerivedInOneWay, StreamsHaveOneReading, NestingTestIsExact, StreamEventsAreNested, NestedEventsAreReadOneByOne, MultiLoadPushesAllEvents, LoadedTreesHaveNoAlias, LoadedTreesHaveDistinctKeys, LoadedIntegersHave64Bits};
 
 /// A list of tokens has at most one derivation by the token grammar.
 pub fn tokens_are_derived_in_one_way()

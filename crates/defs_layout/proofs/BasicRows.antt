@@ -5,7 +5,7 @@ use Rattle.std.specs.Fmt.{digits}
 use Rattle.defs_tree.specs.Tree.{Tree, Items, Pairs, items_of, pairs_of}
 use Rattle.defs_tree.specs.Quoting.{is_quoted, is_unfit_for_plain}
 use Rattle.defs_tree.specs.Typing.{typing, is_decimal}
-use Rattle.defs_tree.specs.Literal.{is_literal, is_root_literal, is_literal_character}
+use Rattle.defs_tree.specs.Literal.{is_literal_text, is_root_literal, is_literal_character}
 use Rattle.defs_tree.specs.Escapes.{written_character}
 use Rattle.defs_layout.specs.Gap.{GapLine, empty_line, comment_line, IsGap, is_line_character}
 use Rattle.defs_layout.specs.BlockLines.{full, blank}
@@ -49,7 +49,7 @@ long_text : IsBasicLayout
     ((Tree.array (items_of (Tree.integer (pos 1) ∷ Tree.integer (pos 2) ∷ [])), Tree.array (items_of (Tree.string (codes "x") ∷ Tree.string (codes "p\n\nq\n") ∷ [])))
     ∷ (Tree.string (codes "k"), Tree.hash (pairs_of ((Tree.string (codes "z"), Tree.hash Pairs.no_pairs) ∷ []))) ∷ [])))
     (codes "---\n# top\n\n   ? - 1\n     - 2\n# mid\n   :       - x\n           - |\n                 p\n\n                 q\n   k:\n# c\n     z: {}\n")
-unfolding is_quoted is_unfit_for_plain typing is_decimal is_literal is_literal_character is_line_character digits
+unfolding is_quoted is_unfit_for_plain typing is_decimal is_literal_text is_literal_character is_line_character digits
 long_text = (
   marked (record {
     gap = comment_line (codes " top") ∷ empty_line ∷ [];
@@ -75,7 +75,7 @@ scalars : IsBasicLayout
     (Tree.array (items_of (Tree.null ∷ Tree.boolean true ∷ Tree.integer (negsuc 6) ∷ Tree.real (codes "1e400")
     ∷ Tree.string (codes "a b") ∷ Tree.string (codes "a") ∷ Tree.string (codes "\t\"\n") ∷ [])))
     (codes "---\n- ~\n- true\n- -7\n- 1e400\n- a b\n-   \"a\"\n- \"\\t\\\"\\n\"")
-unfolding is_quoted is_unfit_for_plain typing is_decimal is_literal is_literal_character is_line_character digits written_character
+unfolding is_quoted is_unfit_for_plain typing is_decimal is_literal_text is_literal_character is_line_character digits written_character
 scalars = (
   plainly (array (entry (one (plain Tree.null)) [] (entry (one (plain (Tree.boolean true))) [] (entry (one (plain (Tree.integer (negsuc 6)))) []
       (entry (one (plain (Tree.real (codes "1e400")))) [] (entry (one (word (codes "a b"))) [] (entry (beside 2 (scalar (quoted (codes "a")))) []
@@ -90,7 +90,7 @@ scalars = (
 array_below_key : IsBasicLayout
     (Tree.hash (pairs_of ((Tree.string (codes "a"), Tree.array (items_of (Tree.integer (pos 1) ∷ Tree.integer (pos 2) ∷ []))) ∷ [])))
     (codes "---\na:\n# note\n     - 1\n\n     - 2\n")
-unfolding is_quoted is_unfit_for_plain typing is_decimal is_literal is_literal_character is_line_character digits
+unfolding is_quoted is_unfit_for_plain typing is_decimal is_literal_text is_literal_character is_line_character digits
 array_below_key = (
   marked (record {
     gap = [];
@@ -107,7 +107,7 @@ array_below_key = (
 literal_value : IsBasicLayout
     (Tree.hash (pairs_of ((Tree.string (codes "foo"), Tree.string (codes "bar!\nbar!")) ∷ (Tree.string (codes "baz"), Tree.integer (pos 42)) ∷ [])))
     (codes "---\nfoo: |-\n  bar!\n  bar!\nbaz: 42")
-unfolding is_quoted is_unfit_for_plain typing is_decimal is_literal is_literal_character is_line_character digits
+unfolding is_quoted is_unfit_for_plain typing is_decimal is_literal_text is_literal_character is_line_character digits
 literal_value = (
   plainly (hash (field (implicit (word (codes "foo")) (Value.literal 0 2 (codes "bar!\nbar!") (full (codes "bar!") ∷ full (codes "bar!") ∷ []))) []
       (last_field (implicit (word (codes "baz")) (one (integer 42)))))),
@@ -121,7 +121,7 @@ literal_value = (
 literal_with_empty_lines : IsBasicLayout
     (Tree.array (items_of (Tree.string (codes "\na\n\n\nb") ∷ [])))
     (codes "---\n- |-\n   \n   a\n\n  \n   b")
-unfolding is_quoted is_unfit_for_plain typing is_decimal is_literal is_literal_character is_line_character digits
+unfolding is_quoted is_unfit_for_plain typing is_decimal is_literal_text is_literal_character is_line_character digits
 literal_with_empty_lines = (
   plainly (array (last_entry (Value.literal 0 3 (codes "\na\n\n\nb") (blank 3 ∷ full (codes "a") ∷ blank 0 ∷ blank 2 ∷ full (codes "b") ∷ [])))),
   search arith,
@@ -134,7 +134,7 @@ literal_with_empty_lines = (
 compact_array : IsBasicLayout
     (Tree.array (items_of (Tree.array (items_of (Tree.integer (pos 1) ∷ Tree.integer (pos 2) ∷ [])) ∷ Tree.array Items.no_items ∷ [])))
     (codes "---\n- - 1\n  - 2\n- []")
-unfolding is_quoted is_unfit_for_plain typing is_decimal is_literal is_literal_character is_line_character digits
+unfolding is_quoted is_unfit_for_plain typing is_decimal is_literal_text is_literal_character is_line_character digits
 compact_array = (
   plainly (array (entry (compact 0 (array (entry (one (integer 1)) [] (last_entry (one (integer 2)))))) [] (last_entry (beside 0 empty_array)))),
   search arith,
@@ -146,7 +146,7 @@ compact_array = (
 spread_array : IsBasicLayout
     (Tree.array (items_of (Tree.array (items_of (Tree.integer (pos 1) ∷ Tree.integer (pos 2) ∷ [])) ∷ Tree.array Items.no_items ∷ [])))
     (codes "---\n-\n  - 1\n  - 2\n- []")
-unfolding is_quoted is_unfit_for_plain typing is_decimal is_literal is_literal_character is_line_character digits
+unfolding is_quoted is_unfit_for_plain typing is_decimal is_literal_text is_literal_character is_line_character digits
 spread_array = (
   plainly (array (entry (below no_comment [] 2 (array (entry (one (integer 1)) [] (last_entry (one (integer 2)))))) [] (last_entry (beside 0 empty_array)))),
   search arith,
@@ -163,7 +163,7 @@ hash_as_key : IsBasicLayout
       Tree.array (items_of (Tree.integer (pos 4) ∷ Tree.integer (pos 5) ∷ Tree.integer (pos 6) ∷ [])),
     ) ∷ [])))
     (codes "---\n? key:\n    - 1\n    - 2\n    - 3\n: - 4\n  - 5\n  - 6")
-unfolding is_quoted is_unfit_for_plain typing is_decimal is_literal is_literal_character is_line_character digits
+unfolding is_quoted is_unfit_for_plain typing is_decimal is_literal_text is_literal_character is_line_character digits
 hash_as_key = (
   plainly (hash (last_field (explicit
       (compact 0 (hash (last_field (implicit (word (codes "key"))
@@ -180,7 +180,7 @@ hash_as_key = (
 other_keys : IsBasicLayout
     (Tree.hash (pairs_of ((Tree.array Items.no_items, Tree.integer (pos 1)) ∷ (Tree.array (items_of (Tree.null ∷ [])), Tree.array (items_of (Tree.null ∷ []))) ∷ [])))
     (codes "---\n?  []\n: 1\n?\n - ~\n:\n  - ~")
-unfolding is_quoted is_unfit_for_plain typing is_decimal is_literal is_literal_character is_line_character digits
+unfolding is_quoted is_unfit_for_plain typing is_decimal is_literal_text is_literal_character is_line_character digits
 other_keys = (
   plainly (hash (field (explicit (beside 1 empty_array) [] (one (integer 1))) []
       (last_field (explicit (below no_comment [] 1 (array (last_entry (one (plain Tree.null))))) [] (below no_comment [] 2 (array (last_entry (one (plain Tree.null))))))))),
@@ -192,7 +192,7 @@ other_keys = (
 
 -- a root on one line, after a gap, with a comment at the end that no break ends
 scalar_root : IsBasicLayout (Tree.string (codes "a")) (codes "---\n\n#\na\n# end")
-unfolding is_quoted is_unfit_for_plain typing is_decimal is_literal is_literal_character is_line_character digits
+unfolding is_quoted is_unfit_for_plain typing is_decimal is_literal_text is_literal_character is_line_character digits
 scalar_root = (
   marked (record { gap = empty_line ∷ comment_line [] ∷ []; root = Root.inline (scalar (word (codes "a"))) }) (comment_line (codes " end") ∷ []),
   search,
@@ -203,7 +203,7 @@ scalar_root = (
 
 -- a literal block as root, and line feeds after it
 literal_root : IsBasicLayout (Tree.string (codes "a\n\n b\n")) (codes "---\n|\na\n\n b\n\n")
-unfolding is_quoted is_unfit_for_plain typing is_decimal is_literal is_literal_character is_line_character digits is_root_literal
+unfolding is_quoted is_unfit_for_plain typing is_decimal is_literal_text is_literal_character is_line_character digits is_root_literal
 literal_root = (
   marked (record { gap = []; root = Root.literal (codes "a\n\n b\n") (full (codes "a") ∷ blank 0 ∷ full (codes " b") ∷ []) }) (empty_line ∷ empty_line ∷ []),
   search (arith, true≢false),
@@ -237,19 +237,19 @@ literal_at_same_column h = let deeper : 1 < 1 = h.0 in omega arith
 
 -- a literal text that ends in two breaks, one that is breaks alone, one whose first line begins with a space, one without a break
 ends_in_two_breaks : ¬ IsValue 0 [] (Value.literal 0 2 (codes "a\n\n") (full (codes "a") ∷ blank 0 ∷ []))
-unfolding is_literal is_literal_character
+unfolding is_literal_text is_literal_character
 ends_in_two_breaks h = true≢false (sym h.1)
 
 breaks_alone : ¬ IsValue 0 [] (Value.literal 0 2 (codes "\n") (blank 0 ∷ []))
-unfolding is_literal is_literal_character
+unfolding is_literal_text is_literal_character
 breaks_alone h = true≢false (sym h.1)
 
 begins_with_space : ¬ IsValue 0 [] (Value.literal 0 2 (codes "\n a\nb") (blank 0 ∷ full (codes " a") ∷ full (codes "b") ∷ []))
-unfolding is_literal is_literal_character
+unfolding is_literal_text is_literal_character
 begins_with_space h = true≢false (sym h.1)
 
 without_break : ¬ IsValue 0 [] (Value.literal 0 2 (codes "a") (full (codes "a") ∷ []))
-unfolding is_literal is_literal_character
+unfolding is_literal_text is_literal_character
 without_break h = true≢false (sym h.1)
 
 -- an empty line with more spaces than the others have
@@ -258,11 +258,11 @@ deeper_empty_line h = let at_most : 3 ≤ 2 = h.2.1.1.0 in omega arith
 
 -- at the root, a first line that begins with a tab, a line that is a document marker, and a comment after the block
 root_begins_with_tab : ¬ IsRoot (Root.literal (codes "\ta\nb") (full (codes "\ta") ∷ full (codes "b") ∷ []))
-unfolding is_literal is_literal_character is_root_literal
+unfolding is_literal_text is_literal_character is_root_literal
 root_begins_with_tab h = true≢false (sym h.0)
 
 root_holds_marker : ¬ IsRoot (Root.literal (codes "a\n---\nb") (full (codes "a") ∷ full (codes "---") ∷ full (codes "b") ∷ []))
-unfolding is_literal is_literal_character is_root_literal
+unfolding is_literal_text is_literal_character is_root_literal
 root_holds_marker h = true≢false (sym h.0)
 
 comment_after_literal_root : ¬ AreDocuments (last_document (record { gap = []; root = Root.literal (codes "a\nb") (full (codes "a") ∷ full (codes "b") ∷ []) }) (comment_line [] ∷ []))

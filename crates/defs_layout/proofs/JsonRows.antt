@@ -2,7 +2,7 @@
 use Rattle.std.proofs.Common.{◌≡◌, refl, sym, ap, ◌∙◌, ℕ, zero, suc, ◌≤◌, List, [], ◌∷◌, true, false, arith, true≢false, replicate, ◌+◌, ◌++◌}
 use Rattle.std.specs.Prelude.{codes, map, pos, negsuc}
 use Rattle.defs_tree.specs.Tree.{Tree, Items, Pairs, items_of, pairs_of}
-use Rattle.defs_tree.specs.Grammar.{is_empty}
+use Rattle.defs_text.specs.Text.{is_empty}
 use Rattle.defs_layout.specs.JsonNumber.{number, no_fraction, fraction, no_sign, plus, minus, no_exponent, exponent, is_number, number_tree}
 use Rattle.defs_layout.specs.JsonString.{Piece, itself, short, unicode, Short, is_unescaped, are_pieces}
 use Rattle.defs_layout.specs.JsonGap.{Blank, space, tab, line_feed, carriage_return, spell_gap}

@@ -5,7 +5,7 @@ use Rattle.std.specs.Fmt.{digits}
 use Rattle.defs_tree.specs.Tree.{Tree, items_of, pairs_of}
 use Rattle.defs_tree.specs.Quoting.{is_quoted, is_unfit_for_plain}
 use Rattle.defs_tree.specs.Typing.{typing, is_decimal}
-use Rattle.defs_tree.specs.Literal.{is_literal, is_root_literal, is_literal_character}
+use Rattle.defs_tree.specs.Literal.{is_literal_text, is_root_literal, is_literal_character}
 use Rattle.defs_scalar.specs.BlockScalar.{row_of, is_empty_line, is_content_line}
 use Rattle.defs_text.specs.Classes.{is_blank}
 use Rattle.defs_layout.specs.Gap.{empty_line, comment_line, is_line_character}
@@ -149,7 +149,7 @@ documents = (
 
 -- a literal block at column 0, line feeds, and the next document, which is one in single quotes
 literal_and_document : AreLaidOut (Tree.string (codes "a\nb\n") ∷ Tree.string (codes "c") ∷ []) (codes "---\n|\na\nb\n\n---\n'c'\n")
-unfolding is_literal is_literal_character is_root_literal is_line_character
+unfolding is_literal_text is_literal_character is_root_literal is_line_character
 literal_and_document = (
   record {
     is_marked = true;
@@ -166,7 +166,7 @@ literal_and_document = (
 blocks_as_items : AreLaidOut
     (Tree.array (items_of (Tree.string (codes "a b\n  c\nd\n\te\nf\n") ∷ Tree.string (codes "p\nq\n") ∷ Tree.string (codes "p\nq\n") ∷ [])) ∷ [])
     (codes "---\n- >\n a\n b\n   c\n d\n \te\n f\n- &l1 |\n  p\n  q\n-  *l1")
-unfolding is_literal is_literal_character is_line_character row_of is_empty_line is_content_line is_blank
+unfolding is_literal_text is_literal_character is_line_character row_of is_empty_line is_content_line is_blank
 blocks_as_items = (
   alone (array
       (entry (folded 0 1 false (codes "a b\n  c\nd\n\te\nf\n")
@@ -180,7 +180,7 @@ blocks_as_items = (
 
 -- a folded block, a gap after it, and further text
 folded_before_gap : AreLaidOut (Tree.array (items_of (Tree.string (codes "a") ∷ Tree.string (codes "b") ∷ [])) ∷ []) (codes "---\n- >-\n a\n\n# c\n- b")
-unfolding is_literal is_literal_character is_line_character row_of is_empty_line is_content_line is_blank is_quoted is_unfit_for_plain typing is_decimal
+unfolding is_literal_text is_literal_character is_line_character row_of is_empty_line is_content_line is_blank is_quoted is_unfit_for_plain typing is_decimal
 folded_before_gap = (
   alone (array
       (entry (folded 0 1 true (codes "a") (full (codes "a") ∷ [])) (empty_line ∷ comment_line (codes " c") ∷ [])

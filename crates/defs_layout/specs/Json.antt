@@ -119,8 +119,8 @@ abbrev mutual
   member_levels (member k g h v a b ms) = max (levels v) (member_levels ms)
 
 -- white space after another character
-abbrev pub IsGap : List Blank → Type 0
-IsGap g = TabsBeginLines false g
+abbrev pub IsJsonGap : List Blank → Type 0
+IsJsonGap g = TabsBeginLines false g
 
 abbrev mutual
   -- a value
@@ -130,27 +130,27 @@ abbrev mutual
   IsJson true_word = Unit {0}
   IsJson (number n) = is_number n ≡ true
   IsJson (string ps) = are_pieces ps ≡ true
-  IsJson (empty_array g) = IsGap g
-  IsJson (array g es) = IsGap g × AreElements es
-  IsJson (empty_object g) = IsGap g
+  IsJson (empty_array g) = IsJsonGap g
+  IsJson (array g es) = IsJsonGap g × AreElements es
+  IsJson (empty_object g) = IsJsonGap g
   -- no key of an object stands in it twice, when it is unescaped
-  IsJson (object g ms) = IsGap g × AreMembers ms × AreDistinct (pair_list ms)
+  IsJson (object g ms) = IsJsonGap g × AreMembers ms × AreDistinct (pair_list ms)
 
   -- the values of an array
   pub AreElements : Elements → Type 0
-  AreElements (last_element v a) = IsJson v × IsGap a
-  AreElements (element v a b es) = IsJson v × IsGap a × IsGap b × AreElements es
+  AreElements (last_element v a) = IsJson v × IsJsonGap a
+  AreElements (element v a b es) = IsJson v × IsJsonGap a × IsJsonGap b × AreElements es
 
   -- the members of an object
   pub AreMembers : Members → Type 0
-  AreMembers (last_member k g h v a) = (are_pieces k ≡ true) × IsGap g × IsGap h × IsJson v × IsGap a
-  AreMembers (member k g h v a b ms) = (are_pieces k ≡ true) × IsGap g × IsGap h × IsJson v × IsGap a × IsGap b × AreMembers ms
+  AreMembers (last_member k g h v a) = (are_pieces k ≡ true) × IsJsonGap g × IsJsonGap h × IsJson v × IsJsonGap a
+  AreMembers (member k g h v a b ms) = (are_pieces k ≡ true) × IsJsonGap g × IsJsonGap h × IsJson v × IsJsonGap a × IsJsonGap b × AreMembers ms
 
 -- what makes a written text one of the class
 pub record IsWellFormed (t : JsonText) : Type 0 where
   pub before : TabsBeginLines true t.before
   pub value : IsJson t.value
-  pub after : IsGap t.after
+  pub after : IsJsonGap t.after
   pub depth : levels t.value ≤ 255
 
 -- the text is JSON, and stands for the tree

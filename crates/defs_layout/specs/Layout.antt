@@ -12,7 +12,7 @@ use Rattle.defs_tree.specs.Quoting.{is_quoted}
 use Rattle.defs_tree.specs.Escapes.{double_quoted}
 use Rattle.defs_tree.specs.Spelling.{spelling}
 use Rattle.defs_tree.specs.Lines.{lines_of}
-use Rattle.defs_tree.specs.Literal.{is_literal, is_root_literal, literal_header}
+use Rattle.defs_tree.specs.Literal.{is_literal_text, is_root_literal, literal_header}
 use Rattle.defs_scalar.specs.BlockScalar.{BlockStyle, Chomping, Header, Body, Ending, block_value}
 use Rattle.defs_layout.specs.Marks.{ampersand, asterisk, carriage_return, colon, dash, line_feed, number_sign, question_mark, single_quote, space, tab}
 use Rattle.defs_layout.specs.Gap.{spaces, GapLine, spell_gap, next_line, spell_ending, IsLineText, IsGap, AreEmptyLines}
@@ -421,7 +421,7 @@ abbrev mutual
   -- Below a mark at the column c, what is nested stands at a deeper column; a are the anchors before.
   pub IsValue : (c : ℕ) → List Anchor → Value → Type 0
   IsValue c a (beside more i after) = IsInline i × IsComment after
-  IsValue c a (literal more column text ls) = (c < column) × (is_literal text ≡ true) × AreLinesOf text column ls
+  IsValue c a (literal more column text ls) = (c < column) × (is_literal_text text ≡ true) × AreLinesOf text column ls
   IsValue c a (folded more column strips text ls) = (c < column) × AreFoldedLines c column strips text ls
   IsValue c a (json more v) = IsJsonOnOneLine v
   IsValue c a (compact more b) = IsBlock (c + 2 + more) a b

@@ -7,7 +7,7 @@ use Rattle.defs_token.specs.Cut.{Written, IsRow, IsWritten, tokens_of, spelled, 
 -- the text of two rows
 pub spelled_append : (ws vs : List Written) (f : List ℕ) → spelled (ws ++ vs) f ≡ spelled ws (spelled vs f)
 spelled_append [] vs f = refl
-spelled_append (w ∷ ws) vs f = ap (λ t. w.filler ++ (w.piece ++ t)) (spelled_append ws vs f)
+spelled_append (w ∷ ws) vs f = ap (λ t. w.separation ++ (w.piece ++ t)) (spelled_append ws vs f)
 
 -- the tokens of two rows
 pub tokens_append : (ws vs : List Written) → tokens_of (ws ++ vs) ≡ tokens_of ws ++ tokens_of vs

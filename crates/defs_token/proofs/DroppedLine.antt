@@ -7,7 +7,7 @@ use Rattle.defs_scalar.specs.FlowScalar.{plain_element, begins_with_marker, plai
 use Rattle.defs_text.specs.Position.{Position}
 use Rattle.defs_token.specs.Token.{Tok, Token, stream_end, scalar, plain}
 use Rattle.defs_text.specs.Text.{up_to_end}
-use Rattle.defs_token.specs.Filler.{is_filler}
+use Rattle.defs_token.specs.Separation.{is_separation}
 use Rattle.defs_token.specs.Plain.{is_whole_plain}
 use Rattle.defs_token.specs.Account.{Account, first_account, blocks_at, innermost_column}
 use Rattle.defs_token.specs.Piece.{Holds, IsPiece}
@@ -65,11 +65,11 @@ abbrev pub head : List ℕ → ℕ
 head [] = 0
 head (c ∷ r) = c
 
--- no filler begins the text
-no_filler : (c : ℕ) (g n : List ℕ) → c ∷ (g ++ n) ≡ text → Holds (is_filler false (c ∷ g) n) → ⊥
+-- no separation begins the text
+no_separation : (c : ℕ) (g n : List ℕ) → c ∷ (g ++ n) ≡ text → Holds (is_separation false (c ∷ g) n) → ⊥
 unfolding is_blank is_break
-no_filler c g n e h =
-    let P : ℕ → Type 0 = λ x. Holds ((is_blank x || is_break x || (x == 35)) && is_filler (x == 35) g n) in
+no_separation c g n e h =
+    let P : ℕ → Type 0 = λ x. Holds ((is_blank x || is_break x || (x == 35)) && is_separation (x == 35) g n) in
     let k : Holds false = subst P (ap head e) h in cc k
 
 no_collection : (k : ℕ) (p : List ℕ) → blocks_at [] k p ≡ []
@@ -77,10 +77,10 @@ no_collection k [] = refl
 no_collection k (c ∷ r) = refl
 
 -- a row of one token that is the first line alone
-no_row : (g p f : List ℕ) (k : Token) (following : Option Tok) → k.tok ≡ scalar plain (codes "a") → g ++ (p ++ f) ≡ text → IsWritten first_account (record { filler = g; piece = p; token = k }) f following → ⊥
-no_row (c ∷ g) p f k following t e w = no_filler c g (p ++ f) e w.0
+no_row : (g p f : List ℕ) (k : Token) (following : Option Tok) → k.tok ≡ scalar plain (codes "a") → g ++ (p ++ f) ≡ text → IsWritten first_account (record { separation = g; piece = p; token = k }) f following → ⊥
+no_row (c ∷ g) p f k following t e w = no_separation c g (p ++ f) e w.0
 no_row [] p f k following t e w =
-    let a : Account = account_at first_account (record { filler = []; piece = p; token = k }) f in
+    let a : Account = account_at first_account (record { separation = []; piece = p; token = k }) f in
     let P : Tok → Type 0 = λ x. IsPiece a p f following (k.place) x in
     let h : P (scalar plain (codes "a")) = subst P t w.1 in
     let Q : Option ℕ → Type 0 = λ b. Holds (is_whole_plain false b p f) in
@@ -95,9 +95,9 @@ not_alone (u ∷ us) a b c e = cc e
 no_rows : (ws : List Written) (f : List ℕ) (end : Token) (p : Position) (last : Token) →
     tokens_of ws ++ (end ∷ []) ≡ first_line p ∷ (last ∷ []) → spelled ws f ≡ text → IsRow first_account ws f (Some stream_end) → ⊥
 no_rows [] f end p last e t r = cc e
-no_rows (w ∷ []) f end p last e t r = no_row w.filler w.piece f w.token (Some stream_end) (ap first_tok e) t r.0
+no_rows (w ∷ []) f end p last e t r = no_row w.separation w.piece f w.token (Some stream_end) (ap first_tok e) t r.0
 no_rows (w ∷ (v ∷ vs)) f end p last e t r = not_alone (tokens_of vs) v.token end last (ap rest_of e)
 
 -- the first line of a plain scalar of two lines, its second dropped, is no cut
 pub second_line_dropped : (begin p end : Position) → IsCut (start_token begin ∷ (first_line p ∷ (end_token end ∷ []))) text → ⊥
-second_line_dropped begin p end c = no_rows c.row c.filler (end_token c.end) p (end_token end) (ap rest_of (sym c.are_tokens)) (c.is_text ∙ whole_text) c.is_row
+second_line_dropped begin p end c = no_rows c.row c.separation (end_token c.end) p (end_token end) (ap rest_of (sym c.are_tokens)) (c.is_text ∙ whole_text) c.is_row

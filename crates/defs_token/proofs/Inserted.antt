@@ -1,23 +1,23 @@
--- A simple key is known to be one only at its colon: what a row stays when its key, and the start of its mapping, come before it late.
+-- A implicit key is known to be one only at its colon: what a row stays when its key, and the start of its mapping, come before it late.
 use Rattle.std.proofs.Common.{◌≡◌, ℕ, List, [], ◌∷◌, ◌++◌, Bool, true, false, not, ◌&&◌, ◌||◌, if◌then◌else◌, Option, Some, None, sym, ap, subst, ◌∙◌, inr, refl}
 use Rattle.defs_text.specs.Classes.{is_blank, is_break}
 use Rattle.defs_text.specs.Position.{Position}
 use Rattle.defs_token.specs.Token.{Tok, Token, stream_start, stream_end, version_directive, tag_directive, document_start, document_end, block_sequence_start, block_mapping_start, block_end, flow_sequence_start, flow_sequence_end, flow_mapping_start, flow_mapping_end, block_entry, flow_entry, key, value, alias, anchor, tag, scalar, plain, single_quoted, double_quoted, literal, folded}
 use Rattle.defs_text.specs.Breaks.{has_no_break}
 use Rattle.defs_token.specs.Plain.{Stand, inside, after_blank, on_line, past, past_blank, ends_plain, goes_on, stops, ends_with_content, is_whole_plain}
-use Rattle.defs_token.specs.Account.{Account, Before, quoted, collection, other, before_past, is_in_flow, collection_column, blocks_at, blocks_past, account_past_filler, account_past_token}
+use Rattle.defs_token.specs.Account.{Account, Before, quoted, collection, other, before_past, is_in_flow, collection_column, blocks_at, blocks_past, account_past_separation, account_past_token}
 use Rattle.defs_token.specs.Piece.{IsPiece, Holds, begins_node}
 use Rattle.defs_token.specs.Cut.{Written, IsRow, spelled, first_token, account_at, account_past}
 
 -- ---- a key without a piece before a node
 
--- the token without the filler before it
+-- the token without the separation before it
 abbrev pub bare : Written → Written
-bare w = record { filler = []; piece = w.piece; token = w.token }
+bare w = record { separation = []; piece = w.piece; token = w.token }
 
--- a token without a piece, after a filler
-abbrev pub empty_token : (filler : List ℕ) → Token → Written
-empty_token g t = record { filler = g; piece = []; token = t }
+-- a token without a piece, after a separation
+abbrev pub empty_token : (separation : List ℕ) → Token → Written
+empty_token g t = record { separation = g; piece = []; token = t }
 
 before_again : (b : Before) → before_past b [] ≡ b
 before_again quoted = refl
@@ -29,16 +29,16 @@ abbrev pub key_at : Position → Token
 key_at p = record { place = p; tok = key }
 
 same_account : (a : Account) (w : Written) (p : Position) (next : List ℕ) →
-    account_at (account_past a (empty_token w.filler (key_at p)) (w.piece ++ next)) (bare w) next ≡ account_at a w next
-same_account a w p next = ap (λ b. record (account_at a w next) { before = b }) (before_again (before_past a.before w.filler))
+    account_at (account_past a (empty_token w.separation (key_at p)) (w.piece ++ next)) (bare w) next ≡ account_at a w next
+same_account a w p next = ap (λ b. record (account_at a w next) { before = b }) (before_again (before_past a.before w.separation))
 
 -- A key may be put before a token that begins a node.
 pub key_inserted : (a : Account) (w : Written) (ws : List Written) (f : List ℕ) (last : Option Tok) (p : Position) →
     begins_node (Some (w.token.tok)) ≡ true → IsRow a (w ∷ ws) f last →
-    IsRow a (empty_token w.filler (key_at p) ∷ bare w ∷ ws) f last
+    IsRow a (empty_token w.separation (key_at p) ∷ bare w ∷ ws) f last
 key_inserted a w ws f last p n r =
     let next : List ℕ = spelled ws f in
-    let e : account_at a w next ≡ account_at (account_past a (empty_token w.filler (key_at p)) (w.piece ++ next)) (bare w) next = sym (same_account a w p next) in
+    let e : account_at a w next ≡ account_at (account_past a (empty_token w.separation (key_at p)) (w.piece ++ next)) (bare w) next = sym (same_account a w p next) in
     let P : Account → Type 0 = λ b. IsPiece b w.piece next (first_token ws last) (w.token.place) (w.token.tok) in
     let Q : Account → Type 0 = λ b. IsRow (account_past_token b w.piece next (w.token.tok)) ws f last in
     ((r.0.0, inr (refl, n)), ((refl, subst P e r.0.1), subst Q e r.1))
@@ -105,7 +105,7 @@ whole_alike fl c d (x ∷ r) n h i =
     ap (λ g. g && ends_with_content x r && stops fl c inside n) (goes_on_alike fl c d inside r n b.1 tt) ∙
     ap (λ g. goes_on fl d inside r n && ends_with_content x r && g) (stops_alike fl c d inside n i tt)
 
--- whether a token may belong to a simple key
+-- whether a token may belong to a implicit key
 abbrev pub is_of_key : Tok → Bool
 is_of_key (alias n) = true
 is_of_key (anchor n) = true
@@ -126,7 +126,7 @@ is_of_key _ = false
 abbrev pub with_blocks : List (Option ℕ) → Account → Account
 with_blocks bs a = record a { blocks = bs }
 
--- a piece of a simple key belongs to its token whatever block collections are open
+-- a piece of a implicit key belongs to its token whatever block collections are open
 pub piece_with_blocks : (bs : List (Option ℕ)) (a : Account) (p n : List ℕ) (o : Option Tok) (at : Position) (t : Tok) →
     is_of_key t ≡ true → has_no_break p ≡ true → is_in_line n ≡ true → IsPiece a p n o at t → IsPiece (with_blocks bs a) p n o at t
 piece_with_blocks bs a p n o at (alias x) k h i q = q
@@ -159,9 +159,9 @@ piece_with_blocks bs a p n o at block_entry k h i q = absurd (cc k)
 piece_with_blocks bs a p n o at (scalar literal x) k h i q = absurd (cc k)
 piece_with_blocks bs a p n o at (scalar folded x) k h i q = absurd (cc k)
 
--- ---- a mapping's start before a simple key
+-- ---- a mapping's start before a implicit key
 
--- whether the tokens of a row may belong to a simple key, and stand on one line with what follows
+-- whether the tokens of a row may belong to a implicit key, and stand on one line with what follows
 abbrev pub AreOnLine : List Written → (after : List ℕ) → Type 0
 AreOnLine [] f = Unit {0}
 AreOnLine (w ∷ ws) f = (is_of_key (w.token.tok) ≡ true) × (has_no_break w.piece ≡ true) × (is_in_line (spelled ws f) ≡ true) × AreOnLine ws f
@@ -178,13 +178,13 @@ row_with_blocks bs a (w ∷ ws) f last k r =
       row_with_blocks (blocks_past own (w.token.tok)) (account_past a w next) ws f last k.3 r.1,
     )
 
--- a row without its first filler, after that filler
+-- a row without its first separation, after that separation
 pub bare_row : (a : Account) (w : Written) (ws : List Written) (f : List ℕ) (last : Option Tok) →
-    IsRow a (w ∷ ws) f last → IsRow (account_past_filler a w.filler (w.piece ++ spelled ws f)) (bare w ∷ ws) f last
+    IsRow a (w ∷ ws) f last → IsRow (account_past_separation a w.separation (w.piece ++ spelled ws f)) (bare w ∷ ws) f last
 bare_row a w ws f last r =
     let next : List ℕ = spelled ws f in
-    let after : Account = account_past_filler a w.filler (w.piece ++ next) in
-    let e : account_at a w next ≡ account_at after (bare w) next = ap (λ b. record (account_at a w next) { before = b }) (sym (before_again (before_past a.before w.filler))) in
+    let after : Account = account_past_separation a w.separation (w.piece ++ next) in
+    let e : account_at a w next ≡ account_at after (bare w) next = ap (λ b. record (account_at a w next) { before = b }) (sym (before_again (before_past a.before w.separation))) in
     let P : Account → Type 0 = λ b. IsPiece b w.piece next (first_token ws last) (w.token.place) (w.token.tok) in
     let Q : Account → Type 0 = λ b. IsRow (account_past_token b w.piece next (w.token.tok)) ws f last in
     ((refl, subst P e r.0.1), subst Q e r.1)
@@ -196,7 +196,7 @@ mapping_at p = record { place = p; tok = block_mapping_start }
 -- Outside flow the start of a block mapping and its key may be put before a node on one line.
 pub mapping_inserted : (a : Account) (w : Written) (ws : List Written) (f : List ℕ) (last : Option Tok) (p q : Position) →
     is_in_flow a ≡ false → begins_node (Some (w.token.tok)) ≡ true → AreOnLine (w ∷ ws) f → IsRow a (w ∷ ws) f last →
-    IsRow a (empty_token w.filler (mapping_at p) ∷ empty_token [] (key_at q) ∷ bare w ∷ ws) f last
+    IsRow a (empty_token w.separation (mapping_at p) ∷ empty_token [] (key_at q) ∷ bare w ∷ ws) f last
 mapping_inserted a w ws f last p q o n k r =
-    let after : Account = account_past_filler a w.filler (w.piece ++ spelled ws f) in
+    let after : Account = account_past_separation a w.separation (w.piece ++ spelled ws f) in
     ((r.0.0, (refl, o)), key_inserted (with_blocks (None ∷ a.blocks) after) (bare w) ws f last q n (row_with_blocks (None ∷ a.blocks) after (bare w ∷ ws) f last k (bare_row a w ws f last r)))

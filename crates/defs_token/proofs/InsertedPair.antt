@@ -1,4 +1,4 @@
--- What a row stays when the start of a pair without braces, and its key, come before it late.
+-- What a row stays when the start of a single-pair mapping, and its key, come before it late.
 use Rattle.std.proofs.Common.{◌≡◌, ℕ, suc, List, [], ◌∷◌, ◌++◌, Bool, true, false, ◌&&◌, ◌||◌, ◌==◌, not, if◌then◌else◌, length, nat_lt, Option, Some, None, sym, ap, subst, ◌∙◌, inl, inr, refl}
 use Rattle.std.specs.Prelude.{codes}
 use Rattle.std.proofs.lemmas.Bool.{eqb-true}
@@ -6,9 +6,9 @@ use Rattle.defs_text.specs.Classes.{is_one_of, is_blank, is_break, is_nul, is_bl
 use Rattle.defs_scalar.specs.Tags.{Tag, written_tag, after_mark}
 use Rattle.defs_text.specs.Position.{Position}
 use Rattle.defs_token.specs.Token.{Tok, Token, flow_sequence_start, flow_sequence_end, flow_mapping_start, flow_mapping_end, flow_entry, key, value, alias, anchor, tag, scalar, plain, single_quoted, double_quoted}
-use Rattle.defs_token.specs.Filler.{past_filler}
+use Rattle.defs_token.specs.Separation.{past_separation}
 use Rattle.defs_token.specs.Plain.{begins_flow, is_value_indicator, may_begin, begins_plain}
-use Rattle.defs_token.specs.Account.{FlowKind, sequence, mapping, Level, Account, is_in_flow, is_adjacent, levels_past, account_past_filler}
+use Rattle.defs_token.specs.Account.{FlowKind, sequence, mapping, Level, Account, is_in_flow, is_adjacent, levels_past, account_past_separation}
 use Rattle.defs_token.specs.Piece.{IsPiece, Holds, begins_node, begins_with_space_or_break, begins_with_key_indicator}
 use Rattle.defs_token.specs.Cut.{Written, IsRow, spelled, first_token, account_at, account_past}
 use Rattle.defs_token.proofs.Inserted.{bare, empty_token, key_at, key_inserted, bare_row}
@@ -108,7 +108,7 @@ row_in_level ns b c k ls a (w ∷ ws) f last i r =
 
 -- ---- a node does not begin with the indicator of a key
 
-no_key_by : (c : ℕ) (r : List ℕ) → is_blank c ≡ false → is_break c ≡ false → (c == 35) ≡ false → ((c == 63) && begins_with_space_or_break r) ≡ false → begins_with_key_indicator (past_filler false (c ∷ r)) ≡ false
+no_key_by : (c : ℕ) (r : List ℕ) → is_blank c ≡ false → is_break c ≡ false → (c == 35) ≡ false → ((c == 63) && begins_with_space_or_break r) ≡ false → begins_with_key_indicator (past_separation false (c ∷ r)) ≡ false
 no_key_by c r b k h e = rw (b, k, h) e
 
 no_gap : (r : List ℕ) → not (is_at_gap r) ≡ true → begins_with_space_or_break r ≡ false
@@ -122,14 +122,14 @@ no_gap (c ∷ r) h = by (c == 32) (c == 9) (is_break c) (is_nul c) h
     by false true b n h = cc
     by false false true n h = cc
 
-plain_begins_no_key : (fl adjacent : Bool) (c : ℕ) (r : List ℕ) → may_begin fl adjacent c r ≡ true → begins_with_key_indicator (past_filler false (c ∷ r)) ≡ false
+plain_begins_no_key : (fl adjacent : Bool) (c : ℕ) (r : List ℕ) → may_begin fl adjacent c r ≡ true → begins_with_key_indicator (past_separation false (c ∷ r)) ≡ false
 unfolding is_blank is_break is_blank_or_end
 plain_begins_no_key fl adjacent c r h = by_dash (c == 45) refl h
   where
-    other : (k : Bool) → (c == 63) ≡ k → k ≡ false → not (is_blank_or_end c || is_flow c || is_one_of (codes "#&*!%@`'\"") c) ≡ true → begins_with_key_indicator (past_filler false (c ∷ r)) ≡ false
+    other : (k : Bool) → (c == 63) ≡ k → k ≡ false → not (is_blank_or_end c || is_flow c || is_one_of (codes "#&*!%@`'\"") c) ≡ true → begins_with_key_indicator (past_separation false (c ∷ r)) ≡ false
     other k e z h = by (is_blank c) (is_break c) (is_nul c) (is_flow c) (c == 35) (is_one_of (codes "&*!%@`'\"") c) refl refl refl h
       where
-        by : (b l n f s o : Bool) → is_blank c ≡ b → is_break c ≡ l → (c == 35) ≡ s → not ((b || l || n) || f || (s || o)) ≡ true → begins_with_key_indicator (past_filler false (c ∷ r)) ≡ false
+        by : (b l n f s o : Bool) → is_blank c ≡ b → is_break c ≡ l → (c == 35) ≡ s → not ((b || l || n) || f || (s || o)) ≡ true → begins_with_key_indicator (past_separation false (c ∷ r)) ≡ false
         by false false false false false o eb el es h = no_key_by c r eb el es (rw (e ∙ z) refl)
         by true l n f s o eb el es h = cc
         by false true n f s o eb el es h = cc
@@ -137,50 +137,50 @@ plain_begins_no_key fl adjacent c r h = by_dash (c == 45) refl h
         by false false false true s o eb el es h = cc
         by false false false false true o eb el es h = cc
 
-    by_block : (b : Bool) → is_one_of (codes "|>") c ≡ b → (c == 63) ≡ false → (if b then fl else not (is_blank_or_end c || is_flow c || is_one_of (codes "#&*!%@`'\"") c)) ≡ true → begins_with_key_indicator (past_filler false (c ∷ r)) ≡ false
+    by_block : (b : Bool) → is_one_of (codes "|>") c ≡ b → (c == 63) ≡ false → (if b then fl else not (is_blank_or_end c || is_flow c || is_one_of (codes "#&*!%@`'\"") c)) ≡ true → begins_with_key_indicator (past_separation false (c ∷ r)) ≡ false
     by_block true e k h = by_bar (c == 124) (c == 62) refl refl e
       where
-        by_bar : (x y : Bool) → (c == 124) ≡ x → (c == 62) ≡ y → (x || (y || false)) ≡ true → begins_with_key_indicator (past_filler false (c ∷ r)) ≡ false
+        by_bar : (x y : Bool) → (c == 124) ≡ x → (c == 62) ≡ y → (x || (y || false)) ≡ true → begins_with_key_indicator (past_separation false (c ∷ r)) ≡ false
         by_bar true y ex ey z = let same : c ≡ 124 = eqb-true c 124 ex in rw same refl
         by_bar false true ex ey z = let same : c ≡ 62 = eqb-true c 62 ey in rw same refl
         by_bar false false ex ey z = cc
     by_block false e k h = other false k refl h
 
-    by_colon : (b : Bool) → (c == 58) ≡ b → (c == 63) ≡ false → (if b then not (is_value_indicator fl adjacent r) else (if is_one_of (codes "|>") c then fl else not (is_blank_or_end c || is_flow c || is_one_of (codes "#&*!%@`'\"") c))) ≡ true → begins_with_key_indicator (past_filler false (c ∷ r)) ≡ false
+    by_colon : (b : Bool) → (c == 58) ≡ b → (c == 63) ≡ false → (if b then not (is_value_indicator fl adjacent r) else (if is_one_of (codes "|>") c then fl else not (is_blank_or_end c || is_flow c || is_one_of (codes "#&*!%@`'\"") c))) ≡ true → begins_with_key_indicator (past_separation false (c ∷ r)) ≡ false
     by_colon true e k h = let same : c ≡ 58 = eqb-true c 58 e in rw same refl
     by_colon false e k h = by_block (is_one_of (codes "|>") c) refl k h
 
-    by_query : (b : Bool) → (c == 63) ≡ b → (if b then not (is_at_gap r) else (if c == 58 then not (is_value_indicator fl adjacent r) else (if is_one_of (codes "|>") c then fl else not (is_blank_or_end c || is_flow c || is_one_of (codes "#&*!%@`'\"") c)))) ≡ true → begins_with_key_indicator (past_filler false (c ∷ r)) ≡ false
+    by_query : (b : Bool) → (c == 63) ≡ b → (if b then not (is_at_gap r) else (if c == 58 then not (is_value_indicator fl adjacent r) else (if is_one_of (codes "|>") c then fl else not (is_blank_or_end c || is_flow c || is_one_of (codes "#&*!%@`'\"") c)))) ≡ true → begins_with_key_indicator (past_separation false (c ∷ r)) ≡ false
     by_query true e h = let same : c ≡ 63 = eqb-true c 63 e in rw same (no_gap r h)
     by_query false e h = by_colon (c == 58) refl e h
 
-    by_dash : (b : Bool) → (c == 45) ≡ b → (if b then not (is_at_gap r) && not (fl && begins_flow r) else (if c == 63 then not (is_at_gap r) else (if c == 58 then not (is_value_indicator fl adjacent r) else (if is_one_of (codes "|>") c then fl else not (is_blank_or_end c || is_flow c || is_one_of (codes "#&*!%@`'\"") c))))) ≡ true → begins_with_key_indicator (past_filler false (c ∷ r)) ≡ false
+    by_dash : (b : Bool) → (c == 45) ≡ b → (if b then not (is_at_gap r) && not (fl && begins_flow r) else (if c == 63 then not (is_at_gap r) else (if c == 58 then not (is_value_indicator fl adjacent r) else (if is_one_of (codes "|>") c then fl else not (is_blank_or_end c || is_flow c || is_one_of (codes "#&*!%@`'\"") c))))) ≡ true → begins_with_key_indicator (past_separation false (c ∷ r)) ≡ false
     by_dash true e h = let same : c ≡ 45 = eqb-true c 45 e in rw same refl
     by_dash false e h = by_query (c == 63) refl h
 
-plain_text_begins_no_key : (fl adjacent : Bool) (col : ℕ) (t : List ℕ) → Holds (begins_plain fl adjacent col t) → begins_with_key_indicator (past_filler false t) ≡ false
+plain_text_begins_no_key : (fl adjacent : Bool) (col : ℕ) (t : List ℕ) → Holds (begins_plain fl adjacent col t) → begins_with_key_indicator (past_separation false t) ≡ false
 plain_text_begins_no_key fl adjacent col [] h = refl
 plain_text_begins_no_key fl adjacent col (c ∷ r) h = by (may_begin fl adjacent c r) refl h
   where
-    by : (b : Bool) → may_begin fl adjacent c r ≡ b → (b && not ((col == 0) && is_document_marker (c ∷ r))) ≡ true → begins_with_key_indicator (past_filler false (c ∷ r)) ≡ false
+    by : (b : Bool) → may_begin fl adjacent c r ≡ b → (b && not ((col == 0) && is_document_marker (c ∷ r))) ≡ true → begins_with_key_indicator (past_separation false (c ∷ r)) ≡ false
     by true e h = plain_begins_no_key fl adjacent c r e
     by false e h = cc
 
-tag_begins_no_key : (v n : List ℕ) (t : Tag) → written_tag v ≡ Some t → begins_with_key_indicator (past_filler false (v ++ n)) ≡ false
+tag_begins_no_key : (v n : List ℕ) (t : Tag) → written_tag v ≡ Some t → begins_with_key_indicator (past_separation false (v ++ n)) ≡ false
 unfolding is_blank is_break
 tag_begins_no_key [] n t h = cc
 tag_begins_no_key (c ∷ r) n t h = by (c == 33) refl h
   where
-    by : (b : Bool) → (c == 33) ≡ b → (if b then after_mark r else None) ≡ Some t → begins_with_key_indicator (past_filler false (c ∷ (r ++ n))) ≡ false
+    by : (b : Bool) → (c == 33) ≡ b → (if b then after_mark r else None) ≡ Some t → begins_with_key_indicator (past_separation false (c ∷ (r ++ n))) ≡ false
     by true e h = let same : c ≡ 33 = eqb-true c 33 e in rw same refl
     by false e h = cc
 
 -- the first token of a key does not begin with the indicator of one
 node_begins_no_key : (ms : List Level) (a : Account) (p n : List ℕ) (o : Option Tok) (at : Position) (t : Tok) →
-    Steps [] p t ms → begins_node (Some t) ≡ true → IsPiece a p n o at t → begins_with_key_indicator (past_filler false (p ++ n)) ≡ false
+    Steps [] p t ms → begins_node (Some t) ≡ true → IsPiece a p n o at t → begins_with_key_indicator (past_separation false (p ++ n)) ≡ false
 unfolding is_blank is_break
 node_begins_no_key ms a p n o at t (opens_sequence us v) b q = rw q.0.0 refl
-node_begins_no_key ms a p n o at t (opens_mapping us x v) b (inl q) = subst (λ l. begins_with_key_indicator (past_filler false (l ++ n)) ≡ false) (sym q.0.0) refl
+node_begins_no_key ms a p n o at t (opens_mapping us x v) b (inl q) = subst (λ l. begins_with_key_indicator (past_separation false (l ++ n)) ≡ false) (sym q.0.0) refl
 node_begins_no_key ms a p n o at t (opens_mapping us x v) b (inr q) = absurd (cc q.0)
 node_begins_no_key ms a p n o at t (is_key us v) b q = absurd (cc b)
 node_begins_no_key ms a p n o at t (is_value us v) b q = absurd (cc b)
@@ -191,16 +191,16 @@ node_begins_no_key ms a p n o at t (is_plain us v x) b q = plain_text_begins_no_
 node_begins_no_key ms a p n o at t (is_single_quoted us v x) b q = rw q.0.1 refl
 node_begins_no_key ms a p n o at t (is_double_quoted us v x) b q = rw q.0.1 refl
 
--- the start of a pair without braces, at a place
+-- the start of a single-pair mapping, at a place
 abbrev pub pair_at : Position → Token
 pair_at p = record { place = p; tok = flow_mapping_start }
 
 -- In a flow sequence in which no pair is open, the start of one and its key may be put before a node of the sequence.
 pub pair_inserted : (ls : List Level) (a : Account) (w : Written) (ws : List Written) (f : List ℕ) (last : Option Tok) (p q : Position) →
     begins_node (Some (w.token.tok)) ≡ true → IsInside [] (w ∷ ws) → IsRow (with_levels (above [] false sequence ls) a) (w ∷ ws) f last →
-    IsRow (with_levels (above [] false sequence ls) a) (empty_token w.filler (pair_at p) ∷ empty_token [] (key_at q) ∷ bare w ∷ ws) f last
+    IsRow (with_levels (above [] false sequence ls) a) (empty_token w.separation (pair_at p) ∷ empty_token [] (key_at q) ∷ bare w ∷ ws) f last
 pair_inserted ls a w ws f last p q n i r =
-    let after : Account = account_past_filler a w.filler (w.piece ++ spelled ws f) in (
+    let after : Account = account_past_separation a w.separation (w.piece ++ spelled ws f) in (
       (r.0.0, inr (refl, refl, refl, node_begins_no_key i.0 (account_at (with_levels (above [] false sequence ls) a) w (spelled ws f)) w.piece (spelled ws f) (first_token ws last) (w.token.place) (w.token.tok) i.1 n r.0.1)),
       key_inserted (with_levels (above [] true sequence ls) after) (bare w) ws f last q n
           (row_in_level [] false true sequence ls after (bare w ∷ ws) f last i (bare_row (with_levels (above [] false sequence ls) a) w ws f last r)),

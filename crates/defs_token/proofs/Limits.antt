@@ -6,7 +6,7 @@ use Rattle.defs_scalar.specs.BlockScalar.{BlockStyle, sign_of, digit_of, is_empt
 use Rattle.defs_token.specs.Token.{flow_entry, flow_sequence_end, stream_end, value, anchor}
 use Rattle.defs_text.specs.Text.{up_to_end}
 use Rattle.defs_text.specs.Position.{position_after}
-use Rattle.defs_token.specs.Filler.{is_filler}
+use Rattle.defs_token.specs.Separation.{is_separation}
 use Rattle.defs_token.specs.Plain.{is_value_indicator, begins_plain, is_whole_plain}
 use Rattle.defs_token.specs.BlockPiece.{block_read, block_place}
 use Rattle.defs_token.specs.Account.{sequence, mapping, quoted, collection, other, first_account, is_closed, has_room, takes_pair, has_open_pair, before_past, settled, levels_past}
@@ -34,24 +34,24 @@ unfolding is_blank is_break is_nul is_blank_or_end is_flow is_anchor_name are_ma
 line_separator = refl
 
 -- blanks, breaks and a comment
-filler : is_filler false (codes "\t\r\n # a #b\n ") (codes "x") ≡ true
+separation : is_separation false (codes "\t\r\n # a #b\n ") (codes "x") ≡ true
 unfolding is_blank is_break is_nul is_blank_or_end is_flow is_anchor_name are_marks sign_of digit_of is_empty_line is_content_line row_of
-filler = refl
+separation = refl
 
 -- a comment up to the end
-comment_at_end : is_filler false (codes "# a") [] ≡ true
+comment_at_end : is_separation false (codes "# a") [] ≡ true
 unfolding is_blank is_break is_nul is_blank_or_end is_flow is_anchor_name are_marks sign_of digit_of is_empty_line is_content_line row_of
 comment_at_end = refl
 
 -- a comment before other text
-comment_open : is_filler false (codes "# a") (codes "b") ≡ false
+comment_open : is_separation false (codes "# a") (codes "b") ≡ false
 unfolding is_blank is_break is_nul is_blank_or_end is_flow is_anchor_name are_marks sign_of digit_of is_empty_line is_content_line row_of
 comment_open = refl
 
--- a letter is no filler
-no_filler : is_filler false (codes " a") [] ≡ false
+-- a letter is no separation
+no_separation : is_separation false (codes " a") [] ≡ false
 unfolding is_blank is_break is_nul is_blank_or_end is_flow is_anchor_name are_marks sign_of digit_of is_empty_line is_content_line row_of
-no_filler = refl
+no_separation = refl
 
 -- a colon before a blank
 colon_blank : is_value_indicator false false (codes " a") ≡ true

@@ -8,9 +8,9 @@ use Rattle.defs_token.specs.Cut.{Written, tokens_of, start_token, end_token}
 abbrev pub place : (index line col : ℕ) → Position
 place i l c = record { index = i; line = l; col = c }
 
--- a token with the filler before its piece, and its piece
-abbrev pub written : (filler piece : List ℕ) → Position → Tok → Written
-written f p at t = record { filler = f; piece = p; token = record { place = at; tok = t } }
+-- a token with the separation before its piece, and its piece
+abbrev pub written : (separation piece : List ℕ) → Position → Tok → Written
+written f p at t = record { separation = f; piece = p; token = record { place = at; tok = t } }
 
 -- the place where a stream begins
 abbrev pub first : Position

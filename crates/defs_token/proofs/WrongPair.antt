@@ -41,18 +41,18 @@ abbrev pub piece_of : List Written → List ℕ
 piece_of [] = []
 piece_of (w ∷ ws) = w.piece
 
-abbrev pub filler_of : List Written → List ℕ
-filler_of [] = []
-filler_of (w ∷ ws) = w.filler
+abbrev pub separation_of : List Written → List ℕ
+separation_of [] = []
+separation_of (w ∷ ws) = w.separation
 
 abbrev pub rest_of : {A : Type 0} → List A → List A
 rest_of [] = []
 rest_of (x ∷ xs) = xs
 
--- a row's fillers and pieces beside other tokens
+-- a row's separations and pieces beside other tokens
 abbrev pub with_tokens : List Written → List Token → List Written
 with_tokens ws [] = []
-with_tokens ws (t ∷ ts) = record { filler = filler_of ws; piece = piece_of ws; token = t } ∷ with_tokens (rest_of ws) ts
+with_tokens ws (t ∷ ts) = record { separation = separation_of ws; piece = piece_of ws; token = t } ∷ with_tokens (rest_of ws) ts
 
 pub own_tokens : (ws : List Written) → with_tokens ws (tokens_of ws) ≡ ws
 own_tokens [] = refl
@@ -94,9 +94,9 @@ dropped (suc n) ws = dropped n (rest_of ws)
 
 no_brace_in : (n : ℕ) (ws : List Written) (f : List ℕ) → all_of is_no_brace (spelled ws f) ≡ true → all_of is_no_brace (piece_of (dropped n ws)) ≡ true
 no_brace_in zero [] f h = refl
-no_brace_in zero (w ∷ ws) f h = all_before is_no_brace w.piece (spelled ws f) (all_after is_no_brace w.filler (w.piece ++ spelled ws f) h)
+no_brace_in zero (w ∷ ws) f h = all_before is_no_brace w.piece (spelled ws f) (all_after is_no_brace w.separation (w.piece ++ spelled ws f) h)
 no_brace_in (suc n) [] f h = no_brace_in n [] f h
-no_brace_in (suc n) (w ∷ ws) f h = no_brace_in n ws f (all_after is_no_brace w.piece (spelled ws f) (all_after is_no_brace w.filler (w.piece ++ spelled ws f) h))
+no_brace_in (suc n) (w ∷ ws) f h = no_brace_in n ws f (all_after is_no_brace w.piece (spelled ws f) (all_after is_no_brace w.separation (w.piece ++ spelled ws f) h))
 
 -- ---- the tokens are no cut
 
@@ -119,5 +119,5 @@ one_flag end c =
     let e : tokens_of c.row ≡ but_last (rest_of (wrong end)) = sym (but_last_append (tokens_of c.row) (end_token c.end)) ∙ ap (λ l. but_last (rest_of l)) (sym c.are_tokens) in
     let same : with_tokens c.row (but_last (rest_of (wrong end))) ≡ c.row = ap (λ ts. with_tokens c.row ts) (sym e) ∙ own_tokens c.row in
     let whole : up_to_end text ≡ text = refl in
-    let none : all_of is_no_brace (spelled c.row c.filler) ≡ true = ap (all_of is_no_brace) (c.is_text ∙ whole) in
-    no_row c.row c.filler end (no_brace_in 7 c.row c.filler none) (subst (λ ws. IsRow first_account ws c.filler (Some stream_end)) (sym same) c.is_row)
+    let none : all_of is_no_brace (spelled c.row c.separation) ≡ true = ap (all_of is_no_brace) (c.is_text ∙ whole) in
+    no_row c.row c.separation end (no_brace_in 7 c.row c.separation none) (subst (λ ws. IsRow first_account ws c.separation (Some stream_end)) (sym same) c.is_row)

@@ -1,16 +1,16 @@
--- The start of a pair without braces, where the pair begins with `?` or where none begins: such tokens are no cut.
+-- The start of a single-pair mapping, where the pair begins with `?` or where none begins: such tokens are no cut.
 use Rattle.std.proofs.Common.{◌≡◌, ℕ, List, [], ◌∷◌, ◌++◌, false, ◌&&◌, ◌||◌, ◌==◌, Option, Some, sym, ap, subst, ◌∙◌, inl, inr, refl}
 use Rattle.std.specs.Prelude.{codes}
 use Rattle.defs_text.specs.Classes.{is_blank, is_break, is_nul}
 use Rattle.defs_text.specs.Position.{Position}
 use Rattle.defs_token.specs.Token.{Tok, Token, stream_end, flow_sequence_start, flow_sequence_end, flow_mapping_start, flow_mapping_end, key, scalar, plain}
 use Rattle.defs_text.specs.Text.{up_to_end}
-use Rattle.defs_token.specs.Filler.{is_filler, past_filler}
+use Rattle.defs_token.specs.Separation.{is_separation, past_separation}
 use Rattle.defs_token.specs.Account.{Account, first_account}
 use Rattle.defs_token.specs.Piece.{Holds, IsPiece, begins_pair, begins_with_key_indicator}
 use Rattle.defs_token.specs.Cut.{Written, IsCut, IsWritten, IsRow, tokens_of, spelled, account_at, account_past, start_token, end_token}
 use Rattle.defs_token.proofs.DroppedLine.{head}
-use Rattle.defs_token.proofs.WrongPair.{piece_of, filler_of, rest_of, with_tokens, own_tokens, but_last, but_last_append}
+use Rattle.defs_token.proofs.WrongPair.{piece_of, separation_of, rest_of, with_tokens, own_tokens, but_last, but_last_append}
 use Rattle.defs_token.proofs.Shown.{place, first}
 
 abbrev token_at : ℕ → Tok → Token
@@ -20,39 +20,39 @@ abbrev after_head : List ℕ → List ℕ
 after_head [] = []
 after_head (c ∷ r) = r
 
--- no filler stands before a text that begins with another character
-text_at_piece : (c : ℕ) (t g n : List ℕ) → (is_blank c || is_break c || (c == 35)) ≡ false → Holds (is_filler false g n) → g ++ n ≡ c ∷ t → n ≡ c ∷ t
+-- no separation stands before a text that begins with another character
+text_at_piece : (c : ℕ) (t g n : List ℕ) → (is_blank c || is_break c || (c == 35)) ≡ false → Holds (is_separation false g n) → g ++ n ≡ c ∷ t → n ≡ c ∷ t
 text_at_piece c t [] n s h e = e
 text_at_piece c t (d ∷ g) n s h e =
-    let P : ℕ → Type 0 = λ x. Holds ((is_blank x || is_break x || (x == 35)) && is_filler (x == 35) g n) in
-    let k : Holds ((is_blank c || is_break c || (c == 35)) && is_filler (c == 35) g n) = subst P (ap head e) h in
-    let z : Holds false = subst (λ b. Holds (b && is_filler (c == 35) g n)) s k in
+    let P : ℕ → Type 0 = λ x. Holds ((is_blank x || is_break x || (x == 35)) && is_separation (x == 35) g n) in
+    let k : Holds ((is_blank c || is_break c || (c == 35)) && is_separation (c == 35) g n) = subst P (ap head e) h in
+    let z : Holds false = subst (λ b. Holds (b && is_separation (c == 35) g n)) s k in
     absurd (cc z)
 
 -- what stands after the bracket that a text begins with
-text_after : (w : Written) (t next : List ℕ) (o : Option Tok) → w.token.tok ≡ flow_sequence_start → w.filler ++ (w.piece ++ next) ≡ 91 ∷ t → IsWritten first_account w next o → next ≡ t
+text_after : (w : Written) (t next : List ℕ) (o : Option Tok) → w.token.tok ≡ flow_sequence_start → w.separation ++ (w.piece ++ next) ≡ 91 ∷ t → IsWritten first_account w next o → next ≡ t
 unfolding is_blank is_break
 text_after w t next o k e is =
     let a : Account = account_at first_account w next in
     let opens : IsPiece a w.piece next o (w.token.place) flow_sequence_start = subst (λ x. IsPiece a w.piece next o (w.token.place) x) k is.1 in
-    let here : w.piece ++ next ≡ 91 ∷ t = text_at_piece 91 t w.filler (w.piece ++ next) refl is.0 e in
+    let here : w.piece ++ next ≡ 91 ∷ t = text_at_piece 91 t w.separation (w.piece ++ next) refl is.0 e in
     ap after_head (subst (λ p. p ++ next ≡ 91 ∷ t) opens.0.0 here)
 
--- the start of a pair before a text that begins with neither filler nor brace
+-- the start of a pair before a text that begins with neither separation nor brace
 pair_here : (a : Account) (w : Written) (c : ℕ) (t next : List ℕ) (o : Option Tok) → (is_blank c || is_break c || (c == 35)) ≡ false → (c == 123) ≡ false →
-    w.token.tok ≡ flow_mapping_start → w.filler ++ (w.piece ++ next) ≡ c ∷ t → IsWritten a w next o → Holds (begins_pair o) × (begins_with_key_indicator (past_filler false (c ∷ t)) ≡ false)
+    w.token.tok ≡ flow_mapping_start → w.separation ++ (w.piece ++ next) ≡ c ∷ t → IsWritten a w next o → Holds (begins_pair o) × (begins_with_key_indicator (past_separation false (c ∷ t)) ≡ false)
 pair_here a w c t next o s brace k e is =
     let b : Account = account_at a w next in
-    by (text_at_piece c t w.filler (w.piece ++ next) s is.0 e) (subst (λ x. IsPiece b w.piece next o (w.token.place) x) k is.1)
+    by (text_at_piece c t w.separation (w.piece ++ next) s is.0 e) (subst (λ x. IsPiece b w.piece next o (w.token.place) x) k is.1)
   where
-    by : w.piece ++ next ≡ c ∷ t → IsPiece (account_at a w next) w.piece next o (w.token.place) flow_mapping_start → Holds (begins_pair o) × (begins_with_key_indicator (past_filler false (c ∷ t)) ≡ false)
+    by : w.piece ++ next ≡ c ∷ t → IsPiece (account_at a w next) w.piece next o (w.token.place) flow_mapping_start → Holds (begins_pair o) × (begins_with_key_indicator (past_separation false (c ∷ t)) ≡ false)
     by here (inl q) =
         let first : 123 ≡ c = ap head (subst (λ p. p ++ next ≡ c ∷ t) q.0.0 here) in
         let not_brace : (123 == 123) ≡ false = subst (λ x. (x == 123) ≡ false) (sym first) brace in
         absurd (cc)
     by here (inr q) =
         let same : next ≡ c ∷ t = subst (λ p. p ++ next ≡ c ∷ t) q.0 here in
-        (q.2, subst (λ r. begins_with_key_indicator (past_filler false r) ≡ false) same q.3)
+        (q.2, subst (λ r. begins_with_key_indicator (past_separation false r) ≡ false) same q.3)
 
 -- ---- the tokens are no cut
 
@@ -60,22 +60,22 @@ pair_here a w c t next o s brace k e is =
 abbrev tokens : List Token → (end : Position) → List Token
 tokens after end = start_token first ∷ token_at 0 flow_sequence_start ∷ token_at 1 flow_mapping_start ∷ (after ++ (end_token end ∷ []))
 
--- A row of these tokens in a text that begins with a bracket, and then with neither filler nor brace: what is known of the pair's start.
+-- A row of these tokens in a text that begins with a bracket, and then with neither separation nor brace: what is known of the pair's start.
 what_start_says : (k : Token) (ks : List Token) (text : List ℕ) (c : ℕ) (t : List ℕ) (end : Position) → (is_blank c || is_break c || (c == 35)) ≡ false → (c == 123) ≡ false → up_to_end text ≡ 91 ∷ (c ∷ t) →
-    IsCut (tokens (k ∷ ks) end) text → Holds (begins_pair (Some (k.tok))) × (begins_with_key_indicator (past_filler false (c ∷ t)) ≡ false)
+    IsCut (tokens (k ∷ ks) end) text → Holds (begins_pair (Some (k.tok))) × (begins_with_key_indicator (past_separation false (c ∷ t)) ≡ false)
 what_start_says k ks text c t end s brace whole cut =
     let mine : List Token = token_at 0 flow_sequence_start ∷ token_at 1 flow_mapping_start ∷ k ∷ ks in
     let last : but_last (mine ++ (end_token end ∷ [])) ≡ mine = but_last_append mine (end_token end) in
     let e : tokens_of cut.row ≡ mine = sym (but_last_append (tokens_of cut.row) (end_token cut.end)) ∙ ap (λ l. but_last (rest_of l)) (sym cut.are_tokens) ∙ last in
     let same : with_tokens cut.row mine ≡ cut.row = ap (λ ts. with_tokens cut.row ts) (sym e) ∙ own_tokens cut.row in
     let ws : List Written = with_tokens (rest_of (rest_of cut.row)) (k ∷ ks) in
-    let r : IsRow first_account (with_tokens cut.row mine) cut.filler (Some stream_end) = subst (λ l. IsRow first_account l cut.filler (Some stream_end)) (sym same) cut.is_row in
-    let is : spelled (with_tokens cut.row mine) cut.filler ≡ 91 ∷ (c ∷ t) = subst (λ l. spelled l cut.filler ≡ 91 ∷ (c ∷ t)) (sym same) (cut.is_text ∙ whole) in
-    let w : Written = record { filler = filler_of cut.row; piece = piece_of cut.row; token = token_at 0 flow_sequence_start } in
-    let v : Written = record { filler = filler_of (rest_of cut.row); piece = piece_of (rest_of cut.row); token = token_at 1 flow_mapping_start } in
-    let next : List ℕ = spelled (v ∷ ws) cut.filler in
+    let r : IsRow first_account (with_tokens cut.row mine) cut.separation (Some stream_end) = subst (λ l. IsRow first_account l cut.separation (Some stream_end)) (sym same) cut.is_row in
+    let is : spelled (with_tokens cut.row mine) cut.separation ≡ 91 ∷ (c ∷ t) = subst (λ l. spelled l cut.separation ≡ 91 ∷ (c ∷ t)) (sym same) (cut.is_text ∙ whole) in
+    let w : Written = record { separation = separation_of cut.row; piece = piece_of cut.row; token = token_at 0 flow_sequence_start } in
+    let v : Written = record { separation = separation_of (rest_of cut.row); piece = piece_of (rest_of cut.row); token = token_at 1 flow_mapping_start } in
+    let next : List ℕ = spelled (v ∷ ws) cut.separation in
     let on : next ≡ c ∷ t = text_after w (c ∷ t) next (Some flow_mapping_start) refl is r.0 in
-    pair_here (account_past first_account w next) v c t (spelled ws cut.filler) (Some (k.tok)) s brace refl on r.1.0
+    pair_here (account_past first_account w next) v c t (spelled ws cut.separation) (Some (k.tok)) s brace refl on r.1.0
 
 -- a pair that begins with `?` has no start
 pub start_before_indicator : (end : Position) → IsCut (tokens (token_at 1 key ∷ token_at 3 flow_mapping_end ∷ token_at 3 flow_sequence_end ∷ []) end) (codes "[? ]") → ⊥

@@ -1,17 +1,17 @@
 -- What is open after the tokens so far: block collections, flow collections and flow pairs.
 -- It is computed from tokens and their pieces of text alone. YAML 1.2, sections 7.4 (flow collections), 8.2 (block collections).
 use Rattle.std.specs.Prelude.{ℕ, List, [], ◌∷◌, Bool, true, false, ◌&&◌, not, nat_lt, if◌then◌else◌, length, drop, Option, Some, None}
-use Rattle.defs_text.specs.Position.{Position}
+use Rattle.defs_text.specs.Text.{is_empty}
+use Rattle.defs_text.specs.Position.{Position, first_position, position_after}
 use Rattle.defs_token.specs.Token.{Tok, block_sequence_start, block_mapping_start, block_end, flow_sequence_start, flow_sequence_end, flow_mapping_start, flow_mapping_end, scalar, single_quoted, double_quoted}
-use Rattle.defs_text.specs.Position.{first_position, position_after}
-use Rattle.defs_token.specs.Filler.{is_blanks}
+use Rattle.defs_token.specs.Separation.{is_blanks}
 
 -- an open flow collection
 pub data FlowKind : Type 0 where
   sequence : FlowKind
   mapping : FlowKind
 
--- A flow level: its collection, and whether a pair without braces is open in it.
+-- A flow level: its collection, and whether a single-pair mapping is open in it.
 pub record Level : Type 0 where
   pub kind : FlowKind
   pub pair : Bool
@@ -34,11 +34,6 @@ abbrev pub first_account : Account
 first_account = record { place = first_position; blocks = []; levels = []; before = other }
 
 -- ---- what an account says
-
--- whether a list has no members
-abbrev pub is_empty : {A : Type 0} → List A → Bool
-is_empty [] = true
-is_empty (x ∷ xs) = false
 
 -- whether a flow collection is open
 abbrev pub is_in_flow : Account → Bool
@@ -66,12 +61,12 @@ collection_column a = innermost_column a.blocks
 abbrev pub has_room : Account → Bool
 has_room a = nat_lt (length a.levels) 255
 
--- whether the innermost of flow levels has a pair without braces open
+-- whether the innermost of flow levels has a single-pair mapping open
 abbrev pub is_pair_at : List Level → Bool
 is_pair_at [] = false
 is_pair_at (l ∷ ls) = l.pair
 
--- whether a pair without braces is open in the innermost flow level
+-- whether a single-pair mapping is open in the innermost flow level
 abbrev pub has_open_pair : Account → Bool
 has_open_pair a = is_pair_at a.levels
 
@@ -85,7 +80,7 @@ abbrev pub takes_pair_at : List Level → Bool
 takes_pair_at [] = false
 takes_pair_at (l ∷ ls) = is_sequence l.kind && not l.pair
 
--- whether a pair without braces may begin: the innermost flow level is a sequence in which none is open
+-- whether a single-pair mapping may begin: the innermost flow level is a sequence in which none is open
 abbrev pub takes_pair : Account → Bool
 takes_pair a = takes_pair_at a.levels
 
@@ -95,17 +90,17 @@ is_adjacent quoted = true
 is_adjacent collection = true
 is_adjacent other = false
 
--- ---- the account after a filler
+-- ---- the account after a separation
 
--- a colon may stand after a flow collection and blanks, and after a quoted scalar and any filler
-abbrev pub before_past : Before → (filler : List ℕ) → Before
+-- a colon may stand after a flow collection and blanks, and after a quoted scalar and any separation
+abbrev pub before_past : Before → (separation : List ℕ) → Before
 before_past quoted f = quoted
 before_past collection f = (if is_blanks f then collection else other)
 before_past other f = other
 
--- the account after a filler; the text after it
-abbrev pub account_past_filler : Account → (filler next : List ℕ) → Account
-account_past_filler a f next = record a { place = position_after a.place f next; before = before_past a.before f }
+-- the account after a separation; the text after it
+abbrev pub account_past_separation : Account → (separation next : List ℕ) → Account
+account_past_separation a f next = record a { place = position_after a.place f next; before = before_past a.before f }
 
 -- ---- the account after a token
 
@@ -136,7 +131,7 @@ abbrev pub with_pair : Bool → List Level → List Level
 with_pair b [] = []
 with_pair b (l ∷ ls) = record l { pair = b } ∷ ls
 
--- The flow levels after a token: a mapping's start or end without a piece is that of a pair without braces.
+-- The flow levels after a token: a mapping's start or end without a piece is that of a single-pair mapping.
 abbrev pub levels_past : List Level → (piece : List ℕ) → Tok → List Level
 levels_past ls piece flow_sequence_start = record { kind = sequence; pair = false } ∷ ls
 levels_past ls piece flow_sequence_end = drop 1 ls

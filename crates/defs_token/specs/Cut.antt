@@ -1,23 +1,23 @@
--- When a list of tokens is a cut of a text: the text up to its end is a row of fillers (blanks, breaks and comments) and pieces in order, and each piece belongs to one token.
+-- When a list of tokens is a cut of a text: the text up to its end is a row of separations (blanks, breaks and comments) and pieces in order, and each piece belongs to one token.
 -- YAML 1.2, chapters 6 to 9. The definition says which tokens stand where. It does not say that a text has a cut, or only one.
 use Rattle.std.specs.Prelude.{◌≡◌, ℕ, ◌⊎◌, List, [], ◌∷◌, ◌++◌, false, Option, Some, None}
 use Rattle.defs_text.specs.Position.{Position}
 use Rattle.defs_token.specs.Token.{Tok, Token, stream_start, stream_end}
 use Rattle.defs_text.specs.Text.{up_to_end}
-use Rattle.defs_token.specs.Filler.{is_filler}
-use Rattle.defs_token.specs.Account.{Account, first_account, is_closed, account_past_filler, account_at_piece, account_past_token}
+use Rattle.defs_token.specs.Separation.{is_separation}
+use Rattle.defs_token.specs.Account.{Account, first_account, is_closed, account_past_separation, account_at_piece, account_past_token}
 use Rattle.defs_token.specs.Piece.{Holds, IsPiece}
 
--- A token as it is written: the filler before its piece, and its piece, which is empty for some tokens.
+-- A token as it is written: the separation before its piece, and its piece, which is empty for some tokens.
 pub record Written : Type 0 where
-  pub filler : List ℕ
+  pub separation : List ℕ
   pub piece : List ℕ
   pub token : Token
 
 -- the text of a row of tokens, before the text after it
 abbrev pub spelled : List Written → (after : List ℕ) → List ℕ
 spelled [] after = after
-spelled (w ∷ ws) after = w.filler ++ (w.piece ++ spelled ws after)
+spelled (w ∷ ws) after = w.separation ++ (w.piece ++ spelled ws after)
 
 -- the tokens of a row
 abbrev pub tokens_of : List Written → List Token
@@ -29,18 +29,18 @@ abbrev pub first_token : List Written → (last : Option Tok) → Option Tok
 first_token [] last = last
 first_token (w ∷ ws) last = Some (w.token.tok)
 
--- the account at a token's piece, from that before its filler; the text after the token
+-- the account at a token's piece, from that before its separation; the text after the token
 abbrev pub account_at : Account → Written → (next : List ℕ) → Account
-account_at a w next = account_at_piece (account_past_filler a w.filler (w.piece ++ next)) w.piece
+account_at a w next = account_at_piece (account_past_separation a w.separation (w.piece ++ next)) w.piece
 
 -- the account after a token
 abbrev pub account_past : Account → Written → (next : List ℕ) → Account
 account_past a w next = account_past_token (account_at a w next) w.piece next (w.token.tok)
 
--- Whether a token is written so: a filler stands before its piece, and the piece belongs to it.
+-- Whether a token is written so: a separation stands before its piece, and the piece belongs to it.
 abbrev pub IsWritten : Account → Written → (next : List ℕ) → (following : Option Tok) → Type 0
 IsWritten a w next following =
-    Holds (is_filler false w.filler (w.piece ++ next)) ×
+    Holds (is_separation false w.separation (w.piece ++ next)) ×
     IsPiece (account_at a w next) w.piece next following (w.token.place) (w.token.tok)
 
 -- Whether each token of a row is written so, before the text after the row and the token that is known to stand there.
@@ -61,17 +61,17 @@ start_token p = record { place = p; tok = stream_start }
 abbrev pub end_token : Position → Token
 end_token p = record { place = p; tok = stream_end }
 
--- Whether tokens are a cut of a text. They are the stream's start, a row of tokens, and the stream's end. The row and the filler after it are the text up to its end. Outside flow no block collection is left open.
+-- Whether tokens are a cut of a text. They are the stream's start, a row of tokens, and the stream's end. The row and the separation after it are the text up to its end. Outside flow no block collection is left open.
 pub record IsCut (tokens : List Token) (text : List ℕ) : Type 0 where
   pub begin : Position
   pub end : Position
   pub row : List Written
-  pub filler : List ℕ
+  pub separation : List ℕ
   pub are_tokens : tokens ≡ start_token begin ∷ (tokens_of row ++ (end_token end ∷ []))
-  pub is_text : spelled row filler ≡ up_to_end text
-  pub is_filled : Holds (is_filler false filler [])
-  pub is_row : IsRow first_account row filler (Some stream_end)
-  pub closes : Holds (is_closed (account_past_row first_account row filler))
+  pub is_text : spelled row separation ≡ up_to_end text
+  pub is_filled : Holds (is_separation false separation [])
+  pub is_row : IsRow first_account row separation (Some stream_end)
+  pub closes : Holds (is_closed (account_past_row first_account row separation))
 
 -- Whether tokens are the stream's start and a row of tokens whose text begins the text. What characters follow is known, but not what token.
 pub record IsBegun (tokens : List Token) (text : List ℕ) : Type 0 where

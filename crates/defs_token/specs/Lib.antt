@@ -1,7 +1,7 @@
 pub mod Account
 pub mod BlockPiece
 pub mod Cut
-pub mod Filler
+pub mod Separation
 pub mod Piece
 pub mod Plain
 pub mod Token

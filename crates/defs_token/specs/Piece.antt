@@ -9,7 +9,7 @@ use Rattle.defs_scalar.specs.Directives.{Directive, version, tag_declaration, re
 use Rattle.defs_text.specs.Position.{Position}
 use Rattle.defs_token.specs.Token.{Tok, stream_start, stream_end, version_directive, tag_directive, document_start, document_end, block_sequence_start, block_mapping_start, block_end, flow_sequence_start, flow_sequence_end, flow_mapping_start, flow_mapping_end, block_entry, flow_entry, key, value, alias, anchor, tag, scalar, plain, single_quoted, double_quoted, literal, folded}
 use Rattle.defs_text.specs.Breaks.{is_at_line_end, has_no_break}
-use Rattle.defs_token.specs.Filler.{past_filler}
+use Rattle.defs_token.specs.Separation.{past_separation}
 use Rattle.defs_token.specs.Plain.{begins_flow, is_value_indicator, begins_plain, is_whole_plain}
 use Rattle.defs_token.specs.BlockPiece.{block_read, block_place}
 use Rattle.defs_token.specs.Account.{Account, is_in_flow, has_open_block, is_closed, collection_column, has_room, has_open_pair, takes_pair, is_adjacent}
@@ -28,7 +28,7 @@ IsOutsideFlow a = is_in_flow a ≡ false
 abbrev pub IsInColumn0 : Account → Type 0
 IsInColumn0 a = a.place.col ≡ 0
 
--- no pair without braces is open in the innermost flow level
+-- no single-pair mapping is open in the innermost flow level
 abbrev pub HasNoPair : Account → Type 0
 HasNoPair a = has_open_pair a ≡ false
 
@@ -78,13 +78,13 @@ abbrev pub begins_with_key_indicator : List ℕ → Bool
 begins_with_key_indicator [] = false
 begins_with_key_indicator (c ∷ r) = (c == 63) && begins_with_space_or_break r
 
--- The key before a simple key has no piece; a node follows it.
-abbrev pub IsSimpleKey : (piece : List ℕ) → (following : Option Tok) → Type 0
-IsSimpleKey piece following = (piece ≡ []) × Holds (begins_node following)
+-- The key before a implicit key has no piece; a node follows it.
+abbrev pub IsImplicitKey : (piece : List ℕ) → (following : Option Tok) → Type 0
+IsImplicitKey piece following = (piece ≡ []) × Holds (begins_node following)
 
--- The start of a pair without braces has no piece; it stands directly in a flow sequence in which no such pair is open, before the key or the value that begins the pair. A pair that begins with `?` has no start.
+-- The start of a single-pair mapping has no piece; it stands directly in a flow sequence in which no such pair is open, before the key or the value that begins the pair. A pair that begins with `?` has no start.
 abbrev pub IsPairStart : Account → (piece next : List ℕ) → (following : Option Tok) → Type 0
-IsPairStart a piece next following = (piece ≡ []) × Holds (takes_pair a) × Holds (begins_pair following) × (begins_with_key_indicator (past_filler false next) ≡ false)
+IsPairStart a piece next following = (piece ≡ []) × Holds (takes_pair a) × Holds (begins_pair following) × (begins_with_key_indicator (past_separation false next) ≡ false)
 
 -- The end of such a pair has no piece; it stands directly before the comma or closing bracket of its own level.
 abbrev pub IsPairEnd : Account → (piece : List ℕ) → (following : Option Tok) → Type 0
@@ -108,7 +108,7 @@ IsBlockEntry a piece next = (piece ≡ codes "-") × Holds (is_at_gap next) × I
 abbrev pub IsOpening : Account → (piece bracket : List ℕ) → Type 0
 IsOpening a piece bracket = (piece ≡ bracket) × Holds (has_room a)
 
--- a closing bracket or a comma: a pair without braces that was open in its level has ended
+-- a closing bracket or a comma: a single-pair mapping that was open in its level has ended
 abbrev pub IsEntryEnd : Account → (piece indicator : List ℕ) → Type 0
 IsEntryEnd a piece indicator = (piece ≡ indicator) × HasNoPair a
 
@@ -188,7 +188,7 @@ IsPiece a piece next following place flow_mapping_start = (IsOpening a piece (co
 IsPiece a piece next following place flow_mapping_end = (IsEntryEnd a piece (codes "}") × (place ≡ a.place)) ⊎ IsPairEnd a piece following
 IsPiece a piece next following place block_entry = IsBlockEntry a piece next
 IsPiece a piece next following place flow_entry = IsEntryEnd a piece (codes ",") × (place ≡ a.place)
-IsPiece a piece next following place key = IsKeyIndicator piece next ⊎ IsSimpleKey piece following
+IsPiece a piece next following place key = IsKeyIndicator piece next ⊎ IsImplicitKey piece following
 IsPiece a piece next following place value = IsValueIndicator a piece next
 IsPiece a piece next following place (alias name) = IsNamed 42 piece next name × (place ≡ a.place)
 IsPiece a piece next following place (anchor name) = IsNamed 38 piece next name × (place ≡ a.place)

@@ -13,7 +13,7 @@ use Rattle.defs_tree.specs.Escapes.{hexadecimal_digit, escaped_code, written_cha
 use Rattle.defs_tree.specs.Quoting.{is_quoted, is_unfit_for_plain}
 use Rattle.defs_tree.specs.Spelling.{spelling, string_spelling, boolean_spelling, is_scalar}
 use Rattle.defs_tree.specs.Lines.{is_unbroken, lines_of}
-use Rattle.defs_tree.specs.Literal.{literal_header, is_literal, is_root_literal}
+use Rattle.defs_tree.specs.Literal.{literal_header, is_literal_text, is_root_literal}
 use Rattle.defs_tree.specs.Box.{indented, hung, hung_lower, placed, if_none, is_block, literal_box, string_box, pair_box, box, item_boxes, pair_boxes}
 use Rattle.defs_tree.specs.Valid.{FitsI64, AllFitI64, AllPairsFitI64}
 use Rattle.defs_tree.specs.Writable.{HasText, AllHaveText, AllPairsHaveText}
@@ -144,7 +144,7 @@ header-unbroken true = refl
 header-unbroken false = refl
 
 string_box-unbroken : (multiline at_root : Bool) (s : List ℕ) → AreUnbroken (string_box multiline at_root s)
-string_box-unbroken multiline at_root s = by (multiline && (if at_root then is_root_literal s else is_literal s))
+string_box-unbroken multiline at_root s = by (multiline && (if at_root then is_root_literal s else is_literal_text s))
   where
     by : (b : Bool) → AreUnbroken (if b then literal_box s else string_spelling s ∷ [])
     by true = both (literal_header s) (lines_of s) (header-unbroken _) (lines_of-unbroken s)

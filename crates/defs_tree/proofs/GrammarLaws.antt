@@ -3,7 +3,8 @@ use Rattle.std.proofs.Common.{◌⊎◌, inl, inr, subst, ◌≡◌, ℕ, List, 
 use Rattle.std.specs.Prelude.{if◌then◌else◌}
 use Rattle.std.specs.List.{list_all}
 use Rattle.std.proofs.lemmas.Bool.{and_parts, or_cases, and_from, or_left, or_right}
-use Rattle.defs_tree.specs.Grammar.{IsCut, is_empty, one, any_number, at_least_one, optional, followed_by}
+use Rattle.defs_tree.specs.Grammar.{IsSplit, one, any_number, at_least_one, optional, followed_by}
+use Rattle.defs_text.specs.Text.{is_empty}
 
 -- ---- tests
 
@@ -128,11 +129,11 @@ optional_one-after p g r (c ∷ cs) = optional-then (one p) g (c ∷ cs) ∙ ap 
 
 -- ---- what `followed_by` says: the text is cut
 
-pub cut_from : (f g : List ℕ → Bool) (t : List ℕ) → followed_by f g t ≡ true → IsCut f g t
+pub cut_from : (f g : List ℕ → Bool) (t : List ℕ) → followed_by f g t ≡ true → IsSplit f g t
 cut_from f g [] h = let parts = and_parts (f []) (g []) h in record { before = []; after = []; whole = refl; is_first = parts.0; is_second = parts.1 }
 cut_from f g (c ∷ cs) h = by (or_cases (f [] && g (c ∷ cs)) (followed_by (λ b. f (c ∷ b)) g cs) h) (cut_from (λ b. f (c ∷ b)) g cs)
   where
-    by : ((f [] && g (c ∷ cs)) ≡ true) ⊎ (followed_by (λ b. f (c ∷ b)) g cs ≡ true) → (followed_by (λ b. f (c ∷ b)) g cs ≡ true → IsCut (λ b. f (c ∷ b)) g cs) → IsCut f g (c ∷ cs)
+    by : ((f [] && g (c ∷ cs)) ≡ true) ⊎ (followed_by (λ b. f (c ∷ b)) g cs ≡ true) → (followed_by (λ b. f (c ∷ b)) g cs ≡ true → IsSplit (λ b. f (c ∷ b)) g cs) → IsSplit f g (c ∷ cs)
     by (inl e) later = let parts = and_parts (f []) (g (c ∷ cs)) e in record { before = []; after = c ∷ cs; whole = refl; is_first = parts.0; is_second = parts.1 }
     by (inr e) later = let r = later e in record { before = c ∷ r.before; after = r.after; whole = ap (λ t. c ∷ t) r.whole; is_first = r.is_first; is_second = r.is_second }
 
@@ -141,7 +142,7 @@ joined_parts f g [] [] h e = and_from (f []) (g []) h e
 joined_parts f g [] (c ∷ cs) h e = or_left (f [] && g (c ∷ cs)) (followed_by (λ b. f (c ∷ b)) g cs) (and_from (f []) (g (c ∷ cs)) h e)
 joined_parts f g (c ∷ a) b h e = or_right (f [] && g (c ∷ (a ++ b))) (followed_by (λ d. f (c ∷ d)) g (a ++ b)) (joined_parts (λ d. f (c ∷ d)) g a b h e)
 
-pub cut_to : (f g : List ℕ → Bool) (t : List ℕ) → IsCut f g t → followed_by f g t ≡ true
+pub cut_to : (f g : List ℕ → Bool) (t : List ℕ) → IsSplit f g t → followed_by f g t ≡ true
 cut_to f g t r = subst (λ u. followed_by f g u ≡ true) r.whole (joined_parts f g r.before r.after r.is_first r.is_second)
 
 -- ---- the characters of a language's texts

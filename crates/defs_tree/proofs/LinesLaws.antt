@@ -6,7 +6,7 @@ use Rattle.std.specs.Str.Lines.{lines, lines_of_parts, strip_carriage_return}
 use lib.Pointwise.{pointwise}
 use Rattle.std.proofs.lemmas.Bool.{ne_eqb, and_parts, not-true, cases_eq}
 use Rattle.defs_tree.specs.Lines.{is_unbroken, lines_of, onto_first_line, ended}
-use Rattle.defs_tree.specs.Grammar.{is_empty}
+use Rattle.defs_text.specs.Text.{is_empty}
 
 -- ---- the last character
 

@@ -8,7 +8,8 @@ use Rattle.std.specs.Str.Parse.{AllDigits, IsNumeral, digits_value, signed_digit
 use Rattle.std.proofs.lemmas.Str.{chars-IsAscii, encodes-IsAscii, encodes-chars}
 use Rattle.std.proofs.lemmas.Bool.{true≢false, and_parts, and_from, ne_eqb, cases_eq, ltb-true, lt-ltb}
 use Rattle.std.proofs.lemmas.Bool.Decides.{nat_tests}
-use Rattle.defs_tree.specs.Grammar.{is_empty, at_least_one}
+use Rattle.defs_tree.specs.Grammar.{at_least_one}
+use Rattle.defs_text.specs.Text.{is_empty}
 use Rattle.defs_tree.specs.Typing.{is_digit, with_sign, signed_number, fits_i64}
 
 -- ---- numerals

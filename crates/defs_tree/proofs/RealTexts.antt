@@ -6,7 +6,8 @@ use Rattle.std.specs.Char.{is_ascii_digit}
 use Rattle.std.proofs.lemmas.Bool.{and_parts, or_cases, or_left}
 use Rattle.std.proofs.lemmas.Bool.Decides.{nat_tests}
 use Rattle.std.proofs.lemmas.Slice.Eq.{bytes_eq-Decides}
-use Rattle.defs_tree.specs.Grammar.{is_empty, one, any_number, at_least_one, optional, in_order, is_among}
+use Rattle.defs_tree.specs.Grammar.{one, any_number, at_least_one, optional, in_order, is_among}
+use Rattle.defs_text.specs.Text.{is_empty}
 use Rattle.defs_tree.specs.Typing.{typing, is_decimal, is_real_text, is_sign, is_point, is_exponent_mark, is_exponent, is_mantissa, special_words}
 use Rattle.defs_tree.specs.Quoting.{is_in}
 use Rattle.defs_tree.proofs.GrammarLaws.{IsWithin, IsWithin-followed_by, IsWithin-empty, IsWithin-one, IsWithin-any_number, IsWithin-at_least_one, IsWithin-optional, IsWithin-or, IsWithin-none}

@@ -4,7 +4,8 @@ use Rattle.std.specs.Prelude.{codes}
 use Rattle.std.specs.List.{list_any}
 use Rattle.std.proofs.lemmas.Bool.{or_parts}
 use Rattle.defs_tree.specs.Tree.{string}
-use Rattle.defs_tree.specs.Grammar.{is_empty, is_among}
+use Rattle.defs_tree.specs.Grammar.{is_among}
+use Rattle.defs_text.specs.Text.{is_empty}
 use Rattle.defs_tree.specs.Typing.{typing, is_string}
 use Rattle.defs_tree.specs.Quoting.{is_quoted, has_outer_space, has_indicator_first, begins_with, is_unfit_for_plain, reserved_words, is_float_word}
 use Rattle.defs_tree.proofs.ReadBack.{string_back}

@@ -3,7 +3,7 @@
 use Rattle.std.specs.Prelude.{ℕ, Bool, true, false, not, ◌&&◌, if◌then◌else◌, List, [], ◌∷◌, ◌++◌, map, codes}
 use Rattle.defs_tree.specs.Tree.{Tree, string, array, hash, Items, no_items, item, Pairs, no_pairs, pair}
 use Rattle.defs_tree.specs.Spelling.{spelling, string_spelling, is_scalar}
-use Rattle.defs_tree.specs.Literal.{is_literal, is_root_literal, literal_header}
+use Rattle.defs_tree.specs.Literal.{is_literal_text, is_root_literal, literal_header}
 use Rattle.defs_tree.specs.Lines.{lines_of}
 
 -- lines two columns further to the right
@@ -41,7 +41,7 @@ literal_box s = literal_header s ∷ lines_of s
 -- a string that isn't a key: as a literal block where that is wanted and may be, else on one line
 abbrev pub string_box : Bool → Bool → List ℕ → List (List ℕ)
 string_box multiline at_root s =
-    if multiline && (if at_root then is_root_literal s else is_literal s) then literal_box s else string_spelling s ∷ []
+    if multiline && (if at_root then is_root_literal s else is_literal_text s) then literal_box s else string_spelling s ∷ []
 
 -- a pair from its key and value and their boxes: a scalar key stands before a colon, and a block under it always goes lower;
 -- an array or hash as key is hung on a question mark, and its value on a colon

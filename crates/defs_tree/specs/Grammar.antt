@@ -2,11 +2,7 @@
 -- These are the operators of a grammar: a class, `*`, `+`, `?`, sequence, and choice.
 use Rattle.std.specs.Prelude.{◌≡◌, ◌++◌, IsTrue, ℕ, Bool, true, false, not, ◌&&◌, ◌||◌, List, [], ◌∷◌, bytes_eq}
 use Rattle.std.specs.List.{list_any, list_all}
-
--- nothing at all
-abbrev pub is_empty : List ℕ → Bool
-is_empty [] = true
-is_empty (c ∷ cs) = false
+use Rattle.defs_text.specs.Text.{is_empty}
 
 -- one character of a class
 abbrev pub one : (ℕ → Bool) → List ℕ → Bool
@@ -44,7 +40,7 @@ abbrev pub is_among : List (List ℕ) → List ℕ → Bool
 is_among words text = list_any (λ w. bytes_eq w text) words
 
 -- a text in two parts, the one of the first language, the other of the second
-pub record IsCut (first second : List ℕ → Bool) (text : List ℕ) : Type 0 where
+pub record IsSplit (first second : List ℕ → Bool) (text : List ℕ) : Type 0 where
   pub before : List ℕ
   pub after : List ℕ
   pub whole : before ++ after ≡ text

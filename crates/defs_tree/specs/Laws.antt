@@ -7,7 +7,8 @@ use Rattle.defs_tree.specs.Tree.{Tree, real, integer, string, boolean, null}
 use Rattle.defs_tree.specs.Order.{tree_cmp, tree_eq}
 use Rattle.defs_tree.specs.Pairs.{lookup, insert, place_of, value_at, AreDistinct}
 use Rattle.defs_tree.specs.Lines.{is_unbroken, lines_of, ended}
-use Rattle.defs_tree.specs.Grammar.{is_empty, followed_by, IsCut}
+use Rattle.defs_tree.specs.Grammar.{followed_by, IsSplit}
+use Rattle.defs_text.specs.Text.{is_empty}
 use Rattle.defs_tree.specs.Typing.{typing, rows, fits_i64, is_real_text}
 use Rattle.defs_tree.specs.Quoting.{is_quoted}
 use Rattle.defs_tree.specs.Spelling.{spelling}
@@ -57,7 +58,7 @@ PlaceFindsTheValue = (k : Tree) (ps : List (Tree × Tree)) → option_and_then (
 
 -- `followed_by_is_a_cut`
 abbrev pub FollowedByIsACut : Type 0
-FollowedByIsACut = (first second : List ℕ → Bool) (text : List ℕ) → IsTrue (followed_by first second text) ↔ IsCut first second text
+FollowedByIsACut = (first second : List ℕ → Bool) (text : List ℕ) → IsTrue (followed_by first second text) ↔ IsSplit first second text
 
 -- ---- lines
 

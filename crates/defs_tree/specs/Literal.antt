@@ -28,8 +28,8 @@ first_full_line_is_indented ((c ∷ cs) ∷ ls) = c == 32
 
 -- a text that may be a literal block: it has a line feed, is made of fit characters, isn't line feeds alone, doesn't end in two of
 -- them, and its first line that isn't empty doesn't start with a space
-unfoldable pub is_literal : List ℕ → Bool
-is_literal text =
+unfoldable pub is_literal_text : List ℕ → Bool
+is_literal_text text =
     list_any is_line_feed text
     && list_all is_literal_character text
     && not (list_all is_line_feed text)
@@ -52,7 +52,7 @@ starts_with_tab text = starts_with nat_eq text (codes "\t")
 -- the same at the root, where the lines stand in column 0: also, the first line doesn't start with a TAB, and no line is read as a
 -- document marker
 unfoldable pub is_root_literal : List ℕ → Bool
-is_root_literal text = is_literal text && not (starts_with_tab text) && not (list_any begins_as_marker (lines_of text))
+is_root_literal text = is_literal_text text && not (starts_with_tab text) && not (list_any begins_as_marker (lines_of text))
 
 -- the header: clipped where the text ends in a line feed, else stripped
 abbrev pub literal_header : List ℕ → List ℕ

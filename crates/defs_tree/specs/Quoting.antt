@@ -4,7 +4,8 @@
 use Rattle.std.specs.Prelude.{ℕ, Bool, false, not, ◌&&◌, ◌||◌, ◌==◌, nat_le, nat_eq, List, [], ◌∷◌, codes}
 use Rattle.std.specs.List.{list_any, starts_with, ends_with}
 use Rattle.std.specs.Str.{str_to_ascii_lowercase}
-use Rattle.defs_tree.specs.Grammar.{is_empty, one, optional, in_order, is_among}
+use Rattle.defs_tree.specs.Grammar.{one, optional, in_order, is_among}
+use Rattle.defs_text.specs.Text.{is_empty}
 use Rattle.defs_tree.specs.Typing.{typing, is_string, is_sign}
 
 -- the class of the characters of a text

@@ -1,10 +1,6 @@
 //! Laws of the definitions, each the contract of an empty function.
 
-ghost use Rattle.defs_tree.specs.Laws.{OrderIsTotal, EqualityIsExact, EqualityIsAnEquivalence};
-ghost use Rattle.defs_tree.specs.Laws.{InsertKeepsKeysDistinct, InsertedValueIsFound, InsertKeepsOtherValues, InsertKeepsTheOrder, PlaceFindsTheValue};
-ghost use Rattle.defs_tree.specs.Laws.{LinesMakeTheText, LinesAreUnbroken, LinesAreThoseOfStd, BoxLinesAreUnbroken};
-ghost use Rattle.defs_tree.specs.Laws.{FollowedByIsACut, TypingGivesAPlainScalar, StringsFitNoRow, SpellingStandsForItsScalar};
-ghost use Rattle.defs_tree.specs.Laws.{DigitsAreLeast, OverlayKeepsKeysDistinct};
+ghost use Rattle.defs_tree.specs.Laws.{OrderIsTotal, EqualityIsExact, EqualityIsAnEquivalence, InsertKeepsKeysDistinct, InsertedValueIsFound, InsertKeepsOtherValues, InsertKeepsTheOrder, PlaceFindsTheValue, LinesMakeTheText, LinesAreUnbroken, LinesAreThoseOfStd, BoxLinesAreUnbroken, FollowedByIsACut, TypingGivesAPlainScalar, StringsFitNoRow, SpellingStandsForItsScalar, DigitsAreLeast, OverlayKeepsKeysDistinct};
 
 /// The order of trees is total.
 pub fn order_is_total()

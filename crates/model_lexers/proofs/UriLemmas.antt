@@ -7,7 +7,7 @@ use Rattle.yaml_tokens.specs.declared.problem.Fault.{Fault}
 use Rattle.yaml_tokens.specs.declared.problem.Fault.TheVariants.{At}
 use Rattle.yaml_tokens.specs.declared.problem.Problem.TheVariants as problem
 use Rattle.model_lexers.specs.Machine.{past, and_then, turned, Stop}
-use Rattle.model_lexers.specs.Uri.{Octet, lead, plain, percent, high, low, State, uri_from, octet_from, went_on, at_octet, ended}
+use Rattle.model_lexers.specs.Uri.{Octet, lead, plain, percent, high, low, UriState, uri_from, octet_from, went_on, at_octet, ended}
 
 module _ (test : ℕ → Bool) (start : Position) where
   -- where no character of the kind stands
@@ -32,7 +32,7 @@ module _ (test : ℕ → Bool) (start : Position) where
   low_fails o v c [] p t e h = refl
   low_fails o v c (d ∷ a) p t e h = let g : is_hex d ≡ false = rw e at h in rw g refl
 
-  goes_on : (r : Result State Fault) (a : List ℕ) (go : State → Result (Stop State) Fault) → ended start (turned (went_on r) a go) ≡ and_then r (λ s. ended start (go s))
+  goes_on : (r : Result UriState Fault) (a : List ℕ) (go : UriState → Result (Stop UriState) Fault) → ended start (turned (went_on r) a go) ≡ and_then r (λ s. ended start (go s))
   goes_on (Ok s) a go = refl
   goes_on (Err f) a go = refl
 

@@ -2,7 +2,7 @@
 use Rattle.std.specs.Prelude.{ℕ, zero, suc, ◌+◌, ◌-◌, max, Bool, true, false, List, [], ◌∷◌, ◌++◌, ◌==◌, ◌&&◌, not, nat_lt, nat_le, if◌then◌else◌, slice_index, Option, Some, None, Result, Ok, Err}
 use Rattle.defs_text.specs.Position.{Position}
 use Rattle.yaml_chars.specs.Class.{is_break, is_blank, is_digit}
-use Rattle.defs_text.specs.Text.{is_nil}
+use Rattle.defs_text.specs.Text.{is_empty}
 use Rattle.yaml_tokens.specs.declared.problem.Fault.{Fault}
 use Rattle.yaml_tokens.specs.declared.problem.Fault.TheVariants.{At}
 use Rattle.yaml_tokens.specs.declared.problem.Problem.TheVariants as problem
@@ -130,7 +130,7 @@ pub data Mode : Type 0 where
   margin : Mode
   line : Mode
 
-pub record State : Type 0 where
+pub record BlockState : Type 0 where
   pub mode : Mode
   pub place : Position
   pub lines : Lines
@@ -140,7 +140,7 @@ lf_if b = (if b then 10 ∷ [] else [])
 
 -- what stands between two content lines
 unfoldable pub between : Bool → Lines → Bool → List ℕ
-between literal l blank = (if not literal && l.broken && not l.blank && not blank then (if is_nil l.breaks then 32 ∷ [] else l.breaks) else lf_if l.broken ++ l.breaks)
+between literal l blank = (if not literal && l.broken && not l.blank && not blank then (if is_empty l.breaks then 32 ∷ [] else l.breaks) else lf_if l.broken ++ l.breaks)
 
 abbrev pub begun : Bool → ℕ → Lines → Lines
 begun literal c l = record { text = l.text ++ between literal l (is_blank c); breaks = []; broken = false; blank = is_blank c }
@@ -153,7 +153,7 @@ unfoldable pub begins : ℕ → ℕ → List ℕ → Bool
 begins column col [] = false
 begins column col (c ∷ a) = (col == column) && not (at_marker col (c ∷ a))
 
-abbrev pub turn_in : Bool → ℕ → Mode → State → ℕ → List ℕ → Turn State Fault
+abbrev pub turn_in : Bool → ℕ → Mode → BlockState → ℕ → List ℕ → Turn BlockState Fault
 turn_in literal column margin s c a =
     (if (c == 32) && nat_lt s.place.col column then on (record { mode = margin; place = past s.place; lines = s.lines }) else
     (if is_break c then (if is_cr_lf c a then on (record { mode = margin; place = past s.place; lines = s.lines }) else on (record { mode = margin; place = past_break s.place; lines = record (s.lines) { breaks = s.lines.breaks ++ 10 ∷ [] } })) else
@@ -162,15 +162,15 @@ turn_in literal column line s c a =
     (if is_break c then (if is_cr_lf c a then on (record { mode = line; place = past s.place; lines = s.lines }) else on (record { mode = margin; place = past_break s.place; lines = record (s.lines) { broken = true } })) else
     on (record { mode = line; place = past s.place; lines = with_char c s.lines }))
 
-abbrev pub turn : Bool → ℕ → State → ℕ → List ℕ → Turn State Fault
+abbrev pub turn : Bool → ℕ → BlockState → ℕ → List ℕ → Turn BlockState Fault
 turn literal column s c a = turn_in literal column s.mode s c a
 
-abbrev pub ended : Result (Stop State) Fault → Result (Read Lines) Fault
+abbrev pub ended : Result (Stop BlockState) Fault → Result (Read Lines) Fault
 ended (Ok t) = Ok (record { rest = t.rest; place = t.state.place; value = t.state.lines })
 ended (Err f) = Err f
 
 -- the scan of the lines from a state on
-abbrev pub lines_from : Bool → ℕ → List ℕ → State → Result (Read Lines) Fault
+abbrev pub lines_from : Bool → ℕ → List ℕ → BlockState → Result (Read Lines) Fault
 lines_from literal column a s = ended (run (turn literal column) a s)
 
 -- the tail by its chomping; the flag says that the text ends in a line that has no break
@@ -181,7 +181,7 @@ tail Keep unbroken l = lf_if l.broken ++ lf_if unbroken ++ l.breaks
 
 -- whether the text ends here in a line that reaches the content column, and column 1
 abbrev pub is_open : ℕ → List ℕ → ℕ → Bool
-is_open column a col = is_nil a && nat_le column col && nat_lt 0 col
+is_open column a col = is_empty a && nat_le column col && nat_lt 0 col
 
 -- whether indentation and empty lines end here
 unfoldable pub ends_indent : ℕ → ℕ → List ℕ → Bool
@@ -192,7 +192,7 @@ ends_indent column col (c ∷ a) = not (is_break c) && not ((c == 32) && nat_lt 
 unfoldable pub empty_text : Chomping → Bool → List ℕ → List ℕ
 empty_text Strip broken t = []
 empty_text Clip broken t = lf_if broken
-empty_text Keep broken t = (if broken then (if is_nil t then 10 ∷ [] else t) else [])
+empty_text Keep broken t = (if broken then (if is_empty t then 10 ∷ [] else t) else [])
 
 -- a block scalar: its token's place and its text
 pub record Block : Type 0 where
@@ -210,7 +210,7 @@ body literal indent c r =
 
 abbrev pub after_header : Bool → ℕ → Position → Header → Read Column → Result (Read Block) Fault
 after_header literal indent start h r =
-    (if is_nil r.rest then Ok (record { rest = r.rest; place = r.place; value = record { place = start; text = empty_text h.indicators.chomping h.broken r.value.breaks } }) else body literal indent h.indicators.chomping r)
+    (if is_empty r.rest then Ok (record { rest = r.rest; place = r.place; value = record { place = start; text = empty_text h.indicators.chomping h.broken r.value.breaks } }) else body literal indent h.indicators.chomping r)
 
 -- the whole scan, from the `|` or `>` on
 unfoldable pub block : Bool → ℕ → List ℕ → Position → Result (Read Block) Fault

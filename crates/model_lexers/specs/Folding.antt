@@ -1,6 +1,6 @@
 -- Lines of a flow scalar that are being folded (YAML 1.2, section 6.5).
 use Rattle.std.specs.Prelude.{ℕ, Bool, true, false, List, [], ◌∷◌, ◌++◌, ◌&&◌, not, if◌then◌else◌}
-use Rattle.defs_text.specs.Text.{is_nil}
+use Rattle.defs_text.specs.Text.{is_empty}
 
 -- a text that is being folded, and what stands between it and the next character: blanks, or after a break the breaks after that, and whether that break was an escaped one
 pub record Folded : Type 0 where
@@ -27,4 +27,4 @@ with_escaped_break p = record p { leading = true; escaped = true }
 
 -- the gap becomes text: a lone break is a space
 abbrev pub joined : Folded → Folded
-joined p = record { text = p.text ++ (if p.leading && not p.escaped && is_nil p.gap then 32 ∷ [] else p.gap); gap = []; leading = false; escaped = false }
+joined p = record { text = p.text ++ (if p.leading && not p.escaped && is_empty p.gap then 32 ∷ [] else p.gap); gap = []; leading = false; escaped = false }

@@ -16,7 +16,7 @@ pub data Mode : Type 0 where
   between : Mode
   tabs : Mode
 
-pub record State : Type 0 where
+pub record PlainState : Type 0 where
   pub mode : Mode
   pub place : Position
   pub folded : Folded
@@ -25,16 +25,16 @@ unfoldable pub can_be_plain : Bool → ℕ → ℕ → Bool
 can_be_plain flow c d = (if c == 58 then not (is_blank_or_breakz d || (flow && is_flow d)) else not (flow && is_flow c))
 
 -- a break; of CR LF the CR is passed first
-abbrev pub at_break : ℕ → List ℕ → State → State
+abbrev pub at_break : ℕ → List ℕ → PlainState → PlainState
 at_break c a s = (if is_cr_lf c a then record { mode = between; place = past s.place; folded = s.folded } else record { mode = between; place = past_break s.place; folded = with_break s.folded })
 
-abbrev pub at_gap : Context → ℕ → List ℕ → State → State
+abbrev pub at_gap : Context → ℕ → List ℕ → PlainState → PlainState
 at_gap ctx c a s =
     (if is_break c then at_break c a s else
     (if s.folded.leading && (c == 9) && nat_lt s.place.col ctx.indent then record { mode = tabs; place = past s.place; folded = s.folded } else
     record { mode = between; place = past s.place; folded = with_blank c s.folded }))
 
-abbrev pub at_char : ℕ → Position → Folded → State
+abbrev pub at_char : ℕ → Position → Folded → PlainState
 at_char c p t = record { mode = inside; place = past p; folded = with_char c t }
 
 -- whether a later line stands too far left
@@ -56,12 +56,12 @@ goes_on ctx a p =
     (if (slice_index a 0 == 35) || at_marker p.col a then Ok false else
     (if at_dash ctx.flow a then Err (At problem.PlainDashInFlow p) else Ok (at_plain ctx.flow a))))
 
-abbrev pub begun : Result Bool Fault → ℕ → State → Turn State Fault
+abbrev pub begun : Result Bool Fault → ℕ → PlainState → Turn PlainState Fault
 begun (Ok true) c s = on (at_char c s.place (joined s.folded))
 begun (Ok false) c s = stop s
 begun (Err f) c s = fail f
 
-abbrev pub turn_in : Context → Position → Mode → State → ℕ → List ℕ → Turn State Fault
+abbrev pub turn_in : Context → Position → Mode → PlainState → ℕ → List ℕ → Turn PlainState Fault
 turn_in ctx start first s c a = on (at_char c s.place (joined s.folded))
 turn_in ctx start inside s c a = (if is_break c || is_blank c then on (at_gap ctx c a s) else (if can_be_plain ctx.flow c (slice_index a 0) then on (at_char c s.place s.folded) else stop s))
 turn_in ctx start between s c a = (if is_break c || is_blank c then on (at_gap ctx c a s) else begun (goes_on ctx (c ∷ a) s.place) c s)
@@ -70,7 +70,7 @@ turn_in ctx start tabs s c a =
     (if c == 35 then stop s else
     (if is_blank c then on (record { mode = tabs; place = past s.place; folded = s.folded }) else fail (At problem.PlainTab start))))
 
-abbrev pub turn : Context → Position → State → ℕ → List ℕ → Turn State Fault
+abbrev pub turn : Context → Position → PlainState → ℕ → List ℕ → Turn PlainState Fault
 turn ctx start s c a = turn_in ctx start s.mode s c a
 
 -- what a plain scalar is: its text, and whether it ended after a break
@@ -78,12 +78,12 @@ pub record Plain : Type 0 where
   pub text : List ℕ
   pub leading : Bool
 
-abbrev pub ended : Result (Stop State) Fault → Result (Read Plain) Fault
+abbrev pub ended : Result (Stop PlainState) Fault → Result (Read Plain) Fault
 ended (Ok t) = Ok (record { rest = t.rest; place = t.state.place; value = record { text = t.state.folded.text; leading = t.state.folded.leading } })
 ended (Err f) = Err f
 
 -- the scan from a state on
-abbrev pub plain_from : Context → Position → List ℕ → State → Result (Read Plain) Fault
+abbrev pub plain_from : Context → Position → List ℕ → PlainState → Result (Read Plain) Fault
 plain_from ctx start a s = ended (run (turn ctx start) a s)
 
 -- whether a plain scalar may begin here

@@ -22,7 +22,7 @@ pub data Mode : Type 0 where
   digits : (more value : ℕ) → Mode
   closed : Mode
 
-pub record State : Type 0 where
+pub record QuotedState : Type 0 where
   pub mode : Mode
   pub place : Position
   pub folded : Folded
@@ -60,42 +60,42 @@ escape_of c =
 unfoldable pub is_scalar : ℕ → Bool
 is_scalar c = nat_lt c 55296 || (nat_le 57344 c && nat_lt c 1114112)
 
-abbrev pub at_char : ℕ → State → Turn State Fault
+abbrev pub at_char : ℕ → QuotedState → Turn QuotedState Fault
 at_char c s = on (record { mode = inside; place = past s.place; folded = with_char c s.folded })
 
 -- a break; of CR LF the CR is passed first
-abbrev pub at_break : ℕ → List ℕ → State → Turn State Fault
+abbrev pub at_break : ℕ → List ℕ → QuotedState → Turn QuotedState Fault
 at_break c a s = (if is_cr_lf c a then on (record { mode = gap; place = past s.place; folded = s.folded }) else on (record { mode = gap; place = past_break s.place; folded = with_break s.folded }))
 
-abbrev pub at_gap : Context → ℕ → List ℕ → State → Turn State Fault
+abbrev pub at_gap : Context → ℕ → List ℕ → QuotedState → Turn QuotedState Fault
 at_gap ctx c a s =
     (if is_break c then at_break c a s else
     (if s.folded.leading && (c == 9) && nat_lt (s.place.col + 1) ctx.indent then fail (At problem.TabAsIndentation s.place) else
     on (record { mode = gap; place = past s.place; folded = with_blank c s.folded })))
 
 -- an escaped break
-abbrev pub at_escaped_break : ℕ → List ℕ → State → Turn State Fault
+abbrev pub at_escaped_break : ℕ → List ℕ → QuotedState → Turn QuotedState Fault
 at_escaped_break c a s = (if is_cr_lf c a then on (record { mode = breaking; place = past s.place; folded = s.folded }) else on (record { mode = after; place = past_break s.place; folded = with_escaped_break s.folded }))
 
-abbrev pub at_quote : Bool → List ℕ → State → Turn State Fault
+abbrev pub at_quote : Bool → List ℕ → QuotedState → Turn QuotedState Fault
 at_quote single a s = on (record { mode = (if single && (slice_index a 0 == 39) then doubled else closed); place = past s.place; folded = s.folded })
 
-abbrev pub at_backslash : List ℕ → State → Turn State Fault
+abbrev pub at_backslash : List ℕ → QuotedState → Turn QuotedState Fault
 at_backslash a s = on (record { mode = (if is_break (slice_index a 0) then breaking else named); place = past s.place; folded = s.folded })
 
 -- what a line has but blanks and breaks
-abbrev pub at_inside : Bool → ℕ → List ℕ → State → Turn State Fault
+abbrev pub at_inside : Bool → ℕ → List ℕ → QuotedState → Turn QuotedState Fault
 at_inside single c a s =
     (if (c == 92) && not single then at_backslash a s else
     (if c == quote_of single then at_quote single a s else at_char c s))
 
-abbrev pub at_named : Position → Escape → State → Turn State Fault
+abbrev pub at_named : Position → Escape → QuotedState → Turn QuotedState Fault
 at_named start (Escape.char d) s = at_char d s
 at_named start (Escape.code more) s = on (record { mode = digits more 0; place = past s.place; folded = s.folded })
 at_named start Escape.unknown s = fail (At problem.UnknownEscape start)
 
 -- a code's digit: after the last one the code has to be a character's
-abbrev pub at_digit : Position → ℕ → ℕ → State → Turn State Fault
+abbrev pub at_digit : Position → ℕ → ℕ → QuotedState → Turn QuotedState Fault
 at_digit start zero value s = (if is_scalar value then at_char value s else fail (At problem.EscapedCode start))
 at_digit start (suc more) value s = on (record { mode = digits more value; place = past s.place; folded = s.folded })
 
@@ -105,19 +105,19 @@ refused ctx start a p =
     (if at_marker p.col a then Err (At problem.QuotedDocumentMarker start) else
     (if nat_lt (p.col + 1) ctx.indent then Err (At problem.QuotedIndentation start) else Ok tt))
 
-abbrev pub unless : Result (Unit {0}) Fault → Turn State Fault → Turn State Fault
+abbrev pub unless : Result (Unit {0}) Fault → Turn QuotedState Fault → Turn QuotedState Fault
 unless (Ok t) u = u
 unless (Err f) u = fail f
 
 -- what a line has
-abbrev pub in_line : Bool → Context → ℕ → List ℕ → State → Turn State Fault
+abbrev pub in_line : Bool → Context → ℕ → List ℕ → QuotedState → Turn QuotedState Fault
 in_line single ctx c a s = (if is_break c || is_blank c then at_gap ctx c a s else at_inside single c a s)
 
 -- what stands where a line begins or goes on
-abbrev pub at_line : Bool → Context → Position → ℕ → List ℕ → State → Turn State Fault
+abbrev pub at_line : Bool → Context → Position → ℕ → List ℕ → QuotedState → Turn QuotedState Fault
 at_line single ctx start c a s = unless (refused ctx start (c ∷ a) s.place) (in_line single ctx c a (record s { folded = joined s.folded }))
 
-abbrev pub turn_in : Bool → Context → Position → Mode → State → ℕ → List ℕ → Turn State Fault
+abbrev pub turn_in : Bool → Context → Position → Mode → QuotedState → ℕ → List ℕ → Turn QuotedState Fault
 turn_in single ctx start first s c a = at_line single ctx start c a s
 turn_in single ctx start inside s c a = in_line single ctx c a s
 turn_in single ctx start gap s c a = (if is_break c || is_blank c then at_gap ctx c a s else at_line single ctx start c a s)
@@ -130,7 +130,7 @@ turn_in single ctx start named s c a = at_named start (escape_of c) s
 turn_in single ctx start (digits more value) s c a = (if is_hex c then at_digit start more (value * 16 + digit_value c) s else fail (At problem.HexadecimalDigit start))
 turn_in single ctx start closed s c a = stop s
 
-abbrev pub turn : Bool → Context → Position → State → ℕ → List ℕ → Turn State Fault
+abbrev pub turn : Bool → Context → Position → QuotedState → ℕ → List ℕ → Turn QuotedState Fault
 turn single ctx start s c a = turn_in single ctx start s.mode s c a
 
 -- where the text ends inside a scalar
@@ -140,12 +140,12 @@ end_in start named rest place text = Err (At problem.UnknownEscape start)
 end_in start (digits more value) rest place text = Err (At problem.HexadecimalDigit start)
 end_in start _ rest place text = Err (At problem.QuotedEnd start)
 
-abbrev pub ended : Position → Result (Stop State) Fault → Result (Read (List ℕ)) Fault
+abbrev pub ended : Position → Result (Stop QuotedState) Fault → Result (Read (List ℕ)) Fault
 ended start (Ok t) = end_in start t.state.mode t.rest t.state.place t.state.folded.text
 ended start (Err f) = Err f
 
 -- the scan from a state on
-abbrev pub quoted_from : Bool → Context → Position → List ℕ → State → Result (Read (List ℕ)) Fault
+abbrev pub quoted_from : Bool → Context → Position → List ℕ → QuotedState → Result (Read (List ℕ)) Fault
 quoted_from single ctx start a s = ended start (run (turn single ctx start) a s)
 
 -- the scan where so many digits of a code are left, and those before have a value

@@ -2,7 +2,7 @@
 use Rattle.std.specs.Prelude.{ℕ, Bool, List, [], ◌∷◌, ◌++◌, ◌==◌, ◌||◌, ◌&&◌, not, if◌then◌else◌, drop, slice_index, Result, Ok, Err}
 use Rattle.defs_text.specs.Position.{Position}
 use Rattle.yaml_chars.specs.Class.{is_alpha, is_blank_or_breakz, is_flow, is_tag, is_uri}
-use Rattle.defs_text.specs.Text.{is_nil}
+use Rattle.defs_text.specs.Text.{is_empty}
 use Rattle.yaml_tokens.specs.declared.problem.Fault.{Fault}
 use Rattle.yaml_tokens.specs.declared.problem.Fault.TheVariants.{At}
 use Rattle.yaml_tokens.specs.declared.problem.Problem.TheVariants as problem
@@ -26,14 +26,14 @@ unfoldable pub verbatim : Position → List ℕ → Position → Result (Read Ta
 verbatim start a p = and_then (uri is_uri start a p []) (λ (r : Read (List ℕ)). verbatim_end start r.value r.rest r.place)
 
 abbrev pub some_suffix : Position → List ℕ → Read (List ℕ) → Result (Read Tag) Fault
-some_suffix start name r = (if is_nil r.value then Err (At problem.TagUri start) else Ok (read_tag r.rest r.place ((33 ∷ name) ++ 33 ∷ []) r.value))
+some_suffix start name r = (if is_empty r.value then Err (At problem.TagUri start) else Ok (read_tag r.rest r.place ((33 ∷ name) ++ 33 ∷ []) r.value))
 
 -- a tag after its handle
 unfoldable pub named : Position → List ℕ → List ℕ → Position → Result (Read Tag) Fault
 named start name a p = and_then (uri is_tag start a p []) (λ r. some_suffix start name r)
 
 abbrev pub local : Read (List ℕ) → Read Tag
-local r = (if is_nil r.value then read_tag r.rest r.place [] (33 ∷ []) else read_tag r.rest r.place (33 ∷ []) r.value)
+local r = (if is_empty r.value then read_tag r.rest r.place [] (33 ∷ []) else read_tag r.rest r.place (33 ∷ []) r.value)
 
 -- a suffix without a handle, which begins with a name
 abbrev pub local_tag : Position → List ℕ → List ℕ → Position → Result (Read Tag) Fault

@@ -21,18 +21,18 @@ pub data Mode : Type 0 where
   high : Octet → Mode
   low : Octet → (value : ℕ) → Mode
 
-pub record State : Type 0 where
+pub record UriState : Type 0 where
   pub mode : Mode
   pub place : Position
   pub text : List ℕ
 
 -- where so many octets are left
-abbrev pub at_trail : Position → (left code least : ℕ) → Position → List ℕ → Result State Fault
+abbrev pub at_trail : Position → (left code least : ℕ) → Position → List ℕ → Result UriState Fault
 at_trail start zero code least p t = (if nat_le least code && is_scalar code then Ok (record { mode = plain; place = p; text = t ++ code ∷ [] }) else Err (At problem.TagCodepoint start))
 at_trail start (suc more) code least p t = Ok (record { mode = percent (trail more code least); place = p; text = t })
 
 -- after an octet
-abbrev pub at_octet : Position → Octet → ℕ → Position → List ℕ → Result State Fault
+abbrev pub at_octet : Position → Octet → ℕ → Position → List ℕ → Result UriState Fault
 at_octet start lead n p t =
     (if nat_lt n 128 then at_trail start 0 n 0 p t else
     (if nat_le 192 n && nat_lt n 224 then at_trail start 1 (n - 192) 128 p t else
@@ -40,18 +40,18 @@ at_octet start lead n p t =
     (if nat_le 240 n && nat_lt n 248 then at_trail start 3 (n - 240) 65536 p t else Err (At problem.TagLeadingOctet start)))))
 at_octet start (trail more code least) n p t = (if nat_le 128 n && nat_lt n 192 then at_trail start more (code * 64 + (n - 128)) least p t else Err (At problem.TagTrailingOctet start))
 
-abbrev pub went_on : Result State Fault → Turn State Fault
+abbrev pub went_on : Result UriState Fault → Turn UriState Fault
 went_on (Ok s) = on s
 went_on (Err f) = fail f
 
-abbrev pub turn_in : (ℕ → Bool) → Position → Mode → State → ℕ → List ℕ → Turn State Fault
+abbrev pub turn_in : (ℕ → Bool) → Position → Mode → UriState → ℕ → List ℕ → Turn UriState Fault
 turn_in test start plain s c a =
     (if test c then (if c == 37 then on (record { mode = high lead; place = past s.place; text = s.text }) else on (record { mode = plain; place = past s.place; text = s.text ++ c ∷ [] })) else stop s)
 turn_in test start (percent o) s c a = (if c == 37 then on (record { mode = high o; place = past s.place; text = s.text }) else fail (At problem.TagOctet start))
 turn_in test start (high o) s c a = (if is_hex c then on (record { mode = low o (digit_value c); place = past s.place; text = s.text }) else fail (At problem.TagOctet start))
 turn_in test start (low o value) s c a = (if is_hex c then went_on (at_octet start o (value * 16 + digit_value c) (past s.place) s.text) else fail (At problem.TagOctet start))
 
-abbrev pub turn : (ℕ → Bool) → Position → State → ℕ → List ℕ → Turn State Fault
+abbrev pub turn : (ℕ → Bool) → Position → UriState → ℕ → List ℕ → Turn UriState Fault
 turn test start s c a = turn_in test start s.mode s c a
 
 -- no text ends inside an escaped character
@@ -59,12 +59,12 @@ abbrev pub end_in : Position → Mode → List ℕ → Position → List ℕ →
 end_in start plain rest place text = Ok (record { rest = rest; place = place; value = text })
 end_in start _ rest place text = Err (At problem.TagOctet start)
 
-abbrev pub ended : Position → Result (Stop State) Fault → Result (Read (List ℕ)) Fault
+abbrev pub ended : Position → Result (Stop UriState) Fault → Result (Read (List ℕ)) Fault
 ended start (Ok t) = end_in start t.state.mode t.rest t.state.place t.state.text
 ended start (Err f) = Err f
 
 -- the scan from a state on, of characters of a kind
-abbrev pub uri_from : (ℕ → Bool) → Position → List ℕ → State → Result (Read (List ℕ)) Fault
+abbrev pub uri_from : (ℕ → Bool) → Position → List ℕ → UriState → Result (Read (List ℕ)) Fault
 uri_from test start a s = ended start (run (turn test start) a s)
 
 -- the characters of a kind after a text

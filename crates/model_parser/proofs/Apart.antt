@@ -3,9 +3,7 @@ use Rattle.std.proofs.Common.{◌≡◌, ℕ, List, [], ◌∷◌, ◌++◌, Opt
 use Rattle.defs_token.specs.Token.{Tok}
 use Rattle.defs_event.specs.Raw.{Directive}
 use Rattle.defs_event.specs.Raw as raw
-use Rattle.defs_event.specs.Grammar.{Properties, anchored, tagged, anchored_tagged, tagged_anchored, FlowNode, flow_alias, flow_content, flow_properties, FlowContent, scalar, flow_sequence, flow_mapping, PerhapsFlow, no_flow, some_flow, Items, no_items, items, MoreItems, end_items, comma_end_items, comma_item, Item, single, single_pair, FlowValue, no_flow_value, flow_value, FlowPairs, no_flow_pairs, flow_pairs, MoreFlowPairs, end_flow_pairs, comma_end_flow_pairs, comma_flow_pair, FlowPair, flow_keyed, flow_keyless, flow_single}
-use Rattle.defs_event.specs.Grammar.{Node, block_alias, block_content, block_properties, Content, flow, block_sequence, block_mapping, Perhaps, no_node, some_node, Entries, end_entries, entry, Part, plain, indentless, Dashes, end_dashes, dash, Pairs, keyed, keyless, KeyPairs, end_pairs, key, AfterKey, value, no_value, Documents, marker, bare, directed, others, Explicit, end_stream, explicit, After, marked, unmarked}
-use Rattle.defs_event.specs.Grammar.{properties_tokens, perhaps_properties_tokens, flow_node_tokens, flow_content_tokens, perhaps_flow_tokens, items_tokens, more_items_tokens, item_tokens, flow_value_tokens, flow_pairs_tokens, more_flow_pairs_tokens, flow_pair_tokens, node_tokens, content_tokens, perhaps_tokens, entries_tokens, part_tokens, dashes_tokens, pairs_tokens, key_pairs_tokens, after_key_tokens, directives_tokens, documents_tokens, explicit_tokens, after_tokens, stream_tokens}
+use Rattle.defs_event.specs.Grammar.{Properties, anchored, tagged, anchored_tagged, tagged_anchored, FlowNode, flow_alias, flow_content, flow_properties, FlowContent, scalar, flow_sequence, flow_mapping, PerhapsFlow, no_flow, some_flow, Items, no_items, items, MoreItems, end_items, comma_end_items, comma_item, Item, single, single_pair, FlowValue, no_flow_value, flow_value, FlowPairs, no_flow_pairs, flow_pairs, MoreFlowPairs, end_flow_pairs, comma_end_flow_pairs, comma_flow_pair, FlowPair, flow_keyed, flow_keyless, flow_single, Node, block_alias, block_content, block_properties, Content, flow, block_sequence, block_mapping, Perhaps, no_node, some_node, Entries, end_entries, entry, Part, plain, indentless, Dashes, end_dashes, dash, Pairs, keyed, keyless, KeyPairs, end_pairs, key, AfterKey, value, no_value, Documents, marker, bare, directed, others, Explicit, end_stream, explicit, After, marked, unmarked, properties_tokens, perhaps_properties_tokens, flow_node_tokens, flow_content_tokens, perhaps_flow_tokens, items_tokens, more_items_tokens, item_tokens, flow_value_tokens, flow_pairs_tokens, more_flow_pairs_tokens, flow_pair_tokens, node_tokens, content_tokens, perhaps_tokens, entries_tokens, part_tokens, dashes_tokens, pairs_tokens, key_pairs_tokens, after_key_tokens, directives_tokens, documents_tokens, explicit_tokens, after_tokens, stream_tokens}
 
 -- ---- no anchor after an anchor
 

@@ -5,7 +5,7 @@ use Rattle.defs_event.specs.Raw.{Raw}
 use Rattle.defs_event.specs.Grammar.{stream_tokens}
 use Rattle.model_parser.specs.declared.state.State.{State}
 use Rattle.model_parser.specs.Goal.{Goal}
-use Rattle.model_parser.specs.Stands.{Stands, Begins}
+use Rattle.model_parser.specs.Stands.{IsOnTrack, IsNext}
 use Rattle.model_parser.specs.Turn.{Takes, Leaves, event_then, then_event}
 
 event_along : (given es fs : List Raw) (e : Option Raw) → es ≡ event_then e fs → given ++ es ≡ then_event given e ++ fs
@@ -13,7 +13,7 @@ event_along given es fs None h = ap (λ xs. given ++ xs) h
 event_along given es fs (Some x) h = ap (λ xs. given ++ xs) h ∙ sym (append_assoc given (x ∷ []) fs)
 
 pub stands_take : (g : Goal) (ss : List State) (t : Tok) (e : Option Raw) (g' : Goal) (ss' : List State) (taken : List Tok) (given : List Raw)
-    → Takes g ss t e g' ss' → Stands g ss taken (Some t) given → Stands g' ss' (taken ++ t ∷ []) None (then_event given e)
+    → Takes g ss t e g' ss' → IsOnTrack g ss taken (Some t) given → IsOnTrack g' ss' (taken ++ t ∷ []) None (then_event given e)
 stands_take g ss t e g' ss' taken given k s = record {
   nested = (k.nested s.nested s.fits).0;
   fits = (k.nested s.nested s.fits).1;
@@ -29,7 +29,7 @@ stands_take g ss t e g' ss' taken given k s = record {
 }
 
 pub stands_leave : (g : Goal) (ss : List State) (p : Option Tok) (e : Option Raw) (g' : Goal) (ss' : List State) (taken : List Tok) (given : List Raw)
-    → Leaves g ss p e g' ss' → Stands g ss taken p given → Stands g' ss' taken p (then_event given e)
+    → Leaves g ss p e g' ss' → IsOnTrack g ss taken p given → IsOnTrack g' ss' taken p (then_event given e)
 stands_leave g ss p e g' ss' taken given k s = record {
   nested = (k.nested s.nested s.fits).0;
   fits = (k.nested s.nested s.fits).1;
@@ -39,6 +39,6 @@ stands_leave g ss p e g' ss' taken given k s = record {
       (d.0, d.1 ∙ ap (λ xs. taken ++ xs) b.2, d.2 ∙ event_along given _ _ e b.3);
   exact = λ d ts h u.
       let o = s.exact d ts h u in
-      let n = k.goes s.nested s.fits o.0 o.1 (subst (Begins p) (sym o.2) u) in
+      let n = k.goes s.nested s.fits o.0 o.1 (subst (IsNext p) (sym o.2) u) in
       (n.0, n.1, n.2 ∙ o.2, o.3 ∙ event_along given _ _ e n.3);
 }

@@ -4,7 +4,7 @@ use Rattle.defs_token.specs.Token.{Tok}
 use Rattle.defs_event.specs.Raw.{Raw, Directive, nothing_written}
 use Rattle.defs_event.specs.Grammar.{Perhaps, no_node, some_node, Documents, marker, bare, directed, others, Explicit, end_stream, explicit, After, marked, unmarked, directive_token}
 use Rattle.model_parser.specs.declared.kind.Kind.TheVariants as kind
-use Rattle.model_parser.specs.declared.place.Place.TheVariants as place
+use Rattle.model_parser.specs.declared.place.NodeContext.TheVariants as place
 use Rattle.model_parser.specs.declared.state.State.{State}
 use Rattle.model_parser.specs.declared.state.State.TheVariants as state
 use Rattle.model_parser.specs.Kinds.{kind_of, begins_node, ends_document, is_directive}

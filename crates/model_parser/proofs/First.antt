@@ -4,27 +4,27 @@ use Rattle.defs_token.specs.Token.{Tok}
 use Rattle.defs_event.specs.Grammar.{anchored, tagged, anchored_tagged, tagged_anchored, Properties, FlowNode, flow_alias, flow_content, flow_properties, FlowContent, scalar, flow_sequence, flow_mapping, MoreItems, end_items, comma_end_items, comma_item, FlowValue, no_flow_value, flow_value, MoreFlowPairs, end_flow_pairs, comma_end_flow_pairs, comma_flow_pair, Node, block_alias, block_content, block_properties, Content, flow, block_sequence, block_mapping, Entries, end_entries, entry, Dashes, end_dashes, dash, Pairs, keyed, keyless, end_pairs, key, AfterKey, value, no_value, end_stream, explicit, After, marked, unmarked, flow_node_tokens, flow_content_tokens, more_items_tokens, flow_value_tokens, more_flow_pairs_tokens, node_tokens, content_tokens, entries_tokens, dashes_tokens, pairs_tokens, after_key_tokens, after_tokens, properties_tokens}
 use Rattle.model_parser.specs.declared.kind.Kind.{Kind}
 use Rattle.model_parser.specs.declared.kind.Kind.TheVariants as kind
-use Rattle.model_parser.specs.declared.place.Place.{Place}
-use Rattle.model_parser.specs.declared.place.Place.TheVariants as place
+use Rattle.model_parser.specs.declared.place.NodeContext.{NodeContext}
+use Rattle.model_parser.specs.declared.place.NodeContext.TheVariants as place
 use Rattle.model_parser.specs.declared.state.State.{State}
 use Rattle.model_parser.specs.declared.state.State.TheVariants as state
 use Rattle.model_parser.specs.Kinds.{kind_of, begins_content, begins_node, ends_part, ends_document, ends_item, ends_item_key, ends_flow_pair, ends_flow_key, tok_of_kind, has_no_text}
 use Rattle.model_parser.specs.Goal.{NodeAt, ContentAt, part_node, part_sequence, part_content, part_dashes, node_at_tokens, content_at_tokens}
 use Rattle.model_parser.specs.Rest.{Rest, rest_tokens, first_is, BeginsNoNode, EndsPart, EndsNode}
-use Rattle.model_parser.specs.Stands.{Begins}
+use Rattle.model_parser.specs.Stands.{IsNext}
 
 pub true_is_not_false : {b : Bool} → b ≡ true → b ≡ false → ⊥
 true_is_not_false {b} h e = let f : true ≡ false = sym h ∙ e in cc
 
 -- The first token meets what all first tokens meet.
-pub first_token : (test : Kind → Bool) (us : List Tok) (t : Tok) → first_is test us ≡ true → Begins (Some t) us → test (kind_of t) ≡ true
+pub first_token : (test : Kind → Bool) (us : List Tok) (t : Tok) → first_is test us ≡ true → IsNext (Some t) us → test (kind_of t) ≡ true
 first_token test [] t h b = absurd b
 first_token test (u ∷ us) t h b = ap (λ x. test (kind_of x)) (sym b) ∙ h
 
-pub begins_some : (t : Tok) (ts us : List Tok) → us ≡ t ∷ ts → Begins (Some t) us
-begins_some t ts us h = subst (Begins (Some t)) (sym h) refl
+pub begins_some : (t : Tok) (ts us : List Tok) → us ≡ t ∷ ts → IsNext (Some t) us
+begins_some t ts us h = subst (IsNext (Some t)) (sym h) refl
 
-pub clash : (test : Kind → Bool) (us : List Tok) (t : Tok) → first_is test us ≡ true → test (kind_of t) ≡ false → Begins (Some t) us → ⊥
+pub clash : (test : Kind → Bool) (us : List Tok) (t : Tok) → first_is test us ≡ true → test (kind_of t) ≡ false → IsNext (Some t) us → ⊥
 clash test us t h e b = true_is_not_false (first_token test us t h b) e
 
 pub clash_cons : (test : Kind → Bool) (us : List Tok) (t : Tok) (ts : List Tok) → first_is test us ≡ true → test (kind_of t) ≡ false → us ≡ t ∷ ts → ⊥
@@ -75,7 +75,7 @@ content_first (flow (flow_mapping p)) r = refl
 content_first (block_sequence x) r = refl
 content_first (block_mapping x) r = refl
 
-pub content_at_first : (p : Place) (c : ContentAt p) (r : List Tok) → first_is (begins_content p) (content_at_tokens p c r) ≡ true
+pub content_at_first : (p : NodeContext) (c : ContentAt p) (r : List Tok) → first_is (begins_content p) (content_at_tokens p c r) ≡ true
 content_at_first place.Flow c r = flow_content_first c r
 content_at_first place.Block c r = content_first c r
 content_at_first place.Part (part_content (flow (scalar s x))) r = refl
@@ -85,7 +85,7 @@ content_at_first place.Part (part_content (block_sequence i)) r = refl
 content_at_first place.Part (part_content (block_mapping i)) r = refl
 content_at_first place.Part (part_dashes q d) r = refl
 
-properties_first : (p : Place) (o : Properties) (r : List Tok) → first_is (begins_node p) (properties_tokens o r) ≡ true
+properties_first : (p : NodeContext) (o : Properties) (r : List Tok) → first_is (begins_node p) (properties_tokens o r) ≡ true
 properties_first p (anchored a) r = refl
 properties_first p (tagged t) r = refl
 properties_first p (anchored_tagged a t) r = refl
@@ -119,7 +119,7 @@ part_node_first (block_content None (block_mapping i)) r = refl
 part_node_first (block_content (Some o) c) r = properties_first place.Part o _
 part_node_first (block_properties o) r = properties_first place.Part o _
 
-pub node_at_first : (p : Place) (n : NodeAt p) (r : List Tok) → first_is (begins_node p) (node_at_tokens p n r) ≡ true
+pub node_at_first : (p : NodeContext) (n : NodeAt p) (r : List Tok) → first_is (begins_node p) (node_at_tokens p n r) ≡ true
 node_at_first place.Flow n r = flow_node_first n r
 node_at_first place.Block n r = node_first n r
 node_at_first place.Part (part_node n) r = part_node_first n r
@@ -170,31 +170,31 @@ pub first_more : (a b : Kind → Bool) → ((k : Kind) → a k ≡ true → b k 
 first_more a b f [] h = refl
 first_more a b f (t ∷ ts) h = f (kind_of t) h
 
-pub no_node_at : Place → Kind → Bool
+pub no_node_at : NodeContext → Kind → Bool
 no_node_at p k = not (begins_node p k)
 
-part_ends_no_node : (p : Place) (k : Kind) → ends_part k ≡ true → not (begins_node p k) ≡ true
+part_ends_no_node : (p : NodeContext) (k : Kind) → ends_part k ≡ true → not (begins_node p k) ≡ true
 part_ends_no_node p kind.Key h = refl
 part_ends_no_node p kind.Value h = refl
 part_ends_no_node p kind.BlockEnd h = refl
 part_ends_no_node p _ h = cc
 
-pub ends_part_begins_none : (p : Place) (ss : List State) → EndsPart ss → BeginsNoNode p ss
+pub ends_part_begins_none : (p : NodeContext) (ss : List State) → EndsPart ss → BeginsNoNode p ss
 ends_part_begins_none p ss e r = first_more ends_part (λ k. not (begins_node p k)) (part_ends_no_node p) (rest_tokens ss r) (e r)
 
-document_no_node : (p : Place) (k : Kind) → ends_document k ≡ true → not (begins_node p k) ≡ true
+document_no_node : (p : NodeContext) (k : Kind) → ends_document k ≡ true → not (begins_node p k) ≡ true
 document_no_node p kind.DocumentStart h = refl
 document_no_node p kind.DocumentEnd h = refl
 document_no_node p kind.StreamEnd h = refl
 document_no_node p _ h = cc
 
-item_no_node : (p : Place) (k : Kind) → ends_item_key k ≡ true → not (begins_node p k) ≡ true
+item_no_node : (p : NodeContext) (k : Kind) → ends_item_key k ≡ true → not (begins_node p k) ≡ true
 item_no_node p kind.Value h = refl
 item_no_node p kind.FlowEntry h = refl
 item_no_node p kind.FlowSequenceEnd h = refl
 item_no_node p _ h = cc
 
-flow_pair_no_node : (p : Place) (k : Kind) → ends_flow_key k ≡ true → not (begins_node p k) ≡ true
+flow_pair_no_node : (p : NodeContext) (k : Kind) → ends_flow_key k ≡ true → not (begins_node p k) ≡ true
 flow_pair_no_node p kind.Value h = refl
 flow_pair_no_node p kind.FlowEntry h = refl
 flow_pair_no_node p kind.FlowMappingEnd h = refl
@@ -222,7 +222,7 @@ block_begins_fewer kind.FlowMappingStart h = h
 block_begins_fewer _ h = refl
 
 -- what stands under a node begins none
-pub after_begins_none : (p : Place) (ss : List State) → EndsNode p ss → BeginsNoNode p ss
+pub after_begins_none : (p : NodeContext) (ss : List State) → EndsNode p ss → BeginsNoNode p ss
 after_begins_none place.Part ss b = ends_part_begins_none place.Part ss b
 after_begins_none place.Block ss b = b
 after_begins_none place.Flow ss b = b

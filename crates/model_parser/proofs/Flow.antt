@@ -5,7 +5,7 @@ use Rattle.defs_token.specs.Token.{Tok}
 use Rattle.defs_event.specs.Raw.{Raw, nothing_written}
 use Rattle.defs_event.specs.Grammar.{PerhapsFlow, no_flow, some_flow, Items, no_items, items, MoreItems, end_items, comma_end_items, comma_item, Item, single, single_pair, FlowValue, no_flow_value, flow_value, FlowPairs, no_flow_pairs, flow_pairs, MoreFlowPairs, end_flow_pairs, comma_end_flow_pairs, comma_flow_pair, FlowPair, flow_keyed, flow_keyless, flow_single}
 use Rattle.model_parser.specs.declared.kind.Kind.TheVariants as kind
-use Rattle.model_parser.specs.declared.place.Place.TheVariants as place
+use Rattle.model_parser.specs.declared.place.NodeContext.TheVariants as place
 use Rattle.model_parser.specs.declared.state.State.{State}
 use Rattle.model_parser.specs.declared.state.State.TheVariants as state
 use Rattle.model_parser.specs.Kinds.{kind_of, begins_node, ends_item, ends_item_key, ends_flow_pair, ends_flow_key}

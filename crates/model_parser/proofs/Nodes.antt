@@ -6,8 +6,8 @@ use Rattle.defs_event.specs.Raw.{Raw}
 use Rattle.defs_event.specs.Grammar.{Properties, anchored, tagged, anchored_tagged, tagged_anchored, flow_alias, flow_content, flow_properties, scalar, flow_sequence, flow_mapping, block_alias, block_content, block_properties, flow, block_sequence, block_mapping, tag_token, perhaps_properties_tokens, perhaps_anchor_of, perhaps_tag_of, anchor_of, tag_of}
 use Rattle.model_parser.specs.declared.kind.Kind.{Kind}
 use Rattle.model_parser.specs.declared.kind.Kind.TheVariants as kind
-use Rattle.model_parser.specs.declared.place.Place.{Place}
-use Rattle.model_parser.specs.declared.place.Place.TheVariants as place
+use Rattle.model_parser.specs.declared.place.NodeContext.{NodeContext}
+use Rattle.model_parser.specs.declared.place.NodeContext.TheVariants as place
 use Rattle.model_parser.specs.declared.state.State.{State}
 use Rattle.model_parser.specs.declared.state.State.TheVariants as state
 use Rattle.model_parser.specs.Kinds.{kind_of, begins_node, begins_content}
@@ -15,27 +15,27 @@ use Rattle.model_parser.specs.Goal as at
 use Rattle.model_parser.specs.Goal.{NodeAt, ContentAt, part_node, part_sequence, part_content, part_dashes, node_at_tokens, node_at_events, content_at_tokens, content_at_events, perhaps_content_tokens, perhaps_content_events, IsThere, anchor_and, tag_and, perhaps_tag_tokens, perhaps_anchor_tokens, Awaits}
 use Rattle.model_parser.specs.Rest.{Rest, rest_tokens, rest_events, EndsNode}
 use Rattle.model_parser.specs.Turn.{Goes, Comes, Stays, Takes, Leaves, Refuses}
-use Rattle.model_parser.specs.Stands.{Begins}
+use Rattle.model_parser.specs.Stands.{IsNext}
 use Rattle.model_parser.proofs.First.{clash, clash_cons, begins_some, content_first, flow_content_first, content_at_first, after_begins_none, ends_part_begins_none, block_begins_fewer, first_more, first_token}
 
 -- ---- a node is an alias, or properties and a content of which one at least is there
 
-pub record Written (p : Place) (n : NodeAt p) : Type 0 where
+pub record Written (p : NodeContext) (n : NodeAt p) : Type 0 where
   pub properties : Option Properties
   pub inner : Option (ContentAt p)
   pub there : IsThere properties inner
   pub tokens : (r : List Tok) → node_at_tokens p n r ≡ perhaps_properties_tokens properties (perhaps_content_tokens p inner r)
   pub events : (r : List Raw) → node_at_events p n r ≡ perhaps_content_events p properties inner r
 
-pub record IsAlias (p : Place) (n : NodeAt p) (name : List ℕ) : Type 0 where
+pub record IsAlias (p : NodeContext) (n : NodeAt p) (name : List ℕ) : Type 0 where
   pub tokens : (r : List Tok) → node_at_tokens p n r ≡ Tok.alias name ∷ r
   pub events : (r : List Raw) → node_at_events p n r ≡ Raw.alias name ∷ r
 
-data Case (p : Place) (n : NodeAt p) : Type 0 where
+data Case (p : NodeContext) (n : NodeAt p) : Type 0 where
   is_alias : (name : List ℕ) → IsAlias p n name → Case p n
   is_written : Written p n → Case p n
 
-case_of : (p : Place) (n : NodeAt p) → Case p n
+case_of : (p : NodeContext) (n : NodeAt p) → Case p n
 case_of place.Flow (flow_alias n) = is_alias n (record { tokens = λ r. refl; events = λ r. refl })
 case_of place.Flow (flow_content None c) = is_written (record { properties = None; inner = Some c; there = tt; tokens = λ r. refl; events = λ r. refl })
 case_of place.Flow (flow_content (Some o) c) = is_written (record { properties = Some o; inner = Some c; there = tt; tokens = λ r. refl; events = λ r. refl })
@@ -52,12 +52,12 @@ case_of place.Part (part_sequence None p d) = is_written (record { properties = 
 case_of place.Part (part_sequence (Some o) p d) = is_written (record { properties = Some o; inner = Some (part_dashes p d); there = tt; tokens = λ r. refl; events = λ r. refl })
 
 -- and the other way round
-pub record Made (p : Place) (o : Option Properties) (c : Option (ContentAt p)) : Type 0 where
+pub record Made (p : NodeContext) (o : Option Properties) (c : Option (ContentAt p)) : Type 0 where
   pub made : NodeAt p
   pub tokens : (r : List Tok) → node_at_tokens p made r ≡ perhaps_properties_tokens o (perhaps_content_tokens p c r)
   pub events : (r : List Raw) → node_at_events p made r ≡ perhaps_content_events p o c r
 
-make : (p : Place) (o : Option Properties) (c : Option (ContentAt p)) → IsThere o c → Made p o c
+make : (p : NodeContext) (o : Option Properties) (c : Option (ContentAt p)) → IsThere o c → Made p o c
 make p None None i = absurd i
 make place.Flow None (Some c) i = record { made = flow_content None c; tokens = λ r. refl; events = λ r. refl }
 make place.Flow (Some o) None i = record { made = flow_properties o; tokens = λ r. refl; events = λ r. refl }
@@ -71,7 +71,7 @@ make place.Part (Some o) (Some (part_content c)) i = record { made = part_node (
 make place.Part None (Some (part_dashes q d)) i = record { made = part_sequence None q d; tokens = λ r. refl; events = λ r. refl }
 make place.Part (Some o) (Some (part_dashes q d)) i = record { made = part_sequence (Some o) q d; tokens = λ r. refl; events = λ r. refl }
 
-alias_node : (p : Place) (name : List ℕ) → (n : NodeAt p) × IsAlias p n name
+alias_node : (p : NodeContext) (name : List ℕ) → (n : NodeAt p) × IsAlias p n name
 alias_node place.Flow name = (flow_alias name, record { tokens = λ r. refl; events = λ r. refl })
 alias_node place.Block name = (block_alias name, record { tokens = λ r. refl; events = λ r. refl })
 alias_node place.Part name = (part_node (block_alias name), record { tokens = λ r. refl; events = λ r. refl })
@@ -79,27 +79,27 @@ alias_node place.Part name = (part_node (block_alias name), record { tokens = λ
 -- ---- what may come where a content may stand
 
 -- nothing there, and then what stands after the node
-none_begins : (p : Place) (ss : List State) → EndsNode p ss → (r : Rest ss) (t : Tok) → Begins (Some t) (rest_tokens ss r) → begins_node p (kind_of t) ≡ true → ⊥
+none_begins : (p : NodeContext) (ss : List State) → EndsNode p ss → (r : Rest ss) (t : Tok) → IsNext (Some t) (rest_tokens ss r) → begins_node p (kind_of t) ≡ true → ⊥
 none_begins p ss b r t h e = let f : not (begins_node p (kind_of t)) ≡ true = first_token (λ k. not (begins_node p k)) _ t (after_begins_none p ss b r) h in
     let g : not true ≡ true = ap not (sym e) ∙ f in cc
 
-alias_no_content : (p : Place) → begins_content p kind.Alias ≡ false
+alias_no_content : (p : NodeContext) → begins_content p kind.Alias ≡ false
 alias_no_content place.Flow = refl
 alias_no_content place.Block = refl
 alias_no_content place.Part = refl
 
-anchor_no_content : (p : Place) → begins_content p kind.Anchor ≡ false
+anchor_no_content : (p : NodeContext) → begins_content p kind.Anchor ≡ false
 anchor_no_content place.Flow = refl
 anchor_no_content place.Block = refl
 anchor_no_content place.Part = refl
 
-tag_no_content : (p : Place) → begins_content p kind.Tag ≡ false
+tag_no_content : (p : NodeContext) → begins_content p kind.Tag ≡ false
 tag_no_content place.Flow = refl
 tag_no_content place.Block = refl
 tag_no_content place.Part = refl
 
 -- no content, or one, does not begin with a property or an alias
-no_property : (p : Place) (ss : List State) → EndsNode p ss → (c : Option (ContentAt p)) (r : Rest ss) (t : Tok) → Begins (Some t) (perhaps_content_tokens p c (rest_tokens ss r)) → begins_node p (kind_of t) ≡ true → begins_content p (kind_of t) ≡ false → ⊥
+no_property : (p : NodeContext) (ss : List State) → EndsNode p ss → (c : Option (ContentAt p)) (r : Rest ss) (t : Tok) → IsNext (Some t) (perhaps_content_tokens p c (rest_tokens ss r)) → begins_node p (kind_of t) ≡ true → begins_content p (kind_of t) ≡ false → ⊥
 no_property p ss b None r t h e f = none_begins p ss b r t h e
 no_property p ss b (Some c) r t h e f = clash (begins_content p) _ t (content_at_first p c _) f h
 
@@ -129,24 +129,24 @@ there_none B C (Some o) i = tt
 
 -- ---- an alias
 
-alias_not_written : (p : Place) (ss : List State) → EndsNode p ss → (o : Option Properties) (c : Option (ContentAt p)) (r : Rest ss) (name : List ℕ) (ts : List Tok) → perhaps_properties_tokens o (perhaps_content_tokens p c (rest_tokens ss r)) ≡ Tok.alias name ∷ ts → ⊥
+alias_not_written : (p : NodeContext) (ss : List State) → EndsNode p ss → (o : Option Properties) (c : Option (ContentAt p)) (r : Rest ss) (name : List ℕ) (ts : List Tok) → perhaps_properties_tokens o (perhaps_content_tokens p c (rest_tokens ss r)) ≡ Tok.alias name ∷ ts → ⊥
 alias_not_written p ss b None c r name ts h = no_property p ss b c r (Tok.alias name) (begins_some (Tok.alias name) ts _ h) refl (alias_no_content p)
 alias_not_written p ss b (Some (anchored a)) c r name ts h = cc
 alias_not_written p ss b (Some (tagged a)) c r name ts h = cc
 alias_not_written p ss b (Some (anchored_tagged a t)) c r name ts h = cc
 alias_not_written p ss b (Some (tagged_anchored a t)) c r name ts h = cc
 
-node_alias_goes : (p : Place) (ss : List State) (name : List ℕ) (n : NodeAt p) → EndsNode p ss → Case p n → Goes (at.node p) ss (Tok.alias name) (Some (Raw.alias name)) at.done ss n
+node_alias_goes : (p : NodeContext) (ss : List State) (name : List ℕ) (n : NodeAt p) → EndsNode p ss → Case p n → Goes (at.node p) ss (Tok.alias name) (Some (Raw.alias name)) at.done ss n
 node_alias_goes p ss name n b (is_alias m a) r ts h =
     let e : Tok.alias m ∷ rest_tokens ss r ≡ Tok.alias name ∷ ts = sym (a.tokens _) ∙ h in
     let same : m ≡ name = cc in
     (tt, r, tail_eq e, a.events _ ∙ ap (λ x. Raw.alias x ∷ rest_events ss r) same)
 node_alias_goes p ss name n b (is_written w) r ts h = absurd (alias_not_written p ss b w.properties w.inner r name ts (sym (w.tokens _) ∙ h))
 
-node_alias_comes : (p : Place) (ss : List State) (name : List ℕ) → (n : NodeAt p) → IsAlias p n name → Comes (at.node p) ss (Tok.alias name ∷ []) (Some (Raw.alias name)) at.done ss tt
+node_alias_comes : (p : NodeContext) (ss : List State) (name : List ℕ) → (n : NodeAt p) → IsAlias p n name → Comes (at.node p) ss (Tok.alias name ∷ []) (Some (Raw.alias name)) at.done ss tt
 node_alias_comes p ss name n a r' = (n, r', a.tokens _, a.events _)
 
-pub node_alias : (p : Place) (ss : List State) (name : List ℕ) → Takes (at.node p) ss (Tok.alias name) (Some (Raw.alias name)) at.done ss
+pub node_alias : (p : NodeContext) (ss : List State) (name : List ℕ) → Takes (at.node p) ss (Tok.alias name) (Some (Raw.alias name)) at.done ss
 node_alias p ss name = record { nested = λ n f. (n, f.1); comes = λ x' r'. node_alias_comes p ss name (alias_node p name).0 (alias_node p name).1 r'; goes = λ n f x. node_alias_goes p ss name x f.0 (case_of p x) }
 
 -- ---- an anchor
@@ -156,7 +156,7 @@ pub record AnchorSplit (o : Option Properties) (a : List ℕ) (us ts : List Tok)
   pub are : o ≡ Some (anchor_and a other_tag)
   pub tokens : perhaps_tag_tokens other_tag us ≡ ts
 
-anchor_split : (p : Place) (ss : List State) → EndsNode p ss → (o : Option Properties) (c : Option (ContentAt p)) (r : Rest ss) (a : List ℕ) (ts : List Tok)
+anchor_split : (p : NodeContext) (ss : List State) → EndsNode p ss → (o : Option Properties) (c : Option (ContentAt p)) (r : Rest ss) (a : List ℕ) (ts : List Tok)
     → perhaps_properties_tokens o (perhaps_content_tokens p c (rest_tokens ss r)) ≡ Tok.anchor a ∷ ts → AnchorSplit o a (perhaps_content_tokens p c (rest_tokens ss r)) ts
 anchor_split p ss b None c r a ts h = absurd (no_property p ss b c r (Tok.anchor a) (begins_some (Tok.anchor a) ts _ h) refl (anchor_no_content p))
 anchor_split p ss b (Some (anchored a')) c r a ts h = let e : a' ≡ a = cc in record { other_tag = None; are = ap (λ x. Some (anchored x)) e; tokens = tail_eq h }
@@ -164,7 +164,7 @@ anchor_split p ss b (Some (tagged t)) c r a ts h = cc
 anchor_split p ss b (Some (anchored_tagged a' t)) c r a ts h = let e : a' ≡ a = cc in record { other_tag = Some t; are = ap (λ x. Some (anchored_tagged x t)) e; tokens = tail_eq h }
 anchor_split p ss b (Some (tagged_anchored t a')) c r a ts h = cc
 
-node_anchor_goes : (p : Place) (ss : List State) (a : List ℕ) (n : NodeAt p) → EndsNode p ss → Case p n → Goes (at.node p) ss (Tok.anchor a) None (at.after_anchor p a) ss n
+node_anchor_goes : (p : NodeContext) (ss : List State) (a : List ℕ) (n : NodeAt p) → EndsNode p ss → Case p n → Goes (at.node p) ss (Tok.anchor a) None (at.after_anchor p a) ss n
 node_anchor_goes p ss a n b (is_alias m i) r ts h = let e : Tok.alias m ∷ rest_tokens ss r ≡ Tok.anchor a ∷ ts = sym (i.tokens _) ∙ h in cc
 node_anchor_goes p ss a n b (is_written w) r ts h =
     let s = anchor_split p ss b w.properties w.inner r a ts (sym (w.tokens _) ∙ h) in
@@ -174,10 +174,10 @@ node_anchor_tokens : (a : List ℕ) (t : Option Tag) (us : List Tok) → perhaps
 node_anchor_tokens a None us = refl
 node_anchor_tokens a (Some t) us = refl
 
-node_anchor_comes : (p : Place) (ss : List State) (a : List ℕ) (x : Option Tag × Option (ContentAt p)) → Made p (Some (anchor_and a x.0)) x.1 → Comes (at.node p) ss (Tok.anchor a ∷ []) None (at.after_anchor p a) ss x
+node_anchor_comes : (p : NodeContext) (ss : List State) (a : List ℕ) (x : Option Tag × Option (ContentAt p)) → Made p (Some (anchor_and a x.0)) x.1 → Comes (at.node p) ss (Tok.anchor a ∷ []) None (at.after_anchor p a) ss x
 node_anchor_comes p ss a x m r' = (m.made, r', m.tokens _ ∙ node_anchor_tokens a x.0 _, m.events _)
 
-pub node_anchor : (p : Place) (ss : List State) (a : List ℕ) → Takes (at.node p) ss (Tok.anchor a) None (at.after_anchor p a) ss
+pub node_anchor : (p : NodeContext) (ss : List State) (a : List ℕ) → Takes (at.node p) ss (Tok.anchor a) None (at.after_anchor p a) ss
 node_anchor p ss a = record { nested = λ n f. (n, f); comes = λ x'. node_anchor_comes p ss a x' (make p (Some (anchor_and a x'.0)) x'.1 tt); goes = λ n f x. node_anchor_goes p ss a x f.0 (case_of p x) }
 
 -- ---- a tag
@@ -187,7 +187,7 @@ pub record TagSplit (o : Option Properties) (t : Tag) (us ts : List Tok) : Type 
   pub are : o ≡ Some (tag_and t other_anchor)
   pub tokens : perhaps_anchor_tokens other_anchor us ≡ ts
 
-tag_split : (p : Place) (ss : List State) → EndsNode p ss → (o : Option Properties) (c : Option (ContentAt p)) (r : Rest ss) (t : Tag) (ts : List Tok)
+tag_split : (p : NodeContext) (ss : List State) → EndsNode p ss → (o : Option Properties) (c : Option (ContentAt p)) (r : Rest ss) (t : Tag) (ts : List Tok)
     → perhaps_properties_tokens o (perhaps_content_tokens p c (rest_tokens ss r)) ≡ tag_token t ∷ ts → TagSplit o t (perhaps_content_tokens p c (rest_tokens ss r)) ts
 tag_split p ss b None c r t ts h = absurd (no_property p ss b c r (tag_token t) (begins_some (tag_token t) ts _ h) refl (tag_no_content p))
 tag_split p ss b (Some (anchored a)) c r t ts h = cc
@@ -195,7 +195,7 @@ tag_split p ss b (Some (tagged t')) c r t ts h = record { other_anchor = None; a
 tag_split p ss b (Some (anchored_tagged a t')) c r t ts h = cc
 tag_split p ss b (Some (tagged_anchored t' a)) c r t ts h = record { other_anchor = Some a; are = ap (λ x. Some (tagged_anchored x a)) (tag_eq t' t (head_eq h)); tokens = tail_eq h }
 
-node_tag_goes : (p : Place) (ss : List State) (t : Tag) (n : NodeAt p) → EndsNode p ss → Case p n → Goes (at.node p) ss (tag_token t) None (at.after_tag p t) ss n
+node_tag_goes : (p : NodeContext) (ss : List State) (t : Tag) (n : NodeAt p) → EndsNode p ss → Case p n → Goes (at.node p) ss (tag_token t) None (at.after_tag p t) ss n
 node_tag_goes p ss t n b (is_alias m i) r ts h = let e : Tok.alias m ∷ rest_tokens ss r ≡ tag_token t ∷ ts = sym (i.tokens _) ∙ h in cc
 node_tag_goes p ss t n b (is_written w) r ts h =
     let s = tag_split p ss b w.properties w.inner r t ts (sym (w.tokens _) ∙ h) in
@@ -205,61 +205,61 @@ node_tag_tokens : (t : Tag) (a : Option (List ℕ)) (us : List Tok) → perhaps_
 node_tag_tokens t None us = refl
 node_tag_tokens t (Some a) us = refl
 
-node_tag_comes : (p : Place) (ss : List State) (t : Tag) (x : Option (List ℕ) × Option (ContentAt p)) → Made p (Some (tag_and t x.0)) x.1 → Comes (at.node p) ss (tag_token t ∷ []) None (at.after_tag p t) ss x
+node_tag_comes : (p : NodeContext) (ss : List State) (t : Tag) (x : Option (List ℕ) × Option (ContentAt p)) → Made p (Some (tag_and t x.0)) x.1 → Comes (at.node p) ss (tag_token t ∷ []) None (at.after_tag p t) ss x
 node_tag_comes p ss t x m r' = (m.made, r', m.tokens _ ∙ node_tag_tokens t x.0 _, m.events _)
 
-pub node_tag : (p : Place) (ss : List State) (t : Tag) → Takes (at.node p) ss (tag_token t) None (at.after_tag p t) ss
+pub node_tag : (p : NodeContext) (ss : List State) (t : Tag) → Takes (at.node p) ss (tag_token t) None (at.after_tag p t) ss
 node_tag p ss t = record { nested = λ n f. (n, f); comes = λ x'. node_tag_comes p ss t x' (make p (Some (tag_and t x'.0)) x'.1 tt); goes = λ n f x. node_tag_goes p ss t x f.0 (case_of p x) }
 
 -- ---- no properties
 
-no_properties : (o : Option Properties) (us : List Tok) (t : Tok) → kind_of t ≢ kind.Anchor → kind_of t ≢ kind.Tag → Begins (Some t) (perhaps_properties_tokens o us) → o ≡ None
+no_properties : (o : Option Properties) (us : List Tok) (t : Tok) → kind_of t ≢ kind.Anchor → kind_of t ≢ kind.Tag → IsNext (Some t) (perhaps_properties_tokens o us) → o ≡ None
 no_properties None us t a b h = refl
 no_properties (Some (anchored x)) us t a b h = absurd (a (ap kind_of (sym h)))
 no_properties (Some (tagged x)) us t a b h = absurd (b (ap kind_of (sym h)))
 no_properties (Some (anchored_tagged x y)) us t a b h = absurd (a (ap kind_of (sym h)))
 no_properties (Some (tagged_anchored x y)) us t a b h = absurd (b (ap kind_of (sym h)))
 
-node_content_goes : (p : Place) (ss : List State) (t : Tok) → kind_of t ≢ kind.Alias → kind_of t ≢ kind.Anchor → kind_of t ≢ kind.Tag → (n : NodeAt p) → Case p n → Stays (at.node p) ss (Some t) None (at.after_properties p None) ss n
-node_content_goes p ss t a b d n (is_alias m i) r h = absurd (a (ap kind_of (sym (subst (Begins (Some t)) (i.tokens _) h))))
+node_content_goes : (p : NodeContext) (ss : List State) (t : Tok) → kind_of t ≢ kind.Alias → kind_of t ≢ kind.Anchor → kind_of t ≢ kind.Tag → (n : NodeAt p) → Case p n → Stays (at.node p) ss (Some t) None (at.after_properties p None) ss n
+node_content_goes p ss t a b d n (is_alias m i) r h = absurd (a (ap kind_of (sym (subst (IsNext (Some t)) (i.tokens _) h))))
 node_content_goes p ss t a b d n (is_written w) r h =
-    let e : w.properties ≡ None = no_properties w.properties _ t b d (subst (Begins (Some t)) (w.tokens _) h) in
+    let e : w.properties ≡ None = no_properties w.properties _ t b d (subst (IsNext (Some t)) (w.tokens _) h) in
     ((w.inner, subst (λ o. IsThere o w.inner) e w.there), r, sym (w.tokens _ ∙ ap (λ o. perhaps_properties_tokens o (perhaps_content_tokens p w.inner (rest_tokens ss r))) e), w.events _ ∙ ap (λ o. perhaps_content_events p o w.inner (rest_events ss r)) e)
 
-node_content_comes : (p : Place) (ss : List State) (x : Awaits (at.after_properties p None)) → Made p None x.0 → Comes (at.node p) ss [] None (at.after_properties p None) ss x
+node_content_comes : (p : NodeContext) (ss : List State) (x : Awaits (at.after_properties p None)) → Made p None x.0 → Comes (at.node p) ss [] None (at.after_properties p None) ss x
 node_content_comes p ss x m r' = (m.made, r', m.tokens _, m.events _)
 
-pub node_content : (p : Place) (ss : List State) (t : Tok) → kind_of t ≢ kind.Alias → kind_of t ≢ kind.Anchor → kind_of t ≢ kind.Tag → Leaves (at.node p) ss (Some t) None (at.after_properties p None) ss
+pub node_content : (p : NodeContext) (ss : List State) (t : Tok) → kind_of t ≢ kind.Alias → kind_of t ≢ kind.Anchor → kind_of t ≢ kind.Tag → Leaves (at.node p) ss (Some t) None (at.after_properties p None) ss
 node_content p ss t a b d = record { nested = λ n f. (n, f); comes = λ x'. node_content_comes p ss x' (make p None x'.0 x'.1); goes = λ n f x. node_content_goes p ss t a b d x (case_of p x) }
 
 -- ---- after an anchor, or a tag
 
-anchor_tag_goes : (p : Place) (ss : List State) (a : List ℕ) (t : Tag) → EndsNode p ss → (x : Option Tag × Option (ContentAt p)) → Goes (at.after_anchor p a) ss (tag_token t) None (at.after_properties p (Some (anchored_tagged a t))) ss x
+anchor_tag_goes : (p : NodeContext) (ss : List State) (a : List ℕ) (t : Tag) → EndsNode p ss → (x : Option Tag × Option (ContentAt p)) → Goes (at.after_anchor p a) ss (tag_token t) None (at.after_properties p (Some (anchored_tagged a t))) ss x
 anchor_tag_goes p ss a t b (None, c) r ts h = absurd (no_property p ss b c r (tag_token t) (begins_some (tag_token t) ts _ h) refl (tag_no_content p))
 anchor_tag_goes p ss a t b (Some t', c) r ts h = ((c, tt), r, tail_eq h, ap (λ x. perhaps_content_events p (Some (anchored_tagged a x)) c (rest_events ss r)) (tag_eq t' t (head_eq h)))
 
-pub anchor_tag : (p : Place) (ss : List State) (a : List ℕ) (t : Tag) → Takes (at.after_anchor p a) ss (tag_token t) None (at.after_properties p (Some (anchored_tagged a t))) ss
+pub anchor_tag : (p : NodeContext) (ss : List State) (a : List ℕ) (t : Tag) → Takes (at.after_anchor p a) ss (tag_token t) None (at.after_properties p (Some (anchored_tagged a t))) ss
 anchor_tag p ss a t = record { nested = λ n f. (n, f); comes = λ x' r'. ((Some t, x'.0), r', refl, refl); goes = λ n f. anchor_tag_goes p ss a t f.0 }
 
-anchor_alone_goes : (p : Place) (ss : List State) (a : List ℕ) (t : Tok) → kind_of t ≢ kind.Tag → (x : Option Tag × Option (ContentAt p)) → Stays (at.after_anchor p a) ss (Some t) None (at.after_properties p (Some (anchored a))) ss x
+anchor_alone_goes : (p : NodeContext) (ss : List State) (a : List ℕ) (t : Tok) → kind_of t ≢ kind.Tag → (x : Option Tag × Option (ContentAt p)) → Stays (at.after_anchor p a) ss (Some t) None (at.after_properties p (Some (anchored a))) ss x
 anchor_alone_goes p ss a t d (None, c) r h = ((c, tt), r, refl, refl)
 anchor_alone_goes p ss a t d (Some t', c) r h = absurd (d (ap kind_of (sym h)))
 
-pub anchor_alone : (p : Place) (ss : List State) (a : List ℕ) (t : Tok) → kind_of t ≢ kind.Tag → Leaves (at.after_anchor p a) ss (Some t) None (at.after_properties p (Some (anchored a))) ss
+pub anchor_alone : (p : NodeContext) (ss : List State) (a : List ℕ) (t : Tok) → kind_of t ≢ kind.Tag → Leaves (at.after_anchor p a) ss (Some t) None (at.after_properties p (Some (anchored a))) ss
 anchor_alone p ss a t d = record { nested = λ n f. (n, f); comes = λ x' r'. ((None, x'.0), r', refl, refl); goes = λ n f. anchor_alone_goes p ss a t d }
 
-tag_anchor_goes : (p : Place) (ss : List State) (t : Tag) (a : List ℕ) → EndsNode p ss → (x : Option (List ℕ) × Option (ContentAt p)) → Goes (at.after_tag p t) ss (Tok.anchor a) None (at.after_properties p (Some (tagged_anchored t a))) ss x
+tag_anchor_goes : (p : NodeContext) (ss : List State) (t : Tag) (a : List ℕ) → EndsNode p ss → (x : Option (List ℕ) × Option (ContentAt p)) → Goes (at.after_tag p t) ss (Tok.anchor a) None (at.after_properties p (Some (tagged_anchored t a))) ss x
 tag_anchor_goes p ss t a b (None, c) r ts h = absurd (no_property p ss b c r (Tok.anchor a) (begins_some (Tok.anchor a) ts _ h) refl (anchor_no_content p))
 tag_anchor_goes p ss t a b (Some a', c) r ts h = let e : a' ≡ a = cc in ((c, tt), r, tail_eq h, ap (λ x. perhaps_content_events p (Some (tagged_anchored t x)) c (rest_events ss r)) e)
 
-pub tag_anchor : (p : Place) (ss : List State) (t : Tag) (a : List ℕ) → Takes (at.after_tag p t) ss (Tok.anchor a) None (at.after_properties p (Some (tagged_anchored t a))) ss
+pub tag_anchor : (p : NodeContext) (ss : List State) (t : Tag) (a : List ℕ) → Takes (at.after_tag p t) ss (Tok.anchor a) None (at.after_properties p (Some (tagged_anchored t a))) ss
 tag_anchor p ss t a = record { nested = λ n f. (n, f); comes = λ x' r'. ((Some a, x'.0), r', refl, refl); goes = λ n f. tag_anchor_goes p ss t a f.0 }
 
-tag_alone_goes : (p : Place) (ss : List State) (t : Tag) (u : Tok) → kind_of u ≢ kind.Anchor → (x : Option (List ℕ) × Option (ContentAt p)) → Stays (at.after_tag p t) ss (Some u) None (at.after_properties p (Some (tagged t))) ss x
+tag_alone_goes : (p : NodeContext) (ss : List State) (t : Tag) (u : Tok) → kind_of u ≢ kind.Anchor → (x : Option (List ℕ) × Option (ContentAt p)) → Stays (at.after_tag p t) ss (Some u) None (at.after_properties p (Some (tagged t))) ss x
 tag_alone_goes p ss t u d (None, c) r h = ((c, tt), r, refl, refl)
 tag_alone_goes p ss t u d (Some a, c) r h = absurd (d (ap kind_of (sym h)))
 
-pub tag_alone : (p : Place) (ss : List State) (t : Tag) (u : Tok) → kind_of u ≢ kind.Anchor → Leaves (at.after_tag p t) ss (Some u) None (at.after_properties p (Some (tagged t))) ss
+pub tag_alone : (p : NodeContext) (ss : List State) (t : Tag) (u : Tok) → kind_of u ≢ kind.Anchor → Leaves (at.after_tag p t) ss (Some u) None (at.after_properties p (Some (tagged t))) ss
 tag_alone p ss t u d = record { nested = λ n f. (n, f); comes = λ x' r'. ((None, x'.0), r', refl, refl); goes = λ n f. tag_alone_goes p ss t u d }
 
 -- ---- a content

@@ -3,8 +3,8 @@ use Rattle.std.specs.Prelude.{Bool, true, false}
 use Rattle.defs_token.specs.Token.{Tok}
 use Rattle.model_parser.specs.declared.kind.Kind.{Kind}
 use Rattle.model_parser.specs.declared.kind.Kind.TheVariants as kind
-use Rattle.model_parser.specs.declared.place.Place.{Place}
-use Rattle.model_parser.specs.declared.place.Place.TheVariants as place
+use Rattle.model_parser.specs.declared.place.NodeContext.{NodeContext}
+use Rattle.model_parser.specs.declared.place.NodeContext.TheVariants as place
 
 abbrev pub kind_of : Tok → Kind
 kind_of Tok.stream_start = kind.StreamStart
@@ -30,7 +30,7 @@ kind_of (Tok.tag h s) = kind.Tag
 kind_of (Tok.scalar y x) = kind.Scalar
 
 -- what begins a node's content at a place
-abbrev pub begins_content : Place → Kind → Bool
+abbrev pub begins_content : NodeContext → Kind → Bool
 begins_content p kind.Scalar = true
 begins_content p kind.FlowSequenceStart = true
 begins_content p kind.FlowMappingStart = true
@@ -42,7 +42,7 @@ begins_content place.Part kind.BlockEntry = true
 begins_content _ _ = false
 
 -- what begins a node at a place
-abbrev pub begins_node : Place → Kind → Bool
+abbrev pub begins_node : NodeContext → Kind → Bool
 begins_node p kind.Alias = true
 begins_node p kind.Anchor = true
 begins_node p kind.Tag = true

@@ -3,8 +3,8 @@ use Rattle.std.specs.Prelude.{◌≡◌, List, [], ◌∷◌, Bool, true, not}
 use Rattle.defs_token.specs.Token.{Tok}
 use Rattle.defs_event.specs.Raw.{Raw}
 use Rattle.model_parser.specs.declared.kind.Kind.{Kind}
-use Rattle.model_parser.specs.declared.place.Place.{Place}
-use Rattle.model_parser.specs.declared.place.Place.TheVariants as place
+use Rattle.model_parser.specs.declared.place.NodeContext.{NodeContext}
+use Rattle.model_parser.specs.declared.place.NodeContext.TheVariants as place
 use Rattle.model_parser.specs.declared.state.State.{State}
 use Rattle.model_parser.specs.declared.state.State.TheVariants as state
 use Rattle.model_parser.specs.Kinds.{kind_of, begins_node, ends_part}
@@ -63,7 +63,7 @@ first_is test [] = true
 first_is test (t ∷ ts) = test (kind_of t)
 
 -- Nothing that may come here begins a node of that place.
-abbrev pub BeginsNoNode : Place → List State → Type 0
+abbrev pub BeginsNoNode : NodeContext → List State → Type 0
 BeginsNoNode p ss = (r : Rest ss) → first_is (λ k. not (begins_node p k)) (rest_tokens ss r) ≡ true
 
 -- What comes here ends a part of a block mapping.
@@ -71,7 +71,7 @@ abbrev pub EndsPart : List State → Type 0
 EndsPart ss = (r : Rest ss) → first_is ends_part (rest_tokens ss r) ≡ true
 
 -- what stands under a node of that place
-abbrev pub EndsNode : Place → List State → Type 0
+abbrev pub EndsNode : NodeContext → List State → Type 0
 EndsNode place.Part ss = EndsPart ss
 EndsNode p ss = BeginsNoNode p ss
 

@@ -5,7 +5,7 @@ use Rattle.defs_event.specs.Raw.{Raw}
 use Rattle.model_parser.specs.declared.state.State.{State}
 use Rattle.model_parser.specs.Goal.{Goal, Awaits}
 use Rattle.model_parser.specs.Rest.{Rest, still_tokens, still_events, IsNested, IsFor}
-use Rattle.model_parser.specs.Stands.{Begins}
+use Rattle.model_parser.specs.Stands.{IsNext}
 
 -- an event, or none
 abbrev pub event_then : Option Raw → List Raw → List Raw
@@ -34,7 +34,7 @@ pub record Takes (g : Goal) (ss : List State) (t : Tok) (e : Option Raw) (g' : G
 
 -- What is awaited here, where that token comes, goes on there after this event.
 abbrev pub Stays : (g : Goal) (ss : List State) → Option Tok → Option Raw → (g' : Goal) (ss' : List State) → Awaits g → Type 0
-Stays g ss p e g' ss' x = (r : Rest ss) → Begins p (still_tokens g ss x r)
+Stays g ss p e g' ss' x = (r : Rest ss) → IsNext p (still_tokens g ss x r)
     → (x' : Awaits g') × (r' : Rest ss') × (still_tokens g' ss' x' r' ≡ still_tokens g ss x r) × (still_events g ss x r ≡ event_then e (still_events g' ss' x' r'))
 
 -- The token stays.
@@ -45,4 +45,4 @@ pub record Leaves (g : Goal) (ss : List State) (p : Option Tok) (e : Option Raw)
 
 -- Nothing that is awaited begins with that token.
 abbrev pub Refuses : (g : Goal) (ss : List State) → Tok → Type 0
-Refuses g ss t = IsNested ss → IsFor g ss → (x : Awaits g) (r : Rest ss) → Begins (Some t) (still_tokens g ss x r) → ⊥
+Refuses g ss t = IsNested ss → IsFor g ss → (x : Awaits g) (r : Rest ss) → IsNext (Some t) (still_tokens g ss x r) → ⊥

@@ -6,5 +6,5 @@ pub mod place;
 pub mod state;
 
 pub use kind::Kind;
-pub use place::Place;
+pub use place::NodeContext;
 pub use state::State;

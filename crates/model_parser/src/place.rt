@@ -1,6 +1,6 @@
 /// Where a node stands, and so which contents it may have.
 #[derive(Clone, Copy, Debug, PartialEq, Eq)]
-pub enum Place {
+pub enum NodeContext {
     /// In a flow collection.
     Flow,
     /// Outside: block collections too.

@@ -2,7 +2,7 @@
 use Rattle.std.proofs.Common.{◌≡◌, ℕ, zero, suc, List, [], ◌∷◌, ◌++◌, true, refl, sym, ◌∙◌}
 use Rattle.std.specs.List.{insert}
 use Rattle.defs_token.specs.Token.{Tok, Token}
-use Rattle.model_scanner.specs.State.{State}
+use Rattle.model_scanner.specs.State.{ScannerState}
 use Rattle.model_scanner.specs.Run.{Reaches, start}
 use Rattle.model_scanner.proofs.NoEnds.{IsNoEnd}
 use Rattle.model_scanner.proofs.Walk.{Watched, IsKept, Fares, goes, over, fares}
@@ -59,7 +59,7 @@ last_at (x ∷ given) more [] t last e p q = absurd (last_nil given more t (cc))
 last_at (x ∷ given) more (b ∷ before) t last e p q = last_at given more before t last (cc) p.1 q
 
 -- Of a text's tokens, the stream's end is the last of all.
-pub end_is_last : (a : List ℕ) (u : State) (given more : List Token) (t : Token) → Reaches (start a) u → u.held.tokens ≡ given ++ t ∷ more → t.tok ≡ Tok.stream_end → (u.held.ended ≡ true) × (more ≡ [])
+pub end_is_last : (a : List ℕ) (u : ScannerState) (given more : List Token) (t : Token) → Reaches (start a) u → u.held.tokens ≡ given ++ t ∷ more → t.tok ≡ Tok.stream_end → (u.held.ended ≡ true) × (more ≡ [])
 end_is_last a u given more t run e q = by (fares has_no_end no_end_is_kept (start a) u run (begun a))
   where
     by : Fares has_no_end u.held → (u.held.ended ≡ true) × (more ≡ [])

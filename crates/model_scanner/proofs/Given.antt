@@ -3,7 +3,7 @@ use Rattle.std.proofs.Common.{◌≡◌, ℕ, ◌-◌, ◌≤◌, List, [], ◌�
 use Rattle.std.specs.List.{insert}
 use Rattle.std.proofs.lemmas.List.Edits.{insert-append_right}
 use Rattle.defs_token.specs.Token.{Token}
-use Rattle.model_scanner.specs.State.{Key, Held, State}
+use Rattle.model_scanner.specs.State.{Key, Held, ScannerState}
 use Rattle.model_scanner.specs.Run.{Reaches, here, there}
 use Rattle.model_scanner.proofs.Walk as walk
 use Rattle.model_scanner.proofs.Walk.{Watched, IsKept, KeysAre, goes, over, fares}
@@ -23,7 +23,7 @@ pub record Stood (given ts : List Token) (ks : List (Option Key)) : Type 0 where
   pub tokens : ts ≡ given ++ more
   pub keys : KeysFrom (length given) ks
 
-pub record Stands (given : List Token) (h : Held) : Type 0 where
+pub record GivenStands (given : List Token) (h : Held) : Type 0 where
   pub stood : Stood given h.tokens h.keys
 
 abbrev begins_given : List Token → Watched
@@ -48,10 +48,10 @@ given_is_kept given = record {
 }
 
 -- a run keeps the tokens given
-pub reached : (given : List Token) (t u : State) → Reaches t u → Stands given t.held → Stands given u.held
+pub reached : (given : List Token) (t u : ScannerState) → Reaches t u → GivenStands given t.held → GivenStands given u.held
 reached given t u here s = s
 reached given t u (there going e run) s = by (fares (begins_given given) (given_is_kept given) t u (there going e run) (goes (record { stood = record { tokens = record { more = s.stood.more; tokens = s.stood.tokens }; keys = s.stood.keys; going = going } })))
   where
-    by : walk.Fares (begins_given given) u.held → Stands given u.held
+    by : walk.Fares (begins_given given) u.held → GivenStands given u.held
     by (goes s) = record { stood = record { more = s.stood.tokens.more; tokens = s.stood.tokens.tokens; keys = s.stood.keys } }
     by (over s) = record { stood = record { more = s.all.more; tokens = s.all.tokens; keys = s.keys } }

@@ -2,7 +2,7 @@
 use Rattle.std.proofs.Common.{◌≡◌, Bool, true, false, if◌then◌else◌, Result, Ok, Err, refl, ap, subst}
 use Rattle.yaml_tokens.specs.declared.problem.Fault.{Fault}
 use Rattle.model_lexers.specs.Machine.{Read}
-use Rattle.model_scanner.specs.State.{Held, State, ◌>>=◌, with_held, go_on, lexed}
+use Rattle.model_scanner.specs.State.{Held, ScannerState, ◌>>=◌, with_held, go_on, lexed}
 
 -- P holds of what is left, unless it is a fault
 pub data Holds {A : Type 0} (P : A → Type 0) : Result A Fault → Type 0 where
@@ -24,7 +24,7 @@ pub chained : {A B : Type 0} {P : A → Type 0} {Q : B → Type 0} {r : Result A
 chained (went p) f = f _ p
 chained refused f = refused
 
-pub tried : {P : Held → Type 0} {Q : State → Type 0} (t : State) (r : Result Held Fault) → Holds P r → ((s : Held) → P s → Q (record t { held = s })) → Holds Q (with_held t r)
+pub tried : {P : Held → Type 0} {Q : ScannerState → Type 0} (t : ScannerState) (r : Result Held Fault) → Holds P r → ((s : Held) → P s → Q (record t { held = s })) → Holds Q (with_held t r)
 tried t r (went p) f = went (f _ p)
 tried t r refused f = refused
 
@@ -44,7 +44,7 @@ pub passes : {A : Type 0} {P : A → Type 0} {r : Result A Fault} (b : Bool) (f 
 passes true f h = refused
 passes false f h = h
 
-pub read : {A : Type 0} {P : State → Type 0} (h : Held) (r : Result (Read A) Fault) (go : A → State → Result State Fault) → ((x : Read A) → r ≡ Ok x → Holds P (go x.value (go_on x h))) → Holds P (lexed r h go)
+pub read : {A : Type 0} {P : ScannerState → Type 0} (h : Held) (r : Result (Read A) Fault) (go : A → ScannerState → Result ScannerState Fault) → ((x : Read A) → r ≡ Ok x → Holds P (go x.value (go_on x h))) → Holds P (lexed r h go)
 read h (Ok x) go f = f x refl
 read h (Err e) go f = refused
 

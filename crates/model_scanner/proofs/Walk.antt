@@ -11,10 +11,10 @@ use Rattle.model_lexers.specs.Space.{space}
 use Rattle.model_scanner.specs.declared.level.Indent.{Indent}
 use Rattle.model_scanner.specs.declared.level.FlowLevel.{FlowLevel}
 use Rattle.model_scanner.specs.declared.level.FlowLevel.TheVariants.{Mapping, Entry, Keyed, Pair}
-use Rattle.model_scanner.specs.State.{Key, Held, State, peek, in_flow, token, push, put, pop, with_top, on_held, with_held, go_on, lexed, skip_indicator}
-use Rattle.model_scanner.specs.Keys.{is_far, still, drop_stale, with_keys, stale, cleared, top_key, save_simple_key, remove_simple_key}
+use Rattle.model_scanner.specs.State.{Key, Held, ScannerState, peek, in_flow, token, push, put, pop, with_top, on_held, with_held, go_on, lexed, skip_indicator}
+use Rattle.model_scanner.specs.Keys.{is_far, still, drop_stale, with_keys, stale, cleared, top_key, save_implicit_key, remove_implicit_key}
 use Rattle.yaml_chars.specs.Class.{is_break, is_flow}
-use Rattle.defs_text.specs.Text.{is_nil}
+use Rattle.defs_text.specs.Text.{is_empty}
 use Rattle.model_lexers.specs.declared.context.SkipTabs.{SkipTabs}
 use Rattle.model_lexers.specs.declared.context.SkipTabs.TheVariants.{Yes, No}
 use Rattle.model_lexers.specs.declared.context.Whitespace.{Whitespace}
@@ -86,30 +86,30 @@ pub data Fares (w : Watched) (h : Held) : Type 0 where
   goes : Stands w h → Fares w h
   over : IsOver w h → Fares w h
 
-abbrev pub StandsAt : Watched → State → Type 0
+abbrev pub StandsAt : Watched → ScannerState → Type 0
 StandsAt w t = Stands w t.held
 
-abbrev pub FaresAt : Watched → State → Type 0
+abbrev pub FaresAt : Watched → ScannerState → Type 0
 FaresAt w t = Fares w t.held
 
 -- ---- rules
 
-tried : {P : Held → Type 0} (t : State) (r : Result Held Fault) → Holds P r → Holds (λ u. P u.held) (with_held t r)
+tried : {P : Held → Type 0} (t : ScannerState) (r : Result Held Fault) → Holds P r → Holds (λ u. P u.held) (with_held t r)
 tried t r h = rules.tried t r h (λ s p. p)
 
 -- of what was read something is known
-read_as : {A : Type 0} {Q : A → Type 0} {w : Watched} (h : Held) (r : Result (Read A) Fault) (go : A → State → Result State Fault) → Stands w h → Holds (λ x. Q x.value) r → ((x : A) (u : State) → Q x → Stands w u.held → Holds (StandsAt w) (go x u)) → Holds (StandsAt w) (lexed r h go)
+read_as : {A : Type 0} {Q : A → Type 0} {w : Watched} (h : Held) (r : Result (Read A) Fault) (go : A → ScannerState → Result ScannerState Fault) → Stands w h → Holds (λ x. Q x.value) r → ((x : A) (u : ScannerState) → Q x → Stands w u.held → Holds (StandsAt w) (go x u)) → Holds (StandsAt w) (lexed r h go)
 read_as h (Ok r) go s (went q) f = f r.value (go_on r h) q (record { stood = s.stood })
 read_as h (Err e) go s refused f = refused
 
-read : {A : Type 0} {w : Watched} (h : Held) (r : Result (Read A) Fault) (go : A → State → Result State Fault) → Stands w h → ((x : A) (u : State) → Stands w u.held → Holds (StandsAt w) (go x u)) → Holds (StandsAt w) (lexed r h go)
+read : {A : Type 0} {w : Watched} (h : Held) (r : Result (Read A) Fault) (go : A → ScannerState → Result ScannerState Fault) → Stands w h → ((x : A) (u : ScannerState) → Stands w u.held → Holds (StandsAt w) (go x u)) → Holds (StandsAt w) (lexed r h go)
 read h r go s f = rules.read h r go (λ x e. f x.value (go_on x h) (record { stood = s.stood }))
 
 held_choice : {w : Watched} {h u : Held} (b : Bool) → Stands w h → Stands w u → Stands w (if b then h else u)
 held_choice true s t = s
 held_choice false s t = t
 
-state_choice : {w : Watched} (b : Bool) (t u : State) → StandsAt w t → StandsAt w u → StandsAt w (if b then t else u)
+state_choice : {w : Watched} (b : Bool) (t u : ScannerState) → StandsAt w t → StandsAt w u → StandsAt w (if b then t else u)
 state_choice true t u s k = s
 state_choice false t u s k = k
 
@@ -156,12 +156,12 @@ module _ (w : Watched) (kept : IsKept w) where
   unfolding stale
   stale_dropped h s = choice (in_flow h) (went s) (kept_keys h _ s (dropped w.number h.place h.keys s.stood.keys))
 
-  saved : (h : Held) → Stands w h → Stands w (save_simple_key h)
-  unfolding save_simple_key
+  saved : (h : Held) → Stands w h → Stands w (save_implicit_key h)
+  unfolding save_implicit_key
   saved h s = held_choice h.key_allowed (record { stood = rekeyed (topped w.number _ h.keys (kept.opened h.tokens h.started s.stood.tokens) s.stood.keys) s.stood }) s
 
-  removed : (h : Held) → Stands w h → Holds (Stands w) (remove_simple_key h)
-  unfolding remove_simple_key
+  removed : (h : Held) → Stands w h → Holds (Stands w) (remove_implicit_key h)
+  unfolding remove_implicit_key
   removed h s = passes _ _ (went (record { stood = rekeyed (topped w.number None h.keys tt s.stood.keys) s.stood }))
 
   -- ---- tokens
@@ -243,7 +243,7 @@ module _ (w : Watched) (kept : IsKept w) where
   line_passed : (c : ℕ) (a : List ℕ) (h : Held) → Stands w h → Stands w (at_break c a h)
   line_passed c a h s = held_choice (is_cr_lf c a) (record { stood = s.stood }) (record { stood = s.stood })
 
-  in_line_passed : (m : Gap) (c : ℕ) (a : List ℕ) (h : Held) (go : Gap → Held → Result State Fault) → ((n : Gap) (u : Held) → Stands w u → Holds (StandsAt w) (go n u)) → Stands w h → Holds (StandsAt w) (in_line m c a h go)
+  in_line_passed : (m : Gap) (c : ℕ) (a : List ℕ) (h : Held) (go : Gap → Held → Result ScannerState Fault) → ((n : Gap) (u : Held) → Stands w u → Holds (StandsAt w) (go n u)) → Stands w h → Holds (StandsAt w) (in_line m c a h go)
   in_line_passed between c a h go f s =
       choice _ (f tab_line _ (record { stood = s.stood })) (choice _ (f between _ (record { stood = s.stood })) (choice _ (f comment _ (record { stood = s.stood })) (went s)))
   in_line_passed comment c a h go f s = f comment _ (record { stood = s.stood })
@@ -254,11 +254,11 @@ module _ (w : Watched) (kept : IsKept w) where
   skipped m [] h s = went s
   skipped m (c ∷ a) h s = choice _ (skipped between a _ (line_passed c a h s)) (in_line_passed m c a h (λ n u. skip n a u) (λ n u k. skipped n a u k) s)
 
-  pub to_token : (t : State) → Stands w t.held → Holds (StandsAt w) (skip_to_next_token t)
+  pub to_token : (t : ScannerState) → Stands w t.held → Holds (StandsAt w) (skip_to_next_token t)
   unfolding skip_to_next_token
   to_token t s = skipped between t.rest t.held s
 
-  spaces_skipped : (tabs : SkipTabs) (t : State) → Stands w t.held → Holds (StandsAt w) (skip_spaces tabs t)
+  spaces_skipped : (tabs : SkipTabs) (t : ScannerState) → Stands w t.held → Holds (StandsAt w) (skip_spaces tabs t)
   unfolding skip_spaces
   spaces_skipped tabs t s = read t.held (space tabs t.rest t.held.place) _ s (λ x u k. went k)
 
@@ -273,7 +273,7 @@ module _ (w : Watched) (kept : IsKept w) where
       choice (is_break c) (white_skipped false true a _ (line_passed c a h s)) (choice i (white_skipped true f a _ (record { stood = s.stood }))
       (choice (c == 32) (white_skipped false true a _ (record { stood = s.stood })) (choice (c == 35) (white_skipped true f a _ (record { stood = s.stood })) (white_ended f (c ∷ a) h s))))
 
-  white_passed : (t : State) → Stands w t.held → Holds (StandsAt w) (skip_yaml_whitespace t)
+  white_passed : (t : ScannerState) → Stands w t.held → Holds (StandsAt w) (skip_yaml_whitespace t)
   unfolding skip_yaml_whitespace
   white_passed t s = white_skipped false false t.rest t.held s
 
@@ -291,11 +291,11 @@ module _ (w : Watched) (kept : IsKept w) where
   unfolding begin_flow
   flow_begun kind h s = deeper_allowed _ (flow_deeper kind _ (rolled_one _ (saved h s)))
 
-  passed : (t : State) → Stands w t.held → Holds (StandsAt w) (pass_indicator t)
+  passed : (t : ScannerState) → Stands w t.held → Holds (StandsAt w) (pass_indicator t)
   unfolding pass_indicator
   passed t s = spaces_skipped Yes (skip_indicator t) (record { stood = s.stood })
 
-  flow_started : (kind : FlowLevel) (tok : Tok) (t : State) → IsNoEnd tok → Stands w t.held → Holds (StandsAt w) (fetch_flow_collection_start kind tok t)
+  flow_started : (kind : FlowLevel) (tok : Tok) (t : ScannerState) → IsNoEnd tok → Stands w t.held → Holds (StandsAt w) (fetch_flow_collection_start kind tok t)
   unfolding fetch_flow_collection_start
   flow_started kind tok t q s = chained (tried t _ (flow_begun kind t.held s)) (λ u k. chained (passed u k) (λ v l. went (more _ _ _ q l)))
 
@@ -312,7 +312,7 @@ module _ (w : Watched) (kept : IsKept w) where
 
   flow_higher : (h : Held) → Stands w h → Stands w (decrease_flow_level h)
   unfolding decrease_flow_level
-  flow_higher h s = held_choice (is_nil h.flow) s (record { stood = rekeyed (popped w.number h.keys s.stood.keys) s.stood })
+  flow_higher h s = held_choice (is_empty h.flow) s (record { stood = rekeyed (popped w.number h.keys s.stood.keys) s.stood })
 
   adjacent : (h : Held) → Stands w h → Stands w (adjacent_in_flow h)
   unfolding adjacent_in_flow
@@ -326,7 +326,7 @@ module _ (w : Watched) (kept : IsKept w) where
   unfolding end_flow
   flow_over h s = flow_closed _ (removed h s)
 
-  flow_ended : (tok : Tok) (t : State) → IsNoEnd tok → Stands w t.held → Holds (StandsAt w) (fetch_flow_collection_end tok t)
+  flow_ended : (tok : Tok) (t : ScannerState) → IsNoEnd tok → Stands w t.held → Holds (StandsAt w) (fetch_flow_collection_end tok t)
   unfolding fetch_flow_collection_end
   flow_ended tok t q s = chained (tried t _ (flow_over t.held s)) (λ u k. chained (passed u k) (λ v l. went (more _ _ _ q (adjacent v.held l))))
 
@@ -338,7 +338,7 @@ module _ (w : Watched) (kept : IsKept w) where
   unfolding end_entry
   entry_ended h s = next_begun _ (removed h s)
 
-  entry_passed : (t : State) → Stands w t.held → Holds (StandsAt w) (fetch_flow_entry t)
+  entry_passed : (t : ScannerState) → Stands w t.held → Holds (StandsAt w) (fetch_flow_entry t)
   unfolding fetch_flow_entry
   entry_passed t s = chained (tried t _ (entry_ended t.held s)) (λ u k. chained (passed u k) (λ v l. went (more _ _ _ tt l)))
 
@@ -352,15 +352,15 @@ module _ (w : Watched) (kept : IsKept w) where
   unfolding check_block_entry
   entry_checked h s = passes (in_flow h) (At problem.BlockEntryInFlow h.place) (passes (not h.key_allowed) (At problem.BlockEntryNotAllowed h.place) (margin_checked (last_property h.tokens) h.place h s))
 
-  dash_checked : (x : Whitespace) (t : State) → Stands w t.held → Holds (StandsAt w) (check_dash x t)
+  dash_checked : (x : Whitespace) (t : ScannerState) → Stands w t.held → Holds (StandsAt w) (check_dash x t)
   unfolding check_dash
   dash_checked x t s = passes _ _ (went s)
 
-  entry_rolled : (t : State) → Stands w t.held → StandsAt w (roll_entry t)
+  entry_rolled : (t : ScannerState) → Stands w t.held → StandsAt w (roll_entry t)
   unfolding roll_entry
   entry_rolled t s = state_choice (is_break (peek t.rest) || is_flow (peek t.rest)) (on_held roll_one_col_indent t) t (rolled_one t.held s) s
 
-  block_entry : (t : State) → Stands w t.held → Holds (StandsAt w) (fetch_block_entry t)
+  block_entry : (t : ScannerState) → Stands w t.held → Holds (StandsAt w) (fetch_block_entry t)
   unfolding fetch_block_entry
   block_entry t s = chained (tried t _ (entry_checked t.held s)) (λ u k.
       let p = t.held.place in
@@ -373,11 +373,11 @@ module _ (w : Watched) (kept : IsKept w) where
   unfolding begin_key
   key_begun h s = choice _ (went (record { stood = s.stood })) (passes _ _ (went (rolled h.place.col None _ h.place h tt tt s)))
 
-  key_spaced : (t : State) → Stands w t.held → Holds (StandsAt w) (check_key_space t)
+  key_spaced : (t : ScannerState) → Stands w t.held → Holds (StandsAt w) (check_key_space t)
   unfolding check_key_space
   key_spaced t s = passes _ _ (went s)
 
-  key_fetched : (t : State) → Stands w t.held → Holds (StandsAt w) (fetch_key t)
+  key_fetched : (t : ScannerState) → Stands w t.held → Holds (StandsAt w) (fetch_key t)
   unfolding fetch_key
   key_fetched t s = chained (tried t _ (key_begun t.held s)) (λ u k. chained (tried u _ (removed u.held k)) (λ v l.
       chained (white_passed (skip_indicator (on_held (λ h. allow_key (not (in_flow h)) h) v)) (record { stood = l.stood })) (λ x m.
@@ -385,11 +385,11 @@ module _ (w : Watched) (kept : IsKept w) where
 
   -- ---- values
 
-  after_tab_checked : (x : Whitespace) (t : State) → Stands w t.held → Holds (StandsAt w) (check_after_tab x t)
+  after_tab_checked : (x : Whitespace) (t : ScannerState) → Stands w t.held → Holds (StandsAt w) (check_after_tab x t)
   unfolding check_after_tab
   after_tab_checked x t s = passes _ _ (went s)
 
-  value_spaced : (t : State) → Stands w t.held → Holds (StandsAt w) (check_value_space t)
+  value_spaced : (t : ScannerState) → Stands w t.held → Holds (StandsAt w) (check_value_space t)
   unfolding check_value_space
   value_spaced t s = choice (peek t.rest == 9) (read t.held (space Yes t.rest t.held.place) check_after_tab s (λ x u k. after_tab_checked x u k)) (went s)
 
@@ -418,7 +418,7 @@ module _ (w : Watched) (kept : IsKept w) where
   value_begun None p pair h l s = keyless_begun p pair h s
   value_begun (Some k) p pair h l s = key_inserted k p pair h l s
 
-  value_fetched : (t : State) → Stands w t.held → Holds (StandsAt w) (fetch_value t)
+  value_fetched : (t : ScannerState) → Stands w t.held → Holds (StandsAt w) (fetch_value t)
   unfolding fetch_value
   value_fetched t s = chained (value_spaced (skip_indicator (on_held (λ h. record h { flow = paired h.flow }) t)) (record { stood = s.stood })) (λ u k.
       chained (tried u _ (value_begun (top_key u.held.keys) t.held.place (opens_pair t.held.flow) u.held (top_is w.number u.held.keys k.stood.keys) k)) (λ v l. went (more _ _ _ tt l)))
@@ -433,7 +433,7 @@ module _ (w : Watched) (kept : IsKept w) where
       let k = unrolled_all 0 (record h { keys = cleared h.keys }) (record { stood = rekeyed (all_cleared w.number h.keys) s.stood }) in
       record { all = kept.closed _ _ _ k.stood.tokens; keys = k.stood.keys; ended = refl }))
 
-  stream_ended : (t : State) → Stands w t.held → Holds (λ u. IsOver w u.held) (fetch_stream_end t)
+  stream_ended : (t : ScannerState) → Stands w t.held → Holds (λ u. IsOver w u.held) (fetch_stream_end t)
   unfolding fetch_stream_end
   stream_ended t s = tried t _ (stream_over (record t.held { place = next_line t.held.place }) (record { stood = s.stood }))
 
@@ -445,21 +445,21 @@ module _ (w : Watched) (kept : IsKept w) where
   unfolding begin_line
   line_begun h s = key_closed _ (removed _ (unrolled_all 0 h s))
 
-  directive_fetched : (t : State) → Stands w t.held → Holds (StandsAt w) (fetch_directive t)
+  directive_fetched : (t : ScannerState) → Stands w t.held → Holds (StandsAt w) (fetch_directive t)
   unfolding fetch_directive
   directive_fetched t s = chained (tried t _ (line_begun t.held s)) (λ u k.
       read_as u.held (directive u.rest u.held.place) (λ tok v. Ok (on_held (λ s. push t.held.place tok (record s { leading = true })) v)) k (directive_is_no_end u.rest u.held.place) (λ tok v q l.
       went (record { stood = pushed _ _ _ _ _ q l.stood })))
 
-  marker_fetched : (tok : Tok) (t : State) → IsNoEnd tok → Stands w t.held → Holds (StandsAt w) (fetch_document_marker tok t)
+  marker_fetched : (tok : Tok) (t : ScannerState) → IsNoEnd tok → Stands w t.held → Holds (StandsAt w) (fetch_document_marker tok t)
   unfolding fetch_document_marker
   marker_fetched tok t q s = chained (tried t _ (line_begun t.held s)) (λ u k. went (record { stood = pushed _ _ _ _ _ q k.stood }))
 
-  end_checked : (t : State) → Stands w t.held → Holds (StandsAt w) (check_document_end t)
+  end_checked : (t : ScannerState) → Stands w t.held → Holds (StandsAt w) (check_document_end t)
   unfolding check_document_end
   end_checked t s = choice _ (went s) refused
 
-  document_ended : (t : State) → Stands w t.held → Holds (StandsAt w) (fetch_document_end t)
+  document_ended : (t : ScannerState) → Stands w t.held → Holds (StandsAt w) (fetch_document_end t)
   unfolding fetch_document_end
   document_ended t s = chained (marker_fetched Tok.document_end t tt s) (λ u k. chained (spaces_skipped Yes u k) (λ v l. end_checked v l))
 
@@ -468,26 +468,26 @@ module _ (w : Watched) (kept : IsKept w) where
   node_begun : (h : Held) → Stands w h → Stands w (node_start h)
   node_begun h s = let k = saved h s in record { stood = k.stood }
 
-  anchor_fetched : (alias : Bool) (t : State) → Stands w t.held → Holds (StandsAt w) (fetch_anchor alias t)
+  anchor_fetched : (alias : Bool) (t : ScannerState) → Stands w t.held → Holds (StandsAt w) (fetch_anchor alias t)
   unfolding fetch_anchor
   anchor_fetched alias t s = read (node_start t.held) (anchor_name t.rest t.held.place) _ (node_begun t.held s) (λ name u k. went (record { stood = pushed _ _ _ _ _ (anchor_is_no_end alias name) k.stood }))
 
-  tag_fetched : (t : State) → Stands w t.held → Holds (StandsAt w) (fetch_tag t)
+  tag_fetched : (t : ScannerState) → Stands w t.held → Holds (StandsAt w) (fetch_tag t)
   unfolding fetch_tag
   tag_fetched t s = read (node_start t.held) (tag (in_flow t.held) t.rest t.held.place) _ (node_begun t.held s) (λ g u k. went (record { stood = pushed _ _ _ _ _ tt k.stood }))
 
-  block_fetched : (literal : Bool) (t : State) → Stands w t.held → Holds (StandsAt w) (fetch_block_scalar literal t)
+  block_fetched : (literal : Bool) (t : ScannerState) → Stands w t.held → Holds (StandsAt w) (fetch_block_scalar literal t)
   unfolding fetch_block_scalar
   block_fetched literal t s =
-      let h = unroll_non_block_indents (allow_key true (save_simple_key t.held)) in
+      let h = unroll_non_block_indents (allow_key true (save_implicit_key t.held)) in
       let l = saved t.held s in
       read h (block literal h.indent t.rest t.held.place) _ (unrolled_open _ (record { stood = l.stood })) (λ b u k. went (record { stood = pushed _ _ _ _ _ tt k.stood }))
 
-  quoted_checked : (line : ℕ) (t : State) → Stands w t.held → Holds (StandsAt w) (check_after_quoted line t)
+  quoted_checked : (line : ℕ) (t : ScannerState) → Stands w t.held → Holds (StandsAt w) (check_after_quoted line t)
   unfolding check_after_quoted
   quoted_checked line t s = chained (spaces_skipped Yes t s) (λ u k. choice _ (went k) refused)
 
-  flow_scalar_fetched : (single : Bool) (t : State) → Stands w t.held → Holds (StandsAt w) (fetch_flow_scalar single t)
+  flow_scalar_fetched : (single : Bool) (t : ScannerState) → Stands w t.held → Holds (StandsAt w) (fetch_flow_scalar single t)
   unfolding fetch_flow_scalar
   flow_scalar_fetched single t s =
       let h = node_start t.held in
@@ -495,7 +495,7 @@ module _ (w : Watched) (kept : IsKept w) where
       chained (quoted_checked t.held.place.line (on_held unled u) (record { stood = k.stood })) (λ v l.
       chained (to_token v l) (λ x m. went (record { stood = pushed _ _ _ _ _ tt m.stood }))))
 
-  plain_fetched : (t : State) → Stands w t.held → Holds (StandsAt w) (fetch_plain_scalar t)
+  plain_fetched : (t : ScannerState) → Stands w t.held → Holds (StandsAt w) (fetch_plain_scalar t)
   unfolding fetch_plain_scalar
   plain_fetched t s =
       let h = unroll_non_block_indents (node_start t.held) in
@@ -503,7 +503,7 @@ module _ (w : Watched) (kept : IsKept w) where
 
   -- ---- the next token
 
-  by_class : (c : Class) (t : State) → Stands w t.held → Holds (StandsAt w) (token_by c t)
+  by_class : (c : Class) (t : ScannerState) → Stands w t.held → Holds (StandsAt w) (token_by c t)
   by_class class.OpenBracket t s = flow_started Entry _ t tt s
   by_class class.OpenBrace t s = flow_started Mapping _ t tt s
   by_class class.CloseBracket t s = flow_ended _ t tt s
@@ -524,19 +524,19 @@ module _ (w : Watched) (kept : IsKept w) where
   by_class class.Backtick t s = refused
   by_class _ t s = plain_fetched t s
 
-  indented_fetched : (t : State) → Stands w t.held → Holds (StandsAt w) (fetch_indented t)
+  indented_fetched : (t : ScannerState) → Stands w t.held → Holds (StandsAt w) (fetch_indented t)
   unfolding fetch_indented fetch_token
   indented_fetched t s = passes _ _ (by_class (class_of (peek t.rest)) t s)
 
-  first_fetched : (t : State) → Stands w t.held → Holds (StandsAt w) (fetch_first_column t)
+  first_fetched : (t : ScannerState) → Stands w t.held → Holds (StandsAt w) (fetch_first_column t)
   unfolding fetch_first_column
   first_fetched t s = choice _ (directive_fetched t s) (choice _ (marker_fetched Tok.document_start t tt s) (choice _ (document_ended t s) (indented_fetched t s)))
 
-  pub content_fetched : (t : State) → Stands w t.held → Holds (StandsAt w) (fetch_content t)
+  pub content_fetched : (t : ScannerState) → Stands w t.held → Holds (StandsAt w) (fetch_content t)
   unfolding fetch_content
   content_fetched t s = choice _ (first_fetched t s) (indented_fetched t s)
 
-  here_fetched : (t : State) → Stands w t.held → Holds (FaresAt w) (fetch_here t)
+  here_fetched : (t : ScannerState) → Stands w t.held → Holds (FaresAt w) (fetch_here t)
   unfolding fetch_here
   here_fetched t s = choice _ (weakened (λ u p. over p) (stream_ended t s)) (weakened (λ u p. goes p) (content_fetched t s))
 
@@ -549,13 +549,13 @@ module _ (w : Watched) (kept : IsKept w) where
       by r (went p) = went (over (record { all = s.all; keys = p; ended = s.ended }))
       by r refused = refused
 
-  next_fetched : (t : State) → Stands w t.held → Holds (FaresAt w) (fetch_next t)
+  next_fetched : (t : ScannerState) → Stands w t.held → Holds (FaresAt w) (fetch_next t)
   unfolding fetch_next
   next_fetched t s = chained (to_token t s) (λ u k. chained (tried u _ (stale_dropped u.held k)) (λ v l.
       chained (here_fetched (on_held (λ h. unroll_indent (h.place.col + 1) h) v) (unrolled_all (v.held.place.col + 1) v.held l)) (λ x m.
       tried x _ (fares_stale x.held m))))
 
-  pub fetched : (t : State) → Stands w t.held → Holds (FaresAt w) (fetch t)
+  pub fetched : (t : ScannerState) → Stands w t.held → Holds (FaresAt w) (fetch t)
   unfolding fetch fetch_stream_start
   fetched t s = choice t.held.started (next_fetched t s) (went (goes (stream_begun t.held s)))
 
@@ -566,6 +566,6 @@ module _ (w : Watched) (kept : IsKept w) where
   going_stands h e (over s) = let f = s.ended in absurd cc
 
   -- A run keeps what each fetch keeps.
-  pub fares : (t u : State) → Reaches t u → Fares w t.held → Fares w u.held
+  pub fares : (t u : ScannerState) → Reaches t u → Fares w t.held → Fares w u.held
   fares t u here s = s
   fares t u (there {u = v} going e run) s = fares v u run (held_of v (fetched t (going_stands t.held going s)) e)

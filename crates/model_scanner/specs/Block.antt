@@ -11,8 +11,8 @@ use Rattle.model_lexers.specs.declared.context.Whitespace.{Whitespace}
 use Rattle.model_lexers.specs.Space.{space}
 use Rattle.model_scanner.specs.declared.level.FlowLevel.{FlowLevel}
 use Rattle.model_scanner.specs.declared.level.FlowLevel.TheVariants.{Mapping, Entry, Keyed, Pair}
-use Rattle.model_scanner.specs.State.{Key, Held, State, ◌>>=◌, peek, in_flow, push, put, with_top, on_held, try_held, lexed, skip_indicator}
-use Rattle.model_scanner.specs.Keys.{top_key, remove_simple_key}
+use Rattle.model_scanner.specs.State.{Key, Held, ScannerState, ◌>>=◌, peek, in_flow, push, put, with_top, on_held, try_held, lexed, skip_indicator}
+use Rattle.model_scanner.specs.Keys.{top_key, remove_implicit_key}
 use Rattle.model_scanner.specs.Indents.{roll_indent, roll_one_col_indent}
 use Rattle.model_scanner.specs.Space.{skip_spaces, skip_yaml_whitespace}
 use Rattle.model_scanner.specs.Flow.{allow_key}
@@ -40,21 +40,21 @@ check_block_entry s =
     (if not s.key_allowed then Err (At problem.BlockEntryNotAllowed s.place) else at_margin (last_property s.tokens) s.place s))
 
 -- A TAB must not stand between two dashes that are indicators.
-unfoldable pub check_dash : Whitespace → State → Result State Fault
+unfoldable pub check_dash : Whitespace → ScannerState → Result ScannerState Fault
 check_dash w t = (if w.found_tabs && (slice_index t.rest 0 == 45) && is_blank_or_breakz (slice_index t.rest 1) then Err (At problem.TabAfterDash t.held.place) else Ok t)
 
 -- A level that opens no collection stands for an entry on a later line, or one that begins with a flow indicator.
-unfoldable pub roll_entry : State → State
+unfoldable pub roll_entry : ScannerState → ScannerState
 roll_entry t = (if is_break (peek t.rest) || is_flow (peek t.rest) then on_held roll_one_col_indent t else t)
 
 -- `-`
-unfoldable pub fetch_block_entry : State → Result State Fault
+unfoldable pub fetch_block_entry : ScannerState → Result ScannerState Fault
 fetch_block_entry t =
     try_held check_block_entry t >>= λ u.
     let v = on_held (roll_indent t.held.place.col None Tok.block_sequence_start t.held.place) (skip_indicator u) in
     lexed (space Yes v.rest v.held.place) v.held check_dash >>= λ w.
     skip_spaces No w >>= λ x.
-    try_held remove_simple_key (roll_entry x) >>= λ y.
+    try_held remove_implicit_key (roll_entry x) >>= λ y.
     Ok (on_held (λ s. push s.place Tok.block_entry (allow_key true s)) y)
 
 -- whether a key with `?` may stand here, and its mapping
@@ -67,24 +67,24 @@ begin_key s =
     (if in_flow s then Ok (record s { flow = keyed s.flow }) else
     (if not s.key_allowed then Err (At problem.KeyNotAllowed s.place) else Ok (roll_indent s.place.col None Tok.block_mapping_start s.place s)))
 
-unfoldable pub check_key_space : State → Result State Fault
+unfoldable pub check_key_space : ScannerState → Result ScannerState Fault
 check_key_space t = (if peek t.rest == 9 then Err (At problem.TabAfterKey t.held.place) else Ok t)
 
 -- `?`
-unfoldable pub fetch_key : State → Result State Fault
+unfoldable pub fetch_key : ScannerState → Result ScannerState Fault
 fetch_key t =
     try_held begin_key t >>= λ u.
-    try_held remove_simple_key u >>= λ v.
+    try_held remove_implicit_key u >>= λ v.
     skip_yaml_whitespace (skip_indicator (on_held (λ s. allow_key (not (in_flow s)) s) v)) >>= λ w.
     check_key_space w >>= λ x.
     Ok (on_held (push t.held.place Tok.key) x)
 
 -- after a `:`, a TAB and more blanks
-unfoldable pub check_after_tab : Whitespace → State → Result State Fault
+unfoldable pub check_after_tab : Whitespace → ScannerState → Result ScannerState Fault
 check_after_tab w t = (if not w.has_valid_yaml_ws && ((peek t.rest == 45) || is_alpha (peek t.rest)) then Err (At problem.TabAfterColon t.held.place) else Ok t)
 
 -- What must not follow a `:` and a TAB.
-unfoldable pub check_value_space : State → Result State Fault
+unfoldable pub check_value_space : ScannerState → Result ScannerState Fault
 check_value_space t = (if peek t.rest == 9 then lexed (space Yes t.rest t.held.place) t.held check_after_tab else Ok t)
 
 abbrev pub opens_pair : List FlowLevel → Bool
@@ -127,7 +127,7 @@ value_of (Some k) p pair s = insert_key k p pair s
 value_of None p pair s = begin_keyless_value p pair s
 
 -- `:`
-unfoldable pub fetch_value : State → Result State Fault
+unfoldable pub fetch_value : ScannerState → Result ScannerState Fault
 fetch_value t =
     check_value_space (skip_indicator (on_held (λ s. record s { flow = paired s.flow }) t)) >>= λ u.
     try_held (λ s. value_of (top_key s.keys) t.held.place (opens_pair t.held.flow) s) u >>= λ v.

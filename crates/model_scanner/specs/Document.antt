@@ -15,8 +15,8 @@ use Rattle.model_lexers.specs.Anchor.{anchor_name}
 use Rattle.model_lexers.specs.Block.{Block, block}
 use Rattle.model_lexers.specs.Directive.{directive}
 use Rattle.model_lexers.specs.Tag.{Tag, tag}
-use Rattle.model_scanner.specs.State.{Held, State, ◌>>=◌, peek, in_flow, push, on_held, try_held, lexed, skip_indicator}
-use Rattle.model_scanner.specs.Keys.{cleared, has_required, save_simple_key, remove_simple_key}
+use Rattle.model_scanner.specs.State.{Held, ScannerState, ◌>>=◌, peek, in_flow, push, on_held, try_held, lexed, skip_indicator}
+use Rattle.model_scanner.specs.Keys.{cleared, has_required, save_implicit_key, remove_implicit_key}
 use Rattle.model_scanner.specs.Indents.{unroll_indent, unroll_non_block_indents}
 use Rattle.model_scanner.specs.Space.{skip_to_next_token, skip_spaces}
 use Rattle.model_scanner.specs.Flow.{allow_key}
@@ -25,7 +25,7 @@ use Rattle.model_scanner.specs.Flow.{allow_key}
 abbrev pub begin_stream : Held → Held
 begin_stream s = record (push s.place Tok.stream_start s) { keys = None ∷ s.keys; key_allowed = true; started = true }
 
-unfoldable pub fetch_stream_start : State → State
+unfoldable pub fetch_stream_start : ScannerState → ScannerState
 fetch_stream_start t = on_held begin_stream t
 
 -- the beginning of the next line, where the text ended within a line
@@ -38,7 +38,7 @@ ended_at s = record (push s.place Tok.stream_end s) { key_allowed = false; ended
 abbrev pub end_stream : Held → Result Held Fault
 end_stream s = (if has_required s.keys then Err (At problem.KeyExpected s.place) else Ok (ended_at (unroll_indent 0 (record s { keys = cleared s.keys }))))
 
-unfoldable pub fetch_stream_end : State → Result State Fault
+unfoldable pub fetch_stream_end : ScannerState → Result ScannerState Fault
 fetch_stream_end t = try_held (λ s. end_stream (record s { place = next_line s.place })) t
 
 abbrev pub closed_key : Result Held Fault → Result Held Fault
@@ -47,25 +47,25 @@ closed_key (Err f) = Err f
 
 -- A directive or a document marker ends all collections.
 unfoldable pub begin_line : Held → Result Held Fault
-begin_line s = closed_key (remove_simple_key (unroll_indent 0 s))
+begin_line s = closed_key (remove_implicit_key (unroll_indent 0 s))
 
 -- `%`
-unfoldable pub fetch_directive : State → Result State Fault
+unfoldable pub fetch_directive : ScannerState → Result ScannerState Fault
 fetch_directive t =
     try_held begin_line t >>= λ u.
     lexed (directive u.rest u.held.place) u.held (λ tok v. Ok (on_held (λ s. push t.held.place tok (record s { leading = true })) v))
 
 -- `---` or `...`
-unfoldable pub fetch_document_marker : Tok → State → Result State Fault
+unfoldable pub fetch_document_marker : Tok → ScannerState → Result ScannerState Fault
 fetch_document_marker tok t =
     try_held begin_line t >>= λ u.
     Ok (on_held (push t.held.place tok) (skip_indicator (skip_indicator (skip_indicator u))))
 
-unfoldable pub check_document_end : State → Result State Fault
+unfoldable pub check_document_end : ScannerState → Result ScannerState Fault
 check_document_end t = (if is_breakz (peek t.rest) then Ok t else Err (At problem.ContentAfterDocumentEnd t.held.place))
 
 -- `...`, after which the line has no content.
-unfoldable pub fetch_document_end : State → Result State Fault
+unfoldable pub fetch_document_end : ScannerState → Result ScannerState Fault
 fetch_document_end t = fetch_document_marker Tok.document_end t >>= λ u. skip_spaces Yes u >>= λ v. check_document_end v
 
 abbrev pub anchor_token : Bool → List ℕ → Tok
@@ -76,23 +76,23 @@ unled s = record s { leading = false }
 
 -- what the start of a scalar, an anchor or a tag leaves
 abbrev pub node_start : Held → Held
-node_start s = allow_key false (save_simple_key s)
+node_start s = allow_key false (save_implicit_key s)
 
 -- `*name` or `&name`
-unfoldable pub fetch_anchor : Bool → State → Result State Fault
+unfoldable pub fetch_anchor : Bool → ScannerState → Result ScannerState Fault
 fetch_anchor alias t = lexed (anchor_name t.rest t.held.place) (node_start t.held) (λ name u. Ok (on_held (λ s. push t.held.place (anchor_token alias name) (unled s)) u))
 
 -- `!`
-unfoldable pub fetch_tag : State → Result State Fault
+unfoldable pub fetch_tag : ScannerState → Result ScannerState Fault
 fetch_tag t = lexed (tag (in_flow t.held) t.rest t.held.place) (node_start t.held) (λ g u. Ok (on_held (λ s. push t.held.place (Tok.tag g.handle g.suffix) (unled s)) u))
 
 abbrev pub block_style : Bool → Style
 block_style literal = (if literal then Style.literal else Style.folded)
 
 -- `|` or `>`
-unfoldable pub fetch_block_scalar : Bool → State → Result State Fault
+unfoldable pub fetch_block_scalar : Bool → ScannerState → Result ScannerState Fault
 fetch_block_scalar literal t =
-    let h = unroll_non_block_indents (allow_key true (save_simple_key t.held)) in
+    let h = unroll_non_block_indents (allow_key true (save_implicit_key t.held)) in
     lexed (block literal h.indent t.rest t.held.place) h (λ b u. Ok (on_held (λ s. push b.place (Tok.scalar (block_style literal) b.text) (record s { leading = true })) u))
 
 abbrev pub context : Held → Context
@@ -102,7 +102,7 @@ context s = record { flow = in_flow s; indent = s.indent }
 unfoldable pub may_follow_quoted : Bool → Bool → ℕ → Bool
 may_follow_quoted flow same_line c = is_breakz c || (if flow then (c == 44) || (c == 125) || (c == 93) || (c == 58) else (c == 58) && same_line)
 
-unfoldable pub check_after_quoted : ℕ → State → Result State Fault
+unfoldable pub check_after_quoted : ℕ → ScannerState → Result ScannerState Fault
 check_after_quoted line t =
     skip_spaces Yes t >>= λ u.
     (if may_follow_quoted (in_flow u.held) (line == u.held.place.line) (peek u.rest) then Ok u else Err (At problem.ContentAfterQuoted u.held.place))
@@ -115,7 +115,7 @@ abbrev pub adjacent_here : Held → Held
 adjacent_here s = record s { adjacent_value_at = s.place.index }
 
 -- `'` or `"`
-unfoldable pub fetch_flow_scalar : Bool → State → Result State Fault
+unfoldable pub fetch_flow_scalar : Bool → ScannerState → Result ScannerState Fault
 fetch_flow_scalar single t =
     let h = node_start t.held in
     lexed (quoted single (context h) t.rest t.held.place) h (λ text u.
@@ -126,7 +126,7 @@ fetch_flow_scalar single t =
 abbrev pub after_plain : Bool → Held → Held
 after_plain leading s = record s { leading = leading; key_allowed = leading }
 
-unfoldable pub fetch_plain_scalar : State → Result State Fault
+unfoldable pub fetch_plain_scalar : ScannerState → Result ScannerState Fault
 fetch_plain_scalar t =
     let h = unroll_non_block_indents (node_start t.held) in
     lexed (plain (context h) t.rest t.held.place) h (λ r u. Ok (on_held (λ s. push t.held.place (Tok.scalar Style.plain r.text) (after_plain r.leading s)) u))

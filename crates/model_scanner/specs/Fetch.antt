@@ -9,7 +9,7 @@ use Rattle.model_scanner.specs.declared.class.Class.{Class}
 use Rattle.model_scanner.specs.declared.class.Class.TheVariants as class
 use Rattle.model_scanner.specs.declared.level.FlowLevel.TheVariants.{Mapping, Entry}
 use Rattle.model_scanner.specs.Class.{class_of}
-use Rattle.model_scanner.specs.State.{State, ◌>>=◌, peek, in_flow, on_held, try_held}
+use Rattle.model_scanner.specs.State.{ScannerState, ◌>>=◌, peek, in_flow, on_held, try_held}
 use Rattle.model_scanner.specs.Keys.{stale}
 use Rattle.model_scanner.specs.Indents.{unroll_indent}
 use Rattle.model_scanner.specs.Space.{skip_to_next_token}
@@ -18,14 +18,14 @@ use Rattle.model_scanner.specs.Block.{fetch_block_entry, fetch_key, fetch_value}
 use Rattle.model_scanner.specs.Document.{fetch_stream_start, fetch_stream_end, fetch_directive, fetch_document_marker, fetch_document_end, fetch_anchor, fetch_tag, fetch_block_scalar, fetch_flow_scalar, fetch_plain_scalar}
 
 -- the character after the next one
-abbrev pub second : State → ℕ
+abbrev pub second : ScannerState → ℕ
 second t = slice_index t.rest 1
 
 -- Whether a `:` here is the indicator of a value.
-unfoldable pub is_value : State → Bool
+unfoldable pub is_value : ScannerState → Bool
 is_value t = is_blank_or_breakz (second t) || (in_flow t.held && (is_flow (second t) || (t.held.place.index == t.held.adjacent_value_at)))
 
-abbrev pub token_by : Class → State → Result State Fault
+abbrev pub token_by : Class → ScannerState → Result ScannerState Fault
 token_by class.OpenBracket t = fetch_flow_collection_start Entry Tok.flow_sequence_start t
 token_by class.OpenBrace t = fetch_flow_collection_start Mapping Tok.flow_mapping_start t
 token_by class.CloseBracket t = fetch_flow_collection_end Tok.flow_sequence_end t
@@ -46,7 +46,7 @@ token_by class.AtSign t = Err (At problem.UnexpectedAt t.held.place)
 token_by class.Backtick t = Err (At problem.UnexpectedBacktick t.held.place)
 token_by _ t = fetch_plain_scalar t
 
-unfoldable pub fetch_token : State → Result State Fault
+unfoldable pub fetch_token : ScannerState → Result ScannerState Fault
 fetch_token t = token_by (class_of (peek t.rest)) t
 
 -- whether three of a character and then a blank, a break or the end come
@@ -54,25 +54,25 @@ unfoldable pub comes_marker : ℕ → List ℕ → Bool
 comes_marker c a = (slice_index a 0 == c) && (slice_index a 1 == c) && (slice_index a 2 == c) && is_blank_or_breakz (slice_index a 3)
 
 -- What does not begin at a line's first column must not stand left of the innermost block collection.
-unfoldable pub fetch_indented : State → Result State Fault
+unfoldable pub fetch_indented : ScannerState → Result ScannerState Fault
 fetch_indented t = (if nat_lt (t.held.place.col + 1) t.held.indent then Err (At problem.InvalidIndentation t.held.place) else fetch_token t)
 
 -- what begins at a line's first column
-unfoldable pub fetch_first_column : State → Result State Fault
+unfoldable pub fetch_first_column : ScannerState → Result ScannerState Fault
 fetch_first_column t =
     (if peek t.rest == 37 then fetch_directive t else
     (if comes_marker 45 t.rest then fetch_document_marker Tok.document_start t else
     (if comes_marker 46 t.rest then fetch_document_end t else fetch_indented t)))
 
-unfoldable pub fetch_content : State → Result State Fault
+unfoldable pub fetch_content : ScannerState → Result ScannerState Fault
 fetch_content t = (if t.held.place.col == 0 then fetch_first_column t else fetch_indented t)
 
 -- a token of a text that goes on, or the stream's end
-unfoldable pub fetch_here : State → Result State Fault
+unfoldable pub fetch_here : ScannerState → Result ScannerState Fault
 fetch_here t = (if peek t.rest == 0 then fetch_stream_end t else fetch_content t)
 
 -- The next token, after what stands before it and the ends of block collections.
-unfoldable pub fetch_next : State → Result State Fault
+unfoldable pub fetch_next : ScannerState → Result ScannerState Fault
 fetch_next t =
     skip_to_next_token t >>= λ u.
     try_held stale u >>= λ v.
@@ -80,5 +80,5 @@ fetch_next t =
     try_held stale w
 
 -- One call of the scanner: a token more, or several.
-unfoldable pub fetch : State → Result State Fault
+unfoldable pub fetch : ScannerState → Result ScannerState Fault
 fetch t = (if t.held.started then fetch_next t else Ok (fetch_stream_start t))

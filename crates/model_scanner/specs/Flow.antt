@@ -1,6 +1,6 @@
 -- Flow collections (YAML 1.2, section 7.4).
 use Rattle.std.specs.Prelude.{ℕ, ◌+◌, List, [], ◌∷◌, Bool, true, false, nat_le, if◌then◌else◌, Option, Some, None, Result, Ok, Err, length}
-use Rattle.defs_text.specs.Text.{is_nil}
+use Rattle.defs_text.specs.Text.{is_empty}
 use Rattle.defs_token.specs.Token.{Tok}
 use Rattle.yaml_tokens.specs.declared.problem.Fault.{Fault}
 use Rattle.yaml_tokens.specs.declared.problem.Fault.TheVariants.{At}
@@ -8,8 +8,8 @@ use Rattle.yaml_tokens.specs.declared.problem.Problem.TheVariants as problem
 use Rattle.model_lexers.specs.declared.context.SkipTabs.TheVariants.{Yes}
 use Rattle.model_scanner.specs.declared.level.FlowLevel.{FlowLevel}
 use Rattle.model_scanner.specs.declared.level.FlowLevel.TheVariants.{Mapping, Entry, Keyed, Pair}
-use Rattle.model_scanner.specs.State.{Held, State, ◌>>=◌, in_flow, push, pop, on_held, try_held, skip_indicator}
-use Rattle.model_scanner.specs.Keys.{save_simple_key, remove_simple_key}
+use Rattle.model_scanner.specs.State.{Held, ScannerState, ◌>>=◌, in_flow, push, pop, on_held, try_held, skip_indicator}
+use Rattle.model_scanner.specs.Keys.{save_implicit_key, remove_implicit_key}
 use Rattle.model_scanner.specs.Indents.{roll_one_col_indent}
 use Rattle.model_scanner.specs.Space.{skip_spaces}
 
@@ -26,14 +26,14 @@ deepened_flow (Err f) = Err f
 
 -- what the start of a flow collection leaves, which may be a key
 unfoldable pub begin_flow : FlowLevel → Held → Result Held Fault
-begin_flow kind s = deepened_flow (increase_flow_level kind (roll_one_col_indent (save_simple_key s)))
+begin_flow kind s = deepened_flow (increase_flow_level kind (roll_one_col_indent (save_implicit_key s)))
 
 -- after an indicator, spaces and a comment
-unfoldable pub pass_indicator : State → Result State Fault
+unfoldable pub pass_indicator : ScannerState → Result ScannerState Fault
 pass_indicator t = skip_spaces Yes (skip_indicator t)
 
 -- `[` or `{`
-unfoldable pub fetch_flow_collection_start : FlowLevel → Tok → State → Result State Fault
+unfoldable pub fetch_flow_collection_start : FlowLevel → Tok → ScannerState → Result ScannerState Fault
 fetch_flow_collection_start kind tok t =
     try_held (begin_flow kind) t >>= λ u.
     pass_indicator u >>= λ v.
@@ -44,12 +44,12 @@ end_pair (Pair ∷ fs) s = push s.place Tok.flow_mapping_end (record s { flow = 
 end_pair (Keyed ∷ fs) s = record s { flow = Entry ∷ fs }
 end_pair _ s = s
 
--- An entry of the innermost flow collection ends, and with it a pair without braces.
+-- An entry of the innermost flow collection ends, and with it a single-pair mapping.
 unfoldable pub end_flow_pair : Held → Held
 end_flow_pair s = end_pair s.flow s
 
 unfoldable pub decrease_flow_level : Held → Held
-decrease_flow_level s = (if is_nil s.flow then s else record s { flow = pop s.flow; keys = pop s.keys })
+decrease_flow_level s = (if is_empty s.flow then s else record s { flow = pop s.flow; keys = pop s.keys })
 
 -- A `:` may stand right after a flow collection that is a key.
 unfoldable pub adjacent_in_flow : Held → Held
@@ -60,10 +60,10 @@ ended_flow (Ok s) = Ok (allow_key false (decrease_flow_level (end_flow_pair s)))
 ended_flow (Err f) = Err f
 
 unfoldable pub end_flow : Held → Result Held Fault
-end_flow s = ended_flow (remove_simple_key s)
+end_flow s = ended_flow (remove_implicit_key s)
 
 -- `]` or `}`
-unfoldable pub fetch_flow_collection_end : Tok → State → Result State Fault
+unfoldable pub fetch_flow_collection_end : Tok → ScannerState → Result ScannerState Fault
 fetch_flow_collection_end tok t =
     try_held end_flow t >>= λ u.
     pass_indicator u >>= λ v.
@@ -74,10 +74,10 @@ next_entry (Ok s) = Ok (end_flow_pair (allow_key true s))
 next_entry (Err f) = Err f
 
 unfoldable pub end_entry : Held → Result Held Fault
-end_entry s = next_entry (remove_simple_key s)
+end_entry s = next_entry (remove_implicit_key s)
 
 -- `,`
-unfoldable pub fetch_flow_entry : State → Result State Fault
+unfoldable pub fetch_flow_entry : ScannerState → Result ScannerState Fault
 fetch_flow_entry t =
     try_held end_entry t >>= λ u.
     pass_indicator u >>= λ v.

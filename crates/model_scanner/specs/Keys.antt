@@ -59,9 +59,9 @@ unfoldable pub must_be_key : Held → Bool
 must_be_key s = not (in_flow s) && (s.indent == s.place.col + 1) && top_needs_block_end s.indents
 
 -- The next token may be a key, where one is allowed.
-unfoldable pub save_simple_key : Held → Held
-save_simple_key s = (if s.key_allowed then record s { keys = with_top (Some (record { required = must_be_key s; number = length s.tokens; place = s.place })) s.keys } else s)
+unfoldable pub save_implicit_key : Held → Held
+save_implicit_key s = (if s.key_allowed then record s { keys = with_top (Some (record { required = must_be_key s; number = length s.tokens; place = s.place })) s.keys } else s)
 
 -- What might have been a key at the innermost level is none.
-unfoldable pub remove_simple_key : Held → Result Held Fault
-remove_simple_key s = (if is_required (top_key s.keys) then Err (At problem.KeyExpected s.place) else Ok (record s { keys = with_top None s.keys }))
+unfoldable pub remove_implicit_key : Held → Result Held Fault
+remove_implicit_key s = (if is_required (top_key s.keys) then Err (At problem.KeyExpected s.place) else Ok (record s { keys = with_top None s.keys }))

@@ -3,7 +3,7 @@ use Rattle.std.specs.Prelude.{◌≡◌, ℕ, zero, suc, List, [], ◌∷◌, Bo
 use Rattle.defs_text.specs.Position.{Position}
 use Rattle.defs_token.specs.Token.{Token}
 use Rattle.yaml_tokens.specs.declared.problem.Fault.{Fault}
-use Rattle.model_scanner.specs.State.{Held, State, ◌>>=◌}
+use Rattle.model_scanner.specs.State.{Held, ScannerState, ◌>>=◌}
 use Rattle.model_scanner.specs.Fetch.{fetch}
 
 abbrev pub nothing_held : Held
@@ -22,30 +22,30 @@ nothing_held = record {
 }
 
 -- the scanner before a text
-abbrev pub start : List ℕ → State
+abbrev pub start : List ℕ → ScannerState
 start a = record { rest = a; held = nothing_held }
 
 -- from one state to another by fetches, none after the stream's end
-pub data Reaches : State → State → Type 0 where
-  here : {t : State} → Reaches t t
-  there : {t u v : State} → t.held.ended ≡ false → fetch t ≡ Ok u → Reaches u v → Reaches t v
+pub data Reaches : ScannerState → ScannerState → Type 0 where
+  here : {t : ScannerState} → Reaches t t
+  there : {t u v : ScannerState} → t.held.ended ≡ false → fetch t ≡ Ok u → Reaches u v → Reaches t v
 
 -- these are all tokens of a text
 pub record HasTokens (a : List ℕ) (ts : List Token) : Type 0 where
-  pub end : State
+  pub end : ScannerState
   pub run : Reaches (start a) end
   pub ended : end.held.ended ≡ true
   pub tokens : end.held.tokens ≡ ts
 
 -- a text is refused with a fault
 pub record IsRefused (a : List ℕ) (f : Fault) : Type 0 where
-  pub last : State
+  pub last : ScannerState
   pub run : Reaches (start a) last
   pub going : last.held.ended ≡ false
   pub refused : fetch last ≡ Err f
 
 -- the tokens of a text that needs at most so many fetches
-abbrev pub scan_from : ℕ → State → Result (List Token) Fault
+abbrev pub scan_from : ℕ → ScannerState → Result (List Token) Fault
 scan_from zero t = Ok t.held.tokens
 scan_from (suc n) t = (if t.held.ended then Ok t.held.tokens else fetch t >>= λ u. scan_from n u)
 

@@ -2,7 +2,7 @@
 use Rattle.std.specs.Prelude.{ℕ, ◌+◌, List, [], ◌∷◌, ◌++◌, Bool, true, false, not, Option, Some, None, Result, Ok, Err, cond, nat_le}
 use Rattle.std.specs.List.{insert}
 use Rattle.defs_text.specs.Position.{Position}
-use Rattle.defs_text.specs.Text.{is_nil}
+use Rattle.defs_text.specs.Text.{is_empty}
 use Rattle.defs_token.specs.Token.{Tok, Token}
 use Rattle.yaml_tokens.specs.declared.problem.Fault.{Fault}
 use Rattle.model_scanner.specs.declared.level.Indent.{Indent}
@@ -20,7 +20,7 @@ pub record Held : Type 0 where
   pub place : Position
   -- all tokens so far, those handed out among them
   pub tokens : List Token
-  -- what may still turn out to be a simple key: one for each flow level and one outside flow, the innermost first
+  -- what may still turn out to be a implicit key: one for each flow level and one outside flow, the innermost first
   pub keys : List (Option Key)
   -- the levels of indentation, the innermost first
   pub indents : List Indent
@@ -40,7 +40,7 @@ pub record Held : Type 0 where
   pub ended : Bool
 
 -- the text that is left, and what the scanner holds
-pub record State : Type 0 where
+pub record ScannerState : Type 0 where
   pub rest : List ℕ
   pub held : Held
 
@@ -85,26 +85,26 @@ abbrev pub put : ℕ → Position → Tok → Held → Held
 put n p t s = record s { tokens = insert s.tokens n (token p t) }
 
 abbrev pub in_flow : Held → Bool
-in_flow s = not (is_nil s.flow)
+in_flow s = not (is_empty s.flow)
 
 -- a step that looks at no character
-abbrev pub on_held : (Held → Held) → State → State
+abbrev pub on_held : (Held → Held) → ScannerState → ScannerState
 on_held f t = record t { held = f t.held }
 
-abbrev pub with_held : State → Result Held Fault → Result State Fault
+abbrev pub with_held : ScannerState → Result Held Fault → Result ScannerState Fault
 with_held t (Ok s) = Ok (record t { held = s })
 with_held t (Err f) = Err f
 
 -- a step that looks at no character, and may refuse
-abbrev pub try_held : (Held → Result Held Fault) → State → Result State Fault
+abbrev pub try_held : (Held → Result Held Fault) → ScannerState → Result ScannerState Fault
 try_held f t = with_held t (f t.held)
 
 -- at the place where a lexing function ended
-abbrev pub go_on : {A : Type 0} → Read A → Held → State
+abbrev pub go_on : {A : Type 0} → Read A → Held → ScannerState
 go_on r s = record { rest = r.rest; held = record s { place = r.place } }
 
 -- after what a lexing function read
-abbrev pub lexed : {A : Type 0} → Result (Read A) Fault → Held → (A → State → Result State Fault) → Result State Fault
+abbrev pub lexed : {A : Type 0} → Result (Read A) Fault → Held → (A → ScannerState → Result ScannerState Fault) → Result ScannerState Fault
 lexed (Ok r) s go = go r.value (go_on r s)
 lexed (Err f) s go = Err f
 
@@ -113,5 +113,5 @@ abbrev pub moved : Held → Held
 moved s = record s { place = past s.place }
 
 -- after an indicator
-abbrev pub skip_indicator : State → State
+abbrev pub skip_indicator : ScannerState → ScannerState
 skip_indicator t = record { rest = after t.rest; held = record t.held { place = past t.held.place; leading = false } }

@@ -1,4 +1,4 @@
-/// The state of an entry of a flow collection: whether it is, or may become, a pair without braces.
+/// The state of an entry of a flow collection: whether it is, or may become, a single-pair mapping.
 #[derive(Clone, Copy, PartialEq, Eq)]
 pub enum FlowLevel {
     /// A flow mapping: its pairs need none.

@@ -7,7 +7,7 @@ use Rattle.defs_token.specs.Account.{Account, first_account}
 use Rattle.defs_token.specs.Piece.{IsPiece}
 use Rattle.defs_token.specs.Cut.{Written, IsWritten, IsRow, IsCut, IsCutOfBeginning, spelled, tokens_of, first_token, start_token, end_token, account_past}
 use Rattle.defs_token.proofs.Append.{spelled_append}
-use Rattle.model_scanner.specs.State.{State}
+use Rattle.model_scanner.specs.State.{ScannerState}
 use Rattle.model_scanner.specs.Run.{start, Reaches}
 use Rattle.proof_lexers.specs.PlainEnds.{has_no_nul}
 use Rattle.proof_cut.proofs.Documents.{whole_text}
@@ -112,7 +112,7 @@ before_last x (y ∷ xs) (t ∷ given) more e = by (before_last x xs given more 
     by (some others f) = some others (ap (λ z. z ∷ xs) same ∙ ap (λ ts. t ∷ ts) f)
 
 -- Of a run, the first tokens are a cut of the whole text, up to the stream's end, or of a beginning of it.
-pub first_tokens_are_cut : (text : List ℕ) (given more : List Token) (t : State) → has_no_nul text ≡ true → Reaches (start text) t → t.held.tokens ≡ given ++ more → IsCut given text ⊎ IsCutOfBeginning given text
+pub first_tokens_are_cut : (text : List ℕ) (given more : List Token) (t : ScannerState) → has_no_nul text ≡ true → Reaches (start text) t → t.held.tokens ≡ given ++ more → IsCut given text ⊎ IsCutOfBeginning given text
 first_tokens_are_cut text given more t nul run e = by (came text nul (start text) t run (starts refl))
   where
     nothing : (given : List Token) → [] ≡ given ++ more → IsCutOfBeginning given text
@@ -125,5 +125,5 @@ first_tokens_are_cut text given more t nul run e = by (came text nul (start text
         inr (begun_by text s.stood.begin s.stood.row s.stood.after None given more (s.stood.here.is_text ∙ sym (whole_text text nul)) (s.stood.here.is_row None) (sym s.stood.tokens_are ∙ e))
     by (fares (over c f n)) = elim (before_last (end_token c.end) (start_token c.begin ∷ tokens_of c.row) given more (sym c.are_tokens ∙ e)) [
       | all k ↦ inl (subst (λ ts. IsCut ts text) (c.are_tokens ∙ sym k) c)
-      | some others k ↦ inr (begun_by text c.begin c.row c.filler (Some stream_end) given others c.is_text c.is_row k)
+      | some others k ↦ inr (begun_by text c.begin c.row c.separation (Some stream_end) given others c.is_text c.is_row k)
     ]

@@ -1,14 +1,13 @@
 -- The functions of the model that read the indicators of block collections keep what holds between fetches.
 use Rattle.std.proofs.Common.{◌≡◌, ℕ, suc, ◌≤◌, ◌<◌, List, [], ◌∷◌, ◌++◌, Bool, true, false, not, ◌||◌, length, if◌then◌else◌, Option, Some, None, Result, Ok, refl, ap, sym, ◌∙◌, subst, arith}
-use Rattle.defs_text.specs.Position.{Position}
-use Rattle.defs_text.specs.Text.{is_nil}
+use Rattle.defs_text.specs.Position.{Position, position_after}
+use Rattle.defs_text.specs.Text.{is_empty}
 use Rattle.yaml_tokens.specs.declared.problem.Fault.{Fault}
 use Rattle.yaml_tokens.specs.declared.problem.Fault.TheVariants.{At}
 use Rattle.yaml_tokens.specs.declared.problem.Problem.TheVariants as problem
 use Rattle.defs_token.specs.Token.{Tok, Token}
 use Rattle.defs_text.specs.Classes.{is_break, is_at_gap}
-use Rattle.defs_text.specs.Position.{position_after}
-use Rattle.defs_token.specs.Account.{Level, Account, Before, other, before_past, before_by, settled, blocks_past, levels_past, is_in_flow, is_empty, innermost_column}
+use Rattle.defs_token.specs.Account.{Level, Account, Before, other, before_past, before_by, settled, blocks_past, levels_past, is_in_flow, innermost_column}
 use Rattle.defs_token.specs.Piece.{IsPiece}
 use Rattle.defs_token.specs.Cut.{Written}
 use Rattle.model_lexers.specs.declared.context.SkipTabs.TheVariants.{Yes, No}
@@ -16,8 +15,8 @@ use Rattle.model_lexers.specs.declared.context.Whitespace.{Whitespace}
 use Rattle.yaml_chars.specs.Class.{is_break as is_break_here, is_flow as yaml_flow}
 use Rattle.model_scanner.specs.declared.level.Indent.{Indent}
 use Rattle.model_scanner.specs.declared.level.FlowLevel.{FlowLevel}
-use Rattle.model_scanner.specs.State.{Key, Held, State, ◌>>=◌, peek, in_flow, push, with_top, token, after, on_held, try_held, lexed, skip_indicator}
-use Rattle.model_scanner.specs.Keys.{remove_simple_key}
+use Rattle.model_scanner.specs.State.{Key, Held, ScannerState, ◌>>=◌, peek, in_flow, push, with_top, token, after, on_held, try_held, lexed, skip_indicator}
+use Rattle.model_scanner.specs.Keys.{remove_implicit_key}
 use Rattle.model_scanner.specs.Space.{skip_spaces}
 use Rattle.model_lexers.specs.Space.{space}
 use Rattle.model_lexers.specs.Machine.{past}
@@ -27,7 +26,7 @@ use Rattle.model_scanner.specs.Block.{last_property, at_margin, check_block_entr
 use Rattle.model_scanner.proofs.Holds.{Holds, went, weakened, chained, passes, checked, tried}
 use Rattle.proof_cut.specs.PiecesRead.{ReadAs}
 use Rattle.proof_cut.specs.Here.{AreOpen}
-use Rattle.proof_cut.specs.Stands.{columns, AreLevels, levels_of, account_of, Stood, Fares, Stands}
+use Rattle.proof_cut.specs.Stands.{columns, AreLevels, levels_of, account_of, Stood, Fares, FaresAt}
 use Rattle.proof_cut.proofs.Heres.{led}
 use Rattle.proof_cut.proofs.Pushed.{with_piece, with_blocks, past_empty, columns_settled}
 use Rattle.proof_cut.proofs.Stoods.{piece_stood, two_stood, stood_levels}
@@ -39,7 +38,7 @@ use Rattle.proof_cut.proofs.Rolls.{SameBlocks, same_blocks, rolled_one, Rolls, b
 
 -- ---- outside flow
 
-pub nil_length : (fs : List FlowLevel) → is_nil fs ≡ true → length fs ≡ 0
+pub nil_length : (fs : List FlowLevel) → is_empty fs ≡ true → length fs ≡ 0
 nil_length [] e = refl
 nil_length (f ∷ fs) e = absurd (cc e)
 
@@ -48,7 +47,7 @@ none_open depth row after p rest column [] e = tt
 none_open depth row after p rest column (x ∷ []) e = tt
 none_open depth row after p rest column (x ∷ y ∷ ks) e = absurd (omega (arith, e))
 
-pub outside_fares : (text rest : List ℕ) (p : Position) (tokens : List Token) (keys : List (Option Key)) (indents : List Indent) (indent : ℕ) (flow : List FlowLevel) (before : Before) (adj : ℕ) → is_nil flow ≡ true → adj ≤ p.index →
+pub outside_fares : (text rest : List ℕ) (p : Position) (tokens : List Token) (keys : List (Option Key)) (indents : List Indent) (indent : ℕ) (flow : List FlowLevel) (before : Before) (adj : ℕ) → is_empty flow ≡ true → adj ≤ p.index →
     Stood text rest p tokens keys indents indent flow before → Fares text rest p tokens keys indents indent flow adj
 outside_fares text rest p tokens keys indents indent flow before adj out was s = record { before = before; stood = s; was_adjacent = was; is_adjacent_here = λ h. absurd (cc (out, h)) }
 
@@ -72,11 +71,11 @@ pub record IsMark (tok : Tok) (c : ℕ) (more : List ℕ) : Type 0 where
   pub levels : (ls : List Level) → levels_past ls (c ∷ []) tok ≡ ls
   pub before : before_by tok ≡ other
 
-pub is_outside : (flow : List FlowLevel) → is_nil flow ≡ true → not (is_empty (levels_of flow)) ≡ false
+pub is_outside : (flow : List FlowLevel) → is_empty flow ≡ true → not (is_empty (levels_of flow)) ≡ false
 is_outside flow out = same_flow flow ∙ ap not out
 
 -- An indicator outside flow, and before it the start of a collection that begins at its column.
-pub roll_stood : (text : List ℕ) (c : ℕ) (more : List ℕ) (start mark : Tok) → IsStart start → IsMark mark c more → (h u : Held) (before : Before) → is_nil h.flow ≡ true → (p at at2 : Position) (v : State) →
+pub roll_stood : (text : List ℕ) (c : ℕ) (more : List ℕ) (start mark : Tok) → IsStart start → IsMark mark c more → (h u : Held) (before : Before) → is_empty h.flow ≡ true → (p at at2 : Position) (v : ScannerState) →
     (g : Filled more (past p) v) → Rolls p.col None (token at start) h u →
     Stood text (c ∷ more) p h.tokens h.keys h.indents h.indent h.flow before →
     Stood text v.rest v.held.place (u.tokens ++ token at2 mark ∷ []) (with_top None h.keys) u.indents u.indent h.flow other
@@ -97,9 +96,9 @@ roll_stood text c more start mark f m h u before out p at at2 v g r s = by r
         let x : Stood text (c ∷ more) p h.tokens h.keys d.indents d.indent h.flow before = stood_levels text (c ∷ more) p h.tokens h.keys h.indents h.indent h.flow before d.indents d.indent d.same_columns d.are_levels s in
         let k : ReadAs a (c ∷ more) mark at2 v.rest v.held.place = indicated_by a c more mark at2 v m.in_line g (λ next last n. m.piece a next last at2 outside n) in
         subst (λ y. Stood text v.rest v.held.place (y.tokens ++ token at2 mark ∷ []) (with_top None h.keys) y.indents y.indent h.flow other) (sym d.is_held)
-        (subst (λ b. Stood text v.rest v.held.place (h.tokens ++ token at2 mark ∷ []) (with_top None h.keys) d.indents d.indent h.flow (before_past b g.filler)) m.before
+        (subst (λ b. Stood text v.rest v.held.place (h.tokens ++ token at2 mark ∷ []) (with_top None h.keys) d.indents d.indent h.flow (before_past b g.separation)) m.before
         (piece_stood text (c ∷ more) p h.tokens h.keys d.indents d.indent h.flow before x mark at2 v.rest v.held.place k (m.blocks (columns d.indent d.indents)) h.flow (m.levels (levels_of h.flow)) (with_top None h.keys) each
-        (none_open 0 (x.row ++ (led x.here.filler (with_piece (c ∷ []) at2 mark) ∷ [])) (g.filler ++ v.rest) v.held.place v.rest (innermost_column (columns d.indent d.indents)) h.keys one)))
+        (none_open 0 (x.row ++ (led x.here.separation (with_piece (c ∷ []) at2 mark) ∷ [])) (g.separation ++ v.rest) v.held.place v.rest (innermost_column (columns d.indent d.indents)) h.keys one)))
     by (begins ds i w cols are) =
         let b : Account = with_blocks (columns i ds) (past_empty (account_of p h.indent h.indents h.flow before) start) in
         let inner : not (is_empty (levels_past (levels_of h.flow) [] start)) ≡ false = ap (λ ls. not (is_empty ls)) (f.levels (levels_of h.flow)) ∙ outside in
@@ -107,11 +106,11 @@ roll_stood text c more start mark f m h u before out p at at2 v g r s = by r
         let settles : settled p.col (blocks_past (columns h.indent h.indents) start) ≡ columns i ds =
         ap (λ bs. settled p.col bs) (f.blocks (columns h.indent h.indents)) ∙ ap (λ bs. Some p.col ∷ bs) (columns_settled p.col h.indent h.indents) ∙ sym cols in
         subst (λ y. Stood text v.rest v.held.place (y.tokens ++ token at2 mark ∷ []) (with_top None h.keys) y.indents y.indent h.flow other) (sym w)
-        (subst (λ x. Stood text v.rest v.held.place ((h.tokens ++ token at start ∷ []) ++ token at2 mark ∷ []) (with_top None h.keys) ds i h.flow (before_past x g.filler)) m.before
-        (two_stood text c more p h.tokens h.keys h.indents h.indent h.flow before s start mark at at2 g.filler v.rest v.held.place g.is_rest g.is_filled k.is_end ds i are settles
-        (f.piece (account_of p h.indent h.indents h.flow before) (c ∷ (g.filler ++ v.rest)) (Some mark) at outside) k.is_piece (m.blocks (columns i ds)) h.flow
+        (subst (λ x. Stood text v.rest v.held.place ((h.tokens ++ token at start ∷ []) ++ token at2 mark ∷ []) (with_top None h.keys) ds i h.flow (before_past x g.separation)) m.before
+        (two_stood text c more p h.tokens h.keys h.indents h.indent h.flow before s start mark at at2 g.separation v.rest v.held.place g.is_rest g.is_filled k.is_end ds i are settles
+        (f.piece (account_of p h.indent h.indents h.flow before) (c ∷ (g.separation ++ v.rest)) (Some mark) at outside) k.is_piece (m.blocks (columns i ds)) h.flow
         (m.levels (levels_past (levels_of h.flow) [] start) ∙ f.levels (levels_of h.flow)) (with_top None h.keys) each
-        (none_open 0 (s.row ++ (led s.here.filler (with_piece [] at start) ∷ with_piece (c ∷ []) at2 mark ∷ [])) (g.filler ++ v.rest) v.held.place v.rest (innermost_column (columns i ds)) h.keys one)))
+        (none_open 0 (s.row ++ (led s.here.separation (with_piece [] at start) ∷ with_piece (c ∷ []) at2 mark ∷ [])) (g.separation ++ v.rest) v.held.place v.rest (innermost_column (columns i ds)) h.keys one)))
 
 -- ---- an entry of a block sequence
 
@@ -123,11 +122,11 @@ entry_checked s = checked (in_flow s) (At problem.BlockEntryInFlow s.place) (λ 
     by None e = went (refl, e)
     by (Some q) e = passes _ _ (went (refl, e))
 
-dash_checked : (w : Whitespace) (t : State) → Holds (λ u. u ≡ t) (check_dash w t)
+dash_checked : (w : Whitespace) (t : ScannerState) → Holds (λ u. u ≡ t) (check_dash w t)
 unfolding check_dash
 dash_checked w t = passes _ _ (went refl)
 
-entry_rolled : (t : State) → AreLevels t.held.indent t.held.indents → ((roll_entry t).rest ≡ t.rest) × SameBlocks t.held (roll_entry t).held
+entry_rolled : (t : ScannerState) → AreLevels t.held.indent t.held.indents → ((roll_entry t).rest ≡ t.rest) × SameBlocks t.held (roll_entry t).held
 unfolding roll_entry
 entry_rolled t l = by (is_break_here (peek t.rest) || yaml_flow (peek t.rest))
   where
@@ -135,25 +134,25 @@ entry_rolled t l = by (is_break_here (peek t.rest) || yaml_flow (peek t.rest))
     by true = (refl, rolled_one t.held l)
     by false = (refl, same_blocks t.held l)
 
-pub key_removed : (s : Held) → Holds (λ u. u ≡ record s { keys = with_top None s.keys }) (remove_simple_key s)
-unfolding remove_simple_key
+pub key_removed : (s : Held) → Holds (λ u. u ≡ record s { keys = with_top None s.keys }) (remove_implicit_key s)
+unfolding remove_implicit_key
 key_removed s = passes _ _ (went refl)
 
 dash : (more : List ℕ) → is_at_gap more ≡ true → IsMark Tok.block_entry 45 more
 unfolding is_break
 dash more gap = record { in_line = refl; piece = λ a next last at o e. (refl, rw e at gap, o); blocks = λ bs. refl; levels = λ ls. refl; before = refl }
 
-pub not_nil : (flow : List FlowLevel) → not (is_nil flow) ≡ false → is_nil flow ≡ true
+pub not_nil : (flow : List FlowLevel) → not (is_empty flow) ≡ false → is_empty flow ≡ true
 not_nil [] e = refl
 not_nil (f ∷ fs) e = absurd (cc e)
 
 -- what the model does after the dash
-abbrev pub entry_from : State → State → Result State Fault
+abbrev pub entry_from : ScannerState → ScannerState → Result ScannerState Fault
 entry_from t u =
     let v = on_held (roll_indent t.held.place.col None Tok.block_sequence_start t.held.place) (skip_indicator u) in
     lexed (space Yes v.rest v.held.place) v.held check_dash >>= λ w.
     skip_spaces No w >>= λ x.
-    try_held remove_simple_key (roll_entry x) >>= λ y.
+    try_held remove_implicit_key (roll_entry x) >>= λ y.
     Ok (on_held (λ s. push s.place Tok.block_entry (allow_key true s)) y)
 
 -- the place after the rolled level is the old one
@@ -161,16 +160,16 @@ pub rolls_place : (col : ℕ) (n : Option ℕ) (k : Token) (h u : Held) → Roll
 rolls_place col n k h u (begins ds i w cols are) = (ap (λ x. x.place) w, ap (λ x. x.keys) w, ap (λ x. x.flow) w, ap (λ x. x.adjacent_value_at) w)
 rolls_place col n k h u (goes_on d) = (ap (λ x. x.place) d.is_held, ap (λ x. x.keys) d.is_held, ap (λ x. x.flow) d.is_held, ap (λ x. x.adjacent_value_at) d.is_held)
 
-entry_fares : (text more : List ℕ) (t w x : State) → t.rest ≡ 45 ∷ more → is_at_gap more ≡ true → (s : Stands text t) → in_flow t.held ≡ false →
+entry_fares : (text more : List ℕ) (t w x : ScannerState) → t.rest ≡ 45 ∷ more → is_at_gap more ≡ true → (s : FaresAt text t) → in_flow t.held ≡ false →
     (u : Held) → Rolls t.held.place.col None (token t.held.place Tok.block_sequence_start) (skip_indicator t).held u → Spaced Yes (record { rest = after t.rest; held = u }) w → Spaced No w x →
-    Stands text (record { rest = (roll_entry x).rest; held = push (roll_entry x).held.place Tok.block_entry (allow_key true (record (roll_entry x).held { keys = with_top None (roll_entry x).held.keys })) })
+    FaresAt text (record { rest = (roll_entry x).rest; held = push (roll_entry x).held.place Tok.block_entry (allow_key true (record (roll_entry x).held { keys = with_top None (roll_entry x).held.keys })) })
 entry_fares text more t w x e gap s out u r a b =
     let h : Held = (skip_indicator t).held in
-    let v : State = record { rest = after t.rest; held = u } in
+    let v : ScannerState = record { rest = after t.rest; held = u } in
     let p : Position = t.held.place in
     let same : (u.place ≡ h.place) × (u.keys ≡ h.keys) × (u.flow ≡ h.flow) × (u.adjacent_value_at ≡ h.adjacent_value_at) = rolls_place p.col None (token p Tok.block_sequence_start) h u r in
     let c : Passed v x = passed_both v w x (passed_spaces Yes v w a) (passed_spaces No w x b) in
-    let g : Filled more (past p) x = record { filler = c.filler; is_rest = ap after (sym e) ∙ c.is_rest; is_filled = c.is_filled; is_place = ap (λ y. y.place) c.is_held ∙ ap (λ q. position_after q c.filler x.rest) same.0 } in
+    let g : Filled more (past p) x = record { separation = c.separation; is_rest = ap after (sym e) ∙ c.is_rest; is_filled = c.is_filled; is_place = ap (λ y. y.place) c.is_held ∙ ap (λ q. position_after q c.separation x.rest) same.0 } in
     let y : Stood text (45 ∷ more) p t.held.tokens t.held.keys t.held.indents t.held.indent t.held.flow s.before = subst (λ z. Stood text z p t.held.tokens t.held.keys t.held.indents t.held.indent t.held.flow s.before) e s.stood in
     let k : Stood text x.rest x.held.place (u.tokens ++ token x.held.place Tok.block_entry ∷ []) (with_top None t.held.keys) u.indents u.indent t.held.flow other =
     roll_stood text 45 more Tok.block_sequence_start Tok.block_entry sequence_start (dash more gap) h u s.before (not_nil t.held.flow out) p p x.held.place x g r y in
@@ -191,22 +190,22 @@ entry_fares text more t w x e gap s out u r a b =
     (roll_entry x).held.adjacent_value_at) (sym rolled.0)
     (subst (λ z. Fares text x.rest z.place (z.tokens ++ token z.place Tok.block_entry ∷ []) (with_top None z.keys) z.indents z.indent z.flow z.adjacent_value_at) (sym d.is_held) as_held)
 
-entry_passed : (text more : List ℕ) (t : State) → t.rest ≡ 45 ∷ more → is_at_gap more ≡ true → Stands text t → in_flow t.held ≡ false → Holds (Stands text) (entry_from t t)
+entry_passed : (text more : List ℕ) (t : ScannerState) → t.rest ≡ 45 ∷ more → is_at_gap more ≡ true → FaresAt text t → in_flow t.held ≡ false → Holds (FaresAt text) (entry_from t t)
 entry_passed text more t e gap s out =
     chained {P = Spaced Yes v} (spaced Yes v check_dash (Spaced Yes v) (λ found w a. weakened (λ y d. subst (λ z. Spaced Yes v z) (sym d) a) (dash_checked found w))) (λ w a.
     chained (spaces_skipped No w) (λ x b.
     chained {P = λ y. y ≡ record (roll_entry x) { held = record (roll_entry x).held { keys = with_top None (roll_entry x).held.keys } }}
-    (tried (roll_entry x) (remove_simple_key (roll_entry x).held) (key_removed (roll_entry x).held) (λ h d. ap (λ z. record (roll_entry x) { held = z }) d)) (λ y d.
-    went (subst (λ z. Stands text (on_held (λ s. push s.place Tok.block_entry (allow_key true s)) z)) (sym d) (entry_fares text more t w x e gap s out v.held rolls a b)))))
+    (tried (roll_entry x) (remove_implicit_key (roll_entry x).held) (key_removed (roll_entry x).held) (λ h d. ap (λ z. record (roll_entry x) { held = z }) d)) (λ y d.
+    went (subst (λ z. FaresAt text (on_held (λ s. push s.place Tok.block_entry (allow_key true s)) z)) (sym d) (entry_fares text more t w x e gap s out v.held rolls a b)))))
   where
-    v : State
+    v : ScannerState
     v = on_held (roll_indent t.held.place.col None Tok.block_sequence_start t.held.place) (skip_indicator t)
 
     rolls : Rolls t.held.place.col None (token t.held.place Tok.block_sequence_start) (skip_indicator t).held v.held
     rolls = rolled_is t.held.place.col None Tok.block_sequence_start t.held.place (skip_indicator t).held out s.stood.are_levels
 
-pub block_entry : (text more : List ℕ) (t : State) → t.rest ≡ 45 ∷ more → is_at_gap more ≡ true → Stands text t → Holds (Stands text) (fetch_block_entry t)
+pub block_entry : (text more : List ℕ) (t : ScannerState) → t.rest ≡ 45 ∷ more → is_at_gap more ≡ true → FaresAt text t → Holds (FaresAt text) (fetch_block_entry t)
 unfolding fetch_block_entry
 block_entry text more t e gap s =
     chained {P = λ u. (u ≡ t) × (in_flow t.held ≡ false)} (tried t (check_block_entry t.held) (entry_checked t.held) (λ h d. (ap (λ y. record t { held = y }) d.0, d.1)))
-    (λ u d. subst (λ y. Holds (Stands text) (entry_from t y)) (sym d.0) (entry_passed text more t e gap s d.1))
+    (λ u d. subst (λ y. Holds (FaresAt text) (entry_from t y)) (sym d.0) (entry_passed text more t e gap s d.1))

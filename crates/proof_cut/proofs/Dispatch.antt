@@ -1,14 +1,14 @@
 -- The next token by its first characters: what holds between fetches holds after it.
 use Rattle.std.proofs.Common.{◌≡◌, ℕ, ◌+◌, List, [], ◌∷◌, Bool, true, false, not, ◌==◌, ◌&&◌, ◌||◌, if◌then◌else◌, slice_index, refl, ap, sym, ◌∙◌, arith}
 use Rattle.yaml_chars.specs.Class.{is_blank, is_break, is_blank_or_breakz, is_flow}
-use Rattle.defs_text.specs.Text.{is_nil}
+use Rattle.defs_text.specs.Text.{is_empty}
 use Rattle.defs_token.specs.Token.{Tok}
 use Rattle.defs_text.specs.Classes as classes
 use Rattle.defs_text.specs.Classes.{is_one_of, is_at_gap, is_document_marker}
 use Rattle.defs_token.specs.Plain.{begins_flow, is_value_indicator, may_begin}
 use Rattle.defs_token.specs.Account.{is_adjacent}
 use Rattle.model_scanner.specs.declared.level.FlowLevel.TheVariants.{Mapping, Entry}
-use Rattle.model_scanner.specs.State.{State, peek, in_flow}
+use Rattle.model_scanner.specs.State.{ScannerState, peek, in_flow}
 use Rattle.model_scanner.specs.Class.{class_of}
 use Rattle.model_scanner.specs.Block.{fetch_block_entry, fetch_key, fetch_value}
 use Rattle.model_scanner.specs.Document.{fetch_block_scalar, fetch_plain_scalar}
@@ -16,9 +16,9 @@ use Rattle.model_scanner.specs.Fetch.{is_value, token_by, fetch_token}
 use Rattle.model_scanner.proofs.Holds.{Holds, refused}
 use Rattle.proof_lexers.proofs.Bridges.{same_gap, same_flow}
 use Rattle.proof_lexers.specs.PlainEnds.{has_no_nul, is_white}
-use Rattle.proof_lexers.specs.Fillers.{begins_filler, begins_token}
+use Rattle.proof_lexers.specs.Separations.{begins_separation, begins_token}
 use Rattle.proof_cut.specs.PiecesRead.{comes_plain}
-use Rattle.proof_cut.specs.Stands.{Stands}
+use Rattle.proof_cut.specs.Stands.{FaresAt}
 use Rattle.proof_cut.proofs.Heres.{before_again}
 use Rattle.proof_cut.proofs.Characters.{Ordinary, of_all}
 use Rattle.proof_cut.proofs.Nodes.{Ready, IsDeep, anchor_fetched, tag_fetched, plain_fetched}
@@ -47,23 +47,23 @@ unfolding classes.is_blank_or_end classes.is_blank classes.is_break classes.is_n
 other_begins fl adjacent c more o =
     rw (o.e45, o.e63, o.e58, o.e124, o.e62, o.e32, o.e9, o.e10, o.e13, o.e0, o.e44, o.e91, o.e93, o.e123, o.e125, o.e35, o.e38, o.e42, o.e33, o.e37, o.e64, o.e96, o.e39, o.e34) refl
 
-module _ (text : List ℕ) (t : State) (r : Ready text t) (deep : IsDeep t.held) (marker : ((t.held.place.col == 0) && is_document_marker t.rest) ≡ false) where
+module _ (text : List ℕ) (t : ScannerState) (r : Ready text t) (deep : IsDeep t.held) (marker : ((t.held.place.col == 0) && is_document_marker t.rest) ≡ false) where
   -- a token that begins with a character
   abbrev Reads : ℕ → Type 0
-  Reads c = (more : List ℕ) → t.rest ≡ c ∷ more → Holds (Stands text) (token_by (class_of c) t)
+  Reads c = (more : List ℕ) → t.rest ≡ c ∷ more → Holds (FaresAt text) (token_by (class_of c) t)
 
-  plain_here : (c : ℕ) (more : List ℕ) → t.rest ≡ c ∷ more → (if c == 45 then not (is_at_gap more) else may_begin (in_flow t.held) (is_adjacent r.stands.before) c more) ≡ true → Holds (Stands text) (fetch_plain_scalar t)
+  plain_here : (c : ℕ) (more : List ℕ) → t.rest ≡ c ∷ more → (if c == 45 then not (is_at_gap more) else may_begin (in_flow t.held) (is_adjacent r.stands.before) c more) ≡ true → Holds (FaresAt text) (fetch_plain_scalar t)
   plain_here c more e h =
       let none : ((t.held.place.col == 0) && is_document_marker (c ∷ more)) ≡ false = ap (λ l. (t.held.place.col == 0) && is_document_marker l) (sym e) ∙ marker in
       plain_fetched text t r.stands deep (ap (comes_plain (in_flow t.held) (is_adjacent r.stands.before) t.held.place.col) e ∙ rw (h, none) refl)
 
   solid_at : (c : ℕ) (more : List ℕ) → t.rest ≡ c ∷ more → (is_white c || (c == 35)) ≡ false
-  solid_at c more e = ap begins_filler (sym e) ∙ r.solid
+  solid_at c more e = ap begins_separation (sym e) ∙ r.solid
 
   -- ---- characters that begin no token
 
-  no_filler : (c : ℕ) → (is_white c || (c == 35)) ≡ true → Reads c
-  no_filler c h more e = absurd (cc (h, solid_at c more e))
+  no_separation : (c : ℕ) → (is_white c || (c == 35)) ≡ true → Reads c
+  no_separation c h more e = absurd (cc (h, solid_at c more e))
 
   no_nul : Reads 0
   unfolding classes.is_nul
@@ -78,7 +78,7 @@ module _ (text : List ℕ) (t : State) (r : Ready text t) (deep : IsDeep t.held)
   unfolding class_of
   dash more e = by (is_at_gap more) refl
     where
-      by : (gap : Bool) → is_at_gap more ≡ gap → Holds (Stands text) (if is_blank_or_breakz (slice_index t.rest 1) then fetch_block_entry t else fetch_plain_scalar t)
+      by : (gap : Bool) → is_at_gap more ≡ gap → Holds (FaresAt text) (if is_blank_or_breakz (slice_index t.rest 1) then fetch_block_entry t else fetch_plain_scalar t)
       by true g = rw (gap_after 45 more true e g) (block_entry text more t e g r.stands)
       by false g = rw (gap_after 45 more false e g) (plain_here 45 more e (rw g refl))
 
@@ -86,20 +86,20 @@ module _ (text : List ℕ) (t : State) (r : Ready text t) (deep : IsDeep t.held)
   unfolding class_of
   question more e = by (is_at_gap more) refl
     where
-      by : (gap : Bool) → is_at_gap more ≡ gap → Holds (Stands text) (if is_blank_or_breakz (slice_index t.rest 1) then fetch_key t else fetch_plain_scalar t)
+      by : (gap : Bool) → is_at_gap more ≡ gap → Holds (FaresAt text) (if is_blank_or_breakz (slice_index t.rest 1) then fetch_key t else fetch_plain_scalar t)
       by true g = rw (gap_after 63 more true e g) (key_fetched text more t e g r.stands)
       by false g = rw (gap_after 63 more false e g) (plain_here 63 more e (rw g refl))
 
   -- in flow, whether a colon may stand here is what the account says
-  adjacent_now : (c : ℕ) (more : List ℕ) → t.rest ≡ c ∷ more → is_nil t.held.flow ≡ false → (t.held.place.index == t.held.adjacent_value_at) ≡ is_adjacent r.stands.before
+  adjacent_now : (c : ℕ) (more : List ℕ) → t.rest ≡ c ∷ more → is_empty t.held.flow ≡ false → (t.held.place.index == t.held.adjacent_value_at) ≡ is_adjacent r.stands.before
   adjacent_now c more e inside =
       let begins : begins_token t.rest ≡ true = ap begins_token e ∙ ap not (solid_at c more e) in
       let no_more : t.held.place.index + 0 ≡ t.held.place.index = omega arith in
       sym (ap is_adjacent (sym (before_again r.stands.before)) ∙ r.stands.is_adjacent_here inside [] t.rest refl refl begins ∙ ap (λ n. n == t.held.adjacent_value_at) no_more)
 
-  value_is : (more : List ℕ) → t.rest ≡ 58 ∷ more → is_value t ≡ is_value_indicator (not (is_nil t.held.flow)) (is_adjacent r.stands.before) more
+  value_is : (more : List ℕ) → t.rest ≡ 58 ∷ more → is_value t ≡ is_value_indicator (not (is_empty t.held.flow)) (is_adjacent r.stands.before) more
   unfolding is_value
-  value_is more e = by (is_nil t.held.flow) refl
+  value_is more e = by (is_empty t.held.flow) refl
     where
       gap : is_blank_or_breakz (slice_index t.rest 1) ≡ is_at_gap more
       gap = gap_after 58 more (is_at_gap more) e refl
@@ -107,7 +107,7 @@ module _ (text : List ℕ) (t : State) (r : Ready text t) (deep : IsDeep t.held)
       flows : is_flow (slice_index t.rest 1) ≡ begins_flow more
       flows = ap (λ l. is_flow (slice_index l 1)) e ∙ flow_here more
 
-      by : (out : Bool) → is_nil t.held.flow ≡ out
+      by : (out : Bool) → is_empty t.held.flow ≡ out
           → (is_blank_or_breakz (slice_index t.rest 1) || (not out && (is_flow (slice_index t.rest 1) || (t.held.place.index == t.held.adjacent_value_at)))) ≡ (is_at_gap more || (not out && (begins_flow more || is_adjacent r.stands.before)))
       by true o = ap (λ b. b || false) gap
       by false o = ap (λ b. b || (is_flow (slice_index t.rest 1) || (t.held.place.index == t.held.adjacent_value_at))) gap ∙ ap (λ b. is_at_gap more || (b || (t.held.place.index == t.held.adjacent_value_at))) flows
@@ -115,19 +115,19 @@ module _ (text : List ℕ) (t : State) (r : Ready text t) (deep : IsDeep t.held)
 
   colon : Reads 58
   unfolding class_of
-  colon more e = by (is_value_indicator (not (is_nil t.held.flow)) (is_adjacent r.stands.before) more) refl
+  colon more e = by (is_value_indicator (not (is_empty t.held.flow)) (is_adjacent r.stands.before) more) refl
     where
-      by : (b : Bool) → is_value_indicator (not (is_nil t.held.flow)) (is_adjacent r.stands.before) more ≡ b → Holds (Stands text) (if is_value t then fetch_value t else fetch_plain_scalar t)
+      by : (b : Bool) → is_value_indicator (not (is_empty t.held.flow)) (is_adjacent r.stands.before) more ≡ b → Holds (FaresAt text) (if is_value t then fetch_value t else fetch_plain_scalar t)
       by true i = rw (value_is more e ∙ i) (value_fetched text more t e r.stands i r.near)
       by false i = rw (value_is more e ∙ i) (plain_here 58 more e (rw i refl))
 
   -- an indicator outside flow, which in flow begins a plain scalar
   block_or_plain : (literal : Bool) (c : ℕ) (more : List ℕ) → t.rest ≡ c ∷ more → c ≡ (if literal then 124 else 62)
       → (in_flow t.held ≡ true → (if c == 45 then not (is_at_gap more) else may_begin (in_flow t.held) (is_adjacent r.stands.before) c more) ≡ true)
-      → Holds (Stands text) (if in_flow t.held then fetch_plain_scalar t else fetch_block_scalar literal t)
-  block_or_plain literal c more e is may = by (is_nil t.held.flow) refl
+      → Holds (FaresAt text) (if in_flow t.held then fetch_plain_scalar t else fetch_block_scalar literal t)
+  block_or_plain literal c more e is may = by (is_empty t.held.flow) refl
     where
-      by : (out : Bool) → is_nil t.held.flow ≡ out → Holds (Stands text) (if not out then fetch_plain_scalar t else fetch_block_scalar literal t)
+      by : (out : Bool) → is_empty t.held.flow ≡ out → Holds (FaresAt text) (if not out then fetch_plain_scalar t else fetch_block_scalar literal t)
       by true o = block_fetched text literal t more (e ∙ ap (λ k. k ∷ more) is) o r.stands deep
       by false o = plain_here c more e (may (ap not o))
 
@@ -194,7 +194,7 @@ module _ (text : List ℕ) (t : State) (r : Ready text t) (deep : IsDeep t.held)
   -- ---- all characters
 
   white : (c : ℕ) → is_white c ≡ true → Reads c
-  white c h = no_filler c (rw h refl)
+  white c h = no_separation c (rw h refl)
 
   space : Reads 32
   unfolding classes.is_blank
@@ -214,7 +214,7 @@ module _ (text : List ℕ) (t : State) (r : Ready text t) (deep : IsDeep t.held)
 
   hash : Reads 35
   unfolding classes.is_break classes.is_blank
-  hash = no_filler 35 refl
+  hash = no_separation 35 refl
 
   other : (c : ℕ) → Ordinary c → Reads c
   unfolding class_of
@@ -251,10 +251,10 @@ module _ (text : List ℕ) (t : State) (r : Ready text t) (deep : IsDeep t.held)
     other = other;
   }) c
 
-pub token_fetched : (text : List ℕ) (t : State) → Ready text t → IsDeep t.held → ((t.held.place.col == 0) && is_document_marker t.rest) ≡ false → Holds (Stands text) (fetch_token t)
+pub token_fetched : (text : List ℕ) (t : ScannerState) → Ready text t → IsDeep t.held → ((t.held.place.col == 0) && is_document_marker t.rest) ≡ false → Holds (FaresAt text) (fetch_token t)
 unfolding fetch_token
 token_fetched text t r deep marker = by t.rest refl r.some
   where
-    by : (l : List ℕ) → t.rest ≡ l → is_nil l ≡ false → Holds (Stands text) (token_by (class_of (peek t.rest)) t)
+    by : (l : List ℕ) → t.rest ≡ l → is_empty l ≡ false → Holds (FaresAt text) (token_by (class_of (peek t.rest)) t)
     by [] e n = absurd (cc n)
     by (c ∷ more) e n = rw (ap peek e) (each text t r deep marker c more e)

@@ -1,16 +1,14 @@
 -- The functions of the model that read directives and document markers, and the stream's start and end.
 use Rattle.std.proofs.Common.{◌≡◌, ℕ, suc, ◌+◌, ◌<◌, ◌≤◌, List, [], ◌∷◌, ◌++◌, Bool, true, false, not, length, if◌then◌else◌, Option, Some, None, Result, Ok, Err, refl, ap, sym, ◌∙◌, subst, arith, append-nil}
 use Rattle.std.proofs.lemmas.Bool.{and_parts}
-use Rattle.defs_text.specs.Position.{Position}
-use Rattle.defs_text.specs.Text.{is_nil}
+use Rattle.defs_text.specs.Position.{Position, position_past, position_after}
+use Rattle.defs_text.specs.Text.{is_empty, up_to_end}
 use Rattle.yaml_tokens.specs.declared.problem.Fault.{Fault}
 use Rattle.yaml_tokens.specs.declared.problem.Fault.TheVariants.{At}
 use Rattle.yaml_tokens.specs.declared.problem.Problem.TheVariants as problem
 use Rattle.defs_token.specs.Token.{Tok, Token, stream_end}
 use Rattle.defs_text.specs.Classes.{is_break, is_nul, is_at_gap}
-use Rattle.defs_text.specs.Text.{up_to_end}
-use Rattle.defs_text.specs.Position.{position_past, position_after}
-use Rattle.defs_token.specs.Account.{Level, Account, first_account, Before, other, before_past, before_by, is_empty, is_closed, blocks_past, levels_past, innermost_column}
+use Rattle.defs_token.specs.Account.{Level, Account, first_account, Before, other, before_past, before_by, is_closed, blocks_past, levels_past, innermost_column}
 use Rattle.defs_token.specs.Piece.{IsPiece, IsDocumentMarker}
 use Rattle.defs_token.specs.Cut.{Written, IsCut, IsRow, spelled, account_past_row}
 use Rattle.model_lexers.specs.declared.context.SkipTabs.TheVariants.{Yes}
@@ -19,8 +17,8 @@ use Rattle.model_lexers.specs.Directive.{directive}
 use Rattle.model_scanner.specs.declared.level.Indent.{Indent}
 use Rattle.model_scanner.specs.declared.level.FlowLevel.{FlowLevel}
 use Rattle.yaml_chars.specs.Class.{is_breakz}
-use Rattle.model_scanner.specs.State.{Key, Held, State, peek, push, with_top, token, on_held, with_held, skip_indicator}
-use Rattle.model_scanner.specs.Keys.{cleared, has_required, is_required, top_key, remove_simple_key}
+use Rattle.model_scanner.specs.State.{Key, Held, ScannerState, peek, push, with_top, token, on_held, with_held, skip_indicator}
+use Rattle.model_scanner.specs.Keys.{cleared, has_required, is_required, top_key, remove_implicit_key}
 use Rattle.model_scanner.specs.Indents.{Levels, unrolled, unroll_indent}
 use Rattle.model_scanner.specs.Run.{start}
 use Rattle.model_scanner.specs.Document.{closed_key, begin_line, fetch_directive, fetch_document_marker, check_document_end, fetch_document_end, fetch_stream_start, next_line, ended_at, fetch_stream_end}
@@ -30,7 +28,7 @@ use Rattle.proof_cut.specs.PiecesRead.{ReadAs, is_directive_token}
 use Rattle.proof_cut.specs.Order.{After}
 use Rattle.proof_cut.specs.Places.{IsAtEnd}
 use Rattle.proof_cut.specs.Here.{IsLive, AreOpen}
-use Rattle.proof_cut.specs.Stands.{columns, levels_of, account_of, AreLevels, IsLevel, IsAdjacent, Stood, Fares, Stands}
+use Rattle.proof_cut.specs.Stands.{columns, levels_of, account_of, AreLevels, IsLevel, IsAdjacent, Stood, Fares, FaresAt}
 use Rattle.proof_cut.proofs.Pieces.Directives.{directive_is_read}
 use Rattle.proof_cut.proofs.Places.{weaker, index_after}
 use Rattle.proof_cut.proofs.RowPlaces.{end_place}
@@ -79,16 +77,16 @@ none_left i (d ∷ ds) l h = by d.needs_block_end l.0
 -- ---- the line of a directive or a marker
 
 -- What is held before a directive or a document marker: outside flow no block collection is open, and no key at the innermost level.
-record Begun (text : List ℕ) (t : State) (u : Held) : Type 0 where
+record Begun (text : List ℕ) (t : ScannerState) (u : Held) : Type 0 where
   pub indents : List Indent
   pub indent : ℕ
   pub tokens : List Token
   pub stands : Fares text t.rest t.held.place tokens t.held.keys indents indent t.held.flow t.held.adjacent_value_at
   pub is_held : u ≡ record t.held { indents = indents; indent = indent; tokens = tokens; keys = with_top None t.held.keys; key_allowed = false }
-  pub closed : is_nil t.held.flow ≡ true → columns indent indents ≡ []
+  pub closed : is_empty t.held.flow ≡ true → columns indent indents ≡ []
 
-line_begun : (text : List ℕ) (t : State) → t.held.place.col ≡ 0 → Stands text t → Holds (Begun text t) (begin_line t.held)
-unfolding begin_line remove_simple_key
+line_begun : (text : List ℕ) (t : ScannerState) → t.held.place.col ≡ 0 → FaresAt text t → Holds (Begun text t) (begin_line t.held)
+unfolding begin_line remove_implicit_key
 line_begun text t col s = by (is_required (top_key (unroll_indent 0 t.held).keys))
   where
     z : UnrolledTo text t 0
@@ -119,26 +117,26 @@ margin_fares text rest p tokens keys indents indent flow adj s col tok rest2 end
     let w : Written = with_piece (r.first ∷ r.more) p tok in
     let column : Option ℕ = innermost_column (columns indent indents) in
     let given : AreOpen 0 s.stood.row s.stood.after p rest column (with_top None keys) = open_given_up 0 s.stood.row s.stood.after p rest column keys s.stood.are_open in
-    let cut : s.stood.after ≡ spelled (led s.stood.here.filler w ∷ []) (r.filler ++ rest2) = spelled_led s.stood.after s.stood.here.filler rest w [] (r.filler ++ rest2) s.stood.here.is_after r.is_text in
+    let cut : s.stood.after ≡ spelled (led s.stood.here.separation w ∷ []) (r.separation ++ rest2) = spelled_led s.stood.after s.stood.here.separation rest w [] (r.separation ++ rest2) s.stood.here.is_after r.is_text in
     record {
-      before = before_past (before_by tok) r.filler;
+      before = before_past (before_by tok) r.separation;
       stood = piece_stood text rest p tokens keys indents indent flow s.before s.stood tok p rest2 end r blocks flow levels (with_top None keys) (same_length keys ∙ s.stood.one_each)
-          (open_more 0 0 s.stood.row (led s.stood.here.filler w ∷ []) s.stood.after (r.filler ++ rest2) p end rest rest2 column (with_top None keys) cut (weaker p end later)
-          (λ _. ap is_nil r.is_text) (margin_leads 0 0 p end rest2 (led s.stood.here.filler w ∷ []) col later) given);
+          (open_more 0 0 s.stood.row (led s.stood.here.separation w ∷ []) s.stood.after (r.separation ++ rest2) p end rest rest2 column (with_top None keys) cut (weaker p end later)
+          (λ _. ap is_empty r.is_text) (margin_leads 0 0 p end rest2 (led s.stood.here.separation w ∷ []) col later) given);
       was_adjacent = omega (arith, s.was_adjacent, further);
-      is_adjacent_here = λ _. subst (λ b. IsAdjacent (before_past b r.filler) end adj rest2) (sym none) (adjacent_other end adj rest2 (omega (arith, s.was_adjacent, further)));
+      is_adjacent_here = λ _. subst (λ b. IsAdjacent (before_past b r.separation) end adj rest2) (sym none) (adjacent_other end adj rest2 (omega (arith, s.was_adjacent, further)));
     }
 
-closed_account : (p : Position) (indent : ℕ) (indents : List Indent) (flow : List FlowLevel) (before : Before) → (is_nil flow ≡ true → columns indent indents ≡ []) → is_closed (account_of p indent indents flow before) ≡ true
-closed_account p indent indents flow before h = by (is_nil flow) refl
+closed_account : (p : Position) (indent : ℕ) (indents : List Indent) (flow : List FlowLevel) (before : Before) → (is_empty flow ≡ true → columns indent indents ≡ []) → is_closed (account_of p indent indents flow before) ≡ true
+closed_account p indent indents flow before h = by (is_empty flow) refl
   where
-    by : (b : Bool) → is_nil flow ≡ b → is_closed (account_of p indent indents flow before) ≡ true
+    by : (b : Bool) → is_empty flow ≡ b → is_closed (account_of p indent indents flow before) ≡ true
     by true e = rw (outside_now flow e, h e) refl
     by false e = let inside : not (is_empty (levels_of flow)) ≡ true = same_flow flow ∙ ap not e in rw inside refl
 
 -- ---- directives
 
-abbrev directive_pushed : State → Tok → State → Result State Fault
+abbrev directive_pushed : ScannerState → Tok → ScannerState → Result ScannerState Fault
 directive_pushed t tok v = Ok (on_held (λ s. push t.held.place tok (record s { leading = true })) v)
 
 directive_is : (tok : Tok) → is_directive_token tok ≡ true → ((bs : List (Option ℕ)) → blocks_past bs tok ≡ bs) × ((ls : List Level) (c : ℕ) (m : List ℕ) → levels_past ls (c ∷ m) tok ≡ ls) × (before_by tok ≡ other)
@@ -167,7 +165,7 @@ directive_is (Tok.scalar style text) h = absurd (cc h)
 clean_of : (text rest : List ℕ) (p : Position) (tokens : List Token) (keys : List (Option Key)) (indents : List Indent) (indent : ℕ) (flow : List FlowLevel) (adj : ℕ) (c : ℕ) (more : List ℕ) → rest ≡ c ∷ more → Fares text rest p tokens keys indents indent flow adj → has_no_nul more ≡ true
 clean_of text rest p tokens keys indents indent flow adj c more e s = (and_parts (not (is_nul c)) (has_no_nul more) (rw e at s.stood.here.is_clean)).1
 
-directive_fares : (text more : List ℕ) (t : State) (u : Held) → t.rest ≡ 37 ∷ more → t.held.place.col ≡ 0 → (b : Begun text t u) → (x : Read Tok) → directive t.rest u.place ≡ Ok x →
+directive_fares : (text more : List ℕ) (t : ScannerState) (u : Held) → t.rest ≡ 37 ∷ more → t.held.place.col ≡ 0 → (b : Begun text t u) → (x : Read Tok) → directive t.rest u.place ≡ Ok x →
     Fares text x.rest x.place (u.tokens ++ token t.held.place x.value ∷ []) u.keys u.indents u.indent u.flow u.adjacent_value_at
 directive_fares text more t u e col b x is =
     let a : Account = account_of t.held.place b.indent b.indents t.held.flow b.stands.before in
@@ -179,7 +177,7 @@ directive_fares text more t u e col b x is =
     (margin_fares text t.rest t.held.place b.tokens t.held.keys b.indents b.indent t.held.flow t.held.adjacent_value_at b.stands col x.value x.rest x.place
     (subst (λ l. ReadAs a l x.value t.held.place x.rest x.place) (sym e) r.0) (k.0 (columns b.indent b.indents)) (k.1 (levels_of t.held.flow) r.0.first r.0.more) k.2)
 
-pub directive_fetched : (text more : List ℕ) (t : State) → t.rest ≡ 37 ∷ more → t.held.place.col ≡ 0 → Stands text t → Holds (Stands text) (fetch_directive t)
+pub directive_fetched : (text more : List ℕ) (t : ScannerState) → t.rest ≡ 37 ∷ more → t.held.place.col ≡ 0 → FaresAt text t → Holds (FaresAt text) (fetch_directive t)
 unfolding fetch_directive
 directive_fetched text more t e col s =
     chained {P = λ u. (u.rest ≡ t.rest) × Begun text t u.held} (tried t (begin_line t.held) (line_begun text t col s) (λ h b. (refl, b))) (λ u b.
@@ -209,7 +207,7 @@ marks_end : IsMarker Tok.document_end 46
 unfolding is_break
 marks_end = record { in_line = refl; piece = λ a next last h. (h, refl); blocks = λ bs. refl; levels = λ ls. refl; before = refl }
 
-marker_fares : (text : List ℕ) (tok : Tok) (c : ℕ) (more : List ℕ) → IsMarker tok c → (t : State) (u : Held) → t.rest ≡ c ∷ c ∷ c ∷ more → is_at_gap more ≡ true → t.held.place.col ≡ 0 → (b : Begun text t u) →
+marker_fares : (text : List ℕ) (tok : Tok) (c : ℕ) (more : List ℕ) → IsMarker tok c → (t : ScannerState) (u : Held) → t.rest ≡ c ∷ c ∷ c ∷ more → is_at_gap more ≡ true → t.held.place.col ≡ 0 → (b : Begun text t u) →
     Fares text more (past (past (past u.place))) (u.tokens ++ token t.held.place tok ∷ []) u.keys u.indents u.indent u.flow u.adjacent_value_at
 marker_fares text tok c more m t u e gap col b =
     let p : Position = t.held.place in
@@ -218,7 +216,7 @@ marker_fares text tok c more m t u e gap col b =
     let r : ReadAs a t.rest tok p more (past (past (past p))) = record {
       first = c;
       more = c ∷ c ∷ [];
-      filler = [];
+      separation = [];
       is_text = e;
       is_filled = refl;
       is_piece = λ last. m.piece a more last (refl, col, gap, closes);
@@ -227,30 +225,30 @@ marker_fares text tok c more m t u e gap col b =
     subst (λ (h : Held). Fares text more (past (past (past h.place))) (h.tokens ++ token p tok ∷ []) h.keys h.indents h.indent h.flow h.adjacent_value_at) (sym b.is_held)
     (margin_fares text t.rest p b.tokens t.held.keys b.indents b.indent t.held.flow t.held.adjacent_value_at b.stands col tok more (past (past (past p))) r (m.blocks (columns b.indent b.indents)) (m.levels (levels_of t.held.flow)) m.before)
 
-marked : (text : List ℕ) (tok : Tok) (c : ℕ) (more : List ℕ) → IsMarker tok c → (t : State) → t.rest ≡ c ∷ c ∷ c ∷ more → is_at_gap more ≡ true → t.held.place.col ≡ 0 → Stands text t → Holds (Stands text) (fetch_document_marker tok t)
+marked : (text : List ℕ) (tok : Tok) (c : ℕ) (more : List ℕ) → IsMarker tok c → (t : ScannerState) → t.rest ≡ c ∷ c ∷ c ∷ more → is_at_gap more ≡ true → t.held.place.col ≡ 0 → FaresAt text t → Holds (FaresAt text) (fetch_document_marker tok t)
 unfolding fetch_document_marker
 marked text tok c more m t e gap col s =
     chained {P = λ u. (u.rest ≡ c ∷ c ∷ c ∷ more) × Begun text t u.held} (tried t (begin_line t.held) (line_begun text t col s) (λ h b. (e, b))) (λ u b. went (passed u b.0 b.1))
   where
-    passed : (u : State) → u.rest ≡ c ∷ c ∷ c ∷ more → Begun text t u.held → Stands text (on_held (push t.held.place tok) (skip_indicator (skip_indicator (skip_indicator u))))
-    passed u same b = subst (λ r. Stands text (on_held (push t.held.place tok) (skip_indicator (skip_indicator (skip_indicator (record u { rest = r })))))) (sym same) (marker_fares text tok c more m t u.held e gap col b)
+    passed : (u : ScannerState) → u.rest ≡ c ∷ c ∷ c ∷ more → Begun text t u.held → FaresAt text (on_held (push t.held.place tok) (skip_indicator (skip_indicator (skip_indicator u))))
+    passed u same b = subst (λ r. FaresAt text (on_held (push t.held.place tok) (skip_indicator (skip_indicator (skip_indicator (record u { rest = r })))))) (sym same) (marker_fares text tok c more m t u.held e gap col b)
 
-pub start_marked : (text more : List ℕ) (t : State) → t.rest ≡ 45 ∷ 45 ∷ 45 ∷ more → is_at_gap more ≡ true → t.held.place.col ≡ 0 → Stands text t → Holds (Stands text) (fetch_document_marker Tok.document_start t)
+pub start_marked : (text more : List ℕ) (t : ScannerState) → t.rest ≡ 45 ∷ 45 ∷ 45 ∷ more → is_at_gap more ≡ true → t.held.place.col ≡ 0 → FaresAt text t → Holds (FaresAt text) (fetch_document_marker Tok.document_start t)
 start_marked text more t e gap col s = marked text Tok.document_start 45 more marks_start t e gap col s
 
--- what stands after a filler
-pub passed_stands : (text : List ℕ) (t u : State) → Passed t u → Stands text t → Stands text u
+-- what stands after a separation
+pub passed_stands : (text : List ℕ) (t u : ScannerState) → Passed t u → FaresAt text t → FaresAt text u
 passed_stands text t u a s =
-    let end : Position = position_after t.held.place a.filler u.rest in
-    let further : end.index ≡ t.held.place.index + length a.filler = index_after t.held.place a.filler u.rest in
+    let end : Position = position_after t.held.place a.separation u.rest in
+    let further : end.index ≡ t.held.place.index + length a.separation = index_after t.held.place a.separation u.rest in
     subst (λ (h : Held). Fares text u.rest h.place h.tokens h.keys h.indents h.indent h.flow h.adjacent_value_at) (sym a.is_held) (record {
-      before = before_past s.before a.filler;
-      stood = stood_filled text t.rest t.held.place t.held.tokens t.held.keys t.held.indents t.held.indent t.held.flow s.before a.filler u.rest a.is_rest a.is_filled s.stood;
+      before = before_past s.before a.separation;
+      stood = stood_filled text t.rest t.held.place t.held.tokens t.held.keys t.held.indents t.held.indent t.held.flow s.before a.separation u.rest a.is_rest a.is_filled s.stood;
       was_adjacent = omega (arith, s.was_adjacent, further);
-      is_adjacent_here = λ h. adjacent_filled s.before t.held.place t.held.adjacent_value_at t.rest a.filler u.rest a.is_rest a.is_filled (s.is_adjacent_here h);
+      is_adjacent_here = λ h. adjacent_filled s.before t.held.place t.held.adjacent_value_at t.rest a.separation u.rest a.is_rest a.is_filled (s.is_adjacent_here h);
     })
 
-pub document_ended : (text more : List ℕ) (t : State) → t.rest ≡ 46 ∷ 46 ∷ 46 ∷ more → is_at_gap more ≡ true → t.held.place.col ≡ 0 → Stands text t → Holds (Stands text) (fetch_document_end t)
+pub document_ended : (text more : List ℕ) (t : ScannerState) → t.rest ≡ 46 ∷ 46 ∷ 46 ∷ more → is_at_gap more ≡ true → t.held.place.col ≡ 0 → FaresAt text t → Holds (FaresAt text) (fetch_document_end t)
 unfolding fetch_document_end check_document_end
 document_ended text more t e gap col s =
     chained (marked text Tok.document_end 46 more marks_end t e gap col s) (λ u stands.
@@ -259,7 +257,7 @@ document_ended text more t e gap col s =
 
 -- ---- the stream
 
-pub stream_begun : (text : List ℕ) → has_no_nul text ≡ true → Stands text (fetch_stream_start (start text))
+pub stream_begun : (text : List ℕ) → has_no_nul text ≡ true → FaresAt text (fetch_stream_start (start text))
 unfolding fetch_stream_start
 stream_begun text nul = record {
   before = other;
@@ -268,7 +266,7 @@ stream_begun text nul = record {
     row = [];
     after = text;
     tokens_are = refl;
-    here = record { filler = []; is_after = refl; is_text = refl; is_row = λ last. tt; is_filled = refl; is_here = refl; is_clean = nul };
+    here = record { separation = []; is_after = refl; is_text = refl; is_row = λ last. tt; is_filled = refl; is_here = refl; is_clean = nul };
     are_levels = refl;
     one_each = refl;
     are_open = tt;
@@ -291,12 +289,12 @@ whole_text (c ∷ r) h =
 cut_of : (text : List ℕ) (p q : Position) (tokens : List Token) (keys : List (Option Key)) (indents : List Indent) (indent : ℕ) (flow : List FlowLevel) (before : Before) → has_no_nul text ≡ true →
     is_closed (account_of p indent indents flow before) ≡ true → Stood text [] p tokens keys indents indent flow before → IsCut (tokens ++ token q stream_end ∷ []) text
 cut_of text p q tokens keys indents indent flow before nul closed s =
-    let same : s.after ≡ s.here.filler = s.here.is_after ∙ rw append-nil refl in
+    let same : s.after ≡ s.here.separation = s.here.is_after ∙ rw append-nil refl in
     record {
       begin = s.begin;
       end = q;
       row = s.row;
-      filler = s.here.filler;
+      separation = s.here.separation;
       are_tokens = ap (λ ts. ts ++ token q stream_end ∷ []) s.tokens_are;
       is_text = ap (spelled s.row) (sym same) ∙ s.here.is_text ∙ sym (whole_text text nul);
       is_filled = s.here.is_filled;
@@ -330,9 +328,9 @@ cleared_stood text rest p tokens keys indents indent flow before s = record {
   are_open = none_open 0 s.row s.after p rest (innermost_column (columns indent indents)) keys;
 }
 
-stream_cut : (text : List ℕ) (t : State) → has_no_nul text ≡ true → t.rest ≡ [] → (s : Stands text t) → (q : Position) →
+stream_cut : (text : List ℕ) (t : ScannerState) → has_no_nul text ≡ true → t.rest ≡ [] → (s : FaresAt text t) → (q : Position) →
     IsCut ((unroll_indent 0 (record t.held { place = q; keys = cleared t.held.keys })).tokens ++ token (unroll_indent 0 (record t.held { place = q; keys = cleared t.held.keys })).place stream_end ∷ []) text
-stream_cut text t nul none s q = by (is_nil t.held.flow) refl
+stream_cut text t nul none s q = by (is_empty t.held.flow) refl
   where
     h : Held
     h = record t.held { place = q; keys = cleared t.held.keys }
@@ -341,7 +339,7 @@ stream_cut text t nul none s q = by (is_nil t.held.flow) refl
     x = subst (λ r. Stood text r t.held.place t.held.tokens (cleared t.held.keys) t.held.indents t.held.indent t.held.flow s.before) none
         (cleared_stood text t.rest t.held.place t.held.tokens t.held.keys t.held.indents t.held.indent t.held.flow s.before s.stood)
 
-    by : (out : Bool) → is_nil t.held.flow ≡ out → IsCut ((unroll_indent 0 h).tokens ++ token (unroll_indent 0 h).place stream_end ∷ []) text
+    by : (out : Bool) → is_empty t.held.flow ≡ out → IsCut ((unroll_indent 0 h).tokens ++ token (unroll_indent 0 h).place stream_end ∷ []) text
     by false e =
         subst (λ (k : Held). IsCut (k.tokens ++ token k.place stream_end ∷ []) text) (sym (unrolled_in_flow 0 h e))
         (cut_of text t.held.place q t.held.tokens (cleared t.held.keys) t.held.indents t.held.indent t.held.flow s.before nul (closed_account t.held.place t.held.indent t.held.indents t.held.flow s.before (λ out. absurd (cc (out, e)))) x)
@@ -355,13 +353,13 @@ stream_cut text t nul none s q = by (is_nil t.held.flow) refl
 
 -- the ends of levels change neither the place nor whether the stream's start was met
 unroll_keeps : (limit : ℕ) (h : Held) → ((unroll_indent limit h).place ≡ h.place) × ((unroll_indent limit h).started ≡ h.started)
-unroll_keeps limit h = by (is_nil h.flow) refl
+unroll_keeps limit h = by (is_empty h.flow) refl
   where
-    by : (out : Bool) → is_nil h.flow ≡ out → ((unroll_indent limit h).place ≡ h.place) × ((unroll_indent limit h).started ≡ h.started)
+    by : (out : Bool) → is_empty h.flow ≡ out → ((unroll_indent limit h).place ≡ h.place) × ((unroll_indent limit h).started ≡ h.started)
     by false e = (ap (λ k. k.place) (unrolled_in_flow limit h e), ap (λ k. k.started) (unrolled_in_flow limit h e))
     by true e = (ap (λ k. k.place) (unrolled_outside limit h e), ap (λ k. k.started) (unrolled_outside limit h e))
 
-pub stream_ended : (text : List ℕ) (t : State) → has_no_nul text ≡ true → t.rest ≡ [] → Stands text t → t.held.started ≡ true
+pub stream_ended : (text : List ℕ) (t : ScannerState) → has_no_nul text ≡ true → t.rest ≡ [] → FaresAt text t → t.held.started ≡ true
     → Holds (λ u. IsCut u.held.tokens text × (u.held.ended ≡ true) × IsAtEnd text u.held) (fetch_stream_end t)
 unfolding fetch_stream_end
 stream_ended text t nul none s began = by (has_required t.held.keys)
@@ -372,7 +370,7 @@ stream_ended text t nul none s began = by (has_required t.held.keys)
     at_end : IsAtEnd text (ended_at (unroll_indent 0 h))
     at_end = record { began = (unroll_keeps 0 h).1 ∙ began; place = (unroll_keeps 0 h).0 ∙ ap next_line (end_place text t none s) }
 
-    by : (b : Bool) → Holds (λ (u : State). IsCut u.held.tokens text × (u.held.ended ≡ true) × IsAtEnd text u.held)
+    by : (b : Bool) → Holds (λ (u : ScannerState). IsCut u.held.tokens text × (u.held.ended ≡ true) × IsAtEnd text u.held)
         (with_held t (if b then Err (At problem.KeyExpected (next_line t.held.place)) else Ok (ended_at (unroll_indent 0 (record t.held { place = next_line t.held.place; keys = cleared t.held.keys })))))
     by true = refused
     by false = went (stream_cut text t nul none s (next_line t.held.place), refl, at_end)

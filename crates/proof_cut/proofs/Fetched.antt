@@ -4,7 +4,7 @@ use Rattle.std.proofs.lemmas.Bool.{and_parts, eqb-true}
 use Rattle.std.proofs.lemmas.Bool.Decides.{nat_tests}
 use Rattle.std.specs.List.{list_any}
 use Rattle.defs_text.specs.Position.{Position}
-use Rattle.defs_text.specs.Text.{is_nil}
+use Rattle.defs_text.specs.Text.{is_empty}
 use Rattle.yaml_chars.specs.Class.{is_blank, is_break, is_blank_or_breakz}
 use Rattle.yaml_tokens.specs.declared.problem.Fault.{Fault}
 use Rattle.yaml_tokens.specs.declared.problem.Fault.TheVariants.{At}
@@ -13,7 +13,7 @@ use Rattle.defs_token.specs.Token.{Token}
 use Rattle.defs_text.specs.Classes.{is_nul, is_at_gap, are_marks, is_document_marker}
 use Rattle.defs_token.specs.Account.{innermost_column}
 use Rattle.defs_token.specs.Cut.{Written, IsCut}
-use Rattle.model_scanner.specs.State.{Key, Held, State, peek, after, in_flow, on_held, try_held}
+use Rattle.model_scanner.specs.State.{Key, Held, ScannerState, peek, after, in_flow, on_held, try_held}
 use Rattle.model_scanner.specs.Keys.{is_far, is_overdue, still, drop_stale, with_keys, stale}
 use Rattle.model_scanner.specs.Indents.{unroll_indent}
 use Rattle.model_scanner.specs.Document.{fetch_stream_start}
@@ -23,10 +23,10 @@ use Rattle.model_scanner.proofs.Holds.{Holds, went, refused, held_of, chained, t
 use Rattle.model_scanner.proofs.Walk as walk
 use Rattle.proof_lexers.proofs.Bridges.{same_gap}
 use Rattle.proof_lexers.specs.PlainEnds.{has_no_nul}
-use Rattle.proof_lexers.specs.Fillers.{begins_filler}
+use Rattle.proof_lexers.specs.Separations.{begins_separation}
 use Rattle.proof_cut.specs.Here.{AreOpen}
 use Rattle.proof_cut.specs.Places.{IsAtEnd}
-use Rattle.proof_cut.specs.Stands.{columns, Stood, Stands}
+use Rattle.proof_cut.specs.Stands.{columns, Stood, FaresAt}
 use Rattle.proof_cut.proofs.Opens.{open_given_up}
 use Rattle.proof_cut.proofs.Passes.{to_token}
 use Rattle.proof_cut.proofs.Nodes.{AreNear}
@@ -39,10 +39,10 @@ use Rattle.proof_cut.proofs.Going.{started, started_is_kept}
 -- ---- keys that are too far back
 
 -- the keys that stay are on the line
-pub record Fresh (text : List ℕ) (u : State) (h : Held) : Type 0 where
-  pub stands : Stands text (record u { held = h })
+pub record Fresh (text : List ℕ) (u : ScannerState) (h : Held) : Type 0 where
+  pub stands : FaresAt text (record u { held = h })
   pub same : h ≡ record u.held { keys = h.keys }
-  pub near : is_nil u.held.flow ≡ true → AreNear u.held.place h.keys
+  pub near : is_empty u.held.flow ≡ true → AreNear u.held.place h.keys
 
 length_still : (p : Position) (ks : List (Option Key)) → length (map (still p) ks) ≡ length ks
 length_still p [] = refl
@@ -75,15 +75,15 @@ are_near p (Some k ∷ ks) = by (is_far k.place p) refl (are_near p ks)
     by true e n = n
     by false e n = (is_near k.place p e, n)
 
-pub stale_stands : (text : List ℕ) (u : State) → Stands text u → Holds (Fresh text u) (stale u.held)
+pub stale_stands : (text : List ℕ) (u : ScannerState) → FaresAt text u → Holds (Fresh text u) (stale u.held)
 unfolding stale drop_stale
-stale_stands text u s = either (in_flow u.held) (λ e. went (record { stands = s; same = refl; near = λ o. absurd (cc (e, ap not o)) })) (λ e. by (list_any (is_overdue u.held.place) u.held.keys) (not_in (is_nil u.held.flow) e))
+stale_stands text u s = either (in_flow u.held) (λ e. went (record { stands = s; same = refl; near = λ o. absurd (cc (e, ap not o)) })) (λ e. by (list_any (is_overdue u.held.place) u.held.keys) (not_in (is_empty u.held.flow) e))
   where
     not_in : (b : Bool) → not b ≡ false → b ≡ true
     not_in true h = refl
     not_in false h = absurd (cc h)
 
-    fresh : is_nil u.held.flow ≡ true → Fresh text u (record u.held { keys = map (still u.held.place) u.held.keys })
+    fresh : is_empty u.held.flow ≡ true → Fresh text u (record u.held { keys = map (still u.held.place) u.held.keys })
     fresh out =
         let x : Stood text u.rest u.held.place u.held.tokens u.held.keys u.held.indents u.held.indent u.held.flow s.before = s.stood in
         record {
@@ -106,24 +106,24 @@ stale_stands text u s = either (in_flow u.held) (λ e. went (record { stands = s
           near = λ _. are_near u.held.place u.held.keys;
         }
 
-    by : (b : Bool) → is_nil u.held.flow ≡ true → Holds (Fresh text u) (with_keys u.held (if b then Err (At problem.KeyWithoutColon u.held.place) else Ok (map (still u.held.place) u.held.keys)))
+    by : (b : Bool) → is_empty u.held.flow ≡ true → Holds (Fresh text u) (with_keys u.held (if b then Err (At problem.KeyWithoutColon u.held.place) else Ok (map (still u.held.place) u.held.keys)))
     by true out = refused
     by false out = went (fresh out)
 
 -- ---- what a fetch leaves
 
 -- The tokens so far are a cut, and the stream goes on; or it has ended, and the tokens are a cut of the whole text.
-pub data Fared (text : List ℕ) (u : State) : Type 0 where
-  goes : Stands text u → walk.Stands started u.held → Fared text u
+pub data Fared (text : List ℕ) (u : ScannerState) : Type 0 where
+  goes : FaresAt text u → walk.Stands started u.held → Fared text u
   over : IsCut u.held.tokens text → u.held.ended ≡ true → IsAtEnd text u.held → Fared text u
 
 -- ---- markers
 
-first_is : (r : List ℕ) → is_nil r ≡ false → r ≡ peek r ∷ after r
+first_is : (r : List ℕ) → is_empty r ≡ false → r ≡ peek r ∷ after r
 first_is [] h = absurd (cc h)
 first_is (c ∷ r) h = refl
 
-pub begins_with_this : (r : List ℕ) (c : ℕ) → is_nil r ≡ false → (peek r == c) ≡ true → r ≡ c ∷ after r
+pub begins_with_this : (r : List ℕ) (c : ℕ) → is_empty r ≡ false → (peek r == c) ≡ true → r ≡ c ∷ after r
 begins_with_this r c some h = first_is r some ∙ ap (λ d. d ∷ after r) (eqb-true (peek r) c h)
 
 is_gap_after : (more : List ℕ) → is_at_gap more ≡ is_blank_or_breakz (slice_index more 0)
@@ -182,22 +182,22 @@ no_marker (x ∷ y ∷ z ∷ more) h k = ap (λ g. (((x == 45) && (y == 45) && (
 -- ---- the next token
 
 -- what holds where a token begins, or the text ends
-pub record Here (text : List ℕ) (t : State) : Type 0 where
-  pub stands : Stands text t
+pub record Here (text : List ℕ) (t : ScannerState) : Type 0 where
+  pub stands : FaresAt text t
   pub under_way : walk.Stands started t.held
-  pub solid : begins_filler t.rest ≡ false
-  pub near : is_nil t.held.flow ≡ true → AreNear t.held.place t.held.keys
+  pub solid : begins_separation t.rest ≡ false
+  pub near : is_empty t.held.flow ≡ true → AreNear t.held.place t.held.keys
 
 pub is_deep : (col indent : ℕ) → nat_lt (col + 1) indent ≡ false → indent ≤ col + 1
 is_deep col indent h = grind (arith, nat_tests)
 
-indented_fetched : (text : List ℕ) (t : State) → is_nil t.rest ≡ false → Here text t → ((t.held.place.col == 0) && is_document_marker t.rest) ≡ false → Holds (Stands text) (fetch_indented t)
+indented_fetched : (text : List ℕ) (t : ScannerState) → is_empty t.rest ≡ false → Here text t → ((t.held.place.col == 0) && is_document_marker t.rest) ≡ false → Holds (FaresAt text) (fetch_indented t)
 unfolding fetch_indented
 indented_fetched text t some h none =
     checked (nat_lt (t.held.place.col + 1) t.held.indent) (At problem.InvalidIndentation t.held.place) (λ e.
     token_fetched text t (record { stands = h.stands; some = some; solid = h.solid; near = h.near }) (is_deep t.held.place.col t.held.indent e) none)
 
-first_fetched : (text : List ℕ) (t : State) → is_nil t.rest ≡ false → Here text t → t.held.place.col ≡ 0 → Holds (Stands text) (fetch_first_column t)
+first_fetched : (text : List ℕ) (t : ScannerState) → is_empty t.rest ≡ false → Here text t → t.held.place.col ≡ 0 → Holds (FaresAt text) (fetch_first_column t)
 unfolding fetch_first_column
 first_fetched text t some h col =
     either (peek t.rest == 37) (λ e. directive_fetched text (after t.rest) t (begins_with_this t.rest 37 some e) col h.stands) (λ _.
@@ -209,11 +209,11 @@ first_fetched text t some h col =
     by true e = e
     by false e = refl
 
-content_fetched : (text : List ℕ) (t : State) → is_nil t.rest ≡ false → Here text t → Holds (Stands text) (fetch_content t)
+content_fetched : (text : List ℕ) (t : ScannerState) → is_empty t.rest ≡ false → Here text t → Holds (FaresAt text) (fetch_content t)
 unfolding fetch_content
 content_fetched text t some h = either (t.held.place.col == 0) (λ e. first_fetched text t some h (eqb-true t.held.place.col 0 e)) (λ e. indented_fetched text t some h (rw e refl))
 
-fared : (text : List ℕ) (r : Result State Fault) → Holds (Stands text) r → Holds (walk.StandsAt started) r → Holds (Fared text) r
+fared : (text : List ℕ) (r : Result ScannerState Fault) → Holds (FaresAt text) r → Holds (walk.StandsAt started) r → Holds (Fared text) r
 fared text r a b = weakened (λ u s. goes s.0 s.1) (both_hold a b)
 
 no_end : (r : List ℕ) → has_no_nul r ≡ true → (peek r == 0) ≡ true → r ≡ []
@@ -221,11 +221,11 @@ unfolding is_nul
 no_end [] n h = refl
 no_end (c ∷ r) n h = absurd (cc (h, (and_parts (not (c == 0)) (has_no_nul r) n).0))
 
-pub goes_on_here : (r : List ℕ) → (peek r == 0) ≡ false → is_nil r ≡ false
+pub goes_on_here : (r : List ℕ) → (peek r == 0) ≡ false → is_empty r ≡ false
 goes_on_here [] h = absurd (cc h)
 goes_on_here (c ∷ r) h = refl
 
-here_fetched : (text : List ℕ) → has_no_nul text ≡ true → (t : State) → Here text t → Holds (Fared text) (fetch_here t)
+here_fetched : (text : List ℕ) → has_no_nul text ≡ true → (t : ScannerState) → Here text t → Holds (Fared text) (fetch_here t)
 unfolding fetch_here
 here_fetched text nul t h =
     either (peek t.rest == 0) (λ e. weakened (λ u s. over s.0 s.1 s.2) (stream_ended text t nul (no_end t.rest h.stands.stood.here.is_clean e) h.stands h.under_way.stood.tokens)) (λ e.
@@ -240,25 +240,25 @@ keys_only s = either (in_flow s) (λ _. went refl) (λ _. by (drop_stale s.place
     by (Err f) = refused
 
 -- the keys that are dropped after a token change nothing of the rest
-fared_stale : (text : List ℕ) (t : State) → Fared text t → Holds (Fared text) (try_held stale t)
+fared_stale : (text : List ℕ) (t : ScannerState) → Fared text t → Holds (Fared text) (try_held stale t)
 fared_stale text t (goes s g) = tried t (stale t.held) (both_hold (stale_stands text t s) (walk.stale_dropped started started_is_kept t.held g)) (λ h d. goes d.0.stands d.1)
 fared_stale text t (over c e n) = tried t (stale t.held) (keys_only t.held) (λ h d. over (subst (λ y. IsCut y.tokens text) (sym d) c) (ap (λ y. y.ended) d ∙ e) (record { began = ap (λ y. y.started) d ∙ n.began; place = ap (λ y. y.place) d ∙ n.place }))
 
 -- a state whose keys are near, after the ends of block collections
-pub here_now : (text : List ℕ) (u v : State) → begins_filler u.rest ≡ false → v ≡ record u { held = v.held } → Fresh text u v.held → walk.Stands started v.held → Here text (on_held (λ s. unroll_indent (s.place.col + 1) s) v)
+pub here_now : (text : List ℕ) (u v : ScannerState) → begins_separation u.rest ≡ false → v ≡ record u { held = v.held } → Fresh text u v.held → walk.Stands started v.held → Here text (on_held (λ s. unroll_indent (s.place.col + 1) s) v)
 here_now text u v solid e f g =
-    let stands : Stands text v = subst (λ y. Stands text y) (sym e) f.stands in
+    let stands : FaresAt text v = subst (λ y. FaresAt text y) (sym e) f.stands in
     let now : UnrolledTo text v (v.held.place.col + 1) = unrolled_here text v stands in
-    let near : is_nil v.held.flow ≡ true → AreNear v.held.place v.held.keys = λ o.
-    subst (λ q. AreNear q v.held.keys) (sym (ap (λ h. h.place) f.same)) (f.near (sym (ap (λ h. is_nil h.flow) f.same) ∙ o)) in
+    let near : is_empty v.held.flow ≡ true → AreNear v.held.place v.held.keys = λ o.
+    subst (λ q. AreNear q v.held.keys) (sym (ap (λ h. h.place) f.same)) (f.near (sym (ap (λ h. is_empty h.flow) f.same) ∙ o)) in
     record {
       stands = now.stands;
       under_way = walk.unrolled_all started started_is_kept (v.held.place.col + 1) v.held g;
-      solid = ap (λ y. begins_filler y.rest) e ∙ solid;
-      near = subst (λ h. is_nil h.flow ≡ true → AreNear h.place h.keys) (sym now.is_held) near;
+      solid = ap (λ y. begins_separation y.rest) e ∙ solid;
+      near = subst (λ h. is_empty h.flow ≡ true → AreNear h.place h.keys) (sym now.is_held) near;
     }
 
-next_fetched : (text : List ℕ) → has_no_nul text ≡ true → (t : State) → Stands text t → walk.Stands started t.held → Holds (Fared text) (fetch_next t)
+next_fetched : (text : List ℕ) → has_no_nul text ≡ true → (t : ScannerState) → FaresAt text t → walk.Stands started t.held → Holds (Fared text) (fetch_next t)
 unfolding fetch_next
 next_fetched text nul t s g =
     chained (both_hold (to_token t) (walk.to_token started started_is_kept t g)) (λ u a.
@@ -268,30 +268,30 @@ next_fetched text nul t s g =
     fared_stale text w f)))
 
 -- A fetch of a state that goes on.
-pub fetched : (text : List ℕ) → has_no_nul text ≡ true → (t : State) → Stands text t → walk.Stands started t.held → Holds (Fared text) (fetch t)
+pub fetched : (text : List ℕ) → has_no_nul text ≡ true → (t : ScannerState) → FaresAt text t → walk.Stands started t.held → Holds (Fared text) (fetch t)
 unfolding fetch
 fetched text nul t s g = either t.held.started (λ _. next_fetched text nul t s g) (λ e. absurd (cc (e, g.stood.tokens)))
 
 -- ---- runs
 
 -- where a run has come to: before the stream's start, within the stream, or after its end
-pub data Came (text : List ℕ) (u : State) : Type 0 where
+pub data Came (text : List ℕ) (u : ScannerState) : Type 0 where
   starts : u ≡ start text → Came text u
   fares : Fared text u → Came text u
 
-ok_same : {x y : State} → ◌≡◌ {A = Result State Fault} (Ok x) (Ok y) → x ≡ y
+ok_same : {x y : ScannerState} → ◌≡◌ {A = Result ScannerState Fault} (Ok x) (Ok y) → x ≡ y
 ok_same k = cc
 
-came_on : (text : List ℕ) → has_no_nul text ≡ true → (t u : State) → Came text t → t.held.ended ≡ false → fetch t ≡ Ok u → Came text u
+came_on : (text : List ℕ) → has_no_nul text ≡ true → (t u : ScannerState) → Came text t → t.held.ended ≡ false → fetch t ≡ Ok u → Came text u
 unfolding fetch fetch_stream_start
-came_on text nul t u (starts e) going_on f = fares (goes (subst (λ y. Stands text y) same (stream_begun text nul)) (subst (λ y. walk.Stands started y.held) same (record { stood = record { tokens = refl; keys = (tt, tt); going = refl } })))
+came_on text nul t u (starts e) going_on f = fares (goes (subst (λ y. FaresAt text y) same (stream_begun text nul)) (subst (λ y. walk.Stands started y.held) same (record { stood = record { tokens = refl; keys = (tt, tt); going = refl } })))
   where
     same : fetch_stream_start (start text) ≡ u
     same = ok_same (subst (λ y. fetch y ≡ Ok u) e f)
 came_on text nul t u (fares (goes s g)) going_on f = fares (held_of u (fetched text nul t s g) f)
 came_on text nul t u (fares (over c e n)) going_on f = absurd (cc (e, going_on))
 
-pub came : (text : List ℕ) → has_no_nul text ≡ true → (t u : State) → Reaches t u → Came text t → Came text u
+pub came : (text : List ℕ) → has_no_nul text ≡ true → (t u : ScannerState) → Reaches t u → Came text t → Came text u
 came text nul t u here c = c
 came text nul t u (there {u = v} e f run) c = came text nul v u run (came_on text nul t v c e f)
 

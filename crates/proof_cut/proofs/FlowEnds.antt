@@ -2,17 +2,16 @@
 use Rattle.std.proofs.Common.{◌≡◌, ℕ, suc, drop, ◌+◌, ◌≤◌, ◌<◌, List, [], ◌∷◌, ◌++◌, Bool, true, false, not, ◌==◌, ◌&&◌, ◌||◌, length, if◌then◌else◌, Option, Some, None, Ok, Err, refl, ap, sym, ◌∙◌, subst, arith, inl, inr, ◌⊎◌}
 use Rattle.std.proofs.lemmas.Bool.{and_parts}
 use Rattle.defs_text.specs.Position.{Position}
-use Rattle.defs_text.specs.Text.{is_nil}
+use Rattle.defs_text.specs.Text.{is_empty}
 use Rattle.yaml_tokens.specs.declared.problem.Fault.{Fault}
 use Rattle.defs_token.specs.Token.{Tok, Token}
-use Rattle.defs_text.specs.Classes.{is_break}
-use Rattle.defs_text.specs.Classes.{is_blank, is_nul}
+use Rattle.defs_text.specs.Classes.{is_break, is_blank, is_nul}
 use Rattle.defs_text.specs.Breaks.{is_at_line_end}
-use Rattle.defs_token.specs.Filler.{is_filler, is_blanks}
+use Rattle.defs_token.specs.Separation.{is_separation, is_blanks}
 use Rattle.proof_lexers.proofs.Bridges.{same_blank}
 use Rattle.proof_lexers.specs.PlainEnds.{has_break, has_no_nul}
-use Rattle.proof_lexers.specs.Fillers.{ends_spaces, begins_token}
-use Rattle.proof_lexers.proofs.Separation.Fillers.{no_hash}
+use Rattle.proof_lexers.specs.Separations.{ends_spaces, begins_token}
+use Rattle.proof_lexers.proofs.Separation.Separations.{no_hash}
 use Rattle.defs_token.specs.Account.{Level, Account, Before, collection, other, before_past, before_by, is_adjacent, blocks_past, levels_past, is_pair_at, innermost_column}
 use Rattle.defs_token.specs.Piece.{IsPiece, ends_entry}
 use Rattle.defs_token.specs.Cut.{Written, spelled}
@@ -20,15 +19,15 @@ use Rattle.model_lexers.specs.declared.context.SkipTabs.TheVariants.{Yes}
 use Rattle.model_scanner.specs.declared.level.Indent.{Indent}
 use Rattle.model_scanner.specs.declared.level.FlowLevel.{FlowLevel}
 use Rattle.model_scanner.specs.declared.level.FlowLevel.TheVariants.{Mapping, Entry, Keyed, Pair}
-use Rattle.model_scanner.specs.State.{Key, Held, State, push, pop, with_top, token, after, on_held, skip_indicator}
-use Rattle.model_scanner.specs.Keys.{remove_simple_key}
+use Rattle.model_scanner.specs.State.{Key, Held, ScannerState, push, pop, with_top, token, after, on_held, skip_indicator}
+use Rattle.model_scanner.specs.Keys.{remove_implicit_key}
 use Rattle.model_scanner.specs.Flow.{allow_key, pass_indicator, end_flow_pair, decrease_flow_level, adjacent_in_flow, ended_flow, end_flow, next_entry, end_entry, fetch_flow_collection_end, fetch_flow_entry}
 use Rattle.model_scanner.proofs.Holds.{Holds, went, refused, chained, tried}
 use Rattle.proof_cut.specs.PiecesRead.{ReadAs}
 use Rattle.proof_cut.specs.Order.{NotBefore}
 use Rattle.proof_cut.specs.Inside.{step_inside, levels_then}
 use Rattle.proof_cut.specs.Here.{AreOpen}
-use Rattle.proof_cut.specs.Stands.{columns, levels_of, account_of, IsAdjacent, Stood, Fares, Stands}
+use Rattle.proof_cut.specs.Stands.{columns, levels_of, account_of, IsAdjacent, Stood, Fares, FaresAt}
 use Rattle.proof_cut.proofs.Heres.{led, spelled_led}
 use Rattle.proof_cut.proofs.Pushed.{with_piece, columns_settled}
 use Rattle.proof_cut.proofs.Places.{weaker}
@@ -41,7 +40,7 @@ use Rattle.proof_cut.proofs.Indicators.{indicated}
 
 -- ---- what the model leaves
 
--- the tokens with the end of a pair without braces, where one is open
+-- the tokens with the end of a single-pair mapping, where one is open
 abbrev pub closed_tokens : List FlowLevel → Position → List Token → List Token
 closed_tokens (Pair ∷ fs) p ts = ts ++ token p Tok.flow_mapping_end ∷ []
 closed_tokens _ p ts = ts
@@ -79,7 +78,7 @@ entry_is s (Mapping ∷ fs) = refl
 entry_is s (Entry ∷ fs) = refl
 
 flow_over : (s : Held) → Holds (λ u. u ≡ ended_now s.flow s) (end_flow s)
-unfolding end_flow remove_simple_key
+unfolding end_flow remove_implicit_key
 flow_over s = by _ _
   where
     by : (b : Bool) (f : Fault) → Holds (λ u. u ≡ ended_now s.flow s) (ended_flow (if b then Err f else Ok (record s { keys = with_top None s.keys })))
@@ -87,7 +86,7 @@ flow_over s = by _ _
     by false f = went (ended_is s s.flow)
 
 entry_over : (s : Held) → Holds (λ u. u ≡ entry_now s.flow s) (end_entry s)
-unfolding end_entry remove_simple_key
+unfolding end_entry remove_implicit_key
 entry_over s = by _ _
   where
     by : (b : Bool) (f : Fault) → Holds (λ u. u ≡ entry_now s.flow s) (next_entry (if b then Err f else Ok (record s { keys = with_top None s.keys })))
@@ -184,38 +183,38 @@ Closes many keys_of = (row vs : List Written) (after after2 : List ℕ) (p q : P
     LeadsOut many vs → AreOpen 0 row after p rest column keys → AreOpen 0 (row ++ vs) after2 q rest2 column (keys_of fs keys)
 
 end_alone : (text : List ℕ) (p : Position) (tokens : List Token) (keys : List (Option Key)) (indents : List Indent) (indent : ℕ) (flow : List FlowLevel) (before : Before) (tok : Tok) (c : ℕ) (more : List ℕ) (many : ℕ) (new : List FlowLevel → List FlowLevel) (by : Before) →
-    Ends tok c many new by → (keys_of : List FlowLevel → List (Option Key) → List (Option Key)) → Closes many keys_of → length (keys_of flow keys) ≡ suc (length (new flow)) → (t v : State) → t.rest ≡ c ∷ more → t.held.place ≡ p → (g : Passed (skip_indicator t) v) →
-    is_pair_at (levels_of flow) ≡ false → Stood text (c ∷ more) p tokens keys indents indent flow before → Stood text v.rest v.held.place (tokens ++ token p tok ∷ []) (keys_of flow keys) indents indent (new flow) (before_past by g.filler)
+    Ends tok c many new by → (keys_of : List FlowLevel → List (Option Key) → List (Option Key)) → Closes many keys_of → length (keys_of flow keys) ≡ suc (length (new flow)) → (t v : ScannerState) → t.rest ≡ c ∷ more → t.held.place ≡ p → (g : Passed (skip_indicator t) v) →
+    is_pair_at (levels_of flow) ≡ false → Stood text (c ∷ more) p tokens keys indents indent flow before → Stood text v.rest v.held.place (tokens ++ token p tok ∷ []) (keys_of flow keys) indents indent (new flow) (before_past by g.separation)
 end_alone text p tokens keys indents indent flow before tok c more many new by d keys_of closes each t v e place g none s =
     let a : Account = account_of p indent indents flow before in
     let r : ReadAs a (c ∷ more) tok p v.rest v.held.place = indicated a c more tok p t v e place d.is_end.in_line g (λ next last _. d.is_end.piece a next last none) in
-    let w : Written = led s.here.filler (with_piece (c ∷ []) p tok) in
-    subst (λ b. Stood text v.rest v.held.place (tokens ++ token p tok ∷ []) (keys_of flow keys) indents indent (new flow) (before_past b g.filler)) d.before
+    let w : Written = led s.here.separation (with_piece (c ∷ []) p tok) in
+    subst (λ b. Stood text v.rest v.held.place (tokens ++ token p tok ∷ []) (keys_of flow keys) indents indent (new flow) (before_past b g.separation)) d.before
     (piece_stood text (c ∷ more) p tokens keys indents indent flow before s tok p v.rest v.held.place r (d.is_end.blocks (columns indent indents)) (new flow) (d.levels flow none) (keys_of flow keys) each
-    (closes s.row (w ∷ []) s.after (g.filler ++ v.rest) p v.held.place (c ∷ more) v.rest (innermost_column (columns indent indents)) flow keys s.one_each
-    (spelled_led s.after s.here.filler (c ∷ more) (with_piece (c ∷ []) p tok) [] (g.filler ++ v.rest) s.here.is_after r.is_text) (weaker p v.held.place (read_later a (c ∷ more) tok p v.rest v.held.place r)) (λ _. refl)
-    (leads_one tok c many new by d s.here.filler p) s.are_open))
+    (closes s.row (w ∷ []) s.after (g.separation ++ v.rest) p v.held.place (c ∷ more) v.rest (innermost_column (columns indent indents)) flow keys s.one_each
+    (spelled_led s.after s.here.separation (c ∷ more) (with_piece (c ∷ []) p tok) [] (g.separation ++ v.rest) s.here.is_after r.is_text) (weaker p v.held.place (read_later a (c ∷ more) tok p v.rest v.held.place r)) (λ _. refl)
+    (leads_one tok c many new by d s.here.separation p) s.are_open))
 
 end_pair_too : (text : List ℕ) (p : Position) (tokens : List Token) (keys : List (Option Key)) (indents : List Indent) (indent : ℕ) (fs : List FlowLevel) (before : Before) (tok : Tok) (c : ℕ) (more : List ℕ) (many : ℕ) (new : List FlowLevel → List FlowLevel) (by : Before) →
-    Ends tok c many new by → (keys_of : List FlowLevel → List (Option Key) → List (Option Key)) → Closes many keys_of → length (keys_of (Pair ∷ fs) keys) ≡ suc (length (new (Pair ∷ fs))) → (t v : State) → t.rest ≡ c ∷ more → t.held.place ≡ p → (g : Passed (skip_indicator t) v) →
+    Ends tok c many new by → (keys_of : List FlowLevel → List (Option Key) → List (Option Key)) → Closes many keys_of → length (keys_of (Pair ∷ fs) keys) ≡ suc (length (new (Pair ∷ fs))) → (t v : ScannerState) → t.rest ≡ c ∷ more → t.held.place ≡ p → (g : Passed (skip_indicator t) v) →
     Stood text (c ∷ more) p tokens keys indents indent (Pair ∷ fs) before →
-    Stood text v.rest v.held.place ((tokens ++ token p Tok.flow_mapping_end ∷ []) ++ token p tok ∷ []) (keys_of (Pair ∷ fs) keys) indents indent (new (Pair ∷ fs)) (before_past by g.filler)
+    Stood text v.rest v.held.place ((tokens ++ token p Tok.flow_mapping_end ∷ []) ++ token p tok ∷ []) (keys_of (Pair ∷ fs) keys) indents indent (new (Pair ∷ fs)) (before_past by g.separation)
 end_pair_too text p tokens keys indents indent fs before tok c more many new by d keys_of closes each t v e place g s =
     let b : Account = account_of p indent indents (Entry ∷ fs) before in
     let bs : List (Option ℕ) = columns indent indents in
     let r : ReadAs b (c ∷ more) tok p v.rest v.held.place = indicated b c more tok p t v e place d.is_end.in_line g (λ next last _. d.is_end.piece b next last refl) in
-    let vs : List Written = led s.here.filler (with_piece [] p Tok.flow_mapping_end) ∷ with_piece (c ∷ []) p tok ∷ [] in
-    let cut : more ≡ g.filler ++ v.rest = ap after r.is_text in
-    subst (λ y. Stood text v.rest v.held.place ((tokens ++ token p Tok.flow_mapping_end ∷ []) ++ token p tok ∷ []) (keys_of (Pair ∷ fs) keys) indents indent (new (Pair ∷ fs)) (before_past y g.filler)) d.before
-    (two_stood text c more p tokens keys indents indent (Pair ∷ fs) before s Tok.flow_mapping_end tok p p g.filler v.rest v.held.place cut r.is_filled r.is_end indents indent s.are_levels (columns_settled p.col indent indents)
+    let vs : List Written = led s.here.separation (with_piece [] p Tok.flow_mapping_end) ∷ with_piece (c ∷ []) p tok ∷ [] in
+    let cut : more ≡ g.separation ++ v.rest = ap after r.is_text in
+    subst (λ y. Stood text v.rest v.held.place ((tokens ++ token p Tok.flow_mapping_end ∷ []) ++ token p tok ∷ []) (keys_of (Pair ∷ fs) keys) indents indent (new (Pair ∷ fs)) (before_past y g.separation)) d.before
+    (two_stood text c more p tokens keys indents indent (Pair ∷ fs) before s Tok.flow_mapping_end tok p p g.separation v.rest v.held.place cut r.is_filled r.is_end indents indent s.are_levels (columns_settled p.col indent indents)
     (inr (refl, refl, d.is_end.ends)) r.is_piece (d.is_end.blocks bs) (new (Pair ∷ fs)) (d.paired fs) (keys_of (Pair ∷ fs) keys) each
-    (closes s.row vs s.after (g.filler ++ v.rest) p v.held.place (c ∷ more) v.rest (innermost_column bs) (Pair ∷ fs) keys s.one_each
-    (spelled_led s.after s.here.filler (c ∷ more) (with_piece [] p Tok.flow_mapping_end) (with_piece (c ∷ []) p tok ∷ []) (g.filler ++ v.rest) s.here.is_after r.is_text)
-    (weaker p v.held.place (read_later b (c ∷ more) tok p v.rest v.held.place r)) (λ _. refl) (leads_two tok c many new by d s.here.filler p p) s.are_open))
+    (closes s.row vs s.after (g.separation ++ v.rest) p v.held.place (c ∷ more) v.rest (innermost_column bs) (Pair ∷ fs) keys s.one_each
+    (spelled_led s.after s.here.separation (c ∷ more) (with_piece [] p Tok.flow_mapping_end) (with_piece (c ∷ []) p tok ∷ []) (g.separation ++ v.rest) s.here.is_after r.is_text)
+    (weaker p v.held.place (read_later b (c ∷ more) tok p v.rest v.held.place r)) (λ _. refl) (leads_two tok c many new by d s.here.separation p p) s.are_open))
 
 end_stood : (text : List ℕ) (p : Position) (tokens : List Token) (keys : List (Option Key)) (indents : List Indent) (indent : ℕ) (flow : List FlowLevel) (before : Before) (tok : Tok) (c : ℕ) (more : List ℕ) (many : ℕ) (new : List FlowLevel → List FlowLevel) (by : Before) →
-    Ends tok c many new by → (keys_of : List FlowLevel → List (Option Key) → List (Option Key)) → Closes many keys_of → length (keys_of flow keys) ≡ suc (length (new flow)) → (t v : State) → t.rest ≡ c ∷ more → t.held.place ≡ p → (g : Passed (skip_indicator t) v) →
-    Stood text (c ∷ more) p tokens keys indents indent flow before → Stood text v.rest v.held.place (closed_tokens flow p tokens ++ token p tok ∷ []) (keys_of flow keys) indents indent (new flow) (before_past by g.filler)
+    Ends tok c many new by → (keys_of : List FlowLevel → List (Option Key) → List (Option Key)) → Closes many keys_of → length (keys_of flow keys) ≡ suc (length (new flow)) → (t v : ScannerState) → t.rest ≡ c ∷ more → t.held.place ≡ p → (g : Passed (skip_indicator t) v) →
+    Stood text (c ∷ more) p tokens keys indents indent flow before → Stood text v.rest v.held.place (closed_tokens flow p tokens ++ token p tok ∷ []) (keys_of flow keys) indents indent (new flow) (before_past by g.separation)
 end_stood text p tokens keys indents indent [] before tok c more many new by d keys_of closes each t v e place g s = end_alone text p tokens keys indents indent [] before tok c more many new by d keys_of closes each t v e place g refl s
 end_stood text p tokens keys indents indent (Keyed ∷ fs) before tok c more many new by d keys_of closes each t v e place g s =
     end_alone text p tokens keys indents indent (Keyed ∷ fs) before tok c more many new by d keys_of closes each t v e place g refl s
@@ -244,10 +243,10 @@ comma_ends = record {
     same (Mapping ∷ fs) h = refl
     same (Entry ∷ fs) h = refl
 
-comma_fares : (text : List ℕ) (more : List ℕ) (t v : State) → t.rest ≡ 44 ∷ more → (s : Stands text t) → Spaced Yes (skip_indicator (record t { held = entry_now t.held.flow t.held })) v →
+comma_fares : (text : List ℕ) (more : List ℕ) (t v : ScannerState) → t.rest ≡ 44 ∷ more → (s : FaresAt text t) → Spaced Yes (skip_indicator (record t { held = entry_now t.held.flow t.held })) v →
     Fares text v.rest v.held.place (closed_tokens t.held.flow t.held.place t.held.tokens ++ token t.held.place Tok.flow_entry ∷ []) (with_top None t.held.keys) t.held.indents t.held.indent (entered t.held.flow) t.held.adjacent_value_at
 comma_fares text more t v e s sp =
-    let u : State = record t { held = entry_now t.held.flow t.held } in
+    let u : ScannerState = record t { held = entry_now t.held.flow t.held } in
     let g : Passed (skip_indicator u) v = passed_spaces Yes (skip_indicator u) v sp in
     let x : Stood text (44 ∷ more) t.held.place t.held.tokens t.held.keys t.held.indents t.held.indent t.held.flow s.before =
     subst (λ y. Stood text y t.held.place t.held.tokens t.held.keys t.held.indents t.held.indent t.held.flow s.before) e s.stood in
@@ -264,38 +263,38 @@ comma_fares text more t v e s sp =
       is_adjacent_here = λ _. adjacent_other v.held.place t.held.adjacent_value_at v.rest (omega (arith, s.was_adjacent, further));
     }
 
-pub entry_passed : (text more : List ℕ) (t : State) → t.rest ≡ 44 ∷ more → Stands text t → Holds (Stands text) (fetch_flow_entry t)
+pub entry_passed : (text more : List ℕ) (t : ScannerState) → t.rest ≡ 44 ∷ more → FaresAt text t → Holds (FaresAt text) (fetch_flow_entry t)
 unfolding fetch_flow_entry pass_indicator
 entry_passed text more t e s =
     chained {P = λ u. u ≡ record t { held = entry_now t.held.flow t.held }} (tried t (end_entry t.held) (entry_over t.held) (λ h d. ap (λ y. record t { held = y }) d)) (λ u d.
     chained (spaces_skipped Yes (skip_indicator u)) (λ v sp. went (fares u v d sp)))
   where
-    fares : (u v : State) → u ≡ record t { held = entry_now t.held.flow t.held } → Spaced Yes (skip_indicator u) v → Stands text (on_held (push t.held.place Tok.flow_entry) v)
+    fares : (u v : ScannerState) → u ≡ record t { held = entry_now t.held.flow t.held } → Spaced Yes (skip_indicator u) v → FaresAt text (on_held (push t.held.place Tok.flow_entry) v)
     fares u v d sp =
         let spaced : Spaced Yes (skip_indicator (record t { held = entry_now t.held.flow t.held })) v = subst (λ y. Spaced Yes (skip_indicator y) v) d sp in
         subst (λ y. Fares text v.rest v.held.place (y.tokens ++ token t.held.place Tok.flow_entry ∷ []) y.keys y.indents y.indent y.flow y.adjacent_value_at) (sym spaced.is_held) (comma_fares text more t v e s spaced)
 
 -- ---- closing brackets
 
--- a filler of one line is blanks, or ends with the line
-one_line : (f rest : List ℕ) → is_filler false f rest ≡ true → has_break f ≡ false → (is_blanks f ≡ true) ⊎ (is_at_line_end rest ≡ true)
+-- a separation of one line is blanks, or ends with the line
+one_line : (f rest : List ℕ) → is_separation false f rest ≡ true → has_break f ≡ false → (is_blanks f ≡ true) ⊎ (is_at_line_end rest ≡ true)
 one_line [] rest h n = inl refl
 one_line (c ∷ f) rest h n = by (is_blank c) (is_break c) refl h n (one_line f rest)
   where
-    after_comment : (f : List ℕ) → is_filler true f rest ≡ true → has_break f ≡ false → is_at_line_end rest ≡ true
+    after_comment : (f : List ℕ) → is_separation true f rest ≡ true → has_break f ≡ false → is_at_line_end rest ≡ true
     after_comment [] h n = h
     after_comment (d ∷ f) h n = of (is_break d) h n (after_comment f)
       where
-        of : (b : Bool) → is_filler (not b) f rest ≡ true → (b || has_break f) ≡ false → (is_filler true f rest ≡ true → has_break f ≡ false → is_at_line_end rest ≡ true) → is_at_line_end rest ≡ true
+        of : (b : Bool) → is_separation (not b) f rest ≡ true → (b || has_break f) ≡ false → (is_separation true f rest ≡ true → has_break f ≡ false → is_at_line_end rest ≡ true) → is_at_line_end rest ≡ true
         of true h n k = absurd (cc n)
         of false h n k = k h n
 
-    by : (x y : Bool) → is_blank c ≡ x → ((x || y || (c == 35)) && is_filler (c == 35) f rest) ≡ true → (y || has_break f) ≡ false →
-        (is_filler false f rest ≡ true → has_break f ≡ false → (is_blanks f ≡ true) ⊎ (is_at_line_end rest ≡ true)) → ((x && is_blanks f) ≡ true) ⊎ (is_at_line_end rest ≡ true)
+    by : (x y : Bool) → is_blank c ≡ x → ((x || y || (c == 35)) && is_separation (c == 35) f rest) ≡ true → (y || has_break f) ≡ false →
+        (is_separation false f rest ≡ true → has_break f ≡ false → (is_blanks f ≡ true) ⊎ (is_at_line_end rest ≡ true)) → ((x && is_blanks f) ≡ true) ⊎ (is_at_line_end rest ≡ true)
     by x true e h n k = absurd (cc n)
     by true false e h n k = k (rw (no_hash c (sym (same_blank c) ∙ e)) at h) n
     by false false e h n k =
-        let a : ((c == 35) ≡ true) × (is_filler (c == 35) f rest ≡ true) = and_parts (c == 35) (is_filler (c == 35) f rest) h in
+        let a : ((c == 35) ≡ true) × (is_separation (c == 35) f rest ≡ true) = and_parts (c == 35) (is_separation (c == 35) f rest) h in
         inr (after_comment f (rw (a.0) at (a.1)) n)
 
 no_token : (r : List ℕ) → has_no_nul r ≡ true → is_at_line_end r ≡ true → begins_token r ≡ true → ⊥
@@ -318,14 +317,14 @@ no_blank c h = by (c == 32) (c == 9) h
     by false false h = refl
 
 -- after a flow collection and blanks
-adjacent_collection : (p : Position) (f rest : List ℕ) → is_filler false f rest ≡ true → has_break f ≡ false → ends_spaces Yes rest ≡ true → has_no_nul rest ≡ true → IsAdjacent (before_past collection f) p p.index rest
-adjacent_collection p f rest fills line ends clean = λ filler r e k t. by filler r e k t
+adjacent_collection : (p : Position) (f rest : List ℕ) → is_separation false f rest ≡ true → has_break f ≡ false → ends_spaces Yes rest ≡ true → has_no_nul rest ≡ true → IsAdjacent (before_past collection f) p p.index rest
+adjacent_collection p f rest fills line ends clean = λ separation r e k t. by separation r e k t
   where
     blanks_first : (b : Bool) (c : ℕ) (g : List ℕ) → is_blank c ≡ false → is_adjacent (before_past (if b then collection else other) (c ∷ g)) ≡ false
     blanks_first true c g h = rw h refl
     blanks_first false c g h = refl
 
-    by : (filler r : List ℕ) → rest ≡ filler ++ r → is_filler false filler r ≡ true → begins_token r ≡ true → is_adjacent (before_past (before_past collection f) filler) ≡ ((p.index + length filler) == p.index)
+    by : (separation r : List ℕ) → rest ≡ separation ++ r → is_separation false separation r ≡ true → begins_token r ≡ true → is_adjacent (before_past (before_past collection f) separation) ≡ ((p.index + length separation) == p.index)
     by [] r e k t = elim (one_line f rest fills line) [
       | inl b ↦ rw b (sym (same_number p.index))
       | inr l ↦ absurd (no_token r (rw e at clean) (rw e at l) t)
@@ -372,40 +371,40 @@ unfolding adjacent_in_flow
 adjacent_is s [] = refl
 adjacent_is s (f ∷ fs) = refl
 
-close_fares : (text : List ℕ) (tok : Tok) (c : ℕ) (more : List ℕ) → IsClosing tok c → (t v : State) → t.rest ≡ c ∷ more → (s : Stands text t) → Spaced Yes (skip_indicator (record t { held = ended_now t.held.flow t.held })) v →
+close_fares : (text : List ℕ) (tok : Tok) (c : ℕ) (more : List ℕ) → IsClosing tok c → (t v : ScannerState) → t.rest ≡ c ∷ more → (s : FaresAt text t) → Spaced Yes (skip_indicator (record t { held = ended_now t.held.flow t.held })) v →
     Fares text v.rest v.held.place (closed_tokens t.held.flow t.held.place t.held.tokens ++ token t.held.place tok ∷ []) (higher_keys t.held.flow t.held.keys) t.held.indents t.held.indent (pop t.held.flow) (adjacent_at (pop t.held.flow) t.held.adjacent_value_at v.held.place.index)
 close_fares text tok c more o t v e s sp =
-    let u : State = record t { held = ended_now t.held.flow t.held } in
+    let u : ScannerState = record t { held = ended_now t.held.flow t.held } in
     let g : Passed (skip_indicator u) v = passed_spaces Yes (skip_indicator u) v sp in
     let x : Stood text (c ∷ more) t.held.place t.held.tokens t.held.keys t.held.indents t.held.indent t.held.flow s.before =
     subst (λ y. Stood text y t.held.place t.held.tokens t.held.keys t.held.indents t.held.indent t.held.flow s.before) e s.stood in
-    let z : Stood text v.rest v.held.place (closed_tokens t.held.flow t.held.place t.held.tokens ++ token t.held.place tok ∷ []) (higher_keys t.held.flow t.held.keys) t.held.indents t.held.indent (pop t.held.flow) (before_past collection g.filler) =
+    let z : Stood text v.rest v.held.place (closed_tokens t.held.flow t.held.place t.held.tokens ++ token t.held.place tok ∷ []) (higher_keys t.held.flow t.held.keys) t.held.indents t.held.indent (pop t.held.flow) (before_past collection g.separation) =
     end_stood text t.held.place t.held.tokens t.held.keys t.held.indents t.held.indent t.held.flow s.before tok c more 0 pop collection o.ends higher_keys close_open (higher_many t.held.flow t.held.keys s.stood.one_each) u v e refl g x in
     let a : Account = account_of t.held.place t.held.indent t.held.indents [] s.before in
     let further : t.held.place.index < v.held.place.index =
     further_read a (c ∷ more) tok t.held.place v.rest v.held.place (indicated a c more tok t.held.place u v e refl o.ends.is_end.in_line g (λ next last _. o.ends.is_end.piece a next last refl)) in
     record {
-      before = before_past collection g.filler;
+      before = before_past collection g.separation;
       stood = z;
       was_adjacent = before_index (pop t.held.flow) t.held.adjacent_value_at v.held.place.index (omega (arith, s.was_adjacent, further));
-      is_adjacent_here = here_adjacent (pop t.held.flow) t.held.adjacent_value_at v.held.place v.rest (before_past collection g.filler) (adjacent_collection v.held.place g.filler v.rest sp.is_filled sp.no_break sp.ends z.here.is_clean);
+      is_adjacent_here = here_adjacent (pop t.held.flow) t.held.adjacent_value_at v.held.place v.rest (before_past collection g.separation) (adjacent_collection v.held.place g.separation v.rest sp.is_filled sp.no_break sp.ends z.here.is_clean);
     }
   where
     before_index : (fs : List FlowLevel) (old new : ℕ) → old ≤ new → adjacent_at fs old new ≤ new
     before_index [] old new h = h
     before_index (f ∷ fs) old new h = omega arith
 
-    here_adjacent : (fs : List FlowLevel) (old : ℕ) (p : Position) (rest : List ℕ) (b : Before) → IsAdjacent b p p.index rest → is_nil fs ≡ false → IsAdjacent b p (adjacent_at fs old p.index) rest
+    here_adjacent : (fs : List FlowLevel) (old : ℕ) (p : Position) (rest : List ℕ) (b : Before) → IsAdjacent b p p.index rest → is_empty fs ≡ false → IsAdjacent b p (adjacent_at fs old p.index) rest
     here_adjacent [] old p rest b i h = absurd (cc h)
     here_adjacent (f ∷ fs) old p rest b i h = i
 
-pub flow_ended : (text : List ℕ) (tok : Tok) (c : ℕ) (more : List ℕ) → IsClosing tok c → (t : State) → t.rest ≡ c ∷ more → Stands text t → Holds (Stands text) (fetch_flow_collection_end tok t)
+pub flow_ended : (text : List ℕ) (tok : Tok) (c : ℕ) (more : List ℕ) → IsClosing tok c → (t : ScannerState) → t.rest ≡ c ∷ more → FaresAt text t → Holds (FaresAt text) (fetch_flow_collection_end tok t)
 unfolding fetch_flow_collection_end pass_indicator
 flow_ended text tok c more o t e s =
     chained {P = λ u. u ≡ record t { held = ended_now t.held.flow t.held }} (tried t (end_flow t.held) (flow_over t.held) (λ h d. ap (λ y. record t { held = y }) d)) (λ u d.
     chained (spaces_skipped Yes (skip_indicator u)) (λ v sp. went (fares u v d sp)))
   where
-    fares : (u v : State) → u ≡ record t { held = ended_now t.held.flow t.held } → Spaced Yes (skip_indicator u) v → Stands text (on_held (λ s. push t.held.place tok (adjacent_in_flow s)) v)
+    fares : (u v : ScannerState) → u ≡ record t { held = ended_now t.held.flow t.held } → Spaced Yes (skip_indicator u) v → FaresAt text (on_held (λ s. push t.held.place tok (adjacent_in_flow s)) v)
     fares u v d sp =
         let now : Held = ended_now t.held.flow t.held in
         let spaced : Spaced Yes (skip_indicator (record t { held = now })) v = subst (λ y. Spaced Yes (skip_indicator y) v) d sp in

@@ -12,15 +12,15 @@ use Rattle.model_lexers.specs.declared.context.SkipTabs.TheVariants.{Yes}
 use Rattle.model_scanner.specs.declared.level.Indent.{Indent}
 use Rattle.model_scanner.specs.declared.level.FlowLevel.{FlowLevel}
 use Rattle.model_scanner.specs.declared.level.FlowLevel.TheVariants.{Mapping, Entry}
-use Rattle.model_scanner.specs.State.{Held, State, push, token, on_held, skip_indicator}
-use Rattle.model_scanner.specs.Keys.{must_be_key, save_simple_key}
+use Rattle.model_scanner.specs.State.{Held, ScannerState, push, token, on_held, skip_indicator}
+use Rattle.model_scanner.specs.Keys.{must_be_key, save_implicit_key}
 use Rattle.model_scanner.specs.Indents.{roll_one_col_indent}
 use Rattle.model_scanner.specs.Flow.{increase_flow_level, deepened_flow, begin_flow, pass_indicator, fetch_flow_collection_start}
 use Rattle.model_scanner.proofs.Holds.{Holds, went, refused, chained, tried}
 use Rattle.proof_cut.specs.PiecesRead.{ReadAs}
 use Rattle.proof_cut.specs.Inside.{step_inside, levels_then}
 use Rattle.proof_cut.specs.Here.{IsNotRight}
-use Rattle.proof_cut.specs.Stands.{columns, level_of, levels_of, account_of, IsAdjacent, Stood, Fares, Stands}
+use Rattle.proof_cut.specs.Stands.{columns, level_of, levels_of, account_of, IsAdjacent, Stood, Fares, FaresAt}
 use Rattle.proof_cut.proofs.Heres.{led}
 use Rattle.proof_cut.proofs.Pushed.{with_piece, columns_settled}
 use Rattle.proof_cut.proofs.Saved.{Opens, open_saved, saved_keys, saved_is}
@@ -31,7 +31,7 @@ use Rattle.proof_cut.proofs.Nodes.{IsDeep, adjacent_other, further_read}
 use Rattle.proof_cut.proofs.Indicators.{indicated}
 
 -- after an indicator
-indicator_passed : (t : State) → Holds (Spaced Yes (skip_indicator t)) (pass_indicator t)
+indicator_passed : (t : ScannerState) → Holds (Spaced Yes (skip_indicator t)) (pass_indicator t)
 unfolding pass_indicator
 indicator_passed t = spaces_skipped Yes (skip_indicator t)
 
@@ -69,7 +69,7 @@ room fs h = rw (length_levels fs) (few (length fs) h)
 abbrev rolled_now : Held → Held
 rolled_now s = record s { keys = saved_keys s; indents = one_indents (record s { keys = saved_keys s }); indent = one_indent (record s { keys = saved_keys s }) }
 
-rolled_is : (s : Held) → roll_one_col_indent (save_simple_key s) ≡ rolled_now s
+rolled_is : (s : Held) → roll_one_col_indent (save_implicit_key s) ≡ rolled_now s
 rolled_is s = ap roll_one_col_indent (saved_is s) ∙ rolled_one_is (record s { keys = saved_keys s })
 
 abbrev deeper_now : FlowLevel → Held → Held
@@ -91,7 +91,7 @@ flow_begun kind s = subst (λ h. Holds (Deeper kind s) (deepened_flow (if nat_le
 opens_level : (p q : Position) (rest2 f : List ℕ) (c : ℕ) (at : Position) (tok : Tok) (l : Level) → ((ns : List Level) → step_inside ns (c ∷ []) tok ≡ Some (l ∷ ns)) → Opens 1 p q rest2 (led f (with_piece (c ∷ []) at tok) ∷ [])
 opens_level p q rest2 f c at tok l step = λ k n v ns. record { levels = l ∷ ns; is_inside = ap (λ o. levels_then o (λ ms. Some ms)) (step ns); are_many = omega arith }
 
-start_fares : (text : List ℕ) (kind : FlowLevel) (tok : Tok) (c : ℕ) (more : List ℕ) → IsOpeningOf kind tok c → (t v : State) → t.rest ≡ c ∷ more → (s : Stands text t) → IsDeep t.held →
+start_fares : (text : List ℕ) (kind : FlowLevel) (tok : Tok) (c : ℕ) (more : List ℕ) → IsOpeningOf kind tok c → (t v : ScannerState) → t.rest ≡ c ∷ more → (s : FaresAt text t) → IsDeep t.held →
     nat_le 255 (length t.held.flow) ≡ false → Spaced Yes (skip_indicator (record t { held = deeper_now kind t.held })) v →
     Fares text v.rest v.held.place (t.held.tokens ++ token t.held.place tok ∷ []) (None ∷ saved_keys t.held) (rolled_now t.held).indents (rolled_now t.held).indent (kind ∷ t.held.flow) t.held.adjacent_value_at
 start_fares text kind tok c more o t v e s deep few sp =
@@ -103,30 +103,30 @@ start_fares text kind tok c more o t v e s deep few sp =
     subst (λ y. Stood text y p t.held.tokens t.held.keys ds i t.held.flow s.before) e
     (stood_levels text t.rest p t.held.tokens t.held.keys t.held.indents t.held.indent t.held.flow s.before ds i (one_columns h) (one_levels h s.stood.are_levels) s.stood) in
     let a : Account = account_of p i ds t.held.flow s.before in
-    let w : State = record t { held = deeper_now kind t.held } in
+    let w : ScannerState = record t { held = deeper_now kind t.held } in
     let g : Passed (skip_indicator w) v = passed_spaces Yes (skip_indicator w) v sp in
     let r : ReadAs a (c ∷ more) tok p v.rest v.held.place = indicated a c more tok p w v e refl o.in_line g (λ next last _. o.piece a next last (room t.held.flow few)) in
     let further : p.index < v.held.place.index = further_read a (c ∷ more) tok p v.rest v.held.place r in
     let right : IsNotRight (innermost_column (columns i ds)) p.col =
     subst (λ bs. IsNotRight (innermost_column bs) p.col) (one_columns h) (not_right p.col t.held.indent t.held.indents s.stood.are_levels deep) in
     record {
-      before = before_past (before_by tok) g.filler;
+      before = before_past (before_by tok) g.separation;
       stood = piece_stood text (c ∷ more) p t.held.tokens t.held.keys ds i t.held.flow s.before x tok p v.rest v.held.place r (o.blocks (columns i ds)) (kind ∷ t.held.flow) (o.levels (levels_of t.held.flow))
           (None ∷ saved_keys t.held) (ap suc (length_saved t.held.key_allowed (must_be_key t.held) (length t.held.tokens) p t.held.keys ∙ s.stood.one_each))
-          (open_saved text x.row x.after (c ∷ more) a t.held.keys (innermost_column (columns i ds)) c [] (g.filler ++ v.rest) v.rest v.held.place p tok 1 t.held.key_allowed
+          (open_saved text x.row x.after (c ∷ more) a t.held.keys (innermost_column (columns i ds)) c [] (g.separation ++ v.rest) v.rest v.held.place p tok 1 t.held.key_allowed
           (record { required = must_be_key t.held; number = length t.held.tokens; place = p }) x.here (λ n. columns_settled n i ds) x.are_open r.is_text (read_later a (c ∷ more) tok p v.rest v.held.place r) o.node right
-          (number_of x.begin x.row t.held.tokens x.tokens_are) refl (opens_level p v.held.place v.rest x.here.filler c p tok (level_of kind) o.steps));
+          (number_of x.begin x.row t.held.tokens x.tokens_are) refl (opens_level p v.held.place v.rest x.here.separation c p tok (level_of kind) o.steps));
       was_adjacent = omega (arith, s.was_adjacent, further);
-      is_adjacent_here = λ _. subst (λ b. IsAdjacent (before_past b g.filler) v.held.place t.held.adjacent_value_at v.rest) (sym o.before) (adjacent_other v.held.place t.held.adjacent_value_at v.rest (omega (arith, s.was_adjacent, further)));
+      is_adjacent_here = λ _. subst (λ b. IsAdjacent (before_past b g.separation) v.held.place t.held.adjacent_value_at v.rest) (sym o.before) (adjacent_other v.held.place t.held.adjacent_value_at v.rest (omega (arith, s.was_adjacent, further)));
     }
 
-pub flow_started : (text : List ℕ) (kind : FlowLevel) (tok : Tok) (c : ℕ) (more : List ℕ) → IsOpeningOf kind tok c → (t : State) → t.rest ≡ c ∷ more → Stands text t → IsDeep t.held → Holds (Stands text) (fetch_flow_collection_start kind tok t)
+pub flow_started : (text : List ℕ) (kind : FlowLevel) (tok : Tok) (c : ℕ) (more : List ℕ) → IsOpeningOf kind tok c → (t : ScannerState) → t.rest ≡ c ∷ more → FaresAt text t → IsDeep t.held → Holds (FaresAt text) (fetch_flow_collection_start kind tok t)
 unfolding fetch_flow_collection_start
 flow_started text kind tok c more o t e s deep =
     chained {P = λ u. (u ≡ record t { held = deeper_now kind t.held }) × (nat_le 255 (length t.held.flow) ≡ false)} (tried t (begin_flow kind t.held) (flow_begun kind t.held) (λ h d. (ap (λ y. record t { held = y }) d.is_held, d.has))) (λ u d.
     chained (indicator_passed u) (λ v sp. went (fares u v d.0 d.1 sp)))
   where
-    fares : (u v : State) → u ≡ record t { held = deeper_now kind t.held } → nat_le 255 (length t.held.flow) ≡ false → Spaced Yes (skip_indicator u) v → Stands text (on_held (push t.held.place tok) v)
+    fares : (u v : ScannerState) → u ≡ record t { held = deeper_now kind t.held } → nat_le 255 (length t.held.flow) ≡ false → Spaced Yes (skip_indicator u) v → FaresAt text (on_held (push t.held.place tok) v)
     fares u v d few sp =
         let spaced : Spaced Yes (skip_indicator (record t { held = deeper_now kind t.held })) v = subst (λ y. Spaced Yes (skip_indicator y) v) d sp in
         subst (λ y. Fares text v.rest v.held.place (y.tokens ++ token t.held.place tok ∷ []) y.keys y.indents y.indent y.flow y.adjacent_value_at) (sym spaced.is_held)

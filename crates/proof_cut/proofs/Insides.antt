@@ -1,4 +1,4 @@
--- Steps inside a simple key.
+-- Steps inside a implicit key.
 use Rattle.std.proofs.Common.{◌≡◌, ℕ, List, [], ◌∷◌, ◌++◌, true, Option, Some, None, refl, ap, ◌∙◌, subst}
 use Rattle.defs_token.specs.Token.{Tok, stream_start, stream_end, version_directive, tag_directive, document_start, document_end, block_sequence_start, block_mapping_start, block_end, flow_sequence_start, flow_sequence_end, flow_mapping_start, flow_mapping_end, block_entry, flow_entry, key, value, alias, anchor, tag, scalar, plain, single_quoted, double_quoted, literal, folded}
 use Rattle.defs_token.specs.Account.{Level, levels_past}

@@ -1,10 +1,10 @@
--- The function of the model that reads a `:` after a simple key keeps what holds between fetches.
+-- The function of the model that reads a `:` after a implicit key keeps what holds between fetches.
 use Rattle.std.proofs.Common.{◌≡◌, ℕ, suc, ◌+◌, ◌≤◌, List, [], ◌∷◌, ◌++◌, true, false, not, length, Option, Some, None, refl, ap, sym, ◌∙◌, subst, arith}
 use Rattle.std.specs.List.{insert}
-use Rattle.defs_text.specs.Position.{Position}
+use Rattle.defs_text.specs.Position.{Position, position_after}
 use Rattle.defs_token.specs.Token.{Tok, Token}
-use Rattle.defs_text.specs.Position.{position_after}
-use Rattle.defs_token.specs.Account.{Level, Account, Before, sequence, is_empty, with_pair, innermost_column, first_account, account_past_filler}
+use Rattle.defs_token.specs.Account.{Level, Account, Before, sequence, with_pair, innermost_column, first_account, account_past_separation}
+use Rattle.defs_text.specs.Text.{is_empty}
 use Rattle.defs_token.specs.Cut.{Written, IsRow, spelled, tokens_of, first_token, start_token, account_at, account_past_row}
 use Rattle.defs_token.proofs.Append.{spelled_append, tokens_append, account_append, row_append}
 use Rattle.defs_token.proofs.Inserted.{bare, empty_token, key_at, key_inserted, mapping_at, mapping_inserted, AreOnLine}
@@ -32,7 +32,7 @@ Late text more p tokens k ks indents indent flow before = Stood text (58 ∷ mor
 pub inserted_stood : (text more : List ℕ) (p : Position) (tokens : List Token) (k : Key) (ks : List (Option Key)) (indents : List Indent) (indent : ℕ) (flow : List FlowLevel) (before : Before) (s : Stood text (58 ∷ more) p tokens (Some k ∷ ks) indents indent flow before) →
     (vs : List Written) → let o : IsOpen k 0 s.row s.after p (58 ∷ more) (innermost_column (columns indent indents)) = s.are_open.0 in let acc : Account = account_past_row first_account o.before (spelled (o.own ∷ o.later) s.after) in
     spelled vs s.after ≡ spelled (o.own ∷ o.later) s.after → ((last : Option Tok) → IsRow acc vs s.after last) → (indents2 : List Indent) (indent2 : ℕ) → AreLevels indent2 indents2 → (flow2 : List FlowLevel) → length flow2 ≡ length flow →
-    account_past_filler (account_past_row acc vs s.after) s.here.filler (58 ∷ more) ≡ account_of p indent2 indents2 flow2 before →
+    account_past_separation (account_past_row acc vs s.after) s.here.separation (58 ∷ more) ≡ account_of p indent2 indents2 flow2 before →
     AreOpen 0 (o.before ++ vs) s.after p (58 ∷ more) (innermost_column (columns indent2 indents2)) (None ∷ ks) →
     Stood text (58 ∷ more) p (start_token s.begin ∷ tokens_of (o.before ++ vs)) (None ∷ ks) indents2 indent2 flow2 before
 inserted_stood text more p tokens k ks indents indent flow before s vs same row indents2 indent2 are flow2 many here opened =
@@ -45,13 +45,13 @@ inserted_stood text more p tokens k ks indents indent flow before s vs same row 
       after = s.after;
       tokens_are = refl;
       here = record {
-        filler = s.here.filler;
+        separation = s.here.separation;
         is_after = s.here.is_after;
         is_text = spelled_append o.before vs s.after ∙ ap (λ t. spelled o.before t) same ∙ sym (spelled_append o.before old s.after) ∙ ap (λ r. spelled r s.after) (sym o.is_split) ∙ s.here.is_text;
         is_row = λ last. row_append first_account o.before vs s.after last (subst (λ t. IsRow first_account o.before t (first_token vs last)) (sym same) (o.is_free (first_token vs last)))
             (subst (λ t. IsRow (account_past_row first_account o.before t) vs s.after last) (sym same) (row last));
         is_filled = s.here.is_filled;
-        is_here = ap (λ a. account_past_filler a s.here.filler (58 ∷ more)) (account_append first_account o.before vs s.after ∙ ap (λ t. account_past_row (account_past_row first_account o.before t) vs s.after) same) ∙ here;
+        is_here = ap (λ a. account_past_separation a s.here.separation (58 ∷ more)) (account_append first_account o.before vs s.after ∙ ap (λ t. account_past_row (account_past_row first_account o.before t) vs s.after) same) ∙ here;
         is_clean = s.here.is_clean;
       };
       are_levels = are;
@@ -64,7 +64,7 @@ inserted_stood text more p tokens k ks indents indent flow before s vs same row 
 -- the row from a key on, and the account after it
 pub record AtColon (text more : List ℕ) (p : Position) (tokens : List Token) (k : Key) (ks : List (Option Key)) (indents : List Indent) (indent : ℕ) (flow : List FlowLevel) (before : Before) (s : Stood text (58 ∷ more) p tokens (Some k ∷ ks) indents indent flow before) : Type 0 where
   pub row : (last : Option Tok) → IsRow (account_past_row first_account s.are_open.0.before (spelled (s.are_open.0.own ∷ s.are_open.0.later) s.after)) (s.are_open.0.own ∷ s.are_open.0.later) s.after last
-  pub here : account_past_filler (account_past_row (account_past_row first_account s.are_open.0.before (spelled (s.are_open.0.own ∷ s.are_open.0.later) s.after)) (s.are_open.0.own ∷ s.are_open.0.later) s.after) s.here.filler (58 ∷ more) ≡ account_of p indent indents flow before
+  pub here : account_past_separation (account_past_row (account_past_row first_account s.are_open.0.before (spelled (s.are_open.0.own ∷ s.are_open.0.later) s.after)) (s.are_open.0.own ∷ s.are_open.0.later) s.after) s.here.separation (58 ∷ more) ≡ account_of p indent indents flow before
   pub tokens_are : tokens ≡ start_token s.begin ∷ (tokens_of s.are_open.0.before ++ tokens_of (s.are_open.0.own ∷ s.are_open.0.later))
   pub number : k.number ≡ suc (length (tokens_of s.are_open.0.before))
 
@@ -75,7 +75,7 @@ at_colon text more p tokens k ks indents indent flow before s =
     let old : List Written = o.own ∷ o.later in
     record {
       row = λ last. row_second first_account o.before old s.after last (subst (λ r. IsRow first_account r s.after last) o.is_split (s.here.is_row last));
-      here = ap (λ a. account_past_filler a s.here.filler (58 ∷ more)) (sym (account_append first_account o.before old s.after) ∙ ap (λ r. account_past_row first_account r s.after) (sym o.is_split)) ∙ s.here.is_here;
+      here = ap (λ a. account_past_separation a s.here.separation (58 ∷ more)) (sym (account_append first_account o.before old s.after) ∙ ap (λ r. account_past_row first_account r s.after) (sym o.is_split)) ∙ s.here.is_here;
       tokens_are = s.tokens_are ∙ ap (λ r. start_token s.begin ∷ tokens_of r) o.is_split ∙ ap (λ ts. start_token s.begin ∷ ts) (tokens_append o.before old);
       number = o.number_is ∙ ap suc (sym (length_tokens o.before));
     }
@@ -118,7 +118,7 @@ key_stood text more p tokens k ks indents indent flow before s =
     let o : IsOpen k 0 s.row s.after p (58 ∷ more) (innermost_column (columns indent indents)) = s.are_open.0 in
     let old : List Written = o.own ∷ o.later in
     let acc : Account = account_past_row first_account o.before (spelled old s.after) in
-    let vs : List Written = empty_token o.own.filler (key_at k.place) ∷ bare o.own ∷ o.later in
+    let vs : List Written = empty_token o.own.separation (key_at k.place) ∷ bare o.own ∷ o.later in
     let c : AtColon text more p tokens k ks indents indent flow before s = at_colon text more p tokens k ks indents indent flow before s in
     let t : Token = token k.place Tok.key in
     let same : start_token s.begin ∷ tokens_of (o.before ++ vs) ≡ insert tokens k.number t =
@@ -126,7 +126,7 @@ key_stood text more p tokens k ks indents indent flow before s =
     ap (λ ts. start_token s.begin ∷ ts) (sym (tokens_append o.before vs))) in
     subst (λ ts. Stood text (58 ∷ more) p ts (None ∷ ks) indents indent flow before) same
     (inserted_stood text more p tokens k ks indents indent flow before s vs refl (λ last. key_inserted acc o.own o.later s.after last k.place o.is_node (c.row last)) indents indent s.are_levels flow refl
-    (ap (λ a. account_past_filler a s.here.filler (58 ∷ more)) (key_after acc o.own o.later s.after k.place) ∙ c.here)
+    (ap (λ a. account_past_separation a s.here.separation (58 ∷ more)) (key_after acc o.own o.later s.after k.place) ∙ c.here)
     (outer_open text more p tokens k ks indents indent flow before s vs (λ ns. ns) (λ m ns i. (refl, inside_framed [] old [] (m ∷ ns) i)) refl))
 
 -- two tokens go in before those of a number
@@ -134,7 +134,7 @@ two_in : (start : Token) (ts us all : List Token) (n : ℕ) (t u : Token) → al
 two_in start ts us all n t u e f =
     ap (λ x. insert (insert x n t) n u) e ∙ ap (λ m. insert (insert (start ∷ (ts ++ us)) m t) m u) f ∙ ap (λ x. insert x (suc (length ts)) u) (insert_tokens start ts us t) ∙ insert_tokens start ts (t ∷ us) u
 
--- ---- the start of a pair without braces, and its key
+-- ---- the start of a single-pair mapping, and its key
 
 pub pair_key_stood : (text more : List ℕ) (p q : Position) (tokens : List Token) (k : Key) (ks : List (Option Key)) (indents : List Indent) (indent : ℕ) (gs : List FlowLevel) (before : Before) → p.line ≤ k.place.line → Stood text (58 ∷ more) p tokens (Some k ∷ ks) indents indent (Entry ∷ gs) before →
     Stood text (58 ∷ more) p (insert (insert tokens k.number (token k.place Tok.key)) k.number (token q Tok.flow_mapping_start)) (None ∷ ks) indents indent (Pair ∷ gs) before
@@ -143,7 +143,7 @@ pair_key_stood text more p q tokens k ks indents indent gs before on s =
     let o : IsOpen k 0 s.row s.after p (58 ∷ more) column = s.are_open.0 in
     let old : List Written = o.own ∷ o.later in
     let acc : Account = account_past_row first_account o.before (spelled old s.after) in
-    let vs : List Written = empty_token o.own.filler (pair_at q) ∷ empty_token [] (key_at k.place) ∷ bare o.own ∷ o.later in
+    let vs : List Written = empty_token o.own.separation (pair_at q) ∷ empty_token [] (key_at k.place) ∷ bare o.own ∷ o.later in
     let c : AtColon text more p tokens k ks indents indent (Entry ∷ gs) before s = at_colon text more p tokens k ks indents indent (Entry ∷ gs) before s in
     let i : inside [] old ≡ Some [] = inside_none k old column (o.live (on, refl)) in
     let ls : List Level = levels_of gs in
@@ -152,7 +152,7 @@ pair_key_stood text more p q tokens k ks indents indent gs before on s =
     ap (λ ts. start_token s.begin ∷ ts) (tokens_append o.before vs) ∙ sym (two_in (start_token s.begin) (tokens_of o.before) (tokens_of old) tokens k.number (token k.place Tok.key) (token q Tok.flow_mapping_start) c.tokens_are c.number) in
     subst (λ ts. Stood text (58 ∷ more) p ts (None ∷ ks) indents indent (Pair ∷ gs) before) same
     (inserted_stood text more p tokens k ks indents indent (Entry ∷ gs) before s vs refl (λ last. pair_row acc o.own o.later s.after last q k.place ls [] o.is_node i levels (c.row last)) indents indent s.are_levels (Pair ∷ gs) refl
-    (ap (λ a. account_past_filler a s.here.filler (58 ∷ more)) (pair_after acc o.own o.later s.after q k.place ls i levels) ∙ ap (λ (a : Account). record a { levels = record { kind = sequence; pair = true } ∷ ls }) c.here)
+    (ap (λ a. account_past_separation a s.here.separation (58 ∷ more)) (pair_after acc o.own o.later s.after q k.place ls i levels) ∙ ap (λ (a : Account). record a { levels = record { kind = sequence; pair = true } ∷ ls }) c.here)
     (outer_open text more p tokens k ks indents indent (Entry ∷ gs) before s vs (with_pair true) (λ m ns j. (refl, inside_framed [] old [] (record m { pair = true } ∷ ns) j)) refl))
 
 -- ---- the start of a mapping, and its key
@@ -166,19 +166,19 @@ mapping_key_stood text more p q tokens k ks indents indent before indents2 inden
     let old : List Written = o.own ∷ o.later in
     let acc : Account = account_past_row first_account o.before (spelled old s.after) in
     let own : Account = account_at acc o.own (spelled o.later s.after) in
-    let vs : List Written = empty_token o.own.filler (mapping_at q) ∷ empty_token [] (key_at k.place) ∷ bare o.own ∷ o.later in
+    let vs : List Written = empty_token o.own.separation (mapping_at q) ∷ empty_token [] (key_at k.place) ∷ bare o.own ∷ o.later in
     let c : AtColon text more p tokens k ks indents indent [] before s = at_colon text more p tokens k ks indents indent [] before s in
     let i : inside [] old ≡ Some [] = inside_none k old column (o.live (on, refl)) in
     let levels : acc.levels ≡ [] = sym (levels_after acc [] [] acc.levels old s.after i refl) ∙ ap (λ a. a.levels) c.here in
     let outside : not (is_empty acc.levels) ≡ false = ap (λ ls. not (is_empty ls)) levels in
-    let end_line : (position_after (account_past_row acc old s.after).place s.here.filler (58 ∷ more)).line ≡ p.line = ap (λ a. a.place.line) c.here in
+    let end_line : (position_after (account_past_row acc old s.after).place s.here.separation (58 ∷ more)).line ≡ p.line = ap (λ a. a.place.line) c.here in
     let key_line : k.place.line ≡ own.place.line = ap (λ x. x.line) o.place_is in
-    let line : AreOnLine old s.after = on_line acc o.own o.later s.after s.here.filler more [] i s.here.is_after (omega (arith, end_line, key_line, on)) in
+    let line : AreOnLine old s.after = on_line acc o.own o.later s.after s.here.separation more [] i s.here.is_after (omega (arith, end_line, key_line, on)) in
     let same : start_token s.begin ∷ tokens_of (o.before ++ vs) ≡ insert (insert tokens k.number (token k.place Tok.key)) k.number (token q Tok.block_mapping_start) =
     ap (λ ts. start_token s.begin ∷ ts) (tokens_append o.before vs) ∙ sym (two_in (start_token s.begin) (tokens_of o.before) (tokens_of old) tokens k.number (token k.place Tok.key) (token q Tok.block_mapping_start) c.tokens_are c.number) in
     let blocks : Some own.place.col ∷ columns indent indents ≡ columns indent2 indents2 = ap (λ n. Some n ∷ columns indent indents) (sym (ap (λ x. x.col) o.place_is)) ∙ sym cols in
     subst (λ ts. Stood text (58 ∷ more) p ts (None ∷ ks) indents2 indent2 [] before) same
     (inserted_stood text more p tokens k ks indents indent [] before s vs refl (λ last. mapping_inserted acc o.own o.later s.after last q k.place outside o.is_node line (c.row last)) indents2 indent2 are [] refl
-    (ap (λ a. account_past_filler a s.here.filler (58 ∷ more)) (mapping_after acc o.own o.later s.after q k.place [] i o.is_solid o.is_settled) ∙ ap (λ (a : Account). record a { blocks = Some own.place.col ∷ a.blocks }) c.here ∙
+    (ap (λ a. account_past_separation a s.here.separation (58 ∷ more)) (mapping_after acc o.own o.later s.after q k.place [] i o.is_solid o.is_settled) ∙ ap (λ (a : Account). record a { blocks = Some own.place.col ∷ a.blocks }) c.here ∙
     ap {B = Account} (λ bs. record { place = p; blocks = bs; levels = []; before = before }) blocks)
     (none_open 0 (o.before ++ vs) s.after p (58 ∷ more) (innermost_column (columns indent2 indents2)) (Some k ∷ ks) s.one_each))

@@ -1,19 +1,18 @@
 -- The function of the model that reads a `?` keeps what holds between fetches.
 use Rattle.std.proofs.Common.{◌≡◌, ℕ, suc, ◌<◌, List, [], ◌∷◌, ◌++◌, Bool, true, false, not, ◌==◌, length, if◌then◌else◌, Option, None, Result, Ok, Err, refl, ap, sym, ◌∙◌, subst, arith, inl}
 use Rattle.std.proofs.lemmas.Bool.{eqb-true}
-use Rattle.defs_text.specs.Position.{Position}
+use Rattle.defs_text.specs.Position.{Position, position_after}
 use Rattle.yaml_chars.specs.Class as class
 use Rattle.yaml_tokens.specs.declared.problem.Fault.{Fault}
 use Rattle.defs_token.specs.Token.{Tok}
 use Rattle.defs_text.specs.Classes.{is_break, is_blank, is_nul, is_blank_or_end, is_at_gap}
-use Rattle.defs_text.specs.Position.{position_after}
 use Rattle.defs_token.specs.Account.{Account, other, innermost_column}
 use Rattle.defs_token.specs.Piece.{begins_with_space_or_break}
 use Rattle.model_lexers.specs.Machine.{past}
 use Rattle.model_scanner.specs.declared.level.FlowLevel.{FlowLevel}
 use Rattle.model_scanner.specs.declared.level.FlowLevel.TheVariants.{Mapping, Entry, Keyed, Pair}
-use Rattle.model_scanner.specs.State.{Held, State, ◌>>=◌, in_flow, push, with_top, token, after, moved, on_held, skip_indicator}
-use Rattle.model_scanner.specs.Keys.{remove_simple_key}
+use Rattle.model_scanner.specs.State.{Held, ScannerState, ◌>>=◌, in_flow, push, with_top, token, after, moved, on_held, skip_indicator}
+use Rattle.model_scanner.specs.Keys.{remove_implicit_key}
 use Rattle.model_scanner.specs.Space.{at_break, white_end, white, skip_yaml_whitespace}
 use Rattle.model_scanner.specs.Flow.{allow_key}
 use Rattle.model_scanner.specs.Block.{keyed, begin_key, check_key_space, fetch_key}
@@ -22,7 +21,7 @@ use Rattle.proof_lexers.proofs.Bridges.{same_break}
 use Rattle.proof_lexers.specs.PlainEnds.{has_no_nul}
 use Rattle.proof_lexers.proofs.Plain.Turns.{or_true}
 use Rattle.proof_cut.specs.PiecesRead.{ReadAs}
-use Rattle.proof_cut.specs.Stands.{columns, levels_of, account_of, Stood, Fares, Stands}
+use Rattle.proof_cut.specs.Stands.{columns, levels_of, account_of, Stood, Fares, FaresAt}
 use Rattle.proof_cut.proofs.Places.{weaker}
 use Rattle.proof_cut.proofs.Heres.{led, spelled_led}
 use Rattle.proof_cut.proofs.Pushed.{with_piece}
@@ -44,7 +43,7 @@ unfolding white
 white_begins [] s gap clean = refused
 white_begins (c ∷ a) s gap clean = by (class.is_break c) (c == 32) (c == 35) refl refl refl
   where
-    anyway : (r : Result State Fault) → begins_with_space_or_break (c ∷ a) ≡ true → Holds (λ u. begins_with_space_or_break (c ∷ a) ≡ true) r
+    anyway : (r : Result ScannerState Fault) → begins_with_space_or_break (c ∷ a) ≡ true → Holds (λ u. begins_with_space_or_break (c ∷ a) ≡ true) r
     anyway (Ok u) x = went x
     anyway (Err f) x = refused
 
@@ -59,7 +58,7 @@ white_begins (c ∷ a) s gap clean = by (class.is_break c) (c == 32) (c == 35) r
     by false false false e f g = refused
 
 -- a held state is at its own place
-pub at_place : (t u : State) → (a : Passed t u) → u.held ≡ placed_at t.held u.held.place a.leading a.allowed
+pub at_place : (t u : ScannerState) → (a : Passed t u) → u.held ≡ placed_at t.held u.held.place a.leading a.allowed
 at_place t u a = a.is_held ∙ ap (λ q. placed_at t.held q a.leading a.allowed) (sym (ap (λ h. h.place) a.is_held))
 
 -- how a key begins with its indicator
@@ -67,11 +66,11 @@ data KeyBegins (s u : Held) : Type 0 where
   in_flow_here : in_flow s ≡ true → u ≡ record s { flow = keyed s.flow } → KeyBegins s u
   in_block_here : in_flow s ≡ false → Rolls s.place.col None (token s.place Tok.block_mapping_start) s u → KeyBegins s u
 
-key_begun : (text : List ℕ) (t : State) → Stands text t → Holds (KeyBegins t.held) (begin_key t.held)
+key_begun : (text : List ℕ) (t : ScannerState) → FaresAt text t → Holds (KeyBegins t.held) (begin_key t.held)
 unfolding begin_key
 key_begun text t s = either (in_flow t.held) (λ e. went (in_flow_here e refl)) (λ e. passes _ _ (went (in_block_here e (rolled_is t.held.place.col None Tok.block_mapping_start t.held.place t.held e s.stood.are_levels))))
 
-key_spaced : (t : State) → Holds (λ u. u ≡ t) (check_key_space t)
+key_spaced : (t : ScannerState) → Holds (λ u. u ≡ t) (check_key_space t)
 unfolding check_key_space
 key_spaced t = passes _ _ (went refl)
 
@@ -97,15 +96,15 @@ pub leads_key : (f : List ℕ) (piece : List ℕ) (at : Position) → LeadsOut 1
 leads_key f piece at m ns = record { levels = m ∷ ns; is_inside = refl; are_many = omega arith }
 
 -- the state after the `?`
-abbrev after_question : State → Held → State
+abbrev after_question : ScannerState → Held → ScannerState
 after_question t u = skip_indicator (on_held (λ s. allow_key (not (in_flow s)) s) (record t { held = record u { keys = with_top None u.keys } }))
 
-key_fares : (text more : List ℕ) (t w : State) → t.rest ≡ 63 ∷ more → (s : Stands text t) → (u : Held) → KeyBegins t.held u → begins_with_space_or_break more ≡ true → Passed (after_question t u) w →
-    Stands text (on_held (push t.held.place Tok.key) w)
+key_fares : (text more : List ℕ) (t w : ScannerState) → t.rest ≡ 63 ∷ more → (s : FaresAt text t) → (u : Held) → KeyBegins t.held u → begins_with_space_or_break more ≡ true → Passed (after_question t u) w →
+    FaresAt text (on_held (push t.held.place Tok.key) w)
 key_fares text more t w e s u (in_flow_here inner d) gap c =
     let p : Position = t.held.place in
     let bs : List (Option ℕ) = columns t.held.indent t.held.indents in
-    let g : Filled more (past p) w = record { filler = c.filler; is_rest = ap after (sym e) ∙ c.is_rest; is_filled = c.is_filled; is_place = ap (λ y. y.place) c.is_held ∙ ap (λ y. position_after (past y.place) c.filler w.rest) d } in
+    let g : Filled more (past p) w = record { separation = c.separation; is_rest = ap after (sym e) ∙ c.is_rest; is_filled = c.is_filled; is_place = ap (λ y. y.place) c.is_held ∙ ap (λ y. position_after (past y.place) c.separation w.rest) d } in
     let y : Stood text (63 ∷ more) p t.held.tokens t.held.keys t.held.indents t.held.indent t.held.flow s.before = subst (λ z. Stood text z p t.held.tokens t.held.keys t.held.indents t.held.indent t.held.flow s.before) e s.stood in
     let a : Account = account_of p t.held.indent t.held.indents t.held.flow s.before in
     let r : ReadAs a (63 ∷ more) Tok.key p w.rest w.held.place = indicated_by a 63 more Tok.key p w (question more gap).in_line g (λ next last n. inl (refl, rw n at gap)) in
@@ -113,9 +112,9 @@ key_fares text more t w e s u (in_flow_here inner d) gap c =
     let k : Stood text w.rest w.held.place (t.held.tokens ++ token p Tok.key ∷ []) (with_top None t.held.keys) t.held.indents t.held.indent (keyed t.held.flow) other =
     piece_stood text (63 ∷ more) p t.held.tokens t.held.keys t.held.indents t.held.indent t.held.flow s.before y Tok.key p w.rest w.held.place r refl (keyed t.held.flow) (keyed_levels t.held.flow) (with_top None t.held.keys)
     (length_top t.held.keys ∙ s.stood.one_each ∙ ap suc (sym (keyed_many t.held.flow)))
-    (entry_open y.row (led y.here.filler (with_piece (63 ∷ []) p Tok.key) ∷ []) y.after (c.filler ++ w.rest) p w.held.place (63 ∷ more) w.rest (innermost_column bs) t.held.flow t.held.keys y.one_each
-    (spelled_led y.after y.here.filler (63 ∷ more) (with_piece (63 ∷ []) p Tok.key) [] (c.filler ++ w.rest) y.here.is_after r.is_text) (weaker p w.held.place (read_later a (63 ∷ more) Tok.key p w.rest w.held.place r)) (λ _. refl)
-    (leads_key y.here.filler (63 ∷ []) p) y.are_open) in
+    (entry_open y.row (led y.here.separation (with_piece (63 ∷ []) p Tok.key) ∷ []) y.after (c.separation ++ w.rest) p w.held.place (63 ∷ more) w.rest (innermost_column bs) t.held.flow t.held.keys y.one_each
+    (spelled_led y.after y.here.separation (63 ∷ more) (with_piece (63 ∷ []) p Tok.key) [] (c.separation ++ w.rest) y.here.is_after r.is_text) (weaker p w.held.place (read_later a (63 ∷ more) Tok.key p w.rest w.held.place r)) (λ _. refl)
+    (leads_key y.here.separation (63 ∷ []) p) y.are_open) in
     let ends : Fares text w.rest w.held.place (t.held.tokens ++ token p Tok.key ∷ []) (with_top None t.held.keys) t.held.indents t.held.indent (keyed t.held.flow) t.held.adjacent_value_at = record {
       before = other;
       stood = k;
@@ -127,7 +126,7 @@ key_fares text more t w e s u (in_flow_here inner d) gap c =
 key_fares text more t w e s u (in_block_here outer r) gap c =
     let p : Position = t.held.place in
     let same : (u.place ≡ p) × (u.keys ≡ t.held.keys) × (u.flow ≡ t.held.flow) × (u.adjacent_value_at ≡ t.held.adjacent_value_at) = rolls_place p.col None (token p Tok.block_mapping_start) t.held u r in
-    let g : Filled more (past p) w = record { filler = c.filler; is_rest = ap after (sym e) ∙ c.is_rest; is_filled = c.is_filled; is_place = ap (λ y. y.place) c.is_held ∙ ap (λ q. position_after (past q) c.filler w.rest) same.0 } in
+    let g : Filled more (past p) w = record { separation = c.separation; is_rest = ap after (sym e) ∙ c.is_rest; is_filled = c.is_filled; is_place = ap (λ y. y.place) c.is_held ∙ ap (λ q. position_after (past q) c.separation w.rest) same.0 } in
     let y : Stood text (63 ∷ more) p t.held.tokens t.held.keys t.held.indents t.held.indent t.held.flow s.before = subst (λ z. Stood text z p t.held.tokens t.held.keys t.held.indents t.held.indent t.held.flow s.before) e s.stood in
     let k : Stood text w.rest w.held.place (u.tokens ++ token p Tok.key ∷ []) (with_top None t.held.keys) u.indents u.indent t.held.flow other =
     roll_stood text 63 more Tok.block_mapping_start Tok.key mapping_start (question more gap) t.held u s.before (not_nil t.held.flow outer) p p p w g r y in
@@ -142,24 +141,24 @@ key_fares text more t w e s u (in_block_here outer r) gap c =
     subst (λ z. Fares text w.rest z.place (z.tokens ++ token p Tok.key ∷ []) z.keys z.indents z.indent z.flow z.adjacent_value_at) (sym (at_place (after_question t u) w c)) as_held
 
 -- what the model does after the `?`
-abbrev key_from : State → State → Result State Fault
+abbrev key_from : ScannerState → ScannerState → Result ScannerState Fault
 key_from t v =
     skip_yaml_whitespace (skip_indicator (on_held (λ s. allow_key (not (in_flow s)) s) v)) >>= λ w.
     check_key_space w >>= λ x.
     Ok (on_held (push t.held.place Tok.key) x)
 
-key_passed : (text more : List ℕ) (t : State) → t.rest ≡ 63 ∷ more → is_at_gap more ≡ true → Stands text t → (u : Held) → KeyBegins t.held u → Holds (Stands text) (key_from t (record t { held = record u { keys = with_top None u.keys } }))
+key_passed : (text more : List ℕ) (t : ScannerState) → t.rest ≡ 63 ∷ more → is_at_gap more ≡ true → FaresAt text t → (u : Held) → KeyBegins t.held u → Holds (FaresAt text) (key_from t (record t { held = record u { keys = with_top None u.keys } }))
 unfolding skip_yaml_whitespace
 key_passed text more t e gap s u d =
     chained {P = λ w. Passed v w × (begins_with_space_or_break more ≡ true)} (both_hold (white_passed v) (subst (λ r. Holds (λ _. begins_with_space_or_break more ≡ true) (white false false r v.held)) (ap after (sym e)) (white_begins more v.held gap (clean_more text t 63 more e s)))) (λ w a.
-    chained (key_spaced w) (λ x b. went (subst (λ y. Stands text (on_held (push t.held.place Tok.key) y)) (sym b) (key_fares text more t w e s u d a.1 a.0))))
+    chained (key_spaced w) (λ x b. went (subst (λ y. FaresAt text (on_held (push t.held.place Tok.key) y)) (sym b) (key_fares text more t w e s u d a.1 a.0))))
   where
-    v : State
+    v : ScannerState
     v = after_question t u
 
-pub key_fetched : (text more : List ℕ) (t : State) → t.rest ≡ 63 ∷ more → is_at_gap more ≡ true → Stands text t → Holds (Stands text) (fetch_key t)
+pub key_fetched : (text more : List ℕ) (t : ScannerState) → t.rest ≡ 63 ∷ more → is_at_gap more ≡ true → FaresAt text t → Holds (FaresAt text) (fetch_key t)
 unfolding fetch_key
 key_fetched text more t e gap s =
     chained {P = λ u. (u ≡ record t { held = u.held }) × KeyBegins t.held u.held} (tried t (begin_key t.held) (key_begun text t s) (λ h d. (refl, d))) (λ u d.
-    chained {P = λ v. v ≡ record u { held = record u.held { keys = with_top None u.held.keys } }} (tried u (remove_simple_key u.held) (key_removed u.held) (λ h k. ap (λ z. record u { held = z }) k)) (λ v k.
-    subst (λ y. Holds (Stands text) (key_from t y)) (sym (k ∙ ap {A = State} {B = State} (λ z. record z { held = record u.held { keys = with_top None u.held.keys } }) d.0)) (key_passed text more t e gap s u.held d.1)))
+    chained {P = λ v. v ≡ record u { held = record u.held { keys = with_top None u.held.keys } }} (tried u (remove_implicit_key u.held) (key_removed u.held) (λ h k. ap (λ z. record u { held = z }) k)) (λ v k.
+    subst (λ y. Holds (FaresAt text) (key_from t y)) (sym (k ∙ ap {A = ScannerState} {B = ScannerState} (λ z. record z { held = record u.held { keys = with_top None u.held.keys } }) d.0)) (key_passed text more t e gap s u.held d.1)))

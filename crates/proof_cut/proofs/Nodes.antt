@@ -3,11 +3,10 @@ use Rattle.std.proofs.Common.{◌≡◌, ℕ, suc, ◌+◌, ◌≤◌, ◌<◌, 
 use Rattle.std.proofs.lemmas.Bool.{and_parts}
 use Rattle.std.proofs.lemmas.Bool.Decides.{nat_tests}
 use Rattle.defs_text.specs.Classes.{is_nul}
-use Rattle.defs_text.specs.Position.{Position}
-use Rattle.defs_text.specs.Text.{is_nil}
+use Rattle.defs_text.specs.Position.{Position, position_after}
+use Rattle.defs_text.specs.Text.{is_empty}
 use Rattle.defs_token.specs.Token.{Style, Tok, Token}
-use Rattle.defs_text.specs.Position.{position_after}
-use Rattle.defs_token.specs.Account.{Level, Account, Before, other, before_past, before_by, is_adjacent, is_empty, blocks_past, levels_past}
+use Rattle.defs_token.specs.Account.{Level, Account, Before, other, before_past, before_by, is_adjacent, blocks_past, levels_past}
 use Rattle.defs_token.specs.Piece.{begins_node}
 use Rattle.model_scanner.specs.declared.level.Indent.{Indent}
 use Rattle.model_scanner.specs.declared.level.FlowLevel.{FlowLevel}
@@ -17,16 +16,16 @@ use Rattle.model_lexers.specs.Tag as tags
 use Rattle.model_lexers.specs.Plain as plains
 use Rattle.model_lexers.specs.declared.context.Context.{Context}
 use Rattle.model_scanner.specs.Indents.{Levels, without_open, unroll_non_block_indents}
-use Rattle.model_scanner.specs.State.{Key, Held, State, in_flow, push, token, on_held, go_on, lexed}
+use Rattle.model_scanner.specs.State.{Key, Held, ScannerState, in_flow, push, token, on_held, go_on, lexed}
 use Rattle.model_scanner.specs.Keys.{must_be_key}
 use Rattle.model_scanner.specs.Flow.{allow_key}
 use Rattle.model_scanner.specs.Document.{anchor_token, unled, node_start, fetch_anchor, fetch_tag, context, after_plain, fetch_plain_scalar}
 use Rattle.model_scanner.proofs.Holds.{Holds, went, read}
-use Rattle.proof_lexers.specs.Fillers.{begins_filler}
+use Rattle.proof_lexers.specs.Separations.{begins_separation}
 use Rattle.proof_lexers.specs.PlainEnds.{has_no_nul}
 use Rattle.proof_cut.specs.PiecesRead.{ReadAs, comes_plain}
 use Rattle.proof_cut.specs.Inside.{step_inside, levels_then}
-use Rattle.proof_cut.specs.Stands.{columns, levels_of, account_of, IsAdjacent, Stood, Fares, Stands}
+use Rattle.proof_cut.specs.Stands.{columns, levels_of, account_of, IsAdjacent, Stood, Fares, FaresAt}
 use Rattle.proof_cut.proofs.Pieces.Names.{name_is_read}
 use Rattle.proof_cut.proofs.Pieces.Plains.{plain_is_read}
 use Rattle.proof_cut.proofs.Pieces.Tags.{tag_is_read}
@@ -44,11 +43,11 @@ AreNear p (None ∷ ks) = AreNear p ks
 AreNear p (Some k ∷ ks) = (p.line ≤ k.place.line) × AreNear p ks
 
 -- What holds where a token begins.
-pub record Ready (text : List ℕ) (t : State) : Type 0 where
-  pub stands : Stands text t
-  pub some : is_nil t.rest ≡ false
-  pub solid : begins_filler t.rest ≡ false
-  pub near : is_nil t.held.flow ≡ true → AreNear t.held.place t.held.keys
+pub record Ready (text : List ℕ) (t : ScannerState) : Type 0 where
+  pub stands : FaresAt text t
+  pub some : is_empty t.rest ≡ false
+  pub solid : begins_separation t.rest ≡ false
+  pub near : is_empty t.held.flow ≡ true → AreNear t.held.place t.held.keys
 
 -- whether a token may begin here: not left of the innermost level
 abbrev pub IsDeep : Held → Type 0
@@ -60,14 +59,14 @@ pub not_same : (x y : ℕ) → y < x → (x == y) ≡ false
 not_same x y h = grind (arith, nat_tests)
 
 pub adjacent_other : (p : Position) (adj : ℕ) (rest : List ℕ) → adj < p.index → IsAdjacent other p adj rest
-adjacent_other p adj rest h = λ filler r e k t. sym (not_same (p.index + length filler) adj (omega (arith, h)))
+adjacent_other p adj rest h = λ separation r e k t. sym (not_same (p.index + length separation) adj (omega (arith, h)))
 
 pub further_read : (a : Account) (rest : List ℕ) (tok : Tok) (at : Position) (rest2 : List ℕ) (end : Position) → ReadAs a rest tok at rest2 end → a.place.index < end.index
 further_read a rest tok at rest2 end r =
-    let q : Position = position_after a.place (r.first ∷ r.more) (r.filler ++ rest2) in
-    let i : q.index ≡ a.place.index + length (r.first ∷ r.more) = index_after a.place (r.first ∷ r.more) (r.filler ++ rest2) in
-    let j : (position_after q r.filler rest2).index ≡ q.index + length r.filler = index_after q r.filler rest2 in
-    let e : end.index ≡ (position_after q r.filler rest2).index = ap (λ x. x.index) r.is_end in
+    let q : Position = position_after a.place (r.first ∷ r.more) (r.separation ++ rest2) in
+    let i : q.index ≡ a.place.index + length (r.first ∷ r.more) = index_after a.place (r.first ∷ r.more) (r.separation ++ rest2) in
+    let j : (position_after q r.separation rest2).index ≡ q.index + length r.separation = index_after q r.separation rest2 in
+    let e : end.index ≡ (position_after q r.separation rest2).index = ap (λ x. x.index) r.is_end in
     omega (arith, i, j, e)
 
 -- ---- neutral tokens
@@ -79,15 +78,15 @@ opens_none p q rest2 f piece at tok step = λ k n l ns. record { levels = ns; is
 pub node_fares : (text rest : List ℕ) (p : Position) (tokens : List Token) (keys : List (Option Key)) (indents : List Indent) (indent : ℕ) (flow : List FlowLevel) (before : Before) (adj : ℕ)
     (s : Stood text rest p tokens keys indents indent flow before) → adj ≤ p.index → (tok : Tok) (at : Position) (rest2 : List ℕ) (end : Position) (r : ReadAs (account_of p indent indents flow before) rest tok at rest2 end) →
     begins_node (Some tok) ≡ true → indent ≤ p.col + 1 → blocks_past (columns indent indents) tok ≡ columns indent indents → levels_past (levels_of flow) (r.first ∷ r.more) tok ≡ levels_of flow → before_by tok ≡ other →
-    Opens 0 p end rest2 (led s.here.filler (with_piece (r.first ∷ r.more) at tok) ∷ []) → (allowed required : Bool) →
+    Opens 0 p end rest2 (led s.here.separation (with_piece (r.first ∷ r.more) at tok) ∷ []) → (allowed required : Bool) →
     Fares text rest2 end (tokens ++ token at tok ∷ []) (with_saved allowed required (length tokens) p keys) indents indent flow adj
 node_fares text rest p tokens keys indents indent flow before adj s was tok at rest2 end r node deep blocks levels none opens allowed required =
     let further : p.index < end.index = further_read (account_of p indent indents flow before) rest tok at rest2 end r in
     record {
-      before = before_past (before_by tok) r.filler;
+      before = before_past (before_by tok) r.separation;
       stood = node_stood text rest p tokens keys indents indent flow before s tok at rest2 end r node deep blocks levels opens allowed required;
       was_adjacent = omega (arith, was, further);
-      is_adjacent_here = λ _. subst (λ b. IsAdjacent (before_past b r.filler) end adj rest2) (sym none) (adjacent_other end adj rest2 (omega (arith, was, further)));
+      is_adjacent_here = λ _. subst (λ b. IsAdjacent (before_past b r.separation) end adj rest2) (sym none) (adjacent_other end adj rest2 (omega (arith, was, further)));
     }
 
 -- what is said of a token that opens and closes nothing
@@ -116,22 +115,22 @@ pub neutral_double : (x : List ℕ) → IsNeutral (Tok.scalar Style.double_quote
 neutral_double x = record { node = refl; blocks = λ bs. refl; levels = λ ls c more. refl; steps = λ ns c more. refl }
 
 -- the account where a token begins
-abbrev pub account_now : (text : List ℕ) (t : State) → Stands text t → Account
+abbrev pub account_now : (text : List ℕ) (t : ScannerState) → FaresAt text t → Account
 account_now text t s = account_of t.held.place t.held.indent t.held.indents t.held.flow s.before
 
-pub neutral_fares : (text : List ℕ) (t : State) (s : Stands text t) → IsDeep t.held → (tok : Tok) (at : Position) (rest2 : List ℕ) (end : Position) → ReadAs (account_now text t s) t.rest tok at rest2 end → IsNeutral tok → before_by tok ≡ other →
+pub neutral_fares : (text : List ℕ) (t : ScannerState) (s : FaresAt text t) → IsDeep t.held → (tok : Tok) (at : Position) (rest2 : List ℕ) (end : Position) → ReadAs (account_now text t s) t.rest tok at rest2 end → IsNeutral tok → before_by tok ≡ other →
     Fares text rest2 end (t.held.tokens ++ token at tok ∷ []) (saved_keys t.held) t.held.indents t.held.indent t.held.flow t.held.adjacent_value_at
 neutral_fares text t s deep tok at rest2 end r n none =
     node_fares text t.rest t.held.place t.held.tokens t.held.keys t.held.indents t.held.indent t.held.flow s.before t.held.adjacent_value_at s.stood s.was_adjacent tok at rest2 end r
     n.node deep (n.blocks (columns t.held.indent t.held.indents)) (n.levels (levels_of t.held.flow) r.first r.more) none
-    (opens_none t.held.place end rest2 s.stood.here.filler (r.first ∷ r.more) at tok (λ ns. n.steps ns r.first r.more)) t.held.key_allowed (must_be_key t.held)
+    (opens_none t.held.place end rest2 s.stood.here.separation (r.first ∷ r.more) at tok (λ ns. n.steps ns r.first r.more)) t.held.key_allowed (must_be_key t.held)
 
 -- ---- anchors, aliases and tags
 
-pub clean_more : (text : List ℕ) (t : State) (c : ℕ) (more : List ℕ) → t.rest ≡ c ∷ more → Stands text t → has_no_nul more ≡ true
+pub clean_more : (text : List ℕ) (t : ScannerState) (c : ℕ) (more : List ℕ) → t.rest ≡ c ∷ more → FaresAt text t → has_no_nul more ≡ true
 clean_more text t c more e s = (and_parts (not (is_nul c)) (has_no_nul more) (rw e at s.stood.here.is_clean)).1
 
-name_fares : (text : List ℕ) (alias : Bool) (t : State) (more : List ℕ) → t.rest ≡ (if alias then 42 else 38) ∷ more → Stands text t → IsDeep t.held → (x : Read (List ℕ)) → anchor_name t.rest t.held.place ≡ Ok x →
+name_fares : (text : List ℕ) (alias : Bool) (t : ScannerState) (more : List ℕ) → t.rest ≡ (if alias then 42 else 38) ∷ more → FaresAt text t → IsDeep t.held → (x : Read (List ℕ)) → anchor_name t.rest t.held.place ≡ Ok x →
     Fares text x.rest x.place (t.held.tokens ++ token t.held.place (anchor_token alias x.value) ∷ []) (saved_keys t.held) t.held.indents t.held.indent t.held.flow t.held.adjacent_value_at
 name_fares text alias t more e s deep x k = by alias (subst (λ r. ReadAs a r (anchor_token alias x.value) t.held.place x.rest x.place) (sym e) (name_is_read a alias more x (clean_more text t _ more e s) (subst (λ r. anchor_name r t.held.place ≡ Ok x) e k)))
   where
@@ -143,23 +142,23 @@ name_fares text alias t more e s deep x k = by alias (subst (λ r. ReadAs a r (a
     by true r = neutral_fares text t s deep (Tok.alias x.value) t.held.place x.rest x.place r (neutral_alias x.value) refl
     by false r = neutral_fares text t s deep (Tok.anchor x.value) t.held.place x.rest x.place r (neutral_anchor x.value) refl
 
-pub anchor_fetched : (text : List ℕ) (alias : Bool) (t : State) (more : List ℕ) → t.rest ≡ (if alias then 42 else 38) ∷ more → Stands text t → IsDeep t.held → Holds (Stands text) (fetch_anchor alias t)
+pub anchor_fetched : (text : List ℕ) (alias : Bool) (t : ScannerState) (more : List ℕ) → t.rest ≡ (if alias then 42 else 38) ∷ more → FaresAt text t → IsDeep t.held → Holds (FaresAt text) (fetch_anchor alias t)
 unfolding fetch_anchor
 anchor_fetched text alias t more e s deep = read (node_start t.held) (anchor_name t.rest t.held.place) _ (λ x k.
-    went (subst (λ h. Stands text (on_held (λ u. push t.held.place (anchor_token alias x.value) (unled u)) (go_on x (allow_key false h)))) (sym (saved_is t.held)) (name_fares text alias t more e s deep x k)))
+    went (subst (λ h. FaresAt text (on_held (λ u. push t.held.place (anchor_token alias x.value) (unled u)) (go_on x (allow_key false h)))) (sym (saved_is t.held)) (name_fares text alias t more e s deep x k)))
 
-pub same_flow : (fs : List FlowLevel) → not (is_empty (levels_of fs)) ≡ not (is_nil fs)
+pub same_flow : (fs : List FlowLevel) → not (is_empty (levels_of fs)) ≡ not (is_empty fs)
 same_flow [] = refl
 same_flow (f ∷ fs) = refl
 
-pub tag_fetched : (text : List ℕ) (t : State) (more : List ℕ) → t.rest ≡ 33 ∷ more → Stands text t → IsDeep t.held → Holds (Stands text) (fetch_tag t)
+pub tag_fetched : (text : List ℕ) (t : ScannerState) (more : List ℕ) → t.rest ≡ 33 ∷ more → FaresAt text t → IsDeep t.held → Holds (FaresAt text) (fetch_tag t)
 unfolding fetch_tag
 tag_fetched text t more e s deep = read (node_start t.held) (tags.tag (in_flow t.held) t.rest t.held.place) _ (λ x k.
     let a : Account = account_now text t s in
     let r : ReadAs a t.rest (Tok.tag x.value.handle x.value.suffix) t.held.place x.rest x.place =
     subst (λ r. ReadAs a r (Tok.tag x.value.handle x.value.suffix) t.held.place x.rest x.place) (sym e)
     (tag_is_read a (in_flow t.held) more x (clean_more text t 33 more e s) (same_flow t.held.flow) (subst (λ r. tags.tag (in_flow t.held) r t.held.place ≡ Ok x) e k)) in
-    went (subst (λ h. Stands text (on_held (λ u. push t.held.place (Tok.tag x.value.handle x.value.suffix) (unled u)) (go_on x (allow_key false h)))) (sym (saved_is t.held))
+    went (subst (λ h. FaresAt text (on_held (λ u. push t.held.place (Tok.tag x.value.handle x.value.suffix) (unled u)) (go_on x (allow_key false h)))) (sym (saved_is t.held))
     (neutral_fares text t s deep (Tok.tag x.value.handle x.value.suffix) t.held.place x.rest x.place r (neutral_tag x.value.handle x.value.suffix) refl)))
 
 -- ---- plain scalars
@@ -184,7 +183,7 @@ gone_stood text rest h keys before s =
 abbrev plain_context : Held → Context
 plain_context h = record { flow = in_flow h; indent = (levels_gone h).indent }
 
-plain_fares : (text : List ℕ) (t : State) (s : Stands text t) → IsDeep t.held → comes_plain (in_flow t.held) (is_adjacent s.before) t.held.place.col t.rest ≡ true → (x : Read plains.Plain) → plains.plain (plain_context t.held) t.rest t.held.place ≡ Ok x →
+plain_fares : (text : List ℕ) (t : ScannerState) (s : FaresAt text t) → IsDeep t.held → comes_plain (in_flow t.held) (is_adjacent s.before) t.held.place.col t.rest ≡ true → (x : Read plains.Plain) → plains.plain (plain_context t.held) t.rest t.held.place ≡ Ok x →
     Fares text x.rest x.place ((levels_gone t.held).tokens ++ token t.held.place (Tok.scalar Style.plain x.value.text) ∷ []) (saved_keys t.held) (levels_gone t.held).indents (levels_gone t.held).indent t.held.flow t.held.adjacent_value_at
 unfolding levels_gone
 plain_fares text t s deep comes x k =
@@ -200,11 +199,11 @@ plain_fares text t s deep comes x k =
     subst (λ ts. Fares text x.rest x.place (ts ++ token t.held.place tok ∷ []) (saved_keys t.held) u.indents u.indent t.held.flow t.held.adjacent_value_at) (sym w.same_tokens)
     (node_fares text t.rest t.held.place t.held.tokens t.held.keys u.indents u.indent t.held.flow s.before t.held.adjacent_value_at v s.was_adjacent tok t.held.place x.rest x.place r
     m.node deep2 (m.blocks (columns u.indent u.indents)) (m.levels (levels_of t.held.flow) r.first r.more) refl
-    (opens_none t.held.place x.place x.rest v.here.filler (r.first ∷ r.more) t.held.place tok (λ ns. m.steps ns r.first r.more)) t.held.key_allowed (must_be_key t.held))
+    (opens_none t.held.place x.place x.rest v.here.separation (r.first ∷ r.more) t.held.place tok (λ ns. m.steps ns r.first r.more)) t.held.key_allowed (must_be_key t.held))
 
-pub plain_fetched : (text : List ℕ) (t : State) (s : Stands text t) → IsDeep t.held → comes_plain (in_flow t.held) (is_adjacent s.before) t.held.place.col t.rest ≡ true → Holds (Stands text) (fetch_plain_scalar t)
+pub plain_fetched : (text : List ℕ) (t : ScannerState) (s : FaresAt text t) → IsDeep t.held → comes_plain (in_flow t.held) (is_adjacent s.before) t.held.place.col t.rest ≡ true → Holds (FaresAt text) (fetch_plain_scalar t)
 unfolding fetch_plain_scalar unroll_non_block_indents levels_gone
 plain_fetched text t s deep comes =
-    subst (λ h. Holds (Stands text) (lexed (plains.plain (context (unroll_non_block_indents (allow_key false h))) t.rest t.held.place) (unroll_non_block_indents (allow_key false h))
+    subst (λ h. Holds (FaresAt text) (lexed (plains.plain (context (unroll_non_block_indents (allow_key false h))) t.rest t.held.place) (unroll_non_block_indents (allow_key false h))
     (λ r u. Ok (on_held (λ v. push t.held.place (Tok.scalar Style.plain r.text) (after_plain r.leading v)) u)))) (sym (saved_is t.held))
     (read (unroll_non_block_indents (allow_key false (record t.held { keys = saved_keys t.held }))) (plains.plain (plain_context t.held) t.rest t.held.place) _ (λ x k. went (plain_fares text t s deep comes x k)))

@@ -1,7 +1,7 @@
 -- Open keys, as the row goes on.
 use Rattle.std.proofs.Common.{◌≡◌, ℕ, suc, ◌+◌, List, [], ◌∷◌, ◌++◌, false, length, Option, Some, None, refl, ap, sym, ◌∙◌, subst, arith, append_assoc, length-append}
 use Rattle.defs_text.specs.Position.{Position}
-use Rattle.defs_text.specs.Text.{is_nil}
+use Rattle.defs_text.specs.Text.{is_empty}
 use Rattle.defs_token.specs.Account.{Level, Account, first_account, settled}
 use Rattle.defs_token.specs.Cut.{Written, IsRow, spelled, account_at, account_past_row}
 use Rattle.defs_token.proofs.Append.{spelled_append}
@@ -20,7 +20,7 @@ pub record Goes (ns : List Level) (vs : List Written) (many : ℕ) : Type 0 wher
 
 -- where one text goes on, another does
 abbrev pub GoesOn : (rest2 rest : List ℕ) → Type 0
-GoesOn rest2 rest = is_nil rest2 ≡ false → is_nil rest ≡ false
+GoesOn rest2 rest = is_empty rest2 ≡ false → is_empty rest ≡ false
 
 live_before : (k : Key) (p q : Position) (rest rest2 : List ℕ) → NotBefore p q → GoesOn rest2 rest → IsLive k q rest2 → IsLive k p rest
 live_before k p q rest rest2 n g l = (omega (arith, n.0, l.0), g l.1)
@@ -62,10 +62,10 @@ leads_outer i j p q rest2 vs l k n ns b v e =
 
 -- the account at a key's piece, and the keys outside it, by the text after the piece
 abbrev account_by : (before : List Written) → Written → (next : List ℕ) → Account
-account_by before own next = account_at (account_past_row first_account before (own.filler ++ (own.piece ++ next))) own next
+account_by before own next = account_at (account_past_row first_account before (own.separation ++ (own.piece ++ next))) own next
 
 abbrev outer_open : Key → (before : List Written) → Written → Option ℕ → List (Option Key) → (next : List ℕ) → Type 0
-outer_open k before own column ks next = AreOpen 1 before (own.filler ++ (own.piece ++ next)) k.place (own.piece ++ next) column ks
+outer_open k before own column ks next = AreOpen 1 before (own.separation ++ (own.piece ++ next)) k.place (own.piece ++ next) column ks
 
 -- the text after a row that goes on
 pub spelled_more : (ws vs : List Written) (after after2 : List ℕ) → after ≡ spelled vs after2 → spelled ws after ≡ spelled (ws ++ vs) after2
@@ -85,8 +85,8 @@ is_open_more k i j row vs after after2 p q rest rest2 column column2 cut earlier
       number_is = o.number_is;
       is_node = o.is_node;
       is_solid = o.is_solid;
-      is_free = λ last. subst (λ t. IsRow first_account o.before (own.filler ++ (own.piece ++ t)) last) next (o.is_free last);
-      is_settled = λ n. subst (λ t. let bs : List (Option ℕ) = (account_past_row first_account o.before (own.filler ++ (own.piece ++ t))).blocks in settled n bs ≡ bs) next (o.is_settled n);
+      is_free = λ last. subst (λ t. IsRow first_account o.before (own.separation ++ (own.piece ++ t)) last) next (o.is_free last);
+      is_settled = λ n. subst (λ t. let bs : List (Option ℕ) = (account_past_row first_account o.before (own.separation ++ (own.piece ++ t))).blocks in settled n bs ≡ bs) next (o.is_settled n);
       place_is = o.place_is ∙ ap (λ t. (account_by o.before own t).place) next;
       is_earlier = earlier;
       live = lives;
@@ -109,10 +109,10 @@ open_more i j row vs after after2 p q rest rest2 column (Some k ∷ ks) cut n g 
 
 -- ---- keys that are given up
 
-pub same_nil : (c : Written) (t : List ℕ) → is_nil c.piece ≡ false → is_nil (c.piece ++ t) ≡ false
+pub same_nil : (c : Written) (t : List ℕ) → is_empty c.piece ≡ false → is_empty (c.piece ++ t) ≡ false
 same_nil c t e = by c.piece e
   where
-    by : (s : List ℕ) → is_nil s ≡ false → is_nil (s ++ t) ≡ false
+    by : (s : List ℕ) → is_empty s ≡ false → is_empty (s ++ t) ≡ false
     by [] h = absurd (cc h)
     by (x ∷ s) h = refl
 

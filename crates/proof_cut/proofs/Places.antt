@@ -1,8 +1,7 @@
 -- Places after texts.
 use Rattle.std.proofs.Common.{◌≡◌, ℕ, suc, ◌+◌, List, [], ◌∷◌, ◌++◌, Bool, true, false, if◌then◌else◌, length, refl, arith}
-use Rattle.defs_text.specs.Position.{Position}
+use Rattle.defs_text.specs.Position.{Position, position_past, position_after}
 use Rattle.defs_text.specs.Breaks.{ends_line}
-use Rattle.defs_text.specs.Position.{position_past, position_after}
 use Rattle.proof_cut.specs.Order.{NotBefore, After}
 
 pub not_before_same : (p : Position) → NotBefore p p

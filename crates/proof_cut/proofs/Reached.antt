@@ -1,18 +1,18 @@
 -- Where a run has come to in a text, and whether it met the stream's start.
 use Rattle.std.proofs.Common.{◌≡◌, ℕ, List, [], ◌∷◌, true, false, refl, ap, sym, subst}
-use Rattle.defs_text.specs.Text.{is_nil}
+use Rattle.defs_text.specs.Text.{is_empty}
 use Rattle.defs_token.specs.Token.{Token}
-use Rattle.model_scanner.specs.State.{State}
+use Rattle.model_scanner.specs.State.{ScannerState}
 use Rattle.model_scanner.specs.Run.{start, Reaches}
 use Rattle.proof_lexers.specs.PlainEnds.{has_no_nul}
 use Rattle.proof_cut.specs.Places.{IsWhere}
 use Rattle.proof_cut.proofs.RowPlaces.{stands_place}
 use Rattle.proof_cut.proofs.Fetched.{goes, over, Came, starts, fares, came}
 
-some_first : (ts more : List Token) (t : Token) → ts ≡ t ∷ more → is_nil ts ≡ false
-some_first ts more t e = ap is_nil e
+some_first : (ts more : List Token) (t : Token) → ts ≡ t ∷ more → is_empty ts ≡ false
+some_first ts more t e = ap is_empty e
 
-pub run_is_where : (text : List ℕ) (t : State) → has_no_nul text ≡ true → Reaches (start text) t → IsWhere text t
+pub run_is_where : (text : List ℕ) (t : ScannerState) → has_no_nul text ≡ true → Reaches (start text) t → IsWhere text t
 run_is_where text t nul run = by (came text nul (start text) t run (starts refl))
   where
     by : Came text t → IsWhere text t

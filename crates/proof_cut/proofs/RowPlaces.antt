@@ -1,45 +1,44 @@
--- The place after a row of pieces and a filler is that after the text that they spell.
+-- The place after a row of pieces and a separation is that after the text that they spell.
 use Rattle.std.proofs.Common.{◌≡◌, ℕ, List, [], ◌∷◌, ◌++◌, refl, ap, sym, ◌∙◌, subst, append_assoc, append-nil}
-use Rattle.defs_text.specs.Position.{Position}
-use Rattle.defs_text.specs.Position.{first_position, position_after}
+use Rattle.defs_text.specs.Position.{Position, first_position, position_after}
 use Rattle.defs_token.specs.Account.{Account, first_account}
 use Rattle.defs_token.specs.Cut.{Written, spelled, account_past, account_past_row}
-use Rattle.model_scanner.specs.State.{State}
+use Rattle.model_scanner.specs.State.{ScannerState}
 use Rattle.proof_lexers.proofs.Separation.Places.{place_append}
 use Rattle.proof_cut.specs.Here.{Here}
 use Rattle.proof_cut.specs.Places.{IsPlaceIn}
-use Rattle.proof_cut.specs.Stands.{Stands}
+use Rattle.proof_cut.specs.Stands.{FaresAt}
 
 spelled_before : (ws : List Written) (after : List ℕ) → spelled ws after ≡ spelled ws [] ++ after
 spelled_before [] after = refl
 spelled_before (w ∷ ws) after =
-    ap (λ t. w.filler ++ (w.piece ++ t)) (spelled_before ws after) ∙ ap (λ t. w.filler ++ t) (sym (append_assoc w.piece (spelled ws []) after)) ∙ sym (append_assoc w.filler (w.piece ++ spelled ws []) after)
+    ap (λ t. w.separation ++ (w.piece ++ t)) (spelled_before ws after) ∙ ap (λ t. w.separation ++ t) (sym (append_assoc w.piece (spelled ws []) after)) ∙ sym (append_assoc w.separation (w.piece ++ spelled ws []) after)
 
 row_place : (a : Account) (ws : List Written) (after : List ℕ) → (account_past_row a ws after).place ≡ position_after a.place (spelled ws []) after
 row_place a [] after = refl
 row_place a (w ∷ ws) after =
     let next : List ℕ = spelled ws after in
-    let p : Position = position_after a.place w.filler (w.piece ++ next) in
+    let p : Position = position_after a.place w.separation (w.piece ++ next) in
     row_place (account_past a w next) ws after ∙
-    ap (λ t. position_after (position_after (position_after a.place w.filler (w.piece ++ t)) w.piece t) (spelled ws []) after) (spelled_before ws after) ∙
-    sym (place_append (position_after a.place w.filler (w.piece ++ (spelled ws [] ++ after))) w.piece (spelled ws []) after) ∙
-    ap (λ t. position_after (position_after a.place w.filler t) (w.piece ++ spelled ws []) after) (sym (append_assoc w.piece (spelled ws []) after)) ∙
-    sym (place_append a.place w.filler (w.piece ++ spelled ws []) after)
+    ap (λ t. position_after (position_after (position_after a.place w.separation (w.piece ++ t)) w.piece t) (spelled ws []) after) (spelled_before ws after) ∙
+    sym (place_append (position_after a.place w.separation (w.piece ++ (spelled ws [] ++ after))) w.piece (spelled ws []) after) ∙
+    ap (λ t. position_after (position_after a.place w.separation t) (w.piece ++ spelled ws []) after) (sym (append_assoc w.piece (spelled ws []) after)) ∙
+    sym (place_append a.place w.separation (w.piece ++ spelled ws []) after)
 
 here_place : (text : List ℕ) (row : List Written) (after rest : List ℕ) (here : Account) → Here text row after rest here → IsPlaceIn text rest here.place
 here_place text row after rest here h = record {
-  before = spelled row [] ++ h.filler;
-  is_text = sym h.is_text ∙ ap (spelled row) h.is_after ∙ spelled_before row (h.filler ++ rest) ∙ sym (append_assoc (spelled row []) h.filler rest);
-  is_place = sym (ap (λ a. a.place) h.is_here) ∙ ap (λ q. position_after q h.filler rest) (row_place first_account row after ∙ ap (position_after first_position (spelled row [])) h.is_after)
-      ∙ sym (place_append first_position (spelled row []) h.filler rest);
+  before = spelled row [] ++ h.separation;
+  is_text = sym h.is_text ∙ ap (spelled row) h.is_after ∙ spelled_before row (h.separation ++ rest) ∙ sym (append_assoc (spelled row []) h.separation rest);
+  is_place = sym (ap (λ a. a.place) h.is_here) ∙ ap (λ q. position_after q h.separation rest) (row_place first_account row after ∙ ap (position_after first_position (spelled row [])) h.is_after)
+      ∙ sym (place_append first_position (spelled row []) h.separation rest);
 }
 
 -- between two fetches the place is that after the text that was passed
-pub stands_place : (text : List ℕ) (t : State) → Stands text t → IsPlaceIn text t.rest t.held.place
+pub stands_place : (text : List ℕ) (t : ScannerState) → FaresAt text t → IsPlaceIn text t.rest t.held.place
 stands_place text t s = here_place text s.stood.row s.stood.after t.rest _ s.stood.here
 
 -- at the text's end it is that after the whole text
-pub end_place : (text : List ℕ) (t : State) → t.rest ≡ [] → Stands text t → t.held.place ≡ position_after first_position text []
+pub end_place : (text : List ℕ) (t : ScannerState) → t.rest ≡ [] → FaresAt text t → t.held.place ≡ position_after first_position text []
 end_place text t none s =
     let p : IsPlaceIn text [] t.held.place = subst (λ r. IsPlaceIn text r t.held.place) none (stands_place text t s) in
     p.is_place ∙ ap (λ b. position_after first_position b []) (sym (append-nil p.before) ∙ sym p.is_text)

@@ -1,13 +1,12 @@
 -- A node's token, which may turn out to be a key: what the open keys are after it.
 use Rattle.std.proofs.Common.{◌≡◌, ℕ, suc, ◌+◌, List, [], ◌∷◌, ◌++◌, Bool, true, false, length, if◌then◌else◌, Option, Some, refl, ap, sym, ◌∙◌, subst, arith}
-use Rattle.defs_text.specs.Position.{Position}
+use Rattle.defs_text.specs.Position.{Position, position_after}
 use Rattle.defs_token.specs.Token.{Tok}
-use Rattle.defs_text.specs.Position.{position_after}
 use Rattle.defs_token.specs.Account.{Level, Account, first_account, settled}
 use Rattle.defs_token.specs.Piece.{begins_node}
 use Rattle.defs_token.specs.Cut.{Written, IsRow, spelled, tokens_of, account_past_row}
 use Rattle.model_scanner.specs.State.{Key, Held, with_top}
-use Rattle.model_scanner.specs.Keys.{save_simple_key, must_be_key}
+use Rattle.model_scanner.specs.Keys.{save_implicit_key, must_be_key}
 use Rattle.proof_cut.specs.Order.{NotBefore, After}
 use Rattle.proof_cut.specs.Here.{Here, IsLive, IsNotRight, account_in, AreOpen}
 use Rattle.proof_cut.proofs.Places.{not_before_same, weaker}
@@ -19,8 +18,8 @@ use Rattle.proof_cut.proofs.Opens.{Goes, GoesOn, Leads, open_more, open_outer}
 abbrev pub saved_keys : Held → List (Option Key)
 saved_keys s = (if s.key_allowed then with_top (Some (record { required = must_be_key s; number = length s.tokens; place = s.place })) s.keys else s.keys)
 
-pub saved_is : (s : Held) → save_simple_key s ≡ record s { keys = saved_keys s }
-unfolding save_simple_key
+pub saved_is : (s : Held) → save_implicit_key s ≡ record s { keys = saved_keys s }
+unfolding save_implicit_key
 saved_is s = by s.key_allowed refl
   where
     by : (b : Bool) → s.key_allowed ≡ b → (if b then record s { keys = with_top (Some (record { required = must_be_key s; number = length s.tokens; place = s.place })) s.keys } else s)
@@ -49,15 +48,15 @@ add_none n = omega arith
 
 pub open_saved : (text : List ℕ) (row : List Written) (after rest : List ℕ) (a : Account) (keys : List (Option Key)) (column : Option ℕ) (c : ℕ) (more after2 rest2 : List ℕ) (q at : Position) (t : Tok) (many : ℕ) (b : Bool) (k : Key) →
     (h : Here text row after rest a) → ((n : ℕ) → settled n a.blocks ≡ a.blocks) → AreOpen 0 row after a.place rest column keys → rest ≡ (c ∷ more) ++ after2 → After a.place q → begins_node (Some t) ≡ true → IsNotRight column a.place.col →
-    k.number ≡ suc (length row) → k.place ≡ a.place → Opens many a.place q rest2 (led h.filler (with_piece (c ∷ more) at t) ∷ []) →
-    AreOpen many (row ++ (led h.filler (with_piece (c ∷ more) at t) ∷ [])) after2 q rest2 column (if b then with_top (Some k) keys else keys)
+    k.number ≡ suc (length row) → k.place ≡ a.place → Opens many a.place q rest2 (led h.separation (with_piece (c ∷ more) at t) ∷ []) →
+    AreOpen many (row ++ (led h.separation (with_piece (c ∷ more) at t) ∷ [])) after2 q rest2 column (if b then with_top (Some k) keys else keys)
 open_saved text row after rest a keys column c more after2 rest2 q at t many b k h settles o cut later node right number place opens = by b keys o
   where
     own : Written
-    own = led h.filler (with_piece (c ∷ more) at t)
+    own = led h.separation (with_piece (c ∷ more) at t)
 
     on : after ≡ spelled (own ∷ []) after2
-    on = spelled_led after h.filler rest (with_piece (c ∷ more) at t) [] after2 h.is_after cut
+    on = spelled_led after h.separation rest (with_piece (c ∷ more) at t) [] after2 h.is_after cut
 
     goes : GoesOn rest2 rest
     goes e = rw cut (goes_first c more after2 rest2 e)
@@ -67,8 +66,8 @@ open_saved text row after rest a keys column c more after2 rest2 q at t many b k
 
     same_place : a.place ≡ (account_in row own [] after2).place
     same_place =
-        ap (λ x. x.place) (sym h.is_here) ∙ ap (λ r. position_after (account_past_row first_account row after).place h.filler r) cut ∙
-        ap (λ y. position_after (account_past_row first_account row y).place h.filler ((c ∷ more) ++ after2)) on
+        ap (λ x. x.place) (sym h.is_here) ∙ ap (λ r. position_after (account_past_row first_account row after).place h.separation r) cut ∙
+        ap (λ y. position_after (account_past_row first_account row y).place h.separation ((c ∷ more) ++ after2)) on
 
     same_blocks : a.blocks ≡ (account_past_row first_account row (spelled (own ∷ []) after2)).blocks
     same_blocks = ap (λ x. x.blocks) (sym h.is_here) ∙ ap (λ y. (account_past_row first_account row y).blocks) on

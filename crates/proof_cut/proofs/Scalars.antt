@@ -3,27 +3,27 @@ use Rattle.std.proofs.Common.{◌≡◌, ℕ, ◌+◌, ◌≤◌, List, [], ◌�
 use Rattle.std.proofs.lemmas.Bool.{and_parts}
 use Rattle.std.proofs.lemmas.Bool.Decides.{nat_tests}
 use Rattle.defs_text.specs.Position.{Position}
-use Rattle.defs_text.specs.Text.{is_nil}
+use Rattle.defs_text.specs.Text.{is_empty}
 use Rattle.yaml_tokens.specs.declared.problem.Fault.{Fault}
 use Rattle.defs_token.specs.Token.{Tok, Token}
 use Rattle.defs_text.specs.Classes.{is_break, is_blank}
-use Rattle.defs_token.specs.Filler.{is_filler}
-use Rattle.defs_token.specs.Account.{Level, Account, quoted, other, before_past, before_by, is_adjacent, is_empty, blocks_past, levels_past}
+use Rattle.defs_token.specs.Separation.{is_separation}
+use Rattle.defs_token.specs.Account.{Level, Account, quoted, other, before_past, before_by, is_adjacent, blocks_past, levels_past}
 use Rattle.defs_token.specs.Piece.{begins_node}
 use Rattle.model_lexers.specs.declared.context.SkipTabs.TheVariants.{Yes}
 use Rattle.model_lexers.specs.Machine.{Read}
 use Rattle.model_lexers.specs.Quoted as quotes
 use Rattle.model_lexers.specs.Block as blocks
 use Rattle.model_scanner.specs.Indents.{Levels, without_open, unroll_non_block_indents}
-use Rattle.model_scanner.specs.State.{Held, State, ◌>>=◌, push, token, on_held, go_on, lexed}
+use Rattle.model_scanner.specs.State.{Held, ScannerState, ◌>>=◌, push, token, on_held, go_on, lexed}
 use Rattle.model_scanner.specs.Keys.{must_be_key}
 use Rattle.model_scanner.specs.Space.{skip_to_next_token}
 use Rattle.model_scanner.specs.Flow.{allow_key}
 use Rattle.model_scanner.specs.Document.{unled, context, quoted_style, block_style, check_after_quoted, adjacent_here, fetch_flow_scalar, fetch_block_scalar}
 use Rattle.model_scanner.proofs.Holds.{Holds, went, refused, read, chained, choice}
-use Rattle.proof_lexers.specs.Fillers.{begins_filler}
+use Rattle.proof_lexers.specs.Separations.{begins_separation}
 use Rattle.proof_cut.specs.PiecesRead.{ReadAs}
-use Rattle.proof_cut.specs.Stands.{columns, levels_of, account_of, IsAdjacent, Stood, Fares, Stands}
+use Rattle.proof_cut.specs.Stands.{columns, levels_of, account_of, IsAdjacent, Stood, Fares, FaresAt}
 use Rattle.proof_cut.proofs.Pieces.Blocks.{block_is_read}
 use Rattle.proof_cut.proofs.Pieces.Quoted.{quoted_is_read}
 use Rattle.proof_cut.proofs.Heres.{led}
@@ -36,7 +36,7 @@ use Rattle.proof_cut.proofs.Nodes.{IsDeep, IsNeutral, neutral_single, neutral_do
 
 -- ---- quoted scalars
 
-quoted_checked : (line : ℕ) (t : State) → Holds (Passed t) (check_after_quoted line t)
+quoted_checked : (line : ℕ) (t : ScannerState) → Holds (Passed t) (check_after_quoted line t)
 unfolding check_after_quoted
 quoted_checked line t = chained (spaces_skipped Yes t) (λ u s. choice _ (went (passed_spaces Yes t u s)) refused)
 
@@ -44,13 +44,13 @@ pub same_number : (n : ℕ) → (n + 0 == n) ≡ true
 same_number n = grind (arith, nat_tests)
 
 -- right after a quoted scalar, at a token
-adjacent_quoted : (p : Position) (rest filler2 : List ℕ) → begins_filler rest ≡ false → IsAdjacent (before_past quoted filler2) p p.index rest
-adjacent_quoted p rest filler2 solid = λ filler r e k t. by filler r e k
+adjacent_quoted : (p : Position) (rest separation2 : List ℕ) → begins_separation rest ≡ false → IsAdjacent (before_past quoted separation2) p p.index rest
+adjacent_quoted p rest separation2 solid = λ separation r e k t. by separation r e k
   where
-    by : (filler r : List ℕ) → rest ≡ filler ++ r → is_filler false filler r ≡ true → is_adjacent (before_past (before_past quoted filler2) filler) ≡ ((p.index + length filler) == p.index)
+    by : (separation r : List ℕ) → rest ≡ separation ++ r → is_separation false separation r ≡ true → is_adjacent (before_past (before_past quoted separation2) separation) ≡ ((p.index + length separation) == p.index)
     by [] r e k = sym (same_number p.index)
     by (c ∷ f) r e k =
-        let a : (is_blank c || is_break c || (c == 35)) ≡ true = (and_parts (is_blank c || is_break c || (c == 35)) (is_filler (c == 35) f r) k).0 in
+        let a : (is_blank c || is_break c || (c == 35)) ≡ true = (and_parts (is_blank c || is_break c || (c == 35)) (is_separation (c == 35) f r) k).0 in
         let b : (is_blank c || is_break c || (c == 35)) ≡ false = rw e at solid in
         absurd (cc (a, b))
 
@@ -58,32 +58,32 @@ quoted_opens : (single : Bool) (x : List ℕ) → IsNeutral (Tok.scalar (quoted_
 quoted_opens true x = (neutral_single x, refl)
 quoted_opens false x = (neutral_double x, refl)
 
-quoted_stood : (text : List ℕ) (single : Bool) (t : State) (more : List ℕ) → t.rest ≡ quotes.quote_of single ∷ more → (s : Stands text t) → IsDeep t.held → (x : Read (List ℕ)) → quotes.quoted single (context t.held) t.rest t.held.place ≡ Ok x →
-    (filler : List ℕ) × Stood text x.rest x.place (t.held.tokens ++ token t.held.place (Tok.scalar (quoted_style single) x.value) ∷ []) (saved_keys t.held) t.held.indents t.held.indent t.held.flow (before_past quoted filler)
+quoted_stood : (text : List ℕ) (single : Bool) (t : ScannerState) (more : List ℕ) → t.rest ≡ quotes.quote_of single ∷ more → (s : FaresAt text t) → IsDeep t.held → (x : Read (List ℕ)) → quotes.quoted single (context t.held) t.rest t.held.place ≡ Ok x →
+    (separation : List ℕ) × Stood text x.rest x.place (t.held.tokens ++ token t.held.place (Tok.scalar (quoted_style single) x.value) ∷ []) (saved_keys t.held) t.held.indents t.held.indent t.held.flow (before_past quoted separation)
 quoted_stood text single t more e s deep x k =
     let a : Account = account_now text t s in
     let tok : Tok = Tok.scalar (quoted_style single) x.value in
     let m : IsNeutral tok × (before_by tok ≡ quoted) = quoted_opens single x.value in
     let r : ReadAs a t.rest tok t.held.place x.rest x.place =
     subst (λ r. ReadAs a r tok t.held.place x.rest x.place) (sym e) (quoted_is_read a single (context t.held) more x (clean_more text t _ more e s) (subst (λ r. quotes.quoted single (context t.held) r t.held.place ≡ Ok x) e k)) in (
-      r.filler,
-      subst (λ b. Stood text x.rest x.place (t.held.tokens ++ token t.held.place tok ∷ []) (saved_keys t.held) t.held.indents t.held.indent t.held.flow (before_past b r.filler)) m.1
+      r.separation,
+      subst (λ b. Stood text x.rest x.place (t.held.tokens ++ token t.held.place tok ∷ []) (saved_keys t.held) t.held.indents t.held.indent t.held.flow (before_past b r.separation)) m.1
           (node_stood text t.rest t.held.place t.held.tokens t.held.keys t.held.indents t.held.indent t.held.flow s.before s.stood tok t.held.place x.rest x.place r
           m.0.node deep (m.0.blocks (columns t.held.indent t.held.indents)) (m.0.levels (levels_of t.held.flow) r.first r.more)
-          (opens_none t.held.place x.place x.rest s.stood.here.filler (r.first ∷ r.more) t.held.place tok (λ ns. m.0.steps ns r.first r.more)) t.held.key_allowed (must_be_key t.held)),
+          (opens_none t.held.place x.place x.rest s.stood.here.separation (r.first ∷ r.more) t.held.place tok (λ ns. m.0.steps ns r.first r.more)) t.held.key_allowed (must_be_key t.held)),
     )
 
 -- what the model does after the closing quote
-abbrev after_body : Bool → State → List ℕ → State → Result State Fault
+abbrev after_body : Bool → ScannerState → List ℕ → ScannerState → Result ScannerState Fault
 after_body single t x u =
     check_after_quoted t.held.place.line (on_held unled u) >>= λ v.
     skip_to_next_token v >>= λ w.
     Ok (on_held (λ s. push t.held.place (Tok.scalar (quoted_style single) x) (adjacent_here s)) w)
 
-pub flow_scalar_fetched : (text : List ℕ) (single : Bool) (t : State) (more : List ℕ) → t.rest ≡ quotes.quote_of single ∷ more → Stands text t → IsDeep t.held → Holds (Stands text) (fetch_flow_scalar single t)
+pub flow_scalar_fetched : (text : List ℕ) (single : Bool) (t : ScannerState) (more : List ℕ) → t.rest ≡ quotes.quote_of single ∷ more → FaresAt text t → IsDeep t.held → Holds (FaresAt text) (fetch_flow_scalar single t)
 unfolding fetch_flow_scalar
 flow_scalar_fetched text single t more e s deep =
-    subst (λ h. Holds (Stands text) (lexed (quotes.quoted single (context (allow_key false h)) t.rest t.held.place) (allow_key false h) (after_body single t))) (sym (saved_is t.held))
+    subst (λ h. Holds (FaresAt text) (lexed (quotes.quoted single (context (allow_key false h)) t.rest t.held.place) (allow_key false h) (after_body single t))) (sym (saved_is t.held))
     (read (allow_key false now) (quotes.quoted single (context t.held) t.rest t.held.place) (after_body single t) (λ x k.
     chained (quoted_checked t.held.place.line (after x)) (λ v a.
     chained (to_token v) (λ w b. went (fares x k v w a b)))))
@@ -91,15 +91,15 @@ flow_scalar_fetched text single t more e s deep =
     now : Held
     now = record t.held { keys = saved_keys t.held }
 
-    after : Read (List ℕ) → State
+    after : Read (List ℕ) → ScannerState
     after x = on_held unled (go_on x (allow_key false now))
 
-    fares : (x : Read (List ℕ)) → quotes.quoted single (context t.held) t.rest t.held.place ≡ Ok x → (v w : State) → Passed (after x) v → PassedAll v w →
-        Stands text (on_held (λ s. push t.held.place (Tok.scalar (quoted_style single) x.value) (adjacent_here s)) w)
+    fares : (x : Read (List ℕ)) → quotes.quoted single (context t.held) t.rest t.held.place ≡ Ok x → (v w : ScannerState) → Passed (after x) v → PassedAll v w →
+        FaresAt text (on_held (λ s. push t.held.place (Tok.scalar (quoted_style single) x.value) (adjacent_here s)) w)
     fares x k v w a b =
         let tok : Token = token t.held.place (Tok.scalar (quoted_style single) x.value) in
         let tokens : List Token = t.held.tokens ++ tok ∷ [] in
-        let q : (filler : List ℕ) × Stood text x.rest x.place tokens (saved_keys t.held) t.held.indents t.held.indent t.held.flow (before_past quoted filler) = quoted_stood text single t more e s deep x k in
+        let q : (separation : List ℕ) × Stood text x.rest x.place tokens (saved_keys t.held) t.held.indents t.held.indent t.held.flow (before_past quoted separation) = quoted_stood text single t more e s deep x k in
         let c : Passed (after x) w = passed_both (after x) v w a b.passed in
         let at_w : Stood text w.rest w.held.place tokens (saved_keys t.held) t.held.indents t.held.indent t.held.flow quoted =
         stood_passed text (after x) w tokens (saved_keys t.held) t.held.indents t.held.indent t.held.flow (before_past quoted q.0) c q.1 in
@@ -110,7 +110,7 @@ flow_scalar_fetched text single t more e s deep =
 
 -- no key is live after a block scalar
 block_opens : (p q : Position) (rest2 f piece : List ℕ) (at : Position) (tok : Tok) → (rest2 ≡ []) ⊎ (nat_lt p.line q.line ≡ true) → Opens 0 p q rest2 (led f (with_piece piece at tok) ∷ [])
-block_opens p q rest2 f piece at tok (inl e) = λ k n l ns. absurd (cc (ap is_nil e, l.1))
+block_opens p q rest2 f piece at tok (inl e) = λ k n l ns. absurd (cc (ap is_empty e, l.1))
 block_opens p q rest2 f piece at tok (inr e) = λ k n l ns. absurd (later (k.place.line) p.line q.line n.0 l.0 e)
   where
     later : (x y z : ℕ) → x ≤ y → z ≤ x → nat_lt y z ≡ true → ⊥
@@ -121,7 +121,7 @@ block_node : (literal : Bool) (x : List ℕ) (bs : List (Option ℕ)) (ls : List
 block_node true x bs ls c more = (refl, refl, refl, refl)
 block_node false x bs ls c more = (refl, refl, refl, refl)
 
-block_fares : (text : List ℕ) (literal : Bool) (t : State) (more : List ℕ) → t.rest ≡ (if literal then 124 else 62) ∷ more → is_nil t.held.flow ≡ true → (s : Stands text t) → IsDeep t.held → (x : Read blocks.Block) →
+block_fares : (text : List ℕ) (literal : Bool) (t : ScannerState) (more : List ℕ) → t.rest ≡ (if literal then 124 else 62) ∷ more → is_empty t.held.flow ≡ true → (s : FaresAt text t) → IsDeep t.held → (x : Read blocks.Block) →
     blocks.block literal (levels_gone t.held).indent t.rest t.held.place ≡ Ok x →
     Fares text x.rest x.place ((levels_gone t.held).tokens ++ token x.value.place (Tok.scalar (block_style literal) x.value.text) ∷ []) (saved_keys t.held) (levels_gone t.held).indents (levels_gone t.held).indent t.held.flow t.held.adjacent_value_at
 unfolding levels_gone
@@ -140,11 +140,11 @@ block_fares text literal t more e out s deep x k =
     block_node literal x.value.text (columns u.indent u.indents) (levels_of t.held.flow) r.first r.more in
     subst (λ ts. Fares text x.rest x.place (ts ++ token x.value.place tok ∷ []) (saved_keys t.held) u.indents u.indent t.held.flow t.held.adjacent_value_at) (sym w.same_tokens)
     (node_fares text t.rest t.held.place t.held.tokens t.held.keys u.indents u.indent t.held.flow s.before t.held.adjacent_value_at v s.was_adjacent tok x.value.place x.rest x.place r
-    m.0 deep2 m.1 m.2 m.3 (block_opens t.held.place x.place x.rest v.here.filler (r.first ∷ r.more) x.value.place tok both.1) t.held.key_allowed (must_be_key t.held))
+    m.0 deep2 m.1 m.2 m.3 (block_opens t.held.place x.place x.rest v.here.separation (r.first ∷ r.more) x.value.place tok both.1) t.held.key_allowed (must_be_key t.held))
 
-pub block_fetched : (text : List ℕ) (literal : Bool) (t : State) (more : List ℕ) → t.rest ≡ (if literal then 124 else 62) ∷ more → is_nil t.held.flow ≡ true → Stands text t → IsDeep t.held → Holds (Stands text) (fetch_block_scalar literal t)
+pub block_fetched : (text : List ℕ) (literal : Bool) (t : ScannerState) (more : List ℕ) → t.rest ≡ (if literal then 124 else 62) ∷ more → is_empty t.held.flow ≡ true → FaresAt text t → IsDeep t.held → Holds (FaresAt text) (fetch_block_scalar literal t)
 unfolding fetch_block_scalar unroll_non_block_indents levels_gone
 block_fetched text literal t more e out s deep =
-    subst (λ h. Holds (Stands text) (lexed (blocks.block literal (unroll_non_block_indents (allow_key true h)).indent t.rest t.held.place) (unroll_non_block_indents (allow_key true h))
+    subst (λ h. Holds (FaresAt text) (lexed (blocks.block literal (unroll_non_block_indents (allow_key true h)).indent t.rest t.held.place) (unroll_non_block_indents (allow_key true h))
     (λ b u. Ok (on_held (λ v. push b.place (Tok.scalar (block_style literal) b.text) (record v { leading = true })) u)))) (sym (saved_is t.held))
     (read (unroll_non_block_indents (allow_key true (record t.held { keys = saved_keys t.held }))) (blocks.block literal (levels_gone t.held).indent t.rest t.held.place) _ (λ x k. went (block_fares text literal t more e out s deep x k)))

@@ -1,10 +1,9 @@
 -- What was passed of a text, as the place, the levels and the keys change.
 use Rattle.std.proofs.Common.{◌≡◌, ℕ, suc, ◌+◌, ◌-◌, ◌≤◌, List, [], ◌∷◌, ◌++◌, Bool, true, false, ◌==◌, length, if◌then◌else◌, Option, Some, refl, ap, sym, ◌∙◌, subst, arith, append_assoc, length-append}
-use Rattle.defs_text.specs.Position.{Position}
-use Rattle.defs_text.specs.Text.{is_nil}
+use Rattle.defs_text.specs.Position.{Position, position_after}
+use Rattle.defs_text.specs.Text.{is_empty}
 use Rattle.defs_token.specs.Token.{Tok, Token}
-use Rattle.defs_text.specs.Position.{position_after}
-use Rattle.defs_token.specs.Filler.{is_filler}
+use Rattle.defs_token.specs.Separation.{is_separation}
 use Rattle.defs_token.specs.Account.{Level, Account, Before, before_past, before_by, is_adjacent, settled, blocks_past, levels_past, innermost_column}
 use Rattle.defs_token.specs.Piece.{IsPiece, begins_node}
 use Rattle.defs_token.specs.Cut.{Written, tokens_of, start_token}
@@ -17,23 +16,23 @@ use Rattle.proof_cut.specs.Order.{After}
 use Rattle.proof_cut.specs.Here.{Here, IsNotRight, AreOpen}
 use Rattle.proof_cut.specs.Stands.{columns, AreLevels, IsLevel, levels_of, account_of, IsAdjacent, Stood}
 use Rattle.proof_cut.proofs.Places.{not_before_after, index_after, is_after, after_then}
-use Rattle.proof_cut.proofs.Pieces.Fillers.{filler_append}
+use Rattle.proof_cut.proofs.Pieces.Separations.{separation_append}
 use Rattle.proof_cut.proofs.Heres.{here_filled, led, before_both}
 use Rattle.proof_cut.proofs.Pushed.{with_piece, same_account, columns_settled, here_token, here_two, with_blocks, past_empty}
 use Rattle.proof_cut.proofs.Opens.{GoesOn, open_moved}
 use Rattle.proof_cut.proofs.Saved.{Opens, open_saved, length_tokens}
 
--- ---- fillers
+-- ---- separations
 
 goes_after : (g rest rest2 : List ℕ) → rest ≡ g ++ rest2 → GoesOn rest2 rest
 goes_after g rest rest2 e h = rw e (by g)
   where
-    by : (g : List ℕ) → is_nil (g ++ rest2) ≡ false
+    by : (g : List ℕ) → is_empty (g ++ rest2) ≡ false
     by [] = h
     by (c ∷ g) = refl
 
 pub stood_filled : (text rest : List ℕ) (p : Position) (tokens : List Token) (keys : List (Option Key)) (indents : List Indent) (indent : ℕ) (flow : List FlowLevel) (before : Before) (g rest2 : List ℕ) →
-    rest ≡ g ++ rest2 → is_filler false g rest2 ≡ true → Stood text rest p tokens keys indents indent flow before → Stood text rest2 (position_after p g rest2) tokens keys indents indent flow (before_past before g)
+    rest ≡ g ++ rest2 → is_separation false g rest2 ≡ true → Stood text rest p tokens keys indents indent flow before → Stood text rest2 (position_after p g rest2) tokens keys indents indent flow (before_past before g)
 stood_filled text rest p tokens keys indents indent flow before g rest2 cut f s = record {
   begin = s.begin;
   row = s.row;
@@ -45,12 +44,12 @@ stood_filled text rest p tokens keys indents indent flow before g rest2 cut f s 
   are_open = open_moved 0 s.row s.after p (position_after p g rest2) rest rest2 (innermost_column (columns indent indents)) keys (not_before_after p g rest2) (goes_after g rest rest2 cut) s.are_open;
 }
 
-pub adjacent_filled : (before : Before) (p : Position) (adj : ℕ) (rest g rest2 : List ℕ) → rest ≡ g ++ rest2 → is_filler false g rest2 ≡ true → IsAdjacent before p adj rest → IsAdjacent (before_past before g) (position_after p g rest2) adj rest2
-adjacent_filled before p adj rest g rest2 cut f a = λ filler r e k t.
-    let fills : is_filler false g (filler ++ r) ≡ true = rw e at f in
-    let known : is_adjacent (before_past before (g ++ filler)) ≡ ((p.index + length (g ++ filler)) == adj) = a (g ++ filler) r (cut ∙ ap (λ x. g ++ x) e ∙ sym (append_assoc g filler r)) (filler_append false g filler r fills k) t in
-    let many : p.index + length (g ++ filler) ≡ (position_after p g rest2).index + length filler = rw (length-append g filler, index_after p g rest2) (omega arith) in
-    ap is_adjacent (before_both before g filler) ∙ known ∙ ap (λ x. x == adj) many
+pub adjacent_filled : (before : Before) (p : Position) (adj : ℕ) (rest g rest2 : List ℕ) → rest ≡ g ++ rest2 → is_separation false g rest2 ≡ true → IsAdjacent before p adj rest → IsAdjacent (before_past before g) (position_after p g rest2) adj rest2
+adjacent_filled before p adj rest g rest2 cut f a = λ separation r e k t.
+    let fills : is_separation false g (separation ++ r) ≡ true = rw e at f in
+    let known : is_adjacent (before_past before (g ++ separation)) ≡ ((p.index + length (g ++ separation)) == adj) = a (g ++ separation) r (cut ∙ ap (λ x. g ++ x) e ∙ sym (append_assoc g separation r)) (separation_append false g separation r fills k) t in
+    let many : p.index + length (g ++ separation) ≡ (position_after p g rest2).index + length separation = rw (length-append g separation, index_after p g rest2) (omega arith) in
+    ap is_adjacent (before_both before g separation) ∙ known ∙ ap (λ x. x == adj) many
 
 -- ---- levels of indentation
 
@@ -97,32 +96,32 @@ number_of begin row tokens e = ap length e ∙ ap suc (length_tokens row)
 
 pub read_later : (a : Account) (rest : List ℕ) (tok : Tok) (at : Position) (rest2 : List ℕ) (end : Position) → ReadAs a rest tok at rest2 end → After a.place end
 read_later a rest tok at rest2 end r =
-    let q : Position = position_after a.place (r.first ∷ r.more) (r.filler ++ rest2) in
+    let q : Position = position_after a.place (r.first ∷ r.more) (r.separation ++ rest2) in
     subst (λ x. After a.place x) (sym r.is_end)
-    (after_then a.place q (position_after q r.filler rest2) (is_after a.place r.first r.more (r.filler ++ rest2)) (not_before_after q r.filler rest2))
+    (after_then a.place q (position_after q r.separation rest2) (is_after a.place r.first r.more (r.separation ++ rest2)) (not_before_after q r.separation rest2))
 
 -- A token with its piece, whatever it opens and closes of flow.
 pub piece_stood : (text rest : List ℕ) (p : Position) (tokens : List Token) (keys : List (Option Key)) (indents : List Indent) (indent : ℕ) (flow : List FlowLevel) (before : Before)
     (s : Stood text rest p tokens keys indents indent flow before) (tok : Tok) (at : Position) (rest2 : List ℕ) (end : Position) (r : ReadAs (account_of p indent indents flow before) rest tok at rest2 end) →
     blocks_past (columns indent indents) tok ≡ columns indent indents → (flow2 : List FlowLevel) → levels_past (levels_of flow) (r.first ∷ r.more) tok ≡ levels_of flow2 →
     (keys2 : List (Option Key)) → length keys2 ≡ suc (length flow2) →
-    AreOpen 0 (s.row ++ (led s.here.filler (with_piece (r.first ∷ r.more) at tok) ∷ [])) (r.filler ++ rest2) end rest2 (innermost_column (columns indent indents)) keys2 →
-    Stood text rest2 end (tokens ++ token at tok ∷ []) keys2 indents indent flow2 (before_past (before_by tok) r.filler)
+    AreOpen 0 (s.row ++ (led s.here.separation (with_piece (r.first ∷ r.more) at tok) ∷ [])) (r.separation ++ rest2) end rest2 (innermost_column (columns indent indents)) keys2 →
+    Stood text rest2 end (tokens ++ token at tok ∷ []) keys2 indents indent flow2 (before_past (before_by tok) r.separation)
 piece_stood text rest p tokens keys indents indent flow before s tok at rest2 end r blocks flow2 levels keys2 many opened =
     let a : Account = account_of p indent indents flow before in
     let bs : List (Option ℕ) = columns indent indents in
-    let w : Written = led s.here.filler (with_piece (r.first ∷ r.more) at tok) in
-    let b : Before = before_past (before_by tok) r.filler in
-    let q : Position = position_after (position_after p (r.first ∷ r.more) (r.filler ++ rest2)) r.filler rest2 in
+    let w : Written = led s.here.separation (with_piece (r.first ∷ r.more) at tok) in
+    let b : Before = before_past (before_by tok) r.separation in
+    let q : Position = position_after (position_after p (r.first ∷ r.more) (r.separation ++ rest2)) r.separation rest2 in
     let same : ◌≡◌ {A = Account} (record { place = q; blocks = blocks_past bs tok; levels = levels_past (levels_of flow) (r.first ∷ r.more) tok; before = b }) (account_of end indent indents flow2 b) =
     same_account q end (blocks_past bs tok) bs (levels_past (levels_of flow) (r.first ∷ r.more) tok) (levels_of flow2) b b (sym r.is_end) blocks levels refl in
     record {
       begin = s.begin;
       row = s.row ++ (w ∷ []);
-      after = r.filler ++ rest2;
+      after = r.separation ++ rest2;
       tokens_are = tokens_more s.begin s.row w tokens s.tokens_are;
-      here = subst (λ x. Here text (s.row ++ (w ∷ [])) (r.filler ++ rest2) rest2 x) same
-          (here_token text s.row s.after rest a bs r.first r.more r.filler rest2 at tok r.is_text r.is_filled (columns_settled p.col indent indents) r.is_piece s.here);
+      here = subst (λ x. Here text (s.row ++ (w ∷ [])) (r.separation ++ rest2) rest2 x) same
+          (here_token text s.row s.after rest a bs r.first r.more r.separation rest2 at tok r.is_text r.is_filled (columns_settled p.col indent indents) r.is_piece s.here);
       are_levels = s.are_levels;
       one_each = many;
       are_open = opened;
@@ -132,13 +131,13 @@ piece_stood text rest p tokens keys indents indent flow before s tok at rest2 en
 pub node_stood : (text rest : List ℕ) (p : Position) (tokens : List Token) (keys : List (Option Key)) (indents : List Indent) (indent : ℕ) (flow : List FlowLevel) (before : Before)
     (s : Stood text rest p tokens keys indents indent flow before) (tok : Tok) (at : Position) (rest2 : List ℕ) (end : Position) (r : ReadAs (account_of p indent indents flow before) rest tok at rest2 end) →
     begins_node (Some tok) ≡ true → indent ≤ p.col + 1 → blocks_past (columns indent indents) tok ≡ columns indent indents → levels_past (levels_of flow) (r.first ∷ r.more) tok ≡ levels_of flow →
-    Opens 0 p end rest2 (led s.here.filler (with_piece (r.first ∷ r.more) at tok) ∷ []) → (allowed required : Bool) →
-    Stood text rest2 end (tokens ++ token at tok ∷ []) (with_saved allowed required (length tokens) p keys) indents indent flow (before_past (before_by tok) r.filler)
+    Opens 0 p end rest2 (led s.here.separation (with_piece (r.first ∷ r.more) at tok) ∷ []) → (allowed required : Bool) →
+    Stood text rest2 end (tokens ++ token at tok ∷ []) (with_saved allowed required (length tokens) p keys) indents indent flow (before_past (before_by tok) r.separation)
 node_stood text rest p tokens keys indents indent flow before s tok at rest2 end r node deep blocks levels opens allowed required =
     let a : Account = account_of p indent indents flow before in
     let q : List (Option Key) = with_saved allowed required (length tokens) p keys in
     piece_stood text rest p tokens keys indents indent flow before s tok at rest2 end r blocks flow levels q (length_saved allowed required (length tokens) p keys ∙ s.one_each)
-    (open_saved text s.row s.after rest a keys (innermost_column (columns indent indents)) r.first r.more (r.filler ++ rest2) rest2 end at tok 0 allowed (record { required = required; number = length tokens; place = p })
+    (open_saved text s.row s.after rest a keys (innermost_column (columns indent indents)) r.first r.more (r.separation ++ rest2) rest2 end at tok 0 allowed (record { required = required; number = length tokens; place = p })
     s.here (λ n. columns_settled n indent indents) s.are_open r.is_text (read_later a rest tok at rest2 end r) node (not_right p.col indent indents s.are_levels deep) (number_of s.begin s.row tokens s.tokens_are) refl opens)
 
 tokens_two : (begin : Position) (row : List Written) (v w : Written) (tokens : List Token) → tokens ≡ start_token begin ∷ tokens_of row → (tokens ++ v.token ∷ []) ++ w.token ∷ [] ≡ start_token begin ∷ tokens_of (row ++ (v ∷ w ∷ []))
@@ -147,18 +146,18 @@ tokens_two begin row v w tokens e =
 
 -- A token without a piece, and an indicator with its own.
 pub two_stood : (text : List ℕ) (c : ℕ) (more : List ℕ) (p : Position) (tokens : List Token) (keys : List (Option Key)) (indents : List Indent) (indent : ℕ) (flow : List FlowLevel) (before : Before)
-    (s : Stood text (c ∷ more) p tokens keys indents indent flow before) (tok tok2 : Tok) (at at2 : Position) (g rest2 : List ℕ) (end : Position) → more ≡ g ++ rest2 → is_filler false g rest2 ≡ true →
+    (s : Stood text (c ∷ more) p tokens keys indents indent flow before) (tok tok2 : Tok) (at at2 : Position) (g rest2 : List ℕ) (end : Position) → more ≡ g ++ rest2 → is_separation false g rest2 ≡ true →
     end ≡ position_after (position_after p (c ∷ []) (g ++ rest2)) g rest2 → (indents2 : List Indent) (indent2 : ℕ) → AreLevels indent2 indents2 → settled p.col (blocks_past (columns indent indents) tok) ≡ columns indent2 indents2 →
     IsPiece (account_of p indent indents flow before) [] (c ∷ (g ++ rest2)) (Some tok2) at tok →
     ((last : Option Tok) → IsPiece (with_blocks (columns indent2 indents2) (past_empty (account_of p indent indents flow before) tok)) (c ∷ []) (g ++ rest2) last at2 tok2) →
     blocks_past (columns indent2 indents2) tok2 ≡ columns indent2 indents2 → (flow2 : List FlowLevel) → levels_past (levels_past (levels_of flow) [] tok) (c ∷ []) tok2 ≡ levels_of flow2 →
     (keys2 : List (Option Key)) → length keys2 ≡ suc (length flow2) →
-    AreOpen 0 (s.row ++ (led s.here.filler (with_piece [] at tok) ∷ with_piece (c ∷ []) at2 tok2 ∷ [])) (g ++ rest2) end rest2 (innermost_column (columns indent2 indents2)) keys2 →
+    AreOpen 0 (s.row ++ (led s.here.separation (with_piece [] at tok) ∷ with_piece (c ∷ []) at2 tok2 ∷ [])) (g ++ rest2) end rest2 (innermost_column (columns indent2 indents2)) keys2 →
     Stood text rest2 end ((tokens ++ token at tok ∷ []) ++ token at2 tok2 ∷ []) keys2 indents2 indent2 flow2 (before_past (before_by tok2) g)
 two_stood text c more p tokens keys indents indent flow before s tok tok2 at at2 g rest2 end cut f is_end indents2 indent2 are settles first second blocks flow2 levels keys2 many opened =
     let a : Account = account_of p indent indents flow before in
     let bs : List (Option ℕ) = columns indent2 indents2 in
-    let v : Written = led s.here.filler (with_piece [] at tok) in
+    let v : Written = led s.here.separation (with_piece [] at tok) in
     let w : Written = with_piece (c ∷ []) at2 tok2 in
     let b : Before = before_past (before_by tok2) g in
     let q : Position = position_after (position_after p (c ∷ []) (g ++ rest2)) g rest2 in

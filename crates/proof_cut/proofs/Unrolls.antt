@@ -2,16 +2,16 @@
 use Rattle.std.proofs.Common.{◌≡◌, ℕ, suc, ◌+◌, ◌-◌, ◌<◌, ◌≤◌, List, [], ◌∷◌, ◌++◌, Bool, true, false, not, length, drop, nat_lt, if◌then◌else◌, Option, Some, None, refl, ap, sym, ◌∙◌, subst, arith}
 use Rattle.std.proofs.lemmas.Bool.Decides.{nat_tests}
 use Rattle.defs_text.specs.Position.{Position}
-use Rattle.defs_text.specs.Text.{is_nil}
+use Rattle.defs_text.specs.Text.{is_empty}
 use Rattle.defs_token.specs.Token.{Tok, Token}
-use Rattle.defs_token.specs.Account.{Account, Before, is_empty, innermost_column}
+use Rattle.defs_token.specs.Account.{Account, Before, innermost_column}
 use Rattle.defs_token.specs.Cut.{Written, spelled}
 use Rattle.model_scanner.specs.declared.level.Indent.{Indent}
 use Rattle.model_scanner.specs.declared.level.FlowLevel.{FlowLevel}
-use Rattle.model_scanner.specs.State.{Key, Held, State, token, on_held}
+use Rattle.model_scanner.specs.State.{Key, Held, ScannerState, token, on_held}
 use Rattle.model_scanner.specs.Indents.{Levels, with_levels, end_level, unrolled, unroll_indent}
 use Rattle.proof_cut.specs.Here.{Here, IsLive, IsNotRight, AreOpen}
-use Rattle.proof_cut.specs.Stands.{columns, levels_of, account_of, Stood, Fares, Stands}
+use Rattle.proof_cut.specs.Stands.{columns, levels_of, account_of, Stood, Fares, FaresAt}
 use Rattle.proof_cut.proofs.Heres.{led}
 use Rattle.proof_cut.proofs.Opens.{is_open_more}
 use Rattle.proof_cut.proofs.Pushed.{with_piece, past_empty, here_empty}
@@ -42,11 +42,11 @@ dead_more row vs after after2 p rest column column2 (Some k ∷ []) one cut dead
 
 -- ---- one end
 
-pub outside_now : (flow : List FlowLevel) → is_nil flow ≡ true → not (is_empty (levels_of flow)) ≡ false
+pub outside_now : (flow : List FlowLevel) → is_empty flow ≡ true → not (is_empty (levels_of flow)) ≡ false
 outside_now flow out = same_flow flow ∙ ap not out
 
 -- the tokens of the ends have a place of their own
-module _ (text rest : List ℕ) (p at : Position) (keys : List (Option Key)) (flow : List FlowLevel) (before : Before) (out : is_nil flow ≡ true) where
+module _ (text rest : List ℕ) (p at : Position) (keys : List (Option Key)) (flow : List FlowLevel) (before : Before) (out : is_empty flow ≡ true) where
   columns_now : (i : ℕ) (d : Indent) (ds : List Indent) → d.needs_block_end ≡ true → columns i (d ∷ ds) ≡ Some (i - 1) ∷ columns d.indent ds
   columns_now i d ds e = rw e refl
 
@@ -59,14 +59,14 @@ module _ (text rest : List ℕ) (p at : Position) (keys : List (Option Key)) (fl
       let same : past_empty a Tok.block_end ≡ account_of p d.indent ds flow before = ap (λ bs. record { place = p; blocks = drop 1 bs; levels = levels_of flow; before = before }) cols in
       record {
         begin = s.begin;
-        row = s.row ++ (led s.here.filler w ∷ []);
+        row = s.row ++ (led s.here.separation w ∷ []);
         after = rest;
-        tokens_are = tokens_more s.begin s.row (led s.here.filler w) tokens s.tokens_are;
-        here = subst (λ b. Here text (s.row ++ (led s.here.filler w ∷ [])) rest rest b) same
+        tokens_are = tokens_more s.begin s.row (led s.here.separation w) tokens s.tokens_are;
+        here = subst (λ b. Here text (s.row ++ (led s.here.separation w ∷ [])) rest rest b) same
             (here_empty text s.row s.after rest a at Tok.block_end (λ last. (refl, outside_now flow out, ap (λ bs. not (is_empty bs)) cols)) s.here);
         are_levels = s.are_levels.1;
         one_each = s.one_each;
-        are_open = dead_more s.row (led s.here.filler w ∷ []) s.after rest p rest (innermost_column (columns i (d ∷ ds))) (innermost_column (columns d.indent ds)) keys (s.one_each ∙ ap suc (nil_length flow out)) s.here.is_after dead s.are_open;
+        are_open = dead_more s.row (led s.here.separation w ∷ []) s.after rest p rest (innermost_column (columns i (d ∷ ds))) (innermost_column (columns d.indent ds)) keys (s.one_each ∙ ap suc (nil_length flow out)) s.here.is_after dead s.are_open;
       }
 
   -- a level that opens no collection
@@ -97,27 +97,27 @@ module _ (text rest : List ℕ) (p at : Position) (keys : List (Option Key)) (fl
 
 -- ---- after the ends
 
-pub unrolled_in_flow : (limit : ℕ) (s : Held) → is_nil s.flow ≡ false → unroll_indent limit s ≡ s
+pub unrolled_in_flow : (limit : ℕ) (s : Held) → is_empty s.flow ≡ false → unroll_indent limit s ≡ s
 unfolding unroll_indent
 unrolled_in_flow limit s e = rw e refl
 
-pub unrolled_outside : (limit : ℕ) (s : Held) → is_nil s.flow ≡ true → unroll_indent limit s ≡ with_levels s (unrolled limit s.place s.indent s.indents s.tokens)
+pub unrolled_outside : (limit : ℕ) (s : Held) → is_empty s.flow ≡ true → unroll_indent limit s ≡ with_levels s (unrolled limit s.place s.indent s.indents s.tokens)
 unfolding unroll_indent
 unrolled_outside limit s e = rw e refl
 
 -- after the ends the account is one that is held, and outside flow no level is deeper than the limit
-pub record UnrolledTo (text : List ℕ) (t : State) (limit : ℕ) : Type 0 where
-  pub stands : Stands text (on_held (unroll_indent limit) t)
+pub record UnrolledTo (text : List ℕ) (t : ScannerState) (limit : ℕ) : Type 0 where
+  pub stands : FaresAt text (on_held (unroll_indent limit) t)
   pub indents : List Indent
   pub indent : ℕ
   pub tokens : List Token
   pub is_held : unroll_indent limit t.held ≡ record t.held { indents = indents; indent = indent; tokens = tokens }
-  pub shallow : is_nil t.held.flow ≡ true → indent ≤ limit
+  pub shallow : is_empty t.held.flow ≡ true → indent ≤ limit
 
-pub unrolled_to : (text : List ℕ) (t : State) (limit : ℕ) → (s : Stands text t) → (is_nil t.held.flow ≡ true → Dies t.rest t.held.place t.held.keys limit (innermost_column (columns t.held.indent t.held.indents))) → UnrolledTo text t limit
-unrolled_to text t limit s dies = by (is_nil t.held.flow) refl
+pub unrolled_to : (text : List ℕ) (t : ScannerState) (limit : ℕ) → (s : FaresAt text t) → (is_empty t.held.flow ≡ true → Dies t.rest t.held.place t.held.keys limit (innermost_column (columns t.held.indent t.held.indents))) → UnrolledTo text t limit
+unrolled_to text t limit s dies = by (is_empty t.held.flow) refl
   where
-    by : (out : Bool) → is_nil t.held.flow ≡ out → UnrolledTo text t limit
+    by : (out : Bool) → is_empty t.held.flow ≡ out → UnrolledTo text t limit
     by false e =
         let same : unroll_indent limit t.held ≡ t.held = unrolled_in_flow limit t.held e in
         record {
@@ -156,6 +156,6 @@ key_stays p rest row after column (Some k ∷ []) one o n e h = (λ l. no_live l
         omega (arith, left_of, right, h)
 
 -- Where a token begins, the block collections that are deeper end.
-pub unrolled_here : (text : List ℕ) (t : State) → Stands text t → UnrolledTo text t (t.held.place.col + 1)
+pub unrolled_here : (text : List ℕ) (t : ScannerState) → FaresAt text t → UnrolledTo text t (t.held.place.col + 1)
 unrolled_here text t s = unrolled_to text t (t.held.place.col + 1) s
     (λ out. key_stays t.held.place t.rest s.stood.row s.stood.after (innermost_column (columns t.held.indent t.held.indents)) t.held.keys (s.stood.one_each ∙ ap suc (nil_length t.held.flow out)) s.stood.are_open)

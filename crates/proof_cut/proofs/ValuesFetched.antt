@@ -3,22 +3,22 @@ use Rattle.std.proofs.Common.{◌≡◌, ℕ, ◌≤◌, List, [], ◌∷◌, �
 use Rattle.std.specs.List.{insert}
 use Rattle.std.proofs.lemmas.Bool.Decides.{nat_tests}
 use Rattle.defs_text.specs.Position.{Position}
-use Rattle.defs_text.specs.Text.{is_nil}
+use Rattle.defs_text.specs.Text.{is_empty}
 use Rattle.yaml_tokens.specs.declared.problem.Fault.{Fault}
 use Rattle.yaml_tokens.specs.declared.problem.Fault.TheVariants.{At}
 use Rattle.yaml_tokens.specs.declared.problem.Problem.TheVariants as problem
 use Rattle.defs_token.specs.Token.{Tok, Token}
 use Rattle.defs_token.specs.Plain.{is_value_indicator}
-use Rattle.defs_token.specs.Account.{Before, other, is_adjacent, is_empty}
+use Rattle.defs_token.specs.Account.{Before, other, is_adjacent}
 use Rattle.model_lexers.specs.Machine.{past}
 use Rattle.model_scanner.specs.declared.level.FlowLevel.{FlowLevel}
 use Rattle.model_scanner.specs.declared.level.FlowLevel.TheVariants.{Mapping, Entry, Keyed, Pair}
-use Rattle.model_scanner.specs.State.{Key, Held, State, ◌>>=◌, in_flow, push, with_top, token, after, on_held, with_held, try_held, skip_indicator}
+use Rattle.model_scanner.specs.State.{Key, Held, ScannerState, ◌>>=◌, in_flow, push, with_top, token, after, on_held, with_held, try_held, skip_indicator}
 use Rattle.model_scanner.specs.Keys.{top_key}
 use Rattle.model_scanner.specs.Indents.{roll_indent, roll_one_col_indent}
 use Rattle.model_scanner.specs.Block.{opens_pair, paired, begin_pair, insert_key, value_of, fetch_value}
 use Rattle.model_scanner.proofs.Holds.{Holds, went, chained, checked, tried}
-use Rattle.proof_cut.specs.Stands.{AreLevels, levels_of, Stood, Fares, Stands}
+use Rattle.proof_cut.specs.Stands.{AreLevels, levels_of, Stood, Fares, FaresAt}
 use Rattle.proof_cut.proofs.Stoods.{stood_levels}
 use Rattle.proof_cut.proofs.Passes.{placed_at, Passed, Filled}
 use Rattle.proof_cut.proofs.Nodes.{same_flow, AreNear}
@@ -42,7 +42,7 @@ with_start k p t ts = insert (with_key k ts) k.number (token p t)
 -- what the model holds where a value begins after a key
 data KeyedAs (k : Key) (p : Position) (fs : List FlowLevel) (h u : Held) : Type 0 where
   pair : (gs : List FlowLevel) (m : Held) → fs ≡ Entry ∷ gs → p.line ≤ k.place.line → SameBlocks (record h { flow = Pair ∷ gs; tokens = with_start k h.place Tok.flow_mapping_start h.tokens }) m → u ≡ closed m → KeyedAs k p fs h u
-  no_pair : (m : Held) → is_nil fs ≡ false → levels_of (paired fs) ≡ levels_of fs → length (paired fs) ≡ length fs → SameBlocks (record h { flow = paired fs; tokens = with_key k h.tokens }) m → u ≡ closed m → KeyedAs k p fs h u
+  no_pair : (m : Held) → is_empty fs ≡ false → levels_of (paired fs) ≡ levels_of fs → length (paired fs) ≡ length fs → SameBlocks (record h { flow = paired fs; tokens = with_key k h.tokens }) m → u ≡ closed m → KeyedAs k p fs h u
   block : (l m : Held) → fs ≡ [] → Rolls k.place.col (Some k.number) (token p Tok.block_mapping_start) (record h { flow = []; tokens = with_key k h.tokens }) l → SameBlocks l m → u ≡ closed m → KeyedAs k p fs h u
 
 not_later : (x y : ℕ) → nat_lt x y ≡ false → y ≤ x
@@ -86,8 +86,8 @@ block_key text more p k ks before h l on (goes_on d) s =
     (stood_levels text (58 ∷ more) p (with_key k h.tokens) (None ∷ ks) h.indents h.indent [] before d.indents d.indent d.same_columns d.are_levels (key_stood text more p h.tokens k ks h.indents h.indent [] before s))
 
 -- what is left after the `:` and its key, by what the model holds there
-keyed_fares : (text more : List ℕ) (t v : State) (leading allowed : Bool) (k : Key) (ks : List (Option Key)) → t.rest ≡ 58 ∷ more → (s : Stands text t) → t.held.keys ≡ Some k ∷ ks → is_value_indicator (not (is_nil t.held.flow)) (is_adjacent s.before) more ≡ true →
-    (is_nil t.held.flow ≡ true → t.held.place.line ≤ k.place.line) → Filled more (past t.held.place) v → (u : Held) → KeyedAs k t.held.place t.held.flow (placed_at t.held v.held.place leading allowed) u →
+keyed_fares : (text more : List ℕ) (t v : ScannerState) (leading allowed : Bool) (k : Key) (ks : List (Option Key)) → t.rest ≡ 58 ∷ more → (s : FaresAt text t) → t.held.keys ≡ Some k ∷ ks → is_value_indicator (not (is_empty t.held.flow)) (is_adjacent s.before) more ≡ true →
+    (is_empty t.held.flow ≡ true → t.held.place.line ≤ k.place.line) → Filled more (past t.held.place) v → (u : Held) → KeyedAs k t.held.place t.held.flow (placed_at t.held v.held.place leading allowed) u →
     Fares text v.rest u.place (u.tokens ++ token t.held.place Tok.value ∷ []) u.keys u.indents u.indent u.flow u.adjacent_value_at
 keyed_fares text more t v leading allowed k ks e s keys ind near g u r = by r
   where
@@ -113,7 +113,7 @@ keyed_fares text more t v leading allowed k ks e s keys ind near g u r = by r
         let all : List Token = tokens ++ token t.held.place Tok.value ∷ [] in
         let z : Stood text v.rest v.held.place all (None ∷ ks) d.indents d.indent (Pair ∷ gs) other =
         stood_levels text v.rest v.held.place all (None ∷ ks) t.held.indents t.held.indent (Pair ∷ gs) other d.indents d.indent d.same_columns d.are_levels
-        (value_stood text more t.held.place tokens (None ∷ ks) t.held.indents t.held.indent (Pair ∷ gs) (Pair ∷ gs) s.before v g (subst (λ fs. is_value_indicator (not (is_nil fs)) (is_adjacent s.before) more ≡ true) f ind) refl refl y) in
+        (value_stood text more t.held.place tokens (None ∷ ks) t.held.indents t.held.indent (Pair ∷ gs) (Pair ∷ gs) s.before v g (subst (λ fs. is_value_indicator (not (is_empty fs)) (is_adjacent s.before) more ≡ true) f ind) refl refl y) in
         subst (λ h. Fares text v.rest h.place (h.tokens ++ token t.held.place Tok.value ∷ []) h.keys h.indents h.indent h.flow h.adjacent_value_at) (sym (w ∙ ap closed d.is_held))
         (subst (λ x. Fares text v.rest v.held.place all (with_top None x) d.indents d.indent (Pair ∷ gs) t.held.adjacent_value_at) (sym keys) (value_fares text more t v s g all (None ∷ ks) d.indents d.indent (Pair ∷ gs) z))
     by (no_pair m f same many d w) =
@@ -128,13 +128,13 @@ keyed_fares text more t v leading allowed k ks e s keys ind near g u r = by r
         (subst (λ x. Fares text v.rest v.held.place all (with_top None x) d.indents d.indent fs t.held.adjacent_value_at) (sym keys) (value_fares text more t v s g all (None ∷ ks) d.indents d.indent fs z))
     by (block l m f r d w) =
         let outer : Held = record (placed_at t.held v.held.place leading allowed) { flow = []; tokens = with_key k t.held.tokens } in
-        let on : t.held.place.line ≤ k.place.line = near (ap is_nil f) in
+        let on : t.held.place.line ≤ k.place.line = near (ap is_empty f) in
         let y : Stood text (58 ∷ more) t.held.place l.tokens (None ∷ ks) l.indents l.indent [] s.before =
         block_key text more t.held.place k ks s.before (placed_at t.held v.held.place leading allowed) l on r (now [] f) in
         let all : List Token = l.tokens ++ token t.held.place Tok.value ∷ [] in
         let z : Stood text v.rest v.held.place all (None ∷ ks) d.indents d.indent [] other =
         stood_levels text v.rest v.held.place all (None ∷ ks) l.indents l.indent [] other d.indents d.indent d.same_columns d.are_levels
-        (value_stood text more t.held.place l.tokens (None ∷ ks) l.indents l.indent [] [] s.before v g (subst (λ fs. is_value_indicator (not (is_nil fs)) (is_adjacent s.before) more ≡ true) f ind) refl refl y) in
+        (value_stood text more t.held.place l.tokens (None ∷ ks) l.indents l.indent [] [] s.before v g (subst (λ fs. is_value_indicator (not (is_empty fs)) (is_adjacent s.before) more ≡ true) f ind) refl refl y) in
         let same : (l.place ≡ v.held.place) × (l.keys ≡ t.held.keys) × (l.flow ≡ []) × (l.adjacent_value_at ≡ t.held.adjacent_value_at) =
         rolls_place k.place.col (Some k.number) (token t.held.place Tok.block_mapping_start) outer l r in
         let ends : Fares text v.rest v.held.place all (None ∷ ks) d.indents d.indent [] t.held.adjacent_value_at = value_fares text more t v s g all (None ∷ ks) d.indents d.indent [] z in
@@ -146,14 +146,14 @@ keyed_fares text more t v leading allowed k ks e s keys ind near g u r = by r
 -- ---- the whole
 
 -- what the model does after the `:` and the blanks there
-abbrev value_from : State → State → Result State Fault
+abbrev value_from : ScannerState → ScannerState → Result ScannerState Fault
 value_from t u =
     try_held (λ s. value_of (top_key s.keys) t.held.place (opens_pair t.held.flow) s) u >>= λ v.
     Ok (on_held (push t.held.place Tok.value) v)
 
-value_passed : (text more : List ℕ) (t v : State) (leading allowed : Bool) → t.rest ≡ 58 ∷ more → (s : Stands text t) → is_value_indicator (not (is_nil t.held.flow)) (is_adjacent s.before) more ≡ true → (is_nil t.held.flow ≡ true → AreNear t.held.place t.held.keys) →
+value_passed : (text more : List ℕ) (t v : ScannerState) (leading allowed : Bool) → t.rest ≡ 58 ∷ more → (s : FaresAt text t) → is_value_indicator (not (is_empty t.held.flow)) (is_adjacent s.before) more ≡ true → (is_empty t.held.flow ≡ true → AreNear t.held.place t.held.keys) →
     Filled more (past t.held.place) v → (keys : List (Option Key)) → t.held.keys ≡ keys →
-    Holds (Stands text) (with_held v (value_of (top_key keys) t.held.place (opens_pair t.held.flow) (record (placed_at t.held v.held.place leading allowed) { flow = paired t.held.flow })) >>= λ w. Ok (on_held (push t.held.place Tok.value) w))
+    Holds (FaresAt text) (with_held v (value_of (top_key keys) t.held.place (opens_pair t.held.flow) (record (placed_at t.held v.held.place leading allowed) { flow = paired t.held.flow })) >>= λ w. Ok (on_held (push t.held.place Tok.value) w))
 value_passed text more t v leading allowed e s ind near g [] f =
     chained {P = λ w. (w.rest ≡ v.rest) × Keyless t.held.place t.held.flow h w.held} (tried v _ (keyless_begun t.held.place t.held.flow h s.stood.are_levels) (λ u k. (refl, k))) (λ w k.
     went (subst (λ r. Fares text r w.held.place (w.held.tokens ++ token t.held.place Tok.value ∷ []) w.held.keys w.held.indents w.held.indent w.held.flow w.held.adjacent_value_at) (sym k.0)
@@ -176,17 +176,17 @@ value_passed text more t v leading allowed e s ind near g (Some k ∷ ks) f =
     h : Held
     h = placed_at t.held v.held.place leading allowed
 
-pub value_fetched : (text more : List ℕ) (t : State) → t.rest ≡ 58 ∷ more → (s : Stands text t) → is_value_indicator (not (is_nil t.held.flow)) (is_adjacent s.before) more ≡ true → (is_nil t.held.flow ≡ true → AreNear t.held.place t.held.keys) → Holds (Stands text) (fetch_value t)
+pub value_fetched : (text more : List ℕ) (t : ScannerState) → t.rest ≡ 58 ∷ more → (s : FaresAt text t) → is_value_indicator (not (is_empty t.held.flow)) (is_adjacent s.before) more ≡ true → (is_empty t.held.flow ≡ true → AreNear t.held.place t.held.keys) → Holds (FaresAt text) (fetch_value t)
 unfolding fetch_value
 value_fetched text more t e s ind near =
     chained {P = Passed start} (value_spaced start) (λ u a. by u a)
   where
-    start : State
+    start : ScannerState
     start = skip_indicator (on_held (λ h. record h { flow = paired h.flow }) t)
 
-    by : (u : State) → Passed start u → Holds (Stands text) (value_from t u)
+    by : (u : ScannerState) → Passed start u → Holds (FaresAt text) (value_from t u)
     by u a =
-        let g : Filled more (past t.held.place) u = record { filler = a.filler; is_rest = ap after (sym e) ∙ a.is_rest; is_filled = a.is_filled; is_place = ap (λ h. h.place) a.is_held } in
+        let g : Filled more (past t.held.place) u = record { separation = a.separation; is_rest = ap after (sym e) ∙ a.is_rest; is_filled = a.is_filled; is_place = ap (λ h. h.place) a.is_held } in
         let held : u.held ≡ placed_at start.held u.held.place a.leading a.allowed = at_place start u a in
-        subst (λ h. Holds (Stands text) (with_held u (value_of (top_key h.keys) t.held.place (opens_pair t.held.flow) h) >>= λ w. Ok (on_held (push t.held.place Tok.value) w))) (sym held)
+        subst (λ h. Holds (FaresAt text) (with_held u (value_of (top_key h.keys) t.held.place (opens_pair t.held.flow) h) >>= λ w. Ok (on_held (push t.held.place Tok.value) w))) (sym held)
         (value_passed text more t u a.leading a.allowed e s ind near g t.held.keys refl)

@@ -7,9 +7,9 @@ use Rattle.yaml_tokens.specs.declared.problem.Problem.TheVariants as problem
 use Rattle.defs_text.specs.Classes.{is_at_gap}
 use Rattle.defs_text.specs.Text.{up_to_end}
 use Rattle.defs_text.specs.Position.{position_after}
-use Rattle.defs_token.specs.Filler.{is_filler}
+use Rattle.defs_token.specs.Separation.{is_separation}
 use Rattle.defs_token.specs.Plain.{begins_flow, after_blank}
-use Rattle.defs_token.specs.Account.{Account, first_account, is_in_flow, has_room, account_past_filler}
+use Rattle.defs_token.specs.Account.{Account, first_account, is_in_flow, has_room, account_past_separation}
 use Rattle.defs_token.specs.Piece.{Holds}
 use Rattle.defs_token.specs.Cut.{Written, IsRow, spelled, account_past_row}
 use Rattle.model_lexers.specs.Quoted.{quote_of}
@@ -17,14 +17,14 @@ use Rattle.proof_lexers.specs.QuotedScan.{has_marker}
 use Rattle.proof_lexers.specs.QuotedEnds.{HasElements, IsBadEscape}
 use Rattle.proof_lexers.specs.PlainEnds.{stand_after, is_apart}
 
--- A place of a text after a row of pieces and a filler: the text from there on, and the account.
+-- A place of a text after a row of pieces and a separation: the text from there on, and the account.
 pub record IsSpot (text rest : List ℕ) (account : Account) : Type 0 where
   pub row : List Written
-  pub filler : List ℕ
-  pub is_text : spelled row (filler ++ rest) ≡ up_to_end text
-  pub is_row : IsRow first_account row (filler ++ rest) None
-  pub is_filled : Holds (is_filler false filler rest)
-  pub is_account : account_past_filler (account_past_row first_account row (filler ++ rest)) filler rest ≡ account
+  pub separation : List ℕ
+  pub is_text : spelled row (separation ++ rest) ≡ up_to_end text
+  pub is_row : IsRow first_account row (separation ++ rest) None
+  pub is_filled : Holds (is_separation false separation rest)
+  pub is_account : account_past_separation (account_past_row first_account row (separation ++ rest)) separation rest ≡ account
 
 -- A fault stands in a text, after a row of pieces: in a scalar in double quotes an escape that is none; a quoted scalar that does not end, or with a document marker at the start of a line; an opening
 -- bracket where as many flow collections are open as may be; in flow a dash before a gap, or a dash before a flow indicator where a plain scalar begins or goes on after a blank or a break.

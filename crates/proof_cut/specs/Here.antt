@@ -1,10 +1,10 @@
 -- Where a row of pieces has come to in a text, and what is open there.
 use Rattle.std.specs.Prelude.{◌≡◌, ℕ, suc, ◌≤◌, List, [], ◌∷◌, ◌++◌, true, false, length, Option, Some, None}
 use Rattle.defs_text.specs.Position.{Position}
-use Rattle.defs_text.specs.Text.{is_nil}
+use Rattle.defs_text.specs.Text.{is_empty}
 use Rattle.defs_token.specs.Token.{Tok}
-use Rattle.defs_token.specs.Filler.{is_filler}
-use Rattle.defs_token.specs.Account.{Level, Account, first_account, settled, account_past_filler}
+use Rattle.defs_token.specs.Separation.{is_separation}
+use Rattle.defs_token.specs.Account.{Level, Account, first_account, settled, account_past_separation}
 use Rattle.defs_token.specs.Piece.{begins_node}
 use Rattle.defs_token.specs.Cut.{Written, IsRow, spelled, account_at, account_past_row}
 use Rattle.model_scanner.specs.State.{Key}
@@ -12,19 +12,19 @@ use Rattle.proof_lexers.specs.PlainEnds.{has_no_nul}
 use Rattle.proof_cut.specs.Order.{After}
 use Rattle.proof_cut.specs.Inside.{inside}
 
--- A row, and a filler after it, are the text up to a place, whatever token follows; the text after the row, the text after the place, and the account there.
+-- A row, and a separation after it, are the text up to a place, whatever token follows; the text after the row, the text after the place, and the account there.
 pub record Here (text : List ℕ) (row : List Written) (after rest : List ℕ) (here : Account) : Type 0 where
-  pub filler : List ℕ
-  pub is_after : after ≡ filler ++ rest
+  pub separation : List ℕ
+  pub is_after : after ≡ separation ++ rest
   pub is_text : spelled row after ≡ text
   pub is_row : (last : Option Tok) → IsRow first_account row after last
-  pub is_filled : is_filler false filler rest ≡ true
-  pub is_here : account_past_filler (account_past_row first_account row after) filler rest ≡ here
+  pub is_filled : is_separation false separation rest ≡ true
+  pub is_here : account_past_separation (account_past_row first_account row after) separation rest ≡ here
   pub is_clean : has_no_nul rest ≡ true
 
 -- whether a place is on a key's line, and the text goes on there
 abbrev pub IsLive : Key → Position → (rest : List ℕ) → Type 0
-IsLive k p rest = (p.line ≤ k.place.line) × (is_nil rest ≡ false)
+IsLive k p rest = (p.line ≤ k.place.line) × (is_empty rest ≡ false)
 
 -- a column is not right of a key
 abbrev pub IsNotRight : Option ℕ → ℕ → Type 0
@@ -50,7 +50,7 @@ pub record IsOpen (k : Key) (depth : ℕ) (row : List Written) (after : List ℕ
   pub is_split : row ≡ before ++ (own ∷ later)
   pub number_is : k.number ≡ suc (length before)
   pub is_node : begins_node (Some (own.token.tok)) ≡ true
-  pub is_solid : is_nil own.piece ≡ false
+  pub is_solid : is_empty own.piece ≡ false
   pub is_free : (last : Option Tok) → IsRow first_account before (spelled (own ∷ later) after) last
   pub is_settled : (column : ℕ) → settled column (account_past_row first_account before (spelled (own ∷ later) after)).blocks ≡ (account_past_row first_account before (spelled (own ∷ later) after)).blocks
   pub place_is : k.place ≡ (account_in before own later after).place

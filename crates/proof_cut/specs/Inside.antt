@@ -1,10 +1,10 @@
--- The flow levels that are opened inside a simple key.
+-- The flow levels that are opened inside a implicit key.
 use Rattle.std.specs.Prelude.{ℕ, List, [], ◌∷◌, true, false, Option, Some, None}
 use Rattle.defs_token.specs.Token.{Tok, flow_sequence_start, flow_sequence_end, flow_mapping_start, flow_mapping_end, flow_entry, key, value, alias, anchor, tag, scalar, plain, single_quoted, double_quoted}
 use Rattle.defs_token.specs.Account.{sequence, mapping, Level}
 use Rattle.defs_token.specs.Cut.{Written}
 
--- the levels after a token that may belong to a simple key and asks for none outside it
+-- the levels after a token that may belong to a implicit key and asks for none outside it
 abbrev pub step_inside : List Level → (piece : List ℕ) → Tok → Option (List Level)
 step_inside ns p flow_sequence_start = Some (record { kind = sequence; pair = false } ∷ ns)
 step_inside ns (c ∷ p) flow_mapping_start = Some (record { kind = mapping; pair = false } ∷ ns)

@@ -2,7 +2,7 @@
 use Rattle.std.specs.Prelude.{◌≡◌, ℕ, ◌⊎◌, List, ◌++◌, true}
 use Rattle.defs_token.specs.Token.{Token}
 use Rattle.defs_token.specs.Cut.{IsCut, IsCutOfBeginning}
-use Rattle.model_scanner.specs.State.{State}
+use Rattle.model_scanner.specs.State.{ScannerState}
 use Rattle.yaml_tokens.specs.declared.problem.Fault.{Fault}
 use Rattle.model_scanner.specs.Run.{start, Reaches, HasTokens, IsRefused}
 use Rattle.proof_lexers.specs.PlainEnds.{has_no_nul}
@@ -16,7 +16,7 @@ TokensAreACut = (text : List ℕ) (tokens : List Token) → has_no_nul text ≡ 
 -- `first_tokens_are_a_cut`: of any run's tokens the first are a cut of the whole text, where the stream's end is among them, or else of a beginning of it
 abbrev pub FirstTokensAreACut : Type 0
 FirstTokensAreACut =
-    (text : List ℕ) (given more : List Token) (last : State) → has_no_nul text ≡ true → Reaches (start text) last → last.held.tokens ≡ given ++ more → IsCut given text ⊎ IsCutOfBeginning given text
+    (text : List ℕ) (given more : List Token) (last : ScannerState) → has_no_nul text ≡ true → Reaches (start text) last → last.held.tokens ≡ given ++ more → IsCut given text ⊎ IsCutOfBeginning given text
 
 -- `shown_faults_stand_in_the_text`
 abbrev pub ShownFaultsStandInTheText : Type 0
@@ -24,4 +24,4 @@ ShownFaultsStandInTheText = (text : List ℕ) (f : Fault) → has_no_nul text �
 
 -- `places_are_in_the_text`
 abbrev pub PlacesAreInTheText : Type 0
-PlacesAreInTheText = (text : List ℕ) (last : State) → has_no_nul text ≡ true → Reaches (start text) last → IsWhere text last
+PlacesAreInTheText = (text : List ℕ) (last : ScannerState) → has_no_nul text ≡ true → Reaches (start text) last → IsWhere text last

@@ -1,10 +1,9 @@
--- What the exact model of each lexing function reads for its token: a piece of the cut, and a filler after it.
+-- What the exact model of each lexing function reads for its token: a piece of the cut, and a separation after it.
 use Rattle.std.specs.Prelude.{◌≡◌, ℕ, List, [], ◌∷◌, ◌++◌, Bool, true, false, ◌==◌, ◌&&◌, ◌⊎◌, not, nat_lt, if◌then◌else◌, Option, Ok}
-use Rattle.defs_text.specs.Position.{Position}
+use Rattle.defs_text.specs.Position.{Position, position_after}
 use Rattle.defs_token.specs.Token.{Tok, version_directive, tag_directive, tag, scalar, plain}
 use Rattle.defs_text.specs.Classes.{is_at_gap, is_document_marker}
-use Rattle.defs_text.specs.Position.{position_after}
-use Rattle.defs_token.specs.Filler.{is_filler}
+use Rattle.defs_token.specs.Separation.{is_separation}
 use Rattle.defs_token.specs.Plain.{may_begin}
 use Rattle.defs_token.specs.Account.{Account, is_in_flow, collection_column, is_adjacent, is_closed}
 use Rattle.defs_token.specs.Piece.{IsPiece}
@@ -19,15 +18,15 @@ use Rattle.model_lexers.specs.Tag as tags
 use Rattle.model_scanner.specs.Document.{anchor_token, block_style, quoted_style}
 use Rattle.proof_lexers.specs.PlainEnds.{has_no_nul, collection_of, is_indented}
 
--- What was read of a text at an account: a piece, which belongs to a token, and a filler after it; the text that is left, and the place there.
+-- What was read of a text at an account: a piece, which belongs to a token, and a separation after it; the text that is left, and the place there.
 pub record ReadAs (a : Account) (text : List ℕ) (tok : Tok) (place : Position) (rest : List ℕ) (end : Position) : Type 0 where
   pub first : ℕ
   pub more : List ℕ
-  pub filler : List ℕ
-  pub is_text : text ≡ (first ∷ more) ++ (filler ++ rest)
-  pub is_filled : is_filler false filler rest ≡ true
-  pub is_piece : (following : Option Tok) → IsPiece a (first ∷ more) (filler ++ rest) following place tok
-  pub is_end : end ≡ position_after (position_after a.place (first ∷ more) (filler ++ rest)) filler rest
+  pub separation : List ℕ
+  pub is_text : text ≡ (first ∷ more) ++ (separation ++ rest)
+  pub is_filled : is_separation false separation rest ≡ true
+  pub is_piece : (following : Option Tok) → IsPiece a (first ∷ more) (separation ++ rest) following place tok
+  pub is_end : end ≡ position_after (position_after a.place (first ∷ more) (separation ++ rest)) separation rest
 
 -- whether a plain scalar is looked for at a text: as `begins_plain`, but in flow a dash before a flow indicator is refused by the scan itself
 abbrev pub comes_plain : (in_flow adjacent : Bool) → (column : ℕ) → List ℕ → Bool

@@ -1,9 +1,8 @@
 -- Where the scanner's model stands in a text.
 use Rattle.std.specs.Prelude.{◌≡◌, ℕ, List, [], ◌++◌, true, false}
-use Rattle.defs_text.specs.Position.{Position}
-use Rattle.defs_text.specs.Text.{is_nil}
-use Rattle.defs_text.specs.Position.{first_position, position_after}
-use Rattle.model_scanner.specs.State.{Held, State}
+use Rattle.defs_text.specs.Position.{Position, first_position, position_after}
+use Rattle.defs_text.specs.Text.{is_empty}
+use Rattle.model_scanner.specs.State.{Held, ScannerState}
 use Rattle.model_scanner.specs.Document.{next_line}
 
 -- a place in a text, before the rest of it
@@ -18,9 +17,9 @@ pub record IsAtEnd (text : List ℕ) (h : Held) : Type 0 where
   pub place : h.place ≡ next_line (position_after first_position text [])
 
 -- where a run has come to in a text
-pub record IsWhere (text : List ℕ) (t : State) : Type 0 where
+pub record IsWhere (text : List ℕ) (t : ScannerState) : Type 0 where
   pub going : t.held.ended ≡ false → IsPlaceIn text t.rest t.held.place
   pub over : t.held.ended ≡ true → t.held.place ≡ next_line (position_after first_position text [])
   -- the stream's start was met just where there are tokens
   pub none : t.held.started ≡ false → t.held.tokens ≡ []
-  pub some : t.held.started ≡ true → is_nil t.held.tokens ≡ false
+  pub some : t.held.started ≡ true → is_empty t.held.tokens ≡ false

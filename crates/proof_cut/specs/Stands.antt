@@ -1,16 +1,16 @@
 -- What holds of the scanner's model between two fetches: its tokens are a cut of the text before its place, and what it holds is what the cut says.
 use Rattle.std.specs.Prelude.{◌≡◌, ℕ, suc, ◌+◌, ◌-◌, ◌≤◌, List, [], ◌∷◌, ◌++◌, Bool, true, false, ◌==◌, length, if◌then◌else◌, Option, Some}
 use Rattle.defs_text.specs.Position.{Position}
-use Rattle.defs_text.specs.Text.{is_nil}
+use Rattle.defs_text.specs.Text.{is_empty}
 use Rattle.defs_token.specs.Token.{Token}
-use Rattle.defs_token.specs.Filler.{is_filler}
+use Rattle.defs_token.specs.Separation.{is_separation}
 use Rattle.defs_token.specs.Account.{Level, sequence, mapping, Account, Before, before_past, is_adjacent, innermost_column}
 use Rattle.defs_token.specs.Cut.{Written, tokens_of, start_token}
 use Rattle.model_scanner.specs.declared.level.Indent.{Indent}
 use Rattle.model_scanner.specs.declared.level.FlowLevel.{FlowLevel}
 use Rattle.model_scanner.specs.declared.level.FlowLevel.TheVariants.{Mapping, Entry, Keyed, Pair}
-use Rattle.model_scanner.specs.State.{Key, State}
-use Rattle.proof_lexers.specs.Fillers.{begins_token}
+use Rattle.model_scanner.specs.State.{Key, ScannerState}
+use Rattle.proof_lexers.specs.Separations.{begins_token}
 use Rattle.proof_cut.specs.Here.{Here, AreOpen}
 
 -- a flow level as the account has it
@@ -45,8 +45,8 @@ account_of p indent indents flow before = record { place = p; blocks = columns i
 -- Inside flow a colon may stand next to what stands before the next token, just where the scanner says it.
 abbrev pub IsAdjacent : Before → Position → (adjacent_value_at : ℕ) → (rest : List ℕ) → Type 0
 IsAdjacent before p adjacent_value_at rest =
-    (filler r : List ℕ) → rest ≡ filler ++ r → is_filler false filler r ≡ true → begins_token r ≡ true
-    → is_adjacent (before_past before filler) ≡ ((p.index + length filler) == adjacent_value_at)
+    (separation r : List ℕ) → rest ≡ separation ++ r → is_separation false separation r ≡ true → begins_token r ≡ true
+    → is_adjacent (before_past before separation) ≡ ((p.index + length separation) == adjacent_value_at)
 
 -- What was passed of a text: the tokens are a row's, and what the scanner holds is what the row says.
 pub record Stood (text rest : List ℕ) (p : Position) (tokens : List Token) (keys : List (Option Key)) (indents : List Indent) (indent : ℕ) (flow : List FlowLevel) (before : Before) : Type 0 where
@@ -64,7 +64,7 @@ pub record Fares (text rest : List ℕ) (p : Position) (tokens : List Token) (ke
   pub before : Before
   pub stood : Stood text rest p tokens keys indents indent flow before
   pub was_adjacent : adjacent_value_at ≤ p.index
-  pub is_adjacent_here : is_nil flow ≡ false → IsAdjacent before p adjacent_value_at rest
+  pub is_adjacent_here : is_empty flow ≡ false → IsAdjacent before p adjacent_value_at rest
 
-abbrev pub Stands : (text : List ℕ) → State → Type 0
-Stands text t = Fares text t.rest t.held.place t.held.tokens t.held.keys t.held.indents t.held.indent t.held.flow t.held.adjacent_value_at
+abbrev pub FaresAt : (text : List ℕ) → ScannerState → Type 0
+FaresAt text t = Fares text t.rest t.held.place t.held.tokens t.held.keys t.held.indents t.held.indent t.held.flow t.held.adjacent_value_at

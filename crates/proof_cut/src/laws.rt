@@ -3,14 +3,14 @@
 ghost use Rattle.proof_cut.specs.Laws.{FirstTokensAreACut, PlacesAreInTheText, ShownFaultsStandInTheText, TokensAreACut};
 ghost use Rattle.proof_cut.specs.PiecesRead.{PiecesAreRead};
 
-/// What a lexing function reads of a text is a piece that belongs to its token, followed by a filler, whatever is
+/// What a lexing function reads of a text is a piece that belongs to its token, followed by a separation, whatever is
 /// open around it. The place is the one after both. This holds for plain, quoted and block scalars, names of anchors
 /// and aliases, tags and directives.
 pub fn lexing_functions_read_pieces()
     ensures { PiecesAreRead }
 {}
 
-/// The tokens that the scanner's model gives a text without NUL are a cut of it: the text is a row of fillers and
+/// The tokens that the scanner's model gives a text without NUL are a cut of it: the text is a row of separations and
 /// pieces in order, and each piece belongs to its token.
 pub fn tokens_are_a_cut()
     ensures { TokensAreACut }
@@ -24,7 +24,7 @@ pub fn first_tokens_are_a_cut()
 
 /// Four kinds of refusal come only where their reason stands in the text, if it has no NUL: a bad escape; an end or a
 /// document marker inside a quoted scalar; a flow collection too deep; a dash in flow. The reason stands after a row
-/// of pieces and a filler, at the fault's place.
+/// of pieces and a separation, at the fault's place.
 pub fn shown_faults_stand_in_the_text()
     ensures { ShownFaultsStandInTheText }
 {}

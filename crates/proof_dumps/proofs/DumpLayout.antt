@@ -6,7 +6,7 @@ use Rattle.std.specs.Prelude.{if◌then◌else◌}
 use Rattle.defs_tree.specs.Tree.{Tree, Items, no_items, item, Pairs, no_pairs, pair}
 use Rattle.defs_tree.specs.Quoting.{is_quoted}
 use Rattle.defs_tree.specs.Spelling.{is_scalar}
-use Rattle.defs_tree.specs.Literal.{is_literal, is_root_literal}
+use Rattle.defs_tree.specs.Literal.{is_literal_text, is_root_literal}
 use Rattle.defs_tree.specs.Lines.{lines_of}
 use Rattle.defs_layout.specs.BlockLines.{Line}
 use Rattle.defs_layout.specs.Layout.{Scalar, Inline, no_comment, Block, Value, below, Entries, Field, Fields, Root, last_document, Layout}
@@ -35,7 +35,7 @@ text_lines column text = lines_at column (lines_of text)
 
 -- A text may be a literal block as root, or elsewhere.
 abbrev pub may_be_literal : (at_root : Bool) → (text : List ℕ) → Bool
-may_be_literal at_root text = if at_root then is_root_literal text else is_literal text
+may_be_literal at_root text = if at_root then is_root_literal text else is_literal_text text
 
 -- ---- placing
 

@@ -5,7 +5,7 @@ use Rattle.defs_tree.specs.Tree.{Tree, pairs_of}
 use Rattle.defs_tree.specs.Order.{tree_eq}
 use Rattle.defs_tree.specs.Quoting.{is_quoted, is_unfit_for_plain}
 use Rattle.defs_tree.specs.Typing.{typing, is_decimal}
-use Rattle.defs_tree.specs.Literal.{is_literal, is_literal_character}
+use Rattle.defs_tree.specs.Literal.{is_literal_text, is_literal_character}
 use Rattle.defs_scalar.specs.BlockScalar.{row_of, is_empty_line, is_content_line}
 use Rattle.defs_text.specs.Classes.{is_blank}
 use Rattle.defs_layout.specs.Gap.{empty_line, is_line_character}
@@ -32,7 +32,7 @@ each_anchor : HasToks (codes "---\na: &x\n  k: &y 'it''s'\nb: *x\nc: >-\n  p\n  
     ∷ Tok.key ∷ text_tok (codes "c") ∷ Tok.value ∷ Tok.scalar Style.folded (codes "p q\nr")
     ∷ Tok.key ∷ text_tok (codes "d") ∷ Tok.value ∷ Tok.anchor (codes "z") ∷ Tok.scalar Style.literal (codes "s\nt\n")
     ∷ Tok.block_end ∷ Tok.stream_end ∷ [])
-unfolding is_quoted is_unfit_for_plain typing is_decimal is_line_character is_literal is_literal_character row_of is_empty_line is_content_line is_blank
+unfolding is_quoted is_unfit_for_plain typing is_decimal is_line_character is_literal_text is_literal_character row_of is_empty_line is_content_line is_blank
 each_anchor = layouts_have_their_tokens
     (record {
       is_marked = true;

@@ -13,9 +13,9 @@ use Rattle.defs_layout.specs.Layout.{Comment, no_comment, comment, IsComment}
 use Rattle.model_lexers.specs.Machine.{past, past_break, take_while, ends_while}
 use Rattle.model_lexers.specs.Anchor.{anchor_name}
 use Rattle.model_scanner.specs.declared.level.Indent.{Indent}
-use Rattle.model_scanner.specs.State.{Key, State, token}
+use Rattle.model_scanner.specs.State.{Key, ScannerState, token}
 use Rattle.model_scanner.specs.Class.{class_of}
-use Rattle.model_scanner.specs.Keys.{still, save_simple_key}
+use Rattle.model_scanner.specs.Keys.{still, save_implicit_key}
 use Rattle.model_scanner.specs.Indents.{level}
 use Rattle.model_scanner.specs.Block.{last_property, property_place}
 use Rattle.model_scanner.specs.Document.{anchor_token, fetch_anchor}
@@ -63,7 +63,7 @@ abbrev pub sign_of : (is_alias : Bool) → ℕ
 sign_of true = 42
 sign_of false = 38
 
-by_sign : (is_alias : Bool) (t : State) → token_by (class_of (sign_of is_alias)) t ≡ fetch_anchor is_alias t
+by_sign : (is_alias : Bool) (t : ScannerState) → token_by (class_of (sign_of is_alias)) t ≡ fetch_anchor is_alias t
 unfolding class_of
 by_sign true t = refl
 by_sign false t = refl
@@ -78,13 +78,13 @@ abbrev named_parts : Parts → (is_alias : Bool) (name : List ℕ) → Option Ke
 named_parts p is_alias name key = record { place = along name (past p.place); tokens = p.tokens ++ token p.place (anchor_token is_alias name) ∷ []; key = key; allowed = false; leading = false; adjacent = p.adjacent }
 
 named_at : (is_alias : Bool) (name r : List ℕ) (i : ℕ) (is : List Indent) (p : Parts) (k : Option Key) → is_name name ≡ true → ends_while is_anchor r ≡ true
-    → save_simple_key ((stands (sign_of is_alias ∷ (name ++ r)) i is p).held) ≡ (stands (sign_of is_alias ∷ (name ++ r)) i is (record p { key = k })).held
+    → save_implicit_key ((stands (sign_of is_alias ∷ (name ++ r)) i is p).held) ≡ (stands (sign_of is_alias ∷ (name ++ r)) i is (record p { key = k })).held
     → fetch_anchor is_alias (stands (sign_of is_alias ∷ (name ++ r)) i is p) ≡ Ok (stands r i is (named_parts p is_alias name k))
 unfolding fetch_anchor
 named_at is_alias name r i is p k name_is ends save = rw (name_read (sign_of is_alias) name r p.place name_is ends, save) refl
 
 -- The scanner is after an anchor or an alias, whose token is the last.
-pub record Named (is_alias : Bool) (name : List ℕ) (from : State) (x : List ℕ) (b : Bool) (i : ℕ) (is : List Indent) (want : List Tok → List Tok) : Type 0 where
+pub record Named (is_alias : Bool) (name : List ℕ) (from : ScannerState) (x : List ℕ) (b : Bool) (i : ℕ) (is : List Indent) (want : List Tok → List Tok) : Type 0 where
   pub parts : Parts
   pub start : Position
   pub run : Reaches from (stands x (opened_indent b i) (opened b i is) parts)
@@ -94,7 +94,7 @@ pub record Named (is_alias : Bool) (name : List ℕ) (from : State) (x : List �
   pub last : last_property parts.tokens ≡ property_place (anchor_token is_alias name) start
   pub told : Tells parts.tokens (λ o. want (anchor_token is_alias name ∷ o))
 
-pub named : (is_alias : Bool) (name r : List ℕ) (from : State) (col : ℕ) (b : Bool) (i : ℕ) (is : List Indent) (allowed : Bool) (want : List Tok → List Tok) → is_name name ≡ true → ends_while is_anchor r ≡ true → i ≤ col
+pub named : (is_alias : Bool) (name r : List ℕ) (from : ScannerState) (col : ℕ) (b : Bool) (i : ℕ) (is : List Indent) (allowed : Bool) (want : List Tok → List Tok) → is_name name ≡ true → ends_while is_anchor r ≡ true → i ≤ col
     → Before from (sign_of is_alias ∷ (name ++ r)) col (opened_indent b i) (opened b i is) allowed want → Named is_alias name from r b i is want
 named is_alias name r from col b i is allowed want name_is ends deep u =
     let p = u.parts in
@@ -128,7 +128,7 @@ no_name_after (end []) = refl
 no_name_after (end (l ∷ g)) = refl
 
 -- an alias that is a value
-pub alias_after : (t : Trail) (from : State) (name : List ℕ) (col : ℕ) (b : Bool) (i : ℕ) (is : List Indent) (allowed : Bool) (want : List Tok → List Tok) → is_name name ≡ true → IsTrail t → limit_of t ≤ i → i ≤ col
+pub alias_after : (t : Trail) (from : ScannerState) (name : List ℕ) (col : ℕ) (b : Bool) (i : ℕ) (is : List Indent) (allowed : Bool) (want : List Tok → List Tok) → is_name name ≡ true → IsTrail t → limit_of t ≤ i → i ≤ col
     → Before from (42 ∷ (name ++ trail_text t)) col (opened_indent b i) (opened b i is) allowed want → After from t i is (λ o. want (Tok.alias name ∷ o))
 alias_after t from name col b i is allowed want name_is trail low deep u =
     let v : Before from (42 ∷ (name ++ spell_white (trail_white t) (rest_of t))) col (opened_indent b i) (opened b i is) allowed want = rw (trail_is t) at u in
@@ -145,7 +145,7 @@ no_name (below no_comment g d) y = refl
 no_name (below (comment more text) g d) y = refl
 
 -- before a value on its line
-pub ahead_beside : (name : List ℕ) (from : State) (more : ℕ) (y : List ℕ) (b : Bool) (i : ℕ) (is : List Indent) (want : List Tok → List Tok) → is_solid y ≡ true
+pub ahead_beside : (name : List ℕ) (from : ScannerState) (more : ℕ) (y : List ℕ) (b : Bool) (i : ℕ) (is : List Indent) (want : List Tok → List Tok) → is_solid y ≡ true
     → (z : Named false name from (spell_white (way_white (beside more)) y) b i is want) → Ahead from y (z.parts.place.col + 1 + more) (opened_indent b i) (opened b i is) (λ o. want (Tok.anchor name ∷ o))
 ahead_beside name from more y b i is want solid z =
     let j = opened_indent b i in
@@ -169,7 +169,7 @@ ahead_beside name from more y b i is want solid z =
     }
 
 -- before a block on a later line
-pub marked_below : (name : List ℕ) (from : State) (k : Comment) (g : List GapLine) (column : ℕ) (y : List ℕ) (b : Bool) (c i : ℕ) (is : List Indent) (want : List Tok → List Tok) → IsComment k → IsGap g → c < column → is_solid y ≡ true
+pub marked_below : (name : List ℕ) (from : ScannerState) (k : Comment) (g : List GapLine) (column : ℕ) (y : List ℕ) (b : Bool) (c i : ℕ) (is : List Indent) (want : List Tok → List Tok) → IsComment k → IsGap g → c < column → is_solid y ≡ true
     → Named false name from (spell_white (way_white (below k g column)) y) b (c + 1) (level i true ∷ is) want → Marked from y column c i is true (λ o. want (Tok.anchor name ∷ o))
 marked_below name from k g column y b c i is want line gap deep solid z =
     let j = opened_indent b (c + 1) in

@@ -3,13 +3,12 @@ use Rattle.std.proofs.Common.{◌≡◌, ◌≢◌, ℕ, zero, suc, ◌+◌, ◌
 use Rattle.std.specs.List.{list_all}
 use Rattle.std.proofs.lemmas.Bool.{and_parts}
 use Rattle.std.proofs.lemmas.Bool.Decides.{nat_tests}
-use Rattle.defs_text.specs.Position.{Position}
+use Rattle.defs_text.specs.Position.{Position, position_after}
 use Rattle.yaml_tokens.specs.declared.problem.Fault.{Fault}
 use Rattle.defs_text.specs.Classes as classes
 use Rattle.defs_text.specs.Classes.{is_at_end, is_document_marker, tab}
 use Rattle.defs_scalar.specs.FlowScalar.{begins_with}
 use Rattle.defs_scalar.specs.BlockScalar.{BlockStyle, literal, folded, Row, body, further_text, unbroken, header_of, sign_of, digit_of, row_of, rows_of, column_by, least_column, starts_with_tab, has_content, value_before_text, value_before_end, block_value, is_outside, is_further_text}
-use Rattle.defs_text.specs.Position.{position_after}
 use Rattle.defs_token.specs.BlockPiece as cut
 use Rattle.defs_token.specs.BlockPiece.{read_body, past_spaces, block_place}
 use Rattle.defs_layout.specs.Gap.{GapLine, empty_line, comment_line, spaces, IsGap, AreEmptyLines, IsLineText, is_line_character}
@@ -19,7 +18,8 @@ use Rattle.model_lexers.specs.Machine.{Read, past, past_break}
 use Rattle.model_lexers.specs.Block.{Block, block}
 use Rattle.proof_lexers.proofs.Bridges.{and_false}
 use Rattle.proof_lexers.specs.HeaderEnds.{indicator_of, is_in_line, along}
-use Rattle.proof_lexers.specs.BlockScan.{collection_by, is_literal, IsRead, read, shallow, tabbed, is_tabbed, is_shallow, read_block, without_spaces, further_place}
+use Rattle.proof_lexers.specs.BlockScan.{is_literal_style, IsRead, read, shallow, tabbed, is_tabbed, is_shallow, read_block, without_spaces, further_place}
+use Rattle.proof_lexers.specs.PlainEnds.{collection_of}
 use Rattle.proof_lexers.proofs.Blocks.Written as written
 use Rattle.proof_lexers.proofs.Blocks.Written.{feed, carriage, both, texts, spell}
 use Rattle.proof_lexers.proofs.Blocks.Margins.{after_break, after_line, after_lines}
@@ -74,7 +74,7 @@ IsInside (suc c) column = c < column
 -- The lines of a block of this style, whose value is the text.
 abbrev pub AreBlockLines : BlockStyle → (indent column : ℕ) → (strips : Bool) → (text : List ℕ) → List Line → Type 0
 AreBlockLines s indent column strips text ls =
-    BeginsWithText ls × EndsInText ls × AreLineTexts ls × AreLines column ls × (block_value (header_by s strips) (collection_by indent) (body (indented_lines column ls) further_text) ≡ Some text)
+    BeginsWithText ls × EndsInText ls × AreLineTexts ls × AreLines column ls × (block_value (header_by s strips) (collection_of indent) (body (indented_lines column ls) further_text) ≡ Some text)
 
 -- what its lines are
 record Lines (s : BlockStyle) (i column : ℕ) (strips : Bool) (text : List ℕ) (ls : List Line) : Type 0 where
@@ -89,7 +89,7 @@ record Lines (s : BlockStyle) (i column : ℕ) (strips : Bool) (text : List ℕ)
   all : rows_of column (indented_lines column ls) ≡ Some (before ++ row ∷ [])
   content : has_content (row ∷ []) ≡ true
   value : value_before_text (header_by s strips) (before ++ row ∷ []) ≡ text
-  in_column : (more : List (List ℕ)) → column_by None (collection_by i) (indented_lines column ls ++ more) ≡ column
+  in_column : (more : List (List ℕ)) → column_by None (collection_of i) (indented_lines column ls ++ more) ≡ column
   tabless : (more : List (List ℕ)) → starts_with_tab (indented_lines column ls ++ more) ≡ false
 
 tab_more : (ls more : List (List ℕ)) (b : Bool) → ls ≢ [] → starts_with_tab ls ≡ b → starts_with_tab (ls ++ more) ≡ b
@@ -105,7 +105,7 @@ full_last : (column : ℕ) (init : List Line) (w : List ℕ) → AreLines column
 full_last column [] w are = are.0
 full_last column (l ∷ init) w are = full_last column init w are.1
 
-least : (i : ℕ) → least_column (collection_by i) ≡ i
+least : (i : ℕ) → least_column (collection_of i) ≡ i
 least zero = refl
 least (suc c) = refl
 
@@ -114,15 +114,15 @@ high zero column h = omega arith
 high (suc c) column h = omega (arith, h)
 
 -- the lines have their column, whatever lines stand after them
-in_column_with : (i column : ℕ) (ls : List Line) (more : List (List ℕ)) → IsInside i column → BeginsWithText ls → AreLines column ls → column_by None (collection_by i) (indented_lines column ls ++ more) ≡ column
+in_column_with : (i column : ℕ) (ls : List Line) (more : List (List ℕ)) → IsInside i column → BeginsWithText ls → AreLines column ls → column_by None (collection_of i) (indented_lines column ls ++ more) ≡ column
 in_column_with i column ls more inside begins are = let e = deepest column ls more begins are in let f = least i in let g = high i column inside in omega (arith, e, f, g)
 
-pub in_its_column : (i column : ℕ) (ls : List Line) → IsInside i column → BeginsWithText ls → AreLines column ls → column_by None (collection_by i) (indented_lines column ls) ≡ column
-in_its_column i column ls inside begins are = ap (column_by None (collection_by i)) (sym (append-nil (indented_lines column ls))) ∙ in_column_with i column ls [] inside begins are
+pub in_its_column : (i column : ℕ) (ls : List Line) → IsInside i column → BeginsWithText ls → AreLines column ls → column_by None (collection_of i) (indented_lines column ls) ≡ column
+in_its_column i column ls inside begins are = ap (column_by None (collection_of i)) (sym (append-nil (indented_lines column ls))) ∙ in_column_with i column ls [] inside begins are
 
 -- their value, where their rows are known
-pub value_by_rows : (s : BlockStyle) (i column : ℕ) (strips : Bool) (ts : List (List ℕ)) (rs : List Row) → starts_with_tab ts ≡ false → column_by None (collection_by i) ts ≡ column → rows_of column ts ≡ Some rs
-    → block_value (header_by s strips) (collection_by i) (body ts further_text) ≡ Some (value_before_text (header_by s strips) rs)
+pub value_by_rows : (s : BlockStyle) (i column : ℕ) (strips : Bool) (ts : List (List ℕ)) (rs : List Row) → starts_with_tab ts ≡ false → column_by None (collection_of i) ts ≡ column → rows_of column ts ≡ Some rs
+    → block_value (header_by s strips) (collection_of i) (body ts further_text) ≡ Some (value_before_text (header_by s strips) rs)
 value_by_rows s i column strips ts rs tabless col rows = rw (tabless, col, rows) refl
 
 lines_are : (s : BlockStyle) (i column : ℕ) (strips : Bool) (text : List ℕ) (ls : List Line) → IsInside i column → AreBlockLines s i column strips text ls → Lines s i column strips text ls
@@ -138,7 +138,7 @@ lines_are s i column strips text ls inside h = by (starts_with_tab (indented_lin
         lines_append [] = refl
         lines_append (l ∷ init) = ap (λ x. line_of column l ∷ x) (lines_append init)
 
-    value_is : block_value (header_by s strips) (collection_by i) (body (indented_lines column ls) further_text) ≡ Some text
+    value_is : block_value (header_by s strips) (collection_of i) (body (indented_lines column ls) further_text) ≡ Some text
     value_is = h.4
 
     by : (t : Bool) (o : Option (List Row)) → starts_with_tab (indented_lines column ls) ≡ t → rows_of column (indented_lines column ls) ≡ o → Lines s i column strips text ls
@@ -377,17 +377,17 @@ module _ (s : BlockStyle) (i column : ℕ) (strips : Bool) where
   abbrev is_block : List ℕ → cut.BlockRead
   is_block text = record { style = s; column = column; text = text }
 
-  text_body : (ts : List (List ℕ)) (after : List ℕ) (rs : List Row) → column_by None (collection_by i) ts ≡ column → is_at_end after ≡ false → is_further_text column after ≡ true → starts_with_tab ts ≡ false → rows_of column ts ≡ Some rs
-      → read_body (header_of (indicator_of s ∷ header_line strips)) (collection_by i) (body ts further_text) after ≡ Some (is_block (value_before_text (header_by s strips) rs))
+  text_body : (ts : List (List ℕ)) (after : List ℕ) (rs : List Row) → column_by None (collection_of i) ts ≡ column → is_at_end after ≡ false → is_further_text column after ≡ true → starts_with_tab ts ≡ false → rows_of column ts ≡ Some rs
+      → read_body (header_of (indicator_of s ∷ header_line strips)) (collection_of i) (body ts further_text) after ≡ Some (is_block (value_before_text (header_by s strips) rs))
   text_body ts after rs col some left tabless rows = rw (header_is s strips, col, some, left, tabless, rows) refl
 
-  end_body : (ts : List (List ℕ)) (l : List ℕ) (rs : List Row) (r : Row) → column_by None (collection_by i) (ts ++ l ∷ []) ≡ column → starts_with_tab (ts ++ l ∷ []) ≡ false → rows_of column ts ≡ Some rs → row_of column l ≡ Some r
-      → read_body (header_of (indicator_of s ∷ header_line strips)) (collection_by i) (body ts (unbroken l)) [] ≡ Some (is_block (value_before_end (header_by s strips) column rs l r))
+  end_body : (ts : List (List ℕ)) (l : List ℕ) (rs : List Row) (r : Row) → column_by None (collection_of i) (ts ++ l ∷ []) ≡ column → starts_with_tab (ts ++ l ∷ []) ≡ false → rows_of column ts ≡ Some rs → row_of column l ≡ Some r
+      → read_body (header_of (indicator_of s ∷ header_line strips)) (collection_of i) (body ts (unbroken l)) [] ≡ Some (is_block (value_before_end (header_by s strips) column rs l r))
   end_body ts l rs r col tabless rows last = rw (header_is s strips, col, tabless, rows, last) refl
 
   -- its scan, from its header on
   abbrev pub scan : List ℕ → Position → Result (Read Block) Fault
-  scan a p = block (is_literal s) i (block_text s strips a) p
+  scan a p = block (is_literal_style s) i (block_text s strips a) p
 
 module _ (s : BlockStyle) (i column : ℕ) (strips : Bool) (text : List ℕ) (ls : List Line) (inside : IsInside i column) (h : AreBlockLines s i column strips text ls) (w : List White) (r : List ℕ) (k : After i w r) (p : Position) where
   z : Lines s i column strips text ls
@@ -456,12 +456,12 @@ module _ (s : BlockStyle) (i column : ℕ) (strips : Bool) (text : List ℕ) (ls
       let more = texts (empties k.count) ++ e ∷ [] in
       let same : texts all_lines ++ e ∷ [] ≡ indented_lines column ls ++ more = ap (λ x. x ++ e ∷ []) all_texts ∙ append_assoc (indented_lines column ls) (texts (empties k.count)) (e ∷ []) in
       let value = spaces_value s strips column (z.before ++ z.row ∷ []) k.count k.width some (omega (arith, low, wide)) ∙ z.value in
-      let body_is = end_body s i column strips (texts all_lines) e _ _ (ap (column_by None (collection_by i)) same ∙ z.in_column more) (ap starts_with_tab same ∙ z.tabless more) all_rows (row_spaces column k.width (in_margin i column k.width inside low)) ∙ ap (λ t. Some (is_block s i column strips t)) value in
+      let body_is = end_body s i column strips (texts all_lines) e _ _ (ap (column_by None (collection_of i)) same ∙ z.in_column more) (ap starts_with_tab same ∙ z.tabless more) all_rows (row_spaces column k.width (in_margin i column k.width inside low)) ∙ ap (λ t. Some (is_block s i column strips t)) value in
       let it : Read_as i p the_block piece [] = to_end i p the_block (indicator_of s ∷ header_line strips) feed all_lines e (header_inner s strips) tt (are_all e).2 (inner_spaces k.width [] refl) body_is in
       let now = was_read i p the_block piece [] _ it (no_tab piece [] refl) refl in
       let where_is : further_place p piece [] ≡ beyond (blanks k.width) lines_place = after_spell (header ∷ all_lines) e [] p (are_all (e ++ [])) ∙ spaces_after k.width lines_place in
       let here : block_text s strips (spell_lines column ls (10 ∷ spell_white w r)) ≡ piece ++ [] = spelt_all ∙ ap (λ y. spell (header ∷ all_lines) (spaces k.width y)) none ∙ sym (append-nil piece) in
-      reads_so (block_place column p piece []) (ap (λ a. block (is_literal s) i a p) here ∙ read_at p the_block piece [] [] _ _ now refl where_is
+      reads_so (block_place column p piece []) (ap (λ a. block (is_literal_style s) i a p) here ∙ read_at p the_block piece [] [] _ _ now refl where_is
       ∙ ap (λ y. Ok (record { rest = y; place = beyond (blanks k.width) lines_place; value = record { place = block_place column p piece []; text = text } })) (sym none))
 
   -- further text
@@ -470,7 +470,7 @@ module _ (s : BlockStyle) (i column : ℕ) (strips : Bool) (text : List ℕ) (ls
       let rest = spaces k.width (d ∷ a) in
       let piece = spell (header ∷ all_lines) [] in
       let value = text_value s strips (z.before ++ z.row ∷ []) k.count some ∙ z.value in
-      let body_is = text_body s i column strips (texts all_lines) rest _ (ap (column_by None (collection_by i)) all_texts ∙ z.in_column (texts (empties k.count))) (not_at_end k.width d a begins.0) (further i column k.width d a inside k.low begins)
+      let body_is = text_body s i column strips (texts all_lines) rest _ (ap (column_by None (collection_of i)) all_texts ∙ z.in_column (texts (empties k.count))) (not_at_end k.width d a begins.0) (further i column k.width d a inside k.low begins)
       (ap starts_with_tab all_texts ∙ z.tabless (texts (empties k.count))) all_rows ∙ ap (λ t. Some (is_block s i column strips t)) value in
       let it : Read_as i p the_block piece rest = to_text i p the_block (indicator_of s ∷ header_line strips) feed all_lines rest (header_inner s strips) tt (are_all []).2 (not_at_end k.width d a begins.0) body_is in
       let where_is : further_place p piece rest ≡ beyond (blanks k.width) lines_place = ap (λ q. past_spaces q rest) (after_spell (header ∷ all_lines) [] rest p (are_all rest)) ∙ spaces_past k.width d a lines_place begins.0 in
@@ -478,7 +478,7 @@ module _ (s : BlockStyle) (i column : ℕ) (strips : Bool) (text : List ℕ) (ls
       let off : is_shallow i p the_block piece rest ≡ false = not_shallow i k.width p the_block piece rest inside k.low front in
       let now = was_read i p the_block piece rest _ it (no_tab piece rest (spaces_tab k.width d a begins.0)) off in
       let here : block_text s strips (spell_lines column ls (10 ∷ spell_white w r)) ≡ piece ++ rest = spelt_all ∙ ap (λ y. spell (header ∷ all_lines) (spaces k.width y)) is ∙ sym (spell_more (header ∷ all_lines) [] rest) in
-      reads_so (block_place column p piece rest) (ap (λ x. block (is_literal s) i x p) here ∙ read_at p the_block piece rest (d ∷ a) _ _ now (no_space k.width d a begins.0) where_is
+      reads_so (block_place column p piece rest) (ap (λ x. block (is_literal_style s) i x p) here ∙ read_at p the_block piece rest (d ∷ a) _ _ now (no_space k.width d a begins.0) where_is
       ∙ ap (λ y. Ok (record { rest = y; place = beyond (blanks k.width) lines_place; value = record { place = block_place column p piece rest; text = text } })) (sym is))
 
   -- the block is read up to what stands after it
@@ -509,7 +509,7 @@ module _ (s : BlockStyle) (i column : ℕ) (strips : Bool) (text : List ℕ) (ls
       let inner : is_in_line last ≡ true = inner_spaces column (z.last ++ []) (inner_line z.last q.1) in
       let are : (e : List ℕ) → written.AreLines (header ∷ before) e = λ e. (header_inner s strips, tt, rw append-nil at (are_lines column z.init [] e q.0 tt)) in
       let same : texts before ++ last ∷ [] ≡ indented_lines column ls ++ [] = z.lines ∙ sym (append-nil (indented_lines column ls)) in
-      let body_is = end_body s i column strips (texts before) last z.before z.row (ap (column_by None (collection_by i)) same ∙ z.in_column []) (ap starts_with_tab same ∙ z.tabless []) z.rows z.last_row
+      let body_is = end_body s i column strips (texts before) last z.before z.row (ap (column_by None (collection_of i)) same ∙ z.in_column []) (ap starts_with_tab same ∙ z.tabless []) z.rows z.last_row
       ∙ ap (λ t. Some (is_block s i column strips t)) (last_value s strips column z.before z.row last z.content ∙ z.value) in
       let it : Read_as i p b piece [] = to_end i p b (indicator_of s ∷ header_line strips) feed before last (header_inner s strips) tt (are last).2 inner body_is in
       let now = was_read i p b piece [] _ it (no_tab piece [] refl) refl in
@@ -527,7 +527,7 @@ module _ (s : BlockStyle) (i column : ℕ) (strips : Bool) (text : List ℕ) (ls
         same = refl;
         are = refl;
         up = omega (arith, up, level);
-        now = ap (λ x. block (is_literal s) i x p) here ∙ read_at p b piece [] [] _ _ now refl where_is;
+        now = ap (λ x. block (is_literal_style s) i x p) here ∙ read_at p b piece [] [] _ _ now refl where_is;
       }
 
   -- before each trail that may follow

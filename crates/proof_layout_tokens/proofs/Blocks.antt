@@ -2,19 +2,19 @@
 use Rattle.std.proofs.Common.{◌≡◌, ℕ, suc, ◌+◌, ◌<◌, ◌≤◌, List, [], ◌∷◌, ◌++◌, Bool, true, false, Option, Some, None, Ok, refl, ◌∙◌, arith}
 use Rattle.defs_text.specs.Position.{Position}
 use Rattle.defs_token.specs.Token.{Tok, Style}
-use Rattle.defs_tree.specs.Literal.{is_literal as may_be_literal, is_root_literal}
+use Rattle.defs_tree.specs.Literal.{is_literal_text as may_be_literal, is_root_literal}
 use Rattle.defs_scalar.specs.BlockScalar.{BlockStyle, literal, folded}
 use Rattle.defs_layout.specs.BlockLines.{Line, spell_lines}
 use Rattle.defs_layout.specs.Layout.{folded_header, AreFoldedLines, spell_literal, AreLinesOf}
 use Rattle.model_lexers.specs.Block.{block}
 use Rattle.model_scanner.specs.declared.level.Indent.{Indent}
-use Rattle.model_scanner.specs.State.{Key, State, token}
+use Rattle.model_scanner.specs.State.{Key, ScannerState, token}
 use Rattle.model_scanner.specs.Class.{class_of}
-use Rattle.model_scanner.specs.Keys.{still, save_simple_key}
+use Rattle.model_scanner.specs.Keys.{still, save_implicit_key}
 use Rattle.model_scanner.specs.Document.{block_style, fetch_block_scalar}
 use Rattle.model_scanner.specs.Fetch.{token_by, comes_marker}
 use Rattle.proof_lexers.specs.HeaderEnds.{indicator_of}
-use Rattle.proof_lexers.specs.BlockScan.{is_literal}
+use Rattle.proof_lexers.specs.BlockScan.{is_literal_style}
 use Rattle.proof_layout_tokens.proofs.LayoutStates.{Parts, stands, Opens, opened, opened_indent, IsClosed, Trail, next, marker, end, trail_text, rest_of, limit_of, IsTrail, After}
 use Rattle.proof_layout_tokens.proofs.Whites.{White, spell_white, stays_allowed, allowed_beyond}
 use Rattle.proof_layout_tokens.proofs.Levels
@@ -25,7 +25,7 @@ use Rattle.proof_layout_tokens.proofs.LiteralTexts.{strips_of, headed_literal, l
 
 -- ---- the fetch
 
-by_mark : (s : BlockStyle) (a : List ℕ) (i : ℕ) (is : List Indent) (p : Parts) → token_by (class_of (indicator_of s)) (stands (indicator_of s ∷ a) i is p) ≡ fetch_block_scalar (is_literal s) (stands (indicator_of s ∷ a) i is p)
+by_mark : (s : BlockStyle) (a : List ℕ) (i : ℕ) (is : List Indent) (p : Parts) → token_by (class_of (indicator_of s)) (stands (indicator_of s ∷ a) i is p) ≡ fetch_block_scalar (is_literal_style s) (stands (indicator_of s ∷ a) i is p)
 unfolding class_of
 by_mark literal a i is p = refl
 by_mark folded a i is p = refl
@@ -37,16 +37,16 @@ mark_opens folded a = record { solid = refl; no_directive = refl; no_start = ref
 
 -- a block's style as its token says it
 abbrev token_style : BlockStyle → Style
-token_style s = block_style (is_literal s)
+token_style s = block_style (is_literal_style s)
 
 -- after a block
 abbrev block_parts : Parts → BlockStyle → (text : List ℕ) → Position → Position → Option Key → Parts
 block_parts p s text start place key = record { place = place; tokens = p.tokens ++ token start (Tok.scalar (token_style s) text) ∷ []; key = key; allowed = true; leading = true; adjacent = p.adjacent }
 
 block_at : (s : BlockStyle) (x : List ℕ) (b : Bool) (i : ℕ) (is : List Indent) (p : Parts) (k : Option Key) (text r : List ℕ) (start place : Position) → IsClosed i is
-    → save_simple_key ((stands x (opened_indent b i) (opened b i is) p).held) ≡ (stands x (opened_indent b i) (opened b i is) (record p { key = k })).held
-    → block (is_literal s) i x p.place ≡ Ok (record { rest = r; place = place; value = record { place = start; text = text } })
-    → fetch_block_scalar (is_literal s) (stands x (opened_indent b i) (opened b i is) p) ≡ Ok (stands r i is (block_parts p s text start place k))
+    → save_implicit_key ((stands x (opened_indent b i) (opened b i is) p).held) ≡ (stands x (opened_indent b i) (opened b i is) (record p { key = k })).held
+    → block (is_literal_style s) i x p.place ≡ Ok (record { rest = r; place = place; value = record { place = start; text = text } })
+    → fetch_block_scalar (is_literal_style s) (stands x (opened_indent b i) (opened b i is) p) ≡ Ok (stands r i is (block_parts p s text start place k))
 unfolding fetch_block_scalar
 block_at s x b i is p k text r start place shut save read = rw (save, non_block x b i is (record p { key = k; allowed = true }) shut, read) refl
 
@@ -59,8 +59,8 @@ block_allows (next h d r) g = stays_allowed g
 block_allows (marker h r) g = tt
 block_allows (end h) g = tt
 
-block_done : (s : BlockStyle) (t : Trail) (from : State) (a : List ℕ) (text : List ℕ) (col : ℕ) (b : Bool) (i : ℕ) (is : List Indent) (want : List Tok → List Tok) → i ≤ col → IsClosed i is
-    → (u : Ahead from (indicator_of s ∷ a) col (opened_indent b i) (opened b i is) want) → BlockRead (block (is_literal s) i (indicator_of s ∷ a) u.parts.place) text (trail_white t) (rest_of t) u.parts.place
+block_done : (s : BlockStyle) (t : Trail) (from : ScannerState) (a : List ℕ) (text : List ℕ) (col : ℕ) (b : Bool) (i : ℕ) (is : List Indent) (want : List Tok → List Tok) → i ≤ col → IsClosed i is
+    → (u : Ahead from (indicator_of s ∷ a) col (opened_indent b i) (opened b i is) want) → BlockRead (block (is_literal_style s) i (indicator_of s ∷ a) u.parts.place) text (trail_white t) (rest_of t) u.parts.place
     → After from t i is (λ o. want (Tok.scalar (token_style s) text ∷ o))
 block_done s t from a text col b i is want deep shut u z =
     let p = u.parts in
@@ -79,7 +79,7 @@ block_done s t from a text col b i is want deep shut u z =
 
 -- ---- a block that is a value
 
-block_after : (s : BlockStyle) (t : Trail) (from : State) (column : ℕ) (strips : Bool) (text : List ℕ) (ls : List Line) (col : ℕ) (b : Bool) (i : ℕ) (is : List Indent) (want : List Tok → List Tok) → Follows i t → i ≤ col → IsClosed i is
+block_after : (s : BlockStyle) (t : Trail) (from : ScannerState) (column : ℕ) (strips : Bool) (text : List ℕ) (ls : List Line) (col : ℕ) (b : Bool) (i : ℕ) (is : List Indent) (want : List Tok → List Tok) → Follows i t → i ≤ col → IsClosed i is
     → IsInside i column → AreBlockLines s i column strips text ls
     → Ahead from (block_text s strips (spell_lines column ls (trail_text t))) col (opened_indent b i) (opened b i is) want → After from t i is (λ o. want (Tok.scalar (token_style s) text ∷ o))
 block_after s t from column strips text ls col b i is want f deep shut inside h u =
@@ -88,7 +88,7 @@ block_after s t from column strips text ls col b i is want f deep shut inside h 
     block_done s t from (header_line strips ++ after) text col b i is want deep shut v (block_before s i column strips text ls inside h v.parts.place t f)
 
 -- a block below a collection at a column
-nested_after : (s : BlockStyle) (t : Trail) (from : State) (c column : ℕ) (strips : Bool) (text : List ℕ) (ls : List Line) (col i : ℕ) (b : Bool) (is : List Indent) (want : List Tok → List Tok) → i ≡ suc c → IsTrail t → limit_of t ≤ i → i ≤ col → IsClosed i is
+nested_after : (s : BlockStyle) (t : Trail) (from : ScannerState) (c column : ℕ) (strips : Bool) (text : List ℕ) (ls : List Line) (col i : ℕ) (b : Bool) (is : List Indent) (want : List Tok → List Tok) → i ≡ suc c → IsTrail t → limit_of t ≤ i → i ≤ col → IsClosed i is
     → c < column → AreBlockLines s (suc c) column strips text ls
     → Ahead from (block_text s strips (spell_lines column ls (trail_text t))) col (opened_indent b i) (opened b i is) want → After from t i is (λ o. want (Tok.scalar (token_style s) text ∷ o))
 nested_after s t from c column strips text ls col i b is want same trail low inside shut deep h u =
@@ -98,20 +98,20 @@ headed : (strips : Bool) (r : List ℕ) → folded_header strips ++ r ≡ block_
 headed true r = refl
 headed false r = refl
 
-pub folded_after : (t : Trail) (from : State) (c column : ℕ) (strips : Bool) (text : List ℕ) (ls : List Line) (col : ℕ) (b : Bool) (is : List Indent) (want : List Tok → List Tok) → IsTrail t → limit_of t ≤ c + 1 → c + 1 ≤ col → IsClosed (c + 1) is
+pub folded_after : (t : Trail) (from : ScannerState) (c column : ℕ) (strips : Bool) (text : List ℕ) (ls : List Line) (col : ℕ) (b : Bool) (is : List Indent) (want : List Tok → List Tok) → IsTrail t → limit_of t ≤ c + 1 → c + 1 ≤ col → IsClosed (c + 1) is
     → c < column → AreFoldedLines c column strips text ls
     → Ahead from (folded_header strips ++ spell_lines column ls (trail_text t)) col (opened_indent b (c + 1)) (opened b (c + 1) is) want → After from t (c + 1) is (λ o. want (Tok.scalar Style.folded text ∷ o))
 folded_after t from c column strips text ls col b is want trail low inside shut deep h u =
     nested_after folded t from c column strips text ls col (c + 1) b is want (omega arith) trail low inside shut deep h (rw (headed strips (spell_lines column ls (trail_text t))) at u)
 
-pub literal_after : (t : Trail) (from : State) (c column : ℕ) (text : List ℕ) (ls : List Line) (col : ℕ) (b : Bool) (is : List Indent) (want : List Tok → List Tok) → IsTrail t → limit_of t ≤ c + 1 → c + 1 ≤ col → IsClosed (c + 1) is
+pub literal_after : (t : Trail) (from : ScannerState) (c column : ℕ) (text : List ℕ) (ls : List Line) (col : ℕ) (b : Bool) (is : List Indent) (want : List Tok → List Tok) → IsTrail t → limit_of t ≤ c + 1 → c + 1 ≤ col → IsClosed (c + 1) is
     → c < column → may_be_literal text ≡ true → AreLinesOf text column ls
     → Ahead from (spell_literal column text ls (trail_text t)) col (opened_indent b (c + 1)) (opened b (c + 1) is) want → After from t (c + 1) is (λ o. want (Tok.scalar Style.literal text ∷ o))
 literal_after t from c column text ls col b is want trail low inside shut deep one are u =
     nested_after literal t from c column (strips_of text) text ls col (c + 1) b is want (omega arith) trail low inside shut deep (literal_lines c column text ls deep one are) (rw (headed_literal text (spell_lines column ls (trail_text t))) at u)
 
 -- a literal block at the root
-pub root_literal_after : (t : Trail) (from : State) (text : List ℕ) (ls : List Line) (want : List Tok → List Tok) → Follows 0 t → is_root_literal text ≡ true → AreLinesOf text 0 ls
+pub root_literal_after : (t : Trail) (from : ScannerState) (text : List ℕ) (ls : List Line) (want : List Tok → List Tok) → Follows 0 t → is_root_literal text ≡ true → AreLinesOf text 0 ls
     → Ahead from (spell_literal 0 text ls (trail_text t)) 0 0 [] want → After from t 0 [] (λ o. want (Tok.scalar Style.literal text ∷ o))
 root_literal_after t from text ls want f one are u =
     block_after literal t from 0 (strips_of text) text ls 0 false 0 [] want f (omega arith) refl refl (root_literal_lines text ls one are) (rw (headed_literal text (spell_lines 0 ls (trail_text t))) at u)

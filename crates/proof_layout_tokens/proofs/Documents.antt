@@ -7,8 +7,8 @@ use Rattle.defs_token.specs.Token.{Tok, Token}
 use Rattle.defs_layout.specs.Gap.{GapLine}
 use Rattle.model_lexers.specs.Machine.{past}
 use Rattle.model_scanner.specs.declared.level.Indent.{Indent}
-use Rattle.model_scanner.specs.State.{State, token, try_held}
-use Rattle.model_scanner.specs.Keys.{stale, drop_stale, still, is_required, remove_simple_key}
+use Rattle.model_scanner.specs.State.{ScannerState, token, try_held}
+use Rattle.model_scanner.specs.Keys.{stale, drop_stale, still, is_required, remove_implicit_key}
 use Rattle.model_scanner.specs.Indents.{unroll_indent}
 use Rattle.model_scanner.specs.Block.{last_property}
 use Rattle.model_scanner.specs.Document.{next_line, fetch_stream_start, fetch_stream_end, begin_line, fetch_document_marker}
@@ -43,18 +43,18 @@ opened p ts adjacent = record { place = past (past (past p)); tokens = ts ++ tok
 marks : (a : List ℕ) (i : ℕ) (is : List Indent) (p : Parts) (ts : List Token) → (p.place.col == 0) ≡ true → is_required p.key ≡ false
     → unroll_indent 0 (stands (marker_text a) i is p).held ≡ (stands (marker_text a) 0 [] (record p { tokens = ts })).held
     → fetch_here (stands (marker_text a) i is p) ≡ Ok (stands (10 ∷ a) 0 [] (opened p.place ts p.adjacent))
-unfolding fetch_here fetch_content fetch_first_column comes_marker is_break is_blank fetch_document_marker begin_line remove_simple_key
+unfolding fetch_here fetch_content fetch_first_column comes_marker is_break is_blank fetch_document_marker begin_line remove_implicit_key
 marks a i is p ts col loose u = rw (col, u, loose) refl
 
 -- The scanner is after the marker of a document, in front of its line feed.
-pub record Opened (from : State) (a : List ℕ) (want : List Tok → List Tok) : Type 0 where
+pub record Opened (from : ScannerState) (a : List ℕ) (want : List Tok → List Tok) : Type 0 where
   pub parts : Parts
   pub run : Reaches from (stands (10 ∷ a) 0 [] parts)
   pub free : parts.key ≡ None
   pub no_property : last_property parts.tokens ≡ None
   pub told : Tells parts.tokens want
 
-opened_at : (from : State) (a : List ℕ) (p : Position) (ts : List Token) (adjacent : ℕ) (want : List Tok → List Tok) → Tells ts want → Reaches from (stands (10 ∷ a) 0 [] (opened p ts adjacent))
+opened_at : (from : ScannerState) (a : List ℕ) (p : Position) (ts : List Token) (adjacent : ℕ) (want : List Tok → List Tok) → Tells ts want → Reaches from (stands (10 ∷ a) 0 [] (opened p ts adjacent))
     → Opened from a (λ o. want (Tok.document_start ∷ o))
 opened_at from a p ts adjacent want told run = record {
   parts = opened p ts adjacent;
@@ -74,7 +74,7 @@ document_begins a =
     (there refl (begins text) (there refl (e ∙ rw m (Levels.not_stale (10 ∷ a) 0 [] (opened origin begun.tokens 0) refl)) here))
 
 -- a next document
-pub next_document : (from : State) (g : List GapLine) (a : List ℕ) (want : List Tok → List Tok) → After from (marker g a) 0 [] want → Opened from a (λ o. want (Tok.document_start ∷ o))
+pub next_document : (from : ScannerState) (g : List GapLine) (a : List ℕ) (want : List Tok → List Tok) → After from (marker g a) 0 [] want → Opened from a (λ o. want (Tok.document_start ∷ o))
 next_document from g a want u =
     let text = marker_text a in
     let p = u.parts in
@@ -92,7 +92,7 @@ next_document from g a want u =
 -- ---- the end
 
 -- after the stream's end
-abbrev finished : (i : ℕ) → List Indent → Parts → State
+abbrev finished : (i : ℕ) → List Indent → Parts → ScannerState
 finished i is p = record {
   rest = [];
   held = record {

@@ -6,8 +6,8 @@ use Rattle.defs_token.specs.Token.{Tok}
 use Rattle.defs_layout.specs.Gap.{GapLine, empty_line, comment_line}
 use Rattle.model_lexers.specs.Machine.{past, past_break}
 use Rattle.model_scanner.specs.declared.level.Indent.{Indent}
-use Rattle.model_scanner.specs.State.{Key, State, ◌>>=◌, try_held}
-use Rattle.model_scanner.specs.Keys.{stale, is_far, is_required, save_simple_key, must_be_key}
+use Rattle.model_scanner.specs.State.{Key, ScannerState, ◌>>=◌, try_held}
+use Rattle.model_scanner.specs.Keys.{stale, is_far, is_required, save_implicit_key, must_be_key}
 use Rattle.model_scanner.specs.Indents.{level, unroll_indent}
 use Rattle.model_scanner.specs.Block.{last_property}
 use Rattle.model_scanner.specs.Fetch.{fetch_here, fetch}
@@ -25,12 +25,12 @@ use Rattle.proof_layout_tokens.proofs.Levels
 -- ---- from state to state
 
 -- a fetch from where the next one was known
-pub fetched : (from : State) (x : List ℕ) (c i : ℕ) (is : List Indent) (b : Bool) (want : List Tok → List Tok) (s u : State) → (w : Before from x c i is b want)
+pub fetched : (from : ScannerState) (x : List ℕ) (c i : ℕ) (is : List Indent) (b : Bool) (want : List Tok → List Tok) (s u : ScannerState) → (w : Before from x c i is b want)
     → fetch_here (stands x i is w.parts) ≡ Ok s → try_held stale s ≡ Ok u → Reaches from u
 fetched from x c i is b want s u w e f = reaches_then w.run (there w.going (w.fetches ∙ rw (e, f) refl) here)
 
 -- in front of the next token of a line, or of a line below
-pub before_white : (from : State) (g : List White) (y : List ℕ) (i : ℕ) (is : List Indent) (q : Parts) (want : List Tok → List Tok) → Reaches from (stands (spell_white g y) i is q) → AreWhite g y → q.key ≡ None
+pub before_white : (from : ScannerState) (g : List White) (y : List ℕ) (i : ℕ) (is : List Indent) (q : Parts) (want : List Tok → List Tok) → Reaches from (stands (spell_white g y) i is q) → AreWhite g y → q.key ≡ None
     → i ≤ (beyond g q.place).col + 1 → last_property q.tokens ≡ None → Tells q.tokens want → Before from y ((beyond g q.place).col) i is (allowed_beyond g q.allowed) want
 before_white from g y i is q want run white free deep no_property told =
     let p = passed g q in
@@ -114,7 +114,7 @@ settled (marker g r) p e place allows loose lies = (ap (λ x. x.col) place ∙ g
 settled (end g) p e place allows loose lies = loose
 
 -- The scanner is after a leaf that ends at e, or within the white space after it.
-pub leaf_after : (t : Trail) (from : State) (g : List White) (i : ℕ) (is : List Indent) (q : Parts) (e : Position) (want : List Tok → List Tok) → Reaches from (stands (spell_white g (rest_of t)) i is q) → AreWhite g (rest_of t)
+pub leaf_after : (t : Trail) (from : ScannerState) (g : List White) (i : ℕ) (is : List Indent) (q : Parts) (e : Position) (want : List Tok → List Tok) → Reaches from (stands (spell_white g (rest_of t)) i is q) → AreWhite g (rest_of t)
     → beyond g q.place ≡ beyond (trail_white t) e → Allows t (allowed_beyond g q.allowed) → is_required q.key ≡ false → Lies q.key e.line → last_property q.tokens ≡ None → Tells q.tokens want
     → After from t i is want
 leaf_after t from g i is q e want run white place allows loose lies no_property told = record {
@@ -136,7 +136,7 @@ pub record Saved (x : List ℕ) (i : ℕ) (is : List Indent) (p : Parts) : Type 
   pub key : Option Key
   pub loose : is_required key ≡ false
   pub lies : Lies key p.place.line
-  pub now : save_simple_key ((stands x i is p).held) ≡ (stands x i is (record p { key = key })).held
+  pub now : save_implicit_key ((stands x i is p).held) ≡ (stands x i is (record p { key = key })).held
 
 -- a key that need not come to its `:`, and began on the line of the place or before it
 abbrev pub IsLoose : Parts → Type 0
@@ -155,7 +155,7 @@ not_key x true i is p h = and_false (i + 1 == p.place.col + 1)
 not_key x false i is p h = rw (ne_eqb i (p.place.col + 1) (λ e. omega arith)) refl
 
 saved_by : (x : List ℕ) (b a : Bool) (i : ℕ) (is : List Indent) (p : Parts) → p.allowed ≡ a → i ≤ p.place.col → IsLoose p → Saved x (opened_indent b i) (opened b i is) p
-unfolding save_simple_key
+unfolding save_implicit_key
 saved_by x b true i is p e h loose = record {
   key = Some (record { required = false; number = length p.tokens; place = p.place });
   loose = refl;
@@ -171,8 +171,8 @@ pub saved : (x : List ℕ) (b : Bool) (i : ℕ) (is : List Indent) (p : Parts) �
 saved x b i is p h free = saved_after x b i is p h (free_loose p free)
 
 -- The next fetch finds a text here, on a column; a key that began on its line may be open.
-pub record Ahead (from : State) (x : List ℕ) (c : ℕ) (i : ℕ) (is : List Indent) (want : List Tok → List Tok) : Type 0 where
-  pub state : State
+pub record Ahead (from : ScannerState) (x : List ℕ) (c : ℕ) (i : ℕ) (is : List Indent) (want : List Tok → List Tok) : Type 0 where
+  pub state : ScannerState
   pub run : Reaches from state
   pub going : state.held.ended ≡ false
   pub parts : Parts
@@ -181,17 +181,17 @@ pub record Ahead (from : State) (x : List ℕ) (c : ℕ) (i : ℕ) (is : List In
   pub loose : IsLoose parts
   pub told : Tells parts.tokens want
 
-abbrev pub ahead : (from : State) (x : List ℕ) (c i : ℕ) (is : List Indent) (b : Bool) (want : List Tok → List Tok) → Before from x c i is b want → Ahead from x c i is want
+abbrev pub ahead : (from : ScannerState) (x : List ℕ) (c i : ℕ) (is : List Indent) (b : Bool) (want : List Tok → List Tok) → Before from x c i is b want → Ahead from x c i is want
 ahead from x c i is b want u = record { state = u.state; run = u.run; going = u.going; parts = u.parts; fetches = u.fetches; column = u.column; loose = free_loose u.parts u.free; told = u.told }
 
-pub fetched_ahead : (from : State) (x : List ℕ) (c i : ℕ) (is : List Indent) (want : List Tok → List Tok) (s u : State) → (w : Ahead from x c i is want)
+pub fetched_ahead : (from : ScannerState) (x : List ℕ) (c i : ℕ) (is : List Indent) (want : List Tok → List Tok) (s u : ScannerState) → (w : Ahead from x c i is want)
     → fetch_here (stands x i is w.parts) ≡ Ok s → try_held stale s ≡ Ok u → Reaches from u
 fetched_ahead from x c i is want s u w e f = reaches_then w.run (there w.going (w.fetches ∙ rw (e, f) refl) here)
 
 -- ---- the ends of collections
 
 -- with other levels, of which the same are left to the next line's limit
-with_levels : (t : Trail) (from : State) (i j : ℕ) (is js : List Indent) (want more : List Tok → List Tok) → left (limit_of t) i is ≡ left (limit_of t) j js → ((o : List Tok) → want (ends (limit_of t) i is o) ≡ more (ends (limit_of t) j js o))
+with_levels : (t : Trail) (from : ScannerState) (i j : ℕ) (is js : List Indent) (want more : List Tok → List Tok) → left (limit_of t) i is ≡ left (limit_of t) j js → ((o : List Tok) → want (ends (limit_of t) i is o) ≡ more (ends (limit_of t) j js o))
     → After from t i is want → After from t j js more
 with_levels t from i j is js want more e f u = record {
   text = u.text;
@@ -208,13 +208,13 @@ with_levels t from i j is js want more e f u = record {
 }
 
 -- a collection whose end a next line's limit is
-pub closed : (t : Trail) (from : State) (c i : ℕ) (is : List Indent) (want : List Tok → List Tok) → limit_of t ≤ c → After from t (c + 1) (level i true ∷ is) want → After from t i is (λ o. want (Tok.block_end ∷ o))
+pub closed : (t : Trail) (from : ScannerState) (c i : ℕ) (is : List Indent) (want : List Tok → List Tok) → limit_of t ≤ c → After from t (c + 1) (level i true ∷ is) want → After from t i is (λ o. want (Tok.block_end ∷ o))
 closed t from c i is want low u =
     let h : nat_lt (limit_of t) (c + 1) ≡ true = lt-ltb (limit_of t) (c + 1) (omega (arith, low)) in
     with_levels t from (c + 1) i (level i true ∷ is) is want (λ o. want (Tok.block_end ∷ o)) (rw h refl) (λ o. rw h refl) u
 
 -- a level that opened no collection
-pub left_open : (t : Trail) (from : State) (b : Bool) (i : ℕ) (is : List Indent) (want : List Tok → List Tok) → limit_of t ≤ i → After from t (opened_indent b i) (opened b i is) want → After from t i is want
+pub left_open : (t : Trail) (from : ScannerState) (b : Bool) (i : ℕ) (is : List Indent) (want : List Tok → List Tok) → limit_of t ≤ i → After from t (opened_indent b i) (opened b i is) want → After from t i is want
 left_open t from false i is want low u = u
 left_open t from true i is want low u =
     let h : nat_lt (limit_of t) (i + 1) ≡ true = lt-ltb (limit_of t) (i + 1) (omega (arith, low)) in
@@ -223,7 +223,7 @@ left_open t from true i is want low u =
 -- ---- the next entry of a collection
 
 -- what unrolling to the next line leaves
-next_levels : (from : State) (g : List GapLine) (c i : ℕ) (is : List Indent) (r : List ℕ) (want : List Tok → List Tok) → (u : After from (next g c r) (c + 1) (level i true ∷ is) want)
+next_levels : (from : ScannerState) (g : List GapLine) (c i : ℕ) (is : List Indent) (r : List ℕ) (want : List Tok → List Tok) → (u : After from (next g c r) (c + 1) (level i true ∷ is) want)
     → left (c + 1) u.indent u.indents ≡ record { indent = c + 1; indents = level i true ∷ is }
 next_levels from g c i is r want u = u.same ∙ rw (le-ltb (c + 1) (c + 1) (omega arith)) refl
 
@@ -235,7 +235,7 @@ unrolls_to limit x j js p i is e =
 no_ends : (c i : ℕ) (is : List Indent) (o : List Tok) → ends (c + 1) (c + 1) (level i true ∷ is) o ≡ o
 no_ends c i is o = rw (le-ltb (c + 1) (c + 1) (omega arith)) refl
 
-pub before_next : (from : State) (g : List GapLine) (c i : ℕ) (is : List Indent) (r : List ℕ) (want : List Tok → List Tok) → After from (next g c r) (c + 1) (level i true ∷ is) want
+pub before_next : (from : ScannerState) (g : List GapLine) (c i : ℕ) (is : List Indent) (r : List ℕ) (want : List Tok → List Tok) → After from (next g c r) (c + 1) (level i true ∷ is) want
     → Before from r c (c + 1) (level i true ∷ is) true want
 before_next from g c i is r want u =
     let h = next_levels from g c i is r want u in
@@ -260,7 +260,7 @@ before_next from g c i is r want u =
     }
 
 -- The first entry of an array at the column of the key that it is the value of: the level after the key's `:` ends.
-pub before_entry : (from : State) (g : List White) (c i : ℕ) (is : List Indent) (y : List ℕ) (q : Parts) (want : List Tok → List Tok) → Reaches from (stands (spell_white g y) (c + 1 + 1) (level (c + 1) false ∷ level i true ∷ is) q) → AreWhite g y
+pub before_entry : (from : ScannerState) (g : List White) (c i : ℕ) (is : List Indent) (y : List ℕ) (q : Parts) (want : List Tok → List Tok) → Reaches from (stands (spell_white g y) (c + 1 + 1) (level (c + 1) false ∷ level i true ∷ is) q) → AreWhite g y
     → q.key ≡ None → (beyond g q.place).col ≡ c → allowed_beyond g q.allowed ≡ true → last_property q.tokens ≡ None → Tells q.tokens want → Before from y c (c + 1) (level i true ∷ is) true want
 before_entry from g c i is y q want run white free column allows no_property told =
     let js = level i true ∷ is in

@@ -13,8 +13,8 @@ use Rattle.model_lexers.specs.declared.context.SkipTabs.TheVariants.{Yes}
 use Rattle.model_lexers.specs.Machine.{past, past_break}
 use Rattle.model_lexers.specs.Plain.{plain}
 use Rattle.model_scanner.specs.declared.level.Indent.{Indent}
-use Rattle.model_scanner.specs.State.{Key, Held, State, token}
-use Rattle.model_scanner.specs.Keys.{is_far, save_simple_key, must_be_key}
+use Rattle.model_scanner.specs.State.{Key, Held, ScannerState, token}
+use Rattle.model_scanner.specs.Keys.{is_far, save_implicit_key, must_be_key}
 use Rattle.model_scanner.specs.Indents.{level, unroll_non_block_indents, without_open}
 use Rattle.model_scanner.specs.Block.{last_property, begin_pair, insert_key, fetch_value}
 use Rattle.model_lexers.specs.Quoted.{quote_of}
@@ -56,7 +56,7 @@ unfolding is_far
 not_far a p h = rw (along_line a p, along_index a p, le-ltb p.line p.line (omega arith), le-ltb (p.index + 1024) (p.index + length a) (omega (arith, h))) refl
 
 -- The scanner is after a scalar that may be a key, whose token is the last.
-record Keyed (from : State) (x : List ℕ) (s : Stand) (c i : ℕ) (is : List Indent) (tok : Tok) (ts : List Token) : Type 0 where
+record Keyed (from : ScannerState) (x : List ℕ) (s : Stand) (c i : ℕ) (is : List Indent) (tok : Tok) (ts : List Token) : Type 0 where
   parts : Parts
   key : Key
   at : Position
@@ -90,7 +90,7 @@ stand_deep (first true) c i col low e = omega (arith, e, low)
 stand_deep (first false) c i col low e = omega (arith, e, low)
 
 -- The next fetch finds the value of a key, after the `:` at some column.
-pub record Valued (from : State) (w : Way) (y : List ℕ) (c i : ℕ) (is : List Indent) (want : List Tok → List Tok) : Type 0 where
+pub record Valued (from : ScannerState) (w : Way) (y : List ℕ) (c i : ℕ) (is : List Indent) (want : List Tok → List Tok) : Type 0 where
   pub at : ℕ
   pub deep : c + 1 ≤ way_column at w
   pub marked : Marked from y (way_column at w) c i is (allowed_beyond (way_white w) false) want
@@ -100,7 +100,7 @@ value_deep (beside more) c m way h = omega (arith, h)
 value_deep (below k g d) c m way h = let low = way.0 in omega (arith, low)
 
 -- The scanner is after the `:` of a key, whose entries stand at the column c.
-pub record Taken (from : State) (x : List ℕ) (c i : ℕ) (is : List Indent) (want : List Tok → List Tok) : Type 0 where
+pub record Taken (from : ScannerState) (x : List ℕ) (c i : ℕ) (is : List Indent) (want : List Tok → List Tok) : Type 0 where
   pub colon : Position
   pub off : c + 1 ≤ colon.col
   pub parts : Parts
@@ -112,7 +112,7 @@ pub record Taken (from : State) (x : List ℕ) (c i : ℕ) (is : List Indent) (w
   pub told : Tells parts.tokens want
 
 -- its value
-pub valued : (from : State) (w : Way) (y : List ℕ) (c i : ℕ) (is : List Indent) (want : List Tok → List Tok) → IsWay c w → is_solid y ≡ true → Taken from (spell_white (way_white w) y) c i is want → Valued from w y c i is want
+pub valued : (from : ScannerState) (w : Way) (y : List ℕ) (c i : ℕ) (is : List Indent) (want : List Tok → List Tok) → IsWay c w → is_solid y ≡ true → Taken from (spell_white (way_white w) y) c i is want → Valued from w y c i is want
 valued from w y c i is want way solid z =
     let deep = value_deep w c z.colon.col way z.off in
     record {
@@ -123,7 +123,7 @@ valued from w y c i is want way solid z =
     }
 
 -- its value is an array at its column
-pub at_entry : (from : State) (k : Comment) (g : List GapLine) (y : List ℕ) (c i : ℕ) (is : List Indent) (want : List Tok → List Tok) → IsComment k → IsGap g → is_solid y ≡ true → Taken from (spell_white (way_white (below k g c)) y) c i is want
+pub at_entry : (from : ScannerState) (k : Comment) (g : List GapLine) (y : List ℕ) (c i : ℕ) (is : List Indent) (want : List Tok → List Tok) → IsComment k → IsGap g → is_solid y ≡ true → Taken from (spell_white (way_white (below k g c)) y) c i is want
     → Before from y c (c + 1) (level i true ∷ is) true want
 at_entry from k g y c i is want line gap solid z =
     let w = line_feed ∷ gap_white g (blanks c) in
@@ -131,7 +131,7 @@ at_entry from k g y c i is want line gap solid z =
     (ap (λ p. p.col) (beyond_comment k w z.parts.place) ∙ gap_col g c (past_break (comment_place k z.parts.place)) refl) (allowed_comment k w z.parts.allowed ∙ gap_allows g c) z.no_property z.told
 
 -- the `:` after a key
-colon_after : (from : State) (w : Way) (y : List ℕ) (s : Stand) (c i : ℕ) (is : List Indent) (tok : Tok) (ts : List Token) (want : List Tok → List Tok) → i ≤ c → IsClosed i is → Tells ts want
+colon_after : (from : ScannerState) (w : Way) (y : List ℕ) (s : Stand) (c i : ℕ) (is : List Indent) (tok : Tok) (ts : List Token) (want : List Tok → List Tok) → i ≤ c → IsClosed i is → Tells ts want
     → Keyed from (58 ∷ spell_white (way_white w) y) s c i is tok ts
     → Taken from (spell_white (way_white w) y) c i is (λ o. want (starts s Tok.block_mapping_start (Tok.key ∷ tok ∷ Tok.value ∷ o)))
 colon_after from w y s c i is tok ts want low shut told z =
@@ -177,8 +177,8 @@ non_block_stand x (first b) c i is p h = non_block x b i is p h
 abbrev key_here : Bool → Parts → Key
 key_here required p = record { required = required; number = length p.tokens; place = p.place }
 
-saves : (x : List ℕ) (i : ℕ) (is : List Indent) (p : Parts) → p.allowed ≡ true → save_simple_key ((stands x i is p).held) ≡ (stands x i is (record p { key = Some (key_here (must_be_key ((stands x i is p).held)) p) })).held
-unfolding save_simple_key
+saves : (x : List ℕ) (i : ℕ) (is : List Indent) (p : Parts) → p.allowed ≡ true → save_implicit_key ((stands x i is p).held) ≡ (stands x i is (record p { key = Some (key_here (must_be_key ((stands x i is p).held)) p) })).held
+unfolding save_implicit_key
 saves x i is p h = if_true p.allowed _ _ h
   where
     if_true : (b : Bool) (s t : Held) → b ≡ true → (if b then s else t) ≡ s
@@ -203,7 +203,7 @@ abbrev plain_parts : Parts → Key → (w : List ℕ) → Parts
 plain_parts p k w = record { place = along w p.place; tokens = p.tokens ++ token p.place (Tok.scalar Style.plain w) ∷ []; key = Some k; allowed = false; leading = false; adjacent = p.adjacent }
 
 plain_at : (c0 : ℕ) (v : List ℕ) (w : Way) (y : List ℕ) (s : Stand) (c i : ℕ) (is : List Indent) (p : Parts) (k : Key) → are_plain v ≡ true → closes false v ≡ true → is_first c0 ≡ true → p.place.col ≡ c → i ≤ c → IsClosed i is
-    → save_simple_key ((stands (c0 ∷ (v ++ 58 ∷ spell_white (way_white w) y)) (indent_at s c i) (indents_at s i is) p).held) ≡ (stands (c0 ∷ (v ++ 58 ∷ spell_white (way_white w) y)) (indent_at s c i) (indents_at s i is) (record p { key = Some k })).held
+    → save_implicit_key ((stands (c0 ∷ (v ++ 58 ∷ spell_white (way_white w) y)) (indent_at s c i) (indents_at s i is) p).held) ≡ (stands (c0 ∷ (v ++ 58 ∷ spell_white (way_white w) y)) (indent_at s c i) (indents_at s i is) (record p { key = Some k })).held
     → fetch_plain_scalar (stands (c0 ∷ (v ++ 58 ∷ spell_white (way_white w) y)) (indent_at s c i) (indents_at s i is) p)
     ≡ Ok (stands (58 ∷ spell_white (way_white w) y) (indent_at (drop_stand s) c i) (indents_at (drop_stand s) i is) (plain_parts p k (c0 ∷ v)))
 unfolding fetch_plain_scalar
@@ -215,7 +215,7 @@ plain_at c0 v w y s c i is p k chars close one col low shut save =
     ) refl
 
 -- a plain scalar and its `:`
-plain_keyed : (from : State) (c0 : ℕ) (v : List ℕ) (w : Way) (y : List ℕ) (s : Stand) (c i : ℕ) (is : List Indent) (want : List Tok → List Tok)
+plain_keyed : (from : ScannerState) (c0 : ℕ) (v : List ℕ) (w : Way) (y : List ℕ) (s : Stand) (c i : ℕ) (is : List Indent) (want : List Tok → List Tok)
     → are_plain v ≡ true → closes false v ≡ true → is_first c0 ≡ true → is_second c0 v ≡ true → length (c0 ∷ v) ≤ 1024 → i ≤ c → IsClosed i is
     → (u : Before from (c0 ∷ (v ++ 58 ∷ spell_white (way_white w) y)) c (indent_at s c i) (indents_at s i is) true want)
     → Keyed from (58 ∷ spell_white (way_white w) y) (drop_stand s) c i is (Tok.scalar Style.plain (c0 ∷ v)) u.parts.tokens
@@ -245,7 +245,7 @@ plain_keyed from c0 v w y s c i is want chars close one second short low shut u 
     }
 
 -- The same at a text that the value begins with.
-key_of_text : (from : State) (text : List ℕ) (w : Way) (y : List ℕ) (s : Stand) (c i : ℕ) (is : List Indent) (want : List Tok → List Tok) → IsPlainText text → length text ≤ 1024 → i ≤ c → IsClosed i is
+key_of_text : (from : ScannerState) (text : List ℕ) (w : Way) (y : List ℕ) (s : Stand) (c i : ℕ) (is : List Indent) (want : List Tok → List Tok) → IsPlainText text → length text ≤ 1024 → i ≤ c → IsClosed i is
     → Before from (text ++ 58 ∷ spell_white (way_white w) y) c (indent_at s c i) (indents_at s i is) true want
     → Taken from (spell_white (way_white w) y) c i is (λ o. want (starts (drop_stand s) Tok.block_mapping_start (Tok.key ∷ Tok.scalar Style.plain text ∷ Tok.value ∷ o)))
 key_of_text from text w y s c i is want t short low shut u =
@@ -253,7 +253,7 @@ key_of_text from text w y s c i is want t short low shut u =
     let few : length (t.head ∷ t.tail) ≤ 1024 = rw (t.whole) at short in
     rw (t.whole) (colon_after from w y (drop_stand s) c i is (Tok.scalar Style.plain (t.head ∷ t.tail)) v.parts.tokens want low shut v.told (plain_keyed from t.head t.tail w y s c i is want t.chars t.close t.first t.second few low shut v))
 
-pub plain_key_run : (from : State) (text : List ℕ) (w : Way) (y : List ℕ) (s : Stand) (c i : ℕ) (is : List Indent) (want : List Tok → List Tok) → IsPlainText text → length text ≤ 1024 → i ≤ c → IsClosed i is
+pub plain_key_run : (from : ScannerState) (text : List ℕ) (w : Way) (y : List ℕ) (s : Stand) (c i : ℕ) (is : List Indent) (want : List Tok → List Tok) → IsPlainText text → length text ≤ 1024 → i ≤ c → IsClosed i is
     → Before from (text ++ 58 ∷ spell_white (way_white w) y) c (indent_at s c i) (indents_at s i is) true want
     → Taken from (spell_white (way_white w) y) c i is (λ o. want (starts s Tok.block_mapping_start (Tok.key ∷ Tok.scalar Style.plain text ∷ Tok.value ∷ o)))
 plain_key_run from text w y later c i is want t short low shut u = key_of_text from text w y later c i is want t short low shut u
@@ -275,7 +275,7 @@ module _ (single : Bool) (body text : List ℕ) (is_quoted : IsQuoted single bod
   whole = quote_of single ∷ body
 
   quoted_at : (a : List ℕ) (s : Stand) (c i : ℕ) (is : List Indent) (p : Parts) (k : Key) → p.place.col ≡ c → i ≤ c
-      → save_simple_key ((stands (whole ++ 58 ∷ a) (indent_at s c i) (indents_at s i is) p).held) ≡ (stands (whole ++ 58 ∷ a) (indent_at s c i) (indents_at s i is) (record p { key = Some k })).held
+      → save_implicit_key ((stands (whole ++ 58 ∷ a) (indent_at s c i) (indents_at s i is) p).held) ≡ (stands (whole ++ 58 ∷ a) (indent_at s c i) (indents_at s i is) (record p { key = Some k })).held
       → fetch_flow_scalar single (stands (whole ++ 58 ∷ a) (indent_at s c i) (indents_at s i is) p) ≡ Ok (stands (58 ∷ a) (indent_at s c i) (indents_at s i is) (quoted_parts single p k body text))
   unfolding fetch_flow_scalar check_after_quoted
   quoted_at a s c i is p k col low save =
@@ -289,7 +289,7 @@ module _ (single : Bool) (body text : List ℕ) (is_quoted : IsQuoted single bod
         next_token (indent_at s c i) (indents_at s i is) [] (58 ∷ a) q refl,
       ) refl
 
-  quoted_keyed : (from : State) (a : List ℕ) (s : Stand) (c i : ℕ) (is : List Indent) (want : List Tok → List Tok) → length whole ≤ 1024 → i ≤ c
+  quoted_keyed : (from : ScannerState) (a : List ℕ) (s : Stand) (c i : ℕ) (is : List Indent) (want : List Tok → List Tok) → length whole ≤ 1024 → i ≤ c
       → (u : Before from (whole ++ 58 ∷ a) c (indent_at s c i) (indents_at s i is) true want) → Keyed from (58 ∷ a) s c i is (Tok.scalar (quoted_style single) text) u.parts.tokens
   quoted_keyed from a s c i is want short low u =
       let p = u.parts in
@@ -315,7 +315,7 @@ module _ (single : Bool) (body text : List ℕ) (is_quoted : IsQuoted single bod
         tokens = refl;
       }
 
-  pub quoted_key_run : (from : State) (w : Way) (y : List ℕ) (s : Stand) (c i : ℕ) (is : List Indent) (want : List Tok → List Tok) → length whole ≤ 1024 → i ≤ c → IsClosed i is
+  pub quoted_key_run : (from : ScannerState) (w : Way) (y : List ℕ) (s : Stand) (c i : ℕ) (is : List Indent) (want : List Tok → List Tok) → length whole ≤ 1024 → i ≤ c → IsClosed i is
       → Before from (whole ++ 58 ∷ spell_white (way_white w) y) c (indent_at s c i) (indents_at s i is) true want
       → Taken from (spell_white (way_white w) y) c i is (λ o. want (starts s Tok.block_mapping_start (Tok.key ∷ Tok.scalar (quoted_style single) text ∷ Tok.value ∷ o)))
   quoted_key_run from w y s c i is want short low shut u =

@@ -8,7 +8,7 @@ use Rattle.defs_tree.specs.Order.{tree_eq}
 use Rattle.defs_tree.specs.Quoting.{is_quoted, is_unfit_for_plain}
 use Rattle.defs_tree.specs.Typing.{typing, is_decimal}
 use Rattle.defs_tree.specs.Escapes.{written_character}
-use Rattle.defs_tree.specs.Literal.{is_literal, is_literal_character}
+use Rattle.defs_tree.specs.Literal.{is_literal_text, is_literal_character}
 use Rattle.defs_layout.specs.Gap.{empty_line, comment_line, is_line_character}
 use Rattle.defs_layout.specs.BlockLines.{full, blank}
 use Rattle.defs_layout.specs.Layout.{Scalar, plain, quoted, Inline, scalar, empty_array, empty_hash, no_comment, array, hash, Value, compact, below, literal, last_entry, entry, implicit, explicit, last_field, field, Root, last_document}
@@ -35,7 +35,7 @@ each_form : HasToks (codes "---\n# top\n\n   ? - 1\n     - []\n# mid\n   :      
     ∷ Tok.value ∷ Tok.block_sequence_start ∷ Tok.block_entry ∷ text_tok (codes "x") ∷ Tok.block_entry ∷ Tok.scalar Style.literal (codes "p\n\nq\n") ∷ Tok.block_end
     ∷ Tok.key ∷ text_tok (codes "k") ∷ Tok.value ∷ Tok.block_mapping_start ∷ Tok.key ∷ Tok.scalar Style.double_quoted (codes "z") ∷ Tok.value ∷ Tok.flow_mapping_start ∷ Tok.flow_mapping_end ∷ Tok.block_end
     ∷ Tok.block_end ∷ Tok.stream_end ∷ [])
-unfolding is_quoted is_unfit_for_plain typing is_decimal is_literal is_literal_character is_line_character digits written_character
+unfolding is_quoted is_unfit_for_plain typing is_decimal is_literal_text is_literal_character is_line_character digits written_character
 each_form = layouts_have_their_tokens
     (record {
       is_marked = true;

@@ -4,7 +4,7 @@ use Rattle.defs_text.specs.Position.{Position}
 use Rattle.defs_token.specs.Token.{Tok, Token}
 use Rattle.defs_layout.specs.Gap.{GapLine, IsGap, next_line, spell_gap, spell_ending}
 use Rattle.model_scanner.specs.declared.level.Indent.{Indent}
-use Rattle.model_scanner.specs.State.{Key, State, ◌>>=◌, try_held}
+use Rattle.model_scanner.specs.State.{Key, ScannerState, ◌>>=◌, try_held}
 use Rattle.model_scanner.specs.Keys.{stale, still, is_required}
 use Rattle.model_scanner.specs.Space.{skip_to_next_token}
 use Rattle.model_scanner.specs.Block.{last_property}
@@ -24,7 +24,7 @@ pub record Parts : Type 0 where
   pub adjacent : ℕ
 
 -- before a text, with the levels of indentation
-abbrev pub stands : List ℕ → (indent : ℕ) → List Indent → Parts → State
+abbrev pub stands : List ℕ → (indent : ℕ) → List Indent → Parts → ScannerState
 stands r i is p = record {
   rest = r;
   held = record {
@@ -118,8 +118,8 @@ abbrev pub HasNoProperty : Parts → Type 0
 HasNoProperty p = (p.place.col == 0) ≡ true → last_property p.tokens ≡ None
 
 -- The next fetch finds a text here, on a column, outside its levels' ends; no key is open.
-pub record Before (from : State) (x : List ℕ) (c : ℕ) (i : ℕ) (is : List Indent) (allowed : Bool) (want : List Tok → List Tok) : Type 0 where
-  pub state : State
+pub record Before (from : ScannerState) (x : List ℕ) (c : ℕ) (i : ℕ) (is : List Indent) (allowed : Bool) (want : List Tok → List Tok) : Type 0 where
+  pub state : ScannerState
   pub run : Reaches from state
   pub going : state.held.ended ≡ false
   pub parts : Parts
@@ -142,7 +142,7 @@ Settles (marker g r) p = (p.place.col ≡ 0) × (is_required p.key ≡ false)
 Settles (end g) p = is_required p.key ≡ false
 
 -- The scanner is after a node, up to white space: as far as the next line's limit its levels are these.
-pub record After (from : State) (t : Trail) (i : ℕ) (is : List Indent) (want : List Tok → List Tok) : Type 0 where
+pub record After (from : ScannerState) (t : Trail) (i : ℕ) (is : List Indent) (want : List Tok → List Tok) : Type 0 where
   pub text : List ℕ
   pub first : Parts
   pub indent : ℕ

@@ -5,7 +5,7 @@ use Rattle.defs_layout.specs.Gap.{GapLine, spell_gap, spaces, IsGap}
 use Rattle.defs_layout.specs.Layout.{no_comment, spell, Root, block, inline, literal, Document, Documents, last_document, document, spell_mark, spell_documents, spell_root, spell_inline, spell_block, IsRoot, IsAfterRoot, AreDocuments, spell_literal}
 use Rattle.defs_layout.specs.LayoutTokens.{root_tokens, documents_tokens, marked, layout_tokens}
 use Rattle.model_lexers.specs.Machine.{past_break}
-use Rattle.model_scanner.specs.State.{State}
+use Rattle.model_scanner.specs.State.{ScannerState}
 use Rattle.model_scanner.specs.Run.{Reaches, start}
 use Rattle.model_scanner.specs.TextTokens.{HasToks}
 use Rattle.proof_layout_tokens.proofs.TextTokens.{no_other_tokens, none_is_refused}
@@ -53,7 +53,7 @@ record Ends (root : Root) (t : Trail) : Type 0 where
   outside : limit_of t ≡ 0
   follows : MayFollow root t
 
-root_runs : (root : Root) (t : Trail) (from : State) (want : List Tok → List Tok) → IsRoot root → Ends root t
+root_runs : (root : Root) (t : Trail) (from : ScannerState) (want : List Tok → List Tok) → IsRoot root → Ends root t
     → Before from (body_of root (trail_text t)) (column_of root) 0 [] true want → After from t 0 [] (λ o. want (root_tokens root o))
 root_runs (block column b) t from want h ends u = let out = ends.outside in block_runs column [] b h from t 0 [] false want ends.is_trail (omega (arith, out)) (omega arith) refl u
 root_runs (inline v) t from want h ends u = let out = ends.outside in inline_after v no_comment t from 0 false 0 [] true want h tt ends.is_trail (omega (arith, out)) (omega arith) refl u
@@ -72,7 +72,7 @@ ends_before_marker (literal text ls) g r h = record { is_trail = empty_gap g h; 
 -- ---- in front of a root
 
 -- after a marker
-root_opens : (from : State) (d : Document) (r : List ℕ) (want : List Tok → List Tok) → IsGap d.gap → IsRoot d.root → Opened from (spell_gap d.gap (spell_root d.root r)) want
+root_opens : (from : ScannerState) (d : Document) (r : List ℕ) (want : List Tok → List Tok) → IsGap d.gap → IsRoot d.root → Opened from (spell_gap d.gap (spell_root d.root r)) want
     → Before from (body_of d.root r) (column_of d.root) 0 [] true want
 root_opens from d r want gap is o =
     let c = column_of d.root in

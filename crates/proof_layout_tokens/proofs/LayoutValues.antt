@@ -4,7 +4,7 @@ use Rattle.std.specs.Prelude.{nat_eq}
 use Rattle.std.specs.List.{ends_with}
 use Rattle.defs_token.specs.Token.{Tok}
 use Rattle.defs_tree.specs.Tree.{Tree}
-use Rattle.defs_tree.specs.Literal.{is_literal}
+use Rattle.defs_tree.specs.Literal.{is_literal_text}
 use Rattle.defs_tree.specs.Spelling.{spelling}
 use Rattle.defs_tree.specs.Escapes.{double_quoted, written_escapes}
 use Rattle.defs_layout.specs.Gap.{GapLine, next_line, IsGap}
@@ -16,7 +16,7 @@ use Rattle.defs_layout.specs.Layout.{Scalar, plain, quoted, single_quoted, Inlin
 use Rattle.defs_layout.specs.Layout as layout
 use Rattle.defs_layout.specs.LayoutTokens.{scalar_token, inline_tokens, block_tokens, value_tokens, entry_tokens, field_tokens, all_field_tokens}
 use Rattle.model_scanner.specs.declared.level.Indent.{Indent}
-use Rattle.model_scanner.specs.State.{State}
+use Rattle.model_scanner.specs.State.{ScannerState}
 use Rattle.model_scanner.specs.Indents.{level}
 use Rattle.proof_layout_tokens.proofs.LayoutStates.{is_solid, opened, opened_indent, IsClosed, Trail, next, trail_text, limit_of, IsTrail, Before, After}
 use Rattle.proof_layout_tokens.proofs.Whites.{line_feed, spell_white, blanks, gap_white, spaces_are, next_line_is, allowed_beyond, gap_allows}
@@ -152,15 +152,15 @@ Fits c m allowed (layout.below after g column b) = allowed ≡ true
 Fits c m allowed _ = Unit {0}
 
 abbrev RunsValue : ℕ → Value → Type 0
-RunsValue c v = (from : State) (t : Trail) (m i : ℕ) (is : List Indent) (allowed : Bool) (want : List Tok → List Tok) → IsTrail t → limit_of t ≤ c + 1 → c + 1 ≤ way_column m (way_of c v) → Fits c m allowed v
+RunsValue c v = (from : ScannerState) (t : Trail) (m i : ℕ) (is : List Indent) (allowed : Bool) (want : List Tok → List Tok) → IsTrail t → limit_of t ≤ c + 1 → c + 1 ≤ way_column m (way_of c v) → Fits c m allowed v
     → Marked from (body_of c v (trail_text t)) (way_column m (way_of c v)) c i is allowed want → After from t (c + 1) (level i true ∷ is) (λ o. want (value_tokens v o))
 
 abbrev pub RunsBlock : ℕ → Block → Type 0
-RunsBlock c b = (from : State) (t : Trail) (i : ℕ) (is : List Indent) (is_open : Bool) (want : List Tok → List Tok) → IsTrail t → limit_of t ≤ i → i ≤ c → IsClosed i is
+RunsBlock c b = (from : ScannerState) (t : Trail) (i : ℕ) (is : List Indent) (is_open : Bool) (want : List Tok → List Tok) → IsTrail t → limit_of t ≤ i → i ≤ c → IsClosed i is
     → Before from (spell_block c b (trail_text t)) c (opened_indent is_open i) (opened is_open i is) true want → After from t i is (λ o. want (block_tokens b o))
 
 abbrev Runs : ℕ → (List ℕ → List ℕ) → Tok → (List Tok → List Tok) → Type 0
-Runs c spells tok gives = (from : State) (t : Trail) (s : Stand) (i : ℕ) (is : List Indent) (want : List Tok → List Tok) → IsTrail t → limit_of t ≤ c + 1 → i ≤ c → IsClosed i is
+Runs c spells tok gives = (from : ScannerState) (t : Trail) (s : Stand) (i : ℕ) (is : List Indent) (want : List Tok → List Tok) → IsTrail t → limit_of t ≤ c + 1 → i ≤ c → IsClosed i is
     → Before from (spells (trail_text t)) c (indent_at s c i) (indents_at s i is) true want → After from t (c + 1) (level i true ∷ is) (λ o. want (starts s tok (gives o)))
 
 abbrev RunsEntries : ℕ → Entries → Type 0
@@ -174,14 +174,14 @@ RunsFields c fs = Runs c (spell_fields c fs) Tok.block_mapping_start (all_field_
 
 -- ---- values
 
-scalar_after : (s : Scalar) (k : Comment) (t : Trail) (from : State) (col : ℕ) (b : Bool) (i : ℕ) (is : List Indent) (want : List Tok → List Tok) → IsScalar s → IsComment k → IsTrail t → limit_of t ≤ i → i ≤ col → IsClosed i is
+scalar_after : (s : Scalar) (k : Comment) (t : Trail) (from : ScannerState) (col : ℕ) (b : Bool) (i : ℕ) (is : List Indent) (want : List Tok → List Tok) → IsScalar s → IsComment k → IsTrail t → limit_of t ≤ i → i ≤ col → IsClosed i is
     → Ahead from (spell_scalar s (spell_comment k (trail_text t))) col (opened_indent b i) (opened b i is) want → After from t i is (λ o. want (scalar_token s ∷ o))
 scalar_after (plain s) k t from col b i is want h line trail low deep shut u = plain_after k t from (spelling s) col b i is want line trail low (spelt_plain s h) deep shut u
 scalar_after (quoted text) k t from col b i is want h line trail low deep shut u = quoted_after false (written_escapes text ++ 34 ∷ []) text (double_is text) k t from col b i is want line trail low deep u
 scalar_after (single_quoted text) k t from col b i is want h line trail low deep shut u =
     quoted_after true (flat_map doubled text ++ 39 ∷ []) text (single_is text h) k t from col b i is want line trail low deep (rw (← append_assoc (flat_map doubled text) (39 ∷ []) (spell_comment k (trail_text t))) at u)
 
-pub inline_after : (v : Inline) (k : Comment) (t : Trail) (from : State) (col : ℕ) (b : Bool) (i : ℕ) (is : List Indent) (allowed : Bool) (want : List Tok → List Tok) → IsInline v → IsComment k → IsTrail t → limit_of t ≤ i → i ≤ col → IsClosed i is
+pub inline_after : (v : Inline) (k : Comment) (t : Trail) (from : ScannerState) (col : ℕ) (b : Bool) (i : ℕ) (is : List Indent) (allowed : Bool) (want : List Tok → List Tok) → IsInline v → IsComment k → IsTrail t → limit_of t ≤ i → i ≤ col → IsClosed i is
     → Before from (spell_inline v (spell_comment k (trail_text t))) col (opened_indent b i) (opened b i is) allowed want → After from t i is (λ o. want (inline_tokens v o))
 inline_after (scalar s) k t from col b i is allowed want h line trail low deep shut u = scalar_after s k t from col b i is want h line trail low deep shut (ahead from (spell_scalar s (spell_comment k (trail_text t))) col (opened_indent b i) (opened b i is) allowed want u)
 inline_after empty_array k t from col b i is allowed want h line trail low deep shut u = json_after (Json.empty_array []) k t from col b i is allowed want tt tt (omega arith) tt line trail low deep shut u
@@ -225,7 +225,7 @@ anchored_scalar_runs c more name n s k name_is h line from t m i is allowed want
     scalar_after s k t from (z.parts.place.col + 1 + n) u.is_open (c + 1) (level i true ∷ is) (λ o. want (Tok.anchor name ∷ o)) h line trail low (omega (arith, inside)) refl
     (ahead_beside name from n y u.is_open (c + 1) (level i true ∷ is) want (scalar_solid s (spell_comment k (trail_text t)) h) z)
 
-anchored_literal_runs : (c more : ℕ) (name : List ℕ) (n column : ℕ) (text : List ℕ) (ls : List Line) → is_name name ≡ true → c < column → is_literal text ≡ true → AreLinesOf text column ls → RunsValue c (anchored more name (literal n column text ls))
+anchored_literal_runs : (c more : ℕ) (name : List ℕ) (n column : ℕ) (text : List ℕ) (ls : List Line) → is_name name ≡ true → c < column → is_literal_text text ≡ true → AreLinesOf text column ls → RunsValue c (anchored more name (literal n column text ls))
 anchored_literal_runs c more name n column text ls name_is higher one are from t m i is allowed want trail low deep fits u =
     let y = spell_literal column text ls (trail_text t) in
     let r = spell_white (way_white (beside n)) y in
@@ -287,7 +287,7 @@ entry_runs c v g es gap one more from t s i is want trail low deep shut u =
 -- ---- entries of hashes
 
 -- a scalar key and its `:`
-key_taken : (c : ℕ) (k : Scalar) (w : Way) (y : List ℕ) (from : State) (s : Stand) (i : ℕ) (is : List Indent) (want : List Tok → List Tok) → IsImplicitKey k → i ≤ c → IsClosed i is
+key_taken : (c : ℕ) (k : Scalar) (w : Way) (y : List ℕ) (from : ScannerState) (s : Stand) (i : ℕ) (is : List Indent) (want : List Tok → List Tok) → IsImplicitKey k → i ≤ c → IsClosed i is
     → Before from (spell_scalar k (58 ∷ spell_white (way_white w) y)) c (indent_at s c i) (indents_at s i is) true want
     → Taken from (spell_white (way_white w) y) c i is (λ o. want (starts s Tok.block_mapping_start (Tok.key ∷ scalar_token k ∷ Tok.value ∷ o)))
 key_taken c (plain k) w y from s i is want key deep shut u =

@@ -9,9 +9,9 @@ use Rattle.model_lexers.specs.declared.context.SkipTabs.TheVariants.{Yes}
 use Rattle.model_lexers.specs.Machine.{past, past_break, is_marker, at_marker}
 use Rattle.model_lexers.specs.Space as scalar_space
 use Rattle.model_scanner.specs.declared.level.Indent.{Indent}
-use Rattle.model_scanner.specs.State.{Key, State, peek, token}
+use Rattle.model_scanner.specs.State.{Key, ScannerState, peek, token}
 use Rattle.model_scanner.specs.Class.{class_of}
-use Rattle.model_scanner.specs.Keys.{still, is_required, is_far, save_simple_key}
+use Rattle.model_scanner.specs.Keys.{still, is_required, is_far, save_implicit_key}
 use Rattle.model_scanner.specs.Indents.{unroll_non_block_indents, without_open}
 use Rattle.model_scanner.specs.Space.{skip_spaces}
 use Rattle.model_lexers.specs.Quoted.{quote_of}
@@ -77,7 +77,7 @@ leads (next h d r) g = stays_allowed g
 leads (marker h r) g = tt
 leads (end h) g = tt
 
-record PlainAt (x : Result State Fault) (t : Trail) (c : ℕ) (w : List ℕ) (g : List White) (r : List ℕ) (i : ℕ) (is : List Indent) (p : Parts) : Type 0 where
+record PlainAt (x : Result ScannerState Fault) (t : Trail) (c : ℕ) (w : List ℕ) (g : List White) (r : List ℕ) (i : ℕ) (is : List Indent) (p : Parts) : Type 0 where
   place : Position
   white : List White
   key : Option Key
@@ -157,15 +157,15 @@ plain_comment_at t c v more text b i is p chars close solid deep shut free are =
     }
 
 -- the first character of a value decides
-pub value_ahead : (from : State) (c : ℕ) (a : List ℕ) (col : ℕ) (b : Bool) (i : ℕ) (is : List Indent) (want : List Tok → List Tok) → (u : Ahead from (c ∷ a) col (opened_indent b i) (opened b i is) want) → i ≤ col → Opens c a
+pub value_ahead : (from : ScannerState) (c : ℕ) (a : List ℕ) (col : ℕ) (b : Bool) (i : ℕ) (is : List Indent) (want : List Tok → List Tok) → (u : Ahead from (c ∷ a) col (opened_indent b i) (opened b i is) want) → i ≤ col → Opens c a
     → fetch_here (stands (c ∷ a) (opened_indent b i) (opened b i is) u.parts) ≡ token_by (class_of c) (stands (c ∷ a) (opened_indent b i) (opened b i is) u.parts)
 value_ahead from c a col b i is want u deep o = let e = u.column in Levels.here c a (opened_indent b i) (opened b i is) u.parts o (low_enough b i u.parts.place.col (omega (arith, deep, e)))
 
-pub value_by : (from : State) (c : ℕ) (a : List ℕ) (col : ℕ) (b : Bool) (i : ℕ) (is : List Indent) (allowed : Bool) (want : List Tok → List Tok) → (u : Before from (c ∷ a) col (opened_indent b i) (opened b i is) allowed want) → i ≤ col → Opens c a
+pub value_by : (from : ScannerState) (c : ℕ) (a : List ℕ) (col : ℕ) (b : Bool) (i : ℕ) (is : List Indent) (allowed : Bool) (want : List Tok → List Tok) → (u : Before from (c ∷ a) col (opened_indent b i) (opened b i is) allowed want) → i ≤ col → Opens c a
     → fetch_here (stands (c ∷ a) (opened_indent b i) (opened b i is) u.parts) ≡ token_by (class_of c) (stands (c ∷ a) (opened_indent b i) (opened b i is) u.parts)
 value_by from c a col b i is allowed want u deep o = value_ahead from c a col b i is want (ahead from (c ∷ a) col (opened_indent b i) (opened b i is) allowed want u) deep o
 
-plain_done : (k : Comment) (t : Trail) (from : State) (c : ℕ) (w a : List ℕ) (col : ℕ) (b : Bool) (i : ℕ) (is : List Indent) (want : List Tok → List Tok) → (u : Ahead from (c ∷ (w ++ a)) col (opened_indent b i) (opened b i is) want) → i ≤ col
+plain_done : (k : Comment) (t : Trail) (from : ScannerState) (c : ℕ) (w a : List ℕ) (col : ℕ) (b : Bool) (i : ℕ) (is : List Indent) (want : List Tok → List Tok) → (u : Ahead from (c ∷ (w ++ a)) col (opened_indent b i) (opened b i is) want) → i ≤ col
     → Opens c (w ++ a) → token_by (class_of c) (stands (c ∷ (w ++ a)) (opened_indent b i) (opened b i is) u.parts) ≡ fetch_plain_scalar (stands (c ∷ (w ++ a)) (opened_indent b i) (opened b i is) u.parts)
     → PlainAt (fetch_plain_scalar (stands (c ∷ (w ++ a)) (opened_indent b i) (opened b i is) u.parts)) t c w (comment_white k (trail_white t)) (rest_of t) i is u.parts
     → After from t i is (λ o. want (Tok.scalar Style.plain (c ∷ w) ∷ o))
@@ -179,7 +179,7 @@ plain_done k t from c w a col b i is want u deep opens by z =
     leaf_after t from z.white i is (record q { key = still z.place z.key }) at _ run z.are (z.same ∙ beyond_comment k (trail_white t) (along (c ∷ w) p.place)) z.allows
     (Levels.still_loose z.place z.key z.loose) lies (Levels.last_pushed p.tokens (token p.place (Tok.scalar Style.plain (c ∷ w)))) (Levels.push_tells p.tokens p.place (Tok.scalar Style.plain (c ∷ w)) want u.told)
 
-plain_lines : (t : Trail) (g : List White) (from : State) (c : ℕ) (w : List ℕ) (col : ℕ) (b : Bool) (i : ℕ) (is : List Indent) (want : List Tok → List Tok) → trail_white t ≡ line_feed ∷ g → IsTrail t → limit_of t ≤ i
+plain_lines : (t : Trail) (g : List White) (from : ScannerState) (c : ℕ) (w : List ℕ) (col : ℕ) (b : Bool) (i : ℕ) (is : List Indent) (want : List Tok → List Tok) → trail_white t ≡ line_feed ∷ g → IsTrail t → limit_of t ≤ i
     → is_first c ≡ true → is_second c w ≡ true → are_plain w ≡ true → closes false w ≡ true → i ≤ col → IsClosed i is
     → Ahead from (c ∷ (w ++ 10 ∷ spell_white g (rest_of t))) col (opened_indent b i) (opened b i is) want → After from t i is (λ o. want (Tok.scalar Style.plain (c ∷ w) ∷ o))
 plain_lines t g from c w col b i is want e trail low first second chars close deep shut u =
@@ -193,7 +193,7 @@ plain_lines t g from c w col b i is want e trail low first second chars close de
     let z = plain_line_at t c w g (rest_of t) b i is p chars (rw solid close) solid (omega (arith, deep, column)) shut u.loose are left in
     plain_done no_comment t from c w a col b i is want u deep (plain_opens c w a first second at_break) (plain_by (stands (c ∷ (w ++ a)) (opened_indent b i) (opened b i is) p) c w a refl first second chars) (rw e z)
 
-plain_ends : (from : State) (c : ℕ) (w : List ℕ) (col : ℕ) (b : Bool) (i : ℕ) (is : List Indent) (want : List Tok → List Tok)
+plain_ends : (from : ScannerState) (c : ℕ) (w : List ℕ) (col : ℕ) (b : Bool) (i : ℕ) (is : List Indent) (want : List Tok → List Tok)
     → is_first c ≡ true → is_second c w ≡ true → are_plain w ≡ true → closes false w ≡ true → i ≤ col → IsClosed i is
     → Ahead from (c ∷ (w ++ [])) col (opened_indent b i) (opened b i is) want → After from (end []) i is (λ o. want (Tok.scalar Style.plain (c ∷ w) ∷ o))
 plain_ends from c w col b i is want first second chars close deep shut u =
@@ -203,7 +203,7 @@ plain_ends from c w col b i is want first second chars close deep shut u =
     let z = plain_end_at c w b i is p chars (rw solid close) solid (omega (arith, deep, column)) shut u.loose in
     plain_done no_comment (end []) from c w [] col b i is want u deep (plain_opens c w [] first second at_end) (plain_by (stands (c ∷ (w ++ [])) (opened_indent b i) (opened b i is) p) c w [] refl first second chars) z
 
-plain_by_trail : (t : Trail) (from : State) (c : ℕ) (w : List ℕ) (col : ℕ) (b : Bool) (i : ℕ) (is : List Indent) (want : List Tok → List Tok) → IsTrail t → limit_of t ≤ i
+plain_by_trail : (t : Trail) (from : ScannerState) (c : ℕ) (w : List ℕ) (col : ℕ) (b : Bool) (i : ℕ) (is : List Indent) (want : List Tok → List Tok) → IsTrail t → limit_of t ≤ i
     → is_first c ≡ true → is_second c w ≡ true → are_plain w ≡ true → closes false w ≡ true → i ≤ col → IsClosed i is
     → Ahead from (c ∷ (w ++ spell_white (trail_white t) (rest_of t))) col (opened_indent b i) (opened b i is) want → After from t i is (λ o. want (Tok.scalar Style.plain (c ∷ w) ∷ o))
 plain_by_trail (next g d r) from c w col b i is want trail low first second chars close deep shut u = plain_lines (next g d r) (gap_white g (blanks d)) from c w col b i is want refl trail low first second chars close deep shut u
@@ -211,7 +211,7 @@ plain_by_trail (marker g r) from c w col b i is want trail low first second char
 plain_by_trail (end []) from c w col b i is want trail low first second chars close deep shut u = plain_ends from c w col b i is want first second chars close deep shut u
 plain_by_trail (end (l ∷ g)) from c w col b i is want trail low first second chars close deep shut u = plain_lines (end (l ∷ g)) (line_white l (ending_white g)) from c w col b i is want refl trail low first second chars close deep shut u
 
-plain_before_comment : (more : ℕ) (text : List ℕ) (t : Trail) (from : State) (c : ℕ) (w : List ℕ) (col : ℕ) (b : Bool) (i : ℕ) (is : List Indent) (want : List Tok → List Tok) → IsLineText text → IsTrail t
+plain_before_comment : (more : ℕ) (text : List ℕ) (t : Trail) (from : ScannerState) (c : ℕ) (w : List ℕ) (col : ℕ) (b : Bool) (i : ℕ) (is : List Indent) (want : List Tok → List Tok) → IsLineText text → IsTrail t
     → is_first c ≡ true → is_second c w ≡ true → are_plain w ≡ true → closes false w ≡ true → i ≤ col → IsClosed i is
     → Ahead from (c ∷ (w ++ spell_white (comment_white (comment more text) (trail_white t)) (rest_of t))) col (opened_indent b i) (opened b i is) want → After from t i is (λ o. want (Tok.scalar Style.plain (c ∷ w) ∷ o))
 plain_before_comment more text t from c w col b i is want line trail first second chars close deep shut u =
@@ -222,7 +222,7 @@ plain_before_comment more text t from c w col b i is want line trail first secon
     let z = plain_comment_at t c w more text b i is p chars (rw solid close) solid (omega (arith, deep, column)) shut u.loose (line, trail_ends_line t, trail_are_white t trail) in
     plain_done (comment more text) t from c w a col b i is want u deep (plain_opens c w a first second at_space) (plain_by (stands (c ∷ (w ++ a)) (opened_indent b i) (opened b i is) p) c w a refl first second chars) z
 
-plain_by_comment : (k : Comment) (t : Trail) (from : State) (c : ℕ) (w : List ℕ) (col : ℕ) (b : Bool) (i : ℕ) (is : List Indent) (want : List Tok → List Tok) → IsComment k → IsTrail t → limit_of t ≤ i
+plain_by_comment : (k : Comment) (t : Trail) (from : ScannerState) (c : ℕ) (w : List ℕ) (col : ℕ) (b : Bool) (i : ℕ) (is : List Indent) (want : List Tok → List Tok) → IsComment k → IsTrail t → limit_of t ≤ i
     → is_first c ≡ true → is_second c w ≡ true → are_plain w ≡ true → closes false w ≡ true → i ≤ col → IsClosed i is
     → Ahead from (c ∷ (w ++ spell_white (comment_white k (trail_white t)) (rest_of t))) col (opened_indent b i) (opened b i is) want → After from t i is (λ o. want (Tok.scalar Style.plain (c ∷ w) ∷ o))
 plain_by_comment no_comment t from c w col b i is want line trail low first second chars close deep shut u = plain_by_trail t from c w col b i is want trail low first second chars close deep shut u
@@ -233,7 +233,7 @@ pub after_is : (k : Comment) (t : Trail) → spell_comment k (trail_text t) ≡ 
 after_is k t = ap (spell_comment k) (trail_is t) ∙ comment_is k (trail_white t) (rest_of t)
 
 -- a plain scalar that is a value
-pub plain_after : (k : Comment) (t : Trail) (from : State) (w : List ℕ) (col : ℕ) (b : Bool) (i : ℕ) (is : List Indent) (want : List Tok → List Tok) → IsComment k → IsTrail t → limit_of t ≤ i → IsPlainText w → i ≤ col → IsClosed i is
+pub plain_after : (k : Comment) (t : Trail) (from : ScannerState) (w : List ℕ) (col : ℕ) (b : Bool) (i : ℕ) (is : List Indent) (want : List Tok → List Tok) → IsComment k → IsTrail t → limit_of t ≤ i → IsPlainText w → i ≤ col → IsClosed i is
     → Ahead from (w ++ spell_comment k (trail_text t)) col (opened_indent b i) (opened b i is) want → After from t i is (λ o. want (Tok.scalar Style.plain w ∷ o))
 plain_after k t from w col b i is want line trail low text deep shut u =
     let v : Ahead from (text.head ∷ (text.tail ++ spell_white (comment_white k (trail_white t)) (rest_of t))) col (opened_indent b i) (opened b i is) want = rw (text.whole, after_is k t) at u in
@@ -275,7 +275,7 @@ module _ (single : Bool) (body w : List ℕ) (is_quoted : IsQuoted single body w
   whole = quote_of single ∷ body
 
   quoted_at : (n : Comment) (t : Trail) (b : Bool) (i : ℕ) (is : List Indent) (p : Parts) (k : Option Key) → IsComment n → IsTrail t → i ≤ p.place.col
-      → save_simple_key ((stands (whole ++ spell_white (comment_white n (trail_white t)) (rest_of t)) (opened_indent b i) (opened b i is) p).held) ≡ (stands (whole ++ spell_white (comment_white n (trail_white t)) (rest_of t)) (opened_indent b i) (opened b i is) (record p { key = k })).held
+      → save_implicit_key ((stands (whole ++ spell_white (comment_white n (trail_white t)) (rest_of t)) (opened_indent b i) (opened b i is) p).held) ≡ (stands (whole ++ spell_white (comment_white n (trail_white t)) (rest_of t)) (opened_indent b i) (opened b i is) (record p { key = k })).held
       → fetch_flow_scalar single (stands (whole ++ spell_white (comment_white n (trail_white t)) (rest_of t)) (opened_indent b i) (opened b i is) p)
       ≡ Ok (stands (rest_of t) (opened_indent b i) (opened b i is) (quoted_parts single p w (beyond (trail_white t) (comment_place n (along whole p.place))) k (allowed_beyond (trail_white t) false) (leading_beyond (trail_white t) false)))
   unfolding fetch_flow_scalar check_after_quoted
@@ -295,7 +295,7 @@ rest_solid (next g d r) h = h.1
 rest_solid (marker g r) h = refl
 rest_solid (end g) h = refl
 
-pub by_quote : (single : Bool) (t : State) → token_by (class_of (quote_of single)) t ≡ fetch_flow_scalar single t
+pub by_quote : (single : Bool) (t : ScannerState) → token_by (class_of (quote_of single)) t ≡ fetch_flow_scalar single t
 unfolding class_of
 by_quote true t = refl
 by_quote false t = refl
@@ -306,7 +306,7 @@ quote_opens true a = record { solid = refl; no_directive = refl; no_start = refl
 quote_opens false a = record { solid = refl; no_directive = refl; no_start = refl; no_end = refl }
 
 -- a text in quotes that is a value
-pub quoted_after : (single : Bool) (body w : List ℕ) → IsQuoted single body w → (n : Comment) (t : Trail) (from : State) (col : ℕ) (b : Bool) (i : ℕ) (is : List Indent) (want : List Tok → List Tok) → IsComment n → IsTrail t → limit_of t ≤ i → i ≤ col
+pub quoted_after : (single : Bool) (body w : List ℕ) → IsQuoted single body w → (n : Comment) (t : Trail) (from : ScannerState) (col : ℕ) (b : Bool) (i : ℕ) (is : List Indent) (want : List Tok → List Tok) → IsComment n → IsTrail t → limit_of t ≤ i → i ≤ col
     → Ahead from (quote_of single ∷ (body ++ spell_comment n (trail_text t))) col (opened_indent b i) (opened b i is) want → After from t i is (λ o. want (Tok.scalar (quoted_style single) w ∷ o))
 quoted_after single body w is_quoted n t from col b i is want line trail low deep v =
     let white = spell_white (comment_white n (trail_white t)) (rest_of t) in
@@ -320,8 +320,8 @@ quoted_after single body w is_quoted n t from col b i is want line trail low dee
     let at = comment_place n (along (quote_of single ∷ body) p.place) in
     let q = quoted_parts single p w (beyond (trail_white t) at) k.key (allowed_beyond (trail_white t) false) (leading_beyond (trail_white t) false) in
     let e = value_ahead from (quote_of single) (body ++ white) col b i is want u deep (quote_opens single (body ++ white)) ∙ by_quote single (stands x (opened_indent b i) (opened b i is) p) ∙ quoted_at single body w is_quoted n t b i is p k.key line trail inside k.now in
-    let after : State = stands (rest_of t) (opened_indent b i) (opened b i is) q in
-    let aged : State = stands (rest_of t) (opened_indent b i) (opened b i is) (record q { key = still q.place k.key }) in
+    let after : ScannerState = stands (rest_of t) (opened_indent b i) (opened b i is) q in
+    let aged : ScannerState = stands (rest_of t) (opened_indent b i) (opened b i is) (record q { key = still q.place k.key }) in
     let run = fetched_ahead from x col (opened_indent b i) (opened b i is) want after aged u e (Levels.aged (rest_of t) (opened_indent b i) (opened b i is) q k.loose) in
     let lies : Lies (still q.place k.key) at.line = still_lies q.place k.key at.line (rw (comment_line n (along (quote_of single ∷ body) p.place), along_line (quote_of single ∷ body) p.place) k.lies) in
     left_open t from b i is (λ o. want (tok ∷ o)) low

@@ -6,9 +6,9 @@ use Rattle.std.proofs.lemmas.Bool.{and_parts, or_parts, eqb-true, not-true}
 use Rattle.std.proofs.lemmas.Bool.Decides.{nat_tests}
 use Rattle.std.proofs.lemmas.List.{append_cancel_right}
 use lib.Pointwise.{pointwise}
-use Rattle.defs_tree.specs.Grammar.{is_empty}
+use Rattle.defs_text.specs.Text.{is_empty}
 use Rattle.defs_tree.specs.Lines.{lines_of, onto_first_line, ended}
-use Rattle.defs_tree.specs.Literal.{is_literal, is_root_literal, is_literal_character, is_line_feed, first_full_line_is_indented, begins_as_marker, literal_header}
+use Rattle.defs_tree.specs.Literal.{is_literal_text, is_root_literal, is_literal_character, is_line_feed, first_full_line_is_indented, begins_as_marker, literal_header}
 use Rattle.defs_tree.specs.Literal as literal_defs
 use Rattle.defs_tree.proofs.LinesLaws.{lines_of-ended}
 use Rattle.defs_text.specs.Classes.{are_marks, is_blank, is_break, is_nul, is_blank_or_end, is_document_marker}
@@ -214,8 +214,8 @@ not_lone : (c : ℕ) (cs : List ℕ) → list_all is_line_feed (c ∷ cs) ≡ fa
 not_lone c [] h = h
 not_lone c (d ∷ cs) h = and_false (c == 10)
 
-literal_text : (text : List ℕ) → is_literal text ≡ true → LiteralText text
-unfolding is_literal
+literal_text : (text : List ℕ) → is_literal_text text ≡ true → LiteralText text
+unfolding is_literal_text
 literal_text [] h = cc
 literal_text (c ∷ cs) h =
     let text = c ∷ cs in
@@ -253,15 +253,15 @@ lines_by i column text ls inside z are may = by ls are.0 are.1 ends
         )
 
 -- below a collection at a column
-pub literal_lines : (c column : ℕ) (text : List ℕ) (ls : List Line) → c < column → is_literal text ≡ true → AreLinesOf text column ls → AreBlockLines BlockStyle.literal (suc c) column (strips_of text) text ls
+pub literal_lines : (c column : ℕ) (text : List ℕ) (ls : List Line) → c < column → is_literal_text text ≡ true → AreLinesOf text column ls → AreBlockLines BlockStyle.literal (suc c) column (strips_of text) text ls
 literal_lines c column text ls deep one are = lines_by (suc c) column text ls deep (literal_text text one) are (λ e. absurd (omega (arith, deep, e)))
 
 -- at the root
 pub root_literal_lines : (text : List ℕ) (ls : List Line) → is_root_literal text ≡ true → AreLinesOf text 0 ls → AreBlockLines BlockStyle.literal 0 0 (strips_of text) text ls
 unfolding is_root_literal
 root_literal_lines text ls one are =
-    let q = and_parts (is_literal text && not (literal_defs.starts_with_tab text)) (not (list_any begins_as_marker (lines_of text))) one in
-    let r = and_parts (is_literal text) (not (literal_defs.starts_with_tab text)) q.0 in
+    let q = and_parts (is_literal_text text && not (literal_defs.starts_with_tab text)) (not (list_any begins_as_marker (lines_of text))) one in
+    let r = and_parts (is_literal_text text) (not (literal_defs.starts_with_tab text)) q.0 in
     lines_by 0 0 text ls refl (literal_text text r.0) are (λ e. (not-true _ r.1, not-true _ q.1))
 
 -- their header

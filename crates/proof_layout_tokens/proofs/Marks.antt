@@ -16,9 +16,9 @@ use Rattle.model_lexers.specs.declared.context.Whitespace.{Whitespace}
 use Rattle.model_lexers.specs.Machine.{past, past_break}
 use Rattle.model_lexers.specs.Space as scalar_space
 use Rattle.model_scanner.specs.declared.level.Indent.{Indent}
-use Rattle.model_scanner.specs.State.{Held, State, ◌>>=◌, peek, push, token, on_held, try_held, lexed}
+use Rattle.model_scanner.specs.State.{Held, ScannerState, ◌>>=◌, peek, push, token, on_held, try_held, lexed}
 use Rattle.model_scanner.specs.Class.{class_of}
-use Rattle.model_scanner.specs.Keys.{remove_simple_key}
+use Rattle.model_scanner.specs.Keys.{remove_implicit_key}
 use Rattle.model_scanner.specs.Indents.{level, placed, roll_indent, drop_open_level, deepen, roll_one_col_indent, in_block}
 use Rattle.model_scanner.specs.Space.{white, skip_yaml_whitespace, skip_spaces}
 use Rattle.model_scanner.specs.Block.{last_property, at_margin, check_block_entry, check_dash, roll_entry, fetch_block_entry, begin_key, check_key_space, fetch_key, check_value_space, begin_keyless_mapping, begin_keyless_value, fetch_value}
@@ -159,11 +159,11 @@ unfolding check_block_entry
 may_stand x i is p allowed none = rw (at_margin_goes (p.place.col == 0) (last_property p.tokens) p.place (stands x i is p).held refl none, allowed) refl
 
 -- after the dash, the rest of the fetch
-abbrev after_dash : State → Result State Fault
+abbrev after_dash : ScannerState → Result ScannerState Fault
 after_dash v =
     lexed (scalar_space.space Yes v.rest v.held.place) v.held check_dash >>= λ w.
     skip_spaces No w >>= λ x.
-    try_held remove_simple_key (roll_entry x) >>= λ y.
+    try_held remove_implicit_key (roll_entry x) >>= λ y.
     Ok (on_held (λ s. push s.place Tok.block_entry (allow_key true s)) y)
 
 -- after a mark
@@ -184,11 +184,11 @@ unfolding roll_entry
 entry_rolls y i is j p true h e = rw (no_break y h, e, opens y i is j p) refl
 entry_rolls y i is j p false h e = rw (no_break y h, e) refl
 
-no_key : (x : List ℕ) (i : ℕ) (is : List Indent) (p : Parts) → p.key ≡ None → try_held remove_simple_key (stands x i is p) ≡ Ok (stands x i is p)
-unfolding remove_simple_key
+no_key : (x : List ℕ) (i : ℕ) (is : List Indent) (p : Parts) → p.key ≡ None → try_held remove_implicit_key (stands x i is p) ≡ Ok (stands x i is p)
+unfolding remove_implicit_key
 no_key x i is p free = rw free refl
 
-no_tabs : (w : Whitespace) (t : State) → w.found_tabs ≡ false → check_dash w t ≡ Ok t
+no_tabs : (w : Whitespace) (t : ScannerState) → w.found_tabs ≡ false → check_dash w t ≡ Ok t
 unfolding check_dash
 no_tabs w t h = rw h refl
 
@@ -211,7 +211,7 @@ dash_beside n y j i is p solid free =
 dash_below : (k : Comment) (w : List White) (y : List ℕ) (j i : ℕ) (is : List Indent) (p : Parts) → IsComment k → p.key ≡ None
     → after_dash (stands (spell_white (comment_white k (line_feed ∷ w)) y) j (level i true ∷ is) p)
     ≡ Ok (stands (spell_white (line_feed ∷ w) y) (j + 1) (level j false ∷ level i true ∷ is) (marked (comment_place k p.place) (p.tokens ++ token (comment_place k p.place) Tok.block_entry ∷ []) true p.leading p.adjacent))
-unfolding scalar_space.space check_dash skip_spaces roll_entry is_break roll_one_col_indent in_block remove_simple_key
+unfolding scalar_space.space check_dash skip_spaces roll_entry is_break roll_one_col_indent in_block remove_implicit_key
 dash_below no_comment w y j i is p line free = rw free refl
 dash_below (comment more text) w y j i is p line free = rw (comment_passes more text (10 ∷ spell_white w y) (line_feed ∷ w) y p.place line refl at_feed, free) refl
 
@@ -240,7 +240,7 @@ opens_mark m (below (comment more text) g d) y h e = record { solid = h; no_dire
 -- ---- what is known after a mark
 
 -- The next fetch finds a value, after a mark at the column c.
-pub record Marked (from : State) (y : List ℕ) (col c i : ℕ) (is : List Indent) (allowed : Bool) (want : List Tok → List Tok) : Type 0 where
+pub record Marked (from : ScannerState) (y : List ℕ) (col c i : ℕ) (is : List Indent) (allowed : Bool) (want : List Tok → List Tok) : Type 0 where
   pub is_open : Bool
   pub before : Before from y col (opened_indent is_open (c + 1)) (opened is_open (c + 1) (level i true ∷ is)) allowed want
 
@@ -249,7 +249,7 @@ opened_low true c col h = omega (arith, h)
 opened_low false c col h = omega (arith, h)
 
 -- a mark was taken, and white space stands in front of its value
-pub marked_before : (from : State) (g : List White) (y : List ℕ) (col c i : ℕ) (is : List Indent) (b : Bool) (q : Parts) (allowed : Bool) (want : List Tok → List Tok)
+pub marked_before : (from : ScannerState) (g : List White) (y : List ℕ) (col c i : ℕ) (is : List Indent) (b : Bool) (q : Parts) (allowed : Bool) (want : List Tok → List Tok)
     → Reaches from (stands (spell_white g y) (opened_indent b (c + 1)) (opened b (c + 1) (level i true ∷ is)) q) → AreWhite g y → q.key ≡ None → (beyond g q.place).col ≡ col → c + 1 ≤ col → allowed_beyond g q.allowed ≡ allowed
     → last_property q.tokens ≡ None → Tells q.tokens want → Marked from y col c i is allowed want
 marked_before from g y col c i is b q allowed want run white free ends deep allows none told =
@@ -263,12 +263,12 @@ stand_low (first true) c i col low e = omega (arith, e, low)
 stand_low (first false) c i col low e = omega (arith, e, low)
 
 -- the first character of an entry decides
-pub arrived : (from : State) (m : ℕ) (a : List ℕ) (s : Stand) (c i : ℕ) (is : List Indent) (want : List Tok → List Tok) → i ≤ c → (u : Before from (m ∷ a) c (indent_at s c i) (indents_at s i is) true want) → Opens m a
+pub arrived : (from : ScannerState) (m : ℕ) (a : List ℕ) (s : Stand) (c i : ℕ) (is : List Indent) (want : List Tok → List Tok) → i ≤ c → (u : Before from (m ∷ a) c (indent_at s c i) (indents_at s i is) true want) → Opens m a
     → fetch_here (stands (m ∷ a) (indent_at s c i) (indents_at s i is) u.parts) ≡ token_by (class_of m) (stands (m ∷ a) (indent_at s c i) (indents_at s i is) u.parts)
 arrived from m a s c i is want low u o = Levels.here m a (indent_at s c i) (indents_at s i is) u.parts o (stand_low s c i u.parts.place.col low u.column)
 
 -- a `-`, at an entry's column
-pub dash_run : (from : State) (w : Way) (y : List ℕ) (s : Stand) (c i : ℕ) (is : List Indent) (want : List Tok → List Tok) → i ≤ c → IsClosed i is → IsWay c w → is_solid y ≡ true
+pub dash_run : (from : ScannerState) (w : Way) (y : List ℕ) (s : Stand) (c i : ℕ) (is : List Indent) (want : List Tok → List Tok) → i ≤ c → IsClosed i is → IsWay c w → is_solid y ≡ true
     → Before from (45 ∷ spell_white (way_white w) y) c (indent_at s c i) (indents_at s i is) true want
     → Marked from y (way_column c w) c i is true (λ o. want (starts s Tok.block_sequence_start (Tok.block_entry ∷ o)))
 dash_run from (beside more) y s c i is want low closed way solid u =
@@ -387,7 +387,7 @@ way_allows (beside more) = blanks_allow more true
 way_allows (below k g d) = allowed_comment k (line_feed ∷ gap_white g (blanks d)) true ∙ gap_allows g d
 
 -- a `?`, at an entry's column
-pub question_run : (from : State) (w : Way) (y : List ℕ) (s : Stand) (c i : ℕ) (is : List Indent) (want : List Tok → List Tok) → i ≤ c → IsClosed i is → IsWay c w → is_solid y ≡ true
+pub question_run : (from : ScannerState) (w : Way) (y : List ℕ) (s : Stand) (c i : ℕ) (is : List Indent) (want : List Tok → List Tok) → i ≤ c → IsClosed i is → IsWay c w → is_solid y ≡ true
     → Before from (63 ∷ spell_white (way_white w) y) c (indent_at s c i) (indents_at s i is) true want
     → Marked from y (way_column c w) c i is true (λ o. want (starts s Tok.block_mapping_start (Tok.key ∷ o)))
 question_run from w y s c i is want low closed way solid u =
@@ -431,7 +431,7 @@ colon_at w y c i is p col low closed allowed free =
     ) refl
 
 -- the `:` of a key after `?`, at its column
-pub colon_run : (from : State) (w : Way) (y : List ℕ) (c i : ℕ) (is : List Indent) (want : List Tok → List Tok) → i ≤ c → IsClosed i is → IsWay c w → is_solid y ≡ true
+pub colon_run : (from : ScannerState) (w : Way) (y : List ℕ) (c i : ℕ) (is : List Indent) (want : List Tok → List Tok) → i ≤ c → IsClosed i is → IsWay c w → is_solid y ≡ true
     → Before from (58 ∷ spell_white (way_white w) y) c (c + 1) (level i true ∷ is) true want
     → Marked from y (way_column c w) c i is true (λ o. want (Tok.value ∷ o))
 colon_run from w y c i is want low closed way solid u =

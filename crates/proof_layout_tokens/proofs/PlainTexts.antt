@@ -21,7 +21,7 @@ use Rattle.defs_tree.proofs.TypingLaws.{real_text-cases}
 use Rattle.defs_tree.proofs.Unquoted.{unquoted}
 use Rattle.defs_layout.specs.Layout.{IsPlain}
 use Rattle.model_scanner.specs.declared.class.Class.TheVariants.{Other}
-use Rattle.model_scanner.specs.State.{State}
+use Rattle.model_scanner.specs.State.{ScannerState}
 use Rattle.model_scanner.specs.Class.{class_of}
 use Rattle.model_scanner.specs.Document.{fetch_plain_scalar}
 use Rattle.model_scanner.specs.Fetch.{token_by, comes_marker}
@@ -248,7 +248,7 @@ plain_opens c (d ∷ w) r h e f =
     let u = and_parts (not ((c == 45) && (d == 45))) (not ((c == 46) && (d == 46))) q.0 in
     record { solid = z.content; no_directive = z.percent; no_start = rw (not-true ((c == 45) && (d == 45)) u.0) refl; no_end = rw (not-true ((c == 46) && (d == 46)) u.1) refl }
 
-dash_by : (t : State) → is_blank_or_breakz (slice_index t.rest 1) ≡ false → token_by (class_of 45) t ≡ fetch_plain_scalar t
+dash_by : (t : ScannerState) → is_blank_or_breakz (slice_index t.rest 1) ≡ false → token_by (class_of 45) t ≡ fetch_plain_scalar t
 unfolding class_of
 dash_by t h = rw h refl
 
@@ -256,7 +256,7 @@ second_solid : (d : ℕ) → is_plain_char d ≡ true → (d == 32) ≡ false �
 unfolding is_blank is_break
 second_solid d h e = grind (arith, nat_tests)
 
-by_dash : (b : Bool) (t : State) (c : ℕ) (w r : List ℕ) → t.rest ≡ c ∷ (w ++ r) → (c == 45) ≡ b → is_first c ≡ true → is_second c w ≡ true → are_plain w ≡ true → token_by (class_of c) t ≡ fetch_plain_scalar t
+by_dash : (b : Bool) (t : ScannerState) (c : ℕ) (w r : List ℕ) → t.rest ≡ c ∷ (w ++ r) → (c == 45) ≡ b → is_first c ≡ true → is_second c w ≡ true → are_plain w ≡ true → token_by (class_of c) t ≡ fetch_plain_scalar t
 by_dash false t c w r rest e first second chars = rw (plain_class c first e) refl
 by_dash true t c [] r rest e first second chars = let q = and_parts (not (c == 45)) (not (c == 46)) second in let n = not-true (c == 45) q.0 in cc
 by_dash true t c (d ∷ w) r rest e first second chars =
@@ -266,7 +266,7 @@ by_dash true t c (d ∷ w) r rest e first second chars =
     let one = and_parts (is_plain_char d) (are_plain w) chars in
     rw is (dash_by t (rw rest (second_solid d one.0 n)))
 
-pub plain_by : (t : State) (c : ℕ) (w r : List ℕ) → t.rest ≡ c ∷ (w ++ r) → is_first c ≡ true → is_second c w ≡ true → are_plain w ≡ true → token_by (class_of c) t ≡ fetch_plain_scalar t
+pub plain_by : (t : ScannerState) (c : ℕ) (w r : List ℕ) → t.rest ≡ c ∷ (w ++ r) → is_first c ≡ true → is_second c w ≡ true → are_plain w ≡ true → token_by (class_of c) t ≡ fetch_plain_scalar t
 plain_by t c w r rest first second chars = by_dash (c == 45) t c w r rest refl first second chars
 
 pub first_content : (c : ℕ) → is_first c ≡ true → is_content c ≡ true

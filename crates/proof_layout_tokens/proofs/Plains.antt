@@ -7,7 +7,7 @@ use Rattle.yaml_chars.specs.Class.{is_break, is_blank, is_blank_or_breakz}
 use Rattle.yaml_tokens.specs.declared.problem.Fault.{Fault}
 use Rattle.model_lexers.specs.declared.context.Context.{Context}
 use Rattle.model_lexers.specs.Machine.{Read, past, past_break, at_marker}
-use Rattle.model_lexers.specs.Plain.{State, Plain, inside, between, plain, plain_from, can_be_plain, starts, at_dash, at_plain, goes_on, is_shallow}
+use Rattle.model_lexers.specs.Plain.{PlainState, Plain, inside, between, plain, plain_from, can_be_plain, starts, at_dash, at_plain, goes_on, is_shallow}
 use Rattle.proof_layout_tokens.proofs.LayoutStates.{is_content}
 use Rattle.defs_layout.specs.Layout.{comment}
 use Rattle.proof_layout_tokens.proofs.Whites.{White, space, line_feed, remark, spell_white, beyond, AreWhite, blanks, content}
@@ -48,11 +48,11 @@ abbrev pub outside : ℕ → Context
 outside i = record { flow = false; indent = i }
 
 module _ (i : ℕ) (start : Position) where
-  abbrev scan : List ℕ → State → Result (Read Plain) Fault
+  abbrev scan : List ℕ → PlainState → Result (Read Plain) Fault
   scan a s = plain_from (outside i) start a s
 
   -- after a character of the text, or after blanks
-  abbrev at : Bool → Position → List ℕ → List ℕ → State
+  abbrev at : Bool → Position → List ℕ → List ℕ → PlainState
   at false p text gap = record { mode = inside; place = p; folded = record { text = text; gap = []; leading = false; escaped = false } }
   at true p text gap = record { mode = between; place = p; folded = record { text = text; gap = gap; leading = false; escaped = false } }
 
@@ -135,7 +135,7 @@ module _ (i : ℕ) (start : Position) where
     pub are : AreWhite white r
     pub now : t ≡ Ok (record { rest = spell_white white r; place = place; value = record { text = text; leading = leading } })
 
-  abbrev below : Position → List ℕ → List ℕ → State
+  abbrev below : Position → List ℕ → List ℕ → PlainState
   below p text gap = record { mode = between; place = p; folded = record { text = text; gap = gap; leading = true; escaped = false } }
 
   at_remark : (a : List ℕ) (p : Position) (text gap : List ℕ) → scan (35 ∷ a) (below p text gap) ≡ Ok (record { rest = 35 ∷ a; place = p; value = record { text = text; leading = true } })

@@ -17,7 +17,7 @@ use Rattle.model_lexers.specs.Quoted.{quote_of, quoted}
 use Rattle.model_scanner.specs.Run.{HasTokens, IsRefused}
 use Rattle.model_scanner.specs.TextTokens.{HasToks}
 use Rattle.proof_lexers.specs.QuotedScan.{value_of, ends_before, is_some, IsRead}
-use Rattle.proof_lexers.specs.QuotedEnds.{EndsAs}
+use Rattle.proof_lexers.specs.QuotedEnds.{QuotedEndsAs}
 
 -- ---- any text
 

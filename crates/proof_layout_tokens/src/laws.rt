@@ -1,10 +1,6 @@
 //! Laws of the scanner's model and whole texts, each the contract of an empty function.
 
-ghost use Rattle.proof_layout_tokens.specs.Laws.{TextsHaveOneListOfTokens, TextsWithTokensAreNotRefused};
-ghost use Rattle.proof_layout_tokens.specs.Laws.{JsonTextsHaveTheirTokens, JsonTextsHaveNoOtherTokens, JsonTextsAreNotRefused};
-ghost use Rattle.proof_layout_tokens.specs.Laws.{LayoutsHaveTheirTokens, LayoutsHaveNoOtherTokens, LayoutsAreNotRefused};
-ghost use Rattle.proof_layout_tokens.specs.Laws.{LayoutsInTurnHaveTheirTokens, LayoutsInTurnAreNotRefused};
-ghost use Rattle.proof_layout_tokens.specs.Laws.{QuotedTextsHaveTheirTokens};
+ghost use Rattle.proof_layout_tokens.specs.Laws.{TextsHaveOneListOfTokens, TextsWithTokensAreNotRefused, JsonTextsHaveTheirTokens, JsonTextsHaveNoOtherTokens, JsonTextsAreNotRefused, LayoutsHaveTheirTokens, LayoutsHaveNoOtherTokens, LayoutsAreNotRefused, LayoutsInTurnHaveTheirTokens, LayoutsInTurnAreNotRefused, QuotedTextsHaveTheirTokens};
 
 /// A text has at most one list of tokens.
 pub fn texts_have_one_list_of_tokens()

@@ -1,10 +1,7 @@
 //! Laws of streams that are read, and of the events and trees of JSON texts, layouts and quoted texts. Each law is
 //! the contract of an empty function.
 
-ghost use Rattle.proof_layout_trees.specs.Laws.{ReadStreamsAreLoaded, ReadStreamsAreNotRefused, ForetoldEventsAreNotRefused, ReadStreamsAreNotCut};
-ghost use Rattle.proof_layout_trees.specs.Laws.{JsonTokensAreAStream, JsonNumbersStandForTheirTrees, JsonDocumentsReadAsTheirTrees};
-ghost use Rattle.proof_layout_trees.specs.Laws.{JsonTokensReadAsTheirTree, JsonEventsAreLoaded};
-ghost use Rattle.proof_layout_trees.specs.Laws.{LayoutTokensReadAsTheirTrees, LayoutEventsAreLoaded, BasicTokensAreAStream, BasicDocumentsReadAsTheirTrees, QuotedTokensReadAsTheirString};
+ghost use Rattle.proof_layout_trees.specs.Laws.{ReadStreamsAreLoaded, ReadStreamsAreNotRefused, ForetoldEventsAreNotRefused, ReadStreamsAreNotCut, JsonTokensAreAStream, JsonNumbersStandForTheirTrees, JsonDocumentsReadAsTheirTrees, JsonTokensReadAsTheirTree, JsonEventsAreLoaded, LayoutTokensReadAsTheirTrees, LayoutEventsAreLoaded, BasicTokensAreAStream, BasicDocumentsReadAsTheirTrees, QuotedTokensReadAsTheirString};
 
 /// Let tokens be read as trees. A loader that takes the events of their stream, at any places, has these trees as its
 /// documents. Nothing is open, and no repeated key was noted.

@@ -1,6 +1,6 @@
 -- The buffers of a flow scalar's scan join the text of its lines, trimmed and folded.
 use Rattle.std.proofs.Common.{◌≡◌, ℕ, zero, suc, List, [], ◌∷◌, ◌++◌, Bool, true, false, not, ◌&&◌, if◌then◌else◌, replicate, refl, ap, sym, ◌∙◌, append_assoc, append-nil}
-use Rattle.defs_text.specs.Text.{is_nil}
+use Rattle.defs_text.specs.Text.{is_empty}
 use Rattle.defs_text.specs.Classes.{line_feed, space}
 use Rattle.defs_scalar.specs.FlowScalar.{Element, content, blank, line_break, escaped_break, Lines, last_line, line, lines_of, begun_with, without_trailing_blanks, before_break, trimmed, trimmed_after, text_of, folded_break, folded_after, folded}
 use Rattle.model_lexers.specs.Folding.{Folded, with_char, with_escaped_break, joined}
@@ -64,7 +64,7 @@ blank_line : (g : List ℕ) (c : ℕ) (ls : Lines) → line_text (g ++ c ∷ [])
 blank_line g c (last_line l) = rw (one_more g c l) refl
 blank_line g c (line l escaped ls) = rw (one_more g c l) refl
 
-broken : (escaped : Bool) (n : ℕ) → (if true && not escaped && is_nil (replicate n line_feed) then space ∷ [] else replicate n line_feed) ≡ folded_break escaped n
+broken : (escaped : Bool) (n : ℕ) → (if true && not escaped && is_empty (replicate n line_feed) then space ∷ [] else replicate n line_feed) ≡ folded_break escaped n
 broken false zero = refl
 broken true zero = refl
 broken false (suc n) = refl

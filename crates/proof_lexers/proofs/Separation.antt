@@ -1,5 +1,5 @@
-pub mod EachFiller
-pub mod Fillers
+pub mod EachSeparation
+pub mod Separations
 pub mod Places
 pub mod Spaces
 pub mod WhiteSpace

@@ -10,28 +10,29 @@ use Rattle.model_lexers.specs.Block.{header, content, block}
 use Rattle.proof_lexers.specs.HeaderEnds as header_ends
 use Rattle.proof_lexers.specs.HeaderEnds.{indicator_of, is_in_line, ends_line}
 use Rattle.proof_lexers.specs.BlockEnds as block_ends
-use Rattle.proof_lexers.specs.BlockScan.{collection_by, digit_by, is_literal, is_some, IsRead}
+use Rattle.proof_lexers.specs.BlockScan.{digit_by, is_literal_style, is_some, IsRead}
+use Rattle.proof_lexers.specs.PlainEnds.{collection_of}
 
 -- `headers_end_as_their_line_says`; `line` is the rest of the header's line, and `after` the text from the line's end on
 abbrev pub HeadersEndAsTheirLineSays : Type 0
 HeadersEndAsTheirLineSays =
     (style : BlockStyle) (line after : List ℕ) (p : Position) → is_in_line line ≡ true → ends_line after ≡ true
-    → header_ends.EndsAs p style line after (header p (line ++ after) (past p))
+    → header_ends.HeaderEndsAs p style line after (header p (line ++ after) (past p))
 
 -- `first_lines_give_the_column`; `text` is what stands after the header's break
 abbrev pub FirstLinesGiveTheColumn : Type 0
 FirstLinesGiveTheColumn =
     (indent increment : ℕ) (text : List ℕ) (p : Position) → p.col ≡ 0
-    → (content indent increment text p).value.column ≡ column_by (digit_by increment) (collection_by indent) (all_lines (split text).complete (unbroken (split text).last))
+    → (content indent increment text p).value.column ≡ column_by (digit_by increment) (collection_of indent) (all_lines (split text).complete (unbroken (split text).last))
 
 -- `block_pieces_are_read`
 abbrev pub BlockPiecesAreRead : Type 0
 BlockPiecesAreRead =
-    (indent : ℕ) (piece next : List ℕ) (p : Position) (b : BlockRead) → list_all is_some next ≡ true → block_read (collection_by indent) piece next ≡ Some b
-    → IsRead indent p b piece next (block (is_literal b.style) indent (piece ++ next) p)
+    (indent : ℕ) (piece next : List ℕ) (p : Position) (b : BlockRead) → list_all is_some next ≡ true → block_read (collection_of indent) piece next ≡ Some b
+    → IsRead indent p b piece next (block (is_literal_style b.style) indent (piece ++ next) p)
 
 -- `block_scans_end_as_their_text_says`; `text` is what stands after `|` or `>`
 abbrev pub BlockScansEndAsTheirTextSays : Type 0
 BlockScansEndAsTheirTextSays =
     (style : BlockStyle) (indent : ℕ) (text : List ℕ) (p : Position) → list_all is_some text ≡ true
-    → block_ends.EndsAs style indent p text (block (is_literal style) indent (indicator_of style ∷ text) p)
+    → block_ends.BlockEndsAs style indent p text (block (is_literal_style style) indent (indicator_of style ∷ text) p)

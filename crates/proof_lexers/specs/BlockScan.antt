@@ -1,22 +1,17 @@
 -- What the model of a block scalar's scan is told and what it answers, in the definitions' words.
 use Rattle.std.specs.Prelude.{◌≡◌, ℕ, zero, suc, List, [], ◌∷◌, Bool, true, false, ◌&&◌, not, ◌==◌, nat_lt, nat_le, if◌then◌else◌, Option, Some, None, Result, Ok, Err}
-use Rattle.defs_text.specs.Position.{Position}
+use Rattle.proof_lexers.specs.PlainEnds.{collection_of}
+use Rattle.defs_text.specs.Position.{Position, position_after}
 use Rattle.defs_text.specs.Classes.{space, tab, is_at_end}
 use Rattle.defs_text.specs.Breaks.{split}
 use Rattle.defs_scalar.specs.FlowScalar.{begins_with}
 use Rattle.defs_scalar.specs.BlockScalar.{BlockStyle, literal, folded}
-use Rattle.defs_text.specs.Position.{position_after}
 use Rattle.defs_token.specs.BlockPiece.{BlockRead, first_content, past_spaces, block_place}
 use Rattle.yaml_tokens.specs.declared.problem.Fault.{Fault}
 use Rattle.yaml_tokens.specs.declared.problem.Fault.TheVariants.{At}
 use Rattle.yaml_tokens.specs.declared.problem.Problem.TheVariants as problem
 use Rattle.model_lexers.specs.Machine.{Read}
 use Rattle.model_lexers.specs.Block.{Block}
-
--- the column of the innermost open block collection; the scanner keeps one more, and 0 where none is open
-abbrev pub collection_by : (indent : ℕ) → Option ℕ
-collection_by zero = None
-collection_by (suc n) = Some n
 
 -- a header's digit; the scanner keeps 0 where there is none
 abbrev pub digit_by : (increment : ℕ) → Option ℕ
@@ -29,9 +24,9 @@ without_spaces [] = []
 without_spaces (c ∷ r) = (if c == space then without_spaces r else c ∷ r)
 
 -- whether a block scalar is written with `|`
-abbrev pub is_literal : BlockStyle → Bool
-is_literal literal = true
-is_literal folded = false
+abbrev pub is_literal_style : BlockStyle → Bool
+is_literal_style literal = true
+is_literal_style folded = false
 
 -- a character other than NUL, with which a text ends
 abbrev pub is_some : ℕ → Bool

@@ -1,18 +1,16 @@
 -- How the scan of a directive ends, told by its line. YAML 1.2, section 6.8.
 use Rattle.std.specs.Prelude.{◌≡◌, ℕ, suc, List, [], ◌∷◌, ◌++◌, Bool, true, false, nat_le, if◌then◌else◌, take, drop, length, Some, None, Result, Ok, Err, codes}
-use Rattle.defs_text.specs.Position.{Position}
+use Rattle.defs_text.specs.Position.{Position, position_after}
 use Rattle.defs_token.specs.Token.{Tok}
 use Rattle.yaml_tokens.specs.declared.problem.Fault.{Fault}
 use Rattle.yaml_tokens.specs.declared.problem.Fault.TheVariants.{At}
 use Rattle.yaml_tokens.specs.declared.problem.Problem.{Problem}
 use Rattle.yaml_tokens.specs.declared.problem.Problem.TheVariants as problem
 use Rattle.defs_text.specs.Classes.{is_blank, is_break, is_decimal_digit, is_alpha, is_uri, is_at_gap}
-use Rattle.defs_text.specs.Breaks.{is_before_line_feed, is_rest_of_line}
+use Rattle.defs_text.specs.Breaks.{is_before_line_feed, is_rest_of_line, has_no_break}
 use Rattle.defs_scalar.specs.FlowScalar.{begins_with}
 use Rattle.defs_scalar.specs.Tags.{UriFault, leading, after, begins_with_mark, decoded}
 use Rattle.defs_scalar.specs.Directives.{Directive, version, tag_declaration, reserved, begins_prefix, handle_and_rest, directive_of}
-use Rattle.defs_text.specs.Position.{position_after}
-use Rattle.defs_text.specs.Breaks.{has_no_break}
 use Rattle.model_lexers.specs.Machine.{Read}
 use Rattle.proof_lexers.specs.NameEnds.{further}
 use Rattle.proof_lexers.specs.UriEnds.{problem_of}
@@ -59,16 +57,16 @@ pub data IsNoDeclaration (text : List ℕ) : Problem → Type 0 where
   goes_on : is_at_gap (after is_uri (after is_blank (handle_and_rest text).1)) ≡ false → IsNoDeclaration text problem.TagDirectiveEnd
 
 -- Why a line after a `%` at a place is refused: it begins with no name; the name goes on with another character; a version or a declaration is none; or after one stands a comment without a blank, or other text.
-pub data IsRefusal (start : Position) (line : List ℕ) : Fault → Type 0 where
-  no_name : leading is_alpha line ≡ [] → IsRefusal start line (At problem.DirectiveName (further 1 start))
-  by_name : is_at_gap (after is_alpha line) ≡ false → IsRefusal start line (At problem.DirectiveNameEnd (further 1 start))
-  by_version : (why : Problem) → leading is_alpha line ≡ codes "YAML" → IsNoVersion (after is_blank (after is_alpha line)) why → IsRefusal start line (At why start)
-  by_declaration : (why : Problem) → leading is_alpha line ≡ codes "TAG" → IsNoDeclaration (after is_blank (after is_alpha line)) why → IsRefusal start line (At why start)
-  by_comment : (before rest : List ℕ) → line ≡ before ++ 35 ∷ rest → IsRefusal start line (At problem.CommentNotSeparated (further (suc (length before)) start))
-  by_text : (before rest : List ℕ) → line ≡ before ++ rest → is_rest_of_line rest ≡ false → IsRefusal start line (At problem.DirectiveEnd start)
+pub data IsDirectiveRefusal (start : Position) (line : List ℕ) : Fault → Type 0 where
+  no_name : leading is_alpha line ≡ [] → IsDirectiveRefusal start line (At problem.DirectiveName (further 1 start))
+  by_name : is_at_gap (after is_alpha line) ≡ false → IsDirectiveRefusal start line (At problem.DirectiveNameEnd (further 1 start))
+  by_version : (why : Problem) → leading is_alpha line ≡ codes "YAML" → IsNoVersion (after is_blank (after is_alpha line)) why → IsDirectiveRefusal start line (At why start)
+  by_declaration : (why : Problem) → leading is_alpha line ≡ codes "TAG" → IsNoDeclaration (after is_blank (after is_alpha line)) why → IsDirectiveRefusal start line (At why start)
+  by_comment : (before rest : List ℕ) → line ≡ before ++ 35 ∷ rest → IsDirectiveRefusal start line (At problem.CommentNotSeparated (further (suc (length before)) start))
+  by_text : (before rest : List ℕ) → line ≡ before ++ rest → is_rest_of_line rest ≡ false → IsDirectiveRefusal start line (At problem.DirectiveEnd start)
 
 -- The scan of a text after a `%`: it read the directive that its first line is, and the break after that; or the line is none, and the scan has a fault of which it is the reason.
-pub data EndsAs (start : Position) (text : List ℕ) (x : Result (Read Tok) Fault) : Type 0 where
+pub data DirectiveEndsAs (start : Position) (text : List ℕ) (x : Result (Read Tok) Fault) : Type 0 where
   reads : (line next : List ℕ) (d : Directive) → text ≡ line ++ next → has_no_break line ≡ true → ends_line next ≡ true → directive_of (37 ∷ line) ≡ Some d
-      → x ≡ Ok (after_line start (37 ∷ line) next (token_of d)) → EndsAs start text x
-  refuses : (line next : List ℕ) (f : Fault) → text ≡ line ++ next → has_no_break line ≡ true → ends_line next ≡ true → directive_of (37 ∷ line) ≡ None → IsRefusal start line f → x ≡ Err f → EndsAs start text x
+      → x ≡ Ok (after_line start (37 ∷ line) next (token_of d)) → DirectiveEndsAs start text x
+  refuses : (line next : List ℕ) (f : Fault) → text ≡ line ++ next → has_no_break line ≡ true → ends_line next ≡ true → directive_of (37 ∷ line) ≡ None → IsDirectiveRefusal start line f → x ≡ Err f → DirectiveEndsAs start text x

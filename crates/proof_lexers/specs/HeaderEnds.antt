@@ -2,7 +2,7 @@
 use Rattle.std.specs.Prelude.{◌≡◌, ℕ, List, [], ◌∷◌, ◌++◌, Bool, true, false, ◌&&◌, ◌||◌, ◌==◌, not, Option, Some, None, Result, Ok, Err}
 use Rattle.std.specs.List.{list_all}
 use Rattle.defs_text.specs.Position.{Position}
-use Rattle.defs_text.specs.Text.{is_nil}
+use Rattle.defs_text.specs.Text.{is_empty}
 use Rattle.defs_text.specs.Classes.{tab, is_break}
 use Rattle.defs_scalar.specs.FlowScalar.{begins_with}
 use Rattle.defs_scalar.specs.BlockScalar as defs
@@ -52,7 +52,7 @@ along (c ∷ w) p = along w (past p)
 
 -- a header read at a line's end: before the next line, or at the end of the text
 abbrev pub read_header : defs.Header → (after : List ℕ) → Position → Read Header
-read_header h r p = record { rest = (linebreak r p).rest; place = (linebreak r p).place; value = record { indicators = indicators_of h; broken = not (is_nil r) } }
+read_header h r p = record { rest = (linebreak r p).rest; place = (linebreak r p).place; value = record { indicators = indicators_of h; broken = not (is_empty r) } }
 
 -- whether a character is a sign of chomping
 abbrev pub is_sign : ℕ → Bool
@@ -65,12 +65,12 @@ has_zero (c ∷ r) = (c == 48) || (is_sign c && begins_with 48 r)
 
 -- How the scan of a header ends: `start` is the place of its `|` or `>`, and `line` the rest of its line, after which the line's end stands.
 -- It read the header that the line is, if no TAB begins the next line; or the line is none, for a digit 0, a comment right after a header, or other text.
-pub data EndsAs (start : Position) (style : BlockStyle) (line after : List ℕ) (x : Result (Read Header) Fault) : Type 0 where
+pub data HeaderEndsAs (start : Position) (style : BlockStyle) (line after : List ℕ) (x : Result (Read Header) Fault) : Type 0 where
   reads : (h : defs.Header) → header_of (indicator_of style ∷ line) ≡ Some h → begins_with tab (linebreak after start).rest ≡ false
-      → x ≡ Ok (read_header h after (along line (past start))) → EndsAs start style line after x
+      → x ≡ Ok (read_header h after (along line (past start))) → HeaderEndsAs start style line after x
   tabbed : (h : defs.Header) → header_of (indicator_of style ∷ line) ≡ Some h → begins_with tab (linebreak after start).rest ≡ true
-      → x ≡ Err (At problem.BlockScalarTab start) → EndsAs start style line after x
-  zero_digit : header_of (indicator_of style ∷ line) ≡ None → has_zero line ≡ true → x ≡ Err (At problem.BlockScalarZero start) → EndsAs start style line after x
+      → x ≡ Err (At problem.BlockScalarTab start) → HeaderEndsAs start style line after x
+  zero_digit : header_of (indicator_of style ∷ line) ≡ None → has_zero line ≡ true → x ≡ Err (At problem.BlockScalarZero start) → HeaderEndsAs start style line after x
   comment : (h : defs.Header) (before text : List ℕ) → header_of (indicator_of style ∷ line) ≡ None → header_of (indicator_of style ∷ before) ≡ Some h → line ≡ before ++ 35 ∷ text
-      → x ≡ Err (At problem.CommentNotSeparated (along before (past start))) → EndsAs start style line after x
-  no_header : header_of (indicator_of style ∷ line) ≡ None → x ≡ Err (At problem.BlockScalarHeader start) → EndsAs start style line after x
+      → x ≡ Err (At problem.CommentNotSeparated (along before (past start))) → HeaderEndsAs start style line after x
+  no_header : header_of (indicator_of style ∷ line) ≡ None → x ≡ Err (At problem.BlockScalarHeader start) → HeaderEndsAs start style line after x

@@ -4,7 +4,7 @@ pub mod BlockScan
 pub mod BufferLaws
 pub mod Buffers
 pub mod DirectiveEnds
-pub mod Fillers
+pub mod Separations
 pub mod HeaderEnds
 pub mod NameEnds
 pub mod PlainEnds

@@ -16,6 +16,6 @@ abbrev pub after_name : Position → (name rest : List ℕ) → Read (List ℕ)
 after_name p name rest = record { rest = rest; place = further (1 + length name) p; value = name }
 
 -- The scan of a text after an indicator at a place: it read the name that the text begins with, or the text begins with none.
-pub data EndsAs (p : Position) (text : List ℕ) (x : Result (Read (List ℕ)) Fault) : Type 0 where
-  named : (name rest : List ℕ) → text ≡ name ++ rest → is_name name ≡ true → goes_on_with_name rest ≡ false → x ≡ Ok (after_name p name rest) → EndsAs p text x
-  nameless : goes_on_with_name text ≡ false → x ≡ Err (At problem.AnchorName p) → EndsAs p text x
+pub data NameEndsAs (p : Position) (text : List ℕ) (x : Result (Read (List ℕ)) Fault) : Type 0 where
+  named : (name rest : List ℕ) → text ≡ name ++ rest → is_name name ≡ true → goes_on_with_name rest ≡ false → x ≡ Ok (after_name p name rest) → NameEndsAs p text x
+  nameless : goes_on_with_name text ≡ false → x ≡ Err (At problem.AnchorName p) → NameEndsAs p text x

@@ -1,10 +1,9 @@
 -- How the scan of a plain scalar ends, told by its text and by what stands around it. YAML 1.2, section 7.3.3.
 use Rattle.std.specs.Prelude.{◌≡◌, ℕ, zero, suc, List, [], ◌∷◌, ◌++◌, Bool, true, false, ◌&&◌, ◌||◌, not, nat_lt, nat_le, Option, Some, None, Result, Ok, Err}
-use Rattle.defs_text.specs.Position.{Position}
+use Rattle.defs_text.specs.Position.{Position, position_after}
 use Rattle.defs_text.specs.Classes.{is_blank, is_break, is_nul}
 use Rattle.defs_scalar.specs.FlowScalar.{plain_value}
-use Rattle.defs_text.specs.Position.{position_after}
-use Rattle.defs_token.specs.Filler.{is_blanks}
+use Rattle.defs_token.specs.Separation.{is_blanks}
 use Rattle.defs_token.specs.Plain.{Stand, inside, after_blank, on_line, past, begins_flow, goes_on, is_whole_plain}
 use Rattle.yaml_tokens.specs.declared.problem.Fault.{Fault}
 use Rattle.yaml_tokens.specs.declared.problem.Fault.TheVariants.{At}
@@ -68,24 +67,24 @@ goes_over ctx (c ∷ r) next = goes_on ctx.flow (collection_of ctx.indent) insid
 
 -- Why a plain scalar at a place is refused: in a flow collection it begins left of the innermost block collection, or at its start or after blanks or breaks in it a dash stands before a
 -- flow indicator; or a later line of it begins with a TAB left of the innermost block collection.
-pub data IsRefusal (ctx : Context) (start : Position) (text : List ℕ) : Fault → Type 0 where
-  by_column : ctx.flow ≡ true → nat_lt start.col ctx.indent ≡ true → IsRefusal ctx start text (At problem.FlowIndentation start)
+pub data IsPlainRefusal (ctx : Context) (start : Position) (text : List ℕ) : Fault → Type 0 where
+  by_column : ctx.flow ≡ true → nat_lt start.col ctx.indent ≡ true → IsPlainRefusal ctx start text (At problem.FlowIndentation start)
   by_dash : (before rest : List ℕ) → ctx.flow ≡ true → text ≡ before ++ 45 ∷ rest → begins_flow rest ≡ true → goes_over ctx before (45 ∷ rest) ≡ true → is_apart (stand_after after_blank before) ≡ true
-      → IsRefusal ctx start text (At problem.PlainDashInFlow (position_after start before (45 ∷ rest)))
+      → IsPlainRefusal ctx start text (At problem.PlainDashInFlow (position_after start before (45 ∷ rest)))
   by_tab : (before blanks rest : List ℕ) (column : ℕ) → text ≡ before ++ 9 ∷ (blanks ++ rest) → goes_over ctx before (9 ∷ (blanks ++ rest)) ≡ true → stand_after after_blank before ≡ on_line column
-      → nat_lt column ctx.indent ≡ true → is_blanks blanks ≡ true → begins_solid rest ≡ true → IsRefusal ctx start text (At problem.PlainTab start)
+      → nat_lt column ctx.indent ≡ true → is_blanks blanks ≡ true → begins_solid rest ≡ true → IsPlainRefusal ctx start text (At problem.PlainTab start)
 
 -- what is left after a plain scalar at a place, its gap, and what stands after that; its value, and whether a break stands in the gap
 abbrev pub after_plain : Position → (piece gap rest value : List ℕ) → Read Plain
 after_plain p piece gap rest value = record { rest = rest; place = position_after p (piece ++ gap) rest; value = record { text = value; leading = has_break gap } }
 
 -- How a scan ends: it read the whole of a plain scalar as its value, and the blanks and breaks after it; or it has a fault of which the text is the reason.
-pub data EndsAs (ctx : Context) (start : Position) (text : List ℕ) (x : Result (Read Plain) Fault) : Type 0 where
+pub data PlainEndsAs (ctx : Context) (start : Position) (text : List ℕ) (x : Result (Read Plain) Fault) : Type 0 where
   reads : (piece gap rest value : List ℕ) → text ≡ piece ++ (gap ++ rest) → is_whole_plain ctx.flow (collection_of ctx.indent) piece (gap ++ rest) ≡ true → is_gap gap ≡ true → begins_white rest ≡ false
-      → plain_value piece ≡ Some value → x ≡ Ok (after_plain start piece gap rest value) → EndsAs ctx start text x
-  refuses : (f : Fault) → IsRefusal ctx start text f → x ≡ Err f → EndsAs ctx start text x
+      → plain_value piece ≡ Some value → x ≡ Ok (after_plain start piece gap rest value) → PlainEndsAs ctx start text x
+  refuses : (f : Fault) → IsPlainRefusal ctx start text f → x ≡ Err f → PlainEndsAs ctx start text x
 
 -- The scan read just this piece, and the blanks and breaks that the text after it begins with, or it refused the text.
 pub data IsRead (ctx : Context) (start : Position) (piece next value : List ℕ) (x : Result (Read Plain) Fault) : Type 0 where
   read : (gap rest : List ℕ) → next ≡ gap ++ rest → is_gap gap ≡ true → begins_white rest ≡ false → x ≡ Ok (after_plain start piece gap rest value) → IsRead ctx start piece next value x
-  refused : (f : Fault) → IsRefusal ctx start (piece ++ next) f → x ≡ Err f → IsRead ctx start piece next value x
+  refused : (f : Fault) → IsPlainRefusal ctx start (piece ++ next) f → x ≡ Err f → IsRead ctx start piece next value x

@@ -30,15 +30,15 @@ pub data IsBadEscape : List ℕ → Problem → Type 0 where
 
 -- Why the text after an opening quote at a place is refused: a line after the first begins with a document marker; the text ends before the scalar; an escape is none; or a place
 -- of it stands left of the innermost block collection, where a TAB is refused for itself.
-pub data IsRefusal (single : Bool) (ctx : Context) (start : Position) (text : List ℕ) : Fault → Type 0 where
-  by_marker : (body rest : List ℕ) → text ≡ body ++ rest → HasElements single body → has_marker body rest ≡ true → IsRefusal single ctx start text (At problem.QuotedDocumentMarker start)
-  by_end : HasElements single text → IsRefusal single ctx start text (At problem.QuotedEnd start)
-  by_escape : (body rest : List ℕ) (p : Problem) → single ≡ false → text ≡ body ++ 92 ∷ rest → HasElements single body → IsBadEscape rest p → IsRefusal single ctx start text (At p start)
-  by_column : (p : Position) → nat_lt (p.col + 1) ctx.indent ≡ true → IsRefusal single ctx start text (At problem.QuotedIndentation start)
-  by_tab : (p : Position) → nat_lt (p.col + 1) ctx.indent ≡ true → IsRefusal single ctx start text (At problem.TabAsIndentation p)
+pub data IsQuotedRefusal (single : Bool) (ctx : Context) (start : Position) (text : List ℕ) : Fault → Type 0 where
+  by_marker : (body rest : List ℕ) → text ≡ body ++ rest → HasElements single body → has_marker body rest ≡ true → IsQuotedRefusal single ctx start text (At problem.QuotedDocumentMarker start)
+  by_end : HasElements single text → IsQuotedRefusal single ctx start text (At problem.QuotedEnd start)
+  by_escape : (body rest : List ℕ) (p : Problem) → single ≡ false → text ≡ body ++ 92 ∷ rest → HasElements single body → IsBadEscape rest p → IsQuotedRefusal single ctx start text (At p start)
+  by_column : (p : Position) → nat_lt (p.col + 1) ctx.indent ≡ true → IsQuotedRefusal single ctx start text (At problem.QuotedIndentation start)
+  by_tab : (p : Position) → nat_lt (p.col + 1) ctx.indent ≡ true → IsQuotedRefusal single ctx start text (At problem.TabAsIndentation p)
 
 -- How a scan ends: it read a body with a value as that, up to its closing quote; or it has a fault of which the text is the reason.
-pub data EndsAs (single : Bool) (ctx : Context) (start : Position) (text : List ℕ) (x : Result (Read (List ℕ)) Fault) : Type 0 where
+pub data QuotedEndsAs (single : Bool) (ctx : Context) (start : Position) (text : List ℕ) (x : Result (Read (List ℕ)) Fault) : Type 0 where
   reads : (body rest value : List ℕ) (place : Position) → text ≡ body ++ quote_of single ∷ rest → value_of single body ≡ Some value → ends_before single rest ≡ true
-      → x ≡ Ok (record { rest = rest; place = place; value = value }) → EndsAs single ctx start text x
-  refuses : (f : Fault) → IsRefusal single ctx start text f → x ≡ Err f → EndsAs single ctx start text x
+      → x ≡ Ok (record { rest = rest; place = place; value = value }) → QuotedEndsAs single ctx start text x
+  refuses : (f : Fault) → IsQuotedRefusal single ctx start text f → x ≡ Err f → QuotedEndsAs single ctx start text x

@@ -7,13 +7,13 @@ use Rattle.model_lexers.specs.Anchor.{anchor_name}
 use Rattle.model_lexers.specs.Plain.{plain}
 use Rattle.defs_token.specs.Piece.{is_name, goes_on_with_name}
 use Rattle.defs_token.specs.Plain.{is_whole_plain}
-use Rattle.proof_lexers.specs.NameEnds.{after_name, EndsAs}
+use Rattle.proof_lexers.specs.NameEnds.{after_name, NameEndsAs}
 use Rattle.model_lexers.specs.declared.context.SkipTabs.{SkipTabs}
 use Rattle.model_lexers.specs.Space.{space}
 use Rattle.model_scanner.specs.State.{Held}
 use Rattle.model_scanner.specs.Space.{between, skip, white}
-use Rattle.defs_token.specs.Filler.{is_filler}
-use Rattle.proof_lexers.specs.Fillers.{begins_filler, PassesAs, IsPassed, GoesOverAs, SpacesAs}
+use Rattle.defs_token.specs.Separation.{is_separation}
+use Rattle.proof_lexers.specs.Separations.{begins_separation, PassesAs, IsPassed, GoesOverAs, SpacesAs}
 use Rattle.yaml_chars.specs.Class.{is_uri, is_tag}
 use Rattle.defs_text.specs.Classes as classes
 use Rattle.model_lexers.specs.Uri.{uri}
@@ -34,7 +34,7 @@ NamesAreRead = (c : ℕ) (name rest : List ℕ) (p : Position) → is_name name 
 
 -- `names_end_as_their_text_says`
 abbrev pub NamesEndAsTheirTextSays : Type 0
-NamesEndAsTheirTextSays = (c : ℕ) (text : List ℕ) (p : Position) → EndsAs p text (anchor_name (c ∷ text) p)
+NamesEndAsTheirTextSays = (c : ℕ) (text : List ℕ) (p : Position) → NameEndsAs p text (anchor_name (c ∷ text) p)
 
 -- `plain_scalars_are_read`
 abbrev pub PlainScalarsAreRead : Type 0
@@ -45,15 +45,15 @@ PlainScalarsAreRead =
 -- `plain_scans_end_as_their_text_says`
 abbrev pub PlainScansEndAsTheirTextSays : Type 0
 PlainScansEndAsTheirTextSays =
-    (ctx : Context) (text : List ℕ) (p : Position) → has_no_nul text ≡ true → begins_solid text ≡ true → is_indented ctx p ≡ true → plains.EndsAs ctx p text (plain ctx text p)
+    (ctx : Context) (text : List ℕ) (p : Position) → has_no_nul text ≡ true → begins_solid text ≡ true → is_indented ctx p ≡ true → plains.PlainEndsAs ctx p text (plain ctx text p)
 
--- `fillers_are_passed`
-abbrev pub FillersArePassed : Type 0
-FillersArePassed = (s : Held) (text : List ℕ) → PassesAs s text (skip between text s)
+-- `separations_are_passed`
+abbrev pub SeparationsArePassed : Type 0
+SeparationsArePassed = (s : Held) (text : List ℕ) → PassesAs s text (skip between text s)
 
--- `each_filler_is_passed`
-abbrev pub EachFillerIsPassed : Type 0
-EachFillerIsPassed = (s : Held) (filler rest : List ℕ) → has_no_nul (filler ++ rest) ≡ true → is_filler false filler rest ≡ true → begins_filler rest ≡ false → IsPassed s filler rest (skip between (filler ++ rest) s)
+-- `each_separation_is_passed`
+abbrev pub EachSeparationIsPassed : Type 0
+EachSeparationIsPassed = (s : Held) (separation rest : List ℕ) → has_no_nul (separation ++ rest) ≡ true → is_separation false separation rest ≡ true → begins_separation rest ≡ false → IsPassed s separation rest (skip between (separation ++ rest) s)
 
 -- `uris_are_read`; of URIs, and of the suffixes of tags
 abbrev pub UrisAreRead : Type 0
@@ -63,7 +63,7 @@ UrisAreRead =
 
 -- `tags_end_as_their_text_says`; `text` is what stands after the `!`
 abbrev pub TagsEndAsTheirTextSays : Type 0
-TagsEndAsTheirTextSays = (in_flow : Bool) (text : List ℕ) (p : Position) → tags.EndsAs in_flow p text (tag in_flow (33 ∷ text) p)
+TagsEndAsTheirTextSays = (in_flow : Bool) (text : List ℕ) (p : Position) → tags.TagEndsAs in_flow p text (tag in_flow (33 ∷ text) p)
 
 -- `tags_are_read`; `piece` is what stands after the `!`
 abbrev pub TagsAreRead : Type 0
@@ -87,4 +87,4 @@ DirectivesAreRead =
 
 -- `directives_end_as_their_text_says`; `text` is what stands after the `%`
 abbrev pub DirectivesEndAsTheirTextSays : Type 0
-DirectivesEndAsTheirTextSays = (text : List ℕ) (p : Position) → directives.EndsAs p text (directive (37 ∷ text) p)
+DirectivesEndAsTheirTextSays = (text : List ℕ) (p : Position) → directives.DirectiveEndsAs p text (directive (37 ∷ text) p)

@@ -23,14 +23,14 @@ abbrev pub after_tag : Position → (piece rest handle suffix : List ℕ) → Re
 after_tag p piece rest handle suffix = record { rest = rest; place = further (length piece) p; value = record { handle = handle; suffix = suffix } }
 
 -- Why the text after a `!` is refused: octets of it are no characters; a verbatim tag is not closed; a handle of two marks has no suffix; or a tag stands there, and the text goes on.
-pub data IsRefusal (in_flow : Bool) (text : List ℕ) : Problem → Type 0 where
-  by_octets : (before uri rest : List ℕ) (f : UriFault) → text ≡ before ++ (uri ++ rest) → decoded uri ≡ Err f → IsRefusal in_flow text (problem_of f)
-  unclosed : (uri rest : List ℕ) → text ≡ 60 ∷ (uri ++ rest) → all_of is_uri uri ≡ true → begins_with 62 rest ≡ false → IsRefusal in_flow text problem.VerbatimTagEnd
-  no_suffix : (name rest : List ℕ) → text ≡ name ++ 33 ∷ rest → all_of is_alpha name ≡ true → leading is_tag rest ≡ [] → IsRefusal in_flow text problem.TagUri
-  goes_on : (piece rest handle suffix : List ℕ) → text ≡ piece ++ rest → written_tag (33 ∷ piece) ≡ Some (record { handle = handle; suffix = suffix }) → may_follow in_flow rest ≡ false → IsRefusal in_flow text problem.TagEnd
+pub data IsTagRefusal (in_flow : Bool) (text : List ℕ) : Problem → Type 0 where
+  by_octets : (before uri rest : List ℕ) (f : UriFault) → text ≡ before ++ (uri ++ rest) → decoded uri ≡ Err f → IsTagRefusal in_flow text (problem_of f)
+  unclosed : (uri rest : List ℕ) → text ≡ 60 ∷ (uri ++ rest) → all_of is_uri uri ≡ true → begins_with 62 rest ≡ false → IsTagRefusal in_flow text problem.VerbatimTagEnd
+  no_suffix : (name rest : List ℕ) → text ≡ name ++ 33 ∷ rest → all_of is_alpha name ≡ true → leading is_tag rest ≡ [] → IsTagRefusal in_flow text problem.TagUri
+  goes_on : (piece rest handle suffix : List ℕ) → text ≡ piece ++ rest → written_tag (33 ∷ piece) ≡ Some (record { handle = handle; suffix = suffix }) → may_follow in_flow rest ≡ false → IsTagRefusal in_flow text problem.TagEnd
 
 -- How a scan ends: it read a tag that stands there as what it is; or it has a fault of which the text is the reason.
-pub data EndsAs (in_flow : Bool) (start : Position) (text : List ℕ) (x : Result (Read Tag) Fault) : Type 0 where
+pub data TagEndsAs (in_flow : Bool) (start : Position) (text : List ℕ) (x : Result (Read Tag) Fault) : Type 0 where
   reads : (piece rest handle suffix : List ℕ) → text ≡ piece ++ rest → written_tag (33 ∷ piece) ≡ Some (record { handle = handle; suffix = suffix }) → may_follow in_flow rest ≡ true
-      → x ≡ Ok (after_tag start (33 ∷ piece) rest handle suffix) → EndsAs in_flow start text x
-  refuses : (why : Problem) → IsRefusal in_flow text why → x ≡ Err (At why start) → EndsAs in_flow start text x
+      → x ≡ Ok (after_tag start (33 ∷ piece) rest handle suffix) → TagEndsAs in_flow start text x
+  refuses : (why : Problem) → IsTagRefusal in_flow text why → x ≡ Err (At why start) → TagEndsAs in_flow start text x

@@ -2,7 +2,7 @@
 //! function.
 
 ghost use Rattle.proof_lexers.specs.BufferLaws.{BuffersJoinFoldedLines};
-ghost use Rattle.proof_lexers.specs.ScalarLaws.{DirectivesAreRead, DirectivesEndAsTheirTextSays, EachFillerIsPassed, FillersArePassed, NamesAreRead, NamesEndAsTheirTextSays, PlainScalarsAreRead, PlainScansEndAsTheirTextSays, SpacesArePassed, TagsAreRead, TagsEndAsTheirTextSays, UrisAreRead, WhiteSpaceIsPassed};
+ghost use Rattle.proof_lexers.specs.ScalarLaws.{DirectivesAreRead, DirectivesEndAsTheirTextSays, EachSeparationIsPassed, SeparationsArePassed, NamesAreRead, NamesEndAsTheirTextSays, PlainScalarsAreRead, PlainScansEndAsTheirTextSays, SpacesArePassed, TagsAreRead, TagsEndAsTheirTextSays, UrisAreRead, WhiteSpaceIsPassed};
 ghost use Rattle.proof_lexers.specs.BlockLaws.{BlockPiecesAreRead, BlockScansEndAsTheirTextSays, FirstLinesGiveTheColumn, HeadersEndAsTheirLineSays};
 ghost use Rattle.proof_lexers.specs.QuotedLaws.{QuotedBodiesAreRead, QuotedScansEndAsTheirTextSays};
 
@@ -38,8 +38,8 @@ pub fn plain_scans_end_as_their_text_says()
 
 /// On the way to the next token all blanks, breaks and comments are skipped, and nothing else; the place is the one
 /// after them. The text is refused only if a TAB left of the innermost level has a token after it on its line.
-pub fn fillers_are_passed()
-    ensures { FillersArePassed }
+pub fn separations_are_passed()
+    ensures { SeparationsArePassed }
 {}
 
 /// All characters of a URI, or of a tag's suffix, that a text begins with are read: each as itself, and escapes as
@@ -81,10 +81,10 @@ pub fn directives_end_as_their_text_says()
     ensures { DirectivesEndAsTheirTextSays }
 {}
 
-/// Each filler of a text without NUL is skipped whole, up to a character that is not of a filler; or a TAB left of
+/// Each separation of a text without NUL is skipped whole, up to a character that is not of a separation; or a TAB left of
 /// the innermost level is refused.
-pub fn each_filler_is_passed()
-    ensures { EachFillerIsPassed }
+pub fn each_separation_is_passed()
+    ensures { EachSeparationIsPassed }
 {}
 
 /// After `!` each tag is read as it is written, up to a text that may follow a tag.

@@ -3,7 +3,7 @@ use Rattle.std.proofs.Common.{◌≡◌, ℕ, true, false, Bool, List, [], ◌�
 use Rattle.std.specs.Prelude.{Option, IfSome, Result, ◌||◌, codes}
 use Rattle.defs_text.specs.Position.{Position}
 use Rattle.defs_token.specs.Token.{Tok, Token}
-use Rattle.yaml_tokens.specs.Fault.{Fault}
+use Rattle.yaml_tokens.specs.ErrorReport.{ErrorReport}
 use Rattle.defs_event.specs.Event.{Ev}
 use Rattle.defs_token.specs.Toks.{toks}
 use Rattle.defs_event.specs.Stream.{IsStream, IsPlacedStream, BeginsPlaced, Foretells, NoneBegins, events_of}
@@ -28,7 +28,7 @@ use Rattle.proof_loads.proofs.Runs.{IsOver, pushes, misplaced_events, PushesAll,
 use Rattle.proof_loads.proofs.StreamEnds.{all_tokens}
 
 -- what a call does with these answers
-abbrev so : List (Answer Fault) → run.Loaded Fault
+abbrev so : List (Answer ErrorReport) → run.Loaded ErrorReport
 so answers = load_from before_stream true answers
 
 or_right : (b : Bool) {c : Bool} → c ≡ true → b || c ≡ true
@@ -40,7 +40,7 @@ or_left true c h = refl
 or_left false c h = cc
 
 -- A call that has ended well has pushed the stream's end.
-end_was_pushed : (s : Standing) (answers : List (Answer Fault)) → (load_from s true answers).ending ≡ run.well → has_end (load_from s true answers).pushed ≡ true
+end_was_pushed : (s : Standing) (answers : List (Answer ErrorReport)) → (load_from s true answers).ending ≡ run.well → has_end (load_from s true answers).pushed ≡ true
 end_was_pushed s [] h = cc
 end_was_pushed s (fault f ∷ answers) h = cc
 end_was_pushed before_stream (event e p ∷ answers) h = or_right (is_stream_end e) (end_was_pushed between answers h)
@@ -53,11 +53,11 @@ end_was_pushed inside (event e p ∷ answers) h = or_right (is_stream_end e) (en
 -- ---- after the answers
 
 -- Nothing was answered; or the events that were given are those of the tokens, and whole where the stream's end is among them.
-data Followed (answers : List (Answer Fault)) (p : Parsed) : Type 0 where
+data Followed (answers : List (Answer ErrorReport)) (p : Parsed) : Type 0 where
   nothing : answers ≡ [] → p.given ≡ [] → Followed answers p
   some : read p ≡ p.given → Follows p → (has_end p.given ≡ true → IsWhole p) → Followed answers p
 
-followed : {p q : Parsed} {answers : List (Answer Fault)} → IsAtStart p → PullsAll p answers q → q.fault ≡ None → q.steady ≡ true → Followed answers q
+followed : {p q : Parsed} {answers : List (Answer ErrorReport)} → IsAtStart p → PullsAll p answers q → q.fault ≡ None → q.steady ≡ true → Followed answers q
 followed start no_call clear steady = nothing refl start.given
 followed start (one_call {r = r} (event e pl) calls gives) clear steady =
     let same : read r ≡ r.given = read_given r.given r.ended r.ahead gives.ahead in
@@ -65,10 +65,10 @@ followed start (one_call {r = r} (event e pl) calls gives) clear steady =
 followed start (one_call (fault f) calls gives) clear steady = let kept = gives.fault in cc
 
 -- The events of a stream are all pushed.
-all_are_pushed : (keep_tags : Bool) (tokens : List Tok) (es : List (Ev × Position)) → IsStream keep_tags tokens (events_of es) → PushesAll (so (given Fault es)) es
+all_are_pushed : (keep_tags : Bool) (tokens : List Tok) (es : List (Ev × Position)) → IsStream keep_tags tokens (events_of es) → PushesAll (so (given ErrorReport es)) es
 all_are_pushed keep_tags tokens es stream =
     let nested = stream_nests keep_tags tokens (events_of es) stream in
-    let w = all_pushed Fault nested.0 es (sym nested.1) in
+    let w = all_pushed ErrorReport nested.0 es (sym nested.1) in
     (ap (λ l. l.pushed) w, ap (λ l. l.ending) w)
 
 -- the same without places
@@ -90,37 +90,37 @@ begins_too keep_tags tokens es fs b = record {
 -- ---- a call that has pushed the stream's end
 
 -- All events were given, and pushed.
-record AllGiven (answers : List (Answer Fault)) (p : Parsed) : Type 0 where
+record AllGiven (answers : List (Answer ErrorReport)) (p : Parsed) : Type 0 where
   is_whole : IsPlacedStream p.keep_tags p.scanner.given p.given
   pushed : PushesAll (so answers) p.given
 
-given_alone : (answers : List (Answer Fault)) (p : Parsed) → Noted answers p → p.ended ≡ false → answers ≡ given Fault p.given
-given_alone answers p n going = n.answers_are ∙ ap (λ bs. given Fault p.given ++ bs) (n.none going) ∙ append-nil (given Fault p.given)
+given_alone : (answers : List (Answer ErrorReport)) (p : Parsed) → Noted answers p → p.ended ≡ false → answers ≡ given ErrorReport p.given
+given_alone answers p n going = n.answers_are ∙ ap (λ bs. given ErrorReport p.given ++ bs) (n.none going) ∙ append-nil (given ErrorReport p.given)
 
-ended_all : (answers : List (Answer Fault)) (p : Parsed) → Noted answers p → Followed answers p → p.ended ≡ true → AllGiven answers p
+ended_all : (answers : List (Answer ErrorReport)) (p : Parsed) → Noted answers p → Followed answers p → p.ended ≡ true → AllGiven answers p
 ended_all answers p n (nothing none empty) ended = let no : false ≡ true = sym (ap has_end empty) ∙ sym n.ended ∙ ended in cc
 ended_all answers p n (some same follows is) ended =
     let placed : IsPlacedStream p.keep_tags p.scanner.given p.given = subst (IsPlacedStream p.keep_tags p.scanner.given) same (is (sym n.ended ∙ ended)).stream in
     record {
       is_whole = placed;
-      pushed = ended_after Fault p.given answers n.rest (all_are_pushed p.keep_tags (toks p.scanner.given) p.given (placed_stream p.keep_tags p.scanner.given p.given placed)) n.answers_are;
+      pushed = ended_after ErrorReport p.given answers n.rest (all_are_pushed p.keep_tags (toks p.scanner.given) p.given (placed_stream p.keep_tags p.scanner.given p.given placed)) n.answers_are;
     }
 
 -- What was pushed, and what was given besides.
-record Pushed (answers : List (Answer Fault)) (p : Parsed) : Type 0 where
+record Pushed (answers : List (Answer ErrorReport)) (p : Parsed) : Type 0 where
   left : List (Ev × Position)
   given_are : p.given ≡ (so answers).pushed ++ left
 
-pushed_first : (answers : List (Answer Fault)) (p : Parsed) → Noted answers p → Followed answers p → Pushed answers p
+pushed_first : (answers : List (Answer ErrorReport)) (p : Parsed) → Noted answers p → Followed answers p → Pushed answers p
 pushed_first answers p n f = by p.ended refl
   where
     by : (b : Bool) → p.ended ≡ b → Pushed answers p
     by true ended = record { left = []; given_are = sym (ended_all answers p n f ended).pushed.0 ∙ sym (append-nil (so answers).pushed) }
     by false going =
-        let some = pushes Fault before_stream p.given in
+        let some = pushes ErrorReport before_stream p.given in
         record { left = some.left; given_are = some.whole ∙ ap (λ bs. (so bs).pushed ++ some.left) (sym (given_alone answers p n going)) }
 
-end_was_given : (answers : List (Answer Fault)) (p : Parsed) → Noted answers p → Followed answers p → has_end (so answers).pushed ≡ true → p.ended ≡ true
+end_was_given : (answers : List (Answer ErrorReport)) (p : Parsed) → Noted answers p → Followed answers p → has_end (so answers).pushed ≡ true → p.ended ≡ true
 end_was_given answers p n f h =
     let first = pushed_first answers p n f in
     n.ended ∙ ap has_end first.given_are ∙ has_end_append (so answers).pushed first.left ∙ or_left (has_end (so answers).pushed) (has_end first.left) h
@@ -139,31 +139,31 @@ has_all_events text p scans s =
 
 -- ---- the ends of a call
 
-record After (text : List ℕ) (answers : List (Answer Fault)) (p : Parsed) : Type 0 where
+record After (text : List ℕ) (answers : List (Answer ErrorReport)) (p : Parsed) : Type 0 where
   noted : p.fault ≡ None → Noted answers p
   followed : p.fault ≡ None → Followed answers p
   scans : ScansIn text p.scanner
   steady : p.steady ≡ true
-  explained : (f : Fault) → p.fault ≡ Some f → Explains f p
-  clear : (es : List (Ev × Position)) → answers ≡ given Fault es → p.fault ≡ None
+  explained : (f : ErrorReport) → p.fault ≡ Some f → Explains f p
+  clear : (es : List (Ev × Position)) → answers ≡ given ErrorReport es → p.fault ≡ None
 
-ends_whole : {R : Type 0} {takes : R → Ev → Position → Result (Unit {0}) Fault → R → Type 0} {r s : R} {text : List ℕ} (answers : List (Answer Fault)) (p : Parsed) → After text answers p → p.fault ≡ None
+ends_whole : {R : Type 0} {takes : R → Ev → Position → Result (Unit {0}) ErrorReport → R → Type 0} {r s : R} {text : List ℕ} (answers : List (Answer ErrorReport)) (p : Parsed) → After text answers p → p.fault ≡ None
     → has_end (so answers).pushed ≡ true → Receives takes r (so answers).pushed s → AnswersText takes p.keep_tags text r (Ok tt) s
 ends_whole {takes = takes} {r = r} {s = s} {text = text} answers p b clear h received =
     let all = ended_all answers p (b.noted clear) (b.followed clear) (end_was_given answers p (b.noted clear) (b.followed clear) h) in
     whole p.given (has_all_events text p b.scans all.is_whole) (subst (λ es. Receives takes r es s) all.pushed.0 received)
 
-fault_of : (text : List ℕ) (answers : List (Answer Fault)) (p : Parsed) (f : Fault) → After text answers p → Explains f p → IsFaultOf p.keep_tags text f
+fault_of : (text : List ℕ) (answers : List (Answer ErrorReport)) (p : Parsed) (f : ErrorReport) → After text answers p → Explains f p → IsFaultOf p.keep_tags text f
 fault_of text answers p f b why = elim why [
   | inl kept ↦ by_scanner f.memory refl kept
   | inr other ↦ elim other [ inl wants ↦ wants_memory wants | inr cut ↦ by_grammar cut.blames (cut.refused b.steady) ]
 ]
   where
-    refusal : (o : Option Fault) → o ≡ Some f → IfSome o (λ g. g.memory ≡ false → IsRefusal text g) → f.memory ≡ false → IsRefusal text f
+    refusal : (o : Option ErrorReport) → o ≡ Some f → IfSome o (λ g. g.memory ≡ false → IsRefusal text g) → f.memory ≡ false → IsRefusal text f
     refusal None e h m = cc
     refusal (Some g) e h m = let same : g ≡ f = cc in subst (IsRefusal text) same (h (ap (λ x. x.memory) same ∙ m))
 
-    says : (o : Option Fault) → o ≡ Some f → IfSome o (λ g. g.memory ≡ true → g.text ≡ codes "out of memory") → f.memory ≡ true → f.text ≡ codes "out of memory"
+    says : (o : Option ErrorReport) → o ≡ Some f → IfSome o (λ g. g.memory ≡ true → g.text ≡ codes "out of memory") → f.memory ≡ true → f.text ≡ codes "out of memory"
     says None e h m = cc
     says (Some g) e h m = let same : g ≡ f = cc in ap (λ x. x.text) (sym same) ∙ h (ap (λ x. x.memory) same ∙ m)
 
@@ -177,11 +177,11 @@ fault_of text answers p f b why = elim why [
         (subst (λ ts. NoneBegins p.keep_tags (toks ts)) r.tokens r.none)
 
 -- An event that is no document's start never stands between documents.
-not_misplaced : (text : List ℕ) (answers : List (Answer Fault)) (p : Parsed) (q : Position) → After text answers p → (so answers).ending ≡ run.no_document q → (so answers).taken ≡ length answers → ⊥
+not_misplaced : (text : List ℕ) (answers : List (Answer ErrorReport)) (p : Parsed) (q : Position) → After text answers p → (so answers).ending ≡ run.no_document q → (so answers).taken ≡ length answers → ⊥
 not_misplaced text answers p q b e taken = by (b.followed clear)
   where
-    only_events : (es : List (Ev × Position)) × (answers ≡ given Fault es)
-    only_events = misplaced_events Fault before_stream answers q e taken
+    only_events : (es : List (Ev × Position)) × (answers ≡ given ErrorReport es)
+    only_events = misplaced_events ErrorReport before_stream answers q e taken
 
     clear : p.fault ≡ None
     clear = b.clear only_events.0 only_events.1
@@ -200,11 +200,11 @@ not_misplaced text answers p q b e taken = by (b.followed clear)
             let all = read p ++ more in
             let stream = placed_stream p.keep_tags (follows.before ++ follows.begins.more_tokens) all follows.begins.stream in
             let pushed = all_are_pushed p.keep_tags (toks (follows.before ++ follows.begins.more_tokens)) all stream in
-            let are : given Fault all ≡ answers ++ given Fault more =
-            given_append Fault (read p) more ∙ ap (λ es. given Fault es ++ given Fault more) same ∙ ap (λ bs. bs ++ given Fault more) (sym (given_alone answers p (b.noted clear) going)) in
-            well_is_not (ended_within Fault all answers (given Fault more) pushed are (subst (λ x. IsOver x) (sym e) tt)).1
+            let are : given ErrorReport all ≡ answers ++ given ErrorReport more =
+            given_append ErrorReport (read p) more ∙ ap (λ es. given ErrorReport es ++ given ErrorReport more) same ∙ ap (λ bs. bs ++ given ErrorReport more) (sym (given_alone answers p (b.noted clear) going)) in
+            well_is_not (ended_within ErrorReport all answers (given ErrorReport more) pushed are (subst (λ x. IsOver x) (sym e) tt)).1
 
-begins_text : (text : List ℕ) (answers : List (Answer Fault)) (p : Parsed) (es : List (Ev × Position)) (e : Ev × Position) → After text answers p → p.fault ≡ None → (so answers).pushed ≡ es ++ e ∷ []
+begins_text : (text : List ℕ) (answers : List (Answer ErrorReport)) (p : Parsed) (es : List (Ev × Position)) (e : Ev × Position) → After text answers p → p.fault ≡ None → (so answers).pushed ≡ es ++ e ∷ []
     → BeginsEvents p.keep_tags text (es ++ e ∷ [])
 begins_text text answers p es e b clear pushed = by (b.followed clear)
   where
@@ -226,21 +226,21 @@ begins_text text answers p es e b clear pushed = by (b.followed clear)
               (foretells_beginning p.keep_tags (toks p.scanner.given) (read p) (es ++ e ∷ []) first.left are follows.only);
         }
 
-ends_so : {R : Type 0} {takes : R → Ev → Position → Result (Unit {0}) Fault → R → Type 0} {r s : R} {text : List ℕ} {result : Result (Unit {0}) Fault} {new : Parsed} (answers : List (Answer Fault)) (p : Parsed)
+ends_so : {R : Type 0} {takes : R → Ev → Position → Result (Unit {0}) ErrorReport → R → Type 0} {r s : R} {text : List ℕ} {result : Result (Unit {0}) ErrorReport} {new : Parsed} (answers : List (Answer ErrorReport)) (p : Parsed)
     → After text answers p → (so answers).taken ≡ length answers → EndsSo takes r (so answers) p result new s → AnswersText takes p.keep_tags text r result s
 ends_so answers p b taken (loads.well e clear received) = ends_whole answers p b clear (end_was_pushed before_stream answers e) received
 ends_so {text = text} answers p b taken (loads.faulted {f = f} e kept received) = faulted (so answers).pushed (fault_of text answers p f b (b.explained f kept)) received
 ends_so {text = text} answers p b taken (loads.misplaced q e received) = absurd (not_misplaced text answers p q b e taken)
 ends_so {text = text} answers p b taken (loads.refused {es = es} e q pushed clear received takes) = refused es e q (begins_text text answers p es (e, q) b clear pushed) received takes
 
-scanner_stays : {R : Type 0} {takes : R → Ev → Position → Result (Unit {0}) Fault → R → Type 0} {r s : R} {l : run.Loaded Fault} {p new : Parsed} {result : Result (Unit {0}) Fault}
+scanner_stays : {R : Type 0} {takes : R → Ev → Position → Result (Unit {0}) ErrorReport → R → Type 0} {r s : R} {l : run.Loaded ErrorReport} {p new : Parsed} {result : Result (Unit {0}) ErrorReport}
     → EndsSo takes r l p result new s → new.scanner ≡ p.scanner
 scanner_stays (loads.well e clear received) = refl
 scanner_stays (loads.faulted e kept received) = refl
 scanner_stays (loads.misplaced q e received) = refl
 scanner_stays (loads.refused e q pushed clear received takes) = refl
 
-known : {old p : Parsed} {answers : List (Answer Fault)} (text : List ℕ) → IsAtStart old → ScansIn text p.scanner → PullsAll old answers p → After text answers p
+known : {old p : Parsed} {answers : List (Answer ErrorReport)} (text : List ℕ) → IsAtStart old → ScansIn text p.scanner → PullsAll old answers p → After text answers p
 known {old} {p} {answers} text start scans calls =
     let steady : p.steady ≡ true = (settings_stay calls).steady ∙ start.steady in
     record {
@@ -252,7 +252,7 @@ known {old} {p} {answers} text start scans calls =
       clear = λ es e. events_are_clear es start.fault calls e;
     }
 
-pub texts_are_answered : {R : Type 0} (takes : R → Ev → Position → Result (Unit {0}) Fault → R → Type 0) → TextsAreAnswered takes
+pub texts_are_answered : {R : Type 0} (takes : R → Ev → Position → Result (Unit {0}) ErrorReport → R → Type 0) → TextsAreAnswered takes
 texts_are_answered takes old new r s result text start scans l =
     let from_start : (load old.started true l.answers) ≡ so l.answers = rw start.started refl in
     let p = l.after in

@@ -78,16 +78,16 @@ held_finished m a t anchors (c ∷ outer) le h =
 
 -- ---- unfinished readings after m anchors
 
-record Stands (m : ℕ) (u : Unfinished) : Type 0 where
+record IsStillOpen (m : ℕ) (u : Unfinished) : Type 0 where
   low : Low m u.anchors
   held : Held m u.anchors u.opened
 
 abbrev OfStep : ℕ → Step → Type 0
-OfStep m (reads u) = Stands m u
+OfStep m (reads u) = IsStillOpen m u
 OfStep m (repeats key) = Unit {0}
 OfStep m out_of_nesting = Unit {0}
 
-repeats_or : (m : ℕ) (b : Bool) (key : Tree) (u : Unfinished) → Stands m u → OfStep m (if b then repeats key else reads u)
+repeats_or : (m : ℕ) (b : Bool) (key : Tree) (u : Unfinished) → IsStillOpen m u → OfStep m (if b then repeats key else reads u)
 repeats_or m true key u h = tt
 repeats_or m false key u h = h
 
@@ -120,7 +120,7 @@ of_mapping_end m u (opened_sequence a ts ∷ outer) l h = tt
 of_mapping_end m u (opened_mapping a ps None ∷ outer) l h = of_node m a (hash (pairs_of ps)) u outer h.0 l h.2
 of_mapping_end m u (opened_mapping a ps (Some k) ∷ outer) l h = tt
 
-of_document_end : (m : ℕ) (u : Unfinished) (opened : List Opened) → u.opened ≡ opened → Stands m u → OfStep m (with_document_end u opened)
+of_document_end : (m : ℕ) (u : Unfinished) (opened : List Opened) → u.opened ≡ opened → IsStillOpen m u → OfStep m (with_document_end u opened)
 of_document_end m u [] e s = record { low = s.low; held = s.held }
 of_document_end m u (c ∷ outer) e s = tt
 
@@ -157,7 +157,7 @@ of_start {m = m} {n} c u [] None i l h = record { low = low_more m n u.anchors (
 of_start {m = m} {n} c u (d ∷ outer) root i l h =
     record { low = low_more m n u.anchors (next_more i) l; held = (next_low i, next_unfinished u.anchors i l, next_under u.anchors (d ∷ outer) i h) }
 
-of_scalar : {m a n : ℕ} (t : Tree) (u : Unfinished) → IsNext m a n → Stands m u → OfStep n (with_node a t u u.opened)
+of_scalar : {m a n : ℕ} (t : Tree) (u : Unfinished) → IsNext m a n → IsStillOpen m u → OfStep n (with_node a t u u.opened)
 of_scalar {m = m} {a} {n} t u i s = of_node n a t u u.opened (next_low i) (low_more m n u.anchors (next_more i) s.low) (next_under u.anchors u.opened i s.held)
 
 -- ---- events by their names
@@ -168,18 +168,18 @@ Follows m n (Ev.sequence_start a tag) = IsNext m a n
 Follows m n (Ev.mapping_start a tag) = IsNext m a n
 Follows m n _ = m ≡ n
 
-of_event : (m n : ℕ) (u : Unfinished) (e : Ev) → Follows m n e → Stands m u → OfStep n (with_event u e)
-of_event m n u Ev.nothing f s = subst (λ k. Stands k u) f s
-of_event m n u Ev.stream_start f s = subst (λ k. Stands k u) f s
-of_event m n u Ev.stream_end f s = subst (λ k. Stands k u) f s
-of_event m n u Ev.document_start f s = subst (λ k. Stands k u) f s
-of_event m n u Ev.document_end f s = of_document_end n u u.opened refl (subst (λ k. Stands k u) f s)
-of_event m n u (Ev.alias k) f s = let v = subst (λ j. Stands j u) f s in of_tree n (aliased k u.anchors) u u.opened v.low v.held
+of_event : (m n : ℕ) (u : Unfinished) (e : Ev) → Follows m n e → IsStillOpen m u → OfStep n (with_event u e)
+of_event m n u Ev.nothing f s = subst (λ k. IsStillOpen k u) f s
+of_event m n u Ev.stream_start f s = subst (λ k. IsStillOpen k u) f s
+of_event m n u Ev.stream_end f s = subst (λ k. IsStillOpen k u) f s
+of_event m n u Ev.document_start f s = subst (λ k. IsStillOpen k u) f s
+of_event m n u Ev.document_end f s = of_document_end n u u.opened refl (subst (λ k. IsStillOpen k u) f s)
+of_event m n u (Ev.alias k) f s = let v = subst (λ j. IsStillOpen j u) f s in of_tree n (aliased k u.anchors) u u.opened v.low v.held
 of_event m n u (Ev.scalar text style a tag) f s = of_scalar (scalar_tree text style tag) u f s
 of_event m n u (Ev.sequence_start a tag) f s = of_start (opened_sequence a []) u u.opened u.root f s.low s.held
-of_event m n u Ev.sequence_end f s = let v = subst (λ j. Stands j u) f s in of_sequence_end n u u.opened v.low v.held
+of_event m n u Ev.sequence_end f s = let v = subst (λ j. IsStillOpen j u) f s in of_sequence_end n u u.opened v.low v.held
 of_event m n u (Ev.mapping_start a tag) f s = of_start (opened_mapping a [] None) u u.opened u.root f s.low s.held
-of_event m n u Ev.mapping_end f s = let v = subst (λ j. Stands j u) f s in of_mapping_end n u u.opened v.low v.held
+of_event m n u Ev.mapping_end f s = let v = subst (λ j. IsStillOpen j u) f s in of_mapping_end n u u.opened v.low v.held
 
 is_next : (s : Names) (a : Option (List ℕ)) → IsNext s.count (number s a) (with_anchor s a).count
 is_next s None = none
@@ -215,7 +215,7 @@ numbered k s Raw.mapping_end = refl
 -- ---- loaders
 
 abbrev OfLoader : ℕ → Loader → Type 0
-OfLoader m (at_work u) = Stands m u
+OfLoader m (at_work u) = IsStillOpen m u
 OfLoader m (noted documents key p) = Unit {0}
 OfLoader m (refused documents p) = Unit {0}
 
@@ -261,5 +261,5 @@ open_unfinished m n anchors (opened_mapping a ps w ∷ outer) h (inr o) = open_u
 pub aliases_are_bad : AliasesInsideTheirNodeAreBadValues
 aliases_are_bad keep_tags tokens before n more u stream work is_open =
     let names_after = stands_after keep_tags no_names (stream_events stream.documents) new_loader before (Ev.alias n ∷ more) stream.has_events (record { low = tt; held = tt }) in
-    let stands : Stands names_after.0 u = subst (OfLoader names_after.0) work names_after.1 in
+    let stands : IsStillOpen names_after.0 u = subst (OfLoader names_after.0) work names_after.1 in
     ap (λ t. with_tree t u u.opened) (open_unfinished names_after.0 n u.anchors u.opened stands.held is_open)

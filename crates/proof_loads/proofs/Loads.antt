@@ -3,7 +3,7 @@ use Rattle.std.proofs.Common.{◌≡◌, ℕ, true, Bool, List, ◌∷◌, [], �
 use Rattle.std.specs.Prelude.{Result}
 use Rattle.defs_text.specs.Position.{Position}
 use Rattle.defs_tree.specs.Tree.{Tree}
-use Rattle.yaml_tokens.specs.Fault.{Fault}
+use Rattle.yaml_tokens.specs.ErrorReport.{ErrorReport}
 use Rattle.defs_event.specs.Event.{Ev}
 use Rattle.defs_token.specs.Toks.{toks}
 use Rattle.defs_event.specs.Stream.{IsStream, events_of}
@@ -21,7 +21,7 @@ use Rattle.proof_loads.proofs.Spelled.{json_texts_are_read}
 use Rattle.proof_loads.proofs.Answers.{placed_stream, texts_are_answered}
 
 -- A fault of such a text is out of memory.
-pub memory_is_wanted : (keep_tags : Bool) (text : List ℕ) (trees : List Tree) (f : Fault) → IsReadAs keep_tags text trees → IsFaultOf keep_tags text f → f.memory ≡ true
+pub memory_is_wanted : (keep_tags : Bool) (text : List ℕ) (trees : List Tree) (f : ErrorReport) → IsReadAs keep_tags text trees → IsFaultOf keep_tags text f → f.memory ≡ true
 memory_is_wanted keep_tags text trees f x (wants_memory wants) = wants.memory
 memory_is_wanted keep_tags text trees f x (no_token r) = absurd (not_refused text x.has.0 r.fault x.has.1 r.refused)
 memory_is_wanted keep_tags text trees f x (no_stream before last events first blames begins none) =
@@ -31,7 +31,7 @@ memory_is_wanted keep_tags text trees f x (no_stream before last events first bl
 same_tokens : (keep_tags : Bool) (text : List ℕ) (trees : List Tree) (es : List (Ev × Position)) (x : IsReadAs keep_tags text trees) (h : HasEvents keep_tags text es) → toks h.tokens ≡ x.tokens
 same_tokens keep_tags text trees es x h = ap toks (one_list text h.tokens x.has.0 h.has x.has.1) ∙ x.has.2
 
-loads_as : {R : Type 0} {takes : R → Ev → Position → Result (Unit {0}) Fault → R → Type 0} {r s : R} {keep_tags : Bool} {text : List ℕ} {trees : List Tree} {result : Result (Unit {0}) Fault}
+loads_as : {R : Type 0} {takes : R → Ev → Position → Result (Unit {0}) ErrorReport → R → Type 0} {r s : R} {keep_tags : Bool} {text : List ℕ} {trees : List Tree} {result : Result (Unit {0}) ErrorReport}
     → IsReadAs keep_tags text trees → AnswersText takes keep_tags text r result s → LoadsAs takes trees r result s
 loads_as {keep_tags = keep_tags} {text = text} {trees = trees} x (answers.whole es h received) =
     let same = same_tokens keep_tags text trees es x h in
@@ -41,9 +41,9 @@ loads_as {keep_tags = keep_tags} {text = text} {trees = trees} x (answers.refuse
     let y = goes_on keep_tags text trees _ x b.first in
     refused es e p received takes (foretold_are_not_refused keep_tags _ y.more trees (es ++ (e, p) ∷ []) y.reads b.only)
 
-pub texts_are_loaded : {R : Type 0} (takes : R → Ev → Position → Result (Unit {0}) Fault → R → Type 0) → ReadTextsAreLoaded takes
+pub texts_are_loaded : {R : Type 0} (takes : R → Ev → Position → Result (Unit {0}) ErrorReport → R → Type 0) → ReadTextsAreLoaded takes
 texts_are_loaded takes old new r s result text trees start x scans l = loads_as x (texts_are_answered takes old new r s result text start scans l)
 
-pub json_is_loaded : {R : Type 0} (takes : R → Ev → Position → Result (Unit {0}) Fault → R → Type 0) → JsonTextsAreLoaded takes
+pub json_is_loaded : {R : Type 0} (takes : R → Ev → Position → Result (Unit {0}) ErrorReport → R → Type 0) → JsonTextsAreLoaded takes
 json_is_loaded takes old new r s result w start is scans l =
     texts_are_loaded takes old new r s result (spell_text w) (tree_of w.value ∷ []) start (json_texts_are_read old.keep_tags w is) scans l

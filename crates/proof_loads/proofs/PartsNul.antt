@@ -14,7 +14,7 @@ use Rattle.defs_tree.specs.Quoting.{is_unfit_for_plain}
 use Rattle.defs_tree.specs.Escapes.{hexadecimal_digit, escaped_code, written_character, written_escapes, double_quoted}
 use Rattle.defs_tree.specs.Spelling.{spelling}
 use Rattle.defs_tree.specs.Lines.{lines_of, onto_first_line}
-use Rattle.defs_tree.specs.Literal.{is_literal, is_root_literal, is_literal_character}
+use Rattle.defs_tree.specs.Literal.{is_literal_text, is_root_literal, is_literal_character}
 use Rattle.defs_tree.proofs.RealTexts.{is_real_character, real_text-characters}
 use Rattle.defs_tree.proofs.Unquoted.{unquoted}
 use Rattle.defs_layout.specs.Gap.{spaces, GapLine, empty_line, comment_line, spell_gap_line, spell_gap, next_line, spell_ending, is_line_character, IsGapLine, IsGap, AreEmptyLines}
@@ -157,19 +157,19 @@ header : (b : Bool) (r : List ℕ) → IsWithoutNul r → IsWithoutNul ((if b th
 header true r n = ap (λ l. 124 ∷ l) n
 header false r n = ap (λ l. 124 ∷ 45 ∷ l) n
 
-literal_characters : (w : List ℕ) → is_literal w ≡ true → list_all is_literal_character w ≡ true
-unfolding is_literal
+literal_characters : (w : List ℕ) → is_literal_text w ≡ true → list_all is_literal_character w ≡ true
+unfolding is_literal_text
 literal_characters w h =
     let p = and_parts _ _ h in
     let q = and_parts _ _ p.0 in
     let s = and_parts _ _ q.0 in
     (and_parts _ (list_all is_literal_character w) s.0).1
 
-pub literal : (column : ℕ) (w : List ℕ) (ls : List Line) (r : List ℕ) → is_literal w ≡ true → AreLinesOf w column ls → IsWithoutNul r → IsWithoutNul (spell_literal column w ls r)
+pub literal : (column : ℕ) (w : List ℕ) (ls : List Line) (r : List ℕ) → is_literal_text w ≡ true → AreLinesOf w column ls → IsWithoutNul r → IsWithoutNul (spell_literal column w ls r)
 literal column w ls r h are n =
     header (ends_with nat_eq w (codes "\n")) (spell_lines column ls r)
     (lines column ls r (ap are_fit are.0 ∙ lines_fit w (literal_characters w h)) n)
 
-pub root_literal : (w : List ℕ) → is_root_literal w ≡ true → is_literal w ≡ true
+pub root_literal : (w : List ℕ) → is_root_literal w ≡ true → is_literal_text w ≡ true
 unfolding is_root_literal
-root_literal w h = (and_parts (is_literal w) _ (and_parts _ _ h).0).0
+root_literal w h = (and_parts (is_literal_text w) _ (and_parts _ _ h).0).0

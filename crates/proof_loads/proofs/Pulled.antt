@@ -2,7 +2,7 @@
 use Rattle.std.proofs.Common.{◌≡◌, true, false, Bool, List, [], ◌∷◌, ◌++◌, Some, None, refl, sym, ap, ◌∙◌, subst, append_assoc, append-nil}
 use Rattle.std.specs.Prelude.{Option, IfSome, ◌||◌}
 use Rattle.defs_text.specs.Position.{Position}
-use Rattle.yaml_tokens.specs.Fault.{Fault}
+use Rattle.yaml_tokens.specs.ErrorReport.{ErrorReport}
 use Rattle.defs_event.specs.Event.{Ev}
 use Rattle.defs_event.specs.PulledList.{Answer, event, fault, given}
 use Rattle.yaml_parser.specs.Parsed.{Parsed, is_stream_end, has_end, read_so}
@@ -14,13 +14,13 @@ use Rattle.proof_loads.proofs.Runs.{given_append}
 
 -- ---- what was pulled
 
-pub settings_stay : {p q : Parsed} {answers : List (Answer Fault)} → PullsAll p answers q → KeepsSettings p q
+pub settings_stay : {p q : Parsed} {answers : List (Answer ErrorReport)} → PullsAll p answers q → KeepsSettings p q
 settings_stay no_call = record { keep_tags = refl; steady = refl }
 settings_stay (one_call (event e p) calls gives) = let k = settings_stay calls in record { keep_tags = gives.settings.keep_tags ∙ k.keep_tags; steady = gives.settings.steady ∙ k.steady }
 settings_stay (one_call (fault f) calls gives) = let k = settings_stay calls in record { keep_tags = gives.settings.keep_tags ∙ k.keep_tags; steady = gives.settings.steady ∙ k.steady }
 
 -- A fault after a start without one has its reason.
-pub explained : {p q : Parsed} {answers : List (Answer Fault)} (f : Fault) → p.fault ≡ None → PullsAll p answers q → q.fault ≡ Some f → Explains f q
+pub explained : {p q : Parsed} {answers : List (Answer ErrorReport)} (f : ErrorReport) → p.fault ≡ None → PullsAll p answers q → q.fault ≡ Some f → Explains f q
 explained f clear no_call h = cc
 explained f clear (one_call (event e p) calls gives) h = let none = gives.sound.fault in cc
 explained f clear (one_call {q = q} {r = r} (fault g) calls gives) h = by q.fault refl (explained f clear calls)
@@ -28,10 +28,10 @@ explained f clear (one_call {q = q} {r = r} (fault g) calls gives) h = by q.faul
     same : Some g ≡ Some f
     same = sym gives.fault ∙ h
 
-    taken_over : (k : Fault) → (g ≡ k) × (r ≡ q) → q.fault ≡ Some k → (q.fault ≡ Some f → Explains f q) → Explains f r
+    taken_over : (k : ErrorReport) → (g ≡ k) × (r ≡ q) → q.fault ≡ Some k → (q.fault ≡ Some f → Explains f q) → Explains f r
     taken_over k again e before = subst (λ x. Explains f x) (sym again.1) (before (e ∙ ap Some (sym again.0) ∙ same))
 
-    by : (o : Option Fault) → q.fault ≡ o → (q.fault ≡ Some f → Explains f q) → Explains f r
+    by : (o : Option ErrorReport) → q.fault ≡ o → (q.fault ≡ Some f → Explains f q) → Explains f r
     by None e before = let is : g ≡ f = cc in subst (λ x. Explains x r) is (gives.why e)
     by (Some k) e before = taken_over k (subst (λ x. IfSome x (λ k. (g ≡ k) × (r ≡ q))) e gives.again) e before
 
@@ -55,13 +55,13 @@ or_false true = refl
 or_false false = refl
 
 -- The events that were given are all that was answered, but for the stream's end again after that end.
-pub record Noted (answers : List (Answer Fault)) (p : Parsed) : Type 0 where
-  pub rest : List (Answer Fault)
-  pub answers_are : answers ≡ given Fault p.given ++ rest
+pub record Noted (answers : List (Answer ErrorReport)) (p : Parsed) : Type 0 where
+  pub rest : List (Answer ErrorReport)
+  pub answers_are : answers ≡ given ErrorReport p.given ++ rest
   pub ended : p.ended ≡ has_end p.given
   pub none : p.ended ≡ false → rest ≡ []
 
-note : (q p : Parsed) (answers : List (Answer Fault)) (e : Ev) (pl : Position) → Noted answers q → GivesEvent q (e, pl) p → Noted (answers ++ event e pl ∷ []) p
+note : (q p : Parsed) (answers : List (Answer ErrorReport)) (e : Ev) (pl : Position) → Noted answers q → GivesEvent q (e, pl) p → Noted (answers ++ event e pl ∷ []) p
 note q p answers e pl n gives = by q.ended refl
   where
     over : q.ended ≡ true → Noted (answers ++ event e pl ∷ []) p
@@ -70,7 +70,7 @@ note q p answers e pl n gives = by q.ended refl
         let end : p.ended ≡ true = rw h at gives.ended in
         record {
           rest = n.rest ++ event e pl ∷ [];
-          answers_are = ap (λ bs. bs ++ event e pl ∷ []) n.answers_are ∙ append_assoc (given Fault q.given) n.rest (event e pl ∷ []) ∙ ap (λ es. given Fault es ++ (n.rest ++ event e pl ∷ [])) (sym same);
+          answers_are = ap (λ bs. bs ++ event e pl ∷ []) n.answers_are ∙ append_assoc (given ErrorReport q.given) n.rest (event e pl ∷ []) ∙ ap (λ es. given ErrorReport es ++ (n.rest ++ event e pl ∷ [])) (sym same);
           ended = end ∙ sym h ∙ n.ended ∙ sym (ap has_end same);
           none = λ no. cc;
         }
@@ -78,10 +78,10 @@ note q p answers e pl n gives = by q.ended refl
     going : q.ended ≡ false → Noted (answers ++ event e pl ∷ []) p
     going h =
         let more : p.given ≡ q.given ++ (e, pl) ∷ [] = rw h at gives.given in
-        let all : answers ≡ given Fault q.given = n.answers_are ∙ ap (λ bs. given Fault q.given ++ bs) (n.none h) ∙ append-nil (given Fault q.given) in
+        let all : answers ≡ given ErrorReport q.given = n.answers_are ∙ ap (λ bs. given ErrorReport q.given ++ bs) (n.none h) ∙ append-nil (given ErrorReport q.given) in
         record {
           rest = [];
-          answers_are = ap (λ bs. bs ++ event e pl ∷ []) all ∙ sym (given_append Fault q.given ((e, pl) ∷ [])) ∙ ap (given Fault) (sym more) ∙ sym (append-nil (given Fault p.given));
+          answers_are = ap (λ bs. bs ++ event e pl ∷ []) all ∙ sym (given_append ErrorReport q.given ((e, pl) ∷ [])) ∙ ap (given ErrorReport) (sym more) ∙ sym (append-nil (given ErrorReport p.given));
           ended = gives.ended ∙ ap (λ b. b || is_stream_end e) n.ended ∙ ap (λ b. has_end q.given || b) (sym (or_false (is_stream_end e))) ∙ sym (ap has_end more ∙ has_end_append q.given ((e, pl) ∷ []));
           none = λ no. refl;
         }
@@ -90,24 +90,24 @@ note q p answers e pl n gives = by q.ended refl
     by true h = over h
     by false h = going h
 
-pub noted : {p q : Parsed} {answers : List (Answer Fault)} → IsAtStart p → PullsAll p answers q → q.fault ≡ None → Noted answers q
+pub noted : {p q : Parsed} {answers : List (Answer ErrorReport)} → IsAtStart p → PullsAll p answers q → q.fault ≡ None → Noted answers q
 noted {p} start no_call clear =
     record {
       rest = [];
-      answers_are = ap (λ es. given Fault es ++ []) (sym start.given);
+      answers_are = ap (λ es. given ErrorReport es ++ []) (sym start.given);
       ended = start.ended ∙ ap has_end (sym start.given);
       none = λ no. refl;
     }
 noted start (one_call {q = q} {r = r} {answers = answers} (event e pl) calls gives) clear = note q r answers e pl (noted start calls gives.clear) gives
 noted start (one_call (fault f) calls gives) clear = let kept = gives.fault in cc
 
-last_is_event : (xs : List (Answer Fault)) (f : Fault) (es : List (Ev × Position)) → xs ++ fault f ∷ [] ≡ given Fault es → ⊥
+last_is_event : (xs : List (Answer ErrorReport)) (f : ErrorReport) (es : List (Ev × Position)) → xs ++ fault f ∷ [] ≡ given ErrorReport es → ⊥
 last_is_event [] f [] h = cc
 last_is_event [] f (e ∷ es) h = cc
 last_is_event (x ∷ xs) f [] h = cc
-last_is_event (x ∷ xs) f (e ∷ es) h = let rest : xs ++ fault f ∷ [] ≡ given Fault es = cc in last_is_event xs f es rest
+last_is_event (x ∷ xs) f (e ∷ es) h = let rest : xs ++ fault f ∷ [] ≡ given ErrorReport es = cc in last_is_event xs f es rest
 
-pub events_are_clear : {p q : Parsed} {answers : List (Answer Fault)} (es : List (Ev × Position)) → p.fault ≡ None → PullsAll p answers q → answers ≡ given Fault es → q.fault ≡ None
+pub events_are_clear : {p q : Parsed} {answers : List (Answer ErrorReport)} (es : List (Ev × Position)) → p.fault ≡ None → PullsAll p answers q → answers ≡ given ErrorReport es → q.fault ≡ None
 events_are_clear es clear no_call h = clear
 events_are_clear es clear (one_call (event e p) calls gives) h = gives.sound.fault
 events_are_clear es clear (one_call {answers = answers} (fault f) calls gives) h = absurd (last_is_event answers f es h)

@@ -5,7 +5,7 @@ use Rattle.std.proofs.lemmas.List.{map-append}
 use Rattle.defs_text.specs.Position.{Position}
 use Rattle.defs_token.specs.Token.{Tok, Token}
 use Rattle.defs_tree.specs.Tree.{Tree}
-use Rattle.yaml_tokens.specs.Fault.{Fault}
+use Rattle.yaml_tokens.specs.ErrorReport.{ErrorReport}
 use Rattle.defs_event.specs.Event.{Ev}
 use Rattle.defs_token.specs.Toks.{toks}
 use Rattle.defs_event.specs.Stream.{IsStream, Foretells, events_of}
@@ -37,7 +37,7 @@ texts_are_not_refused p text trees x scans r =
     let y = goes_on p.keep_tags text trees p.scanner.given x (first_tokens text p.scanner scans) in
     streams_are_not_cut p.keep_tags (toks p.scanner.given) y.more trees y.reads r.none
 
-scanner_wants_memory : (o : Option Fault) (f : Fault) → o ≡ Some f → IfSome o (λ g. g.memory ≡ true) → f.memory ≡ true
+scanner_wants_memory : (o : Option ErrorReport) (f : ErrorReport) → o ≡ Some f → IfSome o (λ g. g.memory ≡ true) → f.memory ≡ true
 scanner_wants_memory o f e h = rw e at h
 
 pub only_memory_is_wanted : ReadTextsHaveNoFaultButMemory

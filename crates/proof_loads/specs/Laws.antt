@@ -11,7 +11,7 @@ use Rattle.defs_tree.specs.Tree.{Tree}
 use Rattle.defs_tree.specs.DumpText.{dump_text}
 use Rattle.defs_layout.specs.Json.{JsonText, IsWellFormed, spell_text, tree_of}
 use Rattle.defs_layout.specs.DumpIsInjective.{CanBeWritten}
-use Rattle.yaml_tokens.specs.Fault.{Fault}
+use Rattle.yaml_tokens.specs.ErrorReport.{ErrorReport}
 use Rattle.defs_event.specs.Event.{Ev}
 use Rattle.defs_event.specs.Unfinished.{new_loader, with_events}
 use Rattle.defs_event.specs.Laws.{HasRead}
@@ -40,7 +40,7 @@ ReadTextsAreNotRefused = (p : Parsed) (text : List ℕ) (trees : List Tree) → 
 -- `read_texts_have_no_fault_but_memory`
 abbrev pub ReadTextsHaveNoFaultButMemory : Type 0
 ReadTextsHaveNoFaultButMemory =
-    (p : Parsed) (f : Fault) (text : List ℕ) (trees : List Tree) → IsReadAs p.keep_tags text trees → ScansIn text p.scanner → p.steady ≡ true → Explains f p
+    (p : Parsed) (f : ErrorReport) (text : List ℕ) (trees : List Tree) → IsReadAs p.keep_tags text trees → ScansIn text p.scanner → p.steady ≡ true → Explains f p
     → f.memory ≡ true
 
 -- `events_of_read_texts_are_read`; `es` are a beginning of the events
@@ -58,15 +58,15 @@ ReadTextsHaveTheirTrees =
 -- ---- a load
 
 -- `texts_are_answered`, for each kind of receiver
-abbrev pub TextsAreAnswered : {R : Type 0} → (R → Ev → Position → Result (Unit {0}) Fault → R → Type 0) → Type 0
+abbrev pub TextsAreAnswered : {R : Type 0} → (R → Ev → Position → Result (Unit {0}) ErrorReport → R → Type 0) → Type 0
 TextsAreAnswered {R} takes =
-    (old new : Parsed) (r s : R) (result : Result (Unit {0}) Fault) (text : List ℕ) → IsAtStart old → ScansIn text new.scanner → Loads takes true old r result new s
+    (old new : Parsed) (r s : R) (result : Result (Unit {0}) ErrorReport) (text : List ℕ) → IsAtStart old → ScansIn text new.scanner → Loads takes true old r result new s
     → AnswersText takes old.keep_tags text r result s
 
 -- `read_texts_are_loaded`, for each kind of receiver
-abbrev pub ReadTextsAreLoaded : {R : Type 0} → (R → Ev → Position → Result (Unit {0}) Fault → R → Type 0) → Type 0
+abbrev pub ReadTextsAreLoaded : {R : Type 0} → (R → Ev → Position → Result (Unit {0}) ErrorReport → R → Type 0) → Type 0
 ReadTextsAreLoaded {R} takes =
-    (old new : Parsed) (r s : R) (result : Result (Unit {0}) Fault) (text : List ℕ) (trees : List Tree)
+    (old new : Parsed) (r s : R) (result : Result (Unit {0}) ErrorReport) (text : List ℕ) (trees : List Tree)
     → IsAtStart old → IsReadAs old.keep_tags text trees → ScansIn text new.scanner → Loads takes true old r result new s → LoadsAs takes trees r result s
 
 -- ---- JSON texts
@@ -76,9 +76,9 @@ abbrev pub JsonTextsAreReadAsTheirTree : Type 0
 JsonTextsAreReadAsTheirTree = (keep_tags : Bool) (w : JsonText) → IsWellFormed w → IsReadAs keep_tags (spell_text w) (tree_of w.value ∷ [])
 
 -- `json_texts_are_loaded`, for each kind of receiver
-abbrev pub JsonTextsAreLoaded : {R : Type 0} → (R → Ev → Position → Result (Unit {0}) Fault → R → Type 0) → Type 0
+abbrev pub JsonTextsAreLoaded : {R : Type 0} → (R → Ev → Position → Result (Unit {0}) ErrorReport → R → Type 0) → Type 0
 JsonTextsAreLoaded {R} takes =
-    (old new : Parsed) (r s : R) (result : Result (Unit {0}) Fault) (w : JsonText)
+    (old new : Parsed) (r s : R) (result : Result (Unit {0}) ErrorReport) (w : JsonText)
     → IsAtStart old → IsWellFormed w → ScansIn (spell_text w) new.scanner → Loads takes true old r result new s → LoadsAs takes (tree_of w.value ∷ []) r result s
 
 -- `json_texts_are_without_nul`

@@ -2,7 +2,7 @@
 use Rattle.std.specs.Prelude.{◌≡◌, ℕ, Bool, List, [], ◌∷◌, ◌++◌, Option, Result, Ok, Err}
 use Rattle.defs_text.specs.Position.{Position}
 use Rattle.defs_token.specs.Token.{Token}
-use Rattle.yaml_tokens.specs.Fault.{Fault}
+use Rattle.yaml_tokens.specs.ErrorReport.{ErrorReport}
 use Rattle.defs_event.specs.Event.{Ev}
 use Rattle.defs_event.specs.Nested.{NestedDocument, nested_stream}
 use Rattle.defs_token.specs.Toks.{toks}
@@ -27,7 +27,7 @@ pub record HasEvents (keep_tags : Bool) (text : List ℕ) (events : List (Ev × 
 -- These are the text's first tokens: those that it has first at some point of a run, and in the end.
 pub record AreFirst (text : List ℕ) (given : List Token) : Type 0 where
   pub reached : IsReached text given
-  pub begins : (ts : List Token) → HasTokens text ts → scan.Begins given ts
+  pub begins : (ts : List Token) → HasTokens text ts → scan.BeginsWith given ts
 
 -- The text's events begin with these, as far as its first tokens tell: a stream begins with these tokens but for the last, and with
 -- these events at their places, and each stream that begins with these tokens begins with these events.
@@ -40,7 +40,7 @@ pub record BeginsEvents (keep_tags : Bool) (text : List ℕ) (events : List (Ev 
 
 -- Why a parser has this fault: memory was refused; or the scanner refuses the text so; or a stream begins with the text's
 -- first tokens, and none with these and the next, which the fault blames.
-pub data IsFaultOf (keep_tags : Bool) (text : List ℕ) (f : Fault) : Type 0 where
+pub data IsFaultOf (keep_tags : Bool) (text : List ℕ) (f : ErrorReport) : Type 0 where
   wants_memory : WantsMemory f → IsFaultOf keep_tags text f
   no_token : IsRefusal text f → IsFaultOf keep_tags text f
   no_stream : (before : List Token) (last : Token) (events : List (Ev × Position)) → AreFirst text (before ++ last ∷ []) → Blames f (before ++ last ∷ [])
@@ -48,8 +48,8 @@ pub data IsFaultOf (keep_tags : Bool) (text : List ℕ) (f : Fault) : Type 0 whe
 
 -- How a load of the text ends: the receiver took all its events; or the parser has a fault; or the receiver refused an event
 -- that is the next of the text.
-pub data AnswersText {R : Type 0} (takes : R → Ev → Position → Result (Unit {0}) Fault → R → Type 0) (keep_tags : Bool) (text : List ℕ) (r : R) : Result (Unit {0}) Fault → R → Type 0 where
+pub data AnswersText {R : Type 0} (takes : R → Ev → Position → Result (Unit {0}) ErrorReport → R → Type 0) (keep_tags : Bool) (text : List ℕ) (r : R) : Result (Unit {0}) ErrorReport → R → Type 0 where
   whole : {s : R} (es : List (Ev × Position)) → HasEvents keep_tags text es → Receives takes r es s → AnswersText takes keep_tags text r (Ok tt) s
-  faulted : {s : R} {f : Fault} (es : List (Ev × Position)) → IsFaultOf keep_tags text f → Receives takes r es s → AnswersText takes keep_tags text r (Err f) s
-  refused : {s t : R} {f : Fault} (es : List (Ev × Position)) (e : Ev) (p : Position) → BeginsEvents keep_tags text (es ++ (e, p) ∷ []) → Receives takes r es s → takes s e p (Err f) t
+  faulted : {s : R} {f : ErrorReport} (es : List (Ev × Position)) → IsFaultOf keep_tags text f → Receives takes r es s → AnswersText takes keep_tags text r (Err f) s
+  refused : {s t : R} {f : ErrorReport} (es : List (Ev × Position)) (e : Ev) (p : Position) → BeginsEvents keep_tags text (es ++ (e, p) ∷ []) → Receives takes r es s → takes s e p (Err f) t
       → AnswersText takes keep_tags text r (Err f) t

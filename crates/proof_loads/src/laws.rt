@@ -1,10 +1,7 @@
 //! Laws of texts that are read as trees, each the contract of an empty function.
 
-ghost use Rattle.proof_loads.specs.Laws.{ReadTextsAreNotRefused, ReadTextsHaveNoFaultButMemory, EventsOfReadTextsAreRead, ReadTextsHaveTheirTrees};
-ghost use Rattle.proof_loads.specs.Laws.{JsonTextsAreReadAsTheirTree, JsonTextsAreWithoutNul, ReadTextsAreLoaded, JsonTextsAreLoaded};
-ghost use Rattle.proof_loads.specs.Laws.{TextsAreReadInOneWay, DumpsAreReadAsTheirTree};
+ghost use Rattle.proof_loads.specs.Laws.{ReadTextsAreNotRefused, ReadTextsHaveNoFaultButMemory, EventsOfReadTextsAreRead, ReadTextsHaveTheirTrees, JsonTextsAreReadAsTheirTree, JsonTextsAreWithoutNul, ReadTextsAreLoaded, JsonTextsAreLoaded, TextsAreReadInOneWay, DumpsAreReadAsTheirTree, TextsAreAnswered, CharactersAreTheText, StringsAreTheText};
 ghost use Rattle.defs_layout.specs.DumpIsInjective.{DumpIsInjective};
-ghost use Rattle.proof_loads.specs.Laws.{TextsAreAnswered, CharactersAreTheText, StringsAreTheText};
 
 use yaml_parser::MarkedEventReceiver;
 

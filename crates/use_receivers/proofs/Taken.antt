@@ -3,20 +3,20 @@ use Rattle.std.proofs.Common.{◌≡◌, ℕ, List, Ok, Err, false, refl, subst}
 use Rattle.std.specs.Prelude.{Bool, Result, IfOk, Vec}
 use Rattle.std.specs.declared.alloc.Global.{Global}
 use Rattle.yaml_rust2.specs.Event.{Ev}
-use Rattle.yaml_rust2.specs.Fault.{Fault}
+use Rattle.yaml_tokens.specs.ErrorReport.{ErrorReport}
 use Rattle.yaml_rust2.specs.Loads.{Receives}
-use Rattle.yaml_rust2.specs.Place.{Place}
+use Rattle.yaml_rust2.specs.Position.{Position}
 use Rattle.yaml_rust2.specs.TextLoads.{LoadsText}
 use Rattle.yaml_rust2.specs.TextReadAs.{IsReadAs}
 use Rattle.yaml_rust2.specs.View.{items_view}
 use Rattle.yaml_rust2.specs.declared.Yaml.{Yaml}
 use Rattle.yaml_rust2.specs.TextEvents.{HasEvents, AnswersText, whole, faulted, refused}
 
-not_ok : (f : Fault) (result : Result (Unit {0}) Fault) → result ≡ Err f → result ≡ Ok tt → ⊥
+not_ok : (f : ErrorReport) (result : Result (Unit {0}) ErrorReport) → result ≡ Err f → result ≡ Ok tt → ⊥
 not_ok f result is ok = cc
 
-pub all_taken : {R : Type 0} {takes : R → Ev → Place → Result (Unit {0}) Fault → R → Type 0} {r s : R} {result : Result (Unit {0}) Fault} {keep_tags : Bool} {text : List ℕ}
-    → AnswersText takes keep_tags text r result s → result ≡ Ok tt → keep_tags ≡ false → (es : List (Ev × Place)) × HasEvents false text es × Receives takes r es s
+pub all_taken : {R : Type 0} {takes : R → Ev → Position → Result (Unit {0}) ErrorReport → R → Type 0} {r s : R} {result : Result (Unit {0}) ErrorReport} {keep_tags : Bool} {text : List ℕ}
+    → AnswersText takes keep_tags text r result s → result ≡ Ok tt → keep_tags ≡ false → (es : List (Ev × Position)) × HasEvents false text es × Receives takes r es s
 all_taken {text = text} (whole es has received) ok keep = (es, subst (λ k. HasEvents k text es) keep has, received)
 all_taken (faulted es why received) ok keep = absurd (not_ok _ _ refl ok)
 all_taken (refused es last p begins received takes) ok keep = absurd (not_ok _ _ refl ok)
@@ -25,6 +25,6 @@ pub where_ok : {A E : Type 0} {P : Type 0} (result : Result A E) → P → IfOk 
 where_ok (Ok x) p = p
 where_ok (Err e) p = tt
 
-pub read_where_ok : (text : List ℕ) (result : Result (Vec Yaml Global) Fault) → LoadsText false text result → IfOk result (λ documents. IsReadAs false text (items_view documents.items))
+pub read_where_ok : (text : List ℕ) (result : Result (Vec Yaml Global) ErrorReport) → LoadsText false text result → IfOk result (λ documents. IsReadAs false text (items_view documents.items))
 read_where_ok text (Ok documents) read = read
 read_where_ok text (Err f) why = tt

@@ -2,7 +2,7 @@
 use Rattle.std.specs.Prelude.{ℕ, zero, suc, List, [], ◌∷◌, map}
 use Rattle.std.specs.List.{concat}
 use Rattle.yaml_rust2.specs.Event.{Ev}
-use Rattle.yaml_rust2.specs.Place.{Place}
+use Rattle.yaml_rust2.specs.Position.{Position}
 
 -- the number 0 is no anchor
 abbrev pub listed : ℕ → List ℕ
@@ -17,5 +17,5 @@ number_of (Ev.mapping_start anchor tag) = anchor
 number_of _ = 0
 
 -- in the order in which their nodes begin
-abbrev pub anchors_in : List (Ev × Place) → List ℕ
+abbrev pub anchors_in : List (Ev × Position) → List ℕ
 anchors_in es = concat (map (λ e. listed (number_of e.0)) es)

@@ -3,7 +3,7 @@
 ghost use Rattle.std.specs.Prelude.{◌≡◌, ◌≤◌, false, List, IfOk, chars, if◌then◌else◌};
 ghost use Rattle.yaml_rust2.specs.CharactersRead.{up_to_nul};
 ghost use Rattle.yaml_rust2.specs.Event.{Ev};
-ghost use Rattle.yaml_rust2.specs.Place.{Place};
+ghost use Rattle.yaml_rust2.specs.Position.{Position};
 ghost use Rattle.yaml_rust2.specs.Shown.{ev_of};
 ghost use Rattle.yaml_rust2.specs.TextEvents.{HasEvents};
 ghost use Rattle.yaml_rust2.specs.TextReadAs.{IsReadAs};
@@ -52,7 +52,7 @@ fn is_alias(event: &Event) -> bool
 /// events, before any tree is made. An `Err` is the text's fault, or `too many aliases` at the place of the first one
 /// too many, or memory was refused.
 pub fn load_with_few_aliases(alloc: Global, text: &str, most: usize) -> Result<Vec<Yaml>, ScanError>
-    ensures few { IfOk result (λ documents. (es : List (Ev × Place)) × HasEvents false (up_to_nul (chars text.now)) es × (aliases_in es ≤ most)) }
+    ensures few { IfOk result (λ documents. (es : List (Ev × Position)) × HasEvents false (up_to_nul (chars text.now)) es × (aliases_in es ≤ most)) }
     ensures reads { IfOk result (λ documents. IsReadAs false (up_to_nul (chars text.now)) (items_view documents.items)) }
 {
     let mut aliases = Aliases { left: most };

@@ -2,7 +2,7 @@
 ghost use Rattle.std.specs.Prelude.{◌≡◌, ◌++◌, false, List, IfOk, OnOk, chars};
 ghost use Rattle.yaml_rust2.specs.CharactersRead.{up_to_nul};
 ghost use Rattle.yaml_rust2.specs.Event.{Ev};
-ghost use Rattle.yaml_rust2.specs.Place.{Place};
+ghost use Rattle.yaml_rust2.specs.Position.{Position};
 ghost use Rattle.yaml_rust2.specs.Shown.{ev_of};
 ghost use Rattle.yaml_rust2.specs.TextEvents.{HasEvents};
 ghost use Rattle.use_receivers.specs.Anchors.{listed, number_of, anchors_in};
@@ -52,7 +52,7 @@ fn number_of(event: &Event) -> usize
 /// The numbers of all anchors of a text, in the order in which their nodes begin. An `Err` is the text's fault, or memory
 /// was refused.
 pub fn anchor_numbers(alloc: Global, text: &str) -> Result<Vec<usize>, ScanError>
-    ensures { IfOk result (λ numbers. (es : List (Ev × Place)) × HasEvents false (up_to_nul (chars text.now)) es × (numbers.items ≡ anchors_in es)) }
+    ensures { IfOk result (λ numbers. (es : List (Ev × Position)) × HasEvents false (up_to_nul (chars text.now)) es × (numbers.items ≡ anchors_in es)) }
 {
     let mut anchors = Anchors {
         numbers: Vec::new(alloc),

@@ -7,7 +7,7 @@ use Rattle.std.proofs.lemmas.Bool.{cases_lt}
 use Rattle.std.specs.Prelude.{Option}
 use native.Mathlib.Numerals.{unary_clauses}
 use Rattle.yaml_chars.specs.Source.{Pulled, Pulls, CameFrom}
-use Rattle.yaml_chars.specs.Reading.{Reading, Possible, Reads, Sees, Fills, HasNoNul, IsText, Begins}
+use Rattle.yaml_chars.specs.Reading.{Reading, Possible, Reads, Sees, Fills, HasNoNul, IsText, BeginsText}
 
 -- a text that begins with xs and c begins with xs
 pub begins-back : (xs : List ℕ) (c : ℕ) (w : List ℕ) → take (length (xs ++ c ∷ [])) w ≡ xs ++ c ∷ [] → take (length xs) w ≡ xs
@@ -176,7 +176,7 @@ IsText-from_Reads {P = P} steps it old new start at reads came no_nul done =
 
 pub Begins-from_Reads : {T : Type 0} {P : List ℕ → List ℕ → Type 0} {Q : List ℕ → Type 0} (steps : T → Option ℕ → T → Type 0) (it : T) (old new : Reading T)
     → old.start ≡ it → old.at ≡ 0 → Reads old new P → CameFrom steps new.start new.taken new.done → HasNoNul new.taken
-    → ((a b : List ℕ) → P a b → Q a) → Begins steps it Q
+    → ((a b : List ℕ) → P a b → Q a) → BeginsText steps it Q
 Begins-from_Reads steps it old new start at reads came no_nul holds = record {
   taken = new.taken;
   done = new.done;

@@ -2,12 +2,12 @@
 use Rattle.std.proofs.Common.{◌≡◌, false, [], ◌∷◌, ◌++◌, List, ℕ, Bool, Option, Some}
 use Rattle.std.proofs.iter.Next.{Yields-more}
 use Rattle.std.specs.Iterator.{Count, IsFinite}
-use Rattle.yaml_chars.specs.Source.{Stands}
+use Rattle.yaml_chars.specs.Source.{IterStands}
 
 -- one more character came
 pub Stands-more : {T : Type 0} (can : T → Type 0) (steps : T → Option ℕ → T → Type 0) (left : T → Count) (start : T) (taken : List ℕ) (done : Bool) (iter : T) (c : ℕ) (next : T)
-    → Stands can steps left start taken done iter → done ≡ false → steps iter (Some c) next → can next × IsFinite (left next)
-    → Stands can steps left start (taken ++ c ∷ []) done next
+    → IterStands can steps left start taken done iter → done ≡ false → steps iter (Some c) next → can next × IsFinite (left next)
+    → IterStands can steps left start (taken ++ c ∷ []) done next
 Stands-more can steps left start taken done iter c next stands going step ready =
     let more = Yields-more steps start taken iter c next (stands.here going) step in
     record {

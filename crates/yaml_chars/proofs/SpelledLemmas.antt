@@ -8,7 +8,7 @@ use Rattle.std.specs.Str.Iter.{chars_steps, chars_rest}
 use Rattle.std.specs.declared.str.Chars.{Chars}
 use Rattle.std.specs.Iterator.{AlwaysYields, Yields, YieldsThen}
 use Rattle.yaml_chars.specs.Source.{IsEnd, CameFrom}
-use Rattle.yaml_chars.specs.Reading.{HasNoNul, up_to_nul, IsText, Begins}
+use Rattle.yaml_chars.specs.Reading.{HasNoNul, up_to_nul, IsText, BeginsText}
 
 up_to_nul-stop : (c : ℕ) (cs : List ℕ) → c ≡ 0 → up_to_nul (c ∷ cs) ≡ []
 up_to_nul-stop c cs e = rw e refl
@@ -49,7 +49,7 @@ module _ {S : Type 0} (steps : S → Option ℕ → S → Type 0) where
   IsText-spelled cs all it always text = spelled-whole cs all it _ _ always text.ends.2 text.ends.3 text.no_nul
 
   -- what holds of each text that may come holds of these characters up to a NUL
-  pub Begins-spelled : {P : List ℕ → Type 0} (all : List ℕ) (it : S) → AlwaysYields steps (λ c. c) it all → Begins steps it P → P (up_to_nul all)
+  pub Begins-spelled : {P : List ℕ → Type 0} (all : List ℕ) (it : S) → AlwaysYields steps (λ c. c) it all → BeginsText steps it P → P (up_to_nul all)
   Begins-spelled {P = P} all it always b =
       let ended : b.done ≡ true → up_to_nul all ≡ b.taken = λ d. let e = b.came.ended d in spelled-whole b.taken all it _ _ always e.2 e.3 b.no_nul in
       b.holds (up_to_nul all) (begins b.done b.came ended) ended
@@ -69,6 +69,6 @@ text-spelled steps it all Q (Ok v) always h = subst (λ cs. Q cs v) (sym (IsText
 text-spelled steps it all Q (Err e) always h = tt
 
 pub begins-spelled : {S V E : Type 0} (steps : S → Option ℕ → S → Type 0) (it : S) (all : List ℕ) (P : E → Type 0) (Q : List ℕ → Type 0) (r : Result V E)
-    → AlwaysYields steps (λ c. c) it all → IfErr r (λ e. P e → Begins steps it Q) → IfErr r (λ e. P e → Q (up_to_nul all))
+    → AlwaysYields steps (λ c. c) it all → IfErr r (λ e. P e → BeginsText steps it Q) → IfErr r (λ e. P e → Q (up_to_nul all))
 begins-spelled steps it all P Q (Ok v) always h = tt
 begins-spelled steps it all P Q (Err e) always h = λ p. Begins-spelled steps all it always (h p)

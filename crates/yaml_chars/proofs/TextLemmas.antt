@@ -1,13 +1,11 @@
 -- Lemmas about texts as lists of characters.
-use Rattle.std.proofs.Common.{List, ◌≡◌, ℕ, [], ◌∷◌, ◌++◌, ap, sym, ◌∙◌, refl, append-nil}
+use Rattle.std.proofs.Common.{List, ◌≡◌, ℕ, [], ◌∷◌, ◌++◌, ap, sym, ◌∙◌, refl, append-nil, length, ◌==◌, suc, arith, false}
 use Rattle.std.specs.Prelude.{String, string_bytes, encode_utf8, encode_utf8_all}
 use Rattle.std.specs.Str.{chars}
 use Rattle.std.specs.Char.{IsScalar}
-use Rattle.std.proofs.lemmas.Str.{chars-nil, chars-encodes, chars-append, IsUtf8-string_bytes}
-use Rattle.defs_text.specs.Text.{string_chars, is_nil}
-use Rattle.std.proofs.Common.{length, ◌==◌, suc, arith, false}
+use Rattle.std.proofs.lemmas.Str.{chars-nil, chars-encodes, chars-append, IsUtf8-string_bytes, encodes-chars}
+use Rattle.defs_text.specs.Text.{string_chars, is_empty}
 use Rattle.std.proofs.lemmas.Bool.Decides.{nat_tests}
-use Rattle.std.proofs.lemmas.Str.{encodes-chars}
 
 -- the character that the bytes of one spell
 pub chars-encode : (c : ℕ) → IsScalar c → chars (encode_utf8 c) ≡ c ∷ []
@@ -49,10 +47,10 @@ chars_append_of s u bs e = ap chars e ∙ chars-append (string_bytes s) (string_
 suc_is_some : (n : ℕ) → (suc n == 0) ≡ false
 suc_is_some n = grind (arith, nat_tests)
 
-is_nil_encoded : (cs bs : List ℕ) → encode_utf8_all cs ≡ bs → cs ≡ chars bs → is_nil (chars bs) ≡ (length bs == 0)
+is_nil_encoded : (cs bs : List ℕ) → encode_utf8_all cs ≡ bs → cs ≡ chars bs → is_empty (chars bs) ≡ (length bs == 0)
 is_nil_encoded [] bs e f = rw (← f, ← e) refl
 is_nil_encoded (c ∷ cs) [] e f = let g : c ∷ cs ≡ [] = f ∙ chars-nil in cc
 is_nil_encoded (c ∷ cs) (b ∷ bs) e f = rw (← f) (sym (suc_is_some (length bs)))
 
-pub is_nil_chars : {A : Type 0} (s : String A) → is_nil (chars (string_bytes s)) ≡ (length (string_bytes s) == 0)
+pub is_nil_chars : {A : Type 0} (s : String A) → is_empty (chars (string_bytes s)) ≡ (length (string_bytes s) == 0)
 is_nil_chars s = is_nil_encoded (chars (string_bytes s)) (string_bytes s) (encodes-chars (string_bytes s) (IsUtf8-string_bytes s)) refl

@@ -56,6 +56,6 @@ unfoldable pub is_anchor : ℕ → Bool
 is_anchor c = not (is_blank_or_breakz c) && not (c == 65279) && not (is_flow c)
 
 -- a character that may stand in a literal block that is written
-unfoldable pub is_literal : ℕ → Bool
-is_literal c =
+unfoldable pub is_literal_character : ℕ → Bool
+is_literal_character c =
     (c == 9) || (c == 10) || is_between 32 126 c || (c == 133) || is_between 160 55295 c || (is_between 57344 65533 c && not (c == 65279)) || is_between 65536 1114111 c

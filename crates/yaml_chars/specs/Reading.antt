@@ -1,6 +1,5 @@
 -- What clauses see of a window, and how they speak of the text after it.
-use Rattle.std.specs.Prelude.{◌≡◌, ◌≢◌, ℕ, ◌+◌, ◌-◌, ◌^◌, ◌<◌, ◌≤◌, Bool, true, false, List, [], ◌∷◌, length, take, drop, slice_index}
-use Rattle.std.specs.Prelude.{Option, ◌==◌, if◌then◌else◌}
+use Rattle.std.specs.Prelude.{◌≡◌, ◌≢◌, ℕ, ◌+◌, ◌-◌, ◌^◌, ◌<◌, ◌≤◌, Bool, true, false, List, [], ◌∷◌, length, take, drop, slice_index, Option, ◌==◌, if◌then◌else◌}
 use Rattle.std.specs.Iterator.{YieldsThen}
 use Rattle.defs_text.specs.Position.{Position}
 use Rattle.yaml_chars.specs.Source.{Pulled, CameFrom, IsEnd}
@@ -88,7 +87,7 @@ pub record IsText {T : Type 0} (steps : T → Option ℕ → T → Type 0) (it :
   pub no_nul : HasNoNul cs
 
 -- what the iterator gave is so much of a text that P holds, whatever comes after it
-pub record Begins {T : Type 0} (steps : T → Option ℕ → T → Type 0) (it : T) (P : List ℕ → Type 0) : Type 0 where
+pub record BeginsText {T : Type 0} (steps : T → Option ℕ → T → Type 0) (it : T) (P : List ℕ → Type 0) : Type 0 where
   pub taken : List ℕ
   pub done : Bool
   pub came : CameFrom steps it taken done

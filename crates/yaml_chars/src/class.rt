@@ -1,7 +1,7 @@
 //! Classes of characters (YAML 1.2, chapter 5). NUL stands for the end of the text.
 ghost use Rattle.std.specs.Prelude.{◌≡◌, ◌≢◌, ◌<◌, true, Some, None};
 ghost use Rattle.std.specs.Char.{digit_value};
-ghost use Rattle.yaml_chars.specs.Class.{is_break, is_blank, is_breakz, is_blank_or_breakz, is_flow, is_digit, is_alphanumeric, is_alpha, is_hex, is_uri_mark, is_uri, is_tag, is_anchor, is_literal};
+ghost use Rattle.yaml_chars.specs.Class.{is_break, is_blank, is_breakz, is_blank_or_breakz, is_flow, is_digit, is_alphanumeric, is_alpha, is_hex, is_uri_mark, is_uri, is_tag, is_anchor, is_literal_character};
 
 /// LF or CR.
 #[tactic(auto, unfolding(crate::specs::Class::is_break))]
@@ -154,9 +154,9 @@ pub fn is_anchor(c: char) -> bool
 }
 
 /// A character that `dump` writes in a literal block.
-#[tactic(auto, unfolding(crate::specs::Class::is_literal))]
-pub fn is_literal(c: char) -> bool
-    ensures { result ≡ is_literal c }
+#[tactic(auto, unfolding(crate::specs::Class::is_literal_character))]
+pub fn is_literal_character(c: char) -> bool
+    ensures { result ≡ is_literal_character c }
 {
     matches!(
         c,

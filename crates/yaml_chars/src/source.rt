@@ -47,13 +47,13 @@ pub struct Source<T: Iterator<Item = char>> {
 
 impl<T: Iterator<Item = char>> Model for Source<T> {
     ghost use Rattle.std.specs.Prelude.{if◌then◌else◌};
-    ghost use Rattle.yaml_chars.specs.Source.{Pulled, Stands};
+    ghost use Rattle.yaml_chars.specs.Source.{Pulled, IterStands};
 
     ghost Value = { Pulled T };
 
     ghost view = { λ s. record { start = s.start.value; taken = s.taken.items; done = s.done; left = (if s.done then 0 else (T.remaining s.iter).bound) } };
 
-    ghost invariant = { λ s. Stands T.can_next T.next_gives T.remaining s.start.value s.taken.items s.done s.iter };
+    ghost invariant = { λ s. IterStands T.can_next T.next_gives T.remaining s.start.value s.taken.items s.done s.iter };
 }
 
 impl<T: Iterator<Item = char>> Source<T> {

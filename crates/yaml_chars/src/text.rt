@@ -1,6 +1,6 @@
 //! Texts that clauses see as lists of characters.
 ghost use Rattle.std.specs.Prelude.{◌≡◌, ◌++◌, [], ◌∷◌, OnOk, OnErr, chars, IsTrue, ◌↔◌};
-ghost use Rattle.defs_text.specs.Text.{string_chars, is_nil};
+ghost use Rattle.defs_text.specs.Text.{string_chars, is_empty};
 
 use std::alloc::{AllocError, Global};
 use std::marker::Model;
@@ -68,7 +68,7 @@ impl Text {
 
     #[tactic(auto, using(crate::proofs::TextLemmas::is_nil_chars))]
     pub fn is_empty(&self) -> bool
-        ensures { result ≡ is_nil self.now }
+        ensures { result ≡ is_empty self.now }
     {
         self.inner.is_empty()
     }

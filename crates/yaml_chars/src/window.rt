@@ -2,8 +2,7 @@ ghost use Rattle.std.specs.Prelude.{◌≡◌, ◌≢◌, ℕ, ◌+◌, ◌-◌,
 ghost use Rattle.std.specs.Iterator.{IsFinite, size};
 ghost use Rattle.yaml_chars.specs.Run.{stops, ran};
 ghost use Rattle.yaml_chars.specs.Source.{CameFrom};
-ghost use Rattle.yaml_chars.specs.Reading.{place_of};
-ghost use Rattle.yaml_chars.specs.Reading.{Reads, Sees, HasChar, SamePlace, OneOn, after_char, after_break, after_line, HasNoNul};
+ghost use Rattle.yaml_chars.specs.Reading.{place_of, Reads, Sees, HasChar, SamePlace, OneOn, after_char, after_break, after_line, HasNoNul};
 
 use crate::marker::Marker;
 use crate::ring::Ring;

@@ -8,9 +8,9 @@ use Rattle.std.specs.Str.Pattern.{SplitsAroundMatch, FindsChar}
 use Rattle.std.proofs.lemmas.Slice.Eq.{bytes_eq-Decides}
 use Rattle.std.proofs.lemmas.Str.{encode_ascii, chars-nil, chars-append, chars_from_encodes, chars_past_char, IsUtf8-from_ascii, IsUtf8-append, IsUtf8-take, IsUtf8-drop, IsCharBoundary-before_ascii}
 use Rattle.std.specs.List.{list_any, list_all, ends_with}
-use Rattle.defs_tree.specs.Grammar.{is_empty}
+use Rattle.defs_text.specs.Text.{is_empty}
 use Rattle.defs_tree.specs.Lines.{lines_of, onto_first_line}
-use Rattle.defs_tree.specs.Literal.{is_literal, is_root_literal, is_literal_character, is_line_feed, first_full_line_is_indented, begins_as_marker, begins_blank}
+use Rattle.defs_tree.specs.Literal.{is_literal_text, is_root_literal, is_literal_character, is_line_feed, first_full_line_is_indented, begins_as_marker, begins_blank}
 use Rattle.defs_tree.specs.Quoting.{begins_with}
 use Rattle.yaml_chars.specs.Class as class
 use Rattle.yaml_emitter.specs.At.{is_low, new_line, below}
@@ -46,8 +46,8 @@ regroup true true true false true = refl
 regroup true true true true false = refl
 regroup true true true true true = refl
 
-pub literal : (t : List ℕ) → is_literal t ≡ (has_clear_lines t && not (ends_with nat_eq t (codes "\n\n")))
-unfolding is_literal
+pub literal : (t : List ℕ) → is_literal_text t ≡ (has_clear_lines t && not (ends_with nat_eq t (codes "\n\n")))
+unfolding is_literal_text
 literal t =
     regroup (list_any is_line_feed t) (list_all is_literal_character t) (not (list_all is_line_feed t)) (not (ends_with nat_eq t (codes "\n\n"))) (not (first_full_line_is_indented (lines_of t)))
     ∙ ap (λ b. (list_any is_line_feed t && (list_all is_literal_character t && b)) && not (ends_with nat_eq t (codes "\n\n"))) (sym (well t))
@@ -56,9 +56,9 @@ grouped : (a b c : Bool) → (a && b && c) ≡ (a && (b && c))
 grouped true b c = refl
 grouped false b c = refl
 
-pub root_literal : (t : List ℕ) → is_root_literal t ≡ (is_literal t && (not (begins_with (codes "\t") t) && not (list_any begins_as_marker (lines_of t))))
+pub root_literal : (t : List ℕ) → is_root_literal t ≡ (is_literal_text t && (not (begins_with (codes "\t") t) && not (list_any begins_as_marker (lines_of t))))
 unfolding is_root_literal
-root_literal t = grouped (is_literal t) _ _
+root_literal t = grouped (is_literal_text t) _ _
 
 pub well_first : (bs rest : List ℕ) (c : ℕ) → IsUtf8 bs → bs ≡ encode_utf8 c ++ rest → c ≢ 10 → begins_well (chars bs) ≡ not (c == 32)
 well_first bs rest c u e n = ap begins_well (chars_past_char bs rest c u e) ∙ ap (λ b. if b then begins_well (chars rest) else not (c == 32)) (ne_eqb c 10 n)
@@ -178,6 +178,6 @@ pub cut_by : (s : List ℕ) (r : Option (Bor (List ℕ) × Bor (List ℕ))) → 
 cut_by s (Some x) u m = first_cut s x.0.now x.1.now u m
 cut_by s None u m = subst IsUnbroken (chars_from_encodes m.0 s u m.1) m.2
 
-pub literal_character : (c : ℕ) → class.is_literal c ≡ is_literal_character c
-unfolding class.is_literal is_literal_character
+pub literal_character : (c : ℕ) → class.is_literal_character c ≡ is_literal_character c
+unfolding class.is_literal_character is_literal_character
 literal_character c = refl

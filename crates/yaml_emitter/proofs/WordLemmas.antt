@@ -8,7 +8,8 @@ use Rattle.std.proofs.lemmas.Bool.{and_parts, and_from}
 use Rattle.std.proofs.lemmas.Bool.Decides.{nat_tests}
 use Rattle.std.proofs.lemmas.Slice.Eq.{bytes_eq-Decides}
 use Rattle.std.proofs.lemmas.Str.{chars-nil, encodes-chars}
-use Rattle.defs_tree.specs.Grammar.{is_among, is_empty, followed_by}
+use Rattle.defs_tree.specs.Grammar.{is_among, followed_by}
+use Rattle.defs_text.specs.Text.{is_empty}
 use Rattle.defs_tree.specs.Quoting.{is_quoted, has_outer_space, has_indicator_first, is_unfit_for_plain, reserved_words, is_float_word}
 use Rattle.defs_tree.specs.Typing.{is_sign, typing, is_string}
 use Rattle.defs_tree.proofs.GrammarLaws.{after_one, Rejects, optional_one-after, followed_by-empty}

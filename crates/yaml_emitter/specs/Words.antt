@@ -1,7 +1,8 @@
 -- The words that the code tells apart.
 use Rattle.std.specs.Prelude.{ℕ, Bool, not, ◌||◌, List, [], ◌∷◌, codes}
 use Rattle.std.specs.List.{list_any}
-use Rattle.defs_tree.specs.Grammar.{is_among, is_empty}
+use Rattle.defs_tree.specs.Grammar.{is_among}
+use Rattle.defs_text.specs.Text.{is_empty}
 use Rattle.defs_tree.specs.Quoting.{has_outer_space, has_indicator_first, begins_with, is_unfit_for_plain, reserved_words, is_float_word}
 use Rattle.defs_tree.specs.Typing.{typing, is_string}
 

@@ -2,7 +2,7 @@
 ghost use Rattle.std.specs.Prelude.{◌≡◌, ◌++◌, chars, not, ◌&&◌, ◌||◌, IsTrue, MatchOption, length, bytes_eq, take, drop};
 ghost use Rattle.std.specs.List.{list_any, list_all};
 ghost use Rattle.defs_tree.specs.Lines.{lines_of};
-ghost use Rattle.defs_tree.specs.Literal.{is_literal, is_root_literal, is_literal_character, is_line_feed, begins_blank, begins_as_marker, literal_header};
+ghost use Rattle.defs_tree.specs.Literal.{is_literal_text, is_root_literal, is_literal_character, is_line_feed, begins_blank, begins_as_marker, literal_header};
 ghost use Rattle.yaml_emitter.specs.At.{is_low, new_line, below};
 ghost use Rattle.yaml_emitter.specs.Blocks.{has_clear_lines, is_clear, begins_well, begins_with_mark, last_line, IsUnbroken, IsFirstCut};
 ghost use Rattle.yaml_emitter.specs.Writing.{Writes};
@@ -16,8 +16,8 @@ use yaml_chars::class;
 
 /// Whether a string may be written as a literal block in an array or hash.
 #[tactic(auto, using(crate::proofs::LiteralLemmas::literal))]
-pub(crate) fn is_literal(text: &str) -> bool
-    ensures { result ≡ is_literal (chars text.now) }
+pub(crate) fn is_literal_text(text: &str) -> bool
+    ensures { result ≡ is_literal_text (chars text.now) }
 {
     has_clear_lines(text) && !ends_with(text, "\n\n")
 }
@@ -27,7 +27,7 @@ pub(crate) fn is_literal(text: &str) -> bool
 pub(crate) fn is_root_literal(text: &str) -> bool
     ensures { result ≡ is_root_literal (chars text.now) }
 {
-    is_literal(text) && !begins_with(text, "\t") && !has_marker(text)
+    is_literal_text(text) && !begins_with(text, "\t") && !has_marker(text)
 }
 
 // The text has a line feed, fit characters alone, and a first full line that does not start with a space.
@@ -67,7 +67,7 @@ fn has_literal_characters(text: &str) -> bool
 fn is_literal_character(c: char) -> bool
     ensures { result ≡ is_literal_character c }
 {
-    class::is_literal(c)
+    class::is_literal_character(c)
 }
 
 fn begins_well(text: &str) -> bool

@@ -2,7 +2,7 @@
 ghost use Rattle.std.specs.Prelude.{◌≡◌, ◌<◌, ◌≤◌, ◌+◌, ◌^◌, max, chars, true, false, if◌then◌else◌, OnOk};
 ghost use Rattle.defs_tree.specs.Box.{box, is_block, string_box};
 ghost use Rattle.defs_tree.specs.DumpText.{dump_text};
-ghost use Rattle.defs_tree.specs.Literal.{is_literal, is_root_literal};
+ghost use Rattle.defs_tree.specs.Literal.{is_literal_text, is_root_literal};
 ghost use Rattle.defs_tree.specs.Spelling.{is_scalar};
 ghost use Rattle.defs_tree.specs.Tree.{array, hash, items_of, pairs_of};
 ghost use Rattle.defs_tree.specs.Writable.{levels};
@@ -255,11 +255,11 @@ fn write_string_node<W: Writer>(
 }
 
 fn may_be_literal(text: &str, at_root: bool) -> bool
-    ensures { result ≡ (if at_root then is_root_literal (chars text.now) else is_literal (chars text.now)) }
+    ensures { result ≡ (if at_root then is_root_literal (chars text.now) else is_literal_text (chars text.now)) }
 {
     if at_root {
         is_root_literal(text)
     } else {
-        is_literal(text)
+        is_literal_text(text)
     }
 }

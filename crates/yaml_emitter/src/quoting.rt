@@ -2,7 +2,8 @@
 ghost use Rattle.std.specs.Prelude.{◌≡◌, not, ◌||◌, map, chars};
 ghost use Rattle.std.specs.Char.{to_ascii_lowercase};
 ghost use Rattle.std.specs.List.{list_any};
-ghost use Rattle.defs_tree.specs.Grammar.{is_among, is_empty};
+ghost use Rattle.defs_tree.specs.Grammar.{is_among};
+ghost use Rattle.defs_text.specs.Text.{is_empty};
 ghost use Rattle.defs_tree.specs.Quoting.{is_quoted, has_outer_space, has_indicator_first, is_unfit_for_plain, reserved_words, is_float_word};
 ghost use Rattle.defs_tree.specs.Typing.{typing, is_string, is_sign};
 ghost use Rattle.defs_tree.proofs.GrammarLaws.{after_one};

@@ -5,7 +5,7 @@ use Rattle.std.specs.declared.alloc.Global.{Global}
 use Rattle.std.specs.declared.ops.ControlFlow.{ControlFlow}
 use Rattle.std.specs.declared.ops.ControlFlow.TheVariants.{Break}
 use denote.Ref.{Bor, MutBor}
-use Rattle.defs_text.specs.Text.{string_chars, is_nil}
+use Rattle.defs_text.specs.Text.{string_chars, is_empty}
 use Rattle.yaml_chars.proofs.TextLemmas.{string_chars_nil, is_nil_chars}
 use Rattle.yaml_encoding.specs.Decoding.{stopped, break, message, message_or}
 use Rattle.yaml_encoding.specs.Steps.{IsStep, Stepped, answer_of}
@@ -17,7 +17,7 @@ use Rattle.yaml_encoding.specs.declared.stop.Stop.TheVariants.{Message, OutOfMem
 pub message_or_own : {A : Type 0} (s : String A) (place n : ℕ) (input : List ℕ) → string_bytes s ≡ [] → message_or (string_chars s) place n input ≡ message place n input
 message_or_own s place n input e = ap (λ m. message_or m place n input) (string_chars_nil s e)
 
-said_by : (m : List ℕ) (place n : ℕ) (input : List ℕ) → is_nil m ≡ false → message_or m place n input ≡ m
+said_by : (m : List ℕ) (place n : ℕ) (input : List ℕ) → is_empty m ≡ false → message_or m place n input ≡ m
 said_by [] place n input e = cc
 said_by (c ∷ m) place n input e = refl
 

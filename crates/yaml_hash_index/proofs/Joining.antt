@@ -5,7 +5,7 @@ use Rattle.std.proofs.lemmas.List.{take-append-drop, map-append, append-nil, len
 use Rattle.std.proofs.lemmas.Bool.{cases_lt}
 use Rattle.std.proofs.lemmas.List.Edits.{length-insert, insert-append_left, insert-append_right, remove-append_left, remove-append_right, insert_end}
 use Rattle.yaml_hash_index.specs.declared.entry.Entry.{Entry}
-use Rattle.yaml_hash_index.specs.Edges.{number_at, mark_at, place_at, IsEdge, AreRising}
+use Rattle.yaml_hash_index.specs.Edges.{number_at, digest_at, place_at, IsEdge, AreRising}
 use Rattle.yaml_hash_index.specs.Blocks.{joined, start, head_at, halved, AreFilled, IsNarrowed}
 
 -- ---- entries by number
@@ -65,8 +65,8 @@ number_in f [] i j h g = absurd (omega arith)
 number_in f (b ∷ bs) zero j h g = ap (number_at f (b ++ joined bs)) (omega arith) ∙ number_left f b (joined bs) j g
 number_in f (b ∷ bs) (suc i) j h g = number_right f b (joined bs) (start bs i + j) _ (omega arith) ∙ number_in f bs i j (omega arith) g
 
-pub mark_in : (bs : List (List Entry)) (i j : ℕ) → i < length bs → j < length (get_or bs i []) → mark_at (joined bs) (start bs i + j) ≡ mark_at (get_or bs i []) j
-mark_in bs i j h g = number_in (λ e. e.mark) bs i j h g
+pub digest_in : (bs : List (List Entry)) (i j : ℕ) → i < length bs → j < length (get_or bs i []) → digest_at (joined bs) (start bs i + j) ≡ digest_at (get_or bs i []) j
+digest_in bs i j h g = number_in (λ e. e.digest) bs i j h g
 
 pub place_in : (bs : List (List Entry)) (i j : ℕ) → i < length bs → j < length (get_or bs i []) → place_at (joined bs) (start bs i + j) ≡ place_at (get_or bs i []) j
 place_in bs i j h g = number_in (λ e. e.place) bs i j h g
@@ -175,18 +175,18 @@ start_rises (b ∷ bs) zero j h = omega arith
 start_rises (b ∷ bs) (suc i) zero h = absurd (omega arith)
 start_rises (b ∷ bs) (suc i) (suc j) h = omega (arith, start_rises bs i j (omega arith))
 
--- ---- where marks reach a number
+-- ---- where digests reach a number
 
-pub edge_first : (bs : List (List Entry)) (m k : ℕ) → AreFilled bs → IsEdge (head_at bs) (length bs) m k → k ≡ 0 → IsEdge (mark_at (joined bs)) (length (joined bs)) m (start bs 0 + 0)
+pub edge_first : (bs : List (List Entry)) (m k : ℕ) → AreFilled bs → IsEdge (head_at bs) (length bs) m k → k ≡ 0 → IsEdge (digest_at (joined bs)) (length (joined bs)) m (start bs 0 + 0)
 edge_first [] m k a heads e = record { counted = omega arith; below = λ i f. absurd (omega arith); from = λ h. absurd (omega arith) }
 edge_first (b ∷ bs) m k a heads e = record {
   counted = omega arith;
   below = λ i f. absurd (omega arith);
-  from = λ h. omega (arith, mark_in (b ∷ bs) 0 0 (omega arith) (a 0 (omega arith)), heads.from (omega arith), ap (head_at (b ∷ bs)) e);
+  from = λ h. omega (arith, digest_in (b ∷ bs) 0 0 (omega arith) (a 0 (omega arith)), heads.from (omega arith), ap (head_at (b ∷ bs)) e);
 }
 
 pub edge_joined : (bs : List (List Entry)) (m k i j : ℕ) → AreFilled bs → IsEdge (head_at bs) (length bs) m k → k ≡ suc i
-    → IsEdge (mark_at (get_or bs i [])) (length (get_or bs i [])) m j → IsEdge (mark_at (joined bs)) (length (joined bs)) m (start bs i + j)
+    → IsEdge (digest_at (get_or bs i [])) (length (get_or bs i [])) m j → IsEdge (digest_at (joined bs)) (length (joined bs)) m (start bs i + j)
 edge_joined bs m k i j a heads e inside = record {
   counted = rank_within bs i j inside.counted;
   below = λ r f. low j inside r f;
@@ -196,51 +196,51 @@ edge_joined bs m k i j a heads e inside = record {
     there : i < length bs
     there = omega (arith, heads.counted)
 
-    low : (j : ℕ) → IsEdge (mark_at (get_or bs i [])) (length (get_or bs i [])) m j → (r : ℕ) → suc r ≡ start bs i + j → mark_at (joined bs) r < m
+    low : (j : ℕ) → IsEdge (digest_at (get_or bs i [])) (length (get_or bs i [])) m j → (r : ℕ) → suc r ≡ start bs i + j → digest_at (joined bs) r < m
     low zero inside r f = absurd (omega (arith, inside.from (a i there), heads.below i (sym e)))
     low (suc j) inside r f =
         let same : r ≡ start bs i + j = omega arith in
-        omega (arith, ap (mark_at (joined bs)) same, mark_in bs i j there (omega (arith, inside.counted)), inside.below j refl)
+        omega (arith, ap (digest_at (joined bs)) same, digest_in bs i j there (omega (arith, inside.counted)), inside.below j refl)
 
-    next : (k < length bs) ⊎ (length bs ≤ k) → length (get_or bs i []) ≤ j → start bs i + j < length (joined bs) → m ≤ mark_at (joined bs) (start bs i + j)
+    next : (k < length bs) ⊎ (length bs ≤ k) → length (get_or bs i []) ≤ j → start bs i + j < length (joined bs) → m ≤ digest_at (joined bs) (start bs i + j)
     next (inl g) l h =
         let same : start bs i + j ≡ start bs k + 0 = omega (arith, start_next bs i k e, inside.counted) in
-        omega (arith, ap (mark_at (joined bs)) same, mark_in bs k 0 g (a k g), heads.from g)
+        omega (arith, ap (digest_at (joined bs)) same, digest_in bs k 0 g (a k g), heads.from g)
     next (inr g) l h = absurd (omega (arith, start_next bs i k e, start_all bs k g, inside.counted))
 
-    by : start bs i + j < length (joined bs) → (j < length (get_or bs i [])) ⊎ (length (get_or bs i []) ≤ j) → m ≤ mark_at (joined bs) (start bs i + j)
-    by h (inl g) = omega (arith, mark_in bs i j there g, inside.from g)
+    by : start bs i + j < length (joined bs) → (j < length (get_or bs i [])) ⊎ (length (get_or bs i []) ≤ j) → m ≤ digest_at (joined bs) (start bs i + j)
+    by h (inl g) = omega (arith, digest_in bs i j there g, inside.from g)
     by h (inr g) = next (cases_lt k (length bs)) g h
 
-pub edges_rise : (es : List Entry) (m n j k : ℕ) → AreRising es → IsEdge (mark_at es) (length es) m j → IsEdge (mark_at es) (length es) n k → m ≤ n → j ≤ k
+pub edges_rise : (es : List Entry) (m n j k : ℕ) → AreRising es → IsEdge (digest_at es) (length es) m j → IsEdge (digest_at es) (length es) n k → m ≤ n → j ≤ k
 edges_rise es m n j k a d e h = by j d (cases_lt k j)
   where
-    by : (j : ℕ) → IsEdge (mark_at es) (length es) m j → (k < j) ⊎ (j ≤ k) → j ≤ k
+    by : (j : ℕ) → IsEdge (digest_at es) (length es) m j → (k < j) ⊎ (j ≤ k) → j ≤ k
     by j d (inr g) = g
     by zero d (inl g) = absurd (omega arith)
     by (suc j) d (inl g) = absurd (omega (arith, d.counted, d.below j refl, e.from (omega (arith, d.counted)), a k j (omega arith) (omega (arith, d.counted))))
 
--- between the first entry with a mark and the first with a higher one, all have this mark
-pub edges_narrow : (es : List Entry) (m n j k count : ℕ) → AreRising es → IsEdge (mark_at es) (length es) m j → IsEdge (mark_at es) (length es) n k → n ≡ m + 1 → j + count ≡ k
+-- between the first entry with a digest and the first with a higher one, all have this digest
+pub edges_narrow : (es : List Entry) (m n j k count : ℕ) → AreRising es → IsEdge (digest_at es) (length es) m j → IsEdge (digest_at es) (length es) n k → n ≡ m + 1 → j + count ≡ k
     → IsNarrowed es m j count
 edges_narrow es m n j k count a d e next c = record { within = omega (arith, e.counted); below = d.below; inside = same; above = after }
   where
-    last : (i l : ℕ) → i ≤ l → suc l ≡ k → mark_at es i < n
+    last : (i l : ℕ) → i ≤ l → suc l ≡ k → digest_at es i < n
     last i l h f = omega (arith, e.below l f, a i l h (omega (arith, e.counted)))
 
-    same : (i : ℕ) → j ≤ i → i < j + count → mark_at es i ≡ m
+    same : (i : ℕ) → j ≤ i → i < j + count → digest_at es i ≡ m
     same i h g = omega (arith, d.from (omega (arith, e.counted)), a j i h (omega (arith, e.counted)), last i (k - 1) (omega arith) (omega arith))
 
-    after : j + count < length es → m < mark_at es (j + count)
-    after h = omega (arith, ap (mark_at es) c, e.from (omega arith))
+    after : j + count < length es → m < digest_at es (j + count)
+    after h = omega (arith, ap (digest_at es) c, e.from (omega arith))
 
--- no entry from the first with a mark on has it
-pub edge_past : (es : List Entry) (m j : ℕ) → IsEdge (mark_at es) (length es) m j → (j < length es → m < mark_at es j) → IsNarrowed es m j 0
+-- no entry from the first with a digest on has it
+pub edge_past : (es : List Entry) (m j : ℕ) → IsEdge (digest_at es) (length es) m j → (j < length es → m < digest_at es j) → IsNarrowed es m j 0
 edge_past es m j d h = record {
   within = omega (arith, d.counted);
   below = d.below;
   inside = λ i f g. absurd (omega arith);
-  above = λ g. omega (arith, h (omega arith), ap (mark_at es) (same j));
+  above = λ g. omega (arith, h (omega arith), ap (digest_at es) (same j));
 }
   where
     same : (j : ℕ) → j + 0 ≡ j

@@ -3,7 +3,7 @@ use Rattle.std.specs.Prelude.{ℕ, zero, suc, ◌≡◌, ◌+◌, ◌<◌, ◌�
 use Rattle.std.specs.List.{insert}
 use Rattle.yaml_hash_index.specs.declared.entry.Entry.{Entry}
 use Rattle.yaml_hash_index.specs.declared.entry.Spot.{Spot}
-use Rattle.yaml_hash_index.specs.Edges.{mark_at}
+use Rattle.yaml_hash_index.specs.Edges.{digest_at}
 
 -- the entries of all blocks
 abbrev pub joined : List (List Entry) → List Entry
@@ -32,16 +32,16 @@ IsTaken bs s = (s.block < length bs) × (s.offset < length (get_or bs s.block []
 abbrev pub AreFilled : List (List Entry) → Type 0
 AreFilled bs = (i : ℕ) → i < length bs → 0 < length (get_or bs i [])
 
--- the first mark of a block
+-- the first digest of a block
 abbrev pub head_at : List (List Entry) → ℕ → ℕ
-head_at bs i = mark_at (get_or bs i []) 0
+head_at bs i = digest_at (get_or bs i []) 0
 
--- so many entries from the rank on have the mark; those before have lower ones, those after higher ones
+-- so many entries from the rank on have the digest; those before have lower ones, those after higher ones
 pub record IsNarrowed (es : List Entry) (m rank count : ℕ) : Type 0 where
   pub within : rank + count ≤ length es
-  pub below : (i : ℕ) → suc i ≡ rank → mark_at es i < m
-  pub inside : (i : ℕ) → rank ≤ i → i < rank + count → mark_at es i ≡ m
-  pub above : rank + count < length es → m < mark_at es (rank + count)
+  pub below : (i : ℕ) → suc i ≡ rank → digest_at es i < m
+  pub inside : (i : ℕ) → rank ≤ i → i < rank + count → digest_at es i ≡ m
+  pub above : rank + count < length es → m < digest_at es (rank + count)
 
 -- a block's first entries, so many, are a block of their own; the others are block n
 abbrev pub halved : List (List Entry) → ℕ → ℕ → ℕ → List (List Entry)

@@ -1,4 +1,4 @@
--- Where the marks of a row of entries reach a number.
+-- Where the digests of a row of entries reach a number.
 use Rattle.std.specs.Prelude.{ℕ, zero, suc, ◌≡◌, ◌<◌, ◌≤◌, List, [], ◌∷◌, length}
 use Rattle.yaml_hash_index.specs.declared.entry.Entry.{Entry}
 
@@ -8,9 +8,9 @@ number_at f [] i = 0
 number_at f (e ∷ es) zero = f e
 number_at f (e ∷ es) (suc i) = number_at f es i
 
--- the mark of an entry
-abbrev pub mark_at : List Entry → ℕ → ℕ
-mark_at = number_at (λ e. e.mark)
+-- the digest of an entry
+abbrev pub digest_at : List Entry → ℕ → ℕ
+digest_at = number_at (λ e. e.digest)
 
 -- the place of an entry
 abbrev pub place_at : List Entry → ℕ → ℕ
@@ -29,6 +29,6 @@ pub record IsHalving (f : ℕ → ℕ) (n m low high : ℕ) : Type 0 where
   pub below : (i : ℕ) → suc i ≡ low → f i < m
   pub from : high < n → m ≤ f high
 
--- no mark is above a later one
+-- no digest is above a later one
 abbrev pub AreRising : List Entry → Type 0
-AreRising es = (i j : ℕ) → i ≤ j → j < length es → mark_at es i ≤ mark_at es j
+AreRising es = (i j : ℕ) → i ≤ j → j < length es → digest_at es i ≤ digest_at es j

@@ -1,7 +1,7 @@
 //! A block of entries.
 ghost use Rattle.std.specs.Prelude.{◌≡◌, ◌<◌, ◌≤◌, ◌∷◌, [], length, map, take, drop, IfOk, OnOk, OnErr};
 ghost use Rattle.std.specs.List.{insert, remove};
-ghost use Rattle.yaml_hash_index.specs.Edges.{mark_at, place_at, IsEdge};
+ghost use Rattle.yaml_hash_index.specs.Edges.{digest_at, place_at, IsEdge};
 ghost use Rattle.yaml_hash_index.specs.Moves.{entry_closed_up, entry_moved_up};
 
 use crate::entry::Entry;
@@ -40,11 +40,11 @@ impl Block {
         self.entries.len()
     }
 
-    pub(crate) fn mark(&self, offset: usize) -> u64
+    pub(crate) fn digest(&self, offset: usize) -> u64
         requires { offset < length self.now }
-        ensures { result ≡ mark_at self.now offset }
+        ensures { result ≡ digest_at self.now offset }
     {
-        self.entries[offset].mark
+        self.entries[offset].digest
     }
 
     pub(crate) fn place(&self, offset: usize) -> usize
@@ -54,16 +54,16 @@ impl Block {
         self.entries[offset].place
     }
 
-    /// Where the marks reach this one.
-    pub(crate) fn edge(&self, mark: u64) -> usize
-        ensures { IsEdge (mark_at self.now) (length self.now) mark result }
+    /// Where the digests reach this one.
+    pub(crate) fn edge(&self, digest: u64) -> usize
+        ensures { IsEdge (digest_at self.now) (length self.now) digest result }
     {
         let entries = self.entries.as_slice();
         let mut low = 0;
         let mut high = entries.len();
         while low < high {
             let middle = low + (high - low) / 2;
-            if entries[middle].mark < mark {
+            if entries[middle].digest < digest {
                 low = middle + 1;
             } else {
                 high = middle;
@@ -118,7 +118,7 @@ impl Block {
     {
         for entry in self.entries.iter_mut() {
             *entry = Entry {
-                mark: entry.mark,
+                digest: entry.digest,
                 place: closed_up(gone, entry.place),
             };
         }
@@ -131,7 +131,7 @@ impl Block {
     {
         for entry in self.entries.iter_mut() {
             *entry = Entry {
-                mark: entry.mark,
+                digest: entry.digest,
                 place: moved_up(gone, count, entry.place),
             };
         }

@@ -2,7 +2,7 @@
 ghost use Rattle.std.specs.Prelude.{◌≡◌, ◌<◌, ◌≤◌, ◌+◌, ◌^◌, ◌∷◌, [], length, map, take, drop, get_or, set, IsTrue, IsFalse, IfOk, OnOk, OnErr};
 ghost use Rattle.std.specs.List.{insert, remove};
 ghost use Rattle.yaml_hash_index.specs.Blocks.{joined, start, rank_of, head_at, halved, IsSpot, IsTaken, AreFilled, IsNarrowed};
-ghost use Rattle.yaml_hash_index.specs.Edges.{mark_at, place_at, IsEdge, AreRising};
+ghost use Rattle.yaml_hash_index.specs.Edges.{digest_at, place_at, IsEdge, AreRising};
 ghost use Rattle.yaml_hash_index.specs.Moves.{entry_closed_up, entry_moved_up};
 
 use crate::block::Block;
@@ -14,7 +14,7 @@ use std::marker::Model;
 // How many entries a block has at most.
 const ROOM: usize = 256;
 
-/// Entries in the order of their marks, in blocks.
+/// Entries in the order of their digests, in blocks.
 #[derive(Drop)]
 pub struct Blocks {
     blocks: Vec<Block>,
@@ -34,16 +34,16 @@ impl Model for Blocks {
     ghost invariant = { λ b. AreCounted b.blocks.items b.starts.items };
 }
 
-// Where the first marks of the blocks reach this one.
-fn edge_of_heads(blocks: &[Block], mark: u64) -> usize
+// Where the first digests of the blocks reach this one.
+fn edge_of_heads(blocks: &[Block], digest: u64) -> usize
     requires { AreFilled blocks.now }
-    ensures { IsEdge (head_at blocks.now) (length blocks.now) mark result }
+    ensures { IsEdge (head_at blocks.now) (length blocks.now) digest result }
 {
     let mut low = 0;
     let mut high = blocks.len();
     while low < high {
         let middle = low + (high - low) / 2;
-        if blocks[middle].mark(0) < mark {
+        if blocks[middle].digest(0) < digest {
             low = middle + 1;
         } else {
             high = middle;
@@ -73,16 +73,16 @@ impl Blocks {
         self.blocks[spot.block].place(spot.offset)
     }
 
-    // The first spot whose mark is at least this one.
-    fn edge(&self, mark: u64) -> Spot
+    // The first spot whose digest is at least this one.
+    fn edge(&self, digest: u64) -> Spot
         ensures spot { IsSpot self.now result }
-        ensures edge { IsEdge (mark_at (joined self.now)) (length (joined self.now)) mark (rank_of self.now result) }
+        ensures edge { IsEdge (digest_at (joined self.now)) (length (joined self.now)) digest (rank_of self.now result) }
     {
-        let before = edge_of_heads(self.blocks.as_slice(), mark);
+        let before = edge_of_heads(self.blocks.as_slice(), digest);
         match before.checked_sub(1) {
             Some(block) => Spot {
                 block,
-                offset: self.blocks[block].edge(mark),
+                offset: self.blocks[block].edge(digest),
             },
             None => Spot {
                 block: 0,
@@ -91,22 +91,22 @@ impl Blocks {
         }
     }
 
-    // Whether the next entry from the spot on, if there is one, has a higher mark.
-    fn is_past(&self, spot: Spot, mark: u64) -> bool
+    // Whether the next entry from the spot on, if there is one, has a higher digest.
+    fn is_past(&self, spot: Spot, digest: u64) -> bool
         requires { IsSpot self.now spot }
-        ensures { IsTrue result → rank_of self.now spot < length (joined self.now) → mark < mark_at (joined self.now) (rank_of self.now spot) }
+        ensures { IsTrue result → rank_of self.now spot < length (joined self.now) → digest < digest_at (joined self.now) (rank_of self.now spot) }
     {
         if self.blocks.len() <= spot.block {
             return true;
         }
         let block = &self.blocks[spot.block];
         if spot.offset < block.len() {
-            return mark < block.mark(spot.offset);
+            return digest < block.digest(spot.offset);
         }
         if self.blocks.len() <= spot.block + 1 {
             return true;
         }
-        mark < self.blocks[spot.block + 1].mark(0)
+        digest < self.blocks[spot.block + 1].digest(0)
     }
 
     // How many entries stand between two spots.
@@ -138,19 +138,19 @@ impl Blocks {
         count
     }
 
-    /// The first spot whose mark is at least this one, and how many entries from there on have this mark.
-    pub fn narrowed(&self, mark: u64) -> (Spot, usize)
+    /// The first spot whose digest is at least this one, and how many entries from there on have this digest.
+    pub fn narrowed(&self, digest: u64) -> (Spot, usize)
         requires rising { AreRising (joined self.now) }
         requires fits { length (joined self.now) < 2 ^ 63 }
-        requires next { mark + 1 < 2 ^ 64 }
+        requires next { digest + 1 < 2 ^ 64 }
         ensures spot { IsSpot self.now result.0 }
-        ensures narrowed { IsNarrowed (joined self.now) mark (rank_of self.now result.0) result.1 }
+        ensures narrowed { IsNarrowed (joined self.now) digest (rank_of self.now result.0) result.1 }
     {
-        let low = self.edge(mark);
-        if self.is_past(low, mark) {
+        let low = self.edge(digest);
+        if self.is_past(low, digest) {
             return (low, 0);
         }
-        let high = self.edge(mark + 1);
+        let high = self.edge(digest + 1);
         (low, self.between(low, high))
     }
 

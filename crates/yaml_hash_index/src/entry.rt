@@ -1,9 +1,9 @@
-//! A place with its mark, and where it stands.
+//! A place with its digest, and where it stands.
 
-/// A place, beside a mark by which entries are told apart without a look at what stands at the place.
+/// A place, beside a digest by which entries are told apart without a look at what stands at the place.
 #[derive(Clone, Copy)]
 pub struct Entry {
-    pub mark: u64,
+    pub digest: u64,
     pub place: usize,
 }
 

@@ -9,16 +9,16 @@ use Rattle.yaml_lexers.specs.declared.folding.Folding.{Folding}
 use Rattle.yaml_lexers.specs.declared.plain.Plain as code
 use Rattle.model_lexers.specs.Machine.{Read}
 use Rattle.model_lexers.specs.Folding.{Folded}
-use Rattle.model_lexers.specs.Plain.{Mode, State, Plain}
+use Rattle.model_lexers.specs.Plain.{Mode, PlainState, Plain}
 
 abbrev pub folded : Folding → Folded
 folded p = record { text = p.text; gap = p.gap; leading = p.leading; escaped = p.escaped }
 
 -- what was read of a plain scalar in front of a window's next characters
-abbrev pub at_folded : {T : Type 0} → Mode → Reading T → Folded → State
+abbrev pub at_folded : {T : Type 0} → Mode → Reading T → Folded → PlainState
 at_folded mode w t = record { mode = mode; place = place_of w; folded = t }
 
-abbrev pub at : {T : Type 0} → Mode → Reading T → Folding → State
+abbrev pub at : {T : Type 0} → Mode → Reading T → Folding → PlainState
 at mode w p = at_folded mode w (folded p)
 
 abbrev pub plain_shown : code.Plain → Plain

@@ -4,12 +4,12 @@ use Rattle.yaml_chars.specs.Reading.{Reading, place_of}
 use Rattle.yaml_tokens.specs.declared.token.Chomping.{Chomping}
 use Rattle.yaml_lexers.specs.declared.block.Lines as code
 use Rattle.yaml_lexers.specs.declared.header.Header as code_header
-use Rattle.model_lexers.specs.Block.{Mode, State, Lines, Indicators, Header, Column}
+use Rattle.model_lexers.specs.Block.{Mode, BlockState, Lines, Indicators, Header, Column}
 
 abbrev pub lines : code.Lines → Lines
 lines l = record { text = l.text; breaks = l.breaks; broken = l.broken; blank = l.blank }
 
-abbrev pub at : {T : Type 0} → Mode → Reading T → code.Lines → State
+abbrev pub at : {T : Type 0} → Mode → Reading T → code.Lines → BlockState
 at mode w l = record { mode = mode; place = place_of w; lines = lines l }
 
 abbrev pub indicators_shown : Chomping → ℕ → Indicators

@@ -15,7 +15,7 @@ use Rattle.yaml_lexers.specs.declared.escape.Digits.TheVariants.{Two, Four, Eigh
 use Rattle.yaml_lexers.specs.Shown.{folded}
 use Rattle.model_lexers.specs.Folding.{Folded}
 use Rattle.model_lexers.specs.declared.context.Context.{Context}
-use Rattle.model_lexers.specs.Quoted.{Mode, State, Escape, quoted_from, first, inside, gap, breaking, after, doubled, closed}
+use Rattle.model_lexers.specs.Quoted.{Mode, QuotedState, Escape, quoted_from, first, inside, gap, breaking, after, doubled, closed}
 
 abbrev pub mode_of : Part → Mode
 mode_of part.First = first
@@ -27,10 +27,10 @@ mode_of part.Doubled = doubled
 mode_of part.Closed = closed
 
 -- what was read of a quoted scalar in front of a window's next characters
-abbrev pub at_folded : {T : Type 0} → Mode → Reading T → Folded → State
+abbrev pub at_folded : {T : Type 0} → Mode → Reading T → Folded → QuotedState
 at_folded mode w t = record { mode = mode; place = place_of w; folded = t }
 
-abbrev pub at : {T : Type 0} → Mode → Reading T → Folding → State
+abbrev pub at : {T : Type 0} → Mode → Reading T → Folding → QuotedState
 at mode w p = at_folded mode w (folded p)
 
 -- What is left at one place of a scalar is read as what is left at a later one.

@@ -14,7 +14,7 @@ use Rattle.defs_event.specs.Unfinished as unfinished
 use Rattle.defs_event.specs.Laws.{HasRead}
 use Rattle.defs_event.proofs.OneByOne.{one_by_one}
 use Rattle.defs_event.proofs.StreamNests.{stream_nests}
-use Rattle.yaml_tokens.specs.Fault.{Fault}
+use Rattle.yaml_tokens.specs.ErrorReport.{ErrorReport}
 use Rattle.yaml_scanner.specs.Scanned.{Scans}
 use Rattle.yaml_parser.specs.Blames.{WantsMemory}
 use Rattle.yaml_parser.specs.Parsed.{Parsed}
@@ -67,24 +67,24 @@ not_refused keep_tags tokens es p b = by (with_events new_loader es) refl
 -- ---- how the loader is left
 
 -- It stands after all events of the text; or the fault is the parser's.
-abbrev pub LeftBy : Bool → List ℕ → Result (Unit {0}) Fault → YamlLoader → Type 0
+abbrev pub LeftBy : Bool → List ℕ → Result (Unit {0}) ErrorReport → YamlLoader → Type 0
 LeftBy keep_tags text (Ok u) n = (es : List (Ev × Position)) × HasEvents keep_tags text es × StandsAfter es n
 LeftBy keep_tags text (Err f) n = IsFaultOf keep_tags text f
 
-refuses_for_memory : {keep_tags : Bool} {text : List ℕ} (es : List (Ev × Position)) (e : Ev) (p : Position) (f : Fault) → IsNewFault f p (with_event_at (with_events new_loader es) e p) → BeginsEvents keep_tags text (es ++ (e, p) ∷ [])
+refuses_for_memory : {keep_tags : Bool} {text : List ℕ} (es : List (Ev × Position)) (e : Ev) (p : Position) (f : ErrorReport) → IsNewFault f p (with_event_at (with_events new_loader es) e p) → BeginsEvents keep_tags text (es ++ (e, p) ∷ [])
     → WantsMemory f
 refuses_for_memory {keep_tags} es e p f why b = elim why [
   | inl wants ↦ record { memory = ap (λ g. g.memory) wants; text = ap (λ g. g.text) wants }
   | inr nesting ↦ absurd (not_refused keep_tags b.before (es ++ (e, p) ∷ []) p b.begins (ap refused_at (with_last new_loader es e p) ∙ nesting.1))
 ]
 
-left_by : {l n : YamlLoader} {keep_tags : Bool} {text : List ℕ} {result : Result (Unit {0}) Fault} → loader_of l ≡ new_loader → kept_fault l ≡ None → AnswersText Takes keep_tags text l result n → LeftBy keep_tags text result n
+left_by : {l n : YamlLoader} {keep_tags : Bool} {text : List ℕ} {result : Result (Unit {0}) ErrorReport} → loader_of l ≡ new_loader → kept_fault l ≡ None → AnswersText Takes keep_tags text l result n → LeftBy keep_tags text result n
 left_by {l} new clear (whole es h took) = (es, h, stands l new clear took)
 left_by new clear (faulted es why took) = why
 left_by {l} new clear (refused {f = f} es e p begins took takes) = wants_memory (refuses_for_memory es e p f (new_fault l new clear e p took takes) begins)
 
 -- A load by an empty loader, of a parser that was at its start.
-pub any_text_leaves : {old new : Parsed} {l n : YamlLoader} {result : Result (Unit {0}) Fault} → loader_of l ≡ new_loader → kept_fault l ≡ None → Scans new.scanner → Loads Takes true old l result new n
+pub any_text_leaves : {old new : Parsed} {l n : YamlLoader} {result : Result (Unit {0}) ErrorReport} → loader_of l ≡ new_loader → kept_fault l ≡ None → Scans new.scanner → Loads Takes true old l result new n
     → OfTexts old new (λ text. LeftBy old.keep_tags text result n)
 any_text_leaves {old} {new} {l} {n} {result} empty clear scans loads start text may = left_by empty clear (texts_are_answered Takes old new l n result text start (scans.scans text may) loads)
 
@@ -121,7 +121,7 @@ noted_key (Err key) (at_work u) documents k p h alike = absurd h
 noted_key (Err key) (noted d k' q) documents k p h alike = cc
 noted_key (Err key) (unfinished.refused d q) documents k p h alike = absurd h
 
-pub key_came_twice : {keep_tags : Bool} {text : List ℕ} (n : YamlLoader) (p : Position) (message : String Global) (f : Fault) → LeftBy keep_tags text (Ok tt) n → n.course ≡ course.RepeatedKey p message
+pub key_came_twice : {keep_tags : Bool} {text : List ℕ} (n : YamlLoader) (p : Position) (message : String Global) (f : ErrorReport) → LeftBy keep_tags text (Ok tt) n → n.course ≡ course.RepeatedKey p message
     → f ≡ record { place = p; text = string_bytes message; memory = false } → IsUnread keep_tags text f
 key_came_twice n p message f (es, h, r) e is =
     let u = unfinished_of n.reading in

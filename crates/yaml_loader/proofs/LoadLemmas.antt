@@ -11,7 +11,7 @@ use Rattle.defs_event.specs.Unfinished.{Loader, at_work, noted, Unfinished, new_
 use Rattle.defs_event.specs.NoAlias.{HasNoAlias}
 use Rattle.defs_event.specs.Laws.{LoadedTreesHaveNoAlias}
 use Rattle.defs_event.specs.Unfinished as unfinished
-use Rattle.yaml_tokens.specs.Fault.{Fault}
+use Rattle.yaml_tokens.specs.ErrorReport.{ErrorReport}
 use Rattle.yaml_parser.specs.Parsed.{Parsed}
 use Rattle.yaml_parser.specs.Loads as loads
 use Rattle.yaml_parser.specs.Loads.{PullsAll, Receives, no_event, one_event, EndsSo, Loads}
@@ -52,7 +52,7 @@ notes : {l n : YamlLoader} {es : List (Ev × Position)} → Receives Takes l es 
 notes no_event = no_event
 notes (one_event e p h takes) = one_event e p (notes h) refl
 
-pushes : {old after new : Parsed} {answers : List (Answer Fault)} {events : List (Ev × Position)} {result : Result (Unit {0}) Fault}
+pushes : {old after new : Parsed} {answers : List (Answer ErrorReport)} {events : List (Ev × Position)} {result : Result (Unit {0}) ErrorReport}
     → PullsAll old answers after → (load old.started true answers).taken ≡ length answers → EndsSo Notes [] (load old.started true answers) after result new events → Pushes old events result new
 pushes {old} {after} {new} {answers} pulled taken ends = record { answers = answers; after = after; pulled = pulled; taken = taken; ends = ends }
 
@@ -69,7 +69,7 @@ module _ (l : YamlLoader) (empty : loader_of l ≡ new_loader) (clear : kept_fau
         tells = takes.tells before.tells;
       }
 
-  pub new_fault : {s t : YamlLoader} {es : List (Ev × Position)} {f : Fault} (e : Ev) (p : Position) → Receives Takes l es s → Takes s e p (Err f) t → IsNewFault f p (with_event_at (with_events new_loader es) e p)
+  pub new_fault : {s t : YamlLoader} {es : List (Ev × Position)} {f : ErrorReport} (e : Ev) (p : Position) → Receives Takes l es s → Takes s e p (Err f) t → IsNewFault f p (with_event_at (with_events new_loader es) e p)
   new_fault {s} {t} {es} {f} e p h takes =
       let before = stands h in
       let x = with_event_at (with_events new_loader es) e p in
@@ -77,12 +77,12 @@ module _ (l : YamlLoader) (empty : loader_of l ≡ new_loader) (clear : kept_fau
       let same = (show_the_same x y (event_at_alike (with_events new_loader es) (loader_of s) e p before.alike)).1 in
       elim (takes.reason before.clear) [ inl w ↦ inl w | inr w ↦ inr (w.0, same ∙ w.1) ]
 
-  ended_well : {old after new : Parsed} {n : YamlLoader} (answers : List (Answer Fault)) → PullsAll old answers after → (load old.started true answers).taken ≡ length answers
+  ended_well : {old after new : Parsed} {n : YamlLoader} (answers : List (Answer ErrorReport)) → PullsAll old answers after → (load old.started true answers).taken ≡ length answers
       → EndsSo Takes l (load old.started true answers) after (Ok tt) new n → Went old new n
   ended_well {old} answers pulled taken (loads.well ending clear received) =
       ((load old.started true answers).pushed, pushes pulled taken (loads.well ending clear (notes received)), clear, stands received)
 
-  ended_ill : {old after new : Parsed} {n : YamlLoader} {f : Fault} (answers : List (Answer Fault)) → PullsAll old answers after → (load old.started true answers).taken ≡ length answers
+  ended_ill : {old after new : Parsed} {n : YamlLoader} {f : ErrorReport} (answers : List (Answer ErrorReport)) → PullsAll old answers after → (load old.started true answers).taken ≡ length answers
       → EndsSo Takes l (load old.started true answers) after (Err f) new n → IsLoadFault old f new
   ended_ill {old} answers pulled taken (loads.faulted ending kept received) =
       ends.parser_fault (load old.started true answers).pushed (pushes pulled taken (loads.faulted ending kept (notes received))) kept
@@ -95,7 +95,7 @@ module _ (l : YamlLoader) (empty : loader_of l ≡ new_loader) (clear : kept_fau
   pub went_well : {old new : Parsed} {n : YamlLoader} → Loads Takes true old l (Ok tt) new n → Went old new n
   went_well h = ended_well h.answers h.pulled h.taken h.ends
 
-  pub load_fault : {old new : Parsed} {n : YamlLoader} {f : Fault} → Loads Takes true old l (Err f) new n → IsLoadFault old f new
+  pub load_fault : {old new : Parsed} {n : YamlLoader} {f : ErrorReport} → Loads Takes true old l (Err f) new n → IsLoadFault old f new
   load_fault h = ended_ill h.answers h.pulled h.taken h.ends
 
 -- ---- by the course that is left
@@ -119,12 +119,12 @@ was_reading l (es, all, clear, after) e =
     (es, all, documents_loaded u (with_events new_loader es) (subst (λ x. StandAlike (with_events new_loader es) x) (with_course l course.Reading e) after.alike))
 
 -- the text that is kept tells the key
-pub kept_text : (l : YamlLoader) (p : Position) (text : String Global) (f : Fault) → TellsNotedKey l → l.course ≡ course.RepeatedKey p text → f ≡ record { place = p; text = string_bytes text; memory = false }
+pub kept_text : (l : YamlLoader) (p : Position) (text : String Global) (f : ErrorReport) → TellsNotedKey l → l.course ≡ course.RepeatedKey p text → f ≡ record { place = p; text = string_bytes text; memory = false }
     → TellsKey (repeated_key (unfinished_of l.reading).opened) f.text
 kept_text l p text f tells e is =
     subst (TellsKey (repeated_key (unfinished_of l.reading).opened)) (sym (ap (λ x. x.text) is)) (subst (λ d. TellsBy d (unfinished_of l.reading).opened) e tells)
 
-pub had_noted : {old new : Parsed} (l : YamlLoader) (p : Position) (text : String Global) (f : Fault) → Went old new l → l.course ≡ course.RepeatedKey p text → f ≡ record { place = p; text = string_bytes text; memory = false } → IsLoadFault old f new
+pub had_noted : {old new : Parsed} (l : YamlLoader) (p : Position) (text : String Global) (f : ErrorReport) → Went old new l → l.course ≡ course.RepeatedKey p text → f ≡ record { place = p; text = string_bytes text; memory = false } → IsLoadFault old f new
 had_noted l p text f (es, all, clear, after) e is =
     let u = unfinished_of l.reading in
     let d = course.RepeatedKey p text in

@@ -1,8 +1,7 @@
 -- The open collections as a list, the innermost first.
 use Rattle.std.proofs.Common.{◌≡◌, ℕ, pred, ◌<◌, ◌-◌, List, [], ◌∷◌, ◌++◌, refl, length, sym, ap, ◌∙◌, arith}
 use Rattle.std.proofs.Math.Numerals.{sub-one}
-use Rattle.std.specs.Prelude.{slice_index_or, slice_set}
-use Rattle.std.specs.Prelude.{Option, Some, None, option_map, is_some, false}
+use Rattle.std.specs.Prelude.{slice_index_or, slice_set, Option, Some, None, option_map, is_some, false}
 use Rattle.std.proofs.lemmas.Bool.{true≢false}
 use Rattle.yaml_tree.specs.View.{view}
 use Rattle.yaml_tree.specs.declared.yaml.Yaml.{Yaml}

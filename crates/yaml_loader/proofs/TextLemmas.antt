@@ -6,13 +6,13 @@ use Rattle.std.specs.Str.{chars, IsUtf8}
 use Rattle.std.specs.Str.Iter.{chars_steps, chars_rest}
 use Rattle.std.specs.declared.str.Chars.{Chars}
 use Rattle.yaml_chars.specs.Source.{CameFrom}
-use Rattle.yaml_chars.specs.Reading.{HasNoNul, up_to_nul, Begins}
+use Rattle.yaml_chars.specs.Reading.{HasNoNul, up_to_nul, BeginsText}
 use Rattle.yaml_chars.proofs.SpelledLemmas.{Chars-spelled}
 use Rattle.defs_tree.specs.Tree.{Tree}
 use Rattle.defs_layout.specs.Json.{spell_text, tree_of}
 use Rattle.defs_layout.specs.Layout as layout
 use Rattle.defs_token.specs.Toks.{toks}
-use Rattle.yaml_tokens.specs.Fault.{Fault}
+use Rattle.yaml_tokens.specs.ErrorReport.{ErrorReport}
 use Rattle.yaml_tree.specs.View.{items_view}
 use Rattle.yaml_tree.specs.declared.yaml.Yaml.{Yaml}
 use Rattle.yaml_scanner.specs.Scanned.{Scanned, MayBe}
@@ -34,7 +34,7 @@ use Rattle.yaml_loader.specs.Unread.{of_parser}
 use Rattle.yaml_loader.specs.Unread as unread
 
 -- So a load of a text that is read as trees answers just these.
-loads_only : {text : List ℕ} {trees : List Tree} (result : Result (Vec Yaml Global) Fault) → LoadsText false text result → IsReadAs false text trees → LoadsOnly result trees
+loads_only : {text : List ℕ} {trees : List Tree} (result : Result (Vec Yaml Global) ErrorReport) → LoadsText false text result → IsReadAs false text trees → LoadsOnly result trees
 loads_only (Ok documents) h x = let same = one_reading h.tokens h.read.documents h.has h.read.stream x in let both = sym h.read.trees_are ∙ same in cc
 loads_only {text} {trees} (Err f) (of_parser why) x = memory_is_wanted false text trees f x why
 loads_only (Err f) (unread.repeated_key es h key twice at tells owned) x = let same = one_reading (toks h.tokens) h.documents (h.tokens, h.has, refl) (nested_is_stream h) x in cc
@@ -47,7 +47,7 @@ string_may_be start bytes s utf8 rest came no_nul = characters_are_the_text char
 pub of_texts : (old new : Parsed) (text : List ℕ) (P : Bool → List ℕ → Type 0) → IsAtStart old → old.keep_tags ≡ false → MayBe new.scanner text → OfTexts old new (P old.keep_tags) → P false text
 of_texts old new text P start keep may h = subst (λ b. P b text) keep (h start text may)
 
-pub of_text : (text : List ℕ) (result : Result (Vec Yaml Global) Fault) → LoadsText false text result → OfText text (LoadsOnly result)
+pub of_text : (text : List ℕ) (result : Result (Vec Yaml Global) ErrorReport) → LoadsText false text result → OfText text (LoadsOnly result)
 of_text text result h = λ trees x. loads_only result h x
 
 pub given_may_be : {S : Type 0} (steps : S → Option ℕ → S → Type 0) (source start : S) (s : Scanned) → start ≡ source → CameFrom steps start s.taken s.done → HasNoNul s.taken
@@ -56,7 +56,7 @@ given_may_be steps source start s same came no_nul = λ all always. characters_a
 
 -- What the iterator gave is the beginning of a text, of which P holds.
 pub begins_given : {S : Type 0} {P : List ℕ → Type 0} (steps : S → Option ℕ → S → Type 0) (source start : S) (s : Scanned) → start ≡ source → CameFrom steps start s.taken s.done → HasNoNul s.taken
-    → ((text : List ℕ) → MayBe s text → P text) → Begins steps source P
+    → ((text : List ℕ) → MayBe s text → P text) → BeginsText steps source P
 begins_given steps source start s same came no_nul holds = record {
   taken = s.taken;
   done = s.done;
@@ -105,13 +105,13 @@ pub of_first_quoted : (text : List ℕ) (P : List Tree → Type 0) → OfText te
 of_first_quoted text P h value is = h (Tree.string value ∷ []) (quoted_texts_are_read false text value is)
 
 -- all that a load answers of a text
-pub answers : (text : List ℕ) (result : Result (Vec Yaml Global) Fault) → LoadsText false text result → Answers text result
+pub answers : (text : List ℕ) (result : Result (Vec Yaml Global) ErrorReport) → LoadsText false text result → Answers text result
 answers text result h =
     let texts = of_text text result h in
     record { reads = h; texts = texts; json = of_first_json text (LoadsOnly result) texts; basic = of_first_basic text (LoadsOnly result) texts; laid_out = of_first_layout text (LoadsOnly result) texts; quoted = of_first_quoted text (LoadsOnly result) texts }
 
 -- the documents are what a cut of the text is read as
-pub of_cut : (text : List ℕ) (result : Result (Vec Yaml Global) Fault) → LoadsText false (up_to_nul text) result
+pub of_cut : (text : List ℕ) (result : Result (Vec Yaml Global) ErrorReport) → LoadsText false (up_to_nul text) result
     → IfOk result (λ documents. IsReadOfCut false (up_to_nul text) (items_view documents.items))
 of_cut text (Ok documents) h = of_a_cut false (up_to_nul text) (items_view documents.items) (none_before text) h
 of_cut text (Err f) h = tt

@@ -4,7 +4,7 @@ use Rattle.std.specs.Prelude.{◌≡◌, ◌⊎◌, true, Option, Some, None, If
 use Rattle.defs_text.specs.Position.{Position}
 use Rattle.defs_event.specs.Event.{Ev}
 use Rattle.defs_event.specs.Unfinished.{Opened, Unfinished, with_event, Loader, at_work, noted, refused, with_event_at, documents_of, refused_at}
-use Rattle.yaml_tokens.specs.Fault.{Fault, fault_at}
+use Rattle.yaml_tokens.specs.ErrorReport.{ErrorReport, report_at}
 use Rattle.yaml_loader.specs.declared.loader.Course.{Course}
 use Rattle.yaml_loader.specs.declared.loader.Course.TheVariants as course
 use Rattle.yaml_loader.specs.declared.loader.YamlLoader.{YamlLoader}
@@ -25,26 +25,26 @@ abbrev pub loader_of : YamlLoader → Loader
 loader_of l = loader_by l.course (unfinished_of l.reading)
 
 -- out of memory at a place
-abbrev pub want_of_memory : Position → Fault
+abbrev pub want_of_memory : Position → ErrorReport
 want_of_memory place = record { place = place; text = codes "out of memory"; memory = true }
 
 -- an event out of nesting at a place
-abbrev pub event_out_of_nesting : Position → Fault
-event_out_of_nesting place = fault_at place (codes "event out of nesting")
+abbrev pub event_out_of_nesting : Position → ErrorReport
+event_out_of_nesting place = report_at place (codes "event out of nesting")
 
-abbrev pub kept_by : Course → Option Fault
+abbrev pub kept_by : Course → Option ErrorReport
 kept_by course.Reading = None
 kept_by (course.RepeatedKey place text) = None
 kept_by (course.OutOfNesting place) = Some (event_out_of_nesting place)
 kept_by (course.OutOfMemory place) = Some (want_of_memory place)
 
 -- the fault that is kept, where one is: every later event is answered the same
-abbrev pub kept_fault : YamlLoader → Option Fault
+abbrev pub kept_fault : YamlLoader → Option ErrorReport
 kept_fault l = kept_by l.course
 
 -- A new fault with an event at this place, after which the loader would be this one: out of memory, or
 -- that of an event out of nesting, where this one refuses it.
-abbrev pub IsNewFault : Fault → Position → Loader → Type 0
+abbrev pub IsNewFault : ErrorReport → Position → Loader → Type 0
 IsNewFault f place l = (f ≡ want_of_memory place) ⊎ ((f ≡ event_out_of_nesting place) × (refused_at l ≡ Some place))
 
 -- a loader that has noted a key that came twice
@@ -61,7 +61,7 @@ abbrev pub TellsNotedKey : YamlLoader → Type 0
 TellsNotedKey l = TellsBy l.course (unfinished_of l.reading).opened
 
 -- What a loader makes of an event at its place.
-pub record Takes (old : YamlLoader) (e : Ev) (place : Position) (result : Result (Unit {0}) Fault) (new : YamlLoader) : Type 0 where
+pub record Takes (old : YamlLoader) (e : Ev) (place : Position) (result : Result (Unit {0}) ErrorReport) (new : YamlLoader) : Type 0 where
   -- On `Ok` the loader is the one after the event, and keeps no fault.
   pub reads : OnOk result (StandAlike (with_event_at (loader_of old) e place) (loader_of new))
   pub goes_on : OnOk result (kept_fault new ≡ None)
@@ -78,7 +78,7 @@ pub record Takes (old : YamlLoader) (e : Ev) (place : Position) (result : Result
   pub tells : TellsNotedKey old → TellsNotedKey new
 
 -- What a loader that is at work makes of an event which its reading refused, whatever the event was: so it takes the event.
-abbrev pub Stops : YamlLoader → Refusal → Position → Result (Unit {0}) Fault → YamlLoader → Type 0
+abbrev pub Stops : YamlLoader → Refusal → Position → Result (Unit {0}) ErrorReport → YamlLoader → Type 0
 Stops stopped refusal place result new =
     (old : YamlLoader) (e : Ev) → old.course ≡ course.Reading → IsRefusedBy refusal (with_event (unfinished_of old.reading) e) (unfinished_of stopped.reading).opened
     → (unfinished_of stopped.reading).documents ≡ (unfinished_of old.reading).documents → Takes old e place result new

@@ -4,7 +4,7 @@ use Rattle.defs_text.specs.Position.{Position}
 use Rattle.defs_tree.specs.Tree.{Tree}
 use Rattle.defs_event.specs.Event.{Ev}
 use Rattle.defs_event.specs.Unfinished.{Loader, at_work, noted, new_loader, with_event_at, with_events}
-use Rattle.yaml_tokens.specs.Fault.{Fault}
+use Rattle.yaml_tokens.specs.ErrorReport.{ErrorReport}
 use Rattle.yaml_parser.specs.Loads.{Loads}
 use Rattle.yaml_parser.specs.Parsed.{Parsed}
 use Rattle.yaml_loader.specs.Loading.{IsNewFault}
@@ -21,11 +21,11 @@ HasNoted (noted documents noted_key at) key place = (noted_key ≡ key) × (at �
 HasNoted _ key place = ⊥
 
 -- A receiver that only notes the events that are pushed.
-abbrev pub Notes : List (Ev × Position) → Ev → Position → Result (Unit {0}) Fault → List (Ev × Position) → Type 0
+abbrev pub Notes : List (Ev × Position) → Ev → Position → Result (Unit {0}) ErrorReport → List (Ev × Position) → Type 0
 Notes events e p result now = now ≡ events ++ (e, p) ∷ []
 
 -- `load` of all documents, from where a parser stood: it pushed these events, of those that it pulled, and answered so.
-abbrev pub Pushes : Parsed → List (Ev × Position) → Result (Unit {0}) Fault → Parsed → Type 0
+abbrev pub Pushes : Parsed → List (Ev × Position) → Result (Unit {0}) ErrorReport → Parsed → Type 0
 Pushes old events result new = Loads Notes true old [] result new events
 
 -- These are the documents of a load: those that the events which were pushed are read as, one by one.
@@ -33,7 +33,7 @@ abbrev pub AreLoaded : Parsed → List Tree → Parsed → Type 0
 AreLoaded old documents new = (events : List (Ev × Position)) × Pushes old events (Ok tt) new × HasDocuments (with_events new_loader events) documents
 
 -- Why a load answers this fault.
-pub data IsLoadFault (old : Parsed) (f : Fault) (new : Parsed) : Type 0 where
+pub data IsLoadFault (old : Parsed) (f : ErrorReport) (new : Parsed) : Type 0 where
   -- It is the parser's, which is kept.
   parser_fault : (events : List (Ev × Position)) → Pushes old events (Err f) new → new.fault ≡ Some f → IsLoadFault old f new
   -- The last event that was pushed is refused: it stands out of nesting, or memory was refused.

@@ -7,7 +7,7 @@ use Rattle.defs_layout.specs.Json.{IsJsonText}
 use Rattle.defs_layout.specs.Basic.{IsBasicLayout}
 use Rattle.defs_layout.specs.Layout.{AreLaidOut}
 use Rattle.defs_layout.specs.QuotedText.{IsQuoted}
-use Rattle.yaml_tokens.specs.Fault.{Fault}
+use Rattle.yaml_tokens.specs.ErrorReport.{ErrorReport}
 use Rattle.yaml_tree.specs.View.{items_view}
 use Rattle.yaml_tree.specs.declared.yaml.Yaml.{Yaml}
 use Rattle.yaml_scanner.specs.Scanned.{MayBe}
@@ -16,12 +16,12 @@ use Rattle.proof_loads.specs.TextReadAs.{IsReadAs, IsAtStart}
 use Rattle.yaml_loader.specs.Unread.{IsUnread}
 
 -- A load gives exactly these documents, or memory was refused.
-abbrev pub LoadsOnly : Result (Vec Yaml Global) Fault → List Tree → Type 0
+abbrev pub LoadsOnly : Result (Vec Yaml Global) ErrorReport → List Tree → Type 0
 LoadsOnly (Ok documents) trees = items_view documents.items ≡ trees
 LoadsOnly (Err f) trees = f.memory ≡ true
 
 -- A load of the text gives the documents that it is read as, or a fault whose reason is in the text.
-abbrev pub LoadsText : Bool → List ℕ → Result (Vec Yaml Global) Fault → Type 0
+abbrev pub LoadsText : Bool → List ℕ → Result (Vec Yaml Global) ErrorReport → Type 0
 LoadsText keep_tags text (Ok documents) = IsReadAs keep_tags text (items_view documents.items)
 LoadsText keep_tags text (Err f) = IsUnread keep_tags text f
 
@@ -55,7 +55,7 @@ OfGiven steps source Q = (text : List ℕ) → AlwaysYields steps (λ c. c) sour
 
 -- What a load of a text gives: the documents that it is read as, or a fault whose reason is in it. So for a text that is read as trees, for a
 -- JSON text, for a layout of one or several documents and for a text of one quoted scalar it gives exactly their trees, or out of memory.
-pub record Answers (text : List ℕ) (result : Result (Vec Yaml Global) Fault) : Type 0 where
+pub record Answers (text : List ℕ) (result : Result (Vec Yaml Global) ErrorReport) : Type 0 where
   pub reads : LoadsText false text result
   pub texts : OfText text (LoadsOnly result)
   pub json : OfJson text (LoadsOnly result)

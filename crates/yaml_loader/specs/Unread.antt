@@ -2,7 +2,7 @@
 use Rattle.std.specs.Prelude.{◌≡◌, ℕ, Bool, false, List, Err}
 use Rattle.defs_text.specs.Position.{Position}
 use Rattle.defs_tree.specs.Tree.{Tree}
-use Rattle.yaml_tokens.specs.Fault.{Fault}
+use Rattle.yaml_tokens.specs.ErrorReport.{ErrorReport}
 use Rattle.defs_event.specs.Event.{Ev}
 use Rattle.defs_event.specs.Reading.{reading}
 use Rattle.defs_event.specs.Unfinished.{new_loader, with_events}
@@ -10,7 +10,7 @@ use Rattle.yaml_loader.specs.Loads.{HasNoted}
 use Rattle.yaml_loader.specs.RepeatedKey.{TellsKey}
 use Rattle.proof_loads.specs.TextEvents.{HasEvents, IsFaultOf}
 
-pub data IsUnread (keep_tags : Bool) (text : List ℕ) (f : Fault) : Type 0 where
+pub data IsUnread (keep_tags : Bool) (text : List ℕ) (f : ErrorReport) : Type 0 where
   -- Memory was refused; or it is the scanner's refusal of the text; or no stream begins with the text's first tokens, and the fault is
   -- about the last of these.
   of_parser : IsFaultOf keep_tags text f → IsUnread keep_tags text f

@@ -3,7 +3,7 @@ ghost use Rattle.std.specs.Prelude.{◌≡◌, ◌^◌, ◌<◌, false, None, If
 ghost use Rattle.std.specs.Iterator.{IsFinite, size};
 ghost use Rattle.defs_event.specs.NoAlias.{HasNoAlias};
 ghost use Rattle.yaml_tree.specs.View.{items_view};
-ghost use Rattle.yaml_chars.specs.Reading.{HasNoNul, up_to_nul, Begins};
+ghost use Rattle.yaml_chars.specs.Reading.{HasNoNul, up_to_nul, BeginsText};
 ghost use Rattle.yaml_chars.specs.Source.{CameFrom};
 ghost use Rattle.yaml_parser.specs.Parsed.{parsed};
 ghost use Rattle.proof_loads.specs.Cuts.{IsReadOfCut};
@@ -79,7 +79,7 @@ impl YamlLoader {
         requires few { size (I.remaining source) < 2 ^ 63 }
         // For every iterator: the clauses hold of each text that begins with the characters that it gave, or that is
         // just these if they end with the iterator or a NUL.
-        ensures given { Begins I.next_gives source (λ text. Answers text result) }
+        ensures given { BeginsText I.next_gives source (λ text. Answers text result) }
         ensures reads { OfGiven I.next_gives source (λ text. LoadsText false (up_to_nul text) result) }
         ensures of_cut { OfGiven I.next_gives source (λ text. IfOk result (λ documents. IsReadOfCut false (up_to_nul text) (items_view documents.items))) }
         ensures no_alias { IfOk result (λ documents. All HasNoAlias (items_view documents.items)) }

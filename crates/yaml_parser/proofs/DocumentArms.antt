@@ -21,7 +21,7 @@ use Rattle.defs_event.specs.Names.{declared, versions, is_each_once, are_allowed
 use Rattle.defs_event.specs.Stream.{gives_place}
 use Rattle.model_parser.specs.declared.kind.Kind.{Kind}
 use Rattle.model_parser.specs.declared.kind.Kind.TheVariants as kind
-use Rattle.model_parser.specs.declared.place.Place.TheVariants as place
+use Rattle.model_parser.specs.declared.place.NodeContext.TheVariants as place
 use Rattle.model_parser.specs.declared.state.State.TheVariants as state
 use Rattle.model_parser.specs.Kinds.{kind_of, begins_node, is_directive}
 use Rattle.model_parser.specs.Goal as at

@@ -4,13 +4,13 @@ use Rattle.std.proofs.lemmas.Bool.{both_ways}
 use Rattle.std.proofs.lemmas.List.{map-append}
 use Rattle.std.specs.Option.{IsSome, IfSome}
 use Rattle.defs_text.specs.Position.{Position}
-use Rattle.defs_token.specs.Token.{Style}
+use Rattle.defs_token.specs.Token.{Style, Tok}
 use Rattle.defs_event.specs.Event.{Ev}
 use Rattle.defs_event.specs.Raw.{Raw}
-use Rattle.defs_event.specs.Grammar.{scalar, flow_content, no_flow, end_items, no_items, single, no_flow_value, no_flow_pairs, end_flow_pairs, flow_keyless, block_content, flow, no_node, end_entries, plain, end_dashes, keyed, end_pairs, no_value, others, end_stream, unmarked, anchor_of, tag_of}
+use Rattle.defs_event.specs.Grammar.{scalar, flow_content, no_flow, end_items, no_items, single, no_flow_value, no_flow_pairs, end_flow_pairs, flow_keyless, block_content, flow, no_node, end_entries, plain, end_dashes, keyed, end_pairs, no_value, others, end_stream, unmarked, anchor_of, tag_of, Documents, stream_tokens}
 use Rattle.defs_event.specs.Names.{Names, number, named, both, names_after, names_after_all, resolved_event, resolved, perhaps_resolved, are_allowed, no_names}
 use Rattle.defs_event.specs.Stream.{BeginsPlaced, events_of, places_of, taken_places, given_places}
-use Rattle.model_parser.specs.declared.place.Place.TheVariants as place
+use Rattle.model_parser.specs.declared.place.NodeContext.TheVariants as place
 use Rattle.model_parser.specs.declared.state.State.{State}
 use Rattle.model_parser.specs.declared.state.State.TheVariants as state
 use Rattle.model_parser.specs.Goal as at
@@ -18,15 +18,13 @@ use Rattle.model_parser.specs.Goal.{Goal, Awaits, goal_events, goal_tokens, part
 use Rattle.model_parser.specs.Rest.{Rest, rest_events, rest_tokens, goal_of, still_tokens, still_events}
 use Rattle.yaml_parser.specs.declared.reader.Reader.{Reader}
 use Rattle.defs_token.specs.Token as defs
-use Rattle.defs_token.specs.Token.{Tok}
 use Rattle.yaml_tokens.specs.declared.token.Token.{Token}
 use Rattle.yaml_tokens.specs.Shown.{shown, all_shown, tok_of}
 use Rattle.yaml_scanner.specs.Scanned.{scanned}
-use Rattle.defs_event.specs.Grammar.{Documents, stream_tokens}
 use Rattle.defs_token.specs.Toks.{toks}
 use Rattle.model_parser.specs.declared.kind.Kind.{Kind}
 use Rattle.model_parser.specs.Kinds.{kind_of}
-use Rattle.model_parser.specs.Stands.{Begins as Begins1}
+use Rattle.model_parser.specs.Stands.{IsNext as Begins1}
 use Rattle.model_parser.specs.Turn.{Refuses}
 use Rattle.yaml_parser.specs.Kinds.{IsOfKind}
 use Rattle.yaml_parser.proofs.Steps.{map_snoc, looked, if_some_at}

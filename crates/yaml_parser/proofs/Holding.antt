@@ -9,7 +9,7 @@ use Rattle.defs_token.specs.Token.{Tok}
 use Rattle.yaml_tokens.specs.declared.token.Token.{Token}
 use Rattle.yaml_tokens.specs.declared.problem.Fault.TheVariants.{OutOfMemory}
 use Rattle.yaml_tokens.specs.declared.problem.Fault.TheVariants as fault
-use Rattle.yaml_tokens.specs.Fault.{Fault}
+use Rattle.yaml_tokens.specs.ErrorReport.{ErrorReport}
 use Rattle.yaml_tokens.specs.Problem.{fault_of}
 use Rattle.yaml_tokens.specs.Shown.{shown, all_shown, tok_of}
 use Rattle.yaml_scanner.specs.Scanned.{scanned}
@@ -25,9 +25,9 @@ use Rattle.model_parser.specs.declared.state.State.TheVariants as state
 use Rattle.model_parser.specs.Goal as at
 use Rattle.model_parser.specs.Goal.{Goal}
 use Rattle.model_parser.specs.Rest.{goal_of, still_events, IsBottom, IsUnder}
-use Rattle.model_parser.specs.Stands.{Stands, Begins}
+use Rattle.model_parser.specs.Stands.{IsOnTrack, IsNext}
 use Rattle.yaml_parser.specs.declared.event.Event.{Event}
-use Rattle.yaml_parser.specs.declared.tokens.Kept.{Kept}
+use Rattle.yaml_parser.specs.declared.tokens.KeptStop.{KeptStop}
 use Rattle.yaml_parser.specs.declared.tokens.Stop.{Stop}
 use Rattle.yaml_parser.specs.declared.tokens.Stop.TheVariants as stop
 use Rattle.yaml_parser.specs.declared.pull.Pull.{Pull}
@@ -101,7 +101,7 @@ state_seen state.FlowMappingValue keep names = refl
 state_seen (state.FlowMappingPart m) keep names = refl
 state_seen state.FlowMappingEmptyValue keep names = refl
 
-popped_stands : (s : State) (ss : List State) (taken : List Tok) (p : Option Tok) (given : List Raw) → Stands at.done (s ∷ ss) taken p given → Stands (goal_of s) ss taken p given
+popped_stands : (s : State) (ss : List State) (taken : List Tok) (p : Option Tok) (given : List Raw) → IsOnTrack at.done (s ∷ ss) taken p given → IsOnTrack (goal_of s) ss taken p given
 popped_stands s ss taken p given h = record {
   nested = h.nested.1;
   fits = h.nested.0;
@@ -112,7 +112,7 @@ popped_stands s ss taken p given h = record {
 popped : {T : Type 0} (p : Reader T) (s : State) (ss : List State) {names : Names} {given : List (Ev × Position)} → p.stack ≡ s ∷ ss → At at.done p names given → At (goal_of s) (record p { stack = ss }) names given
 popped {T} p s ss {names} {given} h a = record {
   raw = a.raw;
-  stands = popped_stands s ss (taken_toks p.tokens) (peeked_tok p.tokens) a.raw (subst (λ x. Stands at.done x (taken_toks p.tokens) (peeked_tok p.tokens) a.raw) h a.stands);
+  stands = popped_stands s ss (taken_toks p.tokens) (peeked_tok p.tokens) a.raw (subst (λ x. IsOnTrack at.done x (taken_toks p.tokens) (peeked_tok p.tokens) a.raw) h a.stands);
   handed = a.handed;
   awake = λ o. a.awake refl;
   over = λ o. absurd (both_ways (is_over (goal_of s)) (state_going s) o);
@@ -188,10 +188,10 @@ failed {T} p r s ss es u h x reads =
     let o = open_at (has_end es) p s ss h x.1 in
     (o.0, reads x.0 es (popped p s ss h o.1))
 
-pub keeps : {T : Type 0} (p : Pull T) (es : List (Ev × Position)) (u : Stop) {f : Fault} → fault_kept p ≡ Some f → IfSome p.kept (λ k. k.stop ≡ u) → (has_end es ≡ false) × Faulted p.reader es u → IsHeld p.reader es p.kept
+pub keeps : {T : Type 0} (p : Pull T) (es : List (Ev × Position)) (u : Stop) {f : ErrorReport} → fault_kept p ≡ Some f → IfSome p.kept (λ k. k.stop ≡ u) → (has_end es ≡ false) × Faulted p.reader es u → IsHeld p.reader es p.kept
 keeps {T} p es u {f} h k x = kept_at p.reader es u p.kept is_kept k x
   where
-    kept_at : (r : Reader T) (es : List (Ev × Position)) (u : Stop) (o : Option Kept) → IsSome o → IfSome o (λ k. k.stop ≡ u) → (has_end es ≡ false) × Faulted r es u → IsHeld r es o
+    kept_at : (r : Reader T) (es : List (Ev × Position)) (u : Stop) (o : Option KeptStop) → IsSome o → IfSome o (λ k. k.stop ≡ u) → (has_end es ≡ false) × Faulted r es u → IsHeld r es o
     kept_at r es u None i k x = cc
     kept_at r es u (Some z) i k x = (x.0, subst (Faulted r es) (sym k) x.1)
 
@@ -213,7 +213,7 @@ begun {T} p stack peeked taken given ended code = (
   no_names,
   record {
     raw = [];
-    stands = subst (λ ss. Stands at.done ss (taken_toks p.tokens) (peeked_tok p.tokens) []) (sym stack) (subst (λ ts. Stands at.done (state.StreamStart ∷ []) (toks (all_shown ts)) (peeked_tok p.tokens) []) (sym taken) (record {
+    stands = subst (λ ss. IsOnTrack at.done ss (taken_toks p.tokens) (peeked_tok p.tokens) []) (sym stack) (subst (λ ts. IsOnTrack at.done (state.StreamStart ∷ []) (toks (all_shown ts)) (peeked_tok p.tokens) []) (sym taken) (record {
       nested = (tt, tt);
       fits = tt;
       sound = λ x r. (r.0, refl, refl);
@@ -245,7 +245,7 @@ listed_shown : (o : Option Token) → listed (option_map shown o) ≡ shown_list
 listed_shown None = refl
 listed_shown (Some t) = refl
 
-begins_peeked : (o : Option Token) (ts : List Tok) → Begins (option_map (λ (t : Token). tok_of t.1) o) (toks (shown_list o) ++ ts)
+begins_peeked : (o : Option Token) (ts : List Tok) → IsNext (option_map (λ (t : Token). tok_of t.1) o) (toks (shown_list o) ++ ts)
 begins_peeked None ts = tt
 begins_peeked (Some t) ts = refl
 
@@ -275,7 +275,7 @@ at_follows {T} {g} p names es a steady v s =
 
 -- ---- at the end
 
-ended_stands : (ss : List State) (taken : List Tok) (raw : List Raw) → Stands at.ended ss taken None raw
+ended_stands : (ss : List State) (taken : List Tok) (raw : List Raw) → IsOnTrack at.ended ss taken None raw
     → ((d : Documents) × (stream_tokens d ≡ taken) × (stream_events d ≡ raw)) × ((d : Documents) (ts : List Tok) → stream_tokens d ≡ taken ++ ts → (ts ≡ []) × (stream_events d ≡ raw))
 ended_stands [] taken raw s =
     let d = s.sound tt tt in
@@ -286,7 +286,7 @@ at_whole : {T : Type 0} (p : Reader T) (names : Names) (es : List (Ev × Positio
 at_whole {T} p names es a steady v s =
     let keep = p.names.keeping.tags in
     let taken : v.scanner.given ≡ all_shown p.tokens.taken.items = ap (λ x. x.given) s.scanner ∙ a.handed ∙ ap (λ o. all_shown p.tokens.taken.items ++ shown_list o) (a.over refl) ∙ append-nil (all_shown p.tokens.taken.items) in
-    let o = ended_stands p.stack (taken_toks p.tokens) a.raw (subst (λ x. Stands at.ended p.stack (taken_toks p.tokens) (option_map (λ (t : Token). tok_of t.1) x) a.raw) (a.over refl) a.stands) in
+    let o = ended_stands p.stack (taken_toks p.tokens) a.raw (subst (λ x. IsOnTrack at.ended p.stack (taken_toks p.tokens) (option_map (λ (t : Token). tok_of t.1) x) a.raw) (a.over refl) a.stands) in
     let events : named v.keep_tags no_names a.raw ≡ Some (events_of (read v)) = ap (λ k. named k no_names a.raw) s.keep_tags ∙ a.events steady ∙ ap (λ x. Some (events_of x)) (sym s.events) in
     record {
       stream = record {
@@ -350,7 +350,7 @@ stuck_refused {T} p es x steady v s = record {
   none = λ ts fs y. x.none steady ts fs (subst (λ k. IsStream k (toks (scanned p.tokens.scanner).given ++ ts) fs) s.keep_tags (subst (λ z. IsStream v.keep_tags (toks z.given ++ ts) fs) s.scanner y));
 }
 
-explained : {T : Type 0} (p : Reader T) (es : List (Ev × Position)) (u : Stop) (m : Position) (f : Fault) → fault_seen u m (scanned p.tokens.scanner).fault ≡ f → Faulted p es u → (v : Parsed) → Shows p es v → Explains f v
+explained : {T : Type 0} (p : Reader T) (es : List (Ev × Position)) (u : Stop) (m : Position) (f : ErrorReport) → fault_seen u m (scanned p.tokens.scanner).fault ≡ f → Faulted p es u → (v : Parsed) → Shows p es v → Explains f v
 explained {T} p es (stop.Own OutOfMemory) m f h x v s = inr (inl (record { memory = ap (λ z. z.memory) (sym h); text = ap (λ z. z.text) (sym h) }))
 explained {T} p es (stop.Own (fault.At q n)) m f h x v s =
     inr (inr (record {
@@ -366,11 +366,11 @@ explained {T} p es (stop.Own (fault.At q n)) m f h x v s =
     }))
 explained {T} p es stop.Scan m f h x v s = inl (ap (λ z. z.fault) s.scanner ∙ kept_some (scanned p.tokens.scanner).fault _ x h)
   where
-    kept_some : (o : Option Fault) (d : Fault) {g : Fault} → IsSome o → unwrap_or o d ≡ g → o ≡ Some g
+    kept_some : (o : Option ErrorReport) (d : ErrorReport) {g : ErrorReport} → IsSome o → unwrap_or o d ≡ g → o ≡ Some g
     kept_some None d i e = cc
     kept_some (Some y) d i e = ap Some e
 explained {T} p es stop.Ended m f h x v s = absurd x
 
-pub held_explained : {T : Type 0} (p : Reader T) (es : List (Ev × Position)) (o : Option Kept) (f : Fault) → option_map (λ k. fault_seen k.stop k.mark (scanned p.tokens.scanner).fault) o ≡ Some f → IsHeld p es o → (v : Parsed) → Shows p es v → Explains f v
+pub held_explained : {T : Type 0} (p : Reader T) (es : List (Ev × Position)) (o : Option KeptStop) (f : ErrorReport) → option_map (λ k. fault_seen k.stop k.mark (scanned p.tokens.scanner).fault) o ≡ Some f → IsHeld p es o → (v : Parsed) → Shows p es v → Explains f v
 held_explained {T} p es None f h x v s = cc
 held_explained {T} p es (Some k) f h x v s = let e : fault_seen k.stop k.mark (scanned p.tokens.scanner).fault ≡ f = cc in explained p es k.stop k.mark f e x.1 v s

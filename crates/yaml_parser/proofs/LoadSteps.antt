@@ -4,7 +4,7 @@ use Rattle.std.specs.Result.{IsErrAnd}
 use Rattle.std.proofs.lemmas.Bool.{or_from}
 use Rattle.std.proofs.lemmas.List.{length-append}
 use Rattle.defs_text.specs.Position.{Position}
-use Rattle.yaml_tokens.specs.Fault.{Fault}
+use Rattle.yaml_tokens.specs.ErrorReport.{ErrorReport}
 use Rattle.defs_event.specs.Event.{Ev}
 use Rattle.defs_event.specs.PulledList.{Answer, event, fault, given}
 use Rattle.defs_event.specs.Push as run
@@ -15,36 +15,36 @@ use Rattle.yaml_parser.specs.Parsed.{Parsed, is_stream_end, is_document_start, i
 use Rattle.yaml_parser.specs.Pulls.{Pulls, GivesEvent}
 use Rattle.yaml_parser.specs.View.{no_document}
 use Rattle.yaml_parser.specs.Loads as loads
-use Rattle.yaml_parser.specs.Loads.{PullsAll, no_call, one_call, Receives, no_event, one_event, EndsSo, Loads, pushing, Going, Stands, StartsSo, after_document, IsAfter}
+use Rattle.yaml_parser.specs.Loads.{PullsAll, no_call, one_call, Receives, no_event, one_event, EndsSo, Loads, pushing, Going, RunsOn, StartsSo, after_document, IsAfter}
 use Rattle.yaml_parser.proofs.Nesting.{no_end_inside, open_more}
 
 -- ---- the run
 
-given_snoc : (es : List (Ev × Position)) (e : Ev) (p : Position) → given Fault (es ++ (e, p) ∷ []) ≡ given Fault es ++ event e p ∷ []
+given_snoc : (es : List (Ev × Position)) (e : Ev) (p : Position) → given ErrorReport (es ++ (e, p) ∷ []) ≡ given ErrorReport es ++ event e p ∷ []
 given_snoc [] e p = refl
 given_snoc (x ∷ es) e p = ap (λ zs. event x.0 x.1 ∷ zs) (given_snoc es e p)
 
-given_length : (es : List (Ev × Position)) → length (given Fault es) ≡ length es
+given_length : (es : List (Ev × Position)) → length (given ErrorReport es) ≡ length es
 given_length [] = refl
 given_length (e ∷ es) = omega (arith, given_length es)
 
-pushing_snoc : (es : List (Ev × Position)) (e : Ev) (p : Position) (l : Loaded Fault) → pushing (es ++ (e, p) ∷ []) l ≡ pushing es (push e p l)
+pushing_snoc : (es : List (Ev × Position)) (e : Ev) (p : Position) (l : Loaded ErrorReport) → pushing (es ++ (e, p) ∷ []) l ≡ pushing es (push e p l)
 pushing_snoc [] e p l = refl
 pushing_snoc (x ∷ es) e p l = ap (push x.0 x.1) (pushing_snoc es e p l)
 
-pushed_all : (es : List (Ev × Position)) (l : Loaded Fault) → (pushing es l).pushed ≡ es ++ l.pushed
+pushed_all : (es : List (Ev × Position)) (l : Loaded ErrorReport) → (pushing es l).pushed ≡ es ++ l.pushed
 pushed_all [] l = refl
 pushed_all (e ∷ es) l = ap (λ xs. e ∷ xs) (pushed_all es l)
 
-ending_all : (es : List (Ev × Position)) (l : Loaded Fault) → (pushing es l).ending ≡ l.ending
+ending_all : (es : List (Ev × Position)) (l : Loaded ErrorReport) → (pushing es l).ending ≡ l.ending
 ending_all [] l = refl
 ending_all (e ∷ es) l = ending_all es l
 
-taken_all : (es : List (Ev × Position)) (l : Loaded Fault) → (pushing es l).taken ≡ length es + l.taken
+taken_all : (es : List (Ev × Position)) (l : Loaded ErrorReport) → (pushing es l).taken ≡ length es + l.taken
 taken_all [] l = omega arith
 taken_all (e ∷ es) l = omega (arith, taken_all es l)
 
-pub misplaced_run : (e : Ev) (p : Position) (multi : Bool) (rest : List (Answer Fault)) → is_stream_end e ≡ false → is_document_start e ≡ false → load_from run.between multi (event e p ∷ rest) ≡ ends (run.no_document p) 1
+pub misplaced_run : (e : Ev) (p : Position) (multi : Bool) (rest : List (Answer ErrorReport)) → is_stream_end e ≡ false → is_document_start e ≡ false → load_from run.between multi (event e p ∷ rest) ≡ ends (run.no_document p) 1
 misplaced_run Ev.nothing p multi rest h k = refl
 misplaced_run Ev.stream_start p multi rest h k = refl
 misplaced_run Ev.stream_end p multi rest h k = cc
@@ -57,7 +57,7 @@ misplaced_run Ev.sequence_end p multi rest h k = refl
 misplaced_run (Ev.mapping_start a t) p multi rest h k = refl
 misplaced_run Ev.mapping_end p multi rest h k = refl
 
-pub end_run : (e : Ev) (p : Position) (multi : Bool) (rest : List (Answer Fault)) → is_stream_end e ≡ true → load_from run.between multi (event e p ∷ rest) ≡ push e p (ends run.well 0)
+pub end_run : (e : Ev) (p : Position) (multi : Bool) (rest : List (Answer ErrorReport)) → is_stream_end e ≡ true → load_from run.between multi (event e p ∷ rest) ≡ push e p (ends run.well 0)
 end_run Ev.nothing p multi rest h = cc
 end_run Ev.stream_start p multi rest h = cc
 end_run Ev.stream_end p multi rest h = refl
@@ -70,7 +70,7 @@ end_run Ev.sequence_end p multi rest h = cc
 end_run (Ev.mapping_start a t) p multi rest h = cc
 end_run Ev.mapping_end p multi rest h = cc
 
-pub start_run : (e : Ev) (p : Position) (multi : Bool) (rest : List (Answer Fault)) → is_document_start e ≡ true → load_from run.between multi (event e p ∷ rest) ≡ push e p (load_from run.inside multi rest)
+pub start_run : (e : Ev) (p : Position) (multi : Bool) (rest : List (Answer ErrorReport)) → is_document_start e ≡ true → load_from run.between multi (event e p ∷ rest) ≡ push e p (load_from run.inside multi rest)
 start_run Ev.nothing p multi rest h = cc
 start_run Ev.stream_start p multi rest h = cc
 start_run Ev.stream_end p multi rest h = cc
@@ -83,7 +83,7 @@ start_run Ev.sequence_end p multi rest h = cc
 start_run (Ev.mapping_start a t) p multi rest h = cc
 start_run Ev.mapping_end p multi rest h = cc
 
-pub inside_run : (e : Ev) (p : Position) (multi : Bool) (rest : List (Answer Fault)) → is_document_end e ≡ false → load_from run.inside multi (event e p ∷ rest) ≡ push e p (load_from run.inside multi rest)
+pub inside_run : (e : Ev) (p : Position) (multi : Bool) (rest : List (Answer ErrorReport)) → is_document_end e ≡ false → load_from run.inside multi (event e p ∷ rest) ≡ push e p (load_from run.inside multi rest)
 inside_run Ev.nothing p multi rest h = refl
 inside_run Ev.stream_start p multi rest h = refl
 inside_run Ev.stream_end p multi rest h = refl
@@ -96,7 +96,7 @@ inside_run Ev.sequence_end p multi rest h = refl
 inside_run (Ev.mapping_start a t) p multi rest h = refl
 inside_run Ev.mapping_end p multi rest h = refl
 
-pub last_run : (e : Ev) (p : Position) (multi : Bool) (rest : List (Answer Fault)) → is_document_end e ≡ true → load_from run.inside multi (event e p ∷ rest) ≡ push e p (after_document multi rest)
+pub last_run : (e : Ev) (p : Position) (multi : Bool) (rest : List (Answer ErrorReport)) → is_document_end e ≡ true → load_from run.inside multi (event e p ∷ rest) ≡ push e p (after_document multi rest)
 last_run Ev.nothing p multi rest h = cc
 last_run Ev.stream_start p multi rest h = cc
 last_run Ev.stream_end p multi rest h = cc
@@ -126,7 +126,7 @@ pub end_is_not : (e : Ev) → is_stream_end e ≡ false → e ≢ Ev.stream_end
 end_is_not e h k = let no : true ≡ false = sym (ap is_stream_end k) ∙ h in cc
 
 -- a run inside a document that stops after an event
-pub inside_stops : (e : Ev) (p : Position) (multi : Bool) → (l : Loaded Fault) × (load_from run.inside multi (event e p ∷ []) ≡ push e p l) × (l.pushed ≡ []) × (l.taken ≡ 0)
+pub inside_stops : (e : Ev) (p : Position) (multi : Bool) → (l : Loaded ErrorReport) × (load_from run.inside multi (event e p ∷ []) ≡ push e p l) × (l.pushed ≡ []) × (l.taken ≡ 0)
 inside_stops Ev.nothing p multi = (ends run.unfinished 0, refl, refl, refl)
 inside_stops Ev.stream_start p multi = (ends run.unfinished 0, refl, refl, refl)
 inside_stops Ev.stream_end p multi = (ends run.unfinished 0, refl, refl, refl)
@@ -189,8 +189,8 @@ stays_inside {now} {new} {e} {p} i g last = (
 
 -- ---- the steps
 
-module _ {R : Type 0} (takes : R → Ev → Position → Result (Unit {0}) Fault → R → Type 0) (multi : Bool) (old : Parsed) (r : R) where
-  pub begins : (at : run.Standing) (s : Bool) → old.started ≡ s → (if s then run.between else run.before_stream) ≡ at → Stands takes multi old r at old r
+module _ {R : Type 0} (takes : R → Ev → Position → Result (Unit {0}) ErrorReport → R → Type 0) (multi : Bool) (old : Parsed) (r : R) where
+  pub begins : (at : run.Standing) (s : Bool) → old.started ≡ s → (if s then run.between else run.before_stream) ≡ at → RunsOn takes multi old r at old r
   begins at s h k = record {
     events = [];
     pulled = no_call;
@@ -199,44 +199,44 @@ module _ {R : Type 0} (takes : R → Ev → Position → Result (Unit {0}) Fault
   }
 
   -- An event is pulled and taken.
-  pub goes_on : {on on' : List (Answer Fault) → Loaded Fault} {now now' : Parsed} {s s' : R} (e : Ev) (p : Position)
-      → Going takes multi old r on now s → ((rest : List (Answer Fault)) → on (event e p ∷ rest) ≡ push e p (on' rest)) → Pulls now (event e p) now' → takes s e p (Ok tt) s' → Going takes multi old r on' now' s'
+  pub goes_on : {on on' : List (Answer ErrorReport) → Loaded ErrorReport} {now now' : Parsed} {s s' : R} (e : Ev) (p : Position)
+      → Going takes multi old r on now s → ((rest : List (Answer ErrorReport)) → on (event e p ∷ rest) ≡ push e p (on' rest)) → Pulls now (event e p) now' → takes s e p (Ok tt) s' → Going takes multi old r on' now' s'
   goes_on {on} {on'} {now} {now'} {s} {s'} e p g steps pulls took = record {
     events = g.events ++ (e, p) ∷ [];
     pulled = subst (λ xs. PullsAll old xs now') (sym (given_snoc g.events e p)) (one_call (event e p) g.pulled pulls);
     received = one_event e p g.received took;
     runs = λ rest.
         ap (λ xs. load old.started multi (xs ++ rest)) (given_snoc g.events e p)
-        ∙ ap (load old.started multi) (append_assoc (given Fault g.events) (event e p ∷ []) rest)
+        ∙ ap (load old.started multi) (append_assoc (given ErrorReport g.events) (event e p ∷ []) rest)
         ∙ g.runs (event e p ∷ rest) ∙ ap (pushing g.events) (steps rest) ∙ sym (pushing_snoc g.events e p (on' rest));
   }
 
   -- the run that ends after one answer more
-  whole_run : {on : List (Answer Fault) → Loaded Fault} {now : Parsed} {s : R} (a : Answer Fault) (l : Loaded Fault) → (g : Going takes multi old r on now s) → on (a ∷ []) ≡ l → load old.started multi (given Fault g.events ++ a ∷ []) ≡ pushing g.events l
+  whole_run : {on : List (Answer ErrorReport) → Loaded ErrorReport} {now : Parsed} {s : R} (a : Answer ErrorReport) (l : Loaded ErrorReport) → (g : Going takes multi old r on now s) → on (a ∷ []) ≡ l → load old.started multi (given ErrorReport g.events ++ a ∷ []) ≡ pushing g.events l
   whole_run {on} {now} {s} a l g h = g.runs (a ∷ []) ∙ ap (pushing g.events) h
 
-  whole_taken : (es : List (Ev × Position)) (a : Answer Fault) (l m : Loaded Fault) → m ≡ pushing es l → l.taken ≡ 1 → m.taken ≡ length (given Fault es ++ a ∷ [])
-  whole_taken es a l m h t = ap (λ x. x.taken) h ∙ taken_all es l ∙ ap (λ n. length es + n) t ∙ sym (length-append (given Fault es) (a ∷ []) ∙ ap (λ n. n + 1) (given_length es))
+  whole_taken : (es : List (Ev × Position)) (a : Answer ErrorReport) (l m : Loaded ErrorReport) → m ≡ pushing es l → l.taken ≡ 1 → m.taken ≡ length (given ErrorReport es ++ a ∷ [])
+  whole_taken es a l m h t = ap (λ x. x.taken) h ∙ taken_all es l ∙ ap (λ n. length es + n) t ∙ sym (length-append (given ErrorReport es) (a ∷ []) ∙ ap (λ n. n + 1) (given_length es))
 
-  pub faults : {on : List (Answer Fault) → Loaded Fault} {now now' : Parsed} {s : R} (f : Fault) → Going takes multi old r on now s → on (fault f ∷ []) ≡ ends (run.faulted f) 1 → Pulls now (fault f) now' → Loads takes multi old r (Err f) now' s
+  pub faults : {on : List (Answer ErrorReport) → Loaded ErrorReport} {now now' : Parsed} {s : R} (f : ErrorReport) → Going takes multi old r on now s → on (fault f ∷ []) ≡ ends (run.faulted f) 1 → Pulls now (fault f) now' → Loads takes multi old r (Err f) now' s
   faults {on} {now} {now'} {s} f g h pulls =
       let l = ends (run.faulted f) 1 in
       let w = whole_run (fault f) l g h in
       record {
-        answers = given Fault g.events ++ fault f ∷ [];
+        answers = given ErrorReport g.events ++ fault f ∷ [];
         after = now';
         pulled = one_call (fault f) g.pulled pulls;
         taken = whole_taken g.events (fault f) l _ w refl;
         ends = loads.faulted (ap (λ x. x.ending) w ∙ ending_all g.events l) pulls.fault (subst (λ xs. Receives takes r xs s) (sym (ap (λ x. x.pushed) w ∙ pushed_all g.events l ∙ append-nil g.events)) g.received);
       }
 
-  pub misplaces : {on : List (Answer Fault) → Loaded Fault} {now now' : Parsed} {s : R} (e : Ev) (p : Position) → Going takes multi old r on now s → on (event e p ∷ []) ≡ ends (run.no_document p) 1 → Pulls now (event e p) now'
+  pub misplaces : {on : List (Answer ErrorReport) → Loaded ErrorReport} {now now' : Parsed} {s : R} (e : Ev) (p : Position) → Going takes multi old r on now s → on (event e p ∷ []) ≡ ends (run.no_document p) 1 → Pulls now (event e p) now'
       → Loads takes multi old r (Err (no_document p)) (record now' { fault = Some (no_document p) }) s
   misplaces {on} {now} {now'} {s} e p g h pulls =
       let l = ends (run.no_document p) 1 in
       let w = whole_run (event e p) l g h in
       record {
-        answers = given Fault g.events ++ event e p ∷ [];
+        answers = given ErrorReport g.events ++ event e p ∷ [];
         after = now';
         pulled = one_call (event e p) g.pulled pulls;
         taken = whole_taken g.events (event e p) l _ w refl;
@@ -244,12 +244,12 @@ module _ {R : Type 0} (takes : R → Ev → Position → Result (Unit {0}) Fault
       }
 
   -- The receiver refuses an event.
-  pub refuses : {on : List (Answer Fault) → Loaded Fault} {now now' : Parsed} {s s' : R} (e : Ev) (p : Position) (f : Fault) (l : Loaded Fault) → Going takes multi old r on now s → on (event e p ∷ []) ≡ push e p l → l.pushed ≡ [] → l.taken ≡ 0
+  pub refuses : {on : List (Answer ErrorReport) → Loaded ErrorReport} {now now' : Parsed} {s s' : R} (e : Ev) (p : Position) (f : ErrorReport) (l : Loaded ErrorReport) → Going takes multi old r on now s → on (event e p ∷ []) ≡ push e p l → l.pushed ≡ [] → l.taken ≡ 0
       → Pulls now (event e p) now' → takes s e p (Err f) s' → Loads takes multi old r (Err f) now' s'
   refuses {on} {now} {now'} {s} {s'} e p f l g h none nil pulls took =
       let w = whole_run (event e p) (push e p l) g h in
       record {
-        answers = given Fault g.events ++ event e p ∷ [];
+        answers = given ErrorReport g.events ++ event e p ∷ [];
         after = now';
         pulled = one_call (event e p) g.pulled pulls;
         taken = whole_taken g.events (event e p) (push e p l) _ w (ap (λ n. n + 1) nil);
@@ -257,13 +257,13 @@ module _ {R : Type 0} (takes : R → Ev → Position → Result (Unit {0}) Fault
       }
 
   -- An event is taken, and the call ends well.
-  pub ends_well : {on : List (Answer Fault) → Loaded Fault} {now now' : Parsed} {s s' : R} (e : Ev) (p : Position) → Going takes multi old r on now s → on (event e p ∷ []) ≡ push e p (ends run.well 0)
+  pub ends_well : {on : List (Answer ErrorReport) → Loaded ErrorReport} {now now' : Parsed} {s s' : R} (e : Ev) (p : Position) → Going takes multi old r on now s → on (event e p ∷ []) ≡ push e p (ends run.well 0)
       → Pulls now (event e p) now' → takes s e p (Ok tt) s' → Loads takes multi old r (Ok tt) now' s'
   ends_well {on} {now} {now'} {s} {s'} e p g h pulls took =
-      let l = push {Fault = Fault} e p (ends run.well 0) in
+      let l = push {ErrorReport = ErrorReport} e p (ends run.well 0) in
       let w = whole_run (event e p) l g h in
       record {
-        answers = given Fault g.events ++ event e p ∷ [];
+        answers = given ErrorReport g.events ++ event e p ∷ [];
         after = now';
         pulled = one_call (event e p) g.pulled pulls;
         taken = whole_taken g.events (event e p) l _ w refl;
@@ -273,9 +273,9 @@ module _ {R : Type 0} (takes : R → Ev → Position → Result (Unit {0}) Fault
   -- A document was read, and no more is asked for.
   pub one_document : {now : Parsed} {s : R} → Going takes multi old r (after_document multi) now s → now.fault ≡ None → multi ≡ false → Loads takes multi old r (Ok tt) now s
   one_document {now} {s} g clear h =
-      let w : load old.started multi (given Fault g.events) ≡ pushing g.events (ends run.well 0) = ap (load old.started multi) (sym (append-nil (given Fault g.events))) ∙ g.runs [] ∙ ap (λ b. pushing g.events (if b then load_from run.between multi [] else ends run.well 0)) h in
+      let w : load old.started multi (given ErrorReport g.events) ≡ pushing g.events (ends run.well 0) = ap (load old.started multi) (sym (append-nil (given ErrorReport g.events))) ∙ g.runs [] ∙ ap (λ b. pushing g.events (if b then load_from run.between multi [] else ends run.well 0)) h in
       record {
-        answers = given Fault g.events;
+        answers = given ErrorReport g.events;
         after = now;
         pulled = g.pulled;
         taken = ap (λ x. x.taken) w ∙ taken_all g.events (ends run.well 0) ∙ omega (arith, given_length g.events);
@@ -283,7 +283,7 @@ module _ {R : Type 0} (takes : R → Ev → Position → Result (Unit {0}) Fault
       }
 
   -- A document was read, and another may come.
-  pub next_document : {now : Parsed} {s : R} → Going takes multi old r (after_document multi) now s → multi ≡ true → Stands takes multi old r run.between now s
+  pub next_document : {now : Parsed} {s : R} → Going takes multi old r (after_document multi) now s → multi ≡ true → RunsOn takes multi old r run.between now s
   next_document {now} {s} g h = record {
     events = g.events;
     pulled = g.pulled;
@@ -291,14 +291,14 @@ module _ {R : Type 0} (takes : R → Ev → Position → Result (Unit {0}) Fault
     runs = λ rest. g.runs rest ∙ ap (λ b. pushing g.events (if b then load_from run.between multi rest else ends run.well 0)) h;
   }
 
-  pub loads_err : (x : Result (Unit {0}) Fault) (f : Fault) {now : Parsed} {s : R} → IsErrAnd x (λ e. e ≡ f) → Loads takes multi old r (Err f) now s → Loads takes multi old r x now s
+  pub loads_err : (x : Result (Unit {0}) ErrorReport) (f : ErrorReport) {now : Parsed} {s : R} → IsErrAnd x (λ e. e ≡ f) → Loads takes multi old r (Err f) now s → Loads takes multi old r x now s
   loads_err (Ok u) f {now} {s} h y = absurd h
   loads_err (Err e) f {now} {s} h y = subst (λ z. Loads takes multi old r (Err z) now s) (sym h) y
 
-  pub after_err : (x : Result (Unit {0}) Fault) (f : Fault) {now : Parsed} {s : R} → IsErrAnd x (λ e. e ≡ f) → Loads takes multi old r (Err f) now s → IsAfter takes multi old r x now s
+  pub after_err : (x : Result (Unit {0}) ErrorReport) (f : ErrorReport) {now : Parsed} {s : R} → IsErrAnd x (λ e. e ≡ f) → Loads takes multi old r (Err f) now s → IsAfter takes multi old r x now s
   after_err (Ok u) f {now} {s} h y = absurd h
   after_err (Err e) f {now} {s} h y = subst (λ z. Loads takes multi old r (Err z) now s) (sym h) y
 
-  pub starts_err : (x : Result (Unit {0}) Fault) (f : Fault) {now : Parsed} {s : R} → IsErrAnd x (λ e. e ≡ f) → Loads takes multi old r (Err f) now s → StartsSo takes multi old r x now s
+  pub starts_err : (x : Result (Unit {0}) ErrorReport) (f : ErrorReport) {now : Parsed} {s : R} → IsErrAnd x (λ e. e ≡ f) → Loads takes multi old r (Err f) now s → StartsSo takes multi old r x now s
   starts_err (Ok u) f {now} {s} h y = absurd h
   starts_err (Err e) f {now} {s} h y = subst (λ z. Loads takes multi old r (Err z) now s) (sym h) y

@@ -11,7 +11,7 @@ use Rattle.std.proofs.lemmas.Map.Text.{btree_map_updates_text}
 use Rattle.std.proofs.lemmas.Bool.Decides.{same_from_decides, Decides-like}
 use Rattle.std.proofs.lemmas.Slice.Eq.{bytes_eq-Decides}
 use Rattle.std.proofs.lemmas.Str.{encodes-chars, IsUtf8-string_bytes}
-use Rattle.defs_text.specs.Text.{string_chars, is_nil}
+use Rattle.defs_text.specs.Text.{string_chars, is_empty}
 use Rattle.yaml_chars.proofs.TextLemmas.{is_nil_chars}
 use Rattle.yaml_tokens.specs.declared.problem.Fault.TheVariants.{OutOfMemory}
 use Rattle.yaml_tokens.specs.declared.problem.Fault.TheVariants as fault
@@ -23,7 +23,7 @@ use Rattle.yaml_parser.specs.Shown.{tag_of}
 use Rattle.defs_text.specs.Position.{Position}
 use Rattle.yaml_parser.specs.Resolves.{Resolves, IsUndeclared}
 
-nil_of : (xs : List ℕ) → is_nil xs ≡ true → xs ≡ []
+nil_of : (xs : List ℕ) → is_empty xs ≡ true → xs ≡ []
 nil_of [] h = refl
 nil_of (x ∷ xs) h = cc
 
@@ -51,7 +51,7 @@ empty_chars s h = nil_of (chars (string_bytes s)) (is_nil_chars s ∙ h)
 
 pub nonempty_chars : (s : String Global) → (length (string_bytes s) == 0) ≡ false → string_chars s ≢ []
 unfolding string_chars
-nonempty_chars s h e = let f : true ≡ false = sym (ap is_nil e) ∙ is_nil_chars s ∙ h in cc
+nonempty_chars s h e = let f : true ≡ false = sym (ap is_empty e) ∙ is_nil_chars s ∙ h in cc
 
 pub resolved_empty : (handles : List (List ℕ × List ℕ)) (h x : List ℕ) → h ≡ [] → resolved handles (record { handle = h; suffix = x }) ≡ Some (record { handle = h; suffix = x })
 resolved_empty handles [] x e = refl

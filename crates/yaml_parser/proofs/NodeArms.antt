@@ -18,13 +18,13 @@ use Rattle.defs_event.specs.Event as event
 use Rattle.defs_event.specs.Event.{Ev}
 use Rattle.defs_event.specs.Raw.{Raw}
 use Rattle.defs_event.specs.Grammar as written
-use Rattle.defs_event.specs.Grammar.{perhaps_anchor_of, perhaps_tag_of, stream_tokens, stream_events}
+use Rattle.defs_event.specs.Grammar.{perhaps_anchor_of, perhaps_tag_of, stream_tokens, stream_events, items_events, flow_pairs_events, entries_events, pairs_events, perhaps_events, dashes_events, scalar, flow_sequence, flow_mapping, flow, block_sequence, block_mapping, flow_properties, block_properties}
 use Rattle.defs_event.specs.Names.{Names, number, with_anchor, names_after, names_after_all, both, named, no_names, resolved_event, perhaps_resolved, resolved, under_name}
 use Rattle.defs_token.specs.Toks.{toks}
 use Rattle.defs_event.specs.Stream.{has_place, gives_place, BeginsPlaced as Opens}
 use Rattle.model_parser.specs.declared.kind.Kind.{Kind}
-use Rattle.model_parser.specs.declared.place.Place as places
-use Rattle.model_parser.specs.declared.place.Place.TheVariants as place
+use Rattle.model_parser.specs.declared.place.NodeContext as places
+use Rattle.model_parser.specs.declared.place.NodeContext.TheVariants as place
 use Rattle.model_parser.specs.declared.state.State.{State}
 use Rattle.model_parser.specs.Kinds.{kind_of, tok_of_kind, has_no_text}
 use Rattle.model_parser.specs.Goal as at
@@ -32,9 +32,8 @@ use Rattle.model_parser.specs.Goal.{Goal, Awaits, goal_tokens, ContentAt, part_n
 use Rattle.model_parser.proofs.Nodes as turn
 use Rattle.model_parser.specs.declared.kind.Kind.TheVariants as kind
 use Rattle.yaml_parser.specs.Resolves.{Resolves}
-use Rattle.defs_event.specs.Grammar.{items_events, flow_pairs_events, entries_events, pairs_events, perhaps_events, dashes_events, scalar, flow_sequence, flow_mapping, flow, block_sequence, block_mapping, flow_properties, block_properties}
 use Rattle.model_parser.specs.Rest.{Rest, rest_tokens, rest_events, still_events}
-use Rattle.model_parser.specs.Stands.{Begins as Starts}
+use Rattle.model_parser.specs.Stands.{IsNext as Starts}
 use Rattle.model_parser.specs.Turn.{Takes, Leaves, event_then}
 use Rattle.model_parser.proofs.First.{tok_is}
 use Rattle.model_parser.proofs.Apart.{no_two_anchors}
@@ -84,7 +83,7 @@ made_named {T} {p} {r} {mk} {f} {s} {o} {x} k h keep code = record {
 }
 
 -- The start of a collection is taken, and its properties are registered.
-pub starts : {T : Type 0} (m : Position) {p q : Reader T} (r : Reader T) {k k' : Kind} {w : places.Place} {o : Option written.Properties} {x : Option Properties} {ss : List State} (mk : Option (List ℕ) → Option event.Tag → Raw) (f : ℕ → Option event.Tag → Ev) {s : Names} {given : List (Ev × Position)} (res : Result (Event × Position) Stop)
+pub starts : {T : Type 0} (m : Position) {p q : Reader T} (r : Reader T) {k k' : Kind} {w : places.NodeContext} {o : Option written.Properties} {x : Option Properties} {ss : List State} (mk : Option (List ℕ) → Option event.Tag → Raw) (f : ℕ → Option event.Tag → Ev) {s : Names} {given : List (Ev × Position)} (res : Result (Event × Position) Stop)
     → Makes mk f → IsOfKind k' p.tokens.peeked → k' ≡ k → has_no_text k ≡ true → is_end (tok_of_kind k) ≡ false
     → ((a : Option (List ℕ)) (t : Option event.Tag) → has_place (mk a t) ≡ gives_place (tok_of_kind k)) → IfSome p.tokens.peeked (λ t. t.0 ≡ m) → Skipped p q ss
     → Takes (at.after_properties w o) p.stack (tok_of_kind k) (Some (mk (perhaps_anchor_of o) (perhaps_tag_of o))) at.done ss
@@ -107,7 +106,7 @@ starts {T} m {p} {q} r {k} {k'} {w} {o} {x} {ss} mk f {s} {given} (Ok e) makes h
     subst (λ z. (names : Names) × At (goal_after_event z.0) r names (given ++ z ∷ [])) (sym g.value) two
 
 -- A scalar is taken, and its properties are registered.
-pub scalar_taken : {T : Type 0} (m : Position) {p q r : Reader T} {y : Style} {v : List ℕ} {n : ℕ} {u : Option event.Tag} {w : places.Place} {o : Option written.Properties} {x : Option Properties} {ss : List State} {s : Names} {given : List (Ev × Position)}
+pub scalar_taken : {T : Type 0} (m : Position) {p q r : Reader T} {y : Style} {v : List ℕ} {n : ℕ} {u : Option event.Tag} {w : places.NodeContext} {o : Option written.Properties} {x : Option Properties} {ss : List State} {s : Names} {given : List (Ev × Position)}
     → {t : Token} → p.tokens.peeked ≡ Some t → t.0 ≡ m → Skips p.tokens t q.tokens → q.stack ≡ ss → q.names ≡ p.names → tok_of t.1 ≡ Tok.scalar y v
     → Takes (at.after_properties w o) p.stack (Tok.scalar y v) (Some (Raw.scalar v y (perhaps_anchor_of o) (perhaps_tag_of o))) at.done ss
     → ((names : Names) → IsNamed q.names names → Registers q x names (λ a b. (n ≡ a) × (u ≡ b)) r)
@@ -209,7 +208,7 @@ unnamed_at {T} {p = p} {r = r} {t = t} q fit of_names stands here skips keep tur
 -- ---- small steps
 
 -- what is pending does not depend on the place
-pub pending_same : (w u : places.Place) (names : Names) (o : Option written.Properties) → IsPending names (at.after_properties w o) → IsPending names (at.after_properties u o)
+pub pending_same : (w u : places.NodeContext) (names : Names) (o : Option written.Properties) → IsPending names (at.after_properties w o) → IsPending names (at.after_properties u o)
 pending_same w u names None h = tt
 pending_same w u names (Some o) h = h
 
@@ -229,7 +228,7 @@ pub block_mapping_alone : HasNoProperties kind.BlockMappingStart
 block_mapping_alone = record { alias = λ e. cc; anchor = λ e. cc; tag = λ e. cc }
 
 -- a node without properties
-pub bare : {T : Type 0} {p : Reader T} {k : Kind} (w : places.Place) {names : Names} {given : List (Ev × Position)} → IsOfKind k p.tokens.peeked → HasNoProperties k
+pub bare : {T : Type 0} {p : Reader T} {k : Kind} (w : places.NodeContext) {names : Names} {given : List (Ev × Position)} → IsOfKind k p.tokens.peeked → HasNoProperties k
     → At (at.node w) p names given → At (at.after_properties w None) p names given
 bare w here plain a = stays here stay (λ t h. turn.node_content _ _ t (not_as plain.alias h) (not_as plain.anchor h) (not_as plain.tag h)) refl tt refl a
 
@@ -244,7 +243,7 @@ block_in_flow : {T : Type 0} {p : Reader T} {k : Kind} (o : Option written.Prope
 block_in_flow o {names} here none a = stays here stay (λ t e. turn.block_flow _ o t (not_as none.sequence e) (not_as none.mapping e)) refl (pending_same place.Block place.Flow names o a.pending) refl a
 
 -- What begins no block collection is flow content, wherever it stands.
-pub in_flow : {T : Type 0} {p : Reader T} {k : Kind} (w : places.Place) (o : Option written.Properties) {names : Names} {given : List (Ev × Position)} → IsOfKind k p.tokens.peeked → BeginsNoBlock k
+pub in_flow : {T : Type 0} {p : Reader T} {k : Kind} (w : places.NodeContext) (o : Option written.Properties) {names : Names} {given : List (Ev × Position)} → IsOfKind k p.tokens.peeked → BeginsNoBlock k
     → At (at.after_properties w o) p names given → At (at.after_properties place.Flow o) p names given
 in_flow place.Flow o here none a = a
 in_flow place.Block o here none a = block_in_flow o here none a
@@ -270,7 +269,7 @@ pub alias_text : {t : Tok} {x : List ℕ} → kind_of t ≡ kind.Alias → (t �
 alias_text {t} {x} h (inl e) = e
 alias_text {t} {x} h (inr e) = let f : kind.Anchor ≡ kind.Alias = sym (ap kind_of e) ∙ h in cc
 
-pub alias_taken : {T : Type 0} (m : Position) {p r : Reader T} {t : Token} {w : places.Place} {x : List ℕ} {n : ℕ} {names : Names} {given : List (Ev × Position)}
+pub alias_taken : {T : Type 0} (m : Position) {p r : Reader T} {t : Token} {w : places.NodeContext} {x : List ℕ} {n : ℕ} {names : Names} {given : List (Ev × Position)}
     → p.tokens.peeked ≡ Some t → t.0 ≡ m → Skips p.tokens t r.tokens → r.stack ≡ p.stack → r.names ≡ p.names → tok_of t.1 ≡ Tok.alias x → under_name x names.anchors ≡ Some n
     → At (at.node w) p names given → (names' : Names) × At at.done r names' (given ++ (Ev.alias n, m) ∷ [])
 alias_taken {T} m {p} {r} {t} {w} {x} {n} {names} {given} here mark skips stack same tok found a = (
@@ -283,37 +282,37 @@ alias_taken {T} m {p} {r} {t} {w} {x} {n} {names} {given} here mark skips stack 
 unknown_is_other : UnknownAnchor ≡ UndeclaredHandle → ⊥
 unknown_is_other e = cc
 
-pub alias_unknown : {T : Type 0} {p r : Reader T} {t : Token} {m : Position} {w : places.Place} {x : List ℕ} {names : Names} {given : List (Ev × Position)}
+pub alias_unknown : {T : Type 0} {p r : Reader T} {t : Token} {m : Position} {w : places.NodeContext} {x : List ℕ} {names : Names} {given : List (Ev × Position)}
     → p.tokens.peeked ≡ Some t → t.0 ≡ m → Skips p.tokens t r.tokens → r.names ≡ p.names → tok_of t.1 ≡ Tok.alias x → under_name x names.anchors ≡ None → At (at.node w) p names given → Faulted r given (stop.Own (fault.At UnknownAnchor m))
 alias_unknown {T} {p} {r} {t} {m} {w} {x} {names} {given} here mark skips same tok missing a =
     unnamed_at UnknownAnchor (ap (λ u. fits UnknownAnchor (kind_of u)) tok) refl (inl (sym mark, λ e. absurd (unknown_is_other e))) here skips (ap (λ z. z.keeping) same) (subst (λ u. Takes (at.node w) p.stack u (Some (Raw.alias x)) at.done p.stack) (sym tok) (turn.node_alias w p.stack x))
     (λ y z. unnameable_first p.names.keeping.tags names (Raw.alias x) (still_events at.done p.stack y z) (ap (option_map Ev.alias) missing)) a
 
-pub anchor_taken : {T : Type 0} {p r : Reader T} {t : Token} {w : places.Place} {x : List ℕ} {names : Names} {given : List (Ev × Position)}
+pub anchor_taken : {T : Type 0} {p r : Reader T} {t : Token} {w : places.NodeContext} {x : List ℕ} {names : Names} {given : List (Ev × Position)}
     → p.tokens.peeked ≡ Some t → Skips p.tokens t r.tokens → r.stack ≡ p.stack → r.names ≡ p.names → tok_of t.1 ≡ Tok.anchor x → At (at.node w) p names given → At (at.after_anchor w x) r names given
 anchor_taken {T} {p} {r} {t} {w} {x} {names} {given} here skips stack same tok a =
     took_on here skips stack (subst (λ u. Takes (at.node w) p.stack u None (at.after_anchor w x) p.stack) (sym tok) (turn.node_anchor w p.stack x))
     (ap (λ z. z.keeping) same) (subst (λ z. IsNamed z names) (sym same) a.code) tt (λ b. (refl, ap is_end tok)) (ap gives_place tok) a
 
-pub tag_taken : {T : Type 0} {p r : Reader T} {t : Token} {w : places.Place} {x : event.Tag} {u : event.Tag} {names : Names} {given : List (Ev × Position)}
+pub tag_taken : {T : Type 0} {p r : Reader T} {t : Token} {w : places.NodeContext} {x : event.Tag} {u : event.Tag} {names : Names} {given : List (Ev × Position)}
     → p.tokens.peeked ≡ Some t → Skips p.tokens t r.tokens → r.stack ≡ p.stack → r.names ≡ p.names → tok_of t.1 ≡ written.tag_token x → resolved names.handles x ≡ Some u → At (at.node w) p names given → At (at.after_tag w x) r names given
 tag_taken {T} {p} {r} {t} {w} {x} {u} {names} {given} here skips stack same tok known a =
     took_on here skips stack (subst (λ z. Takes (at.node w) p.stack z None (at.after_tag w x) p.stack) (sym tok) (turn.node_tag w p.stack x))
     (ap (λ z. z.keeping) same) (subst (λ z. IsNamed z names) (sym same) a.code) (is_some_of known) (λ b. (refl, ap is_end tok)) (ap gives_place tok) a
 
-pub tag_after_anchor : {T : Type 0} {p r : Reader T} {t : Token} {w : places.Place} {y : List ℕ} {x : event.Tag} {u : event.Tag} {names : Names} {given : List (Ev × Position)}
+pub tag_after_anchor : {T : Type 0} {p r : Reader T} {t : Token} {w : places.NodeContext} {y : List ℕ} {x : event.Tag} {u : event.Tag} {names : Names} {given : List (Ev × Position)}
     → p.tokens.peeked ≡ Some t → Skips p.tokens t r.tokens → r.stack ≡ p.stack → r.names ≡ p.names → tok_of t.1 ≡ written.tag_token x → resolved names.handles x ≡ Some u → At (at.after_anchor w y) p names given → At (at.after_properties w (Some (written.anchored_tagged y x))) r names given
 tag_after_anchor {T} {p} {r} {t} {w} {y} {x} {u} {names} {given} here skips stack same tok known a =
     took_on here skips stack (subst (λ z. Takes (at.after_anchor w y) p.stack z None (at.after_properties w (Some (written.anchored_tagged y x))) p.stack) (sym tok) (turn.anchor_tag w p.stack y x))
     (ap (λ z. z.keeping) same) (subst (λ z. IsNamed z names) (sym same) a.code) (is_some_of (ap (option_map Some) known)) (λ b. (refl, ap is_end tok)) (ap gives_place tok) a
 
-pub anchor_after_tag : {T : Type 0} {p r : Reader T} {t : Token} {w : places.Place} {y : List ℕ} {x : event.Tag} {u : event.Tag} {names : Names} {given : List (Ev × Position)}
+pub anchor_after_tag : {T : Type 0} {p r : Reader T} {t : Token} {w : places.NodeContext} {y : List ℕ} {x : event.Tag} {u : event.Tag} {names : Names} {given : List (Ev × Position)}
     → p.tokens.peeked ≡ Some t → Skips p.tokens t r.tokens → r.stack ≡ p.stack → r.names ≡ p.names → tok_of t.1 ≡ Tok.anchor y → resolved names.handles x ≡ Some u → At (at.after_tag w x) p names given → At (at.after_properties w (Some (written.tagged_anchored x y))) r names given
 anchor_after_tag {T} {p} {r} {t} {w} {y} {x} {u} {names} {given} here skips stack same tok known a =
     took_on here skips stack (subst (λ z. Takes (at.after_tag w x) p.stack z None (at.after_properties w (Some (written.tagged_anchored x y))) p.stack) (sym tok) (turn.tag_anchor w p.stack x y))
     (ap (λ z. z.keeping) same) (subst (λ z. IsNamed z names) (sym same) a.code) (is_some_of (ap (option_map Some) known)) (λ b. (refl, ap is_end tok)) (ap gives_place tok) a
 
-content_unnameable : (keep : Bool) (s : Names) (w : places.Place) (o : Option written.Properties) (c : Option (ContentAt w)) (r : List Raw) → perhaps_resolved s.handles (perhaps_tag_of o) ≡ None → Unnameable keep s (perhaps_content_events w o c r)
+content_unnameable : (keep : Bool) (s : Names) (w : places.NodeContext) (o : Option written.Properties) (c : Option (ContentAt w)) (r : List Raw) → perhaps_resolved s.handles (perhaps_tag_of o) ≡ None → Unnameable keep s (perhaps_content_events w o c r)
 content_unnameable keep s w o None r h = unnameable_first keep s (Raw.empty_scalar (perhaps_anchor_of o) (perhaps_tag_of o)) r (ap (option_map (λ u. Ev.scalar [] Style.plain (number s (perhaps_anchor_of o)) u)) h)
 content_unnameable keep s place.Flow o (Some (scalar y v)) r h = unnameable_first keep s (Raw.scalar v y (perhaps_anchor_of o) (perhaps_tag_of o)) r (ap (option_map (λ u. Ev.scalar v y (number s (perhaps_anchor_of o)) u)) h)
 content_unnameable keep s place.Flow o (Some (flow_sequence i)) r h = unnameable_first keep s (Raw.flow_sequence_start (perhaps_anchor_of o) (perhaps_tag_of o)) (items_events i r) (ap (option_map (λ u. Ev.sequence_start (number s (perhaps_anchor_of o)) u)) h)
@@ -334,12 +333,12 @@ tag_and_tag : (x : event.Tag) (y : Option (List ℕ)) → perhaps_tag_of (Some (
 tag_and_tag x None = refl
 tag_and_tag x (Some y) = refl
 
-abbrev node_with_anchor : (w : places.Place) → Awaits (at.node w)
+abbrev node_with_anchor : (w : places.NodeContext) → Awaits (at.node w)
 node_with_anchor place.Flow = flow_properties (written.anchored [])
 node_with_anchor place.Block = block_properties (written.anchored [])
 node_with_anchor place.Part = part_node (block_properties (written.anchored []))
 
-begins_with_anchor : (w : places.Place) (r : List Tok) → goal_tokens (at.node w) (node_with_anchor w) r ≡ Tok.anchor [] ∷ r
+begins_with_anchor : (w : places.NodeContext) (r : List Tok) → goal_tokens (at.node w) (node_with_anchor w) r ≡ Tok.anchor [] ∷ r
 begins_with_anchor place.Flow r = refl
 begins_with_anchor place.Block r = refl
 begins_with_anchor place.Part r = refl
@@ -349,7 +348,7 @@ anchor_named (Tok.anchor n) h = (n, refl)
 anchor_named _ h = cc
 
 -- Where a node is to be read, no anchor was taken last.
-no_anchor_before : {T : Type 0} {p : Reader T} {m : Position} (w : places.Place) {names : Names} {given : List (Ev × Position)}
+no_anchor_before : {T : Type 0} {p : Reader T} {m : Position} (w : places.NodeContext) {names : Names} {given : List (Ev × Position)}
     → At (at.node w) p names given → EndsInAnchor (all_shown p.tokens.taken.items) m → ⊥
 no_anchor_before {T} {p} {m} w a e =
     let d = a.stands.sound (node_with_anchor w) (ending p.stack) in
@@ -360,13 +359,13 @@ no_anchor_before {T} {p} {m} w a e =
     no_two_anchors d.0 (toks e.before) n.0 [] rest
     (d.1 ∙ ap (λ xs. taken_toks p.tokens ++ xs) (begins_with_anchor w rest) ∙ ap (λ xs. xs ++ Tok.anchor [] ∷ rest) taken ∙ append_assoc (toks e.before) (Tok.anchor n.0 ∷ []) (Tok.anchor [] ∷ rest))
 
-pub tag_unknown : {T : Type 0} {p r : Reader T} {t : Token} {m : Position} {w : places.Place} {x : event.Tag} {names : Names} {given : List (Ev × Position)}
+pub tag_unknown : {T : Type 0} {p r : Reader T} {t : Token} {m : Position} {w : places.NodeContext} {x : event.Tag} {names : Names} {given : List (Ev × Position)}
     → p.tokens.peeked ≡ Some t → t.0 ≡ m → Skips p.tokens t r.tokens → r.names ≡ p.names → tok_of t.1 ≡ written.tag_token x → resolved names.handles x ≡ None → At (at.node w) p names given → Faulted r given (stop.Own (fault.At UndeclaredHandle m))
 tag_unknown {T} {p} {r} {t} {m} {w} {x} {names} {given} here mark skips same tok missing a =
     unnamed_at UndeclaredHandle (ap (λ u. fits UndeclaredHandle (kind_of u)) tok) refl (inl (sym mark, λ e q before. no_anchor_before w a before)) here skips (ap (λ z. z.keeping) same) (subst (λ z. Takes (at.node w) p.stack z None (at.after_tag w x) p.stack) (sym tok) (turn.node_tag w p.stack x))
     (λ y z. content_unnameable p.names.keeping.tags names w (Some (tag_and x y.0)) y.1 (rest_events p.stack z) (ap (perhaps_resolved names.handles) (tag_and_tag x y.0) ∙ ap (option_map Some) missing)) a
 
-pub tag_unknown_after : {T : Type 0} {p r : Reader T} {t : Token} {m : Position} {w : places.Place} {v : List ℕ} {x : event.Tag} {names : Names} {given : List (Ev × Position)}
+pub tag_unknown_after : {T : Type 0} {p r : Reader T} {t : Token} {m : Position} {w : places.NodeContext} {v : List ℕ} {x : event.Tag} {names : Names} {given : List (Ev × Position)}
     → p.tokens.peeked ≡ Some t → EndsInAnchor (all_shown p.tokens.taken.items) m → Skips p.tokens t r.tokens → r.names ≡ p.names → tok_of t.1 ≡ written.tag_token x → resolved names.handles x ≡ None → At (at.after_anchor w v) p names given → Faulted r given (stop.Own (fault.At UndeclaredHandle m))
 tag_unknown_after {T} {p} {r} {t} {m} {w} {v} {x} {names} {given} here anchored skips same tok missing a =
     unnamed_at UndeclaredHandle (ap (λ u. fits UndeclaredHandle (kind_of u)) tok) refl (inr (refl, anchored)) here skips (ap (λ z. z.keeping) same) (subst (λ z. Takes (at.after_anchor w v) p.stack z None (at.after_properties w (Some (written.anchored_tagged v x))) p.stack) (sym tok) (turn.anchor_tag w p.stack v x))

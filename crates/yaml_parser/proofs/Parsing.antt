@@ -6,7 +6,7 @@ use Rattle.std.specs.Result.{IsErrAnd}
 use Rattle.std.proofs.lemmas.Bool.{both_ways, and_parts, not-true}
 use Rattle.std.proofs.lemmas.List.{map-append}
 use Rattle.defs_text.specs.Position.{Position}
-use Rattle.yaml_tokens.specs.Fault.{Fault}
+use Rattle.yaml_tokens.specs.ErrorReport.{ErrorReport}
 use Rattle.yaml_tokens.specs.declared.problem.Fault.TheVariants.{OutOfMemory}
 use Rattle.yaml_tokens.specs.declared.problem.Fault.TheVariants as fault
 use Rattle.yaml_scanner.specs.Scanned.{scanned}
@@ -18,7 +18,7 @@ use Rattle.defs_token.specs.Toks.{toks}
 use Rattle.defs_event.specs.Stream.{events_of, BeginsPlaced, NoneBegins}
 use Rattle.yaml_parser.specs.declared.event.Event.{Event}
 use Rattle.yaml_parser.specs.declared.names.Keeping.{Keeping}
-use Rattle.yaml_parser.specs.declared.tokens.Kept.{Kept}
+use Rattle.yaml_parser.specs.declared.tokens.KeptStop.{KeptStop}
 use Rattle.yaml_parser.specs.declared.tokens.Stop.{Stop}
 use Rattle.yaml_parser.specs.declared.tokens.Stop.TheVariants as stop
 use Rattle.yaml_parser.specs.declared.pull.Pull.{Pull}
@@ -148,12 +148,12 @@ reads_given : (given : List (Ev × Position)) (current : Option (Event × Positi
 reads_given given None ended n = read_none given ended
 reads_given given (Some e) ended n = cc
 
-fault_open : {T : Type 0} (p : Reader T) (es : List (Ev × Position)) (o : Option Kept) {f : Fault} → option_map (λ k. fault_seen k.stop k.mark (scanned p.tokens.scanner).fault) o ≡ Some f → IsHeld p es o → has_end es ≡ false
+fault_open : {T : Type 0} (p : Reader T) (es : List (Ev × Position)) (o : Option KeptStop) {f : ErrorReport} → option_map (λ k. fault_seen k.stop k.mark (scanned p.tokens.scanner).fault) o ≡ Some f → IsHeld p es o → has_end es ≡ false
 fault_open {T} p es None h x = cc
 fault_open {T} p es (Some k) h x = x.0
 
 -- A fault is met.
-pub fault_holds : {T : Type 0} (pull new : Pull T) (given : List (Ev × Position)) (current : Option (Event × Position)) (started ended : Bool) (misplaced : Option Position) {f : Fault}
+pub fault_holds : {T : Type 0} (pull new : Pull T) (given : List (Ev × Position)) (current : Option (Event × Position)) (started ended : Bool) (misplaced : Option Position) {f : ErrorReport}
     → Holds pull given (option_map placed current) started ended misplaced → is_some current ≡ false
     → Continues pull (read_so given ended (option_map placed current)) (Err f) new → fault_kept new ≡ Some f → Holds new given (option_map placed current) started ended misplaced
 fault_holds {T} pull new given current started ended misplaced {f} h none x kept =
@@ -166,13 +166,13 @@ fault_holds {T} pull new given current started ended misplaced {f} h none x kept
       over = λ b. absurd (both_ways ended going b);
     }
 
-err_same : {x y : Fault} → ◌≡◌ {A = Result (Event × Position) Fault} (Err x) (Err y) → x ≡ y
+err_same : {x y : ErrorReport} → ◌≡◌ {A = Result (Event × Position) ErrorReport} (Err x) (Err y) → x ≡ y
 err_same {x} {y} h = cc
 
-pub fault_given : {T : Type 0} (pull new : Pull T) (given : List (Ev × Position)) (current : Option (Event × Position)) (started ended : Bool) (misplaced : Option Position) (f : Fault)
+pub fault_given : {T : Type 0} (pull new : Pull T) (given : List (Ev × Position)) (current : Option (Event × Position)) (started ended : Bool) (misplaced : Option Position) (f : ErrorReport)
     → Holds pull given (option_map placed current) started ended misplaced → is_some current ≡ false → misplaced ≡ None
     → Continues pull (read_so given ended (option_map placed current)) (Err f) new → fault_kept new ≡ Some f
-    → IfSome (fault_kept pull) (λ g. (◌≡◌ {A = Result (Event × Position) Fault} (Err f) (Err g)) × (new ≡ pull)) → new.reader.names.keeping ≡ pull.reader.names.keeping
+    → IfSome (fault_kept pull) (λ g. (◌≡◌ {A = Result (Event × Position) ErrorReport} (Err f) (Err g)) × (new ≡ pull)) → new.reader.names.keeping ≡ pull.reader.names.keeping
     → GivesFault (seen pull given current started ended misplaced) f (seen new given current started ended misplaced)
 fault_given {T} pull new given current started ended misplaced f h none clear x kept again keeping =
     let es = read_so given ended (option_map placed current) in
@@ -189,11 +189,11 @@ fault_given {T} pull new given current started ended misplaced f h none clear x 
       why = λ b. held_explained new.reader es new.kept f kept x (seen new given current started ended misplaced) (shows new given current started ended misplaced es refl);
     }
   where
-    again_seen : (o : Option Fault) → IfSome o (λ g. (◌≡◌ {A = Result (Event × Position) Fault} (Err f) (Err g)) × (new ≡ pull)) → IfSome o (λ g. (f ≡ g) × (seen new given current started ended misplaced ≡ seen pull given current started ended misplaced))
+    again_seen : (o : Option ErrorReport) → IfSome o (λ g. (◌≡◌ {A = Result (Event × Position) ErrorReport} (Err f) (Err g)) × (new ≡ pull)) → IfSome o (λ g. (f ≡ g) × (seen new given current started ended misplaced ≡ seen pull given current started ended misplaced))
     again_seen None a = tt
     again_seen (Some g) a = (err_same a.0, ap (λ p. seen p given current started ended misplaced) a.1)
 
-pub looks_err : (old new : Parsed) (r : Result (Unit {0}) Fault) (f : Fault) → IsErrAnd r (λ e. e ≡ f) → GivesFault old f new → Looks old r new
+pub looks_err : (old new : Parsed) (r : Result (Unit {0}) ErrorReport) (f : ErrorReport) → IsErrAnd r (λ e. e ≡ f) → GivesFault old f new → Looks old r new
 looks_err old new (Ok u) f h x = absurd h
 looks_err old new (Err e) f h x = subst (λ y. GivesFault old y new) (sym h) x
 
@@ -382,7 +382,7 @@ at_keeping {T} b p k names es f a =
     same_code : IsNamed p.names names → IsNamed (record (p.names) { keeping = k }) names
     same_code c = record { count = c.count; anchors = c.anchors; handles = c.handles; numbers = c.numbers }
 
-held_keeping : {T : Type 0} (p : Reader T) (k : Keeping) (es : List (Ev × Position)) (o : Option Kept)
+held_keeping : {T : Type 0} (p : Reader T) (k : Keeping) (es : List (Ev × Position)) (o : Option KeptStop)
     → (k.steady ≡ true → (p.names.keeping.steady ≡ true) × (((es ≡ []) × (o ≡ None)) ⊎ (k.tags ≡ p.names.keeping.tags)))
     → IsHeld p es o → IsHeld (record p { names = record (p.names) { keeping = k } }) es o
 held_keeping {T} p k es None f x = (x.0, at_keeping (has_end es) p k x.0 es (λ s. ((f s).0, elim (f s).1 [ inl none ↦ inl none.0 | inr same ↦ inr same ])) x.1)

@@ -17,7 +17,7 @@ use Rattle.model_parser.specs.declared.kind.Kind.{Kind}
 use Rattle.model_parser.specs.declared.state.State.{State}
 use Rattle.model_parser.specs.Kinds.{kind_of}
 use Rattle.model_parser.specs.Goal.{Goal}
-use Rattle.model_parser.specs.Stands.{Stands}
+use Rattle.model_parser.specs.Stands.{IsOnTrack}
 use Rattle.model_parser.specs.Turn.{Takes, Leaves}
 use Rattle.model_parser.proofs.Carry.{stands_take, stands_leave}
 use Rattle.yaml_parser.specs.declared.tokens.Tokens.{Tokens}
@@ -68,7 +68,7 @@ pub looked : (k : Kind) (o : Option Token) → IsOfKind k o → (t : Token) × (
 looked k None h = absurd h
 looked k (Some t) h = (t, refl, h)
 
-stands_look : (g : Goal) (ss : List State) (taken : List Tok) (o : Option Tok) (given : List Raw) → Stands g ss taken None given → Stands g ss taken o given
+stands_look : (g : Goal) (ss : List State) (taken : List Tok) (o : Option Tok) (given : List Raw) → IsOnTrack g ss taken None given → IsOnTrack g ss taken o given
 stands_look g ss taken o given s = record { nested = s.nested; fits = s.fits; sound = s.sound; exact = λ d ts h u. s.exact d ts h tt }
 
 skipped_handed : {T : Type 0} {p r : Tokens T} {t : Token} → p.peeked ≡ Some t → Skips p t r → IsHanded p → IsHanded r
@@ -82,12 +82,12 @@ skipped_awake {T} {p} {r} {t} here s e a =
     ap (λ x. (scanned x).ended) s.scanner ∙ a ∙ ap ends here ∙ e ∙ ap ends (sym s.peeked)
 
 skipped_stands : {T : Type 0} {p r : Tokens T} {t : Token} {g g' : Goal} {ss ss' : List State} {raw raw' : List Raw}
-    → p.peeked ≡ Some t → Skips p t r → (Stands g ss (taken_toks p) (Some (tok_of t.1)) raw → Stands g' ss' (taken_toks p ++ tok_of t.1 ∷ []) None raw')
-    → Stands g ss (taken_toks p) (peeked_tok p) raw → Stands g' ss' (taken_toks r) (peeked_tok r) raw'
+    → p.peeked ≡ Some t → Skips p t r → (IsOnTrack g ss (taken_toks p) (Some (tok_of t.1)) raw → IsOnTrack g' ss' (taken_toks p ++ tok_of t.1 ∷ []) None raw')
+    → IsOnTrack g ss (taken_toks p) (peeked_tok p) raw → IsOnTrack g' ss' (taken_toks r) (peeked_tok r) raw'
 skipped_stands {T} {p} {r} {t} {g} {g'} {ss} {ss'} {raw} {raw'} here s f h =
-    let one = f (subst (λ o. Stands g ss (taken_toks p) (option_map (λ (x : Token). tok_of x.1) o) raw) here h) in
-    let two = subst (λ ts. Stands g' ss' ts None raw') (sym (ap (λ xs. toks (all_shown xs)) s.taken ∙ taken_snoc p.taken.items t)) one in
-    subst (λ o. Stands g' ss' (taken_toks r) (option_map (λ (x : Token). tok_of x.1) o) raw') (sym s.peeked) two
+    let one = f (subst (λ o. IsOnTrack g ss (taken_toks p) (option_map (λ (x : Token). tok_of x.1) o) raw) here h) in
+    let two = subst (λ ts. IsOnTrack g' ss' ts None raw') (sym (ap (λ xs. toks (all_shown xs)) s.taken ∙ taken_snoc p.taken.items t)) one in
+    subst (λ o. IsOnTrack g' ss' (taken_toks r) (option_map (λ (x : Token). tok_of x.1) o) raw') (sym s.peeked) two
 
 -- ---- one turn
 
@@ -119,7 +119,7 @@ pub took : {T : Type 0} (m : Position) {g g' : Goal} {p r : Reader T} {t : Token
 took {T} m {g} {g'} {p} {r} {t} {ss'} {e} {v} {names} {names'} {given} here s to turn n wakes spot a =
     record {
       raw = a.raw ++ e ∷ [];
-      stands = subst (λ ss. Stands g' ss (taken_toks r.tokens) (peeked_tok r.tokens) (a.raw ++ e ∷ [])) (sym to)
+      stands = subst (λ ss. IsOnTrack g' ss (taken_toks r.tokens) (peeked_tok r.tokens) (a.raw ++ e ∷ [])) (sym to)
           (skipped_stands here s (stands_take g p.stack (tok_of t.1) (Some e) g' ss' (taken_toks p.tokens) a.raw turn) a.stands);
       handed = skipped_handed here s a.handed;
       awake = λ o. skipped_awake here s (wakes o).1 (a.awake (wakes o).0);
@@ -141,7 +141,7 @@ pub took_on : {T : Type 0} {g g' : Goal} {p r : Reader T} {t : Token} {ss' : Lis
 took_on {T} {g} {g'} {p} {r} {t} {ss'} {names} {given} here s to turn keep code pending wakes spot a =
     record {
       raw = a.raw;
-      stands = subst (λ ss. Stands g' ss (taken_toks r.tokens) (peeked_tok r.tokens) a.raw) (sym to)
+      stands = subst (λ ss. IsOnTrack g' ss (taken_toks r.tokens) (peeked_tok r.tokens) a.raw) (sym to)
           (skipped_stands here s (stands_take g p.stack (tok_of t.1) None g' ss' (taken_toks p.tokens) a.raw turn) a.stands);
       handed = skipped_handed here s a.handed;
       awake = λ o. skipped_awake here s (wakes o).1 (a.awake (wakes o).0);
@@ -161,12 +161,12 @@ pub left : {T : Type 0} (m : Position) {g g' : Goal} {p r : Reader T} {o : Optio
     → Named p r g' names e v names' → (is_over g || is_over g') ≡ false → has_place e ≡ false
     → At g p names given → At g' r names' (given ++ (v, m) ∷ [])
 left {T} m {g} {g'} {p} {r} {o} {ss'} {e} {v} {names} {names'} {given} here same to turn n wakes spot a =
-    let one = stands_leave g p.stack o (Some e) g' ss' (taken_toks p.tokens) a.raw turn (subst (λ x. Stands g p.stack (taken_toks p.tokens) x a.raw) here a.stands) in
-    let two : Stands g' ss' (taken_toks p.tokens) (peeked_tok p.tokens) (a.raw ++ e ∷ []) = subst (λ x. Stands g' ss' (taken_toks p.tokens) x (a.raw ++ e ∷ [])) (sym here) one in
-    let three : Stands g' r.stack (taken_toks p.tokens) (peeked_tok p.tokens) (a.raw ++ e ∷ []) = subst (λ ss. Stands g' ss (taken_toks p.tokens) (peeked_tok p.tokens) (a.raw ++ e ∷ [])) (sym to) two in
+    let one = stands_leave g p.stack o (Some e) g' ss' (taken_toks p.tokens) a.raw turn (subst (λ x. IsOnTrack g p.stack (taken_toks p.tokens) x a.raw) here a.stands) in
+    let two : IsOnTrack g' ss' (taken_toks p.tokens) (peeked_tok p.tokens) (a.raw ++ e ∷ []) = subst (λ x. IsOnTrack g' ss' (taken_toks p.tokens) x (a.raw ++ e ∷ [])) (sym here) one in
+    let three : IsOnTrack g' r.stack (taken_toks p.tokens) (peeked_tok p.tokens) (a.raw ++ e ∷ []) = subst (λ ss. IsOnTrack g' ss (taken_toks p.tokens) (peeked_tok p.tokens) (a.raw ++ e ∷ [])) (sym to) two in
     record {
       raw = a.raw ++ e ∷ [];
-      stands = subst (λ x. Stands g' r.stack (taken_toks x) (peeked_tok x) (a.raw ++ e ∷ [])) (sym same) three;
+      stands = subst (λ x. IsOnTrack g' r.stack (taken_toks x) (peeked_tok x) (a.raw ++ e ∷ [])) (sym same) three;
       handed = subst IsHanded (sym same) a.handed;
       awake = λ w. subst IsAwake (sym same) (a.awake (or_parts (is_over g) (is_over g') wakes).0);
       over = λ w. absurd (both_ways (is_over g') (or_parts (is_over g) (is_over g') wakes).1 w);
@@ -185,12 +185,12 @@ pub left_as : {T : Type 0} {g g' : Goal} {p r : Reader T} {o : Option Tok} {ss' 
     → r.names.keeping ≡ p.names.keeping → IsNamed r.names (names_at r.names.keeping.tags g' names) → IsPending names g' → (is_over g || is_over g') ≡ false
     → At g p names given → At g' r names given
 left_as {T} {g} {g'} {p} {r} {o} {ss'} {names} {given} here same to turn keep code pending wakes a =
-    let one = stands_leave g p.stack o None g' ss' (taken_toks p.tokens) a.raw turn (subst (λ x. Stands g p.stack (taken_toks p.tokens) x a.raw) here a.stands) in
-    let two : Stands g' ss' (taken_toks p.tokens) (peeked_tok p.tokens) a.raw = subst (λ x. Stands g' ss' (taken_toks p.tokens) x a.raw) (sym here) one in
-    let three : Stands g' r.stack (taken_toks p.tokens) (peeked_tok p.tokens) a.raw = subst (λ ss. Stands g' ss (taken_toks p.tokens) (peeked_tok p.tokens) a.raw) (sym to) two in
+    let one = stands_leave g p.stack o None g' ss' (taken_toks p.tokens) a.raw turn (subst (λ x. IsOnTrack g p.stack (taken_toks p.tokens) x a.raw) here a.stands) in
+    let two : IsOnTrack g' ss' (taken_toks p.tokens) (peeked_tok p.tokens) a.raw = subst (λ x. IsOnTrack g' ss' (taken_toks p.tokens) x a.raw) (sym here) one in
+    let three : IsOnTrack g' r.stack (taken_toks p.tokens) (peeked_tok p.tokens) a.raw = subst (λ ss. IsOnTrack g' ss (taken_toks p.tokens) (peeked_tok p.tokens) a.raw) (sym to) two in
     record {
       raw = a.raw;
-      stands = subst (λ x. Stands g' r.stack (taken_toks x) (peeked_tok x) a.raw) (sym same) three;
+      stands = subst (λ x. IsOnTrack g' r.stack (taken_toks x) (peeked_tok x) a.raw) (sym same) three;
       handed = subst IsHanded (sym same) a.handed;
       awake = λ w. subst IsAwake (sym same) (a.awake (or_parts (is_over g) (is_over g') wakes).0);
       over = λ w. absurd (both_ways (is_over g') (or_parts (is_over g) (is_over g') wakes).1 w);
@@ -215,17 +215,17 @@ left_on {T} {g} {g'} {p} {r} {o} {ss'} {names} {given} here same to turn names_s
 -- ---- a look
 
 look_peeked : (g : Goal) (ss : List State) (taken : List Tok) (o q : Option Token) (raw : List Raw) → ((t : Token) → o ≡ Some t → q ≡ Some t)
-    → Stands g ss taken (option_map (λ (x : Token). tok_of x.1) o) raw → Stands g ss taken (option_map (λ (x : Token). tok_of x.1) q) raw
+    → IsOnTrack g ss taken (option_map (λ (x : Token). tok_of x.1) o) raw → IsOnTrack g ss taken (option_map (λ (x : Token). tok_of x.1) q) raw
 look_peeked g ss taken None q raw f s = stands_look g ss taken _ raw s
-look_peeked g ss taken (Some t) q raw f s = subst (λ x. Stands g ss taken (option_map (λ (y : Token). tok_of y.1) x) raw) (sym (f t refl)) s
+look_peeked g ss taken (Some t) q raw f s = subst (λ x. IsOnTrack g ss taken (option_map (λ (y : Token). tok_of y.1) x) raw) (sym (f t refl)) s
 
 pub looks_on : {T : Type 0} {p r : Reader T} → r.tokens.taken ≡ p.tokens.taken → ((t : Token) → p.tokens.peeked ≡ Some t → r.tokens.peeked ≡ Some t) → (IsHanded p.tokens → IsHanded r.tokens) → (IsAwake p.tokens → IsAwake r.tokens)
     → r.stack ≡ p.stack → r.names ≡ p.names → {g : Goal} {names : Names} {given : List (Ev × Position)} → is_over g ≡ false → At g p names given → At g r names given
 looks_on {T} {p} {r} taken same handed awake stack names_same {g} {names} {given} going a =
-    let one : Stands g p.stack (taken_toks r.tokens) (peeked_tok p.tokens) a.raw = subst (λ ts. Stands g p.stack (toks (all_shown ts)) (peeked_tok p.tokens) a.raw) (ap (λ x. x.items) (sym taken)) a.stands in
+    let one : IsOnTrack g p.stack (taken_toks r.tokens) (peeked_tok p.tokens) a.raw = subst (λ ts. IsOnTrack g p.stack (toks (all_shown ts)) (peeked_tok p.tokens) a.raw) (ap (λ x. x.items) (sym taken)) a.stands in
     record {
       raw = a.raw;
-      stands = subst (λ ss. Stands g ss (taken_toks r.tokens) (peeked_tok r.tokens) a.raw) (sym stack) (look_peeked g p.stack (taken_toks r.tokens) p.tokens.peeked r.tokens.peeked a.raw same one);
+      stands = subst (λ ss. IsOnTrack g ss (taken_toks r.tokens) (peeked_tok r.tokens) a.raw) (sym stack) (look_peeked g p.stack (taken_toks r.tokens) p.tokens.peeked r.tokens.peeked a.raw same one);
       handed = handed a.handed;
       awake = λ o. awake (a.awake o);
       over = λ o. absurd (both_ways (is_over g) going o);

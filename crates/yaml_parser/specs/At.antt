@@ -17,7 +17,7 @@ use Rattle.defs_token.specs.Toks.{toks}
 use Rattle.defs_event.specs.Stream.{BeginsPlaced, NoneBegins, events_of, places_of, taken_places, given_places}
 use Rattle.model_parser.specs.Goal as at
 use Rattle.model_parser.specs.Goal.{Goal}
-use Rattle.model_parser.specs.Stands.{Stands}
+use Rattle.model_parser.specs.Stands.{IsOnTrack}
 use Rattle.model_parser.specs.declared.state.State.{State}
 use Rattle.yaml_parser.specs.declared.event.Event.{Event}
 use Rattle.yaml_parser.specs.declared.tokens.Stop.{Stop}
@@ -54,7 +54,7 @@ IsPending names g = Unit {0}
 -- It reads this production; these events were given, and these are the names after them.
 pub record At {T : Type 0} (g : Goal) (p : Reader T) (names : Names) (given : List (Ev × Position)) : Type 0 where
   pub raw : List Raw
-  pub stands : Stands g p.stack (taken_toks p.tokens) (peeked_tok p.tokens) raw
+  pub stands : IsOnTrack g p.stack (taken_toks p.tokens) (peeked_tok p.tokens) raw
   pub handed : IsHanded p.tokens
   pub awake : is_over g ≡ false → IsAwake p.tokens
   pub over : is_over g ≡ true → p.tokens.peeked ≡ None

@@ -2,7 +2,7 @@
 use Rattle.std.specs.Prelude.{◌≡◌, ◌⊎◌, List, [], ◌∷◌, ◌++◌, Bool, true, false, not, codes}
 use Rattle.defs_text.specs.Position.{Position}
 use Rattle.defs_token.specs.Token.{Tok, Token}
-use Rattle.yaml_tokens.specs.Fault.{Fault}
+use Rattle.yaml_tokens.specs.ErrorReport.{ErrorReport}
 use Rattle.yaml_tokens.specs.Problem.{fault_of}
 use Rattle.yaml_tokens.specs.declared.problem.Fault.TheVariants as fault
 use Rattle.yaml_tokens.specs.declared.problem.Problem.{Problem}
@@ -11,7 +11,7 @@ use Rattle.defs_event.specs.Grammar.{Documents, stream_tokens}
 use Rattle.defs_token.specs.Toks.{toks}
 use Rattle.model_parser.specs.declared.kind.Kind.{Kind}
 use Rattle.model_parser.specs.declared.kind.Kind.TheVariants as kind
-use Rattle.model_parser.specs.declared.place.Place.TheVariants as place
+use Rattle.model_parser.specs.declared.place.NodeContext.TheVariants as place
 use Rattle.model_parser.specs.Kinds.{kind_of, is_directive, begins_content, ends_item, ends_flow_pair}
 
 -- what goes on in a block sequence
@@ -65,7 +65,7 @@ StandsAt p place before last =
     ⊎ ((p ≡ problem.UndeclaredHandle) × EndsInAnchor before place)
 
 -- The fault refuses the last of these tokens: it has a text of the parser's that fits the token, and stands at it.
-pub record Blames (f : Fault) (tokens : List Token) : Type 0 where
+pub record Blames (f : ErrorReport) (tokens : List Token) : Type 0 where
   pub before : List Token
   pub last : Token
   pub whole : tokens ≡ before ++ last ∷ []
@@ -77,6 +77,6 @@ pub record Blames (f : Fault) (tokens : List Token) : Type 0 where
   pub none : is_of_names problem ≡ false → (d : Documents) (ts : List Tok) → stream_tokens d ≡ toks tokens ++ ts → ⊥
 
 -- Memory was refused.
-pub record WantsMemory (f : Fault) : Type 0 where
+pub record WantsMemory (f : ErrorReport) : Type 0 where
   pub memory : f.memory ≡ true
   pub text : f.text ≡ codes "out of memory"

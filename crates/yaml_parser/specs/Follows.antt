@@ -1,7 +1,7 @@
 -- What the tokens that were taken say of the events, and of a fault.
 use Rattle.std.specs.Prelude.{◌≡◌, ◌⊎◌, List, [], ◌∷◌, ◌++◌, true, Option, Some, None}
 use Rattle.defs_token.specs.Token.{Tok, Token}
-use Rattle.yaml_tokens.specs.Fault.{Fault}
+use Rattle.yaml_tokens.specs.ErrorReport.{ErrorReport}
 use Rattle.defs_event.specs.Event.{Ev}
 use Rattle.defs_event.specs.Raw.{Raw}
 use Rattle.defs_token.specs.Toks.{toks}
@@ -55,11 +55,11 @@ pub record Stopped (p : Parsed) : Type 0 where
   pub derived : IsDerived p.steady p.keep_tags before raw (read p)
 
 -- The last token is refused: by its text and place, and by the grammar.
-pub record IsCut (f : Fault) (p : Parsed) : Type 0 where
+pub record IsRefusedAtLast (f : ErrorReport) (p : Parsed) : Type 0 where
   pub blames : Blames f p.scanner.given
   pub stopped : Stopped p
   pub refused : p.steady ≡ true → Refused p
 
 -- Why a fault comes: it is the scanner's, or memory was refused, or the last token is refused.
-abbrev pub Explains : Fault → Parsed → Type 0
-Explains f p = (p.scanner.fault ≡ Some f) ⊎ (WantsMemory f ⊎ IsCut f p)
+abbrev pub Explains : ErrorReport → Parsed → Type 0
+Explains f p = (p.scanner.fault ≡ Some f) ⊎ (WantsMemory f ⊎ IsRefusedAtLast f p)

@@ -1,13 +1,13 @@
 -- What is known between two calls.
 use Rattle.std.specs.Prelude.{◌≡◌, ◌⊎◌, ◌<◌, List, [], ◌∷◌, ◌++◌, Bool, true, false, Option, Some, None, IsSome, IfSome, Result, Ok, Err}
 use Rattle.defs_text.specs.Position.{Position}
-use Rattle.yaml_tokens.specs.Fault.{Fault}
+use Rattle.yaml_tokens.specs.ErrorReport.{ErrorReport}
 use Rattle.defs_event.specs.Event.{Ev}
 use Rattle.defs_event.specs.Names.{Names}
 use Rattle.model_parser.specs.Goal as at
 use Rattle.model_parser.specs.Goal.{Goal}
 use Rattle.yaml_parser.specs.declared.event.Event.{Event}
-use Rattle.yaml_parser.specs.declared.tokens.Kept.{Kept}
+use Rattle.yaml_parser.specs.declared.tokens.KeptStop.{KeptStop}
 use Rattle.yaml_parser.specs.declared.pull.Pull.{Pull}
 use Rattle.yaml_parser.specs.declared.reader.Reader.{Reader}
 use Rattle.yaml_parser.specs.Parsed.{has_end, read_so}
@@ -20,12 +20,12 @@ goal_after true = at.ended
 goal_after false = at.done
 
 -- These events were read, and the reader stands after them; or a fault was met there.
-abbrev pub IsHeld : {T : Type 0} → Reader T → List (Ev × Position) → Option Kept → Type 0
+abbrev pub IsHeld : {T : Type 0} → Reader T → List (Ev × Position) → Option KeptStop → Type 0
 IsHeld p read None = (names : Names) × At (goal_after (has_end read)) p names read
 IsHeld p read (Some k) = (has_end read ≡ false) × Faulted p read k.stop
 
 -- An event more is read; the stream's end comes again, and nothing changes; or a fault is met.
-abbrev pub Continues : {T : Type 0} → Pull T → List (Ev × Position) → Result (Event × Position) Fault → Pull T → Type 0
+abbrev pub Continues : {T : Type 0} → Pull T → List (Ev × Position) → Result (Event × Position) ErrorReport → Pull T → Type 0
 Continues old read (Ok e) new =
     (old.kept ≡ None) × (new.kept ≡ None)
     × (((has_end read ≡ true) × (new ≡ old) × (ev_of e.0 ≡ Ev.stream_end))

@@ -2,7 +2,7 @@
 use Rattle.std.specs.Prelude.{◌||◌, ◌&&◌, not, is_some, ℕ, List, [], ◌∷◌, ◌++◌, Bool, true, false, Option, Some, None}
 use Rattle.std.specs.Bool.{beq}
 use Rattle.defs_text.specs.Position.{Position}
-use Rattle.yaml_tokens.specs.Fault.{Fault}
+use Rattle.yaml_tokens.specs.ErrorReport.{ErrorReport}
 use Rattle.yaml_scanner.specs.Scanned.{Scanned}
 use Rattle.defs_event.specs.Event.{Ev}
 
@@ -14,7 +14,7 @@ pub record Parsed : Type 0 where
   -- the event that was looked at and waits
   pub ahead : Option (Ev × Position)
   -- the fault that is kept
-  pub fault : Option Fault
+  pub fault : Option ErrorReport
   -- whether an event was given, and so the stream's start
   pub started : Bool
   -- whether the stream's end was given

@@ -7,7 +7,7 @@ use Rattle.defs_event.specs.Event.{Ev}
 use Rattle.defs_event.specs.Grammar as written
 use Rattle.defs_event.specs.Grammar.{anchor_of, tag_of}
 use Rattle.defs_event.specs.Names.{Names, number, with_anchor, perhaps_resolved}
-use Rattle.model_parser.specs.declared.place.Place.{Place}
+use Rattle.model_parser.specs.declared.place.NodeContext.{NodeContext}
 use Rattle.model_parser.specs.Goal as at
 use Rattle.yaml_parser.specs.declared.event.Event.{Event}
 use Rattle.yaml_parser.specs.declared.node.Properties.{Properties}
@@ -33,7 +33,7 @@ pub record Has (names : Names) (o : Option written.Properties) (p : Option Prope
   pub tag : perhaps_resolved names.handles (written.perhaps_tag_of o) ≡ Some (kept_tag p)
 
 -- what a content comes to, after these properties
-abbrev pub ReadsAfter : {T : Type 0} → Place → Option Properties → Reader T → Reader T → Result (Event × chars.Position) Stop → Type 0
+abbrev pub ReadsAfter : {T : Type 0} → NodeContext → Option Properties → Reader T → Reader T → Result (Event × chars.Position) Stop → Type 0
 ReadsAfter p properties old new result =
     (o : Option written.Properties) (names : Names) (given : List (Ev × chars.Position)) → Has names o properties → At (at.after_properties p o) old names given → Answers new given result
 

@@ -2,7 +2,7 @@
 use Rattle.std.specs.Prelude.{◌≡◌, ◌≢◌, ◌||◌, ◌<◌, ◌≤◌, if◌then◌else◌, [], ◌∷◌, ◌++◌, true, false, Some, None, IsSome, IfSome, Result, Ok, Err}
 use Rattle.std.specs.Borrow.{Bor}
 use Rattle.defs_text.specs.Position.{Position}
-use Rattle.yaml_tokens.specs.Fault.{Fault}
+use Rattle.yaml_tokens.specs.ErrorReport.{ErrorReport}
 use Rattle.defs_event.specs.Event.{Ev}
 use Rattle.defs_event.specs.PulledList.{Answer}
 use Rattle.defs_event.specs.PulledList as answer
@@ -40,7 +40,7 @@ pub record GivesEvent (old : Parsed) (e : Ev × Position) (new : Parsed) : Type 
   pub sound : IsSound new
 
 -- A fault is answered and kept, the one that was kept if one was.
-pub record GivesFault (old : Parsed) (f : Fault) (new : Parsed) : Type 0 where
+pub record GivesFault (old : Parsed) (f : ErrorReport) (new : Parsed) : Type 0 where
   pub fault : new.fault ≡ Some f
   pub given : new.given ≡ old.given
   pub started : new.started ≡ old.started
@@ -51,11 +51,11 @@ pub record GivesFault (old : Parsed) (f : Fault) (new : Parsed) : Type 0 where
   pub why : old.fault ≡ None → Explains f new
 
 -- one call of `next_token`
-abbrev pub Pulls : Parsed → Answer Fault → Parsed → Type 0
+abbrev pub Pulls : Parsed → Answer ErrorReport → Parsed → Type 0
 Pulls old (answer.event e p) new = GivesEvent old (e, p) new
 Pulls old (answer.fault f) new = GivesFault old f new
 
-abbrev pub answer_of : Result (Event × Position) Fault → Answer Fault
+abbrev pub answer_of : Result (Event × Position) ErrorReport → Answer ErrorReport
 answer_of (Ok e) = answer.event (ev_of e.0) e.1
 answer_of (Err f) = answer.fault f
 
@@ -73,7 +73,7 @@ pub record Waits (old new : Parsed) : Type 0 where
   pub sound : IsSound new
 
 -- one look at the next event
-abbrev pub Looks : Parsed → Result (Unit {0}) Fault → Parsed → Type 0
+abbrev pub Looks : Parsed → Result (Unit {0}) ErrorReport → Parsed → Type 0
 Looks old (Ok u) new = Waits old new
 Looks old (Err f) new = GivesFault old f new
 
@@ -82,20 +82,20 @@ abbrev pub ShowsNext : Parsed → Ev × Position → Type 0
 ShowsNext old e = (new : Parsed) × Waits old new × (new.ahead ≡ Some e)
 
 -- A look meets this fault.
-abbrev pub MeetsFault : Parsed → Fault → Type 0
+abbrev pub MeetsFault : Parsed → ErrorReport → Type 0
 MeetsFault old f = (new : Parsed) × GivesFault old f new
 
 -- What `look` answered, as `peek` passes it on: the event that waits, or the fault.
-abbrev pub ShowsLooked : Result (Unit {0}) Fault → Parsed → Result (Bor (Event × Position)) Fault → Type 0
+abbrev pub ShowsLooked : Result (Unit {0}) ErrorReport → Parsed → Result (Bor (Event × Position)) ErrorReport → Type 0
 ShowsLooked looked new (Ok e) = (looked ≡ Ok tt) × (new.ahead ≡ Some (placed e.now))
 ShowsLooked looked new (Err f) = looked ≡ Err f
 
 -- one peek at the next event
-abbrev pub Peeks : Parsed → Result (Bor (Event × Position)) Fault → Parsed → Type 0
+abbrev pub Peeks : Parsed → Result (Bor (Event × Position)) ErrorReport → Parsed → Type 0
 Peeks old (Ok e) new = Waits old new × (new.ahead ≡ Some (placed e.now))
 Peeks old (Err f) new = GivesFault old f new
 
 -- What a peek leaves of the parser, once the event that it showed is let go.
-pub record PeekLeaves {T : Type 0} (old : Parse T) (shown : Result (Bor (Event × Position)) Fault) (new : Parse T) : Type 0 where
+pub record PeekLeaves {T : Type 0} (old : Parse T) (shown : Result (Bor (Event × Position)) ErrorReport) (new : Parse T) : Type 0 where
   pub start : new.start ≡ old.start
   pub peeks : Peeks (parsed old) shown (parsed new)

@@ -1,7 +1,7 @@
 -- How a parser's fields are seen.
 use Rattle.std.specs.Prelude.{ℕ, ◌+◌, Option, Some, None, option_map}
 use Rattle.defs_text.specs.Position.{Position}
-use Rattle.yaml_tokens.specs.Fault.{Fault}
+use Rattle.yaml_tokens.specs.ErrorReport.{ErrorReport}
 use Rattle.yaml_tokens.specs.Problem.{fault_of}
 use Rattle.yaml_tokens.specs.declared.problem.Fault.TheVariants as fault
 use Rattle.yaml_tokens.specs.declared.problem.Problem.TheVariants.{DocumentStartEvent}
@@ -11,7 +11,7 @@ use Rattle.yaml_parser.specs.declared.reader.Reader.{Reader}
 use Rattle.yaml_parser.specs.Seen.{fault_seen}
 use Rattle.yaml_parser.specs.Work.{work}
 
-abbrev pub fault_kept : {T : Type 0} → Pull T → Option Fault
+abbrev pub fault_kept : {T : Type 0} → Pull T → Option ErrorReport
 fault_kept p = option_map (λ k. fault_seen k.stop k.mark (scanned p.reader.tokens.scanner).fault) p.kept
 
 abbrev pub one_if_some : {A : Type 0} → Option A → ℕ
@@ -22,10 +22,10 @@ abbrev pub events_left : {T A : Type 0} → Reader T → Option A → ℕ
 events_left r current = work r + one_if_some current
 
 -- the fault where no document starts
-abbrev pub no_document : Position → Fault
+abbrev pub no_document : Position → ErrorReport
 no_document p = fault_of (fault.At DocumentStartEvent p) p
 
 -- the fault that is kept: that of `load` where no document started, or that of the pulls
-abbrev pub fault_of_all : {T : Type 0} → Option Position → Pull T → Option Fault
+abbrev pub fault_of_all : {T : Type 0} → Option Position → Pull T → Option ErrorReport
 fault_of_all (Some p) pull = Some (no_document p)
 fault_of_all None pull = fault_kept pull

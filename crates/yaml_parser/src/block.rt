@@ -8,7 +8,7 @@ ghost use Rattle.yaml_parser.specs.Kinds.{IsOfKind};
 use crate::event::Event;
 use crate::reader::{Answer, Reader};
 use crate::tokens::Stop;
-use model_parser::{Kind, Place, State};
+use model_parser::{Kind, NodeContext, State};
 use yaml_tokens::{Fault, Problem};
 
 impl<T: Iterator<Item = char>> Reader<T> {
@@ -42,7 +42,7 @@ impl<T: Iterator<Item = char>> Reader<T> {
         self.push(State::BlockSequenceEntry)?;
         match next {
             Kind::BlockEntry | Kind::BlockEnd => Ok(self.nothing_written(self.mark())),
-            _ => self.node(Place::Block, next),
+            _ => self.node(NodeContext::Block, next),
         }
     }
 
@@ -76,7 +76,7 @@ impl<T: Iterator<Item = char>> Reader<T> {
             Kind::BlockEntry | Kind::Key | Kind::Value | Kind::BlockEnd => {
                 Ok(self.nothing_written(self.mark()))
             }
-            _ => self.node(Place::Block, next),
+            _ => self.node(NodeContext::Block, next),
         }
     }
 
@@ -163,7 +163,7 @@ impl<T: Iterator<Item = char>> Reader<T> {
         let next = self.peek()?;
         match next {
             Kind::Key | Kind::Value | Kind::BlockEnd => Ok(self.nothing_written(self.mark())),
-            _ => self.node(Place::Part, next),
+            _ => self.node(NodeContext::Part, next),
         }
     }
 }

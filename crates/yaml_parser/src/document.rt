@@ -11,7 +11,7 @@ ghost use Rattle.yaml_parser.specs.Kinds.{IsOfKind};
 use crate::event::Event;
 use crate::reader::{Answer, Reader};
 use crate::tokens::Stop;
-use model_parser::{Kind, Place, State};
+use model_parser::{Kind, NodeContext, State};
 use yaml_tokens::{Fault, Problem};
 
 impl<T: Iterator<Item = char>> Reader<T> {
@@ -188,7 +188,7 @@ impl<T: Iterator<Item = char>> Reader<T> {
             | Kind::DocumentStart
             | Kind::DocumentEnd
             | Kind::StreamEnd => Ok(self.nothing_written(self.mark())),
-            _ => self.node(Place::Block, next),
+            _ => self.node(NodeContext::Block, next),
         }
     }
 

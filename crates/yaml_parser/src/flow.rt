@@ -8,7 +8,7 @@ ghost use Rattle.yaml_parser.specs.Kinds.{IsOfKind};
 use crate::event::Event;
 use crate::reader::{Answer, Reader};
 use crate::tokens::Stop;
-use model_parser::{Kind, Place, State};
+use model_parser::{Kind, NodeContext, State};
 use yaml_chars::Marker;
 use yaml_tokens::{Fault, Problem};
 
@@ -78,7 +78,7 @@ impl<T: Iterator<Item = char>> Reader<T> {
             }
             _ => {
                 self.push(State::FlowSequenceEntry)?;
-                self.node(Place::Flow, next)
+                self.node(NodeContext::Flow, next)
             }
         }
     }
@@ -96,7 +96,7 @@ impl<T: Iterator<Item = char>> Reader<T> {
             Kind::Value | Kind::FlowEntry | Kind::FlowSequenceEnd => {
                 Ok(self.nothing_written(self.mark()))
             }
-            _ => self.node(Place::Flow, next),
+            _ => self.node(NodeContext::Flow, next),
         }
     }
 
@@ -132,7 +132,7 @@ impl<T: Iterator<Item = char>> Reader<T> {
         self.push(State::FlowSequenceEntryMappingEnd)?;
         match next {
             Kind::FlowEntry | Kind::FlowSequenceEnd => Ok(self.nothing_written(self.mark())),
-            _ => self.node(Place::Flow, next),
+            _ => self.node(NodeContext::Flow, next),
         }
     }
 
@@ -219,7 +219,7 @@ impl<T: Iterator<Item = char>> Reader<T> {
             }
             _ => {
                 self.push(State::FlowMappingEmptyValue)?;
-                self.node(Place::Flow, next)
+                self.node(NodeContext::Flow, next)
             }
         }
     }
@@ -238,7 +238,7 @@ impl<T: Iterator<Item = char>> Reader<T> {
             Kind::Value | Kind::FlowEntry | Kind::FlowMappingEnd => Ok(self.nothing_written(
                 self.mark(),
             )),
-            _ => self.node(Place::Flow, next),
+            _ => self.node(NodeContext::Flow, next),
         }
     }
 
@@ -275,7 +275,7 @@ impl<T: Iterator<Item = char>> Reader<T> {
         self.push(State::FlowMappingKey)?;
         match next {
             Kind::FlowEntry | Kind::FlowMappingEnd => Ok(self.nothing_written(colon)),
-            _ => self.node(Place::Flow, next),
+            _ => self.node(NodeContext::Flow, next),
         }
     }
 

@@ -3,7 +3,7 @@ ghost use Rattle.std.specs.Prelude.{◌≡◌, false, Some, None, ◌+◌, ◌<�
 ghost use Rattle.model_parser.specs.Goal as at;
 ghost use Rattle.defs_event.specs.Event.{Ev};
 ghost use Rattle.defs_event.specs.Names.{Names};
-ghost use Rattle.model_parser.specs.declared.place.Place.TheVariants as place;
+ghost use Rattle.model_parser.specs.declared.place.NodeContext.TheVariants as place;
 ghost use Rattle.model_parser.specs.Kinds.{begins_content};
 ghost use Rattle.yaml_tokens.specs.declared.problem.Fault.TheVariants.{OutOfMemory};
 ghost use Rattle.yaml_parser.specs.declared.tokens.Stop.TheVariants.{Own};
@@ -18,7 +18,7 @@ ghost use Rattle.model_parser.specs.declared.kind.Kind.TheVariants as kind;
 use crate::event::{Event, Tag};
 use crate::reader::{Answer, Reader};
 use crate::tokens::Stop;
-use model_parser::{Kind, Place, State};
+use model_parser::{Kind, NodeContext, State};
 use yaml_chars::Marker;
 use yaml_tokens::{Fault, Problem};
 
@@ -38,12 +38,12 @@ impl<T: Iterator<Item = char>> Reader<T> {
         ensures start { self.new.tokens.scanner.start ≡ self.old.tokens.scanner.start }
     {
         let next = self.peek()?;
-        self.node(Place::Block, next)
+        self.node(NodeContext::Block, next)
     }
 
     /// A node that stands here. `next`, its first token, was looked at.
     #[inline(never)]
-    pub(crate) fn node(&mut self, place: Place, next: Kind) -> Answer
+    pub(crate) fn node(&mut self, place: NodeContext, next: Kind) -> Answer
         requires { IsOfKind next self.old.tokens.peeked }
         ensures answers { Reads (at.node place) self.old self.new result }
         ensures work { OnOk result (work self.new + 2 ≤ work self.old) }
@@ -63,7 +63,7 @@ impl<T: Iterator<Item = char>> Reader<T> {
 
     fn alias(&mut self) -> Answer
         requires { IsOfKind kind.Alias self.old.tokens.peeked }
-        ensures answers { (place : Place) → Reads (at.node place) self.old self.new result }
+        ensures answers { (place : NodeContext) → Reads (at.node place) self.old self.new result }
         ensures work { OnOk result (work self.new + 2 ≤ work self.old) }
         ensures keeping { self.new.names.keeping ≡ self.old.names.keeping }
         ensures start { self.new.tokens.scanner.start ≡ self.old.tokens.scanner.start }
@@ -75,7 +75,7 @@ impl<T: Iterator<Item = char>> Reader<T> {
     }
 
     /// A node that begins with an anchor.
-    fn anchored(&mut self, place: Place) -> Answer
+    fn anchored(&mut self, place: NodeContext) -> Answer
         requires { IsOfKind kind.Anchor self.old.tokens.peeked }
         ensures answers { Reads (at.node place) self.old self.new result }
         ensures work { OnOk result (work self.new + 2 ≤ work self.old) }
@@ -103,7 +103,7 @@ impl<T: Iterator<Item = char>> Reader<T> {
     }
 
     /// A node that begins with a tag.
-    fn tagged(&mut self, place: Place) -> Answer
+    fn tagged(&mut self, place: NodeContext) -> Answer
         requires { IsOfKind kind.Tag self.old.tokens.peeked }
         ensures answers { Reads (at.node place) self.old self.new result }
         ensures work { OnOk result (work self.new + 2 ≤ work self.old) }
@@ -132,7 +132,7 @@ impl<T: Iterator<Item = char>> Reader<T> {
 
     /// What stands after an anchor and a tag.
     #[inline(never)]
-    fn content_after(&mut self, place: Place, anchor: String, tag: Tag) -> Answer
+    fn content_after(&mut self, place: NodeContext, anchor: String, tag: Tag) -> Answer
         ensures answers { ReadsAfter place (Some (record { anchor = Some anchor; tag = Some tag })) self.old self.new result }
         ensures work { OnOk result (work self.new ≤ work self.old) }
         ensures keeping { self.new.names.keeping ≡ self.old.names.keeping }
@@ -148,7 +148,7 @@ impl<T: Iterator<Item = char>> Reader<T> {
 
     /// What stands after a node's properties. `next` was looked at.
     #[inline(never)]
-    fn content(&mut self, place: Place, properties: Option<Properties>, next: Kind) -> Answer
+    fn content(&mut self, place: NodeContext, properties: Option<Properties>, next: Kind) -> Answer
         requires { IsOfKind next self.old.tokens.peeked }
         ensures answers { ReadsAfter place properties self.old self.new result }
         ensures work { OnOk result (work self.new + owed properties ≤ work self.old) }
@@ -156,9 +156,9 @@ impl<T: Iterator<Item = char>> Reader<T> {
         ensures start { self.new.tokens.scanner.start ≡ self.old.tokens.scanner.start }
     {
         match place {
-            Place::Flow => self.flow_content(properties, next),
-            Place::Block => self.block_content(properties, next),
-            Place::Part => self.part_content(properties, next),
+            NodeContext::Flow => self.flow_content(properties, next),
+            NodeContext::Block => self.block_content(properties, next),
+            NodeContext::Part => self.part_content(properties, next),
         }
     }
 

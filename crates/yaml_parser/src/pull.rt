@@ -12,7 +12,7 @@ use crate::event::{Event, ParseResult};
 use crate::names::Names;
 use crate::reader::Reader;
 use crate::stack::Stack;
-use crate::tokens::{Kept, Stop, Tokens};
+use crate::tokens::{KeptStop, Stop, Tokens};
 use std::alloc::Global;
 use yaml_scanner::Scanner;
 use yaml_tokens::ScanError;
@@ -21,7 +21,7 @@ use yaml_tokens::ScanError;
 #[derive(Drop)]
 pub struct Pull<T: Iterator<Item = char>> {
     pub reader: Reader<T>,
-    pub kept: Option<Kept>,
+    pub kept: Option<KeptStop>,
 }
 
 impl<T: Iterator<Item = char>> Pull<T> {
@@ -76,7 +76,7 @@ impl<T: Iterator<Item = char>> Pull<T> {
         ensures stop { IfSome self.new.kept (λ k. k.stop ≡ stop) }
         ensures reader { self.new.reader ≡ self.old.reader }
     {
-        let kept = Kept {
+        let kept = KeptStop {
             stop,
             mark: self.reader.tokens.scanner.mark(),
         };

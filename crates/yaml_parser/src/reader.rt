@@ -16,7 +16,7 @@ ghost use Rattle.yaml_parser.specs.Seen.{fault_seen};
 use crate::event::Event;
 use crate::names::Names;
 use crate::stack::Stack;
-use crate::tokens::{Kept, Stop, Tokens};
+use crate::tokens::{KeptStop, Stop, Tokens};
 use model_parser::{Kind, State};
 use std::alloc::Global;
 use yaml_chars::Marker;
@@ -94,7 +94,7 @@ impl<T: Iterator<Item = char>> Reader<T> {
     }
 
     /// A fault as callers see it.
-    pub fn error(&self, kept: &Kept) -> ScanError
+    pub fn error(&self, kept: &KeptStop) -> ScanError
         ensures { result ≡ fault_seen kept.now.stop kept.now.mark (scanned self.now.tokens.scanner).fault }
     {
         let mark = kept.mark;

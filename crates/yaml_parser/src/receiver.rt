@@ -1,6 +1,6 @@
 ghost use Rattle.std.specs.Prelude.{Result};
 ghost use Rattle.defs_event.specs.Event.{Ev};
-ghost use Rattle.yaml_tokens.specs.Fault.{Fault};
+ghost use Rattle.yaml_tokens.specs.ErrorReport.{ErrorReport};
 ghost use Rattle.yaml_parser.specs.Shown.{ev_of};
 
 use crate::event::Event;
@@ -10,7 +10,7 @@ use yaml_tokens::ScanError;
 /// Takes the events that a parser pushes by [`load`](crate::Parser::load). Implement `on_event`.
 pub trait EventReceiver {
     // What one call does: the receiver before it, the event, the result, and the receiver after it.
-    ghost takes: { Self → Ev → Result (Unit {0}) Fault → Self → Type 0 } = { λ _ _ _ _. Unit {0} };
+    ghost takes: { Self → Ev → Result (Unit {0}) ErrorReport → Self → Type 0 } = { λ _ _ _ _. Unit {0} };
 
     /// Takes an event. An `Err` stops the call of `load`, which returns it.
     fn on_event(&mut self, ev: Event) -> Result<(), ScanError>
@@ -23,7 +23,7 @@ pub trait MarkedEventReceiver {
     ghost use Rattle.defs_text.specs.Position.{Position};
 
     // What one call does: the receiver before it, the event and its place, the result, and the receiver after it.
-    ghost takes: { Self → Ev → Position → Result (Unit {0}) Fault → Self → Type 0 } = { λ _ _ _ _ _. Unit {0} };
+    ghost takes: { Self → Ev → Position → Result (Unit {0}) ErrorReport → Self → Type 0 } = { λ _ _ _ _ _. Unit {0} };
 
     /// Takes an event and its place. An `Err` stops the call of `load`, which returns it.
     fn on_event(&mut self, ev: Event, mark: Marker) -> Result<(), ScanError>

@@ -76,7 +76,7 @@ impl From<Missing> for Stop {
 
 /// Why no event comes, and where the scanner stood.
 #[derive(Clone, Copy)]
-pub struct Kept {
+pub struct KeptStop {
     pub stop: Stop,
     pub mark: Marker,
 }

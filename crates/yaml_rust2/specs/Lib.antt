@@ -30,7 +30,7 @@ pub use Rattle.defs_text.specs.Position
 pub use Rattle.yaml_chars.specs.Reading as CharactersRead
 pub use Rattle.yaml_chars.specs.Source
 pub use Rattle.defs_text.specs.Text
-pub use Rattle.yaml_tokens.specs.Fault
+pub use Rattle.yaml_tokens.specs.ErrorReport
 pub use Rattle.yaml_tree.specs.Feed
 pub use Rattle.yaml_tree.specs.Items
 pub use Rattle.yaml_tree.specs.Node

@@ -13,7 +13,7 @@ use Rattle.model_lexers.specs.Space.{space}
 use Rattle.yaml_chars.specs.Class.{is_alpha, is_blank_or_breakz, is_break, is_flow}
 use Rattle.defs_token.specs.Token.{Tok}
 use Rattle.yaml_lexers.specs.Shown.{read}
-use Rattle.model_scanner.specs.State.{Key, Held, State, ◌>>=◌, peek, put, in_flow, with_top, on_held, try_held, lexed, skip_indicator}
+use Rattle.model_scanner.specs.State.{Key, Held, ScannerState, ◌>>=◌, peek, put, in_flow, with_top, on_held, try_held, lexed, skip_indicator}
 use Rattle.model_scanner.specs.Indents.{roll_indent, roll_one_col_indent}
 use Rattle.model_scanner.specs.Block.{check_dash, roll_entry, check_key_space, check_after_tab, check_value_space, begin_pair, insert_key, begin_keyless_pair, begin_keyless_mapping, begin_keyless_value}
 use Rattle.yaml_scanner.specs.Blocks.{entry_level, pass_tab}
@@ -34,7 +34,7 @@ fails_try f x y e w p = record { runs = Reads-along _ _ _ _ refl w (Reads-map _ 
 pub does_pure : {T : Type 0} (f : Held → Held) (x y : Fetcher T) → y.window ≡ x.window → held y ≡ f (held x) → Does (λ t. Ok (on_held f t)) x y
 does_pure f x y e p = record { runs = Reads-along _ _ _ _ refl e (Reads-map _ _ (Reads-none x.window) (λ a b i. rw (← p, i) refl)) }
 
-indicator : {T : Type 0} (a b : List ℕ) (c : ℕ) (x y : Fetcher T) → a ≡ c ∷ b → y ≡ record x { window = after_char x.window; leading = false } → ◌≡◌ {A = Result State Fault} (Ok (skip_indicator (state a x))) (Ok (state b y))
+indicator : {T : Type 0} (a b : List ℕ) (c : ℕ) (x y : Fetcher T) → a ≡ c ∷ b → y ≡ record x { window = after_char x.window; leading = false } → ◌≡◌ {A = Result ScannerState Fault} (Ok (skip_indicator (state a x))) (Ok (state b y))
 indicator a b c x y e f = rw (e, f) refl
 
 -- an indicator is passed
@@ -42,28 +42,28 @@ pub does_indicator : {T : Type 0} (x y : Fetcher T) → y ≡ record x { window 
 does_indicator x y e run = record { runs = Reads-map _ _ run (λ a b p. indicator a b _ x y p e) }
 
 -- one step after another
-pub does_bind : {T : Type 0} {f k : State → Result State Fault} (x y z : Fetcher T) → Does f x y → Does k y z → Does (λ t. f t >>= k) x z
+pub does_bind : {T : Type 0} {f k : ScannerState → Result ScannerState Fault} (x y z : Fetcher T) → Does f x y → Does k y z → Does (λ t. f t >>= k) x z
 does_bind x y z d e = record { runs = Reads-then _ _ _ d.runs e.runs (λ a b c p q. rw p q) }
 
-pub fails_bind : {T : Type 0} {f k : State → Result State Fault} (x y z : Fetcher T) (e : Fault) → Does f x y → Fails k y z e → Fails (λ t. f t >>= k) x z e
+pub fails_bind : {T : Type 0} {f k : ScannerState → Result ScannerState Fault} (x y z : Fetcher T) (e : Fault) → Does f x y → Fails k y z e → Fails (λ t. f t >>= k) x z e
 fails_bind x y z e d h = record { runs = Reads-then _ _ _ d.runs h.runs (λ a b c p q n. rw p (q n)) }
 
-pub fails_now : {T : Type 0} {f : State → Result State Fault} (k : State → Result State Fault) (x y : Fetcher T) (e : Fault) → Fails f x y e → Fails (λ t. f t >>= k) x y e
+pub fails_now : {T : Type 0} {f : ScannerState → Result ScannerState Fault} (k : ScannerState → Result ScannerState Fault) (x y : Fetcher T) (e : Fault) → Fails f x y e → Fails (λ t. f t >>= k) x y e
 fails_now k x y e h = record { runs = Reads-map _ _ h.runs (λ a b p n. rw (p n) refl) }
 
 -- the same function
-pub does_as : {T : Type 0} {f h : State → Result State Fault} (x y : Fetcher T) → ((a : List ℕ) → h (state a x) ≡ f (state a x)) → Does f x y → Does h x y
+pub does_as : {T : Type 0} {f h : ScannerState → Result ScannerState Fault} (x y : Fetcher T) → ((a : List ℕ) → h (state a x) ≡ f (state a x)) → Does f x y → Does h x y
 does_as x y s d = record { runs = Reads-map _ _ d.runs (λ a b p. s a ∙ p) }
 
-pub fails_as : {T : Type 0} {f h : State → Result State Fault} (x y : Fetcher T) (e : Fault) → ((a : List ℕ) → h (state a x) ≡ f (state a x)) → Fails f x y e → Fails h x y e
+pub fails_as : {T : Type 0} {f h : ScannerState → Result ScannerState Fault} (x y : Fetcher T) (e : Fault) → ((a : List ℕ) → h (state a x) ≡ f (state a x)) → Fails f x y e → Fails h x y e
 fails_as x y e s d = record { runs = Reads-map _ _ d.runs (λ a b p n. s a ∙ p n) }
 
 -- spaces are passed, and what was found decides how to go on
-pub does_lexed : {T : Type 0} (tabs : SkipTabs) (go : Whitespace → State → Result State Fault) (w : Whitespace) (x y z : Fetcher T) → held y ≡ record (held x) { place = place_of y.window }
+pub does_lexed : {T : Type 0} (tabs : SkipTabs) (go : Whitespace → ScannerState → Result ScannerState Fault) (w : Whitespace) (x y z : Fetcher T) → held y ≡ record (held x) { place = place_of y.window }
     → Reads x.window y.window (λ a b. space tabs a (place_of x.window) ≡ Ok (read b y.window w)) → Does (go w) y z → Does (λ t. lexed (space tabs t.rest t.held.place) t.held go) x z
 does_lexed tabs go w x y z e run d = record { runs = Reads-then _ _ _ run d.runs (λ a b c p q. rw (p, ← e) q) }
 
-pub fails_lexed : {T : Type 0} (tabs : SkipTabs) (go : Whitespace → State → Result State Fault) (w : Whitespace) (x y z : Fetcher T) (f : Fault) → held y ≡ record (held x) { place = place_of y.window }
+pub fails_lexed : {T : Type 0} (tabs : SkipTabs) (go : Whitespace → ScannerState → Result ScannerState Fault) (w : Whitespace) (x y z : Fetcher T) (f : Fault) → held y ≡ record (held x) { place = place_of y.window }
     → Reads x.window y.window (λ a b. space tabs a (place_of x.window) ≡ Ok (read b y.window w)) → Fails (go w) y z f → Fails (λ t. lexed (space tabs t.rest t.held.place) t.held go) x z f
 fails_lexed tabs go w x y z f e run d = record { runs = Reads-then _ _ _ run d.runs (λ a b c p q n. rw (p, ← e) (q n)) }
 
@@ -117,10 +117,10 @@ entry_apart a c b h u e f n q = let t : is_break (peek a) || is_flow (peek a) �
 pub looked : {T : Type 0} (x : Fetcher T) (w : Reading T) → SamePlace x.window w → held (record x { window = w }) ≡ held x
 looked x w same = ap (λ p. record (held x) { place = p }) (same_place _ _ same)
 
-pub after_look : (f : State → Result State Fault) (a b : List ℕ) (h u : Held) → b ≡ a → u ≡ h → f (record { rest = b; held = h }) ≡ Ok (record { rest = b; held = h }) → f (record { rest = a; held = h }) ≡ Ok (record { rest = b; held = u })
+pub after_look : (f : ScannerState → Result ScannerState Fault) (a b : List ℕ) (h u : Held) → b ≡ a → u ≡ h → f (record { rest = b; held = h }) ≡ Ok (record { rest = b; held = h }) → f (record { rest = a; held = h }) ≡ Ok (record { rest = b; held = u })
 after_look f a b h u i e p = rw (← i, e) p
 
-pub before_look : (f : State → Result State Fault) (a b : List ℕ) (h : Held) (r : Result State Fault) → b ≡ a → f (record { rest = b; held = h }) ≡ r → f (record { rest = a; held = h }) ≡ r
+pub before_look : (f : ScannerState → Result ScannerState Fault) (a b : List ℕ) (h : Held) (r : Result ScannerState Fault) → b ≡ a → f (record { rest = b; held = h }) ≡ r → f (record { rest = a; held = h }) ≡ r
 before_look f a b h r i p = rw (← i) p
 
 -- ---- keys and values

@@ -12,7 +12,7 @@ use Rattle.yaml_tokens.specs.declared.problem.Problem.TheVariants as problem
 use Rattle.model_scanner.specs.declared.class.Class.{Class}
 use Rattle.model_scanner.specs.declared.class.Class.TheVariants as class
 use Rattle.model_scanner.specs.Class.{class_of}
-use Rattle.model_scanner.specs.State.{Held, State, peek, in_flow}
+use Rattle.model_scanner.specs.State.{Held, ScannerState, peek, in_flow}
 use Rattle.model_scanner.specs.Document.{fetch_stream_start, begin_stream, fetch_stream_end, fetch_directive, fetch_document_marker, fetch_document_end, fetch_block_scalar, fetch_plain_scalar}
 use Rattle.model_scanner.specs.Fetch.{comes_marker, token_by, fetch_token, fetch_indented, fetch_first_column, fetch_content, fetch_here, fetch_next, fetch}
 use Rattle.model_scanner.specs.Keys.{stale}
@@ -26,10 +26,10 @@ use Rattle.yaml_chars.proofs.ReadingLemmas.{Reads-then}
 use Rattle.yaml_scanner.proofs.FetchLemmas.{peek_first, does_as, fails_as, sees_map}
 
 -- a refusal after steps that look at characters
-pub fails_from : {T : Type 0} {f h : State → Result State Fault} (x0 x1 y : Fetcher T) (e : Fault) → y.window ≡ x1.window → Does f x0 x1 → ((a b : List ℕ) → f (state a x0) ≡ Ok (state b x1) → h (state a x0) ≡ Err e) → Fails h x0 y e
+pub fails_from : {T : Type 0} {f h : ScannerState → Result ScannerState Fault} (x0 x1 y : Fetcher T) (e : Fault) → y.window ≡ x1.window → Does f x0 x1 → ((a b : List ℕ) → f (state a x0) ≡ Ok (state b x1) → h (state a x0) ≡ Err e) → Fails h x0 y e
 fails_from x0 x1 y e w d both = record { runs = Reads-along _ _ _ _ refl w (Reads-map _ _ d.runs (λ a b p n. both a b p)) }
 
-pub fails_after : {T : Type 0} {f k h : State → Result State Fault} (x0 y1 x2 y2 y : Fetcher T) (e : Fault) → x2.window ≡ y1.window → y.window ≡ y2.window → Does f x0 y1 → Does k x2 y2
+pub fails_after : {T : Type 0} {f k h : ScannerState → Result ScannerState Fault} (x0 y1 x2 y2 y : Fetcher T) (e : Fault) → x2.window ≡ y1.window → y.window ≡ y2.window → Does f x0 y1 → Does k x2 y2
     → ((a b d : List ℕ) → f (state a x0) ≡ Ok (state b y1) → k (state b x2) ≡ Ok (state d y2) → h (state a x0) ≡ Err e) → Fails h x0 y e
 fails_after x0 y1 x2 y2 y e v w d1 d2 both = record { runs = Reads-along _ _ _ _ refl w (Reads-then _ _ _ d1.runs (Reads-along _ _ _ _ (sym v) refl d2.runs) (λ a b d p q n. both a b d p q)) }
 
@@ -46,7 +46,7 @@ pub arm_fails : {T X : Type 0} (x y : Fetcher T) (r : Result X Fault) (n : ℕ) 
 arm_fails x y r n k l see e f d = fails_as (token_by l) fetch_token x y r (by_class x n k l see e f) d
 
 -- what is none of the first classes is a scalar or refused
-token_scalar : (k : Class) (t : State) → k ≢ class.OpenBracket → k ≢ class.OpenBrace → k ≢ class.CloseBracket → k ≢ class.CloseBrace → k ≢ class.Comma → k ≢ class.Dash → k ≢ class.Question → k ≢ class.Colon → k ≢ class.Asterisk → k ≢ class.Ampersand → k ≢ class.Exclamation → token_by k t ≡ scalar_by k t
+token_scalar : (k : Class) (t : ScannerState) → k ≢ class.OpenBracket → k ≢ class.OpenBrace → k ≢ class.CloseBracket → k ≢ class.CloseBrace → k ≢ class.Comma → k ≢ class.Dash → k ≢ class.Question → k ≢ class.Colon → k ≢ class.Asterisk → k ≢ class.Ampersand → k ≢ class.Exclamation → token_by k t ≡ scalar_by k t
 unfolding scalar_by fetch_bar
 token_scalar class.Nul t n1 n2 n3 n4 n5 n6 n7 n8 n9 n10 n11 = refl
 token_scalar class.Space t n1 n2 n3 n4 n5 n6 n7 n8 n9 n10 n11 = refl
@@ -74,7 +74,7 @@ token_scalar class.AtSign t n1 n2 n3 n4 n5 n6 n7 n8 n9 n10 n11 = refl
 token_scalar class.Backtick t n1 n2 n3 n4 n5 n6 n7 n8 n9 n10 n11 = refl
 token_scalar class.Other t n1 n2 n3 n4 n5 n6 n7 n8 n9 n10 n11 = refl
 
-see_scalar : {T : Type 0} (x : Fetcher T) (n : ℕ) (k : Class) → Sees x.window (λ a. n ≡ slice_index a 0) → k ≡ class_of n → ((t : State) → token_by k t ≡ scalar_by k t) → Sees x.window (λ a. fetch_token (state a x) ≡ scalar_by k (state a x))
+see_scalar : {T : Type 0} (x : Fetcher T) (n : ℕ) (k : Class) → Sees x.window (λ a. n ≡ slice_index a 0) → k ≡ class_of n → ((t : ScannerState) → token_by k t ≡ scalar_by k t) → Sees x.window (λ a. fetch_token (state a x) ≡ scalar_by k (state a x))
 see_scalar x n k see e f = sees_map x.window (by_class x n k k see e refl) (λ a i. i ∙ f (state a x))
 
 pub rest_does : {T X : Type 0} (x y : Fetcher T) (r : Result X Fault) (n : ℕ) (k : Class) → Sees x.window (λ a. n ≡ slice_index a 0) → k ≡ class_of n → k ≢ class.OpenBracket → k ≢ class.OpenBrace → k ≢ class.CloseBracket → k ≢ class.CloseBrace → k ≢ class.Comma → k ≢ class.Dash → k ≢ class.Question → k ≢ class.Colon → k ≢ class.Asterisk → k ≢ class.Ampersand → k ≢ class.Exclamation → OnOk r (Does (scalar_by k) x y) → OnOk r (Does fetch_token x y)
@@ -94,10 +94,10 @@ scalar_does x y r k l e d = does_as (scalar_by l) (scalar_by k) x y r (scalar_is
 pub scalar_fails : {T X : Type 0} (x y : Fetcher T) (r : Result X Fault) (k l : Class) → k ≡ l → IfErr r (λ e. Fails (scalar_by l) x y e) → IfErr r (λ e. Fails (scalar_by k) x y e)
 scalar_fails x y r k l e d = fails_as (scalar_by l) (scalar_by k) x y r (scalar_is x k l e) d
 
-pub refused : {T : Type 0} (x : Fetcher T) (k l : Class) (q : Problem) (p : Position) → k ≡ l → p ≡ (held x).place → ((t : State) → scalar_by l t ≡ Err (At q t.held.place)) → Fails (scalar_by k) x x (At q p)
+pub refused : {T : Type 0} (x : Fetcher T) (k l : Class) (q : Problem) (p : Position) → k ≡ l → p ≡ (held x).place → ((t : ScannerState) → scalar_by l t ≡ Err (At q t.held.place)) → Fails (scalar_by k) x x (At q p)
 refused x k l q p e f g = fails_held x x (At q p) refl (λ a n. ap (λ m. scalar_by m (state a x)) e ∙ g (state a x) ∙ ap (λ y. Err (At q y)) (sym f))
 
-scalar_plain : (k : Class) (t : State) → k ≢ class.Bar → k ≢ class.Greater → k ≢ class.SingleQuote → k ≢ class.DoubleQuote → k ≢ class.Percent → k ≢ class.AtSign → k ≢ class.Backtick → scalar_by k t ≡ fetch_plain_scalar t
+scalar_plain : (k : Class) (t : ScannerState) → k ≢ class.Bar → k ≢ class.Greater → k ≢ class.SingleQuote → k ≢ class.DoubleQuote → k ≢ class.Percent → k ≢ class.AtSign → k ≢ class.Backtick → scalar_by k t ≡ fetch_plain_scalar t
 unfolding scalar_by
 scalar_plain class.Nul t n1 n2 n3 n4 n5 n6 n7 = refl
 scalar_plain class.Space t n1 n2 n3 n4 n5 n6 n7 = refl
@@ -182,15 +182,15 @@ pub at_percent : {T : Type 0} (x : Fetcher T) (c : ℕ) → Sees x.window (λ a.
 unfolding fetch_first_column
 at_percent x c see e = sees_map x.window see (λ a i. let t : (peek a == 37) ≡ true = rw (peek_first a, ← i, e) refl in rw t refl)
 
-start_held : (t : State) (c : ℕ) (b : Bool) → c ≡ slice_index t.rest 0 → c ≢ 37 → b ≡ comes_marker 45 t.rest → b ≡ true → fetch_first_column t ≡ fetch_document_marker Tok.document_start t
+start_held : (t : ScannerState) (c : ℕ) (b : Bool) → c ≡ slice_index t.rest 0 → c ≢ 37 → b ≡ comes_marker 45 t.rest → b ≡ true → fetch_first_column t ≡ fetch_document_marker Tok.document_start t
 unfolding fetch_first_column
 start_held t c b i e k f = let n : (peek t.rest == 37) ≡ false = rw (peek_first t.rest, ← i) (is_not c 37 e) in let m : comes_marker 45 t.rest ≡ true = sym k ∙ f in rw (n, m) refl
 
-end_held : (t : State) (c : ℕ) (b d : Bool) → c ≡ slice_index t.rest 0 → c ≢ 37 → b ≡ comes_marker 45 t.rest → b ≡ false → d ≡ comes_marker 46 t.rest → d ≡ true → fetch_first_column t ≡ fetch_document_end t
+end_held : (t : ScannerState) (c : ℕ) (b d : Bool) → c ≡ slice_index t.rest 0 → c ≢ 37 → b ≡ comes_marker 45 t.rest → b ≡ false → d ≡ comes_marker 46 t.rest → d ≡ true → fetch_first_column t ≡ fetch_document_end t
 unfolding fetch_first_column
 end_held t c b d i e k f l g = let n : (peek t.rest == 37) ≡ false = rw (peek_first t.rest, ← i) (is_not c 37 e) in let m : comes_marker 45 t.rest ≡ false = sym k ∙ f in let o : comes_marker 46 t.rest ≡ true = sym l ∙ g in rw (n, m, o) refl
 
-other_held : (t : State) (c : ℕ) (b d : Bool) → c ≡ slice_index t.rest 0 → c ≢ 37 → b ≡ comes_marker 45 t.rest → b ≡ false → d ≡ comes_marker 46 t.rest → d ≡ false → fetch_first_column t ≡ fetch_indented t
+other_held : (t : ScannerState) (c : ℕ) (b d : Bool) → c ≡ slice_index t.rest 0 → c ≢ 37 → b ≡ comes_marker 45 t.rest → b ≡ false → d ≡ comes_marker 46 t.rest → d ≡ false → fetch_first_column t ≡ fetch_indented t
 unfolding fetch_first_column
 other_held t c b d i e k f l g = let n : (peek t.rest == 37) ≡ false = rw (peek_first t.rest, ← i) (is_not c 37 e) in let m : comes_marker 45 t.rest ≡ false = sym k ∙ f in let o : comes_marker 46 t.rest ≡ false = sym l ∙ g in rw (n, m, o) refl
 

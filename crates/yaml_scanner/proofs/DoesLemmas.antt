@@ -5,7 +5,7 @@ use Rattle.yaml_chars.specs.Reading.{Reading, Reads, SamePlace, place_of}
 use Rattle.yaml_chars.proofs.ReadingLemmas.{Reads-then}
 use Rattle.yaml_tokens.specs.declared.problem.Fault.{Fault}
 use Rattle.yaml_tokens.specs.declared.problem.Fault.TheVariants.{OutOfMemory}
-use Rattle.model_scanner.specs.State.{Held, State}
+use Rattle.model_scanner.specs.State.{Held, ScannerState}
 use Rattle.yaml_scanner.specs.declared.fetcher.Fetcher.{Fetcher}
 use Rattle.yaml_scanner.specs.Shape.{state, Does, Fails}
 
@@ -20,25 +20,25 @@ pub same_place : {T : Type 0} (old new : Reading T) → SamePlace old new → pl
 same_place old new same = let a = same.at in let l = same.line in let c = same.col in cc
 
 -- a step that looks at no character around one that does
-pub does_in : {T : Type 0} {f h : State → Result State Fault} (x0 x1 y1 y0 : Fetcher T) → x1.window ≡ x0.window → y0.window ≡ y1.window → Does f x1 y1
+pub does_in : {T : Type 0} {f h : ScannerState → Result ScannerState Fault} (x0 x1 y1 y0 : Fetcher T) → x1.window ≡ x0.window → y0.window ≡ y1.window → Does f x1 y1
     → ((a b : List ℕ) → f (state a x1) ≡ Ok (state b y1) → h (state a x0) ≡ Ok (state b y0)) → Does h x0 y0
 does_in x0 x1 y1 y0 e f d both = record { runs = Reads-along _ _ _ _ (sym e) f (Reads-map _ _ d.runs both) }
 
-pub fails_in : {T : Type 0} {f h : State → Result State Fault} (x0 x1 y1 y0 : Fetcher T) (x : Fault) → x1.window ≡ x0.window → y0.window ≡ y1.window → Fails f x1 y1 x
+pub fails_in : {T : Type 0} {f h : ScannerState → Result ScannerState Fault} (x0 x1 y1 y0 : Fetcher T) (x : Fault) → x1.window ≡ x0.window → y0.window ≡ y1.window → Fails f x1 y1 x
     → ((a : List ℕ) → f (state a x1) ≡ Err x → h (state a x0) ≡ Err x) → Fails h x0 y0 x
 fails_in x0 x1 y1 y0 x e f d both = record { runs = Reads-along _ _ _ _ (sym e) f (Reads-map _ _ d.runs (λ a b p n. both a (p n))) }
 
 -- two steps
-pub does_then : {T : Type 0} {f k h : State → Result State Fault} (x0 x1 y1 x2 y2 y0 : Fetcher T) → x1.window ≡ x0.window → x2.window ≡ y1.window → y0.window ≡ y2.window → Does f x1 y1 → Does k x2 y2
+pub does_then : {T : Type 0} {f k h : ScannerState → Result ScannerState Fault} (x0 x1 y1 x2 y2 y0 : Fetcher T) → x1.window ≡ x0.window → x2.window ≡ y1.window → y0.window ≡ y2.window → Does f x1 y1 → Does k x2 y2
     → ((a b d : List ℕ) → f (state a x1) ≡ Ok (state b y1) → k (state b x2) ≡ Ok (state d y2) → h (state a x0) ≡ Ok (state d y0)) → Does h x0 y0
 does_then x0 x1 y1 x2 y2 y0 e f i d1 d2 both = record { runs = Reads-along _ _ _ _ (sym e) i (Reads-then _ _ _ d1.runs (Reads-along _ _ _ _ (sym f) refl d2.runs) (λ a b d p q. both a b d p q)) }
 
-pub fails_then : {T : Type 0} {f k h : State → Result State Fault} (x0 x1 y1 x2 y2 y0 : Fetcher T) (x : Fault) → x1.window ≡ x0.window → x2.window ≡ y1.window → y0.window ≡ y2.window → Does f x1 y1 → Fails k x2 y2 x
+pub fails_then : {T : Type 0} {f k h : ScannerState → Result ScannerState Fault} (x0 x1 y1 x2 y2 y0 : Fetcher T) (x : Fault) → x1.window ≡ x0.window → x2.window ≡ y1.window → y0.window ≡ y2.window → Does f x1 y1 → Fails k x2 y2 x
     → ((a b : List ℕ) → f (state a x1) ≡ Ok (state b y1) → k (state b x2) ≡ Err x → h (state a x0) ≡ Err x) → Fails h x0 y0 x
 fails_then x0 x1 y1 x2 y2 y0 x e f i d1 d2 both = record { runs = Reads-along _ _ _ _ (sym e) i (Reads-then _ _ _ d1.runs (Reads-along _ _ _ _ (sym f) refl d2.runs) (λ a b d p q n. both a b p (q n))) }
 
 -- out of memory is no refusal of the model
-pub no_memory : {T : Type 0} {P : List ℕ → List ℕ → Type 0} {h : State → Result State Fault} (x0 y0 : Fetcher T) (x : Fault) → x ≡ OutOfMemory → Reads x0.window y0.window P → Fails h x0 y0 x
+pub no_memory : {T : Type 0} {P : List ℕ → List ℕ → Type 0} {h : ScannerState → Result ScannerState Fault} (x0 y0 : Fetcher T) (x : Fault) → x ≡ OutOfMemory → Reads x0.window y0.window P → Fails h x0 y0 x
 no_memory x0 y0 x e run = record { runs = Reads-map _ _ run (λ a b p n. absurd (n e)) }
 
 -- nothing was read
@@ -46,10 +46,10 @@ pub Reads-none : {T : Type 0} (s : Reading T) → Reads s s (λ a b. b ≡ a)
 Reads-none s = record { start = refl; at = omega arith; left = omega arith; back = λ w p. p; reads = λ w p. refl }
 
 -- a refusal that looks at no character
-pub fails_held : {T : Type 0} {h : State → Result State Fault} (x0 y0 : Fetcher T) (x : Fault) → y0.window ≡ x0.window → ((a : List ℕ) → x ≢ OutOfMemory → h (state a x0) ≡ Err x) → Fails h x0 y0 x
+pub fails_held : {T : Type 0} {h : ScannerState → Result ScannerState Fault} (x0 y0 : Fetcher T) (x : Fault) → y0.window ≡ x0.window → ((a : List ℕ) → x ≢ OutOfMemory → h (state a x0) ≡ Err x) → Fails h x0 y0 x
 fails_held x0 y0 x e f = record { runs = Reads-along _ _ _ _ refl e (Reads-map _ _ (Reads-none x0.window) (λ a b p n. f a n)) }
 
-abbrev pub okay : List ℕ → Held → Result State Fault
+abbrev pub okay : List ℕ → Held → Result ScannerState Fault
 okay a h = Ok (record { rest = a; held = h })
 
 -- a fault that is passed on

@@ -11,19 +11,16 @@ use Rattle.model_lexers.specs.declared.context.SkipTabs.{SkipTabs}
 use Rattle.model_lexers.specs.declared.context.SkipTabs.TheVariants.{Yes}
 use Rattle.model_lexers.specs.declared.context.Whitespace.{Whitespace}
 use Rattle.model_lexers.specs.Space.{space}
-use Rattle.model_scanner.specs.State.{Held, State, peek, in_flow}
-use Rattle.model_scanner.specs.Space.{skip_spaces}
+use Rattle.model_scanner.specs.State.{Held, ScannerState, peek, in_flow, ◌>>=◌, on_held, push}
+use Rattle.model_scanner.specs.Space.{skip_spaces, skip_to_next_token}
 use Rattle.model_scanner.specs.Document.{fetch_document_marker, check_document_end, fetch_document_end, context, quoted_style, adjacent_here, may_follow_quoted, check_after_quoted, fetch_flow_scalar}
-use Rattle.yaml_chars.specs.Class.{is_breakz}
+use Rattle.yaml_chars.specs.Class.{is_breakz, is_blank_or_breakz}
 use Rattle.defs_token.specs.Token.{Tok, Style}
 use Rattle.model_lexers.specs.declared.context.Context.{Context}
 use Rattle.model_lexers.specs.Quoted.{quoted}
-use Rattle.model_scanner.specs.State.{◌>>=◌, on_held, push}
-use Rattle.model_scanner.specs.Keys.{save_simple_key}
-use Rattle.model_scanner.specs.Space.{skip_to_next_token}
+use Rattle.model_scanner.specs.Keys.{save_implicit_key}
 use Rattle.yaml_scanner.specs.Steps.{end_quoted}
 use Rattle.yaml_scanner.proofs.DoesLemmas.{Reads-along, Reads-map, Reads-none, same_place}
-use Rattle.yaml_chars.specs.Class.{is_blank_or_breakz}
 use Rattle.model_scanner.specs.Fetch.{comes_marker}
 use Rattle.yaml_scanner.specs.declared.fetcher.Fetcher.{Fetcher}
 use Rattle.yaml_scanner.specs.Shape.{held, state, Does, Fails}
@@ -34,20 +31,20 @@ peek_first [] = refl
 peek_first (c ∷ a) = refl
 
 -- one step does here what another does
-pub does_as : {T X : Type 0} (f h : State → Result State Fault) (x y : Fetcher T) (r : Result X Fault) → Sees x.window (λ a. h (state a x) ≡ f (state a x)) → OnOk r (Does f x y) → OnOk r (Does h x y)
+pub does_as : {T X : Type 0} (f h : ScannerState → Result ScannerState Fault) (x y : Fetcher T) (r : Result X Fault) → Sees x.window (λ a. h (state a x) ≡ f (state a x)) → OnOk r (Does f x y) → OnOk r (Does h x y)
 does_as f h x y (Ok v) same d = record { runs = Reads-saw _ _ same d.runs (λ a b p q. p ∙ q) }
 does_as f h x y (Err e) same d = tt
 
-pub fails_as : {T X : Type 0} (f h : State → Result State Fault) (x y : Fetcher T) (r : Result X Fault) → Sees x.window (λ a. h (state a x) ≡ f (state a x)) → IfErr r (λ e. Fails f x y e) → IfErr r (λ e. Fails h x y e)
+pub fails_as : {T X : Type 0} (f h : ScannerState → Result ScannerState Fault) (x y : Fetcher T) (r : Result X Fault) → Sees x.window (λ a. h (state a x) ≡ f (state a x)) → IfErr r (λ e. Fails f x y e) → IfErr r (λ e. Fails h x y e)
 fails_as f h x y (Ok v) same d = tt
 fails_as f h x y (Err e) same d = record { runs = Reads-saw _ _ same d.runs (λ a b p q n. p ∙ q n) }
 
 -- and also after a look at what comes
-pub does_after : {T X : Type 0} (f : State → Result State Fault) (x0 x1 y : Fetcher T) (r : Result X Fault) → Reads x0.window x1.window (λ a b. b ≡ a) → held x1 ≡ held x0 → OnOk r (Does f x1 y) → OnOk r (Does f x0 y)
+pub does_after : {T X : Type 0} (f : ScannerState → Result ScannerState Fault) (x0 x1 y : Fetcher T) (r : Result X Fault) → Reads x0.window x1.window (λ a b. b ≡ a) → held x1 ≡ held x0 → OnOk r (Does f x1 y) → OnOk r (Does f x0 y)
 does_after f x0 x1 y (Ok v) look e d = record { runs = Reads-then _ _ _ look d.runs (λ a b d p q. rw (← p, ← e) q) }
 does_after f x0 x1 y (Err x) look e d = tt
 
-pub fails_after : {T X : Type 0} (f : State → Result State Fault) (x0 x1 y : Fetcher T) (r : Result X Fault) → Reads x0.window x1.window (λ a b. b ≡ a) → held x1 ≡ held x0 → IfErr r (λ e. Fails f x1 y e) → IfErr r (λ e. Fails f x0 y e)
+pub fails_after : {T X : Type 0} (f : ScannerState → Result ScannerState Fault) (x0 x1 y : Fetcher T) (r : Result X Fault) → Reads x0.window x1.window (λ a b. b ≡ a) → held x1 ≡ held x0 → IfErr r (λ e. Fails f x1 y e) → IfErr r (λ e. Fails f x0 y e)
 fails_after f x0 x1 y (Ok v) look e d = tt
 fails_after f x0 x1 y (Err x) look e d = record { runs = Reads-then _ _ _ look d.runs (λ a b d p q n. rw (← p, ← e) (q n)) }
 
@@ -108,7 +105,7 @@ pub on_ok_map : {X E : Type 0} (r : Result X E) (P Q : Type 0) → OnOk r P → 
 on_ok_map (Ok v) P Q p f = f p
 on_ok_map (Err e) P Q p f = tt
 
-pub does_held : {T : Type 0} {h : State → Result State Fault} (x y : Fetcher T) → y.window ≡ x.window → ((a : List ℕ) → h (state a x) ≡ Ok (state a y)) → Does h x y
+pub does_held : {T : Type 0} {h : ScannerState → Result ScannerState Fault} (x y : Fetcher T) → y.window ≡ x.window → ((a : List ℕ) → h (state a x) ≡ Ok (state a y)) → Does h x y
 does_held x y e f = record { runs = Reads-along _ _ _ _ refl e (Reads-map _ _ (Reads-none x.window) (λ a b p. rw p (f a))) }
 
 -- what is held stays where more of the text was looked at
@@ -132,23 +129,23 @@ unfolding end_quoted
 quoted_not_ended line a b h u x e f = rw (e, f) refl
 
 -- three steps of which the last two are one
-tail_ok : (r : Result State Fault) (k : State → Result State Fault) (f g : Held → Held) (x : State) → (r >>= λ u. k u >>= λ v. Ok (on_held f v)) ≡ Ok x → (r >>= λ u. k u >>= λ v. Ok (on_held (λ s. g (f s)) v)) ≡ Ok (on_held g x)
+tail_ok : (r : Result ScannerState Fault) (k : ScannerState → Result ScannerState Fault) (f g : Held → Held) (x : ScannerState) → (r >>= λ u. k u >>= λ v. Ok (on_held f v)) ≡ Ok x → (r >>= λ u. k u >>= λ v. Ok (on_held (λ s. g (f s)) v)) ≡ Ok (on_held g x)
 tail_ok (Err e) k f g x h = absurd cc
 tail_ok (Ok u) k f g x h = last (k u) h
   where
-    last : (q : Result State Fault) → (q >>= λ v. Ok (on_held f v)) ≡ Ok x → (q >>= λ v. Ok (on_held (λ s. g (f s)) v)) ≡ Ok (on_held g x)
+    last : (q : Result ScannerState Fault) → (q >>= λ v. Ok (on_held f v)) ≡ Ok x → (q >>= λ v. Ok (on_held (λ s. g (f s)) v)) ≡ Ok (on_held g x)
     last (Err e) h = absurd cc
     last (Ok v) h = let e : on_held f v ≡ x = cc in rw (← e) refl
 
-tail_err : (r : Result State Fault) (k : State → Result State Fault) (f g : Held → Held) (x : Fault) → (r >>= λ u. k u >>= λ v. Ok (on_held f v)) ≡ Err x → (r >>= λ u. k u >>= λ v. Ok (on_held (λ s. g (f s)) v)) ≡ Err x
+tail_err : (r : Result ScannerState Fault) (k : ScannerState → Result ScannerState Fault) (f g : Held → Held) (x : Fault) → (r >>= λ u. k u >>= λ v. Ok (on_held f v)) ≡ Err x → (r >>= λ u. k u >>= λ v. Ok (on_held (λ s. g (f s)) v)) ≡ Err x
 tail_err (Err e) k f g x h = cc
 tail_err (Ok u) k f g x h = last (k u) h
   where
-    last : (q : Result State Fault) → (q >>= λ v. Ok (on_held f v)) ≡ Err x → (q >>= λ v. Ok (on_held (λ s. g (f s)) v)) ≡ Err x
+    last : (q : Result ScannerState Fault) → (q >>= λ v. Ok (on_held f v)) ≡ Err x → (q >>= λ v. Ok (on_held (λ s. g (f s)) v)) ≡ Err x
     last (Err e) h = cc
     last (Ok v) h = absurd cc
 
-pub flow_read : (single : Bool) (a b d : List ℕ) (h u v w : Held) (x : Context) (p q m : Position) (n : ℕ) (text : List ℕ) (y : Style) → u ≡ save_simple_key h → x ≡ context (record u { key_allowed = false }) → q ≡ h.place
+pub flow_read : (single : Bool) (a b d : List ℕ) (h u v w : Held) (x : Context) (p q m : Position) (n : ℕ) (text : List ℕ) (y : Style) → u ≡ save_implicit_key h → x ≡ context (record u { key_allowed = false }) → q ≡ h.place
     → quoted single x a q ≡ Ok (record { rest = b; place = p; value = text }) → m ≡ h.place → n ≡ m.line → end_quoted n (record { rest = b; held = record u { place = p; key_allowed = false; leading = false } }) ≡ Ok (record { rest = d; held = v })
     → y ≡ quoted_style single → w ≡ push m (Tok.scalar y text) v → fetch_flow_scalar single (record { rest = a; held = h }) ≡ Ok (record { rest = d; held = w })
 unfolding fetch_flow_scalar end_quoted
@@ -158,12 +155,12 @@ flow_read single a b d h u v w x p q m n text y e i k l f o r j g =
     let t = tail_ok _ skip_to_next_token adjacent_here (λ s. push h.place (Tok.scalar (quoted_style single) text) s) _ r' in
     rw (l', g, j, f) t
 
-pub flow_not_read : (single : Bool) (a : List ℕ) (h u : Held) (x : Context) (q : Position) (z : Fault) → u ≡ save_simple_key h → x ≡ context (record u { key_allowed = false }) → q ≡ h.place → quoted single x a q ≡ Err z
+pub flow_not_read : (single : Bool) (a : List ℕ) (h u : Held) (x : Context) (q : Position) (z : Fault) → u ≡ save_implicit_key h → x ≡ context (record u { key_allowed = false }) → q ≡ h.place → quoted single x a q ≡ Err z
     → fetch_flow_scalar single (record { rest = a; held = h }) ≡ Err z
 unfolding fetch_flow_scalar
 flow_not_read single a h u x q z e i k l = let l' = rw (i, k, e) at l in rw l' refl
 
-pub flow_not_ended : (single : Bool) (a b : List ℕ) (h u : Held) (x : Context) (p q m : Position) (n : ℕ) (text : List ℕ) (z : Fault) → u ≡ save_simple_key h → x ≡ context (record u { key_allowed = false }) → q ≡ h.place
+pub flow_not_ended : (single : Bool) (a b : List ℕ) (h u : Held) (x : Context) (p q m : Position) (n : ℕ) (text : List ℕ) (z : Fault) → u ≡ save_implicit_key h → x ≡ context (record u { key_allowed = false }) → q ≡ h.place
     → quoted single x a q ≡ Ok (record { rest = b; place = p; value = text }) → m ≡ h.place → n ≡ m.line → end_quoted n (record { rest = b; held = record u { place = p; key_allowed = false; leading = false } }) ≡ Err z
     → fetch_flow_scalar single (record { rest = a; held = h }) ≡ Err z
 unfolding fetch_flow_scalar end_quoted

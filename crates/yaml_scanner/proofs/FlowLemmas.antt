@@ -11,7 +11,7 @@ use Rattle.model_lexers.specs.declared.context.SkipTabs.TheVariants.{Yes}
 use Rattle.model_scanner.specs.declared.level.FlowLevel.{FlowLevel}
 use Rattle.model_scanner.specs.declared.level.FlowLevel.TheVariants.{Mapping, Entry, Keyed, Pair}
 use Rattle.model_scanner.specs.State.{Key, Held, in_flow, push, pop, top, with_top}
-use Rattle.model_scanner.specs.Keys.{save_simple_key, remove_simple_key}
+use Rattle.model_scanner.specs.Keys.{save_implicit_key, remove_implicit_key}
 use Rattle.model_scanner.specs.Indents.{roll_one_col_indent}
 use Rattle.model_scanner.specs.Space.{skip_spaces}
 use Rattle.model_scanner.specs.Flow.{increase_flow_level, allow_key, begin_flow, pass_indicator, end_pair, end_flow_pair, decrease_flow_level, adjacent_in_flow, end_flow, end_entry, fetch_flow_collection_start, fetch_flow_collection_end, fetch_flow_entry}
@@ -33,11 +33,11 @@ pub increased : (k l : FlowLevel) (h : Held) (n : ℕ) (ks : List (Option Key)) 
 unfolding increase_flow_level
 increased k l h n ks fs e m f g i = let t : nat_le 255 (length h.flow) ≡ false = rw (← e) (flat_test n m) in rw (t, f, g, i) refl
 
-pub flow_begun : (k : FlowLevel) (h u v w : Held) → u ≡ save_simple_key h → v ≡ roll_one_col_indent u → increase_flow_level k v ≡ Ok w → begin_flow k h ≡ Ok (record w { key_allowed = true })
+pub flow_begun : (k : FlowLevel) (h u v w : Held) → u ≡ save_implicit_key h → v ≡ roll_one_col_indent u → increase_flow_level k v ≡ Ok w → begin_flow k h ≡ Ok (record w { key_allowed = true })
 unfolding begin_flow
 flow_begun k h u v w e f i = let i' = rw (f, e) at i in rw i' refl
 
-pub flow_refused : (k : FlowLevel) (h u v : Held) (x : Fault) → u ≡ save_simple_key h → v ≡ roll_one_col_indent u → increase_flow_level k v ≡ Err x → begin_flow k h ≡ Err x
+pub flow_refused : (k : FlowLevel) (h u v : Held) (x : Fault) → u ≡ save_implicit_key h → v ≡ roll_one_col_indent u → increase_flow_level k v ≡ Err x → begin_flow k h ≡ Err x
 unfolding begin_flow
 flow_refused k h u v x e f i = let i' = rw (f, e) at i in rw i' refl
 
@@ -58,19 +58,19 @@ pub start_failed : (k : FlowLevel) (t : Tok) (a : List ℕ) (h u : Held) (x : Fa
 unfolding fetch_flow_collection_start
 start_failed k t a h u x e f = rw (e, f) refl
 
-pub flow_ended : (h u v w : Held) → remove_simple_key h ≡ Ok u → v ≡ end_flow_pair u → w ≡ decrease_flow_level v → end_flow h ≡ Ok (record w { key_allowed = false })
+pub flow_ended : (h u v w : Held) → remove_implicit_key h ≡ Ok u → v ≡ end_flow_pair u → w ≡ decrease_flow_level v → end_flow h ≡ Ok (record w { key_allowed = false })
 unfolding end_flow
 flow_ended h u v w e f g = let g' = rw f at g in rw (e, g') refl
 
-pub end_refused : (h : Held) (x : Fault) → remove_simple_key h ≡ Err x → end_flow h ≡ Err x
+pub end_refused : (h : Held) (x : Fault) → remove_implicit_key h ≡ Err x → end_flow h ≡ Err x
 unfolding end_flow
 end_refused h x e = rw e refl
 
-pub entry_ended : (h u v : Held) → remove_simple_key h ≡ Ok u → v ≡ end_flow_pair (allow_key true u) → end_entry h ≡ Ok v
+pub entry_ended : (h u v : Held) → remove_implicit_key h ≡ Ok u → v ≡ end_flow_pair (allow_key true u) → end_entry h ≡ Ok v
 unfolding end_entry
 entry_ended h u v e f = rw (e, f) refl
 
-pub entry_refused : (h : Held) (x : Fault) → remove_simple_key h ≡ Err x → end_entry h ≡ Err x
+pub entry_refused : (h : Held) (x : Fault) → remove_implicit_key h ≡ Err x → end_entry h ≡ Err x
 unfolding end_entry
 entry_refused h x e = rw e refl
 

@@ -13,16 +13,16 @@ use Rattle.yaml_tokens.specs.declared.problem.Fault.TheVariants.{At, OutOfMemory
 use Rattle.model_scanner.specs.Fetch.{fetch}
 use Rattle.model_scanner.specs.Run.{Reaches, here, HasTokens, IsRefused, start, nothing_held}
 use Rattle.model_scanner.proofs.Runs.{one_more, run_to_end, one_list, one_fault, not_refused}
-use Rattle.model_scanner.proofs.Given.{Stands, KeysFrom, reached}
+use Rattle.model_scanner.proofs.Given.{GivenStands, KeysFrom, reached}
 use Rattle.model_scanner.proofs.Ends.{end_is_last}
 use Rattle.yaml_scanner.specs.declared.fetcher.Fetcher.{Fetcher}
-use Rattle.yaml_scanner.specs.declared.fetcher.Kept.{Kept}
-use Rattle.yaml_scanner.specs.declared.keys.SimpleKey.{SimpleKey}
-use Rattle.yaml_scanner.specs.SimpleKeys.{seen, is_front, lowered}
+use Rattle.yaml_scanner.specs.declared.fetcher.KeptFault.{KeptFault}
+use Rattle.yaml_scanner.specs.declared.keys.ImplicitKey.{ImplicitKey}
+use Rattle.yaml_scanner.specs.ImplicitKeys.{seen, is_front, lowered}
 use Rattle.yaml_scanner.specs.Shape.{held, state, Does, Fails}
 use Rattle.yaml_scanner.specs.Tokens.{Tokens, handed, is_end, has_end}
 use Rattle.yaml_scanner.specs.Work.{Fetches}
-use Rattle.yaml_scanner.specs.Follows.{Begins, IsReached, FollowsIn, Follows}
+use Rattle.yaml_scanner.specs.Follows.{BeginsWith, IsReached, FollowsIn, Follows}
 use Rattle.yaml_scanner.specs.Scanned.{inside, kept_fault, IsRefusal, Scans}
 use Rattle.yaml_scanner.proofs.GivenLemmas.{lowered_seen}
 use Rattle.yaml_scanner.proofs.WhereLemmas.{in_text, at_end, not_started, has_started}
@@ -65,7 +65,7 @@ fetched_on x y k g f d m n = λ a p.
     }
 
 -- a refusal, which is then kept
-pub stopped : {T : Type 0} (x y : Fetcher T) (e : Fault) (k : Kept) → k.fault ≡ e → x.kept ≡ None → x.tokens.ended ≡ false → Follows x → Fails fetch x y e → Fetches x y → Follows (record y { kept = Some k })
+pub stopped : {T : Type 0} (x y : Fetcher T) (e : Fault) (k : KeptFault) → k.fault ≡ e → x.kept ≡ None → x.tokens.ended ≡ false → Follows x → Fails fetch x y e → Fetches x y → Follows (record y { kept = Some k })
 stopped x y e k i n g f d m = λ a p.
     let old = f a (d.runs.back a p) in
     record {
@@ -115,7 +115,7 @@ split_at n xs given t e = sym (take-append-drop n xs) ∙ ap (λ ys. ys ++ drop 
 length_at_most : (n : ℕ) (xs : List Token) → length (take n xs) ≤ n
 length_at_most n xs = rw (length-take n xs) (omega arith)
 
-keys_lower : (n m : ℕ) (ks : List (Option SimpleKey)) → n ≤ m → KeysFrom n (seen m ks)
+keys_lower : (n m : ℕ) (ks : List (Option ImplicitKey)) → n ≤ m → KeysFrom n (seen m ks)
 keys_lower n m [] l = tt
 keys_lower n m (None ∷ ks) l = (tt, keys_lower n m ks l)
 keys_lower n m (Some k ∷ ks) l = (omega arith, keys_lower n m ks l)
@@ -149,7 +149,7 @@ module _ {T : Type 0} (x : Fetcher T) (a : List ℕ) (t : Token) (old : FollowsI
   run_after : x.tokens.ended ≡ false → list_any is_front x.keys ≡ false → Reaches (start a) (state (drop x.window.at a) after)
   run_after e front = rw (lowered_seen x.tokens.given x.keys front) (old.run kept e)
 
-  stands_after : Stands (take count x.tokens.all) (held after)
+  stands_after : GivenStands (take count x.tokens.all) (held after)
   stands_after = record {
     stood = record {
       more = drop count x.tokens.all;
@@ -158,7 +158,7 @@ module _ {T : Type 0} (x : Fetcher T) (a : List ℕ) (t : Token) (old : FollowsI
     };
   }
 
-  begins_after : (b : Bool) → x.tokens.ended ≡ b → (x.tokens.ended ≡ false → list_any is_front x.keys ≡ false) → (ts : List Token) → HasTokens a ts → Begins (take count x.tokens.all) ts
+  begins_after : (b : Bool) → x.tokens.ended ≡ b → (x.tokens.ended ≡ false → list_any is_front x.keys ≡ false) → (ts : List Token) → HasTokens a ts → BeginsWith (take count x.tokens.all) ts
   begins_after true e front ts h = record {
     more = drop count x.tokens.all;
     whole = one_list a ts x.tokens.all h (old.all kept e).whole ∙ sym (take-append-drop count x.tokens.all);
@@ -201,7 +201,7 @@ module _ {T : Type 0} (x : Fetcher T) (a : List ℕ) (t : Token) (old : FollowsI
   }
 
 -- a token more is handed out
-pub handed_on : {T : Type 0} (x : Fetcher T) (q : Tokens) (ks : List (Option SimpleKey)) (t : Token) → x.kept ≡ None → x.tokens.over ≡ false → (x.tokens.ended ≡ false → list_any is_front x.keys ≡ false)
+pub handed_on : {T : Type 0} (x : Fetcher T) (q : Tokens) (ks : List (Option ImplicitKey)) (t : Token) → x.kept ≡ None → x.tokens.over ≡ false → (x.tokens.ended ≡ false → list_any is_front x.keys ≡ false)
     → q ≡ record x.tokens { given = x.tokens.given + 1; over = x.tokens.over || is_end t.tok } → handed q ≡ handed x.tokens ++ t ∷ [] → ks ≡ map lowered x.keys → Follows x → Follows (record x { tokens = q; keys = ks })
 handed_on x q ks t k o front e g i f = λ a p. rw (e, i) (follows_after x a t (f a p) k o front (sym (ap handed e) ∙ g))
 
@@ -231,7 +231,7 @@ begun_cut ts a r e n = elim (first_tokens_are_cut a ts r.begins.more r.last (no_
   | inr c ↦ c
 ]
 
-memory_sound : (f : Option Kept) (a : List ℕ) → IfSome f (λ k. k.fault ≢ OutOfMemory → IsRefused a k.fault) → (ts : List Token) → HasTokens a ts → IfSome (option_map kept_fault f) (λ x. x.memory ≡ true)
+memory_sound : (f : Option KeptFault) (a : List ℕ) → IfSome f (λ k. k.fault ≢ OutOfMemory → IsRefused a k.fault) → (ts : List Token) → HasTokens a ts → IfSome (option_map kept_fault f) (λ x. x.memory ≡ true)
 memory_sound None a r ts h = tt
 memory_sound (Some k) a r ts h = by k.fault k.mark r
   where
@@ -239,7 +239,7 @@ memory_sound (Some k) a r ts h = by k.fault k.mark r
     by OutOfMemory m r = refl
     by (At q p) m r = absurd (not_refused a ts (At q p) h (r (λ e. absurd cc)))
 
-memory_says : (f : Option Kept) → IfSome (option_map kept_fault f) (λ x. x.memory ≡ true → x.text ≡ codes "out of memory")
+memory_says : (f : Option KeptFault) → IfSome (option_map kept_fault f) (λ x. x.memory ≡ true → x.text ≡ codes "out of memory")
 memory_says None = tt
 memory_says (Some k) = by k.fault k.mark
   where
@@ -247,7 +247,7 @@ memory_says (Some k) = by k.fault k.mark
     by OutOfMemory m h = refl
     by (At q p) m h = absurd cc
 
-is_refusal : (f : Option Kept) (a : List ℕ) → IfSome f (λ k. k.fault ≢ OutOfMemory → IsRefused a k.fault) → IfSome (option_map kept_fault f) (λ x. x.memory ≡ false → IsRefusal a x)
+is_refusal : (f : Option KeptFault) (a : List ℕ) → IfSome f (λ k. k.fault ≢ OutOfMemory → IsRefused a k.fault) → IfSome (option_map kept_fault f) (λ x. x.memory ≡ false → IsRefusal a x)
 is_refusal None a r = tt
 is_refusal (Some k) a r = by k.fault k.mark r
   where
@@ -255,7 +255,7 @@ is_refusal (Some k) a r = by k.fault k.mark r
     by OutOfMemory m r n = absurd cc
     by (At q p) m r n = record { fault = At q p; place = m; refused = r (λ e. absurd cc); shown = refl; stands = λ n s. faults_stand a (At q p) (no_nul a n) (r (λ e. absurd cc)) s }
 
-one_refusal : (f : Option Kept) (a : List ℕ) → IfSome f (λ k. k.fault ≢ OutOfMemory → IsRefused a k.fault) → (e : Fault) → IsRefused a e → IfSome (option_map kept_fault f) (λ x. x.memory ≡ false → (p : Position) × (x ≡ fault_of e p))
+one_refusal : (f : Option KeptFault) (a : List ℕ) → IfSome f (λ k. k.fault ≢ OutOfMemory → IsRefused a k.fault) → (e : Fault) → IsRefused a e → IfSome (option_map kept_fault f) (λ x. x.memory ≡ false → (p : Position) × (x ≡ fault_of e p))
 one_refusal None a r e i = tt
 one_refusal (Some k) a r e i = by k.fault k.mark r
   where
@@ -263,7 +263,7 @@ one_refusal (Some k) a r e i = by k.fault k.mark r
     by OutOfMemory m r n = absurd cc
     by (At q p) m r n = (m, ap (λ d. fault_of d m) (one_fault a (At q p) e (r (λ e. absurd cc)) i))
 
-none_kept : (f : Option Kept) → option_map kept_fault f ≡ None → f ≡ None
+none_kept : (f : Option KeptFault) → option_map kept_fault f ≡ None → f ≡ None
 none_kept None e = refl
 none_kept (Some k) e = absurd cc
 

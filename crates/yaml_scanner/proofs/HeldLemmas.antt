@@ -9,7 +9,7 @@ use Rattle.yaml_tokens.specs.declared.problem.Fault.TheVariants.{At}
 use Rattle.yaml_tokens.specs.declared.problem.Problem.TheVariants as problem
 use Rattle.model_scanner.specs.declared.level.Indent.{Indent}
 use Rattle.model_scanner.specs.State.{Key, Held, in_flow, token, with_top}
-use Rattle.model_scanner.specs.Keys.{must_be_key, save_simple_key, remove_simple_key, stale, drop_stale, is_required, top_key}
+use Rattle.model_scanner.specs.Keys.{must_be_key, save_implicit_key, remove_implicit_key, stale, drop_stale, is_required, top_key}
 use Rattle.model_scanner.specs.Indents.{level, placed, drop_open, drop_open_level, deepen, roll_indent, in_block, roll_one_col_indent, Levels, with_levels, end_level, unrolled, unroll_indent, without_open, unroll_non_block_indents}
 use Rattle.yaml_scanner.specs.Levels.{Columns, ends_open}
 
@@ -30,20 +30,20 @@ pick_true true x y z e f = f
 pick_true false x y z e f = absurd (cc)
 
 pub saved : (h : Held) (k : Key) (ks : List (Option Key)) → h.key_allowed ≡ true → k ≡ record { required = must_be_key h; number = length h.tokens; place = h.place } → ks ≡ with_top (Some k) h.keys
-    → record h { keys = ks } ≡ save_simple_key h
-unfolding save_simple_key
+    → record h { keys = ks } ≡ save_implicit_key h
+unfolding save_implicit_key
 saved h k ks a e f = pick_true h.key_allowed _ h (record h { keys = ks }) a (ap (λ x. record h { keys = x }) (f ∙ ap (λ x. with_top (Some x) h.keys) e))
 
-pub not_saved : (h : Held) → h.key_allowed ≡ false → h ≡ save_simple_key h
-unfolding save_simple_key
+pub not_saved : (h : Held) → h.key_allowed ≡ false → h ≡ save_implicit_key h
+unfolding save_implicit_key
 not_saved h a = rw a refl
 
-pub removed : (h : Held) (ks : List (Option Key)) (b : Bool) → b ≡ is_required (top_key h.keys) → b ≡ false → ks ≡ with_top None h.keys → remove_simple_key h ≡ Ok (record h { keys = ks })
-unfolding remove_simple_key
+pub removed : (h : Held) (ks : List (Option Key)) (b : Bool) → b ≡ is_required (top_key h.keys) → b ≡ false → ks ≡ with_top None h.keys → remove_implicit_key h ≡ Ok (record h { keys = ks })
+unfolding remove_implicit_key
 removed h ks b e f k = let g : is_required (top_key h.keys) ≡ false = sym e ∙ f in rw (g, k) refl
 
-pub not_removed : (h : Held) (b : Bool) (p : Position) → b ≡ is_required (top_key h.keys) → b ≡ true → p ≡ h.place → remove_simple_key h ≡ Err (At problem.KeyExpected p)
-unfolding remove_simple_key
+pub not_removed : (h : Held) (b : Bool) (p : Position) → b ≡ is_required (top_key h.keys) → b ≡ true → p ≡ h.place → remove_implicit_key h ≡ Err (At problem.KeyExpected p)
+unfolding remove_implicit_key
 not_removed h b p e f k = let g : is_required (top_key h.keys) ≡ true = sym e ∙ f in rw (g, k) refl
 
 pub stale_in_flow : (h : Held) (b : Bool) → b ≡ in_flow h → b ≡ true → stale h ≡ Ok h

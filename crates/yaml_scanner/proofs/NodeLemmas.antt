@@ -1,5 +1,5 @@
 -- Lemmas about directives, anchors and tags.
-use Rattle.std.proofs.Common.{◌≡◌, ℕ, ◌+◌, List, Bool, true, false, refl, ap, sym, ◌∙◌, Ok, Err}
+use Rattle.std.proofs.Common.{◌≡◌, ℕ, ◌+◌, List, Bool, true, false, refl, ap, sym, ◌∙◌, Ok, Err, Option, if◌then◌else◌, ◌==◌}
 use Rattle.defs_text.specs.Position.{Position}
 use Rattle.defs_token.specs.Token.{Tok, Style}
 use Rattle.model_lexers.specs.declared.context.Context.{Context}
@@ -9,22 +9,20 @@ use Rattle.yaml_tokens.specs.declared.problem.Fault.{Fault}
 use Rattle.model_lexers.specs.Anchor.{anchor_name}
 use Rattle.model_lexers.specs.Directive.{directive}
 use Rattle.model_lexers.specs.Tag.{tag}
-use Rattle.std.proofs.Common.{Option, if◌then◌else◌, ◌==◌}
 use Rattle.yaml_chars.specs.Reading.{Reading, after_line, place_of}
 use Rattle.yaml_tokens.specs.declared.problem.Fault.TheVariants.{At}
 use Rattle.yaml_tokens.specs.declared.problem.Problem.TheVariants as problem
-use Rattle.model_scanner.specs.Keys.{has_required, cleared}
+use Rattle.model_scanner.specs.Keys.{has_required, cleared, save_implicit_key, remove_implicit_key}
 use Rattle.model_scanner.specs.State.{Key, Held, in_flow, push, after}
 use Rattle.model_lexers.specs.Machine.{past}
-use Rattle.model_scanner.specs.Keys.{save_simple_key, remove_simple_key}
 use Rattle.model_scanner.specs.Indents.{unroll_indent, unroll_non_block_indents}
 use Rattle.model_scanner.specs.Document.{next_line, fetch_stream_end, fetch_document_marker, begin_line, anchor_token, block_style, context, fetch_directive, fetch_anchor, fetch_tag, fetch_block_scalar, fetch_plain_scalar}
 
-pub line_begun : (h u v : Held) → u ≡ unroll_indent 0 h → remove_simple_key u ≡ Ok v → begin_line h ≡ Ok (record v { key_allowed = false })
+pub line_begun : (h u v : Held) → u ≡ unroll_indent 0 h → remove_implicit_key u ≡ Ok v → begin_line h ≡ Ok (record v { key_allowed = false })
 unfolding begin_line
 line_begun h u v e f = let f' = rw e at f in rw f' refl
 
-pub line_refused : (h u : Held) (x : Fault) → u ≡ unroll_indent 0 h → remove_simple_key u ≡ Err x → begin_line h ≡ Err x
+pub line_refused : (h u : Held) (x : Fault) → u ≡ unroll_indent 0 h → remove_implicit_key u ≡ Err x → begin_line h ≡ Err x
 unfolding begin_line
 line_refused h u x e f = let f' = rw e at f in rw f' refl
 
@@ -41,7 +39,7 @@ pub no_line : (a : List ℕ) (h : Held) (x : Fault) → begin_line h ≡ Err x �
 unfolding fetch_directive
 no_line a h x e = rw e refl
 
-pub anchored : (alias : Bool) (a b : List ℕ) (h u w : Held) (p q m : Position) (name : List ℕ) (t : Tok) → u ≡ save_simple_key h → q ≡ h.place → anchor_name a q ≡ Ok (record { rest = b; place = p; value = name }) → m ≡ h.place → t ≡ anchor_token alias name
+pub anchored : (alias : Bool) (a b : List ℕ) (h u w : Held) (p q m : Position) (name : List ℕ) (t : Tok) → u ≡ save_implicit_key h → q ≡ h.place → anchor_name a q ≡ Ok (record { rest = b; place = p; value = name }) → m ≡ h.place → t ≡ anchor_token alias name
     → w ≡ push m t (record u { place = p; key_allowed = false; leading = false }) → fetch_anchor alias (record { rest = a; held = h }) ≡ Ok (record { rest = b; held = w })
 unfolding fetch_anchor
 anchored alias a b h u w p q m name t e i f n k g = let f' = rw i at f in rw (f', g, n, k, e) refl
@@ -50,7 +48,7 @@ pub not_anchored : (alias : Bool) (a : List ℕ) (h : Held) (q : Position) (x : 
 unfolding fetch_anchor
 not_anchored alias a h q x i f = let f' = rw i at f in rw f' refl
 
-pub tagged : (a b : List ℕ) (h u w : Held) (p q m : Position) (flow : Bool) (k s : List ℕ) → u ≡ save_simple_key h → q ≡ h.place → flow ≡ in_flow h → tag flow a q ≡ Ok (record { rest = b; place = p; value = record { handle = k; suffix = s } }) → m ≡ h.place
+pub tagged : (a b : List ℕ) (h u w : Held) (p q m : Position) (flow : Bool) (k s : List ℕ) → u ≡ save_implicit_key h → q ≡ h.place → flow ≡ in_flow h → tag flow a q ≡ Ok (record { rest = b; place = p; value = record { handle = k; suffix = s } }) → m ≡ h.place
     → w ≡ push m (Tok.tag k s) (record u { place = p; key_allowed = false; leading = false }) → fetch_tag (record { rest = a; held = h }) ≡ Ok (record { rest = b; held = w })
 unfolding fetch_tag
 tagged a b h u w p q m flow k s e i j f n g = let f' = rw (i, j) at f in rw (f', g, n, e) refl
@@ -59,24 +57,24 @@ pub not_tagged : (a : List ℕ) (h : Held) (q : Position) (flow : Bool) (x : Fau
 unfolding fetch_tag
 not_tagged a h q flow x i j f = let f' = rw (i, j) at f in rw f' refl
 
-pub plain_read : (a b : List ℕ) (h u v w : Held) (x : Context) (p q m : Position) (text : List ℕ) (leading : Bool) → u ≡ save_simple_key h → v ≡ unroll_non_block_indents (record u { key_allowed = false }) → x ≡ context v → q ≡ h.place
+pub plain_read : (a b : List ℕ) (h u v w : Held) (x : Context) (p q m : Position) (text : List ℕ) (leading : Bool) → u ≡ save_implicit_key h → v ≡ unroll_non_block_indents (record u { key_allowed = false }) → x ≡ context v → q ≡ h.place
     → plain x a q ≡ Ok (record { rest = b; place = p; value = record { text = text; leading = leading } }) → m ≡ h.place → w ≡ push m (Tok.scalar Style.plain text) (record v { place = p; leading = leading; key_allowed = leading })
     → fetch_plain_scalar (record { rest = a; held = h }) ≡ Ok (record { rest = b; held = w })
 unfolding fetch_plain_scalar
 plain_read a b h u v w x p q m text leading e i k l f n g = let i' = rw e at i in let f' = rw (k, i', l) at f in rw (f', g, n, i') refl
 
-pub plain_failed : (a : List ℕ) (h u v : Held) (x : Context) (q : Position) (y : Fault) → u ≡ save_simple_key h → v ≡ unroll_non_block_indents (record u { key_allowed = false }) → x ≡ context v → q ≡ h.place
+pub plain_failed : (a : List ℕ) (h u v : Held) (x : Context) (q : Position) (y : Fault) → u ≡ save_implicit_key h → v ≡ unroll_non_block_indents (record u { key_allowed = false }) → x ≡ context v → q ≡ h.place
     → plain x a q ≡ Err y → fetch_plain_scalar (record { rest = a; held = h }) ≡ Err y
 unfolding fetch_plain_scalar
 plain_failed a h u v x q y e i k l f = let i' = rw e at i in let f' = rw (k, i', l) at f in rw f' refl
 
-pub block_read : (literal : Bool) (a b : List ℕ) (h u v w : Held) (n : ℕ) (p q m : Position) (text : List ℕ) (y : Style) → u ≡ save_simple_key h → v ≡ unroll_non_block_indents (record u { key_allowed = true }) → n ≡ v.indent → q ≡ h.place
+pub block_read : (literal : Bool) (a b : List ℕ) (h u v w : Held) (n : ℕ) (p q m : Position) (text : List ℕ) (y : Style) → u ≡ save_implicit_key h → v ≡ unroll_non_block_indents (record u { key_allowed = true }) → n ≡ v.indent → q ≡ h.place
     → block literal n a q ≡ Ok (record { rest = b; place = p; value = record { place = m; text = text } }) → y ≡ block_style literal → w ≡ push m (Tok.scalar y text) (record v { place = p; leading = true })
     → fetch_block_scalar literal (record { rest = a; held = h }) ≡ Ok (record { rest = b; held = w })
 unfolding fetch_block_scalar
 block_read literal a b h u v w n p q m text y e i k l f j g = let i' = rw e at i in let f' = rw (k, i', l) at f in rw (f', g, j, i') refl
 
-pub block_failed : (literal : Bool) (a : List ℕ) (h u v : Held) (n : ℕ) (q : Position) (y : Fault) → u ≡ save_simple_key h → v ≡ unroll_non_block_indents (record u { key_allowed = true }) → n ≡ v.indent → q ≡ h.place
+pub block_failed : (literal : Bool) (a : List ℕ) (h u v : Held) (n : ℕ) (q : Position) (y : Fault) → u ≡ save_implicit_key h → v ≡ unroll_non_block_indents (record u { key_allowed = true }) → n ≡ v.indent → q ≡ h.place
     → block literal n a q ≡ Err y → fetch_block_scalar literal (record { rest = a; held = h }) ≡ Err y
 unfolding fetch_block_scalar
 block_failed literal a h u v n q y e i k l f = let i' = rw e at i in let f' = rw (k, i', l) at f in rw f' refl

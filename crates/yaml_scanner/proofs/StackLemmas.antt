@@ -4,7 +4,7 @@ use Rattle.std.proofs.lemmas.List.{reverse-append, reverse-reverse, length-rever
 use Rattle.std.proofs.lemmas.Grind.{common_steps, elements}
 use Rattle.std.proofs.lemmas.Bool.{ne_eqb}
 use Rattle.model_scanner.specs.State.{top, with_top}
-use Rattle.defs_text.specs.Text.{is_nil}
+use Rattle.defs_text.specs.Text.{is_empty}
 
 pub pushed : {A : Type 0} (xs ys : List A) (x : A) → ys ≡ xs ++ x ∷ [] → reverse ys ≡ x ∷ reverse xs
 pushed xs ys x e = ap reverse e ∙ reverse-append xs (x ∷ [])
@@ -47,9 +47,9 @@ none_set (x ∷ xs) y e = absurd (omega arith)
 pub reversed_len : {A : Type 0} (xs : List A) → length xs ≡ length (reverse xs)
 reversed_len xs = sym (length-reverse xs)
 
-nil_by : {A : Type 0} (xs ys : List A) → reverse xs ≡ ys → length xs ≡ length ys → (length xs == 0) ≡ is_nil ys
+nil_by : {A : Type 0} (xs ys : List A) → reverse xs ≡ ys → length xs ≡ length ys → (length xs == 0) ≡ is_empty ys
 nil_by xs [] e n = rw n refl
 nil_by xs (y ∷ ys) e n = ne_eqb (length xs) 0 (λ z. absurd (omega arith))
 
-pub reversed_nil : {A : Type 0} (xs : List A) → (length xs == 0) ≡ is_nil (reverse xs)
+pub reversed_nil : {A : Type 0} (xs : List A) → (length xs == 0) ≡ is_empty (reverse xs)
 reversed_nil xs = nil_by xs (reverse xs) refl (reversed_len xs)

@@ -3,7 +3,7 @@ use Rattle.std.proofs.Common.{◌≡◌, ℕ, zero, suc, ◌+◌, ◌-◌, ◌<�
 use Rattle.std.proofs.lemmas.List.{length-take}
 use Rattle.defs_token.specs.Token.{Token}
 use Rattle.yaml_chars.specs.Reading.{place_of}
-use Rattle.defs_text.specs.Text.{is_nil}
+use Rattle.defs_text.specs.Text.{is_empty}
 use Rattle.defs_text.specs.Position.{first_position, position_after}
 use Rattle.model_scanner.specs.Document.{next_line}
 use Rattle.proof_lexers.specs.PlainEnds.{has_no_nul}
@@ -22,7 +22,7 @@ none_of n [] e = (take_nil n, omega arith)
     take_nil (suc n) = refl
 none_of n (x ∷ xs) e = absurd cc
 
-some_of : (n : ℕ) (xs : List Token) → is_nil xs ≡ false → 0 < length (take n xs) + (length xs - n)
+some_of : (n : ℕ) (xs : List Token) → is_empty xs ≡ false → 0 < length (take n xs) + (length xs - n)
 some_of n [] e = absurd cc
 some_of n (x ∷ xs) e = rw (length-take n (x ∷ xs)) (omega arith)
 
@@ -43,6 +43,6 @@ module _ {T : Type 0} (x : Fetcher T) (a : List ℕ) (old : FollowsIn a x) (kept
   pub has_started : x.started ≡ true → 0 < length (handed x.tokens) + waiting x.tokens
   has_started s = some_of x.tokens.given x.tokens.all (by x.tokens.ended refl)
     where
-      by : (b : Bool) → x.tokens.ended ≡ b → is_nil x.tokens.all ≡ false
-      by true e = let z = old.all kept e in ap is_nil (sym z.whole.tokens) ∙ (run_is_where a z.whole.end nul z.whole.run).some (z.began ∙ s)
+      by : (b : Bool) → x.tokens.ended ≡ b → is_empty x.tokens.all ≡ false
+      by true e = let z = old.all kept e in ap is_empty (sym z.whole.tokens) ∙ (run_is_where a z.whole.end nul z.whole.run).some (z.began ∙ s)
       by false e = (run_is_where a (state (drop x.window.at a) x) nul (old.run kept e)).some s

@@ -4,22 +4,22 @@ use Rattle.defs_text.specs.Position.{Position}
 use Rattle.yaml_chars.specs.Reading.{Possible, place_of}
 use Rattle.defs_token.specs.Token.{Token}
 use Rattle.yaml_tokens.specs.declared.problem.Fault.TheVariants.{OutOfMemory}
-use Rattle.model_scanner.specs.State.{State}
+use Rattle.model_scanner.specs.State.{ScannerState}
 use Rattle.model_scanner.specs.Run.{Reaches, HasTokens, IsRefused, start}
 use Rattle.yaml_scanner.specs.declared.fetcher.Fetcher.{Fetcher}
 use Rattle.yaml_scanner.specs.Tokens.{handed, has_end}
 use Rattle.yaml_scanner.specs.Shape.{state}
 
 -- a list begins with another
-pub record Begins (xs ys : List Token) : Type 0 where
+pub record BeginsWith (xs ys : List Token) : Type 0 where
   pub more : List Token
   pub whole : ys ≡ xs ++ more
 
 -- these tokens are a beginning of those that the model has at some state of a text
 pub record IsReached (a : List ℕ) (given : List Token) : Type 0 where
-  pub last : State
+  pub last : ScannerState
   pub run : Reaches (start a) last
-  pub begins : Begins given last.held.tokens
+  pub begins : BeginsWith given last.held.tokens
 
 -- these are all tokens of a text, and the run that met them ended at a place
 pub record HasEnded (a : List ℕ) (ts : List Token) (p : Position) (started : Bool) : Type 0 where
@@ -35,7 +35,7 @@ pub record FollowsIn {T : Type 0} (a : List ℕ) (s : Fetcher T) : Type 0 where
   pub done : s.kept ≡ None → s.tokens.ended ≡ true → s.window.done ≡ true
   -- what was handed out
   pub reached : IsReached a (handed s.tokens)
-  pub begins : (ts : List Token) → HasTokens a ts → Begins (handed s.tokens) ts
+  pub begins : (ts : List Token) → HasTokens a ts → BeginsWith (handed s.tokens) ts
   pub whole : s.tokens.over ≡ true → HasTokens a (handed s.tokens)
   pub refused : IfSome s.kept (λ k. k.fault ≢ OutOfMemory → IsRefused a k.fault)
   -- until the stream's end was handed out it is none of what was

@@ -5,7 +5,7 @@ pub mod Levels
 pub mod Next
 pub mod Scanned
 pub mod Shape
-pub mod SimpleKeys
+pub mod ImplicitKeys
 pub mod Steps
 pub mod Styles
 pub mod Tokens

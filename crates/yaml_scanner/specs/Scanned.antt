@@ -1,20 +1,19 @@
 -- What clauses see of a scanner.
 use Rattle.std.specs.Prelude.{◌≡◌, ℕ, ◌+◌, ◌<◌, List, [], ◌∷◌, ◌++◌, length, take, drop, Bool, true, false, Option, Some, None, IfSome, option_map, codes}
-use Rattle.defs_text.specs.Position.{Position}
+use Rattle.defs_text.specs.Position.{Position, first_position, position_after}
 use Rattle.yaml_chars.specs.Reading.{place_of, HasNoNul}
 use Rattle.defs_token.specs.Token.{Token}
-use Rattle.yaml_tokens.specs.Fault.{Fault}
+use Rattle.yaml_tokens.specs.ErrorReport.{ErrorReport}
 use Rattle.yaml_tokens.specs.Problem.{fault_of}
 use Rattle.yaml_tokens.specs.declared.problem.Fault as code
 use Rattle.defs_token.specs.Cut.{IsCut, IsCutOfBeginning}
-use Rattle.defs_text.specs.Position.{first_position, position_after}
 use Rattle.model_scanner.specs.Document.{next_line}
 use Rattle.model_scanner.specs.Run.{HasTokens, IsRefused}
 use Rattle.proof_cut.specs.Faults.{IsThere, is_shown}
 use Rattle.proof_cut.specs.Places.{IsPlaceIn}
 use Rattle.yaml_scanner.specs.declared.fetcher.Fetcher.{Fetcher}
-use Rattle.yaml_scanner.specs.declared.fetcher.Kept.{Kept}
-use Rattle.yaml_scanner.specs.Follows.{Begins, IsReached}
+use Rattle.yaml_scanner.specs.declared.fetcher.KeptFault.{KeptFault}
+use Rattle.yaml_scanner.specs.Follows.{BeginsWith, IsReached}
 use Rattle.yaml_scanner.specs.Tokens.{handed, waiting, is_end}
 use Rattle.yaml_scanner.specs.Work.{work}
 
@@ -23,7 +22,7 @@ pub record Scanned : Type 0 where
   pub given : List Token
   pub waiting : ℕ
   -- the fault that is kept
-  pub fault : Option Fault
+  pub fault : Option ErrorReport
   -- whether the stream's start was fetched, and its end
   pub started : Bool
   pub stopped : Bool
@@ -36,7 +35,7 @@ pub record Scanned : Type 0 where
   pub taken : List ℕ
   pub done : Bool
 
-abbrev pub kept_fault : Kept → Fault
+abbrev pub kept_fault : KeptFault → ErrorReport
 kept_fault k = fault_of k.fault k.mark
 
 abbrev pub inside : {T : Type 0} → Fetcher T → Scanned
@@ -70,7 +69,7 @@ pub record MayBe (s : Scanned) (a : List ℕ) : Type 0 where
   pub ends : s.done ≡ true → a ≡ s.taken
 
 -- a fault is the refusal of a text
-pub record IsRefusal (a : List ℕ) (f : Fault) : Type 0 where
+pub record IsRefusal (a : List ℕ) (f : ErrorReport) : Type 0 where
   pub fault : code.Fault
   pub place : Position
   pub refused : IsRefused a fault
@@ -83,7 +82,7 @@ pub record ScansIn (a : List ℕ) (s : Scanned) : Type 0 where
   -- the tokens are those that the model has first
   pub reached : IsReached a s.given
   -- where the text has tokens, they are a beginning of these
-  pub begins : (ts : List Token) → HasTokens a ts → Begins s.given ts
+  pub begins : (ts : List Token) → HasTokens a ts → BeginsWith s.given ts
   -- once the stream's end was handed out, they are all tokens of the text
   pub whole : s.ended ≡ true → HasTokens a s.given
   -- the tokens are a cut of a beginning of the text; with the stream's end they are a cut of the whole text
@@ -123,7 +122,7 @@ pub record HandsNothing (old new : Scanned) : Type 0 where
   pub same : new ≡ old
 
 -- a fault is kept and answered, now and from now on
-pub record Refuses (old : Scanned) (f : Fault) (new : Scanned) : Type 0 where
+pub record Refuses (old : Scanned) (f : ErrorReport) (new : Scanned) : Type 0 where
   pub given : new.given ≡ old.given
   pub ended : new.ended ≡ old.ended
   pub fault : new.fault ≡ Some f

@@ -3,9 +3,9 @@ use Rattle.std.specs.Prelude.{◌≡◌, ◌≢◌, ℕ, List, Result, Ok, Err}
 use Rattle.yaml_chars.specs.Reading.{Reads, place_of}
 use Rattle.yaml_tokens.specs.declared.problem.Fault.{Fault}
 use Rattle.yaml_tokens.specs.declared.problem.Fault.TheVariants.{OutOfMemory}
-use Rattle.model_scanner.specs.State.{Held, State}
+use Rattle.model_scanner.specs.State.{Held, ScannerState}
 use Rattle.yaml_scanner.specs.declared.fetcher.Fetcher.{Fetcher}
-use Rattle.yaml_scanner.specs.SimpleKeys.{seen}
+use Rattle.yaml_scanner.specs.ImplicitKeys.{seen}
 
 abbrev pub held : {T : Type 0} → Fetcher T → Held
 held s = record {
@@ -22,13 +22,13 @@ held s = record {
   ended = s.tokens.ended;
 }
 
-abbrev pub state : {T : Type 0} → List ℕ → Fetcher T → State
+abbrev pub state : {T : Type 0} → List ℕ → Fetcher T → ScannerState
 state a s = record { rest = a; held = held s }
 
 -- Whatever the text is, the model's function takes the old state to the new one.
-pub record Does {T : Type 0} (f : State → Result State Fault) (old new : Fetcher T) : Type 0 where
+pub record Does {T : Type 0} (f : ScannerState → Result ScannerState Fault) (old new : Fetcher T) : Type 0 where
   pub runs : Reads old.window new.window (λ a b. f (state a old) ≡ Ok (state b new))
 
 -- Whatever the text is, the model's function refuses the old state with this fault, unless it is out of memory.
-pub record Fails {T : Type 0} (f : State → Result State Fault) (old new : Fetcher T) (e : Fault) : Type 0 where
+pub record Fails {T : Type 0} (f : ScannerState → Result ScannerState Fault) (old new : Fetcher T) (e : Fault) : Type 0 where
   pub runs : Reads old.window new.window (λ a b. e ≢ OutOfMemory → f (state a old) ≡ Err e)

@@ -15,6 +15,6 @@ abbrev pub are_single : Quotes → Bool
 are_single Single = true
 are_single Double = false
 
-abbrev pub is_literal : BlockStyle → Bool
-is_literal Literal = true
-is_literal Folded = false
+abbrev pub is_literal_style : BlockStyle → Bool
+is_literal_style Literal = true
+is_literal_style Folded = false

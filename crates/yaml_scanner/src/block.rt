@@ -9,12 +9,12 @@ ghost use Rattle.model_scanner.specs.Space.{skip_spaces};
 ghost use Rattle.model_scanner.specs.Block.{at_margin, last_property, check_block_entry, check_dash, fetch_block_entry, keyed, begin_key, check_key_space, fetch_key, check_after_tab, check_value_space, opens_pair, paired, begin_pair, insert_key, begin_keyless_pair, begin_keyless_mapping, begin_keyless_value, value_of, fetch_value};
 ghost use Rattle.yaml_scanner.specs.Blocks.{pass_dash, entry_level, begin_entry, pass_key, pass_tab};
 ghost use Rattle.yaml_scanner.specs.Shape.{held, Does, Fails};
-ghost use Rattle.yaml_scanner.specs.SimpleKeys.{keyed_by};
+ghost use Rattle.yaml_scanner.specs.ImplicitKeys.{keyed_by};
 ghost use Rattle.yaml_scanner.specs.Work.{Moves, Fetches};
 
 use crate::collection::Collection;
 use crate::fetcher::Fetcher;
-use crate::keys::SimpleKey;
+use crate::keys::ImplicitKey;
 use model_scanner::FlowLevel;
 use yaml_chars::Marker;
 use yaml_chars::class::{is_alpha, is_blank_or_breakz, is_break, is_flow};
@@ -133,7 +133,7 @@ impl<T: Iterator<Item = char>> Fetcher<T> {
     {
         self.pass_spaces(SkipTabs::No)?;
         self.roll_entry()?;
-        self.remove_simple_key()?;
+        self.remove_implicit_key()?;
         self.key_allowed = true;
         let here = self.window.mark();
         self.push_token(here, TokenType::BlockEntry)?;
@@ -167,7 +167,7 @@ impl<T: Iterator<Item = char>> Fetcher<T> {
     {
         let mark = self.window.mark();
         self.begin_key()?;
-        self.remove_simple_key()?;
+        self.remove_implicit_key()?;
         self.key_allowed = !self.in_flow();
         self.pass_key()?;
         self.check_key_space()?;
@@ -328,7 +328,7 @@ impl<T: Iterator<Item = char>> Fetcher<T> {
     }
 
     /// Gives the key that began without `?` its token, and its mapping a start if the key is the first.
-    fn insert_key(&mut self, key: SimpleKey, mark: Marker, opens_pair: bool) -> Result<(), Fault>
+    fn insert_key(&mut self, key: ImplicitKey, mark: Marker, opens_pair: bool) -> Result<(), Fault>
         ensures held { OnOk result (insert_key (keyed_by self.old.tokens.given key) mark opens_pair (held self.old) ≡ Ok (held self.new)) }
         ensures fault { IfErr result (λ e. e ≢ Fault.OutOfMemory → insert_key (keyed_by self.old.tokens.given key) mark opens_pair (held self.old) ≡ Err e) }
         ensures moves { Moves self.old self.new 5 0 }
@@ -359,7 +359,7 @@ impl<T: Iterator<Item = char>> Fetcher<T> {
 
     /// Begins a pair of a flow sequence, before its key, which stands on the line of its `:`.
     #[tactic(auto, unfolding(model_scanner::specs::Block::begin_pair))]
-    fn begin_pair(&mut self, key: SimpleKey, mark: Marker, opens_pair: bool) -> Result<(), Fault>
+    fn begin_pair(&mut self, key: ImplicitKey, mark: Marker, opens_pair: bool) -> Result<(), Fault>
         ensures held { OnOk result (begin_pair (keyed_by self.old.tokens.given key) mark opens_pair (held self.old) ≡ Ok (held self.new)) }
         ensures fault { IfErr result (λ e. e ≢ Fault.OutOfMemory → begin_pair (keyed_by self.old.tokens.given key) mark opens_pair (held self.old) ≡ Err e) }
         ensures given { OnOk result (self.new.tokens.given ≡ self.old.tokens.given) }

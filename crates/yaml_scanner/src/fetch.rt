@@ -9,7 +9,7 @@ ghost use Rattle.model_scanner.specs.Document.{begin_stream, fetch_stream_end, f
 ghost use Rattle.model_scanner.specs.Fetch.{comes_marker, is_value, token_by, fetch_token, fetch_indented, fetch_first_column, fetch_content, fetch_here, fetch_next, fetch};
 ghost use Rattle.yaml_scanner.specs.Shape.{held, state, Does, Fails};
 ghost use Rattle.yaml_scanner.specs.Steps.{end_quoted, fetch_bar, scalar_by};
-ghost use Rattle.yaml_scanner.specs.Styles.{is_alias, are_single, is_literal};
+ghost use Rattle.yaml_scanner.specs.Styles.{is_alias, are_single, is_literal_style};
 ghost use Rattle.yaml_scanner.specs.Work.{Moves, Fetches, HasChars, work};
 
 use crate::collection::Collection;
@@ -297,8 +297,8 @@ impl<T: Iterator<Item = char>> Fetcher<T> {
     fn fetch_bar(&mut self, style: BlockStyle) -> Result<(), Fault>
         requires ahead { 4 ≤ self.old.window.ahead }
         requires has { HasChar self.old.window }
-        ensures does { OnOk result (Does (fetch_bar (is_literal style)) self.old self.new) }
-        ensures fails { IfErr result (λ e. Fails (fetch_bar (is_literal style)) self.old self.new e) }
+        ensures does { OnOk result (Does (fetch_bar (is_literal_style style)) self.old self.new) }
+        ensures fails { IfErr result (λ e. Fails (fetch_bar (is_literal_style style)) self.old self.new e) }
         ensures run { Fetches self.old self.new }
         ensures moves { OnOk result (Moves self.old self.new 7 8) }
     {
@@ -316,7 +316,7 @@ impl<T: Iterator<Item = char>> Fetcher<T> {
         ensures window { self.new.window ≡ self.old.window }
     {
         self.unroll_indent(0)?;
-        self.remove_simple_key()?;
+        self.remove_implicit_key()?;
         self.key_allowed = false;
         Ok(())
     }
@@ -394,7 +394,7 @@ impl<T: Iterator<Item = char>> Fetcher<T> {
         ensures moves { OnOk result (Moves self.old self.new 1 8) }
     {
         let mark = self.window.mark();
-        self.save_simple_key();
+        self.save_implicit_key();
         self.key_allowed = false;
         let name = read_anchor_name(self.alloc, &mut self.window)?;
         self.leading = false;
@@ -412,7 +412,7 @@ impl<T: Iterator<Item = char>> Fetcher<T> {
     {
         let mark = self.window.mark();
         let in_flow = self.in_flow();
-        self.save_simple_key();
+        self.save_implicit_key();
         self.key_allowed = false;
         let (handle, suffix) = read_tag(self.alloc, &mut self.window, in_flow)?;
         self.leading = false;
@@ -432,12 +432,12 @@ impl<T: Iterator<Item = char>> Fetcher<T> {
     fn fetch_block_scalar(&mut self, style: BlockStyle) -> Result<(), Fault>
         requires ahead { 0 < self.old.window.ahead }
         requires has { HasChar self.old.window }
-        ensures does { OnOk result (Does (fetch_block_scalar (is_literal style)) self.old self.new) }
-        ensures fails { IfErr result (λ e. Fails (fetch_block_scalar (is_literal style)) self.old self.new e) }
+        ensures does { OnOk result (Does (fetch_block_scalar (is_literal_style style)) self.old self.new) }
+        ensures fails { IfErr result (λ e. Fails (fetch_block_scalar (is_literal_style style)) self.old self.new e) }
         ensures run { Fetches self.old self.new }
         ensures moves { OnOk result (Moves self.old self.new 1 8) }
     {
-        self.save_simple_key();
+        self.save_implicit_key();
         self.key_allowed = true;
         self.unroll_non_block_indents();
         let indent = self.levels.indent();
@@ -458,7 +458,7 @@ impl<T: Iterator<Item = char>> Fetcher<T> {
         ensures moves { OnOk result (Moves self.old self.new 1 8) }
     {
         let mark = self.window.mark();
-        self.save_simple_key();
+        self.save_implicit_key();
         self.key_allowed = false;
         let context = self.context();
         let single = quotes.are_single();
@@ -507,7 +507,7 @@ impl<T: Iterator<Item = char>> Fetcher<T> {
         ensures moves { OnOk result (Moves self.old self.new 1 8) }
     {
         let mark = self.window.mark();
-        self.save_simple_key();
+        self.save_implicit_key();
         self.key_allowed = false;
         self.unroll_non_block_indents();
         let context = self.context();

@@ -1,7 +1,7 @@
 ghost use Rattle.std.specs.Prelude.{◌≡◌, ◌^◌, ◌<◌, [], None, false};
 ghost use Rattle.std.specs.Iterator.{IsFinite, size};
 
-use crate::keys::SimpleKeys;
+use crate::keys::ImplicitKeys;
 use crate::levels::Levels;
 use crate::queue::Queue;
 use crate::stack::Stack;
@@ -12,7 +12,7 @@ use yaml_tokens::Fault;
 
 /// A fault that is kept, and the place where the scanner stood.
 #[derive(Clone, Copy)]
-pub struct Kept {
+pub struct KeptFault {
     pub fault: Fault,
     pub mark: Marker,
 }
@@ -23,7 +23,7 @@ pub struct Fetcher<T: Iterator<Item = char>> {
     pub(crate) alloc: Global,
     pub(crate) window: Window<T>,
     pub(crate) tokens: Queue,
-    pub(crate) keys: SimpleKeys,
+    pub(crate) keys: ImplicitKeys,
     pub(crate) levels: Levels,
     pub(crate) flow: Stack<FlowLevel>,
     // Whether a key without `?` may begin here.
@@ -33,7 +33,7 @@ pub struct Fetcher<T: Iterator<Item = char>> {
     // Where a `:` may stand right after a quoted scalar or a flow collection.
     pub(crate) adjacent_value_at: usize,
     pub(crate) started: bool,
-    pub(crate) kept: Option<Kept>,
+    pub(crate) kept: Option<KeptFault>,
 }
 
 impl<T: Iterator<Item = char>> Fetcher<T> {
@@ -58,7 +58,7 @@ impl<T: Iterator<Item = char>> Fetcher<T> {
             alloc,
             window: Window::new(iter),
             tokens: Queue::new(alloc),
-            keys: SimpleKeys::new(alloc),
+            keys: ImplicitKeys::new(alloc),
             levels: Levels::new(alloc),
             flow: Stack::new(alloc),
             key_allowed: true,

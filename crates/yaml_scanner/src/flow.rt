@@ -81,7 +81,7 @@ impl<T: Iterator<Item = char>> Fetcher<T> {
         ensures moves { Moves self.old self.new 1 0 }
         ensures window { self.new.window ≡ self.old.window }
     {
-        self.save_simple_key();
+        self.save_implicit_key();
         self.roll_one_col_indent()?;
         self.increase_flow_level(kind)?;
         self.key_allowed = true;
@@ -126,7 +126,7 @@ impl<T: Iterator<Item = char>> Fetcher<T> {
         ensures moves { Moves self.old self.new 1 0 }
         ensures window { self.new.window ≡ self.old.window }
     {
-        self.remove_simple_key()?;
+        self.remove_implicit_key()?;
         self.end_flow_pair()?;
         self.decrease_flow_level();
         self.key_allowed = false;
@@ -178,13 +178,13 @@ impl<T: Iterator<Item = char>> Fetcher<T> {
         ensures moves { Moves self.old self.new 1 0 }
         ensures window { self.new.window ≡ self.old.window }
     {
-        self.remove_simple_key()?;
+        self.remove_implicit_key()?;
         self.key_allowed = true;
         self.end_flow_pair()?;
         Ok(())
     }
 
-    /// Ends an entry of the innermost flow collection, and with it a pair without braces.
+    /// Ends an entry of the innermost flow collection, and with it a single-pair mapping.
     fn end_flow_pair(&mut self) -> Result<(), Fault>
         ensures held { OnOk result (held self.new ≡ end_flow_pair (held self.old)) }
         ensures err { IfErr result (λ e. e ≡ Fault.OutOfMemory) }

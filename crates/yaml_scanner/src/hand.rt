@@ -4,15 +4,15 @@ ghost use Rattle.std.specs.List.{list_any};
 ghost use Rattle.defs_text.specs.Position.{Position};
 ghost use Rattle.yaml_tokens.specs.Shown.{shown};
 ghost use Rattle.yaml_scanner.specs.Follows.{Follows};
-ghost use Rattle.yaml_scanner.specs.SimpleKeys.{is_front};
+ghost use Rattle.yaml_scanner.specs.ImplicitKeys.{is_front};
 ghost use Rattle.yaml_scanner.specs.Scanned.{inside, kept_fault, HandsOut};
 ghost use Rattle.yaml_scanner.specs.Tokens.{waiting, handed, is_end};
 ghost use Rattle.yaml_scanner.specs.Work.{Fetches, work};
 
-use crate::fetcher::{Fetcher, Kept};
+use crate::fetcher::{Fetcher, KeptFault};
 use yaml_tokens::{Fault, ScanError, Token};
 
-impl Kept {
+impl KeptFault {
     pub fn error(&self) -> ScanError
         ensures { result ≡ kept_fault self.now }
     {
@@ -30,7 +30,7 @@ impl<T: Iterator<Item = char>> Fetcher<T> {
         ensures window { self.new.window ≡ self.old.window }
     {
         let mark = self.window.mark();
-        let kept = Kept { fault, mark };
+        let kept = KeptFault { fault, mark };
         let error = kept.error();
         self.kept = Some(kept);
         error

@@ -1,22 +1,17 @@
 ghost use Rattle.std.specs.Prelude.{◌≡◌, ◌≢◌, ◌<◌, ◌≤◌, ◌^◌, ℕ, OnOk, IfErr, Ok, Err, List, true, false, nat_lt, ◌+◌};
-ghost use Rattle.model_scanner.specs.State.{Held};
-ghost use Rattle.model_scanner.specs.Keys.{must_be_key, save_simple_key, remove_simple_key};
-ghost use Rattle.model_scanner.specs.Keys.{stale};
-ghost use Rattle.model_scanner.specs.Indents.{roll_indent, drop_open_level, roll_one_col_indent, unroll_indent, unroll_non_block_indents};
-ghost use Rattle.model_scanner.specs.State.{in_flow};
+ghost use Rattle.model_scanner.specs.State.{Held, in_flow, token};
+ghost use Rattle.model_scanner.specs.Keys.{must_be_key, save_implicit_key, remove_implicit_key, stale, top_needs_block_end};
+ghost use Rattle.model_scanner.specs.Indents.{roll_indent, drop_open_level, roll_one_col_indent, unroll_indent, unroll_non_block_indents, in_block, deepen, placed};
 ghost use Rattle.yaml_tokens.specs.Shown.{tok_of};
-ghost use Rattle.model_scanner.specs.Indents.{in_block, deepen, placed};
-ghost use Rattle.model_scanner.specs.State.{token};
-ghost use Rattle.model_scanner.specs.Keys.{top_needs_block_end};
 ghost use Rattle.yaml_scanner.specs.Collections.{block_start};
 ghost use Rattle.yaml_scanner.specs.Levels.{ends_open};
 ghost use Rattle.yaml_scanner.specs.Shape.{held};
-ghost use Rattle.yaml_scanner.specs.SimpleKeys.{number_of};
+ghost use Rattle.yaml_scanner.specs.ImplicitKeys.{number_of};
 ghost use Rattle.yaml_scanner.specs.Work.{Moves};
 
 use crate::collection::Collection;
 use crate::fetcher::Fetcher;
-use crate::keys::SimpleKey;
+use crate::keys::ImplicitKey;
 use yaml_chars::Marker;
 use yaml_tokens::{Fault, Problem, Token, TokenType};
 
@@ -38,13 +33,13 @@ impl<T: Iterator<Item = char>> Fetcher<T> {
     }
 
     /// Notes that the next token may be a key, if one is allowed.
-    pub(crate) fn save_simple_key(&mut self)
-        ensures held { held self.new ≡ save_simple_key (held self.old) }
+    pub(crate) fn save_implicit_key(&mut self)
+        ensures held { held self.new ≡ save_implicit_key (held self.old) }
         ensures moves { Moves self.old self.new 0 0 }
         ensures window { self.new.window ≡ self.old.window }
     {
         if self.key_allowed {
-            let key = SimpleKey {
+            let key = ImplicitKey {
                 required: self.must_be_key(),
                 place: self.tokens.len(),
                 mark: self.window.mark(),
@@ -54,9 +49,9 @@ impl<T: Iterator<Item = char>> Fetcher<T> {
     }
 
     /// Gives up the possible key of the innermost level.
-    pub(crate) fn remove_simple_key(&mut self) -> Result<(), Fault>
-        ensures held { OnOk result (remove_simple_key (held self.old) ≡ Ok (held self.new)) }
-        ensures fault { IfErr result (λ e. remove_simple_key (held self.old) ≡ Err e) }
+    pub(crate) fn remove_implicit_key(&mut self) -> Result<(), Fault>
+        ensures held { OnOk result (remove_implicit_key (held self.old) ≡ Ok (held self.new)) }
+        ensures fault { IfErr result (λ e. remove_implicit_key (held self.old) ≡ Err e) }
         ensures moves { Moves self.old self.new 0 0 }
         ensures window { self.new.window ≡ self.old.window }
     {
@@ -67,7 +62,7 @@ impl<T: Iterator<Item = char>> Fetcher<T> {
         Ok(())
     }
 
-    /// Outside flow, gives up a possible simple key that began on an earlier line or more than 1024 characters before
+    /// Outside flow, gives up a possible implicit key that began on an earlier line or more than 1024 characters before
     /// (YAML 1.2, section 8.2.2). One that must be a key is a fault then.
     pub(crate) fn drop_stale(&mut self) -> Result<(), Fault>
         ensures held { OnOk result (stale (held self.old) ≡ Ok (held self.new)) }

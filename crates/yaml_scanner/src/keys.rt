@@ -2,7 +2,7 @@ ghost use Rattle.std.specs.Prelude.{◌≡◌, ℕ, ◌+◌, ◌-◌, ◌∷◌,
 ghost use Rattle.std.specs.List.{list_any};
 ghost use Rattle.model_scanner.specs.State.{Key, with_top, pop};
 ghost use Rattle.model_scanner.specs.Keys.{is_far, is_overdue, drop_stale, is_required, has_required, cleared, top_key};
-ghost use Rattle.yaml_scanner.specs.SimpleKeys.{key_of, seen, is_front, lowered, still_simple, no_simple, top_simple};
+ghost use Rattle.yaml_scanner.specs.ImplicitKeys.{key_of, seen, is_front, lowered, still_simple, no_simple, top_simple};
 
 use std::alloc::{AllocError, Global};
 use std::marker::Model;
@@ -14,24 +14,24 @@ const LONGEST_KEY: usize = 1024;
 
 /// A token that may turn out to be a key. Its place counts from the first token that waits.
 #[derive(Clone, Copy)]
-pub struct SimpleKey {
+pub struct ImplicitKey {
     pub required: bool,
     pub place: usize,
     pub mark: Marker,
 }
 
-/// The possible simple keys: one for each flow level, and one outside flow. Clauses see the innermost
+/// The possible implicit keys: one for each flow level, and one outside flow. Clauses see the innermost
 /// first.
 #[derive(Drop)]
-pub struct SimpleKeys {
-    levels: Vec<Option<SimpleKey>>,
+pub struct ImplicitKeys {
+    levels: Vec<Option<ImplicitKey>>,
 }
 
-impl Model for SimpleKeys {
+impl Model for ImplicitKeys {
     ghost use Rattle.std.specs.Prelude.{List, Option, reverse};
-    ghost use Rattle.yaml_scanner.specs.declared.keys.SimpleKey.{SimpleKey};
+    ghost use Rattle.yaml_scanner.specs.declared.keys.ImplicitKey.{ImplicitKey};
 
-    ghost Value = { List (Option SimpleKey) };
+    ghost Value = { List (Option ImplicitKey) };
 
     ghost view = { λ s. reverse s.levels.items };
 }
@@ -43,44 +43,44 @@ fn is_far(from: Marker, to: Marker) -> bool
     from.line() < to.line() || from.index() + LONGEST_KEY < to.index()
 }
 
-fn is_overdue(key: Option<SimpleKey>, mark: Marker) -> bool
+fn is_overdue(key: Option<ImplicitKey>, mark: Marker) -> bool
     ensures { result ≡ is_overdue mark (key_of 0 key) }
 {
     key.is_some_and(|key| is_far(key.mark, mark) && key.required)
 }
 
-fn is_required(key: Option<SimpleKey>) -> bool
+fn is_required(key: Option<ImplicitKey>) -> bool
     ensures { result ≡ is_required (key_of 0 key) }
 {
     key.is_some_and(|key| key.required)
 }
 
-fn is_front(key: Option<SimpleKey>) -> bool
+fn is_front(key: Option<ImplicitKey>) -> bool
     ensures { result ≡ is_front key }
 {
     key.is_some_and(|key| key.place == 0)
 }
 
-fn any_overdue(keys: &[Option<SimpleKey>], mark: Marker) -> bool
+fn any_overdue(keys: &[Option<ImplicitKey>], mark: Marker) -> bool
     ensures { result ≡ list_any (λ k. is_overdue mark (key_of 0 k)) keys.now }
 {
     keys.iter().any(|key| is_overdue(*key, mark))
 }
 
-fn any_required(keys: &[Option<SimpleKey>]) -> bool
+fn any_required(keys: &[Option<ImplicitKey>]) -> bool
     ensures { result ≡ list_any (λ k. is_required (key_of 0 k)) keys.now }
 {
     keys.iter().any(|key| is_required(*key))
 }
 
-fn any_front(keys: &[Option<SimpleKey>]) -> bool
+fn any_front(keys: &[Option<ImplicitKey>]) -> bool
     ensures { result ≡ list_any is_front keys.now }
 {
     keys.iter().any(|key| is_front(*key))
 }
 
 /// Gives up a possible key that began on an earlier line or too far back.
-fn drop_one(key: &mut Option<SimpleKey>, mark: Marker)
+fn drop_one(key: &mut Option<ImplicitKey>, mark: Marker)
     ensures { key.new ≡ still_simple mark key.old }
 {
     let far = match key {
@@ -93,7 +93,7 @@ fn drop_one(key: &mut Option<SimpleKey>, mark: Marker)
 }
 
 /// A token was handed out before a key.
-fn lower_one(key: &mut Option<SimpleKey>)
+fn lower_one(key: &mut Option<ImplicitKey>)
     ensures { key.new ≡ lowered key.old }
 {
     if let Some(simple) = key {
@@ -101,7 +101,7 @@ fn lower_one(key: &mut Option<SimpleKey>)
     }
 }
 
-fn drop_far(keys: &mut [Option<SimpleKey>], mark: Marker)
+fn drop_far(keys: &mut [Option<ImplicitKey>], mark: Marker)
     ensures { keys.new ≡ map (still_simple mark) keys.old }
 {
     'keys: for key in keys.iter_mut() {
@@ -109,7 +109,7 @@ fn drop_far(keys: &mut [Option<SimpleKey>], mark: Marker)
     }
 }
 
-fn lower_all(keys: &mut [Option<SimpleKey>])
+fn lower_all(keys: &mut [Option<ImplicitKey>])
     ensures { keys.new ≡ map lowered keys.old }
 {
     'keys: for key in keys.iter_mut() {
@@ -117,19 +117,19 @@ fn lower_all(keys: &mut [Option<SimpleKey>])
     }
 }
 
-fn close_all(keys: &mut [Option<SimpleKey>])
-    ensures { keys.new ≡ map no_simple keys.old }
+fn close_all(keys: &mut [Option<ImplicitKey>])
+    ensures { keys.new ≡ map no_implicit keys.old }
 {
     'keys: for key in keys.iter_mut() {
         *key = None;
     }
 }
 
-impl SimpleKeys {
+impl ImplicitKeys {
     pub fn new(alloc: Global) -> Self
         ensures { result ≡ [] }
     {
-        SimpleKeys {
+        ImplicitKeys {
             levels: Vec::new(alloc),
         }
     }
@@ -152,7 +152,7 @@ impl SimpleKeys {
     }
 
     /// The possible key of the innermost level.
-    pub fn top(&self) -> Option<SimpleKey>
+    pub fn top(&self) -> Option<ImplicitKey>
         ensures { result ≡ top_simple self.now }
     {
         *self.levels.last()?
@@ -168,7 +168,7 @@ impl SimpleKeys {
 
     /// Sets the possible key of the innermost level.
     #[tactic(auto, using(crate::proofs::StackLemmas::top_set, crate::proofs::StackLemmas::none_set))]
-    pub fn set_top(&mut self, key: Option<SimpleKey>)
+    pub fn set_top(&mut self, key: Option<ImplicitKey>)
         ensures { self.new ≡ with_top key self.old }
     {
         let len = self.levels.len();

@@ -2,7 +2,7 @@ ghost use Rattle.std.specs.Prelude.{◌≡◌, ◌<◌, ◌≤◌, ◌^◌, ◌+
 ghost use Rattle.model_scanner.specs.Keys.{top_needs_block_end};
 ghost use Rattle.model_scanner.specs.Indents.{level};
 ghost use Rattle.yaml_scanner.specs.Levels.{ends_open};
-ghost use Rattle.defs_text.specs.Text.{is_nil};
+ghost use Rattle.defs_text.specs.Text.{is_empty};
 
 use crate::stack::Stack;
 use model_scanner::Indent;
@@ -48,7 +48,7 @@ impl Levels {
     }
 
     pub fn is_empty(&self) -> bool
-        ensures { result ≡ is_nil self.now.indents }
+        ensures { result ≡ is_empty self.now.indents }
     {
         self.indents.is_empty()
     }

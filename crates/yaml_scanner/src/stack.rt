@@ -1,6 +1,6 @@
 ghost use Rattle.std.specs.Prelude.{◌≡◌, [], ◌∷◌, OnOk, OnErr, MatchOption, List, length, true};
 ghost use Rattle.model_scanner.specs.State.{top, with_top, pop};
-ghost use Rattle.defs_text.specs.Text.{is_nil};
+ghost use Rattle.defs_text.specs.Text.{is_empty};
 
 use std::alloc::{AllocError, Global};
 use std::marker::Model;
@@ -71,7 +71,7 @@ impl<X: Copy> Stack<X> {
 
     #[tactic(auto, using(crate::proofs::StackLemmas::reversed_nil))]
     pub fn is_empty(&self) -> bool
-        ensures { result ≡ is_nil self.now }
+        ensures { result ≡ is_empty self.now }
     {
         self.items.is_empty()
     }

@@ -3,7 +3,7 @@ ghost use Rattle.std.specs.Prelude.{◌≡◌};
 ghost use Rattle.defs_text.specs.Text.{string_chars};
 ghost use Rattle.yaml_tokens.specs.Shown.{tok_of, style_of};
 ghost use Rattle.model_scanner.specs.Document.{anchor_token, block_style, quoted_style};
-ghost use Rattle.yaml_scanner.specs.Styles.{is_alias, are_single, is_literal};
+ghost use Rattle.yaml_scanner.specs.Styles.{is_alias, are_single, is_literal_style};
 
 use yaml_tokens::{TScalarStyle, TokenType};
 
@@ -59,13 +59,13 @@ pub(crate) enum BlockStyle {
 
 impl BlockStyle {
     pub(crate) fn is_literal(self) -> bool
-        ensures { result ≡ is_literal self }
+        ensures { result ≡ is_literal_style self }
     {
         matches!(self, BlockStyle::Literal)
     }
 
     pub(crate) fn style(self) -> TScalarStyle
-        ensures { style_of result ≡ block_style (is_literal self) }
+        ensures { style_of result ≡ block_style (is_literal_style self) }
     {
         match self {
             BlockStyle::Literal => TScalarStyle::Literal,

@@ -6,16 +6,16 @@ use Rattle.std.specs.Cmp.{IsEquivalence, bool_eq_equiv}
 use Rattle.std.proofs.lemmas.Cmp.{on_equiv, and_equiv, nat_list_eq_equiv, nat_eq_equiv}
 use lib.Pointwise.{pointwise}
 use Rattle.defs_text.specs.Position.{Position}
-use Rattle.yaml_tokens.specs.Fault.{Fault}
+use Rattle.yaml_tokens.specs.ErrorReport.{ErrorReport}
 
 abbrev pub place_eq : Position → Position → Bool
 place_eq = eq_of_both (on (λ (p : Position). p.index) nat_eq) (eq_of_both (on (λ (p : Position). p.line) nat_eq) (on (λ (p : Position). p.col) nat_eq))
 
-abbrev pub fault_eq : Fault → Fault → Bool
-fault_eq = eq_of_both (on (λ (f : Fault). f.place) place_eq) (eq_of_both (on (λ (f : Fault). f.memory) beq) (on (λ (f : Fault). f.text) (pointwise nat_eq)))
+abbrev pub fault_eq : ErrorReport → ErrorReport → Bool
+fault_eq = eq_of_both (on (λ (f : ErrorReport). f.place) place_eq) (eq_of_both (on (λ (f : ErrorReport). f.memory) beq) (on (λ (f : ErrorReport). f.text) (pointwise nat_eq)))
 
 pub place_eq_equiv : IsEquivalence place_eq
 place_eq_equiv = and_equiv (on_equiv (λ (p : Position). p.index) nat_eq_equiv) (and_equiv (on_equiv (λ (p : Position). p.line) nat_eq_equiv) (on_equiv (λ (p : Position). p.col) nat_eq_equiv))
 
 pub fault_eq_equiv : IsEquivalence fault_eq
-fault_eq_equiv = and_equiv (on_equiv (λ (f : Fault). f.place) place_eq_equiv) (and_equiv (on_equiv (λ (f : Fault). f.memory) bool_eq_equiv) (on_equiv (λ (f : Fault). f.text) nat_list_eq_equiv))
+fault_eq_equiv = and_equiv (on_equiv (λ (f : ErrorReport). f.place) place_eq_equiv) (and_equiv (on_equiv (λ (f : ErrorReport). f.memory) bool_eq_equiv) (on_equiv (λ (f : ErrorReport). f.text) nat_list_eq_equiv))

@@ -1,4 +1,4 @@
-pub mod Fault
+pub mod ErrorReport
 pub mod FaultLaws
 pub mod Info
 pub mod Problem

@@ -29,9 +29,9 @@ pub struct ScanError {
 pub type ScanResult = Result<(), ScanError>;
 
 impl Model for ScanError {
-    ghost use Rattle.yaml_tokens.specs.Fault.{Fault};
+    ghost use Rattle.yaml_tokens.specs.ErrorReport.{ErrorReport};
 
-    ghost Value = { Fault };
+    ghost Value = { ErrorReport };
 
     ghost use Rattle.yaml_tokens.specs.Info.{text_of, is_memory};
 
@@ -121,7 +121,7 @@ impl ScanError {
 
 impl fmt::Display for ScanError {
     ghost use Rattle.std.specs.Prelude.{Some};
-    ghost use Rattle.yaml_tokens.specs.Fault.{printed};
+    ghost use Rattle.yaml_tokens.specs.ErrorReport.{printed};
 
     ghost output = { λ e. Some (printed e) };
 

@@ -89,8 +89,8 @@ impl Problem {
             Problem::UnexpectedBacktick => "unexpected character: ``'",
             Problem::ContentAfterDocumentEnd => "invalid content after document end marker",
             Problem::InvalidIndentation => "invalid indentation",
-            Problem::KeyWithoutColon => "simple key expect ':'",
-            Problem::KeyExpected => "simple key expected",
+            Problem::KeyWithoutColon => "implicit key expect ':'",
+            Problem::KeyExpected => "implicit key expected",
             Problem::TabInBlockIndentation =>
                 "tabs disallowed within this context (block indentation)",
             Problem::TabAfterKey => "tabs disallowed in this context",

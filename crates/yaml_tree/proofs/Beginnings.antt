@@ -6,8 +6,8 @@ use Rattle.defs_tree.specs.Pairs.{place_of, Lacks, AreDistinct}
 use Rattle.defs_tree.proofs.PairsLaws.{tree_eq-other}
 use Rattle.yaml_hash_index.specs.declared.blocks.Blocks.{Blocks}
 use Rattle.yaml_tree.specs.Flat.{flat}
-use Rattle.yaml_tree.specs.Marks.{mark, AreMarks}
-use Rattle.yaml_tree.specs.Places.{places_in, marks_in, places, marks, HasMarks, IsIndexed}
+use Rattle.yaml_tree.specs.Digests.{digest, AreDigests}
+use Rattle.yaml_tree.specs.Places.{places_in, digests_in, places, digests, HasDigests, IsIndexed}
 use Rattle.yaml_tree.specs.Ranked.{key_at, AreRanked}
 use Rattle.yaml_tree.specs.View.{view, items_view, pairs_view}
 use Rattle.yaml_tree.specs.declared.ranks.Kept.{Kept}
@@ -61,14 +61,14 @@ module _ (ys : List Yaml) (even : items_view ys ≡ flat (pairs_view ys)) (disti
       absent_before (pairs_view ys) p distinct h ∙ ap (λ k. place_of k (take p (pairs_view ys))) (sym (key_seen ys (pairs_view ys) even p x h is))
       ∙ ap (place_of (view x)) (sym (pairs_before p (2 * p) refl))
 
-  -- ranks and marks of one pair more
-  pub indexed_next : (n : Kept) (p q : ℕ) (x : Yaml) → p < length (pairs_view ys) → q ≡ suc p → x ≡ get_or ys (2 * p) x → HasMarks n
-      → ((v : Tree) → AreRanked mark (places n) (pairs_view (take (2 * p) ys) ++ (view x, v) ∷ []))
-      → ((v : Tree) → AreMarks (marks n) (places n) (pairs_view (take (2 * p) ys) ++ (view x, v) ∷ [])) → IsIndexed (items_view (take (2 * q) ys)) n
+  -- ranks and digests of one pair more
+  pub indexed_next : (n : Kept) (p q : ℕ) (x : Yaml) → p < length (pairs_view ys) → q ≡ suc p → x ≡ get_or ys (2 * p) x → HasDigests n
+      → ((v : Tree) → AreRanked digest (places n) (pairs_view (take (2 * p) ys) ++ (view x, v) ∷ []))
+      → ((v : Tree) → AreDigests (digests n) (places n) (pairs_view (take (2 * p) ys) ++ (view x, v) ∷ [])) → IsIndexed (items_view (take (2 * q) ys)) n
   indexed_next (Few rs) p q x h e is many a m = absurd many
   indexed_next (Many b) p q x h e is many a m = record {
-    hash = made (take (2 * q) ys) (places (Many b)) (take (suc p) (pairs_view ys)) next (distinct_take (pairs_view ys) (suc p) distinct) (subst (AreRanked mark (places (Many b))) pairs (a more.0));
-    marked = subst (AreMarks (marks (Many b)) (places (Many b))) (pairs ∙ sym (seen_as (take (2 * q) ys) (take (suc p) (pairs_view ys)) next)) (m more.0);
+    hash = made (take (2 * q) ys) (places (Many b)) (take (suc p) (pairs_view ys)) next (distinct_take (pairs_view ys) (suc p) distinct) (subst (AreRanked digest (places (Many b))) pairs (a more.0));
+    digested = subst (AreDigests (digests (Many b)) (places (Many b))) (pairs ∙ sym (seen_as (take (2 * q) ys) (take (suc p) (pairs_view ys)) next)) (m more.0);
   }
     where
       more : (v : Tree) × (take (suc p) (pairs_view ys) ≡ take p (pairs_view ys) ++ (key_at (pairs_view ys) p, v) ∷ [])
@@ -83,6 +83,6 @@ module _ (ys : List Yaml) (even : items_view ys ≡ flat (pairs_view ys)) (disti
 -- of no pairs
 pub indexed_none : (b : Box Blocks Global) → b.value ≡ [] → IsIndexed [] (Many b)
 indexed_none b e = record {
-  hash = record { even = refl; distinct = tt; ranked = subst (λ bs. AreRanked mark (places_in bs) []) (sym e) no_ranks };
-  marked = λ r h. absurd (omega (arith, ap (λ bs. length (marks_in bs)) e));
+  hash = record { even = refl; distinct = tt; ranked = subst (λ bs. AreRanked digest (places_in bs) []) (sym e) no_ranks };
+  digested = λ r h. absurd (omega (arith, ap (λ bs. length (digests_in bs)) e));
 }

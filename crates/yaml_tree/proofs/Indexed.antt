@@ -1,30 +1,30 @@
--- Places and marks of a hash, as blocks or few keep them.
+-- Places and digests of a hash, as blocks or few keep them.
 use Rattle.std.proofs.Common.{◌≡◌, ℕ, zero, suc, ◌+◌, ◌<◌, ◌≤◌, List, [], ◌∷◌, length, get_or, map, refl, ap, arith}
 use Rattle.std.specs.List.{insert, remove}
 use Rattle.std.proofs.lemmas.List.{length-map}
 use Rattle.yaml_hash_index.specs.Blocks.{joined}
-use Rattle.yaml_hash_index.specs.Edges.{mark_at, place_at}
+use Rattle.yaml_hash_index.specs.Edges.{digest_at, place_at}
 use Rattle.yaml_hash_index.specs.Moves.{closed_up, moved_up, entry_closed_up, entry_moved_up}
 use Rattle.yaml_hash_index.specs.declared.entry.Entry.{Entry}
-use Rattle.yaml_tree.specs.Places.{place_of_entry, mark_of_entry, places, marks, rank_at, HasSpot, HasPlace}
+use Rattle.yaml_tree.specs.Places.{place_of_entry, digest_of_entry, places, digests, rank_at, HasSpot, HasPlace}
 use Rattle.yaml_hash_index.proofs.Joining.{rank_within, rank_inside}
 use Rattle.yaml_hash_index.specs.declared.entry.Spot.{Spot}
 use Rattle.yaml_tree.specs.declared.ranks.Kept.{Kept}
 use Rattle.yaml_tree.specs.declared.ranks.Kept.TheVariants.{Few, Many}
 
-pub mark_mapped : (es : List Entry) (i : ℕ) → get_or (map mark_of_entry es) i 0 ≡ mark_at es i
-mark_mapped [] i = refl
-mark_mapped (e ∷ es) zero = refl
-mark_mapped (e ∷ es) (suc i) = mark_mapped es i
+pub digest_mapped : (es : List Entry) (i : ℕ) → get_or (map digest_of_entry es) i 0 ≡ digest_at es i
+digest_mapped [] i = refl
+digest_mapped (e ∷ es) zero = refl
+digest_mapped (e ∷ es) (suc i) = digest_mapped es i
 
 pub place_mapped : (es : List Entry) (i : ℕ) → place_at es i ≡ get_or (map place_of_entry es) i 0
 place_mapped [] i = refl
 place_mapped (e ∷ es) zero = refl
 place_mapped (e ∷ es) (suc i) = place_mapped es i
 
-pub marks_counted : (k : Kept) → length (marks k) ≤ length (places k)
-marks_counted (Few ps) = omega arith
-marks_counted (Many b) = omega (arith, length-map (joined b.value) mark_of_entry, length-map (joined b.value) place_of_entry)
+pub digests_counted : (k : Kept) → length (digests k) ≤ length (places k)
+digests_counted (Few ps) = omega arith
+digests_counted (Many b) = omega (arith, length-map (joined b.value) digest_of_entry, length-map (joined b.value) place_of_entry)
 
 -- ---- maps over changes
 
@@ -45,17 +45,17 @@ pub places_closed : (gone : ℕ) (es : List Entry) → map place_of_entry (map (
 places_closed gone [] = refl
 places_closed gone (e ∷ es) = ap (λ ns. closed_up gone e.place ∷ ns) (places_closed gone es)
 
-pub marks_closed : (gone : ℕ) (es : List Entry) → map mark_of_entry (map (entry_closed_up gone) es) ≡ map mark_of_entry es
-marks_closed gone [] = refl
-marks_closed gone (e ∷ es) = ap (λ ns. e.mark ∷ ns) (marks_closed gone es)
+pub digests_closed : (gone : ℕ) (es : List Entry) → map digest_of_entry (map (entry_closed_up gone) es) ≡ map digest_of_entry es
+digests_closed gone [] = refl
+digests_closed gone (e ∷ es) = ap (λ ns. e.digest ∷ ns) (digests_closed gone es)
 
 pub places_moved : (gone n : ℕ) (es : List Entry) → map place_of_entry (map (entry_moved_up gone n) es) ≡ map (moved_up gone n) (map place_of_entry es)
 places_moved gone n [] = refl
 places_moved gone n (e ∷ es) = ap (λ ns. moved_up gone n e.place ∷ ns) (places_moved gone n es)
 
-pub marks_moved : (gone n : ℕ) (es : List Entry) → map mark_of_entry (map (entry_moved_up gone n) es) ≡ map mark_of_entry es
-marks_moved gone n [] = refl
-marks_moved gone n (e ∷ es) = ap (λ ns. e.mark ∷ ns) (marks_moved gone n es)
+pub digests_moved : (gone n : ℕ) (es : List Entry) → map digest_of_entry (map (entry_moved_up gone n) es) ≡ map digest_of_entry es
+digests_moved gone n [] = refl
+digests_moved gone n (e ∷ es) = ap (λ ns. e.digest ∷ ns) (digests_moved gone n es)
 
 -- ---- spots
 

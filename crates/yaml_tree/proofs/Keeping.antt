@@ -1,4 +1,4 @@
--- A row beside its places and marks, after a change.
+-- A row beside its places and digests, after a change.
 use Rattle.std.proofs.Common.{◌≡◌, ℕ, zero, suc, ◌+◌, ◌*◌, ◌<◌, List, [], ◌∷◌, ◌++◌, length, get_or, set, map, refl, sym, subst, arith}
 use Rattle.std.specs.List.{remove}
 use Rattle.std.proofs.lemmas.List.{length-map}
@@ -7,71 +7,71 @@ use Rattle.yaml_hash_index.specs.Moves.{closed_up, moved_up}
 use Rattle.defs_tree.specs.Tree.{Tree}
 use Rattle.defs_tree.specs.Pairs.{insert as insert_pair, without}
 use Rattle.yaml_tree.specs.Flat.{flat}
-use Rattle.yaml_tree.specs.Marks.{AreMarks, first_by}
-use Rattle.yaml_tree.specs.Places.{place_of_entry, mark_of_entry, places, marks, IsIndexed}
-use Rattle.yaml_tree.specs.Ranked.{AreRanked, IsHash, IsRank, IsGap}
+use Rattle.yaml_tree.specs.Digests.{AreDigests, first_by}
+use Rattle.yaml_tree.specs.Places.{place_of_entry, digest_of_entry, places, digests, IsIndexed}
+use Rattle.yaml_tree.specs.Ranked.{AreRanked, IsHash, IsRank, IsRankGap}
 use Rattle.yaml_tree.specs.View.{view, items_view, pairs_view}
 use Rattle.yaml_tree.specs.declared.ranks.Kept.{Kept}
 use Rattle.yaml_tree.specs.declared.ranks.Kept.TheVariants.{Few, Many}
 use Rattle.yaml_tree.specs.declared.yaml.Yaml.{Yaml}
-use Rattle.yaml_tree.proofs.Indexed.{marks_counted}
-use Rattle.yaml_tree.proofs.Marking.{marked_value, marked_removed, marked_moved}
+use Rattle.yaml_tree.proofs.Indexed.{digests_counted}
+use Rattle.yaml_tree.proofs.Digesting.{digested_value, digested_removed, digested_moved}
 use Rattle.yaml_tree.proofs.Placed.{place_in, absent}
 use Rattle.yaml_tree.proofs.Ranking.{gap_none}
 use Rattle.yaml_tree.proofs.Rows.{made_without, made_moved, made_added, made_value, ranked_place, seen_as, seen_value}
 
-no_marks : (ms : List ℕ) (r s : ℕ) → ms ≡ [] → s < length (remove ms r) → ⊥
-no_marks [] zero s e h = absurd (omega arith)
-no_marks [] (suc r) s e h = absurd (omega arith)
-no_marks (m ∷ ms) r s e h = cc
+no_digests : (ms : List ℕ) (r s : ℕ) → ms ≡ [] → s < length (remove ms r) → ⊥
+no_digests [] zero s e h = absurd (omega arith)
+no_digests [] (suc r) s e h = absurd (omega arith)
+no_digests (m ∷ ms) r s e h = cc
 
-marked_without : (o : Kept) (ps : List (Tree × Tree)) (r : ℕ) → AreRanked (first_by o) (places o) ps → r < length (places o) → AreMarks (marks o) (places o) ps
-    → AreMarks (remove (marks o) r) (map (closed_up (get_or (places o) r 0)) (remove (places o) r)) (remove ps (get_or (places o) r 0))
-marked_without (Few rs) ps r a h marked = λ s g. absurd (no_marks [] r s refl g)
-marked_without (Many b) ps r a h marked =
-    marked_removed (map mark_of_entry (joined b.value)) (map place_of_entry (joined b.value)) ps r
-    (omega (arith, length-map (joined b.value) mark_of_entry, length-map (joined b.value) place_of_entry)) a h marked
+digested_without : (o : Kept) (ps : List (Tree × Tree)) (r : ℕ) → AreRanked (first_by o) (places o) ps → r < length (places o) → AreDigests (digests o) (places o) ps
+    → AreDigests (remove (digests o) r) (map (closed_up (get_or (places o) r 0)) (remove (places o) r)) (remove ps (get_or (places o) r 0))
+digested_without (Few rs) ps r a h digested = λ s g. absurd (no_digests [] r s refl g)
+digested_without (Many b) ps r a h digested =
+    digested_removed (map digest_of_entry (joined b.value)) (map place_of_entry (joined b.value)) ps r
+    (omega (arith, length-map (joined b.value) digest_of_entry, length-map (joined b.value) place_of_entry)) a h digested
 
 module _ (k v : Tree) (ys zs : List Yaml) (o n : Kept) (i : IsIndexed (items_view ys) o) (r : ℕ) where
   pub indexed_moved : IsRank k (places o) (pairs_view ys) r → items_view zs ≡ flat (insert_pair k v (pairs_view ys))
-      → places n ≡ map (moved_up (get_or (places o) r 0) (length (places o))) (places o) → marks n ≡ marks o → first_by n ≡ first_by o → IsIndexed (items_view zs) n
+      → places n ≡ map (moved_up (get_or (places o) r 0) (length (places o))) (places o) → digests n ≡ digests o → first_by n ≡ first_by o → IsIndexed (items_view zs) n
   indexed_moved at e f g order =
       let p = place_in k (pairs_view ys) (get_or (places o) r 0) (ranked_place k ys (pairs_view ys) (places o) r (get_or (places o) r 0) i.hash refl at refl) in
       record {
         hash = subst (λ m. IsHash m (items_view zs) (places n)) (sym order) (made_moved k v ys (places o) i.hash zs (places n) r at e f);
-        marked = subst (AreMarks (marks n) (places n)) (sym (seen_as zs (insert_pair k v (pairs_view ys)) e))
-            (subst (λ us. AreMarks (marks n) (places n) (us ++ (k, v) ∷ [])) p.rest
-            (subst (λ ms. AreMarks ms (places n) (remove (pairs_view ys) (get_or (places o) r 0) ++ (k, v) ∷ [])) (sym g)
-            (subst (λ rs. AreMarks (marks o) rs (remove (pairs_view ys) (get_or (places o) r 0) ++ (k, v) ∷ [])) (sym f)
-            (marked_moved (marks o) (places o) (pairs_view ys) r k v (marks_counted o) i.hash.ranked at i.marked))));
+        digested = subst (AreDigests (digests n) (places n)) (sym (seen_as zs (insert_pair k v (pairs_view ys)) e))
+            (subst (λ us. AreDigests (digests n) (places n) (us ++ (k, v) ∷ [])) p.rest
+            (subst (λ ms. AreDigests ms (places n) (remove (pairs_view ys) (get_or (places o) r 0) ++ (k, v) ∷ [])) (sym g)
+            (subst (λ rs. AreDigests (digests o) rs (remove (pairs_view ys) (get_or (places o) r 0) ++ (k, v) ∷ [])) (sym f)
+            (digested_moved (digests o) (places o) (pairs_view ys) r k v (digests_counted o) i.hash.ranked at i.digested))));
       }
 
   pub indexed_without : IsRank k (places o) (pairs_view ys) r → items_view zs ≡ flat (without k (pairs_view ys))
-      → places n ≡ map (closed_up (get_or (places o) r 0)) (remove (places o) r) → marks n ≡ remove (marks o) r → first_by n ≡ first_by o → IsIndexed (items_view zs) n
+      → places n ≡ map (closed_up (get_or (places o) r 0)) (remove (places o) r) → digests n ≡ remove (digests o) r → first_by n ≡ first_by o → IsIndexed (items_view zs) n
   indexed_without at e f g order =
       let p = place_in k (pairs_view ys) (get_or (places o) r 0) (ranked_place k ys (pairs_view ys) (places o) r (get_or (places o) r 0) i.hash refl at refl) in
       record {
         hash = subst (λ m. IsHash m (items_view zs) (places n)) (sym order) (made_without k v ys (places o) i.hash zs (places n) r at e f);
-        marked = subst (AreMarks (marks n) (places n)) (sym (seen_as zs (without k (pairs_view ys)) e))
-            (subst (AreMarks (marks n) (places n)) p.rest
-            (subst (λ ms. AreMarks ms (places n) (remove (pairs_view ys) (get_or (places o) r 0))) (sym g)
-            (subst (λ rs. AreMarks (remove (marks o) r) rs (remove (pairs_view ys) (get_or (places o) r 0))) (sym f)
-            (marked_without o (pairs_view ys) r i.hash.ranked at.0 i.marked))));
+        digested = subst (AreDigests (digests n) (places n)) (sym (seen_as zs (without k (pairs_view ys)) e))
+            (subst (AreDigests (digests n) (places n)) p.rest
+            (subst (λ ms. AreDigests ms (places n) (remove (pairs_view ys) (get_or (places o) r 0))) (sym g)
+            (subst (λ rs. AreDigests (remove (digests o) r) rs (remove (pairs_view ys) (get_or (places o) r 0))) (sym f)
+            (digested_without o (pairs_view ys) r i.hash.ranked at.0 i.digested))));
       }
 
-  pub indexed_added : IsGap (first_by o) k (places o) (pairs_view ys) r → items_view zs ≡ flat (insert_pair k v (pairs_view ys))
-      → AreRanked (first_by n) (places n) (pairs_view ys ++ (k, v) ∷ []) → AreMarks (marks n) (places n) (pairs_view ys ++ (k, v) ∷ []) → IsIndexed (items_view zs) n
+  pub indexed_added : IsRankGap (first_by o) k (places o) (pairs_view ys) r → items_view zs ≡ flat (insert_pair k v (pairs_view ys))
+      → AreRanked (first_by n) (places n) (pairs_view ys ++ (k, v) ∷ []) → AreDigests (digests n) (places n) (pairs_view ys ++ (k, v) ∷ []) → IsIndexed (items_view zs) n
   indexed_added gap e a g =
       let away = absent k (pairs_view ys) (gap_none k (places o) (pairs_view ys) i.hash.ranked r gap) in
       record {
         hash = made_added k v ys (places o) i.hash zs (places n) r gap e a;
-        marked = subst (AreMarks (marks n) (places n)) (sym (seen_as zs (insert_pair k v (pairs_view ys)) e))
-            (subst (λ us. AreMarks (marks n) (places n) (us ++ (k, v) ∷ [])) (sym away.same) g);
+        digested = subst (AreDigests (digests n) (places n)) (sym (seen_as zs (insert_pair k v (pairs_view ys)) e))
+            (subst (λ us. AreDigests (digests n) (places n) (us ++ (k, v) ∷ [])) (sym away.same) g);
       }
 
 -- another value
 pub indexed_value : (ys : List Yaml) (o : Kept) (j : ℕ) (w : Yaml) → IsIndexed (items_view ys) o → IsIndexed (items_view (set ys (2 * j + 1) w)) o
 indexed_value ys o j w i = record {
   hash = made_value ys (places o) j w i.hash;
-  marked = subst (AreMarks (marks o) (places o)) (sym (seen_value ys (pairs_view ys) (places o) j w i.hash refl)) (marked_value (marks o) (places o) (pairs_view ys) j (view w) i.marked);
+  digested = subst (AreDigests (digests o) (places o)) (sym (seen_value ys (pairs_view ys) (places o) j w i.hash refl)) (digested_value (digests o) (places o) (pairs_view ys) j (view w) i.digested);
 }

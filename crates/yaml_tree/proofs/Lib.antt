@@ -9,7 +9,7 @@ pub mod Halving
 pub mod Indexed
 pub mod ItemsLemmas
 pub mod Keeping
-pub mod Marking
+pub mod Digesting
 pub mod Placed
 pub mod Ranking
 pub mod Rows

@@ -15,7 +15,7 @@ use Rattle.defs_tree.specs.Order.{tree_eq}
 use Rattle.defs_tree.specs.Pairs.{place_of, with_value_at, Lacks, AreDistinct}
 use Rattle.defs_tree.proofs.OrderLaws.{tree_cmp_total}
 use Rattle.defs_tree.proofs.PairsLaws.{tree_eq-itself, tree_eq-other}
-use Rattle.yaml_tree.specs.Ranked.{key_at, key_of_rank, key_cmp, AreRanked, IsRank, IsGap}
+use Rattle.yaml_tree.specs.Ranked.{key_at, key_of_rank, key_cmp, AreRanked, IsRank, IsRankGap}
 use Rattle.yaml_hash_index.specs.Moves.{closed_up, moved_up}
 
 abbrev pub Pairs : Type 0
@@ -312,7 +312,7 @@ ranked_removed {m} rs ps r a h = record {
 
 -- ---- a pair comes
 
-pub ranked_added : {m : Tree → ℕ} (rs : List ℕ) (ps : Pairs) (r : ℕ) (k v : Tree) → AreRanked m rs ps → IsGap m k rs ps r → AreRanked m (insert rs r (length rs)) (ps ++ (k, v) ∷ [])
+pub ranked_added : {m : Tree → ℕ} (rs : List ℕ) (ps : Pairs) (r : ℕ) (k v : Tree) → AreRanked m rs ps → IsRankGap m k rs ps r → AreRanked m (insert rs r (length rs)) (ps ++ (k, v) ∷ [])
 ranked_added {m} rs ps r k v a gap = record {
   counted = omega (arith, more, length-append_one ps (k, v), a.counted);
   within = λ s h. low s h (sides s r);
@@ -404,7 +404,7 @@ below_from (x ∷ xs) n f q e = by (eqb q x) refl e (below_from xs n (λ i h. f 
     by false d e later = later e
 
 module _ {m : Tree → ℕ} (k : Tree) (rs : List ℕ) (ps : Pairs) (a : AreRanked m rs ps) where
-  gap_apart : (r : ℕ) → IsGap m k rs ps r → (s : ℕ) → s < length rs → key_of_rank rs ps s ≢ k
+  gap_apart : (r : ℕ) → IsRankGap m k rs ps r → (s : ℕ) → s < length rs → key_of_rank rs ps s ≢ k
   gap_apart r gap s h e = by (cases_lt s r)
     where
       itself : key_cmp m k (key_of_rank rs ps s) ≡ Equal
@@ -414,7 +414,7 @@ module _ {m : Tree → ℕ} (k : Tree) (rs : List ℕ) (ps : Pairs) (a : AreRank
       by (inl l) = greater_not_equal (sym (gap.above s l) ∙ itself)
       by (inr l) = less_not_equal (sym (gap.below s l h) ∙ itself)
 
-  absent_at : (r : ℕ) → IsGap m k rs ps r → (p : ℕ) → p < length ps → key_at ps p ≢ k
+  absent_at : (r : ℕ) → IsRankGap m k rs ps r → (p : ℕ) → p < length ps → key_at ps p ≢ k
   absent_at r gap p h e =
       let count = length-le_from_distinct_below (p ∷ rs) (length ps) (distinct_from (p ∷ rs) apart) (below_from (p ∷ rs) (length ps) within) in
       absurd (omega (arith, count, a.counted))
@@ -428,5 +428,5 @@ module _ {m : Tree → ℕ} (k : Tree) (rs : List ℕ) (ps : Pairs) (a : AreRank
       within zero g = h
       within (suc i) g = a.within i (omega arith)
 
-  pub gap_none : (r : ℕ) → IsGap m k rs ps r → None ≡ place_of k ps
+  pub gap_none : (r : ℕ) → IsRankGap m k rs ps r → None ≡ place_of k ps
   gap_none r gap = place_none k ps (absent_at r gap)

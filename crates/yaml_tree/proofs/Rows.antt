@@ -5,7 +5,7 @@ use Rattle.defs_tree.specs.Tree.{Tree}
 use Rattle.defs_tree.specs.Pairs.{insert as insert_pair, lookup, without, place_of, with_value_at, AreDistinct}
 use Rattle.defs_tree.proofs.PairsLaws.{AreDistinct-without, AreDistinct-insert}
 use Rattle.yaml_tree.specs.Flat.{flat}
-use Rattle.yaml_tree.specs.Ranked.{key_at, key_of_rank, AreRanked, IsHash, IsRank, IsGap}
+use Rattle.yaml_tree.specs.Ranked.{key_at, key_of_rank, AreRanked, IsHash, IsRank, IsRankGap}
 use Rattle.yaml_hash_index.specs.Moves.{closed_up, moved_up}
 use Rattle.yaml_tree.specs.View.{view, items_view, pairs_view}
 use Rattle.yaml_tree.specs.declared.yaml.Yaml.{Yaml}
@@ -50,7 +50,7 @@ ranked_place k ys us rs r p h is at e =
     place_some k (pairs_view ys) p h.distinct (ranked_inside ys rs h r p at.0 e) (ap (key_at (pairs_view ys)) e ∙ at.1) ∙ ap (place_of k) is
 
 pub gap_place : {m : Tree → ℕ} (k : Tree) (ys : List Yaml) (us : List (Tree × Tree)) (rs : List ℕ) (r : ℕ) → IsHash m (items_view ys) rs → pairs_view ys ≡ us
-    → IsGap m k rs (pairs_view ys) r → None ≡ place_of k us
+    → IsRankGap m k rs (pairs_view ys) r → None ≡ place_of k us
 gap_place k ys us rs r h is gap = gap_none k rs (pairs_view ys) h.ranked r gap ∙ ap (place_of k) is
 
 -- ---- what a row is after a change
@@ -79,7 +79,7 @@ module _ {m : Tree → ℕ} (k v : Tree) (ys : List Yaml) (rs : List ℕ) (h : I
       (subst (λ xs. AreRanked m xs (insert_pair k v (pairs_view ys))) (sym f)
       (subst (λ us. AreRanked m (map (moved_up (get_or rs r 0) (length rs)) rs) (us ++ (k, v) ∷ [])) p.rest (ranked_moved rs (pairs_view ys) r k v h.ranked at)))
 
-  pub made_added : {n : Tree → ℕ} (zs : List Yaml) (qs : List ℕ) (r : ℕ) → IsGap m k rs (pairs_view ys) r → items_view zs ≡ flat (insert_pair k v (pairs_view ys))
+  pub made_added : {n : Tree → ℕ} (zs : List Yaml) (qs : List ℕ) (r : ℕ) → IsRankGap m k rs (pairs_view ys) r → items_view zs ≡ flat (insert_pair k v (pairs_view ys))
       → AreRanked n qs (pairs_view ys ++ (k, v) ∷ []) → IsHash n (items_view zs) qs
   made_added {n} zs qs r gap e a =
       let away = absent k (pairs_view ys) (gap_none k rs (pairs_view ys) h.ranked r gap) in
@@ -87,7 +87,7 @@ module _ {m : Tree → ℕ} (k v : Tree) (ys : List Yaml) (rs : List ℕ) (h : I
       (subst (λ us. AreRanked n qs (us ++ (k, v) ∷ [])) (sym away.same) a)
 
 -- the pair is new
-pub row_added : {m : Tree → ℕ} (ys zs : List Yaml) (us : List (Tree × Tree)) (rs : List ℕ) (r : ℕ) (k v : Yaml) → IsHash m (items_view ys) rs → pairs_view ys ≡ us → IsGap m (view k) rs (pairs_view ys) r
+pub row_added : {m : Tree → ℕ} (ys zs : List Yaml) (us : List (Tree × Tree)) (rs : List ℕ) (r : ℕ) (k v : Yaml) → IsHash m (items_view ys) rs → pairs_view ys ≡ us → IsRankGap m (view k) rs (pairs_view ys) r
     → zs ≡ ys ++ k ∷ v ∷ [] → items_view zs ≡ flat (insert_pair (view k) (view v) us)
 row_added ys zs us rs r k v h is gap e =
     added ys us (h.even ∙ ap flat is) zs k v e

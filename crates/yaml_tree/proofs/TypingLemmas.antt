@@ -10,7 +10,8 @@ use Rattle.std.specs.Str.Parse.{AllDigits, IsNumeral, digits_value, ParsesSigned
 use Rattle.std.proofs.lemmas.Bool.Decides.{nat_tests}
 use mir.Syntax.{w64}
 use mir.Val.{SFits}
-use Rattle.defs_tree.specs.Grammar.{is_empty, at_least_one, is_among}
+use Rattle.defs_tree.specs.Grammar.{at_least_one, is_among}
+use Rattle.defs_text.specs.Text.{is_empty}
 use Rattle.defs_tree.specs.Tree.{Tree, real, string}
 use Rattle.yaml_tree.specs.Values.{first_row, value_row}
 use Rattle.std.specs.Option.{option_or}

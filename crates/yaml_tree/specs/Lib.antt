@@ -5,7 +5,7 @@ pub mod Feed
 pub mod Flat
 pub mod Items
 pub mod Laws
-pub mod Marks
+pub mod Digests
 pub mod Meanings
 pub mod Node
 pub mod Places

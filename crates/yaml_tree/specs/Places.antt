@@ -5,7 +5,7 @@ use Rattle.yaml_hash_index.specs.declared.entry.Entry.{Entry}
 use Rattle.yaml_hash_index.specs.declared.entry.Spot.{Spot}
 use Rattle.defs_tree.specs.Tree.{Tree}
 use Rattle.yaml_tree.specs.Flat.{paired}
-use Rattle.yaml_tree.specs.Marks.{AreMarks, first_by}
+use Rattle.yaml_tree.specs.Digests.{AreDigests, first_by}
 use Rattle.yaml_tree.specs.Ranked.{IsHash}
 use Rattle.yaml_tree.specs.declared.ranks.Kept.{Kept}
 use Rattle.yaml_tree.specs.declared.ranks.Kept.TheVariants.{Few, Many}
@@ -13,30 +13,30 @@ use Rattle.yaml_tree.specs.declared.ranks.Kept.TheVariants.{Few, Many}
 abbrev pub place_of_entry : Entry → ℕ
 place_of_entry e = e.place
 
-abbrev pub mark_of_entry : Entry → ℕ
-mark_of_entry e = e.mark
+abbrev pub digest_of_entry : Entry → ℕ
+digest_of_entry e = e.digest
 
--- places and marks of entries in blocks
+-- places and digests of entries in blocks
 abbrev pub places_in : List (List Entry) → List ℕ
 places_in bs = map place_of_entry (joined bs)
 
-abbrev pub marks_in : List (List Entry) → List ℕ
-marks_in bs = map mark_of_entry (joined bs)
+abbrev pub digests_in : List (List Entry) → List ℕ
+digests_in bs = map digest_of_entry (joined bs)
 
 -- those of a short hash, or those in blocks
 abbrev pub places : Kept → List ℕ
 places (Few ps) = ps
 places (Many b) = places_in b.value
 
--- the marks of their keys; a short hash keeps none
-abbrev pub marks : Kept → List ℕ
-marks (Few ps) = []
-marks (Many b) = marks_in b.value
+-- the digests of their keys; a short hash keeps none
+abbrev pub digests : Kept → List ℕ
+digests (Few ps) = []
+digests (Many b) = digests_in b.value
 
--- a mark is kept for each key
-abbrev pub HasMarks : Kept → Type 0
-HasMarks (Few ps) = ⊥
-HasMarks (Many b) = Unit {0}
+-- a digest is kept for each key
+abbrev pub HasDigests : Kept → Type 0
+HasDigests (Few ps) = ⊥
+HasDigests (Many b) = Unit {0}
 
 -- the rank of a spot
 abbrev pub rank_at : Kept → Spot → ℕ
@@ -53,7 +53,7 @@ abbrev pub HasPlace : Kept → Spot → Type 0
 HasPlace (Few ps) s = s.offset < length ps
 HasPlace (Many b) s = IsTaken b.value s
 
--- a row of keys and values, whose ranks and marks are these
+-- a row of keys and values, whose ranks and digests are these
 pub record IsIndexed (ts : List Tree) (k : Kept) : Type 0 where
   pub hash : IsHash (first_by k) ts (places k)
-  pub marked : AreMarks (marks k) (places k) (paired ts)
+  pub digested : AreDigests (digests k) (places k) (paired ts)

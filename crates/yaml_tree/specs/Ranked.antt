@@ -40,7 +40,7 @@ abbrev pub IsRank : Tree → List ℕ → List (Tree × Tree) → ℕ → Type 0
 IsRank k rs ps r = (r < length rs) × (key_of_rank rs ps r ≡ k)
 
 -- the key has no rank, and would have this one
-pub record IsGap (m : Tree → ℕ) (k : Tree) (rs : List ℕ) (ps : List (Tree × Tree)) (r : ℕ) : Type 0 where
+pub record IsRankGap (m : Tree → ℕ) (k : Tree) (rs : List ℕ) (ps : List (Tree × Tree)) (r : ℕ) : Type 0 where
   pub within : r ≤ length rs
   pub above : (s : ℕ) → s < r → key_cmp m k (key_of_rank rs ps s) ≡ Greater
   pub below : (s : ℕ) → r ≤ s → s < length rs → key_cmp m k (key_of_rank rs ps s) ≡ Less

@@ -14,7 +14,7 @@ pub mod hash;
 pub mod items;
 pub mod laws;
 mod lookup;
-mod mark;
+mod digest;
 mod place;
 mod ranks;
 mod row;

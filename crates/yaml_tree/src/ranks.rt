@@ -1,5 +1,5 @@
 //! The places of a hash's pairs, in the order of their keys: a short hash's by the order of trees, a long one's by
-//! marks first.
+//! digests first.
 ghost use Rattle.std.specs.Prelude.{◌≡◌, ◌<◌, ◌≤◌, ◌+◌, ◌^◌, ◌++◌, ◌∷◌, [], ℕ, List, None, length, map, get_or, IfOk, OnOk, OnErr};
 ghost use Rattle.std.specs.List.{remove};
 ghost use Rattle.yaml_hash_index.specs.Blocks.{joined, rank_of, IsSpot};
@@ -7,14 +7,14 @@ ghost use Rattle.yaml_hash_index.specs.Moves.{closed_up, moved_up};
 ghost use Rattle.defs_tree.specs.Pairs.{place_of, AreDistinct};
 ghost use Rattle.defs_tree.specs.Tree.{Tree};
 ghost use Rattle.yaml_tree.specs.Flat.{flat};
-ghost use Rattle.yaml_tree.specs.Marks.{mark, first_by, AreMarks, HaveRising, IsWindow};
-ghost use Rattle.yaml_tree.specs.Places.{places_in, marks_in, places, marks, rank_at, HasSpot, HasPlace, HasMarks, IsIndexed};
+ghost use Rattle.yaml_tree.specs.Digests.{digest, first_by, AreDigests, HaveRising, IsWindow};
+ghost use Rattle.yaml_tree.specs.Places.{places_in, digests_in, places, digests, rank_at, HasSpot, HasPlace, HasDigests, IsIndexed};
 ghost use Rattle.yaml_tree.specs.Probes.{probed};
-ghost use Rattle.yaml_tree.specs.Ranked.{AreRanked, IsHash, IsGap};
+ghost use Rattle.yaml_tree.specs.Ranked.{AreRanked, IsHash, IsRankGap};
 ghost use Rattle.yaml_tree.specs.View.{view, items_view, pairs_view};
 
 use crate::few::{Few, ROOM};
-use crate::mark::mark;
+use crate::digest::digest;
 use crate::search::{Probe, search};
 use crate::steps::Steps;
 use crate::yaml::Yaml;
@@ -36,29 +36,29 @@ pub(crate) struct Ranks {
 
 // Adds the place of the next pair of a row, whose key belongs at this spot.
 fn put(blocks: &mut Blocks, row: &[Yaml], spot: Spot, key: &Yaml) -> Result<(), AllocError>
-    requires hash { IsHash mark (items_view row.now) (places_in blocks.old) }
-    requires marked { AreMarks (marks_in blocks.old) (places_in blocks.old) (pairs_view row.now) }
+    requires hash { IsHash digest (items_view row.now) (places_in blocks.old) }
+    requires digested { AreDigests (digests_in blocks.old) (places_in blocks.old) (pairs_view row.now) }
     requires spot { IsSpot blocks.old spot }
-    requires gap { IsGap mark (view key.now) (places_in blocks.old) (pairs_view row.now) (rank_of blocks.old spot) }
-    ensures ranked { OnOk result ((v : Tree) → AreRanked mark (places_in blocks.new) (pairs_view row.now ++ (view key.now, v) ∷ [])) }
-    ensures marked { OnOk result ((v : Tree) → AreMarks (marks_in blocks.new) (places_in blocks.new) (pairs_view row.now ++ (view key.now, v) ∷ [])) }
+    requires gap { IsRankGap digest (view key.now) (places_in blocks.old) (pairs_view row.now) (rank_of blocks.old spot) }
+    ensures ranked { OnOk result ((v : Tree) → AreRanked digest (places_in blocks.new) (pairs_view row.now ++ (view key.now, v) ∷ [])) }
+    ensures digested { OnOk result ((v : Tree) → AreDigests (digests_in blocks.new) (places_in blocks.new) (pairs_view row.now ++ (view key.now, v) ∷ [])) }
     ensures same { OnErr result (joined blocks.new ≡ joined blocks.old) }
 {
     let next = Entry {
-        mark: mark(key),
+        digest: digest(key),
         place: row.len() / 2,
     };
     blocks.insert(spot, next)?;
     Ok(())
 }
 
-// The index by marks of the pairs of a row.
+// The index by digests of the pairs of a row.
 #[inline(never)]
-fn by_marks(alloc: Global, row: &[Yaml]) -> Result<Ranks, AllocError>
+fn by_digests(alloc: Global, row: &[Yaml]) -> Result<Ranks, AllocError>
     requires even { items_view row.now ≡ flat (pairs_view row.now) }
     requires distinct { AreDistinct (pairs_view row.now) }
     ensures indexed { IfOk result (λ r. IsIndexed (items_view row.now) r.kept) }
-    ensures many { IfOk result (λ r. HasMarks r.kept) }
+    ensures many { IfOk result (λ r. HasDigests r.kept) }
 {
     let blocks = Box::new(alloc, Blocks::new(alloc)?)?;
     let mut ranks = Ranks {
@@ -74,7 +74,7 @@ impl Ranks {
     /// The index of no pairs. It takes no memory.
     pub(crate) fn new() -> Ranks
         ensures places { places result.kept ≡ [] }
-        ensures marks { marks result.kept ≡ [] }
+        ensures digests { digests result.kept ≡ [] }
     {
         Ranks {
             kept: Kept::Few(Few::new()),
@@ -97,7 +97,7 @@ impl Ranks {
                 };
                 (first, few.len())
             }
-            Kept::Many(blocks) => blocks.narrowed(probe.mark()),
+            Kept::Many(blocks) => blocks.narrowed(probe.digest()),
         }
     }
 
@@ -142,9 +142,9 @@ impl Ranks {
     ) -> Result<(), AllocError>
         requires indexed { IsIndexed (items_view row.now) self.old.kept }
         requires spot { HasSpot self.old.kept spot }
-        requires gap { IsGap (first_by self.old.kept) (view key.now) (places self.old.kept) (pairs_view row.now) (rank_at self.old.kept spot) }
+        requires gap { IsRankGap (first_by self.old.kept) (view key.now) (places self.old.kept) (pairs_view row.now) (rank_at self.old.kept spot) }
         ensures ranked { OnOk result ((v : Tree) → AreRanked (first_by self.new.kept) (places self.new.kept) (pairs_view row.now ++ (view key.now, v) ∷ [])) }
-        ensures marks { OnOk result ((v : Tree) → AreMarks (marks self.new.kept) (places self.new.kept) (pairs_view row.now ++ (view key.now, v) ∷ [])) }
+        ensures digests { OnOk result ((v : Tree) → AreDigests (digests self.new.kept) (places self.new.kept) (pairs_view row.now ++ (view key.now, v) ∷ [])) }
         ensures same { OnErr result (IsIndexed (items_view row.now) self.new.kept) }
     {
         match &mut self.kept {
@@ -154,7 +154,7 @@ impl Ranks {
                 Ok(())
             }
             Kept::Few(_) => {
-                let mut ranks = by_marks(alloc, row)?;
+                let mut ranks = by_digests(alloc, row)?;
                 ranks.add(row, key)?;
                 *self = ranks;
                 Ok(())
@@ -163,14 +163,14 @@ impl Ranks {
         }
     }
 
-    // Adds the place of the next pair of a row, among places with marks. No pair of the row has the key.
+    // Adds the place of the next pair of a row, among places with digests. No pair of the row has the key.
     fn add(&mut self, row: &[Yaml], key: &Yaml) -> Result<(), AllocError>
         requires indexed { IsIndexed (items_view row.now) self.old.kept }
-        requires many { HasMarks self.old.kept }
+        requires many { HasDigests self.old.kept }
         requires absent { None ≡ place_of (view key.now) (pairs_view row.now) }
-        ensures ranked { OnOk result ((v : Tree) → AreRanked mark (places self.new.kept) (pairs_view row.now ++ (view key.now, v) ∷ [])) }
-        ensures marked { OnOk result ((v : Tree) → AreMarks (marks self.new.kept) (places self.new.kept) (pairs_view row.now ++ (view key.now, v) ∷ [])) }
-        ensures many { OnOk result (HasMarks self.new.kept) }
+        ensures ranked { OnOk result ((v : Tree) → AreRanked digest (places self.new.kept) (pairs_view row.now ++ (view key.now, v) ∷ [])) }
+        ensures digested { OnOk result ((v : Tree) → AreDigests (digests self.new.kept) (places self.new.kept) (pairs_view row.now ++ (view key.now, v) ∷ [])) }
+        ensures many { OnOk result (HasDigests self.new.kept) }
     {
         let mut steps = Steps::new();
         let Err(spot) = search(row, self, Probe::Node(key), &mut steps) else {
@@ -186,7 +186,7 @@ impl Ranks {
     pub(crate) fn remove(&mut self, spot: Spot)
         requires { HasPlace self.old.kept spot }
         ensures places { places self.new.kept ≡ map (closed_up (get_or (places self.old.kept) (rank_at self.old.kept spot) 0)) (remove (places self.old.kept) (rank_at self.old.kept spot)) }
-        ensures marks { marks self.new.kept ≡ remove (marks self.old.kept) (rank_at self.old.kept spot) }
+        ensures digests { digests self.new.kept ≡ remove (digests self.old.kept) (rank_at self.old.kept spot) }
         ensures order { first_by self.new.kept ≡ first_by self.old.kept }
     {
         match &mut self.kept {
@@ -201,7 +201,7 @@ impl Ranks {
         requires some { 0 < count }
         requires all { count ≡ length (places self.old.kept) }
         ensures places { places self.new.kept ≡ map (moved_up gone count) (places self.old.kept) }
-        ensures marks { marks self.new.kept ≡ marks self.old.kept }
+        ensures digests { digests self.new.kept ≡ digests self.old.kept }
         ensures order { first_by self.new.kept ≡ first_by self.old.kept }
     {
         match &mut self.kept {
@@ -212,7 +212,7 @@ impl Ranks {
 
     pub(crate) fn clone(&self, alloc: Global) -> Result<Ranks, AllocError>
         ensures places { IfOk result (λ r. places r.kept ≡ places self.now.kept) }
-        ensures marks { IfOk result (λ r. marks r.kept ≡ marks self.now.kept) }
+        ensures digests { IfOk result (λ r. digests r.kept ≡ digests self.now.kept) }
         ensures order { IfOk result (λ r. first_by r.kept ≡ first_by self.now.kept) }
     {
         let kept = match &self.kept {

@@ -2,9 +2,9 @@
 ghost use Rattle.std.specs.Prelude.{◌≡◌, ◌+◌, ◌*◌, ◌<◌, ◌≤◌, ◌++◌, ◌∷◌, [], length, get_or, IfErr, OnOk, OnErr, vec_len, vec_capacity};
 ghost use Rattle.std.specs.List.{remove};
 ghost use Rattle.defs_tree.specs.Tree.{Tree};
-ghost use Rattle.yaml_tree.specs.Marks.{first_by, AreMarks};
-ghost use Rattle.yaml_tree.specs.Places.{places, marks, rank_at, HasSpot, IsIndexed};
-ghost use Rattle.yaml_tree.specs.Ranked.{AreRanked, IsGap};
+ghost use Rattle.yaml_tree.specs.Digests.{first_by, AreDigests};
+ghost use Rattle.yaml_tree.specs.Places.{places, digests, rank_at, HasSpot, IsIndexed};
+ghost use Rattle.yaml_tree.specs.Ranked.{AreRanked, IsRankGap};
 ghost use Rattle.yaml_tree.specs.View.{view, items_view, pairs_view};
 
 use crate::ranks::Ranks;
@@ -26,10 +26,10 @@ pub(crate) fn add(
 ) -> Result<(), (Yaml, Yaml)>
     requires indexed { IsIndexed (items_view row.old.items) ranks.old.kept }
     requires spot { HasSpot ranks.old.kept spot }
-    requires gap { IsGap (first_by ranks.old.kept) (view key) (places ranks.old.kept) (pairs_view row.old.items) (rank_at ranks.old.kept spot) }
+    requires gap { IsRankGap (first_by ranks.old.kept) (view key) (places ranks.old.kept) (pairs_view row.old.items) (rank_at ranks.old.kept spot) }
     ensures row { OnOk result (row.new.items ≡ row.old.items ++ key ∷ value ∷ []) }
     ensures ranked { OnOk result ((v : Tree) → AreRanked (first_by ranks.new.kept) (places ranks.new.kept) (pairs_view row.old.items ++ (view key, v) ∷ [])) }
-    ensures marks { OnOk result ((v : Tree) → AreMarks (marks ranks.new.kept) (places ranks.new.kept) (pairs_view row.old.items ++ (view key, v) ∷ [])) }
+    ensures digests { OnOk result ((v : Tree) → AreDigests (digests ranks.new.kept) (places ranks.new.kept) (pairs_view row.old.items ++ (view key, v) ∷ [])) }
     ensures same { OnErr result (row.new.items ≡ row.old.items) }
     ensures indexed { OnErr result (IsIndexed (items_view row.old.items) ranks.new.kept) }
     ensures handed_back { IfErr result (λ p. p ≡ (key, value)) }

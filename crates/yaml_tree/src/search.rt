@@ -3,12 +3,12 @@ ghost use Rattle.std.specs.Prelude.{◌≡◌, ◌+◌, ◌^◌, ◌<◌, ◌≤
 ghost use Rattle.defs_tree.specs.Digits.{binary_digits};
 ghost use Rattle.defs_tree.specs.Order.{tree_cmp};
 ghost use Rattle.yaml_tree.specs.Probes.{probed};
-ghost use Rattle.yaml_tree.specs.Marks.{mark, first_by};
+ghost use Rattle.yaml_tree.specs.Digests.{digest, first_by};
 ghost use Rattle.yaml_tree.specs.Places.{places, rank_at, HasSpot, HasPlace, IsIndexed};
-ghost use Rattle.yaml_tree.specs.Ranked.{IsRank, IsGap};
+ghost use Rattle.yaml_tree.specs.Ranked.{IsRank, IsRankGap};
 ghost use Rattle.yaml_tree.specs.View.{view, items_view, pairs_view};
 
-use crate::mark::{mark, mark_of_text};
+use crate::digest::{digest, digest_of_text};
 use crate::ranks::Ranks;
 use crate::steps::Steps;
 use crate::yaml::Yaml;
@@ -23,14 +23,14 @@ pub(crate) enum Probe<'a> {
 }
 
 impl<'a> Probe<'a> {
-    /// The mark of what is looked up.
-    pub(crate) fn mark(self) -> u64
-        ensures mark { result ≡ mark (probed self.entry) }
+    /// The digest of what is looked up.
+    pub(crate) fn digest(self) -> u64
+        ensures digest { result ≡ digest (probed self.entry) }
         ensures next { result + 1 < 2 ^ 64 }
     {
         match self {
-            Probe::Node(node) => mark(node),
-            Probe::Text(text) => mark_of_text(text),
+            Probe::Node(node) => digest(node),
+            Probe::Text(text) => digest_of_text(text),
         }
     }
 
@@ -56,7 +56,7 @@ pub(crate) fn search(
     ensures place { IfOk result (λ s. HasPlace ranks.now.kept s) }
     ensures found { IfOk result (λ s. IsRank (probed probe.entry) (places ranks.now.kept) (pairs_view row.now) (rank_at ranks.now.kept s)) }
     ensures spot { IfErr result (λ s. HasSpot ranks.now.kept s) }
-    ensures missing { IfErr result (λ s. IsGap (first_by ranks.now.kept) (probed probe.entry) (places ranks.now.kept) (pairs_view row.now) (rank_at ranks.now.kept s)) }
+    ensures missing { IfErr result (λ s. IsRankGap (first_by ranks.now.kept) (probed probe.entry) (places ranks.now.kept) (pairs_view row.now) (rank_at ranks.now.kept s)) }
     ensures steps { steps.new ≤ steps.old + binary_digits (length (places ranks.now.kept)) }
     ensures counted { steps.old ≤ steps.new }
 {

@@ -1,7 +1,7 @@
 -- A refusal for a fault that stands in a text by itself comes only where that fault stands.
 use Rattle.std.proofs.Common.{◌≡◌, ℕ, ◌+◌, List, [], ◌∷◌, Bool, true, false, ◌==◌, nat_lt, if◌then◌else◌, slice_index, Result, Err, refl, ap, sym, ◌∙◌, subst}
 use Rattle.defs_text.specs.Position.{Position}
-use Rattle.defs_text.specs.Text.{is_nil}
+use Rattle.defs_text.specs.Text.{is_empty}
 use Rattle.yaml_chars.specs.Class.{is_blank_or_breakz}
 use Rattle.defs_token.specs.Token.{Tok}
 use Rattle.yaml_tokens.specs.declared.problem.Fault.{Fault}
@@ -10,26 +10,26 @@ use Rattle.defs_scalar.specs.BlockScalar.{literal, folded, BlockStyle}
 use Rattle.model_lexers.specs.Machine.{Read}
 use Rattle.model_lexers.specs.Block.{Block, Header, block}
 use Rattle.model_scanner.specs.declared.level.FlowLevel.TheVariants.{Mapping, Entry}
-use Rattle.model_scanner.specs.State.{Held, State, peek, after, in_flow, on_held}
+use Rattle.model_scanner.specs.State.{Held, ScannerState, peek, after, in_flow, on_held}
 use Rattle.model_scanner.specs.Class.{class_of}
 use Rattle.model_scanner.specs.Flow.{allow_key}
 use Rattle.model_scanner.specs.Indents.{unroll_indent, unroll_non_block_indents}
-use Rattle.model_scanner.specs.Keys.{save_simple_key, stale}
+use Rattle.model_scanner.specs.Keys.{save_implicit_key, stale}
 use Rattle.model_scanner.specs.Document.{fetch_block_scalar, fetch_plain_scalar}
 use Rattle.model_scanner.specs.Fetch.{is_value, token_by, comes_marker, fetch_token, fetch_indented, fetch_first_column, fetch_content, fetch_here, fetch_next, fetch}
 use Rattle.model_scanner.specs.Run.{IsRefused, start}
 use Rattle.model_scanner.proofs.Holds.{held_of, tried, both_hold}
 use Rattle.model_scanner.proofs.Walk as walk
 use Rattle.proof_lexers.specs.BlockScan as block_scans
-use Rattle.proof_lexers.specs.BlockScan.{is_literal}
+use Rattle.proof_lexers.specs.BlockScan.{is_literal_style}
 use Rattle.proof_lexers.specs.BlockEnds as block_ends
 use Rattle.proof_lexers.specs.HeaderEnds as headers
 use Rattle.proof_lexers.specs.HeaderEnds.{indicator_of}
 use Rattle.proof_lexers.proofs.Blocks.Ends as block_laws
 use Rattle.proof_lexers.specs.PlainEnds.{has_no_nul}
-use Rattle.proof_lexers.specs.Fillers.{begins_filler}
+use Rattle.proof_lexers.specs.Separations.{begins_separation}
 use Rattle.proof_cut.specs.Faults.{IsThere, is_shown}
-use Rattle.proof_cut.specs.Stands.{Stands}
+use Rattle.proof_cut.specs.Stands.{FaresAt}
 use Rattle.proof_cut.proofs.Pieces.Quoted.{some_chars}
 use Rattle.proof_cut.proofs.Passes.{to_token}
 use Rattle.proof_cut.proofs.Nodes.{clean_more, IsDeep}
@@ -50,34 +50,34 @@ same_fault e = cc
 other_by : (f : Fault) (p : Position) (why : Fault) → IsOther why → ◌≡◌ {A = Result (Read Header) Fault} (Err f) (Err why) → IsOther f
 other_by f p why is e = ap is_shown (same_fault e) ∙ is
 
-header_other : (p : Position) (style : BlockStyle) (line after : List ℕ) (f : Fault) → headers.EndsAs p style line after (Err f) → IsOther f
+header_other : (p : Position) (style : BlockStyle) (line after : List ℕ) (f : Fault) → headers.HeaderEndsAs p style line after (Err f) → IsOther f
 header_other p style line after f (headers.reads h is no_tab e) = absurd (cc e)
 header_other p style line after f (headers.tabbed h is tab e) = other_by f p _ refl e
 header_other p style line after f (headers.zero_digit is zero e) = other_by f p _ refl e
 header_other p style line after f (headers.comment h before text is was cut e) = other_by f p _ refl e
 header_other p style line after f (headers.no_header is e) = other_by f p _ refl e
 
-block_other : (style : BlockStyle) (indent : ℕ) (more : List ℕ) (p : Position) → has_no_nul more ≡ true → Refuses IsOther (block (is_literal style) indent (indicator_of style ∷ more) p)
-block_other style indent more p clean = by (block (is_literal style) indent (indicator_of style ∷ more) p) (block_laws.scans_end style indent more p (some_chars more clean))
+block_other : (style : BlockStyle) (indent : ℕ) (more : List ℕ) (p : Position) → has_no_nul more ≡ true → Refuses IsOther (block (is_literal_style style) indent (indicator_of style ∷ more) p)
+block_other style indent more p clean = by (block (is_literal_style style) indent (indicator_of style ∷ more) p) (block_laws.scans_end style indent more p (some_chars more clean))
   where
-    by : (x : Result (Read Block) Fault) → block_ends.EndsAs style indent p more x → Refuses IsOther x
+    by : (x : Result (Read Block) Fault) → block_ends.BlockEndsAs style indent p more x → Refuses IsOther x
     by x (block_ends.bad_header line after f cut in_line ends why e) = rw e (this (header_other p style line after f why))
     by x (block_ends.scalar piece next b cut is looks (block_scans.read free deep e)) = rw e none
     by x (block_ends.scalar piece next b cut is looks (block_scans.shallow free low e)) = rw e (this refl)
     by x (block_ends.scalar piece next b cut is looks (block_scans.tabbed tab e)) = rw e (this refl)
 
-block_fetch_other : (b : Bool) (more : List ℕ) (t : State) → t.rest ≡ (if b then 124 else 62) ∷ more → has_no_nul more ≡ true → Refuses IsOther (fetch_block_scalar b t)
+block_fetch_other : (b : Bool) (more : List ℕ) (t : ScannerState) → t.rest ≡ (if b then 124 else 62) ∷ more → has_no_nul more ≡ true → Refuses IsOther (fetch_block_scalar b t)
 unfolding fetch_block_scalar
 block_fetch_other true more t e clean =
-    let h : Held = unroll_non_block_indents (allow_key true (save_simple_key t.held)) in
+    let h : Held = unroll_non_block_indents (allow_key true (save_implicit_key t.held)) in
     lexes (block true h.indent t.rest t.held.place) h _ (subst (λ r. Refuses IsOther (block true h.indent r t.held.place)) (sym e) (block_other literal h.indent more t.held.place clean)) (λ x l. none)
 block_fetch_other false more t e clean =
-    let h : Held = unroll_non_block_indents (allow_key true (save_simple_key t.held)) in
+    let h : Held = unroll_non_block_indents (allow_key true (save_implicit_key t.held)) in
     lexes (block false h.indent t.rest t.held.place) h _ (subst (λ r. Refuses IsOther (block false h.indent r t.held.place)) (sym e) (block_other folded h.indent more t.held.place clean)) (λ x l. none)
 
 -- ---- the next token
 
-module _ (text : List ℕ) (t : State) (nul : has_no_nul text ≡ true) (s : Stands text t) (deep : IsDeep t.held) (some : is_nil t.rest ≡ false) (solid : begins_filler t.rest ≡ false) where
+module _ (text : List ℕ) (t : ScannerState) (nul : has_no_nul text ≡ true) (s : FaresAt text t) (deep : IsDeep t.held) (some : is_empty t.rest ≡ false) (solid : begins_separation t.rest ≡ false) where
   abbrev Tells : ℕ → Type 0
   Tells c = (more : List ℕ) → t.rest ≡ c ∷ more → Refuses (IsTold text) (token_by (class_of c) t)
 
@@ -129,16 +129,16 @@ module _ (text : List ℕ) (t : State) (nul : has_no_nul text ≡ true) (s : Sta
   unfolding fetch_token
   token_told = by t.rest refl some
     where
-      by : (l : List ℕ) → t.rest ≡ l → is_nil l ≡ false → Refuses (IsTold text) (token_by (class_of (peek t.rest)) t)
+      by : (l : List ℕ) → t.rest ≡ l → is_empty l ≡ false → Refuses (IsTold text) (token_by (class_of (peek t.rest)) t)
       by [] e n = absurd (cc n)
       by (c ∷ more) e n = rw (ap peek e) (each_told c more e)
 
-indented_told : (text : List ℕ) (t : State) → has_no_nul text ≡ true → is_nil t.rest ≡ false → Here text t → Refuses (IsTold text) (fetch_indented t)
+indented_told : (text : List ℕ) (t : ScannerState) → has_no_nul text ≡ true → is_empty t.rest ≡ false → Here text t → Refuses (IsTold text) (fetch_indented t)
 unfolding fetch_indented
 indented_told text t nul some h =
     chosen (nat_lt (t.held.place.col + 1) t.held.indent) (λ e. other_told text (this refl)) (λ e. token_told text t nul h.stands (is_deep t.held.place.col t.held.indent e) some h.solid)
 
-content_told : (text : List ℕ) (t : State) → has_no_nul text ≡ true → is_nil t.rest ≡ false → Here text t → Refuses (IsTold text) (fetch_content t)
+content_told : (text : List ℕ) (t : ScannerState) → has_no_nul text ≡ true → is_empty t.rest ≡ false → Here text t → Refuses (IsTold text) (fetch_content t)
 unfolding fetch_content fetch_first_column
 content_told text t nul some h =
     chosen (t.held.place.col == 0) (λ col.
@@ -146,11 +146,11 @@ content_told text t nul some h =
     chosen (comes_marker 45 t.rest) (λ e. other_told text (marker_other Tok.document_start t)) (λ _.
     chosen (comes_marker 46 t.rest) (λ e. other_told text (document_end_other t)) (λ _. indented_told text t nul some h)))) (λ _. indented_told text t nul some h)
 
-here_told : (text : List ℕ) (t : State) → has_no_nul text ≡ true → Here text t → Refuses (IsTold text) (fetch_here t)
+here_told : (text : List ℕ) (t : ScannerState) → has_no_nul text ≡ true → Here text t → Refuses (IsTold text) (fetch_here t)
 unfolding fetch_here
 here_told text t nul h = chosen (peek t.rest == 0) (λ e. other_told text (stream_end_other t)) (λ e. content_told text t nul (goes_on_here t.rest e) h)
 
-next_told : (text : List ℕ) (t : State) → has_no_nul text ≡ true → Stands text t → walk.Stands started t.held → Refuses (IsTold text) (fetch_next t)
+next_told : (text : List ℕ) (t : ScannerState) → has_no_nul text ≡ true → FaresAt text t → walk.Stands started t.held → Refuses (IsTold text) (fetch_next t)
 unfolding fetch_next
 next_told text t nul s g =
     bound (other_told text (skip_other t)) (λ u k.
@@ -161,9 +161,9 @@ next_told text t nul s g =
 
 -- ---- refusals
 
-fetch_told : (text : List ℕ) (t : State) → has_no_nul text ≡ true → t.held.ended ≡ false → Came text t → Refuses (IsTold text) (fetch t)
+fetch_told : (text : List ℕ) (t : ScannerState) → has_no_nul text ≡ true → t.held.ended ≡ false → Came text t → Refuses (IsTold text) (fetch t)
 unfolding fetch
-fetch_told text t nul going_on (starts e) = chosen t.held.started (λ k. let begun : false ≡ true = ap (λ (u : State). u.held.started) (sym e) ∙ k in absurd cc) (λ k. none)
+fetch_told text t nul going_on (starts e) = chosen t.held.started (λ k. let begun : false ≡ true = ap (λ (u : ScannerState). u.held.started) (sym e) ∙ k in absurd cc) (λ k. none)
 fetch_told text t nul going_on (fares (goes s g)) = chosen t.held.started (λ k. next_told text t nul s g) (λ k. none)
 fetch_told text t nul going_on (fares (over c e n)) = absurd (cc (e, going_on))
 

@@ -8,12 +8,12 @@ use Rattle.model_lexers.specs.declared.context.SkipTabs.{SkipTabs}
 use Rattle.model_lexers.specs.declared.context.Whitespace.{Whitespace}
 use Rattle.model_lexers.specs.Machine.{Read}
 use Rattle.model_lexers.specs.Space.{space}
-use Rattle.model_scanner.specs.State.{Held, State, ◌>>=◌, in_flow, with_held, go_on, lexed}
+use Rattle.model_scanner.specs.State.{Held, ScannerState, ◌>>=◌, in_flow, with_held, go_on, lexed}
 use Rattle.std.specs.List.{list_any}
-use Rattle.model_scanner.specs.Keys.{is_overdue, still, with_keys, is_required, top_key, drop_stale, stale, remove_simple_key}
+use Rattle.model_scanner.specs.Keys.{is_overdue, still, with_keys, is_required, top_key, drop_stale, stale, remove_implicit_key}
 use Rattle.model_scanner.specs.Space.{between, skip, skip_to_next_token, skip_spaces, white, skip_yaml_whitespace}
-use Rattle.proof_lexers.specs.Fillers.{PassesAs, passes, refuses, GoesOverAs, goes, misses, SpacesAs, spaces, glued}
-use Rattle.proof_lexers.proofs.Separation.Fillers.{fillers_are_passed}
+use Rattle.proof_lexers.specs.Separations.{PassesAs, passes, refuses, GoesOverAs, goes, misses, SpacesAs, spaces, glued}
+use Rattle.proof_lexers.proofs.Separation.Separations.{separations_are_passed}
 use Rattle.proof_lexers.proofs.Separation.WhiteSpace.{white_space_is_passed}
 use Rattle.proof_lexers.proofs.Separation.Spaces.{spaces_are_passed}
 use Rattle.proof_cut.specs.Faults.{IsThere, is_shown}
@@ -46,11 +46,11 @@ pub chosen : {A : Type 0} {P : Fault → Type 0} {r q : Result A Fault} (b : Boo
 chosen true h g = h refl
 chosen false h g = g refl
 
-pub on_holding : {P : Fault → Type 0} (t : State) {r : Result Held Fault} → Refuses P r → Refuses P (with_held t r)
+pub on_holding : {P : Fault → Type 0} (t : ScannerState) {r : Result Held Fault} → Refuses P r → Refuses P (with_held t r)
 on_holding t none = none
 on_holding t (this p) = this p
 
-pub lexes : {A : Type 0} {P : Fault → Type 0} (r : Result (Read A) Fault) (h : Held) (go : A → State → Result State Fault) → Refuses P r → ((x : Read A) → r ≡ Ok x → Refuses P (go x.value (go_on x h))) → Refuses P (lexed r h go)
+pub lexes : {A : Type 0} {P : Fault → Type 0} (r : Result (Read A) Fault) (h : Held) (go : A → ScannerState → Result ScannerState Fault) → Refuses P r → ((x : Read A) → r ≡ Ok x → Refuses P (go x.value (go_on x h))) → Refuses P (lexed r h go)
 lexes (Ok x) h go q g = g x refl
 lexes (Err e) h go (this p) g = this p
 
@@ -61,21 +61,21 @@ other_told text (this p) = this (λ s. absurd (cc (p, s)))
 
 -- ---- steps that refuse for other reasons
 
-pub skip_other : (t : State) → Refuses IsOther (skip_to_next_token t)
+pub skip_other : (t : ScannerState) → Refuses IsOther (skip_to_next_token t)
 unfolding skip_to_next_token
-skip_other t = by (skip between t.rest t.held) (fillers_are_passed t.held t.rest)
+skip_other t = by (skip between t.rest t.held) (separations_are_passed t.held t.rest)
   where
-    by : (x : Result State Fault) → PassesAs t.held t.rest x → Refuses IsOther x
-    by x (passes leading filler rest cut fills ends e) = rw e none
+    by : (x : Result ScannerState Fault) → PassesAs t.held t.rest x → Refuses IsOther x
+    by x (passes leading separation rest cut fills ends e) = rw e none
     by x (refuses before blanks rest cut fills left are begins e) = rw e (this refl)
 
-pub white_other : (t : State) → Refuses IsOther (skip_yaml_whitespace t)
+pub white_other : (t : ScannerState) → Refuses IsOther (skip_yaml_whitespace t)
 unfolding skip_yaml_whitespace
 white_other t = by (white false false t.rest t.held) (white_space_is_passed t.held t.rest)
   where
-    by : (x : Result State Fault) → GoesOverAs t.held t.rest x → Refuses IsOther x
-    by x (goes leading filler rest cut fills ends e) = rw e none
-    by x (misses filler rest cut fills no_space break ends e) = rw e (this refl)
+    by : (x : Result ScannerState Fault) → GoesOverAs t.held t.rest x → Refuses IsOther x
+    by x (goes leading separation rest cut fills ends e) = rw e none
+    by x (misses separation rest cut fills no_space break ends e) = rw e (this refl)
 
 space_other : (tabs : SkipTabs) (text : List ℕ) (p : Position) → Refuses IsOther (space tabs text p)
 space_other tabs text p = by (space tabs text p) (spaces_are_passed tabs text p)
@@ -85,10 +85,10 @@ space_other tabs text p = by (space tabs text p) (spaces_are_passed tabs text p)
     by x (glued begins e) = rw e (this refl)
 
 -- spaces, and a step after them
-pub spaced_other : (tabs : SkipTabs) (t : State) (go : Whitespace → State → Result State Fault) → ((w : Whitespace) (u : State) → Refuses IsOther (go w u)) → Refuses IsOther (lexed (space tabs t.rest t.held.place) t.held go)
+pub spaced_other : (tabs : SkipTabs) (t : ScannerState) (go : Whitespace → ScannerState → Result ScannerState Fault) → ((w : Whitespace) (u : ScannerState) → Refuses IsOther (go w u)) → Refuses IsOther (lexed (space tabs t.rest t.held.place) t.held go)
 spaced_other tabs t go h = lexes (space tabs t.rest t.held.place) t.held go (space_other tabs t.rest t.held.place) (λ x e. h x.value (go_on x t.held))
 
-pub spaces_other : (tabs : SkipTabs) (t : State) → Refuses IsOther (skip_spaces tabs t)
+pub spaces_other : (tabs : SkipTabs) (t : ScannerState) → Refuses IsOther (skip_spaces tabs t)
 unfolding skip_spaces
 spaces_other tabs t = spaced_other tabs t _ (λ w u. none)
 
@@ -100,6 +100,6 @@ stale_other s = chosen (in_flow s) (λ e. none) (λ e. by (list_any (is_overdue 
     by true = this refl
     by false = none
 
-pub removed_other : (s : Held) → Refuses IsOther (remove_simple_key s)
-unfolding remove_simple_key
+pub removed_other : (s : Held) → Refuses IsOther (remove_implicit_key s)
+unfolding remove_implicit_key
 removed_other s = chosen (is_required (top_key s.keys)) (λ e. this refl) (λ e. none)

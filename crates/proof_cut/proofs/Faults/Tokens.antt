@@ -1,13 +1,13 @@
 -- A token's refusal: what stands in the text.
 use Rattle.std.proofs.Common.{◌≡◌, ℕ, suc, ◌≤◌, List, [], ◌∷◌, ◌++◌, Bool, true, false, ◌||◌, ◌==◌, not, nat_le, nat_lt, length, if◌then◌else◌, None, Result, Ok, Err, refl, ap, sym, ◌∙◌, subst, arith}
 use Rattle.std.proofs.lemmas.Bool.Decides.{nat_tests}
-use Rattle.defs_text.specs.Text.{is_nil}
+use Rattle.defs_text.specs.Text.{is_empty}
 use Rattle.defs_token.specs.Token.{Style, Tok}
 use Rattle.yaml_tokens.specs.declared.problem.Fault.{Fault}
 use Rattle.yaml_tokens.specs.declared.problem.Fault.TheVariants.{At}
 use Rattle.yaml_tokens.specs.declared.problem.Problem.TheVariants as problem
 use Rattle.defs_text.specs.Classes.{is_at_gap}
-use Rattle.defs_token.specs.Account.{first_account, has_room, account_past_filler}
+use Rattle.defs_token.specs.Account.{first_account, has_room, account_past_separation}
 use Rattle.defs_token.specs.Cut.{IsRow, spelled, account_past_row}
 use Rattle.model_lexers.specs.declared.context.Context.{Context}
 use Rattle.model_lexers.specs.declared.context.SkipTabs.TheVariants.{Yes}
@@ -16,8 +16,8 @@ use Rattle.model_lexers.specs.Quoted as quotes
 use Rattle.model_lexers.specs.Quoted.{quote_of}
 use Rattle.model_lexers.specs.Plain as plains
 use Rattle.model_scanner.specs.declared.level.FlowLevel.{FlowLevel}
-use Rattle.model_scanner.specs.State.{Held, State, peek, in_flow, push, on_held, lexed}
-use Rattle.model_scanner.specs.Keys.{save_simple_key}
+use Rattle.model_scanner.specs.State.{Held, ScannerState, peek, in_flow, push, on_held, lexed}
+use Rattle.model_scanner.specs.Keys.{save_implicit_key}
 use Rattle.model_scanner.specs.Indents.{Levels, without_open, roll_one_col_indent, unroll_non_block_indents}
 use Rattle.model_scanner.specs.Flow.{allow_key, increase_flow_level, deepened_flow, begin_flow, fetch_flow_collection_start}
 use Rattle.model_scanner.specs.Block.{last_property, at_margin, check_block_entry, fetch_block_entry}
@@ -27,10 +27,10 @@ use Rattle.proof_lexers.specs.QuotedEnds.{IsBadEscape}
 use Rattle.proof_lexers.proofs.Quoted.ScanEnds.{scans_end}
 use Rattle.proof_lexers.specs.PlainEnds.{has_no_nul}
 use Rattle.proof_lexers.specs.PlainEnds as plain_ends
-use Rattle.proof_lexers.specs.Fillers.{begins_filler}
+use Rattle.proof_lexers.specs.Separations.{begins_separation}
 use Rattle.proof_lexers.proofs.Plain.Scalars as plain_laws
 use Rattle.proof_cut.specs.Faults.{IsSpot, bad_escape, open_quote, marked_quote, too_deep, entry_in_flow, dash_in_flow}
-use Rattle.proof_cut.specs.Stands.{levels_of, Stands}
+use Rattle.proof_cut.specs.Stands.{levels_of, FaresAt}
 use Rattle.proof_cut.proofs.Pieces.Quoted.{some_chars}
 use Rattle.proof_cut.proofs.Saved.{saved_keys, saved_is}
 use Rattle.proof_cut.proofs.Levels.{one_indents, one_indent, rolled_one_is, without_is}
@@ -40,19 +40,19 @@ use Rattle.proof_cut.proofs.Faults.Shown.{Refuses, none, this, IsOther, IsTold, 
 use Rattle.proof_cut.proofs.Faults.Steps.{indicator_other, margin_other, block_entry_other}
 
 -- where the scanner's model stands is a place after a row of pieces
-pub spot_of : (text : List ℕ) (t : State) → has_no_nul text ≡ true → (s : Stands text t) → IsSpot text t.rest (account_now text t s)
+pub spot_of : (text : List ℕ) (t : ScannerState) → has_no_nul text ≡ true → (s : FaresAt text t) → IsSpot text t.rest (account_now text t s)
 spot_of text t nul s =
     let x = s.stood in
     record {
       row = x.row;
-      filler = x.here.filler;
+      separation = x.here.separation;
       is_text = ap (λ r. spelled x.row r) (sym x.here.is_after) ∙ x.here.is_text ∙ sym (whole_text text nul);
       is_row = subst (λ r. IsRow first_account x.row r None) x.here.is_after (x.here.is_row None);
       is_filled = x.here.is_filled;
-      is_account = ap (λ r. account_past_filler (account_past_row first_account x.row r) x.here.filler t.rest) (sym x.here.is_after) ∙ x.here.is_here;
+      is_account = ap (λ r. account_past_separation (account_past_row first_account x.row r) x.here.separation t.rest) (sym x.here.is_after) ∙ x.here.is_here;
     }
 
-module _ (text : List ℕ) (t : State) (nul : has_no_nul text ≡ true) (s : Stands text t) where
+module _ (text : List ℕ) (t : ScannerState) (nul : has_no_nul text ≡ true) (s : FaresAt text t) where
   spot : (rest : List ℕ) → t.rest ≡ rest → IsSpot text rest (account_now text t s)
   spot rest e = subst (λ r. IsSpot text r (account_now text t s)) e (spot_of text t nul s)
 
@@ -71,7 +71,7 @@ module _ (text : List ℕ) (t : State) (nul : has_no_nul text ≡ true) (s : Sta
   rolled : Held
   rolled = record t.held { keys = saved_keys t.held; indents = one_indents (record t.held { keys = saved_keys t.held }); indent = one_indent (record t.held { keys = saved_keys t.held }) }
 
-  rolled_is : roll_one_col_indent (save_simple_key t.held) ≡ rolled
+  rolled_is : roll_one_col_indent (save_implicit_key t.held) ≡ rolled
   unfolding rolled
   rolled_is = ap roll_one_col_indent (saved_is t.held) ∙ rolled_one_is (record t.held { keys = saved_keys t.held })
 
@@ -94,19 +94,19 @@ module _ (text : List ℕ) (t : State) (nul : has_no_nul text ≡ true) (s : Sta
   pub block_entry_told : (rest : List ℕ) → t.rest ≡ 45 ∷ rest → is_at_gap rest ≡ true → Refuses (IsTold text) (fetch_block_entry t)
   unfolding fetch_block_entry check_block_entry
   block_entry_told rest e gap =
-      bound (on_holding t (by (is_nil t.held.flow) refl)) (λ u k. other_told text (block_entry_other t u))
+      bound (on_holding t (by (is_empty t.held.flow) refl)) (λ u k. other_told text (block_entry_other t u))
     where
       checks : Bool → Result Held Fault
       checks flow = (if flow then Err (At problem.BlockEntryInFlow t.held.place) else (if not t.held.key_allowed then Err (At problem.BlockEntryNotAllowed t.held.place) else at_margin (last_property t.held.tokens) t.held.place t.held))
 
-      by : (out : Bool) → is_nil t.held.flow ≡ out → Refuses (IsTold text) (checks (not out))
+      by : (out : Bool) → is_empty t.held.flow ≡ out → Refuses (IsTold text) (checks (not out))
       by true o = other_told text (chosen (not t.held.key_allowed) (λ l. this refl) (λ l. margin_other (last_property t.held.tokens) t.held.place t.held))
       by false o = this (λ _. entry_in_flow (account_now text t s) rest (spot (45 ∷ rest) e) gap (same_flow t.held.flow ∙ ap not o))
 
   -- ---- quoted scalars
 
   -- a bad escape is one of the faults that are shown, in a double-quoted scalar
-  quote_told : (single : Bool) (ctx : Context) (rest : List ℕ) (f : Fault) → t.rest ≡ quote_of single ∷ rest → quoted_ends.IsRefusal single ctx t.held.place rest f → IsTold text f
+  quote_told : (single : Bool) (ctx : Context) (rest : List ℕ) (f : Fault) → t.rest ≡ quote_of single ∷ rest → quoted_ends.IsQuotedRefusal single ctx t.held.place rest f → IsTold text f
   quote_told single ctx rest f e (quoted_ends.by_marker body more cut are has) = λ _.
       marked_quote (account_now text t s) single body more (spot (quote_of single ∷ (body ++ more)) (e ∙ ap (λ r. quote_of single ∷ r) cut)) are has
   quote_told single ctx rest f e (quoted_ends.by_end are) = λ _. open_quote (account_now text t s) single rest (spot (quote_of single ∷ rest) e) are
@@ -123,11 +123,11 @@ module _ (text : List ℕ) (t : State) (nul : has_no_nul text ≡ true) (s : Sta
       clean : has_no_nul rest ≡ true
       clean = clean_more text t (quote_of single) rest e s
 
-      by : (x : Result (Read (List ℕ)) Fault) → quoted_ends.EndsAs single ctx t.held.place rest x → Refuses (IsTold text) x
+      by : (x : Result (Read (List ℕ)) Fault) → quoted_ends.QuotedEndsAs single ctx t.held.place rest x → Refuses (IsTold text) x
       by x (quoted_ends.reads body more value place cut is ends k) = rw k none
       by x (quoted_ends.refuses f why k) = rw k (this (quote_told single ctx rest f e why))
 
-  after_quote_other : (line : ℕ) (u : State) → Refuses IsOther (check_after_quoted line u)
+  after_quote_other : (line : ℕ) (u : ScannerState) → Refuses IsOther (check_after_quoted line u)
   unfolding check_after_quoted
   after_quote_other line u = bound (spaces_other Yes u) (λ v k. chosen (may_follow_quoted (in_flow v.held) (line == v.held.place.line) (peek v.rest)) (λ l. none) (λ l. this refl))
 
@@ -139,13 +139,13 @@ module _ (text : List ℕ) (t : State) (nul : has_no_nul text ≡ true) (s : Sta
 
   -- ---- plain scalars
 
-  plain_why_told : (ctx : Context) (f : Fault) → ctx.flow ≡ in_flow t.held → plain_ends.IsRefusal ctx t.held.place t.rest f → IsTold text f
+  plain_why_told : (ctx : Context) (f : Fault) → ctx.flow ≡ in_flow t.held → plain_ends.IsPlainRefusal ctx t.held.place t.rest f → IsTold text f
   plain_why_told ctx f e (plain_ends.by_column flow left) = λ z. absurd (cc z)
   plain_why_told ctx f e (plain_ends.by_dash before rest flow cut begins over apart) = λ _.
       dash_in_flow (account_now text t s) before rest (spot (before ++ 45 ∷ rest) cut) begins (same_flow t.held.flow ∙ sym e ∙ flow) apart
   plain_why_told ctx f e (plain_ends.by_tab before blanks rest column cut over stands left are begins) = λ z. absurd (cc z)
 
-  solid_text : (l : List ℕ) → is_nil l ≡ false → begins_filler l ≡ false → plain_ends.begins_solid l ≡ true
+  solid_text : (l : List ℕ) → is_empty l ≡ false → begins_separation l ≡ false → plain_ends.begins_solid l ≡ true
   solid_text [] some solid = cc
   solid_text (c ∷ r) some solid = by (plain_ends.is_white c) solid
     where
@@ -159,7 +159,7 @@ module _ (text : List ℕ) (t : State) (nul : has_no_nul text ≡ true) (s : Sta
   abbrev around : Context
   around = record { flow = in_flow t.held; indent = gone.indent }
 
-  plain_told : IsDeep t.held → is_nil t.rest ≡ false → begins_filler t.rest ≡ false → Refuses (IsTold text) (plains.plain around t.rest t.held.place)
+  plain_told : IsDeep t.held → is_empty t.rest ≡ false → begins_separation t.rest ≡ false → Refuses (IsTold text) (plains.plain around t.rest t.held.place)
   plain_told deep some solid = by (plains.plain around t.rest t.held.place) (plain_laws.scans_end around t.rest t.held.place s.stood.here.is_clean (solid_text t.rest some solid) indented)
     where
       shallow : gone.indent ≤ t.held.indent
@@ -172,11 +172,11 @@ module _ (text : List ℕ) (t : State) (nul : has_no_nul text ≡ true) (s : Sta
       indented : plain_ends.is_indented around t.held.place ≡ true
       indented = in_place (in_flow t.held) gone.indent t.held.place.col (omega (arith, deep, shallow))
 
-      by : (x : Result (Read plains.Plain) Fault) → plain_ends.EndsAs around t.held.place t.rest x → Refuses (IsTold text) x
+      by : (x : Result (Read plains.Plain) Fault) → plain_ends.PlainEndsAs around t.held.place t.rest x → Refuses (IsTold text) x
       by x (plain_ends.reads piece gap rest value cut whole white ends is e) = rw e none
       by x (plain_ends.refuses f why e) = rw e (this (plain_why_told around f refl why))
 
-  pub plain_scalar_told : IsDeep t.held → is_nil t.rest ≡ false → begins_filler t.rest ≡ false → Refuses (IsTold text) (fetch_plain_scalar t)
+  pub plain_scalar_told : IsDeep t.held → is_empty t.rest ≡ false → begins_separation t.rest ≡ false → Refuses (IsTold text) (fetch_plain_scalar t)
   unfolding fetch_plain_scalar unroll_non_block_indents
   plain_scalar_told deep some solid =
       subst (λ h. Refuses (IsTold text) (lexed (plains.plain (context (unroll_non_block_indents (allow_key false h))) t.rest t.held.place) (unroll_non_block_indents (allow_key false h))

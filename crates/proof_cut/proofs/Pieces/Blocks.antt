@@ -2,29 +2,27 @@
 use Rattle.std.proofs.Common.{◌≡◌, ℕ, zero, suc, ◌<◌, ◌≤◌, List, [], ◌∷◌, ◌++◌, Bool, true, false, ◌&&◌, ◌==◌, ◌⊎◌, inl, inr, not, nat_lt, if◌then◌else◌, Option, Some, None, Result, Ok, refl, ap, subst, ◌∙◌, arith}
 use Rattle.std.proofs.lemmas.Bool.{and_parts, eqb-true}
 use Rattle.std.proofs.lemmas.Bool.Decides.{nat_tests}
-use Rattle.defs_text.specs.Position.{Position}
-use Rattle.defs_text.specs.Text.{is_nil}
+use Rattle.defs_text.specs.Position.{Position, position_past, position_after}
+use Rattle.defs_text.specs.Text.{is_empty}
 use Rattle.defs_token.specs.Token.{Tok, Style, scalar}
 use Rattle.yaml_tokens.specs.declared.problem.Fault.{Fault}
 use Rattle.defs_text.specs.Classes.{space, is_blank, is_break, is_nul, is_at_end, are_marks, is_document_marker}
-use Rattle.defs_text.specs.Breaks.{split, split_by, put_first, is_before_line_feed}
+use Rattle.defs_text.specs.Breaks.{split, split_by, put_first, is_before_line_feed, ends_line}
 use Rattle.defs_scalar.specs.FlowScalar.{begins_with}
 use Rattle.defs_scalar.specs.BlockScalar.{BlockStyle, literal, folded, Header, header_of, body, further_text, block_value, is_outside, is_further_text}
-use Rattle.defs_text.specs.Breaks.{ends_line}
-use Rattle.defs_text.specs.Position.{position_past, position_after}
-use Rattle.defs_token.specs.Filler.{is_filler}
+use Rattle.defs_token.specs.Separation.{is_separation}
 use Rattle.defs_token.specs.BlockPiece.{BlockRead, column_of, with_value, is_past, read_body, read_lines, block_read, past_spaces, block_place}
 use Rattle.defs_token.specs.Account.{Account, is_in_flow, collection_column}
 use Rattle.defs_token.specs.Piece.{IsPiece, IsBlockScalar}
 use Rattle.model_lexers.specs.Machine.{Read}
 use Rattle.model_lexers.specs.Block.{Block, block}
-use Rattle.proof_lexers.specs.BlockScan.{collection_by, is_literal, without_spaces, further_place, read_block, read, shallow, tabbed}
-use Rattle.proof_lexers.specs.BlockEnds.{EndsAs, bad_header}
+use Rattle.proof_lexers.specs.BlockScan.{is_literal_style, without_spaces, further_place, read_block, read, shallow, tabbed}
+use Rattle.proof_lexers.specs.PlainEnds.{collection_of, has_no_nul}
+use Rattle.proof_lexers.specs.BlockEnds.{BlockEndsAs, bad_header}
 use Rattle.proof_lexers.specs.BlockEnds as ends
 use Rattle.proof_lexers.specs.HeaderEnds.{indicator_of}
 use Rattle.proof_lexers.proofs.Blocks.Ends.{scans_end}
-use Rattle.proof_lexers.specs.PlainEnds.{has_no_nul, collection_of}
-use Rattle.proof_lexers.proofs.Separation.EachFiller.{no_nul_after}
+use Rattle.proof_lexers.proofs.Separation.EachSeparation.{no_nul_after}
 use Rattle.proof_cut.specs.PiecesRead.{ReadAs, BlockIsRead}
 use Rattle.proof_cut.proofs.Pieces.Quoted.{some_chars}
 
@@ -43,12 +41,12 @@ spaces_cut (c ∷ r) = by (c == space) (spaces_cut r)
     by true e = ap (λ l. c ∷ l) e
     by false e = refl
 
-spaces_fill : (t rest : List ℕ) → is_filler false (spaces_of t) rest ≡ true
+spaces_fill : (t rest : List ℕ) → is_separation false (spaces_of t) rest ≡ true
 unfolding spaces_of is_blank
 spaces_fill [] rest = refl
 spaces_fill (c ∷ r) rest = by (c == space) refl (spaces_fill r rest)
   where
-    by : (b : Bool) → (c == space) ≡ b → is_filler false (spaces_of r) rest ≡ true → is_filler false (if b then c ∷ spaces_of r else []) rest ≡ true
+    by : (b : Bool) → (c == space) ≡ b → is_separation false (spaces_of r) rest ≡ true → is_separation false (if b then c ∷ spaces_of r else []) rest ≡ true
     by true e h = let same : c ≡ 32 = eqb-true c 32 e in rw same h
     by false e h = refl
 
@@ -92,7 +90,7 @@ no_feed c (d ∷ r) h = rw h (by (c == 13))
     by false = refl
 
 -- a text with a whole line ends on a later one
-lines_up : (p : Position) (t next : List ℕ) → is_nil (split t).complete ≡ false → begins_with 10 next ≡ false → p.line < (position_after p t next).line
+lines_up : (p : Position) (t next : List ℕ) → is_empty (split t).complete ≡ false → begins_with 10 next ≡ false → p.line < (position_after p t next).line
 lines_up p [] next h f = cc
 lines_up p (c ∷ t) next h f = by (is_break c) (is_before_line_feed c t) refl refl h (λ k. lines_up (position_past p c (t ++ next)) t next k f)
   where
@@ -100,24 +98,24 @@ lines_up p (c ∷ t) next h f = by (is_break c) (is_before_line_feed c t) refl r
     feed_next [] e = no_feed c next f
     feed_next (d ∷ r) e = e
 
-    by : (b l : Bool) → is_break c ≡ b → is_before_line_feed c t ≡ l → is_nil (split_by b l c (split t)).complete ≡ false
-        → (is_nil (split t).complete ≡ false → (position_past p c (t ++ next)).line < (position_after (position_past p c (t ++ next)) t next).line) → p.line < (position_after (position_past p c (t ++ next)) t next).line
+    by : (b l : Bool) → is_break c ≡ b → is_before_line_feed c t ≡ l → is_empty (split_by b l c (split t)).complete ≡ false
+        → (is_empty (split t).complete ≡ false → (position_past p c (t ++ next)).line < (position_after (position_past p c (t ++ next)) t next).line) → p.line < (position_after (position_past p c (t ++ next)) t next).line
     by true true e g h ih = let k = step_up p c (t ++ next) in let j = ih h in omega (arith, k, j)
     by true false e g h ih =
         let here = break_up p c (t ++ next) (rw (e, feed_next t g) refl) in
         let k = line_up (position_past p c (t ++ next)) t next in omega (arith, here, k)
     by false l e g h ih = let k = step_up p c (t ++ next) in let j = ih (still (split t).complete h) in omega (arith, k, j)
       where
-        still : (ls : List (List ℕ)) → is_nil (put_first c ls (split t).last).complete ≡ false → is_nil ls ≡ false
+        still : (ls : List (List ℕ)) → is_empty (put_first c ls (split t).last).complete ≡ false → is_empty ls ≡ false
         still [] h = cc
         still (l ∷ ls) h = refl
 
 -- ---- what a piece shows
 
-some_piece : (collection : Option ℕ) (piece next : List ℕ) (b : BlockRead) → block_read collection piece next ≡ Some b → is_nil piece ≡ false
+some_piece : (collection : Option ℕ) (piece next : List ℕ) (b : BlockRead) → block_read collection piece next ≡ Some b → is_empty piece ≡ false
 some_piece collection [] next b h = by (is_at_end next) h
   where
-    by : (e : Bool) → read_lines collection [] [] next e ≡ Some b → is_nil {A = ℕ} [] ≡ false
+    by : (e : Bool) → read_lines collection [] [] next e ≡ Some b → is_empty {A = ℕ} [] ≡ false
     by true h = cc
     by false h = cc
 some_piece collection (c ∷ piece) next b h = refl
@@ -161,17 +159,17 @@ body_past collection (Some h) ls next b e k = by (is_past (column_of h collectio
     by false f k = cc
 
 -- before further text a piece has a whole line
-whole_line : (collection : Option ℕ) (ls : List (List ℕ)) (last next : List ℕ) (b : BlockRead) → is_at_end next ≡ false → read_lines collection ls last next false ≡ Some b → (is_nil ls ≡ false) × (begins_with 10 next ≡ false)
+whole_line : (collection : Option ℕ) (ls : List (List ℕ)) (last next : List ℕ) (b : BlockRead) → is_at_end next ≡ false → read_lines collection ls last next false ≡ Some b → (is_empty ls ≡ false) × (begins_with 10 next ≡ false)
 whole_line collection [] last next b e h = cc
 whole_line collection (l ∷ ls) [] next b e h = (refl, body_past collection (header_of l) ls next b e h)
 whole_line collection (l ∷ ls) (c ∷ last) next b e h = cc
 
-piece_has_line : (collection : Option ℕ) (piece next : List ℕ) (b : BlockRead) → is_at_end next ≡ false → block_read collection piece next ≡ Some b → (is_nil (split piece).complete ≡ false) × (begins_with 10 next ≡ false)
+piece_has_line : (collection : Option ℕ) (piece next : List ℕ) (b : BlockRead) → is_at_end next ≡ false → block_read collection piece next ≡ Some b → (is_empty (split piece).complete ≡ false) × (begins_with 10 next ≡ false)
 piece_has_line collection piece next b e h = whole_line collection (split piece).complete (split piece).last next b e (rw e at h)
 
 -- ---- the piece
 
-same_collection : (indent : ℕ) → collection_of indent ≡ collection_by indent
+same_collection : (indent : ℕ) → collection_of indent ≡ collection_of indent
 same_collection zero = refl
 same_collection (suc n) = refl
 
@@ -193,29 +191,29 @@ end_no_text [] h e = refl
 end_no_text (c ∷ t) h e = let q = and_parts (not (is_nul c)) (has_no_nul t) h in absurd (cc (q.0, e))
 
 module _ (a : Account) (indent : ℕ) (outside : is_in_flow a ≡ false) (column : collection_column a ≡ collection_of indent) where
-  same_column : collection_column a ≡ collection_by indent
+  same_column : collection_column a ≡ collection_of indent
   same_column = column ∙ same_collection indent
 
-  below : (c : ℕ) (piece next : List ℕ) (b : BlockRead) → has_no_nul next ≡ true → block_read (collection_by indent) (c ∷ piece) next ≡ Some b → IsBelow a.place (further_place a.place (c ∷ piece) next) (without_spaces next)
+  below : (c : ℕ) (piece next : List ℕ) (b : BlockRead) → has_no_nul next ≡ true → block_read (collection_of indent) (c ∷ piece) next ≡ Some b → IsBelow a.place (further_place a.place (c ∷ piece) next) (without_spaces next)
   below c piece next b nul is = by (is_at_end next) refl
     where
       by : (e : Bool) → is_at_end next ≡ e → IsBelow a.place (further_place a.place (c ∷ piece) next) (without_spaces next)
       by true e = inl (ap without_spaces (end_no_text next nul e))
       by false e =
-          let q = piece_has_line (collection_by indent) (c ∷ piece) next b e is in
+          let q = piece_has_line (collection_of indent) (c ∷ piece) next b e is in
           let up = lines_up a.place (c ∷ piece) next q.0 q.1 in
           let stays = line_up (position_after a.place (c ∷ piece) next) (spaces_of next) (without_spaces next) in
           let here = ap (λ (z : Position). z.line) (spaces_place (position_after a.place (c ∷ piece) next) next) in
           inr (grind (arith, nat_tests, up, stays, here))
 
-  found : (style : BlockStyle) (text piece next : List ℕ) (b : BlockRead) → has_no_nul next ≡ true → text ≡ piece ++ next → block_read (collection_by indent) piece next ≡ Some b → b.style ≡ style
+  found : (style : BlockStyle) (text piece next : List ℕ) (b : BlockRead) → has_no_nul next ≡ true → text ≡ piece ++ next → block_read (collection_of indent) piece next ≡ Some b → b.style ≡ style
       → ReadAs a text (token_of style b.text) (block_place b.column a.place piece next) (without_spaces next) (further_place a.place piece next) × IsBelow a.place (further_place a.place piece next) (without_spaces next)
-  found style text [] next b nul cut is looks = absurd (cc (some_piece (collection_by indent) [] next b is))
+  found style text [] next b nul cut is looks = absurd (cc (some_piece (collection_of indent) [] next b is))
   found style text (c ∷ piece) next b nul cut is looks = (
     record {
       first = c;
       more = piece;
-      filler = spaces_of next;
+      separation = spaces_of next;
       is_text = cut ∙ ap (λ l. (c ∷ piece) ++ l) (spaces_cut next);
       is_filled = spaces_fill next (without_spaces next);
       is_piece = λ following. subst (λ l. IsPiece a (c ∷ piece) l following (block_place b.column a.place (c ∷ piece) next) (token_of style b.text)) (spaces_cut next)
@@ -228,11 +226,11 @@ module _ (a : Account) (indent : ℕ) (outside : is_in_flow a ≡ false) (column
       read_is : block_read (collection_column a) (c ∷ piece) next ≡ Some (record { style = style; column = b.column; text = b.text })
       read_is = rw same_column (is ∙ ap (λ z. Some (record { style = z; column = b.column; text = b.text })) looks)
 
-  by_style : (style : BlockStyle) (more : List ℕ) (r : Read Block) → has_no_nul (indicator_of style ∷ more) ≡ true → has_no_nul more ≡ true → block (is_literal style) indent (indicator_of style ∷ more) a.place ≡ Ok r
+  by_style : (style : BlockStyle) (more : List ℕ) (r : Read Block) → has_no_nul (indicator_of style ∷ more) ≡ true → has_no_nul more ≡ true → block (is_literal_style style) indent (indicator_of style ∷ more) a.place ≡ Ok r
       → ReadAs a (indicator_of style ∷ more) (token_of style r.value.text) r.value.place r.rest r.place × IsBelow a.place r.place r.rest
-  by_style style more r all nul e = by (block (is_literal style) indent (indicator_of style ∷ more) a.place) e (scans_end style indent more a.place (some_chars more nul))
+  by_style style more r all nul e = by (block (is_literal_style style) indent (indicator_of style ∷ more) a.place) e (scans_end style indent more a.place (some_chars more nul))
     where
-      by : (x : Result (Read Block) Fault) → x ≡ Ok r → EndsAs style indent a.place more x → ReadAs a (indicator_of style ∷ more) (token_of style r.value.text) r.value.place r.rest r.place × IsBelow a.place r.place r.rest
+      by : (x : Result (Read Block) Fault) → x ≡ Ok r → BlockEndsAs style indent a.place more x → ReadAs a (indicator_of style ∷ more) (token_of style r.value.text) r.value.place r.rest r.place × IsBelow a.place r.place r.rest
       by x e (bad_header line after f cut in_line at why k) = absurd (cc (e, k))
       by x e (ends.scalar piece next b cut is looks (shallow free low k)) = absurd (cc (e, k))
       by x e (ends.scalar piece next b cut is looks (tabbed tab k)) = absurd (cc (e, k))

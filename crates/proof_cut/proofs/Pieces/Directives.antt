@@ -4,15 +4,14 @@ use Rattle.std.proofs.lemmas.Bool.{and_parts, eqb-true}
 use Rattle.defs_token.specs.Token.{Tok}
 use Rattle.yaml_tokens.specs.declared.problem.Fault.{Fault}
 use Rattle.defs_text.specs.Classes.{is_blank, is_break}
-use Rattle.defs_text.specs.Breaks.{is_before_line_feed}
+use Rattle.defs_text.specs.Breaks.{is_before_line_feed, is_at_line_end, has_no_break}
 use Rattle.defs_scalar.specs.Directives.{Directive, version, tag_declaration, reserved}
-use Rattle.defs_text.specs.Breaks.{is_at_line_end, has_no_break}
-use Rattle.defs_token.specs.Filler.{is_filler}
+use Rattle.defs_token.specs.Separation.{is_separation}
 use Rattle.defs_token.specs.Account.{Account}
 use Rattle.defs_token.specs.Piece.{IsPiece, IsDirective}
 use Rattle.model_lexers.specs.Machine.{Read}
 use Rattle.model_lexers.specs.Directive.{directive}
-use Rattle.proof_lexers.specs.DirectiveEnds.{token_of, ends_line, first_break, next_line, after_line, EndsAs, reads, refuses}
+use Rattle.proof_lexers.specs.DirectiveEnds.{token_of, ends_line, first_break, next_line, after_line, DirectiveEndsAs, reads, refuses}
 use Rattle.proof_lexers.proofs.Directives.Lines.{directives_end}
 use Rattle.proof_lexers.proofs.Separation.Places.{place_append}
 use Rattle.proof_cut.specs.PiecesRead.{ReadAs, is_directive_token, DirectiveIsRead}
@@ -28,25 +27,25 @@ break_cut (c ∷ r) = by (is_before_line_feed c r) r
     by true (d ∷ k) = refl
     by false k = refl
 
-break_fills : (c : ℕ) (f rest : List ℕ) → is_break c ≡ true → is_filler false f rest ≡ true → is_filler false (c ∷ f) rest ≡ true
+break_fills : (c : ℕ) (f rest : List ℕ) → is_break c ≡ true → is_separation false f rest ≡ true → is_separation false (c ∷ f) rest ≡ true
 unfolding is_blank is_break
 break_fills c f rest h k = by (c == 10) (c == 13) refl refl h
   where
-    by : (x y : Bool) → (c == 10) ≡ x → (c == 13) ≡ y → (x || y) ≡ true → is_filler false (c ∷ f) rest ≡ true
+    by : (x y : Bool) → (c == 10) ≡ x → (c == 13) ≡ y → (x || y) ≡ true → is_separation false (c ∷ f) rest ≡ true
     by true y e g h = let same : c ≡ 10 = eqb-true c 10 e in rw same k
     by false true e g h = let same : c ≡ 13 = eqb-true c 13 g in rw same k
     by false false e g h = cc
 
-feed_fills : (c : ℕ) (r rest : List ℕ) → is_before_line_feed c r ≡ true → is_filler false (take 1 r) rest ≡ true
+feed_fills : (c : ℕ) (r rest : List ℕ) → is_before_line_feed c r ≡ true → is_separation false (take 1 r) rest ≡ true
 unfolding is_break
 feed_fills c [] rest h = cc
 feed_fills c (d ∷ r) rest h = let q = and_parts (c == 13) (d == 10) h in let same : d ≡ 10 = eqb-true d 10 q.1 in rw same (break_fills 10 [] rest refl refl)
 
-break_is_filler : (next : List ℕ) → ends_line next ≡ true → is_filler false (first_break next) (next_line next) ≡ true
-break_is_filler [] h = refl
-break_is_filler (c ∷ r) h = by (is_before_line_feed c r) refl
+break_is_separation : (next : List ℕ) → ends_line next ≡ true → is_separation false (first_break next) (next_line next) ≡ true
+break_is_separation [] h = refl
+break_is_separation (c ∷ r) h = by (is_before_line_feed c r) refl
   where
-    by : (b : Bool) → is_before_line_feed c r ≡ b → is_filler false (if b then c ∷ take 1 r else c ∷ []) (if b then drop 1 r else r) ≡ true
+    by : (b : Bool) → is_before_line_feed c r ≡ b → is_separation false (if b then c ∷ take 1 r else c ∷ []) (if b then drop 1 r else r) ≡ true
     by true e = break_fills c (take 1 r) (drop 1 r) h (feed_fills c r (drop 1 r) e)
     by false e = break_fills c [] r h refl
 
@@ -74,7 +73,7 @@ percent_in_line l h = h
 pub directive_is_read : DirectiveIsRead
 directive_is_read a more r nul column closed e = by (directive (37 ∷ more) a.place) e (directives_end more a.place)
   where
-    by : (x : Result (Read Tok) Fault) → x ≡ Ok r → EndsAs a.place more x → ReadAs a (37 ∷ more) r.value a.place r.rest r.place × (is_directive_token r.value ≡ true)
+    by : (x : Result (Read Tok) Fault) → x ≡ Ok r → DirectiveEndsAs a.place more x → ReadAs a (37 ∷ more) r.value a.place r.rest r.place × (is_directive_token r.value ≡ true)
     by x e (refuses line next f cut no_break ends none why k) = absurd (cc (e, k))
     by x e (reads line next d cut no_break ends is k) =
         let same : after_line a.place (37 ∷ line) next (token_of d) ≡ r = cc in
@@ -82,9 +81,9 @@ directive_is_read a more r nul column closed e = by (directive (37 ∷ more) a.p
           record {
             first = 37;
             more = line;
-            filler = first_break next;
+            separation = first_break next;
             is_text = ap (λ l. 37 ∷ l) (cut ∙ ap (λ l. line ++ l) (break_cut next));
-            is_filled = break_is_filler next ends;
+            is_filled = break_is_separation next ends;
             is_piece = λ following. subst (λ l. IsPiece a (37 ∷ line) l following a.place (token_of d)) (break_cut next)
                 (piece_of a (37 ∷ line) next d following (is, percent_in_line line no_break, column, line_end_there next ends, closed));
             is_end = place_append a.place (37 ∷ line) (first_break next) (next_line next);

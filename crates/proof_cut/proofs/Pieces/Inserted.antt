@@ -2,14 +2,12 @@
 use Rattle.std.proofs.Common.{◌≡◌, ℕ, suc, ◌≤◌, List, [], ◌∷◌, ◌++◌, Bool, true, false, ◌&&◌, ◌||◌, ◌==◌, not, length, Option, Some, None, refl, ap, sym, subst, ◌∙◌, arith, append_assoc}
 use Rattle.std.specs.List.{insert}
 use Rattle.std.proofs.lemmas.Bool.{and_parts, eqb-true}
-use Rattle.defs_text.specs.Position.{Position}
-use Rattle.defs_text.specs.Text.{is_nil}
+use Rattle.defs_text.specs.Position.{Position, position_past, position_after}
+use Rattle.defs_text.specs.Text.{is_empty}
 use Rattle.defs_token.specs.Token.{Tok, Token, stream_start, stream_end, version_directive, tag_directive, document_start, document_end, block_sequence_start, block_mapping_start, block_end, flow_sequence_start, flow_sequence_end, flow_mapping_start, flow_mapping_end, block_entry, flow_entry, key, value, alias, anchor, tag, scalar}
 use Rattle.defs_text.specs.Classes.{is_blank, is_break}
-use Rattle.defs_text.specs.Breaks.{is_before_line_feed}
-use Rattle.defs_text.specs.Breaks.{ends_line, has_no_break}
-use Rattle.defs_text.specs.Position.{position_past, position_after}
-use Rattle.defs_token.specs.Account.{sequence, Level, Account, before_past, settled, blocks_at, blocks_past, levels_past, account_past_filler, account_past_token}
+use Rattle.defs_text.specs.Breaks.{is_before_line_feed, ends_line, has_no_break}
+use Rattle.defs_token.specs.Account.{sequence, Level, Account, before_past, settled, blocks_at, blocks_past, levels_past, account_past_separation, account_past_token}
 use Rattle.defs_token.specs.Piece.{begins_node}
 use Rattle.defs_token.specs.Cut.{Written, IsRow, spelled, account_at, account_past, account_past_row}
 use Rattle.defs_token.proofs.Append.{spelled_append}
@@ -23,15 +21,15 @@ use Rattle.proof_cut.proofs.Insides.{Stepped, stepped, stays_inside, levels_step
 
 -- ---- a key
 
--- the account at a token after its own filler
-bare_at : (a : Account) (w : Written) (next : List ℕ) → account_at (account_past_filler a w.filler (w.piece ++ next)) (bare w) next ≡ account_at a w next
-bare_at a w next = ap (λ b. record (account_at a w next) { before = b }) (before_again (before_past a.before w.filler))
+-- the account at a token after its own separation
+bare_at : (a : Account) (w : Written) (next : List ℕ) → account_at (account_past_separation a w.separation (w.piece ++ next)) (bare w) next ≡ account_at a w next
+bare_at a w next = ap (λ b. record (account_at a w next) { before = b }) (before_again (before_past a.before w.separation))
 
-pub bare_after : (a : Account) (w : Written) (ws : List Written) (f : List ℕ) → account_past_row (account_past_filler a w.filler (w.piece ++ spelled ws f)) (bare w ∷ ws) f ≡ account_past_row a (w ∷ ws) f
+pub bare_after : (a : Account) (w : Written) (ws : List Written) (f : List ℕ) → account_past_row (account_past_separation a w.separation (w.piece ++ spelled ws f)) (bare w ∷ ws) f ≡ account_past_row a (w ∷ ws) f
 bare_after a w ws f = ap (λ b. account_past_row (account_past_token b w.piece (spelled ws f) w.token.tok) ws f) (bare_at a w (spelled ws f))
 
 -- the account after a row with a key before it
-pub key_after : (a : Account) (w : Written) (ws : List Written) (f : List ℕ) (p : Position) → account_past_row a (empty_token w.filler (key_at p) ∷ bare w ∷ ws) f ≡ account_past_row a (w ∷ ws) f
+pub key_after : (a : Account) (w : Written) (ws : List Written) (f : List ℕ) (p : Position) → account_past_row a (empty_token w.separation (key_at p) ∷ bare w ∷ ws) f ≡ account_past_row a (w ∷ ws) f
 key_after a w ws f p = bare_after a w ws f
 
 -- ---- other block collections
@@ -69,7 +67,7 @@ at_settled bs column (c ∷ r) s = s column
 
 past_with_blocks : (bs : List (Option ℕ)) (a : Account) (w : Written) (next : List ℕ) → AreSettled bs → is_of_key w.token.tok ≡ true → account_past (with_blocks bs a) w next ≡ with_blocks bs (account_past a w next)
 past_with_blocks bs a w next s k =
-    ap (λ l. record (account_past a w next) { blocks = blocks_past l w.token.tok }) (at_settled bs (account_past_filler a w.filler (w.piece ++ next)).place.col w.piece s) ∙ ap (λ l. with_blocks l (account_past a w next)) (key_keeps bs w.token.tok k)
+    ap (λ l. record (account_past a w next) { blocks = blocks_past l w.token.tok }) (at_settled bs (account_past_separation a w.separation (w.piece ++ next)).place.col w.piece s) ∙ ap (λ l. with_blocks l (account_past a w next)) (key_keeps bs w.token.tok k)
 
 pub row_past_with_blocks : (bs : List (Option ℕ)) (a : Account) (ns ms : List Level) (ws : List Written) (f : List ℕ) → AreSettled bs → inside ns ws ≡ Some ms → account_past_row (with_blocks bs a) ws f ≡ with_blocks bs (account_past_row a ws f)
 row_past_with_blocks bs a ns ms [] f s i = refl
@@ -81,7 +79,7 @@ row_past_with_blocks bs a ns ms (w ∷ ws) f s i =
 pub blocks_after : (a : Account) (ns ms : List Level) (ws : List Written) (f : List ℕ) → AreSettled a.blocks → inside ns ws ≡ Some ms → (account_past_row a ws f).blocks ≡ a.blocks
 blocks_after a ns ms ws f s i = ap (λ (b : Account). b.blocks) (row_past_with_blocks a.blocks a ns ms ws f s i)
 
-waiting_settled : (bs : List (Option ℕ)) (column : ℕ) (piece : List ℕ) → is_nil piece ≡ false → AreSettled bs → blocks_at (None ∷ bs) column piece ≡ Some column ∷ bs
+waiting_settled : (bs : List (Option ℕ)) (column : ℕ) (piece : List ℕ) → is_empty piece ≡ false → AreSettled bs → blocks_at (None ∷ bs) column piece ≡ Some column ∷ bs
 waiting_settled bs column [] solid s = cc
 waiting_settled bs column (c ∷ r) solid s = ap (λ l. Some column ∷ l) (s column)
 
@@ -89,12 +87,12 @@ one_more_settled : (bs : List (Option ℕ)) (n : ℕ) → AreSettled bs → AreS
 one_more_settled bs n s column = ap (λ l. Some n ∷ l) (s column)
 
 -- The account after a row with a mapping's start and a key before it: the mapping is open besides, in the column of the key.
-pub mapping_after : (a : Account) (w : Written) (ws : List Written) (f : List ℕ) (p q : Position) (ms : List Level) → inside [] (w ∷ ws) ≡ Some ms → is_nil w.piece ≡ false → ((column : ℕ) → settled column a.blocks ≡ a.blocks) →
-    account_past_row a (empty_token w.filler (mapping_at p) ∷ empty_token [] (key_at q) ∷ bare w ∷ ws) f
+pub mapping_after : (a : Account) (w : Written) (ws : List Written) (f : List ℕ) (p q : Position) (ms : List Level) → inside [] (w ∷ ws) ≡ Some ms → is_empty w.piece ≡ false → ((column : ℕ) → settled column a.blocks ≡ a.blocks) →
+    account_past_row a (empty_token w.separation (mapping_at p) ∷ empty_token [] (key_at q) ∷ bare w ∷ ws) f
     ≡ (let b : Account = account_past_row a (w ∷ ws) f in record b { blocks = Some ((account_at a w (spelled ws f)).place.col) ∷ b.blocks })
 mapping_after a w ws f p q ms i solid s =
     let next : List ℕ = spelled ws f in
-    let before : Account = account_past_filler a w.filler (w.piece ++ next) in
+    let before : Account = account_past_separation a w.separation (w.piece ++ next) in
     let bs : List (Option ℕ) = Some before.place.col ∷ a.blocks in
     let z : Stepped [] w ws ms = stepped [] w ws ms i in
     let opened : account_past (with_blocks (None ∷ a.blocks) before) (bare w) next ≡ with_blocks bs (account_past before (bare w) next) =
@@ -123,10 +121,10 @@ levels_after a ns ms os ws f i e = ap (λ l. (account_past_row (with_levels l a)
 
 -- The account after a row with a pair's start and a key before it: the pair is open besides.
 pub pair_after : (a : Account) (w : Written) (ws : List Written) (f : List ℕ) (p q : Position) (ls : List Level) → inside [] (w ∷ ws) ≡ Some [] → a.levels ≡ record { kind = sequence; pair = false } ∷ ls →
-    account_past_row a (empty_token w.filler (pair_at p) ∷ empty_token [] (key_at q) ∷ bare w ∷ ws) f ≡ record (account_past_row a (w ∷ ws) f) { levels = record { kind = sequence; pair = true } ∷ ls }
+    account_past_row a (empty_token w.separation (pair_at p) ∷ empty_token [] (key_at q) ∷ bare w ∷ ws) f ≡ record (account_past_row a (w ∷ ws) f) { levels = record { kind = sequence; pair = true } ∷ ls }
 pair_after a w ws f p q ls i e =
     let next : List ℕ = spelled ws f in
-    let before : Account = account_past_filler a w.filler (w.piece ++ next) in
+    let before : Account = account_past_separation a w.separation (w.piece ++ next) in
     let paired : List Level = record { kind = sequence; pair = true } ∷ ls in
     key_after (with_levels (levels_past a.levels [] flow_mapping_start) before) (bare w) ws f q
     ∙ ap (λ l. account_past_row (with_levels (levels_past l [] flow_mapping_start) before) (bare w ∷ ws) f) e
@@ -135,21 +133,21 @@ pair_after a w ws f p q ls i e =
 
 -- and it is a row
 pub pair_row : (a : Account) (w : Written) (ws : List Written) (f : List ℕ) (last : Option Tok) (p q : Position) (ls ms : List Level) → begins_node (Some (w.token.tok)) ≡ true → inside [] (w ∷ ws) ≡ Some ms →
-    a.levels ≡ record { kind = sequence; pair = false } ∷ ls → IsRow a (w ∷ ws) f last → IsRow a (empty_token w.filler (pair_at p) ∷ empty_token [] (key_at q) ∷ bare w ∷ ws) f last
+    a.levels ≡ record { kind = sequence; pair = false } ∷ ls → IsRow a (w ∷ ws) f last → IsRow a (empty_token w.separation (pair_at p) ∷ empty_token [] (key_at q) ∷ bare w ∷ ws) f last
 pair_row a w ws f last p q ls ms n i e r =
     let same : a ≡ with_levels (above [] false sequence ls) a = ap (λ l. with_levels l a) e in
-    subst (λ b. IsRow b (empty_token w.filler (pair_at p) ∷ empty_token [] (key_at q) ∷ bare w ∷ ws) f last) (sym same)
+    subst (λ b. IsRow b (empty_token w.separation (pair_at p) ∷ empty_token [] (key_at q) ∷ bare w ∷ ws) f last) (sym same)
     (pair_inserted ls a w ws f last p q n (stays_inside [] (w ∷ ws) ms i) (subst (λ b. IsRow b (w ∷ ws) f last) same r))
 
 -- ---- texts and rows
 
-pub mapping_spelled : (w : Written) (ws : List Written) (f : List ℕ) (p q : Position) → spelled (empty_token w.filler (mapping_at p) ∷ empty_token [] (key_at q) ∷ bare w ∷ ws) f ≡ spelled (w ∷ ws) f
+pub mapping_spelled : (w : Written) (ws : List Written) (f : List ℕ) (p q : Position) → spelled (empty_token w.separation (mapping_at p) ∷ empty_token [] (key_at q) ∷ bare w ∷ ws) f ≡ spelled (w ∷ ws) f
 mapping_spelled w ws f p q = refl
 
-pub pair_spelled : (w : Written) (ws : List Written) (f : List ℕ) (p q : Position) → spelled (empty_token w.filler (pair_at p) ∷ empty_token [] (key_at q) ∷ bare w ∷ ws) f ≡ spelled (w ∷ ws) f
+pub pair_spelled : (w : Written) (ws : List Written) (f : List ℕ) (p q : Position) → spelled (empty_token w.separation (pair_at p) ∷ empty_token [] (key_at q) ∷ bare w ∷ ws) f ≡ spelled (w ∷ ws) f
 pair_spelled w ws f p q = refl
 
-pub key_spelled : (w : Written) (ws : List Written) (f : List ℕ) (q : Position) → spelled (empty_token w.filler (key_at q) ∷ bare w ∷ ws) f ≡ spelled (w ∷ ws) f
+pub key_spelled : (w : Written) (ws : List Written) (f : List ℕ) (q : Position) → spelled (empty_token w.separation (key_at q) ∷ bare w ∷ ws) f ≡ spelled (w ∷ ws) f
 key_spelled w ws f q = refl
 
 -- the second part of a row
@@ -216,18 +214,18 @@ no_break_on_line p (d ∷ t) c r n h = by (is_break d) (is_before_line_feed d (t
 pub spelled_before : (ws : List Written) (f : List ℕ) → spelled ws f ≡ spelled ws [] ++ f
 spelled_before [] f = refl
 spelled_before (w ∷ ws) f =
-    ap (λ t. w.filler ++ (w.piece ++ t)) (spelled_before ws f) ∙ ap (λ t. w.filler ++ t) (sym (append_assoc w.piece (spelled ws []) f)) ∙ sym (append_assoc w.filler (w.piece ++ spelled ws []) f)
+    ap (λ t. w.separation ++ (w.piece ++ t)) (spelled_before ws f) ∙ ap (λ t. w.separation ++ t) (sym (append_assoc w.piece (spelled ws []) f)) ∙ sym (append_assoc w.separation (w.piece ++ spelled ws []) f)
 
 -- the place after a row
 pub place_of_row : (a : Account) (ws : List Written) (f : List ℕ) → (account_past_row a ws f).place ≡ position_after a.place (spelled ws []) f
 place_of_row a [] f = refl
 place_of_row a (w ∷ ws) f =
     let next : List ℕ = spelled ws f in
-    let at : Position = position_after a.place w.filler (w.piece ++ next) in
+    let at : Position = position_after a.place w.separation (w.piece ++ next) in
     place_of_row (account_past a w next) ws f
-    ∙ ap (λ t. position_after (position_after (position_after a.place w.filler (w.piece ++ t)) w.piece t) (spelled ws []) f) (spelled_before ws f)
-    ∙ ap (λ p. position_after p (spelled ws []) f) (sym (place_append a.place w.filler w.piece (spelled ws [] ++ f)))
-    ∙ sym (place_append a.place (w.filler ++ w.piece) (spelled ws []) f) ∙ ap (λ t. position_after a.place t f) (append_assoc w.filler w.piece (spelled ws []))
+    ∙ ap (λ t. position_after (position_after (position_after a.place w.separation (w.piece ++ t)) w.piece t) (spelled ws []) f) (spelled_before ws f)
+    ∙ ap (λ p. position_after p (spelled ws []) f) (sym (place_append a.place w.separation w.piece (spelled ws [] ++ f)))
+    ∙ sym (place_append a.place (w.separation ++ w.piece) (spelled ws []) f) ∙ ap (λ t. position_after a.place t f) (append_assoc w.separation w.piece (spelled ws []))
 
 colon_breaks : is_break 58 ≡ false
 unfolding is_break
@@ -259,8 +257,8 @@ are_on_line : (ns ms : List Level) (ws : List Written) (g r : List ℕ) → insi
 are_on_line ns ms [] g r i h = tt
 are_on_line ns ms (w ∷ ws) g r i h =
     let z : Stepped ns w ws ms = stepped ns w ws ms i in
-    let whole : has_no_break (w.filler ++ (w.piece ++ (spelled ws [] ++ g))) ≡ true = ap has_no_break (ap (λ t. w.filler ++ t) (sym (append_assoc w.piece (spelled ws []) g)) ∙ sym (append_assoc w.filler (w.piece ++ spelled ws []) g)) ∙ h in
-    let parts = no_break_parts w.piece (spelled ws [] ++ g) (no_break_parts w.filler (w.piece ++ (spelled ws [] ++ g)) whole).1 in
+    let whole : has_no_break (w.separation ++ (w.piece ++ (spelled ws [] ++ g))) ≡ true = ap has_no_break (ap (λ t. w.separation ++ t) (sym (append_assoc w.piece (spelled ws []) g)) ∙ sym (append_assoc w.separation (w.piece ++ spelled ws []) g)) ∙ h in
+    let parts = no_break_parts w.piece (spelled ws [] ++ g) (no_break_parts w.separation (w.piece ++ (spelled ws [] ++ g)) whole).1 in
     let text : spelled ws (g ++ (58 ∷ r)) ≡ (spelled ws [] ++ g) ++ (58 ∷ r) = spelled_before ws (g ++ (58 ∷ r)) ∙ sym (append_assoc (spelled ws []) g (58 ∷ r)) in
     (first_of_key ns w ws ms i, parts.0, ap is_in_line text ∙ colon_line (spelled ws [] ++ g) r parts.1, are_on_line z.next ms ws g r z.others parts.1)
   where
@@ -271,7 +269,7 @@ are_on_line ns ms (w ∷ ws) g r i h =
 pub on_line : (a : Account) (w : Written) (ws : List Written) (f g r : List ℕ) (ms : List Level) → inside [] (w ∷ ws) ≡ Some ms → f ≡ g ++ (58 ∷ r)
     → (position_after (account_past_row a (w ∷ ws) f).place g (58 ∷ r)).line ≤ (account_at a w (spelled ws f)).place.line → AreOnLine (w ∷ ws) f
 on_line a w ws f g r ms i cut h =
-    let start : Account = account_past_filler a w.filler (w.piece ++ spelled ws f) in
+    let start : Account = account_past_separation a w.separation (w.piece ++ spelled ws f) in
     let row : List ℕ = w.piece ++ spelled ws [] in
     let end : (account_past_row a (w ∷ ws) f).place ≡ position_after start.place row f = ap (λ (b : Account). b.place) (sym (bare_after a w ws f)) ∙ place_of_row start (bare w ∷ ws) f in
     let here : position_after (account_past_row a (w ∷ ws) f).place g (58 ∷ r) ≡ position_after start.place (row ++ g) (58 ∷ r) =

@@ -12,7 +12,7 @@ use Rattle.defs_token.specs.Piece.{IsPiece, is_name, goes_on_with_name}
 use Rattle.model_lexers.specs.Machine.{Read}
 use Rattle.model_lexers.specs.Anchor.{anchor_name}
 use Rattle.model_scanner.specs.Document.{anchor_token}
-use Rattle.proof_lexers.specs.NameEnds.{further, after_name, EndsAs, named, nameless}
+use Rattle.proof_lexers.specs.NameEnds.{further, after_name, NameEndsAs, named, nameless}
 use Rattle.proof_lexers.proofs.Properties.Names.{names_end}
 use Rattle.proof_lexers.proofs.Separation.Places.{place_in_line}
 use Rattle.proof_cut.specs.PiecesRead.{ReadAs, NameIsRead}
@@ -60,7 +60,7 @@ module _ (a : Account) (more name rest : List ℕ) (is : is_name name ≡ true) 
   found b cut = record {
     first = mark b;
     more = name;
-    filler = [];
+    separation = [];
     is_text = ap (λ l. mark b ∷ l) cut;
     is_filled = refl;
     is_piece = is_of_token b;
@@ -71,7 +71,7 @@ module _ (a : Account) (more name rest : List ℕ) (is : is_name name ≡ true) 
 pub name_is_read : NameIsRead
 name_is_read a is_alias more r nul e = by (anchor_name (mark is_alias ∷ more) a.place) e (names_end (mark is_alias) more a.place)
   where
-    by : (x : Result (Read (List ℕ)) Fault) → x ≡ Ok r → EndsAs a.place more x → ReadAs a (mark is_alias ∷ more) (anchor_token is_alias r.value) a.place r.rest r.place
+    by : (x : Result (Read (List ℕ)) Fault) → x ≡ Ok r → NameEndsAs a.place more x → ReadAs a (mark is_alias ∷ more) (anchor_token is_alias r.value) a.place r.rest r.place
     by x e (nameless none k) = absurd (cc (e, k))
     by x e (named name rest cut is ends k) =
         let same : after_name a.place name rest ≡ r = cc in

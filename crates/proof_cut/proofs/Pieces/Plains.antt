@@ -2,14 +2,13 @@
 use Rattle.std.proofs.Common.{◌≡◌, ℕ, List, [], ◌∷◌, ◌++◌, Bool, true, false, ◌&&◌, ◌||◌, ◌==◌, not, nat_lt, if◌then◌else◌, Some, Result, Ok, slice_index, refl, ap, sym, subst, ◌∙◌}
 use Rattle.std.specs.Prelude.{codes}
 use Rattle.std.proofs.lemmas.Bool.{and_parts, eqb-true}
-use Rattle.defs_text.specs.Position.{Position}
+use Rattle.defs_text.specs.Position.{Position, position_after}
 use Rattle.yaml_chars.specs.Class as model_classes
 use Rattle.defs_token.specs.Token.{scalar, plain}
 use Rattle.yaml_tokens.specs.declared.problem.Fault.{Fault}
 use Rattle.defs_text.specs.Classes.{is_one_of, is_blank, is_break, is_nul, is_blank_or_end, is_flow, is_at_gap, is_document_marker}
 use Rattle.defs_scalar.specs.FlowScalar.{plain_value}
-use Rattle.defs_text.specs.Position.{position_after}
-use Rattle.defs_token.specs.Filler.{is_filler}
+use Rattle.defs_token.specs.Separation.{is_separation}
 use Rattle.defs_token.specs.Plain.{is_value_indicator, begins_flow, may_begin, begins_plain, is_whole_plain}
 use Rattle.defs_token.specs.Account.{Account, is_in_flow, is_adjacent, collection_column}
 use Rattle.model_lexers.specs.declared.context.Context.{Context}
@@ -17,11 +16,11 @@ use Rattle.model_lexers.specs.Machine.{Read}
 use Rattle.model_lexers.specs.Plain.{Plain, at_dash, starts, plain_from}
 use Rattle.model_lexers.specs.Plain as models
 use Rattle.proof_lexers.proofs.Bridges.{same_flow}
-use Rattle.proof_lexers.specs.PlainEnds.{collection_of, begins_solid, is_white, after_plain, EndsAs, reads, refuses}
+use Rattle.proof_lexers.specs.PlainEnds.{collection_of, begins_solid, is_white, after_plain, PlainEndsAs, reads, refuses}
 use Rattle.proof_lexers.proofs.Plain.Scalars.{scans_end}
 use Rattle.proof_lexers.proofs.Separation.Places.{place_append}
 use Rattle.proof_cut.specs.PiecesRead.{ReadAs, comes_plain, PlainIsRead}
-use Rattle.proof_cut.proofs.Pieces.Fillers.{gap_is_filler}
+use Rattle.proof_cut.proofs.Pieces.Separations.{gap_is_separation}
 
 -- ---- a plain scalar begins with content
 
@@ -95,13 +94,13 @@ begins_as_read ctx adjacent (c ∷ t) p r h e = by_dash (c == 45) refl
 
 module _ (a : Account) (ctx : Context) (text : List ℕ) (r : Read Plain) (flows : is_in_flow a ≡ ctx.flow) (column : collection_column a ≡ collection_of ctx.indent)
     (begins : begins_plain (is_in_flow a) (is_adjacent a.before) a.place.col text ≡ true) where
-  found : (piece gap rest value : List ℕ) → text ≡ piece ++ (gap ++ rest) → is_whole_plain (is_in_flow a) (collection_column a) piece (gap ++ rest) ≡ true → is_filler false gap rest ≡ true
+  found : (piece gap rest value : List ℕ) → text ≡ piece ++ (gap ++ rest) → is_whole_plain (is_in_flow a) (collection_column a) piece (gap ++ rest) ≡ true → is_separation false gap rest ≡ true
       → plain_value piece ≡ Some value → ReadAs a text (scalar plain value) a.place rest (position_after a.place (piece ++ gap) rest)
   found [] gap rest value cut whole filled is = absurd (cc whole)
   found (c ∷ piece) gap rest value cut whole filled is = record {
     first = c;
     more = piece;
-    filler = gap;
+    separation = gap;
     is_text = cut;
     is_piece = λ following. ((begins_text cut, whole, is), refl);
     is_filled = filled;
@@ -111,12 +110,12 @@ module _ (a : Account) (ctx : Context) (text : List ℕ) (r : Read Plain) (flows
       begins_text : {t : List ℕ} → text ≡ t → begins_plain (is_in_flow a) (is_adjacent a.before) a.place.col t ≡ true
       begins_text e = sym (ap (begins_plain (is_in_flow a) (is_adjacent a.before) a.place.col) e) ∙ begins
 
-  by : (x : Result (Read Plain) Fault) → x ≡ Ok r → EndsAs ctx a.place text x → ReadAs a text (scalar plain r.value.text) a.place r.rest r.place
+  by : (x : Result (Read Plain) Fault) → x ≡ Ok r → PlainEndsAs ctx a.place text x → ReadAs a text (scalar plain r.value.text) a.place r.rest r.place
   by x e (refuses f why is) = absurd (cc (e, is))
   by x e (reads piece gap rest value cut whole white ends is read) =
       let same : after_plain a.place piece gap rest value ≡ r = cc in
       let here : is_whole_plain (is_in_flow a) (collection_column a) piece (gap ++ rest) ≡ true = rw (flows, column) whole in
-      subst (λ (q : Read Plain). ReadAs a text (scalar plain q.value.text) a.place q.rest q.place) same (found piece gap rest value cut here (gap_is_filler gap rest white) is)
+      subst (λ (q : Read Plain). ReadAs a text (scalar plain q.value.text) a.place q.rest q.place) same (found piece gap rest value cut here (gap_is_separation gap rest white) is)
 
 -- a plain scalar that was read is the piece of its token, and after it blanks and breaks were passed
 pub plain_is_read : PlainIsRead

@@ -4,7 +4,7 @@ use Rattle.std.specs.List.{list_all}
 use Rattle.std.specs.Char.{digit_value}
 use Rattle.std.proofs.lemmas.Bool.{and_parts, eqb-true}
 use Rattle.std.proofs.lemmas.List.{append_cancel_right}
-use Rattle.defs_text.specs.Position.{Position}
+use Rattle.defs_text.specs.Position.{Position, position_past, position_after}
 use Rattle.yaml_chars.specs.Class.{is_break, is_blank, is_hex}
 use Rattle.defs_token.specs.Token.{Tok, scalar}
 use Rattle.yaml_tokens.specs.declared.problem.Fault.{Fault}
@@ -13,17 +13,16 @@ use Rattle.yaml_tokens.specs.declared.problem.Problem.TheVariants as problem
 use Rattle.defs_text.specs.Classes as classes
 use Rattle.defs_text.specs.Breaks.{is_before_line_feed}
 use Rattle.defs_scalar.specs.FlowScalar.{begins_with}
-use Rattle.defs_text.specs.Position.{position_past, position_after}
 use Rattle.defs_token.specs.Account.{Account}
 use Rattle.defs_token.specs.Piece.{IsPiece}
 use Rattle.model_lexers.specs.declared.context.Context.{Context}
 use Rattle.model_lexers.specs.Machine.{Turn, stop, fail, on, turned, Stop, run, Read, past, past_break, is_cr_lf}
 use Rattle.model_lexers.specs.Folding.{nothing, joined}
-use Rattle.model_lexers.specs.Quoted.{Mode, first, inside, gap, breaking, after, doubled, named, digits, closed, State, Escape, escape_of, is_scalar, quote_of, at_char, at_break, at_gap, at_escaped_break, at_quote, at_backslash, at_inside, at_named, at_digit, refused, unless, in_line, at_line, turn_in, turn, end_in, ended, quoted_from, quoted}
+use Rattle.model_lexers.specs.Quoted.{Mode, first, inside, gap, breaking, after, doubled, named, digits, closed, QuotedState, Escape, escape_of, is_scalar, quote_of, at_char, at_break, at_gap, at_escaped_break, at_quote, at_backslash, at_inside, at_named, at_digit, refused, unless, in_line, at_line, turn_in, turn, end_in, ended, quoted_from, quoted}
 use Rattle.model_scanner.specs.Document.{quoted_style}
 use Rattle.proof_lexers.proofs.Bridges.{same_break}
 use Rattle.proof_lexers.specs.QuotedScan.{value_of, ends_before, is_some}
-use Rattle.proof_lexers.specs.QuotedEnds.{EndsAs, reads, refuses}
+use Rattle.proof_lexers.specs.QuotedEnds.{QuotedEndsAs, reads, refuses}
 use Rattle.proof_lexers.proofs.Quoted.ScanEnds.{scans_end}
 use Rattle.proof_lexers.specs.PlainEnds.{has_no_nul}
 use Rattle.proof_lexers.proofs.Plain.Turns.{same_feed, in_line_place, line_place}
@@ -39,10 +38,10 @@ fits doubled a = (slice_index a 0 == 39) ≡ true
 fits _ a = Unit {0}
 
 -- what a turn does at a character: it stays before it, fails, or is after it
-data Goes (p : Position) (c : ℕ) (a : List ℕ) : Turn State Fault → Type 0 where
-  stays : (t : State) → t.place ≡ p → Goes p c a (stop t)
+data Goes (p : Position) (c : ℕ) (a : List ℕ) : Turn QuotedState Fault → Type 0 where
+  stays : (t : QuotedState) → t.place ≡ p → Goes p c a (stop t)
   fails : (f : Fault) → Goes p c a (fail f)
-  goes : (t : State) → t.place ≡ position_past p c a → fits t.mode a → Goes p c a (on t)
+  goes : (t : QuotedState) → t.place ≡ position_past p c a → fits t.mode a → Goes p c a (on t)
 
 past_char : (p : Position) (c : ℕ) (a : List ℕ) → is_break c ≡ false → past p ≡ position_past p c a
 past_char p c a h = let no_break : classes.is_break c ≡ false = same_break c ∙ h in sym (in_line_place c a p (rw no_break refl))
@@ -79,17 +78,17 @@ hex_is_no_break c h = by (c == 10) (c == 13) refl refl
     by false false e f = refl
 
 module _ (single : Bool) (ctx : Context) (start : Position) (c : ℕ) (a : List ℕ) where
-  char_goes : (s : State) → is_break c ≡ false → Goes s.place c a (at_char c s)
+  char_goes : (s : QuotedState) → is_break c ≡ false → Goes s.place c a (at_char c s)
   char_goes s h = goes _ (past_char s.place c a h) tt
 
-  break_goes : (s : State) → is_break c ≡ true → Goes s.place c a (at_break c a s)
+  break_goes : (s : QuotedState) → is_break c ≡ true → Goes s.place c a (at_break c a s)
   break_goes s h = by (is_cr_lf c a) refl
     where
       by : (feeds : Bool) → is_cr_lf c a ≡ feeds → Goes s.place c a (at_break c a s)
       by true e = rw e (goes _ (past_first s.place c a h e) tt)
       by false e = rw e (goes _ (past_line s.place c a h e) tt)
 
-  gap_goes : (s : State) → Goes s.place c a (at_gap ctx c a s)
+  gap_goes : (s : QuotedState) → Goes s.place c a (at_gap ctx c a s)
   gap_goes s = by (is_break c) refl (s.folded.leading && (c == 9) && nat_lt (s.place.col + 1) ctx.indent) refl
     where
       by : (breaks : Bool) → is_break c ≡ breaks → (tab : Bool) → (s.folded.leading && (c == 9) && nat_lt (s.place.col + 1) ctx.indent) ≡ tab → Goes s.place c a (at_gap ctx c a s)
@@ -97,14 +96,14 @@ module _ (single : Bool) (ctx : Context) (start : Position) (c : ℕ) (a : List 
       by false e true f = rw (e, f) (fails _)
       by false e false f = rw (e, f) (goes _ (past_char s.place c a e) tt)
 
-  escaped_goes : (s : State) → is_break c ≡ true → Goes s.place c a (at_escaped_break c a s)
+  escaped_goes : (s : QuotedState) → is_break c ≡ true → Goes s.place c a (at_escaped_break c a s)
   escaped_goes s h = by (is_cr_lf c a) refl
     where
       by : (feeds : Bool) → is_cr_lf c a ≡ feeds → Goes s.place c a (at_escaped_break c a s)
       by true e = rw e (goes _ (past_first s.place c a h e) (feed_stands c a e))
       by false e = rw e (goes _ (past_line s.place c a h e) tt)
 
-  quote_goes : (s : State) → is_break c ≡ false → Goes s.place c a (at_quote single a s)
+  quote_goes : (s : QuotedState) → is_break c ≡ false → Goes s.place c a (at_quote single a s)
   quote_goes s h = goes _ (past_char s.place c a h) (by single (slice_index a 0 == 39) refl)
     where
       by : (x y : Bool) → (slice_index a 0 == 39) ≡ y → fits (if x && y then doubled else closed) a
@@ -112,14 +111,14 @@ module _ (single : Bool) (ctx : Context) (start : Position) (c : ℕ) (a : List 
       by true false e = tt
       by false y e = tt
 
-  backslash_goes : (s : State) → is_break c ≡ false → Goes s.place c a (at_backslash a s)
+  backslash_goes : (s : QuotedState) → is_break c ≡ false → Goes s.place c a (at_backslash a s)
   backslash_goes s h = goes _ (past_char s.place c a h) (by (is_break (slice_index a 0)) refl)
     where
       by : (x : Bool) → is_break (slice_index a 0) ≡ x → fits (if x then breaking else named) a
       by true e = e
       by false e = e
 
-  inside_goes : (s : State) → is_break c ≡ false → Goes s.place c a (at_inside single c a s)
+  inside_goes : (s : QuotedState) → is_break c ≡ false → Goes s.place c a (at_inside single c a s)
   inside_goes s h = by ((c == 92) && not single) refl (c == quote_of single) refl
     where
       by : (escapes : Bool) → ((c == 92) && not single) ≡ escapes → (quotes : Bool) → (c == quote_of single) ≡ quotes → Goes s.place c a (at_inside single c a s)
@@ -127,7 +126,7 @@ module _ (single : Bool) (ctx : Context) (start : Position) (c : ℕ) (a : List 
       by false e true f = rw (e, f) (quote_goes s h)
       by false e false f = rw (e, f) (char_goes s h)
 
-  gap_or_goes : (s : State) (x : Turn State Fault) → (is_break c ≡ false → Goes s.place c a x) → Goes s.place c a (if is_break c || is_blank c then at_gap ctx c a s else x)
+  gap_or_goes : (s : QuotedState) (x : Turn QuotedState Fault) → (is_break c ≡ false → Goes s.place c a x) → Goes s.place c a (if is_break c || is_blank c then at_gap ctx c a s else x)
   gap_or_goes s x other = by (is_break c) (is_blank c) refl refl
     where
       by : (breaks blanks : Bool) → is_break c ≡ breaks → is_blank c ≡ blanks → Goes s.place c a (if breaks || blanks then at_gap ctx c a s else x)
@@ -135,22 +134,22 @@ module _ (single : Bool) (ctx : Context) (start : Position) (c : ℕ) (a : List 
       by false true e f = gap_goes s
       by false false e f = other e
 
-  line_goes : (s : State) → Goes s.place c a (in_line single ctx c a s)
+  line_goes : (s : QuotedState) → Goes s.place c a (in_line single ctx c a s)
   line_goes s = gap_or_goes s (at_inside single c a s) (λ e. inside_goes s e)
 
-  start_goes : (s : State) → Goes s.place c a (at_line single ctx start c a s)
+  start_goes : (s : QuotedState) → Goes s.place c a (at_line single ctx start c a s)
   start_goes s = by (refused ctx start (c ∷ a) s.place)
     where
       by : (x : Result (Unit {0}) Fault) → Goes s.place c a (unless x (in_line single ctx c a (record s { folded = joined s.folded })))
       by (Ok t) = line_goes (record s { folded = joined s.folded })
       by (Err f) = fails f
 
-  named_goes : (e : Escape) (s : State) → is_break c ≡ false → Goes s.place c a (at_named start e s)
+  named_goes : (e : Escape) (s : QuotedState) → is_break c ≡ false → Goes s.place c a (at_named start e s)
   named_goes (Escape.char d) s h = goes _ (past_char s.place c a h) tt
   named_goes (Escape.code more) s h = goes _ (past_char s.place c a h) tt
   named_goes Escape.unknown s h = fails _
 
-  digit_goes : (more value : ℕ) (s : State) → is_break c ≡ false → Goes s.place c a (at_digit start more value s)
+  digit_goes : (more value : ℕ) (s : QuotedState) → is_break c ≡ false → Goes s.place c a (at_digit start more value s)
   digit_goes zero value s h = by (is_scalar value) refl
     where
       by : (code : Bool) → is_scalar value ≡ code → Goes s.place c a (at_digit start zero value s)
@@ -158,21 +157,21 @@ module _ (single : Bool) (ctx : Context) (start : Position) (c : ℕ) (a : List 
       by false e = rw e (fails _)
   digit_goes (suc more) value s h = goes _ (past_char s.place c a h) tt
 
-  after_goes : (s : State) → is_break c ≡ false → Goes s.place c a (if c == quote_of single then at_quote single a s else at_line single ctx start c a s)
+  after_goes : (s : QuotedState) → is_break c ≡ false → Goes s.place c a (if c == quote_of single then at_quote single a s else at_line single ctx start c a s)
   after_goes s h = by (c == quote_of single)
     where
       by : (quotes : Bool) → Goes s.place c a (if quotes then at_quote single a s else at_line single ctx start c a s)
       by true = quote_goes s h
       by false = start_goes s
 
-  hex_goes : (more value : ℕ) (s : State) → Goes s.place c a (if is_hex c then at_digit start more (value * 16 + digit_value c) s else fail (At problem.HexadecimalDigit start))
+  hex_goes : (more value : ℕ) (s : QuotedState) → Goes s.place c a (if is_hex c then at_digit start more (value * 16 + digit_value c) s else fail (At problem.HexadecimalDigit start))
   hex_goes more value s = by (is_hex c) refl
     where
       by : (digit : Bool) → is_hex c ≡ digit → Goes s.place c a (if digit then at_digit start more (value * 16 + digit_value c) s else fail (At problem.HexadecimalDigit start))
       by true e = digit_goes more (value * 16 + digit_value c) s (hex_is_no_break c e)
       by false e = fails _
 
-  turn_goes : (m : Mode) (s : State) → fits m (c ∷ a) → Goes s.place c a (turn_in single ctx start m s c a)
+  turn_goes : (m : Mode) (s : QuotedState) → fits m (c ∷ a) → Goes s.place c a (turn_in single ctx start m s c a)
   turn_goes first s f = start_goes s
   turn_goes inside s f = line_goes s
   turn_goes gap s f = gap_or_goes s (at_line single ctx start c a s) (λ e. start_goes s)
@@ -197,11 +196,11 @@ module _ (single : Bool) (ctx : Context) (start : Position) where
     is_place = w.is_place ∙ ap (λ z. position_after z w.passed rest) (e ∙ ap (position_past p c) w.cut);
   }
 
-  went : (a : List ℕ) (s : State) → fits s.mode a → (t : Stop State) → run (turn single ctx start) a s ≡ Ok t → Went s.place a t.rest t.state.place
+  went : (a : List ℕ) (s : QuotedState) → fits s.mode a → (t : Stop QuotedState) → run (turn single ctx start) a s ≡ Ok t → Went s.place a t.rest t.state.place
   went [] s f t e = let same : record { rest = []; state = s } ≡ t = cc in rw (← same) (record { passed = []; cut = refl; is_place = refl })
   went (c ∷ a) s f t e = by (λ u fit k. went a u fit t k) (turn single ctx start s c a) (turn_goes single ctx start c a s.mode s f) e
     where
-      by : ((u : State) → fits u.mode a → run (turn single ctx start) a u ≡ Ok t → Went u.place a t.rest t.state.place) → (u : Turn State Fault) → Goes s.place c a u
+      by : ((u : QuotedState) → fits u.mode a → run (turn single ctx start) a u ≡ Ok t → Went u.place a t.rest t.state.place) → (u : Turn QuotedState Fault) → Goes s.place c a u
           → turned u (c ∷ a) (λ v. run (turn single ctx start) a v) ≡ Ok t → Went s.place (c ∷ a) t.rest t.state.place
       by others (stop u) (stays v same) e = let is : record { rest = c ∷ a; state = u } ≡ t = cc in rw (← is) (record { passed = []; cut = refl; is_place = same })
       by others (fail u) (fails v) e = cc
@@ -218,10 +217,10 @@ module _ (single : Bool) (ctx : Context) (start : Position) where
   closed_at named rest p text r e = cc
   closed_at (digits more value) rest p text r e = cc
 
-  read_to : (a : List ℕ) (s : State) → fits s.mode a → (r : Read (List ℕ)) → quoted_from single ctx start a s ≡ Ok r → Went s.place a r.rest r.place
+  read_to : (a : List ℕ) (s : QuotedState) → fits s.mode a → (r : Read (List ℕ)) → quoted_from single ctx start a s ≡ Ok r → Went s.place a r.rest r.place
   read_to a s f r e = by (run (turn single ctx start) a s) refl e
     where
-      by : (x : Result (Stop State) Fault) → run (turn single ctx start) a s ≡ x → ended start x ≡ Ok r → Went s.place a r.rest r.place
+      by : (x : Result (Stop QuotedState) Fault) → run (turn single ctx start) a s ≡ x → ended start x ≡ Ok r → Went s.place a r.rest r.place
       by (Err g) k e = cc
       by (Ok t) k e =
           let q = closed_at t.state.mode t.rest t.state.place t.state.folded.text r e in
@@ -266,7 +265,7 @@ module _ (a : Account) (more body rest value : List ℕ) where
   found single place cut is ends w = record {
     first = quote_of single;
     more = body ++ quote_of single ∷ [];
-    filler = [];
+    separation = [];
     is_text = ap (λ l. quote_of single ∷ l) (cut ∙ sym (append_assoc body (quote_of single ∷ []) rest));
     is_filled = refl;
     is_piece = is_of_token single is ends;
@@ -277,7 +276,7 @@ module _ (a : Account) (more body rest value : List ℕ) where
 pub quoted_is_read : QuotedIsRead
 quoted_is_read a single ctx more r nul e = by (quoted single ctx (quote_of single ∷ more) a.place) e (scans_end single ctx more a.place (some_chars more nul)) (quoted_passes single ctx more a.place r e)
   where
-    by : (x : Result (Read (List ℕ)) Fault) → x ≡ Ok r → EndsAs single ctx a.place more x → Went (past a.place) more r.rest r.place
+    by : (x : Result (Read (List ℕ)) Fault) → x ≡ Ok r → QuotedEndsAs single ctx a.place more x → Went (past a.place) more r.rest r.place
         → ReadAs a (quote_of single ∷ more) (scalar (quoted_style single) r.value) a.place r.rest r.place
     by x e (refuses f why is) w = absurd (cc (e, is))
     by x e (reads body rest value place cut is ends k) w =

@@ -1,4 +1,4 @@
--- Each lexing function reads a piece of the cut, and a filler after it.
+-- Each lexing function reads a piece of the cut, and a separation after it.
 use Rattle.proof_cut.specs.PiecesRead.{PiecesAreRead}
 use Rattle.proof_cut.proofs.Pieces.Plains.{plain_is_read}
 use Rattle.proof_cut.proofs.Pieces.Quoted.{quoted_is_read}

@@ -9,11 +9,11 @@ use Rattle.defs_text.specs.Breaks.{has_no_break}
 use Rattle.defs_token.specs.Account.{is_in_flow}
 use Rattle.model_lexers.specs.Machine.{Read}
 use Rattle.model_lexers.specs.Tag as models
-use Rattle.proof_lexers.specs.TagEnds.{may_follow, after_tag, EndsAs, reads, refuses}
+use Rattle.proof_lexers.specs.TagEnds.{may_follow, after_tag, TagEndsAs, reads, refuses}
 use Rattle.proof_lexers.proofs.Properties.Tags.{span_cut, all_leading, tags_end}
 use Rattle.proof_lexers.proofs.Separation.Places.{place_in_line}
 use Rattle.proof_cut.specs.PiecesRead.{ReadAs, TagIsRead}
-use Rattle.proof_cut.proofs.Pieces.Fillers.{no_break_append}
+use Rattle.proof_cut.proofs.Pieces.Separations.{no_break_append}
 use Rattle.proof_cut.proofs.Pieces.Names.{all_in_line}
 
 -- ---- no break stands in a tag
@@ -96,7 +96,7 @@ written_in_line (c ∷ t) g h = by (c == 60) refl h
 pub tag_is_read : TagIsRead
 tag_is_read a in_flow more r nul flows e = by (models.tag in_flow (33 ∷ more) a.place) e (tags_end in_flow more a.place)
   where
-    by : (x : Result (Read models.Tag) Fault) → x ≡ Ok r → EndsAs in_flow a.place more x → ReadAs a (33 ∷ more) (Tok.tag r.value.handle r.value.suffix) a.place r.rest r.place
+    by : (x : Result (Read models.Tag) Fault) → x ≡ Ok r → TagEndsAs in_flow a.place more x → ReadAs a (33 ∷ more) (Tok.tag r.value.handle r.value.suffix) a.place r.rest r.place
     by x e (refuses why reason k) = absurd (cc (e, k))
     by x e (reads piece rest handle suffix cut is follows k) =
         let same : after_tag a.place (33 ∷ piece) rest handle suffix ≡ r = cc in
@@ -104,7 +104,7 @@ tag_is_read a in_flow more r nul flows e = by (models.tag in_flow (33 ∷ more) 
         rw (← same) (record {
           first = 33;
           more = piece;
-          filler = [];
+          separation = [];
           is_text = ap (λ l. 33 ∷ l) cut;
           is_filled = refl;
           is_piece = λ following. ((is, may), refl);

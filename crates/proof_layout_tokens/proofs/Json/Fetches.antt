@@ -1,11 +1,11 @@
 -- One fetch: white space is passed over, and then the first character decides.
 use Rattle.std.proofs.Common.{◌≡◌, ℕ, ◌+◌, List, [], ◌∷◌, Bool, true, false, ◌==◌, if◌then◌else◌, Option, Some, None, Result, Ok, refl, ◌∙◌}
 use Rattle.defs_text.specs.Position.{Position}
-use Rattle.defs_text.specs.Text.{is_nil}
+use Rattle.defs_text.specs.Text.{is_empty}
 use Rattle.yaml_tokens.specs.declared.problem.Fault.{Fault}
 use Rattle.defs_layout.specs.JsonGap.{Blank, spell_gap}
 use Rattle.model_scanner.specs.declared.level.FlowLevel.{FlowLevel}
-use Rattle.model_scanner.specs.State.{Key, State, ◌>>=◌, on_held, try_held}
+use Rattle.model_scanner.specs.State.{Key, ScannerState, ◌>>=◌, on_held, try_held}
 use Rattle.model_scanner.specs.Class.{class_of}
 use Rattle.model_scanner.specs.Keys.{stale, drop_stale, still, is_far, is_required}
 use Rattle.model_scanner.specs.Indents.{unroll_indent, unrolled}
@@ -19,7 +19,7 @@ use Rattle.proof_layout_tokens.proofs.Json.Levels.{no_end_at}
 pub record Staled {d : Around} (r : List ℕ) (fs : List FlowLevel) (ks : List (Option Key)) (p : Parts d) : Type 0 where
   pub key : Option Key
   pub loose : is_required key ≡ false
-  pub same : is_nil fs ≡ false → key ≡ p.key
+  pub same : is_empty fs ≡ false → key ≡ p.key
   pub is : try_held stale (stands r fs ks p) ≡ Ok (stands r fs ks (record p { key = key }))
 
 still_loose : (place : Position) (k : Key) (b : Bool) → k.required ≡ false → is_required (if b then None else Some k) ≡ false
@@ -54,14 +54,14 @@ module _ {d : Around} (c : ℕ) (a : List ℕ) (ks : List (Option Key)) (solid :
   here fs p bottom fits = let z = content c solid in rw (unrolls d (c ∷ a) fs ks (p.place.col + 1) p bottom, z.common.nul) (no_end fs p (p.place.col == 0) fits)
 
 -- The first character of a token decides. Inside flow the key is the one before, and whether one may begin.
-pub record Fetched {d : Around} (from : State) (c : ℕ) (a : List ℕ) (fs : List FlowLevel) (ks : List (Option Key)) (p : Parts d) : Type 0 where
+pub record Fetched {d : Around} (from : ScannerState) (c : ℕ) (a : List ℕ) (fs : List FlowLevel) (ks : List (Option Key)) (p : Parts d) : Type 0 where
   pub place : Position
   pub fits : Fits d place
   pub allowed : Bool
   pub leading : Bool
   pub key : Option Key
   pub loose : is_required key ≡ false
-  pub same_allowed : is_nil fs ≡ false → allowed ≡ p.allowed
+  pub same_allowed : is_empty fs ≡ false → allowed ≡ p.allowed
   pub is : fetch from ≡ (token_by (class_of c) (stands (c ∷ a) fs ks (record p { place = place; allowed = allowed; leading = leading; key = key })) >>= try_held stale)
 
 pub fetched : {d : Around} (g : List Blank) (c : ℕ) (a : List ℕ) (fs : List FlowLevel) (ks : List (Option Key)) (p : Parts d) → IsBottom d fs ks → MayStand d g → Fits d p.place → is_required p.key ≡ false → is_content c ≡ true → comes_marker 45 (c ∷ a) ≡ false
@@ -83,12 +83,12 @@ fetched g c a fs ks p bottom may fits loose solid other =
     }
 
 -- A fetch left the scanner there; inside flow with this key.
-pub record Stepped {d : Around} (from : State) (r : List ℕ) (fs : List FlowLevel) (ks : List (Option Key)) (p : Parts d) : Type 0 where
+pub record Stepped {d : Around} (from : ScannerState) (r : List ℕ) (fs : List FlowLevel) (ks : List (Option Key)) (p : Parts d) : Type 0 where
   pub key : Option Key
   pub loose : is_required key ≡ false
-  pub same : is_nil fs ≡ false → key ≡ p.key
+  pub same : is_empty fs ≡ false → key ≡ p.key
   pub is : fetch from ≡ Ok (stands r fs ks (record p { key = key }))
 
-pub stepped : {d : Around} (from : State) (t : Result State Fault) (r : List ℕ) (fs : List FlowLevel) (ks : List (Option Key)) (p : Parts d) → IsBottom d fs ks → is_required p.key ≡ false
+pub stepped : {d : Around} (from : ScannerState) (t : Result ScannerState Fault) (r : List ℕ) (fs : List FlowLevel) (ks : List (Option Key)) (p : Parts d) → IsBottom d fs ks → is_required p.key ≡ false
     → fetch from ≡ (t >>= try_held stale) → t ≡ Ok (stands r fs ks p) → Stepped from r fs ks p
 stepped from t r fs ks p bottom loose e h = let z = staled r fs ks p bottom loose in record { key = z.key; loose = z.loose; same = z.same; is = e ∙ rw (h, z.is) refl }

@@ -3,7 +3,7 @@ use Rattle.std.proofs.Common.{◌≡◌, ℕ, List, [], ◌∷◌, Bool, true, f
 use Rattle.std.proofs.lemmas.Bool.Decides.{nat_tests}
 use Rattle.defs_text.specs.Position.{Position}
 use Rattle.yaml_chars.specs.Class.{is_break, is_blank}
-use Rattle.defs_text.specs.Text.{is_nil}
+use Rattle.defs_text.specs.Text.{is_empty}
 use Rattle.yaml_tokens.specs.declared.problem.Fault.{Fault}
 use Rattle.defs_layout.specs.JsonGap.{Blank, space, tab, line_feed, carriage_return, spell_gap}
 use Rattle.model_lexers.specs.declared.context.SkipTabs.TheVariants.{Yes}
@@ -11,7 +11,7 @@ use Rattle.model_lexers.specs.declared.context.Whitespace.{Whitespace}
 use Rattle.model_lexers.specs.Machine.{past, past_break}
 use Rattle.model_lexers.specs.Space as scalar_space
 use Rattle.model_scanner.specs.declared.level.FlowLevel.{FlowLevel}
-use Rattle.model_scanner.specs.State.{Key, State}
+use Rattle.model_scanner.specs.State.{Key, ScannerState}
 use Rattle.model_scanner.specs.Space.{between, skip, is_before_indent, skip_spaces, skip_to_next_token}
 use Rattle.proof_layout_tokens.proofs.Json.States.{Around, nothing, block, IsLine, Fits, MayStand, Parts, stands, is_content, is_solid}
 use Rattle.proof_layout_tokens.proofs.LayoutStates as layouts
@@ -38,12 +38,12 @@ not_before nothing fs ks r p broken = refl
 not_before (block i is l shut) fs ks r p broken = absurd (broken tt)
 
 -- The state is at r, with another place; outside flow a key may have become possible.
-pub record Skipped {d : Around} (t : Result State Fault) (r : List ℕ) (fs : List FlowLevel) (ks : List (Option Key)) (p : Parts d) : Type 0 where
+pub record Skipped {d : Around} (t : Result ScannerState Fault) (r : List ℕ) (fs : List FlowLevel) (ks : List (Option Key)) (p : Parts d) : Type 0 where
   pub place : Position
   pub fits : Fits d place
   pub allowed : Bool
   pub leading : Bool
-  pub same : is_nil fs ≡ false → allowed ≡ p.allowed
+  pub same : is_empty fs ≡ false → allowed ≡ p.allowed
   pub is : t ≡ Ok (stands r fs ks (record p { place = place; allowed = allowed; leading = leading }))
 
 lined_allowed : (b c : Bool) → b ≡ false → (not (not b) || c) ≡ c
@@ -56,13 +56,13 @@ module _ {d : Around} (fs : List FlowLevel) (ks : List (Option Key)) where
   skip_solid (c ∷ a) p h = whites.solid_stays (c ∷ a) _ (in_layout c h)
 
   abbrev lined : Parts d → Parts d
-  lined p = record p { place = past_break p.place; leading = true; allowed = not (not (is_nil fs)) || p.allowed }
+  lined p = record p { place = past_break p.place; leading = true; allowed = not (not (is_empty fs)) || p.allowed }
 
-  after_char : (t : Result State Fault) (r : List ℕ) (p : Parts d) → Skipped t r fs ks (record p { place = past p.place }) → Skipped t r fs ks p
+  after_char : (t : Result ScannerState Fault) (r : List ℕ) (p : Parts d) → Skipped t r fs ks (record p { place = past p.place }) → Skipped t r fs ks p
   after_char t r p z = record { place = z.place; fits = z.fits; allowed = z.allowed; leading = z.leading; same = z.same; is = z.is }
 
-  after_break : (t : Result State Fault) (r : List ℕ) (p : Parts d) → Skipped t r fs ks (lined p) → Skipped t r fs ks p
-  after_break t r p z = record { place = z.place; fits = z.fits; allowed = z.allowed; leading = z.leading; same = λ h. z.same h ∙ lined_allowed (is_nil fs) p.allowed h; is = z.is }
+  after_break : (t : Result ScannerState Fault) (r : List ℕ) (p : Parts d) → Skipped t r fs ks (lined p) → Skipped t r fs ks p
+  after_break t r p z = record { place = z.place; fits = z.fits; allowed = z.allowed; leading = z.leading; same = λ h. z.same h ∙ lined_allowed (is_empty fs) p.allowed h; is = z.is }
 
   after_return : (b : Bool) (a r : List ℕ) (p : Parts d) → Skipped (skip between a (stands a fs ks (record p { place = past p.place })).held) r fs ks (record p { place = past p.place })
       → Skipped (skip between a (stands a fs ks (lined p)).held) r fs ks (lined p)
@@ -120,7 +120,7 @@ passed d (line_feed ∷ g) r p w may fits h = record { place = p; fits = fits; g
 passed d (carriage_return ∷ g) r p w may fits h = record { place = p; fits = fits; gap = carriage_return ∷ g; may = may; found = w; edge = refl; is = refl }
 
 -- The state is after a part of the white space, at a break or at r.
-pub record Trimmed {d : Around} (t : Result State Fault) (r : List ℕ) (fs : List FlowLevel) (ks : List (Option Key)) (p : Parts d) : Type 0 where
+pub record Trimmed {d : Around} (t : Result ScannerState Fault) (r : List ℕ) (fs : List FlowLevel) (ks : List (Option Key)) (p : Parts d) : Type 0 where
   pub place : Position
   pub fits : Fits d place
   pub gap : List Blank

@@ -1,7 +1,7 @@
 -- What fetches do at a JSON array or object on one line, and at `[]` and `{}`.
 use Rattle.std.proofs.Common.{◌≡◌, ℕ, ◌≤◌, List, [], ◌∷◌, ◌++◌, Bool, true, false, not, Option, None, Result, Ok, refl, ◌∙◌, arith}
 use Rattle.defs_text.specs.Position.{Position}
-use Rattle.defs_text.specs.Text.{is_nil}
+use Rattle.defs_text.specs.Text.{is_empty}
 use Rattle.defs_token.specs.Token.{Tok}
 use Rattle.yaml_tokens.specs.declared.problem.Fault.{Fault}
 use Rattle.defs_layout.specs.JsonGap.{Blank, spell_gap}
@@ -11,9 +11,9 @@ use Rattle.defs_layout.specs.JsonTokens.{json_tokens}
 use Rattle.model_lexers.specs.Machine.{past}
 use Rattle.model_scanner.specs.declared.level.Indent.{Indent}
 use Rattle.model_scanner.specs.declared.level.FlowLevel.{FlowLevel}
-use Rattle.model_scanner.specs.State.{Key, State, token, try_held}
+use Rattle.model_scanner.specs.State.{Key, ScannerState, token, try_held}
 use Rattle.model_scanner.specs.Class.{class_of}
-use Rattle.model_scanner.specs.Keys.{still, stale, is_required, save_simple_key}
+use Rattle.model_scanner.specs.Keys.{still, stale, is_required, save_implicit_key}
 use Rattle.model_scanner.specs.Indents.{roll_one_col_indent, in_block}
 use Rattle.model_scanner.specs.Flow.{increase_flow_level, begin_flow, pass_indicator, fetch_flow_collection_start, decrease_flow_level, adjacent_in_flow, end_flow, fetch_flow_collection_end}
 use Rattle.model_scanner.specs.Block.{property_place}
@@ -40,7 +40,7 @@ use Rattle.proof_layout_tokens.proofs.Leaves.{still_lies, value_by, spaces_stop,
 -- a level that opens no collection is on top, or there is none at all
 abbrev filled : Bool → List Indent → Bool
 filled true is = true
-filled false is = not (is_nil is)
+filled false is = not (is_empty is)
 
 rolls : (x : List ℕ) (b : Bool) (i : ℕ) (is : List Indent) (p : Parts) → IsClosed i is
     → roll_one_col_indent (stands x (opened_indent b i) (opened b i is) p).held ≡ (stands x (opened_indent (filled b is) i) (opened (filled b is) i is) p).held
@@ -50,7 +50,7 @@ rolls x false i [] p h = refl
 rolls x false i (d ∷ ds) p h = rw h refl
 
 -- The result is later the bracket, up to spaces.
-record OpenedAt (t : Result State Fault) (h : Bool) (r : List ℕ) (b : Bool) (i : ℕ) (is : List Indent) (shut : IsClosed i is) (p : Parts) (k : Option Key) : Type 0 where
+record OpenedAt (t : Result ScannerState Fault) (h : Bool) (r : List ℕ) (b : Bool) (i : ℕ) (is : List Indent) (shut : IsClosed i is) (p : Parts) (k : Option Key) : Type 0 where
   place : Position
   fits : Fits (block i is p.place.line shut) place
   gap : List Blank
@@ -58,7 +58,7 @@ record OpenedAt (t : Result State Fault) (h : Bool) (r : List ℕ) (b : Bool) (i
   now : t ≡ Ok (json.stands (spell_gap gap r) (level_of h ∷ []) (k ∷ []) (inside (block i is p.place.line shut) place (p.tokens ++ token p.place (opening h) ∷ []) p.adjacent (filled b is)))
 
 opened_at : (h : Bool) (g : List Blank) (r : List ℕ) (b : Bool) (i : ℕ) (is : List Indent) (shut : IsClosed i is) (p : Parts) (k : Option Key) → AreSpaces g → json.is_solid r ≡ true → i ≤ p.place.col
-    → save_simple_key ((stands (opening_bracket h ∷ spell_gap g r) (opened_indent b i) (opened b i is) p).held) ≡ (stands (opening_bracket h ∷ spell_gap g r) (opened_indent b i) (opened b i is) (record p { key = k })).held
+    → save_implicit_key ((stands (opening_bracket h ∷ spell_gap g r) (opened_indent b i) (opened b i is) p).held) ≡ (stands (opening_bracket h ∷ spell_gap g r) (opened_indent b i) (opened b i is) (record p { key = k })).held
     → OpenedAt (fetch_flow_collection_start (level_of h) (opening h) (stands (opening_bracket h ∷ spell_gap g r) (opened_indent b i) (opened b i is) p)) h r b i is shut p k
 unfolding fetch_flow_collection_start begin_flow increase_flow_level pass_indicator
 opened_at h g r b i is shut p k spaces solid deep saves =
@@ -67,7 +67,7 @@ opened_at h g r b i is shut p k spaces solid deep saves =
     let w = trim (level_of h ∷ []) (k ∷ []) g r q (λ _. spaces) (fits_past d p.place (deep, refl)) solid in
     record { place = w.place; fits = w.fits; gap = w.gap; may = w.may; now = rw (saves, rolls (opening_bracket h ∷ spell_gap g r) b i is (record p { key = k }) shut, w.is) refl }
 
-by_opening : (h : Bool) (t : State) → token_by (class_of (opening_bracket h)) t ≡ fetch_flow_collection_start (level_of h) (opening h) t
+by_opening : (h : Bool) (t : ScannerState) → token_by (class_of (opening_bracket h)) t ≡ fetch_flow_collection_start (level_of h) (opening h) t
 unfolding class_of
 by_opening true t = refl
 by_opening false t = refl
@@ -82,14 +82,14 @@ unfolding stale
 not_stale r f ks p = refl
 
 -- The scanner stands later the bracket, which may be a key.
-record Inside (h : Bool) (from : State) (r : List ℕ) (i : ℕ) (is : List Indent) (shut : IsClosed i is) (want : List Tok → List Tok) : Type 0 where
+record Inside (h : Bool) (from : ScannerState) (r : List ℕ) (i : ℕ) (is : List Indent) (shut : IsClosed i is) (want : List Tok → List Tok) : Type 0 where
   line : ℕ
   outer : Option Key
   loose : is_required outer ≡ false
   lies : Lies outer line
   ahead : json.Ahead (block i is line shut) from (level_of h ∷ []) (outer ∷ []) r want
 
-begins : (h : Bool) (g : List Blank) (r : List ℕ) (from : State) (col : ℕ) (b : Bool) (i : ℕ) (is : List Indent) (shut : IsClosed i is) (allowed : Bool) (want : List Tok → List Tok) → AreSpaces g → json.is_solid r ≡ true → i ≤ col
+begins : (h : Bool) (g : List Blank) (r : List ℕ) (from : ScannerState) (col : ℕ) (b : Bool) (i : ℕ) (is : List Indent) (shut : IsClosed i is) (allowed : Bool) (want : List Tok → List Tok) → AreSpaces g → json.is_solid r ≡ true → i ≤ col
     → Before from (opening_bracket h ∷ spell_gap g r) col (opened_indent b i) (opened b i is) allowed want → Inside h from r i is shut (λ o. want (opening h ∷ o))
 begins h g r from col b i is shut allowed want spaces solid deep u =
     let x = opening_bracket h ∷ spell_gap g r in
@@ -100,7 +100,7 @@ begins h g r from col b i is shut allowed want spaces solid deep u =
     let z = opened_at h g r b i is shut p k.key spaces solid within k.now in
     let d : Around = block i is p.place.line shut in
     let q : json.Parts d = inside d z.place (p.tokens ++ token p.place (opening h) ∷ []) p.adjacent (filled b is) in
-    let s : State = json.stands (spell_gap z.gap r) (level_of h ∷ []) (k.key ∷ []) q in
+    let s : ScannerState = json.stands (spell_gap z.gap r) (level_of h ∷ []) (k.key ∷ []) q in
     let e = value_by from (opening_bracket h) (spell_gap g r) col b i is allowed want u deep (opening_opens h (spell_gap g r)) ∙ by_opening h (stands x (opened_indent b i) (opened b i is) p) ∙ z.now in
     let run = fetched from x col (opened_indent b i) (opened b i is) allowed want s s u e (not_stale (spell_gap z.gap r) (level_of h) (k.key ∷ []) q) in
     record {
@@ -133,7 +133,7 @@ closed_at h n t i is line shut k q remark loose =
       spaces_stop n t (opened_indent q.is_open i) (opened q.is_open i is) p remark,
     ) refl
 
-by_closing : (h : Bool) (t : State) → token_by (class_of (closing_bracket h)) t ≡ fetch_flow_collection_end (closing h) t
+by_closing : (h : Bool) (t : ScannerState) → token_by (class_of (closing_bracket h)) t ≡ fetch_flow_collection_end (closing h) t
 unfolding class_of
 by_closing true t = refl
 by_closing false t = refl
@@ -148,7 +148,7 @@ unfolding comes_marker
 closing_fetched true g a ks p may fits loose = json_fetches.fetched g 125 a (level_of true ∷ []) ks p tt may fits loose refl refl
 closing_fetched false g a ks p may fits loose = json_fetches.fetched g 93 a (level_of false ∷ []) ks p tt may fits loose refl refl
 
-ends : (h : Bool) (n : Comment) (t : Trail) (from : State) (i : ℕ) (is : List Indent) (line : ℕ) (shut : IsClosed i is) (k : Option Key) (want : List Tok → List Tok) → IsComment n → IsTrail t → limit_of t ≤ i → is_required k ≡ false → Lies k line
+ends : (h : Bool) (n : Comment) (t : Trail) (from : ScannerState) (i : ℕ) (is : List Indent) (line : ℕ) (shut : IsClosed i is) (k : Option Key) (want : List Tok → List Tok) → IsComment n → IsTrail t → limit_of t ≤ i → is_required k ≡ false → Lies k line
     → json.After (block i is line shut) from (level_of h ∷ []) (k ∷ []) (closing_bracket h ∷ spell_white (comment_white n (trail_white t)) (rest_of t)) want → After from t i is (λ o. want (closing h ∷ o))
 ends h n t from i is line shut k want remark trail low loose lies u =
     let white = spell_white (comment_white n (trail_white t)) (rest_of t) in
@@ -167,7 +167,7 @@ ends h n t from i is line shut k want remark trail low loose lies u =
 -- ---- whole values
 
 -- an array or an object with only spaces between its parts
-collection_after : (v : Json) (n : Comment) (t : Trail) (from : State) (col : ℕ) (b : Bool) (i : ℕ) (is : List Indent) (allowed : Bool) (want : List Tok → List Tok) → IsJsonCollection v → IsJson v → levels v ≤ 255 → HasSpaces v
+collection_after : (v : Json) (n : Comment) (t : Trail) (from : ScannerState) (col : ℕ) (b : Bool) (i : ℕ) (is : List Indent) (allowed : Bool) (want : List Tok → List Tok) → IsJsonCollection v → IsJson v → levels v ≤ 255 → HasSpaces v
     → IsComment n → IsTrail t → limit_of t ≤ i → i ≤ col → IsClosed i is
     → Before from (spell v (spell_white (comment_white n (trail_white t)) (rest_of t))) col (opened_indent b i) (opened b i is) allowed want → After from t i is (λ o. want (json_tokens v o))
 collection_after false_word n t from col b i is allowed want kind json few spaces remark trail low deep shut u = absurd kind
@@ -194,7 +194,7 @@ collection_after (object g ms) n t from col b i is allowed want kind json few sp
     let y = members_run (block i is z.line shut) ms json.1 (λ _. spaces.1) from white [] (z.outer ∷ []) _ (omega arith) z.ahead in
     ends true n t from i is z.line shut z.outer _ remark trail low z.loose z.lies y
 
-pub json_after : (v : Json) (n : Comment) (t : Trail) (from : State) (col : ℕ) (b : Bool) (i : ℕ) (is : List Indent) (allowed : Bool) (want : List Tok → List Tok) → IsJsonCollection v → IsJson v → levels v ≤ 255 → HasSpaces v
+pub json_after : (v : Json) (n : Comment) (t : Trail) (from : ScannerState) (col : ℕ) (b : Bool) (i : ℕ) (is : List Indent) (allowed : Bool) (want : List Tok → List Tok) → IsJsonCollection v → IsJson v → levels v ≤ 255 → HasSpaces v
     → IsComment n → IsTrail t → limit_of t ≤ i → i ≤ col → IsClosed i is
     → Before from (spell v (spell_comment n (trail_text t))) col (opened_indent b i) (opened b i is) allowed want → After from t i is (λ o. want (json_tokens v o))
 json_after v n t from col b i is allowed want kind json few spaces remark trail low deep shut u = collection_after v n t from col b i is allowed want kind json few spaces remark trail low deep shut (rw (after_is n t) at u)

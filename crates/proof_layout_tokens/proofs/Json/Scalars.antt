@@ -4,7 +4,7 @@ use Rattle.std.specs.List.{insert}
 use Rattle.std.proofs.lemmas.Bool.{eq-eqb, eqb-true, and_parts, not-true}
 use Rattle.defs_text.specs.Position.{Position}
 use Rattle.yaml_chars.specs.Class.{is_break, is_flow, is_blank_or_breakz}
-use Rattle.defs_text.specs.Text.{is_nil}
+use Rattle.defs_text.specs.Text.{is_empty}
 use Rattle.defs_token.specs.Token.{Tok, Style, Token}
 use Rattle.yaml_tokens.specs.declared.problem.Fault.{Fault}
 use Rattle.defs_layout.specs.JsonGap.{Blank, space, tab, line_feed, carriage_return, spell_gap}
@@ -13,7 +13,7 @@ use Rattle.model_lexers.specs.Machine.{past}
 use Rattle.model_lexers.specs.Quoted.{quote_of, quoted}
 use Rattle.model_scanner.specs.declared.level.FlowLevel.{FlowLevel}
 use Rattle.model_scanner.specs.declared.level.FlowLevel.TheVariants.{Mapping}
-use Rattle.model_scanner.specs.State.{Key, State, token, peek, try_held}
+use Rattle.model_scanner.specs.State.{Key, ScannerState, token, peek, try_held}
 use Rattle.model_scanner.specs.Class.{class_of}
 use Rattle.model_scanner.specs.Keys.{stale, is_required}
 use Rattle.model_scanner.specs.Space.{skip_to_next_token}
@@ -32,9 +32,9 @@ use Rattle.proof_layout_tokens.proofs.Json.Steps.{saved}
 
 -- what may stand after a string and white space, on its line or on a later one
 abbrev pub MayFollow : List FlowLevel → List ℕ → Type 0
-MayFollow fs r = (same_line : Bool) → may_follow_quoted (not (is_nil fs)) same_line (peek r) ≡ true
+MayFollow fs r = (same_line : Bool) → may_follow_quoted (not (is_empty fs)) same_line (peek r) ≡ true
 
-follows : (fs : List FlowLevel) (same_line : Bool) (gap : List Blank) (r : List ℕ) → starts_break gap ≡ true → MayFollow fs r → may_follow_quoted (not (is_nil fs)) same_line (peek (spell_gap gap r)) ≡ true
+follows : (fs : List FlowLevel) (same_line : Bool) (gap : List Blank) (r : List ℕ) → starts_break gap ≡ true → MayFollow fs r → may_follow_quoted (not (is_empty fs)) same_line (peek (spell_gap gap r)) ≡ true
 unfolding may_follow_quoted is_break
 follows fs same_line [] r edge may = may same_line
 follows fs same_line (space ∷ g) r edge may = cc
@@ -50,7 +50,7 @@ quoted_tok single text = Tok.scalar (quoted_style single) text
 abbrev pub quoted_at : (d : Around) → Position → List Token → Option Key → Bool → Bool → (is_open : Bool) → Parts d
 quoted_at d place tokens key allowed leading is_open = record { place = place; tokens = tokens; key = key; allowed = allowed; leading = leading; adjacent = place.index; is_open = is_open }
 
-record QuotedAt {d : Around} (t : Result State Fault) (tok : Tok) (r : List ℕ) (fs : List FlowLevel) (ks : List (Option Key)) (p : Parts d) : Type 0 where
+record QuotedAt {d : Around} (t : Result ScannerState Fault) (tok : Tok) (r : List ℕ) (fs : List FlowLevel) (ks : List (Option Key)) (p : Parts d) : Type 0 where
   place : Position
   fits : Fits d place
   key : Option Key
@@ -72,13 +72,13 @@ scalar_at single text a b r fs ks p bottom stand loose solid may z =
     record { place = u.place; fits = u.fits; key = k.key; loose = k.loose; new = k.new; allowed = u.allowed; leading = u.leading; is = rw (k.is, z.is, w.is, v, u.is) refl }
 
 -- A fetch took a quoted scalar. Inside flow, where a key may begin, it may be one.
-pub record Quoted {d : Around} (tok : Tok) (from : State) (r : List ℕ) (fs : List FlowLevel) (ks : List (Option Key)) (p : Parts d) : Type 0 where
+pub record Quoted {d : Around} (tok : Tok) (from : ScannerState) (r : List ℕ) (fs : List FlowLevel) (ks : List (Option Key)) (p : Parts d) : Type 0 where
   pub place : Position
   pub fits : Fits d place
   pub at : Position
   pub key : Option Key
   pub loose : is_required key ≡ false
-  pub new : is_nil fs ≡ false → p.allowed ≡ true → key ≡ Some (record { required = false; number = length p.tokens; place = at })
+  pub new : is_empty fs ≡ false → p.allowed ≡ true → key ≡ Some (record { required = false; number = length p.tokens; place = at })
   pub allowed : Bool
   pub leading : Bool
   pub is : fetch from ≡ Ok (stands r fs ks (quoted_at d place (p.tokens ++ token at tok ∷ []) key allowed leading p.is_open))
@@ -87,8 +87,8 @@ pub record Quoted {d : Around} (tok : Tok) (from : State) (r : List ℕ) (fs : L
 abbrev pub ReadsQuoted : Around → (is_open : Bool) → Bool → List FlowLevel → List ℕ → List ℕ → List ℕ → Type 0
 ReadsQuoted d o single fs a text r = (at : Position) → Fits d at → Closed d (quoted single (context_of d o fs) a at) text r
 
-fetched_by : {d : Around} (single : Bool) (text : List ℕ) (from : State) (c : ℕ) (a : List ℕ) (b : List Blank) (r : List ℕ) (fs : List FlowLevel) (ks : List (Option Key)) (p : Parts d) → IsBottom d fs ks → MayStand d b → is_solid r ≡ true → MayFollow fs r
-    → ReadsQuoted d p.is_open single fs (c ∷ a) text (spell_gap b r) → ((t : State) → token_by (class_of c) t ≡ fetch_flow_scalar single t) → Fetched from c a fs ks p → Quoted (quoted_tok single text) from r fs ks p
+fetched_by : {d : Around} (single : Bool) (text : List ℕ) (from : ScannerState) (c : ℕ) (a : List ℕ) (b : List Blank) (r : List ℕ) (fs : List FlowLevel) (ks : List (Option Key)) (p : Parts d) → IsBottom d fs ks → MayStand d b → is_solid r ≡ true → MayFollow fs r
+    → ReadsQuoted d p.is_open single fs (c ∷ a) text (spell_gap b r) → ((t : ScannerState) → token_by (class_of c) t ≡ fetch_flow_scalar single t) → Fetched from c a fs ks p → Quoted (quoted_tok single text) from r fs ks p
 fetched_by {d} single text from c a b r fs ks p bottom stand solid may reads decides y =
     let q = record p { place = y.place; allowed = y.allowed; leading = y.leading; key = y.key } in
     let z = scalar_at single text (c ∷ a) b r fs ks q bottom stand y.loose solid may (reads y.place y.fits) in
@@ -144,7 +144,7 @@ no_levels (block i (d ∷ ds) l shut) r fs ks p false = rw shut refl
 abbrev pub worded : (d : Around) → Position → List Token → Option Key → Bool → ℕ → Parts d
 worded d place tokens key leading adjacent = record { place = place; tokens = tokens; key = key; allowed = leading; leading = leading; adjacent = adjacent; is_open = false }
 
-record WordedAt {d : Around} (t : Result State Fault) (w : List ℕ) (r : List ℕ) (fs : List FlowLevel) (ks : List (Option Key)) (p : Parts d) : Type 0 where
+record WordedAt {d : Around} (t : Result ScannerState Fault) (w : List ℕ) (r : List ℕ) (fs : List FlowLevel) (ks : List (Option Key)) (p : Parts d) : Type 0 where
   place : Position
   fits : Fits d place
   key : Option Key
@@ -160,7 +160,7 @@ word_at {d} w b r fs ks p word bottom after fits loose ends =
     let z = word_read d fs w b r p.place ends word after fits in
     record { place = z.place; fits = z.fits; key = k.key; loose = k.loose; leading = z.leading; is = rw (k.is, no_levels d (w ++ spell_gap b r) fs ks (record p { key = k.key; allowed = false }) p.is_open, z.is) refl }
 
-dash_by : (t : State) → is_blank_or_breakz (slice_index t.rest 1) ≡ false → token_by (class_of 45) t ≡ fetch_plain_scalar t
+dash_by : (t : ScannerState) → is_blank_or_breakz (slice_index t.rest 1) ≡ false → token_by (class_of 45) t ≡ fetch_plain_scalar t
 unfolding class_of
 dash_by t h = rw h refl
 
@@ -197,7 +197,7 @@ pub word_start : (c : ℕ) (w : List ℕ) → IsWord (c ∷ w) → is_content c 
 word_start c w word = (start_of c w [] word).content
 
 -- A fetch took a word or a number.
-pub record Worded (d : Around) (w : List ℕ) (from : State) (r : List ℕ) (fs : List FlowLevel) (ks : List (Option Key)) (ts : List Token) : Type 0 where
+pub record Worded (d : Around) (w : List ℕ) (from : ScannerState) (r : List ℕ) (fs : List FlowLevel) (ks : List (Option Key)) (ts : List Token) : Type 0 where
   pub place : Position
   pub fits : Fits d place
   pub at : Position

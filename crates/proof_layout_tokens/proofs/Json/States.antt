@@ -5,7 +5,7 @@ use Rattle.defs_token.specs.Token.{Tok, Token}
 use Rattle.defs_layout.specs.JsonGap.{Blank, space, tab, line_feed, carriage_return, spell_gap}
 use Rattle.model_scanner.specs.declared.level.FlowLevel.{FlowLevel}
 use Rattle.model_scanner.specs.declared.level.Indent.{Indent}
-use Rattle.model_scanner.specs.State.{Key, State}
+use Rattle.model_scanner.specs.State.{Key, ScannerState}
 use Rattle.model_scanner.specs.Keys.{is_required}
 use Rattle.model_scanner.specs.Indents.{level}
 use Rattle.model_scanner.specs.Run.{Reaches}
@@ -76,7 +76,7 @@ pub record Parts (d : Around) : Type 0 where
   pub is_open : Bool
 
 -- before a text, in flow levels, with the keys of the outer ones
-abbrev pub stands : {d : Around} → List ℕ → List FlowLevel → List (Option Key) → Parts d → State
+abbrev pub stands : {d : Around} → List ℕ → List FlowLevel → List (Option Key) → Parts d → ScannerState
 stands {d} r fs ks p = record {
   rest = r;
   held = record {
@@ -121,7 +121,7 @@ pub data Ends : List FlowLevel → List ℕ → Type 0 where
   at_brace : {f : FlowLevel} {fs : List FlowLevel} {a : List ℕ} → Ends (f ∷ fs) (125 ∷ a)
 
 -- The scanner came to a text, up to white space, with these tokens; no key must come.
-pub record After (d : Around) (from : State) (fs : List FlowLevel) (ks : List (Option Key)) (r : List ℕ) (want : List Tok → List Tok) : Type 0 where
+pub record After (d : Around) (from : ScannerState) (fs : List FlowLevel) (ks : List (Option Key)) (r : List ℕ) (want : List Tok → List Tok) : Type 0 where
   pub parts : Parts d
   pub gap : List Blank
   pub fits : Fits d parts.place
@@ -131,6 +131,6 @@ pub record After (d : Around) (from : State) (fs : List FlowLevel) (ks : List (O
   pub run : Reaches from (stands (spell_gap gap r) fs ks parts)
 
 -- A key may begin there.
-pub record Ahead (d : Around) (from : State) (fs : List FlowLevel) (ks : List (Option Key)) (r : List ℕ) (want : List Tok → List Tok) : Type 0 where
+pub record Ahead (d : Around) (from : ScannerState) (fs : List FlowLevel) (ks : List (Option Key)) (r : List ℕ) (want : List Tok → List Tok) : Type 0 where
   pub after : After d from fs ks r want
   pub allowed : after.parts.allowed ≡ true

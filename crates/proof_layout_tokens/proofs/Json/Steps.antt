@@ -8,9 +8,9 @@ use Rattle.defs_layout.specs.JsonGap.{Blank, spell_gap}
 use Rattle.model_lexers.specs.Machine.{past}
 use Rattle.model_scanner.specs.declared.level.FlowLevel.{FlowLevel}
 use Rattle.model_scanner.specs.declared.level.FlowLevel.TheVariants.{Mapping, Entry}
-use Rattle.model_scanner.specs.State.{Key, State, ◌>>=◌, token, try_held}
+use Rattle.model_scanner.specs.State.{Key, ScannerState, ◌>>=◌, token, try_held}
 use Rattle.model_scanner.specs.Class.{class_of}
-use Rattle.model_scanner.specs.Keys.{stale, is_required, save_simple_key, remove_simple_key, must_be_key}
+use Rattle.model_scanner.specs.Keys.{stale, is_required, save_implicit_key, remove_implicit_key, must_be_key}
 use Rattle.model_scanner.specs.Indents.{in_block, roll_one_col_indent}
 use Rattle.model_scanner.specs.Flow.{increase_flow_level, begin_flow, pass_indicator, fetch_flow_collection_start, end_flow_pair, decrease_flow_level, adjacent_in_flow, end_flow, fetch_flow_collection_end, end_entry, fetch_flow_entry}
 use Rattle.model_scanner.specs.Fetch.{comes_marker, fetch}
@@ -26,7 +26,7 @@ pub record Saved {d : Around} (r : List ℕ) (fs : List FlowLevel) (ks : List (O
   pub key : Option Key
   pub loose : is_required key ≡ false
   pub new : p.allowed ≡ true → key ≡ Some (record { required = false; number = length p.tokens; place = p.place })
-  pub is : save_simple_key ((stands r fs ks p).held) ≡ (stands r fs ks (record p { key = key })).held
+  pub is : save_implicit_key ((stands r fs ks p).held) ≡ (stands r fs ks (record p { key = key })).held
 
 not_key : (d : Around) (r : List ℕ) (fs : List FlowLevel) (ks : List (Option Key)) (p : Parts d) → IsBottom d fs ks → must_be_key ((stands r fs ks p).held) ≡ false
 unfolding must_be_key
@@ -35,7 +35,7 @@ not_key (block i is l shut) r [] ks p bottom = absurd bottom.0
 not_key d r (f ∷ fs) ks p bottom = refl
 
 saved_by : {d : Around} (r : List ℕ) (fs : List FlowLevel) (ks : List (Option Key)) (p : Parts d) (b : Bool) → p.allowed ≡ b → IsBottom d fs ks → is_required p.key ≡ false → Saved r fs ks p
-unfolding save_simple_key
+unfolding save_implicit_key
 saved_by {d} r fs ks p true e bottom loose = record {
   key = Some (record { required = false; number = length p.tokens; place = p.place });
   loose = refl;
@@ -60,7 +60,7 @@ abbrev pub inside : (d : Around) → Position → List Token → ℕ → (is_ope
 inside d place tokens adjacent is_open = record { place = place; tokens = tokens; key = None; allowed = true; leading = false; adjacent = adjacent; is_open = is_open }
 
 -- The result is after an opening bracket.
-record OpenedAt {d : Around} (t : Result State Fault) (kind : FlowLevel) (tok : Tok) (r : List ℕ) (fs : List FlowLevel) (ks : List (Option Key)) (p : Parts d) : Type 0 where
+record OpenedAt {d : Around} (t : Result ScannerState Fault) (kind : FlowLevel) (tok : Tok) (r : List ℕ) (fs : List FlowLevel) (ks : List (Option Key)) (p : Parts d) : Type 0 where
   place : Position
   fits : Fits d place
   outer : Option Key
@@ -80,7 +80,7 @@ open_at {d} kind tok c a r fs ks p bottom may fits loose solid deep =
     record { place = w.place; fits = w.fits; outer = k.key; loose = k.loose; gap = w.gap; may = w.may; is = rw (k.is, no_level d (c ∷ spell_gap a r) fs ks q bottom, few, w.is) refl }
 
 -- A fetch took an opening bracket.
-pub record Opened (d : Around) (kind : FlowLevel) (tok : Tok) (from : State) (r : List ℕ) (fs : List FlowLevel) (ks : List (Option Key)) (ts : List Token) : Type 0 where
+pub record Opened (d : Around) (kind : FlowLevel) (tok : Tok) (from : ScannerState) (r : List ℕ) (fs : List FlowLevel) (ks : List (Option Key)) (ts : List Token) : Type 0 where
   pub place : Position
   pub fits : Fits d place
   pub at : Position
@@ -93,7 +93,7 @@ pub record Opened (d : Around) (kind : FlowLevel) (tok : Tok) (from : State) (r 
   pub is : fetch from ≡ Ok (stands (spell_gap gap r) (kind ∷ fs) (outer ∷ ks) (inside d place (ts ++ token at tok ∷ []) adjacent is_open))
 
 -- where the first character decides for an opening bracket
-open_by : {d : Around} (kind : FlowLevel) (tok : Tok) (from : State) (c : ℕ) (a : List Blank) (r : List ℕ) (fs : List FlowLevel) (ks : List (Option Key)) (q : Parts d) → IsBottom d fs ks → MayStand d a → Fits d q.place → is_required q.key ≡ false → is_solid r ≡ true → length fs < 255
+open_by : {d : Around} (kind : FlowLevel) (tok : Tok) (from : ScannerState) (c : ℕ) (a : List Blank) (r : List ℕ) (fs : List FlowLevel) (ks : List (Option Key)) (q : Parts d) → IsBottom d fs ks → MayStand d a → Fits d q.place → is_required q.key ≡ false → is_solid r ≡ true → length fs < 255
     → fetch from ≡ (fetch_flow_collection_start kind tok (stands (c ∷ spell_gap a r) fs ks q) >>= try_held stale) → Opened d kind tok from r fs ks q.tokens
 open_by {d} kind tok from c a r fs ks q bottom may fits loose solid deep e =
     let z = open_at kind tok c a r fs ks q bottom may fits loose solid deep in
@@ -134,11 +134,11 @@ open_run false g a r fs ks p bottom may follows fits loose solid deep =
 
 -- ---- `]`, `}` and `,`
 
-pub removed : {d : Around} (r : List ℕ) (fs : List FlowLevel) (ks : List (Option Key)) (p : Parts d) → is_required p.key ≡ false → remove_simple_key ((stands r fs ks p).held) ≡ Ok ((stands r fs ks (record p { key = None })).held)
-unfolding remove_simple_key
+pub removed : {d : Around} (r : List ℕ) (fs : List FlowLevel) (ks : List (Option Key)) (p : Parts d) → is_required p.key ≡ false → remove_implicit_key ((stands r fs ks p).held) ≡ Ok ((stands r fs ks (record p { key = None })).held)
+unfolding remove_implicit_key
 removed r fs ks p loose = rw loose refl
 
--- no pair without braces ends here
+-- no single-pair mapping ends here
 pub no_pair : {d : Around} (mapping : Bool) (r : List ℕ) (fs : List FlowLevel) (ks : List (Option Key)) (p : Parts d) → end_flow_pair ((stands r (level_of mapping ∷ fs) ks p).held) ≡ (stands r (level_of mapping ∷ fs) ks p).held
 unfolding end_flow_pair
 no_pair true r fs ks p = refl
@@ -158,7 +158,7 @@ adjacent_is r (f ∷ fs) ks p = refl
 abbrev pub outside : (d : Around) → Position → List Token → Option Key → ℕ → (is_open : Bool) → Parts d
 outside d place tokens key adjacent is_open = record { place = place; tokens = tokens; key = key; allowed = false; leading = false; adjacent = adjacent; is_open = is_open }
 
-record ClosedAt {d : Around} (t : Result State Fault) (tok : Tok) (r : List ℕ) (fs : List FlowLevel) (outer : Option Key) (ks : List (Option Key)) (p : Parts d) : Type 0 where
+record ClosedAt {d : Around} (t : Result ScannerState Fault) (tok : Tok) (r : List ℕ) (fs : List FlowLevel) (outer : Option Key) (ks : List (Option Key)) (p : Parts d) : Type 0 where
   place : Position
   fits : Fits d place
   adjacent : ℕ
@@ -184,7 +184,7 @@ close_at {d} mapping tok c b r fs outer ks p may fits loose solid =
     }
 
 -- A fetch took a closing bracket.
-pub record Closed (d : Around) (tok : Tok) (from : State) (r : List ℕ) (fs : List FlowLevel) (ks : List (Option Key)) (ts : List Token) : Type 0 where
+pub record Closed (d : Around) (tok : Tok) (from : ScannerState) (r : List ℕ) (fs : List FlowLevel) (ks : List (Option Key)) (ts : List Token) : Type 0 where
   pub place : Position
   pub fits : Fits d place
   pub at : Position
@@ -196,7 +196,7 @@ pub record Closed (d : Around) (tok : Tok) (from : State) (r : List ℕ) (fs : L
   pub may : MayStand d gap
   pub is : fetch from ≡ Ok (stands (spell_gap gap r) fs ks (outside d place (ts ++ token at tok ∷ []) key adjacent is_open))
 
-close_by : {d : Around} (mapping : Bool) (tok : Tok) (from : State) (c : ℕ) (b : List Blank) (r : List ℕ) (fs : List FlowLevel) (outer : Option Key) (ks : List (Option Key)) (q : Parts d) → MayStand d b → Fits d q.place → is_required q.key ≡ false → is_required outer ≡ false → is_solid r ≡ true → IsBottom d fs ks
+close_by : {d : Around} (mapping : Bool) (tok : Tok) (from : ScannerState) (c : ℕ) (b : List Blank) (r : List ℕ) (fs : List FlowLevel) (outer : Option Key) (ks : List (Option Key)) (q : Parts d) → MayStand d b → Fits d q.place → is_required q.key ≡ false → is_required outer ≡ false → is_solid r ≡ true → IsBottom d fs ks
     → fetch from ≡ (fetch_flow_collection_end tok (stands (c ∷ spell_gap b r) (level_of mapping ∷ fs) (outer ∷ ks) q) >>= try_held stale) → Closed d tok from r fs ks q.tokens
 close_by mapping tok from c b r fs outer ks q may fits loose loose_outer solid bottom e =
     let z = close_at mapping tok c b r fs outer ks q may fits loose solid in
@@ -213,7 +213,7 @@ close_run false g b r fs outer ks p may follows fits loose loose_outer solid bot
     let z = fetched g 93 (spell_gap b r) (Entry ∷ fs) (outer ∷ ks) p tt may fits loose refl refl in
     close_by false Tok.flow_sequence_end _ 93 b r fs outer ks _ follows z.fits z.loose loose_outer solid bottom z.is
 
-record EnteredAt {d : Around} (t : Result State Fault) (r : List ℕ) (fs : List FlowLevel) (ks : List (Option Key)) (p : Parts d) : Type 0 where
+record EnteredAt {d : Around} (t : Result ScannerState Fault) (r : List ℕ) (fs : List FlowLevel) (ks : List (Option Key)) (p : Parts d) : Type 0 where
   place : Position
   fits : Fits d place
   gap : List Blank
@@ -235,7 +235,7 @@ entry_at {d} mapping a r fs ks p may fits loose solid =
     }
 
 -- A fetch took a comma.
-pub record Entered (d : Around) (from : State) (r : List ℕ) (fs : List FlowLevel) (ks : List (Option Key)) (ts : List Token) : Type 0 where
+pub record Entered (d : Around) (from : ScannerState) (r : List ℕ) (fs : List FlowLevel) (ks : List (Option Key)) (ts : List Token) : Type 0 where
   pub place : Position
   pub fits : Fits d place
   pub at : Position

@@ -5,7 +5,7 @@ use Rattle.defs_token.specs.Token.{Tok, Token}
 use Rattle.defs_layout.specs.JsonGap.{Blank, spell_gap}
 use Rattle.defs_layout.specs.Json.{levels, spell, spell_text}
 use Rattle.defs_layout.specs.JsonTokens.{json_tokens, json_text_tokens}
-use Rattle.model_scanner.specs.State.{State, token}
+use Rattle.model_scanner.specs.State.{ScannerState, token}
 use Rattle.model_scanner.specs.Keys.{stale, drop_stale, is_required}
 use Rattle.model_scanner.specs.Indents.{unroll_indent, unrolled}
 use Rattle.model_scanner.specs.Document.{next_line, fetch_stream_start, fetch_stream_end}
@@ -33,7 +33,7 @@ unfolding fetch fetch_stream_start
 begins a = refl
 
 -- after the stream's end
-abbrev finished : Parts nothing → State
+abbrev finished : Parts nothing → ScannerState
 finished p = record {
   rest = [];
   held = record {
@@ -56,7 +56,7 @@ unfolding fetch_here fetch_stream_end unroll_indent unrolled
 end_here p n loose = rw loose refl
 
 -- A fetch found the end.
-record Finished (from : State) (ts : List Token) : Type 0 where
+record Finished (from : ScannerState) (ts : List Token) : Type 0 where
   parts : Parts nothing
   tokens : parts.tokens ≡ ts
   is : fetch from ≡ Ok (finished parts)

@@ -8,11 +8,11 @@ use Rattle.defs_token.specs.Token.{Tok, Style, Token}
 use Rattle.defs_layout.specs.JsonGap.{Blank, space, tab, line_feed, carriage_return, spell_gap}
 use Rattle.defs_layout.specs.JsonNumber.{Number, is_number, spell_number}
 use Rattle.defs_layout.specs.JsonString.{Piece, spell_string, are_pieces}
-use Rattle.defs_layout.specs.Json.{Json, false_word, null_word, true_word, number, string, empty_array, array, empty_object, object, Elements, last_element, element, Members, last_member, member, spell, spell_elements, spell_members, levels, element_levels, member_levels, IsGap, IsJson, AreElements, AreMembers}
+use Rattle.defs_layout.specs.Json.{Json, false_word, null_word, true_word, number, string, empty_array, array, empty_object, object, Elements, last_element, element, Members, last_member, member, spell, spell_elements, spell_members, levels, element_levels, member_levels, IsJsonGap, IsJson, AreElements, AreMembers}
 use Rattle.defs_layout.specs.JsonTokens.{string_token, json_tokens, element_tokens, member_tokens}
 use Rattle.model_scanner.specs.declared.level.FlowLevel.{FlowLevel}
 use Rattle.model_scanner.specs.declared.level.FlowLevel.TheVariants.{Mapping, Entry}
-use Rattle.model_scanner.specs.State.{Key, State, token, peek}
+use Rattle.model_scanner.specs.State.{Key, ScannerState, token, peek}
 use Rattle.model_scanner.specs.Keys.{is_required}
 use Rattle.model_scanner.specs.Document.{may_follow_quoted}
 use Rattle.model_scanner.specs.Run.{here, there}
@@ -42,12 +42,12 @@ key_tells ts n at key_at value_at t want e told =
 -- ---- brackets and commas
 
 -- The scanner stands later an opening bracket.
-record Inside (d : Around) (mapping : Bool) (from : State) (fs : List FlowLevel) (ks : List (Option Key)) (r : List ℕ) (want : List Tok → List Tok) : Type 0 where
+record Inside (d : Around) (mapping : Bool) (from : ScannerState) (fs : List FlowLevel) (ks : List (Option Key)) (r : List ℕ) (want : List Tok → List Tok) : Type 0 where
   outer : Option Key
   loose : is_required outer ≡ false
   ahead : Ahead d from (level_of mapping ∷ fs) (outer ∷ ks) r want
 
-opened : (d : Around) (mapping : Bool) (from : State) (a : List Blank) (r : List ℕ) (fs : List FlowLevel) (ks : List (Option Key)) (want : List Tok → List Tok) → IsBottom d fs ks → MayStand d a → is_solid r ≡ true → length fs < 255
+opened : (d : Around) (mapping : Bool) (from : ScannerState) (a : List Blank) (r : List ℕ) (fs : List FlowLevel) (ks : List (Option Key)) (want : List Tok → List Tok) → IsBottom d fs ks → MayStand d a → is_solid r ≡ true → length fs < 255
     → After d from fs ks (opening_bracket mapping ∷ spell_gap a r) want → Inside d mapping from fs ks r (λ o. want (opening mapping ∷ o))
 opened d mapping from a r fs ks want bottom may solid deep u =
     let z = open_run mapping u.gap a r fs ks u.parts bottom u.may may u.fits u.loose solid deep in
@@ -68,7 +68,7 @@ opened d mapping from a r fs ks want bottom may solid deep u =
       };
     }
 
-closed : (d : Around) (mapping : Bool) (from : State) (b : List Blank) (r : List ℕ) (fs : List FlowLevel) (outer : Option Key) (ks : List (Option Key)) (want : List Tok → List Tok) → IsBottom d fs ks → MayStand d b → Ends fs r → is_required outer ≡ false
+closed : (d : Around) (mapping : Bool) (from : ScannerState) (b : List Blank) (r : List ℕ) (fs : List FlowLevel) (outer : Option Key) (ks : List (Option Key)) (want : List Tok → List Tok) → IsBottom d fs ks → MayStand d b → Ends fs r → is_required outer ≡ false
     → After d from (level_of mapping ∷ fs) (outer ∷ ks) (closing_bracket mapping ∷ spell_gap b r) want → After d from fs ks r (λ o. want (closing mapping ∷ o))
 closed d mapping from b r fs outer ks want bottom may ends loose u =
     let z = close_run mapping u.gap b r fs outer ks u.parts u.may may u.fits u.loose loose (ends_solid fs r ends) bottom in
@@ -82,7 +82,7 @@ closed d mapping from b r fs outer ks want bottom may ends loose u =
       run = reaches_then u.run (there refl z.is here);
     }
 
-comma : (d : Around) (mapping : Bool) (from : State) (a : List Blank) (r : List ℕ) (fs : List FlowLevel) (ks : List (Option Key)) (want : List Tok → List Tok) → MayStand d a → is_solid r ≡ true
+comma : (d : Around) (mapping : Bool) (from : ScannerState) (a : List Blank) (r : List ℕ) (fs : List FlowLevel) (ks : List (Option Key)) (want : List Tok → List Tok) → MayStand d a → is_solid r ≡ true
     → After d from (level_of mapping ∷ fs) ks (44 ∷ spell_gap a r) want → Ahead d from (level_of mapping ∷ fs) ks r (λ o. want (Tok.flow_entry ∷ o))
 comma d mapping from a r fs ks want may solid u =
     let z = entry_run mapping u.gap a r fs ks u.parts u.may may u.fits u.loose solid in
@@ -126,7 +126,7 @@ members_solid (member k g h v a b ms) r = refl
 
 -- ---- scalars
 
-string_after : (d : Around) (ps : List Piece) (from : State) (b : List Blank) (r : List ℕ) (fs : List FlowLevel) (ks : List (Option Key)) (want : List Tok → List Tok) → are_pieces ps ≡ true → IsBottom d fs ks → MayStand d b → Ends fs r
+string_after : (d : Around) (ps : List Piece) (from : ScannerState) (b : List Blank) (r : List ℕ) (fs : List FlowLevel) (ks : List (Option Key)) (want : List Tok → List Tok) → are_pieces ps ≡ true → IsBottom d fs ks → MayStand d b → Ends fs r
     → After d from fs ks (spell_string ps (spell_gap b r)) want → After d from fs ks r (λ o. want (string_token ps ∷ o))
 string_after d ps from b r fs ks want pieces bottom may ends u =
     let z = string_run ps u.gap b r fs ks u.parts pieces bottom u.may may u.fits u.loose (ends_solid fs r ends) (ends_follow fs r ends) in
@@ -140,7 +140,7 @@ string_after d ps from b r fs ks want pieces bottom may ends u =
       run = reaches_then u.run (there refl z.is here);
     }
 
-word_after : (d : Around) (w : List ℕ) (from : State) (b : List Blank) (r : List ℕ) (fs : List FlowLevel) (ks : List (Option Key)) (want : List Tok → List Tok) → IsWord w → IsBottom d fs ks → MayStand d b → Ends fs r
+word_after : (d : Around) (w : List ℕ) (from : ScannerState) (b : List Blank) (r : List ℕ) (fs : List FlowLevel) (ks : List (Option Key)) (want : List Tok → List Tok) → IsWord w → IsBottom d fs ks → MayStand d b → Ends fs r
     → After d from fs ks (w ++ spell_gap b r) want → After d from fs ks r (λ o. want (Tok.scalar Style.plain w ∷ o))
 word_after d w from b r fs ks want word bottom may ends u =
     let z = word_run w u.gap b r fs ks u.parts word bottom u.may may u.fits u.loose ends in
@@ -157,7 +157,7 @@ word_after d w from b r fs ks want word bottom may ends u =
 -- ---- a key and its colon
 
 -- no tab comes next
-no_tab : (h : List Blank) (r : List ℕ) → IsGap h → is_solid r ≡ true → (peek (spell_gap h r) == 9) ≡ false
+no_tab : (h : List Blank) (r : List ℕ) → IsJsonGap h → is_solid r ≡ true → (peek (spell_gap h r) == 9) ≡ false
 no_tab [] [] gap solid = refl
 no_tab [] (c ∷ a) gap solid = (content c solid).common.tab
 no_tab (space ∷ h) r gap solid = refl
@@ -169,7 +169,7 @@ colon_follows : (fs : List FlowLevel) (a : List ℕ) → MayFollow (Mapping ∷ 
 unfolding may_follow_quoted is_break
 colon_follows fs a = λ same_line. refl
 
-key_after : (d : Around) (ps : List Piece) (from : State) (g h : List Blank) (r : List ℕ) (fs : List FlowLevel) (ks : List (Option Key)) (want : List Tok → List Tok) → are_pieces ps ≡ true → IsGap h → MayStand d g → MayStand d h → is_solid r ≡ true
+key_after : (d : Around) (ps : List Piece) (from : ScannerState) (g h : List Blank) (r : List ℕ) (fs : List FlowLevel) (ks : List (Option Key)) (want : List Tok → List Tok) → are_pieces ps ≡ true → IsJsonGap h → MayStand d g → MayStand d h → is_solid r ≡ true
     → Ahead d from (Mapping ∷ fs) ks (spell_string ps (spell_gap g (58 ∷ spell_gap h r))) want → After d from (Mapping ∷ fs) ks r (λ o. want (Tok.key ∷ string_token ps ∷ Tok.value ∷ o))
 key_after d ps from g h r fs ks want pieces gap before later solid u =
     let p = u.after.parts in
@@ -190,15 +190,15 @@ key_after d ps from g h r fs ks want pieces gap before later solid u =
 -- ---- what each run does, and how runs are put together
 
 abbrev pub Runs : Around → Json → Type 0
-Runs d v = (from : State) (b : List Blank) (r : List ℕ) (fs : List FlowLevel) (ks : List (Option Key)) (want : List Tok → List Tok) → IsBottom d fs ks → MayStand d b → Ends fs r → length fs + levels v ≤ 255
+Runs d v = (from : ScannerState) (b : List Blank) (r : List ℕ) (fs : List FlowLevel) (ks : List (Option Key)) (want : List Tok → List Tok) → IsBottom d fs ks → MayStand d b → Ends fs r → length fs + levels v ≤ 255
     → After d from fs ks (spell v (spell_gap b r)) want → After d from fs ks r (λ o. want (json_tokens v o))
 
 abbrev pub RunsElements : Around → Elements → Type 0
-RunsElements d es = (from : State) (r : List ℕ) (fs : List FlowLevel) (ks : List (Option Key)) (want : List Tok → List Tok) → length fs + 1 + element_levels es ≤ 255
+RunsElements d es = (from : ScannerState) (r : List ℕ) (fs : List FlowLevel) (ks : List (Option Key)) (want : List Tok → List Tok) → length fs + 1 + element_levels es ≤ 255
     → After d from (Entry ∷ fs) ks (spell_elements es (93 ∷ r)) want → After d from (Entry ∷ fs) ks (93 ∷ r) (λ o. want (element_tokens es o))
 
 abbrev pub RunsMembers : Around → Members → Type 0
-RunsMembers d ms = (from : State) (r : List ℕ) (fs : List FlowLevel) (ks : List (Option Key)) (want : List Tok → List Tok) → length fs + 1 + member_levels ms ≤ 255
+RunsMembers d ms = (from : ScannerState) (r : List ℕ) (fs : List FlowLevel) (ks : List (Option Key)) (want : List Tok → List Tok) → length fs + 1 + member_levels ms ≤ 255
     → Ahead d from (Mapping ∷ fs) ks (spell_members ms (125 ∷ r)) want → After d from (Mapping ∷ fs) ks (125 ∷ r) (λ o. want (member_tokens ms o))
 
 number_runs : (d : Around) (n : Number) → is_number n ≡ true → Runs d (number n)
@@ -226,7 +226,7 @@ object_runs d g ms gap all from b r fs ks want bottom may ends deep u =
     closed d true from b r fs z.outer ks _ bottom may ends z.loose (all from (spell_gap b r) fs (z.outer ∷ ks) _ (omega arith) z.ahead)
 
 -- a value inside flow
-inner : (d : Around) (v : Json) (f : FlowLevel) (from : State) (b : List Blank) (r : List ℕ) (fs : List FlowLevel) (ks : List (Option Key)) (want : List Tok → List Tok) → Runs d v → MayStand d b → Ends (f ∷ fs) r → length fs + 1 + levels v ≤ 255
+inner : (d : Around) (v : Json) (f : FlowLevel) (from : ScannerState) (b : List Blank) (r : List ℕ) (fs : List FlowLevel) (ks : List (Option Key)) (want : List Tok → List Tok) → Runs d v → MayStand d b → Ends (f ∷ fs) r → length fs + 1 + levels v ≤ 255
     → After d from (f ∷ fs) ks (spell v (spell_gap b r)) want → After d from (f ∷ fs) ks r (λ o. want (json_tokens v o))
 inner d v f from b r fs ks want one may ends deep u = let few : length (f ∷ fs) + levels v ≤ 255 = omega arith in one from b r (f ∷ fs) ks want tt may ends few u
 
@@ -239,12 +239,12 @@ element_runs d v a b es before later are one all from r fs ks want deep u =
     let y = comma d false from b (spell_elements es (93 ∷ r)) fs ks _ later (elements_solid es _ are) z in
     all from r fs ks _ (omega arith) y.after
 
-last_member_runs : (d : Around) (k : List Piece) (g h : List Blank) (v : Json) (a : List Blank) → are_pieces k ≡ true → IsGap h → IsJson v → (IsLine d → MembersHaveSpaces (last_member k g h v a)) → Runs d v → RunsMembers d (last_member k g h v a)
+last_member_runs : (d : Around) (k : List Piece) (g h : List Blank) (v : Json) (a : List Blank) → are_pieces k ≡ true → IsJsonGap h → IsJson v → (IsLine d → MembersHaveSpaces (last_member k g h v a)) → Runs d v → RunsMembers d (last_member k g h v a)
 last_member_runs d k g h v a pieces gap is may one from r fs ks want deep u =
     let z = key_after d k from g h (spell v (spell_gap a (125 ∷ r))) fs ks want pieces gap (λ l. (may l).0) (λ l. (may l).1) (value_solid v _ is) u in
     inner d v Mapping from a (125 ∷ r) fs ks _ one (λ l. (may l).3) at_brace deep z
 
-member_runs : (d : Around) (k : List Piece) (g h : List Blank) (v : Json) (a b : List Blank) (ms : Members) → are_pieces k ≡ true → IsGap h → IsJson v → (IsLine d → MembersHaveSpaces (member k g h v a b ms)) → Runs d v → RunsMembers d ms
+member_runs : (d : Around) (k : List Piece) (g h : List Blank) (v : Json) (a b : List Blank) (ms : Members) → are_pieces k ≡ true → IsJsonGap h → IsJson v → (IsLine d → MembersHaveSpaces (member k g h v a b ms)) → Runs d v → RunsMembers d ms
     → RunsMembers d (member k g h v a b ms)
 member_runs d k g h v a b ms pieces gap is may one all from r fs ks want deep u =
     let x = spell_gap a (44 ∷ spell_gap b (spell_members ms (125 ∷ r))) in

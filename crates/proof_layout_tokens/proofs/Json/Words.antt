@@ -4,13 +4,13 @@ use Rattle.std.proofs.lemmas.Bool.{and_parts, not-true}
 use Rattle.std.proofs.lemmas.Bool.Decides.{nat_tests}
 use Rattle.defs_text.specs.Position.{Position}
 use Rattle.yaml_chars.specs.Class.{is_break, is_blank, is_flow}
-use Rattle.defs_text.specs.Text.{is_nil}
+use Rattle.defs_text.specs.Text.{is_empty}
 use Rattle.yaml_tokens.specs.declared.problem.Fault.{Fault}
 use Rattle.defs_layout.specs.JsonGap.{Blank, space, tab, line_feed, carriage_return, spell_gap}
 use Rattle.model_lexers.specs.declared.context.Context.{Context}
 use Rattle.model_lexers.specs.Machine.{Read, past, past_break, at_marker, is_marker}
 use Rattle.model_lexers.specs.Folding.{Folded}
-use Rattle.model_lexers.specs.Plain.{State, Plain, inside, between, plain, plain_from, can_be_plain, starts, at_dash, at_plain, goes_on, is_shallow, ends_run}
+use Rattle.model_lexers.specs.Plain.{PlainState, Plain, inside, between, plain, plain_from, can_be_plain, starts, at_dash, at_plain, goes_on, is_shallow, ends_run}
 use Rattle.model_lexers.proofs.PlainLemmas.{run_end}
 use Rattle.model_scanner.specs.declared.class.Class.TheVariants.{Other}
 use Rattle.model_scanner.specs.declared.level.FlowLevel.{FlowLevel}
@@ -64,7 +64,7 @@ unfolding class_of
 word_class c h e = grind (arith, nat_tests)
 
 abbrev pub context_of : Around → (is_open : Bool) → List FlowLevel → Context
-context_of d b fs = record { flow = not (is_nil fs); indent = indent_of d b }
+context_of d b fs = record { flow = not (is_empty fs); indent = indent_of d b }
 
 -- The scan stands after a text, at r.
 pub record Ended (d : Around) (t : Result (Read Plain) Fault) (text r : List ℕ) : Type 0 where
@@ -81,14 +81,14 @@ stop d fs r start p t at_comma = rw (and_false (p.col == 0)) refl
 stop d fs r start p t at_bracket = rw (and_false (p.col == 0)) refl
 stop d fs r start p t at_brace = rw (and_false (p.col == 0)) refl
 
-either : (d : Around) (ctx : Context) (start : Position) (a text r : List ℕ) (b : Bool) (s u : State) → Ended d (plain_from ctx start a s) text r → Ended d (plain_from ctx start a u) text r
+either : (d : Around) (ctx : Context) (start : Position) (a text r : List ℕ) (b : Bool) (s u : PlainState) → Ended d (plain_from ctx start a s) text r → Ended d (plain_from ctx start a u) text r
     → Ended d (plain_from ctx start a (if b then s else u)) text r
 either d ctx start a text r true s u y z = y
 either d ctx start a text r false s u y z = z
 
 -- where white space is passed over, in a new line or not
 module _ (d : Around) (fs : List FlowLevel) (r : List ℕ) (start : Position) (ends : Ends fs r) where
-  abbrev at : Position → List ℕ → List ℕ → Bool → Bool → State
+  abbrev at : Position → List ℕ → List ℕ → Bool → Bool → PlainState
   at p text gap leading escaped = record { mode = between; place = p; folded = record { text = text; gap = gap; leading = leading; escaped = escaped } }
 
   gap_end : (b : List Blank) (p : Position) (text gap : List ℕ) (leading escaped : Bool) → MayStand d b → Fits d p → Ended d (plain_from (context_of d false fs) start (spell_gap b r) (at p text gap leading escaped)) text r
@@ -119,13 +119,13 @@ run_ends d fs (tab ∷ b) r e = refl
 run_ends d fs (line_feed ∷ b) r e = refl
 run_ends d fs (carriage_return ∷ b) r e = refl
 
-abbrev reading : Position → List ℕ → State
+abbrev reading : Position → List ℕ → PlainState
 reading p text = record { mode = inside; place = p; folded = record { text = text; gap = []; leading = false; escaped = false } }
 
 one_char : (d : Around) (fs : List FlowLevel) (start : Position) (c : ℕ) (a : List ℕ) (p : Position) (text : List ℕ) → WordChar c
     → plain_from (context_of d false fs) start (c ∷ a) (reading p text) ≡ plain_from (context_of d false fs) start a (reading (past p) (text ++ c ∷ []))
 unfolding can_be_plain
-one_char d fs start c a p text z = rw (z.break, z.blank, z.colon, z.flow, and_false (not (is_nil fs))) refl
+one_char d fs start c a p text z = rw (z.break, z.blank, z.colon, z.flow, and_false (not (is_empty fs))) refl
 
 chars : (d : Around) (fs : List FlowLevel) (b : List Blank) (r : List ℕ) (start : Position) → Ends fs r → MayStand d b → (w : List ℕ) (p : Position) (text : List ℕ) → Fits d p → are_words w ≡ true
     → Ended d (plain_from (context_of d false fs) start (w ++ spell_gap b r) (reading p text)) (text ++ w) r
@@ -153,5 +153,5 @@ word_read d fs [] b r p ends word may fits = cc (word.begins)
 word_read d fs (c ∷ w) b r p ends word may fits =
     let q = and_parts (is_word c) (are_words w) word.chars in
     let z = chars d fs b r p ends may w (past p) (c ∷ []) (fits_past d p fits) q.1 in
-    let e = no_dash (not (is_nil fs)) c w (spell_gap b r) word.chars word.begins in
-    record { place = z.place; fits = z.fits; leading = z.leading; is = rw (less d p fits, and_false (not (is_nil fs)), e) z.is }
+    let e = no_dash (not (is_empty fs)) c w (spell_gap b r) word.chars word.begins in
+    record { place = z.place; fits = z.fits; leading = z.leading; is = rw (less d p fits, and_false (not (is_empty fs)), e) z.is }

@@ -16,8 +16,9 @@ use Rattle.model_lexers.specs.Space.{linebreak}
 use Rattle.model_lexers.specs.Block.{block, header}
 use Rattle.proof_lexers.specs.HeaderEnds as header_ends
 use Rattle.proof_lexers.specs.HeaderEnds.{indicator_of, is_in_line, ends_line, along, read_header, reads, tabbed, zero_digit, comment, no_header}
-use Rattle.proof_lexers.specs.BlockScan.{collection_by, is_literal, is_some, IsRead}
-use Rattle.proof_lexers.specs.BlockEnds.{EndsAs, scalar, bad_header}
+use Rattle.proof_lexers.specs.BlockScan.{is_literal_style, is_some, IsRead}
+use Rattle.proof_lexers.specs.PlainEnds.{collection_of}
+use Rattle.proof_lexers.specs.BlockEnds.{BlockEndsAs, scalar, bad_header}
 use Rattle.proof_lexers.specs.BlockLaws.{BlockScansEndAsTheirTextSays}
 use Rattle.proof_lexers.proofs.Blocks.Written.{Break, feed, carriage, both, Line, put, spell, texts, Fits, AreLines, Lined, lined, split_spell}
 use Rattle.proof_lexers.proofs.Blocks.Headers.{headers_end}
@@ -77,13 +78,13 @@ are_less [] next are = tt
 are_less (l ∷ ls) next are = (are.0, fits_less l.by ls next are.1, are_less ls next are.2)
 
 -- the column of a piece is that of the whole text
-part_column : (digit : Option ℕ) (indent : ℕ) (ls ns : List Line) (e : List ℕ) → is_further_text (column_by digit (collection_by indent) (texts (ls ++ ns) ++ e ∷ [])) (spell ns e) ≡ true
-    → column_by digit (collection_by indent) (texts (ls ++ ns) ++ e ∷ []) ≡ column_by digit (collection_by indent) (texts ls)
+part_column : (digit : Option ℕ) (indent : ℕ) (ls ns : List Line) (e : List ℕ) → is_further_text (column_by digit (collection_of indent) (texts (ls ++ ns) ++ e ∷ [])) (spell ns e) ≡ true
+    → column_by digit (collection_of indent) (texts (ls ++ ns) ++ e ∷ []) ≡ column_by digit (collection_of indent) (texts ls)
 part_column (Some d) indent ls ns e further = refl
 part_column None indent ls ns e further =
     let joined : texts (ls ++ ns) ++ e ∷ [] ≡ texts ls ++ (texts ns ++ e ∷ []) = ap (λ x. x ++ e ∷ []) (texts_append ls ns) ∙ append_assoc (texts ls) (texts ns) (e ∷ []) in
-    let there : Deep (max (deepest_start (texts ls ++ (texts ns ++ e ∷ []))) (least_column (collection_by indent))) (deepest_start (texts ns ++ e ∷ [])) = rw (← joined) (deep_next _ ns e further) in
-    ap (λ x. max (deepest_start x) (least_column (collection_by indent))) joined ∙ same_column_back (texts ls) (texts ns ++ e ∷ []) (least_column (collection_by indent)) there
+    let there : Deep (max (deepest_start (texts ls ++ (texts ns ++ e ∷ []))) (least_column (collection_of indent))) (deepest_start (texts ns ++ e ∷ [])) = rw (← joined) (deep_next _ ns e further) in
+    ap (λ x. max (deepest_start x) (least_column (collection_of indent))) joined ∙ same_column_back (texts ls) (texts ns ++ e ∷ []) (least_column (collection_of indent)) there
 
 -- ---- the two ends
 
@@ -99,36 +100,36 @@ header_fails literal indent c text p f e = rw e refl
 
 module _ (style : BlockStyle) (indent : ℕ) (p : Position) where
   abbrev Ends : List ℕ → Type 0
-  Ends text = EndsAs style indent p text (block (is_literal style) indent (indicator_of style ∷ text) p)
+  Ends text = BlockEndsAs style indent p text (block (is_literal_style style) indent (indicator_of style ∷ text) p)
 
-  by_header : (line after : List ℕ) → is_in_line line ≡ true → ends_line after ≡ true → header_ends.EndsAs p style line after (header p (line ++ after) (past p))
+  by_header : (line after : List ℕ) → is_in_line line ≡ true → ends_line after ≡ true → header_ends.HeaderEndsAs p style line after (header p (line ++ after) (past p))
       → ((h : defs.Header) → header_of (indicator_of style ∷ line) ≡ Some h → begins_with tab (linebreak after p).rest ≡ false → Ends (line ++ after)) → Ends (line ++ after)
   by_header line after inner at_end (reads h f t e) go = go h f t
   by_header line after inner at_end (tabbed h f t e) go =
-      bad_header line after (At problem.BlockScalarTab p) refl inner at_end (tabbed h f t refl) (header_fails (is_literal style) indent (indicator_of style) (line ++ after) p (At problem.BlockScalarTab p) e)
+      bad_header line after (At problem.BlockScalarTab p) refl inner at_end (tabbed h f t refl) (header_fails (is_literal_style style) indent (indicator_of style) (line ++ after) p (At problem.BlockScalarTab p) e)
   by_header line after inner at_end (zero_digit f z e) go =
-      bad_header line after (At problem.BlockScalarZero p) refl inner at_end (zero_digit f z refl) (header_fails (is_literal style) indent (indicator_of style) (line ++ after) p (At problem.BlockScalarZero p) e)
+      bad_header line after (At problem.BlockScalarZero p) refl inner at_end (zero_digit f z refl) (header_fails (is_literal_style style) indent (indicator_of style) (line ++ after) p (At problem.BlockScalarZero p) e)
   by_header line after inner at_end (comment g b t f w c e) go =
-      bad_header line after (At problem.CommentNotSeparated (along b (past p))) refl inner at_end (comment g b t f w c refl) (header_fails (is_literal style) indent (indicator_of style) (line ++ after) p (At problem.CommentNotSeparated (along b (past p))) e)
+      bad_header line after (At problem.CommentNotSeparated (along b (past p))) refl inner at_end (comment g b t f w c refl) (header_fails (is_literal_style style) indent (indicator_of style) (line ++ after) p (At problem.CommentNotSeparated (along b (past p))) e)
   by_header line after inner at_end (no_header f e) go =
-      bad_header line after (At problem.BlockScalarHeader p) refl inner at_end (no_header f refl) (header_fails (is_literal style) indent (indicator_of style) (line ++ after) p (At problem.BlockScalarHeader p) e)
+      bad_header line after (At problem.BlockScalarHeader p) refl inner at_end (no_header f refl) (header_fails (is_literal_style style) indent (indicator_of style) (line ++ after) p (At problem.BlockScalarHeader p) e)
 
   -- a piece that is a block scalar
   found : (text piece next : List ℕ) (h : defs.Header) (line : List ℕ) (b : BlockRead) → header_of (indicator_of style ∷ line) ≡ Some h → h.style ≡ b.style → indicator_of style ∷ text ≡ piece ++ next → list_all is_some next ≡ true
-      → block_read (collection_by indent) piece next ≡ Some b → Ends text
+      → block_read (collection_of indent) piece next ≡ Some b → Ends text
   found text piece next h line b is same cut some value =
       let z = said (indicator_of style) line h is in
       let own : b.style ≡ style = sym same ∙ sym (style_same style h.style z.begins) in
-      let it : IsRead indent p b piece next (block (is_literal b.style) indent (piece ++ next) p) = pieces_are_read indent piece next p b some value in
-      let so : IsRead indent p b piece next (block (is_literal style) indent (indicator_of style ∷ text) p) = subst (λ (a : List ℕ). IsRead indent p b piece next (block (is_literal style) indent a p)) (sym cut) (subst (λ (s : BlockStyle). IsRead indent p b piece next (block (is_literal s) indent (piece ++ next) p)) own it) in
+      let it : IsRead indent p b piece next (block (is_literal_style b.style) indent (piece ++ next) p) = pieces_are_read indent piece next p b some value in
+      let so : IsRead indent p b piece next (block (is_literal_style style) indent (indicator_of style ∷ text) p) = subst (λ (a : List ℕ). IsRead indent p b piece next (block (is_literal_style style) indent a p)) (sym cut) (subst (λ (s : BlockStyle). IsRead indent p b piece next (block (is_literal_style s) indent (piece ++ next) p)) own it) in
       scalar piece next b cut value own so
 
   -- ---- a header alone
 
   alone_value : (line : List ℕ) (h : defs.Header) → is_in_line line ≡ true → header_of (indicator_of style ∷ line) ≡ Some h
-      → block_read (collection_by indent) (indicator_of style ∷ line) [] ≡ Some (record { style = h.style; column = 0; text = [] })
+      → block_read (collection_of indent) (indicator_of style ∷ line) [] ≡ Some (record { style = h.style; column = 0; text = [] })
   alone_value line h inner is =
-      ap (λ s. read_split (collection_by indent) s []) (split_spell [] (indicator_of style ∷ line) tt (style_inner style line inner)) ∙ rw is refl
+      ap (λ s. read_split (collection_of indent) s []) (split_spell [] (indicator_of style ∷ line) tt (style_inner style line inner)) ∙ rw is refl
 
   alone : (line : List ℕ) → is_in_line line ≡ true → Ends (line ++ [])
   alone line inner = by_header line [] inner refl (headers_end style line [] p inner refl) (λ h is t. one h is)
@@ -141,25 +142,25 @@ module _ (style : BlockStyle) (indent : ℕ) (p : Position) where
   module _ (line : List ℕ) (k : Break) (ls : List Line) (last : List ℕ) (inner : is_in_line line ≡ true) (fits : Fits k (spell ls last)) (are : AreLines ls last) (last_inner : is_in_line last ≡ true)
       (h : defs.Header) (is : header_of (indicator_of style ∷ line) ≡ Some h) (tabless : begins_with tab (spell ls last) ≡ false) (some : list_all is_some (spell ls last) ≡ true) where
     abbrev column : ℕ
-    column = column_by h.digit (collection_by indent) (texts ls ++ last ∷ [])
+    column = column_by h.digit (collection_of indent) (texts ls ++ last ∷ [])
 
     end_value : (rs : List Row) (r : Row) → rows_of column (texts ls) ≡ Some rs → row_of column last ≡ Some r
-        → block_read (collection_by indent) (indicator_of style ∷ (line ++ put k (spell ls last))) [] ≡ Some (record { style = h.style; column = column; text = value_before_end h column rs last r })
+        → block_read (collection_of indent) (indicator_of style ∷ (line ++ put k (spell ls last))) [] ≡ Some (record { style = h.style; column = column; text = value_before_end h column rs last r })
     end_value rs r rows row =
         let cut = split_spell (record { text = indicator_of style ∷ line; by = k } ∷ ls) last (style_inner style line inner, fits, are) last_inner in
         let tab_free : starts_with_tab (texts ls ++ last ∷ []) ≡ false = sym (tab_whole ls last) ∙ tabless in
-        ap (λ s. read_split (collection_by indent) s []) cut ∙ ap (λ o. read_body o (collection_by indent) (body (texts ls) (unbroken last)) []) is ∙ rw (tab_free, rows, row) refl
+        ap (λ s. read_split (collection_of indent) s []) cut ∙ ap (λ o. read_body o (collection_of indent) (body (texts ls) (unbroken last)) []) is ∙ rw (tab_free, rows, row) refl
 
-    text_value : (own ns : List Line) (rs : List Row) → ls ≡ own ++ ns → rows_of column (texts own) ≡ Some rs → is_further_text column (spell ns last) ≡ true → column ≡ column_by h.digit (collection_by indent) (texts own)
+    text_value : (own ns : List Line) (rs : List Row) → ls ≡ own ++ ns → rows_of column (texts own) ≡ Some rs → is_further_text column (spell ns last) ≡ true → column ≡ column_by h.digit (collection_of indent) (texts own)
         → AreLines own [] → Fits k (spell own []) → starts_with_tab (texts own) ≡ false → is_at_end (spell ns last) ≡ false
-        → block_read (collection_by indent) (indicator_of style ∷ (line ++ put k (spell own []))) (spell ns last) ≡ Some (record { style = h.style; column = column_by h.digit (collection_by indent) (texts own); text = value_before_text h rs })
+        → block_read (collection_of indent) (indicator_of style ∷ (line ++ put k (spell own []))) (spell ns last) ≡ Some (record { style = h.style; column = column_by h.digit (collection_of indent) (texts own); text = value_before_text h rs })
     text_value own ns rs split_at rows further same are_own fits_own tab_free not_end =
         let cut = split_spell (record { text = indicator_of style ∷ line; by = k } ∷ own) [] (style_inner style line inner, fits_own, are_own) refl in
-        let rows_here : rows_of (column_by h.digit (collection_by indent) (texts own)) (texts own) ≡ Some rs = rw (← same) rows in
-        let further_here : is_further_text (column_by h.digit (collection_by indent) (texts own)) (spell ns last) ≡ true = rw (← same) further in
-        ap (λ s. read_split (collection_by indent) s (spell ns last)) cut
-        ∙ ap (λ t. read_lines (collection_by indent) ((indicator_of style ∷ line) ∷ texts own) [] (spell ns last) t) not_end
-        ∙ ap (λ o. read_body o (collection_by indent) (body (texts own) further_text) (spell ns last)) is
+        let rows_here : rows_of (column_by h.digit (collection_of indent) (texts own)) (texts own) ≡ Some rs = rw (← same) rows in
+        let further_here : is_further_text (column_by h.digit (collection_of indent) (texts own)) (spell ns last) ≡ true = rw (← same) further in
+        ap (λ s. read_split (collection_of indent) s (spell ns last)) cut
+        ∙ ap (λ t. read_lines (collection_of indent) ((indicator_of style ∷ line) ∷ texts own) [] (spell ns last) t) not_end
+        ∙ ap (λ o. read_body o (collection_of indent) (body (texts own) further_text) (spell ns last)) is
         ∙ rw (not_end, further_here, tab_free, rows_here) refl
 
     to_text : (own ns : List Line) (rs : List Row) → ls ≡ own ++ ns → rows_of column (texts own) ≡ Some rs → is_further_text column (spell ns last) ≡ true → Ends (line ++ put k (spell ls last))
@@ -167,8 +168,8 @@ module _ (style : BlockStyle) (indent : ℕ) (p : Position) where
         let joined : spell ls last ≡ spell own (spell ns last) = ap (λ x. spell x last) split_at ∙ spell_append own ns last in
         let some_next_text : list_all is_some (spell ns last) ≡ true = (line_parts column own (spell ns last) (rw (← joined) some)).1 in
         let are_own : AreLines own (spell ns last) = are_first own ns last (rw (← split_at) are) in
-        let column_is : column ≡ column_by h.digit (collection_by indent) (texts (own ++ ns) ++ last ∷ []) = ap (λ x. column_by h.digit (collection_by indent) (texts x ++ last ∷ [])) split_at in
-        let same : column ≡ column_by h.digit (collection_by indent) (texts own) = column_is ∙ part_column h.digit indent own ns last (rw (← column_is) further) in
+        let column_is : column ≡ column_by h.digit (collection_of indent) (texts (own ++ ns) ++ last ∷ []) = ap (λ x. column_by h.digit (collection_of indent) (texts x ++ last ∷ [])) split_at in
+        let same : column ≡ column_by h.digit (collection_of indent) (texts own) = column_is ∙ part_column h.digit indent own ns last (rw (← column_is) further) in
         let fits_own : Fits k (spell own []) = fits_less k own (spell ns last) (rw (← joined) fits) in
         let tab_there : begins_with tab (spell own (spell ns last)) ≡ false = rw (← joined) tabless in
         let not_end = further_not_end column (spell ns last) further some_next_text in
@@ -198,5 +199,5 @@ module _ (style : BlockStyle) (indent : ℕ) (p : Position) where
 pub scans_end : BlockScansEndAsTheirTextSays
 scans_end style indent text p some = by (lined text)
   where
-    by : Lined text → EndsAs style indent p text (block (is_literal style) indent (indicator_of style ∷ text) p)
+    by : Lined text → BlockEndsAs style indent p text (block (is_literal_style style) indent (indicator_of style ∷ text) p)
     by z = rw (z.is) (of_lines style indent p z.lines z.last z.are z.inner (rw (← z.is) some))

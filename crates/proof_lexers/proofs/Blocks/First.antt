@@ -8,7 +8,8 @@ use Rattle.defs_scalar.specs.BlockScalar.{is_spaces, leading_spaces, deepest_sta
 use Rattle.model_lexers.specs.Machine.{Read, past}
 use Rattle.model_lexers.specs.Block.{Column, First, first_indent, indent_from, content, at_least}
 use Rattle.proof_lexers.specs.HeaderEnds.{is_in_line, along}
-use Rattle.proof_lexers.specs.BlockScan.{collection_by, digit_by}
+use Rattle.proof_lexers.specs.BlockScan.{digit_by}
+use Rattle.proof_lexers.specs.PlainEnds.{collection_of}
 use Rattle.proof_lexers.specs.BlockLaws.{FirstLinesGiveTheColumn}
 use Rattle.proof_lexers.proofs.Blocks.InLine.{first_inner}
 use Rattle.proof_lexers.proofs.Blocks.Written.{Break, feed, carriage, both, Line, put, spell, texts, Fits, AreLines, Lined, lined, split_spell}
@@ -110,13 +111,13 @@ first_is_indent column (l ∷ ls) last most p b col are inner le = by (is_spaces
 -- ---- with a digit and without one
 
 abbrev pub column_for : (indent increment : ℕ) → List Line → List ℕ → ℕ
-column_for indent increment ls last = column_by (digit_by increment) (collection_by indent) (texts ls ++ last ∷ [])
+column_for indent increment ls last = column_by (digit_by increment) (collection_of indent) (texts ls ++ last ∷ [])
 
-least_is : (indent : ℕ) → least_column (collection_by indent) ≡ indent
+least_is : (indent : ℕ) → least_column (collection_of indent) ≡ indent
 least_is zero = refl
 least_is (suc n) = refl
 
-base_is : (indent : ℕ) → digit_base (collection_by indent) ≡ indent - 1
+base_is : (indent : ℕ) → digit_base (collection_of indent) ≡ indent - 1
 base_is zero = refl
 base_is (suc n) = omega arith
 
@@ -138,8 +139,8 @@ content_is indent (suc n) ls last p col are inner = ap (λ k. indent_from (k + s
 pub first_lines : FirstLinesGiveTheColumn
 first_lines indent increment text p col = of_lines (lined text)
   where
-    of_lines : Lined text → (content indent increment text p).value.column ≡ column_by (digit_by increment) (collection_by indent) (all_lines (split text).complete (unbroken (split text).last))
+    of_lines : Lined text → (content indent increment text p).value.column ≡ column_by (digit_by increment) (collection_of indent) (all_lines (split text).complete (unbroken (split text).last))
     of_lines z =
         let cut : split text ≡ record { complete = texts z.lines; last = z.last } = ap split z.is ∙ split_spell z.lines z.last z.are z.inner in
         ap (λ a. (content indent increment a p).value.column) z.is ∙ ap (λ (r : Read Column). r.value.column) (content_is indent increment z.lines z.last p col z.are z.inner)
-        ∙ ap (λ (s : Split). column_by (digit_by increment) (collection_by indent) (all_lines s.complete (unbroken s.last))) (sym cut)
+        ∙ ap (λ (s : Split). column_by (digit_by increment) (collection_of indent) (all_lines s.complete (unbroken s.last))) (sym cut)

@@ -14,7 +14,7 @@ use Rattle.defs_scalar.specs.BlockScalar.{BlockStyle, literal, folded, clip, sig
 use Rattle.model_lexers.specs.Machine.{past}
 use Rattle.model_lexers.specs.Space.{linebreak}
 use Rattle.model_lexers.specs.Block.{header}
-use Rattle.proof_lexers.specs.HeaderEnds.{indicator_of, digit_or_zero, is_in_line, ends_line, along, read_header, EndsAs, reads, tabbed, zero_digit, comment, no_header}
+use Rattle.proof_lexers.specs.HeaderEnds.{indicator_of, digit_or_zero, is_in_line, ends_line, along, read_header, HeaderEndsAs, reads, tabbed, zero_digit, comment, no_header}
 use Rattle.proof_lexers.specs.BlockScan.{digit_by}
 use Rattle.proof_lexers.proofs.Blocks.Headers.{headers_end}
 use Rattle.proof_lexers.proofs.Blocks.Written.{Break, feed, carriage, both, put, Fits}
@@ -99,7 +99,7 @@ module _ (h : defs.Header) (line after : List ℕ) (p : Position) (is : header_o
   pub header_reads : is_in_line line ≡ true → ends_line after ≡ true → begins_with tab (linebreak after p).rest ≡ false → header p (line ++ after) (past p) ≡ Ok (read_header h after (along line (past p)))
   header_reads inner ends still = by (headers_end h.style line after p inner ends)
     where
-      by : EndsAs p h.style line after (header p (line ++ after) (past p)) → header p (line ++ after) (past p) ≡ Ok (read_header h after (along line (past p)))
+      by : HeaderEndsAs p h.style line after (header p (line ++ after) (past p)) → header p (line ++ after) (past p) ≡ Ok (read_header h after (along line (past p)))
       by (reads g f t e) = let same : g ≡ h = (let x : Some g ≡ Some h = sym f ∙ is in cc) in e ∙ ap (λ k. Ok (read_header k after (along line (past p)))) same
       by (tabbed g f t e) = let no : true ≡ false = sym t ∙ still in cc
       by (zero_digit f z e) = let no : None ≡ Some h = sym f ∙ is in cc
@@ -109,7 +109,7 @@ module _ (h : defs.Header) (line after : List ℕ) (p : Position) (is : header_o
   pub header_tabs : is_in_line line ≡ true → ends_line after ≡ true → begins_with tab (linebreak after p).rest ≡ true → header p (line ++ after) (past p) ≡ Err (At problem.BlockScalarTab p)
   header_tabs inner ends still = by (headers_end h.style line after p inner ends)
     where
-      by : EndsAs p h.style line after (header p (line ++ after) (past p)) → header p (line ++ after) (past p) ≡ Err (At problem.BlockScalarTab p)
+      by : HeaderEndsAs p h.style line after (header p (line ++ after) (past p)) → header p (line ++ after) (past p) ≡ Err (At problem.BlockScalarTab p)
       by (reads g f t e) = let no : false ≡ true = sym t ∙ still in cc
       by (tabbed g f t e) = e
       by (zero_digit f z e) = let no : None ≡ Some h = sym f ∙ is in cc

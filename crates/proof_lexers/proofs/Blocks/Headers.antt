@@ -20,7 +20,7 @@ use Rattle.model_lexers.specs.Machine.{Read, past, and_then, skip_while}
 use Rattle.model_lexers.specs.Space.{space_from, space, linebreak, is_line}
 use Rattle.model_lexers.specs.Block.{chomping, increment, indicators, late_chomping, with_chomping, header_break, header_end, header, with_indicators}
 use Rattle.proof_lexers.proofs.Bridges.{same_break, same_blank}
-use Rattle.proof_lexers.specs.HeaderEnds.{indicator_of, chomping_of, indicators_of, is_in_line, ends_line, along, is_sign, has_zero, EndsAs, reads, tabbed, zero_digit, comment, no_header}
+use Rattle.proof_lexers.specs.HeaderEnds.{indicator_of, chomping_of, indicators_of, is_in_line, ends_line, along, is_sign, has_zero, HeaderEndsAs, reads, tabbed, zero_digit, comment, no_header}
 use Rattle.proof_lexers.specs.BlockLaws.{HeadersEndAsTheirLineSays}
 use Rattle.proof_lexers.proofs.Blocks.InLine.{first_inner}
 
@@ -174,11 +174,11 @@ same_tab [] = refl
 same_tab (c ∷ a) = refl
 
 module _ (start : Position) (style : BlockStyle) (line r : List ℕ) (h : defs.Header) (is : header_of (indicator_of style ∷ line) ≡ Some h) (q : Position) (along_it : along line (past start) ≡ q) where
-  at_line_end : ends_line r ≡ true → EndsAs start style line r (and_then (header_break start r q) (λ (b : Read Bool). Ok (with_indicators (indicators_of h) b)))
+  at_line_end : ends_line r ≡ true → HeaderEndsAs start style line r (and_then (header_break start r q) (λ (b : Read Bool). Ok (with_indicators (indicators_of h) b)))
   unfolding header_break
   at_line_end e = by r e (begins_with tab (linebreak r start).rest) refl
     where
-      by : (a : List ℕ) → ends_line a ≡ true → (t : Bool) → begins_with tab (linebreak a start).rest ≡ t → EndsAs start style line a (and_then (header_break start a q) (λ (b : Read Bool). Ok (with_indicators (indicators_of h) b)))
+      by : (a : List ℕ) → ends_line a ≡ true → (t : Bool) → begins_with tab (linebreak a start).rest ≡ t → HeaderEndsAs start style line a (and_then (header_break start a q) (λ (b : Read Bool). Ok (with_indicators (indicators_of h) b)))
       by [] e t f = reads h is refl (rw along_it refl)
       by (c ∷ a) e true f =
           let b = sym (same_break c) ∙ e in
@@ -242,7 +242,7 @@ zero_increment start a p = refl
 
 module _ (start : Position) (style : BlockStyle) (r : List ℕ) (ends : ends_line r ≡ true) where
   abbrev Ends : List ℕ → Type 0
-  Ends line = EndsAs start style line r (header start (line ++ r) (past start))
+  Ends line = HeaderEndsAs start style line r (header start (line ++ r) (past start))
 
   -- after the indicators, before the rest of the line
   finish : (line before w : List ℕ) (h : defs.Header) → line ≡ before ++ w → is_in_line w ≡ true → header_of (indicator_of style ∷ line) ≡ (if is_rest_of_line w then Some h else None)

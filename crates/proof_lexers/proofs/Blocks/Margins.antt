@@ -5,7 +5,7 @@ use Rattle.defs_text.specs.Position.{Position}
 use Rattle.yaml_chars.specs.Class.{is_break}
 use Rattle.defs_scalar.specs.BlockScalar.{is_spaces}
 use Rattle.model_lexers.specs.Machine.{Read, past, past_break, is_cr_lf}
-use Rattle.model_lexers.specs.Block.{Column, Margin, indent_from, Lines, State, margin, lines_from}
+use Rattle.model_lexers.specs.Block.{Column, Margin, indent_from, Lines, BlockState, margin, lines_from}
 use Rattle.proof_lexers.specs.HeaderEnds.{along}
 use Rattle.proof_lexers.proofs.Blocks.Written.{Break, feed, carriage, both, Line, put, Fits}
 
@@ -32,7 +32,7 @@ abbrev pub at : Position → List ℕ → Margin
 at p b = record { place = p; breaks = b }
 
 -- within a line's indentation
-abbrev pub before : Position → Lines → List ℕ → State
+abbrev pub before : Position → Lines → List ℕ → BlockState
 before p l b = record { mode = margin; place = p; lines = record l { breaks = b } }
 
 -- The scan of the lines passes what the search for content passes.

@@ -13,7 +13,8 @@ use Rattle.defs_scalar.specs.BlockScalar.{Row, rows_of, row_of, deepest_start, l
 use Rattle.defs_token.specs.BlockPiece.{BlockRead, read_body, read_lines, read_split}
 use Rattle.model_lexers.specs.Block.{block, indent_from}
 use Rattle.proof_lexers.specs.HeaderEnds.{indicator_of, digit_or_zero, is_in_line}
-use Rattle.proof_lexers.specs.BlockScan.{collection_by, digit_by, is_literal, is_some, IsRead, tabbed, is_tabbed, is_single}
+use Rattle.proof_lexers.specs.BlockScan.{digit_by, is_literal_style, is_some, IsRead, tabbed, is_tabbed, is_single}
+use Rattle.proof_lexers.specs.PlainEnds.{collection_of}
 use Rattle.proof_lexers.specs.BlockLaws.{BlockPiecesAreRead}
 use Rattle.proof_lexers.proofs.Blocks.InLine.{first_inner}
 use Rattle.proof_lexers.proofs.Blocks.Written.{Break, feed, carriage, both, Line, put, spell, texts, Fits, AreLines, Lined, lined, split_spell}
@@ -93,13 +94,13 @@ are_more (l ∷ ls) next free are = (are.0, fits_more l.by ls next free are.1, a
 
 -- ---- the column is that of the whole text
 
-pub whole_column : (digit : Option ℕ) (indent : ℕ) (ls ns : List Line) (e : List ℕ) (column : ℕ) → column_by digit (collection_by indent) (texts ls) ≡ column → is_further_text column (spell ns e) ≡ true
-    → column_by digit (collection_by indent) (texts (ls ++ ns) ++ e ∷ []) ≡ column
+pub whole_column : (digit : Option ℕ) (indent : ℕ) (ls ns : List Line) (e : List ℕ) (column : ℕ) → column_by digit (collection_of indent) (texts ls) ≡ column → is_further_text column (spell ns e) ≡ true
+    → column_by digit (collection_of indent) (texts (ls ++ ns) ++ e ∷ []) ≡ column
 whole_column (Some d) indent ls ns e column same further = same
 whole_column None indent ls ns e column same further =
-    let deep : Deep (max (deepest_start (texts ls)) (least_column (collection_by indent))) (deepest_start (texts ns ++ e ∷ [])) = rw same (deep_next column ns e further) in
-    ap (λ x. max (deepest_start x) (least_column (collection_by indent))) (ap (λ x. x ++ e ∷ []) (texts_append ls ns) ∙ append_assoc (texts ls) (texts ns) (e ∷ []))
-    ∙ same_column (texts ls) (texts ns ++ e ∷ []) (least_column (collection_by indent)) deep ∙ same
+    let deep : Deep (max (deepest_start (texts ls)) (least_column (collection_of indent))) (deepest_start (texts ns ++ e ∷ [])) = rw same (deep_next column ns e further) in
+    ap (λ x. max (deepest_start x) (least_column (collection_of indent))) (ap (λ x. x ++ e ∷ []) (texts_append ls ns) ∙ append_assoc (texts ls) (texts ns) (e ∷ []))
+    ∙ same_column (texts ls) (texts ns ++ e ∷ []) (least_column (collection_of indent)) deep ∙ same
 
 -- ---- before further text
 
@@ -108,15 +109,15 @@ module _ (indent : ℕ) (p : Position) (next : List ℕ) where
   record Before (h : defs.Header) (ls : List Line) (b : BlockRead) : Type 0 where
     rows : List Row
     tabless : starts_with_tab (texts ls) ≡ false
-    are_rows : rows_of (column_by h.digit (collection_by indent) (texts ls)) (texts ls) ≡ Some rows
-    further : is_further_text (column_by h.digit (collection_by indent) (texts ls)) next ≡ true
-    value : record { style = h.style; column = column_by h.digit (collection_by indent) (texts ls); text = value_before_text h rows } ≡ b
+    are_rows : rows_of (column_by h.digit (collection_of indent) (texts ls)) (texts ls) ≡ Some rows
+    further : is_further_text (column_by h.digit (collection_of indent) (texts ls)) next ≡ true
+    value : record { style = h.style; column = column_by h.digit (collection_of indent) (texts ls); text = value_before_text h rows } ≡ b
 
-  before : (h : defs.Header) (ls : List Line) (b : BlockRead) → is_at_end next ≡ false → read_body (Some h) (collection_by indent) (body (texts ls) further_text) next ≡ Some b → Before h ls b
+  before : (h : defs.Header) (ls : List Line) (b : BlockRead) → is_at_end next ≡ false → read_body (Some h) (collection_of indent) (body (texts ls) further_text) next ≡ Some b → Before h ls b
   before h ls b some e = by (is_further_text K next) (starts_with_tab (texts ls)) (rows_of K (texts ls)) refl refl refl
     where
       K : ℕ
-      K = column_by h.digit (collection_by indent) (texts ls)
+      K = column_by h.digit (collection_of indent) (texts ls)
 
       by : (f t : Bool) (o : Option (List Row)) → is_further_text K next ≡ f → starts_with_tab (texts ls) ≡ t → rows_of K (texts ls) ≡ o → Before h ls b
       by false t o x y z = let no : None ≡ Some b = rw (some, x) at e in cc
@@ -129,7 +130,7 @@ module _ (indent : ℕ) (p : Position) (next : List ℕ) where
   module _ (h : defs.Header) (line : List ℕ) (k : Break) (ls : List Line) (b : BlockRead) (is : header_of (indicator_of h.style ∷ line) ≡ Some h) (digit : digit_by (digit_or_zero h.digit) ≡ h.digit) (inner : is_in_line line ≡ true)
       (fits : Fits k (spell ls [])) (are : AreLines ls []) (not_end : is_at_end next ≡ false) (z : Before h ls b) where
     abbrev column_here : ℕ
-    column_here = column_by h.digit (collection_by indent) (texts ls)
+    column_here = column_by h.digit (collection_of indent) (texts ls)
 
     free : (slice_index next 0 == 10) ≡ false
     free = no_feed column_here next z.further
@@ -141,7 +142,7 @@ module _ (indent : ℕ) (p : Position) (next : List ℕ) where
     no_tab [] fits are e = ap (λ (s : Split). is_single s.complete && begins_with tab next) (cut_of [] fits are) ∙ e
     no_tab (l ∷ ls) fits are e = ap (λ (s : Split). is_single s.complete && begins_with tab next) (cut_of (l ∷ ls) fits are)
 
-    text_here : (t : Bool) → begins_with tab (spell ls next) ≡ t → IsRead indent p (record { style = h.style; column = column_here; text = value_before_text h z.rows }) (indicator_of h.style ∷ (line ++ put k (spell ls []))) next (block (is_literal h.style) indent (indicator_of h.style ∷ (line ++ put k (spell ls next))) p)
+    text_here : (t : Bool) → begins_with tab (spell ls next) ≡ t → IsRead indent p (record { style = h.style; column = column_here; text = value_before_text h z.rows }) (indicator_of h.style ∷ (line ++ put k (spell ls []))) next (block (is_literal_style h.style) indent (indicator_of h.style ∷ (line ++ put k (spell ls next))) p)
     text_here true e = tabbed (first_tab ls fits are z.tabless e) (tab_fails h line k indent p is digit inner (spell ls next) (fits_more k ls next free fits) e)
       where
         first_tab : (ls : List Line) → Fits k (spell ls []) → AreLines ls [] → starts_with_tab (texts ls) ≡ false → begins_with tab (spell ls next) ≡ true → is_tabbed (indicator_of h.style ∷ (line ++ put k (spell ls []))) next ≡ true
@@ -149,14 +150,14 @@ module _ (indent : ℕ) (p : Position) (next : List ℕ) where
         first_tab (l ∷ ls) fits are f g = let no : false ≡ true = sym f ∙ sym (tab_line l.text (spell ls next) l.by (texts ls)) ∙ g in cc
     text_here false e = by (lined next)
       where
-        by : Lined next → IsRead indent p (record { style = h.style; column = column_here; text = value_before_text h z.rows }) (indicator_of h.style ∷ (line ++ put k (spell ls []))) next (block (is_literal h.style) indent (indicator_of h.style ∷ (line ++ put k (spell ls next))) p)
+        by : Lined next → IsRead indent p (record { style = h.style; column = column_here; text = value_before_text h z.rows }) (indicator_of h.style ∷ (line ++ put k (spell ls []))) next (block (is_literal_style h.style) indent (indicator_of h.style ∷ (line ++ put k (spell ls next))) p)
         by y =
             let same : spell (ls ++ y.lines) y.last ≡ spell ls next = spell_append ls y.lines y.last ∙ ap (spell ls) (sym y.is) in
             let fits_next : Fits k (spell ls next) = fits_more k ls next free fits in
             let are_next : AreLines ls next = are_more ls next free are in
             let are_first : AreLines ls (spell y.lines y.last) = rw (← y.is) are_next in
-            let found : block (is_literal h.style) indent (indicator_of h.style ∷ (line ++ put k (spell ls next))) p ≡ _ =
-            ap (λ a. block (is_literal h.style) indent (indicator_of h.style ∷ (line ++ put k a)) p) (sym same)
+            let found : block (is_literal_style h.style) indent (indicator_of h.style ∷ (line ++ put k (spell ls next))) p ≡ _ =
+            ap (λ a. block (is_literal_style h.style) indent (indicator_of h.style ∷ (line ++ put k a)) p) (sym same)
             ∙ block_is h line k indent p is digit inner (ls ++ y.lines) y.last column_here (whole_column h.digit indent ls y.lines y.last column_here refl (rw (← y.is) (z.further))) (are_append ls y.lines y.last are_first y.are) y.inner (rw same fits_next) (rw same e)
             ∙ ap (λ a. after h line k indent p is digit inner (indent_from column_here a (at (start h line k indent p is digit inner) []))) same in
             before_further h line k indent p is digit inner column_here ls next z.rows are_next fits_next are fits z.are_rows not_end (no_tab ls fits are e) found
@@ -169,7 +170,7 @@ module _ (indent : ℕ) (p : Position) (next : List ℕ) where
                 col_of [] q e = e
                 col_of (l ∷ ls) q e = col_of ls (after_line l q) refl
 
-    further_read : IsRead indent p b (indicator_of h.style ∷ (line ++ put k (spell ls []))) next (block (is_literal b.style) indent ((indicator_of h.style ∷ (line ++ put k (spell ls []))) ++ next) p)
+    further_read : IsRead indent p b (indicator_of h.style ∷ (line ++ put k (spell ls []))) next (block (is_literal_style b.style) indent ((indicator_of h.style ∷ (line ++ put k (spell ls []))) ++ next) p)
     further_read =
         let cut : (indicator_of h.style ∷ (line ++ put k (spell ls []))) ++ next ≡ indicator_of h.style ∷ (line ++ put k (spell ls next)) = spell_more (record { text = indicator_of h.style ∷ line; by = k } ∷ ls) [] next in
         rw (cut, ← z.value) (text_here (begins_with tab (spell ls next)) refl)
@@ -181,15 +182,15 @@ module _ (indent : ℕ) (p : Position) where
     rows : List Row
     row : Row
     tabless : starts_with_tab (texts ls ++ last ∷ []) ≡ false
-    are_rows : rows_of (column_by h.digit (collection_by indent) (texts ls ++ last ∷ [])) (texts ls) ≡ Some rows
-    last_row : row_of (column_by h.digit (collection_by indent) (texts ls ++ last ∷ [])) last ≡ Some row
-    value : record { style = h.style; column = column_by h.digit (collection_by indent) (texts ls ++ last ∷ []); text = value_before_end h (column_by h.digit (collection_by indent) (texts ls ++ last ∷ [])) rows last row } ≡ b
+    are_rows : rows_of (column_by h.digit (collection_of indent) (texts ls ++ last ∷ [])) (texts ls) ≡ Some rows
+    last_row : row_of (column_by h.digit (collection_of indent) (texts ls ++ last ∷ [])) last ≡ Some row
+    value : record { style = h.style; column = column_by h.digit (collection_of indent) (texts ls ++ last ∷ []); text = value_before_end h (column_by h.digit (collection_of indent) (texts ls ++ last ∷ [])) rows last row } ≡ b
 
-  at_the_end : (h : defs.Header) (ls : List Line) (last : List ℕ) (b : BlockRead) → read_body (Some h) (collection_by indent) (body (texts ls) (unbroken last)) [] ≡ Some b → AtEnd h ls last b
+  at_the_end : (h : defs.Header) (ls : List Line) (last : List ℕ) (b : BlockRead) → read_body (Some h) (collection_of indent) (body (texts ls) (unbroken last)) [] ≡ Some b → AtEnd h ls last b
   at_the_end h ls last b e = by (starts_with_tab (texts ls ++ last ∷ [])) (rows_of K (texts ls)) (row_of K last) refl refl refl
     where
       K : ℕ
-      K = column_by h.digit (collection_by indent) (texts ls ++ last ∷ [])
+      K = column_by h.digit (collection_of indent) (texts ls ++ last ∷ [])
 
       by : (t : Bool) (o : Option (List Row)) (u : Option Row) → starts_with_tab (texts ls ++ last ∷ []) ≡ t → rows_of K (texts ls) ≡ o → row_of K last ≡ u → AtEnd h ls last b
       by true o u x y z = let no : None ≡ Some b = rw x at e in cc
@@ -201,9 +202,9 @@ module _ (indent : ℕ) (p : Position) where
 
   end_read : (h : defs.Header) (line : List ℕ) (k : Break) (ls : List Line) (last : List ℕ) (b : BlockRead) → header_of (indicator_of h.style ∷ line) ≡ Some h → digit_by (digit_or_zero h.digit) ≡ h.digit → is_in_line line ≡ true
       → Fits k (spell ls last) → AreLines ls last → is_in_line last ≡ true → AtEnd h ls last b
-      → IsRead indent p b (indicator_of h.style ∷ (line ++ put k (spell ls last))) [] (block (is_literal b.style) indent ((indicator_of h.style ∷ (line ++ put k (spell ls last))) ++ []) p)
+      → IsRead indent p b (indicator_of h.style ∷ (line ++ put k (spell ls last))) [] (block (is_literal_style b.style) indent ((indicator_of h.style ∷ (line ++ put k (spell ls last))) ++ []) p)
   end_read h line k ls last b is digit inner fits are last_inner z =
-      let K = column_by h.digit (collection_by indent) (texts ls ++ last ∷ []) in
+      let K = column_by h.digit (collection_of indent) (texts ls ++ last ∷ []) in
       let found = block_is h line k indent p is digit inner ls last K refl are last_inner fits (tab_whole ls last ∙ z.tabless) in
       rw (append-nil, ← z.value) (before_the_end h line k indent p is digit inner K ls last z.rows are last_inner fits z.are_rows found z.row (row_is K last z.row z.last_row))
 
@@ -218,9 +219,9 @@ some_next d n h = not-true _ ((and_parts (not (d == 0)) (list_all is_some n) h).
 
 module _ (indent : ℕ) (p : Position) (b : BlockRead) where
   abbrev pub Read_as : List ℕ → List ℕ → Type 0
-  Read_as piece next = IsRead indent p b piece next (block (is_literal b.style) indent (piece ++ next) p)
+  Read_as piece next = IsRead indent p b piece next (block (is_literal_style b.style) indent (piece ++ next) p)
 
-  alone : (w : List ℕ) → is_in_line w ≡ true → read_body (header_of w) (collection_by indent) input_ends [] ≡ Some b → Read_as w []
+  alone : (w : List ℕ) → is_in_line w ≡ true → read_body (header_of w) (collection_of indent) input_ends [] ≡ Some b → Read_as w []
   alone [] inner e = absurd (none_some b e)
   alone (c ∷ line) inner e = by (header_of (c ∷ line)) refl
     where
@@ -237,7 +238,7 @@ module _ (indent : ℕ) (p : Position) (b : BlockRead) where
           read_here h f same (said c line h f)
 
   pub to_end : (w : List ℕ) (k : Break) (ls : List Line) (last : List ℕ) → is_in_line w ≡ true → Fits k (spell ls last) → AreLines ls last → is_in_line last ≡ true
-      → read_body (header_of w) (collection_by indent) (body (texts ls) (unbroken last)) [] ≡ Some b → Read_as (w ++ put k (spell ls last)) []
+      → read_body (header_of w) (collection_of indent) (body (texts ls) (unbroken last)) [] ≡ Some b → Read_as (w ++ put k (spell ls last)) []
   to_end [] k ls last inner fits are last_inner e = absurd (none_some b e)
   to_end (c ∷ line) k ls last inner fits are last_inner e = by (header_of (c ∷ line)) refl
     where
@@ -251,7 +252,7 @@ module _ (indent : ℕ) (p : Position) (b : BlockRead) where
       by (Some h) f = read_here h f (at_the_end indent p h ls last b (rw f at e)) (said c line h f)
 
   pub to_text : (w : List ℕ) (k : Break) (ls : List Line) (next : List ℕ) → is_in_line w ≡ true → Fits k (spell ls []) → AreLines ls [] → is_at_end next ≡ false
-      → read_body (header_of w) (collection_by indent) (body (texts ls) further_text) next ≡ Some b → Read_as (w ++ put k (spell ls [])) next
+      → read_body (header_of w) (collection_of indent) (body (texts ls) further_text) next ≡ Some b → Read_as (w ++ put k (spell ls [])) next
   to_text [] k ls next inner fits are some e = absurd (none_some b e)
   to_text (c ∷ line) k ls next inner fits are some e = by (header_of (c ∷ line)) refl
     where
@@ -265,7 +266,7 @@ module _ (indent : ℕ) (p : Position) (b : BlockRead) where
       by (Some h) f = read_here h f (before indent p next h ls b some (rw f at e)) (said c line h f)
 
   of_lines : (ls : List Line) (last next : List ℕ) → AreLines ls last → is_in_line last ≡ true → list_all is_some next ≡ true → (t : Bool) → is_at_end next ≡ t
-      → read_lines (collection_by indent) (texts ls) last next t ≡ Some b → Read_as (spell ls last) next
+      → read_lines (collection_of indent) (texts ls) last next t ≡ Some b → Read_as (spell ls last) next
   of_lines [] last [] are inner some true x e = alone last inner e
   of_lines (l ∷ ls) last [] are inner some true x e = to_end l.text l.by ls last are.0 are.1 are.2 inner e
   of_lines ls last [] are inner some false x e = let no : true ≡ false = x in cc
@@ -277,8 +278,8 @@ module _ (indent : ℕ) (p : Position) (b : BlockRead) where
 pub pieces_are_read : BlockPiecesAreRead
 pieces_are_read indent piece next p b some e = by (lined piece)
   where
-    by : Lined piece → IsRead indent p b piece next (block (is_literal b.style) indent (piece ++ next) p)
+    by : Lined piece → IsRead indent p b piece next (block (is_literal_style b.style) indent (piece ++ next) p)
     by z =
         let cut : split piece ≡ record { complete = texts z.lines; last = z.last } = ap split z.is ∙ split_spell z.lines z.last z.are z.inner in
-        let lines : read_lines (collection_by indent) (texts z.lines) z.last next (is_at_end next) ≡ Some b = ap (λ s. read_split (collection_by indent) s next) (sym cut) ∙ e in
+        let lines : read_lines (collection_of indent) (texts z.lines) z.last next (is_at_end next) ≡ Some b = ap (λ s. read_split (collection_of indent) s next) (sym cut) ∙ e in
         rw (z.is) (of_lines indent p b z.lines z.last next z.are z.inner some (is_at_end next) refl lines)

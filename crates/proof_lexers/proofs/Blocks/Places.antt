@@ -1,12 +1,11 @@
 -- The definitions' places are the model's.
 use Rattle.std.proofs.Common.{◌≡◌, ◌≤◌, ℕ, suc, ◌+◌, List, [], ◌∷◌, ◌++◌, true, false, not, ◌==◌, nat_lt, length, slice_index, None, refl, ap, sym, ◌∙◌, append-nil, append_assoc, arith}
 use Rattle.std.proofs.lemmas.Bool.{and_parts, eqb-true, lt-ltb}
-use Rattle.defs_text.specs.Position.{Position}
+use Rattle.defs_text.specs.Position.{Position, position_past, position_after}
 use Rattle.yaml_chars.specs.Class.{is_break}
 use Rattle.defs_text.specs.Classes as classes
 use Rattle.defs_scalar.specs.BlockScalar.{is_spaces}
 use Rattle.defs_token.specs.Text as cut
-use Rattle.defs_text.specs.Position.{position_past, position_after}
 use Rattle.defs_token.specs.BlockPiece.{first_content}
 use Rattle.model_lexers.specs.Machine.{past, past_break}
 use Rattle.proof_lexers.proofs.Bridges.{same_break}

@@ -9,7 +9,7 @@ use Rattle.defs_text.specs.Classes as classes
 use Rattle.defs_text.specs.Classes.{is_document_marker}
 use Rattle.defs_scalar.specs.BlockScalar.{Row, empty_row, content_row, is_spaces, leading_spaces, is_empty_line, is_content_line, row_of, rows_of, put_row}
 use Rattle.model_lexers.specs.Machine.{Read, past, at_marker}
-use Rattle.model_lexers.specs.Block.{Column, indent_from, Lines, State, margin, line, lines_from, between, begins, begun, with_char}
+use Rattle.model_lexers.specs.Block.{Column, indent_from, Lines, BlockState, margin, line, lines_from, between, begins, begun, with_char}
 use Rattle.proof_lexers.proofs.Bridges.{same_break, and_false}
 use Rattle.proof_lexers.specs.HeaderEnds.{is_in_line, ends_line, along}
 use Rattle.proof_lexers.proofs.Blocks.InLine.{first_inner}
@@ -32,11 +32,11 @@ after_rows literal [] l = l
 after_rows literal (r ∷ rs) l = after_rows literal rs (after_row literal r l)
 
 -- before a line
-abbrev pub front : Position → Lines → State
+abbrev pub front : Position → Lines → BlockState
 front p l = record { mode = margin; place = p; lines = l }
 
 -- within a content line
-abbrev pub inside : Position → Lines → State
+abbrev pub inside : Position → Lines → BlockState
 inside p l = record { mode = line; place = p; lines = l }
 
 pub break_ends : (k : Break) (a : List ℕ) → ends_line (put k a) ≡ true
@@ -46,7 +46,7 @@ break_ends carriage a = refl
 break_ends both a = refl
 
 module _ (literal : Bool) (column : ℕ) where
-  abbrev pub scan : List ℕ → State → Result (Read Lines) Fault
+  abbrev pub scan : List ℕ → BlockState → Result (Read Lines) Fault
   scan a s = lines_from literal column a s
 
   chars : (w a : List ℕ) (p : Position) (l : Lines) → is_in_line w ≡ true → scan (w ++ a) (inside p l) ≡ scan a (inside (along w p) (record l { text = l.text ++ w }))

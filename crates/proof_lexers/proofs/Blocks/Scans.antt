@@ -2,8 +2,8 @@
 use Rattle.std.proofs.Common.{◌≡◌, ◌≤◌, ℕ, zero, suc, ◌+◌, List, [], ◌∷◌, ◌++◌, Bool, true, false, ◌&&◌, not, if◌then◌else◌, max, nat_lt, nat_le, length, drop, Some, None, Result, Ok, Err, refl, ap, sym, ◌∙◌, append-nil, arith}
 use Rattle.std.proofs.lemmas.Bool.{le-ltb}
 use Rattle.std.proofs.lemmas.Bool.Decides.{nat_tests}
-use Rattle.defs_text.specs.Position.{Position}
-use Rattle.defs_text.specs.Text.{is_nil}
+use Rattle.defs_text.specs.Position.{Position, position_after}
+use Rattle.defs_text.specs.Text.{is_empty}
 use Rattle.yaml_tokens.specs.declared.problem.Fault.{Fault}
 use Rattle.yaml_tokens.specs.declared.problem.Fault.TheVariants.{At}
 use Rattle.yaml_tokens.specs.declared.problem.Problem.TheVariants as problem
@@ -12,14 +12,14 @@ use Rattle.defs_text.specs.Classes.{tab, is_at_end}
 use Rattle.defs_scalar.specs.FlowScalar.{begins_with}
 use Rattle.defs_scalar.specs.BlockScalar as defs
 use Rattle.defs_scalar.specs.BlockScalar.{Row, empty_row, content_row, breaks, is_spaces, rows_of, row_of, has_content, column_by, header_of, starts_with_tab, is_further_text, value_before_text, value_before_end, with_content}
-use Rattle.defs_text.specs.Position.{position_after}
 use Rattle.defs_token.specs.BlockPiece.{BlockRead, first_content, past_spaces, place_or, block_place}
 use Rattle.model_lexers.specs.Machine.{Read, past, and_then}
 use Rattle.model_lexers.specs.Space.{linebreak}
 use Rattle.model_lexers.specs.Block.{Header, Column, Lines, lines_from, indent_from, content, header, Block, block, after_header, is_open, tail, empty_text}
 use Rattle.proof_lexers.proofs.Bridges.{and_false}
 use Rattle.proof_lexers.specs.HeaderEnds.{indicator_of, chomping_of, digit_or_zero, indicators_of, is_in_line, along, read_header}
-use Rattle.proof_lexers.specs.BlockScan.{collection_by, digit_by, is_literal, without_spaces, further_place, IsRead, read, shallow, is_none, is_tabbed, is_shallow}
+use Rattle.proof_lexers.specs.BlockScan.{digit_by, is_literal_style, without_spaces, further_place, IsRead, read, shallow, is_none, is_tabbed, is_shallow}
+use Rattle.proof_lexers.specs.PlainEnds.{collection_of}
 use Rattle.proof_lexers.proofs.Blocks.Written.{Break, feed, carriage, both, Line, put, spell, texts, Fits, AreLines}
 use Rattle.proof_lexers.proofs.Blocks.Margins.{after_break, after_line, after_lines, at, before, margin_passes, last_passes, col_along}
 use Rattle.proof_lexers.proofs.Blocks.First.{content_is}
@@ -30,7 +30,7 @@ use Rattle.proof_lexers.proofs.Blocks.Values.{after_empty, content_value, empty_
 use Rattle.proof_lexers.proofs.Blocks.HeaderFacts.{header_reads, header_tabs, linebreak_put}
 use Rattle.proof_lexers.proofs.Blocks.Walks.{Found, FoundIn, found_in, Empty, all_empty, are_full}
 
-not_nil : (k : Break) (a : List ℕ) → is_nil (put k a) ≡ false
+not_nil : (k : Break) (a : List ℕ) → is_empty (put k a) ≡ false
 not_nil feed a = refl
 not_nil carriage a = refl
 not_nil both a = refl
@@ -44,32 +44,32 @@ module _ (h : defs.Header) (line : List ℕ) (k : Break) (indent : ℕ) (p : Pos
   head = record { indicators = indicators_of h; broken = true }
 
   abbrev pub scanned : List ℕ → Result (Read Block) Fault
-  scanned a = block (is_literal h.style) indent (indicator_of h.style ∷ (line ++ put k a)) p
+  scanned a = block (is_literal_style h.style) indent (indicator_of h.style ∷ (line ++ put k a)) p
 
   abbrev pub after : Read Column → Result (Read Block) Fault
-  after r = after_header (is_literal h.style) indent p head r
+  after r = after_header (is_literal_style h.style) indent p head r
 
   header_is : (a : List ℕ) → Fits k a → begins_with tab a ≡ false → header p (line ++ put k a) (past p) ≡ Ok (record { rest = a; place = start; value = head })
   header_is a fits still =
       let tabless : begins_with tab (linebreak (put k a) p).rest ≡ false = ap (λ (r : Read (Unit {0})). begins_with tab r.rest) (linebreak_put k a p fits) ∙ still in
       header_reads h line (put k a) p is inner (break_ends k a) tabless
-      ∙ ap (λ (r : Read (Unit {0})). Ok (record { rest = r.rest; place = r.place; value = record { indicators = indicators_of h; broken = not (is_nil (put k a)) } })) (linebreak_put k a (along line (past p)) fits)
+      ∙ ap (λ (r : Read (Unit {0})). Ok (record { rest = r.rest; place = r.place; value = record { indicators = indicators_of h; broken = not (is_empty (put k a)) } })) (linebreak_put k a (along line (past p)) fits)
       ∙ ap (λ b. Ok (record { rest = a; place = start; value = record { indicators = indicators_of h; broken = not b } })) (not_nil k a)
 
-  pub block_is : (ms : List Line) (e : List ℕ) (column : ℕ) → column_by h.digit (collection_by indent) (texts ms ++ e ∷ []) ≡ column → AreLines ms e → is_in_line e ≡ true → Fits k (spell ms e) → begins_with tab (spell ms e) ≡ false
+  pub block_is : (ms : List Line) (e : List ℕ) (column : ℕ) → column_by h.digit (collection_of indent) (texts ms ++ e ∷ []) ≡ column → AreLines ms e → is_in_line e ≡ true → Fits k (spell ms e) → begins_with tab (spell ms e) ≡ false
       → scanned (spell ms e) ≡ after (indent_from column (spell ms e) (at start []))
   unfolding block
   block_is ms e column same are last fits still =
-      ap (λ x. and_then x (λ (r : Read Header). after_header (is_literal h.style) indent p r.value (content indent r.value.indicators.increment r.rest r.place))) (header_is (spell ms e) fits still)
+      ap (λ x. and_then x (λ (r : Read Header). after_header (is_literal_style h.style) indent p r.value (content indent r.value.indicators.increment r.rest r.place))) (header_is (spell ms e) fits still)
       ∙ ap after (content_is indent (digit_or_zero h.digit) ms e start refl are last)
-      ∙ ap (λ d. after (indent_from (column_by d (collection_by indent) (texts ms ++ e ∷ [])) (spell ms e) (at start []))) digit
+      ∙ ap (λ d. after (indent_from (column_by d (collection_of indent) (texts ms ++ e ∷ [])) (spell ms e) (at start []))) digit
       ∙ ap (λ c. after (indent_from c (spell ms e) (at start []))) same
 
   pub tab_fails : (a : List ℕ) → Fits k a → begins_with tab a ≡ true → scanned a ≡ Err (At problem.BlockScalarTab p)
   unfolding block
   tab_fails a fits tab_here =
       let there : begins_with tab (linebreak (put k a) p).rest ≡ true = ap (λ (r : Read (Unit {0})). begins_with tab r.rest) (linebreak_put k a p fits) ∙ tab_here in
-      ap (λ x. and_then x (λ (r : Read Header). after_header (is_literal h.style) indent p r.value (content indent r.value.indicators.increment r.rest r.place))) (header_tabs h line (put k a) p is inner (break_ends k a) there)
+      ap (λ x. and_then x (λ (r : Read Header). after_header (is_literal_style h.style) indent p r.value (content indent r.value.indicators.increment r.rest r.place))) (header_tabs h line (put k a) p is inner (break_ends k a) there)
 
   module _ (column : ℕ) where
     abbrev search : List ℕ → Read Column
@@ -77,11 +77,11 @@ module _ (h : defs.Header) (line : List ℕ) (k : Break) (indent : ℕ) (p : Pos
 
     -- from where content was looked for up to the lines' end
     finish : (a rest more : List ℕ) (char : ℕ) (place q : Position) (b : List ℕ) (x : Lines) → search a ≡ record { rest = char ∷ rest; place = place; value = record { column = column; breaks = b } }
-        → (nat_lt place.col column && nat_le indent place.col) ≡ false → lines_from (is_literal h.style) column a (front start (after_empty 0)) ≡ Ok (record { rest = more; place = q; value = x })
+        → (nat_lt place.col column && nat_le indent place.col) ≡ false → lines_from (is_literal_style h.style) column a (front start (after_empty 0)) ≡ Ok (record { rest = more; place = q; value = x })
         → after (search a) ≡ Ok (record { rest = more; place = q; value = record { place = place; text = x.text ++ tail (chomping_of h.chomping) (is_open column more q.col) x } })
     finish a rest more char place q b x found deep reads =
-        let same : lines_from (is_literal h.style) column (char ∷ rest) (before place (after_empty 0) b) ≡ Ok (record { rest = more; place = q; value = x }) =
-        ap (λ (r : Read Column). lines_from (is_literal h.style) column r.rest (before r.place (after_empty 0) r.value.breaks)) (sym found) ∙ sym (margin_passes (is_literal h.style) column a start (after_empty 0) []) ∙ reads in
+        let same : lines_from (is_literal_style h.style) column (char ∷ rest) (before place (after_empty 0) b) ≡ Ok (record { rest = more; place = q; value = x }) =
+        ap (λ (r : Read Column). lines_from (is_literal_style h.style) column r.rest (before r.place (after_empty 0) r.value.breaks)) (sym found) ∙ sym (margin_passes (is_literal_style h.style) column a start (after_empty 0) []) ∙ reads in
         ap after found ∙ rw (deep, same) refl
 
     refuse : (a rest : List ℕ) (char : ℕ) (place : Position) (b : List ℕ) → search a ≡ record { rest = char ∷ rest; place = place; value = record { column = column; breaks = b } }
@@ -140,7 +140,7 @@ module _ (h : defs.Header) (line : List ℕ) (k : Break) (indent : ℕ) (p : Pos
       (rows : rows_of column (texts ls) ≡ Some rs) (text : is_at_end next ≡ false) (free : is_tabbed (with_header (spell ls [])) next ≡ false)
       (found_by : scan_of (spell ls next) ≡ after h line k indent p is digit inner (indent_from column (spell ls next) (at first_place []))) where
     abbrev lines_read : Lines
-    lines_read = after_rows (is_literal h.style) rs (after_empty 0)
+    lines_read = after_rows (is_literal_style h.style) rs (after_empty 0)
 
     abbrev before_text : BlockRead
     before_text = record { style = h.style; column = column; text = value_before_text h rs }
@@ -148,8 +148,8 @@ module _ (h : defs.Header) (line : List ℕ) (k : Break) (indent : ℕ) (p : Pos
     abbrev piece : List ℕ
     piece = with_header (spell ls [])
 
-    read_to : Outside column next (after_lines ls first_place) → lines_from (is_literal h.style) column (spell ls next) (front first_place (after_empty 0)) ≡ Ok (record { rest = without_spaces next; place = past_spaces (after_lines ls first_place) next; value = lines_read })
-    read_to z = rows_go (is_literal h.style) column ls next first_place (after_empty 0) rs refl are rows ∙ further_stops (is_literal h.style) column next (after_lines ls first_place) lines_read z
+    read_to : Outside column next (after_lines ls first_place) → lines_from (is_literal_style h.style) column (spell ls next) (front first_place (after_empty 0)) ≡ Ok (record { rest = without_spaces next; place = past_spaces (after_lines ls first_place) next; value = lines_read })
+    read_to z = rows_go (is_literal_style h.style) column ls next first_place (after_empty 0) rs refl are rows ∙ further_stops (is_literal_style h.style) column next (after_lines ls first_place) lines_read z
 
     closed : Outside column next (after_lines ls first_place) → (n : ℕ) → is_open column (without_spaces next) n ≡ false
     closed z n = rw (z.is) refl
@@ -220,7 +220,7 @@ module _ (h : defs.Header) (line : List ℕ) (k : Break) (indent : ℕ) (p : Pos
       (rows : rows_of column (texts ls) ≡ Some rs)
       (found_by : scan_of (spell ls last) ≡ after h line k indent p is digit inner (indent_from column (spell ls last) (at first_place []))) where
     abbrev rows_read : Lines
-    rows_read = after_rows (is_literal h.style) rs (after_empty 0)
+    rows_read = after_rows (is_literal_style h.style) rs (after_empty 0)
 
     abbrev before_end : Row → BlockRead
     before_end r = record { style = h.style; column = column; text = value_before_end h column rs last r }
@@ -265,8 +265,8 @@ module _ (h : defs.Header) (line : List ℕ) (k : Break) (indent : ℕ) (p : Pos
     empty_some : has_content rs ≡ true → is_spaces last ≡ true → length last ≤ column → FoundIn column ls last first_place [] → read_end empty_row
     empty_some some spaces le f =
         let c = f.here in
-        let reads : lines_from (is_literal h.style) column (spell ls last) (front first_place (after_empty 0)) ≡ Ok (record { rest = []; place = along last last_place; value = rows_read }) =
-        rows_go (is_literal h.style) column ls last first_place (after_empty 0) rs refl are rows ∙ last_empty (is_literal h.style) column last last_place rows_read at_front spaces le in
+        let reads : lines_from (is_literal_style h.style) column (spell ls last) (front first_place (after_empty 0)) ≡ Ok (record { rest = []; place = along last last_place; value = rows_read }) =
+        rows_go (is_literal_style h.style) column ls last first_place (after_empty 0) rs refl are rows ∙ last_empty (is_literal_style h.style) column last last_place rows_read at_front spaces le in
         let far : (along last last_place).col ≡ length last = (let e = at_front in let g = last_col in omega (arith, e, g)) in
         let open_is : is_open column [] (along last last_place).col ≡ nat_le (max column 1) (length last) = reaches (along last last_place).col ∙ ap (nat_le (max column 1)) far in
         let text_is : rows_read.text ++ tail (chomping_of h.chomping) (is_open column [] (along last last_place).col) rows_read ≡ value_before_end h column rs last empty_row =
@@ -287,29 +287,29 @@ module _ (h : defs.Header) (line : List ℕ) (k : Break) (indent : ℕ) (p : Pos
     last_row = content_row (drop column last)
 
     abbrev last_read : Lines
-    last_read = written (is_literal h.style) column last_row rows_read
+    last_read = written (is_literal_style h.style) column last_row rows_read
 
     opens : (n : ℕ) → suc column ≤ n → (nat_le column n && nat_lt 0 n) ≡ true
     opens n h = grind (arith, nat_tests)
 
-    content_text : Starts (is_literal h.style) column last [] last_place [] column → suc column ≤ length last
+    content_text : Starts (is_literal_style h.style) column last [] last_place [] column → suc column ≤ length last
         → last_read.text ++ tail (chomping_of h.chomping) (is_open column [] (along last last_place).col) last_read ≡ value_before_end h column rs last last_row
     content_text z long =
         let far : (along last last_place).col ≡ length last = (let e = at_front in let g = last_col in omega (arith, e, g)) in
         let open_is : is_open column [] (along last last_place).col ≡ true = ap (λ n. nat_le column n && nat_lt 0 n) far ∙ opens (length last) long in
         ap (λ b. last_read.text ++ tail (chomping_of h.chomping) b last_read) open_is
-        ∙ ap (λ m. (written (is_literal h.style) column (content_row m) rows_read).text ++ tail (chomping_of h.chomping) true (written (is_literal h.style) column (content_row m) rows_read)) z.is
+        ∙ ap (λ m. (written (is_literal_style h.style) column (content_row m) rows_read).text ++ tail (chomping_of h.chomping) true (written (is_literal_style h.style) column (content_row m) rows_read)) z.is
         ∙ last_value h rs z.char z.rest (are_full column (texts ls) rs rows)
         ∙ ap (λ m. with_content h 0 (rs ++ content_row m ∷ [])) (sym z.is)
 
-    content_by : (c : Found column (spell ls last) first_place []) → first_content column false first_place (spell ls last) ≡ Some (c.place) → Starts (is_literal h.style) column last [] last_place [] column → suc column ≤ length last
-        → lines_from (is_literal h.style) column last (front last_place rows_read) ≡ Ok (record { rest = []; place = along last last_place; value = last_read }) → read_end last_row
+    content_by : (c : Found column (spell ls last) first_place []) → first_content column false first_place (spell ls last) ≡ Some (c.place) → Starts (is_literal_style h.style) column last [] last_place [] column → suc column ≤ length last
+        → lines_from (is_literal_style h.style) column last (front last_place rows_read) ≡ Ok (record { rest = []; place = along last last_place; value = last_read }) → read_end last_row
     content_by c first z long reads =
         read (and_false _) refl (found_by ∙ finish h line k indent p is digit inner column (spell ls last) c.rest [] c.char c.place _ c.breaks_before last_read c.found (in_place h line k indent p is digit inner column c.place.col c.in_column)
-        (rows_go (is_literal h.style) column ls last first_place (after_empty 0) rs refl are rows ∙ reads)
+        (rows_go (is_literal_style h.style) column ls last first_place (after_empty 0) rs refl are rows ∙ reads)
         ∙ answer [] _ (further_place p whole []) c.place (block_place column p whole []) _ (value_before_end h column rs last last_row) whole_place (sym (at_content c.place first)) (content_text z long))
 
-    last_found : (n : ℕ) → Empty column ls last first_place [] n → Starts (is_literal h.style) column last [] last_place (breaks n) column → Found column (spell ls last) first_place []
+    last_found : (n : ℕ) → Empty column ls last first_place [] n → Starts (is_literal_style h.style) column last [] last_place (breaks n) column → Found column (spell ls last) first_place []
     last_found n f z = record {
       char = z.char;
       rest = z.rest ++ [];
@@ -331,13 +331,13 @@ module _ (h : defs.Header) (line : List ℕ) (k : Break) (indent : ℕ) (p : Pos
         col : last_place.col + column ≡ column
         col = let e = at_front in omega (arith, e)
 
-        reads : lines_from (is_literal h.style) column last (front last_place rows_read) ≡ Ok (record { rest = []; place = along last last_place; value = last_read })
-        reads = last_content (is_literal h.style) column last last_place rows_read at_front last_inner lead long free
+        reads : lines_from (is_literal_style h.style) column last (front last_place rows_read) ≡ Ok (record { rest = []; place = along last last_place; value = last_read })
+        reads = last_content (is_literal_style h.style) column last last_place rows_read at_front last_inner lead long free
 
-        here : (b : List ℕ) → Starts (is_literal h.style) column last [] last_place b column
-        here b = starts (is_literal h.style) column column last [] last_place b col lead long last_inner
+        here : (b : List ℕ) → Starts (is_literal_style h.style) column last [] last_place b column
+        here b = starts (is_literal_style h.style) column column last [] last_place b col lead long last_inner
 
-        none : Empty column ls last first_place [] (length rs) → Starts (is_literal h.style) column last [] last_place (breaks (length rs)) column → read_end last_row
+        none : Empty column ls last first_place [] (length rs) → Starts (is_literal_style h.style) column last [] last_place (breaks (length rs)) column → read_end last_row
         none f z =
             content_by (last_found (length rs) f z) (f.first last are ∙ ap (λ a. first_content column false last_place a) (sym (append-nil last)) ∙ z.first []) (here []) long reads
 
@@ -367,16 +367,16 @@ nothing_there defs.clip b = refl
 nothing_there defs.keep b = refl
 
 pub header_alone_is_read : (h : defs.Header) (line : List ℕ) (indent : ℕ) (p : Position) → header_of (indicator_of h.style ∷ line) ≡ Some h → is_in_line line ≡ true
-    → IsRead indent p (record { style = h.style; column = 0; text = [] }) (indicator_of h.style ∷ line) [] (block (is_literal h.style) indent (indicator_of h.style ∷ line) p)
+    → IsRead indent p (record { style = h.style; column = 0; text = [] }) (indicator_of h.style ∷ line) [] (block (is_literal_style h.style) indent (indicator_of h.style ∷ line) p)
 unfolding block
 header_alone_is_read h line indent p is inner =
     let q = along line (past p) in
     let i = digit_or_zero h.digit in
     let header_reads_it : header p line (past p) ≡ Ok (read_header h [] q) = ap (λ a. header p a (past p)) (sym (append-nil line)) ∙ header_reads h line [] p is inner refl refl in
-    let ends : after_header (is_literal h.style) indent p (record { indicators = indicators_of h; broken = false }) (content indent i [] q) ≡ result [] q p [] =
+    let ends : after_header (is_literal_style h.style) indent p (record { indicators = indicators_of h; broken = false }) (content indent i [] q) ≡ result [] q p [] =
     rw (no_lines indent i q, same_end indent i q, nothing_there h.chomping (content indent i [] q).value.breaks) refl in
     let place : q ≡ further_place p (indicator_of h.style ∷ line) [] =
     sym (ap (λ x. position_after p x []) (sym (append-nil (indicator_of h.style ∷ line))) ∙ after_chars (indicator_of h.style ∷ line) [] [] p (style_inner h.style line inner)) in
     let where_is : block_place 0 p (indicator_of h.style ∷ line) [] ≡ p = ap (λ o. place_or o p) (header_alone 0 (indicator_of h.style ∷ line) p (style_inner h.style line inner)) in
-    read (and_false _) refl (ap (λ x. and_then x (λ (r : Read Header). after_header (is_literal h.style) indent p r.value (content indent r.value.indicators.increment r.rest r.place))) header_reads_it
+    read (and_false _) refl (ap (λ x. and_then x (λ (r : Read Header). after_header (is_literal_style h.style) indent p r.value (content indent r.value.indicators.increment r.rest r.place))) header_reads_it
     ∙ ends ∙ answer [] q (further_place p (indicator_of h.style ∷ line) []) p (block_place 0 p (indicator_of h.style ∷ line) []) [] [] place (sym where_is) refl)

@@ -6,7 +6,7 @@ use Rattle.defs_scalar.specs.BlockScalar.{BlockStyle, literal, folded, strip, cl
 use Rattle.model_lexers.specs.Block.{Lines, between, tail, empty_text}
 use Rattle.proof_lexers.proofs.Bridges.{same_blank}
 use Rattle.proof_lexers.specs.HeaderEnds.{chomping_of}
-use Rattle.proof_lexers.specs.BlockScan.{is_literal}
+use Rattle.proof_lexers.specs.BlockScan.{is_literal_style}
 use Rattle.proof_lexers.proofs.Blocks.Rows.{after_row, after_rows}
 
 -- content is never empty
@@ -40,7 +40,7 @@ record Holds (x : Lines) (text : List ℕ) (n : ℕ) : Type 0 where
 holds_on : (x y : Lines) (t u : List ℕ) (n : ℕ) → x ≡ y → t ≡ u → Holds y t n → Holds x u n
 holds_on x y t u n e f z = record { text_is = ap (λ (l : Lines). l.text) e ∙ z.text_is ∙ f; breaks_are = ap (λ (l : Lines). l.breaks) e ∙ z.breaks_are; is_broken = ap (λ (l : Lines). l.broken) e ∙ z.is_broken }
 
-between_is : (s : BlockStyle) (t : List ℕ) (n : ℕ) (b k : Bool) → between (is_literal s) (after_content t n b) k ≡ between_lines s n (b || k)
+between_is : (s : BlockStyle) (t : List ℕ) (n : ℕ) (b k : Bool) → between (is_literal_style s) (after_content t n b) k ≡ between_lines s n (b || k)
 unfolding between
 between_is literal t n b k = refl
 between_is folded t n true k = refl
@@ -48,14 +48,14 @@ between_is folded t n false true = refl
 between_is folded t zero false false = refl
 between_is folded t (suc n) false false = refl
 
-between_first : (s : BlockStyle) (n : ℕ) (k : Bool) → between (is_literal s) (after_empty n) k ≡ breaks n
+between_first : (s : BlockStyle) (n : ℕ) (k : Bool) → between (is_literal_style s) (after_empty n) k ≡ breaks n
 unfolding between
 between_first literal n k = refl
 between_first folded n k = refl
 
 module _ (s : BlockStyle) where
   abbrev rows_after : List Row → Lines → Lines
-  rows_after rs l = after_rows (is_literal s) rs l
+  rows_after rs l = after_rows (is_literal_style s) rs l
 
   text_goes : (rs : List Row) (t l : List ℕ) (n : ℕ) (b : Bool) → AreFull rs → b ≡ starts_blank l → Holds (rows_after rs (after_content t n b)) (t ++ text_after s l n rs) (empty_after n rs)
   text_goes [] t l n b full e = record { text_is = sym (append-nil t); breaks_are = refl; is_broken = refl }
@@ -64,7 +64,7 @@ module _ (s : BlockStyle) where
   text_goes (content_row [] ∷ rs) t l n b full e = absurd full
   text_goes (content_row (c ∷ m) ∷ rs) t l n b full e =
       let gap = between_lines s n (starts_blank l || starts_blank (c ∷ m)) in
-      let same : between (is_literal s) (after_content t n b) (is_blank c) ≡ gap = between_is s t n b (is_blank c) ∙ ap (λ k. between_lines s n (k || is_blank c)) e ∙ ap (λ k. between_lines s n (starts_blank l || k)) (sym (same_blank c)) in
+      let same : between (is_literal_style s) (after_content t n b) (is_blank c) ≡ gap = between_is s t n b (is_blank c) ∙ ap (λ k. between_lines s n (k || is_blank c)) e ∙ ap (λ k. between_lines s n (starts_blank l || k)) (sym (same_blank c)) in
       holds_on _ (rows_after rs (after_content ((t ++ gap) ++ c ∷ m) 0 (is_blank c))) (((t ++ gap) ++ c ∷ m) ++ text_after s (c ∷ m) 0 rs) _ _
       (ap (λ g. rows_after rs (after_content ((t ++ g) ++ c ∷ m) 0 (is_blank c))) same)
       (ap (λ y. y ++ text_after s (c ∷ m) 0 rs) (append_assoc t gap (c ∷ m)) ∙ append_assoc t (gap ++ c ∷ m) (text_after s (c ∷ m) 0 rs))
@@ -114,10 +114,10 @@ tail_is keep false x n e f = rw (f, e) (ap breaks (one_less n))
 
 -- lines with content
 pub content_value : (h : defs.Header) (unbroken : Bool) (rs : List Row) → AreFull rs → has_content rs ≡ true
-    → (after_rows (is_literal h.style) rs (after_empty 0)).text ++ tail (chomping_of h.chomping) unbroken (after_rows (is_literal h.style) rs (after_empty 0)) ≡ with_content h (added unbroken) rs
+    → (after_rows (is_literal_style h.style) rs (after_empty 0)).text ++ tail (chomping_of h.chomping) unbroken (after_rows (is_literal_style h.style) rs (after_empty 0)) ≡ with_content h (added unbroken) rs
 content_value h unbroken rs full some =
     let z = first_goes h.style rs 0 0 full some in
-    ap (λ t. t ++ tail (chomping_of h.chomping) unbroken (after_rows (is_literal h.style) rs (after_empty 0))) z.text_is
+    ap (λ t. t ++ tail (chomping_of h.chomping) unbroken (after_rows (is_literal_style h.style) rs (after_empty 0))) z.text_is
     ∙ ap (λ t. text_of h.style rs ++ t) (tail_is h.chomping unbroken _ (empty_after 0 rs) z.breaks_are z.is_broken)
 
 -- no line with content, before further text
@@ -128,7 +128,7 @@ nothing_is clip n = refl
 nothing_is keep n = refl
 
 pub empty_value : (h : defs.Header) (rs : List Row) → has_content rs ≡ false
-    → (after_rows (is_literal h.style) rs (after_empty 0)).text ++ tail (chomping_of h.chomping) false (after_rows (is_literal h.style) rs (after_empty 0)) ≡ nothing_before_text h.chomping (length rs)
+    → (after_rows (is_literal_style h.style) rs (after_empty 0)).text ++ tail (chomping_of h.chomping) false (after_rows (is_literal_style h.style) rs (after_empty 0)) ≡ nothing_before_text h.chomping (length rs)
 empty_value h rs none =
     let same : (n : ℕ) → 0 + n ≡ n = λ n. omega arith in
     ap (λ (l : Lines). l.text ++ tail (chomping_of h.chomping) false l) (none_goes h.style rs 0 none ∙ ap after_empty (same (length rs))) ∙ nothing_is h.chomping (length rs)
@@ -168,14 +168,14 @@ last_tail clip x n e f = refl
 last_tail keep x n e f = rw e (ap (λ t. 10 ∷ t) (sym f) ∙ ap breaks (one_less n))
 
 pub last_value : (h : defs.Header) (rs : List Row) (c : ℕ) (m : List ℕ) → AreFull rs
-    → (after_row (is_literal h.style) (content_row (c ∷ m)) (after_rows (is_literal h.style) rs (after_empty 0))).text
-    ++ tail (chomping_of h.chomping) true (record (after_row (is_literal h.style) (content_row (c ∷ m)) (after_rows (is_literal h.style) rs (after_empty 0))) { broken = false })
+    → (after_row (is_literal_style h.style) (content_row (c ∷ m)) (after_rows (is_literal_style h.style) rs (after_empty 0))).text
+    ++ tail (chomping_of h.chomping) true (record (after_row (is_literal_style h.style) (content_row (c ∷ m)) (after_rows (is_literal_style h.style) rs (after_empty 0))) { broken = false })
     ≡ with_content h 0 (rs ++ content_row (c ∷ m) ∷ [])
 last_value h rs c m full =
     let all = rs ++ content_row (c ∷ m) ∷ [] in
-    let x = after_row (is_literal h.style) (content_row (c ∷ m)) (after_rows (is_literal h.style) rs (after_empty 0)) in
+    let x = after_row (is_literal_style h.style) (content_row (c ∷ m)) (after_rows (is_literal_style h.style) rs (after_empty 0)) in
     let z = first_goes h.style all 0 0 (full_more rs c m full) (some_more rs (c ∷ m)) in
-    let more = rows_more (is_literal h.style) rs (content_row (c ∷ m)) (after_empty 0) in
+    let more = rows_more (is_literal_style h.style) rs (content_row (c ∷ m)) (after_empty 0) in
     let text : x.text ≡ text_of h.style all = ap (λ (l : Lines). l.text) (sym more) ∙ z.text_is in
     let none : breaks (empty_after 0 all) ≡ [] = sym z.breaks_are ∙ ap (λ (l : Lines). l.breaks) more in
     ap (λ t. t ++ tail (chomping_of h.chomping) true (record x { broken = false })) text ∙ ap (λ t. text_of h.style all ++ t) (last_tail h.chomping x (empty_after 0 all) refl none)

@@ -1,7 +1,7 @@
 -- Directives are read as their lines say, and no other text is.
 use Rattle.std.proofs.Common.{◌≡◌, ℕ, suc, ◌+◌, List, [], ◌∷◌, ◌++◌, Bool, true, false, ◌&&◌, ◌||◌, ◌==◌, not, if◌then◌else◌, length, slice_index, Option, Some, None, Result, Ok, Err, codes, refl, ap, sym, subst, ◌∙◌, arith, append_assoc, append-nil, length-append}
 use Rattle.std.proofs.lemmas.Bool.{and_parts, eqb-true}
-use Rattle.defs_text.specs.Position.{Position}
+use Rattle.defs_text.specs.Position.{Position, position_after}
 use Rattle.yaml_chars.specs.Class.{is_alphanumeric, is_uri_mark, is_flow, is_uri, is_tag, is_alpha, is_blank}
 use Rattle.defs_token.specs.Token.{Tok}
 use Rattle.yaml_tokens.specs.declared.problem.Fault.{Fault}
@@ -10,13 +10,11 @@ use Rattle.yaml_tokens.specs.declared.problem.Problem.{Problem}
 use Rattle.yaml_tokens.specs.declared.problem.Problem.TheVariants as problem
 use Rattle.defs_text.specs.Classes as classes
 use Rattle.defs_text.specs.Classes.{is_at_gap}
-use Rattle.defs_text.specs.Breaks.{is_rest_of_line}
+use Rattle.defs_text.specs.Breaks.{is_rest_of_line, has_no_break}
 use Rattle.defs_scalar.specs.FlowScalar.{begins_with}
 use Rattle.defs_scalar.specs.Tags.{UriFault, leading, after, is_same, decoded, is_handle}
 use Rattle.defs_scalar.specs.Directives as defs
 use Rattle.defs_scalar.specs.Directives.{Directive, tag_declaration, reserved, number_of, version_by, minor_of, version_of, prefix_by, begins_prefix, prefix_of, handle_and_rest, declaration_by, declaration_of, directive_by, directive_of}
-use Rattle.defs_text.specs.Position.{position_after}
-use Rattle.defs_text.specs.Breaks.{has_no_break}
 use Rattle.model_lexers.specs.Machine.{Read, past, and_then, skip_while}
 use Rattle.model_lexers.specs.Space.{blanks}
 use Rattle.model_lexers.specs.Tag.{handle, prefix}
@@ -24,7 +22,7 @@ use Rattle.model_lexers.specs.Directive.{version, tag, unknown, kind, name, numb
 use Rattle.proof_lexers.proofs.Bridges.{same_blank, same_alpha, same_tag}
 use Rattle.proof_lexers.specs.NameEnds.{further}
 use Rattle.proof_lexers.specs.UriEnds.{problem_of, after_class}
-use Rattle.proof_lexers.specs.DirectiveEnds.{token_of, ends_line, first_break, next_line, after_line, IsNoVersion, no_major, long_major, no_point, no_minor, long_minor, IsNoDeclaration, no_mark, open_name, no_prefix, by_octets, goes_on, IsRefusal, no_name, by_name, by_version, by_declaration, by_comment, by_text, EndsAs, reads, refuses}
+use Rattle.proof_lexers.specs.DirectiveEnds.{token_of, ends_line, first_break, next_line, after_line, IsNoVersion, no_major, long_major, no_point, no_minor, long_minor, IsNoDeclaration, no_mark, open_name, no_prefix, by_octets, goes_on, IsDirectiveRefusal, no_name, by_name, by_version, by_declaration, by_comment, by_text, DirectiveEndsAs, reads, refuses}
 use Rattle.proof_lexers.specs.ScalarLaws.{DirectivesAreRead, DirectivesEndAsTheirTextSays}
 use Rattle.proof_lexers.proofs.Separation.Places.{place_append, place_in_line}
 use Rattle.proof_lexers.proofs.Properties.Tags.{span_cut}
@@ -101,10 +99,10 @@ no_tag_at_end (c ∷ n) h = sym (same_tag c) ∙ none_at_end classes.is_tag refl
 -- How the scan of a line ends, which stands after a `%` and before the line's end: it is a directive, and read as it; or it is none, and refused.
 data Told (start : Position) (l n : List ℕ) (x : Result (Read Tok) Fault) : Type 0 where
   is_directive : (d : Directive) → directive_of (37 ∷ l) ≡ Some d → x ≡ Ok (after_line start (37 ∷ l) n (token_of d)) → Told start l n x
-  fails : (f : Fault) → directive_of (37 ∷ l) ≡ None → IsRefusal start l f → x ≡ Err f → Told start l n x
+  fails : (f : Fault) → directive_of (37 ∷ l) ≡ None → IsDirectiveRefusal start l f → x ≡ Err f → Told start l n x
 
 module _ (start : Position) (l n : List ℕ) (line : has_no_break l ≡ true) (ends : ends_line n ≡ true) where
-  refused : (f : Fault) (x : Result (Read Tok) Fault) → directive_of (37 ∷ l) ≡ None → IsRefusal start l f → x ≡ Err f → Told start l n x
+  refused : (f : Fault) (x : Result (Read Tok) Fault) → directive_of (37 ∷ l) ≡ None → IsDirectiveRefusal start l f → x ≡ Err f → Told start l n x
   refused f x none why e = fails f none why e
 
   -- ---- the line's end
@@ -127,13 +125,13 @@ module _ (start : Position) (l n : List ℕ) (line : has_no_break l ≡ true) (e
       go : Result (Read (Unit {0})) Fault → Result (Read Tok) Fault
       go x = and_then x (λ r. Ok (with_end v r))
 
-      glued : (k : List ℕ) → l ≡ before ++ k → begins_with 35 k ≡ true → IsRefusal start l (At problem.CommentNotSeparated (further (suc (length before)) start))
+      glued : (k : List ℕ) → l ≡ before ++ k → begins_with 35 k ≡ true → IsDirectiveRefusal start l (At problem.CommentNotSeparated (further (suc (length before)) start))
       glued [] e b = cc
       glued (c ∷ k) e b = let same : c ≡ 35 = eqb-true c 35 b in by_comment before k (e ∙ ap (λ h. before ++ h ∷ k) same)
 
       by : (x : Result (Read (Unit {0})) Fault) → LineEnds start p m n x → Told start l n (go x)
       by x (ended is e) = is_directive d (says ∙ rw is refl) (ap go e ∙ ap (λ q. Ok (record { rest = next_line n; place = q; value = token_of d })) (last_place before m p cut place))
-      by x (comment begins none e) = refused (At problem.CommentNotSeparated p) (go x) (says ∙ rw none refl) (subst (λ q. IsRefusal start l (At problem.CommentNotSeparated q)) (sym place) (glued m cut begins)) (ap go e)
+      by x (comment begins none e) = refused (At problem.CommentNotSeparated p) (go x) (says ∙ rw none refl) (subst (λ q. IsDirectiveRefusal start l (At problem.CommentNotSeparated q)) (sym place) (glued m cut begins)) (ap go e)
       by x (text none e) = refused (At problem.DirectiveEnd start) (go x) (says ∙ rw none refl) (by_text before m cut none) (ap go e)
 
   -- ---- words
@@ -417,11 +415,11 @@ first_line (c ∷ a) = by (classes.is_break c) refl (first_line a)
 pub directives_end : DirectivesEndAsTheirTextSays
 directives_end a start = by (leading in_line a) (after in_line a) (span_cut in_line a) (first_line a).0 (first_line a).1
   where
-    ends_by : (l n : List ℕ) (x : Result (Read Tok) Fault) → has_no_break l ≡ true → ends_line n ≡ true → Told start l n x → EndsAs start (l ++ n) x
+    ends_by : (l n : List ℕ) (x : Result (Read Tok) Fault) → has_no_break l ≡ true → ends_line n ≡ true → Told start l n x → DirectiveEndsAs start (l ++ n) x
     ends_by l n x line ends (is_directive d is e) = reads l n d refl line ends is e
     ends_by l n x line ends (fails f none why e) = refuses l n f refl line ends none why e
 
-    by : (l n : List ℕ) → a ≡ l ++ n → has_no_break l ≡ true → ends_line n ≡ true → EndsAs start a (directive (37 ∷ a) start)
+    by : (l n : List ℕ) → a ≡ l ++ n → has_no_break l ≡ true → ends_line n ≡ true → DirectiveEndsAs start a (directive (37 ∷ a) start)
     by l n cut line ends = rw cut (ends_by l n (directive (37 ∷ (l ++ n)) start) line ends (told start l n line ends))
 
 pub directives_are_read : DirectivesAreRead

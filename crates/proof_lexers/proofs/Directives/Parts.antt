@@ -2,20 +2,18 @@
 use Rattle.std.proofs.Common.{◌≡◌, ℕ, suc, ◌+◌, ◌-◌, ◌*◌, ◌≤◌, List, [], ◌∷◌, ◌++◌, Bool, true, false, ◌&&◌, ◌||◌, ◌==◌, not, nat_le, if◌then◌else◌, take, drop, length, slice_index, Result, Ok, Err, codes, refl, ap, sym, ◌∙◌, arith}
 use Rattle.std.proofs.lemmas.Bool.{and_parts, eqb-true}
 use Rattle.std.proofs.lemmas.Bool.Decides.{nat_tests}
-use Rattle.defs_text.specs.Position.{Position}
+use Rattle.defs_text.specs.Position.{Position, position_past, position_after}
 use Rattle.yaml_chars.specs.Class.{is_break, is_blank, is_blank_or_breakz, is_digit, is_alphanumeric, is_alpha}
-use Rattle.defs_text.specs.Text.{is_nil}
+use Rattle.defs_text.specs.Text.{is_empty}
 use Rattle.yaml_tokens.specs.declared.problem.Fault.{Fault}
 use Rattle.yaml_tokens.specs.declared.problem.Fault.TheVariants.{At}
 use Rattle.yaml_tokens.specs.declared.problem.Problem.TheVariants as problem
 use Rattle.defs_text.specs.Classes as classes
 use Rattle.defs_text.specs.Classes.{is_at_gap}
-use Rattle.defs_text.specs.Breaks.{is_before_line_feed, is_blanks_and_comment, is_rest_of_line}
+use Rattle.defs_text.specs.Breaks.{is_before_line_feed, is_blanks_and_comment, is_rest_of_line, has_no_break}
 use Rattle.defs_scalar.specs.FlowScalar.{begins_with}
 use Rattle.defs_scalar.specs.Tags.{all_of, leading, after, is_same}
 use Rattle.defs_scalar.specs.Directives.{decimal_value}
-use Rattle.defs_text.specs.Position.{position_past, position_after}
-use Rattle.defs_text.specs.Breaks.{has_no_break}
 use Rattle.model_lexers.specs.declared.context.SkipTabs.TheVariants.{Yes}
 use Rattle.model_lexers.specs.declared.context.Whitespace.{Whitespace}
 use Rattle.model_lexers.specs.Machine.{Stop, run, walk, Read, and_then, past, past_break, is_cr_lf, skip_while}
@@ -255,7 +253,7 @@ digits_run start (c ∷ a) p v k few = by (is_digit c) refl (k == 9) refl (λ h.
 -- what the scan of a version's number leaves
 abbrev pub number_read : (start p : Position) → (a : List ℕ) → Result (Read ℕ) Fault
 number_read start p a =
-    (if is_nil (leading classes.is_decimal_digit a) then Err (At problem.VersionNumber start) else
+    (if is_empty (leading classes.is_decimal_digit a) then Err (At problem.VersionNumber start) else
     (if nat_le (length (leading classes.is_decimal_digit a)) 9
     then Ok (record { rest = after classes.is_decimal_digit a; place = further (length (leading classes.is_decimal_digit a)) p; value = decimal_value 0 (leading classes.is_decimal_digit a) })
     else Err (At problem.VersionTooLong start)))
@@ -266,7 +264,7 @@ number_is_read start a p = ap (digits_end start) (digits_run start a p 0 0 (omeg
   where
     by : (w : List ℕ) →
         digits_end start (if nat_le (0 + length w) 9 then Ok (record { rest = after classes.is_decimal_digit a; state = record { place = further (length w) p; value = decimal_value 0 w; length = 0 + length w } }) else Err (At problem.VersionTooLong start))
-        ≡ (if is_nil w then Err (At problem.VersionNumber start) else
+        ≡ (if is_empty w then Err (At problem.VersionNumber start) else
         (if nat_le (length w) 9 then Ok (record { rest = after classes.is_decimal_digit a; place = further (length w) p; value = decimal_value 0 w }) else Err (At problem.VersionTooLong start)))
     by [] = refl
     by (c ∷ w) = let so_many : 0 + suc (length w) ≡ suc (length w) = omega arith in rw so_many (some (nat_le (suc (length w)) 9))

@@ -2,7 +2,7 @@
 use Rattle.std.proofs.Common.{◌≡◌, ℕ, suc, ◌+◌, List, [], ◌∷◌, ◌++◌, Bool, true, false, ◌==◌, nat_le, if◌then◌else◌, length, slice_index, Some, None, Result, Ok, Err, refl, ap, sym, ◌∙◌, arith, append_assoc, length-append}
 use Rattle.std.proofs.lemmas.Bool.{and_parts, eqb-true}
 use Rattle.defs_text.specs.Position.{Position}
-use Rattle.defs_text.specs.Text.{is_nil}
+use Rattle.defs_text.specs.Text.{is_empty}
 use Rattle.yaml_tokens.specs.declared.problem.Fault.{Fault}
 use Rattle.yaml_tokens.specs.declared.problem.Fault.TheVariants.{At}
 use Rattle.yaml_tokens.specs.declared.problem.Problem.TheVariants as problem
@@ -27,7 +27,7 @@ pub data NumberSees (start p : Position) (b n : List ℕ) (x : Result (Read ℕ)
       → x ≡ Ok (record { rest = after classes.is_decimal_digit b ++ n; place = further (length (leading classes.is_decimal_digit b)) p; value = value }) → NumberSees start p b n x
 
 digit_by : (start p : Position) (b n w r : List ℕ) → leading classes.is_decimal_digit b ≡ w
-    → NumberSees start p b n (if is_nil w then Err (At problem.VersionNumber start) else (if nat_le (length w) 9 then Ok (record { rest = after classes.is_decimal_digit b ++ n; place = further (length w) p; value = decimal_value 0 w }) else Err (At problem.VersionTooLong start)))
+    → NumberSees start p b n (if is_empty w then Err (At problem.VersionNumber start) else (if nat_le (length w) 9 then Ok (record { rest = after classes.is_decimal_digit b ++ n; place = further (length w) p; value = decimal_value 0 w }) else Err (At problem.VersionTooLong start)))
 digit_by start p b n [] r e = missing e (rw e refl) refl
 digit_by start p b n (c ∷ w) r e = by (nat_le (length (c ∷ w)) 9) refl
   where

@@ -1,14 +1,13 @@
 -- What a plain scalar's scan finds from a place in it on, and what one character before that adds.
 use Rattle.std.proofs.Common.{◌≡◌, ℕ, List, [], ◌∷◌, ◌++◌, Bool, true, false, ◌||◌, ◌&&◌, not, ◌==◌, if◌then◌else◌, Result, Ok, Err, refl, ap, sym, ◌∙◌, append_assoc, nat_lt}
 use Rattle.std.proofs.lemmas.Bool.{and_parts}
-use Rattle.defs_text.specs.Position.{Position}
+use Rattle.defs_text.specs.Position.{Position, position_past, position_after}
 use Rattle.yaml_tokens.specs.declared.problem.Fault.{Fault}
 use Rattle.yaml_tokens.specs.declared.problem.Fault.TheVariants.{At}
 use Rattle.yaml_tokens.specs.declared.problem.Problem.TheVariants as problem
 use Rattle.defs_text.specs.Classes.{is_blank, is_break}
 use Rattle.defs_text.specs.Breaks.{is_before_line_feed}
-use Rattle.defs_text.specs.Position.{position_past, position_after}
-use Rattle.defs_token.specs.Filler.{is_blanks}
+use Rattle.defs_token.specs.Separation.{is_blanks}
 use Rattle.defs_token.specs.Plain.{Stand, inside, on_line, past, begins_flow, ends_plain, goes_on, stops, ends_with_content}
 use Rattle.model_lexers.specs.declared.context.Context.{Context}
 use Rattle.model_lexers.specs.Machine.{Read}

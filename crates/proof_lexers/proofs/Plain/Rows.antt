@@ -7,7 +7,7 @@ use Rattle.defs_text.specs.Classes.{is_blank, is_break, is_nul, is_blank_or_end,
 use Rattle.defs_scalar.specs.FlowScalar.{plain_element, begins_with_marker, plain_value}
 use Rattle.model_lexers.specs.declared.context.Context.{Context}
 use Rattle.model_lexers.specs.Plain.{plain}
-use Rattle.proof_lexers.specs.PlainEnds.{IsRead, IsRefusal, by_dash, by_tab}
+use Rattle.proof_lexers.specs.PlainEnds.{IsRead, IsPlainRefusal, by_dash, by_tab}
 use Rattle.proof_lexers.proofs.Plain.Scalars.{scalars_read}
 
 -- as the value of a key in column 0
@@ -31,11 +31,11 @@ unfolding is_blank is_break is_nul is_blank_or_end is_flow are_marks plain_eleme
 before_comma = scalars_read flow (codes "a:b") (codes ":,") (codes "a:b") here refl refl refl refl refl
 
 -- a dash before a comma, after a blank
-dashed : IsRefusal flow here (codes "a -,") (At problem.PlainDashInFlow (record { index = 5; line = 1; col = 5 }))
+dashed : IsPlainRefusal flow here (codes "a -,") (At problem.PlainDashInFlow (record { index = 5; line = 1; col = 5 }))
 unfolding is_blank is_break is_nul is_blank_or_end is_flow
 dashed = by_dash (codes "a ") (codes ",") refl refl refl refl refl
 
 -- a TAB at the start of a line of it
-tabbed : IsRefusal block here (codes "a\n\tb") (At problem.PlainTab here)
+tabbed : IsPlainRefusal block here (codes "a\n\tb") (At problem.PlainTab here)
 unfolding is_blank is_break is_nul is_blank_or_end is_flow are_marks
 tabbed = by_tab (codes "a\n") [] (codes "b") 0 refl refl refl refl refl refl

@@ -2,13 +2,12 @@
 use Rattle.std.proofs.Common.{◌≡◌, ℕ, suc, ◌+◌, List, [], ◌∷◌, ◌++◌, Bool, true, false, ◌||◌, ◌&&◌, not, Option, Some, Result, refl, ap, sym, ◌∙◌, arith, nat_lt, nat_le}
 use Rattle.std.proofs.lemmas.Bool.{and_parts}
 use Rattle.std.proofs.lemmas.Bool.Decides.{nat_tests}
-use Rattle.defs_text.specs.Position.{Position}
+use Rattle.defs_text.specs.Position.{Position, position_after}
 use Rattle.yaml_tokens.specs.declared.problem.Fault.{Fault}
 use Rattle.yaml_tokens.specs.declared.problem.Fault.TheVariants.{At}
 use Rattle.yaml_tokens.specs.declared.problem.Problem.TheVariants as problem
 use Rattle.defs_text.specs.Classes.{is_blank, is_break}
 use Rattle.defs_scalar.specs.FlowScalar.{has_document_marker, plain_value}
-use Rattle.defs_text.specs.Position.{position_after}
 use Rattle.defs_token.specs.Plain.{Stand, past, begins_flow, ends_plain, goes_on, stops, ends_with_content, is_whole_plain}
 use Rattle.defs_token.specs.Plain as defs
 use Rattle.model_lexers.specs.declared.context.Context.{Context}
@@ -16,7 +15,7 @@ use Rattle.model_lexers.specs.Machine as machine
 use Rattle.model_lexers.specs.Machine.{Read}
 use Rattle.model_lexers.specs.Folding.{Folded, nothing, with_char, joined}
 use Rattle.model_lexers.specs.Plain.{inside, first, is_shallow, at_dash, plain_from, plain, starts, Plain}
-use Rattle.proof_lexers.specs.PlainEnds.{has_no_nul, collection_of, is_white, begins_solid, is_indented, IsRefusal, by_column, by_dash, by_tab, EndsAs, reads, refuses, IsRead, read, refused}
+use Rattle.proof_lexers.specs.PlainEnds.{has_no_nul, collection_of, is_white, begins_solid, is_indented, IsPlainRefusal, by_column, by_dash, by_tab, PlainEndsAs, reads, refuses, IsRead, read, refused}
 use Rattle.proof_lexers.specs.ScalarLaws.{PlainScalarsAreRead, PlainScansEndAsTheirTextSays}
 use Rattle.proof_lexers.proofs.Plain.Found.{after_text, after_more, Fails, dash, tab, after_tab, Found, found, fails, same_left, no_lead, content_char, solid_first, past_content}
 use Rattle.proof_lexers.proofs.Plain.Turns.{off_margin, in_line_place, in_line, dash_parts}
@@ -64,14 +63,14 @@ module _ (ctx : Context) (start : Position) (c : ℕ) (a : List ℕ) (white : is
   dash_place : (before rest : List ℕ) → position_after (machine.past start) before (45 ∷ rest) ≡ position_after start (c ∷ before) (45 ∷ rest)
   dash_place before rest = ap (λ q. position_after q before (45 ∷ rest)) (sym (in_line_place c (before ++ 45 ∷ rest) start (rw break refl)))
 
-  refusal : (f : Fault) → Fails ctx start false defs.inside (machine.past start) a f → IsRefusal ctx start (c ∷ a) f
+  refusal : (f : Fault) → Fails ctx start false defs.inside (machine.past start) a f → IsPlainRefusal ctx start (c ∷ a) f
   refusal f (dash before rest flow cut begins goes apart) =
       rw (dash_place before rest) (by_dash (c ∷ before) rest flow (ap (λ r. c ∷ r) cut) begins goes (rw (past_content ctx start c defs.after_blank break blank) apart))
   refusal f (tab before blanks rest column cut goes line less are solid) =
       by_tab (c ∷ before) blanks rest column (ap (λ r. c ∷ r) cut) goes (rw (past_content ctx start c defs.after_blank break blank) line) less are solid
   refusal f (after_tab blanks rest no_tab cut are solid) = cc
 
-  ended : (x : Result (Read Plain) Fault) → Found ctx start false defs.inside (machine.past start) read_first a x → EndsAs ctx start (c ∷ a) x
+  ended : (x : Result (Read Plain) Fault) → Found ctx start false defs.inside (machine.past start) read_first a x → PlainEndsAs ctx start (c ∷ a) x
   ended x (found more gap rest cut goes solid stop gaps ends is) =
       let content = solid_first ctx start c more white solid in
       let stopping : stops ctx.flow (collection_of ctx.indent) defs.inside (gap ++ rest) ≡ true = inside_too more stop in
@@ -83,10 +82,10 @@ module _ (ctx : Context) (start : Position) (c : ℕ) (a : List ℕ) (white : is
       inside_too (d ∷ more) h = h
   ended x (fails f why is) = refuses f (refusal f why) is
 
-  begun : has_no_nul a ≡ true → is_indented ctx start ≡ true → EndsAs ctx start (c ∷ a) (plain_from ctx start (c ∷ a) (record { mode = first; place = start; folded = nothing }))
+  begun : has_no_nul a ≡ true → is_indented ctx start ≡ true → PlainEndsAs ctx start (c ∷ a) (plain_from ctx start (c ∷ a) (record { mode = first; place = start; folded = nothing }))
   begun full indented = ended _ (scans ctx start a full inside defs.inside (machine.past start) read_first (in_line (c ∷ []) refl (off_margin start.col) (deep ctx start indented)))
 
-  started : (column at : Bool) → (ctx.flow && nat_lt start.col ctx.indent) ≡ column → at_dash ctx.flow (c ∷ a) ≡ at → has_no_nul a ≡ true → is_indented ctx start ≡ true → EndsAs ctx start (c ∷ a) (plain ctx (c ∷ a) start)
+  started : (column at : Bool) → (ctx.flow && nat_lt start.col ctx.indent) ≡ column → at_dash ctx.flow (c ∷ a) ≡ at → has_no_nul a ≡ true → is_indented ctx start ≡ true → PlainEndsAs ctx start (c ∷ a) (plain ctx (c ∷ a) start)
   unfolding plain starts
   started true at e f full indented = let q = and_parts ctx.flow (nat_lt start.col ctx.indent) e in refuses (At problem.FlowIndentation start) (by_column q.0 q.1) (rw e refl)
   started false true e f full indented =
@@ -173,7 +172,7 @@ same_piece flow collection (c ∷ r) (d ∷ u) next after solid cut h k =
     (rw (same, z.0) refl, z.1)
 
 from_end : (ctx : Context) (piece next value : List ℕ) (p : Position) (x : Result (Read Plain) Fault) → begins_solid piece ≡ true → is_whole_plain ctx.flow (collection_of ctx.indent) piece next ≡ true → plain_value piece ≡ Some value
-    → EndsAs ctx p (piece ++ next) x → IsRead ctx p piece next value x
+    → PlainEndsAs ctx p (piece ++ next) x → IsRead ctx p piece next value x
 from_end ctx piece next value p x solid whole is (reads u gap rest text cut full gaps ends has e) =
     let z = same_piece ctx.flow (collection_of ctx.indent) piece u next (gap ++ rest) solid cut whole full in
     let same : Some text ≡ Some value = sym has ∙ ap plain_value (sym z.0) ∙ is in

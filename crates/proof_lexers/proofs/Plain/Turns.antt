@@ -2,7 +2,7 @@
 use Rattle.std.proofs.Common.{◌≡◌, ℕ, zero, suc, ◌+◌, List, [], ◌∷◌, ◌++◌, Bool, true, false, ◌||◌, ◌&&◌, not, ◌==◌, if◌then◌else◌, Result, Ok, Err, refl, ap, sym, ◌∙◌, arith, nat_lt, slice_index}
 use Rattle.std.proofs.lemmas.Bool.{and_parts, eqb-true}
 use Rattle.std.proofs.lemmas.Bool.Decides.{nat_tests}
-use Rattle.defs_text.specs.Position.{Position}
+use Rattle.defs_text.specs.Position.{Position, position_past}
 use Rattle.yaml_chars.specs.Class.{is_break, is_blank, is_blank_or_breakz, is_flow}
 use Rattle.yaml_tokens.specs.declared.problem.Fault.{Fault}
 use Rattle.yaml_tokens.specs.declared.problem.Fault.TheVariants.{At}
@@ -10,8 +10,7 @@ use Rattle.yaml_tokens.specs.declared.problem.Problem.TheVariants as problem
 use Rattle.defs_text.specs.Classes as classes
 use Rattle.defs_text.specs.Classes.{is_document_marker}
 use Rattle.defs_text.specs.Breaks.{is_before_line_feed}
-use Rattle.defs_text.specs.Position.{position_past}
-use Rattle.defs_token.specs.Filler.{is_blanks}
+use Rattle.defs_token.specs.Separation.{is_blanks}
 use Rattle.defs_token.specs.Plain.{Stand, on_line, after_blank, begins_flow, is_value_indicator, ends_at_colon, ends_at_comment, is_deeper, ends_at_line, ends_plain, stops}
 use Rattle.defs_token.specs.Plain as defs
 use Rattle.model_lexers.specs.declared.context.Context.{Context}
@@ -125,16 +124,16 @@ module _ (ctx : Context) (start : Position) where
   scan a m p t = plain_from ctx start a (record { mode = m; place = p; folded = t })
 
   -- Where a scan stands before a text: within a line; after blanks in it; after a break; after a TAB at a line's start; or between CR and LF.
-  pub data Stands (a : List ℕ) (p : Position) (t : Folded) : Mode → Stand → Type 0 where
-    in_line : (text : List ℕ) → t ≡ in_text text → (p.col == 0) ≡ false → is_shallow ctx p.col ≡ false → Stands a p t inside defs.inside
-    after_blanks : t.leading ≡ false → (p.col == 0) ≡ false → is_shallow ctx p.col ≡ false → Stands a p t between after_blank
-    at_line : (column : ℕ) → column ≡ p.col → t.leading ≡ true → Stands a p t between (on_line column)
-    at_tabs : (column : ℕ) → t.leading ≡ true → Stands a p t tabs (on_line column)
-    at_feed : (column : ℕ) (b : List ℕ) → a ≡ 10 ∷ b → Stands a p t between (on_line column)
+  pub data IsStanding (a : List ℕ) (p : Position) (t : Folded) : Mode → Stand → Type 0 where
+    in_line : (text : List ℕ) → t ≡ in_text text → (p.col == 0) ≡ false → is_shallow ctx p.col ≡ false → IsStanding a p t inside defs.inside
+    after_blanks : t.leading ≡ false → (p.col == 0) ≡ false → is_shallow ctx p.col ≡ false → IsStanding a p t between after_blank
+    at_line : (column : ℕ) → column ≡ p.col → t.leading ≡ true → IsStanding a p t between (on_line column)
+    at_tabs : (column : ℕ) → t.leading ≡ true → IsStanding a p t tabs (on_line column)
+    at_feed : (column : ℕ) (b : List ℕ) → a ≡ 10 ∷ b → IsStanding a p t between (on_line column)
 
   -- from each such place a scan finds the scalar's end, or is refused
   abbrev pub Scans : List ℕ → Type 0
-  Scans a = (m : Mode) (s : Stand) (p : Position) (t : Folded) → Stands a p t m s → Found ctx start (is_tabs m) s p t a (scan a m p t)
+  Scans a = (m : Mode) (s : Stand) (p : Position) (t : Folded) → IsStanding a p t m s → Found ctx start (is_tabs m) s p t a (scan a m p t)
 
   found_at : (u : Bool) (s n : Stand) (p q : Position) (t v : Folded) (a : List ℕ) (x : Result (Read Plain) Fault) → s ≡ n → p ≡ q → t ≡ v → Found ctx start u n q v a x → Found ctx start u s p t a x
   found_at u s n p q t v a x e f g z = rw (e, f, g) z
@@ -193,7 +192,7 @@ module _ (ctx : Context) (start : Position) where
 
   pub blank_step : (c : ℕ) (a : List ℕ) (u : Bool) (m n : Mode) (s next : Stand) (p : Position) (t : Folded) (x : Result (Read Plain) Fault) → is_break c ≡ false → is_blank c ≡ true → defs.past_blank s ≡ next
       → ((blanks rest : List ℕ) → is_tabs n ≡ true → a ≡ blanks ++ rest → is_blanks blanks ≡ true → begins_solid rest ≡ true → Fails ctx start u s p (c ∷ a) (At problem.PlainTab start))
-      → Scans a → Stands a (past p) (with_blank c t) n next → x ≡ scan a n (past p) (with_blank c t) → Found ctx start u s p t (c ∷ a) x
+      → Scans a → IsStanding a (past p) (with_blank c t) n next → x ≡ scan a n (past p) (with_blank c t) → Found ctx start u s p t (c ∷ a) x
   blank_step c a u m n s next p t x e f g tabbed ih stands is =
       found_on ctx start u s p t (c ∷ a) x _ is
       (after_gap ctx start c a u (is_tabs n) s p t _ (blank_white c f) grow

@@ -9,7 +9,7 @@ use Rattle.model_lexers.specs.Machine.{past, take_while}
 use Rattle.model_lexers.specs.Anchor.{some_name, anchor_name}
 use Rattle.defs_token.specs.Piece.{goes_on_with_name}
 use Rattle.proof_lexers.proofs.Bridges.{same_flow, same_gap}
-use Rattle.proof_lexers.specs.NameEnds.{further, EndsAs, named, nameless}
+use Rattle.proof_lexers.specs.NameEnds.{further, NameEndsAs, named, nameless}
 use Rattle.proof_lexers.specs.ScalarLaws.{NamesAreRead, NamesEndAsTheirTextSays}
 
 -- ---- characters of a name
@@ -82,7 +82,7 @@ names_are_read c (d ∷ name) rest p h e =
     read_by c (d ∷ name) rest p (sym (same_all (d ∷ name)) ∙ h) (same_stop rest ∙ ap not e)
     ∙ ap (λ q. Ok (record { rest = rest; place = q; value = d ∷ name })) (more_further p (length (d ∷ name)))
 
-ended : (c : ℕ) (p : Position) (name rest : List ℕ) → all_of is_anchor name ≡ true → stops is_anchor rest ≡ true → EndsAs p (name ++ rest) (anchor_name (c ∷ (name ++ rest)) p)
+ended : (c : ℕ) (p : Position) (name rest : List ℕ) → all_of is_anchor name ≡ true → stops is_anchor rest ≡ true → NameEndsAs p (name ++ rest) (anchor_name (c ∷ (name ++ rest)) p)
 ended c p [] rest h e = nameless (not_true (goes_on_with_name rest) (sym (same_stop rest) ∙ e)) (read_by c [] rest p h e)
 ended c p (d ∷ name) rest h e =
     let goes = not_true (goes_on_with_name rest) (sym (same_stop rest) ∙ e) in

@@ -3,7 +3,7 @@ use Rattle.std.proofs.Common.{◌≡◌, ℕ, suc, ◌+◌, List, [], ◌∷◌,
 use Rattle.std.proofs.lemmas.Bool.{and_parts, eqb-true}
 use Rattle.defs_text.specs.Position.{Position}
 use Rattle.yaml_chars.specs.Class.{is_uri, is_tag}
-use Rattle.defs_text.specs.Text.{is_nil}
+use Rattle.defs_text.specs.Text.{is_empty}
 use Rattle.model_lexers.specs.Uri.{uri}
 use Rattle.yaml_tokens.specs.declared.problem.Fault.{Fault}
 use Rattle.defs_text.specs.Classes as classes
@@ -166,7 +166,7 @@ module _ (flow : Bool) (rest handle suffix : List ℕ) (p : Position) (follows :
   named_read name c t h =
       let k : OfClass classes.is_tag (c ∷ t) handle suffix (codes "!" ++ name ++ codes "!") = of_class classes.is_tag (c ∷ t) handle suffix (codes "!" ++ name ++ codes "!") h in
       let ends : begins_in classes.is_tag rest ≡ false = inner_ends classes.is_tag tag_inner flow rest follows in
-      let some : is_nil suffix ≡ false = decoded_some c t suffix k.means in
+      let some : is_empty suffix ≡ false = decoded_some c t suffix k.means in
       let q : Position = further (length (c ∷ t)) (past (further (length name) (past p))) in
       ap (λ x. and_then (and_then x (λ r. some_suffix p name r)) (λ r. tag_end flow p r)) (suffix_of p (past (further (length name) (past p))) (c ∷ t) rest [] suffix k.all ends k.means)
       ∙ rw some (ends_here flow p q rest ((33 ∷ name) ++ 33 ∷ []) suffix follows)
@@ -174,7 +174,7 @@ module _ (flow : Bool) (rest handle suffix : List ℕ) (p : Position) (follows :
       ∙ ap (λ z. Ok (read_tag rest (further (suc (length (name ++ 33 ∷ c ∷ t))) p) z suffix)) (sym k.same)
 
   -- after a name and no mark
-  local_read : (name m : List ℕ) → all_of classes.is_alpha name ≡ true → defs.begins_with_mark m ≡ false → is_nil (name ++ m) ≡ false → tag_of_class classes.is_tag (codes "!") (name ++ m) ≡ Some (record { handle = handle; suffix = suffix })
+  local_read : (name m : List ℕ) → all_of classes.is_alpha name ≡ true → defs.begins_with_mark m ≡ false → is_empty (name ++ m) ≡ false → tag_of_class classes.is_tag (codes "!") (name ++ m) ≡ Some (record { handle = handle; suffix = suffix })
       → and_then (after_name p name (m ++ rest) (further (length name) (past p))) (λ r. tag_end flow p r) ≡ Ok (after_tag p (33 ∷ (name ++ m)) rest handle suffix)
   local_read name m all unmarked some h =
       let k : OfClass classes.is_tag (name ++ m) handle suffix (codes "!") = of_class classes.is_tag (name ++ m) handle suffix (codes "!") h in
@@ -194,7 +194,7 @@ module _ (flow : Bool) (rest handle suffix : List ℕ) (p : Position) (follows :
       by k ends (Err f) e = absurd (cc (k.means, word_fails name m f all e))
       by k ends (Ok cs) e =
           let whole : name ++ cs ≡ suffix = some_text (sym (decoded_word name m cs all e) ∙ k.means) in
-          let full : is_nil (name ++ cs) ≡ false = still_some name m cs some e in
+          let full : is_empty (name ++ cs) ≡ false = still_some name m cs some e in
           let q : Position = further (length m) (further (length name) (past p)) in
           rw (no_mark_here m unmarked) (
           ap (λ x. and_then (and_then x (λ r. Ok (local r))) (λ r. tag_end flow p r)) (suffix_of p (further (length name) (past p)) m rest name cs (tags_after name m k.all) ends e)
@@ -237,7 +237,7 @@ module _ (flow : Bool) (rest handle suffix : List ℕ) (p : Position) (follows :
       at_mark [] e true b k = cc
       at_mark (x ∷ m) e true b k = marked x m e b k
       at_mark m e false b k =
-          in_piece m e (local_read name m (all_leading classes.is_alpha (c ∷ t)) b (ap is_nil (sym (whole m e))) (ap (tag_of_class classes.is_tag (codes "!")) (sym (whole m e)) ∙ k))
+          in_piece m e (local_read name m (all_leading classes.is_alpha (c ∷ t)) b (ap is_empty (sym (whole m e))) (ap (tag_of_class classes.is_tag (codes "!")) (sym (whole m e)) ∙ k))
 
       by : (m : List ℕ) → after classes.is_alpha (c ∷ t) ≡ m → defs.shorthand (c ∷ t) ≡ Some (record { handle = handle; suffix = suffix }) → read_on (after classes.is_alpha (c ∷ t)) ≡ Ok (after_tag p (33 ∷ c ∷ t) rest handle suffix)
       by m e k =

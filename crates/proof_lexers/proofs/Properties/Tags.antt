@@ -4,7 +4,7 @@ use Rattle.std.proofs.lemmas.Bool.{and_parts, eqb-true}
 use Rattle.std.proofs.lemmas.Bool.Decides.{nat_tests}
 use Rattle.defs_text.specs.Position.{Position}
 use Rattle.yaml_chars.specs.Class.{is_alphanumeric, is_alpha, is_blank, is_break, is_blank_or_breakz, is_flow, is_uri, is_uri_mark, is_tag}
-use Rattle.defs_text.specs.Text.{is_nil}
+use Rattle.defs_text.specs.Text.{is_empty}
 use Rattle.yaml_tokens.specs.declared.problem.Fault.{Fault}
 use Rattle.yaml_tokens.specs.declared.problem.Fault.TheVariants.{At}
 use Rattle.yaml_tokens.specs.declared.problem.Problem.TheVariants as problem
@@ -18,7 +18,7 @@ use Rattle.model_lexers.specs.Tag.{Tag, read_tag, verbatim_end, verbatim, some_s
 use Rattle.proof_lexers.proofs.Bridges.{same_gap, same_flow, same_alpha, same_tag}
 use Rattle.proof_lexers.specs.NameEnds.{further}
 use Rattle.proof_lexers.specs.UriEnds.{problem_of, after_class}
-use Rattle.proof_lexers.specs.TagEnds.{may_follow, by_octets, unclosed, no_suffix, goes_on, EndsAs, reads, refuses}
+use Rattle.proof_lexers.specs.TagEnds.{may_follow, by_octets, unclosed, no_suffix, goes_on, TagEndsAs, reads, refuses}
 use Rattle.proof_lexers.specs.ScalarLaws.{TagsEndAsTheirTextSays}
 use Rattle.proof_lexers.proofs.Properties.Names.{one_further, none_further}
 use Rattle.proof_lexers.proofs.Properties.Uris.{uris_are_read}
@@ -86,21 +86,21 @@ same_end flow [] = rw end_is_a_gap refl
 same_end flow (d ∷ r) = rw (same_gap d, same_flow d) refl
 
 module _ (flow : Bool) (start : Position) (text : List ℕ) where
-  ends_on : (x y : Result (Read Tag) Fault) → x ≡ y → EndsAs flow start text y → EndsAs flow start text x
+  ends_on : (x y : Result (Read Tag) Fault) → x ≡ y → TagEndsAs flow start text y → TagEndsAs flow start text x
   ends_on x y e (reads piece rest handle suffix cut is follows k) = reads piece rest handle suffix cut is follows (e ∙ k)
   ends_on x y e (refuses why reason k) = refuses why reason (e ∙ k)
 
   -- a tag that stands there
   ended : (piece rest handle suffix : List ℕ) (p : Position) → text ≡ piece ++ rest → written_tag (33 ∷ piece) ≡ Some (record { handle = handle; suffix = suffix }) → p ≡ further (length (33 ∷ piece)) start
-      → EndsAs flow start text (tag_end flow start (read_tag rest p handle suffix))
+      → TagEndsAs flow start text (tag_end flow start (read_tag rest p handle suffix))
   ended piece rest handle suffix p cut is place = by (may_follow flow rest) refl
     where
-      by : (b : Bool) → may_follow flow rest ≡ b → EndsAs flow start text (tag_end flow start (read_tag rest p handle suffix))
+      by : (b : Bool) → may_follow flow rest ≡ b → TagEndsAs flow start text (tag_end flow start (read_tag rest p handle suffix))
       by true e = reads piece rest handle suffix cut is e (rw (same_end flow rest, e, place) refl)
       by false e = refuses problem.TagEnd (goes_on piece rest handle suffix cut is e) (rw (same_end flow rest, e) refl)
 
   -- octets that are no characters
-  bad_octets : (before uri rest : List ℕ) (f : UriFault) (x : Result (Read Tag) Fault) → text ≡ before ++ (uri ++ rest) → decoded uri ≡ Err f → x ≡ Err (At (problem_of f) start) → EndsAs flow start text x
+  bad_octets : (before uri rest : List ℕ) (f : UriFault) (x : Result (Read Tag) Fault) → text ≡ before ++ (uri ++ rest) → decoded uri ≡ Err f → x ≡ Err (At (problem_of f) start) → TagEndsAs flow start text x
   bad_octets before uri rest f x cut bad is = refuses (problem_of f) (by_octets before uri rest f cut bad) is
 
 -- ---- a verbatim tag
@@ -123,11 +123,11 @@ module _ (flow : Bool) (start : Position) (b : List ℕ) where
   written = leading classes.is_uri b
 
   closing : (cs : List ℕ) (r : List ℕ) → decoded written ≡ Ok cs → after classes.is_uri b ≡ r
-      → EndsAs flow start (60 ∷ b) (and_then (verbatim_end start cs r (further (length written) (past (past start)))) (λ t. tag_end flow start t))
+      → TagEndsAs flow start (60 ∷ b) (and_then (verbatim_end start cs r (further (length written) (past (past start)))) (λ t. tag_end flow start t))
   closing cs [] is e = refuses problem.VerbatimTagEnd (unclosed written [] (ap (λ k. 60 ∷ k) (span_cut classes.is_uri b ∙ ap (λ k. written ++ k) e)) (all_leading classes.is_uri b) refl) refl
   closing cs (c ∷ r) is e = by (c == 62) refl
     where
-      by : (closes : Bool) → (c == 62) ≡ closes → EndsAs flow start (60 ∷ b) (and_then (verbatim_end start cs (c ∷ r) (further (length written) (past (past start)))) (λ t. tag_end flow start t))
+      by : (closes : Bool) → (c == 62) ≡ closes → TagEndsAs flow start (60 ∷ b) (and_then (verbatim_end start cs (c ∷ r) (further (length written) (past (past start)))) (λ t. tag_end flow start t))
       by true f =
           let same : c ≡ 62 = eqb-true c 62 f in
           let cut : b ≡ (written ++ 62 ∷ []) ++ r = span_cut classes.is_uri b ∙ ap (λ k. written ++ k) (e ∙ ap (λ d. d ∷ r) same) ∙ sym (append_assoc written (62 ∷ []) r) in
@@ -135,24 +135,24 @@ module _ (flow : Bool) (start : Position) (b : List ℕ) where
       by false f = refuses problem.VerbatimTagEnd (unclosed written (c ∷ r) (ap (λ k. 60 ∷ k) (span_cut classes.is_uri b ∙ ap (λ k. written ++ k) e)) (all_leading classes.is_uri b) f) (rw f refl)
 
   verbatim_by : (d : Result (List ℕ) UriFault) → decoded written ≡ d
-      → EndsAs flow start (60 ∷ b) (and_then (and_then (after_class classes.is_uri start (past (past start)) b [] d) (λ (r : Read (List ℕ)). verbatim_end start r.value r.rest r.place)) (λ t. tag_end flow start t))
+      → TagEndsAs flow start (60 ∷ b) (and_then (and_then (after_class classes.is_uri start (past (past start)) b [] d) (λ (r : Read (List ℕ)). verbatim_end start r.value r.rest r.place)) (λ t. tag_end flow start t))
   verbatim_by (Err f) e = bad_octets flow start (60 ∷ b) (60 ∷ []) written (after classes.is_uri b) f _ (ap (λ k. 60 ∷ k) (span_cut classes.is_uri b)) e refl
   verbatim_by (Ok cs) e = closing cs (after classes.is_uri b) e refl
 
-  verbatims : EndsAs flow start (60 ∷ b) (tag flow (33 ∷ 60 ∷ b) start)
+  verbatims : TagEndsAs flow start (60 ∷ b) (tag flow (33 ∷ 60 ∷ b) start)
   unfolding tag verbatim
   verbatims = rw ((uris_are_read start b (past (past start)) []).0) (verbatim_by (decoded written) refl)
 
 -- ---- a shorthand
 
-pub decoded_some : (c : ℕ) (r cs : List ℕ) → decoded (c ∷ r) ≡ Ok cs → is_nil cs ≡ false
+pub decoded_some : (c : ℕ) (r cs : List ℕ) → decoded (c ∷ r) ≡ Ok cs → is_empty cs ≡ false
 decoded_some c r cs h = by (uri_character c r) h
   where
-    then_by : (code : ℕ) (o : Result (List ℕ) UriFault) → put_code code o ≡ Ok cs → is_nil cs ≡ false
+    then_by : (code : ℕ) (o : Result (List ℕ) UriFault) → put_code code o ≡ Ok cs → is_empty cs ≡ false
     then_by code (Err f) h = cc
     then_by code (Ok ds) h = let same : code ∷ ds ≡ cs = cc in rw (← same) refl
 
-    by : (o : Result defs.Escaped UriFault) → defs.code_followed o (λ n. decoded_after n r) ≡ Ok cs → is_nil cs ≡ false
+    by : (o : Result defs.Escaped UriFault) → defs.code_followed o (λ n. decoded_after n r) ≡ Ok cs → is_empty cs ≡ false
     by (Err f) h = cc
     by (Ok e) h = then_by e.code (decoded_after e.further r) h
 
@@ -210,13 +210,13 @@ is_shorthand [] (c ∷ r) h e = rw e refl
 is_shorthand (c ∷ name) r h e = let q = and_parts (classes.is_alpha c) (all_of classes.is_alpha name) h in rw ((alpha_starts c q.0).0) refl
 
 -- one that is not empty
-shorthand_by : (name r : List ℕ) → is_nil (name ++ r) ≡ false
+shorthand_by : (name r : List ℕ) → is_empty (name ++ r) ≡ false
     → defs.shorthand (name ++ r) ≡ (if defs.begins_with_mark (after classes.is_alpha (name ++ r)) then defs.named (leading classes.is_alpha (name ++ r)) (after classes.is_alpha (name ++ r)) else tag_of_class classes.is_tag (codes "!") (name ++ r))
 shorthand_by [] [] h = cc
 shorthand_by [] (c ∷ r) h = refl
 shorthand_by (c ∷ name) r h = refl
 
-some_text : (name r : List ℕ) (c : ℕ) → is_nil (name ++ c ∷ r) ≡ false
+some_text : (name r : List ℕ) (c : ℕ) → is_empty (name ++ c ∷ r) ≡ false
 some_text [] r c = refl
 some_text (d ∷ name) r c = refl
 
@@ -241,24 +241,24 @@ no_mark : (r : List ℕ) → all_of classes.is_tag r ≡ true → (defs.begins_w
 no_mark [] h = (refl, refl)
 no_mark (c ∷ r) h = let q = and_parts (classes.is_tag c) (all_of classes.is_tag r) h in ((tag_starts c q.0).1, (tag_starts c q.0).0)
 
-local_written : (name r cs : List ℕ) → all_of classes.is_alpha name ≡ true → all_of classes.is_tag r ≡ true → begins_in classes.is_alpha r ≡ false → decoded r ≡ Ok cs → is_nil (name ++ r) ≡ false
+local_written : (name r cs : List ℕ) → all_of classes.is_alpha name ≡ true → all_of classes.is_tag r ≡ true → begins_in classes.is_alpha r ≡ false → decoded r ≡ Ok cs → is_empty (name ++ r) ≡ false
     → written_tag (33 ∷ (name ++ r)) ≡ Some (record { handle = 33 ∷ []; suffix = name ++ cs })
 local_written name r cs all tags begins is some =
     let z = leading_all classes.is_alpha name r all begins in
     let m = no_mark r tags in
     is_shorthand name r all m.1 ∙ shorthand_by name r some ∙ rw (z.1, m.0, all_tag name r all tags, decoded_word name r cs all is) refl
 
-nil_parts : (a b : List ℕ) → is_nil (a ++ b) ≡ true → (a ≡ []) × (b ≡ [])
+nil_parts : (a b : List ℕ) → is_empty (a ++ b) ≡ true → (a ≡ []) × (b ≡ [])
 nil_parts [] [] h = (refl, refl)
 nil_parts [] (c ∷ b) h = cc
 nil_parts (c ∷ a) b h = cc
 
-still_none : (name l cs : List ℕ) → is_nil (name ++ l) ≡ true → decoded l ≡ Ok cs → is_nil (name ++ cs) ≡ true
+still_none : (name l cs : List ℕ) → is_empty (name ++ l) ≡ true → decoded l ≡ Ok cs → is_empty (name ++ cs) ≡ true
 still_none [] [] cs h e = let none : [] ≡ cs = cc in rw (← none) refl
 still_none [] (c ∷ l) cs h e = cc
 still_none (d ∷ name) l cs h e = cc
 
-pub still_some : (name l cs : List ℕ) → is_nil (name ++ l) ≡ false → decoded l ≡ Ok cs → is_nil (name ++ cs) ≡ false
+pub still_some : (name l cs : List ℕ) → is_empty (name ++ l) ≡ false → decoded l ≡ Ok cs → is_empty (name ++ cs) ≡ false
 still_some [] [] cs h e = cc
 still_some [] (c ∷ l) cs h e = decoded_some c l cs e
 still_some (d ∷ name) l cs h e = refl
@@ -286,65 +286,65 @@ named_place p n m k e =
 module _ (flow : Bool) (start : Position) (text name : List ℕ) (all : all_of classes.is_alpha name ≡ true) where
   -- after a name and a second mark
   suffix_by : (s l rest : List ℕ) (d : Result (List ℕ) UriFault) → text ≡ name ++ 33 ∷ (l ++ rest) → leading classes.is_tag s ≡ l → s ≡ l ++ rest → after classes.is_tag s ≡ rest → decoded l ≡ d
-      → EndsAs flow start text (and_then (and_then (after_class classes.is_tag start (past (further (length name) (past start))) s [] d) (λ r. some_suffix start name r)) (λ t. tag_end flow start t))
+      → TagEndsAs flow start text (and_then (and_then (after_class classes.is_tag start (past (further (length name) (past start))) s [] d) (λ r. some_suffix start name r)) (λ t. tag_end flow start t))
   suffix_by s l rest (Err f) cut lead same b e =
       bad_octets flow start text (name ++ 33 ∷ []) l rest f _ (cut ∙ sym (append_assoc name (33 ∷ []) (l ++ rest))) e refl
   suffix_by s [] rest (Ok cs) cut lead same b e =
       let none : [] ≡ cs = cc in
       rw (← none) (refuses problem.TagUri (no_suffix name rest cut all (ap (leading classes.is_tag) (sym same) ∙ lead)) refl)
   suffix_by s (c ∷ l) rest (Ok cs) cut lead same b e =
-      let some : is_nil cs ≡ false = decoded_some c l cs e in
+      let some : is_empty cs ≡ false = decoded_some c l cs e in
       let tags : all_of classes.is_tag (c ∷ l) ≡ true = ap (all_of classes.is_tag) (sym lead) ∙ all_leading classes.is_tag s in
       rw (some, b, lead) (ended flow start text (name ++ 33 ∷ c ∷ l) rest ((33 ∷ name) ++ 33 ∷ []) cs _ (cut ∙ sym (append_assoc name (33 ∷ c ∷ l) rest)) (named_written name c l cs all tags e)
       (named_place start (length name) (length (c ∷ l)) (length (name ++ 33 ∷ c ∷ l)) (length-append name (33 ∷ c ∷ l))))
 
   -- after a word and no mark
   local_by : (m l rest : List ℕ) (d : Result (List ℕ) UriFault) → text ≡ name ++ (l ++ rest) → begins_in classes.is_alpha l ≡ false → leading classes.is_tag m ≡ l → after classes.is_tag m ≡ rest → decoded l ≡ d
-      → EndsAs flow start text (and_then (and_then (after_class classes.is_tag start (further (length name) (past start)) m name d) (λ r. Ok (local r))) (λ t. tag_end flow start t))
+      → TagEndsAs flow start text (and_then (and_then (after_class classes.is_tag start (further (length name) (past start)) m name d) (λ r. Ok (local r))) (λ t. tag_end flow start t))
   local_by m l rest (Err f) cut begins lead b e = bad_octets flow start text name l rest f _ cut e refl
-  local_by m l rest (Ok cs) cut begins lead b e = by (is_nil (name ++ l)) refl
+  local_by m l rest (Ok cs) cut begins lead b e = by (is_empty (name ++ l)) refl
     where
-      by : (none : Bool) → is_nil (name ++ l) ≡ none → EndsAs flow start text (tag_end flow start (local (record { rest = after classes.is_tag m; place = further (length (leading classes.is_tag m)) (further (length name) (past start)); value = name ++ cs })))
+      by : (none : Bool) → is_empty (name ++ l) ≡ none → TagEndsAs flow start text (tag_end flow start (local (record { rest = after classes.is_tag m; place = further (length (leading classes.is_tag m)) (further (length name) (past start)); value = name ++ cs })))
       by true f =
           let parts = nil_parts name l f in
           let zeros : 0 ≡ length name + length l = rw (parts.0, parts.1) refl in
           let here : text ≡ rest = cut ∙ rw (parts.0, parts.1) refl in
-          let none : is_nil (name ++ cs) ≡ true = still_none name l cs f e in
+          let none : is_empty (name ++ cs) ≡ true = still_none name l cs f e in
           rw (none, b, lead) (ended flow start text [] rest [] (33 ∷ []) _ here refl (local_place start (length name) (length l) 0 zeros))
       by false f =
-          let some : is_nil (name ++ cs) ≡ false = still_some name l cs f e in
+          let some : is_empty (name ++ cs) ≡ false = still_some name l cs f e in
           let tags : all_of classes.is_tag l ≡ true = ap (all_of classes.is_tag) (sym lead) ∙ all_leading classes.is_tag m in
           rw (some, b, lead) (ended flow start text (name ++ l) rest (33 ∷ []) (name ++ cs) _ (cut ∙ sym (append_assoc name l rest)) (local_written name l cs all tags begins e f)
           (local_place start (length name) (length l) (length (name ++ l)) (length-append name l)))
 
-  from_mark : (s : List ℕ) → text ≡ name ++ 33 ∷ s → EndsAs flow start text (and_then (after_name start name (33 ∷ s) (further (length name) (past start))) (λ t. tag_end flow start t))
+  from_mark : (s : List ℕ) → text ≡ name ++ 33 ∷ s → TagEndsAs flow start text (and_then (after_name start name (33 ∷ s) (further (length name) (past start))) (λ t. tag_end flow start t))
   unfolding named
   from_mark s cut =
       rw ((uris_are_read start s (past (further (length name) (past start))) []).1)
       (suffix_by s (leading classes.is_tag s) (after classes.is_tag s) (decoded (leading classes.is_tag s)) (cut ∙ ap (λ r. name ++ 33 ∷ r) (span_cut classes.is_tag s)) refl (span_cut classes.is_tag s) refl refl)
 
-  from_word : (m : List ℕ) → text ≡ name ++ m → begins_in classes.is_alpha m ≡ false → (slice_index m 0 == 33) ≡ false → EndsAs flow start text (and_then (after_name start name m (further (length name) (past start))) (λ t. tag_end flow start t))
+  from_word : (m : List ℕ) → text ≡ name ++ m → begins_in classes.is_alpha m ≡ false → (slice_index m 0 == 33) ≡ false → TagEndsAs flow start text (and_then (after_name start name m (further (length name) (past start))) (λ t. tag_end flow start t))
   from_word m cut begins unmarked =
       rw (unmarked, (uris_are_read start m (further (length name) (past start)) name).1)
       (local_by m (leading classes.is_tag m) (after classes.is_tag m) (decoded (leading classes.is_tag m)) (cut ∙ ap (λ r. name ++ r) (span_cut classes.is_tag m)) (still_no_word m begins) refl refl refl)
 
 shorthand_from : (flow : Bool) (start : Position) (a m : List ℕ) → after classes.is_alpha a ≡ m
-    → EndsAs flow start a (and_then (after_name start (leading classes.is_alpha a) m (further (length (leading classes.is_alpha a)) (past start))) (λ t. tag_end flow start t))
+    → TagEndsAs flow start a (and_then (after_name start (leading classes.is_alpha a) m (further (length (leading classes.is_alpha a)) (past start))) (λ t. tag_end flow start t))
 shorthand_from flow start a [] e = from_word flow start a (leading classes.is_alpha a) (all_leading classes.is_alpha a) [] (span_cut classes.is_alpha a ∙ ap (λ r. leading classes.is_alpha a ++ r) e) refl refl
 shorthand_from flow start a (c ∷ s) e = by (c == 33) refl
   where
     cut : a ≡ leading classes.is_alpha a ++ c ∷ s
     cut = span_cut classes.is_alpha a ∙ ap (λ r. leading classes.is_alpha a ++ r) e
 
-    by : (marked : Bool) → (c == 33) ≡ marked → EndsAs flow start a (and_then (after_name start (leading classes.is_alpha a) (c ∷ s) (further (length (leading classes.is_alpha a)) (past start))) (λ t. tag_end flow start t))
+    by : (marked : Bool) → (c == 33) ≡ marked → TagEndsAs flow start a (and_then (after_name start (leading classes.is_alpha a) (c ∷ s) (further (length (leading classes.is_alpha a)) (past start))) (λ t. tag_end flow start t))
     by true f = let same : c ≡ 33 = eqb-true c 33 f in rw same (from_mark flow start a (leading classes.is_alpha a) (all_leading classes.is_alpha a) s (cut ∙ ap (λ d. leading classes.is_alpha a ++ d ∷ s) same))
     by false f = from_word flow start a (leading classes.is_alpha a) (all_leading classes.is_alpha a) (c ∷ s) cut (ap (begins_in classes.is_alpha) (sym e) ∙ ends_after classes.is_alpha a) f
 
-shorthands : (flow : Bool) (start : Position) (a : List ℕ) → (slice_index a 0 == 60) ≡ false → EndsAs flow start a (tag flow (33 ∷ a) start)
+shorthands : (flow : Bool) (start : Position) (a : List ℕ) → (slice_index a 0 == 60) ≡ false → TagEndsAs flow start a (tag flow (33 ∷ a) start)
 unfolding tag shorthand
 shorthands flow start a e = rw (e, word a (past start) []) (shorthand_from flow start a (after classes.is_alpha a) refl)
 
-tags_by : (flow : Bool) (start : Position) (c : ℕ) (b : List ℕ) (opens : Bool) → (c == 60) ≡ opens → EndsAs flow start (c ∷ b) (tag flow (33 ∷ c ∷ b) start)
+tags_by : (flow : Bool) (start : Position) (c : ℕ) (b : List ℕ) (opens : Bool) → (c == 60) ≡ opens → TagEndsAs flow start (c ∷ b) (tag flow (33 ∷ c ∷ b) start)
 tags_by flow start c b true e = let same : c ≡ 60 = eqb-true c 60 e in rw same (verbatims flow start b)
 tags_by flow start c b false e = shorthands flow start (c ∷ b) e
 

@@ -13,7 +13,7 @@ use Rattle.defs_text.specs.Classes.{is_between}
 use Rattle.defs_scalar.specs.FlowScalar.{is_character_code}
 use Rattle.defs_scalar.specs.Tags.{leading, after, UriFault, wrong_trail, no_character, octet_at, Lead, lead_of, is_trail, trail_by, trails, checked, led_by, escaped_character, uri_character, put_code, code_followed, decoded_after, decoded}
 use Rattle.model_lexers.specs.Machine.{Read, past, and_then}
-use Rattle.model_lexers.specs.Uri.{Octet, lead, trail, plain, high, State, at_trail, at_octet, uri_from, octet_from, trails_from}
+use Rattle.model_lexers.specs.Uri.{Octet, lead, trail, plain, high, UriState, at_trail, at_octet, uri_from, octet_from, trails_from}
 use Rattle.model_lexers.proofs.UriLemmas.{low_turn}
 use Rattle.proof_lexers.proofs.Bridges.{same_digit, same_code, same_uri, same_tag, both}
 use Rattle.proof_lexers.specs.NameEnds.{further}
@@ -24,7 +24,7 @@ use Rattle.proof_lexers.proofs.Properties.Names.{one_further, none_further}
 -- ---- octets
 
 -- where a first octet leads
-abbrev lead_to : Position → Position → List ℕ → Option Lead → Result State Fault
+abbrev lead_to : Position → Position → List ℕ → Option Lead → Result UriState Fault
 lead_to start p t None = Err (At problem.TagLeadingOctet start)
 lead_to start p t (Some l) = at_trail start l.further l.bits l.least p t
 

@@ -3,7 +3,7 @@ use Rattle.std.proofs.Common.{◌≡◌, ℕ, zero, suc, ◌+◌, List, [], ◌�
 use Rattle.std.proofs.lemmas.Bool.{not-true}
 use Rattle.defs_text.specs.Position.{Position}
 use Rattle.yaml_chars.specs.Class.{is_break, is_blank}
-use Rattle.defs_text.specs.Text.{is_nil}
+use Rattle.defs_text.specs.Text.{is_empty}
 use Rattle.yaml_tokens.specs.declared.problem.Fault.{Fault}
 use Rattle.yaml_tokens.specs.declared.problem.Fault.TheVariants.{At}
 use Rattle.yaml_tokens.specs.declared.problem.Problem.TheVariants as problem
@@ -144,7 +144,7 @@ module _ (single : Bool) (ctx : Context) (start : Position) where
   open_gap : (t : Folded) → t.gap ≡ [] → t.escaped ≡ true → t.text ≡ (joined t).text
   open_gap t e f = by t.leading
     where
-      by : (leading : Bool) → t.text ≡ t.text ++ (if leading && not t.escaped && is_nil t.gap then 32 ∷ [] else t.gap)
+      by : (leading : Bool) → t.text ≡ t.text ++ (if leading && not t.escaped && is_empty t.gap then 32 ∷ [] else t.gap)
       by true = rw (f, e) (sym (append-nil t.text))
       by false = rw e (sym (append-nil t.text))
 

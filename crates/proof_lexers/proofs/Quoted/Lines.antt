@@ -8,7 +8,7 @@ use Rattle.yaml_tokens.specs.declared.problem.Fault.{Fault}
 use Rattle.model_lexers.specs.declared.context.Context.{Context}
 use Rattle.model_lexers.specs.Machine.{Read, past, at_marker}
 use Rattle.model_lexers.specs.Folding.{Folded, nothing}
-use Rattle.model_lexers.specs.Quoted.{State, inside, gap, quote_of, quoted, quoted_from, digits_from, refused, escape_of, is_scalar}
+use Rattle.model_lexers.specs.Quoted.{QuotedState, inside, gap, quote_of, quoted, quoted_from, digits_from, refused, escape_of, is_scalar}
 use Rattle.model_lexers.specs.Quoted
 use Rattle.model_lexers.proofs.QuotedLemmas.{digit_turn, closed_end, coded}
 use Rattle.proof_lexers.specs.HeaderEnds.{along}
@@ -30,13 +30,13 @@ module _ (single : Bool) (ctx : Context) (start : Position) where
   folded text blanks = record { text = text; gap = blanks; leading = false; escaped = false }
 
   -- in a line, after blanks or none
-  abbrev pub at : Position → List ℕ → List ℕ → State
+  abbrev pub at : Position → List ℕ → List ℕ → QuotedState
   at p text blanks = record { mode = gap; place = p; folded = folded text blanks }
 
-  abbrev within : Position → List ℕ → State
+  abbrev within : Position → List ℕ → QuotedState
   within p text = record { mode = inside; place = p; folded = folded text [] }
 
-  abbrev pub scan : List ℕ → State → Result (Read (List ℕ)) Fault
+  abbrev pub scan : List ℕ → QuotedState → Result (Read (List ℕ)) Fault
   scan a s = quoted_from single ctx start a s
 
   same_by : (c : ℕ) (a : List ℕ) (p : Position) (text : List ℕ) (b : Bool) → (is_break c || is_blank c) ≡ b → IsIn ctx p → scan (c ∷ a) (within p text) ≡ scan (c ∷ a) (at p text [])

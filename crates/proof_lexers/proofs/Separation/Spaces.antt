@@ -1,16 +1,15 @@
--- The blanks and the comment that the model passes in a line are a filler.
+-- The blanks and the comment that the model passes in a line are a separation.
 use Rattle.std.proofs.Common.{◌≡◌, ℕ, List, [], ◌∷◌, ◌++◌, Bool, true, false, ◌||◌, ◌&&◌, ◌==◌, if◌then◌else◌, Result, Ok, Err, refl, ap, sym, ◌∙◌, arith}
 use Rattle.std.proofs.lemmas.Bool.{eqb-true}
 use Rattle.std.proofs.lemmas.Bool.Decides.{nat_tests}
-use Rattle.defs_text.specs.Position.{Position}
+use Rattle.defs_text.specs.Position.{Position, position_past, position_after}
 use Rattle.yaml_chars.specs.Class.{is_break, is_blank}
 use Rattle.yaml_tokens.specs.declared.problem.Fault.{Fault}
 use Rattle.yaml_tokens.specs.declared.problem.Fault.TheVariants.{At}
 use Rattle.yaml_tokens.specs.declared.problem.Problem.TheVariants as problem
 use Rattle.defs_text.specs.Classes as classes
 use Rattle.defs_scalar.specs.FlowScalar.{begins_with}
-use Rattle.defs_text.specs.Position.{position_past, position_after}
-use Rattle.defs_token.specs.Filler.{is_filler}
+use Rattle.defs_token.specs.Separation.{is_separation}
 use Rattle.model_lexers.specs.declared.context.SkipTabs.{SkipTabs}
 use Rattle.model_lexers.specs.declared.context.Whitespace.{Whitespace}
 use Rattle.model_lexers.specs.Machine.{Read, past, skip_while}
@@ -18,9 +17,9 @@ use Rattle.model_lexers.specs.Space.{is_line, are_skipped, with_found, comment_a
 use Rattle.proof_lexers.proofs.Bridges.{same_break, same_blank}
 use Rattle.proof_lexers.specs.PlainEnds.{has_break}
 use Rattle.proof_lexers.specs.ScalarLaws.{SpacesArePassed}
-use Rattle.proof_lexers.specs.Fillers.{after_space, has, are_spaces, ends_spaces, SpacesAs, spaces, glued}
+use Rattle.proof_lexers.specs.Separations.{after_space, has, are_spaces, ends_spaces, SpacesAs, spaces, glued}
 use Rattle.proof_lexers.proofs.Plain.Turns.{in_line_place, or_true, or_false}
-use Rattle.proof_lexers.proofs.Separation.Fillers.{no_hash}
+use Rattle.proof_lexers.proofs.Separation.Separations.{no_hash}
 
 -- whether a text begins with a break, or there is none
 abbrev is_line_end : List ℕ → Bool
@@ -40,7 +39,7 @@ record Line (a : List ℕ) (p : Position) : Type 0 where
   line : List ℕ
   rest : List ℕ
   cut : a ≡ line ++ rest
-  fills : is_filler true line rest ≡ true
+  fills : is_separation true line rest ≡ true
   breaks : has_break line ≡ false
   ends : is_line_end rest ≡ true
   is : skip_while is_line a p ≡ record { rest = rest; place = position_after p line rest; value = tt }
@@ -68,7 +67,7 @@ line_of (c ∷ a) p = by (is_break c) refl (line_of a (past p))
 
 -- from a place after some blanks on
 data Passes (tabs : SkipTabs) (w : Whitespace) (p : Position) (a : List ℕ) (x : Result (Read Whitespace) Fault) : Type 0 where
-  passed : (blanks comment rest : List ℕ) → a ≡ blanks ++ (comment ++ rest) → are_spaces tabs blanks ≡ true → is_filler false (blanks ++ comment) rest ≡ true → has_break (blanks ++ comment) ≡ false → ends_spaces tabs rest ≡ true
+  passed : (blanks comment rest : List ℕ) → a ≡ blanks ++ (comment ++ rest) → are_spaces tabs blanks ≡ true → is_separation false (blanks ++ comment) rest ≡ true → has_break (blanks ++ comment) ≡ false → ends_spaces tabs rest ≡ true
       → x ≡ Ok (after_space p (blanks ++ comment) rest (record { found_tabs = w.found_tabs || has 9 blanks; has_valid_yaml_ws = w.has_valid_yaml_ws || has 32 blanks })) → Passes tabs w p a x
   stuck : begins_with 35 a ≡ true → (w.found_tabs || w.has_valid_yaml_ws) ≡ false → x ≡ Err (At problem.CommentNotSeparated p) → Passes tabs w p a x
 

@@ -1,7 +1,7 @@
--- What the model passes after a `?` is a filler.
+-- What the model passes after a `?` is a separation.
 use Rattle.std.proofs.Common.{◌≡◌, ℕ, List, [], ◌∷◌, ◌++◌, Bool, true, false, ◌||◌, not, ◌==◌, Result, Ok, Err, refl, ap, sym, ◌∙◌}
 use Rattle.std.proofs.lemmas.Bool.{eqb-true}
-use Rattle.defs_text.specs.Position.{Position}
+use Rattle.defs_text.specs.Position.{Position, position_past, position_after}
 use Rattle.yaml_chars.specs.Class.{is_break, is_blank}
 use Rattle.yaml_tokens.specs.declared.problem.Fault.{Fault}
 use Rattle.yaml_tokens.specs.declared.problem.Fault.TheVariants.{At}
@@ -9,27 +9,26 @@ use Rattle.yaml_tokens.specs.declared.problem.Problem.TheVariants as problem
 use Rattle.defs_text.specs.Classes as classes
 use Rattle.defs_text.specs.Breaks.{is_before_line_feed}
 use Rattle.defs_scalar.specs.FlowScalar.{begins_with}
-use Rattle.defs_text.specs.Position.{position_past, position_after}
-use Rattle.defs_token.specs.Filler.{is_filler}
+use Rattle.defs_token.specs.Separation.{is_separation}
 use Rattle.model_lexers.specs.Machine.{past, past_break, is_cr_lf}
-use Rattle.model_scanner.specs.State.{Held, State, in_flow, moved}
+use Rattle.model_scanner.specs.State.{Held, ScannerState, in_flow, moved}
 use Rattle.model_scanner.specs.Space.{white, white_end}
 use Rattle.proof_lexers.proofs.Bridges.{same_break}
 use Rattle.proof_lexers.specs.PlainEnds.{has_break}
 use Rattle.proof_lexers.specs.ScalarLaws.{WhiteSpaceIsPassed}
-use Rattle.proof_lexers.specs.Fillers.{begins_white_space, after_filler, GoesOverAs, goes, misses}
+use Rattle.proof_lexers.specs.Separations.{begins_white_space, after_separation, GoesOverAs, goes, misses}
 use Rattle.proof_lexers.proofs.Plain.Turns.{same_feed, in_line_place, line_place, or_true}
-use Rattle.proof_lexers.proofs.Separation.Fillers.{at, Allows, begins_break, stayed, passes_more, same_allowed, line_allowed, feed_allowed, no_break_hash, fills_comment, fills_hash, fills_blank}
+use Rattle.proof_lexers.proofs.Separation.Separations.{at, Allows, begins_break, stayed, passes_more, same_allowed, line_allowed, feed_allowed, no_break_hash, fills_comment, fills_hash, fills_blank}
 
 -- from a place in a comment or not, after a space or a break or not
-data Goes (in_comment found : Bool) (s : Held) (a : List ℕ) (x : Result State Fault) : Type 0 where
-  gone : (leading : Bool) (filler rest : List ℕ) → a ≡ filler ++ rest → is_filler in_comment filler rest ≡ true → begins_white_space rest ≡ false → x ≡ Ok (after_filler s leading filler rest) → Goes in_comment found s a x
-  missed : (filler rest : List ℕ) → found ≡ false → a ≡ filler ++ rest → is_filler in_comment filler rest ≡ true → (in_comment || not (begins_with 32 a)) ≡ true → has_break filler ≡ false → begins_white_space rest ≡ false
-      → x ≡ Err (At problem.WhitespaceExpected (position_after s.place filler rest)) → Goes in_comment found s a x
+data Goes (in_comment found : Bool) (s : Held) (a : List ℕ) (x : Result ScannerState Fault) : Type 0 where
+  gone : (leading : Bool) (separation rest : List ℕ) → a ≡ separation ++ rest → is_separation in_comment separation rest ≡ true → begins_white_space rest ≡ false → x ≡ Ok (after_separation s leading separation rest) → Goes in_comment found s a x
+  missed : (separation rest : List ℕ) → found ≡ false → a ≡ separation ++ rest → is_separation in_comment separation rest ≡ true → (in_comment || not (begins_with 32 a)) ≡ true → has_break separation ≡ false → begins_white_space rest ≡ false
+      → x ≡ Err (At problem.WhitespaceExpected (position_after s.place separation rest)) → Goes in_comment found s a x
 
-goes_on : (i f : Bool) (s : Held) (a : List ℕ) (x y : Result State Fault) → x ≡ y → Goes i f s a y → Goes i f s a x
-goes_on i f s a x y e (gone leading filler rest cut is ends k) = gone leading filler rest cut is ends (e ∙ k)
-goes_on i f s a x y e (missed filler rest none cut is here breaks ends k) = missed filler rest none cut is here breaks ends (e ∙ k)
+goes_on : (i f : Bool) (s : Held) (a : List ℕ) (x y : Result ScannerState Fault) → x ≡ y → Goes i f s a y → Goes i f s a x
+goes_on i f s a x y e (gone leading separation rest cut is ends k) = gone leading separation rest cut is ends (e ∙ k)
+goes_on i f s a x y e (missed separation rest none cut is here breaks ends k) = missed separation rest none cut is here breaks ends (e ∙ k)
 
 no_break_at : (rest : List ℕ) → begins_white_space rest ≡ false → begins_break rest ≡ false
 no_break_at [] h = refl
@@ -41,25 +40,25 @@ no_break_at (c ∷ r) h = by (c == 32) (classes.is_break c) h
     by false false h = refl
 
 -- One character more is passed; a space or a break is found there, or it begins or continues a comment.
-one_more : (i j f g : Bool) (s : Held) (c : ℕ) (a : List ℕ) (b k : Bool) (x : Result State Fault) → ((filler rest : List ℕ) → is_filler j filler rest ≡ true → is_filler i (c ∷ filler) rest ≡ true) → Allows s c k a
+one_more : (i j f g : Bool) (s : Held) (c : ℕ) (a : List ℕ) (b k : Bool) (x : Result ScannerState Fault) → ((separation rest : List ℕ) → is_separation j separation rest ≡ true → is_separation i (c ∷ separation) rest ≡ true) → Allows s c k a
     → (g ≡ false → (f ≡ false) × (classes.is_break c ≡ false) × ((i || not (c == 32)) ≡ true)) → Goes j g (at s (position_past s.place c a) b k) a x → Goes i f s (c ∷ a) x
-one_more i j f g s c a b k x fills allows founds (gone leading filler rest cut is ends e) =
-    gone leading (c ∷ filler) rest (ap (λ r. c ∷ r) cut) (fills filler rest is) ends (passes_more s c a b k leading filler rest x allows cut (no_break_at rest ends) e)
-one_more i j f g s c a b k x fills allows founds (missed filler rest none cut is here breaks ends e) =
+one_more i j f g s c a b k x fills allows founds (gone leading separation rest cut is ends e) =
+    gone leading (c ∷ separation) rest (ap (λ r. c ∷ r) cut) (fills separation rest is) ends (passes_more s c a b k leading separation rest x allows cut (no_break_at rest ends) e)
+one_more i j f g s c a b k x fills allows founds (missed separation rest none cut is here breaks ends e) =
     let z = founds none in
-    missed (c ∷ filler) rest z.0 (ap (λ r. c ∷ r) cut) (fills filler rest is) z.2 (rw z.1 breaks) ends (e ∙ ap (λ r. Err (At problem.WhitespaceExpected (position_after (position_past s.place c r) filler rest))) cut)
+    missed (c ∷ separation) rest z.0 (ap (λ r. c ∷ r) cut) (fills separation rest is) z.2 (rw z.1 breaks) ends (e ∙ ap (λ r. Err (At problem.WhitespaceExpected (position_after (position_past s.place c r) separation rest))) cut)
 
 abbrev Passed : List ℕ → Type 0
 Passed a = (i f : Bool) (s : Held) → Goes i f s a (white i f a s)
 
-fills_break : (i : Bool) (c : ℕ) (filler rest : List ℕ) → is_break c ≡ true → is_filler false filler rest ≡ true → is_filler i (c ∷ filler) rest ≡ true
-fills_break true c filler rest e h = rw (same_break c, e) h
-fills_break false c filler rest e h = let breaks : classes.is_break c ≡ true = same_break c ∙ e in rw (breaks, or_true (classes.is_blank c), no_break_hash c e) h
+fills_break : (i : Bool) (c : ℕ) (separation rest : List ℕ) → is_break c ≡ true → is_separation false separation rest ≡ true → is_separation i (c ∷ separation) rest ≡ true
+fills_break true c separation rest e h = rw (same_break c, e) h
+fills_break false c separation rest e h = let breaks : classes.is_break c ≡ true = same_break c ∙ e in rw (breaks, or_true (classes.is_blank c), no_break_hash c e) h
 
 broken_to : (i f : Bool) (s : Held) (c : ℕ) (a : List ℕ) (p : Position) (b k : Bool) → is_break c ≡ true → Allows s c k a → p ≡ position_past s.place c a → Passed a → white i f (c ∷ a) s ≡ white false true a (at s p b k) → Goes i f s (c ∷ a) (white i f (c ∷ a) s)
 broken_to i f s c a p b k e allows place ih is =
     let here = at s (position_past s.place c a) b k in
-    one_more i false f true s c a b k (white i f (c ∷ a) s) (λ filler rest h. fills_break i c filler rest e h) allows (λ none. cc)
+    one_more i false f true s c a b k (white i f (c ∷ a) s) (λ separation rest h. fills_break i c separation rest e h) allows (λ none. cc)
     (goes_on false true here a (white i f (c ∷ a) s) (white false true a here) (is ∙ ap (λ q. white false true a (at s q b k)) place) (ih false true here))
 
 broken_by : (i f : Bool) (s : Held) (c : ℕ) (a : List ℕ) (feed : Bool) → is_cr_lf c a ≡ feed → is_break c ≡ true → Passed a → Goes i f s (c ∷ a) (white i f (c ∷ a) s)
@@ -73,7 +72,7 @@ broken_by i f s c a false h e ih =
     let g : is_before_line_feed c a ≡ false = sym (same_feed c a) ∙ h in
     broken_to i f s c a (past_break s.place) true (not (in_flow s) || s.key_allowed) e (line_allowed s c a breaks) (sym (line_place c a s.place (rw (breaks, g) refl))) ih (rw (e, h) refl)
 
-on_line : (i j f g : Bool) (s : Held) (c : ℕ) (a : List ℕ) → is_break c ≡ false → ((filler rest : List ℕ) → is_filler j filler rest ≡ true → is_filler i (c ∷ filler) rest ≡ true)
+on_line : (i j f g : Bool) (s : Held) (c : ℕ) (a : List ℕ) → is_break c ≡ false → ((separation rest : List ℕ) → is_separation j separation rest ≡ true → is_separation i (c ∷ separation) rest ≡ true)
     → (g ≡ false → (f ≡ false) × ((i || not (c == 32)) ≡ true)) → Passed a → white i f (c ∷ a) s ≡ white j g a (moved s) → Goes i f s (c ∷ a) (white i f (c ∷ a) s)
 on_line i j f g s c a e fills founds ih is =
     let no_break : classes.is_break c ≡ false = same_break c ∙ e in
@@ -89,14 +88,14 @@ space_is_blank c h = rw h refl
 hash_is_no_space : (c : ℕ) → (c == 35) ≡ true → (c == 32) ≡ false
 hash_is_no_space c h = let e : c ≡ 35 = eqb-true c 35 h in rw e refl
 
-at_end : (f : Bool) (s : Held) (a : List ℕ) (i : Bool) → is_filler i [] a ≡ true → (i || not (begins_with 32 a)) ≡ true → begins_white_space a ≡ false → Goes i f s a (white_end f a s)
+at_end : (f : Bool) (s : Held) (a : List ℕ) (i : Bool) → is_separation i [] a ≡ true → (i || not (begins_with 32 a)) ≡ true → begins_white_space a ≡ false → Goes i f s a (white_end f a s)
 at_end true s a i is here ends = gone s.leading [] a refl is ends (stayed s a)
 at_end false s a i is here ends = missed [] a refl refl is here refl ends refl
 
 line_by : (f : Bool) (s : Held) (c : ℕ) (a : List ℕ) (space hash : Bool) → (c == 32) ≡ space → (c == 35) ≡ hash → is_break c ≡ false → Passed a → Goes false f s (c ∷ a) (white false f (c ∷ a) s)
 unfolding white
-line_by f s c a true hash g h e ih = on_line false false f true s c a e (λ filler rest k. fills_blank c filler rest (space_is_blank c g) k) (λ none. cc) ih (rw (e, g) refl)
-line_by f s c a false true g h e ih = on_line false true f f s c a e (λ filler rest k. fills_hash c filler rest h k) (λ none. (none, rw g refl)) ih (rw (e, g, h) refl)
+line_by f s c a true hash g h e ih = on_line false false f true s c a e (λ separation rest k. fills_blank c separation rest (space_is_blank c g) k) (λ none. cc) ih (rw (e, g) refl)
+line_by f s c a false true g h e ih = on_line false true f f s c a e (λ separation rest k. fills_hash c separation rest h k) (λ none. (none, rw g refl)) ih (rw (e, g, h) refl)
 line_by f s c a false false g h e ih =
     let no_break : classes.is_break c ≡ false = same_break c ∙ e in
     goes_on false f s (c ∷ a) (white false f (c ∷ a) s) (white_end f (c ∷ a) s) (rw (e, g, h) refl) (at_end f s (c ∷ a) false refl (rw g refl) (rw (g, no_break, h) refl))
@@ -104,7 +103,7 @@ line_by f s c a false false g h e ih =
 one_by : (i f : Bool) (s : Held) (c : ℕ) (a : List ℕ) (breaks : Bool) → is_break c ≡ breaks → Passed a → Goes i f s (c ∷ a) (white i f (c ∷ a) s)
 unfolding white
 one_by i f s c a true e ih = broken_by i f s c a (is_cr_lf c a) refl e ih
-one_by true f s c a false e ih = on_line true true f f s c a e (λ filler rest k. fills_comment c filler rest e k) (λ none. (none, refl)) ih (rw e refl)
+one_by true f s c a false e ih = on_line true true f f s c a e (λ separation rest k. fills_comment c separation rest e k) (λ none. (none, refl)) ih (rw e refl)
 one_by false f s c a false e ih = line_by f s c a (c == 32) (c == 35) refl refl e ih
 
 passed : (a : List ℕ) → Passed a
@@ -116,8 +115,8 @@ pub white_space_is_passed : WhiteSpaceIsPassed
 white_space_is_passed s text = told (passed text false false s)
   where
     told : Goes false false s text (white false false text s) → GoesOverAs s text (white false false text s)
-    told (gone leading filler rest cut is ends e) = goes leading filler rest cut is ends e
-    told (missed filler rest none cut is here breaks ends e) = misses filler rest cut is (no_space (begins_with 32 text) here) breaks ends e
+    told (gone leading separation rest cut is ends e) = goes leading separation rest cut is ends e
+    told (missed separation rest none cut is here breaks ends e) = misses separation rest cut is (no_space (begins_with 32 text) here) breaks ends e
       where
         no_space : (b : Bool) → not b ≡ true → b ≡ false
         no_space true h = cc

@@ -4,7 +4,7 @@ use Rattle.yaml_hash_index.specs.Edges.{IsHalving}
 use Rattle.yaml_hash_index.proofs.blocks.edge_of_heads.Given as goal
 
 abbrev pub invariant-loop-low : goal.invariant-loop-low
-invariant-loop-low l = IsHalving (head_at l.blocks) (length l.blocks) l.mark l.low l.high
+invariant-loop-low l = IsHalving (head_at l.blocks) (length l.blocks) l.digest l.low l.high
 
 abbrev pub decreases-loop-low : goal.decreases-loop-low
 decreases-loop-low l = l.high - l.low

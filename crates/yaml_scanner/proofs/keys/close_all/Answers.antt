@@ -1,5 +1,5 @@
 use Rattle.std.proofs.lemmas.List.Edits.{map_over_more}
-use Rattle.yaml_scanner.specs.SimpleKeys.{no_simple}
+use Rattle.yaml_scanner.specs.ImplicitKeys.{no_simple}
 use Rattle.yaml_scanner.proofs.keys.close_all.Goals as goal
 
 pub keys-preserved : goal.keys-preserved

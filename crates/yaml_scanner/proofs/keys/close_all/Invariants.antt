@@ -1,5 +1,5 @@
 use Rattle.std.proofs.Common.{◌≡◌, ◌++◌, map, take, drop}
-use Rattle.yaml_scanner.specs.SimpleKeys.{no_simple}
+use Rattle.yaml_scanner.specs.ImplicitKeys.{no_simple}
 use Rattle.yaml_scanner.proofs.keys.close_all.Given as goal
 
 abbrev pub invariant-keys : goal.invariant-keys

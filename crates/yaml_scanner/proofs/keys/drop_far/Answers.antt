@@ -1,6 +1,6 @@
 use Rattle.std.proofs.Common.{◌∙◌, ap, sym, set}
 use Rattle.std.proofs.lemmas.List.Edits.{map_over_more}
-use Rattle.yaml_scanner.specs.SimpleKeys.{still_simple}
+use Rattle.yaml_scanner.specs.ImplicitKeys.{still_simple}
 use Rattle.yaml_scanner.proofs.keys.drop_far.Goals as goal
 
 pub keys-preserved : goal.keys-preserved

@@ -1,5 +1,5 @@
 use Rattle.std.proofs.Common.{◌≡◌, ◌++◌, map, take, drop}
-use Rattle.yaml_scanner.specs.SimpleKeys.{still_simple}
+use Rattle.yaml_scanner.specs.ImplicitKeys.{still_simple}
 use Rattle.yaml_scanner.proofs.keys.drop_far.Given as goal
 
 abbrev pub invariant-keys : goal.invariant-keys

@@ -1,5 +1,5 @@
 use Rattle.std.proofs.Common.{◌≡◌, ◌++◌, map, take, drop}
-use Rattle.yaml_scanner.specs.SimpleKeys.{lowered}
+use Rattle.yaml_scanner.specs.ImplicitKeys.{lowered}
 use Rattle.yaml_scanner.proofs.keys.lower_all.Given as goal
 
 abbrev pub invariant-keys : goal.invariant-keys

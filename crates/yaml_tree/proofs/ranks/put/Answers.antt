@@ -4,13 +4,13 @@ use Rattle.std.proofs.lemmas.List.{length-map}
 use Rattle.yaml_hash_index.specs.Blocks.{joined, rank_of}
 use Rattle.yaml_hash_index.specs.declared.entry.Entry.{Entry}
 use Rattle.yaml_hash_index.proofs.Joining.{rank_within}
-use Rattle.yaml_tree.specs.Marks.{mark, AreMarks}
-use Rattle.yaml_tree.specs.Places.{place_of_entry, mark_of_entry, places_in, marks_in}
+use Rattle.yaml_tree.specs.Digests.{digest, AreDigests}
+use Rattle.yaml_tree.specs.Places.{place_of_entry, digest_of_entry, places_in, digests_in}
 use Rattle.yaml_tree.specs.Ranked.{AreRanked}
 use Rattle.yaml_tree.specs.View.{view, pairs_view}
 use Rattle.yaml_tree.proofs.Flattened.{row_length}
 use Rattle.yaml_tree.proofs.Indexed.{map-insert}
-use Rattle.yaml_tree.proofs.Marking.{marked_added}
+use Rattle.yaml_tree.proofs.Digesting.{digested_added}
 use Rattle.yaml_tree.proofs.Ranking.{ranked_added}
 use Rattle.yaml_tree.proofs.ranks.put.Goals as goal
 
@@ -19,23 +19,23 @@ returns-clause-ranked c =
     let bs = c.args.blocks.now in
     let r = rank_of bs c.args.spot in
     let ps = pairs_view c.args.row.now in
-    let next : Entry = record { mark = c.mark.result; place = length c.args.row.now / 2 } in
+    let next : Entry = record { digest = c.digest.result; place = length c.args.row.now / 2 } in
     let count : length c.args.row.now / 2 ≡ length (places_in bs) = omega (arith, row_length c.args.row.now ps c.requires.hash.even, c.requires.hash.ranked.counted) in
     let rs = ap (map place_of_entry) (c.in_ok-insert.ensures {u = tt}).ok ∙ map-insert place_of_entry (joined bs) r next ∙ ap (insert (places_in bs) r) count in
-    λ v. subst (λ qs. AreRanked mark qs (ps ++ (view c.args.key.now, v) ∷ [])) (sym rs) (ranked_added (places_in bs) ps r (view c.args.key.now) v c.requires.hash.ranked c.requires.gap)
+    λ v. subst (λ qs. AreRanked digest qs (ps ++ (view c.args.key.now, v) ∷ [])) (sym rs) (ranked_added (places_in bs) ps r (view c.args.key.now) v c.requires.hash.ranked c.requires.gap)
 
-pub returns-clause-marked : goal.returns-clause-marked
-returns-clause-marked c =
+pub returns-clause-digested : goal.returns-clause-digested
+returns-clause-digested c =
     let bs = c.args.blocks.now in
     let r = rank_of bs c.args.spot in
     let k = view c.args.key.now in
     let ps = pairs_view c.args.row.now in
-    let next : Entry = record { mark = c.mark.result; place = length c.args.row.now / 2 } in
+    let next : Entry = record { digest = c.digest.result; place = length c.args.row.now / 2 } in
     let put = (c.in_ok-insert.ensures {u = tt}).ok in
     let count : length c.args.row.now / 2 ≡ length (places_in bs) = omega (arith, row_length c.args.row.now ps c.requires.hash.even, c.requires.hash.ranked.counted) in
-    let counted : length (marks_in bs) ≡ length (places_in bs) = omega (arith, length-map (joined bs) mark_of_entry, length-map (joined bs) place_of_entry) in
+    let counted : length (digests_in bs) ≡ length (places_in bs) = omega (arith, length-map (joined bs) digest_of_entry, length-map (joined bs) place_of_entry) in
     let within = rank_within bs c.args.spot.block c.args.spot.offset c.requires.spot.1 in
-    λ v. subst (λ es. AreMarks (map mark_of_entry es) (map place_of_entry es) (ps ++ (k, v) ∷ [])) (sym put)
-    (subst (λ ms. AreMarks ms (map place_of_entry (insert (joined bs) r next)) (ps ++ (k, v) ∷ [])) (sym (map-insert mark_of_entry (joined bs) r next))
-    (subst (λ rs. AreMarks (insert (marks_in bs) r c.mark.result) rs (ps ++ (k, v) ∷ [])) (sym (map-insert place_of_entry (joined bs) r next ∙ ap (insert (places_in bs) r) count))
-    (marked_added (marks_in bs) (places_in bs) ps r c.mark.result k v counted (omega (arith, within, length-map (joined bs) place_of_entry)) c.requires.hash.ranked.counted c.requires.hash.ranked.within c.requires.marked c.mark.ensures.mark)))
+    λ v. subst (λ es. AreDigests (map digest_of_entry es) (map place_of_entry es) (ps ++ (k, v) ∷ [])) (sym put)
+    (subst (λ ms. AreDigests ms (map place_of_entry (insert (joined bs) r next)) (ps ++ (k, v) ∷ [])) (sym (map-insert digest_of_entry (joined bs) r next))
+    (subst (λ rs. AreDigests (insert (digests_in bs) r c.digest.result) rs (ps ++ (k, v) ∷ [])) (sym (map-insert place_of_entry (joined bs) r next ∙ ap (insert (places_in bs) r) count))
+    (digested_added (digests_in bs) (places_in bs) ps r c.digest.result k v counted (omega (arith, within, length-map (joined bs) place_of_entry)) c.requires.hash.ranked.counted c.requires.hash.ranked.within c.requires.digested c.digest.ensures.digest)))

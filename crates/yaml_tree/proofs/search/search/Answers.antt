@@ -1,7 +1,7 @@
 use Rattle.std.proofs.Common.{◌≡◌, ◌+◌, ◌-◌, ◌*◌, ◌/◌, ◌^◌, ◌<◌, length, sym, ap, ◌∙◌, arith, rules}
 use Rattle.defs_tree.specs.Order.{tree_cmp}
 use Rattle.defs_tree.proofs.OrderLaws.{tree_tied}
-use Rattle.yaml_tree.specs.Marks.{first_by}
+use Rattle.yaml_tree.specs.Digests.{first_by}
 use Rattle.yaml_tree.specs.Places.{places, rank_at}
 use Rattle.yaml_tree.specs.Ranked.{key_of_rank}
 use Rattle.yaml_tree.specs.Probes.{probed}
@@ -9,13 +9,13 @@ use Rattle.yaml_tree.specs.View.{pairs_view}
 use Rattle.yaml_tree.proofs.Flattened.{row_length}
 use Rattle.yaml_tree.proofs.Halving.{halved, digits_rise}
 use Rattle.yaml_tree.proofs.Indexed.{next_spot, next_rank, offset_inside, place_inside}
-use Rattle.yaml_tree.proofs.Marking.{kept_marks_rise, window_leaves, same_mark}
+use Rattle.yaml_tree.proofs.Digesting.{kept_digests_rise, window_leaves, same_digest}
 use Rattle.yaml_tree.proofs.Ranking.{above_up_to, below_from_on}
 use Rattle.yaml_tree.proofs.Rows.{ranked_inside, inside_row, ranked_key}
 use Rattle.yaml_tree.proofs.search.search.Goals as goal
 
 pub window-count-requires-clause-rising : goal.window-count-requires-clause-rising
-window-count-requires-clause-rising c = kept_marks_rise c.args.ranks.now.kept (pairs_view c.args.row.now) c.requires.hash.ranked c.requires.marked
+window-count-requires-clause-rising c = kept_digests_rise c.args.ranks.now.kept (pairs_view c.args.row.now) c.requires.hash.ranked c.requires.digested
 
 pub window-count-requires-clause-fits : goal.window-count-requires-clause-fits
 window-count-requires-clause-fits c =
@@ -26,7 +26,7 @@ pub loop-count-init : goal.loop-count-init
 loop-count-init c =
     let k = probed c.args.probe in
     let count = c.window-count.result.1 in
-    let left = window_leaves c.args.ranks.now.kept k (pairs_view c.args.row.now) (rank_at c.args.ranks.now.kept c.window-count.result.0) count c.requires.hash.ranked c.requires.marked c.window-count.ensures.window in
+    let left = window_leaves c.args.ranks.now.kept k (pairs_view c.args.row.now) (rank_at c.args.ranks.now.kept c.window-count.result.0) count c.requires.hash.ranked c.requires.digested c.window-count.ensures.window in
     record {
       spot = c.window-count.ensures.spot;
       within = left.within;
@@ -63,7 +63,7 @@ loop-count-preserved-in-Less c =
     let within = place_inside c.args.ranks.now.kept c.advanced-middle.result c.advanced-middle.ensures.place in
     let compared = c.compare.ensures.order ∙ ap (tree_cmp (probed c.args.probe)) (ranked_key c.args.row.now (places c.args.ranks.now.kept) c.requires.hash (rank_at c.args.ranks.now.kept c.advanced-middle.result) c.at-place.result c.index-row-place.result within c.at-place.ensures c.index-row-place.is) in
     let test : 0 < c.loop-count.count = c.loop-count-test.true in
-    let by_key = same_mark (first_by c.args.ranks.now.kept) (probed c.args.probe) (key_of_rank (places c.args.ranks.now.kept) (pairs_view c.args.row.now) (rank_at c.args.ranks.now.kept c.advanced-middle.result))
+    let by_key = same_digest (first_by c.args.ranks.now.kept) (probed c.args.probe) (key_of_rank (places c.args.ranks.now.kept) (pairs_view c.args.row.now) (rank_at c.args.ranks.now.kept c.advanced-middle.result))
     (i.same (rank_at c.args.ranks.now.kept c.advanced-middle.result) (omega (arith, c.advanced-middle.ensures.rank)) (omega (arith, test, c.advanced-middle.ensures.rank))) in
     let half = halved (c.loop-count.count / 2) c.loop-count.count c.loop-count-test.true (omega arith) in
     record {
@@ -91,7 +91,7 @@ loop-count-preserved c =
     let next = next_rank c.args.ranks.now.kept c.advanced-middle.result.block c.advanced-middle.result.offset in
     let within = place_inside c.args.ranks.now.kept c.advanced-middle.result c.advanced-middle.ensures.place in
     let compared = c.compare.ensures.order ∙ ap (tree_cmp (probed c.args.probe)) (ranked_key c.args.row.now (places c.args.ranks.now.kept) c.requires.hash (rank_at c.args.ranks.now.kept c.advanced-middle.result) c.at-place.result c.index-row-place.result within c.at-place.ensures c.index-row-place.is) in
-    let by_key = same_mark (first_by c.args.ranks.now.kept) (probed c.args.probe) (key_of_rank (places c.args.ranks.now.kept) (pairs_view c.args.row.now) (rank_at c.args.ranks.now.kept c.advanced-middle.result))
+    let by_key = same_digest (first_by c.args.ranks.now.kept) (probed c.args.probe) (key_of_rank (places c.args.ranks.now.kept) (pairs_view c.args.row.now) (rank_at c.args.ranks.now.kept c.advanced-middle.result))
     (i.same (rank_at c.args.ranks.now.kept c.advanced-middle.result) (omega (arith, c.advanced-middle.ensures.rank)) (omega (arith, test, c.advanced-middle.ensures.rank))) in
     let half = halved (c.loop-count.count - (c.loop-count.count / 2 + 1)) c.loop-count.count c.loop-count-test.true (omega arith) in
     record {

@@ -1,7 +1,7 @@
 use Rattle.std.proofs.Common.{◌≡◌, ℕ, ◌+◌, ◌<◌, ◌≤◌, length}
 use Rattle.std.specs.declared.cmp.Ordering.TheVariants.{Less, Greater}
 use Rattle.defs_tree.specs.Digits.{binary_digits}
-use Rattle.yaml_tree.specs.Marks.{first_by}
+use Rattle.yaml_tree.specs.Digests.{first_by}
 use Rattle.yaml_tree.specs.Places.{places, rank_at, HasSpot}
 use Rattle.yaml_tree.specs.Probes.{probed}
 use Rattle.yaml_tree.specs.Ranked.{key_of_rank, key_cmp}

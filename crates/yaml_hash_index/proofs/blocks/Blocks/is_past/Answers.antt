@@ -1,8 +1,8 @@
 use Rattle.std.proofs.Common.{◌≡◌, ◌<◌, ◌+◌, suc, [], get_or, ap, length, subst, ◌∙◌, arith}
 use Rattle.std.proofs.lemmas.Bool.Decides.{nat_tests}
-use Rattle.yaml_hash_index.specs.Edges.{mark_at}
+use Rattle.yaml_hash_index.specs.Edges.{digest_at}
 use Rattle.yaml_hash_index.specs.Blocks.{joined, start, rank_of, AreFilled}
-use Rattle.yaml_hash_index.proofs.Joining.{block_read, mark_in, start_all, start_next}
+use Rattle.yaml_hash_index.proofs.Joining.{block_read, digest_in, start_all, start_next}
 use Rattle.yaml_hash_index.proofs.blocks.Blocks.is_past.Goals as goal
 
 pub returns-then-len-spot : goal.returns-then-len-spot
@@ -17,9 +17,9 @@ returns-then-spot-len c =
     let inside : s.block < length bs = omega (arith, c.if-len-spot.false, c.len.ensures, ap length c.self.view_is, c.self.inside.blocks.ok.0) in
     let read = block_read c.self.inside.blocks.items bs s.block _ c.self.view_is inside c.index-block.ensures in
     let within : s.offset < length (get_or bs s.block []) = omega (arith, ap length read, c.len-2.ensures, c.if-spot-len.true) in
-    let mark = c.mark.ensures ∙ ap (λ b. mark_at b s.offset) read in
-    let there = mark_in bs s.block s.offset inside within in
-    λ t h. let less : c.args.mark < c.mark.result = grind (arith, nat_tests, t) in omega (arith, less, mark, there)
+    let digest = c.digest.ensures ∙ ap (λ b. digest_at b s.offset) read in
+    let there = digest_in bs s.block s.offset inside within in
+    λ t h. let less : c.args.digest < c.digest.result = grind (arith, nat_tests, t) in omega (arith, less, digest, there)
 
 pub returns-then-len-spot-2 : goal.returns-then-len-spot-2
 returns-then-len-spot-2 c =
@@ -41,8 +41,8 @@ returns c =
     let read = block_read c.self.inside.blocks.items bs s.block _ c.self.view_is inside c.index-block.ensures in
     let there = block_read c.self.inside.blocks.items bs (s.block + 1) _ c.self.view_is after c.index.ensures in
     let filled = subst AreFilled c.self.view_is c.self.invariant.filled in
-    let mark = c.mark-2.ensures ∙ ap (λ b. mark_at b 0) there in
-    let first = mark_in bs (s.block + 1) 0 after (filled (s.block + 1) after) in
+    let digest = c.digest-2.ensures ∙ ap (λ b. digest_at b 0) there in
+    let first = digest_in bs (s.block + 1) 0 after (filled (s.block + 1) after) in
     let next = start_next bs s.block (s.block + 1) (omega arith) in
     let at : rank_of bs s ≡ start bs (s.block + 1) + 0 = omega (arith, next, ap length read, c.len-2.ensures, c.if-spot-len.false, c.requires.1) in
-    λ t h. let less : c.args.mark < c.mark-2.result = grind (arith, nat_tests, t) in omega (arith, less, mark, first, ap (mark_at (joined bs)) at)
+    λ t h. let less : c.args.digest < c.digest-2.result = grind (arith, nat_tests, t) in omega (arith, less, digest, first, ap (digest_at (joined bs)) at)

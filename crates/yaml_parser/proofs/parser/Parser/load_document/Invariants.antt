@@ -2,12 +2,12 @@ use Rattle.std.proofs.Common.{◌≡◌, ◌≤◌, Bool}
 use Rattle.defs_event.specs.Push.{inside}
 use Rattle.yaml_parser.specs.Nests.{IsInside}
 use Rattle.yaml_parser.specs.Parsed.{Parsed, parsed}
-use Rattle.yaml_parser.specs.Loads.{Stands}
+use Rattle.yaml_parser.specs.Loads.{RunsOn}
 use Rattle.yaml_parser.proofs.parser.Parser.load_document.Given as goal
 
 abbrev pub invariant-events : goal.invariant-events
 invariant-events g l = record {
-  reads : (multi : Bool) (parser : Parsed) (receiver : g.row.R.Denot) → Stands g.R.MarkedEventReceiver.takes multi parser receiver inside (parsed l.fn.self) l.fn.recv → Stands g.R.MarkedEventReceiver.takes multi parser receiver inside (parsed l.self) l.recv;
+  reads : (multi : Bool) (parser : Parsed) (receiver : g.row.R.Denot) → RunsOn g.R.MarkedEventReceiver.takes multi parser receiver inside (parsed l.fn.self) l.fn.recv → RunsOn g.R.MarkedEventReceiver.takes multi parser receiver inside (parsed l.self) l.recv;
   start : l.self.start ≡ l.fn.self.start;
   left : (parsed l.self).left ≤ (parsed l.fn.self).left;
   stays : IsInside (parsed l.self);

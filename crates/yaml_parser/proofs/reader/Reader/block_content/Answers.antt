@@ -1,7 +1,7 @@
 use Rattle.std.proofs.Common.{refl}
 use Rattle.defs_event.specs.Event.{Ev}
 use Rattle.defs_event.specs.Raw.{Raw}
-use Rattle.model_parser.specs.declared.place.Place.TheVariants as place
+use Rattle.model_parser.specs.declared.place.NodeContext.TheVariants as place
 use Rattle.model_parser.proofs.Nodes as turn
 use Rattle.yaml_parser.proofs.Arms.{stays, stay, push_after, not_as}
 use Rattle.yaml_parser.proofs.NodeArms.{starts, pending_same}

@@ -1,5 +1,5 @@
 use Rattle.std.proofs.Common.{refl}
-use Rattle.model_parser.specs.declared.place.Place.TheVariants as place
+use Rattle.model_parser.specs.declared.place.NodeContext.TheVariants as place
 use Rattle.model_parser.specs.Goal as at
 use Rattle.yaml_parser.proofs.Arms.{answers_err}
 use Rattle.yaml_parser.proofs.reader.Reader.block_node.Goals as goal

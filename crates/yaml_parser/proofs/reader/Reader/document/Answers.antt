@@ -1,5 +1,5 @@
 use Rattle.std.proofs.Common.{◌≡◌, refl, true, false}
-use Rattle.model_parser.specs.declared.place.Place.TheVariants as place
+use Rattle.model_parser.specs.declared.place.NodeContext.TheVariants as place
 use Rattle.model_parser.specs.Kinds.{begins_node, ends_document, is_directive}
 use Rattle.model_parser.proofs.First as first
 use Rattle.model_parser.proofs.Document as turn

@@ -2,10 +2,9 @@ use Rattle.std.proofs.Common.{◌≡◌, refl}
 use Rattle.defs_event.specs.Event.{Ev}
 use Rattle.defs_event.specs.Raw.{Raw}
 use Rattle.model_parser.proofs.Nodes as turn
-use Rattle.yaml_parser.proofs.Steps.{looked}
+use Rattle.yaml_parser.proofs.Steps.{looked, if_some_at}
 use Rattle.yaml_parser.proofs.Arms.{push_after}
 use Rattle.yaml_parser.proofs.NodeArms.{starts, scalar_taken, taken_with}
-use Rattle.yaml_parser.proofs.Steps.{if_some_at}
 use Rattle.yaml_tokens.specs.Shown.{tok_of}
 use Rattle.yaml_parser.proofs.reader.Reader.flow_content.Goals as goal
 

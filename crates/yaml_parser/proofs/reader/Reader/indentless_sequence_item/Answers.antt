@@ -1,5 +1,5 @@
 use Rattle.std.proofs.Common.{◌≡◌, refl, false}
-use Rattle.model_parser.specs.declared.place.Place.TheVariants as place
+use Rattle.model_parser.specs.declared.place.NodeContext.TheVariants as place
 use Rattle.model_parser.specs.Kinds.{begins_node, ends_part}
 use Rattle.model_parser.specs.Goal as at
 use Rattle.model_parser.proofs.First as first

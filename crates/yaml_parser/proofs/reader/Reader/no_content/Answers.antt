@@ -1,5 +1,5 @@
 use Rattle.std.proofs.Common.{refl, ap, subst, not}
-use Rattle.model_parser.specs.declared.place.Place.TheVariants as place
+use Rattle.model_parser.specs.declared.place.NodeContext.TheVariants as place
 use Rattle.model_parser.specs.Kinds.{begins_content}
 use Rattle.model_parser.specs.Goal as at
 use Rattle.model_parser.proofs.Nodes as turn

@@ -3,8 +3,8 @@ use Rattle.yaml_scanner.specs.Shape.{held}
 use Rattle.yaml_scanner.proofs.FlowLemmas.{flow_ended, end_refused}
 use Rattle.yaml_scanner.proofs.fetcher.Fetcher.end_flow.Goals as goal
 
-pub returns-in_err-remove_simple_key-clause-fault : goal.returns-in_err-remove_simple_key-clause-fault
-returns-in_err-remove_simple_key-clause-fault g c = exits _ c.from_residual.result _ c.from_residual.ensures.1 (λ n. end_refused (held c.args.self.now) _ c.in_err-remove_simple_key.ensures.fault)
+pub returns-in_err-remove_implicit_key-clause-fault : goal.returns-in_err-remove_implicit_key-clause-fault
+returns-in_err-remove_implicit_key-clause-fault g c = exits _ c.from_residual.result _ c.from_residual.ensures.1 (λ n. end_refused (held c.args.self.now) _ c.in_err-remove_implicit_key.ensures.fault)
 
 pub returns-clause-held : goal.returns-clause-held
-returns-clause-held g c = flow_ended (held c.args.self.now) (held c.remove_simple_key.new.self) (held c.end_flow_pair.new.self) (held c.decrease_flow_level.new.self) c.in_ok-remove_simple_key.ensures.held c.in_ok-end_flow_pair.ensures.held c.decrease_flow_level.ensures.held
+returns-clause-held g c = flow_ended (held c.args.self.now) (held c.remove_implicit_key.new.self) (held c.end_flow_pair.new.self) (held c.decrease_flow_level.new.self) c.in_ok-remove_implicit_key.ensures.held c.in_ok-end_flow_pair.ensures.held c.decrease_flow_level.ensures.held

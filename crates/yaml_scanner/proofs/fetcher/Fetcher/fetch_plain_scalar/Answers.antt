@@ -7,12 +7,12 @@ use Rattle.yaml_scanner.proofs.fetcher.Fetcher.fetch_plain_scalar.Goals as goal
 
 pub returns-in_err-plain-clause-fails : goal.returns-in_err-plain-clause-fails
 returns-in_err-plain-clause-fails g c = exits _ c.from_residual.result _ c.from_residual.ensures.1 (record {
-  runs = Reads-along _ _ _ _ (sym (c.unroll_non_block_indents.ensures.window ∙ c.save_simple_key.ensures.window)) refl (Reads-map _ _ c.in_err-plain.ensures.err (λ a b p n.
-      plain_failed a (held c.args.self.now) (held c.save_simple_key.new.self) (held c.unroll_non_block_indents.new.self) c.context-context.result _ _ c.save_simple_key.ensures.held c.unroll_non_block_indents.ensures.held c.context-context.ensures (ap place_of (c.unroll_non_block_indents.ensures.window ∙ c.save_simple_key.ensures.window)) (p n)));
+  runs = Reads-along _ _ _ _ (sym (c.unroll_non_block_indents.ensures.window ∙ c.save_implicit_key.ensures.window)) refl (Reads-map _ _ c.in_err-plain.ensures.err (λ a b p n.
+      plain_failed a (held c.args.self.now) (held c.save_implicit_key.new.self) (held c.unroll_non_block_indents.new.self) c.context-context.result _ _ c.save_implicit_key.ensures.held c.unroll_non_block_indents.ensures.held c.context-context.ensures (ap place_of (c.unroll_non_block_indents.ensures.window ∙ c.save_implicit_key.ensures.window)) (p n)));
 })
 
 pub returns-clause-does : goal.returns-clause-does
 returns-clause-does g c = record {
-  runs = Reads-along _ _ _ _ (sym (c.unroll_non_block_indents.ensures.window ∙ c.save_simple_key.ensures.window)) c.in_ok-push_token.ensures.window (Reads-map _ _ c.in_ok-plain.ensures.ok (λ a b p.
-      plain_read a b (held c.args.self.now) (held c.save_simple_key.new.self) (held c.unroll_non_block_indents.new.self) (held c.push_token.new.self) c.context-context.result _ _ c.mark-mark.result _ _ c.save_simple_key.ensures.held c.unroll_non_block_indents.ensures.held c.context-context.ensures (ap place_of (c.unroll_non_block_indents.ensures.window ∙ c.save_simple_key.ensures.window)) p c.mark-mark.ensures c.in_ok-push_token.ensures.held));
+  runs = Reads-along _ _ _ _ (sym (c.unroll_non_block_indents.ensures.window ∙ c.save_implicit_key.ensures.window)) c.in_ok-push_token.ensures.window (Reads-map _ _ c.in_ok-plain.ensures.ok (λ a b p.
+      plain_read a b (held c.args.self.now) (held c.save_implicit_key.new.self) (held c.unroll_non_block_indents.new.self) (held c.push_token.new.self) c.context-context.result _ _ c.mark-mark.result _ _ c.save_implicit_key.ensures.held c.unroll_non_block_indents.ensures.held c.context-context.ensures (ap place_of (c.unroll_non_block_indents.ensures.window ∙ c.save_implicit_key.ensures.window)) p c.mark-mark.ensures c.in_ok-push_token.ensures.held));
 }

@@ -1,6 +1,6 @@
 use Rattle.std.proofs.Common.{◌∙◌, refl}
 use Rattle.yaml_chars.specs.Reading.{place_of}
-use Rattle.yaml_scanner.specs.SimpleKeys.{seen}
+use Rattle.yaml_scanner.specs.ImplicitKeys.{seen}
 use Rattle.yaml_scanner.specs.Shape.{held}
 use Rattle.yaml_scanner.proofs.DoesLemmas.{Reads-along, Reads-map}
 use Rattle.yaml_scanner.proofs.NodeLemmas.{next_place, stream_ended, stream_refused}

@@ -7,12 +7,12 @@ use Rattle.yaml_scanner.proofs.fetcher.Fetcher.fetch_tag.Goals as goal
 
 pub returns-in_err-handle-clause-fails : goal.returns-in_err-handle-clause-fails
 returns-in_err-handle-clause-fails g c = exits _ c.from_residual.result _ c.from_residual.ensures.1 (record {
-  runs = Reads-along _ _ _ _ (sym c.save_simple_key.ensures.window) refl (Reads-map _ _ c.in_err-handle.ensures.err (λ a b p n.
-      not_tagged a (held c.args.self.now) _ c.in_flow-in_flow.result _ (ap place_of c.save_simple_key.ensures.window) c.in_flow-in_flow.ensures (p n)));
+  runs = Reads-along _ _ _ _ (sym c.save_implicit_key.ensures.window) refl (Reads-map _ _ c.in_err-handle.ensures.err (λ a b p n.
+      not_tagged a (held c.args.self.now) _ c.in_flow-in_flow.result _ (ap place_of c.save_implicit_key.ensures.window) c.in_flow-in_flow.ensures (p n)));
 })
 
 pub returns-clause-does : goal.returns-clause-does
 returns-clause-does g c = record {
-  runs = Reads-along _ _ _ _ (sym c.save_simple_key.ensures.window) c.in_ok-push_token.ensures.window (Reads-map _ _ c.in_ok-handle.ensures.ok (λ a b p.
-      tagged a b (held c.args.self.now) (held c.save_simple_key.new.self) (held c.push_token.new.self) _ _ c.mark-mark.result c.in_flow-in_flow.result _ _ c.save_simple_key.ensures.held (ap place_of c.save_simple_key.ensures.window) c.in_flow-in_flow.ensures p c.mark-mark.ensures c.in_ok-push_token.ensures.held));
+  runs = Reads-along _ _ _ _ (sym c.save_implicit_key.ensures.window) c.in_ok-push_token.ensures.window (Reads-map _ _ c.in_ok-handle.ensures.ok (λ a b p.
+      tagged a b (held c.args.self.now) (held c.save_implicit_key.new.self) (held c.push_token.new.self) _ _ c.mark-mark.result c.in_flow-in_flow.result _ _ c.save_implicit_key.ensures.held (ap place_of c.save_implicit_key.ensures.window) c.in_flow-in_flow.ensures p c.mark-mark.ensures c.in_ok-push_token.ensures.held));
 }

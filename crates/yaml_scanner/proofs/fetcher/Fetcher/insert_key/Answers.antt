@@ -1,6 +1,6 @@
 use Rattle.std.proofs.Common.{◌∙◌, ◌+◌, ap, None}
 use Rattle.yaml_scanner.specs.Shape.{held}
-use Rattle.yaml_scanner.specs.SimpleKeys.{keyed_by, seen}
+use Rattle.yaml_scanner.specs.ImplicitKeys.{keyed_by, seen}
 use Rattle.yaml_scanner.proofs.DoesLemmas.{exits}
 use Rattle.yaml_scanner.proofs.KeyLemmas.{with_top_seen}
 use Rattle.yaml_scanner.proofs.BlockLemmas.{key_inserted, key_refused}

@@ -1,7 +1,7 @@
 use Rattle.std.proofs.Common.{refl, sym, subst}
 use Rattle.defs_tree.specs.Pairs.{without}
-use Rattle.yaml_tree.specs.Ranked.{IsRank, IsGap}
-use Rattle.yaml_tree.specs.Marks.{first_by}
+use Rattle.yaml_tree.specs.Ranked.{IsRank, IsRankGap}
+use Rattle.yaml_tree.specs.Digests.{first_by}
 use Rattle.yaml_tree.specs.Places.{places, rank_at}
 use Rattle.yaml_tree.specs.View.{view, pairs_view}
 use Rattle.yaml_tree.proofs.Keeping.{indexed_without}
@@ -12,13 +12,13 @@ use Rattle.yaml_tree.proofs.hash.Hash.remove.Goals as goal
 pub returns-in_default-clause-pairs : goal.returns-in_default-clause-pairs
 returns-in_default-clause-pairs c =
     let k = view c.args.key.now in
-    let gap = subst (λ ys. IsGap (first_by c.self.inside.ranks.kept) k (places c.self.inside.ranks.kept) (pairs_view ys) (rank_at c.self.inside.ranks.kept c.in_default.field-0)) c.as_slice.ensures.value (c.in_default.ensures {u = tt}).missing in
+    let gap = subst (λ ys. IsRankGap (first_by c.self.inside.ranks.kept) k (places c.self.inside.ranks.kept) (pairs_view ys) (rank_at c.self.inside.ranks.kept c.in_default.field-0)) c.as_slice.ensures.value (c.in_default.ensures {u = tt}).missing in
     sym (absent k c.args.self.now (gap_place k c.self.inside.row.items c.args.self.now (places c.self.inside.ranks.kept) (rank_at c.self.inside.ranks.kept c.in_default.field-0) c.self.invariant.hash c.self.view_is gap)).same
 
 pub returns-in_default-clause-value : goal.returns-in_default-clause-value
 returns-in_default-clause-value c =
     let k = view c.args.key.now in
-    let gap = subst (λ ys. IsGap (first_by c.self.inside.ranks.kept) k (places c.self.inside.ranks.kept) (pairs_view ys) (rank_at c.self.inside.ranks.kept c.in_default.field-0)) c.as_slice.ensures.value (c.in_default.ensures {u = tt}).missing in
+    let gap = subst (λ ys. IsRankGap (first_by c.self.inside.ranks.kept) k (places c.self.inside.ranks.kept) (pairs_view ys) (rank_at c.self.inside.ranks.kept c.in_default.field-0)) c.as_slice.ensures.value (c.in_default.ensures {u = tt}).missing in
     sym (absent k c.args.self.now (gap_place k c.self.inside.row.items c.args.self.now (places c.self.inside.ranks.kept) (rank_at c.self.inside.ranks.kept c.in_default.field-0) c.self.invariant.hash c.self.view_is gap)).unfound
 
 pub take-requires : goal.take-requires
@@ -36,7 +36,7 @@ invariant_of-self c =
     let place = ranked_place k ys (pairs_view ys) (places c.self.inside.ranks.kept) (rank_at c.self.inside.ranks.kept c.in-Ok.spot) c.at-place.result c.self.invariant.hash refl rank c.at-place.ensures in
     let there = placed k ys (pairs_view ys) (places c.self.inside.ranks.kept) c.at-place.result c.self.invariant.hash refl place in
     indexed_without k k ys _ c.self.inside.ranks.kept _ c.self.invariant (rank_at c.self.inside.ranks.kept c.in-Ok.spot) rank (there.rest _ c.take.ensures.rest)
-    c.remove.ensures.places c.remove.ensures.marks c.remove.ensures.order
+    c.remove.ensures.places c.remove.ensures.digests c.remove.ensures.order
 
 pub returns-clause-pairs : goal.returns-clause-pairs
 returns-clause-pairs c =

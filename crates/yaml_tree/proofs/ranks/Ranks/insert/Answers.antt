@@ -1,8 +1,8 @@
 use Rattle.std.proofs.Common.{◌++◌, ◌∷◌, [], sym, ap, subst, ◌∙◌}
 use Rattle.std.specs.List.{insert}
-use Rattle.yaml_tree.specs.Marks.{first_by}
+use Rattle.yaml_tree.specs.Digests.{first_by}
 use Rattle.yaml_tree.specs.Places.{places, rank_at}
-use Rattle.yaml_tree.specs.Ranked.{AreRanked, IsGap}
+use Rattle.yaml_tree.specs.Ranked.{AreRanked, IsRankGap}
 use Rattle.yaml_tree.specs.View.{view, pairs_view}
 use Rattle.yaml_tree.specs.declared.ranks.Kept.TheVariants.{Few}
 use Rattle.yaml_tree.proofs.Ranking.{gap_none, ranked_added}
@@ -19,6 +19,6 @@ returns-in-Few-clause-ranked c =
     let k = view c.args.key.now in
     let ps = pairs_view c.args.row.now in
     let ranked = subst (λ o. AreRanked (first_by o) (places o) ps) c.in-Few.is c.requires.indexed.hash.ranked in
-    let gap = subst (λ o. IsGap (first_by o) k (places o) ps (rank_at o c.args.spot)) c.in-Few.is c.requires.gap in
+    let gap = subst (λ o. IsRankGap (first_by o) k (places o) ps (rank_at o c.args.spot)) c.in-Few.is c.requires.gap in
     let rs = c.insert.ensures ∙ ap (insert few at) c.len-place.ensures.count in
     λ v. subst (λ qs. AreRanked (first_by (Few few)) qs (ps ++ (k, v) ∷ [])) (sym rs) (ranked_added few ps at k v ranked gap)

@@ -1,8 +1,8 @@
 use Rattle.std.proofs.Common.{map, ap, ◌∙◌}
 use Rattle.yaml_hash_index.specs.Blocks.{joined}
 use Rattle.yaml_hash_index.specs.Moves.{entry_moved_up}
-use Rattle.yaml_tree.specs.Places.{place_of_entry, mark_of_entry}
-use Rattle.yaml_tree.proofs.Indexed.{places_moved, marks_moved}
+use Rattle.yaml_tree.specs.Places.{place_of_entry, digest_of_entry}
+use Rattle.yaml_tree.proofs.Indexed.{places_moved, digests_moved}
 use Rattle.yaml_tree.proofs.ranks.Ranks.move_to_end.Goals as goal
 
 pub returns-in-Many-clause-places : goal.returns-in-Many-clause-places
@@ -10,7 +10,7 @@ returns-in-Many-clause-places c =
     let all = c.move_up.ensures ∙ ap (λ bs. map (entry_moved_up c.args.gone c.args.count) (joined bs)) c.deref_mut.ensures.value in
     rw c.in-Many.is (ap (map place_of_entry) all ∙ places_moved c.args.gone c.args.count (joined c.in-Many.blocks.value))
 
-pub returns-in-Many-clause-marks : goal.returns-in-Many-clause-marks
-returns-in-Many-clause-marks c =
+pub returns-in-Many-clause-digests : goal.returns-in-Many-clause-digests
+returns-in-Many-clause-digests c =
     let all = c.move_up.ensures ∙ ap (λ bs. map (entry_moved_up c.args.gone c.args.count) (joined bs)) c.deref_mut.ensures.value in
-    rw c.in-Many.is (ap (map mark_of_entry) all ∙ marks_moved c.args.gone c.args.count (joined c.in-Many.blocks.value))
+    rw c.in-Many.is (ap (map digest_of_entry) all ∙ digests_moved c.args.gone c.args.count (joined c.in-Many.blocks.value))

@@ -3,8 +3,8 @@ use Rattle.std.specs.List.{remove}
 use Rattle.yaml_hash_index.specs.Blocks.{joined, rank_of}
 use Rattle.yaml_hash_index.specs.Edges.{place_at}
 use Rattle.yaml_hash_index.specs.Moves.{closed_up, entry_closed_up}
-use Rattle.yaml_tree.specs.Places.{place_of_entry, mark_of_entry}
-use Rattle.yaml_tree.proofs.Indexed.{places_closed, marks_closed, place_mapped, map-remove}
+use Rattle.yaml_tree.specs.Places.{place_of_entry, digest_of_entry}
+use Rattle.yaml_tree.proofs.Indexed.{places_closed, digests_closed, place_mapped, map-remove}
 use Rattle.yaml_tree.proofs.ranks.Ranks.remove.Goals as goal
 
 pub returns-in-Many-clause-places : goal.returns-in-Many-clause-places
@@ -15,9 +15,9 @@ returns-in-Many-clause-places c =
     rw c.in-Many.is (ap (map place_of_entry) all ∙ places_closed (place_at es r) (remove es r)
     ∙ ap (map (closed_up (place_at es r))) (map-remove place_of_entry es r) ∙ ap (λ p. map (closed_up p) (remove (map place_of_entry es) r)) (place_mapped es r))
 
-pub returns-in-Many-clause-marks : goal.returns-in-Many-clause-marks
-returns-in-Many-clause-marks c =
+pub returns-in-Many-clause-digests : goal.returns-in-Many-clause-digests
+returns-in-Many-clause-digests c =
     let es = joined c.in-Many.blocks.value in
     let r = rank_of c.in-Many.blocks.value c.args.spot in
     let all = c.remove.ensures ∙ ap (λ bs. map (entry_closed_up (place_at (joined bs) (rank_of bs c.args.spot))) (remove (joined bs) (rank_of bs c.args.spot))) c.deref_mut.ensures.value in
-    rw c.in-Many.is (ap (map mark_of_entry) all ∙ marks_closed (place_at es r) (remove es r) ∙ map-remove mark_of_entry es r)
+    rw c.in-Many.is (ap (map digest_of_entry) all ∙ digests_closed (place_at es r) (remove es r) ∙ map-remove digest_of_entry es r)

@@ -1,7 +1,7 @@
 use Rattle.std.proofs.Common.{sym, subst}
 use Rattle.yaml_hash_index.specs.Blocks.{joined, rank_of, IsNarrowed}
 use Rattle.yaml_hash_index.specs.Edges.{AreRising}
-use Rattle.yaml_tree.specs.Marks.{HaveRising}
+use Rattle.yaml_tree.specs.Digests.{HaveRising}
 use Rattle.yaml_tree.proofs.ranks.Ranks.window.Goals as goal
 
 pub narrowed-requires-clause-rising : goal.narrowed-requires-clause-rising
@@ -10,5 +10,5 @@ narrowed-requires-clause-rising c = subst (λ bs. AreRising (joined bs)) (sym c.
 pub returns-in-Many-clause-window : goal.returns-in-Many-clause-window
 returns-in-Many-clause-window c =
     let bs = c.in-Many.blocks.value in
-    rw c.in-Many.is (subst (λ m. IsNarrowed (joined bs) m (rank_of bs c.narrowed.result.0) c.narrowed.result.1) c.mark.ensures.mark
-    (subst (λ xs. IsNarrowed (joined xs) c.mark.result (rank_of xs c.narrowed.result.0) c.narrowed.result.1) c.deref.ensures c.narrowed.ensures.narrowed))
+    rw c.in-Many.is (subst (λ m. IsNarrowed (joined bs) m (rank_of bs c.narrowed.result.0) c.narrowed.result.1) c.digest.ensures.digest
+    (subst (λ xs. IsNarrowed (joined xs) c.digest.result (rank_of xs c.narrowed.result.0) c.narrowed.result.1) c.deref.ensures c.narrowed.ensures.narrowed))

@@ -1,0 +1,17 @@
+use Rattle.std.proofs.Common.{◌≡◌, ◌⊎◌, inl, inr, sym, ap, ◌∙◌}
+use Rattle.std.specs.Str.{encode_utf8_all}
+use Rattle.defs_text.specs.Text.{string_chars}
+use Rattle.yaml_tree.specs.Digests.{digest, text_digest}
+use Rattle.yaml_tree.specs.View.{view}
+use Rattle.yaml_tree.specs.declared.yaml.Yaml.TheVariants.{Real, String}
+use Rattle.yaml_tree.proofs.TextOrder.{string_encoded}
+use Rattle.yaml_tree.proofs.digest.digest.Goals as goal
+
+pub returns-in-Real-clause-digest : goal.returns-in-Real-clause-digest
+returns-in-Real-clause-digest c =
+    let bytes = c.as_bytes.ensures.value ∙ c.as_str.ensures.value in
+    c.digest_of_bytes.ensures.number ∙ ap text_digest (bytes ∙ sym (string_encoded c.in-Real.text)) ∙ of c.in-Real.is
+  where
+    of : (c.args.key.now ≡ Real c.in-Real.text) ⊎ (c.args.key.now ≡ String c.in-Real.text) → text_digest (encode_utf8_all (string_chars c.in-Real.text)) ≡ digest (view c.args.key.now)
+    of (inl e) = sym (ap (λ y. digest (view y)) e)
+    of (inr e) = sym (ap (λ y. digest (view y)) e)
