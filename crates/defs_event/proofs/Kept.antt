@@ -10,8 +10,8 @@ use Rattle.defs_tree.specs.Order.{tree_eq}
 use Rattle.defs_tree.specs.Pairs.{has_key, without, insert, AreDistinct}
 use Rattle.defs_tree.specs.Valid.{IsDistinct, AllPairsDistinct, FitsI64}
 use Rattle.defs_tree.specs.Laws.{MayStandFor}
-use Rattle.defs_tree.proofs.PairsLaws.{AreDistinct-insert}
-use Rattle.defs_tree.proofs.TypingLaws.{OfSome, signed_number-fits, typing-plain}
+use Rattle.defs_tree.proofs.PairsLaws.{AreDistinct_insert}
+use Rattle.defs_tree.proofs.TypingLaws.{OfSome, signed_number-fits, typing_plain}
 use Rattle.defs_token.specs.Token.{Style}
 use Rattle.defs_event.specs.Event.{Tag, Ev}
 use Rattle.defs_event.specs.Scalar.{by_name, scalar_tree}
@@ -78,7 +78,7 @@ of_name P k name text =
     (k.of_string text))))
 
 of_scalar : (P : Tree → Type 0) → IsKept P → (text : List ℕ) (style : Style) (tag : Option Tag) → P (scalar_tree text style tag)
-of_scalar P k text Style.plain None = of_plain P k text (typing text) (typing-plain text)
+of_scalar P k text Style.plain None = of_plain P k text (typing text) (typing_plain text)
 of_scalar P k text Style.plain (Some t) = either P (bytes_eq t.handle core_prefix) _ _ (of_name P k t.suffix text) (k.of_string text)
 of_scalar P k text _ tag = k.of_string text
 
@@ -147,7 +147,7 @@ of_tree P t u (opened_mapping a ps (Some k) ∷ outer) h o r =
     repeats_or P (has_key k ps) k (record u { opened = opened_mapping a (insert k t ps) None ∷ outer })
     (record {
       documents = h.documents;
-      opened = ((AreDistinct-insert k t ps o.0.0, of_insert P k t ps o.0.1 o.0.2 r, tt), o.1);
+      opened = ((AreDistinct_insert k t ps o.0.0, of_insert P k t ps o.0.1 o.0.2 r, tt), o.1);
       root = h.root;
       anchors = h.anchors;
     })

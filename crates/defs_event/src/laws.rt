@@ -3,21 +3,25 @@
 ghost use Rattle.defs_event.specs.Laws.{TokensAreDerivedInOneWay, StreamsHaveOneReading, NestingTestIsExact, StreamEventsAreNested, NestedEventsAreReadOneByOne, MultiLoadPushesAllEvents, LoadedTreesHaveNoAlias, LoadedTreesHaveDistinctKeys, LoadedIntegersHave64Bits};
 
 /// A list of tokens has at most one derivation by the token grammar.
+#[tactic(auto, using(crate::proofs::OneReading::one_reading))]
 pub fn tokens_are_derived_in_one_way()
     ensures { TokensAreDerivedInOneWay }
 {}
 
 /// The tokens of a stream have one list of events.
+#[tactic(auto, using(crate::proofs::OneReading::one_list))]
 pub fn streams_have_one_reading()
     ensures { StreamsHaveOneReading }
 {}
 
 /// The events of every stream are nested.
+#[tactic(auto, using(crate::proofs::StreamNests::stream_nests))]
 pub fn stream_events_are_nested()
     ensures { StreamEventsAreNested }
 {}
 
 /// The test of nesting holds of nested events and of no others.
+#[tactic(auto, using(crate::proofs::NestedTest::test_is_exact))]
 pub fn nesting_test_is_exact()
     ensures { NestingTestIsExact }
 {}
@@ -39,6 +43,7 @@ pub fn loaded_trees_have_distinct_keys()
 
 /// If a loader takes nested events one by one, it has the documents that they are read as, or has noted the key that
 /// comes twice.
+#[tactic(auto, using(crate::proofs::OneByOne::one_by_one))]
 pub fn nested_events_are_read_one_by_one()
     ensures { NestedEventsAreReadOneByOne }
 {}

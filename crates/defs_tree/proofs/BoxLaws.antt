@@ -18,7 +18,7 @@ use Rattle.defs_tree.specs.Box.{indented, hung, hung_lower, placed, if_none, is_
 use Rattle.defs_tree.specs.Valid.{FitsI64, AllFitI64, AllPairsFitI64}
 use Rattle.defs_tree.specs.Writable.{HasText, AllHaveText, AllPairsHaveText}
 use Rattle.defs_tree.proofs.GrammarLaws.{list_all-more}
-use Rattle.defs_tree.proofs.LinesLaws.{lines_of-unbroken}
+use Rattle.defs_tree.proofs.LinesLaws.{lines_of_unbroken}
 use Rattle.defs_tree.proofs.RealTexts.{is_real_character, real_text-characters}
 use Rattle.defs_tree.proofs.Unquoted.{unquoted}
 
@@ -147,7 +147,7 @@ string_box-unbroken : (multiline at_root : Bool) (s : List ℕ) → AreUnbroken 
 string_box-unbroken multiline at_root s = by (multiline && (if at_root then is_root_literal s else is_literal_text s))
   where
     by : (b : Bool) → AreUnbroken (if b then literal_box s else string_spelling s ∷ [])
-    by true = both (literal_header s) (lines_of s) (header-unbroken _) (lines_of-unbroken s)
+    by true = both (literal_header s) (lines_of s) (header-unbroken _) (lines_of_unbroken s)
     by false = both (string_spelling s) [] (string_spelling-unbroken s) refl
 
 pair_box-unbroken : (compact : Bool) (k : Tree) (key : List (List ℕ)) (v : Tree) (value : List (List ℕ)) → is_unbroken (spelling k) ≡ true → AreUnbroken key → AreUnbroken value
@@ -161,26 +161,26 @@ pair_box-unbroken compact k key v value s e h = by (is_scalar k)
         (placed-unbroken (not compact) (codes "?") k key refl e) (placed-unbroken (not compact) (codes ":") v value refl h)
 
 mutual
-  pub box-unbroken : (c m r : Bool) (t : Tree) → FitsI64 t → HasText t → AreUnbroken (box c m r t)
-  box-unbroken c m r (string s) f h = string_box-unbroken m r s
-  box-unbroken c m r (array ts) f h = if_none-unbroken (codes "[]") (item_boxes c m ts) refl (items-unbroken c m ts f h)
-  box-unbroken c m r (hash ps) f h = if_none-unbroken (codes "{}") (pair_boxes c m ps) refl (pairs-unbroken c m ps f h)
-  box-unbroken c m r (real s) f h = both s [] (spelling-unbroken (real s) f h) refl
-  box-unbroken c m r (integer z) f h = both (decimal_digits z) [] (spelling-unbroken (integer z) f h) refl
-  box-unbroken c m r (boolean b) f h = both (boolean_spelling b) [] (boolean-unbroken b) refl
-  box-unbroken c m r (alias n) f h = refl
-  box-unbroken c m r null f h = refl
-  box-unbroken c m r bad_value f h = refl
+  pub box_unbroken : (c m r : Bool) (t : Tree) → FitsI64 t → HasText t → AreUnbroken (box c m r t)
+  box_unbroken c m r (string s) f h = string_box-unbroken m r s
+  box_unbroken c m r (array ts) f h = if_none-unbroken (codes "[]") (item_boxes c m ts) refl (items-unbroken c m ts f h)
+  box_unbroken c m r (hash ps) f h = if_none-unbroken (codes "{}") (pair_boxes c m ps) refl (pairs-unbroken c m ps f h)
+  box_unbroken c m r (real s) f h = both s [] (spelling-unbroken (real s) f h) refl
+  box_unbroken c m r (integer z) f h = both (decimal_digits z) [] (spelling-unbroken (integer z) f h) refl
+  box_unbroken c m r (boolean b) f h = both (boolean_spelling b) [] (boolean-unbroken b) refl
+  box_unbroken c m r (alias n) f h = refl
+  box_unbroken c m r null f h = refl
+  box_unbroken c m r bad_value f h = refl
 
   items-unbroken : (c m : Bool) (ts : Items) → AllFitI64 ts → AllHaveText ts → AreUnbroken (item_boxes c m ts)
   items-unbroken c m no_items f h = refl
   items-unbroken c m (item t ts) f h =
       all-append (placed (not c) (codes "-") t (box c m false t)) (item_boxes c m ts)
-      (placed-unbroken (not c) (codes "-") t (box c m false t) refl (box-unbroken c m false t f.0 h.0)) (items-unbroken c m ts f.1 h.1)
+      (placed-unbroken (not c) (codes "-") t (box c m false t) refl (box_unbroken c m false t f.0 h.0)) (items-unbroken c m ts f.1 h.1)
 
   pairs-unbroken : (c m : Bool) (ps : Pairs) → AllPairsFitI64 ps → AllPairsHaveText ps → AreUnbroken (pair_boxes c m ps)
   pairs-unbroken c m no_pairs f h = refl
   pairs-unbroken c m (pair k v ps) f h =
       all-append (pair_box c k (box c m false k) v (box c m false v)) (pair_boxes c m ps)
-      (pair_box-unbroken c k (box c m false k) v (box c m false v) (spelling-unbroken k f.0 h.1) (box-unbroken c m false k f.0 h.1) (box-unbroken c m false v f.1 h.2))
+      (pair_box-unbroken c k (box c m false k) v (box c m false v) (spelling-unbroken k f.0 h.1) (box_unbroken c m false k f.0 h.1) (box_unbroken c m false v f.1 h.2))
       (pairs-unbroken c m ps f.2 h.3)

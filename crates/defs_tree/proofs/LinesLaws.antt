@@ -52,15 +52,15 @@ with_end-cons : (b : Bool) (c : ℕ) (t : List ℕ) → c ∷ with_end b t ≡ w
 with_end-cons true c t = refl
 with_end-cons false c t = refl
 
-pub lines_of-ended : (text : List ℕ) → ended (lines_of text) ≡ (if is_empty text || ends_with nat_eq text (codes "\n") then text else text ++ 10 ∷ [])
-lines_of-ended [] = refl
-lines_of-ended (c ∷ []) = by (cases_eq c 10) ∙ ap (λ b. with_end b (c ∷ [])) (sym (ends_with-one 10 c))
+pub lines_of_ended : (text : List ℕ) → ended (lines_of text) ≡ (if is_empty text || ends_with nat_eq text (codes "\n") then text else text ++ 10 ∷ [])
+lines_of_ended [] = refl
+lines_of_ended (c ∷ []) = by (cases_eq c 10) ∙ ap (λ b. with_end b (c ∷ [])) (sym (ends_with-one 10 c))
   where
     by : (c ≡ 10) ⊎ (c ≡ 10 → ⊥) → ended (if c == 10 then [] ∷ [] else (c ∷ []) ∷ []) ≡ with_end (10 == c) (c ∷ [])
     by (inl e) = subst (λ d. ended (if d == 10 then [] ∷ [] else (d ∷ []) ∷ []) ≡ with_end (10 == d) (d ∷ [])) (sym e) refl
     by (inr n) = rw (ne_eqb c 10 n, ne_eqb 10 c (λ e. n (sym e))) refl
-lines_of-ended (c ∷ d ∷ cs) =
-    by (cases_eq c 10) ∙ ap (λ t. c ∷ t) (lines_of-ended (d ∷ cs)) ∙ with_end-cons (ends_with nat_eq (d ∷ cs) (10 ∷ [])) c (d ∷ cs)
+lines_of_ended (c ∷ d ∷ cs) =
+    by (cases_eq c 10) ∙ ap (λ t. c ∷ t) (lines_of_ended (d ∷ cs)) ∙ with_end-cons (ends_with nat_eq (d ∷ cs) (10 ∷ [])) c (d ∷ cs)
     ∙ ap (λ b. with_end b (c ∷ d ∷ cs)) (sym (ends_with-step 10 c d cs))
   where
     by : (c ≡ 10) ⊎ (c ≡ 10 → ⊥) → ended (if c == 10 then [] ∷ lines_of (d ∷ cs) else onto_first_line c (lines_of (d ∷ cs))) ≡ c ∷ ended (lines_of (d ∷ cs))
@@ -75,9 +75,9 @@ unbroken-onto : (c : ℕ) (ls : List (List ℕ)) → (c == 10) ≡ false → lis
 unbroken-onto c [] n h = ap (λ b. (not b && true) && true) n
 unbroken-onto c (l ∷ ls) n h = ap (λ b. (not b && is_unbroken l) && list_all is_unbroken ls) n ∙ h
 
-pub lines_of-unbroken : (text : List ℕ) → list_all is_unbroken (lines_of text) ≡ true
-lines_of-unbroken [] = refl
-lines_of-unbroken (c ∷ cs) = by (c == 10) refl (lines_of-unbroken cs)
+pub lines_of_unbroken : (text : List ℕ) → list_all is_unbroken (lines_of text) ≡ true
+lines_of_unbroken [] = refl
+lines_of_unbroken (c ∷ cs) = by (c == 10) refl (lines_of_unbroken cs)
   where
     by : (b : Bool) → (c == 10) ≡ b → list_all is_unbroken (lines_of cs) ≡ true → list_all is_unbroken (if b then [] ∷ lines_of cs else onto_first_line c (lines_of cs)) ≡ true
     by true e h = h
@@ -145,10 +145,10 @@ character_before c (p ∷ q ∷ ps) h n r =
     ap (λ l. l ∷ lines_of_parts (q ∷ ps)) (strip-none (c ∷ p) (ap (λ b. b && has_no_return p) n ∙ e.0))
     ∙ ap (λ l. (c ∷ l) ∷ lines_of_parts (q ∷ ps)) (sym (strip-none p e.0))
 
-pub lines_of-std : (t : List ℕ) → has_no_return t ≡ true → lines_of t ≡ lines t
-lines_of-std [] h = refl
-lines_of-std (c ∷ cs) h =
-    let p = and_parts (not (c == 13)) (has_no_return cs) h in by (c == 10) p.0 p.1 (lines_of-std cs p.1)
+pub lines_of_std : (t : List ℕ) → has_no_return t ≡ true → lines_of t ≡ lines t
+lines_of_std [] h = refl
+lines_of_std (c ∷ cs) h =
+    let p = and_parts (not (c == 13)) (has_no_return cs) h in by (c == 10) p.0 p.1 (lines_of_std cs p.1)
   where
     by : (b : Bool) → not (c == 13) ≡ true → has_no_return cs ≡ true → lines_of cs ≡ lines_of_parts (parts_of cs)
         → (if b then [] ∷ lines_of cs else onto_first_line c (lines_of cs)) ≡ lines_of_parts (cond b ([] ∷ parts_of cs) (onto_first c (parts_of cs)))

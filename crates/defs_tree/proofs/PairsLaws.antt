@@ -49,16 +49,16 @@ pub AreDistinct-append : (k v : Tree) (ps : List (Tree × Tree)) → AreDistinct
 AreDistinct-append k v [] h n = (tt, tt)
 AreDistinct-append k v (p ∷ ps) h n = (Lacks-append p.0 k v ps h.0 (λ e. n.0 (sym e)), AreDistinct-append k v ps h.1 n.1)
 
-pub AreDistinct-insert : (k v : Tree) (ps : List (Tree × Tree)) → AreDistinct ps → AreDistinct (insert k v ps)
-AreDistinct-insert k v ps h = AreDistinct-append k v (without k ps) (AreDistinct-without k ps h) (Lacks-itself k ps h)
+pub AreDistinct_insert : (k v : Tree) (ps : List (Tree × Tree)) → AreDistinct ps → AreDistinct (insert k v ps)
+AreDistinct_insert k v ps h = AreDistinct-append k v (without k ps) (AreDistinct-without k ps h) (Lacks-itself k ps h)
 
 -- a key that no pair has is found in what is put after
 pub lookup-append : (k v : Tree) (ps : List (Tree × Tree)) → Lacks k ps → lookup k (ps ++ (k, v) ∷ []) ≡ Some v
 lookup-append k v [] h = ap (λ b. cond b (Some v) None) (tree_eq-itself k)
 lookup-append k v (p ∷ ps) h = ap (λ b. cond b (Some p.1) (lookup k (ps ++ (k, v) ∷ []))) (tree_eq-other k p.0 h.0) ∙ lookup-append k v ps h.1
 
-pub lookup-insert : (k v : Tree) (ps : List (Tree × Tree)) → AreDistinct ps → lookup k (insert k v ps) ≡ Some v
-lookup-insert k v ps h = lookup-append k v (without k ps) (Lacks-itself k ps h)
+pub lookup_insert : (k v : Tree) (ps : List (Tree × Tree)) → AreDistinct ps → lookup k (insert k v ps) ≡ Some v
+lookup_insert k v ps h = lookup-append k v (without k ps) (Lacks-itself k ps h)
 
 lookup-append_other : (k v l : Tree) (ps : List (Tree × Tree)) → l ≢ k → lookup l (ps ++ (k, v) ∷ []) ≡ lookup l ps
 lookup-append_other k v l [] n = ap (λ b. cond b (Some v) None) (tree_eq-other l k n)
@@ -72,8 +72,8 @@ lookup-without_other k l (p ∷ ps) n = by (tree_eq k p.0) refl (lookup-without_
     by true e r = sym (ap (λ b. cond b (Some p.1) (lookup l ps)) (tree_eq-other l p.0 (λ is. n (is ∙ sym ((tree_eq_decides k p.0).0 e)))))
     by false e r = ap (λ o. cond (tree_eq l p.0) (Some p.1) o) r
 
-pub lookup-insert_other : (k v l : Tree) (ps : List (Tree × Tree)) → l ≢ k → lookup l (insert k v ps) ≡ lookup l ps
-lookup-insert_other k v l ps n = lookup-append_other k v l (without k ps) n ∙ lookup-without_other k l ps n
+pub lookup_insert_other : (k v l : Tree) (ps : List (Tree × Tree)) → l ≢ k → lookup l (insert k v ps) ≡ lookup l ps
+lookup_insert_other k v l ps n = lookup-append_other k v l (without k ps) n ∙ lookup-without_other k l ps n
 
 -- ---- the order
 
@@ -94,6 +94,6 @@ without-others k (p ∷ ps) h = by (tree_eq k p.0) refl (without-others k ps h.1
     by true e r = sym (others-lacking k ps (subst (λ t. Lacks t ps) (sym ((tree_eq_decides k p.0).0 e)) h.0))
     by false e r = ap (λ qs. p ∷ qs) r
 
-pub insert-in_order : (k v : Tree) (ps : List (Tree × Tree)) → AreDistinct ps → insert k v ps ≡ filter (λ p. not (tree_eq k p.0)) ps ++ (k, v) ∷ []
+pub insert_in_order : (k v : Tree) (ps : List (Tree × Tree)) → AreDistinct ps → insert k v ps ≡ filter (λ p. not (tree_eq k p.0)) ps ++ (k, v) ∷ []
 unfolding others
-insert-in_order k v ps h = ap (λ qs. qs ++ (k, v) ∷ []) (without-others k ps h)
+insert_in_order k v ps h = ap (λ qs. qs ++ (k, v) ∷ []) (without-others k ps h)

@@ -57,9 +57,9 @@ unfolding AllSound
 by_rows-sound P [] text h r = r
 by_rows-sound P (row ∷ rest) text h r = or_else (P text) (row text) (by_rows rest text) h.0 (by_rows-sound P rest text h.1 r)
 
-pub typing-plain : (text : List ℕ) → MayStandFor text (typing text)
+pub typing_plain : (text : List ℕ) → MayStandFor text (typing text)
 unfolding typing AllSound
-typing-plain text = by_rows-sound MayStandFor rows text (
+typing_plain text = by_rows-sound MayStandFor rows text (
   after_row text 16 (after_prefix (codes "0x") text),
   (
     after_row text 8 (after_prefix (codes "0o") text),
@@ -106,10 +106,10 @@ string_of_plain text bad_value h e = absurd h
 string_of_plain text _ h e = cc
 
 pub typing-real : (text : List ℕ) → is_real_text text ≡ true → typing text ≡ real text
-typing-real text e = real_of_plain text (typing text) (typing-plain text) e
+typing-real text e = real_of_plain text (typing text) (typing_plain text) e
 
 pub typing-string : (text : List ℕ) → is_string (typing text) ≡ true → typing text ≡ string text
-typing-string text e = string_of_plain text (typing text) (typing-plain text) e
+typing-string text e = string_of_plain text (typing text) (typing_plain text) e
 
 -- ---- strings fit no row
 

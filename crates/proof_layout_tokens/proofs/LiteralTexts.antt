@@ -10,7 +10,7 @@ use Rattle.defs_text.specs.Text.{is_empty}
 use Rattle.defs_tree.specs.Lines.{lines_of, onto_first_line, ended}
 use Rattle.defs_tree.specs.Literal.{is_literal_text, is_root_literal, is_literal_character, is_line_feed, first_full_line_is_indented, begins_as_marker, literal_header}
 use Rattle.defs_tree.specs.Literal as literal_defs
-use Rattle.defs_tree.proofs.LinesLaws.{lines_of-ended}
+use Rattle.defs_tree.proofs.LinesLaws.{lines_of_ended}
 use Rattle.defs_text.specs.Classes.{are_marks, is_blank, is_break, is_nul, is_blank_or_end, is_document_marker}
 use Rattle.defs_scalar.specs.BlockScalar.{BlockStyle, Row, empty_row, content_row, rows_of, starts_with_tab, has_content, breaks, text_after, text_of, value_before_text}
 use Rattle.defs_layout.specs.Gap.{IsLineText, is_line_character}
@@ -185,8 +185,8 @@ abbrev last_feed : Bool → List ℕ
 last_feed clips = if clips then 10 ∷ [] else []
 
 make_text : (clips : Bool) (l : Line) (ls : List Line) (text : List ℕ) → contents (l ∷ ls) ≡ lines_of text → is_empty text ≡ false → ends_with nat_eq text (codes "\n") ≡ clips → (content l ++ after ls) ++ last_feed clips ≡ text
-make_text true l ls text e some h = lines_make l ls ∙ ap ended e ∙ lines_of-ended text ∙ rw (some, h) refl
-make_text false l ls text e some h = append-nil (content l ++ after ls) ∙ append_cancel_right (content l ++ after ls) text (10 ∷ []) (lines_make l ls ∙ ap ended e ∙ lines_of-ended text ∙ rw (some, h) refl)
+make_text true l ls text e some h = lines_make l ls ∙ ap ended e ∙ lines_of_ended text ∙ rw (some, h) refl
+make_text false l ls text e some h = append-nil (content l ++ after ls) ∙ append_cancel_right (content l ++ after ls) text (10 ∷ []) (lines_make l ls ∙ ap ended e ∙ lines_of_ended text ∙ rw (some, h) refl)
 
 value_is : (clips : Bool) (l : Line) (ls : List Line) → EndsInText (l ∷ ls) → value_before_text (header_by BlockStyle.literal (not clips)) (rows (l ∷ ls)) ≡ (content l ++ after ls) ++ last_feed clips
 value_is true l ls h = rw (content_last (l ∷ ls) h) (ap (λ x. x ++ 10 ∷ []) (text_is l ls h))

@@ -4,11 +4,13 @@ ghost use Rattle.proof_loads.specs.Documents.{ReadDocumentsComeBack, AliasesInsi
 
 /// If a document can be written, its dump is read as that one document, in each setting, whatever text the document
 /// was read from.
+#[tactic(auto, using(crate::proofs::DocumentTrees::documents_come_back))]
 pub fn read_documents_come_back()
     ensures { ReadDocumentsComeBack }
 {}
 
 /// An alias inside the node that it means stands for a bad value.
+#[tactic(auto, using(crate::proofs::InsideNode::aliases_are_bad))]
 pub fn aliases_inside_their_node_are_bad_values()
     ensures { AliasesInsideTheirNodeAreBadValues }
 {}

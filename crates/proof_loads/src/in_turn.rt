@@ -3,16 +3,19 @@
 ghost use Rattle.proof_loads.specs.InTurn.{LayoutsInTurnAreReadAsTheirTrees, LayoutsInTurnAreWithoutNul, DumpsInTurnAreReadAsTheirTrees};
 
 /// The text of several basic layouts, each followed by an LF, is read as their trees, in order.
+#[tactic(auto, using(crate::proofs::InTurn::layouts_in_turn_are_read))]
 pub fn layouts_in_turn_are_read_as_their_trees()
     ensures { LayoutsInTurnAreReadAsTheirTrees }
 {}
 
 /// The text of several basic layouts has no NUL.
+#[tactic(auto, using(crate::proofs::InTurn::layouts_in_turn_have_no_nul))]
 pub fn layouts_in_turn_are_without_nul()
     ensures { LayoutsInTurnAreWithoutNul }
 {}
 
 /// In each setting, the dumps of trees that can be written, each followed by an LF, are read as those trees.
+#[tactic(auto, using(crate::proofs::InTurn::dumps_in_turn_are_read))]
 pub fn dumps_in_turn_are_read_as_their_trees()
     ensures { DumpsInTurnAreReadAsTheirTrees }
 {}

@@ -4,11 +4,13 @@ ghost use Rattle.proof_loads.specs.QuotedTexts.{QuotedTextsAreReadAsTheirString,
 
 /// Each text of one quoted scalar, followed by nothing but line feeds, is read as that one string, also if the text
 /// without quotes would be another scalar.
+#[tactic(auto, using(crate::proofs::QuotedTexts::quoted_texts_are_read))]
 pub fn quoted_texts_are_read_as_their_string()
     ensures { QuotedTextsAreReadAsTheirString }
 {}
 
 /// No text of one quoted scalar has a NUL.
+#[tactic(auto, using(crate::proofs::QuotedTexts::quoted_texts_have_no_nul))]
 pub fn quoted_texts_are_without_nul()
     ensures { QuotedTextsAreWithoutNul }
 {}

@@ -3,7 +3,7 @@ use Rattle.std.proofs.Common.{◌≡◌, ℕ, ◌+◌, ◌*◌, ◌<◌, List, [
 use Rattle.std.specs.List.{remove}
 use Rattle.defs_tree.specs.Tree.{Tree}
 use Rattle.defs_tree.specs.Pairs.{insert as insert_pair, lookup, without, place_of, with_value_at, AreDistinct}
-use Rattle.defs_tree.proofs.PairsLaws.{AreDistinct-without, AreDistinct-insert}
+use Rattle.defs_tree.proofs.PairsLaws.{AreDistinct-without, AreDistinct_insert}
 use Rattle.yaml_tree.specs.Flat.{flat}
 use Rattle.yaml_tree.specs.Ranked.{key_at, key_of_rank, AreRanked, IsHash, IsRank, IsRankGap}
 use Rattle.yaml_hash_index.specs.Moves.{closed_up, moved_up}
@@ -75,7 +75,7 @@ module _ {m : Tree → ℕ} (k v : Tree) (ys : List Yaml) (rs : List ℕ) (h : I
       → qs ≡ map (moved_up (get_or rs r 0) (length rs)) rs → IsHash m (items_view zs) qs
   made_moved zs qs r at e f =
       let p = place_in k (pairs_view ys) (get_or rs r 0) (ranked_place k ys (pairs_view ys) rs r (get_or rs r 0) h refl at refl) in
-      made zs qs (insert_pair k v (pairs_view ys)) e (AreDistinct-insert k v (pairs_view ys) h.distinct)
+      made zs qs (insert_pair k v (pairs_view ys)) e (AreDistinct_insert k v (pairs_view ys) h.distinct)
       (subst (λ xs. AreRanked m xs (insert_pair k v (pairs_view ys))) (sym f)
       (subst (λ us. AreRanked m (map (moved_up (get_or rs r 0) (length rs)) rs) (us ++ (k, v) ∷ [])) p.rest (ranked_moved rs (pairs_view ys) r k v h.ranked at)))
 
@@ -83,7 +83,7 @@ module _ {m : Tree → ℕ} (k v : Tree) (ys : List Yaml) (rs : List ℕ) (h : I
       → AreRanked n qs (pairs_view ys ++ (k, v) ∷ []) → IsHash n (items_view zs) qs
   made_added {n} zs qs r gap e a =
       let away = absent k (pairs_view ys) (gap_none k rs (pairs_view ys) h.ranked r gap) in
-      made zs qs (insert_pair k v (pairs_view ys)) e (AreDistinct-insert k v (pairs_view ys) h.distinct)
+      made zs qs (insert_pair k v (pairs_view ys)) e (AreDistinct_insert k v (pairs_view ys) h.distinct)
       (subst (λ us. AreRanked n qs (us ++ (k, v) ∷ [])) (sym away.same) a)
 
 -- the pair is new

@@ -6,7 +6,7 @@ pub returns-then-stops : goal.returns-then-stops
 returns-then-stops g c = rw c.ended.ensures record {
   last = c.run.source;
   goes = c.run.invariant;
-  after = c.next-after.ensures;
+  later = c.next-after.ensures;
   stops = λ h. sym c.stops.ensures.value ∙ c.if-stops.true;
 }
 
@@ -19,6 +19,6 @@ pub returns-in-Err : goal.returns-in-Err
 returns-in-Err g c = rw (c.ended-in-Err.ensures, c.in-Err.ensures.err) record {
   last = c.run.source;
   goes = c.run.invariant;
-  after = c.next-after.ensures;
+  later = c.next-after.ensures;
   stops = λ h. absurd (true_is_not_false h);
 }

@@ -1,5 +1,0 @@
-use Rattle.proof_layout_tokens.proofs.LayoutTexts.{layouts_have_their_tokens}
-use Rattle.proof_layout_tokens.proofs.laws.layouts_have_their_tokens.Goals as goal
-
-pub returns : goal.returns
-returns c = layouts_have_their_tokens
