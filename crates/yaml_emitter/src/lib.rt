@@ -5,6 +5,7 @@ mod emitter;
 mod ends;
 mod escape;
 mod fmt_writer;
+pub mod laws;
 mod line;
 mod literal;
 mod node;
@@ -12,8 +13,7 @@ mod number;
 mod quoting;
 mod runs;
 mod scalar;
-#[cfg(test)]
-mod tests;
+mod walk;
 mod writer;
 
 pub use emitter::{EmitError, EmitResult, YamlEmitter};

@@ -1,7 +1,7 @@
 //! Laws: functions whose clause is a theorem about the definitions. A proof calls a law to learn its theorem. A law
 //! returns nothing and takes no memory. Its body is empty, except that `laid_out` visits the nodes of its tree.
 pub use proof_dumps::laws::{dumps_are_laid_out, dumps_in_turn_are_laid_out};
-pub use dumped_trees::laws::laid_out;
+pub use yaml_emitter::laws::laid_out;
 pub use defs_event::laws::{
     loaded_integers_have_64_bits, loaded_trees_have_distinct_keys, loaded_trees_have_no_alias,
     multi_load_pushes_all_events, nested_events_are_read_one_by_one, nesting_test_is_exact,

@@ -1,0 +1,33 @@
+//! What each layer answers, call by call: tokens, events, trees and dumps; copies and faults; what is refused by
+//! readers that fail after each number of bytes, by writers that refuse each of their calls, and for events out of
+//! nesting.
+#![tactic(auto)]
+
+#[cfg(test)]
+mod emitter;
+#[cfg(test)]
+mod events;
+#[cfg(test)]
+mod faults;
+#[cfg(test)]
+mod made;
+#[cfg(test)]
+mod nodes;
+#[cfg(test)]
+mod pairs;
+#[cfg(test)]
+mod pushes;
+#[cfg(test)]
+mod refused_events;
+#[cfg(test)]
+mod refused_reads;
+#[cfg(test)]
+mod refused_writes;
+#[cfg(test)]
+mod scanner;
+#[cfg(test)]
+mod tokens;
+#[cfg(test)]
+mod tree_writes;
+#[cfg(test)]
+mod typing;

@@ -1,6 +1,0 @@
--- Nothing is said of this writer, so that each call gives and leaves what it says.
-use Rattle.yaml_emitter.proofs.WritingLemmas.{wrote_one, stopped_one}
-use Rattle.test_refusals.proofs.writes.RefusingWriter.put.Goals as goal
-
-pub returns : goal.returns
-returns c = record { ok = λ is. wrote_one _ _ _ _ tt; err = λ is. stopped_one _ _ _ _ _ tt }

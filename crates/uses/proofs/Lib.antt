@@ -1,0 +1,7 @@
+pub mod Collected
+pub mod Converted
+pub mod Counted
+pub mod First
+mod InTurn
+pub mod Split
+pub mod Taken

@@ -1,0 +1,4 @@
+pub mod Aliases
+pub mod Anchors
+pub mod FrontMatter
+pub mod Settings

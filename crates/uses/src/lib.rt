@@ -1,0 +1,14 @@
+//! Small programs that call the library, each proved from public contracts alone: a place to start from.
+#![tactic(auto)]
+
+pub mod aliases;
+pub mod anchors;
+pub mod calls;
+pub mod front_matter;
+pub mod json_to_yaml;
+pub mod layered_settings;
+pub mod many_documents;
+pub mod round_trip;
+pub mod settings;
+#[cfg(test)]
+mod receiver_tests;
