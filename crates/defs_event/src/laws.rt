@@ -9,13 +9,11 @@ pub fn tokens_are_derived_in_one_way()
 {}
 
 /// The tokens of a stream have one list of events.
-#[tactic(auto, using(crate::proofs::OneReading::one_list))]
 pub fn streams_have_one_reading()
     ensures { StreamsHaveOneReading }
 {}
 
 /// The events of every stream are nested.
-#[tactic(auto, using(crate::proofs::StreamNests::stream_nests))]
 pub fn stream_events_are_nested()
     ensures { StreamEventsAreNested }
 {}

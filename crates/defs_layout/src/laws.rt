@@ -4,14 +4,12 @@ ghost use Rattle.defs_layout.specs.Laws.{JsonTreesAreSound, LaidOutTreesAreSound
 
 /// The tree of a JSON text is sound: no hash has a key twice, integers have 64 bits, and there is no alias and no bad
 /// value.
-#[tactic(auto, using(crate::proofs::Soundness::json_text_sound))]
 pub fn json_trees_are_sound()
     ensures { JsonTreesAreSound }
 {}
 
 /// Each tree of a layout is sound: no hash has a key twice, integers have 64 bits, and there is no alias and no bad
 /// value.
-#[tactic(auto, using(crate::proofs::Soundness::laid_out_sound))]
 pub fn laid_out_trees_are_sound()
     ensures { LaidOutTreesAreSound }
 {}

@@ -59,4 +59,3 @@ is_at_line_end (c ∷ r) = is_break c || is_nul c
 abbrev pub has_no_break : List ℕ → Bool
 has_no_break [] = true
 has_no_break (c ∷ r) = not (is_break c) && has_no_break r
-

@@ -3,13 +3,11 @@
 ghost use Rattle.proof_layout_tokens.specs.Laws.{TextsHaveOneListOfTokens, TextsWithTokensAreNotRefused, JsonTextsHaveTheirTokens, JsonTextsHaveNoOtherTokens, JsonTextsAreNotRefused, LayoutsHaveTheirTokens, LayoutsHaveNoOtherTokens, LayoutsAreNotRefused, LayoutsInTurnHaveTheirTokens, LayoutsInTurnAreNotRefused, QuotedTextsHaveTheirTokens};
 
 /// A text has at most one list of tokens.
-#[tactic(auto, using(model_scanner::proofs::Runs::one_list))]
 pub fn texts_have_one_list_of_tokens()
     ensures { TextsHaveOneListOfTokens }
 {}
 
 /// A text that has tokens is not refused.
-#[tactic(auto, using(model_scanner::proofs::Runs::not_refused))]
 pub fn texts_with_tokens_are_not_refused()
     ensures { TextsWithTokensAreNotRefused }
 {}
@@ -28,7 +26,6 @@ pub fn json_texts_have_no_other_tokens()
 {}
 
 /// The model refuses no JSON text.
-#[tactic(auto, using(crate::proofs::Json::Texts::json_text_is_not_refused))]
 pub fn json_texts_are_not_refused()
     ensures { JsonTextsAreNotRefused }
 {}
@@ -47,7 +44,6 @@ pub fn layouts_have_no_other_tokens()
 {}
 
 /// The model refuses no layout.
-#[tactic(auto, using(crate::proofs::LayoutTexts::layouts_are_not_refused))]
 pub fn layouts_are_not_refused()
     ensures { LayoutsAreNotRefused }
 {}
@@ -60,7 +56,6 @@ pub fn layouts_in_turn_have_their_tokens()
 {}
 
 /// The model refuses no text of several basic layouts that are each followed by an LF, and not the empty text.
-#[tactic(auto, using(crate::proofs::InTurn::layouts_in_turn_are_not_refused))]
 pub fn layouts_in_turn_are_not_refused()
     ensures { LayoutsInTurnAreNotRefused }
 {}

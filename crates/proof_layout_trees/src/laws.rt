@@ -5,26 +5,22 @@ ghost use Rattle.proof_layout_trees.specs.Laws.{ReadStreamsAreLoaded, ReadStream
 
 /// Let tokens be read as trees. A loader that takes the events of their stream, at any places, has these trees as its
 /// documents. Nothing is open, and no repeated key was noted.
-#[tactic(auto, using(crate::proofs::Loads::streams_are_loaded))]
 pub fn read_streams_are_loaded()
     ensures { ReadStreamsAreLoaded }
 {}
 
 /// Let tokens be read as trees. In no beginning of their stream's events does a key come twice, or an event stand out
 /// of nesting.
-#[tactic(auto, using(crate::proofs::Loads::streams_are_not_refused))]
 pub fn read_streams_are_not_refused()
     ensures { ReadStreamsAreNotRefused }
 {}
 
 /// The same holds of the events that a beginning of these tokens determines.
-#[tactic(auto, using(crate::proofs::Loads::foretold_are_not_refused))]
 pub fn foretold_events_are_not_refused()
     ensures { ForetoldEventsAreNotRefused }
 {}
 
 /// If tokens are read as trees, each beginning of them begins a stream.
-#[tactic(auto, using(crate::proofs::Loads::streams_are_not_cut))]
 pub fn read_streams_are_not_cut()
     ensures { ReadStreamsAreNotCut }
 {}
@@ -56,7 +52,6 @@ pub fn json_tokens_read_as_their_tree()
 
 /// A loader that takes the events of a JSON text's stream, at any places, has the text's tree as its one document.
 /// Nothing is open, and no repeated key was noted.
-#[tactic(auto, using(crate::proofs::JsonReading::events_are_loaded))]
 pub fn json_events_are_loaded()
     ensures { JsonEventsAreLoaded }
 {}
@@ -70,7 +65,6 @@ pub fn layout_tokens_read_as_their_trees()
 
 /// A loader that takes the events of a layout's stream, at any places, has the layout's trees as its documents.
 /// Nothing is open, and no repeated key was noted.
-#[tactic(auto, using(crate::proofs::LayoutDocuments::events_are_loaded))]
 pub fn layout_events_are_loaded()
     ensures { LayoutEventsAreLoaded }
 {}
@@ -90,7 +84,6 @@ pub fn basic_documents_read_as_their_trees()
 
 /// The tokens of a text of one quoted scalar are a stream, and are read as a string, also if the text without quotes
 /// would be another scalar.
-#[tactic(auto, using(crate::proofs::Quoted::quoted_read_as_their_string))]
 pub fn quoted_tokens_read_as_their_string()
     ensures { QuotedTokensReadAsTheirString }
 {}

@@ -1,7 +1,7 @@
 //! Trees and the texts that are written for them.
-use yaml_emitter::{DoubleQuoted, YamlEmitter};
 use std::alloc::Global;
 use std::test::Fail;
+use yaml_emitter::{DoubleQuoted, YamlEmitter};
 use yaml_tree::{Array, Hash, Yaml};
 
 fn word(alloc: Global, text: &str) -> Result<Yaml, Fail> {

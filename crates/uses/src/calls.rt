@@ -3,15 +3,15 @@
 mod bytes;
 mod events;
 mod failure;
-mod trees;
 #[cfg(test)]
 mod tests;
+mod trees;
 
 use crate::calls::bytes::documents_of_bytes;
 use crate::calls::events::{count_scalars, count_tokens};
 use crate::calls::failure::Failure;
-use std::alloc::{AllocError, Global};
 use crate::calls::trees::{change, ports, service, services, spread};
+use std::alloc::{AllocError, Global};
 use yaml_rust2::yaml::Array;
 use yaml_rust2::{Yaml, YamlLoader};
 

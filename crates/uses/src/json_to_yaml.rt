@@ -8,8 +8,8 @@ ghost use Rattle.yaml_rust2.specs.Tree.{Tree};
 ghost use Rattle.yaml_rust2.specs.Writable.{IsWritable};
 ghost use Rattle.uses.specs.declared.round_trip.NotBack.TheVariants.{OutOfMemory};
 
-use std::alloc::Global;
 use crate::round_trip::{NotBack, dumped};
+use std::alloc::Global;
 use yaml_rust2::YamlLoader;
 use yaml_rust2::laws::dumps_are_laid_out;
 

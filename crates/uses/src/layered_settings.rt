@@ -6,9 +6,9 @@ ghost use Rattle.uses.specs.declared.round_trip.NotBack.TheVariants.{OutOfMemory
 ghost use Rattle.yaml_rust2.specs.View.{view, items_view};
 ghost use Rattle.yaml_rust2.specs.Writable.{IsWritable};
 
+use crate::round_trip::{NotBack, round_trip};
 use overlay::overlay;
 use std::alloc::{AllocError, Global};
-use crate::round_trip::{NotBack, round_trip};
 use yaml_rust2::Yaml;
 
 #[cfg(test)]

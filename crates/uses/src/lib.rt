@@ -8,7 +8,7 @@ pub mod front_matter;
 pub mod json_to_yaml;
 pub mod layered_settings;
 pub mod many_documents;
-pub mod round_trip;
-pub mod settings;
 #[cfg(test)]
 mod receiver_tests;
+pub mod round_trip;
+pub mod settings;

@@ -10,8 +10,8 @@ ghost use Rattle.yaml_rust2.specs.ValidTree.{IsValid};
 ghost use Rattle.yaml_rust2.specs.View.{view, items_view};
 ghost use Rattle.yaml_rust2.specs.Writable.{IsWritable};
 
-use std::alloc::Global;
 use crate::round_trip::NotBack;
+use std::alloc::Global;
 use yaml_rust2::laws::{
     dumps_in_turn_are_laid_out, layouts_in_turn_are_read_as_their_trees,
     layouts_in_turn_are_without_nul,

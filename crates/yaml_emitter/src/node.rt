@@ -13,7 +13,7 @@ ghost use Rattle.yaml_emitter.specs.ValidTree.{IsValid, IsValidScalar};
 ghost use Rattle.yaml_emitter.specs.Writing.{Writes, WritesUnless};
 
 use crate::line::break_line;
-use crate::literal::{is_literal, is_root_literal, write_literal};
+use crate::literal::{is_literal_text, is_root_literal, write_literal};
 use crate::scalar::{write_spelling, write_string};
 use crate::writer::{Writer, put_ascii};
 use std::fmt;

@@ -3,8 +3,8 @@ ghost use Rattle.std.specs.Prelude.{◌≡◌, ◌<◌, ◌≤◌, ◌+◌, ◌+
 ghost use Rattle.std.specs.List.{insert, remove};
 ghost use Rattle.yaml_hash_index.specs.Moves.{closed_up, moved_up};
 
-use yaml_hash_index::moves::{closed_up, moved_up};
 use std::marker::Model;
+use yaml_hash_index::moves::{closed_up, moved_up};
 
 /// How many places there is room for.
 pub(crate) const ROOM: usize = 8;

@@ -13,13 +13,13 @@ ghost use Rattle.yaml_tree.specs.Probes.{probed};
 ghost use Rattle.yaml_tree.specs.Ranked.{AreRanked, IsHash, IsRankGap};
 ghost use Rattle.yaml_tree.specs.View.{view, items_view, pairs_view};
 
-use crate::few::{Few, ROOM};
 use crate::digest::digest;
+use crate::few::{Few, ROOM};
 use crate::search::{Probe, search};
 use crate::steps::Steps;
 use crate::yaml::Yaml;
-use yaml_hash_index::{Blocks, Entry, Spot};
 use std::alloc::{AllocError, Global};
+use yaml_hash_index::{Blocks, Entry, Spot};
 
 // Those of a short hash take no memory of their own.
 #[derive(Drop)]

@@ -12,8 +12,8 @@ use crate::digest::{digest, digest_of_text};
 use crate::ranks::Ranks;
 use crate::steps::Steps;
 use crate::yaml::Yaml;
-use yaml_hash_index::Spot;
 use std::cmp::Ordering;
+use yaml_hash_index::Spot;
 
 /// What is looked up: a key, or the key `String` with a text.
 #[derive(Clone, Copy)]

@@ -10,10 +10,10 @@ mod trees;
 use crate::decoded::decoded;
 use crate::job::{Job, job_of};
 use crate::trees::{dumps, trees};
-use yaml_event_lines::write_event;
 use std::alloc::Global;
 use std::io::{BufRead, BufReader, BufWriter, Write};
 use std::{env, fs, io};
+use yaml_event_lines::write_event;
 use yaml_parser::{Event, Parser};
 use yaml_scanner::Scanner;
 

@@ -1,7 +1,6 @@
 //! The program over any files and writers.
 use crate::command::{Command, Settings, command_of};
 use crate::failure::{Failure, arguments_failure, read_failure};
-use yaml_event_lines::write_event;
 use overlay::overlay;
 use std::alloc::Global;
 use std::fs::OpenOptions;
@@ -9,6 +8,7 @@ use std::io;
 use std::io::{Read, Write};
 use std::rt::Files;
 use yaml_emitter::YamlEmitter;
+use yaml_event_lines::write_event;
 use yaml_loader::YamlLoader;
 use yaml_parser::{Event, Parser};
 use yaml_tree::Yaml;

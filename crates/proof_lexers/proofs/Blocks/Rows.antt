@@ -148,7 +148,7 @@ module _ (literal : Bool) (column : ℕ) where
 
 -- what a line is
 pub data IsRow (column : ℕ) (w : List ℕ) : Row → Type 0 where
-  is_empty : is_spaces w ≡ true → length w ≤ column → IsRow column w empty_row
+  no_content : is_spaces w ≡ true → length w ≤ column → IsRow column w empty_row
   is_content : column ≤ leading_spaces w → suc column ≤ length w → ((column == 0) && is_document_marker w) ≡ false → IsRow column w (content_row (drop column w))
 
 within : (n m : ℕ) → nat_le n m ≡ true → n ≤ m
@@ -163,7 +163,7 @@ row_is column w r h = by (is_spaces w && nat_le (length w) column) ((nat_le colu
         let q = and_parts (is_spaces w) (nat_le (length w) column) f in
         let one : Some empty_row ≡ Some r = rw f at h in
         let same : empty_row ≡ r = cc in
-        rw (← same) (is_empty q.0 (within (length w) column q.1))
+        rw (← same) (no_content q.0 (within (length w) column q.1))
     by false true f g =
         let q = and_parts (nat_le column (leading_spaces w) && nat_le (suc column) (length w)) _ g in
         let s = and_parts (nat_le column (leading_spaces w)) (nat_le (suc column) (length w)) q.0 in
@@ -175,7 +175,7 @@ row_is column w r h = by (is_spaces w && nat_le (length w) column) ((nat_le colu
 module _ (literal : Bool) (column : ℕ) where
   row_goes : (l : Line) (a : List ℕ) (p : Position) (x : Lines) (r : Row) → p.col ≡ 0 → is_in_line l.text ≡ true → Fits l.by a → IsRow column l.text r
       → scan literal column (l.text ++ put l.by a) (front p x) ≡ scan literal column a (front (after_line l p) (after_row literal r x))
-  row_goes l a p x empty_row col inner fits (is_empty h le) = empty_goes literal column l a p x h (omega (arith, le, col)) fits
+  row_goes l a p x empty_row col inner fits (no_content h le) = empty_goes literal column l a p x h (omega (arith, le, col)) fits
   row_goes l a p x (content_row m) col inner fits (is_content lead long free) =
       content_chars literal column l.text (put l.by a) p x col inner (break_ends l.by a) lead long free
       ∙ line_ends literal column l.by a (along l.text p) (written literal column (content_row (drop column l.text)) x) fits

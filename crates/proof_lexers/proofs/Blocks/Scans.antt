@@ -24,7 +24,7 @@ use Rattle.proof_lexers.proofs.Blocks.Written.{Break, feed, carriage, both, Line
 use Rattle.proof_lexers.proofs.Blocks.Margins.{after_break, after_line, after_lines, at, before, margin_passes, last_passes, col_along}
 use Rattle.proof_lexers.proofs.Blocks.First.{content_is}
 use Rattle.proof_lexers.proofs.Blocks.Places.{spell_more, after_chars, after_put, after_spell, first_header, first_last, header_alone}
-use Rattle.proof_lexers.proofs.Blocks.Rows.{after_rows, front, written, rows_go, last_empty, last_content, break_ends, IsRow, is_empty, is_content, Starts, starts}
+use Rattle.proof_lexers.proofs.Blocks.Rows.{after_rows, front, written, rows_go, last_empty, last_content, break_ends, IsRow, no_content, is_content, Starts, starts}
 use Rattle.proof_lexers.proofs.Blocks.Further.{Outside, further_stops}
 use Rattle.proof_lexers.proofs.Blocks.Values.{after_empty, content_value, empty_value, end_value, last_value}
 use Rattle.proof_lexers.proofs.Blocks.HeaderFacts.{header_reads, header_tabs, linebreak_put}
@@ -321,7 +321,7 @@ module _ (h : defs.Header) (line : List ℕ) (k : Break) (indent : ℕ) (p : Pos
 
     pub before_the_end : (r : Row) → IsRow column last r → read_end r
     unfolding last_found
-    before_the_end empty_row (is_empty spaces le) = by (has_content rs) refl
+    before_the_end empty_row (no_content spaces le) = by (has_content rs) refl
       where
         by : (b : Bool) → has_content rs ≡ b → read_end empty_row
         by true e = empty_some e spaces le (found_in column ls last first_place [] rs refl are rows e)

@@ -10,7 +10,7 @@ use Rattle.proof_lexers.specs.BlockScan.{is_some}
 use Rattle.proof_lexers.proofs.Blocks.Written.{Line, put, spell, texts, Fits, AreLines}
 use Rattle.proof_lexers.proofs.Blocks.Margins.{after_line, after_lines, at, empty_passes}
 use Rattle.proof_lexers.proofs.Blocks.Places.{first_empty}
-use Rattle.proof_lexers.proofs.Blocks.Rows.{IsRow, is_empty, is_content, row_is, break_ends, Starts, starts}
+use Rattle.proof_lexers.proofs.Blocks.Rows.{IsRow, no_content, is_content, row_is, break_ends, Starts, starts}
 use Rattle.proof_lexers.proofs.Blocks.Values.{AreFull}
 use Rattle.proof_lexers.proofs.Blocks.Columns.{none_further}
 
@@ -22,7 +22,7 @@ drop_some zero (c ∷ w) rs long full = full
 drop_some (suc n) (c ∷ w) rs long full = drop_some n w rs (omega (arith, long)) full
 
 row_full : (column : ℕ) (w : List ℕ) (r : Row) (rs : List Row) → IsRow column w r → AreFull rs → AreFull (r ∷ rs)
-row_full column w empty_row rs (is_empty h le) full = full
+row_full column w empty_row rs (no_content h le) full = full
 row_full column w (content_row m) rs (is_content lead long free) full = drop_some column w rs long full
 
 -- a list of rows by its first
@@ -81,7 +81,7 @@ module _ (column : ℕ) where
 
   found_by : (l : Line) (ls : List Line) (a : List ℕ) (p : Position) (b : List ℕ) (r : Row) (more : List Row) → p.col ≡ 0 → AreLines (l ∷ ls) a → has_content (r ∷ more) ≡ true → IsRow column l.text r
       → (has_content more ≡ true → FoundIn ls a (after_line l p) (b ++ 10 ∷ [])) → FoundIn (l ∷ ls) a p b
-  found_by l ls a p b empty_row more col are some (is_empty h le) go = later_found l ls a p b h (omega (arith, le, col)) are.1 (go some)
+  found_by l ls a p b empty_row more col are some (no_content h le) go = later_found l ls a p b h (omega (arith, le, col)) are.1 (go some)
   found_by l ls a p b (content_row m) more col are some (is_content lead long free) go = content_found l ls a p b (starts true column column l.text (put l.by (spell ls a)) p b (omega (arith, col)) lead long are.0)
 
   pub found_in : (ls : List Line) (a : List ℕ) (p : Position) (b : List ℕ) (rs : List Row) → p.col ≡ 0 → AreLines ls a → rows_of column (texts ls) ≡ Some rs → has_content rs ≡ true → FoundIn ls a p b
@@ -110,7 +110,7 @@ module _ (column : ℕ) where
 
   empty_by : (l : Line) (ls : List Line) (a : List ℕ) (p : Position) (b : List ℕ) (r : Row) (more : List Row) → p.col ≡ 0 → AreLines (l ∷ ls) a → has_content (r ∷ more) ≡ false → IsRow column l.text r
       → (has_content more ≡ false → Empty ls a (after_line l p) (b ++ 10 ∷ []) (length more)) → Empty (l ∷ ls) a p b (length (r ∷ more))
-  empty_by l ls a p b empty_row more col are none (is_empty h le) go = one_empty l ls a p b (length more) h (omega (arith, le, col)) are.1 (go none)
+  empty_by l ls a p b empty_row more col are none (no_content h le) go = one_empty l ls a p b (length more) h (omega (arith, le, col)) are.1 (go none)
   empty_by l ls a p b (content_row m) more col are none (is_content lead long free) go = let no : true ≡ false = none in cc
 
   pub all_empty : (ls : List Line) (a : List ℕ) (p : Position) (b : List ℕ) (rs : List Row) → p.col ≡ 0 → AreLines ls a → rows_of column (texts ls) ≡ Some rs → has_content rs ≡ false → Empty ls a p b (length rs)

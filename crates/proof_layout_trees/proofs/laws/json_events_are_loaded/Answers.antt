@@ -1,0 +1,5 @@
+use Rattle.proof_layout_trees.proofs.JsonReading.{events_are_loaded}
+use Rattle.proof_layout_trees.proofs.laws.json_events_are_loaded.Goals as goal
+
+pub returns : goal.returns
+returns c = events_are_loaded
