@@ -1,19 +1,7 @@
-mod BoxExamples
 pub mod BoxLaws
-mod DigitsExamples
-mod EscapesExamples
-mod LinesExamples
-mod LiteralExamples
-mod NumberExamples
-mod OrderExamples
-mod OverlayExamples
-mod PairsExamples
-mod QuotingExamples
-mod SpellingExamples
-mod TypingExamples
-mod WritableExamples
 pub mod DecimalReading
 pub mod DigitsLaws
+pub mod Examples
 pub mod GrammarLaws
 pub mod Letters
 pub mod LinesLaws

@@ -3,8 +3,8 @@ pub mod Digits
 pub mod DumpText
 pub mod Escapes
 pub mod Grammar
-pub mod Lines
 pub mod Laws
+pub mod Lines
 pub mod Lists
 pub mod Literal
 pub mod Order

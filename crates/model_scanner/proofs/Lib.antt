@@ -3,11 +3,6 @@ pub mod Given
 pub mod Holds
 pub mod NoEnds
 pub mod OnLiterals
-mod RowsBlock
-mod RowsFlow
-mod RowsLines
-mod RowsProperties
-mod RowsRefused
-mod RowsScalars
+pub mod Rows
 pub mod Runs
 pub mod Walk

@@ -1,11 +1,11 @@
-pub mod Class
-pub mod State
-pub mod Keys
-pub mod Indents
-pub mod Space
-pub mod Flow
 pub mod Block
+pub mod Class
 pub mod Document
 pub mod Fetch
+pub mod Flow
+pub mod Indents
+pub mod Keys
 pub mod Run
+pub mod Space
+pub mod State
 pub mod TextTokens

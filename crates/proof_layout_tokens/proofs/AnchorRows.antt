@@ -12,7 +12,7 @@ use Rattle.defs_layout.specs.Gap.{empty_line, is_line_character}
 use Rattle.defs_layout.specs.BlockLines.{full, blank}
 use Rattle.defs_layout.specs.Layout.{Scalar, plain, single_quoted, scalar, no_comment, Block, beside, literal, folded, below, anchored, alias, implicit, last_field, field, Root, last_document}
 use Rattle.model_scanner.specs.TextTokens.{HasToks}
-use Rattle.proof_layout_tokens.proofs.LayoutTexts.{layouts_have_their_tokens}
+use Rattle.proof_layout_tokens.proofs.Layouts.Texts.{layouts_have_their_tokens}
 
 abbrev word : List ℕ → Scalar
 word w = plain (Tree.string w)

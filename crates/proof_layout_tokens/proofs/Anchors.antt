@@ -21,7 +21,7 @@ use Rattle.model_scanner.specs.Block.{last_property, property_place}
 use Rattle.model_scanner.specs.Document.{anchor_token, fetch_anchor}
 use Rattle.model_scanner.specs.Fetch.{token_by, comes_marker}
 use Rattle.model_scanner.specs.Run.{Reaches}
-use Rattle.proof_layout_tokens.proofs.LayoutStates.{Parts, stands, is_solid, Opens, opened, opened_indent, Trail, next, marker, end, trail_text, rest_of, limit_of, IsTrail, IsOld, Tells, Before, After}
+use Rattle.proof_layout_tokens.proofs.Layouts.States.{Parts, stands, is_solid, Opens, opened, opened_indent, Trail, next, marker, end, trail_text, rest_of, limit_of, IsTrail, IsOld, Tells, Before, After}
 use Rattle.proof_layout_tokens.proofs.Whites.{line_feed, spell_white, beyond, passed, next_token, blanks, blanks_col, blanks_white, gap_white, gap_are_white, gap_allows}
 use Rattle.proof_lexers.specs.HeaderEnds.{along}
 use Rattle.proof_lexers.proofs.Along.{along_line, along_more}

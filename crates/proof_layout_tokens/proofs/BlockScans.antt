@@ -26,7 +26,7 @@ use Rattle.proof_lexers.proofs.Blocks.Margins.{after_break, after_line, after_li
 use Rattle.proof_lexers.proofs.Blocks.Places.{space_past, after_chars, after_spell, spell_more}
 use Rattle.proof_lexers.proofs.Blocks.Columns.{texts_append, spell_append}
 use Rattle.proof_lexers.proofs.Blocks.Pieces.{Read_as, to_end, to_text}
-use Rattle.proof_layout_tokens.proofs.LayoutStates.{is_solid, Trail, next, marker, end, marker_text, rest_of, limit_of, IsTrail}
+use Rattle.proof_layout_tokens.proofs.Layouts.States.{is_solid, Trail, next, marker, end, marker_text, rest_of, limit_of, IsTrail}
 use Rattle.proof_layout_tokens.proofs.Whites.{White, line_feed, remark, spell_white, beyond, AreWhite, blanks, blanks_col, blanks_white, spaces_are, gap_white, gap_are_white, line_white, ending_white, ending_are_white}
 use Rattle.proof_lexers.proofs.Along.{along_line}
 use Rattle.proof_layout_tokens.proofs.Joins.{trail_white}

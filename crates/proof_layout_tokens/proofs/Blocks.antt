@@ -15,7 +15,7 @@ use Rattle.model_scanner.specs.Document.{block_style, fetch_block_scalar}
 use Rattle.model_scanner.specs.Fetch.{token_by, comes_marker}
 use Rattle.proof_lexers.specs.HeaderEnds.{indicator_of}
 use Rattle.proof_lexers.specs.BlockScan.{is_literal_style}
-use Rattle.proof_layout_tokens.proofs.LayoutStates.{Parts, stands, Opens, opened, opened_indent, IsClosed, Trail, next, marker, end, trail_text, rest_of, limit_of, IsTrail, After}
+use Rattle.proof_layout_tokens.proofs.Layouts.States.{Parts, stands, Opens, opened, opened_indent, IsClosed, Trail, next, marker, end, trail_text, rest_of, limit_of, IsTrail, After}
 use Rattle.proof_layout_tokens.proofs.Whites.{White, spell_white, stays_allowed, allowed_beyond}
 use Rattle.proof_layout_tokens.proofs.Levels
 use Rattle.proof_layout_tokens.proofs.Joins.{trail_white, trail_is, Lies, Allows, leaf_after, saved_after, Ahead, fetched_ahead}

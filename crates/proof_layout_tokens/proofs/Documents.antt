@@ -17,7 +17,7 @@ use Rattle.model_scanner.specs.Run.{Reaches, here, there, start}
 use Rattle.defs_token.specs.Toks.{toks}
 use Rattle.model_scanner.specs.TextTokens.{HasToks}
 use Rattle.model_scanner.proofs.Runs.{reaches_then}
-use Rattle.proof_layout_tokens.proofs.LayoutStates.{Parts, stands, left, marker, marker_text, end, Tells, After}
+use Rattle.proof_layout_tokens.proofs.Layouts.States.{Parts, stands, left, marker, marker_text, end, Tells, After}
 use Rattle.proof_layout_tokens.proofs.Joins.{unrolls_to}
 use Rattle.proof_layout_tokens.proofs.Levels
 use Rattle.proof_layout_tokens.proofs.Whites.{next_token}

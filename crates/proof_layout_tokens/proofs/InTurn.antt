@@ -7,7 +7,7 @@ use Rattle.model_scanner.specs.TextTokens.{HasToks}
 use Rattle.proof_layout_tokens.specs.Laws.{LayoutsInTurnHaveTheirTokens, LayoutsInTurnAreNotRefused}
 use Rattle.proof_layout_tokens.proofs.Documents.{nothing_has_its_tokens}
 use Rattle.proof_layout_tokens.proofs.TextTokens.{none_is_refused}
-use Rattle.proof_layout_tokens.proofs.LayoutTexts.{layouts_have_their_tokens}
+use Rattle.proof_layout_tokens.proofs.Layouts.Texts.{layouts_have_their_tokens}
 
 pub layouts_in_turn_have_their_tokens : LayoutsInTurnHaveTheirTokens
 layouts_in_turn_have_their_tokens t ts text laid =

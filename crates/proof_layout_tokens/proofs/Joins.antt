@@ -15,7 +15,7 @@ use Rattle.model_scanner.specs.Run.{Reaches, here, there}
 use Rattle.model_scanner.proofs.Runs.{reaches_then}
 use Rattle.defs_token.specs.Toks.{toks}
 use Rattle.proof_lexers.proofs.Bridges.{and_false}
-use Rattle.proof_layout_tokens.proofs.LayoutStates.{Parts, stands, opened, opened_indent, ends, left, Trail, next, marker, end, marker_text, trail_text, rest_of, limit_of, IsTrail, IsOld, Tells, Before, Settles, After}
+use Rattle.proof_layout_tokens.proofs.Layouts.States.{Parts, stands, opened, opened_indent, ends, left, Trail, next, marker, end, marker_text, trail_text, rest_of, limit_of, IsTrail, IsOld, Tells, Before, Settles, After}
 use Rattle.proof_layout_tokens.proofs.Whites.{White, line_feed, spell_white, beyond, passed, allowed_beyond, EndsLine, AreWhite, next_token, blanks, blanks_col, blanks_white, gap_white, ending_white, next_line_is, ending_is, gap_are_white, ending_are_white}
 use Rattle.proof_lexers.specs.HeaderEnds.{along}
 use Rattle.proof_lexers.proofs.Along.{along_line}

@@ -22,7 +22,7 @@ use Rattle.model_scanner.specs.Document.{quoted_style, may_follow_quoted, check_
 use Rattle.model_scanner.specs.Run.{Reaches, here, there}
 use Rattle.model_scanner.proofs.Runs.{reaches_then}
 use Rattle.defs_token.specs.Toks.{toks}
-use Rattle.proof_layout_tokens.proofs.LayoutStates.{Parts, stands, is_solid, IsClosed, Tells, Before}
+use Rattle.proof_layout_tokens.proofs.Layouts.States.{Parts, stands, is_solid, IsClosed, Tells, Before}
 use Rattle.proof_layout_tokens.proofs.Whites.{line_feed, remark, spell_white, beyond, allowed_beyond, next_token, blanks, blanks_white, gap_white, gap_are_white, gap_allows}
 use Rattle.proof_lexers.specs.HeaderEnds.{along}
 use Rattle.proof_lexers.proofs.Along.{along_line, along_more}

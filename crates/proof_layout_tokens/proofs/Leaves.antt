@@ -17,7 +17,7 @@ use Rattle.model_scanner.specs.Space.{skip_spaces}
 use Rattle.model_lexers.specs.Quoted.{quote_of}
 use Rattle.model_scanner.specs.Document.{quoted_style, may_follow_quoted, check_after_quoted, fetch_flow_scalar, fetch_plain_scalar}
 use Rattle.model_scanner.specs.Fetch.{fetch_here, token_by, comes_marker}
-use Rattle.proof_layout_tokens.proofs.LayoutStates.{Parts, stands, is_solid, Opens, opened, opened_indent, IsClosed, Trail, next, marker, end, marker_text, trail_text, rest_of, limit_of, IsTrail, Before, After}
+use Rattle.proof_layout_tokens.proofs.Layouts.States.{Parts, stands, is_solid, Opens, opened, opened_indent, IsClosed, Trail, next, marker, end, marker_text, trail_text, rest_of, limit_of, IsTrail, Before, After}
 use Rattle.defs_layout.specs.Gap.{IsLineText}
 use Rattle.defs_layout.specs.Layout.{Comment, no_comment, comment, spell_comment, IsComment}
 use Rattle.proof_layout_tokens.proofs.Comments.{comment_white, comment_place, comment_is, beyond_comment, comment_line, comment_passes}

@@ -15,7 +15,7 @@ use Rattle.model_scanner.specs.Fetch.{token_by, fetch_token, fetch_indented, fet
 use Rattle.defs_token.specs.Toks.{toks}
 use Rattle.proof_lexers.proofs.Bridges.{and_false}
 pub use Rattle.proof_layout_tokens.proofs.TextTokens.{toks_push, push_tells}
-use Rattle.proof_layout_tokens.proofs.LayoutStates.{Parts, stands, Opens, ends, ended, left, Tells}
+use Rattle.proof_layout_tokens.proofs.Layouts.States.{Parts, stands, Opens, ends, ended, left, Tells}
 use Rattle.proof_layout_tokens.proofs.Whites.{content}
 
 -- ---- tokens

@@ -9,20 +9,14 @@ pub mod InTurn
 mod Joins
 pub mod Json
 mod Keys
-mod LayoutJsonRows
-mod LayoutRows
-mod LayoutRowsRefused
-mod LayoutStates
-pub mod LayoutTexts
-mod LayoutValues
+pub mod Layouts
 mod Leaves
 mod Levels
 mod LiteralTexts
 mod Marks
 mod PlainTexts
 mod Plains
-mod QuotedRows
-pub mod QuotedTokens
+pub mod Quoted
 mod Quotes
 mod TextTokens
 mod Whites

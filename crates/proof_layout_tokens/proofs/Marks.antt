@@ -24,7 +24,7 @@ use Rattle.model_scanner.specs.Space.{white, skip_yaml_whitespace, skip_spaces}
 use Rattle.model_scanner.specs.Block.{last_property, at_margin, check_block_entry, check_dash, roll_entry, fetch_block_entry, begin_key, check_key_space, fetch_key, check_value_space, begin_keyless_mapping, begin_keyless_value, fetch_value}
 use Rattle.model_scanner.specs.Flow.{allow_key}
 use Rattle.model_scanner.specs.Fetch.{token_by, fetch_here, is_value, comes_marker}
-use Rattle.proof_layout_tokens.proofs.LayoutStates.{Parts, stands, is_content, is_solid, Opens, opened, opened_indent, IsClosed, Tells, HasNoProperty, Before}
+use Rattle.proof_layout_tokens.proofs.Layouts.States.{Parts, stands, is_content, is_solid, Opens, opened, opened_indent, IsClosed, Tells, HasNoProperty, Before}
 use Rattle.proof_layout_tokens.proofs.Whites.{White, space, line_feed, remark, spell_white, beyond, allowed_beyond, EndsLine, AreWhite, content, in_line, blanks, blanks_col, blanks_white, gap_white, gap_are_white, blanks_allow, gap_allows}
 use Rattle.proof_lexers.specs.HeaderEnds.{along}
 use Rattle.proof_layout_tokens.proofs.Levels

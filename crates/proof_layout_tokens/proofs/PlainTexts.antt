@@ -26,7 +26,7 @@ use Rattle.model_scanner.specs.Class.{class_of}
 use Rattle.model_scanner.specs.Document.{fetch_plain_scalar}
 use Rattle.model_scanner.specs.Fetch.{token_by, comes_marker}
 use Rattle.proof_lexers.proofs.Bridges.{and_false}
-use Rattle.proof_layout_tokens.proofs.LayoutStates.{is_content, Opens}
+use Rattle.proof_layout_tokens.proofs.Layouts.States.{is_content, Opens}
 use Rattle.proof_layout_tokens.proofs.Plains.{is_plain_char, are_plain, closes}
 
 -- a character with which a plain scalar may begin: neither white space nor an indicator, but for a dash

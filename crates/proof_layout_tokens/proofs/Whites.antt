@@ -11,7 +11,7 @@ use Rattle.model_scanner.specs.declared.level.Indent.{Indent}
 use Rattle.model_scanner.specs.State.{Held}
 use Rattle.model_scanner.specs.Space.{between, comment, skip, skip_to_next_token}
 use Rattle.proof_lexers.specs.HeaderEnds.{along}
-use Rattle.proof_layout_tokens.proofs.LayoutStates.{Parts, stands, is_content, is_solid}
+use Rattle.proof_layout_tokens.proofs.Layouts.States.{Parts, stands, is_content, is_solid}
 
 pub data White : Type 0 where
   space : White

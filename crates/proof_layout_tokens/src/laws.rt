@@ -32,13 +32,13 @@ pub fn json_texts_are_not_refused()
 
 /// The model gives a layout, of one document or more, its tokens: starts and ends of block collections by the
 /// columns, entries, keys and values by their indicators, and each scalar as it is written.
-#[tactic(auto, using(crate::proofs::LayoutTexts::layouts_have_their_tokens))]
+#[tactic(auto, using(crate::proofs::Layouts::Texts::layouts_have_their_tokens))]
 pub fn layouts_have_their_tokens()
     ensures { LayoutsHaveTheirTokens }
 {}
 
 /// The model gives a layout no other tokens.
-#[tactic(auto, using(crate::proofs::LayoutTexts::layouts_have_no_other_tokens))]
+#[tactic(auto, using(crate::proofs::Layouts::Texts::layouts_have_no_other_tokens))]
 pub fn layouts_have_no_other_tokens()
     ensures { LayoutsHaveNoOtherTokens }
 {}
@@ -62,7 +62,7 @@ pub fn layouts_in_turn_are_not_refused()
 
 /// A text of one quoted scalar with a value, followed by nothing but line feeds, has three tokens: the stream's
 /// start, the scalar with that value, and the stream's end.
-#[tactic(auto, using(crate::proofs::QuotedTokens::quoted_texts_have_their_tokens))]
+#[tactic(auto, using(crate::proofs::Quoted::Tokens::quoted_texts_have_their_tokens))]
 pub fn quoted_texts_have_their_tokens()
     ensures { QuotedTextsHaveTheirTokens }
 {}

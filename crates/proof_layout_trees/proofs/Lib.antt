@@ -1,15 +1,7 @@
-pub mod BasicDerived
-pub mod BasicReading
-mod BasicRows
+pub mod Basic
 pub mod Held
-pub mod JsonDerived
-pub mod JsonReading
-mod JsonRows
-pub mod LayoutDerived
-pub mod LayoutDocuments
-pub mod LayoutNodes
-pub mod LayoutReading
-mod LayoutRows
+pub mod Json
+pub mod Layouts
 pub mod Loads
 pub mod Numbered
 pub mod Numbers

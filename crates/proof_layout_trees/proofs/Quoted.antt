@@ -8,7 +8,7 @@ use Rattle.defs_event.specs.Nested.{nested_scalar, with_node}
 use Rattle.defs_event.specs.Reading.{reading}
 use Rattle.defs_event.specs.ReadAs.{ReadAs}
 use Rattle.proof_layout_trees.specs.Laws.{QuotedTokensReadAsTheirString}
-use Rattle.proof_layout_trees.proofs.LayoutDerived.{leaf}
+use Rattle.proof_layout_trees.proofs.Layouts.Derived.{leaf}
 
 one_scalar : (keep_tags : Bool) (quotes : Quotes) (value : List ℕ) → ReadAs keep_tags (Tok.stream_start ∷ Tok.scalar (style_of quotes) value ∷ Tok.stream_end ∷ []) (Tree.string value ∷ [])
 one_scalar keep_tags quotes value = record {

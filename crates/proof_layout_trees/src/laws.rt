@@ -26,7 +26,7 @@ pub fn read_streams_are_not_cut()
 {}
 
 /// The tokens of a JSON text are a stream of the token grammar. Its events are those of one nested document.
-#[tactic(auto, using(crate::proofs::JsonDerived::tokens_are_a_stream))]
+#[tactic(auto, using(crate::proofs::Json::Derived::tokens_are_a_stream))]
 pub fn json_tokens_are_a_stream()
     ensures { JsonTokensAreAStream }
 {}
@@ -39,13 +39,13 @@ pub fn json_numbers_stand_for_their_trees()
 {}
 
 /// The nested document of a JSON text is read as the text's tree, so no key comes twice.
-#[tactic(auto, using(crate::proofs::JsonReading::documents_read_as_their_trees))]
+#[tactic(auto, using(crate::proofs::Json::Reading::documents_read_as_their_trees))]
 pub fn json_documents_read_as_their_trees()
     ensures { JsonDocumentsReadAsTheirTrees }
 {}
 
 /// The tokens of a JSON text are a stream, and are read as the text's tree.
-#[tactic(auto, using(crate::proofs::JsonReading::tokens_read_as_their_tree))]
+#[tactic(auto, using(crate::proofs::Json::Reading::tokens_read_as_their_tree))]
 pub fn json_tokens_read_as_their_tree()
     ensures { JsonTokensReadAsTheirTree }
 {}
@@ -58,7 +58,7 @@ pub fn json_events_are_loaded()
 
 /// The tokens of a layout are a stream of the token grammar, whose events are read as the layout's trees, one for
 /// each document. Anchors are numbered over the stream, and an alias is read as the tree that it stands for.
-#[tactic(auto, using(crate::proofs::LayoutDocuments::tokens_read_as_their_trees))]
+#[tactic(auto, using(crate::proofs::Layouts::Documents::tokens_read_as_their_trees))]
 pub fn layout_tokens_read_as_their_trees()
     ensures { LayoutTokensReadAsTheirTrees }
 {}
@@ -70,14 +70,14 @@ pub fn layout_events_are_loaded()
 {}
 
 /// The events of a basic layout are those of its one nested document. No node has an anchor.
-#[tactic(auto, using(crate::proofs::BasicDerived::tokens_are_a_stream))]
+#[tactic(auto, using(crate::proofs::Basic::Derived::tokens_are_a_stream))]
 pub fn basic_tokens_are_a_stream()
     ensures { BasicTokensAreAStream }
 {}
 
 /// The nested document of a basic layout is read as the layout's tree. So no key comes twice, and each plain scalar
 /// stands for what was spelt.
-#[tactic(auto, using(crate::proofs::BasicReading::documents_read_as_their_trees))]
+#[tactic(auto, using(crate::proofs::Basic::Reading::documents_read_as_their_trees))]
 pub fn basic_documents_read_as_their_trees()
     ensures { BasicDocumentsReadAsTheirTrees }
 {}

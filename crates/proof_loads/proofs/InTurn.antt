@@ -5,7 +5,7 @@ use Rattle.defs_layout.specs.DumpsInTurn.{dump_texts}
 use Rattle.defs_layout.specs.LayoutTokens.{layout_tokens}
 use Rattle.defs_event.specs.Grammar.{others, end_stream}
 use Rattle.proof_dumps.proofs.Whole.{dumps_are_laid_out_in_turn}
-use Rattle.proof_layout_trees.proofs.LayoutDocuments.{tokens_read_as_their_trees}
+use Rattle.proof_layout_trees.proofs.Layouts.Documents.{tokens_read_as_their_trees}
 use Rattle.proof_layout_tokens.proofs.Documents.{nothing_has_its_tokens}
 use Rattle.proof_layout_tokens.proofs.InTurn.{layouts_in_turn_have_their_tokens}
 use Rattle.yaml_chars.specs.Reading.{up_to_nul}

@@ -8,7 +8,7 @@ use Rattle.proof_layout_trees.proofs.Quoted.{quoted_read_as_their_string}
 use Rattle.proof_lexers.specs.QuotedScan.{is_some}
 use Rattle.proof_lexers.proofs.Quoted.NoNul.{has_none}
 use Rattle.proof_lexers.proofs.Quoted.Values.{parts}
-use Rattle.proof_layout_tokens.proofs.QuotedTokens.{quoted_texts_have_their_tokens}
+use Rattle.proof_layout_tokens.proofs.Quoted.Tokens.{quoted_texts_have_their_tokens}
 use Rattle.proof_loads.specs.Spelled.{IsWithoutNul}
 use Rattle.proof_loads.specs.QuotedTexts.{QuotedTextsAreReadAsTheirString, QuotedTextsAreWithoutNul}
 use Rattle.proof_loads.proofs.Nul.{character, characters}

@@ -6,7 +6,7 @@ use Rattle.std.specs.Str.Iter.{chars_steps}
 use Rattle.yaml_scanner.specs.Scanned.{MayBe}
 use Rattle.proof_layout_tokens.proofs.Json.Texts.{json_text_has_its_tokens}
 use Rattle.defs_layout.specs.JsonTokens.{json_text_tokens}
-use Rattle.proof_layout_trees.proofs.JsonReading as json
+use Rattle.proof_layout_trees.proofs.Json.Reading as json
 use Rattle.proof_loads.specs.Laws.{JsonTextsAreReadAsTheirTree, CharactersAreTheText, StringsAreTheText}
 
 pub characters_are_the_text : {S : Type 0} (steps : S → Option ℕ → S → Type 0) → CharactersAreTheText steps

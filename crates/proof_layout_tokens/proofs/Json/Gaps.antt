@@ -14,7 +14,7 @@ use Rattle.model_scanner.specs.declared.level.FlowLevel.{FlowLevel}
 use Rattle.model_scanner.specs.State.{Key, ScannerState}
 use Rattle.model_scanner.specs.Space.{between, skip, is_before_indent, skip_spaces, skip_to_next_token}
 use Rattle.proof_layout_tokens.proofs.Json.States.{Around, nothing, block, IsLine, Fits, MayStand, Parts, stands, is_content, is_solid}
-use Rattle.proof_layout_tokens.proofs.LayoutStates as layouts
+use Rattle.proof_layout_tokens.proofs.Layouts.States as layouts
 use Rattle.proof_layout_tokens.proofs.Whites as whites
 use Rattle.proof_layout_tokens.proofs.Json.Levels.{fits_past, fits_break}
 

@@ -28,7 +28,7 @@ use Rattle.proof_layout_tokens.proofs.Json.Fetches as json_fetches
 use Rattle.proof_layout_tokens.proofs.Json.Steps.{inside, level_of, opening, opening_bracket, closing, closing_bracket, removed, no_pair}
 use Rattle.proof_layout_tokens.proofs.Json.OnOneLine.{HasSpaces}
 use Rattle.proof_layout_tokens.proofs.Json.Values.{elements_solid, members_solid, elements_run, members_run}
-use Rattle.proof_layout_tokens.proofs.LayoutStates.{Parts, stands, Opens, opened, opened_indent, IsClosed, Trail, trail_text, rest_of, limit_of, IsTrail, Before, After}
+use Rattle.proof_layout_tokens.proofs.Layouts.States.{Parts, stands, Opens, opened, opened_indent, IsClosed, Trail, trail_text, rest_of, limit_of, IsTrail, Before, After}
 use Rattle.proof_layout_tokens.proofs.Whites.{spell_white}
 use Rattle.proof_layout_tokens.proofs.Comments.{comment_white, comment_place, comment_line}
 use Rattle.proof_layout_tokens.proofs.Levels

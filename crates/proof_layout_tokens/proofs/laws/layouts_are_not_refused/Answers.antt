@@ -1,4 +1,4 @@
-use Rattle.proof_layout_tokens.proofs.LayoutTexts.{layouts_are_not_refused}
+use Rattle.proof_layout_tokens.proofs.Layouts.Texts.{layouts_are_not_refused}
 use Rattle.proof_layout_tokens.proofs.laws.layouts_are_not_refused.Goals as goal
 
 pub returns : goal.returns

@@ -1,4 +1,4 @@
-use Rattle.proof_layout_trees.proofs.JsonReading.{events_are_loaded}
+use Rattle.proof_layout_trees.proofs.Json.Reading.{events_are_loaded}
 use Rattle.proof_layout_trees.proofs.laws.json_events_are_loaded.Goals as goal
 
 pub returns : goal.returns

@@ -1,4 +1,4 @@
-use Rattle.proof_layout_trees.proofs.LayoutDocuments.{events_are_loaded}
+use Rattle.proof_layout_trees.proofs.Layouts.Documents.{events_are_loaded}
 use Rattle.proof_layout_trees.proofs.laws.layout_events_are_loaded.Goals as goal
 
 pub returns : goal.returns

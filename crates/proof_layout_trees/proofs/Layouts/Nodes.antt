@@ -13,9 +13,9 @@ use Rattle.defs_event.specs.Nested.{Nest, nested_scalar, nested_sequence, nested
 use Rattle.defs_event.specs.Scalar.{scalar_tree}
 use Rattle.defs_event.specs.Anchors.{Anchors, finished}
 use Rattle.defs_event.specs.Reading.{read_node, read_items, read_pairs}
-use Rattle.proof_layout_trees.proofs.JsonDerived.{and_then}
+use Rattle.proof_layout_trees.proofs.Json.Derived.{and_then}
 use Rattle.proof_layout_trees.proofs.Held.{pair_read, list_again}
-use Rattle.proof_layout_trees.proofs.LayoutDerived.{properties, leaf}
+use Rattle.proof_layout_trees.proofs.Layouts.Derived.{properties, leaf}
 use Rattle.proof_layout_trees.proofs.Numbered.{Agrees, After, after_nothing, after_then, begun_by, ended_by, begun_agrees, after_node}
 
 -- ---- before it are the names s, the anchors a and what was read; after it the anchors b

@@ -11,7 +11,7 @@ use Rattle.defs_event.specs.Event.{Ev}
 use Rattle.defs_event.specs.Nested.{Nest, nested_alias, nested_scalar, nested_sequence, no_nests, nest, with_node, nested_stream}
 use Rattle.defs_event.specs.Reading.{reading}
 use Rattle.defs_event.specs.Stream.{IsStream}
-use Rattle.proof_layout_trees.proofs.LayoutDerived.{documents}
+use Rattle.proof_layout_trees.proofs.Layouts.Derived.{documents}
 
 abbrev single : List ℕ → Inline
 single text = Inline.scalar (Scalar.single_quoted text)

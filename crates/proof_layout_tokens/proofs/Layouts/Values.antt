@@ -18,7 +18,7 @@ use Rattle.defs_layout.specs.LayoutTokens.{scalar_token, inline_tokens, block_to
 use Rattle.model_scanner.specs.declared.level.Indent.{Indent}
 use Rattle.model_scanner.specs.State.{ScannerState}
 use Rattle.model_scanner.specs.Indents.{level}
-use Rattle.proof_layout_tokens.proofs.LayoutStates.{is_solid, opened, opened_indent, IsClosed, Trail, next, trail_text, limit_of, IsTrail, Before, After}
+use Rattle.proof_layout_tokens.proofs.Layouts.States.{is_solid, opened, opened_indent, IsClosed, Trail, next, trail_text, limit_of, IsTrail, Before, After}
 use Rattle.proof_layout_tokens.proofs.Whites.{line_feed, spell_white, blanks, gap_white, spaces_are, next_line_is, allowed_beyond, gap_allows}
 use Rattle.proof_layout_tokens.proofs.Comments.{comment_is, allowed_comment}
 use Rattle.proof_layout_tokens.proofs.Joins.{closed, before_next, Ahead, ahead}

@@ -13,7 +13,7 @@ use Rattle.defs_layout.specs.Gap.{empty_line, comment_line, is_line_character}
 use Rattle.defs_layout.specs.BlockLines.{full, blank}
 use Rattle.defs_layout.specs.Layout.{Scalar, plain, quoted, Inline, scalar, empty_array, empty_hash, no_comment, array, hash, Value, compact, below, literal, last_entry, entry, implicit, explicit, last_field, field, Root, last_document}
 use Rattle.model_scanner.specs.TextTokens.{HasToks}
-use Rattle.proof_layout_tokens.proofs.LayoutTexts.{layouts_have_their_tokens}
+use Rattle.proof_layout_tokens.proofs.Layouts.Texts.{layouts_have_their_tokens}
 
 abbrev word : List ℕ → Scalar
 word w = plain (Tree.string w)

@@ -4,9 +4,9 @@ use Rattle.defs_layout.specs.Layout.{trees_of}
 use Rattle.defs_layout.specs.LayoutTokens.{layout_tokens}
 use Rattle.proof_layout_trees.specs.BasicNest.{basic_documents}
 use Rattle.proof_layout_trees.specs.Laws.{BasicDocumentsReadAsTheirTrees}
-use Rattle.proof_layout_trees.proofs.BasicDerived.{tokens_are_a_stream}
+use Rattle.proof_layout_trees.proofs.Basic.Derived.{tokens_are_a_stream}
 use Rattle.proof_layout_trees.proofs.Loads.{documents_are_read}
-use Rattle.proof_layout_trees.proofs.LayoutDocuments.{tokens_read_as_their_trees}
+use Rattle.proof_layout_trees.proofs.Layouts.Documents.{tokens_read_as_their_trees}
 
 pub documents_read_as_their_trees : BasicDocumentsReadAsTheirTrees
 documents_read_as_their_trees w basic is =

@@ -7,7 +7,7 @@ use Rattle.yaml_tokens.specs.declared.problem.Problem.TheVariants as problem
 use Rattle.defs_layout.specs.QuotedText.{single, double}
 use Rattle.model_scanner.specs.TextTokens.{HasToks}
 use Rattle.proof_lexers.specs.QuotedEnds.{IsBadEscape, unknown, no_digit, no_character}
-use Rattle.proof_layout_tokens.proofs.QuotedTokens.{quoted_texts_have_their_tokens}
+use Rattle.proof_layout_tokens.proofs.Quoted.Tokens.{quoted_texts_have_their_tokens}
 
 -- a doubled quote, and a line feed after the scalar
 doubled : HasToks (codes "'it''s'\n") (Tok.stream_start ∷ Tok.scalar Style.single_quoted (codes "it's") ∷ Tok.stream_end ∷ [])

@@ -16,11 +16,11 @@ use Rattle.defs_event.specs.Names.{Names, named, number, with_anchor}
 use Rattle.defs_event.specs.Nested.{nested_alias}
 use Rattle.defs_event.specs.Anchors.{Anchors}
 use Rattle.proof_layout_trees.specs.JsonNest as json_nest
-use Rattle.proof_layout_trees.proofs.JsonDerived as json
-use Rattle.proof_layout_trees.proofs.JsonReading as json_reading
-use Rattle.proof_layout_trees.proofs.LayoutDerived.{properties, scalar, inline, block, node, entries, first_entry, later_entries, part, field, fields, root, IsAnchorable}
+use Rattle.proof_layout_trees.proofs.Json.Derived as json
+use Rattle.proof_layout_trees.proofs.Json.Reading as json_reading
+use Rattle.proof_layout_trees.proofs.Layouts.Derived.{properties, scalar, inline, block, node, entries, first_entry, later_entries, part, field, fields, root, IsAnchorable}
 use Rattle.proof_layout_trees.proofs.Numbered.{Agrees, after_nothing, begun_by, ended_by, begun_agrees, found}
-use Rattle.proof_layout_trees.proofs.LayoutNodes.{ReadsNode, ReadsItems, ReadsPairs, leaf_reads, Starts, sequence_reads, mapping_reads, no_items, item_reads, no_pairs, pair_reads}
+use Rattle.proof_layout_trees.proofs.Layouts.Nodes.{ReadsNode, ReadsItems, ReadsPairs, leaf_reads, Starts, sequence_reads, mapping_reads, no_items, item_reads, no_pairs, pair_reads}
 
 -- ---- what starts a collection
 

@@ -14,7 +14,7 @@ use Rattle.defs_event.specs.Reading.{read_node, read_items, read_pairs}
 use Rattle.defs_layout.specs.JsonTokens.{json_text_tokens}
 use Rattle.proof_layout_trees.specs.JsonNest.{nested_of, plain_nest, string_nest, element_nests, member_nests, json_documents}
 use Rattle.proof_layout_trees.specs.Laws.{JsonDocumentsReadAsTheirTrees, JsonTokensReadAsTheirTree, JsonEventsAreLoaded}
-use Rattle.proof_layout_trees.proofs.JsonDerived.{tokens_are_a_stream}
+use Rattle.proof_layout_trees.proofs.Json.Derived.{tokens_are_a_stream}
 use Rattle.proof_layout_trees.proofs.Loads.{streams_are_loaded}
 use Rattle.proof_layout_trees.proofs.Numbers.{numbers_stand_for_their_trees}
 use Rattle.proof_layout_trees.proofs.Held.{pair_read, list_again}

@@ -10,10 +10,10 @@ use Rattle.defs_event.specs.Grammar as grammar
 use Rattle.defs_event.specs.Grammar.{content_tokens, node_tokens, entries_tokens, part_tokens, pairs_tokens, key_pairs_tokens, stream_tokens, content_events, node_events, entries_events, pairs_events, key_pairs_events, stream_events}
 use Rattle.defs_event.specs.Names.{Names, no_names, named, at_document}
 use Rattle.defs_event.specs.Nested.{NestPairs, nest_events, nests_events, nest_pairs_events, with_node, nested_stream}
-use Rattle.proof_layout_trees.proofs.JsonDerived.{and_then}
+use Rattle.proof_layout_trees.proofs.Json.Derived.{and_then}
 use Rattle.proof_layout_trees.specs.BasicNest.{scalar_nest, inline_nest, block_nest, value_nest, entry_nests, field_nests, all_field_nests, root_nest, document_nest}
 use Rattle.proof_layout_trees.specs.Laws.{BasicTokensAreAStream}
-use Rattle.proof_layout_trees.proofs.LayoutDerived.{scalar, inline, whole, block, node, entries, part, field, fields, root, documents, documents_by, scalar_told, inline_told}
+use Rattle.proof_layout_trees.proofs.Layouts.Derived.{scalar, inline, whole, block, node, entries, part, field, fields, root, documents, documents_by, scalar_told, inline_told}
 
 -- a value after a key: it is no array at the key's column
 whole_part : (v : Value) → IsBasicValue v → part v ≡ whole (node None v)

@@ -11,7 +11,7 @@ use Rattle.defs_layout.specs.JsonString.{itself, is_unescaped}
 use Rattle.defs_layout.specs.Json.{Json, Elements, Members}
 use Rattle.defs_layout.specs.Layout.{plain, Block, json, compact, last_entry, entry, implicit, explicit, last_field, Root, last_document, is_on_one_line}
 use Rattle.model_scanner.specs.TextTokens.{HasToks}
-use Rattle.proof_layout_tokens.proofs.LayoutTexts.{layouts_have_their_tokens}
+use Rattle.proof_layout_tokens.proofs.Layouts.Texts.{layouts_have_their_tokens}
 
 abbrev plain_tok : List ℕ → Tok
 plain_tok w = Tok.scalar Style.plain w

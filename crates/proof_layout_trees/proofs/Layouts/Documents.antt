@@ -10,11 +10,11 @@ use Rattle.defs_event.specs.Names.{Names, no_names, named, at_document}
 use Rattle.defs_event.specs.Nested.{NestedDocument, with_node, nested_documents_events, nested_stream}
 use Rattle.defs_event.specs.Anchors.{Anchors}
 use Rattle.defs_event.specs.Reading.{read_documents}
-use Rattle.proof_layout_trees.proofs.JsonDerived.{and_then}
+use Rattle.proof_layout_trees.proofs.Json.Derived.{and_then}
 use Rattle.proof_layout_trees.proofs.Loads.{streams_are_loaded}
 use Rattle.proof_layout_trees.specs.Laws.{LayoutTokensReadAsTheirTrees, LayoutEventsAreLoaded}
-use Rattle.proof_layout_trees.proofs.LayoutDerived.{first_root, later_roots, documents_by, documents, tokens_told}
-use Rattle.proof_layout_trees.proofs.LayoutReading.{root_reads}
+use Rattle.proof_layout_trees.proofs.Layouts.Derived.{first_root, later_roots, documents_by, documents, tokens_told}
+use Rattle.proof_layout_trees.proofs.Layouts.Reading.{root_reads}
 
 -- ---- documents
 

@@ -7,7 +7,7 @@ use Rattle.defs_layout.specs.Layout.{Scalar, Inline, Block, Value, Entries, Fiel
 use Rattle.defs_layout.specs.LayoutTokens.{scalar_token, inline_tokens, block_tokens, value_tokens, entry_tokens, field_tokens, all_field_tokens, root_tokens, documents_tokens, marked, layout_tokens}
 use Rattle.defs_event.specs.Grammar as grammar
 use Rattle.defs_event.specs.Grammar.{Properties, Content, Node, Perhaps, Part, Dashes, KeyPairs, After, content_tokens, node_tokens, perhaps_tokens, entries_tokens, part_tokens, dashes_tokens, pairs_tokens, key_pairs_tokens, after_tokens, stream_tokens}
-use Rattle.proof_layout_trees.proofs.JsonDerived as json
+use Rattle.proof_layout_trees.proofs.Json.Derived as json
 
 -- ---- the derivation; o is the name of an anchor before the node, or nothing
 

@@ -10,13 +10,13 @@ use Rattle.model_scanner.specs.Run.{Reaches, start}
 use Rattle.model_scanner.specs.TextTokens.{HasToks}
 use Rattle.proof_layout_tokens.proofs.TextTokens.{no_other_tokens, none_is_refused}
 use Rattle.proof_layout_tokens.specs.Laws.{LayoutsHaveTheirTokens, LayoutsHaveNoOtherTokens, LayoutsAreNotRefused}
-use Rattle.proof_layout_tokens.proofs.LayoutStates.{stands, is_solid, Trail, marker, marker_text, end, trail_text, limit_of, IsTrail, Before, After}
+use Rattle.proof_layout_tokens.proofs.Layouts.States.{stands, is_solid, Trail, marker, marker_text, end, trail_text, limit_of, IsTrail, Before, After}
 use Rattle.proof_layout_tokens.proofs.Whites.{line_feed, spell_white, spaces_are, gap_is, blanks, blanks_white, gap_white, gap_are_white, gap_allows, next_line_is}
 use Rattle.proof_layout_tokens.proofs.Joins.{before_white, gap_col, ahead}
 use Rattle.proof_layout_tokens.proofs.Documents.{Opened, document_begins, next_document, stream_begins, begun, origin, all_tokens}
 use Rattle.proof_layout_tokens.proofs.BlockScans.{Follows, empty_gap, end_follows, marker_follows}
 use Rattle.proof_layout_tokens.proofs.Blocks.{root_literal_after}
-use Rattle.proof_layout_tokens.proofs.LayoutValues.{block_runs, block_solid, inline_after, inline_solid, literal_solid}
+use Rattle.proof_layout_tokens.proofs.Layouts.Values.{block_runs, block_solid, inline_after, inline_solid, literal_solid}
 
 -- ---- roots
 

@@ -1,0 +1,13 @@
+pub mod Box
+pub mod Digits
+pub mod Escapes
+pub mod Lines
+pub mod Literal
+pub mod Number
+pub mod Order
+pub mod Overlay
+pub mod Pairs
+pub mod Quoting
+pub mod Spelling
+pub mod Typing
+pub mod Writable

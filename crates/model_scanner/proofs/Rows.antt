@@ -1,0 +1,6 @@
+pub mod Block
+pub mod Flow
+pub mod Lines
+pub mod Properties
+pub mod Refused
+pub mod Scalars

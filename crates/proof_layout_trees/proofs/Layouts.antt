@@ -1,0 +1,5 @@
+pub mod Derived
+pub mod Documents
+pub mod Nodes
+pub mod Reading
+pub mod Rows
