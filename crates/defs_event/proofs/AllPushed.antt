@@ -7,17 +7,17 @@ use Rattle.defs_event.specs.Nested.{Nest, nested_alias, nested_scalar, nested_se
 use Rattle.defs_event.specs.PulledList.{given}
 use Rattle.defs_event.specs.Push.{Standing, before_stream, between, inside, well, Loaded, push, load_from, load}
 
--- events at places that a function gives
+-- events at positions that a function gives
 abbrev placed : (ℕ → Position) → List Ev → List (Ev × Position)
 placed at [] = []
 placed at (e ∷ es) = (e, at 0) ∷ placed (λ k. at (suc k)) es
 
-abbrev place_at : List (Ev × Position) → ℕ → Position
-place_at [] n = record { index = 0; line = 1; col = 0 }
-place_at (e ∷ es) zero = e.1
-place_at (e ∷ es) (suc n) = place_at es n
+abbrev position_at : List (Ev × Position) → ℕ → Position
+position_at [] n = record { index = 0; line = 1; col = 0 }
+position_at (e ∷ es) zero = e.1
+position_at (e ∷ es) (suc n) = position_at es n
 
-as_placed : (es : List (Ev × Position)) → es ≡ placed (place_at es) (events_of es)
+as_placed : (es : List (Ev × Position)) → es ≡ placed (position_at es) (events_of es)
 as_placed [] = refl
 as_placed (e ∷ es) = ap (λ xs. e ∷ xs) (as_placed es)
 
@@ -82,6 +82,6 @@ stream_pushed F ds at =
 pub all_pushed : (F : Type 0) (ds : List NestedDocument) (es : List (Ev × Position)) → events_of es ≡ nested_stream ds
     → load false true (given F es) ≡ record { pushed = es; ending = well; taken = length es }
 all_pushed F ds es h =
-    let at = place_at es in
+    let at = position_at es in
     let e : es ≡ placed at (nested_stream ds) = as_placed es ∙ ap (placed at) h in
     subst (λ xs. Whole (load_from before_stream true (given F xs)) xs) (sym e) (stream_pushed F ds at)

@@ -8,7 +8,7 @@ mod NoReadingRows
 mod NoStreamRows
 pub mod OneByOne
 pub mod OneReading
-mod PlaceRows
+mod PositionRows
 mod PushRows
 mod ReadingRows
 mod Rows

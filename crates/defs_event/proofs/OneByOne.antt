@@ -12,7 +12,7 @@ use Rattle.defs_event.specs.Reading.{Read, then_read, node_read, read_node, read
 use Rattle.defs_event.specs.Unfinished.{Opened, opened_sequence, opened_mapping, Unfinished, reads, repeats, with_tree, with_start, Loader, at_work, noted, new_loader, loader_after, with_event_at, with_events}
 use Rattle.defs_event.specs.Laws.{HasRead}
 
--- ---- events at places that a function gives
+-- ---- events at positions that a function gives
 
 abbrev run : Loader → (ℕ → Position) → List Ev → Loader
 run l at [] = l
@@ -21,12 +21,12 @@ run l at (e ∷ es) = run (with_event_at l e (at 0)) (λ k. at (suc k)) es
 abbrev here : Position
 here = record { index = 0; line = 1; col = 0 }
 
-abbrev place_at : List (Ev × Position) → ℕ → Position
-place_at [] n = here
-place_at (e ∷ es) zero = e.1
-place_at (e ∷ es) (suc n) = place_at es n
+abbrev position_at : List (Ev × Position) → ℕ → Position
+position_at [] n = here
+position_at (e ∷ es) zero = e.1
+position_at (e ∷ es) (suc n) = position_at es n
 
-as_run : (es : List (Ev × Position)) (l : Loader) → with_events l es ≡ run l (place_at es) (events_of es)
+as_run : (es : List (Ev × Position)) (l : Loader) → with_events l es ≡ run l (position_at es) (events_of es)
 as_run [] l = refl
 as_run (e ∷ es) l = as_run es (with_event_at l e.0 e.1)
 
@@ -178,6 +178,6 @@ has_read (Err key) l h = subst (λ m. HasRead (Err key) m) (sym h.2) refl
 
 pub one_by_one : (ds : List NestedDocument) (es : List (Ev × Position)) → events_of es ≡ nested_stream ds → HasRead (reading ds) (with_events new_loader es)
 one_by_one ds es h =
-    let e : with_events new_loader es ≡ run new_loader (place_at es) (nested_stream ds) = as_run es new_loader ∙ ap (λ vs. run new_loader (place_at es) vs) h in
+    let e : with_events new_loader es ≡ run new_loader (position_at es) (nested_stream ds) = as_run es new_loader ∙ ap (λ vs. run new_loader (position_at es) vs) h in
     subst (λ l. HasRead (reading ds) l) (sym e)
-    (has_read (read_documents ds [] []) (run new_loader (place_at es) (nested_stream ds)) (documents_come ds [] [] (λ k. place_at es (suc k)) (Ev.stream_end ∷ [])))
+    (has_read (read_documents ds [] []) (run new_loader (position_at es) (nested_stream ds)) (documents_come ds [] [] (λ k. position_at es (suc k)) (Ev.stream_end ∷ [])))

@@ -100,7 +100,7 @@ loaded es = with_events new_loader (all_here es)
 nothing_changes : loaded (Ev.stream_start ∷ Ev.nothing ∷ Ev.document_start ∷ Ev.stream_end ∷ []) ≡ new_loader
 nothing_changes = refl
 
--- the fault is at the place that was handed in
+-- the fault is at the position that was handed in
 end_without_start : with_event_at new_loader Ev.sequence_end there ≡ refused [] there
 end_without_start = refl
 
@@ -151,7 +151,7 @@ repeated_noted = refl
 noted_is_not_answered : refused_at (noted [] (string (codes "a")) here) ≡ None
 noted_is_not_answered = refl
 
--- The place is that of the value; for a collection, that of its end.
+-- The position is that of the value; for a collection, that of its end.
 repeated_at_its_end :
     with_events new_loader (all_here (Ev.mapping_start 0 None ∷ plain_event (codes "a") ∷ plain_event (codes "1") ∷ plain_event (codes "a") ∷ Ev.sequence_start 0 None ∷ [])
     ++ (Ev.sequence_end, there) ∷ (Ev.mapping_end, here) ∷ [])

@@ -18,7 +18,7 @@ plain_raw text = Raw.scalar text Style.plain None None
 abbrev pub here : Position
 here = record { index = 0; line = 1; col = 0 }
 
--- a place further on
+-- a position further on
 abbrev pub there : Position
 there = record { index = 7; line = 2; col = 3 }
 

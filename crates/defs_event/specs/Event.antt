@@ -2,7 +2,7 @@
 use Rattle.std.specs.Prelude.{ℕ, List, Option}
 use Rattle.defs_token.specs.Token.{Style}
 
--- A tag. In a `Raw` event it stands as it was written, in an `Ev` with its handle's prefix in the handle's place.
+-- A tag. In a `Raw` event it stands as it was written, in an `Ev` with its handle's prefix in the handle's position.
 pub record Tag : Type 0 where
   pub handle : List ℕ
   pub suffix : List ℕ

@@ -68,7 +68,7 @@ abbrev pub perhaps_resolved : List (List ℕ × List ℕ) → Option Tag → Opt
 perhaps_resolved handles None = Some None
 perhaps_resolved handles (Some t) = option_map Some (resolved handles t)
 
--- ---- the names at a place in a stream
+-- ---- the names at a position in a stream
 
 pub record Names : Type 0 where
   -- how many anchors came so far in the stream

@@ -1,4 +1,4 @@
--- What a parser returns, call by call: an event with its place, or a fault.
+-- What a parser returns, call by call: an event with its position, or a fault.
 use Rattle.std.specs.Prelude.{◌≡◌, List, [], ◌∷◌}
 use Rattle.defs_text.specs.Position.{Position}
 use Rattle.defs_event.specs.Event.{Ev}
@@ -23,7 +23,7 @@ IsSettled [] = Unit {0}
 IsSettled (a ∷ []) = Unit {0}
 IsSettled (a ∷ b ∷ answers) = MayFollow a b × IsSettled (b ∷ answers)
 
--- the events up to the first fault, with their places
+-- the events up to the first fault, with their positions
 abbrev pub pulled_events : {Fault : Type 0} → List (Answer Fault) → List (Ev × Position)
 pulled_events [] = []
 pulled_events (event e p ∷ answers) = (e, p) ∷ pulled_events answers

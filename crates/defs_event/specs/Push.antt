@@ -22,7 +22,7 @@ pub data Ending (Fault : Type 0) : Type 0 where
   well : Ending Fault
   -- the parser's fault, which is returned
   faulted : Fault → Ending Fault
-  -- an event where a document must start: the fault of rule (3), at that event's place
+  -- an event where a document must start: the fault of rule (3), at that event's position
   no_document : Position → Ending Fault
   -- the receiver refused the last event that was pushed
   refused : Ending Fault

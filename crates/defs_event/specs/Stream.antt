@@ -32,54 +32,54 @@ Foretells keep_tags tokens events =
 abbrev pub NoneBegins : Bool → List Tok → Type 0
 NoneBegins keep_tags tokens = (ts : List Tok) (es : List Ev) → IsStream keep_tags (tokens ++ ts) es → ⊥
 
--- ---- places
+-- ---- positions
 
--- A scalar, an alias and the start of a flow collection have the place of their token. Each of these tokens gives one
--- such event, in order; so the places are those of these tokens, in order. No place is promised for other events.
+-- A scalar, an alias and the start of a flow collection have the position of their token. Each of these tokens gives one
+-- such event, in order; so the positions are those of these tokens, in order. No position is promised for other events.
 
-abbrev pub gives_place : Tok → Bool
-gives_place (Tok.alias name) = true
-gives_place (Tok.scalar style text) = true
-gives_place Tok.flow_sequence_start = true
-gives_place Tok.flow_mapping_start = true
-gives_place _ = false
+abbrev pub gives_position : Tok → Bool
+gives_position (Tok.alias name) = true
+gives_position (Tok.scalar style text) = true
+gives_position Tok.flow_sequence_start = true
+gives_position Tok.flow_mapping_start = true
+gives_position _ = false
 
-abbrev pub has_place : Raw → Bool
-has_place (Raw.alias name) = true
-has_place (Raw.scalar text style anchor tag) = true
-has_place (Raw.flow_sequence_start anchor tag) = true
-has_place (Raw.flow_mapping_start anchor tag) = true
-has_place _ = false
+abbrev pub has_position : Raw → Bool
+has_position (Raw.alias name) = true
+has_position (Raw.scalar text style anchor tag) = true
+has_position (Raw.flow_sequence_start anchor tag) = true
+has_position (Raw.flow_mapping_start anchor tag) = true
+has_position _ = false
 
-abbrev pub place_if : Bool → Position → List Position → List Position
-place_if true p ps = p ∷ ps
-place_if false p ps = ps
+abbrev pub position_if : Bool → Position → List Position → List Position
+position_if true p ps = p ∷ ps
+position_if false p ps = ps
 
--- the places of the tokens that give theirs to an event
-abbrev pub given_places : List Token → List Position
-given_places [] = []
-given_places (t ∷ ts) = place_if (gives_place t.tok) t.place (given_places ts)
+-- the positions of the tokens that give theirs to an event
+abbrev pub given_positions : List Token → List Position
+given_positions [] = []
+given_positions (t ∷ ts) = position_if (gives_position t.tok) t.position (given_positions ts)
 
--- the places, out of one for each event, of the events that have their token's
-abbrev pub taken_places : List Raw → List Position → List Position
-taken_places [] ps = []
-taken_places (e ∷ es) [] = []
-taken_places (e ∷ es) (p ∷ ps) = place_if (has_place e) p (taken_places es ps)
+-- the positions, out of one for each event, of the events that have their token's
+abbrev pub taken_positions : List Raw → List Position → List Position
+taken_positions [] ps = []
+taken_positions (e ∷ es) [] = []
+taken_positions (e ∷ es) (p ∷ ps) = position_if (has_position e) p (taken_positions es ps)
 
 abbrev pub events_of : List (Ev × Position) → List Ev
 events_of es = map (λ e. e.0) es
 
-abbrev pub places_of : List (Ev × Position) → List Position
-places_of es = map (λ e. e.1) es
+abbrev pub positions_of : List (Ev × Position) → List Position
+positions_of es = map (λ e. e.1) es
 
--- These are the tokens of a stream and its events, with their places.
+-- These are the tokens of a stream and its events, with their positions.
 pub record IsPlacedStream (keep_tags : Bool) (tokens : List Token) (events : List (Ev × Position)) : Type 0 where
   pub documents : Documents
   pub has_tokens : stream_tokens documents ≡ toks tokens
   pub has_events : named keep_tags no_names (stream_events documents) ≡ Some (events_of events)
-  pub has_places : taken_places (stream_events documents) (places_of events) ≡ given_places tokens
+  pub has_positions : taken_positions (stream_events documents) (positions_of events) ≡ given_positions tokens
 
--- A stream begins with these tokens and events, at these places.
+-- A stream begins with these tokens and events, at these positions.
 pub record BeginsPlaced (keep_tags : Bool) (tokens : List Token) (events : List (Ev × Position)) : Type 0 where
   pub more_tokens : List Token
   pub more_events : List (Ev × Position)

@@ -84,13 +84,13 @@ with_event u Ev.sequence_end = with_sequence_end u u.opened
 with_event u (Ev.mapping_start a tag) = with_start (opened_mapping a [] None) u u.opened u.root
 with_event u Ev.mapping_end = with_mapping_end u u.opened
 
--- ---- a loader, to which events are handed one by one with their places
+-- ---- a loader, to which events are handed one by one with their positions
 
 pub data Loader : Type 0 where
   at_work : Unfinished → Loader
-  -- A key that came twice was noted, with the place of its value's event; from then on events are ignored.
+  -- A key that came twice was noted, with the position of its value's event; from then on events are ignored.
   noted : (documents : List Tree) → (key : Tree) → Position → Loader
-  -- An event out of nesting was refused at this place. Every later event is refused with the same fault.
+  -- An event out of nesting was refused at this position. Every later event is refused with the same fault.
   refused : (documents : List Tree) → Position → Loader
 
 abbrev pub new_loader : Loader
@@ -118,7 +118,7 @@ documents_of (at_work u) = u.documents
 documents_of (noted documents key p) = documents
 documents_of (refused documents p) = documents
 
--- the place of the fault that is returned, if there is one
+-- the position of the fault that is returned, if there is one
 abbrev pub refused_at : Loader → Option Position
 refused_at (at_work u) = None
 refused_at (noted documents key p) = None

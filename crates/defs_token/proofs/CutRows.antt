@@ -8,19 +8,19 @@ use Rattle.defs_scalar.specs.Tags.{octet_at, lead_of, is_trail, escaped_characte
 use Rattle.defs_scalar.specs.Directives.{directive_of}
 use Rattle.defs_token.specs.Token.{version_directive, tag_directive, document_start, document_end, block_sequence_start, block_mapping_start, block_end, flow_sequence_start, flow_sequence_end, flow_mapping_start, flow_mapping_end, block_entry, flow_entry, key, value, alias, anchor, tag, scalar, plain, single_quoted, double_quoted}
 use Rattle.defs_token.specs.Cut.{Written, IsCut}
-use Rattle.defs_token.proofs.Shown.{place, written, first, tokens_between}
+use Rattle.defs_token.proofs.Shown.{position, written, first, tokens_between}
 
 -- a plain scalar of two lines is one piece
 abbrev two_lines_row : List Written
 two_lines_row =
-    written [] (codes "a\n b") (place 0 1 0) (scalar plain (codes "a b")) ∷
+    written [] (codes "a\n b") (position 0 1 0) (scalar plain (codes "a b")) ∷
     []
 
-two_lines : IsCut (tokens_between two_lines_row (place 4 3 0)) (codes "a\n b")
+two_lines : IsCut (tokens_between two_lines_row (position 4 3 0)) (codes "a\n b")
 unfolding is_blank is_break is_nul is_blank_or_end is_flow is_decimal_digit is_letter is_alpha is_uri is_tag is_anchor_name are_marks plain_element single_quoted_element double_quoted_element is_character_code numeric_escape escape begins_with_marker plain_value single_quoted_value double_quoted_value sign_of digit_of is_empty_line is_content_line row_of octet_at lead_of is_trail escaped_character uri_character directive_of
 two_lines = record {
   begin = first;
-  end = place 4 3 0;
+  end = position 4 3 0;
   row = two_lines_row;
   separation = [];
   are_tokens = refl;
@@ -36,19 +36,19 @@ two_lines = record {
 -- a plain scalar ends at a comment after a blank
 abbrev comment_after_row : List Written
 comment_after_row =
-    written [] [] (place 0 1 0) block_sequence_start ∷
-    written [] (codes "-") (place 2 1 2) block_entry ∷
-    written (codes " ") (codes "a") (place 2 1 2) (scalar plain (codes "a")) ∷
-    written (codes " # b\n") (codes "-") (place 10 2 2) block_entry ∷
-    written (codes " ") (codes "a#b") (place 10 2 2) (scalar plain (codes "a#b")) ∷
-    written [] [] (place 13 3 0) block_end ∷
+    written [] [] (position 0 1 0) block_sequence_start ∷
+    written [] (codes "-") (position 2 1 2) block_entry ∷
+    written (codes " ") (codes "a") (position 2 1 2) (scalar plain (codes "a")) ∷
+    written (codes " # b\n") (codes "-") (position 10 2 2) block_entry ∷
+    written (codes " ") (codes "a#b") (position 10 2 2) (scalar plain (codes "a#b")) ∷
+    written [] [] (position 13 3 0) block_end ∷
     []
 
-comment_after : IsCut (tokens_between comment_after_row (place 13 3 0)) (codes "- a # b\n- a#b")
+comment_after : IsCut (tokens_between comment_after_row (position 13 3 0)) (codes "- a # b\n- a#b")
 unfolding is_blank is_break is_nul is_blank_or_end is_flow is_decimal_digit is_letter is_alpha is_uri is_tag is_anchor_name are_marks plain_element single_quoted_element double_quoted_element is_character_code numeric_escape escape begins_with_marker plain_value single_quoted_value double_quoted_value sign_of digit_of is_empty_line is_content_line row_of octet_at lead_of is_trail escaped_character uri_character directive_of
 comment_after = record {
   begin = first;
-  end = place 13 3 0;
+  end = position 13 3 0;
   row = comment_after_row;
   separation = [];
   are_tokens = refl;
@@ -79,27 +79,27 @@ comment_after = record {
 -- a mapping in a sequence, and a sequence at its key's column
 abbrev block_columns_row : List Written
 block_columns_row =
-    written [] [] (place 0 1 0) block_sequence_start ∷
-    written [] (codes "-") (place 2 1 2) block_entry ∷
-    written [] [] (place 3 1 3) block_mapping_start ∷
-    written [] [] (place 2 1 2) key ∷
-    written (codes " ") (codes "k") (place 2 1 2) (scalar plain (codes "k")) ∷
-    written [] (codes ":") (place 3 1 3) value ∷
-    written (codes " ") (codes "1") (place 5 1 5) (scalar plain (codes "1")) ∷
-    written [] [] (place 9 2 2) key ∷
-    written (codes "\n  ") (codes "l") (place 9 2 2) (scalar plain (codes "l")) ∷
-    written [] (codes ":") (place 10 2 3) value ∷
-    written (codes "\n  ") (codes "-") (place 16 3 4) block_entry ∷
-    written (codes " ") (codes "2") (place 16 3 4) (scalar plain (codes "2")) ∷
-    written [] [] (place 17 4 0) block_end ∷
-    written [] [] (place 17 4 0) block_end ∷
+    written [] [] (position 0 1 0) block_sequence_start ∷
+    written [] (codes "-") (position 2 1 2) block_entry ∷
+    written [] [] (position 3 1 3) block_mapping_start ∷
+    written [] [] (position 2 1 2) key ∷
+    written (codes " ") (codes "k") (position 2 1 2) (scalar plain (codes "k")) ∷
+    written [] (codes ":") (position 3 1 3) value ∷
+    written (codes " ") (codes "1") (position 5 1 5) (scalar plain (codes "1")) ∷
+    written [] [] (position 9 2 2) key ∷
+    written (codes "\n  ") (codes "l") (position 9 2 2) (scalar plain (codes "l")) ∷
+    written [] (codes ":") (position 10 2 3) value ∷
+    written (codes "\n  ") (codes "-") (position 16 3 4) block_entry ∷
+    written (codes " ") (codes "2") (position 16 3 4) (scalar plain (codes "2")) ∷
+    written [] [] (position 17 4 0) block_end ∷
+    written [] [] (position 17 4 0) block_end ∷
     []
 
-block_columns : IsCut (tokens_between block_columns_row (place 17 4 0)) (codes "- k: 1\n  l:\n  - 2")
+block_columns : IsCut (tokens_between block_columns_row (position 17 4 0)) (codes "- k: 1\n  l:\n  - 2")
 unfolding is_blank is_break is_nul is_blank_or_end is_flow is_decimal_digit is_letter is_alpha is_uri is_tag is_anchor_name are_marks plain_element single_quoted_element double_quoted_element is_character_code numeric_escape escape begins_with_marker plain_value single_quoted_value double_quoted_value sign_of digit_of is_empty_line is_content_line row_of octet_at lead_of is_trail escaped_character uri_character directive_of
 block_columns = record {
   begin = first;
-  end = place 17 4 0;
+  end = position 17 4 0;
   row = block_columns_row;
   separation = [];
   are_tokens = refl;
@@ -154,22 +154,22 @@ block_columns = record {
 -- a sequence at its key's column has neither start nor end
 abbrev at_key_column_row : List Written
 at_key_column_row =
-    written [] [] (place 3 1 3) block_mapping_start ∷
-    written [] [] (place 0 1 0) key ∷
-    written [] (codes "key") (place 0 1 0) (scalar plain (codes "key")) ∷
-    written [] (codes ":") (place 3 1 3) value ∷
-    written (codes "\n") (codes "-") (place 7 2 2) block_entry ∷
-    written (codes " ") (codes "item 1") (place 7 2 2) (scalar plain (codes "item 1")) ∷
-    written (codes "\n") (codes "-") (place 16 3 2) block_entry ∷
-    written (codes " ") (codes "item 2") (place 16 3 2) (scalar plain (codes "item 2")) ∷
-    written [] [] (place 23 4 0) block_end ∷
+    written [] [] (position 3 1 3) block_mapping_start ∷
+    written [] [] (position 0 1 0) key ∷
+    written [] (codes "key") (position 0 1 0) (scalar plain (codes "key")) ∷
+    written [] (codes ":") (position 3 1 3) value ∷
+    written (codes "\n") (codes "-") (position 7 2 2) block_entry ∷
+    written (codes " ") (codes "item 1") (position 7 2 2) (scalar plain (codes "item 1")) ∷
+    written (codes "\n") (codes "-") (position 16 3 2) block_entry ∷
+    written (codes " ") (codes "item 2") (position 16 3 2) (scalar plain (codes "item 2")) ∷
+    written [] [] (position 23 4 0) block_end ∷
     []
 
-at_key_column : IsCut (tokens_between at_key_column_row (place 23 4 0)) (codes "key:\n- item 1\n- item 2\n")
+at_key_column : IsCut (tokens_between at_key_column_row (position 23 4 0)) (codes "key:\n- item 1\n- item 2\n")
 unfolding is_blank is_break is_nul is_blank_or_end is_flow is_decimal_digit is_letter is_alpha is_uri is_tag is_anchor_name are_marks plain_element single_quoted_element double_quoted_element is_character_code numeric_escape escape begins_with_marker plain_value single_quoted_value double_quoted_value sign_of digit_of is_empty_line is_content_line row_of octet_at lead_of is_trail escaped_character uri_character directive_of
 at_key_column = record {
   begin = first;
-  end = place 23 4 0;
+  end = position 23 4 0;
   row = at_key_column_row;
   separation = codes "\n";
   are_tokens = refl;
@@ -209,20 +209,20 @@ at_key_column = record {
 -- CR LF is one break
 abbrev carriage_returns_row : List Written
 carriage_returns_row =
-    written [] (codes "---") (place 0 1 0) document_start ∷
-    written [] [] (place 5 2 0) block_sequence_start ∷
-    written (codes "\r\n") (codes "-") (place 7 2 2) block_entry ∷
-    written (codes " ") (codes "tok1") (place 7 2 2) (scalar plain (codes "tok1")) ∷
-    written (codes "\r\n") (codes "-") (place 15 3 2) block_entry ∷
-    written (codes " ") (codes "tok2") (place 15 3 2) (scalar plain (codes "tok2")) ∷
-    written [] [] (place 19 4 0) block_end ∷
+    written [] (codes "---") (position 0 1 0) document_start ∷
+    written [] [] (position 5 2 0) block_sequence_start ∷
+    written (codes "\r\n") (codes "-") (position 7 2 2) block_entry ∷
+    written (codes " ") (codes "tok1") (position 7 2 2) (scalar plain (codes "tok1")) ∷
+    written (codes "\r\n") (codes "-") (position 15 3 2) block_entry ∷
+    written (codes " ") (codes "tok2") (position 15 3 2) (scalar plain (codes "tok2")) ∷
+    written [] [] (position 19 4 0) block_end ∷
     []
 
-carriage_returns : IsCut (tokens_between carriage_returns_row (place 19 4 0)) (codes "---\r\n- tok1\r\n- tok2")
+carriage_returns : IsCut (tokens_between carriage_returns_row (position 19 4 0)) (codes "---\r\n- tok1\r\n- tok2")
 unfolding is_blank is_break is_nul is_blank_or_end is_flow is_decimal_digit is_letter is_alpha is_uri is_tag is_anchor_name are_marks plain_element single_quoted_element double_quoted_element is_character_code numeric_escape escape begins_with_marker plain_value single_quoted_value double_quoted_value sign_of digit_of is_empty_line is_content_line row_of octet_at lead_of is_trail escaped_character uri_character directive_of
 carriage_returns = record {
   begin = first;
-  end = place 19 4 0;
+  end = position 19 4 0;
   row = carriage_returns_row;
   separation = [];
   are_tokens = refl;
@@ -258,11 +258,11 @@ abbrev empty_text_row : List Written
 empty_text_row =
     []
 
-empty_text : IsCut (tokens_between empty_text_row (place 0 1 0)) ([])
+empty_text : IsCut (tokens_between empty_text_row (position 0 1 0)) ([])
 unfolding is_blank is_break is_nul is_blank_or_end is_flow is_decimal_digit is_letter is_alpha is_uri is_tag is_anchor_name are_marks plain_element single_quoted_element double_quoted_element is_character_code numeric_escape escape begins_with_marker plain_value single_quoted_value double_quoted_value sign_of digit_of is_empty_line is_content_line row_of octet_at lead_of is_trail escaped_character uri_character directive_of
 empty_text = record {
   begin = first;
-  end = place 0 1 0;
+  end = position 0 1 0;
   row = empty_text_row;
   separation = [];
   are_tokens = refl;
@@ -276,19 +276,19 @@ empty_text = record {
 -- a NUL ends the text
 abbrev nul_ends_row : List Written
 nul_ends_row =
-    written [] [] (place 1 1 1) block_mapping_start ∷
-    written [] [] (place 0 1 0) key ∷
-    written [] (codes "a") (place 0 1 0) (scalar plain (codes "a")) ∷
-    written [] (codes ":") (place 1 1 1) value ∷
-    written (codes " ") (codes "b") (place 3 1 3) (scalar plain (codes "b")) ∷
-    written [] [] (place 4 2 0) block_end ∷
+    written [] [] (position 1 1 1) block_mapping_start ∷
+    written [] [] (position 0 1 0) key ∷
+    written [] (codes "a") (position 0 1 0) (scalar plain (codes "a")) ∷
+    written [] (codes ":") (position 1 1 1) value ∷
+    written (codes " ") (codes "b") (position 3 1 3) (scalar plain (codes "b")) ∷
+    written [] [] (position 4 2 0) block_end ∷
     []
 
-nul_ends : IsCut (tokens_between nul_ends_row (place 4 2 0)) (97 ∷ 58 ∷ 32 ∷ 98 ∷ 0 ∷ 99 ∷ 58 ∷ 32 ∷ 100 ∷ [])
+nul_ends : IsCut (tokens_between nul_ends_row (position 4 2 0)) (97 ∷ 58 ∷ 32 ∷ 98 ∷ 0 ∷ 99 ∷ 58 ∷ 32 ∷ 100 ∷ [])
 unfolding is_blank is_break is_nul is_blank_or_end is_flow is_decimal_digit is_letter is_alpha is_uri is_tag is_anchor_name are_marks plain_element single_quoted_element double_quoted_element is_character_code numeric_escape escape begins_with_marker plain_value single_quoted_value double_quoted_value sign_of digit_of is_empty_line is_content_line row_of octet_at lead_of is_trail escaped_character uri_character directive_of
 nul_ends = record {
   begin = first;
-  end = place 4 2 0;
+  end = position 4 2 0;
   row = nul_ends_row;
   separation = [];
   are_tokens = refl;
@@ -319,19 +319,19 @@ nul_ends = record {
 -- in a flow mapping a colon before text begins a plain scalar
 abbrev value_colon_row : List Written
 value_colon_row =
-    written [] (codes "{") (place 0 1 0) flow_mapping_start ∷
-    written [] [] (place 1 1 1) key ∷
-    written [] (codes "a") (place 1 1 1) (scalar plain (codes "a")) ∷
-    written [] (codes ":") (place 2 1 2) value ∷
-    written (codes " ") (codes ":b") (place 4 1 4) (scalar plain (codes ":b")) ∷
-    written [] (codes "}") (place 6 1 6) flow_mapping_end ∷
+    written [] (codes "{") (position 0 1 0) flow_mapping_start ∷
+    written [] [] (position 1 1 1) key ∷
+    written [] (codes "a") (position 1 1 1) (scalar plain (codes "a")) ∷
+    written [] (codes ":") (position 2 1 2) value ∷
+    written (codes " ") (codes ":b") (position 4 1 4) (scalar plain (codes ":b")) ∷
+    written [] (codes "}") (position 6 1 6) flow_mapping_end ∷
     []
 
-value_colon : IsCut (tokens_between value_colon_row (place 7 2 0)) (codes "{a: :b}")
+value_colon : IsCut (tokens_between value_colon_row (position 7 2 0)) (codes "{a: :b}")
 unfolding is_blank is_break is_nul is_blank_or_end is_flow is_decimal_digit is_letter is_alpha is_uri is_tag is_anchor_name are_marks plain_element single_quoted_element double_quoted_element is_character_code numeric_escape escape begins_with_marker plain_value single_quoted_value double_quoted_value sign_of digit_of is_empty_line is_content_line row_of octet_at lead_of is_trail escaped_character uri_character directive_of
 value_colon = record {
   begin = first;
-  end = place 7 2 0;
+  end = position 7 2 0;
   row = value_colon_row;
   separation = [];
   are_tokens = refl;
@@ -362,22 +362,22 @@ value_colon = record {
 -- a key after its indicator in a flow mapping
 abbrev key_indicator_row : List Written
 key_indicator_row =
-    written [] (codes "{") (place 0 1 0) flow_mapping_start ∷
-    written (codes "\n  ") (codes "?") (place 4 2 2) key ∷
-    written (codes " ") (codes "foo") (place 6 2 4) (scalar plain (codes "foo")) ∷
-    written (codes " ") (codes ":") (place 10 2 8) value ∷
-    written [] (codes ",") (place 11 2 9) flow_entry ∷
-    written (codes "\n  ") (codes ":") (place 15 3 2) value ∷
-    written (codes " ") (codes "bar") (place 17 3 4) (scalar plain (codes "bar")) ∷
-    written [] (codes ",") (place 20 3 7) flow_entry ∷
-    written (codes "\n") (codes "}") (place 22 4 0) flow_mapping_end ∷
+    written [] (codes "{") (position 0 1 0) flow_mapping_start ∷
+    written (codes "\n  ") (codes "?") (position 4 2 2) key ∷
+    written (codes " ") (codes "foo") (position 6 2 4) (scalar plain (codes "foo")) ∷
+    written (codes " ") (codes ":") (position 10 2 8) value ∷
+    written [] (codes ",") (position 11 2 9) flow_entry ∷
+    written (codes "\n  ") (codes ":") (position 15 3 2) value ∷
+    written (codes " ") (codes "bar") (position 17 3 4) (scalar plain (codes "bar")) ∷
+    written [] (codes ",") (position 20 3 7) flow_entry ∷
+    written (codes "\n") (codes "}") (position 22 4 0) flow_mapping_end ∷
     []
 
-key_indicator : IsCut (tokens_between key_indicator_row (place 23 5 0)) (codes "{\n  ? foo :,\n  : bar,\n}")
+key_indicator : IsCut (tokens_between key_indicator_row (position 23 5 0)) (codes "{\n  ? foo :,\n  : bar,\n}")
 unfolding is_blank is_break is_nul is_blank_or_end is_flow is_decimal_digit is_letter is_alpha is_uri is_tag is_anchor_name are_marks plain_element single_quoted_element double_quoted_element is_character_code numeric_escape escape begins_with_marker plain_value single_quoted_value double_quoted_value sign_of digit_of is_empty_line is_content_line row_of octet_at lead_of is_trail escaped_character uri_character directive_of
 key_indicator = record {
   begin = first;
-  end = place 23 5 0;
+  end = position 23 5 0;
   row = key_indicator_row;
   separation = [];
   are_tokens = refl;
@@ -417,26 +417,26 @@ key_indicator = record {
 -- a colon next to a quoted scalar, and next to a flow collection
 abbrev adjacent_row : List Written
 adjacent_row =
-    written [] (codes "{") (place 0 1 0) flow_mapping_start ∷
-    written [] [] (place 1 1 1) key ∷
-    written [] (codes "\"a\"") (place 1 1 1) (scalar double_quoted (codes "a")) ∷
-    written [] (codes ":") (place 4 1 4) value ∷
-    written [] (codes "1") (place 5 1 5) (scalar plain (codes "1")) ∷
-    written [] (codes ",") (place 6 1 6) flow_entry ∷
-    written [] [] (place 7 1 7) key ∷
-    written [] (codes "'b'") (place 7 1 7) (scalar single_quoted (codes "b")) ∷
-    written (codes "\n") (codes ":") (place 11 2 0) value ∷
-    written [] (codes "[") (place 12 2 1) flow_sequence_start ∷
-    written [] (codes "c") (place 13 2 2) (scalar plain (codes "c")) ∷
-    written [] (codes "]") (place 14 2 3) flow_sequence_end ∷
-    written [] (codes "}") (place 15 2 4) flow_mapping_end ∷
+    written [] (codes "{") (position 0 1 0) flow_mapping_start ∷
+    written [] [] (position 1 1 1) key ∷
+    written [] (codes "\"a\"") (position 1 1 1) (scalar double_quoted (codes "a")) ∷
+    written [] (codes ":") (position 4 1 4) value ∷
+    written [] (codes "1") (position 5 1 5) (scalar plain (codes "1")) ∷
+    written [] (codes ",") (position 6 1 6) flow_entry ∷
+    written [] [] (position 7 1 7) key ∷
+    written [] (codes "'b'") (position 7 1 7) (scalar single_quoted (codes "b")) ∷
+    written (codes "\n") (codes ":") (position 11 2 0) value ∷
+    written [] (codes "[") (position 12 2 1) flow_sequence_start ∷
+    written [] (codes "c") (position 13 2 2) (scalar plain (codes "c")) ∷
+    written [] (codes "]") (position 14 2 3) flow_sequence_end ∷
+    written [] (codes "}") (position 15 2 4) flow_mapping_end ∷
     []
 
-adjacent : IsCut (tokens_between adjacent_row (place 16 3 0)) (codes "{\"a\":1,'b'\n:[c]}")
+adjacent : IsCut (tokens_between adjacent_row (position 16 3 0)) (codes "{\"a\":1,'b'\n:[c]}")
 unfolding is_blank is_break is_nul is_blank_or_end is_flow is_decimal_digit is_letter is_alpha is_uri is_tag is_anchor_name are_marks plain_element single_quoted_element double_quoted_element is_character_code numeric_escape escape begins_with_marker plain_value single_quoted_value double_quoted_value sign_of digit_of is_empty_line is_content_line row_of octet_at lead_of is_trail escaped_character uri_character directive_of
 adjacent = record {
   begin = first;
-  end = place 16 3 0;
+  end = position 16 3 0;
   row = adjacent_row;
   separation = [];
   are_tokens = refl;
@@ -488,18 +488,18 @@ adjacent = record {
 -- a key after its indicator in a flow sequence opens no pair
 abbrev no_pair_row : List Written
 no_pair_row =
-    written [] (codes "[") (place 0 1 0) flow_sequence_start ∷
-    written [] (codes "?") (place 1 1 1) key ∷
-    written (codes " ") (codes ":") (place 3 1 3) value ∷
-    written (codes " ") (codes "x") (place 5 1 5) (scalar plain (codes "x")) ∷
-    written [] (codes "]") (place 6 1 6) flow_sequence_end ∷
+    written [] (codes "[") (position 0 1 0) flow_sequence_start ∷
+    written [] (codes "?") (position 1 1 1) key ∷
+    written (codes " ") (codes ":") (position 3 1 3) value ∷
+    written (codes " ") (codes "x") (position 5 1 5) (scalar plain (codes "x")) ∷
+    written [] (codes "]") (position 6 1 6) flow_sequence_end ∷
     []
 
-no_pair : IsCut (tokens_between no_pair_row (place 7 2 0)) (codes "[? : x]")
+no_pair : IsCut (tokens_between no_pair_row (position 7 2 0)) (codes "[? : x]")
 unfolding is_blank is_break is_nul is_blank_or_end is_flow is_decimal_digit is_letter is_alpha is_uri is_tag is_anchor_name are_marks plain_element single_quoted_element double_quoted_element is_character_code numeric_escape escape begins_with_marker plain_value single_quoted_value double_quoted_value sign_of digit_of is_empty_line is_content_line row_of octet_at lead_of is_trail escaped_character uri_character directive_of
 no_pair = record {
   begin = first;
-  end = place 7 2 0;
+  end = position 7 2 0;
   row = no_pair_row;
   separation = [];
   are_tokens = refl;
@@ -527,24 +527,24 @@ no_pair = record {
 -- directives, anchors, tags and an alias
 abbrev declared_row : List Written
 declared_row =
-    written [] (codes "%YAML 1.2") (place 0 1 0) (version_directive 1 2) ∷
-    written (codes "\n") (codes "%TAG !a! x:") (place 10 2 0) (tag_directive (codes "!a!") (codes "x:")) ∷
-    written (codes "\n") (codes "---") (place 22 3 0) document_start ∷
-    written (codes " ") (codes "[") (place 26 3 4) flow_sequence_start ∷
-    written [] (codes "!a!p") (place 27 3 5) (tag (codes "!a!") (codes "p")) ∷
-    written (codes " ") (codes "&n") (place 32 3 10) (anchor (codes "n")) ∷
-    written (codes " ") (codes "1") (place 35 3 13) (scalar plain (codes "1")) ∷
-    written [] (codes ",") (place 36 3 14) flow_entry ∷
-    written (codes " ") (codes "*n") (place 38 3 16) (alias (codes "n")) ∷
-    written (codes " ") (codes "]") (place 41 3 19) flow_sequence_end ∷
-    written (codes "\n") (codes "...") (place 43 4 0) document_end ∷
+    written [] (codes "%YAML 1.2") (position 0 1 0) (version_directive 1 2) ∷
+    written (codes "\n") (codes "%TAG !a! x:") (position 10 2 0) (tag_directive (codes "!a!") (codes "x:")) ∷
+    written (codes "\n") (codes "---") (position 22 3 0) document_start ∷
+    written (codes " ") (codes "[") (position 26 3 4) flow_sequence_start ∷
+    written [] (codes "!a!p") (position 27 3 5) (tag (codes "!a!") (codes "p")) ∷
+    written (codes " ") (codes "&n") (position 32 3 10) (anchor (codes "n")) ∷
+    written (codes " ") (codes "1") (position 35 3 13) (scalar plain (codes "1")) ∷
+    written [] (codes ",") (position 36 3 14) flow_entry ∷
+    written (codes " ") (codes "*n") (position 38 3 16) (alias (codes "n")) ∷
+    written (codes " ") (codes "]") (position 41 3 19) flow_sequence_end ∷
+    written (codes "\n") (codes "...") (position 43 4 0) document_end ∷
     []
 
-declared : IsCut (tokens_between declared_row (place 47 5 0)) (codes "%YAML 1.2\n%TAG !a! x:\n--- [!a!p &n 1, *n ]\n...\n")
+declared : IsCut (tokens_between declared_row (position 47 5 0)) (codes "%YAML 1.2\n%TAG !a! x:\n--- [!a!p &n 1, *n ]\n...\n")
 unfolding is_blank is_break is_nul is_blank_or_end is_flow is_decimal_digit is_letter is_alpha is_uri is_tag is_anchor_name are_marks plain_element single_quoted_element double_quoted_element is_character_code numeric_escape escape begins_with_marker plain_value single_quoted_value double_quoted_value sign_of digit_of is_empty_line is_content_line row_of octet_at lead_of is_trail escaped_character uri_character directive_of
 declared = record {
   begin = first;
-  end = place 47 5 0;
+  end = position 47 5 0;
   row = declared_row;
   separation = codes "\n";
   are_tokens = refl;

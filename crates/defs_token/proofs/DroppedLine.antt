@@ -27,7 +27,7 @@ abbrev text : List ℕ
 text = codes "a\n b"
 
 abbrev first_line : Position → Token
-first_line p = record { place = p; tok = scalar plain (codes "a") }
+first_line p = record { position = p; tok = scalar plain (codes "a") }
 
 -- the text has no end before its last character
 whole_text : up_to_end text ≡ text
@@ -81,7 +81,7 @@ no_row : (g p f : List ℕ) (k : Token) (following : Option Tok) → k.tok ≡ s
 no_row (c ∷ g) p f k following t e w = no_separation c g (p ++ f) e w.0
 no_row [] p f k following t e w =
     let a : Account = account_at first_account (record { separation = []; piece = p; token = k }) f in
-    let P : Tok → Type 0 = λ x. IsPiece a p f following (k.place) x in
+    let P : Tok → Type 0 = λ x. IsPiece a p f following (k.position) x in
     let h : P (scalar plain (codes "a")) = subst P t w.1 in
     let Q : Option ℕ → Type 0 = λ b. Holds (is_whole_plain false b p f) in
     no_piece p f e (subst Q (ap innermost_column (no_collection 0 p)) h.0.1) h.0.2

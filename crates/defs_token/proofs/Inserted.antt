@@ -24,9 +24,9 @@ before_again quoted = refl
 before_again collection = refl
 before_again other = refl
 
--- a key, at a place
+-- a key, at a position
 abbrev pub key_at : Position → Token
-key_at p = record { place = p; tok = key }
+key_at p = record { position = p; tok = key }
 
 same_account : (a : Account) (w : Written) (p : Position) (next : List ℕ) →
     account_at (account_past a (empty_token w.separation (key_at p)) (w.piece ++ next)) (bare w) next ≡ account_at a w next
@@ -39,7 +39,7 @@ pub key_inserted : (a : Account) (w : Written) (ws : List Written) (f : List ℕ
 key_inserted a w ws f last p n r =
     let next : List ℕ = spelled ws f in
     let e : account_at a w next ≡ account_at (account_past a (empty_token w.separation (key_at p)) (w.piece ++ next)) (bare w) next = sym (same_account a w p next) in
-    let P : Account → Type 0 = λ b. IsPiece b w.piece next (first_token ws last) (w.token.place) (w.token.tok) in
+    let P : Account → Type 0 = λ b. IsPiece b w.piece next (first_token ws last) (w.token.position) (w.token.tok) in
     let Q : Account → Type 0 = λ b. IsRow (account_past_token b w.piece next (w.token.tok)) ws f last in
     ((r.0.0, inr (refl, n)), ((refl, subst P e r.0.1), subst Q e r.1))
 
@@ -173,8 +173,8 @@ row_with_blocks bs a [] f last k r = tt
 row_with_blocks bs a (w ∷ ws) f last k r =
     let next : List ℕ = spelled ws f in
     let at : Account = account_at a w next in
-    let own : List (Option ℕ) = blocks_at bs (at.place.col) w.piece in (
-      (r.0.0, piece_with_blocks own at w.piece next (first_token ws last) (w.token.place) (w.token.tok) k.0 k.1 k.2 r.0.1),
+    let own : List (Option ℕ) = blocks_at bs (at.position.col) w.piece in (
+      (r.0.0, piece_with_blocks own at w.piece next (first_token ws last) (w.token.position) (w.token.tok) k.0 k.1 k.2 r.0.1),
       row_with_blocks (blocks_past own (w.token.tok)) (account_past a w next) ws f last k.3 r.1,
     )
 
@@ -185,13 +185,13 @@ bare_row a w ws f last r =
     let next : List ℕ = spelled ws f in
     let after : Account = account_past_separation a w.separation (w.piece ++ next) in
     let e : account_at a w next ≡ account_at after (bare w) next = ap (λ b. record (account_at a w next) { before = b }) (sym (before_again (before_past a.before w.separation))) in
-    let P : Account → Type 0 = λ b. IsPiece b w.piece next (first_token ws last) (w.token.place) (w.token.tok) in
+    let P : Account → Type 0 = λ b. IsPiece b w.piece next (first_token ws last) (w.token.position) (w.token.tok) in
     let Q : Account → Type 0 = λ b. IsRow (account_past_token b w.piece next (w.token.tok)) ws f last in
     ((refl, subst P e r.0.1), subst Q e r.1)
 
--- a mapping's start, at a place
+-- a mapping's start, at a position
 abbrev pub mapping_at : Position → Token
-mapping_at p = record { place = p; tok = block_mapping_start }
+mapping_at p = record { position = p; tok = block_mapping_start }
 
 -- Outside flow the start of a block mapping and its key may be put before a node on one line.
 pub mapping_inserted : (a : Account) (w : Written) (ws : List Written) (f : List ℕ) (last : Option Tok) (p q : Position) →

@@ -101,7 +101,7 @@ row_in_level ns b c k ls a (w ∷ ws) f last i r =
     let next : List ℕ = spelled ws f in
     let on : Account = account_past a w next in
     let P : List Level → Type 0 = λ l. IsRow (with_levels l on) ws f last in (
-      (r.0.0, piece_in_level ns i.0 b c k ls (account_at a w next) w.piece next (first_token ws last) (w.token.place) (w.token.tok) i.1 r.0.1),
+      (r.0.0, piece_in_level ns i.0 b c k ls (account_at a w next) w.piece next (first_token ws last) (w.token.position) (w.token.tok) i.1 r.0.1),
       subst P (sym (levels_step ns i.0 c k ls w.piece (w.token.tok) i.1))
           (row_in_level i.0 b c k ls on ws f last i.2 (subst P (levels_step ns i.0 b k ls w.piece (w.token.tok) i.1) r.1)),
     )
@@ -187,13 +187,13 @@ node_begins_no_key ms a p n o at t (is_value us v) b q = absurd (cc b)
 node_begins_no_key ms a p n o at t (is_alias us v x) b q = rw q.0.0 refl
 node_begins_no_key ms a p n o at t (is_anchor us v x) b q = rw q.0.0 refl
 node_begins_no_key ms a p n o at t (is_tag us v h x) b q = tag_begins_no_key v n (record { handle = h; suffix = x }) q.0.0
-node_begins_no_key ms a p n o at t (is_plain us v x) b q = plain_text_begins_no_key (is_in_flow a) (is_adjacent a.before) (a.place.col) (v ++ n) q.0.0
+node_begins_no_key ms a p n o at t (is_plain us v x) b q = plain_text_begins_no_key (is_in_flow a) (is_adjacent a.before) (a.position.col) (v ++ n) q.0.0
 node_begins_no_key ms a p n o at t (is_single_quoted us v x) b q = rw q.0.1 refl
 node_begins_no_key ms a p n o at t (is_double_quoted us v x) b q = rw q.0.1 refl
 
--- the start of a single-pair mapping, at a place
+-- the start of a single-pair mapping, at a position
 abbrev pub pair_at : Position → Token
-pair_at p = record { place = p; tok = flow_mapping_start }
+pair_at p = record { position = p; tok = flow_mapping_start }
 
 -- In a flow sequence in which no pair is open, the start of one and its key may be put before a node of the sequence.
 pub pair_inserted : (ls : List Level) (a : Account) (w : Written) (ws : List Written) (f : List ℕ) (last : Option Tok) (p q : Position) →
@@ -201,7 +201,7 @@ pub pair_inserted : (ls : List Level) (a : Account) (w : Written) (ws : List Wri
     IsRow (with_levels (above [] false sequence ls) a) (empty_token w.separation (pair_at p) ∷ empty_token [] (key_at q) ∷ bare w ∷ ws) f last
 pair_inserted ls a w ws f last p q n i r =
     let after : Account = account_past_separation a w.separation (w.piece ++ spelled ws f) in (
-      (r.0.0, inr (refl, refl, refl, node_begins_no_key i.0 (account_at (with_levels (above [] false sequence ls) a) w (spelled ws f)) w.piece (spelled ws f) (first_token ws last) (w.token.place) (w.token.tok) i.1 n r.0.1)),
+      (r.0.0, inr (refl, refl, refl, node_begins_no_key i.0 (account_at (with_levels (above [] false sequence ls) a) w (spelled ws f)) w.piece (spelled ws f) (first_token ws last) (w.token.position) (w.token.tok) i.1 n r.0.1)),
       key_inserted (with_levels (above [] true sequence ls) after) (bare w) ws f last q n
           (row_in_level [] false true sequence ls after (bare w ∷ ws) f last i (bare_row (with_levels (above [] false sequence ls) a) w ws f last r)),
     )

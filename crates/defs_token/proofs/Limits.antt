@@ -8,10 +8,10 @@ use Rattle.defs_text.specs.Text.{up_to_end}
 use Rattle.defs_text.specs.Position.{position_after}
 use Rattle.defs_token.specs.Separation.{is_separation}
 use Rattle.defs_token.specs.Plain.{is_value_indicator, begins_plain, is_whole_plain}
-use Rattle.defs_token.specs.BlockPiece.{block_read, block_place}
+use Rattle.defs_token.specs.BlockPiece.{block_read, block_position}
 use Rattle.defs_token.specs.Account.{sequence, mapping, quoted, collection, other, first_account, is_closed, has_room, takes_pair, has_open_pair, before_past, settled, levels_past}
 use Rattle.defs_token.specs.Piece.{begins_node, ends_entry, begins_with_space_or_break, is_name, goes_on_with_name}
-use Rattle.defs_token.proofs.Shown.{place, first}
+use Rattle.defs_token.proofs.Shown.{position, first}
 
 -- a text ends at its first NUL
 ends_at_nul : up_to_end (codes "ab" ++ 0 ∷ codes "c") ≡ codes "ab"
@@ -19,17 +19,17 @@ unfolding is_blank is_break is_nul is_blank_or_end is_flow is_anchor_name are_ma
 ends_at_nul = refl
 
 -- CR LF ends one line, CR and LF one each
-places : position_after first (codes "a\r\nb\rc\nd") [] ≡ place 8 4 1
+positions : position_after first (codes "a\r\nb\rc\nd") [] ≡ position 8 4 1
 unfolding is_blank is_break is_nul is_blank_or_end is_flow is_anchor_name are_marks sign_of digit_of is_empty_line is_content_line row_of
-places = refl
+positions = refl
 
 -- also where it is split
-split_break : position_after first (codes "\r") (codes "\n") ≡ place 1 1 1
+split_break : position_after first (codes "\r") (codes "\n") ≡ position 1 1 1
 unfolding is_blank is_break is_nul is_blank_or_end is_flow is_anchor_name are_marks sign_of digit_of is_empty_line is_content_line row_of
 split_break = refl
 
 -- U+2028 ends no line
-line_separator : position_after first (0x2028 ∷ []) [] ≡ place 1 1 1
+line_separator : position_after first (0x2028 ∷ []) [] ≡ position 1 1 1
 unfolding is_blank is_break is_nul is_blank_or_end is_flow is_anchor_name are_marks sign_of digit_of is_empty_line is_content_line row_of
 line_separator = refl
 
@@ -463,12 +463,12 @@ block_header : block_read (Some 0) (codes "|+") (codes "") ≡ Some (record { st
 unfolding is_blank is_break is_nul is_blank_or_end is_flow is_anchor_name are_marks sign_of digit_of is_empty_line is_content_line row_of
 block_header = refl
 
--- its place is that of its content, whose further spaces belong to it
-content_place : block_place 1 first (codes "|1\n\n  a\n") [] ≡ place 5 3 1
+-- its position is that of its content, whose further spaces belong to it
+content_position : block_position 1 first (codes "|1\n\n  a\n") [] ≡ position 5 3 1
 unfolding is_blank is_break is_nul is_blank_or_end is_flow is_anchor_name are_marks sign_of digit_of is_empty_line is_content_line row_of
-content_place = refl
+content_position = refl
 
 -- or of the further text
-content_place_text : block_place 2 first (codes "|\n\n") (codes " b") ≡ place 4 3 1
+content_position_text : block_position 2 first (codes "|\n\n") (codes " b") ≡ position 4 3 1
 unfolding is_blank is_break is_nul is_blank_or_end is_flow is_anchor_name are_marks sign_of digit_of is_empty_line is_content_line row_of
-content_place_text = refl
+content_position_text = refl

@@ -14,7 +14,7 @@ use Rattle.defs_token.specs.Cut.{Written, IsCut, IsWritten, IsRow, tokens_of, sp
 use Rattle.defs_token.proofs.DroppedLine.{rest_of, first_tok, head, not_alone}
 
 abbrev both_lines : Position → Token
-both_lines p = record { place = p; tok = tag_directive [] [] }
+both_lines p = record { position = p; tok = tag_directive [] [] }
 
 -- a directive of another name, and a next line that is no separation
 module _ (r : List ℕ) (more : is_separation false r [] ≡ false) where
@@ -55,7 +55,7 @@ module _ (r : List ℕ) (more : is_separation false r [] ≡ false) where
   no_row (c ∷ g) p f k following t e l w = no_separation c g (p ++ f) e w.0
   no_row [] p f k following t e l w =
       let a : Account = account_at first_account (record { separation = []; piece = p; token = k }) f in
-      let P : Tok → Type 0 = λ x. IsPiece a p f following (k.place) x in
+      let P : Tok → Type 0 = λ x. IsPiece a p f following (k.position) x in
       let h : P (tag_directive [] []) = subst P t w.1 in
       no_tag_line a p f e l h.0
 

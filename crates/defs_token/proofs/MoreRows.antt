@@ -8,21 +8,21 @@ use Rattle.defs_scalar.specs.Tags.{octet_at, lead_of, is_trail, escaped_characte
 use Rattle.defs_scalar.specs.Directives.{directive_of}
 use Rattle.defs_token.specs.Token.{tag_directive, document_start, document_end, block_sequence_start, block_mapping_start, block_end, flow_sequence_start, flow_sequence_end, flow_mapping_start, flow_mapping_end, block_entry, flow_entry, key, value, tag, scalar, plain, double_quoted, literal, folded}
 use Rattle.defs_token.specs.Cut.{Written, IsCut, IsCutOfBeginning, tokens_of, start_token}
-use Rattle.defs_token.proofs.Shown.{place, written, first, tokens_between}
+use Rattle.defs_token.proofs.Shown.{position, written, first, tokens_between}
 
 -- a directive of another name
 abbrev ignored_directive_row : List Written
 ignored_directive_row =
-    written [] (codes "%FOO bar") (place 0 1 0) (tag_directive [] []) ∷
-    written (codes "\n") (codes "---") (place 9 2 0) document_start ∷
-    written (codes " ") (codes "a") (place 13 2 4) (scalar plain (codes "a")) ∷
+    written [] (codes "%FOO bar") (position 0 1 0) (tag_directive [] []) ∷
+    written (codes "\n") (codes "---") (position 9 2 0) document_start ∷
+    written (codes " ") (codes "a") (position 13 2 4) (scalar plain (codes "a")) ∷
     []
 
-ignored_directive : IsCut (tokens_between ignored_directive_row (place 14 3 0)) (codes "%FOO bar\n--- a")
+ignored_directive : IsCut (tokens_between ignored_directive_row (position 14 3 0)) (codes "%FOO bar\n--- a")
 unfolding is_blank is_break is_nul is_blank_or_end is_flow is_decimal_digit is_letter is_alpha is_uri is_tag is_anchor_name are_marks plain_element single_quoted_element double_quoted_element is_character_code numeric_escape escape begins_with_marker plain_value single_quoted_value double_quoted_value sign_of digit_of is_empty_line is_content_line row_of octet_at lead_of is_trail escaped_character uri_character directive_of
 ignored_directive = record {
   begin = first;
-  end = place 14 3 0;
+  end = position 14 3 0;
   row = ignored_directive_row;
   separation = [];
   are_tokens = refl;
@@ -44,15 +44,15 @@ ignored_directive = record {
 -- a verbatim tag
 abbrev verbatim_row : List Written
 verbatim_row =
-    written [] (codes "!<tag:x%41>") (place 0 1 0) (tag [] (codes "tag:xA")) ∷
-    written (codes " ") (codes "a") (place 12 1 12) (scalar plain (codes "a")) ∷
+    written [] (codes "!<tag:x%41>") (position 0 1 0) (tag [] (codes "tag:xA")) ∷
+    written (codes " ") (codes "a") (position 12 1 12) (scalar plain (codes "a")) ∷
     []
 
-verbatim : IsCut (tokens_between verbatim_row (place 13 2 0)) (codes "!<tag:x%41> a")
+verbatim : IsCut (tokens_between verbatim_row (position 13 2 0)) (codes "!<tag:x%41> a")
 unfolding is_blank is_break is_nul is_blank_or_end is_flow is_decimal_digit is_letter is_alpha is_uri is_tag is_anchor_name are_marks plain_element single_quoted_element double_quoted_element is_character_code numeric_escape escape begins_with_marker plain_value single_quoted_value double_quoted_value sign_of digit_of is_empty_line is_content_line row_of octet_at lead_of is_trail escaped_character uri_character directive_of
 verbatim = record {
   begin = first;
-  end = place 13 2 0;
+  end = position 13 2 0;
   row = verbatim_row;
   separation = [];
   are_tokens = refl;
@@ -71,23 +71,23 @@ verbatim = record {
 -- a block scalar's token stands where its content begins
 abbrev block_scalar_row : List Written
 block_scalar_row =
-    written [] [] (place 1 1 1) block_mapping_start ∷
-    written [] [] (place 0 1 0) key ∷
-    written [] (codes "a") (place 0 1 0) (scalar plain (codes "a")) ∷
-    written [] (codes ":") (place 1 1 1) value ∷
-    written (codes " ") (codes "|-\n\n   x\n\n") (place 10 3 3) (scalar literal (codes "\nx")) ∷
-    written [] [] (place 13 5 0) key ∷
-    written [] (codes "b") (place 13 5 0) (scalar plain (codes "b")) ∷
-    written [] (codes ":") (place 14 5 1) value ∷
-    written (codes " ") (codes ">2 # c\n   y") (place 25 6 2) (scalar folded (codes " y\n")) ∷
-    written [] [] (place 27 7 0) block_end ∷
+    written [] [] (position 1 1 1) block_mapping_start ∷
+    written [] [] (position 0 1 0) key ∷
+    written [] (codes "a") (position 0 1 0) (scalar plain (codes "a")) ∷
+    written [] (codes ":") (position 1 1 1) value ∷
+    written (codes " ") (codes "|-\n\n   x\n\n") (position 10 3 3) (scalar literal (codes "\nx")) ∷
+    written [] [] (position 13 5 0) key ∷
+    written [] (codes "b") (position 13 5 0) (scalar plain (codes "b")) ∷
+    written [] (codes ":") (position 14 5 1) value ∷
+    written (codes " ") (codes ">2 # c\n   y") (position 25 6 2) (scalar folded (codes " y\n")) ∷
+    written [] [] (position 27 7 0) block_end ∷
     []
 
-block_scalar : IsCut (tokens_between block_scalar_row (place 27 7 0)) (codes "a: |-\n\n   x\n\nb: >2 # c\n   y")
+block_scalar : IsCut (tokens_between block_scalar_row (position 27 7 0)) (codes "a: |-\n\n   x\n\nb: >2 # c\n   y")
 unfolding is_blank is_break is_nul is_blank_or_end is_flow is_decimal_digit is_letter is_alpha is_uri is_tag is_anchor_name are_marks plain_element single_quoted_element double_quoted_element is_character_code numeric_escape escape begins_with_marker plain_value single_quoted_value double_quoted_value sign_of digit_of is_empty_line is_content_line row_of octet_at lead_of is_trail escaped_character uri_character directive_of
 block_scalar = record {
   begin = first;
-  end = place 27 7 0;
+  end = position 27 7 0;
   row = block_scalar_row;
   separation = [];
   are_tokens = refl;
@@ -130,19 +130,19 @@ block_scalar = record {
 -- without content it stands at the further text
 abbrev empty_block_scalar_row : List Written
 empty_block_scalar_row =
-    written [] [] (place 0 1 0) block_sequence_start ∷
-    written [] (codes "-") (place 2 1 2) block_entry ∷
-    written (codes " ") (codes "|\n \n") (place 6 3 0) (scalar literal []) ∷
-    written [] (codes "-") (place 8 3 2) block_entry ∷
-    written (codes " ") (codes "x") (place 8 3 2) (scalar plain (codes "x")) ∷
-    written [] [] (place 9 4 0) block_end ∷
+    written [] [] (position 0 1 0) block_sequence_start ∷
+    written [] (codes "-") (position 2 1 2) block_entry ∷
+    written (codes " ") (codes "|\n \n") (position 6 3 0) (scalar literal []) ∷
+    written [] (codes "-") (position 8 3 2) block_entry ∷
+    written (codes " ") (codes "x") (position 8 3 2) (scalar plain (codes "x")) ∷
+    written [] [] (position 9 4 0) block_end ∷
     []
 
-empty_block_scalar : IsCut (tokens_between empty_block_scalar_row (place 9 4 0)) (codes "- |\n \n- x")
+empty_block_scalar : IsCut (tokens_between empty_block_scalar_row (position 9 4 0)) (codes "- |\n \n- x")
 unfolding is_blank is_break is_nul is_blank_or_end is_flow is_decimal_digit is_letter is_alpha is_uri is_tag is_anchor_name are_marks plain_element single_quoted_element double_quoted_element is_character_code numeric_escape escape begins_with_marker plain_value single_quoted_value double_quoted_value sign_of digit_of is_empty_line is_content_line row_of octet_at lead_of is_trail escaped_character uri_character directive_of
 empty_block_scalar = record {
   begin = first;
-  end = place 9 4 0;
+  end = position 9 4 0;
   row = empty_block_scalar_row;
   separation = [];
   are_tokens = refl;
@@ -173,19 +173,19 @@ empty_block_scalar = record {
 -- at the end of the text it stands at its header
 abbrev block_scalar_at_end_row : List Written
 block_scalar_at_end_row =
-    written [] [] (place 1 1 1) block_mapping_start ∷
-    written [] [] (place 0 1 0) key ∷
-    written [] (codes "k") (place 0 1 0) (scalar plain (codes "k")) ∷
-    written [] (codes ":") (place 1 1 1) value ∷
-    written (codes " ") (codes "|+\n\n") (place 3 1 3) (scalar literal (codes "\n")) ∷
-    written [] [] (place 7 3 0) block_end ∷
+    written [] [] (position 1 1 1) block_mapping_start ∷
+    written [] [] (position 0 1 0) key ∷
+    written [] (codes "k") (position 0 1 0) (scalar plain (codes "k")) ∷
+    written [] (codes ":") (position 1 1 1) value ∷
+    written (codes " ") (codes "|+\n\n") (position 3 1 3) (scalar literal (codes "\n")) ∷
+    written [] [] (position 7 3 0) block_end ∷
     []
 
-block_scalar_at_end : IsCut (tokens_between block_scalar_at_end_row (place 7 3 0)) (codes "k: |+\n\n")
+block_scalar_at_end : IsCut (tokens_between block_scalar_at_end_row (position 7 3 0)) (codes "k: |+\n\n")
 unfolding is_blank is_break is_nul is_blank_or_end is_flow is_decimal_digit is_letter is_alpha is_uri is_tag is_anchor_name are_marks plain_element single_quoted_element double_quoted_element is_character_code numeric_escape escape begins_with_marker plain_value single_quoted_value double_quoted_value sign_of digit_of is_empty_line is_content_line row_of octet_at lead_of is_trail escaped_character uri_character directive_of
 block_scalar_at_end = record {
   begin = first;
-  end = place 7 3 0;
+  end = position 7 3 0;
   row = block_scalar_at_end_row;
   separation = [];
   are_tokens = refl;
@@ -216,17 +216,17 @@ block_scalar_at_end = record {
 -- a document marker ends a plain scalar
 abbrev document_marker_ends_row : List Written
 document_marker_ends_row =
-    written [] (codes "a") (place 0 1 0) (scalar plain (codes "a")) ∷
-    written (codes "\n") (codes "---") (place 2 2 0) document_start ∷
-    written (codes "\n") (codes "b") (place 6 3 0) (scalar plain (codes "b")) ∷
-    written (codes "\n") (codes "...") (place 8 4 0) document_end ∷
+    written [] (codes "a") (position 0 1 0) (scalar plain (codes "a")) ∷
+    written (codes "\n") (codes "---") (position 2 2 0) document_start ∷
+    written (codes "\n") (codes "b") (position 6 3 0) (scalar plain (codes "b")) ∷
+    written (codes "\n") (codes "...") (position 8 4 0) document_end ∷
     []
 
-document_marker_ends : IsCut (tokens_between document_marker_ends_row (place 11 5 0)) (codes "a\n---\nb\n...")
+document_marker_ends : IsCut (tokens_between document_marker_ends_row (position 11 5 0)) (codes "a\n---\nb\n...")
 unfolding is_blank is_break is_nul is_blank_or_end is_flow is_decimal_digit is_letter is_alpha is_uri is_tag is_anchor_name are_marks plain_element single_quoted_element double_quoted_element is_character_code numeric_escape escape begins_with_marker plain_value single_quoted_value double_quoted_value sign_of digit_of is_empty_line is_content_line row_of octet_at lead_of is_trail escaped_character uri_character directive_of
 document_marker_ends = record {
   begin = first;
-  end = place 11 5 0;
+  end = position 11 5 0;
   row = document_marker_ends_row;
   separation = [];
   are_tokens = refl;
@@ -251,14 +251,14 @@ document_marker_ends = record {
 -- a closing bracket where no flow collection is open
 abbrev bracket_alone_row : List Written
 bracket_alone_row =
-    written [] (codes "a ]") (place 0 1 0) (scalar plain (codes "a ]")) ∷
+    written [] (codes "a ]") (position 0 1 0) (scalar plain (codes "a ]")) ∷
     []
 
-bracket_alone : IsCut (tokens_between bracket_alone_row (place 3 2 0)) (codes "a ]")
+bracket_alone : IsCut (tokens_between bracket_alone_row (position 3 2 0)) (codes "a ]")
 unfolding is_blank is_break is_nul is_blank_or_end is_flow is_decimal_digit is_letter is_alpha is_uri is_tag is_anchor_name are_marks plain_element single_quoted_element double_quoted_element is_character_code numeric_escape escape begins_with_marker plain_value single_quoted_value double_quoted_value sign_of digit_of is_empty_line is_content_line row_of octet_at lead_of is_trail escaped_character uri_character directive_of
 bracket_alone = record {
   begin = first;
-  end = place 3 2 0;
+  end = position 3 2 0;
   row = bracket_alone_row;
   separation = [];
   are_tokens = refl;
@@ -274,25 +274,25 @@ bracket_alone = record {
 -- a pair ends before the bracket of its own level
 abbrev nested_pair_row : List Written
 nested_pair_row =
-    written [] (codes "[") (place 0 1 0) flow_sequence_start ∷
-    written [] [] (place 1 1 1) flow_mapping_start ∷
-    written [] [] (place 1 1 1) key ∷
-    written [] (codes "a") (place 1 1 1) (scalar plain (codes "a")) ∷
-    written [] (codes ":") (place 2 1 2) value ∷
-    written (codes " ") (codes "[") (place 4 1 4) flow_sequence_start ∷
-    written [] (codes "b") (place 5 1 5) (scalar plain (codes "b")) ∷
-    written [] (codes ",") (place 6 1 6) flow_entry ∷
-    written (codes " ") (codes "c") (place 8 1 8) (scalar plain (codes "c")) ∷
-    written [] (codes "]") (place 9 1 9) flow_sequence_end ∷
-    written [] [] (place 10 1 10) flow_mapping_end ∷
-    written [] (codes "]") (place 10 1 10) flow_sequence_end ∷
+    written [] (codes "[") (position 0 1 0) flow_sequence_start ∷
+    written [] [] (position 1 1 1) flow_mapping_start ∷
+    written [] [] (position 1 1 1) key ∷
+    written [] (codes "a") (position 1 1 1) (scalar plain (codes "a")) ∷
+    written [] (codes ":") (position 2 1 2) value ∷
+    written (codes " ") (codes "[") (position 4 1 4) flow_sequence_start ∷
+    written [] (codes "b") (position 5 1 5) (scalar plain (codes "b")) ∷
+    written [] (codes ",") (position 6 1 6) flow_entry ∷
+    written (codes " ") (codes "c") (position 8 1 8) (scalar plain (codes "c")) ∷
+    written [] (codes "]") (position 9 1 9) flow_sequence_end ∷
+    written [] [] (position 10 1 10) flow_mapping_end ∷
+    written [] (codes "]") (position 10 1 10) flow_sequence_end ∷
     []
 
-nested_pair : IsCut (tokens_between nested_pair_row (place 11 2 0)) (codes "[a: [b, c]]")
+nested_pair : IsCut (tokens_between nested_pair_row (position 11 2 0)) (codes "[a: [b, c]]")
 unfolding is_blank is_break is_nul is_blank_or_end is_flow is_decimal_digit is_letter is_alpha is_uri is_tag is_anchor_name are_marks plain_element single_quoted_element double_quoted_element is_character_code numeric_escape escape begins_with_marker plain_value single_quoted_value double_quoted_value sign_of digit_of is_empty_line is_content_line row_of octet_at lead_of is_trail escaped_character uri_character directive_of
 nested_pair = record {
   begin = first;
-  end = place 11 2 0;
+  end = position 11 2 0;
   row = nested_pair_row;
   separation = [];
   are_tokens = refl;
@@ -341,10 +341,10 @@ nested_pair = record {
 -- tokens handed out before the stream's end
 abbrev begun_row : List Written
 begun_row =
-    written [] [] (place 1 1 1) block_mapping_start ∷
-    written [] [] (place 0 1 0) key ∷
-    written [] (codes "a") (place 0 1 0) (scalar plain (codes "a")) ∷
-    written [] (codes ":") (place 1 1 1) value ∷
+    written [] [] (position 1 1 1) block_mapping_start ∷
+    written [] [] (position 0 1 0) key ∷
+    written [] (codes "a") (position 0 1 0) (scalar plain (codes "a")) ∷
+    written [] (codes ":") (position 1 1 1) value ∷
     []
 
 begun : IsCutOfBeginning (start_token first ∷ tokens_of begun_row) (codes "a: b\nc")
@@ -373,8 +373,8 @@ begun = inr (record {
 -- a key of which no more is known
 abbrev begun_at_key_row : List Written
 begun_at_key_row =
-    written [] [] (place 1 1 1) block_mapping_start ∷
-    written [] [] (place 0 1 0) key ∷
+    written [] [] (position 1 1 1) block_mapping_start ∷
+    written [] [] (position 0 1 0) key ∷
     []
 
 begun_at_key : IsCutOfBeginning (start_token first ∷ tokens_of begun_at_key_row) (codes "a: b")
@@ -397,17 +397,17 @@ begun_at_key = inr (record {
 -- a block scalar in column 0 ends at a document marker
 abbrev marker_ends_block_row : List Written
 marker_ends_block_row =
-    written [] (codes "---") (place 0 1 0) document_start ∷
-    written (codes " ") (codes "|\na\n") (place 6 2 0) (scalar literal (codes "a\n")) ∷
-    written [] (codes "---") (place 8 3 0) document_start ∷
-    written (codes "\n") (codes "b") (place 12 4 0) (scalar plain (codes "b")) ∷
+    written [] (codes "---") (position 0 1 0) document_start ∷
+    written (codes " ") (codes "|\na\n") (position 6 2 0) (scalar literal (codes "a\n")) ∷
+    written [] (codes "---") (position 8 3 0) document_start ∷
+    written (codes "\n") (codes "b") (position 12 4 0) (scalar plain (codes "b")) ∷
     []
 
-marker_ends_block : IsCut (tokens_between marker_ends_block_row (place 14 5 0)) (codes "--- |\na\n---\nb\n")
+marker_ends_block : IsCut (tokens_between marker_ends_block_row (position 14 5 0)) (codes "--- |\na\n---\nb\n")
 unfolding is_blank is_break is_nul is_blank_or_end is_flow is_decimal_digit is_letter is_alpha is_uri is_tag is_anchor_name are_marks plain_element single_quoted_element double_quoted_element is_character_code numeric_escape escape begins_with_marker plain_value single_quoted_value double_quoted_value sign_of digit_of is_empty_line is_content_line row_of octet_at lead_of is_trail escaped_character uri_character directive_of
 marker_ends_block = record {
   begin = first;
-  end = place 14 5 0;
+  end = position 14 5 0;
   row = marker_ends_block_row;
   separation = codes "\n";
   are_tokens = refl;
@@ -429,26 +429,26 @@ marker_ends_block = record {
   closes = refl;
 }
 
--- places count characters
+-- positions count characters
 abbrev characters_count_row : List Written
 characters_count_row =
-    written [] [] (place 0 1 0) block_mapping_start ∷
-    written [] [] (place 0 1 0) key ∷
-    written [] (codes "a") (place 0 1 0) (scalar plain (codes "a")) ∷
-    written [] (codes ":") (place 1 1 1) value ∷
-    written (codes " ") (124 ∷ 10 ∷ 32 ∷ 32 ∷ 233 ∷ 233 ∷ 233 ∷ 233 ∷ 233 ∷ 233 ∷ 233 ∷ 233 ∷ 233 ∷ 233 ∷ 233 ∷ 233 ∷ 233 ∷ 233 ∷ 233 ∷ 233 ∷ 233 ∷ 233 ∷ 233 ∷ 233 ∷ 10 ∷ []) (place 7 2 2) (scalar literal (233 ∷ 233 ∷ 233 ∷ 233 ∷ 233 ∷ 233 ∷ 233 ∷ 233 ∷ 233 ∷ 233 ∷ 233 ∷ 233 ∷ 233 ∷ 233 ∷ 233 ∷ 233 ∷ 233 ∷ 233 ∷ 233 ∷ 233 ∷ 10 ∷ [])) ∷
-    written [] [] (place 28 3 0) key ∷
-    written [] (codes "b") (place 28 3 0) (scalar plain (codes "b")) ∷
-    written [] (codes ":") (place 29 3 1) value ∷
-    written (codes " ") (codes "1") (place 31 3 3) (scalar plain (codes "1")) ∷
-    written [] [] (place 32 4 0) block_end ∷
+    written [] [] (position 0 1 0) block_mapping_start ∷
+    written [] [] (position 0 1 0) key ∷
+    written [] (codes "a") (position 0 1 0) (scalar plain (codes "a")) ∷
+    written [] (codes ":") (position 1 1 1) value ∷
+    written (codes " ") (124 ∷ 10 ∷ 32 ∷ 32 ∷ 233 ∷ 233 ∷ 233 ∷ 233 ∷ 233 ∷ 233 ∷ 233 ∷ 233 ∷ 233 ∷ 233 ∷ 233 ∷ 233 ∷ 233 ∷ 233 ∷ 233 ∷ 233 ∷ 233 ∷ 233 ∷ 233 ∷ 233 ∷ 10 ∷ []) (position 7 2 2) (scalar literal (233 ∷ 233 ∷ 233 ∷ 233 ∷ 233 ∷ 233 ∷ 233 ∷ 233 ∷ 233 ∷ 233 ∷ 233 ∷ 233 ∷ 233 ∷ 233 ∷ 233 ∷ 233 ∷ 233 ∷ 233 ∷ 233 ∷ 233 ∷ 10 ∷ [])) ∷
+    written [] [] (position 28 3 0) key ∷
+    written [] (codes "b") (position 28 3 0) (scalar plain (codes "b")) ∷
+    written [] (codes ":") (position 29 3 1) value ∷
+    written (codes " ") (codes "1") (position 31 3 3) (scalar plain (codes "1")) ∷
+    written [] [] (position 32 4 0) block_end ∷
     []
 
-characters_count : IsCut (tokens_between characters_count_row (place 32 4 0)) (97 ∷ 58 ∷ 32 ∷ 124 ∷ 10 ∷ 32 ∷ 32 ∷ 233 ∷ 233 ∷ 233 ∷ 233 ∷ 233 ∷ 233 ∷ 233 ∷ 233 ∷ 233 ∷ 233 ∷ 233 ∷ 233 ∷ 233 ∷ 233 ∷ 233 ∷ 233 ∷ 233 ∷ 233 ∷ 233 ∷ 233 ∷ 10 ∷ 98 ∷ 58 ∷ 32 ∷ 49 ∷ [])
+characters_count : IsCut (tokens_between characters_count_row (position 32 4 0)) (97 ∷ 58 ∷ 32 ∷ 124 ∷ 10 ∷ 32 ∷ 32 ∷ 233 ∷ 233 ∷ 233 ∷ 233 ∷ 233 ∷ 233 ∷ 233 ∷ 233 ∷ 233 ∷ 233 ∷ 233 ∷ 233 ∷ 233 ∷ 233 ∷ 233 ∷ 233 ∷ 233 ∷ 233 ∷ 233 ∷ 233 ∷ 10 ∷ 98 ∷ 58 ∷ 32 ∷ 49 ∷ [])
 unfolding is_blank is_break is_nul is_blank_or_end is_flow is_decimal_digit is_letter is_alpha is_uri is_tag is_anchor_name are_marks plain_element single_quoted_element double_quoted_element is_character_code numeric_escape escape begins_with_marker plain_value single_quoted_value double_quoted_value sign_of digit_of is_empty_line is_content_line row_of octet_at lead_of is_trail escaped_character uri_character directive_of
 characters_count = record {
   begin = first;
-  end = place 32 4 0;
+  end = position 32 4 0;
   row = characters_count_row;
   separation = [];
   are_tokens = refl;
@@ -491,18 +491,18 @@ characters_count = record {
 -- a quoted scalar of one character that is no ASCII
 abbrev quoted_in_flow_row : List Written
 quoted_in_flow_row =
-    written [] (codes "[") (place 0 1 0) flow_sequence_start ∷
-    written [] (34 ∷ 233 ∷ 34 ∷ []) (place 1 1 1) (scalar double_quoted (233 ∷ [])) ∷
-    written [] (codes ",") (place 4 1 4) flow_entry ∷
-    written (codes " ") (codes "1") (place 6 1 6) (scalar plain (codes "1")) ∷
-    written [] (codes "]") (place 7 1 7) flow_sequence_end ∷
+    written [] (codes "[") (position 0 1 0) flow_sequence_start ∷
+    written [] (34 ∷ 233 ∷ 34 ∷ []) (position 1 1 1) (scalar double_quoted (233 ∷ [])) ∷
+    written [] (codes ",") (position 4 1 4) flow_entry ∷
+    written (codes " ") (codes "1") (position 6 1 6) (scalar plain (codes "1")) ∷
+    written [] (codes "]") (position 7 1 7) flow_sequence_end ∷
     []
 
-quoted_in_flow : IsCut (tokens_between quoted_in_flow_row (place 8 2 0)) (91 ∷ 34 ∷ 233 ∷ 34 ∷ 44 ∷ 32 ∷ 49 ∷ 93 ∷ [])
+quoted_in_flow : IsCut (tokens_between quoted_in_flow_row (position 8 2 0)) (91 ∷ 34 ∷ 233 ∷ 34 ∷ 44 ∷ 32 ∷ 49 ∷ 93 ∷ [])
 unfolding is_blank is_break is_nul is_blank_or_end is_flow is_decimal_digit is_letter is_alpha is_uri is_tag is_anchor_name are_marks plain_element single_quoted_element double_quoted_element is_character_code numeric_escape escape begins_with_marker plain_value single_quoted_value double_quoted_value sign_of digit_of is_empty_line is_content_line row_of octet_at lead_of is_trail escaped_character uri_character directive_of
 quoted_in_flow = record {
   begin = first;
-  end = place 8 2 0;
+  end = position 8 2 0;
   row = quoted_in_flow_row;
   separation = [];
   are_tokens = refl;
@@ -530,14 +530,14 @@ quoted_in_flow = record {
 -- a quoted scalar over lines, with blank lines after it
 abbrev quoted_lines_row : List Written
 quoted_lines_row =
-    written [] (codes "\"a  \n  b\n\n c\\\n   d\"") (place 0 1 0) (scalar double_quoted (codes "a b\ncd")) ∷
+    written [] (codes "\"a  \n  b\n\n c\\\n   d\"") (position 0 1 0) (scalar double_quoted (codes "a b\ncd")) ∷
     []
 
-quoted_lines : IsCut (tokens_between quoted_lines_row (place 21 7 0)) (codes "\"a  \n  b\n\n c\\\n   d\"\n\n")
+quoted_lines : IsCut (tokens_between quoted_lines_row (position 21 7 0)) (codes "\"a  \n  b\n\n c\\\n   d\"\n\n")
 unfolding is_blank is_break is_nul is_blank_or_end is_flow is_decimal_digit is_letter is_alpha is_uri is_tag is_anchor_name are_marks plain_element single_quoted_element double_quoted_element is_character_code numeric_escape escape begins_with_marker plain_value single_quoted_value double_quoted_value sign_of digit_of is_empty_line is_content_line row_of octet_at lead_of is_trail escaped_character uri_character directive_of
 quoted_lines = record {
   begin = first;
-  end = place 21 7 0;
+  end = position 21 7 0;
   row = quoted_lines_row;
   separation = codes "\n\n";
   are_tokens = refl;

@@ -4,17 +4,17 @@ use Rattle.defs_text.specs.Position.{Position}
 use Rattle.defs_token.specs.Token.{Tok, Token}
 use Rattle.defs_token.specs.Cut.{Written, tokens_of, start_token, end_token}
 
--- a place
-abbrev pub place : (index line col : ℕ) → Position
-place i l c = record { index = i; line = l; col = c }
+-- a position
+abbrev pub position : (index line col : ℕ) → Position
+position i l c = record { index = i; line = l; col = c }
 
 -- a token with the separation before its piece, and its piece
 abbrev pub written : (separation piece : List ℕ) → Position → Tok → Written
-written f p at t = record { separation = f; piece = p; token = record { place = at; tok = t } }
+written f p at t = record { separation = f; piece = p; token = record { position = at; tok = t } }
 
--- the place where a stream begins
+-- the position where a stream begins
 abbrev pub first : Position
-first = place 0 1 0
+first = position 0 1 0
 
 -- the tokens of a row between a stream's start and its end
 abbrev pub tokens_between : List Written → (end : Position) → List Token

@@ -8,13 +8,13 @@ use Rattle.defs_token.specs.Token.{Tok, Token, stream_end, flow_sequence_start, 
 use Rattle.defs_text.specs.Text.{up_to_end}
 use Rattle.defs_token.specs.Account.{first_account}
 use Rattle.defs_token.specs.Cut.{Written, IsCut, IsRow, tokens_of, spelled, start_token, end_token}
-use Rattle.defs_token.proofs.Shown.{place, first}
+use Rattle.defs_token.proofs.Shown.{position, first}
 
 abbrev text : List ℕ
 text = codes "[a: [b, c]]"
 
 abbrev at : ℕ → Tok → Token
-at i t = record { place = place i 1 i; tok = t }
+at i t = record { position = position i 1 i; tok = t }
 
 -- the pair of the outer level ends before the comma of the inner one
 abbrev pub wrong : (end : Position) → List Token

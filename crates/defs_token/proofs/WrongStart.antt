@@ -11,10 +11,10 @@ use Rattle.defs_token.specs.Piece.{Holds, IsPiece, begins_pair, begins_with_key_
 use Rattle.defs_token.specs.Cut.{Written, IsCut, IsWritten, IsRow, tokens_of, spelled, account_at, account_past, start_token, end_token}
 use Rattle.defs_token.proofs.DroppedLine.{head}
 use Rattle.defs_token.proofs.WrongPair.{piece_of, separation_of, rest_of, with_tokens, own_tokens, but_last, but_last_append}
-use Rattle.defs_token.proofs.Shown.{place, first}
+use Rattle.defs_token.proofs.Shown.{position, first}
 
 abbrev token_at : ℕ → Tok → Token
-token_at i t = record { place = place i 1 i; tok = t }
+token_at i t = record { position = position i 1 i; tok = t }
 
 abbrev after_head : List ℕ → List ℕ
 after_head [] = []
@@ -34,7 +34,7 @@ text_after : (w : Written) (t next : List ℕ) (o : Option Tok) → w.token.tok 
 unfolding is_blank is_break
 text_after w t next o k e is =
     let a : Account = account_at first_account w next in
-    let opens : IsPiece a w.piece next o (w.token.place) flow_sequence_start = subst (λ x. IsPiece a w.piece next o (w.token.place) x) k is.1 in
+    let opens : IsPiece a w.piece next o (w.token.position) flow_sequence_start = subst (λ x. IsPiece a w.piece next o (w.token.position) x) k is.1 in
     let here : w.piece ++ next ≡ 91 ∷ t = text_at_piece 91 t w.separation (w.piece ++ next) refl is.0 e in
     ap after_head (subst (λ p. p ++ next ≡ 91 ∷ t) opens.0.0 here)
 
@@ -43,9 +43,9 @@ pair_here : (a : Account) (w : Written) (c : ℕ) (t next : List ℕ) (o : Optio
     w.token.tok ≡ flow_mapping_start → w.separation ++ (w.piece ++ next) ≡ c ∷ t → IsWritten a w next o → Holds (begins_pair o) × (begins_with_key_indicator (past_separation false (c ∷ t)) ≡ false)
 pair_here a w c t next o s brace k e is =
     let b : Account = account_at a w next in
-    by (text_at_piece c t w.separation (w.piece ++ next) s is.0 e) (subst (λ x. IsPiece b w.piece next o (w.token.place) x) k is.1)
+    by (text_at_piece c t w.separation (w.piece ++ next) s is.0 e) (subst (λ x. IsPiece b w.piece next o (w.token.position) x) k is.1)
   where
-    by : w.piece ++ next ≡ c ∷ t → IsPiece (account_at a w next) w.piece next o (w.token.place) flow_mapping_start → Holds (begins_pair o) × (begins_with_key_indicator (past_separation false (c ∷ t)) ≡ false)
+    by : w.piece ++ next ≡ c ∷ t → IsPiece (account_at a w next) w.piece next o (w.token.position) flow_mapping_start → Holds (begins_pair o) × (begins_with_key_indicator (past_separation false (c ∷ t)) ≡ false)
     by here (inl q) =
         let first : 123 ≡ c = ap head (subst (λ p. p ++ next ≡ c ∷ t) q.0.0 here) in
         let not_brace : (123 == 123) ≡ false = subst (λ x. (x == 123) ≡ false) (sym first) brace in

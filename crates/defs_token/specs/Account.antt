@@ -16,22 +16,22 @@ pub record Level : Type 0 where
   pub kind : FlowKind
   pub pair : Bool
 
--- what stands before a place, as far as it matters for a colon there: a quoted scalar, a flow collection with nothing but blanks after it, or anything else
+-- what stands before a position, as far as it matters for a colon there: a quoted scalar, a flow collection with nothing but blanks after it, or anything else
 pub data Before : Type 0 where
   quoted : Before
   collection : Before
   other : Before
 
--- The account at a place of the text: the place; the open block collections, each with its column once its first piece has come; the open flow levels; and what stands before. Both lists have the innermost first.
+-- The account at a position of the text: the position; the open block collections, each with its column once its first piece has come; the open flow levels; and what stands before. Both lists have the innermost first.
 pub record Account : Type 0 where
-  pub place : Position
+  pub position : Position
   pub blocks : List (Option ℕ)
   pub levels : List Level
   pub before : Before
 
 -- the account where a text begins
 abbrev pub first_account : Account
-first_account = record { place = first_position; blocks = []; levels = []; before = other }
+first_account = record { position = first_position; blocks = []; levels = []; before = other }
 
 -- ---- what an account says
 
@@ -100,7 +100,7 @@ before_past other f = other
 
 -- the account after a separation; the text after it
 abbrev pub account_past_separation : Account → (separation next : List ℕ) → Account
-account_past_separation a f next = record a { place = position_after a.place f next; before = before_past a.before f }
+account_past_separation a f next = record a { position = position_after a.position f next; before = before_past a.before f }
 
 -- ---- the account after a token
 
@@ -117,7 +117,7 @@ blocks_at bs column (c ∷ r) = settled column bs
 
 -- the account at a token's piece
 abbrev pub account_at_piece : Account → (piece : List ℕ) → Account
-account_at_piece a piece = record a { blocks = blocks_at a.blocks a.place.col piece }
+account_at_piece a piece = record a { blocks = blocks_at a.blocks a.position.col piece }
 
 -- the block collections open after a token
 abbrev pub blocks_past : List (Option ℕ) → Tok → List (Option ℕ)
@@ -157,7 +157,7 @@ before_past_token b (c ∷ r) t = before_by t
 -- the account after a token, from that at its piece; the text after it
 abbrev pub account_past_token : Account → (piece next : List ℕ) → Tok → Account
 account_past_token a piece next t = record {
-  place = position_after a.place piece next;
+  position = position_after a.position piece next;
   blocks = blocks_past a.blocks t;
   levels = levels_past a.levels piece t;
   before = before_past_token a.before piece t;

@@ -47,22 +47,22 @@ block_read collection piece next = read_split collection (split piece) next
 
 -- ---- where the content begins
 
--- The place of the content column in the first content line, if there is one; the header's line is passed over.
+-- The position of the content column in the first content line, if there is one; the header's line is passed over.
 abbrev pub first_content : (column : ℕ) → (in_header : Bool) → Position → List ℕ → Option Position
 first_content column in_header p [] = None
 first_content column true p (c ∷ r) = first_content column (not (ends_line c r)) (position_past p c r) r
 first_content column false p (c ∷ r) = (if is_break c || ((c == space) && nat_lt p.col column) then first_content column false (position_past p c r) r else Some p)
 
--- the place of the first character that is no space
+-- the position of the first character that is no space
 abbrev pub past_spaces : Position → List ℕ → Position
 past_spaces p [] = p
 past_spaces p (c ∷ r) = (if c == space then past_spaces (position_past p c r) r else p)
 
--- the first place, where there is one
-abbrev pub place_or : Option Position → Position → Position
-place_or (Some p) other = p
-place_or None other = other
+-- the first position, where there is one
+abbrev pub position_or : Option Position → Position → Position
+position_or (Some p) other = p
+position_or None other = other
 
--- The place of a block scalar's token: where its content begins. Without content it is the place of the further text, or of the header if the text ends.
-abbrev pub block_place : (column : ℕ) → Position → (piece next : List ℕ) → Position
-block_place column p piece next = place_or (first_content column true p piece) (if is_at_end next then p else past_spaces (position_after p piece next) next)
+-- The position of a block scalar's token: where its content begins. Without content it is the position of the further text, or of the header if the text ends.
+abbrev pub block_position : (column : ℕ) → Position → (piece next : List ℕ) → Position
+block_position column p piece next = position_or (first_content column true p piece) (if is_at_end next then p else past_spaces (position_after p piece next) next)

@@ -41,7 +41,7 @@ account_past a w next = account_past_token (account_at a w next) w.piece next (w
 abbrev pub IsWritten : Account → Written → (next : List ℕ) → (following : Option Tok) → Type 0
 IsWritten a w next following =
     Holds (is_separation false w.separation (w.piece ++ next)) ×
-    IsPiece (account_at a w next) w.piece next following (w.token.place) (w.token.tok)
+    IsPiece (account_at a w next) w.piece next following (w.token.position) (w.token.tok)
 
 -- Whether each token of a row is written so, before the text after the row and the token that is known to stand there.
 abbrev pub IsRow : Account → List Written → (after : List ℕ) → (last : Option Tok) → Type 0
@@ -55,11 +55,11 @@ account_past_row a (w ∷ ws) after = account_past_row (account_past a w (spelle
 
 -- the start of a stream
 abbrev pub start_token : Position → Token
-start_token p = record { place = p; tok = stream_start }
+start_token p = record { position = p; tok = stream_start }
 
 -- the end of a stream
 abbrev pub end_token : Position → Token
-end_token p = record { place = p; tok = stream_end }
+end_token p = record { position = p; tok = stream_end }
 
 -- Whether tokens are a cut of a text. They are the stream's start, a row of tokens, and the stream's end. The row and the separation after it are the text up to its end. Outside flow no block collection is left open.
 pub record IsCut (tokens : List Token) (text : List ℕ) : Type 0 where

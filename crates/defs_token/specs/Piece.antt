@@ -11,7 +11,7 @@ use Rattle.defs_token.specs.Token.{Tok, stream_start, stream_end, version_direct
 use Rattle.defs_text.specs.Breaks.{is_at_line_end, has_no_break}
 use Rattle.defs_token.specs.Separation.{past_separation}
 use Rattle.defs_token.specs.Plain.{begins_flow, is_value_indicator, begins_plain, is_whole_plain}
-use Rattle.defs_token.specs.BlockPiece.{block_read, block_place}
+use Rattle.defs_token.specs.BlockPiece.{block_read, block_position}
 use Rattle.defs_token.specs.Account.{Account, is_in_flow, has_open_block, is_closed, collection_column, has_room, has_open_pair, takes_pair, is_adjacent}
 
 -- ---- conditions
@@ -26,7 +26,7 @@ IsOutsideFlow a = is_in_flow a ≡ false
 
 -- a piece stands in column 0
 abbrev pub IsInColumn0 : Account → Type 0
-IsInColumn0 a = a.place.col ≡ 0
+IsInColumn0 a = a.position.col ≡ 0
 
 -- no single-pair mapping is open in the innermost flow level
 abbrev pub HasNoPair : Account → Type 0
@@ -151,7 +151,7 @@ IsTag a piece next handle suffix = (written_tag piece ≡ Some (record { handle 
 -- A plain scalar: it begins where no other token does, goes on to its end, and has this value.
 abbrev pub IsPlain : Account → (piece next text : List ℕ) → Type 0
 IsPlain a piece next text =
-    Holds (begins_plain (is_in_flow a) (is_adjacent a.before) a.place.col (piece ++ next)) ×
+    Holds (begins_plain (is_in_flow a) (is_adjacent a.before) a.position.col (piece ++ next)) ×
     Holds (is_whole_plain (is_in_flow a) (collection_column a) piece next) ×
     (plain_value piece ≡ Some text)
 
@@ -163,38 +163,38 @@ IsSingleQuoted piece next text = (body : List ℕ) × (piece ≡ single_quote �
 abbrev pub IsDoubleQuoted : (piece next text : List ℕ) → Type 0
 IsDoubleQuoted piece next text = (body : List ℕ) × (piece ≡ double_quote ∷ (body ++ (double_quote ∷ []))) × (double_quoted_value body ≡ Some text)
 
--- A block scalar outside flow, of this style and value; its token's place is where its content begins.
-abbrev pub IsBlockScalar : Account → (piece next : List ℕ) → BlockStyle → (text : List ℕ) → (place : Position) → Type 0
-IsBlockScalar a piece next style text place =
+-- A block scalar outside flow, of this style and value; its token's position is where its content begins.
+abbrev pub IsBlockScalar : Account → (piece next : List ℕ) → BlockStyle → (text : List ℕ) → (position : Position) → Type 0
+IsBlockScalar a piece next style text position =
     IsOutsideFlow a ×
-    ((column : ℕ) × (block_read (collection_column a) piece next ≡ Some (record { style = style; column = column; text = text })) × (place ≡ block_place column a.place piece next))
+    ((column : ℕ) × (block_read (collection_column a) piece next ≡ Some (record { style = style; column = column; text = text })) × (position ≡ block_position column a.position piece next))
 
 -- ---- tokens
 
--- Whether a piece of text belongs to a token. The arguments are what is open before it, the piece, the text after it, the token after it if one is known, and the token's place. The stream's own two tokens stand only at its ends.
-abbrev pub IsPiece : Account → (piece next : List ℕ) → (following : Option Tok) → (place : Position) → Tok → Type 0
-IsPiece a piece next following place stream_start = ⊥
-IsPiece a piece next following place stream_end = ⊥
-IsPiece a piece next following place (version_directive major minor) = IsDirective a piece next (version major minor) × (place ≡ a.place)
-IsPiece a piece next following place (tag_directive handle prefix) = IsTagLine a piece next handle prefix × (place ≡ a.place)
-IsPiece a piece next following place document_start = IsDocumentMarker a piece next (codes "---") × (place ≡ a.place)
-IsPiece a piece next following place document_end = IsDocumentMarker a piece next (codes "...") × (place ≡ a.place)
-IsPiece a piece next following place block_sequence_start = IsBlockStart a piece
-IsPiece a piece next following place block_mapping_start = IsBlockStart a piece
-IsPiece a piece next following place block_end = IsBlockEnd a piece
-IsPiece a piece next following place flow_sequence_start = IsOpening a piece (codes "[") × (place ≡ a.place)
-IsPiece a piece next following place flow_sequence_end = IsEntryEnd a piece (codes "]") × (place ≡ a.place)
-IsPiece a piece next following place flow_mapping_start = (IsOpening a piece (codes "{") × (place ≡ a.place)) ⊎ IsPairStart a piece next following
-IsPiece a piece next following place flow_mapping_end = (IsEntryEnd a piece (codes "}") × (place ≡ a.place)) ⊎ IsPairEnd a piece following
-IsPiece a piece next following place block_entry = IsBlockEntry a piece next
-IsPiece a piece next following place flow_entry = IsEntryEnd a piece (codes ",") × (place ≡ a.place)
-IsPiece a piece next following place key = IsKeyIndicator piece next ⊎ IsImplicitKey piece following
-IsPiece a piece next following place value = IsValueIndicator a piece next
-IsPiece a piece next following place (alias name) = IsNamed 42 piece next name × (place ≡ a.place)
-IsPiece a piece next following place (anchor name) = IsNamed 38 piece next name × (place ≡ a.place)
-IsPiece a piece next following place (tag handle suffix) = IsTag a piece next handle suffix × (place ≡ a.place)
-IsPiece a piece next following place (scalar plain text) = IsPlain a piece next text × (place ≡ a.place)
-IsPiece a piece next following place (scalar single_quoted text) = IsSingleQuoted piece next text × (place ≡ a.place)
-IsPiece a piece next following place (scalar double_quoted text) = IsDoubleQuoted piece next text × (place ≡ a.place)
-IsPiece a piece next following place (scalar literal text) = IsBlockScalar a piece next BlockStyle.literal text place
-IsPiece a piece next following place (scalar folded text) = IsBlockScalar a piece next BlockStyle.folded text place
+-- Whether a piece of text belongs to a token. The arguments are what is open before it, the piece, the text after it, the token after it if one is known, and the token's position. The stream's own two tokens stand only at its ends.
+abbrev pub IsPiece : Account → (piece next : List ℕ) → (following : Option Tok) → (position : Position) → Tok → Type 0
+IsPiece a piece next following position stream_start = ⊥
+IsPiece a piece next following position stream_end = ⊥
+IsPiece a piece next following position (version_directive major minor) = IsDirective a piece next (version major minor) × (position ≡ a.position)
+IsPiece a piece next following position (tag_directive handle prefix) = IsTagLine a piece next handle prefix × (position ≡ a.position)
+IsPiece a piece next following position document_start = IsDocumentMarker a piece next (codes "---") × (position ≡ a.position)
+IsPiece a piece next following position document_end = IsDocumentMarker a piece next (codes "...") × (position ≡ a.position)
+IsPiece a piece next following position block_sequence_start = IsBlockStart a piece
+IsPiece a piece next following position block_mapping_start = IsBlockStart a piece
+IsPiece a piece next following position block_end = IsBlockEnd a piece
+IsPiece a piece next following position flow_sequence_start = IsOpening a piece (codes "[") × (position ≡ a.position)
+IsPiece a piece next following position flow_sequence_end = IsEntryEnd a piece (codes "]") × (position ≡ a.position)
+IsPiece a piece next following position flow_mapping_start = (IsOpening a piece (codes "{") × (position ≡ a.position)) ⊎ IsPairStart a piece next following
+IsPiece a piece next following position flow_mapping_end = (IsEntryEnd a piece (codes "}") × (position ≡ a.position)) ⊎ IsPairEnd a piece following
+IsPiece a piece next following position block_entry = IsBlockEntry a piece next
+IsPiece a piece next following position flow_entry = IsEntryEnd a piece (codes ",") × (position ≡ a.position)
+IsPiece a piece next following position key = IsKeyIndicator piece next ⊎ IsImplicitKey piece following
+IsPiece a piece next following position value = IsValueIndicator a piece next
+IsPiece a piece next following position (alias name) = IsNamed 42 piece next name × (position ≡ a.position)
+IsPiece a piece next following position (anchor name) = IsNamed 38 piece next name × (position ≡ a.position)
+IsPiece a piece next following position (tag handle suffix) = IsTag a piece next handle suffix × (position ≡ a.position)
+IsPiece a piece next following position (scalar plain text) = IsPlain a piece next text × (position ≡ a.position)
+IsPiece a piece next following position (scalar single_quoted text) = IsSingleQuoted piece next text × (position ≡ a.position)
+IsPiece a piece next following position (scalar double_quoted text) = IsDoubleQuoted piece next text × (position ≡ a.position)
+IsPiece a piece next following position (scalar literal text) = IsBlockScalar a piece next BlockStyle.literal text position
+IsPiece a piece next following position (scalar folded text) = IsBlockScalar a piece next BlockStyle.folded text position

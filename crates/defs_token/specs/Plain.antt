@@ -29,19 +29,19 @@ begins_plain in_flow adjacent column (c ∷ r) = may_begin in_flow adjacent c r 
 
 -- ---- where one ends
 
--- What stands directly before a place: a character of content, a blank after content, or a break and a number of blanks.
+-- What stands directly before a position: a character of content, a blank after content, or a break and a number of blanks.
 pub data Stand : Type 0 where
   inside : Stand
   after_blank : Stand
   on_line : (column : ℕ) → Stand
 
--- what stands before the place after a blank
+-- what stands before the position after a blank
 abbrev pub past_blank : Stand → Stand
 past_blank inside = after_blank
 past_blank after_blank = after_blank
 past_blank (on_line k) = on_line (suc k)
 
--- what stands before the place after a character
+-- what stands before the position after a character
 abbrev pub past : Stand → ℕ → Stand
 past s c = (if is_break c then on_line 0 else (if is_blank c then past_blank s else inside))
 

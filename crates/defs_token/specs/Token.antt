@@ -1,4 +1,4 @@
--- The tokens of a YAML stream, as clauses see them: a place, and what stands there.
+-- The tokens of a YAML stream, as clauses see them: a position, and what stands there.
 use Rattle.std.specs.Prelude.{ℕ, List}
 use Rattle.defs_text.specs.Position.{Position}
 
@@ -34,5 +34,5 @@ pub data Tok : Type 0 where
   scalar : Style → (text : List ℕ) → Tok
 
 pub record Token : Type 0 where
-  pub place : Position
+  pub position : Position
   pub tok : Tok

@@ -10,12 +10,12 @@ use Rattle.model_lexers.specs.Space.{linebreak}
 use Rattle.model_lexers.specs.Block.{Lines, margin, line, lines_from, begins, begun, with_char, ends_indent, chomping, increment, header_break, no_tab, indent_from, First, first_indent, Margin}
 
 -- where no indicator stands
-pub no_chomping : (c : ℕ) (a : List ℕ) (p : Position) → c ≡ slice_index a 0 → (c == 43) ≡ false → (c == 45) ≡ false → chomping a p ≡ record { rest = a; place = p; value = Clip }
+pub no_chomping : (c : ℕ) (a : List ℕ) (p : Position) → c ≡ slice_index a 0 → (c == 43) ≡ false → (c == 45) ≡ false → chomping a p ≡ record { rest = a; position = p; value = Clip }
 unfolding chomping
 no_chomping c [] p e plus minus = refl
 no_chomping c (d ∷ a) p e plus minus = let s : (d == 43) ≡ false = rw e at plus in let t : (d == 45) ≡ false = rw e at minus in rw (s, t) refl
 
-pub no_increment : (start : Position) (c : ℕ) (a : List ℕ) (p : Position) → c ≡ slice_index a 0 → is_digit c ≡ false → increment start a p ≡ Ok (record { rest = a; place = p; value = 0 })
+pub no_increment : (start : Position) (c : ℕ) (a : List ℕ) (p : Position) → c ≡ slice_index a 0 → is_digit c ≡ false → increment start a p ≡ Ok (record { rest = a; position = p; value = 0 })
 unfolding increment
 no_increment start c [] p e h = refl
 no_increment start c (d ∷ a) p e h = let g : is_digit d ≡ false = rw e at h in rw g refl
@@ -46,22 +46,22 @@ unfolding ends_indent
 at_other column col c a h = both_not _ _ h
 
 pub stop_lines : (literal : Bool) (column : ℕ) (a : List ℕ) (p : Position) (l : Lines) → ends_indent column p.col a ≡ true → begins column p.col a ≡ false
-    → lines_from literal column a (record { mode = margin; place = p; lines = l }) ≡ Ok (record { rest = a; place = p; value = l })
+    → lines_from literal column a (record { mode = margin; position = p; lines = l }) ≡ Ok (record { rest = a; position = p; value = l })
 stop_lines literal column [] p l e h = refl
 stop_lines literal column (c ∷ a) p l e h = let other = at_other column p.col c a e in rw (other.1, other.0, h) refl
 
 pub begin_lines : (literal : Bool) (column : ℕ) (a b : List ℕ) (c : ℕ) (p : Position) (l : Lines) → a ≡ c ∷ b → ends_indent column p.col a ≡ true → begins column p.col a ≡ true
-    → lines_from literal column a (record { mode = margin; place = p; lines = l }) ≡ lines_from literal column b (record { mode = line; place = past p; lines = with_char c (begun literal c l) })
+    → lines_from literal column a (record { mode = margin; position = p; lines = l }) ≡ lines_from literal column b (record { mode = line; position = past p; lines = with_char c (begun literal c l) })
 begin_lines literal column a b c p l is e h =
     let other = at_other column p.col c b (rw is at e) in
     let here = rw is at h in
     rw (is, other.1, other.0, here) refl
 
 -- where neither a space nor a break stands
-pub first_stop : (c : ℕ) (a : List ℕ) (s : First) → c ≡ slice_index a 0 → (c == 32) ≡ false → is_break c ≡ false → first_indent a s ≡ record { rest = a; place = s.place; value = record { column = max s.most s.spaces; breaks = s.breaks } }
+pub first_stop : (c : ℕ) (a : List ℕ) (s : First) → c ≡ slice_index a 0 → (c == 32) ≡ false → is_break c ≡ false → first_indent a s ≡ record { rest = a; position = s.position; value = record { column = max s.most s.spaces; breaks = s.breaks } }
 first_stop c [] s e space break = refl
 first_stop c (d ∷ a) s e space break = let t : (d == 32) ≡ false = rw e at space in let b : is_break d ≡ false = rw e at break in rw (t, b) refl
 
-pub indent_stop : (column : ℕ) (a : List ℕ) (s : Margin) → ends_indent column s.place.col a ≡ true → indent_from column a s ≡ record { rest = a; place = s.place; value = record { column = column; breaks = s.breaks } }
+pub indent_stop : (column : ℕ) (a : List ℕ) (s : Margin) → ends_indent column s.position.col a ≡ true → indent_from column a s ≡ record { rest = a; position = s.position; value = record { column = column; breaks = s.breaks } }
 indent_stop column [] s h = refl
-indent_stop column (c ∷ a) s h = let other = at_other column s.place.col c a h in rw (other.1, other.0) refl
+indent_stop column (c ∷ a) s h = let other = at_other column s.position.col c a h in rw (other.1, other.0) refl

@@ -33,13 +33,13 @@ stops_at_hash ctx a p = same (is_shallow ctx p.col)
     same false = refl
 
 tabs_end_at : (ctx : Context) (start : Position) (c : ℕ) (a : List ℕ) (p : Position) (t : Folded) (break hash : Bool) → is_break c ≡ break → (c == 35) ≡ hash → (break || hash) ≡ true
-    → plain_from ctx start (c ∷ a) (record { mode = tabs; place = p; folded = t }) ≡ plain_from ctx start (c ∷ a) (record { mode = between; place = p; folded = t })
+    → plain_from ctx start (c ∷ a) (record { mode = tabs; position = p; folded = t }) ≡ plain_from ctx start (c ∷ a) (record { mode = between; position = p; folded = t })
 tabs_end_at ctx start c a p t true hash e f h = rw e refl
 tabs_end_at ctx start c a p t false true e f h = let is : c ≡ 35 = eqb-true c 35 f in rw (is, at_hash, no_blank_hash, stops_at_hash ctx a p) refl
 tabs_end_at ctx start c a p t false false e f h = cc
 
 pub tabs_end : (ctx : Context) (start : Position) (a : List ℕ) (p : Position) (t : Folded) → ends_tabs a ≡ true
-    → plain_from ctx start a (record { mode = tabs; place = p; folded = t }) ≡ plain_from ctx start a (record { mode = between; place = p; folded = t })
+    → plain_from ctx start a (record { mode = tabs; position = p; folded = t }) ≡ plain_from ctx start a (record { mode = between; position = p; folded = t })
 tabs_end ctx start [] p t h = refl
 tabs_end ctx start (c ∷ a) p t h = tabs_end_at ctx start c a p t (is_break c) (c == 35) refl refl h
 
@@ -77,13 +77,13 @@ goes_on_end ctx c a p h =
 
 -- where a run ends, a gap begins, which may be none
 run_end_at : (ctx : Context) (start : Position) (c : ℕ) (a : List ℕ) (p : Position) (t : Folded) (gap plain : Bool) → (is_break c || is_blank c) ≡ gap → can_be_plain ctx.flow c (slice_index a 0) ≡ plain → ends_run ctx (c ∷ a) ≡ true
-    → plain_from ctx start (c ∷ a) (record { mode = inside; place = p; folded = t }) ≡ plain_from ctx start (c ∷ a) (record { mode = between; place = p; folded = t })
+    → plain_from ctx start (c ∷ a) (record { mode = inside; position = p; folded = t }) ≡ plain_from ctx start (c ∷ a) (record { mode = between; position = p; folded = t })
 run_end_at ctx start c a p t true plain e f h = rw e refl
 run_end_at ctx start c a p t false true e f h = let g = rw (e, f) at h in cc
 run_end_at ctx start c a p t false false e f h = rw (e, f, goes_on_end ctx c a p f) refl
 
 pub run_end : (ctx : Context) (start : Position) (a : List ℕ) (p : Position) (t : Folded) → ends_run ctx a ≡ true
-    → plain_from ctx start a (record { mode = inside; place = p; folded = t }) ≡ plain_from ctx start a (record { mode = between; place = p; folded = t })
+    → plain_from ctx start a (record { mode = inside; position = p; folded = t }) ≡ plain_from ctx start a (record { mode = between; position = p; folded = t })
 run_end ctx start [] p t h = refl
 run_end ctx start (c ∷ a) p t h = run_end_at ctx start c a p t (is_break c || is_blank c) (can_be_plain ctx.flow c (slice_index a 0)) refl refl h
 
@@ -108,26 +108,26 @@ no_fault ctx p f h = no_err (is_shallow ctx p.col) (at_marker p.col []) (at_plai
 
 -- what comes where a scalar goes on, and where it doesn't
 pub go_on : (ctx : Context) (start : Position) (a : List ℕ) (p : Position) (t : Folded) → ends_gap a ≡ true → goes_on ctx a p ≡ Ok true
-    → plain_from ctx start a (record { mode = between; place = p; folded = t }) ≡ plain_from ctx start a (record { mode = first; place = p; folded = t })
+    → plain_from ctx start a (record { mode = between; position = p; folded = t }) ≡ plain_from ctx start a (record { mode = first; position = p; folded = t })
 go_on ctx start [] p t r h = refl
 go_on ctx start (c ∷ a) p t r h = rw (is_false _ r, h) refl
 
 pub stop_here : (ctx : Context) (start : Position) (a : List ℕ) (p : Position) (t : Folded) → ends_gap a ≡ true → goes_on ctx a p ≡ Ok false
-    → plain_from ctx start a (record { mode = between; place = p; folded = t }) ≡ Ok (record { rest = a; place = p; value = record { text = t.text; leading = t.leading } })
+    → plain_from ctx start a (record { mode = between; position = p; folded = t }) ≡ Ok (record { rest = a; position = p; value = record { text = t.text; leading = t.leading } })
 stop_here ctx start [] p t r h = refl
 stop_here ctx start (c ∷ a) p t r h = rw (is_false _ r, h) refl
 
 pub fail_here : (ctx : Context) (start : Position) (a : List ℕ) (p : Position) (t : Folded) (f : Fault) → ends_gap a ≡ true → goes_on ctx a p ≡ Err f
-    → plain_from ctx start a (record { mode = between; place = p; folded = t }) ≡ Err f
+    → plain_from ctx start a (record { mode = between; position = p; folded = t }) ≡ Err f
 fail_here ctx start [] p t f r h = absurd (no_fault ctx p f h)
 fail_here ctx start (c ∷ a) p t f r h = rw (is_false _ r, h) refl
 
 pub tab_turn : (ctx : Context) (start : Position) (a b : List ℕ) (p : Position) (t : Folded) → a ≡ 9 ∷ b → t.leading ≡ true → p.col < ctx.indent
-    → plain_from ctx start a (record { mode = between; place = p; folded = t }) ≡ plain_from ctx start b (record { mode = tabs; place = past p; folded = t })
+    → plain_from ctx start a (record { mode = between; position = p; folded = t }) ≡ plain_from ctx start b (record { mode = tabs; position = past p; folded = t })
 unfolding is_break is_blank
 tab_turn ctx start a b p t e l h = let less : nat_lt p.col ctx.indent ≡ true = grind (arith, nat_tests) in rw (e, l, less) refl
 
 -- a scalar that may begin here
-pub plain_starts : (ctx : Context) (a : List ℕ) (p q : Position) → starts ctx a p ≡ Ok tt → q ≡ p → plain ctx a q ≡ plain_from ctx p a (record { mode = first; place = p; folded = nothing })
+pub plain_starts : (ctx : Context) (a : List ℕ) (p q : Position) → starts ctx a p ≡ Ok tt → q ≡ p → plain ctx a q ≡ plain_from ctx p a (record { mode = first; position = p; folded = nothing })
 unfolding plain
 plain_starts ctx a p q h e = rw (e, h) refl

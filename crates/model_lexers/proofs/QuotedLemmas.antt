@@ -14,43 +14,43 @@ use Rattle.model_lexers.specs.Quoted.{quoted, quoted_from, digits_from, quote_of
 module _ (single : Bool) (ctx : Context) (start : Position) where
   -- a blank or a break of a line begins a gap
   pub inside_gap : (c : ℕ) (a : List ℕ) (p : Position) (t : Folded) → c ≡ slice_index a 0 → (is_break c || is_blank c) ≡ true
-      → quoted_from single ctx start a (record { mode = inside; place = p; folded = t }) ≡ quoted_from single ctx start a (record { mode = gap; place = p; folded = t })
+      → quoted_from single ctx start a (record { mode = inside; position = p; folded = t }) ≡ quoted_from single ctx start a (record { mode = gap; position = p; folded = t })
   inside_gap c [] p t e h = refl
   inside_gap c (d ∷ a) p t e h = let g : (is_break d || is_blank d) ≡ true = rw e at h in rw g refl
 
   -- a line begins after a gap
   pub gap_line : (c : ℕ) (a : List ℕ) (p : Position) (t : Folded) → c ≡ slice_index a 0 → (is_break c || is_blank c) ≡ false
-      → quoted_from single ctx start a (record { mode = gap; place = p; folded = t }) ≡ quoted_from single ctx start a (record { mode = first; place = p; folded = t })
+      → quoted_from single ctx start a (record { mode = gap; position = p; folded = t }) ≡ quoted_from single ctx start a (record { mode = first; position = p; folded = t })
   gap_line c [] p t e h = refl
   gap_line c (d ∷ a) p t e h = let g : (is_break d || is_blank d) ≡ false = rw e at h in rw g refl
 
   -- a line that may stand here goes on
   pub line_inside : (a : List ℕ) (p : Position) (t : Folded) → refused ctx start a p ≡ Ok tt
-      → quoted_from single ctx start a (record { mode = first; place = p; folded = t }) ≡ quoted_from single ctx start a (record { mode = inside; place = p; folded = joined t })
+      → quoted_from single ctx start a (record { mode = first; position = p; folded = t }) ≡ quoted_from single ctx start a (record { mode = inside; position = p; folded = joined t })
   line_inside [] p t h = refl
   line_inside (d ∷ a) p t h = rw h refl
 
   pub line_fails : (c : ℕ) (a : List ℕ) (p : Position) (t : Folded) (f : Fault) → c ≡ slice_index a 0 → c ≢ 0 → refused ctx start a p ≡ Err f
-      → quoted_from single ctx start a (record { mode = first; place = p; folded = t }) ≡ Err f
+      → quoted_from single ctx start a (record { mode = first; position = p; folded = t }) ≡ Err f
   line_fails c [] p t f e some h = absurd (some e)
   line_fails c (d ∷ a) p t f e some h = rw h refl
 
   -- after an escaped break the closing quote may stand anywhere, and else a gap goes on
   pub after_gap : (c : ℕ) (a : List ℕ) (p : Position) (t : Folded) → c ≡ slice_index a 0 → (c == quote_of single) ≡ false
-      → quoted_from single ctx start a (record { mode = after; place = p; folded = t }) ≡ quoted_from single ctx start a (record { mode = gap; place = p; folded = t })
+      → quoted_from single ctx start a (record { mode = after; position = p; folded = t }) ≡ quoted_from single ctx start a (record { mode = gap; position = p; folded = t })
   after_gap c [] p t e h = refl
   after_gap c (d ∷ a) p t e h = let g : (d == quote_of single) ≡ false = rw e at h in rw g refl
 
   pub named_char : (c d : ℕ) (a b : List ℕ) (p : Position) (t : Folded) → escape_of c ≡ Escape.char d → a ≡ c ∷ b
-      → quoted_from single ctx start a (record { mode = named; place = p; folded = t }) ≡ quoted_from single ctx start b (record { mode = inside; place = past p; folded = with_char d t })
+      → quoted_from single ctx start a (record { mode = named; position = p; folded = t }) ≡ quoted_from single ctx start b (record { mode = inside; position = past p; folded = with_char d t })
   named_char c d a b p t h e = rw (e, h) refl
 
   pub named_code : (c more : ℕ) (a b : List ℕ) (p : Position) (t : Folded) → escape_of c ≡ Escape.code more → a ≡ c ∷ b
-      → quoted_from single ctx start a (record { mode = named; place = p; folded = t }) ≡ digits_from single ctx start (suc more) 0 b (past p) t
+      → quoted_from single ctx start a (record { mode = named; position = p; folded = t }) ≡ digits_from single ctx start (suc more) 0 b (past p) t
   named_code c more a b p t h e = rw (e, h) refl
 
   pub named_unknown : (c : ℕ) (a : List ℕ) (p : Position) (t : Folded) → escape_of c ≡ Escape.unknown → c ≡ slice_index a 0
-      → quoted_from single ctx start a (record { mode = named; place = p; folded = t }) ≡ Err (At problem.UnknownEscape start)
+      → quoted_from single ctx start a (record { mode = named; position = p; folded = t }) ≡ Err (At problem.UnknownEscape start)
   named_unknown c [] p t h e = refl
   named_unknown c (d ∷ a) p t h e = let g : escape_of d ≡ Escape.unknown = rw e at h in rw g refl
 
@@ -59,7 +59,7 @@ module _ (single : Bool) (ctx : Context) (start : Position) where
   digit_turn zero value c a b p t h e = ap (λ x. digits_from single ctx start (suc zero) value x p t) e ∙ last (is_scalar (value * 16 + digit_value c)) refl
     where
       last : (ok : Bool) → is_scalar (value * 16 + digit_value c) ≡ ok
-          → quoted_from single ctx start (c ∷ b) (record { mode = digits zero value; place = p; folded = t }) ≡ digits_from single ctx start zero (value * 16 + digit_value c) b (past p) t
+          → quoted_from single ctx start (c ∷ b) (record { mode = digits zero value; position = p; folded = t }) ≡ digits_from single ctx start zero (value * 16 + digit_value c) b (past p) t
       last true ok = rw (h, ok) refl
       last false ok = rw (h, ok) refl
   digit_turn (suc more) value c a b p t h e = rw (e, h) refl
@@ -70,7 +70,7 @@ module _ (single : Bool) (ctx : Context) (start : Position) where
   digit_fails more value c (d ∷ a) p t h e = let g : is_hex d ≡ false = rw e at h in rw g refl
 
   pub coded : (value : ℕ) (a : List ℕ) (p : Position) (t : Folded) → is_scalar value ≡ true
-      → digits_from single ctx start zero value a p t ≡ quoted_from single ctx start a (record { mode = inside; place = p; folded = with_char value t })
+      → digits_from single ctx start zero value a p t ≡ quoted_from single ctx start a (record { mode = inside; position = p; folded = with_char value t })
   coded value a p t h = rw h refl
 
   pub coded_fails : (value : ℕ) (a : List ℕ) (p : Position) (t : Folded) → is_scalar value ≡ false
@@ -79,7 +79,7 @@ module _ (single : Bool) (ctx : Context) (start : Position) where
 
 -- after the closing quote the scan is over
 pub closed_end : (single : Bool) (ctx : Context) (start : Position) (a : List ℕ) (p : Position) (t : Folded)
-    → quoted_from single ctx start a (record { mode = closed; place = p; folded = t }) ≡ Ok (record { rest = a; place = p; value = t.text })
+    → quoted_from single ctx start a (record { mode = closed; position = p; folded = t }) ≡ Ok (record { rest = a; position = p; value = t.text })
 closed_end single ctx start [] p t = refl
 closed_end single ctx start (c ∷ a) p t = refl
 
@@ -97,15 +97,15 @@ quote_self true = refl
 quote_self false = refl
 
 after_quote_at : (single : Bool) (ctx : Context) (start : Position) (d : ℕ) (a : List ℕ) (p : Position) (t : Folded) → d ≡ quote_of single
-    → quoted_from single ctx start (d ∷ a) (record { mode = after; place = p; folded = t }) ≡ quoted_from single ctx start (d ∷ a) (record { mode = inside; place = p; folded = t })
+    → quoted_from single ctx start (d ∷ a) (record { mode = after; position = p; folded = t }) ≡ quoted_from single ctx start (d ∷ a) (record { mode = inside; position = p; folded = t })
 after_quote_at single ctx start d a p t h = rw (h, quote_no_blank single, quote_no_backslash single, quote_self single) refl
 
 pub after_quote : (single : Bool) (ctx : Context) (start : Position) (c : ℕ) (a : List ℕ) (p : Position) (t : Folded) → c ≡ slice_index a 0 → c ≡ quote_of single
-    → quoted_from single ctx start a (record { mode = after; place = p; folded = t }) ≡ quoted_from single ctx start a (record { mode = inside; place = p; folded = t })
+    → quoted_from single ctx start a (record { mode = after; position = p; folded = t }) ≡ quoted_from single ctx start a (record { mode = inside; position = p; folded = t })
 after_quote single ctx start c [] p t e h = refl
 after_quote single ctx start c (d ∷ a) p t e h = after_quote_at single ctx start d a p t (sym e ∙ h)
 
 pub quoted_starts : (single : Bool) (ctx : Context) (a b : List ℕ) (p : Position) → a ≡ slice_index a 0 ∷ b
-    → quoted single ctx a p ≡ quoted_from single ctx p b (record { mode = first; place = past p; folded = nothing })
+    → quoted single ctx a p ≡ quoted_from single ctx p b (record { mode = first; position = past p; folded = nothing })
 unfolding quoted
 quoted_starts single ctx a b p e = rw e refl

@@ -28,15 +28,15 @@ no_gap c h = let b = first_of (is_blank c) _ h in let d = no_break c (second_of 
 
 -- of a line of a block scalar
 pub block_run : (literal : Bool) (column c : ℕ) (a : List ℕ) (p : Position) (t : block.Lines) → stops kind.Line c ≡ false
-    → block.lines_from literal column (c ∷ a) (record { mode = block.line; place = p; lines = t })
-    ≡ block.lines_from literal column a (record { mode = block.line; place = past p; lines = block.with_char c t })
+    → block.lines_from literal column (c ∷ a) (record { mode = block.line; position = p; lines = t })
+    ≡ block.lines_from literal column a (record { mode = block.line; position = past p; lines = block.with_char c t })
 unfolding stops
 block_run literal column c a p t h = let b = no_break c h in rw b refl
 
 -- of a quoted scalar
 pub quoted_run : (single : Bool) (ctx : Context) (start : Position) (c : ℕ) (a : List ℕ) (p : Position) (t : folding.Folded) → stops (kind.Quoted (quoted.quote_of single)) c ≡ false
-    → quoted.quoted_from single ctx start (c ∷ a) (record { mode = quoted.inside; place = p; folded = t })
-    ≡ quoted.quoted_from single ctx start a (record { mode = quoted.inside; place = past p; folded = folding.with_char c t })
+    → quoted.quoted_from single ctx start (c ∷ a) (record { mode = quoted.inside; position = p; folded = t })
+    ≡ quoted.quoted_from single ctx start a (record { mode = quoted.inside; position = past p; folded = folding.with_char c t })
 unfolding stops
 quoted_run single ctx start c a p t h =
     let front = first_of _ (c == 92) h in
@@ -51,8 +51,8 @@ plain_char flow c d colon indicator = rw (colon, indicator) refl
 
 -- of a plain scalar
 pub plain_run : (ctx : Context) (start : Position) (c : ℕ) (a : List ℕ) (p : Position) (t : folding.Folded) → stops (kind.Plain ctx.flow) c ≡ false
-    → plain.plain_from ctx start (c ∷ a) (record { mode = plain.inside; place = p; folded = t })
-    ≡ plain.plain_from ctx start a (record { mode = plain.inside; place = past p; folded = folding.with_char c t })
+    → plain.plain_from ctx start (c ∷ a) (record { mode = plain.inside; position = p; folded = t })
+    ≡ plain.plain_from ctx start a (record { mode = plain.inside; position = past p; folded = folding.with_char c t })
 unfolding stops
 plain_run ctx start c a p t h =
     let front = first_of _ (ctx.flow && is_flow c) h in
@@ -63,17 +63,17 @@ plain_run ctx start c a p t h =
 -- what takes a run's characters one by one takes the whole run
 pub through_run : {A : Type 0} (run : Run) (f : List ℕ → Position → List ℕ → A)
     → ((c : ℕ) (a : List ℕ) (p : Position) (t : List ℕ) → stops run c ≡ false → f (c ∷ a) p t ≡ f a (past p) (t ++ c ∷ []))
-    → (a b : List ℕ) (p q : Position) (t u : List ℕ) → ran run a p t ≡ record { rest = b; place = q; text = u } → f a p t ≡ f b q u
-through_run run f step [] b p q t u h = ap (λ (r : Ran). f r.rest r.place r.text) h
+    → (a b : List ℕ) (p q : Position) (t u : List ℕ) → ran run a p t ≡ record { rest = b; position = q; text = u } → f a p t ≡ f b q u
+through_run run f step [] b p q t u h = ap (λ (r : Ran). f r.rest r.position r.text) h
 through_run run f step (c ∷ a) b p q t u h = turn (stops run c) refl (through_run run f step a b (past p) q (t ++ c ∷ []) u)
   where
-    turn : (ends : Bool) → stops run c ≡ ends → (ran run a (past p) (t ++ c ∷ []) ≡ record { rest = b; place = q; text = u } → f a (past p) (t ++ c ∷ []) ≡ f b q u) → f (c ∷ a) p t ≡ f b q u
-    turn true e more = let here : record { rest = c ∷ a; place = p; text = t } ≡ record { rest = b; place = q; text = u } = rw e at h in ap (λ (r : Ran). f r.rest r.place r.text) here
+    turn : (ends : Bool) → stops run c ≡ ends → (ran run a (past p) (t ++ c ∷ []) ≡ record { rest = b; position = q; text = u } → f a (past p) (t ++ c ∷ []) ≡ f b q u) → f (c ∷ a) p t ≡ f b q u
+    turn true e more = let here : record { rest = c ∷ a; position = p; text = t } ≡ record { rest = b; position = q; text = u } = rw e at h in ap (λ (r : Ran). f r.rest r.position r.text) here
     turn false e more = step c a p t e ∙ more (rw e at h)
 
-pub block_ran : (literal : Bool) (column : ℕ) (a b : List ℕ) (p q : Position) (l : block.Lines) (u : List ℕ) → ran kind.Line a p l.text ≡ record { rest = b; place = q; text = u }
-    → block.lines_from literal column a (record { mode = block.line; place = p; lines = l })
-    ≡ block.lines_from literal column b (record { mode = block.line; place = q; lines = record l { text = u } })
+pub block_ran : (literal : Bool) (column : ℕ) (a b : List ℕ) (p q : Position) (l : block.Lines) (u : List ℕ) → ran kind.Line a p l.text ≡ record { rest = b; position = q; text = u }
+    → block.lines_from literal column a (record { mode = block.line; position = p; lines = l })
+    ≡ block.lines_from literal column b (record { mode = block.line; position = q; lines = record l { text = u } })
 block_ran literal column a b p q l u h =
-    through_run kind.Line (λ d r t. block.lines_from literal column d (record { mode = block.line; place = r; lines = record l { text = t } }))
+    through_run kind.Line (λ d r t. block.lines_from literal column d (record { mode = block.line; position = r; lines = record l { text = t } }))
     (λ c d r t e. block_run literal column c d r (record l { text = t }) e) a b p q l.text u h

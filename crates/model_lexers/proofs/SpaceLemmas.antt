@@ -11,17 +11,17 @@ is_false true h = sym h
 is_false false h = refl
 
 -- where no character of the kind stands
-pub skip_end : (test : ℕ → Bool) (a : List ℕ) (p : Position) → ends_while test a ≡ true → skip_while test a p ≡ record { rest = a; place = p; value = tt }
+pub skip_end : (test : ℕ → Bool) (a : List ℕ) (p : Position) → ends_while test a ≡ true → skip_while test a p ≡ record { rest = a; position = p; value = tt }
 skip_end test [] p h = refl
 skip_end test (c ∷ a) p h = rw (is_false _ h) refl
 
-pub take_end : (test : ℕ → Bool) (a : List ℕ) (p : Position) (t : List ℕ) → ends_while test a ≡ true → take_while test a p t ≡ record { rest = a; place = p; value = t }
+pub take_end : (test : ℕ → Bool) (a : List ℕ) (p : Position) (t : List ℕ) → ends_while test a ≡ true → take_while test a p t ≡ record { rest = a; position = p; value = t }
 take_end test [] p t h = refl
 take_end test (c ∷ a) p t h = rw (is_false _ h) refl
 
 -- where neither a space, nor a TAB to be skipped, nor a comment stands
 pub spaces_stop : (tabs : SkipTabs) (c : ℕ) (a : List ℕ) (p : Position) (w : Whitespace) → c ≡ slice_index a 0 → (c == 32) ≡ false → ((c == 9) && are_skipped tabs) ≡ false → (c == 35) ≡ false
-    → space_from tabs a (record { place = p; found = w }) ≡ Ok (record { rest = a; place = p; value = w })
+    → space_from tabs a (record { position = p; found = w }) ≡ Ok (record { rest = a; position = p; value = w })
 spaces_stop tabs c [] p w e space tab hash = refl
 spaces_stop tabs c (d ∷ a) p w e space tab hash =
     let s : (d == 32) ≡ false = rw e at space in
@@ -31,6 +31,6 @@ spaces_stop tabs c (d ∷ a) p w e space tab hash =
 
 -- at a comment
 pub at_comment : (tabs : SkipTabs) (a : List ℕ) (p : Position) (w : Whitespace) → 35 ≡ slice_index a 0
-    → space_from tabs a (record { place = p; found = w }) ≡ comment_after w a p
+    → space_from tabs a (record { position = p; found = w }) ≡ comment_after w a p
 at_comment tabs [] p w e = cc
 at_comment tabs (d ∷ a) p w e = rw (sym e) refl

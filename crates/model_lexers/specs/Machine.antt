@@ -37,26 +37,26 @@ walk step (c ∷ a) s = went (step s c a) (c ∷ a) s (λ t. walk step a t)
 -- what a lexing function leaves: the text from there on, where it stands, and what was read
 pub record Read (A : Type 0) : Type 0 where
   pub rest : List ℕ
-  pub place : Position
+  pub position : Position
   pub value : A
 
--- the place after a character of a line
+-- the position after a character of a line
 abbrev pub past : Position → Position
 past p = record { index = p.index + 1; line = p.line; col = p.col + 1 }
 
--- the place after a line break's last character
+-- the position after a line break's last character
 abbrev pub past_break : Position → Position
 past_break p = record { index = p.index + 1; line = p.line + 1; col = 0 }
 
 -- after the characters of a kind
 abbrev pub skip_while : (ℕ → Bool) → List ℕ → Position → Read (Unit {0})
-skip_while test [] p = record { rest = []; place = p; value = tt }
-skip_while test (c ∷ a) p = (if test c then skip_while test a (past p) else record { rest = c ∷ a; place = p; value = tt })
+skip_while test [] p = record { rest = []; position = p; value = tt }
+skip_while test (c ∷ a) p = (if test c then skip_while test a (past p) else record { rest = c ∷ a; position = p; value = tt })
 
 -- the characters of a kind, after a text
 abbrev pub take_while : (ℕ → Bool) → List ℕ → Position → List ℕ → Read (List ℕ)
-take_while test [] p t = record { rest = []; place = p; value = t }
-take_while test (c ∷ a) p t = (if test c then take_while test a (past p) (t ++ c ∷ []) else record { rest = c ∷ a; place = p; value = t })
+take_while test [] p t = record { rest = []; position = p; value = t }
+take_while test (c ∷ a) p t = (if test c then take_while test a (past p) (t ++ c ∷ []) else record { rest = c ∷ a; position = p; value = t })
 
 -- whether no character of a kind stands here
 abbrev pub ends_while : (ℕ → Bool) → List ℕ → Bool

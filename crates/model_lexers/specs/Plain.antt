@@ -9,7 +9,7 @@ use Rattle.model_lexers.specs.declared.context.Context.{Context}
 use Rattle.model_lexers.specs.Machine.{Turn, stop, fail, on, Stop, run, Read, and_then, past, past_break, is_cr_lf, at_marker}
 use Rattle.model_lexers.specs.Folding.{Folded, nothing, with_char, with_blank, with_break, joined}
 
--- what stands next: a character of the text, one more of its line, a gap of blanks and breaks or what stands after one, or what stands after a TAB at the indentation's place
+-- what stands next: a character of the text, one more of its line, a gap of blanks and breaks or what stands after one, or what stands after a TAB at the indentation's position
 pub data Mode : Type 0 where
   first : Mode
   inside : Mode
@@ -18,7 +18,7 @@ pub data Mode : Type 0 where
 
 pub record PlainState : Type 0 where
   pub mode : Mode
-  pub place : Position
+  pub position : Position
   pub folded : Folded
 
 unfoldable pub can_be_plain : Bool → ℕ → ℕ → Bool
@@ -26,16 +26,16 @@ can_be_plain flow c d = (if c == 58 then not (is_blank_or_breakz d || (flow && i
 
 -- a break; of CR LF the CR is passed first
 abbrev pub at_break : ℕ → List ℕ → PlainState → PlainState
-at_break c a s = (if is_cr_lf c a then record { mode = between; place = past s.place; folded = s.folded } else record { mode = between; place = past_break s.place; folded = with_break s.folded })
+at_break c a s = (if is_cr_lf c a then record { mode = between; position = past s.position; folded = s.folded } else record { mode = between; position = past_break s.position; folded = with_break s.folded })
 
 abbrev pub at_gap : Context → ℕ → List ℕ → PlainState → PlainState
 at_gap ctx c a s =
     (if is_break c then at_break c a s else
-    (if s.folded.leading && (c == 9) && nat_lt s.place.col ctx.indent then record { mode = tabs; place = past s.place; folded = s.folded } else
-    record { mode = between; place = past s.place; folded = with_blank c s.folded }))
+    (if s.folded.leading && (c == 9) && nat_lt s.position.col ctx.indent then record { mode = tabs; position = past s.position; folded = s.folded } else
+    record { mode = between; position = past s.position; folded = with_blank c s.folded }))
 
 abbrev pub at_char : ℕ → Position → Folded → PlainState
-at_char c p t = record { mode = inside; place = past p; folded = with_char c t }
+at_char c p t = record { mode = inside; position = past p; folded = with_char c t }
 
 -- whether a later line stands too far left
 unfoldable pub is_shallow : Context → ℕ → Bool
@@ -57,18 +57,18 @@ goes_on ctx a p =
     (if at_dash ctx.flow a then Err (At problem.PlainDashInFlow p) else Ok (at_plain ctx.flow a))))
 
 abbrev pub begun : Result Bool Fault → ℕ → PlainState → Turn PlainState Fault
-begun (Ok true) c s = on (at_char c s.place (joined s.folded))
+begun (Ok true) c s = on (at_char c s.position (joined s.folded))
 begun (Ok false) c s = stop s
 begun (Err f) c s = fail f
 
 abbrev pub turn_in : Context → Position → Mode → PlainState → ℕ → List ℕ → Turn PlainState Fault
-turn_in ctx start first s c a = on (at_char c s.place (joined s.folded))
-turn_in ctx start inside s c a = (if is_break c || is_blank c then on (at_gap ctx c a s) else (if can_be_plain ctx.flow c (slice_index a 0) then on (at_char c s.place s.folded) else stop s))
-turn_in ctx start between s c a = (if is_break c || is_blank c then on (at_gap ctx c a s) else begun (goes_on ctx (c ∷ a) s.place) c s)
+turn_in ctx start first s c a = on (at_char c s.position (joined s.folded))
+turn_in ctx start inside s c a = (if is_break c || is_blank c then on (at_gap ctx c a s) else (if can_be_plain ctx.flow c (slice_index a 0) then on (at_char c s.position s.folded) else stop s))
+turn_in ctx start between s c a = (if is_break c || is_blank c then on (at_gap ctx c a s) else begun (goes_on ctx (c ∷ a) s.position) c s)
 turn_in ctx start tabs s c a =
     (if is_break c then on (at_break c a s) else
     (if c == 35 then stop s else
-    (if is_blank c then on (record { mode = tabs; place = past s.place; folded = s.folded }) else fail (At problem.PlainTab start))))
+    (if is_blank c then on (record { mode = tabs; position = past s.position; folded = s.folded }) else fail (At problem.PlainTab start))))
 
 abbrev pub turn : Context → Position → PlainState → ℕ → List ℕ → Turn PlainState Fault
 turn ctx start s c a = turn_in ctx start s.mode s c a
@@ -79,7 +79,7 @@ pub record Plain : Type 0 where
   pub leading : Bool
 
 abbrev pub ended : Result (Stop PlainState) Fault → Result (Read Plain) Fault
-ended (Ok t) = Ok (record { rest = t.rest; place = t.state.place; value = record { text = t.state.folded.text; leading = t.state.folded.leading } })
+ended (Ok t) = Ok (record { rest = t.rest; position = t.state.position; value = record { text = t.state.folded.text; leading = t.state.folded.leading } })
 ended (Err f) = Err f
 
 -- the scan from a state on
@@ -94,7 +94,7 @@ starts ctx a p =
 
 -- the whole scan
 unfoldable pub plain : Context → List ℕ → Position → Result (Read Plain) Fault
-plain ctx a p = and_then (starts ctx a p) (λ _. plain_from ctx p a (record { mode = first; place = p; folded = nothing }))
+plain ctx a p = and_then (starts ctx a p) (λ _. plain_from ctx p a (record { mode = first; position = p; folded = nothing }))
 
 -- whether a run of characters ends here
 abbrev pub ends_run : Context → List ℕ → Bool

@@ -24,7 +24,7 @@ pub data Mode : Type 0 where
 
 pub record QuotedState : Type 0 where
   pub mode : Mode
-  pub place : Position
+  pub position : Position
   pub folded : Folded
 
 abbrev pub quote_of : Bool → ℕ
@@ -61,27 +61,27 @@ unfoldable pub is_scalar : ℕ → Bool
 is_scalar c = nat_lt c 55296 || (nat_le 57344 c && nat_lt c 1114112)
 
 abbrev pub at_char : ℕ → QuotedState → Turn QuotedState Fault
-at_char c s = on (record { mode = inside; place = past s.place; folded = with_char c s.folded })
+at_char c s = on (record { mode = inside; position = past s.position; folded = with_char c s.folded })
 
 -- a break; of CR LF the CR is passed first
 abbrev pub at_break : ℕ → List ℕ → QuotedState → Turn QuotedState Fault
-at_break c a s = (if is_cr_lf c a then on (record { mode = gap; place = past s.place; folded = s.folded }) else on (record { mode = gap; place = past_break s.place; folded = with_break s.folded }))
+at_break c a s = (if is_cr_lf c a then on (record { mode = gap; position = past s.position; folded = s.folded }) else on (record { mode = gap; position = past_break s.position; folded = with_break s.folded }))
 
 abbrev pub at_gap : Context → ℕ → List ℕ → QuotedState → Turn QuotedState Fault
 at_gap ctx c a s =
     (if is_break c then at_break c a s else
-    (if s.folded.leading && (c == 9) && nat_lt (s.place.col + 1) ctx.indent then fail (At problem.TabAsIndentation s.place) else
-    on (record { mode = gap; place = past s.place; folded = with_blank c s.folded })))
+    (if s.folded.leading && (c == 9) && nat_lt (s.position.col + 1) ctx.indent then fail (At problem.TabAsIndentation s.position) else
+    on (record { mode = gap; position = past s.position; folded = with_blank c s.folded })))
 
 -- an escaped break
 abbrev pub at_escaped_break : ℕ → List ℕ → QuotedState → Turn QuotedState Fault
-at_escaped_break c a s = (if is_cr_lf c a then on (record { mode = breaking; place = past s.place; folded = s.folded }) else on (record { mode = after; place = past_break s.place; folded = with_escaped_break s.folded }))
+at_escaped_break c a s = (if is_cr_lf c a then on (record { mode = breaking; position = past s.position; folded = s.folded }) else on (record { mode = after; position = past_break s.position; folded = with_escaped_break s.folded }))
 
 abbrev pub at_quote : Bool → List ℕ → QuotedState → Turn QuotedState Fault
-at_quote single a s = on (record { mode = (if single && (slice_index a 0 == 39) then doubled else closed); place = past s.place; folded = s.folded })
+at_quote single a s = on (record { mode = (if single && (slice_index a 0 == 39) then doubled else closed); position = past s.position; folded = s.folded })
 
 abbrev pub at_backslash : List ℕ → QuotedState → Turn QuotedState Fault
-at_backslash a s = on (record { mode = (if is_break (slice_index a 0) then breaking else named); place = past s.place; folded = s.folded })
+at_backslash a s = on (record { mode = (if is_break (slice_index a 0) then breaking else named); position = past s.position; folded = s.folded })
 
 -- what a line has but blanks and breaks
 abbrev pub at_inside : Bool → ℕ → List ℕ → QuotedState → Turn QuotedState Fault
@@ -91,13 +91,13 @@ at_inside single c a s =
 
 abbrev pub at_named : Position → Escape → QuotedState → Turn QuotedState Fault
 at_named start (Escape.char d) s = at_char d s
-at_named start (Escape.code more) s = on (record { mode = digits more 0; place = past s.place; folded = s.folded })
+at_named start (Escape.code more) s = on (record { mode = digits more 0; position = past s.position; folded = s.folded })
 at_named start Escape.unknown s = fail (At problem.UnknownEscape start)
 
 -- a code's digit: after the last one the code has to be a character's
 abbrev pub at_digit : Position → ℕ → ℕ → QuotedState → Turn QuotedState Fault
 at_digit start zero value s = (if is_scalar value then at_char value s else fail (At problem.EscapedCode start))
-at_digit start (suc more) value s = on (record { mode = digits more value; place = past s.place; folded = s.folded })
+at_digit start (suc more) value s = on (record { mode = digits more value; position = past s.position; folded = s.folded })
 
 -- what may not stand where a line begins or goes on
 unfoldable pub refused : Context → Position → List ℕ → Position → Result (Unit {0}) Fault
@@ -115,7 +115,7 @@ in_line single ctx c a s = (if is_break c || is_blank c then at_gap ctx c a s el
 
 -- what stands where a line begins or goes on
 abbrev pub at_line : Bool → Context → Position → ℕ → List ℕ → QuotedState → Turn QuotedState Fault
-at_line single ctx start c a s = unless (refused ctx start (c ∷ a) s.place) (in_line single ctx c a (record s { folded = joined s.folded }))
+at_line single ctx start c a s = unless (refused ctx start (c ∷ a) s.position) (in_line single ctx c a (record s { folded = joined s.folded }))
 
 abbrev pub turn_in : Bool → Context → Position → Mode → QuotedState → ℕ → List ℕ → Turn QuotedState Fault
 turn_in single ctx start first s c a = at_line single ctx start c a s
@@ -135,13 +135,13 @@ turn single ctx start s c a = turn_in single ctx start s.mode s c a
 
 -- where the text ends inside a scalar
 abbrev pub end_in : Position → Mode → List ℕ → Position → List ℕ → Result (Read (List ℕ)) Fault
-end_in start closed rest place text = Ok (record { rest = rest; place = place; value = text })
-end_in start named rest place text = Err (At problem.UnknownEscape start)
-end_in start (digits more value) rest place text = Err (At problem.HexadecimalDigit start)
-end_in start _ rest place text = Err (At problem.QuotedEnd start)
+end_in start closed rest position text = Ok (record { rest = rest; position = position; value = text })
+end_in start named rest position text = Err (At problem.UnknownEscape start)
+end_in start (digits more value) rest position text = Err (At problem.HexadecimalDigit start)
+end_in start _ rest position text = Err (At problem.QuotedEnd start)
 
 abbrev pub ended : Position → Result (Stop QuotedState) Fault → Result (Read (List ℕ)) Fault
-ended start (Ok t) = end_in start t.state.mode t.rest t.state.place t.state.folded.text
+ended start (Ok t) = end_in start t.state.mode t.rest t.state.position t.state.folded.text
 ended start (Err f) = Err f
 
 -- the scan from a state on
@@ -150,10 +150,10 @@ quoted_from single ctx start a s = ended start (run (turn single ctx start) a s)
 
 -- the scan where so many digits of a code are left, and those before have a value
 abbrev pub digits_from : Bool → Context → Position → (left value : ℕ) → List ℕ → Position → Folded → Result (Read (List ℕ)) Fault
-digits_from single ctx start zero value a p t = (if is_scalar value then quoted_from single ctx start a (record { mode = inside; place = p; folded = with_char value t }) else Err (At problem.EscapedCode start))
-digits_from single ctx start (suc more) value a p t = quoted_from single ctx start a (record { mode = digits more value; place = p; folded = t })
+digits_from single ctx start zero value a p t = (if is_scalar value then quoted_from single ctx start a (record { mode = inside; position = p; folded = with_char value t }) else Err (At problem.EscapedCode start))
+digits_from single ctx start (suc more) value a p t = quoted_from single ctx start a (record { mode = digits more value; position = p; folded = t })
 
 -- the scan from the opening quote on
 unfoldable pub quoted : Bool → Context → List ℕ → Position → Result (Read (List ℕ)) Fault
 quoted single ctx [] p = Err (At problem.QuotedEnd p)
-quoted single ctx (c ∷ a) p = quoted_from single ctx p a (record { mode = first; place = past p; folded = nothing })
+quoted single ctx (c ∷ a) p = quoted_from single ctx p a (record { mode = first; position = past p; folded = nothing })

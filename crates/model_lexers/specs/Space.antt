@@ -11,11 +11,11 @@ use Rattle.model_lexers.specs.declared.context.Whitespace.{Whitespace}
 use Rattle.model_lexers.specs.Machine.{Stop, walk, Read, past, past_break, is_cr_lf, skip_while}
 
 abbrev pub linebreak_at : ℕ → List ℕ → Position → Read (Unit {0})
-linebreak_at c a p = (if is_cr_lf c a then record { rest = drop 1 a; place = past_break (past p); value = tt } else record { rest = a; place = past_break p; value = tt })
+linebreak_at c a p = (if is_cr_lf c a then record { rest = drop 1 a; position = past_break (past p); value = tt } else record { rest = a; position = past_break p; value = tt })
 
 -- after the line break that stands here
 abbrev pub linebreak : List ℕ → Position → Read (Unit {0})
-linebreak [] p = record { rest = []; place = p; value = tt }
+linebreak [] p = record { rest = []; position = p; value = tt }
 linebreak (c ∷ a) p = linebreak_at c a p
 
 abbrev pub is_line : ℕ → Bool
@@ -34,7 +34,7 @@ are_skipped Yes = true
 are_skipped No = false
 
 abbrev pub with_found : Whitespace → Read (Unit {0}) → Read Whitespace
-with_found w r = record { rest = r.rest; place = r.place; value = w }
+with_found w r = record { rest = r.rest; position = r.position; value = w }
 
 -- a comment has to stand after a space or a TAB
 abbrev pub comment_after : Whitespace → List ℕ → Position → Result (Read Whitespace) Fault
@@ -42,18 +42,18 @@ comment_after w a p = (if w.found_tabs || w.has_valid_yaml_ws then Ok (with_foun
 
 -- where a walk over spaces stands, and what it found
 pub record Spaces : Type 0 where
-  pub place : Position
+  pub position : Position
   pub found : Whitespace
 
 -- a space, or a TAB where these are skipped
 abbrev pub space_step : SkipTabs → Spaces → ℕ → List ℕ → Option Spaces
 space_step tabs s c a =
-    (if c == 32 then Some (record { place = past s.place; found = record (s.found) { has_valid_yaml_ws = true } }) else
-    (if (c == 9) && are_skipped tabs then Some (record { place = past s.place; found = record (s.found) { found_tabs = true } }) else None))
+    (if c == 32 then Some (record { position = past s.position; found = record (s.found) { has_valid_yaml_ws = true } }) else
+    (if (c == 9) && are_skipped tabs then Some (record { position = past s.position; found = record (s.found) { found_tabs = true } }) else None))
 
 abbrev pub after_spaces : List ℕ → Spaces → Result (Read Whitespace) Fault
-after_spaces [] s = Ok (record { rest = []; place = s.place; value = s.found })
-after_spaces (c ∷ a) s = (if c == 35 then comment_after s.found (c ∷ a) s.place else Ok (record { rest = c ∷ a; place = s.place; value = s.found }))
+after_spaces [] s = Ok (record { rest = []; position = s.position; value = s.found })
+after_spaces (c ∷ a) s = (if c == 35 then comment_after s.found (c ∷ a) s.position else Ok (record { rest = c ∷ a; position = s.position; value = s.found }))
 
 abbrev pub spaces_end : Stop Spaces → Result (Read Whitespace) Fault
 spaces_end t = after_spaces t.rest t.state
@@ -63,4 +63,4 @@ abbrev pub space_from : SkipTabs → List ℕ → Spaces → Result (Read Whites
 space_from tabs a s = spaces_end (walk (space_step tabs) a s)
 
 unfoldable pub space : SkipTabs → List ℕ → Position → Result (Read Whitespace) Fault
-space tabs a p = space_from tabs a (record { place = p; found = record { found_tabs = false; has_valid_yaml_ws = false } })
+space tabs a p = space_from tabs a (record { position = p; found = record { found_tabs = false; has_valid_yaml_ws = false } })

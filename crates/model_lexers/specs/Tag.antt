@@ -15,7 +15,7 @@ pub record Tag : Type 0 where
   pub suffix : List ℕ
 
 abbrev pub read_tag : List ℕ → Position → List ℕ → List ℕ → Read Tag
-read_tag rest p handle suffix = record { rest = rest; place = p; value = record { handle = handle; suffix = suffix } }
+read_tag rest p handle suffix = record { rest = rest; position = p; value = record { handle = handle; suffix = suffix } }
 
 abbrev pub verbatim_end : Position → List ℕ → List ℕ → Position → Result (Read Tag) Fault
 verbatim_end start t [] p = Err (At problem.VerbatimTagEnd start)
@@ -23,17 +23,17 @@ verbatim_end start t (c ∷ a) p = (if c == 62 then Ok (read_tag a (past p) [] t
 
 -- a tag after its `!<`
 unfoldable pub verbatim : Position → List ℕ → Position → Result (Read Tag) Fault
-verbatim start a p = and_then (uri is_uri start a p []) (λ (r : Read (List ℕ)). verbatim_end start r.value r.rest r.place)
+verbatim start a p = and_then (uri is_uri start a p []) (λ (r : Read (List ℕ)). verbatim_end start r.value r.rest r.position)
 
 abbrev pub some_suffix : Position → List ℕ → Read (List ℕ) → Result (Read Tag) Fault
-some_suffix start name r = (if is_empty r.value then Err (At problem.TagUri start) else Ok (read_tag r.rest r.place ((33 ∷ name) ++ 33 ∷ []) r.value))
+some_suffix start name r = (if is_empty r.value then Err (At problem.TagUri start) else Ok (read_tag r.rest r.position ((33 ∷ name) ++ 33 ∷ []) r.value))
 
 -- a tag after its handle
 unfoldable pub named : Position → List ℕ → List ℕ → Position → Result (Read Tag) Fault
 named start name a p = and_then (uri is_tag start a p []) (λ r. some_suffix start name r)
 
 abbrev pub local : Read (List ℕ) → Read Tag
-local r = (if is_empty r.value then read_tag r.rest r.place [] (33 ∷ []) else read_tag r.rest r.place (33 ∷ []) r.value)
+local r = (if is_empty r.value then read_tag r.rest r.position [] (33 ∷ []) else read_tag r.rest r.position (33 ∷ []) r.value)
 
 -- a suffix without a handle, which begins with a name
 abbrev pub local_tag : Position → List ℕ → List ℕ → Position → Result (Read Tag) Fault
@@ -43,7 +43,7 @@ abbrev pub after_name : Position → List ℕ → List ℕ → Position → Resu
 after_name start name a p = (if slice_index a 0 == 33 then named start name (drop 1 a) (past p) else local_tag start name a p)
 
 abbrev pub after_word : Position → Read (List ℕ) → Result (Read Tag) Fault
-after_word start r = after_name start r.value r.rest r.place
+after_word start r = after_name start r.value r.rest r.position
 
 -- a tag after its first `!`
 unfoldable pub shorthand : Position → List ℕ → Position → Result (Read Tag) Fault
@@ -65,10 +65,10 @@ tag flow [] p = Err (At problem.TagStart p)
 tag flow (c ∷ a) p = and_then (tag_here p a (past p)) (λ r. tag_end flow p r)
 
 abbrev pub handle_end : Position → Bool → List ℕ → List ℕ → Position → Result (Read (List ℕ)) Fault
-handle_end start bare t a p = (if slice_index a 0 == 33 then Ok (record { rest = drop 1 a; place = past p; value = t ++ 33 ∷ [] }) else (if bare then Ok (record { rest = a; place = p; value = t }) else Err (At problem.TagDirectiveHandle start)))
+handle_end start bare t a p = (if slice_index a 0 == 33 then Ok (record { rest = drop 1 a; position = past p; value = t ++ 33 ∷ [] }) else (if bare then Ok (record { rest = a; position = p; value = t }) else Err (At problem.TagDirectiveHandle start)))
 
 abbrev pub handle_word : Position → Bool → Read (List ℕ) → Result (Read (List ℕ)) Fault
-handle_word start bare r = handle_end start bare r.value r.rest r.place
+handle_word start bare r = handle_end start bare r.value r.rest r.position
 
 -- the handle of a tag directive
 unfoldable pub handle : Position → List ℕ → Position → Result (Read (List ℕ)) Fault

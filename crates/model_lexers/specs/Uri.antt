@@ -23,13 +23,13 @@ pub data Mode : Type 0 where
 
 pub record UriState : Type 0 where
   pub mode : Mode
-  pub place : Position
+  pub position : Position
   pub text : List ℕ
 
 -- where so many octets are left
 abbrev pub at_trail : Position → (left code least : ℕ) → Position → List ℕ → Result UriState Fault
-at_trail start zero code least p t = (if nat_le least code && is_scalar code then Ok (record { mode = plain; place = p; text = t ++ code ∷ [] }) else Err (At problem.TagCodepoint start))
-at_trail start (suc more) code least p t = Ok (record { mode = percent (trail more code least); place = p; text = t })
+at_trail start zero code least p t = (if nat_le least code && is_scalar code then Ok (record { mode = plain; position = p; text = t ++ code ∷ [] }) else Err (At problem.TagCodepoint start))
+at_trail start (suc more) code least p t = Ok (record { mode = percent (trail more code least); position = p; text = t })
 
 -- after an octet
 abbrev pub at_octet : Position → Octet → ℕ → Position → List ℕ → Result UriState Fault
@@ -46,21 +46,21 @@ went_on (Err f) = fail f
 
 abbrev pub turn_in : (ℕ → Bool) → Position → Mode → UriState → ℕ → List ℕ → Turn UriState Fault
 turn_in test start plain s c a =
-    (if test c then (if c == 37 then on (record { mode = high lead; place = past s.place; text = s.text }) else on (record { mode = plain; place = past s.place; text = s.text ++ c ∷ [] })) else stop s)
-turn_in test start (percent o) s c a = (if c == 37 then on (record { mode = high o; place = past s.place; text = s.text }) else fail (At problem.TagOctet start))
-turn_in test start (high o) s c a = (if is_hex c then on (record { mode = low o (digit_value c); place = past s.place; text = s.text }) else fail (At problem.TagOctet start))
-turn_in test start (low o value) s c a = (if is_hex c then went_on (at_octet start o (value * 16 + digit_value c) (past s.place) s.text) else fail (At problem.TagOctet start))
+    (if test c then (if c == 37 then on (record { mode = high lead; position = past s.position; text = s.text }) else on (record { mode = plain; position = past s.position; text = s.text ++ c ∷ [] })) else stop s)
+turn_in test start (percent o) s c a = (if c == 37 then on (record { mode = high o; position = past s.position; text = s.text }) else fail (At problem.TagOctet start))
+turn_in test start (high o) s c a = (if is_hex c then on (record { mode = low o (digit_value c); position = past s.position; text = s.text }) else fail (At problem.TagOctet start))
+turn_in test start (low o value) s c a = (if is_hex c then went_on (at_octet start o (value * 16 + digit_value c) (past s.position) s.text) else fail (At problem.TagOctet start))
 
 abbrev pub turn : (ℕ → Bool) → Position → UriState → ℕ → List ℕ → Turn UriState Fault
 turn test start s c a = turn_in test start s.mode s c a
 
 -- no text ends inside an escaped character
 abbrev pub end_in : Position → Mode → List ℕ → Position → List ℕ → Result (Read (List ℕ)) Fault
-end_in start plain rest place text = Ok (record { rest = rest; place = place; value = text })
-end_in start _ rest place text = Err (At problem.TagOctet start)
+end_in start plain rest position text = Ok (record { rest = rest; position = position; value = text })
+end_in start _ rest position text = Err (At problem.TagOctet start)
 
 abbrev pub ended : Position → Result (Stop UriState) Fault → Result (Read (List ℕ)) Fault
-ended start (Ok t) = end_in start t.state.mode t.rest t.state.place t.state.text
+ended start (Ok t) = end_in start t.state.mode t.rest t.state.position t.state.text
 ended start (Err f) = Err f
 
 -- the scan from a state on, of characters of a kind
@@ -69,7 +69,7 @@ uri_from test start a s = ended start (run (turn test start) a s)
 
 -- the characters of a kind after a text
 abbrev pub uri : (ℕ → Bool) → Position → List ℕ → Position → List ℕ → Result (Read (List ℕ)) Fault
-uri test start a p t = uri_from test start a (record { mode = plain; place = p; text = t })
+uri test start a p t = uri_from test start a (record { mode = plain; position = p; text = t })
 
 -- the scan after an octet
 abbrev pub octet_from : (ℕ → Bool) → Position → Octet → ℕ → List ℕ → Position → List ℕ → Result (Read (List ℕ)) Fault

@@ -4,7 +4,7 @@ use Rattle.defs_token.specs.Token.{Tok}
 use Rattle.defs_event.specs.Raw.{Raw, nothing_written}
 use Rattle.defs_event.specs.Grammar.{Perhaps, no_node, some_node, Entries, end_entries, entry, Part, plain, indentless, Dashes, end_dashes, dash, Pairs, keyed, keyless, KeyPairs, end_pairs, key, AfterKey, value, no_value}
 use Rattle.model_parser.specs.declared.kind.Kind.TheVariants as kind
-use Rattle.model_parser.specs.declared.place.NodeContext.TheVariants as place
+use Rattle.model_parser.specs.declared.context.NodeContext.TheVariants as context
 use Rattle.model_parser.specs.declared.state.State.{State}
 use Rattle.model_parser.specs.declared.state.State.TheVariants as state
 use Rattle.model_parser.specs.Kinds.{kind_of, begins_node, ends_part}
@@ -35,19 +35,19 @@ pub entries_refuses : (ss : List State) (t : Tok) → kind_of t ≢ kind.BlockEn
 entries_refuses ss t a b n f end_entries r h = a (ap kind_of (sym h))
 entries_refuses ss t a b n f (entry p x) r h = b (ap kind_of (sym h))
 
-entry_empty_goes : (ss : List State) (t : Tok) → begins_node place.Block (kind_of t) ≡ false → (x : Perhaps × Entries) → Stays at.entry ss (Some t) (Some nothing_written) at.done (state.BlockSequenceEntry ∷ ss) x
+entry_empty_goes : (ss : List State) (t : Tok) → begins_node context.Block (kind_of t) ≡ false → (x : Perhaps × Entries) → Stays at.entry ss (Some t) (Some nothing_written) at.done (state.BlockSequenceEntry ∷ ss) x
 entry_empty_goes ss t a (no_node, x) r h = (tt, (x, r), refl, refl)
-entry_empty_goes ss t a (some_node n, x) r h = absurd (clash (begins_node place.Block) _ t (node_first n _) a h)
+entry_empty_goes ss t a (some_node n, x) r h = absurd (clash (begins_node context.Block) _ t (node_first n _) a h)
 
-pub entry_empty : (ss : List State) (t : Tok) → begins_node place.Block (kind_of t) ≡ false → Leaves at.entry ss (Some t) (Some nothing_written) at.done (state.BlockSequenceEntry ∷ ss)
+pub entry_empty : (ss : List State) (t : Tok) → begins_node context.Block (kind_of t) ≡ false → Leaves at.entry ss (Some t) (Some nothing_written) at.done (state.BlockSequenceEntry ∷ ss)
 entry_empty ss t a = record { nested = λ n f. ((f, n), tt); comes = λ x' r'. ((no_node, r'.0), r'.1, refl, refl); goes = λ n f. entry_empty_goes ss t a }
 
-entry_node_goes : (ss : List State) (t : Tok) → kind_of t ≢ kind.BlockEntry → kind_of t ≢ kind.BlockEnd → (x : Perhaps × Entries) → Stays at.entry ss (Some t) None (at.node place.Block) (state.BlockSequenceEntry ∷ ss) x
+entry_node_goes : (ss : List State) (t : Tok) → kind_of t ≢ kind.BlockEntry → kind_of t ≢ kind.BlockEnd → (x : Perhaps × Entries) → Stays at.entry ss (Some t) None (at.node context.Block) (state.BlockSequenceEntry ∷ ss) x
 entry_node_goes ss t a b (no_node, end_entries) r h = absurd (b (ap kind_of (sym h)))
 entry_node_goes ss t a b (no_node, entry p x) r h = absurd (a (ap kind_of (sym h)))
 entry_node_goes ss t a b (some_node n, x) r h = (n, (x, r), refl, refl)
 
-pub entry_node : (ss : List State) (t : Tok) → kind_of t ≢ kind.BlockEntry → kind_of t ≢ kind.BlockEnd → Leaves at.entry ss (Some t) None (at.node place.Block) (state.BlockSequenceEntry ∷ ss)
+pub entry_node : (ss : List State) (t : Tok) → kind_of t ≢ kind.BlockEntry → kind_of t ≢ kind.BlockEnd → Leaves at.entry ss (Some t) None (at.node context.Block) (state.BlockSequenceEntry ∷ ss)
 entry_node ss t a b = record { nested = λ n f. ((f, n), (after_entries ss, tt)); comes = λ x' r'. ((some_node x', r'.0), r'.1, refl, refl); goes = λ n f. entry_node_goes ss t a b }
 
 -- ---- a sequence without indentation
@@ -66,19 +66,19 @@ dashes_end_goes ss t a (dash p d) r h = absurd (a (ap kind_of (sym h)))
 pub dashes_end : (ss : List State) (t : Tok) → kind_of t ≢ kind.BlockEntry → Leaves at.dashes ss (Some t) (Some Raw.sequence_end) at.done ss
 dashes_end ss t a = record { nested = λ n f. (n, f.1); comes = λ x' r'. (end_dashes, r', refl, refl); goes = λ n f. dashes_end_goes ss t a }
 
-dashed_empty_goes : (ss : List State) (t : Tok) → begins_node place.Block (kind_of t) ≡ false → (x : Perhaps × Dashes) → Stays at.dashed ss (Some t) (Some nothing_written) at.done (state.IndentlessSequenceEntry ∷ ss) x
+dashed_empty_goes : (ss : List State) (t : Tok) → begins_node context.Block (kind_of t) ≡ false → (x : Perhaps × Dashes) → Stays at.dashed ss (Some t) (Some nothing_written) at.done (state.IndentlessSequenceEntry ∷ ss) x
 dashed_empty_goes ss t a (no_node, x) r h = (tt, (x, r), refl, refl)
-dashed_empty_goes ss t a (some_node n, x) r h = absurd (clash (begins_node place.Block) _ t (node_first n _) a h)
+dashed_empty_goes ss t a (some_node n, x) r h = absurd (clash (begins_node context.Block) _ t (node_first n _) a h)
 
-pub dashed_empty : (ss : List State) (t : Tok) → begins_node place.Block (kind_of t) ≡ false → Leaves at.dashed ss (Some t) (Some nothing_written) at.done (state.IndentlessSequenceEntry ∷ ss)
+pub dashed_empty : (ss : List State) (t : Tok) → begins_node context.Block (kind_of t) ≡ false → Leaves at.dashed ss (Some t) (Some nothing_written) at.done (state.IndentlessSequenceEntry ∷ ss)
 dashed_empty ss t a = record { nested = λ n f. ((f, n), tt); comes = λ x' r'. ((no_node, r'.0), r'.1, refl, refl); goes = λ n f. dashed_empty_goes ss t a }
 
-dashed_node_goes : (ss : List State) (t : Tok) → EndsPart ss → kind_of t ≢ kind.BlockEntry → ends_part (kind_of t) ≡ false → (x : Perhaps × Dashes) → Stays at.dashed ss (Some t) None (at.node place.Block) (state.IndentlessSequenceEntry ∷ ss) x
+dashed_node_goes : (ss : List State) (t : Tok) → EndsPart ss → kind_of t ≢ kind.BlockEntry → ends_part (kind_of t) ≡ false → (x : Perhaps × Dashes) → Stays at.dashed ss (Some t) None (at.node context.Block) (state.IndentlessSequenceEntry ∷ ss) x
 dashed_node_goes ss t e a b (no_node, end_dashes) r h = absurd (clash ends_part _ t (e r) b h)
 dashed_node_goes ss t e a b (no_node, dash p d) r h = absurd (a (ap kind_of (sym h)))
 dashed_node_goes ss t e a b (some_node n, x) r h = (n, (x, r), refl, refl)
 
-pub dashed_node : (ss : List State) (t : Tok) → kind_of t ≢ kind.BlockEntry → ends_part (kind_of t) ≡ false → Leaves at.dashed ss (Some t) None (at.node place.Block) (state.IndentlessSequenceEntry ∷ ss)
+pub dashed_node : (ss : List State) (t : Tok) → kind_of t ≢ kind.BlockEntry → ends_part (kind_of t) ≡ false → Leaves at.dashed ss (Some t) None (at.node context.Block) (state.IndentlessSequenceEntry ∷ ss)
 dashed_node ss t a b = record { nested = λ n f. ((f, n), (after_dashes ss f.0, tt)); comes = λ x' r'. ((some_node x', r'.0), r'.1, refl, refl); goes = λ n f. dashed_node_goes ss t f.0 a b }
 
 -- ---- a block mapping
@@ -131,22 +131,22 @@ after_key_empty_goes ss t a (no_value k) r h = (tt, (k, r), refl, refl)
 pub after_key_empty : (ss : List State) (t : Tok) → kind_of t ≢ kind.Value → Leaves at.after_key ss (Some t) (Some nothing_written) at.done (state.BlockMappingNextKey ∷ ss)
 after_key_empty ss t a = record { nested = λ n f. ((f, n), tt); comes = λ x' r'. (no_value r'.0, r'.1, refl, refl); goes = λ n f. after_key_empty_goes ss t a }
 
-part_empty_goes : (ss : List State) (t : Tok) → begins_node place.Part (kind_of t) ≡ false → (x : Part) → Stays at.part ss (Some t) (Some nothing_written) at.done ss x
+part_empty_goes : (ss : List State) (t : Tok) → begins_node context.Part (kind_of t) ≡ false → (x : Part) → Stays at.part ss (Some t) (Some nothing_written) at.done ss x
 part_empty_goes ss t a (plain no_node) r h = (tt, r, refl, refl)
-part_empty_goes ss t a (plain (some_node n)) r h = absurd (clash (begins_node place.Part) _ t (node_at_first place.Part (part_node n) _) a h)
-part_empty_goes ss t a (indentless o p d) r h = absurd (clash (begins_node place.Part) _ t (node_at_first place.Part (part_sequence o p d) _) a h)
+part_empty_goes ss t a (plain (some_node n)) r h = absurd (clash (begins_node context.Part) _ t (node_at_first context.Part (part_node n) _) a h)
+part_empty_goes ss t a (indentless o p d) r h = absurd (clash (begins_node context.Part) _ t (node_at_first context.Part (part_sequence o p d) _) a h)
 
-pub part_empty : (ss : List State) (t : Tok) → begins_node place.Part (kind_of t) ≡ false → Leaves at.part ss (Some t) (Some nothing_written) at.done ss
+pub part_empty : (ss : List State) (t : Tok) → begins_node context.Part (kind_of t) ≡ false → Leaves at.part ss (Some t) (Some nothing_written) at.done ss
 part_empty ss t a = record { nested = λ n f. (n, f.1); comes = λ x' r'. (plain no_node, r', refl, refl); goes = λ n f. part_empty_goes ss t a }
 
-part_node_goes : (ss : List State) (t : Tok) → EndsPart ss → ends_part (kind_of t) ≡ false → (x : Part) → Stays at.part ss (Some t) None (at.node place.Part) ss x
+part_node_goes : (ss : List State) (t : Tok) → EndsPart ss → ends_part (kind_of t) ≡ false → (x : Part) → Stays at.part ss (Some t) None (at.node context.Part) ss x
 part_node_goes ss t e a (plain no_node) r h = absurd (clash ends_part _ t (e r) a h)
 part_node_goes ss t e a (plain (some_node n)) r h = (part_node n, r, refl, refl)
 part_node_goes ss t e a (indentless o p d) r h = (part_sequence o p d, r, refl, refl)
 
-part_node_comes : (ss : List State) (x : PartNode) → Comes at.part ss [] None (at.node place.Part) ss x
+part_node_comes : (ss : List State) (x : PartNode) → Comes at.part ss [] None (at.node context.Part) ss x
 part_node_comes ss (part_node n) r' = (plain (some_node n), r', refl, refl)
 part_node_comes ss (part_sequence o p d) r' = (indentless o p d, r', refl, refl)
 
-pub part_has_node : (ss : List State) (t : Tok) → ends_part (kind_of t) ≡ false → Leaves at.part ss (Some t) None (at.node place.Part) ss
+pub part_has_node : (ss : List State) (t : Tok) → ends_part (kind_of t) ≡ false → Leaves at.part ss (Some t) None (at.node context.Part) ss
 part_has_node ss t a = record { nested = λ n f. (n, f); comes = part_node_comes ss; goes = λ n f. part_node_goes ss t f.0 a }

@@ -4,7 +4,7 @@ use Rattle.defs_token.specs.Token.{Tok}
 use Rattle.defs_event.specs.Raw.{Raw, Directive, nothing_written}
 use Rattle.defs_event.specs.Grammar.{Perhaps, no_node, some_node, Documents, marker, bare, directed, others, Explicit, end_stream, explicit, After, marked, unmarked, directive_token}
 use Rattle.model_parser.specs.declared.kind.Kind.TheVariants as kind
-use Rattle.model_parser.specs.declared.place.NodeContext.TheVariants as place
+use Rattle.model_parser.specs.declared.context.NodeContext.TheVariants as context
 use Rattle.model_parser.specs.declared.state.State.{State}
 use Rattle.model_parser.specs.declared.state.State.TheVariants as state
 use Rattle.model_parser.specs.Kinds.{kind_of, begins_node, ends_document, is_directive}
@@ -28,7 +28,7 @@ start_refuses ss t a n f x r h = a (ap kind_of (sym h))
 
 documents_marker_goes : (ss : List State) (x : Documents) → Goes at.documents ss Tok.document_end None at.documents ss x
 documents_marker_goes ss (marker d) r ts h = (d, r, cc, refl)
-documents_marker_goes ss (bare n a) r ts h = absurd (clash_cons (begins_node place.Block) _ Tok.document_end ts (node_first n _) refl h)
+documents_marker_goes ss (bare n a) r ts h = absurd (clash_cons (begins_node context.Block) _ Tok.document_end ts (node_first n _) refl h)
 documents_marker_goes ss (directed (Directive.version m k) ds p a) r ts h = cc
 documents_marker_goes ss (directed (Directive.tag m k) ds p a) r ts h = cc
 documents_marker_goes ss (others end_stream) r ts h = cc
@@ -37,14 +37,14 @@ documents_marker_goes ss (others (explicit p a)) r ts h = cc
 pub documents_marker : (ss : List State) → Takes at.documents ss Tok.document_end None at.documents ss
 documents_marker ss = record { nested = λ n f. (n, f); comes = λ x' r'. (marker x', r', refl, refl); goes = λ n f. documents_marker_goes ss }
 
-documents_explicit_goes : (ss : List State) (t : Tok) → ends_document (kind_of t) ≡ true → kind_of t ≢ kind.DocumentEnd → begins_node place.Block (kind_of t) ≡ false → (x : Documents) → Stays at.documents ss (Some t) None at.explicit ss x
+documents_explicit_goes : (ss : List State) (t : Tok) → ends_document (kind_of t) ≡ true → kind_of t ≢ kind.DocumentEnd → begins_node context.Block (kind_of t) ≡ false → (x : Documents) → Stays at.documents ss (Some t) None at.explicit ss x
 documents_explicit_goes ss t e a b (marker d) r h = absurd (a (ap kind_of (sym h)))
-documents_explicit_goes ss t e a b (bare n x) r h = absurd (clash (begins_node place.Block) _ t (node_first n _) b h)
+documents_explicit_goes ss t e a b (bare n x) r h = absurd (clash (begins_node context.Block) _ t (node_first n _) b h)
 documents_explicit_goes ss t e a b (directed (Directive.version m k) ds p x) r h = absurd (true_is_not_false e (ap (λ t. ends_document (kind_of t)) (sym h)))
 documents_explicit_goes ss t e a b (directed (Directive.tag m k) ds p x) r h = absurd (true_is_not_false e (ap (λ t. ends_document (kind_of t)) (sym h)))
 documents_explicit_goes ss t e a b (others x) r h = (x, r, refl, refl)
 
-pub documents_explicit : (ss : List State) (t : Tok) → ends_document (kind_of t) ≡ true → kind_of t ≢ kind.DocumentEnd → begins_node place.Block (kind_of t) ≡ false → Leaves at.documents ss (Some t) None at.explicit ss
+pub documents_explicit : (ss : List State) (t : Tok) → ends_document (kind_of t) ≡ true → kind_of t ≢ kind.DocumentEnd → begins_node context.Block (kind_of t) ≡ false → Leaves at.documents ss (Some t) None at.explicit ss
 documents_explicit ss t e a b = record { nested = λ n f. (n, f); comes = λ x' r'. (others x', r', refl, refl); goes = λ n f. documents_explicit_goes ss t e a b }
 
 documents_bare_goes : (ss : List State) (t : Tok) → ends_document (kind_of t) ≡ false → is_directive (kind_of t) ≡ false → (x : Documents) → Stays at.documents ss (Some t) (Some (Raw.document_start [])) at.done (state.BlockNode ∷ state.DocumentEnd ∷ ss) x
@@ -60,9 +60,9 @@ documents_bare ss t e a = record { nested = λ n f. (((after_after ss, tt), (f, 
 
 -- ---- directives
 
-documents_directives_goes : (ss : List State) (t : Tok) → is_directive (kind_of t) ≡ true → begins_node place.Block (kind_of t) ≡ false → (x : Documents) → Stays at.documents ss (Some t) None (at.directed []) ss x
+documents_directives_goes : (ss : List State) (t : Tok) → is_directive (kind_of t) ≡ true → begins_node context.Block (kind_of t) ≡ false → (x : Documents) → Stays at.documents ss (Some t) None (at.directed []) ss x
 documents_directives_goes ss t e b (marker d) r h = absurd (true_is_not_false e (ap (λ t. is_directive (kind_of t)) (sym h)))
-documents_directives_goes ss t e b (bare n x) r h = absurd (clash (begins_node place.Block) _ t (node_first n _) b h)
+documents_directives_goes ss t e b (bare n x) r h = absurd (clash (begins_node context.Block) _ t (node_first n _) b h)
 documents_directives_goes ss t e b (directed d ds p x) r h = ((d ∷ ds, p, x), r, refl, refl)
 documents_directives_goes ss t e b (others end_stream) r h = absurd (true_is_not_false e (ap (λ t. is_directive (kind_of t)) (sym h)))
 documents_directives_goes ss t e b (others (explicit p x)) r h = absurd (true_is_not_false e (ap (λ t. is_directive (kind_of t)) (sym h)))
@@ -71,7 +71,7 @@ documents_directives_comes : (ss : List State) (x' : List Directive × Perhaps �
 documents_directives_comes ss ([], p, a) r' = (others (explicit p a), r', refl, refl)
 documents_directives_comes ss (d ∷ ds, p, a) r' = (directed d ds p a, r', refl, refl)
 
-pub documents_directives : (ss : List State) (t : Tok) → is_directive (kind_of t) ≡ true → begins_node place.Block (kind_of t) ≡ false → Leaves at.documents ss (Some t) None (at.directed []) ss
+pub documents_directives : (ss : List State) (t : Tok) → is_directive (kind_of t) ≡ true → begins_node context.Block (kind_of t) ≡ false → Leaves at.documents ss (Some t) None (at.directed []) ss
 documents_directives ss t e b = record { nested = λ n f. (n, f); comes = documents_directives_comes ss; goes = λ n f. documents_directives_goes ss t e b }
 
 directed_more_goes : (ss : List State) (read : List Directive) (d : Directive) (x : List Directive × Perhaps × After) → Goes (at.directed read) ss (directive_token d) None (at.directed (read ++ d ∷ [])) ss x
@@ -124,18 +124,18 @@ explicit_refuses ss t a b n f (explicit p x) r h = b (ap kind_of (sym h))
 
 -- ---- after `---`
 
-content_empty_goes : (ss : List State) (t : Tok) → begins_node place.Block (kind_of t) ≡ false → (x : Perhaps × After) → Stays at.content ss (Some t) (Some nothing_written) at.done (state.DocumentEnd ∷ ss) x
+content_empty_goes : (ss : List State) (t : Tok) → begins_node context.Block (kind_of t) ≡ false → (x : Perhaps × After) → Stays at.content ss (Some t) (Some nothing_written) at.done (state.DocumentEnd ∷ ss) x
 content_empty_goes ss t a (no_node, x) r h = (tt, (x, r), refl, refl)
-content_empty_goes ss t a (some_node n, x) r h = absurd (clash (begins_node place.Block) _ t (node_first n _) a h)
+content_empty_goes ss t a (some_node n, x) r h = absurd (clash (begins_node context.Block) _ t (node_first n _) a h)
 
-pub content_empty : (ss : List State) (t : Tok) → begins_node place.Block (kind_of t) ≡ false → Leaves at.content ss (Some t) (Some nothing_written) at.done (state.DocumentEnd ∷ ss)
+pub content_empty : (ss : List State) (t : Tok) → begins_node context.Block (kind_of t) ≡ false → Leaves at.content ss (Some t) (Some nothing_written) at.done (state.DocumentEnd ∷ ss)
 content_empty ss t a = record { nested = λ n f. ((f, n), tt); comes = λ x' r'. ((no_node, r'.0), r'.1, refl, refl); goes = λ n f. content_empty_goes ss t a }
 
-content_node_goes : (ss : List State) (t : Tok) → ends_document (kind_of t) ≡ false → (x : Perhaps × After) → Stays at.content ss (Some t) None (at.node place.Block) (state.DocumentEnd ∷ ss) x
+content_node_goes : (ss : List State) (t : Tok) → ends_document (kind_of t) ≡ false → (x : Perhaps × After) → Stays at.content ss (Some t) None (at.node context.Block) (state.DocumentEnd ∷ ss) x
 content_node_goes ss t a (no_node, x) r h = absurd (clash ends_document _ t (after_first x _) a h)
 content_node_goes ss t a (some_node n, x) r h = (n, (x, r), refl, refl)
 
-pub content_node : (ss : List State) (t : Tok) → ends_document (kind_of t) ≡ false → Leaves at.content ss (Some t) None (at.node place.Block) (state.DocumentEnd ∷ ss)
+pub content_node : (ss : List State) (t : Tok) → ends_document (kind_of t) ≡ false → Leaves at.content ss (Some t) None (at.node context.Block) (state.DocumentEnd ∷ ss)
 content_node ss t a = record { nested = λ n f. ((f, n), (after_after ss, tt)); comes = λ x' r'. ((some_node x', r'.0), r'.1, refl, refl); goes = λ n f. content_node_goes ss t a }
 
 -- ---- after a document's node

@@ -4,8 +4,8 @@ use Rattle.defs_token.specs.Token.{Tok}
 use Rattle.defs_event.specs.Grammar.{anchored, tagged, anchored_tagged, tagged_anchored, Properties, FlowNode, flow_alias, flow_content, flow_properties, FlowContent, scalar, flow_sequence, flow_mapping, MoreItems, end_items, comma_end_items, comma_item, FlowValue, no_flow_value, flow_value, MoreFlowPairs, end_flow_pairs, comma_end_flow_pairs, comma_flow_pair, Node, block_alias, block_content, block_properties, Content, flow, block_sequence, block_mapping, Entries, end_entries, entry, Dashes, end_dashes, dash, Pairs, keyed, keyless, end_pairs, key, AfterKey, value, no_value, end_stream, explicit, After, marked, unmarked, flow_node_tokens, flow_content_tokens, more_items_tokens, flow_value_tokens, more_flow_pairs_tokens, node_tokens, content_tokens, entries_tokens, dashes_tokens, pairs_tokens, after_key_tokens, after_tokens, properties_tokens}
 use Rattle.model_parser.specs.declared.kind.Kind.{Kind}
 use Rattle.model_parser.specs.declared.kind.Kind.TheVariants as kind
-use Rattle.model_parser.specs.declared.place.NodeContext.{NodeContext}
-use Rattle.model_parser.specs.declared.place.NodeContext.TheVariants as place
+use Rattle.model_parser.specs.declared.context.NodeContext.{NodeContext}
+use Rattle.model_parser.specs.declared.context.NodeContext.TheVariants as context
 use Rattle.model_parser.specs.declared.state.State.{State}
 use Rattle.model_parser.specs.declared.state.State.TheVariants as state
 use Rattle.model_parser.specs.Kinds.{kind_of, begins_content, begins_node, ends_part, ends_document, ends_item, ends_item_key, ends_flow_pair, ends_flow_key, tok_of_kind, has_no_text}
@@ -63,12 +63,12 @@ tok_is {t} {k} h e = sym (plain_tok t (ap has_no_text h ∙ e)) ∙ ap tok_of_ki
 
 -- ---- nodes
 
-pub flow_content_first : (c : FlowContent) (r : List Tok) → first_is (begins_content place.Flow) (flow_content_tokens c r) ≡ true
+pub flow_content_first : (c : FlowContent) (r : List Tok) → first_is (begins_content context.Flow) (flow_content_tokens c r) ≡ true
 flow_content_first (scalar s x) r = refl
 flow_content_first (flow_sequence i) r = refl
 flow_content_first (flow_mapping p) r = refl
 
-pub content_first : (c : Content) (r : List Tok) → first_is (begins_content place.Block) (content_tokens c r) ≡ true
+pub content_first : (c : Content) (r : List Tok) → first_is (begins_content context.Block) (content_tokens c r) ≡ true
 content_first (flow (scalar s x)) r = refl
 content_first (flow (flow_sequence i)) r = refl
 content_first (flow (flow_mapping p)) r = refl
@@ -76,14 +76,14 @@ content_first (block_sequence x) r = refl
 content_first (block_mapping x) r = refl
 
 pub content_at_first : (p : NodeContext) (c : ContentAt p) (r : List Tok) → first_is (begins_content p) (content_at_tokens p c r) ≡ true
-content_at_first place.Flow c r = flow_content_first c r
-content_at_first place.Block c r = content_first c r
-content_at_first place.Part (part_content (flow (scalar s x))) r = refl
-content_at_first place.Part (part_content (flow (flow_sequence i))) r = refl
-content_at_first place.Part (part_content (flow (flow_mapping i))) r = refl
-content_at_first place.Part (part_content (block_sequence i)) r = refl
-content_at_first place.Part (part_content (block_mapping i)) r = refl
-content_at_first place.Part (part_dashes q d) r = refl
+content_at_first context.Flow c r = flow_content_first c r
+content_at_first context.Block c r = content_first c r
+content_at_first context.Part (part_content (flow (scalar s x))) r = refl
+content_at_first context.Part (part_content (flow (flow_sequence i))) r = refl
+content_at_first context.Part (part_content (flow (flow_mapping i))) r = refl
+content_at_first context.Part (part_content (block_sequence i)) r = refl
+content_at_first context.Part (part_content (block_mapping i)) r = refl
+content_at_first context.Part (part_dashes q d) r = refl
 
 properties_first : (p : NodeContext) (o : Properties) (r : List Tok) → first_is (begins_node p) (properties_tokens o r) ≡ true
 properties_first p (anchored a) r = refl
@@ -91,40 +91,40 @@ properties_first p (tagged t) r = refl
 properties_first p (anchored_tagged a t) r = refl
 properties_first p (tagged_anchored t a) r = refl
 
-pub flow_node_first : (n : FlowNode) (r : List Tok) → first_is (begins_node place.Flow) (flow_node_tokens n r) ≡ true
+pub flow_node_first : (n : FlowNode) (r : List Tok) → first_is (begins_node context.Flow) (flow_node_tokens n r) ≡ true
 flow_node_first (flow_alias n) r = refl
 flow_node_first (flow_content None (scalar s x)) r = refl
 flow_node_first (flow_content None (flow_sequence i)) r = refl
 flow_node_first (flow_content None (flow_mapping i)) r = refl
-flow_node_first (flow_content (Some o) c) r = properties_first place.Flow o _
-flow_node_first (flow_properties o) r = properties_first place.Flow o _
+flow_node_first (flow_content (Some o) c) r = properties_first context.Flow o _
+flow_node_first (flow_properties o) r = properties_first context.Flow o _
 
-pub node_first : (n : Node) (r : List Tok) → first_is (begins_node place.Block) (node_tokens n r) ≡ true
+pub node_first : (n : Node) (r : List Tok) → first_is (begins_node context.Block) (node_tokens n r) ≡ true
 node_first (block_alias n) r = refl
 node_first (block_content None (flow (scalar s x))) r = refl
 node_first (block_content None (flow (flow_sequence i))) r = refl
 node_first (block_content None (flow (flow_mapping i))) r = refl
 node_first (block_content None (block_sequence i)) r = refl
 node_first (block_content None (block_mapping i)) r = refl
-node_first (block_content (Some o) c) r = properties_first place.Block o _
-node_first (block_properties o) r = properties_first place.Block o _
+node_first (block_content (Some o) c) r = properties_first context.Block o _
+node_first (block_properties o) r = properties_first context.Block o _
 
-part_node_first : (n : Node) (r : List Tok) → first_is (begins_node place.Part) (node_tokens n r) ≡ true
+part_node_first : (n : Node) (r : List Tok) → first_is (begins_node context.Part) (node_tokens n r) ≡ true
 part_node_first (block_alias n) r = refl
 part_node_first (block_content None (flow (scalar s x))) r = refl
 part_node_first (block_content None (flow (flow_sequence i))) r = refl
 part_node_first (block_content None (flow (flow_mapping i))) r = refl
 part_node_first (block_content None (block_sequence i)) r = refl
 part_node_first (block_content None (block_mapping i)) r = refl
-part_node_first (block_content (Some o) c) r = properties_first place.Part o _
-part_node_first (block_properties o) r = properties_first place.Part o _
+part_node_first (block_content (Some o) c) r = properties_first context.Part o _
+part_node_first (block_properties o) r = properties_first context.Part o _
 
 pub node_at_first : (p : NodeContext) (n : NodeAt p) (r : List Tok) → first_is (begins_node p) (node_at_tokens p n r) ≡ true
-node_at_first place.Flow n r = flow_node_first n r
-node_at_first place.Block n r = node_first n r
-node_at_first place.Part (part_node n) r = part_node_first n r
-node_at_first place.Part (part_sequence None p d) r = refl
-node_at_first place.Part (part_sequence (Some o) p d) r = properties_first place.Part o _
+node_at_first context.Flow n r = flow_node_first n r
+node_at_first context.Block n r = node_first n r
+node_at_first context.Part (part_node n) r = part_node_first n r
+node_at_first context.Part (part_sequence None p d) r = refl
+node_at_first context.Part (part_sequence (Some o) p d) r = properties_first context.Part o _
 
 -- ---- what stands after nodes
 
@@ -210,7 +210,7 @@ pair_is_key kind.FlowEntry h = refl
 pair_is_key kind.FlowMappingEnd h = refl
 pair_is_key _ h = cc
 
-pub block_begins_fewer : (k : Kind) → not (begins_node place.Block k) ≡ true → not (begins_node place.Flow k) ≡ true
+pub block_begins_fewer : (k : Kind) → not (begins_node context.Block k) ≡ true → not (begins_node context.Flow k) ≡ true
 block_begins_fewer kind.BlockSequenceStart h = refl
 block_begins_fewer kind.BlockMappingStart h = refl
 block_begins_fewer kind.Alias h = h
@@ -223,27 +223,27 @@ block_begins_fewer _ h = refl
 
 -- what stands under a node begins none
 pub after_begins_none : (p : NodeContext) (ss : List State) → EndsNode p ss → BeginsNoNode p ss
-after_begins_none place.Part ss b = ends_part_begins_none place.Part ss b
-after_begins_none place.Block ss b = b
-after_begins_none place.Flow ss b = b
+after_begins_none context.Part ss b = ends_part_begins_none context.Part ss b
+after_begins_none context.Block ss b = b
+after_begins_none context.Flow ss b = b
 
 -- ---- what may be pushed below a node
 
-pub after_after : (ss : List State) → BeginsNoNode place.Block (state.DocumentEnd ∷ ss)
-after_after ss r = first_more ends_document (λ k. not (begins_node place.Block k)) (document_no_node place.Block) _ (after_first r.0 _)
+pub after_after : (ss : List State) → BeginsNoNode context.Block (state.DocumentEnd ∷ ss)
+after_after ss r = first_more ends_document (λ k. not (begins_node context.Block k)) (document_no_node context.Block) _ (after_first r.0 _)
 
-entries_first : (x : Entries) (r : List Tok) → first_is (λ k. not (begins_node place.Block k)) (entries_tokens x r) ≡ true
+entries_first : (x : Entries) (r : List Tok) → first_is (λ k. not (begins_node context.Block k)) (entries_tokens x r) ≡ true
 entries_first end_entries r = refl
 entries_first (entry p x) r = refl
 
-pub after_entries : (ss : List State) → BeginsNoNode place.Block (state.BlockSequenceEntry ∷ ss)
+pub after_entries : (ss : List State) → BeginsNoNode context.Block (state.BlockSequenceEntry ∷ ss)
 after_entries ss r = entries_first r.0 _
 
-dashes_first : (d : Dashes) (ss : List State) → EndsPart ss → (r : Rest ss) → first_is (λ k. not (begins_node place.Block k)) (dashes_tokens d (rest_tokens ss r)) ≡ true
-dashes_first end_dashes ss e r = ends_part_begins_none place.Block ss e r
+dashes_first : (d : Dashes) (ss : List State) → EndsPart ss → (r : Rest ss) → first_is (λ k. not (begins_node context.Block k)) (dashes_tokens d (rest_tokens ss r)) ≡ true
+dashes_first end_dashes ss e r = ends_part_begins_none context.Block ss e r
 dashes_first (dash p d) ss e r = refl
 
-pub after_dashes : (ss : List State) → EndsPart ss → BeginsNoNode place.Block (state.IndentlessSequenceEntry ∷ ss)
+pub after_dashes : (ss : List State) → EndsPart ss → BeginsNoNode context.Block (state.IndentlessSequenceEntry ∷ ss)
 after_dashes ss e r = dashes_first r.0 ss e r.1
 
 pub after_pairs : (ss : List State) → EndsPart (state.BlockMappingKey ∷ ss)
@@ -252,23 +252,23 @@ after_pairs ss r = pairs_first r.0 _
 pub after_after_key : (ss : List State) → EndsPart (state.BlockMappingValue ∷ ss)
 after_after_key ss r = after_key_first r.0 _
 
-pub after_more_items : (ss : List State) → BeginsNoNode place.Flow (state.FlowSequenceEntry ∷ ss)
-after_more_items ss r = first_more ends_item (λ k. not (begins_node place.Flow k)) (λ k h. item_no_node place.Flow k (item_is_key k h)) _ (more_items_first r.0 _)
+pub after_more_items : (ss : List State) → BeginsNoNode context.Flow (state.FlowSequenceEntry ∷ ss)
+after_more_items ss r = first_more ends_item (λ k. not (begins_node context.Flow k)) (λ k h. item_no_node context.Flow k (item_is_key k h)) _ (more_items_first r.0 _)
 
-pub after_pair_value : (ss : List State) → BeginsNoNode place.Flow (state.FlowSequenceEntryMappingValue ∷ ss)
-after_pair_value ss r = first_more ends_item_key (λ k. not (begins_node place.Flow k)) (item_no_node place.Flow) _ (item_key_first r.0.0 r.0.1 _)
+pub after_pair_value : (ss : List State) → BeginsNoNode context.Flow (state.FlowSequenceEntryMappingValue ∷ ss)
+after_pair_value ss r = first_more ends_item_key (λ k. not (begins_node context.Flow k)) (item_no_node context.Flow) _ (item_key_first r.0.0 r.0.1 _)
 
-pub after_pair_end : (ss : List State) → BeginsNoNode place.Flow (state.FlowSequenceEntryMappingEnd ∷ ss)
-after_pair_end ss r = first_more ends_item (λ k. not (begins_node place.Flow k)) (λ k h. item_no_node place.Flow k (item_is_key k h)) _ (more_items_first r.0 _)
+pub after_pair_end : (ss : List State) → BeginsNoNode context.Flow (state.FlowSequenceEntryMappingEnd ∷ ss)
+after_pair_end ss r = first_more ends_item (λ k. not (begins_node context.Flow k)) (λ k h. item_no_node context.Flow k (item_is_key k h)) _ (more_items_first r.0 _)
 
-pub after_more_flow : (ss : List State) → BeginsNoNode place.Flow (state.FlowMappingKey ∷ ss)
-after_more_flow ss r = first_more ends_flow_pair (λ k. not (begins_node place.Flow k)) (λ k h. flow_pair_no_node place.Flow k (pair_is_key k h)) _ (more_pairs_first r.0 _)
+pub after_more_flow : (ss : List State) → BeginsNoNode context.Flow (state.FlowMappingKey ∷ ss)
+after_more_flow ss r = first_more ends_flow_pair (λ k. not (begins_node context.Flow k)) (λ k h. flow_pair_no_node context.Flow k (pair_is_key k h)) _ (more_pairs_first r.0 _)
 
-pub after_flow_value : (ss : List State) → BeginsNoNode place.Flow (state.FlowMappingValue ∷ ss)
-after_flow_value ss r = first_more ends_flow_key (λ k. not (begins_node place.Flow k)) (flow_pair_no_node place.Flow) _ (flow_key_first r.0.0 r.0.1 _)
+pub after_flow_value : (ss : List State) → BeginsNoNode context.Flow (state.FlowMappingValue ∷ ss)
+after_flow_value ss r = first_more ends_flow_key (λ k. not (begins_node context.Flow k)) (flow_pair_no_node context.Flow) _ (flow_key_first r.0.0 r.0.1 _)
 
-pub after_flow_empty : (ss : List State) → BeginsNoNode place.Flow (state.FlowMappingEmptyValue ∷ ss)
-after_flow_empty ss r = first_more ends_flow_pair (λ k. not (begins_node place.Flow k)) (λ k h. flow_pair_no_node place.Flow k (pair_is_key k h)) _ (more_pairs_first r.0 _)
+pub after_flow_empty : (ss : List State) → BeginsNoNode context.Flow (state.FlowMappingEmptyValue ∷ ss)
+after_flow_empty ss r = first_more ends_flow_pair (λ k. not (begins_node context.Flow k)) (λ k h. flow_pair_no_node context.Flow k (pair_is_key k h)) _ (more_pairs_first r.0 _)
 
 -- ---- a kind that is none of several
 

@@ -5,7 +5,7 @@ use Rattle.defs_token.specs.Token.{Tok}
 use Rattle.defs_event.specs.Raw.{Raw, nothing_written}
 use Rattle.defs_event.specs.Grammar.{PerhapsFlow, no_flow, some_flow, Items, no_items, items, MoreItems, end_items, comma_end_items, comma_item, Item, single, single_pair, FlowValue, no_flow_value, flow_value, FlowPairs, no_flow_pairs, flow_pairs, MoreFlowPairs, end_flow_pairs, comma_end_flow_pairs, comma_flow_pair, FlowPair, flow_keyed, flow_keyless, flow_single}
 use Rattle.model_parser.specs.declared.kind.Kind.TheVariants as kind
-use Rattle.model_parser.specs.declared.place.NodeContext.TheVariants as place
+use Rattle.model_parser.specs.declared.context.NodeContext.TheVariants as context
 use Rattle.model_parser.specs.declared.state.State.{State}
 use Rattle.model_parser.specs.declared.state.State.TheVariants as state
 use Rattle.model_parser.specs.Kinds.{kind_of, begins_node, ends_item, ends_item_key, ends_flow_pair, ends_flow_key}
@@ -19,7 +19,7 @@ use Rattle.model_parser.proofs.Nodes.{tail_eq}
 
 items_end_goes : (ss : List State) (x : Items) → Goes at.items ss Tok.flow_sequence_end (Some Raw.sequence_end) at.done ss x
 items_end_goes ss no_items r ts h = (tt, r, tail_eq h, refl)
-items_end_goes ss (items (single n) m) r ts h = absurd (clash_cons (begins_node place.Flow) _ Tok.flow_sequence_end ts (flow_node_first n _) refl h)
+items_end_goes ss (items (single n) m) r ts h = absurd (clash_cons (begins_node context.Flow) _ Tok.flow_sequence_end ts (flow_node_first n _) refl h)
 items_end_goes ss (items (single_pair k v) m) r ts h = cc
 
 pub items_end : (ss : List State) → Takes at.items ss Tok.flow_sequence_end (Some Raw.sequence_end) at.done ss
@@ -59,7 +59,7 @@ more_items_refuses ss t a b n f (comma_item i m) r h = b (ap kind_of (sym h))
 
 comma_items_end_goes : (ss : List State) (x : Comma) → Goes at.comma_items ss Tok.flow_sequence_end (Some Raw.sequence_end) at.done ss x
 comma_items_end_goes ss last r ts h = (tt, r, tail_eq h, refl)
-comma_items_end_goes ss (another (single n) m) r ts h = absurd (clash_cons (begins_node place.Flow) _ Tok.flow_sequence_end ts (flow_node_first n _) refl h)
+comma_items_end_goes ss (another (single n) m) r ts h = absurd (clash_cons (begins_node context.Flow) _ Tok.flow_sequence_end ts (flow_node_first n _) refl h)
 comma_items_end_goes ss (another (single_pair k v) m) r ts h = cc
 
 pub comma_items_end : (ss : List State) → Takes at.comma_items ss Tok.flow_sequence_end (Some Raw.sequence_end) at.done ss
@@ -73,33 +73,33 @@ pub comma_items_item : (ss : List State) (t : Tok) → kind_of t ≢ kind.FlowSe
 comma_items_item ss t a = record { nested = λ n f. (n, f); comes = λ x' r'. (another x'.0 x'.1, r', refl, refl); goes = λ n f. comma_items_item_goes ss t a }
 
 item_key_goes : (ss : List State) (x : Item × MoreItems) → Goes at.item ss Tok.key (Some (Raw.mapping_start None None)) at.done (state.FlowSequenceEntryMappingKey ∷ ss) x
-item_key_goes ss (single n, m) r ts h = absurd (clash_cons (begins_node place.Flow) _ Tok.key ts (flow_node_first n _) refl h)
+item_key_goes ss (single n, m) r ts h = absurd (clash_cons (begins_node context.Flow) _ Tok.key ts (flow_node_first n _) refl h)
 item_key_goes ss (single_pair k v, m) r ts h = (tt, ((k, v, m), r), tail_eq h, refl)
 
 pub item_key : (ss : List State) → Takes at.item ss Tok.key (Some (Raw.mapping_start None None)) at.done (state.FlowSequenceEntryMappingKey ∷ ss)
 item_key ss = record { nested = λ n f. ((f, n), tt); comes = λ x' r'. ((single_pair r'.0.0 r'.0.1, r'.0.2), r'.1, refl, refl); goes = λ n f. item_key_goes ss }
 
-item_node_goes : (ss : List State) (t : Tok) → kind_of t ≢ kind.Key → (x : Item × MoreItems) → Stays at.item ss (Some t) None (at.node place.Flow) (state.FlowSequenceEntry ∷ ss) x
+item_node_goes : (ss : List State) (t : Tok) → kind_of t ≢ kind.Key → (x : Item × MoreItems) → Stays at.item ss (Some t) None (at.node context.Flow) (state.FlowSequenceEntry ∷ ss) x
 item_node_goes ss t a (single n, m) r h = (n, (m, r), refl, refl)
 item_node_goes ss t a (single_pair k v, m) r h = absurd (a (ap kind_of (sym h)))
 
-pub item_node : (ss : List State) (t : Tok) → kind_of t ≢ kind.Key → Leaves at.item ss (Some t) None (at.node place.Flow) (state.FlowSequenceEntry ∷ ss)
+pub item_node : (ss : List State) (t : Tok) → kind_of t ≢ kind.Key → Leaves at.item ss (Some t) None (at.node context.Flow) (state.FlowSequenceEntry ∷ ss)
 item_node ss t a = record { nested = λ n f. ((f, n), (after_more_items ss, tt)); comes = λ x' r'. ((single x', r'.0), r'.1, refl, refl); goes = λ n f. item_node_goes ss t a }
 
 -- ---- a pair that is an item
 
-pair_key_empty_goes : (ss : List State) (t : Tok) → begins_node place.Flow (kind_of t) ≡ false → (x : PerhapsFlow × FlowValue × MoreItems) → Stays at.pair_key ss (Some t) (Some nothing_written) at.done (state.FlowSequenceEntryMappingValue ∷ ss) x
+pair_key_empty_goes : (ss : List State) (t : Tok) → begins_node context.Flow (kind_of t) ≡ false → (x : PerhapsFlow × FlowValue × MoreItems) → Stays at.pair_key ss (Some t) (Some nothing_written) at.done (state.FlowSequenceEntryMappingValue ∷ ss) x
 pair_key_empty_goes ss t a (no_flow, v, m) r h = (tt, ((v, m), r), refl, refl)
-pair_key_empty_goes ss t a (some_flow n, v, m) r h = absurd (clash (begins_node place.Flow) _ t (flow_node_first n _) a h)
+pair_key_empty_goes ss t a (some_flow n, v, m) r h = absurd (clash (begins_node context.Flow) _ t (flow_node_first n _) a h)
 
-pub pair_key_empty : (ss : List State) (t : Tok) → begins_node place.Flow (kind_of t) ≡ false → Leaves at.pair_key ss (Some t) (Some nothing_written) at.done (state.FlowSequenceEntryMappingValue ∷ ss)
+pub pair_key_empty : (ss : List State) (t : Tok) → begins_node context.Flow (kind_of t) ≡ false → Leaves at.pair_key ss (Some t) (Some nothing_written) at.done (state.FlowSequenceEntryMappingValue ∷ ss)
 pair_key_empty ss t a = record { nested = λ n f. ((f, n), tt); comes = λ x' r'. ((no_flow, r'.0.0, r'.0.1), r'.1, refl, refl); goes = λ n f. pair_key_empty_goes ss t a }
 
-pair_key_node_goes : (ss : List State) (t : Tok) → ends_item_key (kind_of t) ≡ false → (x : PerhapsFlow × FlowValue × MoreItems) → Stays at.pair_key ss (Some t) None (at.node place.Flow) (state.FlowSequenceEntryMappingValue ∷ ss) x
+pair_key_node_goes : (ss : List State) (t : Tok) → ends_item_key (kind_of t) ≡ false → (x : PerhapsFlow × FlowValue × MoreItems) → Stays at.pair_key ss (Some t) None (at.node context.Flow) (state.FlowSequenceEntryMappingValue ∷ ss) x
 pair_key_node_goes ss t a (no_flow, v, m) r h = absurd (clash ends_item_key _ t (item_key_first v m _) a h)
 pair_key_node_goes ss t a (some_flow n, v, m) r h = (n, ((v, m), r), refl, refl)
 
-pub pair_key_node : (ss : List State) (t : Tok) → ends_item_key (kind_of t) ≡ false → Leaves at.pair_key ss (Some t) None (at.node place.Flow) (state.FlowSequenceEntryMappingValue ∷ ss)
+pub pair_key_node : (ss : List State) (t : Tok) → ends_item_key (kind_of t) ≡ false → Leaves at.pair_key ss (Some t) None (at.node context.Flow) (state.FlowSequenceEntryMappingValue ∷ ss)
 pair_key_node ss t a = record { nested = λ n f. ((f, n), (after_pair_value ss, tt)); comes = λ x' r'. ((some_flow x', r'.0.0, r'.0.1), r'.1, refl, refl); goes = λ n f. pair_key_node_goes ss t a }
 
 pair_value_value_goes : (ss : List State) (x : FlowValue × MoreItems) → Goes at.pair_value ss Tok.value None at.pair_valued ss x
@@ -118,18 +118,18 @@ pair_value_empty_goes ss t a (flow_value v, m) r h = absurd (a (ap kind_of (sym 
 pub pair_value_empty : (ss : List State) (t : Tok) → kind_of t ≢ kind.Value → Leaves at.pair_value ss (Some t) (Some nothing_written) at.done (state.FlowSequenceEntryMappingEnd ∷ ss)
 pair_value_empty ss t a = record { nested = λ n f. ((f, n), tt); comes = λ x' r'. ((no_flow_value, r'.0), r'.1, refl, refl); goes = λ n f. pair_value_empty_goes ss t a }
 
-pair_valued_empty_goes : (ss : List State) (t : Tok) → begins_node place.Flow (kind_of t) ≡ false → (x : PerhapsFlow × MoreItems) → Stays at.pair_valued ss (Some t) (Some nothing_written) at.done (state.FlowSequenceEntryMappingEnd ∷ ss) x
+pair_valued_empty_goes : (ss : List State) (t : Tok) → begins_node context.Flow (kind_of t) ≡ false → (x : PerhapsFlow × MoreItems) → Stays at.pair_valued ss (Some t) (Some nothing_written) at.done (state.FlowSequenceEntryMappingEnd ∷ ss) x
 pair_valued_empty_goes ss t a (no_flow, m) r h = (tt, (m, r), refl, refl)
-pair_valued_empty_goes ss t a (some_flow n, m) r h = absurd (clash (begins_node place.Flow) _ t (flow_node_first n _) a h)
+pair_valued_empty_goes ss t a (some_flow n, m) r h = absurd (clash (begins_node context.Flow) _ t (flow_node_first n _) a h)
 
-pub pair_valued_empty : (ss : List State) (t : Tok) → begins_node place.Flow (kind_of t) ≡ false → Leaves at.pair_valued ss (Some t) (Some nothing_written) at.done (state.FlowSequenceEntryMappingEnd ∷ ss)
+pub pair_valued_empty : (ss : List State) (t : Tok) → begins_node context.Flow (kind_of t) ≡ false → Leaves at.pair_valued ss (Some t) (Some nothing_written) at.done (state.FlowSequenceEntryMappingEnd ∷ ss)
 pair_valued_empty ss t a = record { nested = λ n f. ((f, n), tt); comes = λ x' r'. ((no_flow, r'.0), r'.1, refl, refl); goes = λ n f. pair_valued_empty_goes ss t a }
 
-pair_valued_node_goes : (ss : List State) (t : Tok) → ends_item (kind_of t) ≡ false → (x : PerhapsFlow × MoreItems) → Stays at.pair_valued ss (Some t) None (at.node place.Flow) (state.FlowSequenceEntryMappingEnd ∷ ss) x
+pair_valued_node_goes : (ss : List State) (t : Tok) → ends_item (kind_of t) ≡ false → (x : PerhapsFlow × MoreItems) → Stays at.pair_valued ss (Some t) None (at.node context.Flow) (state.FlowSequenceEntryMappingEnd ∷ ss) x
 pair_valued_node_goes ss t a (no_flow, m) r h = absurd (clash ends_item _ t (more_items_first m _) a h)
 pair_valued_node_goes ss t a (some_flow n, m) r h = (n, (m, r), refl, refl)
 
-pub pair_valued_node : (ss : List State) (t : Tok) → ends_item (kind_of t) ≡ false → Leaves at.pair_valued ss (Some t) None (at.node place.Flow) (state.FlowSequenceEntryMappingEnd ∷ ss)
+pub pair_valued_node : (ss : List State) (t : Tok) → ends_item (kind_of t) ≡ false → Leaves at.pair_valued ss (Some t) None (at.node context.Flow) (state.FlowSequenceEntryMappingEnd ∷ ss)
 pair_valued_node ss t a = record { nested = λ n f. ((f, n), (after_pair_end ss, tt)); comes = λ x' r'. ((some_flow x', r'.0), r'.1, refl, refl); goes = λ n f. pair_valued_node_goes ss t a }
 
 pub pair_ends : (ss : List State) (p : Option Tok) → Leaves at.pair_end ss p (Some Raw.mapping_end) at.done (state.FlowSequenceEntry ∷ ss)
@@ -141,7 +141,7 @@ flow_pairs_end_goes : (ss : List State) (x : FlowPairs) → Goes at.flow_pairs s
 flow_pairs_end_goes ss no_flow_pairs r ts h = (tt, r, tail_eq h, refl)
 flow_pairs_end_goes ss (flow_pairs (flow_keyed k v) m) r ts h = cc
 flow_pairs_end_goes ss (flow_pairs (flow_keyless v) m) r ts h = cc
-flow_pairs_end_goes ss (flow_pairs (flow_single n) m) r ts h = absurd (clash_cons (begins_node place.Flow) _ Tok.flow_mapping_end ts (flow_node_first n _) refl h)
+flow_pairs_end_goes ss (flow_pairs (flow_single n) m) r ts h = absurd (clash_cons (begins_node context.Flow) _ Tok.flow_mapping_end ts (flow_node_first n _) refl h)
 
 pub flow_pairs_end : (ss : List State) → Takes at.flow_pairs ss Tok.flow_mapping_end (Some Raw.mapping_end) at.done ss
 flow_pairs_end ss = record { nested = λ n f. (n, f); comes = λ x' r'. (no_flow_pairs, r', refl, refl); goes = λ n f. flow_pairs_end_goes ss }
@@ -182,7 +182,7 @@ comma_flow_end_goes : (ss : List State) (x : FlowComma) → Goes at.comma_flow_p
 comma_flow_end_goes ss last_pair r ts h = (tt, r, tail_eq h, refl)
 comma_flow_end_goes ss (another_pair (flow_keyed k v) m) r ts h = cc
 comma_flow_end_goes ss (another_pair (flow_keyless v) m) r ts h = cc
-comma_flow_end_goes ss (another_pair (flow_single n) m) r ts h = absurd (clash_cons (begins_node place.Flow) _ Tok.flow_mapping_end ts (flow_node_first n _) refl h)
+comma_flow_end_goes ss (another_pair (flow_single n) m) r ts h = absurd (clash_cons (begins_node context.Flow) _ Tok.flow_mapping_end ts (flow_node_first n _) refl h)
 
 pub comma_flow_end : (ss : List State) → Takes at.comma_flow_pairs ss Tok.flow_mapping_end (Some Raw.mapping_end) at.done ss
 comma_flow_end ss = record { nested = λ n f. (n, f); comes = λ x' r'. (last_pair, r', refl, refl); goes = λ n f. comma_flow_end_goes ss }
@@ -197,7 +197,7 @@ comma_flow_has_pair ss t a = record { nested = λ n f. (n, f); comes = λ x' r'.
 flow_pair_key_goes : (ss : List State) (x : FlowPair × MoreFlowPairs) → Goes at.flow_pair ss Tok.key None at.flow_key ss x
 flow_pair_key_goes ss (flow_keyed k v, m) r ts h = ((k, v, m), r, tail_eq h, refl)
 flow_pair_key_goes ss (flow_keyless v, m) r ts h = cc
-flow_pair_key_goes ss (flow_single n, m) r ts h = absurd (clash_cons (begins_node place.Flow) _ Tok.key ts (flow_node_first n _) refl h)
+flow_pair_key_goes ss (flow_single n, m) r ts h = absurd (clash_cons (begins_node context.Flow) _ Tok.key ts (flow_node_first n _) refl h)
 
 pub flow_pair_key : (ss : List State) → Takes at.flow_pair ss Tok.key None at.flow_key ss
 flow_pair_key ss = record { nested = λ n f. (n, f); comes = λ x' r'. ((flow_keyed x'.0 x'.1, x'.2), r', refl, refl); goes = λ n f. flow_pair_key_goes ss }
@@ -205,31 +205,31 @@ flow_pair_key ss = record { nested = λ n f. (n, f); comes = λ x' r'. ((flow_ke
 flow_pair_value_goes : (ss : List State) (colon : chars.Position) (x : FlowPair × MoreFlowPairs) → Goes at.flow_pair ss Tok.value (Some nothing_written) at.done (state.FlowMappingPart colon ∷ ss) x
 flow_pair_value_goes ss colon (flow_keyed k v, m) r ts h = cc
 flow_pair_value_goes ss colon (flow_keyless v, m) r ts h = (tt, ((v, m), r), tail_eq h, refl)
-flow_pair_value_goes ss colon (flow_single n, m) r ts h = absurd (clash_cons (begins_node place.Flow) _ Tok.value ts (flow_node_first n _) refl h)
+flow_pair_value_goes ss colon (flow_single n, m) r ts h = absurd (clash_cons (begins_node context.Flow) _ Tok.value ts (flow_node_first n _) refl h)
 
 pub flow_pair_value : (ss : List State) (colon : chars.Position) → Takes at.flow_pair ss Tok.value (Some nothing_written) at.done (state.FlowMappingPart colon ∷ ss)
 flow_pair_value ss colon = record { nested = λ n f. ((f, n), tt); comes = λ x' r'. ((flow_keyless r'.0.0, r'.0.1), r'.1, refl, refl); goes = λ n f. flow_pair_value_goes ss colon }
 
-flow_pair_node_goes : (ss : List State) (t : Tok) → kind_of t ≢ kind.Key → kind_of t ≢ kind.Value → (x : FlowPair × MoreFlowPairs) → Stays at.flow_pair ss (Some t) None (at.node place.Flow) (state.FlowMappingEmptyValue ∷ ss) x
+flow_pair_node_goes : (ss : List State) (t : Tok) → kind_of t ≢ kind.Key → kind_of t ≢ kind.Value → (x : FlowPair × MoreFlowPairs) → Stays at.flow_pair ss (Some t) None (at.node context.Flow) (state.FlowMappingEmptyValue ∷ ss) x
 flow_pair_node_goes ss t a b (flow_keyed k v, m) r h = absurd (a (ap kind_of (sym h)))
 flow_pair_node_goes ss t a b (flow_keyless v, m) r h = absurd (b (ap kind_of (sym h)))
 flow_pair_node_goes ss t a b (flow_single n, m) r h = (n, (m, r), refl, refl)
 
-pub flow_pair_node : (ss : List State) (t : Tok) → kind_of t ≢ kind.Key → kind_of t ≢ kind.Value → Leaves at.flow_pair ss (Some t) None (at.node place.Flow) (state.FlowMappingEmptyValue ∷ ss)
+pub flow_pair_node : (ss : List State) (t : Tok) → kind_of t ≢ kind.Key → kind_of t ≢ kind.Value → Leaves at.flow_pair ss (Some t) None (at.node context.Flow) (state.FlowMappingEmptyValue ∷ ss)
 flow_pair_node ss t a b = record { nested = λ n f. ((f, n), (after_flow_empty ss, tt)); comes = λ x' r'. ((flow_single x', r'.0), r'.1, refl, refl); goes = λ n f. flow_pair_node_goes ss t a b }
 
-flow_key_empty_goes : (ss : List State) (t : Tok) → begins_node place.Flow (kind_of t) ≡ false → (x : PerhapsFlow × FlowValue × MoreFlowPairs) → Stays at.flow_key ss (Some t) (Some nothing_written) at.done (state.FlowMappingValue ∷ ss) x
+flow_key_empty_goes : (ss : List State) (t : Tok) → begins_node context.Flow (kind_of t) ≡ false → (x : PerhapsFlow × FlowValue × MoreFlowPairs) → Stays at.flow_key ss (Some t) (Some nothing_written) at.done (state.FlowMappingValue ∷ ss) x
 flow_key_empty_goes ss t a (no_flow, v, m) r h = (tt, ((v, m), r), refl, refl)
-flow_key_empty_goes ss t a (some_flow n, v, m) r h = absurd (clash (begins_node place.Flow) _ t (flow_node_first n _) a h)
+flow_key_empty_goes ss t a (some_flow n, v, m) r h = absurd (clash (begins_node context.Flow) _ t (flow_node_first n _) a h)
 
-pub flow_key_empty : (ss : List State) (t : Tok) → begins_node place.Flow (kind_of t) ≡ false → Leaves at.flow_key ss (Some t) (Some nothing_written) at.done (state.FlowMappingValue ∷ ss)
+pub flow_key_empty : (ss : List State) (t : Tok) → begins_node context.Flow (kind_of t) ≡ false → Leaves at.flow_key ss (Some t) (Some nothing_written) at.done (state.FlowMappingValue ∷ ss)
 flow_key_empty ss t a = record { nested = λ n f. ((f, n), tt); comes = λ x' r'. ((no_flow, r'.0.0, r'.0.1), r'.1, refl, refl); goes = λ n f. flow_key_empty_goes ss t a }
 
-flow_key_node_goes : (ss : List State) (t : Tok) → ends_flow_key (kind_of t) ≡ false → (x : PerhapsFlow × FlowValue × MoreFlowPairs) → Stays at.flow_key ss (Some t) None (at.node place.Flow) (state.FlowMappingValue ∷ ss) x
+flow_key_node_goes : (ss : List State) (t : Tok) → ends_flow_key (kind_of t) ≡ false → (x : PerhapsFlow × FlowValue × MoreFlowPairs) → Stays at.flow_key ss (Some t) None (at.node context.Flow) (state.FlowMappingValue ∷ ss) x
 flow_key_node_goes ss t a (no_flow, v, m) r h = absurd (clash ends_flow_key _ t (flow_key_first v m _) a h)
 flow_key_node_goes ss t a (some_flow n, v, m) r h = (n, ((v, m), r), refl, refl)
 
-pub flow_key_node : (ss : List State) (t : Tok) → ends_flow_key (kind_of t) ≡ false → Leaves at.flow_key ss (Some t) None (at.node place.Flow) (state.FlowMappingValue ∷ ss)
+pub flow_key_node : (ss : List State) (t : Tok) → ends_flow_key (kind_of t) ≡ false → Leaves at.flow_key ss (Some t) None (at.node context.Flow) (state.FlowMappingValue ∷ ss)
 flow_key_node ss t a = record { nested = λ n f. ((f, n), (after_flow_value ss, tt)); comes = λ x' r'. ((some_flow x', r'.0.0, r'.0.1), r'.1, refl, refl); goes = λ n f. flow_key_node_goes ss t a }
 
 flow_after_value_goes : (ss : List State) (x : FlowValue × MoreFlowPairs) → Goes at.flow_after_key ss Tok.value None at.flow_valued ss x
@@ -248,18 +248,18 @@ flow_after_empty_goes ss t a (flow_value v, m) r h = absurd (a (ap kind_of (sym 
 pub flow_after_empty : (ss : List State) (t : Tok) → kind_of t ≢ kind.Value → Leaves at.flow_after_key ss (Some t) (Some nothing_written) at.done (state.FlowMappingKey ∷ ss)
 flow_after_empty ss t a = record { nested = λ n f. ((f, n), tt); comes = λ x' r'. ((no_flow_value, r'.0), r'.1, refl, refl); goes = λ n f. flow_after_empty_goes ss t a }
 
-flow_valued_empty_goes : (ss : List State) (t : Tok) → begins_node place.Flow (kind_of t) ≡ false → (x : PerhapsFlow × MoreFlowPairs) → Stays at.flow_valued ss (Some t) (Some nothing_written) at.done (state.FlowMappingKey ∷ ss) x
+flow_valued_empty_goes : (ss : List State) (t : Tok) → begins_node context.Flow (kind_of t) ≡ false → (x : PerhapsFlow × MoreFlowPairs) → Stays at.flow_valued ss (Some t) (Some nothing_written) at.done (state.FlowMappingKey ∷ ss) x
 flow_valued_empty_goes ss t a (no_flow, m) r h = (tt, (m, r), refl, refl)
-flow_valued_empty_goes ss t a (some_flow n, m) r h = absurd (clash (begins_node place.Flow) _ t (flow_node_first n _) a h)
+flow_valued_empty_goes ss t a (some_flow n, m) r h = absurd (clash (begins_node context.Flow) _ t (flow_node_first n _) a h)
 
-pub flow_valued_empty : (ss : List State) (t : Tok) → begins_node place.Flow (kind_of t) ≡ false → Leaves at.flow_valued ss (Some t) (Some nothing_written) at.done (state.FlowMappingKey ∷ ss)
+pub flow_valued_empty : (ss : List State) (t : Tok) → begins_node context.Flow (kind_of t) ≡ false → Leaves at.flow_valued ss (Some t) (Some nothing_written) at.done (state.FlowMappingKey ∷ ss)
 flow_valued_empty ss t a = record { nested = λ n f. ((f, n), tt); comes = λ x' r'. ((no_flow, r'.0), r'.1, refl, refl); goes = λ n f. flow_valued_empty_goes ss t a }
 
-flow_valued_node_goes : (ss : List State) (t : Tok) → ends_flow_pair (kind_of t) ≡ false → (x : PerhapsFlow × MoreFlowPairs) → Stays at.flow_valued ss (Some t) None (at.node place.Flow) (state.FlowMappingKey ∷ ss) x
+flow_valued_node_goes : (ss : List State) (t : Tok) → ends_flow_pair (kind_of t) ≡ false → (x : PerhapsFlow × MoreFlowPairs) → Stays at.flow_valued ss (Some t) None (at.node context.Flow) (state.FlowMappingKey ∷ ss) x
 flow_valued_node_goes ss t a (no_flow, m) r h = absurd (clash ends_flow_pair _ t (more_pairs_first m _) a h)
 flow_valued_node_goes ss t a (some_flow n, m) r h = (n, (m, r), refl, refl)
 
-pub flow_valued_node : (ss : List State) (t : Tok) → ends_flow_pair (kind_of t) ≡ false → Leaves at.flow_valued ss (Some t) None (at.node place.Flow) (state.FlowMappingKey ∷ ss)
+pub flow_valued_node : (ss : List State) (t : Tok) → ends_flow_pair (kind_of t) ≡ false → Leaves at.flow_valued ss (Some t) None (at.node context.Flow) (state.FlowMappingKey ∷ ss)
 flow_valued_node ss t a = record { nested = λ n f. ((f, n), (after_more_flow ss, tt)); comes = λ x' r'. ((some_flow x', r'.0), r'.1, refl, refl); goes = λ n f. flow_valued_node_goes ss t a }
 
 pub flow_empties : (ss : List State) (p : Option Tok) → Leaves at.flow_empty ss p (Some nothing_written) at.done (state.FlowMappingKey ∷ ss)

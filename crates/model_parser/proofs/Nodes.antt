@@ -6,8 +6,8 @@ use Rattle.defs_event.specs.Raw.{Raw}
 use Rattle.defs_event.specs.Grammar.{Properties, anchored, tagged, anchored_tagged, tagged_anchored, flow_alias, flow_content, flow_properties, scalar, flow_sequence, flow_mapping, block_alias, block_content, block_properties, flow, block_sequence, block_mapping, tag_token, perhaps_properties_tokens, perhaps_anchor_of, perhaps_tag_of, anchor_of, tag_of}
 use Rattle.model_parser.specs.declared.kind.Kind.{Kind}
 use Rattle.model_parser.specs.declared.kind.Kind.TheVariants as kind
-use Rattle.model_parser.specs.declared.place.NodeContext.{NodeContext}
-use Rattle.model_parser.specs.declared.place.NodeContext.TheVariants as place
+use Rattle.model_parser.specs.declared.context.NodeContext.{NodeContext}
+use Rattle.model_parser.specs.declared.context.NodeContext.TheVariants as context
 use Rattle.model_parser.specs.declared.state.State.{State}
 use Rattle.model_parser.specs.declared.state.State.TheVariants as state
 use Rattle.model_parser.specs.Kinds.{kind_of, begins_node, begins_content}
@@ -36,20 +36,20 @@ data Case (p : NodeContext) (n : NodeAt p) : Type 0 where
   is_written : Written p n → Case p n
 
 case_of : (p : NodeContext) (n : NodeAt p) → Case p n
-case_of place.Flow (flow_alias n) = is_alias n (record { tokens = λ r. refl; events = λ r. refl })
-case_of place.Flow (flow_content None c) = is_written (record { properties = None; inner = Some c; there = tt; tokens = λ r. refl; events = λ r. refl })
-case_of place.Flow (flow_content (Some o) c) = is_written (record { properties = Some o; inner = Some c; there = tt; tokens = λ r. refl; events = λ r. refl })
-case_of place.Flow (flow_properties o) = is_written (record { properties = Some o; inner = None; there = tt; tokens = λ r. refl; events = λ r. refl })
-case_of place.Block (block_alias n) = is_alias n (record { tokens = λ r. refl; events = λ r. refl })
-case_of place.Block (block_content None c) = is_written (record { properties = None; inner = Some c; there = tt; tokens = λ r. refl; events = λ r. refl })
-case_of place.Block (block_content (Some o) c) = is_written (record { properties = Some o; inner = Some c; there = tt; tokens = λ r. refl; events = λ r. refl })
-case_of place.Block (block_properties o) = is_written (record { properties = Some o; inner = None; there = tt; tokens = λ r. refl; events = λ r. refl })
-case_of place.Part (part_node (block_alias n)) = is_alias n (record { tokens = λ r. refl; events = λ r. refl })
-case_of place.Part (part_node (block_content None c)) = is_written (record { properties = None; inner = Some (part_content c); there = tt; tokens = λ r. refl; events = λ r. refl })
-case_of place.Part (part_node (block_content (Some o) c)) = is_written (record { properties = Some o; inner = Some (part_content c); there = tt; tokens = λ r. refl; events = λ r. refl })
-case_of place.Part (part_node (block_properties o)) = is_written (record { properties = Some o; inner = None; there = tt; tokens = λ r. refl; events = λ r. refl })
-case_of place.Part (part_sequence None p d) = is_written (record { properties = None; inner = Some (part_dashes p d); there = tt; tokens = λ r. refl; events = λ r. refl })
-case_of place.Part (part_sequence (Some o) p d) = is_written (record { properties = Some o; inner = Some (part_dashes p d); there = tt; tokens = λ r. refl; events = λ r. refl })
+case_of context.Flow (flow_alias n) = is_alias n (record { tokens = λ r. refl; events = λ r. refl })
+case_of context.Flow (flow_content None c) = is_written (record { properties = None; inner = Some c; there = tt; tokens = λ r. refl; events = λ r. refl })
+case_of context.Flow (flow_content (Some o) c) = is_written (record { properties = Some o; inner = Some c; there = tt; tokens = λ r. refl; events = λ r. refl })
+case_of context.Flow (flow_properties o) = is_written (record { properties = Some o; inner = None; there = tt; tokens = λ r. refl; events = λ r. refl })
+case_of context.Block (block_alias n) = is_alias n (record { tokens = λ r. refl; events = λ r. refl })
+case_of context.Block (block_content None c) = is_written (record { properties = None; inner = Some c; there = tt; tokens = λ r. refl; events = λ r. refl })
+case_of context.Block (block_content (Some o) c) = is_written (record { properties = Some o; inner = Some c; there = tt; tokens = λ r. refl; events = λ r. refl })
+case_of context.Block (block_properties o) = is_written (record { properties = Some o; inner = None; there = tt; tokens = λ r. refl; events = λ r. refl })
+case_of context.Part (part_node (block_alias n)) = is_alias n (record { tokens = λ r. refl; events = λ r. refl })
+case_of context.Part (part_node (block_content None c)) = is_written (record { properties = None; inner = Some (part_content c); there = tt; tokens = λ r. refl; events = λ r. refl })
+case_of context.Part (part_node (block_content (Some o) c)) = is_written (record { properties = Some o; inner = Some (part_content c); there = tt; tokens = λ r. refl; events = λ r. refl })
+case_of context.Part (part_node (block_properties o)) = is_written (record { properties = Some o; inner = None; there = tt; tokens = λ r. refl; events = λ r. refl })
+case_of context.Part (part_sequence None p d) = is_written (record { properties = None; inner = Some (part_dashes p d); there = tt; tokens = λ r. refl; events = λ r. refl })
+case_of context.Part (part_sequence (Some o) p d) = is_written (record { properties = Some o; inner = Some (part_dashes p d); there = tt; tokens = λ r. refl; events = λ r. refl })
 
 -- and the other way round
 pub record Made (p : NodeContext) (o : Option Properties) (c : Option (ContentAt p)) : Type 0 where
@@ -59,22 +59,22 @@ pub record Made (p : NodeContext) (o : Option Properties) (c : Option (ContentAt
 
 make : (p : NodeContext) (o : Option Properties) (c : Option (ContentAt p)) → IsThere o c → Made p o c
 make p None None i = absurd i
-make place.Flow None (Some c) i = record { made = flow_content None c; tokens = λ r. refl; events = λ r. refl }
-make place.Flow (Some o) None i = record { made = flow_properties o; tokens = λ r. refl; events = λ r. refl }
-make place.Flow (Some o) (Some c) i = record { made = flow_content (Some o) c; tokens = λ r. refl; events = λ r. refl }
-make place.Block None (Some c) i = record { made = block_content None c; tokens = λ r. refl; events = λ r. refl }
-make place.Block (Some o) None i = record { made = block_properties o; tokens = λ r. refl; events = λ r. refl }
-make place.Block (Some o) (Some c) i = record { made = block_content (Some o) c; tokens = λ r. refl; events = λ r. refl }
-make place.Part None (Some (part_content c)) i = record { made = part_node (block_content None c); tokens = λ r. refl; events = λ r. refl }
-make place.Part (Some o) None i = record { made = part_node (block_properties o); tokens = λ r. refl; events = λ r. refl }
-make place.Part (Some o) (Some (part_content c)) i = record { made = part_node (block_content (Some o) c); tokens = λ r. refl; events = λ r. refl }
-make place.Part None (Some (part_dashes q d)) i = record { made = part_sequence None q d; tokens = λ r. refl; events = λ r. refl }
-make place.Part (Some o) (Some (part_dashes q d)) i = record { made = part_sequence (Some o) q d; tokens = λ r. refl; events = λ r. refl }
+make context.Flow None (Some c) i = record { made = flow_content None c; tokens = λ r. refl; events = λ r. refl }
+make context.Flow (Some o) None i = record { made = flow_properties o; tokens = λ r. refl; events = λ r. refl }
+make context.Flow (Some o) (Some c) i = record { made = flow_content (Some o) c; tokens = λ r. refl; events = λ r. refl }
+make context.Block None (Some c) i = record { made = block_content None c; tokens = λ r. refl; events = λ r. refl }
+make context.Block (Some o) None i = record { made = block_properties o; tokens = λ r. refl; events = λ r. refl }
+make context.Block (Some o) (Some c) i = record { made = block_content (Some o) c; tokens = λ r. refl; events = λ r. refl }
+make context.Part None (Some (part_content c)) i = record { made = part_node (block_content None c); tokens = λ r. refl; events = λ r. refl }
+make context.Part (Some o) None i = record { made = part_node (block_properties o); tokens = λ r. refl; events = λ r. refl }
+make context.Part (Some o) (Some (part_content c)) i = record { made = part_node (block_content (Some o) c); tokens = λ r. refl; events = λ r. refl }
+make context.Part None (Some (part_dashes q d)) i = record { made = part_sequence None q d; tokens = λ r. refl; events = λ r. refl }
+make context.Part (Some o) (Some (part_dashes q d)) i = record { made = part_sequence (Some o) q d; tokens = λ r. refl; events = λ r. refl }
 
 alias_node : (p : NodeContext) (name : List ℕ) → (n : NodeAt p) × IsAlias p n name
-alias_node place.Flow name = (flow_alias name, record { tokens = λ r. refl; events = λ r. refl })
-alias_node place.Block name = (block_alias name, record { tokens = λ r. refl; events = λ r. refl })
-alias_node place.Part name = (part_node (block_alias name), record { tokens = λ r. refl; events = λ r. refl })
+alias_node context.Flow name = (flow_alias name, record { tokens = λ r. refl; events = λ r. refl })
+alias_node context.Block name = (block_alias name, record { tokens = λ r. refl; events = λ r. refl })
+alias_node context.Part name = (part_node (block_alias name), record { tokens = λ r. refl; events = λ r. refl })
 
 -- ---- what may come where a content may stand
 
@@ -84,19 +84,19 @@ none_begins p ss b r t h e = let f : not (begins_node p (kind_of t)) ≡ true = 
     let g : not true ≡ true = ap not (sym e) ∙ f in cc
 
 alias_no_content : (p : NodeContext) → begins_content p kind.Alias ≡ false
-alias_no_content place.Flow = refl
-alias_no_content place.Block = refl
-alias_no_content place.Part = refl
+alias_no_content context.Flow = refl
+alias_no_content context.Block = refl
+alias_no_content context.Part = refl
 
 anchor_no_content : (p : NodeContext) → begins_content p kind.Anchor ≡ false
-anchor_no_content place.Flow = refl
-anchor_no_content place.Block = refl
-anchor_no_content place.Part = refl
+anchor_no_content context.Flow = refl
+anchor_no_content context.Block = refl
+anchor_no_content context.Part = refl
 
 tag_no_content : (p : NodeContext) → begins_content p kind.Tag ≡ false
-tag_no_content place.Flow = refl
-tag_no_content place.Block = refl
-tag_no_content place.Part = refl
+tag_no_content context.Flow = refl
+tag_no_content context.Block = refl
+tag_no_content context.Part = refl
 
 -- no content, or one, does not begin with a property or an alias
 no_property : (p : NodeContext) (ss : List State) → EndsNode p ss → (c : Option (ContentAt p)) (r : Rest ss) (t : Tok) → IsNext (Some t) (perhaps_content_tokens p c (rest_tokens ss r)) → begins_node p (kind_of t) ≡ true → begins_content p (kind_of t) ≡ false → ⊥
@@ -264,103 +264,103 @@ tag_alone p ss t u d = record { nested = λ n f. (n, f); comes = λ x' r'. ((Non
 
 -- ---- a content
 
-after_dash_goes : (ss : List State) (o : Option Properties) → EndsNode place.Part ss → (x : Awaits (at.after_properties place.Part o)) → Goes (at.after_properties place.Part o) ss Tok.block_entry (Some (Raw.sequence_start (perhaps_anchor_of o) (perhaps_tag_of o))) at.done (state.IndentlessSequenceItem ∷ ss) x
-after_dash_goes ss o b (None, i) r ts h = absurd (none_begins place.Part ss b r Tok.block_entry (begins_some Tok.block_entry ts _ h) refl)
-after_dash_goes ss o b (Some (part_content c), i) r ts h = absurd (clash_cons (begins_content place.Block) _ Tok.block_entry ts (content_first c _) refl h)
+after_dash_goes : (ss : List State) (o : Option Properties) → EndsNode context.Part ss → (x : Awaits (at.after_properties context.Part o)) → Goes (at.after_properties context.Part o) ss Tok.block_entry (Some (Raw.sequence_start (perhaps_anchor_of o) (perhaps_tag_of o))) at.done (state.IndentlessSequenceItem ∷ ss) x
+after_dash_goes ss o b (None, i) r ts h = absurd (none_begins context.Part ss b r Tok.block_entry (begins_some Tok.block_entry ts _ h) refl)
+after_dash_goes ss o b (Some (part_content c), i) r ts h = absurd (clash_cons (begins_content context.Block) _ Tok.block_entry ts (content_first c _) refl h)
 after_dash_goes ss o b (Some (part_dashes q d), i) r ts h = (tt, ((q, d), r), tail_eq h, refl)
 
-pub after_dash : (ss : List State) (o : Option Properties) → Takes (at.after_properties place.Part o) ss Tok.block_entry (Some (Raw.sequence_start (perhaps_anchor_of o) (perhaps_tag_of o))) at.done (state.IndentlessSequenceItem ∷ ss)
+pub after_dash : (ss : List State) (o : Option Properties) → Takes (at.after_properties context.Part o) ss Tok.block_entry (Some (Raw.sequence_start (perhaps_anchor_of o) (perhaps_tag_of o))) at.done (state.IndentlessSequenceItem ∷ ss)
 after_dash ss o = record { nested = λ n f. ((f, n), tt); comes = λ x' r'. ((Some (part_dashes r'.0.0 r'.0.1), there_some o _), r'.1, refl, refl); goes = λ n f. after_dash_goes ss o f.0 }
 
-part_block_goes : (ss : List State) (o : Option Properties) (t : Tok) → kind_of t ≢ kind.BlockEntry → (x : Awaits (at.after_properties place.Part o)) → Stays (at.after_properties place.Part o) ss (Some t) None (at.after_properties place.Block o) ss x
-part_block_goes ss o t a (None, i) r h = ((None, there_none (ContentAt place.Part) (ContentAt place.Block) o i), r, refl, refl)
+part_block_goes : (ss : List State) (o : Option Properties) (t : Tok) → kind_of t ≢ kind.BlockEntry → (x : Awaits (at.after_properties context.Part o)) → Stays (at.after_properties context.Part o) ss (Some t) None (at.after_properties context.Block o) ss x
+part_block_goes ss o t a (None, i) r h = ((None, there_none (ContentAt context.Part) (ContentAt context.Block) o i), r, refl, refl)
 part_block_goes ss o t a (Some (part_content c), i) r h = ((Some c, there_some o c), r, refl, refl)
 part_block_goes ss o t a (Some (part_dashes q d), i) r h = absurd (a (ap kind_of (sym h)))
 
-part_block_comes : (ss : List State) (o : Option Properties) (x : Awaits (at.after_properties place.Block o)) → Comes (at.after_properties place.Part o) ss [] None (at.after_properties place.Block o) ss x
-part_block_comes ss o (None, i) r' = ((None, there_none (ContentAt place.Block) (ContentAt place.Part) o i), r', refl, refl)
+part_block_comes : (ss : List State) (o : Option Properties) (x : Awaits (at.after_properties context.Block o)) → Comes (at.after_properties context.Part o) ss [] None (at.after_properties context.Block o) ss x
+part_block_comes ss o (None, i) r' = ((None, there_none (ContentAt context.Block) (ContentAt context.Part) o i), r', refl, refl)
 part_block_comes ss o (Some c, i) r' = ((Some (part_content c), there_some o _), r', refl, refl)
 
-pub part_block : (ss : List State) (o : Option Properties) (t : Tok) → kind_of t ≢ kind.BlockEntry → Leaves (at.after_properties place.Part o) ss (Some t) None (at.after_properties place.Block o) ss
-part_block ss o t a = record { nested = λ n f. (n, (ends_part_begins_none place.Block ss f.0, f.1)); comes = part_block_comes ss o; goes = λ n f. part_block_goes ss o t a }
+pub part_block : (ss : List State) (o : Option Properties) (t : Tok) → kind_of t ≢ kind.BlockEntry → Leaves (at.after_properties context.Part o) ss (Some t) None (at.after_properties context.Block o) ss
+part_block ss o t a = record { nested = λ n f. (n, (ends_part_begins_none context.Block ss f.0, f.1)); comes = part_block_comes ss o; goes = λ n f. part_block_goes ss o t a }
 
-after_sequence_goes : (ss : List State) (o : Option Properties) → EndsNode place.Block ss → (x : Awaits (at.after_properties place.Block o)) → Goes (at.after_properties place.Block o) ss Tok.block_sequence_start (Some (Raw.sequence_start (perhaps_anchor_of o) (perhaps_tag_of o))) at.done (state.BlockSequenceEntry ∷ ss) x
-after_sequence_goes ss o b (None, i) r ts h = absurd (none_begins place.Block ss b r Tok.block_sequence_start (begins_some Tok.block_sequence_start ts _ h) refl)
+after_sequence_goes : (ss : List State) (o : Option Properties) → EndsNode context.Block ss → (x : Awaits (at.after_properties context.Block o)) → Goes (at.after_properties context.Block o) ss Tok.block_sequence_start (Some (Raw.sequence_start (perhaps_anchor_of o) (perhaps_tag_of o))) at.done (state.BlockSequenceEntry ∷ ss) x
+after_sequence_goes ss o b (None, i) r ts h = absurd (none_begins context.Block ss b r Tok.block_sequence_start (begins_some Tok.block_sequence_start ts _ h) refl)
 after_sequence_goes ss o b (Some (block_sequence x), i) r ts h = (tt, (x, r), tail_eq h, refl)
 after_sequence_goes ss o b (Some (block_mapping x), i) r ts h = cc
 after_sequence_goes ss o b (Some (flow (scalar y x)), i) r ts h = cc
 after_sequence_goes ss o b (Some (flow (flow_sequence x)), i) r ts h = cc
 after_sequence_goes ss o b (Some (flow (flow_mapping x)), i) r ts h = cc
 
-pub after_sequence : (ss : List State) (o : Option Properties) → Takes (at.after_properties place.Block o) ss Tok.block_sequence_start (Some (Raw.sequence_start (perhaps_anchor_of o) (perhaps_tag_of o))) at.done (state.BlockSequenceEntry ∷ ss)
+pub after_sequence : (ss : List State) (o : Option Properties) → Takes (at.after_properties context.Block o) ss Tok.block_sequence_start (Some (Raw.sequence_start (perhaps_anchor_of o) (perhaps_tag_of o))) at.done (state.BlockSequenceEntry ∷ ss)
 after_sequence ss o = record { nested = λ n f. ((f.1, n), tt); comes = λ x' r'. ((Some (block_sequence r'.0), there_some o _), r'.1, refl, refl); goes = λ n f. after_sequence_goes ss o f.0 }
 
-after_mapping_goes : (ss : List State) (o : Option Properties) → EndsNode place.Block ss → (x : Awaits (at.after_properties place.Block o)) → Goes (at.after_properties place.Block o) ss Tok.block_mapping_start (Some (Raw.mapping_start (perhaps_anchor_of o) (perhaps_tag_of o))) at.done (state.BlockMappingKey ∷ ss) x
-after_mapping_goes ss o b (None, i) r ts h = absurd (none_begins place.Block ss b r Tok.block_mapping_start (begins_some Tok.block_mapping_start ts _ h) refl)
+after_mapping_goes : (ss : List State) (o : Option Properties) → EndsNode context.Block ss → (x : Awaits (at.after_properties context.Block o)) → Goes (at.after_properties context.Block o) ss Tok.block_mapping_start (Some (Raw.mapping_start (perhaps_anchor_of o) (perhaps_tag_of o))) at.done (state.BlockMappingKey ∷ ss) x
+after_mapping_goes ss o b (None, i) r ts h = absurd (none_begins context.Block ss b r Tok.block_mapping_start (begins_some Tok.block_mapping_start ts _ h) refl)
 after_mapping_goes ss o b (Some (block_mapping x), i) r ts h = (tt, (x, r), tail_eq h, refl)
 after_mapping_goes ss o b (Some (block_sequence x), i) r ts h = cc
 after_mapping_goes ss o b (Some (flow (scalar y x)), i) r ts h = cc
 after_mapping_goes ss o b (Some (flow (flow_sequence x)), i) r ts h = cc
 after_mapping_goes ss o b (Some (flow (flow_mapping x)), i) r ts h = cc
 
-pub after_mapping : (ss : List State) (o : Option Properties) → Takes (at.after_properties place.Block o) ss Tok.block_mapping_start (Some (Raw.mapping_start (perhaps_anchor_of o) (perhaps_tag_of o))) at.done (state.BlockMappingKey ∷ ss)
+pub after_mapping : (ss : List State) (o : Option Properties) → Takes (at.after_properties context.Block o) ss Tok.block_mapping_start (Some (Raw.mapping_start (perhaps_anchor_of o) (perhaps_tag_of o))) at.done (state.BlockMappingKey ∷ ss)
 after_mapping ss o = record { nested = λ n f. ((f.1, n), tt); comes = λ x' r'. ((Some (block_mapping r'.0), there_some o _), r'.1, refl, refl); goes = λ n f. after_mapping_goes ss o f.0 }
 
-block_flow_goes : (ss : List State) (o : Option Properties) (t : Tok) → kind_of t ≢ kind.BlockSequenceStart → kind_of t ≢ kind.BlockMappingStart → (x : Awaits (at.after_properties place.Block o)) → Stays (at.after_properties place.Block o) ss (Some t) None (at.after_properties place.Flow o) ss x
-block_flow_goes ss o t a b (None, i) r h = ((None, there_none (ContentAt place.Block) (ContentAt place.Flow) o i), r, refl, refl)
+block_flow_goes : (ss : List State) (o : Option Properties) (t : Tok) → kind_of t ≢ kind.BlockSequenceStart → kind_of t ≢ kind.BlockMappingStart → (x : Awaits (at.after_properties context.Block o)) → Stays (at.after_properties context.Block o) ss (Some t) None (at.after_properties context.Flow o) ss x
+block_flow_goes ss o t a b (None, i) r h = ((None, there_none (ContentAt context.Block) (ContentAt context.Flow) o i), r, refl, refl)
 block_flow_goes ss o t a b (Some (flow c), i) r h = ((Some c, there_some o c), r, refl, refl)
 block_flow_goes ss o t a b (Some (block_sequence x), i) r h = absurd (a (ap kind_of (sym h)))
 block_flow_goes ss o t a b (Some (block_mapping x), i) r h = absurd (b (ap kind_of (sym h)))
 
-block_flow_comes : (ss : List State) (o : Option Properties) (x : Awaits (at.after_properties place.Flow o)) → Comes (at.after_properties place.Block o) ss [] None (at.after_properties place.Flow o) ss x
-block_flow_comes ss o (None, i) r' = ((None, there_none (ContentAt place.Flow) (ContentAt place.Block) o i), r', refl, refl)
+block_flow_comes : (ss : List State) (o : Option Properties) (x : Awaits (at.after_properties context.Flow o)) → Comes (at.after_properties context.Block o) ss [] None (at.after_properties context.Flow o) ss x
+block_flow_comes ss o (None, i) r' = ((None, there_none (ContentAt context.Flow) (ContentAt context.Block) o i), r', refl, refl)
 block_flow_comes ss o (Some c, i) r' = ((Some (flow c), there_some o _), r', refl, refl)
 
-block_flow_after : (ss : List State) → EndsNode place.Block ss → EndsNode place.Flow ss
-block_flow_after ss b r = first_more (λ k. not (begins_node place.Block k)) (λ k. not (begins_node place.Flow k)) block_begins_fewer (rest_tokens ss r) (b r)
+block_flow_after : (ss : List State) → EndsNode context.Block ss → EndsNode context.Flow ss
+block_flow_after ss b r = first_more (λ k. not (begins_node context.Block k)) (λ k. not (begins_node context.Flow k)) block_begins_fewer (rest_tokens ss r) (b r)
 
-pub block_flow : (ss : List State) (o : Option Properties) (t : Tok) → kind_of t ≢ kind.BlockSequenceStart → kind_of t ≢ kind.BlockMappingStart → Leaves (at.after_properties place.Block o) ss (Some t) None (at.after_properties place.Flow o) ss
+pub block_flow : (ss : List State) (o : Option Properties) (t : Tok) → kind_of t ≢ kind.BlockSequenceStart → kind_of t ≢ kind.BlockMappingStart → Leaves (at.after_properties context.Block o) ss (Some t) None (at.after_properties context.Flow o) ss
 block_flow ss o t a b = record { nested = λ n f. (n, (block_flow_after ss f.0, f.1)); comes = block_flow_comes ss o; goes = λ n f. block_flow_goes ss o t a b }
 
-after_scalar_goes : (ss : List State) (o : Option Properties) (y : Style) (v : List ℕ) → EndsNode place.Flow ss → (x : Awaits (at.after_properties place.Flow o)) → Goes (at.after_properties place.Flow o) ss (Tok.scalar y v) (Some (Raw.scalar v y (perhaps_anchor_of o) (perhaps_tag_of o))) at.done ss x
-after_scalar_goes ss o y v b (None, i) r ts h = absurd (none_begins place.Flow ss b r (Tok.scalar y v) (begins_some (Tok.scalar y v) ts _ h) refl)
+after_scalar_goes : (ss : List State) (o : Option Properties) (y : Style) (v : List ℕ) → EndsNode context.Flow ss → (x : Awaits (at.after_properties context.Flow o)) → Goes (at.after_properties context.Flow o) ss (Tok.scalar y v) (Some (Raw.scalar v y (perhaps_anchor_of o) (perhaps_tag_of o))) at.done ss x
+after_scalar_goes ss o y v b (None, i) r ts h = absurd (none_begins context.Flow ss b r (Tok.scalar y v) (begins_some (Tok.scalar y v) ts _ h) refl)
 after_scalar_goes ss o y v b (Some (scalar y' v'), i) r ts h = (tt, r, cc, cc)
 after_scalar_goes ss o y v b (Some (flow_sequence x), i) r ts h = cc
 after_scalar_goes ss o y v b (Some (flow_mapping x), i) r ts h = cc
 
-pub after_scalar : (ss : List State) (o : Option Properties) (y : Style) (v : List ℕ) → Takes (at.after_properties place.Flow o) ss (Tok.scalar y v) (Some (Raw.scalar v y (perhaps_anchor_of o) (perhaps_tag_of o))) at.done ss
+pub after_scalar : (ss : List State) (o : Option Properties) (y : Style) (v : List ℕ) → Takes (at.after_properties context.Flow o) ss (Tok.scalar y v) (Some (Raw.scalar v y (perhaps_anchor_of o) (perhaps_tag_of o))) at.done ss
 after_scalar ss o y v = record { nested = λ n f. (n, f.1); comes = λ x' r'. ((Some (scalar y v), there_some o _), r', refl, refl); goes = λ n f. after_scalar_goes ss o y v f.0 }
 
-after_brackets_goes : (ss : List State) (o : Option Properties) → EndsNode place.Flow ss → (x : Awaits (at.after_properties place.Flow o)) → Goes (at.after_properties place.Flow o) ss Tok.flow_sequence_start (Some (Raw.flow_sequence_start (perhaps_anchor_of o) (perhaps_tag_of o))) at.done (state.FlowSequenceFirstEntry ∷ ss) x
-after_brackets_goes ss o b (None, i) r ts h = absurd (none_begins place.Flow ss b r Tok.flow_sequence_start (begins_some Tok.flow_sequence_start ts _ h) refl)
+after_brackets_goes : (ss : List State) (o : Option Properties) → EndsNode context.Flow ss → (x : Awaits (at.after_properties context.Flow o)) → Goes (at.after_properties context.Flow o) ss Tok.flow_sequence_start (Some (Raw.flow_sequence_start (perhaps_anchor_of o) (perhaps_tag_of o))) at.done (state.FlowSequenceFirstEntry ∷ ss) x
+after_brackets_goes ss o b (None, i) r ts h = absurd (none_begins context.Flow ss b r Tok.flow_sequence_start (begins_some Tok.flow_sequence_start ts _ h) refl)
 after_brackets_goes ss o b (Some (scalar y v), i) r ts h = cc
 after_brackets_goes ss o b (Some (flow_sequence x), i) r ts h = (tt, (x, r), tail_eq h, refl)
 after_brackets_goes ss o b (Some (flow_mapping x), i) r ts h = cc
 
-pub after_brackets : (ss : List State) (o : Option Properties) → Takes (at.after_properties place.Flow o) ss Tok.flow_sequence_start (Some (Raw.flow_sequence_start (perhaps_anchor_of o) (perhaps_tag_of o))) at.done (state.FlowSequenceFirstEntry ∷ ss)
+pub after_brackets : (ss : List State) (o : Option Properties) → Takes (at.after_properties context.Flow o) ss Tok.flow_sequence_start (Some (Raw.flow_sequence_start (perhaps_anchor_of o) (perhaps_tag_of o))) at.done (state.FlowSequenceFirstEntry ∷ ss)
 after_brackets ss o = record { nested = λ n f. ((f.1, n), tt); comes = λ x' r'. ((Some (flow_sequence r'.0), there_some o _), r'.1, refl, refl); goes = λ n f. after_brackets_goes ss o f.0 }
 
-after_braces_goes : (ss : List State) (o : Option Properties) → EndsNode place.Flow ss → (x : Awaits (at.after_properties place.Flow o)) → Goes (at.after_properties place.Flow o) ss Tok.flow_mapping_start (Some (Raw.flow_mapping_start (perhaps_anchor_of o) (perhaps_tag_of o))) at.done (state.FlowMappingFirstKey ∷ ss) x
-after_braces_goes ss o b (None, i) r ts h = absurd (none_begins place.Flow ss b r Tok.flow_mapping_start (begins_some Tok.flow_mapping_start ts _ h) refl)
+after_braces_goes : (ss : List State) (o : Option Properties) → EndsNode context.Flow ss → (x : Awaits (at.after_properties context.Flow o)) → Goes (at.after_properties context.Flow o) ss Tok.flow_mapping_start (Some (Raw.flow_mapping_start (perhaps_anchor_of o) (perhaps_tag_of o))) at.done (state.FlowMappingFirstKey ∷ ss) x
+after_braces_goes ss o b (None, i) r ts h = absurd (none_begins context.Flow ss b r Tok.flow_mapping_start (begins_some Tok.flow_mapping_start ts _ h) refl)
 after_braces_goes ss o b (Some (scalar y v), i) r ts h = cc
 after_braces_goes ss o b (Some (flow_sequence x), i) r ts h = cc
 after_braces_goes ss o b (Some (flow_mapping x), i) r ts h = (tt, (x, r), tail_eq h, refl)
 
-pub after_braces : (ss : List State) (o : Option Properties) → Takes (at.after_properties place.Flow o) ss Tok.flow_mapping_start (Some (Raw.flow_mapping_start (perhaps_anchor_of o) (perhaps_tag_of o))) at.done (state.FlowMappingFirstKey ∷ ss)
+pub after_braces : (ss : List State) (o : Option Properties) → Takes (at.after_properties context.Flow o) ss Tok.flow_mapping_start (Some (Raw.flow_mapping_start (perhaps_anchor_of o) (perhaps_tag_of o))) at.done (state.FlowMappingFirstKey ∷ ss)
 after_braces ss o = record { nested = λ n f. ((f.1, n), tt); comes = λ x' r'. ((Some (flow_mapping r'.0), there_some o _), r'.1, refl, refl); goes = λ n f. after_braces_goes ss o f.0 }
 
-properties_only_goes : (ss : List State) (o : Properties) (t : Tok) → begins_content place.Flow (kind_of t) ≡ false → (x : Awaits (at.after_properties place.Flow (Some o))) → Stays (at.after_properties place.Flow (Some o)) ss (Some t) (Some (Raw.empty_scalar (anchor_of o) (tag_of o))) at.done ss x
+properties_only_goes : (ss : List State) (o : Properties) (t : Tok) → begins_content context.Flow (kind_of t) ≡ false → (x : Awaits (at.after_properties context.Flow (Some o))) → Stays (at.after_properties context.Flow (Some o)) ss (Some t) (Some (Raw.empty_scalar (anchor_of o) (tag_of o))) at.done ss x
 properties_only_goes ss o t a (None, i) r h = (tt, r, refl, refl)
-properties_only_goes ss o t a (Some c, i) r h = absurd (clash (begins_content place.Flow) _ t (flow_content_first c _) a h)
+properties_only_goes ss o t a (Some c, i) r h = absurd (clash (begins_content context.Flow) _ t (flow_content_first c _) a h)
 
-pub properties_only : (ss : List State) (o : Properties) (t : Tok) → begins_content place.Flow (kind_of t) ≡ false → Leaves (at.after_properties place.Flow (Some o)) ss (Some t) (Some (Raw.empty_scalar (anchor_of o) (tag_of o))) at.done ss
+pub properties_only : (ss : List State) (o : Properties) (t : Tok) → begins_content context.Flow (kind_of t) ≡ false → Leaves (at.after_properties context.Flow (Some o)) ss (Some t) (Some (Raw.empty_scalar (anchor_of o) (tag_of o))) at.done ss
 properties_only ss o t a = record { nested = λ n f. (n, f.1); comes = λ x' r'. ((None, tt), r', refl, refl); goes = λ n f. properties_only_goes ss o t a }
 
-pub nothing_refuses : (ss : List State) (t : Tok) → begins_content place.Flow (kind_of t) ≡ false → Refuses (at.after_properties place.Flow None) ss t
+pub nothing_refuses : (ss : List State) (t : Tok) → begins_content context.Flow (kind_of t) ≡ false → Refuses (at.after_properties context.Flow None) ss t
 nothing_refuses ss t a n f (None, i) r h = i
-nothing_refuses ss t a n f (Some c, i) r h = clash (begins_content place.Flow) _ t (flow_content_first c _) a h
+nothing_refuses ss t a n f (Some c, i) r h = clash (begins_content context.Flow) _ t (flow_content_first c _) a h
 
-pub not_content : (k : Kind) → k ≢ kind.Scalar → k ≢ kind.FlowSequenceStart → k ≢ kind.FlowMappingStart → begins_content place.Flow k ≡ false
+pub not_content : (k : Kind) → k ≢ kind.Scalar → k ≢ kind.FlowSequenceStart → k ≢ kind.FlowMappingStart → begins_content context.Flow k ≡ false
 not_content kind.Scalar a b c = absurd (a refl)
 not_content kind.FlowSequenceStart a b c = absurd (b refl)
 not_content kind.FlowMappingStart a b c = absurd (c refl)

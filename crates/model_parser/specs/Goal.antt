@@ -4,8 +4,8 @@ use Rattle.defs_token.specs.Token.{Tok}
 use Rattle.defs_event.specs.Event.{Tag}
 use Rattle.defs_event.specs.Raw.{Raw, Directive, nothing_written}
 use Rattle.defs_event.specs.Grammar.{Properties, anchored, tagged, anchored_tagged, tagged_anchored, FlowNode, FlowContent, PerhapsFlow, Items, MoreItems, Item, FlowValue, FlowPairs, MoreFlowPairs, FlowPair, Node, Content, Perhaps, Entries, Part, Dashes, Pairs, KeyPairs, AfterKey, Documents, Explicit, After, tag_token, perhaps_properties_tokens, flow_node_tokens, flow_content_tokens, perhaps_flow_tokens, items_tokens, more_items_tokens, item_tokens, flow_value_tokens, flow_pairs_tokens, more_flow_pairs_tokens, flow_pair_tokens, node_tokens, content_tokens, perhaps_tokens, entries_tokens, part_tokens, dashes_tokens, pairs_tokens, key_pairs_tokens, after_key_tokens, directives_tokens, documents_tokens, explicit_tokens, after_tokens, perhaps_anchor_of, perhaps_tag_of, flow_node_events, flow_content_events, perhaps_flow_events, items_events, more_items_events, item_events, flow_value_events, flow_pairs_events, more_flow_pairs_events, flow_pair_events, node_events, content_events, perhaps_events, entries_events, part_events, dashes_events, pairs_events, key_pairs_events, after_key_events, documents_events, explicit_events, after_events}
-use Rattle.model_parser.specs.declared.place.NodeContext.{NodeContext}
-use Rattle.model_parser.specs.declared.place.NodeContext.TheVariants as place
+use Rattle.model_parser.specs.declared.context.NodeContext.{NodeContext}
+use Rattle.model_parser.specs.declared.context.NodeContext.TheVariants as context
 
 -- What the parser reads now.
 pub data Goal : Type 0 where
@@ -56,7 +56,7 @@ pub data Goal : Type 0 where
   -- after a key that has no value
   flow_empty : Goal
 
--- ---- a node at a place
+-- ---- a node at a context
 
 -- a content of a mapping's part: a sequence without indentation too
 pub data PartContent : Type 0 where
@@ -68,38 +68,38 @@ pub data PartNode : Type 0 where
   part_sequence : Option Properties → Perhaps → Dashes → PartNode
 
 abbrev pub NodeAt : NodeContext → Type 0
-NodeAt place.Flow = FlowNode
-NodeAt place.Block = Node
-NodeAt place.Part = PartNode
+NodeAt context.Flow = FlowNode
+NodeAt context.Block = Node
+NodeAt context.Part = PartNode
 
 abbrev pub ContentAt : NodeContext → Type 0
-ContentAt place.Flow = FlowContent
-ContentAt place.Block = Content
-ContentAt place.Part = PartContent
+ContentAt context.Flow = FlowContent
+ContentAt context.Block = Content
+ContentAt context.Part = PartContent
 
 abbrev pub node_at_tokens : (p : NodeContext) → NodeAt p → List Tok → List Tok
-node_at_tokens place.Flow n r = flow_node_tokens n r
-node_at_tokens place.Block n r = node_tokens n r
-node_at_tokens place.Part (part_node n) r = node_tokens n r
-node_at_tokens place.Part (part_sequence o p d) r = perhaps_properties_tokens o (Tok.block_entry ∷ perhaps_tokens p (dashes_tokens d r))
+node_at_tokens context.Flow n r = flow_node_tokens n r
+node_at_tokens context.Block n r = node_tokens n r
+node_at_tokens context.Part (part_node n) r = node_tokens n r
+node_at_tokens context.Part (part_sequence o p d) r = perhaps_properties_tokens o (Tok.block_entry ∷ perhaps_tokens p (dashes_tokens d r))
 
 abbrev pub node_at_events : (p : NodeContext) → NodeAt p → List Raw → List Raw
-node_at_events place.Flow n r = flow_node_events n r
-node_at_events place.Block n r = node_events n r
-node_at_events place.Part (part_node n) r = node_events n r
-node_at_events place.Part (part_sequence o p d) r = Raw.sequence_start (perhaps_anchor_of o) (perhaps_tag_of o) ∷ perhaps_events p (dashes_events d r)
+node_at_events context.Flow n r = flow_node_events n r
+node_at_events context.Block n r = node_events n r
+node_at_events context.Part (part_node n) r = node_events n r
+node_at_events context.Part (part_sequence o p d) r = Raw.sequence_start (perhaps_anchor_of o) (perhaps_tag_of o) ∷ perhaps_events p (dashes_events d r)
 
 abbrev pub content_at_tokens : (p : NodeContext) → ContentAt p → List Tok → List Tok
-content_at_tokens place.Flow c r = flow_content_tokens c r
-content_at_tokens place.Block c r = content_tokens c r
-content_at_tokens place.Part (part_content c) r = content_tokens c r
-content_at_tokens place.Part (part_dashes p d) r = Tok.block_entry ∷ perhaps_tokens p (dashes_tokens d r)
+content_at_tokens context.Flow c r = flow_content_tokens c r
+content_at_tokens context.Block c r = content_tokens c r
+content_at_tokens context.Part (part_content c) r = content_tokens c r
+content_at_tokens context.Part (part_dashes p d) r = Tok.block_entry ∷ perhaps_tokens p (dashes_tokens d r)
 
 abbrev pub content_at_events : (p : NodeContext) → Option Properties → ContentAt p → List Raw → List Raw
-content_at_events place.Flow o c r = flow_content_events o c r
-content_at_events place.Block o c r = content_events o c r
-content_at_events place.Part o (part_content c) r = content_events o c r
-content_at_events place.Part o (part_dashes p d) r = Raw.sequence_start (perhaps_anchor_of o) (perhaps_tag_of o) ∷ perhaps_events p (dashes_events d r)
+content_at_events context.Flow o c r = flow_content_events o c r
+content_at_events context.Block o c r = content_events o c r
+content_at_events context.Part o (part_content c) r = content_events o c r
+content_at_events context.Part o (part_dashes p d) r = Raw.sequence_start (perhaps_anchor_of o) (perhaps_tag_of o) ∷ perhaps_events p (dashes_events d r)
 
 -- a content, or nothing
 abbrev pub perhaps_content_tokens : (p : NodeContext) → Option (ContentAt p) → List Tok → List Tok

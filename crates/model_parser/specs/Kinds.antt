@@ -3,8 +3,8 @@ use Rattle.std.specs.Prelude.{Bool, true, false}
 use Rattle.defs_token.specs.Token.{Tok}
 use Rattle.model_parser.specs.declared.kind.Kind.{Kind}
 use Rattle.model_parser.specs.declared.kind.Kind.TheVariants as kind
-use Rattle.model_parser.specs.declared.place.NodeContext.{NodeContext}
-use Rattle.model_parser.specs.declared.place.NodeContext.TheVariants as place
+use Rattle.model_parser.specs.declared.context.NodeContext.{NodeContext}
+use Rattle.model_parser.specs.declared.context.NodeContext.TheVariants as context
 
 abbrev pub kind_of : Tok → Kind
 kind_of Tok.stream_start = kind.StreamStart
@@ -29,19 +29,19 @@ kind_of (Tok.anchor n) = kind.Anchor
 kind_of (Tok.tag h s) = kind.Tag
 kind_of (Tok.scalar y x) = kind.Scalar
 
--- what begins a node's content at a place
+-- what begins a node's content at a context
 abbrev pub begins_content : NodeContext → Kind → Bool
 begins_content p kind.Scalar = true
 begins_content p kind.FlowSequenceStart = true
 begins_content p kind.FlowMappingStart = true
-begins_content place.Block kind.BlockSequenceStart = true
-begins_content place.Block kind.BlockMappingStart = true
-begins_content place.Part kind.BlockSequenceStart = true
-begins_content place.Part kind.BlockMappingStart = true
-begins_content place.Part kind.BlockEntry = true
+begins_content context.Block kind.BlockSequenceStart = true
+begins_content context.Block kind.BlockMappingStart = true
+begins_content context.Part kind.BlockSequenceStart = true
+begins_content context.Part kind.BlockMappingStart = true
+begins_content context.Part kind.BlockEntry = true
 begins_content _ _ = false
 
--- what begins a node at a place
+-- what begins a node at a context
 abbrev pub begins_node : NodeContext → Kind → Bool
 begins_node p kind.Alias = true
 begins_node p kind.Anchor = true

@@ -3,8 +3,8 @@ use Rattle.std.specs.Prelude.{◌≡◌, List, [], ◌∷◌, Bool, true, not}
 use Rattle.defs_token.specs.Token.{Tok}
 use Rattle.defs_event.specs.Raw.{Raw}
 use Rattle.model_parser.specs.declared.kind.Kind.{Kind}
-use Rattle.model_parser.specs.declared.place.NodeContext.{NodeContext}
-use Rattle.model_parser.specs.declared.place.NodeContext.TheVariants as place
+use Rattle.model_parser.specs.declared.context.NodeContext.{NodeContext}
+use Rattle.model_parser.specs.declared.context.NodeContext.TheVariants as context
 use Rattle.model_parser.specs.declared.state.State.{State}
 use Rattle.model_parser.specs.declared.state.State.TheVariants as state
 use Rattle.model_parser.specs.Kinds.{kind_of, begins_node, ends_part}
@@ -17,7 +17,7 @@ goal_of state.ImplicitDocumentStart = at.documents
 goal_of state.DocumentStart = at.explicit
 goal_of state.DocumentContent = at.content
 goal_of state.DocumentEnd = at.after
-goal_of state.BlockNode = at.node place.Block
+goal_of state.BlockNode = at.node context.Block
 goal_of state.BlockSequenceEntry = at.entries
 goal_of state.IndentlessSequenceEntry = at.dashes
 goal_of state.IndentlessSequenceItem = at.dashed
@@ -62,7 +62,7 @@ abbrev pub first_is : (Kind → Bool) → List Tok → Bool
 first_is test [] = true
 first_is test (t ∷ ts) = test (kind_of t)
 
--- Nothing that may come here begins a node of that place.
+-- Nothing that may come here begins a node of that context.
 abbrev pub BeginsNoNode : NodeContext → List State → Type 0
 BeginsNoNode p ss = (r : Rest ss) → first_is (λ k. not (begins_node p k)) (rest_tokens ss r) ≡ true
 
@@ -70,9 +70,9 @@ BeginsNoNode p ss = (r : Rest ss) → first_is (λ k. not (begins_node p k)) (re
 abbrev pub EndsPart : List State → Type 0
 EndsPart ss = (r : Rest ss) → first_is ends_part (rest_tokens ss r) ≡ true
 
--- what stands under a node of that place
+-- what stands under a node of that context
 abbrev pub EndsNode : NodeContext → List State → Type 0
-EndsNode place.Part ss = EndsPart ss
+EndsNode context.Part ss = EndsPart ss
 EndsNode p ss = BeginsNoNode p ss
 
 abbrev pub IsBottom : List State → Type 0

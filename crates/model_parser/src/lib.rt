@@ -2,9 +2,9 @@
 #![tactic(auto)]
 
 pub mod kind;
-pub mod place;
+pub mod context;
 pub mod state;
 
 pub use kind::Kind;
-pub use place::NodeContext;
+pub use context::NodeContext;
 pub use state::State;

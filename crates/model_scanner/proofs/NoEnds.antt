@@ -31,13 +31,13 @@ went_on (Err e) k f = refused
 
 version_read : (start : Position) (a : List ℕ) (p : Position) → IsRead (version_value start a p)
 unfolding version_value
-version_read start a p = let b = blanks a p in went_on (number start b.rest b.place) (λ n. after_major start n) (λ r. choice (slice_index r.rest 0 == 46) (went_on (number start (drop 1 r.rest) (past r.place)) (λ n. Ok (with_minor r.value n)) (λ n. went tt)) refused)
+version_read start a p = let b = blanks a p in went_on (number start b.rest b.position) (λ n. after_major start n) (λ r. choice (slice_index r.rest 0 == 46) (went_on (number start (drop 1 r.rest) (past r.position)) (λ n. Ok (with_minor r.value n)) (λ n. went tt)) refused)
 
 tag_read : (start : Position) (a : List ℕ) (p : Position) → IsRead (tag_value start a p)
 unfolding tag_value
-tag_read start a p = let b = blanks a p in went_on (handle start b.rest b.place) (λ (h : Read (List ℕ)). prefix_after start h.value (blanks h.rest h.place)) (λ h.
-    let c = blanks h.rest h.place in
-    went_on (prefix start c.rest c.place) (λ q. with_prefix start h.value q) (λ q. choice (is_blank_or_breakz (slice_index q.rest 0)) (went tt) refused))
+tag_read start a p = let b = blanks a p in went_on (handle start b.rest b.position) (λ (h : Read (List ℕ)). prefix_after start h.value (blanks h.rest h.position)) (λ h.
+    let c = blanks h.rest h.position in
+    went_on (prefix start c.rest c.position) (λ q. with_prefix start h.value q) (λ q. choice (is_blank_or_breakz (slice_index q.rest 0)) (went tt) refused))
 
 value_read : (start : Position) (k : Kind) (a : List ℕ) (p : Position) → IsRead (value start k a p)
 value_read start version a p = version_read start a p
@@ -46,10 +46,10 @@ value_read start unknown a p = went tt
 
 -- the rest of the line changes no token
 line_read : (start : Position) (r : Result (Read Tok) Fault) → IsRead r → IsRead (and_then r (λ v. after_value start v))
-line_read start (Ok v) (went q) = went_on (line_end start v.rest v.place) (λ r. Ok (with_end v r)) (λ r. went q)
+line_read start (Ok v) (went q) = went_on (line_end start v.rest v.position) (λ r. Ok (with_end v r)) (λ r. went q)
 line_read start (Err e) refused = refused
 
 pub directive_is_no_end : (a : List ℕ) (p : Position) → Holds (λ r. IsNoEnd r.value) (directive a p)
 unfolding directive
 directive_is_no_end [] p = refused
-directive_is_no_end (c ∷ a) p = went_on (name a (past p)) (λ n. after_name p n) (λ n. line_read p (value p n.value n.rest n.place) (value_read p n.value n.rest n.place))
+directive_is_no_end (c ∷ a) p = went_on (name a (past p)) (λ n. after_name p n) (λ n. line_read p (value p n.value n.rest n.position) (value_read p n.value n.rest n.position))

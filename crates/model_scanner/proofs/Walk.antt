@@ -123,10 +123,10 @@ popped : (p : ℕ → Type 0) (ks : List (Option Key)) → KeysAre p ks → Keys
 popped p [] h = h
 popped p (x ∷ ks) h = h.1
 
-all_still : (p : ℕ → Type 0) (place : Position) (ks : List (Option Key)) → KeysAre p ks → KeysAre p (map (still place) ks)
-all_still p place [] h = tt
-all_still p place (None ∷ ks) h = (tt, all_still p place ks h.1)
-all_still p place (Some k ∷ ks) h = (by (is_far k.place place), all_still p place ks h.1)
+all_still : (p : ℕ → Type 0) (position : Position) (ks : List (Option Key)) → KeysAre p ks → KeysAre p (map (still position) ks)
+all_still p position [] h = tt
+all_still p position (None ∷ ks) h = (tt, all_still p position ks h.1)
+all_still p position (Some k ∷ ks) h = (by (is_far k.position position), all_still p position ks h.1)
   where
     by : (b : Bool) → KeyIs p (if b then None else Some k)
     by true = tt
@@ -143,9 +143,9 @@ top_is p (k ∷ ks) h = h.0
 rekeyed : {w : Watched} {ts : List Token} {ks ls : List (Option Key)} {b o : Bool} → KeysAre w.number ls → Stood w ts ks b o → Stood w ts ls b o
 rekeyed h s = record { tokens = s.tokens; keys = h; going = s.going }
 
-dropped : (p : ℕ → Type 0) (place : Position) (ks : List (Option Key)) → KeysAre p ks → Holds (KeysAre p) (drop_stale place ks)
+dropped : (p : ℕ → Type 0) (position : Position) (ks : List (Option Key)) → KeysAre p ks → Holds (KeysAre p) (drop_stale position ks)
 unfolding drop_stale
-dropped p place ks h = passes _ _ (went (all_still p place ks h))
+dropped p position ks h = passes _ _ (went (all_still p position ks h))
 
 module _ (w : Watched) (kept : IsKept w) where
   kept_keys : (h : Held) (r : Result (List (Option Key)) Fault) → Stands w h → Holds (KeysAre w.number) r → Holds (Stands w) (with_keys h r)
@@ -154,7 +154,7 @@ module _ (w : Watched) (kept : IsKept w) where
 
   pub stale_dropped : (h : Held) → Stands w h → Holds (Stands w) (stale h)
   unfolding stale
-  stale_dropped h s = choice (in_flow h) (went s) (kept_keys h _ s (dropped w.number h.place h.keys s.stood.keys))
+  stale_dropped h s = choice (in_flow h) (went s) (kept_keys h _ s (dropped w.number h.position h.keys s.stood.keys))
 
   saved : (h : Held) → Stands w h → Stands w (save_implicit_key h)
   unfolding save_implicit_key
@@ -227,7 +227,7 @@ module _ (w : Watched) (kept : IsKept w) where
 
   pub unrolled_all : (limit : ℕ) (h : Held) → Stands w h → Stands w (unroll_indent limit h)
   unfolding unroll_indent
-  unrolled_all limit h s = held_choice (in_flow h) s (record { stood = (unrolled_stood h.keys h.started h.ended limit h.place h.indent h.indents h.tokens s.stood).stood })
+  unrolled_all limit h s = held_choice (in_flow h) s (record { stood = (unrolled_stood h.keys h.started h.ended limit h.position h.indent h.indents h.tokens s.stood).stood })
 
   without_stood : (ks : List (Option Key)) (b o : Bool) (i : ℕ) (ds : List Indent) (ts : List Token) → Stood w ts ks b o → StoodLevels ks b o (without_open i ds ts)
   unfolding without_open
@@ -260,7 +260,7 @@ module _ (w : Watched) (kept : IsKept w) where
 
   spaces_skipped : (tabs : SkipTabs) (t : ScannerState) → Stands w t.held → Holds (StandsAt w) (skip_spaces tabs t)
   unfolding skip_spaces
-  spaces_skipped tabs t s = read t.held (space tabs t.rest t.held.place) _ s (λ x u k. went k)
+  spaces_skipped tabs t s = read t.held (space tabs t.rest t.held.position) _ s (λ x u k. went k)
 
   white_ended : (found : Bool) (a : List ℕ) (h : Held) → Stands w h → Holds (StandsAt w) (white_end found a h)
   white_ended true a h s = went s
@@ -350,7 +350,7 @@ module _ (w : Watched) (kept : IsKept w) where
 
   entry_checked : (h : Held) → Stands w h → Holds (Stands w) (check_block_entry h)
   unfolding check_block_entry
-  entry_checked h s = passes (in_flow h) (At problem.BlockEntryInFlow h.place) (passes (not h.key_allowed) (At problem.BlockEntryNotAllowed h.place) (margin_checked (last_property h.tokens) h.place h s))
+  entry_checked h s = passes (in_flow h) (At problem.BlockEntryInFlow h.position) (passes (not h.key_allowed) (At problem.BlockEntryNotAllowed h.position) (margin_checked (last_property h.tokens) h.position h s))
 
   dash_checked : (x : Whitespace) (t : ScannerState) → Stands w t.held → Holds (StandsAt w) (check_dash x t)
   unfolding check_dash
@@ -363,15 +363,15 @@ module _ (w : Watched) (kept : IsKept w) where
   block_entry : (t : ScannerState) → Stands w t.held → Holds (StandsAt w) (fetch_block_entry t)
   unfolding fetch_block_entry
   block_entry t s = chained (tried t _ (entry_checked t.held s)) (λ u k.
-      let p = t.held.place in
+      let p = t.held.position in
       let v = on_held (roll_indent p.col None Tok.block_sequence_start p) (skip_indicator u) in
-      chained (read v.held (space Yes v.rest v.held.place) check_dash (rolled p.col None _ p (skip_indicator u).held tt tt (record { stood = k.stood })) (λ z x l. dash_checked z x l)) (λ z l.
+      chained (read v.held (space Yes v.rest v.held.position) check_dash (rolled p.col None _ p (skip_indicator u).held tt tt (record { stood = k.stood })) (λ z x l. dash_checked z x l)) (λ z l.
       chained (spaces_skipped No z l) (λ x m.
       chained (tried (roll_entry x) _ (removed (roll_entry x).held (entry_rolled x m))) (λ y n. went (record { stood = pushed _ _ _ _ _ tt n.stood })))))
 
   key_begun : (h : Held) → Stands w h → Holds (Stands w) (begin_key h)
   unfolding begin_key
-  key_begun h s = choice _ (went (record { stood = s.stood })) (passes _ _ (went (rolled h.place.col None _ h.place h tt tt s)))
+  key_begun h s = choice _ (went (record { stood = s.stood })) (passes _ _ (went (rolled h.position.col None _ h.position h tt tt s)))
 
   key_spaced : (t : ScannerState) → Stands w t.held → Holds (StandsAt w) (check_key_space t)
   unfolding check_key_space
@@ -391,20 +391,20 @@ module _ (w : Watched) (kept : IsKept w) where
 
   value_spaced : (t : ScannerState) → Stands w t.held → Holds (StandsAt w) (check_value_space t)
   unfolding check_value_space
-  value_spaced t s = choice (peek t.rest == 9) (read t.held (space Yes t.rest t.held.place) check_after_tab s (λ x u k. after_tab_checked x u k)) (went s)
+  value_spaced t s = choice (peek t.rest == 9) (read t.held (space Yes t.rest t.held.position) check_after_tab s (λ x u k. after_tab_checked x u k)) (went s)
 
   pair_begun : (k : Key) (p : Position) (pair : Bool) (h : Held) → w.number k.number → Stands w h → Holds (Stands w) (begin_pair k p pair h)
   unfolding begin_pair
-  pair_begun k p pair h l s = choice pair (passes _ _ (went (put_in k.number h.place _ h tt l s))) (went s)
+  pair_begun k p pair h l s = choice pair (passes _ _ (went (put_in k.number h.position _ h tt l s))) (went s)
 
   key_inserted : (k : Key) (p : Position) (pair : Bool) (h : Held) → w.number k.number → Stands w h → Holds (Stands w) (insert_key k p pair h)
   unfolding insert_key
-  key_inserted k p pair h l s = chained (pair_begun k p pair _ l (put_in k.number k.place Tok.key h tt l s)) (λ u m.
-      let v = rolled_one _ (rolled k.place.col (Some k.number) Tok.block_mapping_start p u tt l m) in
+  key_inserted k p pair h l s = chained (pair_begun k p pair _ l (put_in k.number k.position Tok.key h tt l s)) (λ u m.
+      let v = rolled_one _ (rolled k.position.col (Some k.number) Tok.block_mapping_start p u tt l m) in
       went (record { stood = rekeyed (topped w.number None _ tt v.stood.keys) v.stood }))
 
   keyless_paired : (pair : Bool) (h : Held) → Stands w h → Stands w (begin_keyless_pair pair h)
-  keyless_paired pair h s = held_choice pair (more h.place Tok.flow_mapping_start h tt s) s
+  keyless_paired pair h s = held_choice pair (more h.position Tok.flow_mapping_start h tt s) s
 
   keyless_mapped : (p : Position) (h : Held) → Stands w h → Holds (Stands w) (begin_keyless_mapping p h)
   unfolding begin_keyless_mapping
@@ -421,7 +421,7 @@ module _ (w : Watched) (kept : IsKept w) where
   value_fetched : (t : ScannerState) → Stands w t.held → Holds (StandsAt w) (fetch_value t)
   unfolding fetch_value
   value_fetched t s = chained (value_spaced (skip_indicator (on_held (λ h. record h { flow = paired h.flow }) t)) (record { stood = s.stood })) (λ u k.
-      chained (tried u _ (value_begun (top_key u.held.keys) t.held.place (opens_pair t.held.flow) u.held (top_is w.number u.held.keys k.stood.keys) k)) (λ v l. went (more _ _ _ tt l)))
+      chained (tried u _ (value_begun (top_key u.held.keys) t.held.position (opens_pair t.held.flow) u.held (top_is w.number u.held.keys k.stood.keys) k)) (λ v l. went (more _ _ _ tt l)))
 
   -- ---- streams and documents
 
@@ -435,7 +435,7 @@ module _ (w : Watched) (kept : IsKept w) where
 
   stream_ended : (t : ScannerState) → Stands w t.held → Holds (λ u. IsOver w u.held) (fetch_stream_end t)
   unfolding fetch_stream_end
-  stream_ended t s = tried t _ (stream_over (record t.held { place = next_line t.held.place }) (record { stood = s.stood }))
+  stream_ended t s = tried t _ (stream_over (record t.held { position = next_line t.held.position }) (record { stood = s.stood }))
 
   key_closed : (r : Result Held Fault) → Holds (Stands w) r → Holds (Stands w) (closed_key r)
   key_closed r (went s) = went (record { stood = s.stood })
@@ -448,7 +448,7 @@ module _ (w : Watched) (kept : IsKept w) where
   directive_fetched : (t : ScannerState) → Stands w t.held → Holds (StandsAt w) (fetch_directive t)
   unfolding fetch_directive
   directive_fetched t s = chained (tried t _ (line_begun t.held s)) (λ u k.
-      read_as u.held (directive u.rest u.held.place) (λ tok v. Ok (on_held (λ s. push t.held.place tok (record s { leading = true })) v)) k (directive_is_no_end u.rest u.held.place) (λ tok v q l.
+      read_as u.held (directive u.rest u.held.position) (λ tok v. Ok (on_held (λ s. push t.held.position tok (record s { leading = true })) v)) k (directive_is_no_end u.rest u.held.position) (λ tok v q l.
       went (record { stood = pushed _ _ _ _ _ q l.stood })))
 
   marker_fetched : (tok : Tok) (t : ScannerState) → IsNoEnd tok → Stands w t.held → Holds (StandsAt w) (fetch_document_marker tok t)
@@ -470,18 +470,18 @@ module _ (w : Watched) (kept : IsKept w) where
 
   anchor_fetched : (alias : Bool) (t : ScannerState) → Stands w t.held → Holds (StandsAt w) (fetch_anchor alias t)
   unfolding fetch_anchor
-  anchor_fetched alias t s = read (node_start t.held) (anchor_name t.rest t.held.place) _ (node_begun t.held s) (λ name u k. went (record { stood = pushed _ _ _ _ _ (anchor_is_no_end alias name) k.stood }))
+  anchor_fetched alias t s = read (node_start t.held) (anchor_name t.rest t.held.position) _ (node_begun t.held s) (λ name u k. went (record { stood = pushed _ _ _ _ _ (anchor_is_no_end alias name) k.stood }))
 
   tag_fetched : (t : ScannerState) → Stands w t.held → Holds (StandsAt w) (fetch_tag t)
   unfolding fetch_tag
-  tag_fetched t s = read (node_start t.held) (tag (in_flow t.held) t.rest t.held.place) _ (node_begun t.held s) (λ g u k. went (record { stood = pushed _ _ _ _ _ tt k.stood }))
+  tag_fetched t s = read (node_start t.held) (tag (in_flow t.held) t.rest t.held.position) _ (node_begun t.held s) (λ g u k. went (record { stood = pushed _ _ _ _ _ tt k.stood }))
 
   block_fetched : (literal : Bool) (t : ScannerState) → Stands w t.held → Holds (StandsAt w) (fetch_block_scalar literal t)
   unfolding fetch_block_scalar
   block_fetched literal t s =
       let h = unroll_non_block_indents (allow_key true (save_implicit_key t.held)) in
       let l = saved t.held s in
-      read h (block literal h.indent t.rest t.held.place) _ (unrolled_open _ (record { stood = l.stood })) (λ b u k. went (record { stood = pushed _ _ _ _ _ tt k.stood }))
+      read h (block literal h.indent t.rest t.held.position) _ (unrolled_open _ (record { stood = l.stood })) (λ b u k. went (record { stood = pushed _ _ _ _ _ tt k.stood }))
 
   quoted_checked : (line : ℕ) (t : ScannerState) → Stands w t.held → Holds (StandsAt w) (check_after_quoted line t)
   unfolding check_after_quoted
@@ -491,15 +491,15 @@ module _ (w : Watched) (kept : IsKept w) where
   unfolding fetch_flow_scalar
   flow_scalar_fetched single t s =
       let h = node_start t.held in
-      read h (quoted single (context h) t.rest t.held.place) _ (node_begun t.held s) (λ text u k.
-      chained (quoted_checked t.held.place.line (on_held unled u) (record { stood = k.stood })) (λ v l.
+      read h (quoted single (context h) t.rest t.held.position) _ (node_begun t.held s) (λ text u k.
+      chained (quoted_checked t.held.position.line (on_held unled u) (record { stood = k.stood })) (λ v l.
       chained (to_token v l) (λ x m. went (record { stood = pushed _ _ _ _ _ tt m.stood }))))
 
   plain_fetched : (t : ScannerState) → Stands w t.held → Holds (StandsAt w) (fetch_plain_scalar t)
   unfolding fetch_plain_scalar
   plain_fetched t s =
       let h = unroll_non_block_indents (node_start t.held) in
-      read h (plain (context h) t.rest t.held.place) _ (unrolled_open _ (node_begun t.held s)) (λ r u k. went (record { stood = pushed _ _ _ _ _ tt k.stood }))
+      read h (plain (context h) t.rest t.held.position) _ (unrolled_open _ (node_begun t.held s)) (λ r u k. went (record { stood = pushed _ _ _ _ _ tt k.stood }))
 
   -- ---- the next token
 
@@ -543,7 +543,7 @@ module _ (w : Watched) (kept : IsKept w) where
   fares_stale : (h : Held) → Fares w h → Holds (Fares w) (stale h)
   unfolding stale
   fares_stale h (goes s) = weakened (λ u p. goes p) (stale_dropped h s)
-  fares_stale h (over s) = choice (in_flow h) (went (over s)) (by _ (dropped w.number h.place h.keys s.keys))
+  fares_stale h (over s) = choice (in_flow h) (went (over s)) (by _ (dropped w.number h.position h.keys s.keys))
     where
       by : (r : Result (List (Option Key)) Fault) → Holds (KeysAre w.number) r → Holds (Fares w) (with_keys h r)
       by r (went p) = went (over (record { all = s.all; keys = p; ended = s.ended }))
@@ -552,7 +552,7 @@ module _ (w : Watched) (kept : IsKept w) where
   next_fetched : (t : ScannerState) → Stands w t.held → Holds (FaresAt w) (fetch_next t)
   unfolding fetch_next
   next_fetched t s = chained (to_token t s) (λ u k. chained (tried u _ (stale_dropped u.held k)) (λ v l.
-      chained (here_fetched (on_held (λ h. unroll_indent (h.place.col + 1) h) v) (unrolled_all (v.held.place.col + 1) v.held l)) (λ x m.
+      chained (here_fetched (on_held (λ h. unroll_indent (h.position.col + 1) h) v) (unrolled_all (v.held.position.col + 1) v.held l)) (λ x m.
       tried x _ (fares_stale x.held m))))
 
   pub fetched : (t : ScannerState) → Stands w t.held → Holds (FaresAt w) (fetch t)

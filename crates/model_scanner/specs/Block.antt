@@ -17,15 +17,15 @@ use Rattle.model_scanner.specs.Indents.{roll_indent, roll_one_col_indent}
 use Rattle.model_scanner.specs.Space.{skip_spaces, skip_yaml_whitespace}
 use Rattle.model_scanner.specs.Flow.{allow_key}
 
-abbrev pub property_place : Tok → Position → Option Position
-property_place (Tok.anchor name) p = Some p
-property_place (Tok.tag handle suffix) p = Some p
-property_place _ p = None
+abbrev pub property_position : Tok → Position → Option Position
+property_position (Tok.anchor name) p = Some p
+property_position (Tok.tag handle suffix) p = Some p
+property_position _ p = None
 
--- the place of the last token, where that is an anchor or a tag
+-- the position of the last token, where that is an anchor or a tag
 abbrev pub last_property : List Token → Option Position
 last_property [] = None
-last_property (t ∷ []) = property_place t.tok t.place
+last_property (t ∷ []) = property_position t.tok t.position
 last_property (t ∷ u ∷ ts) = last_property (u ∷ ts)
 
 -- an anchor or a tag at the first column, which must not belong to an entry there
@@ -36,12 +36,12 @@ at_margin (Some q) p s = (if (p.col == 0) && (q.col == 0) && nat_lt 0 s.indent t
 -- Whether an entry of a block sequence may stand here.
 unfoldable pub check_block_entry : Held → Result Held Fault
 check_block_entry s =
-    (if in_flow s then Err (At problem.BlockEntryInFlow s.place) else
-    (if not s.key_allowed then Err (At problem.BlockEntryNotAllowed s.place) else at_margin (last_property s.tokens) s.place s))
+    (if in_flow s then Err (At problem.BlockEntryInFlow s.position) else
+    (if not s.key_allowed then Err (At problem.BlockEntryNotAllowed s.position) else at_margin (last_property s.tokens) s.position s))
 
 -- A TAB must not stand between two dashes that are indicators.
 unfoldable pub check_dash : Whitespace → ScannerState → Result ScannerState Fault
-check_dash w t = (if w.found_tabs && (slice_index t.rest 0 == 45) && is_blank_or_breakz (slice_index t.rest 1) then Err (At problem.TabAfterDash t.held.place) else Ok t)
+check_dash w t = (if w.found_tabs && (slice_index t.rest 0 == 45) && is_blank_or_breakz (slice_index t.rest 1) then Err (At problem.TabAfterDash t.held.position) else Ok t)
 
 -- A level that opens no collection stands for an entry on a later line, or one that begins with a flow indicator.
 unfoldable pub roll_entry : ScannerState → ScannerState
@@ -51,11 +51,11 @@ roll_entry t = (if is_break (peek t.rest) || is_flow (peek t.rest) then on_held 
 unfoldable pub fetch_block_entry : ScannerState → Result ScannerState Fault
 fetch_block_entry t =
     try_held check_block_entry t >>= λ u.
-    let v = on_held (roll_indent t.held.place.col None Tok.block_sequence_start t.held.place) (skip_indicator u) in
-    lexed (space Yes v.rest v.held.place) v.held check_dash >>= λ w.
+    let v = on_held (roll_indent t.held.position.col None Tok.block_sequence_start t.held.position) (skip_indicator u) in
+    lexed (space Yes v.rest v.held.position) v.held check_dash >>= λ w.
     skip_spaces No w >>= λ x.
     try_held remove_implicit_key (roll_entry x) >>= λ y.
-    Ok (on_held (λ s. push s.place Tok.block_entry (allow_key true s)) y)
+    Ok (on_held (λ s. push s.position Tok.block_entry (allow_key true s)) y)
 
 -- whether a key with `?` may stand here, and its mapping
 abbrev pub keyed : List FlowLevel → List FlowLevel
@@ -65,10 +65,10 @@ keyed fs = fs
 unfoldable pub begin_key : Held → Result Held Fault
 begin_key s =
     (if in_flow s then Ok (record s { flow = keyed s.flow }) else
-    (if not s.key_allowed then Err (At problem.KeyNotAllowed s.place) else Ok (roll_indent s.place.col None Tok.block_mapping_start s.place s)))
+    (if not s.key_allowed then Err (At problem.KeyNotAllowed s.position) else Ok (roll_indent s.position.col None Tok.block_mapping_start s.position s)))
 
 unfoldable pub check_key_space : ScannerState → Result ScannerState Fault
-check_key_space t = (if peek t.rest == 9 then Err (At problem.TabAfterKey t.held.place) else Ok t)
+check_key_space t = (if peek t.rest == 9 then Err (At problem.TabAfterKey t.held.position) else Ok t)
 
 -- `?`
 unfoldable pub fetch_key : ScannerState → Result ScannerState Fault
@@ -77,15 +77,15 @@ fetch_key t =
     try_held remove_implicit_key u >>= λ v.
     skip_yaml_whitespace (skip_indicator (on_held (λ s. allow_key (not (in_flow s)) s) v)) >>= λ w.
     check_key_space w >>= λ x.
-    Ok (on_held (push t.held.place Tok.key) x)
+    Ok (on_held (push t.held.position Tok.key) x)
 
 -- after a `:`, a TAB and more blanks
 unfoldable pub check_after_tab : Whitespace → ScannerState → Result ScannerState Fault
-check_after_tab w t = (if not w.has_valid_yaml_ws && ((peek t.rest == 45) || is_alpha (peek t.rest)) then Err (At problem.TabAfterColon t.held.place) else Ok t)
+check_after_tab w t = (if not w.has_valid_yaml_ws && ((peek t.rest == 45) || is_alpha (peek t.rest)) then Err (At problem.TabAfterColon t.held.position) else Ok t)
 
 -- What must not follow a `:` and a TAB.
 unfoldable pub check_value_space : ScannerState → Result ScannerState Fault
-check_value_space t = (if peek t.rest == 9 then lexed (space Yes t.rest t.held.place) t.held check_after_tab else Ok t)
+check_value_space t = (if peek t.rest == 9 then lexed (space Yes t.rest t.held.position) t.held check_after_tab else Ok t)
 
 abbrev pub opens_pair : List FlowLevel → Bool
 opens_pair (Entry ∷ fs) = true
@@ -98,17 +98,17 @@ paired fs = fs
 -- In a pair of a flow sequence the key stands on the line of its `:`, and the pair begins before the key.
 unfoldable pub begin_pair : Key → Position → Bool → Held → Result Held Fault
 begin_pair k p pair s =
-    (if pair then (if nat_lt k.place.line p.line then Err (At problem.ColonMisplaced p) else Ok (put k.number s.place Tok.flow_mapping_start s)) else Ok s)
+    (if pair then (if nat_lt k.position.line p.line then Err (At problem.ColonMisplaced p) else Ok (put k.number s.position Tok.flow_mapping_start s)) else Ok s)
 
 -- The key that began without `?` gets its token, and its mapping a start where it is the first.
 unfoldable pub insert_key : Key → Position → Bool → Held → Result Held Fault
 insert_key k p pair s =
-    begin_pair k p pair (put k.number k.place Tok.key s) >>= λ u.
-    let v = roll_one_col_indent (roll_indent k.place.col (Some k.number) Tok.block_mapping_start p u) in
+    begin_pair k p pair (put k.number k.position Tok.key s) >>= λ u.
+    let v = roll_one_col_indent (roll_indent k.position.col (Some k.number) Tok.block_mapping_start p u) in
     Ok (record v { keys = with_top None v.keys; key_allowed = false })
 
 abbrev pub begin_keyless_pair : Bool → Held → Held
-begin_keyless_pair pair s = (if pair then push s.place Tok.flow_mapping_start s else s)
+begin_keyless_pair pair s = (if pair then push s.position Tok.flow_mapping_start s else s)
 
 unfoldable pub begin_keyless_mapping : Position → Held → Result Held Fault
 begin_keyless_mapping p s =
@@ -130,5 +130,5 @@ value_of None p pair s = begin_keyless_value p pair s
 unfoldable pub fetch_value : ScannerState → Result ScannerState Fault
 fetch_value t =
     check_value_space (skip_indicator (on_held (λ s. record s { flow = paired s.flow }) t)) >>= λ u.
-    try_held (λ s. value_of (top_key s.keys) t.held.place (opens_pair t.held.flow) s) u >>= λ v.
-    Ok (on_held (push t.held.place Tok.value) v)
+    try_held (λ s. value_of (top_key s.keys) t.held.position (opens_pair t.held.flow) s) u >>= λ v.
+    Ok (on_held (push t.held.position Tok.value) v)

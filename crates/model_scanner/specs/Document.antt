@@ -23,7 +23,7 @@ use Rattle.model_scanner.specs.Flow.{allow_key}
 
 -- the stream's start, and what may be a key outside flow
 abbrev pub begin_stream : Held → Held
-begin_stream s = record (push s.place Tok.stream_start s) { keys = None ∷ s.keys; key_allowed = true; started = true }
+begin_stream s = record (push s.position Tok.stream_start s) { keys = None ∷ s.keys; key_allowed = true; started = true }
 
 unfoldable pub fetch_stream_start : ScannerState → ScannerState
 fetch_stream_start t = on_held begin_stream t
@@ -33,13 +33,13 @@ abbrev pub next_line : Position → Position
 next_line p = (if p.col == 0 then p else record p { line = p.line + 1; col = 0 })
 
 abbrev pub ended_at : Held → Held
-ended_at s = record (push s.place Tok.stream_end s) { key_allowed = false; ended = true }
+ended_at s = record (push s.position Tok.stream_end s) { key_allowed = false; ended = true }
 
 abbrev pub end_stream : Held → Result Held Fault
-end_stream s = (if has_required s.keys then Err (At problem.KeyExpected s.place) else Ok (ended_at (unroll_indent 0 (record s { keys = cleared s.keys }))))
+end_stream s = (if has_required s.keys then Err (At problem.KeyExpected s.position) else Ok (ended_at (unroll_indent 0 (record s { keys = cleared s.keys }))))
 
 unfoldable pub fetch_stream_end : ScannerState → Result ScannerState Fault
-fetch_stream_end t = try_held (λ s. end_stream (record s { place = next_line s.place })) t
+fetch_stream_end t = try_held (λ s. end_stream (record s { position = next_line s.position })) t
 
 abbrev pub closed_key : Result Held Fault → Result Held Fault
 closed_key (Ok s) = Ok (allow_key false s)
@@ -53,16 +53,16 @@ begin_line s = closed_key (remove_implicit_key (unroll_indent 0 s))
 unfoldable pub fetch_directive : ScannerState → Result ScannerState Fault
 fetch_directive t =
     try_held begin_line t >>= λ u.
-    lexed (directive u.rest u.held.place) u.held (λ tok v. Ok (on_held (λ s. push t.held.place tok (record s { leading = true })) v))
+    lexed (directive u.rest u.held.position) u.held (λ tok v. Ok (on_held (λ s. push t.held.position tok (record s { leading = true })) v))
 
 -- `---` or `...`
 unfoldable pub fetch_document_marker : Tok → ScannerState → Result ScannerState Fault
 fetch_document_marker tok t =
     try_held begin_line t >>= λ u.
-    Ok (on_held (push t.held.place tok) (skip_indicator (skip_indicator (skip_indicator u))))
+    Ok (on_held (push t.held.position tok) (skip_indicator (skip_indicator (skip_indicator u))))
 
 unfoldable pub check_document_end : ScannerState → Result ScannerState Fault
-check_document_end t = (if is_breakz (peek t.rest) then Ok t else Err (At problem.ContentAfterDocumentEnd t.held.place))
+check_document_end t = (if is_breakz (peek t.rest) then Ok t else Err (At problem.ContentAfterDocumentEnd t.held.position))
 
 -- `...`, after which the line has no content.
 unfoldable pub fetch_document_end : ScannerState → Result ScannerState Fault
@@ -80,11 +80,11 @@ node_start s = allow_key false (save_implicit_key s)
 
 -- `*name` or `&name`
 unfoldable pub fetch_anchor : Bool → ScannerState → Result ScannerState Fault
-fetch_anchor alias t = lexed (anchor_name t.rest t.held.place) (node_start t.held) (λ name u. Ok (on_held (λ s. push t.held.place (anchor_token alias name) (unled s)) u))
+fetch_anchor alias t = lexed (anchor_name t.rest t.held.position) (node_start t.held) (λ name u. Ok (on_held (λ s. push t.held.position (anchor_token alias name) (unled s)) u))
 
 -- `!`
 unfoldable pub fetch_tag : ScannerState → Result ScannerState Fault
-fetch_tag t = lexed (tag (in_flow t.held) t.rest t.held.place) (node_start t.held) (λ g u. Ok (on_held (λ s. push t.held.place (Tok.tag g.handle g.suffix) (unled s)) u))
+fetch_tag t = lexed (tag (in_flow t.held) t.rest t.held.position) (node_start t.held) (λ g u. Ok (on_held (λ s. push t.held.position (Tok.tag g.handle g.suffix) (unled s)) u))
 
 abbrev pub block_style : Bool → Style
 block_style literal = (if literal then Style.literal else Style.folded)
@@ -93,7 +93,7 @@ block_style literal = (if literal then Style.literal else Style.folded)
 unfoldable pub fetch_block_scalar : Bool → ScannerState → Result ScannerState Fault
 fetch_block_scalar literal t =
     let h = unroll_non_block_indents (allow_key true (save_implicit_key t.held)) in
-    lexed (block literal h.indent t.rest t.held.place) h (λ b u. Ok (on_held (λ s. push b.place (Tok.scalar (block_style literal) b.text) (record s { leading = true })) u))
+    lexed (block literal h.indent t.rest t.held.position) h (λ b u. Ok (on_held (λ s. push b.position (Tok.scalar (block_style literal) b.text) (record s { leading = true })) u))
 
 abbrev pub context : Held → Context
 context s = record { flow = in_flow s; indent = s.indent }
@@ -105,23 +105,23 @@ may_follow_quoted flow same_line c = is_breakz c || (if flow then (c == 44) || (
 unfoldable pub check_after_quoted : ℕ → ScannerState → Result ScannerState Fault
 check_after_quoted line t =
     skip_spaces Yes t >>= λ u.
-    (if may_follow_quoted (in_flow u.held) (line == u.held.place.line) (peek u.rest) then Ok u else Err (At problem.ContentAfterQuoted u.held.place))
+    (if may_follow_quoted (in_flow u.held) (line == u.held.position.line) (peek u.rest) then Ok u else Err (At problem.ContentAfterQuoted u.held.position))
 
 abbrev pub quoted_style : Bool → Style
 quoted_style single = (if single then Style.single_quoted else Style.double_quoted)
 
 -- A `:` may stand right after a quoted scalar that is a key, also on a later line.
 abbrev pub adjacent_here : Held → Held
-adjacent_here s = record s { adjacent_value_at = s.place.index }
+adjacent_here s = record s { adjacent_value_at = s.position.index }
 
 -- `'` or `"`
 unfoldable pub fetch_flow_scalar : Bool → ScannerState → Result ScannerState Fault
 fetch_flow_scalar single t =
     let h = node_start t.held in
-    lexed (quoted single (context h) t.rest t.held.place) h (λ text u.
-    check_after_quoted t.held.place.line (on_held unled u) >>= λ v.
+    lexed (quoted single (context h) t.rest t.held.position) h (λ text u.
+    check_after_quoted t.held.position.line (on_held unled u) >>= λ v.
     skip_to_next_token v >>= λ w.
-    Ok (on_held (λ s. push t.held.place (Tok.scalar (quoted_style single) text) (adjacent_here s)) w))
+    Ok (on_held (λ s. push t.held.position (Tok.scalar (quoted_style single) text) (adjacent_here s)) w))
 
 abbrev pub after_plain : Bool → Held → Held
 after_plain leading s = record s { leading = leading; key_allowed = leading }
@@ -129,4 +129,4 @@ after_plain leading s = record s { leading = leading; key_allowed = leading }
 unfoldable pub fetch_plain_scalar : ScannerState → Result ScannerState Fault
 fetch_plain_scalar t =
     let h = unroll_non_block_indents (node_start t.held) in
-    lexed (plain (context h) t.rest t.held.place) h (λ r u. Ok (on_held (λ s. push t.held.place (Tok.scalar Style.plain r.text) (after_plain r.leading s)) u))
+    lexed (plain (context h) t.rest t.held.position) h (λ r u. Ok (on_held (λ s. push t.held.position (Tok.scalar Style.plain r.text) (after_plain r.leading s)) u))

@@ -23,7 +23,7 @@ second t = slice_index t.rest 1
 
 -- Whether a `:` here is the indicator of a value.
 unfoldable pub is_value : ScannerState → Bool
-is_value t = is_blank_or_breakz (second t) || (in_flow t.held && (is_flow (second t) || (t.held.place.index == t.held.adjacent_value_at)))
+is_value t = is_blank_or_breakz (second t) || (in_flow t.held && (is_flow (second t) || (t.held.position.index == t.held.adjacent_value_at)))
 
 abbrev pub token_by : Class → ScannerState → Result ScannerState Fault
 token_by class.OpenBracket t = fetch_flow_collection_start Entry Tok.flow_sequence_start t
@@ -41,9 +41,9 @@ token_by class.Bar t = (if in_flow t.held then fetch_plain_scalar t else fetch_b
 token_by class.Greater t = (if in_flow t.held then fetch_plain_scalar t else fetch_block_scalar false t)
 token_by class.SingleQuote t = fetch_flow_scalar true t
 token_by class.DoubleQuote t = fetch_flow_scalar false t
-token_by class.Percent t = Err (At problem.UnexpectedPercent t.held.place)
-token_by class.AtSign t = Err (At problem.UnexpectedAt t.held.place)
-token_by class.Backtick t = Err (At problem.UnexpectedBacktick t.held.place)
+token_by class.Percent t = Err (At problem.UnexpectedPercent t.held.position)
+token_by class.AtSign t = Err (At problem.UnexpectedAt t.held.position)
+token_by class.Backtick t = Err (At problem.UnexpectedBacktick t.held.position)
 token_by _ t = fetch_plain_scalar t
 
 unfoldable pub fetch_token : ScannerState → Result ScannerState Fault
@@ -55,7 +55,7 @@ comes_marker c a = (slice_index a 0 == c) && (slice_index a 1 == c) && (slice_in
 
 -- What does not begin at a line's first column must not stand left of the innermost block collection.
 unfoldable pub fetch_indented : ScannerState → Result ScannerState Fault
-fetch_indented t = (if nat_lt (t.held.place.col + 1) t.held.indent then Err (At problem.InvalidIndentation t.held.place) else fetch_token t)
+fetch_indented t = (if nat_lt (t.held.position.col + 1) t.held.indent then Err (At problem.InvalidIndentation t.held.position) else fetch_token t)
 
 -- what begins at a line's first column
 unfoldable pub fetch_first_column : ScannerState → Result ScannerState Fault
@@ -65,7 +65,7 @@ fetch_first_column t =
     (if comes_marker 46 t.rest then fetch_document_end t else fetch_indented t)))
 
 unfoldable pub fetch_content : ScannerState → Result ScannerState Fault
-fetch_content t = (if t.held.place.col == 0 then fetch_first_column t else fetch_indented t)
+fetch_content t = (if t.held.position.col == 0 then fetch_first_column t else fetch_indented t)
 
 -- a token of a text that goes on, or the stream's end
 unfoldable pub fetch_here : ScannerState → Result ScannerState Fault
@@ -76,7 +76,7 @@ unfoldable pub fetch_next : ScannerState → Result ScannerState Fault
 fetch_next t =
     skip_to_next_token t >>= λ u.
     try_held stale u >>= λ v.
-    fetch_here (on_held (λ s. unroll_indent (s.place.col + 1) s) v) >>= λ w.
+    fetch_here (on_held (λ s. unroll_indent (s.position.col + 1) s) v) >>= λ w.
     try_held stale w
 
 -- One call of the scanner: a token more, or several.

@@ -15,7 +15,7 @@ use Rattle.model_scanner.specs.Space.{skip_spaces}
 
 -- At most 255 flow collections stand one in another.
 unfoldable pub increase_flow_level : FlowLevel → Held → Result Held Fault
-increase_flow_level kind s = (if nat_le 255 (length s.flow) then Err (At problem.FlowTooDeep s.place) else Ok (record s { keys = None ∷ s.keys; flow = kind ∷ s.flow }))
+increase_flow_level kind s = (if nat_le 255 (length s.flow) then Err (At problem.FlowTooDeep s.position) else Ok (record s { keys = None ∷ s.keys; flow = kind ∷ s.flow }))
 
 abbrev pub allow_key : Bool → Held → Held
 allow_key b s = record s { key_allowed = b }
@@ -37,10 +37,10 @@ unfoldable pub fetch_flow_collection_start : FlowLevel → Tok → ScannerState 
 fetch_flow_collection_start kind tok t =
     try_held (begin_flow kind) t >>= λ u.
     pass_indicator u >>= λ v.
-    Ok (on_held (push t.held.place tok) v)
+    Ok (on_held (push t.held.position tok) v)
 
 abbrev pub end_pair : List FlowLevel → Held → Held
-end_pair (Pair ∷ fs) s = push s.place Tok.flow_mapping_end (record s { flow = Entry ∷ fs })
+end_pair (Pair ∷ fs) s = push s.position Tok.flow_mapping_end (record s { flow = Entry ∷ fs })
 end_pair (Keyed ∷ fs) s = record s { flow = Entry ∷ fs }
 end_pair _ s = s
 
@@ -53,7 +53,7 @@ decrease_flow_level s = (if is_empty s.flow then s else record s { flow = pop s.
 
 -- A `:` may stand right after a flow collection that is a key.
 unfoldable pub adjacent_in_flow : Held → Held
-adjacent_in_flow s = (if in_flow s then record s { adjacent_value_at = s.place.index } else s)
+adjacent_in_flow s = (if in_flow s then record s { adjacent_value_at = s.position.index } else s)
 
 abbrev pub ended_flow : Result Held Fault → Result Held Fault
 ended_flow (Ok s) = Ok (allow_key false (decrease_flow_level (end_flow_pair s)))
@@ -67,7 +67,7 @@ unfoldable pub fetch_flow_collection_end : Tok → ScannerState → Result Scann
 fetch_flow_collection_end tok t =
     try_held end_flow t >>= λ u.
     pass_indicator u >>= λ v.
-    Ok (on_held (λ s. push t.held.place tok (adjacent_in_flow s)) v)
+    Ok (on_held (λ s. push t.held.position tok (adjacent_in_flow s)) v)
 
 abbrev pub next_entry : Result Held Fault → Result Held Fault
 next_entry (Ok s) = Ok (end_flow_pair (allow_key true s))
@@ -81,4 +81,4 @@ unfoldable pub fetch_flow_entry : ScannerState → Result ScannerState Fault
 fetch_flow_entry t =
     try_held end_entry t >>= λ u.
     pass_indicator u >>= λ v.
-    Ok (on_held (push t.held.place Tok.flow_entry) v)
+    Ok (on_held (push t.held.position Tok.flow_entry) v)

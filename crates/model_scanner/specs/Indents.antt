@@ -26,11 +26,11 @@ drop_open_level col s = (if nat_le s.indent (col + 1) then drop_open s s.indents
 unfoldable pub deepen : ℕ → Option ℕ → Token → Held → Held
 deepen col number t s = (if nat_lt s.indent (col + 1) then record s { indents = level s.indent true ∷ s.indents; indent = col + 1; tokens = placed number t s.tokens } else s)
 
--- A collection begins at a column, unless one stands there or the place is inside flow. Its start goes in before the tokens of a number, or after all.
+-- A collection begins at a column, unless one stands there or the position is inside flow. Its start goes in before the tokens of a number, or after all.
 unfoldable pub roll_indent : ℕ → Option ℕ → Tok → Position → Held → Held
 roll_indent col number t p s = (if in_flow s then s else deepen col number (token p t) (drop_open_level col s))
 
--- whether the innermost level is a block collection, and the place is outside flow
+-- whether the innermost level is a block collection, and the position is outside flow
 unfoldable pub in_block : Held → Bool
 in_block s = not (in_flow s) && top_needs_block_end s.indents
 
@@ -56,7 +56,7 @@ unrolled limit p i (d ∷ ds) ts = (if nat_lt limit i then unrolled limit p d.in
 
 -- Outside flow, the levels deeper than the limit end.
 unfoldable pub unroll_indent : ℕ → Held → Held
-unroll_indent limit s = (if in_flow s then s else with_levels s (unrolled limit s.place s.indent s.indents s.tokens))
+unroll_indent limit s = (if in_flow s then s else with_levels s (unrolled limit s.position s.indent s.indents s.tokens))
 
 unfoldable pub without_open : ℕ → List Indent → List Token → Levels
 without_open i [] ts = record { indent = i; indents = []; tokens = ts }

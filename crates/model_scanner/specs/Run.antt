@@ -8,7 +8,7 @@ use Rattle.model_scanner.specs.Fetch.{fetch}
 
 abbrev pub nothing_held : Held
 nothing_held = record {
-  place = record { index = 0; line = 1; col = 0 };
+  position = record { index = 0; line = 1; col = 0 };
   tokens = [];
   keys = [];
   indents = [];

@@ -19,15 +19,15 @@ pub data Gap : Type 0 where
 
 -- after a line break. Outside flow a key may begin there.
 abbrev pub past_line : Held → Held
-past_line s = record s { place = past_break s.place; leading = true; key_allowed = not (in_flow s) || s.key_allowed }
+past_line s = record s { position = past_break s.position; leading = true; key_allowed = not (in_flow s) || s.key_allowed }
 
 -- at a break's character: of CR LF the CR is passed first
 abbrev pub at_break : ℕ → List ℕ → Held → Held
 at_break c a s = (if is_cr_lf c a then moved s else past_line s)
 
--- whether this place belongs to the indentation of a block collection
+-- whether this position belongs to the indentation of a block collection
 unfoldable pub is_before_indent : Held → Bool
-is_before_indent s = not (is_empty s.indents) && s.leading && nat_lt (s.place.col + 1) s.indent
+is_before_indent s = not (is_empty s.indents) && s.leading && nat_lt (s.position.col + 1) s.indent
 
 abbrev pub in_line : Gap → ℕ → List ℕ → Held → (Gap → Held → Result ScannerState Fault) → Result ScannerState Fault
 in_line between c a s go =
@@ -35,7 +35,7 @@ in_line between c a s go =
     (if is_blank c then go between (moved s) else
     (if c == 35 then go comment (record (moved s) { leading = false }) else Ok (record { rest = c ∷ a; held = s }))))
 in_line comment c a s go = go comment (moved s)
-in_line tab_line c a s go = (if is_blank c then go tab_line (moved s) else (if c == 35 then go comment (moved s) else Err (At problem.TabInBlockIndentation s.place)))
+in_line tab_line c a s go = (if is_blank c then go tab_line (moved s) else (if c == 35 then go comment (moved s) else Err (At problem.TabInBlockIndentation s.position)))
 
 abbrev pub gap_by : Gap → ℕ → List ℕ → Held → (Gap → Held → Result ScannerState Fault) → Result ScannerState Fault
 gap_by m c a s go = (if is_break c then go between (at_break c a s) else in_line m c a s go)
@@ -50,11 +50,11 @@ skip_to_next_token t = skip between t.rest t.held
 
 -- after spaces, TABs where these are skipped, and a comment
 unfoldable pub skip_spaces : SkipTabs → ScannerState → Result ScannerState Fault
-skip_spaces tabs t = lexed (space tabs t.rest t.held.place) t.held (λ w u. Ok u)
+skip_spaces tabs t = lexed (space tabs t.rest t.held.position) t.held (λ w u. Ok u)
 
 abbrev pub white_end : Bool → List ℕ → Held → Result ScannerState Fault
 white_end true a s = Ok (record { rest = a; held = s })
-white_end false a s = Err (At problem.WhitespaceExpected s.place)
+white_end false a s = Err (At problem.WhitespaceExpected s.position)
 
 -- in a comment or not, after a space or a break or not
 abbrev pub white_by : Bool → Bool → ℕ → List ℕ → Held → (Bool → Bool → Held → Result ScannerState Fault) → Result ScannerState Fault

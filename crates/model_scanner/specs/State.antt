@@ -1,4 +1,4 @@
--- What the scanner holds: where it stands, and what it knows of the text before that place.
+-- What the scanner holds: where it stands, and what it knows of the text before that position.
 use Rattle.std.specs.Prelude.{ℕ, ◌+◌, List, [], ◌∷◌, ◌++◌, Bool, true, false, not, Option, Some, None, Result, Ok, Err, cond, nat_le}
 use Rattle.std.specs.List.{insert}
 use Rattle.defs_text.specs.Position.{Position}
@@ -9,15 +9,15 @@ use Rattle.model_scanner.specs.declared.level.Indent.{Indent}
 use Rattle.model_scanner.specs.declared.level.FlowLevel.{FlowLevel}
 use Rattle.model_lexers.specs.Machine.{Read, past, past_break}
 
--- a token that may turn out to be a key: whether it must be one, how many tokens stand before it, and its place
+-- a token that may turn out to be a key: whether it must be one, how many tokens stand before it, and its position
 pub record Key : Type 0 where
   pub required : Bool
   pub number : ℕ
-  pub place : Position
+  pub position : Position
 
--- What the scanner knows of the text before its place.
+-- What the scanner knows of the text before its position.
 pub record Held : Type 0 where
-  pub place : Position
+  pub position : Position
   -- all tokens so far, those handed out among them
   pub tokens : List Token
   -- what may still turn out to be a implicit key: one for each flow level and one outside flow, the innermost first
@@ -30,7 +30,7 @@ pub record Held : Type 0 where
   pub flow : List FlowLevel
   -- whether a key without `?` may begin here
   pub key_allowed : Bool
-  -- whether only blanks stand before this place on its line
+  -- whether only blanks stand before this position on its line
   pub leading : Bool
   -- where a `:` may stand right after a quoted scalar or a flow collection
   pub adjacent_value_at : ℕ
@@ -74,7 +74,7 @@ with_top y [] = []
 with_top y (x ∷ xs) = y ∷ xs
 
 abbrev pub token : Position → Tok → Token
-token p t = record { place = p; tok = t }
+token p t = record { position = p; tok = t }
 
 -- a token more
 abbrev pub push : Position → Tok → Held → Held
@@ -99,9 +99,9 @@ with_held t (Err f) = Err f
 abbrev pub try_held : (Held → Result Held Fault) → ScannerState → Result ScannerState Fault
 try_held f t = with_held t (f t.held)
 
--- at the place where a lexing function ended
+-- at the position where a lexing function ended
 abbrev pub go_on : {A : Type 0} → Read A → Held → ScannerState
-go_on r s = record { rest = r.rest; held = record s { place = r.place } }
+go_on r s = record { rest = r.rest; held = record s { position = r.position } }
 
 -- after what a lexing function read
 abbrev pub lexed : {A : Type 0} → Result (Read A) Fault → Held → (A → ScannerState → Result ScannerState Fault) → Result ScannerState Fault
@@ -110,8 +110,8 @@ lexed (Err f) s go = Err f
 
 -- one character on in a line
 abbrev pub moved : Held → Held
-moved s = record s { place = past s.place }
+moved s = record s { position = past s.position }
 
 -- after an indicator
 abbrev pub skip_indicator : ScannerState → ScannerState
-skip_indicator t = record { rest = after t.rest; held = record t.held { place = past t.held.place; leading = false } }
+skip_indicator t = record { rest = after t.rest; held = record t.held { position = past t.held.position; leading = false } }

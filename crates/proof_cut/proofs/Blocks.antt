@@ -78,7 +78,7 @@ is_outside flow out = same_flow flow ∙ ap not out
 pub roll_stood : (text : List ℕ) (c : ℕ) (more : List ℕ) (start mark : Tok) → IsStart start → IsMark mark c more → (h u : Held) (before : Before) → is_empty h.flow ≡ true → (p at at2 : Position) (v : ScannerState) →
     (g : Filled more (past p) v) → Rolls p.col None (token at start) h u →
     Stood text (c ∷ more) p h.tokens h.keys h.indents h.indent h.flow before →
-    Stood text v.rest v.held.place (u.tokens ++ token at2 mark ∷ []) (with_top None h.keys) u.indents u.indent h.flow other
+    Stood text v.rest v.held.position (u.tokens ++ token at2 mark ∷ []) (with_top None h.keys) u.indents u.indent h.flow other
 roll_stood text c more start mark f m h u before out p at at2 v g r s = by r
   where
     outside : not (is_empty (levels_of h.flow)) ≡ false
@@ -90,35 +90,35 @@ roll_stood text c more start mark f m h u before out p at at2 v g r s = by r
     each : length (with_top None h.keys) ≡ suc (length h.flow)
     each = length_top h.keys ∙ s.one_each
 
-    by : Rolls p.col None (token at start) h u → Stood text v.rest v.held.place (u.tokens ++ token at2 mark ∷ []) (with_top None h.keys) u.indents u.indent h.flow other
+    by : Rolls p.col None (token at start) h u → Stood text v.rest v.held.position (u.tokens ++ token at2 mark ∷ []) (with_top None h.keys) u.indents u.indent h.flow other
     by (goes_on d) =
         let a : Account = account_of p d.indent d.indents h.flow before in
         let x : Stood text (c ∷ more) p h.tokens h.keys d.indents d.indent h.flow before = stood_levels text (c ∷ more) p h.tokens h.keys h.indents h.indent h.flow before d.indents d.indent d.same_columns d.are_levels s in
-        let k : ReadAs a (c ∷ more) mark at2 v.rest v.held.place = indicated_by a c more mark at2 v m.in_line g (λ next last n. m.piece a next last at2 outside n) in
-        subst (λ y. Stood text v.rest v.held.place (y.tokens ++ token at2 mark ∷ []) (with_top None h.keys) y.indents y.indent h.flow other) (sym d.is_held)
-        (subst (λ b. Stood text v.rest v.held.place (h.tokens ++ token at2 mark ∷ []) (with_top None h.keys) d.indents d.indent h.flow (before_past b g.separation)) m.before
-        (piece_stood text (c ∷ more) p h.tokens h.keys d.indents d.indent h.flow before x mark at2 v.rest v.held.place k (m.blocks (columns d.indent d.indents)) h.flow (m.levels (levels_of h.flow)) (with_top None h.keys) each
-        (none_open 0 (x.row ++ (led x.here.separation (with_piece (c ∷ []) at2 mark) ∷ [])) (g.separation ++ v.rest) v.held.place v.rest (innermost_column (columns d.indent d.indents)) h.keys one)))
+        let k : ReadAs a (c ∷ more) mark at2 v.rest v.held.position = indicated_by a c more mark at2 v m.in_line g (λ next last n. m.piece a next last at2 outside n) in
+        subst (λ y. Stood text v.rest v.held.position (y.tokens ++ token at2 mark ∷ []) (with_top None h.keys) y.indents y.indent h.flow other) (sym d.is_held)
+        (subst (λ b. Stood text v.rest v.held.position (h.tokens ++ token at2 mark ∷ []) (with_top None h.keys) d.indents d.indent h.flow (before_past b g.separation)) m.before
+        (piece_stood text (c ∷ more) p h.tokens h.keys d.indents d.indent h.flow before x mark at2 v.rest v.held.position k (m.blocks (columns d.indent d.indents)) h.flow (m.levels (levels_of h.flow)) (with_top None h.keys) each
+        (none_open 0 (x.row ++ (led x.here.separation (with_piece (c ∷ []) at2 mark) ∷ [])) (g.separation ++ v.rest) v.held.position v.rest (innermost_column (columns d.indent d.indents)) h.keys one)))
     by (begins ds i w cols are) =
         let b : Account = with_blocks (columns i ds) (past_empty (account_of p h.indent h.indents h.flow before) start) in
         let inner : not (is_empty (levels_past (levels_of h.flow) [] start)) ≡ false = ap (λ ls. not (is_empty ls)) (f.levels (levels_of h.flow)) ∙ outside in
-        let k : ReadAs b (c ∷ more) mark at2 v.rest v.held.place = indicated_by b c more mark at2 v m.in_line g (λ next last n. m.piece b next last at2 inner n) in
+        let k : ReadAs b (c ∷ more) mark at2 v.rest v.held.position = indicated_by b c more mark at2 v m.in_line g (λ next last n. m.piece b next last at2 inner n) in
         let settles : settled p.col (blocks_past (columns h.indent h.indents) start) ≡ columns i ds =
         ap (λ bs. settled p.col bs) (f.blocks (columns h.indent h.indents)) ∙ ap (λ bs. Some p.col ∷ bs) (columns_settled p.col h.indent h.indents) ∙ sym cols in
-        subst (λ y. Stood text v.rest v.held.place (y.tokens ++ token at2 mark ∷ []) (with_top None h.keys) y.indents y.indent h.flow other) (sym w)
-        (subst (λ x. Stood text v.rest v.held.place ((h.tokens ++ token at start ∷ []) ++ token at2 mark ∷ []) (with_top None h.keys) ds i h.flow (before_past x g.separation)) m.before
-        (two_stood text c more p h.tokens h.keys h.indents h.indent h.flow before s start mark at at2 g.separation v.rest v.held.place g.is_rest g.is_filled k.is_end ds i are settles
+        subst (λ y. Stood text v.rest v.held.position (y.tokens ++ token at2 mark ∷ []) (with_top None h.keys) y.indents y.indent h.flow other) (sym w)
+        (subst (λ x. Stood text v.rest v.held.position ((h.tokens ++ token at start ∷ []) ++ token at2 mark ∷ []) (with_top None h.keys) ds i h.flow (before_past x g.separation)) m.before
+        (two_stood text c more p h.tokens h.keys h.indents h.indent h.flow before s start mark at at2 g.separation v.rest v.held.position g.is_rest g.is_filled k.is_end ds i are settles
         (f.piece (account_of p h.indent h.indents h.flow before) (c ∷ (g.separation ++ v.rest)) (Some mark) at outside) k.is_piece (m.blocks (columns i ds)) h.flow
         (m.levels (levels_past (levels_of h.flow) [] start) ∙ f.levels (levels_of h.flow)) (with_top None h.keys) each
-        (none_open 0 (s.row ++ (led s.here.separation (with_piece [] at start) ∷ with_piece (c ∷ []) at2 mark ∷ [])) (g.separation ++ v.rest) v.held.place v.rest (innermost_column (columns i ds)) h.keys one)))
+        (none_open 0 (s.row ++ (led s.here.separation (with_piece [] at start) ∷ with_piece (c ∷ []) at2 mark ∷ [])) (g.separation ++ v.rest) v.held.position v.rest (innermost_column (columns i ds)) h.keys one)))
 
 -- ---- an entry of a block sequence
 
 entry_checked : (s : Held) → Holds (λ u. (u ≡ s) × (in_flow s ≡ false)) (check_block_entry s)
 unfolding check_block_entry
-entry_checked s = checked (in_flow s) (At problem.BlockEntryInFlow s.place) (λ e. passes (not s.key_allowed) (At problem.BlockEntryNotAllowed s.place) (by (last_property s.tokens) e))
+entry_checked s = checked (in_flow s) (At problem.BlockEntryInFlow s.position) (λ e. passes (not s.key_allowed) (At problem.BlockEntryNotAllowed s.position) (by (last_property s.tokens) e))
   where
-    by : (q : Option Position) → in_flow s ≡ false → Holds (λ u. (u ≡ s) × (in_flow s ≡ false)) (at_margin q s.place s)
+    by : (q : Option Position) → in_flow s ≡ false → Holds (λ u. (u ≡ s) × (in_flow s ≡ false)) (at_margin q s.position s)
     by None e = went (refl, e)
     by (Some q) e = passes _ _ (went (refl, e))
 
@@ -149,46 +149,46 @@ not_nil (f ∷ fs) e = absurd (cc e)
 -- what the model does after the dash
 abbrev pub entry_from : ScannerState → ScannerState → Result ScannerState Fault
 entry_from t u =
-    let v = on_held (roll_indent t.held.place.col None Tok.block_sequence_start t.held.place) (skip_indicator u) in
-    lexed (space Yes v.rest v.held.place) v.held check_dash >>= λ w.
+    let v = on_held (roll_indent t.held.position.col None Tok.block_sequence_start t.held.position) (skip_indicator u) in
+    lexed (space Yes v.rest v.held.position) v.held check_dash >>= λ w.
     skip_spaces No w >>= λ x.
     try_held remove_implicit_key (roll_entry x) >>= λ y.
-    Ok (on_held (λ s. push s.place Tok.block_entry (allow_key true s)) y)
+    Ok (on_held (λ s. push s.position Tok.block_entry (allow_key true s)) y)
 
--- the place after the rolled level is the old one
-pub rolls_place : (col : ℕ) (n : Option ℕ) (k : Token) (h u : Held) → Rolls col n k h u → (u.place ≡ h.place) × (u.keys ≡ h.keys) × (u.flow ≡ h.flow) × (u.adjacent_value_at ≡ h.adjacent_value_at)
-rolls_place col n k h u (begins ds i w cols are) = (ap (λ x. x.place) w, ap (λ x. x.keys) w, ap (λ x. x.flow) w, ap (λ x. x.adjacent_value_at) w)
-rolls_place col n k h u (goes_on d) = (ap (λ x. x.place) d.is_held, ap (λ x. x.keys) d.is_held, ap (λ x. x.flow) d.is_held, ap (λ x. x.adjacent_value_at) d.is_held)
+-- the position after the rolled level is the old one
+pub rolls_position : (col : ℕ) (n : Option ℕ) (k : Token) (h u : Held) → Rolls col n k h u → (u.position ≡ h.position) × (u.keys ≡ h.keys) × (u.flow ≡ h.flow) × (u.adjacent_value_at ≡ h.adjacent_value_at)
+rolls_position col n k h u (begins ds i w cols are) = (ap (λ x. x.position) w, ap (λ x. x.keys) w, ap (λ x. x.flow) w, ap (λ x. x.adjacent_value_at) w)
+rolls_position col n k h u (goes_on d) = (ap (λ x. x.position) d.is_held, ap (λ x. x.keys) d.is_held, ap (λ x. x.flow) d.is_held, ap (λ x. x.adjacent_value_at) d.is_held)
 
 entry_fares : (text more : List ℕ) (t w x : ScannerState) → t.rest ≡ 45 ∷ more → is_at_gap more ≡ true → (s : FaresAt text t) → in_flow t.held ≡ false →
-    (u : Held) → Rolls t.held.place.col None (token t.held.place Tok.block_sequence_start) (skip_indicator t).held u → Spaced Yes (record { rest = after t.rest; held = u }) w → Spaced No w x →
-    FaresAt text (record { rest = (roll_entry x).rest; held = push (roll_entry x).held.place Tok.block_entry (allow_key true (record (roll_entry x).held { keys = with_top None (roll_entry x).held.keys })) })
+    (u : Held) → Rolls t.held.position.col None (token t.held.position Tok.block_sequence_start) (skip_indicator t).held u → Spaced Yes (record { rest = after t.rest; held = u }) w → Spaced No w x →
+    FaresAt text (record { rest = (roll_entry x).rest; held = push (roll_entry x).held.position Tok.block_entry (allow_key true (record (roll_entry x).held { keys = with_top None (roll_entry x).held.keys })) })
 entry_fares text more t w x e gap s out u r a b =
     let h : Held = (skip_indicator t).held in
     let v : ScannerState = record { rest = after t.rest; held = u } in
-    let p : Position = t.held.place in
-    let same : (u.place ≡ h.place) × (u.keys ≡ h.keys) × (u.flow ≡ h.flow) × (u.adjacent_value_at ≡ h.adjacent_value_at) = rolls_place p.col None (token p Tok.block_sequence_start) h u r in
+    let p : Position = t.held.position in
+    let same : (u.position ≡ h.position) × (u.keys ≡ h.keys) × (u.flow ≡ h.flow) × (u.adjacent_value_at ≡ h.adjacent_value_at) = rolls_position p.col None (token p Tok.block_sequence_start) h u r in
     let c : Passed v x = passed_both v w x (passed_spaces Yes v w a) (passed_spaces No w x b) in
-    let g : Filled more (past p) x = record { separation = c.separation; is_rest = ap after (sym e) ∙ c.is_rest; is_filled = c.is_filled; is_place = ap (λ y. y.place) c.is_held ∙ ap (λ q. position_after q c.separation x.rest) same.0 } in
+    let g : Filled more (past p) x = record { separation = c.separation; is_rest = ap after (sym e) ∙ c.is_rest; is_filled = c.is_filled; is_position = ap (λ y. y.position) c.is_held ∙ ap (λ q. position_after q c.separation x.rest) same.0 } in
     let y : Stood text (45 ∷ more) p t.held.tokens t.held.keys t.held.indents t.held.indent t.held.flow s.before = subst (λ z. Stood text z p t.held.tokens t.held.keys t.held.indents t.held.indent t.held.flow s.before) e s.stood in
-    let k : Stood text x.rest x.held.place (u.tokens ++ token x.held.place Tok.block_entry ∷ []) (with_top None t.held.keys) u.indents u.indent t.held.flow other =
-    roll_stood text 45 more Tok.block_sequence_start Tok.block_entry sequence_start (dash more gap) h u s.before (not_nil t.held.flow out) p p x.held.place x g r y in
-    let held : x.held ≡ placed_at u x.held.place c.leading c.allowed = c.is_held ∙ ap (λ q. placed_at u q c.leading c.allowed) (sym (ap (λ z. z.place) c.is_held)) in
-    let now : Held = placed_at u x.held.place c.leading c.allowed in
+    let k : Stood text x.rest x.held.position (u.tokens ++ token x.held.position Tok.block_entry ∷ []) (with_top None t.held.keys) u.indents u.indent t.held.flow other =
+    roll_stood text 45 more Tok.block_sequence_start Tok.block_entry sequence_start (dash more gap) h u s.before (not_nil t.held.flow out) p p x.held.position x g r y in
+    let held : x.held ≡ placed_at u x.held.position c.leading c.allowed = c.is_held ∙ ap (λ q. placed_at u q c.leading c.allowed) (sym (ap (λ z. z.position) c.is_held)) in
+    let now : Held = placed_at u x.held.position c.leading c.allowed in
     let rolled : ((roll_entry x).rest ≡ x.rest) × SameBlocks x.held (roll_entry x).held = entry_rolled x (subst (λ z. AreLevels z.indent z.indents) (sym held) k.are_levels) in
     let d : SameBlocks now (roll_entry x).held = subst (λ z. SameBlocks z (roll_entry x).held) held rolled.1 in
-    let further : p.index < x.held.place.index = further_read (account_of p t.held.indent t.held.indents [] s.before) (45 ∷ more) Tok.block_entry p x.rest x.held.place
+    let further : p.index < x.held.position.index = further_read (account_of p t.held.indent t.held.indents [] s.before) (45 ∷ more) Tok.block_entry p x.rest x.held.position
     (indicated_by (account_of p t.held.indent t.held.indents [] s.before) 45 more Tok.block_entry p x (dash more gap).in_line g (λ next last n. (dash more gap).piece (account_of p t.held.indent t.held.indents [] s.before) next last p refl n)) in
-    let ends : Fares text x.rest x.held.place (u.tokens ++ token x.held.place Tok.block_entry ∷ []) (with_top None t.held.keys) d.indents d.indent t.held.flow t.held.adjacent_value_at =
-    outside_fares text x.rest x.held.place (u.tokens ++ token x.held.place Tok.block_entry ∷ []) (with_top None t.held.keys) d.indents d.indent t.held.flow other t.held.adjacent_value_at (not_nil t.held.flow out) (omega (arith, s.was_adjacent, further))
-    (stood_levels text x.rest x.held.place (u.tokens ++ token x.held.place Tok.block_entry ∷ []) (with_top None t.held.keys) u.indents u.indent t.held.flow other d.indents d.indent d.same_columns d.are_levels k) in
-    let as_held : Fares text x.rest x.held.place (u.tokens ++ token x.held.place Tok.block_entry ∷ []) (with_top None u.keys) d.indents d.indent u.flow u.adjacent_value_at =
-    subst (λ n. Fares text x.rest x.held.place (u.tokens ++ token x.held.place Tok.block_entry ∷ []) (with_top None u.keys) d.indents d.indent u.flow n) (sym same.3)
-    (subst (λ fs. Fares text x.rest x.held.place (u.tokens ++ token x.held.place Tok.block_entry ∷ []) (with_top None u.keys) d.indents d.indent fs t.held.adjacent_value_at) (sym same.2)
-    (subst (λ ks. Fares text x.rest x.held.place (u.tokens ++ token x.held.place Tok.block_entry ∷ []) (with_top None ks) d.indents d.indent t.held.flow t.held.adjacent_value_at) (sym same.1) ends)) in
-    subst (λ r. Fares text r (roll_entry x).held.place ((roll_entry x).held.tokens ++ token (roll_entry x).held.place Tok.block_entry ∷ []) (with_top None (roll_entry x).held.keys) (roll_entry x).held.indents (roll_entry x).held.indent (roll_entry x).held.flow
+    let ends : Fares text x.rest x.held.position (u.tokens ++ token x.held.position Tok.block_entry ∷ []) (with_top None t.held.keys) d.indents d.indent t.held.flow t.held.adjacent_value_at =
+    outside_fares text x.rest x.held.position (u.tokens ++ token x.held.position Tok.block_entry ∷ []) (with_top None t.held.keys) d.indents d.indent t.held.flow other t.held.adjacent_value_at (not_nil t.held.flow out) (omega (arith, s.was_adjacent, further))
+    (stood_levels text x.rest x.held.position (u.tokens ++ token x.held.position Tok.block_entry ∷ []) (with_top None t.held.keys) u.indents u.indent t.held.flow other d.indents d.indent d.same_columns d.are_levels k) in
+    let as_held : Fares text x.rest x.held.position (u.tokens ++ token x.held.position Tok.block_entry ∷ []) (with_top None u.keys) d.indents d.indent u.flow u.adjacent_value_at =
+    subst (λ n. Fares text x.rest x.held.position (u.tokens ++ token x.held.position Tok.block_entry ∷ []) (with_top None u.keys) d.indents d.indent u.flow n) (sym same.3)
+    (subst (λ fs. Fares text x.rest x.held.position (u.tokens ++ token x.held.position Tok.block_entry ∷ []) (with_top None u.keys) d.indents d.indent fs t.held.adjacent_value_at) (sym same.2)
+    (subst (λ ks. Fares text x.rest x.held.position (u.tokens ++ token x.held.position Tok.block_entry ∷ []) (with_top None ks) d.indents d.indent t.held.flow t.held.adjacent_value_at) (sym same.1) ends)) in
+    subst (λ r. Fares text r (roll_entry x).held.position ((roll_entry x).held.tokens ++ token (roll_entry x).held.position Tok.block_entry ∷ []) (with_top None (roll_entry x).held.keys) (roll_entry x).held.indents (roll_entry x).held.indent (roll_entry x).held.flow
     (roll_entry x).held.adjacent_value_at) (sym rolled.0)
-    (subst (λ z. Fares text x.rest z.place (z.tokens ++ token z.place Tok.block_entry ∷ []) (with_top None z.keys) z.indents z.indent z.flow z.adjacent_value_at) (sym d.is_held) as_held)
+    (subst (λ z. Fares text x.rest z.position (z.tokens ++ token z.position Tok.block_entry ∷ []) (with_top None z.keys) z.indents z.indent z.flow z.adjacent_value_at) (sym d.is_held) as_held)
 
 entry_passed : (text more : List ℕ) (t : ScannerState) → t.rest ≡ 45 ∷ more → is_at_gap more ≡ true → FaresAt text t → in_flow t.held ≡ false → Holds (FaresAt text) (entry_from t t)
 entry_passed text more t e gap s out =
@@ -196,13 +196,13 @@ entry_passed text more t e gap s out =
     chained (spaces_skipped No w) (λ x b.
     chained {P = λ y. y ≡ record (roll_entry x) { held = record (roll_entry x).held { keys = with_top None (roll_entry x).held.keys } }}
     (tried (roll_entry x) (remove_implicit_key (roll_entry x).held) (key_removed (roll_entry x).held) (λ h d. ap (λ z. record (roll_entry x) { held = z }) d)) (λ y d.
-    went (subst (λ z. FaresAt text (on_held (λ s. push s.place Tok.block_entry (allow_key true s)) z)) (sym d) (entry_fares text more t w x e gap s out v.held rolls a b)))))
+    went (subst (λ z. FaresAt text (on_held (λ s. push s.position Tok.block_entry (allow_key true s)) z)) (sym d) (entry_fares text more t w x e gap s out v.held rolls a b)))))
   where
     v : ScannerState
-    v = on_held (roll_indent t.held.place.col None Tok.block_sequence_start t.held.place) (skip_indicator t)
+    v = on_held (roll_indent t.held.position.col None Tok.block_sequence_start t.held.position) (skip_indicator t)
 
-    rolls : Rolls t.held.place.col None (token t.held.place Tok.block_sequence_start) (skip_indicator t).held v.held
-    rolls = rolled_is t.held.place.col None Tok.block_sequence_start t.held.place (skip_indicator t).held out s.stood.are_levels
+    rolls : Rolls t.held.position.col None (token t.held.position Tok.block_sequence_start) (skip_indicator t).held v.held
+    rolls = rolled_is t.held.position.col None Tok.block_sequence_start t.held.position (skip_indicator t).held out s.stood.are_levels
 
 pub block_entry : (text more : List ℕ) (t : ScannerState) → t.rest ≡ 45 ∷ more → is_at_gap more ≡ true → FaresAt text t → Holds (FaresAt text) (fetch_block_entry t)
 unfolding fetch_block_entry

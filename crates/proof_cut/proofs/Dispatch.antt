@@ -47,15 +47,15 @@ unfolding classes.is_blank_or_end classes.is_blank classes.is_break classes.is_n
 other_begins fl adjacent c more o =
     rw (o.e45, o.e63, o.e58, o.e124, o.e62, o.e32, o.e9, o.e10, o.e13, o.e0, o.e44, o.e91, o.e93, o.e123, o.e125, o.e35, o.e38, o.e42, o.e33, o.e37, o.e64, o.e96, o.e39, o.e34) refl
 
-module _ (text : List ℕ) (t : ScannerState) (r : Ready text t) (deep : IsDeep t.held) (marker : ((t.held.place.col == 0) && is_document_marker t.rest) ≡ false) where
+module _ (text : List ℕ) (t : ScannerState) (r : Ready text t) (deep : IsDeep t.held) (marker : ((t.held.position.col == 0) && is_document_marker t.rest) ≡ false) where
   -- a token that begins with a character
   abbrev Reads : ℕ → Type 0
   Reads c = (more : List ℕ) → t.rest ≡ c ∷ more → Holds (FaresAt text) (token_by (class_of c) t)
 
   plain_here : (c : ℕ) (more : List ℕ) → t.rest ≡ c ∷ more → (if c == 45 then not (is_at_gap more) else may_begin (in_flow t.held) (is_adjacent r.stands.before) c more) ≡ true → Holds (FaresAt text) (fetch_plain_scalar t)
   plain_here c more e h =
-      let none : ((t.held.place.col == 0) && is_document_marker (c ∷ more)) ≡ false = ap (λ l. (t.held.place.col == 0) && is_document_marker l) (sym e) ∙ marker in
-      plain_fetched text t r.stands deep (ap (comes_plain (in_flow t.held) (is_adjacent r.stands.before) t.held.place.col) e ∙ rw (h, none) refl)
+      let none : ((t.held.position.col == 0) && is_document_marker (c ∷ more)) ≡ false = ap (λ l. (t.held.position.col == 0) && is_document_marker l) (sym e) ∙ marker in
+      plain_fetched text t r.stands deep (ap (comes_plain (in_flow t.held) (is_adjacent r.stands.before) t.held.position.col) e ∙ rw (h, none) refl)
 
   solid_at : (c : ℕ) (more : List ℕ) → t.rest ≡ c ∷ more → (is_white c || (c == 35)) ≡ false
   solid_at c more e = ap begins_separation (sym e) ∙ r.solid
@@ -91,10 +91,10 @@ module _ (text : List ℕ) (t : ScannerState) (r : Ready text t) (deep : IsDeep 
       by false g = rw (gap_after 63 more false e g) (plain_here 63 more e (rw g refl))
 
   -- in flow, whether a colon may stand here is what the account says
-  adjacent_now : (c : ℕ) (more : List ℕ) → t.rest ≡ c ∷ more → is_empty t.held.flow ≡ false → (t.held.place.index == t.held.adjacent_value_at) ≡ is_adjacent r.stands.before
+  adjacent_now : (c : ℕ) (more : List ℕ) → t.rest ≡ c ∷ more → is_empty t.held.flow ≡ false → (t.held.position.index == t.held.adjacent_value_at) ≡ is_adjacent r.stands.before
   adjacent_now c more e inside =
       let begins : begins_token t.rest ≡ true = ap begins_token e ∙ ap not (solid_at c more e) in
-      let no_more : t.held.place.index + 0 ≡ t.held.place.index = omega arith in
+      let no_more : t.held.position.index + 0 ≡ t.held.position.index = omega arith in
       sym (ap is_adjacent (sym (before_again r.stands.before)) ∙ r.stands.is_adjacent_here inside [] t.rest refl refl begins ∙ ap (λ n. n == t.held.adjacent_value_at) no_more)
 
   value_is : (more : List ℕ) → t.rest ≡ 58 ∷ more → is_value t ≡ is_value_indicator (not (is_empty t.held.flow)) (is_adjacent r.stands.before) more
@@ -108,9 +108,9 @@ module _ (text : List ℕ) (t : ScannerState) (r : Ready text t) (deep : IsDeep 
       flows = ap (λ l. is_flow (slice_index l 1)) e ∙ flow_here more
 
       by : (out : Bool) → is_empty t.held.flow ≡ out
-          → (is_blank_or_breakz (slice_index t.rest 1) || (not out && (is_flow (slice_index t.rest 1) || (t.held.place.index == t.held.adjacent_value_at)))) ≡ (is_at_gap more || (not out && (begins_flow more || is_adjacent r.stands.before)))
+          → (is_blank_or_breakz (slice_index t.rest 1) || (not out && (is_flow (slice_index t.rest 1) || (t.held.position.index == t.held.adjacent_value_at)))) ≡ (is_at_gap more || (not out && (begins_flow more || is_adjacent r.stands.before)))
       by true o = ap (λ b. b || false) gap
-      by false o = ap (λ b. b || (is_flow (slice_index t.rest 1) || (t.held.place.index == t.held.adjacent_value_at))) gap ∙ ap (λ b. is_at_gap more || (b || (t.held.place.index == t.held.adjacent_value_at))) flows
+      by false o = ap (λ b. b || (is_flow (slice_index t.rest 1) || (t.held.position.index == t.held.adjacent_value_at))) gap ∙ ap (λ b. is_at_gap more || (b || (t.held.position.index == t.held.adjacent_value_at))) flows
           ∙ ap (λ b. is_at_gap more || (begins_flow more || b)) (adjacent_now 58 more e o)
 
   colon : Reads 58
@@ -251,7 +251,7 @@ module _ (text : List ℕ) (t : ScannerState) (r : Ready text t) (deep : IsDeep 
     other = other;
   }) c
 
-pub token_fetched : (text : List ℕ) (t : ScannerState) → Ready text t → IsDeep t.held → ((t.held.place.col == 0) && is_document_marker t.rest) ≡ false → Holds (FaresAt text) (fetch_token t)
+pub token_fetched : (text : List ℕ) (t : ScannerState) → Ready text t → IsDeep t.held → ((t.held.position.col == 0) && is_document_marker t.rest) ≡ false → Holds (FaresAt text) (fetch_token t)
 unfolding fetch_token
 token_fetched text t r deep marker = by t.rest refl r.some
   where

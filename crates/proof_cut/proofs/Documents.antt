@@ -26,12 +26,12 @@ use Rattle.model_scanner.proofs.Holds.{Holds, went, refused, chained, tried, cho
 use Rattle.proof_lexers.specs.PlainEnds.{has_no_nul}
 use Rattle.proof_cut.specs.PiecesRead.{ReadAs, is_directive_token}
 use Rattle.proof_cut.specs.Order.{After}
-use Rattle.proof_cut.specs.Places.{IsAtEnd}
+use Rattle.proof_cut.specs.Positions.{IsAtEnd}
 use Rattle.proof_cut.specs.Here.{IsLive, AreOpen}
 use Rattle.proof_cut.specs.Stands.{columns, levels_of, account_of, AreLevels, IsLevel, IsAdjacent, Stood, Fares, FaresAt}
 use Rattle.proof_cut.proofs.Pieces.Directives.{directive_is_read}
-use Rattle.proof_cut.proofs.Places.{weaker, index_after}
-use Rattle.proof_cut.proofs.RowPlaces.{end_place}
+use Rattle.proof_cut.proofs.Positions.{weaker, index_after}
+use Rattle.proof_cut.proofs.RowPositions.{end_position}
 use Rattle.proof_cut.proofs.Heres.{led, spelled_led}
 use Rattle.proof_cut.proofs.Pushed.{with_piece}
 use Rattle.proof_cut.proofs.Opens.{Leads, open_more, open_given_up}
@@ -48,7 +48,7 @@ same_length (k ∷ ks) = refl
 
 -- ---- column 0
 
--- no key is live on a line on which nothing stands before a place
+-- no key is live on a line on which nothing stands before a position
 margin_dead : (p : Position) (rest : List ℕ) (row : List Written) (after : List ℕ) (column : Option ℕ) (keys : List (Option Key)) → p.col ≡ 0 → length keys ≡ 1 → AreOpen 0 row after p rest column keys → AreDead p rest keys
 margin_dead p rest row after column [] col one o = tt
 margin_dead p rest row after column (None ∷ []) col one o = tt
@@ -56,13 +56,13 @@ margin_dead p rest row after column (x ∷ y ∷ ks) col one o = absurd (omega (
 margin_dead p rest row after column (Some k ∷ []) col one o = ((λ l. none l), tt)
   where
     none : IsLive k p rest → ⊥
-    none l = let left_of : suc k.place.col ≤ p.col = o.0.is_earlier.1 l.0 in omega (arith, left_of, col)
+    none l = let left_of : suc k.position.col ≤ p.col = o.0.is_earlier.1 l.0 in omega (arith, left_of, col)
 
 -- so whatever stands there leads anywhere
 margin_leads : (i j : ℕ) (p q : Position) (rest2 : List ℕ) (vs : List Written) → p.col ≡ 0 → After p q → Leads i j p q rest2 vs
 margin_leads i j p q rest2 vs col further k n ns b v e =
-    let line : p.line ≤ k.place.line = omega (arith, further.0, v.0) in
-    let left_of : suc k.place.col ≤ p.col = b.1 line in
+    let line : p.line ≤ k.position.line = omega (arith, further.0, v.0) in
+    let left_of : suc k.position.col ≤ p.col = b.1 line in
     absurd (omega (arith, left_of, col))
 
 -- no block collection is deeper than column 0 after the ends of all
@@ -81,21 +81,21 @@ record Begun (text : List ℕ) (t : ScannerState) (u : Held) : Type 0 where
   pub indents : List Indent
   pub indent : ℕ
   pub tokens : List Token
-  pub stands : Fares text t.rest t.held.place tokens t.held.keys indents indent t.held.flow t.held.adjacent_value_at
+  pub stands : Fares text t.rest t.held.position tokens t.held.keys indents indent t.held.flow t.held.adjacent_value_at
   pub is_held : u ≡ record t.held { indents = indents; indent = indent; tokens = tokens; keys = with_top None t.held.keys; key_allowed = false }
   pub closed : is_empty t.held.flow ≡ true → columns indent indents ≡ []
 
-line_begun : (text : List ℕ) (t : ScannerState) → t.held.place.col ≡ 0 → FaresAt text t → Holds (Begun text t) (begin_line t.held)
+line_begun : (text : List ℕ) (t : ScannerState) → t.held.position.col ≡ 0 → FaresAt text t → Holds (Begun text t) (begin_line t.held)
 unfolding begin_line remove_implicit_key
 line_begun text t col s = by (is_required (top_key (unroll_indent 0 t.held).keys))
   where
     z : UnrolledTo text t 0
-    z = unrolled_to text t 0 s (λ out n e h. margin_dead t.held.place t.rest s.stood.row s.stood.after (innermost_column (columns t.held.indent t.held.indents)) t.held.keys col (s.stood.one_each ∙ ap suc (nil_length t.held.flow out)) s.stood.are_open)
+    z = unrolled_to text t 0 s (λ out n e h. margin_dead t.held.position t.rest s.stood.row s.stood.after (innermost_column (columns t.held.indent t.held.indents)) t.held.keys col (s.stood.one_each ∙ ap suc (nil_length t.held.flow out)) s.stood.are_open)
 
-    stands : Fares text t.rest t.held.place z.tokens t.held.keys z.indents z.indent t.held.flow t.held.adjacent_value_at
-    stands = subst (λ (h : Held). Fares text t.rest h.place h.tokens h.keys h.indents h.indent h.flow h.adjacent_value_at) z.is_held z.stands
+    stands : Fares text t.rest t.held.position z.tokens t.held.keys z.indents z.indent t.held.flow t.held.adjacent_value_at
+    stands = subst (λ (h : Held). Fares text t.rest h.position h.tokens h.keys h.indents h.indent h.flow h.adjacent_value_at) z.is_held z.stands
 
-    by : (b : Bool) → Holds (Begun text t) (closed_key (if b then Err (At problem.KeyExpected (unroll_indent 0 t.held).place) else Ok (record (unroll_indent 0 t.held) { keys = with_top None (unroll_indent 0 t.held).keys })))
+    by : (b : Bool) → Holds (Begun text t) (closed_key (if b then Err (At problem.KeyExpected (unroll_indent 0 t.held).position) else Ok (record (unroll_indent 0 t.held) { keys = with_top None (unroll_indent 0 t.held).keys })))
     by true = refused
     by false = went (record {
       indents = z.indents;
@@ -137,7 +137,7 @@ closed_account p indent indents flow before h = by (is_empty flow) refl
 -- ---- directives
 
 abbrev directive_pushed : ScannerState → Tok → ScannerState → Result ScannerState Fault
-directive_pushed t tok v = Ok (on_held (λ s. push t.held.place tok (record s { leading = true })) v)
+directive_pushed t tok v = Ok (on_held (λ s. push t.held.position tok (record s { leading = true })) v)
 
 directive_is : (tok : Tok) → is_directive_token tok ≡ true → ((bs : List (Option ℕ)) → blocks_past bs tok ≡ bs) × ((ls : List Level) (c : ℕ) (m : List ℕ) → levels_past ls (c ∷ m) tok ≡ ls) × (before_by tok ≡ other)
 directive_is (Tok.version_directive major minor) h = ((λ bs. refl), (λ ls c m. refl), refl)
@@ -165,23 +165,23 @@ directive_is (Tok.scalar style text) h = absurd (cc h)
 clean_of : (text rest : List ℕ) (p : Position) (tokens : List Token) (keys : List (Option Key)) (indents : List Indent) (indent : ℕ) (flow : List FlowLevel) (adj : ℕ) (c : ℕ) (more : List ℕ) → rest ≡ c ∷ more → Fares text rest p tokens keys indents indent flow adj → has_no_nul more ≡ true
 clean_of text rest p tokens keys indents indent flow adj c more e s = (and_parts (not (is_nul c)) (has_no_nul more) (rw e at s.stood.here.is_clean)).1
 
-directive_fares : (text more : List ℕ) (t : ScannerState) (u : Held) → t.rest ≡ 37 ∷ more → t.held.place.col ≡ 0 → (b : Begun text t u) → (x : Read Tok) → directive t.rest u.place ≡ Ok x →
-    Fares text x.rest x.place (u.tokens ++ token t.held.place x.value ∷ []) u.keys u.indents u.indent u.flow u.adjacent_value_at
+directive_fares : (text more : List ℕ) (t : ScannerState) (u : Held) → t.rest ≡ 37 ∷ more → t.held.position.col ≡ 0 → (b : Begun text t u) → (x : Read Tok) → directive t.rest u.position ≡ Ok x →
+    Fares text x.rest x.position (u.tokens ++ token t.held.position x.value ∷ []) u.keys u.indents u.indent u.flow u.adjacent_value_at
 directive_fares text more t u e col b x is =
-    let a : Account = account_of t.held.place b.indent b.indents t.held.flow b.stands.before in
-    let at_place : directive (37 ∷ more) t.held.place ≡ Ok x = ap (λ r. directive r t.held.place) (sym e) ∙ ap (λ (h : Held). directive t.rest h.place) (sym b.is_held) ∙ is in
-    let clean : has_no_nul more ≡ true = clean_of text t.rest t.held.place b.tokens t.held.keys b.indents b.indent t.held.flow t.held.adjacent_value_at 37 more e b.stands in
-    let r = directive_is_read a more x clean col (closed_account t.held.place b.indent b.indents t.held.flow b.stands.before b.closed) at_place in
+    let a : Account = account_of t.held.position b.indent b.indents t.held.flow b.stands.before in
+    let at_position : directive (37 ∷ more) t.held.position ≡ Ok x = ap (λ r. directive r t.held.position) (sym e) ∙ ap (λ (h : Held). directive t.rest h.position) (sym b.is_held) ∙ is in
+    let clean : has_no_nul more ≡ true = clean_of text t.rest t.held.position b.tokens t.held.keys b.indents b.indent t.held.flow t.held.adjacent_value_at 37 more e b.stands in
+    let r = directive_is_read a more x clean col (closed_account t.held.position b.indent b.indents t.held.flow b.stands.before b.closed) at_position in
     let k = directive_is x.value r.1 in
-    subst (λ (h : Held). Fares text x.rest x.place (h.tokens ++ token t.held.place x.value ∷ []) h.keys h.indents h.indent h.flow h.adjacent_value_at) (sym b.is_held)
-    (margin_fares text t.rest t.held.place b.tokens t.held.keys b.indents b.indent t.held.flow t.held.adjacent_value_at b.stands col x.value x.rest x.place
-    (subst (λ l. ReadAs a l x.value t.held.place x.rest x.place) (sym e) r.0) (k.0 (columns b.indent b.indents)) (k.1 (levels_of t.held.flow) r.0.first r.0.more) k.2)
+    subst (λ (h : Held). Fares text x.rest x.position (h.tokens ++ token t.held.position x.value ∷ []) h.keys h.indents h.indent h.flow h.adjacent_value_at) (sym b.is_held)
+    (margin_fares text t.rest t.held.position b.tokens t.held.keys b.indents b.indent t.held.flow t.held.adjacent_value_at b.stands col x.value x.rest x.position
+    (subst (λ l. ReadAs a l x.value t.held.position x.rest x.position) (sym e) r.0) (k.0 (columns b.indent b.indents)) (k.1 (levels_of t.held.flow) r.0.first r.0.more) k.2)
 
-pub directive_fetched : (text more : List ℕ) (t : ScannerState) → t.rest ≡ 37 ∷ more → t.held.place.col ≡ 0 → FaresAt text t → Holds (FaresAt text) (fetch_directive t)
+pub directive_fetched : (text more : List ℕ) (t : ScannerState) → t.rest ≡ 37 ∷ more → t.held.position.col ≡ 0 → FaresAt text t → Holds (FaresAt text) (fetch_directive t)
 unfolding fetch_directive
 directive_fetched text more t e col s =
     chained {P = λ u. (u.rest ≡ t.rest) × Begun text t u.held} (tried t (begin_line t.held) (line_begun text t col s) (λ h b. (refl, b))) (λ u b.
-    read u.held (directive u.rest u.held.place) (directive_pushed t) (λ x is. went (directive_fares text more t u.held e col b.1 x (ap (λ r. directive r u.held.place) (sym b.0) ∙ is))))
+    read u.held (directive u.rest u.held.position) (directive_pushed t) (λ x is. went (directive_fares text more t u.held e col b.1 x (ap (λ r. directive r u.held.position) (sym b.0) ∙ is))))
 
 -- ---- document markers
 
@@ -194,7 +194,7 @@ three_past p c next e =
 -- what is said of a document marker
 record IsMarker (tok : Tok) (c : ℕ) : Type 0 where
   pub in_line : is_break c ≡ false
-  pub piece : (a : Account) (next : List ℕ) (last : Option Tok) → IsDocumentMarker a (c ∷ c ∷ c ∷ []) next (c ∷ c ∷ c ∷ []) → IsPiece a (c ∷ c ∷ c ∷ []) next last a.place tok
+  pub piece : (a : Account) (next : List ℕ) (last : Option Tok) → IsDocumentMarker a (c ∷ c ∷ c ∷ []) next (c ∷ c ∷ c ∷ []) → IsPiece a (c ∷ c ∷ c ∷ []) next last a.position tok
   pub blocks : (bs : List (Option ℕ)) → blocks_past bs tok ≡ bs
   pub levels : (ls : List Level) → levels_past ls (c ∷ c ∷ c ∷ []) tok ≡ ls
   pub before : before_by tok ≡ other
@@ -207,10 +207,10 @@ marks_end : IsMarker Tok.document_end 46
 unfolding is_break
 marks_end = record { in_line = refl; piece = λ a next last h. (h, refl); blocks = λ bs. refl; levels = λ ls. refl; before = refl }
 
-marker_fares : (text : List ℕ) (tok : Tok) (c : ℕ) (more : List ℕ) → IsMarker tok c → (t : ScannerState) (u : Held) → t.rest ≡ c ∷ c ∷ c ∷ more → is_at_gap more ≡ true → t.held.place.col ≡ 0 → (b : Begun text t u) →
-    Fares text more (past (past (past u.place))) (u.tokens ++ token t.held.place tok ∷ []) u.keys u.indents u.indent u.flow u.adjacent_value_at
+marker_fares : (text : List ℕ) (tok : Tok) (c : ℕ) (more : List ℕ) → IsMarker tok c → (t : ScannerState) (u : Held) → t.rest ≡ c ∷ c ∷ c ∷ more → is_at_gap more ≡ true → t.held.position.col ≡ 0 → (b : Begun text t u) →
+    Fares text more (past (past (past u.position))) (u.tokens ++ token t.held.position tok ∷ []) u.keys u.indents u.indent u.flow u.adjacent_value_at
 marker_fares text tok c more m t u e gap col b =
-    let p : Position = t.held.place in
+    let p : Position = t.held.position in
     let a : Account = account_of p b.indent b.indents t.held.flow b.stands.before in
     let closes : is_closed a ≡ true = closed_account p b.indent b.indents t.held.flow b.stands.before b.closed in
     let r : ReadAs a t.rest tok p more (past (past (past p))) = record {
@@ -222,33 +222,33 @@ marker_fares text tok c more m t u e gap col b =
       is_piece = λ last. m.piece a more last (refl, col, gap, closes);
       is_end = three_past p c more m.in_line;
     } in
-    subst (λ (h : Held). Fares text more (past (past (past h.place))) (h.tokens ++ token p tok ∷ []) h.keys h.indents h.indent h.flow h.adjacent_value_at) (sym b.is_held)
+    subst (λ (h : Held). Fares text more (past (past (past h.position))) (h.tokens ++ token p tok ∷ []) h.keys h.indents h.indent h.flow h.adjacent_value_at) (sym b.is_held)
     (margin_fares text t.rest p b.tokens t.held.keys b.indents b.indent t.held.flow t.held.adjacent_value_at b.stands col tok more (past (past (past p))) r (m.blocks (columns b.indent b.indents)) (m.levels (levels_of t.held.flow)) m.before)
 
-marked : (text : List ℕ) (tok : Tok) (c : ℕ) (more : List ℕ) → IsMarker tok c → (t : ScannerState) → t.rest ≡ c ∷ c ∷ c ∷ more → is_at_gap more ≡ true → t.held.place.col ≡ 0 → FaresAt text t → Holds (FaresAt text) (fetch_document_marker tok t)
+marked : (text : List ℕ) (tok : Tok) (c : ℕ) (more : List ℕ) → IsMarker tok c → (t : ScannerState) → t.rest ≡ c ∷ c ∷ c ∷ more → is_at_gap more ≡ true → t.held.position.col ≡ 0 → FaresAt text t → Holds (FaresAt text) (fetch_document_marker tok t)
 unfolding fetch_document_marker
 marked text tok c more m t e gap col s =
     chained {P = λ u. (u.rest ≡ c ∷ c ∷ c ∷ more) × Begun text t u.held} (tried t (begin_line t.held) (line_begun text t col s) (λ h b. (e, b))) (λ u b. went (passed u b.0 b.1))
   where
-    passed : (u : ScannerState) → u.rest ≡ c ∷ c ∷ c ∷ more → Begun text t u.held → FaresAt text (on_held (push t.held.place tok) (skip_indicator (skip_indicator (skip_indicator u))))
-    passed u same b = subst (λ r. FaresAt text (on_held (push t.held.place tok) (skip_indicator (skip_indicator (skip_indicator (record u { rest = r })))))) (sym same) (marker_fares text tok c more m t u.held e gap col b)
+    passed : (u : ScannerState) → u.rest ≡ c ∷ c ∷ c ∷ more → Begun text t u.held → FaresAt text (on_held (push t.held.position tok) (skip_indicator (skip_indicator (skip_indicator u))))
+    passed u same b = subst (λ r. FaresAt text (on_held (push t.held.position tok) (skip_indicator (skip_indicator (skip_indicator (record u { rest = r })))))) (sym same) (marker_fares text tok c more m t u.held e gap col b)
 
-pub start_marked : (text more : List ℕ) (t : ScannerState) → t.rest ≡ 45 ∷ 45 ∷ 45 ∷ more → is_at_gap more ≡ true → t.held.place.col ≡ 0 → FaresAt text t → Holds (FaresAt text) (fetch_document_marker Tok.document_start t)
+pub start_marked : (text more : List ℕ) (t : ScannerState) → t.rest ≡ 45 ∷ 45 ∷ 45 ∷ more → is_at_gap more ≡ true → t.held.position.col ≡ 0 → FaresAt text t → Holds (FaresAt text) (fetch_document_marker Tok.document_start t)
 start_marked text more t e gap col s = marked text Tok.document_start 45 more marks_start t e gap col s
 
 -- what stands after a separation
 pub passed_stands : (text : List ℕ) (t u : ScannerState) → Passed t u → FaresAt text t → FaresAt text u
 passed_stands text t u a s =
-    let end : Position = position_after t.held.place a.separation u.rest in
-    let further : end.index ≡ t.held.place.index + length a.separation = index_after t.held.place a.separation u.rest in
-    subst (λ (h : Held). Fares text u.rest h.place h.tokens h.keys h.indents h.indent h.flow h.adjacent_value_at) (sym a.is_held) (record {
+    let end : Position = position_after t.held.position a.separation u.rest in
+    let further : end.index ≡ t.held.position.index + length a.separation = index_after t.held.position a.separation u.rest in
+    subst (λ (h : Held). Fares text u.rest h.position h.tokens h.keys h.indents h.indent h.flow h.adjacent_value_at) (sym a.is_held) (record {
       before = before_past s.before a.separation;
-      stood = stood_filled text t.rest t.held.place t.held.tokens t.held.keys t.held.indents t.held.indent t.held.flow s.before a.separation u.rest a.is_rest a.is_filled s.stood;
+      stood = stood_filled text t.rest t.held.position t.held.tokens t.held.keys t.held.indents t.held.indent t.held.flow s.before a.separation u.rest a.is_rest a.is_filled s.stood;
       was_adjacent = omega (arith, s.was_adjacent, further);
-      is_adjacent_here = λ h. adjacent_filled s.before t.held.place t.held.adjacent_value_at t.rest a.separation u.rest a.is_rest a.is_filled (s.is_adjacent_here h);
+      is_adjacent_here = λ h. adjacent_filled s.before t.held.position t.held.adjacent_value_at t.rest a.separation u.rest a.is_rest a.is_filled (s.is_adjacent_here h);
     })
 
-pub document_ended : (text more : List ℕ) (t : ScannerState) → t.rest ≡ 46 ∷ 46 ∷ 46 ∷ more → is_at_gap more ≡ true → t.held.place.col ≡ 0 → FaresAt text t → Holds (FaresAt text) (fetch_document_end t)
+pub document_ended : (text more : List ℕ) (t : ScannerState) → t.rest ≡ 46 ∷ 46 ∷ 46 ∷ more → is_at_gap more ≡ true → t.held.position.col ≡ 0 → FaresAt text t → Holds (FaresAt text) (fetch_document_end t)
 unfolding fetch_document_end check_document_end
 document_ended text more t e gap col s =
     chained (marked text Tok.document_end 46 more marks_end t e gap col s) (λ u stands.
@@ -262,7 +262,7 @@ unfolding fetch_stream_start
 stream_begun text nul = record {
   before = other;
   stood = record {
-    begin = (start text).held.place;
+    begin = (start text).held.position;
     row = [];
     after = text;
     tokens_are = refl;
@@ -329,35 +329,35 @@ cleared_stood text rest p tokens keys indents indent flow before s = record {
 }
 
 stream_cut : (text : List ℕ) (t : ScannerState) → has_no_nul text ≡ true → t.rest ≡ [] → (s : FaresAt text t) → (q : Position) →
-    IsCut ((unroll_indent 0 (record t.held { place = q; keys = cleared t.held.keys })).tokens ++ token (unroll_indent 0 (record t.held { place = q; keys = cleared t.held.keys })).place stream_end ∷ []) text
+    IsCut ((unroll_indent 0 (record t.held { position = q; keys = cleared t.held.keys })).tokens ++ token (unroll_indent 0 (record t.held { position = q; keys = cleared t.held.keys })).position stream_end ∷ []) text
 stream_cut text t nul none s q = by (is_empty t.held.flow) refl
   where
     h : Held
-    h = record t.held { place = q; keys = cleared t.held.keys }
+    h = record t.held { position = q; keys = cleared t.held.keys }
 
-    x : Stood text [] t.held.place t.held.tokens (cleared t.held.keys) t.held.indents t.held.indent t.held.flow s.before
-    x = subst (λ r. Stood text r t.held.place t.held.tokens (cleared t.held.keys) t.held.indents t.held.indent t.held.flow s.before) none
-        (cleared_stood text t.rest t.held.place t.held.tokens t.held.keys t.held.indents t.held.indent t.held.flow s.before s.stood)
+    x : Stood text [] t.held.position t.held.tokens (cleared t.held.keys) t.held.indents t.held.indent t.held.flow s.before
+    x = subst (λ r. Stood text r t.held.position t.held.tokens (cleared t.held.keys) t.held.indents t.held.indent t.held.flow s.before) none
+        (cleared_stood text t.rest t.held.position t.held.tokens t.held.keys t.held.indents t.held.indent t.held.flow s.before s.stood)
 
-    by : (out : Bool) → is_empty t.held.flow ≡ out → IsCut ((unroll_indent 0 h).tokens ++ token (unroll_indent 0 h).place stream_end ∷ []) text
+    by : (out : Bool) → is_empty t.held.flow ≡ out → IsCut ((unroll_indent 0 h).tokens ++ token (unroll_indent 0 h).position stream_end ∷ []) text
     by false e =
-        subst (λ (k : Held). IsCut (k.tokens ++ token k.place stream_end ∷ []) text) (sym (unrolled_in_flow 0 h e))
-        (cut_of text t.held.place q t.held.tokens (cleared t.held.keys) t.held.indents t.held.indent t.held.flow s.before nul (closed_account t.held.place t.held.indent t.held.indents t.held.flow s.before (λ out. absurd (cc (out, e)))) x)
+        subst (λ (k : Held). IsCut (k.tokens ++ token k.position stream_end ∷ []) text) (sym (unrolled_in_flow 0 h e))
+        (cut_of text t.held.position q t.held.tokens (cleared t.held.keys) t.held.indents t.held.indent t.held.flow s.before nul (closed_account t.held.position t.held.indent t.held.indents t.held.flow s.before (λ out. absurd (cc (out, e)))) x)
     by true e =
         let u : Levels = unrolled 0 q t.held.indent t.held.indents t.held.tokens in
-        let z : Unrolled text [] t.held.place q (cleared t.held.keys) t.held.flow s.before e 0 u =
-        all_ended text [] t.held.place q (cleared t.held.keys) t.held.flow s.before e 0 t.held.indent t.held.indents t.held.tokens (λ n c d. none_live t.held.place [] t.held.keys) x in
-        subst (λ (k : Held). IsCut (k.tokens ++ token k.place stream_end ∷ []) text) (sym (unrolled_outside 0 h e))
-        (cut_of text t.held.place q u.tokens (cleared t.held.keys) u.indents u.indent t.held.flow s.before nul
-        (closed_account t.held.place u.indent u.indents t.held.flow s.before (λ out. none_left u.indent u.indents z.stood.are_levels z.shallow)) z.stood)
+        let z : Unrolled text [] t.held.position q (cleared t.held.keys) t.held.flow s.before e 0 u =
+        all_ended text [] t.held.position q (cleared t.held.keys) t.held.flow s.before e 0 t.held.indent t.held.indents t.held.tokens (λ n c d. none_live t.held.position [] t.held.keys) x in
+        subst (λ (k : Held). IsCut (k.tokens ++ token k.position stream_end ∷ []) text) (sym (unrolled_outside 0 h e))
+        (cut_of text t.held.position q u.tokens (cleared t.held.keys) u.indents u.indent t.held.flow s.before nul
+        (closed_account t.held.position u.indent u.indents t.held.flow s.before (λ out. none_left u.indent u.indents z.stood.are_levels z.shallow)) z.stood)
 
--- the ends of levels change neither the place nor whether the stream's start was met
-unroll_keeps : (limit : ℕ) (h : Held) → ((unroll_indent limit h).place ≡ h.place) × ((unroll_indent limit h).started ≡ h.started)
+-- the ends of levels change neither the position nor whether the stream's start was met
+unroll_keeps : (limit : ℕ) (h : Held) → ((unroll_indent limit h).position ≡ h.position) × ((unroll_indent limit h).started ≡ h.started)
 unroll_keeps limit h = by (is_empty h.flow) refl
   where
-    by : (out : Bool) → is_empty h.flow ≡ out → ((unroll_indent limit h).place ≡ h.place) × ((unroll_indent limit h).started ≡ h.started)
-    by false e = (ap (λ k. k.place) (unrolled_in_flow limit h e), ap (λ k. k.started) (unrolled_in_flow limit h e))
-    by true e = (ap (λ k. k.place) (unrolled_outside limit h e), ap (λ k. k.started) (unrolled_outside limit h e))
+    by : (out : Bool) → is_empty h.flow ≡ out → ((unroll_indent limit h).position ≡ h.position) × ((unroll_indent limit h).started ≡ h.started)
+    by false e = (ap (λ k. k.position) (unrolled_in_flow limit h e), ap (λ k. k.started) (unrolled_in_flow limit h e))
+    by true e = (ap (λ k. k.position) (unrolled_outside limit h e), ap (λ k. k.started) (unrolled_outside limit h e))
 
 pub stream_ended : (text : List ℕ) (t : ScannerState) → has_no_nul text ≡ true → t.rest ≡ [] → FaresAt text t → t.held.started ≡ true
     → Holds (λ u. IsCut u.held.tokens text × (u.held.ended ≡ true) × IsAtEnd text u.held) (fetch_stream_end t)
@@ -365,12 +365,12 @@ unfolding fetch_stream_end
 stream_ended text t nul none s began = by (has_required t.held.keys)
   where
     h : Held
-    h = record t.held { place = next_line t.held.place; keys = cleared t.held.keys }
+    h = record t.held { position = next_line t.held.position; keys = cleared t.held.keys }
 
     at_end : IsAtEnd text (ended_at (unroll_indent 0 h))
-    at_end = record { began = (unroll_keeps 0 h).1 ∙ began; place = (unroll_keeps 0 h).0 ∙ ap next_line (end_place text t none s) }
+    at_end = record { began = (unroll_keeps 0 h).1 ∙ began; position = (unroll_keeps 0 h).0 ∙ ap next_line (end_position text t none s) }
 
     by : (b : Bool) → Holds (λ (u : ScannerState). IsCut u.held.tokens text × (u.held.ended ≡ true) × IsAtEnd text u.held)
-        (with_held t (if b then Err (At problem.KeyExpected (next_line t.held.place)) else Ok (ended_at (unroll_indent 0 (record t.held { place = next_line t.held.place; keys = cleared t.held.keys })))))
+        (with_held t (if b then Err (At problem.KeyExpected (next_line t.held.position)) else Ok (ended_at (unroll_indent 0 (record t.held { position = next_line t.held.position; keys = cleared t.held.keys })))))
     by true = refused
-    by false = went (stream_cut text t nul none s (next_line t.held.place), refl, at_end)
+    by false = went (stream_cut text t nul none s (next_line t.held.position), refl, at_end)

@@ -25,7 +25,7 @@ use Rattle.proof_lexers.proofs.Bridges.{same_gap}
 use Rattle.proof_lexers.specs.PlainEnds.{has_no_nul}
 use Rattle.proof_lexers.specs.Separations.{begins_separation}
 use Rattle.proof_cut.specs.Here.{AreOpen}
-use Rattle.proof_cut.specs.Places.{IsAtEnd}
+use Rattle.proof_cut.specs.Positions.{IsAtEnd}
 use Rattle.proof_cut.specs.Stands.{columns, Stood, FaresAt}
 use Rattle.proof_cut.proofs.Opens.{open_given_up}
 use Rattle.proof_cut.proofs.Passes.{to_token}
@@ -42,7 +42,7 @@ use Rattle.proof_cut.proofs.Going.{started, started_is_kept}
 pub record Fresh (text : List ℕ) (u : ScannerState) (h : Held) : Type 0 where
   pub stands : FaresAt text (record u { held = h })
   pub same : h ≡ record u.held { keys = h.keys }
-  pub near : is_empty u.held.flow ≡ true → AreNear u.held.place h.keys
+  pub near : is_empty u.held.flow ≡ true → AreNear u.held.position h.keys
 
 length_still : (p : Position) (ks : List (Option Key)) → length (map (still p) ks) ≡ length ks
 length_still p [] = refl
@@ -52,7 +52,7 @@ still_open : (row : List Written) (after : List ℕ) (p : Position) (rest : List
 still_open row after p rest column [] one o = tt
 still_open row after p rest column (x ∷ y ∷ ks) one o = absurd (omega (arith, one))
 still_open row after p rest column (None ∷ []) one o = o
-still_open row after p rest column (Some k ∷ []) one o = by (is_far k.place p)
+still_open row after p rest column (Some k ∷ []) one o = by (is_far k.position p)
   where
     by : (b : Bool) → AreOpen 0 row after p rest column ((if b then None else Some k) ∷ [])
     by true = open_given_up 0 row after p rest column (Some k ∷ []) o
@@ -69,23 +69,23 @@ is_near k p h = by (nat_lt k.line p.line) refl h
 are_near : (p : Position) (ks : List (Option Key)) → AreNear p (map (still p) ks)
 are_near p [] = tt
 are_near p (None ∷ ks) = are_near p ks
-are_near p (Some k ∷ ks) = by (is_far k.place p) refl (are_near p ks)
+are_near p (Some k ∷ ks) = by (is_far k.position p) refl (are_near p ks)
   where
-    by : (b : Bool) → is_far k.place p ≡ b → AreNear p (map (still p) ks) → AreNear p ((if b then None else Some k) ∷ map (still p) ks)
+    by : (b : Bool) → is_far k.position p ≡ b → AreNear p (map (still p) ks) → AreNear p ((if b then None else Some k) ∷ map (still p) ks)
     by true e n = n
-    by false e n = (is_near k.place p e, n)
+    by false e n = (is_near k.position p e, n)
 
 pub stale_stands : (text : List ℕ) (u : ScannerState) → FaresAt text u → Holds (Fresh text u) (stale u.held)
 unfolding stale drop_stale
-stale_stands text u s = either (in_flow u.held) (λ e. went (record { stands = s; same = refl; near = λ o. absurd (cc (e, ap not o)) })) (λ e. by (list_any (is_overdue u.held.place) u.held.keys) (not_in (is_empty u.held.flow) e))
+stale_stands text u s = either (in_flow u.held) (λ e. went (record { stands = s; same = refl; near = λ o. absurd (cc (e, ap not o)) })) (λ e. by (list_any (is_overdue u.held.position) u.held.keys) (not_in (is_empty u.held.flow) e))
   where
     not_in : (b : Bool) → not b ≡ false → b ≡ true
     not_in true h = refl
     not_in false h = absurd (cc h)
 
-    fresh : is_empty u.held.flow ≡ true → Fresh text u (record u.held { keys = map (still u.held.place) u.held.keys })
+    fresh : is_empty u.held.flow ≡ true → Fresh text u (record u.held { keys = map (still u.held.position) u.held.keys })
     fresh out =
-        let x : Stood text u.rest u.held.place u.held.tokens u.held.keys u.held.indents u.held.indent u.held.flow s.before = s.stood in
+        let x : Stood text u.rest u.held.position u.held.tokens u.held.keys u.held.indents u.held.indent u.held.flow s.before = s.stood in
         record {
           stands = record {
             before = s.before;
@@ -96,17 +96,17 @@ stale_stands text u s = either (in_flow u.held) (λ e. went (record { stands = s
               tokens_are = x.tokens_are;
               here = x.here;
               are_levels = x.are_levels;
-              one_each = length_still u.held.place u.held.keys ∙ x.one_each;
-              are_open = still_open x.row x.after u.held.place u.rest (innermost_column (columns u.held.indent u.held.indents)) u.held.keys (x.one_each ∙ ap suc (nil_length u.held.flow out)) x.are_open;
+              one_each = length_still u.held.position u.held.keys ∙ x.one_each;
+              are_open = still_open x.row x.after u.held.position u.rest (innermost_column (columns u.held.indent u.held.indents)) u.held.keys (x.one_each ∙ ap suc (nil_length u.held.flow out)) x.are_open;
             };
             was_adjacent = s.was_adjacent;
             is_adjacent_here = s.is_adjacent_here;
           };
           same = refl;
-          near = λ _. are_near u.held.place u.held.keys;
+          near = λ _. are_near u.held.position u.held.keys;
         }
 
-    by : (b : Bool) → is_empty u.held.flow ≡ true → Holds (Fresh text u) (with_keys u.held (if b then Err (At problem.KeyWithoutColon u.held.place) else Ok (map (still u.held.place) u.held.keys)))
+    by : (b : Bool) → is_empty u.held.flow ≡ true → Holds (Fresh text u) (with_keys u.held (if b then Err (At problem.KeyWithoutColon u.held.position) else Ok (map (still u.held.position) u.held.keys)))
     by true out = refused
     by false out = went (fresh out)
 
@@ -186,24 +186,24 @@ pub record Here (text : List ℕ) (t : ScannerState) : Type 0 where
   pub stands : FaresAt text t
   pub under_way : walk.Stands started t.held
   pub solid : begins_separation t.rest ≡ false
-  pub near : is_empty t.held.flow ≡ true → AreNear t.held.place t.held.keys
+  pub near : is_empty t.held.flow ≡ true → AreNear t.held.position t.held.keys
 
 pub is_deep : (col indent : ℕ) → nat_lt (col + 1) indent ≡ false → indent ≤ col + 1
 is_deep col indent h = grind (arith, nat_tests)
 
-indented_fetched : (text : List ℕ) (t : ScannerState) → is_empty t.rest ≡ false → Here text t → ((t.held.place.col == 0) && is_document_marker t.rest) ≡ false → Holds (FaresAt text) (fetch_indented t)
+indented_fetched : (text : List ℕ) (t : ScannerState) → is_empty t.rest ≡ false → Here text t → ((t.held.position.col == 0) && is_document_marker t.rest) ≡ false → Holds (FaresAt text) (fetch_indented t)
 unfolding fetch_indented
 indented_fetched text t some h none =
-    checked (nat_lt (t.held.place.col + 1) t.held.indent) (At problem.InvalidIndentation t.held.place) (λ e.
-    token_fetched text t (record { stands = h.stands; some = some; solid = h.solid; near = h.near }) (is_deep t.held.place.col t.held.indent e) none)
+    checked (nat_lt (t.held.position.col + 1) t.held.indent) (At problem.InvalidIndentation t.held.position) (λ e.
+    token_fetched text t (record { stands = h.stands; some = some; solid = h.solid; near = h.near }) (is_deep t.held.position.col t.held.indent e) none)
 
-first_fetched : (text : List ℕ) (t : ScannerState) → is_empty t.rest ≡ false → Here text t → t.held.place.col ≡ 0 → Holds (FaresAt text) (fetch_first_column t)
+first_fetched : (text : List ℕ) (t : ScannerState) → is_empty t.rest ≡ false → Here text t → t.held.position.col ≡ 0 → Holds (FaresAt text) (fetch_first_column t)
 unfolding fetch_first_column
 first_fetched text t some h col =
     either (peek t.rest == 37) (λ e. directive_fetched text (after t.rest) t (begins_with_this t.rest 37 some e) col h.stands) (λ _.
     either (comes_marker 45 t.rest) (λ e. let m : Marked 45 t.rest = marked 45 t.rest refl e in start_marked text m.more t m.is_text m.gap col h.stands) (λ a.
     either (comes_marker 46 t.rest) (λ e. let m : Marked 46 t.rest = marked 46 t.rest refl e in document_ended text m.more t m.is_text m.gap col h.stands) (λ b.
-    indented_fetched text t some h (by (t.held.place.col == 0) (no_marker t.rest a b)))))
+    indented_fetched text t some h (by (t.held.position.col == 0) (no_marker t.rest a b)))))
   where
     by : (b : Bool) → is_document_marker t.rest ≡ false → (b && is_document_marker t.rest) ≡ false
     by true e = e
@@ -211,7 +211,7 @@ first_fetched text t some h col =
 
 content_fetched : (text : List ℕ) (t : ScannerState) → is_empty t.rest ≡ false → Here text t → Holds (FaresAt text) (fetch_content t)
 unfolding fetch_content
-content_fetched text t some h = either (t.held.place.col == 0) (λ e. first_fetched text t some h (eqb-true t.held.place.col 0 e)) (λ e. indented_fetched text t some h (rw e refl))
+content_fetched text t some h = either (t.held.position.col == 0) (λ e. first_fetched text t some h (eqb-true t.held.position.col 0 e)) (λ e. indented_fetched text t some h (rw e refl))
 
 fared : (text : List ℕ) (r : Result ScannerState Fault) → Holds (FaresAt text) r → Holds (walk.StandsAt started) r → Holds (Fared text) r
 fared text r a b = weakened (λ u s. goes s.0 s.1) (both_hold a b)
@@ -233,7 +233,7 @@ here_fetched text nul t h =
 
 keys_only : (s : Held) → Holds (λ h. h ≡ record s { keys = h.keys }) (stale s)
 unfolding stale
-keys_only s = either (in_flow s) (λ _. went refl) (λ _. by (drop_stale s.place s.keys))
+keys_only s = either (in_flow s) (λ _. went refl) (λ _. by (drop_stale s.position s.keys))
   where
     by : (r : Result (List (Option Key)) Fault) → Holds (λ h. h ≡ record s { keys = h.keys }) (with_keys s r)
     by (Ok ks) = went refl
@@ -242,20 +242,20 @@ keys_only s = either (in_flow s) (λ _. went refl) (λ _. by (drop_stale s.place
 -- the keys that are dropped after a token change nothing of the rest
 fared_stale : (text : List ℕ) (t : ScannerState) → Fared text t → Holds (Fared text) (try_held stale t)
 fared_stale text t (goes s g) = tried t (stale t.held) (both_hold (stale_stands text t s) (walk.stale_dropped started started_is_kept t.held g)) (λ h d. goes d.0.stands d.1)
-fared_stale text t (over c e n) = tried t (stale t.held) (keys_only t.held) (λ h d. over (subst (λ y. IsCut y.tokens text) (sym d) c) (ap (λ y. y.ended) d ∙ e) (record { began = ap (λ y. y.started) d ∙ n.began; place = ap (λ y. y.place) d ∙ n.place }))
+fared_stale text t (over c e n) = tried t (stale t.held) (keys_only t.held) (λ h d. over (subst (λ y. IsCut y.tokens text) (sym d) c) (ap (λ y. y.ended) d ∙ e) (record { began = ap (λ y. y.started) d ∙ n.began; position = ap (λ y. y.position) d ∙ n.position }))
 
 -- a state whose keys are near, after the ends of block collections
-pub here_now : (text : List ℕ) (u v : ScannerState) → begins_separation u.rest ≡ false → v ≡ record u { held = v.held } → Fresh text u v.held → walk.Stands started v.held → Here text (on_held (λ s. unroll_indent (s.place.col + 1) s) v)
+pub here_now : (text : List ℕ) (u v : ScannerState) → begins_separation u.rest ≡ false → v ≡ record u { held = v.held } → Fresh text u v.held → walk.Stands started v.held → Here text (on_held (λ s. unroll_indent (s.position.col + 1) s) v)
 here_now text u v solid e f g =
     let stands : FaresAt text v = subst (λ y. FaresAt text y) (sym e) f.stands in
-    let now : UnrolledTo text v (v.held.place.col + 1) = unrolled_here text v stands in
-    let near : is_empty v.held.flow ≡ true → AreNear v.held.place v.held.keys = λ o.
-    subst (λ q. AreNear q v.held.keys) (sym (ap (λ h. h.place) f.same)) (f.near (sym (ap (λ h. is_empty h.flow) f.same) ∙ o)) in
+    let now : UnrolledTo text v (v.held.position.col + 1) = unrolled_here text v stands in
+    let near : is_empty v.held.flow ≡ true → AreNear v.held.position v.held.keys = λ o.
+    subst (λ q. AreNear q v.held.keys) (sym (ap (λ h. h.position) f.same)) (f.near (sym (ap (λ h. is_empty h.flow) f.same) ∙ o)) in
     record {
       stands = now.stands;
-      under_way = walk.unrolled_all started started_is_kept (v.held.place.col + 1) v.held g;
+      under_way = walk.unrolled_all started started_is_kept (v.held.position.col + 1) v.held g;
       solid = ap (λ y. begins_separation y.rest) e ∙ solid;
-      near = subst (λ h. is_empty h.flow ≡ true → AreNear h.place h.keys) (sym now.is_held) near;
+      near = subst (λ h. is_empty h.flow ≡ true → AreNear h.position h.keys) (sym now.is_held) near;
     }
 
 next_fetched : (text : List ℕ) → has_no_nul text ≡ true → (t : ScannerState) → FaresAt text t → walk.Stands started t.held → Holds (Fared text) (fetch_next t)
@@ -264,7 +264,7 @@ next_fetched text nul t s g =
     chained (both_hold (to_token t) (walk.to_token started started_is_kept t g)) (λ u a.
     chained {P = λ v. (v ≡ record u { held = v.held }) × Fresh text u v.held × walk.Stands started v.held}
     (tried u (stale u.held) (both_hold (stale_stands text u (passed_stands text t u a.0.passed s)) (walk.stale_dropped started started_is_kept u.held a.1)) (λ h d. (refl, d.0, d.1))) (λ v d.
-    chained (here_fetched text nul (on_held (λ h. unroll_indent (h.place.col + 1) h) v) (here_now text u v a.0.solid d.0 d.1 d.2)) (λ w f.
+    chained (here_fetched text nul (on_held (λ h. unroll_indent (h.position.col + 1) h) v) (here_now text u v a.0.solid d.0 d.1 d.2)) (λ w f.
     fared_stale text w f)))
 
 -- A fetch of a state that goes on.

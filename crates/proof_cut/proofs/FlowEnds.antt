@@ -30,7 +30,7 @@ use Rattle.proof_cut.specs.Here.{AreOpen}
 use Rattle.proof_cut.specs.Stands.{columns, levels_of, account_of, IsAdjacent, Stood, Fares, FaresAt}
 use Rattle.proof_cut.proofs.Heres.{led, spelled_led}
 use Rattle.proof_cut.proofs.Pushed.{with_piece, columns_settled}
-use Rattle.proof_cut.proofs.Places.{weaker}
+use Rattle.proof_cut.proofs.Positions.{weaker}
 use Rattle.proof_cut.proofs.Opens.{Goes, GoesOn, Leads, open_more, open_given_up}
 use Rattle.proof_cut.proofs.Stoods.{read_later, piece_stood, two_stood}
 use Rattle.proof_cut.proofs.Passes.{Passed, Spaced, spaces_skipped, passed_spaces}
@@ -56,10 +56,10 @@ higher_keys [] ks = with_top None ks
 higher_keys (f ∷ fs) ks = pop (with_top None ks)
 
 abbrev ended_now : List FlowLevel → Held → Held
-ended_now fs s = record s { tokens = closed_tokens fs s.place s.tokens; keys = higher_keys fs s.keys; flow = pop fs; key_allowed = false }
+ended_now fs s = record s { tokens = closed_tokens fs s.position s.tokens; keys = higher_keys fs s.keys; flow = pop fs; key_allowed = false }
 
 abbrev entry_now : List FlowLevel → Held → Held
-entry_now fs s = record s { tokens = closed_tokens fs s.place s.tokens; keys = with_top None s.keys; flow = entered fs; key_allowed = true }
+entry_now fs s = record s { tokens = closed_tokens fs s.position s.tokens; keys = with_top None s.keys; flow = entered fs; key_allowed = true }
 
 ended_is : (s : Held) (fs : List FlowLevel) → allow_key false (decrease_flow_level (end_flow_pair (record s { keys = with_top None s.keys; flow = fs }))) ≡ ended_now fs s
 unfolding decrease_flow_level end_flow_pair
@@ -98,7 +98,7 @@ entry_over s = by _ _
 -- what is said of a closing bracket or a comma
 pub record IsEndOf (tok : Tok) (c : ℕ) : Type 0 where
   pub in_line : is_break c ≡ false
-  pub piece : (a : Account) (next : List ℕ) (last : Option Tok) → is_pair_at a.levels ≡ false → IsPiece a (c ∷ []) next last a.place tok
+  pub piece : (a : Account) (next : List ℕ) (last : Option Tok) → is_pair_at a.levels ≡ false → IsPiece a (c ∷ []) next last a.position tok
   pub ends : ends_entry (Some tok) ≡ true
   pub blocks : (bs : List (Option ℕ)) → blocks_past bs tok ≡ bs
 
@@ -183,47 +183,47 @@ Closes many keys_of = (row vs : List Written) (after after2 : List ℕ) (p q : P
     LeadsOut many vs → AreOpen 0 row after p rest column keys → AreOpen 0 (row ++ vs) after2 q rest2 column (keys_of fs keys)
 
 end_alone : (text : List ℕ) (p : Position) (tokens : List Token) (keys : List (Option Key)) (indents : List Indent) (indent : ℕ) (flow : List FlowLevel) (before : Before) (tok : Tok) (c : ℕ) (more : List ℕ) (many : ℕ) (new : List FlowLevel → List FlowLevel) (by : Before) →
-    Ends tok c many new by → (keys_of : List FlowLevel → List (Option Key) → List (Option Key)) → Closes many keys_of → length (keys_of flow keys) ≡ suc (length (new flow)) → (t v : ScannerState) → t.rest ≡ c ∷ more → t.held.place ≡ p → (g : Passed (skip_indicator t) v) →
-    is_pair_at (levels_of flow) ≡ false → Stood text (c ∷ more) p tokens keys indents indent flow before → Stood text v.rest v.held.place (tokens ++ token p tok ∷ []) (keys_of flow keys) indents indent (new flow) (before_past by g.separation)
-end_alone text p tokens keys indents indent flow before tok c more many new by d keys_of closes each t v e place g none s =
+    Ends tok c many new by → (keys_of : List FlowLevel → List (Option Key) → List (Option Key)) → Closes many keys_of → length (keys_of flow keys) ≡ suc (length (new flow)) → (t v : ScannerState) → t.rest ≡ c ∷ more → t.held.position ≡ p → (g : Passed (skip_indicator t) v) →
+    is_pair_at (levels_of flow) ≡ false → Stood text (c ∷ more) p tokens keys indents indent flow before → Stood text v.rest v.held.position (tokens ++ token p tok ∷ []) (keys_of flow keys) indents indent (new flow) (before_past by g.separation)
+end_alone text p tokens keys indents indent flow before tok c more many new by d keys_of closes each t v e position g none s =
     let a : Account = account_of p indent indents flow before in
-    let r : ReadAs a (c ∷ more) tok p v.rest v.held.place = indicated a c more tok p t v e place d.is_end.in_line g (λ next last _. d.is_end.piece a next last none) in
+    let r : ReadAs a (c ∷ more) tok p v.rest v.held.position = indicated a c more tok p t v e position d.is_end.in_line g (λ next last _. d.is_end.piece a next last none) in
     let w : Written = led s.here.separation (with_piece (c ∷ []) p tok) in
-    subst (λ b. Stood text v.rest v.held.place (tokens ++ token p tok ∷ []) (keys_of flow keys) indents indent (new flow) (before_past b g.separation)) d.before
-    (piece_stood text (c ∷ more) p tokens keys indents indent flow before s tok p v.rest v.held.place r (d.is_end.blocks (columns indent indents)) (new flow) (d.levels flow none) (keys_of flow keys) each
-    (closes s.row (w ∷ []) s.after (g.separation ++ v.rest) p v.held.place (c ∷ more) v.rest (innermost_column (columns indent indents)) flow keys s.one_each
-    (spelled_led s.after s.here.separation (c ∷ more) (with_piece (c ∷ []) p tok) [] (g.separation ++ v.rest) s.here.is_after r.is_text) (weaker p v.held.place (read_later a (c ∷ more) tok p v.rest v.held.place r)) (λ _. refl)
+    subst (λ b. Stood text v.rest v.held.position (tokens ++ token p tok ∷ []) (keys_of flow keys) indents indent (new flow) (before_past b g.separation)) d.before
+    (piece_stood text (c ∷ more) p tokens keys indents indent flow before s tok p v.rest v.held.position r (d.is_end.blocks (columns indent indents)) (new flow) (d.levels flow none) (keys_of flow keys) each
+    (closes s.row (w ∷ []) s.after (g.separation ++ v.rest) p v.held.position (c ∷ more) v.rest (innermost_column (columns indent indents)) flow keys s.one_each
+    (spelled_led s.after s.here.separation (c ∷ more) (with_piece (c ∷ []) p tok) [] (g.separation ++ v.rest) s.here.is_after r.is_text) (weaker p v.held.position (read_later a (c ∷ more) tok p v.rest v.held.position r)) (λ _. refl)
     (leads_one tok c many new by d s.here.separation p) s.are_open))
 
 end_pair_too : (text : List ℕ) (p : Position) (tokens : List Token) (keys : List (Option Key)) (indents : List Indent) (indent : ℕ) (fs : List FlowLevel) (before : Before) (tok : Tok) (c : ℕ) (more : List ℕ) (many : ℕ) (new : List FlowLevel → List FlowLevel) (by : Before) →
-    Ends tok c many new by → (keys_of : List FlowLevel → List (Option Key) → List (Option Key)) → Closes many keys_of → length (keys_of (Pair ∷ fs) keys) ≡ suc (length (new (Pair ∷ fs))) → (t v : ScannerState) → t.rest ≡ c ∷ more → t.held.place ≡ p → (g : Passed (skip_indicator t) v) →
+    Ends tok c many new by → (keys_of : List FlowLevel → List (Option Key) → List (Option Key)) → Closes many keys_of → length (keys_of (Pair ∷ fs) keys) ≡ suc (length (new (Pair ∷ fs))) → (t v : ScannerState) → t.rest ≡ c ∷ more → t.held.position ≡ p → (g : Passed (skip_indicator t) v) →
     Stood text (c ∷ more) p tokens keys indents indent (Pair ∷ fs) before →
-    Stood text v.rest v.held.place ((tokens ++ token p Tok.flow_mapping_end ∷ []) ++ token p tok ∷ []) (keys_of (Pair ∷ fs) keys) indents indent (new (Pair ∷ fs)) (before_past by g.separation)
-end_pair_too text p tokens keys indents indent fs before tok c more many new by d keys_of closes each t v e place g s =
+    Stood text v.rest v.held.position ((tokens ++ token p Tok.flow_mapping_end ∷ []) ++ token p tok ∷ []) (keys_of (Pair ∷ fs) keys) indents indent (new (Pair ∷ fs)) (before_past by g.separation)
+end_pair_too text p tokens keys indents indent fs before tok c more many new by d keys_of closes each t v e position g s =
     let b : Account = account_of p indent indents (Entry ∷ fs) before in
     let bs : List (Option ℕ) = columns indent indents in
-    let r : ReadAs b (c ∷ more) tok p v.rest v.held.place = indicated b c more tok p t v e place d.is_end.in_line g (λ next last _. d.is_end.piece b next last refl) in
+    let r : ReadAs b (c ∷ more) tok p v.rest v.held.position = indicated b c more tok p t v e position d.is_end.in_line g (λ next last _. d.is_end.piece b next last refl) in
     let vs : List Written = led s.here.separation (with_piece [] p Tok.flow_mapping_end) ∷ with_piece (c ∷ []) p tok ∷ [] in
     let cut : more ≡ g.separation ++ v.rest = ap after r.is_text in
-    subst (λ y. Stood text v.rest v.held.place ((tokens ++ token p Tok.flow_mapping_end ∷ []) ++ token p tok ∷ []) (keys_of (Pair ∷ fs) keys) indents indent (new (Pair ∷ fs)) (before_past y g.separation)) d.before
-    (two_stood text c more p tokens keys indents indent (Pair ∷ fs) before s Tok.flow_mapping_end tok p p g.separation v.rest v.held.place cut r.is_filled r.is_end indents indent s.are_levels (columns_settled p.col indent indents)
+    subst (λ y. Stood text v.rest v.held.position ((tokens ++ token p Tok.flow_mapping_end ∷ []) ++ token p tok ∷ []) (keys_of (Pair ∷ fs) keys) indents indent (new (Pair ∷ fs)) (before_past y g.separation)) d.before
+    (two_stood text c more p tokens keys indents indent (Pair ∷ fs) before s Tok.flow_mapping_end tok p p g.separation v.rest v.held.position cut r.is_filled r.is_end indents indent s.are_levels (columns_settled p.col indent indents)
     (inr (refl, refl, d.is_end.ends)) r.is_piece (d.is_end.blocks bs) (new (Pair ∷ fs)) (d.paired fs) (keys_of (Pair ∷ fs) keys) each
-    (closes s.row vs s.after (g.separation ++ v.rest) p v.held.place (c ∷ more) v.rest (innermost_column bs) (Pair ∷ fs) keys s.one_each
+    (closes s.row vs s.after (g.separation ++ v.rest) p v.held.position (c ∷ more) v.rest (innermost_column bs) (Pair ∷ fs) keys s.one_each
     (spelled_led s.after s.here.separation (c ∷ more) (with_piece [] p Tok.flow_mapping_end) (with_piece (c ∷ []) p tok ∷ []) (g.separation ++ v.rest) s.here.is_after r.is_text)
-    (weaker p v.held.place (read_later b (c ∷ more) tok p v.rest v.held.place r)) (λ _. refl) (leads_two tok c many new by d s.here.separation p p) s.are_open))
+    (weaker p v.held.position (read_later b (c ∷ more) tok p v.rest v.held.position r)) (λ _. refl) (leads_two tok c many new by d s.here.separation p p) s.are_open))
 
 end_stood : (text : List ℕ) (p : Position) (tokens : List Token) (keys : List (Option Key)) (indents : List Indent) (indent : ℕ) (flow : List FlowLevel) (before : Before) (tok : Tok) (c : ℕ) (more : List ℕ) (many : ℕ) (new : List FlowLevel → List FlowLevel) (by : Before) →
-    Ends tok c many new by → (keys_of : List FlowLevel → List (Option Key) → List (Option Key)) → Closes many keys_of → length (keys_of flow keys) ≡ suc (length (new flow)) → (t v : ScannerState) → t.rest ≡ c ∷ more → t.held.place ≡ p → (g : Passed (skip_indicator t) v) →
-    Stood text (c ∷ more) p tokens keys indents indent flow before → Stood text v.rest v.held.place (closed_tokens flow p tokens ++ token p tok ∷ []) (keys_of flow keys) indents indent (new flow) (before_past by g.separation)
-end_stood text p tokens keys indents indent [] before tok c more many new by d keys_of closes each t v e place g s = end_alone text p tokens keys indents indent [] before tok c more many new by d keys_of closes each t v e place g refl s
-end_stood text p tokens keys indents indent (Keyed ∷ fs) before tok c more many new by d keys_of closes each t v e place g s =
-    end_alone text p tokens keys indents indent (Keyed ∷ fs) before tok c more many new by d keys_of closes each t v e place g refl s
-end_stood text p tokens keys indents indent (Mapping ∷ fs) before tok c more many new by d keys_of closes each t v e place g s =
-    end_alone text p tokens keys indents indent (Mapping ∷ fs) before tok c more many new by d keys_of closes each t v e place g refl s
-end_stood text p tokens keys indents indent (Entry ∷ fs) before tok c more many new by d keys_of closes each t v e place g s =
-    end_alone text p tokens keys indents indent (Entry ∷ fs) before tok c more many new by d keys_of closes each t v e place g refl s
-end_stood text p tokens keys indents indent (Pair ∷ fs) before tok c more many new by d keys_of closes each t v e place g s =
-    end_pair_too text p tokens keys indents indent fs before tok c more many new by d keys_of closes each t v e place g s
+    Ends tok c many new by → (keys_of : List FlowLevel → List (Option Key) → List (Option Key)) → Closes many keys_of → length (keys_of flow keys) ≡ suc (length (new flow)) → (t v : ScannerState) → t.rest ≡ c ∷ more → t.held.position ≡ p → (g : Passed (skip_indicator t) v) →
+    Stood text (c ∷ more) p tokens keys indents indent flow before → Stood text v.rest v.held.position (closed_tokens flow p tokens ++ token p tok ∷ []) (keys_of flow keys) indents indent (new flow) (before_past by g.separation)
+end_stood text p tokens keys indents indent [] before tok c more many new by d keys_of closes each t v e position g s = end_alone text p tokens keys indents indent [] before tok c more many new by d keys_of closes each t v e position g refl s
+end_stood text p tokens keys indents indent (Keyed ∷ fs) before tok c more many new by d keys_of closes each t v e position g s =
+    end_alone text p tokens keys indents indent (Keyed ∷ fs) before tok c more many new by d keys_of closes each t v e position g refl s
+end_stood text p tokens keys indents indent (Mapping ∷ fs) before tok c more many new by d keys_of closes each t v e position g s =
+    end_alone text p tokens keys indents indent (Mapping ∷ fs) before tok c more many new by d keys_of closes each t v e position g refl s
+end_stood text p tokens keys indents indent (Entry ∷ fs) before tok c more many new by d keys_of closes each t v e position g s =
+    end_alone text p tokens keys indents indent (Entry ∷ fs) before tok c more many new by d keys_of closes each t v e position g refl s
+end_stood text p tokens keys indents indent (Pair ∷ fs) before tok c more many new by d keys_of closes each t v e position g s =
+    end_pair_too text p tokens keys indents indent fs before tok c more many new by d keys_of closes each t v e position g s
 
 -- ---- a comma
 
@@ -244,23 +244,23 @@ comma_ends = record {
     same (Entry ∷ fs) h = refl
 
 comma_fares : (text : List ℕ) (more : List ℕ) (t v : ScannerState) → t.rest ≡ 44 ∷ more → (s : FaresAt text t) → Spaced Yes (skip_indicator (record t { held = entry_now t.held.flow t.held })) v →
-    Fares text v.rest v.held.place (closed_tokens t.held.flow t.held.place t.held.tokens ++ token t.held.place Tok.flow_entry ∷ []) (with_top None t.held.keys) t.held.indents t.held.indent (entered t.held.flow) t.held.adjacent_value_at
+    Fares text v.rest v.held.position (closed_tokens t.held.flow t.held.position t.held.tokens ++ token t.held.position Tok.flow_entry ∷ []) (with_top None t.held.keys) t.held.indents t.held.indent (entered t.held.flow) t.held.adjacent_value_at
 comma_fares text more t v e s sp =
     let u : ScannerState = record t { held = entry_now t.held.flow t.held } in
     let g : Passed (skip_indicator u) v = passed_spaces Yes (skip_indicator u) v sp in
-    let x : Stood text (44 ∷ more) t.held.place t.held.tokens t.held.keys t.held.indents t.held.indent t.held.flow s.before =
-    subst (λ y. Stood text y t.held.place t.held.tokens t.held.keys t.held.indents t.held.indent t.held.flow s.before) e s.stood in
-    let z : Stood text v.rest v.held.place (closed_tokens t.held.flow t.held.place t.held.tokens ++ token t.held.place Tok.flow_entry ∷ []) (with_top None t.held.keys) t.held.indents t.held.indent (entered t.held.flow) other =
-    end_stood text t.held.place t.held.tokens t.held.keys t.held.indents t.held.indent t.held.flow s.before Tok.flow_entry 44 more 1 entered other comma_ends (λ fs ks. with_top None ks) entry_open
+    let x : Stood text (44 ∷ more) t.held.position t.held.tokens t.held.keys t.held.indents t.held.indent t.held.flow s.before =
+    subst (λ y. Stood text y t.held.position t.held.tokens t.held.keys t.held.indents t.held.indent t.held.flow s.before) e s.stood in
+    let z : Stood text v.rest v.held.position (closed_tokens t.held.flow t.held.position t.held.tokens ++ token t.held.position Tok.flow_entry ∷ []) (with_top None t.held.keys) t.held.indents t.held.indent (entered t.held.flow) other =
+    end_stood text t.held.position t.held.tokens t.held.keys t.held.indents t.held.indent t.held.flow s.before Tok.flow_entry 44 more 1 entered other comma_ends (λ fs ks. with_top None ks) entry_open
     (length_top t.held.keys ∙ s.stood.one_each ∙ ap suc (sym (entered_many t.held.flow))) u v e refl g x in
-    let a : Account = account_of t.held.place t.held.indent t.held.indents [] s.before in
-    let further : t.held.place.index < v.held.place.index =
-    further_read a (44 ∷ more) Tok.flow_entry t.held.place v.rest v.held.place (indicated a 44 more Tok.flow_entry t.held.place u v e refl ends_by_comma.in_line g (λ next last _. ends_by_comma.piece a next last refl)) in
+    let a : Account = account_of t.held.position t.held.indent t.held.indents [] s.before in
+    let further : t.held.position.index < v.held.position.index =
+    further_read a (44 ∷ more) Tok.flow_entry t.held.position v.rest v.held.position (indicated a 44 more Tok.flow_entry t.held.position u v e refl ends_by_comma.in_line g (λ next last _. ends_by_comma.piece a next last refl)) in
     record {
       before = other;
       stood = z;
       was_adjacent = omega (arith, s.was_adjacent, further);
-      is_adjacent_here = λ _. adjacent_other v.held.place t.held.adjacent_value_at v.rest (omega (arith, s.was_adjacent, further));
+      is_adjacent_here = λ _. adjacent_other v.held.position t.held.adjacent_value_at v.rest (omega (arith, s.was_adjacent, further));
     }
 
 pub entry_passed : (text more : List ℕ) (t : ScannerState) → t.rest ≡ 44 ∷ more → FaresAt text t → Holds (FaresAt text) (fetch_flow_entry t)
@@ -269,10 +269,10 @@ entry_passed text more t e s =
     chained {P = λ u. u ≡ record t { held = entry_now t.held.flow t.held }} (tried t (end_entry t.held) (entry_over t.held) (λ h d. ap (λ y. record t { held = y }) d)) (λ u d.
     chained (spaces_skipped Yes (skip_indicator u)) (λ v sp. went (fares u v d sp)))
   where
-    fares : (u v : ScannerState) → u ≡ record t { held = entry_now t.held.flow t.held } → Spaced Yes (skip_indicator u) v → FaresAt text (on_held (push t.held.place Tok.flow_entry) v)
+    fares : (u v : ScannerState) → u ≡ record t { held = entry_now t.held.flow t.held } → Spaced Yes (skip_indicator u) v → FaresAt text (on_held (push t.held.position Tok.flow_entry) v)
     fares u v d sp =
         let spaced : Spaced Yes (skip_indicator (record t { held = entry_now t.held.flow t.held })) v = subst (λ y. Spaced Yes (skip_indicator y) v) d sp in
-        subst (λ y. Fares text v.rest v.held.place (y.tokens ++ token t.held.place Tok.flow_entry ∷ []) y.keys y.indents y.indent y.flow y.adjacent_value_at) (sym spaced.is_held) (comma_fares text more t v e s spaced)
+        subst (λ y. Fares text v.rest v.held.position (y.tokens ++ token t.held.position Tok.flow_entry ∷ []) y.keys y.indents y.indent y.flow y.adjacent_value_at) (sym spaced.is_held) (comma_fares text more t v e s spaced)
 
 -- ---- closing brackets
 
@@ -366,28 +366,28 @@ abbrev adjacent_at : List FlowLevel → (old new : ℕ) → ℕ
 adjacent_at [] old new = old
 adjacent_at (f ∷ fs) old new = new
 
-adjacent_is : (s : Held) (fs : List FlowLevel) → adjacent_in_flow (record s { flow = fs }) ≡ record s { flow = fs; adjacent_value_at = adjacent_at fs s.adjacent_value_at s.place.index }
+adjacent_is : (s : Held) (fs : List FlowLevel) → adjacent_in_flow (record s { flow = fs }) ≡ record s { flow = fs; adjacent_value_at = adjacent_at fs s.adjacent_value_at s.position.index }
 unfolding adjacent_in_flow
 adjacent_is s [] = refl
 adjacent_is s (f ∷ fs) = refl
 
 close_fares : (text : List ℕ) (tok : Tok) (c : ℕ) (more : List ℕ) → IsClosing tok c → (t v : ScannerState) → t.rest ≡ c ∷ more → (s : FaresAt text t) → Spaced Yes (skip_indicator (record t { held = ended_now t.held.flow t.held })) v →
-    Fares text v.rest v.held.place (closed_tokens t.held.flow t.held.place t.held.tokens ++ token t.held.place tok ∷ []) (higher_keys t.held.flow t.held.keys) t.held.indents t.held.indent (pop t.held.flow) (adjacent_at (pop t.held.flow) t.held.adjacent_value_at v.held.place.index)
+    Fares text v.rest v.held.position (closed_tokens t.held.flow t.held.position t.held.tokens ++ token t.held.position tok ∷ []) (higher_keys t.held.flow t.held.keys) t.held.indents t.held.indent (pop t.held.flow) (adjacent_at (pop t.held.flow) t.held.adjacent_value_at v.held.position.index)
 close_fares text tok c more o t v e s sp =
     let u : ScannerState = record t { held = ended_now t.held.flow t.held } in
     let g : Passed (skip_indicator u) v = passed_spaces Yes (skip_indicator u) v sp in
-    let x : Stood text (c ∷ more) t.held.place t.held.tokens t.held.keys t.held.indents t.held.indent t.held.flow s.before =
-    subst (λ y. Stood text y t.held.place t.held.tokens t.held.keys t.held.indents t.held.indent t.held.flow s.before) e s.stood in
-    let z : Stood text v.rest v.held.place (closed_tokens t.held.flow t.held.place t.held.tokens ++ token t.held.place tok ∷ []) (higher_keys t.held.flow t.held.keys) t.held.indents t.held.indent (pop t.held.flow) (before_past collection g.separation) =
-    end_stood text t.held.place t.held.tokens t.held.keys t.held.indents t.held.indent t.held.flow s.before tok c more 0 pop collection o.ends higher_keys close_open (higher_many t.held.flow t.held.keys s.stood.one_each) u v e refl g x in
-    let a : Account = account_of t.held.place t.held.indent t.held.indents [] s.before in
-    let further : t.held.place.index < v.held.place.index =
-    further_read a (c ∷ more) tok t.held.place v.rest v.held.place (indicated a c more tok t.held.place u v e refl o.ends.is_end.in_line g (λ next last _. o.ends.is_end.piece a next last refl)) in
+    let x : Stood text (c ∷ more) t.held.position t.held.tokens t.held.keys t.held.indents t.held.indent t.held.flow s.before =
+    subst (λ y. Stood text y t.held.position t.held.tokens t.held.keys t.held.indents t.held.indent t.held.flow s.before) e s.stood in
+    let z : Stood text v.rest v.held.position (closed_tokens t.held.flow t.held.position t.held.tokens ++ token t.held.position tok ∷ []) (higher_keys t.held.flow t.held.keys) t.held.indents t.held.indent (pop t.held.flow) (before_past collection g.separation) =
+    end_stood text t.held.position t.held.tokens t.held.keys t.held.indents t.held.indent t.held.flow s.before tok c more 0 pop collection o.ends higher_keys close_open (higher_many t.held.flow t.held.keys s.stood.one_each) u v e refl g x in
+    let a : Account = account_of t.held.position t.held.indent t.held.indents [] s.before in
+    let further : t.held.position.index < v.held.position.index =
+    further_read a (c ∷ more) tok t.held.position v.rest v.held.position (indicated a c more tok t.held.position u v e refl o.ends.is_end.in_line g (λ next last _. o.ends.is_end.piece a next last refl)) in
     record {
       before = before_past collection g.separation;
       stood = z;
-      was_adjacent = before_index (pop t.held.flow) t.held.adjacent_value_at v.held.place.index (omega (arith, s.was_adjacent, further));
-      is_adjacent_here = here_adjacent (pop t.held.flow) t.held.adjacent_value_at v.held.place v.rest (before_past collection g.separation) (adjacent_collection v.held.place g.separation v.rest sp.is_filled sp.no_break sp.ends z.here.is_clean);
+      was_adjacent = before_index (pop t.held.flow) t.held.adjacent_value_at v.held.position.index (omega (arith, s.was_adjacent, further));
+      is_adjacent_here = here_adjacent (pop t.held.flow) t.held.adjacent_value_at v.held.position v.rest (before_past collection g.separation) (adjacent_collection v.held.position g.separation v.rest sp.is_filled sp.no_break sp.ends z.here.is_clean);
     }
   where
     before_index : (fs : List FlowLevel) (old new : ℕ) → old ≤ new → adjacent_at fs old new ≤ new
@@ -404,12 +404,12 @@ flow_ended text tok c more o t e s =
     chained {P = λ u. u ≡ record t { held = ended_now t.held.flow t.held }} (tried t (end_flow t.held) (flow_over t.held) (λ h d. ap (λ y. record t { held = y }) d)) (λ u d.
     chained (spaces_skipped Yes (skip_indicator u)) (λ v sp. went (fares u v d sp)))
   where
-    fares : (u v : ScannerState) → u ≡ record t { held = ended_now t.held.flow t.held } → Spaced Yes (skip_indicator u) v → FaresAt text (on_held (λ s. push t.held.place tok (adjacent_in_flow s)) v)
+    fares : (u v : ScannerState) → u ≡ record t { held = ended_now t.held.flow t.held } → Spaced Yes (skip_indicator u) v → FaresAt text (on_held (λ s. push t.held.position tok (adjacent_in_flow s)) v)
     fares u v d sp =
         let now : Held = ended_now t.held.flow t.held in
         let spaced : Spaced Yes (skip_indicator (record t { held = now })) v = subst (λ y. Spaced Yes (skip_indicator y) v) d sp in
-        let held : v.held ≡ record now { place = v.held.place; leading = false } =
-        spaced.is_held ∙ ap (λ q. record now { place = q; leading = false }) (sym (ap (λ h. h.place) spaced.is_held)) in
-        let known : adjacent_in_flow v.held ≡ record now { place = v.held.place; leading = false; adjacent_value_at = adjacent_at (pop t.held.flow) t.held.adjacent_value_at v.held.place.index } =
-        ap adjacent_in_flow held ∙ adjacent_is (record now { place = v.held.place; leading = false }) (pop t.held.flow) in
-        subst (λ y. Fares text v.rest y.place (y.tokens ++ token t.held.place tok ∷ []) y.keys y.indents y.indent y.flow y.adjacent_value_at) (sym known) (close_fares text tok c more o t v e s spaced)
+        let held : v.held ≡ record now { position = v.held.position; leading = false } =
+        spaced.is_held ∙ ap (λ q. record now { position = q; leading = false }) (sym (ap (λ h. h.position) spaced.is_held)) in
+        let known : adjacent_in_flow v.held ≡ record now { position = v.held.position; leading = false; adjacent_value_at = adjacent_at (pop t.held.flow) t.held.adjacent_value_at v.held.position.index } =
+        ap adjacent_in_flow held ∙ adjacent_is (record now { position = v.held.position; leading = false }) (pop t.held.flow) in
+        subst (λ y. Fares text v.rest y.position (y.tokens ++ token t.held.position tok ∷ []) y.keys y.indents y.indent y.flow y.adjacent_value_at) (sym known) (close_fares text tok c more o t v e s spaced)

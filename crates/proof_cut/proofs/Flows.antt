@@ -40,7 +40,7 @@ indicator_passed t = spaces_skipped Yes (skip_indicator t)
 -- what is said of an opening bracket
 pub record IsOpeningOf (kind : FlowLevel) (tok : Tok) (c : ℕ) : Type 0 where
   pub in_line : is_break c ≡ false
-  pub piece : (a : Account) (next : List ℕ) (last : Option Tok) → has_room a ≡ true → IsPiece a (c ∷ []) next last a.place tok
+  pub piece : (a : Account) (next : List ℕ) (last : Option Tok) → has_room a ≡ true → IsPiece a (c ∷ []) next last a.position tok
   pub node : begins_node (Some tok) ≡ true
   pub blocks : (bs : List (Option ℕ)) → blocks_past bs tok ≡ bs
   pub levels : (ls : List Level) → levels_past ls (c ∷ []) tok ≡ level_of kind ∷ ls
@@ -82,9 +82,9 @@ record Deeper (kind : FlowLevel) (s u : Held) : Type 0 where
 
 flow_begun : (kind : FlowLevel) (s : Held) → Holds (Deeper kind s) (begin_flow kind s)
 unfolding begin_flow increase_flow_level
-flow_begun kind s = subst (λ h. Holds (Deeper kind s) (deepened_flow (if nat_le 255 (length h.flow) then Err (At problem.FlowTooDeep h.place) else Ok (record h { keys = None ∷ h.keys; flow = kind ∷ h.flow })))) (sym (rolled_is s)) (by (nat_le 255 (length s.flow)) refl)
+flow_begun kind s = subst (λ h. Holds (Deeper kind s) (deepened_flow (if nat_le 255 (length h.flow) then Err (At problem.FlowTooDeep h.position) else Ok (record h { keys = None ∷ h.keys; flow = kind ∷ h.flow })))) (sym (rolled_is s)) (by (nat_le 255 (length s.flow)) refl)
   where
-    by : (b : Bool) → nat_le 255 (length s.flow) ≡ b → Holds (Deeper kind s) (deepened_flow (if b then Err (At problem.FlowTooDeep s.place) else Ok (record (rolled_now s) { keys = None ∷ saved_keys s; flow = kind ∷ s.flow })))
+    by : (b : Bool) → nat_le 255 (length s.flow) ≡ b → Holds (Deeper kind s) (deepened_flow (if b then Err (At problem.FlowTooDeep s.position) else Ok (record (rolled_now s) { keys = None ∷ saved_keys s; flow = kind ∷ s.flow })))
     by true e = refused
     by false e = went (record { is_held = refl; has = e })
 
@@ -93,31 +93,31 @@ opens_level p q rest2 f c at tok l step = λ k n v ns. record { levels = l ∷ n
 
 start_fares : (text : List ℕ) (kind : FlowLevel) (tok : Tok) (c : ℕ) (more : List ℕ) → IsOpeningOf kind tok c → (t v : ScannerState) → t.rest ≡ c ∷ more → (s : FaresAt text t) → IsDeep t.held →
     nat_le 255 (length t.held.flow) ≡ false → Spaced Yes (skip_indicator (record t { held = deeper_now kind t.held })) v →
-    Fares text v.rest v.held.place (t.held.tokens ++ token t.held.place tok ∷ []) (None ∷ saved_keys t.held) (rolled_now t.held).indents (rolled_now t.held).indent (kind ∷ t.held.flow) t.held.adjacent_value_at
+    Fares text v.rest v.held.position (t.held.tokens ++ token t.held.position tok ∷ []) (None ∷ saved_keys t.held) (rolled_now t.held).indents (rolled_now t.held).indent (kind ∷ t.held.flow) t.held.adjacent_value_at
 start_fares text kind tok c more o t v e s deep few sp =
     let h : Held = record t.held { keys = saved_keys t.held } in
     let ds : List Indent = one_indents h in
     let i : ℕ = one_indent h in
-    let p : Position = t.held.place in
+    let p : Position = t.held.position in
     let x : Stood text (c ∷ more) p t.held.tokens t.held.keys ds i t.held.flow s.before =
     subst (λ y. Stood text y p t.held.tokens t.held.keys ds i t.held.flow s.before) e
     (stood_levels text t.rest p t.held.tokens t.held.keys t.held.indents t.held.indent t.held.flow s.before ds i (one_columns h) (one_levels h s.stood.are_levels) s.stood) in
     let a : Account = account_of p i ds t.held.flow s.before in
     let w : ScannerState = record t { held = deeper_now kind t.held } in
     let g : Passed (skip_indicator w) v = passed_spaces Yes (skip_indicator w) v sp in
-    let r : ReadAs a (c ∷ more) tok p v.rest v.held.place = indicated a c more tok p w v e refl o.in_line g (λ next last _. o.piece a next last (room t.held.flow few)) in
-    let further : p.index < v.held.place.index = further_read a (c ∷ more) tok p v.rest v.held.place r in
+    let r : ReadAs a (c ∷ more) tok p v.rest v.held.position = indicated a c more tok p w v e refl o.in_line g (λ next last _. o.piece a next last (room t.held.flow few)) in
+    let further : p.index < v.held.position.index = further_read a (c ∷ more) tok p v.rest v.held.position r in
     let right : IsNotRight (innermost_column (columns i ds)) p.col =
     subst (λ bs. IsNotRight (innermost_column bs) p.col) (one_columns h) (not_right p.col t.held.indent t.held.indents s.stood.are_levels deep) in
     record {
       before = before_past (before_by tok) g.separation;
-      stood = piece_stood text (c ∷ more) p t.held.tokens t.held.keys ds i t.held.flow s.before x tok p v.rest v.held.place r (o.blocks (columns i ds)) (kind ∷ t.held.flow) (o.levels (levels_of t.held.flow))
+      stood = piece_stood text (c ∷ more) p t.held.tokens t.held.keys ds i t.held.flow s.before x tok p v.rest v.held.position r (o.blocks (columns i ds)) (kind ∷ t.held.flow) (o.levels (levels_of t.held.flow))
           (None ∷ saved_keys t.held) (ap suc (length_saved t.held.key_allowed (must_be_key t.held) (length t.held.tokens) p t.held.keys ∙ s.stood.one_each))
-          (open_saved text x.row x.after (c ∷ more) a t.held.keys (innermost_column (columns i ds)) c [] (g.separation ++ v.rest) v.rest v.held.place p tok 1 t.held.key_allowed
-          (record { required = must_be_key t.held; number = length t.held.tokens; place = p }) x.here (λ n. columns_settled n i ds) x.are_open r.is_text (read_later a (c ∷ more) tok p v.rest v.held.place r) o.node right
-          (number_of x.begin x.row t.held.tokens x.tokens_are) refl (opens_level p v.held.place v.rest x.here.separation c p tok (level_of kind) o.steps));
+          (open_saved text x.row x.after (c ∷ more) a t.held.keys (innermost_column (columns i ds)) c [] (g.separation ++ v.rest) v.rest v.held.position p tok 1 t.held.key_allowed
+          (record { required = must_be_key t.held; number = length t.held.tokens; position = p }) x.here (λ n. columns_settled n i ds) x.are_open r.is_text (read_later a (c ∷ more) tok p v.rest v.held.position r) o.node right
+          (number_of x.begin x.row t.held.tokens x.tokens_are) refl (opens_level p v.held.position v.rest x.here.separation c p tok (level_of kind) o.steps));
       was_adjacent = omega (arith, s.was_adjacent, further);
-      is_adjacent_here = λ _. subst (λ b. IsAdjacent (before_past b g.separation) v.held.place t.held.adjacent_value_at v.rest) (sym o.before) (adjacent_other v.held.place t.held.adjacent_value_at v.rest (omega (arith, s.was_adjacent, further)));
+      is_adjacent_here = λ _. subst (λ b. IsAdjacent (before_past b g.separation) v.held.position t.held.adjacent_value_at v.rest) (sym o.before) (adjacent_other v.held.position t.held.adjacent_value_at v.rest (omega (arith, s.was_adjacent, further)));
     }
 
 pub flow_started : (text : List ℕ) (kind : FlowLevel) (tok : Tok) (c : ℕ) (more : List ℕ) → IsOpeningOf kind tok c → (t : ScannerState) → t.rest ≡ c ∷ more → FaresAt text t → IsDeep t.held → Holds (FaresAt text) (fetch_flow_collection_start kind tok t)
@@ -126,8 +126,8 @@ flow_started text kind tok c more o t e s deep =
     chained {P = λ u. (u ≡ record t { held = deeper_now kind t.held }) × (nat_le 255 (length t.held.flow) ≡ false)} (tried t (begin_flow kind t.held) (flow_begun kind t.held) (λ h d. (ap (λ y. record t { held = y }) d.is_held, d.has))) (λ u d.
     chained (indicator_passed u) (λ v sp. went (fares u v d.0 d.1 sp)))
   where
-    fares : (u v : ScannerState) → u ≡ record t { held = deeper_now kind t.held } → nat_le 255 (length t.held.flow) ≡ false → Spaced Yes (skip_indicator u) v → FaresAt text (on_held (push t.held.place tok) v)
+    fares : (u v : ScannerState) → u ≡ record t { held = deeper_now kind t.held } → nat_le 255 (length t.held.flow) ≡ false → Spaced Yes (skip_indicator u) v → FaresAt text (on_held (push t.held.position tok) v)
     fares u v d few sp =
         let spaced : Spaced Yes (skip_indicator (record t { held = deeper_now kind t.held })) v = subst (λ y. Spaced Yes (skip_indicator y) v) d sp in
-        subst (λ y. Fares text v.rest v.held.place (y.tokens ++ token t.held.place tok ∷ []) y.keys y.indents y.indent y.flow y.adjacent_value_at) (sym spaced.is_held)
+        subst (λ y. Fares text v.rest v.held.position (y.tokens ++ token t.held.position tok ∷ []) y.keys y.indents y.indent y.flow y.adjacent_value_at) (sym spaced.is_held)
         (start_fares text kind tok c more o t v e s deep few spaced)

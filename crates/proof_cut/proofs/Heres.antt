@@ -9,7 +9,7 @@ use Rattle.defs_token.specs.Piece.{IsPiece}
 use Rattle.defs_token.specs.Cut.{Written, IsRow, spelled, first_token, account_at, account_past_row}
 use Rattle.defs_token.proofs.Append.{spelled_append, account_append, row_append}
 use Rattle.proof_lexers.specs.PlainEnds.{has_no_nul}
-use Rattle.proof_lexers.proofs.Separation.Places.{place_append}
+use Rattle.proof_lexers.proofs.Separation.Positions.{position_append}
 use Rattle.proof_lexers.proofs.Separation.EachSeparation.{no_nul_after}
 use Rattle.proof_cut.specs.Here.{Here}
 use Rattle.proof_cut.proofs.Pieces.Separations.{separation_append}
@@ -41,8 +41,8 @@ before_again other = refl
 -- the account after two separations
 pub separation_both : (a : Account) (f g rest : List ℕ) → account_past_separation (account_past_separation a f (g ++ rest)) g rest ≡ account_past_separation a (f ++ g) rest
 separation_both a f g rest =
-    ap (λ p. record a { place = p; before = before_past (before_past a.before f) g }) (sym (place_append a.place f g rest)) ∙
-    ap (λ b. record a { place = position_after a.place (f ++ g) rest; before = b }) (before_both a.before f g)
+    ap (λ p. record a { position = p; before = before_past (before_past a.before f) g }) (sym (position_append a.position f g rest)) ∙
+    ap (λ b. record a { position = position_after a.position (f ++ g) rest; before = b }) (before_both a.before f g)
 
 -- ---- a separation more
 
@@ -72,13 +72,13 @@ led_account : (a : Account) (f : List ℕ) (w : Written) (next : List ℕ) → w
     account_at (account_past_separation a f (w.piece ++ next)) w next ≡ account_at a (led f w) next
 led_account a f w next e =
     ap (λ x. account_at_piece (account_past_separation (account_past_separation a f (w.piece ++ next)) x (w.piece ++ next)) w.piece) e ∙
-    ap (λ b. account_at_piece (record a { place = position_after a.place f (w.piece ++ next); before = b }) w.piece) (before_again (before_past a.before f))
+    ap (λ b. account_at_piece (record a { position = position_after a.position f (w.piece ++ next); before = b }) w.piece) (before_again (before_past a.before f))
 
 led_row : (a : Account) (f : List ℕ) (w : Written) (ws : List Written) (rest : List ℕ) (last : Option Tok) → w.separation ≡ [] → is_separation false f (w.piece ++ spelled ws rest) ≡ true →
     IsRow (account_past_separation a f (w.piece ++ spelled ws rest)) (w ∷ ws) rest last → IsRow a (led f w ∷ ws) rest last
 led_row a f w ws rest last e i r =
     let next : List ℕ = spelled ws rest in
-    let P : Account → Type 0 = λ b. IsPiece b w.piece next (first_token ws last) (w.token.place) (w.token.tok) in
+    let P : Account → Type 0 = λ b. IsPiece b w.piece next (first_token ws last) (w.token.position) (w.token.tok) in
     let Q : Account → Type 0 = λ b. IsRow (account_past_token b w.piece next (w.token.tok)) ws rest last in
     ((i, subst P (led_account a f w next e) r.0.1), subst Q (led_account a f w next e) r.1)
 

@@ -17,7 +17,7 @@ use Rattle.proof_cut.specs.Order.{After}
 use Rattle.proof_cut.specs.Inside.{inside}
 use Rattle.proof_cut.specs.Here.{IsLive, IsInside, IsOpen, AreOpen}
 use Rattle.proof_cut.specs.Stands.{columns, AreLevels, levels_of, account_of, Stood}
-use Rattle.proof_cut.proofs.Places.{weaker}
+use Rattle.proof_cut.proofs.Positions.{weaker}
 use Rattle.proof_cut.proofs.Insides.{inside_framed}
 use Rattle.proof_cut.proofs.Opens.{Goes, same_nil, open_more}
 use Rattle.proof_cut.proofs.Saved.{length_tokens}
@@ -100,10 +100,10 @@ outer_open text more p tokens k ks indents indent flow before s vs new inserts s
     let column : Option ℕ = innermost_column (columns indent indents) in
     let o : IsOpen k 0 s.row s.after p (58 ∷ more) column = s.are_open.0 in
     let old : List Written = o.own ∷ o.later in
-    open_more 1 1 o.before vs (spelled old s.after) s.after k.place p (o.own.piece ++ spelled o.later s.after) (58 ∷ more) column ks (sym same) (weaker k.place p o.is_earlier) (λ _. same_nil o.own (spelled o.later s.after) o.is_solid)
+    open_more 1 1 o.before vs (spelled old s.after) s.after k.position p (o.own.piece ++ spelled o.later s.after) (58 ∷ more) column ks (sym same) (weaker k.position p o.is_earlier) (λ _. same_nil o.own (spelled o.later s.after) o.is_solid)
     (λ k2 n ns b l e. by k2 n ns b l e) s.are_open.1
   where
-    by : (k2 : Key) (n : ℕ) (ns : List Level) → After k2.place k.place → IsLive k2 p (58 ∷ more) → length ns ≡ 1 + n → Goes ns vs (1 + n)
+    by : (k2 : Key) (n : ℕ) (ns : List Level) → After k2.position k.position → IsLive k2 p (58 ∷ more) → length ns ≡ 1 + n → Goes ns vs (1 + n)
     by k2 n [] b l e = absurd (omega (arith, e))
     by k2 n (m ∷ ns) b l e =
         let i : inside [] (s.are_open.0.own ∷ s.are_open.0.later) ≡ Some [] = inside_none k (s.are_open.0.own ∷ s.are_open.0.later) (innermost_column (columns indent indents)) (s.are_open.0.live (omega (arith, l.0, b.0), refl)) in
@@ -113,20 +113,20 @@ outer_open text more p tokens k ks indents indent flow before s vs new inserts s
 -- ---- a key alone
 
 pub key_stood : (text more : List ℕ) (p : Position) (tokens : List Token) (k : Key) (ks : List (Option Key)) (indents : List Indent) (indent : ℕ) (flow : List FlowLevel) (before : Before) → Stood text (58 ∷ more) p tokens (Some k ∷ ks) indents indent flow before →
-    Stood text (58 ∷ more) p (insert tokens k.number (token k.place Tok.key)) (None ∷ ks) indents indent flow before
+    Stood text (58 ∷ more) p (insert tokens k.number (token k.position Tok.key)) (None ∷ ks) indents indent flow before
 key_stood text more p tokens k ks indents indent flow before s =
     let o : IsOpen k 0 s.row s.after p (58 ∷ more) (innermost_column (columns indent indents)) = s.are_open.0 in
     let old : List Written = o.own ∷ o.later in
     let acc : Account = account_past_row first_account o.before (spelled old s.after) in
-    let vs : List Written = empty_token o.own.separation (key_at k.place) ∷ bare o.own ∷ o.later in
+    let vs : List Written = empty_token o.own.separation (key_at k.position) ∷ bare o.own ∷ o.later in
     let c : AtColon text more p tokens k ks indents indent flow before s = at_colon text more p tokens k ks indents indent flow before s in
-    let t : Token = token k.place Tok.key in
+    let t : Token = token k.position Tok.key in
     let same : start_token s.begin ∷ tokens_of (o.before ++ vs) ≡ insert tokens k.number t =
     sym (ap (λ ts. insert ts k.number t) c.tokens_are ∙ ap (λ n. insert (start_token s.begin ∷ (tokens_of o.before ++ tokens_of old)) n t) c.number ∙ insert_tokens (start_token s.begin) (tokens_of o.before) (tokens_of old) t ∙
     ap (λ ts. start_token s.begin ∷ ts) (sym (tokens_append o.before vs))) in
     subst (λ ts. Stood text (58 ∷ more) p ts (None ∷ ks) indents indent flow before) same
-    (inserted_stood text more p tokens k ks indents indent flow before s vs refl (λ last. key_inserted acc o.own o.later s.after last k.place o.is_node (c.row last)) indents indent s.are_levels flow refl
-    (ap (λ a. account_past_separation a s.here.separation (58 ∷ more)) (key_after acc o.own o.later s.after k.place) ∙ c.here)
+    (inserted_stood text more p tokens k ks indents indent flow before s vs refl (λ last. key_inserted acc o.own o.later s.after last k.position o.is_node (c.row last)) indents indent s.are_levels flow refl
+    (ap (λ a. account_past_separation a s.here.separation (58 ∷ more)) (key_after acc o.own o.later s.after k.position) ∙ c.here)
     (outer_open text more p tokens k ks indents indent flow before s vs (λ ns. ns) (λ m ns i. (refl, inside_framed [] old [] (m ∷ ns) i)) refl))
 
 -- two tokens go in before those of a number
@@ -136,49 +136,49 @@ two_in start ts us all n t u e f =
 
 -- ---- the start of a single-pair mapping, and its key
 
-pub pair_key_stood : (text more : List ℕ) (p q : Position) (tokens : List Token) (k : Key) (ks : List (Option Key)) (indents : List Indent) (indent : ℕ) (gs : List FlowLevel) (before : Before) → p.line ≤ k.place.line → Stood text (58 ∷ more) p tokens (Some k ∷ ks) indents indent (Entry ∷ gs) before →
-    Stood text (58 ∷ more) p (insert (insert tokens k.number (token k.place Tok.key)) k.number (token q Tok.flow_mapping_start)) (None ∷ ks) indents indent (Pair ∷ gs) before
+pub pair_key_stood : (text more : List ℕ) (p q : Position) (tokens : List Token) (k : Key) (ks : List (Option Key)) (indents : List Indent) (indent : ℕ) (gs : List FlowLevel) (before : Before) → p.line ≤ k.position.line → Stood text (58 ∷ more) p tokens (Some k ∷ ks) indents indent (Entry ∷ gs) before →
+    Stood text (58 ∷ more) p (insert (insert tokens k.number (token k.position Tok.key)) k.number (token q Tok.flow_mapping_start)) (None ∷ ks) indents indent (Pair ∷ gs) before
 pair_key_stood text more p q tokens k ks indents indent gs before on s =
     let column : Option ℕ = innermost_column (columns indent indents) in
     let o : IsOpen k 0 s.row s.after p (58 ∷ more) column = s.are_open.0 in
     let old : List Written = o.own ∷ o.later in
     let acc : Account = account_past_row first_account o.before (spelled old s.after) in
-    let vs : List Written = empty_token o.own.separation (pair_at q) ∷ empty_token [] (key_at k.place) ∷ bare o.own ∷ o.later in
+    let vs : List Written = empty_token o.own.separation (pair_at q) ∷ empty_token [] (key_at k.position) ∷ bare o.own ∷ o.later in
     let c : AtColon text more p tokens k ks indents indent (Entry ∷ gs) before s = at_colon text more p tokens k ks indents indent (Entry ∷ gs) before s in
     let i : inside [] old ≡ Some [] = inside_none k old column (o.live (on, refl)) in
     let ls : List Level = levels_of gs in
     let levels : acc.levels ≡ record { kind = sequence; pair = false } ∷ ls = sym (levels_after acc [] [] acc.levels old s.after i refl) ∙ ap (λ a. a.levels) c.here in
-    let same : start_token s.begin ∷ tokens_of (o.before ++ vs) ≡ insert (insert tokens k.number (token k.place Tok.key)) k.number (token q Tok.flow_mapping_start) =
-    ap (λ ts. start_token s.begin ∷ ts) (tokens_append o.before vs) ∙ sym (two_in (start_token s.begin) (tokens_of o.before) (tokens_of old) tokens k.number (token k.place Tok.key) (token q Tok.flow_mapping_start) c.tokens_are c.number) in
+    let same : start_token s.begin ∷ tokens_of (o.before ++ vs) ≡ insert (insert tokens k.number (token k.position Tok.key)) k.number (token q Tok.flow_mapping_start) =
+    ap (λ ts. start_token s.begin ∷ ts) (tokens_append o.before vs) ∙ sym (two_in (start_token s.begin) (tokens_of o.before) (tokens_of old) tokens k.number (token k.position Tok.key) (token q Tok.flow_mapping_start) c.tokens_are c.number) in
     subst (λ ts. Stood text (58 ∷ more) p ts (None ∷ ks) indents indent (Pair ∷ gs) before) same
-    (inserted_stood text more p tokens k ks indents indent (Entry ∷ gs) before s vs refl (λ last. pair_row acc o.own o.later s.after last q k.place ls [] o.is_node i levels (c.row last)) indents indent s.are_levels (Pair ∷ gs) refl
-    (ap (λ a. account_past_separation a s.here.separation (58 ∷ more)) (pair_after acc o.own o.later s.after q k.place ls i levels) ∙ ap (λ (a : Account). record a { levels = record { kind = sequence; pair = true } ∷ ls }) c.here)
+    (inserted_stood text more p tokens k ks indents indent (Entry ∷ gs) before s vs refl (λ last. pair_row acc o.own o.later s.after last q k.position ls [] o.is_node i levels (c.row last)) indents indent s.are_levels (Pair ∷ gs) refl
+    (ap (λ a. account_past_separation a s.here.separation (58 ∷ more)) (pair_after acc o.own o.later s.after q k.position ls i levels) ∙ ap (λ (a : Account). record a { levels = record { kind = sequence; pair = true } ∷ ls }) c.here)
     (outer_open text more p tokens k ks indents indent (Entry ∷ gs) before s vs (with_pair true) (λ m ns j. (refl, inside_framed [] old [] (record m { pair = true } ∷ ns) j)) refl))
 
 -- ---- the start of a mapping, and its key
 
-pub mapping_key_stood : (text more : List ℕ) (p q : Position) (tokens : List Token) (k : Key) (ks : List (Option Key)) (indents : List Indent) (indent : ℕ) (before : Before) (indents2 : List Indent) (indent2 : ℕ) → p.line ≤ k.place.line → AreLevels indent2 indents2 →
-    columns indent2 indents2 ≡ Some k.place.col ∷ columns indent indents → Stood text (58 ∷ more) p tokens (Some k ∷ ks) indents indent [] before →
-    Stood text (58 ∷ more) p (insert (insert tokens k.number (token k.place Tok.key)) k.number (token q Tok.block_mapping_start)) (None ∷ ks) indents2 indent2 [] before
+pub mapping_key_stood : (text more : List ℕ) (p q : Position) (tokens : List Token) (k : Key) (ks : List (Option Key)) (indents : List Indent) (indent : ℕ) (before : Before) (indents2 : List Indent) (indent2 : ℕ) → p.line ≤ k.position.line → AreLevels indent2 indents2 →
+    columns indent2 indents2 ≡ Some k.position.col ∷ columns indent indents → Stood text (58 ∷ more) p tokens (Some k ∷ ks) indents indent [] before →
+    Stood text (58 ∷ more) p (insert (insert tokens k.number (token k.position Tok.key)) k.number (token q Tok.block_mapping_start)) (None ∷ ks) indents2 indent2 [] before
 mapping_key_stood text more p q tokens k ks indents indent before indents2 indent2 on are cols s =
     let column : Option ℕ = innermost_column (columns indent indents) in
     let o : IsOpen k 0 s.row s.after p (58 ∷ more) column = s.are_open.0 in
     let old : List Written = o.own ∷ o.later in
     let acc : Account = account_past_row first_account o.before (spelled old s.after) in
     let own : Account = account_at acc o.own (spelled o.later s.after) in
-    let vs : List Written = empty_token o.own.separation (mapping_at q) ∷ empty_token [] (key_at k.place) ∷ bare o.own ∷ o.later in
+    let vs : List Written = empty_token o.own.separation (mapping_at q) ∷ empty_token [] (key_at k.position) ∷ bare o.own ∷ o.later in
     let c : AtColon text more p tokens k ks indents indent [] before s = at_colon text more p tokens k ks indents indent [] before s in
     let i : inside [] old ≡ Some [] = inside_none k old column (o.live (on, refl)) in
     let levels : acc.levels ≡ [] = sym (levels_after acc [] [] acc.levels old s.after i refl) ∙ ap (λ a. a.levels) c.here in
     let outside : not (is_empty acc.levels) ≡ false = ap (λ ls. not (is_empty ls)) levels in
-    let end_line : (position_after (account_past_row acc old s.after).place s.here.separation (58 ∷ more)).line ≡ p.line = ap (λ a. a.place.line) c.here in
-    let key_line : k.place.line ≡ own.place.line = ap (λ x. x.line) o.place_is in
+    let end_line : (position_after (account_past_row acc old s.after).position s.here.separation (58 ∷ more)).line ≡ p.line = ap (λ a. a.position.line) c.here in
+    let key_line : k.position.line ≡ own.position.line = ap (λ x. x.line) o.position_is in
     let line : AreOnLine old s.after = on_line acc o.own o.later s.after s.here.separation more [] i s.here.is_after (omega (arith, end_line, key_line, on)) in
-    let same : start_token s.begin ∷ tokens_of (o.before ++ vs) ≡ insert (insert tokens k.number (token k.place Tok.key)) k.number (token q Tok.block_mapping_start) =
-    ap (λ ts. start_token s.begin ∷ ts) (tokens_append o.before vs) ∙ sym (two_in (start_token s.begin) (tokens_of o.before) (tokens_of old) tokens k.number (token k.place Tok.key) (token q Tok.block_mapping_start) c.tokens_are c.number) in
-    let blocks : Some own.place.col ∷ columns indent indents ≡ columns indent2 indents2 = ap (λ n. Some n ∷ columns indent indents) (sym (ap (λ x. x.col) o.place_is)) ∙ sym cols in
+    let same : start_token s.begin ∷ tokens_of (o.before ++ vs) ≡ insert (insert tokens k.number (token k.position Tok.key)) k.number (token q Tok.block_mapping_start) =
+    ap (λ ts. start_token s.begin ∷ ts) (tokens_append o.before vs) ∙ sym (two_in (start_token s.begin) (tokens_of o.before) (tokens_of old) tokens k.number (token k.position Tok.key) (token q Tok.block_mapping_start) c.tokens_are c.number) in
+    let blocks : Some own.position.col ∷ columns indent indents ≡ columns indent2 indents2 = ap (λ n. Some n ∷ columns indent indents) (sym (ap (λ x. x.col) o.position_is)) ∙ sym cols in
     subst (λ ts. Stood text (58 ∷ more) p ts (None ∷ ks) indents2 indent2 [] before) same
-    (inserted_stood text more p tokens k ks indents indent [] before s vs refl (λ last. mapping_inserted acc o.own o.later s.after last q k.place outside o.is_node line (c.row last)) indents2 indent2 are [] refl
-    (ap (λ a. account_past_separation a s.here.separation (58 ∷ more)) (mapping_after acc o.own o.later s.after q k.place [] i o.is_solid o.is_settled) ∙ ap (λ (a : Account). record a { blocks = Some own.place.col ∷ a.blocks }) c.here ∙
-    ap {B = Account} (λ bs. record { place = p; blocks = bs; levels = []; before = before }) blocks)
+    (inserted_stood text more p tokens k ks indents indent [] before s vs refl (λ last. mapping_inserted acc o.own o.later s.after last q k.position outside o.is_node line (c.row last)) indents2 indent2 are [] refl
+    (ap (λ a. account_past_separation a s.here.separation (58 ∷ more)) (mapping_after acc o.own o.later s.after q k.position [] i o.is_solid o.is_settled) ∙ ap (λ (a : Account). record a { blocks = Some own.position.col ∷ a.blocks }) c.here ∙
+    ap {B = Account} (λ bs. record { position = p; blocks = bs; levels = []; before = before }) blocks)
     (none_open 0 (o.before ++ vs) s.after p (58 ∷ more) (innermost_column (columns indent2 indents2)) (Some k ∷ ks) s.one_each))

@@ -18,11 +18,11 @@ pub mod Nodes
 pub mod Opens
 pub mod Passes
 pub mod Pieces
-pub mod Places
+pub mod Positions
 pub mod Pushed
 pub mod Reached
 pub mod Rolls
-pub mod RowPlaces
+pub mod RowPositions
 pub mod Saved
 pub mod Scalars
 pub mod Stoods

@@ -29,7 +29,7 @@ use Rattle.proof_cut.specs.Stands.{columns, levels_of, account_of, IsAdjacent, S
 use Rattle.proof_cut.proofs.Pieces.Names.{name_is_read}
 use Rattle.proof_cut.proofs.Pieces.Plains.{plain_is_read}
 use Rattle.proof_cut.proofs.Pieces.Tags.{tag_is_read}
-use Rattle.proof_cut.proofs.Places.{index_after}
+use Rattle.proof_cut.proofs.Positions.{index_after}
 use Rattle.proof_cut.proofs.Heres.{led}
 use Rattle.proof_cut.proofs.Pushed.{with_piece}
 use Rattle.proof_cut.proofs.Saved.{Opens, saved_keys, saved_is}
@@ -40,18 +40,18 @@ use Rattle.proof_cut.proofs.Levels.{WithoutOpen, without_is}
 abbrev pub AreNear : Position → List (Option Key) → Type 0
 AreNear p [] = Unit {0}
 AreNear p (None ∷ ks) = AreNear p ks
-AreNear p (Some k ∷ ks) = (p.line ≤ k.place.line) × AreNear p ks
+AreNear p (Some k ∷ ks) = (p.line ≤ k.position.line) × AreNear p ks
 
 -- What holds where a token begins.
 pub record Ready (text : List ℕ) (t : ScannerState) : Type 0 where
   pub stands : FaresAt text t
   pub some : is_empty t.rest ≡ false
   pub solid : begins_separation t.rest ≡ false
-  pub near : is_empty t.held.flow ≡ true → AreNear t.held.place t.held.keys
+  pub near : is_empty t.held.flow ≡ true → AreNear t.held.position t.held.keys
 
 -- whether a token may begin here: not left of the innermost level
 abbrev pub IsDeep : Held → Type 0
-IsDeep s = s.indent ≤ s.place.col + 1
+IsDeep s = s.indent ≤ s.position.col + 1
 
 -- ---- adjacency
 
@@ -61,10 +61,10 @@ not_same x y h = grind (arith, nat_tests)
 pub adjacent_other : (p : Position) (adj : ℕ) (rest : List ℕ) → adj < p.index → IsAdjacent other p adj rest
 adjacent_other p adj rest h = λ separation r e k t. sym (not_same (p.index + length separation) adj (omega (arith, h)))
 
-pub further_read : (a : Account) (rest : List ℕ) (tok : Tok) (at : Position) (rest2 : List ℕ) (end : Position) → ReadAs a rest tok at rest2 end → a.place.index < end.index
+pub further_read : (a : Account) (rest : List ℕ) (tok : Tok) (at : Position) (rest2 : List ℕ) (end : Position) → ReadAs a rest tok at rest2 end → a.position.index < end.index
 further_read a rest tok at rest2 end r =
-    let q : Position = position_after a.place (r.first ∷ r.more) (r.separation ++ rest2) in
-    let i : q.index ≡ a.place.index + length (r.first ∷ r.more) = index_after a.place (r.first ∷ r.more) (r.separation ++ rest2) in
+    let q : Position = position_after a.position (r.first ∷ r.more) (r.separation ++ rest2) in
+    let i : q.index ≡ a.position.index + length (r.first ∷ r.more) = index_after a.position (r.first ∷ r.more) (r.separation ++ rest2) in
     let j : (position_after q r.separation rest2).index ≡ q.index + length r.separation = index_after q r.separation rest2 in
     let e : end.index ≡ (position_after q r.separation rest2).index = ap (λ x. x.index) r.is_end in
     omega (arith, i, j, e)
@@ -116,36 +116,36 @@ neutral_double x = record { node = refl; blocks = λ bs. refl; levels = λ ls c 
 
 -- the account where a token begins
 abbrev pub account_now : (text : List ℕ) (t : ScannerState) → FaresAt text t → Account
-account_now text t s = account_of t.held.place t.held.indent t.held.indents t.held.flow s.before
+account_now text t s = account_of t.held.position t.held.indent t.held.indents t.held.flow s.before
 
 pub neutral_fares : (text : List ℕ) (t : ScannerState) (s : FaresAt text t) → IsDeep t.held → (tok : Tok) (at : Position) (rest2 : List ℕ) (end : Position) → ReadAs (account_now text t s) t.rest tok at rest2 end → IsNeutral tok → before_by tok ≡ other →
     Fares text rest2 end (t.held.tokens ++ token at tok ∷ []) (saved_keys t.held) t.held.indents t.held.indent t.held.flow t.held.adjacent_value_at
 neutral_fares text t s deep tok at rest2 end r n none =
-    node_fares text t.rest t.held.place t.held.tokens t.held.keys t.held.indents t.held.indent t.held.flow s.before t.held.adjacent_value_at s.stood s.was_adjacent tok at rest2 end r
+    node_fares text t.rest t.held.position t.held.tokens t.held.keys t.held.indents t.held.indent t.held.flow s.before t.held.adjacent_value_at s.stood s.was_adjacent tok at rest2 end r
     n.node deep (n.blocks (columns t.held.indent t.held.indents)) (n.levels (levels_of t.held.flow) r.first r.more) none
-    (opens_none t.held.place end rest2 s.stood.here.separation (r.first ∷ r.more) at tok (λ ns. n.steps ns r.first r.more)) t.held.key_allowed (must_be_key t.held)
+    (opens_none t.held.position end rest2 s.stood.here.separation (r.first ∷ r.more) at tok (λ ns. n.steps ns r.first r.more)) t.held.key_allowed (must_be_key t.held)
 
 -- ---- anchors, aliases and tags
 
 pub clean_more : (text : List ℕ) (t : ScannerState) (c : ℕ) (more : List ℕ) → t.rest ≡ c ∷ more → FaresAt text t → has_no_nul more ≡ true
 clean_more text t c more e s = (and_parts (not (is_nul c)) (has_no_nul more) (rw e at s.stood.here.is_clean)).1
 
-name_fares : (text : List ℕ) (alias : Bool) (t : ScannerState) (more : List ℕ) → t.rest ≡ (if alias then 42 else 38) ∷ more → FaresAt text t → IsDeep t.held → (x : Read (List ℕ)) → anchor_name t.rest t.held.place ≡ Ok x →
-    Fares text x.rest x.place (t.held.tokens ++ token t.held.place (anchor_token alias x.value) ∷ []) (saved_keys t.held) t.held.indents t.held.indent t.held.flow t.held.adjacent_value_at
-name_fares text alias t more e s deep x k = by alias (subst (λ r. ReadAs a r (anchor_token alias x.value) t.held.place x.rest x.place) (sym e) (name_is_read a alias more x (clean_more text t _ more e s) (subst (λ r. anchor_name r t.held.place ≡ Ok x) e k)))
+name_fares : (text : List ℕ) (alias : Bool) (t : ScannerState) (more : List ℕ) → t.rest ≡ (if alias then 42 else 38) ∷ more → FaresAt text t → IsDeep t.held → (x : Read (List ℕ)) → anchor_name t.rest t.held.position ≡ Ok x →
+    Fares text x.rest x.position (t.held.tokens ++ token t.held.position (anchor_token alias x.value) ∷ []) (saved_keys t.held) t.held.indents t.held.indent t.held.flow t.held.adjacent_value_at
+name_fares text alias t more e s deep x k = by alias (subst (λ r. ReadAs a r (anchor_token alias x.value) t.held.position x.rest x.position) (sym e) (name_is_read a alias more x (clean_more text t _ more e s) (subst (λ r. anchor_name r t.held.position ≡ Ok x) e k)))
   where
     a : Account
     a = account_now text t s
 
-    by : (alias : Bool) → ReadAs a t.rest (anchor_token alias x.value) t.held.place x.rest x.place →
-        Fares text x.rest x.place (t.held.tokens ++ token t.held.place (anchor_token alias x.value) ∷ []) (saved_keys t.held) t.held.indents t.held.indent t.held.flow t.held.adjacent_value_at
-    by true r = neutral_fares text t s deep (Tok.alias x.value) t.held.place x.rest x.place r (neutral_alias x.value) refl
-    by false r = neutral_fares text t s deep (Tok.anchor x.value) t.held.place x.rest x.place r (neutral_anchor x.value) refl
+    by : (alias : Bool) → ReadAs a t.rest (anchor_token alias x.value) t.held.position x.rest x.position →
+        Fares text x.rest x.position (t.held.tokens ++ token t.held.position (anchor_token alias x.value) ∷ []) (saved_keys t.held) t.held.indents t.held.indent t.held.flow t.held.adjacent_value_at
+    by true r = neutral_fares text t s deep (Tok.alias x.value) t.held.position x.rest x.position r (neutral_alias x.value) refl
+    by false r = neutral_fares text t s deep (Tok.anchor x.value) t.held.position x.rest x.position r (neutral_anchor x.value) refl
 
 pub anchor_fetched : (text : List ℕ) (alias : Bool) (t : ScannerState) (more : List ℕ) → t.rest ≡ (if alias then 42 else 38) ∷ more → FaresAt text t → IsDeep t.held → Holds (FaresAt text) (fetch_anchor alias t)
 unfolding fetch_anchor
-anchor_fetched text alias t more e s deep = read (node_start t.held) (anchor_name t.rest t.held.place) _ (λ x k.
-    went (subst (λ h. FaresAt text (on_held (λ u. push t.held.place (anchor_token alias x.value) (unled u)) (go_on x (allow_key false h)))) (sym (saved_is t.held)) (name_fares text alias t more e s deep x k)))
+anchor_fetched text alias t more e s deep = read (node_start t.held) (anchor_name t.rest t.held.position) _ (λ x k.
+    went (subst (λ h. FaresAt text (on_held (λ u. push t.held.position (anchor_token alias x.value) (unled u)) (go_on x (allow_key false h)))) (sym (saved_is t.held)) (name_fares text alias t more e s deep x k)))
 
 pub same_flow : (fs : List FlowLevel) → not (is_empty (levels_of fs)) ≡ not (is_empty fs)
 same_flow [] = refl
@@ -153,13 +153,13 @@ same_flow (f ∷ fs) = refl
 
 pub tag_fetched : (text : List ℕ) (t : ScannerState) (more : List ℕ) → t.rest ≡ 33 ∷ more → FaresAt text t → IsDeep t.held → Holds (FaresAt text) (fetch_tag t)
 unfolding fetch_tag
-tag_fetched text t more e s deep = read (node_start t.held) (tags.tag (in_flow t.held) t.rest t.held.place) _ (λ x k.
+tag_fetched text t more e s deep = read (node_start t.held) (tags.tag (in_flow t.held) t.rest t.held.position) _ (λ x k.
     let a : Account = account_now text t s in
-    let r : ReadAs a t.rest (Tok.tag x.value.handle x.value.suffix) t.held.place x.rest x.place =
-    subst (λ r. ReadAs a r (Tok.tag x.value.handle x.value.suffix) t.held.place x.rest x.place) (sym e)
-    (tag_is_read a (in_flow t.held) more x (clean_more text t 33 more e s) (same_flow t.held.flow) (subst (λ r. tags.tag (in_flow t.held) r t.held.place ≡ Ok x) e k)) in
-    went (subst (λ h. FaresAt text (on_held (λ u. push t.held.place (Tok.tag x.value.handle x.value.suffix) (unled u)) (go_on x (allow_key false h)))) (sym (saved_is t.held))
-    (neutral_fares text t s deep (Tok.tag x.value.handle x.value.suffix) t.held.place x.rest x.place r (neutral_tag x.value.handle x.value.suffix) refl)))
+    let r : ReadAs a t.rest (Tok.tag x.value.handle x.value.suffix) t.held.position x.rest x.position =
+    subst (λ r. ReadAs a r (Tok.tag x.value.handle x.value.suffix) t.held.position x.rest x.position) (sym e)
+    (tag_is_read a (in_flow t.held) more x (clean_more text t 33 more e s) (same_flow t.held.flow) (subst (λ r. tags.tag (in_flow t.held) r t.held.position ≡ Ok x) e k)) in
+    went (subst (λ h. FaresAt text (on_held (λ u. push t.held.position (Tok.tag x.value.handle x.value.suffix) (unled u)) (go_on x (allow_key false h)))) (sym (saved_is t.held))
+    (neutral_fares text t s deep (Tok.tag x.value.handle x.value.suffix) t.held.position x.rest x.position r (neutral_tag x.value.handle x.value.suffix) refl)))
 
 -- ---- plain scalars
 
@@ -172,38 +172,38 @@ unfoldable pub levels_gone : Held → Levels
 levels_gone h = without_open h.indent h.indents h.tokens
 
 -- What was passed, with those levels.
-pub gone_stood : (text rest : List ℕ) (h : Held) (keys : List (Option Key)) (before : Before) → Stood text rest h.place h.tokens keys h.indents h.indent h.flow before →
-    Stood text rest h.place h.tokens keys (levels_gone h).indents (levels_gone h).indent h.flow before
+pub gone_stood : (text rest : List ℕ) (h : Held) (keys : List (Option Key)) (before : Before) → Stood text rest h.position h.tokens keys h.indents h.indent h.flow before →
+    Stood text rest h.position h.tokens keys (levels_gone h).indents (levels_gone h).indent h.flow before
 unfolding levels_gone
 gone_stood text rest h keys before s =
     let w : WithoutOpen h.indent h.indents h.tokens (without_open h.indent h.indents h.tokens) = without_is h.indent h.indents h.tokens s.are_levels in
-    stood_levels text rest h.place h.tokens keys h.indents h.indent h.flow before (without_open h.indent h.indents h.tokens).indents (without_open h.indent h.indents h.tokens).indent w.same_columns w.are_levels s
+    stood_levels text rest h.position h.tokens keys h.indents h.indent h.flow before (without_open h.indent h.indents h.tokens).indents (without_open h.indent h.indents h.tokens).indent w.same_columns w.are_levels s
 
 -- the flag and the levels around a flow scalar
 abbrev plain_context : Held → Context
 plain_context h = record { flow = in_flow h; indent = (levels_gone h).indent }
 
-plain_fares : (text : List ℕ) (t : ScannerState) (s : FaresAt text t) → IsDeep t.held → comes_plain (in_flow t.held) (is_adjacent s.before) t.held.place.col t.rest ≡ true → (x : Read plains.Plain) → plains.plain (plain_context t.held) t.rest t.held.place ≡ Ok x →
-    Fares text x.rest x.place ((levels_gone t.held).tokens ++ token t.held.place (Tok.scalar Style.plain x.value.text) ∷ []) (saved_keys t.held) (levels_gone t.held).indents (levels_gone t.held).indent t.held.flow t.held.adjacent_value_at
+plain_fares : (text : List ℕ) (t : ScannerState) (s : FaresAt text t) → IsDeep t.held → comes_plain (in_flow t.held) (is_adjacent s.before) t.held.position.col t.rest ≡ true → (x : Read plains.Plain) → plains.plain (plain_context t.held) t.rest t.held.position ≡ Ok x →
+    Fares text x.rest x.position ((levels_gone t.held).tokens ++ token t.held.position (Tok.scalar Style.plain x.value.text) ∷ []) (saved_keys t.held) (levels_gone t.held).indents (levels_gone t.held).indent t.held.flow t.held.adjacent_value_at
 unfolding levels_gone
 plain_fares text t s deep comes x k =
     let u : Levels = without_open t.held.indent t.held.indents t.held.tokens in
     let w : WithoutOpen t.held.indent t.held.indents t.held.tokens u = without_is t.held.indent t.held.indents t.held.tokens s.stood.are_levels in
     let tok : Tok = Tok.scalar Style.plain x.value.text in
-    let v : Stood text t.rest t.held.place t.held.tokens t.held.keys u.indents u.indent t.held.flow s.before = gone_stood text t.rest t.held t.held.keys s.before s.stood in
-    let a : Account = account_of t.held.place u.indent u.indents t.held.flow s.before in
-    let deep2 : u.indent ≤ t.held.place.col + 1 = omega (arith, deep, w.not_deeper) in
-    let r : ReadAs a t.rest tok t.held.place x.rest x.place =
-    plain_is_read a (plain_context t.held) t.rest x s.stood.here.is_clean (same_flow t.held.flow) w.is_collection comes (less_or (in_flow t.held) u.indent t.held.place.col (omega (arith, deep2))) k in
+    let v : Stood text t.rest t.held.position t.held.tokens t.held.keys u.indents u.indent t.held.flow s.before = gone_stood text t.rest t.held t.held.keys s.before s.stood in
+    let a : Account = account_of t.held.position u.indent u.indents t.held.flow s.before in
+    let deep2 : u.indent ≤ t.held.position.col + 1 = omega (arith, deep, w.not_deeper) in
+    let r : ReadAs a t.rest tok t.held.position x.rest x.position =
+    plain_is_read a (plain_context t.held) t.rest x s.stood.here.is_clean (same_flow t.held.flow) w.is_collection comes (less_or (in_flow t.held) u.indent t.held.position.col (omega (arith, deep2))) k in
     let m : IsNeutral tok = neutral_plain x.value.text in
-    subst (λ ts. Fares text x.rest x.place (ts ++ token t.held.place tok ∷ []) (saved_keys t.held) u.indents u.indent t.held.flow t.held.adjacent_value_at) (sym w.same_tokens)
-    (node_fares text t.rest t.held.place t.held.tokens t.held.keys u.indents u.indent t.held.flow s.before t.held.adjacent_value_at v s.was_adjacent tok t.held.place x.rest x.place r
+    subst (λ ts. Fares text x.rest x.position (ts ++ token t.held.position tok ∷ []) (saved_keys t.held) u.indents u.indent t.held.flow t.held.adjacent_value_at) (sym w.same_tokens)
+    (node_fares text t.rest t.held.position t.held.tokens t.held.keys u.indents u.indent t.held.flow s.before t.held.adjacent_value_at v s.was_adjacent tok t.held.position x.rest x.position r
     m.node deep2 (m.blocks (columns u.indent u.indents)) (m.levels (levels_of t.held.flow) r.first r.more) refl
-    (opens_none t.held.place x.place x.rest v.here.separation (r.first ∷ r.more) t.held.place tok (λ ns. m.steps ns r.first r.more)) t.held.key_allowed (must_be_key t.held))
+    (opens_none t.held.position x.position x.rest v.here.separation (r.first ∷ r.more) t.held.position tok (λ ns. m.steps ns r.first r.more)) t.held.key_allowed (must_be_key t.held))
 
-pub plain_fetched : (text : List ℕ) (t : ScannerState) (s : FaresAt text t) → IsDeep t.held → comes_plain (in_flow t.held) (is_adjacent s.before) t.held.place.col t.rest ≡ true → Holds (FaresAt text) (fetch_plain_scalar t)
+pub plain_fetched : (text : List ℕ) (t : ScannerState) (s : FaresAt text t) → IsDeep t.held → comes_plain (in_flow t.held) (is_adjacent s.before) t.held.position.col t.rest ≡ true → Holds (FaresAt text) (fetch_plain_scalar t)
 unfolding fetch_plain_scalar unroll_non_block_indents levels_gone
 plain_fetched text t s deep comes =
-    subst (λ h. Holds (FaresAt text) (lexed (plains.plain (context (unroll_non_block_indents (allow_key false h))) t.rest t.held.place) (unroll_non_block_indents (allow_key false h))
-    (λ r u. Ok (on_held (λ v. push t.held.place (Tok.scalar Style.plain r.text) (after_plain r.leading v)) u)))) (sym (saved_is t.held))
-    (read (unroll_non_block_indents (allow_key false (record t.held { keys = saved_keys t.held }))) (plains.plain (plain_context t.held) t.rest t.held.place) _ (λ x k. went (plain_fares text t s deep comes x k)))
+    subst (λ h. Holds (FaresAt text) (lexed (plains.plain (context (unroll_non_block_indents (allow_key false h))) t.rest t.held.position) (unroll_non_block_indents (allow_key false h))
+    (λ r u. Ok (on_held (λ v. push t.held.position (Tok.scalar Style.plain r.text) (after_plain r.leading v)) u)))) (sym (saved_is t.held))
+    (read (unroll_non_block_indents (allow_key false (record t.held { keys = saved_keys t.held }))) (plains.plain (plain_context t.held) t.rest t.held.position) _ (λ x k. went (plain_fares text t s deep comes x k)))

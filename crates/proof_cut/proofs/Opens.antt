@@ -9,7 +9,7 @@ use Rattle.model_scanner.specs.State.{Key, with_top}
 use Rattle.proof_cut.specs.Order.{NotBefore, After}
 use Rattle.proof_cut.specs.Inside.{inside}
 use Rattle.proof_cut.specs.Here.{IsLive, IsInside, IsOpen, AreOpen}
-use Rattle.proof_cut.proofs.Places.{after_then}
+use Rattle.proof_cut.proofs.Positions.{after_then}
 use Rattle.proof_cut.proofs.Insides.{inside_framed, inside_both}
 
 -- a row inside a key leads to so many levels
@@ -25,7 +25,7 @@ GoesOn rest2 rest = is_empty rest2 ≡ false → is_empty rest ≡ false
 live_before : (k : Key) (p q : Position) (rest rest2 : List ℕ) → NotBefore p q → GoesOn rest2 rest → IsLive k q rest2 → IsLive k p rest
 live_before k p q rest rest2 n g l = (omega (arith, n.0, l.0), g l.1)
 
--- ---- the place moves on
+-- ---- the position moves on
 
 pub open_moved : (depth : ℕ) (row : List Written) (after : List ℕ) (p q : Position) (rest rest2 : List ℕ) (column : Option ℕ) (ks : List (Option Key)) → NotBefore p q → GoesOn rest2 rest →
     AreOpen depth row after p rest column ks → AreOpen depth row after q rest2 column ks
@@ -42,8 +42,8 @@ open_moved depth row after p q rest rest2 column (Some k ∷ ks) n g o = (
     is_solid = o.0.is_solid;
     is_free = o.0.is_free;
     is_settled = o.0.is_settled;
-    place_is = o.0.place_is;
-    is_earlier = after_then k.place p q o.0.is_earlier n;
+    position_is = o.0.position_is;
+    is_earlier = after_then k.position p q o.0.is_earlier n;
     live = λ l. o.0.live (live_before k p q rest rest2 n g l);
   },
   o.1,
@@ -53,7 +53,7 @@ open_moved depth row after p q rest rest2 column (Some k ∷ ks) n g o = (
 
 -- what tokens lead to inside each key that is still live after them: from so many levels to so many
 abbrev pub Leads : (i j : ℕ) → Position → Position → (rest2 : List ℕ) → List Written → Type 0
-Leads i j p q rest2 vs = (k : Key) (n : ℕ) (ns : List Level) → After k.place p → IsLive k q rest2 → length ns ≡ i + n → Goes ns vs (j + n)
+Leads i j p q rest2 vs = (k : Key) (n : ℕ) (ns : List Level) → After k.position p → IsLive k q rest2 → length ns ≡ i + n → Goes ns vs (j + n)
 
 leads_outer : (i j : ℕ) (p q : Position) (rest2 : List ℕ) (vs : List Written) → Leads i j p q rest2 vs → Leads (suc i) (suc j) p q rest2 vs
 leads_outer i j p q rest2 vs l k n ns b v e =
@@ -65,14 +65,14 @@ abbrev account_by : (before : List Written) → Written → (next : List ℕ) �
 account_by before own next = account_at (account_past_row first_account before (own.separation ++ (own.piece ++ next))) own next
 
 abbrev outer_open : Key → (before : List Written) → Written → Option ℕ → List (Option Key) → (next : List ℕ) → Type 0
-outer_open k before own column ks next = AreOpen 1 before (own.separation ++ (own.piece ++ next)) k.place (own.piece ++ next) column ks
+outer_open k before own column ks next = AreOpen 1 before (own.separation ++ (own.piece ++ next)) k.position (own.piece ++ next) column ks
 
 -- the text after a row that goes on
 pub spelled_more : (ws vs : List Written) (after after2 : List ℕ) → after ≡ spelled vs after2 → spelled ws after ≡ spelled (ws ++ vs) after2
 spelled_more ws vs after after2 cut = ap (λ t. spelled ws t) cut ∙ sym (spelled_append ws vs after2)
 
--- an open key, as its row and its place go on
-abbrev pub is_open_more : (k : Key) (i j : ℕ) (row vs : List Written) (after after2 : List ℕ) (p q : Position) (rest rest2 : List ℕ) (column column2 : Option ℕ) → after ≡ spelled vs after2 → After k.place q →
+-- an open key, as its row and its position go on
+abbrev pub is_open_more : (k : Key) (i j : ℕ) (row vs : List Written) (after after2 : List ℕ) (p q : Position) (rest rest2 : List ℕ) (column column2 : Option ℕ) → after ≡ spelled vs after2 → After k.position q →
     (o : IsOpen k i row after p rest column) → (IsLive k q rest2 → IsInside k j (o.own ∷ (o.later ++ vs)) column2) → IsOpen k j (row ++ vs) after2 q rest2 column2
 is_open_more k i j row vs after after2 p q rest rest2 column column2 cut earlier o lives =
     let own : Written = o.own in
@@ -87,7 +87,7 @@ is_open_more k i j row vs after after2 p q rest rest2 column column2 cut earlier
       is_solid = o.is_solid;
       is_free = λ last. subst (λ t. IsRow first_account o.before (own.separation ++ (own.piece ++ t)) last) next (o.is_free last);
       is_settled = λ n. subst (λ t. let bs : List (Option ℕ) = (account_past_row first_account o.before (own.separation ++ (own.piece ++ t))).blocks in settled n bs ≡ bs) next (o.is_settled n);
-      place_is = o.place_is ∙ ap (λ t. (account_by o.before own t).place) next;
+      position_is = o.position_is ∙ ap (λ t. (account_by o.before own t).position) next;
       is_earlier = earlier;
       live = lives;
     }
@@ -103,7 +103,7 @@ open_more i j row vs after after2 p q rest rest2 column (Some k ∷ ks) cut n g 
     let a : IsInside k i (own ∷ o.0.later) column = o.0.live (live_before k p q rest rest2 n g v) in
     let b : Goes a.levels vs (j + 0) = l k 0 a.levels o.0.is_earlier v (omega (arith, a.many)) in
     record { levels = b.levels; is_inside = inside_both [] (own ∷ o.0.later) vs a.levels a.is_inside ∙ b.is_inside; many = omega (arith, b.are_many); column_is = a.column_is } in (
-      is_open_more k i j row vs after after2 p q rest rest2 column column cut (after_then k.place p q o.0.is_earlier n) o.0 lives,
+      is_open_more k i j row vs after after2 p q rest rest2 column column cut (after_then k.position p q o.0.is_earlier n) o.0 lives,
       subst (outer_open k o.0.before own column ks) (spelled_more o.0.later vs after after2 cut) o.1,
     )
 
@@ -122,11 +122,11 @@ open_given_up depth row after p rest column [] o = tt
 open_given_up depth row after p rest column (None ∷ ks) o = o
 open_given_up depth row after p rest column (Some k ∷ ks) o =
     let vs : List Written = o.0.own ∷ o.0.later in
-    let leads : Leads 1 (suc depth) k.place p rest vs = λ k2 n ns b v e.
+    let leads : Leads 1 (suc depth) k.position p rest vs = λ k2 n ns b v e.
     let a : IsInside k depth vs column = o.0.live (omega (arith, b.0, v.0), v.1) in
     record { levels = a.levels ++ ns; is_inside = inside_framed [] vs a.levels ns a.is_inside; are_many = rw (length-append a.levels ns) (omega (arith, a.many, e)) } in
     subst (λ r. AreOpen (suc depth) r after p rest column ks) (sym o.0.is_split)
-    (open_more 1 (suc depth) o.0.before vs (spelled vs after) after k.place p (o.0.own.piece ++ spelled o.0.later after) rest column ks refl
+    (open_more 1 (suc depth) o.0.before vs (spelled vs after) after k.position p (o.0.own.piece ++ spelled o.0.later after) rest column ks refl
     (o.0.is_earlier.0, λ h. omega (arith, o.0.is_earlier.1 h)) (λ _. same_nil o.0.own (spelled o.0.later after) o.0.is_solid) leads o.1)
 
 -- the keys outside the innermost

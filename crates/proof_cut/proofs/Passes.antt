@@ -19,14 +19,14 @@ use Rattle.proof_lexers.specs.Separations.{begins_separation, PassesAs, passes, 
 use Rattle.proof_lexers.proofs.Separation.Separations.{separations_are_passed}
 use Rattle.proof_lexers.proofs.Separation.WhiteSpace.{white_space_is_passed}
 use Rattle.proof_lexers.proofs.Separation.Spaces.{spaces_are_passed}
-use Rattle.proof_lexers.proofs.Separation.Places.{place_append}
+use Rattle.proof_lexers.proofs.Separation.Positions.{position_append}
 use Rattle.proof_cut.specs.Stands.{Stood}
 use Rattle.proof_cut.proofs.Pieces.Separations.{separation_append}
 use Rattle.proof_cut.proofs.Stoods.{stood_filled}
 
--- a held state at another place
+-- a held state at another position
 abbrev pub placed_at : Held → Position → (leading allowed : Bool) → Held
-placed_at s p leading allowed = record s { place = p; leading = leading; key_allowed = allowed }
+placed_at s p leading allowed = record s { position = p; leading = leading; key_allowed = allowed }
 
 -- From one state to another a separation was passed.
 pub record Passed (t u : ScannerState) : Type 0 where
@@ -35,17 +35,17 @@ pub record Passed (t u : ScannerState) : Type 0 where
   pub allowed : Bool
   pub is_rest : t.rest ≡ separation ++ u.rest
   pub is_filled : is_separation false separation u.rest ≡ true
-  pub is_held : u.held ≡ placed_at t.held (position_after t.held.place separation u.rest) leading allowed
+  pub is_held : u.held ≡ placed_at t.held (position_after t.held.position separation u.rest) leading allowed
 
--- a separation was passed, from a place on
+-- a separation was passed, from a position on
 pub record Filled (rest : List ℕ) (p : Position) (u : ScannerState) : Type 0 where
   pub separation : List ℕ
   pub is_rest : rest ≡ separation ++ u.rest
   pub is_filled : is_separation false separation u.rest ≡ true
-  pub is_place : u.held.place ≡ position_after p separation u.rest
+  pub is_position : u.held.position ≡ position_after p separation u.rest
 
-abbrev pub filled_of : (t u : ScannerState) → Passed t u → Filled t.rest t.held.place u
-filled_of t u a = record { separation = a.separation; is_rest = a.is_rest; is_filled = a.is_filled; is_place = ap (λ h. h.place) a.is_held }
+abbrev pub filled_of : (t u : ScannerState) → Passed t u → Filled t.rest t.held.position u
+filled_of t u a = record { separation = a.separation; is_rest = a.is_rest; is_filled = a.is_filled; is_position = ap (λ h. h.position) a.is_held }
 
 -- the same, up to a token or the text's end
 pub record PassedAll (t u : ScannerState) : Type 0 where
@@ -77,12 +77,12 @@ pub record Spaced (tabs : SkipTabs) (t u : ScannerState) : Type 0 where
   pub is_filled : is_separation false (blanks ++ comment) u.rest ≡ true
   pub no_break : has_break (blanks ++ comment) ≡ false
   pub ends : ends_spaces tabs u.rest ≡ true
-  pub is_held : u.held ≡ record t.held { place = position_after t.held.place (blanks ++ comment) u.rest }
+  pub is_held : u.held ≡ record t.held { position = position_after t.held.position (blanks ++ comment) u.rest }
 
-pub spaced : (tabs : SkipTabs) (t : ScannerState) (go : Whitespace → ScannerState → Result ScannerState Fault) (P : ScannerState → Type 0) → ((w : Whitespace) (u : ScannerState) → Spaced tabs t u → Holds P (go w u)) → Holds P (lexed (space tabs t.rest t.held.place) t.held go)
-spaced tabs t go P f = by (space tabs t.rest t.held.place) (spaces_are_passed tabs t.rest t.held.place)
+pub spaced : (tabs : SkipTabs) (t : ScannerState) (go : Whitespace → ScannerState → Result ScannerState Fault) (P : ScannerState → Type 0) → ((w : Whitespace) (u : ScannerState) → Spaced tabs t u → Holds P (go w u)) → Holds P (lexed (space tabs t.rest t.held.position) t.held go)
+spaced tabs t go P f = by (space tabs t.rest t.held.position) (spaces_are_passed tabs t.rest t.held.position)
   where
-    by : (x : Result (Read Whitespace) Fault) → SpacesAs tabs t.held.place t.rest x → Holds P (lexed x t.held go)
+    by : (x : Result (Read Whitespace) Fault) → SpacesAs tabs t.held.position t.rest x → Holds P (lexed x t.held go)
     by x (spaces blanks comment rest cut are fills break ends e) = rw e (f _ _ (record { blanks = blanks; comment = comment; is_rest = cut; are_blanks = are; is_filled = fills; no_break = break; ends = ends; is_held = refl }))
     by x (glued begins e) = rw e refused
 
@@ -104,20 +104,20 @@ passed_spaces tabs t u s = record {
 pub passed_both : (t u v : ScannerState) → Passed t u → Passed u v → Passed t v
 passed_both t u v a b =
     let cut : t.rest ≡ (a.separation ++ b.separation) ++ v.rest = a.is_rest ∙ ap (λ r. a.separation ++ r) b.is_rest ∙ sym (append_assoc a.separation b.separation v.rest) in
-    let place : position_after u.held.place b.separation v.rest ≡ position_after t.held.place (a.separation ++ b.separation) v.rest =
-    ap (λ h. position_after h.place b.separation v.rest) a.is_held ∙ ap (λ r. position_after (position_after t.held.place a.separation r) b.separation v.rest) b.is_rest ∙ sym (place_append t.held.place a.separation b.separation v.rest) in
+    let position : position_after u.held.position b.separation v.rest ≡ position_after t.held.position (a.separation ++ b.separation) v.rest =
+    ap (λ h. position_after h.position b.separation v.rest) a.is_held ∙ ap (λ r. position_after (position_after t.held.position a.separation r) b.separation v.rest) b.is_rest ∙ sym (position_append t.held.position a.separation b.separation v.rest) in
     record {
       separation = a.separation ++ b.separation;
       leading = b.leading;
       allowed = b.allowed;
       is_rest = cut;
       is_filled = separation_append false a.separation b.separation v.rest (rw b.is_rest at a.is_filled) b.is_filled;
-      is_held = b.is_held ∙ ap (λ h. placed_at h (position_after u.held.place b.separation v.rest) b.leading b.allowed) a.is_held ∙ ap (λ p. placed_at t.held p b.leading b.allowed) place;
+      is_held = b.is_held ∙ ap (λ h. placed_at h (position_after u.held.position b.separation v.rest) b.leading b.allowed) a.is_held ∙ ap (λ p. placed_at t.held p b.leading b.allowed) position;
     }
 
 -- what was passed of a text is passed after a separation too
 pub stood_passed : (text : List ℕ) (t u : ScannerState) (tokens : List Token) (keys : List _) (indents : List Indent) (indent : ℕ) (flow : List FlowLevel) (before : Before) → (a : Passed t u) →
-    Stood text t.rest t.held.place tokens keys indents indent flow before → Stood text u.rest u.held.place tokens keys indents indent flow (before_past before a.separation)
+    Stood text t.rest t.held.position tokens keys indents indent flow before → Stood text u.rest u.held.position tokens keys indents indent flow (before_past before a.separation)
 stood_passed text t u tokens keys indents indent flow before a s =
-    subst (λ h. Stood text u.rest h.place tokens keys indents indent flow (before_past before a.separation)) (sym a.is_held)
-    (stood_filled text t.rest t.held.place tokens keys indents indent flow before a.separation u.rest a.is_rest a.is_filled s)
+    subst (λ h. Stood text u.rest h.position tokens keys indents indent flow (before_past before a.separation)) (sym a.is_held)
+    (stood_filled text t.rest t.held.position tokens keys indents indent flow before a.separation u.rest a.is_rest a.is_filled s)

@@ -5,8 +5,8 @@ use Rattle.defs_token.specs.Token.{Token}
 use Rattle.model_scanner.specs.State.{ScannerState}
 use Rattle.model_scanner.specs.Run.{start, Reaches}
 use Rattle.proof_lexers.specs.PlainEnds.{has_no_nul}
-use Rattle.proof_cut.specs.Places.{IsWhere}
-use Rattle.proof_cut.proofs.RowPlaces.{stands_place}
+use Rattle.proof_cut.specs.Positions.{IsWhere}
+use Rattle.proof_cut.proofs.RowPositions.{stands_position}
 use Rattle.proof_cut.proofs.Fetched.{goes, over, Came, starts, fares, came}
 
 some_first : (ts more : List Token) (t : Token) → ts ≡ t ∷ more → is_empty ts ≡ false
@@ -17,20 +17,20 @@ run_is_where text t nul run = by (came text nul (start text) t run (starts refl)
   where
     by : Came text t → IsWhere text t
     by (starts e) = subst (λ u. IsWhere text u) (sym e) (record {
-      going = λ _. record { before = []; is_text = refl; is_place = refl };
+      going = λ _. record { before = []; is_text = refl; is_position = refl };
       over = λ f. absurd cc;
       none = λ _. refl;
       some = λ f. absurd cc;
     })
     by (fares (goes s g)) = record {
-      going = λ _. stands_place text t s;
+      going = λ _. stands_position text t s;
       over = λ f. absurd (cc (f, g.stood.going));
       none = λ f. absurd (cc (f, g.stood.tokens));
       some = λ _. some_first t.held.tokens _ _ s.stood.tokens_are;
     }
     by (fares (over c f n)) = record {
       going = λ e. absurd (cc (e, f));
-      over = λ _. n.place;
+      over = λ _. n.position;
       none = λ e. absurd (cc (e, n.began));
       some = λ _. some_first t.held.tokens _ _ c.are_tokens;
     }

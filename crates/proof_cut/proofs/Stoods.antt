@@ -1,4 +1,4 @@
--- What was passed of a text, as the place, the levels and the keys change.
+-- What was passed of a text, as the position, the levels and the keys change.
 use Rattle.std.proofs.Common.{◌≡◌, ℕ, suc, ◌+◌, ◌-◌, ◌≤◌, List, [], ◌∷◌, ◌++◌, Bool, true, false, ◌==◌, length, if◌then◌else◌, Option, Some, refl, ap, sym, ◌∙◌, subst, arith, append_assoc, length-append}
 use Rattle.defs_text.specs.Position.{Position, position_after}
 use Rattle.defs_text.specs.Text.{is_empty}
@@ -15,7 +15,7 @@ use Rattle.proof_cut.specs.PiecesRead.{ReadAs}
 use Rattle.proof_cut.specs.Order.{After}
 use Rattle.proof_cut.specs.Here.{Here, IsNotRight, AreOpen}
 use Rattle.proof_cut.specs.Stands.{columns, AreLevels, IsLevel, levels_of, account_of, IsAdjacent, Stood}
-use Rattle.proof_cut.proofs.Places.{not_before_after, index_after, is_after, after_then}
+use Rattle.proof_cut.proofs.Positions.{not_before_after, index_after, is_after, after_then}
 use Rattle.proof_cut.proofs.Pieces.Separations.{separation_append}
 use Rattle.proof_cut.proofs.Heres.{here_filled, led, before_both}
 use Rattle.proof_cut.proofs.Pushed.{with_piece, same_account, columns_settled, here_token, here_two, with_blocks, past_empty}
@@ -60,7 +60,7 @@ stood_levels text rest p tokens keys indents indent flow before indents2 indent2
   row = s.row;
   after = s.after;
   tokens_are = s.tokens_are;
-  here = subst (λ bs. Here text s.row s.after rest (record { place = p; blocks = bs; levels = levels_of flow; before = before })) e s.here;
+  here = subst (λ bs. Here text s.row s.after rest (record { position = p; blocks = bs; levels = levels_of flow; before = before })) e s.here;
   are_levels = l;
   one_each = s.one_each;
   are_open = subst (λ bs. AreOpen 0 s.row s.after p rest (innermost_column bs) keys) e s.are_open;
@@ -78,7 +78,7 @@ not_right col i (d ∷ ds) l e = by d.needs_block_end l.0 (λ u. not_right col d
 
 -- the keys after a node's start that may be a key or not
 abbrev pub with_saved : (allowed required : Bool) → (number : ℕ) → Position → List (Option Key) → List (Option Key)
-with_saved allowed required number p keys = (if allowed then with_top (Some (record { required = required; number = number; place = p })) keys else keys)
+with_saved allowed required number p keys = (if allowed then with_top (Some (record { required = required; number = number; position = p })) keys else keys)
 
 length_top : (k : Option Key) (ks : List (Option Key)) → length (with_top k ks) ≡ length ks
 length_top k [] = refl
@@ -94,11 +94,11 @@ tokens_more begin row w tokens e = ap (λ ts. ts ++ w.token ∷ []) e ∙ ap (λ
 pub number_of : (begin : Position) (row : List Written) (tokens : List Token) → tokens ≡ start_token begin ∷ tokens_of row → length tokens ≡ suc (length row)
 number_of begin row tokens e = ap length e ∙ ap suc (length_tokens row)
 
-pub read_later : (a : Account) (rest : List ℕ) (tok : Tok) (at : Position) (rest2 : List ℕ) (end : Position) → ReadAs a rest tok at rest2 end → After a.place end
+pub read_later : (a : Account) (rest : List ℕ) (tok : Tok) (at : Position) (rest2 : List ℕ) (end : Position) → ReadAs a rest tok at rest2 end → After a.position end
 read_later a rest tok at rest2 end r =
-    let q : Position = position_after a.place (r.first ∷ r.more) (r.separation ++ rest2) in
-    subst (λ x. After a.place x) (sym r.is_end)
-    (after_then a.place q (position_after q r.separation rest2) (is_after a.place r.first r.more (r.separation ++ rest2)) (not_before_after q r.separation rest2))
+    let q : Position = position_after a.position (r.first ∷ r.more) (r.separation ++ rest2) in
+    subst (λ x. After a.position x) (sym r.is_end)
+    (after_then a.position q (position_after q r.separation rest2) (is_after a.position r.first r.more (r.separation ++ rest2)) (not_before_after q r.separation rest2))
 
 -- A token with its piece, whatever it opens and closes of flow.
 pub piece_stood : (text rest : List ℕ) (p : Position) (tokens : List Token) (keys : List (Option Key)) (indents : List Indent) (indent : ℕ) (flow : List FlowLevel) (before : Before)
@@ -113,7 +113,7 @@ piece_stood text rest p tokens keys indents indent flow before s tok at rest2 en
     let w : Written = led s.here.separation (with_piece (r.first ∷ r.more) at tok) in
     let b : Before = before_past (before_by tok) r.separation in
     let q : Position = position_after (position_after p (r.first ∷ r.more) (r.separation ++ rest2)) r.separation rest2 in
-    let same : ◌≡◌ {A = Account} (record { place = q; blocks = blocks_past bs tok; levels = levels_past (levels_of flow) (r.first ∷ r.more) tok; before = b }) (account_of end indent indents flow2 b) =
+    let same : ◌≡◌ {A = Account} (record { position = q; blocks = blocks_past bs tok; levels = levels_past (levels_of flow) (r.first ∷ r.more) tok; before = b }) (account_of end indent indents flow2 b) =
     same_account q end (blocks_past bs tok) bs (levels_past (levels_of flow) (r.first ∷ r.more) tok) (levels_of flow2) b b (sym r.is_end) blocks levels refl in
     record {
       begin = s.begin;
@@ -137,7 +137,7 @@ node_stood text rest p tokens keys indents indent flow before s tok at rest2 end
     let a : Account = account_of p indent indents flow before in
     let q : List (Option Key) = with_saved allowed required (length tokens) p keys in
     piece_stood text rest p tokens keys indents indent flow before s tok at rest2 end r blocks flow levels q (length_saved allowed required (length tokens) p keys ∙ s.one_each)
-    (open_saved text s.row s.after rest a keys (innermost_column (columns indent indents)) r.first r.more (r.separation ++ rest2) rest2 end at tok 0 allowed (record { required = required; number = length tokens; place = p })
+    (open_saved text s.row s.after rest a keys (innermost_column (columns indent indents)) r.first r.more (r.separation ++ rest2) rest2 end at tok 0 allowed (record { required = required; number = length tokens; position = p })
     s.here (λ n. columns_settled n indent indents) s.are_open r.is_text (read_later a rest tok at rest2 end r) node (not_right p.col indent indents s.are_levels deep) (number_of s.begin s.row tokens s.tokens_are) refl opens)
 
 tokens_two : (begin : Position) (row : List Written) (v w : Written) (tokens : List Token) → tokens ≡ start_token begin ∷ tokens_of row → (tokens ++ v.token ∷ []) ++ w.token ∷ [] ≡ start_token begin ∷ tokens_of (row ++ (v ∷ w ∷ []))
@@ -162,7 +162,7 @@ two_stood text c more p tokens keys indents indent flow before s tok tok2 at at2
     let b : Before = before_past (before_by tok2) g in
     let q : Position = position_after (position_after p (c ∷ []) (g ++ rest2)) g rest2 in
     let ls : List Level = levels_past (levels_past (levels_of flow) [] tok) (c ∷ []) tok2 in
-    let same : ◌≡◌ {A = Account} (record { place = q; blocks = blocks_past bs tok2; levels = ls; before = b }) (account_of end indent2 indents2 flow2 b) =
+    let same : ◌≡◌ {A = Account} (record { position = q; blocks = blocks_past bs tok2; levels = ls; before = b }) (account_of end indent2 indents2 flow2 b) =
     same_account q end (blocks_past bs tok2) bs ls (levels_of flow2) b b (sym is_end) blocks levels refl in
     record {
       begin = s.begin;

@@ -21,7 +21,7 @@ use Rattle.proof_cut.proofs.Blocks.{nil_length, outside_fares}
 
 -- ---- keys that no longer count
 
--- no key is on the line of a place where the text goes on
+-- no key is on the line of a position where the text goes on
 abbrev pub AreDead : Position → (rest : List ℕ) → List (Option Key) → Type 0
 AreDead p rest [] = Unit {0}
 AreDead p rest (None ∷ ks) = AreDead p rest ks
@@ -45,7 +45,7 @@ dead_more row vs after after2 p rest column column2 (Some k ∷ []) one cut dead
 pub outside_now : (flow : List FlowLevel) → is_empty flow ≡ true → not (is_empty (levels_of flow)) ≡ false
 outside_now flow out = same_flow flow ∙ ap not out
 
--- the tokens of the ends have a place of their own
+-- the tokens of the ends have a position of their own
 module _ (text rest : List ℕ) (p at : Position) (keys : List (Option Key)) (flow : List FlowLevel) (before : Before) (out : is_empty flow ≡ true) where
   columns_now : (i : ℕ) (d : Indent) (ds : List Indent) → d.needs_block_end ≡ true → columns i (d ∷ ds) ≡ Some (i - 1) ∷ columns d.indent ds
   columns_now i d ds e = rw e refl
@@ -56,7 +56,7 @@ module _ (text rest : List ℕ) (p at : Position) (keys : List (Option Key)) (fl
       let a : Account = account_of p i (d ∷ ds) flow before in
       let w : Written = with_piece [] at Tok.block_end in
       let cols : columns i (d ∷ ds) ≡ Some (i - 1) ∷ columns d.indent ds = columns_now i d ds e in
-      let same : past_empty a Tok.block_end ≡ account_of p d.indent ds flow before = ap (λ bs. record { place = p; blocks = drop 1 bs; levels = levels_of flow; before = before }) cols in
+      let same : past_empty a Tok.block_end ≡ account_of p d.indent ds flow before = ap (λ bs. record { position = p; blocks = drop 1 bs; levels = levels_of flow; before = before }) cols in
       record {
         begin = s.begin;
         row = s.row ++ (led s.here.separation w ∷ []);
@@ -101,7 +101,7 @@ pub unrolled_in_flow : (limit : ℕ) (s : Held) → is_empty s.flow ≡ false �
 unfolding unroll_indent
 unrolled_in_flow limit s e = rw e refl
 
-pub unrolled_outside : (limit : ℕ) (s : Held) → is_empty s.flow ≡ true → unroll_indent limit s ≡ with_levels s (unrolled limit s.place s.indent s.indents s.tokens)
+pub unrolled_outside : (limit : ℕ) (s : Held) → is_empty s.flow ≡ true → unroll_indent limit s ≡ with_levels s (unrolled limit s.position s.indent s.indents s.tokens)
 unfolding unroll_indent
 unrolled_outside limit s e = rw e refl
 
@@ -114,14 +114,14 @@ pub record UnrolledTo (text : List ℕ) (t : ScannerState) (limit : ℕ) : Type 
   pub is_held : unroll_indent limit t.held ≡ record t.held { indents = indents; indent = indent; tokens = tokens }
   pub shallow : is_empty t.held.flow ≡ true → indent ≤ limit
 
-pub unrolled_to : (text : List ℕ) (t : ScannerState) (limit : ℕ) → (s : FaresAt text t) → (is_empty t.held.flow ≡ true → Dies t.rest t.held.place t.held.keys limit (innermost_column (columns t.held.indent t.held.indents))) → UnrolledTo text t limit
+pub unrolled_to : (text : List ℕ) (t : ScannerState) (limit : ℕ) → (s : FaresAt text t) → (is_empty t.held.flow ≡ true → Dies t.rest t.held.position t.held.keys limit (innermost_column (columns t.held.indent t.held.indents))) → UnrolledTo text t limit
 unrolled_to text t limit s dies = by (is_empty t.held.flow) refl
   where
     by : (out : Bool) → is_empty t.held.flow ≡ out → UnrolledTo text t limit
     by false e =
         let same : unroll_indent limit t.held ≡ t.held = unrolled_in_flow limit t.held e in
         record {
-          stands = subst (λ (h : Held). Fares text t.rest h.place h.tokens h.keys h.indents h.indent h.flow h.adjacent_value_at) (sym same) s;
+          stands = subst (λ (h : Held). Fares text t.rest h.position h.tokens h.keys h.indents h.indent h.flow h.adjacent_value_at) (sym same) s;
           indents = t.held.indents;
           indent = t.held.indent;
           tokens = t.held.tokens;
@@ -129,12 +129,12 @@ unrolled_to text t limit s dies = by (is_empty t.held.flow) refl
           shallow = λ o. absurd (cc (o, e));
         }
     by true e =
-        let u : Levels = unrolled limit t.held.place t.held.indent t.held.indents t.held.tokens in
+        let u : Levels = unrolled limit t.held.position t.held.indent t.held.indents t.held.tokens in
         let same : unroll_indent limit t.held ≡ record t.held { indents = u.indents; indent = u.indent; tokens = u.tokens } = unrolled_outside limit t.held e in
-        let z : Unrolled text t.rest t.held.place t.held.place t.held.keys t.held.flow s.before e limit u = all_ended text t.rest t.held.place t.held.place t.held.keys t.held.flow s.before e limit t.held.indent t.held.indents t.held.tokens (dies e) s.stood in
+        let z : Unrolled text t.rest t.held.position t.held.position t.held.keys t.held.flow s.before e limit u = all_ended text t.rest t.held.position t.held.position t.held.keys t.held.flow s.before e limit t.held.indent t.held.indents t.held.tokens (dies e) s.stood in
         record {
-          stands = subst (λ (h : Held). Fares text t.rest h.place h.tokens h.keys h.indents h.indent h.flow h.adjacent_value_at) (sym same)
-              (outside_fares text t.rest t.held.place u.tokens t.held.keys u.indents u.indent t.held.flow s.before t.held.adjacent_value_at e s.was_adjacent z.stood);
+          stands = subst (λ (h : Held). Fares text t.rest h.position h.tokens h.keys h.indents h.indent h.flow h.adjacent_value_at) (sym same)
+              (outside_fares text t.rest t.held.position u.tokens t.held.keys u.indents u.indent t.held.flow s.before t.held.adjacent_value_at e s.was_adjacent z.stood);
           indents = u.indents;
           indent = u.indent;
           tokens = u.tokens;
@@ -151,11 +151,11 @@ key_stays p rest row after column (Some k ∷ []) one o n e h = (λ l. no_live l
   where
     no_live : IsLive k p rest → ⊥
     no_live l =
-        let left_of : suc k.place.col ≤ p.col = o.0.is_earlier.1 l.0 in
-        let right : IsNotRight (Some n) k.place.col = subst (λ c. IsNotRight c k.place.col) e (o.0.live l).column_is in
+        let left_of : suc k.position.col ≤ p.col = o.0.is_earlier.1 l.0 in
+        let right : IsNotRight (Some n) k.position.col = subst (λ c. IsNotRight c k.position.col) e (o.0.live l).column_is in
         omega (arith, left_of, right, h)
 
 -- Where a token begins, the block collections that are deeper end.
-pub unrolled_here : (text : List ℕ) (t : ScannerState) → FaresAt text t → UnrolledTo text t (t.held.place.col + 1)
-unrolled_here text t s = unrolled_to text t (t.held.place.col + 1) s
-    (λ out. key_stays t.held.place t.rest s.stood.row s.stood.after (innermost_column (columns t.held.indent t.held.indents)) t.held.keys (s.stood.one_each ∙ ap suc (nil_length t.held.flow out)) s.stood.are_open)
+pub unrolled_here : (text : List ℕ) (t : ScannerState) → FaresAt text t → UnrolledTo text t (t.held.position.col + 1)
+unrolled_here text t s = unrolled_to text t (t.held.position.col + 1) s
+    (λ out. key_stays t.held.position t.rest s.stood.row s.stood.after (innermost_column (columns t.held.indent t.held.indents)) t.held.keys (s.stood.one_each ∙ ap suc (nil_length t.held.flow out)) s.stood.are_open)

@@ -24,7 +24,7 @@ use Rattle.model_scanner.specs.Block.{check_after_tab, check_value_space, opens_
 use Rattle.model_scanner.proofs.Holds.{Holds, went, chained, choice, passes, weakened}
 use Rattle.proof_cut.specs.PiecesRead.{ReadAs}
 use Rattle.proof_cut.specs.Stands.{columns, AreLevels, levels_of, account_of, Stood, Fares, FaresAt}
-use Rattle.proof_cut.proofs.Places.{weaker, index_after}
+use Rattle.proof_cut.proofs.Positions.{weaker, index_after}
 use Rattle.proof_cut.proofs.Heres.{led, spelled_led}
 use Rattle.proof_cut.proofs.Pushed.{with_piece, columns_settled}
 use Rattle.proof_cut.proofs.Stoods.{piece_stood, two_stood, read_later, stood_levels}
@@ -33,7 +33,7 @@ use Rattle.proof_cut.proofs.Nodes.{same_flow, adjacent_other}
 use Rattle.proof_cut.proofs.Indicators.{indicated_by}
 use Rattle.proof_cut.proofs.FlowEnds.{LeadsOut, entry_open, length_top}
 use Rattle.proof_cut.proofs.Rolls.{SameBlocks, rolled_one, Rolls, rolled_is, rolls_levels}
-use Rattle.proof_cut.proofs.Blocks.{IsMark, mapping_start, roll_stood, rolls_place}
+use Rattle.proof_cut.proofs.Blocks.{IsMark, mapping_start, roll_stood, rolls_position}
 
 tab_checked : (w : Whitespace) (u : ScannerState) → Holds (λ y. y ≡ u) (check_after_tab w u)
 unfolding check_after_tab
@@ -47,7 +47,7 @@ value_spaced t = choice (peek t.rest == 9) (spaced Yes t check_after_tab (Passed
 
 -- what the model holds where a value begins without a key
 pub data Keyless (p : Position) (fs : List FlowLevel) (h u : Held) : Type 0 where
-  pair : (gs : List FlowLevel) (allowed : Bool) (m : Held) → fs ≡ Entry ∷ gs → SameBlocks (record h { flow = Pair ∷ gs; tokens = h.tokens ++ token h.place Tok.flow_mapping_start ∷ [] }) m → u ≡ allow_key allowed m → Keyless p fs h u
+  pair : (gs : List FlowLevel) (allowed : Bool) (m : Held) → fs ≡ Entry ∷ gs → SameBlocks (record h { flow = Pair ∷ gs; tokens = h.tokens ++ token h.position Tok.flow_mapping_start ∷ [] }) m → u ≡ allow_key allowed m → Keyless p fs h u
   no_pair : (allowed : Bool) (m : Held) → is_empty fs ≡ false → levels_of (paired fs) ≡ levels_of fs → length (paired fs) ≡ length fs → SameBlocks (record h { flow = paired fs }) m → u ≡ allow_key allowed m → Keyless p fs h u
   block : (allowed : Bool) (l m : Held) → fs ≡ [] → Rolls p.col None (token p Tok.block_mapping_start) (record h { flow = [] }) l → SameBlocks l m → u ≡ allow_key allowed m → Keyless p fs h u
 
@@ -85,13 +85,13 @@ no_break_colon = refl
 -- a value's token
 pub value_stood : (text more : List ℕ) (p : Position) (tokens : List Token) (keys : List (Option Key)) (indents : List Indent) (indent : ℕ) (flow flow2 : List FlowLevel) (before : Before) (v : ScannerState) → Filled more (past p) v →
     is_value_indicator (not (is_empty (levels_of flow))) (is_adjacent before) more ≡ true → levels_of flow ≡ levels_of flow2 → length flow2 ≡ length flow → Stood text (58 ∷ more) p tokens keys indents indent flow before →
-    Stood text v.rest v.held.place (tokens ++ token p Tok.value ∷ []) (with_top None keys) indents indent flow2 other
+    Stood text v.rest v.held.position (tokens ++ token p Tok.value ∷ []) (with_top None keys) indents indent flow2 other
 value_stood text more p tokens keys indents indent flow flow2 before v g ind same many s =
     let a : Account = account_of p indent indents flow before in
-    let r : ReadAs a (58 ∷ more) Tok.value p v.rest v.held.place = indicated_by a 58 more Tok.value p v no_break_colon g (λ next last n. (refl, rw n at ind)) in
-    piece_stood text (58 ∷ more) p tokens keys indents indent flow before s Tok.value p v.rest v.held.place r refl flow2 same (with_top None keys) (length_top keys ∙ s.one_each ∙ ap suc (sym many))
-    (entry_open s.row (led s.here.separation (with_piece (58 ∷ []) p Tok.value) ∷ []) s.after (g.separation ++ v.rest) p v.held.place (58 ∷ more) v.rest (innermost_column (columns indent indents)) flow keys s.one_each
-    (spelled_led s.after s.here.separation (58 ∷ more) (with_piece (58 ∷ []) p Tok.value) [] (g.separation ++ v.rest) s.here.is_after r.is_text) (weaker p v.held.place (read_later a (58 ∷ more) Tok.value p v.rest v.held.place r)) (λ _. refl)
+    let r : ReadAs a (58 ∷ more) Tok.value p v.rest v.held.position = indicated_by a 58 more Tok.value p v no_break_colon g (λ next last n. (refl, rw n at ind)) in
+    piece_stood text (58 ∷ more) p tokens keys indents indent flow before s Tok.value p v.rest v.held.position r refl flow2 same (with_top None keys) (length_top keys ∙ s.one_each ∙ ap suc (sym many))
+    (entry_open s.row (led s.here.separation (with_piece (58 ∷ []) p Tok.value) ∷ []) s.after (g.separation ++ v.rest) p v.held.position (58 ∷ more) v.rest (innermost_column (columns indent indents)) flow keys s.one_each
+    (spelled_led s.after s.here.separation (58 ∷ more) (with_piece (58 ∷ []) p Tok.value) [] (g.separation ++ v.rest) s.here.is_after r.is_text) (weaker p v.held.position (read_later a (58 ∷ more) Tok.value p v.rest v.held.position r)) (λ _. refl)
     (leads_value s.here.separation (58 ∷ []) p) s.are_open)
 
 is_pair_here : (a : Account) (next : List ℕ) (at : Position) → takes_pair a ≡ true → IsPiece a [] (58 ∷ next) (Some Tok.value) at Tok.flow_mapping_start
@@ -101,16 +101,16 @@ is_pair_here a next at t = inr (refl, t, refl, refl)
 -- the start of a pair without a key, and its value
 pair_stood : (text more : List ℕ) (p q : Position) (tokens : List Token) (keys : List (Option Key)) (indents : List Indent) (indent : ℕ) (gs : List FlowLevel) (before : Before) (v : ScannerState) → Filled more (past p) v →
     is_value_indicator true (is_adjacent before) more ≡ true → Stood text (58 ∷ more) p tokens keys indents indent (Entry ∷ gs) before →
-    Stood text v.rest v.held.place ((tokens ++ token q Tok.flow_mapping_start ∷ []) ++ token p Tok.value ∷ []) (with_top None keys) indents indent (Pair ∷ gs) other
+    Stood text v.rest v.held.position ((tokens ++ token q Tok.flow_mapping_start ∷ []) ++ token p Tok.value ∷ []) (with_top None keys) indents indent (Pair ∷ gs) other
 pair_stood text more p q tokens keys indents indent gs before v g ind s =
     let a : Account = account_of p indent indents (Pair ∷ gs) before in
-    let r : ReadAs a (58 ∷ more) Tok.value p v.rest v.held.place = indicated_by a 58 more Tok.value p v no_break_colon g (λ next last n. (refl, rw n at ind)) in
+    let r : ReadAs a (58 ∷ more) Tok.value p v.rest v.held.position = indicated_by a 58 more Tok.value p v no_break_colon g (λ next last n. (refl, rw n at ind)) in
     let vs : List Written = led s.here.separation (with_piece [] q Tok.flow_mapping_start) ∷ with_piece (58 ∷ []) p Tok.value ∷ [] in
-    two_stood text 58 more p tokens keys indents indent (Entry ∷ gs) before s Tok.flow_mapping_start Tok.value q p g.separation v.rest v.held.place g.is_rest g.is_filled r.is_end indents indent s.are_levels (columns_settled p.col indent indents)
+    two_stood text 58 more p tokens keys indents indent (Entry ∷ gs) before s Tok.flow_mapping_start Tok.value q p g.separation v.rest v.held.position g.is_rest g.is_filled r.is_end indents indent s.are_levels (columns_settled p.col indent indents)
     (is_pair_here (account_of p indent indents (Entry ∷ gs) before) (g.separation ++ v.rest) q refl) r.is_piece refl (Pair ∷ gs) refl (with_top None keys) (length_top keys ∙ s.one_each)
-    (entry_open s.row vs s.after (g.separation ++ v.rest) p v.held.place (58 ∷ more) v.rest (innermost_column (columns indent indents)) (Entry ∷ gs) keys s.one_each
+    (entry_open s.row vs s.after (g.separation ++ v.rest) p v.held.position (58 ∷ more) v.rest (innermost_column (columns indent indents)) (Entry ∷ gs) keys s.one_each
     (spelled_led s.after s.here.separation (58 ∷ more) (with_piece [] q Tok.flow_mapping_start) (with_piece (58 ∷ []) p Tok.value ∷ []) (g.separation ++ v.rest) s.here.is_after r.is_text)
-    (weaker p v.held.place (read_later a (58 ∷ more) Tok.value p v.rest v.held.place r)) (λ _. refl) (leads_pair s.here.separation q p) s.are_open)
+    (weaker p v.held.position (read_later a (58 ∷ more) Tok.value p v.rest v.held.position r)) (λ _. refl) (leads_pair s.here.separation q p) s.are_open)
 
 colon : (more : List ℕ) → is_at_gap more ≡ true → IsMark Tok.value 58 more
 colon more gap = record { in_line = no_break_colon; piece = λ a next last at o e. (refl, rw (o, ← e, gap) refl); blocks = λ bs. refl; levels = λ ls. refl; before = refl }
@@ -120,13 +120,13 @@ top_none [] e = refl
 top_none (k ∷ ks) e = ap (λ x. x ∷ ks) (sym e)
 
 -- after the `:` no colon may stand next
-pub value_fares : (text more : List ℕ) (t v : ScannerState) (s : FaresAt text t) → Filled more (past t.held.place) v → (tokens : List Token) (keys : List (Option Key)) (indents : List Indent) (indent : ℕ) (flow : List FlowLevel) →
-    Stood text v.rest v.held.place tokens keys indents indent flow other → Fares text v.rest v.held.place tokens keys indents indent flow t.held.adjacent_value_at
+pub value_fares : (text more : List ℕ) (t v : ScannerState) (s : FaresAt text t) → Filled more (past t.held.position) v → (tokens : List Token) (keys : List (Option Key)) (indents : List Indent) (indent : ℕ) (flow : List FlowLevel) →
+    Stood text v.rest v.held.position tokens keys indents indent flow other → Fares text v.rest v.held.position tokens keys indents indent flow t.held.adjacent_value_at
 value_fares text more t v s g tokens keys indents indent flow z =
-    let i : (position_after (past t.held.place) g.separation v.rest).index ≡ (past t.held.place).index + length g.separation = index_after (past t.held.place) g.separation v.rest in
-    let e : v.held.place.index ≡ (position_after (past t.held.place) g.separation v.rest).index = ap (λ x. x.index) g.is_place in
-    let further : t.held.place.index < v.held.place.index = omega (arith, i, e) in
-    record { before = other; stood = z; was_adjacent = omega (arith, s.was_adjacent, further); is_adjacent_here = λ _. adjacent_other v.held.place t.held.adjacent_value_at v.rest (omega (arith, s.was_adjacent, further)) }
+    let i : (position_after (past t.held.position) g.separation v.rest).index ≡ (past t.held.position).index + length g.separation = index_after (past t.held.position) g.separation v.rest in
+    let e : v.held.position.index ≡ (position_after (past t.held.position) g.separation v.rest).index = ap (λ x. x.index) g.is_position in
+    let further : t.held.position.index < v.held.position.index = omega (arith, i, e) in
+    record { before = other; stood = z; was_adjacent = omega (arith, s.was_adjacent, further); is_adjacent_here = λ _. adjacent_other v.held.position t.held.adjacent_value_at v.rest (omega (arith, s.was_adjacent, further)) }
 
 at_gap_of : (b : Bool) → (b || false) ≡ true → b ≡ true
 at_gap_of true h = refl
@@ -134,11 +134,11 @@ at_gap_of false h = h
 
 -- what is left after the `:` without a key, by what the model holds there
 pub keyless_fares : (text more : List ℕ) (t v : ScannerState) (leading allowed : Bool) → t.rest ≡ 58 ∷ more → (s : FaresAt text t) → top_key t.held.keys ≡ None → is_value_indicator (not (is_empty t.held.flow)) (is_adjacent s.before) more ≡ true →
-    Filled more (past t.held.place) v → (u : Held) → Keyless t.held.place t.held.flow (placed_at t.held v.held.place leading allowed) u →
-    Fares text v.rest u.place (u.tokens ++ token t.held.place Tok.value ∷ []) u.keys u.indents u.indent u.flow u.adjacent_value_at
+    Filled more (past t.held.position) v → (u : Held) → Keyless t.held.position t.held.flow (placed_at t.held v.held.position leading allowed) u →
+    Fares text v.rest u.position (u.tokens ++ token t.held.position Tok.value ∷ []) u.keys u.indents u.indent u.flow u.adjacent_value_at
 keyless_fares text more t v leading allowed e s none ind g u (pair gs al m f d w) =
-    let p : Position = t.held.place in
-    let q : Position = v.held.place in
+    let p : Position = t.held.position in
+    let q : Position = v.held.position in
     let tokens : List Token = (t.held.tokens ++ token q Tok.flow_mapping_start ∷ []) ++ token p Tok.value ∷ [] in
     let y : Stood text (58 ∷ more) p t.held.tokens t.held.keys t.held.indents t.held.indent (Entry ∷ gs) s.before =
     subst (λ fs. Stood text (58 ∷ more) p t.held.tokens t.held.keys t.held.indents t.held.indent fs s.before) f (subst (λ z. Stood text z p t.held.tokens t.held.keys t.held.indents t.held.indent t.held.flow s.before) e s.stood) in
@@ -147,11 +147,11 @@ keyless_fares text more t v leading allowed e s none ind g u (pair gs al m f d w
     let k : Stood text v.rest q tokens t.held.keys d.indents d.indent (Pair ∷ gs) other =
     subst (λ ks. Stood text v.rest q tokens ks d.indents d.indent (Pair ∷ gs) other) (top_none t.held.keys none)
     (stood_levels text v.rest q tokens (with_top None t.held.keys) t.held.indents t.held.indent (Pair ∷ gs) other d.indents d.indent d.same_columns d.are_levels z) in
-    subst (λ h. Fares text v.rest h.place (h.tokens ++ token p Tok.value ∷ []) h.keys h.indents h.indent h.flow h.adjacent_value_at) (sym (w ∙ ap (allow_key al) d.is_held))
+    subst (λ h. Fares text v.rest h.position (h.tokens ++ token p Tok.value ∷ []) h.keys h.indents h.indent h.flow h.adjacent_value_at) (sym (w ∙ ap (allow_key al) d.is_held))
     (value_fares text more t v s g tokens t.held.keys d.indents d.indent (Pair ∷ gs) k)
 keyless_fares text more t v leading allowed e s none ind g u (no_pair al m f same many d w) =
-    let p : Position = t.held.place in
-    let q : Position = v.held.place in
+    let p : Position = t.held.position in
+    let q : Position = v.held.position in
     let tokens : List Token = t.held.tokens ++ token p Tok.value ∷ [] in
     let fs : List FlowLevel = paired t.held.flow in
     let y : Stood text (58 ∷ more) p t.held.tokens t.held.keys t.held.indents t.held.indent t.held.flow s.before = subst (λ z. Stood text z p t.held.tokens t.held.keys t.held.indents t.held.indent t.held.flow s.before) e s.stood in
@@ -160,11 +160,11 @@ keyless_fares text more t v leading allowed e s none ind g u (no_pair al m f sam
     let k : Stood text v.rest q tokens t.held.keys d.indents d.indent fs other =
     subst (λ ks. Stood text v.rest q tokens ks d.indents d.indent fs other) (top_none t.held.keys none)
     (stood_levels text v.rest q tokens (with_top None t.held.keys) t.held.indents t.held.indent fs other d.indents d.indent d.same_columns d.are_levels z) in
-    subst (λ h. Fares text v.rest h.place (h.tokens ++ token p Tok.value ∷ []) h.keys h.indents h.indent h.flow h.adjacent_value_at) (sym (w ∙ ap (allow_key al) d.is_held))
+    subst (λ h. Fares text v.rest h.position (h.tokens ++ token p Tok.value ∷ []) h.keys h.indents h.indent h.flow h.adjacent_value_at) (sym (w ∙ ap (allow_key al) d.is_held))
     (value_fares text more t v s g tokens t.held.keys d.indents d.indent fs k)
 keyless_fares text more t v leading allowed e s none ind g u (block al l m f r d w) =
-    let p : Position = t.held.place in
-    let q : Position = v.held.place in
+    let p : Position = t.held.position in
+    let q : Position = v.held.position in
     let outer : Held = record (placed_at t.held q leading allowed) { flow = [] } in
     let tokens : List Token = l.tokens ++ token p Tok.value ∷ [] in
     let y : Stood text (58 ∷ more) p t.held.tokens t.held.keys t.held.indents t.held.indent [] s.before =
@@ -175,9 +175,9 @@ keyless_fares text more t v leading allowed e s none ind g u (block al l m f r d
     let k : Stood text v.rest q tokens t.held.keys d.indents d.indent [] other =
     subst (λ ks. Stood text v.rest q tokens ks d.indents d.indent [] other) (top_none t.held.keys none)
     (stood_levels text v.rest q tokens (with_top None t.held.keys) l.indents l.indent [] other d.indents d.indent d.same_columns d.are_levels z) in
-    let same : (l.place ≡ q) × (l.keys ≡ t.held.keys) × (l.flow ≡ []) × (l.adjacent_value_at ≡ t.held.adjacent_value_at) = rolls_place p.col None (token p Tok.block_mapping_start) outer l r in
+    let same : (l.position ≡ q) × (l.keys ≡ t.held.keys) × (l.flow ≡ []) × (l.adjacent_value_at ≡ t.held.adjacent_value_at) = rolls_position p.col None (token p Tok.block_mapping_start) outer l r in
     let ends : Fares text v.rest q tokens t.held.keys d.indents d.indent [] t.held.adjacent_value_at = value_fares text more t v s g tokens t.held.keys d.indents d.indent [] k in
-    let as_held : Fares text v.rest l.place tokens l.keys d.indents d.indent l.flow l.adjacent_value_at =
+    let as_held : Fares text v.rest l.position tokens l.keys d.indents d.indent l.flow l.adjacent_value_at =
     subst (λ x. Fares text v.rest x tokens l.keys d.indents d.indent l.flow l.adjacent_value_at) (sym same.0) (subst (λ x. Fares text v.rest q tokens x d.indents d.indent l.flow l.adjacent_value_at) (sym same.1)
     (subst (λ x. Fares text v.rest q tokens t.held.keys d.indents d.indent x l.adjacent_value_at) (sym same.2) (subst (λ x. Fares text v.rest q tokens t.held.keys d.indents d.indent [] x) (sym same.3) ends))) in
-    subst (λ h. Fares text v.rest h.place (h.tokens ++ token p Tok.value ∷ []) h.keys h.indents h.indent h.flow h.adjacent_value_at) (sym (w ∙ ap (allow_key al) d.is_held)) as_held
+    subst (λ h. Fares text v.rest h.position (h.tokens ++ token p Tok.value ∷ []) h.keys h.indents h.indent h.flow h.adjacent_value_at) (sym (w ∙ ap (allow_key al) d.is_held)) as_held

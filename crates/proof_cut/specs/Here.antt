@@ -12,7 +12,7 @@ use Rattle.proof_lexers.specs.PlainEnds.{has_no_nul}
 use Rattle.proof_cut.specs.Order.{After}
 use Rattle.proof_cut.specs.Inside.{inside}
 
--- A row, and a separation after it, are the text up to a place, whatever token follows; the text after the row, the text after the place, and the account there.
+-- A row, and a separation after it, are the text up to a position, whatever token follows; the text after the row, the text after the position, and the account there.
 pub record Here (text : List ℕ) (row : List Written) (after rest : List ℕ) (here : Account) : Type 0 where
   pub separation : List ℕ
   pub is_after : after ≡ separation ++ rest
@@ -22,9 +22,9 @@ pub record Here (text : List ℕ) (row : List Written) (after rest : List ℕ) (
   pub is_here : account_past_separation (account_past_row first_account row after) separation rest ≡ here
   pub is_clean : has_no_nul rest ≡ true
 
--- whether a place is on a key's line, and the text goes on there
+-- whether a position is on a key's line, and the text goes on there
 abbrev pub IsLive : Key → Position → (rest : List ℕ) → Type 0
-IsLive k p rest = (p.line ≤ k.place.line) × (is_empty rest ≡ false)
+IsLive k p rest = (p.line ≤ k.position.line) × (is_empty rest ≡ false)
 
 -- a column is not right of a key
 abbrev pub IsNotRight : Option ℕ → ℕ → Type 0
@@ -36,13 +36,13 @@ pub record IsInside (k : Key) (depth : ℕ) (ws : List Written) (column : Option
   pub levels : List Level
   pub is_inside : inside [] ws ≡ Some levels
   pub many : length levels ≡ depth
-  pub column_is : IsNotRight column k.place.col
+  pub column_is : IsNotRight column k.position.col
 
 -- the account at a piece of a row
 abbrev pub account_in : (before : List Written) → Written → (later : List Written) → (after : List ℕ) → Account
 account_in before own later after = account_at (account_past_row first_account before (spelled (own ∷ later) after)) own (spelled later after)
 
--- An open key splits a row at its number, where a node begins; the rows before and from there on; and the place now.
+-- An open key splits a row at its number, where a node begins; the rows before and from there on; and the position now.
 pub record IsOpen (k : Key) (depth : ℕ) (row : List Written) (after : List ℕ) (p : Position) (rest : List ℕ) (column : Option ℕ) : Type 0 where
   pub before : List Written
   pub own : Written
@@ -53,8 +53,8 @@ pub record IsOpen (k : Key) (depth : ℕ) (row : List Written) (after : List ℕ
   pub is_solid : is_empty own.piece ≡ false
   pub is_free : (last : Option Tok) → IsRow first_account before (spelled (own ∷ later) after) last
   pub is_settled : (column : ℕ) → settled column (account_past_row first_account before (spelled (own ∷ later) after)).blocks ≡ (account_past_row first_account before (spelled (own ∷ later) after)).blocks
-  pub place_is : k.place ≡ (account_in before own later after).place
-  pub is_earlier : After k.place p
+  pub position_is : k.position ≡ (account_in before own later after).position
+  pub is_earlier : After k.position p
   pub live : IsLive k p rest → IsInside k depth (own ∷ later) column
 
 -- The open keys, the innermost first; each outer one is open in the row before the inner one.
@@ -62,4 +62,4 @@ abbrev pub AreOpen : (depth : ℕ) → List Written → (after : List ℕ) → P
 AreOpen depth row after p rest column [] = Unit {0}
 AreOpen depth row after p rest column (None ∷ ks) = AreOpen (suc depth) row after p rest column ks
 AreOpen depth row after p rest column (Some k ∷ ks) =
-    (o : IsOpen k depth row after p rest column) × AreOpen 1 o.before (spelled (o.own ∷ o.later) after) k.place (o.own.piece ++ spelled o.later after) column ks
+    (o : IsOpen k depth row after p rest column) × AreOpen 1 o.before (spelled (o.own ∷ o.later) after) k.position (o.own.piece ++ spelled o.later after) column ks

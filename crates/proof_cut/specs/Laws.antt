@@ -7,7 +7,7 @@ use Rattle.yaml_tokens.specs.declared.problem.Fault.{Fault}
 use Rattle.model_scanner.specs.Run.{start, Reaches, HasTokens, IsRefused}
 use Rattle.proof_lexers.specs.PlainEnds.{has_no_nul}
 use Rattle.proof_cut.specs.Faults.{IsThere, is_shown}
-use Rattle.proof_cut.specs.Places.{IsWhere}
+use Rattle.proof_cut.specs.Positions.{IsWhere}
 
 -- `tokens_are_a_cut`
 abbrev pub TokensAreACut : Type 0
@@ -22,6 +22,6 @@ FirstTokensAreACut =
 abbrev pub ShownFaultsStandInTheText : Type 0
 ShownFaultsStandInTheText = (text : List ℕ) (f : Fault) → has_no_nul text ≡ true → IsRefused text f → is_shown f ≡ true → IsThere text f
 
--- `places_are_in_the_text`
-abbrev pub PlacesAreInTheText : Type 0
-PlacesAreInTheText = (text : List ℕ) (last : ScannerState) → has_no_nul text ≡ true → Reaches (start text) last → IsWhere text last
+-- `positions_are_in_the_text`
+abbrev pub PositionsAreInTheText : Type 0
+PositionsAreInTheText = (text : List ℕ) (last : ScannerState) → has_no_nul text ≡ true → Reaches (start text) last → IsWhere text last

@@ -4,5 +4,5 @@ pub mod Inside
 pub mod Laws
 pub mod Order
 pub mod PiecesRead
-pub mod Places
+pub mod Positions
 pub mod Stands

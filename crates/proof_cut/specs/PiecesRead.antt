@@ -18,15 +18,15 @@ use Rattle.model_lexers.specs.Tag as tags
 use Rattle.model_scanner.specs.Document.{anchor_token, block_style, quoted_style}
 use Rattle.proof_lexers.specs.PlainEnds.{has_no_nul, collection_of, is_indented}
 
--- What was read of a text at an account: a piece, which belongs to a token, and a separation after it; the text that is left, and the place there.
-pub record ReadAs (a : Account) (text : List ℕ) (tok : Tok) (place : Position) (rest : List ℕ) (end : Position) : Type 0 where
+-- What was read of a text at an account: a piece, which belongs to a token, and a separation after it; the text that is left, and the position there.
+pub record ReadAs (a : Account) (text : List ℕ) (tok : Tok) (position : Position) (rest : List ℕ) (end : Position) : Type 0 where
   pub first : ℕ
   pub more : List ℕ
   pub separation : List ℕ
   pub is_text : text ≡ (first ∷ more) ++ (separation ++ rest)
   pub is_filled : is_separation false separation rest ≡ true
-  pub is_piece : (following : Option Tok) → IsPiece a (first ∷ more) (separation ++ rest) following place tok
-  pub is_end : end ≡ position_after (position_after a.place (first ∷ more) (separation ++ rest)) separation rest
+  pub is_piece : (following : Option Tok) → IsPiece a (first ∷ more) (separation ++ rest) following position tok
+  pub is_end : end ≡ position_after (position_after a.position (first ∷ more) (separation ++ rest)) separation rest
 
 -- whether a plain scalar is looked for at a text: as `begins_plain`, but in flow a dash before a flow indicator is refused by the scan itself
 abbrev pub comes_plain : (in_flow adjacent : Bool) → (column : ℕ) → List ℕ → Bool
@@ -36,30 +36,30 @@ comes_plain in_flow adjacent column (c ∷ r) = (if c == 45 then not (is_at_gap 
 abbrev pub PlainIsRead : Type 0
 PlainIsRead =
     (a : Account) (ctx : Context) (text : List ℕ) (r : Read plains.Plain) → has_no_nul text ≡ true → is_in_flow a ≡ ctx.flow → collection_column a ≡ collection_of ctx.indent
-    → comes_plain ctx.flow (is_adjacent a.before) a.place.col text ≡ true → is_indented ctx a.place ≡ true → plains.plain ctx text a.place ≡ Ok r
-    → ReadAs a text (scalar plain r.value.text) a.place r.rest r.place
+    → comes_plain ctx.flow (is_adjacent a.before) a.position.col text ≡ true → is_indented ctx a.position ≡ true → plains.plain ctx text a.position ≡ Ok r
+    → ReadAs a text (scalar plain r.value.text) a.position r.rest r.position
 
 abbrev pub QuotedIsRead : Type 0
 QuotedIsRead =
-    (a : Account) (single : Bool) (ctx : Context) (more : List ℕ) (r : Read (List ℕ)) → has_no_nul more ≡ true → quoted single ctx (quote_of single ∷ more) a.place ≡ Ok r
-    → ReadAs a (quote_of single ∷ more) (scalar (quoted_style single) r.value) a.place r.rest r.place
+    (a : Account) (single : Bool) (ctx : Context) (more : List ℕ) (r : Read (List ℕ)) → has_no_nul more ≡ true → quoted single ctx (quote_of single ∷ more) a.position ≡ Ok r
+    → ReadAs a (quote_of single ∷ more) (scalar (quoted_style single) r.value) a.position r.rest r.position
 
 -- Besides: the scan ends on a later line, or at the text's end.
 abbrev pub BlockIsRead : Type 0
 BlockIsRead =
     (a : Account) (literal : Bool) (indent : ℕ) (more : List ℕ) (r : Read Block) → has_no_nul more ≡ true → is_in_flow a ≡ false → collection_column a ≡ collection_of indent
-    → block literal indent ((if literal then 124 else 62) ∷ more) a.place ≡ Ok r
-    → ReadAs a ((if literal then 124 else 62) ∷ more) (scalar (block_style literal) r.value.text) r.value.place r.rest r.place × ((r.rest ≡ []) ⊎ (nat_lt a.place.line r.place.line ≡ true))
+    → block literal indent ((if literal then 124 else 62) ∷ more) a.position ≡ Ok r
+    → ReadAs a ((if literal then 124 else 62) ∷ more) (scalar (block_style literal) r.value.text) r.value.position r.rest r.position × ((r.rest ≡ []) ⊎ (nat_lt a.position.line r.position.line ≡ true))
 
 abbrev pub NameIsRead : Type 0
 NameIsRead =
-    (a : Account) (alias : Bool) (more : List ℕ) (r : Read (List ℕ)) → has_no_nul more ≡ true → anchor_name ((if alias then 42 else 38) ∷ more) a.place ≡ Ok r
-    → ReadAs a ((if alias then 42 else 38) ∷ more) (anchor_token alias r.value) a.place r.rest r.place
+    (a : Account) (alias : Bool) (more : List ℕ) (r : Read (List ℕ)) → has_no_nul more ≡ true → anchor_name ((if alias then 42 else 38) ∷ more) a.position ≡ Ok r
+    → ReadAs a ((if alias then 42 else 38) ∷ more) (anchor_token alias r.value) a.position r.rest r.position
 
 abbrev pub TagIsRead : Type 0
 TagIsRead =
-    (a : Account) (in_flow : Bool) (more : List ℕ) (r : Read tags.Tag) → has_no_nul more ≡ true → is_in_flow a ≡ in_flow → tags.tag in_flow (33 ∷ more) a.place ≡ Ok r
-    → ReadAs a (33 ∷ more) (tag r.value.handle r.value.suffix) a.place r.rest r.place
+    (a : Account) (in_flow : Bool) (more : List ℕ) (r : Read tags.Tag) → has_no_nul more ≡ true → is_in_flow a ≡ in_flow → tags.tag in_flow (33 ∷ more) a.position ≡ Ok r
+    → ReadAs a (33 ∷ more) (tag r.value.handle r.value.suffix) a.position r.rest r.position
 
 -- whether a token is a directive's
 abbrev pub is_directive_token : Tok → Bool
@@ -69,8 +69,8 @@ is_directive_token _ = false
 
 abbrev pub DirectiveIsRead : Type 0
 DirectiveIsRead =
-    (a : Account) (more : List ℕ) (r : Read Tok) → has_no_nul more ≡ true → a.place.col ≡ 0 → is_closed a ≡ true → directive (37 ∷ more) a.place ≡ Ok r
-    → ReadAs a (37 ∷ more) r.value a.place r.rest r.place × (is_directive_token r.value ≡ true)
+    (a : Account) (more : List ℕ) (r : Read Tok) → has_no_nul more ≡ true → a.position.col ≡ 0 → is_closed a ≡ true → directive (37 ∷ more) a.position ≡ Ok r
+    → ReadAs a (37 ∷ more) r.value a.position r.rest r.position × (is_directive_token r.value ≡ true)
 
 -- all of these
 pub record PiecesAreRead : Type 0 where

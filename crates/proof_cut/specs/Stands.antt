@@ -1,4 +1,4 @@
--- What holds of the scanner's model between two fetches: its tokens are a cut of the text before its place, and what it holds is what the cut says.
+-- What holds of the scanner's model between two fetches: its tokens are a cut of the text before its position, and what it holds is what the cut says.
 use Rattle.std.specs.Prelude.{◌≡◌, ℕ, suc, ◌+◌, ◌-◌, ◌≤◌, List, [], ◌∷◌, ◌++◌, Bool, true, false, ◌==◌, length, if◌then◌else◌, Option, Some}
 use Rattle.defs_text.specs.Position.{Position}
 use Rattle.defs_text.specs.Text.{is_empty}
@@ -38,9 +38,9 @@ abbrev pub AreLevels : (indent : ℕ) → List Indent → Type 0
 AreLevels i [] = i ≡ 0
 AreLevels i (d ∷ ds) = IsLevel i d.needs_block_end d.indent × AreLevels d.indent ds
 
--- what is open at a place, as the scanner holds it; what stands before
+-- what is open at a position, as the scanner holds it; what stands before
 abbrev pub account_of : Position → (indent : ℕ) → List Indent → List FlowLevel → Before → Account
-account_of p indent indents flow before = record { place = p; blocks = columns indent indents; levels = levels_of flow; before = before }
+account_of p indent indents flow before = record { position = p; blocks = columns indent indents; levels = levels_of flow; before = before }
 
 -- Inside flow a colon may stand next to what stands before the next token, just where the scanner says it.
 abbrev pub IsAdjacent : Before → Position → (adjacent_value_at : ℕ) → (rest : List ℕ) → Type 0
@@ -67,4 +67,4 @@ pub record Fares (text rest : List ℕ) (p : Position) (tokens : List Token) (ke
   pub is_adjacent_here : is_empty flow ≡ false → IsAdjacent before p adjacent_value_at rest
 
 abbrev pub FaresAt : (text : List ℕ) → ScannerState → Type 0
-FaresAt text t = Fares text t.rest t.held.place t.held.tokens t.held.keys t.held.indents t.held.indent t.held.flow t.held.adjacent_value_at
+FaresAt text t = Fares text t.rest t.held.position t.held.tokens t.held.keys t.held.indents t.held.indent t.held.flow t.held.adjacent_value_at

@@ -1,10 +1,10 @@
 //! Laws of the scanner's model and the cut of a text, each the contract of an empty function.
 
-ghost use Rattle.proof_cut.specs.Laws.{FirstTokensAreACut, PlacesAreInTheText, ShownFaultsStandInTheText, TokensAreACut};
+ghost use Rattle.proof_cut.specs.Laws.{FirstTokensAreACut, PositionsAreInTheText, ShownFaultsStandInTheText, TokensAreACut};
 ghost use Rattle.proof_cut.specs.PiecesRead.{PiecesAreRead};
 
 /// What a lexing function reads of a text is a piece that belongs to its token, followed by a separation, whatever is
-/// open around it. The place is the one after both. This holds for plain, quoted and block scalars, names of anchors
+/// open around it. The position is the one after both. This holds for plain, quoted and block scalars, names of anchors
 /// and aliases, tags and directives.
 #[tactic(auto, using(crate::proofs::Pieces::Read::pieces_are_read))]
 pub fn lexing_functions_read_pieces()
@@ -27,15 +27,15 @@ pub fn first_tokens_are_a_cut()
 
 /// Four kinds of refusal come only where their reason stands in the text, if it has no NUL: a bad escape; an end or a
 /// document marker inside a quoted scalar; a flow collection too deep; a dash in flow. The reason stands after a row
-/// of pieces and a separation, at the fault's place.
+/// of pieces and a separation, at the fault's position.
 #[tactic(auto, using(crate::proofs::Faults::Fetches::faults_stand))]
 pub fn shown_faults_stand_in_the_text()
     ensures { ShownFaultsStandInTheText }
 {}
 
-/// At each state of the model its place is the one after a beginning of the text, and the rest of the text is left. After
+/// At each state of the model its position is the one after a beginning of the text, and the rest of the text is left. After
 /// the stream's end it is where a line begins, after the whole text. The stream's start was met just where there are
 /// tokens.
-pub fn places_are_in_the_text()
-    ensures { PlacesAreInTheText }
+pub fn positions_are_in_the_text()
+    ensures { PositionsAreInTheText }
 {}

@@ -10,7 +10,7 @@ use Rattle.defs_text.specs.Classes.{is_at_end, is_document_marker, tab}
 use Rattle.defs_scalar.specs.FlowScalar.{begins_with}
 use Rattle.defs_scalar.specs.BlockScalar.{BlockStyle, literal, folded, Row, body, further_text, unbroken, header_of, sign_of, digit_of, row_of, rows_of, column_by, least_column, starts_with_tab, has_content, value_before_text, value_before_end, block_value, is_outside, is_further_text}
 use Rattle.defs_token.specs.BlockPiece as cut
-use Rattle.defs_token.specs.BlockPiece.{read_body, past_spaces, block_place}
+use Rattle.defs_token.specs.BlockPiece.{read_body, past_spaces, block_position}
 use Rattle.defs_layout.specs.Gap.{GapLine, empty_line, comment_line, spaces, IsGap, AreEmptyLines, IsLineText, is_line_character}
 use Rattle.defs_layout.specs.BlockLines.{Line, full, blank, spell_line, spell_lines, AreLines}
 use Rattle.defs_layout.specs.Layout.{indented_lines, BeginsWithText, EndsInText, AreLineTexts}
@@ -18,12 +18,12 @@ use Rattle.model_lexers.specs.Machine.{Read, past, past_break}
 use Rattle.model_lexers.specs.Block.{Block, block}
 use Rattle.proof_lexers.proofs.Bridges.{and_false}
 use Rattle.proof_lexers.specs.HeaderEnds.{indicator_of, is_in_line, along}
-use Rattle.proof_lexers.specs.BlockScan.{is_literal_style, IsRead, read, shallow, tabbed, is_tabbed, is_shallow, read_block, without_spaces, further_place}
+use Rattle.proof_lexers.specs.BlockScan.{is_literal_style, IsRead, read, shallow, tabbed, is_tabbed, is_shallow, read_block, without_spaces, further_position}
 use Rattle.proof_lexers.specs.PlainEnds.{collection_of}
 use Rattle.proof_lexers.proofs.Blocks.Written as written
 use Rattle.proof_lexers.proofs.Blocks.Written.{feed, carriage, both, texts, spell}
 use Rattle.proof_lexers.proofs.Blocks.Margins.{after_break, after_line, after_lines}
-use Rattle.proof_lexers.proofs.Blocks.Places.{space_past, after_chars, after_spell, spell_more}
+use Rattle.proof_lexers.proofs.Blocks.Positions.{space_past, after_chars, after_spell, spell_more}
 use Rattle.proof_lexers.proofs.Blocks.Columns.{texts_append, spell_append}
 use Rattle.proof_lexers.proofs.Blocks.Pieces.{Read_as, to_end, to_text}
 use Rattle.proof_layout_tokens.proofs.Layouts.States.{is_solid, Trail, next, marker, end, marker_text, rest_of, limit_of, IsTrail}
@@ -34,14 +34,14 @@ use Rattle.proof_layout_tokens.proofs.BlockTexts.{header_by, line_of, lines_at, 
 
 -- The scan is after the block, or within the white space after it.
 pub record BlockRead (t : Result (Read Block) Fault) (text : List ℕ) (g : List White) (r : List ℕ) (p : Position) : Type 0 where
-  pub place : Position
+  pub position : Position
   pub white : List White
   pub start : Position
-  pub end_place : Position
-  pub same : beyond white place ≡ beyond g end_place
+  pub end_position : Position
+  pub same : beyond white position ≡ beyond g end_position
   pub are : AreWhite white r
-  pub up : p.line ≤ end_place.line
-  pub now : t ≡ Ok (record { rest = spell_white white r; place = place; value = record { place = start; text = text } })
+  pub up : p.line ≤ end_position.line
+  pub now : t ≡ Ok (record { rest = spell_white white r; position = position; value = record { position = start; text = text } })
 
 -- ---- the block
 
@@ -290,9 +290,9 @@ mid_false : (a b c : Bool) → b ≡ false → ((a && b) && c) ≡ false
 mid_false a b c h = rw (h, and_false a) refl
 
 -- it stands left of the collection, or at no column less than that of the lines
-not_shallow : (i n : ℕ) (p : Position) (b : cut.BlockRead) (piece after : List ℕ) → IsInside i b.column → n < max i 1 → (further_place p piece after).col ≡ n → is_shallow i p b piece after ≡ false
-not_shallow zero n p b piece after inside low e = let no : nat_lt (further_place p piece after).col b.column ≡ false = grind (arith, nat_tests) in rw no (and_false _)
-not_shallow (suc c) n p b piece after inside low e = let no : nat_le (suc c) (further_place p piece after).col ≡ false = grind (arith, nat_tests) in mid_false _ _ _ no
+not_shallow : (i n : ℕ) (p : Position) (b : cut.BlockRead) (piece after : List ℕ) → IsInside i b.column → n < max i 1 → (further_position p piece after).col ≡ n → is_shallow i p b piece after ≡ false
+not_shallow zero n p b piece after inside low e = let no : nat_lt (further_position p piece after).col b.column ≡ false = grind (arith, nat_tests) in rw no (and_false _)
+not_shallow (suc c) n p b piece after inside low e = let no : nat_le (suc c) (further_position p piece after).col ≡ false = grind (arith, nat_tests) in mid_false _ _ _ no
 
 no_space : (n c : ℕ) (a : List ℕ) → is_further c ≡ true → without_spaces (spaces n (c ∷ a)) ≡ c ∷ a
 no_space zero c a h = let no : (c == 32) ≡ false = grind (arith, nat_tests) in rw no refl
@@ -331,7 +331,7 @@ spelt_feeds : (column : ℕ) (ls : List Line) (r : List ℕ) → spell_lines col
 spelt_feeds column [] r = refl
 spelt_feeds column (l ∷ ls) r = ap (λ x. 10 ∷ spell_line column l x) (spelt_feeds column ls r) ∙ ap (λ x. 10 ∷ x) (sym (line_more column l (10 ∷ spell (lines_at column ls) r)))
 
--- the place after the last line's break
+-- the position after the last line's break
 after_last : (column : ℕ) (init : List Line) (w : List ℕ) (p : Position) → after_lines (lines_at column (init ++ full w ∷ [])) p ≡ past_break (along (spell_line column (full w) []) (after_lines (lines_at column init) p))
 after_last column [] w p = refl
 after_last column (l ∷ init) w p = after_last column init w (after_line (line_of column l) p)
@@ -368,9 +368,9 @@ was_read i p b piece after x (tabbed f e) tabless deep = let false_true : false 
 no_tab : (piece after : List ℕ) → begins_with tab after ≡ false → is_tabbed piece after ≡ false
 no_tab piece after h = rw h (and_false _)
 
--- what was read, where the rest and its place are known
-read_at : (p : Position) (b : cut.BlockRead) (piece after y : List ℕ) (q : Position) (x : Result (Read Block) Fault) → x ≡ Ok (read_block p b piece after) → without_spaces after ≡ y → further_place p piece after ≡ q
-    → x ≡ Ok (record { rest = y; place = q; value = record { place = block_place b.column p piece after; text = b.text } })
+-- what was read, where the rest and its position are known
+read_at : (p : Position) (b : cut.BlockRead) (piece after y : List ℕ) (q : Position) (x : Result (Read Block) Fault) → x ≡ Ok (read_block p b piece after) → without_spaces after ≡ y → further_position p piece after ≡ q
+    → x ≡ Ok (record { rest = y; position = q; value = record { position = block_position b.column p piece after; text = b.text } })
 read_at p b piece after y q x e f g = e ∙ rw (f, g) refl
 
 module _ (s : BlockStyle) (i column : ℕ) (strips : Bool) where
@@ -418,26 +418,26 @@ module _ (s : BlockStyle) (i column : ℕ) (strips : Bool) (text : List ℕ) (ls
   spelt_all : block_text s strips (spell_lines column ls (10 ∷ spell_white w r)) ≡ spell (header ∷ all_lines) (spaces k.width (spell_white k.white r))
   spelt_all = ap (λ x. block_text s strips x) (spelt_feeds column ls (spell_white w r) ∙ ap (λ x. 10 ∷ spell (lines_at column ls) x) k.is ∙ ap (λ x. 10 ∷ x) (sym (spell_append (lines_at column ls) (empties k.count) (spaces k.width (spell_white k.white r)))))
 
-  -- the place after its last line, and that of what stands after it
-  abbrev last_place : Position
-  last_place = along (spell_line column (full z.last) []) (after_lines (header ∷ lines_at column z.init) p)
+  -- the position after its last line, and that of what stands after it
+  abbrev last_position : Position
+  last_position = along (spell_line column (full z.last) []) (after_lines (header ∷ lines_at column z.init) p)
 
-  abbrev lines_place : Position
-  lines_place = after_lines (header ∷ all_lines) p
+  abbrev lines_position : Position
+  lines_position = after_lines (header ∷ all_lines) p
 
-  lines_end : lines_place ≡ after_lines (empties k.count) (past_break last_place)
+  lines_end : lines_position ≡ after_lines (empties k.count) (past_break last_position)
   lines_end = after_more (lines_at column ls) (empties k.count) (after_line header p) ∙ ap (after_lines (empties k.count)) (ap (λ l. after_lines (lines_at column l) (after_line header p)) z.is ∙ after_last column z.init z.last (after_line header p))
 
   abbrev ReadHere : Type 0
   ReadHere = BlockRead (scan s i column strips (spell_lines column ls (10 ∷ spell_white w r)) p) text (line_feed ∷ w) r p
 
-  reads_so : (start : Position) → scan s i column strips (spell_lines column ls (10 ∷ spell_white w r)) p ≡ Ok (record { rest = spell_white k.white r; place = beyond (blanks k.width) lines_place; value = record { place = start; text = text } }) → ReadHere
+  reads_so : (start : Position) → scan s i column strips (spell_lines column ls (10 ∷ spell_white w r)) p ≡ Ok (record { rest = spell_white k.white r; position = beyond (blanks k.width) lines_position; value = record { position = start; text = text } }) → ReadHere
   reads_so start e = record {
-    place = beyond (blanks k.width) lines_place;
+    position = beyond (blanks k.width) lines_position;
     white = k.white;
     start = start;
-    end_place = last_place;
-    same = ap (λ q. beyond k.white (beyond (blanks k.width) q)) lines_end ∙ sym (k.same (past_break last_place));
+    end_position = last_position;
+    same = ap (λ q. beyond k.white (beyond (blanks k.width) q)) lines_end ∙ sym (k.same (past_break last_position));
     are = k.are;
     up = let a = up_lines (header ∷ lines_at column z.init) p in let b = along_line (spell_line column (full z.last) []) (after_lines (header ∷ lines_at column z.init) p) in omega (arith, a, b);
     now = e;
@@ -459,10 +459,10 @@ module _ (s : BlockStyle) (i column : ℕ) (strips : Bool) (text : List ℕ) (ls
       let body_is = end_body s i column strips (texts all_lines) e _ _ (ap (column_by None (collection_of i)) same ∙ z.in_column more) (ap starts_with_tab same ∙ z.tabless more) all_rows (row_spaces column k.width (in_margin i column k.width inside low)) ∙ ap (λ t. Some (is_block s i column strips t)) value in
       let it : Read_as i p the_block piece [] = to_end i p the_block (indicator_of s ∷ header_line strips) feed all_lines e (header_inner s strips) tt (are_all e).2 (inner_spaces k.width [] refl) body_is in
       let now = was_read i p the_block piece [] _ it (no_tab piece [] refl) refl in
-      let where_is : further_place p piece [] ≡ beyond (blanks k.width) lines_place = after_spell (header ∷ all_lines) e [] p (are_all (e ++ [])) ∙ spaces_after k.width lines_place in
+      let where_is : further_position p piece [] ≡ beyond (blanks k.width) lines_position = after_spell (header ∷ all_lines) e [] p (are_all (e ++ [])) ∙ spaces_after k.width lines_position in
       let here : block_text s strips (spell_lines column ls (10 ∷ spell_white w r)) ≡ piece ++ [] = spelt_all ∙ ap (λ y. spell (header ∷ all_lines) (spaces k.width y)) none ∙ sym (append-nil piece) in
-      reads_so (block_place column p piece []) (ap (λ a. block (is_literal_style s) i a p) here ∙ read_at p the_block piece [] [] _ _ now refl where_is
-      ∙ ap (λ y. Ok (record { rest = y; place = beyond (blanks k.width) lines_place; value = record { place = block_place column p piece []; text = text } })) (sym none))
+      reads_so (block_position column p piece []) (ap (λ a. block (is_literal_style s) i a p) here ∙ read_at p the_block piece [] [] _ _ now refl where_is
+      ∙ ap (λ y. Ok (record { rest = y; position = beyond (blanks k.width) lines_position; value = record { position = block_position column p piece []; text = text } })) (sym none))
 
   -- further text
   at_text : (d : ℕ) (a : List ℕ) → spell_white k.white r ≡ d ∷ a → Starts i (d ∷ a) → ReadHere
@@ -473,13 +473,13 @@ module _ (s : BlockStyle) (i column : ℕ) (strips : Bool) (text : List ℕ) (ls
       let body_is = text_body s i column strips (texts all_lines) rest _ (ap (column_by None (collection_of i)) all_texts ∙ z.in_column (texts (empties k.count))) (not_at_end k.width d a begins.0) (further i column k.width d a inside k.low begins)
       (ap starts_with_tab all_texts ∙ z.tabless (texts (empties k.count))) all_rows ∙ ap (λ t. Some (is_block s i column strips t)) value in
       let it : Read_as i p the_block piece rest = to_text i p the_block (indicator_of s ∷ header_line strips) feed all_lines rest (header_inner s strips) tt (are_all []).2 (not_at_end k.width d a begins.0) body_is in
-      let where_is : further_place p piece rest ≡ beyond (blanks k.width) lines_place = ap (λ q. past_spaces q rest) (after_spell (header ∷ all_lines) [] rest p (are_all rest)) ∙ spaces_past k.width d a lines_place begins.0 in
-      let front : (further_place p piece rest).col ≡ k.width = ap (λ q. q.col) where_is ∙ blanks_col k.width lines_place ∙ ap (λ n. n + k.width) (front_col header all_lines p) ∙ omega arith in
+      let where_is : further_position p piece rest ≡ beyond (blanks k.width) lines_position = ap (λ q. past_spaces q rest) (after_spell (header ∷ all_lines) [] rest p (are_all rest)) ∙ spaces_past k.width d a lines_position begins.0 in
+      let front : (further_position p piece rest).col ≡ k.width = ap (λ q. q.col) where_is ∙ blanks_col k.width lines_position ∙ ap (λ n. n + k.width) (front_col header all_lines p) ∙ omega arith in
       let off : is_shallow i p the_block piece rest ≡ false = not_shallow i k.width p the_block piece rest inside k.low front in
       let now = was_read i p the_block piece rest _ it (no_tab piece rest (spaces_tab k.width d a begins.0)) off in
       let here : block_text s strips (spell_lines column ls (10 ∷ spell_white w r)) ≡ piece ++ rest = spelt_all ∙ ap (λ y. spell (header ∷ all_lines) (spaces k.width y)) is ∙ sym (spell_more (header ∷ all_lines) [] rest) in
-      reads_so (block_place column p piece rest) (ap (λ x. block (is_literal_style s) i x p) here ∙ read_at p the_block piece rest (d ∷ a) _ _ now (no_space k.width d a begins.0) where_is
-      ∙ ap (λ y. Ok (record { rest = y; place = beyond (blanks k.width) lines_place; value = record { place = block_place column p piece rest; text = text } })) (sym is))
+      reads_so (block_position column p piece rest) (ap (λ x. block (is_literal_style s) i x p) here ∙ read_at p the_block piece rest (d ∷ a) _ _ now (no_space k.width d a begins.0) where_is
+      ∙ ap (λ y. Ok (record { rest = y; position = beyond (blanks k.width) lines_position; value = record { position = block_position column p piece rest; text = text } })) (sym is))
 
   -- the block is read up to what stands after it
   pub block_lines : ReadHere
@@ -514,16 +514,16 @@ module _ (s : BlockStyle) (i column : ℕ) (strips : Bool) (text : List ℕ) (ls
       let it : Read_as i p b piece [] = to_end i p b (indicator_of s ∷ header_line strips) feed before last (header_inner s strips) tt (are last).2 inner body_is in
       let now = was_read i p b piece [] _ it (no_tab piece [] refl) refl in
       let front = after_lines (header ∷ before) p in
-      let where_is : further_place p piece [] ≡ along last front = after_spell (header ∷ before) last [] p (are (last ++ [])) ∙ ap (λ x. position_after front x []) (sym (append-nil last)) ∙ after_chars last [] [] front inner in
+      let where_is : further_position p piece [] ≡ along last front = after_spell (header ∷ before) last [] p (are (last ++ [])) ∙ ap (λ x. position_after front x []) (sym (append-nil last)) ∙ after_chars last [] [] front inner in
       let here : block_text s strips (spell_lines column ls []) ≡ piece ++ [] =
       ap (λ x. block_text s strips x) (ap (λ l. spell_lines column l []) z.is ∙ spelt column z.init z.last [] ∙ ap (λ x. 10 ∷ spell before x) (append-nil last)) ∙ sym (append-nil piece) in
       let up = up_lines (header ∷ before) p in
       let level = along_line last front in
       record {
-        place = along last front;
+        position = along last front;
         white = [];
-        start = block_place column p piece [];
-        end_place = along last front;
+        start = block_position column p piece [];
+        end_position = along last front;
         same = refl;
         are = refl;
         up = omega (arith, up, level);

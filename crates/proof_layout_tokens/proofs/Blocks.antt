@@ -41,14 +41,14 @@ token_style s = block_style (is_literal_style s)
 
 -- after a block
 abbrev block_parts : Parts → BlockStyle → (text : List ℕ) → Position → Position → Option Key → Parts
-block_parts p s text start place key = record { place = place; tokens = p.tokens ++ token start (Tok.scalar (token_style s) text) ∷ []; key = key; allowed = true; leading = true; adjacent = p.adjacent }
+block_parts p s text start position key = record { position = position; tokens = p.tokens ++ token start (Tok.scalar (token_style s) text) ∷ []; key = key; allowed = true; leading = true; adjacent = p.adjacent }
 
-block_at : (s : BlockStyle) (x : List ℕ) (b : Bool) (i : ℕ) (is : List Indent) (p : Parts) (k : Option Key) (text r : List ℕ) (start place : Position) → IsClosed i is
+block_at : (s : BlockStyle) (x : List ℕ) (b : Bool) (i : ℕ) (is : List Indent) (p : Parts) (k : Option Key) (text r : List ℕ) (start position : Position) → IsClosed i is
     → save_implicit_key ((stands x (opened_indent b i) (opened b i is) p).held) ≡ (stands x (opened_indent b i) (opened b i is) (record p { key = k })).held
-    → block (is_literal_style s) i x p.place ≡ Ok (record { rest = r; place = place; value = record { place = start; text = text } })
-    → fetch_block_scalar (is_literal_style s) (stands x (opened_indent b i) (opened b i is) p) ≡ Ok (stands r i is (block_parts p s text start place k))
+    → block (is_literal_style s) i x p.position ≡ Ok (record { rest = r; position = position; value = record { position = start; text = text } })
+    → fetch_block_scalar (is_literal_style s) (stands x (opened_indent b i) (opened b i is) p) ≡ Ok (stands r i is (block_parts p s text start position k))
 unfolding fetch_block_scalar
-block_at s x b i is p k text r start place shut save read = rw (save, non_block x b i is (record p { key = k; allowed = true }) shut, read) refl
+block_at s x b i is p k text r start position shut save read = rw (save, non_block x b i is (record p { key = k; allowed = true }) shut, read) refl
 
 lies_later : (k : Option Key) (m n : ℕ) → m ≤ n → Lies k m → Lies k n
 lies_later None m n h e = tt
@@ -60,22 +60,22 @@ block_allows (marker h r) g = tt
 block_allows (end h) g = tt
 
 block_done : (s : BlockStyle) (t : Trail) (from : ScannerState) (a : List ℕ) (text : List ℕ) (col : ℕ) (b : Bool) (i : ℕ) (is : List Indent) (want : List Tok → List Tok) → i ≤ col → IsClosed i is
-    → (u : Ahead from (indicator_of s ∷ a) col (opened_indent b i) (opened b i is) want) → BlockRead (block (is_literal_style s) i (indicator_of s ∷ a) u.parts.place) text (trail_white t) (rest_of t) u.parts.place
+    → (u : Ahead from (indicator_of s ∷ a) col (opened_indent b i) (opened b i is) want) → BlockRead (block (is_literal_style s) i (indicator_of s ∷ a) u.parts.position) text (trail_white t) (rest_of t) u.parts.position
     → After from t i is (λ o. want (Tok.scalar (token_style s) text ∷ o))
 block_done s t from a text col b i is want deep shut u z =
     let p = u.parts in
     let column = u.column in
-    let inside : i ≤ p.place.col = omega (arith, deep, column) in
+    let inside : i ≤ p.position.col = omega (arith, deep, column) in
     let y = indicator_of s ∷ a in
     let x = spell_white z.white (rest_of t) in
     let k = saved_after y b i is p inside u.loose in
-    let q = block_parts p s text z.start z.place k.key in
+    let q = block_parts p s text z.start z.position k.key in
     let tok = Tok.scalar (token_style s) text in
-    let takes = value_ahead from (indicator_of s) a col b i is want u deep (mark_opens s a) ∙ by_mark s a (opened_indent b i) (opened b i is) p ∙ block_at s y b i is p k.key text x z.start z.place shut k.now z.now in
+    let takes = value_ahead from (indicator_of s) a col b i is want u deep (mark_opens s a) ∙ by_mark s a (opened_indent b i) (opened b i is) p ∙ block_at s y b i is p k.key text x z.start z.position shut k.now z.now in
     let run = fetched_ahead from y col (opened_indent b i) (opened b i is) want _ _ u takes (Levels.aged x i is q k.loose) in
-    let lies : Lies (still z.place k.key) z.end_place.line = still_lies z.place k.key z.end_place.line (lies_later k.key p.place.line z.end_place.line z.up k.lies) in
-    leaf_after t from z.white i is (record q { key = still z.place k.key }) z.end_place _ run z.are z.same (block_allows t z.white)
-    (Levels.still_loose z.place k.key k.loose) lies (Levels.last_pushed p.tokens (token z.start tok)) (Levels.push_tells p.tokens z.start tok want u.told)
+    let lies : Lies (still z.position k.key) z.end_position.line = still_lies z.position k.key z.end_position.line (lies_later k.key p.position.line z.end_position.line z.up k.lies) in
+    leaf_after t from z.white i is (record q { key = still z.position k.key }) z.end_position _ run z.are z.same (block_allows t z.white)
+    (Levels.still_loose z.position k.key k.loose) lies (Levels.last_pushed p.tokens (token z.start tok)) (Levels.push_tells p.tokens z.start tok want u.told)
 
 -- ---- a block that is a value
 
@@ -85,7 +85,7 @@ block_after : (s : BlockStyle) (t : Trail) (from : ScannerState) (column : ℕ) 
 block_after s t from column strips text ls col b i is want f deep shut inside h u =
     let after = spell_lines column ls (spell_white (trail_white t) (rest_of t)) in
     let v : Ahead from (block_text s strips after) col (opened_indent b i) (opened b i is) want = rw (trail_is t) at u in
-    block_done s t from (header_line strips ++ after) text col b i is want deep shut v (block_before s i column strips text ls inside h v.parts.place t f)
+    block_done s t from (header_line strips ++ after) text col b i is want deep shut v (block_before s i column strips text ls inside h v.parts.position t f)
 
 -- a block below a collection at a column
 nested_after : (s : BlockStyle) (t : Trail) (from : ScannerState) (c column : ℕ) (strips : Bool) (text : List ℕ) (ls : List Line) (col i : ℕ) (b : Bool) (is : List Indent) (want : List Tok → List Tok) → i ≡ suc c → IsTrail t → limit_of t ≤ i → i ≤ col → IsClosed i is

@@ -25,9 +25,9 @@ comment_white no_comment w = w
 comment_white (comment more text) w = space ∷ spaced more (remark text ∷ w)
 
 -- where its line ends
-abbrev pub comment_place : Comment → Position → Position
-comment_place no_comment p = p
-comment_place (comment more text) p = along text (past (beyond (blanks more) (past p)))
+abbrev pub comment_position : Comment → Position → Position
+comment_position no_comment p = p
+comment_position (comment more text) p = along text (past (beyond (blanks more) (past p)))
 
 -- ---- its text
 
@@ -55,7 +55,7 @@ beyond_spaced : (n : ℕ) (w : List White) (p : Position) → beyond (spaced n w
 beyond_spaced zero w p = refl
 beyond_spaced (suc n) w p = beyond_spaced n w (past p)
 
-pub beyond_comment : (k : Comment) (w : List White) (p : Position) → beyond (comment_white k w) p ≡ beyond w (comment_place k p)
+pub beyond_comment : (k : Comment) (w : List White) (p : Position) → beyond (comment_white k w) p ≡ beyond w (comment_position k p)
 beyond_comment no_comment w p = refl
 beyond_comment (comment more text) w p = beyond_spaced more (remark text ∷ w) (past p)
 
@@ -71,18 +71,18 @@ pub blanks_line : (n : ℕ) (p : Position) → (beyond (blanks n) p).line ≡ p.
 blanks_line zero p = refl
 blanks_line (suc n) p = blanks_line n (past p)
 
-pub comment_line : (k : Comment) (p : Position) → (comment_place k p).line ≡ p.line
+pub comment_line : (k : Comment) (p : Position) → (comment_position k p).line ≡ p.line
 comment_line no_comment p = refl
 comment_line (comment more text) p = along_line text (past (beyond (blanks more) (past p))) ∙ blanks_line more (past p)
 
--- ---- it is passed over, from a place on its line
+-- ---- it is passed over, from a position on its line
 
 -- what stands after it: the end of the text, or a line feed
 pub data Stops : List ℕ → Type 0 where
   at_end : Stops []
   at_feed : {a : List ℕ} → Stops (10 ∷ a)
 
-text_passes : (text a : List ℕ) (p : Position) → IsLineText text → Stops a → scalar_space.comment (text ++ a) p ≡ record { rest = a; place = along text p; value = tt }
+text_passes : (text a : List ℕ) (p : Position) → IsLineText text → Stops a → scalar_space.comment (text ++ a) p ≡ record { rest = a; position = along text p; value = tt }
 unfolding is_break
 text_passes [] [] p h at_end = refl
 text_passes [] (c ∷ a) p h at_feed = refl
@@ -94,12 +94,12 @@ abbrev spaced_space : Whitespace
 spaced_space = record { found_tabs = false; has_valid_yaml_ws = true }
 
 remark_passes : (n : ℕ) (text a : List ℕ) (w : List White) (r : List ℕ) (p : Position) → IsLineText text → spell_white w r ≡ a → Stops a
-    → scalar_space.space_from Yes (spell_white (spaced n (remark text ∷ w)) r) (record { place = p; found = spaced_space }) ≡ Ok (record { rest = a; place = along text (past (beyond (blanks n) p)); value = spaced_space })
+    → scalar_space.space_from Yes (spell_white (spaced n (remark text ∷ w)) r) (record { position = p; found = spaced_space }) ≡ Ok (record { rest = a; position = along text (past (beyond (blanks n) p)); value = spaced_space })
 unfolding is_break
 remark_passes zero text a w r p h e stop = rw (e, text_passes text a (past p) h stop) refl
 remark_passes (suc n) text a w r p h e stop = remark_passes n text a w r (past p) h e stop
 
 pub comment_passes : (more : ℕ) (text a : List ℕ) (w : List White) (r : List ℕ) (p : Position) → IsLineText text → spell_white w r ≡ a → Stops a
-    → scalar_space.space Yes (spell_white (comment_white (comment more text) w) r) p ≡ Ok (record { rest = a; place = comment_place (comment more text) p; value = spaced_space })
+    → scalar_space.space Yes (spell_white (comment_white (comment more text) w) r) p ≡ Ok (record { rest = a; position = comment_position (comment more text) p; value = spaced_space })
 unfolding scalar_space.space
 comment_passes more text a w r p h e stop = remark_passes more text a w r (past p) h e stop

@@ -27,7 +27,7 @@ abbrev pub origin : Position
 origin = record { index = 0; line = 1; col = 0 }
 
 abbrev pub begun : Parts
-begun = record { place = origin; tokens = token origin Tok.stream_start ∷ []; key = None; allowed = true; leading = true; adjacent = 0 }
+begun = record { position = origin; tokens = token origin Tok.stream_start ∷ []; key = None; allowed = true; leading = true; adjacent = 0 }
 
 begins : (a : List ℕ) → fetch (start a) ≡ Ok (stands a 0 [] begun)
 unfolding fetch fetch_stream_start
@@ -38,11 +38,11 @@ stream_begins a = there refl (begins a) here
 
 -- after a document's marker
 abbrev pub opened : Position → List Token → (adjacent : ℕ) → Parts
-opened p ts adjacent = record { place = past (past (past p)); tokens = ts ++ token p Tok.document_start ∷ []; key = None; allowed = false; leading = false; adjacent = adjacent }
+opened p ts adjacent = record { position = past (past (past p)); tokens = ts ++ token p Tok.document_start ∷ []; key = None; allowed = false; leading = false; adjacent = adjacent }
 
-marks : (a : List ℕ) (i : ℕ) (is : List Indent) (p : Parts) (ts : List Token) → (p.place.col == 0) ≡ true → is_required p.key ≡ false
+marks : (a : List ℕ) (i : ℕ) (is : List Indent) (p : Parts) (ts : List Token) → (p.position.col == 0) ≡ true → is_required p.key ≡ false
     → unroll_indent 0 (stands (marker_text a) i is p).held ≡ (stands (marker_text a) 0 [] (record p { tokens = ts })).held
-    → fetch_here (stands (marker_text a) i is p) ≡ Ok (stands (10 ∷ a) 0 [] (opened p.place ts p.adjacent))
+    → fetch_here (stands (marker_text a) i is p) ≡ Ok (stands (10 ∷ a) 0 [] (opened p.position ts p.adjacent))
 unfolding fetch_here fetch_content fetch_first_column comes_marker is_break is_blank fetch_document_marker begin_line remove_implicit_key
 marks a i is p ts col loose u = rw (col, u, loose) refl
 
@@ -78,16 +78,16 @@ pub next_document : (from : ScannerState) (g : List GapLine) (a : List ℕ) (wan
 next_document from g a want u =
     let text = marker_text a in
     let p = u.parts in
-    let q = record p { key = still p.place p.key } in
-    let limit = q.place.col + 1 in
+    let q = record p { key = still p.position p.key } in
+    let limit = q.position.col + 1 in
     let l = left limit u.indent u.indents in
-    let r = record q { tokens = (Levels.unroll limit q.place u.indent u.indents q.tokens).tokens } in
-    let ts = (Levels.unroll 0 r.place l.indent l.indents r.tokens).tokens in
+    let r = record q { tokens = (Levels.unroll limit q.position u.indent u.indents q.tokens).tokens } in
+    let ts = (Levels.unroll 0 r.position l.indent l.indents r.tokens).tokens in
     let comes = Levels.arrives u.text text u.indent l.indent u.indents l.indents u.first p q r u.skips (Levels.aged text u.indent u.indents p u.settles.1) (Levels.unrolls limit text u.indent u.indents q) in
     let none : left 0 l.indent l.indents ≡ record { indent = 0; indents = [] } = Levels.left_twice limit u.indent u.indents ∙ u.same in
-    let goes = marks a l.indent l.indents r ts (eq-eqb p.place.col 0 u.settles.0) (Levels.still_loose p.place p.key u.settles.1) (unrolls_to 0 text l.indent l.indents r 0 [] none) in
-    opened_at from a r.place ts r.adjacent want (Levels.unrolls_twice limit u.indent u.indents q.place r.place p.tokens want u.told)
-    (reaches_then u.run (there refl (comes ∙ rw goes (Levels.not_stale (10 ∷ a) 0 [] (opened r.place ts r.adjacent) refl)) here))
+    let goes = marks a l.indent l.indents r ts (eq-eqb p.position.col 0 u.settles.0) (Levels.still_loose p.position p.key u.settles.1) (unrolls_to 0 text l.indent l.indents r 0 [] none) in
+    opened_at from a r.position ts r.adjacent want (Levels.unrolls_twice limit u.indent u.indents q.position r.position p.tokens want u.told)
+    (reaches_then u.run (there refl (comes ∙ rw goes (Levels.not_stale (10 ∷ a) 0 [] (opened r.position ts r.adjacent) refl)) here))
 
 -- ---- the end
 
@@ -96,8 +96,8 @@ abbrev finished : (i : ℕ) → List Indent → Parts → ScannerState
 finished i is p = record {
   rest = [];
   held = record {
-    place = p.place;
-    tokens = p.tokens ++ token p.place Tok.stream_end ∷ [];
+    position = p.position;
+    tokens = p.tokens ++ token p.position Tok.stream_end ∷ [];
     keys = p.key ∷ [];
     indents = is;
     indent = i;
@@ -111,7 +111,7 @@ finished i is p = record {
 }
 
 ends_here : (i : ℕ) (is : List Indent) (p : Parts) → is_required p.key ≡ false → (j : ℕ) (js : List Indent) (r : Parts)
-    → unroll_indent 0 (stands [] i is (record p { place = next_line p.place; key = None })).held ≡ (stands [] j js r).held → fetch_here (stands [] i is p) ≡ Ok (finished j js r)
+    → unroll_indent 0 (stands [] i is (record p { position = next_line p.position; key = None })).held ≡ (stands [] j js r).held → fetch_here (stands [] i is p) ≡ Ok (finished j js r)
 unfolding fetch_here fetch_stream_end
 ends_here i is p loose j js r u = rw (loose, u) refl
 
@@ -123,30 +123,30 @@ not_stale_at_end i is p free = rw free refl
 pub all_tokens : (a : List ℕ) (g : List GapLine) (want : List Tok → List Tok) → After (start a) (end g) 0 [] want → HasToks a (want (Tok.stream_end ∷ []))
 all_tokens a g want u =
     let p = u.parts in
-    let q = record p { key = still p.place p.key } in
-    let limit = q.place.col + 1 in
+    let q = record p { key = still p.position p.key } in
+    let limit = q.position.col + 1 in
     let l = left limit u.indent u.indents in
-    let y = Levels.unroll limit q.place u.indent u.indents q.tokens in
+    let y = Levels.unroll limit q.position u.indent u.indents q.tokens in
     let r = record q { tokens = y.tokens } in
-    let s = record r { place = next_line r.place; key = None } in
-    let z = Levels.unroll 0 s.place l.indent l.indents s.tokens in
+    let s = record r { position = next_line r.position; key = None } in
+    let z = Levels.unroll 0 s.position l.indent l.indents s.tokens in
     let t = record s { tokens = z.tokens } in
     let m = left 0 l.indent l.indents in
-    let loose = Levels.still_loose p.place p.key u.settles in
+    let loose = Levels.still_loose p.position p.key u.settles in
     let comes = Levels.arrives u.text [] u.indent l.indent u.indents l.indents u.first p q r u.skips (Levels.aged [] u.indent u.indents p u.settles) (Levels.unrolls limit [] u.indent u.indents q) in
     let goes = ends_here l.indent l.indents r loose m.indent m.indents t (Levels.unrolls 0 [] l.indent l.indents s) in
-    let told = Levels.unrolls_twice limit u.indent u.indents q.place s.place p.tokens want u.told in
+    let told = Levels.unrolls_twice limit u.indent u.indents q.position s.position p.tokens want u.told in
     let final = finished m.indent m.indents t in (
       final.held.tokens,
       record { end = final; run = reaches_then u.run (there refl (comes ∙ rw goes (not_stale_at_end m.indent m.indents t refl)) here); ended = refl; tokens = refl },
-      sym (append-nil (toks final.held.tokens)) ∙ Levels.push_tells t.tokens t.place Tok.stream_end want told [],
+      sym (append-nil (toks final.held.tokens)) ∙ Levels.push_tells t.tokens t.position Tok.stream_end want told [],
     )
 
 -- the empty text
 pub nothing_has_its_tokens : HasToks [] (Tok.stream_start ∷ Tok.stream_end ∷ [])
 nothing_has_its_tokens =
     let comes = Levels.arrives [] [] 0 0 [] [] begun begun begun begun (next_token 0 [] [] [] begun refl) (Levels.not_stale [] 0 [] begun refl) (Levels.stays 1 [] 0 [] begun refl) in
-    let q = record begun { place = next_line begun.place; key = None } in
+    let q = record begun { position = next_line begun.position; key = None } in
     let goes = ends_here 0 [] begun refl 0 [] q (Levels.stays 0 [] 0 [] q refl) in
     let final = finished 0 [] q in
     (final.held.tokens, record { end = final; run = there refl (begins []) (there refl (comes ∙ rw goes (not_stale_at_end 0 [] q refl)) here); ended = refl; tokens = refl }, refl)

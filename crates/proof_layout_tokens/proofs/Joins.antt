@@ -31,7 +31,7 @@ fetched from x c i is b want s u w e f = reaches_then w.run (there w.going (w.fe
 
 -- in front of the next token of a line, or of a line below
 pub before_white : (from : ScannerState) (g : List White) (y : List ℕ) (i : ℕ) (is : List Indent) (q : Parts) (want : List Tok → List Tok) → Reaches from (stands (spell_white g y) i is q) → AreWhite g y → q.key ≡ None
-    → i ≤ (beyond g q.place).col + 1 → last_property q.tokens ≡ None → Tells q.tokens want → Before from y ((beyond g q.place).col) i is (allowed_beyond g q.allowed) want
+    → i ≤ (beyond g q.position).col + 1 → last_property q.tokens ≡ None → Tells q.tokens want → Before from y ((beyond g q.position).col) i is (allowed_beyond g q.allowed) want
 before_white from g y i is q want run white free deep no_property told =
     let p = passed g q in
     record {
@@ -39,7 +39,7 @@ before_white from g y i is q want run white free deep no_property told =
       run = run;
       going = refl;
       parts = p;
-      fetches = Levels.arrives (spell_white g y) y i i is is q p p p (next_token i is g y q white) (Levels.not_stale y i is p free) (Levels.stays (p.place.col + 1) y i is p (le-ltb (p.place.col + 1) i deep));
+      fetches = Levels.arrives (spell_white g y) y i i is is q p p p (next_token i is g y q white) (Levels.not_stale y i is p free) (Levels.stays (p.position.col + 1) y i is p (le-ltb (p.position.col + 1) i deep));
       column = refl;
       free = free;
       allows = refl;
@@ -92,7 +92,7 @@ gap_line (comment_line text ∷ g) d p = let h = gap_line g d (past_break (along
 -- a key, if there is one, that began on a line or before it
 abbrev pub Lies : Option Key → ℕ → Type 0
 Lies None line = Unit {0}
-Lies (Some k) line = k.place.line ≤ line
+Lies (Some k) line = k.position.line ≤ line
 
 -- where a next line comes, a key may begin there
 abbrev pub Allows : Trail → Bool → Type 0
@@ -103,21 +103,21 @@ Allows (end g) b = Unit {0}
 pub old : (k : Option Key) (line : ℕ) (p : Position) → is_required k ≡ false → Lies k line → line < p.line → IsOld k p
 unfolding is_far
 old None line p loose lies later = record { loose = refl; gone = refl }
-old (Some k) line p loose lies later = let h : nat_lt k.place.line p.line ≡ true = lt-ltb k.place.line p.line (omega (arith, lies, later)) in record { loose = loose; gone = rw h refl }
+old (Some k) line p loose lies later = let h : nat_lt k.position.line p.line ≡ true = lt-ltb k.position.line p.line (omega (arith, lies, later)) in record { loose = loose; gone = rw h refl }
 
-settled : (t : Trail) (p : Parts) (e : Position) → p.place ≡ beyond (trail_white t) e → Allows t p.allowed → is_required p.key ≡ false → Lies p.key e.line → Settles t p
-settled (next g d r) p e place allows loose lies =
+settled : (t : Trail) (p : Parts) (e : Position) → p.position ≡ beyond (trail_white t) e → Allows t p.allowed → is_required p.key ≡ false → Lies p.key e.line → Settles t p
+settled (next g d r) p e position allows loose lies =
     let later = gap_line g d (past_break e) in
-    let same : p.place.line ≡ (beyond (gap_white g (blanks d)) (past_break e)).line = ap (λ x. x.line) place in
-    (ap (λ x. x.col) place ∙ gap_col g d (past_break e) refl, allows, old p.key e.line p.place loose lies (omega (arith, later, same)))
-settled (marker g r) p e place allows loose lies = (ap (λ x. x.col) place ∙ gap_col g 0 (past_break e) refl, loose)
-settled (end g) p e place allows loose lies = loose
+    let same : p.position.line ≡ (beyond (gap_white g (blanks d)) (past_break e)).line = ap (λ x. x.line) position in
+    (ap (λ x. x.col) position ∙ gap_col g d (past_break e) refl, allows, old p.key e.line p.position loose lies (omega (arith, later, same)))
+settled (marker g r) p e position allows loose lies = (ap (λ x. x.col) position ∙ gap_col g 0 (past_break e) refl, loose)
+settled (end g) p e position allows loose lies = loose
 
 -- The scanner is after a leaf that ends at e, or within the white space after it.
 pub leaf_after : (t : Trail) (from : ScannerState) (g : List White) (i : ℕ) (is : List Indent) (q : Parts) (e : Position) (want : List Tok → List Tok) → Reaches from (stands (spell_white g (rest_of t)) i is q) → AreWhite g (rest_of t)
-    → beyond g q.place ≡ beyond (trail_white t) e → Allows t (allowed_beyond g q.allowed) → is_required q.key ≡ false → Lies q.key e.line → last_property q.tokens ≡ None → Tells q.tokens want
+    → beyond g q.position ≡ beyond (trail_white t) e → Allows t (allowed_beyond g q.allowed) → is_required q.key ≡ false → Lies q.key e.line → last_property q.tokens ≡ None → Tells q.tokens want
     → After from t i is want
-leaf_after t from g i is q e want run white place allows loose lies no_property told = record {
+leaf_after t from g i is q e want run white position allows loose lies no_property told = record {
   text = spell_white g (rest_of t);
   first = q;
   indent = i;
@@ -125,7 +125,7 @@ leaf_after t from g i is q e want run white place allows loose lies no_property 
   parts = passed g q;
   run = run;
   skips = next_token i is g (rest_of t) q white;
-  settles = settled t (passed g q) e place allows loose lies;
+  settles = settled t (passed g q) e position allows loose lies;
   same = refl;
   no_property = no_property;
   told = λ o. told (ends (limit_of t) i is o);
@@ -135,39 +135,39 @@ leaf_after t from g i is q e want run white place allows loose lies no_property 
 pub record Saved (x : List ℕ) (i : ℕ) (is : List Indent) (p : Parts) : Type 0 where
   pub key : Option Key
   pub loose : is_required key ≡ false
-  pub lies : Lies key p.place.line
+  pub lies : Lies key p.position.line
   pub now : save_implicit_key ((stands x i is p).held) ≡ (stands x i is (record p { key = key })).held
 
--- a key that need not come to its `:`, and began on the line of the place or before it
+-- a key that need not come to its `:`, and began on the line of the position or before it
 abbrev pub IsLoose : Parts → Type 0
-IsLoose p = (is_required p.key ≡ false) × Lies p.key p.place.line
+IsLoose p = (is_required p.key ≡ false) × Lies p.key p.position.line
 
 pub free_loose : (p : Parts) → p.key ≡ None → IsLoose p
 free_loose p free = by p.key free
   where
-    by : (k : Option Key) → k ≡ None → (is_required k ≡ false) × Lies k p.place.line
+    by : (k : Option Key) → k ≡ None → (is_required k ≡ false) × Lies k p.position.line
     by None e = (refl, tt)
     by (Some k) e = cc
 
-pub not_key : (x : List ℕ) (b : Bool) (i : ℕ) (is : List Indent) (p : Parts) → i ≤ p.place.col → must_be_key ((stands x (opened_indent b i) (opened b i is) p).held) ≡ false
+pub not_key : (x : List ℕ) (b : Bool) (i : ℕ) (is : List Indent) (p : Parts) → i ≤ p.position.col → must_be_key ((stands x (opened_indent b i) (opened b i is) p).held) ≡ false
 unfolding must_be_key
-not_key x true i is p h = and_false (i + 1 == p.place.col + 1)
-not_key x false i is p h = rw (ne_eqb i (p.place.col + 1) (λ e. omega arith)) refl
+not_key x true i is p h = and_false (i + 1 == p.position.col + 1)
+not_key x false i is p h = rw (ne_eqb i (p.position.col + 1) (λ e. omega arith)) refl
 
-saved_by : (x : List ℕ) (b a : Bool) (i : ℕ) (is : List Indent) (p : Parts) → p.allowed ≡ a → i ≤ p.place.col → IsLoose p → Saved x (opened_indent b i) (opened b i is) p
+saved_by : (x : List ℕ) (b a : Bool) (i : ℕ) (is : List Indent) (p : Parts) → p.allowed ≡ a → i ≤ p.position.col → IsLoose p → Saved x (opened_indent b i) (opened b i is) p
 unfolding save_implicit_key
 saved_by x b true i is p e h loose = record {
-  key = Some (record { required = false; number = length p.tokens; place = p.place });
+  key = Some (record { required = false; number = length p.tokens; position = p.position });
   loose = refl;
   lies = omega arith;
   now = rw (not_key x b i is p h, e) refl;
 }
 saved_by x b false i is p e h loose = record { key = p.key; loose = loose.0; lies = loose.1; now = rw e refl }
 
-pub saved_after : (x : List ℕ) (b : Bool) (i : ℕ) (is : List Indent) (p : Parts) → i ≤ p.place.col → IsLoose p → Saved x (opened_indent b i) (opened b i is) p
+pub saved_after : (x : List ℕ) (b : Bool) (i : ℕ) (is : List Indent) (p : Parts) → i ≤ p.position.col → IsLoose p → Saved x (opened_indent b i) (opened b i is) p
 saved_after x b i is p h loose = saved_by x b p.allowed i is p refl h loose
 
-pub saved : (x : List ℕ) (b : Bool) (i : ℕ) (is : List Indent) (p : Parts) → i ≤ p.place.col → p.key ≡ None → Saved x (opened_indent b i) (opened b i is) p
+pub saved : (x : List ℕ) (b : Bool) (i : ℕ) (is : List Indent) (p : Parts) → i ≤ p.position.col → p.key ≡ None → Saved x (opened_indent b i) (opened b i is) p
 saved x b i is p h free = saved_after x b i is p h (free_loose p free)
 
 -- The next fetch finds a text here, on a column; a key that began on its line may be open.
@@ -177,7 +177,7 @@ pub record Ahead (from : ScannerState) (x : List ℕ) (c : ℕ) (i : ℕ) (is : 
   pub going : state.held.ended ≡ false
   pub parts : Parts
   pub fetches : fetch state ≡ (fetch_here (stands x i is parts) >>= try_held stale)
-  pub column : parts.place.col ≡ c
+  pub column : parts.position.col ≡ c
   pub loose : IsLoose parts
   pub told : Tells parts.tokens want
 
@@ -228,9 +228,9 @@ next_levels : (from : ScannerState) (g : List GapLine) (c i : ℕ) (is : List In
 next_levels from g c i is r want u = u.same ∙ rw (le-ltb (c + 1) (c + 1) (omega arith)) refl
 
 pub unrolls_to : (limit : ℕ) (x : List ℕ) (j : ℕ) (js : List Indent) (p : Parts) (i : ℕ) (is : List Indent) → left limit j js ≡ record { indent = i; indents = is }
-    → unroll_indent limit (stands x j js p).held ≡ (stands x i is (record p { tokens = (Levels.unroll limit p.place j js p.tokens).tokens })).held
+    → unroll_indent limit (stands x j js p).held ≡ (stands x i is (record p { tokens = (Levels.unroll limit p.position j js p.tokens).tokens })).held
 unrolls_to limit x j js p i is e =
-    Levels.unrolls limit x j js p ∙ ap (λ l. (stands x l.indent l.indents (record p { tokens = (Levels.unroll limit p.place j js p.tokens).tokens })).held) e
+    Levels.unrolls limit x j js p ∙ ap (λ l. (stands x l.indent l.indents (record p { tokens = (Levels.unroll limit p.position j js p.tokens).tokens })).held) e
 
 no_ends : (c i : ℕ) (is : List Indent) (o : List Tok) → ends (c + 1) (c + 1) (level i true ∷ is) o ≡ o
 no_ends c i is o = rw (le-ltb (c + 1) (c + 1) (omega arith)) refl
@@ -239,11 +239,11 @@ pub before_next : (from : ScannerState) (g : List GapLine) (c i : ℕ) (is : Lis
     → Before from r c (c + 1) (level i true ∷ is) true want
 before_next from g c i is r want u =
     let h = next_levels from g c i is r want u in
-    let column : u.parts.place.col ≡ c = u.settles.0 in
+    let column : u.parts.position.col ≡ c = u.settles.0 in
     let q = record (u.parts) { key = None } in
-    let z = Levels.unroll (c + 1) u.parts.place u.indent u.indents u.parts.tokens in
+    let z = Levels.unroll (c + 1) u.parts.position u.indent u.indents u.parts.tokens in
     let p = record q { tokens = z.tokens } in
-    let unrolls : unroll_indent (u.parts.place.col + 1) (stands r u.indent u.indents q).held ≡ (stands r (c + 1) (level i true ∷ is) p).held = ap (λ n. unroll_indent (n + 1) (stands r u.indent u.indents q).held) column ∙ unrolls_to (c + 1) r u.indent u.indents q (c + 1) (level i true ∷ is) h in
+    let unrolls : unroll_indent (u.parts.position.col + 1) (stands r u.indent u.indents q).held ≡ (stands r (c + 1) (level i true ∷ is) p).held = ap (λ n. unroll_indent (n + 1) (stands r u.indent u.indents q).held) column ∙ unrolls_to (c + 1) r u.indent u.indents q (c + 1) (level i true ∷ is) h in
     let old = u.settles.2 in
     let stale = Levels.aged r u.indent u.indents u.parts old.loose ∙ ap (λ k. Ok (stands r u.indent u.indents (record (u.parts) { key = k }))) old.gone in
     record {
@@ -261,16 +261,16 @@ before_next from g c i is r want u =
 
 -- The first entry of an array at the column of the key that it is the value of: the level after the key's `:` ends.
 pub before_entry : (from : ScannerState) (g : List White) (c i : ℕ) (is : List Indent) (y : List ℕ) (q : Parts) (want : List Tok → List Tok) → Reaches from (stands (spell_white g y) (c + 1 + 1) (level (c + 1) false ∷ level i true ∷ is) q) → AreWhite g y
-    → q.key ≡ None → (beyond g q.place).col ≡ c → allowed_beyond g q.allowed ≡ true → last_property q.tokens ≡ None → Tells q.tokens want → Before from y c (c + 1) (level i true ∷ is) true want
+    → q.key ≡ None → (beyond g q.position).col ≡ c → allowed_beyond g q.allowed ≡ true → last_property q.tokens ≡ None → Tells q.tokens want → Before from y c (c + 1) (level i true ∷ is) true want
 before_entry from g c i is y q want run white free column allows no_property told =
     let js = level i true ∷ is in
     let ks = level (c + 1) false ∷ js in
     let p = passed g q in
     let h : left (c + 1) (c + 1 + 1) ks ≡ record { indent = c + 1; indents = js } = rw (lt-ltb (c + 1) (c + 1 + 1) (omega arith), le-ltb (c + 1) (c + 1) (omega arith)) refl in
     let none : (o : List Tok) → ends (c + 1) (c + 1 + 1) ks o ≡ o = λ o. rw (lt-ltb (c + 1) (c + 1 + 1) (omega arith), le-ltb (c + 1) (c + 1) (omega arith)) refl in
-    let z = Levels.unroll (c + 1) p.place (c + 1 + 1) ks p.tokens in
+    let z = Levels.unroll (c + 1) p.position (c + 1 + 1) ks p.tokens in
     let r = record p { tokens = z.tokens } in
-    let unrolls : unroll_indent (p.place.col + 1) (stands y (c + 1 + 1) ks p).held ≡ (stands y (c + 1) js r).held = ap (λ n. unroll_indent (n + 1) (stands y (c + 1 + 1) ks p).held) column ∙ unrolls_to (c + 1) y (c + 1 + 1) ks p (c + 1) js h in
+    let unrolls : unroll_indent (p.position.col + 1) (stands y (c + 1 + 1) ks p).held ≡ (stands y (c + 1) js r).held = ap (λ n. unroll_indent (n + 1) (stands y (c + 1 + 1) ks p).held) column ∙ unrolls_to (c + 1) y (c + 1 + 1) ks p (c + 1) js h in
     record {
       state = stands (spell_white g y) (c + 1 + 1) ks q;
       run = run;

@@ -8,7 +8,7 @@ use Rattle.yaml_chars.specs.Class.{is_break, is_blank}
 use Rattle.defs_token.specs.Token.{Tok, Style, Token}
 use Rattle.defs_layout.specs.Gap.{GapLine, IsGap}
 use Rattle.defs_layout.specs.Layout.{Comment, no_comment, comment, IsComment}
-use Rattle.proof_layout_tokens.proofs.Comments.{spaced, comment_white, comment_place, comment_are_white, beyond_comment, allowed_comment}
+use Rattle.proof_layout_tokens.proofs.Comments.{spaced, comment_white, comment_position, comment_are_white, beyond_comment, allowed_comment}
 use Rattle.model_lexers.specs.declared.context.SkipTabs.TheVariants.{Yes}
 use Rattle.model_lexers.specs.Machine.{past, past_break}
 use Rattle.model_lexers.specs.Plain.{plain}
@@ -62,26 +62,26 @@ record Keyed (from : ScannerState) (x : List ℕ) (s : Stand) (c i : ℕ) (is : 
   at : Position
   run : Reaches from (stands x (indent_at s c i) (indents_at s i is) parts)
   has : parts.key ≡ Some key
-  column : key.place.col ≡ c
+  column : key.position.col ≡ c
   number : key.number ≡ length ts
-  near : is_far key.place parts.place ≡ false
-  off : c + 1 ≤ parts.place.col
+  near : is_far key.position parts.position ≡ false
+  off : c + 1 ≤ parts.position.col
   tokens : parts.tokens ≡ ts ++ token at tok ∷ []
 
-value_at : (w : Way) (y : List ℕ) (s : Stand) (c i : ℕ) (is : List Indent) (p : Parts) (k : Key) → p.key ≡ Some k → k.place.col ≡ c → i ≤ c → IsClosed i is
+value_at : (w : Way) (y : List ℕ) (s : Stand) (c i : ℕ) (is : List Indent) (p : Parts) (k : Key) → p.key ≡ Some k → k.position.col ≡ c → i ≤ c → IsClosed i is
     → fetch_value (stands (58 ∷ spell_white (way_white w) y) (indent_at s c i) (indents_at s i is) p)
     ≡ Ok (stands (spell_white (way_white w) y) (c + 1 + 1) (level (c + 1) false ∷ level i true ∷ is)
-    (marked (past p.place) (started s (Some k.number) (token p.place Tok.block_mapping_start) (insert p.tokens k.number (token k.place Tok.key)) ++ token p.place Tok.value ∷ []) false false p.adjacent))
+    (marked (past p.position) (started s (Some k.number) (token p.position Tok.block_mapping_start) (insert p.tokens k.number (token k.position Tok.key)) ++ token p.position Tok.value ∷ []) false false p.adjacent))
 unfolding fetch_value insert_key begin_pair
 value_at w y s c i is p k has col low shut =
     let x = spell_white (way_white w) y in
-    let q = record p { place = past p.place; leading = false } in
-    let u = record q { key = Some k; tokens = insert p.tokens k.number (token k.place Tok.key) } in
+    let q = record p { position = past p.position; leading = false } in
+    let u = record q { key = Some k; tokens = insert p.tokens k.number (token k.position Tok.key) } in
     rw (
       value_space w y (indent_at s c i) (indents_at s i is) q,
       has,
-      rolled_at x s c i is u (Some k.number) Tok.block_mapping_start p.place k.place.col col low shut,
-      opens x i is (c + 1) (record u { tokens = started s (Some k.number) (token p.place Tok.block_mapping_start) u.tokens }),
+      rolled_at x s c i is u (Some k.number) Tok.block_mapping_start p.position k.position.col col low shut,
+      opens x i is (c + 1) (record u { tokens = started s (Some k.number) (token p.position Tok.block_mapping_start) u.tokens }),
     ) refl
 
 stand_deep : (s : Stand) (c i col : ℕ) → i ≤ c → c + 1 ≤ col → indent_at s c i ≤ col + 1
@@ -104,7 +104,7 @@ pub record Taken (from : ScannerState) (x : List ℕ) (c i : ℕ) (is : List Ind
   pub colon : Position
   pub off : c + 1 ≤ colon.col
   pub parts : Parts
-  pub after : parts.place ≡ past colon
+  pub after : parts.position ≡ past colon
   pub run : Reaches from (stands x (c + 1 + 1) (level (c + 1) false ∷ level i true ∷ is) parts)
   pub free : parts.key ≡ None
   pub allows : parts.allowed ≡ false
@@ -128,7 +128,7 @@ pub at_entry : (from : ScannerState) (k : Comment) (g : List GapLine) (y : List 
 at_entry from k g y c i is want line gap solid z =
     let w = line_feed ∷ gap_white g (blanks c) in
     before_entry from (comment_white k w) c i is y z.parts want z.run (comment_are_white k w y line tt (gap_are_white g (blanks c) y gap (blanks_white c y solid))) z.free
-    (ap (λ p. p.col) (beyond_comment k w z.parts.place) ∙ gap_col g c (past_break (comment_place k z.parts.place)) refl) (allowed_comment k w z.parts.allowed ∙ gap_allows g c) z.no_property z.told
+    (ap (λ p. p.col) (beyond_comment k w z.parts.position) ∙ gap_col g c (past_break (comment_position k z.parts.position)) refl) (allowed_comment k w z.parts.allowed ∙ gap_allows g c) z.no_property z.told
 
 -- the `:` after a key
 colon_after : (from : ScannerState) (w : Way) (y : List ℕ) (s : Stand) (c i : ℕ) (is : List Indent) (tok : Tok) (ts : List Token) (want : List Tok → List Tok) → i ≤ c → IsClosed i is → Tells ts want
@@ -143,26 +143,26 @@ colon_after from w y s c i is tok ts want low shut told z =
     let j = indent_at s c i in
     let js = indents_at s i is in
     let inner = level (c + 1) false ∷ level i true ∷ is in
-    let deep = stand_deep s c i p.place.col low off in
-    let us = started s (Some k.number) (token p.place Tok.block_mapping_start) (insert p.tokens k.number (token k.place Tok.key)) in
-    let r = marked (past p.place) (us ++ token p.place Tok.value ∷ []) false false p.adjacent in
-    let comes = Levels.arrives x x j j js js p p p p (next_token j js [] x p refl) (Levels.near x j js p k z.has z.near) (Levels.stays (p.place.col + 1) x j js p (le-ltb (p.place.col + 1) j deep)) in
+    let deep = stand_deep s c i p.position.col low off in
+    let us = started s (Some k.number) (token p.position Tok.block_mapping_start) (insert p.tokens k.number (token k.position Tok.key)) in
+    let r = marked (past p.position) (us ++ token p.position Tok.value ∷ []) false false p.adjacent in
+    let comes = Levels.arrives x x j j js js p p p p (next_token j js [] x p refl) (Levels.near x j js p k z.has z.near) (Levels.stays (p.position.col + 1) x j js p (le-ltb (p.position.col + 1) j deep)) in
     let takes = Levels.here 58 white j js p (opens_mark 58 w y refl refl) deep ∙ by_colon w y j js p ∙ value_at w y s c i is p k z.has z.column low shut in
     let run = reaches_then z.run (there refl (comes ∙ rw takes (Levels.not_stale white (c + 1 + 1) inner r refl)) here) in
-    let tokens : us ≡ (started s None (token p.place Tok.block_mapping_start) ts ++ token k.place Tok.key ∷ []) ++ token z.at tok ∷ [] =
-    ap (λ l. started s (Some k.number) (token p.place Tok.block_mapping_start) (insert l k.number (token k.place Tok.key))) z.tokens ∙ keyed_tokens s ts k.number (token p.place Tok.block_mapping_start) (token k.place Tok.key) (token z.at tok) z.number in
-    let tells : Tells ((started s None (token p.place Tok.block_mapping_start) ts ++ token k.place Tok.key ∷ []) ++ token z.at tok ∷ []) (λ o. want (starts s Tok.block_mapping_start (Tok.key ∷ tok ∷ o))) =
-    Levels.push_tells _ z.at tok _ (Levels.push_tells _ k.place Tok.key _ (started_tells s ts p.place Tok.block_mapping_start want told)) in
+    let tokens : us ≡ (started s None (token p.position Tok.block_mapping_start) ts ++ token k.position Tok.key ∷ []) ++ token z.at tok ∷ [] =
+    ap (λ l. started s (Some k.number) (token p.position Tok.block_mapping_start) (insert l k.number (token k.position Tok.key))) z.tokens ∙ keyed_tokens s ts k.number (token p.position Tok.block_mapping_start) (token k.position Tok.key) (token z.at tok) z.number in
+    let tells : Tells ((started s None (token p.position Tok.block_mapping_start) ts ++ token k.position Tok.key ∷ []) ++ token z.at tok ∷ []) (λ o. want (starts s Tok.block_mapping_start (Tok.key ∷ tok ∷ o))) =
+    Levels.push_tells _ z.at tok _ (Levels.push_tells _ k.position Tok.key _ (started_tells s ts p.position Tok.block_mapping_start want told)) in
     record {
-      colon = p.place;
+      colon = p.position;
       off = off;
       parts = r;
       after = refl;
       run = run;
       free = refl;
       allows = refl;
-      no_property = Levels.last_pushed us (token p.place Tok.value);
-      told = Levels.push_tells us p.place Tok.value (λ o. want (starts s Tok.block_mapping_start (Tok.key ∷ tok ∷ o))) (λ o. ap (λ l. toks l ++ o) tokens ∙ tells o);
+      no_property = Levels.last_pushed us (token p.position Tok.value);
+      told = Levels.push_tells us p.position Tok.value (λ o. want (starts s Tok.block_mapping_start (Tok.key ∷ tok ∷ o))) (λ o. ap (λ l. toks l ++ o) tokens ∙ tells o);
     }
 
 -- ---- the scalar
@@ -175,7 +175,7 @@ non_block_stand x (first b) c i is p h = non_block x b i is p h
 
 -- the key that the scalar is
 abbrev key_here : Bool → Parts → Key
-key_here required p = record { required = required; number = length p.tokens; place = p.place }
+key_here required p = record { required = required; number = length p.tokens; position = p.position }
 
 saves : (x : List ℕ) (i : ℕ) (is : List Indent) (p : Parts) → p.allowed ≡ true → save_implicit_key ((stands x i is p).held) ≡ (stands x i is (record p { key = Some (key_here (must_be_key ((stands x i is p).held)) p) })).held
 unfolding save_implicit_key
@@ -187,7 +187,7 @@ saves x i is p h = if_true p.allowed _ _ h
 
 -- what follows a key: its `:`, and a space or a line feed
 colon_key : (i : ℕ) (p : Position) (c : ℕ) (v : List ℕ) (w : Way) (y : List ℕ) → are_plain v ≡ true → closes false v ≡ true → is_first c ≡ true → i ≤ p.col + 1
-    → plain (outside i) (c ∷ (v ++ 58 ∷ spell_white (way_white w) y)) p ≡ Ok (record { rest = 58 ∷ spell_white (way_white w) y; place = along (c ∷ v) p; value = record { text = c ∷ v; leading = false } })
+    → plain (outside i) (c ∷ (v ++ 58 ∷ spell_white (way_white w) y)) p ≡ Ok (record { rest = 58 ∷ spell_white (way_white w) y; position = along (c ∷ v) p; value = record { text = c ∷ v; leading = false } })
 unfolding is_blank is_break
 colon_key i p c v (beside more) y chars close one deep = let solid = first_space c one in plain_key i p c v 32 (spell_white (blanks more) y) chars (rw solid close) deep solid refl
 colon_key i p c v (below no_comment g d) y chars close one deep = let solid = first_space c one in plain_key i p c v 10 (spell_white (gap_white g (blanks d)) y) chars (rw solid close) deep solid refl
@@ -200,9 +200,9 @@ drop_low (first b) c i col low e = omega (arith, e, low)
 
 -- after a plain key
 abbrev plain_parts : Parts → Key → (w : List ℕ) → Parts
-plain_parts p k w = record { place = along w p.place; tokens = p.tokens ++ token p.place (Tok.scalar Style.plain w) ∷ []; key = Some k; allowed = false; leading = false; adjacent = p.adjacent }
+plain_parts p k w = record { position = along w p.position; tokens = p.tokens ++ token p.position (Tok.scalar Style.plain w) ∷ []; key = Some k; allowed = false; leading = false; adjacent = p.adjacent }
 
-plain_at : (c0 : ℕ) (v : List ℕ) (w : Way) (y : List ℕ) (s : Stand) (c i : ℕ) (is : List Indent) (p : Parts) (k : Key) → are_plain v ≡ true → closes false v ≡ true → is_first c0 ≡ true → p.place.col ≡ c → i ≤ c → IsClosed i is
+plain_at : (c0 : ℕ) (v : List ℕ) (w : Way) (y : List ℕ) (s : Stand) (c i : ℕ) (is : List Indent) (p : Parts) (k : Key) → are_plain v ≡ true → closes false v ≡ true → is_first c0 ≡ true → p.position.col ≡ c → i ≤ c → IsClosed i is
     → save_implicit_key ((stands (c0 ∷ (v ++ 58 ∷ spell_white (way_white w) y)) (indent_at s c i) (indents_at s i is) p).held) ≡ (stands (c0 ∷ (v ++ 58 ∷ spell_white (way_white w) y)) (indent_at s c i) (indents_at s i is) (record p { key = Some k })).held
     → fetch_plain_scalar (stands (c0 ∷ (v ++ 58 ∷ spell_white (way_white w) y)) (indent_at s c i) (indents_at s i is) p)
     ≡ Ok (stands (58 ∷ spell_white (way_white w) y) (indent_at (drop_stand s) c i) (indents_at (drop_stand s) i is) (plain_parts p k (c0 ∷ v)))
@@ -211,7 +211,7 @@ plain_at c0 v w y s c i is p k chars close one col low shut save =
     rw (
       save,
       non_block_stand (c0 ∷ (v ++ 58 ∷ spell_white (way_white w) y)) s c i is (record p { key = Some k; allowed = false }) shut,
-      colon_key (indent_at (drop_stand s) c i) p.place c0 v w y chars close one (drop_low s c i p.place.col low col),
+      colon_key (indent_at (drop_stand s) c i) p.position c0 v w y chars close one (drop_low s c i p.position.col low col),
     ) refl
 
 -- a plain scalar and its `:`
@@ -227,14 +227,14 @@ plain_keyed from c0 v w y s c i is want chars close one second short low shut u 
     let js = indents_at s i is in
     let k = key_here (must_be_key ((stands x j js p).held)) p in
     let q = plain_parts p k (c0 ∷ v) in
-    let near = not_far (c0 ∷ v) p.place short in
+    let near = not_far (c0 ∷ v) p.position short in
     let takes = arrived from c0 (v ++ a) s c i is want low u (plain_opens c0 v a one second at_colon) ∙ plain_by (stands x j js p) c0 v a refl one second chars ∙ plain_at c0 v w y s c i is p k chars close one u.column low shut (saves x j js p u.allows) in
-    let more = along_more v (past p.place) in
+    let more = along_more v (past p.position) in
     let column = u.column in
     record {
       parts = q;
       key = k;
-      at = p.place;
+      at = p.position;
       run = fetched from x c j js true want _ _ u takes (Levels.near a (indent_at (drop_stand s) c i) (indents_at (drop_stand s) i is) q k refl near);
       has = refl;
       column = u.column;
@@ -268,24 +268,24 @@ colon_follows flow same_line e f = rw (e, f) refl
 -- after a key in quotes
 abbrev quoted_parts : Bool → Parts → Key → (body w : List ℕ) → Parts
 quoted_parts single p k body w =
-    record { place = along (quote_of single ∷ body) p.place; tokens = p.tokens ++ token p.place (Tok.scalar (quoted_style single) w) ∷ []; key = Some k; allowed = false; leading = false; adjacent = (along (quote_of single ∷ body) p.place).index }
+    record { position = along (quote_of single ∷ body) p.position; tokens = p.tokens ++ token p.position (Tok.scalar (quoted_style single) w) ∷ []; key = Some k; allowed = false; leading = false; adjacent = (along (quote_of single ∷ body) p.position).index }
 
 module _ (single : Bool) (body text : List ℕ) (is_quoted : IsQuoted single body text) where
   abbrev whole : List ℕ
   whole = quote_of single ∷ body
 
-  quoted_at : (a : List ℕ) (s : Stand) (c i : ℕ) (is : List Indent) (p : Parts) (k : Key) → p.place.col ≡ c → i ≤ c
+  quoted_at : (a : List ℕ) (s : Stand) (c i : ℕ) (is : List Indent) (p : Parts) (k : Key) → p.position.col ≡ c → i ≤ c
       → save_implicit_key ((stands (whole ++ 58 ∷ a) (indent_at s c i) (indents_at s i is) p).held) ≡ (stands (whole ++ 58 ∷ a) (indent_at s c i) (indents_at s i is) (record p { key = Some k })).held
       → fetch_flow_scalar single (stands (whole ++ 58 ∷ a) (indent_at s c i) (indents_at s i is) p) ≡ Ok (stands (58 ∷ a) (indent_at s c i) (indents_at s i is) (quoted_parts single p k body text))
   unfolding fetch_flow_scalar check_after_quoted
   quoted_at a s c i is p k col low save =
-      let at = along whole p.place in
-      let q : Parts = record p { key = Some k; allowed = false; place = at; leading = false } in
+      let at = along whole p.position in
+      let q : Parts = record p { key = Some k; allowed = false; position = at; leading = false } in
       rw (
         save,
-        is_quoted.reads (indent_at s c i) (58 ∷ a) p.place (stand_low s c i p.place.col low col) refl,
+        is_quoted.reads (indent_at s c i) (58 ∷ a) p.position (stand_low s c i p.position.col low col) refl,
         solid_spaces Yes (58 ∷ a) (indent_at s c i) (indents_at s i is) q refl,
-        colon_follows false (p.place.line == at.line) (eq-eqb p.place.line at.line (sym (along_line whole p.place))) refl,
+        colon_follows false (p.position.line == at.line) (eq-eqb p.position.line at.line (sym (along_line whole p.position))) refl,
         next_token (indent_at s c i) (indents_at s i is) [] (58 ∷ a) q refl,
       ) refl
 
@@ -298,14 +298,14 @@ module _ (single : Bool) (body text : List ℕ) (is_quoted : IsQuoted single bod
       let js = indents_at s i is in
       let k = key_here (must_be_key ((stands x j js p).held)) p in
       let q = quoted_parts single p k body text in
-      let near = not_far whole p.place short in
+      let near = not_far whole p.position short in
       let takes = arrived from (quote_of single) (body ++ 58 ∷ a) s c i is want low u (quote_opens single (body ++ 58 ∷ a)) ∙ by_quote single (stands x j js p) ∙ quoted_at a s c i is p k u.column low (saves x j js p u.allows) in
-      let more = along_more body (past p.place) in
+      let more = along_more body (past p.position) in
       let column = u.column in
       record {
         parts = q;
         key = k;
-        at = p.place;
+        at = p.position;
         run = fetched from x c j js true want _ _ u takes (Levels.near (58 ∷ a) j js q k refl near);
         has = refl;
         column = u.column;

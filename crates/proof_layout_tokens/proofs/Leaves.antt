@@ -20,7 +20,7 @@ use Rattle.model_scanner.specs.Fetch.{fetch_here, token_by, comes_marker}
 use Rattle.proof_layout_tokens.proofs.Layouts.States.{Parts, stands, is_solid, Opens, opened, opened_indent, IsClosed, Trail, next, marker, end, marker_text, trail_text, rest_of, limit_of, IsTrail, Before, After}
 use Rattle.defs_layout.specs.Gap.{IsLineText}
 use Rattle.defs_layout.specs.Layout.{Comment, no_comment, comment, spell_comment, IsComment}
-use Rattle.proof_layout_tokens.proofs.Comments.{comment_white, comment_place, comment_is, beyond_comment, comment_line, comment_passes}
+use Rattle.proof_layout_tokens.proofs.Comments.{comment_white, comment_position, comment_is, beyond_comment, comment_line, comment_passes}
 use Rattle.proof_layout_tokens.proofs.Whites.{White, line_feed, remark, spell_white, beyond, allowed_beyond, AreWhite, next_token, gap_white, blanks, gap_allows, stays_allowed, line_white, ending_white, leading_beyond}
 use Rattle.proof_lexers.specs.HeaderEnds.{along}
 use Rattle.proof_lexers.proofs.Along.{along_line}
@@ -43,7 +43,7 @@ non_block x false i (d ∷ ds) p h = rw h refl
 
 pub still_lies : (p : Position) (k : Option Key) (line : ℕ) → Lies k line → Lies (still p k) line
 still_lies p None line h = tt
-still_lies p (Some k) line h = by (is_far k.place p)
+still_lies p (Some k) line h = by (is_far k.position p)
   where
     by : (b : Bool) → Lies (if b then None else Some k) line
     by true = tt
@@ -65,7 +65,7 @@ is_left (end g) i start w p low is e at = tt
 
 -- after a plain scalar
 abbrev plain_parts : Parts → (c : ℕ) → (w : List ℕ) → Position → Option Key → Bool → Parts
-plain_parts p c w place key leading = record { place = place; tokens = p.tokens ++ token p.place (Tok.scalar Style.plain (c ∷ w)) ∷ []; key = key; allowed = leading; leading = leading; adjacent = p.adjacent }
+plain_parts p c w position key leading = record { position = position; tokens = p.tokens ++ token p.position (Tok.scalar Style.plain (c ∷ w)) ∷ []; key = key; allowed = leading; leading = leading; adjacent = p.adjacent }
 
 pub trail_allows : (t : Trail) → Allows t (allowed_beyond (trail_white t) false)
 trail_allows (next g d r) = gap_allows g d
@@ -78,28 +78,28 @@ leads (marker h r) g = tt
 leads (end h) g = tt
 
 record PlainAt (x : Result ScannerState Fault) (t : Trail) (c : ℕ) (w : List ℕ) (g : List White) (r : List ℕ) (i : ℕ) (is : List Indent) (p : Parts) : Type 0 where
-  place : Position
+  position : Position
   white : List White
   key : Option Key
   loose : is_required key ≡ false
-  lies : Lies key p.place.line
+  lies : Lies key p.position.line
   leading : Bool
-  same : beyond white place ≡ beyond g (along (c ∷ w) p.place)
+  same : beyond white position ≡ beyond g (along (c ∷ w) p.position)
   are : AreWhite white r
   allows : Allows t (allowed_beyond white leading)
-  now : x ≡ Ok (stands (spell_white white r) i is (plain_parts p c w place key leading))
+  now : x ≡ Ok (stands (spell_white white r) i is (plain_parts p c w position key leading))
 
-plain_line_at : (t : Trail) (c : ℕ) (w : List ℕ) (g : List White) (r : List ℕ) (b : Bool) (i : ℕ) (is : List Indent) (p : Parts) → are_plain w ≡ true → closes (c == 32) w ≡ true → (c == 32) ≡ false → i ≤ p.place.col → IsClosed i is → IsLoose p
-    → AreWhite g r → IsLeft i p.place r (beyond g (past_break (along (c ∷ w) p.place))).col
+plain_line_at : (t : Trail) (c : ℕ) (w : List ℕ) (g : List White) (r : List ℕ) (b : Bool) (i : ℕ) (is : List Indent) (p : Parts) → are_plain w ≡ true → closes (c == 32) w ≡ true → (c == 32) ≡ false → i ≤ p.position.col → IsClosed i is → IsLoose p
+    → AreWhite g r → IsLeft i p.position r (beyond g (past_break (along (c ∷ w) p.position))).col
     → PlainAt (fetch_plain_scalar (stands (c ∷ (w ++ 10 ∷ spell_white g r)) (opened_indent b i) (opened b i is) p)) t c w (line_feed ∷ g) r i is p
 unfolding fetch_plain_scalar
 plain_line_at t c w g r b i is p chars close solid deep shut free are low =
     let x = c ∷ (w ++ 10 ∷ spell_white g r) in
     let k = saved_after x b i is p deep free in
     let q = record p { key = k.key; allowed = false } in
-    let z = plain_line i p.place c w g r chars close (omega (arith, deep)) solid are low in
+    let z = plain_line i p.position c w g r chars close (omega (arith, deep)) solid are low in
     record {
-      place = z.place;
+      position = z.position;
       white = z.white;
       key = k.key;
       loose = k.loose;
@@ -111,16 +111,16 @@ plain_line_at t c w g r b i is p chars close solid deep shut free are low =
       now = rw (k.now, non_block x b i is q shut, z.now) refl;
     }
 
-plain_end_at : (c : ℕ) (w : List ℕ) (b : Bool) (i : ℕ) (is : List Indent) (p : Parts) → are_plain w ≡ true → closes (c == 32) w ≡ true → (c == 32) ≡ false → i ≤ p.place.col → IsClosed i is → IsLoose p
+plain_end_at : (c : ℕ) (w : List ℕ) (b : Bool) (i : ℕ) (is : List Indent) (p : Parts) → are_plain w ≡ true → closes (c == 32) w ≡ true → (c == 32) ≡ false → i ≤ p.position.col → IsClosed i is → IsLoose p
     → PlainAt (fetch_plain_scalar (stands (c ∷ (w ++ [])) (opened_indent b i) (opened b i is) p)) (end []) c w [] [] i is p
 unfolding fetch_plain_scalar
 plain_end_at c w b i is p chars close solid deep shut free =
     let x = c ∷ (w ++ []) in
     let k = saved_after x b i is p deep free in
     let q = record p { key = k.key; allowed = false } in
-    let z = plain_end i p.place c w chars close (omega (arith, deep)) solid in
+    let z = plain_end i p.position c w chars close (omega (arith, deep)) solid in
     record {
-      place = along (c ∷ w) p.place;
+      position = along (c ∷ w) p.position;
       white = [];
       key = k.key;
       loose = k.loose;
@@ -132,7 +132,7 @@ plain_end_at c w b i is p chars close solid deep shut free =
       now = rw (k.now, non_block x b i is q shut, z) refl;
     }
 
-plain_comment_at : (t : Trail) (c : ℕ) (v : List ℕ) (more : ℕ) (text : List ℕ) (b : Bool) (i : ℕ) (is : List Indent) (p : Parts) → are_plain v ≡ true → closes (c == 32) v ≡ true → (c == 32) ≡ false → i ≤ p.place.col → IsClosed i is → IsLoose p
+plain_comment_at : (t : Trail) (c : ℕ) (v : List ℕ) (more : ℕ) (text : List ℕ) (b : Bool) (i : ℕ) (is : List Indent) (p : Parts) → are_plain v ≡ true → closes (c == 32) v ≡ true → (c == 32) ≡ false → i ≤ p.position.col → IsClosed i is → IsLoose p
     → AreWhite (remark text ∷ trail_white t) (rest_of t)
     → PlainAt (fetch_plain_scalar (stands (c ∷ (v ++ spell_white (comment_white (comment more text) (trail_white t)) (rest_of t))) (opened_indent b i) (opened b i is) p)) t c v (comment_white (comment more text) (trail_white t)) (rest_of t) i is p
 unfolding fetch_plain_scalar
@@ -142,15 +142,15 @@ plain_comment_at t c v more text b i is p chars close solid deep shut free are =
     let x = c ∷ (v ++ spell_white (comment_white (comment more text) w) r) in
     let k = saved_after x b i is p deep free in
     let q = record p { key = k.key; allowed = false } in
-    let z = plain_comment i p.place c v more text w r chars close (omega (arith, deep)) solid in
+    let z = plain_comment i p.position c v more text w r chars close (omega (arith, deep)) solid in
     record {
-      place = beyond (blanks more) (past (along (c ∷ v) p.place));
+      position = beyond (blanks more) (past (along (c ∷ v) p.position));
       white = remark text ∷ w;
       key = k.key;
       loose = k.loose;
       lies = k.lies;
       leading = false;
-      same = sym (beyond_comment (comment more text) w (along (c ∷ v) p.place));
+      same = sym (beyond_comment (comment more text) w (along (c ∷ v) p.position));
       are = are;
       allows = trail_allows t;
       now = rw (k.now, non_block x b i is q shut, z) refl;
@@ -159,7 +159,7 @@ plain_comment_at t c v more text b i is p chars close solid deep shut free are =
 -- the first character of a value decides
 pub value_ahead : (from : ScannerState) (c : ℕ) (a : List ℕ) (col : ℕ) (b : Bool) (i : ℕ) (is : List Indent) (want : List Tok → List Tok) → (u : Ahead from (c ∷ a) col (opened_indent b i) (opened b i is) want) → i ≤ col → Opens c a
     → fetch_here (stands (c ∷ a) (opened_indent b i) (opened b i is) u.parts) ≡ token_by (class_of c) (stands (c ∷ a) (opened_indent b i) (opened b i is) u.parts)
-value_ahead from c a col b i is want u deep o = let e = u.column in Levels.here c a (opened_indent b i) (opened b i is) u.parts o (low_enough b i u.parts.place.col (omega (arith, deep, e)))
+value_ahead from c a col b i is want u deep o = let e = u.column in Levels.here c a (opened_indent b i) (opened b i is) u.parts o (low_enough b i u.parts.position.col (omega (arith, deep, e)))
 
 pub value_by : (from : ScannerState) (c : ℕ) (a : List ℕ) (col : ℕ) (b : Bool) (i : ℕ) (is : List Indent) (allowed : Bool) (want : List Tok → List Tok) → (u : Before from (c ∷ a) col (opened_indent b i) (opened b i is) allowed want) → i ≤ col → Opens c a
     → fetch_here (stands (c ∷ a) (opened_indent b i) (opened b i is) u.parts) ≡ token_by (class_of c) (stands (c ∷ a) (opened_indent b i) (opened b i is) u.parts)
@@ -171,13 +171,13 @@ plain_done : (k : Comment) (t : Trail) (from : ScannerState) (c : ℕ) (w a : Li
     → After from t i is (λ o. want (Tok.scalar Style.plain (c ∷ w) ∷ o))
 plain_done k t from c w a col b i is want u deep opens by z =
     let p = u.parts in
-    let q = plain_parts p c w z.place z.key z.leading in
+    let q = plain_parts p c w z.position z.key z.leading in
     let x = spell_white z.white (rest_of t) in
     let run = fetched_ahead from (c ∷ (w ++ a)) col (opened_indent b i) (opened b i is) want _ _ u (value_ahead from c (w ++ a) col b i is want u deep opens ∙ by ∙ z.now) (Levels.aged x i is q z.loose) in
-    let at = comment_place k (along (c ∷ w) p.place) in
-    let lies : Lies (still z.place z.key) at.line = still_lies z.place z.key at.line (rw (comment_line k (along (c ∷ w) p.place), along_line (c ∷ w) p.place) z.lies) in
-    leaf_after t from z.white i is (record q { key = still z.place z.key }) at _ run z.are (z.same ∙ beyond_comment k (trail_white t) (along (c ∷ w) p.place)) z.allows
-    (Levels.still_loose z.place z.key z.loose) lies (Levels.last_pushed p.tokens (token p.place (Tok.scalar Style.plain (c ∷ w)))) (Levels.push_tells p.tokens p.place (Tok.scalar Style.plain (c ∷ w)) want u.told)
+    let at = comment_position k (along (c ∷ w) p.position) in
+    let lies : Lies (still z.position z.key) at.line = still_lies z.position z.key at.line (rw (comment_line k (along (c ∷ w) p.position), along_line (c ∷ w) p.position) z.lies) in
+    leaf_after t from z.white i is (record q { key = still z.position z.key }) at _ run z.are (z.same ∙ beyond_comment k (trail_white t) (along (c ∷ w) p.position)) z.allows
+    (Levels.still_loose z.position z.key z.loose) lies (Levels.last_pushed p.tokens (token p.position (Tok.scalar Style.plain (c ∷ w)))) (Levels.push_tells p.tokens p.position (Tok.scalar Style.plain (c ∷ w)) want u.told)
 
 plain_lines : (t : Trail) (g : List White) (from : ScannerState) (c : ℕ) (w : List ℕ) (col : ℕ) (b : Bool) (i : ℕ) (is : List Indent) (want : List Tok → List Tok) → trail_white t ≡ line_feed ∷ g → IsTrail t → limit_of t ≤ i
     → is_first c ≡ true → is_second c w ≡ true → are_plain w ≡ true → closes false w ≡ true → i ≤ col → IsClosed i is
@@ -188,8 +188,8 @@ plain_lines t g from c w col b i is want e trail low first second chars close de
     let a = 10 ∷ spell_white g (rest_of t) in
     let solid = first_space c first in
     let are : AreWhite g (rest_of t) = rw e at (trail_are_white t trail) in
-    let at = along (c ∷ w) p.place in
-    let left = is_left t i p.place g (beyond g (past_break at)) low e at (rw e refl) in
+    let at = along (c ∷ w) p.position in
+    let left = is_left t i p.position g (beyond g (past_break at)) low e at (rw e refl) in
     let z = plain_line_at t c w g (rest_of t) b i is p chars (rw solid close) solid (omega (arith, deep, column)) shut u.loose are left in
     plain_done no_comment t from c w a col b i is want u deep (plain_opens c w a first second at_break) (plain_by (stands (c ∷ (w ++ a)) (opened_indent b i) (opened b i is) p) c w a refl first second chars) (rw e z)
 
@@ -243,13 +243,13 @@ plain_after k t from w col b i is want line trail low text deep shut u =
 
 -- only spaces and a comment stand before a trail
 pub spaces_stop : (k : Comment) (t : Trail) (i : ℕ) (is : List Indent) (p : Parts) → IsComment k
-    → skip_spaces Yes (stands (spell_white (comment_white k (trail_white t)) (rest_of t)) i is p) ≡ Ok (stands (spell_white (trail_white t) (rest_of t)) i is (record p { place = comment_place k p.place }))
+    → skip_spaces Yes (stands (spell_white (comment_white k (trail_white t)) (rest_of t)) i is p) ≡ Ok (stands (spell_white (trail_white t) (rest_of t)) i is (record p { position = comment_position k p.position }))
 unfolding skip_spaces scalar_space.space
 spaces_stop no_comment (next g d r) i is p line = refl
 spaces_stop no_comment (marker g r) i is p line = refl
 spaces_stop no_comment (end []) i is p line = refl
 spaces_stop no_comment (end (l ∷ g)) i is p line = refl
-spaces_stop (comment more text) t i is p line = rw (comment_passes more text (spell_white (trail_white t) (rest_of t)) (trail_white t) (rest_of t) p.place line refl (trail_stops t)) refl
+spaces_stop (comment more text) t i is p line = rw (comment_passes more text (spell_white (trail_white t) (rest_of t)) (trail_white t) (rest_of t) p.position line refl (trail_stops t)) refl
 
 follows : (t : Trail) (same_line : Bool) → may_follow_quoted false same_line (peek (spell_white (trail_white t) (rest_of t))) ≡ true
 unfolding may_follow_quoted is_break
@@ -260,7 +260,7 @@ follows (end (l ∷ g)) same_line = refl
 
 -- after a text in quotes
 abbrev pub quoted_parts : Bool → Parts → (w : List ℕ) → Position → Option Key → Bool → Bool → Parts
-quoted_parts single p w place key allowed leading = record { place = place; tokens = p.tokens ++ token p.place (Tok.scalar (quoted_style single) w) ∷ []; key = key; allowed = allowed; leading = leading; adjacent = place.index }
+quoted_parts single p w position key allowed leading = record { position = position; tokens = p.tokens ++ token p.position (Tok.scalar (quoted_style single) w) ∷ []; key = key; allowed = allowed; leading = leading; adjacent = position.index }
 
 -- no quote stands after it
 no_quote : (k : Comment) (t : Trail) → (slice_index (spell_white (comment_white k (trail_white t)) (rest_of t)) 0 == 39) ≡ false
@@ -274,20 +274,20 @@ module _ (single : Bool) (body w : List ℕ) (is_quoted : IsQuoted single body w
   abbrev whole : List ℕ
   whole = quote_of single ∷ body
 
-  quoted_at : (n : Comment) (t : Trail) (b : Bool) (i : ℕ) (is : List Indent) (p : Parts) (k : Option Key) → IsComment n → IsTrail t → i ≤ p.place.col
+  quoted_at : (n : Comment) (t : Trail) (b : Bool) (i : ℕ) (is : List Indent) (p : Parts) (k : Option Key) → IsComment n → IsTrail t → i ≤ p.position.col
       → save_implicit_key ((stands (whole ++ spell_white (comment_white n (trail_white t)) (rest_of t)) (opened_indent b i) (opened b i is) p).held) ≡ (stands (whole ++ spell_white (comment_white n (trail_white t)) (rest_of t)) (opened_indent b i) (opened b i is) (record p { key = k })).held
       → fetch_flow_scalar single (stands (whole ++ spell_white (comment_white n (trail_white t)) (rest_of t)) (opened_indent b i) (opened b i is) p)
-      ≡ Ok (stands (rest_of t) (opened_indent b i) (opened b i is) (quoted_parts single p w (beyond (trail_white t) (comment_place n (along whole p.place))) k (allowed_beyond (trail_white t) false) (leading_beyond (trail_white t) false)))
+      ≡ Ok (stands (rest_of t) (opened_indent b i) (opened b i is) (quoted_parts single p w (beyond (trail_white t) (comment_position n (along whole p.position))) k (allowed_beyond (trail_white t) false) (leading_beyond (trail_white t) false)))
   unfolding fetch_flow_scalar check_after_quoted
   quoted_at n t b i is p k line trail deep saves =
-      let at = along whole p.place in
-      let q : Parts = record p { key = k; allowed = false; place = at; leading = false } in
+      let at = along whole p.position in
+      let q : Parts = record p { key = k; allowed = false; position = at; leading = false } in
       rw (
         saves,
-        is_quoted.reads (opened_indent b i) (spell_white (comment_white n (trail_white t)) (rest_of t)) p.place (low_enough b i p.place.col deep) (no_quote n t),
+        is_quoted.reads (opened_indent b i) (spell_white (comment_white n (trail_white t)) (rest_of t)) p.position (low_enough b i p.position.col deep) (no_quote n t),
         spaces_stop n t (opened_indent b i) (opened b i is) q line,
-        follows t (p.place.line == (comment_place n at).line),
-        next_token (opened_indent b i) (opened b i is) (trail_white t) (rest_of t) (record q { place = comment_place n at }) (trail_are_white t trail),
+        follows t (p.position.line == (comment_position n at).line),
+        next_token (opened_indent b i) (opened b i is) (trail_white t) (rest_of t) (record q { position = comment_position n at }) (trail_are_white t trail),
       ) refl
 
 rest_solid : (t : Trail) → IsTrail t → is_solid (rest_of t) ≡ true
@@ -315,15 +315,15 @@ quoted_after single body w is_quoted n t from col b i is want line trail low dee
     let u : Ahead from x col (opened_indent b i) (opened b i is) want = rw (after_is n t) at v in
     let p = u.parts in
     let column = u.column in
-    let inside : i ≤ p.place.col = omega (arith, deep, column) in
+    let inside : i ≤ p.position.col = omega (arith, deep, column) in
     let k = saved_after x b i is p inside u.loose in
-    let at = comment_place n (along (quote_of single ∷ body) p.place) in
+    let at = comment_position n (along (quote_of single ∷ body) p.position) in
     let q = quoted_parts single p w (beyond (trail_white t) at) k.key (allowed_beyond (trail_white t) false) (leading_beyond (trail_white t) false) in
     let e = value_ahead from (quote_of single) (body ++ white) col b i is want u deep (quote_opens single (body ++ white)) ∙ by_quote single (stands x (opened_indent b i) (opened b i is) p) ∙ quoted_at single body w is_quoted n t b i is p k.key line trail inside k.now in
     let after : ScannerState = stands (rest_of t) (opened_indent b i) (opened b i is) q in
-    let aged : ScannerState = stands (rest_of t) (opened_indent b i) (opened b i is) (record q { key = still q.place k.key }) in
+    let aged : ScannerState = stands (rest_of t) (opened_indent b i) (opened b i is) (record q { key = still q.position k.key }) in
     let run = fetched_ahead from x col (opened_indent b i) (opened b i is) want after aged u e (Levels.aged (rest_of t) (opened_indent b i) (opened b i is) q k.loose) in
-    let lies : Lies (still q.place k.key) at.line = still_lies q.place k.key at.line (rw (comment_line n (along (quote_of single ∷ body) p.place), along_line (quote_of single ∷ body) p.place) k.lies) in
+    let lies : Lies (still q.position k.key) at.line = still_lies q.position k.key at.line (rw (comment_line n (along (quote_of single ∷ body) p.position), along_line (quote_of single ∷ body) p.position) k.lies) in
     left_open t from b i is (λ o. want (tok ∷ o)) low
-    (leaf_after t from [] (opened_indent b i) (opened b i is) (record q { key = still q.place k.key }) at _ run (rest_solid t trail) refl (trail_allows t)
-    (Levels.still_loose q.place k.key k.loose) lies (Levels.last_pushed p.tokens (token p.place tok)) (Levels.push_tells p.tokens p.place tok want u.told))
+    (leaf_after t from [] (opened_indent b i) (opened b i is) (record q { key = still q.position k.key }) at _ run (rest_solid t trail) refl (trail_allows t)
+    (Levels.still_loose q.position k.key k.loose) lies (Levels.last_pushed p.tokens (token p.position tok)) (Levels.push_tells p.tokens p.position tok want u.told))

@@ -10,7 +10,7 @@ use Rattle.model_scanner.specs.Class.{class_of}
 use Rattle.model_scanner.specs.Keys.{stale, drop_stale, still, is_far, is_overdue, is_required}
 use Rattle.model_scanner.specs.Indents.{unroll_indent, unrolled}
 use Rattle.model_scanner.specs.Space.{skip_to_next_token}
-use Rattle.model_scanner.specs.Block.{last_property, property_place}
+use Rattle.model_scanner.specs.Block.{last_property, property_position}
 use Rattle.model_scanner.specs.Fetch.{token_by, fetch_token, fetch_indented, fetch_first_column, fetch_content, fetch_here, fetch_next, fetch}
 use Rattle.defs_token.specs.Toks.{toks}
 use Rattle.proof_lexers.proofs.Bridges.{and_false}
@@ -20,7 +20,7 @@ use Rattle.proof_layout_tokens.proofs.Whites.{content}
 
 -- ---- tokens
 
-pub last_pushed : (ts : List Token) (t : Token) → last_property (ts ++ t ∷ []) ≡ property_place t.tok t.place
+pub last_pushed : (ts : List Token) (t : Token) → last_property (ts ++ t ∷ []) ≡ property_position t.tok t.position
 last_pushed [] t = refl
 last_pushed (u ∷ []) t = refl
 last_pushed (u ∷ v ∷ ts) t = last_pushed (v ∷ ts) t
@@ -65,14 +65,14 @@ unfolding unrolled
 unroll limit p i [] ts = record { tokens = ts; now = refl; no_property = λ n. n; told = λ o. refl }
 unroll limit p i (d ∷ ds) ts = unroll_by limit p i d ds ts (nat_lt limit i) d.needs_block_end refl refl (λ us. unroll limit p d.indent ds us)
 
-unrolls_by : (limit : ℕ) (x : List ℕ) (i : ℕ) (is : List Indent) (p : Parts) (z : Unrolled limit p.place i is p.tokens)
+unrolls_by : (limit : ℕ) (x : List ℕ) (i : ℕ) (is : List Indent) (p : Parts) (z : Unrolled limit p.position i is p.tokens)
     → unroll_indent limit (stands x i is p).held ≡ (stands x (left limit i is).indent (left limit i is).indents (record p { tokens = z.tokens })).held
 unfolding unroll_indent
 unrolls_by limit x i is p z = rw z.now refl
 
 pub unrolls : (limit : ℕ) (x : List ℕ) (i : ℕ) (is : List Indent) (p : Parts)
-    → unroll_indent limit (stands x i is p).held ≡ (stands x (left limit i is).indent (left limit i is).indents (record p { tokens = (unroll limit p.place i is p.tokens).tokens })).held
-unrolls limit x i is p = unrolls_by limit x i is p (unroll limit p.place i is p.tokens)
+    → unroll_indent limit (stands x i is p).held ≡ (stands x (left limit i is).indent (left limit i is).indents (record p { tokens = (unroll limit p.position i is p.tokens).tokens })).held
+unrolls limit x i is p = unrolls_by limit x i is p (unroll limit p.position i is p.tokens)
 
 -- no level ends within it
 pub stays : (limit : ℕ) (x : List ℕ) (i : ℕ) (is : List Indent) (p : Parts) → nat_lt limit i ≡ false → unroll_indent limit (stands x i is p).held ≡ (stands x i is p).held
@@ -107,7 +107,7 @@ pub left_twice : (limit i : ℕ) (is : List Indent) → left 0 (left limit i is)
 left_twice limit i [] = refl
 left_twice limit i (d ∷ ds) = twice_by (nat_lt limit i) limit i d ds refl (deeper limit i) (left_twice limit d.indent ds)
 
--- unrolled in two steps, at two places, the tokens end as in one
+-- unrolled in two steps, at two positions, the tokens end as in one
 pub unrolls_twice : (limit i : ℕ) (is : List Indent) (p q : Position) (ts : List Token) (want : List Tok → List Tok) → ((o : List Tok) → toks ts ++ ends 0 i is o ≡ want o)
     → Tells (unroll 0 q (left limit i is).indent (left limit i is).indents (unroll limit p i is ts).tokens).tokens want
 unrolls_twice limit i is p q ts want told =
@@ -122,21 +122,21 @@ unfolding stale drop_stale
 not_stale x i is p free = rw free refl
 
 -- a key that isn't far back stays
-pub near : (x : List ℕ) (i : ℕ) (is : List Indent) (p : Parts) (k : Key) → p.key ≡ Some k → is_far k.place p.place ≡ false → try_held stale (stands x i is p) ≡ Ok (stands x i is p)
+pub near : (x : List ℕ) (i : ℕ) (is : List Indent) (p : Parts) (k : Key) → p.key ≡ Some k → is_far k.position p.position ≡ false → try_held stale (stands x i is p) ≡ Ok (stands x i is p)
 unfolding stale drop_stale
 near x i is p k key h = rw (key, h) refl
 
-not_overdue : (place : Position) (k : Option Key) → is_required k ≡ false → is_overdue place k ≡ false
-not_overdue place None h = refl
-not_overdue place (Some k) h = rw h (and_false (is_far k.place place))
+not_overdue : (position : Position) (k : Option Key) → is_required k ≡ false → is_overdue position k ≡ false
+not_overdue position None h = refl
+not_overdue position (Some k) h = rw h (and_false (is_far k.position position))
 
-pub aged : (x : List ℕ) (i : ℕ) (is : List Indent) (p : Parts) → is_required p.key ≡ false → try_held stale (stands x i is p) ≡ Ok (stands x i is (record p { key = still p.place p.key }))
+pub aged : (x : List ℕ) (i : ℕ) (is : List Indent) (p : Parts) → is_required p.key ≡ false → try_held stale (stands x i is p) ≡ Ok (stands x i is (record p { key = still p.position p.key }))
 unfolding stale drop_stale
-aged x i is p h = rw (not_overdue p.place p.key h) refl
+aged x i is p h = rw (not_overdue p.position p.key h) refl
 
-pub still_loose : (place : Position) (k : Option Key) → is_required k ≡ false → is_required (still place k) ≡ false
-still_loose place None h = refl
-still_loose place (Some k) h = by (is_far k.place place)
+pub still_loose : (position : Position) (k : Option Key) → is_required k ≡ false → is_required (still position k) ≡ false
+still_loose position None h = refl
+still_loose position (Some k) h = by (is_far k.position position)
   where
     by : (b : Bool) → is_required (if b then None else Some k) ≡ false
     by true = refl
@@ -145,20 +145,20 @@ still_loose place (Some k) h = by (is_far k.place place)
 -- ---- a fetch up to its token
 
 pub arrives : (y x : List ℕ) (j i : ℕ) (js is : List Indent) (q p r u : Parts) → skip_to_next_token (stands y j js q) ≡ Ok (stands x j js p) → try_held stale (stands x j js p) ≡ Ok (stands x j js r)
-    → unroll_indent (r.place.col + 1) (stands x j js r).held ≡ (stands x i is u).held → fetch (stands y j js q) ≡ (fetch_here (stands x i is u) >>= try_held stale)
+    → unroll_indent (r.position.col + 1) (stands x j js r).held ≡ (stands x i is u).held → fetch (stands y j js q) ≡ (fetch_here (stands x i is u) >>= try_held stale)
 unfolding fetch fetch_next
 arrives y x j i js is q p r u e f g = rw (e, f, g) refl
 
 not_left : (col i : ℕ) → i ≤ col + 1 → nat_lt (col + 1) i ≡ false
 not_left col i h = le-ltb (col + 1) i h
 
-at_column : (c : ℕ) (a : List ℕ) (i : ℕ) (is : List Indent) (p : Parts) (b : Bool) → Opens c a → nat_lt (p.place.col + 1) i ≡ false
+at_column : (c : ℕ) (a : List ℕ) (i : ℕ) (is : List Indent) (p : Parts) (b : Bool) → Opens c a → nat_lt (p.position.col + 1) i ≡ false
     → (if b then fetch_first_column (stands (c ∷ a) i is p) else fetch_indented (stands (c ∷ a) i is p)) ≡ token_by (class_of c) (stands (c ∷ a) i is p)
 unfolding fetch_first_column fetch_indented fetch_token
 at_column c a i is p true o h = rw (o.no_directive, o.no_start, o.no_end, h) refl
 at_column c a i is p false o h = rw h refl
 
 -- The first character decides.
-pub here : (c : ℕ) (a : List ℕ) (i : ℕ) (is : List Indent) (p : Parts) → Opens c a → i ≤ p.place.col + 1 → fetch_here (stands (c ∷ a) i is p) ≡ token_by (class_of c) (stands (c ∷ a) i is p)
+pub here : (c : ℕ) (a : List ℕ) (i : ℕ) (is : List Indent) (p : Parts) → Opens c a → i ≤ p.position.col + 1 → fetch_here (stands (c ∷ a) i is p) ≡ token_by (class_of c) (stands (c ∷ a) i is p)
 unfolding fetch_here fetch_content
-here c a i is p o h = let z = content c o.solid in rw z.nul (at_column c a i is p (p.place.col == 0) o (not_left p.place.col i h))
+here c a i is p o h = let z = content c o.solid in rw z.nul (at_column c a i is p (p.position.col == 0) o (not_left p.position.col i h))

@@ -53,8 +53,8 @@ module _ (i : ℕ) (start : Position) where
 
   -- after a character of the text, or after blanks
   abbrev at : Bool → Position → List ℕ → List ℕ → PlainState
-  at false p text gap = record { mode = inside; place = p; folded = record { text = text; gap = []; leading = false; escaped = false } }
-  at true p text gap = record { mode = between; place = p; folded = record { text = text; gap = gap; leading = false; escaped = false } }
+  at false p text gap = record { mode = inside; position = p; folded = record { text = text; gap = []; leading = false; escaped = false } }
+  at true p text gap = record { mode = between; position = p; folded = record { text = text; gap = gap; leading = false; escaped = false } }
 
   abbrev total : Bool → List ℕ → List ℕ → List ℕ
   total false text gap = text
@@ -111,13 +111,13 @@ module _ (i : ℕ) (start : Position) where
   unfolding plain starts at_dash
   begins_scan c w r all close deep solid = text_goes w r false (past start) (c ∷ []) [] all (rw solid at close) deep (omega arith)
 
-  at_colon : (text : List ℕ) (d : ℕ) (a : List ℕ) (p : Position) → is_blank_or_breakz d ≡ true → scan (58 ∷ d ∷ a) (at false p text []) ≡ Ok (record { rest = 58 ∷ d ∷ a; place = p; value = record { text = text; leading = false } })
+  at_colon : (text : List ℕ) (d : ℕ) (a : List ℕ) (p : Position) → is_blank_or_breakz d ≡ true → scan (58 ∷ d ∷ a) (at false p text []) ≡ Ok (record { rest = 58 ∷ d ∷ a; position = p; value = record { text = text; leading = false } })
   unfolding is_break is_blank can_be_plain
   at_colon text d a p end = rw end refl
 
   -- up to a colon
   pub plain_key : (c : ℕ) (w : List ℕ) (d : ℕ) (a : List ℕ) → are_plain w ≡ true → closes (c == 32) w ≡ true → i ≤ start.col + 1 → (c == 32) ≡ false → is_blank_or_breakz d ≡ true
-      → plain (outside i) (c ∷ (w ++ 58 ∷ d ∷ a)) start ≡ Ok (record { rest = 58 ∷ d ∷ a; place = along (c ∷ w) start; value = record { text = c ∷ w; leading = false } })
+      → plain (outside i) (c ∷ (w ++ 58 ∷ d ∷ a)) start ≡ Ok (record { rest = 58 ∷ d ∷ a; position = along (c ∷ w) start; value = record { text = c ∷ w; leading = false } })
   plain_key c w d a all close deep solid end = begins_scan c w (58 ∷ d ∷ a) all close deep solid ∙ at_colon (c ∷ w) d a (along (c ∷ w) start) end
 
   -- ---- over white space
@@ -129,41 +129,41 @@ module _ (i : ℕ) (start : Position) where
 
   -- The scan is over, within the white space.
   pub record Stopped (t : Result (Read Plain) Fault) (text : List ℕ) (leading : Bool) (g : List White) (r : List ℕ) (p : Position) : Type 0 where
-    pub place : Position
+    pub position : Position
     pub white : List White
-    pub same : beyond white place ≡ beyond g p
+    pub same : beyond white position ≡ beyond g p
     pub are : AreWhite white r
-    pub now : t ≡ Ok (record { rest = spell_white white r; place = place; value = record { text = text; leading = leading } })
+    pub now : t ≡ Ok (record { rest = spell_white white r; position = position; value = record { text = text; leading = leading } })
 
   abbrev below : Position → List ℕ → List ℕ → PlainState
-  below p text gap = record { mode = between; place = p; folded = record { text = text; gap = gap; leading = true; escaped = false } }
+  below p text gap = record { mode = between; position = p; folded = record { text = text; gap = gap; leading = true; escaped = false } }
 
-  at_remark : (a : List ℕ) (p : Position) (text gap : List ℕ) → scan (35 ∷ a) (below p text gap) ≡ Ok (record { rest = 35 ∷ a; place = p; value = record { text = text; leading = true } })
+  at_remark : (a : List ℕ) (p : Position) (text gap : List ℕ) → scan (35 ∷ a) (below p text gap) ≡ Ok (record { rest = 35 ∷ a; position = p; value = record { text = text; leading = true } })
   unfolding is_break is_blank goes_on is_shallow
   at_remark a p text gap = by (nat_lt p.col i) refl
     where
-      by : (b : Bool) → nat_lt p.col i ≡ b → scan (35 ∷ a) (below p text gap) ≡ Ok (record { rest = 35 ∷ a; place = p; value = record { text = text; leading = true } })
+      by : (b : Bool) → nat_lt p.col i ≡ b → scan (35 ∷ a) (below p text gap) ≡ Ok (record { rest = 35 ∷ a; position = p; value = record { text = text; leading = true } })
       by true h = rw h refl
       by false h = rw h refl
 
   at_left : (c : ℕ) (a : List ℕ) (p : Position) (text gap : List ℕ) → is_content c ≡ true → (nat_lt p.col i ≡ true) ⊎ (at_marker p.col (c ∷ a) ≡ true)
-      → scan (c ∷ a) (below p text gap) ≡ Ok (record { rest = c ∷ a; place = p; value = record { text = text; leading = true } })
+      → scan (c ∷ a) (below p text gap) ≡ Ok (record { rest = c ∷ a; position = p; value = record { text = text; leading = true } })
   unfolding goes_on is_shallow
   at_left c a p text gap solid (inl h) = let z = content c solid in rw (z.break, z.blank, h) refl
   at_left c a p text gap solid (inr h) = by (nat_lt p.col i) refl
     where
-      by : (b : Bool) → nat_lt p.col i ≡ b → scan (c ∷ a) (below p text gap) ≡ Ok (record { rest = c ∷ a; place = p; value = record { text = text; leading = true } })
+      by : (b : Bool) → nat_lt p.col i ≡ b → scan (c ∷ a) (below p text gap) ≡ Ok (record { rest = c ∷ a; position = p; value = record { text = text; leading = true } })
       by true e = let z = content c solid in rw (z.break, z.blank, e) refl
       by false e = let z = content c solid in rw (z.break, z.blank, e, z.hash, h) refl
 
   over_white : (g : List White) (r : List ℕ) (p : Position) (text gap : List ℕ) → AreWhite g r → IsLeft r (beyond g p).col → Stopped (scan (spell_white g r) (below p text gap)) text true g r p
   unfolding is_break is_blank
-  over_white [] [] p text gap are low = record { place = p; white = []; same = refl; are = are; now = refl }
-  over_white [] (c ∷ a) p text gap are low = record { place = p; white = []; same = refl; are = are; now = at_left c a p text gap are low }
-  over_white (space ∷ g) r p text gap are low = let z = over_white g r (past p) text gap are low in record { place = z.place; white = z.white; same = z.same; are = z.are; now = z.now }
+  over_white [] [] p text gap are low = record { position = p; white = []; same = refl; are = are; now = refl }
+  over_white [] (c ∷ a) p text gap are low = record { position = p; white = []; same = refl; are = are; now = at_left c a p text gap are low }
+  over_white (space ∷ g) r p text gap are low = let z = over_white g r (past p) text gap are low in record { position = z.position; white = z.white; same = z.same; are = z.are; now = z.now }
   over_white (line_feed ∷ g) r p text gap are low =
-      let z = over_white g r (past_break p) text (gap ++ 10 ∷ []) are low in record { place = z.place; white = z.white; same = z.same; are = z.are; now = z.now }
-  over_white (remark t ∷ g) r p text gap are low = record { place = p; white = remark t ∷ g; same = refl; are = are; now = at_remark (t ++ spell_white g r) p text gap }
+      let z = over_white g r (past_break p) text (gap ++ 10 ∷ []) are low in record { position = z.position; white = z.white; same = z.same; are = z.are; now = z.now }
+  over_white (remark t ∷ g) r p text gap are low = record { position = p; white = remark t ∷ g; same = refl; are = are; now = at_remark (t ++ spell_white g r) p text gap }
 
   -- a scalar, and the lines after it
   pub plain_line : (c : ℕ) (w : List ℕ) (g : List White) (r : List ℕ) → are_plain w ≡ true → closes (c == 32) w ≡ true → i ≤ start.col + 1 → (c == 32) ≡ false
@@ -172,14 +172,14 @@ module _ (i : ℕ) (start : Position) where
   unfolding is_break is_blank
   plain_line c w g r all close deep solid are low =
       let z = over_white g r (past_break (along (c ∷ w) start)) (c ∷ w) [] are low in
-      record { place = z.place; white = z.white; same = z.same; are = z.are; now = begins_scan c w (10 ∷ spell_white g r) all close deep solid ∙ z.now }
+      record { position = z.position; white = z.white; same = z.same; are = z.are; now = begins_scan c w (10 ∷ spell_white g r) all close deep solid ∙ z.now }
 
   comment_stops : (n : ℕ) (text : List ℕ) (w : List White) (r : List ℕ) (p : Position) (t gap : List ℕ)
-      → scan (spell_white (spaced n (remark text ∷ w)) r) (at true p t gap) ≡ Ok (record { rest = spell_white (remark text ∷ w) r; place = beyond (blanks n) p; value = record { text = t; leading = false } })
+      → scan (spell_white (spaced n (remark text ∷ w)) r) (at true p t gap) ≡ Ok (record { rest = spell_white (remark text ∷ w) r; position = beyond (blanks n) p; value = record { text = t; leading = false } })
   unfolding is_break is_blank goes_on is_shallow
   comment_stops zero text w r p t gap = by (nat_lt p.col i) refl
     where
-      by : (b : Bool) → nat_lt p.col i ≡ b → scan (spell_white (remark text ∷ w) r) (at true p t gap) ≡ Ok (record { rest = spell_white (remark text ∷ w) r; place = p; value = record { text = t; leading = false } })
+      by : (b : Bool) → nat_lt p.col i ≡ b → scan (spell_white (remark text ∷ w) r) (at true p t gap) ≡ Ok (record { rest = spell_white (remark text ∷ w) r; position = p; value = record { text = t; leading = false } })
       by true h = rw h refl
       by false h = rw h refl
   comment_stops (suc n) text w r p t gap = comment_stops n text w r (past p) t (gap ++ 32 ∷ [])
@@ -187,11 +187,11 @@ module _ (i : ℕ) (start : Position) where
   -- a scalar, and a comment after it
   pub plain_comment : (c : ℕ) (v : List ℕ) (more : ℕ) (text : List ℕ) (w : List White) (r : List ℕ) → are_plain v ≡ true → closes (c == 32) v ≡ true → i ≤ start.col + 1 → (c == 32) ≡ false
       → plain (outside i) (c ∷ (v ++ spell_white (comment_white (comment more text) w) r)) start
-      ≡ Ok (record { rest = spell_white (remark text ∷ w) r; place = beyond (blanks more) (past (along (c ∷ v) start)); value = record { text = c ∷ v; leading = false } })
+      ≡ Ok (record { rest = spell_white (remark text ∷ w) r; position = beyond (blanks more) (past (along (c ∷ v) start)); value = record { text = c ∷ v; leading = false } })
   unfolding is_break is_blank
   plain_comment c v more text w r all close deep solid =
       begins_scan c v (spell_white (comment_white (comment more text) w) r) all close deep solid ∙ comment_stops more text w r (past (along (c ∷ v) start)) (c ∷ v) (32 ∷ [])
 
   pub plain_end : (c : ℕ) (w : List ℕ) → are_plain w ≡ true → closes (c == 32) w ≡ true → i ≤ start.col + 1 → (c == 32) ≡ false
-      → plain (outside i) (c ∷ (w ++ [])) start ≡ Ok (record { rest = []; place = along (c ∷ w) start; value = record { text = c ∷ w; leading = false } })
+      → plain (outside i) (c ∷ (w ++ [])) start ≡ Ok (record { rest = []; position = along (c ∷ w) start; value = record { text = c ∷ w; leading = false } })
   plain_end c w all close deep solid = begins_scan c w [] all close deep solid

@@ -116,14 +116,14 @@ same_map (c ∷ w) = ap (λ v. c ∷ v) (same_map w)
 -- After the opening quote stands this, with its closing quote: the scalar is read as the text, whatever stands after it but a quote.
 pub record IsQuoted (single : Bool) (body w : List ℕ) : Type 0 where
   pub reads : (i : ℕ) (r : List ℕ) (p : Position) → i ≤ p.col + 1 → (slice_index r 0 == 39) ≡ false
-      → quoted single (outside i) (quote_of single ∷ (body ++ r)) p ≡ Ok (record { rest = r; place = along (quote_of single ∷ body) p; value = w })
+      → quoted single (outside i) (quote_of single ∷ (body ++ r)) p ≡ Ok (record { rest = r; position = along (quote_of single ∷ body) p; value = w })
 
 pub double_is : (w : List ℕ) → IsQuoted false (written_escapes w ++ 34 ∷ []) w
 double_is w = record {
   reads = λ i r p h e.
       rw (append_assoc (written_escapes w) (34 ∷ []) r)
       (line_read false (outside i) ℕ written_character (λ c. c) w r p (escapes_are i p w) (omega (arith, h)) refl
-      ∙ ap (λ v. Ok (record { rest = r; place = along (34 ∷ (written_escapes w ++ 34 ∷ [])) p; value = v })) (same_map w));
+      ∙ ap (λ v. Ok (record { rest = r; position = along (34 ∷ (written_escapes w ++ 34 ∷ [])) p; value = v })) (same_map w));
 }
 
 pub single_is : (w : List ℕ) → IsLineText w → IsQuoted true (flat_map doubled w ++ 39 ∷ []) w
@@ -131,5 +131,5 @@ single_is w line = record {
   reads = λ i r p h e.
       rw (append_assoc (flat_map doubled w) (39 ∷ []) r)
       (line_read true (outside i) ℕ doubled (λ c. c) w r p (all_doubled i p w line) (omega (arith, h)) e
-      ∙ ap (λ v. Ok (record { rest = r; place = along (39 ∷ (flat_map doubled w ++ 39 ∷ [])) p; value = v })) (same_map w));
+      ∙ ap (λ v. Ok (record { rest = r; position = along (39 ∷ (flat_map doubled w ++ 39 ∷ [])) p; value = v })) (same_map w));
 }

@@ -17,8 +17,8 @@ Tells ts want = (o : List Tok) → toks ts ++ o ≡ want o
 pub toks_push : (ts : List Token) (t : Token) (o : List Tok) → toks (ts ++ t ∷ []) ++ o ≡ toks ts ++ t.tok ∷ o
 toks_push ts t o = rw map-append (append_assoc (toks ts) (t.tok ∷ []) o)
 
-pub push_tells : (ts : List Token) (place : Position) (k : Tok) (want : List Tok → List Tok) → Tells ts want → Tells (ts ++ token place k ∷ []) (λ o. want (k ∷ o))
-push_tells ts place k want told = λ o. toks_push ts (token place k) o ∙ told (k ∷ o)
+pub push_tells : (ts : List Token) (position : Position) (k : Tok) (want : List Tok → List Tok) → Tells ts want → Tells (ts ++ token position k ∷ []) (λ o. want (k ∷ o))
+push_tells ts position k want told = λ o. toks_push ts (token position k) o ∙ told (k ∷ o)
 
 -- ---- texts
 

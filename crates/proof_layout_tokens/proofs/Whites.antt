@@ -44,7 +44,7 @@ leading_beyond (line_feed ∷ g) b = leading_beyond g true
 leading_beyond (remark text ∷ g) b = leading_beyond g false
 
 abbrev pub passed : List White → Parts → Parts
-passed g p = record p { place = beyond g p.place; allowed = allowed_beyond g p.allowed; leading = leading_beyond g p.leading }
+passed g p = record p { position = beyond g p.position; allowed = allowed_beyond g p.allowed; leading = leading_beyond g p.leading }
 
 -- a comment goes to the end of its line
 abbrev pub EndsLine : List White → List ℕ → Type 0
@@ -93,12 +93,12 @@ solid_stays [] s h = refl
 solid_stays (c ∷ a) s h = let z = content c h in rw (z.break, z.tab, z.blank, z.hash) refl
 
 module _ (i : ℕ) (is : List Indent) where
-  skip_text : (text a : List ℕ) (p : Parts) → IsLineText text → skip comment (text ++ a) (stands a i is p).held ≡ skip comment a (stands a i is (record p { place = along text p.place })).held
+  skip_text : (text a : List ℕ) (p : Parts) → IsLineText text → skip comment (text ++ a) (stands a i is p).held ≡ skip comment a (stands a i is (record p { position = along text p.position })).held
   unfolding skip
   skip_text [] a p h = refl
   skip_text (c ∷ text) a p h =
       let q = and_parts (is_line_character c) (list_all is_line_character text) h in
-      rw (in_line c q.0) (skip_text text a (record p { place = past p.place }) q.1)
+      rw (in_line c q.0) (skip_text text a (record p { position = past p.position }) q.1)
 
   skip_ends : (g : List White) (r : List ℕ) (p : Parts) → EndsLine g r → skip comment (spell_white g r) (stands r i is p).held ≡ skip between (spell_white g r) (stands r i is p).held
   unfolding skip is_break
@@ -107,18 +107,18 @@ module _ (i : ℕ) (is : List Indent) where
   skip_ends (line_feed ∷ g) r p h = refl
   skip_ends (remark text ∷ g) r p h = absurd h
 
-  remark_begins : (a : List ℕ) (p : Parts) → skip between (35 ∷ a) (stands a i is p).held ≡ skip comment a (stands a i is (record p { place = past p.place; leading = false })).held
+  remark_begins : (a : List ℕ) (p : Parts) → skip between (35 ∷ a) (stands a i is p).held ≡ skip comment a (stands a i is (record p { position = past p.position; leading = false })).held
   unfolding skip is_break is_blank
   remark_begins a p = refl
 
   skip_white : (g : List White) (r : List ℕ) (p : Parts) → AreWhite g r → skip between (spell_white g r) (stands r i is p).held ≡ Ok (stands r i is (passed g p))
   unfolding skip is_break is_blank
   skip_white [] r p h = solid_stays r (stands r i is p).held h
-  skip_white (space ∷ g) r p h = skip_white g r (record p { place = past p.place }) h
-  skip_white (line_feed ∷ g) r p h = skip_white g r (record p { place = past_break p.place; leading = true; allowed = true }) h
+  skip_white (space ∷ g) r p h = skip_white g r (record p { position = past p.position }) h
+  skip_white (line_feed ∷ g) r p h = skip_white g r (record p { position = past_break p.position; leading = true; allowed = true }) h
   skip_white (remark text ∷ g) r p h =
-      let q = record p { place = past p.place; leading = false } in
-      let u = record q { place = along text q.place } in
+      let q = record p { position = past p.position; leading = false } in
+      let u = record q { position = along text q.position } in
       remark_begins (text ++ spell_white g r) p ∙ skip_text text (spell_white g r) q h.0 ∙ skip_ends g r u h.1 ∙ skip_white g r u h.2
 
   -- as far as the next token
@@ -179,7 +179,7 @@ ending_are_white [] h = refl
 ending_are_white (empty_line ∷ g) h = ending_are_white g h.1
 ending_are_white (comment_line text ∷ g) h = (h.0, ending_ends g, ending_are_white g h.1)
 
--- ---- places
+-- ---- positions
 
 pub blanks_col : (n : ℕ) (p : Position) → (beyond (blanks n) p).col ≡ p.col + n
 blanks_col zero p = omega arith

@@ -27,8 +27,8 @@ work_on l (e ∷ es) h = by l (work_on (with_event_at l e.0 e.1) es h)
   where
     by : (l : Loader) → IsAtWork (with_event_at l e.0 e.1) → IsAtWork l
     by (at_work u) h = tt
-    by (noted documents key place) h = h
-    by (refused documents place) h = h
+    by (noted documents key position) h = h
+    by (refused documents position) h = h
 
 with_more : (l : Loader) (es fs : List (Ev × Position)) → with_events l (es ++ fs) ≡ with_events (with_events l es) fs
 with_more l [] fs = refl
@@ -36,10 +36,10 @@ with_more l (e ∷ es) fs = with_more (with_event_at l e.0 e.1) es fs
 
 at_work_after : (trees : List Tree) (l : Loader) → HasRead (Ok trees) l → IsAtWork l
 at_work_after trees (at_work u) h = tt
-at_work_after trees (noted documents key place) h = h
-at_work_after trees (refused documents place) h = h
+at_work_after trees (noted documents key position) h = h
+at_work_after trees (refused documents position) h = h
 
--- events at a place that does not count
+-- events at a position that does not count
 abbrev somewhere : Ev → Ev × Position
 somewhere e = (e, record { index = 0; line = 1; col = 0 })
 
@@ -63,8 +63,8 @@ streams_are_loaded keep_tags tokens trees events x s =
 one_reading : (x : Result (List Tree) Tree) (trees : List Tree) (l : Loader) → HasRead x l → HasRead (Ok trees) l → x ≡ Ok trees
 one_reading (Ok ts) trees (at_work u) h k = ap Ok (sym h.0 ∙ k.0)
 one_reading (Err key) trees (at_work u) h k = absurd h
-one_reading x trees (noted documents key place) h k = absurd k
-one_reading x trees (refused documents place) h k = absurd k
+one_reading x trees (noted documents key position) h k = absurd k
+one_reading x trees (refused documents position) h k = absurd k
 
 -- whatever documents have the stream's events
 pub documents_are_read : (keep_tags : Bool) (tokens : List Tok) (trees : List Tree) (ds : List NestedDocument) → ReadAs keep_tags tokens trees

@@ -3,7 +3,7 @@
 
 ghost use Rattle.proof_layout_trees.specs.Laws.{ReadStreamsAreLoaded, ReadStreamsAreNotRefused, ForetoldEventsAreNotRefused, ReadStreamsAreNotCut, JsonTokensAreAStream, JsonNumbersStandForTheirTrees, JsonDocumentsReadAsTheirTrees, JsonTokensReadAsTheirTree, JsonEventsAreLoaded, LayoutTokensReadAsTheirTrees, LayoutEventsAreLoaded, BasicTokensAreAStream, BasicDocumentsReadAsTheirTrees, QuotedTokensReadAsTheirString};
 
-/// Let tokens be read as trees. A loader that takes the events of their stream, at any places, has these trees as its
+/// Let tokens be read as trees. A loader that takes the events of their stream, at any positions, has these trees as its
 /// documents. Nothing is open, and no repeated key was noted.
 pub fn read_streams_are_loaded()
     ensures { ReadStreamsAreLoaded }
@@ -50,7 +50,7 @@ pub fn json_tokens_read_as_their_tree()
     ensures { JsonTokensReadAsTheirTree }
 {}
 
-/// A loader that takes the events of a JSON text's stream, at any places, has the text's tree as its one document.
+/// A loader that takes the events of a JSON text's stream, at any positions, has the text's tree as its one document.
 /// Nothing is open, and no repeated key was noted.
 pub fn json_events_are_loaded()
     ensures { JsonEventsAreLoaded }
@@ -63,7 +63,7 @@ pub fn layout_tokens_read_as_their_trees()
     ensures { LayoutTokensReadAsTheirTrees }
 {}
 
-/// A loader that takes the events of a layout's stream, at any places, has the layout's trees as its documents.
+/// A loader that takes the events of a layout's stream, at any positions, has the layout's trees as its documents.
 /// Nothing is open, and no repeated key was noted.
 pub fn layout_events_are_loaded()
     ensures { LayoutEventsAreLoaded }

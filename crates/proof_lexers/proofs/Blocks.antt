@@ -9,7 +9,7 @@ pub mod InLine
 pub mod Margins
 pub mod Markers
 pub mod Pieces
-pub mod Places
+pub mod Positions
 pub mod Rows
 pub mod Scans
 pub mod Values

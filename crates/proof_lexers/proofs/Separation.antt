@@ -1,5 +1,5 @@
 pub mod EachSeparation
 pub mod Separations
-pub mod Places
+pub mod Positions
 pub mod Spaces
 pub mod WhiteSpace

@@ -6,7 +6,7 @@ use Rattle.defs_text.specs.Classes.{space, tab, is_at_end}
 use Rattle.defs_text.specs.Breaks.{split}
 use Rattle.defs_scalar.specs.FlowScalar.{begins_with}
 use Rattle.defs_scalar.specs.BlockScalar.{BlockStyle, literal, folded}
-use Rattle.defs_token.specs.BlockPiece.{BlockRead, first_content, past_spaces, block_place}
+use Rattle.defs_token.specs.BlockPiece.{BlockRead, first_content, past_spaces, block_position}
 use Rattle.yaml_tokens.specs.declared.problem.Fault.{Fault}
 use Rattle.yaml_tokens.specs.declared.problem.Fault.TheVariants.{At}
 use Rattle.yaml_tokens.specs.declared.problem.Problem.TheVariants as problem
@@ -32,19 +32,19 @@ is_literal_style folded = false
 abbrev pub is_some : ℕ → Bool
 is_some c = not (c == 0)
 
--- the place of the first character that is no space after a piece
-abbrev pub further_place : Position → (piece next : List ℕ) → Position
-further_place p piece next = past_spaces (position_after p piece next) next
+-- the position of the first character that is no space after a piece
+abbrev pub further_position : Position → (piece next : List ℕ) → Position
+further_position p piece next = past_spaces (position_after p piece next) next
 
 -- a block scalar read from its piece: the spaces after the piece are passed too
 abbrev pub read_block : Position → BlockRead → (piece next : List ℕ) → Read Block
 read_block p b piece next = record {
   rest = without_spaces next;
-  place = further_place p piece next;
-  value = record { place = block_place b.column p piece next; text = b.text };
+  position = further_position p piece next;
+  value = record { position = block_position b.column p piece next; text = b.text };
 }
 
--- whether there is no place
+-- whether there is no position
 abbrev pub is_none : Option Position → Bool
 is_none None = true
 is_none (Some q) = false
@@ -62,10 +62,10 @@ is_tabbed piece next = is_single (split piece).complete && begins_with tab next
 -- Whether the text after a scalar without content is indented as content of the innermost block collection, but not as deep as the empty lines before it.
 abbrev pub is_shallow : (indent : ℕ) → Position → BlockRead → (piece next : List ℕ) → Bool
 is_shallow indent p b piece next =
-    ((not (is_at_end next) && is_none (first_content b.column true p piece)) && nat_le indent (further_place p piece next).col) && nat_lt (further_place p piece next).col b.column
+    ((not (is_at_end next) && is_none (first_content b.column true p piece)) && nat_le indent (further_position p piece next).col) && nat_lt (further_position p piece next).col b.column
 
--- The scan at a place read this block scalar from its piece, or refused what stands after it: a TAB, or text that is neither content nor outside the block collection.
+-- The scan at a position read this block scalar from its piece, or refused what stands after it: a TAB, or text that is neither content nor outside the block collection.
 pub data IsRead (indent : ℕ) (p : Position) (b : BlockRead) (piece next : List ℕ) (x : Result (Read Block) Fault) : Type 0 where
   read : is_tabbed piece next ≡ false → is_shallow indent p b piece next ≡ false → x ≡ Ok (read_block p b piece next) → IsRead indent p b piece next x
-  shallow : is_tabbed piece next ≡ false → is_shallow indent p b piece next ≡ true → x ≡ Err (At problem.BlockScalarIndentation (further_place p piece next)) → IsRead indent p b piece next x
+  shallow : is_tabbed piece next ≡ false → is_shallow indent p b piece next ≡ true → x ≡ Err (At problem.BlockScalarIndentation (further_position p piece next)) → IsRead indent p b piece next x
   tabbed : is_tabbed piece next ≡ true → x ≡ Err (At problem.BlockScalarTab p) → IsRead indent p b piece next x

@@ -38,7 +38,7 @@ next_line (c ∷ r) = (if is_before_line_feed c r then drop 1 r else r)
 
 -- what is left after a directive's line and its break
 abbrev pub after_line : Position → (line next : List ℕ) → Tok → Read Tok
-after_line p line next tok = record { rest = next_line next; place = position_after p (line ++ first_break next) (next_line next); value = tok }
+after_line p line next tok = record { rest = next_line next; position = position_after p (line ++ first_break next) (next_line next); value = tok }
 
 -- Why a text after `%YAML` and blanks is no version: a number is missing, has more than nine digits, or no point stands after the first one.
 pub data IsNoVersion (text : List ℕ) : Problem → Type 0 where
@@ -56,7 +56,7 @@ pub data IsNoDeclaration (text : List ℕ) : Problem → Type 0 where
   by_octets : (f : UriFault) → decoded (leading is_uri (after is_blank (handle_and_rest text).1)) ≡ Err f → IsNoDeclaration text (problem_of f)
   goes_on : is_at_gap (after is_uri (after is_blank (handle_and_rest text).1)) ≡ false → IsNoDeclaration text problem.TagDirectiveEnd
 
--- Why a line after a `%` at a place is refused: it begins with no name; the name goes on with another character; a version or a declaration is none; or after one stands a comment without a blank, or other text.
+-- Why a line after a `%` at a position is refused: it begins with no name; the name goes on with another character; a version or a declaration is none; or after one stands a comment without a blank, or other text.
 pub data IsDirectiveRefusal (start : Position) (line : List ℕ) : Fault → Type 0 where
   no_name : leading is_alpha line ≡ [] → IsDirectiveRefusal start line (At problem.DirectiveName (further 1 start))
   by_name : is_at_gap (after is_alpha line) ≡ false → IsDirectiveRefusal start line (At problem.DirectiveNameEnd (further 1 start))

@@ -45,14 +45,14 @@ abbrev pub ends_line : List ℕ → Bool
 ends_line [] = true
 ends_line (c ∷ r) = is_break c
 
--- the place after characters of a line
+-- the position after characters of a line
 abbrev pub along : List ℕ → Position → Position
 along [] p = p
 along (c ∷ w) p = along w (past p)
 
 -- a header read at a line's end: before the next line, or at the end of the text
 abbrev pub read_header : defs.Header → (after : List ℕ) → Position → Read Header
-read_header h r p = record { rest = (linebreak r p).rest; place = (linebreak r p).place; value = record { indicators = indicators_of h; broken = not (is_empty r) } }
+read_header h r p = record { rest = (linebreak r p).rest; position = (linebreak r p).position; value = record { indicators = indicators_of h; broken = not (is_empty r) } }
 
 -- whether a character is a sign of chomping
 abbrev pub is_sign : ℕ → Bool
@@ -63,7 +63,7 @@ abbrev pub has_zero : List ℕ → Bool
 has_zero [] = false
 has_zero (c ∷ r) = (c == 48) || (is_sign c && begins_with 48 r)
 
--- How the scan of a header ends: `start` is the place of its `|` or `>`, and `line` the rest of its line, after which the line's end stands.
+-- How the scan of a header ends: `start` is the position of its `|` or `>`, and `line` the rest of its line, after which the line's end stands.
 -- It read the header that the line is, if no TAB begins the next line; or the line is none, for a digit 0, a comment right after a header, or other text.
 pub data HeaderEndsAs (start : Position) (style : BlockStyle) (line after : List ℕ) (x : Result (Read Header) Fault) : Type 0 where
   reads : (h : defs.Header) → header_of (indicator_of style ∷ line) ≡ Some h → begins_with tab (linebreak after start).rest ≡ false

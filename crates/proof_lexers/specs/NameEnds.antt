@@ -7,15 +7,15 @@ use Rattle.yaml_tokens.specs.declared.problem.Problem.TheVariants as problem
 use Rattle.model_lexers.specs.Machine.{Read}
 use Rattle.defs_token.specs.Piece.{is_name, goes_on_with_name}
 
--- the place so many characters further in a line
+-- the position so many characters further in a line
 abbrev pub further : ℕ → Position → Position
 further n p = record { index = p.index + n; line = p.line; col = p.col + n }
 
--- what is left after an indicator at a place and a name
+-- what is left after an indicator at a position and a name
 abbrev pub after_name : Position → (name rest : List ℕ) → Read (List ℕ)
-after_name p name rest = record { rest = rest; place = further (1 + length name) p; value = name }
+after_name p name rest = record { rest = rest; position = further (1 + length name) p; value = name }
 
--- The scan of a text after an indicator at a place: it read the name that the text begins with, or the text begins with none.
+-- The scan of a text after an indicator at a position: it read the name that the text begins with, or the text begins with none.
 pub data NameEndsAs (p : Position) (text : List ℕ) (x : Result (Read (List ℕ)) Fault) : Type 0 where
   named : (name rest : List ℕ) → text ≡ name ++ rest → is_name name ≡ true → goes_on_with_name rest ≡ false → x ≡ Ok (after_name p name rest) → NameEndsAs p text x
   nameless : goes_on_with_name text ≡ false → x ≡ Err (At problem.AnchorName p) → NameEndsAs p text x

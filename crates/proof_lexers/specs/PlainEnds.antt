@@ -46,12 +46,12 @@ abbrev pub has_break : List ℕ → Bool
 has_break [] = false
 has_break (c ∷ r) = is_break c || has_break r
 
--- what stands before the place after a text
+-- what stands before the position after a text
 abbrev pub stand_after : Stand → List ℕ → Stand
 stand_after s [] = s
 stand_after s (c ∷ r) = stand_after (past s c) r
 
--- whether a blank or a break stands directly before a place
+-- whether a blank or a break stands directly before a position
 abbrev pub is_apart : Stand → Bool
 is_apart inside = false
 is_apart _ = true
@@ -65,7 +65,7 @@ abbrev pub goes_over : Context → (text next : List ℕ) → Bool
 goes_over ctx [] next = true
 goes_over ctx (c ∷ r) next = goes_on ctx.flow (collection_of ctx.indent) inside r next
 
--- Why a plain scalar at a place is refused: in a flow collection it begins left of the innermost block collection, or at its start or after blanks or breaks in it a dash stands before a
+-- Why a plain scalar at a position is refused: in a flow collection it begins left of the innermost block collection, or at its start or after blanks or breaks in it a dash stands before a
 -- flow indicator; or a later line of it begins with a TAB left of the innermost block collection.
 pub data IsPlainRefusal (ctx : Context) (start : Position) (text : List ℕ) : Fault → Type 0 where
   by_column : ctx.flow ≡ true → nat_lt start.col ctx.indent ≡ true → IsPlainRefusal ctx start text (At problem.FlowIndentation start)
@@ -74,9 +74,9 @@ pub data IsPlainRefusal (ctx : Context) (start : Position) (text : List ℕ) : F
   by_tab : (before blanks rest : List ℕ) (column : ℕ) → text ≡ before ++ 9 ∷ (blanks ++ rest) → goes_over ctx before (9 ∷ (blanks ++ rest)) ≡ true → stand_after after_blank before ≡ on_line column
       → nat_lt column ctx.indent ≡ true → is_blanks blanks ≡ true → begins_solid rest ≡ true → IsPlainRefusal ctx start text (At problem.PlainTab start)
 
--- what is left after a plain scalar at a place, its gap, and what stands after that; its value, and whether a break stands in the gap
+-- what is left after a plain scalar at a position, its gap, and what stands after that; its value, and whether a break stands in the gap
 abbrev pub after_plain : Position → (piece gap rest value : List ℕ) → Read Plain
-after_plain p piece gap rest value = record { rest = rest; place = position_after p (piece ++ gap) rest; value = record { text = value; leading = has_break gap } }
+after_plain p piece gap rest value = record { rest = rest; position = position_after p (piece ++ gap) rest; value = record { text = value; leading = has_break gap } }
 
 -- How a scan ends: it read the whole of a plain scalar as its value, and the blanks and breaks after it; or it has a fault of which the text is the reason.
 pub data PlainEndsAs (ctx : Context) (start : Position) (text : List ℕ) (x : Result (Read Plain) Fault) : Type 0 where

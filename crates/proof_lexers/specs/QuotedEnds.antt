@@ -28,7 +28,7 @@ pub data IsBadEscape : List ℕ → Problem → Type 0 where
   no_character : (c digits code : ℕ) (r : List ℕ) → lookup c escapes ≡ None → lookup c numeric_escapes ≡ Some digits → number_at digits r ≡ Some code → is_character_code code ≡ false
       → IsBadEscape (c ∷ r) problem.EscapedCode
 
--- Why the text after an opening quote at a place is refused: a line after the first begins with a document marker; the text ends before the scalar; an escape is none; or a place
+-- Why the text after an opening quote at a position is refused: a line after the first begins with a document marker; the text ends before the scalar; an escape is none; or a position
 -- of it stands left of the innermost block collection, where a TAB is refused for itself.
 pub data IsQuotedRefusal (single : Bool) (ctx : Context) (start : Position) (text : List ℕ) : Fault → Type 0 where
   by_marker : (body rest : List ℕ) → text ≡ body ++ rest → HasElements single body → has_marker body rest ≡ true → IsQuotedRefusal single ctx start text (At problem.QuotedDocumentMarker start)
@@ -39,6 +39,6 @@ pub data IsQuotedRefusal (single : Bool) (ctx : Context) (start : Position) (tex
 
 -- How a scan ends: it read a body with a value as that, up to its closing quote; or it has a fault of which the text is the reason.
 pub data QuotedEndsAs (single : Bool) (ctx : Context) (start : Position) (text : List ℕ) (x : Result (Read (List ℕ)) Fault) : Type 0 where
-  reads : (body rest value : List ℕ) (place : Position) → text ≡ body ++ quote_of single ∷ rest → value_of single body ≡ Some value → ends_before single rest ≡ true
-      → x ≡ Ok (record { rest = rest; place = place; value = value }) → QuotedEndsAs single ctx start text x
+  reads : (body rest value : List ℕ) (position : Position) → text ≡ body ++ quote_of single ∷ rest → value_of single body ≡ Some value → ends_before single rest ≡ true
+      → x ≡ Ok (record { rest = rest; position = position; value = value }) → QuotedEndsAs single ctx start text x
   refuses : (f : Fault) → IsQuotedRefusal single ctx start text f → x ≡ Err f → QuotedEndsAs single ctx start text x

@@ -39,5 +39,5 @@ pub data IsShallow (ctx : Context) (start : Position) (x : Result (Read (List �
 
 -- The scan read just this text, up to the rest, or refused it for its indentation.
 pub data IsRead (ctx : Context) (start : Position) (text rest : List ℕ) (x : Result (Read (List ℕ)) Fault) : Type 0 where
-  read : (place : Position) → x ≡ Ok (record { rest = rest; place = place; value = text }) → IsRead ctx start text rest x
+  read : (position : Position) → x ≡ Ok (record { rest = rest; position = position; value = text }) → IsRead ctx start text rest x
   shallow : IsShallow ctx start x → IsRead ctx start text rest x

@@ -25,26 +25,26 @@ abbrev pub begins_token : List ℕ → Bool
 begins_token [] = false
 begins_token (c ∷ r) = not (is_white c || (c == 35))
 
--- What is held after a separation: its place, and outside flow a key may begin after a break in it. Whether blanks alone stand before that place on its line is said apart.
+-- What is held after a separation: its position, and outside flow a key may begin after a break in it. Whether blanks alone stand before that position on its line is said apart.
 abbrev pub after_separation : Held → (leading : Bool) → (separation rest : List ℕ) → ScannerState
 after_separation s leading separation rest =
-    record { rest = rest; held = record s { place = position_after s.place separation rest; leading = leading; key_allowed = (not (in_flow s) && has_break separation) || s.key_allowed } }
+    record { rest = rest; held = record s { position = position_after s.position separation rest; leading = leading; key_allowed = (not (in_flow s) && has_break separation) || s.key_allowed } }
 
--- whether a place is left of the innermost level of indentation
+-- whether a position is left of the innermost level of indentation
 abbrev pub is_left : Held → Position → Bool
 is_left s p = not (is_empty s.indents) && nat_lt (suc p.col) s.indent
 
 -- How the way to the next token ends: all of a separation was passed; or a TAB left of the innermost level has more blanks after it, and then a token.
 pub data PassesAs (s : Held) (text : List ℕ) (x : Result ScannerState Fault) : Type 0 where
   passes : (leading : Bool) (separation rest : List ℕ) → text ≡ separation ++ rest → is_separation false separation rest ≡ true → begins_separation rest ≡ false → x ≡ Ok (after_separation s leading separation rest) → PassesAs s text x
-  refuses : (before blanks rest : List ℕ) → text ≡ before ++ 9 ∷ (blanks ++ rest) → is_separation false before (9 ∷ (blanks ++ rest)) ≡ true → is_left s (position_after s.place before (9 ∷ (blanks ++ rest))) ≡ true
-      → is_blanks blanks ≡ true → begins_token rest ≡ true → x ≡ Err (At problem.TabInBlockIndentation (position_after s.place (before ++ 9 ∷ blanks) rest)) → PassesAs s text x
+  refuses : (before blanks rest : List ℕ) → text ≡ before ++ 9 ∷ (blanks ++ rest) → is_separation false before (9 ∷ (blanks ++ rest)) ≡ true → is_left s (position_after s.position before (9 ∷ (blanks ++ rest))) ≡ true
+      → is_blanks blanks ≡ true → begins_token rest ≡ true → x ≡ Err (At problem.TabInBlockIndentation (position_after s.position (before ++ 9 ∷ blanks) rest)) → PassesAs s text x
 
 -- A separation before what is none was passed; or a TAB left of the innermost level is refused.
 pub data IsPassed (s : Held) (separation rest : List ℕ) (x : Result ScannerState Fault) : Type 0 where
   passed : (leading : Bool) → x ≡ Ok (after_separation s leading separation rest) → IsPassed s separation rest x
-  refused : (before blanks more : List ℕ) → separation ++ rest ≡ before ++ 9 ∷ (blanks ++ more) → is_separation false before (9 ∷ (blanks ++ more)) ≡ true → is_left s (position_after s.place before (9 ∷ (blanks ++ more))) ≡ true
-      → is_blanks blanks ≡ true → begins_token more ≡ true → x ≡ Err (At problem.TabInBlockIndentation (position_after s.place (before ++ 9 ∷ blanks) more)) → IsPassed s separation rest x
+  refused : (before blanks more : List ℕ) → separation ++ rest ≡ before ++ 9 ∷ (blanks ++ more) → is_separation false before (9 ∷ (blanks ++ more)) ≡ true → is_left s (position_after s.position before (9 ∷ (blanks ++ more))) ≡ true
+      → is_blanks blanks ≡ true → begins_token more ≡ true → x ≡ Err (At problem.TabInBlockIndentation (position_after s.position (before ++ 9 ∷ blanks) more)) → IsPassed s separation rest x
 
 -- whether a text begins with a space, a break or a comment
 abbrev pub begins_white_space : List ℕ → Bool
@@ -55,11 +55,11 @@ begins_white_space (c ∷ r) = (c == 32) || is_break c || (c == 35)
 pub data GoesOverAs (s : Held) (text : List ℕ) (x : Result ScannerState Fault) : Type 0 where
   goes : (leading : Bool) (separation rest : List ℕ) → text ≡ separation ++ rest → is_separation false separation rest ≡ true → begins_white_space rest ≡ false → x ≡ Ok (after_separation s leading separation rest) → GoesOverAs s text x
   misses : (separation rest : List ℕ) → text ≡ separation ++ rest → is_separation false separation rest ≡ true → begins_with 32 text ≡ false → has_break separation ≡ false → begins_white_space rest ≡ false
-      → x ≡ Err (At problem.WhitespaceExpected (position_after s.place separation rest)) → GoesOverAs s text x
+      → x ≡ Err (At problem.WhitespaceExpected (position_after s.position separation rest)) → GoesOverAs s text x
 
--- what spaces, TABs and a comment leave at a place, and which of the first two stood there
+-- what spaces, TABs and a comment leave at a position, and which of the first two stood there
 abbrev pub after_space : Position → (separation rest : List ℕ) → Whitespace → Read Whitespace
-after_space p separation rest found = record { rest = rest; place = position_after p separation rest; value = found }
+after_space p separation rest found = record { rest = rest; position = position_after p separation rest; value = found }
 
 -- whether a character stands in a text
 abbrev pub has : ℕ → List ℕ → Bool

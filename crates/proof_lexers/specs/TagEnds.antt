@@ -18,9 +18,9 @@ use Rattle.proof_lexers.specs.UriEnds.{problem_of}
 abbrev pub may_follow : (in_flow : Bool) → List ℕ → Bool
 may_follow in_flow r = is_at_gap r || (in_flow && begins_flow r)
 
--- what is left after a tag at a place
+-- what is left after a tag at a position
 abbrev pub after_tag : Position → (piece rest handle suffix : List ℕ) → Read Tag
-after_tag p piece rest handle suffix = record { rest = rest; place = further (length piece) p; value = record { handle = handle; suffix = suffix } }
+after_tag p piece rest handle suffix = record { rest = rest; position = further (length piece) p; value = record { handle = handle; suffix = suffix } }
 
 -- Why the text after a `!` is refused: octets of it are no characters; a verbatim tag is not closed; a handle of two marks has no suffix; or a tag stands there, and the text goes on.
 pub data IsTagRefusal (in_flow : Bool) (text : List ℕ) : Problem → Type 0 where

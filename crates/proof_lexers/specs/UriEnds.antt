@@ -18,7 +18,7 @@ problem_of no_character = problem.TagCodepoint
 
 -- What is left after the characters of a class that a text begins with, by what they mean; what was read before them stays before it.
 abbrev pub after_class : (class : ℕ → Bool) → (start p : Position) → (text before : List ℕ) → Result (List ℕ) UriFault → Result (Read (List ℕ)) Fault
-after_class class start p text before (Ok cs) = Ok (record { rest = after class text; place = further (length (leading class text)) p; value = before ++ cs })
+after_class class start p text before (Ok cs) = Ok (record { rest = after class text; position = further (length (leading class text)) p; value = before ++ cs })
 after_class class start p text before (Err f) = Err (At (problem_of f) start)
 
 -- all of them are read, escapes as octets of UTF-8

@@ -38,7 +38,7 @@ pub fn plain_scans_end_as_their_text_says()
     ensures { PlainScansEndAsTheirTextSays }
 {}
 
-/// On the way to the next token all blanks, breaks and comments are skipped, and nothing else; the place is the one
+/// On the way to the next token all blanks, breaks and comments are skipped, and nothing else; the position is the one
 /// after them. The text is refused only if a TAB left of the innermost level has a token after it on its line.
 pub fn separations_are_passed()
     ensures { SeparationsArePassed }
@@ -58,13 +58,13 @@ pub fn tags_end_as_their_text_says()
     ensures { TagsEndAsTheirTextSays }
 {}
 
-/// After `?` all spaces, breaks and comments are skipped, and nothing else; the place is the one after them. The text
+/// After `?` all spaces, breaks and comments are skipped, and nothing else; the position is the one after them. The text
 /// is refused only if neither a space nor a break stands there, nor a break after a comment.
 pub fn white_space_is_passed()
     ensures { WhiteSpaceIsPassed }
 {}
 
-/// Within a line, blanks (with TABs or without) and a comment after one are skipped, and nothing else; the place is
+/// Within a line, blanks (with TABs or without) and a comment after one are skipped, and nothing else; the position is
 /// the one after them, and what is reported to stand there does. The text is refused only if a comment stands after
 /// no blank.
 pub fn spaces_are_passed()
@@ -124,7 +124,7 @@ pub fn first_lines_give_the_column()
 {}
 
 /// Each piece of text that is a block scalar before the text after it is read as such: with its value, up to the
-/// piece's end and the spaces after it, at the place where its content begins. It is refused in two cases only: if a
+/// piece's end and the spaces after it, at the position where its content begins. It is refused in two cases only: if a
 /// TAB begins the line after the header; and if, after a scalar without content, text is indented as content of the
 /// innermost block collection but less than the empty lines before it.
 pub fn block_pieces_are_read()

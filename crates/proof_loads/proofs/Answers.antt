@@ -71,7 +71,7 @@ all_are_pushed keep_tags tokens es stream =
     let w = all_pushed ErrorReport nested.0 es (sym nested.1) in
     (ap (λ l. l.pushed) w, ap (λ l. l.ending) w)
 
--- the same without places
+-- the same without positions
 pub placed_stream : (keep_tags : Bool) (tokens : List Token) (es : List (Ev × Position)) → IsPlacedStream keep_tags tokens es → IsStream keep_tags (toks tokens) (events_of es)
 placed_stream keep_tags tokens es s = record { documents = s.documents; has_tokens = s.has_tokens; has_events = s.has_events }
 

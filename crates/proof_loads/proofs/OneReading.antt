@@ -19,7 +19,7 @@ use Rattle.model_scanner.specs.TextTokens.{HasToks}
 use Rattle.proof_loads.specs.TextReadAs.{IsReadAs}
 use Rattle.proof_loads.specs.Laws.{TextsAreReadInOneWay}
 
--- an event at a place that does not count
+-- an event at a position that does not count
 abbrev pub somewhere : Ev → Ev × Position
 somewhere e = (e, record { index = 0; line = 1; col = 0 })
 

@@ -132,7 +132,7 @@ mutual
 stream : (d : Documents) → Ends (stream_tokens d)
 stream d = there (documents d [])
 
--- ---- among tokens with their places
+-- ---- among tokens with their positions
 
 record EndAmong (given : List Token) : Type 0 where
   before : List Token

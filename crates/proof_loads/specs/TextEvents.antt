@@ -16,7 +16,7 @@ use Rattle.yaml_parser.specs.Follows.{listed}
 use Rattle.yaml_parser.specs.Loads.{Receives}
 
 -- The text has tokens, these are a stream's, and these are its events: scalars, aliases and flow starts stand at their tokens'
--- places, the other places are the parser's own. The events are nested.
+-- positions, the other positions are the parser's own. The events are nested.
 pub record HasEvents (keep_tags : Bool) (text : List ℕ) (events : List (Ev × Position)) : Type 0 where
   pub tokens : List Token
   pub has : HasTokens text tokens
@@ -30,7 +30,7 @@ pub record AreFirst (text : List ℕ) (given : List Token) : Type 0 where
   pub begins : (ts : List Token) → HasTokens text ts → scan.BeginsWith given ts
 
 -- The text's events begin with these, as far as its first tokens tell: a stream begins with these tokens but for the last, and with
--- these events at their places, and each stream that begins with these tokens begins with these events.
+-- these events at their positions, and each stream that begins with these tokens begins with these events.
 pub record BeginsEvents (keep_tags : Bool) (text : List ℕ) (events : List (Ev × Position)) : Type 0 where
   pub before : List Token
   pub last : Option Token

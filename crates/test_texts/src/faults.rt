@@ -45,7 +45,7 @@ const FAULTS: [Row; 72] = [
         "\n# syntax error\nscalar\nkey: [1, 2]]\nkey1:a2\n",
         "mapping values are not allowed in this context at byte 26 line 4 column 4",
     ),
-    ("- a\nb", "implicit key expected at byte 5 line 3 column 1"),
+    ("- a\nb", "simple key expected at byte 5 line 3 column 1"),
     (
         "a:\t- b",
         "':' must be followed by a valid YAML whitespace at byte 3 line 1 column 4",
@@ -186,7 +186,7 @@ const FAULTS: [Row; 72] = [
     ),
     (
         "-\na\n",
-        "implicit key expect ':' at byte 4 line 3 column 1",
+        "simple key expect ':' at byte 4 line 3 column 1",
     ),
     (
         "a: 'b\n\t c'",

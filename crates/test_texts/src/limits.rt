@@ -142,7 +142,7 @@ const LONGER_KEYS: [(&str, usize, &str, &str); 4] = [
         "a: 1\n",
         1025,
         ": 2",
-        "implicit key expect ':' at byte 1030 line 2 column 1026",
+        "simple key expect ':' at byte 1030 line 2 column 1026",
     ),
 ];
 

@@ -49,7 +49,7 @@ not_before : (done : Bool) (n m : ℕ) → (done ≡ true → n ≤ m) → (done
 not_before true n m ended going = ended refl
 not_before false n m ended going = omega (arith, going refl)
 
--- one more place of the window
+-- one more position of the window
 pub Fills-more : {T : Type 0} (source : Pulled T) (ring : List ℕ) (at line col c : ℕ) (next : Pulled T)
     → Fills source ring at line col → Pulls source c next → Fills next (ring ++ c ∷ []) at line col
 Fills-more source ring at line col c next fills pulls =

@@ -72,7 +72,7 @@ nil_of [] e = refl
 nil_of (x ∷ xs) e = absurd (omega arith)
 
 -- a run stops before what ends it
-pub ran_stops : (run : Run) (b : List ℕ) (p : Position) (t : List ℕ) → stops run (slice_index b 0) ≡ true → ran run b p t ≡ record { rest = b; place = p; text = t }
+pub ran_stops : (run : Run) (b : List ℕ) (p : Position) (t : List ℕ) → stops run (slice_index b 0) ≡ true → ran run b p t ≡ record { rest = b; position = p; text = t }
 ran_stops run [] p t h = refl
 ran_stops run (c ∷ b) p t h = rw h refl
 
@@ -107,5 +107,5 @@ module _ {T : Type 0} (run : Run) (s : Pulled T) (ring : List ℕ) (at line col 
 
   -- where memory was there, the run ended
   pub Ran-over : (h k : ℕ) → refused ≡ false → Reads (record (bare s at line col) { ahead = h }) (record (bare new (at + n) line (col + n)) { ahead = k }) (λ a b.
-      ran run a (record { index = at; line = line; col = col }) before ≡ record { rest = b; place = record { index = at + n; line = line; col = col + n }; text = after })
+      ran run a (record { index = at; line = line; col = col }) before ≡ record { rest = b; position = record { index = at + n; line = line; col = col + n }; text = after })
   Ran-over h k given = Reads-map _ _ (Reads-over h k) (λ a b e. e.0 ∙ ran_stops run b _ after (rw e.1 (over.stops given)))

@@ -4,7 +4,7 @@ use Rattle.std.specs.Iterator.{YieldsThen}
 use Rattle.defs_text.specs.Position.{Position}
 use Rattle.yaml_chars.specs.Source.{Pulled, CameFrom, IsEnd}
 
--- the iterator as it was, the characters that were taken from it and whether they are all; how many of these were read, and how many places are in the window; the mark; and how many characters may still be read
+-- the iterator as it was, the characters that were taken from it and whether they are all; how many of these were read, and how many positions are in the window; the mark; and how many characters may still be read
 pub record Reading (T : Type 0) : Type 0 where
   pub start : T
   pub taken : List ℕ
@@ -16,8 +16,8 @@ pub record Reading (T : Type 0) : Type 0 where
   pub col : ℕ
 
 -- where it stands
-abbrev pub place_of : {T : Type 0} → Reading T → Position
-place_of s = record { index = s.at; line = s.line; col = s.col }
+abbrev pub position_of : {T : Type 0} → Reading T → Position
+position_of s = record { index = s.at; line = s.line; col = s.col }
 
 -- w may be the whole text
 pub record Possible {T : Type 0} (s : Reading T) (w : List ℕ) : Type 0 where
@@ -40,8 +40,8 @@ pub record Reads {T : Type 0} (old new : Reading T) (P : List ℕ → List ℕ �
 abbrev pub HasChar : {T : Type 0} → Reading T → Type 0
 HasChar s = s.at < length s.taken
 
--- the same place in the text, with at least as much in the window
-pub record SamePlace {T : Type 0} (old new : Reading T) : Type 0 where
+-- the same position in the text, with at least as much in the window
+pub record SamePosition {T : Type 0} (old new : Reading T) : Type 0 where
   pub at : new.at ≡ old.at
   pub line : new.line ≡ old.line
   pub col : new.col ≡ old.col

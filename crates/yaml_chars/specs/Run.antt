@@ -15,16 +15,16 @@ stops (Plain flow) c = is_blank_or_breakz c || (c == 58) || (flow && is_flow c)
 -- the text after a run, where it stands, and the run's characters after a text
 pub record Ran : Type 0 where
   pub rest : List ℕ
-  pub place : Position
+  pub position : Position
   pub text : List ℕ
 
 abbrev pub ran : Run → List ℕ → Position → List ℕ → Ran
-ran run [] p t = record { rest = []; place = p; text = t }
+ran run [] p t = record { rest = []; position = p; text = t }
 ran run (c ∷ a) p t =
-    (if stops run c then record { rest = c ∷ a; place = p; text = t }
+    (if stops run c then record { rest = c ∷ a; position = p; text = t }
     else ran run a (record { index = p.index + 1; line = p.line; col = p.col + 1 }) (t ++ c ∷ []))
 
--- a source as a window sees it that is empty, at a place
+-- a source as a window sees it that is empty, at a position
 abbrev pub bare : {T : Type 0} → Pulled T → ℕ → ℕ → ℕ → Reading T
 bare s at line col = record { start = s.start; taken = s.taken; done = s.done; at = at; ahead = 0; left = (length s.taken - at) + s.left; line = line; col = col }
 

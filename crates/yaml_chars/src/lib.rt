@@ -1,4 +1,4 @@
-//! Characters: their classes, texts that grow by them, places in a text, and a window over any
+//! Characters: their classes, texts that grow by them, positions in a text, and a window over any
 //! iterator of characters.
 #![tactic(auto)]
 

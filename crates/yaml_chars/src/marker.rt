@@ -3,7 +3,7 @@ ghost use Rattle.defs_text.specs.Position.{IsSmall};
 
 use std::marker::Model;
 
-/// A place in a text.
+/// A position in a text.
 #[derive(Clone, Copy, Debug, PartialEq, Eq)]
 pub struct Marker {
     index: usize,
@@ -31,7 +31,7 @@ impl Marker {
         Marker { index, line, col }
     }
 
-    /// How many characters (not bytes) stand before this place.
+    /// How many characters (not bytes) stand before this position.
     pub fn index(&self) -> usize
         ensures value { result ≡ self.now.index }
         ensures small { result < 2 ^ 63 }

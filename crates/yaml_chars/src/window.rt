@@ -2,7 +2,7 @@ ghost use Rattle.std.specs.Prelude.{◌≡◌, ◌≢◌, ℕ, ◌+◌, ◌-◌,
 ghost use Rattle.std.specs.Iterator.{IsFinite, size};
 ghost use Rattle.yaml_chars.specs.Run.{stops, ran};
 ghost use Rattle.yaml_chars.specs.Source.{CameFrom};
-ghost use Rattle.yaml_chars.specs.Reading.{place_of, Reads, Sees, HasChar, SamePlace, OneOn, after_char, after_break, after_line, HasNoNul};
+ghost use Rattle.yaml_chars.specs.Reading.{position_of, Reads, Sees, HasChar, SamePosition, OneOn, after_char, after_break, after_line, HasNoNul};
 
 use crate::marker::Marker;
 use crate::ring::Ring;
@@ -64,7 +64,7 @@ impl<T: Iterator<Item = char>> Window<T> {
     pub fn lookahead(&mut self, n: usize)
         requires { n ≤ 16 }
         ensures reads { Reads self.old self.new (λ a b. b ≡ a) }
-        ensures place { SamePlace self.old self.new }
+        ensures position { SamePosition self.old self.new }
         ensures ahead { n ≤ self.new.ahead }
     {
         while self.len() < n {
@@ -75,7 +75,7 @@ impl<T: Iterator<Item = char>> Window<T> {
     fn fill_one(&mut self)
         requires { self.old.ahead < 16 }
         ensures reads { Reads self.old self.new (λ a b. b ≡ a) }
-        ensures place { SamePlace self.old self.new }
+        ensures position { SamePosition self.old self.new }
         ensures ahead { self.new.ahead ≡ self.old.ahead + 1 }
     {
         let c = self.source.next();
@@ -90,7 +90,7 @@ impl<T: Iterator<Item = char>> Window<T> {
         self.ring.len()
     }
 
-    /// The character `i` places on, or NUL after the end.
+    /// The character `i` positions on, or NUL after the end.
     pub fn peek(&self, i: usize) -> char
         requires { i < self.now.ahead }
         ensures sees { Sees self.now (λ a. result ≡ slice_index a i) }
@@ -123,7 +123,7 @@ impl<T: Iterator<Item = char>> Window<T> {
     /// The next character, which is then in the window.
     pub fn look_ch(&mut self) -> char
         ensures reads { Reads self.old self.new (λ a b. (b ≡ a) × (result ≡ slice_index b 0) × (result ≡ 0 → b ≡ [])) }
-        ensures place { SamePlace self.old self.new }
+        ensures position { SamePosition self.old self.new }
         ensures ahead { 0 < self.new.ahead }
         ensures has { result ≢ 0 → HasChar self.new }
         ensures done { result ≡ 0 → self.new.done ≡ true }
@@ -151,7 +151,7 @@ impl<T: Iterator<Item = char>> Window<T> {
         ensures taken { IfSome result (λ c. (stops run c ≡ false) × Reads self.old self.new (λ a b. a ≡ c ∷ b)) }
         ensures on { OnSome result (OneOn self.old self.new) }
         ensures stays { IfNone result (Reads self.old self.new (λ a b. (b ≡ a) × (stops run (slice_index b 0) ≡ true))) }
-        ensures place { IfNone result (SamePlace self.old self.new) }
+        ensures position { IfNone result (SamePosition self.old self.new) }
     {
         if self.len() == 0 {
             return self.take_from_source(run);
@@ -171,7 +171,7 @@ impl<T: Iterator<Item = char>> Window<T> {
         ensures taken { IfSome result (λ c. (stops run c ≡ false) × Reads self.old self.new (λ a b. a ≡ c ∷ b)) }
         ensures on { OnSome result (OneOn self.old self.new) }
         ensures stays { IfNone result (Reads self.old self.new (λ a b. (b ≡ a) × (stops run (slice_index b 0) ≡ true))) }
-        ensures place { IfNone result (SamePlace self.old self.new) }
+        ensures position { IfNone result (SamePosition self.old self.new) }
     {
         let c = self.source.next();
         if run.stops(c) {
@@ -186,7 +186,7 @@ impl<T: Iterator<Item = char>> Window<T> {
     /// runs are long, as a line is; words are taken faster one character at a time.
     #[inline(always)]
     pub fn take_run(&mut self, run: Run, text: &mut Text) -> Result<(), AllocError>
-        ensures ok { OnOk result (Reads self.old self.new (λ a b. ran run a (place_of self.old) text.old ≡ record { rest = b; place = place_of self.new; text = text.new })) }
+        ensures ok { OnOk result (Reads self.old self.new (λ a b. ran run a (position_of self.old) text.old ≡ record { rest = b; position = position_of self.new; text = text.new })) }
         ensures err { OnErr result (Reads self.old self.new (λ _ _. Unit {0})) }
     {
         'held: while self.len() > 0 {
@@ -202,7 +202,7 @@ impl<T: Iterator<Item = char>> Window<T> {
     #[inline(always)]
     fn run_from_source(&mut self, run: Run, text: &mut Text) -> Result<(), AllocError>
         requires { self.old.ahead ≡ 0 }
-        ensures ok { OnOk result (Reads self.old self.new (λ a b. ran run a (place_of self.old) text.old ≡ record { rest = b; place = place_of self.new; text = text.new })) }
+        ensures ok { OnOk result (Reads self.old self.new (λ a b. ran run a (position_of self.old) text.old ≡ record { rest = b; position = position_of self.new; text = text.new })) }
         ensures err { OnErr result (Reads self.old self.new (λ _ _. Unit {0})) }
     {
         let filling = Filling {
@@ -253,7 +253,7 @@ impl<T: Iterator<Item = char>> Window<T> {
 
     /// Where the window stands.
     pub fn mark(&self) -> Marker
-        ensures { result ≡ place_of self.now }
+        ensures { result ≡ position_of self.now }
     {
         Marker::new(self.index, self.line, self.col)
     }

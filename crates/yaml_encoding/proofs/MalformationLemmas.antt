@@ -14,17 +14,17 @@ use Rattle.yaml_encoding.specs.declared.stop.Stop.{Stop}
 use Rattle.yaml_encoding.specs.declared.stop.Stop.TheVariants.{Message, OutOfMemory}
 
 -- an empty message
-pub message_or_own : {A : Type 0} (s : String A) (place n : ℕ) (input : List ℕ) → string_bytes s ≡ [] → message_or (string_chars s) place n input ≡ message place n input
-message_or_own s place n input e = ap (λ m. message_or m place n input) (string_chars_nil s e)
+pub message_or_own : {A : Type 0} (s : String A) (position n : ℕ) (input : List ℕ) → string_bytes s ≡ [] → message_or (string_chars s) position n input ≡ message position n input
+message_or_own s position n input e = ap (λ m. message_or m position n input) (string_chars_nil s e)
 
-said_by : (m : List ℕ) (place n : ℕ) (input : List ℕ) → is_empty m ≡ false → message_or m place n input ≡ m
-said_by [] place n input e = cc
-said_by (c ∷ m) place n input e = refl
+said_by : (m : List ℕ) (position n : ℕ) (input : List ℕ) → is_empty m ≡ false → message_or m position n input ≡ m
+said_by [] position n input e = cc
+said_by (c ∷ m) position n input e = refl
 
 -- another
-pub message_or_said : {A : Type 0} (s : String A) (place n : ℕ) (input : List ℕ) → (length (string_bytes s) == 0) ≡ false → message_or (string_chars s) place n input ≡ string_chars s
+pub message_or_said : {A : Type 0} (s : String A) (position n : ℕ) (input : List ℕ) → (length (string_bytes s) == 0) ≡ false → message_or (string_chars s) position n input ≡ string_chars s
 unfolding string_chars
-message_or_said s place n input e = said_by _ place n input (is_nil_chars s ∙ e)
+message_or_said s position n input e = said_by _ position n input (is_nil_chars s ∙ e)
 
 module _ {post : (bytes ahead : ℕ) → Bor (List ℕ) → MutBor (String Global) → ControlFlow (String Global) (Unit {0}) → MutBor (String Global) → Type 0} where
   -- a call that stops
@@ -34,13 +34,13 @@ module _ {post : (bytes ahead : ℕ) → Bor (List ℕ) → MutBor (String Globa
       record { shown = shown; shows = e; text = text; holds = f; left = left; result = r; called = p; answers = ap (λ x. answer_of x left.now) h }
 
   -- and how it stops
-  pub stopped_by : (stop : Stop) (place n a : ℕ) (input so_far said : List ℕ) → IsStep post n a input so_far (break said)
-      → StopIs stop (λ o. o ≡ stopped (message_or said place n input)) → StopIs stop (Stepped (IsStep post) place n a input so_far)
-  stopped_by (Message m) place n a input so_far said taken e = (said, taken, cc)
-  stopped_by OutOfMemory place n a input so_far said taken e = tt
+  pub stopped_by : (stop : Stop) (position n a : ℕ) (input so_far said : List ℕ) → IsStep post n a input so_far (break said)
+      → StopIs stop (λ o. o ≡ stopped (message_or said position n input)) → StopIs stop (Stepped (IsStep post) position n a input so_far)
+  stopped_by (Message m) position n a input so_far said taken e = (said, taken, cc)
+  stopped_by OutOfMemory position n a input so_far said taken e = tt
 
 -- a stop whose message is left to the malformation
-pub stopped_without : {A : Type 0} (stop : Stop) (s : String A) (place n : ℕ) (input : List ℕ) → string_bytes s ≡ []
-    → StopIs stop (λ o. o ≡ stopped (message place n input)) → StopIs stop (λ o. o ≡ stopped (message_or (string_chars s) place n input))
-stopped_without (Message m) s place n input e h = h ∙ ap stopped (sym (message_or_own s place n input e))
-stopped_without OutOfMemory s place n input e h = tt
+pub stopped_without : {A : Type 0} (stop : Stop) (s : String A) (position n : ℕ) (input : List ℕ) → string_bytes s ≡ []
+    → StopIs stop (λ o. o ≡ stopped (message position n input)) → StopIs stop (λ o. o ≡ stopped (message_or (string_chars s) position n input))
+stopped_without (Message m) s position n input e h = h ∙ ap stopped (sym (message_or_own s position n input e))
+stopped_without OutOfMemory s position n input e h = tt

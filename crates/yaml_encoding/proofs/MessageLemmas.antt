@@ -27,7 +27,7 @@ others_step bytes t u v i in_range e f =
     rw (f, e, drop-cons bytes i 0 in_range, add-one i, append_assoc (t ++ codes ", ") (decimal (get_or bytes i 0)) (after (drop (suc i) bytes)), append_assoc t (codes ", ") (decimal (get_or bytes i 0) ++ after (drop (suc i) bytes))) refl
 
 -- the whole message
-pub message_whole : (t u v w x y bytes : List ℕ) (place : ℕ) → t ≡ [] → u ≡ t ++ chars (codes "Invalid character sequence at ") → v ≡ u ++ decimal place → w ≡ v ++ chars (codes ": [") → x ≡ w ++ listed bytes → y ≡ x ++ chars (codes "]")
-    → y ≡ codes "Invalid character sequence at " ++ decimal place ++ codes ": [" ++ listed bytes ++ codes "]"
+pub message_whole : (t u v w x y bytes : List ℕ) (position : ℕ) → t ≡ [] → u ≡ t ++ chars (codes "Invalid character sequence at ") → v ≡ u ++ decimal position → w ≡ v ++ chars (codes ": [") → x ≡ w ++ listed bytes → y ≡ x ++ chars (codes "]")
+    → y ≡ codes "Invalid character sequence at " ++ decimal position ++ codes ": [" ++ listed bytes ++ codes "]"
 unfolding chars
-message_whole t u v w x y bytes place e f g h i j = rw (j, i, h, g, f, e) refl
+message_whole t u v w x y bytes position e f g h i j = rw (j, i, h, g, f, e) refl

@@ -45,30 +45,30 @@ reading_takes utf_16_little b r = utf_16_takes little b r
 reading_takes utf_16_big b r = utf_16_takes big b r
 
 -- bytes that belong to the part before
-parts_from-after : (at : ℕ → List ℕ → Sequence) (n place : ℕ) (r : List ℕ) → n ≤ length r → parts_from at n place r ≡ parts_from at 0 (place + n) (drop n r)
-parts_from-after at zero place [] h = refl
-parts_from-after at zero place (b ∷ r) h = rw (add-zero place) refl
-parts_from-after at (suc n) place [] h = absurd (omega arith)
-parts_from-after at (suc n) place (b ∷ r) h =
-    let p : suc place + n ≡ place + suc n = omega arith in
-    parts_from-after at n (suc place) r (omega arith) ∙ ap (λ x. parts_from at 0 x (drop n r)) p
+parts_from-after : (at : ℕ → List ℕ → Sequence) (n position : ℕ) (r : List ℕ) → n ≤ length r → parts_from at n position r ≡ parts_from at 0 (position + n) (drop n r)
+parts_from-after at zero position [] h = refl
+parts_from-after at zero position (b ∷ r) h = rw (add-zero position) refl
+parts_from-after at (suc n) position [] h = absurd (omega arith)
+parts_from-after at (suc n) position (b ∷ r) h =
+    let p : suc position + n ≡ position + suc n = omega arith in
+    parts_from-after at n (suc position) r (omega arith) ∙ ap (λ x. parts_from at 0 x (drop n r)) p
 
 -- the first part, and those after it
-parts_from-first : (e : Encoding) (place b : ℕ) (r : List ℕ) → parts_from (reading e) 0 place (b ∷ r)
-    ≡ part_of place (b ∷ r) (reading e b r) ∷ parts_from (reading e) 0 (place + (reading e b r).bytes) (drop ((reading e b r).bytes) (b ∷ r))
-parts_from-first e place b r = first ((reading e b r).bytes) (reading_takes e b r)
+parts_from-first : (e : Encoding) (position b : ℕ) (r : List ℕ) → parts_from (reading e) 0 position (b ∷ r)
+    ≡ part_of position (b ∷ r) (reading e b r) ∷ parts_from (reading e) 0 (position + (reading e b r).bytes) (drop ((reading e b r).bytes) (b ∷ r))
+parts_from-first e position b r = first ((reading e b r).bytes) (reading_takes e b r)
   where
-    first : (n : ℕ) → (1 ≤ n) × (n ≤ suc (length r)) → part_of place (b ∷ r) (reading e b r) ∷ parts_from (reading e) (pred n) (suc place) r
-        ≡ part_of place (b ∷ r) (reading e b r) ∷ parts_from (reading e) 0 (place + n) (drop n (b ∷ r))
+    first : (n : ℕ) → (1 ≤ n) × (n ≤ suc (length r)) → part_of position (b ∷ r) (reading e b r) ∷ parts_from (reading e) (pred n) (suc position) r
+        ≡ part_of position (b ∷ r) (reading e b r) ∷ parts_from (reading e) 0 (position + n) (drop n (b ∷ r))
     first zero h = absurd (omega arith)
     first (suc n) h =
-        let p : suc place + n ≡ place + suc n = omega arith in
-        ap (λ ps. part_of place (b ∷ r) (reading e b r) ∷ ps) (parts_from-after (reading e) n (suc place) r (omega arith) ∙ ap (λ x. parts_from (reading e) 0 x (drop n r)) p)
+        let p : suc position + n ≡ position + suc n = omega arith in
+        ap (λ ps. part_of position (b ∷ r) (reading e b r) ∷ ps) (parts_from-after (reading e) n (suc position) r (omega arith) ∙ ap (λ x. parts_from (reading e) 0 x (drop n r)) p)
 
-pub parts_from-front : (e : Encoding) (place : ℕ) (input : List ℕ) (s : Sequence) → 0 < length input → s ≡ front (reading e) input
-    → parts_from (reading e) 0 place input ≡ part_of place input s ∷ parts_from (reading e) 0 (place + s.bytes) (drop (s.bytes) input)
-parts_from-front e place [] s some eq = absurd (omega arith)
-parts_from-front e place (b ∷ r) s some eq = rw eq (parts_from-first e place b r)
+pub parts_from-front : (e : Encoding) (position : ℕ) (input : List ℕ) (s : Sequence) → 0 < length input → s ≡ front (reading e) input
+    → parts_from (reading e) 0 position input ≡ part_of position input s ∷ parts_from (reading e) 0 (position + s.bytes) (drop (s.bytes) input)
+parts_from-front e position [] s some eq = absurd (omega arith)
+parts_from-front e position (b ∷ r) s some eq = rw eq (parts_from-first e position b r)
 
 pub front-bytes : (e : Encoding) (input : List ℕ) (s : Sequence) → 0 < length input → s ≡ front (reading e) input → (1 ≤ s.bytes) × (s.bytes ≤ length input)
 front-bytes e [] s some eq = absurd (omega arith)

@@ -1,4 +1,4 @@
--- Lemmas about an input that is read up to a place.
+-- Lemmas about an input that is read up to a position.
 use Rattle.std.proofs.Common.{◌≡◌, ℕ, ◌+◌, ◌-◌, ◌≤◌, ◌<◌, List, [], ◌∷◌, ◌++◌, Some, None, length, take, drop, refl, ap, ◌∙◌, arith, inl, inr, length-drop}
 use Rattle.std.proofs.Math.Seq.{take-length}
 use Rattle.std.proofs.lemmas.List.{drop_all, drop-drop}
@@ -10,7 +10,7 @@ use Rattle.yaml_encoding.specs.declared.stop.Stop.{Stop}
 use Rattle.yaml_encoding.specs.declared.stop.Stop.TheVariants.{Message, OutOfMemory}
 use Rattle.yaml_encoding.proofs.PartsLemmas.{parts_from-front, front-bytes}
 
--- what a slice from a place on is
+-- what a slice from a position on is
 pub rest_of : (input : List ℕ) (at : ℕ) → take (length input - at) (drop at input) ≡ drop at input
 rest_of input at = rw (← length-drop at input) (take-length (drop at input))
 
@@ -18,7 +18,7 @@ rest_of input at = rw (← length-drop at input) (take-length (drop at input))
 pub read_start : (step : Steps) (e : Encoding) (input : List ℕ) (mark : ℕ) (so_far : List ℕ) → chosen input ≡ record { encoding = e; mark = mark } → so_far ≡ [] → IsRead step e input mark so_far
 read_start step e input mark so_far c n = record { goes = λ o h. rw c (rw n at h) }
 
--- the parts from a place on
+-- the parts from a position on
 parts_at : (e : Encoding) (input : List ℕ) (at : ℕ) (s : Sequence) → at < length input → s ≡ front (reading e) (drop at input)
     → parts_from (reading e) 0 at (drop at input) ≡ part_by at (drop at input) (s.bytes) (s.ahead) (s.character) ∷ parts_from (reading e) 0 (at + s.bytes) (drop (at + s.bytes) input)
 parts_at e input at s in_range f =

@@ -9,7 +9,7 @@ ignores : ignored (parts (codes "---\na" ++ (0xA9 ∷ codes ": 1\n"))) ≡ codes
 unfolding unmarked chosen start_of is_lead is_trail digits
 ignores = refl
 
--- and stops, its place counted from 0
+-- and stops, its position counted from 0
 strict_stops : strict (parts (codes "---\na" ++ (0xA9 ∷ codes ": 1\n"))) ≡ stopped (codes "Invalid character sequence at 5: [169]")
 unfolding unmarked chosen start_of is_lead is_trail digits
 strict_stops = refl
@@ -19,7 +19,7 @@ lead_replaced : replaced (parts (0xFF ∷ 0xFE ∷ 0x00 ∷ 0xD8 ∷ 0x61 ∷ 0x
 unfolding unmarked chosen start_of is_lead is_trail digits
 lead_replaced = refl
 
--- its place is counted from the first byte of the mark
+-- its position is counted from the first byte of the mark
 lead_stops : strict (parts (0xFF ∷ 0xFE ∷ 0x00 ∷ 0xD8 ∷ 0x61 ∷ 0x00 ∷ [])) ≡ stopped (codes "Invalid character sequence at 2: [0, 216]")
 unfolding unmarked chosen start_of is_lead is_trail digits
 lead_stops = refl

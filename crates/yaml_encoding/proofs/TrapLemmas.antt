@@ -23,11 +23,11 @@ module _ (step : Steps) where
       → (ps : List Part) (so_far : List ℕ) (o : Outcome) → IsCalled step ps so_far o → o ≡ text (so_far ++ ignored ps)
   called_ignored f [] so_far o h = h ∙ ap text (sym (append-nil so_far))
   called_ignored f (character c ∷ ps) so_far o h = called_ignored f ps (so_far ++ c ∷ []) o h ∙ ap text (append_assoc so_far (c ∷ []) (ignored ps))
-  called_ignored f (malformation place n a input ∷ ps) so_far o (inl (next, taken, h)) =
+  called_ignored f (malformation position n a input ∷ ps) so_far o (inl (next, taken, h)) =
       let e = f n a input so_far (go_on next) taken in
       let same : next ≡ so_far = cc in
       called_ignored f ps next o h ∙ ap (λ s. text (s ++ ignored ps)) same
-  called_ignored f (malformation place n a input ∷ ps) so_far o (inr (m, taken, h)) =
+  called_ignored f (malformation position n a input ∷ ps) so_far o (inr (m, taken, h)) =
       let e = f n a input so_far (break m) taken in cc
 
   -- a step adds U+FFFD
@@ -35,11 +35,11 @@ module _ (step : Steps) where
       → (ps : List Part) (so_far : List ℕ) (o : Outcome) → IsCalled step ps so_far o → o ≡ text (so_far ++ replaced ps)
   called_replaced f [] so_far o h = h ∙ ap text (sym (append-nil so_far))
   called_replaced f (character c ∷ ps) so_far o h = called_replaced f ps (so_far ++ c ∷ []) o h ∙ ap text (append_assoc so_far (c ∷ []) (replaced ps))
-  called_replaced f (malformation place n a input ∷ ps) so_far o (inl (next, taken, h)) =
+  called_replaced f (malformation position n a input ∷ ps) so_far o (inl (next, taken, h)) =
       let e = f n a input so_far (go_on next) taken in
       let same : next ≡ so_far ++ 0xFFFD ∷ [] = cc in
       called_replaced f ps next o h ∙ ap (λ s. text (s ++ replaced ps)) same ∙ ap text (append_assoc so_far (0xFFFD ∷ []) (replaced ps))
-  called_replaced f (malformation place n a input ∷ ps) so_far o (inr (m, taken, h)) =
+  called_replaced f (malformation position n a input ∷ ps) so_far o (inr (m, taken, h)) =
       let e = f n a input so_far (break m) taken in cc
 
   -- characters before an outcome
@@ -60,12 +60,12 @@ module _ (step : Steps) where
       → (ps : List Part) (so_far : List ℕ) (o : Outcome) → IsCalled step ps so_far o → o ≡ put_all so_far (strict ps)
   called_strict f [] so_far o h = h ∙ ap text (sym (append-nil so_far))
   called_strict f (character c ∷ ps) so_far o h = called_strict f ps (so_far ++ c ∷ []) o h ∙ put_all-one so_far c (strict ps)
-  called_strict f (malformation place n a input ∷ ps) so_far o (inl (next, taken, h)) =
+  called_strict f (malformation position n a input ∷ ps) so_far o (inl (next, taken, h)) =
       let e = f n a input so_far (go_on next) taken in cc
-  called_strict f (malformation place n a input ∷ ps) so_far o (inr (m, taken, h)) =
+  called_strict f (malformation position n a input ∷ ps) so_far o (inr (m, taken, h)) =
       let e = f n a input so_far (break m) taken in
       let none : m ≡ [] = cc in
-      h ∙ ap (λ said. stopped (message_or said place n input)) none
+      h ∙ ap (λ said. stopped (message_or said position n input)) none
 
 module _ {F : _} {m : _} (called : YAMLDecodingTrapFn F m → Steps) (trap : YAMLDecodingTrap F m) (input : List ℕ) (r : Result (String Global) Stop) (is : OutcomeIs r (IsDecodedByCalls (steps_by called trap) input)) where
   pub text_ignored : trap ≡ Ignore → OutcomeIs r (λ o. o ≡ text (ignored (parts input)))

@@ -56,7 +56,7 @@ malformed n a = record { bytes = n; character = None; ahead = a }
 
 -- ---- UTF-8
 
--- the bytes that may stand at one place of a sequence
+-- the bytes that may stand at one position of a sequence
 pub record Range : Type 0 where
   pub low : ℕ
   pub high : ℕ
@@ -142,25 +142,25 @@ utf_16_sequence unit a (b ∷ r) = unit_sequence unit (unit a b) r
 
 -- ---- an input as characters and malformations
 
--- A character, or a malformation: its place in the input, its length in bytes, how many bytes after it were looked at, and the input from it on.
+-- A character, or a malformation: its position in the input, its length in bytes, how many bytes after it were looked at, and the input from it on.
 pub data Part : Type 0 where
   character : (code : ℕ) → Part
-  malformation : (place bytes ahead : ℕ) → (input : List ℕ) → Part
+  malformation : (position bytes ahead : ℕ) → (input : List ℕ) → Part
 
 -- a part of an input, by the character that it means
-abbrev pub part_by : (place : ℕ) → (input : List ℕ) → (bytes ahead : ℕ) → Option ℕ → Part
-part_by place input n a (Some c) = character c
-part_by place input n a None = malformation place n a input
+abbrev pub part_by : (position : ℕ) → (input : List ℕ) → (bytes ahead : ℕ) → Option ℕ → Part
+part_by position input n a (Some c) = character c
+part_by position input n a None = malformation position n a input
 
--- the part that a sequence at a place is
-abbrev pub part_of : (place : ℕ) → (input : List ℕ) → Sequence → Part
-part_of place input s = part_by place input (s.bytes) (s.ahead) (s.character)
+-- the part that a sequence at a position is
+abbrev pub part_of : (position : ℕ) → (input : List ℕ) → Sequence → Part
+part_of position input s = part_by position input (s.bytes) (s.ahead) (s.character)
 
--- the parts of an input from a place on, after so many bytes that belong to the part before
-abbrev pub parts_from : (ℕ → List ℕ → Sequence) → (belonging place : ℕ) → List ℕ → List Part
-parts_from at n place [] = []
-parts_from at (suc n) place (b ∷ r) = parts_from at n (suc place) r
-parts_from at zero place (b ∷ r) = part_of place (b ∷ r) (at b r) ∷ parts_from at (pred ((at b r).bytes)) (suc place) r
+-- the parts of an input from a position on, after so many bytes that belong to the part before
+abbrev pub parts_from : (ℕ → List ℕ → Sequence) → (belonging position : ℕ) → List ℕ → List Part
+parts_from at n position [] = []
+parts_from at (suc n) position (b ∷ r) = parts_from at n (suc position) r
+parts_from at zero position (b ∷ r) = part_of position (b ∷ r) (at b r) ∷ parts_from at (pred ((at b r).bytes)) (suc position) r
 
 -- how an encoding's sequences are read
 abbrev pub reading : Encoding → ℕ → List ℕ → Sequence
@@ -189,21 +189,21 @@ listed [] = []
 listed (n ∷ []) = decimal n
 listed (n ∷ ns) = decimal n ++ codes ", " ++ listed ns
 
--- the message of a malformation: its place, and its bytes
-abbrev pub message : (place bytes : ℕ) → (input : List ℕ) → List ℕ
-message place n input = codes "Invalid character sequence at " ++ decimal place ++ codes ": [" ++ listed (take n input) ++ codes "]"
+-- the message of a malformation: its position, and its bytes
+abbrev pub message : (position bytes : ℕ) → (input : List ℕ) → List ℕ
+message position n input = codes "Invalid character sequence at " ++ decimal position ++ codes ": [" ++ listed (take n input) ++ codes "]"
 
 -- a malformation adds nothing
 abbrev pub ignored : List Part → List ℕ
 ignored [] = []
 ignored (character c ∷ ps) = c ∷ ignored ps
-ignored (malformation place n a input ∷ ps) = ignored ps
+ignored (malformation position n a input ∷ ps) = ignored ps
 
 -- a malformation adds U+FFFD
 abbrev pub replaced : List Part → List ℕ
 replaced [] = []
 replaced (character c ∷ ps) = c ∷ replaced ps
-replaced (malformation place n a input ∷ ps) = 0xFFFD ∷ replaced ps
+replaced (malformation position n a input ∷ ps) = 0xFFFD ∷ replaced ps
 
 -- a character before an outcome
 abbrev pub put_before : ℕ → Outcome → Outcome
@@ -214,7 +214,7 @@ put_before c (stopped m) = stopped m
 abbrev pub strict : List Part → Outcome
 strict [] = text []
 strict (character c ∷ ps) = put_before c (strict ps)
-strict (malformation place n a input ∷ ps) = stopped (message place n input)
+strict (malformation position n a input ∷ ps) = stopped (message position n input)
 
 -- what a function that is called at a malformation answers: to go on with a text in place of that so far, or to stop with a message
 pub data Answer : Type 0 where
@@ -226,17 +226,17 @@ abbrev pub Steps : Type 1
 Steps = (bytes ahead : ℕ) → (input text_so_far : List ℕ) → Answer → Type 0
 
 -- a stop with the empty text has the message of the malformation
-abbrev pub message_or : List ℕ → (place bytes : ℕ) → (input : List ℕ) → List ℕ
-message_or [] place n input = message place n input
-message_or (c ∷ m) place n input = c ∷ m
+abbrev pub message_or : List ℕ → (position bytes : ℕ) → (input : List ℕ) → List ℕ
+message_or [] position n input = message position n input
+message_or (c ∷ m) position n input = c ∷ m
 
 -- Whether an outcome comes of the parts after a text so far, where at each malformation, in order, one step of the function is taken.
 abbrev pub IsCalled : Steps → List Part → (text_so_far : List ℕ) → Outcome → Type 0
 IsCalled step [] so_far outcome = outcome ≡ text so_far
 IsCalled step (character c ∷ ps) so_far outcome = IsCalled step ps (so_far ++ (c ∷ [])) outcome
-IsCalled step (malformation place n a input ∷ ps) so_far outcome =
+IsCalled step (malformation position n a input ∷ ps) so_far outcome =
     ((next : List ℕ) × step n a input so_far (go_on next) × IsCalled step ps next outcome) ⊎
-    ((m : List ℕ) × step n a input so_far (break m) × (outcome ≡ stopped (message_or m place n input)))
+    ((m : List ℕ) × step n a input so_far (break m) × (outcome ≡ stopped (message_or m position n input)))
 
 -- Whether an outcome is one of decoding an input with a function that is called at each malformation.
 abbrev pub IsDecodedByCalls : Steps → (bytes : List ℕ) → Outcome → Type 0

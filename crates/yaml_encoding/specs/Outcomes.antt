@@ -21,11 +21,11 @@ abbrev pub LeftIs : Result (Unit {0}) Stop → String Global → (Outcome → Ty
 LeftIs (Ok u) s P = P (text (string_chars s))
 LeftIs (Err stop) s P = StopIs stop P
 
--- An input is read up to a place, with this text so far: what comes of the rest comes of it all.
+-- An input is read up to a position, with this text so far: what comes of the rest comes of it all.
 pub record IsRead (step : Steps) (encoding : Encoding) (input : List ℕ) (at : ℕ) (so_far : List ℕ) : Type 0 where
   pub goes : (outcome : Outcome) → IsCalled step (parts_from (reading encoding) 0 at (drop at input)) so_far outcome → IsCalled step (parts input) [] outcome
 
--- A part of an input is read at a place: up to the place after it, or to a stop.
+-- A part of an input is read at a position: up to the position after it, or to a stop.
 abbrev pub Passes : (step : Steps) → (encoding : Encoding) → (input : List ℕ) → (at : ℕ) → (so_far next : List ℕ) → Result ℕ Stop → Type 0
 Passes step e input at so_far next (Ok after) = (at < after) × (after ≤ length input) × (IsRead step e input at so_far → IsRead step e input after next)
 Passes step e input at so_far next (Err stop) = IsRead step e input at so_far → StopIs stop (IsDecodedByCalls step input)

@@ -39,6 +39,6 @@ steps_by called Strict n a input so_far answer = answer ≡ break []
 steps_by called (Call f) n a input so_far answer = called f n a input so_far answer
 
 -- a step of a trap at a malformation, where the text before it and what it answers are known
-abbrev pub Stepped : Steps → (place bytes ahead : ℕ) → (input text_so_far : List ℕ) → Outcome → Type 0
-Stepped step place n a input so_far (text cs) = step n a input so_far (go_on cs)
-Stepped step place n a input so_far (stopped m) = (said : List ℕ) × step n a input so_far (break said) × (m ≡ message_or said place n input)
+abbrev pub Stepped : Steps → (position bytes ahead : ℕ) → (input text_so_far : List ℕ) → Outcome → Type 0
+Stepped step position n a input so_far (text cs) = step n a input so_far (go_on cs)
+Stepped step position n a input so_far (stopped m) = (said : List ℕ) × step n a input so_far (break said) × (m ≡ message_or said position n input)

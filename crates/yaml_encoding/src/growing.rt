@@ -14,7 +14,7 @@ pub(crate) fn push(text: &mut String, c: char) -> Result<(), AllocError>
     Ok(())
 }
 
-/// Appends the decimal number of a place or a byte.
+/// Appends the decimal number of a position or a byte.
 #[tactic(auto, using(crate::proofs::GrowingLemmas::number_pushed))]
 pub(crate) fn push_number(text: &mut String, number: usize) -> Result<(), AllocError>
     ensures { OnOk result (string_chars text.new ≡ string_chars text.old ++ decimal number) }

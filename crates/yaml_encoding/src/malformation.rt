@@ -12,11 +12,11 @@ use crate::trap::{YAMLDecodingTrap, YAMLDecodingTrapFn};
 use std::alloc::Global;
 use std::ops::ControlFlow;
 
-/// A malformation: its place, counted in bytes from the start of the input, how many bytes it has, and how many after
+/// A malformation: its position, counted in bytes from the start of the input, how many bytes it has, and how many after
 /// it were looked at.
 #[derive(Clone, Copy)]
 pub(crate) struct Malformation {
-    pub place: usize,
+    pub position: usize,
     pub bytes: u8,
     pub ahead: u8,
 }
@@ -24,10 +24,10 @@ pub(crate) struct Malformation {
 /// A stop with the malformation's own message.
 fn stop(alloc: Global, malformation: Malformation, input: &[u8]) -> Stop
     requires { malformation.bytes ≤ length input.now }
-    ensures { StopIs result (λ o. o ≡ stopped (message malformation.place malformation.bytes input.now)) }
+    ensures { StopIs result (λ o. o ≡ stopped (message malformation.position malformation.bytes input.now)) }
 {
     let malformed = &input[..usize::from(malformation.bytes)];
-    match message(alloc, malformation.place, malformed) {
+    match message(alloc, malformation.position, malformed) {
         Ok(message) => Stop::Message(message),
         Err(_) => Stop::OutOfMemory,
     }
@@ -37,7 +37,7 @@ fn stop(alloc: Global, malformation: Malformation, input: &[u8]) -> Stop
 #[tactic(auto, using(crate::proofs::MalformationLemmas::message_or_own, crate::proofs::MalformationLemmas::message_or_said))]
 fn broken(message: String, malformation: Malformation, input: &[u8]) -> Stop
     requires { malformation.bytes ≤ length input.now }
-    ensures { StopIs result (λ o. o ≡ stopped (message_or (string_chars message) malformation.place malformation.bytes input.now)) }
+    ensures { StopIs result (λ o. o ≡ stopped (message_or (string_chars message) malformation.position malformation.bytes input.now)) }
 {
     if message.is_empty() {
         let alloc = *message.allocator();
@@ -54,7 +54,7 @@ fn call(
     text: &mut String,
 ) -> Result<(), Stop>
     requires { malformation.bytes ≤ length input.now }
-    ensures { LeftIs result text.new (Stepped (IsStep (post stored.now.function)) malformation.place malformation.bytes malformation.ahead input.now (string_chars text.old)) }
+    ensures { LeftIs result text.new (Stepped (IsStep (post stored.now.function)) malformation.position malformation.bytes malformation.ahead input.now (string_chars text.old)) }
 {
     match (stored.function)(malformation.bytes, malformation.ahead, input, text) {
         ControlFlow::Continue(()) => Ok(()),
@@ -71,7 +71,7 @@ pub(crate) fn trapped(
     text: &mut String,
 ) -> Result<(), Stop>
     requires { malformation.bytes ≤ length input.now }
-    ensures { LeftIs result text.new (Stepped (steps_by (λ f. IsStep (post f.function)) trap) malformation.place malformation.bytes malformation.ahead input.now (string_chars text.old)) }
+    ensures { LeftIs result text.new (Stepped (steps_by (λ f. IsStep (post f.function)) trap) malformation.position malformation.bytes malformation.ahead input.now (string_chars text.old)) }
 {
     let alloc = *text.allocator();
     match trap {

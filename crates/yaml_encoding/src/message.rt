@@ -31,13 +31,13 @@ fn push_list(text: &mut String, bytes: &[u8]) -> Result<(), AllocError>
     Ok(())
 }
 
-/// The message of a malformation: its place, counted in bytes from the input's first, and its bytes.
-pub(crate) fn message(alloc: Global, place: usize, malformed: &[u8]) -> Result<String, AllocError>
-    ensures { IfOk result (λ m. string_chars m ≡ codes "Invalid character sequence at " ++ decimal place ++ codes ": [" ++ listed malformed.now ++ codes "]") }
+/// The message of a malformation: its position, counted in bytes from the input's first, and its bytes.
+pub(crate) fn message(alloc: Global, position: usize, malformed: &[u8]) -> Result<String, AllocError>
+    ensures { IfOk result (λ m. string_chars m ≡ codes "Invalid character sequence at " ++ decimal position ++ codes ": [" ++ listed malformed.now ++ codes "]") }
 {
     let mut text = String::new(alloc);
     push_text(&mut text, "Invalid character sequence at ")?;
-    push_number(&mut text, place)?;
+    push_number(&mut text, position)?;
     push_text(&mut text, ": [")?;
     push_list(&mut text, malformed)?;
     push_text(&mut text, "]")?;

@@ -14,23 +14,23 @@ use crate::stop::Stop;
 use crate::trap::YAMLDecodingTrap;
 use std::alloc::Global;
 
-/// Reads the part of an input at a place, and returns the place after it.
+/// Reads the part of an input at a position, and returns the position after it.
 fn read_part(
     encoding: Encoding,
     trap: YAMLDecodingTrap,
     input: &[u8],
-    place: usize,
+    position: usize,
     text: &mut String,
 ) -> Result<usize, Stop>
-    requires { place < length input.now }
-    ensures { Passes (steps_by (λ f. IsStep (post f.function)) trap) (encoding_of encoding) input.now place (string_chars text.old) (string_chars text.new) result }
+    requires { position < length input.now }
+    ensures { Passes (steps_by (λ f. IsStep (post f.function)) trap) (encoding_of encoding) input.now position (string_chars text.old) (string_chars text.new) result }
 {
-    let rest = &input[place..];
+    let rest = &input[position..];
     let sequence = encoding.sequence(rest);
-    let after = place + usize::from(sequence.bytes);
+    let after = position + usize::from(sequence.bytes);
     let Some(c) = sequence.character else {
         let malformation = Malformation {
-            place,
+            position,
             bytes: sequence.bytes,
             ahead: sequence.ahead,
         };
@@ -43,24 +43,24 @@ fn read_part(
     Ok(after)
 }
 
-/// Reads some of an input at a place, and returns the place after it: in UTF-8 a run of ASCII bytes if one begins
+/// Reads some of an input at a position, and returns the position after it: in UTF-8 a run of ASCII bytes if one begins
 /// there, else one part.
 fn read_some(
     encoding: Encoding,
     trap: YAMLDecodingTrap,
     input: &[u8],
-    place: usize,
+    position: usize,
     text: &mut String,
 ) -> Result<usize, Stop>
-    requires { place < length input.now }
-    ensures { Passes (steps_by (λ f. IsStep (post f.function)) trap) (encoding_of encoding) input.now place (string_chars text.old) (string_chars text.new) result }
+    requires { position < length input.now }
+    ensures { Passes (steps_by (λ f. IsStep (post f.function)) trap) (encoding_of encoding) input.now position (string_chars text.old) (string_chars text.new) result }
 {
     match encoding {
-        Encoding::Utf8 if input[place] < 128 => {
-            let count = read_run(&input[place..], text)?;
-            Ok(place + count)
+        Encoding::Utf8 if input[position] < 128 => {
+            let count = read_run(&input[position..], text)?;
+            Ok(position + count)
         }
-        _ => read_part(encoding, trap, input, place, text),
+        _ => read_part(encoding, trap, input, position, text),
     }
 }
 
@@ -70,9 +70,9 @@ fn decoded(alloc: Global, input: &[u8], trap: YAMLDecodingTrap) -> Result<String
 {
     let chosen = chosen_encoding(input);
     let mut text = String::with_capacity(alloc, input.len())?;
-    let mut place = chosen.mark;
-    'parts: while place < input.len() {
-        place = read_some(chosen.encoding, trap, input, place, &mut text)?;
+    let mut position = chosen.mark;
+    'parts: while position < input.len() {
+        position = read_some(chosen.encoding, trap, input, position, &mut text)?;
     }
     Ok(text)
 }

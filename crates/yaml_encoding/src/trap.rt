@@ -12,7 +12,7 @@ use std::ops::ControlFlow;
 /// * the text so far, which the function may change in any way.
 ///
 /// `Continue` goes on after the malformation. `Break` stops with a message. An empty message stands for `Invalid
-/// character sequence at {place}: {bytes}`, as with [`Strict`](YAMLDecodingTrap::Strict).
+/// character sequence at {position}: {bytes}`, as with [`Strict`](YAMLDecodingTrap::Strict).
 #[derive(Clone, Copy)]
 pub struct YAMLDecodingTrapFn {
     // What a call may return is said by its own contract.
@@ -26,7 +26,7 @@ pub struct YAMLDecodingTrapFn {
 pub enum YAMLDecodingTrap {
     /// It adds nothing to the text.
     Ignore,
-    /// The first one stops decoding, with the message `Invalid character sequence at {place}: {bytes}`. The place
+    /// The first one stops decoding, with the message `Invalid character sequence at {position}: {bytes}`. The position
     /// counts bytes from the start of the input, and the bytes are decimal numbers, as in `Invalid character sequence
     /// at 5: [169]`.
     Strict,

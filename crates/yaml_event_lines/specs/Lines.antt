@@ -47,7 +47,7 @@ properties_text a t = anchor_text a ++ tag_text t
 abbrev pub scalar_text : Style → List ℕ → List ℕ
 scalar_text s text = codes " " ++ style_name s ++ codes " " ++ quoted_text text
 
--- what stands after an event's name and place
+-- what stands after an event's name and position
 abbrev pub details : Ev → List ℕ
 details (Ev.alias n) = codes " *" ++ decimal n
 details (Ev.scalar text s a t) = properties_text a t ++ scalar_text s text

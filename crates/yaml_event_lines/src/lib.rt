@@ -14,7 +14,7 @@ use yaml_emitter::DoubleQuoted;
 use yaml_parser::{Event, Tag};
 use yaml_tokens::TScalarStyle;
 
-/// Writes an event's line: its name, its place, and each of these that it has: an alias's number,
+/// Writes an event's line: its name, its position, and each of these that it has: an alias's number,
 /// an anchor's, a tag, a scalar's style and text.
 pub fn write_event<W: Write>(out: &mut W, event: &Event, mark: Marker) -> io::Result<()>
     ensures { OnOk result (Appends (W.contents out.old) (W.contents out.new) (event_line (ev_of event.now) mark)) }

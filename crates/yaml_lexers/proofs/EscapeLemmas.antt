@@ -3,7 +3,7 @@ use Rattle.std.proofs.Common.{◌≡◌, ◌≤◌, ◌<◌, ◌+◌, ◌*◌, �
 use Rattle.std.proofs.Math.Nat.{pow-succ', pow-le-pow_right}
 use Rattle.defs_text.specs.Position.{Position}
 use Rattle.yaml_chars.specs.Class.{is_break, is_blank}
-use Rattle.yaml_chars.specs.Reading.{Reading, Reads, Sees, place_of, after_char}
+use Rattle.yaml_chars.specs.Reading.{Reading, Reads, Sees, position_of, after_char}
 use Rattle.yaml_chars.proofs.ReadingLemmas.{Reads-saw, Sees-both}
 use Rattle.model_lexers.specs.declared.context.Context.{Context}
 use Rattle.model_lexers.specs.Machine.{past}
@@ -12,8 +12,8 @@ use Rattle.model_lexers.specs.Quoted.{quoted_from, digits_from, inside, breaking
 use Rattle.yaml_lexers.specs.ShownQuoted.{at_folded}
 
 backslash : (ctx : Context) (start : Position) (a : List ℕ) (p : Position) (t : Folded)
-    → quoted_from false ctx start (92 ∷ a) (record { mode = inside; place = p; folded = t })
-    ≡ quoted_from false ctx start a (record { mode = (if is_break (slice_index a 0) then breaking else named); place = past p; folded = t })
+    → quoted_from false ctx start (92 ∷ a) (record { mode = inside; position = p; folded = t })
+    ≡ quoted_from false ctx start a (record { mode = (if is_break (slice_index a 0) then breaking else named); position = past p; folded = t })
 unfolding is_break is_blank
 backslash ctx start a p t = refl
 
@@ -27,7 +27,7 @@ backslash_read old new d breaks here next is state reads =
     Reads-saw old new (Sees-both old here next) reads (λ a b w e context start t.
     let f : a ≡ 92 ∷ b = e ∙ ap (λ x. x ∷ b) (sym w.0) in
     let h : breaks ≡ is_break (slice_index b 0) = is ∙ ap is_break (w.1 ∙ ap (λ x. slice_index x 1) f) in
-    rw (state, h, f) (backslash context start b (place_of old) t))
+    rw (state, h, f) (backslash context start b (position_of old) t))
 
 -- one digit fewer is left of a code
 pub one_fewer : (single : Bool) (ctx : Context) (start : Position) (left code : ℕ) (a : List ℕ) (p : Position) (t : Folded) → 0 < left

@@ -1,6 +1,6 @@
 -- Lemmas about a window.
 use Rattle.std.proofs.Common.{◌≡◌, ℕ, List, length, length-take, arith, ap}
-use Rattle.yaml_chars.specs.Reading.{Reading, Reads, HasChar, SamePlace, place_of}
+use Rattle.yaml_chars.specs.Reading.{Reading, Reads, HasChar, SamePosition, position_of}
 use Rattle.yaml_chars.proofs.ReadingLemmas.{Possible-taken}
 
 -- a character that stands at the front stays there
@@ -10,5 +10,5 @@ has_kept old new reads same has =
     let e = length-take (length old.taken) new.taken in
     omega (arith, e, ap length p.begins)
 
-pub place_kept : {T : Type 0} (old new : Reading T) → SamePlace old new → place_of old ≡ place_of new
-place_kept old new same = let i : new.at ≡ old.at = same.at in let l : new.line ≡ old.line = same.line in let c : new.col ≡ old.col = same.col in cc
+pub position_kept : {T : Type 0} (old new : Reading T) → SamePosition old new → position_of old ≡ position_of new
+position_kept old new same = let i : new.at ≡ old.at = same.at in let l : new.line ≡ old.line = same.line in let c : new.col ≡ old.col = same.col in cc

@@ -1,7 +1,7 @@
 -- What the code of flow scalars holds, as the model's states.
 use Rattle.std.specs.Prelude.{◌≡◌, ◌≢◌, ℕ, List, Result, Ok, Err}
 use Rattle.defs_text.specs.Position.{Position}
-use Rattle.yaml_chars.specs.Reading.{Reading, Reads, place_of}
+use Rattle.yaml_chars.specs.Reading.{Reading, Reads, position_of}
 use Rattle.defs_text.specs.Text.{string_chars}
 use Rattle.yaml_tokens.specs.declared.problem.Fault.{Fault}
 use Rattle.yaml_tokens.specs.declared.problem.Fault.TheVariants.{OutOfMemory}
@@ -16,7 +16,7 @@ folded p = record { text = p.text; gap = p.gap; leading = p.leading; escaped = p
 
 -- what was read of a plain scalar in front of a window's next characters
 abbrev pub at_folded : {T : Type 0} → Mode → Reading T → Folded → PlainState
-at_folded mode w t = record { mode = mode; place = place_of w; folded = t }
+at_folded mode w t = record { mode = mode; position = position_of w; folded = t }
 
 abbrev pub at : {T : Type 0} → Mode → Reading T → Folding → PlainState
 at mode w p = at_folded mode w (folded p)
@@ -26,12 +26,12 @@ plain_shown s = record { text = string_chars s.text; leading = s.leading }
 
 -- what is left after a function
 abbrev pub read : {T A : Type 0} → List ℕ → Reading T → A → Read A
-read b w x = record { rest = b; place = place_of w; value = x }
+read b w x = record { rest = b; position = position_of w; value = x }
 
 -- what is left is read as the model reads it
 abbrev pub Lexes : {T A : Type 0} → (List ℕ → Position → Result (Read A) Fault) → Reading T → Reading T → A → Type 0
-Lexes f old new x = Reads old new (λ a b. f a (place_of old) ≡ Ok (read b new x))
+Lexes f old new x = Reads old new (λ a b. f a (position_of old) ≡ Ok (read b new x))
 
 -- the model refuses what is left with this fault, unless memory was refused
 abbrev pub Refuses : {T A : Type 0} → (List ℕ → Position → Result (Read A) Fault) → Reading T → Reading T → Fault → Type 0
-Refuses f old new fault = Reads old new (λ a b. fault ≢ OutOfMemory → f a (place_of old) ≡ Err fault)
+Refuses f old new fault = Reads old new (λ a b. fault ≢ OutOfMemory → f a (position_of old) ≡ Err fault)

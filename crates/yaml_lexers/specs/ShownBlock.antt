@@ -1,6 +1,6 @@
 -- What the code of block scalars holds, as the model's states.
 use Rattle.std.specs.Prelude.{ℕ, List}
-use Rattle.yaml_chars.specs.Reading.{Reading, place_of}
+use Rattle.yaml_chars.specs.Reading.{Reading, position_of}
 use Rattle.yaml_tokens.specs.declared.token.Chomping.{Chomping}
 use Rattle.yaml_lexers.specs.declared.block.Lines as code
 use Rattle.yaml_lexers.specs.declared.header.Header as code_header
@@ -10,7 +10,7 @@ abbrev pub lines : code.Lines → Lines
 lines l = record { text = l.text; breaks = l.breaks; broken = l.broken; blank = l.blank }
 
 abbrev pub at : {T : Type 0} → Mode → Reading T → code.Lines → BlockState
-at mode w l = record { mode = mode; place = place_of w; lines = lines l }
+at mode w l = record { mode = mode; position = position_of w; lines = lines l }
 
 abbrev pub indicators_shown : Chomping → ℕ → Indicators
 indicators_shown c n = record { chomping = c; increment = n }

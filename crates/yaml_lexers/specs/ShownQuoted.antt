@@ -1,7 +1,7 @@
 -- What the code of quoted scalars holds, as the model's states.
 use Rattle.std.specs.Prelude.{◌≡◌, ◌≢◌, ◌≤◌, ◌<◌, ℕ, Bool, Result, Err, OnOk, IfOk, IfErr, slice_index}
 use Rattle.defs_text.specs.Position.{Position}
-use Rattle.yaml_chars.specs.Reading.{Reading, Reads, Sees, HasChar, place_of}
+use Rattle.yaml_chars.specs.Reading.{Reading, Reads, Sees, HasChar, position_of}
 use Rattle.yaml_tokens.specs.declared.problem.Fault.{Fault}
 use Rattle.yaml_tokens.specs.declared.problem.Fault.TheVariants.{OutOfMemory}
 use Rattle.yaml_lexers.specs.declared.folding.Folding.{Folding}
@@ -28,12 +28,12 @@ mode_of part.Closed = closed
 
 -- what was read of a quoted scalar in front of a window's next characters
 abbrev pub at_folded : {T : Type 0} → Mode → Reading T → Folded → QuotedState
-at_folded mode w t = record { mode = mode; place = place_of w; folded = t }
+at_folded mode w t = record { mode = mode; position = position_of w; folded = t }
 
 abbrev pub at : {T : Type 0} → Mode → Reading T → Folding → QuotedState
 at mode w p = at_folded mode w (folded p)
 
--- What is left at one place of a scalar is read as what is left at a later one.
+-- What is left at one position of a scalar is read as what is left at a later one.
 abbrev pub GoesOn : {T : Type 0} → Quote → (from : Mode) → Reading T → Folding → (to : Mode) → Reading T → Folding → Type 0
 GoesOn q from old before to new so_far =
     Reads old new (λ a b. quoted_from q.single q.context q.start a (at from old before) ≡ quoted_from q.single q.context q.start b (at to new so_far))
@@ -43,7 +43,7 @@ abbrev pub AllGoOn : {T : Type 0} → (from : Mode) → Reading T → Folding �
 AllGoOn from old before to new so_far =
     Reads old new (λ a b. (single : Bool) (context : Context) (start : Position) → quoted_from single context start a (at from old before) ≡ quoted_from single context start b (at to new so_far))
 
--- what is left at a place of a scalar is refused with this fault, unless memory was refused
+-- what is left at a position of a scalar is refused with this fault, unless memory was refused
 abbrev pub IsRefused : {T : Type 0} → Quote → (from : Mode) → Reading T → Folding → Reading T → Fault → Type 0
 IsRefused q from old before new fault =
     Reads old new (λ a b. fault ≢ OutOfMemory → quoted_from q.single q.context q.start a (at from old before) ≡ Err fault)
@@ -56,12 +56,12 @@ ReadsOn q from old before result to new so_far = record {
   less : OnOk result (new.left < old.left);
 }
 
--- c stands at the front of a window that holds so many places
-abbrev pub Shows : {T : Type 0} → Reading T → (places c : ℕ) → Type 0
-Shows w places c = record {
+-- c stands at the front of a window that holds so many positions
+abbrev pub Shows : {T : Type 0} → Reading T → (positions c : ℕ) → Type 0
+Shows w positions c = record {
   here : Sees w (λ a. c ≡ slice_index a 0);
   has : HasChar w;
-  ahead : places ≤ w.ahead;
+  ahead : positions ≤ w.ahead;
 }
 
 -- how many digits a code has after the first

@@ -1,6 +1,6 @@
 -- What the code of tags holds, as the model's states.
 use Rattle.std.specs.Prelude.{ℕ, List}
-use Rattle.yaml_chars.specs.Reading.{Reading, place_of}
+use Rattle.yaml_chars.specs.Reading.{Reading, position_of}
 use Rattle.model_lexers.specs.Uri.{Mode, UriState}
 use Rattle.model_lexers.specs.Tag.{Tag}
 use Rattle.model_lexers.specs.Directive.{Kind, version, tag, unknown}
@@ -10,7 +10,7 @@ use Rattle.yaml_lexers.specs.declared.directive.Directive.TheVariants.{Version, 
 
 -- a text that a window's next characters go on with
 abbrev pub at : {T : Type 0} → Mode → Reading T → List ℕ → UriState
-at mode w t = record { mode = mode; place = place_of w; text = t }
+at mode w t = record { mode = mode; position = position_of w; text = t }
 
 -- a tag's handle and suffix
 abbrev pub tag_shown : List ℕ → List ℕ → Tag

@@ -1,7 +1,7 @@
 //! Anchors and aliases (YAML 1.2, sections 6.9.2 and 7.1).
 ghost use Rattle.std.specs.Prelude.{◌≡◌, ◌<◌, Ok, Err, OnOk, OnErr, IfOk, IfErr};
 ghost use Rattle.yaml_chars.specs.Class.{is_anchor};
-ghost use Rattle.yaml_chars.specs.Reading.{Reads, HasChar, place_of};
+ghost use Rattle.yaml_chars.specs.Reading.{Reads, HasChar, position_of};
 ghost use Rattle.defs_text.specs.Text.{string_chars};
 ghost use Rattle.model_lexers.specs.Machine.{take_while};
 ghost use Rattle.model_lexers.specs.Anchor.{anchor_name};
@@ -18,7 +18,7 @@ fn read_name<T: Iterator<Item = char>>(
     window: &mut Window<T>,
     name: &mut Text,
 ) -> Result<(), AllocError>
-    ensures ok { OnOk result (Reads window.old window.new (λ a b. take_while is_anchor a (place_of window.old) name.old ≡ read b window.new name.new)) }
+    ensures ok { OnOk result (Reads window.old window.new (λ a b. take_while is_anchor a (position_of window.old) name.old ≡ read b window.new name.new)) }
     ensures err { OnErr result (Reads window.old window.new (λ _ _. Unit {0})) }
 {
     'name: loop {

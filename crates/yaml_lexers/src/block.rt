@@ -1,6 +1,6 @@
 //! Block scalars (YAML 1.2, section 8.1).
 ghost use Rattle.std.specs.Prelude.{◌≡◌, ◌≢◌, ◌≤◌, ◌<◌, ◌^◌, ◌++◌, ◌&&◌, not, [], ℕ, Bool, true, false, Ok, Err, OnOk, OnErr, IfOk, IfErr};
-ghost use Rattle.yaml_chars.specs.Reading.{Reads, Sees, HasChar, place_of};
+ghost use Rattle.yaml_chars.specs.Reading.{Reads, Sees, HasChar, position_of};
 ghost use Rattle.defs_text.specs.Text.{string_chars};
 ghost use Rattle.model_lexers.specs.Block.{margin, line, lines_from, begins, begun, with_char, tail, ends_indent, indent_from, first_indent, content, empty_text, body, after_header, block};
 ghost use Rattle.yaml_lexers.specs.Shown.{Lexes, Refuses, read};
@@ -77,7 +77,7 @@ fn read_first_indent<T: Iterator<Item = char>>(
     block: &mut Lines,
 ) -> Result<usize, AllocError>
     ensures ok { IfOk result (λ n. Reads window.old window.new (λ a b.
-        first_indent a (record { most = 0; spaces = 0; place = place_of window.old; breaks = (lines block.old).breaks }) ≡ read b window.new (column_shown n (lines block.new).breaks))) }
+        first_indent a (record { most = 0; spaces = 0; position = position_of window.old; breaks = (lines block.old).breaks }) ≡ read b window.new (column_shown n (lines block.new).breaks))) }
     ensures same { OnOk result (lines block.new ≡ record (lines block.old) { breaks = (lines block.new).breaks }) }
     ensures err { OnErr result (Reads window.old window.new (λ _ _. Unit {0})) }
     ensures ahead { OnOk result (0 < window.new.ahead) }
@@ -111,7 +111,7 @@ fn read_indent<T: Iterator<Item = char>>(
     block: &mut Lines,
 ) -> Result<(), AllocError>
     ensures ok { OnOk result (Reads window.old window.new (λ a b.
-        (indent_from column a (record { place = place_of window.old; breaks = (lines block.old).breaks }) ≡ read b window.new (column_shown column (lines block.new).breaks))
+        (indent_from column a (record { position = position_of window.old; breaks = (lines block.old).breaks }) ≡ read b window.new (column_shown column (lines block.new).breaks))
         × ((literal : Bool) → lines_from literal column a (at margin window.old block.old) ≡ lines_from literal column b (at margin window.new block.new)) × (ends_indent column window.new.col b ≡ true))) }
     ensures same { OnOk result (lines block.new ≡ record (lines block.old) { breaks = (lines block.new).breaks }) }
     ensures err { OnErr result (Reads window.old window.new (λ _ _. Unit {0})) }
@@ -289,7 +289,7 @@ fn read_column<T: Iterator<Item = char>>(
     requires indented { indent ≤ 2 ^ 63 }
     requires increment { increment < 10 }
     requires fresh { lines block.old ≡ record { text = []; breaks = []; broken = false; blank = false } }
-    ensures ok { IfOk result (λ n. Reads window.old window.new (λ a b. content indent increment a (place_of window.old) ≡ read b window.new (column_shown n (lines block.new).breaks))) }
+    ensures ok { IfOk result (λ n. Reads window.old window.new (λ a b. content indent increment a (position_of window.old) ≡ read b window.new (column_shown n (lines block.new).breaks))) }
     ensures same { OnOk result (lines block.new ≡ record { text = []; breaks = (lines block.new).breaks; broken = false; blank = false }) }
     ensures err { OnErr result (Reads window.old window.new (λ _ _. Unit {0})) }
     ensures ahead { OnOk result (0 < window.new.ahead) }
@@ -304,7 +304,7 @@ fn read_column<T: Iterator<Item = char>>(
 }
 
 /// Reads the lines from the first content line on, and what the chomping leaves of their tail. The
-/// answer is the token's place.
+/// answer is the token's position.
 fn read_body<T: Iterator<Item = char>>(
     window: &mut Window<T>,
     literal: bool,
@@ -314,23 +314,23 @@ fn read_body<T: Iterator<Item = char>>(
     block: &mut Lines,
 ) -> Result<Marker, Fault>
     requires fresh { lines block.old ≡ record { text = []; breaks = (lines block.old).breaks; broken = false; blank = false } }
-    ensures ok { IfOk result (λ place. Reads window.old window.new (λ a b.
-        body literal indent chomping (read a window.old (column_shown column (lines block.old).breaks)) ≡ Ok (read b window.new (record { place = place; text = (lines block.new).text })))) }
+    ensures ok { IfOk result (λ position. Reads window.old window.new (λ a b.
+        body literal indent chomping (read a window.old (column_shown column (lines block.old).breaks)) ≡ Ok (read b window.new (record { position = position; text = (lines block.new).text })))) }
     ensures err { IfErr result (λ e. Reads window.old window.new (λ a b. e ≢ Fault.OutOfMemory →
         body literal indent chomping (read a window.old (column_shown column (lines block.old).breaks)) ≡ Err e)) }
 {
-    let place = window.mark();
-    if place.col() < column && indent <= place.col() {
-        return Err(Fault::At(Problem::BlockScalarIndentation, place));
+    let position = window.mark();
+    if position.col() < column && indent <= position.col() {
+        return Err(Fault::At(Problem::BlockScalarIndentation, position));
     }
     read_lines(window, literal, column, block)?;
     let col = window.mark().col();
     let unbroken = window.look_ch() == '\0' && column <= col && 0 < col;
     chomp(block, chomping, unbroken)?;
-    Ok(place)
+    Ok(position)
 }
 
-/// Reads what comes after a header. The answer is the token's place and the text.
+/// Reads what comes after a header. The answer is the token's position and the text.
 fn read_after<T: Iterator<Item = char>>(
     alloc: Global,
     window: &mut Window<T>,
@@ -342,9 +342,9 @@ fn read_after<T: Iterator<Item = char>>(
     requires indented { indent ≤ 2 ^ 63 }
     requires increment { header.increment < 10 }
     ensures ok { IfOk result (λ s. Reads window.old window.new (λ a b.
-        after_header literal indent start (header_shown header) (content indent header.increment a (place_of window.old)) ≡ Ok (read b window.new (record { place = s.0; text = string_chars s.1 })))) }
+        after_header literal indent start (header_shown header) (content indent header.increment a (position_of window.old)) ≡ Ok (read b window.new (record { position = s.0; text = string_chars s.1 })))) }
     ensures err { IfErr result (λ e. Reads window.old window.new (λ a b. e ≢ Fault.OutOfMemory →
-        after_header literal indent start (header_shown header) (content indent header.increment a (place_of window.old)) ≡ Err e)) }
+        after_header literal indent start (header_shown header) (content indent header.increment a (position_of window.old)) ≡ Err e)) }
 {
     let mut block = Lines::new(alloc);
     let column = read_column(window, indent, header.increment, &mut block)?;
@@ -352,12 +352,12 @@ fn read_after<T: Iterator<Item = char>>(
         let text = take_empty(header.chomping, header.broken, block)?;
         return Ok((start, text.into_string()));
     }
-    let place = read_body(window, literal, indent, column, header.chomping, &mut block)?;
-    Ok((place, block.text.into_string()))
+    let position = read_body(window, literal, indent, column, header.chomping, &mut block)?;
+    Ok((position, block.text.into_string()))
 }
 
 /// Reads a block scalar, from its `|` or `>` on. `indent` is the innermost block collection's
-/// column counted from 1, 0 where none is open. The answer is the token's place and the text.
+/// column counted from 1, 0 where none is open. The answer is the token's position and the text.
 #[tactic(auto, unfolding(model_lexers::specs::Block::block))]
 pub fn read_block_scalar<T: Iterator<Item = char>>(
     alloc: Global,
@@ -368,7 +368,7 @@ pub fn read_block_scalar<T: Iterator<Item = char>>(
     requires indented { indent ≤ 2 ^ 63 }
     requires has { HasChar window.old }
     requires ahead { 0 < window.old.ahead }
-    ensures ok { IfOk result (λ s. Lexes (block literal indent) window.old window.new (record { place = s.0; text = string_chars s.1 })) }
+    ensures ok { IfOk result (λ s. Lexes (block literal indent) window.old window.new (record { position = s.0; text = string_chars s.1 })) }
     ensures err { IfErr result (λ e. Refuses (block literal indent) window.old window.new e) }
     ensures less { OnOk result (window.new.left < window.old.left) }
 {

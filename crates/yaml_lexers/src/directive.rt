@@ -1,7 +1,7 @@
 //! Directives (YAML 1.2, section 6.8).
 ghost use Rattle.std.specs.Prelude.{◌≡◌, ◌≢◌, ◌≤◌, ◌<◌, ◌+◌, ◌-◌, ◌*◌, true, Ok, Err, OnOk, IfOk, IfErr};
 ghost use Rattle.yaml_chars.specs.Class.{is_alpha, is_digit};
-ghost use Rattle.yaml_chars.specs.Reading.{Reads, Sees, HasChar, place_of};
+ghost use Rattle.yaml_chars.specs.Reading.{Reads, Sees, HasChar, position_of};
 ghost use Rattle.yaml_tokens.specs.Shown.{tok_of};
 ghost use Rattle.model_lexers.specs.Machine.{skip_while};
 ghost use Rattle.model_lexers.specs.Space.{blanks};
@@ -45,7 +45,7 @@ fn directive_here<T: Iterator<Item = char>>(window: &Window<T>) -> Directive
 /// Steps over ASCII letters, digits, `_` and `-`.
 #[tactic(auto, using(model_lexers::proofs::SpaceLemmas::skip_end))]
 fn skip_word<T: Iterator<Item = char>>(window: &mut Window<T>)
-    ensures reads { Reads window.old window.new (λ a b. skip_while is_alpha a (place_of window.old) ≡ read b window.new tt) }
+    ensures reads { Reads window.old window.new (λ a b. skip_while is_alpha a (position_of window.old) ≡ read b window.new tt) }
     ensures ahead { 0 < window.new.ahead }
 {
     'word: loop {
@@ -63,14 +63,14 @@ fn skip_name<T: Iterator<Item = char>>(window: &mut Window<T>) -> Result<Directi
     ensures err { IfErr result (λ e. Refuses name window.old window.new e) }
 {
     window.lookahead(5);
-    let place = window.mark();
+    let position = window.mark();
     let directive = directive_here(window);
     if !is_alpha(window.ch()) {
-        return Err(Fault::At(Problem::DirectiveName, place));
+        return Err(Fault::At(Problem::DirectiveName, position));
     }
     skip_word(window);
     if !is_blank_or_breakz(window.look_ch()) {
-        return Err(Fault::At(Problem::DirectiveNameEnd, place));
+        return Err(Fault::At(Problem::DirectiveNameEnd, position));
     }
     Ok(directive)
 }
@@ -152,8 +152,8 @@ fn read_tag_prefix<T: Iterator<Item = char>>(
     start: Marker,
     handle: Text,
 ) -> Result<TokenType, Fault>
-    ensures ok { IfOk result (λ t. Reads window.old window.new (λ a b. prefix_after start handle (blanks a (place_of window.old)) ≡ Ok (read b window.new (tok_of t)))) }
-    ensures err { IfErr result (λ e. Reads window.old window.new (λ a b. e ≢ Fault.OutOfMemory → prefix_after start handle (blanks a (place_of window.old)) ≡ Err e)) }
+    ensures ok { IfOk result (λ t. Reads window.old window.new (λ a b. prefix_after start handle (blanks a (position_of window.old)) ≡ Ok (read b window.new (tok_of t)))) }
+    ensures err { IfErr result (λ e. Reads window.old window.new (λ a b. e ≢ Fault.OutOfMemory → prefix_after start handle (blanks a (position_of window.old)) ≡ Err e)) }
 {
     skip_blanks(window);
     let prefix = read_prefix(alloc, window, start)?;

@@ -1,7 +1,7 @@
 //! Escapes of double-quoted scalars (YAML 1.2, section 5.7).
 ghost use Rattle.std.specs.Prelude.{◌≡◌, ◌≢◌, ◌≤◌, ◌<◌, ◌+◌, ◌*◌, ℕ, zero, suc, Bool, true, false, Ok, Err, OnOk, IfOk, IfErr, slice_index, MatchOption, if◌then◌else◌};
 ghost use Rattle.defs_text.specs.Position.{Position};
-ghost use Rattle.yaml_chars.specs.Reading.{Reads, Sees, HasChar, place_of};
+ghost use Rattle.yaml_chars.specs.Reading.{Reads, Sees, HasChar, position_of};
 ghost use Rattle.model_lexers.specs.declared.context.Context.{Context};
 ghost use Rattle.model_lexers.specs.Folding.{Folded};
 ghost use Rattle.model_lexers.specs.Quoted.{escape_of, is_scalar, digits_from, quoted_from, inside, breaking, named};
@@ -74,9 +74,9 @@ fn escape_of(c: char) -> Escape
 #[tactic(auto, using(model_lexers::proofs::QuotedLemmas::digit_turn, model_lexers::proofs::QuotedLemmas::digit_fails))]
 fn read_digit<T: Iterator<Item = char>>(window: &mut Window<T>, start: Marker) -> Result<u32, Fault>
     ensures ok { IfOk result (λ n. Reads window.old window.new (λ a b. (single : Bool) (context : Context) (more value : ℕ) (t : Folded) →
-        digits_from single context start (suc more) value a (place_of window.old) t ≡ digits_from single context start more (value * 16 + n) b (place_of window.new) t)) }
+        digits_from single context start (suc more) value a (position_of window.old) t ≡ digits_from single context start more (value * 16 + n) b (position_of window.new) t)) }
     ensures err { IfErr result (λ e. Reads window.old window.new (λ a b. (single : Bool) (context : Context) (more value : ℕ) (t : Folded) →
-        digits_from single context start (suc more) value a (place_of window.old) t ≡ Err e)) }
+        digits_from single context start (suc more) value a (position_of window.old) t ≡ Err e)) }
     ensures small { IfOk result (λ n. n < 16) }
 {
     let c = window.look_ch();
@@ -102,9 +102,9 @@ fn read_code<T: Iterator<Item = char>>(
     digits: Digits,
 ) -> Result<u32, Fault>
     ensures ok { IfOk result (λ n. Reads window.old window.new (λ a b. (single : Bool) (context : Context) (t : Folded) →
-        digits_from single context start (count_of digits) 0 a (place_of window.old) t ≡ digits_from single context start zero n b (place_of window.new) t)) }
+        digits_from single context start (count_of digits) 0 a (position_of window.old) t ≡ digits_from single context start zero n b (position_of window.new) t)) }
     ensures err { IfErr result (λ e. Reads window.old window.new (λ a b. (single : Bool) (context : Context) (t : Folded) →
-        digits_from single context start (count_of digits) 0 a (place_of window.old) t ≡ Err e)) }
+        digits_from single context start (count_of digits) 0 a (position_of window.old) t ≡ Err e)) }
 {
     let mut code = 0;
     let mut left = digits.count();
@@ -125,9 +125,9 @@ fn read_coded<T: Iterator<Item = char>>(
     scalar: &mut Folding,
 ) -> Result<(), Fault>
     ensures ok { OnOk result (Reads window.old window.new (λ a b.
-        digits_from quote.now.single quote.now.context quote.now.start (count_of digits) 0 a (place_of window.old) (folded scalar.old) ≡ quoted_from quote.now.single quote.now.context quote.now.start b (at inside window.new scalar.new))) }
+        digits_from quote.now.single quote.now.context quote.now.start (count_of digits) 0 a (position_of window.old) (folded scalar.old) ≡ quoted_from quote.now.single quote.now.context quote.now.start b (at inside window.new scalar.new))) }
     ensures err { IfErr result (λ e. Reads window.old window.new (λ a b. e ≢ Fault.OutOfMemory →
-        digits_from quote.now.single quote.now.context quote.now.start (count_of digits) 0 a (place_of window.old) (folded scalar.old) ≡ Err e)) }
+        digits_from quote.now.single quote.now.context quote.now.start (count_of digits) 0 a (position_of window.old) (folded scalar.old) ≡ Err e)) }
 {
     let code = read_code(window, quote.start, digits)?;
     let Some(c) = char_of(code) else {

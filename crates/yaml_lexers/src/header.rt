@@ -1,6 +1,6 @@
 //! Headers of block scalars (YAML 1.2, section 8.1.1).
 ghost use Rattle.std.specs.Prelude.{◌≡◌, ◌<◌, true, false, Ok, Err, IfOk, IfErr};
-ghost use Rattle.yaml_chars.specs.Reading.{Reads, place_of};
+ghost use Rattle.yaml_chars.specs.Reading.{Reads, position_of};
 ghost use Rattle.model_lexers.specs.Block.{chomping, increment, indicators, header_break, header_end, header};
 ghost use Rattle.yaml_lexers.specs.Shown.{read};
 ghost use Rattle.yaml_lexers.specs.ShownBlock.{indicators_shown, header_shown};
@@ -23,7 +23,7 @@ pub(crate) struct Header {
 /// Reads a chomping indicator, if one stands here, else it is `Clip`.
 #[tactic(auto, using(model_lexers::proofs::BlockLemmas::no_chomping), unfolding(model_lexers::specs::Block::chomping))]
 fn read_chomping<T: Iterator<Item = char>>(window: &mut Window<T>) -> Chomping
-    ensures { Reads window.old window.new (λ a b. chomping a (place_of window.old) ≡ read b window.new result) }
+    ensures { Reads window.old window.new (λ a b. chomping a (position_of window.old) ≡ read b window.new result) }
 {
     match window.look_ch() {
         '+' => {
@@ -44,8 +44,8 @@ fn read_increment<T: Iterator<Item = char>>(
     window: &mut Window<T>,
     start: Marker,
 ) -> Result<usize, Fault>
-    ensures ok { IfOk result (λ n. Reads window.old window.new (λ a b. increment start a (place_of window.old) ≡ Ok (read b window.new n))) }
-    ensures err { IfErr result (λ e. Reads window.old window.new (λ a b. increment start a (place_of window.old) ≡ Err e)) }
+    ensures ok { IfOk result (λ n. Reads window.old window.new (λ a b. increment start a (position_of window.old) ≡ Ok (read b window.new n))) }
+    ensures err { IfErr result (λ e. Reads window.old window.new (λ a b. increment start a (position_of window.old) ≡ Err e)) }
     ensures small { IfOk result (λ n. n < 10) }
 {
     let c = window.look_ch();
@@ -65,8 +65,8 @@ fn read_indicators<T: Iterator<Item = char>>(
     window: &mut Window<T>,
     start: Marker,
 ) -> Result<(Chomping, usize), Fault>
-    ensures ok { IfOk result (λ h. Reads window.old window.new (λ a b. indicators start a (place_of window.old) ≡ Ok (read b window.new (indicators_shown h.0 h.1)))) }
-    ensures err { IfErr result (λ e. Reads window.old window.new (λ a b. indicators start a (place_of window.old) ≡ Err e)) }
+    ensures ok { IfOk result (λ h. Reads window.old window.new (λ a b. indicators start a (position_of window.old) ≡ Ok (read b window.new (indicators_shown h.0 h.1)))) }
+    ensures err { IfErr result (λ e. Reads window.old window.new (λ a b. indicators start a (position_of window.old) ≡ Err e)) }
     ensures small { IfOk result (λ h. h.1 < 10) }
 {
     let early = read_chomping(window);
@@ -81,8 +81,8 @@ fn read_indicators<T: Iterator<Item = char>>(
 /// Steps over the break after a header, if one stands here. The answer is whether it did.
 #[tactic(auto, using(model_lexers::proofs::BlockLemmas::break_stands, model_lexers::proofs::BlockLemmas::header_fails), unfolding(model_lexers::specs::Block::header_break))]
 fn end_line<T: Iterator<Item = char>>(window: &mut Window<T>, start: Marker) -> Result<bool, Fault>
-    ensures ok { IfOk result (λ broken. Reads window.old window.new (λ a b. header_break start a (place_of window.old) ≡ Ok (read b window.new broken))) }
-    ensures err { IfErr result (λ e. Reads window.old window.new (λ a b. header_break start a (place_of window.old) ≡ Err e)) }
+    ensures ok { IfOk result (λ broken. Reads window.old window.new (λ a b. header_break start a (position_of window.old) ≡ Ok (read b window.new broken))) }
+    ensures err { IfErr result (λ e. Reads window.old window.new (λ a b. header_break start a (position_of window.old) ≡ Err e)) }
 {
     let c = window.look_ch();
     if c == '\0' {
@@ -104,8 +104,8 @@ fn end_header<T: Iterator<Item = char>>(
     window: &mut Window<T>,
     start: Marker,
 ) -> Result<bool, Fault>
-    ensures ok { IfOk result (λ broken. Reads window.old window.new (λ a b. header_end start a (place_of window.old) ≡ Ok (read b window.new broken))) }
-    ensures err { IfErr result (λ e. Reads window.old window.new (λ a b. header_end start a (place_of window.old) ≡ Err e)) }
+    ensures ok { IfOk result (λ broken. Reads window.old window.new (λ a b. header_end start a (position_of window.old) ≡ Ok (read b window.new broken))) }
+    ensures err { IfErr result (λ e. Reads window.old window.new (λ a b. header_end start a (position_of window.old) ≡ Err e)) }
 {
     skip_ws_to_eol(window, SkipTabs::Yes)?;
     end_line(window, start)
@@ -117,8 +117,8 @@ pub(crate) fn read_header<T: Iterator<Item = char>>(
     window: &mut Window<T>,
     start: Marker,
 ) -> Result<Header, Fault>
-    ensures ok { IfOk result (λ h. Reads window.old window.new (λ a b. header start a (place_of window.old) ≡ Ok (read b window.new (header_shown h)))) }
-    ensures err { IfErr result (λ e. Reads window.old window.new (λ a b. header start a (place_of window.old) ≡ Err e)) }
+    ensures ok { IfOk result (λ h. Reads window.old window.new (λ a b. header start a (position_of window.old) ≡ Ok (read b window.new (header_shown h)))) }
+    ensures err { IfErr result (λ e. Reads window.old window.new (λ a b. header start a (position_of window.old) ≡ Err e)) }
     ensures small { IfOk result (λ h. h.increment < 10) }
 {
     let (chomping, increment) = read_indicators(window, start)?;

@@ -1,7 +1,7 @@
 //! Plain scalars (YAML 1.2, section 7.3.3).
 ghost use Rattle.std.specs.Prelude.{◌≡◌, ◌≢◌, ◌≤◌, ◌<◌, true, false, Ok, Err, OnOk, OnErr, IfOk, IfErr, slice_index};
 ghost use Rattle.defs_text.specs.Position.{Position};
-ghost use Rattle.yaml_chars.specs.Reading.{Reads, Sees, HasChar, SamePlace, place_of};
+ghost use Rattle.yaml_chars.specs.Reading.{Reads, Sees, HasChar, SamePosition, position_of};
 ghost use Rattle.model_lexers.specs.declared.context.Context.{Context};
 ghost use Rattle.model_lexers.specs.Folding.{Folded};
 ghost use Rattle.model_lexers.specs.Machine.{is_marker, at_marker};
@@ -127,8 +127,8 @@ fn goes_on<T: Iterator<Item = char>>(
     window: &mut Window<T>,
     context: Context,
 ) -> Result<bool, Fault>
-    ensures reads { Reads window.old window.new (λ a b. (b ≡ a) × (result ≡ goes_on context a (place_of window.old))) }
-    ensures place { SamePlace window.old window.new }
+    ensures reads { Reads window.old window.new (λ a b. (b ≡ a) × (result ≡ goes_on context a (position_of window.old))) }
+    ensures position { SamePosition window.old window.new }
     ensures ahead { 0 < window.new.ahead }
     ensures has { result ≡ Ok true → HasChar window.new }
 {
@@ -146,7 +146,7 @@ fn goes_on<T: Iterator<Item = char>>(
     Ok(at_plain(window, context.flow))
 }
 
-/// Steps over a TAB at the indentation's place and the blanks after it, up to the end of the
+/// Steps over a TAB at the indentation's position and the blanks after it, up to the end of the
 /// line or a comment.
 #[tactic(auto, using(model_lexers::proofs::PlainLemmas::tabs_end))]
 fn skip_tabs<T: Iterator<Item = char>>(window: &mut Window<T>, start: Marker) -> Result<(), Fault>
@@ -209,7 +209,7 @@ fn read_gap<T: Iterator<Item = char>>(
 #[tactic(auto, unfolding(model_lexers::specs::Plain::starts))]
 fn check_start<T: Iterator<Item = char>>(window: &Window<T>, context: Context) -> Result<(), Fault>
     requires { 2 ≤ window.now.ahead }
-    ensures { Sees window.now (λ a. result ≡ starts context a (place_of window.now)) }
+    ensures { Sees window.now (λ a. result ≡ starts context a (position_of window.now)) }
 {
     let start = window.mark();
     if context.flow && start.col() < context.indent {

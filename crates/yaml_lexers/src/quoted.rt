@@ -1,7 +1,7 @@
 //! Quoted scalars (YAML 1.2, sections 7.3.1 and 7.3.2).
 ghost use Rattle.std.specs.Prelude.{◌≡◌, ◌≢◌, ◌≤◌, ◌<◌, ◌==◌, ◌||◌, true, false, Ok, Err, OnOk, OnErr, IfOk, IfErr};
 ghost use Rattle.yaml_chars.specs.Class.{is_blank, is_break};
-ghost use Rattle.yaml_chars.specs.Reading.{Reads, Sees, HasChar, place_of};
+ghost use Rattle.yaml_chars.specs.Reading.{Reads, Sees, HasChar, position_of};
 ghost use Rattle.defs_text.specs.Text.{string_chars};
 ghost use Rattle.model_lexers.specs.Quoted.{quote_of, refused, quoted, first, inside, gap, breaking, after, doubled, closed};
 ghost use Rattle.yaml_lexers.specs.Shown.{Lexes, Refuses};
@@ -30,7 +30,7 @@ pub(crate) enum Part {
     Closed,
 }
 
-/// A quoted scalar that is being read: whether its quotes are single, what surrounds it, and the place of its first quote.
+/// A quoted scalar that is being read: whether its quotes are single, what surrounds it, and the position of its first quote.
 #[derive(Clone, Copy)]
 pub(crate) struct Quote {
     pub single: bool,
@@ -49,7 +49,7 @@ fn quote_of(single: bool) -> char
 #[tactic(auto, unfolding(model_lexers::specs::Quoted::refused))]
 fn check_line<T: Iterator<Item = char>>(window: &Window<T>, quote: &Quote) -> Result<(), Fault>
     requires { 4 ≤ window.now.ahead }
-    ensures { Sees window.now (λ a. result ≡ refused quote.now.context quote.now.start a (place_of window.now)) }
+    ensures { Sees window.now (λ a. result ≡ refused quote.now.context quote.now.start a (position_of window.now)) }
 {
     if at_marker(window) {
         return Err(Fault::At(Problem::QuotedDocumentMarker, quote.start));

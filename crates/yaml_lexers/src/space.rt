@@ -1,6 +1,6 @@
 //! Spaces, comments and line breaks.
 ghost use Rattle.std.specs.Prelude.{◌≡◌, ◌<◌, true, false, Ok, Err, IfOk, IfErr};
-ghost use Rattle.yaml_chars.specs.Reading.{Reads, HasChar, place_of};
+ghost use Rattle.yaml_chars.specs.Reading.{Reads, HasChar, position_of};
 ghost use Rattle.model_lexers.specs.Space.{linebreak, comment, blanks, space};
 ghost use Rattle.yaml_lexers.specs.Shown.{read};
 
@@ -12,7 +12,7 @@ use yaml_tokens::{Fault, Problem};
 /// Steps over the line break that stands here, CR LF as one.
 pub fn skip_linebreak<T: Iterator<Item = char>>(window: &mut Window<T>)
     requires { HasChar window.old }
-    ensures reads { Reads window.old window.new (λ a b. linebreak a (place_of window.old) ≡ read b window.new tt) }
+    ensures reads { Reads window.old window.new (λ a b. linebreak a (position_of window.old) ≡ read b window.new tt) }
     ensures less { window.new.left < window.old.left }
 {
     window.lookahead(2);
@@ -27,7 +27,7 @@ pub fn skip_linebreak<T: Iterator<Item = char>>(window: &mut Window<T>)
 /// Steps to the end of the line. What stands there is then in the window.
 #[tactic(auto, using(model_lexers::proofs::SpaceLemmas::skip_end))]
 pub fn skip_comment<T: Iterator<Item = char>>(window: &mut Window<T>)
-    ensures reads { Reads window.old window.new (λ a b. comment a (place_of window.old) ≡ read b window.new tt) }
+    ensures reads { Reads window.old window.new (λ a b. comment a (position_of window.old) ≡ read b window.new tt) }
     ensures ahead { 0 < window.new.ahead }
 {
     'comment: loop {
@@ -45,8 +45,8 @@ pub fn skip_ws_to_eol<T: Iterator<Item = char>>(
     window: &mut Window<T>,
     tabs: SkipTabs,
 ) -> Result<Whitespace, Fault>
-    ensures ok { IfOk result (λ w. Reads window.old window.new (λ a b. space tabs a (place_of window.old) ≡ Ok (read b window.new w))) }
-    ensures err { IfErr result (λ e. Reads window.old window.new (λ a b. space tabs a (place_of window.old) ≡ Err e)) }
+    ensures ok { IfOk result (λ w. Reads window.old window.new (λ a b. space tabs a (position_of window.old) ≡ Ok (read b window.new w))) }
+    ensures err { IfErr result (λ e. Reads window.old window.new (λ a b. space tabs a (position_of window.old) ≡ Err e)) }
     ensures ahead { 0 < window.new.ahead }
 {
     let mut found = Whitespace {
@@ -75,7 +75,7 @@ pub fn skip_ws_to_eol<T: Iterator<Item = char>>(
 /// Steps over spaces and TABs.
 #[tactic(auto, using(model_lexers::proofs::SpaceLemmas::skip_end))]
 pub(crate) fn skip_blanks<T: Iterator<Item = char>>(window: &mut Window<T>)
-    ensures reads { Reads window.old window.new (λ a b. blanks a (place_of window.old) ≡ read b window.new tt) }
+    ensures reads { Reads window.old window.new (λ a b. blanks a (position_of window.old) ≡ read b window.new tt) }
     ensures ahead { 0 < window.new.ahead }
 {
     'blanks: loop {

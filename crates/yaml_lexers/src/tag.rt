@@ -1,7 +1,7 @@
 //! Tags (YAML 1.2, sections 6.8.2 and 6.9.1).
 ghost use Rattle.std.specs.Prelude.{◌≡◌, ◌<◌, Ok, Err, OnOk, OnErr, IfOk, IfErr};
 ghost use Rattle.yaml_chars.specs.Class.{is_alpha};
-ghost use Rattle.yaml_chars.specs.Reading.{Reads, HasChar, place_of};
+ghost use Rattle.yaml_chars.specs.Reading.{Reads, HasChar, position_of};
 ghost use Rattle.defs_text.specs.Text.{string_chars};
 ghost use Rattle.model_lexers.specs.Machine.{take_while};
 ghost use Rattle.model_lexers.specs.Tag.{verbatim, named, local_tag, shorthand, tag_here, ends_tag, tag, handle_end, handle, prefix};
@@ -20,7 +20,7 @@ fn read_word<T: Iterator<Item = char>>(
     window: &mut Window<T>,
     text: &mut Text,
 ) -> Result<(), AllocError>
-    ensures ok { OnOk result (Reads window.old window.new (λ a b. take_while is_alpha a (place_of window.old) text.old ≡ read b window.new text.new)) }
+    ensures ok { OnOk result (Reads window.old window.new (λ a b. take_while is_alpha a (position_of window.old) text.old ≡ read b window.new text.new)) }
     ensures err { OnErr result (Reads window.old window.new (λ _ _. Unit {0})) }
     ensures ahead { OnOk result (0 < window.new.ahead) }
 {

@@ -2,7 +2,7 @@
 ghost use Rattle.std.specs.Prelude.{◌≡◌, ◌≢◌, ◌≤◌, ◌<◌, ◌+◌, ◌*◌, ◌^◌, ◌++◌, ℕ, zero, suc, List, [], ◌∷◌, Bool, true, Ok, Err, OnOk, IfOk, IfErr, slice_index, IfSome, IfNone};
 ghost use Rattle.yaml_chars.specs.Class.{is_uri, is_tag};
 ghost use Rattle.defs_text.specs.Position.{Position};
-ghost use Rattle.yaml_chars.specs.Reading.{Reads, Sees, HasChar, place_of};
+ghost use Rattle.yaml_chars.specs.Reading.{Reads, Sees, HasChar, position_of};
 ghost use Rattle.model_lexers.specs.Quoted.{is_scalar};
 ghost use Rattle.model_lexers.specs.Uri.{Octet, lead, plain, percent, low, uri, uri_from, octet_from, trails_from, at_octet, at_trail};
 ghost use Rattle.yaml_lexers.specs.Shown.{read};
@@ -38,7 +38,7 @@ fn read_high<T: Iterator<Item = char>>(window: &mut Window<T>, start: Marker) ->
 #[tactic(auto, using(model_lexers::proofs::UriLemmas::low_fails, model_lexers::proofs::UriLemmas::low_turn))]
 fn read_octet<T: Iterator<Item = char>>(window: &mut Window<T>, start: Marker) -> Result<u32, Fault>
     ensures ok { IfOk result (λ n. Reads window.old window.new (λ a b. (test : ℕ → Bool) (o : Octet) (t : List ℕ) →
-        uri_from test start a (at (percent o) window.old t) ≡ octet_from test start o n b (place_of window.new) t)) }
+        uri_from test start a (at (percent o) window.old t) ≡ octet_from test start o n b (position_of window.new) t)) }
     ensures err { IfErr result (λ e. Reads window.old window.new (λ a b. (test : ℕ → Bool) (o : Octet) (t : List ℕ) →
         uri_from test start a (at (percent o) window.old t) ≡ Err e)) }
     ensures less { OnOk result (window.new.left < window.old.left) }
@@ -100,9 +100,9 @@ fn read_trail<T: Iterator<Item = char>>(
 ) -> Result<u32, Fault>
     requires { code < 2 ^ 20 }
     ensures ok { IfOk result (λ n. Reads window.old window.new (λ a b. (test : ℕ → Bool) (more least : ℕ) (t : List ℕ) →
-        trails_from test start (suc more) code least a (place_of window.old) t ≡ trails_from test start more n least b (place_of window.new) t)) }
+        trails_from test start (suc more) code least a (position_of window.old) t ≡ trails_from test start more n least b (position_of window.new) t)) }
     ensures err { IfErr result (λ e. Reads window.old window.new (λ a b. (test : ℕ → Bool) (more least : ℕ) (t : List ℕ) →
-        trails_from test start (suc more) code least a (place_of window.old) t ≡ Err e)) }
+        trails_from test start (suc more) code least a (position_of window.old) t ≡ Err e)) }
     ensures small { IfOk result (λ n. n < (code + 1) * 64) }
 {
     let octet = read_octet(window, start)?;
@@ -120,9 +120,9 @@ fn read_trails<T: Iterator<Item = char>>(
 ) -> Result<u32, Fault>
     requires { (lead.bits + 1) * 64 ^ lead.trails ≤ 2 ^ 21 }
     ensures ok { IfOk result (λ n. Reads window.old window.new (λ a b. (test : ℕ → Bool) (t : List ℕ) →
-        trails_from test start lead.trails lead.bits lead.least a (place_of window.old) t ≡ trails_from test start zero n lead.least b (place_of window.new) t)) }
+        trails_from test start lead.trails lead.bits lead.least a (position_of window.old) t ≡ trails_from test start zero n lead.least b (position_of window.new) t)) }
     ensures err { IfErr result (λ e. Reads window.old window.new (λ a b. (test : ℕ → Bool) (t : List ℕ) →
-        trails_from test start lead.trails lead.bits lead.least a (place_of window.old) t ≡ Err e)) }
+        trails_from test start lead.trails lead.bits lead.least a (position_of window.old) t ≡ Err e)) }
 {
     let mut code = lead.bits;
     let mut left = lead.trails;
@@ -136,7 +136,7 @@ fn read_trails<T: Iterator<Item = char>>(
 /// The character of a code of at least `least`: a smaller one is overlong.
 #[tactic(auto, unfolding(model_lexers::specs::Quoted::is_scalar))]
 fn decoded(code: u32, least: u32, start: Marker) -> Result<char, Fault>
-    ensures ok { IfOk result (λ c. (p : Position) (t : List ℕ) → at_trail start zero code least p t ≡ Ok (record { mode = plain; place = p; text = t ++ c ∷ [] })) }
+    ensures ok { IfOk result (λ c. (p : Position) (t : List ℕ) → at_trail start zero code least p t ≡ Ok (record { mode = plain; position = p; text = t ++ c ∷ [] })) }
     ensures err { IfErr result (λ e. (p : Position) (t : List ℕ) → at_trail start zero code least p t ≡ Err e) }
 {
     if code < least {
@@ -201,8 +201,8 @@ pub(crate) fn read_uri<T: Iterator<Item = char>>(
     start: Marker,
     text: &mut Text,
 ) -> Result<(), Fault>
-    ensures ok { OnOk result (Reads window.old window.new (λ a b. uri is_uri start a (place_of window.old) text.old ≡ Ok (read b window.new text.new))) }
-    ensures err { IfErr result (λ e. Reads window.old window.new (λ a b. e ≢ Fault.OutOfMemory → uri is_uri start a (place_of window.old) text.old ≡ Err e)) }
+    ensures ok { OnOk result (Reads window.old window.new (λ a b. uri is_uri start a (position_of window.old) text.old ≡ Ok (read b window.new text.new))) }
+    ensures err { IfErr result (λ e. Reads window.old window.new (λ a b. e ≢ Fault.OutOfMemory → uri is_uri start a (position_of window.old) text.old ≡ Err e)) }
     ensures ahead { OnOk result (0 < window.new.ahead) }
 {
     'uri: loop {
@@ -221,8 +221,8 @@ pub(crate) fn read_suffix<T: Iterator<Item = char>>(
     start: Marker,
     text: &mut Text,
 ) -> Result<(), Fault>
-    ensures ok { OnOk result (Reads window.old window.new (λ a b. uri is_tag start a (place_of window.old) text.old ≡ Ok (read b window.new text.new))) }
-    ensures err { IfErr result (λ e. Reads window.old window.new (λ a b. e ≢ Fault.OutOfMemory → uri is_tag start a (place_of window.old) text.old ≡ Err e)) }
+    ensures ok { OnOk result (Reads window.old window.new (λ a b. uri is_tag start a (position_of window.old) text.old ≡ Ok (read b window.new text.new))) }
+    ensures err { IfErr result (λ e. Reads window.old window.new (λ a b. e ≢ Fault.OutOfMemory → uri is_tag start a (position_of window.old) text.old ≡ Err e)) }
     ensures ahead { OnOk result (0 < window.new.ahead) }
 {
     'suffix: loop {

@@ -122,11 +122,11 @@ noted_key (Err key) (noted d k' q) documents k p h alike = cc
 noted_key (Err key) (unfinished.refused d q) documents k p h alike = absurd h
 
 pub key_came_twice : {keep_tags : Bool} {text : List ℕ} (n : YamlLoader) (p : Position) (message : String Global) (f : ErrorReport) → LeftBy keep_tags text (Ok tt) n → n.course ≡ course.RepeatedKey p message
-    → f ≡ record { place = p; text = string_bytes message; memory = false } → IsUnread keep_tags text f
+    → f ≡ record { position = p; text = string_bytes message; memory = false } → IsUnread keep_tags text f
 key_came_twice n p message f (es, h, r) e is =
     let u = unfinished_of n.reading in
     let x = with_events new_loader es in
     let alike : StandAlike x (noted u.documents (repeated_key u.opened) p) = with_course n (course.RepeatedKey p message) x e r.alike in
     let key = repeated_key u.opened in
     let twice = noted_key (reading h.documents) x u.documents key p (one_by_one h.documents es h.events_are) alike in
-    unread.repeated_key es h key twice (subst (HasNoted x key) (sym (ap (λ g. g.place) is)) (key_noted u.documents key p x alike)) (kept_text n p message f r.tells e is) (ap (λ g. g.memory) is)
+    unread.repeated_key es h key twice (subst (HasNoted x key) (sym (ap (λ g. g.position) is)) (key_noted u.documents key p x alike)) (kept_text n p message f r.tells e is) (ap (λ g. g.memory) is)

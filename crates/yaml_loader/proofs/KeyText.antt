@@ -11,7 +11,7 @@ use Rattle.defs_event.specs.Unfinished.{opened_sequence, opened_mapping}
 use Rattle.yaml_loader.specs.declared.reading.Open.{Open}
 use Rattle.yaml_loader.specs.View.{opened_of, all_opened, last_key, repeated_key}
 use Rattle.yaml_loader.specs.RepeatedKey.{shown_key, TellsKey}
-use Rattle.yaml_loader.proofs.OpenedLemmas.{innermost, last_place}
+use Rattle.yaml_loader.proofs.OpenedLemmas.{innermost, last_position}
 
 pub bytes_again : {A : Type 0} (s : String A) → encode_utf8_all (string_chars s) ≡ string_bytes s
 unfolding string_chars
@@ -22,7 +22,7 @@ pub last_of_innermost : (os : List Open) (m : Open) (ps : List (Tree × Tree)) (
     → last_key (last_of ps) ≡ repeated_key (all_opened os [])
 last_of_innermost os m ps anchor waiting is some at =
     let i = innermost os [] some in
-    let was : all_opened os [] ≡ opened_of m ∷ i.around = i.before m ∙ ap (λ k. opened_of (slice_index_or os k m) ∷ i.around) (sym (last_place (length os) os refl)) ∙ ap (λ o. opened_of o ∷ i.around) (sym at) in
+    let was : all_opened os [] ≡ opened_of m ∷ i.around = i.before m ∙ ap (λ k. opened_of (slice_index_or os k m) ∷ i.around) (sym (last_position (length os) os refl)) ∙ ap (λ o. opened_of o ∷ i.around) (sym at) in
     sym (ap repeated_key was ∙ ap (λ o. repeated_key (o ∷ i.around)) is)
 
 -- no key came twice where the last of the list is a sequence, or nothing is open
@@ -30,7 +30,7 @@ pub no_key_in_sequence : (os : List Open) (m : Open) (anchor : ℕ) (items : Lis
     → bad_value ≡ repeated_key (all_opened os [])
 no_key_in_sequence os m anchor items is some at =
     let i = innermost os [] some in
-    let was : all_opened os [] ≡ opened_of m ∷ i.around = i.before m ∙ ap (λ k. opened_of (slice_index_or os k m) ∷ i.around) (sym (last_place (length os) os refl)) ∙ ap (λ o. opened_of o ∷ i.around) (sym at) in
+    let was : all_opened os [] ≡ opened_of m ∷ i.around = i.before m ∙ ap (λ k. opened_of (slice_index_or os k m) ∷ i.around) (sym (last_position (length os) os refl)) ∙ ap (λ o. opened_of o ∷ i.around) (sym at) in
     sym (ap repeated_key was ∙ ap (λ o. repeated_key (o ∷ i.around)) is)
 
 -- ---- rows: how keys are shown

@@ -39,9 +39,9 @@ pub record StandsAfter (es : List (Ev × Position)) (l : YamlLoader) : Type 0 wh
 -- a loader that is at work has noted no key
 nothing_noted : (l : YamlLoader) → (d : Course) → loader_by d (unfinished_of l.reading) ≡ new_loader → TellsBy d (unfinished_of l.reading).opened
 nothing_noted l course.Reading e = tt
-nothing_noted l (course.RepeatedKey place text) e = cc
-nothing_noted l (course.OutOfNesting place) e = tt
-nothing_noted l (course.OutOfMemory place) e = tt
+nothing_noted l (course.RepeatedKey position text) e = cc
+nothing_noted l (course.OutOfNesting position) e = tt
+nothing_noted l (course.OutOfMemory position) e = tt
 
 -- what stands after a load that went well
 abbrev pub Went : Parsed → Parsed → YamlLoader → Type 0
@@ -102,8 +102,8 @@ module _ (l : YamlLoader) (empty : loader_of l ≡ new_loader) (clear : kept_fau
 
 pub documents_loaded : (u : Unfinished) (x : Loader) → StandAlike x (at_work u) → HasDocuments x u.documents
 documents_loaded u (at_work v) h = h.documents
-documents_loaded u (noted documents key place) h = cc
-documents_loaded u (unfinished.refused documents place) h = cc
+documents_loaded u (noted documents key position) h = cc
+documents_loaded u (unfinished.refused documents position) h = cc
 
 pub key_noted : (documents : List Tree) (key : Tree) (p : Position) (x : Loader) → StandAlike x (noted documents key p) → HasNoted x key p
 key_noted documents key p (at_work v) h = absurd h
@@ -119,17 +119,17 @@ was_reading l (es, all, clear, after) e =
     (es, all, documents_loaded u (with_events new_loader es) (subst (λ x. StandAlike (with_events new_loader es) x) (with_course l course.Reading e) after.alike))
 
 -- the text that is kept tells the key
-pub kept_text : (l : YamlLoader) (p : Position) (text : String Global) (f : ErrorReport) → TellsNotedKey l → l.course ≡ course.RepeatedKey p text → f ≡ record { place = p; text = string_bytes text; memory = false }
+pub kept_text : (l : YamlLoader) (p : Position) (text : String Global) (f : ErrorReport) → TellsNotedKey l → l.course ≡ course.RepeatedKey p text → f ≡ record { position = p; text = string_bytes text; memory = false }
     → TellsKey (repeated_key (unfinished_of l.reading).opened) f.text
 kept_text l p text f tells e is =
     subst (TellsKey (repeated_key (unfinished_of l.reading).opened)) (sym (ap (λ x. x.text) is)) (subst (λ d. TellsBy d (unfinished_of l.reading).opened) e tells)
 
-pub had_noted : {old new : Parsed} (l : YamlLoader) (p : Position) (text : String Global) (f : ErrorReport) → Went old new l → l.course ≡ course.RepeatedKey p text → f ≡ record { place = p; text = string_bytes text; memory = false } → IsLoadFault old f new
+pub had_noted : {old new : Parsed} (l : YamlLoader) (p : Position) (text : String Global) (f : ErrorReport) → Went old new l → l.course ≡ course.RepeatedKey p text → f ≡ record { position = p; text = string_bytes text; memory = false } → IsLoadFault old f new
 had_noted l p text f (es, all, clear, after) e is =
     let u = unfinished_of l.reading in
     let d = course.RepeatedKey p text in
     let n = key_noted u.documents (repeated_key u.opened) p (with_events new_loader es) (subst (λ x. StandAlike (with_events new_loader es) x) (with_course l d e) after.alike) in
-    ends.repeated_key es (repeated_key u.opened) all clear (subst (HasNoted (with_events new_loader es) (repeated_key u.opened)) (sym (ap (λ x. x.place) is)) n) (kept_text l p text f after.tells e is) (ap (λ x. x.memory) is)
+    ends.repeated_key es (repeated_key u.opened) all clear (subst (HasNoted (with_events new_loader es) (repeated_key u.opened)) (sym (ap (λ x. x.position) is)) n) (kept_text l p text f after.tells e is) (ap (λ x. x.memory) is)
 
 pub not_out_of_nesting : {old new : Parsed} (l : YamlLoader) (p : Position) → Went old new l → l.course ≡ course.OutOfNesting p → ⊥
 not_out_of_nesting l p w e = let f = sym (ap kept_by e) ∙ w.3.clear in cc

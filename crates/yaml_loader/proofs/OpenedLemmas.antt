@@ -30,16 +30,16 @@ innermost (x ∷ y ∷ os) outer h =
     let rest = innermost (y ∷ os) (opened_of x ∷ outer) (omega arith) in
     record { around = rest.around; before = λ d. rest.before d; after = λ o. rest.after o }
 
-pub last_place : (n : ℕ) (os : List Open) → n ≡ length os → n - 1 ≡ pred (length os)
-last_place n os len = sub-one n ∙ ap pred len
+pub last_position : (n : ℕ) (os : List Open) → n ≡ length os → n - 1 ≡ pred (length os)
+last_position n os len = sub-one n ∙ ap pred len
 
 -- a tree that goes into the innermost collection, seen from the last of the list
 pub inserts_at : (t : Tree) (u : Unfinished) (os : List Open) (n : ℕ) (old new : Open) → n ≡ length os → 0 < n → old ≡ slice_index_or os (n - 1) old
     → Inserts (opened_of old) t (opened_of new) → with_tree t u (all_opened os []) ≡ reads (record u { opened = all_opened (slice_set os (n - 1) new) [] })
 inserts_at t u os n old new len some at h =
     let i = innermost os [] (omega arith) in
-    let was : all_opened os [] ≡ opened_of old ∷ i.around = i.before old ∙ ap (λ m. opened_of (slice_index_or os m old) ∷ i.around) (sym (last_place n os len)) ∙ ap (λ o. opened_of o ∷ i.around) (sym at) in
-    let is : all_opened (slice_set os (n - 1) new) [] ≡ opened_of new ∷ i.around = ap (λ m. all_opened (slice_set os m new) []) (last_place n os len) ∙ i.after new in
+    let was : all_opened os [] ≡ opened_of old ∷ i.around = i.before old ∙ ap (λ m. opened_of (slice_index_or os m old) ∷ i.around) (sym (last_position n os len)) ∙ ap (λ o. opened_of o ∷ i.around) (sym at) in
+    let is : all_opened (slice_set os (n - 1) new) [] ≡ opened_of new ∷ i.around = ap (λ m. all_opened (slice_set os m new) []) (last_position n os len) ∙ i.after new in
     ap (with_tree t u) was ∙ h u i.around ∙ ap (λ x. reads (record u { opened = x })) (sym is)
 
 pub no_insert_at : (r : Refusal) (t : Tree) (u : Unfinished) (os : List Open) (n : ℕ) (old new : Open) → n ≡ length os → 0 < n → old ≡ slice_index_or os (n - 1) old
@@ -48,8 +48,8 @@ no_insert_at refusal.OutOfMemory t u os n old new len some at h = tt
 no_insert_at refusal.OutOfNesting t u os n old new len some at h = absurd h
 no_insert_at refusal.RepeatedKey t u os n old new len some at h =
     let i = innermost os [] (omega arith) in
-    let was : all_opened os [] ≡ opened_of old ∷ i.around = i.before old ∙ ap (λ m. opened_of (slice_index_or os m old) ∷ i.around) (sym (last_place n os len)) ∙ ap (λ o. opened_of o ∷ i.around) (sym at) in
-    let is : all_opened (slice_set os (n - 1) new) [] ≡ opened_of new ∷ i.around = ap (λ m. all_opened (slice_set os m new) []) (last_place n os len) ∙ i.after new in
+    let was : all_opened os [] ≡ opened_of old ∷ i.around = i.before old ∙ ap (λ m. opened_of (slice_index_or os m old) ∷ i.around) (sym (last_position n os len)) ∙ ap (λ o. opened_of o ∷ i.around) (sym at) in
+    let is : all_opened (slice_set os (n - 1) new) [] ≡ opened_of new ∷ i.around = ap (λ m. all_opened (slice_set os m new) []) (last_position n os len) ∙ i.after new in
     ap (with_tree t u) was ∙ h u i.around ∙ ap (λ x. repeats (repeated_key x)) (sym is)
 
 -- a collection begins where one is open, or no root is complete

@@ -19,6 +19,6 @@ ReadsTo _ v = ⊥
 -- Two loaders stand alike: both at work with readings alike, or both stopped by the same.
 abbrev pub StandAlike : Loader → Loader → Type 0
 StandAlike (at_work u) (at_work v) = AreAlike u v
-StandAlike (noted documents key place) l = noted documents key place ≡ l
-StandAlike (refused documents place) l = refused documents place ≡ l
+StandAlike (noted documents key position) l = noted documents key position ≡ l
+StandAlike (refused documents position) l = refused documents position ≡ l
 StandAlike _ _ = ⊥

@@ -14,7 +14,7 @@ AlikeLoadersShowTheSame = (l m : Loader) → StandAlike l m → (documents_of l 
 
 -- `alike_loaders_go_on_alike`
 abbrev pub AlikeLoadersGoOnAlike : Type 0
-AlikeLoadersGoOnAlike = (l m : Loader) (e : Ev) (place : Position) → StandAlike l m → StandAlike (with_event_at l e place) (with_event_at m e place)
+AlikeLoadersGoOnAlike = (l m : Loader) (e : Ev) (position : Position) → StandAlike l m → StandAlike (with_event_at l e position) (with_event_at m e position)
 
 -- `events_are_read_as_defined`
 abbrev pub EventsAreReadAsDefined : Type 0

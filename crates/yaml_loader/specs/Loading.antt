@@ -16,54 +16,54 @@ use Rattle.yaml_loader.specs.View.{unfinished_of, repeated_key, IsRefusedBy}
 -- by how it goes on, over what was read
 abbrev pub loader_by : Course → Unfinished → Loader
 loader_by course.Reading u = at_work u
-loader_by (course.RepeatedKey place text) u = noted u.documents (repeated_key u.opened) place
-loader_by (course.OutOfNesting place) u = refused u.documents place
-loader_by (course.OutOfMemory place) u = refused u.documents place
+loader_by (course.RepeatedKey position text) u = noted u.documents (repeated_key u.opened) position
+loader_by (course.OutOfNesting position) u = refused u.documents position
+loader_by (course.OutOfMemory position) u = refused u.documents position
 
 -- the loader
 abbrev pub loader_of : YamlLoader → Loader
 loader_of l = loader_by l.course (unfinished_of l.reading)
 
--- out of memory at a place
+-- out of memory at a position
 abbrev pub want_of_memory : Position → ErrorReport
-want_of_memory place = record { place = place; text = codes "out of memory"; memory = true }
+want_of_memory position = record { position = position; text = codes "out of memory"; memory = true }
 
--- an event out of nesting at a place
+-- an event out of nesting at a position
 abbrev pub event_out_of_nesting : Position → ErrorReport
-event_out_of_nesting place = report_at place (codes "event out of nesting")
+event_out_of_nesting position = report_at position (codes "event out of nesting")
 
 abbrev pub kept_by : Course → Option ErrorReport
 kept_by course.Reading = None
-kept_by (course.RepeatedKey place text) = None
-kept_by (course.OutOfNesting place) = Some (event_out_of_nesting place)
-kept_by (course.OutOfMemory place) = Some (want_of_memory place)
+kept_by (course.RepeatedKey position text) = None
+kept_by (course.OutOfNesting position) = Some (event_out_of_nesting position)
+kept_by (course.OutOfMemory position) = Some (want_of_memory position)
 
 -- the fault that is kept, where one is: every later event is answered the same
 abbrev pub kept_fault : YamlLoader → Option ErrorReport
 kept_fault l = kept_by l.course
 
--- A new fault with an event at this place, after which the loader would be this one: out of memory, or
+-- A new fault with an event at this position, after which the loader would be this one: out of memory, or
 -- that of an event out of nesting, where this one refuses it.
 abbrev pub IsNewFault : ErrorReport → Position → Loader → Type 0
-IsNewFault f place l = (f ≡ want_of_memory place) ⊎ ((f ≡ event_out_of_nesting place) × (refused_at l ≡ Some place))
+IsNewFault f position l = (f ≡ want_of_memory position) ⊎ ((f ≡ event_out_of_nesting position) × (refused_at l ≡ Some position))
 
 -- a loader that has noted a key that came twice
 abbrev pub HasNotedKey : Loader → Type 0
-HasNotedKey (noted documents key place) = Unit {0}
+HasNotedKey (noted documents key position) = Unit {0}
 HasNotedKey _ = ⊥
 
 abbrev pub TellsBy : Course → List Opened → Type 0
-TellsBy (course.RepeatedKey place text) opened = TellsKey (repeated_key opened) (string_bytes text)
+TellsBy (course.RepeatedKey position text) opened = TellsKey (repeated_key opened) (string_bytes text)
 TellsBy _ opened = Unit {0}
 
 -- Where a loader has noted a key that came twice, the text that it keeps tells this key.
 abbrev pub TellsNotedKey : YamlLoader → Type 0
 TellsNotedKey l = TellsBy l.course (unfinished_of l.reading).opened
 
--- What a loader makes of an event at its place.
-pub record Takes (old : YamlLoader) (e : Ev) (place : Position) (result : Result (Unit {0}) ErrorReport) (new : YamlLoader) : Type 0 where
+-- What a loader makes of an event at its position.
+pub record Takes (old : YamlLoader) (e : Ev) (position : Position) (result : Result (Unit {0}) ErrorReport) (new : YamlLoader) : Type 0 where
   -- On `Ok` the loader is the one after the event, and keeps no fault.
-  pub reads : OnOk result (StandAlike (with_event_at (loader_of old) e place) (loader_of new))
+  pub reads : OnOk result (StandAlike (with_event_at (loader_of old) e position) (loader_of new))
   pub goes_on : OnOk result (kept_fault new ≡ None)
   -- A fault is kept, and the documents stay.
   pub keeps : IfErr result (λ f. kept_fault new ≡ Some f)
@@ -71,7 +71,7 @@ pub record Takes (old : YamlLoader) (e : Ev) (place : Position) (result : Result
   -- A fault that was kept is returned again.
   pub again : IfSome (kept_fault old) (λ f. result ≡ Err f)
   -- Any other fault has its reason.
-  pub reason : IfErr result (λ f. kept_fault old ≡ None → IsNewFault f place (with_event_at (loader_of old) e place))
+  pub reason : IfErr result (λ f. kept_fault old ≡ None → IsNewFault f position (with_event_at (loader_of old) e position))
   -- Once a key that came twice was noted, the result is always `Ok`.
   pub ignores : HasNotedKey (loader_of old) → IsOk result
   -- The text that is kept with such a key goes on to tell it.
@@ -79,6 +79,6 @@ pub record Takes (old : YamlLoader) (e : Ev) (place : Position) (result : Result
 
 -- What a loader that is at work makes of an event which its reading refused, whatever the event was: so it takes the event.
 abbrev pub Stops : YamlLoader → Refusal → Position → Result (Unit {0}) ErrorReport → YamlLoader → Type 0
-Stops stopped refusal place result new =
+Stops stopped refusal position result new =
     (old : YamlLoader) (e : Ev) → old.course ≡ course.Reading → IsRefusedBy refusal (with_event (unfinished_of old.reading) e) (unfinished_of stopped.reading).opened
-    → (unfinished_of stopped.reading).documents ≡ (unfinished_of old.reading).documents → Takes old e place result new
+    → (unfinished_of stopped.reading).documents ≡ (unfinished_of old.reading).documents → Takes old e position result new

@@ -15,10 +15,10 @@ abbrev pub HasDocuments : Loader → List Tree → Type 0
 HasDocuments (at_work u) documents = u.documents ≡ documents
 HasDocuments _ documents = ⊥
 
--- A loader has noted that this key came twice, its second value at this place.
+-- A loader has noted that this key came twice, its second value at this position.
 abbrev pub HasNoted : Loader → Tree → Position → Type 0
-HasNoted (noted documents noted_key at) key place = (noted_key ≡ key) × (at ≡ place)
-HasNoted _ key place = ⊥
+HasNoted (noted documents noted_key at) key position = (noted_key ≡ key) × (at ≡ position)
+HasNoted _ key position = ⊥
 
 -- A receiver that only notes the events that are pushed.
 abbrev pub Notes : List (Ev × Position) → Ev → Position → Result (Unit {0}) ErrorReport → List (Ev × Position) → Type 0
@@ -39,6 +39,6 @@ pub data IsLoadFault (old : Parsed) (f : ErrorReport) (new : Parsed) : Type 0 wh
   -- The last event that was pushed is refused: it stands out of nesting, or memory was refused.
   refused : (events : List (Ev × Position)) (e : Ev) (p : Position) → Pushes old (events ++ (e, p) ∷ []) (Err f) new → new.fault ≡ None
       → IsNewFault f p (with_event_at (with_events new_loader events) e p) → IsLoadFault old f new
-  -- All events were pushed, and among them a key came twice, its second value at the fault's place. The fault's text tells the key.
+  -- All events were pushed, and among them a key came twice, its second value at the fault's position. The fault's text tells the key.
   repeated_key : (events : List (Ev × Position)) (key : Tree) → Pushes old events (Ok tt) new → new.fault ≡ None
-      → HasNoted (with_events new_loader events) key f.place → TellsKey key f.text → f.memory ≡ false → IsLoadFault old f new
+      → HasNoted (with_events new_loader events) key f.position → TellsKey key f.text → f.memory ≡ false → IsLoadFault old f new

@@ -30,9 +30,9 @@ impl YamlLoader {
     ///
     /// # Errors
     ///
-    /// The text's first fault, with its place: a text is loaded whole or not at all. A key that comes twice in its
+    /// The text's first fault, with its position: a text is loaded whole or not at all. A key that comes twice in its
     /// mapping is a fault too, which is returned only if there is no other. It tells the key, as
-    /// `String("a"): duplicated key in mapping`, and has the place of the key's second value, for a collection that of
+    /// `String("a"): duplicated key in mapping`, and has the position of the key's second value, for a collection that of
     /// its end. Or memory was refused ([`ScanError::is_out_of_memory`]); then all memory that the load took is freed.
     ///
     /// # What is sure to load

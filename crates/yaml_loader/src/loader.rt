@@ -16,11 +16,11 @@ use yaml_tree::Yaml;
 #[derive(Drop)]
 pub(crate) enum Course {
     Reading,
-    // A key came twice: the place of its second value, and the text of the fault. Every later event is ignored.
+    // A key came twice: the position of its second value, and the text of the fault. Every later event is ignored.
     RepeatedKey(Marker, String),
-    // The event at this place was out of nesting. Every later event is refused with the same fault.
+    // The event at this position was out of nesting. Every later event is refused with the same fault.
     OutOfNesting(Marker),
-    // Memory was refused at this place. Every later event is refused with the same fault.
+    // Memory was refused at this position. Every later event is refused with the same fault.
     OutOfMemory(Marker),
 }
 
@@ -55,7 +55,7 @@ impl YamlLoader {
         self.reading.documents.as_slice()
     }
 
-    // Stops at the event at this place, which was refused.
+    // Stops at the event at this position, which was refused.
     #[cold]
     #[inline(never)]
     fn stop(&mut self, refusal: Refusal, mark: Marker) -> Result<(), ScanError>
@@ -127,8 +127,8 @@ impl MarkedEventReceiver for YamlLoader {
                 Err(refusal) => self.stop(refusal, mark),
             },
             Course::RepeatedKey(_, _) => Ok(()),
-            Course::OutOfNesting(place) => refuse_nesting(*place),
-            Course::OutOfMemory(place) => refuse_memory(*place),
+            Course::OutOfNesting(position) => refuse_nesting(*position),
+            Course::OutOfMemory(position) => refuse_memory(*position),
         }
     }
 }

@@ -10,7 +10,7 @@ use Rattle.yaml_scanner.specs.Tokens.{is_end}
 use Rattle.defs_event.specs.Event.{Ev}
 use Rattle.defs_event.specs.Raw.{Raw}
 use Rattle.defs_event.specs.Names.{Names, names_after, resolved_event}
-use Rattle.defs_event.specs.Stream.{has_place, gives_place}
+use Rattle.defs_event.specs.Stream.{has_position, gives_position}
 use Rattle.model_parser.specs.declared.kind.Kind.{Kind}
 use Rattle.model_parser.specs.declared.state.State.{State}
 use Rattle.model_parser.specs.Kinds.{kind_of, tok_of_kind, has_no_text}
@@ -27,7 +27,7 @@ use Rattle.yaml_parser.specs.Kinds.{IsOfKind}
 use Rattle.yaml_parser.specs.Named.{IsNamed}
 use Rattle.yaml_parser.specs.Shown.{placed}
 use Rattle.yaml_parser.specs.At.{At, Answers, Took, Stayed, Faulted, goal_after_event, is_over, names_at, IsPending}
-use Rattle.yaml_parser.proofs.Places.{IsPlaced}
+use Rattle.yaml_parser.proofs.Positions.{IsPlaced}
 use Rattle.yaml_parser.proofs.Steps.{looked, took, took_on, left, left_on, Named}
 
 -- the token at hand is taken, and this is what there is after it
@@ -53,7 +53,7 @@ pub record Plain {T : Type 0} (g : Goal) (p : Reader T) (names : Names) (e : Raw
   pub resolves : resolved_event names e ≡ Some v
   pub after_it : names_after p.names.keeping.tags names e ≡ names
   pub seen : names_at p.names.keeping.tags g names ≡ names
-  pub no_place : has_place e ≡ false
+  pub no_position : has_position e ≡ false
 
 plain_named : {T : Type 0} {g : Goal} {p r : Reader T} {names : Names} {e : Raw} {v : Ev} {given : List (Ev × Position)} → Plain g p names e v → r.names ≡ p.names → At g p names given → Named p r at.done names e v names
 plain_named {T} {g} {p} {r} {names} {e} {v} {given} y same a = record {
@@ -64,35 +64,35 @@ plain_named {T} {g} {p} {r} {names} {e} {v} {given} y same a = record {
   pending = tt;
 }
 
-pub no_places : {e : Raw} {t : Token} (m : Position) → has_place e ≡ false → gives_place (tok_of t.1) ≡ false → IsPlaced e t m
-no_places {e} {t} m h k = record { alike = h ∙ sym k; here = λ y. absurd (both_ways (gives_place (tok_of t.1)) k y) }
+pub no_positions : {e : Raw} {t : Token} (m : Position) → has_position e ≡ false → gives_position (tok_of t.1) ≡ false → IsPlaced e t m
+no_positions {e} {t} m h k = record { alike = h ∙ sym k; here = λ y. absurd (both_ways (gives_position (tok_of t.1)) k y) }
 
 -- The token is taken, and an event is given.
 pub gives : {T : Type 0} (m : Position) {g : Goal} {p r : Reader T} {k k' : Kind} {ss : List State} {e : Raw} {v : Ev} {names : Names} {given : List (Ev × Position)}
     → IsOfKind k' p.tokens.peeked → k' ≡ k → has_no_text k ≡ true → Skipped p r ss → Takes g p.stack (tok_of_kind k) (Some e) at.done ss
-    → Plain g p names e v → is_over g ≡ false → (is_end (tok_of_kind k) || gives_place (tok_of_kind k)) ≡ false → At g p names given → (names' : Names) × At at.done r names' (given ++ (v, m) ∷ [])
+    → Plain g p names e v → is_over g ≡ false → (is_end (tok_of_kind k) || gives_position (tok_of_kind k)) ≡ false → At g p names given → (names' : Names) × At at.done r names' (given ++ (v, m) ∷ [])
 gives {T} m {g} {p} {r} {k} {k'} {ss} {e} {v} {names} {given} o h plain s turn y over end a =
     let l = looked k' p.tokens.peeked o in
     let t = l.0 in
     let x = s t l.1 in
     let same : tok_of t.1 ≡ tok_of_kind k = tok_is (l.2 ∙ h) plain in (
       names,
-      took m l.1 x.tokens x.stack (subst (λ u. Takes g p.stack u (Some e) at.done ss) (sym same) turn) (plain_named y x.names a) (λ w. (over, ap is_end same ∙ (or_parts (is_end (tok_of_kind k)) (gives_place (tok_of_kind k)) end).0))
-          (no_places {e = e} {t = t} m y.no_place (ap gives_place same ∙ (or_parts (is_end (tok_of_kind k)) (gives_place (tok_of_kind k)) end).1)) a,
+      took m l.1 x.tokens x.stack (subst (λ u. Takes g p.stack u (Some e) at.done ss) (sym same) turn) (plain_named y x.names a) (λ w. (over, ap is_end same ∙ (or_parts (is_end (tok_of_kind k)) (gives_position (tok_of_kind k)) end).0))
+          (no_positions {e = e} {t = t} m y.no_position (ap gives_position same ∙ (or_parts (is_end (tok_of_kind k)) (gives_position (tok_of_kind k)) end).1)) a,
     )
 
 -- The token is taken, and it goes on.
 pub goes : {T : Type 0} {g g' : Goal} {p r : Reader T} {k k' : Kind} {ss : List State} {names : Names} {given : List (Ev × Position)}
     → IsOfKind k' p.tokens.peeked → k' ≡ k → has_no_text k ≡ true → Skipped p r ss → Takes g p.stack (tok_of_kind k) None g' ss
-    → names_at p.names.keeping.tags g' names ≡ names_at p.names.keeping.tags g names → IsPending names g' → is_over g ≡ false → (is_end (tok_of_kind k) || gives_place (tok_of_kind k)) ≡ false → At g p names given → At g' r names given
+    → names_at p.names.keeping.tags g' names ≡ names_at p.names.keeping.tags g names → IsPending names g' → is_over g ≡ false → (is_end (tok_of_kind k) || gives_position (tok_of_kind k)) ≡ false → At g p names given → At g' r names given
 goes {T} {g} {g'} {p} {r} {k} {k'} {ss} {names} {given} o h plain s turn seen pending over end a =
     let l = looked k' p.tokens.peeked o in
     let t = l.0 in
     let x = s t l.1 in
     let same : tok_of t.1 ≡ tok_of_kind k = tok_is (l.2 ∙ h) plain in
     took_on l.1 x.tokens x.stack (subst (λ u. Takes g p.stack u None g' ss) (sym same) turn) (ap (λ n. n.keeping) x.names)
-    (subst (λ n. IsNamed n (names_at n.keeping.tags g' names)) (sym x.names) (subst (IsNamed p.names) (sym seen) a.code)) pending (λ w. (over, ap is_end same ∙ (or_parts (is_end (tok_of_kind k)) (gives_place (tok_of_kind k)) end).0))
-    (ap gives_place same ∙ (or_parts (is_end (tok_of_kind k)) (gives_place (tok_of_kind k)) end).1) a
+    (subst (λ n. IsNamed n (names_at n.keeping.tags g' names)) (sym x.names) (subst (IsNamed p.names) (sym seen) a.code)) pending (λ w. (over, ap is_end same ∙ (or_parts (is_end (tok_of_kind k)) (gives_position (tok_of_kind k)) end).0))
+    (ap gives_position same ∙ (or_parts (is_end (tok_of_kind k)) (gives_position (tok_of_kind k)) end).1) a
 
 -- The token stays, and an event is given.
 pub leaves : {T : Type 0} (m : Position) {g : Goal} {p r : Reader T} {k : Kind} {ss : List State} {e : Raw} {v : Ev} {names : Names} {given : List (Ev × Position)}
@@ -100,7 +100,7 @@ pub leaves : {T : Type 0} (m : Position) {g : Goal} {p r : Reader T} {k : Kind} 
     → Plain g p names e v → is_over g ≡ false → At g p names given → (names' : Names) × At at.done r names' (given ++ (v, m) ∷ [])
 leaves {T} m {g} {p} {r} {k} {ss} {e} {v} {names} {given} o s turn y over a =
     let l = looked k p.tokens.peeked o in
-    (names, left m (ap (option_map (λ (x : Token). tok_of x.1)) l.1) s.tokens s.stack (turn (tok_of l.0.1) l.2) (plain_named y s.names a) (or_from (is_over g) false over refl) y.no_place a)
+    (names, left m (ap (option_map (λ (x : Token). tok_of x.1)) l.1) s.tokens s.stack (turn (tok_of l.0.1) l.2) (plain_named y s.names a) (or_from (is_over g) false over refl) y.no_position a)
 
 -- The token stays, and it goes on.
 pub stays : {T : Type 0} {g g' : Goal} {p r : Reader T} {k : Kind} {ss : List State} {names : Names} {given : List (Ev × Position)}
@@ -114,7 +114,7 @@ stays {T} {g} {g'} {p} {r} {k} {ss} {names} {given} o s turn seen pending over a
 pub went : {T : Type 0} (m : Position) {g : Goal} {p r : Reader T} {ss : List State} {e : Raw} {v : Ev} {names : Names} {given : List (Ev × Position)}
     → Stayed p r ss → Leaves g p.stack (peeked_tok p.tokens) (Some e) at.done ss → Plain g p names e v → is_over g ≡ false → At g p names given → (names' : Names) × At at.done r names' (given ++ (v, m) ∷ [])
 went {T} m {g} {p} {r} {ss} {e} {v} {names} {given} s turn y over a =
-    (names, left m refl s.tokens s.stack turn (plain_named y s.names a) (or_from (is_over g) false over refl) y.no_place a)
+    (names, left m refl s.tokens s.stack turn (plain_named y s.names a) (or_from (is_over g) false over refl) y.no_position a)
 
 -- ---- what is answered
 
@@ -160,5 +160,5 @@ as_kind test e h = ap test h ∙ e
 pub not_as : {k k' x : Kind} → k ≢ x → k' ≡ k → k' ≢ x
 not_as a h e = a (sym h ∙ e)
 
-pub plain : {T : Type 0} {g : Goal} {p : Reader T} {names : Names} {e : Raw} {v : Ev} → resolved_event names e ≡ Some v → names_after p.names.keeping.tags names e ≡ names → names_at p.names.keeping.tags g names ≡ names → has_place e ≡ false → Plain g p names e v
-plain a b c d = record { resolves = a; after_it = b; seen = c; no_place = d }
+pub plain : {T : Type 0} {g : Goal} {p : Reader T} {names : Names} {e : Raw} {v : Ev} → resolved_event names e ≡ Some v → names_after p.names.keeping.tags names e ≡ names → names_at p.names.keeping.tags g names ≡ names → has_position e ≡ false → Plain g p names e v
+plain a b c d = record { resolves = a; after_it = b; seen = c; no_position = d }

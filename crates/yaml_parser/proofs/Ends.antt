@@ -1,4 +1,4 @@
--- The shortest way to the end from each place: so no fault is late.
+-- The shortest way to the end from each position: so no fault is late.
 use Rattle.std.proofs.Common.{◌≡◌, List, [], ◌∷◌, ◌++◌, Option, Some, None, option_map, Bool, true, false, refl, sym, ap, ◌∙◌, subst, append-nil, append_assoc, if◌then◌else◌, map, inl}
 use Rattle.std.proofs.lemmas.Bool.{both_ways}
 use Rattle.std.proofs.lemmas.List.{map-append}
@@ -9,8 +9,8 @@ use Rattle.defs_event.specs.Event.{Ev}
 use Rattle.defs_event.specs.Raw.{Raw}
 use Rattle.defs_event.specs.Grammar.{scalar, flow_content, no_flow, end_items, no_items, single, no_flow_value, no_flow_pairs, end_flow_pairs, flow_keyless, block_content, flow, no_node, end_entries, plain, end_dashes, keyed, end_pairs, no_value, others, end_stream, unmarked, anchor_of, tag_of, Documents, stream_tokens}
 use Rattle.defs_event.specs.Names.{Names, number, named, both, names_after, names_after_all, resolved_event, resolved, perhaps_resolved, are_allowed, no_names}
-use Rattle.defs_event.specs.Stream.{BeginsPlaced, events_of, places_of, taken_places, given_places}
-use Rattle.model_parser.specs.declared.place.NodeContext.TheVariants as place
+use Rattle.defs_event.specs.Stream.{BeginsPlaced, events_of, positions_of, taken_positions, given_positions}
+use Rattle.model_parser.specs.declared.context.NodeContext.TheVariants as context
 use Rattle.model_parser.specs.declared.state.State.{State}
 use Rattle.model_parser.specs.declared.state.State.TheVariants as state
 use Rattle.model_parser.specs.Goal as at
@@ -28,7 +28,7 @@ use Rattle.model_parser.specs.Stands.{IsNext as Begins1}
 use Rattle.model_parser.specs.Turn.{Refuses}
 use Rattle.yaml_parser.specs.Kinds.{IsOfKind}
 use Rattle.yaml_parser.proofs.Steps.{map_snoc, looked, if_some_at}
-use Rattle.yaml_parser.proofs.Places.{taken_places_append, given_places_append, places_length}
+use Rattle.yaml_parser.proofs.Positions.{taken_positions_append, given_positions_append, positions_length}
 use Rattle.yaml_parser.specs.Handed.{taken_toks, peeked_tok, shown_list}
 use Rattle.yaml_parser.specs.At.{At, Faulted, IsPending, IsStuck}
 use Rattle.yaml_parser.specs.Blames.{fits, is_of_names}
@@ -46,15 +46,15 @@ shortest at.explicit = end_stream
 shortest (at.directed ds) = ([], no_node, unmarked end_stream)
 shortest at.content = (no_node, unmarked end_stream)
 shortest at.after = unmarked end_stream
-shortest (at.node place.Flow) = flow_content None (scalar Style.plain [])
-shortest (at.node place.Block) = block_content None (flow (scalar Style.plain []))
-shortest (at.node place.Part) = part_node (block_content None (flow (scalar Style.plain [])))
+shortest (at.node context.Flow) = flow_content None (scalar Style.plain [])
+shortest (at.node context.Block) = block_content None (flow (scalar Style.plain []))
+shortest (at.node context.Part) = part_node (block_content None (flow (scalar Style.plain [])))
 shortest (at.after_anchor p a) = (None, None)
 shortest (at.after_tag p t) = (None, None)
 shortest (at.after_properties p (Some o)) = (None, tt)
-shortest (at.after_properties place.Flow None) = (Some (scalar Style.plain []), tt)
-shortest (at.after_properties place.Block None) = (Some (flow (scalar Style.plain [])), tt)
-shortest (at.after_properties place.Part None) = (Some (part_content (flow (scalar Style.plain []))), tt)
+shortest (at.after_properties context.Flow None) = (Some (scalar Style.plain []), tt)
+shortest (at.after_properties context.Block None) = (Some (flow (scalar Style.plain [])), tt)
+shortest (at.after_properties context.Part None) = (Some (part_content (flow (scalar Style.plain []))), tt)
 shortest at.entries = end_entries
 shortest at.entry = (no_node, end_entries)
 shortest at.dashes = end_dashes
@@ -132,9 +132,9 @@ completes (at.directed ds) keep s r p f =
     name_one keep s (Raw.document_start (ds ++ [])) (Raw.empty_scalar None None ∷ Raw.document_end ∷ Raw.stream_end ∷ r) (ap (λ b. if b then Some Ev.document_start else None) h) (last_document keep r f)
 completes at.content keep s r p f = last_document keep r f s
 completes at.after keep s r p f = document_end keep s (Raw.stream_end ∷ r) (λ s1. finish keep s1 r f)
-completes (at.node place.Flow) keep s r p f = word keep s r f
-completes (at.node place.Block) keep s r p f = word keep s r f
-completes (at.node place.Part) keep s r p f = word keep s r f
+completes (at.node context.Flow) keep s r p f = word keep s r f
+completes (at.node context.Block) keep s r p f = word keep s r f
+completes (at.node context.Part) keep s r p f = word keep s r f
 completes (at.after_anchor q a) keep s r p f = name_one keep s (Raw.empty_scalar (Some a) None) r refl f
 completes (at.after_tag q t) keep s r p f =
     let u = is_some_value (resolved s.handles t) p in
@@ -142,9 +142,9 @@ completes (at.after_tag q t) keep s r p f =
 completes (at.after_properties q (Some o)) keep s r p f =
     let u = is_some_value (perhaps_resolved s.handles (tag_of o)) p in
     name_one keep s (Raw.empty_scalar (anchor_of o) (tag_of o)) r (ap (λ x. option_map (λ y. Ev.scalar [] Style.plain (number s (anchor_of o)) y) x) u.1) f
-completes (at.after_properties place.Flow None) keep s r p f = word keep s r f
-completes (at.after_properties place.Block None) keep s r p f = word keep s r f
-completes (at.after_properties place.Part None) keep s r p f = word keep s r f
+completes (at.after_properties context.Flow None) keep s r p f = word keep s r f
+completes (at.after_properties context.Block None) keep s r p f = word keep s r f
+completes (at.after_properties context.Part None) keep s r p f = word keep s r f
 completes at.entries keep s r p f = sequence_end keep s r f
 completes at.entry keep s r p f = nothing keep s (Raw.sequence_end ∷ r) (λ s1. sequence_end keep s1 r f)
 completes at.dashes keep s r p f = sequence_end keep s r f
@@ -213,22 +213,22 @@ named_append keep s (e ∷ es) fs vs ws h k =
 
 -- ---- and placed
 
--- where no place is known
+-- where no position is known
 abbrev pub token_nowhere : Tok → defs.Token
-token_nowhere t = record { place = record { index = 0; line = 1; col = 0 }; tok = t }
+token_nowhere t = record { position = record { index = 0; line = 1; col = 0 }; tok = t }
 
 abbrev pub event_nowhere : Ev → Ev × Position
 event_nowhere v = (v, record { index = 0; line = 1; col = 0 })
 
-abbrev pub place_nowhere : Raw → Position
-place_nowhere e = record { index = 0; line = 1; col = 0 }
+abbrev pub position_nowhere : Raw → Position
+position_nowhere e = record { index = 0; line = 1; col = 0 }
 
--- as many events with a place as tokens
+-- as many events with a position as tokens
 abbrev pub AreEven : List Raw → List Tok → Type 0
-AreEven es ts = taken_places es (map place_nowhere es) ≡ given_places (map token_nowhere ts)
+AreEven es ts = taken_positions es (map position_nowhere es) ≡ given_positions (map token_nowhere ts)
 
-one_each : (es : List Raw) (ts : List Tok) → AreEven es ts → place_nowhere Raw.stream_start ∷ taken_places es (map place_nowhere es) ≡ place_nowhere Raw.stream_start ∷ given_places (map token_nowhere ts)
-one_each es ts h = ap (λ ps. place_nowhere Raw.stream_start ∷ ps) h
+one_each : (es : List Raw) (ts : List Tok) → AreEven es ts → position_nowhere Raw.stream_start ∷ taken_positions es (map position_nowhere es) ≡ position_nowhere Raw.stream_start ∷ given_positions (map token_nowhere ts)
+one_each es ts h = ap (λ ps. position_nowhere Raw.stream_start ∷ ps) h
 
 even : (g : Goal) (es : List Raw) (ts : List Tok) → AreEven es ts → AreEven (goal_events g (shortest g) es) (goal_tokens g (shortest g) ts)
 even at.done es ts h = h
@@ -265,23 +265,23 @@ even at.flow_key es ts h = h
 even at.flow_after_key es ts h = h
 even at.flow_valued es ts h = h
 even at.flow_empty es ts h = h
-even (at.node place.Flow) es ts h = one_each es ts h
-even (at.node place.Block) es ts h = one_each es ts h
-even (at.node place.Part) es ts h = one_each es ts h
-even (at.after_properties place.Flow None) es ts h = one_each es ts h
-even (at.after_properties place.Block None) es ts h = one_each es ts h
-even (at.after_properties place.Part None) es ts h = one_each es ts h
+even (at.node context.Flow) es ts h = one_each es ts h
+even (at.node context.Block) es ts h = one_each es ts h
+even (at.node context.Part) es ts h = one_each es ts h
+even (at.after_properties context.Flow None) es ts h = one_each es ts h
+even (at.after_properties context.Block None) es ts h = one_each es ts h
+even (at.after_properties context.Part None) es ts h = one_each es ts h
 even at.item es ts h = one_each es ts h
 
 rest_even : (ss : List State) → AreEven (rest_events ss (ending ss)) (rest_tokens ss (ending ss))
 rest_even [] = refl
 rest_even (s ∷ ss) = even (goal_of s) (rest_events ss (ending ss)) (rest_tokens ss (ending ss)) (rest_even ss)
 
-named_length : (keep : Bool) (s : Names) (es : List Raw) (vs : List Ev) → named keep s es ≡ Some vs → places_of (map event_nowhere vs) ≡ map place_nowhere es
-named_length keep s [] vs h = let x : vs ≡ [] = cc in ap (λ ws. places_of (map event_nowhere ws)) x
+named_length : (keep : Bool) (s : Names) (es : List Raw) (vs : List Ev) → named keep s es ≡ Some vs → positions_of (map event_nowhere vs) ≡ map position_nowhere es
+named_length keep s [] vs h = let x : vs ≡ [] = cc in ap (λ ws. positions_of (map event_nowhere ws)) x
 named_length keep s (e ∷ es) vs h =
     let b = both_parts (resolved_event s e) (named keep (names_after keep s e) es) vs h in
-    ap (λ ws. places_of (map event_nowhere ws)) b.4 ∙ ap (λ ps. place_nowhere e ∷ ps) (named_length keep (names_after keep s e) es b.1 b.3)
+    ap (λ ws. positions_of (map event_nowhere ws)) b.4 ∙ ap (λ ps. position_nowhere e ∷ ps) (named_length keep (names_after keep s e) es b.1 b.3)
 
 events_nowhere : (vs : List Ev) → events_of (map event_nowhere vs) ≡ vs
 events_nowhere [] = refl
@@ -308,12 +308,12 @@ at_begins {T} g p names given a steady =
         has_tokens = d.1 ∙ ap (λ us. taken_toks p.tokens ++ us) (sym (toks_nowhere ts)) ∙ sym (map-append (λ (t : defs.Token). t.tok) (all_shown p.tokens.taken.items) (map token_nowhere ts));
         has_events = ap (named keep no_names) d.2 ∙ all
             ∙ ap (λ vs. Some (events_of given ++ vs)) (sym (events_nowhere n.0)) ∙ ap Some (sym (map-append (λ (e : Ev × Position). e.0) given (map event_nowhere n.0)));
-        has_places = ap (λ xs. taken_places xs (places_of (given ++ map event_nowhere n.0))) d.2
-            ∙ ap (taken_places (a.raw ++ es)) (map-append (λ (e : Ev × Position). e.1) given (map event_nowhere n.0))
-            ∙ taken_places_append a.raw es (places_of given) (places_of (map event_nowhere n.0)) (a.count ∙ sym (places_length given))
-            ∙ ap (λ ps. ps ++ taken_places es (places_of (map event_nowhere n.0))) a.places
-            ∙ ap (λ ps. given_places (all_shown p.tokens.taken.items) ++ ps) (ap (taken_places es) (named_length keep names es n.0 n.1) ∙ even g (rest_events p.stack (ending p.stack)) (rest_tokens p.stack (ending p.stack)) (rest_even p.stack))
-            ∙ sym (given_places_append (all_shown p.tokens.taken.items) (map token_nowhere ts));
+        has_positions = ap (λ xs. taken_positions xs (positions_of (given ++ map event_nowhere n.0))) d.2
+            ∙ ap (taken_positions (a.raw ++ es)) (map-append (λ (e : Ev × Position). e.1) given (map event_nowhere n.0))
+            ∙ taken_positions_append a.raw es (positions_of given) (positions_of (map event_nowhere n.0)) (a.count ∙ sym (positions_length given))
+            ∙ ap (λ ps. ps ++ taken_positions es (positions_of (map event_nowhere n.0))) a.positions
+            ∙ ap (λ ps. given_positions (all_shown p.tokens.taken.items) ++ ps) (ap (taken_positions es) (named_length keep names es n.0 n.1) ∙ even g (rest_events p.stack (ending p.stack)) (rest_tokens p.stack (ending p.stack)) (rest_even p.stack))
+            ∙ sym (given_positions_append (all_shown p.tokens.taken.items) (map token_nowhere ts));
       };
     }
 
@@ -331,7 +331,7 @@ at_derived {T} {g} {p} a =
         has_events = d.2;
       };
       resolved = a.resolved;
-      places = a.places;
+      positions = a.positions;
       named = a.events;
     }
 
@@ -365,7 +365,7 @@ refused {T} {g} {p} {t} {names} {given} here turn a =
       none = λ steady ts es s. cut here turn a s.documents ts s.has_tokens;
     }
 
--- A token of this kind is refused, for a problem that fits it and is not of names, at its place.
+-- A token of this kind is refused, for a problem that fits it and is not of names, at its position.
 pub refuses : {T : Type 0} {g : Goal} {p : Reader T} {k : Kind} {m : Position} {names : Names} {given : List (Ev × Position)} (q : Problem)
     → is_of_names q ≡ false → fits q k ≡ true → IfSome p.tokens.peeked (λ t. t.0 ≡ m) → IsOfKind k p.tokens.peeked → ((t : Tok) → kind_of t ≡ k → Refuses g p.stack t) → At g p names given
     → Faulted p given (stop.Own (fault.At q m))

@@ -18,7 +18,7 @@ use Rattle.defs_event.specs.Raw.{Raw}
 use Rattle.defs_event.specs.Grammar.{Documents, stream_tokens, stream_events}
 use Rattle.defs_event.specs.Names.{Names, named, no_names}
 use Rattle.defs_token.specs.Toks.{toks}
-use Rattle.defs_event.specs.Stream.{IsStream, BeginsPlaced, events_of, places_of, taken_places, given_places}
+use Rattle.defs_event.specs.Stream.{IsStream, BeginsPlaced, events_of, positions_of, taken_positions, given_positions}
 use Rattle.defs_event.proofs.NameLemmas.{named_append}
 use Rattle.model_parser.specs.declared.state.State.{State}
 use Rattle.model_parser.specs.declared.state.State.TheVariants as state
@@ -118,7 +118,7 @@ popped {T} p s ss {names} {given} h a = record {
   over = λ o. absurd (both_ways (is_over (goal_of s)) (state_going s) o);
   count = a.count;
   resolved = a.resolved;
-  places = a.places;
+  positions = a.positions;
   events = a.events;
   names_are = a.names_are;
   code = subst (IsNamed p.names) (sym (state_seen s p.names.keeping.tags names)) a.code;
@@ -224,7 +224,7 @@ begun {T} p stack peeked taken given ended code = (
     over = λ o. peeked;
     count = refl;
     resolved = tt;
-    places = sym (ap (λ ts. given_places (all_shown ts)) taken);
+    positions = sym (ap (λ ts. given_positions (all_shown ts)) taken);
     events = λ b. refl;
     names_are = λ b. refl;
     code = code;
@@ -293,7 +293,7 @@ at_whole {T} p names es a steady v s =
         documents = o.0.0;
         has_tokens = o.0.1 ∙ ap toks (sym taken);
         has_events = ap (named v.keep_tags no_names) o.0.2 ∙ events;
-        has_places = ap (λ x. taken_places x (places_of (read v))) o.0.2 ∙ ap (λ x. taken_places a.raw (places_of x)) s.events ∙ a.places ∙ ap given_places (sym taken);
+        has_positions = ap (λ x. taken_positions x (positions_of (read v))) o.0.2 ∙ ap (λ x. taken_positions a.raw (positions_of x)) s.events ∙ a.positions ∙ ap given_positions (sym taken);
       };
       only = λ ts fs x.
           let u = o.1 x.documents ts (x.has_tokens ∙ ap (λ z. toks z ++ ts) taken) in
@@ -315,7 +315,7 @@ shown_derived : {T : Type 0} (p : Reader T) (es : List (Ev × Position)) (before
 shown_derived {T} p es before raw v s d = record {
   begins = d.begins;
   resolved = subst (λ xs. AreResolved raw (events_of xs)) (sym s.events) d.resolved;
-  places = ap (λ xs. taken_places raw (places_of xs)) s.events ∙ d.places;
+  positions = ap (λ xs. taken_positions raw (positions_of xs)) s.events ∙ d.positions;
   named = λ b. ap (λ k. named k no_names raw) s.keep_tags ∙ d.named (sym s.steady ∙ b) ∙ ap (λ xs. Some (events_of xs)) (sym s.events);
 }
 

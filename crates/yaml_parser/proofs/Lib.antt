@@ -10,6 +10,6 @@ pub mod Nesting
 pub mod NodeArms
 pub mod Parsing
 pub mod Peeking
-pub mod Places
+pub mod Positions
 pub mod Resolved
 pub mod Steps

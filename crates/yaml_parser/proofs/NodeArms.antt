@@ -21,10 +21,10 @@ use Rattle.defs_event.specs.Grammar as written
 use Rattle.defs_event.specs.Grammar.{perhaps_anchor_of, perhaps_tag_of, stream_tokens, stream_events, items_events, flow_pairs_events, entries_events, pairs_events, perhaps_events, dashes_events, scalar, flow_sequence, flow_mapping, flow, block_sequence, block_mapping, flow_properties, block_properties}
 use Rattle.defs_event.specs.Names.{Names, number, with_anchor, names_after, names_after_all, both, named, no_names, resolved_event, perhaps_resolved, resolved, under_name}
 use Rattle.defs_token.specs.Toks.{toks}
-use Rattle.defs_event.specs.Stream.{has_place, gives_place, BeginsPlaced as Opens}
+use Rattle.defs_event.specs.Stream.{has_position, gives_position, BeginsPlaced as Opens}
 use Rattle.model_parser.specs.declared.kind.Kind.{Kind}
-use Rattle.model_parser.specs.declared.place.NodeContext as places
-use Rattle.model_parser.specs.declared.place.NodeContext.TheVariants as place
+use Rattle.model_parser.specs.declared.context.NodeContext as positions
+use Rattle.model_parser.specs.declared.context.NodeContext.TheVariants as context
 use Rattle.model_parser.specs.declared.state.State.{State}
 use Rattle.model_parser.specs.Kinds.{kind_of, tok_of_kind, has_no_text}
 use Rattle.model_parser.specs.Goal as at
@@ -83,9 +83,9 @@ made_named {T} {p} {r} {mk} {f} {s} {o} {x} k h keep code = record {
 }
 
 -- The start of a collection is taken, and its properties are registered.
-pub starts : {T : Type 0} (m : Position) {p q : Reader T} (r : Reader T) {k k' : Kind} {w : places.NodeContext} {o : Option written.Properties} {x : Option Properties} {ss : List State} (mk : Option (List ℕ) → Option event.Tag → Raw) (f : ℕ → Option event.Tag → Ev) {s : Names} {given : List (Ev × Position)} (res : Result (Event × Position) Stop)
+pub starts : {T : Type 0} (m : Position) {p q : Reader T} (r : Reader T) {k k' : Kind} {w : positions.NodeContext} {o : Option written.Properties} {x : Option Properties} {ss : List State} (mk : Option (List ℕ) → Option event.Tag → Raw) (f : ℕ → Option event.Tag → Ev) {s : Names} {given : List (Ev × Position)} (res : Result (Event × Position) Stop)
     → Makes mk f → IsOfKind k' p.tokens.peeked → k' ≡ k → has_no_text k ≡ true → is_end (tok_of_kind k) ≡ false
-    → ((a : Option (List ℕ)) (t : Option event.Tag) → has_place (mk a t) ≡ gives_place (tok_of_kind k)) → IfSome p.tokens.peeked (λ t. t.0 ≡ m) → Skipped p q ss
+    → ((a : Option (List ℕ)) (t : Option event.Tag) → has_position (mk a t) ≡ gives_position (tok_of_kind k)) → IfSome p.tokens.peeked (λ t. t.0 ≡ m) → Skipped p q ss
     → Takes (at.after_properties w o) p.stack (tok_of_kind k) (Some (mk (perhaps_anchor_of o) (perhaps_tag_of o))) at.done ss
     → ((names : Names) → IsNamed q.names names → IfOk res (λ e. Registers q x names (λ a t. placed e ≡ (f a t, m)) r)) → IfErr res (λ u. u ≡ stop.Own OutOfMemory)
     → ((a : ℕ) (t : Option event.Tag) → goal_after_event (f a t) ≡ at.done)
@@ -101,12 +101,12 @@ starts {T} m {p} {q} r {k} {k'} {w} {o} {x} {ss} mk f {s} {given} (Ok e) makes h
     let one : At at.done r (with_anchor s (name_of x)) (given ++ v ∷ []) =
     took m l.1 (subst (λ u. Skips p.tokens t u) (sym g.tokens) y.tokens) (g.stack ∙ y.stack) (subst (λ u. Takes (at.after_properties w o) p.stack u (Some (mk (perhaps_anchor_of o) (perhaps_tag_of o))) at.done ss) (sym same) turn)
     (made_named makes has (g.keep ∙ ap (λ n. n.keeping) y.names) g.code) (λ b. (refl, ap is_end same ∙ end))
-    (record { alike = alike _ _ ∙ sym (ap gives_place same); here = λ b. sym (if_some_at (λ (z : Token). z.0 ≡ m) mark l.1) }) a in
+    (record { alike = alike _ _ ∙ sym (ap gives_position same); here = λ b. sym (if_some_at (λ (z : Token). z.0 ≡ m) mark l.1) }) a in
     let two : (names : Names) × At (goal_after_event v.0) r names (given ++ v ∷ []) = (with_anchor s (name_of x), subst (λ g. At g r (with_anchor s (name_of x)) (given ++ v ∷ [])) (sym (no_end _ _)) one) in
     subst (λ z. (names : Names) × At (goal_after_event z.0) r names (given ++ z ∷ [])) (sym g.value) two
 
 -- A scalar is taken, and its properties are registered.
-pub scalar_taken : {T : Type 0} (m : Position) {p q r : Reader T} {y : Style} {v : List ℕ} {n : ℕ} {u : Option event.Tag} {w : places.NodeContext} {o : Option written.Properties} {x : Option Properties} {ss : List State} {s : Names} {given : List (Ev × Position)}
+pub scalar_taken : {T : Type 0} (m : Position) {p q r : Reader T} {y : Style} {v : List ℕ} {n : ℕ} {u : Option event.Tag} {w : positions.NodeContext} {o : Option written.Properties} {x : Option Properties} {ss : List State} {s : Names} {given : List (Ev × Position)}
     → {t : Token} → p.tokens.peeked ≡ Some t → t.0 ≡ m → Skips p.tokens t q.tokens → q.stack ≡ ss → q.names ≡ p.names → tok_of t.1 ≡ Tok.scalar y v
     → Takes (at.after_properties w o) p.stack (Tok.scalar y v) (Some (Raw.scalar v y (perhaps_anchor_of o) (perhaps_tag_of o))) at.done ss
     → ((names : Names) → IsNamed q.names names → Registers q x names (λ a b. (n ≡ a) × (u ≡ b)) r)
@@ -119,14 +119,14 @@ scalar_taken {T} m {p} {q} {r} {y} {v} {n} {u} {w} {o} {x} {ss} {s} {given} {t} 
       subst (λ z. At at.done r (with_anchor s (name_of x)) (given ++ (z, m) ∷ [])) e
           (took m here (subst (λ z. Skips p.tokens t z) (sym g.tokens) skips) (g.stack ∙ stack) (subst (λ z. Takes (at.after_properties w o) p.stack z (Some (Raw.scalar v y (perhaps_anchor_of o) (perhaps_tag_of o))) at.done ss) (sym tok) turn)
           (made_named makes has (g.keep ∙ ap (λ z. z.keeping) names_same) g.code) (λ b. (refl, ap is_end tok))
-          (record { alike = sym (ap gives_place tok); here = λ b. sym mark }) a),
+          (record { alike = sym (ap gives_position tok); here = λ b. sym mark }) a),
     )
 
 -- Properties alone are registered, and the token stays.
 pub properties_left : {T : Type 0} (m : Position) {p r : Reader T} {k : Kind} {n : ℕ} {u : Option event.Tag} (o : Option written.Properties) {x : Properties} {s : Names} {given : List (Ev × Position)}
-    → IsOfKind k p.tokens.peeked → ((o' : written.Properties) (t : Tok) → kind_of t ≡ k → Leaves (at.after_properties place.Flow (Some o')) p.stack (Some t) (Some (Raw.empty_scalar (written.anchor_of o') (written.tag_of o'))) at.done p.stack)
+    → IsOfKind k p.tokens.peeked → ((o' : written.Properties) (t : Tok) → kind_of t ≡ k → Leaves (at.after_properties context.Flow (Some o')) p.stack (Some t) (Some (Raw.empty_scalar (written.anchor_of o') (written.tag_of o'))) at.done p.stack)
     → ((names : Names) → IsNamed p.names names → Registers p (Some x) names (λ a b. (n ≡ a) × (u ≡ b)) r)
-    → Has s o (Some x) → At (at.after_properties place.Flow o) p s given → (names : Names) × At at.done r names (given ++ (Ev.scalar [] Style.plain n u, m) ∷ [])
+    → Has s o (Some x) → At (at.after_properties context.Flow o) p s given → (names : Names) × At at.done r names (given ++ (Ev.scalar [] Style.plain n u, m) ∷ [])
 properties_left {T} m {p} {r} {k} {n} {u} None {x} {s} {given} here turn registers has a = let b : false ≡ true = has.both in cc
 properties_left {T} m {p} {r} {k} {n} {u} (Some o) {x} {s} {given} here turn registers has a =
     let l = looked k p.tokens.peeked here in
@@ -207,8 +207,8 @@ unnamed_at {T} {p = p} {r = r} {t = t} q fit of_names stands here skips keep tur
 
 -- ---- small steps
 
--- what is pending does not depend on the place
-pub pending_same : (w u : places.NodeContext) (names : Names) (o : Option written.Properties) → IsPending names (at.after_properties w o) → IsPending names (at.after_properties u o)
+-- what is pending does not depend on the position
+pub pending_same : (w u : positions.NodeContext) (names : Names) (o : Option written.Properties) → IsPending names (at.after_properties w o) → IsPending names (at.after_properties u o)
 pending_same w u names None h = tt
 pending_same w u names (Some o) h = h
 
@@ -228,7 +228,7 @@ pub block_mapping_alone : HasNoProperties kind.BlockMappingStart
 block_mapping_alone = record { alias = λ e. cc; anchor = λ e. cc; tag = λ e. cc }
 
 -- a node without properties
-pub bare : {T : Type 0} {p : Reader T} {k : Kind} (w : places.NodeContext) {names : Names} {given : List (Ev × Position)} → IsOfKind k p.tokens.peeked → HasNoProperties k
+pub bare : {T : Type 0} {p : Reader T} {k : Kind} (w : positions.NodeContext) {names : Names} {given : List (Ev × Position)} → IsOfKind k p.tokens.peeked → HasNoProperties k
     → At (at.node w) p names given → At (at.after_properties w None) p names given
 bare w here plain a = stays here stay (λ t h. turn.node_content _ _ t (not_as plain.alias h) (not_as plain.anchor h) (not_as plain.tag h)) refl tt refl a
 
@@ -239,15 +239,15 @@ pub record BeginsNoBlock (k : Kind) : Type 0 where
   pub mapping : k ≢ kind.BlockMappingStart
 
 block_in_flow : {T : Type 0} {p : Reader T} {k : Kind} (o : Option written.Properties) {names : Names} {given : List (Ev × Position)} → IsOfKind k p.tokens.peeked → BeginsNoBlock k
-    → At (at.after_properties place.Block o) p names given → At (at.after_properties place.Flow o) p names given
-block_in_flow o {names} here none a = stays here stay (λ t e. turn.block_flow _ o t (not_as none.sequence e) (not_as none.mapping e)) refl (pending_same place.Block place.Flow names o a.pending) refl a
+    → At (at.after_properties context.Block o) p names given → At (at.after_properties context.Flow o) p names given
+block_in_flow o {names} here none a = stays here stay (λ t e. turn.block_flow _ o t (not_as none.sequence e) (not_as none.mapping e)) refl (pending_same context.Block context.Flow names o a.pending) refl a
 
 -- What begins no block collection is flow content, wherever it stands.
-pub in_flow : {T : Type 0} {p : Reader T} {k : Kind} (w : places.NodeContext) (o : Option written.Properties) {names : Names} {given : List (Ev × Position)} → IsOfKind k p.tokens.peeked → BeginsNoBlock k
-    → At (at.after_properties w o) p names given → At (at.after_properties place.Flow o) p names given
-in_flow place.Flow o here none a = a
-in_flow place.Block o here none a = block_in_flow o here none a
-in_flow place.Part o {names} here none a = block_in_flow o here none (stays here stay (λ t e. turn.part_block _ o t (not_as none.entry e)) refl (pending_same place.Part place.Block names o a.pending) refl a)
+pub in_flow : {T : Type 0} {p : Reader T} {k : Kind} (w : positions.NodeContext) (o : Option written.Properties) {names : Names} {given : List (Ev × Position)} → IsOfKind k p.tokens.peeked → BeginsNoBlock k
+    → At (at.after_properties w o) p names given → At (at.after_properties context.Flow o) p names given
+in_flow context.Flow o here none a = a
+in_flow context.Block o here none a = block_in_flow o here none a
+in_flow context.Part o {names} here none a = block_in_flow o here none (stays here stay (λ t e. turn.part_block _ o t (not_as none.entry e)) refl (pending_same context.Part context.Block names o a.pending) refl a)
 
 pub taken_with : {T : Type 0} {p q : Tokens T} {t : Token} → SkipsOne p q → p.peeked ≡ Some t → Skips p t q
 taken_with {T} {p} {q} {t} h e = if_some_at (λ u. Skips p u q) h e
@@ -269,86 +269,86 @@ pub alias_text : {t : Tok} {x : List ℕ} → kind_of t ≡ kind.Alias → (t �
 alias_text {t} {x} h (inl e) = e
 alias_text {t} {x} h (inr e) = let f : kind.Anchor ≡ kind.Alias = sym (ap kind_of e) ∙ h in cc
 
-pub alias_taken : {T : Type 0} (m : Position) {p r : Reader T} {t : Token} {w : places.NodeContext} {x : List ℕ} {n : ℕ} {names : Names} {given : List (Ev × Position)}
+pub alias_taken : {T : Type 0} (m : Position) {p r : Reader T} {t : Token} {w : positions.NodeContext} {x : List ℕ} {n : ℕ} {names : Names} {given : List (Ev × Position)}
     → p.tokens.peeked ≡ Some t → t.0 ≡ m → Skips p.tokens t r.tokens → r.stack ≡ p.stack → r.names ≡ p.names → tok_of t.1 ≡ Tok.alias x → under_name x names.anchors ≡ Some n
     → At (at.node w) p names given → (names' : Names) × At at.done r names' (given ++ (Ev.alias n, m) ∷ [])
 alias_taken {T} m {p} {r} {t} {w} {x} {n} {names} {given} here mark skips stack same tok found a = (
   names,
   took m here skips stack (subst (λ u. Takes (at.node w) p.stack u (Some (Raw.alias x)) at.done p.stack) (sym tok) (turn.node_alias w p.stack x))
       (record { resolves = ap (option_map Ev.alias) found; after_it = refl; keep = ap (λ z. z.keeping) same; code = subst (λ z. IsNamed z names) (sym same) a.code; pending = tt })
-      (λ b. (refl, ap is_end tok)) (record { alike = sym (ap gives_place tok); here = λ b. sym mark }) a,
+      (λ b. (refl, ap is_end tok)) (record { alike = sym (ap gives_position tok); here = λ b. sym mark }) a,
 )
 
 unknown_is_other : UnknownAnchor ≡ UndeclaredHandle → ⊥
 unknown_is_other e = cc
 
-pub alias_unknown : {T : Type 0} {p r : Reader T} {t : Token} {m : Position} {w : places.NodeContext} {x : List ℕ} {names : Names} {given : List (Ev × Position)}
+pub alias_unknown : {T : Type 0} {p r : Reader T} {t : Token} {m : Position} {w : positions.NodeContext} {x : List ℕ} {names : Names} {given : List (Ev × Position)}
     → p.tokens.peeked ≡ Some t → t.0 ≡ m → Skips p.tokens t r.tokens → r.names ≡ p.names → tok_of t.1 ≡ Tok.alias x → under_name x names.anchors ≡ None → At (at.node w) p names given → Faulted r given (stop.Own (fault.At UnknownAnchor m))
 alias_unknown {T} {p} {r} {t} {m} {w} {x} {names} {given} here mark skips same tok missing a =
     unnamed_at UnknownAnchor (ap (λ u. fits UnknownAnchor (kind_of u)) tok) refl (inl (sym mark, λ e. absurd (unknown_is_other e))) here skips (ap (λ z. z.keeping) same) (subst (λ u. Takes (at.node w) p.stack u (Some (Raw.alias x)) at.done p.stack) (sym tok) (turn.node_alias w p.stack x))
     (λ y z. unnameable_first p.names.keeping.tags names (Raw.alias x) (still_events at.done p.stack y z) (ap (option_map Ev.alias) missing)) a
 
-pub anchor_taken : {T : Type 0} {p r : Reader T} {t : Token} {w : places.NodeContext} {x : List ℕ} {names : Names} {given : List (Ev × Position)}
+pub anchor_taken : {T : Type 0} {p r : Reader T} {t : Token} {w : positions.NodeContext} {x : List ℕ} {names : Names} {given : List (Ev × Position)}
     → p.tokens.peeked ≡ Some t → Skips p.tokens t r.tokens → r.stack ≡ p.stack → r.names ≡ p.names → tok_of t.1 ≡ Tok.anchor x → At (at.node w) p names given → At (at.after_anchor w x) r names given
 anchor_taken {T} {p} {r} {t} {w} {x} {names} {given} here skips stack same tok a =
     took_on here skips stack (subst (λ u. Takes (at.node w) p.stack u None (at.after_anchor w x) p.stack) (sym tok) (turn.node_anchor w p.stack x))
-    (ap (λ z. z.keeping) same) (subst (λ z. IsNamed z names) (sym same) a.code) tt (λ b. (refl, ap is_end tok)) (ap gives_place tok) a
+    (ap (λ z. z.keeping) same) (subst (λ z. IsNamed z names) (sym same) a.code) tt (λ b. (refl, ap is_end tok)) (ap gives_position tok) a
 
-pub tag_taken : {T : Type 0} {p r : Reader T} {t : Token} {w : places.NodeContext} {x : event.Tag} {u : event.Tag} {names : Names} {given : List (Ev × Position)}
+pub tag_taken : {T : Type 0} {p r : Reader T} {t : Token} {w : positions.NodeContext} {x : event.Tag} {u : event.Tag} {names : Names} {given : List (Ev × Position)}
     → p.tokens.peeked ≡ Some t → Skips p.tokens t r.tokens → r.stack ≡ p.stack → r.names ≡ p.names → tok_of t.1 ≡ written.tag_token x → resolved names.handles x ≡ Some u → At (at.node w) p names given → At (at.after_tag w x) r names given
 tag_taken {T} {p} {r} {t} {w} {x} {u} {names} {given} here skips stack same tok known a =
     took_on here skips stack (subst (λ z. Takes (at.node w) p.stack z None (at.after_tag w x) p.stack) (sym tok) (turn.node_tag w p.stack x))
-    (ap (λ z. z.keeping) same) (subst (λ z. IsNamed z names) (sym same) a.code) (is_some_of known) (λ b. (refl, ap is_end tok)) (ap gives_place tok) a
+    (ap (λ z. z.keeping) same) (subst (λ z. IsNamed z names) (sym same) a.code) (is_some_of known) (λ b. (refl, ap is_end tok)) (ap gives_position tok) a
 
-pub tag_after_anchor : {T : Type 0} {p r : Reader T} {t : Token} {w : places.NodeContext} {y : List ℕ} {x : event.Tag} {u : event.Tag} {names : Names} {given : List (Ev × Position)}
+pub tag_after_anchor : {T : Type 0} {p r : Reader T} {t : Token} {w : positions.NodeContext} {y : List ℕ} {x : event.Tag} {u : event.Tag} {names : Names} {given : List (Ev × Position)}
     → p.tokens.peeked ≡ Some t → Skips p.tokens t r.tokens → r.stack ≡ p.stack → r.names ≡ p.names → tok_of t.1 ≡ written.tag_token x → resolved names.handles x ≡ Some u → At (at.after_anchor w y) p names given → At (at.after_properties w (Some (written.anchored_tagged y x))) r names given
 tag_after_anchor {T} {p} {r} {t} {w} {y} {x} {u} {names} {given} here skips stack same tok known a =
     took_on here skips stack (subst (λ z. Takes (at.after_anchor w y) p.stack z None (at.after_properties w (Some (written.anchored_tagged y x))) p.stack) (sym tok) (turn.anchor_tag w p.stack y x))
-    (ap (λ z. z.keeping) same) (subst (λ z. IsNamed z names) (sym same) a.code) (is_some_of (ap (option_map Some) known)) (λ b. (refl, ap is_end tok)) (ap gives_place tok) a
+    (ap (λ z. z.keeping) same) (subst (λ z. IsNamed z names) (sym same) a.code) (is_some_of (ap (option_map Some) known)) (λ b. (refl, ap is_end tok)) (ap gives_position tok) a
 
-pub anchor_after_tag : {T : Type 0} {p r : Reader T} {t : Token} {w : places.NodeContext} {y : List ℕ} {x : event.Tag} {u : event.Tag} {names : Names} {given : List (Ev × Position)}
+pub anchor_after_tag : {T : Type 0} {p r : Reader T} {t : Token} {w : positions.NodeContext} {y : List ℕ} {x : event.Tag} {u : event.Tag} {names : Names} {given : List (Ev × Position)}
     → p.tokens.peeked ≡ Some t → Skips p.tokens t r.tokens → r.stack ≡ p.stack → r.names ≡ p.names → tok_of t.1 ≡ Tok.anchor y → resolved names.handles x ≡ Some u → At (at.after_tag w x) p names given → At (at.after_properties w (Some (written.tagged_anchored x y))) r names given
 anchor_after_tag {T} {p} {r} {t} {w} {y} {x} {u} {names} {given} here skips stack same tok known a =
     took_on here skips stack (subst (λ z. Takes (at.after_tag w x) p.stack z None (at.after_properties w (Some (written.tagged_anchored x y))) p.stack) (sym tok) (turn.tag_anchor w p.stack x y))
-    (ap (λ z. z.keeping) same) (subst (λ z. IsNamed z names) (sym same) a.code) (is_some_of (ap (option_map Some) known)) (λ b. (refl, ap is_end tok)) (ap gives_place tok) a
+    (ap (λ z. z.keeping) same) (subst (λ z. IsNamed z names) (sym same) a.code) (is_some_of (ap (option_map Some) known)) (λ b. (refl, ap is_end tok)) (ap gives_position tok) a
 
-content_unnameable : (keep : Bool) (s : Names) (w : places.NodeContext) (o : Option written.Properties) (c : Option (ContentAt w)) (r : List Raw) → perhaps_resolved s.handles (perhaps_tag_of o) ≡ None → Unnameable keep s (perhaps_content_events w o c r)
+content_unnameable : (keep : Bool) (s : Names) (w : positions.NodeContext) (o : Option written.Properties) (c : Option (ContentAt w)) (r : List Raw) → perhaps_resolved s.handles (perhaps_tag_of o) ≡ None → Unnameable keep s (perhaps_content_events w o c r)
 content_unnameable keep s w o None r h = unnameable_first keep s (Raw.empty_scalar (perhaps_anchor_of o) (perhaps_tag_of o)) r (ap (option_map (λ u. Ev.scalar [] Style.plain (number s (perhaps_anchor_of o)) u)) h)
-content_unnameable keep s place.Flow o (Some (scalar y v)) r h = unnameable_first keep s (Raw.scalar v y (perhaps_anchor_of o) (perhaps_tag_of o)) r (ap (option_map (λ u. Ev.scalar v y (number s (perhaps_anchor_of o)) u)) h)
-content_unnameable keep s place.Flow o (Some (flow_sequence i)) r h = unnameable_first keep s (Raw.flow_sequence_start (perhaps_anchor_of o) (perhaps_tag_of o)) (items_events i r) (ap (option_map (λ u. Ev.sequence_start (number s (perhaps_anchor_of o)) u)) h)
-content_unnameable keep s place.Flow o (Some (flow_mapping i)) r h = unnameable_first keep s (Raw.flow_mapping_start (perhaps_anchor_of o) (perhaps_tag_of o)) (flow_pairs_events i r) (ap (option_map (λ u. Ev.mapping_start (number s (perhaps_anchor_of o)) u)) h)
-content_unnameable keep s place.Block o (Some (flow (scalar y v))) r h = unnameable_first keep s (Raw.scalar v y (perhaps_anchor_of o) (perhaps_tag_of o)) r (ap (option_map (λ u. Ev.scalar v y (number s (perhaps_anchor_of o)) u)) h)
-content_unnameable keep s place.Block o (Some (flow (flow_sequence i))) r h = unnameable_first keep s (Raw.flow_sequence_start (perhaps_anchor_of o) (perhaps_tag_of o)) (items_events i r) (ap (option_map (λ u. Ev.sequence_start (number s (perhaps_anchor_of o)) u)) h)
-content_unnameable keep s place.Block o (Some (flow (flow_mapping i))) r h = unnameable_first keep s (Raw.flow_mapping_start (perhaps_anchor_of o) (perhaps_tag_of o)) (flow_pairs_events i r) (ap (option_map (λ u. Ev.mapping_start (number s (perhaps_anchor_of o)) u)) h)
-content_unnameable keep s place.Block o (Some (block_sequence i)) r h = unnameable_first keep s (Raw.sequence_start (perhaps_anchor_of o) (perhaps_tag_of o)) (entries_events i r) (ap (option_map (λ u. Ev.sequence_start (number s (perhaps_anchor_of o)) u)) h)
-content_unnameable keep s place.Block o (Some (block_mapping i)) r h = unnameable_first keep s (Raw.mapping_start (perhaps_anchor_of o) (perhaps_tag_of o)) (pairs_events i r) (ap (option_map (λ u. Ev.mapping_start (number s (perhaps_anchor_of o)) u)) h)
-content_unnameable keep s place.Part o (Some (part_content (flow (scalar y v)))) r h = unnameable_first keep s (Raw.scalar v y (perhaps_anchor_of o) (perhaps_tag_of o)) r (ap (option_map (λ u. Ev.scalar v y (number s (perhaps_anchor_of o)) u)) h)
-content_unnameable keep s place.Part o (Some (part_content (flow (flow_sequence i)))) r h = unnameable_first keep s (Raw.flow_sequence_start (perhaps_anchor_of o) (perhaps_tag_of o)) (items_events i r) (ap (option_map (λ u. Ev.sequence_start (number s (perhaps_anchor_of o)) u)) h)
-content_unnameable keep s place.Part o (Some (part_content (flow (flow_mapping i)))) r h = unnameable_first keep s (Raw.flow_mapping_start (perhaps_anchor_of o) (perhaps_tag_of o)) (flow_pairs_events i r) (ap (option_map (λ u. Ev.mapping_start (number s (perhaps_anchor_of o)) u)) h)
-content_unnameable keep s place.Part o (Some (part_content (block_sequence i))) r h = unnameable_first keep s (Raw.sequence_start (perhaps_anchor_of o) (perhaps_tag_of o)) (entries_events i r) (ap (option_map (λ u. Ev.sequence_start (number s (perhaps_anchor_of o)) u)) h)
-content_unnameable keep s place.Part o (Some (part_content (block_mapping i))) r h = unnameable_first keep s (Raw.mapping_start (perhaps_anchor_of o) (perhaps_tag_of o)) (pairs_events i r) (ap (option_map (λ u. Ev.mapping_start (number s (perhaps_anchor_of o)) u)) h)
-content_unnameable keep s place.Part o (Some (part_dashes q d)) r h = unnameable_first keep s (Raw.sequence_start (perhaps_anchor_of o) (perhaps_tag_of o)) (perhaps_events q (dashes_events d r)) (ap (option_map (λ u. Ev.sequence_start (number s (perhaps_anchor_of o)) u)) h)
+content_unnameable keep s context.Flow o (Some (scalar y v)) r h = unnameable_first keep s (Raw.scalar v y (perhaps_anchor_of o) (perhaps_tag_of o)) r (ap (option_map (λ u. Ev.scalar v y (number s (perhaps_anchor_of o)) u)) h)
+content_unnameable keep s context.Flow o (Some (flow_sequence i)) r h = unnameable_first keep s (Raw.flow_sequence_start (perhaps_anchor_of o) (perhaps_tag_of o)) (items_events i r) (ap (option_map (λ u. Ev.sequence_start (number s (perhaps_anchor_of o)) u)) h)
+content_unnameable keep s context.Flow o (Some (flow_mapping i)) r h = unnameable_first keep s (Raw.flow_mapping_start (perhaps_anchor_of o) (perhaps_tag_of o)) (flow_pairs_events i r) (ap (option_map (λ u. Ev.mapping_start (number s (perhaps_anchor_of o)) u)) h)
+content_unnameable keep s context.Block o (Some (flow (scalar y v))) r h = unnameable_first keep s (Raw.scalar v y (perhaps_anchor_of o) (perhaps_tag_of o)) r (ap (option_map (λ u. Ev.scalar v y (number s (perhaps_anchor_of o)) u)) h)
+content_unnameable keep s context.Block o (Some (flow (flow_sequence i))) r h = unnameable_first keep s (Raw.flow_sequence_start (perhaps_anchor_of o) (perhaps_tag_of o)) (items_events i r) (ap (option_map (λ u. Ev.sequence_start (number s (perhaps_anchor_of o)) u)) h)
+content_unnameable keep s context.Block o (Some (flow (flow_mapping i))) r h = unnameable_first keep s (Raw.flow_mapping_start (perhaps_anchor_of o) (perhaps_tag_of o)) (flow_pairs_events i r) (ap (option_map (λ u. Ev.mapping_start (number s (perhaps_anchor_of o)) u)) h)
+content_unnameable keep s context.Block o (Some (block_sequence i)) r h = unnameable_first keep s (Raw.sequence_start (perhaps_anchor_of o) (perhaps_tag_of o)) (entries_events i r) (ap (option_map (λ u. Ev.sequence_start (number s (perhaps_anchor_of o)) u)) h)
+content_unnameable keep s context.Block o (Some (block_mapping i)) r h = unnameable_first keep s (Raw.mapping_start (perhaps_anchor_of o) (perhaps_tag_of o)) (pairs_events i r) (ap (option_map (λ u. Ev.mapping_start (number s (perhaps_anchor_of o)) u)) h)
+content_unnameable keep s context.Part o (Some (part_content (flow (scalar y v)))) r h = unnameable_first keep s (Raw.scalar v y (perhaps_anchor_of o) (perhaps_tag_of o)) r (ap (option_map (λ u. Ev.scalar v y (number s (perhaps_anchor_of o)) u)) h)
+content_unnameable keep s context.Part o (Some (part_content (flow (flow_sequence i)))) r h = unnameable_first keep s (Raw.flow_sequence_start (perhaps_anchor_of o) (perhaps_tag_of o)) (items_events i r) (ap (option_map (λ u. Ev.sequence_start (number s (perhaps_anchor_of o)) u)) h)
+content_unnameable keep s context.Part o (Some (part_content (flow (flow_mapping i)))) r h = unnameable_first keep s (Raw.flow_mapping_start (perhaps_anchor_of o) (perhaps_tag_of o)) (flow_pairs_events i r) (ap (option_map (λ u. Ev.mapping_start (number s (perhaps_anchor_of o)) u)) h)
+content_unnameable keep s context.Part o (Some (part_content (block_sequence i))) r h = unnameable_first keep s (Raw.sequence_start (perhaps_anchor_of o) (perhaps_tag_of o)) (entries_events i r) (ap (option_map (λ u. Ev.sequence_start (number s (perhaps_anchor_of o)) u)) h)
+content_unnameable keep s context.Part o (Some (part_content (block_mapping i))) r h = unnameable_first keep s (Raw.mapping_start (perhaps_anchor_of o) (perhaps_tag_of o)) (pairs_events i r) (ap (option_map (λ u. Ev.mapping_start (number s (perhaps_anchor_of o)) u)) h)
+content_unnameable keep s context.Part o (Some (part_dashes q d)) r h = unnameable_first keep s (Raw.sequence_start (perhaps_anchor_of o) (perhaps_tag_of o)) (perhaps_events q (dashes_events d r)) (ap (option_map (λ u. Ev.sequence_start (number s (perhaps_anchor_of o)) u)) h)
 
 tag_and_tag : (x : event.Tag) (y : Option (List ℕ)) → perhaps_tag_of (Some (tag_and x y)) ≡ Some x
 tag_and_tag x None = refl
 tag_and_tag x (Some y) = refl
 
-abbrev node_with_anchor : (w : places.NodeContext) → Awaits (at.node w)
-node_with_anchor place.Flow = flow_properties (written.anchored [])
-node_with_anchor place.Block = block_properties (written.anchored [])
-node_with_anchor place.Part = part_node (block_properties (written.anchored []))
+abbrev node_with_anchor : (w : positions.NodeContext) → Awaits (at.node w)
+node_with_anchor context.Flow = flow_properties (written.anchored [])
+node_with_anchor context.Block = block_properties (written.anchored [])
+node_with_anchor context.Part = part_node (block_properties (written.anchored []))
 
-begins_with_anchor : (w : places.NodeContext) (r : List Tok) → goal_tokens (at.node w) (node_with_anchor w) r ≡ Tok.anchor [] ∷ r
-begins_with_anchor place.Flow r = refl
-begins_with_anchor place.Block r = refl
-begins_with_anchor place.Part r = refl
+begins_with_anchor : (w : positions.NodeContext) (r : List Tok) → goal_tokens (at.node w) (node_with_anchor w) r ≡ Tok.anchor [] ∷ r
+begins_with_anchor context.Flow r = refl
+begins_with_anchor context.Block r = refl
+begins_with_anchor context.Part r = refl
 
 anchor_named : (t : Tok) → kind_of t ≡ kind.Anchor → (n : List ℕ) × (t ≡ Tok.anchor n)
 anchor_named (Tok.anchor n) h = (n, refl)
 anchor_named _ h = cc
 
 -- Where a node is to be read, no anchor was taken last.
-no_anchor_before : {T : Type 0} {p : Reader T} {m : Position} (w : places.NodeContext) {names : Names} {given : List (Ev × Position)}
+no_anchor_before : {T : Type 0} {p : Reader T} {m : Position} (w : positions.NodeContext) {names : Names} {given : List (Ev × Position)}
     → At (at.node w) p names given → EndsInAnchor (all_shown p.tokens.taken.items) m → ⊥
 no_anchor_before {T} {p} {m} w a e =
     let d = a.stands.sound (node_with_anchor w) (ending p.stack) in
@@ -359,13 +359,13 @@ no_anchor_before {T} {p} {m} w a e =
     no_two_anchors d.0 (toks e.before) n.0 [] rest
     (d.1 ∙ ap (λ xs. taken_toks p.tokens ++ xs) (begins_with_anchor w rest) ∙ ap (λ xs. xs ++ Tok.anchor [] ∷ rest) taken ∙ append_assoc (toks e.before) (Tok.anchor n.0 ∷ []) (Tok.anchor [] ∷ rest))
 
-pub tag_unknown : {T : Type 0} {p r : Reader T} {t : Token} {m : Position} {w : places.NodeContext} {x : event.Tag} {names : Names} {given : List (Ev × Position)}
+pub tag_unknown : {T : Type 0} {p r : Reader T} {t : Token} {m : Position} {w : positions.NodeContext} {x : event.Tag} {names : Names} {given : List (Ev × Position)}
     → p.tokens.peeked ≡ Some t → t.0 ≡ m → Skips p.tokens t r.tokens → r.names ≡ p.names → tok_of t.1 ≡ written.tag_token x → resolved names.handles x ≡ None → At (at.node w) p names given → Faulted r given (stop.Own (fault.At UndeclaredHandle m))
 tag_unknown {T} {p} {r} {t} {m} {w} {x} {names} {given} here mark skips same tok missing a =
     unnamed_at UndeclaredHandle (ap (λ u. fits UndeclaredHandle (kind_of u)) tok) refl (inl (sym mark, λ e q before. no_anchor_before w a before)) here skips (ap (λ z. z.keeping) same) (subst (λ z. Takes (at.node w) p.stack z None (at.after_tag w x) p.stack) (sym tok) (turn.node_tag w p.stack x))
     (λ y z. content_unnameable p.names.keeping.tags names w (Some (tag_and x y.0)) y.1 (rest_events p.stack z) (ap (perhaps_resolved names.handles) (tag_and_tag x y.0) ∙ ap (option_map Some) missing)) a
 
-pub tag_unknown_after : {T : Type 0} {p r : Reader T} {t : Token} {m : Position} {w : places.NodeContext} {v : List ℕ} {x : event.Tag} {names : Names} {given : List (Ev × Position)}
+pub tag_unknown_after : {T : Type 0} {p r : Reader T} {t : Token} {m : Position} {w : positions.NodeContext} {v : List ℕ} {x : event.Tag} {names : Names} {given : List (Ev × Position)}
     → p.tokens.peeked ≡ Some t → EndsInAnchor (all_shown p.tokens.taken.items) m → Skips p.tokens t r.tokens → r.names ≡ p.names → tok_of t.1 ≡ written.tag_token x → resolved names.handles x ≡ None → At (at.after_anchor w v) p names given → Faulted r given (stop.Own (fault.At UndeclaredHandle m))
 tag_unknown_after {T} {p} {r} {t} {m} {w} {v} {x} {names} {given} here anchored skips same tok missing a =
     unnamed_at UndeclaredHandle (ap (λ u. fits UndeclaredHandle (kind_of u)) tok) refl (inr (refl, anchored)) here skips (ap (λ z. z.keeping) same) (subst (λ z. Takes (at.after_anchor w v) p.stack z None (at.after_properties w (Some (written.anchored_tagged v x))) p.stack) (sym tok) (turn.anchor_tag w p.stack v x))

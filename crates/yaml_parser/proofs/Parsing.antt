@@ -363,7 +363,7 @@ at_keeping {T} b p k names es f a =
       over = a.over;
       count = a.count;
       resolved = a.resolved;
-      places = a.places;
+      positions = a.positions;
       events = λ s. elim (f s).1 [
         | inl none ↦ ap (named k.tags no_names) (nothing (f s).0 none) ∙ ap (λ xs. Some (events_of xs)) (sym none)
         | inr same ↦ ap (λ t. named t no_names a.raw) same ∙ a.events (f s).0
@@ -397,7 +397,7 @@ held_keeping {T} p k es (Some z) f x = (x.0, faulted_keeping z.stop x.1)
       last = y.last;
       handed = y.handed;
       raw = y.raw;
-      derived = record { begins = y.derived.begins; resolved = y.derived.resolved; places = y.derived.places; named = λ s. ap (λ t. named t no_names y.raw) (same_tags s) ∙ y.derived.named (f s).0 };
+      derived = record { begins = y.derived.begins; resolved = y.derived.resolved; positions = y.derived.positions; named = λ s. ap (λ t. named t no_names y.raw) (same_tags s) ∙ y.derived.named (f s).0 };
       begins = λ s. subst (λ t. BeginsPlaced t y.before es) (sym (same_tags s)) (y.begins (f s).0);
       none = λ s. subst (λ t. NoneBegins t (toks (scanned p.tokens.scanner).given)) (sym (same_tags s)) (y.none (f s).0);
     }

@@ -12,7 +12,7 @@ use Rattle.defs_event.specs.Event.{Ev}
 use Rattle.defs_event.specs.Raw.{Raw}
 use Rattle.defs_event.specs.Names.{Names, no_names, named, both, names_after, names_after_all, resolved_event}
 use Rattle.defs_token.specs.Toks.{toks}
-use Rattle.defs_event.specs.Stream.{events_of, given_places, has_place, gives_place}
+use Rattle.defs_event.specs.Stream.{events_of, given_positions, has_position, gives_position}
 use Rattle.model_parser.specs.declared.kind.Kind.{Kind}
 use Rattle.model_parser.specs.declared.state.State.{State}
 use Rattle.model_parser.specs.Kinds.{kind_of}
@@ -31,7 +31,7 @@ use Rattle.std.specs.Option.{IsSome, IfSome}
 use Rattle.yaml_parser.specs.declared.tokens.Missing.{Missing}
 use Rattle.yaml_parser.specs.declared.tokens.Missing.TheVariants as missing
 use Rattle.yaml_parser.specs.declared.tokens.Stop.{Stop}
-use Rattle.yaml_parser.proofs.Places.{IsPlaced, count_more, places_took, places_took_on, places_left}
+use Rattle.yaml_parser.proofs.Positions.{IsPlaced, count_more, positions_took, positions_took_on, positions_left}
 use Rattle.yaml_parser.proofs.Resolved.{resolved_more}
 use Rattle.yaml_parser.specs.At.{At, is_over, names_at, IsPending, Faulted, Fails}
 
@@ -126,7 +126,7 @@ took {T} m {g} {g'} {p} {r} {t} {ss'} {e} {v} {names} {names'} {given} here s to
       over = λ o. s.peeked;
       count = count_more m a.raw e v given a.count;
       resolved = resolved_more m a.raw given a.resolved names e v n.resolves;
-      places = places_took m a.raw e v given p.tokens.taken.items t r.tokens.taken.items s.taken a.count spot a.places;
+      positions = positions_took m a.raw e v given p.tokens.taken.items t r.tokens.taken.items s.taken a.count spot a.positions;
       events = λ b. (events_more m n a b).0;
       names_are = λ b. (events_more m n a b).1;
       code = n.code;
@@ -136,7 +136,7 @@ took {T} m {g} {g'} {p} {r} {t} {ss'} {e} {v} {names} {names'} {given} here s to
 -- The token is taken, and no event is given.
 pub took_on : {T : Type 0} {g g' : Goal} {p r : Reader T} {t : Token} {ss' : List State} {names : Names} {given : List (Ev × Position)}
     → p.tokens.peeked ≡ Some t → Skips p.tokens t r.tokens → r.stack ≡ ss' → Takes g p.stack (tok_of t.1) None g' ss'
-    → r.names.keeping ≡ p.names.keeping → IsNamed r.names (names_at r.names.keeping.tags g' names) → IsPending names g' → (is_over g' ≡ false → (is_over g ≡ false) × (is_end (tok_of t.1) ≡ false)) → gives_place (tok_of t.1) ≡ false
+    → r.names.keeping ≡ p.names.keeping → IsNamed r.names (names_at r.names.keeping.tags g' names) → IsPending names g' → (is_over g' ≡ false → (is_over g ≡ false) × (is_end (tok_of t.1) ≡ false)) → gives_position (tok_of t.1) ≡ false
     → At g p names given → At g' r names given
 took_on {T} {g} {g'} {p} {r} {t} {ss'} {names} {given} here s to turn keep code pending wakes spot a =
     record {
@@ -148,7 +148,7 @@ took_on {T} {g} {g'} {p} {r} {t} {ss'} {names} {given} here s to turn keep code 
       over = λ o. s.peeked;
       count = a.count;
       resolved = a.resolved;
-      places = places_took_on a.raw given p.tokens.taken.items t r.tokens.taken.items s.taken spot a.places;
+      positions = positions_took_on a.raw given p.tokens.taken.items t r.tokens.taken.items s.taken spot a.positions;
       events = λ b. ap (λ k. named k.tags no_names a.raw) keep ∙ a.events (ap (λ k. k.steady) (sym keep) ∙ b);
       names_are = λ b. ap (λ k. names_after_all k.tags no_names a.raw) keep ∙ a.names_are (ap (λ k. k.steady) (sym keep) ∙ b);
       code = code;
@@ -158,7 +158,7 @@ took_on {T} {g} {g'} {p} {r} {t} {ss'} {names} {given} here s to turn keep code 
 -- The token stays, and an event is given.
 pub left : {T : Type 0} (m : Position) {g g' : Goal} {p r : Reader T} {o : Option Tok} {ss' : List State} {e : Raw} {v : Ev} {names names' : Names} {given : List (Ev × Position)}
     → peeked_tok p.tokens ≡ o → r.tokens ≡ p.tokens → r.stack ≡ ss' → Leaves g p.stack o (Some e) g' ss'
-    → Named p r g' names e v names' → (is_over g || is_over g') ≡ false → has_place e ≡ false
+    → Named p r g' names e v names' → (is_over g || is_over g') ≡ false → has_position e ≡ false
     → At g p names given → At g' r names' (given ++ (v, m) ∷ [])
 left {T} m {g} {g'} {p} {r} {o} {ss'} {e} {v} {names} {names'} {given} here same to turn n wakes spot a =
     let one = stands_leave g p.stack o (Some e) g' ss' (taken_toks p.tokens) a.raw turn (subst (λ x. IsOnTrack g p.stack (taken_toks p.tokens) x a.raw) here a.stands) in
@@ -172,7 +172,7 @@ left {T} m {g} {g'} {p} {r} {o} {ss'} {e} {v} {names} {names'} {given} here same
       over = λ w. absurd (both_ways (is_over g') (or_parts (is_over g) (is_over g') wakes).1 w);
       count = count_more m a.raw e v given a.count;
       resolved = resolved_more m a.raw given a.resolved names e v n.resolves;
-      places = places_left m a.raw e v given (all_shown p.tokens.taken.items) (all_shown r.tokens.taken.items) (ap (λ x. all_shown x.taken.items) same) a.count spot a.places;
+      positions = positions_left m a.raw e v given (all_shown p.tokens.taken.items) (all_shown r.tokens.taken.items) (ap (λ x. all_shown x.taken.items) same) a.count spot a.positions;
       events = λ b. (events_more m n a b).0;
       names_are = λ b. (events_more m n a b).1;
       code = n.code;
@@ -196,7 +196,7 @@ left_as {T} {g} {g'} {p} {r} {o} {ss'} {names} {given} here same to turn keep co
       over = λ w. absurd (both_ways (is_over g') (or_parts (is_over g) (is_over g') wakes).1 w);
       count = a.count;
       resolved = a.resolved;
-      places = a.places ∙ sym (ap (λ x. given_places (all_shown x.taken.items)) same);
+      positions = a.positions ∙ sym (ap (λ x. given_positions (all_shown x.taken.items)) same);
       events = λ b. ap (λ k. named k.tags no_names a.raw) keep ∙ a.events (ap (λ k. k.steady) (sym keep) ∙ b);
       names_are = λ b. ap (λ k. names_after_all k.tags no_names a.raw) keep ∙ a.names_are (ap (λ k. k.steady) (sym keep) ∙ b);
       code = code;
@@ -231,7 +231,7 @@ looks_on {T} {p} {r} taken same handed awake stack names_same {g} {names} {given
       over = λ o. absurd (both_ways (is_over g) going o);
       count = a.count;
       resolved = a.resolved;
-      places = a.places ∙ sym (ap (λ x. given_places (all_shown x.items)) taken);
+      positions = a.positions ∙ sym (ap (λ x. given_positions (all_shown x.items)) taken);
       events = λ b. ap (λ n. named n.keeping.tags no_names a.raw) names_same ∙ a.events (ap (λ n. n.keeping.steady) (sym names_same) ∙ b);
       names_are = λ b. ap (λ n. names_after_all n.keeping.tags no_names a.raw) names_same ∙ a.names_are (ap (λ n. n.keeping.steady) (sym names_same) ∙ b);
       code = subst (λ n. IsNamed n (names_at n.keeping.tags g names)) (sym names_same) a.code;

@@ -14,7 +14,7 @@ use Rattle.defs_event.specs.Raw.{Raw}
 use Rattle.defs_event.specs.Grammar.{tag_of}
 use Rattle.defs_event.specs.Names.{Names, no_names, named, names_after_all, at_document, are_allowed, resolved, perhaps_resolved}
 use Rattle.defs_token.specs.Toks.{toks}
-use Rattle.defs_event.specs.Stream.{BeginsPlaced, NoneBegins, events_of, places_of, taken_places, given_places}
+use Rattle.defs_event.specs.Stream.{BeginsPlaced, NoneBegins, events_of, positions_of, taken_positions, given_positions}
 use Rattle.model_parser.specs.Goal as at
 use Rattle.model_parser.specs.Goal.{Goal}
 use Rattle.model_parser.specs.Stands.{IsOnTrack}
@@ -60,7 +60,7 @@ pub record At {T : Type 0} (g : Goal) (p : Reader T) (names : Names) (given : Li
   pub over : is_over g ≡ true → p.tokens.peeked ≡ None
   pub count : length raw ≡ length given
   pub resolved : AreResolved raw (events_of given)
-  pub places : taken_places raw (places_of given) ≡ given_places (all_shown p.tokens.taken.items)
+  pub positions : taken_positions raw (positions_of given) ≡ given_positions (all_shown p.tokens.taken.items)
   pub events : p.names.keeping.steady ≡ true → named p.names.keeping.tags no_names raw ≡ Some (events_of given)
   pub names_are : p.names.keeping.steady ≡ true → names_after_all p.names.keeping.tags no_names raw ≡ names
   pub code : IsNamed p.names (names_at p.names.keeping.tags g names)

@@ -11,7 +11,7 @@ use Rattle.defs_event.specs.Grammar.{Documents, stream_tokens}
 use Rattle.defs_token.specs.Toks.{toks}
 use Rattle.model_parser.specs.declared.kind.Kind.{Kind}
 use Rattle.model_parser.specs.declared.kind.Kind.TheVariants as kind
-use Rattle.model_parser.specs.declared.place.NodeContext.TheVariants as place
+use Rattle.model_parser.specs.declared.context.NodeContext.TheVariants as context
 use Rattle.model_parser.specs.Kinds.{kind_of, is_directive, begins_content, ends_item, ends_flow_pair}
 
 -- what goes on in a block sequence
@@ -34,7 +34,7 @@ fits problem.RepeatedHandle kind.TagDirective = true
 fits problem.DirectiveWithoutDocumentEnd k = is_directive k
 fits problem.UnknownAnchor kind.Alias = true
 fits problem.UndeclaredHandle kind.Tag = true
-fits problem.NodeContent k = not (begins_content place.Flow k)
+fits problem.NodeContent k = not (begins_content context.Flow k)
 fits problem.BlockMappingKey k = not (is_key_or_end k)
 fits problem.BlockSequenceEntry k = not (is_entry_or_end k)
 fits problem.FlowMappingEntry k = not (ends_flow_pair k)
@@ -49,20 +49,20 @@ is_of_names problem.UnknownAnchor = true
 is_of_names problem.UndeclaredHandle = true
 is_of_names _ = false
 
--- The last of these tokens is an anchor, at this place.
-pub record EndsInAnchor (tokens : List Token) (place : Position) : Type 0 where
+-- The last of these tokens is an anchor, at this position.
+pub record EndsInAnchor (tokens : List Token) (position : Position) : Type 0 where
   pub before : List Token
   pub anchor : Token
   pub whole : tokens ≡ before ++ anchor ∷ []
   pub is : kind_of anchor.tok ≡ kind.Anchor
-  pub at : place ≡ anchor.place
+  pub at : position ≡ anchor.position
 
--- The place is that of the token. An undeclared handle's is that of the node's first property: the anchor's, where it stands
+-- The position is that of the token. An undeclared handle's is that of the node's first property: the anchor's, where it stands
 -- right before the tag.
 abbrev pub StandsAt : Problem → Position → List Token → Token → Type 0
-StandsAt p place before last =
-    ((place ≡ last.place) × (p ≡ problem.UndeclaredHandle → (q : Position) → EndsInAnchor before q → ⊥))
-    ⊎ ((p ≡ problem.UndeclaredHandle) × EndsInAnchor before place)
+StandsAt p position before last =
+    ((position ≡ last.position) × (p ≡ problem.UndeclaredHandle → (q : Position) → EndsInAnchor before q → ⊥))
+    ⊎ ((p ≡ problem.UndeclaredHandle) × EndsInAnchor before position)
 
 -- The fault refuses the last of these tokens: it has a text of the parser's that fits the token, and stands at it.
 pub record Blames (f : ErrorReport) (tokens : List Token) : Type 0 where
@@ -70,9 +70,9 @@ pub record Blames (f : ErrorReport) (tokens : List Token) : Type 0 where
   pub last : Token
   pub whole : tokens ≡ before ++ last ∷ []
   pub problem : Problem
-  pub shown : f ≡ fault_of (fault.At problem f.place) f.place
+  pub shown : f ≡ fault_of (fault.At problem f.position) f.position
   pub fits_it : fits problem (kind_of last.tok) ≡ true
-  pub stands : StandsAt problem f.place before last
+  pub stands : StandsAt problem f.position before last
   -- But for a problem of names, the token grammar has no stream that begins so, whatever names mean.
   pub none : is_of_names problem ≡ false → (d : Documents) (ts : List Tok) → stream_tokens d ≡ toks tokens ++ ts → ⊥
 

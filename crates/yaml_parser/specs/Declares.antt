@@ -19,7 +19,7 @@ pub record HasRead (code : Names) (keep : Bool) (names : defs.Names) (read : Lis
   pub own : IsOwn code read
 
 -- A handle more is declared; or it was declared before, and so whatever may stand after it has it
--- twice. The fault's place is the mark.
+-- twice. The fault's position is the mark.
 abbrev pub Declares : Position → Names → Bool → defs.Names → List Directive → (handle prefix : List ℕ) → Result (Unit {0}) Stop → Type 0
 Declares mark code keep names read h p (Ok u) =
     HasRead code keep names (read ++ raw.tag h p ∷ []) × (is_each_once (declared (read ++ raw.tag h p ∷ [])) ≡ is_each_once (declared read))

@@ -7,7 +7,7 @@ use Rattle.defs_event.specs.Raw.{Raw}
 use Rattle.defs_event.specs.Grammar.{Documents, stream_tokens, stream_events}
 use Rattle.defs_event.specs.Names.{named, no_names}
 use Rattle.defs_token.specs.Toks.{toks}
-use Rattle.defs_event.specs.Stream.{events_of, places_of, taken_places, given_places}
+use Rattle.defs_event.specs.Stream.{events_of, positions_of, taken_positions, given_positions}
 use Rattle.yaml_parser.specs.Nests.{AreResolved}
 
 -- A stream begins with these tokens, and with these events before names are resolved.
@@ -23,10 +23,10 @@ abbrev pub ForetellsRaw : List Tok → List Raw → Type 0
 ForetellsRaw tokens raw = (d : Documents) (ts : List Tok) → stream_tokens d ≡ tokens ++ ts → (es : List Raw) × (stream_events d ≡ raw ++ es)
 
 -- The events come of the tokens: they are these of the token grammar, each resolved; the scalars, aliases and flow starts
--- among them are those of these tokens, in order, each at its token's place.
+-- among them are those of these tokens, in order, each at its token's position.
 pub record IsDerived (steady keep_tags : Bool) (tokens : List Token) (raw : List Raw) (events : List (Ev × Position)) : Type 0 where
   pub begins : BeginsRaw (toks tokens) raw
   pub resolved : AreResolved raw (events_of events)
-  pub places : taken_places raw (places_of events) ≡ given_places tokens
+  pub positions : taken_positions raw (positions_of events) ≡ given_positions tokens
   -- where the setting counts from the stream's start on, by the stream's own names
   pub named : steady ≡ true → named keep_tags no_names raw ≡ Some (events_of events)

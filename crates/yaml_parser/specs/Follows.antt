@@ -54,7 +54,7 @@ pub record Stopped (p : Parsed) : Type 0 where
   pub raw : List Raw
   pub derived : IsDerived p.steady p.keep_tags before raw (read p)
 
--- The last token is refused: by its text and place, and by the grammar.
+-- The last token is refused: by its text and position, and by the grammar.
 pub record IsRefusedAtLast (f : ErrorReport) (p : Parsed) : Type 0 where
   pub blames : Blames f p.scanner.given
   pub stopped : Stopped p

@@ -9,7 +9,7 @@ use Rattle.defs_event.specs.Event.{Ev}
 pub record Parsed : Type 0 where
   -- its scanner: the tokens that it handed out are those that the parser took from it
   pub scanner : Scanned
-  -- the events that were given, with their places; the stream's end once
+  -- the events that were given, with their positions; the stream's end once
   pub given : List (Ev × Position)
   -- the event that was looked at and waits
   pub ahead : Option (Ev × Position)

@@ -7,7 +7,7 @@ use Rattle.defs_event.specs.Event.{Ev}
 use Rattle.defs_event.specs.Grammar as written
 use Rattle.defs_event.specs.Grammar.{anchor_of, tag_of}
 use Rattle.defs_event.specs.Names.{Names, number, with_anchor, perhaps_resolved}
-use Rattle.model_parser.specs.declared.place.NodeContext.{NodeContext}
+use Rattle.model_parser.specs.declared.context.NodeContext.{NodeContext}
 use Rattle.model_parser.specs.Goal as at
 use Rattle.yaml_parser.specs.declared.event.Event.{Event}
 use Rattle.yaml_parser.specs.declared.node.Properties.{Properties}

@@ -1,4 +1,4 @@
--- What the resolution of a tag comes to. A fault's place is the mark.
+-- What the resolution of a tag comes to. A fault's position is the mark.
 use Rattle.std.specs.Prelude.{◌≡◌, ℕ, List, Some, None, Result, Ok, Err}
 use Rattle.defs_text.specs.Position.{Position}
 use Rattle.yaml_tokens.specs.declared.problem.Fault.TheVariants.{OutOfMemory}

@@ -28,7 +28,7 @@ ev_of event.SequenceEnd = Ev.sequence_end
 ev_of (event.MappingStart a t) = Ev.mapping_start a (perhaps_tag_of t)
 ev_of event.MappingEnd = Ev.mapping_end
 
--- an event and its place
+-- an event and its position
 -- whether an event keeps a text, for which a copy asks for memory
 abbrev pub keeps_text : Ev → Bool
 keeps_text (Ev.scalar x s a t) = true

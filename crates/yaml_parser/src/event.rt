@@ -42,7 +42,7 @@ pub struct Tag {
     pub suffix: String,
 }
 
-/// The next event and its place, or a fault.
+/// The next event and its position, or a fault.
 pub type ParseResult = Result<(Event, yaml_chars::Marker), ScanError>;
 
 #[tactic(auto, using(yaml_chars::proofs::TextLemmas::string_chars_same))]

@@ -42,7 +42,7 @@ impl<T: Iterator<Item = char>> Parser<T> {
     ///
     /// # Errors
     ///
-    /// The parser's fault, which it keeps. `did not find expected <document-start>`, at the event's place, if the
+    /// The parser's fault, which it keeps. `did not find expected <document-start>`, at the event's position, if the
     /// parser stands inside a document. Or the error that the receiver returned: the parser then keeps no fault, and
     /// stands after the event that was pushed.
     pub fn load<R: MarkedEventReceiver>(

@@ -139,7 +139,7 @@ impl Names {
         }
     }
 
-    /// A tag with its handle's prefix. `mark` is the place of a fault.
+    /// A tag with its handle's prefix. `mark` is the position of a fault.
     pub fn resolve(&self, mark: Marker, handle: String, suffix: String) -> Result<Tag, Stop>
         ensures { (names : defs.Names) → IsNamed self.now names → Resolves mark names (record { handle = string_chars handle; suffix = string_chars suffix }) result }
     {

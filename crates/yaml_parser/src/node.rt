@@ -3,7 +3,7 @@ ghost use Rattle.std.specs.Prelude.{◌≡◌, false, Some, None, ◌+◌, ◌<�
 ghost use Rattle.model_parser.specs.Goal as at;
 ghost use Rattle.defs_event.specs.Event.{Ev};
 ghost use Rattle.defs_event.specs.Names.{Names};
-ghost use Rattle.model_parser.specs.declared.place.NodeContext.TheVariants as place;
+ghost use Rattle.model_parser.specs.declared.context.NodeContext.TheVariants as context;
 ghost use Rattle.model_parser.specs.Kinds.{begins_content};
 ghost use Rattle.yaml_tokens.specs.declared.problem.Fault.TheVariants.{OutOfMemory};
 ghost use Rattle.yaml_parser.specs.declared.tokens.Stop.TheVariants.{Own};
@@ -32,7 +32,7 @@ pub struct Properties {
 impl<T: Iterator<Item = char>> Reader<T> {
     /// The node of a document without `---`.
     pub(crate) fn block_node(&mut self) -> Answer
-        ensures answers { Reads (at.node place.Block) self.old self.new result }
+        ensures answers { Reads (at.node context.Block) self.old self.new result }
         ensures work { OnOk result (work self.new + 2 ≤ work self.old) }
         ensures keeping { self.new.names.keeping ≡ self.old.names.keeping }
         ensures start { self.new.tokens.scanner.start ≡ self.old.tokens.scanner.start }
@@ -43,19 +43,19 @@ impl<T: Iterator<Item = char>> Reader<T> {
 
     /// A node that stands here. `next`, its first token, was looked at.
     #[inline(never)]
-    pub(crate) fn node(&mut self, place: NodeContext, next: Kind) -> Answer
+    pub(crate) fn node(&mut self, context: NodeContext, next: Kind) -> Answer
         requires { IsOfKind next self.old.tokens.peeked }
-        ensures answers { Reads (at.node place) self.old self.new result }
+        ensures answers { Reads (at.node context) self.old self.new result }
         ensures work { OnOk result (work self.new + 2 ≤ work self.old) }
         ensures keeping { self.new.names.keeping ≡ self.old.names.keeping }
         ensures start { self.new.tokens.scanner.start ≡ self.old.tokens.scanner.start }
     {
         match next {
             Kind::Alias => self.alias(),
-            Kind::Anchor => self.anchored(place),
-            Kind::Tag => self.tagged(place),
+            Kind::Anchor => self.anchored(context),
+            Kind::Tag => self.tagged(context),
             Kind::BlockEntry | Kind::BlockSequenceStart | Kind::BlockMappingStart => {
-                self.content(place, None, next)
+                self.content(context, None, next)
             }
             _ => self.flow_content(None, next),
         }
@@ -63,7 +63,7 @@ impl<T: Iterator<Item = char>> Reader<T> {
 
     fn alias(&mut self) -> Answer
         requires { IsOfKind kind.Alias self.old.tokens.peeked }
-        ensures answers { (place : NodeContext) → Reads (at.node place) self.old self.new result }
+        ensures answers { (context : NodeContext) → Reads (at.node context) self.old self.new result }
         ensures work { OnOk result (work self.new + 2 ≤ work self.old) }
         ensures keeping { self.new.names.keeping ≡ self.old.names.keeping }
         ensures start { self.new.tokens.scanner.start ≡ self.old.tokens.scanner.start }
@@ -75,9 +75,9 @@ impl<T: Iterator<Item = char>> Reader<T> {
     }
 
     /// A node that begins with an anchor.
-    fn anchored(&mut self, place: NodeContext) -> Answer
+    fn anchored(&mut self, context: NodeContext) -> Answer
         requires { IsOfKind kind.Anchor self.old.tokens.peeked }
-        ensures answers { Reads (at.node place) self.old self.new result }
+        ensures answers { Reads (at.node context) self.old self.new result }
         ensures work { OnOk result (work self.new + 2 ≤ work self.old) }
         ensures keeping { self.new.names.keeping ≡ self.old.names.keeping }
         ensures start { self.new.tokens.scanner.start ≡ self.old.tokens.scanner.start }
@@ -89,10 +89,10 @@ impl<T: Iterator<Item = char>> Reader<T> {
             Kind::Tag => {
                 let (handle, suffix) = self.tokens.take_tag();
                 let tag = self.names.resolve(mark, handle, suffix)?;
-                self.content_after(place, name, tag)
+                self.content_after(context, name, tag)
             }
             _ => self.content(
-                place,
+                context,
                 Some(Properties {
                     anchor: Some(name),
                     tag: None,
@@ -103,9 +103,9 @@ impl<T: Iterator<Item = char>> Reader<T> {
     }
 
     /// A node that begins with a tag.
-    fn tagged(&mut self, place: NodeContext) -> Answer
+    fn tagged(&mut self, context: NodeContext) -> Answer
         requires { IsOfKind kind.Tag self.old.tokens.peeked }
-        ensures answers { Reads (at.node place) self.old self.new result }
+        ensures answers { Reads (at.node context) self.old self.new result }
         ensures work { OnOk result (work self.new + 2 ≤ work self.old) }
         ensures keeping { self.new.names.keeping ≡ self.old.names.keeping }
         ensures start { self.new.tokens.scanner.start ≡ self.old.tokens.scanner.start }
@@ -117,10 +117,10 @@ impl<T: Iterator<Item = char>> Reader<T> {
         match next {
             Kind::Anchor => {
                 let name = self.tokens.take_name();
-                self.content_after(place, name, tag)
+                self.content_after(context, name, tag)
             }
             _ => self.content(
-                place,
+                context,
                 Some(Properties {
                     anchor: None,
                     tag: Some(tag),
@@ -132,8 +132,8 @@ impl<T: Iterator<Item = char>> Reader<T> {
 
     /// What stands after an anchor and a tag.
     #[inline(never)]
-    fn content_after(&mut self, place: NodeContext, anchor: String, tag: Tag) -> Answer
-        ensures answers { ReadsAfter place (Some (record { anchor = Some anchor; tag = Some tag })) self.old self.new result }
+    fn content_after(&mut self, context: NodeContext, anchor: String, tag: Tag) -> Answer
+        ensures answers { ReadsAfter context (Some (record { anchor = Some anchor; tag = Some tag })) self.old self.new result }
         ensures work { OnOk result (work self.new ≤ work self.old) }
         ensures keeping { self.new.names.keeping ≡ self.old.names.keeping }
         ensures start { self.new.tokens.scanner.start ≡ self.old.tokens.scanner.start }
@@ -143,19 +143,19 @@ impl<T: Iterator<Item = char>> Reader<T> {
             anchor: Some(anchor),
             tag: Some(tag),
         };
-        self.content(place, Some(properties), next)
+        self.content(context, Some(properties), next)
     }
 
     /// What stands after a node's properties. `next` was looked at.
     #[inline(never)]
-    fn content(&mut self, place: NodeContext, properties: Option<Properties>, next: Kind) -> Answer
+    fn content(&mut self, context: NodeContext, properties: Option<Properties>, next: Kind) -> Answer
         requires { IsOfKind next self.old.tokens.peeked }
-        ensures answers { ReadsAfter place properties self.old self.new result }
+        ensures answers { ReadsAfter context properties self.old self.new result }
         ensures work { OnOk result (work self.new + owed properties ≤ work self.old) }
         ensures keeping { self.new.names.keeping ≡ self.old.names.keeping }
         ensures start { self.new.tokens.scanner.start ≡ self.old.tokens.scanner.start }
     {
-        match place {
+        match context {
             NodeContext::Flow => self.flow_content(properties, next),
             NodeContext::Block => self.block_content(properties, next),
             NodeContext::Part => self.part_content(properties, next),
@@ -165,7 +165,7 @@ impl<T: Iterator<Item = char>> Reader<T> {
     #[inline(always)]
     fn part_content(&mut self, properties: Option<Properties>, next: Kind) -> Answer
         requires { IsOfKind next self.old.tokens.peeked }
-        ensures answers { ReadsAfter place.Part properties self.old self.new result }
+        ensures answers { ReadsAfter context.Part properties self.old self.new result }
         ensures work { OnOk result (work self.new + owed properties ≤ work self.old) }
         ensures keeping { self.new.names.keeping ≡ self.old.names.keeping }
         ensures start { self.new.tokens.scanner.start ≡ self.old.tokens.scanner.start }
@@ -183,7 +183,7 @@ impl<T: Iterator<Item = char>> Reader<T> {
     #[inline(always)]
     fn block_content(&mut self, properties: Option<Properties>, next: Kind) -> Answer
         requires { IsOfKind next self.old.tokens.peeked }
-        ensures answers { ReadsAfter place.Block properties self.old self.new result }
+        ensures answers { ReadsAfter context.Block properties self.old self.new result }
         ensures work { OnOk result (work self.new + owed properties ≤ work self.old) }
         ensures keeping { self.new.names.keeping ≡ self.old.names.keeping }
         ensures start { self.new.tokens.scanner.start ≡ self.old.tokens.scanner.start }
@@ -206,7 +206,7 @@ impl<T: Iterator<Item = char>> Reader<T> {
     #[inline(always)]
     fn flow_content(&mut self, properties: Option<Properties>, next: Kind) -> Answer
         requires { IsOfKind next self.old.tokens.peeked }
-        ensures answers { ReadsAfter place.Flow properties self.old self.new result }
+        ensures answers { ReadsAfter context.Flow properties self.old self.new result }
         ensures work { OnOk result (work self.new + owed properties ≤ work self.old) }
         ensures keeping { self.new.names.keeping ≡ self.old.names.keeping }
         ensures start { self.new.tokens.scanner.start ≡ self.old.tokens.scanner.start }
@@ -236,8 +236,8 @@ impl<T: Iterator<Item = char>> Reader<T> {
     #[inline(never)]
     fn no_content(&mut self, properties: Option<Properties>, next: Kind) -> Answer
         requires looks { IsOfKind next self.old.tokens.peeked }
-        requires none { begins_content place.Flow next ≡ false }
-        ensures answers { ReadsAfter place.Flow properties self.old self.new result }
+        requires none { begins_content context.Flow next ≡ false }
+        ensures answers { ReadsAfter context.Flow properties self.old self.new result }
         ensures work { OnOk result (work self.new + owed properties ≤ work self.old) }
         ensures keeping { self.new.names.keeping ≡ self.old.names.keeping }
         ensures start { self.new.tokens.scanner.start ≡ self.old.tokens.scanner.start }

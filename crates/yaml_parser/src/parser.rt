@@ -55,7 +55,7 @@ pub struct Parser<T: Iterator<Item = char>> {
     given: History<(Event, Marker)>,
     started: bool,
     ended: bool,
-    // The place where `load` met an event other than a document's start: a fault that is kept.
+    // The position where `load` met an event other than a document's start: a fault that is kept.
     misplaced: Option<Marker>,
 }
 
@@ -151,7 +151,7 @@ impl<T: Iterator<Item = char>> Parser<T> {
             && self.pull.kept.is_none()
     }
 
-    /// Shows the next event and its place. The event stays: the next call of `next_token` gives it.
+    /// Shows the next event and its position. The event stays: the next call of `next_token` gives it.
     ///
     /// # Errors
     ///
@@ -194,18 +194,18 @@ impl<T: Iterator<Item = char>> Parser<T> {
         Ok(())
     }
 
-    /// The event that was looked at, and its place, or `None`.
+    /// The event that was looked at, and its position, or `None`.
     pub fn waiting(&self) -> Option<&(Event, Marker)>
         ensures { option_map (λ e. placed e.now) result ≡ (parsed self.now).ahead }
     {
         self.current.as_ref()
     }
 
-    /// Gives the next event and its place. After the end of the stream it gives that end again.
+    /// Gives the next event and its position. After the end of the stream it gives that end again.
     ///
     /// # Errors
     ///
-    /// The first fault of the text, at its place. The events before it were given. Or memory was refused
+    /// The first fault of the text, at its position. The events before it were given. Or memory was refused
     /// ([`ScanError::is_out_of_memory`]). Either fault is kept: each later call returns it again.
     #[inline(always)]
     pub fn next_token(&mut self) -> ParseResult

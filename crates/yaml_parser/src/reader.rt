@@ -22,7 +22,7 @@ use std::alloc::Global;
 use yaml_chars::Marker;
 use yaml_tokens::ScanError;
 
-/// An event and its place, or why there is none.
+/// An event and its position, or why there is none.
 pub type Answer = Result<(Event, Marker), Stop>;
 
 /// The productions of the token grammar, one function each.
@@ -59,7 +59,7 @@ impl<T: Iterator<Item = char>> Reader<T> {
         self.tokens.mark()
     }
 
-    /// Takes the token that was looked at, and gives its place.
+    /// Takes the token that was looked at, and gives its position.
     #[inline(always)]
     pub(crate) fn skip(&mut self) -> Marker
         requires { IsSome self.old.tokens.peeked }

@@ -17,15 +17,15 @@ pub trait EventReceiver {
         ensures { takes self.old (ev_of ev) result self.new };
 }
 
-/// Takes the events that a parser pushes by [`load`](crate::Parser::load), with their places. Every [`EventReceiver`]
+/// Takes the events that a parser pushes by [`load`](crate::Parser::load), with their positions. Every [`EventReceiver`]
 /// is a `MarkedEventReceiver`.
 pub trait MarkedEventReceiver {
     ghost use Rattle.defs_text.specs.Position.{Position};
 
-    // What one call does: the receiver before it, the event and its place, the result, and the receiver after it.
+    // What one call does: the receiver before it, the event and its position, the result, and the receiver after it.
     ghost takes: { Self → Ev → Position → Result (Unit {0}) ErrorReport → Self → Type 0 } = { λ _ _ _ _ _. Unit {0} };
 
-    /// Takes an event and its place. An `Err` stops the call of `load`, which returns it.
+    /// Takes an event and its position. An `Err` stops the call of `load`, which returns it.
     fn on_event(&mut self, ev: Event, mark: Marker) -> Result<(), ScanError>
         ensures { takes self.old (ev_of ev) mark result self.new };
 }

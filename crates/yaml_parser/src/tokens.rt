@@ -152,7 +152,7 @@ impl<T: Iterator<Item = char>> Tokens<T> {
         Some(token)
     }
 
-    /// Takes the token that was looked at, and gives its place.
+    /// Takes the token that was looked at, and gives its position.
     #[inline(never)]
     pub fn skip(&mut self) -> Marker
         requires { IsSome self.old.peeked }

@@ -2,7 +2,7 @@
 use Rattle.std.proofs.Common.{◌≡◌, ◌≢◌, ℕ, List, [], ◌∷◌, Bool, true, false, not, ◌&&◌, ◌||◌, ◌==◌, refl, ap, ◌∙◌, Option, Some, None, Result, Ok, Err, slice_index}
 use Rattle.std.proofs.lemmas.Bool.{ne_eqb}
 use Rattle.defs_text.specs.Position.{Position}
-use Rattle.yaml_chars.specs.Reading.{Reading, Reads, SamePlace, place_of, after_char}
+use Rattle.yaml_chars.specs.Reading.{Reading, Reads, SamePosition, position_of, after_char}
 use Rattle.yaml_chars.proofs.ReadingLemmas.{Reads-then}
 use Rattle.yaml_tokens.specs.declared.problem.Fault.{Fault}
 use Rattle.yaml_tokens.specs.declared.problem.Fault.TheVariants.{At, OutOfMemory}
@@ -19,7 +19,7 @@ use Rattle.model_scanner.specs.Block.{check_dash, roll_entry, check_key_space, c
 use Rattle.yaml_scanner.specs.Blocks.{entry_level, pass_tab}
 use Rattle.yaml_scanner.specs.declared.fetcher.Fetcher.{Fetcher}
 use Rattle.yaml_scanner.specs.Shape.{held, state, Does, Fails}
-use Rattle.yaml_scanner.proofs.DoesLemmas.{Reads-map, Reads-along, Reads-none, same_place}
+use Rattle.yaml_scanner.proofs.DoesLemmas.{Reads-map, Reads-along, Reads-none, same_position}
 
 -- ---- steps of the code as steps of the model
 
@@ -59,12 +59,12 @@ pub fails_as : {T : Type 0} {f h : ScannerState → Result ScannerState Fault} (
 fails_as x y e s d = record { runs = Reads-map _ _ d.runs (λ a b p n. s a ∙ p n) }
 
 -- spaces are passed, and what was found decides how to go on
-pub does_lexed : {T : Type 0} (tabs : SkipTabs) (go : Whitespace → ScannerState → Result ScannerState Fault) (w : Whitespace) (x y z : Fetcher T) → held y ≡ record (held x) { place = place_of y.window }
-    → Reads x.window y.window (λ a b. space tabs a (place_of x.window) ≡ Ok (read b y.window w)) → Does (go w) y z → Does (λ t. lexed (space tabs t.rest t.held.place) t.held go) x z
+pub does_lexed : {T : Type 0} (tabs : SkipTabs) (go : Whitespace → ScannerState → Result ScannerState Fault) (w : Whitespace) (x y z : Fetcher T) → held y ≡ record (held x) { position = position_of y.window }
+    → Reads x.window y.window (λ a b. space tabs a (position_of x.window) ≡ Ok (read b y.window w)) → Does (go w) y z → Does (λ t. lexed (space tabs t.rest t.held.position) t.held go) x z
 does_lexed tabs go w x y z e run d = record { runs = Reads-then _ _ _ run d.runs (λ a b c p q. rw (p, ← e) q) }
 
-pub fails_lexed : {T : Type 0} (tabs : SkipTabs) (go : Whitespace → ScannerState → Result ScannerState Fault) (w : Whitespace) (x y z : Fetcher T) (f : Fault) → held y ≡ record (held x) { place = place_of y.window }
-    → Reads x.window y.window (λ a b. space tabs a (place_of x.window) ≡ Ok (read b y.window w)) → Fails (go w) y z f → Fails (λ t. lexed (space tabs t.rest t.held.place) t.held go) x z f
+pub fails_lexed : {T : Type 0} (tabs : SkipTabs) (go : Whitespace → ScannerState → Result ScannerState Fault) (w : Whitespace) (x y z : Fetcher T) (f : Fault) → held y ≡ record (held x) { position = position_of y.window }
+    → Reads x.window y.window (λ a b. space tabs a (position_of x.window) ≡ Ok (read b y.window w)) → Fails (go w) y z f → Fails (λ t. lexed (space tabs t.rest t.held.position) t.held go) x z f
 fails_lexed tabs go w x y z f e run d = record { runs = Reads-then _ _ _ run d.runs (λ a b c p q n. rw (p, ← e) (q n)) }
 
 peek_is : (a : List ℕ) → slice_index a 0 ≡ peek a
@@ -77,7 +77,7 @@ pub key_spaced : (a : List ℕ) (c : ℕ) (h : Held) → c ≡ slice_index a 0 �
 unfolding check_key_space
 key_spaced a c h e n = let t : (peek a == 9) ≡ false = rw (← peek_is a, ← e) (ne_eqb c 9 n) in rw t refl
 
-pub key_not_spaced : (a : List ℕ) (c : ℕ) (h : Held) (p : Position) → c ≡ slice_index a 0 → c ≡ 9 → p ≡ h.place → check_key_space (record { rest = a; held = h }) ≡ Err (At problem.TabAfterKey p)
+pub key_not_spaced : (a : List ℕ) (c : ℕ) (h : Held) (p : Position) → c ≡ slice_index a 0 → c ≡ 9 → p ≡ h.position → check_key_space (record { rest = a; held = h }) ≡ Err (At problem.TabAfterKey p)
 unfolding check_key_space
 key_not_spaced a c h p e n q = let t : (peek a == 9) ≡ true = rw (← peek_is a, ← e, n) refl in rw (t, q) refl
 
@@ -85,7 +85,7 @@ pub word_apart : (w : Whitespace) (a : List ℕ) (b : Bool) (h : Held) → b ≡
 unfolding check_after_tab
 word_apart w a b h e n = let t = rw (e, peek_is a) at n in rw t refl
 
-pub word_after : (w : Whitespace) (a : List ℕ) (b : Bool) (h : Held) (p : Position) → b ≡ not w.has_valid_yaml_ws && ((slice_index a 0 == 45) || is_alpha (slice_index a 0)) → b ≡ true → p ≡ h.place → check_after_tab w (record { rest = a; held = h }) ≡ Err (At problem.TabAfterColon p)
+pub word_after : (w : Whitespace) (a : List ℕ) (b : Bool) (h : Held) (p : Position) → b ≡ not w.has_valid_yaml_ws && ((slice_index a 0 == 45) || is_alpha (slice_index a 0)) → b ≡ true → p ≡ h.position → check_after_tab w (record { rest = a; held = h }) ≡ Err (At problem.TabAfterColon p)
 unfolding check_after_tab
 word_after w a b h p e n q = let t = rw (e, peek_is a) at n in rw (t, q) refl
 
@@ -93,7 +93,7 @@ pub dash_apart : (w : Whitespace) (a : List ℕ) (b : Bool) (h : Held) → b ≡
 unfolding check_dash
 dash_apart w a b h e n = let t = rw e at n in rw t refl
 
-pub dash_after : (w : Whitespace) (a : List ℕ) (b : Bool) (h : Held) (p : Position) → b ≡ w.found_tabs && (slice_index a 0 == 45) && is_blank_or_breakz (slice_index a 1) → b ≡ true → p ≡ h.place → check_dash w (record { rest = a; held = h }) ≡ Err (At problem.TabAfterDash p)
+pub dash_after : (w : Whitespace) (a : List ℕ) (b : Bool) (h : Held) (p : Position) → b ≡ w.found_tabs && (slice_index a 0 == 45) && is_blank_or_breakz (slice_index a 1) → b ≡ true → p ≡ h.position → check_dash w (record { rest = a; held = h }) ≡ Err (At problem.TabAfterDash p)
 unfolding check_dash
 dash_after w a b h p e n q = let t = rw e at n in rw (t, q) refl
 
@@ -114,8 +114,8 @@ unfolding roll_entry
 entry_apart a c b h u e f n q = let t : is_break (peek a) || is_flow (peek a) ≡ true = rw (← peek_is a, ← e, ← f) n in rw (t, q) refl
 
 -- after a look at the next character
-pub looked : {T : Type 0} (x : Fetcher T) (w : Reading T) → SamePlace x.window w → held (record x { window = w }) ≡ held x
-looked x w same = ap (λ p. record (held x) { place = p }) (same_place _ _ same)
+pub looked : {T : Type 0} (x : Fetcher T) (w : Reading T) → SamePosition x.window w → held (record x { window = w }) ≡ held x
+looked x w same = ap (λ p. record (held x) { position = p }) (same_position _ _ same)
 
 pub after_look : (f : ScannerState → Result ScannerState Fault) (a b : List ℕ) (h u : Held) → b ≡ a → u ≡ h → f (record { rest = b; held = h }) ≡ Ok (record { rest = b; held = h }) → f (record { rest = a; held = h }) ≡ Ok (record { rest = b; held = u })
 after_look f a b h u i e p = rw (← i, e) p
@@ -125,12 +125,12 @@ before_look f a b h r i p = rw (← i) p
 
 -- ---- keys and values
 
-pub key_inserted : (k l : Key) (p : Position) (pair : Bool) (n col : ℕ) (h u v w z : Held) (ks : List (Option Key)) → u ≡ put k.number k.place Tok.key h → l ≡ k → begin_pair l p pair u ≡ Ok v → n ≡ k.number → col ≡ k.place.col
+pub key_inserted : (k l : Key) (p : Position) (pair : Bool) (n col : ℕ) (h u v w z : Held) (ks : List (Option Key)) → u ≡ put k.number k.position Tok.key h → l ≡ k → begin_pair l p pair u ≡ Ok v → n ≡ k.number → col ≡ k.position.col
     → w ≡ roll_indent col (Some n) Tok.block_mapping_start p v → z ≡ roll_one_col_indent w → ks ≡ with_top None z.keys → insert_key k p pair h ≡ Ok (record z { keys = ks; key_allowed = false })
 unfolding insert_key
 key_inserted k l p pair n col h u v w z ks e d f m q i j t = let f' = rw (d, e) at f in let i' = rw (m, q) at i in let j' = rw i' at j in rw (f', t, j') refl
 
-pub key_refused : (k l : Key) (p : Position) (pair : Bool) (h u : Held) (x : Fault) → u ≡ put k.number k.place Tok.key h → l ≡ k → begin_pair l p pair u ≡ Err x → insert_key k p pair h ≡ Err x
+pub key_refused : (k l : Key) (p : Position) (pair : Bool) (h u : Held) (x : Fault) → u ≡ put k.number k.position Tok.key h → l ≡ k → begin_pair l p pair u ≡ Err x → insert_key k p pair h ≡ Err x
 unfolding insert_key
 key_refused k l p pair h u x e d f = let f' = rw (d, e) at f in rw f' refl
 

@@ -94,7 +94,7 @@ scalar_does x y r k l e d = does_as (scalar_by l) (scalar_by k) x y r (scalar_is
 pub scalar_fails : {T X : Type 0} (x y : Fetcher T) (r : Result X Fault) (k l : Class) → k ≡ l → IfErr r (λ e. Fails (scalar_by l) x y e) → IfErr r (λ e. Fails (scalar_by k) x y e)
 scalar_fails x y r k l e d = fails_as (scalar_by l) (scalar_by k) x y r (scalar_is x k l e) d
 
-pub refused : {T : Type 0} (x : Fetcher T) (k l : Class) (q : Problem) (p : Position) → k ≡ l → p ≡ (held x).place → ((t : ScannerState) → scalar_by l t ≡ Err (At q t.held.place)) → Fails (scalar_by k) x x (At q p)
+pub refused : {T : Type 0} (x : Fetcher T) (k l : Class) (q : Problem) (p : Position) → k ≡ l → p ≡ (held x).position → ((t : ScannerState) → scalar_by l t ≡ Err (At q t.held.position)) → Fails (scalar_by k) x x (At q p)
 refused x k l q p e f g = fails_held x x (At q p) refl (λ a n. ap (λ m. scalar_by m (state a x)) e ∙ g (state a x) ∙ ap (λ y. Err (At q y)) (sym f))
 
 scalar_plain : (k : Class) (t : ScannerState) → k ≢ class.Bar → k ≢ class.Greater → k ≢ class.SingleQuote → k ≢ class.DoubleQuote → k ≢ class.Percent → k ≢ class.AtSign → k ≢ class.Backtick → scalar_by k t ≡ fetch_plain_scalar t
@@ -150,32 +150,32 @@ is_less n m h = grind (arith, nat_tests)
 is_no_less : (n m : ℕ) → m ≤ n → nat_lt n m ≡ false
 is_no_less n m h = grind (arith, nat_tests)
 
-left_held : (a : List ℕ) (h : Held) (m : Position) (col i : ℕ) → m ≡ h.place → col ≡ m.col → i ≡ h.indent → col + 1 < i → fetch_indented (record { rest = a; held = h }) ≡ Err (At problem.InvalidIndentation m)
+left_held : (a : List ℕ) (h : Held) (m : Position) (col i : ℕ) → m ≡ h.position → col ≡ m.col → i ≡ h.indent → col + 1 < i → fetch_indented (record { rest = a; held = h }) ≡ Err (At problem.InvalidIndentation m)
 unfolding fetch_indented
-left_held a h m col i e f g l = let t : nat_lt (h.place.col + 1) h.indent ≡ true = rw (← g, ← e, ← f) (is_less (col + 1) i l) in rw (t, e) refl
+left_held a h m col i e f g l = let t : nat_lt (h.position.col + 1) h.indent ≡ true = rw (← g, ← e, ← f) (is_less (col + 1) i l) in rw (t, e) refl
 
-in_held : (a : List ℕ) (h : Held) (m : Position) (col i : ℕ) → m ≡ h.place → col ≡ m.col → i ≡ h.indent → i ≤ col + 1 → fetch_indented (record { rest = a; held = h }) ≡ fetch_token (record { rest = a; held = h })
+in_held : (a : List ℕ) (h : Held) (m : Position) (col i : ℕ) → m ≡ h.position → col ≡ m.col → i ≡ h.indent → i ≤ col + 1 → fetch_indented (record { rest = a; held = h }) ≡ fetch_token (record { rest = a; held = h })
 unfolding fetch_indented
-in_held a h m col i e f g l = let t : nat_lt (h.place.col + 1) h.indent ≡ false = rw (← g, ← e, ← f) (is_no_less (col + 1) i l) in rw t refl
+in_held a h m col i e f g l = let t : nat_lt (h.position.col + 1) h.indent ≡ false = rw (← g, ← e, ← f) (is_no_less (col + 1) i l) in rw t refl
 
-first_held : (a : List ℕ) (h : Held) (m : Position) (col : ℕ) → m ≡ h.place → col ≡ m.col → col ≡ 0 → fetch_content (record { rest = a; held = h }) ≡ fetch_first_column (record { rest = a; held = h })
+first_held : (a : List ℕ) (h : Held) (m : Position) (col : ℕ) → m ≡ h.position → col ≡ m.col → col ≡ 0 → fetch_content (record { rest = a; held = h }) ≡ fetch_first_column (record { rest = a; held = h })
 unfolding fetch_content
-first_held a h m col e f g = let t : (h.place.col == 0) ≡ true = rw (← e, ← f, g) refl in rw t refl
+first_held a h m col e f g = let t : (h.position.col == 0) ≡ true = rw (← e, ← f, g) refl in rw t refl
 
-after_held : (a : List ℕ) (h : Held) (m : Position) (col : ℕ) → m ≡ h.place → col ≡ m.col → col ≢ 0 → fetch_content (record { rest = a; held = h }) ≡ fetch_indented (record { rest = a; held = h })
+after_held : (a : List ℕ) (h : Held) (m : Position) (col : ℕ) → m ≡ h.position → col ≡ m.col → col ≢ 0 → fetch_content (record { rest = a; held = h }) ≡ fetch_indented (record { rest = a; held = h })
 unfolding fetch_content
-after_held a h m col e f g = let t : (h.place.col == 0) ≡ false = rw (← e, ← f) (is_not col 0 g) in rw t refl
+after_held a h m col e f g = let t : (h.position.col == 0) ≡ false = rw (← e, ← f) (is_not col 0 g) in rw t refl
 
-pub left_of_block : {T : Type 0} (x : Fetcher T) (m : Position) (col i : ℕ) → m ≡ (held x).place → col ≡ m.col → i ≡ (held x).indent → col + 1 < i → Fails fetch_indented x x (At problem.InvalidIndentation m)
+pub left_of_block : {T : Type 0} (x : Fetcher T) (m : Position) (col i : ℕ) → m ≡ (held x).position → col ≡ m.col → i ≡ (held x).indent → col + 1 < i → Fails fetch_indented x x (At problem.InvalidIndentation m)
 left_of_block x m col i e f g h = fails_held x x _ refl (λ a n. left_held a (held x) m col i e f g h)
 
-pub in_block : {T : Type 0} (x : Fetcher T) (m : Position) (col i : ℕ) → m ≡ (held x).place → col ≡ m.col → i ≡ (held x).indent → i ≤ col + 1 → Sees x.window (λ a. fetch_indented (state a x) ≡ fetch_token (state a x))
+pub in_block : {T : Type 0} (x : Fetcher T) (m : Position) (col i : ℕ) → m ≡ (held x).position → col ≡ m.col → i ≡ (held x).indent → i ≤ col + 1 → Sees x.window (λ a. fetch_indented (state a x) ≡ fetch_token (state a x))
 in_block x m col i e f g h = record { sees = λ w p. in_held _ (held x) m col i e f g h }
 
-pub at_first : {T : Type 0} (x : Fetcher T) (m : Position) (col : ℕ) → m ≡ (held x).place → col ≡ m.col → col ≡ 0 → Sees x.window (λ a. fetch_content (state a x) ≡ fetch_first_column (state a x))
+pub at_first : {T : Type 0} (x : Fetcher T) (m : Position) (col : ℕ) → m ≡ (held x).position → col ≡ m.col → col ≡ 0 → Sees x.window (λ a. fetch_content (state a x) ≡ fetch_first_column (state a x))
 at_first x m col e f g = record { sees = λ w p. first_held _ (held x) m col e f g }
 
-pub after_first : {T : Type 0} (x : Fetcher T) (m : Position) (col : ℕ) → m ≡ (held x).place → col ≡ m.col → col ≢ 0 → Sees x.window (λ a. fetch_content (state a x) ≡ fetch_indented (state a x))
+pub after_first : {T : Type 0} (x : Fetcher T) (m : Position) (col : ℕ) → m ≡ (held x).position → col ≡ m.col → col ≢ 0 → Sees x.window (λ a. fetch_content (state a x) ≡ fetch_indented (state a x))
 after_first x m col e f g = record { sees = λ w p. after_held _ (held x) m col e f g }
 
 pub at_percent : {T : Type 0} (x : Fetcher T) (c : ℕ) → Sees x.window (λ a. c ≡ slice_index a 0) → c ≡ 37 → Sees x.window (λ a. fetch_first_column (state a x) ≡ fetch_directive (state a x))
@@ -215,7 +215,7 @@ at_char x c see e = sees_map x.window see (λ a i. let t : (peek a == 0) ≡ fal
 
 -- the whole fetch
 
-pub fetched : (a b d : List ℕ) (h u v w x y : Held) (n : ℕ) → skip_to_next_token (record { rest = a; held = h }) ≡ Ok (record { rest = b; held = u }) → stale u ≡ Ok v → n ≡ v.place.col + 1 → w ≡ unroll_indent n v
+pub fetched : (a b d : List ℕ) (h u v w x y : Held) (n : ℕ) → skip_to_next_token (record { rest = a; held = h }) ≡ Ok (record { rest = b; held = u }) → stale u ≡ Ok v → n ≡ v.position.col + 1 → w ≡ unroll_indent n v
     → fetch_here (record { rest = b; held = w }) ≡ Ok (record { rest = d; held = x }) → stale x ≡ Ok y → fetch_next (record { rest = a; held = h }) ≡ Ok (record { rest = d; held = y })
 unfolding fetch_next
 fetched a b d h u v w x y n e f g i j k = let j' = rw (i, g) at j in rw (e, f, j', k) refl
@@ -228,12 +228,12 @@ pub key_refused : (a b : List ℕ) (h u : Held) (z : Fault) → skip_to_next_tok
 unfolding fetch_next
 key_refused a b h u z e f = rw (e, f) refl
 
-pub here_refused : (a b : List ℕ) (h u v w : Held) (n : ℕ) (z : Fault) → skip_to_next_token (record { rest = a; held = h }) ≡ Ok (record { rest = b; held = u }) → stale u ≡ Ok v → n ≡ v.place.col + 1 → w ≡ unroll_indent n v
+pub here_refused : (a b : List ℕ) (h u v w : Held) (n : ℕ) (z : Fault) → skip_to_next_token (record { rest = a; held = h }) ≡ Ok (record { rest = b; held = u }) → stale u ≡ Ok v → n ≡ v.position.col + 1 → w ≡ unroll_indent n v
     → fetch_here (record { rest = b; held = w }) ≡ Err z → fetch_next (record { rest = a; held = h }) ≡ Err z
 unfolding fetch_next
 here_refused a b h u v w n z e f g i j = let j' = rw (i, g) at j in rw (e, f, j') refl
 
-pub last_refused : (a b d : List ℕ) (h u v w x : Held) (n : ℕ) (z : Fault) → skip_to_next_token (record { rest = a; held = h }) ≡ Ok (record { rest = b; held = u }) → stale u ≡ Ok v → n ≡ v.place.col + 1 → w ≡ unroll_indent n v
+pub last_refused : (a b d : List ℕ) (h u v w x : Held) (n : ℕ) (z : Fault) → skip_to_next_token (record { rest = a; held = h }) ≡ Ok (record { rest = b; held = u }) → stale u ≡ Ok v → n ≡ v.position.col + 1 → w ≡ unroll_indent n v
     → fetch_here (record { rest = b; held = w }) ≡ Ok (record { rest = d; held = x }) → stale x ≡ Err z → fetch_next (record { rest = a; held = h }) ≡ Err z
 unfolding fetch_next
 last_refused a b d h u v w x n z e f g i j k = let j' = rw (i, g) at j in rw (e, f, j', k) refl

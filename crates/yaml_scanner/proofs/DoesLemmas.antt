@@ -1,7 +1,7 @@
 -- How the steps of the code compose.
 use Rattle.std.proofs.Common.{◌≡◌, ◌≢◌, ℕ, List, refl, sym, arith, Result, Ok, Err}
 use Rattle.std.specs.Prelude.{IfErr, IsErrAnd}
-use Rattle.yaml_chars.specs.Reading.{Reading, Reads, SamePlace, place_of}
+use Rattle.yaml_chars.specs.Reading.{Reading, Reads, SamePosition, position_of}
 use Rattle.yaml_chars.proofs.ReadingLemmas.{Reads-then}
 use Rattle.yaml_tokens.specs.declared.problem.Fault.{Fault}
 use Rattle.yaml_tokens.specs.declared.problem.Fault.TheVariants.{OutOfMemory}
@@ -16,8 +16,8 @@ Reads-map old new run f = record { start = run.start; at = run.at; left = run.le
 pub Reads-along : {T : Type 0} {P : List ℕ → List ℕ → Type 0} (old new x y : Reading T) → x ≡ old → y ≡ new → Reads old new P → Reads x y P
 Reads-along old new x y e f run = rw (e, f) run
 
-pub same_place : {T : Type 0} (old new : Reading T) → SamePlace old new → place_of new ≡ place_of old
-same_place old new same = let a = same.at in let l = same.line in let c = same.col in cc
+pub same_position : {T : Type 0} (old new : Reading T) → SamePosition old new → position_of new ≡ position_of old
+same_position old new same = let a = same.at in let l = same.line in let c = same.col in cc
 
 -- a step that looks at no character around one that does
 pub does_in : {T : Type 0} {f h : ScannerState → Result ScannerState Fault} (x0 x1 y1 y0 : Fetcher T) → x1.window ≡ x0.window → y0.window ≡ y1.window → Does f x1 y1

@@ -2,7 +2,7 @@
 use Rattle.std.proofs.Common.{◌≡◌, ℕ, List, [], ◌∷◌, Bool, true, false, ◌==◌, ◌&&◌, refl, ap, sym, ◌∙◌, Result, Ok, Err, slice_index}
 use Rattle.std.specs.Prelude.{OnOk, IfErr}
 use Rattle.defs_text.specs.Position.{Position}
-use Rattle.yaml_chars.specs.Reading.{Reading, Reads, Sees, SamePlace}
+use Rattle.yaml_chars.specs.Reading.{Reading, Reads, Sees, SamePosition}
 use Rattle.yaml_chars.proofs.ReadingLemmas.{Reads-then, Reads-see, Reads-saw}
 use Rattle.yaml_tokens.specs.declared.problem.Fault.{Fault}
 use Rattle.yaml_tokens.specs.declared.problem.Fault.TheVariants.{At}
@@ -20,7 +20,7 @@ use Rattle.model_lexers.specs.declared.context.Context.{Context}
 use Rattle.model_lexers.specs.Quoted.{quoted}
 use Rattle.model_scanner.specs.Keys.{save_implicit_key}
 use Rattle.yaml_scanner.specs.Steps.{end_quoted}
-use Rattle.yaml_scanner.proofs.DoesLemmas.{Reads-along, Reads-map, Reads-none, same_place}
+use Rattle.yaml_scanner.proofs.DoesLemmas.{Reads-along, Reads-map, Reads-none, same_position}
 use Rattle.model_scanner.specs.Fetch.{comes_marker}
 use Rattle.yaml_scanner.specs.declared.fetcher.Fetcher.{Fetcher}
 use Rattle.yaml_scanner.specs.Shape.{held, state, Does, Fails}
@@ -48,27 +48,27 @@ pub fails_after : {T X : Type 0} (f : ScannerState → Result ScannerState Fault
 fails_after f x0 x1 y (Ok v) look e d = tt
 fails_after f x0 x1 y (Err x) look e d = record { runs = Reads-then _ _ _ look d.runs (λ a b d p q n. rw (← p, ← e) (q n)) }
 
-pub spaces_passed : (tabs : SkipTabs) (a b : List ℕ) (h u : Held) (p q : Position) (w : Whitespace) → p ≡ h.place → space tabs a p ≡ Ok (record { rest = b; place = q; value = w }) → u ≡ record h { place = q }
+pub spaces_passed : (tabs : SkipTabs) (a b : List ℕ) (h u : Held) (p q : Position) (w : Whitespace) → p ≡ h.position → space tabs a p ≡ Ok (record { rest = b; position = q; value = w }) → u ≡ record h { position = q }
     → skip_spaces tabs (record { rest = a; held = h }) ≡ Ok (record { rest = b; held = u })
 unfolding skip_spaces
 spaces_passed tabs a b h u p q w e f g = let f' = rw e at f in rw (f', g) refl
 
-pub spaces_failed : (tabs : SkipTabs) (a : List ℕ) (h : Held) (p : Position) (x : Fault) → p ≡ h.place → space tabs a p ≡ Err x → skip_spaces tabs (record { rest = a; held = h }) ≡ Err x
+pub spaces_failed : (tabs : SkipTabs) (a : List ℕ) (h : Held) (p : Position) (x : Fault) → p ≡ h.position → space tabs a p ≡ Err x → skip_spaces tabs (record { rest = a; held = h }) ≡ Err x
 unfolding skip_spaces
 spaces_failed tabs a h p x e f = let f' = rw e at f in rw f' refl
 
-pub may_follow : (line : ℕ) (a b : List ℕ) (h u : Held) (m : Position) (c : ℕ) (flow same fits : Bool) → skip_spaces Yes (record { rest = a; held = h }) ≡ Ok (record { rest = b; held = u }) → c ≡ slice_index b 0 → m ≡ u.place → same ≡ (line == m.line) → flow ≡ in_flow u
+pub may_follow : (line : ℕ) (a b : List ℕ) (h u : Held) (m : Position) (c : ℕ) (flow same fits : Bool) → skip_spaces Yes (record { rest = a; held = h }) ≡ Ok (record { rest = b; held = u }) → c ≡ slice_index b 0 → m ≡ u.position → same ≡ (line == m.line) → flow ≡ in_flow u
     → fits ≡ may_follow_quoted flow same c → fits ≡ true → check_after_quoted line (record { rest = a; held = h }) ≡ Ok (record { rest = b; held = u })
 unfolding check_after_quoted
 may_follow line a b h u m c flow same fits e f g i j k l =
-    let at : may_follow_quoted (in_flow u) (line == u.place.line) (peek b) ≡ true = rw (peek_first b, ← f, ← j, ← g, ← i, ← k) l in
+    let at : may_follow_quoted (in_flow u) (line == u.position.line) (peek b) ≡ true = rw (peek_first b, ← f, ← j, ← g, ← i, ← k) l in
     rw (e, at) refl
 
-pub may_not_follow : (line : ℕ) (a b : List ℕ) (h u : Held) (m : Position) (c : ℕ) (flow same fits : Bool) → skip_spaces Yes (record { rest = a; held = h }) ≡ Ok (record { rest = b; held = u }) → c ≡ slice_index b 0 → m ≡ u.place → same ≡ (line == m.line) → flow ≡ in_flow u
+pub may_not_follow : (line : ℕ) (a b : List ℕ) (h u : Held) (m : Position) (c : ℕ) (flow same fits : Bool) → skip_spaces Yes (record { rest = a; held = h }) ≡ Ok (record { rest = b; held = u }) → c ≡ slice_index b 0 → m ≡ u.position → same ≡ (line == m.line) → flow ≡ in_flow u
     → fits ≡ may_follow_quoted flow same c → fits ≡ false → check_after_quoted line (record { rest = a; held = h }) ≡ Err (At problem.ContentAfterQuoted m)
 unfolding check_after_quoted
 may_not_follow line a b h u m c flow same fits e f g i j k l =
-    let at : may_follow_quoted (in_flow u) (line == u.place.line) (peek b) ≡ false = rw (peek_first b, ← f, ← j, ← g, ← i, ← k) l in
+    let at : may_follow_quoted (in_flow u) (line == u.position.line) (peek b) ≡ false = rw (peek_first b, ← f, ← j, ← g, ← i, ← k) l in
     rw (e, at, g) refl
 
 pub nothing_follows : (line : ℕ) (a : List ℕ) (h : Held) (x : Fault) → skip_spaces Yes (record { rest = a; held = h }) ≡ Err x → check_after_quoted line (record { rest = a; held = h }) ≡ Err x
@@ -109,13 +109,13 @@ pub does_held : {T : Type 0} {h : ScannerState → Result ScannerState Fault} (x
 does_held x y e f = record { runs = Reads-along _ _ _ _ refl e (Reads-map _ _ (Reads-none x.window) (λ a b p. rw p (f a))) }
 
 -- what is held stays where more of the text was looked at
-pub held_same : {T : Type 0} (x y : Fetcher T) (w : Reading T) → SamePlace x.window w → y ≡ record x { window = w } → held y ≡ held x
-held_same x y w same e = ap held e ∙ ap (λ p. record (held x) { place = p }) (same_place x.window w same)
+pub held_same : {T : Type 0} (x y : Fetcher T) (w : Reading T) → SamePosition x.window w → y ≡ record x { window = w } → held y ≡ held x
+held_same x y w same e = ap held e ∙ ap (λ p. record (held x) { position = p }) (same_position x.window w same)
 
 -- quoted scalars
 
 pub quoted_ended : (line : ℕ) (a b d : List ℕ) (h u v w : Held) (n : ℕ) → check_after_quoted line (record { rest = a; held = h }) ≡ Ok (record { rest = b; held = u })
-    → skip_to_next_token (record { rest = b; held = u }) ≡ Ok (record { rest = d; held = v }) → n ≡ v.place.index → w ≡ record v { adjacent_value_at = n } → end_quoted line (record { rest = a; held = h }) ≡ Ok (record { rest = d; held = w })
+    → skip_to_next_token (record { rest = b; held = u }) ≡ Ok (record { rest = d; held = v }) → n ≡ v.position.index → w ≡ record v { adjacent_value_at = n } → end_quoted line (record { rest = a; held = h }) ≡ Ok (record { rest = d; held = w })
 unfolding end_quoted
 quoted_ended line a b d h u v w n e f g i = rw (e, f, i, g) refl
 
@@ -145,29 +145,29 @@ tail_err (Ok u) k f g x h = last (k u) h
     last (Err e) h = cc
     last (Ok v) h = absurd cc
 
-pub flow_read : (single : Bool) (a b d : List ℕ) (h u v w : Held) (x : Context) (p q m : Position) (n : ℕ) (text : List ℕ) (y : Style) → u ≡ save_implicit_key h → x ≡ context (record u { key_allowed = false }) → q ≡ h.place
-    → quoted single x a q ≡ Ok (record { rest = b; place = p; value = text }) → m ≡ h.place → n ≡ m.line → end_quoted n (record { rest = b; held = record u { place = p; key_allowed = false; leading = false } }) ≡ Ok (record { rest = d; held = v })
+pub flow_read : (single : Bool) (a b d : List ℕ) (h u v w : Held) (x : Context) (p q m : Position) (n : ℕ) (text : List ℕ) (y : Style) → u ≡ save_implicit_key h → x ≡ context (record u { key_allowed = false }) → q ≡ h.position
+    → quoted single x a q ≡ Ok (record { rest = b; position = p; value = text }) → m ≡ h.position → n ≡ m.line → end_quoted n (record { rest = b; held = record u { position = p; key_allowed = false; leading = false } }) ≡ Ok (record { rest = d; held = v })
     → y ≡ quoted_style single → w ≡ push m (Tok.scalar y text) v → fetch_flow_scalar single (record { rest = a; held = h }) ≡ Ok (record { rest = d; held = w })
 unfolding fetch_flow_scalar end_quoted
 flow_read single a b d h u v w x p q m n text y e i k l f o r j g =
     let l' = rw (i, k, e) at l in
     let r' = rw (o, f, e) at r in
-    let t = tail_ok _ skip_to_next_token adjacent_here (λ s. push h.place (Tok.scalar (quoted_style single) text) s) _ r' in
+    let t = tail_ok _ skip_to_next_token adjacent_here (λ s. push h.position (Tok.scalar (quoted_style single) text) s) _ r' in
     rw (l', g, j, f) t
 
-pub flow_not_read : (single : Bool) (a : List ℕ) (h u : Held) (x : Context) (q : Position) (z : Fault) → u ≡ save_implicit_key h → x ≡ context (record u { key_allowed = false }) → q ≡ h.place → quoted single x a q ≡ Err z
+pub flow_not_read : (single : Bool) (a : List ℕ) (h u : Held) (x : Context) (q : Position) (z : Fault) → u ≡ save_implicit_key h → x ≡ context (record u { key_allowed = false }) → q ≡ h.position → quoted single x a q ≡ Err z
     → fetch_flow_scalar single (record { rest = a; held = h }) ≡ Err z
 unfolding fetch_flow_scalar
 flow_not_read single a h u x q z e i k l = let l' = rw (i, k, e) at l in rw l' refl
 
-pub flow_not_ended : (single : Bool) (a b : List ℕ) (h u : Held) (x : Context) (p q m : Position) (n : ℕ) (text : List ℕ) (z : Fault) → u ≡ save_implicit_key h → x ≡ context (record u { key_allowed = false }) → q ≡ h.place
-    → quoted single x a q ≡ Ok (record { rest = b; place = p; value = text }) → m ≡ h.place → n ≡ m.line → end_quoted n (record { rest = b; held = record u { place = p; key_allowed = false; leading = false } }) ≡ Err z
+pub flow_not_ended : (single : Bool) (a b : List ℕ) (h u : Held) (x : Context) (p q m : Position) (n : ℕ) (text : List ℕ) (z : Fault) → u ≡ save_implicit_key h → x ≡ context (record u { key_allowed = false }) → q ≡ h.position
+    → quoted single x a q ≡ Ok (record { rest = b; position = p; value = text }) → m ≡ h.position → n ≡ m.line → end_quoted n (record { rest = b; held = record u { position = p; key_allowed = false; leading = false } }) ≡ Err z
     → fetch_flow_scalar single (record { rest = a; held = h }) ≡ Err z
 unfolding fetch_flow_scalar end_quoted
 flow_not_ended single a b h u x p q m n text z e i k l f o r =
     let l' = rw (i, k, e) at l in
     let r' = rw (o, f, e) at r in
-    let t = tail_err _ skip_to_next_token adjacent_here (λ s. push h.place (Tok.scalar (quoted_style single) text) s) _ r' in
+    let t = tail_err _ skip_to_next_token adjacent_here (λ s. push h.position (Tok.scalar (quoted_style single) text) s) _ r' in
     rw l' t
 
 -- the end of a document
@@ -178,7 +178,7 @@ unfolding fetch_document_end check_document_end
 document_ended a b d h u v c t e f g i j = let k : is_breakz (peek d) ≡ true = rw (peek_first d, ← g, ← i) j in rw (e, f, k) refl
 
 pub content_after : (a b d : List ℕ) (h u v : Held) (c : ℕ) (t : Bool) (m : Position) → fetch_document_marker Tok.document_end (record { rest = a; held = h }) ≡ Ok (record { rest = b; held = u }) → skip_spaces Yes (record { rest = b; held = u }) ≡ Ok (record { rest = d; held = v })
-    → c ≡ slice_index d 0 → t ≡ is_breakz c → t ≡ false → m ≡ v.place → fetch_document_end (record { rest = a; held = h }) ≡ Err (At problem.ContentAfterDocumentEnd m)
+    → c ≡ slice_index d 0 → t ≡ is_breakz c → t ≡ false → m ≡ v.position → fetch_document_end (record { rest = a; held = h }) ≡ Err (At problem.ContentAfterDocumentEnd m)
 unfolding fetch_document_end check_document_end
 content_after a b d h u v c t m e f g i j n = let k : is_breakz (peek d) ≡ false = rw (peek_first d, ← g, ← i) j in rw (e, f, k, n) refl
 

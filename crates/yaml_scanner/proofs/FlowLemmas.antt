@@ -24,7 +24,7 @@ deep_test n h = grind (arith, nat_tests)
 flat_test : (n : ℕ) → n < 255 → nat_le 255 n ≡ false
 flat_test n h = grind (arith, nat_tests)
 
-pub too_deep : (k : FlowLevel) (h : Held) (n : ℕ) (p : Position) → n ≡ length h.flow → 255 ≤ n → p ≡ h.place → increase_flow_level k h ≡ Err (At problem.FlowTooDeep p)
+pub too_deep : (k : FlowLevel) (h : Held) (n : ℕ) (p : Position) → n ≡ length h.flow → 255 ≤ n → p ≡ h.position → increase_flow_level k h ≡ Err (At problem.FlowTooDeep p)
 unfolding increase_flow_level
 too_deep k h n p e l q = let t : nat_le 255 (length h.flow) ≡ true = rw (← e) (deep_test n l) in rw (t, q) refl
 
@@ -45,7 +45,7 @@ pub indicator_passed : {T : Type 0} (a b : List ℕ) (c : ℕ) (x y : Fetcher T)
 unfolding pass_indicator
 indicator_passed a b c x y e f = rw (e, f) refl
 
-pub started : (k : FlowLevel) (t : Tok) (a b : List ℕ) (h u v w : Held) (p : Position) → begin_flow k h ≡ Ok u → pass_indicator (record { rest = a; held = u }) ≡ Ok (record { rest = b; held = v }) → p ≡ h.place → w ≡ push p t v
+pub started : (k : FlowLevel) (t : Tok) (a b : List ℕ) (h u v w : Held) (p : Position) → begin_flow k h ≡ Ok u → pass_indicator (record { rest = a; held = u }) ≡ Ok (record { rest = b; held = v }) → p ≡ h.position → w ≡ push p t v
     → fetch_flow_collection_start k t (record { rest = a; held = h }) ≡ Ok (record { rest = b; held = w })
 unfolding fetch_flow_collection_start
 started k t a b h u v w p e f g i = rw (e, f, i, g) refl
@@ -74,7 +74,7 @@ pub entry_refused : (h : Held) (x : Fault) → remove_implicit_key h ≡ Err x �
 unfolding end_entry
 entry_refused h x e = rw e refl
 
-pub ended : (t : Tok) (a b : List ℕ) (h u v w x : Held) (p : Position) → end_flow h ≡ Ok u → pass_indicator (record { rest = a; held = u }) ≡ Ok (record { rest = b; held = v }) → p ≡ h.place → w ≡ adjacent_in_flow v → x ≡ push p t w
+pub ended : (t : Tok) (a b : List ℕ) (h u v w x : Held) (p : Position) → end_flow h ≡ Ok u → pass_indicator (record { rest = a; held = u }) ≡ Ok (record { rest = b; held = v }) → p ≡ h.position → w ≡ adjacent_in_flow v → x ≡ push p t w
     → fetch_flow_collection_end t (record { rest = a; held = h }) ≡ Ok (record { rest = b; held = x })
 unfolding fetch_flow_collection_end
 ended t a b h u v w x p e f g i j = let j' = rw (i, g) at j in rw (e, f, j') refl
@@ -87,7 +87,7 @@ pub not_ended : (t : Tok) (a : List ℕ) (h : Held) (x : Fault) → end_flow h �
 unfolding fetch_flow_collection_end
 not_ended t a h x e = rw e refl
 
-pub entered : (a b : List ℕ) (h u v w : Held) (p : Position) → end_entry h ≡ Ok u → pass_indicator (record { rest = a; held = u }) ≡ Ok (record { rest = b; held = v }) → p ≡ h.place → w ≡ push p Tok.flow_entry v
+pub entered : (a b : List ℕ) (h u v w : Held) (p : Position) → end_entry h ≡ Ok u → pass_indicator (record { rest = a; held = u }) ≡ Ok (record { rest = b; held = v }) → p ≡ h.position → w ≡ push p Tok.flow_entry v
     → fetch_flow_entry (record { rest = a; held = h }) ≡ Ok (record { rest = b; held = w })
 unfolding fetch_flow_entry
 entered a b h u v w p e f g i = rw (e, f, i, g) refl
@@ -100,11 +100,11 @@ pub not_entered : (a : List ℕ) (h : Held) (x : Fault) → end_entry h ≡ Err 
 unfolding fetch_flow_entry
 not_entered a h x e = rw e refl
 
-pub pair_ended : (h u v : Held) (fs : List FlowLevel) (p : Position) → top h.flow ≡ Some Pair → fs ≡ with_top Entry h.flow → p ≡ h.place → u ≡ record h { flow = fs } → v ≡ push p Tok.flow_mapping_end u → v ≡ end_flow_pair h
+pub pair_ended : (h u v : Held) (fs : List FlowLevel) (p : Position) → top h.flow ≡ Some Pair → fs ≡ with_top Entry h.flow → p ≡ h.position → u ≡ record h { flow = fs } → v ≡ push p Tok.flow_mapping_end u → v ≡ end_flow_pair h
 unfolding end_flow_pair
 pair_ended h u v fs p t f q e i = i ∙ rw (e, f, q) (by_top h h.flow t)
   where
-    by_top : (h : Held) (gs : List FlowLevel) → top gs ≡ Some Pair → push h.place Tok.flow_mapping_end (record h { flow = with_top Entry gs }) ≡ end_pair gs h
+    by_top : (h : Held) (gs : List FlowLevel) → top gs ≡ Some Pair → push h.position Tok.flow_mapping_end (record h { flow = with_top Entry gs }) ≡ end_pair gs h
     by_top h [] t = absurd (cc)
     by_top h (Pair ∷ gs) t = refl
     by_top h (Mapping ∷ gs) t = absurd (cc)
@@ -163,7 +163,7 @@ pub not_decreased : (h : Held) (fs : List FlowLevel) → h.flow ≡ [] → fs �
 unfolding decrease_flow_level
 not_decreased h fs e f = rw (e, f) refl
 
-pub adjacent : (h : Held) (b : Bool) (n : ℕ) → b ≡ in_flow h → b ≡ true → n ≡ h.place.index → record h { adjacent_value_at = n } ≡ adjacent_in_flow h
+pub adjacent : (h : Held) (b : Bool) (n : ℕ) → b ≡ in_flow h → b ≡ true → n ≡ h.position.index → record h { adjacent_value_at = n } ≡ adjacent_in_flow h
 unfolding adjacent_in_flow
 adjacent h b n e f q = let t : in_flow h ≡ true = sym e ∙ f in rw (t, q) refl
 

@@ -55,7 +55,7 @@ fetched_on x y k g f d m n = λ a p.
     let run : Reaches (start a) (state (drop y.window.at a) y) = one_more (old.run k g) g (d.runs.reads a p) in
     record {
       run = λ _ _. run;
-      all = λ _ e. record { whole = record { end = state (drop y.window.at a) y; run = run; ended = e; tokens = refl }; place = refl; began = refl };
+      all = λ _ e. record { whole = record { end = state (drop y.window.at a) y; run = run; ended = e; tokens = refl }; position = refl; began = refl };
       done = λ _ e. n e;
       reached = rw m.given old.reached;
       begins = λ ts h. rw m.given (old.begins ts h);
@@ -253,7 +253,7 @@ is_refusal (Some k) a r = by k.fault k.mark r
   where
     by : (e : Fault) (m : Position) → (e ≢ OutOfMemory → IsRefused a e) → (fault_of e m).memory ≡ false → IsRefusal a (fault_of e m)
     by OutOfMemory m r n = absurd cc
-    by (At q p) m r n = record { fault = At q p; place = m; refused = r (λ e. absurd cc); shown = refl; stands = λ n s. faults_stand a (At q p) (no_nul a n) (r (λ e. absurd cc)) s }
+    by (At q p) m r n = record { fault = At q p; position = m; refused = r (λ e. absurd cc); shown = refl; stands = λ n s. faults_stand a (At q p) (no_nul a n) (r (λ e. absurd cc)) s }
 
 one_refusal : (f : Option KeptFault) (a : List ℕ) → IfSome f (λ k. k.fault ≢ OutOfMemory → IsRefused a k.fault) → (e : Fault) → IsRefused a e → IfSome (option_map kept_fault f) (λ x. x.memory ≡ false → (p : Position) × (x ≡ fault_of e p))
 one_refusal None a r e i = tt
@@ -278,7 +278,7 @@ scans_from x f = record {
         whole = s.whole;
         begun = λ o n. begun_cut (handed x.tokens) a s.reached (s.open_end o) n;
         cut = λ o n. tokens_are_cut a (handed x.tokens) (no_nul a n) (s.whole o);
-        place = λ k e n. in_text x a s (none_kept x.kept k) (no_nul a n) e;
+        position = λ k e n. in_text x a s (none_kept x.kept k) (no_nul a n) e;
         end = λ k e n. at_end x a s (none_kept x.kept k) (no_nul a n) e;
         none = λ k n b. not_started x a s (none_kept x.kept k) (no_nul a n) b;
         some = λ k n b. has_started x a s (none_kept x.kept k) (no_nul a n) b;

@@ -10,7 +10,7 @@ one_on g n e = grind (arith, nat_tests)
 
 lowered_key : (g : ℕ) (k : Option ImplicitKey) → is_front k ≡ false → key_of (g + 1) (lowered k) ≡ key_of g k
 lowered_key g None e = refl
-lowered_key g (Some k) e = ap (λ n. Some (record { required = k.required; number = n; place = k.mark })) (one_on g k.place e)
+lowered_key g (Some k) e = ap (λ n. Some (record { required = k.required; number = n; position = k.mark })) (one_on g k.position e)
 
 or_false : (b c : Bool) → b || c ≡ false → (b ≡ false) × (c ≡ false)
 or_false true c h = absurd (cc)

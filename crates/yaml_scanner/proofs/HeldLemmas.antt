@@ -29,7 +29,7 @@ pick_true : {A : Type 0} (b : Bool) (x y z : A) → b ≡ true → z ≡ x → z
 pick_true true x y z e f = f
 pick_true false x y z e f = absurd (cc)
 
-pub saved : (h : Held) (k : Key) (ks : List (Option Key)) → h.key_allowed ≡ true → k ≡ record { required = must_be_key h; number = length h.tokens; place = h.place } → ks ≡ with_top (Some k) h.keys
+pub saved : (h : Held) (k : Key) (ks : List (Option Key)) → h.key_allowed ≡ true → k ≡ record { required = must_be_key h; number = length h.tokens; position = h.position } → ks ≡ with_top (Some k) h.keys
     → record h { keys = ks } ≡ save_implicit_key h
 unfolding save_implicit_key
 saved h k ks a e f = pick_true h.key_allowed _ h (record h { keys = ks }) a (ap (λ x. record h { keys = x }) (f ∙ ap (λ x. with_top (Some x) h.keys) e))
@@ -42,7 +42,7 @@ pub removed : (h : Held) (ks : List (Option Key)) (b : Bool) → b ≡ is_requir
 unfolding remove_implicit_key
 removed h ks b e f k = let g : is_required (top_key h.keys) ≡ false = sym e ∙ f in rw (g, k) refl
 
-pub not_removed : (h : Held) (b : Bool) (p : Position) → b ≡ is_required (top_key h.keys) → b ≡ true → p ≡ h.place → remove_implicit_key h ≡ Err (At problem.KeyExpected p)
+pub not_removed : (h : Held) (b : Bool) (p : Position) → b ≡ is_required (top_key h.keys) → b ≡ true → p ≡ h.position → remove_implicit_key h ≡ Err (At problem.KeyExpected p)
 unfolding remove_implicit_key
 not_removed h b p e f k = let g : is_required (top_key h.keys) ≡ true = sym e ∙ f in rw (g, k) refl
 
@@ -50,11 +50,11 @@ pub stale_in_flow : (h : Held) (b : Bool) → b ≡ in_flow h → b ≡ true →
 unfolding stale
 stale_in_flow h b e f = let g : in_flow h ≡ true = sym e ∙ f in rw g refl
 
-pub stale_dropped : (h : Held) (ks : List (Option Key)) (b : Bool) (p : Position) → b ≡ in_flow h → b ≡ false → p ≡ h.place → drop_stale p h.keys ≡ Ok ks → stale h ≡ Ok (record h { keys = ks })
+pub stale_dropped : (h : Held) (ks : List (Option Key)) (b : Bool) (p : Position) → b ≡ in_flow h → b ≡ false → p ≡ h.position → drop_stale p h.keys ≡ Ok ks → stale h ≡ Ok (record h { keys = ks })
 unfolding stale
 stale_dropped h ks b p e f k d = let g : in_flow h ≡ false = sym e ∙ f in let d' = rw k at d in rw (g, d') refl
 
-pub stale_failed : (h : Held) (x : Fault) (b : Bool) (p : Position) → b ≡ in_flow h → b ≡ false → p ≡ h.place → drop_stale p h.keys ≡ Err x → stale h ≡ Err x
+pub stale_failed : (h : Held) (x : Fault) (b : Bool) (p : Position) → b ≡ in_flow h → b ≡ false → p ≡ h.position → drop_stale p h.keys ≡ Err x → stale h ≡ Err x
 unfolding stale
 stale_failed h x b p e f k d = let g : in_flow h ≡ false = sym e ∙ f in let d' = rw k at d in rw (g, d') refl
 
@@ -134,7 +134,7 @@ pub unroll_in_flow : (limit : ℕ) (h : Held) (b : Bool) → b ≡ in_flow h →
 unfolding unroll_indent
 unroll_in_flow limit h b e f = let g : in_flow h ≡ true = sym e ∙ f in rw g refl
 
-pub unroll_done : (limit : ℕ) (h u : Held) (l : Levels) → in_flow h ≡ false → unrolled limit h.place h.indent h.indents h.tokens ≡ l → u ≡ with_levels h l → u ≡ unroll_indent limit h
+pub unroll_done : (limit : ℕ) (h u : Held) (l : Levels) → in_flow h ≡ false → unrolled limit h.position h.indent h.indents h.tokens ≡ l → u ≡ with_levels h l → u ≡ unroll_indent limit h
 unfolding unroll_indent
 unroll_done limit h u l g e f = rw (g, e) f
 
@@ -142,9 +142,9 @@ pub unroll_shallow : (limit : ℕ) (h : Held) → h.indent ≤ limit → h ≡ u
 unfolding unroll_indent
 unroll_shallow limit h e = by (in_flow h) refl
   where
-    by : (b : Bool) → in_flow h ≡ b → h ≡ (if in_flow h then h else with_levels h (unrolled limit h.place h.indent h.indents h.tokens))
+    by : (b : Bool) → in_flow h ≡ b → h ≡ (if in_flow h then h else with_levels h (unrolled limit h.position h.indent h.indents h.tokens))
     by true g = rw g refl
-    by false g = rw (g, unrolled_done limit h.place h.indent h.indents h.tokens e) refl
+    by false g = rw (g, unrolled_done limit h.position h.indent h.indents h.tokens e) refl
 
 pub without_block : (i : ℕ) (ds : List Indent) (ts : List Token) → ends_open ds ≡ false → without_open i ds ts ≡ record { indent = i; indents = ds; tokens = ts }
 unfolding without_open

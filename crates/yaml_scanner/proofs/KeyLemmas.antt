@@ -8,7 +8,7 @@ use Rattle.yaml_tokens.specs.declared.problem.Problem.TheVariants as problem
 use Rattle.model_scanner.specs.State.{pop, with_top}
 use Rattle.model_scanner.specs.Keys.{is_far, is_overdue, still, drop_stale, is_required, has_required, cleared, top_key}
 use Rattle.yaml_scanner.specs.declared.keys.ImplicitKey.{ImplicitKey}
-use Rattle.yaml_scanner.specs.ImplicitKeys.{key_of, seen, still_simple, no_simple, top_simple}
+use Rattle.yaml_scanner.specs.ImplicitKeys.{key_of, seen, still_implicit, no_implicit, top_implicit}
 use Rattle.yaml_scanner.proofs.StackLemmas as stack
 
 pub popped : {A : Type 0} (xs ys : List A) (x : A) → xs ≡ ys ++ x ∷ [] → reverse ys ≡ pop (reverse xs)
@@ -52,11 +52,11 @@ still_pick : (b : Bool) (g : ℕ) (k : ImplicitKey) → key_of g (if b then None
 still_pick true g k = refl
 still_pick false g k = refl
 
-still_of : (p : Position) (g : ℕ) (k : Option ImplicitKey) → key_of g (still_simple p k) ≡ still p (key_of g k)
+still_of : (p : Position) (g : ℕ) (k : Option ImplicitKey) → key_of g (still_implicit p k) ≡ still p (key_of g k)
 still_of p g None = refl
 still_of p g (Some k) = still_pick (is_far k.mark p) g k
 
-still_all : (p : Position) (g : ℕ) (ks : List (Option ImplicitKey)) → map (key_of g) (map (still_simple p) ks) ≡ map (still p) (map (key_of g) ks)
+still_all : (p : Position) (g : ℕ) (ks : List (Option ImplicitKey)) → map (key_of g) (map (still_implicit p) ks) ≡ map (still p) (map (key_of g) ks)
 still_all p g [] = refl
 still_all p g (k ∷ ks) = rw (still_of p g k, still_all p g ks) refl
 
@@ -66,11 +66,11 @@ overdue_seen p g ks h =
     let e : list_any (is_overdue p) (map (key_of g) (reverse ks)) ≡ true = overdue_all p g (reverse ks) ∙ any_reversed (λ k. is_overdue p (key_of 0 k)) ks ∙ h in
     rw e refl
 
-pub still_seen : (p : Position) (g : ℕ) (ks ls : List (Option ImplicitKey)) → list_any (λ k. is_overdue p (key_of 0 k)) ks ≡ false → ls ≡ map (still_simple p) ks → drop_stale p (seen g (reverse ks)) ≡ Ok (seen g (reverse ls))
+pub still_seen : (p : Position) (g : ℕ) (ks ls : List (Option ImplicitKey)) → list_any (λ k. is_overdue p (key_of 0 k)) ks ≡ false → ls ≡ map (still_implicit p) ks → drop_stale p (seen g (reverse ks)) ≡ Ok (seen g (reverse ls))
 unfolding drop_stale
 still_seen p g ks ls h f =
     let e : list_any (is_overdue p) (map (key_of g) (reverse ks)) ≡ false = overdue_all p g (reverse ks) ∙ any_reversed (λ k. is_overdue p (key_of 0 k)) ks ∙ h in
-    rw (e, f, ← map_reversed (still_simple p) ks, still_all p g (reverse ks)) refl
+    rw (e, f, ← map_reversed (still_implicit p) ks, still_all p g (reverse ks)) refl
 
 required_of : (g : ℕ) (k : Option ImplicitKey) → is_required (key_of g k) ≡ is_required (key_of 0 k)
 required_of g None = refl
@@ -83,14 +83,14 @@ required_all g (k ∷ ks) = rw (required_of g k, required_all g ks) refl
 pub required_seen : (g : ℕ) (ks : List (Option ImplicitKey)) → list_any (λ k. is_required (key_of 0 k)) ks ≡ has_required (seen g (reverse ks))
 required_seen g ks = sym (required_all g (reverse ks) ∙ any_reversed (λ k. is_required (key_of 0 k)) ks)
 
-cleared_all : (g : ℕ) (ks : List (Option ImplicitKey)) → map (key_of g) (map no_simple ks) ≡ cleared (map (key_of g) ks)
+cleared_all : (g : ℕ) (ks : List (Option ImplicitKey)) → map (key_of g) (map no_implicit ks) ≡ cleared (map (key_of g) ks)
 cleared_all g [] = refl
 cleared_all g (k ∷ ks) = rw (cleared_all g ks) refl
 
-pub cleared_seen : (g : ℕ) (ks ls : List (Option ImplicitKey)) → ls ≡ map no_simple ks → seen g (reverse ls) ≡ cleared (seen g (reverse ks))
-cleared_seen g ks ls e = rw (e, ← map_reversed no_simple ks) (cleared_all g (reverse ks))
+pub cleared_seen : (g : ℕ) (ks ls : List (Option ImplicitKey)) → ls ≡ map no_implicit ks → seen g (reverse ls) ≡ cleared (seen g (reverse ks))
+cleared_seen g ks ls e = rw (e, ← map_reversed no_implicit ks) (cleared_all g (reverse ks))
 
-pub required_top : (g : ℕ) (k : Option ImplicitKey) (ks : List (Option ImplicitKey)) → k ≡ top_simple ks → is_required (key_of 0 k) ≡ is_required (top_key (seen g ks))
+pub required_top : (g : ℕ) (k : Option ImplicitKey) (ks : List (Option ImplicitKey)) → k ≡ top_implicit ks → is_required (key_of 0 k) ≡ is_required (top_key (seen g ks))
 required_top g k [] e = rw e refl
 required_top g k (l ∷ ks) e = rw e (sym (required_of g l))
 
@@ -98,7 +98,7 @@ pub with_top_seen : (g : ℕ) (k : Option ImplicitKey) (ks : List (Option Implic
 with_top_seen g k [] = refl
 with_top_seen g k (l ∷ ks) = refl
 
-pub top_seen : (g : ℕ) (ks : List (Option ImplicitKey)) → top_key (seen g ks) ≡ key_of g (top_simple ks)
+pub top_seen : (g : ℕ) (ks : List (Option ImplicitKey)) → top_key (seen g ks) ≡ key_of g (top_implicit ks)
 top_seen g [] = refl
 top_seen g (l ∷ ks) = refl
 

@@ -9,7 +9,7 @@ use Rattle.yaml_tokens.specs.Shown.{shown, tok_of}
 use Rattle.yaml_scanner.specs.Tokens.{is_end, has_end, end_at}
 use Rattle.defs_text.specs.Position.{Position}
 use Rattle.defs_token.specs.Token as seen
-use Rattle.model_scanner.specs.Block.{property_place, last_property}
+use Rattle.model_scanner.specs.Block.{property_position, last_property}
 
 length_shown : (w : List Token) → length (map shown w) ≡ length w
 length_shown [] = refl
@@ -45,7 +45,7 @@ drop_min i xs = elim (cases_lt i (length xs)) [
 insert_min : {X : Type 0} (xs : List X) (i : ℕ) (x : X) → insert xs (min i (length xs)) x ≡ insert xs i x
 insert_min xs i x = rw (take_min i xs, drop_min i xs) refl
 
--- a place past the end is the end
+-- a position past the end is the end
 pub insert_min_shown : (g w v : List Token) (i : ℕ) (t : Token) → v ≡ insert w (min i (length w)) t → map shown g ++ map shown v ≡ insert (map shown g ++ map shown w) (length g + i) (shown t)
 insert_min_shown g w v i t e = insert_shown g w v i t (e ∙ insert_min w i t)
 
@@ -89,7 +89,7 @@ last_after (x ∷ []) y ys = refl
 last_after (x ∷ z ∷ xs) y ys = last_after (z ∷ xs) y ys
 
 -- a token after all is the last
-pub push_last : (g w v : List Token) (t : Token) → v ≡ w ++ t ∷ [] → property_place (shown t).tok (shown t).place ≡ last_property (map shown g ++ map shown v)
+pub push_last : (g w v : List Token) (t : Token) → v ≡ w ++ t ∷ [] → property_position (shown t).tok (shown t).position ≡ last_property (map shown g ++ map shown v)
 push_last g w v t e = sym (ap last_property (push_shown g w v t e) ∙ last_after (map shown g ++ map shown w) (shown t) [])
 
 after_last : (xs zs : List seen.Token) (x y : seen.Token) (ys : List seen.Token) → zs ≡ y ∷ ys → last_property (xs ++ x ∷ zs) ≡ last_property (xs ++ zs)
@@ -113,8 +113,8 @@ pub give_last : (g h w v : List Token) (t : Token) → w ≡ t ∷ v → h ≡ g
 give_last g h w v t e f = ap last_property (sym (give_shown g h w v t e f))
 
 pub end_last : (g w v : List Token) (t : Token) (p : Position) → shown t ≡ end_at p → v ≡ w ++ t ∷ [] → ◌≡◌ {A = Option Position} None (last_property (map shown g ++ map shown v))
-end_last g w v t p end e = ap (λ (s : seen.Token). property_place s.tok s.place) (sym end) ∙ push_last g w v t e
+end_last g w v t p end e = ap (λ (s : seen.Token). property_position s.tok s.position) (sym end) ∙ push_last g w v t e
 
--- a place after all is the end
+-- a position after all is the end
 pub insert_end : (w v : List Token) (i : ℕ) (t : Token) → i ≡ length w → v ≡ insert w i t → v ≡ w ++ t ∷ []
 insert_end w v i t e f = f ∙ rw (take_all i w (omega arith), drop_all i w (omega arith)) refl

@@ -2,12 +2,12 @@
 use Rattle.std.proofs.Common.{◌≡◌, ℕ, zero, suc, ◌+◌, ◌-◌, ◌<◌, List, [], ◌∷◌, Bool, true, false, refl, ap, sym, ◌∙◌, arith, None, length, take, drop}
 use Rattle.std.proofs.lemmas.List.{length-take}
 use Rattle.defs_token.specs.Token.{Token}
-use Rattle.yaml_chars.specs.Reading.{place_of}
+use Rattle.yaml_chars.specs.Reading.{position_of}
 use Rattle.defs_text.specs.Text.{is_empty}
 use Rattle.defs_text.specs.Position.{first_position, position_after}
 use Rattle.model_scanner.specs.Document.{next_line}
 use Rattle.proof_lexers.specs.PlainEnds.{has_no_nul}
-use Rattle.proof_cut.specs.Places.{IsPlaceIn}
+use Rattle.proof_cut.specs.Positions.{IsPositionIn}
 use Rattle.proof_cut.proofs.Reached.{run_is_where}
 use Rattle.yaml_scanner.specs.declared.fetcher.Fetcher.{Fetcher}
 use Rattle.yaml_scanner.specs.Shape.{state}
@@ -27,11 +27,11 @@ some_of n [] e = absurd cc
 some_of n (x ∷ xs) e = rw (length-take n (x ∷ xs)) (omega arith)
 
 module _ {T : Type 0} (x : Fetcher T) (a : List ℕ) (old : FollowsIn a x) (kept : x.kept ≡ None) (nul : has_no_nul a ≡ true) where
-  pub in_text : x.tokens.ended ≡ false → IsPlaceIn a (drop x.window.at a) (place_of x.window)
+  pub in_text : x.tokens.ended ≡ false → IsPositionIn a (drop x.window.at a) (position_of x.window)
   in_text e = (run_is_where a (state (drop x.window.at a) x) nul (old.run kept e)).going e
 
-  pub at_end : x.tokens.ended ≡ true → place_of x.window ≡ next_line (position_after first_position a [])
-  at_end e = let z = old.all kept e in sym z.place ∙ (run_is_where a z.whole.end nul z.whole.run).over z.whole.ended
+  pub at_end : x.tokens.ended ≡ true → position_of x.window ≡ next_line (position_after first_position a [])
+  at_end e = let z = old.all kept e in sym z.position ∙ (run_is_where a z.whole.end nul z.whole.run).over z.whole.ended
 
   pub not_started : x.started ≡ false → (handed x.tokens ≡ []) × (waiting x.tokens ≡ 0)
   not_started n = none_of x.tokens.given x.tokens.all (by x.tokens.ended refl)

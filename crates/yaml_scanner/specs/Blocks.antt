@@ -12,13 +12,13 @@ use Rattle.model_scanner.specs.Block.{check_dash, roll_entry, check_after_tab}
 
 -- after a `-` that was passed
 abbrev pub pass_dash : ScannerState → Result ScannerState Fault
-pass_dash t = lexed (space Yes t.rest t.held.place) t.held check_dash
+pass_dash t = lexed (space Yes t.rest t.held.position) t.held check_dash
 
 abbrev pub entry_level : ScannerState → Result ScannerState Fault
 entry_level t = Ok (roll_entry t)
 
 abbrev pub entered : Held → Held
-entered s = push s.place Tok.block_entry (allow_key true s)
+entered s = push s.position Tok.block_entry (allow_key true s)
 
 -- at the content of an entry
 abbrev pub begin_entry : ScannerState → Result ScannerState Fault
@@ -33,4 +33,4 @@ pass_key t = skip_yaml_whitespace (skip_indicator t)
 
 -- after the spaces and TABs of a `:`
 abbrev pub pass_tab : ScannerState → Result ScannerState Fault
-pass_tab t = lexed (space Yes t.rest t.held.place) t.held check_after_tab
+pass_tab t = lexed (space Yes t.rest t.held.position) t.held check_after_tab

@@ -1,7 +1,7 @@
 -- What was fetched and handed out, against the model's runs over each text that is still possible.
 use Rattle.std.specs.Prelude.{◌≡◌, ◌≢◌, ℕ, List, ◌++◌, drop, Bool, true, false, None, IfSome}
 use Rattle.defs_text.specs.Position.{Position}
-use Rattle.yaml_chars.specs.Reading.{Possible, place_of}
+use Rattle.yaml_chars.specs.Reading.{Possible, position_of}
 use Rattle.defs_token.specs.Token.{Token}
 use Rattle.yaml_tokens.specs.declared.problem.Fault.TheVariants.{OutOfMemory}
 use Rattle.model_scanner.specs.State.{ScannerState}
@@ -21,16 +21,16 @@ pub record IsReached (a : List ℕ) (given : List Token) : Type 0 where
   pub run : Reaches (start a) last
   pub begins : BeginsWith given last.held.tokens
 
--- these are all tokens of a text, and the run that met them ended at a place
+-- these are all tokens of a text, and the run that met them ended at a position
 pub record HasEnded (a : List ℕ) (ts : List Token) (p : Position) (started : Bool) : Type 0 where
   pub whole : HasTokens a ts
-  pub place : whole.end.held.place ≡ p
+  pub position : whole.end.held.position ≡ p
   pub began : whole.end.held.started ≡ started
 
 pub record FollowsIn {T : Type 0} (a : List ℕ) (s : Fetcher T) : Type 0 where
   -- where no fault is kept: the model reaches what is held, and has all tokens once the stream's end is among them
   pub run : s.kept ≡ None → s.tokens.ended ≡ false → Reaches (start a) (state (drop s.window.at a) s)
-  pub all : s.kept ≡ None → s.tokens.ended ≡ true → HasEnded a s.tokens.all (place_of s.window) s.started
+  pub all : s.kept ≡ None → s.tokens.ended ≡ true → HasEnded a s.tokens.all (position_of s.window) s.started
   -- the stream's end comes where no character is left to take
   pub done : s.kept ≡ None → s.tokens.ended ≡ true → s.window.done ≡ true
   -- what was handed out

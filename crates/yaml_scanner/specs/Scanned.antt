@@ -1,7 +1,7 @@
 -- What clauses see of a scanner.
 use Rattle.std.specs.Prelude.{◌≡◌, ℕ, ◌+◌, ◌<◌, List, [], ◌∷◌, ◌++◌, length, take, drop, Bool, true, false, Option, Some, None, IfSome, option_map, codes}
 use Rattle.defs_text.specs.Position.{Position, first_position, position_after}
-use Rattle.yaml_chars.specs.Reading.{place_of, HasNoNul}
+use Rattle.yaml_chars.specs.Reading.{position_of, HasNoNul}
 use Rattle.defs_token.specs.Token.{Token}
 use Rattle.yaml_tokens.specs.ErrorReport.{ErrorReport}
 use Rattle.yaml_tokens.specs.Problem.{fault_of}
@@ -10,7 +10,7 @@ use Rattle.defs_token.specs.Cut.{IsCut, IsCutOfBeginning}
 use Rattle.model_scanner.specs.Document.{next_line}
 use Rattle.model_scanner.specs.Run.{HasTokens, IsRefused}
 use Rattle.proof_cut.specs.Faults.{IsThere, is_shown}
-use Rattle.proof_cut.specs.Places.{IsPlaceIn}
+use Rattle.proof_cut.specs.Positions.{IsPositionIn}
 use Rattle.yaml_scanner.specs.declared.fetcher.Fetcher.{Fetcher}
 use Rattle.yaml_scanner.specs.declared.fetcher.KeptFault.{KeptFault}
 use Rattle.yaml_scanner.specs.Follows.{BeginsWith, IsReached}
@@ -28,7 +28,7 @@ pub record Scanned : Type 0 where
   pub stopped : Bool
   -- whether the stream's end was handed out
   pub ended : Bool
-  pub place : Position
+  pub position : Position
   -- a bound on the tokens that may still be handed out
   pub left : ℕ
   -- the characters taken from the iterator, and whether they are all
@@ -46,7 +46,7 @@ inside s = record {
   started = s.started;
   stopped = s.tokens.ended;
   ended = s.tokens.over;
-  place = place_of s.window;
+  position = position_of s.window;
   left = work s;
   taken = s.window.taken;
   done = s.window.done;
@@ -71,9 +71,9 @@ pub record MayBe (s : Scanned) (a : List ℕ) : Type 0 where
 -- a fault is the refusal of a text
 pub record IsRefusal (a : List ℕ) (f : ErrorReport) : Type 0 where
   pub fault : code.Fault
-  pub place : Position
+  pub position : Position
   pub refused : IsRefused a fault
-  pub shown : f ≡ fault_of fault place
+  pub shown : f ≡ fault_of fault position
   -- a fault that stands in a text by itself stands in this one: a bad escape, the end or a document marker inside a quoted scalar, a flow collection too deep, a dash in flow
   pub stands : HasNoNul a → is_shown fault ≡ true → IsThere a fault
 
@@ -88,9 +88,9 @@ pub record ScansIn (a : List ℕ) (s : Scanned) : Type 0 where
   -- the tokens are a cut of a beginning of the text; with the stream's end they are a cut of the whole text
   pub begun : s.ended ≡ false → HasNoNul a → IsCutOfBeginning s.given a
   pub cut : s.ended ≡ true → HasNoNul a → IsCut s.given a
-  -- where no fault is kept, the place is that after so many characters; after the stream's end, it is where a line begins after the text
-  pub place : s.fault ≡ None → s.stopped ≡ false → HasNoNul a → IsPlaceIn a (drop s.place.index a) s.place
-  pub end : s.fault ≡ None → s.stopped ≡ true → HasNoNul a → s.place ≡ next_line (position_after first_position a [])
+  -- where no fault is kept, the position is that after so many characters; after the stream's end, it is where a line begins after the text
+  pub position : s.fault ≡ None → s.stopped ≡ false → HasNoNul a → IsPositionIn a (drop s.position.index a) s.position
+  pub end : s.fault ≡ None → s.stopped ≡ true → HasNoNul a → s.position ≡ next_line (position_after first_position a [])
   -- where no fault is kept, the stream's start was fetched just where some token was
   pub none : s.fault ≡ None → HasNoNul a → s.started ≡ false → (s.given ≡ []) × (s.waiting ≡ 0)
   pub some : s.fault ≡ None → HasNoNul a → s.started ≡ true → 0 < length s.given + s.waiting

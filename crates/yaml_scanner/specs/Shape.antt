@@ -1,6 +1,6 @@
 -- The code's scanner as the model's state, and what the code's functions do to it.
 use Rattle.std.specs.Prelude.{◌≡◌, ◌≢◌, ℕ, List, Result, Ok, Err}
-use Rattle.yaml_chars.specs.Reading.{Reads, place_of}
+use Rattle.yaml_chars.specs.Reading.{Reads, position_of}
 use Rattle.yaml_tokens.specs.declared.problem.Fault.{Fault}
 use Rattle.yaml_tokens.specs.declared.problem.Fault.TheVariants.{OutOfMemory}
 use Rattle.model_scanner.specs.State.{Held, ScannerState}
@@ -9,7 +9,7 @@ use Rattle.yaml_scanner.specs.ImplicitKeys.{seen}
 
 abbrev pub held : {T : Type 0} → Fetcher T → Held
 held s = record {
-  place = place_of s.window;
+  position = position_of s.window;
   tokens = s.tokens.all;
   keys = seen s.tokens.given s.keys;
   indents = s.levels.indents;

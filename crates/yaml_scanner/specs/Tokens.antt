@@ -25,6 +25,6 @@ abbrev pub has_end : List Token → Bool
 has_end [] = false
 has_end (t ∷ ts) = is_end t.tok || has_end ts
 
--- the end of the stream, at a place
+-- the end of the stream, at a position
 abbrev pub end_at : Position → Token
-end_at p = record { place = p; tok = Tok.stream_end }
+end_at p = record { position = p; tok = Tok.stream_end }

@@ -72,23 +72,23 @@ impl<T: Iterator<Item = char>> Fetcher<T> {
 
     /// Refuses an entry at the first column after an anchor or a tag at the first column.
     fn check_margin(&self) -> Result<(), Fault>
-        ensures ok { OnOk result (at_margin (last_property (held self.now).tokens) (held self.now).place (held self.now) ≡ Ok (held self.now)) }
-        ensures fault { IfErr result (λ e. at_margin (last_property (held self.now).tokens) (held self.now).place (held self.now) ≡ Err e) }
+        ensures ok { OnOk result (at_margin (last_property (held self.now).tokens) (held self.now).position (held self.now) ≡ Ok (held self.now)) }
+        ensures fault { IfErr result (λ e. at_margin (last_property (held self.now).tokens) (held self.now).position (held self.now) ≡ Err e) }
     {
-        let Some(place) = self.tokens.property() else {
+        let Some(position) = self.tokens.property() else {
             return Ok(());
         };
-        if self.is_at_margin(place) {
-            return Err(Fault::At(Problem::AnchorIndentation, place));
+        if self.is_at_margin(position) {
+            return Err(Fault::At(Problem::AnchorIndentation, position));
         }
         Ok(())
     }
 
     /// Whether an entry here and an anchor or a tag both stand at the first column, inside a collection.
-    fn is_at_margin(&self, place: Marker) -> bool
-        ensures { result ≡ (((held self.now).place.col == 0) && (place.col == 0) && nat_lt 0 (held self.now).indent) }
+    fn is_at_margin(&self, position: Marker) -> bool
+        ensures { result ≡ (((held self.now).position.col == 0) && (position.col == 0) && nat_lt 0 (held self.now).indent) }
     {
-        self.window.mark().col() == 0 && place.col() == 0 && self.levels.indent() > 0
+        self.window.mark().col() == 0 && position.col() == 0 && self.levels.indent() > 0
     }
 
     /// Steps over spaces and TABs after a `-`.
@@ -334,26 +334,26 @@ impl<T: Iterator<Item = char>> Fetcher<T> {
         ensures moves { Moves self.old self.new 5 0 }
         ensures window { self.new.window ≡ self.old.window }
     {
-        self.put_token(key.place, key.mark, TokenType::Key)?;
+        self.put_token(key.position, key.mark, TokenType::Key)?;
         self.begin_pair(key, mark, opens_pair)?;
         let col = key.mark.col();
-        self.roll_indent(col, Some(key.place), Collection::Mapping, mark)?;
+        self.roll_indent(col, Some(key.position), Collection::Mapping, mark)?;
         self.roll_one_col_indent()?;
         self.keys.set_top(None);
         self.key_allowed = false;
         Ok(())
     }
 
-    /// Inserts a token at a place of the queue, counted from its front.
+    /// Inserts a token at a position of the queue, counted from its front.
     #[inline(always)]
-    fn put_token(&mut self, place: usize, mark: Marker, kind: TokenType) -> Result<(), Fault>
-        ensures held { OnOk result (held self.new ≡ put (self.old.tokens.given + place) mark (tok_of kind) (held self.old)) }
+    fn put_token(&mut self, position: usize, mark: Marker, kind: TokenType) -> Result<(), Fault>
+        ensures held { OnOk result (held self.new ≡ put (self.old.tokens.given + position) mark (tok_of kind) (held self.old)) }
         ensures given { OnOk result (self.new.tokens.given ≡ self.old.tokens.given) }
         ensures err { IfErr result (λ e. e ≡ Fault.OutOfMemory) }
         ensures moves { Moves self.old self.new 1 0 }
         ensures window { self.new.window ≡ self.old.window }
     {
-        self.tokens.insert(place, Token(mark, kind))?;
+        self.tokens.insert(position, Token(mark, kind))?;
         Ok(())
     }
 
@@ -373,7 +373,7 @@ impl<T: Iterator<Item = char>> Fetcher<T> {
             return Err(Fault::At(Problem::ColonMisplaced, mark));
         }
         let here = self.window.mark();
-        self.put_token(key.place, here, TokenType::FlowMappingStart)?;
+        self.put_token(key.position, here, TokenType::FlowMappingStart)?;
         Ok(())
     }
 

@@ -341,7 +341,7 @@ impl<T: Iterator<Item = char>> Fetcher<T> {
     fn skip_marker(&mut self)
         requires ahead { 3 ≤ self.old.window.ahead }
         requires has { HasChars 3 self.old.window }
-        ensures held { held self.new ≡ record (held self.old) { place = past (past (past (held self.old).place)); leading = false } }
+        ensures held { held self.new ≡ record (held self.old) { position = past (past (past (held self.old).position)); leading = false } }
         ensures reads { Reads self.old.window self.new.window (λ a b. after (after (after a)) ≡ b) }
         ensures moves { Moves self.old self.new 0 8 }
     {

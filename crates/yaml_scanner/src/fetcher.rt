@@ -10,7 +10,7 @@ use std::alloc::Global;
 use yaml_chars::{Marker, Window};
 use yaml_tokens::Fault;
 
-/// A fault that is kept, and the place where the scanner stood.
+/// A fault that is kept, and the position where the scanner stood.
 #[derive(Clone, Copy)]
 pub struct KeptFault {
     pub fault: Fault,
@@ -28,7 +28,7 @@ pub struct Fetcher<T: Iterator<Item = char>> {
     pub(crate) flow: Stack<FlowLevel>,
     // Whether a key without `?` may begin here.
     pub(crate) key_allowed: bool,
-    // Whether only blanks stand before this place on its line.
+    // Whether only blanks stand before this position on its line.
     pub(crate) leading: bool,
     // Where a `:` may stand right after a quoted scalar or a flow collection.
     pub(crate) adjacent_value_at: usize,

@@ -1,6 +1,6 @@
 //! Flow collections (YAML 1.2, section 7.4).
 ghost use Rattle.std.specs.Prelude.{◌≡◌, ◌<◌, ◌∷◌, [], OnOk, IfErr, Ok, Err, true, false, ◌≢◌, slice_index};
-ghost use Rattle.yaml_chars.specs.Reading.{HasChar, Reads, place_of, after_char};
+ghost use Rattle.yaml_chars.specs.Reading.{HasChar, Reads, position_of, after_char};
 ghost use Rattle.defs_token.specs.Token.{Tok};
 ghost use Rattle.yaml_tokens.specs.Shown.{tok_of};
 ghost use Rattle.model_scanner.specs.State.{push, with_top, top};

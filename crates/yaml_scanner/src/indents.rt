@@ -41,7 +41,7 @@ impl<T: Iterator<Item = char>> Fetcher<T> {
         if self.key_allowed {
             let key = ImplicitKey {
                 required: self.must_be_key(),
-                place: self.tokens.len(),
+                position: self.tokens.len(),
                 mark: self.window.mark(),
             };
             self.keys.set_top(Some(key));
@@ -79,17 +79,17 @@ impl<T: Iterator<Item = char>> Fetcher<T> {
         Ok(())
     }
 
-    /// Begins a collection at a column, unless one is open there or the place is inside flow. Its start goes in
+    /// Begins a collection at a column, unless one is open there or the position is inside flow. Its start goes in
     /// before that many waiting tokens, or after all of them.
     pub(crate) fn roll_indent(
         &mut self,
         col: usize,
-        place: Option<usize>,
+        position: Option<usize>,
         kind: Collection,
         mark: Marker,
     ) -> Result<(), Fault>
         requires { col < 2 ^ 63 }
-        ensures held { OnOk result (held self.new ≡ roll_indent col (number_of self.old.tokens.given place) (block_start kind) mark (held self.old)) }
+        ensures held { OnOk result (held self.new ≡ roll_indent col (number_of self.old.tokens.given position) (block_start kind) mark (held self.old)) }
         ensures err { IfErr result (λ e. e ≡ Fault.OutOfMemory) }
         ensures moves { Moves self.old self.new 2 0 }
         ensures window { self.new.window ≡ self.old.window }
@@ -98,7 +98,7 @@ impl<T: Iterator<Item = char>> Fetcher<T> {
             return Ok(());
         }
         self.drop_open_level(col);
-        self.deepen(col, place, kind, mark)?;
+        self.deepen(col, position, kind, mark)?;
         Ok(())
     }
 
@@ -106,12 +106,12 @@ impl<T: Iterator<Item = char>> Fetcher<T> {
     fn deepen(
         &mut self,
         col: usize,
-        place: Option<usize>,
+        position: Option<usize>,
         kind: Collection,
         mark: Marker,
     ) -> Result<(), Fault>
         requires { col < 2 ^ 63 }
-        ensures held { OnOk result (held self.new ≡ deepen col (number_of self.old.tokens.given place) (token mark (block_start kind)) (held self.old)) }
+        ensures held { OnOk result (held self.new ≡ deepen col (number_of self.old.tokens.given position) (token mark (block_start kind)) (held self.old)) }
         ensures err { IfErr result (λ e. e ≡ Fault.OutOfMemory) }
         ensures moves { Moves self.old self.new 2 0 }
         ensures window { self.new.window ≡ self.old.window }
@@ -120,7 +120,7 @@ impl<T: Iterator<Item = char>> Fetcher<T> {
             return Ok(());
         }
         self.levels.push_block(col)?;
-        self.place_start(place, kind, mark)?;
+        self.position_start(position, kind, mark)?;
         Ok(())
     }
 
@@ -133,20 +133,20 @@ impl<T: Iterator<Item = char>> Fetcher<T> {
     }
 
     /// Inserts the start of a collection before that many waiting tokens, or after all of them.
-    fn place_start(
+    fn position_start(
         &mut self,
-        place: Option<usize>,
+        position: Option<usize>,
         kind: Collection,
         mark: Marker,
     ) -> Result<(), Fault>
         ensures err { IfErr result (λ e. e ≡ Fault.OutOfMemory) }
-        ensures held { OnOk result (held self.new ≡ record (held self.old) { tokens = placed (number_of self.old.tokens.given place) (token mark (block_start kind)) (held self.old).tokens }) }
+        ensures held { OnOk result (held self.new ≡ record (held self.old) { tokens = placed (number_of self.old.tokens.given position) (token mark (block_start kind)) (held self.old).tokens }) }
         ensures moves { Moves self.old self.new 1 0 }
         ensures window { self.new.window ≡ self.old.window }
     {
         let token = Token(mark, kind.block_start());
-        match place {
-            Some(place) => self.tokens.insert(place, token)?,
+        match position {
+            Some(position) => self.tokens.insert(position, token)?,
             None => self.tokens.push(token)?,
         }
         Ok(())
@@ -167,7 +167,7 @@ impl<T: Iterator<Item = char>> Fetcher<T> {
         }
     }
 
-    /// Whether the innermost level is a block collection, and the place is outside flow.
+    /// Whether the innermost level is a block collection, and the position is outside flow.
     #[tactic(auto, unfolding(model_scanner::specs::Indents::in_block))]
     fn in_block(&self) -> bool
         ensures value { result ≡ in_block (held self.now) }

@@ -2,7 +2,7 @@ ghost use Rattle.std.specs.Prelude.{◌≡◌, ℕ, ◌+◌, ◌-◌, ◌∷◌,
 ghost use Rattle.std.specs.List.{list_any};
 ghost use Rattle.model_scanner.specs.State.{Key, with_top, pop};
 ghost use Rattle.model_scanner.specs.Keys.{is_far, is_overdue, drop_stale, is_required, has_required, cleared, top_key};
-ghost use Rattle.yaml_scanner.specs.ImplicitKeys.{key_of, seen, is_front, lowered, still_simple, no_simple, top_simple};
+ghost use Rattle.yaml_scanner.specs.ImplicitKeys.{key_of, seen, is_front, lowered, still_implicit, no_implicit, top_implicit};
 
 use std::alloc::{AllocError, Global};
 use std::marker::Model;
@@ -12,11 +12,11 @@ use yaml_tokens::{Fault, Problem};
 // How far before its `:` a key may start (YAML 1.2, section 7.4.2).
 const LONGEST_KEY: usize = 1024;
 
-/// A token that may turn out to be a key. Its place counts from the first token that waits.
+/// A token that may turn out to be a key. Its position counts from the first token that waits.
 #[derive(Clone, Copy)]
 pub struct ImplicitKey {
     pub required: bool,
-    pub place: usize,
+    pub position: usize,
     pub mark: Marker,
 }
 
@@ -58,7 +58,7 @@ fn is_required(key: Option<ImplicitKey>) -> bool
 fn is_front(key: Option<ImplicitKey>) -> bool
     ensures { result ≡ is_front key }
 {
-    key.is_some_and(|key| key.place == 0)
+    key.is_some_and(|key| key.position == 0)
 }
 
 fn any_overdue(keys: &[Option<ImplicitKey>], mark: Marker) -> bool
@@ -81,7 +81,7 @@ fn any_front(keys: &[Option<ImplicitKey>]) -> bool
 
 /// Gives up a possible key that began on an earlier line or too far back.
 fn drop_one(key: &mut Option<ImplicitKey>, mark: Marker)
-    ensures { key.new ≡ still_simple mark key.old }
+    ensures { key.new ≡ still_implicit mark key.old }
 {
     let far = match key {
         Some(simple) => is_far(simple.mark, mark),
@@ -97,12 +97,12 @@ fn lower_one(key: &mut Option<ImplicitKey>)
     ensures { key.new ≡ lowered key.old }
 {
     if let Some(simple) = key {
-        simple.place = simple.place.saturating_sub(1);
+        simple.position = simple.position.saturating_sub(1);
     }
 }
 
 fn drop_far(keys: &mut [Option<ImplicitKey>], mark: Marker)
-    ensures { keys.new ≡ map (still_simple mark) keys.old }
+    ensures { keys.new ≡ map (still_implicit mark) keys.old }
 {
     'keys: for key in keys.iter_mut() {
         drop_one(key, mark);
@@ -153,7 +153,7 @@ impl ImplicitKeys {
 
     /// The possible key of the innermost level.
     pub fn top(&self) -> Option<ImplicitKey>
-        ensures { result ≡ top_simple self.now }
+        ensures { result ≡ top_implicit self.now }
     {
         *self.levels.last()?
     }

@@ -57,10 +57,10 @@ impl<T: Iterator<Item = char>> Scanner<T> {
         self.fetcher.tokens.is_over()
     }
 
-    /// The place of the scanner: after the characters that it read as tokens so far. Once the stream's end was fetched,
+    /// The position of the scanner: after the characters that it read as tokens so far. Once the stream's end was fetched,
     /// it is where a line begins, after the whole text.
     pub fn mark(&self) -> Marker
-        ensures place { result ≡ (scanned self.now).place }
+        ensures position { result ≡ (scanned self.now).position }
         ensures came { CameFrom T.next_gives self.now.start (scanned self.now).taken (scanned self.now).done }
         ensures no_nul { HasNoNul (scanned self.now).taken }
         ensures scans { Scans (scanned self.now) }

@@ -1,7 +1,7 @@
 ghost use Rattle.std.specs.Prelude.{◌≡◌, ◌≤◌, ◌+◌, ◌∷◌, [], ◌++◌, OnOk, OnErr, IfSome, IsNone, true, false, ◌||◌, length};
 ghost use Rattle.std.specs.List.{insert};
 ghost use Rattle.yaml_tokens.specs.Shown.{shown};
-ghost use Rattle.model_scanner.specs.Block.{last_property, property_place};
+ghost use Rattle.model_scanner.specs.Block.{last_property, property_position};
 ghost use Rattle.yaml_scanner.specs.Tokens.{handed, waiting, is_end, end_at};
 
 use std::alloc::{AllocError, Global};
@@ -16,7 +16,7 @@ use yaml_tokens::{Token, TokenType};
 pub struct Queue {
     given: History<Token>,
     waiting: VecDeque<Token>,
-    // The place of the last token so far, where that is an anchor or a tag.
+    // The position of the last token so far, where that is an anchor or a tag.
     property: Option<Marker>,
     ended: bool,
     over: bool,
@@ -59,7 +59,7 @@ impl Queue {
         self.waiting.len()
     }
 
-    /// The place of the last token so far, where that is an anchor or a tag.
+    /// The position of the last token so far, where that is an anchor or a tag.
     pub fn property(&self) -> Option<Marker>
         ensures { result ≡ last_property self.now.all }
     {
@@ -84,19 +84,19 @@ impl Queue {
     /// Inserts a token before that many that wait. An `Err` changes nothing.
     #[inline(always)]
     #[tactic(auto, using(crate::proofs::QueueLemmas::insert_min_shown, crate::proofs::QueueLemmas::insert_keeps))]
-    pub fn insert(&mut self, place: usize, token: Token) -> Result<(), AllocError>
-        ensures ok { OnOk result (self.new ≡ record self.old { all = insert self.old.all (self.old.given + place) (shown token) }) }
+    pub fn insert(&mut self, position: usize, token: Token) -> Result<(), AllocError>
+        ensures ok { OnOk result (self.new ≡ record self.old { all = insert self.old.all (self.old.given + position) (shown token) }) }
         ensures err { OnErr result (self.new ≡ self.old) }
         ensures handed { handed self.new ≡ handed self.old }
         ensures more { waiting self.new ≤ waiting self.old + 1 }
     {
         let last = self.waiting.len();
-        let place = place.min(last);
+        let position = position.min(last);
         let property = property_of(&token);
-        if self.waiting.insert(place, token).is_err() {
+        if self.waiting.insert(position, token).is_err() {
             return Err(AllocError);
         }
-        if place == last {
+        if position == last {
             self.property = property;
         }
         Ok(())
@@ -152,7 +152,7 @@ impl Queue {
 
 #[inline(always)]
 fn property_of(token: &Token) -> Option<Marker>
-    ensures { result ≡ property_place (shown token.now).tok (shown token.now).place }
+    ensures { result ≡ property_position (shown token.now).tok (shown token.now).position }
 {
     match token.1 {
         TokenType::Anchor(_) | TokenType::Tag(_, _) => Some(token.0),

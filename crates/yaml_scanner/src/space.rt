@@ -1,7 +1,7 @@
 //! What stands between two tokens: blanks, line breaks and comments (YAML 1.2, chapter 6).
 ghost use Rattle.std.specs.Prelude.{◌≡◌, ◌≢◌, ◌<◌, ◌≤◌, ℕ, OnOk, IfOk, IfErr, Ok, Err, true, false, Bool, slice_index, ◌==◌, ◌&&◌, ◌||◌, not};
 ghost use Rattle.yaml_chars.specs.Class.{is_break, is_blank};
-ghost use Rattle.yaml_chars.specs.Reading.{HasChar, Reads, place_of};
+ghost use Rattle.yaml_chars.specs.Reading.{HasChar, Reads, position_of};
 ghost use Rattle.model_lexers.specs.Space.{space};
 ghost use Rattle.model_scanner.specs.State.{in_flow};
 ghost use Rattle.model_scanner.specs.Space.{skip, between, tab_line, white, is_before_indent, skip_spaces, skip_to_next_token, skip_yaml_whitespace};
@@ -60,7 +60,7 @@ impl<T: Iterator<Item = char>> Fetcher<T> {
         }
     }
 
-    /// Whether this place belongs to the indentation of a block collection.
+    /// Whether this position belongs to the indentation of a block collection.
     #[tactic(auto, unfolding(model_scanner::specs::Space::is_before_indent))]
     fn is_before_indent(&self) -> bool
         ensures { result ≡ is_before_indent (held self.now) }
@@ -132,9 +132,9 @@ impl<T: Iterator<Item = char>> Fetcher<T> {
 
     /// Steps over spaces, TABs where these are to be skipped, and a comment.
     pub(crate) fn skip_spaces(&mut self, tabs: SkipTabs) -> Result<Whitespace, Fault>
-        ensures held { held self.new ≡ record (held self.old) { place = place_of self.new.window } }
-        ensures reads { IfOk result (λ w. Reads self.old.window self.new.window (λ a b. space tabs a (place_of self.old.window) ≡ Ok (read b self.new.window w))) }
-        ensures fault { IfErr result (λ e. Reads self.old.window self.new.window (λ a b. space tabs a (place_of self.old.window) ≡ Err e)) }
+        ensures held { held self.new ≡ record (held self.old) { position = position_of self.new.window } }
+        ensures reads { IfOk result (λ w. Reads self.old.window self.new.window (λ a b. space tabs a (position_of self.old.window) ≡ Ok (read b self.new.window w))) }
+        ensures fault { IfErr result (λ e. Reads self.old.window self.new.window (λ a b. space tabs a (position_of self.old.window) ≡ Err e)) }
         ensures moves { Moves self.old self.new 0 0 }
         ensures ahead { OnOk result (0 < self.new.window.ahead) }
         ensures less { self.new.window.left ≤ self.old.window.left }

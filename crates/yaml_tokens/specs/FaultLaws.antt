@@ -1,4 +1,4 @@
--- Equality of faults: of place, text, and whether memory was refused.
+-- Equality of faults: of position, text, and whether memory was refused.
 use Rattle.std.specs.Prelude.{ℕ, List, Bool, nat_eq, ◌==◌}
 use Rattle.std.specs.Ordering.{on, eq_of_both}
 use Rattle.std.specs.Bool.{beq}
@@ -8,14 +8,14 @@ use lib.Pointwise.{pointwise}
 use Rattle.defs_text.specs.Position.{Position}
 use Rattle.yaml_tokens.specs.ErrorReport.{ErrorReport}
 
-abbrev pub place_eq : Position → Position → Bool
-place_eq = eq_of_both (on (λ (p : Position). p.index) nat_eq) (eq_of_both (on (λ (p : Position). p.line) nat_eq) (on (λ (p : Position). p.col) nat_eq))
+abbrev pub position_eq : Position → Position → Bool
+position_eq = eq_of_both (on (λ (p : Position). p.index) nat_eq) (eq_of_both (on (λ (p : Position). p.line) nat_eq) (on (λ (p : Position). p.col) nat_eq))
 
 abbrev pub fault_eq : ErrorReport → ErrorReport → Bool
-fault_eq = eq_of_both (on (λ (f : ErrorReport). f.place) place_eq) (eq_of_both (on (λ (f : ErrorReport). f.memory) beq) (on (λ (f : ErrorReport). f.text) (pointwise nat_eq)))
+fault_eq = eq_of_both (on (λ (f : ErrorReport). f.position) position_eq) (eq_of_both (on (λ (f : ErrorReport). f.memory) beq) (on (λ (f : ErrorReport). f.text) (pointwise nat_eq)))
 
-pub place_eq_equiv : IsEquivalence place_eq
-place_eq_equiv = and_equiv (on_equiv (λ (p : Position). p.index) nat_eq_equiv) (and_equiv (on_equiv (λ (p : Position). p.line) nat_eq_equiv) (on_equiv (λ (p : Position). p.col) nat_eq_equiv))
+pub position_eq_equiv : IsEquivalence position_eq
+position_eq_equiv = and_equiv (on_equiv (λ (p : Position). p.index) nat_eq_equiv) (and_equiv (on_equiv (λ (p : Position). p.line) nat_eq_equiv) (on_equiv (λ (p : Position). p.col) nat_eq_equiv))
 
 pub fault_eq_equiv : IsEquivalence fault_eq
-fault_eq_equiv = and_equiv (on_equiv (λ (f : ErrorReport). f.place) place_eq_equiv) (and_equiv (on_equiv (λ (f : ErrorReport). f.memory) bool_eq_equiv) (on_equiv (λ (f : ErrorReport). f.text) nat_list_eq_equiv))
+fault_eq_equiv = and_equiv (on_equiv (λ (f : ErrorReport). f.position) position_eq_equiv) (and_equiv (on_equiv (λ (f : ErrorReport). f.memory) bool_eq_equiv) (on_equiv (λ (f : ErrorReport). f.text) nat_list_eq_equiv))

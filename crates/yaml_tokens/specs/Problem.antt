@@ -13,8 +13,8 @@ text_of_problem problem.UnexpectedAt = codes "unexpected character: `@'"
 text_of_problem problem.UnexpectedBacktick = codes "unexpected character: ``'"
 text_of_problem problem.ContentAfterDocumentEnd = codes "invalid content after document end marker"
 text_of_problem problem.InvalidIndentation = codes "invalid indentation"
-text_of_problem problem.KeyWithoutColon = codes "implicit key expect ':'"
-text_of_problem problem.KeyExpected = codes "implicit key expected"
+text_of_problem problem.KeyWithoutColon = codes "simple key expect ':'"
+text_of_problem problem.KeyExpected = codes "simple key expected"
 text_of_problem problem.TabInBlockIndentation = codes "tabs disallowed within this context (block indentation)"
 text_of_problem problem.TabAfterKey = codes "tabs disallowed in this context"
 text_of_problem problem.WhitespaceExpected = codes "expected whitespace"
@@ -75,7 +75,7 @@ text_of_problem problem.BlockSequenceEntry = codes "while parsing a block collec
 text_of_problem problem.UndeclaredHandle = codes "the handle wasn't declared"
 text_of_problem problem.EventOutOfNesting = codes "event out of nesting"
 
--- what callers see of a fault that came while the text was read up to a place
+-- what callers see of a fault that came while the text was read up to a position
 abbrev pub fault_of : code.Fault → Position → ErrorReport
-fault_of OutOfMemory here = record { place = here; text = codes "out of memory"; memory = true }
-fault_of (At p place) here = record { place = place; text = text_of_problem p; memory = false }
+fault_of OutOfMemory here = record { position = here; text = codes "out of memory"; memory = true }
+fault_of (At p position) here = record { position = position; text = text_of_problem p; memory = false }

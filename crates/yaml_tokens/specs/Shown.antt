@@ -39,7 +39,7 @@ tok_of (kind.Tag h s) = Tok.tag (string_chars h) (string_chars s)
 tok_of (kind.Scalar y s) = Tok.scalar (style_of y) (string_chars s)
 
 abbrev pub shown : code.Token → Token
-shown t = record { place = t.0; tok = tok_of t.1 }
+shown t = record { position = t.0; tok = tok_of t.1 }
 
 abbrev pub all_shown : List code.Token → List Token
 all_shown = map shown

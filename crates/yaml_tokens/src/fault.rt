@@ -18,7 +18,7 @@ enum Info {
 
 /// Why a text could not be read, and where: a fault of scanner, parser or loader, or that memory was refused. It
 /// prints as `{info} at byte {index} line {line} column {col + 1}`; the index counts characters. Two are equal if
-/// their text, their place and [`is_out_of_memory`](ScanError::is_out_of_memory) are equal.
+/// their text, their position and [`is_out_of_memory`](ScanError::is_out_of_memory) are equal.
 #[derive(Debug, Drop)]
 pub struct ScanError {
     mark: Marker,
@@ -35,20 +35,20 @@ impl Model for ScanError {
 
     ghost use Rattle.yaml_tokens.specs.Info.{text_of, is_memory};
 
-    ghost view = { λ e. record { place = e.mark; text = text_of e.info; memory = is_memory e.info } };
+    ghost view = { λ e. record { position = e.mark; text = text_of e.info; memory = is_memory e.info } };
 }
 
 impl ScanError {
     /// A fault with a copy of this text. An `Err` comes only if memory was refused.
     pub fn new(alloc: Global, loc: Marker, info: &str) -> Result<ScanError, AllocError>
-        ensures { IfOk result (λ e. e ≡ record { place = loc; text = info.now; memory = false }) }
+        ensures { IfOk result (λ e. e ≡ record { position = loc; text = info.now; memory = false }) }
     {
         Ok(ScanError::new_string(loc, String::from_str(alloc, info)?))
     }
 
     /// A fault with this text. It takes no memory.
     pub fn new_string(loc: Marker, info: String) -> ScanError
-        ensures { result ≡ record { place = loc; text = string_bytes info; memory = false } }
+        ensures { result ≡ record { position = loc; text = string_bytes info; memory = false } }
     {
         ScanError {
             mark: loc,
@@ -58,7 +58,7 @@ impl ScanError {
 
     /// A fault with a fixed text. It takes no memory.
     pub fn fixed(loc: Marker, info: &'static str) -> ScanError
-        ensures { result ≡ record { place = loc; text = info.now; memory = false } }
+        ensures { result ≡ record { position = loc; text = info.now; memory = false } }
     {
         ScanError {
             mark: loc,
@@ -66,9 +66,9 @@ impl ScanError {
         }
     }
 
-    /// The fault that memory was refused, at a place. It takes no memory.
+    /// The fault that memory was refused, at a position. It takes no memory.
     pub fn memory(loc: Marker) -> ScanError
-        ensures { result ≡ record { place = loc; text = codes "out of memory"; memory = true } }
+        ensures { result ≡ record { position = loc; text = codes "out of memory"; memory = true } }
     {
         ScanError {
             mark: loc,
@@ -78,12 +78,12 @@ impl ScanError {
 
     /// Where the fault is.
     pub fn marker(&self) -> &Marker
-        ensures { result.now ≡ self.now.place }
+        ensures { result.now ≡ self.now.position }
     {
         &self.mark
     }
 
-    /// The fault's text, without its place.
+    /// The fault's text, without its position.
     pub fn info(&self) -> &str
         ensures { result.now ≡ self.now.text }
     {

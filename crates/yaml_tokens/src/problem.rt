@@ -89,8 +89,8 @@ impl Problem {
             Problem::UnexpectedBacktick => "unexpected character: ``'",
             Problem::ContentAfterDocumentEnd => "invalid content after document end marker",
             Problem::InvalidIndentation => "invalid indentation",
-            Problem::KeyWithoutColon => "implicit key expect ':'",
-            Problem::KeyExpected => "implicit key expected",
+            Problem::KeyWithoutColon => "simple key expect ':'",
+            Problem::KeyExpected => "simple key expected",
             Problem::TabInBlockIndentation =>
                 "tabs disallowed within this context (block indentation)",
             Problem::TabAfterKey => "tabs disallowed in this context",
@@ -180,7 +180,7 @@ impl Problem {
     }
 }
 
-/// Why scanner or parser stop: memory was refused, or a problem and its place.
+/// Why scanner or parser stop: memory was refused, or a problem and its position.
 #[derive(Clone, Copy, Debug, PartialEq, Eq)]
 pub enum Fault {
     OutOfMemory,
@@ -194,7 +194,7 @@ impl Fault {
     {
         match self {
             Fault::OutOfMemory => ScanError::memory(mark),
-            Fault::At(problem, place) => ScanError::fixed(place, problem.text()),
+            Fault::At(problem, position) => ScanError::fixed(position, problem.text()),
         }
     }
 }

@@ -32,7 +32,7 @@ pub enum Chomping {
     Keep,
 }
 
-/// A token, and the place where it begins.
+/// A token, and the position where it begins.
 #[derive(Debug, PartialEq, Eq, Drop)]
 pub struct Token(pub Marker, pub TokenType);
 

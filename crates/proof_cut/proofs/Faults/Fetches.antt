@@ -70,10 +70,10 @@ block_fetch_other : (b : Bool) (more : List ℕ) (t : ScannerState) → t.rest �
 unfolding fetch_block_scalar
 block_fetch_other true more t e clean =
     let h : Held = unroll_non_block_indents (allow_key true (save_implicit_key t.held)) in
-    lexes (block true h.indent t.rest t.held.place) h _ (subst (λ r. Refuses IsOther (block true h.indent r t.held.place)) (sym e) (block_other literal h.indent more t.held.place clean)) (λ x l. none)
+    lexes (block true h.indent t.rest t.held.position) h _ (subst (λ r. Refuses IsOther (block true h.indent r t.held.position)) (sym e) (block_other literal h.indent more t.held.position clean)) (λ x l. none)
 block_fetch_other false more t e clean =
     let h : Held = unroll_non_block_indents (allow_key true (save_implicit_key t.held)) in
-    lexes (block false h.indent t.rest t.held.place) h _ (subst (λ r. Refuses IsOther (block false h.indent r t.held.place)) (sym e) (block_other folded h.indent more t.held.place clean)) (λ x l. none)
+    lexes (block false h.indent t.rest t.held.position) h _ (subst (λ r. Refuses IsOther (block false h.indent r t.held.position)) (sym e) (block_other folded h.indent more t.held.position clean)) (λ x l. none)
 
 -- ---- the next token
 
@@ -136,12 +136,12 @@ module _ (text : List ℕ) (t : ScannerState) (nul : has_no_nul text ≡ true) (
 indented_told : (text : List ℕ) (t : ScannerState) → has_no_nul text ≡ true → is_empty t.rest ≡ false → Here text t → Refuses (IsTold text) (fetch_indented t)
 unfolding fetch_indented
 indented_told text t nul some h =
-    chosen (nat_lt (t.held.place.col + 1) t.held.indent) (λ e. other_told text (this refl)) (λ e. token_told text t nul h.stands (is_deep t.held.place.col t.held.indent e) some h.solid)
+    chosen (nat_lt (t.held.position.col + 1) t.held.indent) (λ e. other_told text (this refl)) (λ e. token_told text t nul h.stands (is_deep t.held.position.col t.held.indent e) some h.solid)
 
 content_told : (text : List ℕ) (t : ScannerState) → has_no_nul text ≡ true → is_empty t.rest ≡ false → Here text t → Refuses (IsTold text) (fetch_content t)
 unfolding fetch_content fetch_first_column
 content_told text t nul some h =
-    chosen (t.held.place.col == 0) (λ col.
+    chosen (t.held.position.col == 0) (λ col.
     chosen (peek t.rest == 37) (λ e. other_told text (directive_fetch_other t (after t.rest) (begins_with_this t.rest 37 some e))) (λ _.
     chosen (comes_marker 45 t.rest) (λ e. other_told text (marker_other Tok.document_start t)) (λ _.
     chosen (comes_marker 46 t.rest) (λ e. other_told text (document_end_other t)) (λ _. indented_told text t nul some h)))) (λ _. indented_told text t nul some h)
@@ -157,7 +157,7 @@ next_told text t nul s g =
     let a = held_of u (both_hold (to_token t) (walk.to_token started started_is_kept t g)) k in
     bound (other_told text (on_holding u (stale_other u.held))) (λ v l.
     let d = held_of v (tried {Q = λ v. (v ≡ record u { held = v.held }) × Fresh text u v.held × walk.Stands started v.held} u (stale u.held) (both_hold (stale_stands text u (passed_stands text t u a.0.passed s)) (walk.stale_dropped started started_is_kept u.held a.1)) (λ h d. (refl, d.0, d.1))) l in
-    bound (here_told text (on_held (λ h. unroll_indent (h.place.col + 1) h) v) nul (here_now text u v a.0.solid d.0 d.1 d.2)) (λ w m. other_told text (on_holding w (stale_other w.held)))))
+    bound (here_told text (on_held (λ h. unroll_indent (h.position.col + 1) h) v) nul (here_now text u v a.0.solid d.0 d.1 d.2)) (λ w m. other_told text (on_holding w (stale_other w.held)))))
 
 -- ---- refusals
 

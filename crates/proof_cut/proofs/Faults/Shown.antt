@@ -85,8 +85,8 @@ space_other tabs text p = by (space tabs text p) (spaces_are_passed tabs text p)
     by x (glued begins e) = rw e (this refl)
 
 -- spaces, and a step after them
-pub spaced_other : (tabs : SkipTabs) (t : ScannerState) (go : Whitespace → ScannerState → Result ScannerState Fault) → ((w : Whitespace) (u : ScannerState) → Refuses IsOther (go w u)) → Refuses IsOther (lexed (space tabs t.rest t.held.place) t.held go)
-spaced_other tabs t go h = lexes (space tabs t.rest t.held.place) t.held go (space_other tabs t.rest t.held.place) (λ x e. h x.value (go_on x t.held))
+pub spaced_other : (tabs : SkipTabs) (t : ScannerState) (go : Whitespace → ScannerState → Result ScannerState Fault) → ((w : Whitespace) (u : ScannerState) → Refuses IsOther (go w u)) → Refuses IsOther (lexed (space tabs t.rest t.held.position) t.held go)
+spaced_other tabs t go h = lexes (space tabs t.rest t.held.position) t.held go (space_other tabs t.rest t.held.position) (λ x e. h x.value (go_on x t.held))
 
 pub spaces_other : (tabs : SkipTabs) (t : ScannerState) → Refuses IsOther (skip_spaces tabs t)
 unfolding skip_spaces
@@ -94,9 +94,9 @@ spaces_other tabs t = spaced_other tabs t _ (λ w u. none)
 
 pub stale_other : (s : Held) → Refuses IsOther (stale s)
 unfolding stale drop_stale
-stale_other s = chosen (in_flow s) (λ e. none) (λ e. by (list_any (is_overdue s.place) s.keys))
+stale_other s = chosen (in_flow s) (λ e. none) (λ e. by (list_any (is_overdue s.position) s.keys))
   where
-    by : (b : Bool) → Refuses IsOther (with_keys s (if b then Err (At problem.KeyWithoutColon s.place) else Ok (map (still s.place) s.keys)))
+    by : (b : Bool) → Refuses IsOther (with_keys s (if b then Err (At problem.KeyWithoutColon s.position) else Ok (map (still s.position) s.keys)))
     by true = this refl
     by false = none
 

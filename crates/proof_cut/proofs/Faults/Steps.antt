@@ -108,7 +108,7 @@ rest_held t u (Err f) e = cc
 pub directive_fetch_other : (t : ScannerState) (more : List ℕ) → t.rest ≡ 37 ∷ more → Refuses IsOther (fetch_directive t)
 unfolding fetch_directive
 directive_fetch_other t more e = bound (on_holding t (line_begins_other t.held)) (λ u k.
-    lexes (directive u.rest u.held.place) u.held _ (subst (λ r. Refuses IsOther (directive r u.held.place)) (sym (rest_held t u (begin_line t.held) k ∙ e)) (directive_other more u.held.place)) (λ x l. none))
+    lexes (directive u.rest u.held.position) u.held _ (subst (λ r. Refuses IsOther (directive r u.held.position)) (sym (rest_held t u (begin_line t.held) k ∙ e)) (directive_other more u.held.position)) (λ x l. none))
 
 pub marker_other : (tok : Tok) (t : ScannerState) → Refuses IsOther (fetch_document_marker tok t)
 unfolding fetch_document_marker
@@ -122,11 +122,11 @@ document_end_other t = bound (marker_other Tok.document_end t) (λ u k. bound (s
 
 pub anchor_fetch_other : (alias : Bool) (c : ℕ) (more : List ℕ) (t : ScannerState) → t.rest ≡ c ∷ more → Refuses IsOther (fetch_anchor alias t)
 unfolding fetch_anchor
-anchor_fetch_other alias c more t e = lexes (anchor_name t.rest t.held.place) (node_start t.held) _ (subst (λ r. Refuses IsOther (anchor_name r t.held.place)) (sym e) (name_other c more t.held.place)) (λ x l. none)
+anchor_fetch_other alias c more t e = lexes (anchor_name t.rest t.held.position) (node_start t.held) _ (subst (λ r. Refuses IsOther (anchor_name r t.held.position)) (sym e) (name_other c more t.held.position)) (λ x l. none)
 
 pub tag_fetch_other : (more : List ℕ) (t : ScannerState) → t.rest ≡ 33 ∷ more → Refuses IsOther (fetch_tag t)
 unfolding fetch_tag
-tag_fetch_other more t e = lexes (tags.tag (in_flow t.held) t.rest t.held.place) (node_start t.held) _ (subst (λ r. Refuses IsOther (tags.tag (in_flow t.held) r t.held.place)) (sym e) (tag_other (in_flow t.held) more t.held.place)) (λ x l. none)
+tag_fetch_other more t e = lexes (tags.tag (in_flow t.held) t.rest t.held.position) (node_start t.held) _ (subst (λ r. Refuses IsOther (tags.tag (in_flow t.held) r t.held.position)) (sym e) (tag_other (in_flow t.held) more t.held.position)) (λ x l. none)
 
 -- ---- flow
 
@@ -162,7 +162,7 @@ key_other t =
 
 pair_other : (k : Key) (p : Position) (pair : Bool) (s : Held) → Refuses IsOther (begin_pair k p pair s)
 unfolding begin_pair
-pair_other k p pair s = chosen pair (λ e. chosen (nat_lt k.place.line p.line) (λ l. this refl) (λ l. none)) (λ e. none)
+pair_other k p pair s = chosen pair (λ e. chosen (nat_lt k.position.line p.line) (λ l. this refl) (λ l. none)) (λ e. none)
 
 keyless_other : (p : Position) (s : Held) → Refuses IsOther (begin_keyless_mapping p s)
 unfolding begin_keyless_mapping
@@ -181,7 +181,7 @@ pub value_other : (t : ScannerState) → Refuses IsOther (fetch_value t)
 unfolding fetch_value
 value_other t =
     bound (value_space_other (skip_indicator (on_held (λ s. record s { flow = paired s.flow }) t))) (λ u k.
-    bound (on_holding u (value_of_other (top_key u.held.keys) t.held.place (opens_pair t.held.flow) u.held)) (λ v l. none))
+    bound (on_holding u (value_of_other (top_key u.held.keys) t.held.position (opens_pair t.held.flow) u.held)) (λ v l. none))
 
 -- ---- block entries
 
@@ -196,6 +196,6 @@ margin_other (Some q) p s = chosen ((p.col == 0) && (q.col == 0) && nat_lt 0 s.i
 -- after the check that no flow collection is open
 pub block_entry_other : (t u : ScannerState) → Refuses IsOther (entry_from t u)
 block_entry_other t u =
-    bound (spaced_other Yes (on_held (roll_indent t.held.place.col None Tok.block_sequence_start t.held.place) (skip_indicator u)) check_dash (λ w v. dash_other w v)) (λ w k.
+    bound (spaced_other Yes (on_held (roll_indent t.held.position.col None Tok.block_sequence_start t.held.position) (skip_indicator u)) check_dash (λ w v. dash_other w v)) (λ w k.
     bound (spaces_other No w) (λ x l.
     bound (on_holding (roll_entry x) (removed_other (roll_entry x).held)) (λ y m. none)))

@@ -39,7 +39,7 @@ use Rattle.proof_cut.proofs.Documents.{whole_text}
 use Rattle.proof_cut.proofs.Faults.Shown.{Refuses, none, this, IsOther, IsTold, bound, chosen, on_holding, lexes, other_told, skip_other, spaces_other}
 use Rattle.proof_cut.proofs.Faults.Steps.{indicator_other, margin_other, block_entry_other}
 
--- where the scanner's model stands is a place after a row of pieces
+-- where the scanner's model stands is a position after a row of pieces
 pub spot_of : (text : List ℕ) (t : ScannerState) → has_no_nul text ≡ true → (s : FaresAt text t) → IsSpot text t.rest (account_now text t s)
 spot_of text t nul s =
     let x = s.stood in
@@ -78,10 +78,10 @@ module _ (text : List ℕ) (t : ScannerState) (nul : has_no_nul text ≡ true) (
   flow_begins : (kind : FlowLevel) (c : ℕ) (rest : List ℕ) → t.rest ≡ c ∷ rest → ((c == 91) || (c == 123)) ≡ true → Refuses (IsTold text) (begin_flow kind t.held)
   unfolding begin_flow increase_flow_level rolled
   flow_begins kind c rest e opens =
-      subst (λ h. Refuses (IsTold text) (deepened_flow (if nat_le 255 (length h.flow) then Err (At problem.FlowTooDeep h.place) else Ok (record h { keys = None ∷ h.keys; flow = kind ∷ h.flow })))) (sym rolled_is)
+      subst (λ h. Refuses (IsTold text) (deepened_flow (if nat_le 255 (length h.flow) then Err (At problem.FlowTooDeep h.position) else Ok (record h { keys = None ∷ h.keys; flow = kind ∷ h.flow })))) (sym rolled_is)
       (by (nat_le 255 (length t.held.flow)) refl)
     where
-      by : (b : Bool) → nat_le 255 (length t.held.flow) ≡ b → Refuses (IsTold text) (deepened_flow (if b then Err (At problem.FlowTooDeep t.held.place) else Ok (record rolled { keys = None ∷ saved_keys t.held; flow = kind ∷ t.held.flow })))
+      by : (b : Bool) → nat_le 255 (length t.held.flow) ≡ b → Refuses (IsTold text) (deepened_flow (if b then Err (At problem.FlowTooDeep t.held.position) else Ok (record rolled { keys = None ∷ saved_keys t.held; flow = kind ∷ t.held.flow })))
       by true deep = this (λ _. too_deep (account_now text t s) c rest (spot (c ∷ rest) e) opens (no_room deep))
       by false deep = none
 
@@ -97,16 +97,16 @@ module _ (text : List ℕ) (t : ScannerState) (nul : has_no_nul text ≡ true) (
       bound (on_holding t (by (is_empty t.held.flow) refl)) (λ u k. other_told text (block_entry_other t u))
     where
       checks : Bool → Result Held Fault
-      checks flow = (if flow then Err (At problem.BlockEntryInFlow t.held.place) else (if not t.held.key_allowed then Err (At problem.BlockEntryNotAllowed t.held.place) else at_margin (last_property t.held.tokens) t.held.place t.held))
+      checks flow = (if flow then Err (At problem.BlockEntryInFlow t.held.position) else (if not t.held.key_allowed then Err (At problem.BlockEntryNotAllowed t.held.position) else at_margin (last_property t.held.tokens) t.held.position t.held))
 
       by : (out : Bool) → is_empty t.held.flow ≡ out → Refuses (IsTold text) (checks (not out))
-      by true o = other_told text (chosen (not t.held.key_allowed) (λ l. this refl) (λ l. margin_other (last_property t.held.tokens) t.held.place t.held))
+      by true o = other_told text (chosen (not t.held.key_allowed) (λ l. this refl) (λ l. margin_other (last_property t.held.tokens) t.held.position t.held))
       by false o = this (λ _. entry_in_flow (account_now text t s) rest (spot (45 ∷ rest) e) gap (same_flow t.held.flow ∙ ap not o))
 
   -- ---- quoted scalars
 
   -- a bad escape is one of the faults that are shown, in a double-quoted scalar
-  quote_told : (single : Bool) (ctx : Context) (rest : List ℕ) (f : Fault) → t.rest ≡ quote_of single ∷ rest → quoted_ends.IsQuotedRefusal single ctx t.held.place rest f → IsTold text f
+  quote_told : (single : Bool) (ctx : Context) (rest : List ℕ) (f : Fault) → t.rest ≡ quote_of single ∷ rest → quoted_ends.IsQuotedRefusal single ctx t.held.position rest f → IsTold text f
   quote_told single ctx rest f e (quoted_ends.by_marker body more cut are has) = λ _.
       marked_quote (account_now text t s) single body more (spot (quote_of single ∷ (body ++ more)) (e ∙ ap (λ r. quote_of single ∷ r) cut)) are has
   quote_told single ctx rest f e (quoted_ends.by_end are) = λ _. open_quote (account_now text t s) single rest (spot (quote_of single ∷ rest) e) are
@@ -116,30 +116,30 @@ module _ (text : List ℕ) (t : ScannerState) (nul : has_no_nul text ≡ true) (
   quote_told single ctx rest f e (quoted_ends.by_column p far) = λ z. absurd (cc z)
   quote_told single ctx rest f e (quoted_ends.by_tab p far) = λ z. absurd (cc z)
 
-  quoted_told : (single : Bool) (ctx : Context) (rest : List ℕ) → t.rest ≡ quote_of single ∷ rest → Refuses (IsTold text) (quotes.quoted single ctx t.rest t.held.place)
+  quoted_told : (single : Bool) (ctx : Context) (rest : List ℕ) → t.rest ≡ quote_of single ∷ rest → Refuses (IsTold text) (quotes.quoted single ctx t.rest t.held.position)
   quoted_told single ctx rest e =
-      subst (λ r. Refuses (IsTold text) (quotes.quoted single ctx r t.held.place)) (sym e) (by (quotes.quoted single ctx (quote_of single ∷ rest) t.held.place) (scans_end single ctx rest t.held.place (some_chars rest clean)))
+      subst (λ r. Refuses (IsTold text) (quotes.quoted single ctx r t.held.position)) (sym e) (by (quotes.quoted single ctx (quote_of single ∷ rest) t.held.position) (scans_end single ctx rest t.held.position (some_chars rest clean)))
     where
       clean : has_no_nul rest ≡ true
       clean = clean_more text t (quote_of single) rest e s
 
-      by : (x : Result (Read (List ℕ)) Fault) → quoted_ends.QuotedEndsAs single ctx t.held.place rest x → Refuses (IsTold text) x
-      by x (quoted_ends.reads body more value place cut is ends k) = rw k none
+      by : (x : Result (Read (List ℕ)) Fault) → quoted_ends.QuotedEndsAs single ctx t.held.position rest x → Refuses (IsTold text) x
+      by x (quoted_ends.reads body more value position cut is ends k) = rw k none
       by x (quoted_ends.refuses f why k) = rw k (this (quote_told single ctx rest f e why))
 
   after_quote_other : (line : ℕ) (u : ScannerState) → Refuses IsOther (check_after_quoted line u)
   unfolding check_after_quoted
-  after_quote_other line u = bound (spaces_other Yes u) (λ v k. chosen (may_follow_quoted (in_flow v.held) (line == v.held.place.line) (peek v.rest)) (λ l. none) (λ l. this refl))
+  after_quote_other line u = bound (spaces_other Yes u) (λ v k. chosen (may_follow_quoted (in_flow v.held) (line == v.held.position.line) (peek v.rest)) (λ l. none) (λ l. this refl))
 
   pub flow_scalar_told : (single : Bool) (rest : List ℕ) → t.rest ≡ quote_of single ∷ rest → Refuses (IsTold text) (fetch_flow_scalar single t)
   unfolding fetch_flow_scalar
   flow_scalar_told single rest e =
-      lexes (quotes.quoted single (context (node_start t.held)) t.rest t.held.place) (node_start t.held) _ (quoted_told single (context (node_start t.held)) rest e) (λ x k.
-      other_told text (bound (after_quote_other t.held.place.line _) (λ v l. bound (skip_other v) (λ w m. none))))
+      lexes (quotes.quoted single (context (node_start t.held)) t.rest t.held.position) (node_start t.held) _ (quoted_told single (context (node_start t.held)) rest e) (λ x k.
+      other_told text (bound (after_quote_other t.held.position.line _) (λ v l. bound (skip_other v) (λ w m. none))))
 
   -- ---- plain scalars
 
-  plain_why_told : (ctx : Context) (f : Fault) → ctx.flow ≡ in_flow t.held → plain_ends.IsPlainRefusal ctx t.held.place t.rest f → IsTold text f
+  plain_why_told : (ctx : Context) (f : Fault) → ctx.flow ≡ in_flow t.held → plain_ends.IsPlainRefusal ctx t.held.position t.rest f → IsTold text f
   plain_why_told ctx f e (plain_ends.by_column flow left) = λ z. absurd (cc z)
   plain_why_told ctx f e (plain_ends.by_dash before rest flow cut begins over apart) = λ _.
       dash_in_flow (account_now text t s) before rest (spot (before ++ 45 ∷ rest) cut) begins (same_flow t.held.flow ∙ sym e ∙ flow) apart
@@ -159,26 +159,26 @@ module _ (text : List ℕ) (t : ScannerState) (nul : has_no_nul text ≡ true) (
   abbrev around : Context
   around = record { flow = in_flow t.held; indent = gone.indent }
 
-  plain_told : IsDeep t.held → is_empty t.rest ≡ false → begins_separation t.rest ≡ false → Refuses (IsTold text) (plains.plain around t.rest t.held.place)
-  plain_told deep some solid = by (plains.plain around t.rest t.held.place) (plain_laws.scans_end around t.rest t.held.place s.stood.here.is_clean (solid_text t.rest some solid) indented)
+  plain_told : IsDeep t.held → is_empty t.rest ≡ false → begins_separation t.rest ≡ false → Refuses (IsTold text) (plains.plain around t.rest t.held.position)
+  plain_told deep some solid = by (plains.plain around t.rest t.held.position) (plain_laws.scans_end around t.rest t.held.position s.stood.here.is_clean (solid_text t.rest some solid) indented)
     where
       shallow : gone.indent ≤ t.held.indent
       shallow = (without_is t.held.indent t.held.indents t.held.tokens s.stood.are_levels).not_deeper
 
-      in_place : (b : Bool) (x y : ℕ) → x ≤ suc y → (b || nat_le x (suc y)) ≡ true
-      in_place true x y h = refl
-      in_place false x y h = grind (arith, nat_tests)
+      in_position : (b : Bool) (x y : ℕ) → x ≤ suc y → (b || nat_le x (suc y)) ≡ true
+      in_position true x y h = refl
+      in_position false x y h = grind (arith, nat_tests)
 
-      indented : plain_ends.is_indented around t.held.place ≡ true
-      indented = in_place (in_flow t.held) gone.indent t.held.place.col (omega (arith, deep, shallow))
+      indented : plain_ends.is_indented around t.held.position ≡ true
+      indented = in_position (in_flow t.held) gone.indent t.held.position.col (omega (arith, deep, shallow))
 
-      by : (x : Result (Read plains.Plain) Fault) → plain_ends.PlainEndsAs around t.held.place t.rest x → Refuses (IsTold text) x
+      by : (x : Result (Read plains.Plain) Fault) → plain_ends.PlainEndsAs around t.held.position t.rest x → Refuses (IsTold text) x
       by x (plain_ends.reads piece gap rest value cut whole white ends is e) = rw e none
       by x (plain_ends.refuses f why e) = rw e (this (plain_why_told around f refl why))
 
   pub plain_scalar_told : IsDeep t.held → is_empty t.rest ≡ false → begins_separation t.rest ≡ false → Refuses (IsTold text) (fetch_plain_scalar t)
   unfolding fetch_plain_scalar unroll_non_block_indents
   plain_scalar_told deep some solid =
-      subst (λ h. Refuses (IsTold text) (lexed (plains.plain (context (unroll_non_block_indents (allow_key false h))) t.rest t.held.place) (unroll_non_block_indents (allow_key false h))
-      (λ r u. Ok (on_held (λ v. push t.held.place (Tok.scalar Style.plain r.text) (after_plain r.leading v)) u)))) (sym (saved_is t.held))
-      (lexes (plains.plain around t.rest t.held.place) (unroll_non_block_indents (allow_key false (record t.held { keys = saved_keys t.held }))) _ (plain_told deep some solid) (λ x k. none))
+      subst (λ h. Refuses (IsTold text) (lexed (plains.plain (context (unroll_non_block_indents (allow_key false h))) t.rest t.held.position) (unroll_non_block_indents (allow_key false h))
+      (λ r u. Ok (on_held (λ v. push t.held.position (Tok.scalar Style.plain r.text) (after_plain r.leading v)) u)))) (sym (saved_is t.held))
+      (lexes (plains.plain around t.rest t.held.position) (unroll_non_block_indents (allow_key false (record t.held { keys = saved_keys t.held }))) _ (plain_told deep some solid) (λ x k. none))

@@ -11,12 +11,12 @@ use Rattle.defs_text.specs.Breaks.{split, split_by, put_first, is_before_line_fe
 use Rattle.defs_scalar.specs.FlowScalar.{begins_with}
 use Rattle.defs_scalar.specs.BlockScalar.{BlockStyle, literal, folded, Header, header_of, body, further_text, block_value, is_outside, is_further_text}
 use Rattle.defs_token.specs.Separation.{is_separation}
-use Rattle.defs_token.specs.BlockPiece.{BlockRead, column_of, with_value, is_past, read_body, read_lines, block_read, past_spaces, block_place}
+use Rattle.defs_token.specs.BlockPiece.{BlockRead, column_of, with_value, is_past, read_body, read_lines, block_read, past_spaces, block_position}
 use Rattle.defs_token.specs.Account.{Account, is_in_flow, collection_column}
 use Rattle.defs_token.specs.Piece.{IsPiece, IsBlockScalar}
 use Rattle.model_lexers.specs.Machine.{Read}
 use Rattle.model_lexers.specs.Block.{Block, block}
-use Rattle.proof_lexers.specs.BlockScan.{is_literal_style, without_spaces, further_place, read_block, read, shallow, tabbed}
+use Rattle.proof_lexers.specs.BlockScan.{is_literal_style, without_spaces, further_position, read_block, read, shallow, tabbed}
 use Rattle.proof_lexers.specs.PlainEnds.{collection_of, has_no_nul}
 use Rattle.proof_lexers.specs.BlockEnds.{BlockEndsAs, bad_header}
 use Rattle.proof_lexers.specs.BlockEnds as ends
@@ -50,10 +50,10 @@ spaces_fill (c ∷ r) rest = by (c == space) refl (spaces_fill r rest)
     by true e h = let same : c ≡ 32 = eqb-true c 32 e in rw same h
     by false e h = refl
 
-spaces_place : (p : Position) (t : List ℕ) → past_spaces p t ≡ position_after p (spaces_of t) (without_spaces t)
+spaces_position : (p : Position) (t : List ℕ) → past_spaces p t ≡ position_after p (spaces_of t) (without_spaces t)
 unfolding spaces_of
-spaces_place p [] = refl
-spaces_place p (c ∷ r) = by (c == space) (spaces_place (position_past p c r) r)
+spaces_position p [] = refl
+spaces_position p (c ∷ r) = by (c == space) (spaces_position (position_past p c r) r)
   where
     by : (b : Bool) → past_spaces (position_past p c r) r ≡ position_after (position_past p c r) (spaces_of r) (without_spaces r)
         → (if b then past_spaces (position_past p c r) r else p) ≡ position_after p (if b then c ∷ spaces_of r else []) (if b then without_spaces r else c ∷ r)
@@ -194,20 +194,20 @@ module _ (a : Account) (indent : ℕ) (outside : is_in_flow a ≡ false) (column
   same_column : collection_column a ≡ collection_of indent
   same_column = column ∙ same_collection indent
 
-  below : (c : ℕ) (piece next : List ℕ) (b : BlockRead) → has_no_nul next ≡ true → block_read (collection_of indent) (c ∷ piece) next ≡ Some b → IsBelow a.place (further_place a.place (c ∷ piece) next) (without_spaces next)
+  below : (c : ℕ) (piece next : List ℕ) (b : BlockRead) → has_no_nul next ≡ true → block_read (collection_of indent) (c ∷ piece) next ≡ Some b → IsBelow a.position (further_position a.position (c ∷ piece) next) (without_spaces next)
   below c piece next b nul is = by (is_at_end next) refl
     where
-      by : (e : Bool) → is_at_end next ≡ e → IsBelow a.place (further_place a.place (c ∷ piece) next) (without_spaces next)
+      by : (e : Bool) → is_at_end next ≡ e → IsBelow a.position (further_position a.position (c ∷ piece) next) (without_spaces next)
       by true e = inl (ap without_spaces (end_no_text next nul e))
       by false e =
           let q = piece_has_line (collection_of indent) (c ∷ piece) next b e is in
-          let up = lines_up a.place (c ∷ piece) next q.0 q.1 in
-          let stays = line_up (position_after a.place (c ∷ piece) next) (spaces_of next) (without_spaces next) in
-          let here = ap (λ (z : Position). z.line) (spaces_place (position_after a.place (c ∷ piece) next) next) in
+          let up = lines_up a.position (c ∷ piece) next q.0 q.1 in
+          let stays = line_up (position_after a.position (c ∷ piece) next) (spaces_of next) (without_spaces next) in
+          let here = ap (λ (z : Position). z.line) (spaces_position (position_after a.position (c ∷ piece) next) next) in
           inr (grind (arith, nat_tests, up, stays, here))
 
   found : (style : BlockStyle) (text piece next : List ℕ) (b : BlockRead) → has_no_nul next ≡ true → text ≡ piece ++ next → block_read (collection_of indent) piece next ≡ Some b → b.style ≡ style
-      → ReadAs a text (token_of style b.text) (block_place b.column a.place piece next) (without_spaces next) (further_place a.place piece next) × IsBelow a.place (further_place a.place piece next) (without_spaces next)
+      → ReadAs a text (token_of style b.text) (block_position b.column a.position piece next) (without_spaces next) (further_position a.position piece next) × IsBelow a.position (further_position a.position piece next) (without_spaces next)
   found style text [] next b nul cut is looks = absurd (cc (some_piece (collection_of indent) [] next b is))
   found style text (c ∷ piece) next b nul cut is looks = (
     record {
@@ -216,9 +216,9 @@ module _ (a : Account) (indent : ℕ) (outside : is_in_flow a ≡ false) (column
       separation = spaces_of next;
       is_text = cut ∙ ap (λ l. (c ∷ piece) ++ l) (spaces_cut next);
       is_filled = spaces_fill next (without_spaces next);
-      is_piece = λ following. subst (λ l. IsPiece a (c ∷ piece) l following (block_place b.column a.place (c ∷ piece) next) (token_of style b.text)) (spaces_cut next)
-          (piece_of a style (c ∷ piece) next b.text (block_place b.column a.place (c ∷ piece) next) following (outside, (b.column, read_is, refl)));
-      is_end = spaces_place (position_after a.place (c ∷ piece) next) next ∙ ap (λ l. position_after (position_after a.place (c ∷ piece) l) (spaces_of next) (without_spaces next)) (spaces_cut next);
+      is_piece = λ following. subst (λ l. IsPiece a (c ∷ piece) l following (block_position b.column a.position (c ∷ piece) next) (token_of style b.text)) (spaces_cut next)
+          (piece_of a style (c ∷ piece) next b.text (block_position b.column a.position (c ∷ piece) next) following (outside, (b.column, read_is, refl)));
+      is_end = spaces_position (position_after a.position (c ∷ piece) next) next ∙ ap (λ l. position_after (position_after a.position (c ∷ piece) l) (spaces_of next) (without_spaces next)) (spaces_cut next);
     },
     below c piece next b nul is,
   )
@@ -226,16 +226,16 @@ module _ (a : Account) (indent : ℕ) (outside : is_in_flow a ≡ false) (column
       read_is : block_read (collection_column a) (c ∷ piece) next ≡ Some (record { style = style; column = b.column; text = b.text })
       read_is = rw same_column (is ∙ ap (λ z. Some (record { style = z; column = b.column; text = b.text })) looks)
 
-  by_style : (style : BlockStyle) (more : List ℕ) (r : Read Block) → has_no_nul (indicator_of style ∷ more) ≡ true → has_no_nul more ≡ true → block (is_literal_style style) indent (indicator_of style ∷ more) a.place ≡ Ok r
-      → ReadAs a (indicator_of style ∷ more) (token_of style r.value.text) r.value.place r.rest r.place × IsBelow a.place r.place r.rest
-  by_style style more r all nul e = by (block (is_literal_style style) indent (indicator_of style ∷ more) a.place) e (scans_end style indent more a.place (some_chars more nul))
+  by_style : (style : BlockStyle) (more : List ℕ) (r : Read Block) → has_no_nul (indicator_of style ∷ more) ≡ true → has_no_nul more ≡ true → block (is_literal_style style) indent (indicator_of style ∷ more) a.position ≡ Ok r
+      → ReadAs a (indicator_of style ∷ more) (token_of style r.value.text) r.value.position r.rest r.position × IsBelow a.position r.position r.rest
+  by_style style more r all nul e = by (block (is_literal_style style) indent (indicator_of style ∷ more) a.position) e (scans_end style indent more a.position (some_chars more nul))
     where
-      by : (x : Result (Read Block) Fault) → x ≡ Ok r → BlockEndsAs style indent a.place more x → ReadAs a (indicator_of style ∷ more) (token_of style r.value.text) r.value.place r.rest r.place × IsBelow a.place r.place r.rest
+      by : (x : Result (Read Block) Fault) → x ≡ Ok r → BlockEndsAs style indent a.position more x → ReadAs a (indicator_of style ∷ more) (token_of style r.value.text) r.value.position r.rest r.position × IsBelow a.position r.position r.rest
       by x e (bad_header line after f cut in_line at why k) = absurd (cc (e, k))
       by x e (ends.scalar piece next b cut is looks (shallow free low k)) = absurd (cc (e, k))
       by x e (ends.scalar piece next b cut is looks (tabbed tab k)) = absurd (cc (e, k))
       by x e (ends.scalar piece next b cut is looks (read free deep k)) =
-          let same : read_block a.place b piece next ≡ r = cc in
+          let same : read_block a.position b piece next ≡ r = cc in
           let none : has_no_nul next ≡ true = no_nul_after piece next (subst (λ l. has_no_nul l ≡ true) cut all) in
           rw (← same) (found style (indicator_of style ∷ more) piece next b none cut is looks)
 

@@ -13,7 +13,7 @@ use Rattle.model_lexers.specs.Machine.{Read}
 use Rattle.model_lexers.specs.Directive.{directive}
 use Rattle.proof_lexers.specs.DirectiveEnds.{token_of, ends_line, first_break, next_line, after_line, DirectiveEndsAs, reads, refuses}
 use Rattle.proof_lexers.proofs.Directives.Lines.{directives_end}
-use Rattle.proof_lexers.proofs.Separation.Places.{place_append}
+use Rattle.proof_lexers.proofs.Separation.Positions.{position_append}
 use Rattle.proof_cut.specs.PiecesRead.{ReadAs, is_directive_token, DirectiveIsRead}
 
 -- ---- the break after a directive
@@ -55,7 +55,7 @@ line_end_there (c ∷ r) h = rw h refl
 
 -- ---- the piece
 
-piece_of : (a : Account) (piece next : List ℕ) (d : Directive) (following : Option Tok) → IsDirective a piece next d → IsPiece a piece next following a.place (token_of d)
+piece_of : (a : Account) (piece next : List ℕ) (d : Directive) (following : Option Tok) → IsDirective a piece next d → IsPiece a piece next following a.position (token_of d)
 piece_of a piece next (version major minor) following h = (h, refl)
 piece_of a piece next (tag_declaration handle prefix) following h = (inl h, refl)
 piece_of a piece next reserved following h = (inr (refl, refl, h), refl)
@@ -71,12 +71,12 @@ percent_in_line l h = h
 
 -- a directive that was read is the piece of its token, and after it the break of its line was passed
 pub directive_is_read : DirectiveIsRead
-directive_is_read a more r nul column closed e = by (directive (37 ∷ more) a.place) e (directives_end more a.place)
+directive_is_read a more r nul column closed e = by (directive (37 ∷ more) a.position) e (directives_end more a.position)
   where
-    by : (x : Result (Read Tok) Fault) → x ≡ Ok r → DirectiveEndsAs a.place more x → ReadAs a (37 ∷ more) r.value a.place r.rest r.place × (is_directive_token r.value ≡ true)
+    by : (x : Result (Read Tok) Fault) → x ≡ Ok r → DirectiveEndsAs a.position more x → ReadAs a (37 ∷ more) r.value a.position r.rest r.position × (is_directive_token r.value ≡ true)
     by x e (refuses line next f cut no_break ends none why k) = absurd (cc (e, k))
     by x e (reads line next d cut no_break ends is k) =
-        let same : after_line a.place (37 ∷ line) next (token_of d) ≡ r = cc in
+        let same : after_line a.position (37 ∷ line) next (token_of d) ≡ r = cc in
         rw (← same) (
           record {
             first = 37;
@@ -84,9 +84,9 @@ directive_is_read a more r nul column closed e = by (directive (37 ∷ more) a.p
             separation = first_break next;
             is_text = ap (λ l. 37 ∷ l) (cut ∙ ap (λ l. line ++ l) (break_cut next));
             is_filled = break_is_separation next ends;
-            is_piece = λ following. subst (λ l. IsPiece a (37 ∷ line) l following a.place (token_of d)) (break_cut next)
+            is_piece = λ following. subst (λ l. IsPiece a (37 ∷ line) l following a.position (token_of d)) (break_cut next)
                 (piece_of a (37 ∷ line) next d following (is, percent_in_line line no_break, column, line_end_there next ends, closed));
-            is_end = place_append a.place (37 ∷ line) (first_break next) (next_line next);
+            is_end = position_append a.position (37 ∷ line) (first_break next) (next_line next);
           },
           token_is d,
         )

@@ -13,9 +13,9 @@ use Rattle.defs_token.specs.Cut.{Written, IsRow, spelled, account_at, account_pa
 use Rattle.defs_token.proofs.Append.{spelled_append}
 use Rattle.defs_token.proofs.Inserted.{bare, empty_token, key_at, mapping_at, with_blocks, is_of_key, is_in_line, AreOnLine}
 use Rattle.defs_token.proofs.InsertedPair.{with_levels, above, pair_at, pair_inserted}
-use Rattle.proof_lexers.proofs.Separation.Places.{place_append}
+use Rattle.proof_lexers.proofs.Separation.Positions.{position_append}
 use Rattle.proof_cut.specs.Inside.{inside}
-use Rattle.proof_cut.proofs.Places.{not_before_after}
+use Rattle.proof_cut.proofs.Positions.{not_before_after}
 use Rattle.proof_cut.proofs.Heres.{before_again}
 use Rattle.proof_cut.proofs.Insides.{Stepped, stepped, stays_inside, levels_step, first_of_key}
 
@@ -67,7 +67,7 @@ at_settled bs column (c ∷ r) s = s column
 
 past_with_blocks : (bs : List (Option ℕ)) (a : Account) (w : Written) (next : List ℕ) → AreSettled bs → is_of_key w.token.tok ≡ true → account_past (with_blocks bs a) w next ≡ with_blocks bs (account_past a w next)
 past_with_blocks bs a w next s k =
-    ap (λ l. record (account_past a w next) { blocks = blocks_past l w.token.tok }) (at_settled bs (account_past_separation a w.separation (w.piece ++ next)).place.col w.piece s) ∙ ap (λ l. with_blocks l (account_past a w next)) (key_keeps bs w.token.tok k)
+    ap (λ l. record (account_past a w next) { blocks = blocks_past l w.token.tok }) (at_settled bs (account_past_separation a w.separation (w.piece ++ next)).position.col w.piece s) ∙ ap (λ l. with_blocks l (account_past a w next)) (key_keeps bs w.token.tok k)
 
 pub row_past_with_blocks : (bs : List (Option ℕ)) (a : Account) (ns ms : List Level) (ws : List Written) (f : List ℕ) → AreSettled bs → inside ns ws ≡ Some ms → account_past_row (with_blocks bs a) ws f ≡ with_blocks bs (account_past_row a ws f)
 row_past_with_blocks bs a ns ms [] f s i = refl
@@ -89,19 +89,19 @@ one_more_settled bs n s column = ap (λ l. Some n ∷ l) (s column)
 -- The account after a row with a mapping's start and a key before it: the mapping is open besides, in the column of the key.
 pub mapping_after : (a : Account) (w : Written) (ws : List Written) (f : List ℕ) (p q : Position) (ms : List Level) → inside [] (w ∷ ws) ≡ Some ms → is_empty w.piece ≡ false → ((column : ℕ) → settled column a.blocks ≡ a.blocks) →
     account_past_row a (empty_token w.separation (mapping_at p) ∷ empty_token [] (key_at q) ∷ bare w ∷ ws) f
-    ≡ (let b : Account = account_past_row a (w ∷ ws) f in record b { blocks = Some ((account_at a w (spelled ws f)).place.col) ∷ b.blocks })
+    ≡ (let b : Account = account_past_row a (w ∷ ws) f in record b { blocks = Some ((account_at a w (spelled ws f)).position.col) ∷ b.blocks })
 mapping_after a w ws f p q ms i solid s =
     let next : List ℕ = spelled ws f in
     let before : Account = account_past_separation a w.separation (w.piece ++ next) in
-    let bs : List (Option ℕ) = Some before.place.col ∷ a.blocks in
+    let bs : List (Option ℕ) = Some before.position.col ∷ a.blocks in
     let z : Stepped [] w ws ms = stepped [] w ws ms i in
     let opened : account_past (with_blocks (None ∷ a.blocks) before) (bare w) next ≡ with_blocks bs (account_past before (bare w) next) =
-    ap (λ l. record (account_past before (bare w) next) { blocks = blocks_past l w.token.tok }) (waiting_settled a.blocks before.place.col w.piece solid s)
+    ap (λ l. record (account_past before (bare w) next) { blocks = blocks_past l w.token.tok }) (waiting_settled a.blocks before.position.col w.piece solid s)
     ∙ ap (λ l. with_blocks l (account_past before (bare w) next)) (key_keeps bs w.token.tok (first_of_key [] w ws ms i)) in
     key_after (with_blocks (None ∷ a.blocks) before) (bare w) ws f q ∙ ap (λ b. account_past_row b ws f) opened
-    ∙ row_past_with_blocks bs (account_past before (bare w) next) z.next ms ws f (one_more_settled a.blocks before.place.col s) z.others
+    ∙ row_past_with_blocks bs (account_past before (bare w) next) z.next ms ws f (one_more_settled a.blocks before.position.col s) z.others
     ∙ ap (with_blocks bs) (bare_after a w ws f)
-    ∙ ap (λ l. with_blocks (Some before.place.col ∷ l) (account_past_row a (w ∷ ws) f)) (sym (blocks_after a [] ms (w ∷ ws) f s i))
+    ∙ ap (λ l. with_blocks (Some before.position.col ∷ l) (account_past_row a (w ∷ ws) f)) (sym (blocks_after a [] ms (w ∷ ws) f s i))
 
 -- ---- other flow levels
 
@@ -216,16 +216,16 @@ spelled_before [] f = refl
 spelled_before (w ∷ ws) f =
     ap (λ t. w.separation ++ (w.piece ++ t)) (spelled_before ws f) ∙ ap (λ t. w.separation ++ t) (sym (append_assoc w.piece (spelled ws []) f)) ∙ sym (append_assoc w.separation (w.piece ++ spelled ws []) f)
 
--- the place after a row
-pub place_of_row : (a : Account) (ws : List Written) (f : List ℕ) → (account_past_row a ws f).place ≡ position_after a.place (spelled ws []) f
-place_of_row a [] f = refl
-place_of_row a (w ∷ ws) f =
+-- the position after a row
+pub position_of_row : (a : Account) (ws : List Written) (f : List ℕ) → (account_past_row a ws f).position ≡ position_after a.position (spelled ws []) f
+position_of_row a [] f = refl
+position_of_row a (w ∷ ws) f =
     let next : List ℕ = spelled ws f in
-    let at : Position = position_after a.place w.separation (w.piece ++ next) in
-    place_of_row (account_past a w next) ws f
-    ∙ ap (λ t. position_after (position_after (position_after a.place w.separation (w.piece ++ t)) w.piece t) (spelled ws []) f) (spelled_before ws f)
-    ∙ ap (λ p. position_after p (spelled ws []) f) (sym (place_append a.place w.separation w.piece (spelled ws [] ++ f)))
-    ∙ sym (place_append a.place (w.separation ++ w.piece) (spelled ws []) f) ∙ ap (λ t. position_after a.place t f) (append_assoc w.separation w.piece (spelled ws []))
+    let at : Position = position_after a.position w.separation (w.piece ++ next) in
+    position_of_row (account_past a w next) ws f
+    ∙ ap (λ t. position_after (position_after (position_after a.position w.separation (w.piece ++ t)) w.piece t) (spelled ws []) f) (spelled_before ws f)
+    ∙ ap (λ p. position_after p (spelled ws []) f) (sym (position_append a.position w.separation w.piece (spelled ws [] ++ f)))
+    ∙ sym (position_append a.position (w.separation ++ w.piece) (spelled ws []) f) ∙ ap (λ t. position_after a.position t f) (append_assoc w.separation w.piece (spelled ws []))
 
 colon_breaks : is_break 58 ≡ false
 unfolding is_break
@@ -267,13 +267,13 @@ are_on_line ns ms (w ∷ ws) g r i h =
 
 -- A row of a key's tokens stands on one line with its colon, where the colon's line is not after that of the first token.
 pub on_line : (a : Account) (w : Written) (ws : List Written) (f g r : List ℕ) (ms : List Level) → inside [] (w ∷ ws) ≡ Some ms → f ≡ g ++ (58 ∷ r)
-    → (position_after (account_past_row a (w ∷ ws) f).place g (58 ∷ r)).line ≤ (account_at a w (spelled ws f)).place.line → AreOnLine (w ∷ ws) f
+    → (position_after (account_past_row a (w ∷ ws) f).position g (58 ∷ r)).line ≤ (account_at a w (spelled ws f)).position.line → AreOnLine (w ∷ ws) f
 on_line a w ws f g r ms i cut h =
     let start : Account = account_past_separation a w.separation (w.piece ++ spelled ws f) in
     let row : List ℕ = w.piece ++ spelled ws [] in
-    let end : (account_past_row a (w ∷ ws) f).place ≡ position_after start.place row f = ap (λ (b : Account). b.place) (sym (bare_after a w ws f)) ∙ place_of_row start (bare w ∷ ws) f in
-    let here : position_after (account_past_row a (w ∷ ws) f).place g (58 ∷ r) ≡ position_after start.place (row ++ g) (58 ∷ r) =
-    ap (λ p. position_after p g (58 ∷ r)) (end ∙ ap (position_after start.place row) cut) ∙ sym (place_append start.place row g (58 ∷ r)) in
-    let still : (position_after start.place (row ++ g) (58 ∷ r)).line ≤ start.place.line = subst (λ (p : Position). p.line ≤ start.place.line) here h in
-    let clean : has_no_break (row ++ g) ≡ true = no_break_on_line start.place (row ++ g) 58 r refl still in
+    let end : (account_past_row a (w ∷ ws) f).position ≡ position_after start.position row f = ap (λ (b : Account). b.position) (sym (bare_after a w ws f)) ∙ position_of_row start (bare w ∷ ws) f in
+    let here : position_after (account_past_row a (w ∷ ws) f).position g (58 ∷ r) ≡ position_after start.position (row ++ g) (58 ∷ r) =
+    ap (λ p. position_after p g (58 ∷ r)) (end ∙ ap (position_after start.position row) cut) ∙ sym (position_append start.position row g (58 ∷ r)) in
+    let still : (position_after start.position (row ++ g) (58 ∷ r)).line ≤ start.position.line = subst (λ (p : Position). p.line ≤ start.position.line) here h in
+    let clean : has_no_break (row ++ g) ≡ true = no_break_on_line start.position (row ++ g) 58 r refl still in
     subst (AreOnLine (w ∷ ws)) (sym cut) (are_on_line [] ms (bare w ∷ ws) g r i clean)

@@ -14,7 +14,7 @@ use Rattle.model_lexers.specs.Anchor.{anchor_name}
 use Rattle.model_scanner.specs.Document.{anchor_token}
 use Rattle.proof_lexers.specs.NameEnds.{further, after_name, NameEndsAs, named, nameless}
 use Rattle.proof_lexers.proofs.Properties.Names.{names_end}
-use Rattle.proof_lexers.proofs.Separation.Places.{place_in_line}
+use Rattle.proof_lexers.proofs.Separation.Positions.{position_in_line}
 use Rattle.proof_cut.specs.PiecesRead.{ReadAs, NameIsRead}
 
 -- ---- no break stands among the characters of a class that has none
@@ -47,16 +47,16 @@ mark_in_line true = refl
 mark_in_line false = refl
 
 module _ (a : Account) (more name rest : List ℕ) (is : is_name name ≡ true) (ends : goes_on_with_name rest ≡ false) where
-  is_of_token : (b : Bool) (following : Option Tok) → IsPiece a (mark b ∷ name) rest following a.place (anchor_token b name)
+  is_of_token : (b : Bool) (following : Option Tok) → IsPiece a (mark b ∷ name) rest following a.position (anchor_token b name)
   is_of_token true following = ((refl, is, ends), refl)
   is_of_token false following = ((refl, is, ends), refl)
 
-  place_of : (b : Bool) → further (1 + length name) a.place ≡ position_after a.place (mark b ∷ name) rest
-  place_of b =
+  position_of : (b : Bool) → further (1 + length name) a.position ≡ position_after a.position (mark b ∷ name) rest
+  position_of b =
       let more_by_one : 1 + length name ≡ length (mark b ∷ name) = omega arith in
-      rw more_by_one (place_in_line a.place (mark b ∷ name) rest (rw (mark_in_line b) (name_in_line name is)))
+      rw more_by_one (position_in_line a.position (mark b ∷ name) rest (rw (mark_in_line b) (name_in_line name is)))
 
-  found : (b : Bool) → more ≡ name ++ rest → ReadAs a (mark b ∷ more) (anchor_token b name) a.place rest (further (1 + length name) a.place)
+  found : (b : Bool) → more ≡ name ++ rest → ReadAs a (mark b ∷ more) (anchor_token b name) a.position rest (further (1 + length name) a.position)
   found b cut = record {
     first = mark b;
     more = name;
@@ -64,15 +64,15 @@ module _ (a : Account) (more name rest : List ℕ) (is : is_name name ≡ true) 
     is_text = ap (λ l. mark b ∷ l) cut;
     is_filled = refl;
     is_piece = is_of_token b;
-    is_end = place_of b;
+    is_end = position_of b;
   }
 
 -- a name that was read is, with its indicator, the piece of its token
 pub name_is_read : NameIsRead
-name_is_read a is_alias more r nul e = by (anchor_name (mark is_alias ∷ more) a.place) e (names_end (mark is_alias) more a.place)
+name_is_read a is_alias more r nul e = by (anchor_name (mark is_alias ∷ more) a.position) e (names_end (mark is_alias) more a.position)
   where
-    by : (x : Result (Read (List ℕ)) Fault) → x ≡ Ok r → NameEndsAs a.place more x → ReadAs a (mark is_alias ∷ more) (anchor_token is_alias r.value) a.place r.rest r.place
+    by : (x : Result (Read (List ℕ)) Fault) → x ≡ Ok r → NameEndsAs a.position more x → ReadAs a (mark is_alias ∷ more) (anchor_token is_alias r.value) a.position r.rest r.position
     by x e (nameless none k) = absurd (cc (e, k))
     by x e (named name rest cut is ends k) =
-        let same : after_name a.place name rest ≡ r = cc in
+        let same : after_name a.position name rest ≡ r = cc in
         rw (← same) (found a more name rest is ends is_alias cut)

@@ -18,7 +18,7 @@ use Rattle.model_lexers.specs.Plain as models
 use Rattle.proof_lexers.proofs.Bridges.{same_flow}
 use Rattle.proof_lexers.specs.PlainEnds.{collection_of, begins_solid, is_white, after_plain, PlainEndsAs, reads, refuses}
 use Rattle.proof_lexers.proofs.Plain.Scalars.{scans_end}
-use Rattle.proof_lexers.proofs.Separation.Places.{place_append}
+use Rattle.proof_lexers.proofs.Separation.Positions.{position_append}
 use Rattle.proof_cut.specs.PiecesRead.{ReadAs, comes_plain, PlainIsRead}
 use Rattle.proof_cut.proofs.Pieces.Separations.{gap_is_separation}
 
@@ -93,9 +93,9 @@ begins_as_read ctx adjacent (c ∷ t) p r h e = by_dash (c == 45) refl
 -- ---- the piece
 
 module _ (a : Account) (ctx : Context) (text : List ℕ) (r : Read Plain) (flows : is_in_flow a ≡ ctx.flow) (column : collection_column a ≡ collection_of ctx.indent)
-    (begins : begins_plain (is_in_flow a) (is_adjacent a.before) a.place.col text ≡ true) where
+    (begins : begins_plain (is_in_flow a) (is_adjacent a.before) a.position.col text ≡ true) where
   found : (piece gap rest value : List ℕ) → text ≡ piece ++ (gap ++ rest) → is_whole_plain (is_in_flow a) (collection_column a) piece (gap ++ rest) ≡ true → is_separation false gap rest ≡ true
-      → plain_value piece ≡ Some value → ReadAs a text (scalar plain value) a.place rest (position_after a.place (piece ++ gap) rest)
+      → plain_value piece ≡ Some value → ReadAs a text (scalar plain value) a.position rest (position_after a.position (piece ++ gap) rest)
   found [] gap rest value cut whole filled is = absurd (cc whole)
   found (c ∷ piece) gap rest value cut whole filled is = record {
     first = c;
@@ -104,21 +104,21 @@ module _ (a : Account) (ctx : Context) (text : List ℕ) (r : Read Plain) (flows
     is_text = cut;
     is_piece = λ following. ((begins_text cut, whole, is), refl);
     is_filled = filled;
-    is_end = place_append a.place (c ∷ piece) gap rest;
+    is_end = position_append a.position (c ∷ piece) gap rest;
   }
     where
-      begins_text : {t : List ℕ} → text ≡ t → begins_plain (is_in_flow a) (is_adjacent a.before) a.place.col t ≡ true
-      begins_text e = sym (ap (begins_plain (is_in_flow a) (is_adjacent a.before) a.place.col) e) ∙ begins
+      begins_text : {t : List ℕ} → text ≡ t → begins_plain (is_in_flow a) (is_adjacent a.before) a.position.col t ≡ true
+      begins_text e = sym (ap (begins_plain (is_in_flow a) (is_adjacent a.before) a.position.col) e) ∙ begins
 
-  by : (x : Result (Read Plain) Fault) → x ≡ Ok r → PlainEndsAs ctx a.place text x → ReadAs a text (scalar plain r.value.text) a.place r.rest r.place
+  by : (x : Result (Read Plain) Fault) → x ≡ Ok r → PlainEndsAs ctx a.position text x → ReadAs a text (scalar plain r.value.text) a.position r.rest r.position
   by x e (refuses f why is) = absurd (cc (e, is))
   by x e (reads piece gap rest value cut whole white ends is read) =
-      let same : after_plain a.place piece gap rest value ≡ r = cc in
+      let same : after_plain a.position piece gap rest value ≡ r = cc in
       let here : is_whole_plain (is_in_flow a) (collection_column a) piece (gap ++ rest) ≡ true = rw (flows, column) whole in
-      subst (λ (q : Read Plain). ReadAs a text (scalar plain q.value.text) a.place q.rest q.place) same (found piece gap rest value cut here (gap_is_separation gap rest white) is)
+      subst (λ (q : Read Plain). ReadAs a text (scalar plain q.value.text) a.position q.rest q.position) same (found piece gap rest value cut here (gap_is_separation gap rest white) is)
 
 -- a plain scalar that was read is the piece of its token, and after it blanks and breaks were passed
 pub plain_is_read : PlainIsRead
 plain_is_read a ctx text r nul flows column comes indented is =
-    let begins : begins_plain (is_in_flow a) (is_adjacent a.before) a.place.col text ≡ true = rw flows (begins_as_read ctx (is_adjacent a.before) text a.place r comes is) in
-    by a ctx text r flows column begins (models.plain ctx text a.place) is (scans_end ctx text a.place nul (begins_solid_with (is_in_flow a) (is_adjacent a.before) a.place.col text begins) indented)
+    let begins : begins_plain (is_in_flow a) (is_adjacent a.before) a.position.col text ≡ true = rw flows (begins_as_read ctx (is_adjacent a.before) text a.position r comes is) in
+    by a ctx text r flows column begins (models.plain ctx text a.position) is (scans_end ctx text a.position nul (begins_solid_with (is_in_flow a) (is_adjacent a.before) a.position.col text begins) indented)

@@ -11,7 +11,7 @@ use Rattle.model_lexers.specs.Machine.{Read}
 use Rattle.model_lexers.specs.Tag as models
 use Rattle.proof_lexers.specs.TagEnds.{may_follow, after_tag, TagEndsAs, reads, refuses}
 use Rattle.proof_lexers.proofs.Properties.Tags.{span_cut, all_leading, tags_end}
-use Rattle.proof_lexers.proofs.Separation.Places.{place_in_line}
+use Rattle.proof_lexers.proofs.Separation.Positions.{position_in_line}
 use Rattle.proof_cut.specs.PiecesRead.{ReadAs, TagIsRead}
 use Rattle.proof_cut.proofs.Pieces.Separations.{no_break_append}
 use Rattle.proof_cut.proofs.Pieces.Names.{all_in_line}
@@ -94,12 +94,12 @@ written_in_line (c ∷ t) g h = by (c == 60) refl h
 
 -- a tag that was read is the piece of its token
 pub tag_is_read : TagIsRead
-tag_is_read a in_flow more r nul flows e = by (models.tag in_flow (33 ∷ more) a.place) e (tags_end in_flow more a.place)
+tag_is_read a in_flow more r nul flows e = by (models.tag in_flow (33 ∷ more) a.position) e (tags_end in_flow more a.position)
   where
-    by : (x : Result (Read models.Tag) Fault) → x ≡ Ok r → TagEndsAs in_flow a.place more x → ReadAs a (33 ∷ more) (Tok.tag r.value.handle r.value.suffix) a.place r.rest r.place
+    by : (x : Result (Read models.Tag) Fault) → x ≡ Ok r → TagEndsAs in_flow a.position more x → ReadAs a (33 ∷ more) (Tok.tag r.value.handle r.value.suffix) a.position r.rest r.position
     by x e (refuses why reason k) = absurd (cc (e, k))
     by x e (reads piece rest handle suffix cut is follows k) =
-        let same : after_tag a.place (33 ∷ piece) rest handle suffix ≡ r = cc in
+        let same : after_tag a.position (33 ∷ piece) rest handle suffix ≡ r = cc in
         let may : may_follow (is_in_flow a) rest ≡ true = rw flows follows in
         rw (← same) (record {
           first = 33;
@@ -108,5 +108,5 @@ tag_is_read a in_flow more r nul flows e = by (models.tag in_flow (33 ∷ more) 
           is_text = ap (λ l. 33 ∷ l) cut;
           is_filled = refl;
           is_piece = λ following. ((is, may), refl);
-          is_end = place_in_line a.place (33 ∷ piece) rest (written_in_line piece (record { handle = handle; suffix = suffix }) is);
+          is_end = position_in_line a.position (33 ∷ piece) rest (written_in_line piece (record { handle = handle; suffix = suffix }) is);
         })

@@ -22,14 +22,14 @@ pub record Staled {d : Around} (r : List ℕ) (fs : List FlowLevel) (ks : List (
   pub same : is_empty fs ≡ false → key ≡ p.key
   pub is : try_held stale (stands r fs ks p) ≡ Ok (stands r fs ks (record p { key = key }))
 
-still_loose : (place : Position) (k : Key) (b : Bool) → k.required ≡ false → is_required (if b then None else Some k) ≡ false
-still_loose place k true h = refl
-still_loose place k false h = h
+still_loose : (position : Position) (k : Key) (b : Bool) → k.required ≡ false → is_required (if b then None else Some k) ≡ false
+still_loose position k true h = refl
+still_loose position k false h = h
 
 staled_key : {d : Around} (r : List ℕ) (p : Parts d) (key : Option Key) → p.key ≡ key → is_required key ≡ false → Staled r [] [] p
 unfolding stale drop_stale
 staled_key r p None e h = record { key = None; loose = refl; same = λ n. cc; is = rw e refl }
-staled_key r p (Some k) e h = record { key = still p.place (Some k); loose = still_loose p.place k (is_far k.place p.place) h; same = λ n. cc; is = rw (e, h, and_false (is_far k.place p.place)) refl }
+staled_key r p (Some k) e h = record { key = still p.position (Some k); loose = still_loose p.position k (is_far k.position p.position) h; same = λ n. cc; is = rw (e, h, and_false (is_far k.position p.position)) refl }
 
 pub staled : {d : Around} (r : List ℕ) (fs : List FlowLevel) (ks : List (Option Key)) (p : Parts d) → IsBottom d fs ks → is_required p.key ≡ false → Staled r fs ks p
 unfolding stale
@@ -44,35 +44,35 @@ unrolls (block i is l shut) r [] ks n p bottom = absurd bottom.0
 unrolls d r (f ∷ fs) ks n p bottom = refl
 
 module _ {d : Around} (c : ℕ) (a : List ℕ) (ks : List (Option Key)) (solid : is_content c ≡ true) (other : comes_marker 45 (c ∷ a) ≡ false) where
-  no_end : (fs : List FlowLevel) (p : Parts d) (b : Bool) → Fits d p.place → (if b then fetch_first_column (stands (c ∷ a) fs ks p) else fetch_indented (stands (c ∷ a) fs ks p)) ≡ token_by (class_of c) (stands (c ∷ a) fs ks p)
+  no_end : (fs : List FlowLevel) (p : Parts d) (b : Bool) → Fits d p.position → (if b then fetch_first_column (stands (c ∷ a) fs ks p) else fetch_indented (stands (c ∷ a) fs ks p)) ≡ token_by (class_of c) (stands (c ∷ a) fs ks p)
   unfolding fetch_first_column fetch_indented fetch_token comes_marker
-  no_end fs p true fits = let z = content c solid in rw (z.percent, other, z.point, no_end_at d p.is_open p.place fits) refl
-  no_end fs p false fits = rw (no_end_at d p.is_open p.place fits) refl
+  no_end fs p true fits = let z = content c solid in rw (z.percent, other, z.point, no_end_at d p.is_open p.position fits) refl
+  no_end fs p false fits = rw (no_end_at d p.is_open p.position fits) refl
 
-  pub here : (fs : List FlowLevel) (p : Parts d) → IsBottom d fs ks → Fits d p.place → fetch_here (on_held (λ s. unroll_indent (s.place.col + 1) s) (stands (c ∷ a) fs ks p)) ≡ token_by (class_of c) (stands (c ∷ a) fs ks p)
+  pub here : (fs : List FlowLevel) (p : Parts d) → IsBottom d fs ks → Fits d p.position → fetch_here (on_held (λ s. unroll_indent (s.position.col + 1) s) (stands (c ∷ a) fs ks p)) ≡ token_by (class_of c) (stands (c ∷ a) fs ks p)
   unfolding fetch_here fetch_content
-  here fs p bottom fits = let z = content c solid in rw (unrolls d (c ∷ a) fs ks (p.place.col + 1) p bottom, z.common.nul) (no_end fs p (p.place.col == 0) fits)
+  here fs p bottom fits = let z = content c solid in rw (unrolls d (c ∷ a) fs ks (p.position.col + 1) p bottom, z.common.nul) (no_end fs p (p.position.col == 0) fits)
 
 -- The first character of a token decides. Inside flow the key is the one before, and whether one may begin.
 pub record Fetched {d : Around} (from : ScannerState) (c : ℕ) (a : List ℕ) (fs : List FlowLevel) (ks : List (Option Key)) (p : Parts d) : Type 0 where
-  pub place : Position
-  pub fits : Fits d place
+  pub position : Position
+  pub fits : Fits d position
   pub allowed : Bool
   pub leading : Bool
   pub key : Option Key
   pub loose : is_required key ≡ false
   pub same_allowed : is_empty fs ≡ false → allowed ≡ p.allowed
-  pub is : fetch from ≡ (token_by (class_of c) (stands (c ∷ a) fs ks (record p { place = place; allowed = allowed; leading = leading; key = key })) >>= try_held stale)
+  pub is : fetch from ≡ (token_by (class_of c) (stands (c ∷ a) fs ks (record p { position = position; allowed = allowed; leading = leading; key = key })) >>= try_held stale)
 
-pub fetched : {d : Around} (g : List Blank) (c : ℕ) (a : List ℕ) (fs : List FlowLevel) (ks : List (Option Key)) (p : Parts d) → IsBottom d fs ks → MayStand d g → Fits d p.place → is_required p.key ≡ false → is_content c ≡ true → comes_marker 45 (c ∷ a) ≡ false
+pub fetched : {d : Around} (g : List Blank) (c : ℕ) (a : List ℕ) (fs : List FlowLevel) (ks : List (Option Key)) (p : Parts d) → IsBottom d fs ks → MayStand d g → Fits d p.position → is_required p.key ≡ false → is_content c ≡ true → comes_marker 45 (c ∷ a) ≡ false
     → Fetched (stands (spell_gap g (c ∷ a)) fs ks p) c a fs ks p
 unfolding fetch fetch_next
 fetched g c a fs ks p bottom may fits loose solid other =
     let y = next_token fs ks g (c ∷ a) p may fits solid in
-    let q = record p { place = y.place; allowed = y.allowed; leading = y.leading } in
+    let q = record p { position = y.position; allowed = y.allowed; leading = y.leading } in
     let z = staled (c ∷ a) fs ks q bottom loose in
     record {
-      place = y.place;
+      position = y.position;
       fits = y.fits;
       allowed = y.allowed;
       leading = y.leading;

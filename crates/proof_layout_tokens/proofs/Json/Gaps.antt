@@ -31,20 +31,20 @@ pub record Content (c : ℕ) : Type 0 where
 pub content : (c : ℕ) → is_content c ≡ true → Content c
 content c h = record { common = whites.content c (in_layout c h); percent = grind (arith, nat_tests); point = grind (arith, nat_tests) }
 
--- where lines may be broken no place belongs to a block collection's indentation
+-- where lines may be broken no position belongs to a block collection's indentation
 not_before : (d : Around) (fs : List FlowLevel) (ks : List (Option Key)) (r : List ℕ) (p : Parts d) → (IsLine d → ⊥) → is_before_indent ((stands r fs ks p).held) ≡ false
 unfolding is_before_indent
 not_before nothing fs ks r p broken = refl
 not_before (block i is l shut) fs ks r p broken = absurd (broken tt)
 
--- The state is at r, with another place; outside flow a key may have become possible.
+-- The state is at r, with another position; outside flow a key may have become possible.
 pub record Skipped {d : Around} (t : Result ScannerState Fault) (r : List ℕ) (fs : List FlowLevel) (ks : List (Option Key)) (p : Parts d) : Type 0 where
-  pub place : Position
-  pub fits : Fits d place
+  pub position : Position
+  pub fits : Fits d position
   pub allowed : Bool
   pub leading : Bool
   pub same : is_empty fs ≡ false → allowed ≡ p.allowed
-  pub is : t ≡ Ok (stands r fs ks (record p { place = place; allowed = allowed; leading = leading }))
+  pub is : t ≡ Ok (stands r fs ks (record p { position = position; allowed = allowed; leading = leading }))
 
 lined_allowed : (b c : Bool) → b ≡ false → (not (not b) || c) ≡ c
 lined_allowed true c h = cc
@@ -56,31 +56,31 @@ module _ {d : Around} (fs : List FlowLevel) (ks : List (Option Key)) where
   skip_solid (c ∷ a) p h = whites.solid_stays (c ∷ a) _ (in_layout c h)
 
   abbrev lined : Parts d → Parts d
-  lined p = record p { place = past_break p.place; leading = true; allowed = not (not (is_empty fs)) || p.allowed }
+  lined p = record p { position = past_break p.position; leading = true; allowed = not (not (is_empty fs)) || p.allowed }
 
-  after_char : (t : Result ScannerState Fault) (r : List ℕ) (p : Parts d) → Skipped t r fs ks (record p { place = past p.place }) → Skipped t r fs ks p
-  after_char t r p z = record { place = z.place; fits = z.fits; allowed = z.allowed; leading = z.leading; same = z.same; is = z.is }
+  after_char : (t : Result ScannerState Fault) (r : List ℕ) (p : Parts d) → Skipped t r fs ks (record p { position = past p.position }) → Skipped t r fs ks p
+  after_char t r p z = record { position = z.position; fits = z.fits; allowed = z.allowed; leading = z.leading; same = z.same; is = z.is }
 
   after_break : (t : Result ScannerState Fault) (r : List ℕ) (p : Parts d) → Skipped t r fs ks (lined p) → Skipped t r fs ks p
-  after_break t r p z = record { place = z.place; fits = z.fits; allowed = z.allowed; leading = z.leading; same = λ h. z.same h ∙ lined_allowed (is_empty fs) p.allowed h; is = z.is }
+  after_break t r p z = record { position = z.position; fits = z.fits; allowed = z.allowed; leading = z.leading; same = λ h. z.same h ∙ lined_allowed (is_empty fs) p.allowed h; is = z.is }
 
-  after_return : (b : Bool) (a r : List ℕ) (p : Parts d) → Skipped (skip between a (stands a fs ks (record p { place = past p.place })).held) r fs ks (record p { place = past p.place })
+  after_return : (b : Bool) (a r : List ℕ) (p : Parts d) → Skipped (skip between a (stands a fs ks (record p { position = past p.position })).held) r fs ks (record p { position = past p.position })
       → Skipped (skip between a (stands a fs ks (lined p)).held) r fs ks (lined p)
-      → Skipped (skip between a (if b then (stands a fs ks (record p { place = past p.place })).held else (stands a fs ks (lined p)).held)) r fs ks p
+      → Skipped (skip between a (if b then (stands a fs ks (record p { position = past p.position })).held else (stands a fs ks (lined p)).held)) r fs ks p
   after_return true a r p y z = after_char _ r p y
   after_return false a r p y z = after_break _ r p z
 
-  pub skip_gap : (g : List Blank) (r : List ℕ) (p : Parts d) → MayStand d g → Fits d p.place → is_solid r ≡ true → Skipped (skip between (spell_gap g r) (stands r fs ks p).held) r fs ks p
+  pub skip_gap : (g : List Blank) (r : List ℕ) (p : Parts d) → MayStand d g → Fits d p.position → is_solid r ≡ true → Skipped (skip between (spell_gap g r) (stands r fs ks p).held) r fs ks p
   unfolding skip is_break is_blank
-  skip_gap [] r p may fits h = record { place = p.place; fits = fits; allowed = p.allowed; leading = p.leading; same = λ _. refl; is = skip_solid r p h }
-  skip_gap (space ∷ g) r p may fits h = after_char _ r p (skip_gap g r (record p { place = past p.place }) may (fits_past d p.place fits) h)
-  skip_gap (tab ∷ g) r p may fits h = rw (not_before d fs ks r p may) (after_char _ r p (skip_gap g r (record p { place = past p.place }) (λ l. absurd (may l)) (fits_past d p.place fits) h))
-  skip_gap (line_feed ∷ g) r p may fits h = after_break _ r p (skip_gap g r (lined p) (λ l. absurd (may l)) (fits_break d p.place may) h)
+  skip_gap [] r p may fits h = record { position = p.position; fits = fits; allowed = p.allowed; leading = p.leading; same = λ _. refl; is = skip_solid r p h }
+  skip_gap (space ∷ g) r p may fits h = after_char _ r p (skip_gap g r (record p { position = past p.position }) may (fits_past d p.position fits) h)
+  skip_gap (tab ∷ g) r p may fits h = rw (not_before d fs ks r p may) (after_char _ r p (skip_gap g r (record p { position = past p.position }) (λ l. absurd (may l)) (fits_past d p.position fits) h))
+  skip_gap (line_feed ∷ g) r p may fits h = after_break _ r p (skip_gap g r (lined p) (λ l. absurd (may l)) (fits_break d p.position may) h)
   skip_gap (carriage_return ∷ g) r p may fits h =
-      after_return (slice_index (spell_gap g r) 0 == 10) (spell_gap g r) r p (skip_gap g r (record p { place = past p.place }) (λ l. absurd (may l)) (fits_past d p.place fits) h) (skip_gap g r (lined p) (λ l. absurd (may l)) (fits_break d p.place may) h)
+      after_return (slice_index (spell_gap g r) 0 == 10) (spell_gap g r) r p (skip_gap g r (record p { position = past p.position }) (λ l. absurd (may l)) (fits_past d p.position fits) h) (skip_gap g r (lined p) (λ l. absurd (may l)) (fits_break d p.position may) h)
 
   -- as far as the next token
-  pub next_token : (g : List Blank) (r : List ℕ) (p : Parts d) → MayStand d g → Fits d p.place → is_solid r ≡ true → Skipped (skip_to_next_token (stands (spell_gap g r) fs ks p)) r fs ks p
+  pub next_token : (g : List Blank) (r : List ℕ) (p : Parts d) → MayStand d g → Fits d p.position → is_solid r ≡ true → Skipped (skip_to_next_token (stands (spell_gap g r) fs ks p)) r fs ks p
   unfolding skip_to_next_token
   next_token g r p may fits h = skip_gap g r p may fits h
 
@@ -96,40 +96,40 @@ starts_break (carriage_return ∷ g) = true
 
 -- Blanks are passed over, up to a break or to r.
 record Passed (d : Around) (a r : List ℕ) (p : Position) (w : Whitespace) : Type 0 where
-  place : Position
-  fits : Fits d place
+  position : Position
+  fits : Fits d position
   gap : List Blank
   may : MayStand d gap
   found : Whitespace
   edge : starts_break gap ≡ true
-  is : scalar_space.space_from Yes a (record { place = p; found = w }) ≡ Ok (record { rest = spell_gap gap r; place = place; value = found })
+  is : scalar_space.space_from Yes a (record { position = p; found = w }) ≡ Ok (record { rest = spell_gap gap r; position = position; value = found })
 
 solid_passed : (d : Around) (r : List ℕ) (p : Position) (w : Whitespace) → Fits d p → is_solid r ≡ true → Passed d r r p w
-solid_passed d [] p w fits h = record { place = p; fits = fits; gap = []; may = λ _. tt; found = w; edge = refl; is = refl }
-solid_passed d (c ∷ a) p w fits h = let z = (content c h).common in record { place = p; fits = fits; gap = []; may = λ _. tt; found = w; edge = refl; is = rw (z.space, z.tab, z.hash) refl }
+solid_passed d [] p w fits h = record { position = p; fits = fits; gap = []; may = λ _. tt; found = w; edge = refl; is = refl }
+solid_passed d (c ∷ a) p w fits h = let z = (content c h).common in record { position = p; fits = fits; gap = []; may = λ _. tt; found = w; edge = refl; is = rw (z.space, z.tab, z.hash) refl }
 
-on : (d : Around) (a b r : List ℕ) (p q : Position) (w x : Whitespace) → scalar_space.space_from Yes a (record { place = p; found = w }) ≡ scalar_space.space_from Yes b (record { place = q; found = x })
+on : (d : Around) (a b r : List ℕ) (p q : Position) (w x : Whitespace) → scalar_space.space_from Yes a (record { position = p; found = w }) ≡ scalar_space.space_from Yes b (record { position = q; found = x })
     → Passed d b r q x → Passed d a r p w
-on d a b r p q w x e z = record { place = z.place; fits = z.fits; gap = z.gap; may = z.may; found = z.found; edge = z.edge; is = e ∙ z.is }
+on d a b r p q w x e z = record { position = z.position; fits = z.fits; gap = z.gap; may = z.may; found = z.found; edge = z.edge; is = e ∙ z.is }
 
 passed : (d : Around) (g : List Blank) (r : List ℕ) (p : Position) (w : Whitespace) → MayStand d g → Fits d p → is_solid r ≡ true → Passed d (spell_gap g r) r p w
 passed d [] r p w may fits h = solid_passed d r p w fits h
 passed d (space ∷ g) r p w may fits h = on d _ _ r p (past p) w (record w { has_valid_yaml_ws = true }) refl (passed d g r (past p) (record w { has_valid_yaml_ws = true }) may (fits_past d p fits) h)
 passed d (tab ∷ g) r p w may fits h = on d _ _ r p (past p) w (record w { found_tabs = true }) refl (passed d g r (past p) (record w { found_tabs = true }) (λ l. absurd (may l)) (fits_past d p fits) h)
-passed d (line_feed ∷ g) r p w may fits h = record { place = p; fits = fits; gap = line_feed ∷ g; may = may; found = w; edge = refl; is = refl }
-passed d (carriage_return ∷ g) r p w may fits h = record { place = p; fits = fits; gap = carriage_return ∷ g; may = may; found = w; edge = refl; is = refl }
+passed d (line_feed ∷ g) r p w may fits h = record { position = p; fits = fits; gap = line_feed ∷ g; may = may; found = w; edge = refl; is = refl }
+passed d (carriage_return ∷ g) r p w may fits h = record { position = p; fits = fits; gap = carriage_return ∷ g; may = may; found = w; edge = refl; is = refl }
 
 -- The state is after a part of the white space, at a break or at r.
 pub record Trimmed {d : Around} (t : Result ScannerState Fault) (r : List ℕ) (fs : List FlowLevel) (ks : List (Option Key)) (p : Parts d) : Type 0 where
-  pub place : Position
-  pub fits : Fits d place
+  pub position : Position
+  pub fits : Fits d position
   pub gap : List Blank
   pub may : MayStand d gap
   pub edge : starts_break gap ≡ true
-  pub is : t ≡ Ok (stands (spell_gap gap r) fs ks (record p { place = place }))
+  pub is : t ≡ Ok (stands (spell_gap gap r) fs ks (record p { position = position }))
 
-pub trim : {d : Around} (fs : List FlowLevel) (ks : List (Option Key)) (g : List Blank) (r : List ℕ) (p : Parts d) → MayStand d g → Fits d p.place → is_solid r ≡ true → Trimmed (skip_spaces Yes (stands (spell_gap g r) fs ks p)) r fs ks p
+pub trim : {d : Around} (fs : List FlowLevel) (ks : List (Option Key)) (g : List Blank) (r : List ℕ) (p : Parts d) → MayStand d g → Fits d p.position → is_solid r ≡ true → Trimmed (skip_spaces Yes (stands (spell_gap g r) fs ks p)) r fs ks p
 unfolding skip_spaces scalar_space.space
 trim {d} fs ks g r p may fits h =
-    let z = passed d g r p.place (record { found_tabs = false; has_valid_yaml_ws = false }) may fits h in
-    record { place = z.place; fits = z.fits; gap = z.gap; may = z.may; edge = z.edge; is = rw z.is refl }
+    let z = passed d g r p.position (record { found_tabs = false; has_valid_yaml_ws = false }) may fits h in
+    record { position = z.position; fits = z.fits; gap = z.gap; may = z.may; edge = z.edge; is = rw z.is refl }

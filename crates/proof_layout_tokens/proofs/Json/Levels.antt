@@ -1,4 +1,4 @@
--- Places in a JSON value and the levels of indentation around it.
+-- Positions in a JSON value and the levels of indentation around it.
 use Rattle.std.proofs.Common.{◌≡◌, ℕ, ◌+◌, ◌≤◌, Bool, true, false, nat_lt, arith}
 use Rattle.std.proofs.lemmas.Bool.{le-ltb}
 use Rattle.defs_text.specs.Position.{Position}
@@ -6,7 +6,7 @@ use Rattle.model_lexers.specs.Machine.{past, past_break}
 use Rattle.proof_lexers.proofs.Quoted.NoNul.{no_less}
 use Rattle.proof_layout_tokens.proofs.Json.States.{Around, nothing, block, opened_indent, indent_of, IsLine, Fits}
 
--- ---- places
+-- ---- positions
 
 pub fits_past : (d : Around) (p : Position) → Fits d p → Fits d (past p)
 fits_past nothing p fits = tt
@@ -22,7 +22,7 @@ pub low_enough : (b : Bool) (i col : ℕ) → i ≤ col → opened_indent b i �
 low_enough true i col h = omega (arith, h)
 low_enough false i col h = omega (arith, h)
 
--- no level ends at a place of the value
+-- no level ends at a position of the value
 pub no_end_at : (d : Around) (b : Bool) (p : Position) → Fits d p → nat_lt (p.col + 1) (indent_of d b) ≡ false
 no_end_at nothing b p fits = no_less (p.col + 1)
 no_end_at (block i is l shut) b p fits = le-ltb (p.col + 1) (opened_indent b i) (low_enough b i p.col fits.0)

@@ -16,7 +16,7 @@ use Rattle.model_scanner.specs.Class.{class_of}
 use Rattle.model_scanner.specs.Keys.{still, stale, is_required, save_implicit_key}
 use Rattle.model_scanner.specs.Indents.{roll_one_col_indent, in_block}
 use Rattle.model_scanner.specs.Flow.{increase_flow_level, begin_flow, pass_indicator, fetch_flow_collection_start, decrease_flow_level, adjacent_in_flow, end_flow, fetch_flow_collection_end}
-use Rattle.model_scanner.specs.Block.{property_place}
+use Rattle.model_scanner.specs.Block.{property_position}
 use Rattle.model_scanner.specs.Fetch.{token_by, comes_marker}
 use Rattle.model_scanner.specs.Run.{here, there}
 use Rattle.model_scanner.proofs.Runs.{reaches_then}
@@ -30,7 +30,7 @@ use Rattle.proof_layout_tokens.proofs.Json.OnOneLine.{HasSpaces}
 use Rattle.proof_layout_tokens.proofs.Json.Values.{elements_solid, members_solid, elements_run, members_run}
 use Rattle.proof_layout_tokens.proofs.Layouts.States.{Parts, stands, Opens, opened, opened_indent, IsClosed, Trail, trail_text, rest_of, limit_of, IsTrail, Before, After}
 use Rattle.proof_layout_tokens.proofs.Whites.{spell_white}
-use Rattle.proof_layout_tokens.proofs.Comments.{comment_white, comment_place, comment_line}
+use Rattle.proof_layout_tokens.proofs.Comments.{comment_white, comment_position, comment_line}
 use Rattle.proof_layout_tokens.proofs.Levels
 use Rattle.proof_layout_tokens.proofs.Joins.{fetched, trail_white, trail_are_white, Lies, leaf_after, saved, left_open}
 use Rattle.proof_layout_tokens.proofs.Leaves.{still_lies, value_by, spaces_stop, trail_allows, after_is}
@@ -51,21 +51,21 @@ rolls x false i (d ∷ ds) p h = rw h refl
 
 -- The result is later the bracket, up to spaces.
 record OpenedAt (t : Result ScannerState Fault) (h : Bool) (r : List ℕ) (b : Bool) (i : ℕ) (is : List Indent) (shut : IsClosed i is) (p : Parts) (k : Option Key) : Type 0 where
-  place : Position
-  fits : Fits (block i is p.place.line shut) place
+  position : Position
+  fits : Fits (block i is p.position.line shut) position
   gap : List Blank
-  may : MayStand (block i is p.place.line shut) gap
-  now : t ≡ Ok (json.stands (spell_gap gap r) (level_of h ∷ []) (k ∷ []) (inside (block i is p.place.line shut) place (p.tokens ++ token p.place (opening h) ∷ []) p.adjacent (filled b is)))
+  may : MayStand (block i is p.position.line shut) gap
+  now : t ≡ Ok (json.stands (spell_gap gap r) (level_of h ∷ []) (k ∷ []) (inside (block i is p.position.line shut) position (p.tokens ++ token p.position (opening h) ∷ []) p.adjacent (filled b is)))
 
-opened_at : (h : Bool) (g : List Blank) (r : List ℕ) (b : Bool) (i : ℕ) (is : List Indent) (shut : IsClosed i is) (p : Parts) (k : Option Key) → AreSpaces g → json.is_solid r ≡ true → i ≤ p.place.col
+opened_at : (h : Bool) (g : List Blank) (r : List ℕ) (b : Bool) (i : ℕ) (is : List Indent) (shut : IsClosed i is) (p : Parts) (k : Option Key) → AreSpaces g → json.is_solid r ≡ true → i ≤ p.position.col
     → save_implicit_key ((stands (opening_bracket h ∷ spell_gap g r) (opened_indent b i) (opened b i is) p).held) ≡ (stands (opening_bracket h ∷ spell_gap g r) (opened_indent b i) (opened b i is) (record p { key = k })).held
     → OpenedAt (fetch_flow_collection_start (level_of h) (opening h) (stands (opening_bracket h ∷ spell_gap g r) (opened_indent b i) (opened b i is) p)) h r b i is shut p k
 unfolding fetch_flow_collection_start begin_flow increase_flow_level pass_indicator
 opened_at h g r b i is shut p k spaces solid deep saves =
-    let d : Around = block i is p.place.line shut in
-    let q : json.Parts d = inside d (past p.place) p.tokens p.adjacent (filled b is) in
-    let w = trim (level_of h ∷ []) (k ∷ []) g r q (λ _. spaces) (fits_past d p.place (deep, refl)) solid in
-    record { place = w.place; fits = w.fits; gap = w.gap; may = w.may; now = rw (saves, rolls (opening_bracket h ∷ spell_gap g r) b i is (record p { key = k }) shut, w.is) refl }
+    let d : Around = block i is p.position.line shut in
+    let q : json.Parts d = inside d (past p.position) p.tokens p.adjacent (filled b is) in
+    let w = trim (level_of h ∷ []) (k ∷ []) g r q (λ _. spaces) (fits_past d p.position (deep, refl)) solid in
+    record { position = w.position; fits = w.fits; gap = w.gap; may = w.may; now = rw (saves, rolls (opening_bracket h ∷ spell_gap g r) b i is (record p { key = k }) shut, w.is) refl }
 
 by_opening : (h : Bool) (t : ScannerState) → token_by (class_of (opening_bracket h)) t ≡ fetch_flow_collection_start (level_of h) (opening h) t
 unfolding class_of
@@ -95,21 +95,21 @@ begins h g r from col b i is shut allowed want spaces solid deep u =
     let x = opening_bracket h ∷ spell_gap g r in
     let p = u.parts in
     let column = u.column in
-    let within : i ≤ p.place.col = omega (arith, deep, column) in
+    let within : i ≤ p.position.col = omega (arith, deep, column) in
     let k = saved x b i is p within u.free in
     let z = opened_at h g r b i is shut p k.key spaces solid within k.now in
-    let d : Around = block i is p.place.line shut in
-    let q : json.Parts d = inside d z.place (p.tokens ++ token p.place (opening h) ∷ []) p.adjacent (filled b is) in
+    let d : Around = block i is p.position.line shut in
+    let q : json.Parts d = inside d z.position (p.tokens ++ token p.position (opening h) ∷ []) p.adjacent (filled b is) in
     let s : ScannerState = json.stands (spell_gap z.gap r) (level_of h ∷ []) (k.key ∷ []) q in
     let e = value_by from (opening_bracket h) (spell_gap g r) col b i is allowed want u deep (opening_opens h (spell_gap g r)) ∙ by_opening h (stands x (opened_indent b i) (opened b i is) p) ∙ z.now in
     let run = fetched from x col (opened_indent b i) (opened b i is) allowed want s s u e (not_stale (spell_gap z.gap r) (level_of h) (k.key ∷ []) q) in
     record {
-      line = p.place.line;
+      line = p.position.line;
       outer = k.key;
       loose = k.loose;
       lies = k.lies;
       ahead = record {
-        after = record { parts = q; gap = z.gap; fits = z.fits; may = z.may; loose = refl; told = Levels.push_tells p.tokens p.place (opening h) want u.told; run = run };
+        after = record { parts = q; gap = z.gap; fits = z.fits; may = z.may; loose = refl; told = Levels.push_tells p.tokens p.position (opening h) want u.told; run = run };
         allowed = refl;
       };
     }
@@ -118,7 +118,7 @@ begins h g r from col b i is shut allowed want spaces solid deep u =
 
 -- later it, and later a comment
 abbrev closed_parts : {d : Around} → Bool → Comment → Option Key → json.Parts d → Parts
-closed_parts h n k q = record { place = comment_place n (past q.place); tokens = q.tokens ++ token q.place (closing h) ∷ []; key = k; allowed = false; leading = false; adjacent = q.adjacent }
+closed_parts h n k q = record { position = comment_position n (past q.position); tokens = q.tokens ++ token q.position (closing h) ∷ []; key = k; allowed = false; leading = false; adjacent = q.adjacent }
 
 closed_at : (h : Bool) (n : Comment) (t : Trail) (i : ℕ) (is : List Indent) (line : ℕ) (shut : IsClosed i is) (k : Option Key) (q : json.Parts (block i is line shut)) → IsComment n → is_required q.key ≡ false
     → fetch_flow_collection_end (closing h) (json.stands (closing_bracket h ∷ spell_white (comment_white n (trail_white t)) (rest_of t)) (level_of h ∷ []) (k ∷ []) q)
@@ -126,7 +126,7 @@ closed_at : (h : Bool) (n : Comment) (t : Trail) (i : ℕ) (is : List Indent) (l
 unfolding fetch_flow_collection_end end_flow decrease_flow_level pass_indicator adjacent_in_flow
 closed_at h n t i is line shut k q remark loose =
     let white = spell_white (comment_white n (trail_white t)) (rest_of t) in
-    let p : Parts = record { place = past q.place; tokens = q.tokens; key = k; allowed = false; leading = false; adjacent = q.adjacent } in
+    let p : Parts = record { position = past q.position; tokens = q.tokens; key = k; allowed = false; leading = false; adjacent = q.adjacent } in
     rw (
       removed (closing_bracket h ∷ white) (level_of h ∷ []) (k ∷ []) q loose,
       no_pair h (closing_bracket h ∷ white) [] (k ∷ []) (record q { key = None }),
@@ -138,11 +138,11 @@ unfolding class_of
 by_closing true t = refl
 by_closing false t = refl
 
-no_property : (h : Bool) (p : Position) → property_place (closing h) p ≡ None
+no_property : (h : Bool) (p : Position) → property_position (closing h) p ≡ None
 no_property true p = refl
 no_property false p = refl
 
-closing_fetched : (h : Bool) {d : Around} (g : List Blank) (a : List ℕ) (ks : List (Option Key)) (p : json.Parts d) → MayStand d g → Fits d p.place → is_required p.key ≡ false
+closing_fetched : (h : Bool) {d : Around} (g : List Blank) (a : List ℕ) (ks : List (Option Key)) (p : json.Parts d) → MayStand d g → Fits d p.position → is_required p.key ≡ false
     → json_fetches.Fetched (json.stands (spell_gap g (closing_bracket h ∷ a)) (level_of h ∷ []) ks p) (closing_bracket h) a (level_of h ∷ []) ks p
 unfolding comes_marker
 closing_fetched true g a ks p may fits loose = json_fetches.fetched g 125 a (level_of true ∷ []) ks p tt may fits loose refl refl
@@ -154,15 +154,15 @@ ends h n t from i is line shut k want remark trail low loose lies u =
     let white = spell_white (comment_white n (trail_white t)) (rest_of t) in
     let later = spell_white (trail_white t) (rest_of t) in
     let z = closing_fetched h u.gap white (k ∷ []) u.parts u.may u.fits u.loose in
-    let q : json.Parts (block i is line shut) = record (u.parts) { place = z.place; allowed = z.allowed; leading = z.leading; key = z.key } in
+    let q : json.Parts (block i is line shut) = record (u.parts) { position = z.position; allowed = z.allowed; leading = z.leading; key = z.key } in
     let o = q.is_open in
     let r = closed_parts h n k q in
     let e = z.is ∙ rw (by_closing h (json.stands (closing_bracket h ∷ white) (level_of h ∷ []) (k ∷ []) q), closed_at h n t i is line shut k q remark z.loose) (Levels.aged later (opened_indent o i) (opened o i is) r loose) in
-    let same : r.place.line ≡ line = comment_line n (past q.place) ∙ z.fits.1 in
-    let on_line : Lies (still r.place k) r.place.line = still_lies r.place k r.place.line (rw same lies) in
+    let same : r.position.line ≡ line = comment_line n (past q.position) ∙ z.fits.1 in
+    let on_line : Lies (still r.position k) r.position.line = still_lies r.position k r.position.line (rw same lies) in
     left_open t from o i is (λ o. want (closing h ∷ o)) low
-    (leaf_after t from (trail_white t) (opened_indent o i) (opened o i is) (record r { key = still r.place k }) r.place _ (reaches_then u.run (there refl e here)) (trail_are_white t trail) refl (trail_allows t)
-    (Levels.still_loose r.place k loose) on_line (Levels.last_pushed q.tokens (token q.place (closing h)) ∙ no_property h q.place) (Levels.push_tells q.tokens q.place (closing h) want u.told))
+    (leaf_after t from (trail_white t) (opened_indent o i) (opened o i is) (record r { key = still r.position k }) r.position _ (reaches_then u.run (there refl e here)) (trail_are_white t trail) refl (trail_allows t)
+    (Levels.still_loose r.position k loose) on_line (Levels.last_pushed q.tokens (token q.position (closing h)) ∙ no_property h q.position) (Levels.push_tells q.tokens q.position (closing h) want u.told))
 
 -- ---- whole values
 

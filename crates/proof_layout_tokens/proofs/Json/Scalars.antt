@@ -48,55 +48,55 @@ quoted_tok single text = Tok.scalar (quoted_style single) text
 
 -- after a quoted scalar
 abbrev pub quoted_at : (d : Around) → Position → List Token → Option Key → Bool → Bool → (is_open : Bool) → Parts d
-quoted_at d place tokens key allowed leading is_open = record { place = place; tokens = tokens; key = key; allowed = allowed; leading = leading; adjacent = place.index; is_open = is_open }
+quoted_at d position tokens key allowed leading is_open = record { position = position; tokens = tokens; key = key; allowed = allowed; leading = leading; adjacent = position.index; is_open = is_open }
 
 record QuotedAt {d : Around} (t : Result ScannerState Fault) (tok : Tok) (r : List ℕ) (fs : List FlowLevel) (ks : List (Option Key)) (p : Parts d) : Type 0 where
-  place : Position
-  fits : Fits d place
+  position : Position
+  fits : Fits d position
   key : Option Key
   loose : is_required key ≡ false
-  new : p.allowed ≡ true → key ≡ Some (record { required = false; number = length p.tokens; place = p.place })
+  new : p.allowed ≡ true → key ≡ Some (record { required = false; number = length p.tokens; position = p.position })
   allowed : Bool
   leading : Bool
-  is : t ≡ Ok (stands r fs ks (quoted_at d place (p.tokens ++ token p.place tok ∷ []) key allowed leading p.is_open))
+  is : t ≡ Ok (stands r fs ks (quoted_at d position (p.tokens ++ token p.position tok ∷ []) key allowed leading p.is_open))
 
 scalar_at : {d : Around} (single : Bool) (text a : List ℕ) (b : List Blank) (r : List ℕ) (fs : List FlowLevel) (ks : List (Option Key)) (p : Parts d) → IsBottom d fs ks → MayStand d b → is_required p.key ≡ false → is_solid r ≡ true → MayFollow fs r
-    → Closed d (quoted single (context_of d p.is_open fs) a p.place) text (spell_gap b r) → QuotedAt (fetch_flow_scalar single (stands a fs ks p)) (quoted_tok single text) r fs ks p
+    → Closed d (quoted single (context_of d p.is_open fs) a p.position) text (spell_gap b r) → QuotedAt (fetch_flow_scalar single (stands a fs ks p)) (quoted_tok single text) r fs ks p
 unfolding fetch_flow_scalar check_after_quoted
 scalar_at single text a b r fs ks p bottom stand loose solid may z =
     let k = saved a fs ks p bottom loose in
-    let q = record p { place = z.place; key = k.key; allowed = false; leading = false } in
+    let q = record p { position = z.position; key = k.key; allowed = false; leading = false } in
     let w = trim fs ks b r q stand z.fits solid in
-    let v = follows fs (p.place.line == w.place.line) w.gap r w.edge may in
-    let u = next_token fs ks w.gap r (record q { place = w.place }) w.may w.fits solid in
-    record { place = u.place; fits = u.fits; key = k.key; loose = k.loose; new = k.new; allowed = u.allowed; leading = u.leading; is = rw (k.is, z.is, w.is, v, u.is) refl }
+    let v = follows fs (p.position.line == w.position.line) w.gap r w.edge may in
+    let u = next_token fs ks w.gap r (record q { position = w.position }) w.may w.fits solid in
+    record { position = u.position; fits = u.fits; key = k.key; loose = k.loose; new = k.new; allowed = u.allowed; leading = u.leading; is = rw (k.is, z.is, w.is, v, u.is) refl }
 
 -- A fetch took a quoted scalar. Inside flow, where a key may begin, it may be one.
 pub record Quoted {d : Around} (tok : Tok) (from : ScannerState) (r : List ℕ) (fs : List FlowLevel) (ks : List (Option Key)) (p : Parts d) : Type 0 where
-  pub place : Position
-  pub fits : Fits d place
+  pub position : Position
+  pub fits : Fits d position
   pub at : Position
   pub key : Option Key
   pub loose : is_required key ≡ false
-  pub new : is_empty fs ≡ false → p.allowed ≡ true → key ≡ Some (record { required = false; number = length p.tokens; place = at })
+  pub new : is_empty fs ≡ false → p.allowed ≡ true → key ≡ Some (record { required = false; number = length p.tokens; position = at })
   pub allowed : Bool
   pub leading : Bool
-  pub is : fetch from ≡ Ok (stands r fs ks (quoted_at d place (p.tokens ++ token at tok ∷ []) key allowed leading p.is_open))
+  pub is : fetch from ≡ Ok (stands r fs ks (quoted_at d position (p.tokens ++ token at tok ∷ []) key allowed leading p.is_open))
 
--- the scan reads a text from a quote on, at each place, up to white space
+-- the scan reads a text from a quote on, at each position, up to white space
 abbrev pub ReadsQuoted : Around → (is_open : Bool) → Bool → List FlowLevel → List ℕ → List ℕ → List ℕ → Type 0
 ReadsQuoted d o single fs a text r = (at : Position) → Fits d at → Closed d (quoted single (context_of d o fs) a at) text r
 
 fetched_by : {d : Around} (single : Bool) (text : List ℕ) (from : ScannerState) (c : ℕ) (a : List ℕ) (b : List Blank) (r : List ℕ) (fs : List FlowLevel) (ks : List (Option Key)) (p : Parts d) → IsBottom d fs ks → MayStand d b → is_solid r ≡ true → MayFollow fs r
     → ReadsQuoted d p.is_open single fs (c ∷ a) text (spell_gap b r) → ((t : ScannerState) → token_by (class_of c) t ≡ fetch_flow_scalar single t) → Fetched from c a fs ks p → Quoted (quoted_tok single text) from r fs ks p
 fetched_by {d} single text from c a b r fs ks p bottom stand solid may reads decides y =
-    let q = record p { place = y.place; allowed = y.allowed; leading = y.leading; key = y.key } in
-    let z = scalar_at single text (c ∷ a) b r fs ks q bottom stand y.loose solid may (reads y.place y.fits) in
-    let u = stepped _ _ r fs ks (quoted_at d z.place (p.tokens ++ token y.place (quoted_tok single text) ∷ []) z.key z.allowed z.leading p.is_open) bottom z.loose y.is (decides (stands (c ∷ a) fs ks q) ∙ z.is) in
+    let q = record p { position = y.position; allowed = y.allowed; leading = y.leading; key = y.key } in
+    let z = scalar_at single text (c ∷ a) b r fs ks q bottom stand y.loose solid may (reads y.position y.fits) in
+    let u = stepped _ _ r fs ks (quoted_at d z.position (p.tokens ++ token y.position (quoted_tok single text) ∷ []) z.key z.allowed z.leading p.is_open) bottom z.loose y.is (decides (stands (c ∷ a) fs ks q) ∙ z.is) in
     record {
-      place = z.place;
+      position = z.position;
       fits = z.fits;
-      at = y.place;
+      at = y.position;
       key = u.key;
       loose = u.loose;
       new = λ f h. u.same f ∙ z.new (y.same_allowed f ∙ h);
@@ -105,13 +105,13 @@ fetched_by {d} single text from c a b r fs ks p bottom stand solid may reads dec
       is = u.is;
     }
 
-pub quoted_run : {d : Around} (single : Bool) (text a : List ℕ) (g b : List Blank) (r : List ℕ) (fs : List FlowLevel) (ks : List (Option Key)) (p : Parts d) → IsBottom d fs ks → MayStand d g → MayStand d b → Fits d p.place → is_required p.key ≡ false → is_solid r ≡ true → MayFollow fs r
+pub quoted_run : {d : Around} (single : Bool) (text a : List ℕ) (g b : List Blank) (r : List ℕ) (fs : List FlowLevel) (ks : List (Option Key)) (p : Parts d) → IsBottom d fs ks → MayStand d g → MayStand d b → Fits d p.position → is_required p.key ≡ false → is_solid r ≡ true → MayFollow fs r
     → ReadsQuoted d p.is_open single fs (quote_of single ∷ a) text (spell_gap b r) → Quoted (quoted_tok single text) (stands (spell_gap g (quote_of single ∷ a)) fs ks p) r fs ks p
 unfolding class_of comes_marker
 quoted_run true text a g b r fs ks p bottom before after fits loose solid may reads = fetched_by true text _ 39 a b r fs ks p bottom after solid may reads (λ t. refl) (fetched g 39 a fs ks p bottom before fits loose refl refl)
 quoted_run false text a g b r fs ks p bottom before after fits loose solid may reads = fetched_by false text _ 34 a b r fs ks p bottom after solid may reads (λ t. refl) (fetched g 34 a fs ks p bottom before fits loose refl refl)
 
-pub string_run : {d : Around} (ps : List Piece) (g b : List Blank) (r : List ℕ) (fs : List FlowLevel) (ks : List (Option Key)) (p : Parts d) → are_pieces ps ≡ true → IsBottom d fs ks → MayStand d g → MayStand d b → Fits d p.place → is_required p.key ≡ false → is_solid r ≡ true → MayFollow fs r
+pub string_run : {d : Around} (ps : List Piece) (g b : List Blank) (r : List ℕ) (fs : List FlowLevel) (ks : List (Option Key)) (p : Parts d) → are_pieces ps ≡ true → IsBottom d fs ks → MayStand d g → MayStand d b → Fits d p.position → is_required p.key ≡ false → is_solid r ≡ true → MayFollow fs r
     → Quoted (quoted_tok false (unescaped ps)) (stands (spell_gap g (spell_string ps (spell_gap b r))) fs ks p) r fs ks p
 string_run {d} ps g b r fs ks p pieces bottom before after fits loose solid may =
     quoted_run false (unescaped ps) (spell_pieces ps (34 ∷ spell_gap b r)) g b r fs ks p bottom before after fits loose solid may (λ at stand. string_read d p.is_open fs ps (spell_gap b r) at stand pieces)
@@ -142,23 +142,23 @@ no_levels (block i (d ∷ ds) l shut) r fs ks p false = rw shut refl
 
 -- after a word or a number
 abbrev pub worded : (d : Around) → Position → List Token → Option Key → Bool → ℕ → Parts d
-worded d place tokens key leading adjacent = record { place = place; tokens = tokens; key = key; allowed = leading; leading = leading; adjacent = adjacent; is_open = false }
+worded d position tokens key leading adjacent = record { position = position; tokens = tokens; key = key; allowed = leading; leading = leading; adjacent = adjacent; is_open = false }
 
 record WordedAt {d : Around} (t : Result ScannerState Fault) (w : List ℕ) (r : List ℕ) (fs : List FlowLevel) (ks : List (Option Key)) (p : Parts d) : Type 0 where
-  place : Position
-  fits : Fits d place
+  position : Position
+  fits : Fits d position
   key : Option Key
   loose : is_required key ≡ false
   leading : Bool
-  is : t ≡ Ok (stands r fs ks (worded d place (p.tokens ++ token p.place (Tok.scalar Style.plain w) ∷ []) key leading p.adjacent))
+  is : t ≡ Ok (stands r fs ks (worded d position (p.tokens ++ token p.position (Tok.scalar Style.plain w) ∷ []) key leading p.adjacent))
 
-word_at : {d : Around} (w : List ℕ) (b : List Blank) (r : List ℕ) (fs : List FlowLevel) (ks : List (Option Key)) (p : Parts d) → IsWord w → IsBottom d fs ks → MayStand d b → Fits d p.place → is_required p.key ≡ false → Ends fs r
+word_at : {d : Around} (w : List ℕ) (b : List Blank) (r : List ℕ) (fs : List FlowLevel) (ks : List (Option Key)) (p : Parts d) → IsWord w → IsBottom d fs ks → MayStand d b → Fits d p.position → is_required p.key ≡ false → Ends fs r
     → WordedAt (fetch_plain_scalar (stands (w ++ spell_gap b r) fs ks p)) w r fs ks p
 unfolding fetch_plain_scalar
 word_at {d} w b r fs ks p word bottom after fits loose ends =
     let k = saved (w ++ spell_gap b r) fs ks p bottom loose in
-    let z = word_read d fs w b r p.place ends word after fits in
-    record { place = z.place; fits = z.fits; key = k.key; loose = k.loose; leading = z.leading; is = rw (k.is, no_levels d (w ++ spell_gap b r) fs ks (record p { key = k.key; allowed = false }) p.is_open, z.is) refl }
+    let z = word_read d fs w b r p.position ends word after fits in
+    record { position = z.position; fits = z.fits; key = k.key; loose = k.loose; leading = z.leading; is = rw (k.is, no_levels d (w ++ spell_gap b r) fs ks (record p { key = k.key; allowed = false }) p.is_open, z.is) refl }
 
 dash_by : (t : ScannerState) → is_blank_or_breakz (slice_index t.rest 1) ≡ false → token_by (class_of 45) t ≡ fetch_plain_scalar t
 unfolding class_of
@@ -198,27 +198,27 @@ word_start c w word = (start_of c w [] word).content
 
 -- A fetch took a word or a number.
 pub record Worded (d : Around) (w : List ℕ) (from : ScannerState) (r : List ℕ) (fs : List FlowLevel) (ks : List (Option Key)) (ts : List Token) : Type 0 where
-  pub place : Position
-  pub fits : Fits d place
+  pub position : Position
+  pub fits : Fits d position
   pub at : Position
   pub adjacent : ℕ
   pub key : Option Key
   pub loose : is_required key ≡ false
   pub leading : Bool
-  pub is : fetch from ≡ Ok (stands r fs ks (worded d place (ts ++ token at (Tok.scalar Style.plain w) ∷ []) key leading adjacent))
+  pub is : fetch from ≡ Ok (stands r fs ks (worded d position (ts ++ token at (Tok.scalar Style.plain w) ∷ []) key leading adjacent))
 
-pub word_run : {d : Around} (w : List ℕ) (g b : List Blank) (r : List ℕ) (fs : List FlowLevel) (ks : List (Option Key)) (p : Parts d) → IsWord w → IsBottom d fs ks → MayStand d g → MayStand d b → Fits d p.place → is_required p.key ≡ false → Ends fs r
+pub word_run : {d : Around} (w : List ℕ) (g b : List Blank) (r : List ℕ) (fs : List FlowLevel) (ks : List (Option Key)) (p : Parts d) → IsWord w → IsBottom d fs ks → MayStand d g → MayStand d b → Fits d p.position → is_required p.key ≡ false → Ends fs r
     → Worded d w (stands (spell_gap g (w ++ spell_gap b r)) fs ks p) r fs ks p.tokens
 word_run [] g b r fs ks p word bottom before after fits loose ends = cc (word.begins)
 word_run {d} (c ∷ w) g b r fs ks p word bottom before after fits loose ends =
     let s = start_of c w (spell_gap b r) word in
     let y = fetched g c (w ++ spell_gap b r) fs ks p bottom before fits loose s.content s.no_marker in
-    let q = record p { place = y.place; allowed = y.allowed; leading = y.leading; key = y.key } in
+    let q = record p { position = y.position; allowed = y.allowed; leading = y.leading; key = y.key } in
     let is_a_word = and_parts (is_word c) (are_words w) word.chars in
     let e = word_by c (w ++ spell_gap b r) fs ks q (c == 45) refl is_a_word.0 s.second in
     let z = word_at (c ∷ w) b r fs ks q word bottom after y.fits y.loose ends in
-    let u = stepped _ _ r fs ks (worded d z.place (p.tokens ++ token y.place (Tok.scalar Style.plain (c ∷ w)) ∷ []) z.key z.leading p.adjacent) bottom z.loose y.is (e ∙ z.is) in
-    record { place = z.place; fits = z.fits; at = y.place; adjacent = p.adjacent; key = u.key; loose = u.loose; leading = z.leading; is = u.is }
+    let u = stepped _ _ r fs ks (worded d z.position (p.tokens ++ token y.position (Tok.scalar Style.plain (c ∷ w)) ∷ []) z.key z.leading p.adjacent) bottom z.loose y.is (e ∙ z.is) in
+    record { position = z.position; fits = z.fits; at = y.position; adjacent = p.adjacent; key = u.key; loose = u.loose; leading = z.leading; is = u.is }
 
 -- ---- the colon after a key
 
@@ -229,7 +229,7 @@ last_true false false z h = h
 
 -- after a colon
 abbrev pub valued : {d : Around} → Key → Parts d → Parts d
-valued k p = record { place = past p.place; tokens = insert p.tokens k.number (token k.place Tok.key) ++ token p.place Tok.value ∷ []; key = None; allowed = false; leading = false; adjacent = p.adjacent; is_open = p.is_open }
+valued k p = record { position = past p.position; tokens = insert p.tokens k.number (token k.position Tok.key) ++ token p.position Tok.value ∷ []; key = None; allowed = false; leading = false; adjacent = p.adjacent; is_open = p.is_open }
 
 colon_at : {d : Around} (a : List ℕ) (fs : List FlowLevel) (ks : List (Option Key)) (p : Parts d) (k : Key) → p.key ≡ Some k → (peek a == 9) ≡ false
     → fetch_value (stands (58 ∷ a) (Mapping ∷ fs) ks p) ≡ Ok (stands a (Mapping ∷ fs) ks (valued k p))
@@ -240,11 +240,11 @@ not_stale : {d : Around} (r : List ℕ) (f : FlowLevel) (fs : List FlowLevel) (k
 unfolding stale
 not_stale r f fs ks p = refl
 
-value_by : {d : Around} (a : List ℕ) (fs : List FlowLevel) (ks : List (Option Key)) (p : Parts d) → p.place.index ≡ p.adjacent → token_by (class_of 58) (stands (58 ∷ a) (Mapping ∷ fs) ks p) ≡ fetch_value (stands (58 ∷ a) (Mapping ∷ fs) ks p)
+value_by : {d : Around} (a : List ℕ) (fs : List FlowLevel) (ks : List (Option Key)) (p : Parts d) → p.position.index ≡ p.adjacent → token_by (class_of 58) (stands (58 ∷ a) (Mapping ∷ fs) ks p) ≡ fetch_value (stands (58 ∷ a) (Mapping ∷ fs) ks p)
 unfolding class_of is_value
-value_by a fs ks p adjacent = rw (last_true (is_blank_or_breakz (slice_index a 0)) (is_flow (slice_index a 0)) (p.place.index == p.adjacent) (eq-eqb p.place.index p.adjacent adjacent)) refl
+value_by a fs ks p adjacent = rw (last_true (is_blank_or_breakz (slice_index a 0)) (is_flow (slice_index a 0)) (p.position.index == p.adjacent) (eq-eqb p.position.index p.adjacent adjacent)) refl
 
-pub colon_run : {d : Around} (a : List ℕ) (fs : List FlowLevel) (ks : List (Option Key)) (p : Parts d) (k : Key) → Fits d p.place → p.key ≡ Some k → p.place.index ≡ p.adjacent → (peek a == 9) ≡ false
+pub colon_run : {d : Around} (a : List ℕ) (fs : List FlowLevel) (ks : List (Option Key)) (p : Parts d) (k : Key) → Fits d p.position → p.key ≡ Some k → p.position.index ≡ p.adjacent → (peek a == 9) ≡ false
     → fetch (stands (58 ∷ a) (Mapping ∷ fs) ks p) ≡ Ok (stands a (Mapping ∷ fs) ks (valued k p))
 unfolding fetch fetch_next skip_to_next_token comes_marker
 colon_run a fs ks p k fits key adjacent no_tab =

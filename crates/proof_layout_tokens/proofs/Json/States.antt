@@ -45,7 +45,7 @@ abbrev pub IsLine : Around → Type 0
 IsLine nothing = ⊥
 IsLine (block i is l shut) = Unit {0}
 
--- a place where the scanner may stand
+-- a position where the scanner may stand
 abbrev pub Fits : Around → Position → Type 0
 Fits nothing p = Unit {0}
 Fits (block i is l shut) p = (i ≤ p.col) × (p.line ≡ l)
@@ -64,9 +64,9 @@ MayStand d g = IsLine d → AreSpaces g
 
 -- ---- states
 
--- what changes from token to token: the place, the tokens so far, the innermost key, and what the scanner knows of the place
+-- what changes from token to token: the position, the tokens so far, the innermost key, and what the scanner knows of the position
 pub record Parts (d : Around) : Type 0 where
-  pub place : Position
+  pub position : Position
   pub tokens : List Token
   pub key : Option Key
   pub allowed : Bool
@@ -80,7 +80,7 @@ abbrev pub stands : {d : Around} → List ℕ → List FlowLevel → List (Optio
 stands {d} r fs ks p = record {
   rest = r;
   held = record {
-    place = p.place;
+    position = p.position;
     tokens = p.tokens;
     keys = p.key ∷ ks;
     indents = indents_of d p.is_open;
@@ -124,7 +124,7 @@ pub data Ends : List FlowLevel → List ℕ → Type 0 where
 pub record After (d : Around) (from : ScannerState) (fs : List FlowLevel) (ks : List (Option Key)) (r : List ℕ) (want : List Tok → List Tok) : Type 0 where
   pub parts : Parts d
   pub gap : List Blank
-  pub fits : Fits d parts.place
+  pub fits : Fits d parts.position
   pub may : MayStand d gap
   pub loose : is_required parts.key ≡ false
   pub told : Tells parts.tokens want

@@ -125,9 +125,9 @@ module _ (ctx : Context) (start : Position) where
 
 -- The scan stands after a text, at r.
 pub record Closed (d : Around) (t : Result (Read (List ℕ)) Fault) (text r : List ℕ) : Type 0 where
-  pub place : Position
-  pub fits : Fits d place
-  pub is : t ≡ Ok (record { rest = r; place = place; value = text })
+  pub position : Position
+  pub fits : Fits d position
+  pub is : t ≡ Ok (record { rest = r; position = position; value = text })
 
 fits_along : (d : Around) (w : List ℕ) (p : Position) → Fits d p → Fits d (along w p)
 fits_along d [] p fits = fits
@@ -140,9 +140,9 @@ deep (block i is l shut) b p fits = let h = low_enough b i p.col fits.0 in omega
 pub string_read : (d : Around) (o : Bool) (fs : List FlowLevel) (ps : List Piece) (r : List ℕ) (p : Position) → Fits d p → are_pieces ps ≡ true
     → Closed d (quoted false (context_of d o fs) (34 ∷ spell_pieces ps (34 ∷ r)) p) (unescaped ps) r
 string_read d o fs ps r p fits h = record {
-  place = along (34 ∷ (flat_map piece_text ps ++ 34 ∷ [])) p;
+  position = along (34 ∷ (flat_map piece_text ps ++ 34 ∷ [])) p;
   fits = fits_along d (34 ∷ (flat_map piece_text ps ++ 34 ∷ [])) p fits;
   is = ap (λ a. quoted false (context_of d o fs) (34 ∷ a) p) (spelt ps (34 ∷ r))
       ∙ line_read false (context_of d o fs) Piece piece_text value_of ps r p (pieces_are (context_of d o fs) p ps h) (deep d o p fits) refl
-      ∙ ap (λ v. Ok (record { rest = r; place = along (34 ∷ (flat_map piece_text ps ++ 34 ∷ [])) p; value = v })) (values_are ps);
+      ∙ ap (λ v. Ok (record { rest = r; position = along (34 ∷ (flat_map piece_text ps ++ 34 ∷ [])) p; value = v })) (values_are ps);
 }

@@ -26,7 +26,7 @@ abbrev origin : Position
 origin = record { index = 0; line = 1; col = 0 }
 
 abbrev pub begun : Parts nothing
-begun = record { place = origin; tokens = token origin Tok.stream_start ∷ []; key = None; allowed = true; leading = true; adjacent = 0; is_open = false }
+begun = record { position = origin; tokens = token origin Tok.stream_start ∷ []; key = None; allowed = true; leading = true; adjacent = 0; is_open = false }
 
 pub begins : (a : List ℕ) → fetch (start a) ≡ Ok (stands a [] [] begun)
 unfolding fetch fetch_stream_start
@@ -37,8 +37,8 @@ abbrev finished : Parts nothing → ScannerState
 finished p = record {
   rest = [];
   held = record {
-    place = next_line p.place;
-    tokens = p.tokens ++ token (next_line p.place) Tok.stream_end ∷ [];
+    position = next_line p.position;
+    tokens = p.tokens ++ token (next_line p.position) Tok.stream_end ∷ [];
     keys = None ∷ [];
     indents = [];
     indent = 0;
@@ -65,16 +65,16 @@ finishes : (g : List Blank) (p : Parts nothing) → is_required p.key ≡ false 
 unfolding fetch fetch_next stale drop_stale
 finishes g p loose =
     let y = next_token [] [] g [] p (λ l. absurd l) tt refl in
-    let q = record p { place = y.place; allowed = y.allowed; leading = y.leading } in
+    let q = record p { position = y.position; allowed = y.allowed; leading = y.leading } in
     let z = staled [] [] [] q (tt, refl) loose in
     let r = record q { key = z.key } in
-    record { parts = r; tokens = refl; is = rw (y.is, z.is, end_here r (r.place.col + 1) z.loose) refl }
+    record { parts = r; tokens = refl; is = rw (y.is, z.is, end_here r (r.position.col + 1) z.loose) refl }
 
 -- a text whose tokens up to its end were given
 pub all_tokens : (a : List ℕ) (want : List Tok → List Tok) → After nothing (start a) [] [] [] want → HasToks a (want (Tok.stream_end ∷ []))
 all_tokens a want u =
     let z = finishes u.gap u.parts u.loose in
-    let told = push_tells z.parts.tokens (next_line z.parts.place) Tok.stream_end want (rw (← z.tokens) at u.told) in (
+    let told = push_tells z.parts.tokens (next_line z.parts.position) Tok.stream_end want (rw (← z.tokens) at u.told) in (
       (finished z.parts).held.tokens,
       record { end = finished z.parts; run = reaches_then u.run (there refl z.is here); ended = refl; tokens = refl },
       sym (append-nil (toks (finished z.parts).held.tokens)) ∙ told [],

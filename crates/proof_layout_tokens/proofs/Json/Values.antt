@@ -56,7 +56,7 @@ opened d mapping from a r fs ks want bottom may solid deep u =
       loose = z.loose;
       ahead = record {
         after = record {
-          parts = inside d z.place (u.parts.tokens ++ token z.at (opening mapping) ∷ []) z.adjacent z.is_open;
+          parts = inside d z.position (u.parts.tokens ++ token z.at (opening mapping) ∷ []) z.adjacent z.is_open;
           gap = z.gap;
           fits = z.fits;
           may = z.may;
@@ -73,7 +73,7 @@ closed : (d : Around) (mapping : Bool) (from : ScannerState) (b : List Blank) (r
 closed d mapping from b r fs outer ks want bottom may ends loose u =
     let z = close_run mapping u.gap b r fs outer ks u.parts u.may may u.fits u.loose loose (ends_solid fs r ends) bottom in
     record {
-      parts = outside d z.place (u.parts.tokens ++ token z.at (closing mapping) ∷ []) z.key z.adjacent z.is_open;
+      parts = outside d z.position (u.parts.tokens ++ token z.at (closing mapping) ∷ []) z.key z.adjacent z.is_open;
       gap = z.gap;
       fits = z.fits;
       may = z.may;
@@ -88,7 +88,7 @@ comma d mapping from a r fs ks want may solid u =
     let z = entry_run mapping u.gap a r fs ks u.parts u.may may u.fits u.loose solid in
     record {
       after = record {
-        parts = inside d z.place (u.parts.tokens ++ token z.at Tok.flow_entry ∷ []) z.adjacent z.is_open;
+        parts = inside d z.position (u.parts.tokens ++ token z.at Tok.flow_entry ∷ []) z.adjacent z.is_open;
         gap = z.gap;
         fits = z.fits;
         may = z.may;
@@ -131,7 +131,7 @@ string_after : (d : Around) (ps : List Piece) (from : ScannerState) (b : List Bl
 string_after d ps from b r fs ks want pieces bottom may ends u =
     let z = string_run ps u.gap b r fs ks u.parts pieces bottom u.may may u.fits u.loose (ends_solid fs r ends) (ends_follow fs r ends) in
     record {
-      parts = quoted_at d z.place (u.parts.tokens ++ token z.at (string_token ps) ∷ []) z.key z.allowed z.leading u.parts.is_open;
+      parts = quoted_at d z.position (u.parts.tokens ++ token z.at (string_token ps) ∷ []) z.key z.allowed z.leading u.parts.is_open;
       gap = [];
       fits = z.fits;
       may = λ _. tt;
@@ -145,7 +145,7 @@ word_after : (d : Around) (w : List ℕ) (from : ScannerState) (b : List Blank) 
 word_after d w from b r fs ks want word bottom may ends u =
     let z = word_run w u.gap b r fs ks u.parts word bottom u.may may u.fits u.loose ends in
     record {
-      parts = worded d z.place (u.parts.tokens ++ token z.at (Tok.scalar Style.plain w) ∷ []) z.key z.leading z.adjacent;
+      parts = worded d z.position (u.parts.tokens ++ token z.at (Tok.scalar Style.plain w) ∷ []) z.key z.leading z.adjacent;
       gap = [];
       fits = z.fits;
       may = λ _. tt;
@@ -174,16 +174,16 @@ key_after : (d : Around) (ps : List Piece) (from : ScannerState) (g h : List Bla
 key_after d ps from g h r fs ks want pieces gap before later solid u =
     let p = u.after.parts in
     let z = string_run ps u.after.gap g (58 ∷ spell_gap h r) (Mapping ∷ fs) ks p pieces tt u.after.may before u.after.fits u.after.loose refl (colon_follows fs (spell_gap h r)) in
-    let q = quoted_at d z.place (p.tokens ++ token z.at (string_token ps) ∷ []) z.key z.allowed z.leading p.is_open in
-    let k : Key = record { required = false; number = length p.tokens; place = z.at } in
+    let q = quoted_at d z.position (p.tokens ++ token z.at (string_token ps) ∷ []) z.key z.allowed z.leading p.is_open in
+    let k : Key = record { required = false; number = length p.tokens; position = z.at } in
     let y = colon_run (spell_gap h r) fs ks q k z.fits (z.new refl u.allowed) refl (no_tab h r gap solid) in
     record {
       parts = valued k q;
       gap = h;
-      fits = fits_past d z.place z.fits;
+      fits = fits_past d z.position z.fits;
       may = later;
       loose = refl;
-      told = key_tells p.tokens (length p.tokens) z.at z.at z.place (string_token ps) want refl u.after.told;
+      told = key_tells p.tokens (length p.tokens) z.at z.at z.position (string_token ps) want refl u.after.told;
       run = reaches_then u.after.run (there refl z.is (there refl y here));
     }
 

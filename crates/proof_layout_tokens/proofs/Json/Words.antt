@@ -68,13 +68,13 @@ context_of d b fs = record { flow = not (is_empty fs); indent = indent_of d b }
 
 -- The scan stands after a text, at r.
 pub record Ended (d : Around) (t : Result (Read Plain) Fault) (text r : List ℕ) : Type 0 where
-  pub place : Position
-  pub fits : Fits d place
+  pub position : Position
+  pub fits : Fits d position
   pub leading : Bool
-  pub is : t ≡ Ok (record { rest = r; place = place; value = record { text = text; leading = leading } })
+  pub is : t ≡ Ok (record { rest = r; position = position; value = record { text = text; leading = leading } })
 
 stop : (d : Around) (fs : List FlowLevel) (r : List ℕ) (start p : Position) (t : Folded) → Ends fs r
-    → plain_from (context_of d false fs) start r (record { mode = between; place = p; folded = t }) ≡ Ok (record { rest = r; place = p; value = record { text = t.text; leading = t.leading } })
+    → plain_from (context_of d false fs) start r (record { mode = between; position = p; folded = t }) ≡ Ok (record { rest = r; position = p; value = record { text = t.text; leading = t.leading } })
 unfolding is_break is_blank is_flow goes_on is_shallow at_marker is_marker at_dash at_plain can_be_plain
 stop d fs r start p t at_end = refl
 stop d fs r start p t at_comma = rw (and_false (p.col == 0)) refl
@@ -89,11 +89,11 @@ either d ctx start a text r false s u y z = z
 -- where white space is passed over, in a new line or not
 module _ (d : Around) (fs : List FlowLevel) (r : List ℕ) (start : Position) (ends : Ends fs r) where
   abbrev at : Position → List ℕ → List ℕ → Bool → Bool → PlainState
-  at p text gap leading escaped = record { mode = between; place = p; folded = record { text = text; gap = gap; leading = leading; escaped = escaped } }
+  at p text gap leading escaped = record { mode = between; position = p; folded = record { text = text; gap = gap; leading = leading; escaped = escaped } }
 
   gap_end : (b : List Blank) (p : Position) (text gap : List ℕ) (leading escaped : Bool) → MayStand d b → Fits d p → Ended d (plain_from (context_of d false fs) start (spell_gap b r) (at p text gap leading escaped)) text r
   unfolding is_break is_blank
-  gap_end [] p text gap leading escaped may fits = record { place = p; fits = fits; leading = leading; is = stop d fs r start p (record { text = text; gap = gap; leading = leading; escaped = escaped }) ends }
+  gap_end [] p text gap leading escaped may fits = record { position = p; fits = fits; leading = leading; is = stop d fs r start p (record { text = text; gap = gap; leading = leading; escaped = escaped }) ends }
   gap_end (space ∷ b) p text gap true escaped may fits = gap_end b (past p) text gap true escaped may (fits_past d p fits)
   gap_end (space ∷ b) p text gap false escaped may fits = gap_end b (past p) text (gap ++ 32 ∷ []) false escaped may (fits_past d p fits)
   gap_end (tab ∷ b) p text gap true escaped may fits = rw (outside_less d may false p.col) (gap_end b (past p) text gap true escaped (λ l. absurd (may l)) (fits_past d p fits))
@@ -120,7 +120,7 @@ run_ends d fs (line_feed ∷ b) r e = refl
 run_ends d fs (carriage_return ∷ b) r e = refl
 
 abbrev reading : Position → List ℕ → PlainState
-reading p text = record { mode = inside; place = p; folded = record { text = text; gap = []; leading = false; escaped = false } }
+reading p text = record { mode = inside; position = p; folded = record { text = text; gap = []; leading = false; escaped = false } }
 
 one_char : (d : Around) (fs : List FlowLevel) (start : Position) (c : ℕ) (a : List ℕ) (p : Position) (text : List ℕ) → WordChar c
     → plain_from (context_of d false fs) start (c ∷ a) (reading p text) ≡ plain_from (context_of d false fs) start a (reading (past p) (text ++ c ∷ []))
@@ -131,11 +131,11 @@ chars : (d : Around) (fs : List FlowLevel) (b : List Blank) (r : List ℕ) (star
     → Ended d (plain_from (context_of d false fs) start (w ++ spell_gap b r) (reading p text)) (text ++ w) r
 chars d fs b r start ends may [] p text fits h =
     let z = gap_end d fs r start ends b p text [] false false may fits in
-    record { place = z.place; fits = z.fits; leading = z.leading; is = run_end (context_of d false fs) start (spell_gap b r) p _ (run_ends d fs b r ends) ∙ z.is ∙ rw append-nil refl }
+    record { position = z.position; fits = z.fits; leading = z.leading; is = run_end (context_of d false fs) start (spell_gap b r) p _ (run_ends d fs b r ends) ∙ z.is ∙ rw append-nil refl }
 chars d fs b r start ends may (c ∷ w) p text fits h =
     let q = and_parts (is_word c) (are_words w) h in
     let z = chars d fs b r start ends may w (past p) (text ++ c ∷ []) (fits_past d p fits) q.1 in
-    record { place = z.place; fits = z.fits; leading = z.leading; is = one_char d fs start c (w ++ spell_gap b r) p text (word_char c q.0) ∙ z.is ∙ rw append_assoc refl }
+    record { position = z.position; fits = z.fits; leading = z.leading; is = one_char d fs start c (w ++ spell_gap b r) p text (word_char c q.0) ∙ z.is ∙ rw append_assoc refl }
 
 no_dash : (flow : Bool) (c : ℕ) (w a : List ℕ) → are_words (c ∷ w) ≡ true → begins_word (c ∷ w) ≡ true → at_dash flow ((c ∷ w) ++ a) ≡ false
 unfolding at_dash
@@ -154,4 +154,4 @@ word_read d fs (c ∷ w) b r p ends word may fits =
     let q = and_parts (is_word c) (are_words w) word.chars in
     let z = chars d fs b r p ends may w (past p) (c ∷ []) (fits_past d p fits) q.1 in
     let e = no_dash (not (is_empty fs)) c w (spell_gap b r) word.chars word.begins in
-    record { place = z.place; fits = z.fits; leading = z.leading; is = rw (less d p fits, and_false (not (is_empty fs)), e) z.is }
+    record { position = z.position; fits = z.fits; leading = z.leading; is = rw (less d p fits, and_false (not (is_empty fs)), e) z.is }

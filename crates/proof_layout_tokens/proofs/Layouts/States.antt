@@ -16,7 +16,7 @@ pub use Rattle.proof_layout_tokens.proofs.TextTokens.{Tells}
 
 -- what changes from token to token, but for the levels of indentation
 pub record Parts : Type 0 where
-  pub place : Position
+  pub position : Position
   pub tokens : List Token
   pub key : Option Key
   pub allowed : Bool
@@ -28,7 +28,7 @@ abbrev pub stands : List ℕ → (indent : ℕ) → List Indent → Parts → Sc
 stands r i is p = record {
   rest = r;
   held = record {
-    place = p.place;
+    position = p.position;
     tokens = p.tokens;
     keys = p.key ∷ [];
     indents = is;
@@ -115,7 +115,7 @@ IsTrail (end g) = IsGap g
 
 -- at a line's first column, the last token is no anchor and no tag
 abbrev pub HasNoProperty : Parts → Type 0
-HasNoProperty p = (p.place.col == 0) ≡ true → last_property p.tokens ≡ None
+HasNoProperty p = (p.position.col == 0) ≡ true → last_property p.tokens ≡ None
 
 -- The next fetch finds a text here, on a column, outside its levels' ends; no key is open.
 pub record Before (from : ScannerState) (x : List ℕ) (c : ℕ) (i : ℕ) (is : List Indent) (allowed : Bool) (want : List Tok → List Tok) : Type 0 where
@@ -124,21 +124,21 @@ pub record Before (from : ScannerState) (x : List ℕ) (c : ℕ) (i : ℕ) (is :
   pub going : state.held.ended ≡ false
   pub parts : Parts
   pub fetches : fetch state ≡ (fetch_here (stands x i is parts) >>= try_held stale)
-  pub column : parts.place.col ≡ c
+  pub column : parts.position.col ≡ c
   pub free : parts.key ≡ None
   pub allows : parts.allowed ≡ allowed
   pub no_property : HasNoProperty parts
   pub told : Tells parts.tokens want
 
--- a key that is none at this place
+-- a key that is none at this position
 pub record IsOld (k : Option Key) (p : Position) : Type 0 where
   pub loose : is_required k ≡ false
   pub gone : still p k ≡ None
 
 -- what the scanner knows when it comes after a node's trail
 abbrev pub Settles : Trail → Parts → Type 0
-Settles (next g d r) p = (p.place.col ≡ d) × (p.allowed ≡ true) × IsOld p.key p.place
-Settles (marker g r) p = (p.place.col ≡ 0) × (is_required p.key ≡ false)
+Settles (next g d r) p = (p.position.col ≡ d) × (p.allowed ≡ true) × IsOld p.key p.position
+Settles (marker g r) p = (p.position.col ≡ 0) × (is_required p.key ≡ false)
 Settles (end g) p = is_required p.key ≡ false
 
 -- The scanner is after a node, up to white space: as far as the next line's limit its levels are these.

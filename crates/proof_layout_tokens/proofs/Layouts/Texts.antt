@@ -80,7 +80,7 @@ root_opens from d r want gap is o =
     let g = line_feed ∷ gap_white d.gap (blanks c) in
     let run : Reaches from (stands (spell_white g y) 0 [] o.parts) = subst (λ a. Reaches from (stands a 0 [] o.parts)) (ap (λ a. 10 ∷ spell_gap d.gap a) (root_text d.root r) ∙ next_line_is c d.gap y) o.run in
     let u = before_white from g y 0 [] o.parts want run (gap_are_white d.gap (blanks c) y gap (blanks_white c y (body_solid d.root r is))) o.free (omega arith) o.no_property o.told in
-    rw (gap_col d.gap c (past_break o.parts.place) refl) at rw (gap_allows d.gap c) at u
+    rw (gap_col d.gap c (past_break o.parts.position) refl) at rw (gap_allows d.gap c) at u
 
 -- at the start of the text
 root_begins : (d : Document) (r : List ℕ) → IsGap d.gap → IsRoot d.root

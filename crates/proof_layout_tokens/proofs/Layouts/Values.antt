@@ -222,7 +222,7 @@ anchored_scalar_runs c more name n s k name_is h line from t m i is allowed want
     let v : Before from (38 ∷ (name ++ r)) (m + 2 + more) (opened_indent u.is_open (c + 1)) (opened u.is_open (c + 1) (level i true ∷ is)) allowed want = rw (value_text c (layout.beside n (scalar s) k) (trail_text t)) at u.before in
     let z = named false name r from (m + 2 + more) u.is_open (c + 1) (level i true ∷ is) allowed want name_is (no_name (beside n) y) deep v in
     let inside = z.deep in
-    scalar_after s k t from (z.parts.place.col + 1 + n) u.is_open (c + 1) (level i true ∷ is) (λ o. want (Tok.anchor name ∷ o)) h line trail low (omega (arith, inside)) refl
+    scalar_after s k t from (z.parts.position.col + 1 + n) u.is_open (c + 1) (level i true ∷ is) (λ o. want (Tok.anchor name ∷ o)) h line trail low (omega (arith, inside)) refl
     (ahead_beside name from n y u.is_open (c + 1) (level i true ∷ is) want (scalar_solid s (spell_comment k (trail_text t)) h) z)
 
 anchored_literal_runs : (c more : ℕ) (name : List ℕ) (n column : ℕ) (text : List ℕ) (ls : List Line) → is_name name ≡ true → c < column → is_literal_text text ≡ true → AreLinesOf text column ls → RunsValue c (anchored more name (literal n column text ls))
@@ -232,7 +232,7 @@ anchored_literal_runs c more name n column text ls name_is higher one are from t
     let v : Before from (38 ∷ (name ++ r)) (m + 2 + more) (opened_indent u.is_open (c + 1)) (opened u.is_open (c + 1) (level i true ∷ is)) allowed want = rw (value_text c (literal n column text ls) (trail_text t)) at u.before in
     let z = named false name r from (m + 2 + more) u.is_open (c + 1) (level i true ∷ is) allowed want name_is (no_name (beside n) y) deep v in
     let inside = z.deep in
-    literal_after t from c column text ls (z.parts.place.col + 1 + n) u.is_open (level i true ∷ is) (λ o. want (Tok.anchor name ∷ o)) trail low (omega (arith, inside)) refl higher one are
+    literal_after t from c column text ls (z.parts.position.col + 1 + n) u.is_open (level i true ∷ is) (λ o. want (Tok.anchor name ∷ o)) trail low (omega (arith, inside)) refl higher one are
     (ahead_beside name from n y u.is_open (c + 1) (level i true ∷ is) want (literal_solid column text ls (trail_text t)) z)
 
 anchored_below_runs : (c more : ℕ) (a : List Anchor) (name : List ℕ) (k : Comment) (g : List GapLine) (column : ℕ) (b : Block) → is_name name ≡ true → IsComment k → IsGap g → c < column → IsBlock column a b → RunsBlock column b

@@ -23,7 +23,7 @@ use Rattle.proof_lexers.proofs.Quoted.Values.{bodies_are_read}
 
 -- outside all collections nothing is refused for its indentation
 closed_outside : (start : Position) (text rest : List ℕ) (x : Result (Read (List ℕ)) Fault) → IsRead (context_of nothing false []) start text rest x → Closed nothing x text rest
-closed_outside start text rest x (read place is) = record { place = place; fits = tt; is = is }
+closed_outside start text rest x (read position is) = record { position = position; fits = tt; is = is }
 closed_outside start text rest x (shallow (by_line p h is)) = let none = no_less (p.col + 1) in cc
 closed_outside start text rest x (shallow (by_tab p h is)) = let none = no_less (p.col + 1) in cc
 
@@ -45,7 +45,7 @@ tokens_are single body value n h =
     let text = quote_of single ∷ (body ++ quote_of single ∷ replicate n 10) in
     let z = quoted_run single value (body ++ quote_of single ∷ replicate n 10) [] (replicate n line_feed) [] [] [] begun (tt, refl) (λ l. absurd l) (λ l. absurd l) tt refl refl (ends_follow [] [] at_end) (reads single body value n h) in
     let u : After nothing (start text) [] [] [] (λ o. Tok.stream_start ∷ quoted_tok single value ∷ o) =
-    record { parts = quoted_at nothing z.place (begun.tokens ++ token z.at (quoted_tok single value) ∷ []) z.key z.allowed z.leading false; gap = []; fits = tt; may = λ l. absurd l; loose = z.loose; told = λ o. refl; run = there refl (begins text) (there refl z.is here) } in
+    record { parts = quoted_at nothing z.position (begun.tokens ++ token z.at (quoted_tok single value) ∷ []) z.key z.allowed z.leading false; gap = []; fits = tt; may = λ l. absurd l; loose = z.loose; told = λ o. refl; run = there refl (begins text) (there refl z.is here) } in
     all_tokens text (λ o. Tok.stream_start ∷ quoted_tok single value ∷ o) u
 
 of_quotes : (quotes : Quotes) (body value : List ℕ) (n : ℕ) → body_value quotes body ≡ Some value

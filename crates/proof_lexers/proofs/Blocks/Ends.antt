@@ -22,7 +22,7 @@ use Rattle.proof_lexers.specs.BlockEnds.{BlockEndsAs, scalar, bad_header}
 use Rattle.proof_lexers.specs.BlockLaws.{BlockScansEndAsTheirTextSays}
 use Rattle.proof_lexers.proofs.Blocks.Written.{Break, feed, carriage, both, Line, put, spell, texts, Fits, AreLines, Lined, lined, split_spell}
 use Rattle.proof_lexers.proofs.Blocks.Headers.{headers_end}
-use Rattle.proof_lexers.proofs.Blocks.Places.{spell_more}
+use Rattle.proof_lexers.proofs.Blocks.Positions.{spell_more}
 use Rattle.proof_lexers.proofs.Blocks.Rows.{break_ends}
 use Rattle.proof_lexers.proofs.Blocks.HeaderFacts.{said, linebreak_put}
 use Rattle.proof_lexers.proofs.Blocks.Columns.{Deep, deep_next, same_column_back, spell_append, texts_append, are_first}

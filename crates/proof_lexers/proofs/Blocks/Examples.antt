@@ -16,7 +16,7 @@ folded_piece = refl
 
 -- the spaces before further text are read too
 further_spaces : read_block start (record { style = literal; column = 2; text = codes "a\n" }) (codes "|\n  a\n") (codes " - b")
-    ≡ record { rest = codes "- b"; place = record { index = 9; line = 3; col = 1 }; value = record { place = record { index = 6; line = 2; col = 2 }; text = codes "a\n" } }
+    ≡ record { rest = codes "- b"; position = record { index = 9; line = 3; col = 1 }; value = record { position = record { index = 6; line = 2; col = 2 }; text = codes "a\n" } }
 unfolding is_break is_nul
 further_spaces = refl
 

@@ -17,13 +17,13 @@ use Rattle.proof_lexers.proofs.Blocks.Margins.{after_break, after_line, at, col_
 
 -- within the spaces of a first line
 abbrev looking : ℕ → Position → List ℕ → First
-looking most p b = record { most = most; spaces = p.col; place = p; breaks = b }
+looking most p b = record { most = most; spaces = p.col; position = p; breaks = b }
 
 first_spaces : (w a : List ℕ) (most : ℕ) (p : Position) (b : List ℕ) → is_spaces w ≡ true → first_indent (w ++ a) (looking most p b) ≡ first_indent a (looking most (along w p) b)
 first_spaces [] a most p b h = refl
 first_spaces (c ∷ w) a most p b h = let q = and_parts (c == 32) (is_spaces w) h in rw (q.0) (first_spaces w a most (past p) b q.1)
 
-first_last : (w : List ℕ) (most : ℕ) (p : Position) (b : List ℕ) → is_spaces w ≡ true → first_indent w (looking most p b) ≡ record { rest = []; place = along w p; value = record { column = max most (along w p).col; breaks = b } }
+first_last : (w : List ℕ) (most : ℕ) (p : Position) (b : List ℕ) → is_spaces w ≡ true → first_indent w (looking most p b) ≡ record { rest = []; position = along w p; value = record { column = max most (along w p).col; breaks = b } }
 first_last [] most p b h = refl
 first_last (c ∷ w) most p b h = let q = and_parts (c == 32) (is_spaces w) h in rw (q.0) (first_last w most (past p) b q.1)
 
@@ -38,7 +38,7 @@ all_leading [] h = refl
 all_leading (c ∷ w) h = let q = and_parts (c == 32) (is_spaces w) h in rw (q.0) (ap suc (all_leading w q.1))
 
 abbrev with_column : ℕ → Read Column → Read Column
-with_column n r = record { rest = r.rest; place = r.place; value = record { column = n; breaks = r.value.breaks } }
+with_column n r = record { rest = r.rest; position = r.position; value = record { column = n; breaks = r.value.breaks } }
 
 -- a line that isn't of spaces alone ends the search
 first_other : (column : ℕ) (w a : List ℕ) (most : ℕ) (p : Position) (b : List ℕ) → is_spaces w ≡ false → is_in_line w ≡ true → p.col + leading_spaces w ≤ column
@@ -58,7 +58,7 @@ first_other column (c ∷ w) a most p b h inner le = by (c == 32) refl (λ x y. 
     by false e go =
         let b' = (first_inner c w inner).0 in
         let same : p.col ≡ p.col + 0 = omega arith in
-        rw (e, b') (ap (λ n. record { rest = c ∷ (w ++ a); place = p; value = record { column = max most n; breaks = b } }) same)
+        rw (e, b') (ap (λ n. record { rest = c ∷ (w ++ a); position = p; value = record { column = max most n; breaks = b } }) same)
 
 -- The search passes what a search up to a column passes that is at least the one it finds.
 first_is_indent : (column : ℕ) (ls : List Line) (last : List ℕ) (most : ℕ) (p : Position) (b : List ℕ) → p.col ≡ 0 → AreLines ls last → is_in_line last ≡ true → max most (deepest_start (texts ls ++ last ∷ [])) ≤ column
@@ -74,7 +74,7 @@ first_is_indent column [] last most p b col are inner le = by (is_spaces last) r
         let far = col_along last p in
         let deep : deepest_start (last ∷ []) ≡ leading_spaces last = rw e (omega arith) in
         let same : max most (along last p).col ≡ N = omega (arith, deep, lead, far, col) in
-        first_last last most p b e ∙ ap (λ n. record { rest = []; place = along last p; value = record { column = n; breaks = b } }) same
+        first_last last most p b e ∙ ap (λ n. record { rest = []; position = along last p; value = record { column = n; breaks = b } }) same
         ∙ ap (with_column N) (sym (last_passes column last p b e (omega (arith, le, deep, lead, col))))
     by false e =
         let deep : deepest_start (last ∷ []) ≡ leading_spaces last = rw e refl in
@@ -129,7 +129,7 @@ content_is indent zero ls last p col are inner =
     let D = deepest_start (texts ls ++ last ∷ []) in
     let K = column_for indent 0 ls last in
     let least = least_is indent in
-    let start : record { most = 0; spaces = 0; place = p; breaks = [] } ≡ looking 0 p [] = ap (λ k. record { most = 0; spaces = k; place = p; breaks = [] }) (sym col) in
+    let start : record { most = 0; spaces = 0; position = p; breaks = [] } ≡ looking 0 p [] = ap (λ k. record { most = 0; spaces = k; position = p; breaks = [] }) (sym col) in
     let same : max (max 0 D) indent ≡ K = omega (arith, least) in
     ap (λ s. at_least indent (first_indent (spell ls last) s)) start
     ∙ ap (at_least indent) (first_is_indent K ls last 0 p [] col are inner (omega (arith, same)))

@@ -14,7 +14,7 @@ use Rattle.proof_lexers.proofs.Bridges.{same_break}
 use Rattle.proof_lexers.specs.BlockScan.{without_spaces}
 use Rattle.proof_lexers.proofs.Blocks.Margins.{at}
 use Rattle.proof_lexers.proofs.Blocks.Markers.{marker_here}
-use Rattle.proof_lexers.proofs.Blocks.Places.{space_past}
+use Rattle.proof_lexers.proofs.Blocks.Positions.{space_past}
 use Rattle.proof_lexers.proofs.Blocks.Rows.{front, scan, through}
 
 -- ---- text outside
@@ -23,14 +23,14 @@ use Rattle.proof_lexers.proofs.Blocks.Rows.{front, scan, through}
 pub record Outside (column : ℕ) (next : List ℕ) (p : Position) : Type 0 where
   pub char : ℕ
   pub rest : List ℕ
-  pub place : Position
+  pub position : Position
   pub is : without_spaces next ≡ char ∷ rest
-  pub at_place : past_spaces p next ≡ place
+  pub at_position : past_spaces p next ≡ position
   pub solid : is_break char ≡ false
-  pub shallow : place.col ≤ column
-  pub margin : ((char == 32) && nat_lt place.col column) ≡ false
-  pub none : begins column place.col (char ∷ rest) ≡ false
-  pub found : (b : List ℕ) → indent_from column next (at p b) ≡ record { rest = char ∷ rest; place = place; value = record { column = column; breaks = b } }
+  pub shallow : position.col ≤ column
+  pub margin : ((char == 32) && nat_lt position.col column) ≡ false
+  pub none : begins column position.col (char ∷ rest) ≡ false
+  pub found : (b : List ℕ) → indent_from column next (at p b) ≡ record { rest = char ∷ rest; position = position; value = record { column = column; breaks = b } }
 
 off_column : (n m : ℕ) → n + suc m ≡ suc (n + m)
 off_column n m = omega arith
@@ -41,9 +41,9 @@ space_outside column c r p e deep z =
     record {
       char = z.char;
       rest = z.rest;
-      place = z.place;
+      position = z.position;
       is = rw e (z.is);
-      at_place = rw e (ap (λ x. past_spaces (position_past p x r) r) is ∙ ap (λ q. past_spaces q r) (space_past p r) ∙ z.at_place);
+      at_position = rw e (ap (λ x. past_spaces (position_past p x r) r) is ∙ ap (λ q. past_spaces q r) (space_past p r) ∙ z.at_position);
       solid = z.solid;
       shallow = z.shallow;
       margin = z.margin;
@@ -56,9 +56,9 @@ here_outside column c r p e b le none =
     record {
       char = c;
       rest = r;
-      place = p;
+      position = p;
       is = rw e refl;
-      at_place = rw e refl;
+      at_position = rw e refl;
       solid = b;
       shallow = le;
       margin = rw e refl;
@@ -107,13 +107,13 @@ pub further_outside : (column : ℕ) (r : List ℕ) (p : Position) → p.col ≡
 further_outside zero r p col h = marked r p col h
 further_outside (suc n) r p col h = outside (suc n) (suc n) r p (omega (arith, col)) h
 
-pub further_stops : (literal : Bool) (column : ℕ) (r : List ℕ) (p : Position) (x : Lines) → Outside column r p → scan literal column r (front p x) ≡ Ok (record { rest = without_spaces r; place = past_spaces p r; value = x })
+pub further_stops : (literal : Bool) (column : ℕ) (r : List ℕ) (p : Position) (x : Lines) → Outside column r p → scan literal column r (front p x) ≡ Ok (record { rest = without_spaces r; position = past_spaces p r; value = x })
 further_stops literal column r p x z =
-    let stops : indent_from column (z.char ∷ z.rest) (at z.place x.breaks) ≡ record { rest = z.char ∷ z.rest; place = z.place; value = record { column = column; breaks = x.breaks } } = rw (z.margin, z.solid) refl in
-    through literal column r (z.char ∷ z.rest) p z.place x x.breaks (z.found x.breaks ∙ sym stops)
-    ∙ stop z.char z.rest z.place z.margin z.solid z.none
-    ∙ ap (λ a. Ok (record { rest = a; place = z.place; value = x })) (sym z.is)
-    ∙ ap (λ q. Ok (record { rest = without_spaces r; place = q; value = x })) (sym z.at_place)
+    let stops : indent_from column (z.char ∷ z.rest) (at z.position x.breaks) ≡ record { rest = z.char ∷ z.rest; position = z.position; value = record { column = column; breaks = x.breaks } } = rw (z.margin, z.solid) refl in
+    through literal column r (z.char ∷ z.rest) p z.position x x.breaks (z.found x.breaks ∙ sym stops)
+    ∙ stop z.char z.rest z.position z.margin z.solid z.none
+    ∙ ap (λ a. Ok (record { rest = a; position = z.position; value = x })) (sym z.is)
+    ∙ ap (λ q. Ok (record { rest = without_spaces r; position = q; value = x })) (sym z.at_position)
   where
-    stop : (c : ℕ) (a : List ℕ) (q : Position) → ((c == 32) && nat_lt q.col column) ≡ false → is_break c ≡ false → begins column q.col (c ∷ a) ≡ false → scan literal column (c ∷ a) (front q x) ≡ Ok (record { rest = c ∷ a; place = q; value = x })
+    stop : (c : ℕ) (a : List ℕ) (q : Position) → ((c == 32) && nat_lt q.col column) ≡ false → is_break c ≡ false → begins column q.col (c ∷ a) ≡ false → scan literal column (c ∷ a) (front q x) ≡ Ok (record { rest = c ∷ a; position = q; value = x })
     stop c a q m b n = rw (m, b, n) refl

@@ -116,7 +116,7 @@ module _ (h : defs.Header) (line after : List ℕ) (p : Position) (is : header_o
       by (comment g b t f w c e) = let no : None ≡ Some h = sym f ∙ is in cc
       by (no_header f e) = let no : None ≡ Some h = sym f ∙ is in cc
 
-pub linebreak_put : (k : Break) (a : List ℕ) (q : Position) → Fits k a → linebreak (put k a) q ≡ record { rest = a; place = after_break k q; value = tt }
+pub linebreak_put : (k : Break) (a : List ℕ) (q : Position) → Fits k a → linebreak (put k a) q ≡ record { rest = a; position = after_break k q; value = tt }
 linebreak_put feed a q fits = refl
 linebreak_put carriage a q fits = rw fits refl
 linebreak_put both a q fits = refl

@@ -39,7 +39,7 @@ still : (c : ℕ) → is_break c ≡ true → Still c
 unfolding is_break is_digit
 still c h = record { space = grind (arith, nat_tests); tab = grind (arith, nat_tests); hash = grind (arith, nat_tests); plus = grind (arith, nat_tests); minus = grind (arith, nat_tests); digit = grind (arith, nat_tests) }
 
-skip_line : (w r : List ℕ) (p : Position) → is_in_line w ≡ true → ends_line r ≡ true → skip_while is_line (w ++ r) p ≡ record { rest = r; place = along w p; value = tt }
+skip_line : (w r : List ℕ) (p : Position) → is_in_line w ≡ true → ends_line r ≡ true → skip_while is_line (w ++ r) p ≡ record { rest = r; position = along w p; value = tt }
 skip_line [] [] p h e = refl
 skip_line [] (c ∷ r) p h e = let b = sym (same_break c) ∙ e in rw b refl
 skip_line (c ∷ w) r p h e = let q = first_inner c w h in rw (q.0) (skip_line w r (past p) q.1 e)
@@ -47,7 +47,7 @@ skip_line (c ∷ w) r p h e = let q = first_inner c w h in rw (q.0) (skip_line w
 module _ (start : Position) where
   -- after blanks and a comment, from what was found before
   abbrev rest_from : List ℕ → Position → Bool → Bool → Result (Read Bool) Fault
-  rest_from a p tabs spaces = and_then (space_from Yes a (record { place = p; found = record { found_tabs = tabs; has_valid_yaml_ws = spaces } })) (λ (w : Read Whitespace). header_break start w.rest w.place)
+  rest_from a p tabs spaces = and_then (space_from Yes a (record { position = p; found = record { found_tabs = tabs; has_valid_yaml_ws = spaces } })) (λ (w : Read Whitespace). header_break start w.rest w.position)
 
   at_end : (r : List ℕ) (p : Position) (tabs spaces : Bool) → ends_line r ≡ true → rest_from r p tabs spaces ≡ header_break start r p
   at_end [] p tabs spaces e = refl
@@ -214,25 +214,25 @@ along_more : (v w : List ℕ) (p : Position) → along w (along v p) ≡ along (
 along_more [] w p = refl
 along_more (c ∷ v) w p = along_more v w (past p)
 
-end_chomping : (r : List ℕ) (p : Position) → ends_line r ≡ true → chomping r p ≡ record { rest = r; place = p; value = Clip }
+end_chomping : (r : List ℕ) (p : Position) → ends_line r ≡ true → chomping r p ≡ record { rest = r; position = p; value = Clip }
 unfolding chomping
 end_chomping [] p e = refl
 end_chomping (c ∷ r) p e = let s = still c (sym (same_break c) ∙ e) in rw (s.plus, s.minus) refl
 
-end_increment : (start : Position) (r : List ℕ) (p : Position) → ends_line r ≡ true → increment start r p ≡ Ok (record { rest = r; place = p; value = 0 })
+end_increment : (start : Position) (r : List ℕ) (p : Position) → ends_line r ≡ true → increment start r p ≡ Ok (record { rest = r; position = p; value = 0 })
 unfolding increment
 end_increment start [] p e = refl
 end_increment start (c ∷ r) p e = let s = still c (sym (same_break c) ∙ e) in rw (s.digit) refl
 
-no_chomping : (c : ℕ) (a : List ℕ) (p : Position) → (c == 43) ≡ false → (c == 45) ≡ false → chomping (c ∷ a) p ≡ record { rest = c ∷ a; place = p; value = Clip }
+no_chomping : (c : ℕ) (a : List ℕ) (p : Position) → (c == 43) ≡ false → (c == 45) ≡ false → chomping (c ∷ a) p ≡ record { rest = c ∷ a; position = p; value = Clip }
 unfolding chomping
 no_chomping c a p e f = rw (e, f) refl
 
-no_increment : (start : Position) (c : ℕ) (a : List ℕ) (p : Position) → is_digit c ≡ false → increment start (c ∷ a) p ≡ Ok (record { rest = c ∷ a; place = p; value = 0 })
+no_increment : (start : Position) (c : ℕ) (a : List ℕ) (p : Position) → is_digit c ≡ false → increment start (c ∷ a) p ≡ Ok (record { rest = c ∷ a; position = p; value = 0 })
 unfolding increment
 no_increment start c a p e = rw e refl
 
-some_increment : (start : Position) (c : ℕ) (a : List ℕ) (p : Position) → is_digit c ≡ true → (c == 48) ≡ false → increment start (c ∷ a) p ≡ Ok (record { rest = a; place = past p; value = c - 48 })
+some_increment : (start : Position) (c : ℕ) (a : List ℕ) (p : Position) → is_digit c ≡ true → (c == 48) ≡ false → increment start (c ∷ a) p ≡ Ok (record { rest = a; position = past p; value = c - 48 })
 unfolding increment
 some_increment start c a p e f = rw (e, f) refl
 
@@ -246,7 +246,7 @@ module _ (start : Position) (style : BlockStyle) (r : List ℕ) (ends : ends_lin
 
   -- after the indicators, before the rest of the line
   finish : (line before w : List ℕ) (h : defs.Header) → line ≡ before ++ w → is_in_line w ≡ true → header_of (indicator_of style ∷ line) ≡ (if is_rest_of_line w then Some h else None)
-      → header_of (indicator_of style ∷ before) ≡ Some h → indicators start (line ++ r) (past start) ≡ Ok (record { rest = w ++ r; place = along before (past start); value = indicators_of h }) → Ends line
+      → header_of (indicator_of style ∷ before) ≡ Some h → indicators start (line ++ r) (past start) ≡ Ok (record { rest = w ++ r; position = along before (past start); value = indicators_of h }) → Ends line
   unfolding header
   finish line before w h cut inner is own reads_it = by (is_rest_of_line w) refl
     where
@@ -260,8 +260,8 @@ module _ (start : Position) (style : BlockStyle) (r : List ℕ) (ends : ends_lin
       by : (b : Bool) → is_rest_of_line w ≡ b → Ends line
       by true e =
           let some : header_of (indicator_of style ∷ line) ≡ Some h = rw e at is in
-          let place : along line (past start) ≡ along w q = ap (λ x. along x (past start)) cut ∙ sym (along_more before w (past start)) in
-          rw (reads_it, rest_goes start w r q inner ends e) (at_line_end start style line r h some (along w q) place ends)
+          let position : along line (past start) ≡ along w q = ap (λ x. along x (past start)) cut ∙ sym (along_more before w (past start)) in
+          rw (reads_it, rest_goes start w r q inner ends e) (at_line_end start style line r h some (along w q) position ends)
       by false e =
           let none : header_of (indicator_of style ∷ line) ≡ None = rw e at is in
           refused (rest_fails start w r q inner e) none
@@ -284,8 +284,8 @@ module _ (start : Position) (style : BlockStyle) (r : List ℕ) (ends : ends_lin
 
   -- what a sign is to both
   record IsSign (c : ℕ) (ch : defs.Chomping) : Type 0 where
-    reads_it : (a : List ℕ) (p : Position) → chomping (c ∷ a) p ≡ record { rest = a; place = past p; value = chomping_of ch }
-    late : (n : Read ℕ) → late_chomping (chomping_of ch) n ≡ record { rest = n.rest; place = n.place; value = record { chomping = chomping_of ch; increment = n.value } }
+    reads_it : (a : List ℕ) (p : Position) → chomping (c ∷ a) p ≡ record { rest = a; position = past p; value = chomping_of ch }
+    late : (n : Read ℕ) → late_chomping (chomping_of ch) n ≡ record { rest = n.rest; position = n.position; value = record { chomping = chomping_of ch; increment = n.value } }
     said_so : sign_of c ≡ Some ch
     is : is_sign c ≡ true
 
@@ -293,10 +293,10 @@ module _ (start : Position) (style : BlockStyle) (r : List ℕ) (ends : ends_lin
     sign_said : (l : List ℕ) → header_of (indicator_of style ∷ c ∷ l) ≡ after_sign style ch l
     sign_said l = said (c ∷ l) ∙ rw (sign.said_so) refl
 
-    with_digit : (l a : List ℕ) (n : ℕ) (p : Position) → increment start (l ++ r) (past (past start)) ≡ Ok (record { rest = a; place = p; value = n })
-        → indicators start (c ∷ (l ++ r)) (past start) ≡ Ok (record { rest = a; place = p; value = record { chomping = chomping_of ch; increment = n } })
+    with_digit : (l a : List ℕ) (n : ℕ) (p : Position) → increment start (l ++ r) (past (past start)) ≡ Ok (record { rest = a; position = p; value = n })
+        → indicators start (c ∷ (l ++ r)) (past start) ≡ Ok (record { rest = a; position = p; value = record { chomping = chomping_of ch; increment = n } })
     unfolding indicators
-    with_digit l a n p e = rw (sign.reads_it, e) (ap Ok (sign.late (record { rest = a; place = p; value = n })))
+    with_digit l a n p e = rw (sign.reads_it, e) (ap Ok (sign.late (record { rest = a; position = p; value = n })))
 
     sign_only : Ends (c ∷ [])
     sign_only = finish (c ∷ []) (c ∷ []) [] (made ch None) refl refl (sign_said []) (sign_said []) (with_digit [] r 0 (past (past start)) (end_increment start r (past (past start)) ends))
@@ -347,8 +347,8 @@ module _ (start : Position) (style : BlockStyle) (r : List ℕ) (ends : ends_lin
     unfolding sign_of digit_of
     digit_said l = said (c ∷ l) ∙ rw (no_minus, no_plus, counts) refl
 
-    with_sign : (l a : List ℕ) (ch : defs.Chomping) (p : Position) → chomping (l ++ r) (past (past start)) ≡ record { rest = a; place = p; value = chomping_of ch }
-        → indicators start (c ∷ (l ++ r)) (past start) ≡ Ok (record { rest = a; place = p; value = record { chomping = chomping_of ch; increment = c - 48 } })
+    with_sign : (l a : List ℕ) (ch : defs.Chomping) (p : Position) → chomping (l ++ r) (past (past start)) ≡ record { rest = a; position = p; value = chomping_of ch }
+        → indicators start (c ∷ (l ++ r)) (past start) ≡ Ok (record { rest = a; position = p; value = record { chomping = chomping_of ch; increment = c - 48 } })
     unfolding indicators
     with_sign l a ch p e = rw (no_chomping c (l ++ r) (past start) no_plus no_minus, some_increment start c (l ++ r) (past start) is_count_digit no_zero, e) refl
 
@@ -377,7 +377,7 @@ module _ (start : Position) (style : BlockStyle) (r : List ℕ) (ends : ends_lin
 
   -- ---- neither
 
-  no_indicator : (l : List ℕ) → indicators start (l ++ r) (past start) ≡ Ok (record { rest = l ++ r; place = past start; value = indicators_of (made clip None) })
+  no_indicator : (l : List ℕ) → indicators start (l ++ r) (past start) ≡ Ok (record { rest = l ++ r; position = past start; value = indicators_of (made clip None) })
       → is_in_line l ≡ true → header_of (indicator_of style ∷ l) ≡ (if is_rest_of_line l then Some (made clip None) else None) → Ends l
   no_indicator l e inner is = finish l [] l (made clip None) refl inner is (said []) e
 

@@ -9,7 +9,7 @@ use Rattle.model_lexers.specs.Block.{Column, Margin, indent_from, Lines, BlockSt
 use Rattle.proof_lexers.specs.HeaderEnds.{along}
 use Rattle.proof_lexers.proofs.Blocks.Written.{Break, feed, carriage, both, Line, put, Fits}
 
--- the place after a break
+-- the position after a break
 abbrev pub before_break : Break → Position → Position
 before_break feed p = p
 before_break carriage p = p
@@ -18,7 +18,7 @@ before_break both p = past p
 abbrev pub after_break : Break → Position → Position
 after_break b p = past_break (before_break b p)
 
--- the place after a line, and after lines
+-- the position after a line, and after lines
 abbrev pub after_line : Line → Position → Position
 after_line l p = after_break l.by (along l.text p)
 
@@ -29,27 +29,27 @@ after_lines (l ∷ ls) p = after_lines ls (after_line l p)
 -- ---- looking for content in a column
 
 abbrev pub at : Position → List ℕ → Margin
-at p b = record { place = p; breaks = b }
+at p b = record { position = p; breaks = b }
 
 -- within a line's indentation
 abbrev pub before : Position → Lines → List ℕ → BlockState
-before p l b = record { mode = margin; place = p; lines = record l { breaks = b } }
+before p l b = record { mode = margin; position = p; lines = record l { breaks = b } }
 
 -- The scan of the lines passes what the search for content passes.
 pub margin_passes : (literal : Bool) (column : ℕ) (a : List ℕ) (p : Position) (l : Lines) (b : List ℕ)
-    → lines_from literal column a (before p l b) ≡ lines_from literal column (indent_from column a (at p b)).rest (before (indent_from column a (at p b)).place l (indent_from column a (at p b)).value.breaks)
+    → lines_from literal column a (before p l b) ≡ lines_from literal column (indent_from column a (at p b)).rest (before (indent_from column a (at p b)).position l (indent_from column a (at p b)).value.breaks)
 margin_passes literal column [] p l b = refl
 margin_passes literal column (c ∷ a) p l b = by ((c == 32) && nat_lt p.col column) (is_break c) (is_cr_lf c a) refl refl refl (λ q x. margin_passes literal column a q l x)
   where
     by : (s k f : Bool) → ((c == 32) && nat_lt p.col column) ≡ s → is_break c ≡ k → is_cr_lf c a ≡ f
-        → ((q : Position) (x : List ℕ) → lines_from literal column a (before q l x) ≡ lines_from literal column (indent_from column a (at q x)).rest (before (indent_from column a (at q x)).place l (indent_from column a (at q x)).value.breaks))
-        → lines_from literal column (c ∷ a) (before p l b) ≡ lines_from literal column (indent_from column (c ∷ a) (at p b)).rest (before (indent_from column (c ∷ a) (at p b)).place l (indent_from column (c ∷ a) (at p b)).value.breaks)
+        → ((q : Position) (x : List ℕ) → lines_from literal column a (before q l x) ≡ lines_from literal column (indent_from column a (at q x)).rest (before (indent_from column a (at q x)).position l (indent_from column a (at q x)).value.breaks))
+        → lines_from literal column (c ∷ a) (before p l b) ≡ lines_from literal column (indent_from column (c ∷ a) (at p b)).rest (before (indent_from column (c ∷ a) (at p b)).position l (indent_from column (c ∷ a) (at p b)).value.breaks)
     by true k f e g h go = rw e (go (past p) b)
     by false true true e g h go = rw (e, g, h) (go (past p) b)
     by false true false e g h go = rw (e, g, h) (go (past_break p) (b ++ 10 ∷ []))
     by false false f e g h go =
-        let stops : indent_from column (c ∷ a) (at p b) ≡ record { rest = c ∷ a; place = p; value = record { column = column; breaks = b } } = rw (e, g) refl in
-        ap (λ (r : Read Column). lines_from literal column r.rest (before r.place l r.value.breaks)) (sym stops)
+        let stops : indent_from column (c ∷ a) (at p b) ≡ record { rest = c ∷ a; position = p; value = record { column = column; breaks = b } } = rw (e, g) refl in
+        ap (λ (r : Read Column). lines_from literal column r.rest (before r.position l r.value.breaks)) (sym stops)
 
 -- ---- spaces
 
@@ -78,7 +78,7 @@ pub empty_passes : (column : ℕ) (l : Line) (a : List ℕ) (p : Position) (b : 
     → indent_from column (l.text ++ put l.by a) (at p b) ≡ indent_from column a (at (after_line l p) (b ++ 10 ∷ []))
 empty_passes column l a p b h le fits = along_spaces column l.text (put l.by a) p b h le ∙ at_break column l.by a (along l.text p) b fits
 
-pub last_passes : (column : ℕ) (w : List ℕ) (p : Position) (b : List ℕ) → is_spaces w ≡ true → p.col + length w ≤ column → indent_from column w (at p b) ≡ record { rest = []; place = along w p; value = record { column = column; breaks = b } }
+pub last_passes : (column : ℕ) (w : List ℕ) (p : Position) (b : List ℕ) → is_spaces w ≡ true → p.col + length w ≤ column → indent_from column w (at p b) ≡ record { rest = []; position = along w p; value = record { column = column; breaks = b } }
 last_passes column [] p b h le = refl
 last_passes column (c ∷ w) p b h le =
     let q = and_parts (c == 32) (is_spaces w) h in

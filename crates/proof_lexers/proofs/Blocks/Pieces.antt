@@ -19,7 +19,7 @@ use Rattle.proof_lexers.specs.BlockLaws.{BlockPiecesAreRead}
 use Rattle.proof_lexers.proofs.Blocks.InLine.{first_inner}
 use Rattle.proof_lexers.proofs.Blocks.Written.{Break, feed, carriage, both, Line, put, spell, texts, Fits, AreLines, Lined, lined, split_spell}
 use Rattle.proof_lexers.proofs.Blocks.Margins.{at, after_line, after_lines}
-use Rattle.proof_lexers.proofs.Blocks.Places.{spell_more}
+use Rattle.proof_lexers.proofs.Blocks.Positions.{spell_more}
 use Rattle.proof_lexers.proofs.Blocks.Rows.{row_is}
 use Rattle.proof_lexers.proofs.Blocks.Further.{further_outside}
 use Rattle.proof_lexers.proofs.Blocks.HeaderFacts.{Said, said}

@@ -16,7 +16,7 @@ use Rattle.proof_lexers.proofs.Blocks.InLine.{first_inner}
 use Rattle.proof_lexers.proofs.Blocks.Written.{Break, feed, carriage, both, Line, put, spell, texts, Fits, AreLines}
 use Rattle.proof_lexers.proofs.Blocks.Margins.{after_break, after_line, after_lines, at, before, margin_passes, empty_passes, last_passes}
 use Rattle.proof_lexers.proofs.Blocks.Markers.{marker_in_line}
-use Rattle.proof_lexers.proofs.Blocks.Places.{first_space}
+use Rattle.proof_lexers.proofs.Blocks.Positions.{first_space}
 use Rattle.defs_token.specs.BlockPiece.{first_content}
 
 -- ---- what is known after rows
@@ -33,11 +33,11 @@ after_rows literal (r ∷ rs) l = after_rows literal rs (after_row literal r l)
 
 -- before a line
 abbrev pub front : Position → Lines → BlockState
-front p l = record { mode = margin; place = p; lines = l }
+front p l = record { mode = margin; position = p; lines = l }
 
 -- within a content line
 abbrev pub inside : Position → Lines → BlockState
-inside p l = record { mode = line; place = p; lines = l }
+inside p l = record { mode = line; position = p; lines = l }
 
 pub break_ends : (k : Break) (a : List ℕ) → ends_line (put k a) ≡ true
 unfolding classes.is_break
@@ -64,7 +64,7 @@ module _ (literal : Bool) (column : ℕ) where
   -- what the search for content passes
   pub through : (a r : List ℕ) (p q : Position) (l : Lines) (b : List ℕ) → indent_from column a (at p l.breaks) ≡ indent_from column r (at q b) → scan a (front p l) ≡ scan r (front q (record l { breaks = b }))
   through a r p q l b e =
-      margin_passes literal column a p l l.breaks ∙ ap (λ (x : Read Column). scan x.rest (before x.place l x.value.breaks)) e ∙ sym (margin_passes literal column r q l b)
+      margin_passes literal column a p l l.breaks ∙ ap (λ (x : Read Column). scan x.rest (before x.position l x.value.breaks)) e ∙ sym (margin_passes literal column r q l b)
 
   -- ---- empty lines
 
@@ -78,23 +78,23 @@ module _ (literal : Bool) (column : ℕ) where
   pub record Starts (w a : List ℕ) (p : Position) (b : List ℕ) (n : ℕ) : Type 0 where
     pub char : ℕ
     pub rest : List ℕ
-    pub place : Position
+    pub position : Position
     pub is : drop n w ≡ char ∷ rest
-    pub in_column : place.col ≡ column
+    pub in_column : position.col ≡ column
     pub inner : is_in_line (char ∷ rest) ≡ true
-    pub ends : along rest (past place) ≡ along w p
-    pub first : (y : List ℕ) → first_content column false p (w ++ y) ≡ Some place
-    pub found : indent_from column (w ++ a) (at p b) ≡ record { rest = char ∷ (rest ++ a); place = place; value = record { column = column; breaks = b } }
+    pub ends : along rest (past position) ≡ along w p
+    pub first : (y : List ℕ) → first_content column false p (w ++ y) ≡ Some position
+    pub found : indent_from column (w ++ a) (at p b) ≡ record { rest = char ∷ (rest ++ a); position = position; value = record { column = column; breaks = b } }
 
   space_then : (c : ℕ) (w a : List ℕ) (p : Position) (b : List ℕ) (n : ℕ) → (c == 32) ≡ true → nat_lt p.col column ≡ true → Starts w a (past p) b n → Starts (c ∷ w) a p b (suc n)
-  space_then c w a p b n e deep z = record { char = z.char; rest = z.rest; place = z.place; is = z.is; in_column = z.in_column; inner = z.inner; ends = z.ends; first = λ y. first_space column c (w ++ y) p e deep ∙ z.first y; found = rw (e, deep) (z.found) }
+  space_then c w a p b n e deep z = record { char = z.char; rest = z.rest; position = z.position; is = z.is; in_column = z.in_column; inner = z.inner; ends = z.ends; first = λ y. first_space column c (w ++ y) p e deep ∙ z.first y; found = rw (e, deep) (z.found) }
 
   pub starts : (n : ℕ) (w a : List ℕ) (p : Position) (b : List ℕ) → p.col + n ≡ column → n ≤ leading_spaces w → suc n ≤ length w → is_in_line w ≡ true → Starts w a p b n
   starts zero [] a p b col lead long inner = absurd (omega (arith, long))
   starts zero (c ∷ w) a p b col lead long inner =
       let q = first_inner c w inner in
       let deep : nat_lt p.col column ≡ false = le-ltb p.col column (omega (arith, col)) in
-      record { char = c; rest = w; place = p; is = refl; in_column = omega (arith, col); inner = inner; ends = refl; first = λ y. rw (same_break c, q.0, deep, and_false (c == 32)) refl; found = rw (deep, and_false (c == 32), q.0) refl }
+      record { char = c; rest = w; position = p; is = refl; in_column = omega (arith, col); inner = inner; ends = refl; first = λ y. rw (same_break c, q.0, deep, and_false (c == 32)) refl; found = rw (deep, and_false (c == 32), q.0) refl }
   starts (suc n) [] a p b col lead long inner = absurd (omega (arith, long))
   starts (suc n) (c ∷ w) a p b col lead long inner = by (c == 32) refl (λ x. starts n w a (past p) b (omega (arith, col)) x (omega (arith, long)) ((first_inner c w inner).1))
     where
@@ -131,13 +131,13 @@ module _ (literal : Bool) (column : ℕ) where
       by : Starts w a p x.breaks column → scan (w ++ a) (front p x) ≡ scan a (inside (along w p) (written (content_row (drop column w)) x))
       by z =
           let q = first_inner z.char z.rest z.inner in
-          let deep : nat_lt z.place.col column ≡ false = le-ltb z.place.col column (let e = z.in_column in omega (arith, e)) in
-          let stops : indent_from column (z.char ∷ (z.rest ++ a)) (at z.place x.breaks) ≡ record { rest = z.char ∷ (z.rest ++ a); place = z.place; value = record { column = column; breaks = x.breaks } } = rw (deep, and_false (z.char == 32), q.0) refl in
-          let first = begins_free column w a z.rest z.char z.place refl z.is z.in_column ends free in
-          through (w ++ a) (z.char ∷ (z.rest ++ a)) p z.place x x.breaks (z.found ∙ sym stops)
-          ∙ begin z.char (z.rest ++ a) z.place x deep q.0 first
-          ∙ chars z.rest a (past z.place) (with_char z.char (begun literal z.char x)) q.1
-          ∙ ap (λ t. scan a (inside (along z.rest (past z.place)) (record { text = t; breaks = []; broken = false; blank = is_blank z.char }))) (append_assoc (x.text ++ between literal x (is_blank z.char)) (z.char ∷ []) z.rest)
+          let deep : nat_lt z.position.col column ≡ false = le-ltb z.position.col column (let e = z.in_column in omega (arith, e)) in
+          let stops : indent_from column (z.char ∷ (z.rest ++ a)) (at z.position x.breaks) ≡ record { rest = z.char ∷ (z.rest ++ a); position = z.position; value = record { column = column; breaks = x.breaks } } = rw (deep, and_false (z.char == 32), q.0) refl in
+          let first = begins_free column w a z.rest z.char z.position refl z.is z.in_column ends free in
+          through (w ++ a) (z.char ∷ (z.rest ++ a)) p z.position x x.breaks (z.found ∙ sym stops)
+          ∙ begin z.char (z.rest ++ a) z.position x deep q.0 first
+          ∙ chars z.rest a (past z.position) (with_char z.char (begun literal z.char x)) q.1
+          ∙ ap (λ t. scan a (inside (along z.rest (past z.position)) (record { text = t; breaks = []; broken = false; blank = is_blank z.char }))) (append_assoc (x.text ++ between literal x (is_blank z.char)) (z.char ∷ []) z.rest)
           ∙ ap (λ q. scan a (inside q (written (content_row (z.char ∷ z.rest)) x))) z.ends
           ∙ ap (λ m. scan a (inside (along w p) (written (content_row m) x))) (sym z.is)
         where
@@ -203,11 +203,11 @@ module _ (literal : Bool) (column : ℕ) where
 
   -- ---- a last line without a break
 
-  pub last_empty : (w : List ℕ) (p : Position) (x : Lines) → p.col ≡ 0 → is_spaces w ≡ true → length w ≤ column → scan literal column w (front p x) ≡ Ok (record { rest = []; place = along w p; value = x })
+  pub last_empty : (w : List ℕ) (p : Position) (x : Lines) → p.col ≡ 0 → is_spaces w ≡ true → length w ≤ column → scan literal column w (front p x) ≡ Ok (record { rest = []; position = along w p; value = x })
   last_empty w p x col h le = through literal column w [] p (along w p) x x.breaks (last_passes column w p x.breaks h (omega (arith, le, col)))
 
   pub last_content : (w : List ℕ) (p : Position) (x : Lines) → p.col ≡ 0 → is_in_line w ≡ true → column ≤ leading_spaces w → suc column ≤ length w → ((column == 0) && is_document_marker w) ≡ false
-      → scan literal column w (front p x) ≡ Ok (record { rest = []; place = along w p; value = written literal column (content_row (drop column w)) x })
+      → scan literal column w (front p x) ≡ Ok (record { rest = []; position = along w p; value = written literal column (content_row (drop column w)) x })
   last_content w p x col inner lead long free =
       let z = content_chars literal column w [] p x col inner refl lead long free in
       ap (λ a. scan literal column a (front p x)) (sym (append-nil w)) ∙ z

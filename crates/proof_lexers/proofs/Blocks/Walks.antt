@@ -9,7 +9,7 @@ use Rattle.proof_lexers.specs.HeaderEnds.{is_in_line}
 use Rattle.proof_lexers.specs.BlockScan.{is_some}
 use Rattle.proof_lexers.proofs.Blocks.Written.{Line, put, spell, texts, Fits, AreLines}
 use Rattle.proof_lexers.proofs.Blocks.Margins.{after_line, after_lines, at, empty_passes}
-use Rattle.proof_lexers.proofs.Blocks.Places.{first_empty}
+use Rattle.proof_lexers.proofs.Blocks.Positions.{first_empty}
 use Rattle.proof_lexers.proofs.Blocks.Rows.{IsRow, no_content, is_content, row_is, break_ends, Starts, starts}
 use Rattle.proof_lexers.proofs.Blocks.Values.{AreFull}
 use Rattle.proof_lexers.proofs.Blocks.Columns.{none_further}
@@ -50,19 +50,19 @@ are_full column (w ∷ ws) rs h = by (first_of column w ws rs h) (are_full colum
 pub record Found (column : ℕ) (a : List ℕ) (p : Position) (b : List ℕ) : Type 0 where
   pub char : ℕ
   pub rest : List ℕ
-  pub place : Position
+  pub position : Position
   pub breaks_before : List ℕ
-  pub in_column : place.col ≡ column
-  pub found : indent_from column a (at p b) ≡ record { rest = char ∷ rest; place = place; value = record { column = column; breaks = breaks_before } }
+  pub in_column : position.col ≡ column
+  pub found : indent_from column a (at p b) ≡ record { rest = char ∷ rest; position = position; value = record { column = column; breaks = breaks_before } }
 
 module _ (column : ℕ) where
   pub record FoundIn (ls : List Line) (a : List ℕ) (p : Position) (b : List ℕ) : Type 0 where
     pub here : Found column (spell ls a) p b
-    pub first : (y : List ℕ) → AreLines ls y → first_content column false p (spell ls y) ≡ Some (here.place)
+    pub first : (y : List ℕ) → AreLines ls y → first_content column false p (spell ls y) ≡ Some (here.position)
 
   content_found : (l : Line) (ls : List Line) (a : List ℕ) (p : Position) (b : List ℕ) → Starts true column l.text (put l.by (spell ls a)) p b column → FoundIn (l ∷ ls) a p b
   content_found l ls a p b z = record {
-    here = record { char = z.char; rest = z.rest ++ put l.by (spell ls a); place = z.place; breaks_before = b; in_column = z.in_column; found = z.found };
+    here = record { char = z.char; rest = z.rest ++ put l.by (spell ls a); position = z.position; breaks_before = b; in_column = z.in_column; found = z.found };
     first = λ y are. z.first (put l.by (spell ls y));
   }
 
@@ -71,7 +71,7 @@ module _ (column : ℕ) where
     here = record {
       char = z.here.char;
       rest = z.here.rest;
-      place = z.here.place;
+      position = z.here.position;
       breaks_before = z.here.breaks_before;
       in_column = z.here.in_column;
       found = empty_passes column l (spell ls a) p b h le fits ∙ z.here.found;

@@ -24,7 +24,7 @@ use Rattle.proof_lexers.specs.NameEnds.{further}
 use Rattle.proof_lexers.specs.UriEnds.{problem_of, after_class}
 use Rattle.proof_lexers.specs.DirectiveEnds.{token_of, ends_line, first_break, next_line, after_line, IsNoVersion, no_major, long_major, no_point, no_minor, long_minor, IsNoDeclaration, no_mark, open_name, no_prefix, by_octets, goes_on, IsDirectiveRefusal, no_name, by_name, by_version, by_declaration, by_comment, by_text, DirectiveEndsAs, reads, refuses}
 use Rattle.proof_lexers.specs.ScalarLaws.{DirectivesAreRead, DirectivesEndAsTheirTextSays}
-use Rattle.proof_lexers.proofs.Separation.Places.{place_append, place_in_line}
+use Rattle.proof_lexers.proofs.Separation.Positions.{position_append, position_in_line}
 use Rattle.proof_lexers.proofs.Properties.Tags.{span_cut}
 use Rattle.proof_lexers.proofs.Properties.Uris.{uris_are_read}
 use Rattle.proof_lexers.proofs.Directives.Parts.{none_at_end, before_end, no_break_after, skipped, line_skipped, LineEnds, ended, comment, text, line_ends, spells_name, kind_is, gap_is}
@@ -60,8 +60,8 @@ five_texts : (a b c d e r : List ℕ) → a ++ (b ++ (c ++ (d ++ (e ++ r)))) ≡
 five_texts a b c d e r =
     sym (append_assoc a (b ++ (c ++ (d ++ e))) r ∙ ap (λ k. a ++ k) (append_assoc b (c ++ (d ++ e)) r ∙ ap (λ k. b ++ k) (append_assoc c (d ++ e) r ∙ ap (λ k. c ++ k) (append_assoc d e r))))
 
-four_places : (p : Position) (a b c d : List ℕ) → further (length d) (past (further (length c) (further (length b) (further (length a) (past p))))) ≡ further (suc (length (a ++ (b ++ (c ++ 46 ∷ d))))) p
-four_places p a b c d =
+four_positions : (p : Position) (a b c d : List ℕ) → further (length d) (past (further (length c) (further (length b) (further (length a) (past p))))) ≡ further (suc (length (a ++ (b ++ (c ++ 46 ∷ d))))) p
+four_positions p a b c d =
     let all = length-append a (b ++ (c ++ 46 ∷ d)) in
     let more = length-append b (c ++ 46 ∷ d) in
     let last : length (c ++ 46 ∷ d) ≡ length c + suc (length d) = length-append c (46 ∷ d) in
@@ -69,8 +69,8 @@ four_places p a b c d =
     let y : (((((p.col + 1) + length a) + length b) + length c) + 1) + length d ≡ p.col + suc (length (a ++ (b ++ (c ++ 46 ∷ d)))) = omega (arith, all, more, last) in
     rw (x, y) refl
 
-five_places : (p : Position) (a b c d e : List ℕ) → further (length e) (further (length d) (further (length c) (further (length b) (further (length a) (past p))))) ≡ further (suc (length (a ++ (b ++ (c ++ (d ++ e)))))) p
-five_places p a b c d e =
+five_positions : (p : Position) (a b c d e : List ℕ) → further (length e) (further (length d) (further (length c) (further (length b) (further (length a) (past p))))) ≡ further (suc (length (a ++ (b ++ (c ++ (d ++ e)))))) p
+five_positions p a b c d e =
     let all = length-append a (b ++ (c ++ (d ++ e))) in
     let more = length-append b (c ++ (d ++ e)) in
     let rest = length-append c (d ++ e) in
@@ -107,20 +107,20 @@ module _ (start : Position) (l n : List ℕ) (line : has_no_break l ≡ true) (e
 
   -- ---- the line's end
 
-  last_place : (before m : List ℕ) (p : Position) → l ≡ before ++ m → p ≡ further (suc (length before)) start
+  last_position : (before m : List ℕ) (p : Position) → l ≡ before ++ m → p ≡ further (suc (length before)) start
       → position_after (further (length m) p) (first_break n) (next_line n) ≡ position_after start ((37 ∷ l) ++ first_break n) (next_line n)
-  last_place before m p cut place =
+  last_position before m p cut position =
       let so_long : length l ≡ length before + length m = ap length cut ∙ length-append before m in
       let here : further (length m) p ≡ position_after start (37 ∷ l) (first_break n ++ next_line n) =
-      ap (further (length m)) place ∙ further_more start (length before) (length m) (length l) so_long ∙ place_in_line start (37 ∷ l) (first_break n ++ next_line n) (no_percent_break l line) in
-      ap (λ q. position_after q (first_break n) (next_line n)) here ∙ sym (place_append start (37 ∷ l) (first_break n) (next_line n))
+      ap (further (length m)) position ∙ further_more start (length before) (length m) (length l) so_long ∙ position_in_line start (37 ∷ l) (first_break n ++ next_line n) (no_percent_break l line) in
+      ap (λ q. position_after q (first_break n) (next_line n)) here ∙ sym (position_append start (37 ∷ l) (first_break n) (next_line n))
 
   finish : (before m : List ℕ) (d : Directive) (p : Position) → l ≡ before ++ m → p ≡ further (suc (length before)) start → directive_of (37 ∷ l) ≡ (if is_rest_of_line m then Some d else None)
-      → Told start l n (after_value start (record { rest = m ++ n; place = p; value = token_of d }))
-  finish before m d p cut place says = by (line_end start (m ++ n) p) (line_ends start p m n (no_break_after before m (ap has_no_break (sym cut) ∙ line)) ends)
+      → Told start l n (after_value start (record { rest = m ++ n; position = p; value = token_of d }))
+  finish before m d p cut position says = by (line_end start (m ++ n) p) (line_ends start p m n (no_break_after before m (ap has_no_break (sym cut) ∙ line)) ends)
     where
       v : Read Tok
-      v = record { rest = m ++ n; place = p; value = token_of d }
+      v = record { rest = m ++ n; position = p; value = token_of d }
 
       go : Result (Read (Unit {0})) Fault → Result (Read Tok) Fault
       go x = and_then x (λ r. Ok (with_end v r))
@@ -130,8 +130,8 @@ module _ (start : Position) (l n : List ℕ) (line : has_no_break l ≡ true) (e
       glued (c ∷ k) e b = let same : c ≡ 35 = eqb-true c 35 b in by_comment before k (e ∙ ap (λ h. before ++ h ∷ k) same)
 
       by : (x : Result (Read (Unit {0})) Fault) → LineEnds start p m n x → Told start l n (go x)
-      by x (ended is e) = is_directive d (says ∙ rw is refl) (ap go e ∙ ap (λ q. Ok (record { rest = next_line n; place = q; value = token_of d })) (last_place before m p cut place))
-      by x (comment begins none e) = refused (At problem.CommentNotSeparated p) (go x) (says ∙ rw none refl) (subst (λ q. IsDirectiveRefusal start l (At problem.CommentNotSeparated q)) (sym place) (glued m cut begins)) (ap go e)
+      by x (ended is e) = is_directive d (says ∙ rw is refl) (ap go e ∙ ap (λ q. Ok (record { rest = next_line n; position = q; value = token_of d })) (last_position before m p cut position))
+      by x (comment begins none e) = refused (At problem.CommentNotSeparated p) (go x) (says ∙ rw none refl) (subst (λ q. IsDirectiveRefusal start l (At problem.CommentNotSeparated q)) (sym position) (glued m cut begins)) (ap go e)
       by x (text none e) = refused (At problem.DirectiveEnd start) (go x) (says ∙ rw none refl) (by_text before m cut none) (ap go e)
 
   -- ---- words
@@ -143,13 +143,13 @@ module _ (start : Position) (l n : List ℕ) (line : has_no_break l ≡ true) (e
   abbrev said : List ℕ
   said = after classes.is_blank after_word
 
-  abbrev word_place : Position
-  word_place = further (length (leading classes.is_alpha l)) (past start)
+  abbrev word_position : Position
+  word_position = further (length (leading classes.is_alpha l)) (past start)
 
-  abbrev said_place : Position
-  said_place = further (length (leading classes.is_blank after_word)) word_place
+  abbrev said_position : Position
+  said_position = further (length (leading classes.is_blank after_word)) word_position
 
-  blanks_skipped : (m : List ℕ) (p : Position) → skip_while is_blank (m ++ n) p ≡ record { rest = after classes.is_blank m ++ n; place = further (length (leading classes.is_blank m)) p; value = tt }
+  blanks_skipped : (m : List ℕ) (p : Position) → skip_while is_blank (m ++ n) p ≡ record { rest = after classes.is_blank m ++ n; position = further (length (leading classes.is_blank m)) p; value = tt }
   unfolding classes.is_blank
   blanks_skipped m p = let q = before_end classes.is_blank m n (none_at_end classes.is_blank refl refl n ends) in skipped classes.is_blank is_blank same_blank (m ++ n) p ∙ rw (q.0, q.1) refl
 
@@ -171,8 +171,8 @@ module _ (start : Position) (l n : List ℕ) (line : has_no_break l ≡ true) (e
 
     -- after the minor number
     version_end : (s minor : List ℕ) (v w : ℕ) → after classes.is_decimal_digit said ≡ 46 ∷ s → leading classes.is_decimal_digit s ≡ minor → number_of major ≡ Some v → number_of minor ≡ Some w
-        → Told start l n (after_value start (record { rest = after classes.is_decimal_digit s ++ n; place = further (length minor) (past (further (length major) said_place)); value = Tok.version_directive v w }))
-    version_end s minor v w point lead is is_w = finish before rest (defs.version v w) _ cut place (says_version ∙ rw (point, lead, is, is_w) refl)
+        → Told start l n (after_value start (record { rest = after classes.is_decimal_digit s ++ n; position = further (length minor) (past (further (length major) said_position)); value = Tok.version_directive v w }))
+    version_end s minor v w point lead is is_w = finish before rest (defs.version v w) _ cut position (says_version ∙ rw (point, lead, is, is_w) refl)
       where
         rest : List ℕ
         rest = after classes.is_decimal_digit s
@@ -186,12 +186,12 @@ module _ (start : Position) (l n : List ℕ) (line : has_no_break l ≡ true) (e
         cut : l ≡ before ++ rest
         cut = from_word ∙ ap (λ r. leading classes.is_alpha l ++ (leading classes.is_blank after_word ++ r)) tail ∙ four_texts (leading classes.is_alpha l) (leading classes.is_blank after_word) major minor rest
 
-        place : further (length minor) (past (further (length major) said_place)) ≡ further (suc (length before)) start
-        place = four_places start (leading classes.is_alpha l) (leading classes.is_blank after_word) major minor
+        position : further (length minor) (past (further (length major) said_position)) ≡ further (suc (length before)) start
+        position = four_positions start (leading classes.is_alpha l) (leading classes.is_blank after_word) major minor
 
     minor_read : (s : List ℕ) (v : ℕ) → after classes.is_decimal_digit said ≡ 46 ∷ s → number_of major ≡ Some v
-        → Told start l n (and_then (and_then (number start (s ++ n) (past (further (length major) said_place))) (λ k. Ok (with_minor v k))) (λ t. after_value start t))
-    minor_read s v point is = told (number start (s ++ n) (past (further (length major) said_place))) (number_sees start (past (further (length major) said_place)) s n ends)
+        → Told start l n (and_then (and_then (number start (s ++ n) (past (further (length major) said_position))) (λ k. Ok (with_minor v k))) (λ t. after_value start t))
+    minor_read s v point is = told (number start (s ++ n) (past (further (length major) said_position))) (number_sees start (past (further (length major) said_position)) s n ends)
       where
         go : Result (Read ℕ) Fault → Result (Read Tok) Fault
         go x = and_then (and_then x (λ k. Ok (with_minor v k))) (λ t. after_value start t)
@@ -199,30 +199,30 @@ module _ (start : Position) (l n : List ℕ) (line : has_no_break l ≡ true) (e
         no_version : number_of (leading classes.is_decimal_digit s) ≡ None → version_of said ≡ None
         no_version without = rw (point, is, without) (none_by (is_rest_of_line (after classes.is_decimal_digit s)))
 
-        told : (x : Result (Read ℕ) Fault) → NumberSees start (past (further (length major) said_place)) s n x → Told start l n (go x)
+        told : (x : Result (Read ℕ) Fault) → NumberSees start (past (further (length major) said_position)) s n x → Told start l n (go x)
         told x (missing none without e) = version_refused problem.VersionNumber (go x) (no_version without) (no_minor s point none) (ap go e)
         told x (long much without e) = version_refused problem.VersionTooLong (go x) (no_version without) (long_minor s point much) (ap go e)
         told x (found w is_w e) = subst (λ y. Told start l n (go y)) (sym e) (version_end s (leading classes.is_decimal_digit s) v w point refl is is_w)
 
     point_read : (r : List ℕ) (v : ℕ) → after classes.is_decimal_digit said ≡ r → number_of major ≡ Some v
-        → Told start l n (and_then (after_major start (record { rest = r ++ n; place = further (length major) said_place; value = v })) (λ t. after_value start t))
+        → Told start l n (and_then (after_major start (record { rest = r ++ n; position = further (length major) said_position; value = v })) (λ t. after_value start t))
     point_read [] v rest is =
         let none = not_at_end 46 refl refl refl n ends in
         version_refused problem.VersionDot _ (rw rest refl) (no_point (rw rest refl)) (rw none refl)
     point_read (c ∷ s) v rest is = by (c == 46) refl
       where
-        by : (b : Bool) → (c == 46) ≡ b → Told start l n (and_then (after_major start (record { rest = (c ∷ s) ++ n; place = further (length major) said_place; value = v })) (λ t. after_value start t))
+        by : (b : Bool) → (c == 46) ≡ b → Told start l n (and_then (after_major start (record { rest = (c ∷ s) ++ n; position = further (length major) said_position; value = v })) (λ t. after_value start t))
         by true e = let same : c ≡ 46 = eqb-true c 46 e in rw e (minor_read s v (rest ∙ ap (λ k. k ∷ s) same) is)
         by false e = version_refused problem.VersionDot _ (rw (rest, e) refl) (no_point (rw (rest, e) refl)) (rw e refl)
 
-    versions : Told start l n (and_then (value start version (after_word ++ n) word_place) (λ t. after_value start t))
+    versions : Told start l n (and_then (value start version (after_word ++ n) word_position) (λ t. after_value start t))
     unfolding version_value
-    versions = rw (blanks_skipped after_word word_place) (told (number start (said ++ n) said_place) (number_sees start said_place said n ends))
+    versions = rw (blanks_skipped after_word word_position) (told (number start (said ++ n) said_position) (number_sees start said_position said n ends))
       where
         go : Result (Read ℕ) Fault → Result (Read Tok) Fault
         go x = and_then (and_then x (λ k. after_major start k)) (λ t. after_value start t)
 
-        told : (x : Result (Read ℕ) Fault) → NumberSees start said_place said n x → Told start l n (go x)
+        told : (x : Result (Read ℕ) Fault) → NumberSees start said_position said n x → Told start l n (go x)
         told x (missing none without e) = version_refused problem.VersionNumber (go x) (rw without (no_minor_of (after classes.is_decimal_digit said))) (no_major none) (ap go e)
         told x (long much without e) = version_refused problem.VersionTooLong (go x) (rw without (no_minor_of (after classes.is_decimal_digit said))) (long_major much) (ap go e)
         told x (found v is e) = subst (λ y. Told start l n (go y)) (sym e) (point_read (after classes.is_decimal_digit said) v refl is)
@@ -250,11 +250,11 @@ module _ (start : Position) (l n : List ℕ) (line : has_no_break l ≡ true) (e
     abbrev after_prefix : List ℕ
     after_prefix = after classes.is_uri from_prefix
 
-    abbrev handle_place : Position
-    handle_place = further (length handle_is) said_place
+    abbrev handle_position : Position
+    handle_position = further (length handle_is) said_position
 
-    abbrev prefix_place : Position
-    prefix_place = further (length (leading classes.is_blank after_handle)) handle_place
+    abbrev prefix_position : Position
+    prefix_position = further (length (leading classes.is_blank after_handle)) handle_position
 
     says_declaration : directive_of (37 ∷ l) ≡ declaration_by (handle_and_rest said)
     unfolding directive_of
@@ -277,8 +277,8 @@ module _ (start : Position) (l n : List ℕ) (line : has_no_break l ≡ true) (e
       declares cs begins means = rw (is, begins, means) refl
 
       declaration_end : (cs : List ℕ) → begins_prefix from_prefix ≡ true → decoded prefix_text ≡ Ok cs
-          → Told start l n (after_value start (record { rest = after_prefix ++ n; place = further (length prefix_text) prefix_place; value = Tok.tag_directive handle_is cs }))
-      declaration_end cs begins means = finish before after_prefix (tag_declaration handle_is cs) _ cut place (says_declaration ∙ declares cs begins means)
+          → Told start l n (after_value start (record { rest = after_prefix ++ n; position = further (length prefix_text) prefix_position; value = Tok.tag_directive handle_is cs }))
+      declaration_end cs begins means = finish before after_prefix (tag_declaration handle_is cs) _ cut position (says_declaration ∙ declares cs begins means)
         where
           before : List ℕ
           before = leading classes.is_alpha l ++ (leading classes.is_blank after_word ++ (handle_is ++ (leading classes.is_blank after_handle ++ prefix_text)))
@@ -290,26 +290,26 @@ module _ (start : Position) (l n : List ℕ) (line : has_no_break l ≡ true) (e
           cut = from_word ∙ ap (λ r. leading classes.is_alpha l ++ (leading classes.is_blank after_word ++ r)) tail
               ∙ five_texts (leading classes.is_alpha l) (leading classes.is_blank after_word) handle_is (leading classes.is_blank after_handle) prefix_text after_prefix
 
-          place : further (length prefix_text) prefix_place ≡ further (suc (length before)) start
-          place = five_places start (leading classes.is_alpha l) (leading classes.is_blank after_word) handle_is (leading classes.is_blank after_handle) prefix_text
+          position : further (length prefix_text) prefix_position ≡ further (suc (length before)) start
+          position = five_positions start (leading classes.is_alpha l) (leading classes.is_blank after_word) handle_is (leading classes.is_blank after_handle) prefix_text
 
       -- what the scan of the prefix leaves, by what its characters mean
       abbrev prefix_result : Result (List ℕ) UriFault → Result (Read (List ℕ)) Fault
-      prefix_result (Ok cs) = Ok (record { rest = after_prefix ++ n; place = further (length prefix_text) prefix_place; value = cs })
+      prefix_result (Ok cs) = Ok (record { rest = after_prefix ++ n; position = further (length prefix_text) prefix_position; value = cs })
       prefix_result (Err f) = Err (At (problem_of f) start)
 
-      prefix_is : ((slice_index (from_prefix ++ n) 0 == 33) || is_tag (slice_index (from_prefix ++ n) 0)) ≡ true → prefix start (from_prefix ++ n) prefix_place ≡ prefix_result (decoded prefix_text)
+      prefix_is : ((slice_index (from_prefix ++ n) 0 == 33) || is_tag (slice_index (from_prefix ++ n) 0)) ≡ true → prefix start (from_prefix ++ n) prefix_position ≡ prefix_result (decoded prefix_text)
       unfolding prefix classes.is_uri classes.is_decimal_digit classes.is_letter
       prefix_is e =
           let q = before_end classes.is_uri from_prefix n (none_at_end classes.is_uri refl refl n ends) in
-          rw (e, (uris_are_read start (from_prefix ++ n) prefix_place []).0, q.0) (by q.0 q.1 (decoded prefix_text))
+          rw (e, (uris_are_read start (from_prefix ++ n) prefix_position []).0, q.0) (by q.0 q.1 (decoded prefix_text))
         where
           by : leading classes.is_uri (from_prefix ++ n) ≡ prefix_text → after classes.is_uri (from_prefix ++ n) ≡ after_prefix ++ n → (d : Result (List ℕ) UriFault)
-              → after_class classes.is_uri start prefix_place (from_prefix ++ n) [] d ≡ prefix_result d
+              → after_class classes.is_uri start prefix_position (from_prefix ++ n) [] d ≡ prefix_result d
           by lead rest (Ok cs) = rw (lead, rest) refl
           by lead rest (Err f) = refl
 
-      prefix_fails : ((slice_index (from_prefix ++ n) 0 == 33) || is_tag (slice_index (from_prefix ++ n) 0)) ≡ false → prefix start (from_prefix ++ n) prefix_place ≡ Err (At problem.GlobalTagCharacter start)
+      prefix_fails : ((slice_index (from_prefix ++ n) 0 == 33) || is_tag (slice_index (from_prefix ++ n) 0)) ≡ false → prefix start (from_prefix ++ n) prefix_position ≡ Err (At problem.GlobalTagCharacter start)
       unfolding prefix
       prefix_fails e = rw e refl
 
@@ -323,54 +323,54 @@ module _ (start : Position) (l n : List ℕ) (line : has_no_break l ≡ true) (e
           by true e = rw (gap_is after_prefix n ends, e) (declaration_end cs begins means)
           by false e = declaration_refused problem.TagDirectiveEnd _ (declares cs begins means ∙ rw (gap_missing after_prefix e) refl) (goes_on e) (rw (gap_is after_prefix n ends, e) refl)
 
-      prefix_read : Told start l n (and_then (prefix_after start handle_is (blanks (after_handle ++ n) handle_place)) (λ t. after_value start t))
-      prefix_read = rw (blanks_skipped after_handle handle_place) (by (begins_prefix from_prefix) refl)
+      prefix_read : Told start l n (and_then (prefix_after start handle_is (blanks (after_handle ++ n) handle_position)) (λ t. after_value start t))
+      prefix_read = rw (blanks_skipped after_handle handle_position) (by (begins_prefix from_prefix) refl)
         where
-          by : (b : Bool) → begins_prefix from_prefix ≡ b → Told start l n (and_then (and_then (prefix start (from_prefix ++ n) prefix_place) (λ q. with_prefix start handle_is q)) (λ t. after_value start t))
+          by : (b : Bool) → begins_prefix from_prefix ≡ b → Told start l n (and_then (and_then (prefix start (from_prefix ++ n) prefix_position) (λ q. with_prefix start handle_is q)) (λ t. after_value start t))
           by true e = rw (prefix_is (begins_with_prefix from_prefix ∙ e)) (characters_read (decoded prefix_text) e refl)
           by false e = declaration_refused problem.GlobalTagCharacter _ (rw (is, e) refl) (no_prefix e) (ap (λ x. and_then (and_then x (λ q. with_prefix start handle_is q)) (λ t. after_value start t)) (prefix_fails (begins_with_prefix from_prefix ∙ e)))
 
-    declarations : Told start l n (and_then (value start tag (after_word ++ n) word_place) (λ t. after_value start t))
+    declarations : Told start l n (and_then (value start tag (after_word ++ n) word_position) (λ t. after_value start t))
     unfolding tag_value
-    declarations = rw (blanks_skipped after_word word_place) (told (handle start (said ++ n) said_place) (handle_sees start said_place said n ends))
+    declarations = rw (blanks_skipped after_word word_position) (told (handle start (said ++ n) said_position) (handle_sees start said_position said n ends))
       where
         go : Result (Read (List ℕ)) Fault → Result (Read Tok) Fault
-        go x = and_then (and_then x (λ (h : Read (List ℕ)). prefix_after start h.value (blanks h.rest h.place))) (λ t. after_value start t)
+        go x = and_then (and_then x (λ (h : Read (List ℕ)). prefix_after start h.value (blanks h.rest h.position))) (λ t. after_value start t)
 
-        told : (x : Result (Read (List ℕ)) Fault) → HandleSees start said_place said n x → Told start l n (go x)
+        told : (x : Result (Read (List ℕ)) Fault) → HandleSees start said_position said n x → Told start l n (go x)
         told x (values.no_mark none without e) = declaration_refused problem.TagStart (go x) (rw without refl) (no_mark none) (ap go e)
         told x (values.open_name c name rest same lead none without e) = declaration_refused problem.TagDirectiveHandle (go x) (rw without refl) (open_name c name rest same lead none) (ap go e)
         told x (values.found is spelled e) = subst (λ y. Told start l n (go y)) (sym e) (prefix_read is spelled)
 
   -- ---- other directives
 
-  ignored_place : further (length after_word) word_place ≡ further (suc (length l)) start
-  ignored_place =
+  ignored_position : further (length after_word) word_position ≡ further (suc (length l)) start
+  ignored_position =
       let so_long : length l ≡ length (leading classes.is_alpha l) + length after_word = ap length (span_cut classes.is_alpha l) ∙ length-append (leading classes.is_alpha l) after_word in
       let x : ((start.index + 1) + length (leading classes.is_alpha l)) + length after_word ≡ start.index + suc (length l) = omega (arith, so_long) in
       let y : ((start.col + 1) + length (leading classes.is_alpha l)) + length after_word ≡ start.col + suc (length l) = omega (arith, so_long) in
       rw (x, y) refl
 
   ignored : (c : ℕ) (w : List ℕ) → leading classes.is_alpha l ≡ c ∷ w → is_same (c ∷ w) (codes "YAML") ≡ false → is_same (c ∷ w) (codes "TAG") ≡ false → is_at_gap after_word ≡ true
-      → Told start l n (and_then (value start unknown (after_word ++ n) word_place) (λ t. after_value start t))
+      → Told start l n (and_then (value start unknown (after_word ++ n) word_position) (λ t. after_value start t))
   unfolding directive_of
   ignored c w lead no_version no_tag gap =
       let in_line : has_no_break after_word ≡ true = no_break_after (leading classes.is_alpha l) after_word (ap has_no_break (sym (span_cut classes.is_alpha l)) ∙ line) in
       let says : directive_of (37 ∷ l) ≡ Some reserved = rw (lead, gap, no_version, no_tag) refl in
-      rw (line_skipped after_word n word_place in_line ends) (finish l [] reserved (further (length after_word) word_place) (rw append-nil refl) ignored_place says)
+      rw (line_skipped after_word n word_position in_line ends) (finish l [] reserved (further (length after_word) word_position) (rw append-nil refl) ignored_position says)
 
   -- ---- the directive
 
-  by_kind : (c : ℕ) (w : List ℕ) → leading classes.is_alpha l ≡ c ∷ w → is_at_gap after_word ≡ true → Told start l n (after_name start (record { rest = after_word ++ n; place = word_place; value = kind (l ++ n) }))
+  by_kind : (c : ℕ) (w : List ℕ) → leading classes.is_alpha l ≡ c ∷ w → is_at_gap after_word ≡ true → Told start l n (after_name start (record { rest = after_word ++ n; position = word_position; value = kind (l ++ n) }))
   by_kind c w lead gap = rw (kind_is l n ends, lead) (by (is_same (c ∷ w) (codes "YAML")) refl (is_same (c ∷ w) (codes "TAG")) refl)
     where
       by : (yaml : Bool) → is_same (c ∷ w) (codes "YAML") ≡ yaml → (tags : Bool) → is_same (c ∷ w) (codes "TAG") ≡ tags
-          → Told start l n (after_name start (record { rest = after_word ++ n; place = further (length (c ∷ w)) (past start); value = (if yaml then version else (if tags then tag else unknown)) }))
-      by true e tags f = subst (λ k. Told start l n (after_name start (record { rest = after_word ++ n; place = further (length k) (past start); value = version }))) lead (versions (lead ∙ same_text (c ∷ w) (codes "YAML") e) gap)
-      by false e true f = subst (λ k. Told start l n (after_name start (record { rest = after_word ++ n; place = further (length k) (past start); value = tag }))) lead (declarations (lead ∙ same_text (c ∷ w) (codes "TAG") f) gap)
-      by false e false f = subst (λ k. Told start l n (after_name start (record { rest = after_word ++ n; place = further (length k) (past start); value = unknown }))) lead (ignored c w lead e f gap)
+          → Told start l n (after_name start (record { rest = after_word ++ n; position = further (length (c ∷ w)) (past start); value = (if yaml then version else (if tags then tag else unknown)) }))
+      by true e tags f = subst (λ k. Told start l n (after_name start (record { rest = after_word ++ n; position = further (length k) (past start); value = version }))) lead (versions (lead ∙ same_text (c ∷ w) (codes "YAML") e) gap)
+      by false e true f = subst (λ k. Told start l n (after_name start (record { rest = after_word ++ n; position = further (length k) (past start); value = tag }))) lead (declarations (lead ∙ same_text (c ∷ w) (codes "TAG") f) gap)
+      by false e false f = subst (λ k. Told start l n (after_name start (record { rest = after_word ++ n; position = further (length k) (past start); value = unknown }))) lead (ignored c w lead e f gap)
 
-  word_skipped : skip_while is_alpha (l ++ n) (past start) ≡ record { rest = after_word ++ n; place = word_place; value = tt }
+  word_skipped : skip_while is_alpha (l ++ n) (past start) ≡ record { rest = after_word ++ n; position = word_position; value = tt }
   unfolding classes.is_alpha classes.is_decimal_digit classes.is_letter
   word_skipped = let q = before_end classes.is_alpha l n (none_at_end classes.is_alpha refl refl n ends) in skipped classes.is_alpha is_alpha same_alpha (l ++ n) (past start) ∙ rw (q.0, q.1) refl
 
@@ -390,7 +390,7 @@ module _ (start : Position) (l n : List ℕ) (line : has_no_break l ≡ true) (e
       letter false h = cc
 
       by : (gap : Bool) → is_at_gap after_word ≡ gap
-          → Told start l n (and_then (if gap then Ok (record { rest = after_word ++ n; place = word_place; value = kind (l ++ n) }) else Err (At problem.DirectiveNameEnd (past start))) (λ k. after_name start k))
+          → Told start l n (and_then (if gap then Ok (record { rest = after_word ++ n; position = word_position; value = kind (l ++ n) }) else Err (At problem.DirectiveNameEnd (past start))) (λ k. after_name start k))
       by true e = by_kind c w lead e
       by false e = refused (At problem.DirectiveNameEnd (past start)) _ (rw (lead, e) refl) (by_name e) refl
 

@@ -23,7 +23,7 @@ use Rattle.proof_lexers.proofs.Bridges.{same_break, same_gap, same_alpha}
 use Rattle.proof_lexers.specs.NameEnds.{further}
 use Rattle.proof_lexers.specs.DirectiveEnds.{ends_line, first_break, next_line}
 use Rattle.proof_lexers.proofs.Properties.Names.{one_further, none_further}
-use Rattle.proof_lexers.proofs.Plain.Turns.{same_feed, in_line_place, line_place}
+use Rattle.proof_lexers.proofs.Plain.Turns.{same_feed, in_line_position, line_position}
 use Rattle.proof_lexers.proofs.Properties.Tags.{begins_in, leading_none}
 
 -- ---- classes at a line's end
@@ -57,31 +57,31 @@ no_break_after [] b h = h
 no_break_after (c ∷ a) b h = no_break_after a b (and_parts (not (classes.is_break c)) (has_no_break (a ++ b)) h).1
 
 -- characters of a class are skipped
-pub skipped : (class test : ℕ → Bool) → ((c : ℕ) → class c ≡ test c) → (a : List ℕ) (p : Position) → skip_while test a p ≡ record { rest = after class a; place = further (length (leading class a)) p; value = tt }
-skipped class test same [] p = ap (λ q. record { rest = []; place = q; value = tt }) (sym (none_further p))
+pub skipped : (class test : ℕ → Bool) → ((c : ℕ) → class c ≡ test c) → (a : List ℕ) (p : Position) → skip_while test a p ≡ record { rest = after class a; position = further (length (leading class a)) p; value = tt }
+skipped class test same [] p = ap (λ q. record { rest = []; position = q; value = tt }) (sym (none_further p))
 skipped class test same (c ∷ a) p = by (test c) refl (skipped class test same a (past p))
   where
-    by : (b : Bool) → test c ≡ b → skip_while test a (past p) ≡ record { rest = after class a; place = further (length (leading class a)) (past p); value = tt }
-        → (if b then skip_while test a (past p) else record { rest = c ∷ a; place = p; value = tt }) ≡ record { rest = after class (c ∷ a); place = further (length (leading class (c ∷ a))) p; value = tt }
-    by true e z = let is : class c ≡ true = same c ∙ e in rw is (z ∙ ap (λ q. record { rest = after class a; place = q; value = tt }) (one_further p (length (leading class a))))
-    by false e z = let is : class c ≡ false = same c ∙ e in rw is (ap (λ q. record { rest = c ∷ a; place = q; value = tt }) (sym (none_further p)))
+    by : (b : Bool) → test c ≡ b → skip_while test a (past p) ≡ record { rest = after class a; position = further (length (leading class a)) (past p); value = tt }
+        → (if b then skip_while test a (past p) else record { rest = c ∷ a; position = p; value = tt }) ≡ record { rest = after class (c ∷ a); position = further (length (leading class (c ∷ a))) p; value = tt }
+    by true e z = let is : class c ≡ true = same c ∙ e in rw is (z ∙ ap (λ q. record { rest = after class a; position = q; value = tt }) (one_further p (length (leading class a))))
+    by false e z = let is : class c ≡ false = same c ∙ e in rw is (ap (λ q. record { rest = c ∷ a; position = q; value = tt }) (sym (none_further p)))
 
 -- ---- the rest of a line
 
 -- all of a line without a break is skipped
-pub line_skipped : (m n : List ℕ) (p : Position) → has_no_break m ≡ true → ends_line n ≡ true → skip_while is_line (m ++ n) p ≡ record { rest = n; place = further (length m) p; value = tt }
-line_skipped [] [] p h e = ap (λ q. record { rest = []; place = q; value = tt }) (sym (none_further p))
-line_skipped [] (c ∷ n) p h e = let breaks : is_break c ≡ true = sym (same_break c) ∙ e in rw breaks (ap (λ q. record { rest = c ∷ n; place = q; value = tt }) (sym (none_further p)))
+pub line_skipped : (m n : List ℕ) (p : Position) → has_no_break m ≡ true → ends_line n ≡ true → skip_while is_line (m ++ n) p ≡ record { rest = n; position = further (length m) p; value = tt }
+line_skipped [] [] p h e = ap (λ q. record { rest = []; position = q; value = tt }) (sym (none_further p))
+line_skipped [] (c ∷ n) p h e = let breaks : is_break c ≡ true = sym (same_break c) ∙ e in rw breaks (ap (λ q. record { rest = c ∷ n; position = q; value = tt }) (sym (none_further p)))
 line_skipped (c ∷ m) n p h e =
     let q = and_parts (not (classes.is_break c)) (has_no_break m) h in
     let no_break : not (is_break c) ≡ true = ap not (sym (same_break c)) ∙ q.0 in
-    rw no_break (line_skipped m n (past p) q.1 e ∙ ap (λ z. record { rest = n; place = z; value = tt }) (one_further p (length m)))
+    rw no_break (line_skipped m n (past p) q.1 e ∙ ap (λ z. record { rest = n; position = z; value = tt }) (one_further p (length m)))
 
 -- What blanks and a comment at a line's end leave: nothing of the line; a comment that stands after no blank; or other text.
 data TailEnds (m n : List ℕ) (s : Spaces) (x : Result (Read Whitespace) Fault) : Type 0 where
-  passes : (w : Whitespace) → is_blanks_and_comment m ≡ true → (begins_with 35 m && not (s.found.found_tabs || s.found.has_valid_yaml_ws)) ≡ false → x ≡ Ok (record { rest = n; place = further (length m) s.place; value = w }) → TailEnds m n s x
-  glued : begins_with 35 m ≡ true → (s.found.found_tabs || s.found.has_valid_yaml_ws) ≡ false → x ≡ Err (At problem.CommentNotSeparated s.place) → TailEnds m n s x
-  more : (c : ℕ) (and_then : List ℕ) (p : Position) (w : Whitespace) → is_break c ≡ false → is_blanks_and_comment m ≡ false → begins_with 35 m ≡ false → x ≡ Ok (record { rest = c ∷ (and_then ++ n); place = p; value = w }) → TailEnds m n s x
+  passes : (w : Whitespace) → is_blanks_and_comment m ≡ true → (begins_with 35 m && not (s.found.found_tabs || s.found.has_valid_yaml_ws)) ≡ false → x ≡ Ok (record { rest = n; position = further (length m) s.position; value = w }) → TailEnds m n s x
+  glued : begins_with 35 m ≡ true → (s.found.found_tabs || s.found.has_valid_yaml_ws) ≡ false → x ≡ Err (At problem.CommentNotSeparated s.position) → TailEnds m n s x
+  more : (c : ℕ) (and_then : List ℕ) (p : Position) (w : Whitespace) → is_break c ≡ false → is_blanks_and_comment m ≡ false → begins_with 35 m ≡ false → x ≡ Ok (record { rest = c ∷ (and_then ++ n); position = p; value = w }) → TailEnds m n s x
 
 abbrev goes_to_end : List ℕ → Spaces → Result (Read Whitespace) Fault
 goes_to_end a s = spaces_end (walk (space_step Yes) a s)
@@ -90,11 +90,11 @@ break_is_none : (c : ℕ) → is_break c ≡ true → ((c == 32) ≡ false) × (
 unfolding is_break
 break_is_none c h = (grind (arith, nat_tests), grind (arith, nat_tests), grind (arith, nat_tests))
 
-blank_more : (c : ℕ) (m n : List ℕ) (s t : Spaces) (x : Result (Read Whitespace) Fault) → classes.is_blank c ≡ true → (c == 35) ≡ false → t.place ≡ past s.place → (t.found.found_tabs || t.found.has_valid_yaml_ws) ≡ true
+blank_more : (c : ℕ) (m n : List ℕ) (s t : Spaces) (x : Result (Read Whitespace) Fault) → classes.is_blank c ≡ true → (c == 35) ≡ false → t.position ≡ past s.position → (t.found.found_tabs || t.found.has_valid_yaml_ws) ≡ true
     → TailEnds m n t x → TailEnds (c ∷ m) n s x
-blank_more c m n s t x blank hash place some (passes w is lone e) = passes w (rw (hash, blank) is) (rw hash refl) (e ∙ ap (λ q. Ok (record { rest = n; place = q; value = w })) (ap (further (length m)) place ∙ one_further s.place (length m)))
-blank_more c m n s t x blank hash place some (glued is none e) = absurd (cc (some, none))
-blank_more c m n s t x blank hash place some (more d and_then p w solid is begins e) = more d and_then p w solid (rw (hash, blank) is) hash e
+blank_more c m n s t x blank hash position some (passes w is lone e) = passes w (rw (hash, blank) is) (rw hash refl) (e ∙ ap (λ q. Ok (record { rest = n; position = q; value = w })) (ap (further (length m)) position ∙ one_further s.position (length m)))
+blank_more c m n s t x blank hash position some (glued is none e) = absurd (cc (some, none))
+blank_more c m n s t x blank hash position some (more d and_then p w solid is begins e) = more d and_then p w solid (rw (hash, blank) is) hash e
 
 or_true : (b : Bool) → (b || true) ≡ true
 or_true true = refl
@@ -105,41 +105,41 @@ tail_by : (c : ℕ) (m n : List ℕ) (s : Spaces) (space tab hash : Bool) → (c
 unfolding classes.is_blank
 tail_by c m n s true tab hash e f g h k ih =
     let same : c ≡ 32 = eqb-true c 32 e in
-    let t : Spaces = record { place = past s.place; found = record (s.found) { has_valid_yaml_ws = true } } in
+    let t : Spaces = record { position = past s.position; found = record (s.found) { has_valid_yaml_ws = true } } in
     blank_more c m n s t (goes_to_end (c ∷ (m ++ n)) s) (rw same refl) (rw same refl) refl (or_true s.found.found_tabs) (rw e (ih t))
 tail_by c m n s false true hash e f g h k ih =
     let same : c ≡ 9 = eqb-true c 9 f in
-    let t : Spaces = record { place = past s.place; found = record (s.found) { found_tabs = true } } in
+    let t : Spaces = record { position = past s.position; found = record (s.found) { found_tabs = true } } in
     blank_more c m n s t (goes_to_end (c ∷ (m ++ n)) s) (rw same refl) (rw same refl) refl refl (rw (e, f) (ih t))
 tail_by c m n s false false true e f g h k ih = by (s.found.found_tabs || s.found.has_valid_yaml_ws) refl
   where
     by : (b : Bool) → (s.found.found_tabs || s.found.has_valid_yaml_ws) ≡ b → TailEnds (c ∷ m) n s (goes_to_end (c ∷ (m ++ n)) s)
-    by true z = passes s.found (rw g refl) (rw (g, z) refl) (rw (e, f, g, z) (ap (λ r. Ok (with_found s.found r)) (line_skipped (c ∷ m) n s.place h k)))
+    by true z = passes s.found (rw g refl) (rw (g, z) refl) (rw (e, f, g, z) (ap (λ r. Ok (with_found s.found r)) (line_skipped (c ∷ m) n s.position h k)))
     by false z = glued g z (rw (e, f, g, z) refl)
 tail_by c m n s false false false e f g h k ih =
     let q = and_parts (not (classes.is_break c)) (has_no_break m) h in
-    more c m s.place s.found (not_true (is_break c) (ap not (sym (same_break c)) ∙ q.0)) (rw (e, f, g) refl) g (rw (e, f, g) refl)
+    more c m s.position s.found (not_true (is_break c) (ap not (sym (same_break c)) ∙ q.0)) (rw (e, f, g) refl) g (rw (e, f, g) refl)
   where
     not_true : (b : Bool) → not b ≡ true → b ≡ false
     not_true false h = refl
     not_true true h = cc
 
 tail_ends : (m n : List ℕ) → has_no_break m ≡ true → ends_line n ≡ true → (s : Spaces) → TailEnds m n s (goes_to_end (m ++ n) s)
-tail_ends [] [] h k s = passes s.found refl refl (ap (λ q. Ok (record { rest = []; place = q; value = s.found })) (sym (none_further s.place)))
+tail_ends [] [] h k s = passes s.found refl refl (ap (λ q. Ok (record { rest = []; position = q; value = s.found })) (sym (none_further s.position)))
 tail_ends [] (c ∷ n) h k s =
     let q = break_is_none c (sym (same_break c) ∙ k) in
-    passes s.found refl refl (rw (q.0, q.1, q.2) (ap (λ z. Ok (record { rest = c ∷ n; place = z; value = s.found })) (sym (none_further s.place))))
+    passes s.found refl refl (rw (q.0, q.1, q.2) (ap (λ z. Ok (record { rest = c ∷ n; position = z; value = s.found })) (sym (none_further s.position))))
 tail_ends (c ∷ m) n h k s = tail_by c m n s (c == 32) (c == 9) (c == 35) refl refl refl h k (tail_ends m n (and_parts (not (classes.is_break c)) (has_no_break m) h).1 k)
 
 -- How the end of a directive's line is read: the rest of it is blanks and maybe a comment after one; a comment stands there without a blank; or other text.
 pub data LineEnds (start p : Position) (m n : List ℕ) (x : Result (Read (Unit {0})) Fault) : Type 0 where
-  ended : is_rest_of_line m ≡ true → x ≡ Ok (record { rest = next_line n; place = position_after (further (length m) p) (first_break n) (next_line n); value = tt }) → LineEnds start p m n x
+  ended : is_rest_of_line m ≡ true → x ≡ Ok (record { rest = next_line n; position = position_after (further (length m) p) (first_break n) (next_line n); value = tt }) → LineEnds start p m n x
   comment : begins_with 35 m ≡ true → is_rest_of_line m ≡ false → x ≡ Err (At problem.CommentNotSeparated p) → LineEnds start p m n x
   text : is_rest_of_line m ≡ false → x ≡ Err (At problem.DirectiveEnd start) → LineEnds start p m n x
 
 feed_is_line : (d : ℕ) (r : List ℕ) (p : Position) → (d == 10) ≡ true → position_past p d r ≡ past_break p
 unfolding classes.is_break
-feed_is_line d r p h = let same : d ≡ 10 = eqb-true d 10 h in rw same (line_place 10 r p (by r))
+feed_is_line d r p h = let same : d ≡ 10 = eqb-true d 10 h in rw same (line_position 10 r p (by r))
   where
     by : (r : List ℕ) → (true && not (is_before_line_feed 10 r)) ≡ true
     by [] = refl
@@ -150,9 +150,9 @@ passed_feed c [] p h e = let q = and_parts (c == 13) (0 == 10) e in cc
 passed_feed c (d ∷ r) p h e =
     let q = and_parts (c == 13) (d == 10) e in
     let feeds : is_before_line_feed c (d ∷ r) ≡ true = sym (same_feed c (d ∷ r)) ∙ e in
-    sym (feed_is_line d r (past p) q.1) ∙ ap (λ z. position_past z d r) (sym (in_line_place c (d ∷ r) p (rw (h, feeds) refl)))
+    sym (feed_is_line d r (past p) q.1) ∙ ap (λ z. position_past z d r) (sym (in_line_position c (d ∷ r) p (rw (h, feeds) refl)))
 
-break_passed : (start p : Position) (n : List ℕ) → ends_line n ≡ true → directive_break start n p ≡ Ok (record { rest = next_line n; place = position_after p (first_break n) (next_line n); value = tt })
+break_passed : (start p : Position) (n : List ℕ) → ends_line n ≡ true → directive_break start n p ≡ Ok (record { rest = next_line n; position = position_after p (first_break n) (next_line n); value = tt })
 unfolding directive_break
 break_passed start p [] h = refl
 break_passed start p (c ∷ n) h = by (is_cr_lf c n) refl
@@ -160,13 +160,13 @@ break_passed start p (c ∷ n) h = by (is_cr_lf c n) refl
     breaks : is_break c ≡ true
     breaks = sym (same_break c) ∙ h
 
-    by : (b : Bool) → is_cr_lf c n ≡ b → directive_break start (c ∷ n) p ≡ Ok (record { rest = next_line (c ∷ n); place = position_after p (first_break (c ∷ n)) (next_line (c ∷ n)); value = tt })
+    by : (b : Bool) → is_cr_lf c n ≡ b → directive_break start (c ∷ n) p ≡ Ok (record { rest = next_line (c ∷ n); position = position_after p (first_break (c ∷ n)) (next_line (c ∷ n)); value = tt })
     by true e =
         let feeds : is_before_line_feed c n ≡ true = sym (same_feed c n) ∙ e in
-        rw (breaks, e, feeds) (ap (λ q. Ok (record { rest = drop 1 n; place = q; value = tt })) (passed_feed c n p h e))
+        rw (breaks, e, feeds) (ap (λ q. Ok (record { rest = drop 1 n; position = q; value = tt })) (passed_feed c n p h e))
     by false e =
         let feeds : is_before_line_feed c n ≡ false = sym (same_feed c n) ∙ e in
-        rw (breaks, e, feeds) (ap (λ q. Ok (record { rest = n; place = q; value = tt })) (sym (line_place c n p (rw (h, feeds) refl))))
+        rw (breaks, e, feeds) (ap (λ q. Ok (record { rest = n; position = q; value = tt })) (sym (line_position c n p (rw (h, feeds) refl))))
 
 more_is_no_rest : (m : List ℕ) → is_blanks_and_comment m ≡ false → is_rest_of_line m ≡ false
 more_is_no_rest [] h = cc
@@ -196,10 +196,10 @@ unfolding line_end space
 line_ends start p m n h k = told (goes_to_end (m ++ n) from) (tail_ends m n h k from)
   where
     from : Spaces
-    from = record { place = p; found = record { found_tabs = false; has_valid_yaml_ws = false } }
+    from = record { position = p; found = record { found_tabs = false; has_valid_yaml_ws = false } }
 
     go : Result (Read Whitespace) Fault → Result (Read (Unit {0})) Fault
-    go x = and_then x (λ (w : Read Whitespace). directive_break start w.rest w.place)
+    go x = and_then x (λ (w : Read Whitespace). directive_break start w.rest w.position)
 
     alone : (b : Bool) → (b && true) ≡ false → b ≡ false
     alone false e = refl
@@ -220,23 +220,23 @@ digit_is c = refl
 abbrev digits_read : (start p : Position) (v k : ℕ) → (a : List ℕ) → Result (Stop Digits) Fault
 digits_read start p v k a =
     (if nat_le (k + length (leading classes.is_decimal_digit a)) 9
-    then Ok (record { rest = after classes.is_decimal_digit a; state = record { place = further (length (leading classes.is_decimal_digit a)) p; value = decimal_value v (leading classes.is_decimal_digit a); length = k + length (leading classes.is_decimal_digit a) } })
+    then Ok (record { rest = after classes.is_decimal_digit a; state = record { position = further (length (leading classes.is_decimal_digit a)) p; value = decimal_value v (leading classes.is_decimal_digit a); length = k + length (leading classes.is_decimal_digit a) } })
     else Err (At problem.VersionTooLong start))
 
 stopped_here : (start p : Position) (v k : ℕ) (a : List ℕ) → k ≤ 9 → leading classes.is_decimal_digit a ≡ [] → after classes.is_decimal_digit a ≡ a
-    → Ok (record { rest = a; state = record { place = p; value = v; length = k } }) ≡ digits_read start p v k a
+    → Ok (record { rest = a; state = record { position = p; value = v; length = k } }) ≡ digits_read start p v k a
 stopped_here start p v k a few none same =
     let few_still : nat_le (k + 0) 9 ≡ true = grind (arith, nat_tests, few) in
     let so_many : k + 0 ≡ k = omega arith in
     rw (none, same, few_still, so_many, none_further p) refl
 
-digits_run : (start : Position) (a : List ℕ) (p : Position) (v k : ℕ) → k ≤ 9 → run (digit_turn start) a (record { place = p; value = v; length = k }) ≡ digits_read start p v k a
+digits_run : (start : Position) (a : List ℕ) (p : Position) (v k : ℕ) → k ≤ 9 → run (digit_turn start) a (record { position = p; value = v; length = k }) ≡ digits_read start p v k a
 digits_run start [] p v k few = stopped_here start p v k [] few refl refl
 digits_run start (c ∷ a) p v k few = by (is_digit c) refl (k == 9) refl (λ h. digits_run start a (past p) (v * 10 + (c - 48)) (k + 1) h)
   where
     by : (d : Bool) → is_digit c ≡ d → (nine : Bool) → (k == 9) ≡ nine
-        → (k + 1 ≤ 9 → run (digit_turn start) a (record { place = past p; value = v * 10 + (c - 48); length = k + 1 }) ≡ digits_read start (past p) (v * 10 + (c - 48)) (k + 1) a)
-        → run (digit_turn start) (c ∷ a) (record { place = p; value = v; length = k }) ≡ digits_read start p v k (c ∷ a)
+        → (k + 1 ≤ 9 → run (digit_turn start) a (record { position = past p; value = v * 10 + (c - 48); length = k + 1 }) ≡ digits_read start (past p) (v * 10 + (c - 48)) (k + 1) a)
+        → run (digit_turn start) (c ∷ a) (record { position = p; value = v; length = k }) ≡ digits_read start p v k (c ∷ a)
     by false e nine f ih =
         let no_digit : classes.is_decimal_digit c ≡ false = digit_is c ∙ e in
         rw e (stopped_here start p v k (c ∷ a) few (rw no_digit refl) (rw no_digit refl))
@@ -255,7 +255,7 @@ abbrev pub number_read : (start p : Position) → (a : List ℕ) → Result (Rea
 number_read start p a =
     (if is_empty (leading classes.is_decimal_digit a) then Err (At problem.VersionNumber start) else
     (if nat_le (length (leading classes.is_decimal_digit a)) 9
-    then Ok (record { rest = after classes.is_decimal_digit a; place = further (length (leading classes.is_decimal_digit a)) p; value = decimal_value 0 (leading classes.is_decimal_digit a) })
+    then Ok (record { rest = after classes.is_decimal_digit a; position = further (length (leading classes.is_decimal_digit a)) p; value = decimal_value 0 (leading classes.is_decimal_digit a) })
     else Err (At problem.VersionTooLong start)))
 
 pub number_is_read : (start : Position) (a : List ℕ) (p : Position) → number start a p ≡ number_read start p a
@@ -263,15 +263,15 @@ unfolding number
 number_is_read start a p = ap (digits_end start) (digits_run start a p 0 0 (omega arith)) ∙ by (leading classes.is_decimal_digit a)
   where
     by : (w : List ℕ) →
-        digits_end start (if nat_le (0 + length w) 9 then Ok (record { rest = after classes.is_decimal_digit a; state = record { place = further (length w) p; value = decimal_value 0 w; length = 0 + length w } }) else Err (At problem.VersionTooLong start))
+        digits_end start (if nat_le (0 + length w) 9 then Ok (record { rest = after classes.is_decimal_digit a; state = record { position = further (length w) p; value = decimal_value 0 w; length = 0 + length w } }) else Err (At problem.VersionTooLong start))
         ≡ (if is_empty w then Err (At problem.VersionNumber start) else
-        (if nat_le (length w) 9 then Ok (record { rest = after classes.is_decimal_digit a; place = further (length w) p; value = decimal_value 0 w }) else Err (At problem.VersionTooLong start)))
+        (if nat_le (length w) 9 then Ok (record { rest = after classes.is_decimal_digit a; position = further (length w) p; value = decimal_value 0 w }) else Err (At problem.VersionTooLong start)))
     by [] = refl
     by (c ∷ w) = let so_many : 0 + suc (length w) ≡ suc (length w) = omega arith in rw so_many (some (nat_le (suc (length w)) 9))
       where
         some : (b : Bool) →
-            digits_end start (if b then Ok (record { rest = after classes.is_decimal_digit a; state = record { place = further (suc (length w)) p; value = decimal_value 0 (c ∷ w); length = suc (length w) } }) else Err (At problem.VersionTooLong start))
-            ≡ (if b then Ok (record { rest = after classes.is_decimal_digit a; place = further (suc (length w)) p; value = decimal_value 0 (c ∷ w) }) else Err (At problem.VersionTooLong start))
+            digits_end start (if b then Ok (record { rest = after classes.is_decimal_digit a; state = record { position = further (suc (length w)) p; value = decimal_value 0 (c ∷ w); length = suc (length w) } }) else Err (At problem.VersionTooLong start))
+            ≡ (if b then Ok (record { rest = after classes.is_decimal_digit a; position = further (suc (length w)) p; value = decimal_value 0 (c ∷ w) }) else Err (At problem.VersionTooLong start))
         some true = let some_digit : (suc (length w) == 0) ≡ false = grind (arith, nat_tests) in rw some_digit refl
         some false = refl
 

@@ -24,15 +24,15 @@ pub data NumberSees (start p : Position) (b n : List ℕ) (x : Result (Read ℕ)
   missing : leading classes.is_decimal_digit b ≡ [] → number_of (leading classes.is_decimal_digit b) ≡ None → x ≡ Err (At problem.VersionNumber start) → NumberSees start p b n x
   long : nat_le (length (leading classes.is_decimal_digit b)) 9 ≡ false → number_of (leading classes.is_decimal_digit b) ≡ None → x ≡ Err (At problem.VersionTooLong start) → NumberSees start p b n x
   found : (value : ℕ) → number_of (leading classes.is_decimal_digit b) ≡ Some value
-      → x ≡ Ok (record { rest = after classes.is_decimal_digit b ++ n; place = further (length (leading classes.is_decimal_digit b)) p; value = value }) → NumberSees start p b n x
+      → x ≡ Ok (record { rest = after classes.is_decimal_digit b ++ n; position = further (length (leading classes.is_decimal_digit b)) p; value = value }) → NumberSees start p b n x
 
 digit_by : (start p : Position) (b n w r : List ℕ) → leading classes.is_decimal_digit b ≡ w
-    → NumberSees start p b n (if is_empty w then Err (At problem.VersionNumber start) else (if nat_le (length w) 9 then Ok (record { rest = after classes.is_decimal_digit b ++ n; place = further (length w) p; value = decimal_value 0 w }) else Err (At problem.VersionTooLong start)))
+    → NumberSees start p b n (if is_empty w then Err (At problem.VersionNumber start) else (if nat_le (length w) 9 then Ok (record { rest = after classes.is_decimal_digit b ++ n; position = further (length w) p; value = decimal_value 0 w }) else Err (At problem.VersionTooLong start)))
 digit_by start p b n [] r e = missing e (rw e refl) refl
 digit_by start p b n (c ∷ w) r e = by (nat_le (length (c ∷ w)) 9) refl
   where
     by : (few : Bool) → nat_le (length (c ∷ w)) 9 ≡ few
-        → NumberSees start p b n (if few then Ok (record { rest = after classes.is_decimal_digit b ++ n; place = further (length (c ∷ w)) p; value = decimal_value 0 (c ∷ w) }) else Err (At problem.VersionTooLong start))
+        → NumberSees start p b n (if few then Ok (record { rest = after classes.is_decimal_digit b ++ n; position = further (length (c ∷ w)) p; value = decimal_value 0 (c ∷ w) }) else Err (At problem.VersionTooLong start))
     by true f = found (decimal_value 0 (c ∷ w)) (rw e (rw f refl)) (rw e refl)
     by false f = long (rw e f) (rw e (rw f refl)) refl
 
@@ -51,7 +51,7 @@ pub data HandleSees (start p : Position) (t n : List ℕ) (x : Result (Read (Lis
   open_name : (c : ℕ) (name rest : List ℕ) → t ≡ 33 ∷ rest → leading classes.is_alpha rest ≡ c ∷ name → begins_with_mark (after classes.is_alpha rest) ≡ false → is_handle (handle_and_rest t).0 ≡ false
       → x ≡ Err (At problem.TagDirectiveHandle start) → HandleSees start p t n x
   found : is_handle (handle_and_rest t).0 ≡ true → t ≡ (handle_and_rest t).0 ++ (handle_and_rest t).1
-      → x ≡ Ok (record { rest = (handle_and_rest t).1 ++ n; place = further (length (handle_and_rest t).0) p; value = (handle_and_rest t).0 }) → HandleSees start p t n x
+      → x ≡ Ok (record { rest = (handle_and_rest t).1 ++ n; position = further (length (handle_and_rest t).0) p; value = (handle_and_rest t).0 }) → HandleSees start p t n x
 
 mark_is_no_alpha : classes.is_alpha 33 ≡ false
 unfolding classes.is_alpha classes.is_decimal_digit classes.is_letter
@@ -85,11 +85,11 @@ no_second_mark : (w s : List ℕ) → begins_with_mark s ≡ false → name_and_
 no_second_mark w [] h = refl
 no_second_mark w (d ∷ s) h = rw h refl
 
-bare_place : (p : Position) → further 0 (past p) ≡ further 1 p
-bare_place p = let i : (p.index + 1) + 0 ≡ p.index + 1 = omega arith in let j : (p.col + 1) + 0 ≡ p.col + 1 = omega arith in rw (i, j) refl
+bare_position : (p : Position) → further 0 (past p) ≡ further 1 p
+bare_position p = let i : (p.index + 1) + 0 ≡ p.index + 1 = omega arith in let j : (p.col + 1) + 0 ≡ p.col + 1 = omega arith in rw (i, j) refl
 
-marked_place : (p : Position) (k m : ℕ) → m ≡ k + 1 → past (further k (past p)) ≡ further (suc m) p
-marked_place p k m e =
+marked_position : (p : Position) (k m : ℕ) → m ≡ k + 1 → past (further k (past p)) ≡ further (suc m) p
+marked_position p k m e =
     let i : (p.index + 1) + k + 1 ≡ p.index + suc m = omega (arith, e) in
     let j : (p.col + 1) + k + 1 ≡ p.col + suc m = omega (arith, e) in
     rw (i, j) refl
@@ -97,17 +97,17 @@ marked_place p k m e =
 module _ (start p : Position) (r n : List ℕ) (ends : ends_line n ≡ true) where
   -- after a name a second mark stands
   with_mark : (w s : List ℕ) → leading classes.is_alpha r ≡ w → after classes.is_alpha r ≡ 33 ∷ s → r ≡ w ++ 33 ∷ s → all_of classes.is_alpha w ≡ true
-      → HandleSees start p (33 ∷ r) n (Ok (record { rest = s ++ n; place = past (further (length w) (past p)); value = (33 ∷ w) ++ 33 ∷ [] }))
+      → HandleSees start p (33 ∷ r) n (Ok (record { rest = s ++ n; position = past (further (length w) (past p)); value = (33 ∷ w) ++ 33 ∷ [] }))
   with_mark w s lead rest cut all =
       found (rw (lead, rest) (handle_of w all)) (rw (lead, rest) (ap (λ k. 33 ∷ k) (cut ∙ sym (append_assoc w (33 ∷ []) s))))
-      (rw (lead, rest) (ap (λ q. Ok (record { rest = s ++ n; place = q; value = 33 ∷ (w ++ 33 ∷ []) })) (marked_place p (length w) (length (w ++ 33 ∷ [])) (length-append w (33 ∷ [])))))
+      (rw (lead, rest) (ap (λ q. Ok (record { rest = s ++ n; position = q; value = 33 ∷ (w ++ 33 ∷ []) })) (marked_position p (length w) (length (w ++ 33 ∷ [])) (length-append w (33 ∷ [])))))
 
   -- none stands there
   without_mark : (w s : List ℕ) → leading classes.is_alpha r ≡ w → after classes.is_alpha r ≡ s → r ≡ w ++ s → all_of classes.is_alpha w ≡ true → begins_with_mark s ≡ false
-      → HandleSees start p (33 ∷ r) n (if is_same w [] then Ok (record { rest = s ++ n; place = further (length w) (past p); value = 33 ∷ w }) else Err (At problem.TagDirectiveHandle start))
+      → HandleSees start p (33 ∷ r) n (if is_same w [] then Ok (record { rest = s ++ n; position = further (length w) (past p); value = 33 ∷ w }) else Err (At problem.TagDirectiveHandle start))
   without_mark [] s lead rest cut all none =
       let is : handle_and_rest (33 ∷ r) ≡ (33 ∷ [], s) = rw (lead, rest) (no_second_mark [] s none) in
-      found (rw is refl) (rw is (ap (λ k. 33 ∷ k) cut)) (rw is (ap (λ q. Ok (record { rest = s ++ n; place = q; value = 33 ∷ [] })) (bare_place p)))
+      found (rw is refl) (rw is (ap (λ k. 33 ∷ k) cut)) (rw is (ap (λ q. Ok (record { rest = s ++ n; position = q; value = 33 ∷ [] })) (bare_position p)))
   without_mark (c ∷ w) s lead rest cut all none =
       let is : handle_and_rest (33 ∷ r) ≡ (33 ∷ c ∷ w, s) = rw (lead, rest) (no_second_mark (c ∷ w) s none) in
       open_name c w r refl lead (ap begins_with_mark rest ∙ none) (rw is ((marked c w all).0)) refl

@@ -1,4 +1,4 @@
--- What a plain scalar's scan finds from a place in it on, and what one character before that adds.
+-- What a plain scalar's scan finds from a position in it on, and what one character before that adds.
 use Rattle.std.proofs.Common.{◌≡◌, ℕ, List, [], ◌∷◌, ◌++◌, Bool, true, false, ◌||◌, ◌&&◌, not, ◌==◌, if◌then◌else◌, Result, Ok, Err, refl, ap, sym, ◌∙◌, append_assoc, nat_lt}
 use Rattle.std.proofs.lemmas.Bool.{and_parts}
 use Rattle.defs_text.specs.Position.{Position, position_past, position_after}
@@ -42,7 +42,7 @@ is_solid_end [] = true
 is_solid_end (c ∷ r) = ends_with_content c r
 
 module _ (ctx : Context) (start : Position) where
-  -- Why the text after a place in a scalar is refused: a dash before a flow indicator; a TAB at a line's start and content after it; or, after such a TAB, content.
+  -- Why the text after a position in a scalar is refused: a dash before a flow indicator; a TAB at a line's start and content after it; or, after such a TAB, content.
   pub data Fails (tabs : Bool) (s : Stand) (p : Position) (a : List ℕ) : Fault → Type 0 where
     dash : (before rest : List ℕ) → ctx.flow ≡ true → a ≡ before ++ 45 ∷ rest → begins_flow rest ≡ true → goes_on ctx.flow (collection_of ctx.indent) s before (45 ∷ rest) ≡ true → is_apart (stand_after s before) ≡ true
         → Fails tabs s p a (At problem.PlainDashInFlow (position_after p before (45 ∷ rest)))
@@ -51,7 +51,7 @@ module _ (ctx : Context) (start : Position) where
     after_tab : (blanks rest : List ℕ) → tabs ≡ true → a ≡ blanks ++ rest → is_blanks blanks ≡ true → begins_solid rest ≡ true → Fails tabs s p a (At problem.PlainTab start)
 
   abbrev pub left : Position → Folded → (more gap rest : List ℕ) → Read Plain
-  left p t more gap rest = record { rest = rest; place = position_after p (more ++ gap) rest; value = record { text = (after_text more t).text; leading = leads more t gap } }
+  left p t more gap rest = record { rest = rest; position = position_after p (more ++ gap) rest; value = record { text = (after_text more t).text; leading = leads more t gap } }
 
   -- What a scan finds: the scalar goes on over more of the text, a gap is after that, and there it ends; or the text is refused.
   pub data Found (tabs : Bool) (s : Stand) (p : Position) (t : Folded) (a : List ℕ) (x : Result (Read Plain) Fault) : Type 0 where
@@ -64,11 +64,11 @@ module _ (ctx : Context) (start : Position) where
   found_on tabs s p t a x y e (fails f why is) = fails f why (e ∙ is)
 
   pub same_left : (rest u v : List ℕ) (p q : Position) (b d : Bool) → p ≡ q → u ≡ v → b ≡ d
-      → ◌≡◌ {A = Result (Read Plain) Fault} (Ok (record { rest = rest; place = p; value = record { text = u; leading = b } })) (Ok (record { rest = rest; place = q; value = record { text = v; leading = d } }))
+      → ◌≡◌ {A = Result (Read Plain) Fault} (Ok (record { rest = rest; position = p; value = record { text = u; leading = b } })) (Ok (record { rest = rest; position = q; value = record { text = v; leading = d } }))
   same_left rest u v p q b d e f g = rw (e, f, g) refl
 
-  same_place : (c : ℕ) (a more gap rest : List ℕ) (p : Position) → a ≡ more ++ (gap ++ rest) → position_after (position_past p c a) (more ++ gap) rest ≡ position_after p (c ∷ (more ++ gap)) rest
-  same_place c a more gap rest p cut = ap (λ b. position_after (position_past p c b) (more ++ gap) rest) (cut ∙ sym (append_assoc more gap rest))
+  same_position : (c : ℕ) (a more gap rest : List ℕ) (p : Position) → a ≡ more ++ (gap ++ rest) → position_after (position_past p c a) (more ++ gap) rest ≡ position_after p (c ∷ (more ++ gap)) rest
+  same_position c a more gap rest p cut = ap (λ b. position_after (position_past p c b) (more ++ gap) rest) (cut ∙ sym (append_assoc more gap rest))
 
   -- the same refusal, told from one character before; that one is no end of the scalar
   pub further : (c : ℕ) (a : List ℕ) (tabs u : Bool) (s next : Stand) (p : Position) (f : Fault) → past s c ≡ next → (is_white c || not (ends_plain ctx.flow (collection_of ctx.indent) s (c ∷ a))) ≡ true
@@ -136,10 +136,10 @@ module _ (ctx : Context) (start : Position) where
       → Found u (past s c) (position_past p c a) (after_char c a t) a x → Found tabs s p t (c ∷ a) x
   after_gap c a tabs u s p t x white grow (found [] gap rest cut goes solid stop gaps ends is) =
       found [] (c ∷ gap) rest (ap (λ r. c ∷ r) cut) refl refl (rw white stop) (rw white gaps) ends
-      (is ∙ same_left rest _ _ _ _ _ _ (same_place c a [] gap rest p cut) (gap_text c a t white) (ap (λ b. (after_char c b t).leading || has_break gap) cut ∙ gap_leads c gap rest t white ends))
+      (is ∙ same_left rest _ _ _ _ _ _ (same_position c a [] gap rest p cut) (gap_text c a t white) (ap (λ b. (after_char c b t).leading || has_break gap) cut ∙ gap_leads c gap rest t white ends))
   after_gap c a tabs u s p t x white grow (found (d ∷ more) gap rest cut goes solid stop gaps ends is) =
       found (c ∷ d ∷ more) gap rest (ap (λ r. c ∷ r) cut) (rw white goes) solid stop gaps ends
-      (is ∙ same_left rest _ _ _ _ _ _ (same_place c a (d ∷ more) gap rest p cut) (ap (λ b. (after_text (d ∷ more) (after_char c b t)).text) cut) refl)
+      (is ∙ same_left rest _ _ _ _ _ _ (same_position c a (d ∷ more) gap rest p cut) (ap (λ b. (after_text (d ∷ more) (after_char c b t)).text) cut) refl)
   after_gap c a tabs u s p t x white grow (fails f why is) = fails f (grow f why) is
 
   -- ---- a character of content before it
@@ -172,5 +172,5 @@ module _ (ctx : Context) (start : Position) where
   after_content c a s p t x breaks blanks on (found more gap rest cut goes solid stop gaps ends is) =
       let here : ends_plain ctx.flow (collection_of ctx.indent) s (c ∷ (more ++ (gap ++ rest))) ≡ false = rw cut at on in
       found (c ∷ more) gap rest (ap (λ r. c ∷ r) cut) (rw (here, breaks, blanks) goes) (solid_first c more (rw (breaks, blanks) refl) solid) (rw (← after_inside more) stop) gaps ends
-      (is ∙ same_left rest _ _ _ _ _ _ (same_place c a more gap rest p cut) (ap (λ u. (after_text more u).text) (content_char c more t breaks blanks)) (no_lead c more gap t))
+      (is ∙ same_left rest _ _ _ _ _ _ (same_position c a more gap rest p cut) (ap (λ u. (after_text more u).text) (content_char c more t breaks blanks)) (no_lead c more gap t))
   after_content c a s p t x breaks blanks on (fails f why is) = fails f (further c a false false s inside p f (past_content c s breaks blanks) (rw (breaks, blanks, on) refl) (λ b r e. cc) why) is

@@ -18,7 +18,7 @@ use Rattle.model_lexers.specs.Plain.{inside, first, is_shallow, at_dash, plain_f
 use Rattle.proof_lexers.specs.PlainEnds.{has_no_nul, collection_of, is_white, begins_solid, is_indented, IsPlainRefusal, by_column, by_dash, by_tab, PlainEndsAs, reads, refuses, IsRead, read, refused}
 use Rattle.proof_lexers.specs.ScalarLaws.{PlainScalarsAreRead, PlainScansEndAsTheirTextSays}
 use Rattle.proof_lexers.proofs.Plain.Found.{after_text, after_more, Fails, dash, tab, after_tab, Found, found, fails, same_left, no_lead, content_char, solid_first, past_content}
-use Rattle.proof_lexers.proofs.Plain.Turns.{off_margin, in_line_place, in_line, dash_parts}
+use Rattle.proof_lexers.proofs.Plain.Turns.{off_margin, in_line_position, in_line, dash_parts}
 use Rattle.proof_lexers.proofs.Plain.Scans.{scans}
 use Rattle.proof_lexers.proofs.Plain.Values.{no_markers, value_is}
 
@@ -57,15 +57,15 @@ module _ (ctx : Context) (start : Position) (c : ℕ) (a : List ℕ) (white : is
   no_marker : (more next : List ℕ) → goes_on ctx.flow (collection_of ctx.indent) defs.inside more next ≡ true → has_document_marker (c ∷ more) ≡ false
   no_marker more next h = rw (break, no_markers ctx.flow (collection_of ctx.indent) defs.inside more next h) refl
 
-  place_is : (more gap rest : List ℕ) → position_after (machine.past start) (more ++ gap) rest ≡ position_after start (c ∷ (more ++ gap)) rest
-  place_is more gap rest = ap (λ q. position_after q (more ++ gap) rest) (sym (in_line_place c ((more ++ gap) ++ rest) start (rw break refl)))
+  position_is : (more gap rest : List ℕ) → position_after (machine.past start) (more ++ gap) rest ≡ position_after start (c ∷ (more ++ gap)) rest
+  position_is more gap rest = ap (λ q. position_after q (more ++ gap) rest) (sym (in_line_position c ((more ++ gap) ++ rest) start (rw break refl)))
 
-  dash_place : (before rest : List ℕ) → position_after (machine.past start) before (45 ∷ rest) ≡ position_after start (c ∷ before) (45 ∷ rest)
-  dash_place before rest = ap (λ q. position_after q before (45 ∷ rest)) (sym (in_line_place c (before ++ 45 ∷ rest) start (rw break refl)))
+  dash_position : (before rest : List ℕ) → position_after (machine.past start) before (45 ∷ rest) ≡ position_after start (c ∷ before) (45 ∷ rest)
+  dash_position before rest = ap (λ q. position_after q before (45 ∷ rest)) (sym (in_line_position c (before ++ 45 ∷ rest) start (rw break refl)))
 
   refusal : (f : Fault) → Fails ctx start false defs.inside (machine.past start) a f → IsPlainRefusal ctx start (c ∷ a) f
   refusal f (dash before rest flow cut begins goes apart) =
-      rw (dash_place before rest) (by_dash (c ∷ before) rest flow (ap (λ r. c ∷ r) cut) begins goes (rw (past_content ctx start c defs.after_blank break blank) apart))
+      rw (dash_position before rest) (by_dash (c ∷ before) rest flow (ap (λ r. c ∷ r) cut) begins goes (rw (past_content ctx start c defs.after_blank break blank) apart))
   refusal f (tab before blanks rest column cut goes line less are solid) =
       by_tab (c ∷ before) blanks rest column (ap (λ r. c ∷ r) cut) goes (rw (past_content ctx start c defs.after_blank break blank) line) less are solid
   refusal f (after_tab blanks rest no_tab cut are solid) = cc
@@ -75,14 +75,14 @@ module _ (ctx : Context) (start : Position) (c : ℕ) (a : List ℕ) (white : is
       let content = solid_first ctx start c more white solid in
       let stopping : stops ctx.flow (collection_of ctx.indent) defs.inside (gap ++ rest) ≡ true = inside_too more stop in
       reads (c ∷ more) gap rest _ (ap (λ r. c ∷ r) cut) (rw (goes, content, stopping) refl) gaps ends (value_is c more (no_marker more (gap ++ rest) goes) content)
-      (is ∙ same_left ctx start rest _ _ _ _ _ _ (place_is more gap rest) (ap (λ u. (after_text more u).text) (content_char ctx start c more nothing break blank)) (no_lead ctx start c more gap nothing))
+      (is ∙ same_left ctx start rest _ _ _ _ _ _ (position_is more gap rest) (ap (λ u. (after_text more u).text) (content_char ctx start c more nothing break blank)) (no_lead ctx start c more gap nothing))
     where
       inside_too : (more : List ℕ) → stops ctx.flow (collection_of ctx.indent) (after_more defs.inside more) (gap ++ rest) ≡ true → stops ctx.flow (collection_of ctx.indent) defs.inside (gap ++ rest) ≡ true
       inside_too [] h = h
       inside_too (d ∷ more) h = h
   ended x (fails f why is) = refuses f (refusal f why) is
 
-  begun : has_no_nul a ≡ true → is_indented ctx start ≡ true → PlainEndsAs ctx start (c ∷ a) (plain_from ctx start (c ∷ a) (record { mode = first; place = start; folded = nothing }))
+  begun : has_no_nul a ≡ true → is_indented ctx start ≡ true → PlainEndsAs ctx start (c ∷ a) (plain_from ctx start (c ∷ a) (record { mode = first; position = start; folded = nothing }))
   begun full indented = ended _ (scans ctx start a full inside defs.inside (machine.past start) read_first (in_line (c ∷ []) refl (off_margin start.col) (deep ctx start indented)))
 
   started : (column at : Bool) → (ctx.flow && nat_lt start.col ctx.indent) ≡ column → at_dash ctx.flow (c ∷ a) ≡ at → has_no_nul a ≡ true → is_indented ctx start ≡ true → PlainEndsAs ctx start (c ∷ a) (plain ctx (c ∷ a) start)

@@ -1,4 +1,4 @@
--- A plain scalar's scan, from any place in it on, finds where the scalar ends.
+-- A plain scalar's scan, from any position in it on, finds where the scalar ends.
 use Rattle.std.proofs.Common.{◌≡◌, ℕ, suc, ◌+◌, List, [], ◌∷◌, Bool, true, false, ◌||◌, ◌&&◌, not, ◌==◌, Result, Ok, refl, ap, ◌∙◌, append-nil, arith, nat_lt, slice_index}
 use Rattle.std.proofs.lemmas.Bool.{and_parts, eqb-true}
 use Rattle.std.proofs.lemmas.Bool.Decides.{nat_tests}
@@ -69,7 +69,7 @@ one_right m n h = omega (arith, h)
 module _ (ctx : Context) (start : Position) where
   -- where a scan stops before content
   stop_here : (u : Bool) (c : ℕ) (a : List ℕ) (s : Stand) (p : Position) (t : Folded) (x : Result (Read Plain) Fault) → is_white c ≡ false → ends_plain ctx.flow (collection_of ctx.indent) s (c ∷ a) ≡ true
-      → x ≡ Ok (record { rest = c ∷ a; place = p; value = record { text = t.text; leading = t.leading } }) → Found ctx start u s p t (c ∷ a) x
+      → x ≡ Ok (record { rest = c ∷ a; position = p; value = record { text = t.text; leading = t.leading } }) → Found ctx start u s p t (c ∷ a) x
   stop_here u c a s p t x white ends is = found_here ctx start u s p t (c ∷ a) x (rw white ends) white is
 
   -- ---- after a gap

@@ -91,13 +91,13 @@ not_nul c h = h
 pub by_line_true : (f g h k : Bool) → ((((f || g) || h) || true) || k) ≡ true
 by_line_true f g h k = rw (or_true ((f || g) || h)) refl
 
--- ---- places
+-- ---- positions
 
-pub in_line_place : (c : ℕ) (a : List ℕ) (p : Position) → (classes.is_break c && not (is_before_line_feed c a)) ≡ false → position_past p c a ≡ past p
-in_line_place c a p e = let i : suc p.index ≡ p.index + 1 = omega arith in let j : suc p.col ≡ p.col + 1 = omega arith in rw (e, i, j) refl
+pub in_line_position : (c : ℕ) (a : List ℕ) (p : Position) → (classes.is_break c && not (is_before_line_feed c a)) ≡ false → position_past p c a ≡ past p
+in_line_position c a p e = let i : suc p.index ≡ p.index + 1 = omega arith in let j : suc p.col ≡ p.col + 1 = omega arith in rw (e, i, j) refl
 
-pub line_place : (c : ℕ) (a : List ℕ) (p : Position) → (classes.is_break c && not (is_before_line_feed c a)) ≡ true → position_past p c a ≡ past_break p
-line_place c a p e = let i : suc p.index ≡ p.index + 1 = omega arith in let j : suc p.line ≡ p.line + 1 = omega arith in rw (e, i, j) refl
+pub line_position : (c : ℕ) (a : List ℕ) (p : Position) → (classes.is_break c && not (is_before_line_feed c a)) ≡ true → position_past p c a ≡ past_break p
+line_position c a p e = let i : suc p.index ≡ p.index + 1 = omega arith in let j : suc p.line ≡ p.line + 1 = omega arith in rw (e, i, j) refl
 
 pub off_margin : (n : ℕ) → (n + 1 == 0) ≡ false
 off_margin n = grind (arith, nat_tests)
@@ -121,7 +121,7 @@ in_text text = record { text = text; gap = []; leading = false; escaped = false 
 
 module _ (ctx : Context) (start : Position) where
   abbrev pub scan : List ℕ → Mode → Position → Folded → Result (Read Plain) Fault
-  scan a m p t = plain_from ctx start a (record { mode = m; place = p; folded = t })
+  scan a m p t = plain_from ctx start a (record { mode = m; position = p; folded = t })
 
   -- Where a scan stands before a text: within a line; after blanks in it; after a break; after a TAB at a line's start; or between CR and LF.
   pub data IsStanding (a : List ℕ) (p : Position) (t : Folded) : Mode → Stand → Type 0 where
@@ -131,7 +131,7 @@ module _ (ctx : Context) (start : Position) where
     at_tabs : (column : ℕ) → t.leading ≡ true → IsStanding a p t tabs (on_line column)
     at_feed : (column : ℕ) (b : List ℕ) → a ≡ 10 ∷ b → IsStanding a p t between (on_line column)
 
-  -- from each such place a scan finds the scalar's end, or is refused
+  -- from each such position a scan finds the scalar's end, or is refused
   abbrev pub Scans : List ℕ → Type 0
   Scans a = (m : Mode) (s : Stand) (p : Position) (t : Folded) → IsStanding a p t m s → Found ctx start (is_tabs m) s p t a (scan a m p t)
 
@@ -139,8 +139,8 @@ module _ (ctx : Context) (start : Position) where
   found_at u s n p q t v a x e f g z = rw (e, f, g) z
 
   pub found_here : (u : Bool) (s : Stand) (p : Position) (t : Folded) (a : List ℕ) (x : Result (Read Plain) Fault) → stops ctx.flow (collection_of ctx.indent) s a ≡ true → begins_white a ≡ false
-      → x ≡ Ok (record { rest = a; place = p; value = record { text = t.text; leading = t.leading } }) → Found ctx start u s p t a x
-  found_here u s p t a x e ends is = found [] [] a refl refl refl e refl ends (is ∙ ap (λ b. Ok (record { rest = a; place = p; value = record { text = t.text; leading = b } })) (sym (or_false t.leading)))
+      → x ≡ Ok (record { rest = a; position = p; value = record { text = t.text; leading = t.leading } }) → Found ctx start u s p t a x
+  found_here u s p t a x e ends is = found [] [] a refl refl refl e refl ends (is ∙ ap (λ b. Ok (record { rest = a; position = p; value = record { text = t.text; leading = b } })) (sym (or_false t.leading)))
 
   -- ---- breaks
 
@@ -152,7 +152,7 @@ module _ (ctx : Context) (start : Position) where
       by false e = refl
 
   pub break_step : (c : ℕ) (a : List ℕ) (u : Bool) (m : Mode) (s : Stand) (p : Position) (t : Folded) (x : Result (Read Plain) Fault) → is_break c ≡ true → Scans a
-      → x ≡ plain_from ctx start a (at_break c a (record { mode = m; place = p; folded = t })) → Found ctx start u s p t (c ∷ a) x
+      → x ≡ plain_from ctx start a (at_break c a (record { mode = m; position = p; folded = t })) → Found ctx start u s p t (c ∷ a) x
   break_step c a u m s p t x e ih is = by (is_cr_lf c a) refl is
     where
       breaks : classes.is_break c ≡ true
@@ -168,7 +168,7 @@ module _ (ctx : Context) (start : Position) where
       grow : (f : Fault) → Fails ctx start false (defs.past s c) (position_past p c a) a f → Fails ctx start u s p (c ∷ a) f
       grow f why = further ctx start c a u false s (defs.past s c) p f refl (rw white refl) (λ b r k. cc) why
 
-      by : (feed : Bool) → is_cr_lf c a ≡ feed → x ≡ plain_from ctx start a (if feed then record { mode = between; place = past p; folded = t } else record { mode = between; place = past_break p; folded = with_break t })
+      by : (feed : Bool) → is_cr_lf c a ≡ feed → x ≡ plain_from ctx start a (if feed then record { mode = between; position = past p; folded = t } else record { mode = between; position = past_break p; folded = with_break t })
           → Found ctx start u s p t (c ∷ a) x
       by true f k =
           let z = feeds a f in
@@ -176,13 +176,13 @@ module _ (ctx : Context) (start : Position) where
           let here : classes.is_break c && not (is_before_line_feed c a) ≡ false = rw g (and_false (classes.is_break c)) in
           found_on ctx start u s p t (c ∷ a) x _ k
           (after_gap ctx start c a u false s p t _ white grow
-          (found_at false (defs.past s c) (on_line 0) (position_past p c a) (past p) (after_char c a t) t a _ (rw breaks refl) (in_line_place c a p here) (rw (breaks, g) refl)
+          (found_at false (defs.past s c) (on_line 0) (position_past p c a) (past p) (after_char c a t) t a _ (rw breaks refl) (in_line_position c a p here) (rw (breaks, g) refl)
           (ih between (on_line 0) (past p) t (at_feed 0 z.0 z.1))))
       by false f k =
           let g : is_before_line_feed c a ≡ false = sym (same_feed c a) ∙ f in
           found_on ctx start u s p t (c ∷ a) x _ k
           (after_gap ctx start c a u false s p t _ white grow
-          (found_at false (defs.past s c) (on_line 0) (position_past p c a) (past_break p) (after_char c a t) (with_break t) a _ (rw breaks refl) (line_place c a p (rw (breaks, g) refl)) (rw (breaks, g) refl)
+          (found_at false (defs.past s c) (on_line 0) (position_past p c a) (past_break p) (after_char c a t) (with_break t) a _ (rw breaks refl) (line_position c a p (rw (breaks, g) refl)) (rw (breaks, g) refl)
           (ih between (on_line 0) (past_break p) (with_break t) (at_line 0 refl (broken_leads t)))))
 
   -- ---- blanks
@@ -196,7 +196,7 @@ module _ (ctx : Context) (start : Position) where
   blank_step c a u m n s next p t x e f g tabbed ih stands is =
       found_on ctx start u s p t (c ∷ a) x _ is
       (after_gap ctx start c a u (is_tabs n) s p t _ (blank_white c f) grow
-      (found_at (is_tabs n) (defs.past s c) next (position_past p c a) (past p) (after_char c a t) (with_blank c t) a _ (rw (no_break, blank) g) (in_line_place c a p (rw no_break refl)) (rw (no_break, blank) refl)
+      (found_at (is_tabs n) (defs.past s c) next (position_past p c a) (past p) (after_char c a t) (with_blank c t) a _ (rw (no_break, blank) g) (in_line_position c a p (rw no_break refl)) (rw (no_break, blank) refl)
       (ih n next (past p) (with_blank c t) stands)))
     where
       no_break : classes.is_break c ≡ false
@@ -225,7 +225,7 @@ module _ (ctx : Context) (start : Position) where
       let q = parts (classes.is_blank c) (classes.is_break c) white in
       found_on ctx start false s p t (c ∷ a) x _ is
       (after_content ctx start c a s p t _ q.1 q.0 on
-      (found_at false defs.inside defs.inside (position_past p c a) (past p) _ _ a _ refl (in_line_place c a p (rw q.1 refl)) refl
+      (found_at false defs.inside defs.inside (position_past p c a) (past p) _ _ a _ refl (in_line_position c a p (rw q.1 refl)) refl
       (ih inside defs.inside (past p) (with_char c (joined t)) (in_line ((joined t).text ++ c ∷ []) refl (off_margin p.col) (as_deep ctx p.col deep)))))
     where
       parts : (b d : Bool) → (b || d) ≡ false → (b ≡ false) × (d ≡ false)
@@ -235,7 +235,7 @@ module _ (ctx : Context) (start : Position) where
 
   -- what a scan does at a character of content after a gap
   pub data Outcome (c : ℕ) (a : List ℕ) (s : Stand) (p : Position) (t : Folded) (x : Result (Read Plain) Fault) : Type 0 where
-    stopped : ends_plain ctx.flow (collection_of ctx.indent) s (c ∷ a) ≡ true → x ≡ Ok (record { rest = c ∷ a; place = p; value = record { text = t.text; leading = t.leading } }) → Outcome c a s p t x
+    stopped : ends_plain ctx.flow (collection_of ctx.indent) s (c ∷ a) ≡ true → x ≡ Ok (record { rest = c ∷ a; position = p; value = record { text = t.text; leading = t.leading } }) → Outcome c a s p t x
     went : ends_plain ctx.flow (collection_of ctx.indent) s (c ∷ a) ≡ false → is_shallow ctx p.col ≡ false → x ≡ scan a inside (past p) (with_char c (joined t)) → Outcome c a s p t x
     dashed : ctx.flow ≡ true → c ≡ 45 → begins_flow a ≡ true → x ≡ Err (At problem.PlainDashInFlow p) → Outcome c a s p t x
 

@@ -36,9 +36,9 @@ pub none_further : (p : Position) → further 0 p ≡ p
 none_further p = let index : p.index + 0 ≡ p.index = omega arith in let col : p.col + 0 ≡ p.col = omega arith in rw (index, col) refl
 
 taken : (test : ℕ → Bool) (name rest : List ℕ) (p : Position) (t : List ℕ) → all_of test name ≡ true → stops test rest ≡ true
-    → take_while test (name ++ rest) p t ≡ record { rest = rest; place = further (length name) p; value = t ++ name }
-taken test [] [] p t h e = rw append-nil (ap (λ q. record { rest = []; place = q; value = t }) (sym (none_further p)))
-taken test [] (c ∷ r) p t h e = rw (not_true (test c) e, append-nil) (ap (λ q. record { rest = c ∷ r; place = q; value = t }) (sym (none_further p)))
+    → take_while test (name ++ rest) p t ≡ record { rest = rest; position = further (length name) p; value = t ++ name }
+taken test [] [] p t h e = rw append-nil (ap (λ q. record { rest = []; position = q; value = t }) (sym (none_further p)))
+taken test [] (c ∷ r) p t h e = rw (not_true (test c) e, append-nil) (ap (λ q. record { rest = c ∷ r; position = q; value = t }) (sym (none_further p)))
 taken test (c ∷ name) rest p t h e =
     let q = and_parts (test c) (all_of test name) h in
     rw q.0 (taken test name rest (past p) (t ++ c ∷ []) q.1 e ∙ rw (one_further p (length name), append_assoc) refl)
@@ -69,7 +69,7 @@ same_stop : (rest : List ℕ) → stops is_anchor rest ≡ not (goes_on_with_nam
 same_stop [] = refl
 same_stop (c ∷ r) = ap not (sym (same_name c))
 
-read_by : (c : ℕ) (name rest : List ℕ) (p : Position) → all_of is_anchor name ≡ true → stops is_anchor rest ≡ true → anchor_name (c ∷ (name ++ rest)) p ≡ some_name p (record { rest = rest; place = further (length name) (past p); value = name })
+read_by : (c : ℕ) (name rest : List ℕ) (p : Position) → all_of is_anchor name ≡ true → stops is_anchor rest ≡ true → anchor_name (c ∷ (name ++ rest)) p ≡ some_name p (record { rest = rest; position = further (length name) (past p); value = name })
 unfolding anchor_name
 read_by c name rest p h e = ap (some_name p) (taken is_anchor name rest (past p) [] h e)
 
@@ -80,7 +80,7 @@ pub names_are_read : NamesAreRead
 names_are_read c [] rest p h e = cc
 names_are_read c (d ∷ name) rest p h e =
     read_by c (d ∷ name) rest p (sym (same_all (d ∷ name)) ∙ h) (same_stop rest ∙ ap not e)
-    ∙ ap (λ q. Ok (record { rest = rest; place = q; value = d ∷ name })) (more_further p (length (d ∷ name)))
+    ∙ ap (λ q. Ok (record { rest = rest; position = q; value = d ∷ name })) (more_further p (length (d ∷ name)))
 
 ended : (c : ℕ) (p : Position) (name rest : List ℕ) → all_of is_anchor name ≡ true → stops is_anchor rest ≡ true → NameEndsAs p (name ++ rest) (anchor_name (c ∷ (name ++ rest)) p)
 ended c p [] rest h e = nameless (not_true (goes_on_with_name rest) (sym (same_stop rest) ∙ e)) (read_by c [] rest p h e)

@@ -19,7 +19,7 @@ use Rattle.proof_lexers.specs.ScalarLaws.{TagsAreRead}
 use Rattle.proof_lexers.proofs.Properties.Uris.{uris_are_read}
 use Rattle.proof_lexers.proofs.Directives.Parts.{before_end}
 use Rattle.proof_lexers.proofs.Directives.Lines.{same_text}
-use Rattle.proof_lexers.proofs.Properties.Tags.{begins_in, span_cut, all_leading, leading_all, word, same_end, close_is_no_uri, closed_place, local_place, named_place, alpha_starts, decoded_some, still_some, decoded_word}
+use Rattle.proof_lexers.proofs.Properties.Tags.{begins_in, span_cut, all_leading, leading_all, word, same_end, close_is_no_uri, closed_position, local_position, named_position, alpha_starts, decoded_some, still_some, decoded_word}
 
 -- ---- what follows a tag is none of its characters
 
@@ -115,10 +115,10 @@ of_class class t handle suffix h e = by (all_of class t) refl (decoded t) refl e
         let same : record { handle = h; suffix = cs } ≡ record { handle = handle; suffix = suffix } = some_tag e in
         record { all = a; means = k ∙ ap (λ (g : defs.Tag). Ok g.suffix) same; same = ap (λ (g : defs.Tag). g.handle) (sym same) }
 
-uri_of : (start q : Position) (l r before cs : List ℕ) → all_of classes.is_uri l ≡ true → begins_in classes.is_uri r ≡ false → decoded l ≡ Ok cs → uri is_uri start (l ++ r) q before ≡ Ok (record { rest = r; place = further (length l) q; value = before ++ cs })
+uri_of : (start q : Position) (l r before cs : List ℕ) → all_of classes.is_uri l ≡ true → begins_in classes.is_uri r ≡ false → decoded l ≡ Ok cs → uri is_uri start (l ++ r) q before ≡ Ok (record { rest = r; position = further (length l) q; value = before ++ cs })
 uri_of start q l r before cs all ends means = let z = leading_all classes.is_uri l r all ends in (uris_are_read start (l ++ r) q before).0 ∙ ap (after_class classes.is_uri start q (l ++ r) before) (ap decoded z.0 ∙ means) ∙ rw (z.0, z.1) refl
 
-suffix_of : (start q : Position) (l r before cs : List ℕ) → all_of classes.is_tag l ≡ true → begins_in classes.is_tag r ≡ false → decoded l ≡ Ok cs → uri is_tag start (l ++ r) q before ≡ Ok (record { rest = r; place = further (length l) q; value = before ++ cs })
+suffix_of : (start q : Position) (l r before cs : List ℕ) → all_of classes.is_tag l ≡ true → begins_in classes.is_tag r ≡ false → decoded l ≡ Ok cs → uri is_tag start (l ++ r) q before ≡ Ok (record { rest = r; position = further (length l) q; value = before ++ cs })
 suffix_of start q l r before cs all ends means = let z = leading_all classes.is_tag l r all ends in (uris_are_read start (l ++ r) q before).1 ∙ ap (after_class classes.is_tag start q (l ++ r) before) (ap decoded z.0 ∙ means) ∙ rw (z.0, z.1) refl
 
 some_text : {a b : List ℕ} → ◌≡◌ {A = Result (List ℕ) UriFault} (Ok a) (Ok b) → a ≡ b
@@ -152,9 +152,9 @@ module _ (flow : Bool) (rest handle suffix : List ℕ) (p : Position) (follows :
           let cut : b ++ rest ≡ u ++ 62 ∷ rest = ap (λ l. l ++ rest) closes ∙ append_assoc u (62 ∷ []) rest in
           let many : length b ≡ length u + 1 = ap length closes ∙ length-append u (62 ∷ []) in
           ap (λ l. tag flow (33 ∷ 60 ∷ l) p) cut
-          ∙ ap (λ x. and_then (and_then x (λ (r : Read (List ℕ)). verbatim_end p r.value r.rest r.place)) (λ r. tag_end flow p r)) (uri_of p (past (past p)) u (62 ∷ rest) [] suffix c.all close_is_no_uri c.means)
+          ∙ ap (λ x. and_then (and_then x (λ (r : Read (List ℕ)). verbatim_end p r.value r.rest r.position)) (λ r. tag_end flow p r)) (uri_of p (past (past p)) u (62 ∷ rest) [] suffix c.all close_is_no_uri c.means)
           ∙ ends_here flow p (past (further (length u) (past (past p)))) rest [] suffix follows
-          ∙ ap (λ q. Ok (read_tag rest q [] suffix)) (closed_place p (length u) (length b) many)
+          ∙ ap (λ q. Ok (read_tag rest q [] suffix)) (closed_position p (length u) (length b) many)
           ∙ ap (λ k. Ok (read_tag rest (further (suc (suc (length b))) p) k suffix)) (sym c.same)
 
   -- ---- shorthands
@@ -170,7 +170,7 @@ module _ (flow : Bool) (rest handle suffix : List ℕ) (p : Position) (follows :
       let q : Position = further (length (c ∷ t)) (past (further (length name) (past p))) in
       ap (λ x. and_then (and_then x (λ r. some_suffix p name r)) (λ r. tag_end flow p r)) (suffix_of p (past (further (length name) (past p))) (c ∷ t) rest [] suffix k.all ends k.means)
       ∙ rw some (ends_here flow p q rest ((33 ∷ name) ++ 33 ∷ []) suffix follows)
-      ∙ ap (λ z. Ok (read_tag rest z ((33 ∷ name) ++ 33 ∷ []) suffix)) (named_place p (length name) (length (c ∷ t)) (length (name ++ 33 ∷ c ∷ t)) (length-append name (33 ∷ c ∷ t)))
+      ∙ ap (λ z. Ok (read_tag rest z ((33 ∷ name) ++ 33 ∷ []) suffix)) (named_position p (length name) (length (c ∷ t)) (length (name ++ 33 ∷ c ∷ t)) (length-append name (33 ∷ c ∷ t)))
       ∙ ap (λ z. Ok (read_tag rest (further (suc (length (name ++ 33 ∷ c ∷ t))) p) z suffix)) (sym k.same)
 
   -- after a name and no mark
@@ -199,7 +199,7 @@ module _ (flow : Bool) (rest handle suffix : List ℕ) (p : Position) (follows :
           rw (no_mark_here m unmarked) (
           ap (λ x. and_then (and_then x (λ r. Ok (local r))) (λ r. tag_end flow p r)) (suffix_of p (further (length name) (past p)) m rest name cs (tags_after name m k.all) ends e)
           ∙ rw full (ends_here flow p q rest (33 ∷ []) (name ++ cs) follows)
-          ∙ ap (λ z. Ok (read_tag rest z (33 ∷ []) (name ++ cs))) (local_place p (length name) (length m) (length (name ++ m)) (length-append name m))
+          ∙ ap (λ z. Ok (read_tag rest z (33 ∷ []) (name ++ cs))) (local_position p (length name) (length m) (length (name ++ m)) (length-append name m))
           ∙ ap (λ z. Ok (read_tag rest (further (suc (length (name ++ m))) p) (33 ∷ []) z)) whole
           ∙ ap (λ z. Ok (read_tag rest (further (suc (length (name ++ m))) p) z suffix)) (sym k.same))
 
@@ -259,7 +259,7 @@ mark_read flow rest p follows =
     shorthand_here flow rest [] (codes "!") p follows [] (mark_inner 60 angle_inner flow rest follows refl)
     ∙ rw (mark_inner 33 exclamation_inner flow rest follows refl) (
     ap (λ x. and_then (and_then x (λ r. Ok (local r))) (λ r. tag_end flow p r)) (suffix_of p q [] rest [] [] refl (inner_ends classes.is_tag tag_inner flow rest follows) refl)
-    ∙ ends_here flow p (further 0 q) rest [] (codes "!") follows ∙ ap (λ z. Ok (read_tag rest z [] (codes "!"))) (local_place p 0 0 0 refl))
+    ∙ ends_here flow p (further 0 q) rest [] (codes "!") follows ∙ ap (λ z. Ok (read_tag rest z [] (codes "!"))) (local_position p 0 0 0 refl))
 
 pub tags_are_read : TagsAreRead
 tags_are_read flow [] rest handle suffix p h follows =

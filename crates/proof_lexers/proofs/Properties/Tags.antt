@@ -65,12 +65,12 @@ module _ (class : ℕ → Bool) where
       let z = leading_all l r q.1 e in
       (rw q.0 (ap (λ k. c ∷ k) z.0), rw q.0 z.1)
 
-pub word : (a : List ℕ) (p : Position) (t : List ℕ) → take_while is_alpha a p t ≡ record { rest = after classes.is_alpha a; place = further (length (leading classes.is_alpha a)) p; value = t ++ leading classes.is_alpha a }
+pub word : (a : List ℕ) (p : Position) (t : List ℕ) → take_while is_alpha a p t ≡ record { rest = after classes.is_alpha a; position = further (length (leading classes.is_alpha a)) p; value = t ++ leading classes.is_alpha a }
 word [] p t = rw (none_further p, append-nil) refl
 word (c ∷ a) p t = by (is_alpha c) refl (word a (past p) (t ++ c ∷ []))
   where
-    by : (b : Bool) → is_alpha c ≡ b → take_while is_alpha a (past p) (t ++ c ∷ []) ≡ record { rest = after classes.is_alpha a; place = further (length (leading classes.is_alpha a)) (past p); value = (t ++ c ∷ []) ++ leading classes.is_alpha a }
-        → take_while is_alpha (c ∷ a) p t ≡ record { rest = after classes.is_alpha (c ∷ a); place = further (length (leading classes.is_alpha (c ∷ a))) p; value = t ++ leading classes.is_alpha (c ∷ a) }
+    by : (b : Bool) → is_alpha c ≡ b → take_while is_alpha a (past p) (t ++ c ∷ []) ≡ record { rest = after classes.is_alpha a; position = further (length (leading classes.is_alpha a)) (past p); value = (t ++ c ∷ []) ++ leading classes.is_alpha a }
+        → take_while is_alpha (c ∷ a) p t ≡ record { rest = after classes.is_alpha (c ∷ a); position = further (length (leading classes.is_alpha (c ∷ a))) p; value = t ++ leading classes.is_alpha (c ∷ a) }
     by true e h = let of_word : classes.is_alpha c ≡ true = same_alpha c ∙ e in rw (e, of_word) (h ∙ rw (one_further p (length (leading classes.is_alpha a)), append_assoc) refl)
     by false e h = let no_word : classes.is_alpha c ≡ false = same_alpha c ∙ e in rw (e, no_word) (rw (none_further p, append-nil) refl)
 
@@ -93,10 +93,10 @@ module _ (flow : Bool) (start : Position) (text : List ℕ) where
   -- a tag that stands there
   ended : (piece rest handle suffix : List ℕ) (p : Position) → text ≡ piece ++ rest → written_tag (33 ∷ piece) ≡ Some (record { handle = handle; suffix = suffix }) → p ≡ further (length (33 ∷ piece)) start
       → TagEndsAs flow start text (tag_end flow start (read_tag rest p handle suffix))
-  ended piece rest handle suffix p cut is place = by (may_follow flow rest) refl
+  ended piece rest handle suffix p cut is position = by (may_follow flow rest) refl
     where
       by : (b : Bool) → may_follow flow rest ≡ b → TagEndsAs flow start text (tag_end flow start (read_tag rest p handle suffix))
-      by true e = reads piece rest handle suffix cut is e (rw (same_end flow rest, e, place) refl)
+      by true e = reads piece rest handle suffix cut is e (rw (same_end flow rest, e, position) refl)
       by false e = refuses problem.TagEnd (goes_on piece rest handle suffix cut is e) (rw (same_end flow rest, e) refl)
 
   -- octets that are no characters
@@ -112,8 +112,8 @@ close_is_no_uri = refl
 verbatim_written : (l cs : List ℕ) → all_of classes.is_uri l ≡ true → decoded l ≡ Ok cs → written_tag (33 ∷ 60 ∷ (l ++ 62 ∷ [])) ≡ Some (record { handle = []; suffix = cs })
 verbatim_written l cs all is = let z = leading_all classes.is_uri l (62 ∷ []) all close_is_no_uri in rw (z.1, z.0, all, is) refl
 
-pub closed_place : (p : Position) (n m : ℕ) → m ≡ n + 1 → past (further n (past (past p))) ≡ further (suc (suc m)) p
-closed_place p n m e =
+pub closed_position : (p : Position) (n m : ℕ) → m ≡ n + 1 → past (further n (past (past p))) ≡ further (suc (suc m)) p
+closed_position p n m e =
     let i : ((p.index + 1) + 1) + n + 1 ≡ p.index + suc (suc m) = omega (arith, e) in
     let j : ((p.col + 1) + 1) + n + 1 ≡ p.col + suc (suc m) = omega (arith, e) in
     rw (i, j) refl
@@ -131,11 +131,11 @@ module _ (flow : Bool) (start : Position) (b : List ℕ) where
       by true f =
           let same : c ≡ 62 = eqb-true c 62 f in
           let cut : b ≡ (written ++ 62 ∷ []) ++ r = span_cut classes.is_uri b ∙ ap (λ k. written ++ k) (e ∙ ap (λ d. d ∷ r) same) ∙ sym (append_assoc written (62 ∷ []) r) in
-          rw f (ended flow start (60 ∷ b) (60 ∷ (written ++ 62 ∷ [])) r [] cs _ (ap (λ k. 60 ∷ k) cut) (verbatim_written written cs (all_leading classes.is_uri b) is) (closed_place start (length written) _ (length-append written (62 ∷ []))))
+          rw f (ended flow start (60 ∷ b) (60 ∷ (written ++ 62 ∷ [])) r [] cs _ (ap (λ k. 60 ∷ k) cut) (verbatim_written written cs (all_leading classes.is_uri b) is) (closed_position start (length written) _ (length-append written (62 ∷ []))))
       by false f = refuses problem.VerbatimTagEnd (unclosed written (c ∷ r) (ap (λ k. 60 ∷ k) (span_cut classes.is_uri b ∙ ap (λ k. written ++ k) e)) (all_leading classes.is_uri b) f) (rw f refl)
 
   verbatim_by : (d : Result (List ℕ) UriFault) → decoded written ≡ d
-      → TagEndsAs flow start (60 ∷ b) (and_then (and_then (after_class classes.is_uri start (past (past start)) b [] d) (λ (r : Read (List ℕ)). verbatim_end start r.value r.rest r.place)) (λ t. tag_end flow start t))
+      → TagEndsAs flow start (60 ∷ b) (and_then (and_then (after_class classes.is_uri start (past (past start)) b [] d) (λ (r : Read (List ℕ)). verbatim_end start r.value r.rest r.position)) (λ t. tag_end flow start t))
   verbatim_by (Err f) e = bad_octets flow start (60 ∷ b) (60 ∷ []) written (after classes.is_uri b) f _ (ap (λ k. 60 ∷ k) (span_cut classes.is_uri b)) e refl
   verbatim_by (Ok cs) e = closing cs (after classes.is_uri b) e refl
 
@@ -271,14 +271,14 @@ still_no_word (c ∷ m) h = by (classes.is_tag c)
     by true = h
     by false = refl
 
-pub local_place : (p : Position) (n m k : ℕ) → k ≡ n + m → further m (further n (past p)) ≡ further (suc k) p
-local_place p n m k e =
+pub local_position : (p : Position) (n m k : ℕ) → k ≡ n + m → further m (further n (past p)) ≡ further (suc k) p
+local_position p n m k e =
     let i : ((p.index + 1) + n) + m ≡ p.index + suc k = omega (arith, e) in
     let j : ((p.col + 1) + n) + m ≡ p.col + suc k = omega (arith, e) in
     rw (i, j) refl
 
-pub named_place : (p : Position) (n m k : ℕ) → k ≡ n + suc m → further m (past (further n (past p))) ≡ further (suc k) p
-named_place p n m k e =
+pub named_position : (p : Position) (n m k : ℕ) → k ≡ n + suc m → further m (past (further n (past p))) ≡ further (suc k) p
+named_position p n m k e =
     let i : (((p.index + 1) + n) + 1) + m ≡ p.index + suc k = omega (arith, e) in
     let j : (((p.col + 1) + n) + 1) + m ≡ p.col + suc k = omega (arith, e) in
     rw (i, j) refl
@@ -296,7 +296,7 @@ module _ (flow : Bool) (start : Position) (text name : List ℕ) (all : all_of c
       let some : is_empty cs ≡ false = decoded_some c l cs e in
       let tags : all_of classes.is_tag (c ∷ l) ≡ true = ap (all_of classes.is_tag) (sym lead) ∙ all_leading classes.is_tag s in
       rw (some, b, lead) (ended flow start text (name ++ 33 ∷ c ∷ l) rest ((33 ∷ name) ++ 33 ∷ []) cs _ (cut ∙ sym (append_assoc name (33 ∷ c ∷ l) rest)) (named_written name c l cs all tags e)
-      (named_place start (length name) (length (c ∷ l)) (length (name ++ 33 ∷ c ∷ l)) (length-append name (33 ∷ c ∷ l))))
+      (named_position start (length name) (length (c ∷ l)) (length (name ++ 33 ∷ c ∷ l)) (length-append name (33 ∷ c ∷ l))))
 
   -- after a word and no mark
   local_by : (m l rest : List ℕ) (d : Result (List ℕ) UriFault) → text ≡ name ++ (l ++ rest) → begins_in classes.is_alpha l ≡ false → leading classes.is_tag m ≡ l → after classes.is_tag m ≡ rest → decoded l ≡ d
@@ -304,18 +304,18 @@ module _ (flow : Bool) (start : Position) (text name : List ℕ) (all : all_of c
   local_by m l rest (Err f) cut begins lead b e = bad_octets flow start text name l rest f _ cut e refl
   local_by m l rest (Ok cs) cut begins lead b e = by (is_empty (name ++ l)) refl
     where
-      by : (none : Bool) → is_empty (name ++ l) ≡ none → TagEndsAs flow start text (tag_end flow start (local (record { rest = after classes.is_tag m; place = further (length (leading classes.is_tag m)) (further (length name) (past start)); value = name ++ cs })))
+      by : (none : Bool) → is_empty (name ++ l) ≡ none → TagEndsAs flow start text (tag_end flow start (local (record { rest = after classes.is_tag m; position = further (length (leading classes.is_tag m)) (further (length name) (past start)); value = name ++ cs })))
       by true f =
           let parts = nil_parts name l f in
           let zeros : 0 ≡ length name + length l = rw (parts.0, parts.1) refl in
           let here : text ≡ rest = cut ∙ rw (parts.0, parts.1) refl in
           let none : is_empty (name ++ cs) ≡ true = still_none name l cs f e in
-          rw (none, b, lead) (ended flow start text [] rest [] (33 ∷ []) _ here refl (local_place start (length name) (length l) 0 zeros))
+          rw (none, b, lead) (ended flow start text [] rest [] (33 ∷ []) _ here refl (local_position start (length name) (length l) 0 zeros))
       by false f =
           let some : is_empty (name ++ cs) ≡ false = still_some name l cs f e in
           let tags : all_of classes.is_tag l ≡ true = ap (all_of classes.is_tag) (sym lead) ∙ all_leading classes.is_tag m in
           rw (some, b, lead) (ended flow start text (name ++ l) rest (33 ∷ []) (name ++ cs) _ (cut ∙ sym (append_assoc name l rest)) (local_written name l cs all tags begins e f)
-          (local_place start (length name) (length l) (length (name ++ l)) (length-append name l)))
+          (local_position start (length name) (length l) (length (name ++ l)) (length-append name l)))
 
   from_mark : (s : List ℕ) → text ≡ name ++ 33 ∷ s → TagEndsAs flow start text (and_then (after_name start name (33 ∷ s) (further (length name) (past start))) (λ t. tag_end flow start t))
   unfolding named

@@ -86,14 +86,14 @@ is_completed l (Ok code) x y r = by (nat_le l.least code && is_character_code co
 
 module _ (test class : ℕ → Bool) (start : Position) (same : (c : ℕ) → class c ≡ test c) (percents : test 37 ≡ true) (digits : (c : ℕ) → is_digit c 16 ≡ true → test c ≡ true) where
   abbrev scan : List ℕ → Position → List ℕ → Result (Read (List ℕ)) Fault
-  scan a p t = uri_from test start a (record { mode = plain; place = p; text = t })
+  scan a p t = uri_from test start a (record { mode = plain; position = p; text = t })
 
   abbrev answer : List ℕ → Position → List ℕ → Result (List ℕ) UriFault → Result (Read (List ℕ)) Fault
   answer a p t d = after_class class start p a t d
 
   -- one character of the class more
   more : (c : ℕ) (a : List ℕ) (p : Position) (t : List ℕ) (d : Result (List ℕ) UriFault) → class c ≡ true → answer a (past p) t d ≡ answer (c ∷ a) p t d
-  more c a p t (Ok cs) e = rw e (ap (λ q. Ok (record { rest = after class a; place = q; value = t ++ cs })) (one_further p (length (leading class a))))
+  more c a p t (Ok cs) e = rw e (ap (λ q. Ok (record { rest = after class a; position = q; value = t ++ cs })) (one_further p (length (leading class a))))
   more c a p t (Err f) e = refl
 
   with_code : (c : ℕ) (a : List ℕ) (p : Position) (t : List ℕ) (d : Result (List ℕ) UriFault) → answer a p (t ++ c ∷ []) d ≡ answer a p t (put_code c d)
@@ -103,8 +103,8 @@ module _ (test class : ℕ → Bool) (start : Position) (same : (c : ℕ) → cl
   -- After a percent sign two digits are an octet, or the text is refused.
   data Octets (o : Octet) (a : List ℕ) (p : Position) (t : List ℕ) : Type 0 where
     octet : (x y n : ℕ) (b : List ℕ) → a ≡ x ∷ y ∷ b → class x ≡ true → class y ≡ true → octet_at (37 ∷ leading class a) ≡ Some n
-        → uri_from test start a (record { mode = high o; place = p; text = t }) ≡ octet_from test start o n b (past (past p)) t → Octets o a p t
-    no_octets : octet_at (37 ∷ leading class a) ≡ None → uri_from test start a (record { mode = high o; place = p; text = t }) ≡ Err (At problem.TagOctet start) → Octets o a p t
+        → uri_from test start a (record { mode = high o; position = p; text = t }) ≡ octet_from test start o n b (past (past p)) t → Octets o a p t
+    no_octets : octet_at (37 ∷ leading class a) ≡ None → uri_from test start a (record { mode = high o; position = p; text = t }) ≡ Err (At problem.TagOctet start) → Octets o a p t
 
   of_class : (c : ℕ) → is_digit c 16 ≡ true → class c ≡ true
   of_class c h = same c ∙ digits c h
@@ -168,7 +168,7 @@ module _ (test class : ℕ → Bool) (start : Position) (same : (c : ℕ) → cl
   whole_code : (code least : ℕ) (a : List ℕ) (p : Position) (t : List ℕ) → Plain a → trails_from test start 0 code least a p t ≡ answer a p t (completed least (Ok code) (decoded (leading class a)))
   whole_code code least a p t here = rw (same_code code) (by (nat_le least code && is_character_code code))
     where
-      by : (b : Bool) → and_then (if b then Ok (record { mode = plain; place = p; text = t ++ code ∷ [] }) else Err (At problem.TagCodepoint start)) (λ s. uri_from test start a s)
+      by : (b : Bool) → and_then (if b then Ok (record { mode = plain; position = p; text = t ++ code ∷ [] }) else Err (At problem.TagCodepoint start)) (λ s. uri_from test start a s)
           ≡ answer a p t (if b then put_code code (decoded (leading class a)) else Err no_character)
       by true = here p (t ++ code ∷ []) ∙ with_code code a p t (decoded (leading class a))
       by false = refl
@@ -253,7 +253,7 @@ module _ (test class : ℕ → Bool) (start : Position) (same : (c : ℕ) → cl
   at_percent a p t plains (no_octets oc is) = rw percents (is ∙ rw oc refl)
 
   -- where no character of the class stands
-  nothing_read : (a : List ℕ) (p : Position) (t : List ℕ) → ◌≡◌ {A = Result (Read (List ℕ)) Fault} (Ok (record { rest = a; place = p; value = t })) (Ok (record { rest = a; place = further 0 p; value = t ++ [] }))
+  nothing_read : (a : List ℕ) (p : Position) (t : List ℕ) → ◌≡◌ {A = Result (Read (List ℕ)) Fault} (Ok (record { rest = a; position = p; value = t })) (Ok (record { rest = a; position = further 0 p; value = t ++ [] }))
   nothing_read a p t = rw (none_further p, append-nil) refl
 
   first_by : (c : ℕ) (a : List ℕ) → ((k : ℕ) → Plain (drop k a)) → (in_class is_escape : Bool) → class c ≡ in_class → (c == 37) ≡ is_escape → (p : Position) (t : List ℕ) → scan (c ∷ a) p t ≡ answer (c ∷ a) p t (decoded (leading class (c ∷ a)))

@@ -123,7 +123,7 @@ module _ (single : Bool) (ctx : Context) (start : Position) where
   unfolding refused at_marker
   first_fails c a p e f = rw (e, f) refl
 
-  -- After the opening quote the scan goes on as in a gap, or the place after it is refused.
+  -- After the opening quote the scan goes on as in a gap, or the position after it is refused.
   pub data Opened (a : List ℕ) (p : Position) : Type 0 where
     opened : scan single ctx start a first p nothing ≡ scan single ctx start a gap p nothing → Opened a p
     not_opened : IsShallow ctx start (scan single ctx start a first p nothing) → Opened a p
@@ -138,7 +138,7 @@ module _ (single : Bool) (ctx : Context) (start : Position) where
 
   -- ---- the closing quote
 
-  closes_text : (r : List ℕ) (p : Position) (u : Folded) → scan single ctx start r closed p u ≡ Ok (record { rest = r; place = p; value = u.text })
+  closes_text : (r : List ℕ) (p : Position) (u : Folded) → scan single ctx start r closed p u ≡ Ok (record { rest = r; position = p; value = u.text })
   closes_text r p u = closed_end single ctx start r p u
 
   open_gap : (t : Folded) → t.gap ≡ [] → t.escaped ≡ true → t.text ≡ (joined t).text
@@ -148,7 +148,7 @@ module _ (single : Bool) (ctx : Context) (start : Position) where
       by true = rw (f, e) (sym (append-nil t.text))
       by false = rw e (sym (append-nil t.text))
 
-closes : (single : Bool) (ctx : Context) (start : Position) (r : List ℕ) (p : Position) (u : Folded) → ends_before single r ≡ true → scan single ctx start (quote_of single ∷ r) inside p u ≡ Ok (record { rest = r; place = past p; value = u.text })
+closes : (single : Bool) (ctx : Context) (start : Position) (r : List ℕ) (p : Position) (u : Folded) → ends_before single r ≡ true → scan single ctx start (quote_of single ∷ r) inside p u ≡ Ok (record { rest = r; position = past p; value = u.text })
 unfolding is_break is_blank
 closes true ctx start [] p u e = refl
 closes true ctx start (d ∷ r) p u e = let one : (d == 39) ≡ false = not-true (d == 39) e in rw one refl
@@ -167,4 +167,4 @@ module _ (single : Bool) (ctx : Context) (start : Position) (r : List ℕ) (ends
   pub close : (m : Mode) (p : Position) (t : Folded) → Ready single t m → IsRead ctx start (joined t).text r (scan single ctx start (quote_of single ∷ r) m p t)
   close m p t in_gap = in_line p t (begins single ctx start (quote_of single) r p t (quote_solid single))
   close m p t (after_escaped double e f) =
-      read (past p) (after_quote single ctx start (quote_of single) (quote_of single ∷ r) p t refl refl ∙ closes single ctx start r p t ends ∙ ap (λ text. Ok (record { rest = r; place = past p; value = text })) (open_gap single ctx start t e f))
+      read (past p) (after_quote single ctx start (quote_of single) (quote_of single ∷ r) p t refl refl ∙ closes single ctx start r p t ends ∙ ap (λ text. Ok (record { rest = r; position = past p; value = text })) (open_gap single ctx start t e f))

@@ -24,7 +24,7 @@ use Rattle.proof_lexers.proofs.Quoted.Turns.{feed_is_no_marker, after_escaped, s
 module _ (ctx : Context) (start : Position) where
   doubled_taken : (a : List ℕ) (p : Position) (u : Folded) → Taken true ctx start (scan true ctx start (39 ∷ 39 ∷ a) inside p u) a p.col u 39
   unfolding is_break is_blank
-  doubled_taken a p u = record { place = past (past p); more = 1; col_is = two p.col; is = refl }
+  doubled_taken a p u = record { position = past (past p); more = 1; col_is = two p.col; is = refl }
     where
       two : (n : ℕ) → n + 1 + 1 ≡ n + (1 + 1)
       two n = omega arith
@@ -74,13 +74,13 @@ module _ (ctx : Context) (start : Position) where
 
   -- The digits of a code were taken.
   record Counted (n value : ℕ) (b r : List ℕ) (p : Position) (u : Folded) (code : ℕ) : Type 0 where
-    place : Position
-    col_is : place.col ≡ p.col + n
-    is : coded_scan n value (b ++ r) p u ≡ scan false ctx start (drop n b ++ r) inside place (with_char code u)
+    position : Position
+    col_is : position.col ≡ p.col + n
+    is : coded_scan n value (b ++ r) p u ≡ scan false ctx start (drop n b ++ r) inside position (with_char code u)
 
   more_counted : (n value c code : ℕ) (b r : List ℕ) (p : Position) (u : Folded) → is_hex c ≡ true → Counted n (value * 16 + digit_value c) b r (past p) u code → Counted (suc n) value (c ∷ b) r p u code
   more_counted n value c code b r p u h z = record {
-    place = z.place;
+    position = z.position;
     col_is = z.col_is ∙ next p.col n;
     is = digit_turn false ctx start n value c (c ∷ (b ++ r)) (b ++ r) p u h refl ∙ z.is;
   }
@@ -91,7 +91,7 @@ module _ (ctx : Context) (start : Position) where
   counted : (n value code : ℕ) (b r : List ℕ) (p : Position) (u : Folded) → (length (take n b) == n) ≡ true → hexadecimal value (take n b) ≡ Some code → is_character_code code ≡ true → Counted n value b r p u code
   counted zero value code b r p u many h valid =
       let same : value ≡ code = cc in
-      record { place = p; col_is = none p.col; is = rw same (coded false ctx start code (b ++ r) p u (rw (same_code code) valid)) }
+      record { position = p; col_is = none p.col; is = rw same (coded false ctx start code (b ++ r) p u (rw (same_code code) valid)) }
     where
       none : (k : ℕ) → k ≡ k + zero
       none k = omega arith
@@ -122,7 +122,7 @@ module _ (ctx : Context) (start : Position) where
 
   named_taken : (d code : ℕ) (a : List ℕ) (p : Position) (u : Folded) → is_break d ≡ false → escape_of d ≡ Escape.char code → Taken false ctx start (scan false ctx start (92 ∷ d ∷ a) inside p u) a p.col u code
   unfolding is_break is_blank
-  named_taken d code a p u e f = record { place = past (past p); more = 1; col_is = two p.col; is = rw e (named_char false ctx start d code (d ∷ a) a (past p) u f refl) }
+  named_taken d code a p u e f = record { position = past (past p); more = 1; col_is = two p.col; is = rw e (named_char false ctx start d code (d ∷ a) a (past p) u f refl) }
     where
       two : (n : ℕ) → n + 1 + 1 ≡ n + (1 + 1)
       two n = omega arith
@@ -130,7 +130,7 @@ module _ (ctx : Context) (start : Position) where
   coded_taken : (d n code : ℕ) (b r : List ℕ) (p : Position) (u : Folded) → is_break d ≡ false → escape_of d ≡ Escape.code n → Counted (suc n) 0 b r (past (past p)) u code
       → Taken false ctx start (scan false ctx start (92 ∷ d ∷ (b ++ r)) inside p u) (drop (suc n) b ++ r) p.col u code
   unfolding is_break is_blank
-  coded_taken d n code b r p u e f z = record { place = z.place; more = suc (suc n); col_is = z.col_is ∙ far p.col n; is = rw e (named_code false ctx start d n (d ∷ (b ++ r)) (b ++ r) (past p) u f refl) ∙ z.is }
+  coded_taken d n code b r p u e f z = record { position = z.position; more = suc (suc n); col_is = z.col_is ∙ far p.col n; is = rw e (named_code false ctx start d n (d ∷ (b ++ r)) (b ++ r) (past p) u f refl) ∙ z.is }
     where
       far : (k m : ℕ) → (k + 1 + 1) + suc m ≡ k + (suc (suc m) + 1)
       far k m = omega arith

@@ -31,10 +31,10 @@ module _ (single : Bool) (ctx : Context) (start : Position) where
 
   -- in a line, after blanks or none
   abbrev pub at : Position → List ℕ → List ℕ → QuotedState
-  at p text blanks = record { mode = gap; place = p; folded = folded text blanks }
+  at p text blanks = record { mode = gap; position = p; folded = folded text blanks }
 
   abbrev within : Position → List ℕ → QuotedState
-  within p text = record { mode = inside; place = p; folded = folded text [] }
+  within p text = record { mode = inside; position = p; folded = folded text [] }
 
   abbrev pub scan : List ℕ → QuotedState → Result (Read (List ℕ)) Fault
   scan a s = quoted_from single ctx start a s
@@ -76,7 +76,7 @@ module _ (single : Bool) (ctx : Context) (start : Position) where
   pub char_goes : (c : ℕ) → (is_break c || is_blank c) ≡ false → ((c == 92) && not single) ≡ false → (c == quote_of single) ≡ false → IsWritten (c ∷ []) c
   char_goes c e f g a text blanks p h = went (c ∷ []) a text blanks p c h (joins c a p text blanks e h ∙ rw (e, f, g) refl)
 
-  quote_ends : (r text blanks : List ℕ) (p : Position) → IsIn ctx p → (single && (slice_index r 0 == 39)) ≡ false → scan (quote_of single ∷ r) (at p text blanks) ≡ Ok (record { rest = r; place = past p; value = text ++ blanks })
+  quote_ends : (r text blanks : List ℕ) (p : Position) → IsIn ctx p → (single && (slice_index r 0 == 39)) ≡ false → scan (quote_of single ∷ r) (at p text blanks) ≡ Ok (record { rest = r; position = past p; value = text ++ blanks })
   unfolding is_break is_blank
   quote_ends r text blanks p h e = joins (quote_of single) r p text blanks (no_blank single) h ∙ ends single e
     where
@@ -84,11 +84,11 @@ module _ (single : Bool) (ctx : Context) (start : Position) where
       no_blank true = refl
       no_blank false = refl
 
-      ends : (b : Bool) → (b && (slice_index r 0 == 39)) ≡ false → quoted_from b ctx start (quote_of b ∷ r) (within p (text ++ blanks)) ≡ Ok (record { rest = r; place = past p; value = text ++ blanks })
+      ends : (b : Bool) → (b && (slice_index r 0 == 39)) ≡ false → quoted_from b ctx start (quote_of b ∷ r) (within p (text ++ blanks)) ≡ Ok (record { rest = r; position = past p; value = text ++ blanks })
       ends true f = rw f (closed_end true ctx start r (past p) (folded (text ++ blanks) []))
       ends false f = closed_end false ctx start r (past p) (folded (text ++ blanks) [])
 
-  any_turn : (a : List ℕ) (p : Position) → IsIn ctx p → quoted_from single ctx start a (record { mode = Quoted.first; place = p; folded = nothing }) ≡ scan a (within p [])
+  any_turn : (a : List ℕ) (p : Position) → IsIn ctx p → quoted_from single ctx start a (record { mode = Quoted.first; position = p; folded = nothing }) ≡ scan a (within p [])
   any_turn [] p h = refl
   any_turn (c ∷ a) p h = rw (may_stand (c ∷ a) p h) refl
 
@@ -99,7 +99,7 @@ module _ (single : Bool) (ctx : Context) (start : Position) where
     AreWritten (x ∷ xs) = IsWritten (written x) (char x) × AreWritten xs
 
     line_goes : (xs : List X) (r text blanks : List ℕ) (p : Position) → AreWritten xs → IsIn ctx p → (single && (slice_index r 0 == 39)) ≡ false
-        → scan (flat_map written xs ++ quote_of single ∷ r) (at p text blanks) ≡ Ok (record { rest = r; place = past (along (flat_map written xs) p); value = (text ++ blanks) ++ map char xs })
+        → scan (flat_map written xs ++ quote_of single ∷ r) (at p text blanks) ≡ Ok (record { rest = r; position = past (along (flat_map written xs) p); value = (text ++ blanks) ++ map char xs })
     line_goes [] r text blanks p are h e = quote_ends r text blanks p h e ∙ rw append-nil refl
     line_goes (x ∷ xs) r text blanks p are h e =
         let y = are.0 (flat_map written xs ++ quote_of single ∷ r) text blanks p h in
@@ -150,7 +150,7 @@ last_along c w p = along_append w (c ∷ []) p
 
 -- from its opening quote on, before what is no second quote
 pub line_read : (single : Bool) (ctx : Context) (X : Type 0) (written : X → List ℕ) (char : X → ℕ) (xs : List X) (r : List ℕ) (p : Position) → AreWritten single ctx p X written char xs → ctx.indent ≤ p.col + 2 → (single && (slice_index r 0 == 39)) ≡ false
-    → quoted single ctx (quote_of single ∷ (flat_map written xs ++ quote_of single ∷ r)) p ≡ Ok (record { rest = r; place = along (quote_of single ∷ (flat_map written xs ++ quote_of single ∷ [])) p; value = map char xs })
+    → quoted single ctx (quote_of single ∷ (flat_map written xs ++ quote_of single ∷ r)) p ≡ Ok (record { rest = r; position = along (quote_of single ∷ (flat_map written xs ++ quote_of single ∷ [])) p; value = map char xs })
 unfolding quoted
 line_read single ctx X written char xs r p are deep e =
     let h : IsIn ctx (past p) = (omega arith, omega (arith, deep)) in

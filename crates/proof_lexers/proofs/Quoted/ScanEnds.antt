@@ -28,7 +28,7 @@ use Rattle.proof_lexers.proofs.Quoted.Faults.{escape_fails}
 
 module _ (single : Bool) (ctx : Context) (start : Position) (text : List ℕ) where
   ends_on : (x y : Result (Read (List ℕ)) Fault) → x ≡ y → QuotedEndsAs single ctx start text y → QuotedEndsAs single ctx start text x
-  ends_on x y e (reads body rest value place cut is ends e') = reads body rest value place cut is ends (e ∙ e')
+  ends_on x y e (reads body rest value position cut is ends e') = reads body rest value position cut is ends (e ∙ e')
   ends_on x y e (refuses f why e') = refuses f why (e ∙ e')
 
   is_shallow : (x : Result (Read (List ℕ)) Fault) → IsShallow ctx start x → QuotedEndsAs single ctx start text x
@@ -64,7 +64,7 @@ module _ (single : Bool) (ctx : Context) (start : Position) (text : List ℕ) wh
 
   closes : (body rest : List ℕ) (has : HasElements single body) → text ≡ body ++ quote_of single ∷ rest → ends_before single rest ≡ true → has_marker body (quote_of single ∷ rest) ≡ false
       → (x : Result (Read (List ℕ)) Fault) → IsRead ctx start ((joined (after_elements has.0 nothing)).text) rest x → QuotedEndsAs single ctx start text x
-  closes body rest has cut ends none x (read place e) = reads body rest _ place cut (value_here body rest has none) ends e
+  closes body rest has cut ends none x (read position e) = reads body rest _ position cut (value_here body rest has none) ends e
   closes body rest has cut ends none x (shallow s) = is_shallow x s
 
   -- ---- no closing quote

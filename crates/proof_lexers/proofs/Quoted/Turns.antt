@@ -58,7 +58,7 @@ spelled e k = record { element = e; further = k }
 
 module _ (single : Bool) (ctx : Context) (start : Position) where
   abbrev pub scan : List ℕ → Mode → Position → Folded → Result (Read (List ℕ)) Fault
-  scan a m p t = quoted_from single ctx start a (record { mode = m; place = p; folded = t })
+  scan a m p t = quoted_from single ctx start a (record { mode = m; position = p; folded = t })
 
   -- A character that is neither blank nor break begins a line or goes on in one, or is refused.
   pub data Begun (a : List ℕ) (p : Position) (t : Folded) : Type 0 where
@@ -84,21 +84,21 @@ module _ (single : Bool) (ctx : Context) (start : Position) where
   inside_by c a p text true g e f = rw g refl
   inside_by c a p text false g e f = rw (g, may_stand (c ∷ a) p e f, append-nil) refl
 
-  -- within a line that may stand there a gap may begin at any place
+  -- within a line that may stand there a gap may begin at any position
   pub inside_is_gap : (a : List ℕ) (p : Position) (text : List ℕ) → (p.col == 0) ≡ false → nat_lt (p.col + 1) ctx.indent ≡ false → scan a inside p (plain text) ≡ scan a gap p (plain text)
   inside_is_gap [] p text e f = refl
   inside_is_gap (c ∷ a) p text e f = inside_by c a p text (is_break c || is_blank c) refl e f
 
   -- One character of the text was taken, of so many and one more written.
   pub record Taken (x : Result (Read (List ℕ)) Fault) (a : List ℕ) (col : ℕ) (u : Folded) (code : ℕ) : Type 0 where
-    pub place : Position
+    pub position : Position
     pub more : ℕ
-    pub col_is : place.col ≡ col + (more + 1)
-    pub is : x ≡ scan a inside place (with_char code u)
+    pub col_is : position.col ≡ col + (more + 1)
+    pub is : x ≡ scan a inside position (with_char code u)
 
   char_taken : (c : ℕ) (a : List ℕ) (p : Position) (u : Folded) → (is_break c || is_blank c) ≡ false → ((c == 92) && not single) ≡ false → (c == quote_of single) ≡ false
       → Taken (scan (c ∷ a) inside p u) a p.col u c
-  char_taken c a p u g e f = record { place = past p; more = 0; col_is = refl; is = rw (g, e, f) refl }
+  char_taken c a p u g e f = record { position = past p; more = 0; col_is = refl; is = rw (g, e, f) refl }
 
   -- The scan at an element of a body, before the body's rest b and the text r after it.
   pub data Step (c : ℕ) (b r : List ℕ) (p : Position) (t : Folded) (s : Spelled) : Type 0 where
@@ -116,9 +116,9 @@ module _ (single : Bool) (ctx : Context) (start : Position) where
   content_by : (c : ℕ) (b r : List ℕ) (k code : ℕ) (p : Position) (t : Folded) → Taken (scan (c ∷ (b ++ r)) inside p (joined t)) (drop k b ++ r) p.col (joined t) code → has_marker (c ∷ b) r ≡ has_marker (drop k b) r → list_all is_some (c ∷ b) ≡ list_all is_some (drop k b)
       → Begun (c ∷ (b ++ r)) p t → Step c b r p t (spelled (content code) k)
   content_by c b r k code p t z same full (begun none deep is) =
-      let off : (z.place.col == 0) ≡ false = rw z.col_is (off_margin p.col z.more) in
-      let still_deep : nat_lt (z.place.col + 1) ctx.indent ≡ false = rw z.col_is (as_deep p.col z.more ctx.indent deep) in
-      steps gap z.place in_gap full none (same ∙ rw off refl) (is ∙ z.is ∙ inside_is_gap (drop k b ++ r) z.place ((joined t).text ++ code ∷ []) off still_deep)
+      let off : (z.position.col == 0) ≡ false = rw z.col_is (off_margin p.col z.more) in
+      let still_deep : nat_lt (z.position.col + 1) ctx.indent ≡ false = rw z.col_is (as_deep p.col z.more ctx.indent deep) in
+      steps gap z.position in_gap full none (same ∙ rw off refl) (is ∙ z.is ∙ inside_is_gap (drop k b ++ r) z.position ((joined t).text ++ code ∷ []) off still_deep)
   content_by c b r k code p t z same full (marked e is) = is_marked e is
   content_by c b r k code p t z same full (shallow e is) = is_shallow (by_line p e is)
 

@@ -16,7 +16,7 @@ use Rattle.proof_lexers.proofs.Quoted.NoNul.{has_none, same_marks}
 use Rattle.proof_lexers.proofs.Quoted.Bodies.{Passed, passed, met_marker, was_shallow, passes, quote_still, quote_feed, Opened, opened, not_opened, opens, close}
 
 read_on : (ctx : Context) (start : Position) (text rest : List ℕ) (x y : Result (Read (List ℕ)) Fault) → x ≡ y → IsRead ctx start text rest y → IsRead ctx start text rest x
-read_on ctx start text rest x y e (read place is) = read place (e ∙ is)
+read_on ctx start text rest x y e (read position is) = read position (e ∙ is)
 read_on ctx start text rest x y e (shallow (by_line p h is)) = shallow (by_line p h (e ∙ is))
 read_on ctx start text rest x y e (shallow (by_tab p h is)) = shallow (by_tab p h (e ∙ is))
 

@@ -18,7 +18,7 @@ use Rattle.proof_lexers.proofs.Bridges.{same_break, same_blank}
 use Rattle.proof_lexers.specs.PlainEnds.{is_white, has_break}
 use Rattle.proof_lexers.specs.ScalarLaws.{SeparationsArePassed}
 use Rattle.proof_lexers.specs.Separations.{begins_separation, begins_token, after_separation, is_left, PassesAs, passes, refuses}
-use Rattle.proof_lexers.proofs.Plain.Turns.{same_feed, in_line_place, line_place, or_true}
+use Rattle.proof_lexers.proofs.Plain.Turns.{same_feed, in_line_position, line_position, or_true}
 
 abbrev is_comment : Gap → Bool
 is_comment comment = true
@@ -28,16 +28,16 @@ abbrev is_tab_line : Gap → Bool
 is_tab_line tab_line = true
 is_tab_line _ = false
 
--- from a place between tokens, in a comment, or in a line that begins with a TAB
+-- from a position between tokens, in a comment, or in a line that begins with a TAB
 data Skips (m : Gap) (s : Held) (a : List ℕ) (x : Result ScannerState Fault) : Type 0 where
   skips : (leading : Bool) (separation rest : List ℕ) → a ≡ separation ++ rest → is_separation (is_comment m) separation rest ≡ true → begins_separation rest ≡ false → x ≡ Ok (after_separation s leading separation rest) → Skips m s a x
-  fails : (before blanks rest : List ℕ) → a ≡ before ++ 9 ∷ (blanks ++ rest) → is_separation (is_comment m) before (9 ∷ (blanks ++ rest)) ≡ true → is_left s (position_after s.place before (9 ∷ (blanks ++ rest))) ≡ true
-      → is_blanks blanks ≡ true → begins_token rest ≡ true → x ≡ Err (At problem.TabInBlockIndentation (position_after s.place (before ++ 9 ∷ blanks) rest)) → Skips m s a x
-  fails_here : (blanks rest : List ℕ) → is_tab_line m ≡ true → a ≡ blanks ++ rest → is_blanks blanks ≡ true → begins_token rest ≡ true → x ≡ Err (At problem.TabInBlockIndentation (position_after s.place blanks rest)) → Skips m s a x
+  fails : (before blanks rest : List ℕ) → a ≡ before ++ 9 ∷ (blanks ++ rest) → is_separation (is_comment m) before (9 ∷ (blanks ++ rest)) ≡ true → is_left s (position_after s.position before (9 ∷ (blanks ++ rest))) ≡ true
+      → is_blanks blanks ≡ true → begins_token rest ≡ true → x ≡ Err (At problem.TabInBlockIndentation (position_after s.position (before ++ 9 ∷ blanks) rest)) → Skips m s a x
+  fails_here : (blanks rest : List ℕ) → is_tab_line m ≡ true → a ≡ blanks ++ rest → is_blanks blanks ≡ true → begins_token rest ≡ true → x ≡ Err (At problem.TabInBlockIndentation (position_after s.position blanks rest)) → Skips m s a x
 
--- the same levels, at another place
+-- the same levels, at another position
 abbrev pub at : Held → Position → (leading key_allowed : Bool) → Held
-at s p leading allowed = record s { place = p; leading = leading; key_allowed = allowed }
+at s p leading allowed = record s { position = p; leading = leading; key_allowed = allowed }
 
 skips_on : (m : Gap) (s : Held) (a : List ℕ) (x y : Result ScannerState Fault) → x ≡ y → Skips m s a y → Skips m s a x
 skips_on m s a x y e (skips leading separation rest cut is ends k) = skips leading separation rest cut is ends (e ∙ k)
@@ -68,7 +68,7 @@ same_after s rest leading p q k l e f = rw (e, f) refl
 
 -- where nothing is passed
 pub stayed : (s : Held) (rest : List ℕ) → ◌≡◌ {A = Result ScannerState Fault} (Ok (record { rest = rest; held = s })) (Ok (after_separation s s.leading [] rest))
-stayed s rest = same_after s rest s.leading s.place s.place s.key_allowed ((not (in_flow s) && false) || s.key_allowed) refl (by (not (in_flow s)))
+stayed s rest = same_after s rest s.leading s.position s.position s.key_allowed ((not (in_flow s) && false) || s.key_allowed) refl (by (not (in_flow s)))
   where
     by : (b : Bool) → s.key_allowed ≡ ((b && false) || s.key_allowed)
     by true = refl
@@ -80,27 +80,27 @@ is_feed d h = rw h refl
 
 -- after one character more
 pub passes_more : (s : Held) (c : ℕ) (a : List ℕ) (b k leading : Bool) (separation rest : List ℕ) (x : Result ScannerState Fault) → Allows s c k a → a ≡ separation ++ rest → begins_break rest ≡ false
-    → x ≡ Ok (after_separation (at s (position_past s.place c a) b k) leading separation rest) → x ≡ Ok (after_separation s leading (c ∷ separation) rest)
+    → x ≡ Ok (after_separation (at s (position_past s.position c a) b k) leading separation rest) → x ≡ Ok (after_separation s leading (c ∷ separation) rest)
 passes_more s c a b k leading separation rest x allows cut ends e =
-    e ∙ same_after s rest leading _ _ _ _ (ap (λ r. position_after (position_past s.place c r) separation rest) cut) (allows separation rest cut ends)
+    e ∙ same_after s rest leading _ _ _ _ (ap (λ r. position_after (position_past s.position c r) separation rest) cut) (allows separation rest cut ends)
 
 -- One character more is passed.
 one_more : (m n : Gap) (s : Held) (c : ℕ) (a : List ℕ) (b k : Bool) (x : Result ScannerState Fault) → ((separation rest : List ℕ) → is_separation (is_comment n) separation rest ≡ true → is_separation (is_comment m) (c ∷ separation) rest ≡ true) → Allows s c k a
-    → ((blanks rest : List ℕ) → is_tab_line n ≡ true → a ≡ blanks ++ rest → is_blanks blanks ≡ true → begins_token rest ≡ true → x ≡ Err (At problem.TabInBlockIndentation (position_after (position_past s.place c a) blanks rest)) → Skips m s (c ∷ a) x)
-    → Skips n (at s (position_past s.place c a) b k) a x → Skips m s (c ∷ a) x
+    → ((blanks rest : List ℕ) → is_tab_line n ≡ true → a ≡ blanks ++ rest → is_blanks blanks ≡ true → begins_token rest ≡ true → x ≡ Err (At problem.TabInBlockIndentation (position_after (position_past s.position c a) blanks rest)) → Skips m s (c ∷ a) x)
+    → Skips n (at s (position_past s.position c a) b k) a x → Skips m s (c ∷ a) x
 one_more m n s c a b k x fills allows lines (skips leading separation rest cut is ends e) =
     skips leading (c ∷ separation) rest (ap (λ r. c ∷ r) cut) (fills separation rest is) ends
     (passes_more s c a b k leading separation rest x allows cut (no_break_at rest ends) e)
 one_more m n s c a b k x fills allows lines (fails before blanks rest cut is left are token e) =
-    let here : is_left s (position_after (position_past s.place c (before ++ 9 ∷ (blanks ++ rest))) before (9 ∷ (blanks ++ rest))) ≡ true = rw cut at left in
+    let here : is_left s (position_after (position_past s.position c (before ++ 9 ∷ (blanks ++ rest))) before (9 ∷ (blanks ++ rest))) ≡ true = rw cut at left in
     fails (c ∷ before) blanks rest (ap (λ r. c ∷ r) cut) (fills before (9 ∷ (blanks ++ rest)) is) here are token
-    (e ∙ ap (λ r. Err (At problem.TabInBlockIndentation (position_after (position_past s.place c r) (before ++ 9 ∷ blanks) rest))) (cut ∙ sym (append_assoc before (9 ∷ blanks) rest)))
+    (e ∙ ap (λ r. Err (At problem.TabInBlockIndentation (position_after (position_past s.position c r) (before ++ 9 ∷ blanks) rest))) (cut ∙ sym (append_assoc before (9 ∷ blanks) rest)))
 one_more m n s c a b k x fills allows lines (fails_here blanks rest line cut are token e) = lines blanks rest line cut are token e
 
 -- ---- what a character adds
 
-pub moved_in_line : (s : Held) (c : ℕ) (a : List ℕ) → (classes.is_break c && not (is_before_line_feed c a)) ≡ false → moved s ≡ at s (position_past s.place c a) s.leading s.key_allowed
-moved_in_line s c a e = ap (λ p. at s p s.leading s.key_allowed) (sym (in_line_place c a s.place e))
+pub moved_in_line : (s : Held) (c : ℕ) (a : List ℕ) → (classes.is_break c && not (is_before_line_feed c a)) ≡ false → moved s ≡ at s (position_past s.position c a) s.leading s.key_allowed
+moved_in_line s c a e = ap (λ p. at s p s.leading s.key_allowed) (sym (in_line_position c a s.position e))
 
 pub same_allowed : (s : Held) (c : ℕ) (a : List ℕ) → classes.is_break c ≡ false → Allows s c s.key_allowed a
 same_allowed s c a e separation rest cut ends = rw e refl
@@ -156,23 +156,23 @@ fills_hash c separation rest e h = rw (e, or_true (is_white c)) h
 pub fills_comment : (c : ℕ) (separation rest : List ℕ) → is_break c ≡ false → is_separation true separation rest ≡ true → is_separation true (c ∷ separation) rest ≡ true
 fills_comment c separation rest e h = let no_break : classes.is_break c ≡ false = same_break c ∙ e in rw no_break h
 
--- a character that is no break moves the place by one
+-- a character that is no break moves the position by one
 on_line : (m n : Gap) (s : Held) (c : ℕ) (a : List ℕ) (b : Bool) → is_break c ≡ false → ((separation rest : List ℕ) → is_separation (is_comment n) separation rest ≡ true → is_separation (is_comment m) (c ∷ separation) rest ≡ true)
     → ((blanks rest : List ℕ) → is_tab_line n ≡ true → a ≡ blanks ++ rest → is_blanks blanks ≡ true → begins_token rest ≡ true
-    → skip m (c ∷ a) s ≡ Err (At problem.TabInBlockIndentation (position_after (position_past s.place c a) blanks rest)) → Skips m s (c ∷ a) (skip m (c ∷ a) s))
-    → Passed a → skip m (c ∷ a) s ≡ skip n a (at s (past s.place) b s.key_allowed) → Skips m s (c ∷ a) (skip m (c ∷ a) s)
+    → skip m (c ∷ a) s ≡ Err (At problem.TabInBlockIndentation (position_after (position_past s.position c a) blanks rest)) → Skips m s (c ∷ a) (skip m (c ∷ a) s))
+    → Passed a → skip m (c ∷ a) s ≡ skip n a (at s (past s.position) b s.key_allowed) → Skips m s (c ∷ a) (skip m (c ∷ a) s)
 on_line m n s c a b e fills lines ih is =
     let no_break : classes.is_break c ≡ false = same_break c ∙ e in
-    let place : past s.place ≡ position_past s.place c a = sym (in_line_place c a s.place (rw no_break refl)) in
-    let here = at s (position_past s.place c a) b s.key_allowed in
+    let position : past s.position ≡ position_past s.position c a = sym (in_line_position c a s.position (rw no_break refl)) in
+    let here = at s (position_past s.position c a) b s.key_allowed in
     one_more m n s c a b s.key_allowed (skip m (c ∷ a) s) fills (same_allowed s c a no_break) lines
-    (skips_on n here a (skip m (c ∷ a) s) (skip n a here) (is ∙ ap (λ p. skip n a (at s p b s.key_allowed)) place) (ih n here))
+    (skips_on n here a (skip m (c ∷ a) s) (skip n a here) (is ∙ ap (λ p. skip n a (at s p b s.key_allowed)) position) (ih n here))
 
-broken_to : (m : Gap) (s : Held) (c : ℕ) (a : List ℕ) (p : Position) (b k : Bool) → is_break c ≡ true → Allows s c k a → p ≡ position_past s.place c a → Passed a → skip m (c ∷ a) s ≡ skip between a (at s p b k) → Skips m s (c ∷ a) (skip m (c ∷ a) s)
-broken_to m s c a p b k e allows place ih is =
-    let here = at s (position_past s.place c a) b k in
+broken_to : (m : Gap) (s : Held) (c : ℕ) (a : List ℕ) (p : Position) (b k : Bool) → is_break c ≡ true → Allows s c k a → p ≡ position_past s.position c a → Passed a → skip m (c ∷ a) s ≡ skip between a (at s p b k) → Skips m s (c ∷ a) (skip m (c ∷ a) s)
+broken_to m s c a p b k e allows position ih is =
+    let here = at s (position_past s.position c a) b k in
     one_more m between s c a b k (skip m (c ∷ a) s) (λ separation rest h. fills_break m c separation rest e h) allows (λ blanks rest no. cc)
-    (skips_on between here a (skip m (c ∷ a) s) (skip between a here) (is ∙ ap (λ q. skip between a (at s q b k)) place) (ih between here))
+    (skips_on between here a (skip m (c ∷ a) s) (skip between a here) (is ∙ ap (λ q. skip between a (at s q b k)) position) (ih between here))
 
 -- a break, from anywhere
 broken_by : (m : Gap) (s : Held) (c : ℕ) (a : List ℕ) (feed : Bool) → is_cr_lf c a ≡ feed → is_break c ≡ true → Passed a → Skips m s (c ∷ a) (skip m (c ∷ a) s)
@@ -180,11 +180,11 @@ unfolding skip
 broken_by m s c a true f e ih =
     let breaks : classes.is_break c ≡ true = same_break c ∙ e in
     let g : is_before_line_feed c a ≡ true = sym (same_feed c a) ∙ f in
-    broken_to m s c a (past s.place) s.leading s.key_allowed e (feed_allowed s c a breaks g) (sym (in_line_place c a s.place (rw (breaks, g) refl))) ih (rw (e, f) refl)
+    broken_to m s c a (past s.position) s.leading s.key_allowed e (feed_allowed s c a breaks g) (sym (in_line_position c a s.position (rw (breaks, g) refl))) ih (rw (e, f) refl)
 broken_by m s c a false f e ih =
     let breaks : classes.is_break c ≡ true = same_break c ∙ e in
     let g : is_before_line_feed c a ≡ false = sym (same_feed c a) ∙ f in
-    broken_to m s c a (past_break s.place) true (not (in_flow s) || s.key_allowed) e (line_allowed s c a breaks) (sym (line_place c a s.place (rw (breaks, g) refl))) ih (rw (e, f) refl)
+    broken_to m s c a (past_break s.position) true (not (in_flow s) || s.key_allowed) e (line_allowed s c a breaks) (sym (line_position c a s.position (rw (breaks, g) refl))) ih (rw (e, f) refl)
 
 -- what stands next, where it is no break
 data Kind (c : ℕ) : Type 0 where
@@ -210,21 +210,21 @@ blank_no_break c h = grind (arith, nat_tests)
 hash_no_tab : (c : ℕ) → (c == 35) ≡ true → (c == 9) ≡ false
 hash_no_tab c h = let e : c ≡ 35 = eqb-true c 35 h in rw e refl
 
-left_here : (s : Held) → is_before_indent s ≡ true → is_left s s.place ≡ true
+left_here : (s : Held) → is_before_indent s ≡ true → is_left s s.position ≡ true
 unfolding is_before_indent
 left_here s h =
-    let q = and_parts (not (is_empty s.indents) && s.leading) (nat_lt (s.place.col + 1) s.indent) h in
+    let q = and_parts (not (is_empty s.indents) && s.leading) (nat_lt (s.position.col + 1) s.indent) h in
     let z = and_parts (not (is_empty s.indents)) s.leading q.0 in
-    let i : suc s.place.col ≡ s.place.col + 1 = omega arith in
+    let i : suc s.position.col ≡ s.position.col + 1 = omega arith in
     rw (z.0, i) q.1
 
 -- after a TAB left of the innermost level
 tab_fails : (s : Held) (c : ℕ) (a blanks rest : List ℕ) → (c == 9) ≡ true → is_before_indent s ≡ true → a ≡ blanks ++ rest → is_blanks blanks ≡ true → begins_token rest ≡ true
-    → skip between (c ∷ a) s ≡ Err (At problem.TabInBlockIndentation (position_after (position_past s.place c a) blanks rest)) → Skips between s (c ∷ a) (skip between (c ∷ a) s)
+    → skip between (c ∷ a) s ≡ Err (At problem.TabInBlockIndentation (position_after (position_past s.position c a) blanks rest)) → Skips between s (c ∷ a) (skip between (c ∷ a) s)
 tab_fails s c a blanks rest tab left cut are ends is =
     let same : c ≡ 9 = eqb-true c 9 tab in
     fails [] blanks rest (ap (λ d. d ∷ a) same ∙ ap (λ r. 9 ∷ r) cut) refl (left_here s left) are ends
-    (is ∙ ap (λ d. Err (At problem.TabInBlockIndentation (position_after (position_past s.place d a) blanks rest))) same ∙ ap (λ r. Err (At problem.TabInBlockIndentation (position_after (position_past s.place 9 r) blanks rest))) cut)
+    (is ∙ ap (λ d. Err (At problem.TabInBlockIndentation (position_after (position_past s.position d a) blanks rest))) same ∙ ap (λ r. Err (At problem.TabInBlockIndentation (position_after (position_past s.position 9 r) blanks rest))) cut)
 
 between_by : (s : Held) (c : ℕ) (a : List ℕ) (tab : Bool) → ((c == 9) && is_before_indent s) ≡ tab → is_break c ≡ false → Passed a → Kind c → Skips between s (c ∷ a) (skip between (c ∷ a) s)
 unfolding skip
@@ -245,7 +245,7 @@ tab_by : (s : Held) (c : ℕ) (a : List ℕ) → is_break c ≡ false → Passed
 unfolding skip
 tab_by s c a e ih (blank g) =
     on_line tab_line tab_line s c a s.leading e (λ separation rest h. fills_blank c separation rest g h)
-    (λ blanks rest line cut are ends is. fails_here (c ∷ blanks) rest refl (ap (λ r. c ∷ r) cut) (rw (same_blank c, g) are) ends (is ∙ ap (λ r. Err (At problem.TabInBlockIndentation (position_after (position_past s.place c r) blanks rest))) cut))
+    (λ blanks rest line cut are ends is. fails_here (c ∷ blanks) rest refl (ap (λ r. c ∷ r) cut) (rw (same_blank c, g) are) ends (is ∙ ap (λ r. Err (At problem.TabInBlockIndentation (position_after (position_past s.position c r) blanks rest))) cut))
     ih (rw (e, g) refl)
 tab_by s c a e ih (hash g h) = on_line tab_line comment s c a s.leading e (λ separation rest k. fills_hash c separation rest h k) (λ blanks rest no. cc) ih (rw (e, g, h) refl)
 tab_by s c a e ih (token g h) = fails_here [] (c ∷ a) refl refl refl (rw (no_separation c e g h) refl) (rw (e, g, h) refl)

@@ -18,7 +18,7 @@ use Rattle.proof_lexers.proofs.Bridges.{same_break, same_blank}
 use Rattle.proof_lexers.specs.PlainEnds.{has_break}
 use Rattle.proof_lexers.specs.ScalarLaws.{SpacesArePassed}
 use Rattle.proof_lexers.specs.Separations.{after_space, has, are_spaces, ends_spaces, SpacesAs, spaces, glued}
-use Rattle.proof_lexers.proofs.Plain.Turns.{in_line_place, or_true, or_false}
+use Rattle.proof_lexers.proofs.Plain.Turns.{in_line_position, or_true, or_false}
 use Rattle.proof_lexers.proofs.Separation.Separations.{no_hash}
 
 -- whether a text begins with a break, or there is none
@@ -42,7 +42,7 @@ record Line (a : List ℕ) (p : Position) : Type 0 where
   fills : is_separation true line rest ≡ true
   breaks : has_break line ≡ false
   ends : is_line_end rest ≡ true
-  is : skip_while is_line a p ≡ record { rest = rest; place = position_after p line rest; value = tt }
+  is : skip_while is_line a p ≡ record { rest = rest; position = position_after p line rest; value = tt }
 
 line_of : (a : List ℕ) (p : Position) → Line a p
 line_of [] p = record { line = []; rest = []; cut = refl; fills = refl; breaks = refl; ends = refl; is = refl }
@@ -54,7 +54,7 @@ line_of (c ∷ a) p = by (is_break c) refl (line_of a (past p))
         record { line = []; rest = c ∷ a; cut = refl; fills = rw breaks refl; breaks = refl; ends = e; is = rw e refl }
     by false e z =
         let no_break : classes.is_break c ≡ false = same_break c ∙ e in
-        let place : past p ≡ position_past p c (z.line ++ z.rest) = sym (in_line_place c (z.line ++ z.rest) p (rw no_break refl)) in
+        let position : past p ≡ position_past p c (z.line ++ z.rest) = sym (in_line_position c (z.line ++ z.rest) p (rw no_break refl)) in
         record {
           line = c ∷ z.line;
           rest = z.rest;
@@ -62,10 +62,10 @@ line_of (c ∷ a) p = by (is_break c) refl (line_of a (past p))
           fills = rw no_break (z.fills);
           breaks = rw no_break (z.breaks);
           ends = z.ends;
-          is = rw e (z.is ∙ ap (λ q. record { rest = z.rest; place = position_after q z.line z.rest; value = tt }) place);
+          is = rw e (z.is ∙ ap (λ q. record { rest = z.rest; position = position_after q z.line z.rest; value = tt }) position);
         }
 
--- from a place after some blanks on
+-- from a position after some blanks on
 data Passes (tabs : SkipTabs) (w : Whitespace) (p : Position) (a : List ℕ) (x : Result (Read Whitespace) Fault) : Type 0 where
   passed : (blanks comment rest : List ℕ) → a ≡ blanks ++ (comment ++ rest) → are_spaces tabs blanks ≡ true → is_separation false (blanks ++ comment) rest ≡ true → has_break (blanks ++ comment) ≡ false → ends_spaces tabs rest ≡ true
       → x ≡ Ok (after_space p (blanks ++ comment) rest (record { found_tabs = w.found_tabs || has 9 blanks; has_valid_yaml_ws = w.has_valid_yaml_ws || has 32 blanks })) → Passes tabs w p a x
@@ -80,7 +80,7 @@ or_both true b = refl
 or_both false b = refl
 
 same_space : (p q : Position) (rest : List ℕ) (a b c d : Bool) → p ≡ q → a ≡ b → c ≡ d
-    → ◌≡◌ {A = Result (Read Whitespace) Fault} (Ok (record { rest = rest; place = p; value = record { found_tabs = a; has_valid_yaml_ws = c } })) (Ok (record { rest = rest; place = q; value = record { found_tabs = b; has_valid_yaml_ws = d } }))
+    → ◌≡◌ {A = Result (Read Whitespace) Fault} (Ok (record { rest = rest; position = p; value = record { found_tabs = a; has_valid_yaml_ws = c } })) (Ok (record { rest = rest; position = q; value = record { found_tabs = b; has_valid_yaml_ws = d } }))
 same_space p q rest a b c d e f g = rw (e, f, g) refl
 
 -- One blank more is passed.
@@ -90,29 +90,29 @@ one_more : (tabs : SkipTabs) (w v : Whitespace) (p : Position) (c : ℕ) (a : Li
 one_more tabs w v p c a x blank break of tab space some (passed blanks comment rest cut are is breaks ends e) =
     let is_blank_here : classes.is_blank c ≡ true = same_blank c ∙ blank in
     let no_break : classes.is_break c ≡ false = same_break c ∙ break in
-    let place : past p ≡ position_past p c ((blanks ++ comment) ++ rest) = sym (in_line_place c ((blanks ++ comment) ++ rest) p (rw no_break refl)) in
+    let position : past p ≡ position_past p c ((blanks ++ comment) ++ rest) = sym (in_line_position c ((blanks ++ comment) ++ rest) p (rw no_break refl)) in
     passed (c ∷ blanks) comment rest (ap (λ r. c ∷ r) cut) (rw of are) (rw (is_blank_here, no_hash c blank) is) (rw no_break breaks) ends
-    (e ∙ same_space _ _ rest _ _ _ _ (ap (λ q. position_after q (blanks ++ comment) rest) place) (tab blanks) (space blanks))
+    (e ∙ same_space _ _ rest _ _ _ _ (ap (λ q. position_after q (blanks ++ comment) rest) position) (tab blanks) (space blanks))
 one_more tabs w v p c a x blank break of tab space some (stuck begins none e) = let both : true ≡ false = sym some ∙ none in cc
 
 module _ (tabs : SkipTabs) where
   abbrev Passed : List ℕ → Type 0
-  Passed a = (w : Whitespace) (p : Position) → Passes tabs w p a (space_from tabs a (record { place = p; found = w }))
+  Passed a = (w : Whitespace) (p : Position) → Passes tabs w p a (space_from tabs a (record { position = p; found = w }))
 
-  space_more : (a : List ℕ) (w : Whitespace) (p : Position) → Passed a → Passes tabs w p (32 ∷ a) (space_from tabs (32 ∷ a) (record { place = p; found = w }))
+  space_more : (a : List ℕ) (w : Whitespace) (p : Position) → Passed a → Passes tabs w p (32 ∷ a) (space_from tabs (32 ∷ a) (record { position = p; found = w }))
   unfolding is_blank is_break
   space_more a w p ih =
       one_more tabs w (record w { has_valid_yaml_ws = true }) p 32 a _ refl refl refl (λ b. refl) (λ b. sym (or_both w.has_valid_yaml_ws (has 32 b))) (or_true w.found_tabs) (ih (record w { has_valid_yaml_ws = true }) (past p))
 
-  tab_more : (a : List ℕ) (w : Whitespace) (p : Position) → are_skipped tabs ≡ true → Passed a → Passes tabs w p (9 ∷ a) (space_from tabs (9 ∷ a) (record { place = p; found = w }))
+  tab_more : (a : List ℕ) (w : Whitespace) (p : Position) → are_skipped tabs ≡ true → Passed a → Passes tabs w p (9 ∷ a) (space_from tabs (9 ∷ a) (record { position = p; found = w }))
   unfolding is_blank is_break
   tab_more a w p skipped ih =
       one_more tabs w (record w { found_tabs = true }) p 9 a _ refl refl (rw skipped refl) (λ b. sym (or_both w.found_tabs (has 9 b))) (λ b. refl) refl
       (passes_on tabs (record w { found_tabs = true }) (past p) a _ _ (rw skipped refl) (ih (record w { found_tabs = true }) (past p)))
 
-  hash_place : (p : Position) (l rest : List ℕ) → position_after (past p) l rest ≡ position_after p (35 ∷ l) rest
+  hash_position : (p : Position) (l rest : List ℕ) → position_after (past p) l rest ≡ position_after p (35 ∷ l) rest
   unfolding classes.is_break
-  hash_place p l rest = ap (λ q. position_after q l rest) (sym (in_line_place 35 (l ++ rest) p refl))
+  hash_position p l rest = ap (λ q. position_after q l rest) (sym (in_line_position 35 (l ++ rest) p refl))
 
   comment_here : (a : List ℕ) (w : Whitespace) (p : Position) → Passes tabs w p (35 ∷ a) (comment_after w (35 ∷ a) p)
   unfolding is_break classes.is_break classes.is_blank
@@ -122,17 +122,17 @@ module _ (tabs : SkipTabs) where
           → Passes tabs w p (35 ∷ a) (if b then Ok (with_found w (skip_while is_line a (past p))) else Err (At problem.CommentNotSeparated p))
       by true e z =
           passed [] (35 ∷ z.line) z.rest (ap (λ r. 35 ∷ r) z.cut) refl z.fills z.breaks (line_ends tabs z.rest z.ends)
-          (ap (λ r. Ok (with_found w r)) z.is ∙ same_space _ _ z.rest _ _ _ _ (hash_place p z.line z.rest) (sym (or_false w.found_tabs)) (sym (or_false w.has_valid_yaml_ws)))
+          (ap (λ r. Ok (with_found w r)) z.is ∙ same_space _ _ z.rest _ _ _ _ (hash_position p z.line z.rest) (sym (or_false w.found_tabs)) (sym (or_false w.has_valid_yaml_ws)))
       by false e z = stuck refl e refl
 
-  stop_here : (c : ℕ) (a : List ℕ) (w : Whitespace) (p : Position) (hash : Bool) → (c == 35) ≡ hash → (c == 32) ≡ false → ((c == 9) && are_skipped tabs) ≡ false → Passes tabs w p (c ∷ a) (space_from tabs (c ∷ a) (record { place = p; found = w }))
+  stop_here : (c : ℕ) (a : List ℕ) (w : Whitespace) (p : Position) (hash : Bool) → (c == 35) ≡ hash → (c == 32) ≡ false → ((c == 9) && are_skipped tabs) ≡ false → Passes tabs w p (c ∷ a) (space_from tabs (c ∷ a) (record { position = p; found = w }))
   stop_here c a w p true h e f =
       let same : c ≡ 35 = eqb-true c 35 h in
       passes_on tabs w p (c ∷ a) _ (comment_after w (c ∷ a) p) (rw (e, f, h) refl) (rw same (comment_here a w p))
   stop_here c a w p false h e f =
       passed [] [] (c ∷ a) refl refl refl refl (rw (e, f, h) refl) (rw (e, f, h) (same_space p p (c ∷ a) _ _ _ _ refl (sym (or_false w.found_tabs)) (sym (or_false w.has_valid_yaml_ws))))
 
-  step : (c : ℕ) (a : List ℕ) (w : Whitespace) (p : Position) (space tab skipped : Bool) → (c == 32) ≡ space → (c == 9) ≡ tab → are_skipped tabs ≡ skipped → Passed a → Passes tabs w p (c ∷ a) (space_from tabs (c ∷ a) (record { place = p; found = w }))
+  step : (c : ℕ) (a : List ℕ) (w : Whitespace) (p : Position) (space tab skipped : Bool) → (c == 32) ≡ space → (c == 9) ≡ tab → are_skipped tabs ≡ skipped → Passed a → Passes tabs w p (c ∷ a) (space_from tabs (c ∷ a) (record { position = p; found = w }))
   step c a w p true tab skipped e f g ih = let same : c ≡ 32 = eqb-true c 32 e in rw same (space_more a w p ih)
   step c a w p false true true e f g ih = let same : c ≡ 9 = eqb-true c 9 f in rw same (tab_more a w p g ih)
   step c a w p false true false e f g ih = stop_here c a w p (c == 35) refl e (rw (f, g) refl)
@@ -146,7 +146,7 @@ pub spaces_are_passed : SpacesArePassed
 unfolding space
 spaces_are_passed tabs text p = told (all_passed tabs text (record { found_tabs = false; has_valid_yaml_ws = false }) p)
   where
-    told : Passes tabs (record { found_tabs = false; has_valid_yaml_ws = false }) p text (space_from tabs text (record { place = p; found = record { found_tabs = false; has_valid_yaml_ws = false } }))
-        → SpacesAs tabs p text (space_from tabs text (record { place = p; found = record { found_tabs = false; has_valid_yaml_ws = false } }))
+    told : Passes tabs (record { found_tabs = false; has_valid_yaml_ws = false }) p text (space_from tabs text (record { position = p; found = record { found_tabs = false; has_valid_yaml_ws = false } }))
+        → SpacesAs tabs p text (space_from tabs text (record { position = p; found = record { found_tabs = false; has_valid_yaml_ws = false } }))
     told (passed blanks comment rest cut are is breaks ends e) = spaces blanks comment rest cut are is breaks ends e
     told (stuck begins none e) = glued begins e

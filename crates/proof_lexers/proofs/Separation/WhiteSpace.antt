@@ -17,14 +17,14 @@ use Rattle.proof_lexers.proofs.Bridges.{same_break}
 use Rattle.proof_lexers.specs.PlainEnds.{has_break}
 use Rattle.proof_lexers.specs.ScalarLaws.{WhiteSpaceIsPassed}
 use Rattle.proof_lexers.specs.Separations.{begins_white_space, after_separation, GoesOverAs, goes, misses}
-use Rattle.proof_lexers.proofs.Plain.Turns.{same_feed, in_line_place, line_place, or_true}
+use Rattle.proof_lexers.proofs.Plain.Turns.{same_feed, in_line_position, line_position, or_true}
 use Rattle.proof_lexers.proofs.Separation.Separations.{at, Allows, begins_break, stayed, passes_more, same_allowed, line_allowed, feed_allowed, no_break_hash, fills_comment, fills_hash, fills_blank}
 
--- from a place in a comment or not, after a space or a break or not
+-- from a position in a comment or not, after a space or a break or not
 data Goes (in_comment found : Bool) (s : Held) (a : List ℕ) (x : Result ScannerState Fault) : Type 0 where
   gone : (leading : Bool) (separation rest : List ℕ) → a ≡ separation ++ rest → is_separation in_comment separation rest ≡ true → begins_white_space rest ≡ false → x ≡ Ok (after_separation s leading separation rest) → Goes in_comment found s a x
   missed : (separation rest : List ℕ) → found ≡ false → a ≡ separation ++ rest → is_separation in_comment separation rest ≡ true → (in_comment || not (begins_with 32 a)) ≡ true → has_break separation ≡ false → begins_white_space rest ≡ false
-      → x ≡ Err (At problem.WhitespaceExpected (position_after s.place separation rest)) → Goes in_comment found s a x
+      → x ≡ Err (At problem.WhitespaceExpected (position_after s.position separation rest)) → Goes in_comment found s a x
 
 goes_on : (i f : Bool) (s : Held) (a : List ℕ) (x y : Result ScannerState Fault) → x ≡ y → Goes i f s a y → Goes i f s a x
 goes_on i f s a x y e (gone leading separation rest cut is ends k) = gone leading separation rest cut is ends (e ∙ k)
@@ -41,12 +41,12 @@ no_break_at (c ∷ r) h = by (c == 32) (classes.is_break c) h
 
 -- One character more is passed; a space or a break is found there, or it begins or continues a comment.
 one_more : (i j f g : Bool) (s : Held) (c : ℕ) (a : List ℕ) (b k : Bool) (x : Result ScannerState Fault) → ((separation rest : List ℕ) → is_separation j separation rest ≡ true → is_separation i (c ∷ separation) rest ≡ true) → Allows s c k a
-    → (g ≡ false → (f ≡ false) × (classes.is_break c ≡ false) × ((i || not (c == 32)) ≡ true)) → Goes j g (at s (position_past s.place c a) b k) a x → Goes i f s (c ∷ a) x
+    → (g ≡ false → (f ≡ false) × (classes.is_break c ≡ false) × ((i || not (c == 32)) ≡ true)) → Goes j g (at s (position_past s.position c a) b k) a x → Goes i f s (c ∷ a) x
 one_more i j f g s c a b k x fills allows founds (gone leading separation rest cut is ends e) =
     gone leading (c ∷ separation) rest (ap (λ r. c ∷ r) cut) (fills separation rest is) ends (passes_more s c a b k leading separation rest x allows cut (no_break_at rest ends) e)
 one_more i j f g s c a b k x fills allows founds (missed separation rest none cut is here breaks ends e) =
     let z = founds none in
-    missed (c ∷ separation) rest z.0 (ap (λ r. c ∷ r) cut) (fills separation rest is) z.2 (rw z.1 breaks) ends (e ∙ ap (λ r. Err (At problem.WhitespaceExpected (position_after (position_past s.place c r) separation rest))) cut)
+    missed (c ∷ separation) rest z.0 (ap (λ r. c ∷ r) cut) (fills separation rest is) z.2 (rw z.1 breaks) ends (e ∙ ap (λ r. Err (At problem.WhitespaceExpected (position_after (position_past s.position c r) separation rest))) cut)
 
 abbrev Passed : List ℕ → Type 0
 Passed a = (i f : Bool) (s : Held) → Goes i f s a (white i f a s)
@@ -55,31 +55,31 @@ fills_break : (i : Bool) (c : ℕ) (separation rest : List ℕ) → is_break c �
 fills_break true c separation rest e h = rw (same_break c, e) h
 fills_break false c separation rest e h = let breaks : classes.is_break c ≡ true = same_break c ∙ e in rw (breaks, or_true (classes.is_blank c), no_break_hash c e) h
 
-broken_to : (i f : Bool) (s : Held) (c : ℕ) (a : List ℕ) (p : Position) (b k : Bool) → is_break c ≡ true → Allows s c k a → p ≡ position_past s.place c a → Passed a → white i f (c ∷ a) s ≡ white false true a (at s p b k) → Goes i f s (c ∷ a) (white i f (c ∷ a) s)
-broken_to i f s c a p b k e allows place ih is =
-    let here = at s (position_past s.place c a) b k in
+broken_to : (i f : Bool) (s : Held) (c : ℕ) (a : List ℕ) (p : Position) (b k : Bool) → is_break c ≡ true → Allows s c k a → p ≡ position_past s.position c a → Passed a → white i f (c ∷ a) s ≡ white false true a (at s p b k) → Goes i f s (c ∷ a) (white i f (c ∷ a) s)
+broken_to i f s c a p b k e allows position ih is =
+    let here = at s (position_past s.position c a) b k in
     one_more i false f true s c a b k (white i f (c ∷ a) s) (λ separation rest h. fills_break i c separation rest e h) allows (λ none. cc)
-    (goes_on false true here a (white i f (c ∷ a) s) (white false true a here) (is ∙ ap (λ q. white false true a (at s q b k)) place) (ih false true here))
+    (goes_on false true here a (white i f (c ∷ a) s) (white false true a here) (is ∙ ap (λ q. white false true a (at s q b k)) position) (ih false true here))
 
 broken_by : (i f : Bool) (s : Held) (c : ℕ) (a : List ℕ) (feed : Bool) → is_cr_lf c a ≡ feed → is_break c ≡ true → Passed a → Goes i f s (c ∷ a) (white i f (c ∷ a) s)
 unfolding white
 broken_by i f s c a true h e ih =
     let breaks : classes.is_break c ≡ true = same_break c ∙ e in
     let g : is_before_line_feed c a ≡ true = sym (same_feed c a) ∙ h in
-    broken_to i f s c a (past s.place) s.leading s.key_allowed e (feed_allowed s c a breaks g) (sym (in_line_place c a s.place (rw (breaks, g) refl))) ih (rw (e, h) refl)
+    broken_to i f s c a (past s.position) s.leading s.key_allowed e (feed_allowed s c a breaks g) (sym (in_line_position c a s.position (rw (breaks, g) refl))) ih (rw (e, h) refl)
 broken_by i f s c a false h e ih =
     let breaks : classes.is_break c ≡ true = same_break c ∙ e in
     let g : is_before_line_feed c a ≡ false = sym (same_feed c a) ∙ h in
-    broken_to i f s c a (past_break s.place) true (not (in_flow s) || s.key_allowed) e (line_allowed s c a breaks) (sym (line_place c a s.place (rw (breaks, g) refl))) ih (rw (e, h) refl)
+    broken_to i f s c a (past_break s.position) true (not (in_flow s) || s.key_allowed) e (line_allowed s c a breaks) (sym (line_position c a s.position (rw (breaks, g) refl))) ih (rw (e, h) refl)
 
 on_line : (i j f g : Bool) (s : Held) (c : ℕ) (a : List ℕ) → is_break c ≡ false → ((separation rest : List ℕ) → is_separation j separation rest ≡ true → is_separation i (c ∷ separation) rest ≡ true)
     → (g ≡ false → (f ≡ false) × ((i || not (c == 32)) ≡ true)) → Passed a → white i f (c ∷ a) s ≡ white j g a (moved s) → Goes i f s (c ∷ a) (white i f (c ∷ a) s)
 on_line i j f g s c a e fills founds ih is =
     let no_break : classes.is_break c ≡ false = same_break c ∙ e in
-    let place : past s.place ≡ position_past s.place c a = sym (in_line_place c a s.place (rw no_break refl)) in
-    let here = at s (position_past s.place c a) s.leading s.key_allowed in
+    let position : past s.position ≡ position_past s.position c a = sym (in_line_position c a s.position (rw no_break refl)) in
+    let here = at s (position_past s.position c a) s.leading s.key_allowed in
     one_more i j f g s c a s.leading s.key_allowed (white i f (c ∷ a) s) fills (same_allowed s c a no_break) (λ none. let z = founds none in (z.0, no_break, z.1))
-    (goes_on j g here a (white i f (c ∷ a) s) (white j g a here) (is ∙ ap (λ p. white j g a (at s p s.leading s.key_allowed)) place) (ih j g here))
+    (goes_on j g here a (white i f (c ∷ a) s) (white j g a here) (is ∙ ap (λ p. white j g a (at s p s.leading s.key_allowed)) position) (ih j g here))
 
 space_is_blank : (c : ℕ) → (c == 32) ≡ true → is_blank c ≡ true
 unfolding is_blank

@@ -4,4 +4,4 @@ use Rattle.yaml_encoding.proofs.malformation.call.Goals as goal
 
 pub returns-in-Break : goal.returns-in-Break
 returns-in-Break g c =
-    stopped_by c.broken.result c.args.malformation.place _ _ _ _ _ (broke _ _ c.args.input _ _ _ _ _ c.in-Break.message c.function.ensures.0 refl refl c.in-Break.is) c.broken.ensures
+    stopped_by c.broken.result c.args.malformation.position _ _ _ _ _ (broke _ _ c.args.input _ _ _ _ _ c.in-Break.message c.function.ensures.0 refl refl c.in-Break.is) c.broken.ensures

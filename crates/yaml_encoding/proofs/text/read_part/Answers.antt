@@ -5,13 +5,13 @@ use Rattle.yaml_encoding.proofs.ReadLemmas.{rest_of, takes, passes_character, pa
 use Rattle.yaml_encoding.proofs.text.read_part.Goals as goal
 
 pub trapped-requires : goal.trapped-requires
-trapped-requires g c = (takes (λ n a i s o. Unit {0}) (encoding_of c.args.encoding) c.args.input.now c.args.place [] (sequence_of c.sequence-sequence.result) _ (rest_of c.args.input.now c.args.place) c.requires c.sequence-sequence.ensures).1
+trapped-requires g c = (takes (λ n a i s o. Unit {0}) (encoding_of c.args.encoding) c.args.input.now c.args.position [] (sequence_of c.sequence-sequence.result) _ (rest_of c.args.input.now c.args.position) c.requires c.sequence-sequence.ensures).1
 
 pub returns-in-Ok : goal.returns-in-Ok
-returns-in-Ok g c = passes_malformation _ _ c.args.input.now c.args.place _ (sequence_of c.sequence-sequence.result) _ (rest_of c.args.input.now c.args.place) c.requires c.sequence-sequence.ensures _ _ (search rules) c.in-Ok.ensures (search rules)
+returns-in-Ok g c = passes_malformation _ _ c.args.input.now c.args.position _ (sequence_of c.sequence-sequence.result) _ (rest_of c.args.input.now c.args.position) c.requires c.sequence-sequence.ensures _ _ (search rules) c.in-Ok.ensures (search rules)
 
 pub returns-in-Err : goal.returns-in-Err
-returns-in-Err g c = passes_stop _ _ c.args.input.now c.args.place _ (sequence_of c.sequence-sequence.result) _ (rest_of c.args.input.now c.args.place) c.requires c.sequence-sequence.ensures _ (search rules) c.in-Err.ensures
+returns-in-Err g c = passes_stop _ _ c.args.input.now c.args.position _ (sequence_of c.sequence-sequence.result) _ (rest_of c.args.input.now c.args.position) c.requires c.sequence-sequence.ensures _ (search rules) c.in-Err.ensures
 
 pub returns : goal.returns
-returns g c = passes_character _ _ c.args.input.now c.args.place _ (sequence_of c.sequence-sequence.result) _ (rest_of c.args.input.now c.args.place) c.requires c.sequence-sequence.ensures _ c.in-Some.c _ (search rules) c.in_ok-push.ensures (search rules)
+returns g c = passes_character _ _ c.args.input.now c.args.position _ (sequence_of c.sequence-sequence.result) _ (rest_of c.args.input.now c.args.position) c.requires c.sequence-sequence.ensures _ c.in-Some.c _ (search rules) c.in_ok-push.ensures (search rules)

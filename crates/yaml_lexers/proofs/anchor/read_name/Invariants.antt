@@ -1,11 +1,11 @@
 use Rattle.std.proofs.Common.{◌≡◌}
 use Rattle.yaml_chars.specs.Class.{is_anchor}
-use Rattle.yaml_chars.specs.Reading.{Reads, place_of}
+use Rattle.yaml_chars.specs.Reading.{Reads, position_of}
 use Rattle.model_lexers.specs.Machine.{take_while}
 use Rattle.yaml_lexers.proofs.anchor.read_name.Given as goal
 
 abbrev pub invariant-name : goal.invariant-name
-invariant-name g l = Reads l.fn.window l.window (λ a b. take_while is_anchor a (place_of l.fn.window) l.fn.name ≡ take_while is_anchor b (place_of l.window) l.name)
+invariant-name g l = Reads l.fn.window l.window (λ a b. take_while is_anchor a (position_of l.fn.window) l.fn.name ≡ take_while is_anchor b (position_of l.window) l.name)
 
 abbrev pub decreases-name : goal.decreases-name
 decreases-name g l = l.window.left

@@ -1,12 +1,12 @@
 use Rattle.std.proofs.Common.{◌≡◌}
-use Rattle.yaml_chars.specs.Reading.{Reads, place_of}
+use Rattle.yaml_chars.specs.Reading.{Reads, position_of}
 use Rattle.model_lexers.specs.Block.{first_indent}
 use Rattle.yaml_lexers.specs.ShownBlock.{lines}
 use Rattle.yaml_lexers.proofs.block.read_first_indent.Given as goal
 
 abbrev pub invariant-indent : goal.invariant-indent
 invariant-indent g l = record {
-  reads : Reads l.fn.window l.window (λ a b. first_indent a (record { most = 0; spaces = 0; place = place_of l.fn.window; breaks = (lines l.fn.block).breaks }) ≡ first_indent b (record { most = l.most; spaces = l.spaces; place = place_of l.window; breaks = (lines l.block).breaks }));
+  reads : Reads l.fn.window l.window (λ a b. first_indent a (record { most = 0; spaces = 0; position = position_of l.fn.window; breaks = (lines l.fn.block).breaks }) ≡ first_indent b (record { most = l.most; spaces = l.spaces; position = position_of l.window; breaks = (lines l.block).breaks }));
   same : lines l.block ≡ record (lines l.fn.block) { breaks = (lines l.block).breaks };
 }
 

@@ -1,11 +1,11 @@
 use Rattle.std.proofs.Common.{◌≡◌}
 use Rattle.yaml_chars.specs.Class.{is_alpha}
-use Rattle.yaml_chars.specs.Reading.{Reads, place_of}
+use Rattle.yaml_chars.specs.Reading.{Reads, position_of}
 use Rattle.model_lexers.specs.Machine.{skip_while}
 use Rattle.yaml_lexers.proofs.directive.skip_word.Given as goal
 
 abbrev pub invariant-word : goal.invariant-word
-invariant-word g l = Reads l.fn.window l.window (λ a b. skip_while is_alpha a (place_of l.fn.window) ≡ skip_while is_alpha b (place_of l.window))
+invariant-word g l = Reads l.fn.window l.window (λ a b. skip_while is_alpha a (position_of l.fn.window) ≡ skip_while is_alpha b (position_of l.window))
 
 abbrev pub decreases-word : goal.decreases-word
 decreases-word g l = l.window.left

@@ -1,5 +1,5 @@
 use Rattle.std.proofs.Common.{◌≡◌, ◌≤◌, ◌<◌, ◌-◌, ◌^◌, Bool}
-use Rattle.yaml_chars.specs.Reading.{Reads, place_of}
+use Rattle.yaml_chars.specs.Reading.{Reads, position_of}
 use Rattle.model_lexers.specs.declared.context.Context.{Context}
 use Rattle.model_lexers.specs.Folding.{Folded}
 use Rattle.model_lexers.specs.Quoted.{digits_from}
@@ -9,7 +9,7 @@ use Rattle.yaml_lexers.proofs.escape.read_code.Given as goal
 abbrev pub invariant-digits : goal.invariant-digits
 invariant-digits g l = record {
   reads : Reads l.fn.window l.window (λ a b. (single : Bool) (context : Context) (t : Folded) →
-      digits_from single context l.fn.start (count_of l.fn.digits) 0 a (place_of l.fn.window) t ≡ digits_from single context l.fn.start l.left l.code b (place_of l.window) t);
+      digits_from single context l.fn.start (count_of l.fn.digits) 0 a (position_of l.fn.window) t ≡ digits_from single context l.fn.start l.left l.code b (position_of l.window) t);
   few : l.left ≤ 8;
   fits : l.code < 16 ^ (8 - l.left);
 }

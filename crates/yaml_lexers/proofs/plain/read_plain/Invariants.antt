@@ -1,12 +1,12 @@
 use Rattle.std.proofs.Common.{◌≡◌, ◌<◌}
-use Rattle.yaml_chars.specs.Reading.{Reads, HasChar, place_of}
+use Rattle.yaml_chars.specs.Reading.{Reads, HasChar, position_of}
 use Rattle.model_lexers.specs.Plain.{plain, plain_from, first}
 use Rattle.yaml_lexers.specs.Shown.{at}
 use Rattle.yaml_lexers.proofs.plain.read_plain.Given as goal
 
 abbrev pub invariant-lines : goal.invariant-lines
 invariant-lines g l = record {
-  reads : Reads l.fn.window l.window (λ a b. plain l.fn.context a (place_of l.fn.window) ≡ plain_from l.fn.context l.start b (at first l.window l.scalar));
+  reads : Reads l.fn.window l.window (λ a b. plain l.fn.context a (position_of l.fn.window) ≡ plain_from l.fn.context l.start b (at first l.window l.scalar));
   has : HasChar l.window;
   ahead : 0 < l.window.ahead;
 }

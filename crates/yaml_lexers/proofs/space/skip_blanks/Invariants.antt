@@ -1,10 +1,10 @@
 use Rattle.std.proofs.Common.{◌≡◌}
-use Rattle.yaml_chars.specs.Reading.{Reads, place_of}
+use Rattle.yaml_chars.specs.Reading.{Reads, position_of}
 use Rattle.model_lexers.specs.Space.{blanks}
 use Rattle.yaml_lexers.proofs.space.skip_blanks.Given as goal
 
 abbrev pub invariant-blanks : goal.invariant-blanks
-invariant-blanks g l = Reads l.fn.window l.window (λ a b. blanks a (place_of l.fn.window) ≡ blanks b (place_of l.window))
+invariant-blanks g l = Reads l.fn.window l.window (λ a b. blanks a (position_of l.fn.window) ≡ blanks b (position_of l.window))
 
 abbrev pub decreases-blanks : goal.decreases-blanks
 decreases-blanks g l = l.window.left

@@ -1,11 +1,11 @@
 use Rattle.std.proofs.Common.{◌≡◌}
 use Rattle.yaml_chars.specs.Class.{is_tag}
-use Rattle.yaml_chars.specs.Reading.{Reads, place_of}
+use Rattle.yaml_chars.specs.Reading.{Reads, position_of}
 use Rattle.model_lexers.specs.Uri.{uri}
 use Rattle.yaml_lexers.proofs.uri.read_suffix.Given as goal
 
 abbrev pub invariant-suffix : goal.invariant-suffix
-invariant-suffix g l = Reads l.fn.window l.window (λ a b. uri is_tag l.fn.start a (place_of l.fn.window) l.fn.text ≡ uri is_tag l.fn.start b (place_of l.window) l.text)
+invariant-suffix g l = Reads l.fn.window l.window (λ a b. uri is_tag l.fn.start a (position_of l.fn.window) l.fn.text ≡ uri is_tag l.fn.start b (position_of l.window) l.text)
 
 abbrev pub decreases-suffix : goal.decreases-suffix
 decreases-suffix g l = l.window.left

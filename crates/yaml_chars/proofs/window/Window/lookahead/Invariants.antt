@@ -1,9 +1,9 @@
 use Rattle.std.proofs.Common.{◌≡◌, ◌-◌}
-use Rattle.yaml_chars.specs.Reading.{Reads, SamePlace}
+use Rattle.yaml_chars.specs.Reading.{Reads, SamePosition}
 use Rattle.yaml_chars.proofs.window.Window.lookahead.Given as goal
 
 abbrev pub invariant-loop-self : goal.invariant-loop-self
-invariant-loop-self g l = Reads l.fn.self l.self (λ a b. b ≡ a) × SamePlace l.fn.self l.self
+invariant-loop-self g l = Reads l.fn.self l.self (λ a b. b ≡ a) × SamePosition l.fn.self l.self
 
 abbrev pub decreases-loop-self : goal.decreases-loop-self
 decreases-loop-self g l = l.n - l.self.ahead

@@ -70,7 +70,7 @@ use Rattle.yaml_parser.proofs.parser.Parser.look.Met as look-thm
 use Rattle.yaml_parser.specs.contracts.parser.Parser.shown as shown
 use Rattle.yaml_parser.proofs.parser.Parser.shown.Met as shown-thm
 
--- an event and its place
+-- an event and its position
 abbrev Pair : RattleType
 Pair = Tuple (event_row ∷ marker_row ∷ [])
 

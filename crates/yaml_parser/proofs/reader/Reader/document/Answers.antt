@@ -1,5 +1,5 @@
 use Rattle.std.proofs.Common.{◌≡◌, refl, true, false}
-use Rattle.model_parser.specs.declared.place.NodeContext.TheVariants as place
+use Rattle.model_parser.specs.declared.context.NodeContext.TheVariants as context
 use Rattle.model_parser.specs.Kinds.{begins_node, ends_document, is_directive}
 use Rattle.model_parser.proofs.First as first
 use Rattle.model_parser.proofs.Document as turn
@@ -13,7 +13,7 @@ returns-in_err-next-clause-answers g c = λ names given h. answers_err c.skip_do
 pub returns-in-StreamEnd-clause-answers : goal.returns-in-StreamEnd-clause-answers
 returns-in-StreamEnd-clause-answers g c = λ names given h.
     c.end_or_document.ensures.answers names given (stays c.in_ok-next.ensures.peeked.0 stay
-    (λ t e. turn.documents_explicit _ t (as_kind ends_document (either (λ k. ends_document k ≡ true) refl refl c.in-StreamEnd.is) e) (not_as c.in_ok-next.ensures.peeked.1 e) (as_kind (begins_node place.Block) (either (λ k. begins_node place.Block k ≡ false) refl refl c.in-StreamEnd.is) e))
+    (λ t e. turn.documents_explicit _ t (as_kind ends_document (either (λ k. ends_document k ≡ true) refl refl c.in-StreamEnd.is) e) (not_as c.in_ok-next.ensures.peeked.1 e) (as_kind (begins_node context.Block) (either (λ k. begins_node context.Block k ≡ false) refl refl c.in-StreamEnd.is) e))
     refl tt refl (c.in_ok-next.ensures.at names given h))
 
 pub returns-in-VersionDirective-clause-answers : goal.returns-in-VersionDirective-clause-answers

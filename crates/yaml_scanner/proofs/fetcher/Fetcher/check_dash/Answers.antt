@@ -2,7 +2,7 @@ use Rattle.std.proofs.Common.{◌∙◌}
 use Rattle.yaml_chars.proofs.ReadingLemmas.{Reads-see}
 use Rattle.model_scanner.specs.Block.{check_dash}
 use Rattle.yaml_scanner.specs.Shape.{held}
-use Rattle.yaml_scanner.proofs.DoesLemmas.{same_place}
+use Rattle.yaml_scanner.proofs.DoesLemmas.{same_position}
 use Rattle.yaml_scanner.proofs.BlockLemmas.{dash_apart, dash_after, looked, after_look, before_look}
 use Rattle.yaml_scanner.proofs.fetcher.Fetcher.check_dash.Goals as goal
 
@@ -10,12 +10,12 @@ pub returns-then-is_tab_before_dash-clause-fails : goal.returns-then-is_tab_befo
 returns-then-is_tab_before_dash-clause-fails g c = record {
   runs = Reads-see _ _ c.lookahead.ensures.reads c.is_tab_before_dash.ensures (λ a b i s n.
       before_look (check_dash c.args.found) a b (held c.args.self.now) _ i
-      (dash_after c.args.found b _ (held c.args.self.now) c.mark.result s c.if-is_tab_before_dash.true (c.mark.ensures ∙ same_place _ _ c.lookahead.ensures.place)));
+      (dash_after c.args.found b _ (held c.args.self.now) c.mark.result s c.if-is_tab_before_dash.true (c.mark.ensures ∙ same_position _ _ c.lookahead.ensures.position)));
 }
 
 pub returns-clause-does : goal.returns-clause-does
 returns-clause-does g c = record {
   runs = Reads-see _ _ c.lookahead.ensures.reads c.is_tab_before_dash.ensures (λ a b i s.
-      after_look (check_dash c.args.found) a b (held c.args.self.now) _ i (looked c.args.self.now _ c.lookahead.ensures.place)
+      after_look (check_dash c.args.found) a b (held c.args.self.now) _ i (looked c.args.self.now _ c.lookahead.ensures.position)
       (dash_apart c.args.found b _ (held c.args.self.now) s c.if-is_tab_before_dash.false));
 }

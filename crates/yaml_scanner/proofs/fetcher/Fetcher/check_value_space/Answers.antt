@@ -10,7 +10,7 @@ use Rattle.yaml_scanner.proofs.fetcher.Fetcher.check_value_space.Goals as goal
 pub returns-then-look_ch-ne9-clause-does : goal.returns-then-look_ch-ne9-clause-does
 returns-then-look_ch-ne9-clause-does g c = record {
   runs = Reads-map _ _ c.look_ch.ensures.reads (λ a b p.
-      after_look check_value_space a b (held c.args.self.now) _ p.0 (looked c.args.self.now _ c.look_ch.ensures.place)
+      after_look check_value_space a b (held c.args.self.now) _ p.0 (looked c.args.self.now _ c.look_ch.ensures.position)
       (value_spaced b _ (held c.args.self.now) p.1 c.if-look_ch-ne9.true));
 }
 
@@ -19,7 +19,7 @@ returns-in_err-pass_tab-clause-fails g c = exits _ c.from_residual.result _ c.fr
   runs = Reads-then _ _ _ c.look_ch.ensures.reads c.in_err-pass_tab.ensures.fails.runs (λ a b d p q n.
       before_look check_value_space a b (held c.args.self.now) _ p.0
       (value_after_tab b _ (held c.args.self.now) p.1 c.if-look_ch-ne9.false
-      ∙ ap (λ u. pass_tab (record { rest = b; held = u })) (sym (looked c.args.self.now _ c.look_ch.ensures.place)) ∙ q n));
+      ∙ ap (λ u. pass_tab (record { rest = b; held = u })) (sym (looked c.args.self.now _ c.look_ch.ensures.position)) ∙ q n));
 })
 
 pub returns-clause-does : goal.returns-clause-does
@@ -27,5 +27,5 @@ returns-clause-does g c = record {
   runs = Reads-then _ _ _ c.look_ch.ensures.reads c.in_ok-pass_tab.ensures.does.runs (λ a b d p q.
       before_look check_value_space a b (held c.args.self.now) _ p.0
       (value_after_tab b _ (held c.args.self.now) p.1 c.if-look_ch-ne9.false
-      ∙ ap (λ u. pass_tab (record { rest = b; held = u })) (sym (looked c.args.self.now _ c.look_ch.ensures.place)) ∙ q));
+      ∙ ap (λ u. pass_tab (record { rest = b; held = u })) (sym (looked c.args.self.now _ c.look_ch.ensures.position)) ∙ q));
 }

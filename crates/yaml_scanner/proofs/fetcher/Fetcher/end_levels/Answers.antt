@@ -1,6 +1,6 @@
 use Rattle.std.proofs.Common.{◌≡◌, refl, ap, ◌∙◌, ◌++◌, ◌∷◌, [], rules}
 use Rattle.yaml_scanner.specs.Shape.{held}
-use Rattle.yaml_chars.specs.Reading.{place_of}
+use Rattle.yaml_chars.specs.Reading.{position_of}
 use Rattle.defs_token.specs.Token.{Tok}
 use Rattle.model_scanner.specs.State.{token}
 use Rattle.model_scanner.specs.Indents.{Levels, with_levels, level}
@@ -29,7 +29,7 @@ levels-preserved g c =
 
 pub levels-preserved-in-Continue-1 : goal.levels-preserved-in-Continue-1
 levels-preserved-in-Continue-1 g c =
-    let here : c.mark-mark.result ≡ place_of c.args.self.now.window = c.mark-mark.ensures ∙ ap place_of c.levels.invariant.window in
+    let here : c.mark-mark.result ≡ position_of c.args.self.now.window = c.mark-mark.ensures ∙ ap position_of c.levels.invariant.window in
     let u : Levels = record { indent = c.pop.new.self.indent; indents = c.pop.new.self.indents; tokens = c.levels.self.tokens.all ++ token c.mark-mark.result Tok.block_end ∷ [] } in
     rw c.in_ok-push.ensures.ok record {
       state = ap (λ h. with_levels h u) c.levels.invariant.state;

@@ -12,8 +12,8 @@ returns-in_err-begin_pair-clause-fault g c = exits _ c.from_residual-in_err-begi
     c.in_ok-put_token.ensures.held (ap (λ m. keyed_by m c.args.key) c.in_ok-put_token.ensures.given) (c.in_err-begin_pair.ensures.fault n))
 
 pub returns-clause-held : goal.returns-clause-held
-returns-clause-held g c = key_inserted (keyed_by c.args.self.now.tokens.given c.args.key) (keyed_by c.put_token.new.self.tokens.given c.args.key) c.args.mark c.args.opens_pair (c.begin_pair.new.self.tokens.given + c.args.key.place) c.col-col.result
+returns-clause-held g c = key_inserted (keyed_by c.args.self.now.tokens.given c.args.key) (keyed_by c.put_token.new.self.tokens.given c.args.key) c.args.mark c.args.opens_pair (c.begin_pair.new.self.tokens.given + c.args.key.position) c.col-col.result
     (held c.args.self.now) (held c.put_token.new.self) (held c.begin_pair.new.self) (held c.roll_indent.new.self) (held c.roll_one_col_indent.new.self) _
     c.in_ok-put_token.ensures.held (ap (λ m. keyed_by m c.args.key) c.in_ok-put_token.ensures.given) c.in_ok-begin_pair.ensures.held
-    (ap (λ m. m + c.args.key.place) (c.in_ok-begin_pair.ensures.given ∙ c.in_ok-put_token.ensures.given)) c.col-col.ensures.value c.in_ok-roll_indent.ensures.held c.in_ok-roll_one_col_indent.ensures.held
+    (ap (λ m. m + c.args.key.position) (c.in_ok-begin_pair.ensures.given ∙ c.in_ok-put_token.ensures.given)) c.col-col.ensures.value c.in_ok-roll_indent.ensures.held c.in_ok-roll_one_col_indent.ensures.held
     (ap (seen c.roll_one_col_indent.new.self.tokens.given) c.set_top.ensures ∙ with_top_seen c.roll_one_col_indent.new.self.tokens.given None c.roll_one_col_indent.new.self.keys)

@@ -1,5 +1,5 @@
 use Rattle.std.proofs.Common.{◌∙◌, ap, ◌∷◌, false}
-use Rattle.yaml_chars.specs.Reading.{place_of}
+use Rattle.yaml_chars.specs.Reading.{position_of}
 use Rattle.yaml_chars.proofs.ReadingLemmas.{Reads-then}
 use Rattle.yaml_scanner.specs.Shape.{held}
 use Rattle.yaml_scanner.proofs.SpaceLemmas.{gap_hash, gap_comment}
@@ -7,6 +7,6 @@ use Rattle.yaml_scanner.proofs.fetcher.Fetcher.pass_comment.Goals as goal
 
 pub returns-clause-gap : goal.returns-clause-gap
 returns-clause-gap g c = Reads-then _ _ _ c.skip.ensures.reads c.skip_comment.ensures.reads (λ a b d p q i.
-    gap_hash a b (held c.args.self.now) (record (held c.args.self.now) { place = place_of c.skip.new.self; leading = false }) (p ∙ ap (λ x. x ∷ b) i)
-    (ap (λ w. record (held c.args.self.now) { place = place_of w; leading = false }) c.skip.ensures.state)
-    ∙ gap_comment b d (record (held c.args.self.now) { place = place_of c.skip.new.self; leading = false }) _ q)
+    gap_hash a b (held c.args.self.now) (record (held c.args.self.now) { position = position_of c.skip.new.self; leading = false }) (p ∙ ap (λ x. x ∷ b) i)
+    (ap (λ w. record (held c.args.self.now) { position = position_of w; leading = false }) c.skip.ensures.state)
+    ∙ gap_comment b d (record (held c.args.self.now) { position = position_of c.skip.new.self; leading = false }) _ q)

@@ -9,7 +9,7 @@ use Rattle.yaml_scanner.proofs.fetcher.Fetcher.roll_entry.Goals as goal
 pub returns-then-not-begins_apart-clause-does : goal.returns-then-not-begins_apart-clause-does
 returns-then-not-begins_apart-clause-does g c = record {
   runs = Reads-map _ _ c.look_ch-c.ensures.reads (λ a b p.
-      after_look entry_level a b (held c.args.self.now) _ p.0 (looked c.args.self.now _ c.look_ch-c.ensures.place)
+      after_look entry_level a b (held c.args.self.now) _ p.0 (looked c.args.self.now _ c.look_ch-c.ensures.position)
       (entry_here b _ _ (held c.args.self.now) p.1 c.begins_apart.ensures c.if-not-begins_apart.true));
 }
 
@@ -18,5 +18,5 @@ returns-clause-does g c = record {
   runs = Reads-along _ _ _ _ refl c.in_ok-roll_one_col_indent.ensures.window (Reads-map _ _ c.look_ch-c.ensures.reads (λ a b p.
       before_look entry_level a b (held c.args.self.now) _ p.0
       (entry_apart b _ _ (held c.args.self.now) (held c.roll_one_col_indent.new.self) p.1 c.begins_apart.ensures c.if-not-begins_apart.false
-      (c.in_ok-roll_one_col_indent.ensures.held ∙ ap roll_one_col_indent (looked c.args.self.now _ c.look_ch-c.ensures.place)))));
+      (c.in_ok-roll_one_col_indent.ensures.held ∙ ap roll_one_col_indent (looked c.args.self.now _ c.look_ch-c.ensures.position)))));
 }

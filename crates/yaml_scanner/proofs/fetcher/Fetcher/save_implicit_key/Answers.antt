@@ -6,7 +6,7 @@ use Rattle.yaml_scanner.proofs.HeldLemmas.{saved, not_saved}
 use Rattle.yaml_scanner.proofs.fetcher.Fetcher.save_implicit_key.Goals as goal
 
 pub returns-then-self-clause-held : goal.returns-then-self-clause-held
-returns-then-self-clause-held g c = saved (held c.args.self.now) (record { required = c.must_be_key.result; number = c.args.self.now.tokens.given + c.len.result; place = c.mark.result }) _ c.if-self.true
+returns-then-self-clause-held g c = saved (held c.args.self.now) (record { required = c.must_be_key.result; number = c.args.self.now.tokens.given + c.len.result; position = c.mark.result }) _ c.if-self.true
     (rw (c.must_be_key.ensures, c.len.ensures.value, c.mark.ensures) refl)
     (ap (seen c.args.self.now.tokens.given) c.set_top.ensures ∙ with_top_seen c.args.self.now.tokens.given _ c.args.self.now.keys)
 

@@ -1,4 +1,4 @@
--- Places after texts.
+-- Positions after texts.
 use Rattle.std.proofs.Common.{◌≡◌, ℕ, suc, ◌+◌, List, [], ◌∷◌, ◌++◌, Bool, true, false, if◌then◌else◌, length, refl, arith}
 use Rattle.defs_text.specs.Position.{Position, position_past, position_after}
 use Rattle.defs_text.specs.Breaks.{ends_line}

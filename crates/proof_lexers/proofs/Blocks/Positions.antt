@@ -1,4 +1,4 @@
--- The definitions' places are the model's.
+-- The definitions' positions are the model's.
 use Rattle.std.proofs.Common.{◌≡◌, ◌≤◌, ℕ, suc, ◌+◌, List, [], ◌∷◌, ◌++◌, true, false, not, ◌==◌, nat_lt, length, slice_index, None, refl, ap, sym, ◌∙◌, append-nil, append_assoc, arith}
 use Rattle.std.proofs.lemmas.Bool.{and_parts, eqb-true, lt-ltb}
 use Rattle.defs_text.specs.Position.{Position, position_past, position_after}
@@ -48,7 +48,7 @@ both_past p r =
     let col : suc p.col ≡ p.col + 1 = omega arith in
     rw (index, col) refl
 
--- ---- the place after a piece
+-- ---- the position after a piece
 
 pub after_chars : (w y next : List ℕ) (p : Position) → is_in_line w ≡ true → position_after p (w ++ y) next ≡ position_after (along w p) y next
 after_chars [] y next p h = refl
@@ -76,7 +76,7 @@ after_spell (l ∷ ls) y next p are =
     let fits : Fits l.by (spell ls y ++ next) = rw (spell_more ls y next) (are.1) in
     after_chars l.text (put l.by (spell ls y)) next p are.0 ∙ after_put l.by (spell ls y) next (along l.text p) fits ∙ after_spell ls y next (after_line l p) are.2
 
--- ---- the place of the first content
+-- ---- the position of the first content
 
 pub first_space : (column c : ℕ) (r : List ℕ) (p : Position) → (c == 32) ≡ true → nat_lt p.col column ≡ true → first_content column false p (c ∷ r) ≡ first_content column false (past p) r
 unfolding classes.is_break
