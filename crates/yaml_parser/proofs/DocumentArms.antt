@@ -11,7 +11,7 @@ use Rattle.yaml_tokens.specs.declared.problem.Fault.TheVariants as fault
 use Rattle.yaml_tokens.specs.declared.problem.Problem.{Problem}
 use Rattle.yaml_tokens.specs.declared.problem.Problem.TheVariants.{SecondVersion, RepeatedHandle, UndeclaredHandle}
 use Rattle.yaml_tokens.specs.Shown.{tok_of}
-use Rattle.yaml_scanner.specs.Tokens.{is_end}
+use Rattle.yaml_scanner_state.specs.Tokens.{is_end}
 use Rattle.defs_event.specs.Event.{Ev}
 use Rattle.defs_event.specs.Raw as raw
 use Rattle.defs_event.specs.Raw.{Raw, Directive}

@@ -7,7 +7,7 @@ use Rattle.defs_token.specs.Token.{Tok, Style}
 use Rattle.yaml_tokens.specs.declared.token.Token.{Token}
 use Rattle.yaml_tokens.specs.Shown.{shown, all_shown, tok_of}
 use Rattle.yaml_scanner.specs.Scanned.{scanned}
-use Rattle.yaml_scanner.specs.Tokens.{is_end}
+use Rattle.yaml_scanner_state.specs.Tokens.{is_end}
 use Rattle.defs_event.specs.Event.{Ev}
 use Rattle.defs_event.specs.Raw.{Raw}
 use Rattle.defs_event.specs.Names.{Names, no_names, named, both, names_after, names_after_all, resolved_event}

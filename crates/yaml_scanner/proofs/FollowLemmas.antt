@@ -17,16 +17,16 @@ use Rattle.model_scanner.proofs.Given.{GivenStands, KeysFrom, reached}
 use Rattle.model_scanner.proofs.Ends.{end_is_last}
 use Rattle.yaml_scanner.specs.declared.fetcher.Fetcher.{Fetcher}
 use Rattle.yaml_scanner.specs.declared.fetcher.KeptFault.{KeptFault}
-use Rattle.yaml_scanner.specs.declared.keys.ImplicitKey.{ImplicitKey}
-use Rattle.yaml_scanner.specs.ImplicitKeys.{seen, is_front, lowered}
+use Rattle.yaml_scanner_state.specs.declared.keys.ImplicitKey.{ImplicitKey}
+use Rattle.yaml_scanner_state.specs.ImplicitKeys.{seen, is_front, lowered}
 use Rattle.yaml_scanner.specs.Shape.{held, state, Does, Fails}
-use Rattle.yaml_scanner.specs.Tokens.{Tokens, handed, is_end, has_end}
+use Rattle.yaml_scanner_state.specs.Tokens.{Tokens, handed, is_end, has_end}
 use Rattle.yaml_scanner.specs.Work.{Fetches}
 use Rattle.yaml_scanner.specs.Follows.{BeginsWith, IsReached, FollowsIn, Follows}
 use Rattle.yaml_scanner.specs.Scanned.{inside, kept_fault, IsRefusal, Scans}
-use Rattle.yaml_scanner.proofs.GivenLemmas.{lowered_seen}
+use Rattle.yaml_scanner_state.proofs.GivenLemmas.{lowered_seen}
 use Rattle.yaml_scanner.proofs.WhereLemmas.{in_text, at_end, not_started, has_started}
-use Rattle.yaml_scanner.proofs.QueueLemmas.{has_end_append}
+use Rattle.yaml_scanner_state.proofs.QueueLemmas.{has_end_append}
 use Rattle.yaml_chars.specs.Reading.{HasNoNul}
 use Rattle.defs_text.specs.Classes.{is_nul}
 use Rattle.defs_token.specs.Cut.{IsCut, IsCutOfBeginning, tokens_of, end_token}

@@ -11,7 +11,7 @@ use Rattle.model_scanner.specs.declared.level.Indent.{Indent}
 use Rattle.model_scanner.specs.State.{Key, Held, in_flow, token, with_top}
 use Rattle.model_scanner.specs.Keys.{must_be_key, save_implicit_key, remove_implicit_key, stale, drop_stale, is_required, top_key}
 use Rattle.model_scanner.specs.Indents.{level, placed, drop_open, drop_open_level, deepen, roll_indent, in_block, roll_one_col_indent, Levels, with_levels, end_level, unrolled, unroll_indent, without_open, unroll_non_block_indents}
-use Rattle.yaml_scanner.specs.Levels.{Columns, ends_open}
+use Rattle.yaml_scanner_state.specs.Levels.{Columns, ends_open}
 
 not_less : (m n : ℕ) → n ≤ m → nat_lt m n ≡ false
 not_less m n h = grind (arith, nat_tests)

@@ -5,11 +5,6 @@ pub mod FetchLemmas
 pub mod FlowLemmas
 pub mod WhereLemmas
 pub mod FollowLemmas
-pub mod GivenLemmas
 pub mod HeldLemmas
-pub mod KeyLemmas
-pub mod LevelLemmas
 pub mod NodeLemmas
-pub mod QueueLemmas
 pub mod SpaceLemmas
-pub mod StackLemmas

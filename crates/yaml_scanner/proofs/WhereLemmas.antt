@@ -11,7 +11,7 @@ use Rattle.proof_cut.specs.Positions.{IsPositionIn}
 use Rattle.proof_cut.proofs.Reached.{run_is_where}
 use Rattle.yaml_scanner.specs.declared.fetcher.Fetcher.{Fetcher}
 use Rattle.yaml_scanner.specs.Shape.{state}
-use Rattle.yaml_scanner.specs.Tokens.{handed, waiting}
+use Rattle.yaml_scanner_state.specs.Tokens.{handed, waiting}
 use Rattle.yaml_scanner.specs.Follows.{FollowsIn}
 
 none_of : (n : ℕ) (xs : List Token) → xs ≡ [] → (take n xs ≡ []) × (length xs - n ≡ 0)

@@ -7,7 +7,7 @@ use Rattle.yaml_tokens.specs.declared.problem.Fault.TheVariants.{OutOfMemory}
 use Rattle.model_scanner.specs.State.{ScannerState}
 use Rattle.model_scanner.specs.Run.{Reaches, HasTokens, IsRefused, start}
 use Rattle.yaml_scanner.specs.declared.fetcher.Fetcher.{Fetcher}
-use Rattle.yaml_scanner.specs.Tokens.{handed, has_end}
+use Rattle.yaml_scanner_state.specs.Tokens.{handed, has_end}
 use Rattle.yaml_scanner.specs.Shape.{state}
 
 -- a list begins with another

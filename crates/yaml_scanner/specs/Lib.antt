@@ -1,12 +1,7 @@
 pub mod Blocks
-pub mod Collections
 pub mod Follows
-pub mod Levels
 pub mod Next
 pub mod Scanned
 pub mod Shape
-pub mod ImplicitKeys
 pub mod Steps
-pub mod Styles
-pub mod Tokens
 pub mod Work

@@ -14,7 +14,7 @@ use Rattle.proof_cut.specs.Positions.{IsPositionIn}
 use Rattle.yaml_scanner.specs.declared.fetcher.Fetcher.{Fetcher}
 use Rattle.yaml_scanner.specs.declared.fetcher.KeptFault.{KeptFault}
 use Rattle.yaml_scanner.specs.Follows.{BeginsWith, IsReached}
-use Rattle.yaml_scanner.specs.Tokens.{handed, waiting, is_end}
+use Rattle.yaml_scanner_state.specs.Tokens.{handed, waiting, is_end}
 use Rattle.yaml_scanner.specs.Work.{work}
 
 pub record Scanned : Type 0 where

@@ -5,7 +5,7 @@ use Rattle.yaml_tokens.specs.declared.problem.Fault.{Fault}
 use Rattle.yaml_tokens.specs.declared.problem.Fault.TheVariants.{OutOfMemory}
 use Rattle.model_scanner.specs.State.{Held, ScannerState}
 use Rattle.yaml_scanner.specs.declared.fetcher.Fetcher.{Fetcher}
-use Rattle.yaml_scanner.specs.ImplicitKeys.{seen}
+use Rattle.yaml_scanner_state.specs.ImplicitKeys.{seen}
 
 abbrev pub held : {T : Type 0} → Fetcher T → Held
 held s = record {

@@ -9,16 +9,15 @@ ghost use Rattle.model_scanner.specs.Space.{skip_spaces};
 ghost use Rattle.model_scanner.specs.Block.{at_margin, last_property, check_block_entry, check_dash, fetch_block_entry, keyed, begin_key, check_key_space, fetch_key, check_after_tab, check_value_space, opens_pair, paired, begin_pair, insert_key, begin_keyless_pair, begin_keyless_mapping, begin_keyless_value, value_of, fetch_value};
 ghost use Rattle.yaml_scanner.specs.Blocks.{pass_dash, entry_level, begin_entry, pass_key, pass_tab};
 ghost use Rattle.yaml_scanner.specs.Shape.{held, Does, Fails};
-ghost use Rattle.yaml_scanner.specs.ImplicitKeys.{keyed_by};
+ghost use Rattle.yaml_scanner_state.specs.ImplicitKeys.{keyed_by};
 ghost use Rattle.yaml_scanner.specs.Work.{Moves, Fetches};
 
-use crate::collection::Collection;
 use crate::fetcher::Fetcher;
-use crate::keys::ImplicitKey;
 use model_scanner::FlowLevel;
 use yaml_chars::Marker;
 use yaml_chars::class::{is_alpha, is_blank_or_breakz, is_break, is_flow};
 use yaml_lexers::{SkipTabs, Whitespace};
+use yaml_scanner_state::{Collection, ImplicitKey};
 use yaml_tokens::{Fault, Problem, Token, TokenType};
 
 /// Whether a character after a `-` is a break or a flow indicator.

@@ -9,18 +9,17 @@ ghost use Rattle.model_scanner.specs.Document.{begin_stream, fetch_stream_end, f
 ghost use Rattle.model_scanner.specs.Fetch.{comes_marker, is_value, token_by, fetch_token, fetch_indented, fetch_first_column, fetch_content, fetch_here, fetch_next, fetch};
 ghost use Rattle.yaml_scanner.specs.Shape.{held, state, Does, Fails};
 ghost use Rattle.yaml_scanner.specs.Steps.{end_quoted, fetch_bar, scalar_by};
-ghost use Rattle.yaml_scanner.specs.Styles.{is_alias, are_single, is_literal_style};
+ghost use Rattle.yaml_scanner_state.specs.Styles.{is_alias, are_single, is_literal_style};
 ghost use Rattle.yaml_scanner.specs.Work.{Moves, Fetches, HasChars, work};
 
-use crate::collection::Collection;
 use crate::fetcher::Fetcher;
-use crate::style::{BlockStyle, NameKind, Quotes};
 use model_scanner::{Class, class_of};
 use yaml_chars::class::{is_blank_or_breakz, is_breakz, is_flow};
 use yaml_lexers::{
     Context, SkipTabs, read_anchor_name, read_block_scalar, read_directive, read_plain,
     read_quoted, read_tag,
 };
+use yaml_scanner_state::{BlockStyle, Collection, NameKind, Quotes};
 use yaml_tokens::{Fault, Problem, TEncoding, TScalarStyle, TokenType};
 
 /// What may stand after a quoted scalar.

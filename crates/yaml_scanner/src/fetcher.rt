@@ -1,13 +1,10 @@
 ghost use Rattle.std.specs.Prelude.{◌≡◌, ◌^◌, ◌<◌, [], None, false};
 ghost use Rattle.std.specs.Iterator.{IsFinite, size};
 
-use crate::keys::ImplicitKeys;
-use crate::levels::Levels;
-use crate::queue::Queue;
-use crate::stack::Stack;
 use model_scanner::FlowLevel;
 use std::alloc::Global;
 use yaml_chars::{Marker, Window};
+use yaml_scanner_state::{ImplicitKeys, Levels, Queue, Stack};
 use yaml_tokens::Fault;
 
 /// A fault that is kept, and the position where the scanner stood.
@@ -39,7 +36,7 @@ pub struct Fetcher<T: Iterator<Item = char>> {
 impl<T: Iterator<Item = char>> Fetcher<T> {
     ghost use Rattle.model_scanner.specs.Run.{nothing_held};
     ghost use Rattle.yaml_scanner.specs.Shape.{held};
-    ghost use Rattle.yaml_scanner.specs.Tokens.{handed};
+    ghost use Rattle.yaml_scanner_state.specs.Tokens.{handed};
     ghost use Rattle.yaml_scanner.specs.Follows.{Follows};
 
     /// A fetcher of the characters of an iterator, up to its end or to a NUL.

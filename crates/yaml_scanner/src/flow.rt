@@ -5,15 +5,15 @@ ghost use Rattle.defs_token.specs.Token.{Tok};
 ghost use Rattle.yaml_tokens.specs.Shown.{tok_of};
 ghost use Rattle.model_scanner.specs.State.{push, with_top, top};
 ghost use Rattle.model_scanner.specs.Flow.{increase_flow_level, begin_flow, pass_indicator, end_flow_pair, decrease_flow_level, adjacent_in_flow, end_flow, end_entry, fetch_flow_collection_start, fetch_flow_collection_end, fetch_flow_entry};
-ghost use Rattle.yaml_scanner.specs.Collections.{level_of, flow_start, flow_end};
+ghost use Rattle.yaml_scanner_state.specs.Collections.{level_of, flow_start, flow_end};
 ghost use Rattle.yaml_scanner.specs.Shape.{held, Does, Fails};
 ghost use Rattle.yaml_scanner.specs.Work.{Moves, Fetches};
 
-use crate::collection::Collection;
 use crate::fetcher::Fetcher;
 use model_scanner::FlowLevel;
 use yaml_chars::Marker;
 use yaml_lexers::SkipTabs;
+use yaml_scanner_state::Collection;
 use yaml_tokens::{Fault, Problem, Token, TokenType};
 
 // How many levels of flow collections there may be.

@@ -3,16 +3,15 @@ ghost use Rattle.model_scanner.specs.State.{Held, in_flow, token};
 ghost use Rattle.model_scanner.specs.Keys.{must_be_key, save_implicit_key, remove_implicit_key, stale, top_needs_block_end};
 ghost use Rattle.model_scanner.specs.Indents.{roll_indent, drop_open_level, roll_one_col_indent, unroll_indent, unroll_non_block_indents, in_block, deepen, placed};
 ghost use Rattle.yaml_tokens.specs.Shown.{tok_of};
-ghost use Rattle.yaml_scanner.specs.Collections.{block_start};
-ghost use Rattle.yaml_scanner.specs.Levels.{ends_open};
+ghost use Rattle.yaml_scanner_state.specs.Collections.{block_start};
+ghost use Rattle.yaml_scanner_state.specs.Levels.{ends_open};
 ghost use Rattle.yaml_scanner.specs.Shape.{held};
-ghost use Rattle.yaml_scanner.specs.ImplicitKeys.{number_of};
+ghost use Rattle.yaml_scanner_state.specs.ImplicitKeys.{number_of};
 ghost use Rattle.yaml_scanner.specs.Work.{Moves};
 
-use crate::collection::Collection;
 use crate::fetcher::Fetcher;
-use crate::keys::ImplicitKey;
 use yaml_chars::Marker;
+use yaml_scanner_state::{Collection, ImplicitKey};
 use yaml_tokens::{Fault, Problem, Token, TokenType};
 
 impl<T: Iterator<Item = char>> Fetcher<T> {

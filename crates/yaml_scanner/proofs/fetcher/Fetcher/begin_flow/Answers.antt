@@ -1,6 +1,6 @@
 use Rattle.yaml_scanner.proofs.DoesLemmas.{exits}
 use Rattle.yaml_scanner.specs.Shape.{held}
-use Rattle.yaml_scanner.specs.Collections.{level_of}
+use Rattle.yaml_scanner_state.specs.Collections.{level_of}
 use Rattle.yaml_scanner.proofs.FlowLemmas.{flow_begun, flow_refused}
 use Rattle.yaml_scanner.proofs.fetcher.Fetcher.begin_flow.Goals as goal
 

@@ -1,7 +1,7 @@
 use Rattle.std.proofs.Common.{◌∙◌, ap}
 use Rattle.yaml_scanner.specs.Shape.{held}
-use Rattle.yaml_scanner.specs.ImplicitKeys.{seen}
-use Rattle.yaml_scanner.proofs.KeyLemmas.{pop_seen}
+use Rattle.yaml_scanner_state.specs.ImplicitKeys.{seen}
+use Rattle.yaml_scanner_state.proofs.KeyLemmas.{pop_seen}
 use Rattle.yaml_scanner.proofs.FlowLemmas.{decreased, not_decreased}
 use Rattle.yaml_scanner.proofs.fetcher.Fetcher.decrease_flow_level.Goals as goal
 

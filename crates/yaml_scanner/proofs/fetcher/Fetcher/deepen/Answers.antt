@@ -1,8 +1,8 @@
 use Rattle.std.proofs.Common.{◌∙◌}
 use Rattle.yaml_scanner.specs.Shape.{held}
 use Rattle.model_scanner.specs.State.{token}
-use Rattle.yaml_scanner.specs.ImplicitKeys.{number_of}
-use Rattle.yaml_scanner.specs.Collections.{block_start}
+use Rattle.yaml_scanner_state.specs.ImplicitKeys.{number_of}
+use Rattle.yaml_scanner_state.specs.Collections.{block_start}
 use Rattle.yaml_scanner.proofs.HeldLemmas.{deepened, not_deepened}
 use Rattle.yaml_scanner.proofs.fetcher.Fetcher.deepen.Goals as goal
 

@@ -1,7 +1,7 @@
 use Rattle.std.proofs.Common.{ap, refl, sym}
 use Rattle.yaml_chars.specs.Reading.{position_of}
 use Rattle.yaml_scanner.specs.Shape.{held}
-use Rattle.yaml_scanner.specs.Styles.{is_alias}
+use Rattle.yaml_scanner_state.specs.Styles.{is_alias}
 use Rattle.yaml_scanner.proofs.DoesLemmas.{exits, Reads-along, Reads-map}
 use Rattle.yaml_scanner.proofs.NodeLemmas.{anchored, not_anchored}
 use Rattle.yaml_scanner.proofs.fetcher.Fetcher.fetch_anchor.Goals as goal

@@ -1,6 +1,6 @@
 use Rattle.model_scanner.specs.Document.{fetch_block_scalar, fetch_plain_scalar}
 use Rattle.yaml_scanner.specs.Steps.{fetch_bar}
-use Rattle.yaml_scanner.specs.Styles.{is_literal_style}
+use Rattle.yaml_scanner_state.specs.Styles.{is_literal_style}
 use Rattle.yaml_scanner.proofs.FetchLemmas.{does_as, fails_as}
 use Rattle.yaml_scanner.proofs.DispatchLemmas.{bar_plain, bar_block}
 use Rattle.yaml_scanner.proofs.fetcher.Fetcher.fetch_bar.Goals as goal

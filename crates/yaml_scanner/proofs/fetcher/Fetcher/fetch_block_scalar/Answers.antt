@@ -1,7 +1,7 @@
 use Rattle.std.proofs.Common.{◌∙◌, ap, refl, sym}
 use Rattle.yaml_chars.specs.Reading.{position_of}
 use Rattle.yaml_scanner.specs.Shape.{held}
-use Rattle.yaml_scanner.specs.Styles.{is_literal_style}
+use Rattle.yaml_scanner_state.specs.Styles.{is_literal_style}
 use Rattle.yaml_scanner.proofs.DoesLemmas.{exits, Reads-along, Reads-map}
 use Rattle.yaml_scanner.proofs.NodeLemmas.{block_read, block_failed}
 use Rattle.yaml_scanner.proofs.fetcher.Fetcher.fetch_block_scalar.Goals as goal

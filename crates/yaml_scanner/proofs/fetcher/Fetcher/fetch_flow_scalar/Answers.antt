@@ -2,7 +2,7 @@ use Rattle.std.proofs.Common.{ap, refl, sym}
 use Rattle.yaml_chars.specs.Reading.{position_of}
 use Rattle.yaml_chars.proofs.ReadingLemmas.{Reads-then}
 use Rattle.yaml_scanner.specs.Shape.{held}
-use Rattle.yaml_scanner.specs.Styles.{are_single}
+use Rattle.yaml_scanner_state.specs.Styles.{are_single}
 use Rattle.yaml_scanner.proofs.DoesLemmas.{exits, Reads-along, Reads-map}
 use Rattle.yaml_scanner.proofs.FetchLemmas.{flow_read, flow_not_read, flow_not_ended}
 use Rattle.yaml_scanner.proofs.fetcher.Fetcher.fetch_flow_scalar.Goals as goal

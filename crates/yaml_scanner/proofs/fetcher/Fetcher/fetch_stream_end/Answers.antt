@@ -1,6 +1,6 @@
 use Rattle.std.proofs.Common.{◌∙◌, refl}
 use Rattle.yaml_chars.specs.Reading.{position_of}
-use Rattle.yaml_scanner.specs.ImplicitKeys.{seen}
+use Rattle.yaml_scanner_state.specs.ImplicitKeys.{seen}
 use Rattle.yaml_scanner.specs.Shape.{held}
 use Rattle.yaml_scanner.proofs.DoesLemmas.{Reads-along, Reads-map}
 use Rattle.yaml_scanner.proofs.NodeLemmas.{next_position, stream_ended, stream_refused}

@@ -1,7 +1,7 @@
 use Rattle.std.proofs.Common.{ap}
 use Rattle.yaml_scanner.specs.Shape.{held}
-use Rattle.yaml_scanner.specs.ImplicitKeys.{seen}
-use Rattle.yaml_scanner.specs.Collections.{level_of}
+use Rattle.yaml_scanner_state.specs.ImplicitKeys.{seen}
+use Rattle.yaml_scanner_state.specs.Collections.{level_of}
 use Rattle.yaml_scanner.proofs.FlowLemmas.{too_deep, increased}
 use Rattle.yaml_scanner.proofs.fetcher.Fetcher.increase_flow_level.Goals as goal
 

@@ -1,8 +1,8 @@
 use Rattle.std.proofs.Common.{◌∙◌, ◌+◌, ap, None}
 use Rattle.yaml_scanner.specs.Shape.{held}
-use Rattle.yaml_scanner.specs.ImplicitKeys.{keyed_by, seen}
+use Rattle.yaml_scanner_state.specs.ImplicitKeys.{keyed_by, seen}
 use Rattle.yaml_scanner.proofs.DoesLemmas.{exits}
-use Rattle.yaml_scanner.proofs.KeyLemmas.{with_top_seen}
+use Rattle.yaml_scanner_state.proofs.KeyLemmas.{with_top_seen}
 use Rattle.yaml_scanner.proofs.BlockLemmas.{key_inserted, key_refused}
 use Rattle.yaml_scanner.proofs.fetcher.Fetcher.insert_key.Goals as goal
 

@@ -1,5 +1,5 @@
 use Rattle.std.proofs.Common.{refl, ap}
-use Rattle.yaml_scanner.specs.Tokens.{handed}
+use Rattle.yaml_scanner_state.specs.Tokens.{handed}
 use Rattle.yaml_scanner.proofs.FollowLemmas.{starts}
 use Rattle.yaml_scanner.proofs.fetcher.Fetcher.new.Goals as goal
 

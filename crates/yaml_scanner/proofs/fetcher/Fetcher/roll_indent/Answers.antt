@@ -1,6 +1,6 @@
 use Rattle.yaml_scanner.specs.Shape.{held}
-use Rattle.yaml_scanner.specs.ImplicitKeys.{number_of}
-use Rattle.yaml_scanner.specs.Collections.{block_start}
+use Rattle.yaml_scanner_state.specs.ImplicitKeys.{number_of}
+use Rattle.yaml_scanner_state.specs.Collections.{block_start}
 use Rattle.yaml_scanner.proofs.HeldLemmas.{rolled_in_flow, rolled}
 use Rattle.yaml_scanner.proofs.fetcher.Fetcher.roll_indent.Goals as goal
 

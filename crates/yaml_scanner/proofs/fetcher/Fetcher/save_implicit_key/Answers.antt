@@ -1,7 +1,7 @@
 use Rattle.std.proofs.Common.{◌∙◌, ◌+◌, ap, refl}
 use Rattle.yaml_scanner.specs.Shape.{held}
-use Rattle.yaml_scanner.specs.ImplicitKeys.{seen}
-use Rattle.yaml_scanner.proofs.KeyLemmas.{with_top_seen}
+use Rattle.yaml_scanner_state.specs.ImplicitKeys.{seen}
+use Rattle.yaml_scanner_state.proofs.KeyLemmas.{with_top_seen}
 use Rattle.yaml_scanner.proofs.HeldLemmas.{saved, not_saved}
 use Rattle.yaml_scanner.proofs.fetcher.Fetcher.save_implicit_key.Goals as goal
 

@@ -1,0 +1,120 @@
+-- Lemmas about the queue of tokens.
+use Rattle.std.proofs.Common.{◌≡◌, ℕ, ◌+◌, ◌-◌, min, Bool, true, false, ◌||◌, inl, inr, List, [], ◌∷◌, ◌++◌, map, length, take, drop, refl, ap, sym, ◌∙◌, append_assoc, arith, length-append, length-drop, ◌<◌, suc, Option, None}
+use Rattle.std.proofs.lemmas.List.{map-append, take-map, drop-map, take_min, take_all, drop_all, take-append-drop}
+use Rattle.std.proofs.lemmas.List.Edits.{insert-append_right}
+use Rattle.std.specs.List.{insert}
+use Rattle.std.proofs.lemmas.Bool.{cases_lt}
+use Rattle.yaml_tokens.specs.declared.token.Token.{Token}
+use Rattle.yaml_tokens.specs.Shown.{shown, tok_of}
+use Rattle.yaml_scanner_state.specs.Tokens.{is_end, has_end, end_at}
+use Rattle.defs_text.specs.Position.{Position}
+use Rattle.defs_token.specs.Token as seen
+use Rattle.model_scanner.specs.Block.{property_position, last_property}
+
+length_shown : (w : List Token) → length (map shown w) ≡ length w
+length_shown [] = refl
+length_shown (t ∷ w) = ap suc (length_shown w)
+
+pub waiting_len : (g w : List Token) → length g + length w ≡ length (map shown g ++ map shown w)
+waiting_len g w = simp (length-append, length_shown) refl
+
+pub push_shown : (g w v : List Token) (t : Token) → v ≡ w ++ t ∷ [] → map shown g ++ map shown v ≡ (map shown g ++ map shown w) ++ shown t ∷ []
+push_shown g w v t e = rw (e, map-append shown w (t ∷ [])) (sym (append_assoc (map shown g) (map shown w) (shown t ∷ [])))
+
+map_insert : (w : List Token) (i : ℕ) (t : Token) → map shown (insert w i t) ≡ insert (map shown w) i (shown t)
+map_insert w i t = rw (take-map shown i w, drop-map shown i w) (map-append shown (take i w) (t ∷ drop i w))
+
+minus : (n i : ℕ) → i ≡ n + i - n
+minus n i = omega arith
+
+pub insert_shown : (g w v : List Token) (i : ℕ) (t : Token) → v ≡ insert w i t → map shown g ++ map shown v ≡ insert (map shown g ++ map shown w) (length g + i) (shown t)
+insert_shown g w v i t e = rw (e, map_insert w i t) (ap (λ x. map shown g ++ insert (map shown w) x (shown t)) (minus (length g) i) ∙ sym (insert-append_right (map shown g) (map shown w) (length g) (length g + i) (shown t) (length_shown g) (omega arith)))
+
+pub give_shown : (g h w v : List Token) (t : Token) → w ≡ t ∷ v → h ≡ g ++ t ∷ [] → map shown h ++ map shown v ≡ map shown g ++ map shown w
+give_shown g h w v t e f = rw (e, f, map-append shown g (t ∷ [])) (append_assoc (map shown g) (shown t ∷ []) (map shown v))
+
+pub give_len : (g h : List Token) (t : Token) → h ≡ g ++ t ∷ [] → length h ≡ length g + 1
+give_len g h t e = rw e (simp length-append refl)
+
+drop_min : {X : Type 0} (i : ℕ) (xs : List X) → drop (min i (length xs)) xs ≡ drop i xs
+drop_min i xs = elim (cases_lt i (length xs)) [
+  | inl within ↦ ap (λ n. drop n xs) (omega arith)
+  | inr past ↦ drop_all (min i (length xs)) xs (omega arith) ∙ sym (drop_all i xs (omega arith))
+]
+
+insert_min : {X : Type 0} (xs : List X) (i : ℕ) (x : X) → insert xs (min i (length xs)) x ≡ insert xs i x
+insert_min xs i x = rw (take_min i xs, drop_min i xs) refl
+
+-- a position past the end is the end
+pub insert_min_shown : (g w v : List Token) (i : ℕ) (t : Token) → v ≡ insert w (min i (length w)) t → map shown g ++ map shown v ≡ insert (map shown g ++ map shown w) (length g + i) (shown t)
+insert_min_shown g w v i t e = insert_shown g w v i t (e ∙ insert_min w i t)
+
+or_true : (b : Bool) → b || true ≡ true
+or_true true = refl
+or_true false = refl
+
+pub has_end_append : (ts us : List seen.Token) → has_end (ts ++ us) ≡ has_end ts || has_end us
+has_end_append [] us = refl
+has_end_append (t ∷ ts) us = or_of (is_end t.tok) (has_end (ts ++ us)) (has_end ts) (has_end us) (has_end_append ts us)
+  where
+    or_of : (a b c d : Bool) → b ≡ c || d → a || b ≡ (a || c) || d
+    or_of true b c d e = refl
+    or_of false b c d e = e
+
+-- the end still waits after a push
+pub push_keeps : (w v : List Token) (t : Token) → v ≡ w ++ t ∷ [] → has_end (map shown w) ≡ true → has_end (map shown v) ≡ true
+push_keeps w v t e h = rw (e, map-append shown w (t ∷ []), has_end_append (map shown w) (map shown (t ∷ [])), h) refl
+
+-- and after an insertion
+pub insert_keeps : (w v : List Token) (i : ℕ) (t : Token) → v ≡ insert w i t → has_end (map shown w) ≡ true → has_end (map shown v) ≡ true
+insert_keeps w v i t e h =
+    let parts : has_end (map shown (take i w)) || has_end (map shown (drop i w)) ≡ true =
+    sym (ap (λ xs. has_end (map shown xs)) (sym (take-append-drop i w)) ∙ ap has_end (map-append shown (take i w) (drop i w)) ∙ has_end_append (map shown (take i w)) (map shown (drop i w))) ∙ h in
+    rw (e, map-append shown (take i w) (t ∷ drop i w), has_end_append (map shown (take i w)) (map shown (t ∷ drop i w))) (between (has_end (map shown (take i w))) (is_end (shown t).tok) (has_end (map shown (drop i w))) parts)
+  where
+    between : (a b c : Bool) → a || c ≡ true → a || (b || c) ≡ true
+    between true b c h = refl
+    between false true c h = refl
+    between false false c h = h
+
+-- the end waits once it was pushed
+pub end_waits : (w v : List Token) (t : Token) (p : Position) → shown t ≡ end_at p → v ≡ w ++ t ∷ [] → has_end (map shown v) ≡ true
+end_waits w v t p end e =
+    let last : is_end (tok_of t.1) ≡ true = ap (λ (s : seen.Token). is_end s.tok) end in
+    rw (e, map-append shown w (t ∷ []), has_end_append (map shown w) (map shown (t ∷ [])), last) (or_true (has_end (map shown w)))
+
+last_after : (xs : List seen.Token) (y : seen.Token) (ys : List seen.Token) → last_property (xs ++ y ∷ ys) ≡ last_property (y ∷ ys)
+last_after [] y ys = refl
+last_after (x ∷ []) y ys = refl
+last_after (x ∷ z ∷ xs) y ys = last_after (z ∷ xs) y ys
+
+-- a token after all is the last
+pub push_last : (g w v : List Token) (t : Token) → v ≡ w ++ t ∷ [] → property_position (shown t).tok (shown t).position ≡ last_property (map shown g ++ map shown v)
+push_last g w v t e = sym (ap last_property (push_shown g w v t e) ∙ last_after (map shown g ++ map shown w) (shown t) [])
+
+after_last : (xs zs : List seen.Token) (x y : seen.Token) (ys : List seen.Token) → zs ≡ y ∷ ys → last_property (xs ++ x ∷ zs) ≡ last_property (xs ++ zs)
+after_last xs zs x y ys e = rw e (last_after xs x (y ∷ ys) ∙ sym (last_after xs y ys))
+
+insert_by : (xs zs : List seen.Token) (x : seen.Token) → 0 < length zs → last_property (xs ++ x ∷ zs) ≡ last_property (xs ++ zs)
+insert_by xs [] x h = absurd (omega arith)
+insert_by xs (y ∷ ys) x h = after_last xs (y ∷ ys) x y ys refl
+
+-- a token before others leaves the last one
+pub insert_last : (g w v : List Token) (i : ℕ) (t : Token) → v ≡ insert w i t → i < length w → last_property (map shown g ++ map shown v) ≡ last_property (map shown g ++ map shown w)
+insert_last g w v i t e h =
+    let n : 0 < length (drop i (map shown w)) = simp (length-drop, length_shown) (omega arith) in
+    let split : take i (map shown w) ++ drop i (map shown w) ≡ map shown w = take-append-drop i (map shown w) in
+    rw (e, map_insert w i t) (ap last_property (sym (append_assoc (map shown g) (take i (map shown w)) (shown t ∷ drop i (map shown w))))
+    ∙ insert_by (map shown g ++ take i (map shown w)) (drop i (map shown w)) (shown t) n
+    ∙ ap last_property (append_assoc (map shown g) (take i (map shown w)) (drop i (map shown w)) ∙ ap (λ xs. map shown g ++ xs) split))
+
+-- handing out leaves the last one
+pub give_last : (g h w v : List Token) (t : Token) → w ≡ t ∷ v → h ≡ g ++ t ∷ [] → last_property (map shown g ++ map shown w) ≡ last_property (map shown h ++ map shown v)
+give_last g h w v t e f = ap last_property (sym (give_shown g h w v t e f))
+
+pub end_last : (g w v : List Token) (t : Token) (p : Position) → shown t ≡ end_at p → v ≡ w ++ t ∷ [] → ◌≡◌ {A = Option Position} None (last_property (map shown g ++ map shown v))
+end_last g w v t p end e = ap (λ (s : seen.Token). property_position s.tok s.position) (sym end) ∙ push_last g w v t e
+
+-- a position after all is the end
+pub insert_end : (w v : List Token) (i : ℕ) (t : Token) → i ≡ length w → v ≡ insert w i t → v ≡ w ++ t ∷ []
+insert_end w v i t e f = f ∙ rw (take_all i w (omega arith), drop_all i w (omega arith)) refl

@@ -1,0 +1,5 @@
+pub mod Collections
+pub mod ImplicitKeys
+pub mod Levels
+pub mod Styles
+pub mod Tokens

@@ -1,0 +1,167 @@
+ghost use Rattle.std.specs.Prelude.{◌≡◌, ◌≤◌, ◌+◌, ◌∷◌, [], ◌++◌, OnOk, OnErr, IfSome, IsNone, true, false, ◌||◌, length};
+ghost use Rattle.std.specs.List.{insert};
+ghost use Rattle.yaml_tokens.specs.Shown.{shown};
+ghost use Rattle.model_scanner.specs.Block.{last_property, property_position};
+ghost use Rattle.yaml_scanner_state.specs.Tokens.{handed, waiting, is_end, end_at};
+
+use std::alloc::{AllocError, Global};
+use std::collections::VecDeque;
+use std::marker::Model;
+use yaml_chars::Marker;
+use yaml_chars::history::History;
+use yaml_tokens::{Token, TokenType};
+
+/// The tokens that wait to be handed out. Clauses see all tokens so far, also those handed out.
+#[derive(Drop)]
+pub struct Queue {
+    given: History<Token>,
+    waiting: VecDeque<Token>,
+    // The position of the last token so far, where that is an anchor or a tag.
+    property: Option<Marker>,
+    ended: bool,
+    over: bool,
+}
+
+impl Model for Queue {
+    ghost use Rattle.std.specs.Prelude.{◌≡◌, ◌++◌, map, true, false};
+    ghost use Rattle.std.specs.Prelude.{length as list_len};
+    ghost use Rattle.yaml_scanner_state.specs.Tokens.{Tokens, has_end};
+    ghost use Rattle.yaml_tokens.specs.Shown.{shown};
+    ghost use Rattle.model_scanner.specs.Block.{last_property};
+
+    ghost Value = { Tokens };
+
+    ghost view = { λ q. record { all = map shown q.given.items ++ map shown q.waiting.items; given = list_len q.given.items; ended = q.ended; over = q.over } };
+
+    // While the stream's end was not handed out, it waits.
+    ghost invariant = { λ q. (q.ended ≡ true → q.over ≡ false → has_end (map shown q.waiting.items) ≡ true) × (q.property ≡ last_property (map shown q.given.items ++ map shown q.waiting.items)) };
+}
+
+impl Queue {
+    pub fn new(alloc: Global) -> Self
+        ensures { result ≡ record { all = []; given = 0; ended = false; over = false } }
+    {
+        Queue {
+            given: History::new(),
+            waiting: VecDeque::new(alloc),
+            property: None,
+            ended: false,
+            over: false,
+        }
+    }
+
+    /// How many tokens wait.
+    #[tactic(auto, using(crate::proofs::QueueLemmas::waiting_len))]
+    pub fn len(&self) -> usize
+        ensures value { self.now.given + result ≡ length self.now.all }
+        ensures waiting { result ≡ waiting self.now }
+    {
+        self.waiting.len()
+    }
+
+    /// The position of the last token so far, where that is an anchor or a tag.
+    pub fn property(&self) -> Option<Marker>
+        ensures { result ≡ last_property self.now.all }
+    {
+        self.property
+    }
+
+    /// An `Err` changes nothing.
+    #[inline(always)]
+    #[tactic(auto, using(crate::proofs::QueueLemmas::push_shown, crate::proofs::QueueLemmas::push_keeps))]
+    pub fn push(&mut self, token: Token) -> Result<(), AllocError>
+        ensures ok { OnOk result (self.new ≡ record self.old { all = self.old.all ++ shown token ∷ [] }) }
+        ensures err { OnErr result (self.new ≡ self.old) }
+        ensures handed { handed self.new ≡ handed self.old }
+        ensures more { waiting self.new ≤ waiting self.old + 1 }
+    {
+        let property = property_of(&token);
+        self.waiting.push_back(token).map_err(|_| AllocError)?;
+        self.property = property;
+        Ok(())
+    }
+
+    /// Inserts a token before that many that wait. An `Err` changes nothing.
+    #[inline(always)]
+    #[tactic(auto, using(crate::proofs::QueueLemmas::insert_min_shown, crate::proofs::QueueLemmas::insert_keeps))]
+    pub fn insert(&mut self, position: usize, token: Token) -> Result<(), AllocError>
+        ensures ok { OnOk result (self.new ≡ record self.old { all = insert self.old.all (self.old.given + position) (shown token) }) }
+        ensures err { OnErr result (self.new ≡ self.old) }
+        ensures handed { handed self.new ≡ handed self.old }
+        ensures more { waiting self.new ≤ waiting self.old + 1 }
+    {
+        let last = self.waiting.len();
+        let position = position.min(last);
+        let property = property_of(&token);
+        if self.waiting.insert(position, token).is_err() {
+            return Err(AllocError);
+        }
+        if position == last {
+            self.property = property;
+        }
+        Ok(())
+    }
+
+    /// Ends the stream. An `Err` changes nothing.
+    #[tactic(auto, using(crate::proofs::QueueLemmas::push_shown, crate::proofs::QueueLemmas::end_waits))]
+    pub fn push_end(&mut self, mark: Marker) -> Result<(), AllocError>
+        ensures ok { OnOk result (self.new ≡ record self.old { all = self.old.all ++ end_at mark ∷ []; ended = true }) }
+        ensures err { OnErr result (self.new ≡ self.old) }
+        ensures handed { handed self.new ≡ handed self.old }
+        ensures more { waiting self.new ≤ waiting self.old + 1 }
+    {
+        self.waiting
+            .push_back(stream_end(mark))
+            .map_err(|_| AllocError)?;
+        self.property = None;
+        self.ended = true;
+        Ok(())
+    }
+
+    /// Whether the stream's end was fetched.
+    pub fn has_ended(&self) -> bool
+        ensures { result ≡ self.now.ended }
+    {
+        self.ended
+    }
+
+    /// Whether the stream's end was handed out.
+    pub fn is_over(&self) -> bool
+        ensures { result ≡ self.now.over }
+    {
+        self.over
+    }
+
+    /// Hands out the next token.
+    #[inline(always)]
+    #[tactic(auto, using(crate::proofs::QueueLemmas::give_shown, crate::proofs::QueueLemmas::give_len))]
+    pub fn pop(&mut self) -> Option<Token>
+        ensures none { IsNone result → (self.new ≡ self.old) × (waiting self.old ≡ 0) × (self.old.ended ≡ true → self.old.over ≡ true) }
+        ensures some { IfSome result (λ t. self.new ≡ record self.old { given = self.old.given + 1; over = self.old.over || is_end (shown t).tok }) }
+        ensures handed { IfSome result (λ t. handed self.new ≡ handed self.old ++ shown t ∷ []) }
+        ensures less { IfSome result (λ _. waiting self.new + 1 ≡ waiting self.old) }
+    {
+        let token = self.waiting.pop_front()?;
+        self.given.push(&token);
+        if let TokenType::StreamEnd = token.1 {
+            self.over = true;
+        }
+        Some(token)
+    }
+}
+
+#[inline(always)]
+fn property_of(token: &Token) -> Option<Marker>
+    ensures { result ≡ property_position (shown token.now).tok (shown token.now).position }
+{
+    match token.1 {
+        TokenType::Anchor(_) | TokenType::Tag(_, _) => Some(token.0),
+        _ => None,
+    }
+}
+
+fn stream_end(mark: Marker) -> Token
+    ensures { shown result ≡ end_at mark }
+{
+    Token(mark, TokenType::StreamEnd)
+}
