@@ -1,5 +1,5 @@
 -- Equality of faults: of position, text, and whether memory was refused.
-use Rattle.std.specs.Prelude.{ℕ, List, Bool, nat_eq, ◌==◌}
+use Rattle.std.specs.Prelude.{Bool, nat_eq}
 use Rattle.std.specs.Ordering.{on, eq_of_both}
 use Rattle.std.specs.Bool.{beq}
 use Rattle.std.specs.Cmp.{IsEquivalence, bool_eq_equiv}

@@ -6,7 +6,7 @@ use Rattle.std.specs.Cmp.Lexicographic.{slice_cmp}
 use Rattle.defs_tree.specs.Tree.{Tree, items_of, pairs_of}
 use Rattle.defs_tree.specs.Order.{tree_cmp, items_cmp, pairs_cmp}
 use Rattle.yaml_tree.specs.Flat.{flat}
-use Rattle.yaml_tree.specs.View.{view, items_view}
+use Rattle.yaml_tree.specs.View.{items_view}
 use Rattle.yaml_tree.specs.declared.yaml.Yaml.{Yaml}
 use Rattle.defs_tree.specs.Lists.{list_cmp}
 
@@ -53,7 +53,7 @@ items_cmp-items_of [] (y ∷ ys) = refl
 items_cmp-items_of (x ∷ xs) [] = refl
 items_cmp-items_of (x ∷ xs) (y ∷ ys) = ap (ordering_then (tree_cmp x y)) (items_cmp-items_of xs ys)
 
-flat_cmp : (ps qs : List (Tree × Tree)) → pairs_cmp (pairs_of ps) (pairs_of qs) ≡ list_cmp (flat ps) (flat qs)
+pub flat_cmp : (ps qs : List (Tree × Tree)) → pairs_cmp (pairs_of ps) (pairs_of qs) ≡ list_cmp (flat ps) (flat qs)
 flat_cmp [] [] = refl
 flat_cmp [] (q ∷ qs) = refl
 flat_cmp (p ∷ ps) [] = refl
@@ -72,19 +72,10 @@ stops Less r p q n e f = sym (f ∙ ap (λ x. ordering_then x p) (sym e))
 stops Equal r p q n e f = absurd (n refl)
 stops Greater r p q n e f = sym (f ∙ ap (λ x. ordering_then x p) (sym e))
 
--- the values of two lists, seen through f
-pub cmp_seen : {A B : Type 0} (R : B → B → Ordering) (f : A → B) (xs ys cs ds : List A) (us vs : List B) → xs ≡ cs → ys ≡ ds → map f cs ≡ us → map f ds ≡ vs
-    → slice_cmp (on f R) xs ys ≡ slice_cmp R us vs
-cmp_seen R f xs ys cs ds us vs p q d e = rw (p, q, ← d, ← e) (sym (slice_cmp-map R f cs ds))
-
--- the items of two arrays, and the pairs of two hashes
-pub items_seen : (xs ys cs ds : List Yaml) (us vs : List Tree) → xs ≡ cs → ys ≡ ds → items_view cs ≡ us → items_view ds ≡ vs
-    → slice_cmp (on view tree_cmp) xs ys ≡ items_cmp (items_of us) (items_of vs)
-items_seen xs ys cs ds us vs p q d e = cmp_seen tree_cmp view xs ys cs ds us vs p q d e ∙ sym (items_cmp-items_of us vs)
-
-pub pairs_seen : (xs ys cs ds : List Yaml) (us vs : List (Tree × Tree)) → xs ≡ cs → ys ≡ ds → items_view cs ≡ flat us → items_view ds ≡ flat vs
-    → slice_cmp (on view tree_cmp) xs ys ≡ pairs_cmp (pairs_of us) (pairs_of vs)
-pairs_seen xs ys cs ds us vs p q d e = cmp_seen tree_cmp view xs ys cs ds (flat us) (flat vs) p q d e ∙ sym (flat_cmp us vs)
+-- the trees of two rows of nodes
+pub nodes_seen : (xs ys cs ds : List Yaml) (us vs : List Tree) → xs ≡ cs → ys ≡ ds → items_view cs ≡ us → items_view ds ≡ vs
+    → list_cmp (items_view xs) (items_view ys) ≡ list_cmp us vs
+nodes_seen xs ys cs ds us vs p q d e = rw (p, q, d, e)
 
 pub at_drop : {A : Type 0} (xs : List A) (i : ℕ) (x : A) → i < length xs → x ≡ get_or xs i x → drop i xs ≡ x ∷ drop (i + 1) xs
 at_drop xs i x h e = rw (drop-cons xs i x h, add-one, ← e)

@@ -1,8 +1,9 @@
 //! The order of trees, and when two are equal.
 ghost use Rattle.std.specs.Prelude.{◌≡◌, chars};
+ghost use Rattle.defs_tree.specs.Lists.{list_cmp};
 ghost use Rattle.defs_tree.specs.Order.{rank, tree_cmp, items_cmp, pairs_cmp};
 ghost use Rattle.defs_tree.specs.Tree.{string, items_of, pairs_of};
-ghost use Rattle.yaml_tree.specs.View.{view};
+ghost use Rattle.yaml_tree.specs.View.{view, items_view};
 
 use crate::array::Array;
 use crate::hash::Hash;
@@ -46,22 +47,21 @@ pub(crate) fn compare(a: &Yaml, b: &Yaml) -> Ordering
 fn compare_items(a: &Array, b: &Array) -> Ordering
     ensures { result ≡ items_cmp (items_of a.now) (items_of b.now) }
 {
-    let (a, b) = (a.items.as_slice(), b.items.as_slice());
-    let mut i = 0;
-    while i < a.len() && i < b.len() {
-        match compare(&a[i], &b[i]) {
-            Ordering::Equal => i += 1,
-            found => return found,
-        }
-    }
-    a.len().cmp(&b.len())
+    compare_nodes(a.items.as_slice(), b.items.as_slice())
 }
 
 #[cycle(compare)]
 fn compare_pairs(a: &Hash, b: &Hash) -> Ordering
     ensures { result ≡ pairs_cmp (pairs_of a.now) (pairs_of b.now) }
 {
-    let (a, b) = (a.row.as_slice(), b.row.as_slice());
+    compare_nodes(a.row.as_slice(), b.row.as_slice())
+}
+
+// Compares nodes in a row: the items of arrays, or the keys and values of hashes.
+#[cycle(compare)]
+fn compare_nodes(a: &[Yaml], b: &[Yaml]) -> Ordering
+    ensures { result ≡ list_cmp (items_view a.now) (items_view b.now) }
+{
     let mut i = 0;
     while i < a.len() && i < b.len() {
         match compare(&a[i], &b[i]) {
