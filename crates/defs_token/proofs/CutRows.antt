@@ -1,14 +1,10 @@
 -- Tokens of short texts that are cuts of them, by computing.
-use Rattle.std.proofs.Common.{List, [], ◌∷◌, inl, inr, refl}
+use Rattle.std.proofs.Common.{List, [], ◌∷◌, refl}
 use Rattle.std.specs.Prelude.{codes}
-use Rattle.defs_text.specs.Classes.{is_blank, is_break, is_nul, is_blank_or_end, is_flow, is_decimal_digit, is_letter, is_alpha, is_uri, is_tag, is_anchor_name, are_marks}
-use Rattle.defs_scalar.specs.FlowScalar.{plain_element, single_quoted_element, double_quoted_element, is_character_code, numeric_escape, escape, begins_with_marker, plain_value, single_quoted_value, double_quoted_value}
-use Rattle.defs_scalar.specs.BlockScalar.{sign_of, digit_of, is_empty_line, is_content_line, row_of}
-use Rattle.defs_scalar.specs.Tags.{octet_at, lead_of, is_trail, escaped_character, uri_character}
-use Rattle.defs_scalar.specs.Directives.{directive_of}
 use Rattle.defs_token.specs.Token.{version_directive, tag_directive, document_start, document_end, block_sequence_start, block_mapping_start, block_end, flow_sequence_start, flow_sequence_end, flow_mapping_start, flow_mapping_end, block_entry, flow_entry, key, value, alias, anchor, tag, scalar, plain, single_quoted, double_quoted}
 use Rattle.defs_token.specs.Cut.{Written, IsCut}
-use Rattle.defs_token.proofs.Shown.{position, written, first, tokens_between}
+use Rattle.defs_token.proofs.OnLiterals.{cut_on_literals, cut_by, row_by_computing}
+use Rattle.defs_token.proofs.Shown.{position, written, tokens_between}
 
 -- a plain scalar of two lines is one piece
 abbrev two_lines_row : List Written
@@ -17,21 +13,8 @@ two_lines_row =
     []
 
 two_lines : IsCut (tokens_between two_lines_row (position 4 3 0)) (codes "a\n b")
-unfolding is_blank is_break is_nul is_blank_or_end is_flow is_decimal_digit is_letter is_alpha is_uri is_tag is_anchor_name are_marks plain_element single_quoted_element double_quoted_element is_character_code numeric_escape escape begins_with_marker plain_value single_quoted_value double_quoted_value sign_of digit_of is_empty_line is_content_line row_of octet_at lead_of is_trail escaped_character uri_character directive_of
-two_lines = record {
-  begin = first;
-  end = position 4 3 0;
-  row = two_lines_row;
-  separation = [];
-  are_tokens = refl;
-  is_text = refl;
-  is_filled = refl;
-  is_row = (
-    (refl, ((refl, refl, refl), refl)),
-    tt,
-  );
-  closes = refl;
-}
+unfolding cut_on_literals
+two_lines = cut_by two_lines_row (position 4 3 0) [] refl refl (search row_by_computing) refl
 
 -- a plain scalar ends at a comment after a blank
 abbrev comment_after_row : List Written
@@ -45,36 +28,8 @@ comment_after_row =
     []
 
 comment_after : IsCut (tokens_between comment_after_row (position 13 3 0)) (codes "- a # b\n- a#b")
-unfolding is_blank is_break is_nul is_blank_or_end is_flow is_decimal_digit is_letter is_alpha is_uri is_tag is_anchor_name are_marks plain_element single_quoted_element double_quoted_element is_character_code numeric_escape escape begins_with_marker plain_value single_quoted_value double_quoted_value sign_of digit_of is_empty_line is_content_line row_of octet_at lead_of is_trail escaped_character uri_character directive_of
-comment_after = record {
-  begin = first;
-  end = position 13 3 0;
-  row = comment_after_row;
-  separation = [];
-  are_tokens = refl;
-  is_text = refl;
-  is_filled = refl;
-  is_row = (
-    (refl, (refl, refl)),
-    (
-      (refl, (refl, refl, refl)),
-      (
-        (refl, ((refl, refl, refl), refl)),
-        (
-          (refl, (refl, refl, refl)),
-          (
-            (refl, ((refl, refl, refl), refl)),
-            (
-              (refl, (refl, refl, refl)),
-              tt,
-            ),
-          ),
-        ),
-      ),
-    ),
-  );
-  closes = refl;
-}
+unfolding cut_on_literals
+comment_after = cut_by comment_after_row (position 13 3 0) [] refl refl (search row_by_computing) refl
 
 -- a mapping in a sequence, and a sequence at its key's column
 abbrev block_columns_row : List Written
@@ -96,60 +51,8 @@ block_columns_row =
     []
 
 block_columns : IsCut (tokens_between block_columns_row (position 17 4 0)) (codes "- k: 1\n  l:\n  - 2")
-unfolding is_blank is_break is_nul is_blank_or_end is_flow is_decimal_digit is_letter is_alpha is_uri is_tag is_anchor_name are_marks plain_element single_quoted_element double_quoted_element is_character_code numeric_escape escape begins_with_marker plain_value single_quoted_value double_quoted_value sign_of digit_of is_empty_line is_content_line row_of octet_at lead_of is_trail escaped_character uri_character directive_of
-block_columns = record {
-  begin = first;
-  end = position 17 4 0;
-  row = block_columns_row;
-  separation = [];
-  are_tokens = refl;
-  is_text = refl;
-  is_filled = refl;
-  is_row = (
-    (refl, (refl, refl)),
-    (
-      (refl, (refl, refl, refl)),
-      (
-        (refl, (refl, refl)),
-        (
-          (refl, inr (refl, refl)),
-          (
-            (refl, ((refl, refl, refl), refl)),
-            (
-              (refl, (refl, refl)),
-              (
-                (refl, ((refl, refl, refl), refl)),
-                (
-                  (refl, inr (refl, refl)),
-                  (
-                    (refl, ((refl, refl, refl), refl)),
-                    (
-                      (refl, (refl, refl)),
-                      (
-                        (refl, (refl, refl, refl)),
-                        (
-                          (refl, ((refl, refl, refl), refl)),
-                          (
-                            (refl, (refl, refl, refl)),
-                            (
-                              (refl, (refl, refl, refl)),
-                              tt,
-                            ),
-                          ),
-                        ),
-                      ),
-                    ),
-                  ),
-                ),
-              ),
-            ),
-          ),
-        ),
-      ),
-    ),
-  );
-  closes = refl;
-}
+unfolding cut_on_literals
+block_columns = cut_by block_columns_row (position 17 4 0) [] refl refl (search row_by_computing) refl
 
 -- a sequence at its key's column has neither start nor end
 abbrev at_key_column_row : List Written
@@ -166,45 +69,8 @@ at_key_column_row =
     []
 
 at_key_column : IsCut (tokens_between at_key_column_row (position 23 4 0)) (codes "key:\n- item 1\n- item 2\n")
-unfolding is_blank is_break is_nul is_blank_or_end is_flow is_decimal_digit is_letter is_alpha is_uri is_tag is_anchor_name are_marks plain_element single_quoted_element double_quoted_element is_character_code numeric_escape escape begins_with_marker plain_value single_quoted_value double_quoted_value sign_of digit_of is_empty_line is_content_line row_of octet_at lead_of is_trail escaped_character uri_character directive_of
-at_key_column = record {
-  begin = first;
-  end = position 23 4 0;
-  row = at_key_column_row;
-  separation = codes "\n";
-  are_tokens = refl;
-  is_text = refl;
-  is_filled = refl;
-  is_row = (
-    (refl, (refl, refl)),
-    (
-      (refl, inr (refl, refl)),
-      (
-        (refl, ((refl, refl, refl), refl)),
-        (
-          (refl, (refl, refl)),
-          (
-            (refl, (refl, refl, refl)),
-            (
-              (refl, ((refl, refl, refl), refl)),
-              (
-                (refl, (refl, refl, refl)),
-                (
-                  (refl, ((refl, refl, refl), refl)),
-                  (
-                    (refl, (refl, refl, refl)),
-                    tt,
-                  ),
-                ),
-              ),
-            ),
-          ),
-        ),
-      ),
-    ),
-  );
-  closes = refl;
-}
+unfolding cut_on_literals
+at_key_column = cut_by at_key_column_row (position 23 4 0) (codes "\n") refl refl (search row_by_computing) refl
 
 -- CR LF is one break
 abbrev carriage_returns_row : List Written
@@ -219,39 +85,8 @@ carriage_returns_row =
     []
 
 carriage_returns : IsCut (tokens_between carriage_returns_row (position 19 4 0)) (codes "---\r\n- tok1\r\n- tok2")
-unfolding is_blank is_break is_nul is_blank_or_end is_flow is_decimal_digit is_letter is_alpha is_uri is_tag is_anchor_name are_marks plain_element single_quoted_element double_quoted_element is_character_code numeric_escape escape begins_with_marker plain_value single_quoted_value double_quoted_value sign_of digit_of is_empty_line is_content_line row_of octet_at lead_of is_trail escaped_character uri_character directive_of
-carriage_returns = record {
-  begin = first;
-  end = position 19 4 0;
-  row = carriage_returns_row;
-  separation = [];
-  are_tokens = refl;
-  is_text = refl;
-  is_filled = refl;
-  is_row = (
-    (refl, ((refl, refl, refl, refl), refl)),
-    (
-      (refl, (refl, refl)),
-      (
-        (refl, (refl, refl, refl)),
-        (
-          (refl, ((refl, refl, refl), refl)),
-          (
-            (refl, (refl, refl, refl)),
-            (
-              (refl, ((refl, refl, refl), refl)),
-              (
-                (refl, (refl, refl, refl)),
-                tt,
-              ),
-            ),
-          ),
-        ),
-      ),
-    ),
-  );
-  closes = refl;
-}
+unfolding cut_on_literals
+carriage_returns = cut_by carriage_returns_row (position 19 4 0) [] refl refl (search row_by_computing) refl
 
 -- an empty text
 abbrev empty_text_row : List Written
@@ -259,19 +94,8 @@ empty_text_row =
     []
 
 empty_text : IsCut (tokens_between empty_text_row (position 0 1 0)) ([])
-unfolding is_blank is_break is_nul is_blank_or_end is_flow is_decimal_digit is_letter is_alpha is_uri is_tag is_anchor_name are_marks plain_element single_quoted_element double_quoted_element is_character_code numeric_escape escape begins_with_marker plain_value single_quoted_value double_quoted_value sign_of digit_of is_empty_line is_content_line row_of octet_at lead_of is_trail escaped_character uri_character directive_of
-empty_text = record {
-  begin = first;
-  end = position 0 1 0;
-  row = empty_text_row;
-  separation = [];
-  are_tokens = refl;
-  is_text = refl;
-  is_filled = refl;
-  is_row =
-      tt;
-  closes = refl;
-}
+unfolding cut_on_literals
+empty_text = cut_by empty_text_row (position 0 1 0) [] refl refl (search row_by_computing) refl
 
 -- a NUL ends the text
 abbrev nul_ends_row : List Written
@@ -285,36 +109,8 @@ nul_ends_row =
     []
 
 nul_ends : IsCut (tokens_between nul_ends_row (position 4 2 0)) (97 ∷ 58 ∷ 32 ∷ 98 ∷ 0 ∷ 99 ∷ 58 ∷ 32 ∷ 100 ∷ [])
-unfolding is_blank is_break is_nul is_blank_or_end is_flow is_decimal_digit is_letter is_alpha is_uri is_tag is_anchor_name are_marks plain_element single_quoted_element double_quoted_element is_character_code numeric_escape escape begins_with_marker plain_value single_quoted_value double_quoted_value sign_of digit_of is_empty_line is_content_line row_of octet_at lead_of is_trail escaped_character uri_character directive_of
-nul_ends = record {
-  begin = first;
-  end = position 4 2 0;
-  row = nul_ends_row;
-  separation = [];
-  are_tokens = refl;
-  is_text = refl;
-  is_filled = refl;
-  is_row = (
-    (refl, (refl, refl)),
-    (
-      (refl, inr (refl, refl)),
-      (
-        (refl, ((refl, refl, refl), refl)),
-        (
-          (refl, (refl, refl)),
-          (
-            (refl, ((refl, refl, refl), refl)),
-            (
-              (refl, (refl, refl, refl)),
-              tt,
-            ),
-          ),
-        ),
-      ),
-    ),
-  );
-  closes = refl;
-}
+unfolding cut_on_literals
+nul_ends = cut_by nul_ends_row (position 4 2 0) [] refl refl (search row_by_computing) refl
 
 -- in a flow mapping a colon before text begins a plain scalar
 abbrev value_colon_row : List Written
@@ -328,36 +124,8 @@ value_colon_row =
     []
 
 value_colon : IsCut (tokens_between value_colon_row (position 7 2 0)) (codes "{a: :b}")
-unfolding is_blank is_break is_nul is_blank_or_end is_flow is_decimal_digit is_letter is_alpha is_uri is_tag is_anchor_name are_marks plain_element single_quoted_element double_quoted_element is_character_code numeric_escape escape begins_with_marker plain_value single_quoted_value double_quoted_value sign_of digit_of is_empty_line is_content_line row_of octet_at lead_of is_trail escaped_character uri_character directive_of
-value_colon = record {
-  begin = first;
-  end = position 7 2 0;
-  row = value_colon_row;
-  separation = [];
-  are_tokens = refl;
-  is_text = refl;
-  is_filled = refl;
-  is_row = (
-    (refl, inl ((refl, refl), refl)),
-    (
-      (refl, inr (refl, refl)),
-      (
-        (refl, ((refl, refl, refl), refl)),
-        (
-          (refl, (refl, refl)),
-          (
-            (refl, ((refl, refl, refl), refl)),
-            (
-              (refl, inl ((refl, refl), refl)),
-              tt,
-            ),
-          ),
-        ),
-      ),
-    ),
-  );
-  closes = refl;
-}
+unfolding cut_on_literals
+value_colon = cut_by value_colon_row (position 7 2 0) [] refl refl (search row_by_computing) refl
 
 -- a key after its indicator in a flow mapping
 abbrev key_indicator_row : List Written
@@ -374,45 +142,8 @@ key_indicator_row =
     []
 
 key_indicator : IsCut (tokens_between key_indicator_row (position 23 5 0)) (codes "{\n  ? foo :,\n  : bar,\n}")
-unfolding is_blank is_break is_nul is_blank_or_end is_flow is_decimal_digit is_letter is_alpha is_uri is_tag is_anchor_name are_marks plain_element single_quoted_element double_quoted_element is_character_code numeric_escape escape begins_with_marker plain_value single_quoted_value double_quoted_value sign_of digit_of is_empty_line is_content_line row_of octet_at lead_of is_trail escaped_character uri_character directive_of
-key_indicator = record {
-  begin = first;
-  end = position 23 5 0;
-  row = key_indicator_row;
-  separation = [];
-  are_tokens = refl;
-  is_text = refl;
-  is_filled = refl;
-  is_row = (
-    (refl, inl ((refl, refl), refl)),
-    (
-      (refl, inl (refl, refl)),
-      (
-        (refl, ((refl, refl, refl), refl)),
-        (
-          (refl, (refl, refl)),
-          (
-            (refl, ((refl, refl), refl)),
-            (
-              (refl, (refl, refl)),
-              (
-                (refl, ((refl, refl, refl), refl)),
-                (
-                  (refl, ((refl, refl), refl)),
-                  (
-                    (refl, inl ((refl, refl), refl)),
-                    tt,
-                  ),
-                ),
-              ),
-            ),
-          ),
-        ),
-      ),
-    ),
-  );
-  closes = refl;
-}
+unfolding cut_on_literals
+key_indicator = cut_by key_indicator_row (position 23 5 0) [] refl refl (search row_by_computing) refl
 
 -- a colon next to a quoted scalar, and next to a flow collection
 abbrev adjacent_row : List Written
@@ -433,57 +164,8 @@ adjacent_row =
     []
 
 adjacent : IsCut (tokens_between adjacent_row (position 16 3 0)) (codes "{\"a\":1,'b'\n:[c]}")
-unfolding is_blank is_break is_nul is_blank_or_end is_flow is_decimal_digit is_letter is_alpha is_uri is_tag is_anchor_name are_marks plain_element single_quoted_element double_quoted_element is_character_code numeric_escape escape begins_with_marker plain_value single_quoted_value double_quoted_value sign_of digit_of is_empty_line is_content_line row_of octet_at lead_of is_trail escaped_character uri_character directive_of
-adjacent = record {
-  begin = first;
-  end = position 16 3 0;
-  row = adjacent_row;
-  separation = [];
-  are_tokens = refl;
-  is_text = refl;
-  is_filled = refl;
-  is_row = (
-    (refl, inl ((refl, refl), refl)),
-    (
-      (refl, inr (refl, refl)),
-      (
-        (refl, ((codes "a", refl, refl), refl)),
-        (
-          (refl, (refl, refl)),
-          (
-            (refl, ((refl, refl, refl), refl)),
-            (
-              (refl, ((refl, refl), refl)),
-              (
-                (refl, inr (refl, refl)),
-                (
-                  (refl, ((codes "b", refl, refl, refl), refl)),
-                  (
-                    (refl, (refl, refl)),
-                    (
-                      (refl, ((refl, refl), refl)),
-                      (
-                        (refl, ((refl, refl, refl), refl)),
-                        (
-                          (refl, ((refl, refl), refl)),
-                          (
-                            (refl, inl ((refl, refl), refl)),
-                            tt,
-                          ),
-                        ),
-                      ),
-                    ),
-                  ),
-                ),
-              ),
-            ),
-          ),
-        ),
-      ),
-    ),
-  );
-  closes = refl;
-}
+unfolding cut_on_literals
+adjacent = cut_by adjacent_row (position 16 3 0) [] refl refl (search row_by_computing) refl
 
 -- a key after its indicator in a flow sequence opens no pair
 abbrev no_pair_row : List Written
@@ -496,33 +178,8 @@ no_pair_row =
     []
 
 no_pair : IsCut (tokens_between no_pair_row (position 7 2 0)) (codes "[? : x]")
-unfolding is_blank is_break is_nul is_blank_or_end is_flow is_decimal_digit is_letter is_alpha is_uri is_tag is_anchor_name are_marks plain_element single_quoted_element double_quoted_element is_character_code numeric_escape escape begins_with_marker plain_value single_quoted_value double_quoted_value sign_of digit_of is_empty_line is_content_line row_of octet_at lead_of is_trail escaped_character uri_character directive_of
-no_pair = record {
-  begin = first;
-  end = position 7 2 0;
-  row = no_pair_row;
-  separation = [];
-  are_tokens = refl;
-  is_text = refl;
-  is_filled = refl;
-  is_row = (
-    (refl, ((refl, refl), refl)),
-    (
-      (refl, inl (refl, refl)),
-      (
-        (refl, (refl, refl)),
-        (
-          (refl, ((refl, refl, refl), refl)),
-          (
-            (refl, ((refl, refl), refl)),
-            tt,
-          ),
-        ),
-      ),
-    ),
-  );
-  closes = refl;
-}
+unfolding cut_on_literals
+no_pair = cut_by no_pair_row (position 7 2 0) [] refl refl (search row_by_computing) refl
 
 -- directives, anchors, tags and an alias
 abbrev declared_row : List Written
@@ -541,48 +198,5 @@ declared_row =
     []
 
 declared : IsCut (tokens_between declared_row (position 47 5 0)) (codes "%YAML 1.2\n%TAG !a! x:\n--- [!a!p &n 1, *n ]\n...\n")
-unfolding is_blank is_break is_nul is_blank_or_end is_flow is_decimal_digit is_letter is_alpha is_uri is_tag is_anchor_name are_marks plain_element single_quoted_element double_quoted_element is_character_code numeric_escape escape begins_with_marker plain_value single_quoted_value double_quoted_value sign_of digit_of is_empty_line is_content_line row_of octet_at lead_of is_trail escaped_character uri_character directive_of
-declared = record {
-  begin = first;
-  end = position 47 5 0;
-  row = declared_row;
-  separation = codes "\n";
-  are_tokens = refl;
-  is_text = refl;
-  is_filled = refl;
-  is_row = (
-    (refl, ((refl, refl, refl, refl, refl), refl)),
-    (
-      (refl, (inl (refl, refl, refl, refl, refl), refl)),
-      (
-        (refl, ((refl, refl, refl, refl), refl)),
-        (
-          (refl, ((refl, refl), refl)),
-          (
-            (refl, ((refl, refl), refl)),
-            (
-              (refl, ((refl, refl, refl), refl)),
-              (
-                (refl, ((refl, refl, refl), refl)),
-                (
-                  (refl, ((refl, refl), refl)),
-                  (
-                    (refl, ((refl, refl, refl), refl)),
-                    (
-                      (refl, ((refl, refl), refl)),
-                      (
-                        (refl, ((refl, refl, refl, refl), refl)),
-                        tt,
-                      ),
-                    ),
-                  ),
-                ),
-              ),
-            ),
-          ),
-        ),
-      ),
-    ),
-  );
-  closes = refl;
-}
+unfolding cut_on_literals
+declared = cut_by declared_row (position 47 5 0) (codes "\n") refl refl (search row_by_computing) refl

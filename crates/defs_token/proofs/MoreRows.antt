@@ -1,13 +1,9 @@
 -- More tokens of short texts that are cuts of them, by computing.
 use Rattle.std.proofs.Common.{List, [], ◌∷◌, inr, refl}
 use Rattle.std.specs.Prelude.{codes}
-use Rattle.defs_text.specs.Classes.{is_blank, is_break, is_nul, is_blank_or_end, is_flow, is_decimal_digit, is_letter, is_alpha, is_uri, is_tag, is_anchor_name, are_marks}
-use Rattle.defs_scalar.specs.FlowScalar.{plain_element, single_quoted_element, double_quoted_element, is_character_code, numeric_escape, escape, begins_with_marker, plain_value, single_quoted_value, double_quoted_value}
-use Rattle.defs_scalar.specs.BlockScalar.{sign_of, digit_of, is_empty_line, is_content_line, row_of}
-use Rattle.defs_scalar.specs.Tags.{octet_at, lead_of, is_trail, escaped_character, uri_character}
-use Rattle.defs_scalar.specs.Directives.{directive_of}
 use Rattle.defs_token.specs.Token.{tag_directive, document_start, document_end, block_sequence_start, block_mapping_start, block_end, flow_sequence_start, flow_sequence_end, flow_mapping_start, flow_mapping_end, block_entry, flow_entry, key, value, tag, scalar, plain, double_quoted, literal, folded}
 use Rattle.defs_token.specs.Cut.{Written, IsCut, IsCutOfBeginning, tokens_of, start_token}
+use Rattle.defs_token.proofs.OnLiterals.{cut_on_literals, cut_by, begun_by, row_by_computing}
 use Rattle.defs_token.proofs.Shown.{position, written, first, tokens_between}
 
 -- a directive of another name
@@ -19,27 +15,8 @@ ignored_directive_row =
     []
 
 ignored_directive : IsCut (tokens_between ignored_directive_row (position 14 3 0)) (codes "%FOO bar\n--- a")
-unfolding is_blank is_break is_nul is_blank_or_end is_flow is_decimal_digit is_letter is_alpha is_uri is_tag is_anchor_name are_marks plain_element single_quoted_element double_quoted_element is_character_code numeric_escape escape begins_with_marker plain_value single_quoted_value double_quoted_value sign_of digit_of is_empty_line is_content_line row_of octet_at lead_of is_trail escaped_character uri_character directive_of
-ignored_directive = record {
-  begin = first;
-  end = position 14 3 0;
-  row = ignored_directive_row;
-  separation = [];
-  are_tokens = refl;
-  is_text = refl;
-  is_filled = refl;
-  is_row = (
-    (refl, (inr (refl, refl, (refl, refl, refl, refl, refl)), refl)),
-    (
-      (refl, ((refl, refl, refl, refl), refl)),
-      (
-        (refl, ((refl, refl, refl), refl)),
-        tt,
-      ),
-    ),
-  );
-  closes = refl;
-}
+unfolding cut_on_literals
+ignored_directive = cut_by ignored_directive_row (position 14 3 0) [] refl refl (search row_by_computing) refl
 
 -- a verbatim tag
 abbrev verbatim_row : List Written
@@ -49,24 +26,8 @@ verbatim_row =
     []
 
 verbatim : IsCut (tokens_between verbatim_row (position 13 2 0)) (codes "!<tag:x%41> a")
-unfolding is_blank is_break is_nul is_blank_or_end is_flow is_decimal_digit is_letter is_alpha is_uri is_tag is_anchor_name are_marks plain_element single_quoted_element double_quoted_element is_character_code numeric_escape escape begins_with_marker plain_value single_quoted_value double_quoted_value sign_of digit_of is_empty_line is_content_line row_of octet_at lead_of is_trail escaped_character uri_character directive_of
-verbatim = record {
-  begin = first;
-  end = position 13 2 0;
-  row = verbatim_row;
-  separation = [];
-  are_tokens = refl;
-  is_text = refl;
-  is_filled = refl;
-  is_row = (
-    (refl, ((refl, refl), refl)),
-    (
-      (refl, ((refl, refl, refl), refl)),
-      tt,
-    ),
-  );
-  closes = refl;
-}
+unfolding cut_on_literals
+verbatim = cut_by verbatim_row (position 13 2 0) [] refl refl (search row_by_computing) refl
 
 -- a block scalar's token stands where its content begins
 abbrev block_scalar_row : List Written
@@ -84,48 +45,8 @@ block_scalar_row =
     []
 
 block_scalar : IsCut (tokens_between block_scalar_row (position 27 7 0)) (codes "a: |-\n\n   x\n\nb: >2 # c\n   y")
-unfolding is_blank is_break is_nul is_blank_or_end is_flow is_decimal_digit is_letter is_alpha is_uri is_tag is_anchor_name are_marks plain_element single_quoted_element double_quoted_element is_character_code numeric_escape escape begins_with_marker plain_value single_quoted_value double_quoted_value sign_of digit_of is_empty_line is_content_line row_of octet_at lead_of is_trail escaped_character uri_character directive_of
-block_scalar = record {
-  begin = first;
-  end = position 27 7 0;
-  row = block_scalar_row;
-  separation = [];
-  are_tokens = refl;
-  is_text = refl;
-  is_filled = refl;
-  is_row = (
-    (refl, (refl, refl)),
-    (
-      (refl, inr (refl, refl)),
-      (
-        (refl, ((refl, refl, refl), refl)),
-        (
-          (refl, (refl, refl)),
-          (
-            (refl, (refl, (3, refl, refl))),
-            (
-              (refl, inr (refl, refl)),
-              (
-                (refl, ((refl, refl, refl), refl)),
-                (
-                  (refl, (refl, refl)),
-                  (
-                    (refl, (refl, (2, refl, refl))),
-                    (
-                      (refl, (refl, refl, refl)),
-                      tt,
-                    ),
-                  ),
-                ),
-              ),
-            ),
-          ),
-        ),
-      ),
-    ),
-  );
-  closes = refl;
-}
+unfolding cut_on_literals
+block_scalar = cut_by block_scalar_row (position 27 7 0) [] refl refl (search row_by_computing) refl
 
 -- without content it stands at the further text
 abbrev empty_block_scalar_row : List Written
@@ -139,36 +60,8 @@ empty_block_scalar_row =
     []
 
 empty_block_scalar : IsCut (tokens_between empty_block_scalar_row (position 9 4 0)) (codes "- |\n \n- x")
-unfolding is_blank is_break is_nul is_blank_or_end is_flow is_decimal_digit is_letter is_alpha is_uri is_tag is_anchor_name are_marks plain_element single_quoted_element double_quoted_element is_character_code numeric_escape escape begins_with_marker plain_value single_quoted_value double_quoted_value sign_of digit_of is_empty_line is_content_line row_of octet_at lead_of is_trail escaped_character uri_character directive_of
-empty_block_scalar = record {
-  begin = first;
-  end = position 9 4 0;
-  row = empty_block_scalar_row;
-  separation = [];
-  are_tokens = refl;
-  is_text = refl;
-  is_filled = refl;
-  is_row = (
-    (refl, (refl, refl)),
-    (
-      (refl, (refl, refl, refl)),
-      (
-        (refl, (refl, (1, refl, refl))),
-        (
-          (refl, (refl, refl, refl)),
-          (
-            (refl, ((refl, refl, refl), refl)),
-            (
-              (refl, (refl, refl, refl)),
-              tt,
-            ),
-          ),
-        ),
-      ),
-    ),
-  );
-  closes = refl;
-}
+unfolding cut_on_literals
+empty_block_scalar = cut_by empty_block_scalar_row (position 9 4 0) [] refl refl (search row_by_computing) refl
 
 -- at the end of the text it stands at its header
 abbrev block_scalar_at_end_row : List Written
@@ -182,36 +75,8 @@ block_scalar_at_end_row =
     []
 
 block_scalar_at_end : IsCut (tokens_between block_scalar_at_end_row (position 7 3 0)) (codes "k: |+\n\n")
-unfolding is_blank is_break is_nul is_blank_or_end is_flow is_decimal_digit is_letter is_alpha is_uri is_tag is_anchor_name are_marks plain_element single_quoted_element double_quoted_element is_character_code numeric_escape escape begins_with_marker plain_value single_quoted_value double_quoted_value sign_of digit_of is_empty_line is_content_line row_of octet_at lead_of is_trail escaped_character uri_character directive_of
-block_scalar_at_end = record {
-  begin = first;
-  end = position 7 3 0;
-  row = block_scalar_at_end_row;
-  separation = [];
-  are_tokens = refl;
-  is_text = refl;
-  is_filled = refl;
-  is_row = (
-    (refl, (refl, refl)),
-    (
-      (refl, inr (refl, refl)),
-      (
-        (refl, ((refl, refl, refl), refl)),
-        (
-          (refl, (refl, refl)),
-          (
-            (refl, (refl, (1, refl, refl))),
-            (
-              (refl, (refl, refl, refl)),
-              tt,
-            ),
-          ),
-        ),
-      ),
-    ),
-  );
-  closes = refl;
-}
+unfolding cut_on_literals
+block_scalar_at_end = cut_by block_scalar_at_end_row (position 7 3 0) [] refl refl (search row_by_computing) refl
 
 -- a document marker ends a plain scalar
 abbrev document_marker_ends_row : List Written
@@ -223,30 +88,8 @@ document_marker_ends_row =
     []
 
 document_marker_ends : IsCut (tokens_between document_marker_ends_row (position 11 5 0)) (codes "a\n---\nb\n...")
-unfolding is_blank is_break is_nul is_blank_or_end is_flow is_decimal_digit is_letter is_alpha is_uri is_tag is_anchor_name are_marks plain_element single_quoted_element double_quoted_element is_character_code numeric_escape escape begins_with_marker plain_value single_quoted_value double_quoted_value sign_of digit_of is_empty_line is_content_line row_of octet_at lead_of is_trail escaped_character uri_character directive_of
-document_marker_ends = record {
-  begin = first;
-  end = position 11 5 0;
-  row = document_marker_ends_row;
-  separation = [];
-  are_tokens = refl;
-  is_text = refl;
-  is_filled = refl;
-  is_row = (
-    (refl, ((refl, refl, refl), refl)),
-    (
-      (refl, ((refl, refl, refl, refl), refl)),
-      (
-        (refl, ((refl, refl, refl), refl)),
-        (
-          (refl, ((refl, refl, refl, refl), refl)),
-          tt,
-        ),
-      ),
-    ),
-  );
-  closes = refl;
-}
+unfolding cut_on_literals
+document_marker_ends = cut_by document_marker_ends_row (position 11 5 0) [] refl refl (search row_by_computing) refl
 
 -- a closing bracket where no flow collection is open
 abbrev bracket_alone_row : List Written
@@ -255,21 +98,8 @@ bracket_alone_row =
     []
 
 bracket_alone : IsCut (tokens_between bracket_alone_row (position 3 2 0)) (codes "a ]")
-unfolding is_blank is_break is_nul is_blank_or_end is_flow is_decimal_digit is_letter is_alpha is_uri is_tag is_anchor_name are_marks plain_element single_quoted_element double_quoted_element is_character_code numeric_escape escape begins_with_marker plain_value single_quoted_value double_quoted_value sign_of digit_of is_empty_line is_content_line row_of octet_at lead_of is_trail escaped_character uri_character directive_of
-bracket_alone = record {
-  begin = first;
-  end = position 3 2 0;
-  row = bracket_alone_row;
-  separation = [];
-  are_tokens = refl;
-  is_text = refl;
-  is_filled = refl;
-  is_row = (
-    (refl, ((refl, refl, refl), refl)),
-    tt,
-  );
-  closes = refl;
-}
+unfolding cut_on_literals
+bracket_alone = cut_by bracket_alone_row (position 3 2 0) [] refl refl (search row_by_computing) refl
 
 -- a pair ends before the bracket of its own level
 abbrev nested_pair_row : List Written
@@ -289,54 +119,8 @@ nested_pair_row =
     []
 
 nested_pair : IsCut (tokens_between nested_pair_row (position 11 2 0)) (codes "[a: [b, c]]")
-unfolding is_blank is_break is_nul is_blank_or_end is_flow is_decimal_digit is_letter is_alpha is_uri is_tag is_anchor_name are_marks plain_element single_quoted_element double_quoted_element is_character_code numeric_escape escape begins_with_marker plain_value single_quoted_value double_quoted_value sign_of digit_of is_empty_line is_content_line row_of octet_at lead_of is_trail escaped_character uri_character directive_of
-nested_pair = record {
-  begin = first;
-  end = position 11 2 0;
-  row = nested_pair_row;
-  separation = [];
-  are_tokens = refl;
-  is_text = refl;
-  is_filled = refl;
-  is_row = (
-    (refl, ((refl, refl), refl)),
-    (
-      (refl, inr (refl, refl, refl, refl)),
-      (
-        (refl, inr (refl, refl)),
-        (
-          (refl, ((refl, refl, refl), refl)),
-          (
-            (refl, (refl, refl)),
-            (
-              (refl, ((refl, refl), refl)),
-              (
-                (refl, ((refl, refl, refl), refl)),
-                (
-                  (refl, ((refl, refl), refl)),
-                  (
-                    (refl, ((refl, refl, refl), refl)),
-                    (
-                      (refl, ((refl, refl), refl)),
-                      (
-                        (refl, inr (refl, refl, refl)),
-                        (
-                          (refl, ((refl, refl), refl)),
-                          tt,
-                        ),
-                      ),
-                    ),
-                  ),
-                ),
-              ),
-            ),
-          ),
-        ),
-      ),
-    ),
-  );
-  closes = refl;
-}
+unfolding cut_on_literals
+nested_pair = cut_by nested_pair_row (position 11 2 0) [] refl refl (search row_by_computing) refl
 
 -- tokens handed out before the stream's end
 abbrev begun_row : List Written
@@ -348,27 +132,8 @@ begun_row =
     []
 
 begun : IsCutOfBeginning (start_token first ∷ tokens_of begun_row) (codes "a: b\nc")
-unfolding is_blank is_break is_nul is_blank_or_end is_flow is_decimal_digit is_letter is_alpha is_uri is_tag is_anchor_name are_marks plain_element single_quoted_element double_quoted_element is_character_code numeric_escape escape begins_with_marker plain_value single_quoted_value double_quoted_value sign_of digit_of is_empty_line is_content_line row_of octet_at lead_of is_trail escaped_character uri_character directive_of
-begun = inr (record {
-  begin = first;
-  row = begun_row;
-  after = codes " b\nc";
-  are_tokens = refl;
-  is_text = refl;
-  is_row = (
-    (refl, (refl, refl)),
-    (
-      (refl, inr (refl, refl)),
-      (
-        (refl, ((refl, refl, refl), refl)),
-        (
-          (refl, (refl, refl)),
-          tt,
-        ),
-      ),
-    ),
-  );
-})
+unfolding cut_on_literals
+begun = inr (begun_by begun_row (codes " b\nc") refl (search row_by_computing))
 
 -- a key of which no more is known
 abbrev begun_at_key_row : List Written
@@ -378,21 +143,8 @@ begun_at_key_row =
     []
 
 begun_at_key : IsCutOfBeginning (start_token first ∷ tokens_of begun_at_key_row) (codes "a: b")
-unfolding is_blank is_break is_nul is_blank_or_end is_flow is_decimal_digit is_letter is_alpha is_uri is_tag is_anchor_name are_marks plain_element single_quoted_element double_quoted_element is_character_code numeric_escape escape begins_with_marker plain_value single_quoted_value double_quoted_value sign_of digit_of is_empty_line is_content_line row_of octet_at lead_of is_trail escaped_character uri_character directive_of
-begun_at_key = inr (record {
-  begin = first;
-  row = begun_at_key_row;
-  after = codes "a: b";
-  are_tokens = refl;
-  is_text = refl;
-  is_row = (
-    (refl, (refl, refl)),
-    (
-      (refl, inr (refl, refl)),
-      tt,
-    ),
-  );
-})
+unfolding cut_on_literals
+begun_at_key = inr (begun_by begun_at_key_row (codes "a: b") refl (search row_by_computing))
 
 -- a block scalar in column 0 ends at a document marker
 abbrev marker_ends_block_row : List Written
@@ -404,30 +156,8 @@ marker_ends_block_row =
     []
 
 marker_ends_block : IsCut (tokens_between marker_ends_block_row (position 14 5 0)) (codes "--- |\na\n---\nb\n")
-unfolding is_blank is_break is_nul is_blank_or_end is_flow is_decimal_digit is_letter is_alpha is_uri is_tag is_anchor_name are_marks plain_element single_quoted_element double_quoted_element is_character_code numeric_escape escape begins_with_marker plain_value single_quoted_value double_quoted_value sign_of digit_of is_empty_line is_content_line row_of octet_at lead_of is_trail escaped_character uri_character directive_of
-marker_ends_block = record {
-  begin = first;
-  end = position 14 5 0;
-  row = marker_ends_block_row;
-  separation = codes "\n";
-  are_tokens = refl;
-  is_text = refl;
-  is_filled = refl;
-  is_row = (
-    (refl, ((refl, refl, refl, refl), refl)),
-    (
-      (refl, (refl, (0, refl, refl))),
-      (
-        (refl, ((refl, refl, refl, refl), refl)),
-        (
-          (refl, ((refl, refl, refl), refl)),
-          tt,
-        ),
-      ),
-    ),
-  );
-  closes = refl;
-}
+unfolding cut_on_literals
+marker_ends_block = cut_by marker_ends_block_row (position 14 5 0) (codes "\n") refl refl (search row_by_computing) refl
 
 -- positions count characters
 abbrev characters_count_row : List Written
@@ -445,48 +175,8 @@ characters_count_row =
     []
 
 characters_count : IsCut (tokens_between characters_count_row (position 32 4 0)) (97 ∷ 58 ∷ 32 ∷ 124 ∷ 10 ∷ 32 ∷ 32 ∷ 233 ∷ 233 ∷ 233 ∷ 233 ∷ 233 ∷ 233 ∷ 233 ∷ 233 ∷ 233 ∷ 233 ∷ 233 ∷ 233 ∷ 233 ∷ 233 ∷ 233 ∷ 233 ∷ 233 ∷ 233 ∷ 233 ∷ 233 ∷ 10 ∷ 98 ∷ 58 ∷ 32 ∷ 49 ∷ [])
-unfolding is_blank is_break is_nul is_blank_or_end is_flow is_decimal_digit is_letter is_alpha is_uri is_tag is_anchor_name are_marks plain_element single_quoted_element double_quoted_element is_character_code numeric_escape escape begins_with_marker plain_value single_quoted_value double_quoted_value sign_of digit_of is_empty_line is_content_line row_of octet_at lead_of is_trail escaped_character uri_character directive_of
-characters_count = record {
-  begin = first;
-  end = position 32 4 0;
-  row = characters_count_row;
-  separation = [];
-  are_tokens = refl;
-  is_text = refl;
-  is_filled = refl;
-  is_row = (
-    (refl, (refl, refl)),
-    (
-      (refl, inr (refl, refl)),
-      (
-        (refl, ((refl, refl, refl), refl)),
-        (
-          (refl, (refl, refl)),
-          (
-            (refl, (refl, (2, refl, refl))),
-            (
-              (refl, inr (refl, refl)),
-              (
-                (refl, ((refl, refl, refl), refl)),
-                (
-                  (refl, (refl, refl)),
-                  (
-                    (refl, ((refl, refl, refl), refl)),
-                    (
-                      (refl, (refl, refl, refl)),
-                      tt,
-                    ),
-                  ),
-                ),
-              ),
-            ),
-          ),
-        ),
-      ),
-    ),
-  );
-  closes = refl;
-}
+unfolding cut_on_literals
+characters_count = cut_by characters_count_row (position 32 4 0) [] refl refl (search row_by_computing) refl
 
 -- a quoted scalar of one character that is no ASCII
 abbrev quoted_in_flow_row : List Written
@@ -499,33 +189,8 @@ quoted_in_flow_row =
     []
 
 quoted_in_flow : IsCut (tokens_between quoted_in_flow_row (position 8 2 0)) (91 ∷ 34 ∷ 233 ∷ 34 ∷ 44 ∷ 32 ∷ 49 ∷ 93 ∷ [])
-unfolding is_blank is_break is_nul is_blank_or_end is_flow is_decimal_digit is_letter is_alpha is_uri is_tag is_anchor_name are_marks plain_element single_quoted_element double_quoted_element is_character_code numeric_escape escape begins_with_marker plain_value single_quoted_value double_quoted_value sign_of digit_of is_empty_line is_content_line row_of octet_at lead_of is_trail escaped_character uri_character directive_of
-quoted_in_flow = record {
-  begin = first;
-  end = position 8 2 0;
-  row = quoted_in_flow_row;
-  separation = [];
-  are_tokens = refl;
-  is_text = refl;
-  is_filled = refl;
-  is_row = (
-    (refl, ((refl, refl), refl)),
-    (
-      (refl, ((233 ∷ [], refl, refl), refl)),
-      (
-        (refl, ((refl, refl), refl)),
-        (
-          (refl, ((refl, refl, refl), refl)),
-          (
-            (refl, ((refl, refl), refl)),
-            tt,
-          ),
-        ),
-      ),
-    ),
-  );
-  closes = refl;
-}
+unfolding cut_on_literals
+quoted_in_flow = cut_by quoted_in_flow_row (position 8 2 0) [] refl refl (search row_by_computing) refl
 
 -- a quoted scalar over lines, with blank lines after it
 abbrev quoted_lines_row : List Written
@@ -534,18 +199,5 @@ quoted_lines_row =
     []
 
 quoted_lines : IsCut (tokens_between quoted_lines_row (position 21 7 0)) (codes "\"a  \n  b\n\n c\\\n   d\"\n\n")
-unfolding is_blank is_break is_nul is_blank_or_end is_flow is_decimal_digit is_letter is_alpha is_uri is_tag is_anchor_name are_marks plain_element single_quoted_element double_quoted_element is_character_code numeric_escape escape begins_with_marker plain_value single_quoted_value double_quoted_value sign_of digit_of is_empty_line is_content_line row_of octet_at lead_of is_trail escaped_character uri_character directive_of
-quoted_lines = record {
-  begin = first;
-  end = position 21 7 0;
-  row = quoted_lines_row;
-  separation = codes "\n\n";
-  are_tokens = refl;
-  is_text = refl;
-  is_filled = refl;
-  is_row = (
-    (refl, ((codes "a  \n  b\n\n c\\\n   d", refl, refl), refl)),
-    tt,
-  );
-  closes = refl;
-}
+unfolding cut_on_literals
+quoted_lines = cut_by quoted_lines_row (position 21 7 0) (codes "\n\n") refl refl (search row_by_computing) refl

@@ -3,7 +3,7 @@ use Rattle.std.proofs.Common.{◌≡◌, ◌≢◌, List, [], ◌∷◌, Option,
 use Rattle.defs_text.specs.Position as chars
 use Rattle.defs_token.specs.Token.{Tok}
 use Rattle.defs_event.specs.Raw.{Raw, nothing_written}
-use Rattle.defs_event.specs.Grammar.{PerhapsFlow, no_flow, some_flow, Items, no_items, items, MoreItems, end_items, comma_end_items, comma_item, Item, single, single_pair, FlowValue, no_flow_value, flow_value, FlowPairs, no_flow_pairs, flow_pairs, MoreFlowPairs, end_flow_pairs, comma_end_flow_pairs, comma_flow_pair, FlowPair, flow_keyed, flow_keyless, flow_single}
+use Rattle.defs_event.specs.Grammar.{no_flow, some_flow, Items, no_items, items, MoreItems, end_items, comma_end_items, comma_item, Item, single, single_pair, no_flow_value, flow_value, FlowPairs, no_flow_pairs, flow_pairs, MoreFlowPairs, end_flow_pairs, comma_end_flow_pairs, comma_flow_pair, FlowPair, flow_keyed, flow_keyless, flow_single, more_items_tokens, more_items_events, more_flow_pairs_tokens, more_flow_pairs_events}
 use Rattle.model_parser.specs.declared.kind.Kind.TheVariants as kind
 use Rattle.model_parser.specs.declared.context.NodeContext.TheVariants as context
 use Rattle.model_parser.specs.declared.state.State.{State}
@@ -12,7 +12,8 @@ use Rattle.model_parser.specs.Kinds.{kind_of, begins_node, ends_item, ends_item_
 use Rattle.model_parser.specs.Goal as at
 use Rattle.model_parser.specs.Goal.{Comma, last, another, FlowComma, last_pair, another_pair}
 use Rattle.model_parser.specs.Turn.{Goes, Comes, Stays, Takes, Leaves, Refuses}
-use Rattle.model_parser.proofs.First.{clash, clash_cons, flow_node_first, more_items_first, item_key_first, more_pairs_first, flow_key_first, after_more_items, after_pair_value, after_pair_end, after_more_flow, after_flow_value, after_flow_empty}
+use Rattle.model_parser.proofs.First.{clash_cons, flow_node_first, more_items_first, item_key_first, more_pairs_first, flow_key_first, after_more_items, after_pair_value, after_pair_end, after_more_flow, after_flow_value, after_flow_empty}
+use Rattle.model_parser.proofs.KeyAndValue.{key_empty, key_node, value_colon, value_empty, valued_empty, valued_node}
 use Rattle.model_parser.proofs.Nodes.{tail_eq}
 
 -- ---- a flow sequence
@@ -88,49 +89,27 @@ item_node ss t a = record { nested = λ n f. ((f, n), (after_more_items ss, tt))
 
 -- ---- a pair that is an item
 
-pair_key_empty_goes : (ss : List State) (t : Tok) → begins_node context.Flow (kind_of t) ≡ false → (x : PerhapsFlow × FlowValue × MoreItems) → Stays at.pair_key ss (Some t) (Some nothing_written) at.done (state.FlowSequenceEntryMappingValue ∷ ss) x
-pair_key_empty_goes ss t a (no_flow, v, m) r h = (tt, ((v, m), r), refl, refl)
-pair_key_empty_goes ss t a (some_flow n, v, m) r h = absurd (clash (begins_node context.Flow) _ t (flow_node_first n _) a h)
+-- the events after such a pair's value
+abbrev pair_end_events : MoreItems → List Raw → List Raw
+pair_end_events m es = Raw.mapping_end ∷ more_items_events m es
 
 pub pair_key_empty : (ss : List State) (t : Tok) → begins_node context.Flow (kind_of t) ≡ false → Leaves at.pair_key ss (Some t) (Some nothing_written) at.done (state.FlowSequenceEntryMappingValue ∷ ss)
-pair_key_empty ss t a = record { nested = λ n f. ((f, n), tt); comes = λ x' r'. ((no_flow, r'.0.0, r'.0.1), r'.1, refl, refl); goes = λ n f. pair_key_empty_goes ss t a }
-
-pair_key_node_goes : (ss : List State) (t : Tok) → ends_item_key (kind_of t) ≡ false → (x : PerhapsFlow × FlowValue × MoreItems) → Stays at.pair_key ss (Some t) None (at.node context.Flow) (state.FlowSequenceEntryMappingValue ∷ ss) x
-pair_key_node_goes ss t a (no_flow, v, m) r h = absurd (clash ends_item_key _ t (item_key_first v m _) a h)
-pair_key_node_goes ss t a (some_flow n, v, m) r h = (n, ((v, m), r), refl, refl)
+pair_key_empty ss t a = record { nested = λ n f. ((f, n), tt); comes = λ x' r'. ((no_flow, r'.0.0, r'.0.1), r'.1, refl, refl); goes = λ n f. key_empty MoreItems more_items_tokens pair_end_events ss t a }
 
 pub pair_key_node : (ss : List State) (t : Tok) → ends_item_key (kind_of t) ≡ false → Leaves at.pair_key ss (Some t) None (at.node context.Flow) (state.FlowSequenceEntryMappingValue ∷ ss)
-pair_key_node ss t a = record { nested = λ n f. ((f, n), (after_pair_value ss, tt)); comes = λ x' r'. ((some_flow x', r'.0.0, r'.0.1), r'.1, refl, refl); goes = λ n f. pair_key_node_goes ss t a }
-
-pair_value_value_goes : (ss : List State) (x : FlowValue × MoreItems) → Goes at.pair_value ss Tok.value None at.pair_valued ss x
-pair_value_value_goes ss (no_flow_value, end_items) r ts h = cc
-pair_value_value_goes ss (no_flow_value, comma_end_items) r ts h = cc
-pair_value_value_goes ss (no_flow_value, comma_item i m) r ts h = cc
-pair_value_value_goes ss (flow_value v, m) r ts h = ((v, m), r, tail_eq h, refl)
+pair_key_node ss t a = record { nested = λ n f. ((f, n), (after_pair_value ss, tt)); comes = λ x' r'. ((some_flow x', r'.0.0, r'.0.1), r'.1, refl, refl); goes = λ n f. key_node MoreItems more_items_tokens pair_end_events ss ends_item_key item_key_first t a }
 
 pub pair_value_value : (ss : List State) → Takes at.pair_value ss Tok.value None at.pair_valued ss
-pair_value_value ss = record { nested = λ n f. (n, f); comes = λ x' r'. ((flow_value x'.0, x'.1), r', refl, refl); goes = λ n f. pair_value_value_goes ss }
-
-pair_value_empty_goes : (ss : List State) (t : Tok) → kind_of t ≢ kind.Value → (x : FlowValue × MoreItems) → Stays at.pair_value ss (Some t) (Some nothing_written) at.done (state.FlowSequenceEntryMappingEnd ∷ ss) x
-pair_value_empty_goes ss t a (no_flow_value, m) r h = (tt, (m, r), refl, refl)
-pair_value_empty_goes ss t a (flow_value v, m) r h = absurd (a (ap kind_of (sym h)))
+pair_value_value ss = record { nested = λ n f. (n, f); comes = λ x' r'. ((flow_value x'.0, x'.1), r', refl, refl); goes = λ n f. value_colon MoreItems more_items_tokens pair_end_events ss ends_item refl more_items_first }
 
 pub pair_value_empty : (ss : List State) (t : Tok) → kind_of t ≢ kind.Value → Leaves at.pair_value ss (Some t) (Some nothing_written) at.done (state.FlowSequenceEntryMappingEnd ∷ ss)
-pair_value_empty ss t a = record { nested = λ n f. ((f, n), tt); comes = λ x' r'. ((no_flow_value, r'.0), r'.1, refl, refl); goes = λ n f. pair_value_empty_goes ss t a }
-
-pair_valued_empty_goes : (ss : List State) (t : Tok) → begins_node context.Flow (kind_of t) ≡ false → (x : PerhapsFlow × MoreItems) → Stays at.pair_valued ss (Some t) (Some nothing_written) at.done (state.FlowSequenceEntryMappingEnd ∷ ss) x
-pair_valued_empty_goes ss t a (no_flow, m) r h = (tt, (m, r), refl, refl)
-pair_valued_empty_goes ss t a (some_flow n, m) r h = absurd (clash (begins_node context.Flow) _ t (flow_node_first n _) a h)
+pair_value_empty ss t a = record { nested = λ n f. ((f, n), tt); comes = λ x' r'. ((no_flow_value, r'.0), r'.1, refl, refl); goes = λ n f. value_empty MoreItems more_items_tokens pair_end_events ss t a }
 
 pub pair_valued_empty : (ss : List State) (t : Tok) → begins_node context.Flow (kind_of t) ≡ false → Leaves at.pair_valued ss (Some t) (Some nothing_written) at.done (state.FlowSequenceEntryMappingEnd ∷ ss)
-pair_valued_empty ss t a = record { nested = λ n f. ((f, n), tt); comes = λ x' r'. ((no_flow, r'.0), r'.1, refl, refl); goes = λ n f. pair_valued_empty_goes ss t a }
-
-pair_valued_node_goes : (ss : List State) (t : Tok) → ends_item (kind_of t) ≡ false → (x : PerhapsFlow × MoreItems) → Stays at.pair_valued ss (Some t) None (at.node context.Flow) (state.FlowSequenceEntryMappingEnd ∷ ss) x
-pair_valued_node_goes ss t a (no_flow, m) r h = absurd (clash ends_item _ t (more_items_first m _) a h)
-pair_valued_node_goes ss t a (some_flow n, m) r h = (n, (m, r), refl, refl)
+pair_valued_empty ss t a = record { nested = λ n f. ((f, n), tt); comes = λ x' r'. ((no_flow, r'.0), r'.1, refl, refl); goes = λ n f. valued_empty MoreItems more_items_tokens pair_end_events ss t a }
 
 pub pair_valued_node : (ss : List State) (t : Tok) → ends_item (kind_of t) ≡ false → Leaves at.pair_valued ss (Some t) None (at.node context.Flow) (state.FlowSequenceEntryMappingEnd ∷ ss)
-pair_valued_node ss t a = record { nested = λ n f. ((f, n), (after_pair_end ss, tt)); comes = λ x' r'. ((some_flow x', r'.0), r'.1, refl, refl); goes = λ n f. pair_valued_node_goes ss t a }
+pair_valued_node ss t a = record { nested = λ n f. ((f, n), (after_pair_end ss, tt)); comes = λ x' r'. ((some_flow x', r'.0), r'.1, refl, refl); goes = λ n f. valued_node MoreItems more_items_tokens pair_end_events ss ends_item more_items_first t a }
 
 pub pair_ends : (ss : List State) (p : Option Tok) → Leaves at.pair_end ss p (Some Raw.mapping_end) at.done (state.FlowSequenceEntry ∷ ss)
 pair_ends ss p = record { nested = λ n f. ((f, n), tt); comes = λ x' r'. (r'.0, r'.1, refl, refl); goes = λ n f x r h. (tt, (x, r), refl, refl) }
@@ -218,49 +197,23 @@ flow_pair_node_goes ss t a b (flow_single n, m) r h = (n, (m, r), refl, refl)
 pub flow_pair_node : (ss : List State) (t : Tok) → kind_of t ≢ kind.Key → kind_of t ≢ kind.Value → Leaves at.flow_pair ss (Some t) None (at.node context.Flow) (state.FlowMappingEmptyValue ∷ ss)
 flow_pair_node ss t a b = record { nested = λ n f. ((f, n), (after_flow_empty ss, tt)); comes = λ x' r'. ((flow_single x', r'.0), r'.1, refl, refl); goes = λ n f. flow_pair_node_goes ss t a b }
 
-flow_key_empty_goes : (ss : List State) (t : Tok) → begins_node context.Flow (kind_of t) ≡ false → (x : PerhapsFlow × FlowValue × MoreFlowPairs) → Stays at.flow_key ss (Some t) (Some nothing_written) at.done (state.FlowMappingValue ∷ ss) x
-flow_key_empty_goes ss t a (no_flow, v, m) r h = (tt, ((v, m), r), refl, refl)
-flow_key_empty_goes ss t a (some_flow n, v, m) r h = absurd (clash (begins_node context.Flow) _ t (flow_node_first n _) a h)
-
 pub flow_key_empty : (ss : List State) (t : Tok) → begins_node context.Flow (kind_of t) ≡ false → Leaves at.flow_key ss (Some t) (Some nothing_written) at.done (state.FlowMappingValue ∷ ss)
-flow_key_empty ss t a = record { nested = λ n f. ((f, n), tt); comes = λ x' r'. ((no_flow, r'.0.0, r'.0.1), r'.1, refl, refl); goes = λ n f. flow_key_empty_goes ss t a }
-
-flow_key_node_goes : (ss : List State) (t : Tok) → ends_flow_key (kind_of t) ≡ false → (x : PerhapsFlow × FlowValue × MoreFlowPairs) → Stays at.flow_key ss (Some t) None (at.node context.Flow) (state.FlowMappingValue ∷ ss) x
-flow_key_node_goes ss t a (no_flow, v, m) r h = absurd (clash ends_flow_key _ t (flow_key_first v m _) a h)
-flow_key_node_goes ss t a (some_flow n, v, m) r h = (n, ((v, m), r), refl, refl)
+flow_key_empty ss t a = record { nested = λ n f. ((f, n), tt); comes = λ x' r'. ((no_flow, r'.0.0, r'.0.1), r'.1, refl, refl); goes = λ n f. key_empty MoreFlowPairs more_flow_pairs_tokens more_flow_pairs_events ss t a }
 
 pub flow_key_node : (ss : List State) (t : Tok) → ends_flow_key (kind_of t) ≡ false → Leaves at.flow_key ss (Some t) None (at.node context.Flow) (state.FlowMappingValue ∷ ss)
-flow_key_node ss t a = record { nested = λ n f. ((f, n), (after_flow_value ss, tt)); comes = λ x' r'. ((some_flow x', r'.0.0, r'.0.1), r'.1, refl, refl); goes = λ n f. flow_key_node_goes ss t a }
-
-flow_after_value_goes : (ss : List State) (x : FlowValue × MoreFlowPairs) → Goes at.flow_after_key ss Tok.value None at.flow_valued ss x
-flow_after_value_goes ss (no_flow_value, end_flow_pairs) r ts h = cc
-flow_after_value_goes ss (no_flow_value, comma_end_flow_pairs) r ts h = cc
-flow_after_value_goes ss (no_flow_value, comma_flow_pair i m) r ts h = cc
-flow_after_value_goes ss (flow_value v, m) r ts h = ((v, m), r, tail_eq h, refl)
+flow_key_node ss t a = record { nested = λ n f. ((f, n), (after_flow_value ss, tt)); comes = λ x' r'. ((some_flow x', r'.0.0, r'.0.1), r'.1, refl, refl); goes = λ n f. key_node MoreFlowPairs more_flow_pairs_tokens more_flow_pairs_events ss ends_flow_key flow_key_first t a }
 
 pub flow_after_value : (ss : List State) → Takes at.flow_after_key ss Tok.value None at.flow_valued ss
-flow_after_value ss = record { nested = λ n f. (n, f); comes = λ x' r'. ((flow_value x'.0, x'.1), r', refl, refl); goes = λ n f. flow_after_value_goes ss }
-
-flow_after_empty_goes : (ss : List State) (t : Tok) → kind_of t ≢ kind.Value → (x : FlowValue × MoreFlowPairs) → Stays at.flow_after_key ss (Some t) (Some nothing_written) at.done (state.FlowMappingKey ∷ ss) x
-flow_after_empty_goes ss t a (no_flow_value, m) r h = (tt, (m, r), refl, refl)
-flow_after_empty_goes ss t a (flow_value v, m) r h = absurd (a (ap kind_of (sym h)))
+flow_after_value ss = record { nested = λ n f. (n, f); comes = λ x' r'. ((flow_value x'.0, x'.1), r', refl, refl); goes = λ n f. value_colon MoreFlowPairs more_flow_pairs_tokens more_flow_pairs_events ss ends_flow_pair refl more_pairs_first }
 
 pub flow_after_empty : (ss : List State) (t : Tok) → kind_of t ≢ kind.Value → Leaves at.flow_after_key ss (Some t) (Some nothing_written) at.done (state.FlowMappingKey ∷ ss)
-flow_after_empty ss t a = record { nested = λ n f. ((f, n), tt); comes = λ x' r'. ((no_flow_value, r'.0), r'.1, refl, refl); goes = λ n f. flow_after_empty_goes ss t a }
-
-flow_valued_empty_goes : (ss : List State) (t : Tok) → begins_node context.Flow (kind_of t) ≡ false → (x : PerhapsFlow × MoreFlowPairs) → Stays at.flow_valued ss (Some t) (Some nothing_written) at.done (state.FlowMappingKey ∷ ss) x
-flow_valued_empty_goes ss t a (no_flow, m) r h = (tt, (m, r), refl, refl)
-flow_valued_empty_goes ss t a (some_flow n, m) r h = absurd (clash (begins_node context.Flow) _ t (flow_node_first n _) a h)
+flow_after_empty ss t a = record { nested = λ n f. ((f, n), tt); comes = λ x' r'. ((no_flow_value, r'.0), r'.1, refl, refl); goes = λ n f. value_empty MoreFlowPairs more_flow_pairs_tokens more_flow_pairs_events ss t a }
 
 pub flow_valued_empty : (ss : List State) (t : Tok) → begins_node context.Flow (kind_of t) ≡ false → Leaves at.flow_valued ss (Some t) (Some nothing_written) at.done (state.FlowMappingKey ∷ ss)
-flow_valued_empty ss t a = record { nested = λ n f. ((f, n), tt); comes = λ x' r'. ((no_flow, r'.0), r'.1, refl, refl); goes = λ n f. flow_valued_empty_goes ss t a }
-
-flow_valued_node_goes : (ss : List State) (t : Tok) → ends_flow_pair (kind_of t) ≡ false → (x : PerhapsFlow × MoreFlowPairs) → Stays at.flow_valued ss (Some t) None (at.node context.Flow) (state.FlowMappingKey ∷ ss) x
-flow_valued_node_goes ss t a (no_flow, m) r h = absurd (clash ends_flow_pair _ t (more_pairs_first m _) a h)
-flow_valued_node_goes ss t a (some_flow n, m) r h = (n, (m, r), refl, refl)
+flow_valued_empty ss t a = record { nested = λ n f. ((f, n), tt); comes = λ x' r'. ((no_flow, r'.0), r'.1, refl, refl); goes = λ n f. valued_empty MoreFlowPairs more_flow_pairs_tokens more_flow_pairs_events ss t a }
 
 pub flow_valued_node : (ss : List State) (t : Tok) → ends_flow_pair (kind_of t) ≡ false → Leaves at.flow_valued ss (Some t) None (at.node context.Flow) (state.FlowMappingKey ∷ ss)
-flow_valued_node ss t a = record { nested = λ n f. ((f, n), (after_more_flow ss, tt)); comes = λ x' r'. ((some_flow x', r'.0), r'.1, refl, refl); goes = λ n f. flow_valued_node_goes ss t a }
+flow_valued_node ss t a = record { nested = λ n f. ((f, n), (after_more_flow ss, tt)); comes = λ x' r'. ((some_flow x', r'.0), r'.1, refl, refl); goes = λ n f. valued_node MoreFlowPairs more_flow_pairs_tokens more_flow_pairs_events ss ends_flow_pair more_pairs_first t a }
 
 pub flow_empties : (ss : List State) (p : Option Tok) → Leaves at.flow_empty ss p (Some nothing_written) at.done (state.FlowMappingKey ∷ ss)
 flow_empties ss p = record { nested = λ n f. ((f, n), tt); comes = λ x' r'. (r'.0, r'.1, refl, refl); goes = λ n f x r h. (tt, (x, r), refl, refl) }

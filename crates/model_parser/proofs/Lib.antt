@@ -5,3 +5,4 @@ pub mod Document
 pub mod Nodes
 pub mod Block
 pub mod Flow
+mod KeyAndValue
