@@ -184,10 +184,7 @@ const FAULTS: [Row; 72] = [
         "[-,",
         "plain scalar cannot start with '-' followed by ,[]{} at byte 1 line 1 column 2",
     ),
-    (
-        "-\na\n",
-        "simple key expect ':' at byte 4 line 3 column 1",
-    ),
+    ("-\na\n", "simple key expect ':' at byte 4 line 3 column 1"),
     (
         "a: 'b\n\t c'",
         "tab cannot be used as indentation at byte 6 line 2 column 1",

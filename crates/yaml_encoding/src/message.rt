@@ -32,7 +32,11 @@ fn push_list(text: &mut String, bytes: &[u8]) -> Result<(), AllocError>
 }
 
 /// The message of a malformation: its position, counted in bytes from the input's first, and its bytes.
-pub(crate) fn message(alloc: Global, position: usize, malformed: &[u8]) -> Result<String, AllocError>
+pub(crate) fn message(
+    alloc: Global,
+    position: usize,
+    malformed: &[u8],
+) -> Result<String, AllocError>
     ensures { IfOk result (λ m. string_chars m ≡ codes "Invalid character sequence at " ++ decimal position ++ codes ": [" ++ listed malformed.now ++ codes "]") }
 {
     let mut text = String::new(alloc);

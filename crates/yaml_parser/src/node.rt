@@ -148,7 +148,12 @@ impl<T: Iterator<Item = char>> Reader<T> {
 
     /// What stands after a node's properties. `next` was looked at.
     #[inline(never)]
-    fn content(&mut self, context: NodeContext, properties: Option<Properties>, next: Kind) -> Answer
+    fn content(
+        &mut self,
+        context: NodeContext,
+        properties: Option<Properties>,
+        next: Kind,
+    ) -> Answer
         requires { IsOfKind next self.old.tokens.peeked }
         ensures answers { ReadsAfter context properties self.old self.new result }
         ensures work { OnOk result (work self.new + owed properties ≤ work self.old) }
