@@ -2,7 +2,7 @@
 use Rattle.std.proofs.Common.{◌≡◌, List, [], ◌∷◌, ◌++◌, sym, ap, ◌∙◌, append_assoc, append-nil}
 use Rattle.std.specs.Prelude.{Result, OnOk}
 use Rattle.yaml_rust2.specs.Event.{Ev}
-use Rattle.yaml_tokens.specs.ErrorReport.{ErrorReport}
+use Rattle.yaml_rust2.specs.ErrorReport.{ErrorReport}
 use Rattle.yaml_rust2.specs.Loads.{Receives, no_event, one_event}
 use Rattle.yaml_rust2.specs.Position.{Position}
 use Rattle.uses.specs.Anchors.{listed, number_of, anchors_in}

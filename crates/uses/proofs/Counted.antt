@@ -2,7 +2,7 @@
 use Rattle.std.proofs.Common.{false, ◌≡◌, ◌≤◌, ◌+◌, ℕ, List, [], ◌∷◌, ◌++◌, arith}
 use Rattle.std.specs.Prelude.{Result, OnOk}
 use Rattle.yaml_rust2.specs.Event.{Ev}
-use Rattle.yaml_tokens.specs.ErrorReport.{ErrorReport}
+use Rattle.yaml_rust2.specs.ErrorReport.{ErrorReport}
 use Rattle.yaml_rust2.specs.Loads.{Receives, no_event, one_event}
 use Rattle.yaml_rust2.specs.Position.{Position}
 use Rattle.yaml_rust2.specs.TextEvents.{HasEvents}

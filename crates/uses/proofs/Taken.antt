@@ -3,7 +3,7 @@ use Rattle.std.proofs.Common.{◌≡◌, ℕ, List, Ok, Err, false, refl, subst}
 use Rattle.std.specs.Prelude.{Bool, Result, IfOk, Vec}
 use Rattle.std.specs.declared.alloc.Global.{Global}
 use Rattle.yaml_rust2.specs.Event.{Ev}
-use Rattle.yaml_tokens.specs.ErrorReport.{ErrorReport}
+use Rattle.yaml_rust2.specs.ErrorReport.{ErrorReport}
 use Rattle.yaml_rust2.specs.Loads.{Receives}
 use Rattle.yaml_rust2.specs.Position.{Position}
 use Rattle.yaml_rust2.specs.TextLoads.{LoadsText}

@@ -13,6 +13,15 @@ use yaml_chars::class::{is_blank, is_break};
 use yaml_chars::{Marker, Run, Text, Window};
 use yaml_tokens::{Chomping, Fault, Problem};
 
+/// A block scalar's `|` or `>`: whether it is the literal one, its position, and the column of the
+/// innermost block collection around it, counted from 1, 0 where none is open.
+#[derive(Clone, Copy)]
+struct Indicator {
+    literal: bool,
+    position: Marker,
+    indent: usize,
+}
+
 /// The lines of a block scalar so far: the text up to the last content line, the breaks after
 /// that line's own, whether it has one, and whether it starts with a blank.
 #[derive(Drop)]
@@ -307,23 +316,22 @@ fn read_column<T: Iterator<Item = char>>(
 /// answer is the token's position.
 fn read_body<T: Iterator<Item = char>>(
     window: &mut Window<T>,
-    literal: bool,
-    indent: usize,
+    indicator: Indicator,
     column: usize,
     chomping: Chomping,
     block: &mut Lines,
 ) -> Result<Marker, Fault>
     requires fresh { lines block.old ≡ record { text = []; breaks = (lines block.old).breaks; broken = false; blank = false } }
     ensures ok { IfOk result (λ position. Reads window.old window.new (λ a b.
-        body literal indent chomping (read a window.old (column_shown column (lines block.old).breaks)) ≡ Ok (read b window.new (record { position = position; text = (lines block.new).text })))) }
+        body indicator.literal indicator.indent chomping (read a window.old (column_shown column (lines block.old).breaks)) ≡ Ok (read b window.new (record { position = position; text = (lines block.new).text })))) }
     ensures err { IfErr result (λ e. Reads window.old window.new (λ a b. e ≢ Fault.OutOfMemory →
-        body literal indent chomping (read a window.old (column_shown column (lines block.old).breaks)) ≡ Err e)) }
+        body indicator.literal indicator.indent chomping (read a window.old (column_shown column (lines block.old).breaks)) ≡ Err e)) }
 {
     let position = window.mark();
-    if position.col() < column && indent <= position.col() {
+    if position.col() < column && indicator.indent <= position.col() {
         return Err(Fault::At(Problem::BlockScalarIndentation, position));
     }
-    read_lines(window, literal, column, block)?;
+    read_lines(window, indicator.literal, column, block)?;
     let col = window.mark().col();
     let unbroken = window.look_ch() == '\0' && column <= col && 0 < col;
     chomp(block, chomping, unbroken)?;
@@ -334,25 +342,23 @@ fn read_body<T: Iterator<Item = char>>(
 fn read_after<T: Iterator<Item = char>>(
     alloc: Global,
     window: &mut Window<T>,
-    literal: bool,
-    indent: usize,
-    start: Marker,
+    indicator: Indicator,
     header: Header,
 ) -> Result<(Marker, String), Fault>
-    requires indented { indent ≤ 2 ^ 63 }
+    requires indented { indicator.indent ≤ 2 ^ 63 }
     requires increment { header.increment < 10 }
     ensures ok { IfOk result (λ s. Reads window.old window.new (λ a b.
-        after_header literal indent start (header_shown header) (content indent header.increment a (position_of window.old)) ≡ Ok (read b window.new (record { position = s.0; text = string_chars s.1 })))) }
+        after_header indicator.literal indicator.indent indicator.position (header_shown header) (content indicator.indent header.increment a (position_of window.old)) ≡ Ok (read b window.new (record { position = s.0; text = string_chars s.1 })))) }
     ensures err { IfErr result (λ e. Reads window.old window.new (λ a b. e ≢ Fault.OutOfMemory →
-        after_header literal indent start (header_shown header) (content indent header.increment a (position_of window.old)) ≡ Err e)) }
+        after_header indicator.literal indicator.indent indicator.position (header_shown header) (content indicator.indent header.increment a (position_of window.old)) ≡ Err e)) }
 {
     let mut block = Lines::new(alloc);
-    let column = read_column(window, indent, header.increment, &mut block)?;
+    let column = read_column(window, indicator.indent, header.increment, &mut block)?;
     if window.ch() == '\0' {
         let text = take_empty(header.chomping, header.broken, block)?;
-        return Ok((start, text.into_string()));
+        return Ok((indicator.position, text.into_string()));
     }
-    let position = read_body(window, literal, indent, column, header.chomping, &mut block)?;
+    let position = read_body(window, indicator, column, header.chomping, &mut block)?;
     Ok((position, block.text.into_string()))
 }
 
@@ -372,8 +378,12 @@ pub fn read_block_scalar<T: Iterator<Item = char>>(
     ensures err { IfErr result (λ e. Refuses (block literal indent) window.old window.new e) }
     ensures less { OnOk result (window.new.left < window.old.left) }
 {
-    let start = window.mark();
+    let indicator = Indicator {
+        literal,
+        position: window.mark(),
+        indent,
+    };
     window.skip();
-    let header = read_header(window, start)?;
-    read_after(alloc, window, literal, indent, start, header)
+    let header = read_header(window, indicator.position)?;
+    read_after(alloc, window, indicator, header)
 }
