@@ -10,7 +10,6 @@ pub fn read_documents_come_back()
 {}
 
 /// An alias inside the node that it means stands for a bad value.
-#[tactic(auto, using(crate::proofs::InsideNode::aliases_are_bad))]
 pub fn aliases_inside_their_node_are_bad_values()
     ensures { AliasesInsideTheirNodeAreBadValues }
 {}

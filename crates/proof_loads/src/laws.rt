@@ -6,32 +6,27 @@ ghost use Rattle.defs_layout.specs.DumpIsInjective.{DumpIsInjective};
 use yaml_parser::MarkedEventReceiver;
 
 /// A text is read as at most one list of trees.
-#[tactic(auto, using(crate::proofs::OneReading::texts_are_read_in_one_way))]
 pub fn texts_are_read_in_one_way()
     ensures { TextsAreReadInOneWay }
 {}
 
 /// If a text is read as trees, no parser refuses one of its tokens.
-#[tactic(auto, using(crate::proofs::Texts::texts_are_not_refused))]
 pub fn read_texts_are_not_refused()
     ensures { ReadTextsAreNotRefused }
 {}
 
 /// If a text is read as trees, the only fault of its scanner and its parser is refused memory.
-#[tactic(auto, using(crate::proofs::Texts::only_memory_is_wanted))]
 pub fn read_texts_have_no_fault_but_memory()
     ensures { ReadTextsHaveNoFaultButMemory }
 {}
 
 /// If a text is read as trees, a loader is at work after every beginning of its events: no key came twice, and no
 /// event stood out of nesting.
-#[tactic(auto, using(crate::proofs::Texts::events_are_read))]
 pub fn events_of_read_texts_are_read()
     ensures { EventsOfReadTextsAreRead }
 {}
 
 /// If a text is read as trees, a loader that took all of its events has just these trees as documents.
-#[tactic(auto, using(crate::proofs::Texts::texts_have_their_trees))]
 pub fn read_texts_have_their_trees()
     ensures { ReadTextsHaveTheirTrees }
 {}
@@ -84,7 +79,6 @@ pub fn characters_are_the_text<T: Iterator<Item = char>>()
 {}
 
 /// Everything that a scanner of a `&str` promises of its text holds of that `&str` up to its first NUL.
-#[tactic(auto, using(crate::proofs::Spelled::strings_are_the_text))]
 pub fn strings_are_the_text()
     ensures { StringsAreTheText }
 {}

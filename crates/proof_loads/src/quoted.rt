@@ -10,7 +10,6 @@ pub fn quoted_texts_are_read_as_their_string()
 {}
 
 /// No text of one quoted scalar has a NUL.
-#[tactic(auto, using(crate::proofs::QuotedTexts::quoted_texts_have_no_nul))]
 pub fn quoted_texts_are_without_nul()
     ensures { QuotedTextsAreWithoutNul }
 {}

@@ -260,7 +260,7 @@ module _ {R : Type 0} (takes : R → Ev → Position → Result (Unit {0}) Error
   pub ends_well : {on : List (Answer ErrorReport) → Loaded ErrorReport} {now now' : Parsed} {s s' : R} (e : Ev) (p : Position) → Going takes multi old r on now s → on (event e p ∷ []) ≡ push e p (ends run.well 0)
       → Pulls now (event e p) now' → takes s e p (Ok tt) s' → Loads takes multi old r (Ok tt) now' s'
   ends_well {on} {now} {now'} {s} {s'} e p g h pulls took =
-      let l = push {ErrorReport = ErrorReport} e p (ends run.well 0) in
+      let l = push {Fault = ErrorReport} e p (ends run.well 0) in
       let w = whole_run (event e p) l g h in
       record {
         answers = given ErrorReport g.events ++ event e p ∷ [];

@@ -203,7 +203,7 @@ record Next {T : Type 0} (pull new : Pull T) (given : List (Ev × Position)) (st
   pub over : ended ≡ true → ev_of e.0 ≡ Ev.stream_end
   pub less : ev_of e.0 ≢ Ev.stream_end → work new.reader < work pull.reader
   pub before : pull.kept ≡ None
-  pub names_after : new.kept ≡ None
+  pub after : new.kept ≡ None
 
 next_held : {T : Type 0} (pull new : Pull T) (given : List (Ev × Position)) (current : Option (Event × Position)) (started ended : Bool) (e : Event × Position)
     → ended ≡ has_end given → IsHeld pull.reader (read_so given ended (option_map placed current)) pull.kept → is_some current ≡ false
@@ -217,7 +217,7 @@ next_held {T} pull new given current started ended e end held none (k, l, inl a)
       over = λ b. a.2;
       less = λ n. absurd (n a.2);
       before = k;
-      names_after = l;
+      after = l;
     }
 next_held {T} pull new given current started ended e end held none (k, l, inr b) =
     let es = read_so given ended (option_map placed current) in
@@ -228,7 +228,7 @@ next_held {T} pull new given current started ended e end held none (k, l, inr b)
       over = λ c. absurd (both_ways ended going c);
       less = λ n. b.1;
       before = k;
-      names_after = l;
+      after = l;
     }
 
 pub next_holds : {T : Type 0} (pull new : Pull T) (given : List (Ev × Position)) (current : Option (Event × Position)) (started ended : Bool) (misplaced : Option Position) (e : Event × Position)
@@ -406,7 +406,6 @@ held_keeping {T} p k es (Some z) f x = (x.0, faulted_keeping z.stop x.1)
     faulted_keeping (stop.Own OutOfMemory) y = tt
     faulted_keeping (stop.Own (fault.At q n)) y = (stuck y.0, y.1)
     faulted_keeping stop.Scan y = y
-    faulted_keeping stop.Ended y = y
 
 one_true : (a : Bool) {b : Bool} → (a || b) ≡ true → (a ≡ true) ⊎ (b ≡ true)
 one_true true h = inl refl

@@ -46,8 +46,7 @@ impl<T: Iterator<Item = char>> Reader<T> {
         ensures at { OnOk result ((g : Goal) → is_over g ≡ false → Carries g self.old self.new) }
         ensures err { IfErr result (λ s. (g : Goal) → is_over g ≡ false → Fails g self.old self.new s) }
     {
-        let kind = self.tokens.peek()?;
-        Ok(kind)
+        self.tokens.peek()
     }
 
     /// Where the token stands that was looked at.
@@ -104,7 +103,6 @@ impl<T: Iterator<Item = char>> Reader<T> {
                 Some(error) => error,
                 None => ScanError::memory(mark),
             },
-            Stop::Ended => ScanError::memory(mark),
         }
     }
 
