@@ -14,10 +14,10 @@ use Rattle.yaml_tree.specs.declared.yaml.Yaml.TheVariants.{Real, Integer, String
 use Rattle.yaml_tree.specs.declared.array.Array as arrays
 use Rattle.yaml_tree.specs.declared.hash.Hash as hashes
 use Rattle.yaml_emitter.specs.At.{below, stacked}
-use Rattle.yaml_emitter.specs.Entries.{before_value, after_mark, before_entry, item_mark, second_mark, scalar_key, pair_text, entries_text, scalar_box}
-use Rattle.yaml_emitter.specs.Writing.{Wrote, WritesUnless, IsLeft}
+use Rattle.yaml_emitter.specs.Entries.{after_mark, before_entry, item_mark, second_mark, scalar_key, pair_text, entries_text, scalar_box}
+use Rattle.yaml_emitter.specs.Writing.{WritesUnless, IsLeft}
 use Rattle.yaml_emitter.proofs.EntryLemmas.{HasLines, lines, box_lines, block_of_items, block_of_pairs, next_item, next_pair}
-use Rattle.yaml_emitter.proofs.WritingLemmas.{writes_late, left_as}
+use Rattle.yaml_emitter.proofs.WritingLemmas.{left_as}
 
 -- a node that is neither an array nor a hash
 pub scalar_box_is : (y : Yaml) (c m r : Bool) → ((a : arrays.Array) → y ≡ Array a → ⊥) → ((h : hashes.Hash) → y ≡ Hash h → ⊥) → scalar_box m r (view y) ≡ box c m r (view y)
@@ -31,18 +31,12 @@ scalar_box_is (Alias n) c m r a h = refl
 scalar_box_is Null c m r a h = refl
 scalar_box_is BadValue c m r a h = refl
 
--- a value after what stands before it
-pub value_writes : {W E : Type 0} {gives leaves : W → List ℕ → W → Type 0} {w v u : W} {r : Result (Unit {0}) E} (lower c m : Bool) (level : ℕ) (t s : Tree)
-    → t ≡ s → Wrote gives w (before_value lower level t) v
-    → WritesUnless (2 ^ 62 ≤ level + 1 + levels s) gives leaves v r (stacked (level + 1) (box c m false s)) u
-    → WritesUnless (2 ^ 62 ≤ level + 1 + levels t) gives leaves w r (after_mark lower level t (box c m false t)) u
-value_writes {gives = gives} {leaves} {v = v} {u} {r} lower c m level t s e p q =
-    writes_late p (subst (λ x. WritesUnless (2 ^ 62 ≤ level + 1 + levels x) gives leaves v r (stacked (level + 1) (box c m false x)) u) (sym e) q)
-
--- the root
-pub root_writes : {W E : Type 0} {gives leaves : W → List ℕ → W → Type 0} {w v : W} {r : Result (Unit {0}) E} (c m : Bool) (t s : Tree)
-    → t ≡ s → WritesUnless (2 ^ 62 ≤ levels s) gives leaves w r (stacked 0 (box c m true s)) v → WritesUnless (2 ^ 62 ≤ levels t) gives leaves w r (stacked 0 (box c m true t)) v
-root_writes {gives = gives} {leaves} {w} {v} {r} c m t s e q = subst (λ x. WritesUnless (2 ^ 62 ≤ levels x) gives leaves w r (stacked 0 (box c m true x)) v) (sym e) q
+-- an array or a hash
+pub node_writes : {W E : Type 0} {gives leaves : W → List ℕ → W → Type 0} {w v : W} {r : Result (Unit {0}) E} (c m at_root : Bool) (level : ℕ) (t s : Tree)
+    → t ≡ s → WritesUnless (2 ^ 62 ≤ level + levels s) gives leaves w r (stacked level (box c m at_root s)) v
+    → WritesUnless (2 ^ 62 ≤ level + levels t) gives leaves w r (stacked level (box c m at_root t)) v
+node_writes {gives = gives} {leaves} {w} {v} {r} c m at_root level t s e q =
+    subst (λ x. WritesUnless (2 ^ 62 ≤ level + levels x) gives leaves w r (stacked level (box c m at_root x)) v) (sym e) q
 
 -- ---- what is left of an array or hash
 

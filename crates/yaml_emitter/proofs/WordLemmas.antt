@@ -13,7 +13,7 @@ use Rattle.defs_text.specs.Text.{is_empty}
 use Rattle.defs_tree.specs.Quoting.{is_quoted, has_outer_space, has_indicator_first, is_unfit_for_plain, reserved_words, is_float_word}
 use Rattle.defs_tree.specs.Typing.{is_sign, typing, is_string}
 use Rattle.defs_tree.proofs.GrammarLaws.{after_one, Rejects, optional_one-after, followed_by-empty}
-use Rattle.yaml_tree.proofs.WideTexts.{low, Wide, low_bytes}
+use Rattle.yaml_typing.proofs.WideTexts.{low, Wide, low_bytes}
 use Rattle.yaml_emitter.specs.Words.{is_unfit, is_word, is_name, float_names}
 use Rattle.yaml_emitter.proofs.TextLemmas.{low_chars}
 

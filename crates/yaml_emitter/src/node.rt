@@ -42,18 +42,27 @@ pub(crate) fn write_document<W: Writer>(
     ensures valid { OnOk result (IsValid (view root.now)) }
 {
     put_ascii(out, "---\n")?;
-    write_root(out, settings, root)
+    write_node(out, settings, true, 0, root)
 }
 
-fn write_root<W: Writer>(out: &mut W, settings: &Settings, node: &Yaml) -> fmt::Result
-    ensures text { WritesUnless (2 ^ 62 ≤ levels (view node.now)) W.put_gives W.put_leaves out.old result
-        (stacked 0 (box settings.now.compact settings.now.multiline true (view node.now))) out.new }
+// A node that starts at the level.
+#[cycle(write)]
+fn write_node<W: Writer>(
+    out: &mut W,
+    settings: &Settings,
+    at_root: bool,
+    level: usize,
+    node: &Yaml,
+) -> fmt::Result
+    requires { level < 2 ^ 62 }
+    ensures text { WritesUnless (2 ^ 62 ≤ level + levels (view node.now)) W.put_gives W.put_leaves out.old result
+        (stacked level (box settings.now.compact settings.now.multiline at_root (view node.now))) out.new }
     ensures valid { OnOk result (IsValid (view node.now)) }
 {
     match node {
-        Yaml::Array(items) => write_array(out, settings, 0, items),
-        Yaml::Hash(pairs) => write_hash(out, settings, 0, pairs),
-        _ => write_scalar(out, settings.multiline, true, 0, node),
+        Yaml::Array(items) => write_array(out, settings, level, items),
+        Yaml::Hash(pairs) => write_hash(out, settings, level, pairs),
+        _ => write_scalar(out, settings.multiline, at_root, level, node),
     }
 }
 
@@ -72,11 +81,7 @@ fn write_value<W: Writer>(
     ensures valid { OnOk result (IsValid (view node.now)) }
 {
     begin_value(out, level, blocks_lower, node)?;
-    match node {
-        Yaml::Array(items) => write_array(out, settings, level + 1, items),
-        Yaml::Hash(pairs) => write_hash(out, settings, level + 1, pairs),
-        _ => write_scalar(out, settings.multiline, false, level + 1, node),
-    }
+    write_node(out, settings, false, level + 1, node)
 }
 
 // A space, or a new line where the value is a block that goes lower.

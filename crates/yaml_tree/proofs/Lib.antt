@@ -3,7 +3,6 @@ pub mod Comparing
 pub mod Copied
 pub mod Discarding
 pub mod Fed
-pub mod FirstByte
 pub mod Flattened
 pub mod Halving
 pub mod Indexed
@@ -16,6 +15,4 @@ pub mod Rows
 pub mod Shifting
 pub mod TextLemmas
 pub mod TextOrder
-pub mod TypingLemmas
 pub mod WeightLemmas
-pub mod WideTexts

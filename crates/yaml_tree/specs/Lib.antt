@@ -6,12 +6,10 @@ pub mod Flat
 pub mod Items
 pub mod Laws
 pub mod Digests
-pub mod Meanings
 pub mod Node
 pub mod Places
 pub mod Probes
 pub mod Ranked
 pub mod Rows
-pub mod Values
 pub mod View
 pub mod Weight

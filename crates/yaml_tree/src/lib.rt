@@ -27,5 +27,4 @@ pub use array::Array;
 pub use hash::Hash;
 pub use items::YamlIter;
 pub use steps::Steps;
-pub use typing::{is_real, is_string};
 pub use yaml::Yaml;

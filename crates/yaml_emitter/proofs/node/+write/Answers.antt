@@ -1,4 +1,4 @@
-use Rattle.std.proofs.Common.{refl, ap, sym, ◌∙◌, subst, ◌+◌, arith}
+use Rattle.std.proofs.Common.{refl, ap, sym, ◌∙◌, subst, arith}
 use Rattle.std.specs.Prelude.{true}
 use Rattle.defs_tree.specs.Box.{item_boxes, pair_boxes}
 use Rattle.defs_tree.specs.Tree.{array, hash, items_of, pairs_of}
@@ -9,7 +9,7 @@ use Rattle.yaml_emitter.specs.At.{stacked}
 use Rattle.yaml_emitter.specs.Entries.{entries_text}
 use Rattle.yaml_emitter.specs.ValidTree.{AreValid, ArePairsValid}
 use Rattle.yaml_emitter.proofs.EntryLemmas.{items_text, pairs_text, two_levels}
-use Rattle.yaml_emitter.proofs.NodeLemmas.{scalar_box_is, value_writes, items_left, pairs_left, item_within, pair_within, full_items, full_pairs, none_left, no_pair_left, scalar_pair, complex_pair}
+use Rattle.yaml_emitter.proofs.NodeLemmas.{scalar_box_is, node_writes, items_left, pairs_left, item_within, pair_within, full_items, full_pairs, none_left, no_pair_left, scalar_pair, complex_pair}
 use Rattle.yaml_emitter.proofs.ValidLemmas.{unless_ok, pair_valid, in_any, other_is_scalar, valid_as, items_valid, pairs_valid, no_items_left, no_pairs_left, valid_hash, empty_array, empty_hash}
 use Rattle.yaml_emitter.proofs.WritingLemmas.{writes_late, writes_err, writes_for, writes_as, stopped_early, stopped_late, stopped_for, stopped_here, left_all, left_as, left_after, left_none, left_stopped, writes_ok}
 use Rattle.yaml_emitter.proofs.node.+write.Goals as goal
@@ -17,22 +17,24 @@ use Rattle.yaml_emitter.proofs.node.+write.Goals as goal
 pub write_value-returns-in_err-begin_value-clause-text : goal.write_value-returns-in_err-begin_value-clause-text
 write_value-returns-in_err-begin_value-clause-text g t c = writes_err c.from_residual.ensures.0 (stopped_early _ (stopped_for (λ b. absurd b) (c.in_err-begin_value.ensures.err refl)))
 
-pub write_value-returns-in_default-clause-text : goal.write_value-returns-in_default-clause-text
-write_value-returns-in_default-clause-text g t c =
-    writes_late (c.in_ok-begin_value.ensures.ok refl)
-    (writes_as (ap (stacked (c.args.level + 1)) (scalar_box_is c.args.node.now _ _ _ c.in_default.not-Array c.in_default.not-Hash)) (writes_for (λ b. absurd b) c.write_scalar.ensures.text))
+pub write_value-returns-clause-text : goal.write_value-returns-clause-text
+write_value-returns-clause-text g t c = writes_late (c.in_ok-begin_value.ensures.ok refl) c.write_node.ensures.text
 
-pub write_value-returns-in-Array-clause-text : goal.write_value-returns-in-Array-clause-text
-write_value-returns-in-Array-clause-text g t c = value_writes _ _ _ c.args.level _ _ (ap view c.in-Array.is) (c.in_ok-begin_value.ensures.ok refl) c.write_array.ensures.text
+pub write_node-returns-in_default-clause-text : goal.write_node-returns-in_default-clause-text
+write_node-returns-in_default-clause-text g t c =
+    writes_as (ap (stacked c.args.level) (scalar_box_is c.args.node.now _ _ _ c.in_default.not-Array c.in_default.not-Hash)) (writes_for (λ b. absurd b) c.write_scalar.ensures.text)
 
-pub write_value-returns-in-Hash-clause-text : goal.write_value-returns-in-Hash-clause-text
-write_value-returns-in-Hash-clause-text g t c = value_writes _ _ _ c.args.level _ _ (ap view c.in-Hash.is) (c.in_ok-begin_value.ensures.ok refl) c.write_hash.ensures.text
+pub write_node-returns-in-Array-clause-text : goal.write_node-returns-in-Array-clause-text
+write_node-returns-in-Array-clause-text g t c = node_writes _ _ _ c.args.level _ _ (ap view c.in-Array.is) c.write_array.ensures.text
 
-pub write_value-write_array-requires : goal.write_value-write_array-requires
-write_value-write_array-requires g t c = λ κs s. (omega (arith, ap (λ y. depth (view y)) c.in-Array.is), (s, omega arith))
+pub write_node-returns-in-Hash-clause-text : goal.write_node-returns-in-Hash-clause-text
+write_node-returns-in-Hash-clause-text g t c = node_writes _ _ _ c.args.level _ _ (ap view c.in-Hash.is) c.write_hash.ensures.text
 
-pub write_value-write_hash-requires : goal.write_value-write_hash-requires
-write_value-write_hash-requires g t c = λ κs s. (omega (arith, ap (λ y. depth (view y)) c.in-Hash.is), (s, omega arith))
+pub write_node-write_array-requires : goal.write_node-write_array-requires
+write_node-write_array-requires g t c = λ κs s. (omega (arith, ap (λ y. depth (view y)) c.in-Array.is), (s, omega arith))
+
+pub write_node-write_hash-requires : goal.write_node-write_hash-requires
+write_node-write_hash-requires g t c = λ κs s. (omega (arith, ap (λ y. depth (view y)) c.in-Hash.is), (s, omega arith))
 
 pub write_array-items-init : goal.write_array-items-init
 write_array-items-init g t c =
@@ -173,15 +175,15 @@ write_pair-write_value-requires g t c = λ κs s. (omega arith, (s, omega arith)
 pub write_value-returns-in_err-begin_value-clause-valid : goal.write_value-returns-in_err-begin_value-clause-valid
 write_value-returns-in_err-begin_value-clause-valid g t c = unless_ok _ _ c.from_residual.ensures.0
 
-pub write_value-returns-in_default-clause-valid : goal.write_value-returns-in_default-clause-valid
-write_value-returns-in_default-clause-valid g t c =
+pub write_node-returns-in_default-clause-valid : goal.write_node-returns-in_default-clause-valid
+write_node-returns-in_default-clause-valid g t c =
     in_any _ (c.write_scalar.ensures.valid (other_is_scalar c.args.node.now c.in_default.not-Array c.in_default.not-Hash))
 
-pub write_value-returns-in-Array-clause-valid : goal.write_value-returns-in-Array-clause-valid
-write_value-returns-in-Array-clause-valid g t c = valid_as _ _ _ (ap view c.in-Array.is) c.write_array.ensures.valid
+pub write_node-returns-in-Array-clause-valid : goal.write_node-returns-in-Array-clause-valid
+write_node-returns-in-Array-clause-valid g t c = valid_as _ _ _ (ap view c.in-Array.is) c.write_array.ensures.valid
 
-pub write_value-returns-in-Hash-clause-valid : goal.write_value-returns-in-Hash-clause-valid
-write_value-returns-in-Hash-clause-valid g t c = valid_as _ _ _ (ap view c.in-Hash.is) c.write_hash.ensures.valid
+pub write_node-returns-in-Hash-clause-valid : goal.write_node-returns-in-Hash-clause-valid
+write_node-returns-in-Hash-clause-valid g t c = valid_as _ _ _ (ap view c.in-Hash.is) c.write_hash.ensures.valid
 
 pub write_array-returns-then-is_empty-clause-valid : goal.write_array-returns-then-is_empty-clause-valid
 write_array-returns-then-is_empty-clause-valid g t c = in_any _ (empty_array _ (c.is_empty.ensures.0 c.if-is_empty.true))

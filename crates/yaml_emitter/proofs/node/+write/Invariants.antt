@@ -10,17 +10,20 @@ use Rattle.yaml_emitter.specs.ValidTree.{AreValid, ArePairsValid}
 use Rattle.yaml_emitter.specs.Writing.{IsLeft}
 use Rattle.yaml_emitter.proofs.node.+write.Given as goal
 
+abbrev pub decreases-write_node : goal.decreases-write_node
+decreases-write_node g l = 4 * depth (view l.node.now)
+
 abbrev pub decreases-write_value : goal.decreases-write_value
-decreases-write_value g l = 3 * depth (view l.node.now)
+decreases-write_value g l = 4 * depth (view l.node.now) + 1
 
 abbrev pub decreases-write_array : goal.decreases-write_array
-decreases-write_array g l = 3 * items_depth (items_of l.items.now) + 2
+decreases-write_array g l = 4 * items_depth (items_of l.items.now) + 3
 
 abbrev pub decreases-write_hash : goal.decreases-write_hash
-decreases-write_hash g l = 3 * pairs_depth (pairs_of l.pairs.now) + 2
+decreases-write_hash g l = 4 * pairs_depth (pairs_of l.pairs.now) + 3
 
 abbrev pub decreases-write_pair : goal.decreases-write_pair
-decreases-write_pair g l = 3 * max (depth (view l.key.now)) (depth (view l.value.now)) + 1
+decreases-write_pair g l = 4 * max (depth (view l.key.now)) (depth (view l.value.now)) + 2
 
 abbrev pub invariant-write_array-items : goal.invariant-write_array-items
 invariant-write_array-items g l = record {

@@ -1,0 +1,6 @@
+mod Limits
+mod MoreNoRows
+mod MoreRows
+mod NoRows
+mod Rows
+pub mod Shown

@@ -1,0 +1,10 @@
+pub mod Account
+pub mod Column
+pub mod FlowEntry
+pub mod Following
+pub mod Indentation
+pub mod Key
+pub mod Lines
+pub mod Row
+pub mod Step
+pub mod Tokens

@@ -1,0 +1,113 @@
+-- The lines of a text after another one, and a text's first line.
+use Rattle.std.proofs.Common.{◌≡◌, ℕ, List, [], ◌∷◌, ◌++◌, Bool, true, false, ◌&&◌, ◌==◌, if◌then◌else◌, sym, ap, subst, ◌∙◌, refl}
+use Rattle.std.proofs.lemmas.Bool.{eqb-true}
+use Rattle.defs_text.specs.Classes.{is_break}
+use Rattle.defs_text.specs.Breaks.{Split, put_first, with_first, with_empty_line, is_before_line_feed, split_by, split}
+use Rattle.defs_scalar.specs.FlowScalar.{begins_with}
+use Rattle.proof_ends.proofs.Runs.{both}
+
+abbrev pub of_lines : (complete : List (List ℕ)) → (last : List ℕ) → Split
+of_lines ls l = record { complete = ls; last = l }
+
+-- ---- the lines of two texts
+
+-- the lines of a text after complete ones
+abbrev pub lines_after : List (List ℕ) → Split → Split
+lines_after ls s = of_lines (ls ++ s.complete) (s.last)
+
+-- more text that does not begin with a line feed does not change whether one follows
+before_same : (c : ℕ) (r z : List ℕ) → begins_with 10 z ≡ false → is_before_line_feed c (r ++ z) ≡ is_before_line_feed c r
+before_same c [] [] h = refl
+before_same c [] (d ∷ z) h = by (c == 13) (d == 10) h
+  where
+    by : (a b : Bool) → b ≡ false → (a && b) ≡ false
+    by true b f = f
+    by false b f = refl
+before_same c (d ∷ r) z h = refl
+
+-- a text whose last line is complete, and one after it that does not go on with a line feed
+pub split_append : (p z : List ℕ) (ls : List (List ℕ)) → split p ≡ of_lines ls [] → begins_with 10 z ≡ false → split (p ++ z) ≡ lines_after ls (split z)
+split_append [] z ls e h = ap (λ s. lines_after (s.complete) (split z)) e
+split_append (c ∷ p) z ls e h =
+    ap (λ b. split_by (is_break c) b c (split (p ++ z))) (before_same c p z h) ∙ by (is_break c) (is_before_line_feed c p) (split p) refl (λ ls e. split_append p z ls e h) e
+  where
+    kept : (complete : List (List ℕ)) (last : List ℕ) → put_first c complete last ≡ of_lines ls [] → ((ls : List (List ℕ)) → of_lines complete last ≡ of_lines ls [] → split (p ++ z) ≡ lines_after ls (split z)) →
+        with_first c (split (p ++ z)) ≡ lines_after ls (split z)
+    kept [] last e f = absurd (cc (ap (λ s. s.last) e))
+    kept (l ∷ complete) last e f =
+        let ended : last ≡ [] = ap (λ s. s.last) e in
+        let lines : (c ∷ l) ∷ complete ≡ ls = ap (λ s. s.complete) e in
+        ap (λ s. with_first c s) (f (l ∷ complete) (ap (λ x. of_lines (l ∷ complete) x) ended)) ∙ ap (λ x. lines_after x (split z)) lines
+
+    by : (break two : Bool) (s : Split) → split p ≡ s → ((ls : List (List ℕ)) → s ≡ of_lines ls [] → split (p ++ z) ≡ lines_after ls (split z)) → split_by break two c s ≡ of_lines ls [] →
+        split_by break two c (split (p ++ z)) ≡ lines_after ls (split z)
+    by true true s i f e = f ls e
+    by true false s i f e =
+        let ended : s.last ≡ [] = ap (λ s. s.last) e in
+        let lines : [] ∷ s.complete ≡ ls = ap (λ s. s.complete) e in
+        ap with_empty_line (f (s.complete) (ap (λ x. of_lines (s.complete) x) ended)) ∙ ap (λ x. lines_after x (split z)) lines
+    by false two s i f e = kept (s.complete) (s.last) e f
+
+-- ---- the first line
+
+-- the characters before the first break
+abbrev pub up_to_break : List ℕ → List ℕ
+up_to_break [] = []
+up_to_break (c ∷ r) = (if is_break c then [] else c ∷ up_to_break r)
+
+-- the first of lines
+abbrev pub first_line : (complete : List (List ℕ)) → (last : List ℕ) → List ℕ
+first_line [] last = last
+first_line (l ∷ ls) last = l
+
+-- the first line of a text
+abbrev pub line_of : List ℕ → List ℕ
+line_of z = first_line ((split z).complete) ((split z).last)
+
+first_kept : (c : ℕ) (complete : List (List ℕ)) (last : List ℕ) → first_line ((put_first c complete last).complete) ((put_first c complete last).last) ≡ c ∷ first_line complete last
+first_kept c [] last = refl
+first_kept c (l ∷ ls) last = refl
+
+line_feed_breaks : (c : ℕ) (r : List ℕ) → is_before_line_feed c r ≡ true → up_to_break r ≡ []
+unfolding is_break
+line_feed_breaks c [] h = refl
+line_feed_breaks c (d ∷ r) h = subst (λ z. up_to_break (z ∷ r) ≡ []) (sym (eqb-true d 10 (both _ _ h).1)) refl
+
+-- it goes up to the first break
+pub line_is : (z : List ℕ) → line_of z ≡ up_to_break z
+line_is [] = refl
+line_is (c ∷ r) = by (is_break c) (is_before_line_feed c r) refl (line_is r)
+  where
+    by : (break two : Bool) → is_before_line_feed c r ≡ two → line_of r ≡ up_to_break r →
+        first_line ((split_by break two c (split r)).complete) ((split_by break two c (split r)).last) ≡ (if break then [] else c ∷ up_to_break r)
+    by true true f h = h ∙ line_feed_breaks c r f
+    by true false f h = refl
+    by false two f h = first_kept c ((split r).complete) ((split r).last) ∙ ap (λ x. c ∷ x) h
+
+-- the first line of a longer text is that of its beginning, if this has a complete line
+pub line_more : (z : List ℕ) → ((split z).complete ≡ [] → ⊥) → (y : List ℕ) → up_to_break (z ++ y) ≡ up_to_break z
+line_more [] h y = absurd (h refl)
+line_more (c ∷ r) h y = by (is_break c) (is_before_line_feed c r) (λ f. line_more r f y) h
+  where
+    by : (break two : Bool) → (((split r).complete ≡ [] → ⊥) → up_to_break (r ++ y) ≡ up_to_break r) → ((split_by break two c (split r)).complete ≡ [] → ⊥) →
+        (if break then [] else c ∷ up_to_break (r ++ y)) ≡ (if break then [] else c ∷ up_to_break r)
+    by true two f g = refl
+    by false two f g = ap (λ x. c ∷ x) (f (λ e. g (none ((split r).complete) ((split r).last) e)))
+      where
+        none : (complete : List (List ℕ)) (last : List ℕ) → complete ≡ [] → (put_first c complete last).complete ≡ []
+        none [] last e = refl
+        none (l ∷ ls) last e = absurd (cc e)
+
+-- a text without lines is empty
+pub no_lines : (z : List ℕ) → split z ≡ of_lines [] [] → z ≡ []
+no_lines [] e = refl
+no_lines (c ∷ r) e = absurd (by (is_break c) (is_before_line_feed c r) refl (λ f. no_lines r f) e)
+  where
+    kept : (complete : List (List ℕ)) (last : List ℕ) → put_first c complete last ≡ of_lines [] [] → ⊥
+    kept [] last e = cc (ap (λ s. s.last) e)
+    kept (l ∷ ls) last e = let lines : (c ∷ l) ∷ ls ≡ [] = ap (λ s. s.complete) e in cc lines
+
+    by : (break two : Bool) → is_before_line_feed c r ≡ two → (split r ≡ of_lines [] [] → r ≡ []) → split_by break two c (split r) ≡ of_lines [] [] → ⊥
+    by true true f g e = let two : false ≡ true = subst (λ z. is_before_line_feed c z ≡ true) (g e) f in cc two
+    by true false f g e = let lines : [] ∷ (split r).complete ≡ [] = ap (λ s. s.complete) e in cc lines
+    by false two f g e = kept ((split r).complete) ((split r).last) e

@@ -1,0 +1,7 @@
+pub mod Accounts
+pub mod Entries
+pub mod Like
+pub mod Lines
+pub mod Meanings
+pub mod OneRow
+pub mod Written

@@ -1,0 +1,49 @@
+-- A text has one row. The choice of keys goes forwards, the proof backwards: at the text's end no key waits, so like accounts are equal there, and that is carried back to the start.
+use Rattle.std.proofs.Common.{◌≡◌, ℕ, List, [], ◌∷◌, ◌++◌, false, Option, Some, None, sym, ap, subst, ◌∙◌, refl}
+use Rattle.defs_token.specs.Piece.{Holds}
+use Rattle.proof_ends.specs.Ends.{has_no_nul}
+use Rattle.proof_ends.proofs.Texts.{no_nul_after}
+use Rattle.proof_ends.proofs.Pieces.{no_piece_at_end, clean_up_to_end}
+use Rattle.defs_row.specs.Step.{Step, Row, spelled}
+use Rattle.defs_row.specs.Account.{Account, first_account, seen, account_past}
+use Rattle.defs_row.specs.Tokens.{shown_position, tokens_of_row}
+use Rattle.defs_row.specs.Row.{IsWritten, IsRowFrom, OneRow, OneReading}
+use Rattle.defs_token.specs.Separation.{is_separation}
+use Rattle.proof_row.proofs.Like.{IsLike, Stepped}
+use Rattle.proof_row.proofs.Accounts.{account_step, same_at_end}
+use Rattle.proof_row.proofs.Written.{At, not_empty, same_written}
+
+-- no step begins in the separation at a text's end
+at_end : (b : Account) (v : Step) (f next : List ℕ) → Holds (is_separation false f []) → IsWritten b v next → f ≡ v.separation ++ (v.piece ++ next) → ⊥
+at_end b v f next h k e =
+    no_piece_at_end (seen b (At b v next) v.separation) f v.separation v.piece next None (shown_position (At b v next) v.piece v.shown next) v.shown
+    h k.0 (not_empty v.piece k.1.0) k.1.1 e
+
+rows_from : (Were : Type 0) (x y : Option Account) (r s : List Step) (f g : List ℕ) → Stepped IsLike Were x y →
+    IsRowFrom x r f → IsRowFrom y s g → spelled r f ≡ spelled s g → Holds (has_no_nul (spelled r f)) → Were × (r ≡ s) × (f ≡ g)
+rows_from Were None y r s f g t h k e c = absurd h
+rows_from Were (Some a) None r s f g t h k e c = absurd k
+rows_from Were (Some a) (Some b) [] [] f g t h k e c = (t.1 (same_at_end a b t.0 h.1 k.1), refl, e)
+rows_from Were (Some a) (Some b) [] (v ∷ vs) f g t h k e c = absurd (at_end b v f (spelled vs g) h.0 k.0 e)
+rows_from Were (Some a) (Some b) (w ∷ ws) [] f g t h k e c = absurd (at_end a w g (spelled ws f) k.0 h.0 (sym e))
+rows_from Were (Some a) (Some b) (w ∷ ws) (v ∷ vs) f g t h k e c =
+    let same : (w.separation ≡ v.separation) × (w.piece ≡ v.piece) × (w.shown ≡ v.shown) × (spelled ws f ≡ spelled vs g) =
+    same_written a b w v (spelled ws f) (spelled vs g) t.0 h.0 k.0 e c in
+    let clean : Holds (has_no_nul (spelled ws f)) = no_nul_after w.piece (spelled ws f) (no_nul_after w.separation (w.piece ++ spelled ws f) c) in
+    let rest : ((a ≡ b) × (w ≡ v)) × (ws ≡ vs) × (f ≡ g) =
+    rows_from ((a ≡ b) × (w ≡ v)) (account_past a w (spelled ws f)) (account_past b v (spelled vs g)) ws vs f g
+    (account_step a b w v (spelled ws f) (spelled vs g) t.0 same.0 same.1 same.2 same.3) h.1 k.1 same.3 clean in
+    (t.1 rest.0.0, ap (λ z. z ∷ ws) rest.0.1 ∙ ap (λ z. v ∷ z) rest.1, rest.2)
+
+-- A text has at most one row.
+pub one_row : OneRow
+one_row text r s h k =
+    let clean : Holds (has_no_nul (spelled r.steps r.last)) = subst (λ z. Holds (has_no_nul z)) (sym h.0) (clean_up_to_end text) in
+    let same : (first_account ≡ first_account) × (r.steps ≡ s.steps) × (r.last ≡ s.last) =
+    rows_from (first_account ≡ first_account) (Some first_account) (Some first_account) r.steps s.steps r.last s.last
+    ((refl, tt, tt), λ e. e) h.1 k.1 (h.0 ∙ sym k.0) clean in
+    ap (λ x. let y : Row = record { steps = x; last = r.last } in y) same.1 ∙ ap (λ x. let y : Row = record { steps = s.steps; last = x } in y) same.2
+
+-- A text is read as at most one list of tokens.
+pub one_reading : OneReading
+one_reading text ts us h k = sym h.2 ∙ (ap tokens_of_row (one_row text h.0 k.0 h.1 k.1) ∙ k.2)

@@ -1,0 +1,118 @@
+-- The text says which piece comes: at like accounts, two steps with which one text begins have the same separation, piece and token.
+use Rattle.std.proofs.Common.{◌≡◌, ◌≢◌, ℕ, List, [], ◌∷◌, ◌++◌, Bool, true, false, not, if◌then◌else◌, Option, Some, None, map, sym, ap, ◌∙◌, refl}
+use Rattle.defs_token.specs.Token.{Tok, stream_start, stream_end, version_directive, tag_directive, document_start, document_end, block_sequence_start, block_mapping_start, block_end, flow_sequence_start, flow_sequence_end, flow_mapping_start, flow_mapping_end, block_entry, flow_entry, key, value, alias, anchor, tag, scalar, plain, single_quoted, double_quoted, literal, folded}
+use Rattle.defs_text.specs.Position.{position_after}
+use Rattle.defs_token.specs.Account.{innermost_column, is_adjacent, before_past}
+use Rattle.defs_text.specs.Text.{is_empty}
+use Rattle.defs_token.specs.Piece.{Holds}
+use Rattle.proof_ends.specs.Ends.{has_no_nul, Kind, directive_line, dashes, dots, kind_of, IsSeenAlike}
+use Rattle.proof_ends.proofs.Texts.{no_nul_after}
+use Rattle.proof_ends.proofs.Pieces.{pieces_seen_alike, separations_before}
+use Rattle.defs_row.specs.Step.{Step, Act, act_of, is_marker}
+use Rattle.defs_row.specs.Column.{blocks_at, not_ended}
+use Rattle.defs_row.specs.FlowEntry.{Entry}
+use Rattle.defs_row.specs.Account.{Site, Account, is_in_flow, site_at, before_by, level_of, seen}
+use Rattle.defs_row.specs.Tokens.{shown_position}
+use Rattle.defs_row.specs.Row.{IsWritten}
+use Rattle.proof_row.proofs.Like.{LikeEntries, IsLike}
+use Rattle.proof_row.proofs.Accounts.{same_flow}
+
+-- ---- what a piece is seen with
+
+-- a kind of piece says whether it stands for the document
+is_marker_kind : Kind → Bool
+is_marker_kind directive_line = true
+is_marker_kind dashes = true
+is_marker_kind dots = true
+is_marker_kind _ = false
+
+marker_by_kind : (t : Tok) → is_marker (act_of t) ≡ is_marker_kind (kind_of t)
+unfolding is_marker_kind
+marker_by_kind stream_start = refl
+marker_by_kind stream_end = refl
+marker_by_kind (version_directive major minor) = refl
+marker_by_kind (tag_directive handle prefix) = refl
+marker_by_kind document_start = refl
+marker_by_kind document_end = refl
+marker_by_kind block_sequence_start = refl
+marker_by_kind block_mapping_start = refl
+marker_by_kind block_end = refl
+marker_by_kind flow_sequence_start = refl
+marker_by_kind flow_sequence_end = refl
+marker_by_kind flow_mapping_start = refl
+marker_by_kind flow_mapping_end = refl
+marker_by_kind block_entry = refl
+marker_by_kind flow_entry = refl
+marker_by_kind key = refl
+marker_by_kind value = refl
+marker_by_kind (alias name) = refl
+marker_by_kind (anchor name) = refl
+marker_by_kind (tag handle suffix) = refl
+marker_by_kind (scalar plain text) = refl
+marker_by_kind (scalar single_quoted text) = refl
+marker_by_kind (scalar double_quoted text) = refl
+marker_by_kind (scalar literal text) = refl
+marker_by_kind (scalar folded text) = refl
+
+same_marker : (t u : Tok) → kind_of t ≡ kind_of u → is_marker (act_of t) ≡ is_marker (act_of u)
+same_marker t u k = marker_by_kind t ∙ (ap is_marker_kind k ∙ sym (marker_by_kind u))
+
+same_blocks : (fl : Bool) (j k : Act) (col : ℕ) (bs : List ℕ) → is_marker j ≡ is_marker k → blocks_at fl j col bs ≡ blocks_at fl k col bs
+same_blocks true j k col bs h = refl
+same_blocks false j k col bs h = ap (λ m. if m then [] else not_ended col bs) h
+
+abbrev in_levels : List Entry → Bool
+in_levels es = not (is_empty (map level_of es))
+
+same_levels : (ds es : List Entry) → LikeEntries ds es → in_levels ds ≡ in_levels es
+same_levels [] [] j = refl
+same_levels (d ∷ ds) (e ∷ es) j = refl
+same_levels [] (e ∷ es) j = absurd j
+same_levels (d ∷ ds) [] j = absurd j
+
+abbrev pub At : Account → Step → (next : List ℕ) → Site
+At a w next = site_at (is_in_flow a.entries) a.site w.separation w.piece w.shown next
+
+seen_alike : (a b : Account) (w v : Step) (x y : List ℕ) → IsLike a b → w.separation ≡ v.separation → w.piece ++ x ≡ v.piece ++ y →
+    IsSeenAlike (seen a (At a w x) w.separation) (seen b (At b v y) v.separation)
+seen_alike a b w v x y i f e = (
+  same_levels a.entries b.entries i.2,
+  ap (λ s. is_adjacent (before_past (before_by s.before) w.separation)) i.0 ∙ ap (λ z. is_adjacent (before_past (before_by b.site.before) z)) f,
+  ap (λ s. (position_after s.position w.separation (w.piece ++ x)).col) i.0 ∙
+      (ap (λ z. (position_after b.site.position z (w.piece ++ x)).col) f ∙ ap (λ z. (position_after b.site.position v.separation z).col) e),
+)
+
+-- the column of the innermost block collection, as a piece at a site sees it
+abbrev Innermost : Bool → Act → (col : ℕ) → List ℕ → Option ℕ
+Innermost fl k col bs = innermost_column (map (λ n. Some n) (blocks_at fl k col bs))
+
+same_column : (a b : Account) (w v : Step) (x y : List ℕ) → IsLike a b → (At a w x).position.col ≡ (At b v y).position.col → kind_of w.shown ≡ kind_of v.shown →
+    Innermost (is_in_flow a.entries) (act_of w.shown) (At a w x).position.col a.site.blocks ≡ Innermost (is_in_flow b.entries) (act_of v.shown) (At b v y).position.col b.site.blocks
+same_column a b w v x y i c k =
+    ap (λ z. Innermost z (act_of w.shown) (At a w x).position.col a.site.blocks) (same_flow a.entries b.entries i.2) ∙
+    (ap (λ z. innermost_column (map (λ n. Some n) z)) (same_blocks (is_in_flow b.entries) (act_of w.shown) (act_of v.shown) (At a w x).position.col a.site.blocks (same_marker w.shown v.shown k)) ∙
+    (ap (λ z. Innermost (is_in_flow b.entries) (act_of v.shown) z a.site.blocks) c ∙
+    ap (λ s. Innermost (is_in_flow b.entries) (act_of v.shown) (At b v y).position.col s.blocks) i.0))
+
+-- ---- pieces
+
+pub not_empty : (p : List ℕ) → not (is_empty p) ≡ true → p ≢ []
+not_empty [] h e = cc h
+not_empty (c ∷ p) h e = cc e
+
+-- At like accounts the text says which step comes, but for whether a key begins with it.
+pub same_written : (a b : Account) (w v : Step) (x y : List ℕ) → IsLike a b → IsWritten a w x → IsWritten b v y →
+    w.separation ++ (w.piece ++ x) ≡ v.separation ++ (v.piece ++ y) → Holds (has_no_nul (w.separation ++ (w.piece ++ x))) →
+    (w.separation ≡ v.separation) × (w.piece ≡ v.piece) × (w.shown ≡ v.shown) × (x ≡ y)
+same_written a b w v x y i h k e clean =
+    let some : w.piece ≢ [] = not_empty w.piece h.1.0 in
+    let other : v.piece ≢ [] = not_empty v.piece k.1.0 in
+    let separations : (w.separation ≡ v.separation) × (w.piece ++ x ≡ v.piece ++ y) =
+    separations_before (seen a (At a w x) w.separation) (seen b (At b v y) v.separation) w.separation v.separation w.piece v.piece x y None None
+    (shown_position (At a w x) w.piece w.shown x) (shown_position (At b v y) v.piece v.shown y) w.shown v.shown h.0 k.0 some other h.1.1 k.1.1 e in
+    let alike : IsSeenAlike (seen a (At a w x) w.separation) (seen b (At b v y) v.separation) = seen_alike a b w v x y i separations.0 separations.1 in
+    let pieces : (w.piece ≡ v.piece) × (x ≡ y) × (w.shown ≡ v.shown) =
+    pieces_seen_alike (seen a (At a w x) w.separation) (seen b (At b v y) v.separation) w.piece v.piece x y None None
+    (shown_position (At a w x) w.piece w.shown x) (shown_position (At b v y) v.piece v.shown y) w.shown v.shown alike (same_column a b w v x y i alike.2)
+    some other h.1.1 k.1.1 separations.1 (no_nul_after w.separation (w.piece ++ x) clean) in
+    (separations.0, pieces.0, pieces.2, pieces.1)

@@ -1,6 +1,0 @@
-use Rattle.std.proofs.Common.{◌≡◌, map, drop}
-use Rattle.defs_tree.specs.Grammar.{is_among}
-use Rattle.yaml_tree.proofs.typing.is_among.Given as goal
-
-abbrev pub invariant-loop-word : goal.invariant-loop-word
-invariant-loop-word l = is_among (map (λ w. w.now) l.words) l.text ≡ is_among (map (λ w. w.now) (drop l.word-index l.words)) l.text

@@ -1,0 +1,3 @@
+pub mod FirstByte
+pub mod TypingLemmas
+pub mod WideTexts
