@@ -1,6 +1,6 @@
 mod Limits
 mod MoreNoRows
-mod MoreRows
+pub mod MoreRows
 mod NoRows
-mod Rows
+pub mod Rows
 pub mod Shown

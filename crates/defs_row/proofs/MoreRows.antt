@@ -31,7 +31,7 @@ flow_key_row = record {
   last = codes "\n";
 }
 
-flow_key : IsRead (codes "[a: b]: {c: d}\n") (
+pub flow_key : IsRead (codes "[a: b]: {c: d}\n") (
     put (position 0 1 0) stream_start ∷
     put (position 6 1 6) block_mapping_start ∷
     put (position 0 1 0) key ∷

@@ -72,7 +72,7 @@ one_pair_row = record {
   last = codes "\n";
 }
 
-one_pair : IsRead (codes "a: b\n") (
+pub one_pair : IsRead (codes "a: b\n") (
     put (position 0 1 0) stream_start ∷
     put (position 1 1 1) block_mapping_start ∷
     put (position 0 1 0) key ∷
@@ -227,7 +227,7 @@ at_key_column_row = record {
   last = codes "\n";
 }
 
-at_key_column : IsRead (codes "a:\n- b\nc: d\n") (
+pub at_key_column : IsRead (codes "a:\n- b\nc: d\n") (
     put (position 0 1 0) stream_start ∷
     put (position 1 1 1) block_mapping_start ∷
     put (position 0 1 0) key ∷

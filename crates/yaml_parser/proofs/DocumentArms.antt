@@ -224,6 +224,7 @@ tag_directive_taken {T} {p} r {t} m {h} {x} {versioned} {names} {given} (Err (st
     faulted_as r given (ap (λ y. stop.Own (fault.At y n)) k.1 ∙ ap (λ y. stop.Own (fault.At RepeatedHandle y)) k.2)
     (refused_directive RepeatedHandle d.read (raw.tag h x) refl refl handle_is_other mark here skips keep tok (λ more. and_right (nat_le (versions ((d.read ++ raw.tag h x ∷ []) ++ more)) 1) (is_each_once (declared ((d.read ++ raw.tag h x ∷ []) ++ more))) (k.0 more)) d.here)
 tag_directive_taken {T} {p} r {t} m {h} {x} {versioned} {names} {given} (Err stop.Scan) mark here skips stack keep tok declares d = absurd (declares p.names.keeping.tags names d.read (record { named = d.here.code; own = d.own }))
+tag_directive_taken {T} {p} r {t} m {h} {x} {versioned} {names} {given} (Err stop.Ended) mark here skips stack keep tok declares d = absurd (declares p.names.keeping.tags names d.read (record { named = d.here.code; own = d.own }))
 
 pub directs_err : {T : Type 0} (r : Reader T) (names : defs.Names) (given : List (Ev × Position)) (versioned : Bool) (res : Result (Unit {0}) Stop) (x : Stop) → IsErrAnd res (λ e. e ≡ x) → DirectsTo r names given versioned (Err x) → DirectsTo r names given versioned res
 directs_err {T} r names given versioned (Ok u) x h f = absurd h

@@ -369,6 +369,7 @@ explained {T} p es stop.Scan m f h x v s = inl (ap (λ z. z.fault) s.scanner ∙
     kept_some : (o : Option ErrorReport) (d : ErrorReport) {g : ErrorReport} → IsSome o → unwrap_or o d ≡ g → o ≡ Some g
     kept_some None d i e = cc
     kept_some (Some y) d i e = ap Some e
+explained {T} p es stop.Ended m f h x v s = absurd x
 
 pub held_explained : {T : Type 0} (p : Reader T) (es : List (Ev × Position)) (o : Option KeptStop) (f : ErrorReport) → option_map (λ k. fault_seen k.stop k.mark (scanned p.tokens.scanner).fault) o ≡ Some f → IsHeld p es o → (v : Parsed) → Shows p es v → Explains f v
 held_explained {T} p es None f h x v s = cc

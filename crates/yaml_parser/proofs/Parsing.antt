@@ -406,6 +406,7 @@ held_keeping {T} p k es (Some z) f x = (x.0, faulted_keeping z.stop x.1)
     faulted_keeping (stop.Own OutOfMemory) y = tt
     faulted_keeping (stop.Own (fault.At q n)) y = (stuck y.0, y.1)
     faulted_keeping stop.Scan y = y
+    faulted_keeping stop.Ended y = y
 
 one_true : (a : Bool) {b : Bool} → (a || b) ≡ true → (a ≡ true) ⊎ (b ≡ true)
 one_true true h = inl refl

@@ -24,12 +24,13 @@ use Rattle.yaml_parser.specs.declared.tokens.Tokens.{Tokens}
 use Rattle.yaml_parser.specs.declared.reader.Reader.{Reader}
 use Rattle.yaml_parser.specs.Ahead.{Skips}
 use Rattle.yaml_parser.specs.Handed.{taken_toks, peeked_tok, IsHanded, IsAwake, shown_list, ends}
-use Rattle.yaml_parser.specs.Kinds.{IsOfKind}
+use Rattle.yaml_parser.specs.Kinds.{IsOfKind, stop_of}
 use Rattle.yaml_parser.specs.Named.{IsNamed}
 use Rattle.std.specs.Result.{IfErr, IsErrAnd}
 use Rattle.std.specs.Option.{IsSome, IfSome}
+use Rattle.yaml_parser.specs.declared.tokens.Missing.{Missing}
+use Rattle.yaml_parser.specs.declared.tokens.Missing.TheVariants as missing
 use Rattle.yaml_parser.specs.declared.tokens.Stop.{Stop}
-use Rattle.yaml_parser.specs.declared.tokens.Stop.TheVariants as stop
 use Rattle.yaml_parser.proofs.Positions.{IsPlaced, count_more, positions_took, positions_took_on, positions_left}
 use Rattle.yaml_parser.proofs.Resolved.{resolved_more}
 use Rattle.yaml_parser.specs.At.{At, is_over, names_at, IsPending, Faulted, Fails}
@@ -237,10 +238,10 @@ looks_on {T} {p} {r} taken same handed awake stack names_same {g} {names} {given
       pending = a.pending;
     }
 
-pub look_fails : {T A : Type 0} (p r : Reader T) (x : Result A Stop) → (IsAwake p.tokens → IfErr x (λ s. (s ≡ stop.Scan) × IsSome (scanned r.tokens.scanner).fault))
+pub look_fails : {T A : Type 0} (p r : Reader T) (x : Result A Stop) {m : Missing} → IsErrAnd x (λ s. s ≡ stop_of m) → (IsAwake p.tokens → (m ≡ missing.Scan) × IsSome (scanned r.tokens.scanner).fault)
     → IfErr x (λ s. (g : Goal) → is_over g ≡ false → Fails g p r s)
-look_fails {T} {A} p r (Ok n) h = tt
-look_fails {T} {A} p r (Err s) h = λ g o names given a. let k = h (a.awake o) in subst (Faulted r given) (sym k.0) k.1
+look_fails {T} {A} p r (Ok n) e h = tt
+look_fails {T} {A} p r (Err s) {m} e h = λ g o names given a. let k = h (a.awake o) in subst (Faulted r given) (sym (e ∙ ap stop_of k.0)) k.1
 
 pub if_some_at : {A : Type 0} (P : A → Type 0) {o : Option A} → IfSome o P → {x : A} → o ≡ Some x → P x
 if_some_at {A} P {o} h {x} e = subst (λ y. IfSome y P) e h

@@ -80,6 +80,7 @@ abbrev pub Faulted : {T : Type 0} → Reader T → List (Ev × Position) → Sto
 Faulted p given (stop.Own OutOfMemory) = Unit {0}
 Faulted p given (stop.Own (fault.At problem mark)) = IsStuck p given × Blames (fault_of (fault.At problem mark) mark) (scanned p.tokens.scanner).given
 Faulted p given stop.Scan = IsSome (scanned p.tokens.scanner).fault
+Faulted p given stop.Ended = ⊥
 
 abbrev pub goal_after_event : Ev → Goal
 goal_after_event Ev.stream_end = at.ended

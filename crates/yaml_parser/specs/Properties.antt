@@ -10,19 +10,12 @@ use Rattle.defs_event.specs.Names.{Names, number, with_anchor, perhaps_resolved}
 use Rattle.model_parser.specs.declared.context.NodeContext.{NodeContext}
 use Rattle.model_parser.specs.Goal as at
 use Rattle.yaml_parser.specs.declared.event.Event.{Event}
-use Rattle.yaml_parser.specs.declared.node.Collection.{Collection}
-use Rattle.yaml_parser.specs.declared.node.Collection.TheVariants as collection
 use Rattle.yaml_parser.specs.declared.node.Properties.{Properties}
 use Rattle.yaml_parser.specs.declared.tokens.Stop.{Stop}
 use Rattle.yaml_parser.specs.declared.reader.Reader.{Reader}
 use Rattle.yaml_parser.specs.Named.{IsNamed}
 use Rattle.yaml_parser.specs.Shown as shown
 use Rattle.yaml_parser.specs.At.{At, Answers}
-
--- the event that starts a collection
-abbrev pub collection_start : Collection → ℕ → Option defs.Tag → Ev
-collection_start collection.Sequence anchor tag = Ev.sequence_start anchor tag
-collection_start collection.Mapping anchor tag = Ev.mapping_start anchor tag
 
 -- the anchor's name
 abbrev pub name_of : Option Properties → Option (List ℕ)

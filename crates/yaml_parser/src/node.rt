@@ -1,6 +1,7 @@
 //! Nodes: their properties, and what may stand after them (YAML 1.2, section 6.9).
 ghost use Rattle.std.specs.Prelude.{◌≡◌, false, Some, None, ◌+◌, ◌<◌, ◌≤◌, OnOk, IfOk, IfErr, IsSome, IfSome};
 ghost use Rattle.model_parser.specs.Goal as at;
+ghost use Rattle.defs_event.specs.Event.{Ev};
 ghost use Rattle.defs_event.specs.Names.{Names};
 ghost use Rattle.model_parser.specs.declared.context.NodeContext.TheVariants as context;
 ghost use Rattle.model_parser.specs.Kinds.{begins_content};
@@ -8,7 +9,7 @@ ghost use Rattle.yaml_tokens.specs.declared.problem.Fault.TheVariants.{OutOfMemo
 ghost use Rattle.yaml_parser.specs.declared.tokens.Stop.TheVariants.{Own};
 ghost use Rattle.yaml_parser.specs.Shown.{placed, perhaps_tag_of};
 ghost use Rattle.yaml_parser.specs.Named.{IsNamed};
-ghost use Rattle.yaml_parser.specs.Properties.{ReadsAfter, Registers, collection_start};
+ghost use Rattle.yaml_parser.specs.Properties.{ReadsAfter, Registers};
 ghost use Rattle.yaml_parser.specs.At.{Reads};
 ghost use Rattle.yaml_parser.specs.Work.{work, owed};
 ghost use Rattle.yaml_parser.specs.Kinds.{IsOfKind, IsName};
@@ -26,13 +27,6 @@ use yaml_tokens::{Fault, Problem};
 pub struct Properties {
     pub anchor: Option<String>,
     pub tag: Option<Tag>,
-}
-
-/// What kind of collection a node is.
-#[derive(Clone, Copy)]
-enum Collection {
-    Sequence,
-    Mapping,
 }
 
 impl<T: Iterator<Item = char>> Reader<T> {
@@ -185,7 +179,7 @@ impl<T: Iterator<Item = char>> Reader<T> {
             Kind::BlockEntry => {
                 let mark = self.skip();
                 self.push(State::IndentlessSequenceItem)?;
-                self.collection(Collection::Sequence, properties, mark)
+                self.sequence(properties, mark)
             }
             _ => self.block_content(properties, next),
         }
@@ -203,12 +197,12 @@ impl<T: Iterator<Item = char>> Reader<T> {
             Kind::BlockSequenceStart => {
                 let mark = self.skip();
                 self.push(State::BlockSequenceEntry)?;
-                self.collection(Collection::Sequence, properties, mark)
+                self.sequence(properties, mark)
             }
             Kind::BlockMappingStart => {
                 let mark = self.skip();
                 self.push(State::BlockMappingKey)?;
-                self.collection(Collection::Mapping, properties, mark)
+                self.mapping(properties, mark)
             }
             _ => self.flow_content(properties, next),
         }
@@ -232,12 +226,12 @@ impl<T: Iterator<Item = char>> Reader<T> {
             Kind::FlowSequenceStart => {
                 let mark = self.skip();
                 self.push(State::FlowSequenceFirstEntry)?;
-                self.collection(Collection::Sequence, properties, mark)
+                self.sequence(properties, mark)
             }
             Kind::FlowMappingStart => {
                 let mark = self.skip();
                 self.push(State::FlowMappingFirstKey)?;
-                self.collection(Collection::Mapping, properties, mark)
+                self.mapping(properties, mark)
             }
             _ => self.no_content(properties, next),
         }
@@ -263,21 +257,30 @@ impl<T: Iterator<Item = char>> Reader<T> {
         }
     }
 
-    /// The start of a collection with these properties.
+    /// The start of a sequence with these properties.
     #[inline(always)]
-    fn collection(&mut self, kind: Collection, properties: Option<Properties>, mark: Marker) -> Answer
+    fn sequence(&mut self, properties: Option<Properties>, mark: Marker) -> Answer
         ensures work { OnOk result (work self.new ≡ work self.old) }
         ensures keeping { self.new.names.keeping ≡ self.old.names.keeping }
         ensures start { self.new.tokens.scanner.start ≡ self.old.tokens.scanner.start }
-        ensures registers { (names : Names) → IsNamed self.old.names names → IfOk result (λ e. Registers self.old properties names (λ a t. placed e ≡ (collection_start kind a t, mark)) self.new) }
+        ensures registers { (names : Names) → IsNamed self.old.names names → IfOk result (λ e. Registers self.old properties names (λ a t. placed e ≡ (Ev.sequence_start a t, mark)) self.new) }
         ensures err { IfErr result (λ s. s ≡ Own OutOfMemory) }
     {
         let (anchor, tag) = self.registered(properties)?;
-        let start = match kind {
-            Collection::Sequence => Event::SequenceStart(anchor, tag),
-            Collection::Mapping => Event::MappingStart(anchor, tag),
-        };
-        Ok((start, mark))
+        Ok((Event::SequenceStart(anchor, tag), mark))
+    }
+
+    /// The start of a mapping with these properties.
+    #[inline(always)]
+    fn mapping(&mut self, properties: Option<Properties>, mark: Marker) -> Answer
+        ensures work { OnOk result (work self.new ≡ work self.old) }
+        ensures keeping { self.new.names.keeping ≡ self.old.names.keeping }
+        ensures start { self.new.tokens.scanner.start ≡ self.old.tokens.scanner.start }
+        ensures registers { (names : Names) → IsNamed self.old.names names → IfOk result (λ e. Registers self.old properties names (λ a t. placed e ≡ (Ev.mapping_start a t, mark)) self.new) }
+        ensures err { IfErr result (λ s. s ≡ Own OutOfMemory) }
+    {
+        let (anchor, tag) = self.registered(properties)?;
+        Ok((Event::MappingStart(anchor, tag), mark))
     }
 
     /// Numbers the anchor of these properties.

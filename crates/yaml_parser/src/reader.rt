@@ -46,7 +46,8 @@ impl<T: Iterator<Item = char>> Reader<T> {
         ensures at { OnOk result ((g : Goal) → is_over g ≡ false → Carries g self.old self.new) }
         ensures err { IfErr result (λ s. (g : Goal) → is_over g ≡ false → Fails g self.old self.new s) }
     {
-        self.tokens.peek()
+        let kind = self.tokens.peek()?;
+        Ok(kind)
     }
 
     /// Where the token stands that was looked at.
@@ -103,6 +104,7 @@ impl<T: Iterator<Item = char>> Reader<T> {
                 Some(error) => error,
                 None => ScanError::memory(mark),
             },
+            Stop::Ended => ScanError::memory(mark),
         }
     }
 

@@ -6,7 +6,7 @@ ghost use Rattle.yaml_tokens.specs.Shown.{tok_of, style_of};
 ghost use Rattle.yaml_parser.specs.Kinds.{IsOfKind, IsName};
 ghost use Rattle.yaml_parser.specs.Ahead.{left, Skips, SkipsOne};
 ghost use Rattle.yaml_parser.specs.Handed.{IsHanded, IsAwake};
-ghost use Rattle.yaml_parser.specs.declared.tokens.Stop.TheVariants.{Scan};
+ghost use Rattle.yaml_parser.specs.declared.tokens.Missing.TheVariants.{Scan};
 ghost use Rattle.model_parser.specs.declared.kind.Kind.TheVariants as kind;
 
 use crate::kind::kind_of_token;
@@ -17,13 +17,15 @@ use yaml_chars::history::History;
 use yaml_scanner::Scanner;
 use yaml_tokens::{Fault, TScalarStyle, Token, TokenType};
 
-/// Why no token comes, or no event.
+/// Why no event comes.
 #[derive(Clone, Copy, Debug, PartialEq, Eq)]
 pub enum Stop {
     /// What the parser found.
     Own(Fault),
     /// The scanner's fault, which the scanner keeps.
     Scan,
+    /// The scanner has no more tokens: this never comes.
+    Ended,
 }
 
 impl From<Fault> for Stop {
@@ -46,6 +48,29 @@ impl From<AllocError> for Stop {
 
     fn from(_: AllocError) -> Stop {
         Stop::Own(Fault::OutOfMemory)
+    }
+}
+
+/// Why no token comes.
+#[derive(Clone, Copy, Debug, PartialEq, Eq)]
+pub enum Missing {
+    /// The scanner's fault, which the scanner keeps.
+    Scan,
+    /// The scanner has no more tokens: this never comes.
+    Ended,
+}
+
+impl From<Missing> for Stop {
+    ghost use Rattle.std.specs.Prelude.{◌≡◌};
+    ghost use Rattle.yaml_parser.specs.Kinds.{stop_of};
+
+    ghost from_gives = { λ m stop. stop ≡ stop_of m };
+
+    fn from(missing: Missing) -> Stop {
+        match missing {
+            Missing::Scan => Stop::Scan,
+            Missing::Ended => Stop::Ended,
+        }
     }
 }
 
@@ -79,7 +104,7 @@ impl<T: Iterator<Item = char>> Tokens<T> {
 
     /// What the next token is, which stays.
     #[inline(never)]
-    pub fn peek(&mut self) -> Result<Kind, Stop>
+    pub fn peek(&mut self) -> Result<Kind, Missing>
         ensures looks { IfOk result (λ k. IsOfKind k self.new.peeked) }
         ensures left { OnOk result (left self.new ≤ left self.old) }
         ensures taken { self.new.taken ≡ self.old.taken }
@@ -93,13 +118,12 @@ impl<T: Iterator<Item = char>> Tokens<T> {
             return Ok(kind_of_token(&token.1));
         }
         let Ok(next) = self.scanner.next_token() else {
-            return Err(Stop::Scan);
+            return Err(Missing::Scan);
         };
         self.peeked = next;
         match &self.peeked {
             Some(token) => Ok(kind_of_token(&token.1)),
-            // The scanner has no more tokens: this never comes.
-            None => Err(Stop::Scan),
+            None => Err(Missing::Ended),
         }
     }
 
