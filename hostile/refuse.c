@@ -4,7 +4,7 @@
 // again with all requests from that one on refused. So it does with the text laid over the file before it; and with every other call
 // that takes memory: loads by an iterator, a parser and from bytes, the typing of the text, a fault of it, copies of tokens, events, the
 // fault and trees, dumps, and trees put into a hash. It prints a line for each run that answers all the same, answers wrongly or leaves
-// memory after; then its status is 1.
+// memory behind; then its status is 1.
 #include <stdint.h>
 #include <stdio.h>
 #include <stdlib.h>
@@ -91,12 +91,12 @@ static void tell(const char *path, const char *what) {
     bad = 1;
 }
 
-// How many requests were refused. Each of them must be answered by a refusal, and nothing may be left after.
+// How many requests were refused. Each of them must be answered by a refusal, and nothing may be left behind.
 static long run(deed *deed, const struct text *below, const struct text *text) {
     for (refused_at = 1;; refused_at++) {
         asked = held = 0;
         int64_t answer = deed(below, text);
-        if (held != 0) tell(text->path, "memory is left after");
+        if (held != 0) tell(text->path, "memory is left behind");
         if (asked < refused_at) {
             if (answer < 0) tell(text->path, "it doesn't load");
             return refused_at - 1;
@@ -126,6 +126,6 @@ int main(int argc, char **argv) {
             __real_free(texts[(i + 1) % 2].bytes);
         }
     }
-    printf("%ld requests of loads, %ld of overlays and %ld of other calls refused: %s\n", loads, overlays, calls, bad ? "NOT all is well" : "each is answered, and nothing is left after");
+    printf("%ld requests of loads, %ld of overlays and %ld of other calls refused: %s\n", loads, overlays, calls, bad ? "NOT all is well" : "each is answered, and nothing is left behind");
     return bad;
 }
