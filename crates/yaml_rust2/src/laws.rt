@@ -24,7 +24,7 @@ pub use proof_dumps::laws::{dumps_are_laid_out, dumps_in_turn_are_laid_out};
 pub use proof_layout_tokens::laws::{
     json_texts_are_not_refused, json_texts_have_no_other_tokens, json_texts_have_their_tokens,
     layouts_are_not_refused, layouts_have_no_other_tokens, layouts_have_their_tokens,
-    layouts_in_turn_are_not_refused, layouts_in_turn_have_their_tokens, quoted_bodies_are_read,
+    layouts_in_turn_are_not_refused, layouts_in_turn_have_their_tokens,
     quoted_texts_have_their_tokens, texts_have_one_list_of_tokens,
     texts_with_tokens_are_not_refused,
 };
@@ -36,7 +36,7 @@ pub use proof_layout_trees::laws::{
     quoted_tokens_read_as_their_string, read_streams_are_loaded, read_streams_are_not_cut,
     read_streams_are_not_refused,
 };
-pub use proof_lexers::laws::buffers_join_folded_lines;
+pub use proof_lexers::laws::{buffers_join_folded_lines, quoted_bodies_are_read};
 pub use proof_loads::cuts::read_texts_are_read_of_a_cut;
 pub use proof_loads::documents::{
     aliases_inside_their_node_are_bad_values, read_documents_come_back,
