@@ -1,0 +1,15 @@
+pub mod Completed
+pub mod EntryEnds
+pub mod Inserts
+pub mod KeyedColons
+pub mod NodeSteps
+pub mod NodeTokens
+pub mod NodesInside
+pub mod NodesOutside
+pub mod OpeningsInside
+pub mod OpeningsOutside
+pub mod Runs
+pub mod Starts
+pub mod StepsInside
+pub mod StepsOutside
+pub mod StreamEnds

@@ -1,0 +1,180 @@
+-- An opening bracket in flow: whatever completes the row after it completes it from before.
+use Rattle.std.proofs.Common.{◌≡◌, ℕ, List, [], ◌∷◌, ◌++◌, Bool, true, false, not, ◌&&◌, if◌then◌else◌, length, Option, Some, None, refl, ap, sym, ◌∙◌, subst}
+use Rattle.defs_text.specs.Position.{Position, position_after}
+use Rattle.defs_text.specs.Text.{is_empty}
+use Rattle.defs_token.specs.Token.{Tok, Token}
+use Rattle.defs_token.specs.Separation.{is_separation}
+use Rattle.defs_token.specs.Piece.{IsPiece}
+use Rattle.defs_row.specs.Step.{Step, spelled, act_of, gives_node, has_break}
+use Rattle.defs_row.specs.Key.{Line, is_waiting, begins_free_line, line_past_separation}
+use Rattle.defs_row.specs.FlowEntry.{Entry, first_entry, takes_pair, begun_by, is_renewed, entries_past}
+use Rattle.defs_row.specs.Account.{Site, Account, site_in, site_past, may_stand, on_one_line, past_inside, past_piece, past_site, account_past, level_of, seen}
+use Rattle.defs_row.specs.Tokens.{put, shown_position, Colon, colon_of, tokens_of_step, tokens_at}
+use Rattle.defs_row.specs.Row.{IsWritten}
+use Rattle.defs_token.specs.Account.{FlowKind, Level}
+use Rattle.std.specs.Prelude.{map}
+use Rattle.model_scanner.specs.State.{Key, pop}
+use Rattle.proof_row_sound.specs.Choices.{line_by, entry_by, entries_by, first_choice, outside_key, chosen, MayChoose}
+use Rattle.proof_row_sound.specs.Completes.{with_had, with_keys, tokens_up_to, Completes}
+use Rattle.proof_row_sound.specs.Arrives.{site_here}
+use Rattle.proof_row_sound.specs.Stands.{HasHadHere}
+use Rattle.proof_row_sound.proofs.Completed.{completed_past}
+use Rattle.proof_row_sound.proofs.Inserts.{AreAmong, fewer, had_longer, keys_first, first_among}
+use Rattle.proof_row_sound.proofs.NodeSteps.{saved, choice_before, bit_of, entry_past_node, node_in_entry}
+use Rattle.proof_row_sound.proofs.NodeTokens.{past_step, keys_opened, key_inside, tokens_inside}
+use Rattle.proof_row_sound.proofs.NodesInside.{on_line, not_keyed, by_choice, same_levels}
+
+-- An opening bracket in flow: the account after the last piece in which no open key is one, without its entries; the innermost entry and those around it; the separation, the piece and the text after it;
+-- the token and the kind of its collection; the open keys of the entry and around it; the one that may begin here; the tokens before; the position and the text after what is read.
+pub record Node : Type 0 where
+  pub site : Site
+  pub line : Line
+  pub entry : Entry
+  pub around : List Entry
+  pub separation : List ℕ
+  pub piece : List ℕ
+  pub next : List ℕ
+  pub tok : Tok
+  pub kind : FlowKind
+  pub open_key : Option Key
+  pub outer_keys : List (Option Key)
+  pub new : Key
+  pub allowed : Bool
+  pub tokens : List Token
+  pub past : Position
+  pub rest : List ℕ
+
+-- the site at the piece
+abbrev pub at : Node → Site
+at d = site_here true (position_after d.site.position d.separation (d.piece ++ d.next)) d.site
+
+-- the step, with or without a key
+abbrev pub step_of : Node → Bool → Step
+step_of d bit = record { separation = d.separation; piece = d.piece; shown = d.tok; key = bit }
+
+-- the accounts before and after it in which no open key is one
+abbrev pub base : Node → Account
+base d = record { site = d.site; line = d.line; entries = d.entry ∷ d.around }
+
+abbrev pub base_past : Node → Account
+base_past d = record { site = site_past true (at d) d.piece d.tok d.next (at d).blocks; line = d.line; entries = first_entry d.kind ∷ (entry_past_node d.allowed d.entry ∷ d.around) }
+
+-- the open keys before and after it
+abbrev pub keys : Node → List (Option Key)
+keys d = d.open_key ∷ d.outer_keys
+
+abbrev pub keys_after : Node → List (Option Key)
+keys_after d = None ∷ saved d.allowed d.new d.open_key ∷ d.outer_keys
+
+-- the open key outside flow
+abbrev pub outside : Node → Option Key
+outside d = outside_key d.around d.outer_keys
+
+-- the choices before it, from those after it
+abbrev pub choices : Node → List Bool → List Bool
+choices d cs = choice_before d.allowed (first_choice (pop cs)) ∷ pop (pop cs)
+
+abbrev pub bit : Node → List Bool → Bool
+bit d cs = bit_of d.allowed (first_choice (pop cs))
+
+-- the accounts before and after it, by choices after it
+abbrev pub before : Node → Bool → List Bool → Account
+before d c cs = chosen c (choices d cs) (keys d) (base d)
+
+abbrev pub past : Node → Bool → List Bool → Account
+past d c cs = chosen c cs (keys_after d) (base_past d)
+
+-- the token that the piece shows
+abbrev pub own_token : Node → Token
+own_token d = put (shown_position (at d) d.piece d.tok d.next) d.tok
+
+-- What is known of it.
+pub record IsNode (d : Node) : Type 0 where
+  pub act : act_of d.tok ≡ gives_node
+  pub begun : begun_by d.tok ≡ first_entry d.kind ∷ []
+  pub is_filled : is_separation false d.separation (d.piece ++ d.next) ≡ true
+  pub is_solid : is_empty d.piece ≡ false
+  pub is_piece : IsPiece (seen (base d) (at d) d.separation) d.piece d.next None (shown_position (at d) d.piece d.tok d.next) d.tok
+  pub stands : may_stand true d.site (at d) d.separation d.piece d.tok d.next ≡ true
+  pub has_had : HasHadHere d.allowed (is_renewed d.site.before d.separation) d.open_key d.entry.had
+  pub position_is : d.new.position ≡ (at d).position
+  pub number_is : d.new.number ≡ length d.tokens
+  pub are_among : AreAmong (length d.tokens) (keys d)
+  pub unbroken : (c : Bool) → MayChoose c (outside d) d.past d.rest → line_past_separation true (begins_free_line d.site.before d.separation) (line_by c (outside d) d.line) ≡ Some (line_by c (outside d) d.line)
+  pub one_line : (c : Bool) → MayChoose c (outside d) d.past d.rest → (has_break d.piece && is_waiting (line_by c (outside d) d.line)) ≡ false
+  pub may_before : (c : Bool) → MayChoose c (outside d) d.past d.rest → MayChoose c (outside d) (at d).position (d.piece ++ d.next)
+
+-- ---- the account after it
+
+pub node_account : (d : Node) → IsNode d → (c : Bool) (cs : List Bool) → MayChoose c (outside d) d.past d.rest → account_past (before d c cs) (step_of d (bit d cs)) d.next ≡ Some (past d c cs)
+node_account d n c cs may =
+    let w : Step = step_of d (bit d cs) in
+    let l : Line = line_by c (outside d) d.line in
+    let here : Position = (at d).position in
+    let again : Bool = is_renewed d.site.before d.separation in
+    let e : Entry = entry_by (choice_before d.allowed (first_choice (pop cs))) d.open_key d.entry in
+    let es : List Entry = entries_by (pop (pop cs)) d.outer_keys d.around in
+    let first : account_past (before d c cs) w d.next ≡ past_site true d.site (at d) w d.next l (e ∷ es) = ap (λ x. past_site true d.site (site_in true x here d.site) w d.next l (e ∷ es)) n.act in
+    let may_be : past_site true d.site (at d) w d.next l (e ∷ es) ≡ on_one_line d.piece (past_piece (at d) d.piece d.tok d.next again w.key (line_past_separation true (begins_free_line d.site.before d.separation) l) (e ∷ es)) =
+    ap (λ b. if b then on_one_line d.piece (past_piece (at d) d.piece d.tok d.next again w.key (line_past_separation true (begins_free_line d.site.before d.separation) l) (e ∷ es)) else None) n.stands in
+    let lines : on_one_line d.piece (past_piece (at d) d.piece d.tok d.next again w.key (line_past_separation true (begins_free_line d.site.before d.separation) l) (e ∷ es)) ≡
+    on_one_line d.piece (past_inside (at d) d.piece d.tok d.next l (entries_past here again (act_of d.tok) (begun_by d.tok) w.key e es)) =
+    ap (λ o. on_one_line d.piece (past_piece (at d) d.piece d.tok d.next again w.key o (e ∷ es))) (n.unbroken c may) in
+    let entries : entries_past here again (act_of d.tok) (begun_by d.tok) w.key e es ≡ Some (past d c cs).entries =
+    ap (λ x. entries_past here again x (begun_by d.tok) w.key e es) n.act ∙ (ap (λ x. entries_past here again gives_node x w.key e es) n.begun ∙
+    node_in_entry again d.allowed (first_choice (pop cs)) d.open_key d.new d.entry here (first_entry d.kind ∷ []) es n.has_had n.position_is) in
+    first ∙ (may_be ∙ (lines ∙ (ap (λ o. on_one_line d.piece (past_inside (at d) d.piece d.tok d.next l o)) entries ∙ on_line d.piece (past d c cs) (n.one_line c may))))
+
+-- ---- the tokens after it
+
+-- With the text after the piece known as that of further steps.
+node_tokens : (d : Node) → IsNode d → (c : Bool) (cs : List Bool) (ws : List Step) (last : List ℕ) → spelled ws last ≡ d.next →
+    tokens_up_to (before d c cs) (keys d) d.tokens (step_of d (bit d cs) ∷ ws) last ++ tokens_of_step (before d c cs) (step_of d (bit d cs)) ws last ≡ tokens_up_to (past d c cs) (keys_after d) (d.tokens ++ (own_token d ∷ [])) ws last
+node_tokens d n c cs ws last e = subst (λ x. Whole (record d { next = x })) e (own (subst (λ x. IsNode (record d { next = x })) (sym e) n))
+  where
+    Whole : Node → Type 0
+    Whole b = tokens_up_to (before b c cs) (keys b) b.tokens (step_of b (bit b cs) ∷ ws) last ++ tokens_of_step (before b c cs) (step_of b (bit b cs)) ws last ≡ tokens_up_to (past b c cs) (keys_after b) (b.tokens ++ (own_token b ∷ [])) ws last
+
+    own : IsNode (record d { next = spelled ws last }) → Whole (record d { next = spelled ws last })
+    own m =
+        let b : Node = record d { next = spelled ws last } in
+        let w : Step = step_of b (bit b cs) in
+        let l : Line = line_by c (outside b) b.line in
+        let x : Entry = entry_by (choice_before b.allowed (first_choice (pop cs))) b.open_key b.entry in
+        let es : List Entry = entries_by (pop (pop cs)) b.outer_keys b.around in
+        let p : Position = past_step b.site.position w ws last in
+        let colon : Colon = colon_of 1 p ws last in
+        let single : Bool = takes_pair b.entry.kind b.entry.pair in
+        let inner : List Token = with_had colon single x.had b.open_key b.tokens in
+        let step : List Token = key_inside w.key single (at b) colon ++ (own_token b ∷ []) in
+        let first : tokens_up_to (before b c cs) (keys b) b.tokens (w ∷ ws) last ≡ with_keys 2 p ws last b.site.blocks l es b.outer_keys inner = keys_opened 0 b.site.position w ws last (first_entry b.kind) m.act m.begun b.site.blocks l (x ∷ es) (keys b) b.tokens in
+        let second : tokens_of_step (before b c cs) w ws last ≡ step =
+        ap (λ y. tokens_at b.site (site_in true y (at b).position b.site) w ws last l (x ∷ es)) m.act ∙ tokens_inside b.site (at b) w ws last l x es (first_entry b.kind ∷ []) m.act m.begun in
+        let among : AreAmong (length b.tokens) (b.open_key ∷ []) × AreAmong (length b.tokens) b.outer_keys = first_among (length b.tokens) b.open_key b.outer_keys m.are_among in
+        let many : AreAmong (length inner) b.outer_keys = fewer (length b.tokens) (length inner) b.outer_keys (had_longer colon single x.had b.open_key b.tokens) among.1 in
+        ap (λ y. y ++ tokens_of_step (before b c cs) w ws last) first ∙
+        (ap (λ y. with_keys 2 p ws last b.site.blocks l es b.outer_keys inner ++ y) second ∙
+        (sym (keys_first 2 p ws last b.site.blocks l es b.outer_keys inner step many) ∙
+        ap (λ y. with_keys 2 p ws last b.site.blocks l es b.outer_keys y)
+        (by_choice b.allowed (first_choice (pop cs)) b.open_key b.new b.entry.had colon single (at b) b.tokens (own_token b) (not_keyed b.allowed (is_renewed b.site.before b.separation) b.open_key b.entry.had m.has_had) m.position_is m.number_is among.0)))
+
+-- ---- rows
+
+abbrev SeenWith : Node → Site → List Level → Type 0
+SeenWith d x levels =
+    IsPiece (let a = seen (base d) x d.separation in record a { levels = levels }) d.piece d.next None (shown_position x d.piece d.tok d.next) d.tok
+
+seen_written : (d : Node) → IsNode d → (c : Bool) (cs : List Bool) (b : Bool) → IsWritten (before d c cs) (step_of d b) d.next
+seen_written d n c cs b =
+    let levels : List Level = map level_of (entries_by (choices d cs) (keys d) (d.entry ∷ d.around)) in
+    let site : Site = site_in true (act_of d.tok) (at d).position d.site in
+    let alike : SeenWith d site (map level_of (d.entry ∷ d.around)) = subst (λ x. SeenWith d x (map level_of (d.entry ∷ d.around))) (sym (ap (λ x. site_in true x (at d).position d.site) n.act)) n.is_piece in
+    (n.is_filled, (ap not n.is_solid, subst (λ x. SeenWith d site x) (sym (same_levels (choices d cs) (keys d) (d.entry ∷ d.around))) alike))
+
+-- If each choice before the piece is one of a row, then each choice after it is, and the tokens are those before and the piece's own.
+pub node_completes : (text : List ℕ) (d : Node) → IsNode d →
+    ((c : Bool) (cs : List Bool) → MayChoose c (outside d) (at d).position (d.piece ++ d.next) → Completes text (d.separation ++ (d.piece ++ d.next)) (chosen c cs (keys d) (base d)) (tokens_up_to (chosen c cs (keys d) (base d)) (keys d) d.tokens)) →
+    (c : Bool) (cs : List Bool) → MayChoose c (outside d) d.past d.rest → Completes text d.next (past d c cs) (tokens_up_to (past d c cs) (keys_after d) (d.tokens ++ (own_token d ∷ [])))
+node_completes text d n h c cs may =
+    completed_past text (d.separation ++ (d.piece ++ d.next)) (before d c cs) (past d c cs) (tokens_up_to (before d c cs) (keys d) d.tokens) (tokens_up_to (past d c cs) (keys_after d) (d.tokens ++ (own_token d ∷ [])))
+    (step_of d (bit d cs)) d.next refl (seen_written d n c cs (bit d cs)) (node_account d n c cs may) (node_tokens d n c cs) (h c (choices d cs) (n.may_before c may))

@@ -1,0 +1,147 @@
+-- An opening bracket outside flow: whatever completes the row after it completes it from before.
+use Rattle.std.proofs.Common.{◌≡◌, ℕ, List, [], ◌∷◌, ◌++◌, Bool, true, false, not, ◌&&◌, if◌then◌else◌, length, Option, Some, None, refl, ap, sym, ◌∙◌, subst}
+use Rattle.defs_text.specs.Position.{Position, position_after}
+use Rattle.defs_text.specs.Text.{is_empty}
+use Rattle.defs_token.specs.Token.{Tok, Token}
+use Rattle.defs_token.specs.Account.{FlowKind}
+use Rattle.defs_token.specs.Separation.{is_separation}
+use Rattle.defs_token.specs.Piece.{IsPiece}
+use Rattle.defs_row.specs.Step.{Step, spelled, act_of, gives_node, has_break}
+use Rattle.defs_row.specs.Column.{is_in_column}
+use Rattle.defs_row.specs.Key.{Line, taken, is_waiting, begins_free_line, line_past_separation, line_past}
+use Rattle.defs_row.specs.FlowEntry.{first_entry, begun_by, is_renewed}
+use Rattle.defs_row.specs.Account.{Site, Account, site_in, site_past, may_stand, on_one_line, past_outside, past_piece, past_site, account_past, seen}
+use Rattle.defs_row.specs.Tokens.{put, shown_position, ends_at, colon_of, Colon, tokens_of_step, tokens_at}
+use Rattle.model_scanner.specs.State.{Key}
+use Rattle.defs_row.specs.Row.{IsWritten}
+use Rattle.proof_row_sound.specs.Choices.{line_by, MayChoose}
+use Rattle.proof_row_sound.specs.Completes.{with_line, tokens_up_to, Completes}
+use Rattle.proof_row_sound.specs.Arrives.{site_here, IsLineHere}
+use Rattle.proof_row_sound.proofs.Completed.{completed_past}
+use Rattle.proof_row_sound.proofs.Inserts.{AreAmong}
+use Rattle.proof_row_sound.proofs.NodeSteps.{saved, choice_before, bit_of, node_on_line}
+use Rattle.proof_row_sound.proofs.NodeTokens.{past_step, keys_opened, key_outside, tokens_outside}
+use Rattle.proof_row_sound.proofs.NodesOutside.{Outer, on_line, by_choice, AreSame}
+
+-- An opening bracket outside flow: the site after the last piece; what may begin there and at the piece, where no open key is one; the separation, the piece and the text after it; the token and the kind of its collection; the open key
+-- and the one that may begin here; the tokens before the ends that stand here; the position and the text after what is read.
+pub record Node : Type 0 where
+  pub site : Site
+  pub line : Line
+  pub line_here : Line
+  pub separation : List ℕ
+  pub piece : List ℕ
+  pub next : List ℕ
+  pub tok : Tok
+  pub kind : FlowKind
+  pub open_key : Option Key
+  pub new : Key
+  pub allowed : Bool
+  pub tokens : List Token
+  pub past : Position
+  pub rest : List ℕ
+
+-- the site at the piece
+abbrev pub at : Node → Site
+at d = site_here false (position_after d.site.position d.separation (d.piece ++ d.next)) d.site
+
+-- the step, with or without a key
+abbrev pub step_of : Node → Bool → Step
+step_of d bit = record { separation = d.separation; piece = d.piece; shown = d.tok; key = bit }
+
+-- the open key after it
+abbrev pub key_past : Node → Option Key
+key_past d = saved d.allowed d.new d.open_key
+
+-- the accounts before and after the step, by a choice after it
+abbrev pub before : Node → Bool → Account
+before d c = Outer d.site (line_by (choice_before d.allowed c) d.open_key d.line)
+
+abbrev pub past : Node → Bool → Account
+past d c = record { site = site_past false (at d) d.piece d.tok d.next (at d).blocks; line = line_by c (key_past d) taken; entries = first_entry d.kind ∷ [] }
+
+-- the tokens with the ends that stand at the piece
+abbrev pub tokens_here : Node → List Token
+tokens_here d = d.tokens ++ ends_at (at d).position d.site.blocks (at d).blocks
+
+-- the token that the piece shows
+abbrev pub own_token : Node → Token
+own_token d = put (shown_position (at d) d.piece d.tok d.next) d.tok
+
+-- What is known of it.
+pub record IsNode (d : Node) : Type 0 where
+  pub act : act_of d.tok ≡ gives_node
+  pub begun : begun_by d.tok ≡ first_entry d.kind ∷ []
+  pub is_filled : is_separation false d.separation (d.piece ++ d.next) ≡ true
+  pub is_solid : is_empty d.piece ≡ false
+  pub is_piece : IsPiece (seen (Outer d.site d.line) (at d) d.separation) d.piece d.next None (shown_position (at d) d.piece d.tok d.next) d.tok
+  pub stands : may_stand false d.site (at d) d.separation d.piece d.tok d.next ≡ true
+  pub line_is : IsLineHere false d.allowed (0 ∷ []) d.open_key d.line_here
+  pub position_is : d.new.position ≡ (at d).position
+  pub required_is : d.new.required ≡ is_in_column (at d).position.col (at d).blocks
+  pub number_is : d.new.number ≡ length (tokens_here d)
+  pub are_among : AreAmong (length d.tokens) (d.open_key ∷ [])
+  pub unbroken : (c : Bool) → MayChoose c (key_past d) d.past d.rest → line_past_separation false (begins_free_line d.site.before d.separation) (line_by (choice_before d.allowed c) d.open_key d.line) ≡ Some (line_by (choice_before d.allowed c) d.open_key d.line_here)
+  pub one_line : (c : Bool) → MayChoose c (key_past d) d.past d.rest → (has_break d.piece && is_waiting (line_by c (key_past d) taken)) ≡ false
+  pub no_key : is_waiting d.line ≡ false
+  pub same_blocks : AreSame d.open_key d.past d.rest d.site.blocks (at d).blocks
+  pub may_before : (c : Bool) → MayChoose c (key_past d) d.past d.rest → MayChoose (choice_before d.allowed c) d.open_key (at d).position (d.piece ++ d.next)
+
+-- ---- the account after it
+
+pub node_account : (d : Node) → IsNode d → (c : Bool) → MayChoose c (key_past d) d.past d.rest → account_past (before d c) (step_of d (bit_of d.allowed c)) d.next ≡ Some (past d c)
+node_account d n c may =
+    let w : Step = step_of d (bit_of d.allowed c) in
+    let l : Line = line_by (choice_before d.allowed c) d.open_key d.line in
+    let here : Position = (at d).position in
+    let again : Bool = is_renewed d.site.before d.separation in
+    let first : account_past (before d c) w d.next ≡ past_site false d.site (at d) w d.next l [] = ap (λ x. past_site false d.site (site_in false x here d.site) w d.next l []) n.act in
+    let may_be : past_site false d.site (at d) w d.next l [] ≡ on_one_line d.piece (past_piece (at d) d.piece d.tok d.next again w.key (line_past_separation false (begins_free_line d.site.before d.separation) l) []) =
+    ap (λ b. if b then on_one_line d.piece (past_piece (at d) d.piece d.tok d.next again w.key (line_past_separation false (begins_free_line d.site.before d.separation) l) []) else None) n.stands in
+    let lines : on_one_line d.piece (past_piece (at d) d.piece d.tok d.next again w.key (line_past_separation false (begins_free_line d.site.before d.separation) l) []) ≡
+    on_one_line d.piece (past_outside (at d) d.piece d.tok d.next (line_past (is_in_column here.col (at d).blocks) here (at d).blocks (act_of d.tok) w.key (line_by (choice_before d.allowed c) d.open_key d.line_here))) =
+    ap (λ o. on_one_line d.piece (past_piece (at d) d.piece d.tok d.next again w.key o [])) (n.unbroken c may) in
+    let outside : line_past (is_in_column here.col (at d).blocks) here (at d).blocks (act_of d.tok) w.key (line_by (choice_before d.allowed c) d.open_key d.line_here) ≡ Some (record { line = line_by c (key_past d) taken; blocks = (at d).blocks }) =
+    ap (λ x. line_past (is_in_column here.col (at d).blocks) here (at d).blocks x w.key (line_by (choice_before d.allowed c) d.open_key d.line_here)) n.act ∙
+    node_on_line d.allowed c d.open_key d.new d.line_here (is_in_column here.col (at d).blocks) here d.past (at d).blocks 0 [] d.rest n.line_is n.position_is n.required_is may in
+    let entries : past_outside (at d) d.piece d.tok d.next (Some (record { line = line_by c (key_past d) taken; blocks = (at d).blocks })) ≡ Some (past d c) =
+    ap (λ es. Some (record { site = site_past false (at d) d.piece d.tok d.next (at d).blocks; line = line_by c (key_past d) taken; entries = es })) n.begun in
+    first ∙ (may_be ∙ (lines ∙ (ap (λ o. on_one_line d.piece (past_outside (at d) d.piece d.tok d.next o)) outside ∙ (ap (λ o. on_one_line d.piece o) entries ∙ on_line d.piece (past d c) (n.one_line c may)))))
+
+-- ---- the tokens after it
+
+-- With the text after the piece known as that of further steps.
+node_tokens : (d : Node) → IsNode d → (c : Bool) → MayChoose c (key_past d) d.past d.rest → (ws : List Step) (last : List ℕ) → spelled ws last ≡ d.next →
+    tokens_up_to (before d c) (d.open_key ∷ []) d.tokens (step_of d (bit_of d.allowed c) ∷ ws) last ++ tokens_of_step (before d c) (step_of d (bit_of d.allowed c)) ws last ≡ tokens_up_to (past d c) (None ∷ key_past d ∷ []) (tokens_here d ++ (own_token d ∷ [])) ws last
+node_tokens d n c may ws last e = subst (λ x. Whole (record d { next = x })) e (own (subst (λ x. IsNode (record d { next = x })) (sym e) n))
+  where
+    Whole : Node → Type 0
+    Whole b = tokens_up_to (before b c) (b.open_key ∷ []) b.tokens (step_of b (bit_of b.allowed c) ∷ ws) last ++ tokens_of_step (before b c) (step_of b (bit_of b.allowed c)) ws last ≡ tokens_up_to (past b c) (None ∷ key_past b ∷ []) (tokens_here b ++ (own_token b ∷ [])) ws last
+
+    own : IsNode (record d { next = spelled ws last }) → Whole (record d { next = spelled ws last })
+    own m =
+        let b : Node = record d { next = spelled ws last } in
+        let w : Step = step_of b (bit_of b.allowed c) in
+        let l : Line = line_by (choice_before b.allowed c) b.open_key b.line in
+        let colon : Colon = colon_of 1 (past_step b.site.position w ws last) ws last in
+        let ends : List Token = ends_at (at b).position b.site.blocks (at b).blocks in
+        let first : tokens_up_to (before b c) (b.open_key ∷ []) b.tokens (w ∷ ws) last ≡ with_line colon b.site.blocks l b.open_key b.tokens = keys_opened 0 b.site.position w ws last (first_entry b.kind) m.act m.begun b.site.blocks l [] (b.open_key ∷ []) b.tokens in
+        let second : tokens_of_step (before b c) w ws last ≡ ends ++ (key_outside w.key (at b) colon ++ (own_token b ∷ [])) =
+        ap (λ x. tokens_at b.site (site_in false x (at b).position b.site) w ws last l []) m.act ∙ tokens_outside b.site (at b) w ws last l (first_entry b.kind ∷ []) m.act m.begun in
+        ap (λ x. x ++ tokens_of_step (before b c) w ws last) first ∙
+        (ap (λ x. with_line colon b.site.blocks l b.open_key b.tokens ++ x) second ∙
+        by_choice b.allowed c b.open_key b.new b.line b.line_here colon (at b) b.site.blocks b.past b.rest b.tokens ends (own_token b) m.line_is may m.no_key m.position_is m.number_is m.are_among m.same_blocks)
+
+-- ---- rows
+
+-- a piece at an account is seen alike, whatever waits
+seen_written : (d : Node) → IsNode d → (c bit : Bool) → IsWritten (before d c) (step_of d bit) d.next
+seen_written d n c bit = (n.is_filled, (ap not n.is_solid, subst (λ x. IsPiece (seen (before d c) x d.separation) d.piece d.next None (shown_position x d.piece d.tok d.next) d.tok) (sym (ap (λ x. site_in false x (at d).position d.site) n.act)) n.is_piece))
+
+-- If each choice before the piece is one of a row, then each choice after it is, and the tokens are those before, with the ends that stand here and the piece's own.
+pub node_completes : (text : List ℕ) (d : Node) → IsNode d →
+    ((c : Bool) → MayChoose c d.open_key (at d).position (d.piece ++ d.next) → Completes text (d.separation ++ (d.piece ++ d.next)) (Outer d.site (line_by c d.open_key d.line)) (tokens_up_to (Outer d.site (line_by c d.open_key d.line)) (d.open_key ∷ []) d.tokens)) →
+    (c : Bool) → MayChoose c (key_past d) d.past d.rest → Completes text d.next (past d c) (tokens_up_to (past d c) (None ∷ key_past d ∷ []) (tokens_here d ++ (own_token d ∷ [])))
+node_completes text d n h c may =
+    completed_past text (d.separation ++ (d.piece ++ d.next)) (before d c) (past d c) (tokens_up_to (before d c) (d.open_key ∷ []) d.tokens) (tokens_up_to (past d c) (None ∷ key_past d ∷ []) (tokens_here d ++ (own_token d ∷ [])))
+    (step_of d (bit_of d.allowed c)) d.next refl (seen_written d n c (bit_of d.allowed c)) (node_account d n c may) (node_tokens d n c may) (h (choice_before d.allowed c) (n.may_before c may))

@@ -1,0 +1,34 @@
+-- A run keeps what each fetch keeps; at its end the tokens are those of a row.
+use Rattle.std.proofs.Common.{◌≡◌, ℕ, List, true, false, Ok, refl, ap, sym, ◌∙◌, subst}
+use Rattle.defs_row.specs.Row.{IsRead}
+use Rattle.model_scanner.specs.State.{ScannerState}
+use Rattle.model_scanner.specs.Document.{fetch_stream_start}
+use Rattle.model_scanner.specs.Fetch.{fetch}
+use Rattle.model_scanner.specs.Run.{start, Reaches, here, there}
+use Rattle.proof_lexers.specs.PlainEnds.{has_no_nul}
+use Rattle.proof_row_sound.specs.Stands.{Stands, Fares, begins, goes, over, FetchKeeps, TokensAreOfARow}
+use Rattle.proof_row_sound.proofs.Starts.{stream_started}
+
+first_fetch : (text : List ℕ) → fetch (start text) ≡ Ok (fetch_stream_start (start text))
+unfolding fetch
+first_fetch text = refl
+
+fared : FetchKeeps → (text : List ℕ) → has_no_nul text ≡ true → (t u : ScannerState) → t.held.ended ≡ false → fetch t ≡ Ok u → Fares text t → Fares text u
+fared kept text nul t u going e (begins b) =
+    let same : Ok (fetch_stream_start (start text)) ≡ Ok u = sym (first_fetch text) ∙ (ap fetch (sym b) ∙ e) in
+    goes (subst (λ x. Stands text x) (cc same) (stream_started text nul))
+fared kept text nul t u going e (goes s) = kept text t u nul s e
+fared kept text nul t u going e (over f r) = absurd (cc (going, f))
+
+reached : FetchKeeps → (text : List ℕ) → has_no_nul text ≡ true → (t u : ScannerState) → Reaches t u → Fares text t → Fares text u
+reached kept text nul t u here s = s
+reached kept text nul t u (there {u = v} going e run) s = reached kept text nul v u run (fared kept text nul t v going e s)
+
+-- If each fetch keeps it, the tokens that the model gives a text are those of a row of it, positions included.
+pub read_as_a_row : FetchKeeps → TokensAreOfARow
+read_as_a_row kept text tokens nul h = by (reached kept text nul (start text) h.end h.run (begins refl))
+  where
+    by : Fares text h.end → IsRead text tokens
+    by (begins b) = absurd (cc (h.ended, ap (λ t. t.held.ended) b))
+    by (goes s) = absurd (cc (h.ended, s.going))
+    by (over f r) = subst (λ x. IsRead text x) h.tokens r

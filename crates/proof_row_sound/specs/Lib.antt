@@ -1,0 +1,4 @@
+pub mod Arrives
+pub mod Choices
+pub mod Completes
+pub mod Stands
