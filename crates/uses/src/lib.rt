@@ -5,6 +5,7 @@ pub mod aliases;
 pub mod anchors;
 pub mod calls;
 pub mod front_matter;
+pub mod json_and_back;
 pub mod json_to_yaml;
 pub mod layered_settings;
 pub mod many_documents;

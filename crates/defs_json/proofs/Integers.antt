@@ -1,0 +1,64 @@
+-- The digits of an integer are a number of JSON, whose value is the integer.
+use Rattle.std.proofs.Common.{◌≡◌, ◌<◌, ◌≤◌, ◌^◌, ℕ, zero, suc, List, [], ◌∷◌, ◌++◌, length, get_or, Bool, true, false, not, refl, ap, arith}
+use Rattle.std.specs.Prelude.{ℤ, pos, negsuc, neg_ℤ}
+use Rattle.std.specs.Char.{is_ascii_digit}
+use Rattle.std.specs.List.{list_all}
+use Rattle.std.specs.Str.Parse.{AllDigits}
+use Rattle.std.specs.Fmt.{decimal, signed_decimal}
+use Rattle.std.proofs.lemmas.Fmt.{decimal_is_IsNumeral, decimal_digit, decimal_nonempty, first_decimal}
+use Rattle.std.proofs.lemmas.Str.Parse.{digit_from_value}
+use Rattle.std.proofs.lemmas.Bool.{and_parts, and_from, ltb-true, ne_eqb}
+use Rattle.std.proofs.lemmas.Bool.Decides.{nat_tests}
+use Rattle.defs_tree.specs.Tree.{integer}
+use Rattle.defs_tree.specs.Typing.{fits_i64}
+use Rattle.defs_layout.specs.JsonNumber.{Number, number, no_fraction, no_exponent, spell_number, is_whole, is_number, integer_value, number_tree}
+
+digit_test : (c : ℕ) → 48 ≤ c → c ≤ 57 → is_ascii_digit c ≡ true
+digit_test c h g = grind (arith, nat_tests)
+
+digits_test : (ds : List ℕ) → AllDigits 10 ds → list_all is_ascii_digit ds ≡ true
+digits_test [] h = refl
+digits_test (d ∷ ds) h = let r = digit_from_value d h.0 in and_from _ _ (digit_test d (omega arith) (omega arith)) (digits_test ds h.1)
+
+-- digits that begin with no zero
+whole_test : (ds : List ℕ) → AllDigits 10 ds → 0 < length ds → 48 < get_or ds 0 0 → is_whole ds ≡ true
+whole_test [] h l f = absurd (omega arith)
+whole_test (c ∷ []) h l f = (and_parts (is_ascii_digit c) true (digits_test (c ∷ []) h)).0
+whole_test (c ∷ d ∷ w) h l f = and_from _ _ (ap not (ne_eqb c 48 (λ e. omega arith))) (digits_test (c ∷ d ∷ w) h)
+
+decimal_whole : (n : ℕ) → n < 2 ^ 64 → is_whole (decimal n) ≡ true
+decimal_whole zero h = ap is_whole (decimal_digit 0 (omega arith))
+decimal_whole (suc n) h = whole_test (decimal (suc n)) (decimal_is_IsNumeral (suc n) h).0.1 (decimal_nonempty (suc n) h) (first_decimal (suc n) (omega arith) h)
+
+-- the number that writes it
+pub integer_number : ℤ → Number
+integer_number (pos n) = number false (decimal n) no_fraction no_exponent
+integer_number (negsuc n) = number true (decimal (suc n)) no_fraction no_exponent
+
+pub record IsInteger (z : ℤ) : Type 0 where
+  pub spelt : (r : List ℕ) → spell_number (integer_number z) r ≡ signed_decimal z ++ r
+  pub fits : is_number (integer_number z) ≡ true
+  pub value : number_tree (integer_number z) ≡ integer z
+
+plain_number : (b : Bool) (w : List ℕ) → is_whole w ≡ true → is_number (number b w no_fraction no_exponent) ≡ true
+plain_number b w h = and_from _ true (and_from _ true h refl) refl
+
+plain_value : (b : Bool) (w : List ℕ) (z : ℤ) → integer_value b w ≡ z → fits_i64 z ≡ true → number_tree (number b w no_fraction no_exponent) ≡ integer z
+plain_value b w z e h = rw (e, h) refl
+
+pub integer_written : (z : ℤ) → fits_i64 z ≡ true → IsInteger z
+unfolding integer_number
+integer_written (pos n) h =
+    let small : n < 2 ^ 63 = ltb-true n (2 ^ 63) h in
+    record {
+      spelt = λ r. refl;
+      fits = plain_number false (decimal n) (decimal_whole n (omega arith));
+      value = plain_value false (decimal n) (pos n) (ap pos (decimal_is_IsNumeral n (omega arith)).1) h;
+    }
+integer_written (negsuc n) h =
+    let small : n < 2 ^ 63 = ltb-true n (2 ^ 63) h in
+    record {
+      spelt = λ r. refl;
+      fits = plain_number true (decimal (suc n)) (decimal_whole (suc n) (omega arith));
+      value = plain_value true (decimal (suc n)) (negsuc n) (ap (λ m. neg_ℤ (pos m)) (decimal_is_IsNumeral (suc n) (omega arith)).1) h;
+    }

@@ -1,0 +1,99 @@
+-- The JSON text of a tree: without white space, or indented. RFC 8259, sections 2 to 7.
+use Rattle.std.specs.Prelude.{ℕ, ◌+◌, ◌==◌, nat_lt, if◌then◌else◌, Option, Some, None, unwrap_or, List, [], ◌∷◌, ◌++◌, replicate, flat_map, codes}
+use Rattle.std.specs.Fmt.{signed_decimal}
+use Rattle.defs_tree.specs.Tree.{Tree, real, integer, string, boolean, array, hash, alias, null, bad_value, Items, no_items, item, Pairs, no_pairs, pair}
+use Rattle.defs_tree.specs.Escapes.{escaped_code}
+use Rattle.defs_tree.specs.Spelling.{boolean_spelling}
+use Rattle.defs_layout.specs.Marks.{line_feed, space, double_quote}
+
+-- ---- strings
+
+-- a character in a string: a quotation mark, a reverse solidus and the control characters by an escape, all else as it stands
+unfoldable pub json_character : ℕ → List ℕ
+json_character c =
+    if c == 34 then codes "\\\""
+    else (if c == 92 then codes "\\\\"
+    else (if c == 8 then codes "\\b"
+    else (if c == 9 then codes "\\t"
+    else (if c == 10 then codes "\\n"
+    else (if c == 12 then codes "\\f"
+    else (if c == 13 then codes "\\r"
+    else (if nat_lt c 32 then escaped_code c
+    else c ∷ [])))))))
+
+-- the characters of a text, one after the other
+abbrev pub json_characters : List ℕ → List ℕ
+json_characters text = flat_map json_character text
+
+-- the text between quotation marks
+abbrev pub json_string : List ℕ → List ℕ
+json_string text = double_quote ∷ json_characters text ++ double_quote ∷ []
+
+-- ---- white space
+
+-- Where there is an indentation, of so many spaces a level, each item and each member stands on a line of its own. The margin is
+-- the spaces before the line's text.
+abbrev pub deeper : (indentation : Option ℕ) → (margin : ℕ) → ℕ
+deeper indentation margin = margin + unwrap_or indentation 0
+
+-- a new line
+abbrev pub new_line : (indentation : Option ℕ) → (margin : ℕ) → List ℕ
+new_line None margin = []
+new_line (Some width) margin = line_feed ∷ replicate margin space
+
+-- what stands between a key and its value
+abbrev pub key_end : (indentation : Option ℕ) → List ℕ
+key_end None = codes ":"
+key_end (Some width) = codes ": "
+
+-- ---- trees
+
+-- a key: a string
+abbrev pub key_text : Tree → List ℕ
+key_text (string s) = json_string s
+key_text _ = []
+
+abbrev mutual
+  -- a value. An alias and a bad value have no text.
+  pub json_text : (indentation : Option ℕ) → (margin : ℕ) → Tree → List ℕ
+  json_text indentation margin (real s) = s
+  json_text indentation margin (integer z) = signed_decimal z
+  json_text indentation margin (string s) = json_string s
+  json_text indentation margin (boolean b) = boolean_spelling b
+  json_text indentation margin (array no_items) = codes "[]"
+  json_text indentation margin (array (item t ts)) =
+      codes "["
+      ++ (new_line indentation (deeper indentation margin)
+      ++ (json_text indentation (deeper indentation margin) t
+      ++ (more_items indentation (deeper indentation margin) ts
+      ++ (new_line indentation margin
+      ++ codes "]"))))
+  json_text indentation margin (hash no_pairs) = codes "{}"
+  json_text indentation margin (hash (pair k v ps)) =
+      codes "{"
+      ++ (new_line indentation (deeper indentation margin)
+      ++ (key_text k
+      ++ (key_end indentation
+      ++ (json_text indentation (deeper indentation margin) v
+      ++ (more_members indentation (deeper indentation margin) ps
+      ++ (new_line indentation margin
+      ++ codes "}"))))))
+  json_text indentation margin (alias n) = []
+  json_text indentation margin null = codes "null"
+  json_text indentation margin bad_value = []
+
+  -- further items, each after a comma
+  pub more_items : (indentation : Option ℕ) → (margin : ℕ) → Items → List ℕ
+  more_items indentation margin no_items = []
+  more_items indentation margin (item t ts) = codes "," ++ (new_line indentation margin ++ (json_text indentation margin t ++ more_items indentation margin ts))
+
+  -- further members, each after a comma
+  pub more_members : (indentation : Option ℕ) → (margin : ℕ) → Pairs → List ℕ
+  more_members indentation margin no_pairs = []
+  more_members indentation margin (pair k v ps) =
+      codes ","
+      ++ (new_line indentation margin
+      ++ (key_text k
+      ++ (key_end indentation
+      ++ (json_text indentation margin v
+      ++ more_members indentation margin ps))))

@@ -1,0 +1,7 @@
+pub mod FindLemmas
+pub mod GivenLemmas
+pub mod LeftLemmas
+pub mod NumberLemmas
+pub mod RunLemmas
+pub mod WhiteLemmas
+pub mod ValueLemmas

@@ -1,0 +1,10 @@
+use Rattle.std.proofs.Common.{ap, sym, ◌∙◌}
+use Rattle.std.specs.Str.{chars}
+use Rattle.defs_json.specs.Fault.{key}
+use Rattle.defs_text.specs.Text.{string_chars}
+use Rattle.yaml_json.proofs.FindLemmas.{other_step}
+use Rattle.yaml_json.proofs.find.text_of.Goals as goal
+
+pub returns-in_default : goal.returns-in_default
+unfolding string_chars chars
+returns-in_default c = ap (λ bs. key (chars bs)) c.new.ensures.bytes ∙ sym (other_step c.args.key.now c.in_default.not-String)

@@ -1,0 +1,13 @@
+use Rattle.std.proofs.Common.{refl, ap, sym}
+use Rattle.yaml_emitter.proofs.WritingLemmas.{writes_as, writes_late, writes_err, stopped_early}
+use Rattle.yaml_json.specs.Left.{before_entry}
+use Rattle.yaml_json.proofs.white.begin_entry.Goals as goal
+
+pub returns-in_err-put_ascii : goal.returns-in_err-put_ascii
+returns-in_err-put_ascii g c =
+    writes_as (ap (λ b. before_entry b c.args.indentation c.args.margin) (sym c.if-is_first.false))
+    (writes_err c.from_residual.ensures.0 (stopped_early _ (c.in_err-put_ascii.ensures.err refl)))
+
+pub returns : goal.returns
+returns g c =
+    writes_as (ap (λ b. before_entry b c.args.indentation c.args.margin) (sym c.if-is_first.false)) (writes_late (c.in_ok-put_ascii.ensures.ok refl) c.new_line-2.ensures)

@@ -1,0 +1,10 @@
+pub mod Found
+pub mod Given
+pub mod Left
+pub mod Outcome
+pub mod Runs
+pub use Rattle.defs_json.specs.Fault
+pub use Rattle.defs_json.specs.HasJson
+pub use Rattle.defs_json.specs.JsonReal
+pub use Rattle.defs_json.specs.JsonText
+pub use Rattle.defs_json.specs.Laws

@@ -1,0 +1,83 @@
+//! YAML trees as JSON (RFC 8259), compact or indented.
+//!
+//! A tree has a JSON text if its keys are strings, its reals are numbers of JSON, and no alias and no bad value stands
+//! in it. [`write_json`] writes it without white space, [`write_json_indented`] on several lines. A load of what was
+//! written gives the same tree again, where it nests at most 255 levels.
+//!
+//! ```
+//! let documents = YamlLoader::load_from_str(alloc, "{name: x, ports: [80, 443], ratio: 2.50}")?;
+//! let mut text = String::new(alloc);
+//! write_json(alloc, documents.first()?, &mut text)?; // {"name":"x","ports":[80,443],"ratio":2.50}
+//! ```
+#![tactic(auto)]
+
+mod error;
+mod find;
+pub mod laws;
+mod number;
+mod string;
+mod value;
+mod white;
+mod writer;
+
+ghost use Rattle.std.specs.Prelude.{◌≡◌, ◌*◌, ◌≤◌, ◌^◌, None, Some, OnOk, IfErr};
+ghost use Rattle.defs_json.specs.HasJson.{HasJson, nesting};
+ghost use Rattle.defs_json.specs.JsonText.{json_text};
+ghost use Rattle.yaml_tree.specs.View.{view};
+ghost use Rattle.yaml_json.specs.Outcome.{Leaves};
+ghost use Rattle.yaml_json.specs.Left.{IsTooWide};
+
+use crate::find::first_fault;
+use crate::value::write_value;
+pub use error::{JsonError, NoJson, Reason, Step};
+use std::alloc::Global;
+use yaml_emitter::Writer;
+use yaml_tree::Yaml;
+
+/// Writes the JSON text of a tree without white space. If a node has none, nothing is written; if the writer refuses a
+/// part of the text, a beginning of it was written. Memory is taken only for the path in an error.
+pub fn write_json<W: Writer>(alloc: Global, tree: &Yaml, out: &mut W) -> Result<(), JsonError>
+    ensures has_json { OnOk result (HasJson (view tree.now)) }
+    ensures written { OnOk result (W.calls_give out.old (json_text None 0 (view tree.now)) out.new) }
+    ensures err { IfErr result (Leaves W.put_gives W.put_leaves W.calls_leave ⊥ (view tree.now) (json_text None 0 (view tree.now)) out.old out.new) }
+{
+    write_laid_out(alloc, tree, None, out)
+}
+
+/// The same with each item and each member on a line of its own, indented by so many spaces a level, and a space after
+/// each colon. An empty array or object stays on its line. An `Err` comes also where a line would need 2^64 spaces.
+pub fn write_json_indented<W: Writer>(
+    alloc: Global,
+    tree: &Yaml,
+    width: usize,
+    out: &mut W,
+) -> Result<(), JsonError>
+    ensures has_json { OnOk result (HasJson (view tree.now)) }
+    ensures written { OnOk result (W.calls_give out.old (json_text (Some width) 0 (view tree.now)) out.new) }
+    ensures err { IfErr result (Leaves W.put_gives W.put_leaves W.calls_leave (2 ^ 64 ≤ width * nesting (view tree.now)) (view tree.now)
+        (json_text (Some width) 0 (view tree.now)) out.old out.new) }
+{
+    write_laid_out(alloc, tree, Some(width), out)
+}
+
+fn write_laid_out<W: Writer>(
+    alloc: Global,
+    tree: &Yaml,
+    indentation: Option<usize>,
+    out: &mut W,
+) -> Result<(), JsonError>
+    ensures has_json { OnOk result (HasJson (view tree.now)) }
+    ensures written { OnOk result (W.calls_give out.old (json_text indentation 0 (view tree.now)) out.new) }
+    ensures err { IfErr result (Leaves W.put_gives W.put_leaves W.calls_leave (IsTooWide indentation 0 (nesting (view tree.now))) (view tree.now)
+        (json_text indentation 0 (view tree.now)) out.old out.new) }
+{
+    match first_fault(alloc, tree) {
+        Ok(None) => {}
+        Ok(Some(fault)) => return Err(JsonError::NoJson(fault)),
+        Err(_) => return Err(JsonError::OutOfMemory),
+    }
+    match write_value(out, indentation, 0, tree) {
+        Ok(()) => Ok(()),
+        Err(error) => Err(JsonError::Refused(error)),
+    }
+}

@@ -1,0 +1,93 @@
+use crate::run::run;
+use std::alloc::Global;
+use std::test::Fail;
+use std::{env, fs};
+
+// All that is printed for a file that holds these bytes, and the status. `options` come before the file's path.
+fn told(rt: &HostRuntime, options: &[&str], bytes: &[u8]) -> Result<String, Fail> {
+    let alloc = rt.alloc();
+    let path = env::temp_dir(rt)?.join(alloc, "yamljson-test.yaml")?;
+    fs::write(rt, path.as_path(), bytes)?;
+    let name = path.as_path().to_str().unwrap_or("");
+    let mut args = words(alloc, options)?;
+    args.push(String::from_str(alloc, name)?)?;
+    let text = ran(rt, args.as_slice())?;
+    Ok(text.replace(alloc, name, "FILE")?)
+}
+
+fn words(alloc: Global, list: &[&str]) -> Result<Vec<String>, Fail> {
+    let mut all = Vec::new(alloc);
+    for word in list {
+        all.push(String::from_str(alloc, word)?)?;
+    }
+    Ok(all)
+}
+
+fn ran(rt: &HostRuntime, args: &[String]) -> Result<String, Fail> {
+    let alloc = rt.alloc();
+    let mut out = Vec::new(alloc);
+    let mut err = Vec::new(alloc);
+    let status = run(rt, alloc, args, &mut out, &mut err);
+    let printed = String::from_utf8_lossy(alloc, out.as_slice())?;
+    let said = String::from_utf8_lossy(alloc, err.as_slice())?;
+    Ok(format!(in alloc; "{printed}{said}{status}")?)
+}
+
+// What the file holds, and all that is printed.
+const ROWS: [(&[&str], &[u8], &str); 9] = [
+    (
+        &[],
+        b"a: [1, 2.50, ~, yes]\nb: |\n  x\n",
+        "{\"a\":[1,2.50,null,\"yes\"],\"b\":\"x\\n\"}\n0",
+    ),
+    (
+        &[],
+        b"--- 1\n--- {}\n--- \"\\x01\"",
+        "1\n{}\n\"\\u0001\"\n0",
+    ),
+    (
+        &["--indent"],
+        b"a: [1]\nb: {}",
+        "{\n  \"a\": [\n    1\n  ],\n  \"b\": {}\n}\n0",
+    ),
+    (&[], b"", "0"),
+    (
+        &[],
+        b"--- 1\n--- [a, .inf]",
+        "yamljson: FILE: document 2: $[1]: the number cannot be written in JSON\n1",
+    ),
+    (
+        &[],
+        b"a: {1: x}",
+        "yamljson: FILE: document 1: $[\"a\"]: a key is no string\n1",
+    ),
+    (
+        &[],
+        b"[",
+        "yamljson: FILE: while parsing a node, did not find expected node content at byte 1 line 2 column 1\n1",
+    ),
+    (&[], b"a\xFF", "yamljson: FILE is not UTF-8\n1"),
+    (&["--wide"], b"1", "usage: yamljson [--indent] FILE...\n2"),
+];
+
+#[test]
+fn files_are_printed(rt: HostRuntime) -> Result<(), Fail> {
+    for (options, bytes, want) in ROWS {
+        assert_eq!(rt; told(&rt, options, bytes)?.as_str(), want);
+    }
+    Ok(())
+}
+
+#[test]
+fn files_that_cannot_be_read_are_told(rt: HostRuntime) -> Result<(), Fail> {
+    let args = words(rt.alloc(), &["no/such/file"])?;
+    assert_eq!(rt;
+        ran(&rt, args.as_slice())?.as_str(),
+        "yamljson: cannot read no/such/file\n1"
+    );
+    assert_eq!(rt;
+        ran(&rt, &[])?.as_str(),
+        "usage: yamljson [--indent] FILE...\n2"
+    );
+    Ok(())
+}
